@@ -1,0 +1,81 @@
+-- The errors of an instant (01, 'One reaction'): the uses of kinds 1, 2 and 3 anywhere in its tree of reactions, both
+-- runs of each signal counted. Order: first part before second, run without the signal before run with it, a command after its parts.
+use Prim.Native.Nat.{ℕ}
+use mathlib.Core.Bool.{cond}
+use mathlib.Core.Option.{Option}
+use mathlib.Core.List.{List, [], _∷_, _++_, head?}
+use Rattle.esterel.specs.Sets.{member, insert, remove}
+use Rattle.esterel.specs.Statement.{Statement, nothing, pause, emit, exit, seq, par, loop, present, signal, try, setpause}
+use Rattle.esterel.specs.Reaction.{Code, ended, waiting, leaving, wrong, Reaction, code, Case, both, neither, only−, only+, inherited, caseOf, react}
+use Rattle.esterel.specs.Rules.{Reacts}
+
+pub record Error : Type 0 where
+  pub kind : ℕ
+  pub place : ℕ
+
+-- kind 1: a loop whose body ended; kind 2: not reactive; kind 3: not strongly deterministic
+abbrev pub instantaneous : ℕ → Error
+instantaneous a = record { kind = 1; place = a }
+
+abbrev pub notReactive : ℕ → Error
+notReactive a = record { kind = 2; place = a }
+
+abbrev pub notDeterministic : ℕ → Error
+notDeterministic a = record { kind = 3; place = a }
+
+-- what counts only where code 0 led on to it
+abbrev pub ifEnded {ℓ} : {A : Type ℓ} → Code → A → A → A
+ifEnded ended x y = x
+ifEnded waiting x y = y
+ifEnded (leaving n) x y = y
+ifEnded wrong x y = y
+
+abbrev pub loopErrors : ℕ → Code → List Error
+loopErrors a k = ifEnded k (instantaneous a ∷ []) []
+
+abbrev pub signalErrors : ℕ → Case → List Error
+signalErrors a both = []
+signalErrors a neither = []
+signalErrors a only− = notReactive a ∷ []
+signalErrors a only+ = notDeterministic a ∷ []
+signalErrors a inherited = []
+
+unfoldable pub errors : Statement → ℕ → List Error
+errors nothing e = []
+errors (pause l) e = []
+errors (emit s) e = []
+errors (exit n) e = []
+errors (seq p q) e = errors p e ++ ifEnded (code (react p e)) (errors q e) []
+errors (par p q) e = errors p e ++ errors q e
+errors (loop a p) e = errors p e ++ loopErrors a (code (react p e))
+errors (present s p q) e = cond (member s e) (errors p e) (errors q e)
+errors (signal a s p) e =
+    errors p (remove s e) ++ errors p (insert s e) ++ signalErrors a (caseOf s (react p (remove s e)) (react p (insert s e)))
+errors (try p) e = errors p e
+errors (setpause l) e = []
+
+-- the error that a wrong instant names
+abbrev pub firstError : Statement → ℕ → Option Error
+firstError p e = head? (errors p e)
+
+-- ---- the same on derivations: one error for each use of loop-error, signal+− and signal−+
+unfoldable pub uses : {p : Statement} {e : ℕ} {r : Reaction} → Reacts p e r → List Error
+uses Reacts.nothing = []
+uses Reacts.pause = []
+uses Reacts.exit = []
+uses Reacts.emit = []
+uses (Reacts.loop d n) = uses d
+uses (Reacts.loop-error {a = a} d z) = uses d ++ (instantaneous a ∷ [])
+uses (Reacts.parallel d d₂) = uses d ++ uses d₂
+uses (Reacts.present+ i d) = uses d
+uses (Reacts.present− i d) = uses d
+uses (Reacts.try-catch d) = uses d
+uses (Reacts.try-through d n) = uses d
+uses (Reacts.sequence-p d n) = uses d
+uses (Reacts.sequence-q d d₂) = uses d ++ uses d₂
+uses (Reacts.signal++ d− i− d+ i+) = uses d− ++ uses d+
+uses (Reacts.signal−− d− i− d+ i+ n) = uses d− ++ uses d+
+uses (Reacts.signal+− {a = a} d− i− d+ i+ n) = uses d− ++ uses d+ ++ (notReactive a ∷ [])
+uses (Reacts.signal−+ {a = a} d− i− n d+ i+) = uses d− ++ uses d+ ++ (notDeterministic a ∷ [])
+uses (Reacts.signal∞ d− d+ w n++ n+− n−+) = uses d− ++ uses d+
+uses Reacts.setpause = []

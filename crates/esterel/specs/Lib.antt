@@ -1,0 +1,10 @@
+pub mod Sets
+pub mod Statement
+pub mod Reaction
+pub mod Rules
+pub mod Errors
+pub mod Places
+pub mod States
+pub mod Expansion
+pub mod Resume
+pub mod Machines

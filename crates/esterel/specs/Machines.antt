@@ -1,0 +1,74 @@
+-- Two machines over the instants of one statement: by labels (01, 'States and resuming'), which keeps the label set and
+-- expands, and by rewriting (01, 'The fitters' paper'), which keeps the residual and knows neither labels nor expansion.
+use Prim.Native.Nat.{ℕ}
+use mathlib.Core.List.{List, [], _∷_}
+use Rattle.esterel.specs.Sets.{none}
+use Rattle.esterel.specs.Statement.{Statement}
+use Rattle.esterel.specs.Reaction.{Code, ended, waiting, leaving, wrong, Reaction, gives, react}
+use Rattle.esterel.specs.Expansion.{expand}
+
+-- 01: code 1 gives phase 1 (waiting), every other code phase 2 (over)
+pub data Phase : Type 0 where
+  fresh waits over : Phase
+
+abbrev pub phaseAfter : Code → Phase
+phaseAfter ended = over
+phaseAfter waiting = waits
+phaseAfter (leaving n) = over
+phaseAfter wrong = over
+
+-- 01: a wrong instant reports an empty set
+abbrev pub shown : Code → ℕ → ℕ
+shown ended o = o
+shown waiting o = o
+shown (leaving n) o = o
+shown wrong o = none
+
+-- What is seen of one tick: an instant with its code, the set it shows and the phase after it; no instant once over.
+pub data Seen : Type 0 where
+  instant : (k : Code) (shows : ℕ) (after : Phase) → Seen
+  refused : Seen
+
+abbrev pub seen : Reaction → Seen
+seen (gives o k l p′) = instant k (shown k o) (phaseAfter k)
+
+-- A machine: from its state and the input, what is seen and the next state.
+abbrev pub Machine : Type 0 → Type 0
+Machine S = S → ℕ → Seen × S
+
+unfoldable pub run : {S : Type 0} → Machine S → S → List ℕ → List Seen
+run m s [] = []
+run m s (e ∷ es) = m s e .0 ∷ run m (m s e .1) es
+
+-- ---- by labels
+pub data State : Type 0 where
+  fresh : State
+  waits : (L : ℕ) → State
+  over : State
+
+abbrev pub stateAfter : Reaction → State
+stateAfter (gives o ended l p′) = State.over
+stateAfter (gives o waiting l p′) = State.waits l
+stateAfter (gives o (leaving n) l p′) = State.over
+stateAfter (gives o wrong l p′) = State.over
+
+abbrev pub byLabels : Statement → Machine State
+byLabels p State.fresh e = (seen (react p e), stateAfter (react p e))
+byLabels p (State.waits L) e = (seen (react (expand p L) e), stateAfter (react (expand p L) e))
+byLabels p State.over e = (refused, State.over)
+
+-- ---- by rewriting
+pub data Rewriting : Type 0 where
+  fresh waits : (t : Statement) → Rewriting
+  over : Rewriting
+
+abbrev pub termAfter : Reaction → Rewriting
+termAfter (gives o ended l p′) = Rewriting.over
+termAfter (gives o waiting l p′) = Rewriting.waits p′
+termAfter (gives o (leaving n) l p′) = Rewriting.over
+termAfter (gives o wrong l p′) = Rewriting.over
+
+abbrev pub byRewriting : Machine Rewriting
+byRewriting (Rewriting.fresh t) e = (seen (react t e), termAfter (react t e))
+byRewriting (Rewriting.waits t) e = (seen (react t e), termAfter (react t e))
+byRewriting Rewriting.over e = (refused, Rewriting.over)

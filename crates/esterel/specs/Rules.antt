@@ -1,0 +1,93 @@
+-- The rules of a reaction as printed: 003, figure 3 (all but loop and signal) and figure 7 (loop and signal), with the
+-- labels of 002, figure 4, and its setpause (section 4.2). `Reacts p e (gives o k l p′)` is the printed p —O,k,L/E→ p′.
+-- Three things are added, each marked where it stands: the labels, 01's residuals, and 01's 'first that fits'.
+use Prim.Native.Nat.{ℕ}
+use mathlib.Core.Path.{_≡_}
+use mathlib.Core.Logic.{_≢_}
+use mathlib.Core.Bool.{true, false}
+use Rattle.esterel.specs.Sets.{member, none, only, join, insert, remove}
+use Rattle.esterel.specs.Statement.{Statement}
+use Rattle.esterel.specs.Reaction.{Code, ended, waiting, leaving, wrong, greater, down, ifWaiting, side, Reaction, gives}
+
+pub data Reacts : Statement → ℕ → Reaction → Type 0 where
+  nothing : {e : ℕ} → Reacts Statement.nothing e (gives none ended none Statement.nothing)
+  -- labels: 002, rule 2
+  pause : {e l : ℕ} → Reacts (Statement.pause l) e (gives none waiting (only l) Statement.nothing)
+  exit : {e n : ℕ} → Reacts (Statement.exit n) e (gives none (leaving n) none Statement.nothing)
+  emit : {e s : ℕ} → Reacts (Statement.emit s) e (gives (only s) ended none Statement.nothing)
+  loop : {e a o l : ℕ} {k : Code} {p p′ : Statement}
+      → Reacts p e (gives o k l p′)
+      → k ≢ ended
+      → Reacts (Statement.loop a p) e (gives o k l (Statement.seq p′ (Statement.loop a p)))
+  loop-error : {e a o l : ℕ} {k : Code} {p p′ : Statement}
+      → Reacts p e (gives o k l p′)
+      → k ≡ ended
+      → Reacts (Statement.loop a p) e (gives none wrong none Statement.nothing)
+  -- labels: 002, rule b, with its γ. Residual: 01, nothing for a side that had code 0
+  parallel : {e o o₂ l l₂ : ℕ} {k k₂ : Code} {p p′ q q′ : Statement}
+      → Reacts p e (gives o k l p′)
+      → Reacts q e (gives o₂ k₂ l₂ q′)
+      → Reacts (Statement.par p q) e
+      (gives (join o o₂) (greater k k₂) (ifWaiting (greater k k₂) (join l l₂)) (Statement.par (side k p′) (side k₂ q′)))
+  present+ : {e s : ℕ} {r : Reaction} {p q : Statement}
+      → member s e ≡ true
+      → Reacts p e r
+      → Reacts (Statement.present s p q) e r
+  present− : {e s : ℕ} {r : Reaction} {p q : Statement}
+      → member s e ≡ false
+      → Reacts q e r
+      → Reacts (Statement.present s p q) e r
+  try-catch : {e o l : ℕ} {p p′ : Statement}
+      → Reacts p e (gives o (leaving 1) l p′)
+      → Reacts (Statement.try p) e (gives o ended l Statement.nothing)
+  try-through : {e o l : ℕ} {k : Code} {p p′ : Statement}
+      → Reacts p e (gives o k l p′)
+      → k ≢ leaving 1
+      → Reacts (Statement.try p) e (gives o (down k) l (Statement.try p′))
+  sequence-p : {e o l : ℕ} {k : Code} {p p′ q : Statement}
+      → Reacts p e (gives o k l p′)
+      → k ≢ ended
+      → Reacts (Statement.seq p q) e (gives o k l (Statement.seq p′ q))
+  -- labels: 002, rule 6, where those of p are empty (002, corollary 1)
+  sequence-q : {e o o₂ l l₂ : ℕ} {k : Code} {p p′ q q′ : Statement}
+      → Reacts p e (gives o ended l p′)
+      → Reacts q e (gives o₂ k l₂ q′)
+      → Reacts (Statement.seq p q) e (gives (join o o₂) k l₂ q′)
+  signal++ : {e a s o− o+ l− l+ : ℕ} {k− k+ : Code} {p p− p+ : Statement}
+      → Reacts p (remove s e) (gives o− k− l− p−)
+      → member s o− ≡ true
+      → Reacts p (insert s e) (gives o+ k+ l+ p+)
+      → member s o+ ≡ true
+      → Reacts (Statement.signal a s p) e (gives (remove s o+) k+ l+ (Statement.signal a s p+))
+  signal−− : {e a s o− o+ l− l+ : ℕ} {k− k+ : Code} {p p− p+ : Statement}
+      → Reacts p (remove s e) (gives o− k− l− p−)
+      → member s o− ≡ false
+      → Reacts p (insert s e) (gives o+ k+ l+ p+)
+      → member s o+ ≡ false
+      → greater k− k+ ≢ wrong
+      → Reacts (Statement.signal a s p) e (gives o− k− l− (Statement.signal a s p−))
+  signal+− : {e a s o− o+ l− l+ : ℕ} {k− k+ : Code} {p p− p+ : Statement}
+      → Reacts p (remove s e) (gives o− k− l− p−)
+      → member s o− ≡ true
+      → Reacts p (insert s e) (gives o+ k+ l+ p+)
+      → member s o+ ≡ false
+      → k+ ≢ wrong
+      → Reacts (Statement.signal a s p) e (gives none wrong none Statement.nothing)
+  signal−+ : {e a s o− o+ l− l+ : ℕ} {k− k+ : Code} {p p− p+ : Statement}
+      → Reacts p (remove s e) (gives o− k− l− p−)
+      → member s o− ≡ false
+      → k− ≢ wrong
+      → Reacts p (insert s e) (gives o+ k+ l+ p+)
+      → member s o+ ≡ true
+      → Reacts (Statement.signal a s p) e (gives none wrong none Statement.nothing)
+  -- 01, first that fits: the last three premises say that signal++, signal+− and signal−+ do not fit
+  signal∞ : {e a s o− o+ l− l+ : ℕ} {k− k+ : Code} {p p− p+ : Statement}
+      → Reacts p (remove s e) (gives o− k− l− p−)
+      → Reacts p (insert s e) (gives o+ k+ l+ p+)
+      → greater k− k+ ≡ wrong
+      → ¬ ((member s o− ≡ true) × (member s o+ ≡ true))
+      → ¬ ((member s o− ≡ true) × (member s o+ ≡ false) × (k+ ≢ wrong))
+      → ¬ ((member s o− ≡ false) × (k− ≢ wrong) × (member s o+ ≡ true))
+      → Reacts (Statement.signal a s p) e (gives none wrong none Statement.nothing)
+  -- 002, section 4.2
+  setpause : {e l : ℕ} → Reacts (Statement.setpause l) e (gives none waiting (only l) Statement.nothing)

@@ -1,0 +1,15 @@
+-- Statements of kernel Pure Esterel (003, figure 1) with the labels and the setpause of 002 (sections 3.3 and 4).
+-- Signals, labels and exits are numbers. A loop and a signal carry their place, by which an error names them (01).
+use Prim.Native.Nat.{ℕ}
+
+pub data Statement : Type 0 where
+  nothing : Statement
+  pause : (label : ℕ) → Statement
+  emit : (signal : ℕ) → Statement
+  exit : (count : ℕ) → Statement
+  seq par : (p q : Statement) → Statement
+  loop : (place : ℕ) (p : Statement) → Statement
+  present : (signal : ℕ) (p q : Statement) → Statement
+  signal : (place signal : ℕ) (p : Statement) → Statement
+  try : (p : Statement) → Statement
+  setpause : (label : ℕ) → Statement
