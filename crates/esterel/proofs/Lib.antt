@@ -1,0 +1,15 @@
+pub mod Booleans
+pub mod Sets
+pub mod Codes
+pub mod Rules
+pub mod Derivations
+pub mod Errors
+pub mod Places
+pub mod Activity
+pub mod Figure5
+pub mod Invariant
+pub mod Residual
+pub mod Stability
+pub mod Resume
+pub mod Agreement
+pub mod Theorems
