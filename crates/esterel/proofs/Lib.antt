@@ -1,0 +1,5 @@
+pub mod Booleans
+pub mod Sets
+pub mod Places
+pub mod Order
+pub mod LabelTests

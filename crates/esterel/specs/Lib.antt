@@ -8,3 +8,4 @@ pub mod States
 pub mod Expansion
 pub mod Resume
 pub mod Machines
+pub mod LabelTests
