@@ -31,6 +31,14 @@ pub data Before (j : Joint) : Statement → Place → Place → Type 0 where
   across : {p q w : Statement} {a b : Place} → Two j p q w → Before j w (second ∷ a) (first ∷ b)
   inside : {d : Part} {c p : Statement} {a b : Place} → PartOf d c p → Before j c a b → Before j p (d ∷ a) (d ∷ b)
 
+-- a command at a place of a part stands in that part
+pub at-part : {d : Part} {c p w : Statement} {a : Place} → PartOf d c p → At w (d ∷ a) p → At w a c
+at-part {w = w} {a = a} i (At.inside k u) = subst (λ (z : Statement). At w a z) (part-unique k i) u
+
+pub at-unique : {v w p : Statement} {a : Place} → At v a p → At w a p → v ≡ w
+at-unique At.here At.here = refl
+at-unique (At.inside i u) (At.inside k v) = at-unique u (at-part i (At.inside k v))
+
 -- ---- exclusive places are those in order across alternatives
 to-alternative : {p q w : Statement} → Two alternative p q w → Alternative w
 to-alternative sequence = Alternative.sequence
@@ -100,5 +108,4 @@ pub order : {x y p : Statement} {a b : Place} → NoParts x → NoParts y → At
 order f g At.here At.here = same refl
 order f g At.here (At.inside i v) = absurd (f _ _ i)
 order f g (At.inside i u) At.here = absurd (g _ _ i)
-order {y = y} f g (At.inside {d = d} {c = c} i u) (At.inside {a = b} {c = c₂} k v) =
-    order-parts i k (λ m e. order-inside i (order f g u (subst (λ (z : Statement). At y b z) (part-unique m i) v)))
+order f g (At.inside i u) (At.inside k v) = order-parts i k (λ m e. order-inside i (order f g u (at-part i (At.inside m v))))
