@@ -8,7 +8,6 @@ use lib.Dec.{eqb, eqb·zero-suc, eqb·suc-zero, eqb·suc-suc}
 use lib.Bits.{bitOr, bitAnd, bitXor, differ, or-step, and-step, xor-step, or-zero-l, or-zero-r, or-shr, and-shr, xor-shr}
 use lib.Pow.{shr-shr}
 use lib.Arith.{digits-mod, bin-ind}
-use borrow.Author.Tests.{eqb-false}
 use Rattle.esterel.specs.Sets.{member, none, only, join, insert, remove}
 
 -- ---- one law for the three operations on digits
