@@ -9,3 +9,4 @@ pub mod Expansion
 pub mod Resume
 pub mod Machines
 pub mod LabelTests
+pub mod LabelRows
