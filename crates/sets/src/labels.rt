@@ -6,6 +6,7 @@ ghost use lib.Dec.{eqb};
 ghost use Rattle.esterel.specs.Sets.{member, none, join, remove};
 ghost use Rattle.sets.specs.Sets.{labelCount, onlyBelow, insertBelow, Subset, Disjoint};
 ghost use Rattle.sets.specs.Labels.{labelSet};
+ghost use Rattle.sets.specs.Rows.{rowOf, addRowBelow, Turns};
 
 pub struct Labels {
     bits: u64,
@@ -76,4 +77,28 @@ pub fn disjoint(s: Labels, t: Labels) -> bool
     ensures { λ r. ⌜ (r ≡ true) ↔ Disjoint (labelSet s) (labelSet t) ⌝ }
 {
     s.bits & t.bits == 0
+}
+
+// A label set for each label.
+pub type Rows = [u64; 64];
+
+// Adds the labels of s to the row of k; a label outside the width has no row.
+pub fn add_row(rows: &mut Rows, k: u8, s: Labels)
+    ensures { λ _. ⌜ Turns (addRowBelow labelCount k (labelSet s)) (now (rows .entry)) (now (rows .exit)) ⌝ }
+{
+    if k < 64 {
+        let i = k as usize;
+        rows[i] = rows[i] | s.bits;
+    }
+}
+
+pub fn row(rows: &Rows, k: u8) -> Labels
+    ensures { λ r. ⌜ labelSet r ≡ rowOf (now (rows .entry)) k ⌝ }
+{
+    if k < 64 {
+        let i = k as usize;
+        Labels { bits: rows[i] }
+    } else {
+        empty()
+    }
 }
