@@ -9,3 +9,5 @@ pub mod Expansion
 pub mod Resume
 pub mod Machines
 pub mod Examples
+pub mod LabelTests
+pub mod LabelRows

@@ -1,0 +1,363 @@
+-- The sets of LabelTests by places: labelsOf holds the labels of pauses and setpauses, before the pairs in order.
+use Prim.Native.Nat.{ℕ, suc, _/_, _%_, _^_}
+use mathlib.Core.Path.{_≡_, refl, sym, ap, _∙_, subst}
+use mathlib.Core.Logic.{_⊎_, inl, inr, ⊎-elim, _↔_}
+use mathlib.Core.Bool.{Bool, true, false, _&&_, _||_, cond, and-eq-true-iff, false≢true}
+use mathlib.Core.List.{List, [], _∷_}
+use native.Mathlib.Omega.{arith}
+use lib.Dec.{eqb}
+use lib.Arith.{bin-ind}
+use lib.Bits.{bitAnd}
+use borrow.Author.Tests.{eqb-true, eqb-false, eq-eqb}
+use Rattle.esterel.specs.Sets.{member, none, only, join}
+use Rattle.esterel.specs.Statement.{Statement, nothing, pause, emit, exit, seq, par, loop, present, signal, try, setpause}
+use Rattle.esterel.specs.Places.{Part, first, second, PartOf, seq₁, seq₂, par₁, par₂, loop₁, present₁, present₂, signal₁, try₁, Place, At}
+use Rattle.esterel.specs.LabelTests.{disjoint, subset, labelsOf, Joint, alternative, parallel, atJoint, ifMember, before, everyLabel, triggers}
+use Rattle.esterel.proofs.Booleans.{or-l, or-r, or-cases, Tested, tested}
+use Rattle.esterel.proofs.Sets.{member-join, member-and, member-none, member-only, member-step, ext}
+use Rattle.esterel.proofs.Order.{Two, sequence, test, sides, first-part, second-part, Before, at-part, NoParts}
+
+-- ---- members
+pub in-l : (k s t : ℕ) → member k s ≡ true → member k (join s t) ≡ true
+in-l k s t h = member-join k s t ∙ or-l (member k s) (member k t) h
+
+pub in-r : (k s t : ℕ) → member k t ≡ true → member k (join s t) ≡ true
+in-r k s t h = member-join k s t ∙ or-r (member k s) (member k t) h
+
+pub in-join : (k s t : ℕ) → member k (join s t) ≡ true → (member k s ≡ true) ⊎ (member k t ≡ true)
+in-join k s t h = or-cases (member k s) (member k t) (sym (member-join k s t) ∙ h)
+
+pub in-none {ℓ} : {A : Type ℓ} (k : ℕ) → member k none ≡ true → A
+in-none k h = absurd (false≢true (sym (member-none k) ∙ h))
+
+even : (n : ℕ) → member 0 n ≡ false → n % 2 ≡ 0
+unfolding member
+even n h =
+    let e : n / 2 ^ 0 ≡ n = omega arith in
+    let z : (n % 2 ≡ 1) → ⊥ = eqb-false (n % 2) 1 (rw e at h) in
+    omega arith
+
+abbrev pub Disjoint : ℕ → ℕ → Type 0
+Disjoint s t = (k : ℕ) → member k s ≡ true → member k t ≡ true → ⊥
+
+abbrev pub Subset : ℕ → ℕ → Type 0
+Subset s t = (k : ℕ) → member k s ≡ true → member k t ≡ true
+
+not-both : (a b : Bool) → (a ≡ true → b ≡ true → ⊥) → (a && b) ≡ false
+not-both true true f = absurd (f refl refl)
+not-both true false f = refl
+not-both false b f = refl
+
+first-implies : (a b : Bool) → (a ≡ true → b ≡ true) → (a && b) ≡ a
+first-implies true b f = f refl
+first-implies false b f = refl
+
+pub disjoint-is : (s t : ℕ) → (disjoint s t ≡ true) ↔ Disjoint s t
+unfolding disjoint
+disjoint-is s t = (to, from)
+  where
+    to : eqb (bitAnd s t) none ≡ true → Disjoint s t
+    to e k h g =
+        in-none k
+        (sym (ap (member k) (eqb-true (bitAnd s t) none e)) ∙ member-and k s t ∙ and-eq-true-iff (member k s) (member k t) .1 (h, g))
+
+    from : Disjoint s t → eqb (bitAnd s t) none ≡ true
+    from f =
+        eq-eqb (bitAnd s t) none
+        (ext (bitAnd s t) none (λ k. member-and k s t ∙ not-both (member k s) (member k t) (f k) ∙ sym (member-none k)))
+
+pub subset-is : (s t : ℕ) → (subset s t ≡ true) ↔ Subset s t
+unfolding subset
+subset-is s t = (to, from)
+  where
+    to : eqb (bitAnd s t) s ≡ true → Subset s t
+    to e k h =
+        and-eq-true-iff (member k s) (member k t) .0
+        (sym (member-and k s t) ∙ ap (member k) (eqb-true (bitAnd s t) s e) ∙ h)
+        .1
+
+    from : Subset s t → eqb (bitAnd s t) s ≡ true
+    from f = eq-eqb (bitAnd s t) s (ext (bitAnd s t) s (λ k. member-and k s t ∙ first-implies (member k s) (member k t) (f k)))
+
+-- a set that is not empty has a member
+pub some-member : (s : ℕ) → (s ≡ none → ⊥) → (k : ℕ) × (member k s ≡ true)
+unfolding none
+some-member = bin-ind (λ (n : ℕ). (n ≡ 0 → ⊥) → (k : ℕ) × (member k n ≡ true)) (λ f. absurd (f refl)) step
+  where
+    step : (n : ℕ) → ((n / 2 ≡ 0 → ⊥) → (k : ℕ) × (member k (n / 2) ≡ true)) → (n ≡ 0 → ⊥) → (k : ℕ) × (member k n ≡ true)
+    step n ih f = go (tested (member 0 n))
+      where
+        go : Tested (member 0 n) → (k : ℕ) × (member k n ≡ true)
+        go (Tested.yes h) = (0, h)
+        go (Tested.no h) = let r = ih (λ e. f (halves e (even n h))) in (suc (r .0), member-step (r .0) n ∙ r .1)
+          where
+            halves : n / 2 ≡ 0 → n % 2 ≡ 0 → n ≡ 0
+            halves e z = omega arith
+
+-- ---- the labels of a statement
+-- the command w is a pause l, if pauses count, or a setpause l, if setpauses count
+pub data Counted (x y : Bool) (l : ℕ) : Statement → Type 0 where
+  as-pause : x ≡ true → Counted x y l (pause l)
+  as-setpause : y ≡ true → Counted x y l (setpause l)
+
+pub counted-leaf : {x y : Bool} {l : ℕ} {w : Statement} → Counted x y l w → NoParts w
+counted-leaf (as-pause e) d c i = elim i [ ]
+counted-leaf (as-setpause e) d c i = elim i [ ]
+
+-- such a command stands in p
+pub record Named (x y : Bool) (p : Statement) (l : ℕ) : Type 0 where
+  pub command : Statement
+  pub place : Place
+  pub counted : Counted x y l command
+  pub stands : At command place p
+
+pub named-in : {x y : Bool} {d : Part} {c p : Statement} {l : ℕ} → PartOf d c p → Named x y c l → Named x y p l
+named-in {d = d} i n =
+    record { command = n .command; place = d ∷ n .place; counted = n .counted; stands = At.inside i (n .stands) }
+
+module _ (x y : Bool) (l : ℕ) where
+  labels-part : {d : Part} {c p : Statement} → PartOf d c p → member l (labelsOf x y c) ≡ true → member l (labelsOf x y p) ≡ true
+  unfolding labelsOf
+  labels-part (seq₁ {p = p} {q = q}) h = in-l l (labelsOf x y p) (labelsOf x y q) h
+  labels-part (seq₂ {p = p} {q = q}) h = in-r l (labelsOf x y p) (labelsOf x y q) h
+  labels-part (par₁ {p = p} {q = q}) h = in-l l (labelsOf x y p) (labelsOf x y q) h
+  labels-part (par₂ {p = p} {q = q}) h = in-r l (labelsOf x y p) (labelsOf x y q) h
+  labels-part loop₁ h = h
+  labels-part (present₁ {p = p} {q = q}) h = in-l l (labelsOf x y p) (labelsOf x y q) h
+  labels-part (present₂ {p = p} {q = q}) h = in-r l (labelsOf x y p) (labelsOf x y q) h
+  labels-part signal₁ h = h
+  labels-part try₁ h = h
+
+  in-leaf : (b : Bool) → b ≡ true → member l (cond b (only l) none) ≡ true
+  in-leaf true e = member-only l l ∙ eq-eqb l l refl
+  in-leaf false e = absurd (false≢true e)
+
+  counted-here : {w : Statement} → Counted x y l w → member l (labelsOf x y w) ≡ true
+  unfolding labelsOf
+  counted-here (as-pause e) = in-leaf x e
+  counted-here (as-setpause e) = in-leaf y e
+
+  pub labels-at : {w p : Statement} {a : Place} → Counted x y l w → At w a p → member l (labelsOf x y p) ≡ true
+  labels-at n At.here = counted-here n
+  labels-at n (At.inside i u) = labels-part i (labels-at n u)
+
+  from-leaf : (b : Bool) (k : ℕ) → member l (cond b (only k) none) ≡ true → (b ≡ true) × (k ≡ l)
+  from-leaf true k h = (refl, eqb-true k l (sym (member-only k l) ∙ h))
+  from-leaf false k h = in-none l h
+
+  here-pause : (k : ℕ) → (x ≡ true) × (k ≡ l) → Named x y (pause k) l
+  here-pause k e =
+      subst (λ (m : ℕ). Named x y (pause m) l) (sym (e .1))
+      (record { command = pause l; place = []; counted = as-pause (e .0); stands = At.here })
+
+  here-setpause : (k : ℕ) → (y ≡ true) × (k ≡ l) → Named x y (setpause k) l
+  here-setpause k e =
+      subst (λ (m : ℕ). Named x y (setpause m) l) (sym (e .1))
+      (record { command = setpause l; place = []; counted = as-setpause (e .0); stands = At.here })
+
+  in-two : {j : Joint} {p q w : Statement} → Two j p q w
+      → (member l (labelsOf x y p) ≡ true → Named x y p l) → (member l (labelsOf x y q) ≡ true → Named x y q l)
+      → member l (join (labelsOf x y p) (labelsOf x y q)) ≡ true → Named x y w l
+  in-two {p = p} {q = q} t f g h =
+      ⊎-elim (λ u. named-in (first-part t) (f u)) (λ u. named-in (second-part t) (g u)) (in-join l (labelsOf x y p) (labelsOf x y q) h)
+
+  pub labels-from : (p : Statement) → member l (labelsOf x y p) ≡ true → Named x y p l
+  unfolding labelsOf
+  labels-from nothing h = in-none l h
+  labels-from (pause k) h = here-pause k (from-leaf x k h)
+  labels-from (emit s) h = in-none l h
+  labels-from (exit n) h = in-none l h
+  labels-from (seq p q) h = in-two sequence (labels-from p) (labels-from q) h
+  labels-from (par p q) h = in-two sides (labels-from p) (labels-from q) h
+  labels-from (loop a p) h = named-in loop₁ (labels-from p h)
+  labels-from (present s p q) h = in-two (test {s = s}) (labels-from p) (labels-from q) h
+  labels-from (signal a s p) h = named-in signal₁ (labels-from p h)
+  labels-from (try p) h = named-in try₁ (labels-from p h)
+  labels-from (setpause k) h = here-setpause k (from-leaf y k h)
+
+-- ---- labels in order
+-- a counted command with label k stands before one with label l, across a joint j
+pub record Pair (x y : Bool) (j : Joint) (p : Statement) (k l : ℕ) : Type 0 where
+  pub later : Statement
+  pub earlier : Statement
+  pub at : Place
+  pub from : Place
+  pub later-counted : Counted x y k later
+  pub earlier-counted : Counted x y l earlier
+  pub later-stands : At later at p
+  pub earlier-stands : At earlier from p
+  pub order : Before j p at from
+
+pair-in : {x y : Bool} {j : Joint} {d : Part} {c p : Statement} {k l : ℕ} → PartOf d c p → Pair x y j c k l → Pair x y j p k l
+pair-in {d = d} i r =
+    record {
+      later = r .later;
+      earlier = r .earlier;
+      at = d ∷ r .at;
+      from = d ∷ r .from;
+      later-counted = r .later-counted;
+      earlier-counted = r .earlier-counted;
+      later-stands = At.inside i (r .later-stands);
+      earlier-stands = At.inside i (r .earlier-stands);
+      order = Before.inside i (r .order);
+    }
+
+pair-across : {x y : Bool} {j : Joint} {p q w : Statement} {k l : ℕ} → Two j p q w → Named x y q k → Named x y p l → Pair x y j w k l
+pair-across t m n =
+    record {
+      later = m .command;
+      earlier = n .command;
+      at = second ∷ m .place;
+      from = first ∷ n .place;
+      later-counted = m .counted;
+      earlier-counted = n .counted;
+      later-stands = At.inside (second-part t) (m .stands);
+      earlier-stands = At.inside (first-part t) (n .stands);
+      order = Before.across t;
+    }
+
+-- a label across the joint of two parts
+across-two : {j : Joint} {p q w : Statement} (x y : Bool) (k l : ℕ) → Two j p q w
+    → member l (ifMember k (labelsOf x y q) (labelsOf x y p)) ≡ true → member l (before x y j w k) ≡ true
+unfolding before
+across-two x y k l (sequence {p = p} {q = q}) h =
+    in-l l (ifMember k (labelsOf x y q) (labelsOf x y p)) (join (before x y alternative p k) (before x y alternative q k)) h
+across-two x y k l (test {p = p} {q = q}) h =
+    in-l l (ifMember k (labelsOf x y q) (labelsOf x y p)) (join (before x y alternative p k) (before x y alternative q k)) h
+across-two x y k l (sides {p = p} {q = q}) h =
+    in-l l (ifMember k (labelsOf x y q) (labelsOf x y p)) (join (before x y parallel p k) (before x y parallel q k)) h
+
+module _ (x y : Bool) (j : Joint) (k l : ℕ) where
+  abbrev crossing : Joint → Statement → Statement → ℕ
+  crossing i p q = atJoint j i (ifMember k (labelsOf x y q) (labelsOf x y p))
+
+  abbrev inBefore : Statement → Type 0
+  inBefore p = member l (before x y j p k) ≡ true
+
+  if-member : (s t : ℕ) → member l (ifMember k t s) ≡ true → (member k t ≡ true) × (member l s ≡ true)
+  if-member s t h = go (member k t) h
+    where
+      go : (b : Bool) → member l (cond b s none) ≡ true → (b ≡ true) × (member l s ≡ true)
+      go true h = (refl, h)
+      go false h = in-none l h
+
+  member-if : (s t : ℕ) → member k t ≡ true → member l s ≡ true → member l (ifMember k t s) ≡ true
+  member-if s t h g = go (member k t) h
+    where
+      go : (b : Bool) → b ≡ true → member l (cond b s none) ≡ true
+      go true e = g
+      go false e = absurd (false≢true e)
+
+  at-same : (i : Joint) (s : ℕ) → member l (atJoint j i s) ≡ true → (i ≡ j) × (member l s ≡ true)
+  at-same i s h = go j i h
+    where
+      go : (j i : Joint) → member l (atJoint j i s) ≡ true → (i ≡ j) × (member l s ≡ true)
+      go alternative alternative h = (refl, h)
+      go alternative parallel h = in-none l h
+      go parallel alternative h = in-none l h
+      go parallel parallel h = (refl, h)
+
+  pair-two : {i : Joint} {p q w : Statement} → Two i p q w → (inBefore p → Pair x y j p k l) → (inBefore q → Pair x y j q k l)
+      → member l (join (crossing i p q) (join (before x y j p k) (before x y j q k))) ≡ true → Pair x y j w k l
+  pair-two {i} {p} {q} {w} t f g h =
+      ⊎-elim
+      (λ u. cross (at-same i (ifMember k (labelsOf x y q) (labelsOf x y p)) u))
+      (λ u. ⊎-elim (λ v. pair-in (first-part t) (f v)) (λ v. pair-in (second-part t) (g v)) (in-join l (before x y j p k) (before x y j q k) u))
+      (in-join l (crossing i p q) (join (before x y j p k) (before x y j q k)) h)
+    where
+      cross : (i ≡ j) × (member l (ifMember k (labelsOf x y q) (labelsOf x y p)) ≡ true) → Pair x y j w k l
+      cross e =
+          let m = if-member (labelsOf x y p) (labelsOf x y q) (e .1) in
+          pair-across (subst (λ (n : Joint). Two n p q w) (e .0) t) (labels-from x y k q (m .0)) (labels-from x y l p (m .1))
+
+  pub pair-from : (p : Statement) → inBefore p → Pair x y j p k l
+  unfolding before
+  pair-from nothing h = in-none l h
+  pair-from (pause m) h = in-none l h
+  pair-from (emit s) h = in-none l h
+  pair-from (exit n) h = in-none l h
+  pair-from (seq p q) h = pair-two sequence (pair-from p) (pair-from q) h
+  pair-from (par p q) h = pair-two sides (pair-from p) (pair-from q) h
+  pair-from (loop a p) h = pair-in loop₁ (pair-from p h)
+  pair-from (present s p q) h = pair-two (test {s = s}) (pair-from p) (pair-from q) h
+  pair-from (signal a s p) h = pair-in signal₁ (pair-from p h)
+  pair-from (try p) h = pair-in try₁ (pair-from p h)
+  pair-from (setpause m) h = in-none l h
+
+  in-first : (r s t : ℕ) → member l s ≡ true → member l (join r (join s t)) ≡ true
+  in-first r s t h = in-r l r (join s t) (in-l l s t h)
+
+  in-second : (r s t : ℕ) → member l t ≡ true → member l (join r (join s t)) ≡ true
+  in-second r s t h = in-r l r (join s t) (in-r l s t h)
+
+  before-part : {d : Part} {c p : Statement} → PartOf d c p → inBefore c → inBefore p
+  unfolding before
+  before-part (seq₁ {p = p} {q = q}) h = in-first (crossing alternative p q) (before x y j p k) (before x y j q k) h
+  before-part (seq₂ {p = p} {q = q}) h = in-second (crossing alternative p q) (before x y j p k) (before x y j q k) h
+  before-part (par₁ {p = p} {q = q}) h = in-first (crossing parallel p q) (before x y j p k) (before x y j q k) h
+  before-part (par₂ {p = p} {q = q}) h = in-second (crossing parallel p q) (before x y j p k) (before x y j q k) h
+  before-part loop₁ h = h
+  before-part (present₁ {p = p} {q = q}) h = in-first (crossing alternative p q) (before x y j p k) (before x y j q k) h
+  before-part (present₂ {p = p} {q = q}) h = in-second (crossing alternative p q) (before x y j p k) (before x y j q k) h
+  before-part signal₁ h = h
+  before-part try₁ h = h
+
+  pub pair-at : {p v w : Statement} {a b : Place} → Counted x y k v → Counted x y l w → At v a p → At w b p → Before j p a b → inBefore p
+  pair-at m n u v (Before.across {p = p} {q = q} t) =
+      across-two x y k l t
+      (member-if (labelsOf x y p) (labelsOf x y q)
+      (labels-at x y k m (at-part (second-part t) u))
+      (labels-at x y l n (at-part (first-part t) v)))
+  pair-at m n u v (Before.inside i r) = before-part i (pair-at m n (at-part i u) (at-part i v) r)
+
+-- ---- every label
+module _ (f : ℕ → Bool) where
+  every-part : {d : Part} {c p : Statement} → PartOf d c p → everyLabel p f ≡ true → everyLabel c f ≡ true
+  unfolding everyLabel
+  every-part (seq₁ {p = p} {q = q}) h = and-eq-true-iff (everyLabel p f) (everyLabel q f) .0 h .0
+  every-part (seq₂ {p = p} {q = q}) h = and-eq-true-iff (everyLabel p f) (everyLabel q f) .0 h .1
+  every-part (par₁ {p = p} {q = q}) h = and-eq-true-iff (everyLabel p f) (everyLabel q f) .0 h .0
+  every-part (par₂ {p = p} {q = q}) h = and-eq-true-iff (everyLabel p f) (everyLabel q f) .0 h .1
+  every-part loop₁ h = h
+  every-part (present₁ {p = p} {q = q}) h = and-eq-true-iff (everyLabel p f) (everyLabel q f) .0 h .0
+  every-part (present₂ {p = p} {q = q}) h = and-eq-true-iff (everyLabel p f) (everyLabel q f) .0 h .1
+  every-part signal₁ h = h
+  every-part try₁ h = h
+
+  every-here : {l : ℕ} {w : Statement} → Counted true true l w → everyLabel w f ≡ true → f l ≡ true
+  unfolding everyLabel
+  every-here (as-pause e) h = h
+  every-here (as-setpause e) h = h
+
+  every-at : {l : ℕ} {w p : Statement} {a : Place} → Counted true true l w → At w a p → everyLabel p f ≡ true → f l ≡ true
+  every-at n At.here h = every-here n h
+  every-at n (At.inside i u) h = every-at n u (every-part i h)
+
+  -- a test of every label is a test of every member of the triggers
+  pub every-to : (p : Statement) → everyLabel p f ≡ true → (l : ℕ) → member l (triggers p) ≡ true → f l ≡ true
+  every-to p h l m = let n = labels-from true true l p m in every-at (n .counted) (n .stands) h
+
+  abbrev Every : Statement → Type 0
+  Every p = (l : ℕ) → member l (triggers p) ≡ true → f l ≡ true
+
+  every-in : {d : Part} {c p : Statement} → PartOf d c p → Every p → Every c
+  every-in i g l h = g l (labels-part true true l i h)
+
+  every-two : {j : Joint} {p q w : Statement} → Two j p q w → (Every p → everyLabel p f ≡ true) → (Every q → everyLabel q f ≡ true)
+      → Every w → (everyLabel p f && everyLabel q f) ≡ true
+  every-two {p = p} {q = q} t g h e =
+      and-eq-true-iff (everyLabel p f) (everyLabel q f) .1 (g (every-in (first-part t) e), h (every-in (second-part t) e))
+
+  pub every-from : (p : Statement) → Every p → everyLabel p f ≡ true
+  unfolding everyLabel
+  every-from nothing e = refl
+  every-from (pause l) e = e l (labels-at true true l (as-pause refl) At.here)
+  every-from (emit s) e = refl
+  every-from (exit n) e = refl
+  every-from (seq p q) e = every-two sequence (every-from p) (every-from q) e
+  every-from (par p q) e = every-two sides (every-from p) (every-from q) e
+  every-from (loop a p) e = every-from p (every-in (loop₁ {a = a}) e)
+  every-from (present s p q) e = every-two (test {s = s}) (every-from p) (every-from q) e
+  every-from (signal a s p) e = every-from p (every-in (signal₁ {a = a} {s = s}) e)
+  every-from (try p) e = every-from p (every-in try₁ e)
+  every-from (setpause l) e = e l (labels-at true true l (as-setpause refl) At.here)

@@ -1,0 +1,1 @@
+// Sequences of commands as bytes: the reader.

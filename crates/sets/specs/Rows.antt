@@ -1,0 +1,27 @@
+-- Rows of label sets as they are held, one number for each label.
+use Prim.Native.Nat.{ℕ}
+use mathlib.Core.Path.{_≡_}
+use mathlib.Core.List.{List}
+use mathlib.Core.Bool.{cond}
+use lib.ListN.{length, getD}
+use lib.Dec.{ltb}
+use Rattle.esterel.specs.Sets.{none}
+use Rattle.esterel.specs.LabelRows.{addRow}
+use Rattle.sets.specs.Sets.{labelCount}
+
+-- the row of k, for labels below w: no other label has one
+unfoldable pub rowBelow : (w : ℕ) → List ℕ → ℕ → ℕ
+rowBelow w rows k = cond (ltb k w) (getD rows k 0) none
+
+abbrev pub addRowBelow : (w k s : ℕ) → (ℕ → ℕ) → ℕ → ℕ
+addRowBelow w k s rows = cond (ltb k w) (addRow k s rows) rows
+
+-- w rows become w rows by f
+abbrev pub TurnsBelow : ℕ → ((ℕ → ℕ) → ℕ → ℕ) → List ℕ → List ℕ → Type 0
+TurnsBelow w f m n = length m ≡ w → (length n ≡ w) × (rowBelow w n ≡ f (rowBelow w m))
+
+abbrev pub rowOf : List ℕ → ℕ → ℕ
+rowOf = rowBelow labelCount
+
+abbrev pub Turns : ((ℕ → ℕ) → ℕ → ℕ) → List ℕ → List ℕ → Type 0
+Turns = TurnsBelow labelCount

@@ -1,0 +1,27 @@
+-- Sets below a width, and two relations between sets, over the sets of esterel.
+use Prim.Native.Nat.{ℕ}
+use mathlib.Core.Path.{_≡_}
+use mathlib.Core.Bool.{true, false, cond}
+use lib.Dec.{ltb}
+use Rattle.esterel.specs.Sets.{member, none, only, insert}
+
+-- 01, 'Commands': signals are 0 to 31
+abbrev pub signalCount : ℕ
+signalCount = 32
+
+-- labels are 0 to 63
+abbrev pub labelCount : ℕ
+labelCount = 64
+
+-- a set of numbers below w has no other member
+abbrev pub onlyBelow : (w i : ℕ) → ℕ
+onlyBelow w i = cond (ltb i w) (only i) none
+
+abbrev pub insertBelow : (w i s : ℕ) → ℕ
+insertBelow w i s = cond (ltb i w) (insert i s) s
+
+abbrev pub Subset : ℕ → ℕ → Type 0
+Subset s t = (i : ℕ) → member i s ≡ true → member i t ≡ true
+
+abbrev pub Disjoint : ℕ → ℕ → Type 0
+Disjoint s t = (i : ℕ) → member i s ≡ true → member i t ≡ false

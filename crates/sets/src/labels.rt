@@ -1,0 +1,104 @@
+// Sets of labels 0 to 63. Only this module knows how a set is held.
+ghost use mathlib.Core.Path.{_≡_};
+ghost use mathlib.Core.Bool.{true};
+ghost use mathlib.Core.Logic.{_↔_};
+ghost use lib.Dec.{eqb};
+ghost use Rattle.esterel.specs.Sets.{member, none, join, remove};
+ghost use Rattle.sets.specs.Sets.{labelCount, onlyBelow, insertBelow, Subset, Disjoint};
+ghost use Rattle.sets.specs.Labels.{labelSet};
+ghost use Rattle.sets.specs.Rows.{rowOf, addRowBelow, Turns};
+
+pub struct Labels {
+    bits: u64,
+}
+
+pub fn empty() -> Labels
+    ensures { λ r. ⌜ labelSet r ≡ none ⌝ }
+{
+    Labels { bits: 0 }
+}
+
+pub fn single(i: u8) -> Labels
+    ensures { λ r. ⌜ labelSet r ≡ onlyBelow labelCount i ⌝ }
+{
+    if i < 64 {
+        Labels { bits: 1u64 << i }
+    } else {
+        empty()
+    }
+}
+
+pub fn member(s: Labels, i: u8) -> bool
+    ensures { λ r. ⌜ r ≡ member i (labelSet s) ⌝ }
+{
+    if i < 64 {
+        (s.bits >> i) % 2 == 1
+    } else {
+        false
+    }
+}
+
+pub fn union(s: Labels, t: Labels) -> Labels
+    ensures { λ r. ⌜ labelSet r ≡ join (labelSet s) (labelSet t) ⌝ }
+{
+    Labels {
+        bits: s.bits | t.bits,
+    }
+}
+
+pub fn with(s: Labels, i: u8) -> Labels
+    ensures { λ r. ⌜ labelSet r ≡ insertBelow labelCount i (labelSet s) ⌝ }
+{
+    union(s, single(i))
+}
+
+pub fn without(s: Labels, i: u8) -> Labels
+    ensures { λ r. ⌜ labelSet r ≡ remove i (labelSet s) ⌝ }
+{
+    let t = single(i);
+    Labels {
+        bits: s.bits ^ (s.bits & t.bits),
+    }
+}
+
+pub fn is_empty(s: Labels) -> bool
+    ensures { λ r. ⌜ r ≡ eqb (labelSet s) none ⌝ }
+{
+    s.bits == 0
+}
+
+pub fn subset(s: Labels, t: Labels) -> bool
+    ensures { λ r. ⌜ (r ≡ true) ↔ Subset (labelSet s) (labelSet t) ⌝ }
+{
+    s.bits & t.bits == s.bits
+}
+
+pub fn disjoint(s: Labels, t: Labels) -> bool
+    ensures { λ r. ⌜ (r ≡ true) ↔ Disjoint (labelSet s) (labelSet t) ⌝ }
+{
+    s.bits & t.bits == 0
+}
+
+// A label set for each label.
+pub type Rows = [u64; 64];
+
+// Adds the labels of s to the row of k; a label outside the width has no row.
+pub fn add_row(rows: &mut Rows, k: u8, s: Labels)
+    ensures { λ _. ⌜ Turns (addRowBelow labelCount k (labelSet s)) (now (rows .entry)) (now (rows .exit)) ⌝ }
+{
+    if k < 64 {
+        let i = k as usize;
+        rows[i] = rows[i] | s.bits;
+    }
+}
+
+pub fn row(rows: &Rows, k: u8) -> Labels
+    ensures { λ r. ⌜ labelSet r ≡ rowOf (now (rows .entry)) k ⌝ }
+{
+    if k < 64 {
+        let i = k as usize;
+        Labels { bits: rows[i] }
+    } else {
+        empty()
+    }
+}

@@ -1,0 +1,34 @@
+// Sets of signals 0 to 31: bit i of the number says whether signal i is a member.
+ghost use mathlib.Core.Path.{_≡_};
+ghost use Rattle.esterel.specs.Sets.{member, join, remove};
+ghost use Rattle.sets.specs.Sets.{signalCount, onlyBelow, insertBelow};
+
+pub fn member(s: u32, i: u8) -> bool
+    ensures { λ r. ⌜ r ≡ member i s ⌝ }
+{
+    if i < 32 { (s >> i) % 2 == 1 } else { false }
+}
+
+pub fn single(i: u8) -> u32
+    ensures { λ r. ⌜ r ≡ onlyBelow signalCount i ⌝ }
+{
+    if i < 32 { 1u32 << i } else { 0 }
+}
+
+pub fn union(s: u32, t: u32) -> u32
+    ensures { λ r. ⌜ r ≡ join s t ⌝ }
+{
+    s | t
+}
+
+pub fn with(s: u32, i: u8) -> u32
+    ensures { λ r. ⌜ r ≡ insertBelow signalCount i s ⌝ }
+{
+    s | single(i)
+}
+
+pub fn without(s: u32, i: u8) -> u32
+    ensures { λ r. ⌜ r ≡ remove i s ⌝ }
+{
+    s ^ (s & single(i))
+}
