@@ -10,4 +10,5 @@ pub mod Reading
 pub mod ReaderExamples
 pub mod Accepted
 pub mod Walk
+pub mod ByRows
 pub mod Rows

@@ -1,0 +1,6 @@
+pub mod Bytes
+pub mod Records
+pub mod Tick
+pub mod TickRows
+pub mod Paper
+pub mod Demands
