@@ -1,5 +1,5 @@
 -- Every number that a reaction of a ranged statement gives fits its field: emitted sets, label sets and places.
-use Prim.Native.Nat.{ℕ, zero, suc, _-_, _/_, _^_, _<_}
+use Prim.Native.Nat.{ℕ, zero, suc, _-_, _/_, _^_, _<_, _≤_}
 use native.Mathlib.Nat.{pow-suc}
 use native.Mathlib.Omega.{arith}
 use mathlib.Core.Path.{_≡_, refl, sym, _∙_, subst}
@@ -9,14 +9,14 @@ use lib.Dec.{eqb}
 use borrow.Author.Tests.{eqb-true}
 use Rattle.esterel.specs.Sets.{member, none, only, join, insert, remove}
 use Rattle.esterel.specs.Statement.{Statement, nothing, pause, emit, exit, seq, par, loop, present, signal, try, setpause}
-use Rattle.esterel.specs.Reaction.{ended, waiting, leaving, wrong, Reaction, gives, emitted, inSeq, inPar, inLoop, inTry, Case, both, neither, only−, only+, inherited, caseOf, answer, react}
+use Rattle.esterel.specs.Reaction.{ended, waiting, leaving, wrong, Reaction, gives, emitted, inSeq, inPar, inLoop, inTry, Case, both, neither, only−, only+, inherited, caseOf, answer, react, Code, code, greater}
 use Rattle.esterel.specs.Places.{Part, PartOf, seq₁, seq₂, par₁, par₂, loop₁, present₁, present₂, signal₁, try₁, Place, At}
 use Rattle.esterel.specs.States.{active}
 use Rattle.esterel.specs.Expansion.{expand}
 use Rattle.esterel.proofs.Booleans.{or-cases}
 use Rattle.esterel.proofs.Sets.{member-none, member-only, member-join, member-remove, member-step, ext}
 use Rattle.esterel.proofs.Stability.{Stops}
-use Rattle.sequence.specs.Limits.{labelCount, signalCount}
+use Rattle.sequence.specs.Limits.{labelCount, signalCount, maxExit}
 use Rattle.sequence.specs.Writer.{Ranged}
 
 -- ---- sets whose members are below a bound
@@ -152,3 +152,74 @@ ranged-expand (present s p q) L h =
 ranged-expand (signal a s p) L h = (h .0, ranged-expand p L (h .1))
 ranged-expand (try p) L h = ranged-expand p L h
 ranged-expand (setpause l) L h = tt
+
+-- ---- exits: a code leaves at most as many try blocks as an exit may
+abbrev pub Exits : Code → Type 0
+Exits ended = Unit {0}
+Exits waiting = Unit {0}
+Exits (leaving n) = n ≤ maxExit
+Exits wrong = Unit {0}
+
+greater-exits : (j k : Code) → Exits j → Exits k → Exits (greater j k)
+greater-exits ended k f g = g
+greater-exits waiting ended f g = tt
+greater-exits waiting waiting f g = tt
+greater-exits waiting (leaving n) f g = g
+greater-exits waiting wrong f g = tt
+greater-exits (leaving m) ended f g = f
+greater-exits (leaving m) waiting f g = f
+greater-exits (leaving m) (leaving n) f g = omega arith
+greater-exits (leaving m) wrong f g = tt
+greater-exits wrong k f g = tt
+
+seq-exits : (q : Statement) (r r₂ : Reaction) → Exits (code r) → Exits (code r₂) → Exits (code (inSeq q r r₂))
+seq-exits q (gives o ended l t) r₂ f g = g
+seq-exits q (gives o waiting l t) r₂ f g = f
+seq-exits q (gives o (leaving n) l t) r₂ f g = f
+seq-exits q (gives o wrong l t) r₂ f g = f
+
+par-exits : (r r₂ : Reaction) → Exits (code r) → Exits (code r₂) → Exits (code (inPar r r₂))
+par-exits (gives o k l t) (gives o₂ k₂ l₂ u) f g = greater-exits k k₂ f g
+
+loop-exits : (a : ℕ) (p : Statement) (r : Reaction) → Exits (code r) → Exits (code (inLoop a p r))
+loop-exits a p (gives o ended l t) f = tt
+loop-exits a p (gives o waiting l t) f = f
+loop-exits a p (gives o (leaving n) l t) f = f
+loop-exits a p (gives o wrong l t) f = f
+
+try-exits : (r : Reaction) → Exits (code r) → Exits (code (inTry r))
+try-exits (gives o ended l t) f = f
+try-exits (gives o waiting l t) f = f
+try-exits (gives o (leaving n) l t) f = go (eqb n 1)
+  where
+    go : (b : Bool) → Exits (code (cond b (gives o ended l nothing) (gives o (leaving (n - 1)) l (try t))))
+    go true = tt
+    go false = omega arith
+try-exits (gives o wrong l t) f = f
+
+present-exits : (b : Bool) (r r₂ : Reaction) → Exits (code r) → Exits (code r₂) → Exits (code (cond b r r₂))
+present-exits true r r₂ f g = f
+present-exits false r r₂ f g = g
+
+signal-exits : (c : Case) (a s : ℕ) (r− r+ : Reaction) → Exits (code r−) → Exits (code r+) → Exits (code (answer c a s r− r+))
+signal-exits both a s r− r+ f g = g
+signal-exits neither a s r− r+ f g = f
+signal-exits only− a s r− r+ f g = tt
+signal-exits only+ a s r− r+ f g = tt
+signal-exits inherited a s r− r+ f g = tt
+
+pub code-exits : (p : Statement) (e : ℕ) → Ranged p → Exits (code (react p e))
+unfolding react
+code-exits nothing e h = tt
+code-exits (pause l) e h = tt
+code-exits (emit s) e h = tt
+code-exits (exit n) e h = h .1
+code-exits (seq p q) e h = seq-exits q (react p e) (react q e) (code-exits p e (h .0)) (code-exits q e (h .1))
+code-exits (par p q) e h = par-exits (react p e) (react q e) (code-exits p e (h .0)) (code-exits q e (h .1))
+code-exits (loop a p) e h = loop-exits a p (react p e) (code-exits p e h)
+code-exits (present s p q) e h = present-exits (member s e) (react p e) (react q e) (code-exits p e (h .1)) (code-exits q e (h .2))
+code-exits (signal a s p) e h =
+    signal-exits (caseOf s (react p (remove s e)) (react p (insert s e))) a s (react p (remove s e)) (react p (insert s e))
+    (code-exits p (remove s e) (h .1)) (code-exits p (insert s e) (h .1))
+code-exits (try p) e h = try-exits (react p e) (code-exits p e h)
+code-exits (setpause l) e h = tt

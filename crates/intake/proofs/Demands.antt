@@ -1,19 +1,20 @@
 -- DEMANDS 1 and 2 for the definitions checkOf and tickOf; demand 3 is proofs/Agreement.
+use Rattle.intake.proofs.Agreement.{demand-3}
 use Prim.Native.Nat.{ℕ, _^_, _<_, _≤_}
 use native.Mathlib.Omega.{arith}
 use native.Mathlib.Decide.{decLt, ℕ-discrete}
 use mathlib.Core.Path.{_≡_, refl, sym, ap, _∙_, subst}
-use mathlib.Core.Logic.{_≢_, inr, ⊎-elim}
+use mathlib.Core.Logic.{_↔_, _≢_, inr, ⊎-elim, inl}
 use mathlib.Core.Bool.{Bool, true, false, _&&_, cond}
 use mathlib.Core.Option.{Option, some}
-use mathlib.Core.List.{List, [], _∷_, List·Memᴰ, List·Memᴰ·not-nil, List·Memᴰ·cases-cons}
+use mathlib.Core.List.{List, [], _∷_, List·Memᴰ, List·Memᴰ·not-nil, List·Memᴰ·cases-cons, map}
 use lib.ListN.{length}
 use lib.Dec.{eqb}
 use Rattle.esterel.specs.Sets.{none}
 use Rattle.esterel.specs.Statement.{Statement}
 use Rattle.esterel.specs.Reaction.{Code, ended, waiting, leaving, wrong, Reaction, gives, emitted, code, react}
 use Rattle.esterel.specs.Errors.{Error, errors, firstError}
-use Rattle.esterel.specs.States.{Valid}
+use Rattle.esterel.specs.States.{Valid, NoSetpause}
 use Rattle.esterel.specs.Expansion.{expand}
 use Rattle.esterel.specs.Resume.{instant, start}
 use Rattle.esterel.specs.Machines.{shown, State, stateAfter}
@@ -23,14 +24,14 @@ use Rattle.esterel.proofs.LabelTests.{valid-is}
 use Rattle.sequence.specs.Limits.{maxBytes, signalCount}
 use Rattle.sequence.specs.Writer.{Ranged}
 use Rattle.sequence.specs.Check.{Checked, sound, bad, checked, checkOf}
-use Rattle.sequence.specs.Rows.{row-2}
+use Rattle.sequence.specs.Rows.{row-2, Spells}
 use Rattle.sequence.proofs.Rows.{check-by-rows}
-use Rattle.intake.specs.Records.{signalBytes, stateLength, answerLength, Decoded, holds, malformed, encodeState, decodeState, blame, encodeAnswer}
+use Rattle.intake.specs.Records.{signalBytes, stateLength, answerLength, Decoded, holds, malformed, encodeState, decodeState, blame, encodeAnswer, codeByte}
 use Rattle.intake.specs.Tick.{Outcome, outcome, written, byState, byCheck, tickOf}
-use Rattle.intake.specs.TickRows.{phaseIn, labelsIn, Malformed}
-use Rattle.intake.specs.Paper.{Call}
-use Rattle.intake.specs.Demands.{number, stateAfterwards, outcomes, kindIn, placeIn, Admitted, Demand1, StandsAt, at-start, at-labels, Shows, Demand2}
-use Rattle.intake.proofs.Bounds.{Below, emitted-below, ranged-expand}
+use Rattle.intake.specs.TickRows.{phaseIn, labelsIn, Malformed, TickRow, row-1, row-2-to-10}
+use Rattle.intake.specs.Paper.{Call, paper, paperOf}
+use Rattle.intake.specs.Demands.{number, stateAfterwards, outcomes, kindIn, placeIn, Admitted, Demand1, StandsAt, at-start, at-labels, Shows, Demand2, TickMeets, codeIn, Chain, done, call, Demand3, report, cleared}
+use Rattle.intake.proofs.Bounds.{Below, emitted-below, Exits, code-exits, ranged-expand}
 use Rattle.intake.proofs.ErrorPlaces.{PlacesBelow, placed-below, places-expand, errors-below}
 use Rattle.intake.proofs.Records.{Recorded, length-state, decode-encode, code-field, kind-field, place-field, emitted-field, shown-below}
 use Rattle.intake.proofs.TickRows.{Reading, reads-fresh, reads-waiting, reads-over, reads-malformed, reading, well-formed, same-statement, tick-by-rows}
@@ -114,6 +115,12 @@ demand-1 =
     }
 
 -- ---- what an instant shows
+called-wrong : (k : Code) (c : ℕ) → Exits k → c ≡ codeByte k → (c ≡ 255) ↔ (k ≡ wrong)
+called-wrong ended c f h = (λ i. absurd (omega arith), λ i. absurd (let z : _≡_ {A = ℕ} 0 1 = cc in omega arith))
+called-wrong waiting c f h = (λ i. absurd (omega arith), λ i. absurd (let z : _≡_ {A = ℕ} 0 1 = cc in omega arith))
+called-wrong (leaving n) c f h = (λ i. absurd (omega arith), λ i. absurd (let z : _≡_ {A = ℕ} 0 1 = cc in omega arith))
+called-wrong wrong c f h = (λ i. refl, λ i. h)
+
 wrong-blame : (k : Code) (x : Option Error) (y : Error) → k ≡ wrong → x ≡ some y → blame k x ≡ y
 wrong-blame k x y i h = rw (i, h)
 
@@ -141,6 +148,8 @@ module _ (t : Statement) (e n : ℕ) (small : n ≤ maxBytes) (f : Fitting t n) 
       record {
         an-instant = refl;
         code = code-field o k l t′ (firstError t e);
+        called-wrong = called-wrong k _ (subst (λ (r : Reaction). Exits (code r)) (sym h) (code-exits t e (f .0)))
+            (code-field o k l t′ (firstError t e));
         moved = refl;
         emitted = λ i. emitted-field o k l t′ (firstError t e) fits ∙ shown-right o k i;
         nothing-shown = λ i. emitted-field o k l t′ (firstError t e) fits ∙ ap (λ (j : Code). shown j o) i;
@@ -225,3 +234,56 @@ demand-2 sequence state e answer h i j t s o k l t′ d =
     let w = stands-written sequence a state e answer i j s in
     let r : gives o k l t′ ≡ react t e = reacts-is t e (gives o k l t′) .0 d in
     rw (w .0, ← r) (shows t e (length sequence) (not-long sequence a) (w .1) o k l t′ r)
+
+-- ---- the form for the code
+-- a tick that gives 0 passes the check and both lengths
+module _ (sequence state : List ℕ) (e : ℕ) (answer : List ℕ) (z : number (tickOf sequence state e answer) ≡ 0) where
+  no-tick-row : (m : ℕ) → ¬ TickRow sequence state answer m
+  no-tick-row = tick-by-rows sequence state answer e .acceptance .0 z
+
+  passed-check : checkOf sequence ≡ 0
+  passed-check = check-by-rows sequence .acceptance .1 (λ m r. no-tick-row m (row-2-to-10 r))
+
+  state-sized : length state ≡ stateLength
+  state-sized =
+      elim (ℕ-discrete (length state) stateLength) [
+        | yes i ↦ i
+        | no i ↦ absurd (no-tick-row 1 (row-1 (inl i)))
+      ]
+
+  answer-sized : length answer ≡ answerLength
+  answer-sized =
+      elim (ℕ-discrete (length answer) answerLength) [
+        | yes i ↦ i
+        | no i ↦ absurd (no-tick-row 1 (row-1 (inr i)))
+      ]
+
+  shows-instant : (t : Statement) → StandsAt sequence state t → (r : Reaction) → r ≡ react t e
+      → (o : ℕ) × (k : Code) × (l : ℕ) × (t′ : Statement) × Shows t e o k l t′ (tickOf sequence state e answer)
+  shows-instant t s (gives o k l t′) h =
+      (o, k, l, t′, demand-2 sequence state e answer passed-check state-sized answer-sized t s o k l t′ (reacts-is t e (gives o k l t′) .1 h))
+
+pub meets : (n : ℕ) (state′ answer′ sequence state : List ℕ) (e : ℕ) (answer : List ℕ)
+    → outcome n state′ answer′ ≡ tickOf sequence state e answer → TickMeets n state′ answer′ sequence state e answer
+meets n state′ answer′ sequence state e answer h =
+    record { result = h; named = named }
+  where
+    named : n ≡ 0 → codeIn answer′ ≡ 255 → (t : Statement) → StandsAt sequence state t
+        → (x : Error) × List·Memᴰ x (errors t e) × (kindIn answer′ ≡ x .kind) × (placeIn answer′ ≡ x .place)
+    named z c t s =
+        let w = shows-instant sequence state e answer (sym (ap number h) ∙ z) t s (react t e) refl in
+        let shown = subst (λ (x : Outcome). Shows t e (w .0) (w .1) (w .2) (w .3) x) (sym h) (w .4) in
+        let x = shown .named (shown .called-wrong .0 c) in
+        (x .0, x .2, x .3, x .4)
+
+chain-outcomes : {sequence state : List ℕ} {calls : List Call} {results : List Outcome} → Chain sequence state calls results
+    → results ≡ outcomes tickOf sequence state calls
+unfolding outcomes
+chain-outcomes done = refl
+chain-outcomes (call m r) = rw (← m .result, chain-outcomes r)
+
+-- DEMAND 3, over every chain of calls that meet the tick's contract
+pub demand-3-calls : (sequence : List ℕ) → checkOf sequence ≡ 0 → ((p : Statement) → Spells sequence p → NoSetpause p)
+    → (calls : List Call) (results : List Outcome) → Chain sequence cleared calls results
+    → map report results ≡ paper (paperOf sequence) calls
+demand-3-calls sequence h plain calls results r = ap (map report) (chain-outcomes r) ∙ demand-3 sequence h plain calls

@@ -2,7 +2,7 @@
 -- proofs/Replacements refutes them for the wrong ticks of 01's checklist.
 use Prim.Native.Nat.{ℕ, zero, suc}
 use mathlib.Core.Path.{_≡_}
-use mathlib.Core.Logic.{_≢_}
+use mathlib.Core.Logic.{_≢_, _↔_}
 use mathlib.Core.Option.{some}
 use mathlib.Core.List.{List, [], _∷_, map, List·Memᴰ}
 use lib.ListN.{length, getD, drop, take, replicate}
@@ -17,7 +17,7 @@ use Rattle.esterel.specs.Machines.{stateAfter}
 use Rattle.sequence.specs.Rows.{Spells, Row, ByRows}
 use Rattle.intake.specs.Bytes.{leNumber}
 use Rattle.intake.specs.Records.{stateLength, answerLength, placeBytes, encodeState, codeByte}
-use Rattle.intake.specs.Tick.{Outcome, outcome}
+use Rattle.intake.specs.Tick.{Outcome, outcome, tickOf}
 use Rattle.intake.specs.TickRows.{phaseIn, labelsIn, Malformed, TickRow}
 use Rattle.intake.specs.Paper.{Call, Report, turnedDown, reacted, paper, paperOf}
 
@@ -87,6 +87,7 @@ pub data StandsAt (sequence state : List ℕ) : Statement → Type 0 where
 pub record Shows (t : Statement) (e o : ℕ) (k : Code) (l : ℕ) (t′ : Statement) (result : Outcome) : Type 0 where
   pub an-instant : number result ≡ 0
   pub code : codeIn (answerAfterwards result) ≡ codeByte k
+  pub called-wrong : (codeIn (answerAfterwards result) ≡ 255) ↔ (k ≡ wrong)
   pub moved : stateAfterwards result ≡ encodeState (stateAfter (gives o k l t′))
   pub emitted : k ≢ wrong → emittedIn (answerAfterwards result) ≡ o
   pub nothing-shown : k ≡ wrong → emittedIn (answerAfterwards result) ≡ none
@@ -111,3 +112,18 @@ abbrev pub Demand3 : Check → Tick → Type 0
 Demand3 check tick =
     (sequence : List ℕ) → check sequence ≡ 0 → ((p : Statement) → Spells sequence p → NoSetpause p) → (calls : List Call)
     → map report (outcomes tick sequence cleared calls) ≡ paper (paperOf sequence) calls
+
+-- ---- the form for the code: a call of the tick meets its contract
+-- number and both buffers are tickOf's, and the kind and place of a wrong instant belong to one of its errors
+pub record TickMeets (n : ℕ) (state′ answer′ sequence state : List ℕ) (e : ℕ) (answer : List ℕ) : Type 0 where
+  pub result : outcome n state′ answer′ ≡ tickOf sequence state e answer
+  pub named : n ≡ 0 → codeIn answer′ ≡ 255 → (t : Statement) → StandsAt sequence state t
+      → (x : Error) × List·Memᴰ x (errors t e) × (kindIn answer′ ≡ x .kind) × (placeIn answer′ ≡ x .place)
+
+-- a chain of calls: each reads the state as the last one left it, the answer buffers are free
+pub data Chain (sequence : List ℕ) : (state : List ℕ) → List Call → List Outcome → Type 0 where
+  done : {state : List ℕ} → Chain sequence state [] []
+  call : {n : ℕ} {state state′ answer′ : List ℕ} {c : Call} {calls : List Call} {results : List Outcome}
+      → TickMeets n state′ answer′ sequence state (c .input) (c .buffer)
+      → Chain sequence state′ calls results
+      → Chain sequence state (c ∷ calls) (outcome n state′ answer′ ∷ results)
