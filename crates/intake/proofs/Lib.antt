@@ -6,3 +6,5 @@ pub mod Sequence
 pub mod Agreement
 pub mod TickRows
 pub mod Demands
+pub mod Replacements
+pub mod Bays
