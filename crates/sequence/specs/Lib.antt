@@ -1,3 +1,4 @@
 pub mod Limits
 pub mod Commands
 pub mod Reader
+pub mod Check

@@ -1,0 +1,2 @@
+// The label rules (01, rows 8 to 11) over the bytes of a sequence that was read.
+mod survey;

@@ -1,0 +1,34 @@
+-- The check of a sequence (01, 'Turned down', rows 2 to 10): the statement that the bytes hold, or the first row that holds.
+use Prim.Native.Nat.{ℕ}
+use mathlib.Core.Bool.{Bool, true, false, _&&_, cond}
+use mathlib.Core.List.{List}
+use lib.ListN.{length}
+use lib.Dec.{leb, ltb}
+use Rattle.esterel.specs.Statement.{Statement}
+use Rattle.esterel.specs.LabelTests.{distinct, targeted, wellFormed}
+use Rattle.sequence.specs.Limits.{maxBytes, maxDepth, maxSignals}
+use Rattle.sequence.specs.Reader.{Read, accepted, refused, read}
+
+pub data Checked : Type 0 where
+  sound : (p : Statement) → Checked
+  bad : (number : ℕ) → Checked
+
+-- rows 8, 9 and 10
+abbrev pub labelRules : Statement → Checked
+labelRules p = cond (distinct p) (cond (targeted p) (cond (wellFormed p) (sound p) (bad 10)) (bad 9)) (bad 8)
+
+-- rows 3 to 6 from the reader, then row 7
+abbrev pub afterRead : ℕ → Read → Checked
+afterRead n (refused number) = bad number
+afterRead n (accepted p count) = cond (ltb count n) (bad 7) (labelRules p)
+
+-- row 2
+unfoldable pub checked : List ℕ → Checked
+checked bs = cond (leb 1 (length bs) && leb (length bs) maxBytes) (afterRead (length bs) (read maxDepth maxSignals 0 bs)) (bad 2)
+
+abbrev pub numberOf : Checked → ℕ
+numberOf (sound p) = 0
+numberOf (bad number) = number
+
+unfoldable pub checkOf : List ℕ → ℕ
+checkOf bs = numberOf (checked bs)
