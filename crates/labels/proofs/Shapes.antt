@@ -8,13 +8,13 @@ use mathlib.Core.List.{List}
 use native.Mathlib.Omega.{arith}
 use borrow.Author.Tests.{ltb-true}
 use lib.ListN.{length, getD, drop, take}
-use Rattle.esterel.specs.Statement.{Statement, pause, setpause}
+use Rattle.esterel.specs.Statement.{Statement}
 use Rattle.esterel.specs.LabelTests.{Joint, alternative, parallel}
 use Rattle.esterel.proofs.Order.{Two, sequence, test, sides}
 use Rattle.sequence.specs.Limits.{labelCount}
 use Rattle.sequence.specs.Commands.{Command, commandOf, partCount, width, declares, build}
 use Rattle.sequence.specs.Reader.{read, accepted}
-use Rattle.sequence.proofs.Accepted.{Fronted, Accepts, accepts, byteOf, byte-is}
+use Rattle.sequence.proofs.Accepted.{Fronted, Accepts, accepts, deep, count-within, byteOf, byte-is}
 
 -- a command without labels and parts
 pub data Silent : Statement → Type 0 where
@@ -70,5 +70,62 @@ module _ (depth signals a : ℕ) (bs : List ℕ) where
       subst (λ (y : ℕ). Shape (depth - 1) bs b 2 (Statement.setpause y) 2) (l .1)
       (setpause (byte-is b Command.setpause (f .byte)) (l .0) (subst (λ (y : ℕ). y < 64) (sym (l .1)) (ltb-true x 64 (f .ranged))))
 
-  shape-of : (p : Statement) (n : ℕ) → Accepts depth signals a bs p n → (c : Command) → commandOf b ≡ some c → Shape (depth - 1) bs b (width c) p n
-  shape-of p n v c e = ?
+  one-shape : (c : Command) (x : ℕ) (p : Statement) (n : ℕ) → Fronted bs c x → partCount c ≡ 1
+      → read (depth - 1) (signals - declares c) (a + width c) (drop (width c) bs) ≡ accepted p n
+      → Shape (depth - 1) bs b (width c) (build c a x p Statement.nothing) (width c + n)
+  one-shape Command.nothing x p n f z h = absurd (omega arith)
+  one-shape Command.pause x p n f z h = absurd (omega arith)
+  one-shape Command.emit x p n f z h = absurd (omega arith)
+  one-shape Command.exit x p n f z h = absurd (omega arith)
+  one-shape Command.seq x p n f z h = absurd (omega arith)
+  one-shape Command.par x p n f z h = absurd (omega arith)
+  one-shape Command.loop x p n f z h = one Command.loop _ _ loop (f .byte) z (omega (arith, byte-is b Command.loop (f .byte))) (omega (arith, byte-is b Command.loop (f .byte))) h
+  one-shape Command.present x p n f z h = absurd (omega arith)
+  one-shape Command.signal x p n f z h = one Command.signal _ _ signal (f .byte) z (omega (arith, byte-is b Command.signal (f .byte))) (omega (arith, byte-is b Command.signal (f .byte))) h
+  one-shape Command.try x p n f z h = one Command.try _ _ try (f .byte) z (omega (arith, byte-is b Command.try (f .byte))) (omega (arith, byte-is b Command.try (f .byte))) h
+  one-shape Command.setpause x p n f z h = absurd (omega arith)
+
+  two-shape : (c : Command) (x : ℕ) (p q : Statement) (n m : ℕ) → Fronted bs c x → partCount c ≡ 2
+      → read (depth - 1) (signals - declares c) (a + width c) (drop (width c) bs) ≡ accepted p n
+      → read (depth - 1) (signals - declares c) (a + (width c + n)) (drop (width c + n) bs) ≡ accepted q m
+      → Shape (depth - 1) bs b (width c) (build c a x p q) (width c + n + m)
+  two-shape Command.nothing x p q n m f z h g = absurd (omega arith)
+  two-shape Command.pause x p q n m f z h g = absurd (omega arith)
+  two-shape Command.emit x p q n m f z h g = absurd (omega arith)
+  two-shape Command.exit x p q n m f z h g = absurd (omega arith)
+  two-shape Command.seq x p q n m f z h g = two Command.seq _ _ _ sequence (f .byte) z (omega (arith, byte-is b Command.seq (f .byte))) h g
+  two-shape Command.par x p q n m f z h g = two Command.par _ _ _ sides (f .byte) z (byte-is b Command.par (f .byte)) h g
+  two-shape Command.loop x p q n m f z h g = absurd (omega arith)
+  two-shape Command.present x p q n m f z h g = two Command.present _ _ _ test (f .byte) z (omega (arith, byte-is b Command.present (f .byte))) h g
+  two-shape Command.signal x p q n m f z h g = absurd (omega arith)
+  two-shape Command.try x p q n m f z h g = absurd (omega arith)
+  two-shape Command.setpause x p q n m f z h g = absurd (omega arith)
+
+-- an accepted statement: its shape, and the bytes that are there for it
+pub record Shaped (depth w : ℕ) (bs : List ℕ) (p : Statement) (n : ℕ) : Type 0 where
+  pub some-depth : 0 < depth
+  pub some-byte : 0 < length bs
+  pub own : w ≤ length bs
+  pub within : n ≤ length bs
+  pub shape : Shape (depth - 1) bs (getD bs 0 0) w p n
+
+module _ (depth signals a : ℕ) (bs : List ℕ) (w : ℕ) (wide : (c : Command) → commandOf (getD bs 0 0) ≡ some c → w ≡ width c) where
+  shaped : (p : Statement) (n : ℕ) → 0 < depth → n ≤ length bs → (c : Command) (x : ℕ) → Fronted bs c x
+      → Shape (depth - 1) bs (getD bs 0 0) (width c) p n → Shaped depth w bs p n
+  shaped p n d l c x f s =
+      let e : w ≡ width c = wide c (f .byte) in
+      record {
+        some-depth = d;
+        some-byte = omega (arith, f .long);
+        own = omega (arith, f .long);
+        within = l;
+        shape = subst (λ (v : ℕ). Shape (depth - 1) bs (getD bs 0 0) v p n) (sym e) s;
+      }
+
+  by-parts : (p : Statement) (n : ℕ) → 0 < depth → n ≤ length bs → Accepts depth signals a bs p n → Shaped depth w bs p n
+  by-parts p n d l (Accepts.leaf c x f z) = shaped _ _ d l c x f (leaf-shape depth signals a bs c x f z)
+  by-parts p n d l (Accepts.one c x t m f z h) = shaped _ _ d l c x f (one-shape depth signals a bs c x t m f z h)
+  by-parts p n d l (Accepts.two c x t u m k f z h g) = shaped _ _ d l c x f (two-shape depth signals a bs c x t u m k f z h g)
+
+  pub shape-is : (p : Statement) (n : ℕ) → read depth signals a bs ≡ accepted p n → Shaped depth w bs p n
+  shape-is p n h = by-parts p n (deep depth signals a bs h) (count-within depth signals a bs p n h) (accepts depth signals a bs p n h)
