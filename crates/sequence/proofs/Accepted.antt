@@ -174,6 +174,14 @@ unfolding read
 accepts zero signals a bs p n h = not-deep (front bs) h
 accepts (suc depth) signals a bs p n h = at-front depth signals a bs p n (front bs) refl h
 
+front-long : {depth signals a n : ℕ} {bs : List ℕ} {p : Statement} → Accepts depth signals a bs p n → 0 < length bs
+front-long (Accepts.leaf c x f z) = omega (arith, f .long)
+front-long (Accepts.one c x t m f z h) = omega (arith, f .long)
+front-long (Accepts.two c x t u m k f z h g) = omega (arith, f .long)
+
+pub not-empty : (depth signals a : ℕ) (bs : List ℕ) (p : Statement) (n : ℕ) → read depth signals a bs ≡ accepted p n → 0 < length bs
+not-empty depth signals a bs p n h = front-long (accepts depth signals a bs p n h)
+
 -- ---- the count is that of bytes that are there
 within : (depth : ℕ) → ((signals a : ℕ) (bs : List ℕ) (p : Statement) (n : ℕ) → read (depth - 1) signals a bs ≡ accepted p n → n ≤ length bs)
     → (signals a : ℕ) (bs : List ℕ) (p : Statement) (n : ℕ) → Accepts depth signals a bs p n → n ≤ length bs
