@@ -1,10 +1,10 @@
 -- Laws of parts, places and exclusive places: how each statement about a part is one about the whole.
 use Prim.Native.Nat.{ℕ}
 use mathlib.Core.Path.{_≡_, refl, subst}
-use mathlib.Core.List.{List, [], _∷_, tail-eq-of-cons-eq, head-eq-of-cons-eq}
+use mathlib.Core.List.{_∷_, tail-eq-of-cons-eq, head-eq-of-cons-eq}
 use native.Mathlib.Omega.{arith}
-use Rattle.esterel.specs.Statement.{Statement, pause, setpause, seq, par, loop, present, signal, try}
-use Rattle.esterel.specs.Places.{Part, first, second, PartOf, seq₁, seq₂, par₁, par₂, loop₁, present₁, present₂, signal₁, try₁, Place, At, Alternative, Exclusive, Compatible}
+use Rattle.esterel.specs.Statement.{Statement, pause, setpause, par}
+use Rattle.esterel.specs.Places.{Part, first, second, PartOf, seq₁, seq₂, par₁, par₂, loop₁, present₁, present₂, signal₁, try₁, Place, At, Exclusive, Compatible}
 use Rattle.esterel.specs.States.{Holds, Distinct, NoSetpause}
 
 pub part-unique : {d : Part} {c c₂ p : Statement} → PartOf d c p → PartOf d c₂ p → c ≡ c₂

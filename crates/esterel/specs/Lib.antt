@@ -8,5 +8,6 @@ pub mod States
 pub mod Expansion
 pub mod Resume
 pub mod Machines
+pub mod Examples
 pub mod LabelTests
 pub mod LabelRows

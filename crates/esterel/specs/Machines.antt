@@ -40,6 +40,11 @@ unfoldable pub run : {S : Type 0} → Machine S → S → List ℕ → List Seen
 run m s [] = []
 run m s (e ∷ es) = m s e .0 ∷ run m (m s e .1) es
 
+-- the state after a list of inputs
+unfoldable pub reached : {S : Type 0} → Machine S → S → List ℕ → S
+reached m s [] = s
+reached m s (e ∷ es) = reached m (m s e .1) es
+
 -- ---- by labels
 pub data State : Type 0 where
   fresh : State

@@ -1,7 +1,7 @@
 -- One reaction as a function (01, 'One reaction'; 003, figures 3 and 7; 002, figure 4): a statement and the present
 -- set E give the emitted set O, the completion code k, the labels L and the residual.
 use Prim.Native.Nat.{ℕ, _-_, max}
-use mathlib.Core.Bool.{Bool, true, false, not, _&&_, _||_, cond}
+use mathlib.Core.Bool.{Bool, true, false, not, _&&_, cond}
 use lib.Dec.{eqb}
 use Rattle.esterel.specs.Sets.{member, none, only, join, insert, remove}
 use Rattle.esterel.specs.Statement.{Statement, nothing, pause, emit, exit, seq, par, loop, present, signal, try, setpause}

@@ -1,6 +1,6 @@
 -- The check of a sequence (01, 'Turned down', rows 2 to 10): the statement that the bytes hold, or the first row that holds.
 use Prim.Native.Nat.{ℕ}
-use mathlib.Core.Bool.{Bool, true, false, _&&_, cond}
+use mathlib.Core.Bool.{_&&_, cond}
 use mathlib.Core.List.{List}
 use lib.ListN.{length}
 use lib.Dec.{leb, ltb}

@@ -1,8 +1,8 @@
 -- The table of commands (01, 'Commands'): the command of a byte, its operands and its parts.
 use Prim.Native.Nat.{ℕ, _+_}
-use mathlib.Core.Bool.{Bool, true, false, _&&_}
+use mathlib.Core.Bool.{Bool, true, _&&_}
 use mathlib.Core.Option.{Option, none, some}
-use mathlib.Core.List.{List, [], _∷_}
+use mathlib.Core.List.{[], _∷_}
 use lib.ListN.{getD}
 use lib.Dec.{leb, ltb}
 use Rattle.esterel.specs.Statement.{Statement}

@@ -1,7 +1,7 @@
 -- The reader (01, 'Commands' and rows 3 to 6 of 'Turned down'): from bytes to the statement at their front with the
 -- count of its bytes, or the number of the first row that holds, command by command from the left.
 use Prim.Native.Nat.{ℕ, zero, suc, _+_, _-_, max}
-use mathlib.Core.Bool.{Bool, true, false, cond}
+use mathlib.Core.Bool.{cond}
 use mathlib.Core.Option.{Option, none, some}
 use mathlib.Core.List.{List, [], _∷_}
 use lib.ListN.{drop}

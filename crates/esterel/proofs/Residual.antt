@@ -1,0 +1,111 @@
+-- 002, theorem 6, with 01's residuals: after code 1 the residual is the expansion by the labels, and the labels are those
+-- of pauses; for distinct labels and no setpause, fresh or resumed.
+use Prim.Native.Nat.{ℕ}
+use mathlib.Core.Path.{_≡_, refl, sym, _∙_, subst}
+use mathlib.Core.Logic.{⊎-elim}
+use mathlib.Core.Bool.{true}
+use mathlib.Core.List.{[]}
+use borrow.Author.Tests.{eqb-true, eq-eqb}
+use Rattle.esterel.specs.Sets.{member, only, join}
+use Rattle.esterel.specs.Statement.{Statement, nothing, pause, seq, par, loop, present, signal, try}
+use Rattle.esterel.specs.Reaction.{react}
+use Rattle.esterel.specs.Places.{Part, PartOf, seq₁, seq₂, par₁, par₂, loop₁, present₁, present₂, signal₁, try₁, At}
+use Rattle.esterel.specs.States.{Holds, active, Distinct, NoSetpause}
+use Rattle.esterel.specs.Expansion.{expand}
+use Rattle.esterel.proofs.Booleans.{or-l, or-cases, or-false, never}
+use Rattle.esterel.proofs.Sets.{member-join, member-only}
+use Rattle.esterel.proofs.Places.{holds-in, Disjoint, distinct-part, disjoint-parts, noSetpause-part}
+use Rattle.esterel.proofs.Activity.{active-part, Same, active-same, expand-same, Inside, asleep}
+use Rattle.esterel.proofs.Invariant.{Kept, Fits, fresh-fits, resumed-fits}
+
+-- the labels are the state of which t is the expansion
+pub record Expanded (p : Statement) (L : ℕ) (t : Statement) : Type 0 where
+  pub inside : Inside p L
+  pub awake : active p L ≡ true
+  pub equal : t ≡ expand p L
+
+abbrev pub Remains : Statement → ℕ → Statement → Type 0
+Remains p L t = Distinct p → NoSetpause p → Expanded p L t
+
+at-pause : (l : ℕ) → Remains (pause l) (only l) nothing
+unfolding active expand
+at-pause l d n =
+    record {
+      inside = λ j h. subst (λ (x : ℕ). Holds (pause l) (pause x)) (eqb-true l j (sym (member-only l j) ∙ h)) ([], At.here);
+      awake = member-only l l ∙ eq-eqb l l refl;
+      equal = refl;
+    }
+
+module _ (w : Statement) (L : ℕ) (u : Statement) where
+  -- what holds of a part holds of the whole, whose residual u is then the expansion
+  from-part : {d : Part} {c : Statement} → PartOf d c w → (t : Statement) → Remains c L t
+      → (Expanded c L t → Distinct w → u ≡ expand w L) → Remains w L u
+  from-part i t h g d n =
+      let x = h (distinct-part i d) (noSetpause-part i n) in
+      record {
+        inside = λ l y. holds-in (pause l) i (x .inside l y);
+        awake = active-part L i (x .awake);
+        equal = g x d;
+      }
+
+flipped : {p q : Statement} → Disjoint p q → Disjoint q p
+flipped d l x y = d l y x
+
+-- ---- the labels of two sides
+module _ (p q : Statement) (L M : ℕ) (t u : Statement) (d : Distinct (par p q)) (x : Expanded p L t) (y : Expanded q M u) where
+  apart : Disjoint p q
+  apart = disjoint-parts par₁ par₂ d
+
+  joined : (l : ℕ) → member l (join L M) ≡ true → Holds (par p q) (pause l)
+  joined l h =
+      ⊎-elim (λ z. holds-in (pause l) par₁ (x .inside l z)) (λ z. holds-in (pause l) par₂ (y .inside l z))
+      (or-cases (member l L) (member l M) (sym (member-join l L M) ∙ h))
+
+  same-l : Same p (join L M) L
+  same-l l h = member-join l L M ∙ rw (never (member l M) (λ z. apart l h (y .inside l z))) (or-false (member l L))
+
+  same-r : Same q (join L M) M
+  same-r l h = member-join l L M ∙ rw (never (member l L) (λ z. apart l (x .inside l z) h))
+
+  both-expanded : Expanded (par p q) (join L M) (par t u)
+  unfolding active expand
+  both-expanded =
+      let ap-l : active p (join L M) ≡ true = active-same p (join L M) L same-l ∙ x .awake in
+      let ap-r : active q (join L M) ≡ true = active-same q (join L M) M same-r ∙ y .awake in
+      record {
+        inside = joined;
+        awake = or-l (active p (join L M)) (active q (join L M)) ap-l;
+        equal =
+            rw (ap-l, ap-r, expand-same p (join L M) L same-l, expand-same q (join L M) M same-r, x .equal, y .equal);
+      }
+
+-- ---- every command keeps it
+kept : Kept Remains
+unfolding expand
+kept =
+    record {
+      at-pause = at-pause;
+      at-setpause = λ l d n. absurd (n l ([], At.here));
+      seq-first = λ p q L t h. from-part (seq p q) L (seq t q) seq₁ t h (λ x d. rw (x .awake, x .equal));
+      seq-second = λ p q L t h. from-part (seq p q) L t seq₂ t h
+          (λ x d. rw (asleep p q L (disjoint-parts seq₁ seq₂ d) (x .inside)) (x .equal));
+      par-both = λ p q L M t u h i d n. both-expanded p q L M t u d (h (distinct-part par₁ d) (noSetpause-part par₁ n))
+          (i (distinct-part par₂ d) (noSetpause-part par₂ n));
+      par-first = λ p q L t h. from-part (par p q) L (par t nothing) par₁ t h
+          (λ x d. rw (x .awake, asleep q p L (flipped (disjoint-parts par₁ par₂ d)) (x .inside), x .equal));
+      par-second = λ p q L t h. from-part (par p q) L (par nothing t) par₂ t h
+          (λ x d. rw (x .awake, asleep p q L (disjoint-parts par₁ par₂ d) (x .inside), x .equal));
+      loop-body = λ a p L t h. from-part (loop a p) L (seq t (loop a p)) loop₁ t h (λ x d. rw (x .equal));
+      present-first = λ s p q L t h. from-part (present s p q) L t present₁ t h (λ x d. rw (x .awake) (x .equal));
+      present-second = λ s p q L t h. from-part (present s p q) L t present₂ t h
+          (λ x d. rw (asleep p q L (disjoint-parts present₁ present₂ d) (x .inside)) (x .equal));
+      signal-body = λ a s p L t h. from-part (signal a s p) L (signal a s t) signal₁ t h (λ x d. rw (x .equal));
+      try-body = λ p L t h. from-part (try p) L (try t) try₁ t h (λ x d. rw (x .equal));
+    }
+
+-- THEOREM 1, fresh and resumed
+pub residual-fresh : (p : Statement) (e : ℕ) → Fits Remains p (react p e)
+residual-fresh = fresh-fits Remains kept
+
+pub residual-resumed : (p : Statement) (L e : ℕ) → Fits Remains p (react (expand p L) e)
+residual-resumed = resumed-fits Remains kept

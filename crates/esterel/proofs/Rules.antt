@@ -1,0 +1,223 @@
+-- The printed rules and the function give the same answers: 003's corollary 11 with 01's 'first that fits'.
+use Prim.Native.Nat.{ℕ, _-_}
+use mathlib.Core.Path.{_≡_, refl, sym, ap, subst}
+use mathlib.Core.Logic.{_↔_, _≢_}
+use mathlib.Core.Bool.{Bool, true, false, _||_, cond, false≢true}
+use native.Mathlib.Omega.{arith}
+use lib.Dec.{eqb}
+use borrow.Author.Tests.{eqb-true, eqb-false, ne-eqb}
+use Rattle.esterel.specs.Sets.{member, insert, remove}
+use Rattle.esterel.specs.Statement.{Statement, nothing, pause, emit, exit, seq, par, loop, present, signal, try, setpause}
+use Rattle.esterel.specs.Reaction.{Code, ended, waiting, leaving, wrong, isWrong, greater, down, Reaction, gives, inSeq, inPar, inLoop, inTry, inSignal, inherited, firstFit, answer, react}
+use Rattle.esterel.specs.Rules.{Reacts}
+use Rattle.esterel.proofs.Booleans.{clash}
+
+-- ---- codes are told apart
+pub wrong-is : (k : Code) → isWrong k ≡ true → k ≡ wrong
+wrong-is ended h = absurd (false≢true h)
+wrong-is waiting h = absurd (false≢true h)
+wrong-is (leaving n) h = absurd (false≢true h)
+wrong-is wrong h = refl
+
+pub sane : (k : Code) → k ≢ wrong → isWrong k ≡ false
+sane ended n = refl
+sane waiting n = refl
+sane (leaving m) n = refl
+sane wrong n = absurd (n refl)
+
+waiting≢ended : waiting ≢ ended
+waiting≢ended h = let z : _≡_ {A = ℕ} 0 1 = cc in omega arith
+
+leaving≢ended : (n : ℕ) → leaving n ≢ ended
+leaving≢ended n h = let z : _≡_ {A = ℕ} 0 1 = cc in omega arith
+
+wrong≢ended : wrong ≢ ended
+wrong≢ended h = let z : _≡_ {A = ℕ} 0 1 = cc in omega arith
+
+-- ---- each rule's conclusion is what the function makes of its premises
+through-seq : (q : Statement) (o : ℕ) (k : Code) (l : ℕ) (t : Statement) (r : Reaction) → k ≢ ended
+    → gives o k l (seq t q) ≡ inSeq q (gives o k l t) r
+through-seq q o ended l t r n = absurd (n refl)
+through-seq q o waiting l t r n = refl
+through-seq q o (leaving m) l t r n = refl
+through-seq q o wrong l t r n = refl
+
+through-loop : (a : ℕ) (p : Statement) (o : ℕ) (k : Code) (l : ℕ) (t : Statement) → k ≢ ended
+    → gives o k l (seq t (loop a p)) ≡ inLoop a p (gives o k l t)
+through-loop a p o ended l t n = absurd (n refl)
+through-loop a p o waiting l t n = refl
+through-loop a p o (leaving m) l t n = refl
+through-loop a p o wrong l t n = refl
+
+through-try : (o : ℕ) (k : Code) (l : ℕ) (t : Statement) → k ≢ leaving 1 → gives o (down k) l (try t) ≡ inTry (gives o k l t)
+through-try o ended l t n = refl
+through-try o waiting l t n = refl
+through-try o (leaving m) l t n = rw (ne-eqb m 1 (λ h. n (ap leaving h)))
+through-try o wrong l t n = refl
+
+-- ---- the premises of the signal rules as tests, and back
+pub neither-wrong : (k− k+ : Code) → greater k− k+ ≢ wrong → (isWrong k− ≡ false) × (isWrong k+ ≡ false)
+neither-wrong ended k+ n = (refl, sane k+ n)
+neither-wrong waiting ended n = (refl, refl)
+neither-wrong waiting waiting n = (refl, refl)
+neither-wrong waiting (leaving m) n = (refl, refl)
+neither-wrong waiting wrong n = absurd (n refl)
+neither-wrong (leaving m) ended n = (refl, refl)
+neither-wrong (leaving m) waiting n = (refl, refl)
+neither-wrong (leaving m) (leaving m₂) n = (refl, refl)
+neither-wrong (leaving m) wrong n = absurd (n refl)
+neither-wrong wrong k+ n = absurd (n refl)
+
+pub some-wrong : (k− k+ : Code) → greater k− k+ ≡ wrong → (isWrong k− || isWrong k+) ≡ true
+some-wrong ended k+ h = rw h
+some-wrong waiting ended h = absurd (let z : _≡_ {A = ℕ} 0 1 = cc in omega arith)
+some-wrong waiting waiting h = absurd (let z : _≡_ {A = ℕ} 0 1 = cc in omega arith)
+some-wrong waiting (leaving m) h = absurd (let z : _≡_ {A = ℕ} 0 1 = cc in omega arith)
+some-wrong waiting wrong h = refl
+some-wrong (leaving m) ended h = absurd (let z : _≡_ {A = ℕ} 0 1 = cc in omega arith)
+some-wrong (leaving m) waiting h = absurd (let z : _≡_ {A = ℕ} 0 1 = cc in omega arith)
+some-wrong (leaving m) (leaving n) h = absurd (let z : _≡_ {A = ℕ} 0 1 = cc in omega arith)
+some-wrong (leaving m) wrong h = refl
+some-wrong wrong k+ h = refl
+
+wrong-l : (k− k+ : Code) → isWrong k− ≡ true → greater k− k+ ≡ wrong
+wrong-l k− k+ h = rw (wrong-is k− h)
+
+wrong-r : (k− k+ : Code) → isWrong k+ ≡ true → greater k− k+ ≡ wrong
+wrong-r ended k+ h = wrong-is k+ h
+wrong-r waiting k+ h = rw (wrong-is k+ h)
+wrong-r (leaving m) k+ h = rw (wrong-is k+ h)
+wrong-r wrong k+ h = refl
+
+right : (k : Code) → isWrong k ≡ false → k ≢ wrong
+right k h e = clash (isWrong k) (rw e) h
+
+calm : (k− k+ : Code) → isWrong k− ≡ false → isWrong k+ ≡ false → greater k− k+ ≢ wrong
+calm k− k+ h i e = go (isWrong k−) (isWrong k+) (some-wrong k− k+ e) h i
+  where
+    go : (a b : Bool) → (a || b) ≡ true → a ≡ false → b ≡ false → ⊥
+    go a b x y z = clash (a || b) x (rw (y, z))
+
+last-fits : (i− i+ w− w+ : Bool) → (w− || w+) ≡ true → ¬ ((i− ≡ true) × (i+ ≡ true))
+    → ¬ ((i− ≡ true) × (i+ ≡ false) × (w+ ≡ false)) → ¬ ((i− ≡ false) × (w− ≡ false) × (i+ ≡ true))
+    → firstFit i− i+ w− w+ ≡ inherited
+last-fits true true w− w+ w n++ n+− n−+ = absurd (n++ (refl, refl))
+last-fits true false w− true w n++ n+− n−+ = refl
+last-fits true false w− false w n++ n+− n−+ = absurd (n+− (refl, refl, refl))
+last-fits false true true w+ w n++ n+− n−+ = refl
+last-fits false true false w+ w n++ n+− n−+ = absurd (n−+ (refl, refl, refl))
+last-fits false false true w+ w n++ n+− n−+ = refl
+last-fits false false false true w n++ n+− n−+ = refl
+last-fits false false false false w n++ n+− n−+ = absurd (false≢true w)
+
+-- the premises of signal∞
+pub inherits : (s o− o+ : ℕ) (k− k+ : Code) → greater k− k+ ≡ wrong → ¬ ((member s o− ≡ true) × (member s o+ ≡ true))
+    → ¬ ((member s o− ≡ true) × (member s o+ ≡ false) × (k+ ≢ wrong))
+    → ¬ ((member s o− ≡ false) × (k− ≢ wrong) × (member s o+ ≡ true))
+    → firstFit (member s o−) (member s o+) (isWrong k−) (isWrong k+) ≡ inherited
+inherits s o− o+ k− k+ w n++ n+− n−+ =
+    last-fits (member s o−) (member s o+) (isWrong k−) (isWrong k+) (some-wrong k− k+ w) n++
+    (λ h. n+− (h .0, h .1, right k+ (h .2))) (λ h. n−+ (h .0, right k− (h .1), h .2))
+
+-- ---- what the rules derive, the function gives
+pub sound : {p : Statement} {e : ℕ} {r : Reaction} → Reacts p e r → r ≡ react p e
+unfolding react
+sound Reacts.nothing = refl
+sound Reacts.pause = refl
+sound Reacts.exit = refl
+sound Reacts.emit = refl
+sound (Reacts.loop {a = a} {o = o} {l = l} {k = k} {p = p} {p′ = p′} d n) = rw (← sound d) (through-loop a p o k l p′ n)
+sound (Reacts.loop-error {k = k} d z) = rw (← sound d, z)
+sound (Reacts.parallel d d₂) = rw (← sound d, ← sound d₂)
+sound (Reacts.present+ i d) = rw (i) (sound d)
+sound (Reacts.present− i d) = rw (i) (sound d)
+sound (Reacts.try-catch d) = rw (← sound d)
+sound (Reacts.try-through {o = o} {l = l} {k = k} {p′ = p′} d n) = rw (← sound d) (through-try o k l p′ n)
+sound (Reacts.sequence-p {e = e} {o = o} {l = l} {k = k} {p′ = p′} {q = q} d n) =
+    rw (← sound d) (through-seq q o k l p′ (react q e) n)
+sound (Reacts.sequence-q d d₂) = rw (← sound d, ← sound d₂)
+sound (Reacts.signal++ d− i− d+ i+) = rw (← sound d−, ← sound d+, i−, i+)
+sound (Reacts.signal−− {k− = k−} {k+ = k+} d− i− d+ i+ n) =
+    let w = neither-wrong k− k+ n in
+    rw (← sound d−, ← sound d+, i−, i+, w .0, w .1)
+sound (Reacts.signal+− {k+ = k+} d− i− d+ i+ n) = rw (← sound d−, ← sound d+, i−, i+, sane k+ n)
+sound (Reacts.signal−+ {k− = k−} d− i− n d+ i+) = rw (← sound d−, ← sound d+, i−, i+, sane k− n)
+sound (Reacts.signal∞ {s = s} {o− = o−} {o+ = o+} {k− = k−} {k+ = k+} d− d+ w n++ n+− n−+) =
+    rw (← sound d−, ← sound d+, inherits s o− o+ k− k+ w n++ n+− n−+)
+sound Reacts.setpause = refl
+
+-- ---- what the function gives, the rules derive
+seq-derives : {p q : Statement} {e : ℕ} (r r₂ : Reaction) → Reacts p e r → Reacts q e r₂ → Reacts (seq p q) e (inSeq q r r₂)
+seq-derives (gives o ended l t) (gives o₂ k l₂ u) d d₂ = Reacts.sequence-q d d₂
+seq-derives (gives o waiting l t) r₂ d d₂ = Reacts.sequence-p d waiting≢ended
+seq-derives (gives o (leaving n) l t) r₂ d d₂ = Reacts.sequence-p d (leaving≢ended n)
+seq-derives (gives o wrong l t) r₂ d d₂ = Reacts.sequence-p d wrong≢ended
+
+par-derives : {p q : Statement} {e : ℕ} (r r₂ : Reaction) → Reacts p e r → Reacts q e r₂ → Reacts (par p q) e (inPar r r₂)
+par-derives (gives o k l t) (gives o₂ k₂ l₂ u) d d₂ = Reacts.parallel d d₂
+
+loop-derives : {p : Statement} {e : ℕ} (a : ℕ) (r : Reaction) → Reacts p e r → Reacts (loop a p) e (inLoop a p r)
+loop-derives a (gives o ended l t) d = Reacts.loop-error d refl
+loop-derives a (gives o waiting l t) d = Reacts.loop d waiting≢ended
+loop-derives a (gives o (leaving n) l t) d = Reacts.loop d (leaving≢ended n)
+loop-derives a (gives o wrong l t) d = Reacts.loop d wrong≢ended
+
+present-derives : {p q : Statement} {e : ℕ} (s : ℕ) (b : Bool) (r r₂ : Reaction) → member s e ≡ b → Reacts p e r → Reacts q e r₂
+    → Reacts (present s p q) e (cond b r r₂)
+present-derives s true r r₂ h d d₂ = Reacts.present+ h d
+present-derives s false r r₂ h d d₂ = Reacts.present− h d₂
+
+try-derives : {p : Statement} {e : ℕ} (r : Reaction) → Reacts p e r → Reacts (try p) e (inTry r)
+try-derives (gives o ended l t) d = Reacts.try-through d (λ h. let z : _≡_ {A = ℕ} 0 1 = cc in omega arith)
+try-derives (gives o waiting l t) d = Reacts.try-through d (λ h. let z : _≡_ {A = ℕ} 0 1 = cc in omega arith)
+try-derives {p} {e} (gives o (leaving n) l t) d = go (eqb n 1) refl
+  where
+    go : (b : Bool) → eqb n 1 ≡ b → Reacts (try p) e (cond b (gives o ended l nothing) (gives o (leaving (n - 1)) l (try t)))
+    go true h = Reacts.try-catch (subst (λ (m : ℕ). Reacts p e (gives o (leaving m) l t)) (eqb-true n 1 h) d)
+    go false h = Reacts.try-through d (λ i. eqb-false n 1 h (let j : n ≡ 1 = cc in j))
+try-derives (gives o wrong l t) d = Reacts.try-through d (λ h. let z : _≡_ {A = ℕ} 0 1 = cc in omega arith)
+
+module _ {p : Statement} {e : ℕ} (a s o− o+ l− l+ : ℕ) (k− k+ : Code) (t− t+ : Statement)
+    (d− : Reacts p (remove s e) (gives o− k− l− t−)) (d+ : Reacts p (insert s e) (gives o+ k+ l+ t+)) where
+  case-derives : (i− i+ w− w+ : Bool) → member s o− ≡ i− → member s o+ ≡ i+ → isWrong k− ≡ w− → isWrong k+ ≡ w+
+      → Reacts (signal a s p) e (answer (firstFit i− i+ w− w+) a s (gives o− k− l− t−) (gives o+ k+ l+ t+))
+  case-derives true true w− w+ h− h+ v− v+ = Reacts.signal++ d− h− d+ h+
+  case-derives true false w− false h− h+ v− v+ = Reacts.signal+− d− h− d+ h+ (right k+ v+)
+  case-derives true false w− true h− h+ v− v+ =
+      Reacts.signal∞ d− d+ (wrong-r k− k+ v+) (λ x. clash (member s o+) (x .1) h+) (λ x. x .2 (wrong-is k+ v+))
+      (λ x. clash (member s o−) h− (x .0))
+  case-derives false true false w+ h− h+ v− v+ = Reacts.signal−+ d− h− (right k− v−) d+ h+
+  case-derives false true true w+ h− h+ v− v+ =
+      Reacts.signal∞ d− d+ (wrong-l k− k+ v−) (λ x. clash (member s o−) (x .0) h−) (λ x. clash (member s o−) (x .0) h−)
+      (λ x. x .1 (wrong-is k− v−))
+  case-derives false false false false h− h+ v− v+ = Reacts.signal−− d− h− d+ h+ (calm k− k+ v− v+)
+  case-derives false false true w+ h− h+ v− v+ =
+      Reacts.signal∞ d− d+ (wrong-l k− k+ v−) (λ x. clash (member s o−) (x .0) h−) (λ x. clash (member s o−) (x .0) h−)
+      (λ x. clash (member s o+) (x .2) h+)
+  case-derives false false false true h− h+ v− v+ =
+      Reacts.signal∞ d− d+ (wrong-r k− k+ v+) (λ x. clash (member s o−) (x .0) h−) (λ x. clash (member s o−) (x .0) h−)
+      (λ x. clash (member s o+) (x .2) h+)
+
+signal-derives : {p : Statement} {e : ℕ} (a s : ℕ) (r− r+ : Reaction) → Reacts p (remove s e) r− → Reacts p (insert s e) r+
+    → Reacts (signal a s p) e (inSignal a s r− r+)
+signal-derives a s (gives o− k− l− t−) (gives o+ k+ l+ t+) d− d+ =
+    case-derives a s o− o+ l− l+ k− k+ t− t+ d− d+ (member s o−) (member s o+) (isWrong k−) (isWrong k+) refl refl refl refl
+
+derive : (p : Statement) (e : ℕ) → Reacts p e (react p e)
+unfolding react
+derive nothing e = Reacts.nothing
+derive (pause l) e = Reacts.pause
+derive (emit s) e = Reacts.emit
+derive (exit n) e = Reacts.exit
+derive (seq p q) e = seq-derives (react p e) (react q e) (derive p e) (derive q e)
+derive (par p q) e = par-derives (react p e) (react q e) (derive p e) (derive q e)
+derive (loop a p) e = loop-derives a (react p e) (derive p e)
+derive (present s p q) e = present-derives s (member s e) (react p e) (react q e) refl (derive p e) (derive q e)
+derive (signal a s p) e =
+    signal-derives a s (react p (remove s e)) (react p (insert s e)) (derive p (remove s e)) (derive p (insert s e))
+derive (try p) e = try-derives (react p e) (derive p e)
+derive (setpause l) e = Reacts.setpause
+
+-- RULES: the relation holds of an answer exactly if the function gives it
+pub reacts-is : (p : Statement) (e : ℕ) (r : Reaction) → Reacts p e r ↔ (r ≡ react p e)
+reacts-is p e r = (sound, λ h. subst (λ (x : Reaction). Reacts p e x) (sym h) (derive p e))

@@ -1,0 +1,137 @@
+-- 002, theorems 4 and 8: the labels of a waiting reaction are those of pauses and setpauses of the statement at pairwise
+-- compatible places; so, for a well-formed statement, they are a valid set. Fresh or resumed, setpause included.
+use Prim.Native.Nat.{ℕ}
+use mathlib.Core.Path.{_≡_, refl, sym, _∙_, subst, subst₂}
+use mathlib.Core.Logic.{_⊎_, inl, inr, ⊎-elim}
+use mathlib.Core.Bool.{true}
+use mathlib.Core.List.{[], _∷_}
+use borrow.Author.Tests.{eqb-true, eq-eqb}
+use Rattle.esterel.specs.Sets.{member, only, join}
+use Rattle.esterel.specs.Statement.{Statement, pause, setpause, par}
+use Rattle.esterel.specs.Reaction.{react}
+use Rattle.esterel.specs.Places.{Part, first, second, PartOf, seq₁, seq₂, par₁, par₂, loop₁, present₁, present₂, signal₁, try₁, Place, At, Exclusive, Compatible}
+use Rattle.esterel.specs.States.{Holds, Valid, Distinct, Targeted, WellFormed}
+use Rattle.esterel.specs.Expansion.{expand}
+use Rattle.esterel.proofs.Booleans.{or-l, or-cases}
+use Rattle.esterel.proofs.Sets.{member-join, member-only}
+use Rattle.esterel.proofs.Places.{compatible-part, compatible-sides, compatible-sides′}
+use Rattle.esterel.proofs.Invariant.{Kept, Fits, fresh-fits, resumed-fits}
+
+-- a pause or a setpause with label l at the place a
+abbrev pub Stop : Statement → ℕ → Place → Type 0
+Stop p l a = At (pause l) a p ⊎ At (setpause l) a p
+
+abbrev pub Stops : Statement → ℕ → Type 0
+Stops p l = (a : Place) × Stop p l a
+
+-- stops with labels k and l at compatible places
+abbrev pub Meet : Statement → ℕ → ℕ → Type 0
+Meet p k l = (a : Place) × (b : Place) × Stop p k a × Stop p l b × Compatible p a b
+
+pub record Sound (p : Statement) (L : ℕ) : Type 0 where
+  pub some : (l : ℕ) × (member l L ≡ true)
+  pub stops : (l : ℕ) → member l L ≡ true → Stops p l
+  pub meet : (k l : ℕ) → member k L ≡ true → member l L ≡ true → Meet p k l
+
+-- ---- from a part to the whole
+stop-in : {d : Part} {c p : Statement} (l : ℕ) {a : Place} → PartOf d c p → Stop c l a → Stop p l (d ∷ a)
+stop-in l i (inl x) = inl (At.inside i x)
+stop-in l i (inr x) = inr (At.inside i x)
+
+stops-in : {d : Part} {c p : Statement} (l : ℕ) → PartOf d c p → Stops c l → Stops p l
+stops-in {d} l i s = (d ∷ s .0, stop-in l i (s .1))
+
+meet-in : {d : Part} {c p : Statement} (k l : ℕ) → PartOf d c p → Meet c k l → Meet p k l
+meet-in {d} k l i m = (d ∷ m .0, d ∷ m .1, stop-in k i (m .2), stop-in l i (m .3), compatible-part i (m .4))
+
+sound-in : {d : Part} {c p : Statement} (L : ℕ) → PartOf d c p → Sound c L → Sound p L
+sound-in L i s =
+    record {
+      some = s .some;
+      stops = λ l h. stops-in l i (s .stops l h);
+      meet = λ k l h h₂. meet-in k l i (s .meet k l h h₂);
+    }
+
+-- ---- one label, and the labels of two sides
+alone : (p : Statement) (l : ℕ) → Stop p l [] → Compatible p [] [] → Sound p (only l)
+alone p l s c =
+    record {
+      some = (l, member-only l l ∙ eq-eqb l l refl);
+      stops = λ k h. ([], at k h);
+      meet = λ k k₂ h h₂. ([], [], at k h, at k₂ h₂, c);
+    }
+  where
+    at : (k : ℕ) → member k (only l) ≡ true → Stop p k []
+    at k h = subst (λ (x : ℕ). Stop p x []) (eqb-true l k (sym (member-only l k) ∙ h)) s
+
+nowhere : (p : Statement) → Compatible p [] []
+nowhere p x = elim x [ ]
+
+module _ (p q : Statement) (L M : ℕ) (f : Sound p L) (g : Sound q M) where
+  either : (l : ℕ) → member l (join L M) ≡ true → (member l L ≡ true) ⊎ (member l M ≡ true)
+  either l h = or-cases (member l L) (member l M) (sym (member-join l L M) ∙ h)
+
+  across : (k l : ℕ) → Stops p k → Stops q l → Meet (par p q) k l
+  across k l x y = (first ∷ x .0, second ∷ y .0, stop-in k par₁ (x .1), stop-in l par₂ (y .1), compatible-sides)
+
+  across′ : (k l : ℕ) → Stops q k → Stops p l → Meet (par p q) k l
+  across′ k l x y = (second ∷ x .0, first ∷ y .0, stop-in k par₂ (x .1), stop-in l par₁ (y .1), compatible-sides′)
+
+  sound-join : Sound (par p q) (join L M)
+  sound-join =
+      record {
+        some = ((f .some) .0, member-join (f .some .0) L M ∙ or-l _ _ (f .some .1));
+        stops = λ l h. ⊎-elim (λ x. stops-in l par₁ (f .stops l x)) (λ x. stops-in l par₂ (g .stops l x)) (either l h);
+        meet = λ k l h i. ⊎-elim
+            (λ x. ⊎-elim (λ y. meet-in k l par₁ (f .meet k l x y)) (λ y. across k l (f .stops k x) (g .stops l y)) (either l i))
+            (λ x. ⊎-elim (λ y. across′ k l (g .stops k x) (f .stops l y)) (λ y. meet-in k l par₂ (g .meet k l x y)) (either l i))
+            (either k h);
+      }
+
+abbrev pub SoundLabels : Statement → ℕ → Statement → Type 0
+SoundLabels p L t = Sound p L
+
+kept : Kept SoundLabels
+kept =
+    record {
+      at-pause = λ l. alone (pause l) l (inl At.here) (nowhere (pause l));
+      at-setpause = λ l. alone (setpause l) l (inr At.here) (nowhere (setpause l));
+      seq-first = λ p q L t. sound-in L seq₁;
+      seq-second = λ p q L t. sound-in L seq₂;
+      par-both = λ p q L M t u. sound-join p q L M;
+      par-first = λ p q L t. sound-in L par₁;
+      par-second = λ p q L t. sound-in L par₂;
+      loop-body = λ a p L t. sound-in L loop₁;
+      present-first = λ s p q L t. sound-in L present₁;
+      present-second = λ s p q L t. sound-in L present₂;
+      signal-body = λ a s p L t. sound-in L signal₁;
+      try-body = λ p L t. sound-in L try₁;
+    }
+
+pub labels-fresh : (p : Statement) (e : ℕ) → Fits SoundLabels p (react p e)
+labels-fresh = fresh-fits SoundLabels kept
+
+pub labels-resumed : (p : Statement) (L e : ℕ) → Fits SoundLabels p (react (expand p L) e)
+labels-resumed = resumed-fits SoundLabels kept
+
+-- ---- from compatible triggers to compatible pauses, by 002's definition 3
+module _ (p : Statement) (distinct : Distinct p) (formed : WellFormed p) (targeted : Targeted p) where
+  paused : (l : ℕ) → Stops p l → Holds p (pause l)
+  paused l s = ⊎-elim (λ x. (s .0, x)) (λ x. targeted l (s .0, x)) (s .1)
+
+  together : (k l : ℕ) → Meet p k l → (a b : Place) → At (pause k) a p → At (pause l) b p → Compatible p a b
+  together k l m a b x y exclusive = go (m .2) (m .3)
+    where
+      go : Stop p k (m .0) → Stop p l (m .1) → ⊥
+      go (inl u) (inl v) = m .4 (subst₂ (λ (c d : Place). Exclusive p c d) (distinct k a (m .0) x u) (distinct l b (m .1) y v) exclusive)
+      go (inl u) (inr v) = m .4 (formed k l a b x y exclusive .pause-setpause (m .0) (m .1) u v)
+      go (inr u) (inl v) = m .4 (formed k l a b x y exclusive .setpause-pause (m .0) (m .1) u v)
+      go (inr u) (inr v) = m .4 (formed k l a b x y exclusive .setpauses (m .0) (m .1) u v)
+
+  pub sound-valid : (L : ℕ) → Sound p L → Valid p L
+  sound-valid L s =
+      record {
+        some = s .some;
+        paused = λ l h. paused l (s .stops l h);
+        together = λ k l h i. together k l (s .meet k l h i);
+      }

@@ -1,0 +1,89 @@
+-- The theorems of this crate in the words of the papers, each a line or two over the files beside it. Others stand
+-- where they are proved: `reacts-is` of Rules (003, corollary 11), `uses-is` of Derivations, `figure-5` of Figure5.
+use Prim.Native.Nat.{ℕ}
+use mathlib.Core.Path.{_≡_, refl, ap, _∙_}
+use mathlib.Core.Logic.{_↔_, _≢_}
+use mathlib.Core.Bool.{Bool, true}
+use mathlib.Core.List.{List}
+use native.Mathlib.Omega.{arith}
+use Rattle.esterel.specs.Sets.{member, none}
+use Rattle.esterel.specs.Statement.{Statement}
+use Rattle.esterel.specs.Reaction.{ended, waiting, leaving, wrong, Reaction, gives, code, labels, react}
+use Rattle.esterel.specs.States.{active, Valid, Distinct, Targeted, NoSetpause, WellFormed}
+use Rattle.esterel.specs.Expansion.{expand}
+use Rattle.esterel.specs.Resume.{start, inactive, resumed, resume}
+use Rattle.esterel.specs.Machines.{run, reached, State, byLabels, Rewriting, byRewriting}
+use Rattle.esterel.proofs.Booleans.{never}
+use Rattle.esterel.proofs.Activity.{Awake, active-is}
+use Rattle.esterel.proofs.Invariant.{Fits}
+use Rattle.esterel.proofs.Residual.{Remains, residual-fresh, residual-resumed}
+use Rattle.esterel.proofs.Stability.{Stops, SoundLabels, labels-fresh, labels-resumed, sound-valid}
+use Rattle.esterel.proofs.Resume.{whenActive, resume-is}
+use Rattle.esterel.proofs.Agreement.{ValidState, agree, valid-reached}
+
+-- A reaction of p itself, or of an expansion of p.
+pub data ReactionOf (p : Statement) (e : ℕ) : Reaction → Type 0 where
+  of-statement : ReactionOf p e (react p e)
+  of-expansion : (L : ℕ) → ReactionOf p e (react (expand p L) e)
+
+-- what one induction shows of both
+both-fit : (K : Statement → ℕ → Statement → Type 0) (p : Statement) (e : ℕ) {r : Reaction}
+    → Fits K p (react p e) → ((L : ℕ) → Fits K p (react (expand p L) e)) → ReactionOf p e r → Fits K p r
+both-fit K p e f g of-statement = f
+both-fit K p e f g (of-expansion L) = g L
+
+-- 1. RESIDUAL IS EXPANSION (002, theorem 6)
+pub residual-is-expansion : (p : Statement) → Distinct p → NoSetpause p → (e o l : ℕ) (t : Statement)
+    → ReactionOf p e (gives o waiting l t) → t ≡ expand p l
+residual-is-expansion p d n e o l t x =
+    both-fit Remains p e (residual-fresh p e) (λ L. residual-resumed p L e) x d n .equal
+
+-- 2. RESUME is the reaction of the expansion with its first error, where a pause is active; else it is inactive
+pub resume-reacts : (p : Statement) (L e : ℕ) → Awake p L → resume p L e ≡ resumed (start (expand p L) e)
+resume-reacts p L e w = resume-is p L e ∙ ap (λ (b : Bool). whenActive b (start (expand p L) e)) (active-is p L .1 w)
+
+pub resume-inactive : (p : Statement) (L e : ℕ) → (resume p L e ≡ inactive) ↔ (¬ Awake p L)
+resume-inactive p L e = (forth, back)
+  where
+    forth : resume p L e ≡ inactive → ¬ Awake p L
+    forth h w = let i = resume-reacts p L e w in let z : _≡_ {A = ℕ} 0 1 = cc in omega arith
+
+    back : ¬ Awake p L → resume p L e ≡ inactive
+    back n =
+        resume-is p L e
+        ∙ ap (λ (b : Bool). whenActive b (start (expand p L) e)) (never (active p L) (λ h. n (active-is p L .0 h)))
+
+-- 3. STABILITY (002, theorem 8), setpause included
+pub stable : (p : Statement) → Distinct p → Targeted p → WellFormed p → (e o l : ℕ) (t : Statement)
+    → ReactionOf p e (gives o waiting l t) → Valid p l
+stable p d g w e o l t x =
+    sound-valid p d w g l (both-fit SoundLabels p e (labels-fresh p e) (λ L. labels-resumed p L e) x)
+
+pub always-valid : (p : Statement) → Distinct p → Targeted p → WellFormed p → (s : State) → ValidState p s
+    → (es : List ℕ) → ValidState p (reached (byLabels p) s es)
+always-valid = valid-reached
+
+-- 4. AGREEMENT: from fresh, and from any set of labels, valid or not, against its expansion
+pub agreement : (p : Statement) → Distinct p → NoSetpause p → (es : List ℕ)
+    → run (byLabels p) State.fresh es ≡ run byRewriting (Rewriting.fresh p) es
+agreement p d n es = agree p d n State.fresh (Rewriting.fresh p) refl es
+
+pub agreement-from : (p : Statement) → Distinct p → NoSetpause p → (L : ℕ) (es : List ℕ)
+    → run (byLabels p) (State.waits L) es ≡ run byRewriting (Rewriting.waits (expand p L)) es
+agreement-from p d n L es = agree p d n (State.waits L) (Rewriting.waits (expand p L)) refl es
+
+-- 5. LABELS exist only with code 1 (002, theorem 4), are not empty then, and are those of pauses and setpauses of p
+no-labels : (p : Statement) (r : Reaction) → Fits SoundLabels p r → code r ≢ waiting → labels r ≡ none
+no-labels p (gives o ended l t) h n = h
+no-labels p (gives o waiting l t) h n = absurd (n refl)
+no-labels p (gives o (leaving m) l t) h n = h
+no-labels p (gives o wrong l t) h n = h
+
+pub labels-only-waiting : (p : Statement) (e : ℕ) (r : Reaction) → ReactionOf p e r → code r ≢ waiting → labels r ≡ none
+labels-only-waiting p e r x = no-labels p r (both-fit SoundLabels p e (labels-fresh p e) (λ L. labels-resumed p L e) x)
+
+pub labels-of-stops : (p : Statement) (e o l : ℕ) (t : Statement) → ReactionOf p e (gives o waiting l t)
+    → ((k : ℕ) × (member k l ≡ true)) × ((k : ℕ) → member k l ≡ true → Stops p k)
+labels-of-stops p e o l t x =
+    let s = both-fit SoundLabels p e (labels-fresh p e) (λ L. labels-resumed p L e) x in
+    (s .some, s .stops)

@@ -1,0 +1,87 @@
+-- Worked reactions by computation: 01's starred bays as trees, and the examples that the papers turn on.
+use Prim.Native.Nat.{ℕ}
+use mathlib.Core.Path.{_≡_, refl}
+use mathlib.Core.List.{List, [], _∷_, map}
+use Rattle.esterel.specs.Sets.{member, none, only, join, insert, remove}
+use Rattle.esterel.specs.Statement.{Statement, nothing, pause, emit, exit, seq, par, loop, present, signal, try, setpause}
+use Rattle.esterel.specs.Reaction.{Code, ended, waiting, leaving, wrong, code, emitted, labels, residual, react}
+use Rattle.esterel.specs.Errors.{Error, errors, instantaneous, notReactive, notDeterministic}
+use Rattle.esterel.specs.Places.{first, second, Alternative, Exclusive}
+use Rattle.esterel.specs.States.{active}
+use Rattle.esterel.specs.Expansion.{expand}
+use Rattle.esterel.specs.Machines.{waits, over, Seen, instant, refused, run, State, byLabels, Rewriting, byRewriting}
+
+-- what the table says of an instant with empty input: code, emitted set, labels, errors
+abbrev Row : Type 0
+Row = Code × ℕ × ℕ × List Error
+
+abbrev row : Statement → Row
+row p = (code (react p 0), emitted (react p 0), labels (react p 0), errors p 0)
+
+-- 06 08 00 04 07 00 02 01 00 04 01 00 02 00, and 002's figure 6: the next round does not see the last one's signal
+abbrev reincarnated : Statement
+reincarnated = loop 0 (signal 1 0 (seq (present 0 (emit 1) nothing) (seq (pause 0) (emit 0))))
+
+-- 08 00 04 02 00 07 00 00 06 00: code 0 with an error in the run that is not chosen
+abbrev hidden : Statement
+hidden = signal 0 0 (seq (emit 0) (present 0 nothing (loop 8 nothing)))
+
+-- 08 01 08 00 04 02 00 04 02 01 07 01 00 06 00: what is emitted beside an error counts inside a signal
+abbrev beside : Statement
+beside = signal 0 1 (signal 2 0 (seq (emit 0) (seq (emit 1) (present 1 nothing (loop 13 nothing)))))
+
+-- 04 01 01 04 0A 02 04 02 00 01 02
+abbrev jump : Statement
+jump = seq (pause 1) (seq (setpause 2) (seq (emit 0) (pause 2)))
+
+-- 002, section 4: not well-formed
+abbrev split : Statement
+split = seq (pause 1) (seq (par (setpause 2) (pause 3)) (pause 2))
+
+table : List (Statement × Row)
+table =
+    (nothing, (ended, 0, 0, []))
+    ∷ (exit 1, (leaving 1, 0, 0, []))
+    ∷ (try (exit 1), (ended, 0, 0, []))
+    ∷ (par (exit 3) (exit 5), (leaving 5, 0, 0, []))
+    ∷ (loop 0 nothing, (wrong, 0, 0, instantaneous 0 ∷ []))
+    ∷ (loop 0 (pause 0), (waiting, 0, 1, []))
+    ∷ (signal 0 0 (emit 0), (ended, 0, 0, []))
+    ∷ (signal 0 0 (present 0 nothing (emit 0)), (wrong, 0, 0, notReactive 0 ∷ []))
+    ∷ (signal 0 0 (present 0 (emit 0) nothing), (wrong, 0, 0, notDeterministic 0 ∷ []))
+    ∷ (try (par (pause 0) (exit 1)), (ended, 0, 0, []))
+    ∷ (reincarnated, (waiting, 0, 1, []))
+    ∷ (seq (emit 0) (present 0 (emit 1) nothing), (ended, 1, 0, []))
+    ∷ (hidden, (ended, 0, 0, instantaneous 8 ∷ []))
+    ∷ (beside, (ended, 0, 0, instantaneous 13 ∷ instantaneous 13 ∷ []))
+    ∷ (par (emit 1) (loop 3 nothing), (wrong, 2, 0, instantaneous 3 ∷ []))
+    ∷ []
+
+rows : map (λ (x : Statement × Row). row (x .0)) table ≡ map (λ (x : Statement × Row). x .1) table
+unfolding table react errors member none only join insert remove
+rows = refl
+
+-- an instant that waits, or ends, and shows no signal
+abbrev quietly : Code → Seen
+quietly ended = instant ended 0 over
+quietly waiting = instant waiting 0 waits
+quietly (leaving n) = instant (leaving n) 0 over
+quietly wrong = instant wrong 0 over
+
+runs : (run (byLabels reincarnated) State.fresh (0 ∷ 0 ∷ 0 ∷ []) ≡ map quietly (waiting ∷ waiting ∷ waiting ∷ []))
+    × (run byRewriting (Rewriting.fresh reincarnated) (0 ∷ 0 ∷ []) ≡ map quietly (waiting ∷ waiting ∷ []))
+    × (run (byLabels jump) State.fresh (0 ∷ 0 ∷ 0 ∷ []) ≡ map quietly (waiting ∷ waiting ∷ ended ∷ []))
+    × (run (byLabels nothing) State.fresh (0 ∷ 0 ∷ []) ≡ quietly ended ∷ refused ∷ [])
+    × (run (byLabels (par (emit 1) (loop 3 nothing))) State.fresh (0 ∷ []) ≡ quietly wrong ∷ [])
+unfolding run active expand react member none only join insert remove
+runs = (refl, refl, refl, refl, refl)
+
+-- labels 1 and 2 of `jump`, labels 2 and 3 of `split`; a side that ended, and one that is inactive, is nothing
+states : (labels (react jump 0) ≡ 2)
+    × (labels (react (expand jump 2) 0) ≡ 4)
+    × (labels (react (expand split 2) 0) ≡ 12)
+    × (residual (react (par (try nothing) (pause 1)) 0) ≡ par nothing nothing)
+    × (expand (par (pause 0) (loop 3 (pause 1))) 1 ≡ par nothing nothing)
+    × Exclusive (present 0 (pause 1) (pause 2)) (first ∷ []) (second ∷ [])
+unfolding active expand react member none only join insert remove
+states = (refl, refl, refl, refl, refl, Exclusive.apart Alternative.test)

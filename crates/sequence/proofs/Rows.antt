@@ -1,0 +1,298 @@
+-- The check gives a number exactly if its row holds and no row of a smaller number does, and 0 exactly if none holds.
+use Prim.Native.Nat.{ℕ, zero, suc, _+_, _≤_, _<_}
+use native.Mathlib.Omega.{arith}
+use native.Mathlib.Decide.{ℕ-discrete, decLt}
+use mathlib.Core.Path.{_≡_, refl, sym, ap, _∙_, subst}
+use mathlib.Core.Bool.{Bool, true, false, _&&_, cond, true≢false}
+use mathlib.Core.Option.{Option, none, some, Option·some-injective}
+use mathlib.Core.List.{List, [], _∷_}
+use mathlib.Core.Logic.{_↔_, _≢_, _⊎_, inl, inr}
+use lib.ListN.{length, drop}
+use lib.Dec.{leb, ltb}
+use borrow.Author.Tests.{ltb-true, ltb-false, leb-true, le-leb}
+use Rattle.esterel.specs.Statement.{Statement}
+use Rattle.esterel.specs.States.{Distinct, Targeted, WellFormed}
+use Rattle.esterel.specs.LabelTests.{distinct, targeted, wellFormed}
+use Rattle.esterel.proofs.LabelTests.{distinct-is, targeted-is, wellFormed-is}
+use Rattle.sequence.specs.Limits.{maxBytes, maxDepth, maxSignals}
+use Rattle.sequence.specs.Commands.{declares}
+use Rattle.sequence.specs.Reader.{Read, accepted, refused, Front, command, front, read}
+use Rattle.sequence.specs.Check.{Checked, sound, bad, labelRules, afterRead, checked, numberOf, checkOf}
+use Rattle.sequence.specs.Rows.{Slot, slot, Position, at, Fault, unknown, no-statement, no-operand, out-of-range, too-deep, too-many-signals, enter, next, walk, Spells, Row, row-2, row-3-to-6, row-7, row-8, row-9, row-10}
+use Rattle.sequence.proofs.Walk.{faultOf, fault-is, Faulty, Comes, comes}
+use Rattle.sequence.proofs.Reading.{measured-fits}
+use Rattle.sequence.proofs.Writer.{reads-what-is-written}
+
+fault-range : {bs : List ℕ} {s : Slot} {k : ℕ} → Fault bs s k → (3 ≤ k) × (k ≤ 6)
+fault-range (unknown h) = omega arith
+fault-range no-statement = omega arith
+fault-range (no-operand i o) = omega arith
+fault-range (out-of-range i o r) = omega arith
+fault-range (too-deep f h) = omega arith
+fault-range (too-many-signals f h) = omega arith
+
+module _ (bs : List ℕ) where
+  -- ---- reading from the left ends once
+  later : (n m : ℕ) → n ≤ m → walk n bs ≡ none → walk m bs ≡ none
+  unfolding walk
+  later n zero h e = subst (λ (k : ℕ). walk k bs ≡ none) (let z : n ≡ 0 = omega arith in z) e
+  later n (suc m) h e =
+      elim (ℕ-discrete n (suc m)) [
+        | yes i ↦ subst (λ (k : ℕ). walk k bs ≡ none) i e
+        | no i ↦ rw (later n m (omega arith) e)
+      ]
+
+  -- the last position of the walk
+  pub record Last (n : ℕ) (x : Position) : Type 0 where
+    pub here : walk n bs ≡ some x
+    pub stop : next bs (some x) ≡ none
+
+  stopped : (n : ℕ) (x : Position) → Last n x → walk (suc n) bs ≡ none
+  unfolding walk
+  stopped n x l = ap (next bs) (l .here) ∙ l .stop
+
+  not-later : (n m : ℕ) (x y : Position) → Last n x → walk m bs ≡ some y → n < m → ⊥
+  not-later n m x y l h i =
+      let e : walk m bs ≡ none = later (suc n) m i (stopped n x l) in
+      let z : _≡_ {A = ℕ} 0 1 = cc in
+      omega arith
+
+  last-unique : (n m : ℕ) (x y : Position) → Last n x → Last m y → x ≡ y
+  last-unique n m x y l r =
+      elim (decLt n m) [
+        | yes i ↦ absurd (not-later n m x y l (r .here) i)
+        | no i ↦ elim (decLt m n) [
+          | yes j ↦ absurd (not-later m n y x r (l .here) j)
+          | no j ↦ let e : n ≡ m = omega arith in
+              Option·some-injective x y (sym (l .here) ∙ ap (λ (k : ℕ). walk k bs) e ∙ r .here)
+        ]
+      ]
+
+  stays : (k : ℕ) (b : Bool) (y : Option Position) → cond b none (some 6) ≡ some k → cond b y none ≡ none
+  stays k true y h = absurd (let z : _≡_ {A = ℕ} 0 1 = cc in omega arith)
+  stays k false y h = refl
+
+  faulty-last : (n a : ℕ) (s : Slot) (w : List Slot) (k : ℕ) → walk n bs ≡ some (at a (s ∷ w)) → Fault (drop a bs) s k
+      → Last n (at a (s ∷ w))
+  faulty-last n a (slot d g) w k h f =
+      record { here = h; stop = go (front (drop a bs)) (fault-is (slot d g) (drop a bs) k .0 f) }
+    where
+      go : (y : Front) → faultOf (slot d g) y ≡ some k → enter a d g w y ≡ none
+      go (Front.bad m) e = refl
+      go (command c x) e = stays k (ltb d maxDepth && leb (g + declares c) maxSignals) _ e
+
+  ended-last : (n a : ℕ) → walk n bs ≡ some (at a []) → Last n (at a [])
+  ended-last n a h = record { here = h; stop = refl }
+
+  -- two faults are one; a fault and an end exclude each other; two ends are one
+  one-fault : (n m a b k j : ℕ) (s t : Slot) (v w : List Slot) → walk n bs ≡ some (at a (s ∷ v)) → Fault (drop a bs) s k
+      → walk m bs ≡ some (at b (t ∷ w)) → Fault (drop b bs) t j → k ≡ j
+  one-fault n m a b k j s t v w h f i g =
+      let e : at a (s ∷ v) ≡ at b (t ∷ w) = last-unique n m _ _ (faulty-last n a s v k h f) (faulty-last m b t w j i g) in
+      let ea : a ≡ b = cc in
+      let es : s ≡ t = cc in
+      Option·some-injective k j
+      (sym (fault-is s (drop a bs) k .0 f) ∙ ap (λ (x : ℕ). faultOf s (front (drop x bs))) ea
+      ∙ ap (λ (x : Slot). faultOf x (front (drop b bs))) es ∙ fault-is t (drop b bs) j .0 g)
+
+  fault-or-end : (n m a b k : ℕ) (s : Slot) (w : List Slot) → walk n bs ≡ some (at a (s ∷ w)) → Fault (drop a bs) s k
+      → walk m bs ≡ some (at b []) → ⊥
+  fault-or-end n m a b k s w h f i =
+      let e : at a (s ∷ w) ≡ at b [] = last-unique n m _ _ (faulty-last n a s w k h f) (ended-last m b i) in
+      let l : s ∷ w ≡ [] = cc in
+      let z : _≡_ {A = ℕ} 0 1 = cc in
+      omega arith
+
+  one-end : (n m a b : ℕ) → walk n bs ≡ some (at a []) → walk m bs ≡ some (at b []) → a ≡ b
+  one-end n m a b h i =
+      let e : at a [] ≡ at b [] = last-unique n m _ _ (ended-last n a h) (ended-last m b i) in
+      cc
+
+  -- ---- which rows the reader's answer leaves
+  -- n is given: its row holds, and no row of a smaller number
+  abbrev pub Given : ℕ → Type 0
+  Given n = Row bs n × ((m : ℕ) → m < n → ¬ Row bs m)
+
+  abbrev pub Sized : Type 0
+  Sized = (1 ≤ length bs) × (length bs ≤ maxBytes)
+
+  given-2 : ¬ Sized → Given 2
+  given-2 h = (row-2 (go (decLt 0 (length bs)) (decLt maxBytes (length bs))), none-below)
+    where
+      go : Dec (0 < length bs) → Dec (maxBytes < length bs) → (length bs ≡ 0) ⊎ (maxBytes < length bs)
+      go (yes x) (yes y) = inr y
+      go (yes x) (no y) = absurd (h (x, omega arith))
+      go (no x) y = inl (omega arith)
+
+      none-below : (m : ℕ) → m < 2 → ¬ Row bs m
+      none-below m l (row-2 x) = omega arith
+      none-below m l (row-3-to-6 n h f) = omega (arith, fault-range f)
+      none-below m l (row-7 n h x) = omega arith
+      none-below m l (row-8 s x) = omega arith
+      none-below m l (row-9 s x) = omega arith
+      none-below m l (row-10 s x) = omega arith
+
+  not-2 : Sized → (length bs ≡ 0) ⊎ (maxBytes < length bs) → ⊥
+  not-2 z (inl x) = omega arith
+  not-2 z (inr x) = omega arith
+
+  given-fault : Sized → (k : ℕ) → Faulty bs k → Given k
+  given-fault z k x = (row-3-to-6 (x .commands) (x .met) (x .fault), none-below)
+    where
+      none-below : (m : ℕ) → m < k → ¬ Row bs m
+      none-below m l (row-2 y) = not-2 z y
+      none-below m l (row-3-to-6 n {a = a} {s = s} {awaited = w} h f) =
+          omega (arith, one-fault n (x .commands) a (x .offset) m k s (x .awaiting) w (x .awaited) h f (x .met) (x .fault))
+      none-below m l (row-7 n h y) = omega (arith, fault-range (x .fault))
+      none-below m l (row-8 s y) = omega (arith, fault-range (x .fault))
+      none-below m l (row-9 s y) = omega (arith, fault-range (x .fault))
+      none-below m l (row-10 s y) = omega (arith, fault-range (x .fault))
+
+  given-7 : Sized → (n a : ℕ) → walk n bs ≡ some (at a []) → a < length bs → Given 7
+  given-7 z n a h i = (row-7 n h i, none-below)
+    where
+      none-below : (m : ℕ) → m < 7 → ¬ Row bs m
+      none-below m l (row-2 y) = not-2 z y
+      none-below m l (row-3-to-6 k {a = b} {s = s} {awaited = w} j f) = fault-or-end k n b a m s w j f h
+      none-below m l (row-7 k j y) = omega arith
+      none-below m l (row-8 s y) = omega arith
+      none-below m l (row-9 s y) = omega arith
+      none-below m l (row-10 s y) = omega arith
+
+  -- ---- the bytes are one statement
+  module _ (z : Sized) (p : Statement) (n : ℕ) (h : walk n bs ≡ some (at (length bs) [])) (spelled : Spells bs p) where
+    same-statement : (q : Statement) → Spells bs q → p ≡ q
+    same-statement q s =
+        let e : accepted p (length bs) ≡ accepted q (length bs) =
+        sym (reads-what-is-written bs p .1 spelled) ∙ reads-what-is-written bs q .1 s in
+        cc
+
+    -- no row up to 7 holds, and the label rows speak of p
+    remaining : (m : ℕ) → Row bs m
+        → ((m ≡ 8) × ¬ Distinct p) ⊎ (((m ≡ 9) × ¬ Targeted p) ⊎ ((m ≡ 10) × ¬ WellFormed p))
+    remaining m (row-2 y) = absurd (not-2 z y)
+    remaining m (row-3-to-6 k {a = b} {s = s} {awaited = w} j f) = absurd (fault-or-end k n b (length bs) m s w j f h)
+    remaining m (row-7 k {a = a} j y) = absurd (omega (arith, one-end k n a (length bs) j h))
+    remaining m (row-8 {p = q} s y) = inl (refl, λ d. y (subst Distinct (same-statement q s) d))
+    remaining m (row-9 {p = q} s y) = inr (inl (refl, λ d. y (subst Targeted (same-statement q s) d)))
+    remaining m (row-10 {p = q} s y) = inr (inr (refl, λ d. y (subst WellFormed (same-statement q s) d)))
+
+    given-8 : ¬ Distinct p → Given 8
+    given-8 x = (row-8 spelled x, λ m l r. go m l (remaining m r))
+      where
+        go : (m : ℕ) → m < 8 → ((m ≡ 8) × ¬ Distinct p) ⊎ (((m ≡ 9) × ¬ Targeted p) ⊎ ((m ≡ 10) × ¬ WellFormed p)) → ⊥
+        go m l (inl e) = omega arith
+        go m l (inr (inl e)) = omega arith
+        go m l (inr (inr e)) = omega arith
+
+    given-9 : Distinct p → ¬ Targeted p → Given 9
+    given-9 d x = (row-9 spelled x, λ m l r. go m l (remaining m r))
+      where
+        go : (m : ℕ) → m < 9 → ((m ≡ 8) × ¬ Distinct p) ⊎ (((m ≡ 9) × ¬ Targeted p) ⊎ ((m ≡ 10) × ¬ WellFormed p)) → ⊥
+        go m l (inl e) = e .1 d
+        go m l (inr (inl e)) = omega arith
+        go m l (inr (inr e)) = omega arith
+
+    given-10 : Distinct p → Targeted p → ¬ WellFormed p → Given 10
+    given-10 d t x = (row-10 spelled x, λ m l r. go m l (remaining m r))
+      where
+        go : (m : ℕ) → m < 10 → ((m ≡ 8) × ¬ Distinct p) ⊎ (((m ≡ 9) × ¬ Targeted p) ⊎ ((m ≡ 10) × ¬ WellFormed p)) → ⊥
+        go m l (inl e) = e .1 d
+        go m l (inr (inl e)) = e .1 t
+        go m l (inr (inr e)) = omega arith
+
+    given-none : Distinct p → Targeted p → WellFormed p → (m : ℕ) → ¬ Row bs m
+    given-none d t f m r = go (remaining m r)
+      where
+        go : ((m ≡ 8) × ¬ Distinct p) ⊎ (((m ≡ 9) × ¬ Targeted p) ⊎ ((m ≡ 10) × ¬ WellFormed p)) → ⊥
+        go (inl e) = e .1 d
+        go (inr (inl e)) = e .1 t
+        go (inr (inr e)) = e .1 f
+
+  -- ---- the check decides by the rows
+  abbrev pub Decides : Checked → Type 0
+  Decides (bad number) = Given number
+  Decides (sound p) = ((m : ℕ) → ¬ Row bs m) × Spells bs p × Distinct p × Targeted p × WellFormed p
+
+  labels-decide : Sized → (p : Statement) (n : ℕ) → walk n bs ≡ some (at (length bs) []) → Spells bs p → Decides (labelRules p)
+  labels-decide z p n h s = go-8 (distinct p) refl
+    where
+      go-10 : Distinct p → Targeted p → (b : Bool) → wellFormed p ≡ b → Decides (cond b (sound p) (bad 10))
+      go-10 d t true e =
+          let f = wellFormed-is p d .0 e in
+          (given-none z p n h s d t f, s, d, t, f)
+      go-10 d t false e = given-10 z p n h s d t (λ f. true≢false (sym (wellFormed-is p d .1 f) ∙ e))
+
+      go-9 : Distinct p → (b : Bool) → targeted p ≡ b → Decides (cond b (cond (wellFormed p) (sound p) (bad 10)) (bad 9))
+      go-9 d true e = go-10 d (targeted-is p .0 e) (wellFormed p) refl
+      go-9 d false e = given-9 z p n h s d (λ t. true≢false (sym (targeted-is p .1 t) ∙ e))
+
+      go-8 : (b : Bool) → distinct p ≡ b
+          → Decides (cond b (cond (targeted p) (cond (wellFormed p) (sound p) (bad 10)) (bad 9)) (bad 8))
+      go-8 true e = go-9 (distinct-is p .0 e) (targeted p) refl
+      go-8 false e = given-8 z p n h s (λ d. true≢false (sym (distinct-is p .1 d) ∙ e))
+
+  read-decides : Sized → (r : Read) → read maxDepth maxSignals 0 bs ≡ r → Comes bs 0 [] r → Decides (afterRead (length bs) r)
+  read-decides z (refused k) e x = given-fault z k x
+  read-decides z (accepted p m) e x = go (ltb m (length bs)) refl
+    where
+      exact : (m ≡ length bs) → Decides (labelRules p)
+      exact i =
+          labels-decide z p (x .0) (x .1 ∙ ap (λ (k : ℕ). some (at k [])) (let j : 0 + m ≡ length bs = omega arith in j))
+          (reads-what-is-written bs p .0 (e ∙ ap (accepted p) i))
+
+      go : (b : Bool) → ltb m (length bs) ≡ b → Decides (cond b (bad 7) (labelRules p))
+      go true i = given-7 z (x .0) (0 + m) (x .1) (omega (arith, ltb-true m (length bs) i))
+      go false i =
+          let f = rw e at (measured-fits maxDepth maxSignals 0 bs) in
+          exact (omega (arith, ltb-false m (length bs) i, f .bytes))
+
+  pub decided : Decides (checked bs)
+  unfolding checked walk
+  decided = go (leb 1 (length bs)) (leb (length bs) maxBytes) refl refl
+    where
+      go : (b c : Bool) → leb 1 (length bs) ≡ b → leb (length bs) maxBytes ≡ c
+          → Decides (cond (b && c) (afterRead (length bs) (read maxDepth maxSignals 0 bs)) (bad 2))
+      go true true i j =
+          read-decides (leb-true 1 (length bs) i, leb-true (length bs) maxBytes j) (read maxDepth maxSignals 0 bs) refl
+          (comes bs maxDepth 0 maxSignals 0 0 0 [] refl refl refl)
+      go true false i j = given-2 (λ z. true≢false (sym (le-leb (length bs) maxBytes (z .1)) ∙ j))
+      go false c i j = given-2 (λ z. true≢false (sym (le-leb 1 (length bs) (z .0)) ∙ i))
+
+  given-unique : (n m : ℕ) → Given n → Given m → n ≡ m
+  given-unique n m x y =
+      elim (decLt n m) [
+        | yes i ↦ absurd (y .1 n i (x .0))
+        | no i ↦ elim (decLt m n) [
+          | yes j ↦ absurd (x .1 m j (y .0))
+          | no j ↦ omega arith
+        ]
+      ]
+
+  row-nonzero : Row bs 0 → ⊥
+  row-nonzero r = go 0 refl r
+    where
+      go : (k : ℕ) → k ≡ 0 → Row bs k → ⊥
+      go k e (row-2 x) = omega arith
+      go k e (row-3-to-6 n h f) = omega (arith, fault-range f)
+      go k e (row-7 n h x) = omega arith
+      go k e (row-8 s x) = omega arith
+      go k e (row-9 s x) = omega arith
+      go k e (row-10 s x) = omega arith
+
+  -- CHECK: a number exactly if it is given, 0 exactly if no row holds
+  pub check-gives : (n : ℕ) → n ≢ 0 → (checkOf bs ≡ n) ↔ Given n
+  unfolding checkOf
+  check-gives n nz = go (checked bs) decided
+    where
+      go : (c : Checked) → Decides c → (numberOf c ≡ n) ↔ Given n
+      go (bad k) d = (λ e. subst Given e d, λ g. given-unique k n d g)
+      go (sound p) d = (λ e. absurd (nz (sym e)), λ g. absurd (d .0 n (g .0)))
+
+  pub check-accepts : (checkOf bs ≡ 0) ↔ ((m : ℕ) → ¬ Row bs m)
+  unfolding checkOf
+  check-accepts = go (checked bs) decided
+    where
+      go : (c : Checked) → Decides c → (numberOf c ≡ 0) ↔ ((m : ℕ) → ¬ Row bs m)
+      go (bad k) d = (λ e. absurd (row-nonzero (subst (Row bs) e (d .0))), λ h. absurd (h k (d .0)))
+      go (sound p) d = (λ e. d .0, λ h. refl)

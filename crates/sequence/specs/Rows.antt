@@ -1,0 +1,74 @@
+-- Rows 2 to 10 of 01's 'Turned down', each as a proposition about the bytes. Commands are met one by one from the left.
+use Prim.Native.Nat.{ℕ, zero, suc, _+_, _≤_, _<_}
+use mathlib.Core.Path.{_≡_}
+use mathlib.Core.Logic.{_⊎_}
+use mathlib.Core.Bool.{false, _&&_, cond}
+use mathlib.Core.Option.{Option, none, some}
+use mathlib.Core.List.{List, [], _∷_, _++_}
+use lib.ListN.{length, drop, replicate}
+use lib.Dec.{leb, ltb}
+use Rattle.esterel.specs.Statement.{Statement}
+use Rattle.esterel.specs.States.{Distinct, Targeted, WellFormed}
+use Rattle.sequence.specs.Limits.{maxBytes, maxDepth, maxSignals}
+use Rattle.sequence.specs.Commands.{Command, commandOf, operandCount, partCount, inRange, width, declares}
+use Rattle.sequence.specs.Reader.{Front, command, bad, front}
+use Rattle.sequence.specs.Writer.{bytesOf, Within, PlacedAt}
+
+-- a statement that is awaited, inside so many commands, so many of them signal commands
+pub data Slot : Type 0 where
+  slot : (around signals : ℕ) → Slot
+
+-- where reading stands: the offset of the next byte, and the statements awaited, the next one first
+pub data Position : Type 0 where
+  at : (offset : ℕ) (awaited : List Slot) → Position
+
+-- ---- rows 3 to 6 at one command: what is wrong where a statement is awaited and these bytes are left
+pub data Fault : List ℕ → Slot → (number : ℕ) → Type 0 where
+  -- command byte above 0A
+  unknown : {s : Slot} {b : ℕ} {bs : List ℕ} → 10 < b → Fault (b ∷ bs) s 3
+  -- operand or statement missing at the end
+  no-statement : {s : Slot} → Fault [] s 4
+  no-operand : {s : Slot} {b : ℕ} {c : Command} → commandOf b ≡ some c → operandCount c ≡ 1 → Fault (b ∷ []) s 4
+  -- operand outside its range
+  out-of-range : {s : Slot} {b x : ℕ} {bs : List ℕ} {c : Command} → commandOf b ≡ some c → operandCount c ≡ 1 → inRange c x ≡ false
+      → Fault (b ∷ x ∷ bs) s 5
+  -- depth over 64, or a seventh signal inside six; the command has passed 3, 4 and 5
+  too-deep : {d g x : ℕ} {bs : List ℕ} {c : Command} → front bs ≡ command c x → maxDepth ≤ d → Fault bs (slot d g) 6
+  too-many-signals : {d g x : ℕ} {bs : List ℕ} {c : Command} → front bs ≡ command c x → maxSignals < g + declares c
+      → Fault bs (slot d g) 6
+
+-- ---- from one command to the next
+abbrev pub enter : (a d g : ℕ) → List Slot → Front → Option Position
+enter a d g awaited (bad number) = none
+enter a d g awaited (command c x) =
+    cond (ltb d maxDepth && leb (g + declares c) maxSignals)
+    (some (at (a + width c) (replicate (partCount c) (slot (suc d) (g + declares c)) ++ awaited)))
+    none
+
+abbrev pub next : List ℕ → Option Position → Option Position
+next bs none = none
+next bs (some (at a [])) = none
+next bs (some (at a (slot d g ∷ awaited))) = enter a d g awaited (front (drop a bs))
+
+-- where reading stands after n commands, if all of them are sound
+unfoldable pub walk : ℕ → List ℕ → Option Position
+walk zero bs = some (at 0 (slot 0 0 ∷ []))
+walk (suc n) bs = next bs (walk n bs)
+
+-- ---- the rows
+-- the bytes are the statement p, which is within the limits and whose places are the offsets of its commands
+abbrev pub Spells : List ℕ → Statement → Type 0
+Spells bs p = (bs ≡ bytesOf p) × Within maxDepth maxSignals p × PlacedAt 0 p
+
+pub data Row (bs : List ℕ) : (number : ℕ) → Type 0 where
+  -- no bytes or over 1,024
+  row-2 : (length bs ≡ 0) ⊎ (maxBytes < length bs) → Row bs 2
+  -- rows 3 to 6 at the first command that is not sound
+  row-3-to-6 : (n : ℕ) {a number : ℕ} {s : Slot} {awaited : List Slot} → walk n bs ≡ some (at a (s ∷ awaited))
+      → Fault (drop a bs) s number → Row bs number
+  -- bytes after the statement
+  row-7 : (n : ℕ) {a : ℕ} → walk n bs ≡ some (at a []) → a < length bs → Row bs 7
+  -- two pauses with one label; a setpause whose label has no pause; not well-formed
+  row-8 : {p : Statement} → Spells bs p → ¬ Distinct p → Row bs 8
+  row-9 : {p : Statement} → Spells bs p → ¬ Targeted p → Row bs 9
+  row-10 : {p : Statement} → Spells bs p → ¬ WellFormed p → Row bs 10
