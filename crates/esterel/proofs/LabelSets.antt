@@ -30,7 +30,7 @@ in-join k s t h = or-cases (member k s) (member k t) (sym (member-join k s t) �
 pub in-none {ℓ} : {A : Type ℓ} (k : ℕ) → member k none ≡ true → A
 in-none k h = absurd (false≢true (sym (member-none k) ∙ h))
 
-even : (n : ℕ) → member 0 n ≡ false → n % 2 ≡ 0
+pub even : (n : ℕ) → member 0 n ≡ false → n % 2 ≡ 0
 unfolding member
 even n h =
     let e : n / 2 ^ 0 ≡ n = omega arith in
