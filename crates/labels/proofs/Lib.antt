@@ -2,3 +2,5 @@ pub mod Bytes
 pub mod Shapes
 pub mod Steps
 pub mod Walk
+pub mod Loops
+pub mod Numbers
