@@ -30,7 +30,7 @@ in-join k s t h = or-cases (member k s) (member k t) (sym (member-join k s t) �
 pub in-none {ℓ} : {A : Type ℓ} (k : ℕ) → member k none ≡ true → A
 in-none k h = absurd (false≢true (sym (member-none k) ∙ h))
 
-even : (n : ℕ) → member 0 n ≡ false → n % 2 ≡ 0
+pub even : (n : ℕ) → member 0 n ≡ false → n % 2 ≡ 0
 unfolding member
 even n h =
     let e : n / 2 ^ 0 ≡ n = omega arith in
@@ -361,3 +361,31 @@ module _ (f : ℕ → Bool) where
   every-from (signal a s p) e = every-from p (every-in (signal₁ {a = a} {s = s}) e)
   every-from (try p) e = every-from p (every-in try₁ e)
   every-from (setpause l) e = e l (labels-at true true l (as-setpause refl) At.here)
+
+-- ---- two tests that are true together are one
+pub same-test : (a b : Bool) → (a ≡ true → b ≡ true) → (b ≡ true → a ≡ true) → a ≡ b
+same-test true b f g = sym (f refl)
+same-test false true f g = g refl
+same-test false false f g = refl
+
+-- the triggers are the pauses and the setpauses
+pub triggers-are : (p : Statement) → triggers p ≡ join (labelsOf true false p) (labelsOf false true p)
+triggers-are p = ext _ _ (λ l. same-test _ _ (to l) (from l))
+  where
+    found : {w : Statement} {a : Place} (l : ℕ) → Counted true true l w → At w a p → member l (join (labelsOf true false p) (labelsOf false true p)) ≡ true
+    found l (as-pause e) u = in-l l (labelsOf true false p) (labelsOf false true p) (labels-at true false l (as-pause refl) u)
+    found l (as-setpause e) u = in-r l (labelsOf true false p) (labelsOf false true p) (labels-at false true l (as-setpause refl) u)
+
+    to : (l : ℕ) → member l (triggers p) ≡ true → member l (join (labelsOf true false p) (labelsOf false true p)) ≡ true
+    to l h = let n = labels-from true true l p h in found l (n .counted) (n .stands)
+
+    more : {x y : Bool} {w : Statement} (l : ℕ) → Counted x y l w → Counted true true l w
+    more l (as-pause e) = as-pause refl
+    more l (as-setpause e) = as-setpause refl
+
+    from : (l : ℕ) → member l (join (labelsOf true false p) (labelsOf false true p)) ≡ true → member l (triggers p) ≡ true
+    from l h =
+        ⊎-elim
+        (λ u. let n = labels-from true false l p u in labels-at true true l (more l (n .counted)) (n .stands))
+        (λ u. let n = labels-from false true l p u in labels-at true true l (more l (n .counted)) (n .stands))
+        (in-join l (labelsOf true false p) (labelsOf false true p) h)

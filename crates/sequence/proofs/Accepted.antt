@@ -174,6 +174,14 @@ unfolding read
 accepts zero signals a bs p n h = not-deep (front bs) h
 accepts (suc depth) signals a bs p n h = at-front depth signals a bs p n (front bs) refl h
 
+front-long : {depth signals a n : ℕ} {bs : List ℕ} {p : Statement} → Accepts depth signals a bs p n → 0 < length bs
+front-long (Accepts.leaf c x f z) = omega (arith, f .long)
+front-long (Accepts.one c x t m f z h) = omega (arith, f .long)
+front-long (Accepts.two c x t u m k f z h g) = omega (arith, f .long)
+
+pub not-empty : (depth signals a : ℕ) (bs : List ℕ) (p : Statement) (n : ℕ) → read depth signals a bs ≡ accepted p n → 0 < length bs
+not-empty depth signals a bs p n h = front-long (accepts depth signals a bs p n h)
+
 -- ---- the count is that of bytes that are there
 within : (depth : ℕ) → ((signals a : ℕ) (bs : List ℕ) (p : Statement) (n : ℕ) → read (depth - 1) signals a bs ≡ accepted p n → n ≤ length bs)
     → (signals a : ℕ) (bs : List ℕ) (p : Statement) (n : ℕ) → Accepts depth signals a bs p n → n ≤ length bs
@@ -189,3 +197,53 @@ count-within (suc depth) signals a bs p n h =
     within (suc depth)
     (λ g b cs q m e. count-within depth g b cs q m (sym (ap (λ (d : ℕ). read d g b cs) (sub-one (suc depth))) ∙ e))
     signals a bs p n (accepts (suc depth) signals a bs p n h)
+
+-- ---- the byte of a command
+abbrev pub byteOf : Command → ℕ
+byteOf Command.nothing = 0
+byteOf Command.pause = 1
+byteOf Command.emit = 2
+byteOf Command.exit = 3
+byteOf Command.seq = 4
+byteOf Command.par = 5
+byteOf Command.loop = 6
+byteOf Command.present = 7
+byteOf Command.signal = 8
+byteOf Command.try = 9
+byteOf Command.setpause = 10
+
+some-inj : {c d : Command} → some c ≡ some d → c ≡ d
+some-inj e = cc
+
+pub byte-is : (b : ℕ) (c : Command) → commandOf b ≡ some c → b ≡ byteOf c
+unfolding commandOf
+byte-is zero c e = ap byteOf (some-inj e)
+byte-is (suc zero) c e = ap byteOf (some-inj e)
+byte-is (suc (suc zero)) c e = ap byteOf (some-inj e)
+byte-is (suc (suc (suc zero))) c e = ap byteOf (some-inj e)
+byte-is (suc (suc (suc (suc zero)))) c e = ap byteOf (some-inj e)
+byte-is (suc (suc (suc (suc (suc zero))))) c e = ap byteOf (some-inj e)
+byte-is (suc (suc (suc (suc (suc (suc zero)))))) c e = ap byteOf (some-inj e)
+byte-is (suc (suc (suc (suc (suc (suc (suc zero))))))) c e = ap byteOf (some-inj e)
+byte-is (suc (suc (suc (suc (suc (suc (suc (suc zero)))))))) c e = ap byteOf (some-inj e)
+byte-is (suc (suc (suc (suc (suc (suc (suc (suc (suc zero))))))))) c e = ap byteOf (some-inj e)
+byte-is (suc (suc (suc (suc (suc (suc (suc (suc (suc (suc zero)))))))))) c e = ap byteOf (some-inj e)
+byte-is (suc (suc (suc (suc (suc (suc (suc (suc (suc (suc (suc b))))))))))) c e = absurd (let z : _≡_ {A = ℕ} 0 1 = cc in omega arith)
+
+pub command-of-byte : (c : Command) → commandOf (byteOf c) ≡ some c
+unfolding commandOf
+command-of-byte Command.nothing = refl
+command-of-byte Command.pause = refl
+command-of-byte Command.emit = refl
+command-of-byte Command.exit = refl
+command-of-byte Command.seq = refl
+command-of-byte Command.par = refl
+command-of-byte Command.loop = refl
+command-of-byte Command.present = refl
+command-of-byte Command.signal = refl
+command-of-byte Command.try = refl
+command-of-byte Command.setpause = refl
+
+-- the command of a byte that is that of d is d
+pub command-at : (b : ℕ) (c d : Command) → commandOf b ≡ some c → b ≡ byteOf d → c ≡ d
+command-at b c d e z = some-inj (sym e ∙ ap commandOf z ∙ command-of-byte d)

@@ -22,16 +22,16 @@ no-row w k m h = rw (le-ltb k w h)
 
 pub added : (w k s v : ℕ) (m : List ℕ) → k < w → v ≡ join (getD m k 0) s → TurnsBelow w (addRowBelow w k s) m (set m k v)
 unfolding rowBelow addRow
-added w k s v m h e l = (length-set m k v ∙ l, rw (lt-ltb k w h) (fun-ext (λ i. go i (eqb k i) refl)))
+added w k s v m h e = record { turns = λ l. (length-set m k v ∙ l, rw (lt-ltb k w h) (fun-ext (λ i. go l i (eqb k i) refl))) }
   where
-    go : (i : ℕ) (b : Bool) → eqb k i ≡ b
+    go : length m ≡ w → (i : ℕ) (b : Bool) → eqb k i ≡ b
         → cond (ltb i w) (getD (set m k v) i 0) none ≡ cond b (join (cond (ltb i w) (getD m i 0) none) s) (cond (ltb i w) (getD m i 0) none)
-    go i true q =
+    go l i true q =
         let z : k ≡ i = eqb-true k i q in
         let t : ltb i w ≡ true = ap (λ (n : ℕ). ltb n w) (sym z) ∙ lt-ltb k w h in
         rw t
         (ap (λ (n : ℕ). getD (set m k v) n 0) (sym z) ∙ getD-set-same m k v 0 (omega arith) ∙ e ∙ ap (λ (n : ℕ). join (getD m n 0) s) z)
-    go i false q = ap (λ (x : ℕ). cond (ltb i w) x none) (getD-set-other m k i v 0 (λ z. eqb-false k i q (sym z)))
+    go l i false q = ap (λ (x : ℕ). cond (ltb i w) x none) (getD-set-other m k i v 0 (λ z. eqb-false k i q (sym z)))
 
 pub kept : (w k s : ℕ) (m : List ℕ) → w ≤ k → TurnsBelow w (addRowBelow w k s) m m
-kept w k s m h l = (l, rw (le-ltb k w h))
+kept w k s m h = record { turns = λ l. (l, rw (le-ltb k w h)) }

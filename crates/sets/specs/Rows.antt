@@ -17,8 +17,8 @@ abbrev pub addRowBelow : (w k s : ℕ) → (ℕ → ℕ) → ℕ → ℕ
 addRowBelow w k s rows = cond (ltb k w) (addRow k s rows) rows
 
 -- w rows become w rows by f
-abbrev pub TurnsBelow : ℕ → ((ℕ → ℕ) → ℕ → ℕ) → List ℕ → List ℕ → Type 0
-TurnsBelow w f m n = length m ≡ w → (length n ≡ w) × (rowBelow w n ≡ f (rowBelow w m))
+pub record TurnsBelow (w : ℕ) (f : (ℕ → ℕ) → ℕ → ℕ) (m n : List ℕ) : Type 0 where
+  pub turns : length m ≡ w → (length n ≡ w) × (rowBelow w n ≡ f (rowBelow w m))
 
 abbrev pub rowOf : List ℕ → ℕ → ℕ
 rowOf = rowBelow labelCount

@@ -1,5 +1,5 @@
 -- Sets below a width, and two relations between sets, over the sets of esterel.
-use Prim.Native.Nat.{ℕ}
+use Prim.Native.Nat.{ℕ, _<_}
 use mathlib.Core.Path.{_≡_}
 use mathlib.Core.Bool.{true, false, cond}
 use lib.Dec.{ltb}
@@ -25,3 +25,9 @@ Subset s t = (i : ℕ) → member i s ≡ true → member i t ≡ true
 
 abbrev pub Disjoint : ℕ → ℕ → Type 0
 Disjoint s t = (i : ℕ) → member i s ≡ true → member i t ≡ false
+
+-- i is the least member of s, or w if s is empty
+pub record Lowest (w s i : ℕ) : Type 0 where
+  pub found : (s ≡ none → ⊥) → member i s ≡ true
+  pub least : (j : ℕ) → j < i → member j s ≡ false
+  pub absent : s ≡ none → i ≡ w

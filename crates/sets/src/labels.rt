@@ -4,7 +4,7 @@ ghost use mathlib.Core.Bool.{true};
 ghost use mathlib.Core.Logic.{_↔_};
 ghost use lib.Dec.{eqb};
 ghost use Rattle.esterel.specs.Sets.{member, none, join, remove};
-ghost use Rattle.sets.specs.Sets.{labelCount, onlyBelow, insertBelow, Subset, Disjoint};
+ghost use Rattle.sets.specs.Sets.{labelCount, onlyBelow, insertBelow, Subset, Disjoint, Lowest};
 ghost use Rattle.sets.specs.Labels.{labelSet};
 ghost use Rattle.sets.specs.Rows.{rowOf, addRowBelow, Turns};
 
@@ -77,6 +77,13 @@ pub fn disjoint(s: Labels, t: Labels) -> bool
     ensures { λ r. ⌜ (r ≡ true) ↔ Disjoint (labelSet s) (labelSet t) ⌝ }
 {
     s.bits & t.bits == 0
+}
+
+// The lowest member; of the empty set, the width.
+pub fn lowest(s: Labels) -> u8
+    ensures { λ r. ⌜ Lowest labelCount (labelSet s) r ⌝ }
+{
+    u64::trailing_zeros(s.bits) as u8
 }
 
 // A label set for each label.

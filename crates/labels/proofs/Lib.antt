@@ -1,0 +1,6 @@
+pub mod Bytes
+pub mod Shapes
+pub mod Steps
+pub mod Walk
+pub mod Loops
+pub mod Numbers

@@ -1,0 +1,122 @@
+-- The loops of rows 10 and 11: what has been passed, and what the end of a loop tells.
+use Prim.Native.Nat.{ℕ, _+_, _≤_, _<_}
+use mathlib.Core.Path.{_≡_, refl, sym, ap, _∙_, subst}
+use mathlib.Core.Bool.{Bool, true, false, not, _&&_, _||_, and-eq-true-iff, false≢true, true≢false}
+use mathlib.Core.Logic.{_↔_, _⊎_, inl, inr, ⊎-elim}
+use native.Mathlib.Omega.{arith}
+use native.Mathlib.Decide.{decLt}
+use mathlib.Core.List.{List}
+use lib.Dec.{eqb}
+use lib.Bits.{bitAnd}
+use borrow.Author.Count.{below-more}
+use borrow.Author.Tests.{eqb-true, eqb-false, not-true, not-false}
+use Rattle.esterel.specs.Sets.{member, none, remove}
+use Rattle.esterel.proofs.Booleans.{or-l, or-r, or-cases, never, Tested, tested}
+use Rattle.esterel.proofs.Sets.{member-none, member-and, member-remove}
+use Rattle.esterel.proofs.LabelSets.{in-none, some-member}
+use Rattle.sets.specs.Sets.{Disjoint, Lowest}
+use Rattle.sets.specs.Rows.{rowBelow}
+use Rattle.sets.proofs.Rows.{no-row}
+use Rattle.sets.proofs.Lowest.{remove-less}
+use Rattle.labels.specs.Rules.{Named, Clash}
+
+-- labels of s that are not left have no k in their row
+pub record Seeking (rows : ℕ → ℕ) (s k left : ℕ) : Type 0 where
+  pub within : (i : ℕ) → member i left ≡ true → member i s ≡ true
+  pub passed : (i : ℕ) → member i s ≡ true → member i left ≡ false → member k (rows i) ≡ false
+
+both-ways {ℓ} : {A : Type ℓ} {b : Bool} → b ≡ true → b ≡ false → A
+both-ways h g = absurd (true≢false (sym h ∙ g))
+
+pub seek : (rows : ℕ → ℕ) (s k : ℕ) → Seeking rows s k s
+seek rows s k = record { within = λ i h. h; passed = λ i h g. both-ways h g }
+
+and-not-l : (a b : Bool) → (a && b) ≡ true → a ≡ true
+and-not-l true b h = refl
+and-not-l false b h = absurd (false≢true h)
+
+gone : (a b : Bool) → (a && not b) ≡ false → (a ≡ false) ⊎ (b ≡ true)
+gone true true h = inr refl
+gone true false h = absurd (true≢false h)
+gone false b h = inl refl
+
+module _ (rows : ℕ → ℕ) (s k left : ℕ) (f : Seeking rows s k left) where
+  pub seek-on : (l next : ℕ) → next ≡ remove l left → member k (rows l) ≡ false → Seeking rows s k next
+  seek-on l next e h =
+      subst (Seeking rows s k) (sym e)
+      (record {
+        within = λ i g. f .within i (and-not-l _ _ (sym (member-remove l left i) ∙ g));
+        passed = λ i g z. ⊎-elim (f .passed i g) (λ q. ap (λ (j : ℕ). member k (rows j)) (sym (eqb-true l i q)) ∙ h)
+            (gone (member i left) (eqb l i) (sym (member-remove l left i) ∙ z));
+      })
+
+  pub seek-less : (w l next : ℕ) → Lowest w left l → (left ≡ none → ⊥) → next ≡ remove l left → next < left
+  seek-less w l next low g e = omega (arith, remove-less l left (low .found g))
+
+  pub seek-hit : (w l : ℕ) → Lowest w left l → (left ≡ none → ⊥) → member k (rows l) ≡ true → (true ≡ true) ↔ Named rows s k
+  seek-hit w l low g h = (λ _. (l, f .within l (low .found g), h), λ _. refl)
+
+  pub seek-end : left ≡ none → (false ≡ true) ↔ Named rows s k
+  seek-end e = (
+    λ z. absurd (false≢true z),
+    λ n. both-ways (n .2) (f .passed (n .0) (n .1) (ap (member (n .0)) e ∙ member-none (n .0))),
+  )
+
+pub emptied : (b : Bool) (s : ℕ) → b ≡ eqb s none → b ≡ true → s ≡ none
+emptied b s e h = eqb-true s none (sym e ∙ h)
+
+pub filled : (b : Bool) (s : ℕ) → b ≡ eqb s none → not b ≡ true → s ≡ none → ⊥
+filled b s e h = eqb-false s none (sym e ∙ not-true b h)
+
+pub drained : (b : Bool) (s : ℕ) → b ≡ eqb s none → not b ≡ false → s ≡ none
+drained b s e h = emptied b s e (not-false b h)
+
+-- ---- a clash of one label
+pub clash-by : (rows sides : ℕ → ℕ) (s k r : ℕ) (t : Bool) → s ≡ sides k → r ≡ rows k → Disjoint s r → (t ≡ true) ↔ Named rows s k → (t ≡ true) ↔ Clash rows sides k
+clash-by rows sides s k r t es er d n = (to, from)
+  where
+    to : t ≡ true → Clash rows sides k
+    to h = let x = n .0 h in (x .0, ap (member (x .0)) (sym es) ∙ x .1, or-r (member (x .0) (rows k)) (member k (rows (x .0))) (x .2))
+
+    from : Clash rows sides k → t ≡ true
+    from x =
+        let m : member (x .0) s ≡ true = ap (member (x .0)) es ∙ x .1 in
+        n .1 (
+          x .0,
+          m,
+          ⊎-elim
+              (λ h. both-ways h (ap (member (x .0)) (sym er) ∙ d (x .0) m))
+              (λ h. h)
+              (or-cases (member (x .0) (rows k)) (member k (rows (x .0))) (x .2)),
+        )
+
+shared : (s r : ℕ) → (Disjoint s r → ⊥) → (l : ℕ) × (member l s ≡ true) × (member l r ≡ true)
+shared s r f =
+    let x = some-member (bitAnd s r) (λ e. f (λ i h. never (member i r) (λ g. in-none i
+    (sym (ap (member i) e) ∙ member-and i s r ∙ and-eq-true-iff (member i s) (member i r) .1 (h, g))))) in
+    let y = and-eq-true-iff (member (x .0) s) (member (x .0) r) .0 (sym (member-and (x .0) s r) ∙ x .1) in
+    (x .0, y .0, y .1)
+
+pub clash-at : (rows sides : ℕ → ℕ) (s k r : ℕ) (t : Bool) → s ≡ sides k → r ≡ rows k → (t ≡ true) ↔ Disjoint s r → t ≡ false
+    → (true ≡ true) ↔ Clash rows sides k
+clash-at rows sides s k r t es er d h = (
+  λ _. let x = shared s r (λ g. both-ways (d .1 g) h) in
+      (x .0, ap (member (x .0)) (sym es) ∙ x .1, or-l (member (x .0) (rows k)) (member k (rows (x .0))) (ap (member (x .0)) (sym er) ∙ x .2)),
+  λ _. refl,
+)
+
+-- ---- a clash of some label
+-- no label below n clashes
+abbrev pub Clear : (rows sides : ℕ → ℕ) → ℕ → Type 0
+Clear rows sides n = (k : ℕ) → k < n → Clash rows sides k → ⊥
+
+pub clear-on : (rows sides : ℕ → ℕ) (n : ℕ) (t : Bool) → Clear rows sides n → (t ≡ true) ↔ Clash rows sides n → t ≡ false → Clear rows sides (n + 1)
+clear-on rows sides n t f g h = below-more _ n f (λ x. both-ways (g .1 x) h)
+
+pub clear-end : (w : ℕ) (rows sides : List ℕ) → Clear (rowBelow w rows) (rowBelow w sides) w
+    → (false ≡ true) ↔ ((k : ℕ) × Clash (rowBelow w rows) (rowBelow w sides) k)
+clear-end w rows sides f = (λ z. absurd (false≢true z), λ x. absurd (go (x .0) (x .1) (decLt (x .0) w)))
+  where
+    go : (k : ℕ) → Clash (rowBelow w rows) (rowBelow w sides) k → Dec (k < w) → ⊥
+    go k x (yes h) = f k h x
+    go k x (no h) = in-none (x .0) (ap (member (x .0)) (no-row w k sides (omega (arith, h))) ∙ x .1)

@@ -1,0 +1,73 @@
+// Rows 8 to 11 from what the survey found.
+ghost use mathlib.Core.Path.{_≡_};
+ghost use mathlib.Core.Bool.{true};
+ghost use mathlib.Core.Logic.{_↔_};
+ghost use Prim.Native.Nat.{ℕ};
+ghost use Rattle.sets.specs.Labels.{labelSet};
+ghost use Rattle.sets.specs.Rows.{rowOf};
+ghost use Rattle.labels.specs.Rules.{Named, Clash};
+ghost use Rattle.esterel.specs.LabelTests.{rivals, valid};
+ghost use Rattle.esterel.specs.Statement.{Statement};
+ghost use Rattle.labels.specs.Rules.{Labelled, numberBy};
+use crate::survey::Found;
+use sets::labels::Labels;
+use sets::labels::Rows;
+
+// Is k in the row of a label of s?
+fn named(rows: &Rows, s: Labels, k: u8) -> bool
+    ensures { λ r. ⌜ (r ≡ true) ↔ Named (rowOf (now (rows .entry))) (labelSet s) k ⌝ }
+{
+    let mut left = s;
+    while !sets::labels::is_empty(left) {
+        let l = sets::labels::lowest(left);
+        if sets::labels::member(sets::labels::row(rows, l), k) {
+            return true;
+        }
+        left = sets::labels::without(left, l);
+    }
+    false
+}
+
+// Has a label aside k a pause exclusive with that of k?
+fn clash(rows: &Rows, sides: &Rows, k: u8) -> bool
+    ensures { λ r. ⌜ (r ≡ true) ↔ Clash (rowOf (now (rows .entry))) (rowOf (now (sides .entry))) k ⌝ }
+{
+    let beside = sets::labels::row(sides, k);
+    if sets::labels::disjoint(beside, sets::labels::row(rows, k)) {
+        named(rows, beside, k)
+    } else {
+        true
+    }
+}
+
+// Does a label clash?
+fn mixed(rows: &Rows, sides: &Rows) -> bool
+    ensures { λ r. ⌜ (r ≡ true) ↔ ((k : ℕ) × Clash (rowOf (now (rows .entry))) (rowOf (now (sides .entry))) k) ⌝ }
+{
+    let mut k: u8 = 0;
+    while k < 64 {
+        if clash(rows, sides, k) {
+            return true;
+        }
+        k += 1;
+    }
+    false
+}
+
+// The number of the first of rows 8, 9 and 10 that holds, or 0.
+pub fn label_number(found: Found, rows: &Rows, sides: &Rows) -> u8
+    ensures { λ r. ⌜ ((p : Statement) → Labelled p found (now (rows .entry)) (now (sides .entry)) → r ≡ numberBy p) ⌝ }
+{
+    if found.distinct {
+        if sets::labels::subset(found.setpauses, found.pauses) {
+            if sets::labels::is_empty(found.setpauses) {
+                return 0;
+            }
+            if mixed(rows, sides) { 10 } else { 0 }
+        } else {
+            9
+        }
+    } else {
+        8
+    }
+}
