@@ -1,3 +1,5 @@
 pub mod Limits
 pub mod Commands
 pub mod Reader
+pub mod Answers
+pub mod Writer

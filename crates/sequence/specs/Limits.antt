@@ -1,13 +1,6 @@
--- The widths and limits of 01, 'Commands', each named once.
+-- The widths and limits of 01, 'Commands', each named once. The counts of labels and of signals are those of crates/sets.
 use Prim.Native.Nat.{ℕ}
-
--- labels are 0 to 63
-abbrev pub labelCount : ℕ
-labelCount = 64
-
--- signals are 0 to 31
-abbrev pub signalCount : ℕ
-signalCount = 32
+pub use Rattle.sets.specs.Sets.{labelCount, signalCount}
 
 -- exits are 1 to 15
 abbrev pub maxExit : ℕ

@@ -1,1 +1,3 @@
-// Sequences of commands as bytes: the reader.
+// Sequences of commands as bytes: the table of commands and the reader.
+mod commands;
+pub mod reader;

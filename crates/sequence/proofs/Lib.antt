@@ -1,0 +1,4 @@
+pub mod Table
+pub mod Front
+pub mod Parts
+pub mod Writer

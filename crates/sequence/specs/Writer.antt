@@ -1,0 +1,72 @@
+-- The writer (01, 'Commands'): the bytes of a statement, 01's limits on it, and places that are the offsets of its commands.
+use Prim.Native.Nat.{ℕ, _+_, _≤_, _<_, max}
+use mathlib.Core.Path.{_≡_}
+use mathlib.Core.List.{List, [], _∷_, _++_}
+use lib.ListN.{length}
+use Rattle.esterel.specs.Statement.{Statement, nothing, pause, emit, exit, seq, par, loop, present, signal, try, setpause}
+use Rattle.sequence.specs.Limits.{labelCount, signalCount, maxExit}
+use Rattle.sequence.specs.Reader.{nesting}
+
+unfoldable pub bytesOf : Statement → List ℕ
+bytesOf nothing = 0 ∷ []
+bytesOf (pause l) = 1 ∷ l ∷ []
+bytesOf (emit s) = 2 ∷ s ∷ []
+bytesOf (exit n) = 3 ∷ n ∷ []
+bytesOf (seq p q) = 4 ∷ bytesOf p ++ bytesOf q
+bytesOf (par p q) = 5 ∷ bytesOf p ++ bytesOf q
+bytesOf (loop a p) = 6 ∷ bytesOf p
+bytesOf (present s p q) = 7 ∷ s ∷ bytesOf p ++ bytesOf q
+bytesOf (signal a s p) = 8 ∷ s ∷ bytesOf p
+bytesOf (try p) = 9 ∷ bytesOf p
+bytesOf (setpause l) = 10 ∷ l ∷ []
+
+-- the bytes of a statement, counted
+abbrev pub size : Statement → ℕ
+size p = length (bytesOf p)
+
+-- the greatest depth of a command; the outermost has depth 1
+unfoldable pub depthOf : Statement → ℕ
+depthOf nothing = 1
+depthOf (pause l) = 1
+depthOf (emit s) = 1
+depthOf (exit n) = 1
+depthOf (seq p q) = 1 + max (depthOf p) (depthOf q)
+depthOf (par p q) = 1 + max (depthOf p) (depthOf q)
+depthOf (loop a p) = 1 + depthOf p
+depthOf (present s p q) = 1 + max (depthOf p) (depthOf q)
+depthOf (signal a s p) = 1 + depthOf p
+depthOf (try p) = 1 + depthOf p
+depthOf (setpause l) = 1
+
+-- signals are 0 to 31, labels 0 to 63, exits 1 to 15
+abbrev pub Ranged : Statement → Type 0
+Ranged nothing = Unit {0}
+Ranged (pause l) = l < labelCount
+Ranged (emit s) = s < signalCount
+Ranged (exit n) = (1 ≤ n) × (n ≤ maxExit)
+Ranged (seq p q) = Ranged p × Ranged q
+Ranged (par p q) = Ranged p × Ranged q
+Ranged (loop a p) = Ranged p
+Ranged (present s p q) = (s < signalCount) × Ranged p × Ranged q
+Ranged (signal a s p) = (s < signalCount) × Ranged p
+Ranged (try p) = Ranged p
+Ranged (setpause l) = l < labelCount
+
+pub record Within (depth signals : ℕ) (p : Statement) : Type 0 where
+  pub deep : depthOf p ≤ depth
+  pub nested : nesting p ≤ signals
+  pub ranged : Ranged p
+
+-- the command of p stands at offset a: each loop and signal in it carries the offset of its own command
+abbrev pub PlacedAt : ℕ → Statement → Type 0
+PlacedAt a nothing = Unit {0}
+PlacedAt a (pause l) = Unit {0}
+PlacedAt a (emit s) = Unit {0}
+PlacedAt a (exit n) = Unit {0}
+PlacedAt a (seq p q) = PlacedAt (a + 1) p × PlacedAt (a + (1 + size p)) q
+PlacedAt a (par p q) = PlacedAt (a + 1) p × PlacedAt (a + (1 + size p)) q
+PlacedAt a (loop b p) = (b ≡ a) × PlacedAt (a + 1) p
+PlacedAt a (present s p q) = PlacedAt (a + 2) p × PlacedAt (a + (2 + size p)) q
+PlacedAt a (signal b s p) = (b ≡ a) × PlacedAt (a + 2) p
+PlacedAt a (try p) = PlacedAt (a + 1) p
+PlacedAt a (setpause l) = Unit {0}
