@@ -14,19 +14,22 @@ use Rattle.sequence.specs.Commands.{Command, commandOf, operandCount, pa
 use Rattle.sequence.specs.Reader.{Front, command, bad, withOperand, withCommand, front}
 use Rattle.sequence.specs.Answers.{counted, allowed, declaredBy, headBy, headOf}
 
--- a command with an operand has one
-pub one-operand : (c : Command) → (operandCount c ≡ 0 → ⊥) → operandCount c ≡ 1
-one-operand Command.nothing n = absurd (n refl)
-one-operand Command.pause n = refl
-one-operand Command.emit n = refl
-one-operand Command.exit n = refl
-one-operand Command.seq n = absurd (n refl)
-one-operand Command.par n = absurd (n refl)
-one-operand Command.loop n = absurd (n refl)
-one-operand Command.present n = refl
-one-operand Command.signal n = refl
-one-operand Command.try n = absurd (n refl)
-one-operand Command.setpause n = refl
+-- a command has at most one operand
+pub at-most-one : (c : Command) → operandCount c ≤ 1
+at-most-one Command.nothing = omega arith
+at-most-one Command.pause = omega arith
+at-most-one Command.emit = omega arith
+at-most-one Command.exit = omega arith
+at-most-one Command.seq = omega arith
+at-most-one Command.par = omega arith
+at-most-one Command.loop = omega arith
+at-most-one Command.present = omega arith
+at-most-one Command.signal = omega arith
+at-most-one Command.try = omega arith
+at-most-one Command.setpause = omega arith
+
+one-operand : (c : Command) → (operandCount c ≡ 0 → ⊥) → operandCount c ≡ 1
+one-operand c n = omega (arith, at-most-one c, n)
 
 -- ---- by the count of parts n of what a byte names
 pub whole-is : (o : Option Command) (w : ℕ) {n d : ℕ} → Of n ≡ counted partCount o → d ≡ declaredBy o → Whole w n d ≡ headBy w o

@@ -15,7 +15,7 @@ use Rattle.sequence.specs.Limits.{maxDepth, maxSignals}
 use Rattle.sequence.specs.Commands.{Command, commandOf, operandCount, partCount, inRange, width, declares, build}
 use Rattle.sequence.specs.Reader.{Read, accepted, refused, Front, command, bad, withOperand, withCommand, front, lastPart, firstPart, readParts, tooDeep, readCommand, read, nesting}
 use Rattle.sequence.specs.Writer.{bytesOf, size, depthOf, Ranged, Within, PlacedAt}
-use Rattle.sequence.proofs.Front.{one-operand}
+use Rattle.sequence.proofs.Front.{at-most-one}
 use Rattle.sequence.proofs.Table.{every, above}
 
 -- what is known of the bytes, the statement and the count of an accepted read
@@ -27,7 +27,7 @@ pub record Accepts (depth signals a : ℕ) (bs : List ℕ) (p : Statement) (n : 
   pub placed : PlacedAt a p
 
 -- ---- a command and its operand
-abbrev byteOf : Command → ℕ
+abbrev pub byteOf : Command → ℕ
 byteOf Command.nothing = 0
 byteOf Command.pause = 1
 byteOf Command.emit = 2
@@ -40,12 +40,12 @@ byteOf Command.signal = 8
 byteOf Command.try = 9
 byteOf Command.setpause = 10
 
-abbrev operandBytes : ℕ → ℕ → List ℕ
+abbrev pub operandBytes : ℕ → ℕ → List ℕ
 operandBytes zero x = []
 operandBytes (suc n) x = x ∷ []
 
 -- the bytes of a command and its operand, before t
-abbrev coded : Command → ℕ → List ℕ → List ℕ
+abbrev pub coded : Command → ℕ → List ℕ → List ℕ
 coded c x t = byteOf c ∷ operandBytes (operandCount c) x ++ t
 
 byte-is : (b : ℕ) (c : Command) → commandOf b ≡ some c → b ≡ byteOf c
@@ -62,6 +62,14 @@ pub record Fronts (bs : List ℕ) (c : Command) (x : ℕ) : Type 0 where
   pub behind : List ℕ
   pub are : bs ≡ coded c x behind
   pub inside : inRange c x ≡ true
+
+pub coded-length : (c : Command) (x : ℕ) (t : List ℕ) → length (coded c x t) ≡ width c + length t
+coded-length c x t = go (operandCount c) (at-most-one c)
+  where
+    go : (m : ℕ) → m ≤ 1 → suc (length (operandBytes m x ++ t)) ≡ 1 + m + length t
+    go zero l = omega arith
+    go (suc zero) l = omega arith
+    go (suc (suc m)) l = absurd (omega arith)
 
 moved : {bs : List ℕ} {c k : Command} {x y : ℕ} → command k y ≡ command c x → Fronts bs k y → Fronts bs c x
 moved {bs} {c} {k} {x} {y} e f =
@@ -93,7 +101,7 @@ operand k c x (suc n) (y ∷ t) z e = go (inRange k y) refl e
     go true i e = moved e (record { behind = t; are = rw z; inside = i })
     go false i e = absurd (let y : _≡_ {A = ℕ} 0 1 = cc in omega arith)
 
-fronts : (bs : List ℕ) (c : Command) (x : ℕ) → front bs ≡ command c x → Fronts bs c x
+pub fronts : (bs : List ℕ) (c : Command) (x : ℕ) → front bs ≡ command c x → Fronts bs c x
 unfolding front
 fronts [] c x e = absurd (let y : _≡_ {A = ℕ} 0 1 = cc in omega arith)
 fronts (b ∷ t) c x e = go (commandOf b) refl e

@@ -1,328 +1,178 @@
+use mathlib.Core.Path.{_≡_, sym, _∙_}
 use Prim.Native.Nat.{ℕ, _<_}
+use native.Mathlib.Omega.{arith}
+use borrow.Author.Needs.{needs}
 use borrow.Fn.Kinds.{In}
 use borrow.Fn.PlainCycle.{Measures, is, falls, and}
+use Rattle.sequence.proofs.Reading.{bad-front, no-level, no-signal, no-part, one-part, two-refused, two-parts, front-fits, first-fits, second-fits, behind-first, nested-first}
 use Rattle.sequence.proofs.reader.measure.Reads as measure
 use Rattle.sequence.proofs.reader.measure.Kinds as measure-kinds
-use Rattle.sequence.proofs.reader.+measure.Lts-measure as measure-lts
+use Rattle.sequence.proofs.reader.+measure.Lts-measure as lts
 use Rattle.sequence.proofs.reader.around.Reads as around-reads
 use Rattle.sequence.proofs.reader.front.Reads as front-reads
 use Rattle.sequence.proofs.reader.rest.Reads as rest-reads
 use Rattle.sequence.proofs.reader.+measure.{statement}
 use Rattle.sequence.proofs.reader.+measure.Tie.{close}
 
+-- the depth still allowed falls at each part
 abbrev μ-measure : Measures 1 measure-kinds.ps ℕ
-μ-measure κs a = ?
+μ-measure κs a = a .1 .0
 
-abbrev measure-at : ℕ → In 1 measure-kinds.ps
-measure-at t = and 1 measure-kinds.ps (is 1 measure-kinds.ps μ-measure t) measure.Pre
+abbrev asked : ℕ → In 1 measure-kinds.ps
+asked t = and 1 measure-kinds.ps (is 1 measure-kinds.ps μ-measure t) measure.Pre
 
-abbrev measure-below : ℕ → In 1 measure-kinds.ps
-measure-below t = and 1 measure-kinds.ps (falls 1 measure-kinds.ps _<_ μ-measure t) measure.Pre
+abbrev below : ℕ → In 1 measure-kinds.ps
+below t = and 1 measure-kinds.ps (falls 1 measure-kinds.ps _<_ μ-measure t) measure.Pre
 
--- src/reader.rt:89:11
-measure-front-requires : (t : ℕ) → measure-lts.Need-front-requires (
-  front-reads.Asked,
-  front-reads.Learnt,
-  rest-reads.Asked,
-  rest-reads.Learnt,
-  measure-below t,
-  measure.Post,
-  around-reads.Asked,
-  around-reads.Learnt,
-) (measure-at t) measure.Post
-measure-front-requires t c κs = ?
+abbrev claims : ℕ → lts.Claims
+claims t = (front-reads.Asked, front-reads.Learnt, rest-reads.Asked, rest-reads.Learnt, below t, measure.Post, around-reads.Asked, around-reads.Learnt)
 
--- src/reader.rt:90:19
-measure-enum-known-e : (t : ℕ) → measure-lts.Need-enum-known-e (
-  front-reads.Asked,
-  front-reads.Learnt,
-  rest-reads.Asked,
-  rest-reads.Learnt,
-  measure-below t,
-  measure.Post,
-  around-reads.Asked,
-  around-reads.Learnt,
-) (measure-at t) measure.Post
-measure-enum-known-e t c = ?
+front-requires : (t : ℕ) → lts.Need-front-requires (claims t) (asked t) measure.Post
+front-requires t c κs = search needs
 
--- src/reader.rt:91:21
-measure-enum-known-width : (t : ℕ) → measure-lts.Need-enum-known-width (
-  front-reads.Asked,
-  front-reads.Learnt,
-  rest-reads.Asked,
-  rest-reads.Learnt,
-  measure-below t,
-  measure.Post,
-  around-reads.Asked,
-  around-reads.Learnt,
-) (measure-at t) measure.Post
-measure-enum-known-width t c = ?
+enum-known-e : (t : ℕ) → lts.Need-enum-known-e (claims t) (asked t) measure.Post
+enum-known-e t c = search needs
 
--- src/reader.rt:93:17
-measure-returns : (t : ℕ) → measure-lts.Need-returns (
-  front-reads.Asked,
-  front-reads.Learnt,
-  rest-reads.Asked,
-  rest-reads.Learnt,
-  measure-below t,
-  measure.Post,
-  around-reads.Asked,
-  around-reads.Learnt,
-) (measure-at t) measure.Post
-measure-returns t c = ?
+enum-known-width : (t : ℕ) → lts.Need-enum-known-width (claims t) (asked t) measure.Post
+enum-known-width t c = search needs
 
--- src/reader.rt:96:17
-measure-returns-2 : (t : ℕ) → measure-lts.Need-returns-2 (
-  front-reads.Asked,
-  front-reads.Learnt,
-  rest-reads.Asked,
-  rest-reads.Learnt,
-  measure-below t,
-  measure.Post,
-  around-reads.Asked,
-  around-reads.Learnt,
-) (measure-at t) measure.Post
-measure-returns-2 t c = ?
+returns : (t : ℕ) → lts.Need-returns (claims t) (asked t) measure.Post
+returns t c at =
+    let w = c .before .before in
+    let v = w .width .given .0 in
+    let i = w .before .before .before .before .args in
+    let h = sym (w .before .before .front .ensures) ∙ w .width .given .1 in
+    no-level (i .s .now) (v .0) (v .1 .0) (v .1 .1 .0) h (i .depth) (i .signals) at (c .if1 .taken)
 
--- src/reader.rt:99:17
-measure-returns-3 : (t : ℕ) → measure-lts.Need-returns-3 (
-  front-reads.Asked,
-  front-reads.Learnt,
-  rest-reads.Asked,
-  rest-reads.Learnt,
-  measure-below t,
-  measure.Post,
-  around-reads.Asked,
-  around-reads.Learnt,
-) (measure-at t) measure.Post
-measure-returns-3 t c = ?
+returns-2 : (t : ℕ) → lts.Need-returns-2 (claims t) (asked t) measure.Post
+returns-2 t c at =
+    let w = c .before .before .before in
+    let v = w .width .given .0 in
+    let i = w .before .before .before .before .args in
+    let h = sym (w .before .before .front .ensures) ∙ w .width .given .1 in
+    no-signal (i .s .now) (v .0) (v .1 .0) (v .1 .1 .0) h (i .depth) (i .signals) at (c .before .if1 .left) (c .if2 .taken)
 
--- src/reader.rt:101:33
-measure-rest-requires : (t : ℕ) → measure-lts.Need-rest-requires (
-  front-reads.Asked,
-  front-reads.Learnt,
-  rest-reads.Asked,
-  rest-reads.Learnt,
-  measure-below t,
-  measure.Post,
-  around-reads.Asked,
-  around-reads.Learnt,
-) (measure-at t) measure.Post
-measure-rest-requires t c κs = ?
+returns-3 : (t : ℕ) → lts.Need-returns-3 (claims t) (asked t) measure.Post
+returns-3 t c at =
+    let w = c .before .before .before .before in
+    let v = w .width .given .0 in
+    let i = w .before .before .before .before .args in
+    let h = sym (w .before .before .front .ensures) ∙ w .width .given .1 in
+    no-part (i .s .now) (v .0) (v .1 .0) (v .1 .1 .0) h (i .depth) (i .signals) (c .before .before .if1 .left) (c .before .if2 .left) at (c .if3 .taken)
 
--- src/reader.rt:101:49
-measure-sub-measure : (t : ℕ) → measure-lts.Need-sub-measure (
-  front-reads.Asked,
-  front-reads.Learnt,
-  rest-reads.Asked,
-  rest-reads.Learnt,
-  measure-below t,
-  measure.Post,
-  around-reads.Asked,
-  around-reads.Learnt,
-) (measure-at t) measure.Post
-measure-sub-measure t c = ?
+rest-requires : (t : ℕ) → lts.Need-rest-requires (claims t) (asked t) measure.Post
+rest-requires t c κs =
+    let w = c .before .before .before .before in
+    let v = w .width .given .0 in
+    let i = w .before .before .before .before .args in
+    let h = sym (w .before .before .front .ensures) ∙ w .width .given .1 in
+    front-fits (i .s .now) (v .0) (v .1 .0) (v .1 .1 .0) h
 
--- src/reader.rt:101:17
-measure-measure-requires : (t : ℕ) → measure-lts.Need-measure-requires (
-  front-reads.Asked,
-  front-reads.Learnt,
-  rest-reads.Asked,
-  rest-reads.Learnt,
-  measure-below t,
-  measure.Post,
-  around-reads.Asked,
-  around-reads.Learnt,
-) (measure-at t) measure.Post
-measure-measure-requires t c κs = ?
+sub-measure : (t : ℕ) → lts.Need-sub-measure (claims t) (asked t) measure.Post
+sub-measure t c = search needs
 
--- src/reader.rt:103:17
-measure-around-requires : (t : ℕ) → measure-lts.Need-around-requires (
-  front-reads.Asked,
-  front-reads.Learnt,
-  rest-reads.Asked,
-  rest-reads.Learnt,
-  measure-below t,
-  measure.Post,
-  around-reads.Asked,
-  around-reads.Learnt,
-) (measure-at t) measure.Post
-measure-around-requires t c κs = ?
+measure-requires : (t : ℕ) → lts.Need-measure-requires (claims t) (asked t) measure.Post
+measure-requires t c κs = search needs
 
--- src/reader.rt:103:17
-measure-returns-4 : (t : ℕ) → measure-lts.Need-returns-4 (
-  front-reads.Asked,
-  front-reads.Learnt,
-  rest-reads.Asked,
-  rest-reads.Learnt,
-  measure-below t,
-  measure.Post,
-  around-reads.Asked,
-  around-reads.Learnt,
-) (measure-at t) measure.Post
-measure-returns-4 t c = ?
+around-requires : (t : ℕ) → lts.Need-around-requires (claims t) (asked t) measure.Post
+around-requires t c κs =
+    let w = c .before .before .before .before .before .before .before in
+    let v = w .width .given .0 in
+    let i = w .before .before .before .before .args in
+    let h = sym (w .before .before .front .ensures) ∙ w .width .given .1 in
+    let f = first-fits (i .s .now) (v .0) (v .1 .0) (v .1 .1 .0) h (i .depth) (i .signals) (c .before .before .before .before .before .if1 .left) (c .before .before .before .before .if2 .left) _ _ (c .before .before .rest .ensures) (c .before .measure .ensures) in
+    (omega (arith, f .bytes, front-fits (i .s .now) (v .0) (v .1 .0) (v .1 .1 .0) h), (omega arith, omega (arith, f .signals, c .before .before .before .before .if2 .left)))
 
--- src/reader.rt:106:35
-measure-enum-known-first : (t : ℕ) → measure-lts.Need-enum-known-first (
-  front-reads.Asked,
-  front-reads.Learnt,
-  rest-reads.Asked,
-  rest-reads.Learnt,
-  measure-below t,
-  measure.Post,
-  around-reads.Asked,
-  around-reads.Learnt,
-) (measure-at t) measure.Post
-measure-enum-known-first t c = ?
+returns-4 : (t : ℕ) → lts.Need-returns-4 (claims t) (asked t) measure.Post
+returns-4 t c at =
+    let w = c .before .before .before .before .before .before .before .before in
+    let v = w .width .given .0 in
+    let i = w .before .before .before .before .args in
+    let h = sym (w .before .before .front .ensures) ∙ w .width .given .1 in
+    one-part (i .s .now) (v .0) (v .1 .0) (v .1 .1 .0) h (i .depth) (i .signals) (c .before .before .before .before .before .before .if1 .left) (c .before .before .before .before .before .if2 .left) _ _ (c .before .before .before .rest .ensures) (c .before .before .measure .ensures) at _ (c .before .if4 .taken) (c .around .ensures)
 
--- src/reader.rt:107:34
-measure-enum-known-first-2 : (t : ℕ) → measure-lts.Need-enum-known-first-2 (
-  front-reads.Asked,
-  front-reads.Learnt,
-  rest-reads.Asked,
-  rest-reads.Learnt,
-  measure-below t,
-  measure.Post,
-  around-reads.Asked,
-  around-reads.Learnt,
-) (measure-at t) measure.Post
-measure-enum-known-first-2 t c = ?
+enum-known-first : (t : ℕ) → lts.Need-enum-known-first (claims t) (asked t) measure.Post
+enum-known-first t c = search needs
 
--- src/reader.rt:108:29
-measure-add-n : (t : ℕ) → measure-lts.Need-add-n (
-  front-reads.Asked,
-  front-reads.Learnt,
-  rest-reads.Asked,
-  rest-reads.Learnt,
-  measure-below t,
-  measure.Post,
-  around-reads.Asked,
-  around-reads.Learnt,
-) (measure-at t) measure.Post
-measure-add-n t c = ?
+enum-known-first-2 : (t : ℕ) → lts.Need-enum-known-first-2 (claims t) (asked t) measure.Post
+enum-known-first-2 t c = search needs
 
--- src/reader.rt:113:33
-measure-rest-requires-2 : (t : ℕ) → measure-lts.Need-rest-requires-2 (
-  front-reads.Asked,
-  front-reads.Learnt,
-  rest-reads.Asked,
-  rest-reads.Learnt,
-  measure-below t,
-  measure.Post,
-  around-reads.Asked,
-  around-reads.Learnt,
-) (measure-at t) measure.Post
-measure-rest-requires-2 t c κs = ?
+add-n : (t : ℕ) → lts.Need-add-n (claims t) (asked t) measure.Post
+add-n t c =
+    let w = c .before .before .before .before .before .before .before .before .before .before in
+    let v = w .width .given .0 in
+    let i = w .before .before .before .before .args in
+    let h = sym (w .before .before .front .ensures) ∙ w .width .given .1 in
+    let q = c .before .first2 .given in
+    omega (arith, behind-first (i .s .now) (v .0) (v .1 .0) (v .1 .1 .0) h (i .depth) (i .signals) (c .before .before .before .before .before .before .before .before .if1 .left) (c .before .before .before .before .before .before .before .if2 .left) _ _ (c .before .before .before .before .before .rest .ensures) (c .before .before .before .before .measure .ensures) (q .0 .0) (q .0 .1 .0) (q .1))
 
--- src/reader.rt:113:45
-measure-sub-measure-2 : (t : ℕ) → measure-lts.Need-sub-measure-2 (
-  front-reads.Asked,
-  front-reads.Learnt,
-  rest-reads.Asked,
-  rest-reads.Learnt,
-  measure-below t,
-  measure.Post,
-  around-reads.Asked,
-  around-reads.Learnt,
-) (measure-at t) measure.Post
-measure-sub-measure-2 t c = ?
+rest-requires-2 : (t : ℕ) → lts.Need-rest-requires-2 (claims t) (asked t) measure.Post
+rest-requires-2 t c κs =
+    let w = c .before .before .before .before .before .before .before .before .before .before in
+    let v = w .width .given .0 in
+    let i = w .before .before .before .before .args in
+    let h = sym (w .before .before .front .ensures) ∙ w .width .given .1 in
+    let q = c .before .first2 .given in
+    behind-first (i .s .now) (v .0) (v .1 .0) (v .1 .1 .0) h (i .depth) (i .signals) (c .before .before .before .before .before .before .before .before .if1 .left) (c .before .before .before .before .before .before .before .if2 .left) _ _ (c .before .before .before .before .before .rest .ensures) (c .before .before .before .before .measure .ensures) (q .0 .0) (q .0 .1 .0) (q .1)
 
--- src/reader.rt:113:25
-measure-measure-requires-2 : (t : ℕ) → measure-lts.Need-measure-requires-2 (
-  front-reads.Asked,
-  front-reads.Learnt,
-  rest-reads.Asked,
-  rest-reads.Learnt,
-  measure-below t,
-  measure.Post,
-  around-reads.Asked,
-  around-reads.Learnt,
-) (measure-at t) measure.Post
-measure-measure-requires-2 t c κs = ?
+sub-measure-2 : (t : ℕ) → lts.Need-sub-measure-2 (claims t) (asked t) measure.Post
+sub-measure-2 t c = search needs
 
--- src/reader.rt:109:21
-measure-around-requires-2 : (t : ℕ) → measure-lts.Need-around-requires-2 (
-  front-reads.Asked,
-  front-reads.Learnt,
-  rest-reads.Asked,
-  rest-reads.Learnt,
-  measure-below t,
-  measure.Post,
-  around-reads.Asked,
-  around-reads.Learnt,
-) (measure-at t) measure.Post
-measure-around-requires-2 t c κs = ?
+measure-requires-2 : (t : ℕ) → lts.Need-measure-requires-2 (claims t) (asked t) measure.Post
+measure-requires-2 t c κs = search needs
 
--- src/reader.rt:86:1
-measure-returns-5 : (t : ℕ) → measure-lts.Need-returns-5 (
-  front-reads.Asked,
-  front-reads.Learnt,
-  rest-reads.Asked,
-  rest-reads.Learnt,
-  measure-below t,
-  measure.Post,
-  around-reads.Asked,
-  around-reads.Learnt,
-) (measure-at t) measure.Post
-measure-returns-5 t c = ?
+around-requires-2 : (t : ℕ) → lts.Need-around-requires-2 (claims t) (asked t) measure.Post
+around-requires-2 t c κs =
+    let w = c .before .before .before .before .before .before .before .before .before .before .before .before in
+    let v = w .width .given .0 in
+    let i = w .before .before .before .before .args in
+    let h = sym (w .before .before .front .ensures) ∙ w .width .given .1 in
+    let q = c .before .before .before .first2 .given in
+    let b = behind-first (i .s .now) (v .0) (v .1 .0) (v .1 .1 .0) h (i .depth) (i .signals) (c .before .before .before .before .before .before .before .before .before .before .if1 .left) (c .before .before .before .before .before .before .before .before .before .if2 .left) _ _ (c .before .before .before .before .before .before .before .rest .ensures) (c .before .before .before .before .before .before .measure .ensures) (q .0 .0) (q .0 .1 .0) (q .1) in
+    let n = nested-first (i .s .now) (v .0) (v .1 .0) (v .1 .1 .0) h (i .depth) (i .signals) (c .before .before .before .before .before .before .before .before .before .before .if1 .left) (c .before .before .before .before .before .before .before .before .before .if2 .left) _ _ (c .before .before .before .before .before .before .before .rest .ensures) (c .before .before .before .before .before .before .measure .ensures) (q .0 .0) (q .0 .1 .0) (q .1) in
+    let f = second-fits (i .s .now) (v .0) (v .1 .0) (v .1 .1 .0) h (i .depth) (i .signals) (c .before .before .before .before .before .before .before .before .before .before .if1 .left) (c .before .before .before .before .before .before .before .before .before .if2 .left) _ _ (c .before .before .before .before .before .before .before .rest .ensures) (c .before .before .before .before .before .before .measure .ensures) (q .0 .0) (q .0 .1 .0) (q .1) _ _ (c .before .rest2 .ensures) (c .measure2 .ensures) in
+    (omega (arith, f .bytes, b), (omega (arith, n, c .before .before .before .before .before .before .before .before .before .if2 .left), omega (arith, f .signals, c .before .before .before .before .before .before .before .before .before .if2 .left)))
 
--- src/reader.rt:86:1
-measure-returns-6 : (t : ℕ) → measure-lts.Need-returns-6 (
-  front-reads.Asked,
-  front-reads.Learnt,
-  rest-reads.Asked,
-  rest-reads.Learnt,
-  measure-below t,
-  measure.Post,
-  around-reads.Asked,
-  around-reads.Learnt,
-) (measure-at t) measure.Post
-measure-returns-6 t c = ?
+returns-5 : (t : ℕ) → lts.Need-returns-5 (claims t) (asked t) measure.Post
+returns-5 t c at = bad-front _ _ at _ _ (sym (c .before .before .before .front .ensures) ∙ c .before .e .given .1)
 
--- src/reader.rt:86:1
-measure-returns-7 : (t : ℕ) → measure-lts.Need-returns-7 (
-  front-reads.Asked,
-  front-reads.Learnt,
-  rest-reads.Asked,
-  rest-reads.Learnt,
-  measure-below t,
-  measure.Post,
-  around-reads.Asked,
-  around-reads.Learnt,
-) (measure-at t) measure.Post
-measure-returns-7 t c = ?
+returns-6 : (t : ℕ) → lts.Need-returns-6 (claims t) (asked t) measure.Post
+returns-6 t c at =
+    let w = c .before .before .before .before .before .before .before .before .before .before in
+    let v = w .width .given .0 in
+    let i = w .before .before .before .before .args in
+    let h = sym (w .before .before .front .ensures) ∙ w .width .given .1 in
+    two-refused (i .s .now) (v .0) (v .1 .0) (v .1 .1 .0) h (i .depth) (i .signals) (c .before .before .before .before .before .before .before .before .if1 .left) (c .before .before .before .before .before .before .before .if2 .left) _ _ (c .before .before .before .before .before .rest .ensures) (c .before .before .before .before .measure .ensures) at _ (c .before .before .before .before .before .before .if3 .left) (c .before .before .before .if4 .left) (c .before .first .given .1)
+
+returns-7 : (t : ℕ) → lts.Need-returns-7 (claims t) (asked t) measure.Post
+returns-7 t c at =
+    let w = c .before .before .before .before .before .before .before .before .before .before .before .before .before in
+    let v = w .width .given .0 in
+    let i = w .before .before .before .before .args in
+    let h = sym (w .before .before .front .ensures) ∙ w .width .given .1 in
+    let q = c .before .before .before .before .first2 .given in
+    two-parts (i .s .now) (v .0) (v .1 .0) (v .1 .1 .0) h (i .depth) (i .signals) (c .before .before .before .before .before .before .before .before .before .before .before .if1 .left) (c .before .before .before .before .before .before .before .before .before .before .if2 .left) _ _ (c .before .before .before .before .before .before .before .before .rest .ensures) (c .before .before .before .before .before .before .before .measure .ensures) (q .0 .0) (q .0 .1 .0) (q .1) _ _ (c .before .before .rest2 .ensures) (c .before .measure2 .ensures) at _ (c .before .before .before .before .before .before .before .before .before .if3 .left) (c .before .before .before .before .before .before .if4 .left) (c .around2 .ensures)
 
 pub +measure-spec : {M : Type 1} → statement M
-+measure-spec = close μ-measure λ t. measure-lts.spec (
-  front-reads.Asked,
-  front-reads.Learnt,
-  rest-reads.Asked,
-  rest-reads.Learnt,
-  measure-below t,
-  measure.Post,
-  around-reads.Asked,
-  around-reads.Learnt,
-)
-    (measure-at t)
-    measure.Post
-    (measure-front-requires t)
-    (measure-enum-known-e t)
-    (measure-enum-known-width t)
-    (measure-returns t)
-    (measure-returns-2 t)
-    (measure-returns-3 t)
-    (measure-rest-requires t)
-    (measure-sub-measure t)
-    (measure-measure-requires t)
-    (measure-around-requires t)
-    (measure-returns-4 t)
-    (measure-enum-known-first t)
-    (measure-enum-known-first-2 t)
-    (measure-add-n t)
-    (measure-rest-requires-2 t)
-    (measure-sub-measure-2 t)
-    (measure-measure-requires-2 t)
-    (measure-around-requires-2 t)
-    (measure-returns-5 t)
-    (measure-returns-6 t)
-    (measure-returns-7 t)
++measure-spec = close μ-measure λ t. lts.spec (claims t) (asked t) measure.Post
+    (front-requires t)
+    (enum-known-e t)
+    (enum-known-width t)
+    (returns t)
+    (returns-2 t)
+    (returns-3 t)
+    (rest-requires t)
+    (sub-measure t)
+    (measure-requires t)
+    (around-requires t)
+    (returns-4 t)
+    (enum-known-first t)
+    (enum-known-first-2 t)
+    (add-n t)
+    (rest-requires-2 t)
+    (sub-measure-2 t)
+    (measure-requires-2 t)
+    (around-requires-2 t)
+    (returns-5 t)
+    (returns-6 t)
+    (returns-7 t)
