@@ -1,5 +1,10 @@
 pub mod Table
 pub mod Front
 pub mod Parts
+pub mod Coded
+pub mod Shapes
+pub mod Sound
+pub mod Complete
 pub mod Writer
 pub mod Reading
+pub mod ReaderExamples

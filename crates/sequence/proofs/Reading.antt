@@ -17,7 +17,8 @@ use Rattle.sequence.specs.Commands.{Command, operandCount, partCount, wi
 use Rattle.sequence.specs.Reader.{Read, accepted, refused, Front, command, bad, front, lastPart, firstPart, readParts, tooDeep, readCommand, read, nesting}
 use Rattle.sequence.specs.Answers.{headOf, measured, extended, bytesIn, signalsIn}
 use Rattle.sequence.specs.Writer.{bytesOf}
-use Rattle.sequence.proofs.Writer.{coded-length, fronts, sound}
+use Rattle.sequence.proofs.Coded.{coded-length, fronts}
+use Rattle.sequence.proofs.Sound.{sound}
 
 -- ---- with a level left, and without
 read-level : (d g a : ℕ) (s : List ℕ) → (d ≡ 0 → ⊥) → read d g a s ≡ readCommand (read (d - 1)) g a s (front s)

@@ -52,16 +52,35 @@ pub unranged : (x b : ℕ) → (b ≡ 1 → ⊥) → (b ≡ 2 → ⊥) → (b �
     → true ≡ allowed (commandOf b) x
 unfolding commandOf
 unranged x =
-    every (λ (b : ℕ). (b ≡ 1 → ⊥) → (b ≡ 2 → ⊥) → (b ≡ 3 → ⊥) → (b ≡ 7 → ⊥) → (b ≡ 8 → ⊥) → (b ≡ 10 → ⊥) → true ≡ allowed (commandOf b) x)
-    ((λ n1 n2 n3 n7 n8 n10. refl),
-    ((λ n1 n2 n3 n7 n8 n10. absurd (n1 refl)),
-    ((λ n1 n2 n3 n7 n8 n10. absurd (n2 refl)),
-    ((λ n1 n2 n3 n7 n8 n10. absurd (n3 refl)),
-    ((λ n1 n2 n3 n7 n8 n10. refl),
-    ((λ n1 n2 n3 n7 n8 n10. refl),
-    ((λ n1 n2 n3 n7 n8 n10. refl),
-    ((λ n1 n2 n3 n7 n8 n10. absurd (n7 refl)),
-    ((λ n1 n2 n3 n7 n8 n10. absurd (n8 refl)),
-    ((λ n1 n2 n3 n7 n8 n10. refl),
-    ((λ n1 n2 n3 n7 n8 n10. absurd (n10 refl)), tt)))))))))))
+    every (λ (b : ℕ). (b ≡ 1 → ⊥) → (b ≡ 2 → ⊥) → (b ≡ 3 → ⊥) → (b ≡ 7 → ⊥) → (b ≡ 8 → ⊥) → (b ≡ 10 → ⊥) → true ≡ allowed (commandOf b) x) (
+      (λ n1 n2 n3 n7 n8 n10. refl),
+      (
+        (λ n1 n2 n3 n7 n8 n10. absurd (n1 refl)),
+        (
+          (λ n1 n2 n3 n7 n8 n10. absurd (n2 refl)),
+          (
+            (λ n1 n2 n3 n7 n8 n10. absurd (n3 refl)),
+            (
+              (λ n1 n2 n3 n7 n8 n10. refl),
+              (
+                (λ n1 n2 n3 n7 n8 n10. refl),
+                (
+                  (λ n1 n2 n3 n7 n8 n10. refl),
+                  (
+                    (λ n1 n2 n3 n7 n8 n10. absurd (n7 refl)),
+                    (
+                      (λ n1 n2 n3 n7 n8 n10. absurd (n8 refl)),
+                      (
+                        (λ n1 n2 n3 n7 n8 n10. refl),
+                        ((λ n1 n2 n3 n7 n8 n10. absurd (n10 refl)), tt),
+                      ),
+                    ),
+                  ),
+                ),
+              ),
+            ),
+          ),
+        ),
+      ),
+    )
     (λ b h n1 n2 n3 n7 n8 n10. ap (λ (o : Option Command). allowed o x) (sym (above b h)))

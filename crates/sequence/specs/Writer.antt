@@ -70,3 +70,11 @@ PlacedAt a (present s p q) = PlacedAt (a + 2) p × PlacedAt (a + (2 + size p)) q
 PlacedAt a (signal b s p) = (b ≡ a) × PlacedAt (a + 2) p
 PlacedAt a (try p) = PlacedAt (a + 1) p
 PlacedAt a (setpause l) = Unit {0}
+
+-- the bytes begin with p, of n bytes, as the writer writes it at offset a within the limits
+pub record Written (depth signals a : ℕ) (bs : List ℕ) (p : Statement) (n : ℕ) : Type 0 where
+  pub rest : List ℕ
+  pub bytes : bs ≡ bytesOf p ++ rest
+  pub count : n ≡ size p
+  pub within : Within depth signals p
+  pub placed : PlacedAt a p

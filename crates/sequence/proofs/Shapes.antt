@@ -1,0 +1,54 @@
+-- The shapes of commands with parts: f stands at offset a, its own bytes are h, and what holds of it by that of its parts.
+use mathlib.Core.Path.{_≡_, refl}
+use mathlib.Core.Logic.{_↔_}
+use mathlib.Core.List.{List, [], _∷_, _++_}
+use Prim.Native.Nat.{ℕ, _+_, _<_, max}
+use native.Mathlib.Omega.{arith}
+use lib.ListN.{length}
+use Rattle.esterel.specs.Statement.{Statement, seq, par, loop, present, signal, try}
+use Rattle.sequence.specs.Reader.{nesting}
+use Rattle.sequence.specs.Writer.{bytesOf, size, depthOf, Ranged, PlacedAt}
+
+pub record One (h : List ℕ) (a declared : ℕ) (f : Statement → Statement) : Type 0 where
+  pub bytes : (p : Statement) → bytesOf (f p) ≡ h ++ bytesOf p
+  pub depth : (p : Statement) → depthOf (f p) ≡ 1 + depthOf p
+  pub signals : (p : Statement) → nesting (f p) ≡ declared + nesting p
+  pub ranged : (p : Statement) → Ranged p ↔ Ranged (f p)
+  pub placed : (p : Statement) → PlacedAt (a + length h) p ↔ PlacedAt a (f p)
+
+pub record Two (h : List ℕ) (a : ℕ) (f : Statement → Statement → Statement) : Type 0 where
+  pub bytes : (p q : Statement) → bytesOf (f p q) ≡ h ++ (bytesOf p ++ bytesOf q)
+  pub depth : (p q : Statement) → depthOf (f p q) ≡ 1 + max (depthOf p) (depthOf q)
+  pub signals : (p q : Statement) → nesting (f p q) ≡ max (nesting p) (nesting q)
+  pub ranged : (p q : Statement) → (Ranged p × Ranged q) ↔ Ranged (f p q)
+  pub placed : (p q : Statement) → (PlacedAt (a + length h) p × PlacedAt (a + (length h + size p)) q) ↔ PlacedAt a (f p q)
+
+pub loop-shape : (a : ℕ) → One (6 ∷ []) a 0 (loop a)
+unfolding bytesOf depthOf nesting
+loop-shape a =
+    record { bytes = λ p. refl; depth = λ p. refl; signals = λ p. omega arith; ranged = λ p. (λ r. r, λ r. r); placed = λ p. (λ s. (refl, s), λ s. s .1) }
+
+pub try-shape : (a : ℕ) → One (9 ∷ []) a 0 try
+unfolding bytesOf depthOf nesting
+try-shape a =
+    record { bytes = λ p. refl; depth = λ p. refl; signals = λ p. omega arith; ranged = λ p. (λ r. r, λ r. r); placed = λ p. (λ s. s, λ s. s) }
+
+pub signal-shape : (a x : ℕ) → x < 32 → One (8 ∷ x ∷ []) a 1 (signal a x)
+unfolding bytesOf depthOf nesting
+signal-shape a x i =
+    record { bytes = λ p. refl; depth = λ p. refl; signals = λ p. refl; ranged = λ p. (λ r. (i, r), λ r. r .1); placed = λ p. (λ s. (refl, s), λ s. s .1) }
+
+pub seq-shape : (a : ℕ) → Two (4 ∷ []) a seq
+unfolding bytesOf depthOf nesting
+seq-shape a =
+    record { bytes = λ p q. refl; depth = λ p q. refl; signals = λ p q. refl; ranged = λ p q. (λ r. r, λ r. r); placed = λ p q. (λ s. s, λ s. s) }
+
+pub par-shape : (a : ℕ) → Two (5 ∷ []) a par
+unfolding bytesOf depthOf nesting
+par-shape a =
+    record { bytes = λ p q. refl; depth = λ p q. refl; signals = λ p q. refl; ranged = λ p q. (λ r. r, λ r. r); placed = λ p q. (λ s. s, λ s. s) }
+
+pub present-shape : (a x : ℕ) → x < 32 → Two (7 ∷ x ∷ []) a (present x)
+unfolding bytesOf depthOf nesting
+present-shape a x i =
+    record { bytes = λ p q. refl; depth = λ p q. refl; signals = λ p q. refl; ranged = λ p q. (λ r. (i, r .0, r .1), λ r. (r .1, r .2)); placed = λ p q. (λ s. s, λ s. s) }
