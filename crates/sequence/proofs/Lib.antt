@@ -7,4 +7,5 @@ pub mod Sound
 pub mod Complete
 pub mod Writer
 pub mod Reading
+pub mod Opened
 pub mod ReaderExamples

@@ -54,6 +54,10 @@ signalsIn (Length m j) = j
 signalsIn (Refused number) = 0
 
 -- ---- what was read, made total
+abbrev pub Accepted : Read → Type 0
+Accepted (accepted p n) = Unit {0}
+Accepted (refused number) = ⊥
+
 abbrev pub statementOf : Read → Statement
 statementOf (accepted p n) = p
 statementOf (refused number) = nothing
