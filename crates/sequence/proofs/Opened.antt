@@ -12,7 +12,7 @@ use borrow.Author.Tests.{ltb-false}
 use Rattle.esterel.specs.Statement.{Statement, nothing}
 use Rattle.sequence.specs.Commands.{Command, commandOf, operandCount, partCount, inRange, width, declares, build}
 use Rattle.sequence.specs.Reader.{Read, accepted, refused, Front, command, bad, front, lastPart, firstPart, readParts, tooDeep, readCommand, read}
-use Rattle.sequence.specs.Answers.{Accepted, statementOf, countOf}
+use Rattle.sequence.specs.Accepted.{Accepted, statementOf, countOf}
 use Rattle.sequence.specs.Writer.{bytesOf, size, Within, Written}
 use Rattle.sequence.proofs.Coded.{byteOf, operandBytes, coded, coded-length, fronts}
 use Rattle.sequence.proofs.Sound.{sound}

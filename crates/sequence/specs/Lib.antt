@@ -1,5 +1,6 @@
 pub mod Limits
 pub mod Commands
 pub mod Reader
+pub mod Accepted
 pub mod Answers
 pub mod Writer
