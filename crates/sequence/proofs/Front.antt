@@ -1,17 +1,15 @@
 -- The command at the front of the bytes, in the order in which the code looks at it.
-use mathlib.Core.Path.{_≡_, refl, sym, ap, _∙_}
-use mathlib.Core.Bool.{Bool, true, false}
+use mathlib.Core.Path.{_≡_, refl, sym, ap}
+use mathlib.Core.Bool.{true, false}
 use mathlib.Core.Option.{Option, none, some}
 use mathlib.Core.List.{List, [], _∷_}
 use Prim.Native.Nat.{ℕ, zero, suc, _+_, _≤_, _<_}
 use native.Mathlib.Omega.{arith}
 use lib.ListN.{length, getD}
-use Rattle.sequence.specs.declared.commands.Count.{Count}
 use Rattle.sequence.specs.declared.commands.Count.the-variants.{Of, Absent}
-use Rattle.sequence.specs.declared.reader.Head.{Head}
 use Rattle.sequence.specs.declared.reader.Head.the-variants.{Whole, Bad}
-use Rattle.sequence.specs.Commands.{Command, commandOf, operandCount, partCount, inRange, declares}
-use Rattle.sequence.specs.Reader.{Front, command, bad, withOperand, withCommand, front}
+use Rattle.sequence.specs.Commands.{Command, commandOf, operandCount, partCount, declares}
+use Rattle.sequence.specs.Reader.{withOperand, withCommand, front}
 use Rattle.sequence.specs.Answers.{counted, allowed, declaredBy, headBy, headOf}
 
 -- a command has at most one operand

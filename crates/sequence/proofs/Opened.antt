@@ -1,8 +1,8 @@
 -- What an accepted read says of the command at the front and of its parts, as the code goes through the bytes.
 use mathlib.Core.Path.{_≡_, refl, sym, ap, _∙_}
 use mathlib.Core.Bool.{Bool, true, false, cond}
-use mathlib.Core.Option.{Option, none, some}
-use mathlib.Core.List.{List, [], _∷_, _++_}
+use mathlib.Core.Option.{some}
+use mathlib.Core.List.{List, _∷_, _++_}
 use Prim.Native.Nat.{ℕ, zero, suc, _+_, _-_, _≤_, _<_}
 use native.Mathlib.Omega.{arith}
 use lib.ListN.{length, getD, take, drop, length-drop, length-append, take-append-drop}
@@ -13,7 +13,7 @@ use Rattle.esterel.specs.Statement.{Statement, nothing}
 use Rattle.sequence.specs.Commands.{Command, commandOf, operandCount, partCount, inRange, width, declares, build}
 use Rattle.sequence.specs.Reader.{Read, accepted, refused, Front, command, bad, front, lastPart, firstPart, readParts, tooDeep, readCommand, read}
 use Rattle.sequence.specs.Accepted.{Accepted, statementOf, countOf}
-use Rattle.sequence.specs.Writer.{bytesOf, size, Within, Written}
+use Rattle.sequence.specs.Writer.{bytesOf, Written}
 use Rattle.sequence.proofs.Coded.{byteOf, operandBytes, coded, coded-length, fronts}
 use Rattle.sequence.proofs.Sound.{sound}
 use Rattle.sequence.proofs.Complete.{size-positive}

@@ -1,19 +1,16 @@
 -- Laws of the reader: what is measured depends on the head of the command alone, and lies within the bytes.
 use mathlib.Core.Path.{_≡_, refl, sym, ap, _∙_}
-use mathlib.Core.Bool.{Bool, true, false, cond}
-use mathlib.Core.List.{List, [], _∷_, _++_}
+use mathlib.Core.List.{List}
 use Prim.Native.Nat.{ℕ, zero, suc, _+_, _-_, _≤_, _<_, max}
 use native.Mathlib.Numerals.{sub-one}
 use native.Mathlib.Omega.{arith}
 use lib.ListN.{length, drop, length-drop, length-append}
-use lib.Dec.{ltb}
 use borrow.Author.Tests.{le-ltb, lt-ltb}
 use Rattle.esterel.specs.Statement.{Statement, nothing}
-use Rattle.sequence.specs.declared.reader.Head.{Head}
 use Rattle.sequence.specs.declared.reader.Head.the-variants.{Whole, Bad}
 use Rattle.sequence.specs.declared.reader.Measured.{Measured}
 use Rattle.sequence.specs.declared.reader.Measured.the-variants.{Length, Refused}
-use Rattle.sequence.specs.Commands.{Command, operandCount, partCount, width, declares, build}
+use Rattle.sequence.specs.Commands.{Command, partCount, width, declares}
 use Rattle.sequence.specs.Reader.{Read, accepted, refused, Front, command, bad, front, lastPart, firstPart, readParts, tooDeep, readCommand, read, nesting}
 use Rattle.sequence.specs.Answers.{headOf, measured, extended, bytesIn, signalsIn}
 use Rattle.sequence.specs.Writer.{bytesOf}
