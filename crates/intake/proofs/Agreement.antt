@@ -14,7 +14,7 @@ use Rattle.esterel.specs.States.{NoSetpause}
 use Rattle.esterel.specs.Expansion.{expand}
 use Rattle.esterel.specs.Machines.{State, stateAfter, Rewriting, byRewriting}
 use Rattle.esterel.proofs.Agreement.{TermOf, step}
-use Rattle.sequence.specs.Answers.{statementOf}
+use Rattle.sequence.specs.Accepted.{statementOf}
 use Rattle.sequence.specs.Check.{checkOf}
 use Rattle.sequence.proofs.Writer.{reads-what-is-written}
 use Rattle.intake.specs.Bytes.{leBytes}

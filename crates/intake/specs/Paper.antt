@@ -8,7 +8,7 @@ use lib.Dec.{eqb}
 use Rattle.esterel.specs.Machines.{Phase, fresh, waits, over, Seen, instant, refused, Rewriting, byRewriting}
 use Rattle.sequence.specs.Limits.{maxDepth, maxSignals}
 use Rattle.sequence.specs.Reader.{read}
-use Rattle.sequence.specs.Answers.{statementOf}
+use Rattle.sequence.specs.Accepted.{statementOf}
 use Rattle.intake.specs.Records.{answerLength, codeByte}
 
 -- a tick of a list: its input and its answer buffer

@@ -7,6 +7,7 @@ pub mod Sound
 pub mod Complete
 pub mod Writer
 pub mod Reading
+pub mod Opened
 pub mod ReaderExamples
 pub mod Accepted
 pub mod Walk
