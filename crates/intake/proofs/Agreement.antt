@@ -23,7 +23,7 @@ use Rattle.intake.specs.Tick.{Outcome, outcome, byState, tickOf}
 use Rattle.intake.specs.TickRows.{phaseIn}
 use Rattle.intake.specs.Paper.{Call, Report, turnedDown, phaseOf, reportOf, paperTick, paper, paperOf}
 use Rattle.intake.specs.Demands.{stateAfterwards, outcomes, cleared, report, Demand3}
-use Rattle.intake.proofs.Records.{Recorded, length-state, decode-encode, report-written}
+use Rattle.intake.proofs.RecordLaws.{Recorded, length-state, decode-encode, report-written}
 use Rattle.intake.proofs.Sequence.{Accepted, accepted, tick-at, tick-short, recorded-fresh, recorded-resumed, emits-fresh, emits-resumed}
 
 module _ (sequence : List ℕ) (a : Accepted sequence) (plain : NoSetpause (a .statement)) where

@@ -33,7 +33,7 @@ use Rattle.intake.specs.Paper.{Call, paper, paperOf}
 use Rattle.intake.specs.Demands.{number, stateAfterwards, outcomes, kindIn, placeIn, Admitted, Demand1, StandsAt, at-start, at-labels, Shows, Demand2, TickMeets, codeIn, Chain, done, call, Demand3, report, cleared}
 use Rattle.intake.proofs.Bounds.{Below, emitted-below, Exits, code-exits, ranged-expand}
 use Rattle.intake.proofs.ErrorPlaces.{PlacesBelow, placed-below, places-expand, errors-below}
-use Rattle.intake.proofs.Records.{Recorded, length-state, decode-encode, code-field, kind-field, place-field, emitted-field, shown-below}
+use Rattle.intake.proofs.RecordLaws.{Recorded, length-state, decode-encode, code-field, kind-field, place-field, emitted-field, shown-below}
 use Rattle.intake.proofs.TickRows.{Reading, reads-fresh, reads-waiting, reads-over, reads-malformed, reading, well-formed, same-statement, tick-by-rows}
 use Rattle.intake.proofs.Sequence.{Accepted, accepted, tick-at, tick-short, recorded-fresh, recorded-resumed}
 

@@ -22,7 +22,7 @@ use Rattle.sequence.proofs.Rows.{Decides, decided, row-range}
 use Rattle.intake.specs.Records.{stateLength, answerLength, Decoded, decodeState}
 use Rattle.intake.specs.Tick.{outcome, byState, byCheck, tickOf}
 use Rattle.intake.proofs.Bounds.{Below, emitted-below, stop-below, ranged-expand}
-use Rattle.intake.proofs.Records.{Recorded}
+use Rattle.intake.proofs.RecordLaws.{Recorded}
 
 -- the statement of an accepted sequence, with all that the check says of it
 pub record Accepted (sequence : List ℕ) : Type 0 where

@@ -1,1 +1,3 @@
 // The records, the tick and the exports for hosts in C.
+mod le;
+mod records;

@@ -109,3 +109,16 @@ pub fn row(rows: &Rows, k: u8) -> Labels
         empty()
     }
 }
+
+// The set whose member i is bit i.
+pub fn from_bits(bits: u64) -> Labels
+    ensures { λ r. ⌜ labelSet r ≡ bits ⌝ }
+{
+    Labels { bits }
+}
+
+pub fn bits(s: Labels) -> u64
+    ensures { λ r. ⌜ r ≡ labelSet s ⌝ }
+{
+    s.bits
+}

@@ -1,0 +1,87 @@
+//! Sequences made by rule: all short ones, the edges of every row, and all small trees of labels.
+use crate::examples::bytes;
+
+/// All byte strings up to 4 bytes over the command bytes, one above them, and edges of operands.
+pub fn byte_strings(mut run: impl FnMut(&[u8])) {
+    const VALUES: [u8; 16] = [0, 1, 2, 3, 4, 5, 6, 7, 8, 9, 0x0A, 0x0B, 0x10, 0x20, 0x40, 0xFF];
+    let mut strings = vec![Vec::new()];
+    for _ in 0..=4 {
+        strings.iter().for_each(|s: &Vec<u8>| run(s));
+        strings = strings.iter().flat_map(|s| VALUES.map(|b| [&s[..], &[b]].concat())).collect();
+    }
+}
+
+/// What stands before a part, for every part of a command, and what must follow it.
+const PARTS: [(&str, &str); 10] = [
+    ("", ""),
+    ("04", "00"),
+    ("04 00", ""),
+    ("05", "00"),
+    ("05 00", ""),
+    ("06", ""),
+    ("07 1F", "00"),
+    ("07 1F 00", ""),
+    ("08 1F", ""),
+    ("09", ""),
+];
+
+/// The edges of rows 2 to 7.
+pub fn reading(mut run: impl FnMut(&[u8])) {
+    // Row 2: every length around the limit, and lengths that a narrow counter would take for short ones.
+    for length in (0..=1030).chain([2048, 65_535, 65_536, 65_537, 66_560]) {
+        [0x00, 0x06, 0x0B].iter().for_each(|&byte| run(&vec![byte; length]));
+    }
+    for (before, after) in PARTS {
+        // Rows 3 to 5 and 7: every command byte and operand in every part, with too few, enough and too many parts.
+        for tail in ["", "00", "00 00", "00 00 00"] {
+            let (before, after) = (bytes(before), bytes(&format!("{tail} {after}")));
+            (0x0C..=0xFF).for_each(|first| run(&[&before[..], &[first], &after].concat()));
+            for (first, second) in (0..=0x0B).flat_map(|x| (0..=0xFF).map(move |y| (x, y))) {
+                run(&[&before[..], &[first, second], &after].concat());
+            }
+        }
+        // Row 6: around depth 64, and around six signals with other commands between and beside them.
+        for inside in ["", "00", "0B", "01", "01 00", "01 40", "04 00", "06 00", "08", "08 20 00", "08 00 00", "0A"] {
+            for n in 60..=66 {
+                run(&bytes(&format!("{n}({before}) {inside} {n}({after})")));
+                run(&bytes(&format!("{before} {n}(06) {inside} {after}")));
+            }
+            for n in 0..=8 {
+                run(&bytes(&format!("{n}(08 00 {before}) {inside} {n}({after})")));
+                run(&bytes(&format!("04 {n}(08 00) 00 {n}({before} 08 1F) {inside} {n}({after})")));
+            }
+        }
+    }
+}
+
+/// The edges of rows 8 to 10, with every pair of labels.
+pub fn labels(mut run: impl FnMut(&[u8])) {
+    for (k, l) in (0..64).flat_map(|k| (0..64).map(move |l| (k, l))) {
+        for join in ["04", "05", "07 00"] {
+            run(&bytes(&format!("{join} 01 {k:02X} 01 {l:02X}")));
+            run(&bytes(&format!("{join} 01 {k:02X} 0A {l:02X}")));
+            run(&bytes(&format!("{join} 0A {k:02X} 01 {l:02X}")));
+        }
+        // Row 10: how the pauses k and l stand to each other, and how two of their triggers do.
+        for (pauses, triggers) in [("04", "04"), ("04", "05"), ("05", "05"), ("07 00", "05"), ("07 00", "07 00")] {
+            run(&bytes(&format!("04 {triggers} 0A {k:02X} 0A {l:02X} {pauses} 01 {k:02X} 01 {l:02X}")));
+            run(&bytes(&format!("{pauses} 01 {k:02X} {triggers} 0A {k:02X} 01 {l:02X}")));
+            run(&bytes(&format!("{pauses} {triggers} 01 {k:02X} 0A {l:02X} 01 {l:02X}")));
+        }
+    }
+}
+
+/// All trees of one to four leaves: pauses and setpauses of three labels under sequences, parallels and presents.
+pub fn small_trees(mut run: impl FnMut(&[u8])) {
+    let mut trees = vec![vec![], ["00", "01 00", "01 01", "01 02", "0A 00", "0A 01"].map(bytes).to_vec()];
+    for leaves in 2..=4 {
+        let mut larger = Vec::new();
+        for first in 1..leaves {
+            for (p, q) in trees[first].iter().flat_map(|p| trees[leaves - first].iter().map(move |q| (p, q))) {
+                larger.extend(["04", "05", "07 00"].map(|join| [&bytes(join)[..], p, q].concat()));
+            }
+        }
+        trees.push(larger);
+    }
+    trees.iter().flatten().for_each(|tree| run(tree));
+}

@@ -1,0 +1,223 @@
+//! Random sequences of an exact length, most of them accepted or nearly so, and damaged copies of them.
+
+pub struct Random(pub u64);
+
+impl Random {
+    /// A number below n (xorshift64*).
+    pub fn below(&mut self, n: usize) -> usize {
+        self.0 ^= self.0 >> 12;
+        self.0 ^= self.0 << 25;
+        self.0 ^= self.0 >> 27;
+        (self.0.wrapping_mul(0x2545_F491_4F6C_DD1D) >> 32) as usize % n
+    }
+
+    fn chance(&mut self, percent: usize) -> bool {
+        self.below(100) < percent
+    }
+
+    fn pick<T: Copy>(&mut self, items: &[T]) -> T {
+        items[self.below(items.len())]
+    }
+}
+
+/// A sequence with the offsets of its commands.
+pub struct Sequence {
+    pub bytes: Vec<u8>,
+    commands: Vec<usize>,
+}
+
+/// The label of a setpause whose pauses are not all read yet.
+const UNSET: u8 = 0xFF;
+
+struct Generator<'a> {
+    random: &'a mut Random,
+    /// How often each command is taken; drawn anew for each sequence, so that extremes occur.
+    weights: [usize; 11],
+    /// Which part of a command is kept small: 0 the first, 1 the second, else none.
+    small: usize,
+    /// Whether setpauses may stand where a parallel is around them and their labels.
+    loose: bool,
+    /// Labels for pauses to come.
+    labels: Vec<u8>,
+    bytes: Vec<u8>,
+    commands: Vec<usize>,
+    /// Offsets of the labels of pauses and setpauses.
+    pauses: Vec<usize>,
+    setpauses: Vec<usize>,
+}
+
+pub fn sequence(random: &mut Random, length: usize) -> Sequence {
+    let mut weights = [0; 11];
+    weights.fill_with(|| random.pick(&[0, 1, 1, 4, 16]));
+    let mut labels: Vec<u8> = (0..64).collect();
+    (0..64).for_each(|i| labels.swap(i, random.below(i + 1)));
+    labels.truncate(random.pick(&[0, 2, 8, 40, 64, 64]));
+    let (small, loose) = (random.below(4), random.chance(50));
+    // now and then a level or a signal too many
+    let levels = if random.chance(90) { 64 } else { 65 };
+    let signals = if random.chance(90) { 6 } else { 7 };
+    let (bytes, commands, pauses, setpauses) = (Vec::new(), Vec::new(), Vec::new(), Vec::new());
+    let mut g = Generator { random, weights, small, loose, labels, bytes, commands, pauses, setpauses };
+    if length > 0 {
+        g.statement(length, levels, signals, true);
+    }
+    g.settle(0, 0);
+    g.disturb();
+    Sequence { bytes: g.bytes, commands: g.commands }
+}
+
+/// The bytes of the longest statement of so many levels without a present, at most some 6,000.
+fn capacity(levels: usize) -> usize {
+    (3 << levels.min(12)) / 2 - 1
+}
+
+impl Generator<'_> {
+    /// Appends a statement of exactly `length` bytes, with parallels in it or without.
+    fn statement(&mut self, length: usize, levels: usize, signals: usize, parallels: bool) {
+        if parallels && self.random.chance(10) {
+            // All places of a statement without parallels are exclusive, so its own labels suit its setpauses.
+            let (pauses, setpauses) = (self.pauses.len(), self.setpauses.len());
+            self.statement(length, levels, signals, false);
+            return self.settle(pauses, setpauses);
+        }
+        let part = capacity(levels - 1);
+        let byte = self.choose(|g, byte| match byte {
+            0x00 => length == 1,
+            0x01 => length == 2 && !g.labels.is_empty(),
+            0x02 | 0x03 => length == 2,
+            0x04 => length >= 3,
+            0x05 => length >= 3 && parallels,
+            0x06 | 0x09 => length >= 2 && length - 1 <= part,
+            0x07 => length >= 4,
+            0x08 => length >= 3 && length - 2 <= part && signals > 0,
+            _ => length == 2 && (g.loose || !parallels),
+        });
+        self.commands.push(self.bytes.len());
+        self.bytes.push(byte);
+        let operands = self.operand(byte);
+        let rest = length - 1 - operands;
+        match byte {
+            0x06 | 0x09 => self.statement(rest, levels - 1, signals, parallels),
+            0x08 => self.statement(rest, levels - 1, signals - 1, parallels),
+            0x04 | 0x05 | 0x07 => {
+                let first = self.split(rest, part);
+                self.statement(first, levels - 1, signals, parallels);
+                self.statement(rest - first, levels - 1, signals, parallels);
+            }
+            _ => {}
+        }
+    }
+
+    /// One of the allowed commands by their weights, or the first of them.
+    fn choose(&mut self, allowed: impl Fn(&Self, u8) -> bool) -> u8 {
+        let candidates: Vec<u8> = (0..=0x0A).filter(|&byte| allowed(self, byte)).collect();
+        let weights = candidates.iter().map(|&byte| self.weights[byte as usize]);
+        let mut ticket = self.random.below(weights.clone().sum::<usize>().max(1));
+        for (&byte, weight) in candidates.iter().zip(weights) {
+            if ticket < weight {
+                return byte;
+            }
+            ticket -= weight;
+        }
+        candidates[0]
+    }
+
+    /// Appends the operand of a command, if it has one, and returns their count.
+    fn operand(&mut self, byte: u8) -> usize {
+        let at = self.bytes.len();
+        match byte {
+            0x01 => {
+                self.pauses.push(at);
+                self.bytes.extend(self.labels.pop());
+            }
+            0x0A => {
+                self.setpauses.push(at);
+                self.bytes.push(UNSET);
+            }
+            0x03 => self.bytes.push(1 + self.random.below(15) as u8),
+            0x02 | 0x07 | 0x08 => self.bytes.push(self.random.below(32) as u8),
+            _ => {}
+        }
+        self.bytes.len() - at
+    }
+
+    /// The length of the first of two parts that share `rest` bytes, each of at most `part`.
+    fn split(&mut self, rest: usize, part: usize) -> usize {
+        let few = 1 + self.random.below(4);
+        let first = match self.small {
+            0 => few,
+            1 => rest.saturating_sub(few),
+            _ => self.random.below(rest),
+        };
+        first.clamp(1.max(rest.saturating_sub(part)), part.min(rest - 1))
+    }
+
+    /// Gives the setpauses from one index on labels of the pauses from another on; without any they become emits.
+    fn settle(&mut self, pauses: usize, setpauses: usize) {
+        for at in self.setpauses.split_off(setpauses) {
+            if self.bytes[at] != UNSET {
+                self.setpauses.push(at);
+            } else if self.pauses.len() > pauses {
+                self.bytes[at] = self.bytes[self.random.pick(&self.pauses[pauses..])];
+                self.setpauses.push(at);
+            } else {
+                self.bytes[at - 1] = 0x02;
+                self.bytes[at] = self.random.below(32) as u8;
+            }
+        }
+    }
+
+    /// Now and then exchanges one label, towards rows 8, 9 and 10.
+    fn disturb(&mut self) {
+        if !self.setpauses.is_empty() && self.random.chance(50) {
+            let at = self.random.pick(&self.setpauses);
+            self.bytes[at] = match self.random.below(8) {
+                0 => self.random.below(64) as u8,
+                _ => self.bytes[self.random.pick(&self.pauses)],
+            };
+        }
+        if !self.pauses.is_empty() && self.random.chance(5) {
+            let (to, from) = (self.random.pick(&self.pauses), self.random.pick(&self.pauses));
+            self.bytes[to] = self.bytes[from];
+        }
+    }
+}
+
+/// The commands that a command is exchanged for: of its shape, so that the sequence stays readable, or none.
+fn alike(byte: u8) -> &'static [u8] {
+    match byte {
+        0x01 | 0x02 | 0x03 | 0x0A => &[0x01, 0x02, 0x0A],
+        0x04 | 0x05 => &[0x04, 0x05],
+        0x06 | 0x09 => &[0x06, 0x09],
+        0x00 => &[0x00],
+        _ => &[0x0B],
+    }
+}
+
+/// A copy damaged in one to three places.
+pub fn damaged(random: &mut Random, sequence: &Sequence) -> Vec<u8> {
+    let mut bytes = sequence.bytes.clone();
+    for _ in 0..random.pick(&[1, 1, 1, 2, 3]) {
+        let at = random.below(bytes.len() + 1);
+        let command = if sequence.commands.is_empty() { 0 } else { random.pick(&sequence.commands) };
+        match random.below(12) {
+            0 => bytes.truncate(at),
+            1 => bytes.insert(at, random.below(12) as u8),
+            2 => bytes.extend((0..=random.below(3)).map(|i| [0, 1, 0x0B][i])),
+            3 => drop(bytes.get(at).is_some().then(|| bytes.remove(at))),
+            4 => set(&mut bytes, at, |_| random.below(256) as u8),
+            5 => set(&mut bytes, at, |_| random.below(12) as u8),
+            6 => set(&mut bytes, command + 1, |x| x.wrapping_add(1)),
+            7 => set(&mut bytes, command + 1, |x| x.wrapping_sub(1)),
+            8 => set(&mut bytes, command + 1, |_| random.pick(&[0x00, 0x0F, 0x10, 0x1F, 0x20, 0x3F, 0x40, 0xFF])),
+            _ => set(&mut bytes, command, |x| random.pick(alike(x))),
+        }
+    }
+    bytes
+}
+
+fn set(bytes: &mut [u8], at: usize, change: impl FnOnce(u8) -> u8) {
+    if let Some(byte) = bytes.get_mut(at) {
+        *byte = change(*byte);
+    }
+}

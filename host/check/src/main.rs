@@ -1,0 +1,112 @@
+//! The host test: intake_check of the archive against the check of document 01 on an explicit tree.
+//! An argument replaces the seed. The last line is 'N passed, M failed'.
+mod edges;
+mod examples;
+mod generate;
+mod reference;
+
+use generate::Random;
+use std::{env, process::ExitCode};
+
+extern "C" {
+    fn intake_check(sequence: *const u8, length: usize) -> u8;
+}
+
+fn archive(bytes: &[u8]) -> u8 {
+    // Safe: the slice's own pointer and length.
+    unsafe { intake_check(bytes.as_ptr(), bytes.len()) }
+}
+
+const GREATEST: usize = 10;
+
+/// The comparisons so far.
+#[derive(Default)]
+struct Tally {
+    passed: u64,
+    failed: u64,
+    /// How many failed before the group that runs.
+    failed_before: u64,
+    /// How often each number was the answer, in the group that runs.
+    numbers: [u64; GREATEST + 1],
+    /// The most pauses, setpauses, levels and signals around a command in an accepted sequence of the group.
+    most: [usize; 4],
+}
+
+impl Tally {
+    /// Compares the archive with the tree, and with the number written by hand where there is one.
+    fn compare(&mut self, bytes: &[u8], by_hand: Option<u8>) {
+        let tree = reference::check(bytes);
+        let number = tree.as_ref().err().copied().unwrap_or(0);
+        self.numbers[number as usize] += 1;
+        if let Ok(tree) = tree {
+            let levels = tree.0.iter().map(|c| c.place.len() + 1).max().unwrap_or(0);
+            let signals = tree.0.iter().map(|c| tree.signals(&c.place)).max().unwrap_or(0);
+            let reached = [tree.pauses().len(), tree.setpauses().len(), levels, signals];
+            self.most = std::array::from_fn(|i| self.most[i].max(reached[i]));
+        }
+        let answer = archive(bytes);
+        self.expect(answer == number && by_hand.unwrap_or(number) == number, || {
+            let hex: Vec<String> = bytes.iter().map(|b| format!("{b:02X}")).collect();
+            format!("archive {answer}, tree {number}, by hand {by_hand:?}: {}", hex.join(" "))
+        });
+    }
+
+    fn expect(&mut self, holds: bool, message: impl FnOnce() -> String) {
+        if holds {
+            self.passed += 1;
+            return;
+        }
+        self.failed += 1;
+        if self.failed <= 20 {
+            println!("FAILED {}", message());
+        }
+    }
+
+    /// Prints what the group `name` answered and begins the next one.
+    fn close(&mut self, name: &str) {
+        let numbers: String = self.numbers.iter().map(|n| format!("{n:>9}")).collect();
+        println!("{name:<16}{numbers}{:>9}", self.failed - self.failed_before);
+        *self = Tally { passed: self.passed, failed: self.failed, failed_before: self.failed, ..Tally::default() };
+    }
+}
+
+/// 206,200 sequences: 25 of each length from 0 to 1,030, of its fourth, eighth and sixteenth part, and all damaged.
+fn random_sequences(tally: &mut Tally, random: &mut Random) {
+    for length in (0..=1030).flat_map(|n| [n, n / 4, n / 8, n / 16]).cycle().take(25 * 4 * 1031) {
+        let sequence = generate::sequence(random, length);
+        tally.compare(&sequence.bytes, None);
+        tally.compare(&generate::damaged(random, &sequence), None);
+    }
+    // A generator that does not get there would test nothing.
+    for number in (0..=GREATEST).filter(|n| *n != 1) {
+        let count = tally.numbers[number];
+        tally.expect(count >= 100, || format!("the number {number} occurred only {count} times"));
+    }
+    let [pauses, setpauses, levels, signals] = tally.most;
+    println!("accepted: up to {pauses} pauses, {setpauses} setpauses, depth {levels}, {signals} signals");
+    tally.expect(pauses == 64 && setpauses > 100 && levels == 64 && signals == 6, || "too far from the limits".into());
+}
+
+fn main() -> ExitCode {
+    let seed = env::args().nth(1).map_or(20_251_115, |s| s.parse().expect("the seed is a number"));
+    println!("seed {seed}");
+    let numbers: String = (0..=GREATEST).map(|n| format!("{n:>9}")).collect();
+    println!("{:<16}{numbers}   failed", "answers");
+    let mut tally = Tally::default();
+    for (number, bytes) in examples::examples() {
+        tally.compare(&bytes, Some(number));
+    }
+    tally.close("examples");
+    edges::byte_strings(|bytes| tally.compare(bytes, None));
+    tally.close("byte strings");
+    edges::reading(|bytes| tally.compare(bytes, None));
+    tally.close("edges, 2 to 7");
+    edges::labels(|bytes| tally.compare(bytes, None));
+    tally.close("edges, 8 to 10");
+    edges::small_trees(|bytes| tally.compare(bytes, None));
+    tally.close("small trees");
+    random_sequences(&mut tally, &mut Random(seed));
+    tally.close("random");
+    println!("{} passed, {} failed", tally.passed, tally.failed);
+    ExitCode::from((tally.failed > 0) as u8)
+}

@@ -1,0 +1,117 @@
+//! The check as document 01 words it, on an explicit tree. It shares no idea with the archive: commands are read in a
+//! loop and not by recursion, and the rows on labels look at all pairs of places and not at sets.
+use std::ops::RangeInclusive;
+
+const PAUSE: u8 = 0x01;
+const SEQUENCE: u8 = 0x04;
+const PRESENT: u8 = 0x07;
+const SIGNAL: u8 = 0x08;
+const SETPAUSE: u8 = 0x0A;
+
+pub struct Command {
+    pub byte: u8,
+    pub operand: u8,
+    /// The commands around this one from the outermost inwards, by their index, each with the part that holds this one.
+    pub place: Vec<(usize, u8)>,
+}
+
+/// The commands of a statement in prefix order.
+pub struct Tree(pub Vec<Command>);
+
+/// 01, 'Commands': the range of the operand, if there is one, and the number of parts.
+fn shape(byte: u8) -> Option<(Option<RangeInclusive<u8>>, u8)> {
+    match byte {
+        0x00 => Some((None, 0)),
+        PAUSE | SETPAUSE => Some((Some(0..=63), 0)),
+        0x02 => Some((Some(0..=31), 0)),
+        0x03 => Some((Some(1..=15), 0)),
+        SEQUENCE | 0x05 => Some((None, 2)),
+        0x06 | 0x09 => Some((None, 1)),
+        PRESENT => Some((Some(0..=31), 2)),
+        SIGNAL => Some((Some(0..=31), 1)),
+        _ => None,
+    }
+}
+
+/// The statement at the front of the bytes and the count of its bytes, or row 3 to 6, command by command from the left.
+fn read(bytes: &[u8]) -> Result<(Tree, usize), u8> {
+    let mut tree = Tree(Vec::new());
+    let mut at = 0;
+    let mut missing = vec![Vec::new()]; // the places of statements yet to be read, the next one last
+    while let Some(place) = missing.pop() {
+        let byte = *bytes.get(at).ok_or(4)?;
+        let (range, parts) = shape(byte).ok_or(3)?;
+        at += 1;
+        let mut operand = 0;
+        if let Some(range) = range {
+            operand = *bytes.get(at).ok_or(4)?;
+            if !range.contains(&operand) {
+                return Err(5);
+            }
+            at += 1;
+        }
+        if place.len() + 1 > 64 || byte == SIGNAL && tree.signals(&place) + 1 > 6 {
+            return Err(6);
+        }
+        for part in (0..parts).rev() {
+            missing.push([&place[..], &[(tree.0.len(), part)]].concat());
+        }
+        tree.0.push(Command { byte, operand, place });
+    }
+    Ok((tree, at))
+}
+
+impl Tree {
+    /// The number of signal commands around a place.
+    pub fn signals(&self, place: &[(usize, u8)]) -> usize {
+        place.iter().filter(|around| self.0[around.0].byte == SIGNAL).count()
+    }
+
+    pub fn pauses(&self) -> Vec<&Command> {
+        self.0.iter().filter(|c| c.byte == PAUSE).collect()
+    }
+
+    pub fn setpauses(&self) -> Vec<&Command> {
+        self.0.iter().filter(|c| c.byte == SETPAUSE).collect()
+    }
+
+    /// 01, 'States and resuming': the smallest command holding both is a sequence or a present, in different parts.
+    fn exclusive(&self, a: &Command, b: &Command) -> bool {
+        // Two places part at the smallest command that holds both, unless one holds the other.
+        let smallest = a.place.iter().zip(&b.place).find(|(x, y)| x != y).map(|(x, _)| &self.0[x.0]);
+        smallest.is_some_and(|c| c.byte == SEQUENCE || c.byte == PRESENT)
+    }
+
+    fn well_formed(&self) -> bool {
+        let setpauses = self.setpauses();
+        let of = |k: &Command| setpauses.iter().filter(|s| s.operand == k.operand).collect();
+        let labels: Vec<(_, Vec<_>)> = self.pauses().into_iter().map(|k| (k, of(k))).collect();
+        labels.iter().all(|(k, setpauses_k)| {
+            labels.iter().filter(|(l, _)| self.exclusive(k, l)).all(|(l, setpauses_l)| {
+                setpauses_k.iter().all(|x| setpauses_l.iter().all(|y| self.exclusive(x, y)))
+                    && setpauses_k.iter().all(|x| self.exclusive(x, l))
+                    && setpauses_l.iter().all(|y| self.exclusive(k, y))
+            })
+        })
+    }
+}
+
+/// 01, 'Turned down', rows 2 to 10: the tree of an accepted sequence, or the number.
+pub fn check(bytes: &[u8]) -> Result<Tree, u8> {
+    if bytes.is_empty() || bytes.len() > 1024 {
+        return Err(2);
+    }
+    let (tree, count) = read(bytes)?;
+    let (pauses, setpauses) = (tree.pauses(), tree.setpauses());
+    if count < bytes.len() {
+        Err(7)
+    } else if pauses.iter().enumerate().any(|(i, p)| pauses[..i].iter().any(|q| p.operand == q.operand)) {
+        Err(8)
+    } else if setpauses.iter().any(|s| pauses.iter().all(|p| p.operand != s.operand)) {
+        Err(9)
+    } else if !tree.well_formed() {
+        Err(10)
+    } else {
+        Ok(tree)
+    }
+}
