@@ -5,3 +5,4 @@ pub mod Walk
 pub mod Loops
 pub mod Numbers
 pub mod Validity
+pub mod Verdicts
