@@ -46,7 +46,7 @@ module _ (p : Statement) (distinct : Distinct p) (plain : NoSetpause p) where
   term-after (gives o (leaving n) L t) h = tt
   term-after (gives o wrong L t) h = tt
 
-  step : (s : State) (w : Rewriting) → TermOf p s w → (e : ℕ)
+  pub step : (s : State) (w : Rewriting) → TermOf p s w → (e : ℕ)
       → (byLabels p s e .0 ≡ byRewriting w e .0) × TermOf p (byLabels p s e .1) (byRewriting w e .1)
   step State.fresh (Rewriting.fresh t) h e = rw h (refl, term-after (react p e) (residual-fresh p e))
   step State.fresh (Rewriting.waits t) h e = absurd h

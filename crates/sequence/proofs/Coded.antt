@@ -47,6 +47,7 @@ pub record Fronts (bs : List ℕ) (c : Command) (x : ℕ) : Type 0 where
   pub behind : List ℕ
   pub are : bs ≡ coded c x behind
   pub inside : inRange c x ≡ true
+  pub bare : operandCount c ≡ 0 → x ≡ 0
 
 pub coded-length : (c : Command) (x : ℕ) (t : List ℕ) → length (coded c x t) ≡ width c + length t
 coded-length c x t = go (operandCount c) (at-most-one c)
@@ -78,12 +79,12 @@ free Command.setpause x e = absurd (omega arith)
 
 operand : (k c : Command) (x n : ℕ) (t : List ℕ) → operandCount k ≡ n → withOperand k n t ≡ command c x
     → Fronts (byteOf k ∷ t) c x
-operand k c x zero t z e = moved e (record { behind = t; are = rw z; inside = free k 0 z })
+operand k c x zero t z e = moved e (record { behind = t; are = rw z; inside = free k 0 z; bare = λ n. refl })
 operand k c x (suc n) [] z e = absurd (let y : _≡_ {A = ℕ} 0 1 = cc in omega arith)
 operand k c x (suc n) (y ∷ t) z e = go (inRange k y) refl e
   where
     go : (b : Bool) → inRange k y ≡ b → cond b (command k y) (bad 5) ≡ command c x → Fronts (byteOf k ∷ y ∷ t) c x
-    go true i e = moved e (record { behind = t; are = rw z; inside = i })
+    go true i e = moved e (record { behind = t; are = rw z; inside = i; bare = λ n. absurd (omega arith) })
     go false i e = absurd (let y : _≡_ {A = ℕ} 0 1 = cc in omega arith)
 
 pub fronts : (bs : List ℕ) (c : Command) (x : ℕ) → front bs ≡ command c x → Fronts bs c x

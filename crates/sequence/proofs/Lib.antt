@@ -7,7 +7,9 @@ pub mod Sound
 pub mod Complete
 pub mod Writer
 pub mod Reading
+pub mod Opened
 pub mod ReaderExamples
 pub mod Accepted
 pub mod Walk
+pub mod ByRows
 pub mod Rows

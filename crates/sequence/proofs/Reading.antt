@@ -18,7 +18,7 @@ use Rattle.sequence.proofs.Coded.{coded-length, fronts}
 use Rattle.sequence.proofs.Sound.{sound}
 
 -- ---- with a level left, and without
-read-level : (d g a : ℕ) (s : List ℕ) → (d ≡ 0 → ⊥) → read d g a s ≡ readCommand (read (d - 1)) g a s (front s)
+pub read-level : (d g a : ℕ) (s : List ℕ) → (d ≡ 0 → ⊥) → read d g a s ≡ readCommand (read (d - 1)) g a s (front s)
 unfolding read
 read-level zero g a s ne = absurd (ne refl)
 read-level (suc d) g a s ne = ap (λ (k : ℕ). readCommand (read k) g a s (front s)) (sym (sub-one (suc d)))

@@ -6,7 +6,7 @@ use mathlib.Core.Path.{_≡_, refl, sym, ap, _∙_, subst}
 use mathlib.Core.Bool.{Bool, true, false, _&&_, cond, true≢false}
 use mathlib.Core.Option.{Option, none, some, Option·some-injective}
 use mathlib.Core.List.{List, [], _∷_}
-use mathlib.Core.Logic.{_↔_, _≢_, _⊎_, inl, inr}
+use mathlib.Core.Logic.{_⊎_, inl, inr}
 use lib.ListN.{length, drop}
 use lib.Dec.{leb, ltb}
 use borrow.Author.Tests.{ltb-true, ltb-false, leb-true, le-leb}
@@ -18,10 +18,11 @@ use Rattle.sequence.specs.Limits.{maxBytes, maxDepth, maxSignals}
 use Rattle.sequence.specs.Commands.{declares}
 use Rattle.sequence.specs.Reader.{Read, accepted, refused, Front, command, front, read}
 use Rattle.sequence.specs.Check.{Checked, sound, bad, labelRules, afterRead, checked, numberOf, checkOf}
-use Rattle.sequence.specs.Rows.{Slot, slot, Position, at, Fault, unknown, no-statement, no-operand, out-of-range, too-deep, too-many-signals, enter, next, walk, Spells, Row, row-2, row-3-to-6, row-7, row-8, row-9, row-10}
+use Rattle.sequence.specs.Rows.{Slot, slot, Position, at, Fault, unknown, no-statement, no-operand, out-of-range, too-deep, too-many-signals, enter, next, walk, Spells, Row, row-2, row-3-to-6, row-7, row-8, row-9, row-10, ByRows}
 use Rattle.sequence.proofs.Walk.{faultOf, fault-is, Faulty, Comes, comes}
 use Rattle.sequence.proofs.Reading.{measured-fits}
 use Rattle.sequence.proofs.Writer.{reads-what-is-written}
+use Rattle.sequence.proofs.ByRows.{refused-by, accepted-by}
 
 fault-range : {bs : List ℕ} {s : Slot} {k : ℕ} → Fault bs s k → (3 ≤ k) × (k ≤ 6)
 fault-range (unknown h) = omega arith
@@ -259,40 +260,19 @@ module _ (bs : List ℕ) where
       go true false i j = given-2 (λ z. true≢false (sym (le-leb (length bs) maxBytes (z .1)) ∙ j))
       go false c i j = given-2 (λ z. true≢false (sym (le-leb 1 (length bs) (z .0)) ∙ i))
 
-  given-unique : (n m : ℕ) → Given n → Given m → n ≡ m
-  given-unique n m x y =
-      elim (decLt n m) [
-        | yes i ↦ absurd (y .1 n i (x .0))
-        | no i ↦ elim (decLt m n) [
-          | yes j ↦ absurd (x .1 m j (y .0))
-          | no j ↦ omega arith
-        ]
-      ]
+  pub row-range : (k : ℕ) → Row bs k → (2 ≤ k) × (k ≤ 10)
+  row-range k (row-2 x) = omega arith
+  row-range k (row-3-to-6 n h f) = omega (arith, fault-range f)
+  row-range k (row-7 n h x) = omega arith
+  row-range k (row-8 s x) = omega arith
+  row-range k (row-9 s x) = omega arith
+  row-range k (row-10 s x) = omega arith
 
-  row-nonzero : Row bs 0 → ⊥
-  row-nonzero r = go 0 refl r
-    where
-      go : (k : ℕ) → k ≡ 0 → Row bs k → ⊥
-      go k e (row-2 x) = omega arith
-      go k e (row-3-to-6 n h f) = omega (arith, fault-range f)
-      go k e (row-7 n h x) = omega arith
-      go k e (row-8 s x) = omega arith
-      go k e (row-9 s x) = omega arith
-      go k e (row-10 s x) = omega arith
-
-  -- CHECK: a number exactly if it is given, 0 exactly if no row holds
-  pub check-gives : (n : ℕ) → n ≢ 0 → (checkOf bs ≡ n) ↔ Given n
+  -- CHECK: the number goes by rows 2 to 10
+  pub check-by-rows : ByRows (checkOf bs) (Row bs)
   unfolding checkOf
-  check-gives n nz = go (checked bs) decided
+  check-by-rows = go (checked bs) decided
     where
-      go : (c : Checked) → Decides c → (numberOf c ≡ n) ↔ Given n
-      go (bad k) d = (λ e. subst Given e d, λ g. given-unique k n d g)
-      go (sound p) d = (λ e. absurd (nz (sym e)), λ g. absurd (d .0 n (g .0)))
-
-  pub check-accepts : (checkOf bs ≡ 0) ↔ ((m : ℕ) → ¬ Row bs m)
-  unfolding checkOf
-  check-accepts = go (checked bs) decided
-    where
-      go : (c : Checked) → Decides c → (numberOf c ≡ 0) ↔ ((m : ℕ) → ¬ Row bs m)
-      go (bad k) d = (λ e. absurd (row-nonzero (subst (Row bs) e (d .0))), λ h. absurd (h k (d .0)))
-      go (sound p) d = (λ e. d .0, λ h. refl)
+      go : (c : Checked) → Decides c → ByRows (numberOf c) (Row bs)
+      go (bad k) d = refused-by k (Row bs) (λ r. omega (arith, row-range 0 r)) (d .0) (d .1)
+      go (sound p) d = accepted-by (Row bs) (d .0)

@@ -2,7 +2,6 @@
 use Prim.Native.Nat.{ℕ, _+_, max}
 use mathlib.Core.Bool.{Bool, true}
 use mathlib.Core.Option.{Option, none, some}
-use Rattle.esterel.specs.Statement.{Statement, nothing}
 use Rattle.sequence.specs.declared.commands.Count.{Count}
 use Rattle.sequence.specs.declared.commands.Count.the-variants.{Of, Absent}
 use Rattle.sequence.specs.declared.reader.Head.{Head}
@@ -52,12 +51,3 @@ bytesIn (Refused number) = 0
 abbrev pub signalsIn : Measured → ℕ
 signalsIn (Length m j) = j
 signalsIn (Refused number) = 0
-
--- ---- what was read, made total
-abbrev pub statementOf : Read → Statement
-statementOf (accepted p n) = p
-statementOf (refused number) = nothing
-
-abbrev pub countOf : Read → ℕ
-countOf (accepted p n) = n
-countOf (refused number) = 0

@@ -1,6 +1,7 @@
 pub mod Limits
 pub mod Commands
 pub mod Reader
+pub mod Accepted
 pub mod Answers
 pub mod Writer
 pub mod Check

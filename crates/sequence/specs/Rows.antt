@@ -1,7 +1,7 @@
 -- Rows 2 to 10 of 01's 'Turned down', each as a proposition about the bytes. Commands are met one by one from the left.
 use Prim.Native.Nat.{ℕ, zero, suc, _+_, _≤_, _<_}
 use mathlib.Core.Path.{_≡_}
-use mathlib.Core.Logic.{_⊎_}
+use mathlib.Core.Logic.{_⊎_, _≢_, _↔_}
 use mathlib.Core.Bool.{false, _&&_, cond}
 use mathlib.Core.Option.{Option, none, some}
 use mathlib.Core.List.{List, [], _∷_, _++_}
@@ -72,3 +72,8 @@ pub data Row (bs : List ℕ) : (number : ℕ) → Type 0 where
   row-8 : {p : Statement} → Spells bs p → ¬ Distinct p → Row bs 8
   row-9 : {p : Statement} → Spells bs p → ¬ Targeted p → Row bs 9
   row-10 : {p : Statement} → Spells bs p → ¬ WellFormed p → Row bs 10
+
+-- A number goes by rows: n is given exactly if row n holds and no row of a smaller number does, 0 exactly if none holds.
+pub record ByRows (n : ℕ) (Holds : ℕ → Type 0) : Type 0 where
+  pub refusal : (m : ℕ) → m ≢ 0 → (n ≡ m) ↔ (Holds m × ((k : ℕ) → k < m → ¬ Holds k))
+  pub acceptance : (n ≡ 0) ↔ ((m : ℕ) → ¬ Holds m)

@@ -1,14 +1,14 @@
 -- What the code computes with bits, once for every width w.
 use mathlib.Core.Path.{_≡_, refl, sym, ap, _∙_}
 use mathlib.Core.Logic.{_↔_}
-use mathlib.Core.Bool.{Bool, true, false, not, _&&_, cond, and-true, false≢true, true≢false}
-use Prim.Native.Nat.{ℕ, _+_, _*_, _/_, _%_, _^_, _≤_, _<_}
+use mathlib.Core.Bool.{Bool, true, false, not, _&&_, cond, and-true, false≢true}
+use Prim.Native.Nat.{ℕ, _*_, _%_, _^_, _≤_, _<_}
 use native.Mathlib.Nat.{div-eq-of-lt, lt-of-lt-of-le, one-mul}
 use native.Mathlib.Omega.{arith}
 use lib.Dec.{eqb, ltb}
 use lib.Pow.{pow-mono, shl-exact}
-use lib.Bits.{bitOr, bitAnd, bitXor, and-zero-r, xor-zero-r}
-use borrow.Author.Tests.{eqb-true, eq-eqb, ne-eqb, lt-ltb, le-ltb, ltb-false}
+use lib.Bits.{bitAnd, bitXor, and-zero-r, xor-zero-r}
+use borrow.Author.Tests.{eqb-true, eq-eqb, lt-ltb, le-ltb, ltb-false}
 use Rattle.esterel.specs.Sets.{member, none, only, join, insert, remove}
 use Rattle.esterel.proofs.Sets.{member-and, member-none, member-remove, join-none-r, ext}
 use Rattle.sets.specs.Sets.{onlyBelow, insertBelow, Subset, Disjoint}

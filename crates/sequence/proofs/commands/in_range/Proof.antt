@@ -1,5 +1,3 @@
-use Prim.Native.Nat.{ℕ}
-use native.Mathlib.Omega.{arith}
 use borrow.Author.Tests.{le-leb, lt-leb}
 use Rattle.sequence.specs.Commands.{commandOf}
 use Rattle.sequence.proofs.Table.{unranged}

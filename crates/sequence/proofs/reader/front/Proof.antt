@@ -1,4 +1,4 @@
-use mathlib.Core.Path.{_≡_, sym, _∙_}
+use mathlib.Core.Path.{sym, _∙_}
 use Rattle.sequence.proofs.Front.{front-empty, front-absent, front-bare, front-short, front-inside, front-outside}
 use borrow.Author.Needs.{needs}
 use Rattle.sequence.proofs.reader.front.Statement.{statement}

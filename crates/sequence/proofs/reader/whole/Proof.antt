@@ -1,5 +1,5 @@
 use Rattle.sequence.specs.Commands.{commandOf}
-use mathlib.Core.Path.{_≡_, sym, _∙_}
+use mathlib.Core.Path.{sym, _∙_}
 use Rattle.sequence.proofs.Front.{whole-is, absent-is}
 use borrow.Author.Needs.{needs}
 use Rattle.sequence.proofs.reader.whole.Statement.{statement}

@@ -1,0 +1,1 @@
+// The records, the tick and the exports for hosts in C.
