@@ -18,18 +18,18 @@ use Rattle.sets.specs.Sets.{Disjoint, Lowest}
 use Rattle.sets.specs.Rows.{rowBelow}
 use Rattle.sets.proofs.Rows.{no-row}
 use Rattle.sets.proofs.Lowest.{remove-less}
-use Rattle.labels.specs.Rules.{Named, Clash}
+use Rattle.labels.specs.Rules.{Named, Clash, Apart}
 
--- labels of s that are not left have no k in their row
-pub record Seeking (rows : ℕ → ℕ) (s k left : ℕ) : Type 0 where
+-- a walk over the labels of s: of those that are not left, P holds
+pub record Seeking (P : ℕ → Type 0) (s left : ℕ) : Type 0 where
   pub within : (i : ℕ) → member i left ≡ true → member i s ≡ true
-  pub passed : (i : ℕ) → member i s ≡ true → member i left ≡ false → member k (rows i) ≡ false
+  pub passed : (i : ℕ) → member i s ≡ true → member i left ≡ false → P i
 
 both-ways {ℓ} : {A : Type ℓ} {b : Bool} → b ≡ true → b ≡ false → A
 both-ways h g = absurd (true≢false (sym h ∙ g))
 
-pub seek : (rows : ℕ → ℕ) (s k : ℕ) → Seeking rows s k s
-seek rows s k = record { within = λ i h. h; passed = λ i h g. both-ways h g }
+pub seek : (P : ℕ → Type 0) (s : ℕ) → Seeking P s s
+seek P s = record { within = λ i h. h; passed = λ i h g. both-ways h g }
 
 and-not-l : (a b : Bool) → (a && b) ≡ true → a ≡ true
 and-not-l true b h = refl
@@ -40,33 +40,37 @@ gone true true h = inr refl
 gone true false h = absurd (true≢false h)
 gone false b h = inl refl
 
-module _ (rows : ℕ → ℕ) (s k left : ℕ) (f : Seeking rows s k left) where
-  pub seek-on : (l next : ℕ) → next ≡ remove l left → member k (rows l) ≡ false → Seeking rows s k next
+module _ (P : ℕ → Type 0) (s left : ℕ) (f : Seeking P s left) where
+  pub seek-on : (l next : ℕ) → next ≡ remove l left → P l → Seeking P s next
   seek-on l next e h =
-      subst (Seeking rows s k) (sym e)
+      subst (Seeking P s) (sym e)
       (record {
         within = λ i g. f .within i (and-not-l _ _ (sym (member-remove l left i) ∙ g));
-        passed = λ i g z. ⊎-elim (f .passed i g) (λ q. ap (λ (j : ℕ). member k (rows j)) (sym (eqb-true l i q)) ∙ h)
+        passed = λ i g z. ⊎-elim (f .passed i g) (λ q. subst P (eqb-true l i q) h)
             (gone (member i left) (eqb l i) (sym (member-remove l left i) ∙ z));
       })
 
-  pub seek-less : (w l next : ℕ) → Lowest w left l → (left ≡ none → ⊥) → next ≡ remove l left → next < left
-  seek-less w l next low g e = omega (arith, remove-less l left (low .found g))
+  pub seek-end : left ≡ none → (i : ℕ) → member i s ≡ true → P i
+  seek-end e i h = f .passed i h (ap (member i) e ∙ member-none i)
 
-  pub seek-hit : (w l : ℕ) → Lowest w left l → (left ≡ none → ⊥) → member k (rows l) ≡ true → (true ≡ true) ↔ Named rows s k
-  seek-hit w l low g h = (λ _. (l, f .within l (low .found g), h), λ _. refl)
+  module _ (w l : ℕ) (low : Lowest w left l) (g : left ≡ none → ⊥) where
+    pub seek-less : (next : ℕ) → next ≡ remove l left → next < left
+    seek-less next e = omega (arith, remove-less l left (low .found g))
 
-  pub seek-end : left ≡ none → (false ≡ true) ↔ Named rows s k
-  seek-end e = (
-    λ z. absurd (false≢true z),
-    λ n. both-ways (n .2) (f .passed (n .0) (n .1) (ap (member (n .0)) e ∙ member-none (n .0))),
-  )
+    pub seek-hit : member l s ≡ true
+    seek-hit = f .within l (low .found g)
+
+pub named-end : (rows : ℕ → ℕ) (s k : ℕ) → ((i : ℕ) → member i s ≡ true → member k (rows i) ≡ false) → (false ≡ true) ↔ Named rows s k
+named-end rows s k f = (λ z. absurd (false≢true z), λ n. both-ways (n .2) (f (n .0) (n .1)))
 
 pub emptied : (b : Bool) (s : ℕ) → b ≡ eqb s none → b ≡ true → s ≡ none
 emptied b s e h = eqb-true s none (sym e ∙ h)
 
+pub held : (b : Bool) (s : ℕ) → b ≡ eqb s none → b ≡ false → s ≡ none → ⊥
+held b s e h = eqb-false s none (sym e ∙ h)
+
 pub filled : (b : Bool) (s : ℕ) → b ≡ eqb s none → not b ≡ true → s ≡ none → ⊥
-filled b s e h = eqb-false s none (sym e ∙ not-true b h)
+filled b s e h = held b s e (not-true b h)
 
 pub drained : (b : Bool) (s : ℕ) → b ≡ eqb s none → not b ≡ false → s ≡ none
 drained b s e h = emptied b s e (not-false b h)
@@ -120,3 +124,12 @@ clear-end w rows sides f = (λ z. absurd (false≢true z), λ x. absurd (go (x .
     go : (k : ℕ) → Clash (rowBelow w rows) (rowBelow w sides) k → Dec (k < w) → ⊥
     go k x (yes h) = f k h x
     go k x (no h) = in-none (x .0) (ap (member (x .0)) (no-row w k sides (omega (arith, h))) ∙ x .1)
+
+-- ---- labels of a set that are apart
+pub apart-fails : (rows : ℕ → ℕ) (s k r : ℕ) (t : Bool) → member k s ≡ true → r ≡ rows k → (t ≡ true) ↔ Disjoint r s → not t ≡ true
+    → (false ≡ true) ↔ Apart rows s
+apart-fails rows s k r t h e d n =
+    (λ z. absurd (false≢true z), λ a. both-ways (d .1 (subst (λ (x : ℕ). Disjoint x s) (sym e) (a k h))) (not-true t n))
+
+pub apart-here : (rows : ℕ → ℕ) (s k r : ℕ) (t : Bool) → r ≡ rows k → (t ≡ true) ↔ Disjoint r s → not t ≡ false → Disjoint (rows k) s
+apart-here rows s k r t e d n = subst (λ (x : ℕ). Disjoint x s) e (d .0 (not-false t n))

@@ -6,6 +6,7 @@ use mathlib.Core.List.{List}
 use Rattle.esterel.specs.Sets.{member}
 use Rattle.esterel.specs.Statement.{Statement}
 use Rattle.esterel.specs.LabelTests.{pauses, setpauses, distinct, rivals, aside}
+use Rattle.sets.specs.Sets.{Disjoint}
 use Rattle.sets.specs.Labels.{labelSet}
 use Rattle.sets.specs.Rows.{rowOf}
 use Rattle.sequence.specs.Check.{labelRules, numberOf}
@@ -18,6 +19,10 @@ Named rows s k = (l : ℕ) × (member l s ≡ true) × (member k (rows l) ≡ tr
 -- a label aside k has a pause exclusive with that of k
 abbrev pub Clash : (rows sides : ℕ → ℕ) → ℕ → Type 0
 Clash rows sides k = (l : ℕ) × (member l (sides k) ≡ true) × ((member l (rows k) || member k (rows l)) ≡ true)
+
+-- no label of s has a label of s in its row
+abbrev pub Apart : (rows : ℕ → ℕ) → ℕ → Type 0
+Apart rows s = (k : ℕ) → member k s ≡ true → Disjoint (rows k) s
 
 -- the number that the label rules give a statement
 abbrev pub numberBy : Statement → ℕ

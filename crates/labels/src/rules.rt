@@ -6,9 +6,9 @@ ghost use Prim.Native.Nat.{ℕ};
 ghost use Rattle.sets.specs.Labels.{labelSet};
 ghost use Rattle.sets.specs.Rows.{rowOf};
 ghost use Rattle.labels.specs.Rules.{Named, Clash};
-ghost use Rattle.esterel.specs.LabelTests.{rivals, valid};
+ghost use Rattle.esterel.specs.LabelTests.{pauses, rivals, valid};
 ghost use Rattle.esterel.specs.Statement.{Statement};
-ghost use Rattle.labels.specs.Rules.{Labelled, numberBy};
+ghost use Rattle.labels.specs.Rules.{Labelled, numberBy, Apart};
 use crate::survey::Found;
 use sets::labels::Labels;
 use sets::labels::Rows;
@@ -69,5 +69,34 @@ pub fn label_number(found: Found, rows: &Rows, sides: &Rows) -> u8
         }
     } else {
         8
+    }
+}
+
+// Does no row of a label of s meet s?
+fn apart(rows: &Rows, s: Labels) -> bool
+    ensures { λ r. ⌜ (r ≡ true) ↔ Apart (rowOf (now (rows .entry))) (labelSet s) ⌝ }
+{
+    let mut left = s;
+    while !sets::labels::is_empty(left) {
+        let k = sets::labels::lowest(left);
+        if !sets::labels::disjoint(sets::labels::row(rows, k), s) {
+            return false;
+        }
+        left = sets::labels::without(left, k);
+    }
+    true
+}
+
+// Is s a valid set (row 11) for the statement whose pauses and rows of exclusive pauses these are?
+pub fn is_valid(paused: Labels, rows: &Rows, s: Labels) -> bool
+    ensures { λ r. ⌜ ((p : Statement) → labelSet paused ≡ pauses p → ((k : ℕ) → rowOf (now (rows .entry)) k ≡ rivals p k) → r ≡ valid p (labelSet s)) ⌝ }
+{
+    if sets::labels::is_empty(s) {
+        return false;
+    }
+    if sets::labels::subset(s, paused) {
+        apart(rows, s)
+    } else {
+        false
     }
 }
