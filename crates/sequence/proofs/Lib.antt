@@ -8,7 +8,7 @@ pub mod Complete
 pub mod Writer
 pub mod Reading
 pub mod Opened
-pub mod ReaderExamples
+pub mod CheckExamples
 pub mod Accepted
 pub mod Walk
 pub mod ByRows

@@ -1,0 +1,70 @@
+-- The check on the examples of 01 ('Turned down', rows 2 to 10; 'Just inside'; 'Just outside') and on the order of its checks.
+use mathlib.Core.Path.{_≡_, refl}
+use mathlib.Core.List.{List, [], _∷_, _++_, map, flatten}
+use Prim.Native.Nat.{ℕ}
+use lib.ListN.{replicate}
+use Rattle.esterel.specs.Sets.{member, none, only, join}
+use Rattle.esterel.specs.LabelTests.{subset, disjoint, labelsOf, everyLabel, distinct, before, wellFormed}
+use Rattle.sequence.specs.Commands.{commandOf}
+use Rattle.sequence.specs.Reader.{front, read}
+use Rattle.sequence.specs.Check.{checked, checkOf}
+
+-- n times
+abbrev times : ℕ → List ℕ → List ℕ
+times n bs = flatten (replicate n bs)
+
+-- n loops, and n signals, around what follows
+abbrev loops : ℕ → List ℕ → List ℕ
+loops n bs = replicate n 0x06 ++ bs
+
+abbrev signals : ℕ → List ℕ → List ℕ
+signals n bs = times n (0x08 ∷ 0x00 ∷ []) ++ bs
+
+-- a statement of 33 · n + 1 bytes
+abbrev long : ℕ → List ℕ
+long n = times n (0x04 ∷ times 15 (0x04 ∷ 0x00 ∷ []) ++ (0x02 ∷ 0x00 ∷ [])) ++ (0x00 ∷ [])
+
+abbrev table : List (List ℕ × ℕ)
+table =
+    -- the examples of the rows
+    ([], 2)
+    ∷ (0x0B ∷ [], 3)
+    ∷ (0x02 ∷ [], 4)
+    ∷ (0x02 ∷ 0x20 ∷ [], 5)
+    ∷ (loops 64 (0x00 ∷ []), 6)
+    ∷ (0x00 ∷ 0x00 ∷ [], 7)
+    ∷ (0x05 ∷ 0x01 ∷ 0x00 ∷ 0x01 ∷ 0x00 ∷ [], 8)
+    ∷ (0x0A ∷ 0x00 ∷ [], 9)
+    ∷ (0x04 ∷ 0x01 ∷ 0x01 ∷ 0x04 ∷ 0x05 ∷ 0x0A ∷ 0x02 ∷ 0x01 ∷ 0x03 ∷ 0x01 ∷ 0x02 ∷ [], 10)
+    -- just inside: 1,024 bytes, the greatest operands, six signals, depth 64
+    ∷ (long 31, 0)
+    ∷ (0x02 ∷ 0x1F ∷ [], 0)
+    ∷ (0x01 ∷ 0x3F ∷ [], 0)
+    ∷ (0x03 ∷ 0x0F ∷ [], 0)
+    ∷ (signals 6 (0x00 ∷ []), 0)
+    ∷ (loops 63 (0x00 ∷ []), 0)
+    -- just outside
+    ∷ (long 31 ++ (0x00 ∷ []), 2)
+    ∷ (0x01 ∷ 0x40 ∷ [], 5)
+    ∷ (0x03 ∷ 0x00 ∷ [], 5)
+    ∷ (0x03 ∷ 0x10 ∷ [], 5)
+    -- a missing statement is found where it would begin, and nothing else is checked there
+    ∷ (loops 64 [], 4)
+    ∷ (loops 65 [], 6)
+    -- 3 to 6 in that order at one command
+    ∷ (loops 64 (0x0B ∷ []), 3)
+    ∷ (loops 64 (0x01 ∷ []), 4)
+    ∷ (loops 64 (0x01 ∷ 0x40 ∷ []), 5)
+    ∷ (loops 64 (0x01 ∷ 0x00 ∷ []), 6)
+    ∷ (signals 7 [], 6)
+    ∷ (0x07 ∷ 0x20 ∷ [], 5)
+    -- command by command from the left; what follows the statement is not read as commands; 2 before all
+    ∷ (0x04 ∷ 0x0B ∷ [], 3)
+    ∷ (0x00 ∷ 0x0B ∷ [], 7)
+    ∷ (replicate 1025 0x0B, 2)
+    ∷ []
+
+-- THE TABLE
+pub examples : map (λ (x : List ℕ × ℕ). checkOf (x .0)) table ≡ map (λ (x : List ℕ × ℕ). x .1) table
+unfolding checkOf checked read front commandOf flatten distinct wellFormed everyLabel before labelsOf subset disjoint member none only join
+examples = refl
