@@ -89,11 +89,6 @@ measured-fits d g a s = go (read d g a s) refl
         record { bytes = omega (arith, w .count, ap length (w .bytes) ∙ length-append (bytesOf p) (w .rest)); signals = w .within .nested }
     go (refused r) e = record { bytes = omega arith; signals = omega arith }
 
--- a part behind n bytes, measured as y: with those bytes it lies within s
-pub part-fits : (d g n : ℕ) (s t : List ℕ) (y : Measured) → n ≤ length s → t ≡ drop n s → ((a : ℕ) → y ≡ measured (read d g a t))
-    → Fits y (length s - n) g
-part-fits d g n s t y l e h = rw (h 0, e) (rw (length-drop n s) at (measured-fits d g 0 (drop n s)))
-
 module _ (s : List ℕ) (w n k : ℕ) (h : headOf (front s) ≡ Whole w n k) where
   pub no-level : (d g a : ℕ) → d ≡ 0 → Refused 6 ≡ measured (read d g a s)
   unfolding read
@@ -112,7 +107,7 @@ module _ (s : List ℕ) (w n k : ℕ) (h : headOf (front s) ≡ Whole w n k) whe
       go (command c x) h = let e : k ≡ declares c = cc in rw (lt-ltb g (declares c) (omega arith))
 
   -- the command lies within the bytes
-  pub front-fits : w ≤ length s
+  front-fits : w ≤ length s
   front-fits = go (front s) refl h
     where
       go : (f : Front) → front s ≡ f → headOf f ≡ Whole w n k → w ≤ length s
@@ -123,7 +118,7 @@ module _ (s : List ℕ) (w n k : ℕ) (h : headOf (front s) ≡ Whole w n k) whe
           omega (arith, ap length (f .are) ∙ coded-length c x (f .behind))
 
   -- the parts are read with a level less
-  pub parts-are : (d g a : ℕ) → (d ≡ 0 → ⊥) → k ≤ g → measured (read d g a s) ≡ measureParts (read (d - 1) (g - k)) a s w n k
+  parts-are : (d g a : ℕ) → (d ≡ 0 → ⊥) → k ≤ g → measured (read d g a s) ≡ measureParts (read (d - 1) (g - k)) a s w n k
   parts-are d g a ne l = rw (read-level d g a s ne) (go (front s) h)
     where
       go : (f : Front) → headOf f ≡ Whole w n k
@@ -135,41 +130,55 @@ module _ (s : List ℕ) (w n k : ℕ) (h : headOf (front s) ≡ Whole w n k) whe
           let e : k ≡ declares c = cc in
           rw (i, j, e, le-ltb g (declares c) (omega arith)) (measured-parts (read (d - 1) (g - declares c)) c a x s)
 
-  -- ---- one law for each way out of the code, where t, measured as y, are the bytes of the first part
-  module _ (d g : ℕ) (ne : d ≡ 0 → ⊥) (l : k ≤ g) where
-    pub no-part : (a : ℕ) → n ≡ 0 → Length w 0 ≡ measured (read d g a s)
-    no-part a z = sym (parts-are d g a ne l ∙ rw z)
+-- ---- one law for each way out of the code
+-- the command of w bytes with n parts and k signals at the front of s, where it is neither too deep nor a signal too many
+pub record Begun (d g : ℕ) (s : List ℕ) (w n k : ℕ) : Type 0 where
+  pub head : headOf (front s) ≡ Whole w n k
+  pub level : d ≡ 0 → ⊥
+  pub signals : k ≤ g
 
-    module _ (t : List ℕ) (y : Measured) (at-first : t ≡ drop w s) (reads-first : (a : ℕ) → y ≡ measured (read (d - 1) (g - k) a t)) where
-      first-is : (a : ℕ) → measured (read (d - 1) (g - k) a (drop w s)) ≡ y
-      first-is a = ap (λ (b : List ℕ). measured (read (d - 1) (g - k) a b)) (sym at-first) ∙ sym (reads-first a)
+-- the part t behind m bytes of s, measured as y
+pub record Part (d g k : ℕ) (s : List ℕ) (m : ℕ) (t : List ℕ) (y : Measured) : Type 0 where
+  pub behind : t ≡ drop m s
+  pub reads : (a : ℕ) → y ≡ measured (read (d - 1) (g - k) a t)
 
-      pub first-fits : Fits y (length s - w) (g - k)
-      first-fits = part-fits (d - 1) (g - k) w s t y front-fits at-first reads-first
+pub part-fits : {d g k : ℕ} {s : List ℕ} {m : ℕ} {t : List ℕ} {y : Measured} → Part d g k s m t y → Fits y (length s - m) (g - k)
+part-fits {d} {g} {k} {s} {m} {t} {y} p =
+    rw (p .reads 0, p .behind) (rw (length-drop m s) at (measured-fits (d - 1) (g - k) 0 (drop m s)))
 
-      pub one-part : (a : ℕ) (z : Measured) → n ≡ 1 → z ≡ extended w k 0 y → z ≡ measured (read d g a s)
-      one-part a z e q = q ∙ sym (parts-are d g a ne l ∙ rw e (ap (extended w k 0) (first-is (a + w))))
+part-is : {d g k : ℕ} {s : List ℕ} {m : ℕ} {t : List ℕ} {y : Measured} → Part d g k s m t y
+    → (a : ℕ) → measured (read (d - 1) (g - k) a (drop m s)) ≡ y
+part-is {d} {g} {k} p a = ap (λ (b : List ℕ). measured (read (d - 1) (g - k) a b)) (sym (p .behind)) ∙ sym (p .reads a)
 
-      two-are : (a : ℕ) → (n ≡ 0 → ⊥) → (n ≡ 1 → ⊥)
-          → measured (read d g a s) ≡ afterFirst (λ m j. extended (w + m) k j (measured (read (d - 1) (g - k) (a + (w + m)) (drop (w + m) s)))) y
-      two-are a n0 n1 =
-          let e : n ≡ suc (suc (n - 2)) = omega arith in
-          parts-are d g a ne l ∙ rw e (ap (afterFirst _) (first-is (a + w)))
+module _ {d g : ℕ} {s : List ℕ} {w n k : ℕ} (b : Begun d g s w n k) where
+  pub command-fits : w ≤ length s
+  command-fits = front-fits s w n k (b .head)
 
-      pub two-refused : (a e : ℕ) → (n ≡ 0 → ⊥) → (n ≡ 1 → ⊥) → y ≡ Refused e → Refused e ≡ measured (read d g a s)
-      two-refused a e n0 n1 q = sym (two-are a n0 n1 ∙ rw q)
+  measures : (a : ℕ) → measured (read d g a s) ≡ measureParts (read (d - 1) (g - k)) a s w n k
+  measures a = parts-are s w n k (b .head) d g a (b .level) (b .signals)
 
-      module _ (m j : ℕ) (q : y ≡ Length m j) where
-        pub behind-first : w + m ≤ length s
-        behind-first = let b : m ≤ length s - w = rw q at (first-fits .bytes) in omega (arith, front-fits)
+  pub no-part : (a : ℕ) → n ≡ 0 → Length w 0 ≡ measured (read d g a s)
+  no-part a z = sym (measures a ∙ rw z)
 
-        pub nested-first : j ≤ g - k
-        nested-first = rw q at (first-fits .signals)
+  module _ {t : List ℕ} {y : Measured} (p : Part d g k s w t y) where
+    pub one-part : {z : Measured} (a : ℕ) → n ≡ 1 → z ≡ extended w k 0 y → z ≡ measured (read d g a s)
+    one-part a e q = q ∙ sym (measures a ∙ rw e (ap (extended w k 0) (part-is p (a + w))))
 
-        module _ (u : List ℕ) (x : Measured) (at-second : u ≡ drop (w + m) s) (reads-second : (a : ℕ) → x ≡ measured (read (d - 1) (g - k) a u)) where
-          pub second-fits : Fits x (length s - (w + m)) (g - k)
-          second-fits = part-fits (d - 1) (g - k) (w + m) s u x behind-first at-second reads-second
+    two-are : (a : ℕ) → (n ≡ 0 → ⊥) → (n ≡ 1 → ⊥)
+        → measured (read d g a s) ≡ afterFirst (λ m j. extended (w + m) k j (measured (read (d - 1) (g - k) (a + (w + m)) (drop (w + m) s)))) y
+    two-are a n0 n1 =
+        let e : n ≡ suc (suc (n - 2)) = omega arith in
+        measures a ∙ rw e (ap (afterFirst _) (part-is p (a + w)))
 
-          pub two-parts : (a : ℕ) (z : Measured) → (n ≡ 0 → ⊥) → (n ≡ 1 → ⊥) → z ≡ extended (w + m) k j x → z ≡ measured (read d g a s)
-          two-parts a z n0 n1 e =
-              e ∙ sym (two-are a n0 n1 ∙ rw (q, ← at-second) (ap (extended (w + m) k j) (sym (reads-second (a + (w + m))))))
+    pub two-refused : {e : ℕ} (a : ℕ) → (n ≡ 0 → ⊥) → (n ≡ 1 → ⊥) → y ≡ Refused e → Refused e ≡ measured (read d g a s)
+    two-refused a n0 n1 q = sym (two-are a n0 n1 ∙ rw q)
+
+    module _ {m j : ℕ} (q : y ≡ Length m j) where
+      pub first-fits : (w + m ≤ length s) × (j ≤ g - k)
+      first-fits =
+          let l : m ≤ length s - w = rw q at (part-fits p .bytes) in
+          (omega (arith, command-fits), rw q at (part-fits p .signals))
+
+      pub two-parts : {u : List ℕ} {x z : Measured} → Part d g k s (w + m) u x → (a : ℕ) → (n ≡ 0 → ⊥) → (n ≡ 1 → ⊥)
+          → z ≡ extended (w + m) k j x → z ≡ measured (read d g a s)
+      two-parts r a n0 n1 e = e ∙ sym (two-are a n0 n1 ∙ rw q (ap (extended (w + m) k j) (part-is r (a + (w + m)))))

@@ -11,7 +11,7 @@ use borrow.Author.Tests.{ltb-true, leb-true, ltb-false}
 use Rattle.esterel.specs.Statement.{Statement, nothing, pause, emit, exit, seq, par, loop, present, signal, try, setpause}
 use Rattle.sequence.specs.Commands.{Command, partCount, inRange, declares}
 use Rattle.sequence.specs.Reader.{Read, accepted, refused, Front, command, bad, front, lastPart, firstPart, readParts, tooDeep, readCommand, read, nesting}
-use Rattle.sequence.specs.Writer.{bytesOf, depthOf, Written}
+use Rattle.sequence.specs.Writer.{bytesOf, size, depthOf, Ranged, PlacedAt, Written}
 use Rattle.sequence.proofs.Coded.{coded, fronts}
 use Rattle.sequence.proofs.Shapes.{One, Two, loop-shape, try-shape, signal-shape, seq-shape, par-shape, present-shape}
 
@@ -35,6 +35,11 @@ module _ (C : Statement → ℕ → Type 0) where
   first next (refused r) h q n e = absurd (let z : _≡_ {A = ℕ} 0 1 = cc in omega arith)
 
 -- ---- accepted, so written
+leaf-sound : (d g a : ℕ) (p : Statement) (t : List ℕ) → depthOf p ≡ 1 → nesting p ≡ 0 → Ranged p → PlacedAt a p
+    → Written (suc d) g a (bytesOf p ++ t) p (size p)
+leaf-sound d g a p t i j r s =
+    record { rest = t; bytes = refl; count = refl; within = record { deep = omega arith; nested = omega arith; ranged = r }; placed = s }
+
 module _ (d g a : ℕ) (h t : List ℕ) where
   module _ (declared : ℕ) (f : Statement → Statement) (s : One h a declared f) (fits : declared ≤ g) where
     one-sound : (p : Statement) (m : ℕ) → Written d (g - declared) (a + length h) (drop (length h) (h ++ t)) p m
@@ -79,34 +84,38 @@ and-true true b e = (refl, e)
 and-true false b e = absurd (let z : _≡_ {A = ℕ} 0 1 = cc in omega arith)
 
 module _ (d : ℕ) (ih : (g a : ℕ) (bs : List ℕ) (p : Statement) (n : ℕ) → read d g a bs ≡ accepted p n → Written d g a bs p n) where
+  one-reads : (g a : ℕ) (h t : List ℕ) (declared : ℕ) (f : Statement → Statement) → One h a declared f → declared ≤ g → (q : Statement) (n : ℕ)
+      → lastPart f (length h) (read d (g - declared) (a + length h) (drop (length h) (h ++ t))) ≡ accepted q n → Written (suc d) g a (h ++ t) q n
+  one-reads g a h t declared f s l =
+      last (Written (suc d) g a (h ++ t)) f (length h) (read d (g - declared) (a + length h) (drop (length h) (h ++ t)))
+      (λ p m k. one-sound d g a h t declared f s l p m (ih (g - declared) (a + length h) _ p m k))
+
+  two-reads : (g a : ℕ) (h t : List ℕ) (f : Statement → Statement → Statement) → Two h a f → (q : Statement) (n : ℕ)
+      → firstPart (λ p m. lastPart (f p) (length h + m) (read d (g - 0) (a + (length h + m)) (drop (length h + m) (h ++ t))))
+      (read d (g - 0) (a + length h) (drop (length h) (h ++ t)))
+      ≡ accepted q n
+      → Written (suc d) g a (h ++ t) q n
+  two-reads g a h t f s =
+      first (Written (suc d) g a (h ++ t)) _ (read d (g - 0) (a + length h) (drop (length h) (h ++ t)))
+      (λ p m k. last (Written (suc d) g a (h ++ t)) (f p) (length h + m) (read d (g - 0) (a + (length h + m)) (drop (length h + m) (h ++ t)))
+      (λ r j o. two-sound d g a h t f s p r m j (ih (g - 0) (a + length h) _ p m k) (ih (g - 0) (a + (length h + m)) _ r j o)))
+
   sound-parts : (g a : ℕ) (c : Command) (x : ℕ) (t : List ℕ) → inRange c x ≡ true → declares c ≤ g → (q : Statement) (n : ℕ)
       → readParts (read d (g - declares c)) c a x (partCount c) (coded c x t) ≡ accepted q n → Written (suc d) g a (coded c x t) q n
   unfolding bytesOf depthOf nesting
-  sound-parts g a Command.nothing x t i l q n e =
-      whole (Written (suc d) g a _) e (record { rest = t; bytes = refl; count = refl; within = record { deep = omega arith; nested = omega arith; ranged = tt }; placed = tt })
-  sound-parts g a Command.pause x t i l q n e =
-      whole (Written (suc d) g a _) e (record { rest = t; bytes = refl; count = refl; within = record { deep = omega arith; nested = omega arith; ranged = ltb-true x 64 i }; placed = tt })
-  sound-parts g a Command.emit x t i l q n e =
-      whole (Written (suc d) g a _) e (record { rest = t; bytes = refl; count = refl; within = record { deep = omega arith; nested = omega arith; ranged = ltb-true x 32 i }; placed = tt })
+  sound-parts g a Command.nothing x t i l q n e = whole (Written (suc d) g a _) e (leaf-sound d g a nothing t refl refl tt tt)
+  sound-parts g a Command.pause x t i l q n e = whole (Written (suc d) g a _) e (leaf-sound d g a (pause x) t refl refl (ltb-true x 64 i) tt)
+  sound-parts g a Command.emit x t i l q n e = whole (Written (suc d) g a _) e (leaf-sound d g a (emit x) t refl refl (ltb-true x 32 i) tt)
   sound-parts g a Command.exit x t i l q n e =
-      whole (Written (suc d) g a _) e (record { rest = t; bytes = refl; count = refl; within = record { deep = omega arith; nested = omega arith; ranged = (leb-true 1 x (and-true (leb 1 x) (leb x 15) i .0), leb-true x 15 (and-true (leb 1 x) (leb x 15) i .1)) }; placed = tt })
-  sound-parts g a Command.seq x t i l q n e =
-      first (Written (suc d) g a (4 ∷ [] ++ t)) _ (read d (g - 0) (a + 1) t) (λ p m k. last (Written (suc d) g a (4 ∷ [] ++ t)) (seq p) (1 + m) (read d (g - 0) (a + (1 + m)) (drop (1 + m) (4 ∷ [] ++ t)))
-      (λ r j o. two-sound d g a (4 ∷ []) t _ (seq-shape a) p r m j (ih (g - 0) _ t p m k) (ih (g - 0) _ _ r j o))) q n e
-  sound-parts g a Command.par x t i l q n e =
-      first (Written (suc d) g a (5 ∷ [] ++ t)) _ (read d (g - 0) (a + 1) t) (λ p m k. last (Written (suc d) g a (5 ∷ [] ++ t)) (par p) (1 + m) (read d (g - 0) (a + (1 + m)) (drop (1 + m) (5 ∷ [] ++ t)))
-      (λ r j o. two-sound d g a (5 ∷ []) t _ (par-shape a) p r m j (ih (g - 0) _ t p m k) (ih (g - 0) _ _ r j o))) q n e
-  sound-parts g a Command.loop x t i l q n e =
-      last (Written (suc d) g a (6 ∷ [] ++ t)) (loop a) 1 (read d (g - 0) (a + 1) t) (λ p m k. one-sound d g a (6 ∷ []) t 0 _ (loop-shape a) (omega arith) p m (ih (g - 0) _ t p m k)) q n e
-  sound-parts g a Command.present x t i l q n e =
-      first (Written (suc d) g a (7 ∷ x ∷ [] ++ t)) _ (read d (g - 0) (a + 2) t) (λ p m k. last (Written (suc d) g a (7 ∷ x ∷ [] ++ t)) (present x p) (2 + m) (read d (g - 0) (a + (2 + m)) (drop (2 + m) (7 ∷ x ∷ [] ++ t)))
-      (λ r j o. two-sound d g a (7 ∷ x ∷ []) t _ (present-shape a x (ltb-true x 32 i)) p r m j (ih (g - 0) _ t p m k) (ih (g - 0) _ _ r j o))) q n e
-  sound-parts g a Command.signal x t i l q n e =
-      last (Written (suc d) g a (8 ∷ x ∷ [] ++ t)) (signal a x) 2 (read d (g - 1) (a + 2) t) (λ p m k. one-sound d g a (8 ∷ x ∷ []) t 1 _ (signal-shape a x (ltb-true x 32 i)) (omega arith) p m (ih (g - 1) _ t p m k)) q n e
-  sound-parts g a Command.try x t i l q n e =
-      last (Written (suc d) g a (9 ∷ [] ++ t)) try 1 (read d (g - 0) (a + 1) t) (λ p m k. one-sound d g a (9 ∷ []) t 0 _ (try-shape a) (omega arith) p m (ih (g - 0) _ t p m k)) q n e
-  sound-parts g a Command.setpause x t i l q n e =
-      whole (Written (suc d) g a _) e (record { rest = t; bytes = refl; count = refl; within = record { deep = omega arith; nested = omega arith; ranged = ltb-true x 64 i }; placed = tt })
+      let r = and-true (leb 1 x) (leb x 15) i in
+      whole (Written (suc d) g a _) e (leaf-sound d g a (exit x) t refl refl (leb-true 1 x (r .0), leb-true x 15 (r .1)) tt)
+  sound-parts g a Command.seq x t i l q n e = two-reads g a (4 ∷ []) t seq (seq-shape a) q n e
+  sound-parts g a Command.par x t i l q n e = two-reads g a (5 ∷ []) t par (par-shape a) q n e
+  sound-parts g a Command.loop x t i l q n e = one-reads g a (6 ∷ []) t 0 (loop a) (loop-shape a) l q n e
+  sound-parts g a Command.present x t i l q n e = two-reads g a (7 ∷ x ∷ []) t (present x) (present-shape a x (ltb-true x 32 i)) q n e
+  sound-parts g a Command.signal x t i l q n e = one-reads g a (8 ∷ x ∷ []) t 1 (signal a x) (signal-shape a x (ltb-true x 32 i)) l q n e
+  sound-parts g a Command.try x t i l q n e = one-reads g a (9 ∷ []) t 0 try (try-shape a) l q n e
+  sound-parts g a Command.setpause x t i l q n e = whole (Written (suc d) g a _) e (leaf-sound d g a (setpause x) t refl refl (ltb-true x 64 i) tt)
 
   sound-command : (g a : ℕ) (bs : List ℕ) (f : Front) → front bs ≡ f → (q : Statement) (n : ℕ)
       → readCommand (read d) g a bs f ≡ accepted q n → Written (suc d) g a bs q n

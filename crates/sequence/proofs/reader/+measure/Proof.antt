@@ -1,10 +1,13 @@
-use mathlib.Core.Path.{sym, _∙_}
-use Prim.Native.Nat.{ℕ, _<_}
+use mathlib.Core.Path.{_≡_, sym, _∙_}
+use Prim.Native.Nat.{ℕ, _+_, _<_}
 use native.Mathlib.Omega.{arith}
 use borrow.Author.Needs.{needs}
 use borrow.Fn.Kinds.{In}
 use borrow.Fn.PlainCycle.{Measures, is, falls, and}
-use Rattle.sequence.proofs.Reading.{bad-front, no-level, no-signal, no-part, one-part, two-refused, two-parts, front-fits, first-fits, second-fits, behind-first, nested-first}
+use Rattle.sequence.specs.declared.reader.Head.the-variants.{Whole}
+use Rattle.sequence.specs.Reader.{front}
+use Rattle.sequence.specs.Answers.{headOf}
+use Rattle.sequence.proofs.Reading.{Begun, Part, bad-front, no-level, no-signal, no-part, one-part, two-refused, two-parts, command-fits, part-fits, first-fits}
 use Rattle.sequence.proofs.reader.measure.Reads as measure
 use Rattle.sequence.proofs.reader.measure.Kinds as measure-kinds
 use Rattle.sequence.proofs.reader.+measure.Lts-measure as lts
@@ -27,6 +30,30 @@ below t = and 1 measure-kinds.ps (falls 1 measure-kinds.ps _<_ μ-measure t) mea
 abbrev claims : ℕ → lts.Claims
 claims t = (front-reads.Asked, front-reads.Learnt, rest-reads.Asked, rest-reads.Learnt, below t, measure.Post, around-reads.Asked, around-reads.Learnt)
 
+-- ---- what is known where the head is whole, past the tests for row 6, and once a part is measured
+head : (t : ℕ) (c : lts.After-width (claims t) (asked t) measure.Post)
+    → headOf (front (c .before .before .before .before .args .s .now)) ≡ Whole (c .width .given .0 .0) (c .width .given .0 .1 .0) (c .width .given .0 .1 .1 .0)
+head t c = sym (c .before .before .front .ensures) ∙ c .width .given .1
+
+begun : (t : ℕ) (c : lts.Else2 (claims t) (asked t) measure.Post)
+    → let w = c .before .before .before in
+    let i = w .before .before .before .before .args in
+    Begun (i .depth) (i .signals) (i .s .now) (w .width .given .0 .0) (w .width .given .0 .1 .0) (w .width .given .0 .1 .1 .0)
+begun t c = record { head = head t (c .before .before .before); level = c .before .if1 .left; signals = c .if2 .left }
+
+first : (t : ℕ) (c : lts.After-measure (claims t) (asked t) measure.Post)
+    → let w = c .before .before .before .before .before .before in
+    let i = w .before .before .before .before .args in
+    Part (i .depth) (i .signals) (w .width .given .0 .1 .1 .0) (i .s .now) (w .width .given .0 .0) (c .before .rest .result .now) (c .measure .result)
+first t c = record { behind = c .before .rest .ensures; reads = c .measure .ensures }
+
+second : (t : ℕ) (c : lts.After-measure2 (claims t) (asked t) measure.Post)
+    → let w = c .before .before .before .before .before .before .before .before .before .before .before .before in
+    let i = w .before .before .before .before .args in
+    Part (i .depth) (i .signals) (w .width .given .0 .1 .1 .0) (i .s .now) (w .width .given .0 .0 + c .before .before .before .first2 .given .0 .0)
+    (c .before .rest2 .result .now) (c .measure2 .result)
+second t c = record { behind = c .before .rest2 .ensures; reads = c .measure2 .ensures }
+
 front-requires : (t : ℕ) → lts.Need-front-requires (claims t) (asked t) measure.Post
 front-requires t c κs = search needs
 
@@ -37,36 +64,16 @@ enum-known-width : (t : ℕ) → lts.Need-enum-known-width (claims t) (asked t) 
 enum-known-width t c = search needs
 
 returns : (t : ℕ) → lts.Need-returns (claims t) (asked t) measure.Post
-returns t c at =
-    let w = c .before .before in
-    let v = w .width .given .0 in
-    let i = w .before .before .before .before .args in
-    let h = sym (w .before .before .front .ensures) ∙ w .width .given .1 in
-    no-level (i .s .now) (v .0) (v .1 .0) (v .1 .1 .0) h (i .depth) (i .signals) at (c .if1 .taken)
+returns t c at = no-level _ _ _ _ (head t (c .before .before)) _ _ at (c .if1 .taken)
 
 returns-2 : (t : ℕ) → lts.Need-returns-2 (claims t) (asked t) measure.Post
-returns-2 t c at =
-    let w = c .before .before .before in
-    let v = w .width .given .0 in
-    let i = w .before .before .before .before .args in
-    let h = sym (w .before .before .front .ensures) ∙ w .width .given .1 in
-    no-signal (i .s .now) (v .0) (v .1 .0) (v .1 .1 .0) h (i .depth) (i .signals) at (c .before .if1 .left) (c .if2 .taken)
+returns-2 t c at = no-signal _ _ _ _ (head t (c .before .before .before)) _ _ at (c .before .if1 .left) (c .if2 .taken)
 
 returns-3 : (t : ℕ) → lts.Need-returns-3 (claims t) (asked t) measure.Post
-returns-3 t c at =
-    let w = c .before .before .before .before in
-    let v = w .width .given .0 in
-    let i = w .before .before .before .before .args in
-    let h = sym (w .before .before .front .ensures) ∙ w .width .given .1 in
-    no-part (i .s .now) (v .0) (v .1 .0) (v .1 .1 .0) h (i .depth) (i .signals) (c .before .before .if1 .left) (c .before .if2 .left) at (c .if3 .taken)
+returns-3 t c at = no-part (begun t (c .before)) at (c .if3 .taken)
 
 rest-requires : (t : ℕ) → lts.Need-rest-requires (claims t) (asked t) measure.Post
-rest-requires t c κs =
-    let w = c .before .before .before .before in
-    let v = w .width .given .0 in
-    let i = w .before .before .before .before .args in
-    let h = sym (w .before .before .front .ensures) ∙ w .width .given .1 in
-    front-fits (i .s .now) (v .0) (v .1 .0) (v .1 .1 .0) h
+rest-requires t c κs = command-fits (begun t (c .before))
 
 sub-measure : (t : ℕ) → lts.Need-sub-measure (claims t) (asked t) measure.Post
 sub-measure t c = search needs
@@ -76,20 +83,12 @@ measure-requires t c κs = search needs
 
 around-requires : (t : ℕ) → lts.Need-around-requires (claims t) (asked t) measure.Post
 around-requires t c κs =
-    let w = c .before .before .before .before .before .before .before in
-    let v = w .width .given .0 in
-    let i = w .before .before .before .before .args in
-    let h = sym (w .before .before .front .ensures) ∙ w .width .given .1 in
-    let f = first-fits (i .s .now) (v .0) (v .1 .0) (v .1 .1 .0) h (i .depth) (i .signals) (c .before .before .before .before .before .if1 .left) (c .before .before .before .before .if2 .left) _ _ (c .before .before .rest .ensures) (c .before .measure .ensures) in
-    (omega (arith, f .bytes, front-fits (i .s .now) (v .0) (v .1 .0) (v .1 .1 .0) h), (omega arith, omega (arith, f .signals, c .before .before .before .before .if2 .left)))
+    let f = part-fits (first t (c .before)) in
+    let b = (begun t (c .before .before .before .before)) in
+    (omega (arith, f .bytes, command-fits b), (omega arith, omega (arith, f .signals, b .signals)))
 
 returns-4 : (t : ℕ) → lts.Need-returns-4 (claims t) (asked t) measure.Post
-returns-4 t c at =
-    let w = c .before .before .before .before .before .before .before .before in
-    let v = w .width .given .0 in
-    let i = w .before .before .before .before .args in
-    let h = sym (w .before .before .front .ensures) ∙ w .width .given .1 in
-    one-part (i .s .now) (v .0) (v .1 .0) (v .1 .1 .0) h (i .depth) (i .signals) (c .before .before .before .before .before .before .if1 .left) (c .before .before .before .before .before .if2 .left) _ _ (c .before .before .before .rest .ensures) (c .before .before .measure .ensures) at _ (c .before .if4 .taken) (c .around .ensures)
+returns-4 t c at = one-part (begun t (c .before .before .before .before .before)) (first t (c .before .before)) at (c .before .if4 .taken) (c .around .ensures)
 
 enum-known-first : (t : ℕ) → lts.Need-enum-known-first (claims t) (asked t) measure.Post
 enum-known-first t c = search needs
@@ -98,22 +97,10 @@ enum-known-first-2 : (t : ℕ) → lts.Need-enum-known-first-2 (claims t) (asked
 enum-known-first-2 t c = search needs
 
 add-n : (t : ℕ) → lts.Need-add-n (claims t) (asked t) measure.Post
-add-n t c =
-    let w = c .before .before .before .before .before .before .before .before .before .before in
-    let v = w .width .given .0 in
-    let i = w .before .before .before .before .args in
-    let h = sym (w .before .before .front .ensures) ∙ w .width .given .1 in
-    let q = c .before .first2 .given in
-    omega (arith, behind-first (i .s .now) (v .0) (v .1 .0) (v .1 .1 .0) h (i .depth) (i .signals) (c .before .before .before .before .before .before .before .before .if1 .left) (c .before .before .before .before .before .before .before .if2 .left) _ _ (c .before .before .before .before .before .rest .ensures) (c .before .before .before .before .measure .ensures) (q .0 .0) (q .0 .1 .0) (q .1))
+add-n t c = omega (arith, first-fits (begun t (c .before .before .before .before .before .before .before)) (first t (c .before .before .before .before)) (c .before .first2 .given .1))
 
 rest-requires-2 : (t : ℕ) → lts.Need-rest-requires-2 (claims t) (asked t) measure.Post
-rest-requires-2 t c κs =
-    let w = c .before .before .before .before .before .before .before .before .before .before in
-    let v = w .width .given .0 in
-    let i = w .before .before .before .before .args in
-    let h = sym (w .before .before .front .ensures) ∙ w .width .given .1 in
-    let q = c .before .first2 .given in
-    behind-first (i .s .now) (v .0) (v .1 .0) (v .1 .1 .0) h (i .depth) (i .signals) (c .before .before .before .before .before .before .before .before .if1 .left) (c .before .before .before .before .before .before .before .if2 .left) _ _ (c .before .before .before .before .before .rest .ensures) (c .before .before .before .before .measure .ensures) (q .0 .0) (q .0 .1 .0) (q .1)
+rest-requires-2 t c κs = first-fits (begun t (c .before .before .before .before .before .before .before)) (first t (c .before .before .before .before)) (c .before .first2 .given .1) .0
 
 sub-measure-2 : (t : ℕ) → lts.Need-sub-measure-2 (claims t) (asked t) measure.Post
 sub-measure-2 t c = search needs
@@ -123,35 +110,19 @@ measure-requires-2 t c κs = search needs
 
 around-requires-2 : (t : ℕ) → lts.Need-around-requires-2 (claims t) (asked t) measure.Post
 around-requires-2 t c κs =
-    let w = c .before .before .before .before .before .before .before .before .before .before .before .before in
-    let v = w .width .given .0 in
-    let i = w .before .before .before .before .args in
-    let h = sym (w .before .before .front .ensures) ∙ w .width .given .1 in
-    let q = c .before .before .before .first2 .given in
-    let b = behind-first (i .s .now) (v .0) (v .1 .0) (v .1 .1 .0) h (i .depth) (i .signals) (c .before .before .before .before .before .before .before .before .before .before .if1 .left) (c .before .before .before .before .before .before .before .before .before .if2 .left) _ _ (c .before .before .before .before .before .before .before .rest .ensures) (c .before .before .before .before .before .before .measure .ensures) (q .0 .0) (q .0 .1 .0) (q .1) in
-    let n = nested-first (i .s .now) (v .0) (v .1 .0) (v .1 .1 .0) h (i .depth) (i .signals) (c .before .before .before .before .before .before .before .before .before .before .if1 .left) (c .before .before .before .before .before .before .before .before .before .if2 .left) _ _ (c .before .before .before .before .before .before .before .rest .ensures) (c .before .before .before .before .before .before .measure .ensures) (q .0 .0) (q .0 .1 .0) (q .1) in
-    let f = second-fits (i .s .now) (v .0) (v .1 .0) (v .1 .1 .0) h (i .depth) (i .signals) (c .before .before .before .before .before .before .before .before .before .before .if1 .left) (c .before .before .before .before .before .before .before .before .before .if2 .left) _ _ (c .before .before .before .before .before .before .before .rest .ensures) (c .before .before .before .before .before .before .measure .ensures) (q .0 .0) (q .0 .1 .0) (q .1) _ _ (c .before .rest2 .ensures) (c .measure2 .ensures) in
-    (omega (arith, f .bytes, b), (omega (arith, n, c .before .before .before .before .before .before .before .before .before .if2 .left), omega (arith, f .signals, c .before .before .before .before .before .before .before .before .before .if2 .left)))
+    let b = (begun t (c .before .before .before .before .before .before .before .before .before)) in
+    let f = first-fits b (first t (c .before .before .before .before .before .before)) (c .before .before .before .first2 .given .1) in
+    let l = part-fits (second t c) in
+    (omega (arith, f .0, l .bytes), (omega (arith, f .1, b .signals), omega (arith, l .signals, b .signals)))
 
 returns-5 : (t : ℕ) → lts.Need-returns-5 (claims t) (asked t) measure.Post
 returns-5 t c at = bad-front _ _ at _ _ (sym (c .before .before .before .front .ensures) ∙ c .before .e .given .1)
 
 returns-6 : (t : ℕ) → lts.Need-returns-6 (claims t) (asked t) measure.Post
-returns-6 t c at =
-    let w = c .before .before .before .before .before .before .before .before .before .before in
-    let v = w .width .given .0 in
-    let i = w .before .before .before .before .args in
-    let h = sym (w .before .before .front .ensures) ∙ w .width .given .1 in
-    two-refused (i .s .now) (v .0) (v .1 .0) (v .1 .1 .0) h (i .depth) (i .signals) (c .before .before .before .before .before .before .before .before .if1 .left) (c .before .before .before .before .before .before .before .if2 .left) _ _ (c .before .before .before .before .before .rest .ensures) (c .before .before .before .before .measure .ensures) at _ (c .before .before .before .before .before .before .if3 .left) (c .before .before .before .if4 .left) (c .before .first .given .1)
+returns-6 t c at = two-refused (begun t (c .before .before .before .before .before .before .before)) (first t (c .before .before .before .before)) at (c .before .before .before .before .before .before .if3 .left) (c .before .before .before .if4 .left) (c .before .first .given .1)
 
 returns-7 : (t : ℕ) → lts.Need-returns-7 (claims t) (asked t) measure.Post
-returns-7 t c at =
-    let w = c .before .before .before .before .before .before .before .before .before .before .before .before .before in
-    let v = w .width .given .0 in
-    let i = w .before .before .before .before .args in
-    let h = sym (w .before .before .front .ensures) ∙ w .width .given .1 in
-    let q = c .before .before .before .before .first2 .given in
-    two-parts (i .s .now) (v .0) (v .1 .0) (v .1 .1 .0) h (i .depth) (i .signals) (c .before .before .before .before .before .before .before .before .before .before .before .if1 .left) (c .before .before .before .before .before .before .before .before .before .before .if2 .left) _ _ (c .before .before .before .before .before .before .before .before .rest .ensures) (c .before .before .before .before .before .before .before .measure .ensures) (q .0 .0) (q .0 .1 .0) (q .1) _ _ (c .before .before .rest2 .ensures) (c .before .measure2 .ensures) at _ (c .before .before .before .before .before .before .before .before .before .if3 .left) (c .before .before .before .before .before .before .if4 .left) (c .around2 .ensures)
+returns-7 t c at = two-parts (begun t (c .before .before .before .before .before .before .before .before .before .before)) (first t (c .before .before .before .before .before .before .before)) (c .before .before .before .before .first2 .given .1) (second t (c .before)) at (c .before .before .before .before .before .before .before .before .before .if3 .left) (c .before .before .before .before .before .before .if4 .left) (c .around2 .ensures)
 
 pub +measure-spec : {M : Type 1} → statement M
 +measure-spec = close μ-measure λ t. lts.spec (claims t) (asked t) measure.Post
