@@ -7,8 +7,6 @@ pub mod Sound
 pub mod Complete
 pub mod Writer
 pub mod Reading
-pub mod Counts
-pub mod Opened
 pub mod CheckExamples
 pub mod Accepted
 pub mod Walk

@@ -1,6 +1,9 @@
--- The set that a value of `Labels` stands for.
+-- The set that a value of `Labels` stands for, and the value of a set.
 use Prim.Native.Nat.{ℕ}
 use Rattle.sets.specs.declared.labels.Labels.{Labels}
 
 unfoldable pub labelSet : Labels → ℕ
 labelSet s = s .bits
+
+unfoldable pub labelsOf : ℕ → Labels
+labelsOf n = record { bits = n }

@@ -1,0 +1,4 @@
+pub mod Combining
+pub mod Taken
+pub mod Steps
+pub mod Resuming

@@ -1,0 +1,16 @@
+use mathlib.Core.Path.{refl}
+use mathlib.Core.Option.{Option}
+use Rattle.esterel.specs.Reaction.{ended}
+use Rattle.reaction.proofs.Combining.{made}
+use borrow.Author.Needs.{needs}
+use Rattle.reaction.proofs.rules.ending.Statement.{statement}
+use Rattle.reaction.proofs.rules.ending.Tie as tie
+
+empty-requires : tie.Need-empty-requires
+empty-requires c κs = search needs
+
+returns : tie.Need-returns
+returns c = made ended Option.none refl (c .empty .ensures) refl refl
+
+pub ending-spec : {M : Type 1} → statement M
+ending-spec = tie.close (tie.spec empty-requires returns)
