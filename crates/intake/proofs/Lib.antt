@@ -10,3 +10,5 @@ pub mod Replacements
 pub mod Bays
 pub mod LeLoops
 pub mod Stores
+pub mod Standing
+pub mod Ticking

@@ -69,6 +69,8 @@ blame (leaving n) x = record { kind = 0; place = 0 }
 blame wrong (some x) = x
 blame wrong Option.none = record { kind = 0; place = 0 }
 
+abbrev pub answerRecord : (code kind place emitted : ℕ) → List ℕ
+answerRecord code kind place emitted = (code ∷ kind ∷ leBytes placeBytes place) ++ leBytes signalBytes emitted
+
 unfoldable pub encodeAnswer : Instant → List ℕ
-encodeAnswer (instant (gives o k l p′) x) =
-    (codeByte k ∷ blame k x .kind ∷ leBytes placeBytes (blame k x .place)) ++ leBytes signalBytes (shown k o)
+encodeAnswer (instant (gives o k l p′) x) = answerRecord (codeByte k) (blame k x .kind) (blame k x .place) (shown k o)

@@ -1,9 +1,12 @@
 // The records, the tick and the exports for hosts in C.
 mod le;
 mod records;
+mod tick;
 
 ghost use mathlib.Core.Path.{_≡_};
 ghost use Rattle.sequence.specs.Check.{checkOf};
+ghost use Rattle.intake.specs.Demands.{TickMeets};
+use crate::tick::Standing;
 
 // The check: 0, or the number of the row that turns the sequence down.
 #[no_mangle]
@@ -12,4 +15,36 @@ pub extern "C" fn intake_check(sequence: &[u8]) -> u8
 {
     let verdict = labels::verdict::check(sequence);
     verdict.number
+}
+
+// The tick: 0 after an instant, whose records are written, or the number of the row that turns the call down.
+#[no_mangle]
+pub extern "C" fn intake_tick(
+    sequence: &[u8],
+    state: &mut [u8],
+    input: u32,
+    answer: &mut [u8],
+) -> u8
+    ensures { λ r. ⌜ TickMeets r (now (state .exit)) (now (answer .exit)) (now (sequence .entry)) (now (state .entry)) input (now (answer .entry)) ⌝ }
+{
+    if state.len() != 9 {
+        return 1;
+    }
+    if answer.len() != 8 {
+        return 1;
+    }
+    let verdict = labels::verdict::check(sequence);
+    let number = verdict.number;
+    if number != 0 {
+        return number;
+    }
+    let pauses = verdict.pauses;
+    let exclusive = verdict.rivals;
+    let standing = crate::tick::decode(state, pauses, &exclusive);
+    match standing {
+        Standing::Malformed => 11,
+        Standing::Over => 12,
+        Standing::Fresh => crate::tick::fresh(sequence, state, input, answer),
+        Standing::Waiting(labels) => crate::tick::waiting(sequence, state, input, answer, labels),
+    }
 }

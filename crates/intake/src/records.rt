@@ -1,11 +1,9 @@
 // The records that a host lends: the state of a machine, and the answer of an instant.
 ghost use mathlib.Core.Path.{_≡_};
-ghost use mathlib.Core.List.{_++_, _∷_};
 ghost use lib.ListN.{length};
 ghost use Rattle.sets.specs.Labels.{labelSet};
-ghost use Rattle.intake.specs.Bytes.{leBytes};
 ghost use Rattle.intake.specs.TickRows.{labelsIn};
-ghost use Rattle.intake.specs.Records.{placeBytes, signalBytes, stateLength, answerLength, stateRecord};
+ghost use Rattle.intake.specs.Records.{stateLength, answerLength, stateRecord, answerRecord};
 use sets::labels::Labels;
 
 // The label set of a state record.
@@ -26,7 +24,7 @@ pub fn write_state(state: &mut [u8], phase: u8, labels: Labels)
 
 pub fn write_answer(answer: &mut [u8], code: u8, kind: u8, place: u16, emitted: u32)
     requires { ⌜ length (now answer) ≡ answerLength ⌝ }
-    ensures { λ _. ⌜ now (answer .exit) ≡ (code ∷ kind ∷ leBytes placeBytes place) ++ leBytes signalBytes emitted ⌝ }
+    ensures { λ _. ⌜ now (answer .exit) ≡ answerRecord code kind place emitted ⌝ }
 {
     answer[0] = code;
     answer[1] = kind;

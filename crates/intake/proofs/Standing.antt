@@ -1,0 +1,69 @@
+-- What the code's tests say of a state record, and what each arm of an instant writes.
+use Prim.Native.Nat.{ℕ, _+_}
+use mathlib.Core.Path.{_≡_, refl, sym, ap, _∙_}
+use mathlib.Core.Logic.{_≢_}
+use mathlib.Core.Bool.{Bool, true, false, _&&_, cond}
+use mathlib.Core.Option.{Option, some}
+use mathlib.Core.List.{List}
+use lib.Dec.{eqb}
+use borrow.Author.Tests.{eq-eqb, ne-eqb}
+use Rattle.esterel.specs.Sets.{none}
+use Rattle.esterel.specs.Statement.{Statement}
+use Rattle.esterel.specs.Reaction.{ended, waiting, leaving, wrong, gives}
+use Rattle.esterel.specs.LabelTests.{valid}
+use Rattle.esterel.specs.Resume as Esterel
+use Rattle.esterel.specs.Machines.{State}
+use Rattle.sets.proofs.LabelValues.{labelSet-of}
+use Rattle.reaction.specs.Instants.{instantOf}
+use Rattle.reaction.specs.declared.instant.Completion.{Completion}
+use Rattle.reaction.specs.declared.instant.Completion.the-variants.{Ended, Waiting, Leaving, Wrong}
+use Rattle.intake.specs.Records.{stateRecord, answerRecord, encodeState, encodeAnswer, Decoded, holds, malformed, decodeState}
+use Rattle.intake.specs.Tick.{Outcome, outcome, written}
+use Rattle.intake.specs.TickRows.{phaseIn, labelsIn}
+use Rattle.intake.specs.Standing.{writtenBy, writtenFrom}
+
+module _ (p : Statement) (state : List ℕ) (L : ℕ) (read : L ≡ labelsIn state) where
+  is-waiting : (b : Bool) → phaseIn state ≡ 1 → b ≡ valid p L → cond b (holds (State.waits L)) malformed ≡ decodeState p state
+  unfolding decodeState
+  is-waiting b i v = rw (i, ← read, v)
+
+  pub waiting-valid : phaseIn state ≡ 1 → true ≡ valid p L → holds (State.waits L) ≡ decodeState p state
+  waiting-valid i v = is-waiting true i v
+
+  pub waiting-invalid : phaseIn state ≡ 1 → false ≡ valid p L → malformed ≡ decodeState p state
+  waiting-invalid i v = is-waiting false i v
+
+  pub is-fresh : phaseIn state ≢ 1 → phaseIn state ≡ 0 → eqb L none ≡ true → holds State.fresh ≡ decodeState p state
+  unfolding decodeState
+  is-fresh n i e = rw (i, ← read, e)
+
+  pub is-over : phaseIn state ≢ 1 → phaseIn state ≡ 2 → eqb L none ≡ true → holds State.over ≡ decodeState p state
+  unfolding decodeState
+  is-over n i e = rw (i, ← read, e)
+
+  pub other-phase : phaseIn state ≢ 1 → phaseIn state ≢ 0 → phaseIn state ≢ 2 → malformed ≡ decodeState p state
+  unfolding decodeState
+  other-phase n i j = rw (ne-eqb (phaseIn state) 1 n, ne-eqb (phaseIn state) 0 i, ne-eqb (phaseIn state) 2 j)
+
+  pub stray-labels : phaseIn state ≢ 1 → eqb L none ≡ false → malformed ≡ decodeState p state
+  unfolding decodeState
+  stray-labels n e = rw (ne-eqb (phaseIn state) 1 n, ← read, e) (go (eqb (phaseIn state) 0) (eqb (phaseIn state) 2))
+    where
+      go : (x y : Bool) → malformed ≡ cond (x && false) (holds State.fresh) (cond (y && false) (holds State.over) malformed)
+      go true true = refl
+      go true false = refl
+      go false true = refl
+      go false false = refl
+
+-- ---- an instant's records by its completion
+pub arm : (k c : Completion) (o L : ℕ) (result : Outcome) → k ≡ c → result ≡ writtenBy c o L → result ≡ writtenBy k o L
+arm k c o L result e h = h ∙ ap (λ (x : Completion). writtenBy x o L) (sym e)
+
+-- WRITTEN: the code's instant writes what esterel's does
+pub written-from : (j : Esterel.Instant) → writtenFrom (instantOf j) ≡ written j
+unfolding encodeState encodeAnswer none
+written-from (Esterel.instant (gives o ended l t) x) = refl
+written-from (Esterel.instant (gives o waiting l t) x) = rw labelSet-of
+written-from (Esterel.instant (gives o (leaving n) l t) x) = refl
+written-from (Esterel.instant (gives o wrong l t) Option.none) = refl
+written-from (Esterel.instant (gives o wrong l t) (some x)) = refl
