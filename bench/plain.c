@@ -1,14 +1,23 @@
-/* The check of document 01 as one would write it in C: one recursive walk that reads and fills two bit matrices. */
+/*
+ * The check and the tick of document 01 as one would write them in C. The check is one recursive walk that reads and
+ * fills two bit matrices. The tick is a recursion over the bytes: it skips a part that does not react, and looks
+ * through a part for an active pause before it resumes it.
+ */
 #include "plain.h"
 
 #include <stdbool.h>
 
+#ifndef REACTED
+#define REACTED ((void)0) /* counted.c counts here */
+#endif
+
 enum { NOTHING, PAUSE, EMIT, EXIT, SEQUENCE, PARALLEL, LOOP, PRESENT, SIGNAL, TRY, SETPAUSE };
 enum { MAX_BYTES = 1024, MAX_DEPTH = 64, MAX_SIGNALS = 6, LABELS = 64 };
 
-static const struct { bool operand; uint8_t low, high; } commands[] = {
-    [PAUSE] = {true, 0, 63},   [EMIT] = {true, 0, 31},   [EXIT] = {true, 1, 15},
-    [PRESENT] = {true, 0, 31}, [SIGNAL] = {true, 0, 31}, [SETPAUSE] = {true, 0, 63},
+static const struct { uint8_t parts, operands, low, high; } commands[] = {
+    [PAUSE] = {0, 1, 0, 63},   [EMIT] = {0, 1, 0, 31},   [EXIT] = {0, 1, 1, 15},   [SEQUENCE] = {2, 0, 0, 0},
+    [PARALLEL] = {2, 0, 0, 0}, [LOOP] = {1, 0, 0, 0},    [PRESENT] = {2, 1, 0, 31}, [SIGNAL] = {1, 1, 0, 31},
+    [TRY] = {1, 0, 0, 0},      [SETPAUSE] = {0, 1, 0, 63},
 };
 
 /* The labels in a statement; its triggers are its pauses and its setpauses. */
@@ -64,7 +73,7 @@ static struct labels statement(struct check *c, unsigned depth, unsigned signals
     uint8_t byte = *c->next++, operand = 0;
     if (byte > SETPAUSE)
         return refuse(c, 3);
-    if (commands[byte].operand) {
+    if (commands[byte].operands != 0) {
         if (c->next == c->end)
             return refuse(c, 4);
         operand = *c->next++;
@@ -96,22 +105,275 @@ static struct labels statement(struct check *c, unsigned depth, unsigned signals
     }
 }
 
-uint8_t plain_check(const uint8_t *sequence, size_t length)
+/* Rows 2 to 10, and what row 11 needs to know: all pauses and which of them are exclusive. */
+static uint8_t check(struct check *c, const uint8_t *sequence, size_t length)
 {
     if (length == 0 || length > MAX_BYTES)
         return 2;
-    struct check c = {.next = sequence, .end = sequence + length};
-    struct labels all = statement(&c, 1, 0);
-    if (c.number != 0)
-        return c.number;
-    if (c.next != c.end)
+    *c = (struct check){.next = sequence, .end = sequence + length};
+    struct labels all = statement(c, 1, 0);
+    if (c->number != 0)
+        return c->number;
+    if (c->next != c->end)
         return 7;
-    if (c.twice)
+    if (c->twice)
         return 8;
     if ((all.triggers & ~all.pauses) != 0)
         return 9;
     for (uint64_t rest = all.pauses; rest != 0; rest &= rest - 1)
-        if ((c.exclusive[__builtin_ctzll(rest)] & c.compatible[__builtin_ctzll(rest)]) != 0)
+        if ((c->exclusive[__builtin_ctzll(rest)] & c->compatible[__builtin_ctzll(rest)]) != 0)
             return 10;
+    return 0;
+}
+
+uint8_t plain_check(const uint8_t *sequence, size_t length)
+{
+    struct check c;
+    return check(&c, sequence, length);
+}
+
+enum { STATE_BYTES = 9, ANSWER_BYTES = 8 };
+enum { FRESH, WAITS, OVER };
+enum { ENDED = 0, WAITING = 1, CAUGHT = 2, WRONG = 255 };
+
+struct reaction {
+    uint64_t labels;
+    uint32_t emitted;
+    uint8_t code;
+};
+
+struct instant {
+    const uint8_t *sequence;
+    const uint8_t *next; /* the statement to react */
+    uint64_t active;     /* the labels of the state */
+    uint16_t place;      /* the first error, if there is one */
+    uint8_t kind;
+};
+
+typedef struct reaction run(struct instant *t, uint32_t present);
+
+static const struct reaction ended = {.code = ENDED};
+
+static struct reaction wrong(struct instant *t, uint8_t kind, const uint8_t *command)
+{
+    if (t->kind == 0) {
+        t->kind = kind;
+        t->place = (uint16_t)(command - t->sequence);
+    }
+    return (struct reaction){.code = WRONG};
+}
+
+/* Moves past a statement; was an active pause in it? */
+static bool skip(struct instant *t)
+{
+    bool found = false;
+    for (unsigned missing = 1; missing > 0; missing--) {
+        uint8_t byte = *t->next++;
+        if (byte == PAUSE)
+            found |= t->active >> *t->next & 1;
+        t->next += commands[byte].operands;
+        missing += commands[byte].parts;
+    }
+    return found;
+}
+
+static bool active(const struct instant *t)
+{
+    struct instant look = *t;
+    return skip(&look);
+}
+
+static struct reaction parallel(struct reaction p, struct reaction q)
+{
+    uint8_t code = p.code > q.code ? p.code : q.code;
+    uint64_t labels = code == WAITING ? p.labels | q.labels : 0;
+    return (struct reaction){labels, p.emitted | q.emitted, code};
+}
+
+static struct reaction caught(struct reaction p)
+{
+    if (p.code == CAUGHT)
+        p.code = ENDED;
+    else if (p.code > CAUGHT && p.code != WRONG)
+        p.code--;
+    return p;
+}
+
+/* The signal whose body is at t->next: both runs, then the first case that fits. */
+static struct reaction local(struct instant *t, run *body, uint32_t present)
+{
+    const uint8_t *start = t->next;
+    uint32_t s = UINT32_C(1) << start[-1];
+    struct reaction minus = body(t, present & ~s);
+    t->next = start;
+    struct reaction plus = body(t, present | s);
+    bool in_minus = (minus.emitted & s) != 0, in_plus = (plus.emitted & s) != 0;
+    if (in_minus && in_plus) {
+        plus.emitted &= ~s;
+        return plus;
+    }
+    if (!in_minus && !in_plus && minus.code != WRONG && plus.code != WRONG)
+        return minus;
+    if (in_minus && !in_plus && plus.code != WRONG)
+        return wrong(t, 2, start - 2);
+    if (!in_minus && in_plus && minus.code != WRONG)
+        return wrong(t, 3, start - 2);
+    return (struct reaction){.code = WRONG};
+}
+
+static struct reaction react(struct instant *t, uint32_t present);
+static struct reaction resume(struct instant *t, uint32_t present);
+
+/* Goes on with the second part of a sequence, at t->next, where the first has ended. */
+static struct reaction then(struct instant *t, struct reaction p, uint32_t present)
+{
+    if (p.code != ENDED) {
+        skip(t);
+        return p;
+    }
+    struct reaction q = react(t, present);
+    q.emitted |= p.emitted;
+    return q;
+}
+
+/* One of two parts goes on, the other is skipped. */
+static struct reaction branch(struct instant *t, run *part, bool first, uint32_t present)
+{
+    if (!first) {
+        skip(t);
+        return part(t, present);
+    }
+    struct reaction p = part(t, present);
+    skip(t);
+    return p;
+}
+
+/* A statement begins. */
+static struct reaction react(struct instant *t, uint32_t present)
+{
+    REACTED;
+    const uint8_t *command = t->next++;
+    uint8_t operand = commands[*command].operands != 0 ? *t->next++ : 0;
+    struct reaction p;
+    switch (*command) {
+    case PAUSE:
+    case SETPAUSE:
+        return (struct reaction){UINT64_C(1) << operand, 0, WAITING};
+    case EMIT:
+        return (struct reaction){0, UINT32_C(1) << operand, ENDED};
+    case EXIT:
+        return (struct reaction){.code = operand + 1};
+    case SEQUENCE:
+        return then(t, react(t, present), present);
+    case PARALLEL:
+        p = react(t, present);
+        return parallel(p, react(t, present));
+    case LOOP:
+        p = react(t, present);
+        return p.code == ENDED ? wrong(t, 1, command) : p;
+    case PRESENT:
+        return branch(t, react, present >> operand & 1, present);
+    case SIGNAL:
+        return local(t, react, present);
+    case TRY:
+        return caught(react(t, present));
+    default:
+        return ended;
+    }
+}
+
+/* A side of a parallel resumes, or was over. */
+static struct reaction side(struct instant *t, uint32_t present)
+{
+    if (active(t))
+        return resume(t, present);
+    skip(t);
+    REACTED;
+    return ended;
+}
+
+/* A statement with an active pause goes on as its expansion would. */
+static struct reaction resume(struct instant *t, uint32_t present)
+{
+    const uint8_t *command = t->next++;
+    t->next += commands[*command].operands;
+    struct reaction p;
+    switch (*command) {
+    case SEQUENCE:
+        if (!active(t))
+            return branch(t, resume, false, present);
+        REACTED;
+        return then(t, resume(t, present), present);
+    case PARALLEL:
+        REACTED;
+        p = side(t, present);
+        return parallel(p, side(t, present));
+    case LOOP:
+        REACTED;
+        p = resume(t, present);
+        if (p.code != ENDED)
+            return p;
+        t->next = command;
+        return then(t, p, present);
+    case PRESENT:
+        return branch(t, resume, active(t), present);
+    case SIGNAL:
+        REACTED;
+        return local(t, resume, present);
+    case TRY:
+        REACTED;
+        return caught(resume(t, present));
+    default: /* an active pause */
+        REACTED;
+        return ended;
+    }
+}
+
+static uint64_t get(const uint8_t *bytes, unsigned count)
+{
+    uint64_t value = 0;
+    while (count-- > 0)
+        value = value << 8 | bytes[count];
+    return value;
+}
+
+static void put(uint8_t *bytes, unsigned count, uint64_t value)
+{
+    for (unsigned i = 0; i < count; i++)
+        bytes[i] = (uint8_t)(value >> 8 * i);
+}
+
+/* Rows 11 and 12. */
+static uint8_t check_state(const struct check *c, uint8_t phase, uint64_t labels)
+{
+    if (phase > OVER || (labels == 0) != (phase != WAITS) || (labels & ~c->pauses) != 0)
+        return 11;
+    for (uint64_t rest = labels; rest != 0; rest &= rest - 1)
+        if ((c->exclusive[__builtin_ctzll(rest)] & labels) != 0)
+            return 11;
+    return phase == OVER ? 12 : 0;
+}
+
+uint8_t plain_tick(const uint8_t *sequence, size_t sequence_length, uint8_t *state, size_t state_length, uint32_t input,
+                   uint8_t *answer, size_t answer_length)
+{
+    if (state_length != STATE_BYTES || answer_length != ANSWER_BYTES)
+        return 1;
+    struct check c;
+    uint8_t number = check(&c, sequence, sequence_length);
+    if (number != 0)
+        return number;
+    struct instant t = {.sequence = sequence, .next = sequence, .active = get(state + 1, 8)};
+    number = check_state(&c, state[0], t.active);
+    if (number != 0)
+        return number;
+
+    struct reaction r = state[0] == FRESH ? react(&t, input) : resume(&t, input);
+    state[0] = r.code == WAITING ? WAITS : OVER;
+    put(state + 1, 8, r.labels);
+    answer[0] = r.code;
+    answer[1] = r.code == WRONG ? t.kind : 0;
+    put(answer + 2, 2, r.code == WRONG ? t.place : 0);
+    put(answer + 4, 4, r.code == WRONG ? 0 : r.emitted);
     return 0;
 }

@@ -1,4 +1,4 @@
-/* The check in plain C, for comparison with intake_check: the same arguments, the same numbers. */
+/* The check and the tick in plain C, for comparison with intake.h: the same arguments, numbers and bytes. */
 #ifndef PLAIN_H
 #define PLAIN_H
 
@@ -6,5 +6,7 @@
 #include <stdint.h>
 
 uint8_t plain_check(const uint8_t *sequence, size_t length);
+uint8_t plain_tick(const uint8_t *sequence, size_t sequence_length, uint8_t *state, size_t state_length, uint32_t input,
+                   uint8_t *answer, size_t answer_length);
 
 #endif

@@ -9,7 +9,10 @@
 extern "C" {
 #endif
 
-/* What a call answers: 0, or the row of document 01, 'Turned down', that turns it down. The check gives 2 to 10. */
+/*
+ * What a call answers: 0, or the row of document 01, 'Turned down', that turns it down. The check gives 2 to 10, the
+ * tick 1 to 12; of several rows that hold, the lowest, but rows 3 to 6 go command by command from the left.
+ */
 enum intake_number {
     INTAKE_ACCEPTED = 0,                /* accepted */
     INTAKE_BUFFER_LENGTH = 1,           /* state buffer not 9 bytes, or answer buffer not 8 */
@@ -27,6 +30,55 @@ enum intake_number {
 };
 
 /*
+ * The state record: where its fields begin, and their bytes. A machine starts by clearing its record: nine bytes 00 are
+ * the record of a fresh machine. The label set names the pauses that the next instant resumes; byte 0 of it holds the
+ * labels 0 to 7, label 0 in the lowest bit. It is empty unless the phase is INTAKE_PHASE_WAITING.
+ */
+enum intake_state {
+    INTAKE_STATE_PHASE = 0,
+    INTAKE_STATE_LABELS = 1,
+    INTAKE_STATE_LABELS_LENGTH = 8,
+    INTAKE_STATE_LENGTH = 9
+};
+
+enum intake_phase {
+    INTAKE_PHASE_FRESH = 0,    /* the next instant begins the sequence */
+    INTAKE_PHASE_WAITING = 1,  /* the next instant resumes the label set */
+    INTAKE_PHASE_OVER = 2      /* there is no next instant */
+};
+
+/*
+ * The answer record: where its fields begin, and their bytes. Kind and place are 0 unless the code is INTAKE_WRONG. The
+ * place is the byte offset of the erring command in the sequence, lowest byte first. Byte 0 of the emitted set holds the
+ * signals 0 to 7, signal 0 in the lowest bit; the set is empty if the code is INTAKE_WRONG.
+ */
+enum intake_answer {
+    INTAKE_ANSWER_CODE = 0,
+    INTAKE_ANSWER_KIND = 1,
+    INTAKE_ANSWER_PLACE = 2,
+    INTAKE_ANSWER_PLACE_LENGTH = 2,
+    INTAKE_ANSWER_EMITTED = 4,
+    INTAKE_ANSWER_EMITTED_LENGTH = 4,
+    INTAKE_ANSWER_LENGTH = 8
+};
+
+/* The code of an instant. One from 2 to 16 leaves the sequence: so many less one try blocks around it would be left. */
+enum intake_code {
+    INTAKE_ENDED = 0,
+    INTAKE_WAITING = 1, /* the machine waits; after every other code it is over */
+    INTAKE_WRONG = 255
+};
+
+/* The first error of a wrong instant: first part before second, run without the signal before run with it, a command
+ * after its parts; an error in a run that is not chosen counts too. */
+enum intake_kind {
+    INTAKE_NO_ERROR = 0,
+    INTAKE_INSTANTANEOUS_LOOP = 1,        /* at a loop: its body ended in the instant in which it began */
+    INTAKE_NOT_REACTIVE = 2,              /* at a signal: it is emitted only if absent */
+    INTAKE_NOT_STRONGLY_DETERMINISTIC = 3 /* at a signal: it is emitted only if present */
+};
+
+/*
  * Checks a sequence and answers INTAKE_ACCEPTED or the number of the row that turns it down.
  *
  * The caller must see to it that `length` bytes from `sequence` on are readable and that nobody writes them during the
@@ -35,6 +87,24 @@ enum intake_number {
  * and always returns, so any number of threads may check at the same time.
  */
 uint8_t intake_check(const uint8_t *sequence, size_t length);
+
+/*
+ * Runs one instant of the machine whose sequence and state record these are, and answers INTAKE_ACCEPTED, or the number
+ * of the row that turns the call down. An accepted call writes the whole answer record and the whole state record, which
+ * is then ready for the next call. A call turned down writes neither, not even bytes of the same value. The sequence
+ * stays the same through all instants of a machine. A wrong instant is accepted: its code is INTAKE_WRONG.
+ *
+ * Bit s of `input` says that the host gives signal s; every value is allowed. A test of a signal that no signal command
+ * around it declares reads `input` only, never what the sequence emits.
+ *
+ * The caller must see to it that the three buffers have the lengths given and share no byte, that the sequence is
+ * readable and the two records readable and writable, and that nobody else writes the sequence or uses the records
+ * during the call. A buffer of length 0 may be a null pointer. Every value of the bytes and every length is allowed, the
+ * old bytes of the answer do not matter, and no address needs to be aligned. The call reads and writes no byte outside,
+ * keeps nothing and always returns, so any number of threads may tick at the same time, each with its own two records.
+ */
+uint8_t intake_tick(const uint8_t *sequence, size_t sequence_length, uint8_t *state, size_t state_length,
+                    uint32_t input, uint8_t *answer, size_t answer_length);
 
 #ifdef __cplusplus
 }

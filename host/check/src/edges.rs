@@ -1,5 +1,5 @@
 //! Sequences made by rule: all short ones, the edges of every row, and all small trees of labels.
-use crate::examples::bytes;
+use common::table::bytes;
 
 /// All byte strings up to 4 bytes over the command bytes, one above them, and edges of operands.
 pub fn byte_strings(mut run: impl FnMut(&[u8])) {

@@ -1,11 +1,9 @@
 //! The host test: intake_check of the archive against the check of document 01 on an explicit tree.
 //! An argument replaces the seed. The last line is 'N passed, M failed'.
 mod edges;
-mod examples;
-mod generate;
-mod reference;
 
-use generate::Random;
+use common::generate::{self, Random, Style};
+use common::{reference, table};
 use std::{env, process::ExitCode};
 
 extern "C" {
@@ -46,8 +44,7 @@ impl Tally {
         }
         let answer = archive(bytes);
         self.expect(answer == number && by_hand.unwrap_or(number) == number, || {
-            let hex: Vec<String> = bytes.iter().map(|b| format!("{b:02X}")).collect();
-            format!("archive {answer}, tree {number}, by hand {by_hand:?}: {}", hex.join(" "))
+            format!("archive {answer}, tree {number}, by hand {by_hand:?}: {}", table::hex(bytes))
         });
     }
 
@@ -73,7 +70,8 @@ impl Tally {
 /// 206,200 sequences: 25 of each length from 0 to 1,030, of its fourth, eighth and sixteenth part, and all damaged.
 fn random_sequences(tally: &mut Tally, random: &mut Random) {
     for length in (0..=1030).flat_map(|n| [n, n / 4, n / 8, n / 16]).cycle().take(25 * 4 * 1031) {
-        let sequence = generate::sequence(random, length);
+        let style = Style::any(random);
+        let sequence = generate::sequence(random, style, length);
         tally.compare(&sequence.bytes, None);
         tally.compare(&generate::damaged(random, &sequence), None);
     }
@@ -93,8 +91,8 @@ fn main() -> ExitCode {
     let numbers: String = (0..=GREATEST).map(|n| format!("{n:>9}")).collect();
     println!("{:<16}{numbers}   failed", "answers");
     let mut tally = Tally::default();
-    for (number, bytes) in examples::examples() {
-        tally.compare(&bytes, Some(number));
+    for (number, text) in table::lines(include_str!("../../examples.txt")) {
+        tally.compare(&table::bytes(text), Some(number));
     }
     tally.close("examples");
     edges::byte_strings(|bytes| tally.compare(bytes, None));

@@ -11,11 +11,11 @@ impl Random {
         (self.0.wrapping_mul(0x2545_F491_4F6C_DD1D) >> 32) as usize % n
     }
 
-    fn chance(&mut self, percent: usize) -> bool {
+    pub fn chance(&mut self, percent: usize) -> bool {
         self.below(100) < percent
     }
 
-    fn pick<T: Copy>(&mut self, items: &[T]) -> T {
+    pub fn pick<T: Copy>(&mut self, items: &[T]) -> T {
         items[self.below(items.len())]
     }
 }
@@ -29,16 +29,77 @@ pub struct Sequence {
 /// The label of a setpause whose pauses are not all read yet.
 const UNSET: u8 = 0xFF;
 
+/// What a sequence is made of; drawn anew for each, so that extremes occur.
+pub struct Style {
+    /// How often each command is taken.
+    pub weights: [usize; 11],
+    /// Signals and exits are taken from so many.
+    pub names: usize,
+    pub exits: usize,
+    /// How many percent of the loops get a body that waits, and of the signals one that uses them.
+    pub framed: usize,
+    /// Whether the whole is a loop.
+    pub endless: bool,
+    /// Which part of a command is kept small: 0 the first, 1 the second, else none.
+    pub small: usize,
+    /// Whether setpauses may stand where a parallel is around them and their labels.
+    pub loose: bool,
+    /// How many different labels there are, at most 64.
+    pub labels: usize,
+    /// The greatest depth and the most signals around a command.
+    pub levels: usize,
+    pub signals: usize,
+}
+
+impl Style {
+    /// Any names; now and then a level or a signal too many.
+    pub fn any(random: &mut Random) -> Self {
+        let mut weights = [0; 11];
+        weights.fill_with(|| random.pick(&[0, 1, 1, 4, 16]));
+        Style {
+            weights,
+            names: 32,
+            exits: 15,
+            framed: 0,
+            endless: false,
+            small: random.below(4),
+            loose: random.chance(50),
+            labels: random.pick(&[0, 2, 8, 40, 64, 64]),
+            levels: if random.chance(90) { 64 } else { 65 },
+            signals: if random.chance(90) { 6 } else { 7 },
+        }
+    }
+}
+
+/// The commands around the body's own statement, in prefix order, and how much deeper that is than the body.
+type Frame = (&'static [u8], usize);
+
+/// The place of that statement.
+const HOLE: u8 = 0xFE;
+
+/// Bodies that wait: before, after or beside the statement, and one that the next instant leaves and begins again.
+const LOOPS: [Frame; 4] = [
+    (&[0x04, 0x01, HOLE], 1),
+    (&[0x04, HOLE, 0x01], 1),
+    (&[0x05, 0x01, HOLE], 1),
+    (&[0x09, 0x05, 0x04, 0x01, 0x03, HOLE], 2),
+];
+
+/// Bodies that emit the signal before, after or beside the statement, and one whose run without the signal is wrong.
+const SIGNALS: [Frame; 4] = [
+    (&[0x04, 0x02, HOLE], 1),
+    (&[0x04, HOLE, 0x02], 1),
+    (&[0x05, HOLE, 0x02], 1),
+    (&[0x05, 0x02, 0x07, HOLE, 0x06, 0x00], 2),
+];
+
 struct Generator<'a> {
     random: &'a mut Random,
-    /// How often each command is taken; drawn anew for each sequence, so that extremes occur.
-    weights: [usize; 11],
-    /// Which part of a command is kept small: 0 the first, 1 the second, else none.
-    small: usize,
-    /// Whether setpauses may stand where a parallel is around them and their labels.
-    loose: bool,
+    style: Style,
     /// Labels for pauses to come.
     labels: Vec<u8>,
+    /// The signals declared around the statement.
+    declared: Vec<u8>,
     bytes: Vec<u8>,
     commands: Vec<usize>,
     /// Offsets of the labels of pauses and setpauses.
@@ -46,19 +107,17 @@ struct Generator<'a> {
     setpauses: Vec<usize>,
 }
 
-pub fn sequence(random: &mut Random, length: usize) -> Sequence {
-    let mut weights = [0; 11];
-    weights.fill_with(|| random.pick(&[0, 1, 1, 4, 16]));
+pub fn sequence(random: &mut Random, style: Style, length: usize) -> Sequence {
     let mut labels: Vec<u8> = (0..64).collect();
     (0..64).for_each(|i| labels.swap(i, random.below(i + 1)));
-    labels.truncate(random.pick(&[0, 2, 8, 40, 64, 64]));
-    let (small, loose) = (random.below(4), random.chance(50));
-    // now and then a level or a signal too many
-    let levels = if random.chance(90) { 64 } else { 65 };
-    let signals = if random.chance(90) { 6 } else { 7 };
+    labels.truncate(style.labels);
     let (bytes, commands, pauses, setpauses) = (Vec::new(), Vec::new(), Vec::new(), Vec::new());
-    let mut g = Generator { random, weights, small, loose, labels, bytes, commands, pauses, setpauses };
-    if length > 0 {
+    let (levels, signals, endless) = (style.levels, style.signals, style.endless);
+    let mut g = Generator { random, style, labels, declared: Vec::new(), bytes, commands, pauses, setpauses };
+    if endless && length > 1 {
+        g.command(0x06);
+        g.body(&LOOPS, length - 1, levels - 1, signals, true);
+    } else if length > 0 {
         g.statement(length, levels, signals, true);
     }
     g.settle(0, 0);
@@ -90,15 +149,17 @@ impl Generator<'_> {
             0x06 | 0x09 => length >= 2 && length - 1 <= part,
             0x07 => length >= 4,
             0x08 => length >= 3 && length - 2 <= part && signals > 0,
-            _ => length == 2 && (g.loose || !parallels),
+            _ => length == 2 && (g.style.loose || !parallels),
         });
-        self.commands.push(self.bytes.len());
-        self.bytes.push(byte);
-        let operands = self.operand(byte);
-        let rest = length - 1 - operands;
+        let rest = length - self.command(byte);
         match byte {
-            0x06 | 0x09 => self.statement(rest, levels - 1, signals, parallels),
-            0x08 => self.statement(rest, levels - 1, signals - 1, parallels),
+            0x06 => self.body(&LOOPS, rest, levels - 1, signals, parallels),
+            0x09 => self.statement(rest, levels - 1, signals, parallels),
+            0x08 => {
+                self.declared.extend(self.bytes.last());
+                self.body(&SIGNALS, rest, levels - 1, signals - 1, parallels);
+                self.declared.pop();
+            }
             0x04 | 0x05 | 0x07 => {
                 let first = self.split(rest, part);
                 self.statement(first, levels - 1, signals, parallels);
@@ -108,10 +169,43 @@ impl Generator<'_> {
         }
     }
 
+    /// Appends the body of a loop or a signal: a statement, or one inside a frame, of exactly `length` bytes.
+    fn body(&mut self, frames: &[Frame], length: usize, levels: usize, signals: usize, parallels: bool) {
+        let (frame, depth) = self.random.pick(frames);
+        let operands = frame.iter().filter(|byte| [0x01, 0x02, 0x03, 0x07].contains(byte)).count();
+        let bytes = frame.len() - 1 + operands;
+        let fits = levels > depth + 1 && length > bytes && length - bytes <= capacity(levels - depth);
+        let fits = fits && (parallels || !frame.contains(&0x05));
+        if !(fits && self.random.chance(self.style.framed)) {
+            return self.statement(length, levels, signals, parallels);
+        }
+        for &byte in frame {
+            if byte == HOLE {
+                self.statement(length - bytes, levels - depth, signals, parallels);
+                continue;
+            }
+            // the statement may have taken the last label
+            let byte = if byte == 0x01 && self.labels.is_empty() { 0x02 } else { byte };
+            self.command(byte);
+            match (byte, self.bytes.last_mut(), self.declared.last()) {
+                (0x02 | 0x07, Some(operand), Some(&s)) => *operand = s,
+                (0x03, Some(operand), _) => *operand = 1,
+                _ => {}
+            }
+        }
+    }
+
+    /// Appends a command with its operand, if it has one, and returns the count of bytes.
+    fn command(&mut self, byte: u8) -> usize {
+        self.commands.push(self.bytes.len());
+        self.bytes.push(byte);
+        1 + self.operand(byte)
+    }
+
     /// One of the allowed commands by their weights, or the first of them.
     fn choose(&mut self, allowed: impl Fn(&Self, u8) -> bool) -> u8 {
         let candidates: Vec<u8> = (0..=0x0A).filter(|&byte| allowed(self, byte)).collect();
-        let weights = candidates.iter().map(|&byte| self.weights[byte as usize]);
+        let weights = candidates.iter().map(|&byte| self.style.weights[byte as usize]);
         let mut ticket = self.random.below(weights.clone().sum::<usize>().max(1));
         for (&byte, weight) in candidates.iter().zip(weights) {
             if ticket < weight {
@@ -134,8 +228,11 @@ impl Generator<'_> {
                 self.setpauses.push(at);
                 self.bytes.push(UNSET);
             }
-            0x03 => self.bytes.push(1 + self.random.below(15) as u8),
-            0x02 | 0x07 | 0x08 => self.bytes.push(self.random.below(32) as u8),
+            0x03 => self.bytes.push(1 + self.random.below(self.style.exits) as u8),
+            0x02 | 0x07 if !self.declared.is_empty() && self.random.chance(self.style.framed) => {
+                self.bytes.push(self.random.pick(&self.declared));
+            }
+            0x02 | 0x07 | 0x08 => self.bytes.push(self.random.below(self.style.names) as u8),
             _ => {}
         }
         self.bytes.len() - at
@@ -144,7 +241,7 @@ impl Generator<'_> {
     /// The length of the first of two parts that share `rest` bytes, each of at most `part`.
     fn split(&mut self, rest: usize, part: usize) -> usize {
         let few = 1 + self.random.below(4);
-        let first = match self.small {
+        let first = match self.style.small {
             0 => few,
             1 => rest.saturating_sub(few),
             _ => self.random.below(rest),

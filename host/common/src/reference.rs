@@ -9,6 +9,8 @@ const SIGNAL: u8 = 0x08;
 const SETPAUSE: u8 = 0x0A;
 
 pub struct Command {
+    /// Its offset in the sequence.
+    pub at: usize,
     pub byte: u8,
     pub operand: u8,
     /// The commands around this one from the outermost inwards, by their index, each with the part that holds this one.
@@ -39,6 +41,7 @@ fn read(bytes: &[u8]) -> Result<(Tree, usize), u8> {
     let mut at = 0;
     let mut missing = vec![Vec::new()]; // the places of statements yet to be read, the next one last
     while let Some(place) = missing.pop() {
+        let start = at;
         let byte = *bytes.get(at).ok_or(4)?;
         let (range, parts) = shape(byte).ok_or(3)?;
         at += 1;
@@ -56,7 +59,7 @@ fn read(bytes: &[u8]) -> Result<(Tree, usize), u8> {
         for part in (0..parts).rev() {
             missing.push([&place[..], &[(tree.0.len(), part)]].concat());
         }
-        tree.0.push(Command { byte, operand, place });
+        tree.0.push(Command { at: start, byte, operand, place });
     }
     Ok((tree, at))
 }
@@ -76,10 +79,19 @@ impl Tree {
     }
 
     /// 01, 'States and resuming': the smallest command holding both is a sequence or a present, in different parts.
-    fn exclusive(&self, a: &Command, b: &Command) -> bool {
+    pub fn exclusive(&self, a: &Command, b: &Command) -> bool {
         // Two places part at the smallest command that holds both, unless one holds the other.
         let smallest = a.place.iter().zip(&b.place).find(|(x, y)| x != y).map(|(x, _)| &self.0[x.0]);
         smallest.is_some_and(|c| c.byte == SEQUENCE || c.byte == PRESENT)
+    }
+
+    /// 01, 'States and resuming': not empty, each label has a pause, and those pauses are pairwise compatible.
+    pub fn valid(&self, labels: u64) -> bool {
+        let named = |pause: &&Command| labels >> pause.operand & 1 == 1;
+        let active: Vec<&Command> = self.pauses().into_iter().filter(named).collect();
+        labels != 0
+            && active.len() == labels.count_ones() as usize
+            && active.iter().all(|a| active.iter().all(|b| !self.exclusive(a, b)))
     }
 
     fn well_formed(&self) -> bool {

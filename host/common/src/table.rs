@@ -1,14 +1,12 @@
-//! The table host/examples.txt: sequences with the numbers written by hand.
+//! The tables host/*.txt: lines of a number, a colon and fields of bytes, written by hand.
 
-/// Each line's number and bytes.
-pub fn examples() -> Vec<(u8, Vec<u8>)> {
-    let lines = include_str!("../../examples.txt").lines();
-    lines.filter(|line| !line.is_empty() && !line.starts_with('#')).map(example).collect()
-}
-
-fn example(line: &str) -> (u8, Vec<u8>) {
-    let (number, text) = line.split_once(':').expect("a line has a colon");
-    (number.parse().expect("a line begins with a number"), bytes(text))
+/// Each line's number and what follows its colon.
+pub fn lines(table: &str) -> impl Iterator<Item = (u8, &str)> {
+    let lines = table.lines().filter(|line| !line.is_empty() && !line.starts_with('#'));
+    lines.map(|line| {
+        let (number, text) = line.split_once(':').expect("a line has a colon");
+        (number.parse().expect("a line begins with a number"), text)
+    })
 }
 
 /// The bytes of a text such as `64(06) 00`.
@@ -27,4 +25,9 @@ pub fn bytes(text: &str) -> Vec<u8> {
         }
     }
     groups.remove(0).1
+}
+
+/// Bytes as a table writes them, without groups.
+pub fn hex(bytes: &[u8]) -> String {
+    bytes.iter().map(|b| format!("{b:02X}")).collect::<Vec<_>>().join(" ")
 }

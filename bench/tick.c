@@ -1,0 +1,203 @@
+/*
+ * Times intake_tick against plain_tick on the same instants, in turn within each round. Every call ticks the same
+ * record again: caches and branch predictors are warm. Reactions are counted by counted.c.
+ */
+#include "timing.h"
+
+#include "counted.h"
+#include "intake.h"
+#include "plain.h"
+#include "shapes.h"
+
+enum { LEAST_ROUNDS = 11, SAMPLE = 20000, ROW = 150000000 /* nanoseconds */ };
+
+/* Where a pause stands before the instant that is timed. */
+enum pause { NONE, BEFORE, AFTER, INSIDE };
+
+/* A body inside signals and inside loops that an instant leaves and begins again. */
+struct kind {
+    const char *name;
+    struct shape body;
+    unsigned signals, loops;
+    enum pause pause;
+};
+
+static const struct kind kinds[] = {
+    {"fresh, emits", {"", "\x04", "", "\x02", "\x02", 2, false, false, 32}, 0, 0, NONE},
+    {"fresh, pauses in parallel", {"", "\x05", "", "\x02", "\x01", 2, false, false, 32}, 0, 0, NONE},
+    {"fresh, tests", {"", "\x04\x07", "", "\x02", "\x02", 2, false, false, 32}, 0, 0, NONE},
+    {"fresh, tries and exits", {"", "\x04\x05", "\x09", "\x02\x03", "\x02\x03", 3, false, false, 32}, 0, 0, NONE},
+    {"resumed before emits", {"", "\x04", "", "\x02", "\x02", 2, false, false, 32}, 0, 0, BEFORE},
+    {"resumed after emits", {"", "\x04", "", "\x02", "\x02", 2, false, false, 32}, 0, 0, AFTER},
+    {"resumed, pauses in parallel", {"", "\x05", "", "\x02", "\x01", 2, false, false, 32}, 0, 0, INSIDE},
+    {"resumed, pauses deep down", {"", "\x05", "", "\x02", "\x01", 12, false, false, 32}, 0, 0, INSIDE},
+    {"six signals, fresh", {"", "\x04", "", "\x02", "\x02", 2, false, false, 6}, 6, 0, NONE},
+    {"six signals, resumed", {"", "\x04", "", "\x02", "\x02", 2, false, false, 6}, 6, 0, BEFORE},
+    {"six signals, all tested", {"", "\x04\x07", "", "\x02", "\x02", 2, false, false, 6}, 6, 0, NONE},
+    {"loops begun again", {"", "\x05", "", "\x02", "\x02", 2, false, false, 6}, 0, 16, INSIDE},
+    {"six signals, such loops", {"", "\x05", "", "\x02", "\x02", 2, false, false, 6}, 6, 16, INSIDE},
+};
+
+/* An instant to time. */
+struct instant {
+    uint8_t bytes[CAPACITY], state[INTAKE_STATE_LENGTH];
+    size_t length;
+    uint32_t input;
+    uint64_t reactions;
+    unsigned calls;
+};
+
+typedef uint8_t ticks(const uint8_t *, size_t, uint8_t *, size_t, uint32_t, uint8_t *, size_t);
+
+static uint8_t once(ticks *tick, const struct instant *t, uint8_t *state, uint8_t *answer)
+{
+    memcpy(state, t->state, sizeof t->state);
+    return tick(t->bytes, t->length, state, INTAKE_STATE_LENGTH, t->input, answer, INTAKE_ANSWER_LENGTH);
+}
+
+/* Processor nanoseconds per instant over one sample. */
+static double sample(const void *what, int plain)
+{
+    static volatile uint8_t sink;
+    const struct instant *t = what;
+    ticks *tick = plain ? plain_tick : intake_tick;
+    uint8_t state[INTAKE_STATE_LENGTH], answer[INTAKE_ANSWER_LENGTH];
+    double start = nanoseconds();
+    for (unsigned i = 0; i < t->calls; i++)
+        sink = once(tick, t, state, answer);
+    (void)sink;
+    return (nanoseconds() - start) / t->calls;
+}
+
+/* `08 s` for each signal, then for each loop `06 09 05`, a side that waits and then exits, and the rest beside it. */
+static void enclose(struct builder *b, unsigned signals, unsigned loops)
+{
+    for (unsigned s = 0; s < signals; s++) {
+        put(b, 0x08);
+        put(b, s);
+    }
+    for (; loops > 0; loops--) {
+        static const uint8_t before[] = {0x06, 0x09, 0x05, 0x04, 0x01}, after[] = {0x03, 0x01};
+        for (size_t i = 0; i < sizeof before; i++)
+            put(b, before[i]);
+        put(b, b->pauses++);
+        for (size_t i = 0; i < sizeof after; i++)
+            put(b, after[i]);
+    }
+}
+
+static void build(struct builder *b, const struct kind *kind, size_t length)
+{
+    unsigned fitting = (unsigned)length / 32; /* loops of eight bytes in a quarter of the sequence */
+    enclose(b, kind->signals, kind->loops < fitting ? kind->loops : fitting);
+    if (kind->pause == BEFORE || kind->pause == AFTER)
+        put(b, 0x04);
+    if (kind->pause == BEFORE) {
+        put(b, 0x01);
+        put(b, b->pauses++);
+    }
+    statement(b, length - b->length - (kind->pause == AFTER ? 2 : 0), kind->signals);
+    if (kind->pause == AFTER) {
+        put(b, 0x01);
+        put(b, b->pauses++);
+    }
+}
+
+/* Sets the record, after one instant or none, and counts; both must give the same, and no error. */
+static void prepare(struct instant *t, bool resumed, const char *name)
+{
+    uint8_t state[INTAKE_STATE_LENGTH], answer[INTAKE_ANSWER_LENGTH];
+    uint8_t states[2][INTAKE_STATE_LENGTH], answers[2][INTAKE_ANSWER_LENGTH];
+    memset(t->state, 0, sizeof t->state);
+    if (resumed && once(plain_tick, t, state, answer) == 0)
+        memcpy(t->state, state, sizeof state);
+    reactions = 0;
+    once(counted_tick, t, state, answer);
+    t->reactions = reactions;
+    double start = nanoseconds();
+    bool accepted = once(intake_tick, t, states[0], answers[0]) == 0;
+    double time = fmax(nanoseconds() - start, 1);
+    t->calls = time > SAMPLE ? 1 : (unsigned)(SAMPLE / time);
+    accepted = accepted && once(plain_tick, t, states[1], answers[1]) == 0;
+    if (!accepted || memcmp(states[0], states[1], sizeof *states) != 0 || answers[0][0] == INTAKE_WRONG ||
+        memcmp(answers[0], answers[1], sizeof *answers) != 0 || t->state[0] != (resumed ? 1 : 0)) {
+        fprintf(stderr, "%s, %zu bytes: not accepted by both, or not the same\n", name, t->length);
+        exit(1);
+    }
+}
+
+/* Prints the row of one instant, and returns the comparison. */
+static struct comparison row(const struct instant *t, const char *name)
+{
+    unsigned rounds = (unsigned)(ROW / (2 * t->calls * sample(t, 1)));
+    rounds = rounds < LEAST_ROUNDS ? LEAST_ROUNDS : rounds > ROUNDS ? ROUNDS : rounds;
+    struct comparison c = compare(sample, t, rounds);
+    double n = (double)t->reactions;
+    printf("%-28s %5zu %9.0f %10.0f %10.0f %7.2f %7.2f %6.2f\n", name, t->length, n, c.intake, c.plain, c.intake / n,
+           c.plain / n, c.ratio);
+    fflush(stdout);
+    return c;
+}
+
+static double kind_row(const struct kind *kind, size_t length)
+{
+    struct builder b = {.shape = &kind->body, .wanted = length};
+    build(&b, kind, length);
+    struct instant t = {.length = b.length, .input = 0x55555555};
+    memcpy(t.bytes, b.bytes, sizeof b.bytes);
+    prepare(&t, kind->pause != NONE, kind->name);
+    return row(&t, kind->name).ratio;
+}
+
+/* A balanced statement of n commands of one byte each. */
+static void commands(struct builder *b, size_t n, uint8_t join)
+{
+    if (n <= 2) {
+        if (n == 2)
+            put(b, 0x09);
+        put(b, 0x00);
+        return;
+    }
+    put(b, join);
+    size_t first = (n - 1) / 2 | 1;
+    commands(b, first, join);
+    commands(b, n - 1 - first, join);
+}
+
+/* Six signals and as many loops begun again as leave room for a body in whose every byte a command reacts. */
+static double dearest(uint8_t join, unsigned loops)
+{
+    size_t body = CAPACITY - 2 * SIGNALS - 8 * loops;
+    struct builder b;
+    do {
+        b = (struct builder){.length = 0};
+        enclose(&b, SIGNALS, loops);
+        commands(&b, body--, join);
+    } while (plain_check(b.bytes, b.length) != 0);
+    struct instant t = {.length = b.length};
+    memcpy(t.bytes, b.bytes, sizeof b.bytes);
+    char name[64];
+    snprintf(name, sizeof name, "%u loops, body of %s", loops, join == 0x04 ? "sequences" : "parallels");
+    prepare(&t, true, name);
+    return row(&t, name).intake;
+}
+
+int main(void)
+{
+    static const size_t lengths[] = {64, 256, 712, 1024};
+    double logarithms = 0, most = 0;
+    unsigned rows = 0;
+    printf("medians of up to %d rounds in turn; plain C by " BUILT_BY "\n", ROUNDS);
+    printf("%-28s %5s %9s %10s %10s %7s %7s %6s\n", "", "", "", "ns an", "instant", "ns a", "reaction", "");
+    printf("%-28s %5s %9s %10s %10s %7s %7s %6s\n", "instant", "bytes", "reactions", "intake", "plain", "intake",
+           "plain", "ratio");
+    for (unsigned i = 0; i < sizeof kinds / sizeof *kinds; i++)
+        for (unsigned j = 0; j < sizeof lengths / sizeof *lengths; j++, rows++)
+            logarithms += log(kind_row(&kinds[i], lengths[j]));
+    printf("geometric mean of the ratios %.2f\n", exp(logarithms / rows));
+    printf("the dearest instants, six signals around the loops:\n");
+    for (unsigned loops = 15; loops <= 17; loops++)
+        for (uint8_t join = 0x04; join <= 0x05; join++)
+            most = fmax(most, dearest(join, loops));
+    printf("the dearest takes %.2f ms\n", most / 1e6);
+}

@@ -1,0 +1,153 @@
+/*
+ * The tick through include/intake.h, built with sanitizers: every line of the table that is the argument
+ * (host/ticks.txt), in buffers that show a read outside of them, a write outside of the records, and any write by a
+ * call that is turned down. The last line is 'N passed, M failed'.
+ */
+#include "testing.h"
+
+#include "intake.h"
+
+/* A tick and what it gives. */
+struct tick {
+    struct bytes sequence, state, answer;
+    uint32_t input;
+    uint8_t number;
+    struct bytes state_after, answer_after;
+};
+
+static const char *field(const char *text, const char *line)
+{
+    if (*text != '|')
+        die("no line of a table", line);
+    return text + 1;
+}
+
+/* The answer buffer is full of `fill` before the tick. */
+static struct tick read_line(const char *line, uint8_t fill)
+{
+    struct tick t = {.number = 0};
+    char *after;
+    t.number = (uint8_t)strtoul(line, &after, 10);
+    if (*after != ':')
+        die("no line of a table", line);
+    const char *text = field(expand(after + 1, &t.sequence), line);
+    text = field(expand(text, &t.state), line);
+    t.answer.count = strtoul(text, &after, 10);
+    memset(t.answer.at, fill, t.answer.count);
+    text = field(after + strspn(after, " "), line);
+    t.input = (uint32_t)strtoul(text, &after, 16);
+    if (t.number == 0) {
+        text = field(after + strspn(after, " "), line);
+        text = field(expand(text, &t.state_after), line);
+        text = expand(text, &t.answer_after);
+    } else {
+        text = after;
+        t.state_after = t.state;
+        t.answer_after = t.answer;
+    }
+    if (*text != '\n' || t.state_after.count != t.state.count || t.answer_after.count != t.answer.count)
+        die("no line of a table", line);
+    return t;
+}
+
+/* Ticks, and compares the number and both records; the three buffers hold what `t` says. */
+static void run_in(const struct tick *t, const uint8_t *sequence, uint8_t *state, uint8_t *answer, const char *where,
+                   const char *line)
+{
+    uint8_t number =
+        intake_tick(sequence, t->sequence.count, state, t->state.count, t->input, answer, t->answer.count);
+    bool same = memcmp(sequence, t->sequence.at, t->sequence.count) == 0 &&
+                memcmp(state, t->state_after.at, t->state.count) == 0 &&
+                memcmp(answer, t->answer_after.at, t->answer.count) == 0;
+    expect(number == t->number && same, number, where, line);
+}
+
+static bool all(const uint8_t *bytes, uint8_t value)
+{
+    for (int i = 0; i < GUARD; i++)
+        if (bytes[i] != value)
+            return false;
+    return true;
+}
+
+/* One buffer with guard bytes around each of the three, or with none between them. */
+static void between_guards(const struct tick *t, size_t gap, uint8_t guard, const char *line)
+{
+    static uint8_t buffer[3 * CAPACITY + 4 * GUARD];
+    memset(buffer, guard, sizeof buffer);
+    uint8_t *sequence = buffer + GUARD;
+    uint8_t *state = sequence + t->sequence.count + gap;
+    uint8_t *answer = state + t->state.count + gap, *end = answer + t->answer.count;
+    memcpy(sequence, t->sequence.at, t->sequence.count);
+    memcpy(state, t->state.at, t->state.count);
+    memcpy(answer, t->answer.at, t->answer.count);
+    run_in(t, sequence, state, answer, gap == 0 ? "no gaps" : "guards", line);
+    bool kept = all(buffer, guard) && all(end, guard);
+    if (gap != 0)
+        kept = kept && all(state - gap, guard) && all(answer - gap, guard);
+    expect(kept, t->number, "the guards", line);
+}
+
+/* Each buffer in a page of its own: the sequence, and after a refusal the records too, in read-only memory. */
+static void between_pages(const struct tick *t, const char *line)
+{
+    struct page pages[3] = {new_page(), new_page(), new_page()};
+    for (int at_end = 0; at_end < 2; at_end++) {
+        const uint8_t *sequence = place(pages[0], at_end, &t->sequence, false);
+        uint8_t *state = place(pages[1], at_end, &t->state, t->number == 0);
+        uint8_t *answer = place(pages[2], at_end, &t->answer, t->number == 0);
+        run_in(t, sequence, state, answer, "pages", line);
+    }
+    for (int i = 0; i < 3; i++)
+        free_page(pages[i]);
+}
+
+static void run(const char *line)
+{
+    for (int i = 0; i < 2; i++) {
+        uint8_t fill = i == 0 ? 0x00 : 0xFF;
+        struct tick t = read_line(line, (uint8_t)~fill);
+        between_guards(&t, GUARD, fill, line);
+        between_guards(&t, 0, fill, line);
+        between_pages(&t, line);
+    }
+}
+
+/* A host in short: 01's listing, with the names of the header. */
+static void listing(void)
+{
+    static const uint8_t sequence[] = {0x08, 0x00, 0x04, 0x02, 0x00, 0x04, 0x01, 0x01, 0x02, 0x01};
+    uint8_t state[INTAKE_STATE_LENGTH] = {0}, answer[INTAKE_ANSWER_LENGTH];
+    uint8_t number = intake_tick(sequence, sizeof sequence, state, sizeof state, 0, answer, sizeof answer);
+    expect(number == INTAKE_ACCEPTED && answer[INTAKE_ANSWER_CODE] == INTAKE_WAITING &&
+               answer[INTAKE_ANSWER_KIND] == INTAKE_NO_ERROR && state[INTAKE_STATE_PHASE] == INTAKE_PHASE_WAITING &&
+               state[INTAKE_STATE_LABELS] == 1 << 1,
+           number, "first instant", "listing\n");
+    number = intake_tick(sequence, sizeof sequence, state, sizeof state, 0, answer, sizeof answer);
+    expect(number == INTAKE_ACCEPTED && answer[INTAKE_ANSWER_CODE] == INTAKE_ENDED &&
+               answer[INTAKE_ANSWER_EMITTED] == 1 << 1 && state[INTAKE_STATE_PHASE] == INTAKE_PHASE_OVER,
+           number, "second instant", "listing\n");
+    number = intake_tick(sequence, sizeof sequence, state, sizeof state, 0, answer, sizeof answer);
+    expect(number == INTAKE_OVER, number, "once over", "listing\n");
+}
+
+static void null_pointers(void)
+{
+    uint8_t state[INTAKE_STATE_LENGTH] = {0}, answer[INTAKE_ANSWER_LENGTH];
+    uint8_t number = intake_tick(NULL, 0, NULL, 0, 0, NULL, 0);
+    expect(number == INTAKE_BUFFER_LENGTH, number, "null pointers", "1\n");
+    number = intake_tick(NULL, 0, state, sizeof state, 0, answer, sizeof answer);
+    expect(number == INTAKE_SEQUENCE_LENGTH, number, "null pointer", "2\n");
+}
+
+_Static_assert(INTAKE_STATE_LABELS + INTAKE_STATE_LABELS_LENGTH == INTAKE_STATE_LENGTH, "the state record");
+_Static_assert(INTAKE_ANSWER_PLACE + INTAKE_ANSWER_PLACE_LENGTH == INTAKE_ANSWER_EMITTED, "the answer record");
+_Static_assert(INTAKE_ANSWER_EMITTED + INTAKE_ANSWER_EMITTED_LENGTH == INTAKE_ANSWER_LENGTH, "the answer record");
+
+int main(int argc, char **argv)
+{
+    each_line(argc == 2 ? argv[1] : NULL, run);
+    listing();
+    null_pointers();
+    return verdict();
+}

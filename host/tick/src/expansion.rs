@@ -1,0 +1,143 @@
+//! The instants of document 01 by labels: a waiting machine reacts with its expansion. It shares nothing with
+//! rewriting.rs but the terms.
+use crate::statement::{Statement, Term};
+use std::rc::Rc;
+
+/// 002, figure 5: the expansion of a statement with an active pause. None if it has none.
+pub fn expand(term: &Term, labels: u64) -> Option<Term> {
+    let expanded = match &**term {
+        Statement::Pause(l) if labels >> l & 1 == 1 => Statement::Nothing,
+        Statement::Seq(p, q) => match (expand(p, labels), expand(q, labels)) {
+            (Some(p), None) => Statement::Seq(p, q.clone()),
+            (None, second) => return second,
+            (Some(_), Some(_)) => panic!("both parts of a sequence are active"),
+        },
+        Statement::Present(_, p, q) => match (expand(p, labels), expand(q, labels)) {
+            (first, None) => return first,
+            (None, second) => return second,
+            (Some(_), Some(_)) => panic!("both branches of a present are active"),
+        },
+        Statement::Par(p, q) => match (expand(p, labels), expand(q, labels)) {
+            (None, None) => return None,
+            (p, q) => Statement::Par(p.unwrap_or_else(nothing), q.unwrap_or_else(nothing)),
+        },
+        Statement::Loop(_, p) => Statement::Seq(expand(p, labels)?, term.clone()),
+        Statement::Signal(place, s, p) => Statement::Signal(*place, *s, expand(p, labels)?),
+        Statement::Try(p) => Statement::Try(expand(p, labels)?),
+        _ => return None,
+    };
+    Some(Rc::new(expanded))
+}
+
+fn nothing() -> Term {
+    Rc::new(Statement::Nothing)
+}
+
+/// 003: the code that is greater than all.
+pub const WRONG: u32 = u32::MAX;
+
+#[derive(Clone, Copy)]
+pub struct Answer {
+    pub emitted: u32,
+    pub code: u32,
+    pub labels: u64,
+}
+
+/// Kind and place.
+pub type Error = (u8, usize);
+
+/// The five cases of a signal, in printed order.
+pub const CASES: [&str; 5] = ["++", "--", "+-", "-+", "inherited"];
+
+/// What happened anywhere in the tree of reactions of one instant.
+#[derive(Default)]
+pub struct Tree {
+    /// First part before second, run without the signal before run with it, a command after its parts.
+    pub errors: Vec<Error>,
+    pub reactions: u64,
+    /// Uses of each case.
+    pub cases: [u64; 5],
+    /// Parallels that lost the labels of a side.
+    pub lost: u64,
+    /// Parallels with an error and an emission.
+    pub emitted_beside: u64,
+    /// The places of loops that began.
+    pub begun: Vec<usize>,
+}
+
+impl Tree {
+    /// 01, 'One reaction'.
+    pub fn react(&mut self, term: &Term, present: u32) -> Answer {
+        self.reactions += 1;
+        let quiet = Answer { emitted: 0, code: 0, labels: 0 };
+        match &**term {
+            Statement::Nothing => quiet,
+            Statement::Pause(l) | Statement::Setpause(l) => Answer { code: 1, labels: 1 << l, ..quiet },
+            Statement::Emit(s) => Answer { emitted: 1 << s, ..quiet },
+            Statement::Exit(n) => Answer { code: *n as u32 + 1, ..quiet },
+            Statement::Seq(p, q) => {
+                let first = self.react(p, present);
+                if first.code != 0 {
+                    return first;
+                }
+                let second = self.react(q, present);
+                Answer { emitted: first.emitted | second.emitted, ..second }
+            }
+            Statement::Par(p, q) => self.parallel(p, q, present),
+            Statement::Loop(place, p) => {
+                self.begun.push(*place);
+                match self.react(p, present) {
+                    Answer { code: 0, .. } => self.wrong(1, *place),
+                    body => body,
+                }
+            }
+            Statement::Present(s, p, q) => self.react(if present & 1 << s != 0 { p } else { q }, present),
+            Statement::Signal(place, s, p) => self.signal(*place, *s, p, present),
+            Statement::Try(p) => {
+                let body = self.react(p, present);
+                let code = match body.code {
+                    0 | 1 | WRONG => body.code,
+                    2 => 0,
+                    greater => greater - 1,
+                };
+                Answer { code, ..body }
+            }
+        }
+    }
+
+    fn wrong(&mut self, kind: u8, place: usize) -> Answer {
+        self.errors.push((kind, place));
+        Answer { emitted: 0, code: WRONG, labels: 0 }
+    }
+
+    fn parallel(&mut self, p: &Term, q: &Term, present: u32) -> Answer {
+        let (p, q) = (self.react(p, present), self.react(q, present));
+        let code = p.code.max(q.code);
+        let labels = p.labels | q.labels;
+        self.lost += (code > 1 && labels != 0) as u64;
+        self.emitted_beside += (code == WRONG && p.emitted | q.emitted != 0) as u64;
+        Answer { emitted: p.emitted | q.emitted, code, labels: if code == 1 { labels } else { 0 } }
+    }
+
+    fn signal(&mut self, place: usize, s: u8, p: &Term, present: u32) -> Answer {
+        let only = 1u32 << s;
+        let minus = self.react(p, present - (present & only));
+        let plus = self.react(p, present | only);
+        let (in_minus, in_plus) = (minus.emitted & only != 0, plus.emitted & only != 0);
+        let fits = [
+            in_minus && in_plus,
+            !in_minus && !in_plus && minus.code != WRONG && plus.code != WRONG,
+            in_minus && !in_plus && plus.code != WRONG,
+            in_plus && !in_minus && minus.code != WRONG,
+            true,
+        ];
+        let case = fits.iter().position(|&fit| fit).expect("the last one fits");
+        self.cases[case] += 1;
+        match case {
+            0 => Answer { emitted: plus.emitted - only, ..plus },
+            1 => minus,
+            2 | 3 => self.wrong(case as u8, place),
+            _ => Answer { emitted: 0, code: WRONG, labels: 0 },
+        }
+    }
+}

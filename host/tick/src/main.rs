@@ -1,0 +1,74 @@
+//! The host test of the tick: intake_tick of the archive against two implementations of document 01 on explicit terms,
+//! by expansion of the label set (expansion.rs) and by rewriting (rewriting.rs).
+//! An argument replaces the seed. The last line is 'N passed, M failed'.
+mod archive;
+mod expansion;
+mod reference;
+mod rewriting;
+mod runs;
+mod small;
+mod statement;
+mod tally;
+
+use common::{generate::Random, table};
+use reference::Sequence;
+use std::{env, process::ExitCode};
+use tally::{Tally, GREATEST};
+
+/// The lines of host/ticks.txt: what is written there by hand is what the reference gives, and the archive too.
+fn by_hand(tally: &mut Tally) {
+    for (number, text) in table::lines(include_str!("../../ticks.txt")) {
+        let fields: Vec<&str> = text.split('|').map(str::trim).collect();
+        let (sequence, state) = (Sequence::new(table::bytes(fields[0])), table::bytes(fields[1]));
+        let answer_length = fields[2].parse().expect("a length");
+        let input = u32::from_str_radix(fields[3], 16).expect("an input");
+        let expected = match fields[4..] {
+            [state, answer] => Ok((table::bytes(state), table::bytes(answer))),
+            _ => Err(number),
+        };
+        let given = reference::tick(&sequence, &state, input, answer_length);
+        let holds = given.map(|instant| (instant.state, instant.answer)) == expected;
+        tally.expect(holds, || format!("the reference on {number}:{text}"));
+        tally.compare(&sequence, &state, input, answer_length, None);
+    }
+}
+
+/// Row 1: buffers of all lengths around the right ones, and such as a narrow counter would take for them.
+fn lengths(tally: &mut Tally) {
+    let lengths = || (0..=20).chain([255, 256, 264, 265, 65_544, 65_545]);
+    for bytes in ["", "0B", "00", "01 00", "00 00", "1025(00)"].map(table::bytes) {
+        let sequence = Sequence::new(bytes);
+        for (state, answer) in lengths().flat_map(|s| lengths().map(move |a| (s, a))) {
+            (0..3).for_each(|phase| {
+                let mut record = vec![0; state];
+                record.iter_mut().take(1).for_each(|byte| *byte = phase);
+                tally.compare(&sequence, &record, 0, answer, None);
+            });
+        }
+    }
+}
+
+fn main() -> ExitCode {
+    let seed = env::args().nth(1).map_or(20_251_115, |s| s.parse().expect("the seed is a number"));
+    println!("seed {seed}");
+    let numbers: String = (0..=GREATEST).map(|n| format!("{n:>8}")).collect();
+    println!("{:<16}{numbers}  failed", "numbers");
+    let (mut tally, mut random) = (Tally::default(), Random(seed));
+    by_hand(&mut tally);
+    tally.close("by hand");
+    lengths(&mut tally);
+    tally.close("buffers");
+    small::every_state(&mut tally);
+    tally.close("small, states");
+    small::every_run(&mut tally);
+    tally.close("small, runs");
+    runs::runs(&mut tally, &mut random, 200_000);
+    tally.close("runs");
+    runs::states(&mut tally, &mut random, 60_000);
+    tally.close("states");
+    runs::damaged(&mut tally, &mut random, 60_000);
+    tally.close("damaged");
+    tally.reached();
+    println!("{} passed, {} failed", tally.passed, tally.failed);
+    ExitCode::from((tally.failed > 0) as u8)
+}

@@ -1,0 +1,146 @@
+//! Random runs of many instants, and single ticks from random state records.
+use crate::reference::Sequence;
+use crate::rewriting::Paper;
+use crate::tally::Tally;
+use common::generate::{self, Random, Style};
+
+/// Few names, so that emissions meet tests, and loops that mostly wait.
+fn style(random: &mut Random) -> Style {
+    let mut weights = [0; 11];
+    weights.fill_with(|| random.pick(&[0, 1, 2, 4, 8]));
+    weights[0x0A] *= random.below(2);
+    Style {
+        weights,
+        names: random.pick(&[1, 2, 3, 8, 32]),
+        exits: random.pick(&[1, 2, 3, 15]),
+        framed: random.pick(&[40, 90, 95, 100]),
+        endless: random.chance(60),
+        small: random.below(4),
+        loose: random.chance(30),
+        labels: random.pick(&[2, 16, 64, 64]),
+        levels: 64,
+        signals: random.pick(&[1, 2, 3, 6]),
+    }
+}
+
+/// An accepted sequence; most are short.
+fn sequence(random: &mut Random) -> Sequence {
+    loop {
+        let longest = random.pick(&[12, 24, 24, 48, 48, 48, 96, 96, 200]);
+        let longest = if random.chance(1) { 1024 } else { longest };
+        let length = 1 + random.below(longest);
+        let style = style(random);
+        let sequence = Sequence::new(generate::sequence(random, style, length).bytes);
+        if sequence.read.is_ok() {
+            return sequence;
+        }
+    }
+}
+
+fn input(random: &mut Random) -> u32 {
+    let any = random.below(1 << 32) as u32;
+    random.pick(&[0, u32::MAX, any & 7, any, any])
+}
+
+/// Mostly right.
+fn answer_length(random: &mut Random) -> usize {
+    if random.chance(97) {
+        8
+    } else {
+        random.below(20)
+    }
+}
+
+/// `count` runs from a cleared record, each two ticks longer than its machine or up to 40 ticks long.
+pub fn runs(tally: &mut Tally, random: &mut Random, count: usize) {
+    let mut instants = 0;
+    let mut endless = 0;
+    for _ in 0..count {
+        let sequence = sequence(random);
+        let mut paper = match &sequence.read {
+            Ok((_, term)) if sequence.setpauses() == 0 => Some(Paper::Fresh(term.clone())),
+            _ => None,
+        };
+        let mut state = vec![0; 9];
+        let mut after_over = 0;
+        let ticks = random.pick(&[4, 8, 16, 40]);
+        for _ in 0..ticks {
+            let (input, length) = (input(random), answer_length(random));
+            let (number, after) = tally.compare(&sequence, &state, input, length, paper.as_mut());
+            instants += (number == 0) as u64;
+            state = after;
+            after_over += (state[0] == 2) as u64;
+            if after_over > 2 {
+                break;
+            }
+        }
+        endless += (state[0] == 1) as u64;
+    }
+    println!("{count} runs, {instants} instants, {endless} still wait");
+    tally.expect(instants > 3 * count as u64 && endless > count as u64 / 10, || "the runs are too short".into());
+}
+
+/// A valid label set, grown from the pauses in random order.
+fn valid_set(random: &mut Random, sequence: &Sequence) -> u64 {
+    let Ok((tree, _)) = &sequence.read else { return 0 };
+    let pauses = tree.pauses();
+    let most = random.pick(&[1, 2, 64]);
+    let mut set = 0u64;
+    for _ in 0..2 * pauses.len() {
+        let larger = set | 1 << random.pick(&pauses).operand;
+        if larger.count_ones() <= most && tree.valid(larger) {
+            set = larger;
+        }
+    }
+    set
+}
+
+fn record(phase: u8, labels: u64) -> Vec<u8> {
+    [&[phase][..], &labels.to_le_bytes()].concat()
+}
+
+/// A record that is valid, nearly so, or any nine bytes.
+fn state(random: &mut Random, sequence: &Sequence) -> Vec<u8> {
+    let set = valid_set(random, sequence);
+    let label = 1 << random.below(64);
+    match random.below(12) {
+        0 => record(0, 0),
+        1 => record(2, 0),
+        2 => record(random.pick(&[0, 2]), set),
+        3 => record(3 + random.below(253) as u8, random.pick(&[0, set])),
+        4 => record(1, set | label),
+        5 => record(1, set ^ label),
+        6 => record(1, set | valid_set(random, sequence)),
+        7 => (0..9).map(|_| random.below(256) as u8).collect(),
+        _ => record(1, set),
+    }
+}
+
+/// Ticks of accepted sequences from random records, reachable or not.
+pub fn states(tally: &mut Tally, random: &mut Random, count: usize) {
+    for _ in 0..count {
+        let sequence = sequence(random);
+        for _ in 0..4 {
+            let state = state(random, &sequence);
+            let input = input(random);
+            tally.compare(&sequence, &state, input, 8, None);
+        }
+    }
+}
+
+/// Ticks of damaged sequences, with records and buffers of any length.
+pub fn damaged(tally: &mut Tally, random: &mut Random, count: usize) {
+    for _ in 0..count {
+        let style = Style::any(random);
+        let longest = random.pick(&[16, 64, 256, 1031]);
+        let length = random.below(longest);
+        let sequence = generate::sequence(random, style, length);
+        let sequence = Sequence::new(generate::damaged(random, &sequence));
+        let mut state = state(random, &sequence);
+        if random.chance(5) {
+            state.resize(random.below(20), 0);
+        }
+        let (input, length) = (input(random), answer_length(random));
+        tally.compare(&sequence, &state, input, length, None);
+    }
+}

@@ -1,0 +1,64 @@
+//! All statements of one to five commands over two signals, two labels and two exits.
+use crate::reference::Sequence;
+use crate::rewriting::Paper;
+use crate::tally::Tally;
+use common::table::bytes;
+
+/// All statements of up to `most` commands, by their count.
+fn statements(most: usize) -> Vec<Vec<Vec<u8>>> {
+    let leaves = ["00", "01 00", "01 01", "02 00", "02 01", "03 01", "03 02", "0A 00", "0A 01"];
+    let (wraps, joins) = (["06", "08 00", "08 01", "09"].map(bytes), ["04", "05", "07 00", "07 01"].map(bytes));
+    let mut all = vec![vec![], leaves.map(bytes).to_vec()];
+    for count in 2..=most {
+        let mut larger: Vec<Vec<u8>> = Vec::new();
+        for p in &all[count - 1] {
+            larger.extend(wraps.iter().map(|wrap| [&wrap[..], p].concat()));
+        }
+        for first in 1..count - 1 {
+            for (p, q) in all[first].iter().flat_map(|p| all[count - 1 - first].iter().map(move |q| (p, q))) {
+                larger.extend(joins.iter().map(|join| [&join[..], p, q].concat()));
+            }
+        }
+        all.push(larger);
+    }
+    all
+}
+
+/// Every statement from every record of phase 0 to 3 and labels 0 to 2, with every input of two bits.
+pub fn every_state(tally: &mut Tally) {
+    for bytes in statements(5).into_iter().flatten() {
+        let sequence = Sequence::new(bytes);
+        for (phase, labels) in (0..4).flat_map(|phase| (0..8).map(move |labels| (phase, labels))) {
+            let state = [phase, labels, 0, 0, 0, 0, 0, 0, 0];
+            // a tick turned down does not depend on the input
+            if tally.compare(&sequence, &state, 0, 8, None).0 == 0 {
+                (1..4).for_each(|input| drop(tally.compare(&sequence, &state, input, 8, None)));
+            }
+            if sequence.read.is_err() {
+                break; // nor a bad sequence on the record
+            }
+        }
+    }
+}
+
+/// Every statement without setpause against the paper, over every list of three inputs of two bits.
+pub fn every_run(tally: &mut Tally) {
+    for bytes in statements(5).into_iter().flatten() {
+        let sequence = Sequence::new(bytes);
+        if let Ok((_, term)) = &sequence.read {
+            if sequence.setpauses() == 0 {
+                continue_run(tally, &sequence, &Paper::Fresh(term.clone()), &[0; 9], 3);
+            }
+        }
+    }
+}
+
+fn continue_run(tally: &mut Tally, sequence: &Sequence, paper: &Paper, state: &[u8], ticks: usize) {
+    for input in 0..4 {
+        let mut paper = paper.clone();
+        let (_, after) = tally.compare(sequence, state, input, 8, Some(&mut paper));
+        if ticks > 1 && after[0] == 1 {
+            continue_run(tally, sequence, &paper, &after, ticks - 1);
+        }
+    }
+}

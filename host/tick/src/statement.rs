@@ -1,0 +1,44 @@
+//! Statements as terms (01, 'Commands').
+use common::reference::{Command, Tree};
+use std::rc::Rc;
+
+pub type Term = Rc<Statement>;
+
+/// A loop and a signal carry their place, by which an error names them.
+pub enum Statement {
+    Nothing,
+    Pause(u8),
+    Emit(u8),
+    Exit(u8),
+    Seq(Term, Term),
+    Par(Term, Term),
+    Loop(usize, Term),
+    Present(u8, Term, Term),
+    Signal(usize, u8, Term),
+    Try(Term),
+    Setpause(u8),
+}
+
+/// The term of an accepted sequence.
+pub fn term(tree: &Tree) -> Term {
+    build(&mut tree.0.iter())
+}
+
+fn build<'a>(commands: &mut impl Iterator<Item = &'a Command>) -> Term {
+    let command = commands.next().expect("a statement is whole");
+    let operand = command.operand;
+    let mut part = || build(commands);
+    Rc::new(match command.byte {
+        0x00 => Statement::Nothing,
+        0x01 => Statement::Pause(operand),
+        0x02 => Statement::Emit(operand),
+        0x03 => Statement::Exit(operand),
+        0x04 => Statement::Seq(part(), part()),
+        0x05 => Statement::Par(part(), part()),
+        0x06 => Statement::Loop(command.at, part()),
+        0x07 => Statement::Present(operand, part(), part()),
+        0x08 => Statement::Signal(command.at, operand, part()),
+        0x09 => Statement::Try(part()),
+        _ => Statement::Setpause(operand),
+    })
+}

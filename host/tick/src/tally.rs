@@ -1,0 +1,158 @@
+//! The comparisons, and what they reached.
+use crate::archive;
+use crate::expansion::CASES;
+use crate::reference::{tick, Instant, Sequence};
+use crate::rewriting::{Paper, Seen};
+use common::table::hex;
+
+pub const GREATEST: usize = 12;
+
+/// Names of what a tree of reactions may hold, beside the cases of a signal.
+const EVENTS: [&str; 7] = [
+    "resumed",
+    "errors in an instant that is not wrong",
+    "wrong with several errors",
+    "labels lost in a parallel",
+    "emitted beside an error",
+    "one loop begun three times in one run",
+    "over a thousand reactions",
+];
+
+#[derive(Default)]
+pub struct Tally {
+    pub passed: u64,
+    pub failed: u64,
+    /// How many failed before the group that runs.
+    failed_before: u64,
+    /// How often each number was the answer, in the group that runs and in all.
+    numbers: [u64; GREATEST + 1],
+    all_numbers: [u64; GREATEST + 1],
+    /// Codes 0 to 16, and wrong.
+    codes: [u64; 18],
+    kinds: [u64; 4],
+    cases: [u64; CASES.len()],
+    events: [u64; EVENTS.len()],
+    /// Ticks compared with the paper.
+    papers: u64,
+    most_reactions: u64,
+    fill: u8,
+}
+
+impl Tally {
+    pub fn expect(&mut self, holds: bool, message: impl FnOnce() -> String) {
+        if holds {
+            self.passed += 1;
+            return;
+        }
+        self.failed += 1;
+        if self.failed <= 20 {
+            println!("FAILED {}", message());
+        }
+    }
+
+    /// Compares one tick of the archive with the expansion, and with the paper where there is one: number, both records
+    /// and the guards. Gives the number and the state that the archive left.
+    pub fn compare(
+        &mut self,
+        sequence: &Sequence,
+        state: &[u8],
+        input: u32,
+        answer_length: usize,
+        paper: Option<&mut Paper>,
+    ) -> (u8, Vec<u8>) {
+        self.fill = !self.fill;
+        let fill = self.fill;
+        let expected = tick(sequence, state, input, answer_length);
+        let outcome = archive::tick(&sequence.bytes, state, input, answer_length, fill);
+        let (number, after, answer) = match &expected {
+            Ok(instant) => (0, instant.state.clone(), instant.answer.clone()),
+            Err(number) => (*number, state.to_vec(), vec![fill; answer_length]),
+        };
+        self.numbers[number as usize] += 1;
+        if let Ok(instant) = &expected {
+            self.count(state, instant);
+        }
+        let holds = outcome.number == number && outcome.state.as_ref() == Some(&after);
+        let holds = holds && outcome.answer.as_ref() == Some(&answer);
+        let told = || {
+            let [s, a] = [&outcome.state, &outcome.answer].map(|b| b.as_ref().map_or("guards gone".into(), |b| hex(b)));
+            let call = format!("{} | {} | {answer_length} | {input:08X}", hex(&sequence.bytes), hex(state));
+            format!("{call}: {}: {s} | {a}, not {number}: {} | {}", outcome.number, hex(&after), hex(&answer))
+        };
+        self.expect(holds, told);
+        if let Some(paper) = paper {
+            self.compare_paper(paper, input, &outcome, answer_length, told);
+        }
+        (outcome.number, outcome.state.unwrap_or(after))
+    }
+
+    /// 01, 'The fitters' paper': number, code, emitted set and, after each tick, the phase.
+    fn compare_paper(
+        &mut self,
+        paper: &mut Paper,
+        input: u32,
+        outcome: &archive::Outcome,
+        answer_length: usize,
+        told: impl Fn() -> String,
+    ) {
+        self.papers += 1;
+        let seen = paper.tick(input, answer_length);
+        let shown = match (outcome.number, outcome.answer.as_deref()) {
+            (0, Some(&[code, _, _, _, a, b, c, d])) => {
+                Some(Seen::Instant { code, emitted: u32::from_le_bytes([a, b, c, d]) })
+            }
+            (0, _) => None,
+            (number, _) => Some(Seen::TurnedDown(number)),
+        };
+        let phase = outcome.state.as_ref().and_then(|state| state.first().copied());
+        let holds = shown.as_ref() == Some(&seen) && phase == Some(paper.phase());
+        self.expect(holds, || format!("paper {seen:?}, phase {}: {}", paper.phase(), told()));
+    }
+
+    fn count(&mut self, state: &[u8], instant: &Instant) {
+        let (code, tree) = (instant.answer[0], &instant.tree);
+        self.codes[if code == 255 { 17 } else { code as usize }] += 1;
+        self.kinds[instant.answer[1] as usize] += (code == 255) as u64;
+        (0..CASES.len()).for_each(|i| self.cases[i] += tree.cases[i]);
+        let events = [
+            state[0] == 1,
+            code != 255 && !tree.errors.is_empty(),
+            code == 255 && tree.errors.len() > 1,
+            tree.lost > 0,
+            tree.emitted_beside > 0,
+            tree.cases == [0; CASES.len()] && begun_thrice(&tree.begun),
+            tree.reactions > 1000,
+        ];
+        (0..EVENTS.len()).for_each(|i| self.events[i] += events[i] as u64);
+        self.most_reactions = self.most_reactions.max(tree.reactions);
+    }
+
+    /// Prints what the group `name` answered and begins the next one.
+    pub fn close(&mut self, name: &str) {
+        let numbers: String = self.numbers.iter().map(|n| format!("{n:>8}")).collect();
+        println!("{name:<16}{numbers}{:>8}", self.failed - self.failed_before);
+        (0..=GREATEST).for_each(|n| self.all_numbers[n] += self.numbers[n]);
+        self.numbers = [0; GREATEST + 1];
+        self.failed_before = self.failed;
+    }
+
+    /// Prints what was reached; a test that does not get there would show nothing.
+    pub fn reached(&mut self) {
+        let codes = (0..=17).map(|i| (format!("code {}", if i == 17 { 255 } else { i }), self.codes[i]));
+        let kinds = (1..=3).map(|kind| (format!("kind {kind}"), self.kinds[kind]));
+        let numbers = (0..=GREATEST).map(|n| (format!("number {n}"), self.all_numbers[n]));
+        let cases = (0..CASES.len()).map(|i| (format!("signal {}", CASES[i]), self.cases[i]));
+        let events = (0..EVENTS.len()).map(|i| (EVENTS[i].to_string(), self.events[i]));
+        let papers = [("compared with the paper".to_string(), self.papers)];
+        let all: Vec<_> = numbers.chain(codes).chain(kinds).chain(cases).chain(events).chain(papers).collect();
+        for (name, count) in all {
+            println!("{name:<40}{count:>10}");
+            self.expect(count >= 100, || format!("{name} occurred only {count} times"));
+        }
+        println!("{:<40}{:>10}", "most reactions in one instant", self.most_reactions);
+    }
+}
+
+fn begun_thrice(places: &[usize]) -> bool {
+    places.len() > 2 && places.iter().any(|place| places.iter().filter(|other| *other == place).count() > 2)
+}
