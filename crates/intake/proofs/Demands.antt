@@ -1,4 +1,5 @@
 -- DEMANDS 1 and 2 for the definitions checkOf and tickOf; demand 3 is proofs/Agreement.
+use Rattle.intake.specs.Bytes.{leNumber}
 use Rattle.intake.proofs.Agreement.{demand-3}
 use Prim.Native.Nat.{ℕ, _^_, _<_, _≤_}
 use native.Mathlib.Omega.{arith}
@@ -28,7 +29,7 @@ use Rattle.sequence.specs.Rows.{row-2, Spells}
 use Rattle.sequence.proofs.Rows.{check-by-rows}
 use Rattle.intake.specs.Records.{signalBytes, stateLength, answerLength, Decoded, holds, malformed, encodeState, decodeState, blame, encodeAnswer, codeByte}
 use Rattle.intake.specs.Tick.{Outcome, outcome, written, byState, byCheck, tickOf}
-use Rattle.intake.specs.TickRows.{phaseIn, labelsIn, Malformed, TickRow, row-1, row-2-to-10}
+use Rattle.intake.specs.TickRows.{phaseIn, labelsIn, Malformed, TickRow, row-1, row-2-to-10, phase-above, labels-fresh, labels-over, not-valid}
 use Rattle.intake.specs.Paper.{Call, paper, paperOf}
 use Rattle.intake.specs.Demands.{number, stateAfterwards, outcomes, kindIn, placeIn, Admitted, Demand1, StandsAt, at-start, at-labels, Shows, Demand2, TickMeets, codeIn, Chain, done, call, Demand3, report, cleared}
 use Rattle.intake.proofs.Bounds.{Below, emitted-below, Exits, code-exits, ranged-expand}
@@ -103,6 +104,17 @@ module _ (sequence : List ℕ) (a : Accepted sequence) where
       ⊎-elim (λ e. subst (λ (w : Outcome). number w ≢ 11) (sym e) (x .0))
       (λ t. all-pass calls (stateAfterwards (tickOf sequence state (c .input) (c .buffer))) (x .1) o t)
       (List·Memᴰ·cases-cons m)
+
+-- a cleared record is one that row 11 admits
+pub cleared-admitted : (sequence : List ℕ) → Admitted sequence cleared
+unfolding leNumber none
+cleared-admitted sequence = (refl, λ p s m. go m)
+  where
+    go : {p : Statement} → Malformed p (phaseIn cleared) (labelsIn cleared) → ⊥
+    go (phase-above h) = omega arith
+    go (labels-fresh e n) = n refl
+    go (labels-over e n) = omega arith
+    go (not-valid e n) = omega arith
 
 -- DEMAND 1
 pub demand-1 : Demand1 checkOf tickOf
