@@ -1,6 +1,6 @@
 // Numbers as bytes, lowest first.
 ghost use mathlib.Core.Path.{_≡_};
-ghost use Prim.Native.Nat.{_+_, _≤_};
+ghost use Prim.Native.Nat.{_+_, _^_, _≤_, _<_};
 ghost use lib.ListN.{length, take, drop};
 ghost use lib.Seq.{sets};
 ghost use Rattle.intake.specs.Bytes.{leBytes, leNumber};
@@ -31,6 +31,7 @@ pub fn put_le(buf: &mut [u8], at: usize, n: usize, x: u64)
 pub fn get_le(b: &[u8], at: usize, n: usize) -> u64
     requires { ⌜ (n ≤ 8) × (at + n ≤ length (now b)) ⌝ }
     ensures { λ r. ⌜ r ≡ leNumber (take n (drop at (now (b .entry)))) ⌝ }
+    ensures { λ r. ⌜ r < 256 ^ n ⌝ }
 {
     let mut x: u64 = 0;
     let mut k = n;

@@ -1,5 +1,5 @@
 // The records, the tick and the exports for hosts in C.
-mod le;
+pub mod le;
 mod records;
 mod tick;
 

@@ -2,7 +2,7 @@ use Rattle.intake.proofs.LeLoops.{get-bound, get-again, get-start, get-
 use Prim.Native.Nat.{ℕ, _*_, _^_, _<_}
 use borrow.Author.Needs.{needs}
 use Prim.Native.Nat.{_+_, _-_, _≤_}
-use mathlib.Core.Path.{_≡_, refl, sym, ap, ap₂, _∙_}
+use mathlib.Core.Path.{_≡_, sym, ap, _∙_, subst}
 use native.Mathlib.Omega.{arith}
 use lib.ListN.{length, take, drop}
 use Rattle.intake.specs.Bytes.{leNumber}
@@ -59,7 +59,8 @@ returns : tie.Need-returns Inv-loop μ-loop
 returns c =
     let l = c .before .loop in
     let a = c .before .before .before .args in
-    get-end (a .b .now) (a .at) (a .n) (l .k) (l .x) (l .inv .1) (search needs)
+    let e : l .x ≡ leNumber (take (a .n) (drop (a .at) (a .b .now))) = get-end (a .b .now) (a .at) (a .n) (l .k) (l .x) (l .inv .1) (search needs) in
+    (e, subst (λ (y : ℕ). y < 256 ^ a .n) (sym e) (leNumber-lt (a .b .now) (a .at) (a .n) (λ i. c .before .before .shared-slice-known .given i .fits)))
 
 pub get-le-spec : {M : Type 1} → statement M
 get-le-spec =

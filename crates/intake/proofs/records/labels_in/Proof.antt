@@ -17,7 +17,7 @@ from-bits-requires c κs = search needs
 returns : tie.Need-returns
 returns c =
     let s = c .before .before .before in
-    c .from-bits .ensures ∙ c .before .get-le .ensures ∙ labels-read (s .args .state .now) (s .pre)
+    c .from-bits .ensures ∙ c .before .get-le .ensures .0 ∙ labels-read (s .args .state .now) (s .pre)
 
 pub labels-in-spec : {M : Type 1} → statement M
 labels-in-spec = tie.close (tie.spec get-le-requires from-bits-requires returns)

@@ -1,0 +1,129 @@
+-- Laws of a run's file: its parts, whether it is whole, and its inputs.
+use Prim.Native.Nat.{ℕ, zero, suc, _+_, _-_, _*_, _/_, _%_, _^_, _≤_, _<_}
+use native.Mathlib.Nat.{pow-le-pow-right}
+use native.Mathlib.Omega.{arith}
+use mathlib.Core.Bool.{Bool, true, false, cond}
+use mathlib.Core.Logic.{_≢_}
+use mathlib.Core.Option.{none, some}
+use mathlib.Core.Path.{_≡_, refl, sym, ap, ap₂, _∙_, subst}
+use mathlib.Core.List.{List, [], _∷_, _++_}
+use lib.ListN.{length, take, drop, length-drop, drop-of-length-le}
+use lib.Seq.{take-all, take-nil, take-length, drop-nil, drop-drop}
+use lib.Dec.{eqb}
+use borrow.Author.Tests.{le-leb, lt-leb}
+use Rattle.sequence.specs.Check.{checkOf}
+use Rattle.intake.specs.Bytes.{leNumber}
+use Rattle.listing.specs.File.{File, cut, refused, runs, byNumber, fileOf, sequenceLength, inputsAt, sequenceIn, words, inputsIn, whole, maxFile}
+use Rattle.listing.specs.Answers.{first}
+
+-- ---- a part of a slice, cut to what is there
+pub part-none : (s : List ℕ) (from count : ℕ) → length s ≤ from
+    → take (length s - length s) (drop (length s) s) ≡ take count (drop from s)
+part-none s from count h =
+    let z : length s - length s ≡ 0 = omega arith in
+    ap (λ (n : ℕ). take n (drop (length s) s)) z ∙ sym (ap (take count) (drop-of-length-le s h) ∙ take-nil count)
+
+pub part-rest : (s : List ℕ) (from count : ℕ) → length s - from ≤ count → take (length s - from) (drop from s) ≡ take count (drop from s)
+part-rest s from count h =
+    let e : length (drop from s) ≡ length s - from = length-drop from s in
+    take-all (length s - from) (drop from s) (omega arith) ∙ sym (take-all count (drop from s) (omega arith))
+
+pub part-front : (s : List ℕ) (from count : ℕ) → take (from + count - from) (drop from s) ≡ take count (drop from s)
+part-front s from count = let e : from + count - from ≡ count = omega arith in ap (λ (n : ℕ). take n (drop from s)) e
+
+-- ---- the length that a file names
+pub named-length : (file head : List ℕ) (n : ℕ) → head ≡ take 2 (drop 0 file) → n ≡ leNumber (take (length head) (drop 0 head)) → n ≡ sequenceLength file
+named-length file head n h e = e ∙ ap leNumber (take-length head) ∙ ap leNumber h
+
+pub length-bound : (n k : ℕ) → n < 256 ^ k → k ≤ 2 → n < 65536
+length-bound n k h le = let q : 256 ^ k ≤ 256 ^ 2 = pow-le-pow-right {n = 256} (omega arith) {i = k} {j = 2} le in omega arith
+
+pub sequence-part : (file s : List ℕ) (n : ℕ) → n ≡ sequenceLength file → s ≡ take n (drop 2 file) → s ≡ sequenceIn file
+unfolding sequenceIn
+sequence-part file s n e h = h ∙ ap (λ (k : ℕ). take k (drop 2 file)) e
+
+-- ---- whole
+pub too-long : (file : List ℕ) → 65536 < length file → false ≡ whole file
+too-long file h = rw (lt-leb (length file) 65536 h) refl
+
+pub too-short : (file : List ℕ) → length file ≤ 65536 → length file < 2 → false ≡ whole file
+too-short file a h = rw (le-leb (length file) 65536 a, lt-leb 2 (length file) h) refl
+
+pub ended-early : (file : List ℕ) (n : ℕ) → n ≡ sequenceLength file → length file ≤ 65536 → 2 ≤ length file → length file < 2 + n → false ≡ whole file
+ended-early file n e a b h =
+    let k : length file < inputsAt file = subst (λ (m : ℕ). length file < 2 + m) e h in
+    rw (le-leb (length file) 65536 a, le-leb 2 (length file) b, lt-leb (inputsAt file) (length file) k) refl
+
+pub bytes-over : (file : List ℕ) (n : ℕ) → n ≡ sequenceLength file → length file ≤ 65536 → 2 ≤ length file → 2 + n ≤ length file
+    → eqb ((length file - (2 + n)) % 4) 0 ≡ whole file
+bytes-over file n e a b h =
+    let k : inputsAt file ≤ length file = subst (λ (m : ℕ). 2 + m ≤ length file) e h in
+    rw (le-leb (length file) 65536 a, le-leb 2 (length file) b, le-leb (inputsAt file) (length file) k, e) refl
+
+-- ---- what the file is
+pub file-cut : (file : List ℕ) → whole file ≡ false → cut ≡ fileOf file
+unfolding fileOf
+file-cut file h = rw h refl
+
+file-whole : (file : List ℕ) → whole file ≡ true → fileOf file ≡ byNumber (checkOf (sequenceIn file)) (sequenceIn file) (inputsIn file)
+unfolding fileOf
+file-whole file h = rw h refl
+
+pub file-runs : (file : List ℕ) (n : ℕ) → whole file ≡ true → n ≡ checkOf (sequenceIn file) → n ≡ 0 → runs (sequenceIn file) (inputsIn file) ≡ fileOf file
+file-runs file n h e z =
+    sym (file-whole file h ∙ ap (λ (k : ℕ). byNumber k (sequenceIn file) (inputsIn file)) (sym e ∙ z))
+
+by-number-refused : (n : ℕ) (s es : List ℕ) → n ≢ 0 → byNumber n s es ≡ refused n
+by-number-refused zero s es h = absurd (h refl)
+by-number-refused (suc n) s es h = refl
+
+pub file-refused : (file : List ℕ) (n : ℕ) → whole file ≡ true → n ≡ checkOf (sequenceIn file) → n ≢ 0 → refused n ≡ fileOf file
+file-refused file n h e z =
+    sym (file-whole file h ∙ ap (λ (k : ℕ). byNumber k (sequenceIn file) (inputsIn file)) (sym e) ∙ by-number-refused n (sequenceIn file) (inputsIn file) z)
+
+-- ---- inputs
+pub words-drop : (i : ℕ) (bs : List ℕ) → drop i (words bs) ≡ words (drop (4 * i) bs)
+unfolding words
+words-drop zero bs = refl
+words-drop (suc i) [] = sym (ap words (drop-nil (4 * suc i)))
+words-drop (suc i) (a ∷ []) = sym (ap words (drop-of-length-le (a ∷ []) {i = 4 * suc i} (omega arith)))
+words-drop (suc i) (a ∷ b ∷ []) = sym (ap words (drop-of-length-le (a ∷ b ∷ []) {i = 4 * suc i} (omega arith)))
+words-drop (suc i) (a ∷ b ∷ c ∷ []) = sym (ap words (drop-of-length-le (a ∷ b ∷ c ∷ []) {i = 4 * suc i} (omega arith)))
+words-drop (suc i) (a ∷ b ∷ c ∷ d ∷ bs) =
+    let e : suc (suc (suc (suc (4 * i)))) ≡ 4 * suc i = omega arith in
+    words-drop i bs ∙ ap (λ (n : ℕ). words (drop n (a ∷ b ∷ c ∷ d ∷ bs))) e
+
+words-none : (bs : List ℕ) → length bs < 4 → first (words bs) ≡ none
+unfolding words
+words-none [] h = refl
+words-none (a ∷ []) h = refl
+words-none (a ∷ b ∷ []) h = refl
+words-none (a ∷ b ∷ c ∷ []) h = refl
+words-none (a ∷ b ∷ c ∷ d ∷ bs) h = absurd (let z : 4 < 4 = omega arith in omega arith)
+
+words-first : (bs : List ℕ) → 4 ≤ length bs → first (words bs) ≡ some (leNumber (take 4 bs))
+unfolding words
+words-first [] h = absurd (let z : 4 ≤ 0 = h in omega arith)
+words-first (a ∷ []) h = absurd (let z : 4 ≤ 1 = h in omega arith)
+words-first (a ∷ b ∷ []) h = absurd (let z : 4 ≤ 2 = h in omega arith)
+words-first (a ∷ b ∷ c ∷ []) h = absurd (let z : 4 ≤ 3 = h in omega arith)
+words-first (a ∷ b ∷ c ∷ d ∷ bs) h = refl
+
+inputs-from : (file : List ℕ) (i : ℕ) → drop i (inputsIn file) ≡ words (drop (inputsAt file + 4 * i) file)
+unfolding inputsIn
+inputs-from file i = words-drop i (drop (inputsAt file) file) ∙ ap words (drop-drop (4 * i) (inputsAt file) file)
+
+pub no-input : (file : List ℕ) (i n : ℕ) → n ≡ sequenceLength file → length file < 2 + n + 4 * i + 4 → none ≡ first (drop i (inputsIn file))
+no-input file i n k h =
+    let at : 2 + n + 4 * i ≡ inputsAt file + 4 * i = ap (λ (m : ℕ). 2 + m + 4 * i) k in
+    sym
+    (ap first (inputs-from file i)
+    ∙ words-none (drop (inputsAt file + 4 * i) file) (omega (arith, length-drop (inputsAt file + 4 * i) file, at)))
+
+pub an-input : (file : List ℕ) (i n e : ℕ) → n ≡ sequenceLength file → e ≡ leNumber (take 4 (drop (2 + n + 4 * i) file)) → 2 + n + 4 * i + 4 ≤ length file
+    → some e ≡ first (drop i (inputsIn file))
+an-input file i n e k v h =
+    let at : 2 + n + 4 * i ≡ inputsAt file + 4 * i = ap (λ (m : ℕ). 2 + m + 4 * i) k in
+    let v′ : e ≡ leNumber (take 4 (drop (inputsAt file + 4 * i) file)) = v ∙ ap (λ (m : ℕ). leNumber (take 4 (drop m file))) at in
+    ap some v′
+    ∙ sym (ap first (inputs-from file i) ∙ words-first (drop (inputsAt file + 4 * i) file) (omega (arith, length-drop (inputsAt file + 4 * i) file, at)))

@@ -1,0 +1,105 @@
+-- Laws of the pieces: the input of an instant, and the turn that each stage takes.
+use Prim.Native.Nat.{ℕ, zero, suc, _+_, _≤_, _<_}
+use native.Mathlib.Numerals.{add-one}
+use native.Mathlib.Omega.{arith}
+use mathlib.Core.Bool.{Bool, true, false, cond}
+use mathlib.Core.Option.{Option, none, some}
+use mathlib.Core.Path.{_≡_, refl, sym, ap, ap₂, _∙_, subst}
+use mathlib.Core.List.{List, [], _∷_}
+use lib.ListN.{length, getD, drop, length-drop}
+use lib.Dec.{eqb}
+use Rattle.intake.specs.Tick.{Outcome, outcome}
+use Rattle.intake.specs.Demands.{stateAfterwards}
+use Rattle.listing.specs.declared.file.Opened.{Opened}
+use Rattle.listing.specs.declared.Stage.{Stage}
+use Rattle.listing.specs.declared.Stage.the-variants as stages
+use Rattle.listing.specs.declared.Run.{Run}
+use Rattle.listing.specs.Text.{ending}
+use Rattle.listing.specs.File.{fileOf, sequenceIn, words, inputsIn, inputsAt}
+use Rattle.listing.specs.Listing.{lineOf, rowIn, rowOf, ticked, isOver}
+use Rattle.listing.specs.Stages as Listing
+use Rattle.listing.specs.Answers.{fileBy, first, stageBy, stageIn, stageAfter}
+
+-- ---- the input that i others precede
+pub input-next : (i e : ℕ) (ws : List ℕ) → first (drop i ws) ≡ some e → drop i ws ≡ e ∷ drop (suc i) ws
+input-next zero e [] h = absurd (let z : _≡_ {A = ℕ} 0 1 = cc in omega arith)
+input-next zero e (w ∷ ws) h = let z : w ≡ e = cc in ap (λ (x : ℕ). x ∷ ws) z
+input-next (suc i) e [] h = absurd (let z : _≡_ {A = ℕ} 0 1 = cc in omega arith)
+input-next (suc i) e (w ∷ ws) h = input-next i e ws h
+
+within : (i e : ℕ) (ws : List ℕ) → first (drop i ws) ≡ some e → i < length ws
+within zero e [] h = absurd (let z : _≡_ {A = ℕ} 0 1 = cc in omega arith)
+within zero e (w ∷ ws) h = omega arith
+within (suc i) e [] h = absurd (let z : _≡_ {A = ℕ} 0 1 = cc in omega arith)
+within (suc i) e (w ∷ ws) h = omega (arith, within i e ws h)
+
+words-length : (bs : List ℕ) → length (words bs) ≤ length bs
+unfolding words
+words-length [] = omega arith
+words-length (a ∷ []) = omega arith
+words-length (a ∷ b ∷ []) = omega arith
+words-length (a ∷ b ∷ c ∷ []) = omega arith
+words-length (a ∷ b ∷ c ∷ d ∷ bs) = omega (arith, words-length bs)
+
+pub inputs-length : (file : List ℕ) → length (inputsIn file) ≤ length file
+unfolding inputsIn
+inputs-length file = omega (arith, words-length (drop (inputsAt file) file), length-drop (inputsAt file) file)
+
+pub input-within : (file : List ℕ) (i e : ℕ) → first (drop i (inputsIn file)) ≡ some e → i < length file
+input-within file i e h = omega (arith, within i e (inputsIn file) h, inputs-length file)
+
+-- ---- an instant
+stage-after : (b : Bool) (file after : List ℕ) (i : ℕ)
+    → cond b Listing.closing (Listing.running (sequenceIn file) after (suc (suc i)) (drop (suc i) (inputsIn file)))
+    ≡ stageBy file (cond b stages.Closing (stages.Running (suc i))) after
+stage-after true file after i = refl
+stage-after false file after i = refl
+
+turn-on : (s state : List ℕ) (j e : ℕ) (es : List ℕ) (o : Outcome) → o ≡ ticked s state e
+    → Listing.turnOf (Listing.running s state j (e ∷ es))
+    ≡ Listing.turn (lineOf (rowOf j o)) (cond (isOver (stateAfterwards o)) Listing.closing (Listing.running s (stateAfterwards o) (suc j) es))
+unfolding Listing.turnOf
+turn-on s state j e es o h =
+    ap
+    (λ (r : Outcome).
+    Listing.turn (lineOf (rowOf j r)) (cond (isOver (stateAfterwards r)) Listing.closing (Listing.running s (stateAfterwards r) (suc j) es)))
+    (sym h)
+
+pub instant-turn : (file state after answer : List ℕ) (i e n : ℕ) → first (drop i (inputsIn file)) ≡ some e
+    → outcome n after answer ≡ ticked (sequenceIn file) state e
+    → Listing.turn (lineOf (rowIn (i + 1) after answer)) (stageBy file (stageAfter (getD after 0 0) i) after)
+    ≡ Listing.turnOf (Listing.running (sequenceIn file) state (suc i) (drop i (inputsIn file)))
+instant-turn file state after answer i e n h o =
+    let b : Bool = eqb (getD after 0 0) 2 in
+    ap₂ Listing.turn (ap (λ (j : ℕ). lineOf (rowIn j after answer)) (add-one i))
+    (ap (λ (j : ℕ). stageBy file (cond b stages.Closing (stages.Running j)) after) (add-one i) ∙ sym (stage-after b file after i))
+    ∙ sym
+    (ap (λ (es : List ℕ). Listing.turnOf (Listing.running (sequenceIn file) state (suc i) es)) (input-next i e (inputsIn file) h)
+    ∙ turn-on (sequenceIn file) state (suc i) e (drop (suc i) (inputsIn file)) (outcome n after answer) o)
+
+pub no-turn : (s state : List ℕ) (j : ℕ) (es : List ℕ) → first es ≡ none
+    → Listing.turn ending Listing.finished ≡ Listing.turnOf (Listing.running s state j es)
+unfolding Listing.turnOf
+no-turn s state j [] h = refl
+no-turn s state j (e ∷ es) h = absurd (let z : _≡_ {A = ℕ} 0 1 = cc in omega arith)
+
+-- ---- the arms of a match
+pub opened-by : (file : List ℕ) (r r′ : Opened) → fileBy file r ≡ fileOf file → r ≡ r′
+    → Listing.opened (fileBy file r′) ≡ Listing.opened (fileOf file)
+opened-by file r r′ h e = ap Listing.opened (sym (ap (fileBy file) e) ∙ h)
+
+pub turn-by : (file : List ℕ) (run : Run) (g : Stage) → run .stage ≡ g
+    → Listing.turnOf (stageBy file g (run .state)) ≡ Listing.turnOf (stageIn file run)
+turn-by file run g e = ap (λ (h : Stage). Listing.turnOf (stageBy file h (run .state))) (sym e)
+
+pub turn-opening : (file : List ℕ) → Listing.opened (fileOf file) ≡ Listing.turnOf (Listing.opening file)
+unfolding Listing.turnOf
+turn-opening file = refl
+
+pub turn-closing : Listing.turn ending Listing.finished ≡ Listing.turnOf Listing.closing
+unfolding Listing.turnOf
+turn-closing = refl
+
+pub turn-finished : Listing.turn [] Listing.finished ≡ Listing.turnOf Listing.finished
+unfolding Listing.turnOf
+turn-finished = refl

@@ -1,0 +1,58 @@
+use native.Mathlib.Omega.{arith}
+use Rattle.listing.proofs.Files.{no-input, an-input}
+use borrow.Author.Needs.{needs}
+use Rattle.listing.proofs.file.input_at.Statement.{statement}
+use Rattle.listing.proofs.file.input_at.Tie as tie
+use Rattle.listing.proofs.file.input_at.Reads as reads
+use Rattle.listing.proofs.file.input_at.Lts as lts
+use Rattle.intake.proofs.le.get_le.Reads as get-le-reads
+use Rattle.listing.proofs.file.sequence_length.Reads as sequence-length-reads
+
+sequence-length-requires : tie.Need-sequence-length-requires
+sequence-length-requires c κs = search needs
+
+add-at : tie.Need-add-at
+add-at c = search needs
+
+returns : tie.Need-returns
+returns c =
+    let a = c .before .before .before .args in
+    no-input (a .file .now) (a .i) (c .before .sequence-length .result) (c .before .sequence-length .ensures .0) (omega arith)
+
+returns-2 : tie.Need-returns-2
+returns-2 c =
+    let a = c .before .before .before .before .args in
+    let l = c .before .before .sequence-length in
+    no-input (a .file .now) (a .i) (l .result) (l .ensures .0) (omega arith)
+
+mul-get-le : tie.Need-mul-get-le
+mul-get-le c = search needs
+
+add-get-le : tie.Need-add-get-le
+add-get-le c = search needs
+
+get-le-requires : tie.Need-get-le-requires
+get-le-requires c κs = search needs
+
+cast-t9 : tie.Need-cast-t9
+cast-t9 c = omega (arith, c .get-le .ensures .1)
+
+returns-3 : tie.Need-returns-3
+returns-3 c =
+    let a = c .before .before .before .before .before .args in
+    let l = c .before .before .before .sequence-length in
+    an-input (a .file .now) (a .i) (l .result) (c .get-le .result) (l .ensures .0) (c .get-le .ensures .0) (omega arith)
+
+pub input-at-spec : {M : Type 1} → statement M
+input-at-spec =
+    tie.close
+    (tie.spec
+    sequence-length-requires
+    add-at
+    returns
+    returns-2
+    mul-get-le
+    add-get-le
+    get-le-requires
+    cast-t9
+    returns-3)

@@ -1,0 +1,56 @@
+use borrow.Author.Tests.{not-true, not-false}
+use Rattle.listing.specs.File.{whole, sequenceIn}
+use mathlib.Core.Bool.{true}
+use mathlib.Core.Path.{_≡_, sym, ap, _∙_}
+use Rattle.sequence.specs.Check.{checkOf}
+use Rattle.listing.proofs.Files.{file-cut, file-runs, file-refused}
+use borrow.Author.Needs.{needs}
+use Rattle.listing.proofs.file.open.Statement.{statement}
+use Rattle.listing.proofs.file.open.Tie as tie
+use Rattle.listing.proofs.file.open.Reads as reads
+use Rattle.listing.proofs.file.open.Lts as lts
+use Rattle.intake.proofs.intake_check.Reads as intake-check-reads
+use Rattle.listing.proofs.file.is_whole.Reads as is-whole-reads
+use Rattle.listing.proofs.file.sequence.Reads as sequence-reads
+
+is-whole-requires : tie.Need-is-whole-requires
+is-whole-requires c κs = search needs
+
+returns : tie.Need-returns
+returns c = file-cut (c .before .before .before .args .file .now) (sym (c .before .is-whole .ensures) ∙ not-true (c .before .is-whole .result) (c .if1 .taken))
+
+sequence-requires : tie.Need-sequence-requires
+sequence-requires c κs = search needs
+
+intake-check-requires : tie.Need-intake-check-requires
+intake-check-requires c κs = search needs
+
+-- past the test for a whole file: the check's number for the sequence
+is-whole : (c : tie.After-intake-check) → whole (c .before .before .before .before .before .args .file .now) ≡ true
+is-whole c =
+    let w = c .before .before .before in
+    sym (w .is-whole .ensures) ∙ not-false (w .is-whole .result) (c .before .before .if1 .left)
+
+number : (c : tie.After-intake-check) → c .intake-check .result ≡ checkOf (sequenceIn (c .before .before .before .before .before .args .file .now))
+number c = c .intake-check .ensures ∙ ap checkOf (c .before .sequence .ensures)
+
+returns-2 : tie.Need-returns-2
+returns-2 c =
+    let f = c .before .before .before .before .before .before .args .file .now in
+    file-runs f (c .before .intake-check .result) (is-whole (c .before)) (number (c .before)) (c .if2 .taken)
+
+returns-3 : tie.Need-returns-3
+returns-3 c =
+    let f = c .before .before .before .before .before .before .args .file .now in
+    file-refused f (c .before .intake-check .result) (is-whole (c .before)) (number (c .before)) (c .if2 .left)
+
+pub open-spec : {M : Type 1} → statement M
+open-spec =
+    tie.close
+    (tie.spec
+    is-whole-requires
+    returns
+    sequence-requires
+    intake-check-requires
+    returns-2
+    returns-3)

@@ -1,0 +1,56 @@
+-- The file of a run (01, 'Bays to run'): the sequence's length in 2 bytes, the sequence, then 4 bytes an instant.
+use Prim.Native.Nat.{ℕ, zero, suc, _+_, _-_, _%_}
+use mathlib.Core.Bool.{Bool, _&&_, cond}
+use mathlib.Core.List.{List, [], _∷_}
+use lib.ListN.{length, take, drop}
+use lib.Dec.{eqb, leb}
+use Rattle.sequence.specs.Check.{checkOf}
+use Rattle.intake.specs.Bytes.{leNumber}
+use Rattle.intake.specs.Records.{signalBytes}
+
+abbrev pub lengthBytes : ℕ
+lengthBytes = 2
+
+-- the most bytes of a file, its first two among them
+abbrev pub maxFile : ℕ
+maxFile = 65536
+
+abbrev pub sequenceLength : List ℕ → ℕ
+sequenceLength file = leNumber (take lengthBytes file)
+
+-- where the inputs begin
+abbrev pub inputsAt : List ℕ → ℕ
+inputsAt file = lengthBytes + sequenceLength file
+
+unfoldable pub sequenceIn : List ℕ → List ℕ
+sequenceIn file = take (sequenceLength file) (drop lengthBytes file)
+
+-- the numbers of 4 bytes each
+unfoldable pub words : List ℕ → List ℕ
+words (a ∷ b ∷ c ∷ d ∷ rest) = leNumber (a ∷ b ∷ c ∷ d ∷ []) ∷ words rest
+words (a ∷ b ∷ c ∷ []) = []
+words (a ∷ b ∷ []) = []
+words (a ∷ []) = []
+words [] = []
+
+unfoldable pub inputsIn : List ℕ → List ℕ
+inputsIn file = words (drop (inputsAt file) file)
+
+-- not longer than allowed, not ended early, and no bytes over
+abbrev pub whole : List ℕ → Bool
+whole file =
+    leb (length file) maxFile && leb lengthBytes (length file) && leb (inputsAt file) (length file)
+    && eqb ((length file - inputsAt file) % signalBytes) 0
+
+pub data File : Type 0 where
+  cut : File
+  refused : (number : ℕ) → File
+  runs : (sequence inputs : List ℕ) → File
+
+-- the check's number decides
+abbrev pub byNumber : (number : ℕ) (sequence inputs : List ℕ) → File
+byNumber zero sequence inputs = runs sequence inputs
+byNumber (suc n) sequence inputs = refused (suc n)
+
+unfoldable pub fileOf : List ℕ → File
+fileOf file = cond (whole file) (byNumber (checkOf (sequenceIn file)) (sequenceIn file) (inputsIn file)) cut

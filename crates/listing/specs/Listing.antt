@@ -1,0 +1,75 @@
+-- The listing of a run (01, 'Bays to run'): what the run program prints for a file, for all bytes.
+use Prim.Native.Nat.{ℕ, suc}
+use mathlib.Core.Bool.{Bool, cond}
+use mathlib.Core.List.{List, [], _∷_, _++_, map}
+use lib.ListN.{replicate}
+use lib.Dec.{eqb}
+use Rattle.intake.specs.Records.{answerLength}
+use Rattle.intake.specs.Tick.{Outcome, tickOf}
+use Rattle.intake.specs.TickRows.{phaseIn, labelsIn}
+use Rattle.intake.specs.Demands.{stateAfterwards, answerAfterwards, cleared, codeIn, kindIn, placeIn, emittedIn}
+use Rattle.listing.specs.Text.{numeral, space, newline, heading, ending, inputCut, refusal}
+use Rattle.listing.specs.File.{File, cut, refused, runs, fileOf}
+
+pub record Row : Type 0 where
+  pub instant : ℕ
+  pub code : ℕ
+  pub kind : ℕ
+  pub place : ℕ
+  pub emitted : ℕ
+  pub labels : ℕ
+
+-- the first four fields are decimal, the sets hexadecimal; one byte ends each
+abbrev pub numbersOf : (instant code kind place : ℕ) → List ℕ
+numbersOf instant code kind place =
+    (numeral 10 1 instant ++ space ∷ [])
+    ++ ((numeral 10 1 code ++ space ∷ [])
+    ++ ((numeral 10 1 kind ++ space ∷ [])
+    ++ (numeral 10 1 place ++ space ∷ [])))
+
+abbrev pub setsOf : (emitted labels : ℕ) → List ℕ
+setsOf emitted labels = (numeral 16 8 emitted ++ space ∷ []) ++ (numeral 16 16 labels ++ newline ∷ [])
+
+unfoldable pub lineOf : Row → List ℕ
+lineOf r = numbersOf (r .instant) (r .code) (r .kind) (r .place) ++ setsOf (r .emitted) (r .labels)
+
+-- the row that a tick's records show; its labels are those of the next state
+abbrev pub rowIn : (instant : ℕ) (state answer : List ℕ) → Row
+rowIn i state answer =
+    record {
+      instant = i;
+      code = codeIn answer;
+      kind = kindIn answer;
+      place = placeIn answer;
+      emitted = emittedIn answer;
+      labels = labelsIn state;
+    }
+
+abbrev pub rowOf : (instant : ℕ) → Outcome → Row
+rowOf i o = rowIn i (stateAfterwards o) (answerAfterwards o)
+
+abbrev pub isOver : List ℕ → Bool
+isOver state = eqb (phaseIn state) 2
+
+-- a tick with an answer buffer of zeros
+abbrev pub ticked : (sequence state : List ℕ) (input : ℕ) → Outcome
+ticked sequence state e = tickOf sequence state e (replicate answerLength 0)
+
+-- an instant for each input, up to the one that ends the machine
+unfoldable pub rows : (sequence state : List ℕ) (instant : ℕ) (inputs : List ℕ) → List Row
+rows sequence state i [] = []
+rows sequence state i (e ∷ es) =
+    let o = ticked sequence state e in
+    rowOf i o ∷ cond (isOver (stateAfterwards o)) [] (rows sequence (stateAfterwards o) (suc i) es)
+
+unfoldable pub lines : List Row → List ℕ
+lines [] = []
+lines (r ∷ rs) = lineOf r ++ lines rs
+
+abbrev pub listed : File → List ℕ
+listed cut = inputCut
+listed (refused number) = refusal number
+listed (runs sequence inputs) = heading ++ (lines (rows sequence cleared 1 inputs) ++ ending)
+
+unfoldable pub listingOf : List ℕ → List ℕ
+listingOf file = listed (fileOf file)

@@ -1,0 +1,42 @@
+-- The listing in pieces: each turn gives the next piece of text, and the stage that the run is then in.
+use Prim.Native.Nat.{ℕ, zero, suc, _+_, _≤_}
+use mathlib.Core.Bool.{cond}
+use mathlib.Core.Path.{_≡_}
+use mathlib.Core.List.{List, [], _∷_, _++_}
+use lib.ListN.{length, take, drop}
+use Rattle.intake.specs.Demands.{stateAfterwards, cleared}
+use Rattle.listing.specs.Text.{heading, ending, inputCut, refusal}
+use Rattle.listing.specs.File.{File, cut, refused, runs, fileOf, sequenceIn, inputsIn}
+use Rattle.listing.specs.Listing.{lineOf, rowOf, ticked, isOver}
+
+pub data Stage : Type 0 where
+  opening : (file : List ℕ) → Stage
+  running : (sequence state : List ℕ) (instant : ℕ) (inputs : List ℕ) → Stage
+  closing : Stage
+  finished : Stage
+
+pub record Turn : Type 0 where
+  pub text : List ℕ
+  pub next : Stage
+
+abbrev pub turn : List ℕ → Stage → Turn
+turn text next = record { text = text; next = next }
+
+abbrev pub opened : File → Turn
+opened cut = turn inputCut finished
+opened (refused number) = turn (refusal number) finished
+opened (runs sequence inputs) = turn heading (running sequence cleared 1 inputs)
+
+unfoldable pub turnOf : Stage → Turn
+turnOf (opening file) = opened (fileOf file)
+turnOf (running sequence state i []) = turn ending finished
+turnOf (running sequence state i (e ∷ es)) =
+    let o = ticked sequence state e in
+    turn (lineOf (rowOf i o)) (cond (isOver (stateAfterwards o)) closing (running sequence (stateAfterwards o) (suc i) es))
+turnOf closing = turn ending finished
+turnOf finished = turn [] finished
+
+-- the text of n turns
+unfoldable pub turns : ℕ → Stage → List ℕ
+turns zero g = []
+turns (suc n) g = turnOf g .text ++ turns n (turnOf g .next)
