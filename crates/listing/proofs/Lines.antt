@@ -45,9 +45,9 @@ row-text {state} {answer} {labels} {emitted} {place} {kind} {code} instant f =
     (ap₂ setsOf o l)
 
 -- a text that was put at the end of a line is the piece
-pub shown : {l text : List ℕ} (file : List ℕ) (piece : Piece) (next : Listing.Stage) → length l ≡ lineLength
+pub shown : {l text : List ℕ} (file : List ℕ) (piece : Piece) (next : Listing.Stage) → length l ≡ lineLength → length (piece .line) ≡ length l
     → Prepended l lineLength text (piece .line) (piece .from) → stageIn file (piece .run) ≡ next → Shows file (Listing.turn text next) piece
-shown {l} {text} file piece next n p e =
+shown {l} {text} file piece next n k p e =
     let t : drop (piece .from) (piece .line) ≡ text
     = p .shows ∙ ap (λ (r : List ℕ). text ++ r) (drop-of-length-le l {i = lineLength} (omega (arith, n))) ∙ append-nil text in
-    record { result = ap₂ Listing.turn t e; within = omega (arith, p .fits) }
+    record { result = ap₂ Listing.turn t e; within = omega (arith, p .fits); sized = k ∙ n }

@@ -4,7 +4,7 @@ use mathlib.Core.Bool.{cond}
 use mathlib.Core.Path.{_≡_}
 use mathlib.Core.Option.{Option, none, some}
 use mathlib.Core.List.{List, [], _∷_}
-use lib.ListN.{drop}
+use lib.ListN.{length, drop}
 use lib.Dec.{eqb}
 use Rattle.listing.specs.declared.file.Opened.{Opened}
 use Rattle.listing.specs.declared.file.Opened.the-variants as opens
@@ -49,3 +49,4 @@ stageAfter phase i = cond (eqb phase 2) stages.Closing (stages.Running (i + 1))
 pub record Shows (file : List ℕ) (t : Listing.Turn) (piece : Piece) : Type 0 where
   pub result : Listing.turn (drop (piece .from) (piece .line)) (stageIn file (piece .run)) ≡ t
   pub within : piece .from ≤ lineLength
+  pub sized : length (piece .line) ≡ lineLength

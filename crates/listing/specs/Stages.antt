@@ -1,6 +1,6 @@
 -- The listing in pieces: each turn gives the next piece of text, and the stage that the run is then in.
 use Prim.Native.Nat.{ℕ, zero, suc, _+_, _≤_}
-use mathlib.Core.Bool.{cond}
+use mathlib.Core.Bool.{Bool, true, false, cond}
 use mathlib.Core.Path.{_≡_}
 use mathlib.Core.List.{List, [], _∷_, _++_}
 use lib.ListN.{length, take, drop}
@@ -14,6 +14,12 @@ pub data Stage : Type 0 where
   running : (sequence state : List ℕ) (instant : ℕ) (inputs : List ℕ) → Stage
   closing : Stage
   finished : Stage
+
+abbrev pub isFinished : Stage → Bool
+isFinished (opening file) = false
+isFinished (running sequence state i inputs) = false
+isFinished closing = false
+isFinished finished = true
 
 pub record Turn : Type 0 where
   pub text : List ℕ

@@ -12,7 +12,7 @@ ghost use Rattle.intake.specs.Demands.{cleared};
 ghost use Rattle.listing.specs.Text.{refusal};
 ghost use Rattle.listing.specs.Text.{heading as Text·heading};
 ghost use Rattle.listing.specs.File.{fileOf, sequenceIn, inputsIn};
-ghost use Rattle.listing.specs.Stages.{opening, running, finished, opened, turnOf};
+ghost use Rattle.listing.specs.Stages.{opening, running, finished, isFinished, opened, turnOf};
 ghost use Rattle.listing.specs.Stages.{turn as Stages·turn};
 ghost use Rattle.listing.specs.Buffer.{lineLength};
 ghost use Rattle.listing.specs.Answers.{stageIn, stageAfter, first, Shows};
@@ -47,6 +47,19 @@ pub fn start() -> Run
     Run {
         stage: Stage::Opening,
         state: [0; 9],
+    }
+}
+
+// Whether a run is after its last piece.
+pub fn is_finished(run: Run) -> bool
+    ensures { λ r. ⌜ ((file : List ℕ) → r ≡ isFinished (stageIn file run)) ⌝ }
+{
+    let stage = run.stage;
+    match stage {
+        Stage::Opening => false,
+        Stage::Running(_) => false,
+        Stage::Closing => false,
+        Stage::Finished => true,
     }
 }
 

@@ -20,7 +20,7 @@ put-text-requires : tie.Need-put-text-requires
 put-text-requires c κs = search needs
 
 returns : tie.Need-returns
-returns c = λ file. shown file _ (Listing.running (sequenceIn file) cleared 1 (inputsIn file)) refl (c .before .put-text .ensures) refl
+returns c = λ file. shown file _ (Listing.running (sequenceIn file) cleared 1 (inputsIn file)) refl (c .before .put-text .kept .0) (c .before .put-text .ensures) refl
 
 pub heading-spec : {M : Type 1} → statement M
 heading-spec =

@@ -65,7 +65,7 @@ returns c =
     let piece : Piece
     = record { line = c .before .before .put-row .last .0; from = c .before .before .put-row .result; run = record { stage = c .following .result; state = t .last .1 .0 } } in
     subst (λ (u : Listing.Turn). Shows f u piece) (instant-turn f (a .state) (t .last .1 .0) (t .last .1 .1 .1 .0) (a .i) (a .e) (t .result) (c .before .before .before .before .before .before .before .before .before .before .before .before .before .pre) o)
-    (shown f piece _ refl (c .before .before .put-row .ensures) (ap (λ (g : Stage). stageBy f g (t .last .1 .0)) (c .following .ensures)))
+    (shown f piece _ refl (c .before .before .put-row .kept .0) (c .before .before .put-row .ensures) (ap (λ (g : Stage). stageBy f g (t .last .1 .0)) (c .following .ensures)))
 
 pub instant-spec : {M : Type 1} → statement M
 instant-spec =

@@ -15,7 +15,7 @@ put-text-requires : tie.Need-put-text-requires
 put-text-requires c κs = search needs
 
 returns : tie.Need-returns
-returns c = λ file. shown file _ Listing.finished refl (c .before .put-text .ensures) refl
+returns c = λ file. shown file _ Listing.finished refl (c .before .put-text .kept .0) (c .before .put-text .ensures) refl
 
 pub last-spec : {M : Type 1} → statement M
 last-spec = tie.close (tie.spec slice-aggregate-put-text put-text-requires returns)

@@ -15,7 +15,7 @@ put-refusal-requires : tie.Need-put-refusal-requires
 put-refusal-requires c κs = search needs
 
 returns : tie.Need-returns
-returns c = λ file. shown file _ Listing.finished refl (c .before .put-refusal .ensures) refl
+returns c = λ file. shown file _ Listing.finished refl (c .before .put-refusal .kept .0) (c .before .put-refusal .ensures) refl
 
 pub refused-spec : {M : Type 1} → statement M
 refused-spec = tie.close (tie.spec slice-aggregate-put-refusal put-refusal-requires returns)
