@@ -12,8 +12,8 @@ TIMED = $(OPTIMIZED) -DBUILT_BY='"$(OPTIMIZED)"'
 CARGO = cargo run --release --offline --quiet --target-dir target/cargo --manifest-path
 SOURCES := crates.txt $(shell find crates -name '*.rt' -o -name '*.antt')
 
-.PHONY: help run test host host-rust host-c host-tick-rust host-tick-c bench bench-check \
-	bench-tick
+.PHONY: help run test host host-rust host-c host-tick-rust host-tick-c host-example bench \
+	bench-check bench-tick
 
 help: # lists the targets
 	@sed -n 's/^\([a-z-]*\):[^#]*# /\1: /p' Makefile
@@ -24,7 +24,7 @@ run: $(RUN_PROGRAM) # lists a run of a shipped example; BAY=examples/rinse.bin f
 test: # proves everything and runs all tests: the gate
 	.ci/run
 
-host: host-rust host-c host-tick-rust host-tick-c # runs all host tests against the archive
+host: host-rust host-c host-tick-rust host-tick-c host-example # runs all host tests against the archive
 
 host-rust: $(INTAKE_ARCHIVE) # compares the archive with the check on an explicit tree
 	$(CARGO) host/check/Cargo.toml
@@ -39,6 +39,12 @@ host-tick-rust: $(INTAKE_ARCHIVE) # compares the archive with the tick by expans
 host-tick-c: $(INTAKE_ARCHIVE) # runs the bays and more ticks through include/intake.h under sanitizers
 	@mkdir -p target/host
 	$(SANITIZED) -Iinclude host/tick.c $(INTAKE_ARCHIVE) -o target/host/tick && target/host/tick host/ticks.txt
+
+host-example: $(INTAKE_ARCHIVE) $(RUN_PROGRAM) # compares the example host with the run program
+	@mkdir -p target/host
+	$(WARNED) -O2 -Iinclude host/example.c $(INTAKE_ARCHIVE) -o target/host/example
+	$(SANITIZED) -Iinclude host/example.c $(INTAKE_ARCHIVE) -o target/host/example-sanitized
+	host/example_test.py $(RUN_PROGRAM) target/host/example target/host/example-sanitized
 
 bench: bench-check bench-tick # times the check and the tick against plain C
 

@@ -1,0 +1,135 @@
+#!/usr/bin/env python3
+"""Compares listings: of the run program, which reads a run file on standard input, and of hosts that take its name.
+
+  host/example_test.py RUN-PROGRAM HOST...
+
+What is expected stands in examples/*.md, in document 01, or here, by hand; of damaged run files the run program's own
+listing is expected of the hosts. The last line is 'N passed, M failed'.
+"""
+import random
+import re
+import subprocess
+import sys
+import tempfile
+from pathlib import Path
+
+ROOT = Path(__file__).resolve().parent.parent
+HEADER = "instant code kind place emitted labels\n"
+WORKED = """\
+instant code kind place emitted labels
+1 1 0 0 00000000 0000000000000002
+2 0 0 0 00000002 0000000000000000
+end
+"""
+CUT = "input cut\n"
+DAMAGED = 150
+
+passed = failed = 0
+
+
+def expect(holds, what):
+    global passed, failed
+    passed += holds
+    failed += not holds
+    if not holds:
+        print(f"FAILED {what}")
+
+
+def run_file(sequence, instants=0, length=None):
+    """A run file on empty inputs, whose length field may lie."""
+    length = len(sequence) if length is None else length
+    return length.to_bytes(2, "little") + sequence + bytes(4 * instants)
+
+
+def documented():
+    """The run files of the examples with the listings that their pages show."""
+    shown = {}
+    for page in sorted((ROOT / "examples").glob("*.md")):
+        for section in page.read_text(encoding="utf-8").split("\n## ")[1:]:
+            name = re.match(r"Run `([\w-]+\.bin)`", section)
+            if name:
+                shown[name[1]] = re.search(f"```text\n({HEADER}.*?)```", section, re.S)[1]
+    files = sorted((ROOT / "examples").glob("*.bin"))
+    expect(bool(files) and sorted(shown) == [file.name for file in files], "every run file has a page")
+    return [(file.name, file.read_bytes(), shown.get(file.name, "")) for file in files]
+
+
+def edges():
+    """Run files at the edges of document 01, 'Bays to run'."""
+    worked = run_file(bytes.fromhex("08000402000401010201"), 2)
+    sustain = bytes.fromhex("060402050100")  # loop (emit 5; pause, label 0)
+    line = "{} 1 0 0 00000020 0000000000000001\n"
+    yield "the worked example of 01", worked, WORKED
+    yield "no byte", b"", CUT
+    yield "one byte", b"\x01", CUT
+    for count in range(2, 12):
+        yield f"cut to {count} bytes", worked[:count], CUT
+    for over in range(1, 4):
+        yield f"{over} bytes over", worked + bytes(over), CUT
+        yield f"{over} bytes over, and a bad sequence", run_file(b"\x0b") + bytes(over), CUT
+    yield "one instant of two", worked[:-4], WORKED.replace(WORKED.splitlines(True)[2], "")
+    yield "more instants than are used", worked + bytes(8), WORKED
+    yield "no instants", run_file(sustain), HEADER + "end\n"
+    full = "".join(line.format(number) for number in range(1, 16383))
+    yield "65,536 bytes", run_file(sustain, 16382), HEADER + full + "end\n"
+    yield "65,537 bytes", run_file(sustain, 16382) + b"\0", CUT
+    yield "65,540 bytes", run_file(sustain, 16383), CUT
+    yield "length 0", run_file(b""), "refused 2\n"
+    yield "length 0 and an instant", run_file(b"", 1), "refused 2\n"
+    longest = (bytes.fromhex("04" + "0400" * 15 + "0200") * 31 + b"\0")  # 31 sequences of nothing that end with emit 0
+    yield "length 1,024", run_file(longest, 1), HEADER + "1 0 0 0 00000001 0000000000000000\nend\n"
+    yield "length 1,024 and no instants", run_file(longest), HEADER + "end\n"
+    yield "length 1,025", run_file(bytes(1025), 1), "refused 2\n"
+    yield "length 65,534", run_file(bytes(65534)), "refused 2\n"
+    yield "length 65,535", run_file(bytes(65534), length=65535), CUT
+    yield "length over what is there", run_file(sustain, 0, 7), CUT
+    for number, sequence in enumerate(["0b", "02", "0220", "06" * 64 + "00", "0000", "0501000100", "0a00",
+                                       "04010104050a0201030102"], 3):
+        yield f"row {number}", run_file(bytes.fromhex(sequence), 1), f"refused {number}\n"
+    yield "a wrong instant", run_file(bytes.fromhex("04010008000700000200"), 3), (
+        HEADER + "1 1 0 0 00000000 0000000000000001\n2 255 2 3 00000000 0000000000000000\nend\n")
+    yield "every bit", run_file(bytes.fromhex("0404021f013f071f0200020f")) + b"\xff" * 8, (
+        HEADER + "1 1 0 0 80000000 8000000000000000\n2 0 0 0 00000001 0000000000000000\nend\n")
+
+
+def damaged(files):
+    """Examples with a few bytes changed, from a fixed seed: the hosts must say what the run program says."""
+    rng = random.Random(1)
+    for number in range(DAMAGED):
+        data = bytearray(rng.choice(files)[1])
+        for _ in range(rng.randrange(1, 4)):
+            data[rng.randrange(len(data))] = rng.choice([rng.randrange(256), rng.randrange(11)])
+        yield f"damaged run file {number}", bytes(data[: rng.choice([len(data)] * 3 + [rng.randrange(len(data))])])
+
+
+def listing(program, data, name=None):
+    """What a program prints on a run file: as standard input, or by its name."""
+    words = [program] if name is None else [program, name]
+    done = subprocess.run(words, input=data if name is None else b"", capture_output=True, check=False)
+    return done.stdout.decode("ascii", "replace") if done.returncode == 0 and not done.stderr else f"failed: {done}"
+
+
+def main(program, hosts):
+    files = documented()
+    with tempfile.TemporaryDirectory() as folder:
+        name = Path(folder) / "bay.bin"
+        for what, data, expected in [*files, *edges()]:
+            name.write_bytes(data)
+            expect(listing(program, data) == expected, f"run program, {what}")
+            for host in hosts:
+                expect(listing(host, data, name) == expected, f"{host}, {what}")
+        for what, data in damaged(files):
+            name.write_bytes(data)
+            expected = listing(program, data)
+            for host in hosts:
+                expect(listing(host, data, name) == expected, f"{host}, {what}: {data.hex()}")
+        for host in hosts:
+            for words in [[], [folder], [Path(folder) / "none"], [name, name]]:
+                done = subprocess.run([host, *words], capture_output=True, check=False)
+                expect(done.returncode == 1 and not done.stdout and bool(done.stderr), f"{host} {words}: {done}")
+    print(f"{passed} passed, {failed} failed")
+    return failed != 0
+
+
+if __name__ == "__main__":
+    sys.exit(main(sys.argv[1], sys.argv[2:]))
