@@ -1,5 +1,5 @@
 # INTAKE_ARCHIVE and RUN_PROGRAM name another archive or run program to test or time than the proved one, from the root
-# of the repository. BAY names the run file of `make run`.
+# of the repository. BAY names the run file of `make run` and `make show`.
 INTAKE_ARCHIVE ?= target/staticlib/libintake.a
 RUN_PROGRAM ?= target/bin/run
 BAY ?= examples/intake.bin
@@ -12,14 +12,17 @@ TIMED = $(OPTIMIZED) -DBUILT_BY='"$(OPTIMIZED)"'
 CARGO = cargo run --release --offline --quiet --target-dir target/cargo --manifest-path
 SOURCES := crates.txt $(shell find crates -name '*.rt' -o -name '*.antt')
 
-.PHONY: help run test host host-rust host-c host-tick-rust host-tick-c host-example bench \
-	bench-check bench-tick
+.PHONY: help run show test host host-rust host-c host-tick-rust host-tick-c host-example show-test bench bench-check \
+	bench-tick
 
 help: # lists the targets
 	@sed -n 's/^\([a-z-]*\):[^#]*# /\1: /p' Makefile
 
 run: $(RUN_PROGRAM) # lists a run of a shipped example; BAY=examples/rinse.bin for another
 	@$(RUN_PROGRAM) < '$(BAY)'
+
+show: $(RUN_PROGRAM) # shows the commands and the run of a shipped example; BAY as above
+	@$(RUN_PROGRAM) < '$(BAY)' | tools/show --listing - '$(BAY)'
 
 test: # proves everything and runs all tests: the gate
 	.ci/run
@@ -45,6 +48,9 @@ host-example: $(INTAKE_ARCHIVE) $(RUN_PROGRAM) # compares the example host with 
 	$(WARNED) -O2 -Iinclude host/example.c $(INTAKE_ARCHIVE) -o target/host/example
 	$(SANITIZED) -Iinclude host/example.c $(INTAKE_ARCHIVE) -o target/host/example-sanitized
 	host/example_test.py $(RUN_PROGRAM) target/host/example target/host/example-sanitized
+
+show-test: # tests tools/show
+	tools/test_show.py
 
 bench: bench-check bench-tick # times the check and the tick against plain C
 

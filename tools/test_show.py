@@ -1,0 +1,499 @@
+#!/usr/bin/env python3
+"""Tests tools/show: on the examples, on random sequences and listings, and on damaged ones, from a fixed seed.
+
+What is expected is written by hand, or comes from the generator, which knows each command's place, or from a reader by
+recursion. The last line is 'N passed, M failed'.
+"""
+import importlib.machinery
+import importlib.util
+import io
+import os
+import random
+import re
+import shutil
+import subprocess
+import sys
+import tempfile
+import traceback
+import xml.etree.ElementTree
+from pathlib import Path
+
+ROOT = Path(__file__).resolve().parent.parent
+SHOW = ROOT / "tools" / "show"
+SEQUENCES, RUNS, DAMAGED, GARBAGE = 400, 150, 1500, 600
+HEADER = "instant code kind place emitted labels\n"
+WORDS = {0: "nothing", 1: "pause, label {}", 2: "emit {}", 3: "exit {}", 4: "…; then …", 5: "… in parallel with …",
+         6: "loop …", 7: "present {} then … else …", 8: "signal {} in …", 9: "try …", 10: "setpause {}"}
+RANGES = {1: range(64), 2: range(32), 3: range(1, 16), 7: range(32), 8: range(32), 10: range(64)}
+PARTS = {4: 2, 5: 2, 6: 1, 7: 2, 8: 1, 9: 1}
+
+WORKED = bytes.fromhex("0a00 08000402000401010201 0000000000000000")
+WORKED_LISTING = HEADER + """\
+1 1 0 0 00000000 0000000000000002
+2 0 0 0 00000002 0000000000000000
+end
+"""
+WORKED_SHOWN = """\
+place  bytes  command
+    0  08 00  signal 0 in …
+    2  04       …; then …
+    3  02 00      emit 0
+    5  04         …; then …
+    6  01 01        pause, label 1
+    8  02 01        emit 1
+
+instant    1 2
+emitted  1 . #
+label    1 # .
+code       1 0
+
+instant 2: ended
+"""
+TOPPING_SHOWN = """
+instant      1   2   3   4
+input    0   #   #   #   .
+emitted  8   #   #   #   .
+emitted  9   #   .   #   .
+label    0   #   .   #   .
+label    1   .   #   .   .
+label    2   #   #   #   .
+code         1   1   1 255
+
+instant 4: wrong, kind 1 (the loop's body ended in the instant in which it began), place 17: loop …
+inputs not used: 1
+"""
+
+passed = failed = 0
+folder = None  # for the files of the tests
+rng = random.Random(1)
+
+
+def expect(holds, what):
+    global passed, failed
+    passed += bool(holds)
+    failed += not holds
+    if not holds:
+        print(f"FAILED {what}")
+
+
+def load():
+    loader = importlib.machinery.SourceFileLoader("show", str(SHOW))
+    module = importlib.util.module_from_spec(importlib.util.spec_from_loader("show", loader))
+    loader.exec_module(module)
+    return module
+
+
+def show(*words, data=None, listing=None):
+    """Exit status, standard output and standard error; data and listing go into files. A traceback is status None."""
+    words = [str(word) for word in words]
+    if listing is not None:
+        (folder / "listing").write_bytes(listing if isinstance(listing, bytes) else listing.encode())
+        words += ["--listing", str(folder / "listing")]
+    if data is not None:
+        (folder / "data").write_bytes(data)
+        words.append(str(folder / "data"))
+    streams = sys.stdout, sys.stderr
+    sys.stdout, sys.stderr = io.TextIOWrapper(io.BytesIO(), "utf-8"), io.StringIO()
+    try:
+        status = program.main(words)
+    except Exception:
+        status = None
+        traceback.print_exc()
+    shown, sys.stdout, said, sys.stderr = sys.stdout, streams[0], sys.stderr, streams[1]
+    return status, shown.buffer.getvalue().decode(), said.getvalue()
+
+
+def expect_damage(answer, said, what):
+    """Status 1, one line on standard error, and nothing on standard output that tells of a run."""
+    status, shown, message = answer
+    one_line = message.startswith("show: ") and message.count("\n") == 1 and message.endswith("\n")
+    quiet = "instant" not in shown and "<svg" not in shown
+    expect(status == 1 and one_line and quiet and re.search(said, message), f"{what}: {answer}")
+
+
+# Sequences
+
+
+def generate(place, depth, signals, size):
+    """A random statement: its bytes, and a line (place, depth, own bytes) for each command."""
+    leaf = size <= 1 or depth == 64
+    kind = rng.choice([0, 1, 2, 3, 10] if leaf else [4, 4, 5, 5, 6, 7, 7, 8 if signals < 6 else 6, 9])
+    own = bytes([kind] + ([rng.choice(RANGES[kind])] if kind in RANGES else []))
+    lines, data = [(place, depth, own)], own
+    for part in range(PARTS.get(kind, 0)):
+        share = size - 1 if PARTS[kind] == 1 else rng.randrange(1, size) if part == 0 else max(1, size - len(lines))
+        inner, below = generate(place + len(data), depth + 1, signals + (kind == 8), share)
+        data, lines = data + inner, lines + below
+    return data, lines
+
+
+def sequence():
+    while True:
+        data, lines = generate(0, 1, 0, rng.choice([1, 3, 10, 40, 200, 500]))
+        if len(data) <= 1024:
+            return data, lines
+
+
+def verdict(data):
+    """The row of 2 to 7 that turns a sequence down and the place where it is found; row 0 if none does."""
+
+    def read(at, depth, signals):
+        if at == len(data):
+            raise LookupError(4, at)
+        kind, end = data[at], at + 1
+        if kind > 10:
+            raise LookupError(3, at)
+        if kind in RANGES:
+            if end == len(data):
+                raise LookupError(4, at)
+            if data[end] not in RANGES[kind]:
+                raise LookupError(5, at)
+            end += 1
+        if depth > 64 or (kind == 8 and signals == 6):
+            raise LookupError(6, at)
+        for _ in range(PARTS.get(kind, 0)):
+            end = read(end, depth + 1, signals + (kind == 8))
+        return end
+
+    if not 1 <= len(data) <= 1024:
+        return 2, 0
+    try:
+        end = read(0, 1, 0)
+    except LookupError as fault:
+        return fault.args
+    return (0, end) if end == len(data) else (7, end)
+
+
+def table(lines):
+    rows = (f"{place:5}  {own.hex(' ').upper():5}  {'  ' * (depth - 1)}{WORDS[own[0]].format(*own[1:])}\n"
+            for place, depth, own in lines)
+    return "place  bytes  command\n" + "".join(rows)
+
+
+def bytes_shown(shown):
+    """The bytes of the commands in a table, each at the place where the one before it ends."""
+    data = b""
+    for line in shown.splitlines()[1:]:
+        if int(line[:5]) != len(data):
+            return None
+        data += bytes.fromhex(line[7:12])
+    return data
+
+
+def expect_sequence(data, what):
+    """What is shown of any bytes, accepted or not."""
+    row, place = verdict(data)
+    status, shown, message = answer = show("--sequence", data=data)
+    expect(bytes_shown(shown) == data[:place], f"{what}: the commands shown of {data.hex()}: {answer}")
+    if row == 0:
+        expect(status == 0 and message == "", f"{what}: {data.hex()}: {answer}")
+    else:
+        expect_damage(answer, rf": place {place}: .*\(row {row}\)\n", f"{what}: {data.hex()}")
+
+
+def test_sequences():
+    for number in range(SEQUENCES):
+        data, lines = sequence()
+        answer = show("--sequence", data=data)
+        expect(answer == (0, table(lines), ""), f"sequence {number}: {data.hex()}: {answer}")
+        expect(b"".join(own for _, _, own in lines) == data == bytes_shown(answer[1]), f"bytes of sequence {number}")
+
+
+def damage(data):
+    data = bytearray(data)
+    at = rng.randrange(len(data))
+    kind = rng.randrange(4)
+    if kind == 0:
+        del data[at:]
+    elif kind == 1:
+        data[at] = rng.randrange(256)
+    elif kind == 2:
+        data[at] = rng.randrange(11)
+    else:
+        data[at:at] = bytes([rng.choice([6, 8, 9, rng.randrange(256)])]) * rng.choice([1, 1, 8, 64, 1024])
+    return bytes(data)
+
+
+def test_damaged_sequences():
+    rows = set()
+    for number in range(DAMAGED):
+        data = damage(sequence()[0])
+        rows.add(verdict(data)[0])
+        expect_sequence(data, f"damaged sequence {number}")
+    expect(rows == {0, 2, 3, 4, 5, 6, 7}, f"the rows met: {rows}")
+    for number in range(GARBAGE):
+        data = rng.randbytes(rng.randrange(40)) if number % 2 else bytes(rng.choices(range(12), k=rng.randrange(1100)))
+        expect_sequence(data, f"random bytes {number}")
+
+
+def expand(text):
+    """The bytes of a text such as 64(06) 00, the notation of host/examples.txt."""
+    group = re.compile(r"(\d+)\(([^()]*)\)")
+    while group.search(text):
+        text = group.sub(lambda found: f"{found[2]} " * int(found[1]), text)
+    return bytes.fromhex(text)
+
+
+def test_rows():
+    """The sequences of host/examples.txt: a number from 2 to 7 is told, those after it are the check's alone."""
+    for line in (ROOT / "host" / "examples.txt").read_text(encoding="utf-8").splitlines():
+        if line and not line.startswith("#"):
+            number, _, text = line.partition(":")
+            answer = show("--sequence", data=expand(text))
+            if 2 <= int(number) <= 7:
+                expect_damage(answer, rf"\(row {number}\)", line)
+            else:
+                expect(answer[0] == 0 and bytes_shown(answer[1]) == expand(text), f"{line}: {answer}")
+
+
+# Runs
+
+
+def examples():
+    """Each run file of the examples: its name, its bytes, and the table and the listing of its page."""
+    for page in sorted((ROOT / "examples").glob("*.md")):
+        text = page.read_text(encoding="utf-8")
+        for run in re.finditer(r"\n## Run `([\w-]+\.bin)`", text):
+            section = text[run.end() :].partition("\n## ")[0]
+            table_in = re.compile(r"```text\n(place .*?)```", re.S)
+            commands = re.sub(r" +# .*", "", (table_in.search(section) or table_in.search(text))[1])
+            listing = re.search(f"({HEADER}.*?)```", section, re.S)[1]
+            yield run[1], (ROOT / "examples" / run[1]).read_bytes(), commands, listing
+
+
+def picture_of(shown):
+    """The rows of a text picture: (kind, number) to the instants that are marked, and the codes."""
+    rows, codes, instants = {}, [], 0
+    for line in shown.splitlines():
+        words = line.split()
+        if re.fullmatch(r"instant( +\d+)+", line):
+            instants, first = instants + len(words) - 1, instants + 1
+            if words[1:] != [str(number) for number in range(first, instants + 1)]:
+                return None
+        elif words and words[0] == "code":
+            codes += map(int, words[1:])
+        elif words and words[0] in ("input", "emitted", "label"):
+            marks = {first + column for column, mark in enumerate(words[2:]) if mark == "#"}
+            rows.setdefault((words[0], int(words[1])), set()).update(marks)
+    return rows, codes, instants
+
+
+def picture_of_svg(text):
+    """The same of an SVG, from the rects and the texts by where they stand; None if it cannot be read."""
+    try:
+        return read_svg(xml.etree.ElementTree.fromstring(text))
+    except (xml.etree.ElementTree.ParseError, AssertionError, LookupError, ValueError):
+        return None
+
+
+def read_svg(root):
+    space = "{http://www.w3.org/2000/svg}"
+    texts = [(int(t.get("x")), int(t.get("y")), t.text) for t in root.iter(space + "text")]
+    names = {y: t for x, y, t in texts if x == 5}
+    heads = {x: int(t) for x, y, t in texts if x > 5 and names[y] == "instant"}
+    rows = {}
+    for rect in root.iter(space + "rect"):
+        left, top = int(rect.get("x")), int(rect.get("y"))
+        [name] = [names[y] for y in names if top < y <= top + int(rect.get("height"))]
+        [instant] = [heads[x] for x in heads if left < x < left + int(rect.get("width"))]
+        kind, number = name.split()
+        assert rect.get("class") == kind and instant not in rows.setdefault((kind, int(number)), set())
+        rows[kind, int(number)].add(instant)
+    return rows, [int(t) for x, y, t in texts if x > 5 and names[y] == "code"], len(heads)
+
+
+def sets_of(data, listing):
+    """What a picture must show: the members of all sets of a run file and its listing."""
+    lines = [line.split() for line in listing.splitlines()[1:-1]]
+    start = 2 + int.from_bytes(data[:2], "little")
+    inputs = [int.from_bytes(data[at : at + 4], "little") for at in range(start, len(data), 4)]
+    rows = {}
+    for instant, line in enumerate(lines, 1):
+        for kind, members in ("input", inputs[instant - 1]), ("emitted", int(line[4], 16)), ("label", int(line[5], 16)):
+            for number in range(64):
+                if members >> number & 1:
+                    rows.setdefault((kind, number), set()).add(instant)
+    return rows, [int(line[1]) for line in lines], len(lines)
+
+
+def expect_pictures(data, listing, what):
+    status, shown, message = show(data=data, listing=listing)
+    picture = shown[shown.index("\n\n") :] if "\n\n" in shown else ""
+    expect(status == 0 and not message and picture_of(picture) == sets_of(data, listing), f"{what}: picture: {shown}")
+    expect(all(len(line) <= 100 or ": wrong" in line for line in picture.splitlines()), f"{what}: width: {shown}")
+    status, shown, message = show("--svg", "-", data=data, listing=listing)
+    expect(status == 0 and not message and picture_of_svg(shown) == sets_of(data, listing), f"{what}: SVG: {shown}")
+    written = folder / "picture.svg"
+    written.write_bytes(b"")
+    answer = show("--svg", written, data=data, listing=listing)
+    marks = sum(len(columns) for columns in sets_of(data, listing)[0].values())
+    expect(answer == (0, "", "") and written.read_text("utf-8").count("<rect") == marks, f"{what}: SVG in a file")
+
+
+def test_examples():
+    names = set()
+    for name, data, commands, listing in examples():
+        names.add(name)
+        status, shown, message = show(data=data, listing=listing)
+        expect(status == 0 and shown.startswith(commands + "\n") and not message, f"{name}: {shown}")
+        expect(name != "topping.bin" or shown == commands + TOPPING_SHOWN, f"{name}, the whole: {shown}")
+        expect_pictures(data, listing, name)
+    expect(names == {path.name for path in (ROOT / "examples").glob("*.bin")}, f"every example has a page: {names}")
+    expect(show(data=WORKED, listing=WORKED_LISTING) == (0, WORKED_SHOWN, ""), "the worked example of 01")
+
+
+def random_run():
+    """A run file and a listing that could be its own: only the rules of a reaction would tell."""
+    while True:
+        data, lines = sequence()
+        emits = {own[1] for _, _, own in lines if own[0] == 2}
+        pauses = sorted({own[1] for _, _, own in lines if own[0] == 1})
+        erring = [(kind, place) for place, _, own in lines for kind in {6: [1], 8: [2, 3]}.get(own[0], [])]
+        if pauses:
+            break
+    count = rng.choice([0, 1, 5, 29, 31, 120])
+    inputs = [rng.getrandbits(32) & rng.getrandbits(32) for _ in range(count)]
+    listed = rng.choice([count, rng.randrange(count + 1)])
+    listing = HEADER
+    for instant in range(1, listed + 1):
+        emitted = sum(1 << signal for signal in emits if rng.random() < 0.5)
+        labels = sum(1 << label for label in rng.sample(pauses, rng.randrange(1, len(pauses) + 1)))
+        code, kind, place = 1, 0, 0
+        if instant == listed and (listed < count or rng.random() < 0.5):
+            code, labels = rng.choice([0, 2, 16, 255 if erring else 0]), 0
+        if code == 255:
+            emitted, (kind, place) = 0, rng.choice(erring)
+        listing += f"{instant} {code} {kind} {place} {emitted:08x} {labels:016x}\n"
+    run = len(data).to_bytes(2, "little") + data + b"".join(value.to_bytes(4, "little") for value in inputs)
+    return run, listing + "end\n", listed == 0 and count > 0
+
+
+def test_random_runs():
+    for number in range(RUNS):
+        run, listing, short = random_run()
+        if short:
+            expect_damage_of_run(run, listing, "'end' before the inputs are used up", f"run {number}")
+        else:
+            expect_pictures(run, listing, f"random run {number}")
+
+
+def expect_damage_of_run(data, listing, said, what):
+    """Damage is told with either picture asked for, and none is drawn."""
+    expect_damage(show(data=data, listing=listing), said, what)
+    svg = show("--svg", "-", data=data, listing=listing)
+    expect_damage(svg, said, f"{what}: SVG")
+    expect(svg[1] == "", f"{what}: no SVG")
+
+
+def test_damaged_runs():
+    """Run files by hand (01: input cut comes before a bad sequence), then listings that do not fit."""
+    cut = r"byte {}: .*\(input cut\)"
+    for data, said in [
+        (b"", cut.format(0)), (b"\x0a", cut.format(1)), (WORKED[:2], cut.format(2)), (WORKED[:11], cut.format(11)),
+        (WORKED[:13], cut.format(12)), (WORKED + b"\0", cut.format(20)), (WORKED + b"\0\0\0", cut.format(20)),
+        (b"\x02\0\x0b", cut.format(3)), (b"\x01\0\x0b", r"place 0: .*\(row 3\)"), (b"\x01\0\x0b\0", cut.format(3)),
+        (bytes(65537), cut.format(65536)), (bytes(65534), r"place 0: .*\(row 2\)"), (b"\0\0", r"\(row 2\)"),
+        (b"\x01\x04" + bytes(1025), r"\(row 2\)"), (b"\xff\xff" + bytes(65534), cut.format(65536)),
+    ]:
+        expect_damage_of_run(data, WORKED_LISTING, said, f"run file {data[:20].hex()}")
+    expect(bytes_shown(show(data=WORKED[:9], listing="")[1]) == WORKED[2:8], "commands before the cut")
+    one, two = WORKED_LISTING.splitlines()[1:3]
+    for old, new in [
+        ("instant code", "instant  code"), ("end\n", ""), ("end\n", "end"), ("end\n", "end\nend\n"), ("end\n", "\nend\n"),
+        (one + "\n", ""), (two + "\n", ""), (two, two + "\n3 0 0 0 00000000 0000000000000000"), (one, one + " "),
+        (two, "2 1 0 0 00000002 0000000000000000"), (one, "1 0 0 0 00000000 0000000000000000"), (one, "1" + one),
+        (one, "1 1 0 0 00000000 0000000000000004"), (two, "2 0 0 0 00000004 0000000000000000"),
+        (two, "2 17 0 0 00000002 0000000000000000"), (two, "2 0 1 0 00000002 0000000000000000"),
+        (two, "2 255 2 2 00000000 0000000000000000"), (two, "2 255 1 0 00000000 0000000000000000"),
+        (two, "2 255 2 0 00000002 0000000000000000"), (two, "2 255 0 0 00000000 0000000000000000"),
+        (one, one.upper()[:-1] + "²"), (one, "١" + one[1:]), (WORKED_LISTING, ""), (WORKED_LISTING, "input cut\n"),
+        (WORKED_LISTING, "refused 3\n"), (WORKED_LISTING, "refused 11\n"), (WORKED_LISTING, "x" * 2000000),
+    ]:
+        expect_damage_of_run(WORKED, WORKED_LISTING.replace(old, new, 1), "listing: ", f"listing with {new[:60]!r}")
+    for number, why in (8, "two pauses"), (9, "setpause"), (10, "not well-formed"):
+        expect_damage_of_run(WORKED, f"refused {number}\n", rf"{why}.*\(row {number}\)", f"refused {number}")
+    wrong = WORKED_LISTING.replace(two, "2 255 2 0 00000000 0000000000000000")
+    expect(show(data=WORKED, listing=wrong)[0] == 0, "a wrong instant at the signal")
+
+
+def test_garbage():
+    """Random bytes as run file and as listing, and listings with a byte changed: no traceback, whatever comes."""
+    known = list(examples())
+    for number in range(GARBAGE):
+        _, data, _, listing = rng.choice(known)
+        changed = bytearray(listing.encode())
+        changed[rng.randrange(len(changed))] = rng.randrange(256)
+        expect(show(data=damage(data), listing=listing)[0] in (0, 1), f"damaged run file {number}")
+        expect(show(data=data, listing=bytes(changed))[0] in (0, 1), f"changed listing {number}: {changed}")
+        expect_damage(show(data=data, listing=rng.randbytes(rng.randrange(99))), "listing: ", f"random listing {number}")
+        expect(show(data=rng.randbytes(rng.randrange(99)), listing=listing)[0] == 1, f"random run file {number}")
+
+
+# The program
+
+
+def call(*words, program=SHOW, **settings):
+    done = subprocess.run([sys.executable, program, *words], capture_output=True, check=False, **settings)
+    return done.returncode, done.stdout.decode(), done.stderr.decode()
+
+
+def test_calls():
+    (folder / "worked.bin").write_bytes(WORKED)
+    worked = str(folder / "worked.bin")
+    status, shown, _ = call("--help")
+    expect(status == 0 and "--sequence" in shown, "--help")
+    for words in [], ["--nonsense"], ["--sequence", "--svg", "-", worked], ["--sequence", "--listing", "-", worked]:
+        expect(call(*words)[0] == 2, f"bad usage: {words}")
+    at = str(folder)
+    for words in ([at], [at + "/none"], ["\udcff\n"], ["--sequence", at], ["--listing", at, worked], ["--svg", at, worked],
+                  ["--svg", "", worked], ["--listing", "", worked]):
+        status, _, message = answer = call(*words)
+        expect(status == 1 and message.startswith("show: ") and message.count("\n") == 1, f"{words}: {answer}")
+    listed = WORKED_LISTING.encode()
+    for setting in {}, {"LC_ALL": "C"}, {"PYTHONIOENCODING": "ascii"}:
+        answer = call("--listing", "-", worked, input=listed, env={**os.environ, **setting})
+        expect(answer == (0, WORKED_SHOWN, ""), f"a listing on standard input, {setting}: {answer}")
+    with open("/dev/full", "wb") as full:
+        done = subprocess.run([SHOW, worked], stdout=full, stderr=subprocess.PIPE, check=False)
+    expect(done.returncode == 1 and done.stderr.startswith(b"show: standard output: "), f"no room: {done}")
+    done = subprocess.run(["sh", "-c", f"'{SHOW}' '{worked}' | true"], capture_output=True, check=False)
+    expect(done.stderr == b"", f"a reader that goes away: {done}")
+
+
+def test_run_program():
+    """Beside a target/bin/run the listing is its own; with none the inputs are shown alone."""
+    (folder / "house" / "tools").mkdir(parents=True)
+    copy = shutil.copy(SHOW, folder / "house" / "tools")
+    data = WORKED[:-4] + b"\x01\x00\x00\x80"
+    (folder / "data").write_bytes(data)
+    status, shown, _ = call(str(folder / "data"), program=copy)
+    expect(status == 0 and shown.endswith("no listing: target/bin/run is not built\n"), f"no run program: {shown}")
+    expect(picture_of(shown) == ({("input", 0): {2}, ("input", 31): {2}}, [], 2), f"inputs alone: {shown}")
+    run = folder / "house" / "target" / "bin" / "run"
+    run.parent.mkdir(parents=True)
+    run.write_text(f"#!/bin/sh\ncmp -s - '{folder / 'data'}' && printf '{WORKED_LISTING}'\n", encoding="utf-8")
+    status, _, message = call(str(folder / "data"), program=copy)
+    expect(status == 1 and "run: Permission denied" in message, f"a run program that may not run: {message}")
+    run.chmod(0o755)
+    status, shown, _ = call(str(folder / "data"), program=copy)
+    expect(status == 0 and picture_of(shown) == sets_of(data, WORKED_LISTING), f"with a run program: {shown}")
+    run.write_text("#!/bin/sh\nexit 3\n", encoding="utf-8")
+    status, _, message = call(str(folder / "data"), program=copy)
+    expect(status == 1 and ": listing: line 1: " in message, f"a run program that fails: {message}")
+
+
+def main():
+    global folder
+    with tempfile.TemporaryDirectory() as name:
+        folder = Path(name)
+        for test in (test_sequences, test_damaged_sequences, test_rows, test_examples, test_random_runs, test_damaged_runs,
+                     test_garbage, test_calls, test_run_program):
+            test()
+    print(f"{passed} passed, {failed} failed")
+    return failed != 0
+
+
+if __name__ == "__main__":
+    sys.dont_write_bytecode = True
+    program = load()
+    sys.exit(main())
