@@ -73,10 +73,11 @@ def edges():
     full = "".join(line.format(number) for number in range(1, 16383))
     yield "65,536 bytes", run_file(sustain, 16382), HEADER + full + "end\n"
     yield "65,537 bytes", run_file(sustain, 16382) + b"\0", CUT
-    yield "65,540 bytes", run_file(sustain, 16383), CUT
+    yield "65,537 bytes, whole instants", run_file(bytes.fromhex("060100"), 16383), CUT
+    yield "65,540 bytes, whole instants", run_file(sustain, 16383), CUT
     yield "length 0", run_file(b""), "refused 2\n"
     yield "length 0 and an instant", run_file(b"", 1), "refused 2\n"
-    longest = (bytes.fromhex("04" + "0400" * 15 + "0200") * 31 + b"\0")  # 31 sequences of nothing that end with emit 0
+    longest = bytes.fromhex("04" + "0400" * 15 + "0200") * 31 + b"\0"  # 31 sequences of nothing that end with emit 0
     yield "length 1,024", run_file(longest, 1), HEADER + "1 0 0 0 00000001 0000000000000000\nend\n"
     yield "length 1,024 and no instants", run_file(longest), HEADER + "end\n"
     yield "length 1,025", run_file(bytes(1025), 1), "refused 2\n"
