@@ -7,9 +7,8 @@ use native.Mathlib.Omega.{arith}
 use lib.ListN.{length, take, drop, getD, length-drop}
 use Rattle.esterel.specs.Statement.{Statement, nothing}
 use Rattle.sequence.specs.Commands.{Command, operandCount, partCount, inRange, width, declares, build}
-use Rattle.sequence.specs.Reader.{Read, accepted, refused, read, nesting}
-use Rattle.sequence.specs.Accepted.{statementOf, countOf}
-use Rattle.sequence.specs.Answers.{measured, bytesIn}
+use Rattle.sequence.specs.Reader.{Read, accepted, read, nesting}
+use Rattle.sequence.specs.Accepted.{statementOf, countOf, Legible, Extent}
 use Rattle.sequence.proofs.Parts.{rest-is}
 use Rattle.sequence.proofs.Sound.{sound}
 use Rattle.sequence.proofs.Accepted.{Fronted, Accepts, accepts, deep, count-within, byteOf, byte-is, command-at}
@@ -252,7 +251,16 @@ module _ (d g a : ℕ) (bs : List ℕ) (ok : Ready d g a bs) where
       let l : nesting (Statement.signal a (getD bs 1 0) (statementAt (d - 1) (g - 1) (a + 2) (rest 2 bs))) ≤ g = rw (s .is) at (w .within .nested) in
       omega arith
 
--- the count of a part that is skipped
-pub skipped : (y : Read) → countOf y ≡ bytesIn (measured y)
-skipped (accepted p n) = refl
-skipped (refused e) = refl
+-- ---- a part that is skipped
+pub legible : {d g a : ℕ} {bs : List ℕ} → Ready d g a bs → Legible bs
+legible {d} {g} {a} {bs} ok = record {
+  depth = d;
+  signals = g;
+  offset = a;
+  statement = statementAt d g a bs;
+  count = countAt d g a bs;
+  reads = ok .reads;
+}
+
+pub skipped : {d g a : ℕ} {bs : List ℕ} {r : ℕ} → Extent bs r → Ready d g a bs → r ≡ countAt d g a bs
+skipped {d} {g} {a} {bs} e ok = e d g a (statementAt d g a bs) (countAt d g a bs) (ok .reads)

@@ -1,6 +1,6 @@
 // A fresh statement reacts. The rest of the bytes is handed on as a part; the depth still allowed falls at each part.
 ghost use mathlib.Core.Path.{_≡_};
-ghost use Prim.Native.Nat.{ℕ, _-_, _<_};
+ghost use Prim.Native.Nat.{_-_, _<_};
 ghost use lib.ListN.{getD};
 ghost use Rattle.esterel.specs.Statement.{seq, par, loop, present, signal, try};
 ghost use Rattle.esterel.specs.Resume.{start, seqInstant};
@@ -10,17 +10,6 @@ ghost use Rattle.reaction.specs.Instants.{instantOf};
 ghost use Rattle.reaction.specs.Parts.{statementAt, countAt, Ready, Single, Pair};
 use crate::instant::Instant;
 use crate::instant::Stepped;
-use sequence::reader::Measured;
-
-// The count of bytes of the statement at the front of s.
-pub fn skip(s: &[u8], depth: u8, signals: u8) -> usize
-    ensures { λ r. ⌜ ((a : ℕ) → r ≡ countAt depth signals a (now (s .entry))) ⌝ }
-{
-    match sequence::reader::measure(s, depth, signals) {
-        Measured::Length(n, _) => n,
-        Measured::Refused(_) => 0,
-    }
-}
 
 // The reaction of the statement at the front of s, which stands at the offset `at`.
 pub fn react(s: &[u8], at: usize, depth: u8, signals: u8, input: u32) -> Stepped
@@ -77,7 +66,7 @@ pub fn after(p: Instant, s: &[u8], at: usize, depth: u8, signals: u8, input: u32
     } else {
         Stepped {
             instant: p,
-            count: skip(s, depth, signals),
+            count: sequence::extent::byte_count(s),
         }
     }
 }
@@ -138,10 +127,10 @@ fn present_parts(s: &[u8], at: usize, depth: u8, signals: u8, input: u32) -> Ste
         let n = 2 + p.count;
         Stepped {
             instant: i,
-            count: n + skip(&s[n..], depth - 1, signals),
+            count: n + sequence::extent::byte_count(&s[n..]),
         }
     } else {
-        let n = 2 + skip(&s[2..], depth - 1, signals);
+        let n = 2 + sequence::extent::byte_count(&s[2..]);
         let q = react(&s[n..], at + n, depth - 1, signals, input);
         let j = q.instant;
         Stepped {

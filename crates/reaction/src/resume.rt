@@ -188,7 +188,7 @@ fn present_parts(s: &[u8], at: usize, depth: u8, signals: u8, input: u32, labels
         }
         Activity::Active(_) => Resumed {
             activity: a,
-            count: n + crate::react::skip(&s[n..], depth - 1, signals),
+            count: n + sequence::extent::byte_count(&s[n..]),
         },
     }
 }

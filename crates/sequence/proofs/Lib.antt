@@ -12,3 +12,4 @@ pub mod Accepted
 pub mod Walk
 pub mod ByRows
 pub mod Rows
+pub mod Pending

@@ -1,6 +1,7 @@
 // The table of commands (01, 'Commands') by cases on the command byte.
 ghost use mathlib.Core.Path.{_≡_};
-ghost use Rattle.sequence.specs.Commands.{commandOf, operandCount, partCount};
+ghost use mathlib.Core.Option.{some};
+ghost use Rattle.sequence.specs.Commands.{Command, commandOf, operandCount, partCount, width};
 ghost use Rattle.sequence.specs.Answers.{counted, allowed, declaredBy};
 
 // A count of a command byte; a byte without command has none.
@@ -57,4 +58,33 @@ pub fn declared(b: u8) -> u8
     ensures { λ r. ⌜ r ≡ declaredBy (commandOf b) ⌝ }
 {
     if b == 8 { 1 } else { 0 }
+}
+
+// The bytes of the command b with its operand. The byte is known to be a command's.
+pub fn width(b: u8) -> usize
+    ensures { λ r. ⌜ ((c : Command) → commandOf b ≡ some c → r ≡ width c) ⌝ }
+{
+    match b {
+        0 => 1,
+        4 => 1,
+        5 => 1,
+        6 => 1,
+        9 => 1,
+        _ => 2,
+    }
+}
+
+// The parts of the command b. The byte is known to be a command's.
+pub fn parts(b: u8) -> usize
+    ensures { λ r. ⌜ ((c : Command) → commandOf b ≡ some c → r ≡ partCount c) ⌝ }
+{
+    match b {
+        4 => 2,
+        5 => 2,
+        6 => 1,
+        7 => 2,
+        8 => 1,
+        9 => 1,
+        _ => 0,
+    }
 }

@@ -5,7 +5,7 @@ use borrow.Author.Tests.{ltb-true}
 use Rattle.esterel.specs.Resume.{start}
 use Rattle.sequence.specs.Commands.{Command}
 use Rattle.reaction.proofs.Combining.{seq-stops}
-use Rattle.reaction.proofs.Taken.{head-at, leaf-at, single-at, plain-at, pair-at, last-at, signal-left}
+use Rattle.reaction.proofs.Taken.{head-at, leaf-at, single-at, plain-at, pair-at, last-at, signal-left, legible, skipped}
 use Rattle.reaction.proofs.Steps.{nothing-step, emit-step, exit-step, pause-step, setpause-step, loop-step, try-step, signal-step, seq-step, par-step, present-step, absent-step, after-step}
 use Prim.Native.Nat.{ℕ, _+_, _<_}
 use borrow.Fn.Kinds.{In}
@@ -34,7 +34,7 @@ use Rattle.reaction.proofs.react.+after+loop_part+par_parts+present_par
 use Rattle.reaction.proofs.react.try_part.Reads as try-part
 use Rattle.reaction.proofs.react.try_part.Kinds as try-part-kinds
 use Rattle.reaction.proofs.react.+after+loop_part+par_parts+present_parts+react+seq_parts+signal_rule+try_part.Lts-try_part as try-part-lts
-use Rattle.reaction.proofs.react.skip.Reads as skip-reads
+use Rattle.sequence.proofs.extent.byte_count.Reads as byte-count-reads
 use Rattle.reaction.proofs.rules.ending.Reads as ending-reads
 use Rattle.reaction.proofs.rules.in_loop.Reads as in-loop-reads
 use Rattle.reaction.proofs.rules.in_parallel.Reads as in-parallel-reads
@@ -140,7 +140,7 @@ try-part-below t =
     and 1 try-part-kinds.ps (falls 1 try-part-kinds.ps _<_ μ-try-part t) try-part.Pre
 
 abbrev after-callees : ℕ → after-lts.Claims
-after-callees t = (is-ended-reads.Asked, is-ended-reads.Learnt, react-below t, react.Post, in-sequence-reads.Asked, in-sequence-reads.Learnt, skip-reads.Asked, skip-reads.Learnt)
+after-callees t = (is-ended-reads.Asked, is-ended-reads.Learnt, react-below t, react.Post, in-sequence-reads.Asked, in-sequence-reads.Learnt, byte-count-reads.Asked, byte-count-reads.Learnt)
 
 abbrev loop-part-callees : ℕ → loop-part-lts.Claims
 loop-part-callees t = (react-below t, react.Post, in-loop-reads.Asked, in-loop-reads.Learnt)
@@ -149,7 +149,7 @@ abbrev par-parts-callees : ℕ → par-parts-lts.Claims
 par-parts-callees t = (react-below t, react.Post, in-parallel-reads.Asked, in-parallel-reads.Learnt)
 
 abbrev present-parts-callees : ℕ → present-parts-lts.Claims
-present-parts-callees t = (member-reads.Asked, member-reads.Learnt, react-below t, react.Post, skip-reads.Asked, skip-reads.Learnt)
+present-parts-callees t = (member-reads.Asked, member-reads.Learnt, react-below t, react.Post, byte-count-reads.Asked, byte-count-reads.Learnt)
 
 abbrev react-callees : ℕ → react-lts.Claims
 react-callees t = (ending-reads.Asked, ending-reads.Learnt, pausing-reads.Asked, pausing-reads.Learnt, single-reads.Asked, single-reads.Learnt, leaving-reads.Asked, leaving-reads.Learnt, seq-parts-below t, seq-parts.Post, par-parts-below t, par-parts.Post, loop-part-below t, loop-part.Post, present-parts-below t, present-parts.Post, signal-rule-below t, signal-rule.Post, try-part-below t, try-part.Post)
@@ -172,15 +172,15 @@ after-react-requires t c κs = search needs
 after-in-sequence-requires : (t : ℕ) → after-lts.Need-in-sequence-requires (after-callees t) (after-at t) after.Post
 after-in-sequence-requires t c κs = search needs
 
-after-skip-requires : (t : ℕ) → after-lts.Need-skip-requires (after-callees t) (after-at t) after.Post
-after-skip-requires t c κs = search needs
+after-byte-count-requires : (t : ℕ) → after-lts.Need-byte-count-requires (after-callees t) (after-at t) after.Post
+after-byte-count-requires t c κs = legible (c .before .before .before .before .pre .1)
 
 after-returns : (t : ℕ) → after-lts.Need-returns (after-callees t) (after-at t) after.Post
 after-returns t c = (after-step _ _ _ _ _ (c .before .before .react .ensures .0) (c .in-sequence .ensures), c .before .before .react .ensures .1)
 
 after-returns-2 : (t : ℕ) → after-lts.Need-returns-2 (after-callees t) (after-at t) after.Post
 after-returns-2 t c =
-    (λ i h. seq-stops _ i (start _ _) _ (c .before .before .before .before .before .args .p) h (sym (c .before .before .is-ended .ensures) ∙ c .before .if1 .left), c .skip .ensures (c .before .before .before .before .before .args .at))
+    (λ i h. seq-stops _ i (start _ _) _ (c .before .before .before .before .before .args .p) h (sym (c .before .before .is-ended .ensures) ∙ c .before .if1 .left), skipped (c .byte-count .ensures) (c .before .before .before .before .before .pre .1))
 
 loop-part-sub-react : (t : ℕ) → loop-part-lts.Need-sub-react (loop-part-callees t) (loop-part-at t) loop-part.Post
 loop-part-sub-react t c = search needs
@@ -291,75 +291,69 @@ present-parts-react-requires t c κs = search needs
 present-parts-add-n : (t : ℕ) → present-parts-lts.Need-add-n (present-parts-callees t) (present-parts-at t) present-parts.Post
 present-parts-add-n t c = search needs
 
-present-parts-sub-skip : (t : ℕ) → present-parts-lts.Need-sub-skip (present-parts-callees t) (present-parts-at t) present-parts.Post
-present-parts-sub-skip t c = search needs
+present-parts-sub-byte-count : (t : ℕ) → present-parts-lts.Need-sub-byte-count (present-parts-callees t) (present-parts-at t) present-parts.Post
+present-parts-sub-byte-count t c = search needs
 
-present-parts-part-skip-start : (t : ℕ) → present-parts-lts.Need-part-skip-start (present-parts-callees t) (present-parts-at t) present-parts.Post
-present-parts-part-skip-start t c = search needs
+present-parts-part-byte-count-start : (t : ℕ) → present-parts-lts.Need-part-byte-count-start (present-parts-callees t) (present-parts-at t) present-parts.Post
+present-parts-part-byte-count-start t c = search needs
 
-present-parts-part-skip-end : (t : ℕ) → present-parts-lts.Need-part-skip-end (present-parts-callees t) (present-parts-at t) present-parts.Post
-present-parts-part-skip-end t c = search needs
+present-parts-part-byte-count-end : (t : ℕ) → present-parts-lts.Need-part-byte-count-end (present-parts-callees t) (present-parts-at t) present-parts.Post
+present-parts-part-byte-count-end t c = search needs
 
-present-parts-sub-skip-2 : (t : ℕ) → present-parts-lts.Need-sub-skip-2 (present-parts-callees t) (present-parts-at t) present-parts.Post
-present-parts-sub-skip-2 t c = search needs
-
-present-parts-skip-requires : (t : ℕ) → present-parts-lts.Need-skip-requires (present-parts-callees t) (present-parts-at t) present-parts.Post
-present-parts-skip-requires t c κs = search needs
+present-parts-byte-count-requires : (t : ℕ) → present-parts-lts.Need-byte-count-requires (present-parts-callees t) (present-parts-at t) present-parts.Post
+present-parts-byte-count-requires t c κs = legible (c .before .before .before .before .before .before .before .before .before .pre .1 .second _ (c .before .before .before .react .ensures .1) .part)
 
 present-parts-add-t25 : (t : ℕ) → present-parts-lts.Need-add-t25 (present-parts-callees t) (present-parts-at t) present-parts.Post
 present-parts-add-t25 t c =
     let s = c .before .before .before .before .before .before .before .before .before .before .pre .1 .second _ (c .before .before .before .before .react .ensures .1) in
-    omega (arith, s .long, s .part .inside, c .skip .ensures (c .before .before .before .before .before .before .before .before .before .before .args .at + (2 + c .before .before .before .before .react .result .count)))
+    omega (arith, s .long, s .part .inside, skipped (c .byte-count .ensures) (s .part))
 
-present-parts-sub-skip-3 : (t : ℕ) → present-parts-lts.Need-sub-skip-3 (present-parts-callees t) (present-parts-at t) present-parts.Post
-present-parts-sub-skip-3 t c = search needs
+present-parts-sub-byte-count-2 : (t : ℕ) → present-parts-lts.Need-sub-byte-count-2 (present-parts-callees t) (present-parts-at t) present-parts.Post
+present-parts-sub-byte-count-2 t c = search needs
 
-present-parts-part-skip-start-2 : (t : ℕ) → present-parts-lts.Need-part-skip-start-2 (present-parts-callees t) (present-parts-at t) present-parts.Post
-present-parts-part-skip-start-2 t c = search needs
+present-parts-part-byte-count-start-2 : (t : ℕ) → present-parts-lts.Need-part-byte-count-start-2 (present-parts-callees t) (present-parts-at t) present-parts.Post
+present-parts-part-byte-count-start-2 t c = search needs
 
-present-parts-part-skip-end-2 : (t : ℕ) → present-parts-lts.Need-part-skip-end-2 (present-parts-callees t) (present-parts-at t) present-parts.Post
-present-parts-part-skip-end-2 t c = search needs
+present-parts-part-byte-count-end-2 : (t : ℕ) → present-parts-lts.Need-part-byte-count-end-2 (present-parts-callees t) (present-parts-at t) present-parts.Post
+present-parts-part-byte-count-end-2 t c = search needs
 
-present-parts-sub-skip-4 : (t : ℕ) → present-parts-lts.Need-sub-skip-4 (present-parts-callees t) (present-parts-at t) present-parts.Post
-present-parts-sub-skip-4 t c = search needs
-
-present-parts-skip-requires-2 : (t : ℕ) → present-parts-lts.Need-skip-requires-2 (present-parts-callees t) (present-parts-at t) present-parts.Post
-present-parts-skip-requires-2 t c κs = search needs
+present-parts-byte-count-requires-2 : (t : ℕ) → present-parts-lts.Need-byte-count-requires-2 (present-parts-callees t) (present-parts-at t) present-parts.Post
+present-parts-byte-count-requires-2 t c κs = legible (c .before .before .before .before .before .pre .1 .first)
 
 present-parts-add-n-2 : (t : ℕ) → present-parts-lts.Need-add-n-2 (present-parts-callees t) (present-parts-at t) present-parts.Post
-present-parts-add-n-2 t c = omega (arith, c .skip2 .ensures (c .before .before .before .before .before .before .args .at + 2))
+present-parts-add-n-2 t c = omega (arith, skipped (c .byte-count2 .ensures) (c .before .before .before .before .before .before .pre .1 .first))
 
 present-parts-sub-react-3 : (t : ℕ) → present-parts-lts.Need-sub-react-3 (present-parts-callees t) (present-parts-at t) present-parts.Post
-present-parts-sub-react-3 t c = omega (arith, c .skip2 .ensures (c .before .before .before .before .before .before .args .at + 2))
+present-parts-sub-react-3 t c = omega (arith, skipped (c .byte-count2 .ensures) (c .before .before .before .before .before .before .pre .1 .first))
 
 present-parts-part-react-start-2 : (t : ℕ) → present-parts-lts.Need-part-react-start-2 (present-parts-callees t) (present-parts-at t) present-parts.Post
-present-parts-part-react-start-2 t c = omega (arith, c .skip2 .ensures (c .before .before .before .before .before .before .args .at + 2))
+present-parts-part-react-start-2 t c = omega (arith, skipped (c .byte-count2 .ensures) (c .before .before .before .before .before .before .pre .1 .first))
 
 present-parts-part-react-end-2 : (t : ℕ) → present-parts-lts.Need-part-react-end-2 (present-parts-callees t) (present-parts-at t) present-parts.Post
 present-parts-part-react-end-2 t c = search needs
 
 present-parts-add-react-2 : (t : ℕ) → present-parts-lts.Need-add-react-2 (present-parts-callees t) (present-parts-at t) present-parts.Post
-present-parts-add-react-2 t c = omega (arith, c .before .skip2 .ensures (c .before .before .before .before .before .before .before .args .at + 2))
+present-parts-add-react-2 t c = omega (arith, skipped (c .before .byte-count2 .ensures) (c .before .before .before .before .before .before .before .pre .1 .first))
 
 present-parts-sub-react-4 : (t : ℕ) → present-parts-lts.Need-sub-react-4 (present-parts-callees t) (present-parts-at t) present-parts.Post
 present-parts-sub-react-4 t c = search needs
 
 present-parts-react-requires-2 : (t : ℕ) → present-parts-lts.Need-react-requires-2 (present-parts-callees t) (present-parts-at t) present-parts.Post
-present-parts-react-requires-2 t c κs = (search needs, c .before .before .before .before .before .before .before .pre .1 .second _ (c .before .skip2 .ensures (c .before .before .before .before .before .before .before .args .at + 2)) .part)
+present-parts-react-requires-2 t c κs = (search needs, c .before .before .before .before .before .before .before .pre .1 .second _ (skipped (c .before .byte-count2 .ensures) (c .before .before .before .before .before .before .before .pre .1 .first)) .part)
 
 present-parts-add-t26 : (t : ℕ) → present-parts-lts.Need-add-t26 (present-parts-callees t) (present-parts-at t) present-parts.Post
 present-parts-add-t26 t c =
-    let s = c .before .before .before .before .before .before .before .before .before .before .pre .1 .second _ (c .before .before .before .before .skip2 .ensures (c .before .before .before .before .before .before .before .before .before .before .args .at + 2)) in
+    let s = c .before .before .before .before .before .before .before .before .before .before .pre .1 .second _ (skipped (c .before .before .before .before .byte-count2 .ensures) (c .before .before .before .before .before .before .before .before .before .before .pre .1 .first)) in
     omega (arith, s .long, s .part .inside)
 
 present-parts-returns : (t : ℕ) → present-parts-lts.Need-returns (present-parts-callees t) (present-parts-at t) present-parts.Post
 present-parts-returns t c =
     let s = c .before .before .before .before .before .before .before .before .before .before .pre .1 .second _ (c .before .before .before .before .react .ensures .1) in
-    (present-step _ _ _ _ _ 2 _ _ _ s (sym (c .before .before .before .before .before .before .before .member .ensures) ∙ c .before .before .before .before .before .before .if1 .taken) (c .before .before .before .before .react .ensures .0), omega (arith, s .count, c .skip .ensures (c .before .before .before .before .before .before .before .before .before .before .args .at + (2 + c .before .before .before .before .react .result .count))))
+    (present-step _ _ _ _ _ 2 _ _ _ s (sym (c .before .before .before .before .before .before .before .member .ensures) ∙ c .before .before .before .before .before .before .if1 .taken) (c .before .before .before .before .react .ensures .0), omega (arith, s .count, skipped (c .byte-count .ensures) (s .part)))
 
 present-parts-returns-2 : (t : ℕ) → present-parts-lts.Need-returns-2 (present-parts-callees t) (present-parts-at t) present-parts.Post
 present-parts-returns-2 t c =
-    let s = c .before .before .before .before .before .before .before .before .before .before .pre .1 .second _ (c .before .before .before .before .skip2 .ensures (c .before .before .before .before .before .before .before .before .before .before .args .at + 2)) in
+    let s = c .before .before .before .before .before .before .before .before .before .before .pre .1 .second _ (skipped (c .before .before .before .before .byte-count2 .ensures) (c .before .before .before .before .before .before .before .before .before .before .pre .1 .first)) in
     (absent-step _ _ _ _ _ 2 _ _ _ s (sym (c .before .before .before .before .before .before .before .member .ensures) ∙ c .before .before .before .before .before .before .if1 .left) (c .before .before .react2 .ensures .0), omega (arith, s .count))
 
 react-shared-slice-read-command : (t : ℕ) → react-lts.Need-shared-slice-read-command (react-callees t) (react-at t) react.Post
@@ -606,7 +600,7 @@ pub +after+loop-part+par-parts+present-parts+react+seq-parts+signal-rule+try-par
     (after-is-ended-requires t)
     (after-react-requires t)
     (after-in-sequence-requires t)
-    (after-skip-requires t)
+    (after-byte-count-requires t)
     (after-returns t)
     (after-returns-2 t))
     (λ t. loop-part-lts.spec (loop-part-callees t)
@@ -653,17 +647,15 @@ pub +after+loop-part+par-parts+present-parts+react+seq-parts+signal-rule+try-par
     (present-parts-sub-react-2 t)
     (present-parts-react-requires t)
     (present-parts-add-n t)
-    (present-parts-sub-skip t)
-    (present-parts-part-skip-start t)
-    (present-parts-part-skip-end t)
-    (present-parts-sub-skip-2 t)
-    (present-parts-skip-requires t)
+    (present-parts-sub-byte-count t)
+    (present-parts-part-byte-count-start t)
+    (present-parts-part-byte-count-end t)
+    (present-parts-byte-count-requires t)
     (present-parts-add-t25 t)
-    (present-parts-sub-skip-3 t)
-    (present-parts-part-skip-start-2 t)
-    (present-parts-part-skip-end-2 t)
-    (present-parts-sub-skip-4 t)
-    (present-parts-skip-requires-2 t)
+    (present-parts-sub-byte-count-2 t)
+    (present-parts-part-byte-count-start-2 t)
+    (present-parts-part-byte-count-end-2 t)
+    (present-parts-byte-count-requires-2 t)
     (present-parts-add-n-2 t)
     (present-parts-sub-react-3 t)
     (present-parts-part-react-start-2 t)

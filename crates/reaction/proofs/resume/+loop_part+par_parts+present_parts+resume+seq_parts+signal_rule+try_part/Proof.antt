@@ -3,7 +3,7 @@ use native.Mathlib.Omega.{arith}
 use borrow.Author.Needs.{needs}
 use borrow.Author.Tests.{ltb-true}
 use Rattle.sequence.specs.Commands.{Command}
-use Rattle.reaction.proofs.Taken.{head-at, leaf-at, single-at, plain-at, pair-at, last-at, signal-left}
+use Rattle.reaction.proofs.Taken.{head-at, leaf-at, single-at, plain-at, pair-at, last-at, signal-left, legible, skipped}
 use Rattle.reaction.proofs.Resuming.{nothing-resumes, emit-resumes, exit-resumes, setpause-resumes, pause-resumes, loop-inactive, loop-active, try-inactive, try-active, signal-inactive, signal-inactive₂, signal-active, seq-active, seq-inactive, par-resumes, present-active, present-inactive}
 use Prim.Native.Nat.{ℕ, _+_, _<_}
 use borrow.Fn.Kinds.{In}
@@ -30,7 +30,7 @@ use Rattle.reaction.proofs.resume.try_part.Reads as try-part
 use Rattle.reaction.proofs.resume.try_part.Kinds as try-part-kinds
 use Rattle.reaction.proofs.resume.+loop_part+par_parts+present_parts+resume+seq_parts+signal_rule+try_part.Lts-try_part as try-part-lts
 use Rattle.reaction.proofs.react.after.Reads as after-reads
-use Rattle.reaction.proofs.react.skip.Reads as skip-reads
+use Rattle.sequence.proofs.extent.byte_count.Reads as byte-count-reads
 use Rattle.reaction.proofs.resume.again.Reads as again-reads
 use Rattle.reaction.proofs.resume.paused.Reads as paused-reads
 use Rattle.reaction.proofs.resume.sides.Reads as sides-reads
@@ -127,7 +127,7 @@ abbrev par-parts-callees : ℕ → par-parts-lts.Claims
 par-parts-callees t = (resume-below t, resume.Post, sides-reads.Asked, sides-reads.Learnt)
 
 abbrev present-parts-callees : ℕ → present-parts-lts.Claims
-present-parts-callees t = (resume-below t, resume.Post, skip-reads.Asked, skip-reads.Learnt)
+present-parts-callees t = (resume-below t, resume.Post, byte-count-reads.Asked, byte-count-reads.Learnt)
 
 abbrev resume-callees : ℕ → resume-lts.Claims
 resume-callees t = (paused-reads.Asked, paused-reads.Learnt, seq-parts-below t, seq-parts.Post, par-parts-below t, par-parts.Post, loop-part-below t, loop-part.Post, present-parts-below t, present-parts.Post, signal-rule-below t, signal-rule.Post, try-part-below t, try-part.Post)
@@ -279,25 +279,22 @@ present-parts-add-t20 t c =
 present-parts-enum-told-2 : (t : ℕ) → present-parts-lts.Need-enum-told-2 (present-parts-callees t) (present-parts-at t) present-parts.Post
 present-parts-enum-told-2 t c = search needs
 
-present-parts-sub-skip : (t : ℕ) → present-parts-lts.Need-sub-skip (present-parts-callees t) (present-parts-at t) present-parts.Post
-present-parts-sub-skip t c = search needs
+present-parts-sub-byte-count : (t : ℕ) → present-parts-lts.Need-sub-byte-count (present-parts-callees t) (present-parts-at t) present-parts.Post
+present-parts-sub-byte-count t c = search needs
 
-present-parts-part-skip-start : (t : ℕ) → present-parts-lts.Need-part-skip-start (present-parts-callees t) (present-parts-at t) present-parts.Post
-present-parts-part-skip-start t c = search needs
+present-parts-part-byte-count-start : (t : ℕ) → present-parts-lts.Need-part-byte-count-start (present-parts-callees t) (present-parts-at t) present-parts.Post
+present-parts-part-byte-count-start t c = search needs
 
-present-parts-part-skip-end : (t : ℕ) → present-parts-lts.Need-part-skip-end (present-parts-callees t) (present-parts-at t) present-parts.Post
-present-parts-part-skip-end t c = search needs
+present-parts-part-byte-count-end : (t : ℕ) → present-parts-lts.Need-part-byte-count-end (present-parts-callees t) (present-parts-at t) present-parts.Post
+present-parts-part-byte-count-end t c = search needs
 
-present-parts-sub-skip-2 : (t : ℕ) → present-parts-lts.Need-sub-skip-2 (present-parts-callees t) (present-parts-at t) present-parts.Post
-present-parts-sub-skip-2 t c = search needs
+present-parts-byte-count-requires : (t : ℕ) → present-parts-lts.Need-byte-count-requires (present-parts-callees t) (present-parts-at t) present-parts.Post
+present-parts-byte-count-requires t c κs = legible (c .before .before .before .before .before .before .before .pre .1 .second _ (c .before .before .before .before .resume .ensures .1) .part)
 
-present-parts-skip-requires : (t : ℕ) → present-parts-lts.Need-skip-requires (present-parts-callees t) (present-parts-at t) present-parts.Post
-present-parts-skip-requires t c κs = search needs
-
-present-parts-add-t31 : (t : ℕ) → present-parts-lts.Need-add-t31 (present-parts-callees t) (present-parts-at t) present-parts.Post
-present-parts-add-t31 t c =
+present-parts-add-t30 : (t : ℕ) → present-parts-lts.Need-add-t30 (present-parts-callees t) (present-parts-at t) present-parts.Post
+present-parts-add-t30 t c =
     let s = c .before .before .before .before .before .before .before .before .pre .1 .second _ (c .before .before .before .before .before .resume .ensures .1) in
-    omega (arith, s .long, s .part .inside, c .skip .ensures (c .before .before .before .before .before .before .before .before .args .at + (2 + c .before .before .before .before .before .resume .result .count)))
+    omega (arith, s .long, s .part .inside, skipped (c .byte-count .ensures) (s .part))
 
 present-parts-returns : (t : ℕ) → present-parts-lts.Need-returns (present-parts-callees t) (present-parts-at t) present-parts.Post
 present-parts-returns t c =
@@ -307,7 +304,7 @@ present-parts-returns t c =
 present-parts-returns-2 : (t : ℕ) → present-parts-lts.Need-returns-2 (present-parts-callees t) (present-parts-at t) present-parts.Post
 present-parts-returns-2 t c =
     let s = c .before .before .before .before .before .before .before .before .pre .1 .second _ (c .before .before .before .before .before .resume .ensures .1) in
-    (present-active _ _ _ _ _ _ 2 _ _ (c .before .before .before .before .before .resume .ensures .0) _ s _ (c .before .before .enum-told2 .given .1), omega (arith, s .count, c .skip .ensures (c .before .before .before .before .before .before .before .before .args .at + (2 + c .before .before .before .before .before .resume .result .count))))
+    (present-active _ _ _ _ _ _ 2 _ _ (c .before .before .before .before .before .resume .ensures .0) _ s _ (c .before .before .enum-told2 .given .1), omega (arith, s .count, skipped (c .byte-count .ensures) (s .part)))
 
 resume-shared-slice-read-command : (t : ℕ) → resume-lts.Need-shared-slice-read-command (resume-callees t) (resume-at t) resume.Post
 resume-shared-slice-read-command t c = search needs
@@ -638,12 +635,11 @@ pub +loop-part+par-parts+present-parts+resume+seq-parts+signal-rule+try-part-spe
     (present-parts-resume-requires-2 t)
     (present-parts-add-t20 t)
     (present-parts-enum-told-2 t)
-    (present-parts-sub-skip t)
-    (present-parts-part-skip-start t)
-    (present-parts-part-skip-end t)
-    (present-parts-sub-skip-2 t)
-    (present-parts-skip-requires t)
-    (present-parts-add-t31 t)
+    (present-parts-sub-byte-count t)
+    (present-parts-part-byte-count-start t)
+    (present-parts-part-byte-count-end t)
+    (present-parts-byte-count-requires t)
+    (present-parts-add-t30 t)
     (present-parts-returns t)
     (present-parts-returns-2 t))
     (λ t. resume-lts.spec (resume-callees t)
