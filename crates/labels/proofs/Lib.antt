@@ -1,5 +1,3 @@
-pub mod Bytes
-pub mod Shapes
 pub mod Steps
 pub mod Walk
 pub mod Loops

@@ -10,15 +10,15 @@ use lib.Dec.{eqb}
 use lib.Bits.{bitAnd}
 use borrow.Author.Count.{below-more}
 use borrow.Author.Tests.{eqb-true, eqb-false, not-true, not-false}
-use Rattle.esterel.specs.Sets.{member, none, remove}
+use Rattle.esterel.specs.Sets.{member, none, join, remove}
 use Rattle.esterel.proofs.Booleans.{or-l, or-r, or-cases, never, Tested, tested}
-use Rattle.esterel.proofs.Sets.{member-none, member-and, member-remove}
+use Rattle.esterel.proofs.Sets.{member-none, member-join, member-and, member-remove}
 use Rattle.esterel.proofs.LabelSets.{in-none, some-member}
 use Rattle.sets.specs.Sets.{Disjoint, Lowest}
 use Rattle.sets.specs.Rows.{rowBelow}
 use Rattle.sets.proofs.Rows.{no-row}
 use Rattle.sets.proofs.Lowest.{remove-less}
-use Rattle.labels.specs.Rules.{Named, Clash, Apart}
+use Rattle.labels.specs.Rules.{Named, Holds, Clash, Apart}
 
 -- a walk over the labels of s: of those that are not left, P holds
 pub record Seeking (P : ℕ → Type 0) (s left : ℕ) : Type 0 where
@@ -62,6 +62,27 @@ module _ (P : ℕ → Type 0) (s left : ℕ) (f : Seeking P s left) where
 
 pub named-end : (rows : ℕ → ℕ) (s k : ℕ) → ((i : ℕ) → member i s ≡ true → member k (rows i) ≡ false) → (false ≡ true) ↔ Named rows s k
 named-end rows s k f = (λ z. absurd (false≢true z), λ n. both-ways (n .2) (f (n .0) (n .1)))
+
+-- a label that stands in no row
+pub named-never : (rows : ℕ → ℕ) (s k all : ℕ) → Holds rows all → member k all ≡ false → (false ≡ true) ↔ Named rows s k
+named-never rows s k all f e = (λ z. absurd (false≢true z), λ n. both-ways (f (n .0) k (n .2)) e)
+
+-- ---- the labels of the rows below n
+abbrev pub HoldsBelow : (rows : ℕ → ℕ) (n s : ℕ) → Type 0
+HoldsBelow rows n s = (l : ℕ) → l < n → (k : ℕ) → member k (rows l) ≡ true → member k s ≡ true
+
+pub holds-on : (rows : ℕ → ℕ) (n s r t : ℕ) → HoldsBelow rows n s → r ≡ rows n → t ≡ join s r → HoldsBelow rows (n + 1) t
+holds-on rows n s r t f er et =
+    below-more _ n
+    (λ l h k m. ap (member k) et ∙ member-join k s r ∙ or-l (member k s) (member k r) (f l h k m))
+    (λ k m. ap (member k) et ∙ member-join k s r ∙ or-r (member k s) (member k r) (ap (member k) er ∙ m))
+
+pub holds-end : (w : ℕ) (rows : List ℕ) (s : ℕ) → HoldsBelow (rowBelow w rows) w s → Holds (rowBelow w rows) s
+holds-end w rows s f l k m = go (decLt l w)
+  where
+    go : Dec (l < w) → member k s ≡ true
+    go (yes h) = f l h k m
+    go (no h) = in-none k (ap (member k) (no-row w l rows (omega (arith, h))) ∙ m)
 
 pub emptied : (b : Bool) (s : ℕ) → b ≡ eqb s none → b ≡ true → s ≡ none
 emptied b s e h = eqb-true s none (sym e ∙ h)

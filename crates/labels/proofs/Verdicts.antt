@@ -1,11 +1,11 @@
 -- The verdict of the check, from the reader's answer and the label rules.
 use Prim.Native.Nat.{ℕ, _≤_, _<_}
-use mathlib.Core.Path.{_≡_, refl, sym, ap, ap₂, _∙_, subst, subst₂}
+use mathlib.Core.Path.{_≡_, refl, sym, ap, ap₂, _∙_, subst}
 use mathlib.Core.Bool.{Bool, true, false, _&&_, cond}
 use mathlib.Core.List.{List}
 use native.Mathlib.Omega.{arith}
 use lib.Dec.{ltb, leb}
-use lib.ListN.{length, getD, replicate, length-replicate, getD-replicate}
+use lib.ListN.{length, getD, replicate, getD-replicate}
 use borrow.Author.Tests.{ltb-true, lt-ltb, le-ltb, le-leb, lt-leb}
 use Rattle.esterel.specs.Sets.{member, none, join}
 use Rattle.esterel.specs.Statement.{Statement}
@@ -15,7 +15,7 @@ use Rattle.esterel.proofs.Sets.{join-none-l}
 use Rattle.esterel.proofs.Booleans.{Tested, tested}
 use Rattle.esterel.proofs.LabelRows.{fill-is}
 use Rattle.sets.specs.Labels.{labelSet}
-use Rattle.sets.specs.Rows.{rowBelow, rowOf, Turns}
+use Rattle.sets.specs.Rows.{rowBelow, rowOf}
 use Rattle.sequence.specs.declared.reader.Measured.{Measured}
 use Rattle.sequence.specs.declared.reader.Measured.the-variants.{Length, Refused}
 use Rattle.sequence.specs.Reader.{Read, accepted, refused, read}
@@ -39,9 +39,9 @@ no-rows w k = go (tested (ltb k w))
     go (Tested.yes h) = rw h (getD-replicate w k 0 0 (ltb-true k w h))
     go (Tested.no h) = rw h
 
-fresh-rows : (x y : Bool) (j : Joint) (p : Statement) (m n : List ℕ) → m ≡ noRows → Turns (fill x y j p none) m n → (k : ℕ) → rowOf n k ≡ before x y j p k
+fresh-rows : (x y : Bool) (j : Joint) (p : Statement) (m n : List ℕ) → m ≡ noRows → rowOf n ≡ fill x y j p none (rowOf m) → (k : ℕ) → rowOf n k ≡ before x y j p k
 fresh-rows x y j p m n e t k =
-    ap (λ (f : ℕ → ℕ). f k) (t .turns (ap length e ∙ length-replicate {A = ℕ} 64 0) .1)
+    ap (λ (f : ℕ → ℕ). f k) t
     ∙ fill-is x y j p none (rowOf m) k
     ∙ ap₂ (λ (a b : ℕ). join a (join b (before x y j p k))) (ap (λ (l : List ℕ). rowOf l k) e ∙ no-rows 64 k) (nothing (member k (labelsOf x y p)))
     ∙ join-none-l (join none (before x y j p k))
@@ -51,16 +51,15 @@ fresh-rows x y j p m n e t k =
     nothing true = refl
     nothing false = refl
 
-pub labelled : (p : Statement) (n known aside : ℕ) (found : Found) (m rows i sides : List ℕ) → known ≡ none → aside ≡ none → m ≡ noRows → i ≡ noRows
-    → Surveyed p n known aside found m rows i sides → Labelled p found rows sides
-labelled p n known aside found m rows i sides ek ea em ei v =
-    let u = subst₂ (λ (x y : ℕ). Surveyed p n x y found m rows i sides) ek ea v in
+pub labelled : (p : Statement) (found : Found) (m rows i sides : List ℕ) → m ≡ noRows → i ≡ noRows → Surveyed p found m rows i sides
+    → Labelled p found rows sides
+labelled p found m rows i sides em ei v =
     record {
-      paused = u .paused;
-      targeting = u .targeting;
-      once = u .once;
-      rivalling = fresh-rows true false alternative p m rows em (u .rivalling);
-      siding = fresh-rows true true parallel p i sides ei (u .siding);
+      paused = v .paused;
+      targeting = v .targeting;
+      once = v .once;
+      rivalling = fresh-rows true false alternative p m rows em (v .rivalling);
+      siding = fresh-rows true true parallel p i sides ei (v .siding);
     }
 
 -- ---- verdicts
@@ -111,25 +110,25 @@ module _ (bs : List ℕ) (v : Verdict) where
         go (refused n) q z = let en : k ≡ n = cc in by-reading (refused n) q (subst (λ (i : ℕ). Judged v (bad i)) en h)
 
 -- the reader's answer is that of a statement
-pub read-as : (bs : List ℕ) (n j : ℕ) (r : Measured) → r ≡ measured (read 64 6 0 bs) → r ≡ Length n j → (p : Statement) × (read 64 6 0 bs ≡ accepted p n)
-read-as bs n j r e g = go (read 64 6 0 bs) refl (sym g ∙ e)
+pub read-as : (bs : List ℕ) (n : ℕ) (r : Measured) → r ≡ measured (read 64 6 0 bs) → r ≡ Length n → (p : Statement) × (read 64 6 0 bs ≡ accepted p n)
+read-as bs n r e g = go (read 64 6 0 bs) refl (sym g ∙ e)
   where
-    go : (x : Read) → read 64 6 0 bs ≡ x → Length n j ≡ measured x → (p : Statement) × (read 64 6 0 bs ≡ accepted p n)
+    go : (x : Read) → read 64 6 0 bs ≡ x → Length n ≡ measured x → (p : Statement) × (read 64 6 0 bs ≡ accepted p n)
     go (accepted p m) q z = let em : m ≡ n = cc in (p, q ∙ ap (accepted p) em)
     go (refused m) q z = absurd (let n : _≡_ {A = ℕ} 0 1 = cc in omega arith)
 
-pub readable-as : (bs : List ℕ) (n j : ℕ) (r : Measured) → r ≡ measured (read 64 6 0 bs) → r ≡ Length n j → Readable 64 bs
-readable-as bs n j r e g =
-    let x = read-as bs n j r e g in
+pub readable-as : (bs : List ℕ) (n : ℕ) (r : Measured) → r ≡ measured (read 64 6 0 bs) → r ≡ Length n → Readable 64 bs
+readable-as bs n r e g =
+    let x = read-as bs n r e g in
     record { signals = 6; offset = 0; statement = x .0; count = n; reads = x .1 }
 
-module _ (bs : List ℕ) (v : Verdict) (some : length bs ≡ 0 → ⊥) (few : length bs ≤ 1024) (n j : ℕ) (r : Measured) (e : r ≡ measured (read 64 6 0 bs)) (g : r ≡ Length n j) where
+module _ (bs : List ℕ) (v : Verdict) (some : length bs ≡ 0 → ⊥) (few : length bs ≤ 1024) (n : ℕ) (r : Measured) (e : r ≡ measured (read 64 6 0 bs)) (g : r ≡ Length n) where
   pub bytes-left : n < length bs → Judged v (bad 7) → Judged v (checked bs)
   bytes-left l h =
-      let x = read-as bs n j r e g in
+      let x = read-as bs n r e g in
       by-reading bs v some few (accepted (x .0) n) (x .1) (rw (lt-ltb n (length bs) l) h)
 
   pub whole : length bs ≤ n → ((signals offset : ℕ) (p : Statement) (n : ℕ) → read 64 signals offset bs ≡ accepted p n → Judged v (labelRules p)) → Judged v (checked bs)
   whole l h =
-      let x = read-as bs n j r e g in
+      let x = read-as bs n r e g in
       by-reading bs v some few (accepted (x .0) n) (x .1) (rw (le-ltb n (length bs) l) (h 6 0 (x .0) n (x .1)))

@@ -1,3 +1,4 @@
 pub mod Survey
+pub mod Passing
 pub mod Rules
 pub mod Verdict

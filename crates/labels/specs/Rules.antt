@@ -16,6 +16,10 @@ use Rattle.labels.specs.declared.survey.Found.{Found}
 abbrev pub Named : (rows : ℕ → ℕ) (s k : ℕ) → Type 0
 Named rows s k = (l : ℕ) × (member l s ≡ true) × (member k (rows l) ≡ true)
 
+-- each label that stands in a row is in s
+abbrev pub Holds : (rows : ℕ → ℕ) (s : ℕ) → Type 0
+Holds rows s = (l k : ℕ) → member k (rows l) ≡ true → member k s ≡ true
+
 -- a label aside k has a pause exclusive with that of k
 abbrev pub Clash : (rows sides : ℕ → ℕ) → ℕ → Type 0
 Clash rows sides k = (l : ℕ) × (member l (sides k) ≡ true) × ((member l (rows k) || member k (rows l)) ≡ true)

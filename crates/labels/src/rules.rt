@@ -5,7 +5,7 @@ ghost use mathlib.Core.Logic.{_↔_};
 ghost use Prim.Native.Nat.{ℕ};
 ghost use Rattle.sets.specs.Labels.{labelSet};
 ghost use Rattle.sets.specs.Rows.{rowOf};
-ghost use Rattle.labels.specs.Rules.{Named, Clash};
+ghost use Rattle.labels.specs.Rules.{Named, Holds, Clash};
 ghost use Rattle.esterel.specs.LabelTests.{pauses, rivals, valid};
 ghost use Rattle.esterel.specs.Statement.{Statement};
 ghost use Rattle.labels.specs.Rules.{Labelled, numberBy, Apart};
@@ -28,13 +28,31 @@ fn named(rows: &Rows, s: Labels, k: u8) -> bool
     false
 }
 
-// Has a label aside k a pause exclusive with that of k?
-fn clash(rows: &Rows, sides: &Rows, k: u8) -> bool
+// The labels that stand in some row.
+fn in_rows(rows: &Rows) -> Labels
+    ensures { λ r. ⌜ Holds (rowOf (now (rows .entry))) (labelSet r) ⌝ }
+{
+    let mut all = sets::labels::empty();
+    let mut l: u8 = 0;
+    while l < 64 {
+        all = sets::labels::union(all, sets::labels::row(rows, l));
+        l += 1;
+    }
+    all
+}
+
+// Has a label aside k a pause exclusive with that of k? The labels of all rows are in `all`.
+fn clash(rows: &Rows, sides: &Rows, all: Labels, k: u8) -> bool
+    requires { ⌜ Holds (rowOf (now rows)) (labelSet all) ⌝ }
     ensures { λ r. ⌜ (r ≡ true) ↔ Clash (rowOf (now (rows .entry))) (rowOf (now (sides .entry))) k ⌝ }
 {
     let beside = sets::labels::row(sides, k);
     if sets::labels::disjoint(beside, sets::labels::row(rows, k)) {
-        named(rows, beside, k)
+        if sets::labels::member(all, k) {
+            named(rows, beside, k)
+        } else {
+            false
+        }
     } else {
         true
     }
@@ -44,9 +62,10 @@ fn clash(rows: &Rows, sides: &Rows, k: u8) -> bool
 fn mixed(rows: &Rows, sides: &Rows) -> bool
     ensures { λ r. ⌜ (r ≡ true) ↔ ((k : ℕ) × Clash (rowOf (now (rows .entry))) (rowOf (now (sides .entry))) k) ⌝ }
 {
+    let all = in_rows(rows);
     let mut k: u8 = 0;
     while k < 64 {
-        if clash(rows, sides, k) {
+        if clash(rows, sides, all, k) {
             return true;
         }
         k += 1;

@@ -38,8 +38,7 @@ fn judged(s: &[u8]) -> Verdict
 {
     let mut rows: Rows = [0; 64];
     let mut sides: Rows = [0; 64];
-    let none = sets::labels::empty();
-    let found = crate::survey::survey(s, 64, none, none, &mut rows, &mut sides);
+    let found = crate::survey::survey(s, &mut rows, &mut sides);
     let number = crate::rules::label_number(found, &rows, &sides);
     let pauses = found.pauses;
     Verdict {
@@ -60,7 +59,7 @@ pub fn check(s: &[u8]) -> Verdict
     }
     match sequence::reader::measure(s, 64, 6) {
         Measured::Refused(e) => turned_down(e),
-        Measured::Length(n, _) => {
+        Measured::Length(n) => {
             if n < s.len() {
                 turned_down(7)
             } else {

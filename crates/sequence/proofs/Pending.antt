@@ -20,37 +20,85 @@ use Rattle.sequence.proofs.Accepted.{byteOf, byte-is, command-of-byte}
 
 -- ---- what the code's tests of a command byte say of its command
 module _ (b : ℕ) (c : Command) (e : commandOf b ≡ some c) where
-  pub two-bytes : (b ≡ 0 → ⊥) → (b ≡ 4 → ⊥) → (b ≡ 5 → ⊥) → (b ≡ 6 → ⊥) → (b ≡ 9 → ⊥) → 2 ≡ width c
-  two-bytes n0 n4 n5 n6 n9 = go c (byte-is b c e)
+  pub one-byte : ((b ≡ 1 → ⊥) × (b ≡ 2 → ⊥) × (b ≡ 3 → ⊥) × (b ≡ 7 → ⊥) × (b ≡ 8 → ⊥) × (b ≡ 10 → ⊥)) → 1 ≡ width c
+  one-byte f = go c (byte-is b c e)
+    where
+      go : (c : Command) → b ≡ byteOf c → 1 ≡ width c
+      go Command.nothing z = refl
+      go Command.pause z = absurd (f .0 z)
+      go Command.emit z = absurd (f .1 z)
+      go Command.exit z = absurd (f .2 z)
+      go Command.seq z = refl
+      go Command.par z = refl
+      go Command.loop z = refl
+      go Command.present z = absurd (f .3 z)
+      go Command.signal z = absurd (f .4 z)
+      go Command.try z = refl
+      go Command.setpause z = absurd (f .5 z)
+
+  pub two-bytes : ((b ≡ 0 → ⊥) × (b ≡ 4 → ⊥) × (b ≡ 5 → ⊥) × (b ≡ 6 → ⊥) × (b ≡ 9 → ⊥)) → 2 ≡ width c
+  two-bytes f = go c (byte-is b c e)
     where
       go : (c : Command) → b ≡ byteOf c → 2 ≡ width c
-      go Command.nothing z = absurd (n0 z)
+      go Command.nothing z = absurd (f .0 z)
       go Command.pause z = refl
       go Command.emit z = refl
       go Command.exit z = refl
-      go Command.seq z = absurd (n4 z)
-      go Command.par z = absurd (n5 z)
-      go Command.loop z = absurd (n6 z)
+      go Command.seq z = absurd (f .1 z)
+      go Command.par z = absurd (f .2 z)
+      go Command.loop z = absurd (f .3 z)
       go Command.present z = refl
       go Command.signal z = refl
-      go Command.try z = absurd (n9 z)
+      go Command.try z = absurd (f .4 z)
       go Command.setpause z = refl
 
-  pub no-parts : (b ≡ 4 → ⊥) → (b ≡ 5 → ⊥) → (b ≡ 6 → ⊥) → (b ≡ 7 → ⊥) → (b ≡ 8 → ⊥) → (b ≡ 9 → ⊥) → 0 ≡ partCount c
-  no-parts n4 n5 n6 n7 n8 n9 = go c (byte-is b c e)
+  pub no-part : ((b ≡ 4 → ⊥) × (b ≡ 5 → ⊥) × (b ≡ 6 → ⊥) × (b ≡ 7 → ⊥) × (b ≡ 8 → ⊥) × (b ≡ 9 → ⊥)) → 0 ≡ partCount c
+  no-part f = go c (byte-is b c e)
     where
       go : (c : Command) → b ≡ byteOf c → 0 ≡ partCount c
       go Command.nothing z = refl
       go Command.pause z = refl
       go Command.emit z = refl
       go Command.exit z = refl
-      go Command.seq z = absurd (n4 z)
-      go Command.par z = absurd (n5 z)
-      go Command.loop z = absurd (n6 z)
-      go Command.present z = absurd (n7 z)
-      go Command.signal z = absurd (n8 z)
-      go Command.try z = absurd (n9 z)
+      go Command.seq z = absurd (f .0 z)
+      go Command.par z = absurd (f .1 z)
+      go Command.loop z = absurd (f .2 z)
+      go Command.present z = absurd (f .3 z)
+      go Command.signal z = absurd (f .4 z)
+      go Command.try z = absurd (f .5 z)
       go Command.setpause z = refl
+
+  pub one-part : ((b ≡ 0 → ⊥) × (b ≡ 1 → ⊥) × (b ≡ 2 → ⊥) × (b ≡ 3 → ⊥) × (b ≡ 4 → ⊥) × (b ≡ 5 → ⊥) × (b ≡ 7 → ⊥) × (b ≡ 10 → ⊥)) → 1 ≡ partCount c
+  one-part f = go c (byte-is b c e)
+    where
+      go : (c : Command) → b ≡ byteOf c → 1 ≡ partCount c
+      go Command.nothing z = absurd (f .0 z)
+      go Command.pause z = absurd (f .1 z)
+      go Command.emit z = absurd (f .2 z)
+      go Command.exit z = absurd (f .3 z)
+      go Command.seq z = absurd (f .4 z)
+      go Command.par z = absurd (f .5 z)
+      go Command.loop z = refl
+      go Command.present z = absurd (f .6 z)
+      go Command.signal z = refl
+      go Command.try z = refl
+      go Command.setpause z = absurd (f .7 z)
+
+  pub two-parts : ((b ≡ 0 → ⊥) × (b ≡ 1 → ⊥) × (b ≡ 2 → ⊥) × (b ≡ 3 → ⊥) × (b ≡ 6 → ⊥) × (b ≡ 8 → ⊥) × (b ≡ 9 → ⊥) × (b ≡ 10 → ⊥)) → 2 ≡ partCount c
+  two-parts f = go c (byte-is b c e)
+    where
+      go : (c : Command) → b ≡ byteOf c → 2 ≡ partCount c
+      go Command.nothing z = absurd (f .0 z)
+      go Command.pause z = absurd (f .1 z)
+      go Command.emit z = absurd (f .2 z)
+      go Command.exit z = absurd (f .3 z)
+      go Command.seq z = refl
+      go Command.par z = refl
+      go Command.loop z = absurd (f .4 z)
+      go Command.present z = refl
+      go Command.signal z = absurd (f .5 z)
+      go Command.try z = absurd (f .6 z)
+      go Command.setpause z = absurd (f .7 z)
 
 -- ---- statements one after another, as bytes
 abbrev pub written : List Statement → List ℕ
@@ -87,14 +135,14 @@ split (signal a s p) = record { c = Command.signal; operand = s; parts = p ∷ [
 split (try p) = record { c = Command.try; operand = 0; parts = p ∷ []; many = refl; bytes = rw append-nil }
 split (setpause l) = record { c = Command.setpause; operand = l; parts = []; many = refl; bytes = refl }
 
-coded-append : (c : Command) (x : ℕ) (t u : List ℕ) → coded c x t ++ u ≡ coded c x (t ++ u)
+pub coded-append : (c : Command) (x : ℕ) (t u : List ℕ) → coded c x t ++ u ≡ coded c x (t ++ u)
 coded-append c x t u = go (operandCount c)
   where
     go : (m : ℕ) → byteOf c ∷ operandBytes m x ++ t ++ u ≡ byteOf c ∷ operandBytes m x ++ (t ++ u)
     go zero = refl
     go (suc m) = refl
 
-coded-drop : (c : Command) (x : ℕ) (t : List ℕ) → drop (width c) (coded c x t) ≡ t
+pub coded-drop : (c : Command) (x : ℕ) (t : List ℕ) → drop (width c) (coded c x t) ≡ t
 coded-drop c x t = go (operandCount c) (at-most-one c)
   where
     go : (m : ℕ) → m ≤ 1 → drop (1 + m) (byteOf c ∷ operandBytes m x ++ t) ≡ t

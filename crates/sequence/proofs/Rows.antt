@@ -246,7 +246,7 @@ module _ (bs : List ℕ) where
       go true i = given-7 z (x .0) (0 + m) (x .1) (omega (arith, ltb-true m (length bs) i))
       go false i =
           let f = rw e at (measured-fits maxDepth maxSignals 0 bs) in
-          exact (omega (arith, ltb-false m (length bs) i, f .bytes))
+          exact (omega (arith, ltb-false m (length bs) i, f))
 
   pub decided : Decides (checked bs)
   unfolding checked walk

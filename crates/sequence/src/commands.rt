@@ -1,42 +1,8 @@
 // The table of commands (01, 'Commands') by cases on the command byte.
 ghost use mathlib.Core.Path.{_≡_};
 ghost use mathlib.Core.Option.{some};
-ghost use Rattle.sequence.specs.Commands.{Command, commandOf, operandCount, partCount, width};
-ghost use Rattle.sequence.specs.Answers.{counted, allowed, declaredBy};
-
-// A count of a command byte; a byte without command has none.
-pub enum Count {
-    Of(u8),
-    Absent,
-}
-
-pub fn operand_count(b: u8) -> Count
-    ensures { λ r. ⌜ r ≡ counted operandCount (commandOf b) ⌝ }
-{
-    match b {
-        0 => Count::Of(0),
-        1..=3 => Count::Of(1),
-        4..=6 => Count::Of(0),
-        7..=8 => Count::Of(1),
-        9 => Count::Of(0),
-        10 => Count::Of(1),
-        _ => Count::Absent,
-    }
-}
-
-pub fn part_count(b: u8) -> Count
-    ensures { λ r. ⌜ r ≡ counted partCount (commandOf b) ⌝ }
-{
-    match b {
-        0..=3 => Count::Of(0),
-        4..=5 => Count::Of(2),
-        6 => Count::Of(1),
-        7 => Count::Of(2),
-        8..=9 => Count::Of(1),
-        10 => Count::Of(0),
-        _ => Count::Absent,
-    }
-}
+ghost use Rattle.sequence.specs.Commands.{Command, commandOf, partCount, width};
+ghost use Rattle.sequence.specs.Answers.{allowed, declaredBy};
 
 // Is the operand x in the range of the command b?
 pub fn in_range(b: u8, x: u8) -> bool
@@ -60,31 +26,35 @@ pub fn declared(b: u8) -> u8
     if b == 8 { 1 } else { 0 }
 }
 
-// The bytes of the command b with its operand. The byte is known to be a command's.
+// The bytes of the command b with its operand. The byte is known to be a command's. Tests in this order cost less than a
+// table: where the next command stands does not wait for a look into memory.
 pub fn width(b: u8) -> usize
     ensures { λ r. ⌜ ((c : Command) → commandOf b ≡ some c → r ≡ width c) ⌝ }
 {
-    match b {
-        0 => 1,
-        4 => 1,
-        5 => 1,
-        6 => 1,
-        9 => 1,
-        _ => 2,
+    if b == 0 {
+        return 1;
     }
+    if b < 4 {
+        return 2;
+    }
+    if b < 7 {
+        return 1;
+    }
+    if b == 9 { 1 } else { 2 }
 }
 
 // The parts of the command b. The byte is known to be a command's.
 pub fn parts(b: u8) -> usize
     ensures { λ r. ⌜ ((c : Command) → commandOf b ≡ some c → r ≡ partCount c) ⌝ }
 {
-    match b {
-        4 => 2,
-        5 => 2,
-        6 => 1,
-        7 => 2,
-        8 => 1,
-        9 => 1,
-        _ => 0,
+    if b < 4 {
+        return 0;
     }
+    if b < 6 {
+        return 2;
+    }
+    if b == 7 {
+        return 2;
+    }
+    if b < 10 { 1 } else { 0 }
 }

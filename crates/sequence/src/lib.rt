@@ -1,4 +1,4 @@
 // Sequences of commands as bytes: the table of commands, the reader, and the extent of what was read.
-mod commands;
+pub mod commands;
 pub mod extent;
 pub mod reader;

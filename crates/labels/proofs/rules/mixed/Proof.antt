@@ -9,16 +9,19 @@ use Rattle.labels.proofs.rules.mixed.Statement.{statement}
 use Rattle.labels.proofs.rules.mixed.Tie as tie
 
 abbrev Inv-loop : tie.InvT-loop
-Inv-loop rows sides k₀ k = (k ≤ 64) × Clear (rowOf rows) (rowOf sides) k
+Inv-loop rows sides all k₀ k = (k ≤ 64) × Clear (rowOf rows) (rowOf sides) k
 
 abbrev μ-loop : tie.MeasureT-loop
-μ-loop rows sides k₀ k = 64 - k
+μ-loop rows sides all k₀ k = 64 - k
+
+in-rows-requires : tie.Need-in-rows-requires Inv-loop μ-loop
+in-rows-requires c κs = search needs
 
 loop-holds : tie.Need-loop-holds Inv-loop μ-loop
 loop-holds c = (search needs, λ k h. absurd (not-suc-le-zero h))
 
 clash-requires : tie.Need-clash-requires Inv-loop μ-loop
-clash-requires c κs = search needs
+clash-requires c κs = c .before .before .in-rows .ensures
 
 returns : tie.Need-returns Inv-loop μ-loop
 returns c = (λ _. (c .before .before .before .loop .k, c .before .clash .ensures .0 (c .if1 .taken)), λ _. refl)
@@ -34,7 +37,7 @@ loop-again c = (search needs, clear-on _ _ _ _ (c .before .before .before .loop 
 
 returns-2 : tie.Need-returns-2 Inv-loop μ-loop
 returns-2 c = let e : c .before .loop .k ≡ 64 = omega arith in
-    clear-end 64 _ _ (subst (Clear (rowOf (c .before .before .args .rows .now)) (rowOf (c .before .before .args .sides .now))) e (c .before .loop .inv .1))
+    clear-end 64 _ _ (subst (Clear (rowOf (c .before .before .before .args .rows .now)) (rowOf (c .before .before .before .args .sides .now))) e (c .before .loop .inv .1))
 
 pub mixed-spec : {M : Type 1} → statement M
 mixed-spec =
@@ -42,6 +45,7 @@ mixed-spec =
     (tie.spec
     Inv-loop
     μ-loop
+    in-rows-requires
     loop-holds
     clash-requires
     returns

@@ -1,5 +1,3 @@
-use mathlib.Core.Path.{refl}
-use Rattle.labels.proofs.Steps.{if-equal, if-other}
 use borrow.Author.Needs.{needs}
 use Rattle.labels.proofs.survey.known_after.Statement.{statement}
 use Rattle.labels.proofs.survey.known_after.Tie as tie
@@ -8,10 +6,10 @@ union-requires : tie.Need-union-requires
 union-requires c κs = search needs
 
 returns : tie.Need-returns
-returns c = if-equal _ 5 _ _ _ (c .if1 .taken) refl
+returns c = rw (c .if1 .taken)
 
 returns-2 : tie.Need-returns-2
-returns-2 c = if-other _ 5 _ _ _ (c .before .if1 .left) (c .union .ensures)
+returns-2 c = rw (c .before .if1 .left) (c .union .ensures)
 
 pub known-after-spec : {M : Type 1} → statement M
 known-after-spec = tie.close (tie.spec union-requires returns returns-2)

@@ -31,16 +31,16 @@ turned-down-requires-4 : tie.Need-turned-down-requires-4
 turned-down-requires-4 c κs = search needs
 
 judged-requires : tie.Need-judged-requires
-judged-requires c κs = readable-as _ _ _ _ (c .before .before .before .before .measure .ensures 0) (c .before .before .n .given .1)
+judged-requires c κs = readable-as _ _ _ (c .before .before .before .before .measure .ensures 0) (c .before .before .n .given .1)
 
 returns-3 : tie.Need-returns-3
 returns-3 c = read-bad _ _ (c .before .before .before .before .before .before .if1 .left) (c .before .before .before .before .before .if2 .left) _ _ (c .before .before .before .before .measure .ensures 0) (c .before .before .e .given .1) (c .turned-down3 .ensures)
 
 returns-4 : tie.Need-returns-4
-returns-4 c = bytes-left _ _ (c .before .before .before .before .before .before .before .if1 .left) (c .before .before .before .before .before .before .if2 .left) _ _ _ (c .before .before .before .before .before .measure .ensures 0) (c .before .before .before .n .given .1) (c .before .if3 .taken) (c .turned-down4 .ensures)
+returns-4 c = bytes-left _ _ (c .before .before .before .before .before .before .before .if1 .left) (c .before .before .before .before .before .before .if2 .left) _ _ (c .before .before .before .before .before .measure .ensures 0) (c .before .before .before .n .given .1) (c .before .if3 .taken) (c .turned-down4 .ensures)
 
 returns-5 : tie.Need-returns-5
-returns-5 c = whole _ _ (c .before .before .before .before .before .before .before .if1 .left) (c .before .before .before .before .before .before .if2 .left) _ _ _ (c .before .before .before .before .before .measure .ensures 0) (c .before .before .before .n .given .1) (c .before .if3 .left) (c .judged .ensures)
+returns-5 c = whole _ _ (c .before .before .before .before .before .before .before .if1 .left) (c .before .before .before .before .before .before .if2 .left) _ _ (c .before .before .before .before .before .measure .ensures 0) (c .before .before .before .n .given .1) (c .before .if3 .left) (c .judged .ensures)
 
 pub check-spec : {M : Type 1} → statement M
 check-spec =

@@ -1,29 +1,22 @@
-use mathlib.Core.Path.{sym, ap}
-use Rattle.sequence.specs.Commands.{Command, width}
-use Rattle.sequence.proofs.Accepted.{command-at}
-use Rattle.sequence.proofs.Pending.{two-bytes}
+use native.Mathlib.Omega.{arith}
+use Rattle.sequence.proofs.Pending.{one-byte, two-bytes}
 use Rattle.sequence.proofs.commands.width.Statement.{statement}
 use Rattle.sequence.proofs.commands.width.Tie as tie
 
 returns : tie.Need-returns
-returns c d e = ap width (sym (command-at _ d Command.nothing e (c .match .keys1)))
+returns c d e = one-byte _ d e (omega arith)
 
 returns-2 : tie.Need-returns-2
-returns-2 c d e = ap width (sym (command-at _ d Command.seq e (c .match .keys2)))
+returns-2 c d e = two-bytes _ d e (omega arith)
 
 returns-3 : tie.Need-returns-3
-returns-3 c d e = ap width (sym (command-at _ d Command.par e (c .match .keys3)))
+returns-3 c d e = one-byte _ d e (omega arith)
 
 returns-4 : tie.Need-returns-4
-returns-4 c d e = ap width (sym (command-at _ d Command.loop e (c .match .keys4)))
+returns-4 c d e = one-byte _ d e (omega arith)
 
 returns-5 : tie.Need-returns-5
-returns-5 c d e = ap width (sym (command-at _ d Command.try e (c .match .keys5)))
-
-returns-6 : tie.Need-returns-6
-returns-6 c d e =
-    let r = c .match .rest in
-    two-bytes _ d e (r .0 .0 .0 .0 .1) (r .0 .0 .0 .1) (r .0 .0 .1) (r .0 .1) (r .1)
+returns-5 c d e = two-bytes _ d e (omega arith)
 
 pub width-spec : {M : Type 1} → statement M
-width-spec = tie.close (tie.spec returns returns-2 returns-3 returns-4 returns-5 returns-6)
+width-spec = tie.close (tie.spec returns returns-2 returns-3 returns-4 returns-5)
