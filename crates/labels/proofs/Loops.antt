@@ -1,7 +1,7 @@
 -- The loops of rows 10 and 11: what has been passed, and what the end of a loop tells.
-use Prim.Native.Nat.{ℕ, _+_, _≤_, _<_}
+use Prim.Native.Nat.{ℕ, _+_, _<_}
 use mathlib.Core.Path.{_≡_, refl, sym, ap, _∙_, subst}
-use mathlib.Core.Bool.{Bool, true, false, not, _&&_, _||_, and-eq-true-iff, false≢true, true≢false}
+use mathlib.Core.Bool.{Bool, true, false, not, _&&_, and-eq-true-iff, false≢true, true≢false}
 use mathlib.Core.Logic.{_↔_, _⊎_, inl, inr, ⊎-elim}
 use native.Mathlib.Omega.{arith}
 use native.Mathlib.Decide.{decLt}
@@ -11,7 +11,7 @@ use lib.Bits.{bitAnd}
 use borrow.Author.Count.{below-more}
 use borrow.Author.Tests.{eqb-true, eqb-false, not-true, not-false}
 use Rattle.esterel.specs.Sets.{member, none, join, remove}
-use Rattle.esterel.proofs.Booleans.{or-l, or-r, or-cases, never, Tested, tested}
+use Rattle.esterel.proofs.Booleans.{or-l, or-r, or-cases, never}
 use Rattle.esterel.proofs.Sets.{member-none, member-join, member-and, member-remove}
 use Rattle.esterel.proofs.LabelSets.{in-none, some-member}
 use Rattle.sets.specs.Sets.{Disjoint, Lowest}

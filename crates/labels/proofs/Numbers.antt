@@ -1,19 +1,18 @@
 -- The number that the label rules give, from the tests of the code.
 use Prim.Native.Nat.{ℕ}
-use mathlib.Core.Path.{_≡_, refl, sym, ap, ap₂, _∙_}
+use mathlib.Core.Path.{_≡_, sym, ap, ap₂, _∙_}
 use mathlib.Core.Bool.{Bool, true, false, _||_, cond, true≢false}
 use mathlib.Core.Logic.{_↔_}
 use mathlib.Core.List.{List}
 use Rattle.esterel.specs.Sets.{member, none}
 use Rattle.esterel.specs.Statement.{Statement}
-use Rattle.esterel.specs.LabelTests.{subset, pauses, setpauses, distinct, targeted, rivals, aside, exclusive, wellFormed}
+use Rattle.esterel.specs.LabelTests.{subset, pauses, setpauses, distinct, targeted, exclusive, wellFormed}
 use Rattle.esterel.proofs.Booleans.{never}
 use Rattle.esterel.proofs.LabelSets.{in-none, subset-is, same-test}
 use Rattle.esterel.proofs.LabelTests.{setpauses-is, distinct-is, wellFormed-is, unmixed-is, noSetpause-formed}
 use Rattle.sets.specs.Sets.{Subset}
 use Rattle.sets.specs.Labels.{labelSet}
 use Rattle.sets.specs.Rows.{rowOf}
-use Rattle.sequence.specs.Check.{Checked, sound, bad, labelRules, numberOf}
 use Rattle.labels.specs.declared.survey.Found.{Found}
 use Rattle.labels.specs.Rules.{Clash, Labelled, numberBy}
 

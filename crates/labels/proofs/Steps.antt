@@ -1,17 +1,15 @@
 -- One step of the walk for each kind of command: what is known past it, from what is known where it begins.
 use Prim.Native.Nat.{ℕ, _<_}
-use mathlib.Core.Path.{_≡_, refl, sym, ap, ap₂, _∙_, subst}
+use mathlib.Core.Path.{_≡_, refl, sym, ap, ap₂, _∙_}
 use mathlib.Core.Bool.{Bool, true, false, _&&_, _||_, cond}
 use mathlib.Core.List.{List}
 use mathlib.Core.Logic.{_↔_, ⊎-elim}
 use native.Mathlib.Omega.{arith}
-use lib.Dec.{ltb}
-use lib.ListN.{length}
 use borrow.Author.Tests.{lt-ltb}
 use Rattle.esterel.specs.Sets.{member, none, only, join}
 use Rattle.esterel.specs.Statement.{Statement, pause, setpause}
 use Rattle.esterel.specs.LabelTests.{disjoint, labelsOf, pauses, setpauses, triggers, distinct, Joint, alternative, parallel}
-use Rattle.esterel.specs.LabelRows.{addRow, further, fill}
+use Rattle.esterel.specs.LabelRows.{addRow, fill}
 use Rattle.esterel.proofs.Booleans.{or-l, or-r, or-cases}
 use Rattle.esterel.proofs.Sets.{member-join, join-none-l, join-none-r, ext}
 use Rattle.esterel.proofs.LabelSets.{in-none, same-test, disjoint-is, triggers-are}
@@ -21,7 +19,7 @@ use Rattle.sets.specs.Labels.{labelSet}
 use Rattle.sets.specs.Rows.{rowBelow, rowOf, addRowBelow, TurnsBelow, Turns}
 use Rattle.sets.proofs.Laws.{disjoint-test}
 use Rattle.labels.specs.declared.survey.Progress.{Progress}
-use Rattle.labels.specs.Passing.{View, view, Past, past, pass, opens, enter, begin, Passes, LeafOf, nothing, emit, exit}
+use Rattle.labels.specs.Passing.{View, past, pass, opens, enter, begin, Passes, LeafOf, nothing, emit, exit}
 
 -- ---- sets and tests
 pub disjoint-by : (b : Bool) (s t : ℕ) → (b ≡ true) ↔ Disjoint s t → b ≡ disjoint s t

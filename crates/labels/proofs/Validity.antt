@@ -1,14 +1,13 @@
 -- The test of row 11, from the tests of the code.
 use Prim.Native.Nat.{ℕ}
 use mathlib.Core.Path.{_≡_, refl, sym, ap, _∙_, subst}
-use mathlib.Core.Bool.{Bool, true, false, not, _&&_, _||_, true≢false}
+use mathlib.Core.Bool.{Bool, true, false, not, _||_}
 use mathlib.Core.Logic.{_↔_}
-use lib.Dec.{eqb}
 use borrow.Author.Tests.{eq-eqb, ne-eqb}
 use Rattle.esterel.specs.Sets.{member, none}
 use Rattle.esterel.specs.Statement.{Statement}
-use Rattle.esterel.specs.LabelTests.{disjoint, subset, pauses, triggers, everyLabel, rivals, valid}
-use Rattle.esterel.proofs.Booleans.{never, Tested, tested}
+use Rattle.esterel.specs.LabelTests.{disjoint, subset, pauses, everyLabel, rivals, valid}
+use Rattle.esterel.proofs.Booleans.{Tested, tested}
 use Rattle.esterel.proofs.LabelSets.{as-pause, labels-at, subset-is, same-test, every-to, every-from}
 use Rattle.esterel.proofs.LabelTests.{pauses-is}
 use Rattle.sets.specs.Sets.{Disjoint, Subset}

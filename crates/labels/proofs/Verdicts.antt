@@ -1,7 +1,7 @@
 -- The verdict of the check, from the reader's answer and the label rules.
 use Prim.Native.Nat.{ℕ, _≤_, _<_}
 use mathlib.Core.Path.{_≡_, refl, sym, ap, ap₂, _∙_, subst}
-use mathlib.Core.Bool.{Bool, true, false, _&&_, cond}
+use mathlib.Core.Bool.{Bool, true, false, cond}
 use mathlib.Core.List.{List}
 use native.Mathlib.Omega.{arith}
 use lib.Dec.{ltb, leb}
@@ -9,18 +9,17 @@ use lib.ListN.{length, getD, replicate, getD-replicate}
 use borrow.Author.Tests.{ltb-true, lt-ltb, le-ltb, le-leb, lt-leb}
 use Rattle.esterel.specs.Sets.{member, none, join}
 use Rattle.esterel.specs.Statement.{Statement}
-use Rattle.esterel.specs.LabelTests.{labelsOf, distinct, targeted, wellFormed, Joint, alternative, parallel, ifMember, before}
+use Rattle.esterel.specs.LabelTests.{labelsOf, distinct, targeted, wellFormed, Joint, alternative, parallel, before}
 use Rattle.esterel.specs.LabelRows.{fill}
 use Rattle.esterel.proofs.Sets.{join-none-l}
 use Rattle.esterel.proofs.Booleans.{Tested, tested}
 use Rattle.esterel.proofs.LabelRows.{fill-is}
-use Rattle.sets.specs.Labels.{labelSet}
 use Rattle.sets.specs.Rows.{rowBelow, rowOf}
 use Rattle.sequence.specs.declared.reader.Measured.{Measured}
 use Rattle.sequence.specs.declared.reader.Measured.the-variants.{Length, Refused}
 use Rattle.sequence.specs.Reader.{Read, accepted, refused, read}
 use Rattle.sequence.specs.Answers.{measured}
-use Rattle.sequence.specs.Check.{Checked, sound, bad, labelRules, afterRead, checked, numberOf}
+use Rattle.sequence.specs.Check.{sound, bad, labelRules, afterRead, checked}
 use Rattle.labels.specs.declared.survey.Found.{Found}
 use Rattle.labels.specs.declared.verdict.Verdict.{Verdict}
 use Rattle.labels.specs.Survey.{Readable, Surveyed}

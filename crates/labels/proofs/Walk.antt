@@ -1,7 +1,7 @@
 -- The walk command by command: what the statements awaited, one after another, come to is what the whole one comes to.
-use Prim.Native.Nat.{ℕ, zero, suc, _+_, _-_, _≤_, _<_, max}
+use Prim.Native.Nat.{ℕ, zero, suc, _+_, _-_, _≤_, _<_}
 use mathlib.Core.Path.{_≡_, refl, sym, ap, ap₂, _∙_, subst}
-use mathlib.Core.Bool.{Bool, true, false, _&&_}
+use mathlib.Core.Bool.{Bool, _&&_}
 use mathlib.Core.Option.{some}
 use mathlib.Core.List.{List, [], _∷_, _++_, append-assoc, append-nil}
 use native.Mathlib.Omega.{arith}
@@ -9,9 +9,8 @@ use native.Mathlib.Numerals.{add-one}
 use lib.Dec.{eqb}
 use lib.ListN.{length, getD, drop, set, length-append, length-set}
 use lib.Seq.{drop-drop, getD-drop, getD-set-same, getD-set-other}
-use Rattle.esterel.specs.Sets.{none}
 use Rattle.esterel.specs.Statement.{Statement, nothing, pause, emit, exit, seq, par, loop, present, signal, try, setpause}
-use Rattle.esterel.specs.LabelTests.{labelsOf, pauses, setpauses, distinct, Joint, alternative, parallel}
+use Rattle.esterel.specs.LabelTests.{labelsOf, pauses, setpauses, distinct, Joint}
 use Rattle.esterel.specs.LabelRows.{fill}
 use Rattle.esterel.proofs.Sets.{join-none-l}
 use Rattle.esterel.proofs.Order.{Two, sequence, test, sides}

@@ -1,7 +1,6 @@
 -- The check's verdict on a sequence: its number, and of a sound sequence what row 11 needs.
 use Prim.Native.Nat.{ℕ}
 use mathlib.Core.Path.{_≡_}
-use mathlib.Core.List.{List}
 use Rattle.esterel.specs.Statement.{Statement}
 use Rattle.esterel.specs.LabelTests.{pauses, rivals}
 use Rattle.sets.specs.Labels.{labelSet}

@@ -4,7 +4,7 @@ ghost use Prim.Native.Nat.{ℕ};
 ghost use Rattle.esterel.specs.Statement.{Statement};
 ghost use Rattle.sequence.specs.Limits.{maxDepth};
 ghost use Rattle.sequence.specs.Reader.{read, accepted};
-ghost use Rattle.sequence.specs.Check.{Checked, labelRules, checked, bad};
+ghost use Rattle.sequence.specs.Check.{labelRules, checked, bad};
 ghost use Rattle.labels.specs.Survey.{Readable};
 ghost use Rattle.labels.specs.Verdict.{Judged};
 use sequence::reader::Measured;

@@ -1,19 +1,19 @@
 -- Laws of a run's file: its parts, whether it is whole, and its inputs.
-use Prim.Native.Nat.{ℕ, zero, suc, _+_, _-_, _*_, _/_, _%_, _^_, _≤_, _<_}
+use Prim.Native.Nat.{ℕ, zero, suc, _+_, _-_, _*_, _%_, _^_, _≤_, _<_}
 use native.Mathlib.Nat.{pow-le-pow-right}
 use native.Mathlib.Omega.{arith}
-use mathlib.Core.Bool.{Bool, true, false, cond}
+use mathlib.Core.Bool.{true, false}
 use mathlib.Core.Logic.{_≢_}
 use mathlib.Core.Option.{none, some}
-use mathlib.Core.Path.{_≡_, refl, sym, ap, ap₂, _∙_, subst}
-use mathlib.Core.List.{List, [], _∷_, _++_}
+use mathlib.Core.Path.{_≡_, refl, sym, ap, _∙_, subst}
+use mathlib.Core.List.{List, [], _∷_}
 use lib.ListN.{length, take, drop, length-drop, drop-of-length-le}
 use lib.Seq.{take-all, take-nil, take-length, drop-nil, drop-drop}
 use lib.Dec.{eqb}
 use borrow.Author.Tests.{le-leb, lt-leb}
 use Rattle.sequence.specs.Check.{checkOf}
 use Rattle.intake.specs.Bytes.{leNumber}
-use Rattle.listing.specs.File.{File, cut, refused, runs, byNumber, fileOf, sequenceLength, inputsAt, sequenceIn, words, inputsIn, whole, maxFile}
+use Rattle.listing.specs.File.{cut, refused, runs, byNumber, fileOf, sequenceLength, inputsAt, sequenceIn, words, inputsIn, whole}
 use Rattle.listing.specs.Answers.{first}
 
 -- ---- a part of a slice, cut to what is there

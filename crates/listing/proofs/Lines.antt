@@ -1,17 +1,16 @@
 -- Laws of the lines: the fields that the records hold, and the text that a buffer ends with.
-use Prim.Native.Nat.{ℕ, _+_, _≤_, _<_}
+use Prim.Native.Nat.{ℕ, _+_, _<_}
 use native.Mathlib.Omega.{arith}
-use mathlib.Core.Path.{_≡_, refl, sym, ap, ap₂, _∙_, subst}
-use mathlib.Core.List.{List, [], _∷_, _++_, append-nil}
+use mathlib.Core.Path.{_≡_, ap, ap₂, _∙_}
+use mathlib.Core.List.{List, _++_, append-nil}
 use lib.ListN.{length, getD, take, drop, length-drop, drop-of-length-le}
 use lib.Seq.{take-all, drop-cons}
 use Rattle.intake.specs.Bytes.{leNumber}
 use Rattle.intake.specs.Records.{stateLength, answerLength}
 use Rattle.intake.specs.TickRows.{labelsIn}
-use Rattle.intake.specs.Demands.{codeIn, kindIn, placeIn, emittedIn}
+use Rattle.intake.specs.Demands.{codeIn, kindIn, emittedIn}
 use Rattle.intake.proofs.Stores.{labels-read}
 use Rattle.listing.specs.declared.Piece.{Piece}
-use Rattle.listing.specs.Text.{numeral}
 use Rattle.listing.specs.Listing.{numbersOf, setsOf, lineOf, rowIn}
 use Rattle.listing.specs.Stages as Listing
 use Rattle.listing.specs.Buffer.{lineLength, Prepended}

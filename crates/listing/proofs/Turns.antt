@@ -10,7 +10,7 @@ use Rattle.intake.specs.Demands.{stateAfterwards}
 use Rattle.listing.specs.Text.{ending}
 use Rattle.sequence.specs.Check.{checkOf}
 use Rattle.listing.specs.File.{File, cut, refused, runs, byNumber, fileOf, whole, sequenceIn, inputsIn}
-use Rattle.listing.specs.Listing.{Row, rowOf, lineOf, ticked, isOver, rows, lines, listed, listingOf}
+use Rattle.listing.specs.Listing.{rowOf, lineOf, ticked, isOver, rows, lines, listed, listingOf}
 use Rattle.listing.specs.Stages.{Stage, opening, running, closing, finished, opened, turnOf, turns}
 use Rattle.listing.proofs.Pieces.{inputs-length}
 

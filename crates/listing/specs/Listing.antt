@@ -1,7 +1,7 @@
 -- The listing of a run (01, 'Bays to run'): what the run program prints for a file, for all bytes.
 use Prim.Native.Nat.{ℕ, suc}
 use mathlib.Core.Bool.{Bool, cond}
-use mathlib.Core.List.{List, [], _∷_, _++_, map}
+use mathlib.Core.List.{List, [], _∷_, _++_}
 use lib.ListN.{replicate}
 use lib.Dec.{eqb}
 use Rattle.intake.specs.Records.{answerLength}

@@ -1,12 +1,10 @@
 -- The listing in pieces: each turn gives the next piece of text, and the stage that the run is then in.
-use Prim.Native.Nat.{ℕ, zero, suc, _+_, _≤_}
+use Prim.Native.Nat.{ℕ, zero, suc, _+_}
 use mathlib.Core.Bool.{Bool, true, false, cond}
-use mathlib.Core.Path.{_≡_}
 use mathlib.Core.List.{List, [], _∷_, _++_}
-use lib.ListN.{length, take, drop}
 use Rattle.intake.specs.Demands.{stateAfterwards, cleared}
 use Rattle.listing.specs.Text.{heading, ending, inputCut, refusal}
-use Rattle.listing.specs.File.{File, cut, refused, runs, fileOf, sequenceIn, inputsIn}
+use Rattle.listing.specs.File.{File, cut, refused, runs, fileOf}
 use Rattle.listing.specs.Listing.{lineOf, rowOf, ticked, isOver}
 
 pub data Stage : Type 0 where

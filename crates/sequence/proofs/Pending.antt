@@ -11,7 +11,7 @@ use Rattle.esterel.specs.Statement.{Statement, nothing, pause, emit, exit, seq,
 use Rattle.sequence.specs.Commands.{Command, commandOf, operandCount, partCount, width}
 use Rattle.sequence.specs.Reader.{accepted, read}
 use Rattle.sequence.specs.Accepted.{Legible}
-use Rattle.sequence.specs.Writer.{bytesOf, size}
+use Rattle.sequence.specs.Writer.{bytesOf}
 use Rattle.sequence.proofs.Front.{at-most-one}
 use Rattle.sequence.proofs.Coded.{coded, operandBytes, coded-length}
 use Rattle.sequence.proofs.Complete.{size-positive}

@@ -1,5 +1,4 @@
 // How long a statement is that the reader has accepted: no row is tested again.
-ghost use mathlib.Core.Path.{_≡_};
 ghost use Rattle.sequence.specs.Accepted.{Legible, Extent};
 
 // The count of bytes of the statement at the front of s, by the statements that still have to come.

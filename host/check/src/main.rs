@@ -2,6 +2,7 @@
 //! An argument replaces the seed. The last line is 'N passed, M failed'.
 mod edges;
 
+use common::counts::Counts;
 use common::generate::{self, Random, Style};
 use common::{reference, table};
 use std::{env, process::ExitCode};
@@ -20,10 +21,7 @@ const GREATEST: usize = 10;
 /// The comparisons so far.
 #[derive(Default)]
 struct Tally {
-    passed: u64,
-    failed: u64,
-    /// How many failed before the group that runs.
-    failed_before: u64,
+    counts: Counts,
     /// How often each number was the answer, in the group that runs.
     numbers: [u64; GREATEST + 1],
     /// The most pauses, setpauses, levels and signals around a command in an accepted sequence of the group.
@@ -43,27 +41,16 @@ impl Tally {
             self.most = std::array::from_fn(|i| self.most[i].max(reached[i]));
         }
         let answer = archive(bytes);
-        self.expect(answer == number && by_hand.unwrap_or(number) == number, || {
+        self.counts.expect(answer == number && by_hand.unwrap_or(number) == number, || {
             format!("archive {answer}, tree {number}, by hand {by_hand:?}: {}", table::hex(bytes))
         });
-    }
-
-    fn expect(&mut self, holds: bool, message: impl FnOnce() -> String) {
-        if holds {
-            self.passed += 1;
-            return;
-        }
-        self.failed += 1;
-        if self.failed <= 20 {
-            println!("FAILED {}", message());
-        }
     }
 
     /// Prints what the group `name` answered and begins the next one.
     fn close(&mut self, name: &str) {
         let numbers: String = self.numbers.iter().map(|n| format!("{n:>9}")).collect();
-        println!("{name:<16}{numbers}{:>9}", self.failed - self.failed_before);
-        *self = Tally { passed: self.passed, failed: self.failed, failed_before: self.failed, ..Tally::default() };
+        println!("{name:<16}{numbers}{:>9}", self.counts.close());
+        *self = Tally { counts: self.counts, ..Tally::default() };
     }
 }
 
@@ -78,11 +65,11 @@ fn random_sequences(tally: &mut Tally, random: &mut Random) {
     // A generator that does not get there would test nothing.
     for number in (0..=GREATEST).filter(|n| *n != 1) {
         let count = tally.numbers[number];
-        tally.expect(count >= 100, || format!("the number {number} occurred only {count} times"));
+        tally.counts.expect(count >= 100, || format!("the number {number} occurred only {count} times"));
     }
     let [pauses, setpauses, levels, signals] = tally.most;
     println!("accepted: up to {pauses} pauses, {setpauses} setpauses, depth {levels}, {signals} signals");
-    tally.expect(pauses == 64 && setpauses > 100 && levels == 64 && signals == 6, || "too far from the limits".into());
+    tally.counts.expect(pauses == 64 && setpauses > 100 && levels == 64 && signals == 6, || "too far from the limits".into());
 }
 
 fn main() -> ExitCode {
@@ -105,6 +92,5 @@ fn main() -> ExitCode {
     tally.close("small trees");
     random_sequences(&mut tally, &mut Random(seed));
     tally.close("random");
-    println!("{} passed, {} failed", tally.passed, tally.failed);
-    ExitCode::from((tally.failed > 0) as u8)
+    tally.counts.finish()
 }

@@ -28,7 +28,7 @@ fn by_hand(tally: &mut Tally) {
         };
         let given = reference::tick(&sequence, &state, input, answer_length);
         let holds = given.map(|instant| (instant.state, instant.answer)) == expected;
-        tally.expect(holds, || format!("the reference on {number}:{text}"));
+        tally.counts.expect(holds, || format!("the reference on {number}:{text}"));
         tally.compare(&sequence, &state, input, answer_length, None);
     }
 }
@@ -69,6 +69,5 @@ fn main() -> ExitCode {
     runs::damaged(&mut tally, &mut random, 60_000);
     tally.close("damaged");
     tally.reached();
-    println!("{} passed, {} failed", tally.passed, tally.failed);
-    ExitCode::from((tally.failed > 0) as u8)
+    tally.counts.finish()
 }

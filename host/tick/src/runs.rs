@@ -77,7 +77,7 @@ pub fn runs(tally: &mut Tally, random: &mut Random, count: usize) {
         endless += (state[0] == 1) as u64;
     }
     println!("{count} runs, {instants} instants, {endless} still wait");
-    tally.expect(instants > 3 * count as u64 && endless > count as u64 / 10, || "the runs are too short".into());
+    tally.counts.expect(instants > 3 * count as u64 && endless > count as u64 / 10, || "the runs are too short".into());
 }
 
 /// A valid label set, grown from the pauses in random order.

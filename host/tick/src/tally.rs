@@ -3,6 +3,7 @@ use crate::archive;
 use crate::expansion::CASES;
 use crate::reference::{tick, Instant, Sequence};
 use crate::rewriting::{Paper, Seen};
+use common::counts::Counts;
 use common::table::hex;
 
 pub const GREATEST: usize = 12;
@@ -20,10 +21,7 @@ const EVENTS: [&str; 7] = [
 
 #[derive(Default)]
 pub struct Tally {
-    pub passed: u64,
-    pub failed: u64,
-    /// How many failed before the group that runs.
-    failed_before: u64,
+    pub counts: Counts,
     /// How often each number was the answer, in the group that runs and in all.
     numbers: [u64; GREATEST + 1],
     all_numbers: [u64; GREATEST + 1],
@@ -39,17 +37,6 @@ pub struct Tally {
 }
 
 impl Tally {
-    pub fn expect(&mut self, holds: bool, message: impl FnOnce() -> String) {
-        if holds {
-            self.passed += 1;
-            return;
-        }
-        self.failed += 1;
-        if self.failed <= 20 {
-            println!("FAILED {}", message());
-        }
-    }
-
     /// Compares one tick of the archive with the expansion, and with the paper where there is one: number, both records
     /// and the guards. Gives the number and the state that the archive left.
     pub fn compare(
@@ -79,7 +66,7 @@ impl Tally {
             let call = format!("{} | {} | {answer_length} | {input:08X}", hex(&sequence.bytes), hex(state));
             format!("{call}: {}: {s} | {a}, not {number}: {} | {}", outcome.number, hex(&after), hex(&answer))
         };
-        self.expect(holds, told);
+        self.counts.expect(holds, told);
         if let Some(paper) = paper {
             self.compare_paper(paper, input, &outcome, answer_length, told);
         }
@@ -106,7 +93,7 @@ impl Tally {
         };
         let phase = outcome.state.as_ref().and_then(|state| state.first().copied());
         let holds = shown.as_ref() == Some(&seen) && phase == Some(paper.phase());
-        self.expect(holds, || format!("paper {seen:?}, phase {}: {}", paper.phase(), told()));
+        self.counts.expect(holds, || format!("paper {seen:?}, phase {}: {}", paper.phase(), told()));
     }
 
     fn count(&mut self, state: &[u8], instant: &Instant) {
@@ -130,10 +117,9 @@ impl Tally {
     /// Prints what the group `name` answered and begins the next one.
     pub fn close(&mut self, name: &str) {
         let numbers: String = self.numbers.iter().map(|n| format!("{n:>8}")).collect();
-        println!("{name:<16}{numbers}{:>8}", self.failed - self.failed_before);
+        println!("{name:<16}{numbers}{:>8}", self.counts.close());
         (0..=GREATEST).for_each(|n| self.all_numbers[n] += self.numbers[n]);
         self.numbers = [0; GREATEST + 1];
-        self.failed_before = self.failed;
     }
 
     /// Prints what was reached; a test that does not get there would show nothing.
@@ -147,7 +133,7 @@ impl Tally {
         let all: Vec<_> = numbers.chain(codes).chain(kinds).chain(cases).chain(events).chain(papers).collect();
         for (name, count) in all {
             println!("{name:<40}{count:>10}");
-            self.expect(count >= 100, || format!("{name} occurred only {count} times"));
+            self.counts.expect(count >= 100, || format!("{name} occurred only {count} times"));
         }
         println!("{:<40}{:>10}", "most reactions in one instant", self.most_reactions);
     }

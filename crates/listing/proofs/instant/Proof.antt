@@ -4,7 +4,7 @@ use Rattle.listing.specs.declared.Piece.{Piece}
 use Rattle.listing.specs.File.{sequenceIn}
 use Rattle.listing.specs.Listing.{ticked}
 use Rattle.listing.specs.Answers.{stageBy}
-use mathlib.Core.Path.{_≡_, refl, sym, ap, _∙_, subst}
+use mathlib.Core.Path.{_≡_, refl, ap, _∙_, subst}
 use mathlib.Core.List.{List}
 use Prim.Native.Nat.{ℕ}
 use Rattle.listing.specs.Stages as Listing

@@ -1,6 +1,4 @@
-use mathlib.Core.Path.{_≡_, refl, sym, ap, _∙_, subst}
-use mathlib.Core.List.{List}
-use Prim.Native.Nat.{ℕ}
+use mathlib.Core.Path.{_∙_, subst}
 use Rattle.listing.specs.Stages as Listing
 use Rattle.listing.specs.Answers.{Shows}
 use Rattle.listing.specs.declared.Stage.the-variants as stages

@@ -1,4 +1,4 @@
-use mathlib.Core.Path.{_≡_, refl}
+use mathlib.Core.Path.{refl}
 use Rattle.sets.specs.Sets.{Disjoint}
 use Rattle.sets.specs.Labels.{labelSet}
 use Rattle.sets.specs.Rows.{rowOf}

@@ -1,8 +1,8 @@
 use Rattle.listing.proofs.Files.{named-length, length-bound}
 use Prim.Native.Nat.{_≤_}
 use native.Mathlib.Omega.{arith}
-use mathlib.Core.Path.{_≡_, ap, _∙_}
-use lib.ListN.{length, take, drop, length-take}
+use mathlib.Core.Path.{ap, _∙_}
+use lib.ListN.{length, drop, length-take}
 use borrow.Author.Needs.{needs}
 use Rattle.listing.proofs.file.sequence_length.Statement.{statement}
 use Rattle.listing.proofs.file.sequence_length.Tie as tie

@@ -1,12 +1,12 @@
 -- The invariant: behind the bytes passed stand as many statements as are pending, and they end where the whole one ends.
-use mathlib.Core.Path.{_≡_, sym, ap, _∙_, subst₂}
+use mathlib.Core.Path.{_≡_, sym, ap, subst₂}
 use Prim.Native.Nat.{ℕ, _+_, _-_}
 use native.Mathlib.Omega.{arith}
 use borrow.Author.Needs.{needs}
 use lib.ListN.{length}
 use Rattle.esterel.specs.Statement.{Statement}
 use Rattle.sequence.specs.Reader.{read, accepted}
-use Rattle.sequence.proofs.Pending.{Awaiting, Passes, begins, passes, ended, legible-passes}
+use Rattle.sequence.proofs.Pending.{Awaiting, begins, passes, ended, legible-passes}
 use Rattle.sequence.proofs.extent.byte_count.Statement.{statement}
 use Rattle.sequence.proofs.extent.byte_count.Tie as tie
 use Rattle.sequence.proofs.extent.byte_count.Lts as lts
