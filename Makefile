@@ -13,7 +13,7 @@ CARGO = cargo run --release --offline --quiet --target-dir target/cargo --manife
 SOURCES := crates.txt $(shell find crates -name '*.rt' -o -name '*.antt')
 
 .PHONY: help run show test host host-rust host-c host-tick-rust host-tick-c host-example show-test bench bench-check \
-	bench-tick
+	bench-tick bench-run
 
 help: # lists the targets
 	@sed -n 's/^\([a-z-]*\):[^#]*# /\1: /p' Makefile
@@ -63,6 +63,13 @@ bench-tick: $(INTAKE_ARCHIVE) # times the tick, and the dearest instant
 	@mkdir -p target/bench
 	$(TIMED) -Iinclude bench/tick.c bench/plain.c bench/counted.c $(INTAKE_ARCHIVE) -lm -o target/bench/tick
 	@target/bench/tick
+
+bench-run: $(RUN_PROGRAM) # times the run program on its greatest input, for some minutes
+	@mkdir -p target/bench
+	$(OPTIMIZED) bench/greatest.c bench/plain.c -o target/bench/greatest
+	target/bench/greatest > target/bench/greatest.bin
+	@bash -c 'time $(RUN_PROGRAM) < target/bench/greatest.bin > target/bench/greatest.txt'
+	@tail -n 2 target/bench/greatest.txt
 
 target/staticlib/libintake.a: $(SOURCES)
 	rt staticlib intake

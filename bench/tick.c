@@ -5,9 +5,9 @@
 #include "timing.h"
 
 #include "counted.h"
+#include "dearest.h"
 #include "intake.h"
 #include "plain.h"
-#include "shapes.h"
 
 enum { LEAST_ROUNDS = 11, SAMPLE = 20000, ROW = 150000000 /* nanoseconds */ };
 
@@ -67,23 +67,6 @@ static double sample(const void *what, int plain)
         sink = once(tick, t, state, answer);
     (void)sink;
     return (nanoseconds() - start) / t->calls;
-}
-
-/* `08 s` for each signal, then for each loop `06 09 05`, a side that waits and then exits, and the rest beside it. */
-static void enclose(struct builder *b, unsigned signals, unsigned loops)
-{
-    for (unsigned s = 0; s < signals; s++) {
-        put(b, 0x08);
-        put(b, s);
-    }
-    for (; loops > 0; loops--) {
-        static const uint8_t before[] = {0x06, 0x09, 0x05, 0x04, 0x01}, after[] = {0x03, 0x01};
-        for (size_t i = 0; i < sizeof before; i++)
-            put(b, before[i]);
-        put(b, b->pauses++);
-        for (size_t i = 0; i < sizeof after; i++)
-            put(b, after[i]);
-    }
 }
 
 static void build(struct builder *b, const struct kind *kind, size_t length)
@@ -149,31 +132,9 @@ static double kind_row(const struct kind *kind, size_t length)
     return row(&t, kind->name).ratio;
 }
 
-/* A balanced statement of n commands of one byte each. */
-static void commands(struct builder *b, size_t n, uint8_t join)
+static double dearest_row(uint8_t join, unsigned loops)
 {
-    if (n <= 2) {
-        if (n == 2)
-            put(b, 0x09);
-        put(b, 0x00);
-        return;
-    }
-    put(b, join);
-    size_t first = (n - 1) / 2 | 1;
-    commands(b, first, join);
-    commands(b, n - 1 - first, join);
-}
-
-/* Six signals and as many loops begun again as leave room for a body in whose every byte a command reacts. */
-static double dearest(uint8_t join, unsigned loops)
-{
-    size_t body = CAPACITY - 2 * SIGNALS - 8 * loops;
-    struct builder b;
-    do {
-        b = (struct builder){.length = 0};
-        enclose(&b, SIGNALS, loops);
-        commands(&b, body--, join);
-    } while (plain_check(b.bytes, b.length) != 0);
+    struct builder b = dearest(join, loops, CAPACITY);
     struct instant t = {.length = b.length};
     memcpy(t.bytes, b.bytes, sizeof b.bytes);
     char name[64];
@@ -198,6 +159,6 @@ int main(void)
     printf("the dearest instants, six signals around the loops:\n");
     for (unsigned loops = 15; loops <= 17; loops++)
         for (uint8_t join = 0x04; join <= 0x05; join++)
-            most = fmax(most, dearest(join, loops));
+            most = fmax(most, dearest_row(join, loops));
     printf("the dearest takes %.2f ms\n", most / 1e6);
 }

@@ -1,0 +1,53 @@
+/* Statements whose instants are dear: six signals around loops that an instant leaves and begins again. */
+#ifndef DEAREST_H
+#define DEAREST_H
+
+#include "plain.h"
+#include "shapes.h"
+
+/* `08 s` for each signal, then for each loop `06 09 05`, a side that waits and then exits, and the rest beside it. */
+static inline void enclose(struct builder *b, unsigned signals, unsigned loops)
+{
+    for (unsigned s = 0; s < signals; s++) {
+        put(b, 0x08);
+        put(b, s);
+    }
+    for (; loops > 0; loops--) {
+        static const uint8_t before[] = {0x06, 0x09, 0x05, 0x04, 0x01}, after[] = {0x03, 0x01};
+        for (size_t i = 0; i < sizeof before; i++)
+            put(b, before[i]);
+        put(b, b->pauses++);
+        for (size_t i = 0; i < sizeof after; i++)
+            put(b, after[i]);
+    }
+}
+
+/* A balanced statement of n commands of one byte each. */
+static inline void commands(struct builder *b, size_t n, uint8_t join)
+{
+    if (n <= 2) {
+        if (n == 2)
+            put(b, 0x09);
+        put(b, 0x00);
+        return;
+    }
+    put(b, join);
+    size_t first = (n - 1) / 2 | 1;
+    commands(b, first, join);
+    commands(b, n - 1 - first, join);
+}
+
+/* Six signals and as many loops begun again as leave room for a body in whose every byte a command reacts. */
+static inline struct builder dearest(uint8_t join, unsigned loops, size_t length)
+{
+    size_t body = length - 2 * SIGNALS - 8 * loops;
+    struct builder b;
+    do {
+        b = (struct builder){.length = 0};
+        enclose(&b, SIGNALS, loops);
+        commands(&b, body--, join);
+    } while (b.length > length || plain_check(b.bytes, b.length) != 0);
+    return b;
+}
+
+#endif

@@ -1,0 +1,18 @@
+/* Writes the greatest run file: 65,536 bytes, whose sequence is the dearest found and waits in every instant. */
+#include "dearest.h"
+
+#include <stdio.h>
+
+enum { FILE_LENGTH = 65536, LENGTH_BYTES = 2, DEAREST_LOOPS = 16 };
+
+int main(void)
+{
+    /* with two bytes of length and four an instant no byte is over */
+    struct builder b = dearest(0x05, DEAREST_LOOPS, CAPACITY - LENGTH_BYTES);
+    putchar((int)(b.length % 256));
+    putchar((int)(b.length / 256));
+    fwrite(b.bytes, 1, b.length, stdout);
+    for (size_t i = LENGTH_BYTES + b.length; i < FILE_LENGTH; i++)
+        putchar(0);
+    return fflush(stdout) != 0;
+}
