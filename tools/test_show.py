@@ -338,6 +338,10 @@ def test_examples():
         expect(status == 0 and shown.startswith(commands + "\n") and not message, f"{name}: {shown}")
         expect(name != "topping.bin" or shown == commands + TOPPING_SHOWN, f"{name}, the whole: {shown}")
         expect_pictures(data, listing, name)
+        kept = (ROOT / "examples" / name).with_suffix(".svg")  # the picture of a page, where it has one
+        if kept.exists():
+            drawn = show("--svg", "-", data=data, listing=listing)[1]
+            expect(drawn == kept.read_text("utf-8"), f"{kept.name} is what tools/show draws")
     expect(names == {path.name for path in (ROOT / "examples").glob("*.bin")}, f"every example has a page: {names}")
     expect(show(data=WORKED, listing=WORKED_LISTING) == (0, WORKED_SHOWN, ""), "the worked example of 01")
 
