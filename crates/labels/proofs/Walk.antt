@@ -26,7 +26,7 @@ use Rattle.labels.specs.declared.survey.Found.{Found}
 use Rattle.labels.specs.declared.survey.Progress.{Progress}
 use Rattle.labels.specs.declared.survey.Opening.{Opening}
 use Rattle.labels.specs.Survey.{Readable, Surveyed}
-use Rattle.labels.specs.Passing.{View, view, nowhere, Past, past, pass, Opened, jointOf, openedOf, opens, enter, begin, Passes, LeafOf, Labelled}
+use Rattle.labels.specs.Passing.{View, view, nowhere, Past, past, pass, Opened, jointOf, openedOf, opens, enter, begin, Passes, LeafOf, LabelOperand}
 use Rattle.labels.proofs.Steps.{none-disjoint, two-passes}
 
 -- ---- a statement by its command: no part, one or two
@@ -95,12 +95,12 @@ shaped (setpause l) =
     record { c = Command.setpause; operand = l; parts = []; shape = leaf refl (λ y h. as-setpause (h refl)); bytes = refl }
 
 -- the operand of a pause or setpause is in its range
-leaf-labelled : {b y : ℕ} {t : Statement} → LeafOf b y t → Ranged t → Labelled b y
-leaf-labelled LeafOf.nothing r = record { pause = λ e. absurd (omega arith); setpause = λ e. absurd (omega arith) }
-leaf-labelled LeafOf.pause r = record { pause = λ e. r; setpause = λ e. absurd (omega arith) }
-leaf-labelled LeafOf.emit r = record { pause = λ e. absurd (omega arith); setpause = λ e. absurd (omega arith) }
-leaf-labelled LeafOf.exit r = record { pause = λ e. absurd (omega arith); setpause = λ e. absurd (omega arith) }
-leaf-labelled LeafOf.setpause r = record { pause = λ e. absurd (omega arith); setpause = λ e. r }
+leaf-operand : {b y : ℕ} {t : Statement} → LeafOf b y t → Ranged t → LabelOperand b y
+leaf-operand LeafOf.nothing r = record { pause = λ e. absurd (omega arith); setpause = λ e. absurd (omega arith) }
+leaf-operand LeafOf.pause r = record { pause = λ e. r; setpause = λ e. absurd (omega arith) }
+leaf-operand LeafOf.emit r = record { pause = λ e. absurd (omega arith); setpause = λ e. absurd (omega arith) }
+leaf-operand LeafOf.exit r = record { pause = λ e. absurd (omega arith); setpause = λ e. absurd (omega arith) }
+leaf-operand LeafOf.setpause r = record { pause = λ e. absurd (omega arith); setpause = λ e. r }
 
 -- ---- the second parts awaited, the next one first, each with its command as it was where it began
 abbrev pub finish : List Opened → List Statement → Past → Past
@@ -234,8 +234,8 @@ module _ (d : Opening) where
       pub leaf-at : (v : ℕ) → v ≡ width (here .c) → LeafOf (getD s at 0) (getD s (at + v - 1) 0) (r .current)
       leaf-at v e = subst (λ (k : ℕ). LeafOf (getD s at 0) (getD s (at + k - 1) 0) (r .current)) (sym e) leaf-here
 
-      pub labelled-at : (v : ℕ) → v ≡ width (here .c) → Labelled (getD s at 0) (getD s (at + v - 1) 0)
-      labelled-at v e = leaf-labelled (leaf-at v e) (r .ranged)
+      pub operand-at : (v : ℕ) → v ≡ width (here .c) → LabelOperand (getD s at 0) (getD s (at + v - 1) 0)
+      operand-at v e = leaf-operand (leaf-at v e) (r .ranged)
 
       alone : here .parts ≡ []
       alone = go (here .shape)

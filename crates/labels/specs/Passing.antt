@@ -150,6 +150,6 @@ pub data LeafOf : (b x : ℕ) → Statement → Type 0 where
   setpause : {x : ℕ} → LeafOf 10 x (Statement.setpause x)
 
 -- the operand of a pause or setpause is a label
-pub record Labelled (b x : ℕ) : Type 0 where
+pub record LabelOperand (b x : ℕ) : Type 0 where
   pub pause : b ≡ 1 → x < labelCount
   pub setpause : b ≡ 10 → x < labelCount

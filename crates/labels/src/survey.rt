@@ -13,7 +13,7 @@ ghost use Rattle.sets.specs.Sets.{onlyBelow};
 ghost use Rattle.sets.specs.Labels.{labelSet};
 ghost use Rattle.sequence.specs.Limits.{labelCount, maxDepth};
 ghost use Rattle.labels.specs.Survey.{Readable, Surveys};
-ghost use Rattle.labels.specs.Passing.{view, past, nowhere, jointOf, openedOf, opens, enter, begin, Passes, LeafOf, Labelled};
+ghost use Rattle.labels.specs.Passing.{view, past, nowhere, jointOf, openedOf, opens, enter, begin, Passes, LeafOf, LabelOperand};
 use sets::labels::Labels;
 use sets::labels::Rows;
 
@@ -196,7 +196,7 @@ fn at_setpause(l: u8, at: Progress, rows: &mut Rows, sides: &mut Rows) -> Progre
 
 // Past the command b without parts, whose operand, if it has one, is x.
 fn passed(b: u8, x: u8, at: Progress, rows: &mut Rows, sides: &mut Rows) -> Progress
-    requires { ⌜ Labelled b x ⌝ }
+    requires { ⌜ LabelOperand b x ⌝ }
     ensures { λ r. ⌜ ((p : Statement) → LeafOf b x p → Passes p at r (now (rows .entry)) (now (rows .exit)) (now (sides .entry)) (now (sides .exit))) ⌝ }
 {
     if b == 1 {
@@ -208,6 +208,7 @@ fn passed(b: u8, x: u8, at: Progress, rows: &mut Rows, sides: &mut Rows) -> Prog
     at
 }
 
+// The labels of an accepted sequence, and what they add to the two matrices.
 pub fn survey(s: &[u8], rows: &mut Rows, sides: &mut Rows) -> Found
     requires { ⌜ Readable maxDepth (now s) ⌝ }
     ensures { λ r. ⌜ Surveys maxDepth (now (s .entry)) r (now (rows .entry)) (now (rows .exit)) (now (sides .entry)) (now (sides .exit)) ⌝ }

@@ -8,7 +8,7 @@ use lib.ListN.{length}
 use Rattle.esterel.specs.Statement.{Statement}
 use Rattle.sequence.specs.Reader.{read, accepted}
 use Rattle.labels.specs.declared.survey.Opening.{Opening}
-use Rattle.labels.proofs.Walk.{Walking, starts, at-hand, here, command-here, fits, no-parts, leaf-at, labelled-at, ends, goes-on, enters-one, pushes, enters-two, surveyed}
+use Rattle.labels.proofs.Walk.{Walking, starts, at-hand, here, command-here, fits, no-parts, leaf-at, operand-at, ends, goes-on, enters-one, pushes, enters-two, surveyed}
 use Rattle.labels.proofs.survey.survey.Statement.{statement}
 use Rattle.labels.proofs.survey.survey.Tie as tie
 
@@ -101,7 +101,7 @@ shared-slice-read-passed c =
 passed-requires : tie.Need-passed-requires Inv-loop μ-loop
 passed-requires c κs =
     let w = at-hand blank (c .before .before .before .before .before .before .before .before .before .before .before .before .pre) (c .before .before .before .before .before .before .before .before .loop .inv) in
-    labelled-at blank w (no-parts blank w (λ e. c .before .before .before .before .if1 .left (c .before .before .before .before .before .parts .ensures _ (command-here blank w) ∙ e)) (λ e. c .before .before .before .if2 .left (c .before .before .before .before .before .parts .ensures _ (command-here blank w) ∙ e))) _ (c .before .before .before .before .before .before .width .ensures _ (command-here blank w))
+    operand-at blank w (no-parts blank w (λ e. c .before .before .before .before .if1 .left (c .before .before .before .before .before .parts .ensures _ (command-here blank w) ∙ e)) (λ e. c .before .before .before .if2 .left (c .before .before .before .before .before .parts .ensures _ (command-here blank w) ∙ e))) _ (c .before .before .before .before .before .before .width .ensures _ (command-here blank w))
 
 result-requires : tie.Need-result-requires Inv-loop μ-loop
 result-requires c κs = search needs
