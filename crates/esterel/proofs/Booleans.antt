@@ -14,9 +14,6 @@ pub or-cases : (a b : Bool) → (a || b) ≡ true → (a ≡ true) ⊎ (b ≡ tr
 or-cases true b h = inl refl
 or-cases false b h = inr h
 
-pub or-none : (a b : Bool) → a ≡ false → b ≡ false → (a || b) ≡ false
-or-none a b h k = rw (h, k)
-
 pub or-false : (a : Bool) → (a || false) ≡ a
 or-false true = refl
 or-false false = refl

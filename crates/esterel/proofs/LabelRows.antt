@@ -9,7 +9,7 @@ use Rattle.esterel.specs.Statement.{Statement, nothing, pause, emit, exi
 use Rattle.esterel.specs.LabelTests.{labelsOf, Joint, alternative, parallel, atJoint, ifMember, before}
 use Rattle.esterel.specs.LabelRows.{addRow, further, fill}
 use Rattle.esterel.proofs.Booleans.{or-false}
-use Rattle.esterel.proofs.Sets.{member-join, member-none, member-only, join-none-r, ext}
+use Rattle.esterel.proofs.Sets.{member-join, member-none, member-only, ext}
 
 -- ---- members
 pub member-if : (l k s t : ℕ) → member l (ifMember k s t) ≡ (member k s && member l t)

@@ -1,9 +1,9 @@
 -- The sets of LabelTests by places: labelsOf holds the labels of pauses and setpauses, before the pairs in order.
 use Prim.Native.Nat.{ℕ, suc, _/_, _%_, _^_}
 use mathlib.Core.Path.{_≡_, refl, sym, ap, _∙_, subst}
-use mathlib.Core.Logic.{_⊎_, inl, inr, ⊎-elim, _↔_}
-use mathlib.Core.Bool.{Bool, true, false, _&&_, _||_, cond, and-eq-true-iff, false≢true}
-use mathlib.Core.List.{List, [], _∷_}
+use mathlib.Core.Logic.{_⊎_, ⊎-elim, _↔_}
+use mathlib.Core.Bool.{Bool, true, false, _&&_, cond, and-eq-true-iff, false≢true}
+use mathlib.Core.List.{[], _∷_}
 use native.Mathlib.Omega.{arith}
 use lib.Dec.{eqb}
 use lib.Arith.{bin-ind}
@@ -309,6 +309,10 @@ module _ (x y : Bool) (j : Joint) (k l : ℕ) where
       (labels-at x y k m (at-part (second-part t) u))
       (labels-at x y l n (at-part (first-part t) v)))
   pair-at m n u v (Before.inside i r) = before-part i (pair-at m n (at-part i u) (at-part i v) r)
+
+  -- a label with others before it is one
+  pub label-before : (p : Statement) → inBefore p → member k (labelsOf x y p) ≡ true
+  label-before p h = let n = pair-from p h in labels-at x y k (n .later-counted) (n .later-stands)
 
 -- ---- every label
 module _ (f : ℕ → Bool) where

@@ -2,21 +2,20 @@
 use Prim.Native.Nat.{ℕ}
 use mathlib.Core.Path.{_≡_, refl, sym, ap, _∙_, subst, subst₂}
 use mathlib.Core.Logic.{_⊎_, inl, inr, ⊎-elim, _↔_}
-use mathlib.Core.Bool.{Bool, true, false, not, _&&_, _||_, and-eq-true-iff, false≢true}
-use mathlib.Core.List.{List, [], _∷_}
+use mathlib.Core.Bool.{Bool, true, false, not, _&&_, _||_, false≢true}
 use lib.Dec.{eqb}
 use native.Mathlib.Omega.{arith}
-use borrow.Author.Tests.{eqb-true, eqb-false, eq-eqb, ne-eqb, not-true}
+use borrow.Author.Tests.{eqb-false, ne-eqb, not-true}
 use Rattle.esterel.specs.Sets.{member, none}
 use Rattle.esterel.specs.Statement.{Statement, nothing, pause, emit, exit, seq, par, loop, present, signal, try, setpause}
-use Rattle.esterel.specs.Places.{Part, first, second, PartOf, seq₁, seq₂, par₁, par₂, loop₁, present₁, present₂, signal₁, try₁, Place, At, Exclusive, Compatible}
-use Rattle.esterel.specs.States.{Holds, Valid, Distinct, Targeted, NoSetpause, AllExclusive, Triggers, WellFormed}
+use Rattle.esterel.specs.Places.{Part, PartOf, seq₁, seq₂, par₁, par₂, loop₁, present₁, present₂, signal₁, try₁, Place, At, Exclusive, Compatible}
+use Rattle.esterel.specs.States.{Holds, Valid, Distinct, Targeted, NoSetpause, WellFormed}
 use Rattle.esterel.specs.LabelTests.{disjoint, subset, pauses, setpauses, triggers, everyLabel, distinct, targeted, Joint, alternative, parallel, rivals, aside, exclusive, wellFormed, valid}
-use Rattle.esterel.proofs.Booleans.{or-l, or-r, or-cases, never}
-use Rattle.esterel.proofs.Sets.{member-none, ext}
+use Rattle.esterel.proofs.Booleans.{or-l, or-r, or-cases}
+use Rattle.esterel.proofs.Sets.{member-none}
 use Rattle.esterel.proofs.Places.{distinct-part, disjoint-parts}
 use Rattle.esterel.proofs.Order.{Two, sequence, test, sides, first-part, second-part, Before, before-exclusive, exclusive-before, exclusive-sym, exclusive-irreflexive, beside-compatible, at-part, at-unique, NoParts, Order, same, ordered, order}
-use Rattle.esterel.proofs.LabelSets.{some-member, Disjoint, disjoint-is, subset-is, Counted, as-pause, as-setpause, counted-leaf, Named, labels-at, labels-from, Pair, pair-from, pair-at, every-to, every-from}
+use Rattle.esterel.proofs.LabelSets.{in-join, some-member, Disjoint, disjoint-is, subset-is, Counted, as-pause, as-setpause, counted-leaf, Named, labels-at, labels-from, Pair, pair-from, pair-at, label-before, triggers-are, every-to, every-from}
 
 -- ---- pauses and setpauses
 pub pauses-is : (p : Statement) (l : ℕ) → (member l (pauses p) ≡ true) ↔ Holds p (pause l)
@@ -45,6 +44,19 @@ targeted-is p = (
   λ h l n. pauses-is p l .0 (subset-is (setpauses p) (pauses p) .0 h l (setpauses-is p l .1 n)),
   λ t. subset-is (setpauses p) (pauses p) .1 (λ l m. pauses-is p l .1 (t l (setpauses-is p l .0 m))),
 )
+
+-- then the label of each trigger has a pause
+pub trigger-paused : (p : Statement) (l : ℕ) → targeted p ≡ true → member l (triggers p) ≡ true → member l (pauses p) ≡ true
+trigger-paused p l h m =
+    ⊎-elim (λ u. u) (subset-is (setpauses p) (pauses p) .0 h l)
+    (in-join l (pauses p) (setpauses p) (sym (ap (member l) (triggers-are p)) ∙ m))
+
+-- ---- the labels that have others before them
+pub rivals-paused : (p : Statement) (k l : ℕ) → member l (rivals p k) ≡ true → member k (pauses p) ≡ true
+rivals-paused p k l h = label-before true false alternative k l p h
+
+pub aside-paused : (p : Statement) (k l : ℕ) → targeted p ≡ true → member l (aside p k) ≡ true → member k (pauses p) ≡ true
+aside-paused p k l t h = trigger-paused p k t (label-before true true parallel k l p h)
 
 -- ---- row 8
 three : (a b c : Bool) → (a && (b && c)) ≡ true → (a ≡ true) × (b ≡ true) × (c ≡ true)

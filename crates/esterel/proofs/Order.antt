@@ -1,12 +1,11 @@
 -- Places in order: of two places of pauses and setpauses, one is the other, or one stands before the other across the
 -- parts of a command, which are alternatives or the sides of a parallel.
 use Prim.Native.Nat.{ℕ}
-use mathlib.Core.Path.{_≡_, refl, sym, ap, subst}
-use mathlib.Core.Logic.{_⊎_, inl, inr, ⊎-elim}
-use mathlib.Core.Bool.{Bool, true, false}
-use mathlib.Core.List.{List, [], _∷_}
-use Rattle.esterel.specs.Statement.{Statement, seq, par, loop, present, signal, try}
-use Rattle.esterel.specs.Places.{Part, first, second, PartOf, seq₁, seq₂, par₁, par₂, loop₁, present₁, present₂, signal₁, try₁, Place, At, Alternative, Exclusive}
+use mathlib.Core.Path.{_≡_, refl, ap, subst}
+use mathlib.Core.Logic.{_⊎_, inl, inr}
+use mathlib.Core.List.{_∷_}
+use Rattle.esterel.specs.Statement.{Statement, seq, par, present}
+use Rattle.esterel.specs.Places.{Part, first, second, PartOf, seq₁, seq₂, par₁, par₂, present₁, present₂, Place, At, Alternative, Exclusive}
 use Rattle.esterel.specs.LabelTests.{Joint, alternative, parallel}
 use Rattle.esterel.proofs.Places.{part-unique}
 

@@ -1,7 +1,7 @@
--- Resuming by labels is the reaction of the expansion, first error included, and 'inactive' where no pause is active.
+-- Resuming by ranks is the reaction of the expansion, first error included.
 use Prim.Native.Nat.{ℕ}
-use mathlib.Core.Path.{_≡_, refl, sym, ap, _∙_}
-use mathlib.Core.Bool.{Bool, true, false, _||_, cond}
+use mathlib.Core.Path.{_≡_, refl, sym, ap, ap₂, _∙_}
+use mathlib.Core.Bool.{Bool, true, false, not, _||_, cond, false≢true}
 use mathlib.Core.Option.{Option}
 use mathlib.Core.List.{List, [], _∷_, _++_, head?}
 use Rattle.esterel.specs.Sets.{member, insert, remove}
@@ -10,7 +10,11 @@ use Rattle.esterel.specs.Reaction.{Code, ended, waiting, leaving, wrong,
 use Rattle.esterel.specs.Errors.{Error, ifEnded, loopErrors, signalErrors, errors, firstError}
 use Rattle.esterel.specs.States.{active}
 use Rattle.esterel.specs.Expansion.{expand, ifActive}
-use Rattle.esterel.specs.Resume.{Instant, instant, start, earlier, seqInstant, parInstant, loopInstant, tryInstant, signalInstant, Resumed, inactive, resumed, resumedSeq, resumedPar, resumedPresent, resumedSignal, resumedTry, resume}
+use Rattle.esterel.specs.LabelTests.{alternative, parallel}
+use Rattle.esterel.specs.Ranks.{middle, mask}
+use Rattle.esterel.specs.Resume.{Instant, instant, start, idle, earlier, seqInstant, parInstant, loopInstant, tryInstant, signalInstant, resume}
+use Rattle.esterel.proofs.Order.{Two, sequence, test, sides}
+use Rattle.esterel.proofs.Ranks.{split-below, split-from, first-empty, second-empty}
 
 -- ---- the first error of a list in parts
 pub first-append : (xs ys : List Error) → head? (xs ++ ys) ≡ earlier (head? xs) (head? ys)
@@ -63,55 +67,49 @@ unfolding react errors
 start-try p e = refl
 
 -- ---- RESUME
-abbrev pub whenActive : Bool → Instant → Resumed
-whenActive b i = cond b (resumed i) inactive
+-- where b, the instant i of a part is that of the part's expansion t
+abbrev Goes : Bool → Instant → Statement → ℕ → Type 0
+Goes b i t e = b ≡ true → i ≡ start t e
 
-pub resume-is : (p : Statement) (L e : ℕ) → resume p L e ≡ whenActive (active p L) (start (expand p L) e)
-unfolding resume active expand react errors
-resume-is nothing L e = refl
-resume-is (pause l) L e = refl
-resume-is (emit s) L e = refl
-resume-is (exit n) L e = refl
-resume-is (seq p q) L e = rw (resume-is p L e, resume-is q L e) (go (active p L))
-  where
-    go : (b : Bool)
-        → resumedSeq q (whenActive b (start (expand p L) e)) (whenActive (active q L) (start (expand q L) e)) (start q e)
-        ≡ whenActive (b || active q L) (start (cond b (seq (expand p L) q) (expand q L)) e)
-    go true = ap resumed (sym (start-seq (expand p L) q e))
-    go false = refl
-resume-is (par p q) L e = rw (resume-is p L e, resume-is q L e) (go (active p L) (active q L))
-  where
-    go : (b c : Bool)
-        → resumedPar (whenActive b (start (expand p L) e)) (whenActive c (start (expand q L) e))
-        ≡ whenActive (b || c) (start (par (ifActive b (expand p L)) (ifActive c (expand q L))) e)
-    go true true = ap resumed (sym (start-par (expand p L) (expand q L) e))
-    go true false = ap resumed (sym (start-par (expand p L) nothing e))
-    go false true = ap resumed (sym (start-par nothing (expand q L) e))
-    go false false = refl
-resume-is (loop a p) L e = rw (resume-is p L e) (go (active p L))
-  where
-    go : (b : Bool)
-        → resumedSeq (loop a p) (whenActive b (start (expand p L) e)) inactive (start (loop a p) e)
-        ≡ whenActive b (start (seq (expand p L) (loop a p)) e)
-    go true = ap resumed (sym (start-seq (expand p L) (loop a p) e))
-    go false = refl
-resume-is (present s p q) L e = rw (resume-is p L e, resume-is q L e) (go (active p L))
-  where
-    go : (b : Bool)
-        → resumedPresent (whenActive b (start (expand p L) e)) (whenActive (active q L) (start (expand q L) e))
-        ≡ whenActive (b || active q L) (start (cond b (expand p L) (expand q L)) e)
-    go true = refl
-    go false = refl
-resume-is (signal a s p) L e = rw (resume-is p L (remove s e), resume-is p L (insert s e)) (go (active p L))
-  where
-    go : (b : Bool)
-        → resumedSignal a s (whenActive b (start (expand p L) (remove s e))) (whenActive b (start (expand p L) (insert s e)))
-        ≡ whenActive b (start (signal a s (expand p L)) e)
-    go true = ap resumed (sym (start-signal a s (expand p L) e))
-    go false = refl
-resume-is (try p) L e = rw (resume-is p L e) (go (active p L))
-  where
-    go : (b : Bool) → resumedTry (whenActive b (start (expand p L) e)) ≡ whenActive b (start (try (expand p L)) e)
-    go true = ap resumed (sym (start-try (expand p L) e))
-    go false = refl
-resume-is (setpause l) L e = refl
+seq-goes : (p q : Statement) (e : ℕ) (i : Instant) → i ≡ start p e → seqInstant q i (start q e) ≡ start (seq p q) e
+seq-goes p q e i h = ap (λ (x : Instant). seqInstant q x (start q e)) h ∙ sym (start-seq p q e)
+
+-- of two alternatives the first active one goes on
+alternative-goes : (p q : Statement) (e : ℕ) (i j : Instant) (b c : Bool) → Goes b i p e → Goes c j q e → (b || c) ≡ true
+    → cond (not b) j i ≡ start (cond b p q) e
+alternative-goes p q e i j true c f g h = f refl
+alternative-goes p q e i j false c f g h = g h
+
+-- of two sides each active one
+side-goes : (p : Statement) (e : ℕ) (i : Instant) (b : Bool) → Goes b i p e → cond (not b) idle i ≡ start (ifActive b p) e
+unfolding react errors
+side-goes p e i true f = f refl
+side-goes p e i false f = refl
+
+-- resuming by the ranks of the active pauses is the instant of the expansion, first error included
+pub resumes : (base : ℕ) (p : Statement) (L e : ℕ) → active p L ≡ true → resume base p (mask base p L) e ≡ start (expand p L) e
+unfolding resume mask active expand react errors
+resumes base nothing L e h = absurd (false≢true h)
+resumes base (pause l) L e h = refl
+resumes base (emit s) L e h = absurd (false≢true h)
+resumes base (exit n) L e h = absurd (false≢true h)
+resumes base (seq p q) L e h =
+    let t : Two alternative p q (seq p q) = sequence in
+    rw (first-empty base L t, split-below base L t, split-from base L t)
+    (alternative-goes (seq (expand p L) q) (expand q L) e _ _ (active p L) (active q L)
+    (λ x. seq-goes (expand p L) q e _ (resumes base p L e x)) (resumes (middle base p) q L e) h)
+resumes base (par p q) L e h =
+    let t : Two parallel p q (par p q) = sides in
+    rw (first-empty base L t, second-empty base L t, split-below base L t, split-from base L t)
+    (ap₂ parInstant (side-goes (expand p L) e _ (active p L) (resumes base p L e))
+    (side-goes (expand q L) e _ (active q L) (resumes (middle base p) q L e))
+    ∙ sym (start-par (ifActive (active p L) (expand p L)) (ifActive (active q L) (expand q L)) e))
+resumes base (loop a p) L e h = seq-goes (expand p L) (loop a p) e _ (resumes base p L e h)
+resumes base (present s p q) L e h =
+    let t : Two alternative p q (present s p q) = test in
+    rw (first-empty base L t, split-below base L t, split-from base L t)
+    (alternative-goes (expand p L) (expand q L) e _ _ (active p L) (active q L) (resumes base p L e) (resumes (middle base p) q L e) h)
+resumes base (signal a s p) L e h =
+    ap₂ (signalInstant a s) (resumes base p L (remove s e) h) (resumes base p L (insert s e) h) ∙ sym (start-signal a s (expand p L) e)
+resumes base (try p) L e h = ap tryInstant (resumes base p L e h) ∙ sym (start-try (expand p L) e)
+resumes base (setpause l) L e h = absurd (false≢true h)

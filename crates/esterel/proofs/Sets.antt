@@ -1,14 +1,14 @@
 -- Laws of sets of small numbers: what the members of each set are, and that two sets with the same members are one.
 use mathlib.Core.Path.{_≡_, refl, sym, ap, _∙_}
 use mathlib.Core.Bool.{Bool, true, false, not, _&&_, _||_, false≢true, true≢false}
-use Prim.Native.Nat.{ℕ, zero, suc, _+_, _*_, _/_, _%_, _^_, _<_, min, max}
-use native.Mathlib.Nat.{pow-suc, mul-div-cancel}
+use Prim.Native.Nat.{ℕ, zero, suc, _+_, _*_, _/_, _%_, _^_, _<_, _≤_, min, max}
+use native.Mathlib.Nat.{pow-suc, mul-div-cancel, div-eq-of-lt, lt-of-lt-of-le}
 use native.Mathlib.Omega.{arith}
 use lib.Dec.{eqb, eqb·zero-suc, eqb·suc-zero, eqb·suc-suc}
 use lib.Bits.{bitOr, bitAnd, bitXor, differ, or-step, and-step, xor-step, or-zero-l, or-zero-r, or-shr, and-shr, xor-shr}
-use lib.Pow.{shr-shr}
+use lib.Pow.{pow-mono, shr-shr}
 use lib.Arith.{digits-mod, bin-ind}
-use Rattle.esterel.specs.Sets.{member, none, only, join, insert, remove}
+use Rattle.esterel.specs.Sets.{member, none, only, join, remove}
 
 -- ---- one law for the three operations on digits
 data Digit : ℕ → Type 0 where
@@ -94,6 +94,11 @@ unfolding member none
 member-none zero = refl
 member-none (suc i) = member-step i 0 ∙ member-none i
 
+-- a set of numbers below w is a number below 2 ^ w
+pub member-high : {w s : ℕ} (i : ℕ) → s < 2 ^ w → w ≤ i → member i s ≡ false
+unfolding member
+member-high i h l = ap (λ (x : ℕ). eqb (x % 2) 1) (div-eq-of-lt (lt-of-lt-of-le h (pow-mono l)))
+
 double-half : (n : ℕ) → 2 ^ suc n / 2 ≡ 2 ^ n
 double-half n = rw (pow-suc 2 n) (mul-div-cancel (2 ^ n) (omega arith))
 
@@ -106,10 +111,6 @@ member-only zero zero = refl
 member-only zero (suc j) = rw (member-step, eqb·zero-suc) (member-none j)
 member-only (suc i) zero = ap (λ (x : ℕ). eqb x 1) (even i) ∙ sym (eqb·suc-zero i)
 member-only (suc i) (suc j) = rw (member-step, double-half, eqb·suc-suc) (member-only i j)
-
-pub member-insert : (i s j : ℕ) → member j (insert i s) ≡ (member j s || eqb i j)
-unfolding insert join only
-member-insert i s j = member-join j s (2 ^ i) ∙ ap (λ (b : Bool). member j s || b) (member-only i j)
 
 without : (a b : Bool) → xor a (a && b) ≡ (a && not b)
 without true true = refl

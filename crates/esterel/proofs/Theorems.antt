@@ -1,24 +1,25 @@
 -- The theorems of this crate in the words of the papers, each a line or two over the files beside it. Others stand
 -- where they are proved: `reacts-is` of Rules (003, corollary 11), `uses-is` of Derivations, `figure-5` of Figure5.
 use Prim.Native.Nat.{ℕ}
-use mathlib.Core.Path.{_≡_, refl, ap, _∙_}
+use mathlib.Core.Path.{_≡_, refl}
 use mathlib.Core.Logic.{_↔_, _≢_}
-use mathlib.Core.Bool.{Bool, true}
+use mathlib.Core.Bool.{true}
 use mathlib.Core.List.{List}
-use native.Mathlib.Omega.{arith}
 use Rattle.esterel.specs.Sets.{member, none}
 use Rattle.esterel.specs.Statement.{Statement}
 use Rattle.esterel.specs.Reaction.{ended, waiting, leaving, wrong, Reaction, gives, code, labels, react}
 use Rattle.esterel.specs.States.{active, Valid, Distinct, Targeted, NoSetpause, WellFormed}
 use Rattle.esterel.specs.Expansion.{expand}
-use Rattle.esterel.specs.Resume.{start, inactive, resumed, resume}
+use Rattle.esterel.specs.Ranks.{mask}
+use Rattle.esterel.specs.Resume.{start, resume}
 use Rattle.esterel.specs.Machines.{run, reached, State, byLabels, Rewriting, byRewriting}
-use Rattle.esterel.proofs.Booleans.{never}
+use Rattle.esterel.proofs.Booleans.{never, clash}
 use Rattle.esterel.proofs.Activity.{Awake, active-is}
 use Rattle.esterel.proofs.Invariant.{Fits}
 use Rattle.esterel.proofs.Residual.{Remains, residual-fresh, residual-resumed}
 use Rattle.esterel.proofs.Stability.{Stops, SoundLabels, labels-fresh, labels-resumed, sound-valid}
-use Rattle.esterel.proofs.Resume.{whenActive, resume-is}
+use Rattle.esterel.proofs.Ranks.{none-is}
+use Rattle.esterel.proofs.Resume.{resumes}
 use Rattle.esterel.proofs.Agreement.{ValidState, agree, valid-reached}
 
 -- A reaction of p itself, or of an expansion of p.
@@ -38,20 +39,16 @@ pub residual-is-expansion : (p : Statement) → Distinct p → NoSetpause p → 
 residual-is-expansion p d n e o l t x =
     both-fit Remains p e (residual-fresh p e) (λ L. residual-resumed p L e) x d n .equal
 
--- 2. RESUME is the reaction of the expansion with its first error, where a pause is active; else it is inactive
-pub resume-reacts : (p : Statement) (L e : ℕ) → Awake p L → resume p L e ≡ resumed (start (expand p L) e)
-resume-reacts p L e w = resume-is p L e ∙ ap (λ (b : Bool). whenActive b (start (expand p L) e)) (active-is p L .1 w)
+-- 2. RESUME, by the ranks of the active pauses, is the reaction of the expansion with its first error, where a pause is
+-- active; else there are no such ranks
+pub resume-reacts : (base : ℕ) (p : Statement) (L e : ℕ) → Awake p L → resume base p (mask base p L) e ≡ start (expand p L) e
+resume-reacts base p L e w = resumes base p L e (active-is p L .1 w)
 
-pub resume-inactive : (p : Statement) (L e : ℕ) → (resume p L e ≡ inactive) ↔ (¬ Awake p L)
-resume-inactive p L e = (forth, back)
-  where
-    forth : resume p L e ≡ inactive → ¬ Awake p L
-    forth h w = let i = resume-reacts p L e w in let z : _≡_ {A = ℕ} 0 1 = cc in omega arith
-
-    back : ¬ Awake p L → resume p L e ≡ inactive
-    back n =
-        resume-is p L e
-        ∙ ap (λ (b : Bool). whenActive b (start (expand p L) e)) (never (active p L) (λ h. n (active-is p L .0 h)))
+pub mask-inactive : (base : ℕ) (p : Statement) (L : ℕ) → (mask base p L ≡ none) ↔ (¬ Awake p L)
+mask-inactive base p L = (
+  λ h w. clash (active p L) (active-is p L .1 w) (none-is base p L .0 h),
+  λ n. none-is base p L .1 (never (active p L) (λ h. n (active-is p L .0 h))),
+)
 
 -- 3. STABILITY (002, theorem 8), setpause included
 pub stable : (p : Statement) → Distinct p → Targeted p → WellFormed p → (e o l : ℕ) (t : Statement)

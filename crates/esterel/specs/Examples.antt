@@ -1,14 +1,19 @@
 -- Worked reactions by computation: 01's starred bays as trees, and the examples that the papers turn on.
 use Prim.Native.Nat.{ℕ}
 use mathlib.Core.Path.{_≡_, refl}
+use mathlib.Core.Bool.{true, false}
+use mathlib.Core.Option.{Option}
 use mathlib.Core.List.{List, [], _∷_, map}
-use Rattle.esterel.specs.Sets.{member, none, only, join, insert, remove}
+use Rattle.esterel.specs.Sets.{member, none, only, join, insert, remove, below, from}
 use Rattle.esterel.specs.Statement.{Statement, nothing, pause, emit, exit, seq, par, loop, present, signal, try, setpause}
-use Rattle.esterel.specs.Reaction.{Code, ended, waiting, leaving, wrong, code, emitted, labels, residual, react}
+use Rattle.esterel.specs.Reaction.{Code, ended, waiting, leaving, wrong, gives, code, emitted, labels, residual, react}
 use Rattle.esterel.specs.Errors.{Error, errors, instantaneous, notReactive, notDeterministic}
 use Rattle.esterel.specs.Places.{first, second, Alternative, Exclusive}
 use Rattle.esterel.specs.States.{active}
 use Rattle.esterel.specs.Expansion.{expand}
+use Rattle.esterel.specs.LabelTests.{labelsOf}
+use Rattle.esterel.specs.Ranks.{pauseCount, mask, rank, compatible}
+use Rattle.esterel.specs.Resume.{Instant, resume}
 use Rattle.esterel.specs.Machines.{waits, over, Seen, instant, refused, run, State, byLabels, Rewriting, byRewriting}
 
 -- what the table says of an instant with empty input: code, emitted set, labels, errors
@@ -37,6 +42,10 @@ jump = seq (pause 1) (seq (setpause 2) (seq (emit 0) (pause 2)))
 -- 002, section 4: not well-formed
 abbrev split : Statement
 split = seq (pause 1) (seq (par (setpause 2) (pause 3)) (pause 2))
+
+-- pauses of ranks 0, 1 and 2
+abbrev three : Statement
+three = seq (pause 5) (par (loop 3 (pause 3)) (pause 4))
 
 table : List (Statement × Row)
 table =
@@ -85,3 +94,33 @@ states : (labels (react jump 0) ≡ 2)
     × Exclusive (present 0 (pause 1) (pause 2)) (first ∷ []) (second ∷ [])
 unfolding active expand react member none only join insert remove
 states = (refl, refl, refl, refl, refl, Exclusive.apart Alternative.test)
+
+-- labels 5 and 4 have ranks 0 and 2; the second part begins with rank 1, the second side of the parallel with rank 2
+ranks : (mask 0 three 48 ≡ 5)
+    × (mask 7 three 48 ≡ 640)
+    × (mask 0 three 8 ≡ 2)
+    × (below 1 5 ≡ 1)
+    × (from 1 5 ≡ 4)
+    × (rank 0 three 3 ≡ 1)
+    × (rank 0 three 4 ≡ 2)
+    × (pauseCount three ≡ 3)
+unfolding pauseCount mask rank labelsOf below from member none only join
+ranks = (refl, refl, refl, refl, refl, refl, refl, refl)
+
+-- Only active sides of the parallel are entered: by rank 2 the loop is not, and the parallel ends; by rank 1, and by
+-- both, the loop waits again. By rank 0 the sequence starts the parallel. What ends goes on with the command behind it.
+resumed : (resume 0 three 4 0 ≡ Instant.instant (gives 0 ended 0 (par nothing nothing)) Option.none)
+    × (resume 0 three 2 0 ≡ Instant.instant (gives 0 waiting 8 (par (seq nothing (loop 3 (pause 3))) nothing)) Option.none)
+    × (resume 0 three 6 0 ≡ resume 0 three 2 0)
+    × (resume 0 three 1 0 ≡ Instant.instant (gives 0 waiting 24 (par (seq nothing (loop 3 (pause 3))) nothing)) Option.none)
+    × (resume 0 (seq three (emit 1)) 2 0
+    ≡ Instant.instant (gives 0 waiting 8 (seq (par (seq nothing (loop 3 (pause 3))) nothing) (emit 1))) Option.none)
+    × (resume 0 (seq three (emit 1)) 4 0 ≡ Instant.instant (gives 2 ended 0 nothing) Option.none)
+unfolding resume pauseCount below from react errors member none only join insert remove
+resumed = (refl, refl, refl, refl, refl, refl)
+
+-- the pauses of the parallel are compatible, those of the sequence are not
+together : (compatible 0 three 6 ≡ true) × (compatible 0 three 5 ≡ false) × (compatible 0 three 3 ≡ false)
+    × (compatible 0 (present 0 (pause 1) (pause 2)) 3 ≡ false) × (compatible 0 (present 0 (pause 1) (pause 2)) 2 ≡ true)
+unfolding compatible pauseCount below from none
+together = (refl, refl, refl, refl, refl)

@@ -6,8 +6,9 @@ pub mod Errors
 pub mod Places
 pub mod States
 pub mod Expansion
+pub mod LabelTests
+pub mod LabelRows
+pub mod Ranks
 pub mod Resume
 pub mod Machines
 pub mod Examples
-pub mod LabelTests
-pub mod LabelRows

@@ -1,13 +1,14 @@
--- The reaction of a waiting statement by its labels, with no expansion built: each part is walked once a run, and a
--- part answers 'inactive' or its reaction. proofs/Resume shows that it is the reaction of the expansion.
+-- The instant of a waiting statement by the ranks of its active pauses, with no expansion built: only parts that hold
+-- an active pause are entered. proofs/Resume shows that it is the instant of the expansion.
 use Prim.Native.Nat.{ℕ}
 use mathlib.Core.Bool.{cond}
 use mathlib.Core.Option.{Option, some}
 use mathlib.Core.List.{head?}
-use Rattle.esterel.specs.Sets.{member, insert, remove}
+use Rattle.esterel.specs.Sets.{insert, remove, empty, below, from}
 use Rattle.esterel.specs.Statement.{Statement, nothing, pause, emit, exit, seq, par, loop, present, signal, try, setpause}
 use Rattle.esterel.specs.Reaction.{Reaction, code, quiet, inSeq, inPar, inLoop, inTry, inSignal, caseOf, react}
 use Rattle.esterel.specs.Errors.{Error, ifEnded, loopErrors, signalErrors, firstError}
+use Rattle.esterel.specs.Ranks.{middle}
 
 -- a reaction, and the first error of its tree
 pub data Instant : Type 0 where
@@ -40,44 +41,24 @@ abbrev pub signalInstant : ℕ → ℕ → Instant → Instant → Instant
 signalInstant a s (instant r− x−) (instant r+ x+) =
     instant (inSignal a s r− r+) (earlier (earlier x− x+) (head? (signalErrors a (caseOf s r− r+))))
 
--- ---- the answer of a part
-pub data Resumed : Type 0 where
-  inactive : Resumed
-  resumed : Instant → Resumed
-
--- an active first part goes on with q, started where it ends; else the second part decides
-abbrev pub resumedSeq : Statement → Resumed → Resumed → Instant → Resumed
-resumedSeq q inactive r₂ i = r₂
-resumedSeq q (resumed i) r₂ j = resumed (seqInstant q i j)
-
-abbrev pub resumedPar : Resumed → Resumed → Resumed
-resumedPar inactive inactive = inactive
-resumedPar inactive (resumed j) = resumed (parInstant idle j)
-resumedPar (resumed i) inactive = resumed (parInstant i idle)
-resumedPar (resumed i) (resumed j) = resumed (parInstant i j)
-
-abbrev pub resumedPresent : Resumed → Resumed → Resumed
-resumedPresent inactive r₂ = r₂
-resumedPresent (resumed i) r₂ = resumed i
-
-abbrev pub resumedSignal : ℕ → ℕ → Resumed → Resumed → Resumed
-resumedSignal a s inactive r+ = inactive
-resumedSignal a s (resumed i) inactive = inactive
-resumedSignal a s (resumed i) (resumed j) = resumed (signalInstant a s i j)
-
-abbrev pub resumedTry : Resumed → Resumed
-resumedTry inactive = inactive
-resumedTry (resumed i) = resumed (tryInstant i)
-
-unfoldable pub resume : Statement → ℕ → ℕ → Resumed
-resume nothing L e = inactive
-resume (pause l) L e = cond (member l L) (resumed idle) inactive
-resume (emit s) L e = inactive
-resume (exit n) L e = inactive
-resume (seq p q) L e = resumedSeq q (resume p L e) (resume q L e) (start q e)
-resume (par p q) L e = resumedPar (resume p L e) (resume q L e)
-resume (loop a p) L e = resumedSeq (loop a p) (resume p L e) inactive (start (loop a p) e)
-resume (present s p q) L e = resumedPresent (resume p L e) (resume q L e)
-resume (signal a s p) L e = resumedSignal a s (resume p L (remove s e)) (resume p L (insert s e))
-resume (try p) L e = resumedTry (resume p L e)
-resume (setpause l) L e = inactive
+-- ---- the instant of p, whose first pause has rank base, by the ranks m of its active pauses; m is not empty
+-- of a parallel, a side without an active pause has ended
+unfoldable pub resume : (base : ℕ) → Statement → (m : ℕ) → (e : ℕ) → Instant
+resume base nothing m e = idle
+resume base (pause l) m e = idle
+resume base (emit s) m e = idle
+resume base (exit n) m e = idle
+resume base (seq p q) m e =
+    cond (empty (below (middle base p) m)) (resume (middle base p) q (from (middle base p) m) e)
+    (seqInstant q (resume base p (below (middle base p) m) e) (start q e))
+resume base (par p q) m e =
+    parInstant
+    (cond (empty (below (middle base p) m)) idle (resume base p (below (middle base p) m) e))
+    (cond (empty (from (middle base p) m)) idle (resume (middle base p) q (from (middle base p) m) e))
+resume base (loop a p) m e = seqInstant (loop a p) (resume base p m e) (start (loop a p) e)
+resume base (present s p q) m e =
+    cond (empty (below (middle base p) m)) (resume (middle base p) q (from (middle base p) m) e)
+    (resume base p (below (middle base p) m) e)
+resume base (signal a s p) m e = signalInstant a s (resume base p m (remove s e)) (resume base p m (insert s e))
+resume base (try p) m e = tryInstant (resume base p m e)
+resume base (setpause l) m e = idle

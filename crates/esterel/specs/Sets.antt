@@ -22,3 +22,13 @@ insert i s = bitOr s (2 ^ i)
 
 unfoldable pub remove : ℕ → ℕ → ℕ
 remove i s = bitXor s (bitAnd s (2 ^ i))
+
+abbrev pub empty : ℕ → Bool
+empty s = eqb s none
+
+-- ---- a set in two: the members below k, and the others
+unfoldable pub below : (k s : ℕ) → ℕ
+below k s = s % 2 ^ k
+
+unfoldable pub from : (k s : ℕ) → ℕ
+from k s = bitXor s (below k s)

@@ -1,7 +1,7 @@
 -- The starred bays, by computation; two of them in each instant, for every number of instants and any buffer of 8 bytes.
 use Prim.Native.Nat.{ℕ, zero, suc}
 use mathlib.Core.Path.{_≡_, refl, ap, ap₂, _∙_}
-use mathlib.Core.List.{List, [], _∷_, map}
+use mathlib.Core.List.{List, _∷_, map}
 use lib.ListN.{length, replicate}
 use Rattle.esterel.specs.Sets.{none, only, member, join, insert, remove}
 use Rattle.esterel.specs.Reaction.{react}
@@ -17,7 +17,7 @@ use Rattle.intake.specs.Records.{answerLength, encodeState, decodeState,
 use Rattle.intake.specs.Tick.{Outcome, outcome, tickOf}
 use Rattle.intake.specs.Paper.{Call}
 use Rattle.intake.specs.Demands.{stateAfterwards, outcomes, cleared}
-use Rattle.intake.specs.Bays.{Instant, Bay, quiet, waitsForever, reincarnates, table, instantOf}
+use Rattle.intake.specs.Bays.{Bay, quiet, waitsForever, reincarnates, table, instantOf}
 
 -- THE STARRED BAYS
 pub starred : map (λ (b : Bay). instantOf (tickOf (b .bytes) cleared 0 (replicate answerLength 0))) table ≡ map (λ (b : Bay). b .shows) table

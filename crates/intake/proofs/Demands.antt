@@ -31,7 +31,7 @@ use Rattle.intake.specs.Records.{signalBytes, stateLength, answerLength,
 use Rattle.intake.specs.Tick.{Outcome, outcome, written, byState, byCheck, tickOf}
 use Rattle.intake.specs.TickRows.{phaseIn, labelsIn, Malformed, TickRow, row-1, row-2-to-10, phase-above, labels-fresh, labels-over, not-valid}
 use Rattle.intake.specs.Paper.{Call, paper, paperOf}
-use Rattle.intake.specs.Demands.{number, stateAfterwards, outcomes, kindIn, placeIn, Admitted, Demand1, StandsAt, at-start, at-labels, Shows, Demand2, TickMeets, codeIn, Chain, done, call, Demand3, report, cleared}
+use Rattle.intake.specs.Demands.{number, stateAfterwards, outcomes, kindIn, placeIn, Admitted, Demand1, StandsAt, at-start, at-labels, Shows, Demand2, TickMeets, codeIn, Chain, done, call, report, cleared}
 use Rattle.intake.proofs.Bounds.{Below, emitted-below, Exits, code-exits, ranged-expand}
 use Rattle.intake.proofs.ErrorPlaces.{PlacesBelow, placed-below, places-expand, errors-below}
 use Rattle.intake.proofs.RecordLaws.{Recorded, length-state, decode-encode, code-field, kind-field, place-field, emitted-field, shown-below}

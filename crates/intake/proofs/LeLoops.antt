@@ -1,14 +1,13 @@
 -- Laws of the loops that write and read numbers as bytes, over every number of bytes.
-use mathlib.Core.Path.{_≡_, refl, sym, ap, ap₂, _∙_, subst}
+use mathlib.Core.Path.{_≡_, sym, ap, ap₂, _∙_, subst}
 use mathlib.Core.List.{List, [], _∷_, _++_, append-nil}
-use Prim.Native.Nat.{ℕ, zero, suc, _+_, _-_, _*_, _/_, _%_, _^_, _≤_, _<_, zero-le}
-use native.Mathlib.Nat.{not-suc-le-zero, pow-suc, pow-zero, add-comm, mul-comm, div-one, div-div-eq-div-mul, suc-add, zero-add, pow-le-pow-right}
-use native.Mathlib.Numerals.{add-one, sub-one}
+use Prim.Native.Nat.{ℕ, zero, suc, _+_, _-_, _*_, _/_, _%_, _^_, _≤_, _<_}
+use native.Mathlib.Nat.{not-suc-le-zero, pow-suc, zero-add, pow-le-pow-right}
+use native.Mathlib.Numerals.{add-one}
 use native.Mathlib.Omega.{arith}
 use lib.ListN.{length, getD, take, drop, set}
 use lib.Seq.{sets, drop-cons, getD-drop, sets-eq, drop-length}
 use Rattle.intake.specs.Bytes.{leBytes, leNumber}
-use Rattle.intake.proofs.Bytes.{length-leBytes}
 
 -- one store of the loop that writes
 pub put-step : (b : List ℕ) (i left rest : ℕ) → 0 < left → sets (set b i (rest % 256)) (i + 1) (leBytes (left - 1) (rest / 256)) ≡ sets b i (leBytes left rest)

@@ -1,12 +1,12 @@
 -- What the code's tests say of a state record, and what each arm of an instant writes.
-use Prim.Native.Nat.{ℕ, _+_}
+use Prim.Native.Nat.{ℕ}
 use mathlib.Core.Path.{_≡_, refl, sym, ap, _∙_}
 use mathlib.Core.Logic.{_≢_}
 use mathlib.Core.Bool.{Bool, true, false, _&&_, cond}
 use mathlib.Core.Option.{Option, some}
 use mathlib.Core.List.{List}
 use lib.Dec.{eqb}
-use borrow.Author.Tests.{eq-eqb, ne-eqb}
+use borrow.Author.Tests.{ne-eqb}
 use Rattle.esterel.specs.Sets.{none}
 use Rattle.esterel.specs.Statement.{Statement}
 use Rattle.esterel.specs.Reaction.{ended, waiting, leaving, wrong, gives}
@@ -14,42 +14,46 @@ use Rattle.esterel.specs.LabelTests.{valid}
 use Rattle.esterel.specs.Resume as Esterel
 use Rattle.esterel.specs.Machines.{State}
 use Rattle.sets.proofs.LabelValues.{labelSet-of}
-use Rattle.reaction.specs.Instants.{instantOf}
-use Rattle.reaction.specs.declared.instant.Completion.{Completion}
-use Rattle.reaction.specs.declared.instant.Completion.the-variants.{Ended, Waiting, Leaving, Wrong}
-use Rattle.intake.specs.Records.{stateRecord, answerRecord, encodeState, encodeAnswer, Decoded, holds, malformed, decodeState}
-use Rattle.intake.specs.Tick.{Outcome, outcome, written}
+use Rattle.rules.specs.Instants.{instantOf}
+use Rattle.rules.specs.declared.instant.Completion.{Completion}
+use Rattle.rules.specs.declared.instant.Completion.the-variants.{Waiting}
+use Rattle.intake.specs.Records.{encodeState, encodeAnswer, holds, malformed, decodeState}
+use Rattle.intake.specs.Tick.{Outcome, written}
 use Rattle.intake.specs.TickRows.{phaseIn, labelsIn}
-use Rattle.intake.specs.Standing.{writtenBy, writtenFrom}
+use Rattle.intake.specs.declared.tick.Standing.the-variants as stands
+use Rattle.intake.specs.Standing.{Decodes, writtenBy, writtenFrom}
+use Rattle.sets.specs.declared.labels.Labels.{Labels}
+use Rattle.checks.specs.Activity.{ValidityOf}
+use Rattle.checks.specs.declared.activity.Validity.the-variants.{Valid, Invalid}
 
 module _ (p : Statement) (state : List ℕ) (L : ℕ) (read : L ≡ labelsIn state) where
-  is-waiting : (b : Bool) → phaseIn state ≡ 1 → b ≡ valid p L → cond b (holds (State.waits L)) malformed ≡ decodeState p state
+  by-validity : (b : Bool) → phaseIn state ≡ 1 → valid p L ≡ b → decodeState p state ≡ cond b (holds (State.waits (labelsIn state))) malformed
   unfolding decodeState
-  is-waiting b i v = rw (i, ← read, v)
+  by-validity b i v = let w : valid p (labelsIn state) ≡ b = rw read at v in rw (i, w)
 
-  pub waiting-valid : phaseIn state ≡ 1 → true ≡ valid p L → holds (State.waits L) ≡ decodeState p state
-  waiting-valid i v = is-waiting true i v
+  pub waiting-as : phaseIn state ≡ 1 → (m : Labels) → ValidityOf p L (Valid m) → Decodes p state (stands.Waiting m)
+  waiting-as i m v = (by-validity true i (v .0), rw read at (v .0), rw read at (v .1))
 
-  pub waiting-invalid : phaseIn state ≡ 1 → false ≡ valid p L → malformed ≡ decodeState p state
-  waiting-invalid i v = is-waiting false i v
+  pub waiting-invalid : phaseIn state ≡ 1 → ValidityOf p L Invalid → Decodes p state stands.Malformed
+  waiting-invalid i v = by-validity false i v
 
-  pub is-fresh : phaseIn state ≢ 1 → phaseIn state ≡ 0 → eqb L none ≡ true → holds State.fresh ≡ decodeState p state
+  pub is-fresh : phaseIn state ≢ 1 → phaseIn state ≡ 0 → eqb L none ≡ true → Decodes p state stands.Fresh
   unfolding decodeState
   is-fresh n i e = rw (i, ← read, e)
 
-  pub is-over : phaseIn state ≢ 1 → phaseIn state ≡ 2 → eqb L none ≡ true → holds State.over ≡ decodeState p state
+  pub is-over : phaseIn state ≢ 1 → phaseIn state ≡ 2 → eqb L none ≡ true → Decodes p state stands.Over
   unfolding decodeState
   is-over n i e = rw (i, ← read, e)
 
-  pub other-phase : phaseIn state ≢ 1 → phaseIn state ≢ 0 → phaseIn state ≢ 2 → malformed ≡ decodeState p state
+  pub other-phase : phaseIn state ≢ 1 → phaseIn state ≢ 0 → phaseIn state ≢ 2 → Decodes p state stands.Malformed
   unfolding decodeState
   other-phase n i j = rw (ne-eqb (phaseIn state) 1 n, ne-eqb (phaseIn state) 0 i, ne-eqb (phaseIn state) 2 j)
 
-  pub stray-labels : phaseIn state ≢ 1 → eqb L none ≡ false → malformed ≡ decodeState p state
+  pub stray-labels : phaseIn state ≢ 1 → eqb L none ≡ false → Decodes p state stands.Malformed
   unfolding decodeState
   stray-labels n e = rw (ne-eqb (phaseIn state) 1 n, ← read, e) (go (eqb (phaseIn state) 0) (eqb (phaseIn state) 2))
     where
-      go : (x y : Bool) → malformed ≡ cond (x && false) (holds State.fresh) (cond (y && false) (holds State.over) malformed)
+      go : (x y : Bool) → cond (x && false) (holds State.fresh) (cond (y && false) (holds State.over) malformed) ≡ malformed
       go true true = refl
       go true false = refl
       go false true = refl

@@ -1,9 +1,9 @@
 -- Runs of stores over a whole buffer give the record.
 use Prim.Native.Nat.{ℕ, _+_}
 use native.Mathlib.Omega.{arith}
-use mathlib.Core.Path.{_≡_, refl, ap, _∙_}
+use mathlib.Core.Path.{_≡_, ap, _∙_}
 use mathlib.Core.List.{List, _∷_, _++_}
-use lib.ListN.{length, take, drop, length-drop, length-append}
+use lib.ListN.{length, take, drop, length-drop}
 use lib.Seq.{sets, take-all}
 use Rattle.intake.specs.Bytes.{leBytes, leNumber}
 use Rattle.intake.specs.Records.{labelBytes, placeBytes, signalBytes, stateLength, answerLength, stateRecord}

@@ -1,114 +1,114 @@
--- What the tick's code knows of an accepted sequence, and one law for each of its returns.
-use Rattle.intake.specs.TickRows.{phaseIn, labelsIn}
-use Rattle.intake.proofs.TickRows.{Reading, reads-fresh, reads-waiting, reads-over, reads-malformed, reading}
-use Rattle.sets.specs.Rows.{rowOf}
-use Rattle.sets.specs.Labels.{labelSet}
-use Rattle.labels.specs.Verdict.{Judged}
-use Rattle.labels.specs.declared.verdict.Verdict.{Verdict}
-use Prim.Native.Nat.{ℕ, zero, suc, _+_, _≤_, _<_}
+-- One law for each return of the tick's code, over plain lists.
+use Prim.Native.Nat.{ℕ}
 use native.Mathlib.Omega.{arith}
-use native.Mathlib.Decide.{decLt}
-use mathlib.Core.Path.{_≡_, refl, sym, ap, _∙_, subst}
-use mathlib.Core.Logic.{_≢_, inl, inr}
-use mathlib.Core.Bool.{Bool, true, false, _&&_, cond}
+use mathlib.Core.Path.{_≡_, sym, ap, _∙_, subst}
+use mathlib.Core.Logic.{_≢_}
 use mathlib.Core.Option.{Option, some}
 use mathlib.Core.List.{List}
 use lib.ListN.{length}
-use lib.Dec.{eqb}
 use borrow.Author.Tests.{eq-eqb, ne-eqb}
 use Rattle.esterel.specs.Statement.{Statement}
-use Rattle.esterel.specs.Reaction.{Code, ended, waiting, leaving, wrong, Reaction, gives, code, react}
+use Rattle.esterel.specs.Reaction.{Code, ended, waiting, leaving, wrong, code, react}
 use Rattle.esterel.specs.Errors.{Error, firstError}
-use Rattle.esterel.specs.LabelTests.{valid}
-use Rattle.esterel.specs.States.{active, Valid}
+use Rattle.esterel.specs.Ranks.{mask}
 use Rattle.esterel.specs.Expansion.{expand}
 use Rattle.esterel.specs.Resume.{start, resume}
-use Rattle.esterel.specs.Resume as Esterel
 use Rattle.esterel.specs.Machines.{State}
 use Rattle.esterel.proofs.LabelTests.{valid-is}
 use Rattle.esterel.proofs.Figure5.{valid-active}
-use Rattle.esterel.proofs.Resume.{whenActive}
-use Rattle.sequence.specs.Limits.{maxBytes, maxDepth, maxSignals, maxExit}
-use Rattle.sequence.specs.Reader.{Read, accepted, read}
-use Rattle.sequence.specs.Accepted.{statementOf, countOf}
+use Rattle.esterel.proofs.Resume.{resumes}
+use Rattle.sets.specs.Labels.{labelSet}
+use Rattle.sets.specs.declared.labels.Labels.{Labels}
+use Rattle.sequence.specs.Limits.{maxDepth}
 use Rattle.sequence.specs.Writer.{Ranged}
+use Rattle.sequence.specs.Layout.{Ready}
+use Rattle.sequence.proofs.Laid.{ready}
+use Rattle.checks.specs.Known.{Known, Sound}
+use Rattle.checks.specs.Verdict.{Judged}
 use Rattle.sequence.specs.Check.{Checked, sound, bad, checked, numberOf, checkOf}
-use Rattle.sequence.specs.Rows.{Row, row-2}
-use Rattle.sequence.proofs.Writer.{reads-what-is-written}
-use Rattle.reaction.specs.Instants.{instantOf, activityOf, completionOf}
-use Rattle.reaction.specs.Parts.{Ready}
-use Rattle.reaction.specs.declared.instant.Activity.{Activity}
-use Rattle.reaction.specs.declared.instant.Activity.the-variants.{Inactive, Active}
-use Rattle.reaction.specs.declared.instant.Instant.{Instant}
-use Rattle.reaction.proofs.Resuming.{resumes-expansion}
+use Rattle.rules.specs.Instants.{instantOf, completionOf}
+use Rattle.rules.specs.declared.instant.Instant.{Instant}
 use Rattle.intake.specs.Records.{stateLength, answerLength, Decoded, holds, malformed, decodeState}
-use Rattle.intake.specs.Tick.{Outcome, outcome, written, byState, byCheck, tickOf}
-use Rattle.intake.specs.Standing.{WritableCode, Writable, writtenFrom, wholeOf, Known}
+use Rattle.intake.specs.Tick.{outcome, byState, byCheck, tickOf}
+use Rattle.intake.specs.TickRows.{labelsIn}
+use Rattle.intake.specs.declared.tick.Standing.the-variants as stands
+use Rattle.intake.specs.declared.tick.Reply.{Reply}
+use Rattle.intake.specs.declared.tick.Reply.the-variants.{Refused, Reacted}
+use Rattle.intake.specs.Standing.{Decodes, WritableCode, Writable, writtenFrom, replied, Replies}
+use Rattle.intake.proofs.Sequence.{accepted}
 use Rattle.intake.proofs.Bounds.{Exits, code-exits, ranged-expand}
-use Rattle.intake.proofs.Sequence.{Accepted, accepted as accepted-sequence, tick-at}
 use Rattle.intake.proofs.Standing.{written-from}
 
--- ---- an accepted sequence is ready to be walked
-module _ (bs : List ℕ) (h : checkOf bs ≡ 0) where
-  abbrev a : Accepted bs
-  a = accepted-sequence bs h
+-- ---- instants fit the answer record
+writable-code : (k : Code) (x : Option Error) → Exits k → WritableCode (completionOf k x)
+writable-code ended x f = tt
+writable-code waiting x f = tt
+writable-code (leaving n) x f = omega arith
+writable-code wrong Option.none f = tt
+writable-code wrong (some x) f = tt
 
-  reads : read maxDepth maxSignals 0 bs ≡ accepted (a .statement) (length bs)
-  reads = reads-what-is-written bs (a .statement) .1 (a .spelled)
+writable : (t : Statement) (e : ℕ) → Ranged t → (i : Instant) → i ≡ instantOf (start t e) → Writable i
+writable t e r i w = subst Writable (sym w) (writable-code (code (react t e)) (firstError t e) (code-exits t e r))
 
-  pub whole-is : wholeOf bs ≡ a .statement
-  whole-is = ap statementOf reads
+-- ---- what is known of a sequence that the check has passed
+pub record Passed (second notes sequence : List ℕ) : Type 0 where
+  pub p : Statement
+  pub is : checked sequence ≡ sound p
+  pub ranged : Ranged p
+  pub known : Known second notes sequence p
 
-  sized : (1 ≤ length bs) × (length bs ≤ maxBytes)
-  sized = (
-    elim (decLt 0 (length bs)) [ yes i ↦ i | no i ↦ absurd (a .no-row 2 (row-2 (inl (omega arith)))) ],
-    elim (decLt maxBytes (length bs)) [ yes i ↦ absurd (a .no-row 2 (row-2 (inr i))) | no i ↦ omega arith ],
-  )
+pub passed : (sequence second notes : List ℕ) (n : ℕ) → Judged sequence second notes n → n ≡ 0 → Passed second notes sequence
+passed sequence second notes n j z =
+    let a = accepted sequence (sym (j .number) ∙ z) in
+    record {
+      p = a .statement;
+      is = a .is-checked;
+      ranged = a .spelled .1 .ranged;
+      known = j .known (a .statement) (a .is-checked);
+    }
 
-  pub ready : Ready maxDepth maxSignals 0 bs
-  ready =
-      let c : countOf (read maxDepth maxSignals 0 bs) ≡ length bs = ap countOf reads in
-      record {
-        reads = reads ∙ ap (λ (r : Read). accepted (statementOf r) (countOf r)) (sym reads);
-        fits = omega (arith, sized .1);
-        levels = omega arith;
-        bytes = sized .0;
-        inside = omega arith;
-      }
+module _ {sequence second notes : List ℕ} (h : Passed second notes sequence) where
+  pub as-sound : Sound second notes sequence
+  as-sound = record { p = h .p; known = h .known }
 
-  whole-ranged : Ranged (wholeOf bs)
-  whole-ranged = subst Ranged (sym whole-is) (a .spelled .1 .ranged)
+  pub as-ready : Ready second maxDepth 0 sequence
+  as-ready = ready 0 (h .p) (h .known .long) (h .known .lies)
 
-  -- ---- its instants fit the answer record
-  writable-code : (k : Code) (x : Option Error) → Exits k → WritableCode (completionOf k x)
-  writable-code ended x f = tt
-  writable-code waiting x f = tt
-  writable-code (leaving n) x f = omega arith
-  writable-code wrong Option.none f = tt
-  writable-code wrong (some x) f = tt
+-- ---- what a call comes to
+module _ (sequence state : List ℕ) (e : ℕ) where
+  pub refused : (n : ℕ) → n ≡ checkOf sequence → n ≢ 0 → Replies sequence state e (Refused n)
+  unfolding checkOf
+  refused n h z = record { writable = tt; is = λ answer. go (checked sequence) h answer }
+    where
+      go : (c : Checked) → n ≡ numberOf c → (answer : List ℕ) → outcome n state answer ≡ byCheck c state e answer
+      go (bad k) x answer = ap (λ (m : ℕ). outcome m state answer) x
+      go (sound p) x answer = absurd (z x)
 
-  writable : (t : Statement) (e : ℕ) → Ranged t → (i : Instant) → i ≡ instantOf (start t e) → Writable i
-  writable t e r i w = subst Writable (sym w) (writable-code (code (react t e)) (firstError t e) (code-exits t e r))
+  module _ (p : Statement) (s : checked sequence ≡ sound p) (ranged : Ranged p) where
+    -- the record holds d
+    by-record : (d : Decoded) → decodeState p state ≡ d → (answer : List ℕ) → byState p d state e answer ≡ byCheck (checked sequence) state e answer
+    by-record d w answer = sym (ap (λ (c : Checked). byCheck c state e answer) s ∙ ap (λ (x : Decoded). byState p x state e answer) w)
 
-  pub fresh-writable : (e : ℕ) (i : Instant) → i ≡ instantOf (start (wholeOf bs) e) → Writable i
-  fresh-writable e = writable (wholeOf bs) e whole-ranged
+    reacts : (t : Statement) (i : Instant) → Ranged t → i ≡ instantOf (start t e)
+        → ((answer : List ℕ) → writtenFrom (instantOf (start t e)) ≡ byCheck (checked sequence) state e answer) → Replies sequence state e (Reacted i)
+    reacts t i r h k = record { writable = writable t e r i h; is = λ answer. ap writtenFrom h ∙ k answer }
 
-  -- ---- a waiting machine with a valid set is active
-  module _ (L e : ℕ) (v : valid (wholeOf bs) L ≡ true) (y : Activity) (r : y ≡ activityOf (resume (wholeOf bs) L e)) where
-    pub active-instant : y ≡ Active (instantOf (start (expand (wholeOf bs) L) e))
-    active-instant =
-        resumes-expansion y (wholeOf bs) L e r
-        ∙ ap (λ (b : Bool). activityOf (whenActive b (start (expand (wholeOf bs) L) e)))
-        (valid-active (wholeOf bs) L (valid-is (wholeOf bs) L .0 v))
+    pub malformed-reply : Decodes p state stands.Malformed → Replies sequence state e (Refused 11)
+    malformed-reply d = record { writable = tt; is = by-record malformed d }
 
-    pub resumed-instant : (i : Instant) → y ≡ Active i → i ≡ instantOf (start (expand (wholeOf bs) L) e)
-    resumed-instant i w = let z = active-instant in cc
+    pub over-reply : Decodes p state stands.Over → Replies sequence state e (Refused 12)
+    over-reply d = record { writable = tt; is = by-record (holds State.over) d }
 
-    pub resumed-writable : (i : Instant) → y ≡ Active i → Writable i
-    resumed-writable i w = writable (expand (wholeOf bs) L) e (ranged-expand (wholeOf bs) L whole-ranged) i (resumed-instant i w)
+    pub fresh-reply : (i : Instant) → Decodes p state stands.Fresh → i ≡ instantOf (start p e) → Replies sequence state e (Reacted i)
+    fresh-reply i d h = reacts p i ranged h (λ answer. written-from (start p e) ∙ by-record (holds State.fresh) d answer)
 
-    pub not-inactive {ℓ} : {A : Type ℓ} → y ≡ Inactive → A
-    not-inactive w = let z = active-instant in absurd (let n : _≡_ {A = ℕ} 0 1 = cc in omega arith)
+    pub waiting-reply : (i : Instant) (m : Labels) → Decodes p state (stands.Waiting m) → i ≡ instantOf (resume 0 p (labelSet m) e)
+        → Replies sequence state e (Reacted i)
+    waiting-reply i m d h =
+        let L = labelsIn state in
+        let t : resume 0 p (mask 0 p L) e ≡ start (expand p L) e = resumes 0 p L e (valid-active p L (valid-is p L .0 (d .1))) in
+        reacts (expand p L) i (ranged-expand p L ranged) (h ∙ ap (λ (k : ℕ). instantOf (resume 0 p k e)) (d .2) ∙ ap instantOf t)
+        (λ answer. written-from (start (expand p L) e) ∙ by-record (holds (State.waits L)) (d .0) answer)
 
 -- ---- the returns of the tick
 module _ (sequence state : List ℕ) (e : ℕ) (answer : List ℕ) where
@@ -121,40 +121,6 @@ module _ (sequence state : List ℕ) (e : ℕ) (answer : List ℕ) where
     unfolding tickOf
     other-answer n = rw (eq-eqb (length state) stateLength i, ne-eqb (length answer) answerLength n)
 
-    module _ (j : length answer ≡ answerLength) where
-      pub bad-sequence : (n : ℕ) → n ≡ numberOf (checked sequence) → n ≢ 0 → outcome n state answer ≡ tickOf sequence state e answer
-      unfolding tickOf
-      bad-sequence n h z =
-          rw (eq-eqb (length state) stateLength i, eq-eqb (length answer) answerLength j) (go (checked sequence) h)
-        where
-          go : (c : Checked) → n ≡ numberOf c → outcome n state answer ≡ byCheck c state e answer
-          go (bad k) x = ap (λ (m : ℕ). outcome m state answer) x
-          go (sound p) x = absurd (z x)
-
-      -- the check has passed, and the record holds d
-      pub by-record : (h : checkOf sequence ≡ 0) (d : Decoded) → d ≡ decodeState (wholeOf sequence) state
-          → byState (wholeOf sequence) d state e answer ≡ tickOf sequence state e answer
-      by-record h d w =
-          sym (tick-at sequence state e answer (wholeOf sequence) d
-          (accepted-sequence sequence h .is-checked ∙ ap sound (sym (whole-is sequence h))) i j (sym w))
-
--- ---- the verdict of a sequence that passed
-pub passed : (sequence : List ℕ) (n : ℕ) → n ≡ numberOf (checked sequence) → n ≡ 0 → checkOf sequence ≡ 0
-unfolding checkOf
-passed sequence n h z = sym h ∙ z
-
-pub known : (sequence : List ℕ) (v : Verdict) → Judged v (checked sequence) → checkOf sequence ≡ 0
-    → Known (wholeOf sequence) (labelSet (v .pauses)) (rowOf (v .rivals))
-known sequence v j h =
-    let k = j .known (wholeOf sequence) (accepted-sequence sequence h .is-checked ∙ ap sound (sym (whole-is sequence h))) in
-    record { pausing = k .paused; rivalling = k .rivalling }
-
--- a record that holds a waiting state holds a valid set
-pub held-valid : (p : Statement) (state : List ℕ) (L : ℕ) → holds (State.waits L) ≡ decodeState p state → valid p L ≡ true
-held-valid p state L h = valid-is p L .1 (go (reading p state) (sym h))
-  where
-    go : {d : Decoded} → Reading p (phaseIn state) (labelsIn state) d → d ≡ holds (State.waits L) → Valid p L
-    go (reads-fresh x n) e = absurd (let z : _≡_ {A = ℕ} 0 1 = cc in omega arith)
-    go (reads-waiting x v) e = subst (Valid p) (let i : labelsIn state ≡ L = cc in i) v
-    go (reads-over x n) e = absurd (let z : _≡_ {A = ℕ} 0 1 = cc in omega arith)
-    go (reads-malformed x) e = absurd (let z : _≡_ {A = ℕ} 0 1 = cc in omega arith)
+    pub as-replied : length answer ≡ answerLength → (r : Reply) → Replies sequence state e r → replied r state answer ≡ tickOf sequence state e answer
+    unfolding tickOf
+    as-replied j r h = rw (eq-eqb (length state) stateLength i, eq-eqb (length answer) answerLength j) (h .is answer)

@@ -1,8 +1,6 @@
 -- 01's starred bays (01, 'Bays to run'): bytes, and what the tick of a fresh machine shows with empty input.
 use Prim.Native.Nat.{ℕ}
 use mathlib.Core.List.{List, [], _∷_}
-use lib.ListN.{replicate}
-use Rattle.intake.specs.Records.{answerLength}
 use Rattle.intake.specs.Tick.{Outcome}
 use Rattle.intake.specs.TickRows.{labelsIn}
 use Rattle.intake.specs.Demands.{number, stateAfterwards, answerAfterwards, codeIn, kindIn, placeIn, emittedIn}

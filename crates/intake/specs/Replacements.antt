@@ -1,11 +1,10 @@
 -- The six replacements of 01's checklist, each a wrong check or tick. proofs/Replacements refutes a demand for each.
 use Prim.Native.Nat.{ℕ, zero, suc}
 use mathlib.Core.Bool.{cond}
-use mathlib.Core.List.{List, [], _∷_, _++_}
+use mathlib.Core.List.{List, _∷_, _++_}
 use lib.ListN.{take, drop, replicate}
 use lib.Dec.{eqb}
 use Rattle.esterel.specs.Machines.{State}
-use Rattle.sequence.specs.Check.{checkOf}
 use Rattle.intake.specs.Records.{answerLength, encodeState}
 use Rattle.intake.specs.Tick.{Outcome, outcome, tickOf}
 use Rattle.intake.specs.TickRows.{phaseIn}

@@ -1,33 +1,39 @@
 -- What the code's answers stand for: a state record's standing, and instants that fit the answer record.
 use Prim.Native.Nat.{ℕ, _+_, _<_}
 use mathlib.Core.Path.{_≡_}
+use mathlib.Core.Bool.{true}
 use mathlib.Core.List.{List}
-use Rattle.sequence.specs.Limits.{maxDepth, maxSignals}
 use Rattle.sequence.specs.Reader.{read}
-use Rattle.sequence.specs.Accepted.{statementOf}
+use Rattle.sequence.specs.Check.{checked}
+use Rattle.checks.specs.Known.{Known}
 use Rattle.esterel.specs.Statement.{Statement}
-use Rattle.esterel.specs.LabelTests.{pauses, rivals}
+use Rattle.esterel.specs.LabelTests.{valid}
+use Rattle.esterel.specs.Ranks.{mask}
 use Rattle.esterel.specs.Machines.{State}
 use Rattle.sets.specs.Labels.{labelSet}
-use Rattle.reaction.specs.declared.instant.Completion.{Completion}
-use Rattle.reaction.specs.declared.instant.Completion.the-variants.{Ended, Waiting, Leaving, Wrong}
-use Rattle.reaction.specs.declared.instant.Instant.{Instant}
+use Rattle.rules.specs.declared.instant.Completion.{Completion}
+use Rattle.rules.specs.declared.instant.Completion.the-variants.{Ended, Waiting, Leaving, Wrong}
+use Rattle.rules.specs.declared.instant.Instant.{Instant}
 use Rattle.intake.specs.declared.tick.Standing.{Standing}
 use Rattle.intake.specs.declared.tick.Standing.the-variants as stands
+use Rattle.intake.specs.declared.tick.Reply.{Reply}
+use Rattle.intake.specs.declared.tick.Reply.the-variants.{Refused, Reacted}
 use Rattle.esterel.specs.Sets.{none}
-use Rattle.intake.specs.Records.{Decoded, holds, malformed, stateRecord, answerRecord}
-use Rattle.intake.specs.Tick.{Outcome, outcome}
+use Rattle.intake.specs.Records.{holds, malformed, decodeState, stateRecord, answerRecord}
+use Rattle.intake.specs.Tick.{Outcome, outcome, byCheck}
+use Rattle.intake.specs.TickRows.{labelsIn}
 
-abbrev pub decodedOf : Standing → Decoded
-decodedOf stands.Fresh = holds State.fresh
-decodedOf (stands.Waiting s) = holds (State.waits (labelSet s))
-decodedOf stands.Over = holds State.over
-decodedOf stands.Malformed = malformed
+-- what the record holds for p; of a waiting machine also the ranks of its active pauses
+abbrev pub Decodes : Statement → List ℕ → Standing → Type 0
+Decodes p state stands.Fresh = decodeState p state ≡ holds State.fresh
+Decodes p state (stands.Waiting m) =
+    (decodeState p state ≡ holds (State.waits (labelsIn state))) × (valid p (labelsIn state) ≡ true) × (labelSet m ≡ mask 0 p (labelsIn state))
+Decodes p state stands.Over = decodeState p state ≡ holds State.over
+Decodes p state stands.Malformed = decodeState p state ≡ malformed
 
--- the pauses and the rows of exclusive pauses are those of p
-pub record Known (p : Statement) (paused : ℕ) (rows : ℕ → ℕ) : Type 0 where
-  pub pausing : paused ≡ pauses p
-  pub rivalling : (k : ℕ) → rows k ≡ rivals p k
+-- the same for the statement that was read
+abbrev pub DecodesRead : (t notes sequence state : List ℕ) → Standing → Type 0
+DecodesRead t notes sequence state r = (p : Statement) → Known t notes sequence p → Decodes p state r
 
 -- the code of the instant fits a byte
 abbrev pub WritableCode : Completion → Type 0
@@ -49,6 +55,17 @@ writtenBy (Wrong kind place) o L = outcome 0 (stateRecord 2 none) (answerRecord 
 abbrev pub writtenFrom : Instant → Outcome
 writtenFrom i = writtenBy (i .reaction .completion) (i .reaction .emitted) (labelSet (i .reaction .labels))
 
--- the statement that the bytes hold
-abbrev pub wholeOf : List ℕ → Statement
-wholeOf bs = statementOf (read maxDepth maxSignals 0 bs)
+-- ---- what a call comes to before anything is written
+abbrev pub WritableReply : Reply → Type 0
+WritableReply (Refused number) = Unit {0}
+WritableReply (Reacted i) = Writable i
+
+-- a refusal leaves both buffers
+abbrev pub replied : Reply → (state answer : List ℕ) → Outcome
+replied (Refused number) state answer = outcome number state answer
+replied (Reacted i) state answer = writtenFrom i
+
+-- r is what an accepted or refused sequence comes to in the state of the record, whatever the answer buffer
+pub record Replies (sequence state : List ℕ) (e : ℕ) (r : Reply) : Type 0 where
+  pub writable : WritableReply r
+  pub is : (answer : List ℕ) → replied r state answer ≡ byCheck (checked sequence) state e answer

@@ -6,15 +6,18 @@ mod tick;
 ghost use mathlib.Core.Path.{_≡_};
 ghost use Rattle.sequence.specs.Check.{checkOf};
 ghost use Rattle.intake.specs.Demands.{TickMeets};
-use crate::tick::Standing;
+use crate::tick::Reply;
+use sequence::notes::Notes;
+use sequence::reader::Seconds;
 
 // The check: 0, or the number of the row that turns the sequence down.
 #[no_mangle]
 pub extern "C" fn intake_check(sequence: &[u8]) -> u8
     ensures { λ r. ⌜ r ≡ checkOf (now (sequence .entry)) ⌝ }
 {
-    let verdict = labels::verdict::check(sequence);
-    verdict.number
+    let mut second: Seconds = [0; 1024];
+    let mut notes: Notes = [0; 68];
+    checks::verdict::check(sequence, &mut second, &mut notes)
 }
 
 // The tick: 0 after an instant, whose records are written, or the number of the row that turns the call down.
@@ -33,18 +36,8 @@ pub extern "C" fn intake_tick(
     if answer.len() != 8 {
         return 1;
     }
-    let verdict = labels::verdict::check(sequence);
-    let number = verdict.number;
-    if number != 0 {
-        return number;
-    }
-    let pauses = verdict.pauses;
-    let exclusive = verdict.rivals;
-    let standing = crate::tick::decode(state, pauses, &exclusive);
-    match standing {
-        Standing::Malformed => 11,
-        Standing::Over => 12,
-        Standing::Fresh => crate::tick::fresh(sequence, state, input, answer),
-        Standing::Waiting(labels) => crate::tick::waiting(sequence, state, input, answer, labels),
+    match crate::tick::reply_to(sequence, state, input) {
+        Reply::Refused(number) => number,
+        Reply::Reacted(instant) => crate::tick::finish(state, answer, instant),
     }
 }

@@ -1,45 +1,39 @@
-// One tick: what a state record holds, and what an instant writes.
+// One tick: what a state record holds, what a call comes to, and what an instant writes.
 ghost use mathlib.Core.Path.{_≡_};
 ghost use lib.ListN.{length};
-ghost use Rattle.esterel.specs.Statement.{Statement};
-ghost use Rattle.sets.specs.Labels.{labelSet};
-ghost use Rattle.sets.specs.Rows.{rowOf};
-ghost use Rattle.intake.specs.Records.{stateLength, answerLength, decodeState};
-ghost use Rattle.intake.specs.Tick.{outcome, written};
-ghost use Rattle.intake.specs.Standing.{decodedOf, Known, Writable, writtenFrom, wholeOf};
-ghost use mathlib.Core.Bool.{true};
-ghost use Rattle.esterel.specs.LabelTests.{valid};
-ghost use Rattle.esterel.specs.Expansion.{expand};
-ghost use Rattle.esterel.specs.Resume.{start};
-ghost use Rattle.sequence.specs.Check.{checkOf};
-use reaction::instant::Activity;
-use reaction::instant::Completion;
-use reaction::instant::Instant;
+ghost use Rattle.checks.specs.Known.{Sound};
+ghost use Rattle.intake.specs.Records.{stateLength, answerLength};
+ghost use Rattle.intake.specs.Tick.{outcome};
+ghost use Rattle.intake.specs.Standing.{DecodesRead, Replies, Writable, writtenFrom};
+use checks::activity::Validity;
+use rules::instant::Completion;
+use rules::instant::Instant;
+use sequence::notes::Notes;
+use sequence::reader::Seconds;
 use sets::labels::Labels;
-use sets::labels::Rows;
 
-// What a state record holds for an accepted sequence.
-pub enum Standing {
+// What a state record holds for an accepted sequence. A waiting machine has the ranks of its active pauses.
+enum Standing {
     Fresh,
     Waiting(Labels),
     Over,
     Malformed,
 }
 
-// The standing of a record, for a statement with these pauses and these rows of exclusive pauses.
-pub fn decode(state: &[u8], paused: Labels, exclusive: &Rows) -> Standing
-    requires { ⌜ length (now state) ≡ stateLength ⌝ }
-    ensures { λ r. ⌜ ((p : Statement) → Known p (labelSet paused) (rowOf (now (exclusive .entry))) → decodedOf r ≡ decodeState p (now (state .entry))) ⌝ }
+// The standing of a record, by what reading the sequence noted.
+fn decode(sequence: &[u8], second: &Seconds, notes: &Notes, state: &[u8]) -> Standing
+    requires { ⌜ (length (now state) ≡ stateLength) × Sound (now second) (now notes) (now sequence) ⌝ }
+    ensures { λ r. ⌜ DecodesRead (now (second .entry)) (now (notes .entry)) (now (sequence .entry)) (now (state .entry)) r ⌝ }
 {
     let phase = state[0];
-    let waiting = crate::records::labels_in(state);
+    let labels = crate::records::labels_in(state);
     if phase == 1 {
-        if labels::rules::is_valid(paused, exclusive, waiting) {
-            return Standing::Waiting(waiting);
-        }
-        return Standing::Malformed;
+        return match checks::activity::validity_of(sequence, second, notes, labels) {
+            Validity::Valid(active) => Standing::Waiting(active),
+            Validity::Invalid => Standing::Malformed,
+        };
     }
-    if sets::labels::is_empty(waiting) {
+    if sets::labels::is_empty(labels) {
         if phase == 0 {
             return Standing::Fresh;
         }
@@ -48,6 +42,38 @@ pub fn decode(state: &[u8], paused: Labels, exclusive: &Rows) -> Standing
         }
     }
     Standing::Malformed
+}
+
+// What a call comes to before anything is written: the row that turns it down, or its instant.
+pub enum Reply {
+    Refused(u8),
+    Reacted(Instant),
+}
+
+// The sequence in the state of a record: a fresh machine reacts, a waiting one resumes.
+pub fn reply_to(sequence: &[u8], state: &[u8], input: u32) -> Reply
+    requires { ⌜ length (now state) ≡ stateLength ⌝ }
+    ensures { λ r. ⌜ Replies (now (sequence .entry)) (now (state .entry)) input r ⌝ }
+{
+    let mut second: Seconds = [0; 1024];
+    let mut notes: Notes = [0; 68];
+    let number = checks::verdict::check(sequence, &mut second, &mut notes);
+    if number != 0 {
+        return Reply::Refused(number);
+    }
+    match decode(sequence, &second, &notes, state) {
+        Standing::Malformed => Reply::Refused(11),
+        Standing::Over => Reply::Refused(12),
+        Standing::Fresh => Reply::Reacted(react::react::react(sequence, 0, 64, input, &second)),
+        Standing::Waiting(active) => Reply::Reacted(resume::resume::resume(
+            sequence,
+            0,
+            64,
+            input,
+            active,
+            &second,
+        )),
+    }
 }
 
 // Writes both records of an instant.
@@ -76,33 +102,4 @@ pub fn finish(state: &mut [u8], answer: &mut [u8], i: Instant) -> u8
         }
     }
     0
-}
-
-// A fresh machine reacts with the whole sequence.
-pub fn fresh(sequence: &[u8], state: &mut [u8], input: u32, answer: &mut [u8]) -> u8
-    requires { ⌜ (checkOf (now sequence) ≡ 0) × (length (now state) ≡ stateLength) × (length (now answer) ≡ answerLength) ⌝ }
-    ensures { λ r. ⌜ outcome r (now (state .exit)) (now (answer .exit)) ≡ written (start (wholeOf (now (sequence .entry))) input) ⌝ }
-{
-    let stepped = reaction::react::react(sequence, 0, 64, 6, input);
-    let instant = stepped.instant;
-    finish(state, answer, instant)
-}
-
-// A waiting machine reacts with the expansion by its labels.
-pub fn waiting(
-    sequence: &[u8],
-    state: &mut [u8],
-    input: u32,
-    answer: &mut [u8],
-    labels: Labels,
-) -> u8
-    requires { ⌜ (checkOf (now sequence) ≡ 0) × (length (now state) ≡ stateLength) × (length (now answer) ≡ answerLength) × (valid (wholeOf (now sequence)) (labelSet labels) ≡ true) ⌝ }
-    ensures { λ r. ⌜ outcome r (now (state .exit)) (now (answer .exit)) ≡ written (start (expand (wholeOf (now (sequence .entry))) (labelSet labels)) input) ⌝ }
-{
-    let resumed = reaction::resume::resume(sequence, 0, 64, 6, input, labels);
-    let activity = resumed.activity;
-    match activity {
-        Activity::Inactive => 11,
-        Activity::Active(instant) => finish(state, answer, instant),
-    }
 }

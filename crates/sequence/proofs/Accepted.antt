@@ -11,6 +11,9 @@ use lib.Dec.{ltb}
 use Rattle.esterel.specs.Statement.{Statement}
 use Rattle.sequence.specs.Commands.{Command, commandOf, operandCount, partCount, inRange, width, declares, build}
 use Rattle.sequence.specs.Reader.{Read, accepted, refused, Front, command, bad, withOperand, withCommand, front, lastPart, firstPart, readParts, tooDeep, readCommand, read}
+use Rattle.sequence.proofs.Table.{at-most-one}
+use Rattle.sequence.proofs.Coded.{free}
+pub use Rattle.sequence.proofs.Table.{byteOf, byte-is, command-of-byte, command-at}
 
 -- the command c with operand x at the front of the bytes
 pub record Fronted (bs : List ℕ) (c : Command) (x : ℕ) : Type 0 where
@@ -38,32 +41,6 @@ never-command {ℓ} : {A : Type ℓ} {k x : ℕ} {c : Command} → bad k ≡ com
 never-command e = absurd (let z : _≡_ {A = ℕ} 0 1 = cc in omega arith)
 
 -- ---- the front
-few : (c : Command) → operandCount c ≤ 1
-few Command.nothing = omega arith
-few Command.pause = omega arith
-few Command.emit = omega arith
-few Command.exit = omega arith
-few Command.seq = omega arith
-few Command.par = omega arith
-few Command.loop = omega arith
-few Command.present = omega arith
-few Command.signal = omega arith
-few Command.try = omega arith
-few Command.setpause = omega arith
-
-free : (c : Command) (x : ℕ) → operandCount c ≡ 0 → inRange c x ≡ true
-free Command.nothing x e = refl
-free Command.pause x e = absurd (omega arith)
-free Command.emit x e = absurd (omega arith)
-free Command.exit x e = absurd (omega arith)
-free Command.seq x e = refl
-free Command.par x e = refl
-free Command.loop x e = refl
-free Command.present x e = absurd (omega arith)
-free Command.signal x e = absurd (omega arith)
-free Command.try x e = refl
-free Command.setpause x e = absurd (omega arith)
-
 module _ (b : ℕ) (c : Command) (x : ℕ) where
   by-range : (d : Command) (y : ℕ) (bs : List ℕ) (t : Bool) → commandOf b ≡ some d → inRange d y ≡ t
       → cond t (command d y) (bad 5) ≡ command c x → Fronted (b ∷ y ∷ bs) c x
@@ -72,7 +49,7 @@ module _ (b : ℕ) (c : Command) (x : ℕ) where
       let ey : y ≡ x = cc in
       record {
         byte = e ∙ ap some ed;
-        long = omega (arith, few c);
+        long = omega (arith, at-most-one c);
         operand = λ _. ey;
         ranged = sym (λ i. inRange (ed i) (ey i)) ∙ r;
       }
@@ -174,14 +151,6 @@ unfolding read
 accepts zero signals a bs p n h = not-deep (front bs) h
 accepts (suc depth) signals a bs p n h = at-front depth signals a bs p n (front bs) refl h
 
-front-long : {depth signals a n : ℕ} {bs : List ℕ} {p : Statement} → Accepts depth signals a bs p n → 0 < length bs
-front-long (Accepts.leaf c x f z) = omega (arith, f .long)
-front-long (Accepts.one c x t m f z h) = omega (arith, f .long)
-front-long (Accepts.two c x t u m k f z h g) = omega (arith, f .long)
-
-pub not-empty : (depth signals a : ℕ) (bs : List ℕ) (p : Statement) (n : ℕ) → read depth signals a bs ≡ accepted p n → 0 < length bs
-not-empty depth signals a bs p n h = front-long (accepts depth signals a bs p n h)
-
 -- ---- the count is that of bytes that are there
 within : (depth : ℕ) → ((signals a : ℕ) (bs : List ℕ) (p : Statement) (n : ℕ) → read (depth - 1) signals a bs ≡ accepted p n → n ≤ length bs)
     → (signals a : ℕ) (bs : List ℕ) (p : Statement) (n : ℕ) → Accepts depth signals a bs p n → n ≤ length bs
@@ -197,53 +166,3 @@ count-within (suc depth) signals a bs p n h =
     within (suc depth)
     (λ g b cs q m e. count-within depth g b cs q m (sym (ap (λ (d : ℕ). read d g b cs) (sub-one (suc depth))) ∙ e))
     signals a bs p n (accepts (suc depth) signals a bs p n h)
-
--- ---- the byte of a command
-abbrev pub byteOf : Command → ℕ
-byteOf Command.nothing = 0
-byteOf Command.pause = 1
-byteOf Command.emit = 2
-byteOf Command.exit = 3
-byteOf Command.seq = 4
-byteOf Command.par = 5
-byteOf Command.loop = 6
-byteOf Command.present = 7
-byteOf Command.signal = 8
-byteOf Command.try = 9
-byteOf Command.setpause = 10
-
-some-inj : {c d : Command} → some c ≡ some d → c ≡ d
-some-inj e = cc
-
-pub byte-is : (b : ℕ) (c : Command) → commandOf b ≡ some c → b ≡ byteOf c
-unfolding commandOf
-byte-is zero c e = ap byteOf (some-inj e)
-byte-is (suc zero) c e = ap byteOf (some-inj e)
-byte-is (suc (suc zero)) c e = ap byteOf (some-inj e)
-byte-is (suc (suc (suc zero))) c e = ap byteOf (some-inj e)
-byte-is (suc (suc (suc (suc zero)))) c e = ap byteOf (some-inj e)
-byte-is (suc (suc (suc (suc (suc zero))))) c e = ap byteOf (some-inj e)
-byte-is (suc (suc (suc (suc (suc (suc zero)))))) c e = ap byteOf (some-inj e)
-byte-is (suc (suc (suc (suc (suc (suc (suc zero))))))) c e = ap byteOf (some-inj e)
-byte-is (suc (suc (suc (suc (suc (suc (suc (suc zero)))))))) c e = ap byteOf (some-inj e)
-byte-is (suc (suc (suc (suc (suc (suc (suc (suc (suc zero))))))))) c e = ap byteOf (some-inj e)
-byte-is (suc (suc (suc (suc (suc (suc (suc (suc (suc (suc zero)))))))))) c e = ap byteOf (some-inj e)
-byte-is (suc (suc (suc (suc (suc (suc (suc (suc (suc (suc (suc b))))))))))) c e = absurd (let z : _≡_ {A = ℕ} 0 1 = cc in omega arith)
-
-pub command-of-byte : (c : Command) → commandOf (byteOf c) ≡ some c
-unfolding commandOf
-command-of-byte Command.nothing = refl
-command-of-byte Command.pause = refl
-command-of-byte Command.emit = refl
-command-of-byte Command.exit = refl
-command-of-byte Command.seq = refl
-command-of-byte Command.par = refl
-command-of-byte Command.loop = refl
-command-of-byte Command.present = refl
-command-of-byte Command.signal = refl
-command-of-byte Command.try = refl
-command-of-byte Command.setpause = refl
-
--- the command of a byte that is that of d is d
-pub command-at : (b : ℕ) (c d : Command) → commandOf b ≡ some c → b ≡ byteOf d → c ≡ d
-command-at b c d e z = some-inj (sym e ∙ ap commandOf z ∙ command-of-byte d)

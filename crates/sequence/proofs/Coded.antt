@@ -1,29 +1,14 @@
 -- The bytes of a command and its operand: what the front of the bytes is where a command was found.
-use mathlib.Core.Path.{_≡_, refl, ap}
+use mathlib.Core.Path.{_≡_, refl}
 use mathlib.Core.Bool.{Bool, true, false, cond}
 use mathlib.Core.Option.{Option, none, some}
 use mathlib.Core.List.{List, [], _∷_, _++_}
-use Prim.Native.Nat.{ℕ, zero, suc, _+_, _≤_}
+use Prim.Native.Nat.{ℕ, zero, suc}
 use native.Mathlib.Omega.{arith}
-use lib.ListN.{length}
 use Rattle.esterel.specs.Statement.{nothing, pause, emit, exit, seq, par, loop, present, signal, try, setpause}
-use Rattle.sequence.specs.Commands.{Command, commandOf, operandCount, inRange, width}
+use Rattle.sequence.specs.Commands.{Command, commandOf, operandCount, inRange}
 use Rattle.sequence.specs.Reader.{command, bad, withOperand, withCommand, front}
-use Rattle.sequence.proofs.Front.{at-most-one}
-use Rattle.sequence.proofs.Table.{every, above}
-
-abbrev pub byteOf : Command → ℕ
-byteOf Command.nothing = 0
-byteOf Command.pause = 1
-byteOf Command.emit = 2
-byteOf Command.exit = 3
-byteOf Command.seq = 4
-byteOf Command.par = 5
-byteOf Command.loop = 6
-byteOf Command.present = 7
-byteOf Command.signal = 8
-byteOf Command.try = 9
-byteOf Command.setpause = 10
+use Rattle.sequence.proofs.Table.{byteOf, byte-is}
 
 abbrev pub operandBytes : ℕ → ℕ → List ℕ
 operandBytes zero x = []
@@ -33,29 +18,11 @@ operandBytes (suc n) x = x ∷ []
 abbrev pub coded : Command → ℕ → List ℕ → List ℕ
 coded c x t = byteOf c ∷ operandBytes (operandCount c) x ++ t
 
-byte-is : (b : ℕ) (c : Command) → commandOf b ≡ some c → b ≡ byteOf c
-unfolding commandOf
-byte-is =
-    every (λ (b : ℕ). (c : Command) → commandOf b ≡ some c → b ≡ byteOf c)
-    (named, (named, (named, (named, (named, (named, (named, (named, (named, (named, (named, tt)))))))))))
-    (λ b h c e. absurd (let z : _≡_ {A = ℕ} 0 1 = cc (above b h) in omega arith))
-  where
-    named : {k : Command} (c : Command) → _≡_ {A = Option Command} (some k) (some c) → byteOf k ≡ byteOf c
-    named {k} c e = let q : k ≡ c = cc in ap byteOf q
-
 pub record Fronts (bs : List ℕ) (c : Command) (x : ℕ) : Type 0 where
   pub behind : List ℕ
   pub are : bs ≡ coded c x behind
   pub inside : inRange c x ≡ true
   pub bare : operandCount c ≡ 0 → x ≡ 0
-
-pub coded-length : (c : Command) (x : ℕ) (t : List ℕ) → length (coded c x t) ≡ width c + length t
-coded-length c x t = go (operandCount c) (at-most-one c)
-  where
-    go : (m : ℕ) → m ≤ 1 → suc (length (operandBytes m x ++ t)) ≡ 1 + m + length t
-    go zero l = omega arith
-    go (suc zero) l = omega arith
-    go (suc (suc m)) l = absurd (omega arith)
 
 moved : {bs : List ℕ} {c k : Command} {x y : ℕ} → command k y ≡ command c x → Fronts bs k y → Fronts bs c x
 moved {bs} {c} {k} {x} {y} e f =
@@ -64,7 +31,7 @@ moved {bs} {c} {k} {x} {y} e f =
     rw (q, z) at f
 
 -- a command without operand has no range to keep
-free : (c : Command) (x : ℕ) → operandCount c ≡ 0 → inRange c x ≡ true
+pub free : (c : Command) (x : ℕ) → operandCount c ≡ 0 → inRange c x ≡ true
 free Command.nothing x e = refl
 free Command.pause x e = absurd (omega arith)
 free Command.emit x e = absurd (omega arith)

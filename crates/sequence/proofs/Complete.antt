@@ -26,20 +26,6 @@ depth-positive (signal a s p) = omega arith
 depth-positive (try p) = omega arith
 depth-positive (setpause l) = omega arith
 
-pub size-positive : (p : Statement) → 0 < size p
-unfolding bytesOf
-size-positive nothing = omega arith
-size-positive (pause l) = omega arith
-size-positive (emit s) = omega arith
-size-positive (exit n) = omega arith
-size-positive (seq p q) = omega arith
-size-positive (par p q) = omega arith
-size-positive (loop a p) = omega arith
-size-positive (present s p q) = omega arith
-size-positive (signal a s p) = omega arith
-size-positive (try p) = omega arith
-size-positive (setpause l) = omega arith
-
 enters : (d g a : ℕ) (bs : List ℕ) (c : Command) (x : ℕ) → front bs ≡ command c x → declares c ≤ g
     → read (suc d) g a bs ≡ readParts (read d (g - declares c)) c a x (partCount c) bs
 unfolding read

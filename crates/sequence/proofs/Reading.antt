@@ -1,207 +1,320 @@
--- Laws of the reader: what is measured depends on the head of the command alone, and lies within the bytes.
-use mathlib.Core.Path.{_≡_, refl, sym, ap, ap₂, _∙_, subst}
+-- One law for each way out of the reading walk.
+use Prim.Native.Nat.{ℕ, zero, suc, _+_, _-_, _*_, _/_, _≤_, _<_}
+use mathlib.Core.Path.{_≡_, refl, sym, ap, _∙_, subst}
+use mathlib.Core.Option.{some}
 use mathlib.Core.List.{List}
-use Prim.Native.Nat.{ℕ, zero, suc, _+_, _-_, _≤_, _<_}
-use native.Mathlib.Nat.{zero-add, add-zero, add-assoc}
+use native.Mathlib.Nat.{zero-add}
 use native.Mathlib.Numerals.{sub-one}
 use native.Mathlib.Omega.{arith}
-use lib.ListN.{length, drop, length-drop, length-append}
+use lib.ListN.{length, getD, drop, set, length-drop, length-replicate}
 use lib.Seq.{drop-drop}
 use borrow.Author.Tests.{le-ltb, lt-ltb}
 use Rattle.esterel.specs.Statement.{Statement, nothing}
-use Rattle.sequence.specs.declared.reader.Head.the-variants.{Whole, Bad}
-use Rattle.sequence.specs.declared.reader.Measured.{Measured}
-use Rattle.sequence.specs.declared.reader.Measured.the-variants.{Length, Refused}
-use Rattle.sequence.specs.Commands.{Command, partCount, width, declares, build}
+use Rattle.esterel.specs.Ranks.{middle}
+use Rattle.sequence.specs.declared.reader.Reading.the-variants.{Accepted, Refused}
+use Rattle.sequence.specs.Limits.{maxBytes, maxDepth, maxSignals}
+use Rattle.sequence.specs.Commands.{Command, commandOf, partCount, width, declares, build}
 use Rattle.sequence.specs.Reader.{Read, accepted, refused, Front, command, bad, front, lastPart, firstPart, readParts, tooDeep, readCommand, read}
-use Rattle.sequence.specs.Answers.{headOf, measured, behind, bytesIn}
-use Rattle.sequence.specs.Writer.{bytesOf}
-use Rattle.sequence.proofs.Coded.{coded-length, fronts}
+use Rattle.sequence.specs.Writer.{size}
+use Rattle.sequence.specs.Layout.{rest, entry, Marked}
+use Rattle.sequence.specs.Notes.{countIn, noteCount, noNotes, note}
+use Rattle.sequence.specs.Reading.{headOf, Readable, Entered, Done, pairRead, readingOf, Reads}
+use Rattle.sequence.proofs.Table.{at-most-one}
+use Rattle.sequence.proofs.Parts.{rest-is}
+use Rattle.sequence.proofs.Refusals.{Small, Faulty, front-faulty, Rowed, rowed}
+use Rattle.sequence.proofs.Accepted.{Fronted, fronted, count-within}
 use Rattle.sequence.proofs.Sound.{sound}
+use Rattle.sequence.proofs.Noting.{noting, count-size}
+use Rattle.sequence.proofs.Marks.{entered-leaf, entered-one, entered-two}
 
--- ---- with a level left, and without
-pub read-level : (d g a : ℕ) (s : List ℕ) → (d ≡ 0 → ⊥) → read d g a s ≡ readCommand (read (d - 1)) g a s (front s)
+-- ---- what was handed on is readable
+pub onward : (a b n : ℕ) (s t m : List ℕ) → b ≡ a + n → n ≤ length s → a + length s ≤ maxBytes → countIn m ≤ b → length t ≡ maxBytes
+    → length m ≡ noteCount → Readable b (rest n s) t m
+onward a b n s t m e l fits counted long noted =
+    let k : length (rest n s) ≡ length s - n = ap length (rest-is n s) ∙ length-drop n s in
+    record { fits = omega arith; counted = counted; long = long; noted = noted }
+
+pub forward : {a : ℕ} {s t m : List ℕ} (n : ℕ) → n ≤ length s → Readable a s t m → Readable (a + n) (rest n s) t m
+forward {a} {s} {t} {m} n l r = onward a (a + n) n s t m refl l (r .fits) (omega (arith, r .counted)) (r .long) (r .noted)
+
+pub again : {a : ℕ} {s t m : List ℕ} → Readable a s t m → Readable a (rest 0 s) t m
+again {a} {s} {t} {m} r = onward a a 0 s t m (omega arith) (omega arith) (r .fits) (r .counted) (r .long) (r .noted)
+
+-- ---- the command at the front, by its head of w bytes
+done-refused : (a : ℕ) (t u m n : List ℕ) (y : Read) (k r : ℕ) → y ≡ refused k → r ≡ k * 4096 → Done a t u m n y r
+done-refused a t u m n y k r q h = rw q (h, tt)
+
+bad-reads : (d g a : ℕ) (s : List ℕ) (k : ℕ) → front s ≡ bad k → read d g a s ≡ refused k
+unfolding read
+bad-reads zero g a s k e = ap tooDeep e
+bad-reads (suc d) g a s k e = ap (readCommand (read d) g a s) e
+
+pub done-bad : (d g a : ℕ) (s t u m n : List ℕ) (w : ℕ) → w ≡ headOf (front s) → 4096 ≤ w → Done a t u m n (read d g a s) w
+done-bad d g a s t u m n w e l = go (front s) refl e
+  where
+    go : (f : Front) → front s ≡ f → w ≡ headOf f → Done a t u m n (read d g a s) w
+    go (command c x) q h = absurd (omega (arith, at-most-one c))
+    go (bad k) q h = done-refused a t u m n (read d g a s) k w (bad-reads d g a s k q) h
+
+pub record Heading (s : List ℕ) (w : ℕ) : Type 0 where
+  pub of : Command
+  pub operand : ℕ
+  pub stands : front s ≡ command of operand
+  pub wide : w ≡ width of
+
+pub heading : (s : List ℕ) (w : ℕ) → w ≡ headOf (front s) → w < 4096 → Heading s w
+heading s w e l = go (front s) refl (front-faulty s) e
+  where
+    go : (f : Front) → front s ≡ f → Faulty f → w ≡ headOf f → Heading s w
+    go (command c x) q z h = record { of = c; operand = x; stands = q; wide = h }
+    go (bad k) q z h = absurd (omega arith)
+
+pub two-parts : (c : Command) → partCount c ≤ 2
+two-parts Command.nothing = omega arith
+two-parts Command.pause = omega arith
+two-parts Command.emit = omega arith
+two-parts Command.exit = omega arith
+two-parts Command.seq = omega arith
+two-parts Command.par = omega arith
+two-parts Command.loop = omega arith
+two-parts Command.present = omega arith
+two-parts Command.signal = omega arith
+two-parts Command.try = omega arith
+two-parts Command.setpause = omega arith
+
+undeclared : (c : Command) → (partCount c ≡ 1 → ⊥) → declares c ≡ 0
+undeclared Command.nothing n = refl
+undeclared Command.pause n = refl
+undeclared Command.emit n = refl
+undeclared Command.exit n = refl
+undeclared Command.seq n = refl
+undeclared Command.par n = refl
+undeclared Command.loop n = refl
+undeclared Command.present n = refl
+undeclared Command.signal n = absurd (n refl)
+undeclared Command.try n = refl
+undeclared Command.setpause n = refl
+
+-- ---- what a command notes, by its parts
+note-one : (c : Command) (a x : ℕ) (p : Statement) (m : List ℕ) → partCount c ≡ 1 → note (build c a x p nothing) m ≡ note p m
+unfolding note
+note-one Command.nothing a x p m e = absurd (omega arith)
+note-one Command.pause a x p m e = absurd (omega arith)
+note-one Command.emit a x p m e = absurd (omega arith)
+note-one Command.exit a x p m e = absurd (omega arith)
+note-one Command.seq a x p m e = absurd (omega arith)
+note-one Command.par a x p m e = absurd (omega arith)
+note-one Command.loop a x p m e = refl
+note-one Command.present a x p m e = absurd (omega arith)
+note-one Command.signal a x p m e = refl
+note-one Command.try a x p m e = refl
+note-one Command.setpause a x p m e = absurd (omega arith)
+
+note-two : (c : Command) (a x : ℕ) (p q : Statement) (m : List ℕ) → partCount c ≡ 2 → note (build c a x p q) m ≡ note q (note p m)
+unfolding note
+note-two Command.nothing a x p q m e = absurd (omega arith)
+note-two Command.pause a x p q m e = absurd (omega arith)
+note-two Command.emit a x p q m e = absurd (omega arith)
+note-two Command.exit a x p q m e = absurd (omega arith)
+note-two Command.seq a x p q m e = refl
+note-two Command.par a x p q m e = refl
+note-two Command.loop a x p q m e = absurd (omega arith)
+note-two Command.present a x p q m e = refl
+note-two Command.signal a x p q m e = absurd (omega arith)
+note-two Command.try a x p q m e = absurd (omega arith)
+note-two Command.setpause a x p q m e = absurd (omega arith)
+
+-- a command has two parts, behind its own bytes
+same-pair : (c : Command) (a x : ℕ) (s : List ℕ) (i : ℕ → List ℕ → Read) (y : Read)
+    → firstPart (λ p m. lastPart (λ q. build c a x p q) (width c + m) (i (a + (width c + m)) (drop (width c + m) s))) y
+    ≡ firstPart (λ p m. lastPart (λ q. build c a x p q) (width c + m) (i (a + (width c + m)) (drop m (drop (width c) s)))) y
+same-pair c a x s i (accepted p m) =
+    ap (λ (bs : List ℕ). lastPart (λ q. build c a x p q) (width c + m) (i (a + (width c + m)) bs)) (sym (drop-drop m (width c) s))
+same-pair c a x s i (refused number) = refl
+
+read-level : (d g a : ℕ) (s : List ℕ) → (d ≡ 0 → ⊥) → read d g a s ≡ readCommand (read (d - 1)) g a s (front s)
 unfolding read
 read-level zero g a s ne = absurd (ne refl)
 read-level (suc d) g a s ne = ap (λ (k : ℕ). readCommand (read k) g a s (front s)) (sym (sub-one (suc d)))
 
--- ---- the answers, in the order in which the code finds them
-pub bad-front : (d g a : ℕ) (s : List ℕ) (e : ℕ) → headOf (front s) ≡ Bad e → Refused e ≡ measured (read d g a s)
-unfolding read
-bad-front zero g a s e h = go (front s) h
-  where
-    go : (f : Front) → headOf f ≡ Bad e → Refused e ≡ measured (tooDeep f)
-    go (bad r) h = cc
-    go (command c x) h = absurd (let z : _≡_ {A = ℕ} 0 1 = cc in omega arith)
-bad-front (suc d) g a s e h = go (front s) h
-  where
-    go : (f : Front) → headOf f ≡ Bad e → Refused e ≡ measured (readCommand (read d) g a s f)
-    go (bad r) h = cc
-    go (command c x) h = absurd (let z : _≡_ {A = ℕ} 0 1 = cc in omega arith)
+module _ {s : List ℕ} {w : ℕ} (h : Heading s w) where
+  at-front : Fronted s (h .of) (h .operand)
+  at-front = fronted s (h .of) (h .operand) (h .stands)
 
--- ---- what is measured of the parts
-abbrev pub afterFirst : (ℕ → Measured) → Measured → Measured
-afterFirst next (Length m) = next m
-afterFirst next (Refused number) = Refused number
+  pub byte : commandOf (getD s 0 0) ≡ some (h .of)
+  byte = at-front .byte
 
--- the n parts of a command of w bytes, by a reader r of parts
-abbrev pub measureParts : (ℕ → List ℕ → Read) → (a : ℕ) → List ℕ → (w n : ℕ) → Measured
-measureParts r a s w zero = Length w
-measureParts r a s w (suc zero) = behind w (measured (r (a + w) (drop w s)))
-measureParts r a s w (suc (suc n)) = afterFirst (λ m. behind (w + m) (measured (r (a + (w + m)) (drop (w + m) s)))) (measured (r (a + w) (drop w s)))
+  pub head-fits : (1 ≤ w) × (w ≤ length s)
+  head-fits = (omega (arith, h .wide), omega (arith, at-front .long, h .wide))
 
-last-measured : (f : Statement → Statement) (w : ℕ) (y : Read) → measured (lastPart f w y) ≡ behind w (measured y)
-last-measured f w (accepted q m) = refl
-last-measured f w (refused r) = refl
-
-first-measured : (f : Statement → Statement → Statement) (w : ℕ) (z : ℕ → Read) (y : Read)
-    → measured (firstPart (λ p m. lastPart (f p) (w + m) (z m)) y) ≡ afterFirst (λ m. behind (w + m) (measured (z m))) (measured y)
-first-measured f w z (accepted p m) = last-measured (f p) (w + m) (z m)
-first-measured f w z (refused r) = refl
-
-measured-parts : (r : ℕ → List ℕ → Read) (c : Command) (a x n : ℕ) (s : List ℕ)
-    → measured (readParts r c a x n s) ≡ measureParts r a s (width c) n
-measured-parts r c a x zero s = refl
-measured-parts r c a x (suc zero) s = last-measured (λ p. build c a x p nothing) (width c) (r (a + width c) (drop (width c) s))
-measured-parts r c a x (suc (suc n)) s =
-    first-measured (build c a x) (width c) (λ m. r (a + (width c + m)) (drop (width c + m) s)) (r (a + width c) (drop (width c) s))
-
--- ---- what was measured lies within the bytes
-pub measured-fits : (d g a : ℕ) (s : List ℕ) → bytesIn (measured (read d g a s)) ≤ length s
-measured-fits d g a s = go (read d g a s) refl
-  where
-    go : (y : Read) → read d g a s ≡ y → bytesIn (measured y) ≤ length s
-    go (accepted p n) e =
-        let w = sound d g a s p n e in
-        omega (arith, w .count, ap length (w .bytes) ∙ length-append (bytesOf p) (w .rest))
-    go (refused r) e = omega arith
-
-module _ (s : List ℕ) (w n k : ℕ) (h : headOf (front s) ≡ Whole w n k) where
-  pub no-level : (d g a : ℕ) → d ≡ 0 → Refused 6 ≡ measured (read d g a s)
+  pub done-deep : (d g a : ℕ) (t u m n : List ℕ) → d ≡ 0 → Done a t u m n (read d g a s) (6 * 4096)
   unfolding read
-  no-level zero g a e = go (front s) h
+  done-deep zero g a t u m n e = done-refused a t u m n _ 6 _ (ap tooDeep (h .stands)) refl
+  done-deep (suc d) g a t u m n e = absurd (omega arith)
+
+  module _ (d g a : ℕ) (level : d ≡ 0 → ⊥) where
+    pub done-signals : (t u m n : List ℕ) (k : ℕ) → k ≡ declares (h .of) → g < k → Done a t u m n (read d g a s) (6 * 4096)
+    done-signals t u m n k e l =
+        done-refused a t u m n (read d g a s) 6 _
+        (read-level d g a s level ∙ ap (readCommand (read (d - 1)) g a s) (h .stands) ∙ rw (lt-ltb g (declares (h .of)) (omega arith)))
+        refl
+
+    parts-are : (k : ℕ) → k ≡ declares (h .of) → k ≤ g
+        → read d g a s ≡ readParts (read (d - 1) (g - k)) (h .of) a (h .operand) (partCount (h .of)) s
+    parts-are k e l =
+        read-level d g a s level
+        ∙ ap (readCommand (read (d - 1)) g a s) (h .stands)
+        ∙ rw (le-ltb g (declares (h .of)) (omega arith), e)
+
+    -- a command other than signal
+    plain-are : (partCount (h .of) ≡ 1 → ⊥) → read d g a s ≡ readParts (read (d - 1) g) (h .of) a (h .operand) (partCount (h .of)) s
+    plain-are n =
+        let k : g - 0 ≡ g = omega arith in
+        parts-are 0 (sym (undeclared (h .of) n)) (omega arith) ∙ rw k
+
+    pub done-leaf : (t m n : List ℕ) → partCount (h .of) ≡ 0 → n ≡ note (build (h .of) a (h .operand) nothing nothing) m
+        → Done a t t m n (read d g a s) (a + w)
+    done-leaf t m n z e =
+        let y : read d g a s ≡ accepted (build (h .of) a (h .operand) nothing nothing) (width (h .of)) = plain-are (λ o. omega arith) ∙ rw z in
+        rw y (ap (λ (i : ℕ). a + i) (h .wide), (entered-leaf t (countIn m) a (h .operand) (h .of) z, e))
+
+    -- the part, of the bytes l
+    pub done-one : (k : ℕ) → k ≡ declares (h .of) → k ≤ g → partCount (h .of) ≡ 1 → (l : List ℕ) → l ≡ drop w s → (t u m n : List ℕ) (r : ℕ)
+        → Done (a + w) t u m n (read (d - 1) (g - k) (a + w) l) r → Done a t u m n (read d g a s) r
+    done-one k e le z l here t u m n r i =
+        let c = h .of in
+        let part = read (d - 1) (g - k) (a + width c) (drop (width c) s) in
+        let y : read d g a s ≡ lastPart (λ p. build c a (h .operand) p nothing) (width c) part = parts-are k e le ∙ rw z in
+        rw y (go part (rw (here, h .wide) at i))
+      where
+        go : (y : Read) → Done (a + width (h .of)) t u m n y r → Done a t u m n (lastPart (λ p. build (h .of) a (h .operand) p nothing) (width (h .of)) y) r
+        go (accepted p j) i =
+            (omega (arith, i .0), (entered-one t u (countIn m) a (h .operand) (h .of) p j z (i .1 .0), i .1 .1 ∙ sym (note-one (h .of) a (h .operand) p m z)))
+        go (refused j) i = i
+
+    pub done-pair : partCount (h .of) ≡ 2 → (l : List ℕ) → l ≡ drop w s → (t u m n : List ℕ) (r : ℕ)
+        → ((c : Command) (x : ℕ) → partCount c ≡ 2 → w ≡ width c → Done a t u m n (pairRead (read (d - 1) g) c a x l) r)
+        → Done a t u m n (read d g a s) r
+    done-pair z l here t u m n r i =
+        let c = h .of in
+        let there : l ≡ drop (width c) s = here ∙ ap (λ (i : ℕ). drop i s) (h .wide) in
+        let y : read d g a s ≡ pairRead (read (d - 1) g) c a (h .operand) (drop (width c) s)
+        = plain-are (λ o. omega arith) ∙ rw z (same-pair c a (h .operand) s (read (d - 1) g) (read (d - 1) g (a + width c) (drop (width c) s))) in
+        rw (y, ← there) (i c (h .operand) z (h .wide))
+
+-- ---- the two parts of a command of w bytes; s is behind the command, and the first part stands at offset b
+pub record Firsts (d g b : ℕ) (s t u m n : List ℕ) (r : ℕ) : Type 0 where
+  pub part : Statement
+  pub count : ℕ
+  pub reads : read d g b s ≡ accepted part count
+  pub place : r ≡ b + count
+  pub within : count ≤ length s
+  pub sized : count ≡ size part
+  pub entered : Entered t u (countIn m) b count part
+  pub notes : n ≡ note part m
+  pub counted : countIn n ≡ middle (countIn m) part
+  pub few : countIn n ≤ r
+  pub noted : length n ≡ noteCount
+
+module _ (d g b : ℕ) (s t u m n : List ℕ) (r : ℕ) (can : Readable b s t m) (h : Done b t u m n (read d g b s) r) where
+  pub firsts : r < 4096 → Firsts d g b s t u m n r
+  firsts small = go (read d g b s) refl (rowed d g b s) h
     where
-      go : (f : Front) → headOf f ≡ Whole w n k → Refused 6 ≡ measured (tooDeep f)
-      go (bad r) h = absurd (let z : _≡_ {A = ℕ} 0 1 = cc in omega arith)
-      go (command c x) h = refl
-  no-level (suc d) g a e = absurd (omega arith)
+      go : (y : Read) → read d g b s ≡ y → Rowed (read d g b s) → Done b t u m n y r → Firsts d g b s t u m n r
+      go (accepted p k) q z i =
+          let w = sound d g b s p k q in
+          let a = noting p m (can .noted) (w .within .ranged) in
+          let c : countIn n ≡ middle (countIn m) p = ap countIn (i .1 .1) ∙ a .counted in
+          record {
+            part = p;
+            count = k;
+            reads = q;
+            place = i .0;
+            within = count-within d g b s p k q;
+            sized = w .count;
+            entered = i .1 .0;
+            notes = i .1 .1;
+            counted = c;
+            few = omega (arith, count-size p, w .count, can .counted, i .0);
+            noted = ap length (i .1 .1) ∙ a .long ∙ can .noted;
+          }
+      go (refused k) q z i = let o : Small k = rw q at z in absurd (omega (arith, i .0))
 
-  pub no-signal : (d g a : ℕ) → (d ≡ 0 → ⊥) → g < k → Refused 6 ≡ measured (read d g a s)
-  no-signal d g a ne l = rw (read-level d g a s ne) (go (front s) h)
+  pub first-refused : (a x : ℕ) (c : Command) → b ≡ a + width c → 4096 ≤ r → Done a t u m n (pairRead (read d g) c a x s) r
+  first-refused a x c e large = go (read d g b s) refl h
     where
-      go : (f : Front) → headOf f ≡ Whole w n k → Refused 6 ≡ measured (readCommand (read (d - 1)) g a s f)
-      go (bad r) h = absurd (let z : _≡_ {A = ℕ} 0 1 = cc in omega arith)
-      go (command c x) h = let e : k ≡ declares c = cc in rw (lt-ltb g (declares c) (omega arith))
+      go : (y : Read) → read d g b s ≡ y → Done b t u m n y r → Done a t u m n (pairRead (read d g) c a x s) r
+      go (accepted p k) q i = absurd (omega (arith, count-within d g b s p k q, i .0, can .fits))
+      go (refused k) q i =
+          let q' : read d g (a + width c) s ≡ refused k = rw e at q in
+          done-refused a t u m n (pairRead (read d g) c a x s) k r (rw q') (i .0)
 
-  -- the command lies within the bytes
-  front-fits : w ≤ length s
-  front-fits = go (front s) refl h
+  -- the entry o is written at offset a, and the second part, of the bytes l, is read
+  pub both : (a x : ℕ) (c : Command) → b ≡ a + width c → partCount c ≡ 2 → Firsts d g b s t u m n r → a < length u → (o : ℕ) → o ≡ entry r (countIn n)
+      → (l : List ℕ) → l ≡ drop (r - b) s → (v j : List ℕ) (r₂ : ℕ) → Done r (set u a o) v n j (read d g r l) r₂
+      → Done a t v m j (pairRead (read d g) c a x s) r₂
+  both a x c e two f inside o w l here v j r₂ i =
+      let k = f .count in
+      let q : read d g (a + width c) s ≡ accepted (f .part) k = rw e at (f .reads) in
+      let place : r ≡ a + (width c + k) = omega (arith, f .place) in
+      let gone : r - b ≡ k = omega (arith, f .place) in
+      let same : read d g r l ≡ read d g (a + (width c + k)) (drop k s) = rw (here, gone, place) in
+      let fore : Entered t u (countIn m) (a + width c) k (f .part) = rw e at (f .entered) in
+      let noted : o ≡ entry r (middle (countIn m) (f .part)) = w ∙ ap (entry r) (f .counted) in
+      rw q (go fore place noted (read d g (a + (width c + k)) (drop k s)) (rw same at i))
     where
-      go : (f : Front) → front s ≡ f → headOf f ≡ Whole w n k → w ≤ length s
-      go (bad r) q h = absurd (let z : _≡_ {A = ℕ} 0 1 = cc in omega arith)
-      go (command c x) q h =
-          let f = fronts s c x q in
-          let e : w ≡ width c = cc in
-          omega (arith, ap length (f .are) ∙ coded-length c x (f .behind))
+      go : Entered t u (countIn m) (a + width c) (f .count) (f .part) → r ≡ a + (width c + f .count) → o ≡ entry r (middle (countIn m) (f .part)) → (y : Read)
+          → Done r (set u a o) v n j y r₂ → Done a t v m j (lastPart (λ q. build c a x (f .part) q) (width c + f .count) y) r₂
+      go fore place noted (accepted p k) i =
+          let back : Entered (set u a o) v (middle (countIn m) (f .part)) r k p = rw (f .counted) at (i .1 .0) in (
+            omega (arith, i .0),
+            (
+              entered-two t u v (countIn m) a x r o c (f .part) p (f .count) k two (f .sized) place noted inside fore back,
+              i .1 .1 ∙ ap (note p) (f .notes) ∙ sym (note-two c a x (f .part) p m two),
+            ),
+          )
+      go fore place noted (refused k) i = i
 
-  -- the parts are read with a level less
-  parts-are : (d g a : ℕ) → (d ≡ 0 → ⊥) → k ≤ g → measured (read d g a s) ≡ measureParts (read (d - 1) (g - k)) a s w n
-  parts-are d g a ne l = rw (read-level d g a s ne) (go (front s) h)
+-- ---- a whole sequence
+pub beginning : (s t m : List ℕ) → length s ≤ maxBytes → length t ≡ maxBytes → m ≡ noNotes → Readable 0 (rest 0 s) t m
+beginning s t m l long e =
+    let c : countIn m ≡ 0 = rw e in
+    let k : length m ≡ noteCount = ap length e ∙ length-replicate {A = ℕ} noteCount 0 in
+    onward 0 0 0 s t m refl (omega arith) (omega arith) (omega arith) long k
+
+module _ (s t u m n : List ℕ) (r : ℕ) (short : length s ≤ maxBytes) (long : length t ≡ maxBytes) (none : m ≡ noNotes)
+    (h : Done 0 t u m n (read maxDepth maxSignals 0 s) r) where
+  -- the row of a refusal
+  pub row : 4096 ≤ r → (k : ℕ) × ((read maxDepth maxSignals 0 s ≡ refused k) × (r ≡ k * 4096) × (k ≤ 6))
+  row large = go (read maxDepth maxSignals 0 s) refl (rowed maxDepth maxSignals 0 s) h
     where
-      go : (f : Front) → headOf f ≡ Whole w n k
-          → measured (readCommand (read (d - 1)) g a s f) ≡ measureParts (read (d - 1) (g - k)) a s w n
-      go (bad r) h = absurd (let z : _≡_ {A = ℕ} 0 1 = cc in omega arith)
-      go (command c x) h =
-          let i : w ≡ width c = cc in
-          let j : n ≡ partCount c = cc in
-          let e : k ≡ declares c = cc in
-          rw (i, j, e, le-ltb g (declares c) (omega arith)) (measured-parts (read (d - 1) (g - declares c)) c a x (partCount c) s)
+      go : (y : Read) → read maxDepth maxSignals 0 s ≡ y → Rowed (read maxDepth maxSignals 0 s) → Done 0 t u m n y r
+          → (k : ℕ) × ((read maxDepth maxSignals 0 s ≡ refused k) × (r ≡ k * 4096) × (k ≤ 6))
+      go (accepted p k) q z i = absurd (omega (arith, count-within maxDepth maxSignals 0 s p k q, i .0))
+      go (refused k) q z i = let o : Small k = rw q at z in (k, (q, i .0, o .1))
 
--- ---- one law for each way out of the loop
--- the loop stands at n bytes of s, with d levels and g signals still allowed: what is there decides what s is
-pub record Reading (depth signals : ℕ) (s : List ℕ) (n d g : ℕ) : Type 0 where
-  pub within : n ≤ length s
-  pub levels : d ≤ depth
-  pub decides : (a : ℕ) → measured (read depth signals a s) ≡ behind n (measured (read d g (a + n) (drop n s)))
+  pub reads-refused : 4096 ≤ r → Reads s u n (Refused (r / 4096))
+  reads-refused large =
+      let k = row large in
+      let e : r / 4096 ≡ k .0 = omega (arith, k .1 .1) in
+      record { answer = ap Refused e ∙ ap readingOf (sym (k .1 .0)); marked = λ p j q. never q; long = λ p j q. never q }
+    where
+      never : {A : Type 0} {p : Statement} {j : ℕ} → read maxDepth maxSignals 0 s ≡ accepted p j → A
+      never q = absurd (let z : _≡_ {A = ℕ} 0 1 = cc (row large .1 .0) in omega arith)
 
-behind-none : (y : Measured) → behind 0 y ≡ y
-behind-none (Length m) = ap Length (zero-add m)
-behind-none (Refused number) = refl
+  pub reads-accepted : r < 4096 → Reads s u n (Accepted r)
+  reads-accepted small = go (read maxDepth maxSignals 0 s) refl (rowed maxDepth maxSignals 0 s) h
+    where
+      at : {p q : Statement} {j k : ℕ} (P : Statement → Type 0) → accepted p j ≡ accepted q k → P p → P q
+      at {p} {q} P e x = let f : p ≡ q = cc in subst P f x
 
-behind-behind : (n w : ℕ) (y : Measured) → behind n (behind w y) ≡ behind (n + w) y
-behind-behind n w (Length m) = ap Length (sym (add-assoc n w m))
-behind-behind n w (Refused number) = refl
-
-pub begin : (depth signals : ℕ) (s : List ℕ) → Reading depth signals s 0 depth signals
-begin depth signals s =
-    record {
-      within = omega arith;
-      levels = omega arith;
-      decides = λ a. sym (behind-none (measured (read depth signals (a + 0) s)) ∙ ap (λ (b : ℕ). measured (read depth signals b s)) (add-zero a));
-    }
-
--- the loop at a command of w bytes with c parts and k signals, which is neither too deep nor a signal too many
-pub record Begun (depth signals : ℕ) (s : List ℕ) (n d g w c k : ℕ) : Type 0 where
-  pub reading : Reading depth signals s n d g
-  pub head : headOf (front (drop n s)) ≡ Whole w c k
-  pub level : d ≡ 0 → ⊥
-  pub allowed : k ≤ g
-
-module _ {depth signals : ℕ} {s : List ℕ} {n d g : ℕ} (r : Reading depth signals s n d g) where
-  -- a fault there is the fault of s
-  pub fault : (e a : ℕ) → ((b : ℕ) → Refused e ≡ measured (read d g b (drop n s))) → Refused e ≡ measured (read depth signals a s)
-  fault e a h = sym (r .decides a ∙ ap (behind n) (sym (h (a + n))))
-
-module _ {depth signals : ℕ} {s : List ℕ} {n d g w c k : ℕ} (b : Begun depth signals s n d g w c k) where
-  pub command-fits : n + w ≤ length s
-  command-fits = omega (arith, front-fits (drop n s) w c k (b .head), length-drop n s, b .reading .within)
-
-  measures : (a : ℕ) → measured (read d g a (drop n s)) ≡ measureParts (read (d - 1) (g - k)) a (drop n s) w c
-  measures a = parts-are (drop n s) w c k (b .head) d g a (b .level) (b .allowed)
-
-  pub no-part : (a : ℕ) → c ≡ 0 → Length (n + w) ≡ measured (read depth signals a s)
-  no-part a z =
-      let e : measured (read d g (a + n) (drop n s)) ≡ Length w = measures (a + n) ∙ rw z in sym (b .reading .decides a ∙ ap (behind n) e)
-
-  -- the loop goes on behind m bytes of the command
-  on : (m : ℕ) → n + m ≤ length s
-      → ((a : ℕ) → measured (read d g a (drop n s)) ≡ behind m (measured (read (d - 1) (g - k) (a + m) (drop m (drop n s)))))
-      → Reading depth signals s (n + m) (d - 1) (g - k)
-  on m le h =
-      record {
-        within = le;
-        levels = omega (arith, b .reading .levels);
-        decides =
-            λ a.
-            b .reading .decides a
-            ∙ ap (behind n) (h (a + n))
-            ∙ behind-behind n m (measured (read (d - 1) (g - k) (a + n + m) (drop m (drop n s))))
-            ∙ ap₂ (λ (x : ℕ) (t : List ℕ). behind (n + m) (measured (read (d - 1) (g - k) x t))) (add-assoc a n m) (drop-drop m n s);
-      }
-
-  pub one-part : c ≡ 1 → Reading depth signals s (n + w) (d - 1) (g - k)
-  one-part z = on w command-fits (λ a. measures a ∙ rw z)
-
-  -- the first of two parts, measured as y
-  module _ {t : List ℕ} {y : Measured} (here : t ≡ drop (n + w) s) (reads : (a : ℕ) → y ≡ measured (read (d - 1) (g - k) a t))
-      (more : c ≡ 0 → ⊥) (two : c ≡ 1 → ⊥) where
-    two-are : (a : ℕ) → measured (read d g a (drop n s)) ≡ afterFirst (λ m. behind (w + m) (measured (read (d - 1) (g - k) (a + (w + m)) (drop (w + m) (drop n s))))) y
-    two-are a =
-        let e : c ≡ suc (suc (c - 2)) = omega arith in
-        let p : measured (read (d - 1) (g - k) (a + w) (drop w (drop n s))) ≡ y
-        = ap (λ (u : List ℕ). measured (read (d - 1) (g - k) (a + w) u)) (drop-drop w n s ∙ sym here) ∙ sym (reads (a + w)) in
-        measures a ∙ rw e (ap (afterFirst _) p)
-
-    pub two-refused : (e a : ℕ) → y ≡ Refused e → Refused e ≡ measured (read depth signals a s)
-    two-refused e a q = fault (b .reading) e a (λ x. sym (two-are x ∙ rw q))
-
-    pub first-fits : (m : ℕ) → y ≡ Length m → n + w + m ≤ length s
-    first-fits m q =
-        let f : bytesIn y ≤ length t = rw (reads 0) (measured-fits (d - 1) (g - k) 0 t) in
-        let l : m ≤ length t = rw q at f in
-        omega (arith, command-fits, l, ap length here ∙ length-drop (n + w) s)
-
-    pub two-parts : (m : ℕ) → y ≡ Length m → Reading depth signals s (n + w + m) (d - 1) (g - k)
-    two-parts m q =
-        subst (λ (x : ℕ). Reading depth signals s x (d - 1) (g - k)) (sym (add-assoc n w m))
-        (on (w + m) (omega (arith, first-fits m q)) (λ a. two-are a ∙ rw q))
+      go : (y : Read) → read maxDepth maxSignals 0 s ≡ y → Rowed (read maxDepth maxSignals 0 s) → Done 0 t u m n y r → Reads s u n (Accepted r)
+      go (refused k) q z i = let o : Small k = rw q at z in absurd (omega (arith, i .0))
+      go (accepted p k) q z i =
+          let f : Entered t u 0 0 k p = rw none at (i .1 .0) in
+          let g : n ≡ note p noNotes = rw none at (i .1 .1) in
+          record {
+            answer = ap Accepted (i .0 ∙ zero-add k) ∙ ap readingOf (sym q);
+            marked = λ p' j e. at (λ (p : Statement). Marked u 0 0 p × (n ≡ note p noNotes)) (sym q ∙ e) (f .marked, g);
+            long = λ p' j e. f .long ∙ long;
+          }

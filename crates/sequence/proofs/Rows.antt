@@ -20,7 +20,7 @@ use Rattle.sequence.specs.Reader.{Read, accepted, refused, Front, comman
 use Rattle.sequence.specs.Check.{Checked, sound, bad, labelRules, afterRead, checked, numberOf, checkOf}
 use Rattle.sequence.specs.Rows.{Slot, slot, Position, at, Fault, unknown, no-statement, no-operand, out-of-range, too-deep, too-many-signals, enter, next, walk, Spells, Row, row-2, row-3-to-6, row-7, row-8, row-9, row-10, ByRows}
 use Rattle.sequence.proofs.Walk.{faultOf, fault-is, Faulty, Comes, comes}
-use Rattle.sequence.proofs.Reading.{measured-fits}
+use Rattle.sequence.proofs.Accepted.{count-within}
 use Rattle.sequence.proofs.Writer.{reads-what-is-written}
 use Rattle.sequence.proofs.ByRows.{refused-by, accepted-by}
 
@@ -245,8 +245,7 @@ module _ (bs : List ℕ) where
       go : (b : Bool) → ltb m (length bs) ≡ b → Decides (cond b (bad 7) (labelRules p))
       go true i = given-7 z (x .0) (0 + m) (x .1) (omega (arith, ltb-true m (length bs) i))
       go false i =
-          let f = rw e at (measured-fits maxDepth maxSignals 0 bs) in
-          exact (omega (arith, ltb-false m (length bs) i, f))
+          exact (omega (arith, ltb-false m (length bs) i, count-within maxDepth maxSignals 0 bs p m e))
 
   pub decided : Decides (checked bs)
   unfolding checked walk

@@ -1,12 +1,10 @@
--- Laws of the table of commands: a rule on bytes is shown for the eleven commands and for the bytes above.
-use mathlib.Core.Path.{_≡_, refl, sym, ap}
-use mathlib.Core.Bool.{true}
-use mathlib.Core.Option.{Option, none}
+-- Laws of the table of commands: the byte of a command, and a rule on bytes shown for the bytes of the table.
+use mathlib.Core.Path.{_≡_, refl, sym, ap, _∙_}
+use mathlib.Core.Option.{none, some}
 use Prim.Native.Nat.{ℕ, zero, suc, _+_, _-_, _≤_, _<_}
 use native.Mathlib.Decide.{decLt}
 use native.Mathlib.Omega.{arith}
-use Rattle.sequence.specs.Commands.{Command, commandOf}
-use Rattle.sequence.specs.Answers.{allowed, declaredBy}
+use Rattle.sequence.specs.Commands.{Command, commandOf, operandCount}
 
 -- P holds of the n numbers from k on
 abbrev pub All : (ℕ → Type 0) → (k n : ℕ) → Type 0
@@ -28,58 +26,90 @@ above b h = go (b - 11) (omega arith)
     go : (n : ℕ) → b ≡ suc (suc (suc (suc (suc (suc (suc (suc (suc (suc (suc n)))))))))) → commandOf b ≡ none
     go n e = rw e
 
-pub every : (P : ℕ → Type 0) → All P 0 11 → ((b : ℕ) → 10 < b → P b) → (b : ℕ) → P b
-every P a f b = go (decLt 10 b)
-  where
-    go : Dec (10 < b) → P b
-    go (yes p) = f b p
-    go (no n) = between P 0 11 a b (omega arith) (omega (arith, n))
-
--- a command other than signal declares nothing
-pub undeclared : (b : ℕ) → (b ≡ 8 → ⊥) → 0 ≡ declaredBy (commandOf b)
+-- ---- the command of a byte
+-- a byte up to 0A names a command
+pub named : (b : ℕ) → b ≤ 10 → (c : Command) × (commandOf b ≡ some c)
 unfolding commandOf
-undeclared =
-    every (λ (b : ℕ). (b ≡ 8 → ⊥) → 0 ≡ declaredBy (commandOf b))
-    (free, (free, (free, (free, (free, (free, (free, (free, ((λ n. absurd (n refl)), (free, (free, tt)))))))))))
-    (λ b h n. ap declaredBy (sym (above b h)))
-  where
-    free : {A : Type 0} → A → _≡_ {A = ℕ} 0 0
-    free n = refl
+named zero l = (Command.nothing, refl)
+named (suc zero) l = (Command.pause, refl)
+named (suc (suc zero)) l = (Command.emit, refl)
+named (suc (suc (suc zero))) l = (Command.exit, refl)
+named (suc (suc (suc (suc zero)))) l = (Command.seq, refl)
+named (suc (suc (suc (suc (suc zero))))) l = (Command.par, refl)
+named (suc (suc (suc (suc (suc (suc zero)))))) l = (Command.loop, refl)
+named (suc (suc (suc (suc (suc (suc (suc zero))))))) l = (Command.present, refl)
+named (suc (suc (suc (suc (suc (suc (suc (suc zero)))))))) l = (Command.signal, refl)
+named (suc (suc (suc (suc (suc (suc (suc (suc (suc zero))))))))) l = (Command.try, refl)
+named (suc (suc (suc (suc (suc (suc (suc (suc (suc (suc zero)))))))))) l = (Command.setpause, refl)
+named (suc (suc (suc (suc (suc (suc (suc (suc (suc (suc (suc b))))))))))) l = absurd (omega arith)
 
--- a command without operand sets no range
-pub unranged : (x b : ℕ) → (b ≡ 1 → ⊥) → (b ≡ 2 → ⊥) → (b ≡ 3 → ⊥) → (b ≡ 7 → ⊥) → (b ≡ 8 → ⊥) → (b ≡ 10 → ⊥)
-    → true ≡ allowed (commandOf b) x
+abbrev pub byteOf : Command → ℕ
+byteOf Command.nothing = 0
+byteOf Command.pause = 1
+byteOf Command.emit = 2
+byteOf Command.exit = 3
+byteOf Command.seq = 4
+byteOf Command.par = 5
+byteOf Command.loop = 6
+byteOf Command.present = 7
+byteOf Command.signal = 8
+byteOf Command.try = 9
+byteOf Command.setpause = 10
+
+pub command-of-byte : (c : Command) → commandOf (byteOf c) ≡ some c
 unfolding commandOf
-unranged x =
-    every (λ (b : ℕ). (b ≡ 1 → ⊥) → (b ≡ 2 → ⊥) → (b ≡ 3 → ⊥) → (b ≡ 7 → ⊥) → (b ≡ 8 → ⊥) → (b ≡ 10 → ⊥) → true ≡ allowed (commandOf b) x) (
-      (λ n1 n2 n3 n7 n8 n10. refl),
-      (
-        (λ n1 n2 n3 n7 n8 n10. absurd (n1 refl)),
-        (
-          (λ n1 n2 n3 n7 n8 n10. absurd (n2 refl)),
-          (
-            (λ n1 n2 n3 n7 n8 n10. absurd (n3 refl)),
-            (
-              (λ n1 n2 n3 n7 n8 n10. refl),
-              (
-                (λ n1 n2 n3 n7 n8 n10. refl),
-                (
-                  (λ n1 n2 n3 n7 n8 n10. refl),
-                  (
-                    (λ n1 n2 n3 n7 n8 n10. absurd (n7 refl)),
-                    (
-                      (λ n1 n2 n3 n7 n8 n10. absurd (n8 refl)),
-                      (
-                        (λ n1 n2 n3 n7 n8 n10. refl),
-                        ((λ n1 n2 n3 n7 n8 n10. absurd (n10 refl)), tt),
-                      ),
-                    ),
-                  ),
-                ),
-              ),
-            ),
-          ),
-        ),
-      ),
-    )
-    (λ b h n1 n2 n3 n7 n8 n10. ap (λ (o : Option Command). allowed o x) (sym (above b h)))
+command-of-byte Command.nothing = refl
+command-of-byte Command.pause = refl
+command-of-byte Command.emit = refl
+command-of-byte Command.exit = refl
+command-of-byte Command.seq = refl
+command-of-byte Command.par = refl
+command-of-byte Command.loop = refl
+command-of-byte Command.present = refl
+command-of-byte Command.signal = refl
+command-of-byte Command.try = refl
+command-of-byte Command.setpause = refl
+
+-- f at the command that a byte names
+pub valued : (f : Command → ℕ) {k : Command} (c : Command) → some k ≡ some c → f k ≡ f c
+valued f {k} c e = let q : k ≡ c = cc in ap f q
+
+pub last-byte : (b : ℕ) (c : Command) → commandOf b ≡ some c → b ≤ 10
+last-byte b c e = go (decLt 10 b)
+  where
+    go : Dec (10 < b) → b ≤ 10
+    go (yes p) = absurd (let z : _≡_ {A = ℕ} 0 1 = cc (above b p) in omega arith)
+    go (no n) = omega (arith, n)
+
+-- a rule on bytes and their commands, shown for the n bytes from k on
+pub by-bytes : (P : ℕ → Command → Type 0) (k n : ℕ) → All (λ b. (c : Command) → commandOf b ≡ some c → P b c) k n
+    → (b : ℕ) (c : Command) → commandOf b ≡ some c → k ≤ b → b < k + n → P b c
+by-bytes P k n a b c e l h = between (λ (b : ℕ). (c : Command) → commandOf b ≡ some c → P b c) k n a b l h c e
+
+pub byte-is : (b : ℕ) (c : Command) → commandOf b ≡ some c → b ≡ byteOf c
+unfolding commandOf
+byte-is b c e =
+    by-bytes (λ (b : ℕ) (c : Command). b ≡ byteOf c) 0 11
+    (is, (is, (is, (is, (is, (is, (is, (is, (is, (is, (is, tt)))))))))))
+    b c e (omega arith) (omega (arith, last-byte b c e))
+  where
+    is : {k : Command} (c : Command) → some k ≡ some c → byteOf k ≡ byteOf c
+    is c e = valued byteOf c e
+
+-- the command of a byte that is that of d is d
+pub command-at : (b : ℕ) (c d : Command) → commandOf b ≡ some c → b ≡ byteOf d → c ≡ d
+command-at b c d e z = let h : some c ≡ some d = sym e ∙ ap commandOf z ∙ command-of-byte d in cc
+
+-- a command has at most one operand
+pub at-most-one : (c : Command) → operandCount c ≤ 1
+at-most-one Command.nothing = omega arith
+at-most-one Command.pause = omega arith
+at-most-one Command.emit = omega arith
+at-most-one Command.exit = omega arith
+at-most-one Command.seq = omega arith
+at-most-one Command.par = omega arith
+at-most-one Command.loop = omega arith
+at-most-one Command.present = omega arith
+at-most-one Command.signal = omega arith
+at-most-one Command.try = omega arith
+at-most-one Command.setpause = omega arith

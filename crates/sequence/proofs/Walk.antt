@@ -15,8 +15,7 @@ use Rattle.sequence.specs.Limits.{maxDepth, maxSignals}
 use Rattle.sequence.specs.Commands.{Command, commandOf, operandCount, partCount, inRange, width, declares, build}
 use Rattle.sequence.specs.Reader.{Read, accepted, refused, Front, command, bad, withOperand, withCommand, front, lastPart, firstPart, readParts, tooDeep, readCommand, read}
 use Rattle.sequence.specs.Rows.{Slot, slot, at, Fault, unknown, no-statement, no-operand, out-of-range, too-deep, too-many-signals, walk}
-use Rattle.sequence.proofs.Table.{above}
-use Rattle.sequence.proofs.Front.{at-most-one}
+use Rattle.sequence.proofs.Table.{above, at-most-one}
 
 -- ---- the fault at one command, from what stands at the front
 abbrev pub faultOf : Slot → Front → Option ℕ

@@ -1,33 +1,36 @@
-// The table of commands (01, 'Commands') by cases on the command byte.
+// The table of commands (01, 'Commands') by tests on the command byte, which is known to be a command's. Tests in this order
+// cost less than a table: where the next command stands does not wait for a look into memory.
 ghost use mathlib.Core.Path.{_≡_};
 ghost use mathlib.Core.Option.{some};
-ghost use Rattle.sequence.specs.Commands.{Command, commandOf, partCount, width};
-ghost use Rattle.sequence.specs.Answers.{allowed, declaredBy};
+ghost use Rattle.sequence.specs.Commands.{Command, commandOf, operandCount, partCount, inRange, width, declares};
 
-// Is the operand x in the range of the command b?
+// Is the operand x in the range of the command b, which has one?
 pub fn in_range(b: u8, x: u8) -> bool
-    ensures { λ r. ⌜ r ≡ allowed (commandOf b) x ⌝ }
+    ensures { λ r. ⌜ ((c : Command) → commandOf b ≡ some c → operandCount c ≡ 1 → r ≡ inRange c x) ⌝ }
 {
-    match b {
-        1 => x < 64,
-        2 => x < 32,
-        3 => { if 1 <= x { x <= 15 } else { false } }
-        7 => x < 32,
-        8 => x < 32,
-        10 => x < 64,
-        _ => true,
+    if b == 3 {
+        if x == 0 {
+            return false;
+        }
+        return x <= 15;
     }
+    if b == 1 {
+        return x < 64;
+    }
+    if b == 10 {
+        return x < 64;
+    }
+    x < 32
 }
 
 // The signals that the command b declares around its part.
 pub fn declared(b: u8) -> u8
-    ensures { λ r. ⌜ r ≡ declaredBy (commandOf b) ⌝ }
+    ensures { λ r. ⌜ ((c : Command) → commandOf b ≡ some c → r ≡ declares c) ⌝ }
 {
     if b == 8 { 1 } else { 0 }
 }
 
-// The bytes of the command b with its operand. The byte is known to be a command's. Tests in this order cost less than a
-// table: where the next command stands does not wait for a look into memory.
+// The bytes of the command b with its operand.
 pub fn width(b: u8) -> usize
     ensures { λ r. ⌜ ((c : Command) → commandOf b ≡ some c → r ≡ width c) ⌝ }
 {
@@ -43,7 +46,7 @@ pub fn width(b: u8) -> usize
     if b == 9 { 1 } else { 2 }
 }
 
-// The parts of the command b. The byte is known to be a command's.
+// The parts of the command b.
 pub fn parts(b: u8) -> usize
     ensures { λ r. ⌜ ((c : Command) → commandOf b ≡ some c → r ≡ partCount c) ⌝ }
 {

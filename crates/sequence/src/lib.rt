@@ -1,4 +1,4 @@
-// Sequences of commands as bytes: the table of commands, the reader, and the extent of what was read.
+// Sequences of commands as bytes: the table of commands, the reader, and what it notes of labels.
 pub mod commands;
-pub mod extent;
+pub mod notes;
 pub mod reader;

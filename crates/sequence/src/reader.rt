@@ -1,99 +1,147 @@
-// The reader (01, 'Commands' and rows 3 to 6): how long the statement at the front of the bytes is, or why there is none.
+// The reader (01, 'Commands' and rows 3 to 6): one walk into every part of a command. It answers one number, the offset
+// behind the statement or 4096 times the row that turns it down. Offsets are those of the whole sequence.
 ghost use mathlib.Core.Path.{_≡_};
-ghost use mathlib.Core.Option.{some};
-ghost use Prim.Native.Nat.{ℕ, _≤_};
-ghost use lib.ListN.{length, drop};
-ghost use Rattle.sequence.specs.Commands.{Command, commandOf, partCount, declares};
+ghost use Prim.Native.Nat.{ℕ, _+_, _≤_, _<_};
+ghost use lib.ListN.{length};
+ghost use Rattle.sequence.specs.Limits.{maxBytes};
+ghost use Rattle.sequence.specs.Commands.{Command, partCount, width};
 ghost use Rattle.sequence.specs.Reader.{front, read};
-ghost use Rattle.sequence.specs.Answers.{headOf, measured};
+ghost use Rattle.sequence.specs.Layout.{entry};
+ghost use Rattle.sequence.specs.Notes.{noNotes};
+ghost use Rattle.sequence.specs.Reading.{headOf, Leaf, Labels, pairRead, Readable, Done, Reads};
+use crate::notes::Notes;
+
+// The table of second parts: at the offset of a command of two parts, where its second part begins and how many pauses
+// stand before that.
+pub type Seconds = [u32; 1024];
 
 // A statement: the count of its bytes, or the row that turns it down.
-pub enum Measured {
-    Length(usize),
+pub enum Reading {
+    Accepted(usize),
     Refused(u8),
 }
 
-// A command with its operand: its own bytes, its parts and the signals it declares; or the row that turns it down.
-enum Head {
-    Whole(usize, usize, u8),
-    Bad(u8),
-}
-
-// The head of the command b of `width` bytes.
-fn whole(b: u8, width: usize) -> Head
-    ensures { λ r. ⌜ ((c : Command) → commandOf b ≡ some c → r ≡ Head.Whole width (partCount c) (declares c)) ⌝ }
-{
-    Head::Whole(
-        width,
-        crate::commands::parts(b),
-        crate::commands::declared(b),
-    )
-}
-
-// The command at the front of s.
-fn front(s: &[u8]) -> Head
+// The command at the front of s: its own bytes, or 4096 times the row that turns it down.
+fn front(s: &[u8]) -> usize
     ensures { λ r. ⌜ r ≡ headOf (front (now (s .entry))) ⌝ }
 {
     if s.len() == 0 {
-        return Head::Bad(4);
+        return 4 * 4096;
     }
     let b = s[0];
     if 10 < b {
-        return Head::Bad(3);
+        return 3 * 4096;
     }
     if crate::commands::width(b) == 1 {
-        return whole(b, 1);
+        return 1;
     }
     if s.len() <= 1 {
-        return Head::Bad(4);
+        return 4 * 4096;
     }
     if crate::commands::in_range(b, s[1]) {
-        whole(b, 2)
+        2
     } else {
-        Head::Bad(5)
+        5 * 4096
     }
 }
 
-// The bytes of s from n on.
-fn rest(s: &[u8], n: usize) -> &[u8]
-    requires { ⌜ n ≤ length (now s) ⌝ }
-    ensures { λ r. ⌜ now r ≡ drop n (now (s .entry)) ⌝ }
+// Notes the label of the command at the front of s, which has no parts.
+fn label(s: &[u8], notes: &mut Notes)
+    requires { ⌜ Leaf (now s) (now notes) ⌝ }
+    ensures { λ _. ⌜ Labels (now (s .entry)) (now (notes .entry)) (now (notes .exit)) ⌝ }
 {
-    &s[n..]
+    let b = s[0];
+    if b == 1 {
+        crate::notes::note_pause(s[1], notes);
+        return;
+    }
+    if b == 10 {
+        crate::notes::note_setpause(s[1], notes);
+    }
 }
 
-// The statement at the front of s, where `depth` levels and `signals` signal commands are still allowed. It recurses into
-// every part but a command's last one, with which the loop goes on; at each part a level less is allowed.
-pub fn measure(s: &[u8], depth: u8, signals: u8) -> Measured
-    ensures { λ r. ⌜ ((at : ℕ) → r ≡ measured (read depth signals at (now (s .entry)))) ⌝ }
+// The entry of a second part at offset m with n pauses before it.
+fn entry(m: usize, n: u64) -> u32
+    requires { ⌜ m ≤ maxBytes ⌝ }
+    requires { ⌜ n ≤ maxBytes ⌝ }
+    ensures { λ r. ⌜ r ≡ entry m n ⌝ }
 {
-    let mut n: usize = 0;
-    let mut levels = depth;
-    let mut allowed = signals;
-    loop {
-        match front(rest(s, n)) {
-            Head::Bad(e) => return Measured::Refused(e),
-            Head::Whole(width, parts, declares) => {
-                if levels == 0 {
-                    return Measured::Refused(6);
-                }
-                if allowed < declares {
-                    return Measured::Refused(6);
-                }
-                n += width;
-                if parts == 0 {
-                    return Measured::Length(n);
-                }
-                levels -= 1;
-                allowed -= declares;
-                if parts == 1 {
-                    continue;
-                }
-                match measure(rest(s, n), levels, allowed) {
-                    Measured::Refused(e) => return Measured::Refused(e),
-                    Measured::Length(m) => n += m,
-                }
-            }
+    (m as u32) + 2048 * (n as u32)
+}
+
+// The two parts of the command of w bytes at offset `at`; s is behind the command.
+fn two(
+    s: &[u8],
+    at: usize,
+    w: usize,
+    depth: u8,
+    signals: u8,
+    second: &mut Seconds,
+    notes: &mut Notes,
+) -> usize
+    requires { ⌜ 0 < w ⌝ }
+    requires { ⌜ Readable (at + w) (now s) (now second) (now notes) ⌝ }
+    ensures { λ r. ⌜ ((c : Command) (x : ℕ) → partCount c ≡ 2 → w ≡ width c
+        → Done at (now (second .entry)) (now (second .exit)) (now (notes .entry)) (now (notes .exit))
+        (pairRead (read depth signals) c at x (now (s .entry))) r) ⌝ }
+{
+    let m = read(&s[0..], at + w, depth, signals, second, notes);
+    if 4096 <= m {
+        return m;
+    }
+    second[at] = entry(m, crate::notes::count(notes));
+    let n = m - at - w;
+    read(&s[n..], m, depth, signals, second, notes)
+}
+
+// The statement at the front of s, which stands at offset `at`, where `depth` levels and `signals` signal commands are
+// still allowed.
+fn read(
+    s: &[u8],
+    at: usize,
+    depth: u8,
+    signals: u8,
+    second: &mut Seconds,
+    notes: &mut Notes,
+) -> usize
+    requires { ⌜ Readable at (now s) (now second) (now notes) ⌝ }
+    ensures { λ r. ⌜ Done at (now (second .entry)) (now (second .exit)) (now (notes .entry)) (now (notes .exit))
+        (read depth signals at (now (s .entry))) r ⌝ }
+{
+    let w = front(&s[0..]);
+    if 4096 <= w {
+        return w;
+    }
+    if depth == 0 {
+        return 6 * 4096;
+    }
+    let b = s[0];
+    let parts = crate::commands::parts(b);
+    if parts == 2 {
+        return two(&s[w..], at, w, depth - 1, signals, second, notes);
+    }
+    if parts == 1 {
+        let declares = crate::commands::declared(b);
+        if signals < declares {
+            return 6 * 4096;
         }
+        let left = signals - declares;
+        return read(&s[w..], at + w, depth - 1, left, second, notes);
     }
+    label(&s[0..], notes);
+    at + w
+}
+
+// The statement at the front of a sequence, with the table of its second parts and the notes of its labels.
+pub fn read_sequence(s: &[u8], second: &mut Seconds, notes: &mut Notes) -> Reading
+    requires { ⌜ length (now s) ≤ maxBytes ⌝ }
+    requires { ⌜ length (now second) ≡ maxBytes ⌝ }
+    requires { ⌜ now notes ≡ noNotes ⌝ }
+    ensures { λ r. ⌜ Reads (now (s .entry)) (now (second .exit)) (now (notes .exit)) r ⌝ }
+{
+    let m = read(&s[0..], 0, 64, 6, second, notes);
+    if 4096 <= m {
+        return Reading::Refused((m / 4096) as u8);
+    }
+    Reading::Accepted(m)
 }

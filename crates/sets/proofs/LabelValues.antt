@@ -1,6 +1,6 @@
 -- A value of `Labels` and the set that it stands for determine each other.
 use Prim.Native.Nat.{ℕ}
-use mathlib.Core.Path.{_≡_, refl, ap, _∙_}
+use mathlib.Core.Path.{_≡_, refl, ap}
 use Rattle.sets.specs.declared.labels.Labels.{Labels}
 use Rattle.sets.specs.Labels.{labelSet, labelsOf}
 

@@ -2,24 +2,25 @@
 use mathlib.Core.Path.{_≡_, refl, sym, ap, _∙_}
 use mathlib.Core.Logic.{_↔_}
 use mathlib.Core.Bool.{Bool, true, false, not, _&&_, cond, and-true, false≢true}
-use Prim.Native.Nat.{ℕ, _*_, _%_, _^_, _≤_, _<_}
-use native.Mathlib.Nat.{div-eq-of-lt, lt-of-lt-of-le, one-mul}
+use Prim.Native.Nat.{ℕ, _*_, _-_, _%_, _^_, _≤_, _<_}
+use native.Mathlib.Nat.{lt-of-lt-of-le, one-mul}
 use native.Mathlib.Omega.{arith}
 use lib.Dec.{eqb, ltb}
 use lib.Pow.{pow-mono, shl-exact}
 use lib.Bits.{bitAnd, bitXor, and-zero-r, xor-zero-r}
 use borrow.Author.Tests.{eqb-true, eq-eqb, lt-ltb, le-ltb, ltb-false}
-use Rattle.esterel.specs.Sets.{member, none, only, join, insert, remove}
-use Rattle.esterel.proofs.Sets.{member-and, member-none, member-remove, join-none-r, ext}
+use Rattle.esterel.specs.Sets.{member, none, only, join, insert, remove, below}
+use Rattle.esterel.proofs.Sets.{member-and, member-none, member-remove, member-high, join-none-r, ext}
+use Rattle.esterel.proofs.SplitSets.{below-and, below-all}
 use Rattle.sets.specs.Sets.{onlyBelow, insertBelow, Subset, Disjoint}
 
-pub member-high : {w s : ℕ} (i : ℕ) → s < 2 ^ w → w ≤ i → member i s ≡ false
-unfolding member
-member-high i h l = ap (λ (x : ℕ). eqb (x % 2) 1) (div-eq-of-lt (lt-of-lt-of-le h (pow-mono l)))
+-- one, shifted
+pub shifted : (w i : ℕ) → i < w → (1 * 2 ^ i) % 2 ^ w ≡ 2 ^ i
+shifted w i h = shl-exact {a = 1} 1 i w (omega arith) (omega arith) ∙ one-mul (2 ^ i)
 
 pub shifted-only : (w i : ℕ) → i < w → (1 * 2 ^ i) % 2 ^ w ≡ onlyBelow w i
 unfolding only
-shifted-only w i h = shl-exact {a = 1} 1 i w (omega arith) (omega arith) ∙ one-mul (2 ^ i) ∙ rw (lt-ltb i w h)
+shifted-only w i h = shifted w i h ∙ rw (lt-ltb i w h)
 
 pub none-only : (w i : ℕ) → w ≤ i → none ≡ onlyBelow w i
 none-only w i h = rw (le-ltb i w h)
@@ -51,6 +52,13 @@ difference-only w i s h = go (ltb i w) refl
     go false e =
         ap (bitXor s) (and-zero-r s) ∙ xor-zero-r s
         ∙ sym (remove-absent i s (member-high i h (ltb-false i w e)))
+
+-- the digits below k
+pub masked : (w k s : ℕ) → k < w → bitAnd s ((1 * 2 ^ k) % 2 ^ w - 1) ≡ below k s
+masked w k s h = ap (λ (x : ℕ). bitAnd s (x - 1)) (shifted w k h) ∙ below-and k s
+
+pub all-below : (w k s : ℕ) → s < 2 ^ w → w ≤ k → s ≡ below k s
+all-below w k s h l = sym (below-all k s (lt-of-lt-of-le h (pow-mono l)))
 
 -- ---- tests
 both : (a b : Bool) → (a ≡ true → b ≡ true) ↔ ((a && b) ≡ a)

@@ -1,14 +1,14 @@
 -- The lowest member of a set, and the number of a set without a member.
 use mathlib.Core.Path.{_≡_, refl, sym, ap, _∙_}
 use mathlib.Core.Bool.{Bool, true, false, not, _&&_, and-false}
-use Prim.Native.Nat.{ℕ, zero, suc, _*_, _/_, _%_, _^_, _≤_, _<_}
+use Prim.Native.Nat.{ℕ, zero, suc, _*_, _/_, _%_, _^_, _<_}
 use native.Mathlib.Nat.{pow-suc, not-suc-le-zero, le-of-suc-le-suc}
 use native.Mathlib.Omega.{arith}
 use lib.Dec.{eqb, eqb·suc-suc, eqb·zero-suc}
 use lib.Count.{trailingZeros, under, trailing-of-zero}
 use borrow.Author.Tests.{eq-eqb, eqb-true}
 use Rattle.esterel.specs.Sets.{member, none, remove}
-use Rattle.esterel.proofs.Sets.{member-step, member-none, member-remove, ext}
+use Rattle.esterel.proofs.Sets.{member-step, member-remove, ext}
 use Rattle.esterel.proofs.LabelSets.{even as even-number}
 use Rattle.sets.specs.Sets.{Lowest}
 

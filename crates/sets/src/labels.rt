@@ -3,8 +3,8 @@ ghost use mathlib.Core.Path.{_≡_};
 ghost use mathlib.Core.Bool.{true};
 ghost use mathlib.Core.Logic.{_↔_};
 ghost use lib.Dec.{eqb};
-ghost use Rattle.esterel.specs.Sets.{member, none, join, remove};
-ghost use Rattle.sets.specs.Sets.{labelCount, onlyBelow, insertBelow, Subset, Disjoint, Lowest};
+ghost use Rattle.esterel.specs.Sets.{member, none, join, remove, below, from};
+ghost use Rattle.sets.specs.Sets.{labelCount, onlyBelow, Subset, Disjoint, Lowest};
 ghost use Rattle.sets.specs.Labels.{labelSet};
 ghost use Rattle.sets.specs.Rows.{rowOf, addRowBelow, Turns};
 
@@ -46,12 +46,6 @@ pub fn union(s: Labels, t: Labels) -> Labels
     }
 }
 
-pub fn with(s: Labels, i: u8) -> Labels
-    ensures { λ r. ⌜ labelSet r ≡ insertBelow labelCount i (labelSet s) ⌝ }
-{
-    union(s, single(i))
-}
-
 pub fn without(s: Labels, i: u8) -> Labels
     ensures { λ r. ⌜ labelSet r ≡ remove i (labelSet s) ⌝ }
 {
@@ -84,6 +78,29 @@ pub fn lowest(s: Labels) -> u8
     ensures { λ r. ⌜ Lowest labelCount (labelSet s) r ⌝ }
 {
     u64::trailing_zeros(s.bits) as u8
+}
+
+// The members below k.
+pub fn below(s: Labels, k: u32) -> Labels
+    ensures { λ r. ⌜ labelSet r ≡ below k (labelSet s) ⌝ }
+{
+    if k < 64 {
+        Labels {
+            bits: s.bits & ((1u64 << k) - 1),
+        }
+    } else {
+        s
+    }
+}
+
+// The members from k on.
+pub fn from(s: Labels, k: u32) -> Labels
+    ensures { λ r. ⌜ labelSet r ≡ from k (labelSet s) ⌝ }
+{
+    let t = below(s, k);
+    Labels {
+        bits: s.bits ^ t.bits,
+    }
 }
 
 // A label set for each label.

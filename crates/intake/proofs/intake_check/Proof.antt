@@ -1,17 +1,17 @@
 use borrow.Author.Needs.{needs}
-use Rattle.sequence.specs.Check.{checkOf}
 use Rattle.intake.proofs.intake_check.Statement.{statement}
 use Rattle.intake.proofs.intake_check.Tie as tie
 use Rattle.intake.proofs.intake_check.Reads as reads
 use Rattle.intake.proofs.intake_check.Lts as lts
-use Rattle.labels.proofs.verdict.check.Reads as check-reads
+use Rattle.checks.proofs.verdict.check.Reads as check-reads
 
+-- src/lib.rt:20:5
 check-requires : tie.Need-check-requires
 check-requires c κs = search needs
 
+-- src/lib.rt:14:1
 returns : tie.Need-returns
-unfolding checkOf
-returns c = c .check .ensures .number
+returns c = search needs
 
 pub intake-check-spec : {M : Type 1} → statement M
 intake-check-spec = tie.close (tie.spec check-requires returns)

@@ -4,9 +4,9 @@ use borrow.Author.Needs.{needs}
 use Prim.Native.Nat.{_+_, _-_, _≤_}
 use mathlib.Core.Path.{_≡_, sym, ap, _∙_, subst}
 use native.Mathlib.Omega.{arith}
-use lib.ListN.{length, take, drop}
+use lib.ListN.{take, drop}
 use Rattle.intake.specs.Bytes.{leNumber}
-use Rattle.intake.proofs.LeLoops.{get-step, leNumber-lt}
+use Rattle.intake.proofs.LeLoops.{leNumber-lt}
 use Rattle.intake.proofs.le.get_le.Statement.{statement}
 use Rattle.intake.proofs.le.get_le.Tie as tie
 use Rattle.intake.proofs.le.get_le.Reads as reads

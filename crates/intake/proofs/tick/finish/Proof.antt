@@ -1,6 +1,6 @@
 use native.Mathlib.Omega.{arith}
 use mathlib.Core.Path.{ap, ap₂, _∙_, subst}
-use Rattle.reaction.specs.declared.instant.Completion.the-variants.{Ended, Waiting, Leaving, Wrong}
+use Rattle.rules.specs.declared.instant.Completion.the-variants.{Ended, Waiting, Leaving, Wrong}
 use Rattle.intake.specs.Records.{stateRecord}
 use Rattle.intake.specs.Tick.{outcome}
 use Rattle.intake.specs.Standing.{WritableCode}

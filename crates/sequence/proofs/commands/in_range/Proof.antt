@@ -1,41 +1,45 @@
-use borrow.Author.Tests.{le-leb, lt-leb}
-use Rattle.sequence.specs.Commands.{commandOf}
-use Rattle.sequence.proofs.Table.{unranged}
+use mathlib.Core.Path.{_≡_, refl, _∙_}
+use lib.Dec.{ltb}
+use native.Mathlib.Omega.{arith}
+use Prim.Native.Nat.{ℕ}
+use borrow.Author.Tests.{le-leb}
+use Rattle.sequence.specs.Limits.{signalCount}
+use Rattle.sequence.specs.Commands.{Command, operandCount, inRange}
+use Rattle.sequence.proofs.Table.{byteOf, byte-is, command-at}
 use Rattle.sequence.proofs.commands.in_range.Statement.{statement}
 use Rattle.sequence.proofs.commands.in_range.Tie as tie
 
+-- an operand that is neither an exit nor a label is a signal
+signals : (x : ℕ) (d : Command) → operandCount d ≡ 1 → (byteOf d ≡ 3 → ⊥) → (byteOf d ≡ 1 → ⊥) → (byteOf d ≡ 10 → ⊥)
+    → ltb x signalCount ≡ inRange d x
+signals x Command.nothing o n3 n1 n10 = absurd (omega arith)
+signals x Command.pause o n3 n1 n10 = absurd (n1 refl)
+signals x Command.emit o n3 n1 n10 = refl
+signals x Command.exit o n3 n1 n10 = absurd (n3 refl)
+signals x Command.seq o n3 n1 n10 = absurd (omega arith)
+signals x Command.par o n3 n1 n10 = absurd (omega arith)
+signals x Command.loop o n3 n1 n10 = absurd (omega arith)
+signals x Command.present o n3 n1 n10 = refl
+signals x Command.signal o n3 n1 n10 = refl
+signals x Command.try o n3 n1 n10 = absurd (omega arith)
+signals x Command.setpause o n3 n1 n10 = absurd (n10 refl)
+
 returns : tie.Need-returns
-unfolding commandOf
-returns c = rw (c .match .keys1)
+returns c d e o = rw (command-at _ d Command.exit e (c .before .if1 .taken), c .if2 .taken)
 
 returns-2 : tie.Need-returns-2
-unfolding commandOf
-returns-2 c = rw (c .match .keys2)
+returns-2 c d e o = rw (command-at _ d Command.exit e (c .before .if1 .taken), le-leb 1 (c .before .before .args .x) (omega (arith, c .if2 .left)))
 
 returns-3 : tie.Need-returns-3
-unfolding commandOf
-returns-3 c = rw (c .before .match .keys3, le-leb 1 _ (c .if1 .taken))
+returns-3 c d e o = rw (command-at _ d Command.pause e (c .if3 .taken))
 
 returns-4 : tie.Need-returns-4
-unfolding commandOf
-returns-4 c = rw (c .before .match .keys3, lt-leb 1 _ (c .if1 .left))
+returns-4 c d e o = rw (command-at _ d Command.setpause e (c .if4 .taken))
 
 returns-5 : tie.Need-returns-5
-unfolding commandOf
-returns-5 c = rw (c .match .keys4)
-
-returns-6 : tie.Need-returns-6
-unfolding commandOf
-returns-6 c = rw (c .match .keys5)
-
-returns-7 : tie.Need-returns-7
-unfolding commandOf
-returns-7 c = rw (c .match .keys6)
-
-returns-8 : tie.Need-returns-8
-returns-8 c =
-    let r = c .match .rest in
-    unranged (c .before .args .x) (c .before .args .b) (r .0 .0 .0 .0 .0 .1) (r .0 .0 .0 .0 .1) (r .0 .0 .0 .1) (r .0 .0 .1) (r .0 .1) (r .1)
+returns-5 c d e o =
+    let z = byte-is _ d e in
+    signals _ d o (λ h. c .before .before .if1 .left (z ∙ h)) (λ h. c .before .if3 .left (z ∙ h)) (λ h. c .if4 .left (z ∙ h))
 
 pub in-range-spec : {M : Type 1} → statement M
-in-range-spec = tie.close (tie.spec returns returns-2 returns-3 returns-4 returns-5 returns-6 returns-7 returns-8)
+in-range-spec = tie.close (tie.spec returns returns-2 returns-3 returns-4 returns-5)

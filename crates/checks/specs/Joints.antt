@@ -1,0 +1,7 @@
+-- What two parts of a command are to each other (esterel, specs/LabelTests), as the code says it.
+use mathlib.Core.Bool.{Bool, true, false}
+use Rattle.esterel.specs.LabelTests.{Joint, alternative, parallel}
+
+abbrev pub jointOf : (parallel : Bool) → Joint
+jointOf true = parallel
+jointOf false = alternative

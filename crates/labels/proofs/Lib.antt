@@ -1,6 +1,0 @@
-pub mod Steps
-pub mod Walk
-pub mod Loops
-pub mod Numbers
-pub mod Validity
-pub mod Verdicts

@@ -1,4 +1,0 @@
-pub mod Survey
-pub mod Passing
-pub mod Rules
-pub mod Verdict

@@ -1,0 +1,497 @@
+use mathlib.Core.Path.{refl, sym, _∙_}
+use native.Mathlib.Omega.{arith}
+use borrow.Author.Needs.{needs}
+use borrow.Author.Tests.{ltb-true}
+use Rattle.esterel.specs.Statement.{seq, par, loop, present, signal, try}
+use Rattle.esterel.specs.Resume.{start}
+use Rattle.sequence.specs.Commands.{Command}
+use Rattle.sequence.proofs.Laid.{ready, taken, begins, last}
+use Rattle.rules.proofs.Combining.{seq-stops}
+use Rattle.react.proofs.Steps.{
+  nothing-step,
+  emit-step,
+  exit-step,
+  pause-step,
+  setpause-step,
+  here,
+  loop-step,
+  try-step,
+  signal-step,
+  seq-step,
+  par-step,
+  present-step,
+  absent-step,
+}
+use Prim.Native.Nat.{ℕ, _+_, _*_, _-_, _<_}
+use borrow.Fn.Kinds.{In}
+use borrow.Fn.PlainCycle.{Measures, is, falls, and}
+use Rattle.react.proofs.react.after.Reads as after
+use Rattle.react.proofs.react.after.Kinds as after-kinds
+use Rattle.react.proofs.react.+after+loop_part+par_parts+part+present_parts+react+seq_parts+signal_rule+try_part.Lts-after as after-lts
+use Rattle.react.proofs.react.loop_part.Reads as loop-part
+use Rattle.react.proofs.react.loop_part.Kinds as loop-part-kinds
+use Rattle.react.proofs.react.+after+loop_part+par_parts+part+present_parts+react+seq_parts+signal_rule+try_part.Lts-loop_part as loop-part-lts
+use Rattle.react.proofs.react.par_parts.Reads as par-parts
+use Rattle.react.proofs.react.par_parts.Kinds as par-parts-kinds
+use Rattle.react.proofs.react.+after+loop_part+par_parts+part+present_parts+react+seq_parts+signal_rule+try_part.Lts-par_parts as par-parts-lts
+use Rattle.react.proofs.react.part.Reads as part
+use Rattle.react.proofs.react.part.Kinds as part-kinds
+use Rattle.react.proofs.react.+after+loop_part+par_parts+part+present_parts+react+seq_parts+signal_rule+try_part.Lts-part as part-lts
+use Rattle.react.proofs.react.present_parts.Reads as present-parts
+use Rattle.react.proofs.react.present_parts.Kinds as present-parts-kinds
+use Rattle.react.proofs.react.+after+loop_part+par_parts+part+present_parts+react+seq_parts+signal_rule+try_part.Lts-present_parts as present-parts-lts
+use Rattle.react.proofs.react.react.Reads as react
+use Rattle.react.proofs.react.react.Kinds as react-kinds
+use Rattle.react.proofs.react.+after+loop_part+par_parts+part+present_parts+react+seq_parts+signal_rule+try_part.Lts-react as react-lts
+use Rattle.react.proofs.react.seq_parts.Reads as seq-parts
+use Rattle.react.proofs.react.seq_parts.Kinds as seq-parts-kinds
+use Rattle.react.proofs.react.+after+loop_part+par_parts+part+present_parts+react+seq_parts+signal_rule+try_part.Lts-seq_parts as seq-parts-lts
+use Rattle.react.proofs.react.signal_rule.Reads as signal-rule
+use Rattle.react.proofs.react.signal_rule.Kinds as signal-rule-kinds
+use Rattle.react.proofs.react.+after+loop_part+par_parts+part+present_parts+react+seq_parts+signal_rule+try_part.Lts-signal_rule as signal-rule-lts
+use Rattle.react.proofs.react.try_part.Reads as try-part
+use Rattle.react.proofs.react.try_part.Kinds as try-part-kinds
+use Rattle.react.proofs.react.+after+loop_part+par_parts+part+present_parts+react+seq_parts+signal_rule+try_part.Lts-try_part as try-part-lts
+use Rattle.rules.proofs.command.ending.Reads as ending-reads
+use Rattle.rules.proofs.command.in_loop.Reads as in-loop-reads
+use Rattle.rules.proofs.command.in_parallel.Reads as in-parallel-reads
+use Rattle.rules.proofs.command.in_sequence.Reads as in-sequence-reads
+use Rattle.rules.proofs.command.in_signal.Reads as in-signal-reads
+use Rattle.rules.proofs.command.in_try.Reads as in-try-reads
+use Rattle.rules.proofs.command.is_ended.Reads as is-ended-reads
+use Rattle.rules.proofs.command.leaving.Reads as leaving-reads
+use Rattle.rules.proofs.command.pausing.Reads as pausing-reads
+use Rattle.sets.proofs.signals.member.Reads as member-reads
+use Rattle.sets.proofs.signals.single.Reads as single-reads
+use Rattle.sets.proofs.signals.with.Reads as with-reads
+use Rattle.sets.proofs.signals.without.Reads as without-reads
+use Rattle.react.proofs.react.+after+loop_part+par_parts+part+present_parts+react+seq_parts+signal_rule+try_part.{
+  statement,
+}
+use Rattle.react.proofs.react.+after+loop_part+par_parts+part+present_parts+react+seq_parts+signal_rule+try_part.Tie.{
+  close,
+}
+
+abbrev μ-after : Measures 2 after-kinds.ps ℕ
+μ-after κs a = 4 * (a .1 .1 .1 .1 .0) + 2
+
+abbrev μ-loop-part : Measures 2 loop-part-kinds.ps ℕ
+μ-loop-part κs a = 4 * (a .1 .1 .0) - 1
+
+abbrev μ-par-parts : Measures 2 par-parts-kinds.ps ℕ
+μ-par-parts κs a = 4 * (a .1 .1 .0) - 1
+
+abbrev μ-part : Measures 2 part-kinds.ps ℕ
+μ-part κs a = 4 * (a .1 .1 .1 .0) + 1
+
+abbrev μ-present-parts : Measures 2 present-parts-kinds.ps ℕ
+μ-present-parts κs a = 4 * (a .1 .1 .0) - 1
+
+abbrev μ-react : Measures 2 react-kinds.ps ℕ
+μ-react κs a = 4 * (a .1 .1 .0)
+
+abbrev μ-seq-parts : Measures 2 seq-parts-kinds.ps ℕ
+μ-seq-parts κs a = 4 * (a .1 .1 .0) - 1
+
+abbrev μ-signal-rule : Measures 2 signal-rule-kinds.ps ℕ
+μ-signal-rule κs a = 4 * (a .1 .1 .0) - 1
+
+abbrev μ-try-part : Measures 2 try-part-kinds.ps ℕ
+μ-try-part κs a = 4 * (a .1 .1 .0) - 1
+
+abbrev after-at : ℕ → In 2 after-kinds.ps
+after-at t = and 2 after-kinds.ps (is 2 after-kinds.ps μ-after t) after.Pre
+
+abbrev after-below : ℕ → In 2 after-kinds.ps
+after-below t = and 2 after-kinds.ps (falls 2 after-kinds.ps _<_ μ-after t) after.Pre
+
+abbrev loop-part-at : ℕ → In 2 loop-part-kinds.ps
+loop-part-at t = and 2 loop-part-kinds.ps (is 2 loop-part-kinds.ps μ-loop-part t) loop-part.Pre
+
+abbrev loop-part-below : ℕ → In 2 loop-part-kinds.ps
+loop-part-below t =
+    and 2 loop-part-kinds.ps (falls 2 loop-part-kinds.ps _<_ μ-loop-part t) loop-part.Pre
+
+abbrev par-parts-at : ℕ → In 2 par-parts-kinds.ps
+par-parts-at t = and 2 par-parts-kinds.ps (is 2 par-parts-kinds.ps μ-par-parts t) par-parts.Pre
+
+abbrev par-parts-below : ℕ → In 2 par-parts-kinds.ps
+par-parts-below t =
+    and 2 par-parts-kinds.ps (falls 2 par-parts-kinds.ps _<_ μ-par-parts t) par-parts.Pre
+
+abbrev part-at : ℕ → In 2 part-kinds.ps
+part-at t = and 2 part-kinds.ps (is 2 part-kinds.ps μ-part t) part.Pre
+
+abbrev part-below : ℕ → In 2 part-kinds.ps
+part-below t = and 2 part-kinds.ps (falls 2 part-kinds.ps _<_ μ-part t) part.Pre
+
+abbrev present-parts-at : ℕ → In 2 present-parts-kinds.ps
+present-parts-at t =
+    and 2 present-parts-kinds.ps (is 2 present-parts-kinds.ps μ-present-parts t) present-parts.Pre
+
+abbrev present-parts-below : ℕ → In 2 present-parts-kinds.ps
+present-parts-below t =
+    and
+    2
+    present-parts-kinds.ps
+    (falls 2 present-parts-kinds.ps _<_ μ-present-parts t)
+    present-parts.Pre
+
+abbrev react-at : ℕ → In 2 react-kinds.ps
+react-at t = and 2 react-kinds.ps (is 2 react-kinds.ps μ-react t) react.Pre
+
+abbrev react-below : ℕ → In 2 react-kinds.ps
+react-below t = and 2 react-kinds.ps (falls 2 react-kinds.ps _<_ μ-react t) react.Pre
+
+abbrev seq-parts-at : ℕ → In 2 seq-parts-kinds.ps
+seq-parts-at t = and 2 seq-parts-kinds.ps (is 2 seq-parts-kinds.ps μ-seq-parts t) seq-parts.Pre
+
+abbrev seq-parts-below : ℕ → In 2 seq-parts-kinds.ps
+seq-parts-below t =
+    and 2 seq-parts-kinds.ps (falls 2 seq-parts-kinds.ps _<_ μ-seq-parts t) seq-parts.Pre
+
+abbrev signal-rule-at : ℕ → In 2 signal-rule-kinds.ps
+signal-rule-at t =
+    and 2 signal-rule-kinds.ps (is 2 signal-rule-kinds.ps μ-signal-rule t) signal-rule.Pre
+
+abbrev signal-rule-below : ℕ → In 2 signal-rule-kinds.ps
+signal-rule-below t =
+    and 2 signal-rule-kinds.ps (falls 2 signal-rule-kinds.ps _<_ μ-signal-rule t) signal-rule.Pre
+
+abbrev try-part-at : ℕ → In 2 try-part-kinds.ps
+try-part-at t = and 2 try-part-kinds.ps (is 2 try-part-kinds.ps μ-try-part t) try-part.Pre
+
+abbrev try-part-below : ℕ → In 2 try-part-kinds.ps
+try-part-below t =
+    and 2 try-part-kinds.ps (falls 2 try-part-kinds.ps _<_ μ-try-part t) try-part.Pre
+
+abbrev after-claims : ℕ → after-lts.Claims
+after-claims t = (is-ended-reads.Asked, is-ended-reads.Learnt, part-below t, part.Post, in-sequence-reads.Asked, in-sequence-reads.Learnt)
+
+abbrev loop-part-claims : ℕ → loop-part-lts.Claims
+loop-part-claims t = (part-below t, part.Post, in-loop-reads.Asked, in-loop-reads.Learnt)
+
+abbrev par-parts-claims : ℕ → par-parts-lts.Claims
+par-parts-claims t = (part-below t, part.Post, in-parallel-reads.Asked, in-parallel-reads.Learnt)
+
+abbrev part-claims : ℕ → part-lts.Claims
+part-claims t = (react-below t, react.Post)
+
+abbrev present-parts-claims : ℕ → present-parts-lts.Claims
+present-parts-claims t = (member-reads.Asked, member-reads.Learnt, part-below t, part.Post)
+
+abbrev react-claims : ℕ → react-lts.Claims
+react-claims t = (ending-reads.Asked, ending-reads.Learnt, pausing-reads.Asked, pausing-reads.Learnt, single-reads.Asked, single-reads.Learnt, leaving-reads.Asked, leaving-reads.Learnt, seq-parts-below t, seq-parts.Post, par-parts-below t, par-parts.Post, loop-part-below t, loop-part.Post, present-parts-below t, present-parts.Post, signal-rule-below t, signal-rule.Post, try-part-below t, try-part.Post)
+
+abbrev seq-parts-claims : ℕ → seq-parts-lts.Claims
+seq-parts-claims t = (part-below t, part.Post, after-below t, after.Post)
+
+abbrev signal-rule-claims : ℕ → signal-rule-lts.Claims
+signal-rule-claims t = (without-reads.Asked, without-reads.Learnt, part-below t, part.Post, with-reads.Asked, with-reads.Learnt, in-signal-reads.Asked, in-signal-reads.Learnt)
+
+abbrev try-part-claims : ℕ → try-part-lts.Claims
+try-part-claims t = (part-below t, part.Post, in-try-reads.Asked, in-try-reads.Learnt)
+
+after-part-requires : (t : ℕ) → after-lts.Need-part-requires (after-claims t) (after-at t) after.Post
+after-part-requires t c κs = (search needs, (c .before .before .before .before .pre .1 .0, c .before .before .before .before .pre .1 .1))
+
+after-returns : (t : ℕ) → after-lts.Need-returns (after-claims t) (after-at t) after.Post
+after-returns t c base u i l h = c .in-sequence .ensures u i (start u _) h (c .before .part .ensures base u l)
+
+after-returns-2 : (t : ℕ) → after-lts.Need-returns-2 (after-claims t) (after-at t) after.Post
+after-returns-2 t c base u i l h = seq-stops u i (start u _) _ (c .before .before .before .before .args .p) h (sym (c .before .is-ended .ensures) ∙ c .if1 .left)
+
+loop-part-part-requires : (t : ℕ) → loop-part-lts.Need-part-requires (loop-part-claims t) (loop-part-at t) loop-part.Post
+loop-part-part-requires t c κs = let y = begins (c .before .pre .1 .0) Command.loop (c .before .pre .1 .1) in (search needs, (y .there, ready _ (y .parts .0) (c .before .pre .1 .0 .long) (y .parts .1 .1)))
+
+loop-part-returns : (t : ℕ) → loop-part-lts.Need-returns (loop-part-claims t) (loop-part-at t) loop-part.Post
+loop-part-returns t c base p l =
+    let y = taken (c .before .before .before .pre .1 .0) base p l Command.loop (c .before .before .before .pre .1 .1) .parts in
+    here (loop _ (y .0)) p _ (y .1 .0) (loop-step _ _ (y .0) (c .before .part .ensures base (y .0) (y .1 .1)) (c .in-loop .ensures))
+
+par-parts-element-copy-out-m : (t : ℕ) → par-parts-lts.Need-element-copy-out-m (par-parts-claims t) (par-parts-at t) par-parts.Post
+par-parts-element-copy-out-m t c = omega (arith, c .before .pre .1 .0 .long, c .before .pre .1 .0 .fits, c .before .pre .1 .0 .bytes)
+
+par-parts-part-requires : (t : ℕ) → par-parts-lts.Need-part-requires (par-parts-claims t) (par-parts-at t) par-parts.Post
+par-parts-part-requires t c κs = let y = begins (c .before .before .pre .1 .0) Command.par (c .before .before .pre .1 .1) in (search needs, (y .there, ready _ (y .parts .0) (c .before .before .pre .1 .0 .long) (y .parts .2 .1 .first)))
+
+par-parts-sub-part-2 : (t : ℕ) → par-parts-lts.Need-sub-part-2 (par-parts-claims t) (par-parts-at t) par-parts.Post
+par-parts-sub-part-2 t c = omega (arith, begins (c .before .before .before .pre .1 .0) Command.par (c .before .before .before .pre .1 .1) .parts .2 .1 .place)
+
+par-parts-part-requires-2 : (t : ℕ) → par-parts-lts.Need-part-requires-2 (par-parts-claims t) (par-parts-at t) par-parts.Post
+par-parts-part-requires-2 t c κs = let y = begins (c .before .before .before .pre .1 .0) Command.par (c .before .before .before .pre .1 .1) in (search needs, (y .parts .2 .1 .within, ready _ (y .parts .1) (c .before .before .before .pre .1 .0 .long) (y .parts .2 .1 .second)))
+
+par-parts-returns : (t : ℕ) → par-parts-lts.Need-returns (par-parts-claims t) (par-parts-at t) par-parts.Post
+par-parts-returns t c base p l =
+    let y = taken (c .before .before .before .before .before .pre .1 .0) base p l Command.par (c .before .before .before .before .before .pre .1 .1) .parts in
+    here (par (y .0) (y .1)) p _ (y .2 .0)
+    (par-step _ (y .0) (y .1) (c .before .before .part .ensures base (y .0) (y .2 .1 .first)) (c .before .part2 .ensures _ (y .1) (y .2 .1 .second)) (c .in-parallel .ensures))
+
+part-sub-react :
+    (t : ℕ) → part-lts.Need-sub-react (react-below t, react.Post) (part-at t) part.Post
+part-sub-react t c = search needs
+
+part-part-react-start :
+    (t : ℕ) → part-lts.Need-part-react-start (react-below t, react.Post) (part-at t) part.Post
+part-part-react-start t c = search needs
+
+part-part-react-end :
+    (t : ℕ) → part-lts.Need-part-react-end (react-below t, react.Post) (part-at t) part.Post
+part-part-react-end t c = search needs
+
+part-react-requires :
+    (t : ℕ) → part-lts.Need-react-requires (react-below t, react.Post) (part-at t) part.Post
+part-react-requires t c κs = (search needs, c .before .before .pre .1 .1)
+
+part-returns : (t : ℕ) → part-lts.Need-returns (part-claims t) (part-at t) part.Post
+part-returns t c base p l = c .react .ensures base p l
+
+present-parts-shared-slice-read-member : (t : ℕ) → present-parts-lts.Need-shared-slice-read-member (present-parts-claims t) (present-parts-at t) present-parts.Post
+present-parts-shared-slice-read-member t c = begins (c .before .before .pre .1 .0) Command.present (c .before .before .pre .1 .1) .there
+
+present-parts-part-requires : (t : ℕ) → present-parts-lts.Need-part-requires (present-parts-claims t) (present-parts-at t) present-parts.Post
+present-parts-part-requires t c κs = let y = begins (c .before .before .before .before .pre .1 .0) Command.present (c .before .before .before .before .pre .1 .1) in (search needs, (y .there, ready _ (y .parts .0) (c .before .before .before .before .pre .1 .0 .long) (y .parts .2 .1 .first)))
+
+present-parts-element-copy-out-m : (t : ℕ) → present-parts-lts.Need-element-copy-out-m (present-parts-claims t) (present-parts-at t) present-parts.Post
+present-parts-element-copy-out-m t c = omega (arith, c .before .before .before .before .pre .1 .0 .long, c .before .before .before .before .pre .1 .0 .fits, c .before .before .before .before .pre .1 .0 .bytes)
+
+present-parts-sub-part-2 : (t : ℕ) → present-parts-lts.Need-sub-part-2 (present-parts-claims t) (present-parts-at t) present-parts.Post
+present-parts-sub-part-2 t c = omega (arith, begins (c .before .before .before .before .before .pre .1 .0) Command.present (c .before .before .before .before .before .pre .1 .1) .parts .2 .1 .place)
+
+present-parts-part-requires-2 : (t : ℕ) → present-parts-lts.Need-part-requires-2 (present-parts-claims t) (present-parts-at t) present-parts.Post
+present-parts-part-requires-2 t c κs = let y = begins (c .before .before .before .before .before .pre .1 .0) Command.present (c .before .before .before .before .before .pre .1 .1) in (search needs, (y .parts .2 .1 .within, ready _ (y .parts .1) (c .before .before .before .before .before .pre .1 .0 .long) (y .parts .2 .1 .second)))
+
+present-parts-returns : (t : ℕ) → present-parts-lts.Need-returns (present-parts-claims t) (present-parts-at t) present-parts.Post
+present-parts-returns t c base p l =
+    let y = taken (c .before .before .before .before .before .pre .1 .0) base p l Command.present (c .before .before .before .before .before .pre .1 .1) .parts in
+    here (present _ (y .0) (y .1)) p _ (y .2 .0)
+    (present-step _ _ (y .0) (y .1) (sym (c .before .before .member .ensures) ∙ c .before .if1 .taken) (c .part .ensures base (y .0) (y .2 .1 .first)))
+
+present-parts-returns-2 : (t : ℕ) → present-parts-lts.Need-returns-2 (present-parts-claims t) (present-parts-at t) present-parts.Post
+present-parts-returns-2 t c base p l =
+    let y = taken (c .before .before .before .before .before .before .pre .1 .0) base p l Command.present (c .before .before .before .before .before .before .pre .1 .1) .parts in
+    here (present _ (y .0) (y .1)) p _ (y .2 .0)
+    (absent-step _ _ (y .0) (y .1) (sym (c .before .before .before .member .ensures) ∙ c .before .before .if1 .left) (c .part2 .ensures _ (y .1) (y .2 .1 .second)))
+
+react-shared-slice-read-pausing : (t : ℕ) → react-lts.Need-shared-slice-read-pausing (react-claims t) (react-at t) react.Post
+react-shared-slice-read-pausing t c = begins (c .before .before .before .before .pre .1) Command.pause (c .before .match .keys2) .there
+
+react-shared-slice-read-single : (t : ℕ) → react-lts.Need-shared-slice-read-single (react-claims t) (react-at t) react.Post
+react-shared-slice-read-single t c = begins (c .before .before .before .before .pre .1) Command.emit (c .before .match .keys3) .there
+
+react-shared-slice-read-leaving : (t : ℕ) → react-lts.Need-shared-slice-read-leaving (react-claims t) (react-at t) react.Post
+react-shared-slice-read-leaving t c = begins (c .before .before .before .before .pre .1) Command.exit (c .before .match .keys4) .there
+
+react-seq-parts-requires : (t : ℕ) → react-lts.Need-seq-parts-requires (react-claims t) (react-at t) react.Post
+react-seq-parts-requires t c κs = (search needs, ((c .before .before .before .pre .1), c .match .keys5))
+
+react-par-parts-requires : (t : ℕ) → react-lts.Need-par-parts-requires (react-claims t) (react-at t) react.Post
+react-par-parts-requires t c κs = (search needs, ((c .before .before .before .pre .1), c .match .keys6))
+
+react-loop-part-requires : (t : ℕ) → react-lts.Need-loop-part-requires (react-claims t) (react-at t) react.Post
+react-loop-part-requires t c κs = (search needs, ((c .before .before .before .pre .1), c .match .keys7))
+
+react-present-parts-requires : (t : ℕ) → react-lts.Need-present-parts-requires (react-claims t) (react-at t) react.Post
+react-present-parts-requires t c κs = (search needs, ((c .before .before .before .pre .1), c .match .keys8))
+
+react-signal-rule-requires : (t : ℕ) → react-lts.Need-signal-rule-requires (react-claims t) (react-at t) react.Post
+react-signal-rule-requires t c κs = (search needs, ((c .before .before .before .pre .1), c .match .keys9))
+
+react-try-part-requires : (t : ℕ) → react-lts.Need-try-part-requires (react-claims t) (react-at t) react.Post
+react-try-part-requires t c κs = (search needs, ((c .before .before .before .pre .1), c .match .keys10))
+
+react-shared-slice-read-pausing-2 : (t : ℕ) → react-lts.Need-shared-slice-read-pausing-2 (react-claims t) (react-at t) react.Post
+react-shared-slice-read-pausing-2 t c = begins (c .before .before .before .before .pre .1) Command.setpause (last (c .before .before .before .before .pre .1) (c .before .match .rest)) .there
+
+react-returns : (t : ℕ) → react-lts.Need-returns (react-claims t) (react-at t) react.Post
+react-returns t c base p l = nothing-step p _ _ (taken (c .before .before .before .before .pre .1) base p l Command.nothing (c .before .match .keys1) .parts) (c .ending .ensures)
+
+react-returns-2 : (t : ℕ) → react-lts.Need-returns-2 (react-claims t) (react-at t) react.Post
+react-returns-2 t c base p l =
+    let y = taken (c .before .before .before .before .before .pre .1) base p l Command.pause (c .before .before .match .keys2) in
+    pause-step p _ _ _ (ltb-true _ _ (y .ranged refl)) (c .pausing .ensures) (y .parts)
+
+react-returns-3 : (t : ℕ) → react-lts.Need-returns-3 (react-claims t) (react-at t) react.Post
+react-returns-3 t c base p l =
+    let y = taken (c .before .before .before .before .before .before .pre .1) base p l Command.emit (c .before .before .before .match .keys3) in
+    emit-step p _ _ _ _ (y .parts) (ltb-true _ _ (y .ranged refl)) (c .before .single .ensures) (c .ending2 .ensures)
+
+react-returns-4 : (t : ℕ) → react-lts.Need-returns-4 (react-claims t) (react-at t) react.Post
+react-returns-4 t c base p l = exit-step p _ _ _ (taken (c .before .before .before .before .before .pre .1) base p l Command.exit (c .before .before .match .keys4) .parts) (c .leaving .ensures)
+
+react-returns-5 : (t : ℕ) → react-lts.Need-returns-5 (react-claims t) (react-at t) react.Post
+react-returns-5 t c base p l = c .seq-parts .ensures base p l
+
+react-returns-6 : (t : ℕ) → react-lts.Need-returns-6 (react-claims t) (react-at t) react.Post
+react-returns-6 t c base p l = c .par-parts .ensures base p l
+
+react-returns-7 : (t : ℕ) → react-lts.Need-returns-7 (react-claims t) (react-at t) react.Post
+react-returns-7 t c base p l = c .loop-part .ensures base p l
+
+react-returns-8 : (t : ℕ) → react-lts.Need-returns-8 (react-claims t) (react-at t) react.Post
+react-returns-8 t c base p l = c .present-parts .ensures base p l
+
+react-returns-9 : (t : ℕ) → react-lts.Need-returns-9 (react-claims t) (react-at t) react.Post
+react-returns-9 t c base p l = c .signal-rule .ensures base p l
+
+react-returns-10 : (t : ℕ) → react-lts.Need-returns-10 (react-claims t) (react-at t) react.Post
+react-returns-10 t c base p l = c .try-part .ensures base p l
+
+react-returns-11 : (t : ℕ) → react-lts.Need-returns-11 (react-claims t) (react-at t) react.Post
+react-returns-11 t c base p l =
+    let y = taken (c .before .before .before .before .before .pre .1) base p l Command.setpause (last (c .before .before .before .before .before .pre .1) (c .before .before .match .rest)) in
+    setpause-step p _ _ _ (ltb-true _ _ (y .ranged refl)) (c .pausing2 .ensures) (y .parts)
+
+seq-parts-element-copy-out-m : (t : ℕ) → seq-parts-lts.Need-element-copy-out-m (seq-parts-claims t) (seq-parts-at t) seq-parts.Post
+seq-parts-element-copy-out-m t c = omega (arith, c .before .pre .1 .0 .long, c .before .pre .1 .0 .fits, c .before .pre .1 .0 .bytes)
+
+seq-parts-part-requires : (t : ℕ) → seq-parts-lts.Need-part-requires (seq-parts-claims t) (seq-parts-at t) seq-parts.Post
+seq-parts-part-requires t c κs = let y = begins (c .before .before .pre .1 .0) Command.seq (c .before .before .pre .1 .1) in (search needs, (y .there, ready _ (y .parts .0) (c .before .before .pre .1 .0 .long) (y .parts .2 .1 .first)))
+
+seq-parts-sub-after : (t : ℕ) → seq-parts-lts.Need-sub-after (seq-parts-claims t) (seq-parts-at t) seq-parts.Post
+seq-parts-sub-after t c = omega (arith, begins (c .before .before .before .pre .1 .0) Command.seq (c .before .before .before .pre .1 .1) .parts .2 .1 .place)
+
+seq-parts-after-requires : (t : ℕ) → seq-parts-lts.Need-after-requires (seq-parts-claims t) (seq-parts-at t) seq-parts.Post
+seq-parts-after-requires t c κs = let y = begins (c .before .before .before .pre .1 .0) Command.seq (c .before .before .before .pre .1 .1) in (search needs, (y .parts .2 .1 .within, ready _ (y .parts .1) (c .before .before .before .pre .1 .0 .long) (y .parts .2 .1 .second)))
+
+seq-parts-returns : (t : ℕ) → seq-parts-lts.Need-returns (seq-parts-claims t) (seq-parts-at t) seq-parts.Post
+seq-parts-returns t c base p l =
+    let y = taken (c .before .before .before .before .pre .1 .0) base p l Command.seq (c .before .before .before .before .pre .1 .1) .parts in
+    here (seq (y .0) (y .1)) p _ (y .2 .0)
+    (seq-step _ (y .0) (y .1) (c .before .part .ensures base (y .0) (y .2 .1 .first)) (λ i h. c .after .ensures _ (y .1) i (y .2 .1 .second) h))
+
+signal-rule-shared-slice-read-x : (t : ℕ) → signal-rule-lts.Need-shared-slice-read-x (signal-rule-claims t) (signal-rule-at t) signal-rule.Post
+signal-rule-shared-slice-read-x t c = begins (c .before .before .pre .1 .0) Command.signal (c .before .before .pre .1 .1) .there
+
+signal-rule-part-requires : (t : ℕ) → signal-rule-lts.Need-part-requires (signal-rule-claims t) (signal-rule-at t) signal-rule.Post
+signal-rule-part-requires t c κs = let y = begins (c .before .before .before .pre .1 .0) Command.signal (c .before .before .before .pre .1 .1) in (search needs, (y .there, ready _ (y .parts .0) (c .before .before .before .pre .1 .0 .long) (y .parts .1 .1)))
+
+signal-rule-part-requires-2 : (t : ℕ) → signal-rule-lts.Need-part-requires-2 (signal-rule-claims t) (signal-rule-at t) signal-rule.Post
+signal-rule-part-requires-2 t c κs = let y = begins (c .before .before .before .before .before .pre .1 .0) Command.signal (c .before .before .before .before .before .pre .1 .1) in (search needs, (y .there, ready _ (y .parts .0) (c .before .before .before .before .before .pre .1 .0 .long) (y .parts .1 .1)))
+
+signal-rule-returns : (t : ℕ) → signal-rule-lts.Need-returns (signal-rule-claims t) (signal-rule-at t) signal-rule.Post
+signal-rule-returns t c base p l =
+    let y = taken (c .before .before .before .before .before .before .before .pre .1 .0) base p l Command.signal (c .before .before .before .before .before .before .before .pre .1 .1) in
+    let q = y .parts .0 in
+    here (signal _ _ q) p _ (y .parts .1 .0)
+    (signal-step _ _ _ q (ltb-true _ _ (y .ranged refl)) (c .before .before .before .before .without .ensures) (c .before .before .before .part .ensures base q (y .parts .1 .1)) (c .before .before .with .ensures)
+    (c .before .part2 .ensures base q (y .parts .1 .1)) (c .in-signal .ensures))
+
+try-part-part-requires : (t : ℕ) → try-part-lts.Need-part-requires (try-part-claims t) (try-part-at t) try-part.Post
+try-part-part-requires t c κs = let y = begins (c .before .pre .1 .0) Command.try (c .before .pre .1 .1) in (search needs, (y .there, ready _ (y .parts .0) (c .before .pre .1 .0 .long) (y .parts .1 .1)))
+
+try-part-returns : (t : ℕ) → try-part-lts.Need-returns (try-part-claims t) (try-part-at t) try-part.Post
+try-part-returns t c base p l =
+    let y = taken (c .before .before .before .pre .1 .0) base p l Command.try (c .before .before .before .pre .1 .1) .parts in
+    here (try (y .0)) p _ (y .1 .0) (try-step _ (y .0) (c .before .part .ensures base (y .0) (y .1 .1)) (c .in-try .ensures))
+
+pub +after+loop-part+par-parts+part+present-parts+react+seq-parts+signal-rule+try-part-spec :
+    {M : Type 1} → statement M
++after+loop-part+par-parts+part+present-parts+react+seq-parts+signal-rule+try-part-spec =
+    close
+    μ-after
+    μ-loop-part
+    μ-par-parts
+    μ-part
+    μ-present-parts
+    μ-react
+    μ-seq-parts
+    μ-signal-rule
+    μ-try-part
+    (λ t. after-lts.spec (after-claims t) (after-at t)
+    after.Post
+    (λ c κs. search needs)
+    (after-part-requires t)
+    (λ c κs. search needs)
+    (after-returns t)
+    (after-returns-2 t))
+    (λ t. loop-part-lts.spec (loop-part-claims t) (loop-part-at t)
+    loop-part.Post
+    (λ c. search needs) (λ c. search needs)
+    (loop-part-part-requires t)
+    (λ c. search needs) (λ c κs. search needs)
+    (loop-part-returns t))
+    (λ t. par-parts-lts.spec (par-parts-claims t) (par-parts-at t)
+    par-parts.Post
+    (λ c. search needs)
+    (par-parts-element-copy-out-m t)
+    (λ c. search needs) (λ c. search needs) (λ c. search needs)
+    (par-parts-part-requires t)
+    (par-parts-sub-part-2 t)
+    (λ c. search needs)
+    (par-parts-part-requires-2 t)
+    (λ c κs. search needs)
+    (par-parts-returns t))
+    (λ t. part-lts.spec (part-claims t) (part-at t)
+    part.Post
+    (part-sub-react t)
+    (part-part-react-start t)
+    (part-part-react-end t)
+    (part-react-requires t)
+    (part-returns t))
+    (λ t. present-parts-lts.spec (present-parts-claims t) (present-parts-at t)
+    present-parts.Post
+    (present-parts-shared-slice-read-member t)
+    (λ c κs. search needs) (λ c. search needs) (λ c. search needs)
+    (present-parts-part-requires t)
+    (λ c. search needs)
+    (present-parts-element-copy-out-m t)
+    (λ c. search needs)
+    (present-parts-sub-part-2 t)
+    (λ c. search needs)
+    (present-parts-part-requires-2 t)
+    (present-parts-returns t)
+    (present-parts-returns-2 t))
+    (λ t. react-lts.spec (react-claims t) (react-at t)
+    react.Post
+    (λ c. search needs) (λ c κs. search needs)
+    (react-shared-slice-read-pausing t)
+    (λ c κs. search needs)
+    (react-shared-slice-read-single t)
+    (λ c κs. search needs) (λ c κs. search needs)
+    (react-shared-slice-read-leaving t)
+    (λ c κs. search needs)
+    (react-seq-parts-requires t)
+    (react-par-parts-requires t)
+    (react-loop-part-requires t)
+    (react-present-parts-requires t)
+    (react-signal-rule-requires t)
+    (react-try-part-requires t)
+    (react-shared-slice-read-pausing-2 t)
+    (λ c κs. search needs)
+    (react-returns t)
+    (react-returns-2 t)
+    (react-returns-3 t)
+    (react-returns-4 t)
+    (react-returns-5 t)
+    (react-returns-6 t)
+    (react-returns-7 t)
+    (react-returns-8 t)
+    (react-returns-9 t)
+    (react-returns-10 t)
+    (react-returns-11 t))
+    (λ t. seq-parts-lts.spec (seq-parts-claims t) (seq-parts-at t)
+    seq-parts.Post
+    (λ c. search needs)
+    (seq-parts-element-copy-out-m t)
+    (λ c. search needs) (λ c. search needs) (λ c. search needs)
+    (seq-parts-part-requires t)
+    (seq-parts-sub-after t)
+    (λ c. search needs)
+    (seq-parts-after-requires t)
+    (seq-parts-returns t))
+    (λ t. signal-rule-lts.spec (signal-rule-claims t) (signal-rule-at t)
+    signal-rule.Post
+    (signal-rule-shared-slice-read-x t)
+    (λ c κs. search needs) (λ c. search needs) (λ c. search needs)
+    (signal-rule-part-requires t)
+    (λ c κs. search needs) (λ c. search needs) (λ c. search needs)
+    (signal-rule-part-requires-2 t)
+    (λ c. search needs) (λ c κs. search needs)
+    (signal-rule-returns t))
+    λ t. try-part-lts.spec (try-part-claims t) (try-part-at t)
+    try-part.Post
+    (λ c. search needs) (λ c. search needs)
+    (try-part-part-requires t)
+    (λ c κs. search needs)
+    (try-part-returns t)

@@ -1,0 +1,121 @@
+// A fresh statement reacts. The table `second` says where second parts begin; the depth still allowed falls at each part.
+ghost use mathlib.Core.Path.{_≡_};
+ghost use Prim.Native.Nat.{_≤_};
+ghost use lib.ListN.{length, getD};
+ghost use Rattle.sequence.specs.Layout.{rest, Ready};
+ghost use Rattle.react.specs.Started.{Started, StartedAfter};
+use rules::instant::Instant;
+use sequence::reader::Seconds;
+
+// The reaction of the statement at the front of s, which stands at the offset `at`.
+pub fn react(s: &[u8], at: usize, depth: u8, input: u32, second: &Seconds) -> Instant
+    requires { ⌜ Ready (now second) depth at (now s) ⌝ }
+    ensures { λ r. ⌜ Started (now (second .entry)) depth at (now (s .entry)) input r ⌝ }
+{
+    let command = s[0];
+    match command {
+        0 => rules::command::ending(0),
+        1 => rules::command::pausing(s[1]),
+        2 => rules::command::ending(sets::signals::single(s[1])),
+        3 => rules::command::leaving(s[1]),
+        4 => seq_parts(s, at, depth, input, second),
+        5 => par_parts(s, at, depth, input, second),
+        6 => loop_part(s, at, depth, input, second),
+        7 => present_parts(s, at, depth, input, second),
+        8 => signal_rule(s, at, depth, input, second),
+        9 => try_part(s, at, depth, input, second),
+        _ => rules::command::pausing(s[1]),
+    }
+}
+
+// The part that begins at index n of s, at the offset `at`.
+fn part(s: &[u8], n: usize, at: usize, depth: u8, input: u32, second: &Seconds) -> Instant
+    requires { ⌜ n ≤ length (now s) ⌝ }
+    requires { ⌜ Ready (now second) depth at (rest n (now s)) ⌝ }
+    ensures { λ r. ⌜ Started (now (second .entry)) depth at (rest n (now (s .entry))) input r ⌝ }
+{
+    react(&s[n..], at, depth, input, second)
+}
+
+// What comes of p, which reacted, and then the part that begins at index n of s, which starts where p has ended.
+pub fn after(
+    p: Instant,
+    s: &[u8],
+    n: usize,
+    at: usize,
+    depth: u8,
+    input: u32,
+    second: &Seconds,
+) -> Instant
+    requires { ⌜ n ≤ length (now s) ⌝ }
+    requires { ⌜ Ready (now second) depth at (rest n (now s)) ⌝ }
+    ensures { λ r. ⌜ StartedAfter (now (second .entry)) depth at (rest n (now (s .entry))) input p r ⌝ }
+{
+    let a = p.reaction;
+    let k = a.completion;
+    if rules::command::is_ended(k) {
+        rules::command::in_sequence(p, part(s, n, at, depth, input, second))
+    } else {
+        p
+    }
+}
+
+fn seq_parts(s: &[u8], at: usize, depth: u8, input: u32, second: &Seconds) -> Instant
+    requires { ⌜ Ready (now second) depth at (now s) × (getD (now s) 0 0 ≡ 4) ⌝ }
+    ensures { λ r. ⌜ Started (now (second .entry)) depth at (now (s .entry)) input r ⌝ }
+{
+    let m = (second[at] % 2048) as usize;
+    let p = part(s, 1, at + 1, depth - 1, input, second);
+    after(p, s, m - at, m, depth - 1, input, second)
+}
+
+fn par_parts(s: &[u8], at: usize, depth: u8, input: u32, second: &Seconds) -> Instant
+    requires { ⌜ Ready (now second) depth at (now s) × (getD (now s) 0 0 ≡ 5) ⌝ }
+    ensures { λ r. ⌜ Started (now (second .entry)) depth at (now (s .entry)) input r ⌝ }
+{
+    let m = (second[at] % 2048) as usize;
+    let p = part(s, 1, at + 1, depth - 1, input, second);
+    let q = part(s, m - at, m, depth - 1, input, second);
+    rules::command::in_parallel(p, q)
+}
+
+fn loop_part(s: &[u8], at: usize, depth: u8, input: u32, second: &Seconds) -> Instant
+    requires { ⌜ Ready (now second) depth at (now s) × (getD (now s) 0 0 ≡ 6) ⌝ }
+    ensures { λ r. ⌜ Started (now (second .entry)) depth at (now (s .entry)) input r ⌝ }
+{
+    let p = part(s, 1, at + 1, depth - 1, input, second);
+    rules::command::in_loop(at as u16, p)
+}
+
+fn present_parts(s: &[u8], at: usize, depth: u8, input: u32, second: &Seconds) -> Instant
+    requires { ⌜ Ready (now second) depth at (now s) × (getD (now s) 0 0 ≡ 7) ⌝ }
+    ensures { λ r. ⌜ Started (now (second .entry)) depth at (now (s .entry)) input r ⌝ }
+{
+    if sets::signals::member(input, s[1]) {
+        part(s, 2, at + 2, depth - 1, input, second)
+    } else {
+        let m = (second[at] % 2048) as usize;
+        part(s, m - at, m, depth - 1, input, second)
+    }
+}
+
+// The body reacts twice, without the signal and with it.
+fn signal_rule(s: &[u8], at: usize, depth: u8, input: u32, second: &Seconds) -> Instant
+    requires { ⌜ Ready (now second) depth at (now s) × (getD (now s) 0 0 ≡ 8) ⌝ }
+    ensures { λ r. ⌜ Started (now (second .entry)) depth at (now (s .entry)) input r ⌝ }
+{
+    let x = s[1];
+    let without = sets::signals::without(input, x);
+    let p = part(s, 2, at + 2, depth - 1, without, second);
+    let with = sets::signals::with(input, x);
+    let q = part(s, 2, at + 2, depth - 1, with, second);
+    rules::command::in_signal(at as u16, x, p, q)
+}
+
+fn try_part(s: &[u8], at: usize, depth: u8, input: u32, second: &Seconds) -> Instant
+    requires { ⌜ Ready (now second) depth at (now s) × (getD (now s) 0 0 ≡ 9) ⌝ }
+    ensures { λ r. ⌜ Started (now (second .entry)) depth at (now (s .entry)) input r ⌝ }
+{
+    let p = part(s, 1, at + 1, depth - 1, input, second);
+    rules::command::in_try(p)
+}

@@ -1,4 +1,0 @@
-pub mod Combining
-pub mod Taken
-pub mod Steps
-pub mod Resuming

@@ -1,2 +1,0 @@
-pub mod Instants
-pub mod Parts

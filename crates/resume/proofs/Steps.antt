@@ -1,0 +1,117 @@
+-- The instant of each command from those of its active parts, as the code finds them.
+use Prim.Native.Nat.{ℕ, zero, suc, _+_, _-_, _<_}
+use mathlib.Core.Path.{_≡_, refl, sym, ap, _∙_}
+use mathlib.Core.Bool.{true, false, cond}
+use mathlib.Core.Option.{Option, none, some}
+use mathlib.Core.List.{List}
+use lib.ListN.{getD}
+use borrow.Author.Tests.{lt-ltb}
+use Rattle.sets.specs.Sets.{signalCount, insertBelow}
+use Rattle.esterel.specs.Sets.{insert, remove, empty, below, from}
+use Rattle.esterel.specs.Statement.{Statement, nothing, seq, par, loop, present, signal, try}
+use Rattle.esterel.specs.Reaction.{ended, gives}
+use Rattle.esterel.specs.Sets as sets
+use Rattle.esterel.specs.Ranks.{middle}
+use Rattle.esterel.specs.Resume as Esterel
+use Rattle.esterel.specs.Resume.{instant, start, idle, seqInstant, parInstant, tryInstant, signalInstant, resume}
+use Rattle.sequence.specs.Commands.{Command, commandOf}
+use Rattle.sequence.specs.Layout.{Form, Lies}
+use Rattle.sequence.proofs.Accepted.{byte-is}
+use Rattle.sequence.proofs.Laid.{opened}
+use Rattle.rules.specs.declared.instant.Instant.{Instant}
+use Rattle.rules.specs.Instants.{instantOf}
+
+-- a cut at k is one at j
+moved : (cut : ℕ → ℕ → ℕ) (m : ℕ) {k j f : ℕ} → k ≡ j → f ≡ cut k m → f ≡ cut j m
+moved cut m h g = g ∙ ap (λ (i : ℕ). cut i m) h
+
+module _ (base m e : ℕ) {r : Instant} where
+  -- what is said of a command is said of the statement that it is
+  pub here : (t p : Statement) → p ≡ t → r ≡ instantOf (resume base t m e) → r ≡ instantOf (resume base p m e)
+  here t p h k = k ∙ ap (λ (z : Statement). instantOf (resume base z m e)) (sym h)
+
+  -- ---- two parts; the first rank of the second part is k
+  module _ (p q : Statement) (k f : ℕ) (hk : k ≡ middle base p) (hf : f ≡ below k m) where
+    pub seq-first : {u : Instant} → empty f ≡ false → u ≡ instantOf (resume base p f e)
+        → ((i : Esterel.Instant) → u ≡ instantOf i → r ≡ instantOf (seqInstant q i (start q e))) → r ≡ instantOf (resume base (seq p q) m e)
+    unfolding resume
+    seq-first z h g = rw (← moved below m hk hf, z) (g (resume base p f e) h)
+
+    pub present-first : (x : ℕ) → empty f ≡ false → r ≡ instantOf (resume base p f e) → r ≡ instantOf (resume base (present x p q) m e)
+    unfolding resume
+    present-first x z h = rw (← moved below m hk hf, z) h
+
+    module _ (g : ℕ) (hg : g ≡ from k m) where
+      pub seq-second : empty f ≡ true → r ≡ instantOf (resume (middle base p) q g e) → r ≡ instantOf (resume base (seq p q) m e)
+      unfolding resume
+      seq-second z h = rw (← moved below m hk hf, ← moved from m hk hg, z) h
+
+      pub present-second : (x : ℕ) → empty f ≡ true → r ≡ instantOf (resume (middle base p) q g e)
+          → r ≡ instantOf (resume base (present x p q) m e)
+      unfolding resume
+      present-second x z h = rw (← moved below m hk hf, ← moved from m hk hg, z) h
+
+      pub par-step : {u v : Instant} → u ≡ instantOf (cond (empty f) idle (resume base p f e))
+          → v ≡ instantOf (cond (empty g) idle (resume (middle base p) q g e))
+          → ((i j : Esterel.Instant) → u ≡ instantOf i → v ≡ instantOf j → r ≡ instantOf (parInstant i j))
+          → r ≡ instantOf (resume base (par p q) m e)
+      unfolding resume
+      par-step h i w = rw (← moved below m hk hf, ← moved from m hk hg) (w (cond (empty f) idle (resume base p f e)) (cond (empty g) idle (resume (middle base p) q g e)) h i)
+
+  -- ---- one part, which resumed as u
+  module _ (p : Statement) {u : Instant} where
+    pub loop-step : (a : ℕ) (q : Statement) → q ≡ loop a p → u ≡ instantOf (resume base p m e)
+        → ((i : Esterel.Instant) → u ≡ instantOf i → r ≡ instantOf (seqInstant q i (start q e))) → r ≡ instantOf (resume base q m e)
+    unfolding resume
+    loop-step a q h k w = rw h (rw h at (w (resume base p m e) k))
+
+    pub try-step : u ≡ instantOf (resume base p m e)
+        → ((i : Esterel.Instant) → u ≡ instantOf i → r ≡ instantOf (tryInstant i)) → r ≡ instantOf (resume base (try p) m e)
+    unfolding resume
+    try-step h k = k (resume base p m e) h
+
+    pub signal-step : (a x : ℕ) {v : Instant} {e− e+ : ℕ} → x < signalCount → e− ≡ remove x e → u ≡ instantOf (resume base p m e−)
+        → e+ ≡ insertBelow signalCount x e → v ≡ instantOf (resume base p m e+)
+        → ((i j : Esterel.Instant) → u ≡ instantOf i → v ≡ instantOf j → r ≡ instantOf (signalInstant a x i j))
+        → r ≡ instantOf (resume base (signal a x p) m e)
+    unfolding resume
+    signal-step a x {v} {e−} {e+} l hu h hv k w =
+        let hi : e+ ≡ insert x e = hv ∙ rw (lt-ltb x signalCount l) in
+        w (resume base p m (remove x e)) (resume base p m (insert x e)) (rw hu at h) (rw hi at k)
+
+-- ---- a side of a parallel
+module _ (base m e : ℕ) (p : Statement) {r : Instant} where
+  pub side-ended : empty m ≡ true → r ≡ instantOf idle → r ≡ instantOf (cond (empty m) idle (resume base p m e))
+  side-ended z h = rw z h
+
+  pub side-active : empty m ≡ false → r ≡ instantOf (resume base p m e) → r ≡ instantOf (cond (empty m) idle (resume base p m e))
+  side-active z h = rw z h
+
+pub idle-is : {r : Instant} → r ≡ instantOf (instant (gives 0 ended sets.none nothing) Option.none) → r ≡ instantOf idle
+unfolding sets.none
+idle-is h = h
+
+-- ---- a command without parts
+-- b is none of the n bytes from `low` on
+abbrev pub Without : (b low n : ℕ) → Type 0
+Without b low zero = Unit {0}
+Without b low (suc n) = Without b low n × (b ≡ low + n → ⊥)
+
+pub leaf-step : (t : List ℕ) (d base a : ℕ) (bs : List ℕ) (p : Statement) (m e : ℕ) {r : Instant} → Lies t d base a bs p → Without (getD bs 0 0) 4 6
+    → r ≡ instantOf idle → r ≡ instantOf (resume base p m e)
+unfolding resume
+leaf-step t d base a bs p m e {r} l w h = go (commandOf (getD bs 0 0)) refl (opened t d base a bs p l .1 .form)
+  where
+    go : (o : Option Command) → commandOf (getD bs 0 0) ≡ o → Form (Lies t (d - 1)) t base a bs p o → r ≡ instantOf (resume base p m e)
+    go none q f = absurd f
+    go (some Command.nothing) q f = rw (f .parts) h
+    go (some Command.pause) q f = rw (f .parts) h
+    go (some Command.emit) q f = rw (f .parts) h
+    go (some Command.exit) q f = rw (f .parts) h
+    go (some Command.seq) q f = absurd (w .0 .0 .0 .0 .0 .1 (byte-is (getD bs 0 0) Command.seq q))
+    go (some Command.par) q f = absurd (w .0 .0 .0 .0 .1 (byte-is (getD bs 0 0) Command.par q))
+    go (some Command.loop) q f = absurd (w .0 .0 .0 .1 (byte-is (getD bs 0 0) Command.loop q))
+    go (some Command.present) q f = absurd (w .0 .0 .1 (byte-is (getD bs 0 0) Command.present q))
+    go (some Command.signal) q f = absurd (w .0 .1 (byte-is (getD bs 0 0) Command.signal q))
+    go (some Command.try) q f = absurd (w .1 (byte-is (getD bs 0 0) Command.try q))
+    go (some Command.setpause) q f = rw (f .parts) h

@@ -1,0 +1,467 @@
+use mathlib.Core.Path.{refl, sym, _∙_}
+use native.Mathlib.Omega.{arith}
+use borrow.Author.Needs.{needs}
+use borrow.Author.Tests.{ltb-true}
+use Rattle.esterel.specs.Statement.{seq, par, loop, present, signal, try}
+use Rattle.sequence.specs.Commands.{Command}
+use Rattle.sequence.proofs.Laid.{ready, whole, whole-lies, taken, begins}
+use Rattle.resume.proofs.Steps.{
+  here,
+  seq-first,
+  seq-second,
+  present-first,
+  present-second,
+  par-step,
+  loop-step,
+  try-step,
+  signal-step,
+  side-ended,
+  side-active,
+  idle-is,
+  leaf-step,
+}
+use Prim.Native.Nat.{ℕ, _+_, _*_, _-_, _<_}
+use borrow.Fn.Kinds.{In}
+use borrow.Fn.PlainCycle.{Measures, is, falls, and}
+use Rattle.resume.proofs.resume.loop_part.Reads as loop-part
+use Rattle.resume.proofs.resume.loop_part.Kinds as loop-part-kinds
+use Rattle.resume.proofs.resume.+loop_part+par_parts+part+present_parts+resume+seq_parts+side+signal_rule+try_part.Lts-loop_part as loop-part-lts
+use Rattle.resume.proofs.resume.par_parts.Reads as par-parts
+use Rattle.resume.proofs.resume.par_parts.Kinds as par-parts-kinds
+use Rattle.resume.proofs.resume.+loop_part+par_parts+part+present_parts+resume+seq_parts+side+signal_rule+try_part.Lts-par_parts as par-parts-lts
+use Rattle.resume.proofs.resume.part.Reads as part
+use Rattle.resume.proofs.resume.part.Kinds as part-kinds
+use Rattle.resume.proofs.resume.+loop_part+par_parts+part+present_parts+resume+seq_parts+side+signal_rule+try_part.Lts-part as part-lts
+use Rattle.resume.proofs.resume.present_parts.Reads as present-parts
+use Rattle.resume.proofs.resume.present_parts.Kinds as present-parts-kinds
+use Rattle.resume.proofs.resume.+loop_part+par_parts+part+present_parts+resume+seq_parts+side+signal_rule+try_part.Lts-present_parts as present-parts-lts
+use Rattle.resume.proofs.resume.resume.Reads as resume
+use Rattle.resume.proofs.resume.resume.Kinds as resume-kinds
+use Rattle.resume.proofs.resume.+loop_part+par_parts+part+present_parts+resume+seq_parts+side+signal_rule+try_part.Lts-resume as resume-lts
+use Rattle.resume.proofs.resume.seq_parts.Reads as seq-parts
+use Rattle.resume.proofs.resume.seq_parts.Kinds as seq-parts-kinds
+use Rattle.resume.proofs.resume.+loop_part+par_parts+part+present_parts+resume+seq_parts+side+signal_rule+try_part.Lts-seq_parts as seq-parts-lts
+use Rattle.resume.proofs.resume.side.Reads as side
+use Rattle.resume.proofs.resume.side.Kinds as side-kinds
+use Rattle.resume.proofs.resume.+loop_part+par_parts+part+present_parts+resume+seq_parts+side+signal_rule+try_part.Lts-side as side-lts
+use Rattle.resume.proofs.resume.signal_rule.Reads as signal-rule
+use Rattle.resume.proofs.resume.signal_rule.Kinds as signal-rule-kinds
+use Rattle.resume.proofs.resume.+loop_part+par_parts+part+present_parts+resume+seq_parts+side+signal_rule+try_part.Lts-signal_rule as signal-rule-lts
+use Rattle.resume.proofs.resume.try_part.Reads as try-part
+use Rattle.resume.proofs.resume.try_part.Kinds as try-part-kinds
+use Rattle.resume.proofs.resume.+loop_part+par_parts+part+present_parts+resume+seq_parts+side+signal_rule+try_part.Lts-try_part as try-part-lts
+use Rattle.react.proofs.react.after.Reads as after-reads
+use Rattle.rules.proofs.command.ending.Reads as ending-reads
+use Rattle.rules.proofs.command.in_parallel.Reads as in-parallel-reads
+use Rattle.rules.proofs.command.in_signal.Reads as in-signal-reads
+use Rattle.rules.proofs.command.in_try.Reads as in-try-reads
+use Rattle.sets.proofs.labels.below.Reads as below-reads
+use Rattle.sets.proofs.labels.from.Reads as from-reads
+use Rattle.sets.proofs.labels.is_empty.Reads as is-empty-reads
+use Rattle.sets.proofs.signals.with.Reads as with-reads
+use Rattle.sets.proofs.signals.without.Reads as without-reads
+use Rattle.resume.proofs.resume.+loop_part+par_parts+part+present_parts+resume+seq_parts+side+signal_rule+try_part.{
+  statement,
+}
+use Rattle.resume.proofs.resume.+loop_part+par_parts+part+present_parts+resume+seq_parts+side+signal_rule+try_part.Tie.{
+  close,
+}
+
+abbrev μ-loop-part : Measures 2 loop-part-kinds.ps ℕ
+μ-loop-part κs a = 4 * (a .1 .1 .0) - 1
+
+abbrev μ-par-parts : Measures 2 par-parts-kinds.ps ℕ
+μ-par-parts κs a = 4 * (a .1 .1 .0) - 1
+
+abbrev μ-part : Measures 2 part-kinds.ps ℕ
+μ-part κs a = 4 * (a .1 .1 .1 .0) + 1
+
+abbrev μ-present-parts : Measures 2 present-parts-kinds.ps ℕ
+μ-present-parts κs a = 4 * (a .1 .1 .0) - 1
+
+abbrev μ-resume : Measures 2 resume-kinds.ps ℕ
+μ-resume κs a = 4 * (a .1 .1 .0)
+
+abbrev μ-seq-parts : Measures 2 seq-parts-kinds.ps ℕ
+μ-seq-parts κs a = 4 * (a .1 .1 .0) - 1
+
+abbrev μ-side : Measures 2 side-kinds.ps ℕ
+μ-side κs a = 4 * (a .1 .1 .1 .0) + 2
+
+abbrev μ-signal-rule : Measures 2 signal-rule-kinds.ps ℕ
+μ-signal-rule κs a = 4 * (a .1 .1 .0) - 1
+
+abbrev μ-try-part : Measures 2 try-part-kinds.ps ℕ
+μ-try-part κs a = 4 * (a .1 .1 .0) - 1
+
+abbrev loop-part-at : ℕ → In 2 loop-part-kinds.ps
+loop-part-at t = and 2 loop-part-kinds.ps (is 2 loop-part-kinds.ps μ-loop-part t) loop-part.Pre
+
+abbrev loop-part-below : ℕ → In 2 loop-part-kinds.ps
+loop-part-below t =
+    and 2 loop-part-kinds.ps (falls 2 loop-part-kinds.ps _<_ μ-loop-part t) loop-part.Pre
+
+abbrev par-parts-at : ℕ → In 2 par-parts-kinds.ps
+par-parts-at t = and 2 par-parts-kinds.ps (is 2 par-parts-kinds.ps μ-par-parts t) par-parts.Pre
+
+abbrev par-parts-below : ℕ → In 2 par-parts-kinds.ps
+par-parts-below t =
+    and 2 par-parts-kinds.ps (falls 2 par-parts-kinds.ps _<_ μ-par-parts t) par-parts.Pre
+
+abbrev part-at : ℕ → In 2 part-kinds.ps
+part-at t = and 2 part-kinds.ps (is 2 part-kinds.ps μ-part t) part.Pre
+
+abbrev part-below : ℕ → In 2 part-kinds.ps
+part-below t = and 2 part-kinds.ps (falls 2 part-kinds.ps _<_ μ-part t) part.Pre
+
+abbrev present-parts-at : ℕ → In 2 present-parts-kinds.ps
+present-parts-at t =
+    and 2 present-parts-kinds.ps (is 2 present-parts-kinds.ps μ-present-parts t) present-parts.Pre
+
+abbrev present-parts-below : ℕ → In 2 present-parts-kinds.ps
+present-parts-below t =
+    and
+    2
+    present-parts-kinds.ps
+    (falls 2 present-parts-kinds.ps _<_ μ-present-parts t)
+    present-parts.Pre
+
+abbrev resume-at : ℕ → In 2 resume-kinds.ps
+resume-at t = and 2 resume-kinds.ps (is 2 resume-kinds.ps μ-resume t) resume.Pre
+
+abbrev resume-below : ℕ → In 2 resume-kinds.ps
+resume-below t = and 2 resume-kinds.ps (falls 2 resume-kinds.ps _<_ μ-resume t) resume.Pre
+
+abbrev seq-parts-at : ℕ → In 2 seq-parts-kinds.ps
+seq-parts-at t = and 2 seq-parts-kinds.ps (is 2 seq-parts-kinds.ps μ-seq-parts t) seq-parts.Pre
+
+abbrev seq-parts-below : ℕ → In 2 seq-parts-kinds.ps
+seq-parts-below t =
+    and 2 seq-parts-kinds.ps (falls 2 seq-parts-kinds.ps _<_ μ-seq-parts t) seq-parts.Pre
+
+abbrev side-at : ℕ → In 2 side-kinds.ps
+side-at t = and 2 side-kinds.ps (is 2 side-kinds.ps μ-side t) side.Pre
+
+abbrev side-below : ℕ → In 2 side-kinds.ps
+side-below t = and 2 side-kinds.ps (falls 2 side-kinds.ps _<_ μ-side t) side.Pre
+
+abbrev signal-rule-at : ℕ → In 2 signal-rule-kinds.ps
+signal-rule-at t =
+    and 2 signal-rule-kinds.ps (is 2 signal-rule-kinds.ps μ-signal-rule t) signal-rule.Pre
+
+abbrev signal-rule-below : ℕ → In 2 signal-rule-kinds.ps
+signal-rule-below t =
+    and 2 signal-rule-kinds.ps (falls 2 signal-rule-kinds.ps _<_ μ-signal-rule t) signal-rule.Pre
+
+abbrev try-part-at : ℕ → In 2 try-part-kinds.ps
+try-part-at t = and 2 try-part-kinds.ps (is 2 try-part-kinds.ps μ-try-part t) try-part.Pre
+
+abbrev try-part-below : ℕ → In 2 try-part-kinds.ps
+try-part-below t =
+    and 2 try-part-kinds.ps (falls 2 try-part-kinds.ps _<_ μ-try-part t) try-part.Pre
+
+abbrev loop-part-claims : ℕ → loop-part-lts.Claims
+loop-part-claims t = (part-below t, part.Post, after-reads.Asked, after-reads.Learnt)
+
+abbrev par-parts-claims : ℕ → par-parts-lts.Claims
+par-parts-claims t = (below-reads.Asked, below-reads.Learnt, side-below t, side.Post, from-reads.Asked, from-reads.Learnt, in-parallel-reads.Asked, in-parallel-reads.Learnt)
+
+abbrev part-claims : ℕ → part-lts.Claims
+part-claims t = (resume-below t, resume.Post)
+
+abbrev present-parts-claims : ℕ → present-parts-lts.Claims
+present-parts-claims t = (below-reads.Asked, below-reads.Learnt, is-empty-reads.Asked, is-empty-reads.Learnt, from-reads.Asked, from-reads.Learnt, part-below t, part.Post)
+
+abbrev resume-claims : ℕ → resume-lts.Claims
+resume-claims t = (seq-parts-below t, seq-parts.Post, par-parts-below t, par-parts.Post, loop-part-below t, loop-part.Post, present-parts-below t, present-parts.Post, signal-rule-below t, signal-rule.Post, try-part-below t, try-part.Post, ending-reads.Asked, ending-reads.Learnt)
+
+abbrev seq-parts-claims : ℕ → seq-parts-lts.Claims
+seq-parts-claims t = (below-reads.Asked, below-reads.Learnt, is-empty-reads.Asked, is-empty-reads.Learnt, from-reads.Asked, from-reads.Learnt, part-below t, part.Post, after-reads.Asked, after-reads.Learnt)
+
+abbrev side-claims : ℕ → side-lts.Claims
+side-claims t = (is-empty-reads.Asked, is-empty-reads.Learnt, ending-reads.Asked, ending-reads.Learnt, part-below t, part.Post)
+
+abbrev signal-rule-claims : ℕ → signal-rule-lts.Claims
+signal-rule-claims t = (without-reads.Asked, without-reads.Learnt, part-below t, part.Post, with-reads.Asked, with-reads.Learnt, in-signal-reads.Asked, in-signal-reads.Learnt)
+
+abbrev try-part-claims : ℕ → try-part-lts.Claims
+try-part-claims t = (part-below t, part.Post, in-try-reads.Asked, in-try-reads.Learnt)
+
+loop-part-part-requires : (t : ℕ) → loop-part-lts.Need-part-requires (loop-part-claims t) (loop-part-at t) loop-part.Post
+loop-part-part-requires t c κs = let y = begins (c .before .pre .1 .0) Command.loop (c .before .pre .1 .1) in (search needs, (y .there, ready _ (y .parts .0) (c .before .pre .1 .0 .long) (y .parts .1 .1)))
+
+loop-part-after-requires : (t : ℕ) → loop-part-lts.Need-after-requires (loop-part-claims t) (loop-part-at t) loop-part.Post
+loop-part-after-requires t c κs = (search needs, whole (c .before .before .pre .1 .0))
+
+loop-part-returns : (t : ℕ) → loop-part-lts.Need-returns (loop-part-claims t) (loop-part-at t) loop-part.Post
+loop-part-returns t c base p l =
+    let y = taken (c .before .before .before .pre .1 .0) base p l Command.loop (c .before .before .before .pre .1 .1) .parts in
+    loop-step base _ _ (y .0) _ p (y .1 .0) (c .before .part .ensures base (y .0) (y .1 .1)) (λ i h. c .after .ensures base p i (whole-lies _ _ _ _ _ p l) h)
+
+par-parts-element-copy-out-entry : (t : ℕ) → par-parts-lts.Need-element-copy-out-entry (par-parts-claims t) (par-parts-at t) par-parts.Post
+par-parts-element-copy-out-entry t c = omega (arith, c .before .pre .1 .0 .long, c .before .pre .1 .0 .fits, c .before .pre .1 .0 .bytes)
+
+par-parts-side-requires : (t : ℕ) → par-parts-lts.Need-side-requires (par-parts-claims t) (par-parts-at t) par-parts.Post
+par-parts-side-requires t c κs = let y = begins (c .before .before .before .pre .1 .0) Command.par (c .before .before .before .pre .1 .1) in (search needs, (y .there, ready _ (y .parts .0) (c .before .before .before .pre .1 .0 .long) (y .parts .2 .1 .first)))
+
+par-parts-sub-side-2 : (t : ℕ) → par-parts-lts.Need-sub-side-2 (par-parts-claims t) (par-parts-at t) par-parts.Post
+par-parts-sub-side-2 t c = omega (arith, begins (c .before .before .before .before .before .pre .1 .0) Command.par (c .before .before .before .before .before .pre .1 .1) .parts .2 .1 .place)
+
+par-parts-side-requires-2 : (t : ℕ) → par-parts-lts.Need-side-requires-2 (par-parts-claims t) (par-parts-at t) par-parts.Post
+par-parts-side-requires-2 t c κs = let y = begins (c .before .before .before .before .before .pre .1 .0) Command.par (c .before .before .before .before .before .pre .1 .1) in (search needs, (y .parts .2 .1 .within, ready _ (y .parts .1) (c .before .before .before .before .before .pre .1 .0 .long) (y .parts .2 .1 .second)))
+
+par-parts-returns : (t : ℕ) → par-parts-lts.Need-returns (par-parts-claims t) (par-parts-at t) par-parts.Post
+par-parts-returns t c base p l =
+    let y = taken (c .before .before .before .before .before .before .before .pre .1 .0) base p l Command.par (c .before .before .before .before .before .before .before .pre .1 .1) .parts in
+    here base _ _ (par (y .0) (y .1)) p (y .2 .0)
+    (par-step base _ _ (y .0) (y .1) _ _ (y .2 .1 .before) (c .before .before .before .before .below .ensures) _ (c .before .before .from .ensures) (c .before .before .before .side .ensures base (y .0) (y .2 .1 .first)) (c .before .side2 .ensures _ (y .1) (y .2 .1 .second)) (c .in-parallel .ensures))
+
+part-sub-resume :
+    (t : ℕ) → part-lts.Need-sub-resume (resume-below t, resume.Post) (part-at t) part.Post
+part-sub-resume t c = search needs
+
+part-part-resume-start :
+    (t : ℕ) → part-lts.Need-part-resume-start (resume-below t, resume.Post) (part-at t) part.Post
+part-part-resume-start t c = search needs
+
+part-part-resume-end :
+    (t : ℕ) → part-lts.Need-part-resume-end (resume-below t, resume.Post) (part-at t) part.Post
+part-part-resume-end t c = search needs
+
+part-resume-requires :
+    (t : ℕ) → part-lts.Need-resume-requires (resume-below t, resume.Post) (part-at t) part.Post
+part-resume-requires t c κs = (search needs, c .before .before .pre .1 .1)
+
+part-returns : (t : ℕ) → part-lts.Need-returns (part-claims t) (part-at t) part.Post
+part-returns t c base p l = c .resume .ensures base p l
+
+present-parts-element-copy-out-entry : (t : ℕ) → present-parts-lts.Need-element-copy-out-entry (present-parts-claims t) (present-parts-at t) present-parts.Post
+present-parts-element-copy-out-entry t c = omega (arith, c .before .pre .1 .0 .long, c .before .pre .1 .0 .fits, c .before .pre .1 .0 .bytes)
+
+present-parts-sub-part : (t : ℕ) → present-parts-lts.Need-sub-part (present-parts-claims t) (present-parts-at t) present-parts.Post
+present-parts-sub-part t c = omega (arith, begins (c .before .before .before .before .before .before .pre .1 .0) Command.present (c .before .before .before .before .before .before .pre .1 .1) .parts .2 .1 .place)
+
+present-parts-part-requires : (t : ℕ) → present-parts-lts.Need-part-requires (present-parts-claims t) (present-parts-at t) present-parts.Post
+present-parts-part-requires t c κs = let y = begins (c .before .before .before .before .before .before .pre .1 .0) Command.present (c .before .before .before .before .before .before .pre .1 .1) in (search needs, (y .parts .2 .1 .within, ready _ (y .parts .1) (c .before .before .before .before .before .before .pre .1 .0 .long) (y .parts .2 .1 .second)))
+
+present-parts-returns : (t : ℕ) → present-parts-lts.Need-returns (present-parts-claims t) (present-parts-at t) present-parts.Post
+present-parts-returns t c base p l =
+    let y = taken (c .before .before .before .before .before .before .before .pre .1 .0) base p l Command.present (c .before .before .before .before .before .before .before .pre .1 .1) .parts in
+    here base _ _ (present _ (y .0) (y .1)) p (y .2 .0)
+    (present-second base _ _ (y .0) (y .1) _ _ (y .2 .1 .before) (c .before .before .before .before .below .ensures) _ (c .before .from .ensures) _ (sym (c .before .before .before .is-empty .ensures) ∙ c .before .before .if1 .taken) (c .part .ensures _ (y .1) (y .2 .1 .second)))
+
+present-parts-part-requires-2 : (t : ℕ) → present-parts-lts.Need-part-requires-2 (present-parts-claims t) (present-parts-at t) present-parts.Post
+present-parts-part-requires-2 t c κs = let y = begins (c .before .before .before .before .before .pre .1 .0) Command.present (c .before .before .before .before .before .pre .1 .1) in (search needs, (y .there, ready _ (y .parts .0) (c .before .before .before .before .before .pre .1 .0 .long) (y .parts .2 .1 .first)))
+
+present-parts-returns-2 : (t : ℕ) → present-parts-lts.Need-returns-2 (present-parts-claims t) (present-parts-at t) present-parts.Post
+present-parts-returns-2 t c base p l =
+    let y = taken (c .before .before .before .before .before .before .pre .1 .0) base p l Command.present (c .before .before .before .before .before .before .pre .1 .1) .parts in
+    here base _ _ (present _ (y .0) (y .1)) p (y .2 .0)
+    (present-first base _ _ (y .0) (y .1) _ _ (y .2 .1 .before) (c .before .before .before .below .ensures) _ (sym (c .before .before .is-empty .ensures) ∙ c .before .if1 .left) (c .part2 .ensures base (y .0) (y .2 .1 .first)))
+
+resume-seq-parts-requires : (t : ℕ) → resume-lts.Need-seq-parts-requires (resume-claims t) (resume-at t) resume.Post
+resume-seq-parts-requires t c κs = (search needs, ((c .before .before .before .pre .1), c .match .keys1))
+
+resume-par-parts-requires : (t : ℕ) → resume-lts.Need-par-parts-requires (resume-claims t) (resume-at t) resume.Post
+resume-par-parts-requires t c κs = (search needs, ((c .before .before .before .pre .1), c .match .keys2))
+
+resume-loop-part-requires : (t : ℕ) → resume-lts.Need-loop-part-requires (resume-claims t) (resume-at t) resume.Post
+resume-loop-part-requires t c κs = (search needs, ((c .before .before .before .pre .1), c .match .keys3))
+
+resume-present-parts-requires : (t : ℕ) → resume-lts.Need-present-parts-requires (resume-claims t) (resume-at t) resume.Post
+resume-present-parts-requires t c κs = (search needs, ((c .before .before .before .pre .1), c .match .keys4))
+
+resume-signal-rule-requires : (t : ℕ) → resume-lts.Need-signal-rule-requires (resume-claims t) (resume-at t) resume.Post
+resume-signal-rule-requires t c κs = (search needs, ((c .before .before .before .pre .1), c .match .keys5))
+
+resume-try-part-requires : (t : ℕ) → resume-lts.Need-try-part-requires (resume-claims t) (resume-at t) resume.Post
+resume-try-part-requires t c κs = (search needs, ((c .before .before .before .pre .1), c .match .keys6))
+
+resume-returns : (t : ℕ) → resume-lts.Need-returns (resume-claims t) (resume-at t) resume.Post
+resume-returns t c base p l = c .seq-parts .ensures base p l
+
+resume-returns-2 : (t : ℕ) → resume-lts.Need-returns-2 (resume-claims t) (resume-at t) resume.Post
+resume-returns-2 t c base p l = c .par-parts .ensures base p l
+
+resume-returns-3 : (t : ℕ) → resume-lts.Need-returns-3 (resume-claims t) (resume-at t) resume.Post
+resume-returns-3 t c base p l = c .loop-part .ensures base p l
+
+resume-returns-4 : (t : ℕ) → resume-lts.Need-returns-4 (resume-claims t) (resume-at t) resume.Post
+resume-returns-4 t c base p l = c .present-parts .ensures base p l
+
+resume-returns-5 : (t : ℕ) → resume-lts.Need-returns-5 (resume-claims t) (resume-at t) resume.Post
+resume-returns-5 t c base p l = c .signal-rule .ensures base p l
+
+resume-returns-6 : (t : ℕ) → resume-lts.Need-returns-6 (resume-claims t) (resume-at t) resume.Post
+resume-returns-6 t c base p l = c .try-part .ensures base p l
+
+resume-returns-7 : (t : ℕ) → resume-lts.Need-returns-7 (resume-claims t) (resume-at t) resume.Post
+resume-returns-7 t c base p l = leaf-step _ _ base _ _ p _ _ l (c .before .match .rest) (idle-is (c .ending .ensures))
+
+seq-parts-element-copy-out-entry : (t : ℕ) → seq-parts-lts.Need-element-copy-out-entry (seq-parts-claims t) (seq-parts-at t) seq-parts.Post
+seq-parts-element-copy-out-entry t c = omega (arith, c .before .pre .1 .0 .long, c .before .pre .1 .0 .fits, c .before .pre .1 .0 .bytes)
+
+seq-parts-sub-part : (t : ℕ) → seq-parts-lts.Need-sub-part (seq-parts-claims t) (seq-parts-at t) seq-parts.Post
+seq-parts-sub-part t c = omega (arith, begins (c .before .before .before .before .before .before .pre .1 .0) Command.seq (c .before .before .before .before .before .before .pre .1 .1) .parts .2 .1 .place)
+
+seq-parts-part-requires : (t : ℕ) → seq-parts-lts.Need-part-requires (seq-parts-claims t) (seq-parts-at t) seq-parts.Post
+seq-parts-part-requires t c κs = let y = begins (c .before .before .before .before .before .before .pre .1 .0) Command.seq (c .before .before .before .before .before .before .pre .1 .1) in (search needs, (y .parts .2 .1 .within, ready _ (y .parts .1) (c .before .before .before .before .before .before .pre .1 .0 .long) (y .parts .2 .1 .second)))
+
+seq-parts-returns : (t : ℕ) → seq-parts-lts.Need-returns (seq-parts-claims t) (seq-parts-at t) seq-parts.Post
+seq-parts-returns t c base p l =
+    let y = taken (c .before .before .before .before .before .before .before .pre .1 .0) base p l Command.seq (c .before .before .before .before .before .before .before .pre .1 .1) .parts in
+    here base _ _ (seq (y .0) (y .1)) p (y .2 .0)
+    (seq-second base _ _ (y .0) (y .1) _ _ (y .2 .1 .before) (c .before .before .before .before .below .ensures) _ (c .before .from .ensures) (sym (c .before .before .before .is-empty .ensures) ∙ c .before .before .if1 .taken) (c .part .ensures _ (y .1) (y .2 .1 .second)))
+
+seq-parts-part-requires-2 : (t : ℕ) → seq-parts-lts.Need-part-requires-2 (seq-parts-claims t) (seq-parts-at t) seq-parts.Post
+seq-parts-part-requires-2 t c κs = let y = begins (c .before .before .before .before .before .pre .1 .0) Command.seq (c .before .before .before .before .before .pre .1 .1) in (search needs, (y .there, ready _ (y .parts .0) (c .before .before .before .before .before .pre .1 .0 .long) (y .parts .2 .1 .first)))
+
+seq-parts-sub-after : (t : ℕ) → seq-parts-lts.Need-sub-after (seq-parts-claims t) (seq-parts-at t) seq-parts.Post
+seq-parts-sub-after t c = omega (arith, begins (c .before .before .before .before .before .before .pre .1 .0) Command.seq (c .before .before .before .before .before .before .pre .1 .1) .parts .2 .1 .place)
+
+seq-parts-after-requires : (t : ℕ) → seq-parts-lts.Need-after-requires (seq-parts-claims t) (seq-parts-at t) seq-parts.Post
+seq-parts-after-requires t c κs = let y = begins (c .before .before .before .before .before .before .pre .1 .0) Command.seq (c .before .before .before .before .before .before .pre .1 .1) in (y .parts .2 .1 .within, ready _ (y .parts .1) (c .before .before .before .before .before .before .pre .1 .0 .long) (y .parts .2 .1 .second))
+
+seq-parts-returns-2 : (t : ℕ) → seq-parts-lts.Need-returns-2 (seq-parts-claims t) (seq-parts-at t) seq-parts.Post
+seq-parts-returns-2 t c base p l =
+    let y = taken (c .before .before .before .before .before .before .before .pre .1 .0) base p l Command.seq (c .before .before .before .before .before .before .before .pre .1 .1) .parts in
+    here base _ _ (seq (y .0) (y .1)) p (y .2 .0)
+    (seq-first base _ _ (y .0) (y .1) _ _ (y .2 .1 .before) (c .before .before .before .before .below .ensures) (sym (c .before .before .before .is-empty .ensures) ∙ c .before .before .if1 .left) (c .before .part2 .ensures base (y .0) (y .2 .1 .first)) (λ i h. c .after .ensures _ (y .1) i (y .2 .1 .second) h))
+
+side-returns : (t : ℕ) → side-lts.Need-returns (side-claims t) (side-at t) side.Post
+side-returns t c base p l = side-ended base _ _ p (sym (c .before .before .is-empty .ensures) ∙ c .before .if1 .taken) (idle-is (c .ending .ensures))
+
+side-part-requires : (t : ℕ) → side-lts.Need-part-requires (side-claims t) (side-at t) side.Post
+side-part-requires t c κs = (search needs, (c .before .before .before .pre .1 .0, c .before .before .before .pre .1 .1))
+
+side-returns-2 : (t : ℕ) → side-lts.Need-returns-2 (side-claims t) (side-at t) side.Post
+side-returns-2 t c base p l = side-active base _ _ p (sym (c .before .before .is-empty .ensures) ∙ c .before .if1 .left) (c .part .ensures base p l)
+
+signal-rule-shared-slice-read-x : (t : ℕ) → signal-rule-lts.Need-shared-slice-read-x (signal-rule-claims t) (signal-rule-at t) signal-rule.Post
+signal-rule-shared-slice-read-x t c = begins (c .before .before .pre .1 .0) Command.signal (c .before .before .pre .1 .1) .there
+
+signal-rule-part-requires : (t : ℕ) → signal-rule-lts.Need-part-requires (signal-rule-claims t) (signal-rule-at t) signal-rule.Post
+signal-rule-part-requires t c κs = let y = begins (c .before .before .before .pre .1 .0) Command.signal (c .before .before .before .pre .1 .1) in (search needs, (y .there, ready _ (y .parts .0) (c .before .before .before .pre .1 .0 .long) (y .parts .1 .1)))
+
+signal-rule-part-requires-2 : (t : ℕ) → signal-rule-lts.Need-part-requires-2 (signal-rule-claims t) (signal-rule-at t) signal-rule.Post
+signal-rule-part-requires-2 t c κs = let y = begins (c .before .before .before .before .before .pre .1 .0) Command.signal (c .before .before .before .before .before .pre .1 .1) in (search needs, (y .there, ready _ (y .parts .0) (c .before .before .before .before .before .pre .1 .0 .long) (y .parts .1 .1)))
+
+signal-rule-returns : (t : ℕ) → signal-rule-lts.Need-returns (signal-rule-claims t) (signal-rule-at t) signal-rule.Post
+signal-rule-returns t c base p l =
+    let y = taken (c .before .before .before .before .before .before .before .pre .1 .0) base p l Command.signal (c .before .before .before .before .before .before .before .pre .1 .1) in
+    let q = y .parts .0 in
+    here base _ _ (signal _ _ q) p (y .parts .1 .0)
+    (signal-step base _ _ q _ _ (ltb-true _ _ (y .ranged refl)) (c .before .before .before .before .without .ensures) (c .before .before .before .part .ensures base q (y .parts .1 .1)) (c .before .before .with .ensures)
+    (c .before .part2 .ensures base q (y .parts .1 .1)) (c .in-signal .ensures))
+
+try-part-part-requires : (t : ℕ) → try-part-lts.Need-part-requires (try-part-claims t) (try-part-at t) try-part.Post
+try-part-part-requires t c κs = let y = begins (c .before .pre .1 .0) Command.try (c .before .pre .1 .1) in (search needs, (y .there, ready _ (y .parts .0) (c .before .pre .1 .0 .long) (y .parts .1 .1)))
+
+try-part-returns : (t : ℕ) → try-part-lts.Need-returns (try-part-claims t) (try-part-at t) try-part.Post
+try-part-returns t c base p l =
+    let y = taken (c .before .before .before .pre .1 .0) base p l Command.try (c .before .before .before .pre .1 .1) .parts in
+    here base _ _ (try (y .0)) p (y .1 .0) (try-step base _ _ (y .0) (c .before .part .ensures base (y .0) (y .1 .1)) (c .in-try .ensures))
+
+pub +loop-part+par-parts+part+present-parts+resume+seq-parts+side+signal-rule+try-part-spec :
+    {M : Type 1} → statement M
++loop-part+par-parts+part+present-parts+resume+seq-parts+side+signal-rule+try-part-spec =
+    close
+    μ-loop-part
+    μ-par-parts
+    μ-part
+    μ-present-parts
+    μ-resume
+    μ-seq-parts
+    μ-side
+    μ-signal-rule
+    μ-try-part
+    (λ t. loop-part-lts.spec (loop-part-claims t) (loop-part-at t)
+    loop-part.Post
+    (λ c. search needs) (λ c. search needs)
+    (loop-part-part-requires t)
+    (loop-part-after-requires t)
+    (loop-part-returns t))
+    (λ t. par-parts-lts.spec (par-parts-claims t) (par-parts-at t)
+    par-parts.Post
+    (λ c. search needs)
+    (par-parts-element-copy-out-entry t)
+    (λ c. search needs) (λ c κs. search needs) (λ c. search needs) (λ c. search needs)
+    (par-parts-side-requires t)
+    (λ c κs. search needs)
+    (par-parts-sub-side-2 t)
+    (λ c. search needs)
+    (par-parts-side-requires-2 t)
+    (λ c κs. search needs)
+    (par-parts-returns t))
+    (λ t. part-lts.spec (part-claims t) (part-at t)
+    part.Post
+    (part-sub-resume t)
+    (part-part-resume-start t)
+    (part-part-resume-end t)
+    (part-resume-requires t)
+    (part-returns t))
+    (λ t. present-parts-lts.spec (present-parts-claims t) (present-parts-at t)
+    present-parts.Post
+    (λ c. search needs)
+    (present-parts-element-copy-out-entry t)
+    (λ c κs. search needs) (λ c κs. search needs) (λ c. search needs) (λ c κs. search needs)
+    (present-parts-sub-part t)
+    (λ c. search needs)
+    (present-parts-part-requires t)
+    (present-parts-returns t)
+    (λ c. search needs) (λ c. search needs)
+    (present-parts-part-requires-2 t)
+    (present-parts-returns-2 t))
+    (λ t. resume-lts.spec (resume-claims t) (resume-at t)
+    resume.Post
+    (λ c. search needs)
+    (resume-seq-parts-requires t)
+    (resume-par-parts-requires t)
+    (resume-loop-part-requires t)
+    (resume-present-parts-requires t)
+    (resume-signal-rule-requires t)
+    (resume-try-part-requires t)
+    (λ c κs. search needs)
+    (resume-returns t)
+    (resume-returns-2 t)
+    (resume-returns-3 t)
+    (resume-returns-4 t)
+    (resume-returns-5 t)
+    (resume-returns-6 t)
+    (resume-returns-7 t))
+    (λ t. seq-parts-lts.spec (seq-parts-claims t) (seq-parts-at t)
+    seq-parts.Post
+    (λ c. search needs)
+    (seq-parts-element-copy-out-entry t)
+    (λ c. search needs) (λ c κs. search needs) (λ c κs. search needs) (λ c κs. search needs)
+    (seq-parts-sub-part t)
+    (λ c. search needs)
+    (seq-parts-part-requires t)
+    (seq-parts-returns t)
+    (λ c. search needs) (λ c. search needs)
+    (seq-parts-part-requires-2 t)
+    (seq-parts-sub-after t)
+    (λ c. search needs)
+    (seq-parts-after-requires t)
+    (seq-parts-returns-2 t))
+    (λ t. side-lts.spec (side-claims t) (side-at t)
+    side.Post
+    (λ c κs. search needs) (λ c κs. search needs)
+    (side-returns t)
+    (side-part-requires t)
+    (side-returns-2 t))
+    (λ t. signal-rule-lts.spec (signal-rule-claims t) (signal-rule-at t)
+    signal-rule.Post
+    (signal-rule-shared-slice-read-x t)
+    (λ c κs. search needs) (λ c. search needs) (λ c. search needs)
+    (signal-rule-part-requires t)
+    (λ c κs. search needs) (λ c. search needs) (λ c. search needs)
+    (signal-rule-part-requires-2 t)
+    (λ c. search needs) (λ c κs. search needs)
+    (signal-rule-returns t))
+    λ t. try-part-lts.spec (try-part-claims t) (try-part-at t)
+    try-part.Post
+    (λ c. search needs) (λ c. search needs)
+    (try-part-part-requires t)
+    (λ c κs. search needs)
+    (try-part-returns t)

@@ -1,0 +1,21 @@
+-- What a waiting statement answers by the ranks m of its active pauses, for whatever statement lies in the bytes
+-- (sequence, specs/Layout).
+use Prim.Native.Nat.{ℕ}
+use mathlib.Core.Path.{_≡_}
+use mathlib.Core.Bool.{cond}
+use mathlib.Core.List.{List}
+use Rattle.esterel.specs.Sets.{empty}
+use Rattle.esterel.specs.Statement.{Statement}
+use Rattle.esterel.specs.Resume.{idle, resume}
+use Rattle.sequence.specs.Layout.{Lies}
+use Rattle.rules.specs.declared.instant.Instant.{Instant}
+use Rattle.rules.specs.Instants.{instantOf}
+
+-- r is the instant of the statement that lies there
+abbrev pub Resumed : (t : List ℕ) (d a : ℕ) (bs : List ℕ) (m e : ℕ) (r : Instant) → Type 0
+Resumed t d a bs m e r = (base : ℕ) (p : Statement) → Lies t d base a bs p → r ≡ instantOf (resume base p m e)
+
+-- the same of a side of a parallel, which may have no active pause
+abbrev pub ResumedSide : (t : List ℕ) (d a : ℕ) (bs : List ℕ) (m e : ℕ) (r : Instant) → Type 0
+ResumedSide t d a bs m e r =
+    (base : ℕ) (p : Statement) → Lies t d base a bs p → r ≡ instantOf (cond (empty m) idle (resume base p m e))

@@ -1,0 +1,2 @@
+// One reaction of a waiting statement, by the ranks of its active pauses.
+pub mod resume;

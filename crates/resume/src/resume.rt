@@ -1,0 +1,180 @@
+// A waiting statement resumes by the ranks of its active pauses, and no expansion is built. Only parts with an active pause
+// are entered; `second` says where second parts begin and how many pauses stand before, which splits the ranks.
+ghost use mathlib.Core.Path.{_≡_};
+ghost use Prim.Native.Nat.{_≤_};
+ghost use lib.ListN.{length, getD};
+ghost use Rattle.sets.specs.Labels.{labelSet};
+ghost use Rattle.sequence.specs.Layout.{rest, Ready};
+ghost use Rattle.resume.specs.Resumed.{Resumed, ResumedSide};
+use rules::instant::Instant;
+use sequence::reader::Seconds;
+use sets::labels::Labels;
+
+// The instant of the statement at the front of s, which stands at the offset `at`, by the ranks of its active pauses.
+pub fn resume(
+    s: &[u8],
+    at: usize,
+    depth: u8,
+    input: u32,
+    active: Labels,
+    second: &Seconds,
+) -> Instant
+    requires { ⌜ Ready (now second) depth at (now s) ⌝ }
+    ensures { λ r. ⌜ Resumed (now (second .entry)) depth at (now (s .entry)) (labelSet active) input r ⌝ }
+{
+    let command = s[0];
+    match command {
+        4 => seq_parts(s, at, depth, input, active, second),
+        5 => par_parts(s, at, depth, input, active, second),
+        6 => loop_part(s, at, depth, input, active, second),
+        7 => present_parts(s, at, depth, input, active, second),
+        8 => signal_rule(s, at, depth, input, active, second),
+        9 => try_part(s, at, depth, input, active, second),
+        _ => rules::command::ending(0),
+    }
+}
+
+// The part that begins at index n of s, at the offset `at`.
+fn part(
+    s: &[u8],
+    n: usize,
+    at: usize,
+    depth: u8,
+    input: u32,
+    active: Labels,
+    second: &Seconds,
+) -> Instant
+    requires { ⌜ n ≤ length (now s) ⌝ }
+    requires { ⌜ Ready (now second) depth at (rest n (now s)) ⌝ }
+    ensures { λ r. ⌜ Resumed (now (second .entry)) depth at (rest n (now (s .entry))) (labelSet active) input r ⌝ }
+{
+    resume(&s[n..], at, depth, input, active, second)
+}
+
+fn seq_parts(
+    s: &[u8],
+    at: usize,
+    depth: u8,
+    input: u32,
+    active: Labels,
+    second: &Seconds,
+) -> Instant
+    requires { ⌜ Ready (now second) depth at (now s) × (getD (now s) 0 0 ≡ 4) ⌝ }
+    ensures { λ r. ⌜ Resumed (now (second .entry)) depth at (now (s .entry)) (labelSet active) input r ⌝ }
+{
+    let entry = second[at];
+    let m = (entry % 2048) as usize;
+    let first = sets::labels::below(active, entry / 2048);
+    if sets::labels::is_empty(first) {
+        let others = sets::labels::from(active, entry / 2048);
+        return part(s, m - at, m, depth - 1, input, others, second);
+    }
+    let p = part(s, 1, at + 1, depth - 1, input, first, second);
+    react::react::after(p, s, m - at, m, depth - 1, input, second)
+}
+
+// A side of a parallel, which begins at index n of s: it has ended where none of its pauses is active.
+fn side(
+    s: &[u8],
+    n: usize,
+    at: usize,
+    depth: u8,
+    input: u32,
+    active: Labels,
+    second: &Seconds,
+) -> Instant
+    requires { ⌜ n ≤ length (now s) ⌝ }
+    requires { ⌜ Ready (now second) depth at (rest n (now s)) ⌝ }
+    ensures { λ r. ⌜ ResumedSide (now (second .entry)) depth at (rest n (now (s .entry))) (labelSet active) input r ⌝ }
+{
+    if sets::labels::is_empty(active) {
+        return rules::command::ending(0);
+    }
+    part(s, n, at, depth, input, active, second)
+}
+
+fn par_parts(
+    s: &[u8],
+    at: usize,
+    depth: u8,
+    input: u32,
+    active: Labels,
+    second: &Seconds,
+) -> Instant
+    requires { ⌜ Ready (now second) depth at (now s) × (getD (now s) 0 0 ≡ 5) ⌝ }
+    ensures { λ r. ⌜ Resumed (now (second .entry)) depth at (now (s .entry)) (labelSet active) input r ⌝ }
+{
+    let entry = second[at];
+    let m = (entry % 2048) as usize;
+    let first = sets::labels::below(active, entry / 2048);
+    let p = side(s, 1, at + 1, depth - 1, input, first, second);
+    let others = sets::labels::from(active, entry / 2048);
+    let q = side(s, m - at, m, depth - 1, input, others, second);
+    rules::command::in_parallel(p, q)
+}
+
+// The loop begins again where its body has ended.
+fn loop_part(
+    s: &[u8],
+    at: usize,
+    depth: u8,
+    input: u32,
+    active: Labels,
+    second: &Seconds,
+) -> Instant
+    requires { ⌜ Ready (now second) depth at (now s) × (getD (now s) 0 0 ≡ 6) ⌝ }
+    ensures { λ r. ⌜ Resumed (now (second .entry)) depth at (now (s .entry)) (labelSet active) input r ⌝ }
+{
+    let p = part(s, 1, at + 1, depth - 1, input, active, second);
+    react::react::after(p, s, 0, at, depth, input, second)
+}
+
+// Of a test the active branch goes on, whatever its signal is now.
+fn present_parts(
+    s: &[u8],
+    at: usize,
+    depth: u8,
+    input: u32,
+    active: Labels,
+    second: &Seconds,
+) -> Instant
+    requires { ⌜ Ready (now second) depth at (now s) × (getD (now s) 0 0 ≡ 7) ⌝ }
+    ensures { λ r. ⌜ Resumed (now (second .entry)) depth at (now (s .entry)) (labelSet active) input r ⌝ }
+{
+    let entry = second[at];
+    let first = sets::labels::below(active, entry / 2048);
+    if sets::labels::is_empty(first) {
+        let m = (entry % 2048) as usize;
+        let others = sets::labels::from(active, entry / 2048);
+        return part(s, m - at, m, depth - 1, input, others, second);
+    }
+    part(s, 2, at + 2, depth - 1, input, first, second)
+}
+
+// The body resumes twice, without the signal and with it.
+fn signal_rule(
+    s: &[u8],
+    at: usize,
+    depth: u8,
+    input: u32,
+    active: Labels,
+    second: &Seconds,
+) -> Instant
+    requires { ⌜ Ready (now second) depth at (now s) × (getD (now s) 0 0 ≡ 8) ⌝ }
+    ensures { λ r. ⌜ Resumed (now (second .entry)) depth at (now (s .entry)) (labelSet active) input r ⌝ }
+{
+    let x = s[1];
+    let without = sets::signals::without(input, x);
+    let p = part(s, 2, at + 2, depth - 1, without, active, second);
+    let with = sets::signals::with(input, x);
+    let q = part(s, 2, at + 2, depth - 1, with, active, second);
+    rules::command::in_signal(at as u16, x, p, q)
+}
+
+fn try_part(s: &[u8], at: usize, depth: u8, input: u32, active: Labels, second: &Seconds) -> Instant
+    requires { ⌜ Ready (now second) depth at (now s) × (getD (now s) 0 0 ≡ 9) ⌝ }
+    ensures { λ r. ⌜ Resumed (now (second .entry)) depth at (now (s .entry)) (labelSet active) input r ⌝ }
+{
+    let p = part(s, 1, at + 1, depth - 1, input, active, second);
+    rules::command::in_try(p)
+}

@@ -1,0 +1,195 @@
+-- What the reader accepts lies in the bytes with the table that it filled; and a statement that lies there is taken apart by
+-- its command byte.
+use Prim.Native.Nat.{ℕ, zero, suc, _+_, _-_, _≤_, _<_}
+use mathlib.Core.Path.{_≡_, refl, sym, ap, _∙_, subst, subst₂}
+use mathlib.Core.Option.{Option, none, some}
+use mathlib.Core.List.{List}
+use native.Mathlib.Omega.{arith}
+use native.Mathlib.Numerals.{sub-one}
+use lib.ListN.{length, drop, getD, length-drop}
+use Rattle.esterel.specs.Statement.{Statement, nothing}
+use Rattle.esterel.specs.Ranks.{middle}
+use Rattle.sequence.specs.Commands.{Command, commandOf, operandCount, partCount, inRange, width, declares, build}
+use Rattle.sequence.specs.Limits.{maxBytes}
+use Rattle.sequence.specs.Reader.{accepted, read}
+use Rattle.sequence.specs.Writer.{size}
+use Rattle.sequence.specs.Layout.{rest, entry, secondAt, Marked, Two, Parts, Begins, Form, AtFront, Lies, Ready, Pair}
+use Rattle.sequence.proofs.Parts.{rest-is}
+use Rattle.sequence.proofs.Sound.{sound}
+use Rattle.sequence.proofs.Accepted.{Fronted, Accepts, accepts, deep, count-within, byteOf, byte-is, command-of-byte}
+
+-- a command without operand does not look at it
+build-operand : (c : Command) (a x y : ℕ) (p q : Statement) → (operandCount c ≡ 1 → y ≡ x) → build c a x p q ≡ build c a y p q
+build-operand Command.nothing a x y p q h = refl
+build-operand Command.pause a x y p q h = ap Statement.pause (sym (h refl))
+build-operand Command.emit a x y p q h = ap Statement.emit (sym (h refl))
+build-operand Command.exit a x y p q h = ap Statement.exit (sym (h refl))
+build-operand Command.seq a x y p q h = refl
+build-operand Command.par a x y p q h = refl
+build-operand Command.loop a x y p q h = refl
+build-operand Command.present a x y p q h = ap (λ (z : ℕ). Statement.present z p q) (sym (h refl))
+build-operand Command.signal a x y p q h = ap (λ (z : ℕ). Statement.signal a z p) (sym (h refl))
+build-operand Command.try a x y p q h = refl
+build-operand Command.setpause a x y p q h = ap Statement.setpause (sym (h refl))
+
+-- ---- the marks of the parts
+module _ (t : List ℕ) (base a x : ℕ) where
+  marks-one : (c : Command) (p : Statement) → partCount c ≡ 1 → Marked t base a (build c a x p nothing) → Marked t base (a + width c) p
+  marks-one Command.nothing p e m = absurd (omega arith)
+  marks-one Command.pause p e m = absurd (omega arith)
+  marks-one Command.emit p e m = absurd (omega arith)
+  marks-one Command.exit p e m = absurd (omega arith)
+  marks-one Command.seq p e m = absurd (omega arith)
+  marks-one Command.par p e m = absurd (omega arith)
+  marks-one Command.loop p e m = m
+  marks-one Command.present p e m = absurd (omega arith)
+  marks-one Command.signal p e m = m
+  marks-one Command.try p e m = m
+  marks-one Command.setpause p e m = absurd (omega arith)
+
+  abbrev Marks : Command → (p q : Statement) → Type 0
+  Marks c p q =
+      (getD t a 0 ≡ entry (a + (width c + size p)) (middle base p)) × Marked t base (a + width c) p × Marked t (middle base p) (a + (width c + size p)) q
+
+  marks-two : (c : Command) (p q : Statement) → partCount c ≡ 2 → Marked t base a (build c a x p q) → Marks c p q
+  marks-two Command.nothing p q e m = absurd (omega arith)
+  marks-two Command.pause p q e m = absurd (omega arith)
+  marks-two Command.emit p q e m = absurd (omega arith)
+  marks-two Command.exit p q e m = absurd (omega arith)
+  marks-two Command.seq p q e m = m
+  marks-two Command.par p q e m = m
+  marks-two Command.loop p q e m = absurd (omega arith)
+  marks-two Command.present p q e m = m
+  marks-two Command.signal p q e m = absurd (omega arith)
+  marks-two Command.try p q e m = absurd (omega arith)
+  marks-two Command.setpause p q e m = absurd (omega arith)
+
+-- ---- one level, by what is known of the parts
+module _ (t : List ℕ) (d : ℕ)
+    (ih : (g base a : ℕ) (bs : List ℕ) (p : Statement) (n : ℕ) → read d g a bs ≡ accepted p n → Marked t base a p → a + length bs ≤ maxBytes
+    → Lies t d base a bs p) where
+  -- the part at b, found at k in the bytes l
+  part-at : (g base b : ℕ) (cs : List ℕ) (p : Statement) (n k : ℕ) (l : List ℕ) → k ≡ b → l ≡ cs → read (suc d - 1) g b cs ≡ accepted p n → Marked t base b p
+      → b + length cs ≤ maxBytes → Lies t d base k l p
+  part-at g base b cs p n k l e s h m f =
+      subst₂ (λ (i : ℕ) (v : List ℕ). Lies t d base i v p) (sym e) (sym s)
+      (ih g base b cs p n (sym (ap (λ (i : ℕ). read i g b cs) (sub-one (suc d))) ∙ h) m f)
+
+  module _ (base a : ℕ) (bs : List ℕ) (fits : a + length bs ≤ maxBytes) where
+    front-of : (c : Command) (x : ℕ) (p : Statement) → Fronted bs c x → Parts (Lies t d) t base a bs p c (partCount c) → Lies t (suc d) base a bs p
+    unfolding Lies
+    front-of c x p f y =
+        let b : Begins (Lies t d) t base a bs p c = record { there = f .long; ranged = λ o. ap (inRange c) (f .operand o) ∙ f .ranged; parts = y } in
+        record { fits = fits; bytes = omega (arith, f .long); form = subst (λ (o : Option Command). Form (Lies t d) t base a bs p o) (sym (f .byte)) b }
+
+    laid : (g : ℕ) (p : Statement) (n : ℕ) → Accepts (suc d) g a bs p n → Marked t base a p → Lies t (suc d) base a bs p
+    laid g p n (Accepts.leaf c x f z) m =
+        front-of c x p f
+        (subst (λ (k : ℕ). Parts (Lies t d) t base a bs p c k) (sym z) (build-operand c a x (getD bs 1 0) nothing nothing (f .operand)))
+    laid g p n (Accepts.one c x q i f z h) m =
+        front-of c x p f
+        (subst (λ (k : ℕ). Parts (Lies t d) t base a bs p c k) (sym z) (
+          q,
+          (
+            build-operand c a x (getD bs 1 0) q nothing (f .operand),
+            part-at (g - declares c) base (a + width c) (drop (width c) bs) q i (a + width c) (rest (width c) bs) refl (rest-is (width c) bs) h
+                (marks-one t base a x c q z m) (omega (arith, fits, f .long, length-drop (width c) bs)),
+          ),
+        ))
+    laid g p n (Accepts.two c x q r i j f z h k) m =
+        let y : Marks t base a x c q r = marks-two t base a x c q r z m in
+        let u : i ≡ size q = sound d (g - declares c) (a + width c) (drop (width c) bs) q i (sym (ap (λ (v : ℕ). read v (g - declares c) (a + width c) (drop (width c) bs)) (sub-one (suc d))) ∙ h) .count in
+        let v : i ≤ length (drop (width c) bs) = count-within (suc d - 1) (g - declares c) (a + width c) (drop (width c) bs) q i h in
+        let w : secondAt t a ≡ a + (width c + i) = omega (arith, y .0, u, v, fits, f .long, length-drop (width c) bs) in
+        let s : rest (secondAt t a - a) bs ≡ drop (width c + i) bs
+        = ap (λ (o : ℕ). rest o bs) (let o : secondAt t a - a ≡ width c + i = omega (arith, w) in o) ∙ rest-is (width c + i) bs in
+        let two : Two (Lies t d) t base a (width c) bs q r = record {
+          first = part-at (g - declares c) base (a + width c) (drop (width c) bs) q i (a + width c) (rest (width c) bs) refl
+              (rest-is (width c) bs) h (y .1) (omega (arith, fits, f .long, length-drop (width c) bs));
+          second = part-at (g - declares c) (middle base q) (a + (width c + i)) (drop (width c + i) bs) r j (secondAt t a)
+              (rest (secondAt t a - a) bs) w s k
+              (subst (λ (o : ℕ). Marked t (middle base q) (a + (width c + o)) r) (sym u) (y .2))
+              (omega (arith, fits, f .long, v, length-drop (width c) bs, length-drop (width c + i) bs));
+          place = w ∙ ap (λ (o : ℕ). a + (width c + o)) u;
+          before = omega (arith, y .0, u, v, fits, f .long, length-drop (width c) bs);
+          within = omega (arith, w, v, length-drop (width c) bs, f .long);
+        } in
+        front-of c x p f
+        (subst (λ (o : ℕ). Parts (Lies t d) t base a bs p c o) (sym z) (q, r, (build-operand c a x (getD bs 1 0) q r (f .operand), two)))
+
+pub lies : (t : List ℕ) (d g base a : ℕ) (bs : List ℕ) (p : Statement) (n : ℕ) → read d g a bs ≡ accepted p n → Marked t base a p
+    → a + length bs ≤ maxBytes → Lies t d base a bs p
+lies t zero g base a bs p n h m f = absurd (omega (arith, deep zero g a bs h))
+lies t (suc d) g base a bs p n h m f = laid t d (lies t d) base a bs f g p n (accepts (suc d) g a bs p n h) m
+
+-- ---- taken apart
+pub opened : (t : List ℕ) (d base a : ℕ) (bs : List ℕ) (p : Statement) → Lies t d base a bs p → (0 < d) × AtFront (Lies t (d - 1)) t base a bs p
+unfolding Lies
+opened t zero base a bs p l = absurd l
+opened t (suc d) base a bs p l = (omega arith, subst (λ (k : ℕ). AtFront (Lies t k) t base a bs p) (sym (sub-one (suc d))) l)
+
+pub ready : {t : List ℕ} {d a : ℕ} {bs : List ℕ} (base : ℕ) (p : Statement) → length t ≡ maxBytes → Lies t d base a bs p → Ready t d a bs
+ready {t} {d} {a} {bs} base p e l =
+    let o = opened t d base a bs p l in
+    record { base = base; p = p; lies = l; levels = o .0; fits = o .1 .fits; bytes = o .1 .bytes; long = e }
+
+-- all of the bytes, handed on as a part
+pub whole : {t : List ℕ} {d a : ℕ} {bs : List ℕ} → Ready t d a bs → Ready t d a (rest 0 bs)
+whole {t} {d} {a} {bs} r = subst (λ (l : List ℕ). Ready t d a l) (sym (rest-is 0 bs)) r
+
+pub whole-lies : (t : List ℕ) (d base a : ℕ) (bs : List ℕ) (p : Statement) → Lies t d base a bs p → Lies t d base a (rest 0 bs) p
+whole-lies t d base a bs p l = subst (λ (k : List ℕ). Lies t d base a k p) (sym (rest-is 0 bs)) l
+
+-- by the command c of the first byte
+pub by-command : (t : List ℕ) (d base a : ℕ) (bs : List ℕ) (p : Statement) → Lies t d base a bs p → (c : Command) → getD bs 0 0 ≡ byteOf c
+    → Begins (Lies t (d - 1)) t base a bs p c
+by-command t d base a bs p l c b =
+    subst (λ (o : Option Command). Form (Lies t (d - 1)) t base a bs p o) (ap commandOf b ∙ command-of-byte c) (opened t d base a bs p l .1 .form)
+
+module _ {t : List ℕ} {d a : ℕ} {bs : List ℕ} (r : Ready t d a bs) where
+  pub taken : (base : ℕ) (p : Statement) → Lies t d base a bs p → (c : Command) → getD bs 0 0 ≡ byteOf c → Begins (Lies t (d - 1)) t base a bs p c
+  taken base p l c b = by-command t d base a bs p l c b
+
+  pub begins : (c : Command) → getD bs 0 0 ≡ byteOf c → Begins (Lies t (d - 1)) t (r .base) a bs (r .p) c
+  begins = taken (r .base) (r .p) (r .lies)
+
+  -- the first byte is a command's
+  pub command : (c : Command) × (getD bs 0 0 ≡ byteOf c)
+  command = go (commandOf (getD bs 0 0)) refl (opened t d (r .base) a bs (r .p) (r .lies) .1 .form)
+    where
+      go : (o : Option Command) → commandOf (getD bs 0 0) ≡ o → Form (Lies t (d - 1)) t (r .base) a bs (r .p) o → (c : Command) × (getD bs 0 0 ≡ byteOf c)
+      go none e f = absurd f
+      go (some c) e f = (c, byte-is (getD bs 0 0) c e)
+
+-- ---- the last command is known by elimination
+abbrev pub Beyond : ℕ → ℕ → Type 0
+Beyond b zero = Unit {0}
+Beyond b (suc n) = Beyond b n × (b ≡ n → ⊥)
+
+beyond : (b n : ℕ) → Beyond b n → n ≤ b
+beyond b zero h = omega arith
+beyond b (suc n) h = let l : n ≤ b = beyond b n (h .0) in let z : b ≡ n → ⊥ = h .1 in omega arith
+
+byte-small : (c : Command) → byteOf c ≤ 10
+byte-small Command.nothing = omega arith
+byte-small Command.pause = omega arith
+byte-small Command.emit = omega arith
+byte-small Command.exit = omega arith
+byte-small Command.seq = omega arith
+byte-small Command.par = omega arith
+byte-small Command.loop = omega arith
+byte-small Command.present = omega arith
+byte-small Command.signal = omega arith
+byte-small Command.try = omega arith
+byte-small Command.setpause = omega arith
+
+pub last : {t : List ℕ} {d a : ℕ} {bs : List ℕ} → Ready t d a bs → Beyond (getD bs 0 0) 10 → getD bs 0 0 ≡ 10
+last {bs = bs} r h = let c = command r in omega (arith, beyond (getD bs 0 0) 10 h, c .1, byte-small (c .0))
+
+-- ---- the two parts of a command of w bytes
+module _ {t : List ℕ} {d a w : ℕ} {bs : List ℕ} (r : Pair t d a w bs) where
+  pub first-ready : Ready t d (a + w) (rest w bs)
+  first-ready = ready (r .base) (r .p) (r .long) (r .two .first)
+
+  pub second-ready : Ready t d (secondAt t a) (rest (secondAt t a - a) bs)
+  second-ready = ready (middle (r .base) (r .p)) (r .q) (r .long) (r .two .second)

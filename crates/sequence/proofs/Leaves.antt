@@ -1,0 +1,54 @@
+-- What a command without parts notes: its label, if it has one.
+use Prim.Native.Nat.{ℕ, _≤_, _<_}
+use mathlib.Core.Path.{_≡_, refl, sym, ap, _∙_}
+use mathlib.Core.Bool.{true}
+use mathlib.Core.List.{List}
+use native.Mathlib.Omega.{arith}
+use lib.ListN.{length, getD}
+use lib.Dec.{ltb}
+use borrow.Author.Tests.{ltb-true}
+use Rattle.esterel.specs.Statement.{nothing}
+use Rattle.sequence.specs.Limits.{labelCount}
+use Rattle.sequence.specs.Commands.{Command, operandCount, partCount, inRange, width, build}
+use Rattle.sequence.specs.Notes.{notePause, noteSetpause, note}
+use Rattle.sequence.proofs.Table.{byteOf, byte-is, command-at}
+use Rattle.sequence.proofs.Accepted.{Fronted}
+
+silent : (c : Command) (a x : ℕ) (m : List ℕ) → partCount c ≡ 0 → (byteOf c ≡ 1 → ⊥) → (byteOf c ≡ 10 → ⊥) → m ≡ note (build c a x nothing nothing) m
+unfolding note
+silent Command.nothing a x m e n1 n10 = refl
+silent Command.pause a x m e n1 n10 = absurd (n1 refl)
+silent Command.emit a x m e n1 n10 = refl
+silent Command.exit a x m e n1 n10 = refl
+silent Command.seq a x m e n1 n10 = absurd (omega arith)
+silent Command.par a x m e n1 n10 = absurd (omega arith)
+silent Command.loop a x m e n1 n10 = absurd (omega arith)
+silent Command.present a x m e n1 n10 = absurd (omega arith)
+silent Command.signal a x m e n1 n10 = absurd (omega arith)
+silent Command.try a x m e n1 n10 = absurd (omega arith)
+silent Command.setpause a x m e n1 n10 = absurd (n10 refl)
+
+module _ {s : List ℕ} {c : Command} {x : ℕ} (f : Fronted s c x) where
+  -- a command d of a label: the label is in its range, and its byte is there
+  pub labelled : (d : Command) → inRange d x ≡ ltb x labelCount → operandCount d ≡ 1 → getD s 0 0 ≡ byteOf d
+      → (c ≡ d) × (getD s 1 0 ≡ x) × (getD s 1 0 < labelCount) × (2 ≤ length s)
+  labelled d label one e =
+      let q : c ≡ d = command-at (getD s 0 0) c d (f .byte) e in
+      let o : getD s 1 0 ≡ x = f .operand (ap operandCount q ∙ one) in
+      let r : inRange d x ≡ true = rw q at (f .ranged) in
+      let l : width d ≤ length s = rw q at (f .long) in
+      (q, o, omega (arith, ltb-true x labelCount (sym label ∙ r)), omega arith)
+
+  module _ (a : ℕ) (m : List ℕ) where
+    pub notes-pause : getD s 0 0 ≡ 1 → notePause (getD s 1 0) m ≡ note (build c a x nothing nothing) m
+    unfolding note
+    notes-pause e = let l = labelled Command.pause refl refl e in rw (l .0, l .1)
+
+    pub notes-setpause : getD s 0 0 ≡ 10 → noteSetpause (getD s 1 0) m ≡ note (build c a x nothing nothing) m
+    unfolding note
+    notes-setpause e = let l = labelled Command.setpause refl refl e in rw (l .0, l .1)
+
+    pub notes-none : partCount c ≡ 0 → (getD s 0 0 ≡ 1 → ⊥) → (getD s 0 0 ≡ 10 → ⊥) → m ≡ note (build c a x nothing nothing) m
+    notes-none z n1 n10 =
+        let b : getD s 0 0 ≡ byteOf c = byte-is (getD s 0 0) c (f .byte) in
+        silent c a x m z (λ e. n1 (b ∙ e)) (λ e. n10 (b ∙ e))

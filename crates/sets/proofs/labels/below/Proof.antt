@@ -1,0 +1,24 @@
+use native.Mathlib.Omega.{arith}
+use lib.Pow.{pow-pos}
+use Rattle.sets.specs.Labels.{labelSet}
+use Rattle.sets.proofs.Laws.{shifted, masked, all-below}
+use borrow.Author.Needs.{needs}
+use Rattle.sets.proofs.labels.below.Statement.{statement}
+use Rattle.sets.proofs.labels.below.Tie as tie
+
+shl-t6 : tie.Need-shl-t6
+shl-t6 c = search needs
+
+sub-t7 : tie.Need-sub-t7
+sub-t7 c = let k = c .before .args .k in omega (arith, shifted 64 k (search needs), pow-pos k)
+
+returns : tie.Need-returns
+unfolding labelSet
+returns c = masked 64 (c .before .before .args .k) _ (search needs)
+
+returns-2 : tie.Need-returns-2
+unfolding labelSet
+returns-2 c = all-below 64 _ _ (search needs) (search needs)
+
+pub below-spec : {M : Type 1} → statement M
+below-spec = tie.close (tie.spec shl-t6 sub-t7 returns returns-2)
