@@ -12,8 +12,8 @@ TIMED = $(OPTIMIZED) -DBUILT_BY='"$(OPTIMIZED)"'
 CARGO = cargo run --release --offline --quiet --target-dir target/cargo --manifest-path
 SOURCES := crates.txt $(shell find crates -name '*.rt' -o -name '*.antt')
 
-.PHONY: help run show test host host-rust host-c host-tick-rust host-tick-c host-example show-test bench bench-check \
-	bench-tick bench-run
+.PHONY: help run show test host host-rust host-c host-tick-rust host-tick-c host-example host-stack show-test bench \
+	bench-check bench-tick bench-run
 
 help: # lists the targets
 	@sed -n 's/^\([a-z-]*\):[^#]*# /\1: /p' Makefile
@@ -27,7 +27,7 @@ show: $(RUN_PROGRAM) # shows the commands and the run of a shipped example; BAY 
 test: # proves everything and runs all tests: the gate
 	.ci/run
 
-host: host-rust host-c host-tick-rust host-tick-c host-example # runs all host tests against the archive
+host: host-rust host-c host-tick-rust host-tick-c host-example host-stack # runs all host tests against the archive
 
 host-rust: $(INTAKE_ARCHIVE) # compares the archive with the check on an explicit tree
 	$(CARGO) host/check/Cargo.toml
@@ -48,6 +48,10 @@ host-example: $(INTAKE_ARCHIVE) $(RUN_PROGRAM) # compares the example host with 
 	$(WARNED) -O2 -Iinclude host/example.c $(INTAKE_ARCHIVE) -o target/host/example
 	$(SANITIZED) -Iinclude host/example.c $(INTAKE_ARCHIVE) -o target/host/example-sanitized
 	host/example_test.py $(RUN_PROGRAM) target/host/example target/host/example-sanitized
+
+host-stack: $(INTAKE_ARCHIVE) # measures the stack of a call at the greatest depth, by painting
+	@mkdir -p target/host
+	$(WARNED) -D_DEFAULT_SOURCE -O2 -Iinclude host/stack.c $(INTAKE_ARCHIVE) -o target/host/stack && target/host/stack
 
 show-test: # tests tools/show
 	tools/test_show.py

@@ -50,30 +50,47 @@ static double sample(const void *what, int plain)
     return (nanoseconds() - start) / calls / (double)b->length;
 }
 
-/* Prints the row of one shape and length, and returns the ratio. */
-static double row(const struct shape *shape, size_t length)
+/* Prints the row of one sequence, and returns the ratio. */
+static double row(const struct builder *b, const char *name)
+{
+    if (plain_check(b->bytes, b->length) != 0 || intake_check(b->bytes, b->length) != 0) {
+        fprintf(stderr, "%s, %zu bytes: not accepted by both\n", name, b->length);
+        exit(1);
+    }
+    struct comparison c = compare(sample, b, ROUNDS);
+    printf("%-24s %6zu %8.2f %8.2f %8.2f\n", name, b->length, c.intake, c.plain, c.ratio);
+    return c.ratio;
+}
+
+static double shape_row(const struct shape *shape, size_t length)
 {
     struct builder b = {.shape = shape, .wanted = length};
     statement(&b, length, 0);
     settle(&b);
-    if (b.length != length || plain_check(b.bytes, length) != 0 || intake_check(b.bytes, length) != 0) {
-        fprintf(stderr, "%s, %zu bytes: not accepted by both\n", shape->name, length);
-        exit(1);
-    }
-    struct comparison c = compare(sample, &b, ROUNDS);
-    printf("%-24s %6zu %8.2f %8.2f %8.2f\n", shape->name, length, c.intake, c.plain, c.ratio);
-    return c.ratio;
+    return row(&b, shape->name);
+}
+
+/* One command after the other at the greatest depth, where a recursion has the least to do at each level. */
+static double chain_row(void)
+{
+    struct builder b = {.length = 0};
+    while (b.length < 63)
+        put(&b, 0x06);
+    put(&b, 0x00);
+    return row(&b, "chain of 63 loops");
 }
 
 int main(void)
 {
-    static const size_t lengths[] = {64, 256, 1024};
+    static const size_t lengths[] = {14, 64, 256, 1024};
     double logarithms = 0;
     unsigned rows = 0;
     printf("ns per byte, medians of %d rounds in turn, one warm buffer a row; plain C by " BUILT_BY "\n", ROUNDS);
     printf("%-24s %6s %8s %8s %8s\n", "shape", "bytes", "intake", "plain", "ratio");
     for (unsigned i = 0; i < sizeof shapes / sizeof *shapes; i++)
         for (unsigned j = 0; j < sizeof lengths / sizeof *lengths; j++, rows++)
-            logarithms += log(row(&shapes[i], lengths[j]));
+            logarithms += log(shape_row(&shapes[i], lengths[j]));
+    logarithms += log(chain_row());
+    rows++;
     printf("geometric mean of the ratios %.2f\n", exp(logarithms / rows));
 }

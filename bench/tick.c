@@ -69,10 +69,21 @@ static double sample(const void *what, int plain)
     return (nanoseconds() - start) / t->calls;
 }
 
+/* Loops of eight bytes in a quarter of a sequence. */
+static unsigned fitting(size_t length)
+{
+    return (unsigned)length / 32;
+}
+
+/* Is there room for the signals, a loop if there are any, and a body? */
+static bool fits(const struct kind *kind, size_t length)
+{
+    return length >= 2 * kind->signals + 8 && (kind->loops == 0 || fitting(length) > 0);
+}
+
 static void build(struct builder *b, const struct kind *kind, size_t length)
 {
-    unsigned fitting = (unsigned)length / 32; /* loops of eight bytes in a quarter of the sequence */
-    enclose(b, kind->signals, kind->loops < fitting ? kind->loops : fitting);
+    enclose(b, kind->signals, kind->loops < fitting(length) ? kind->loops : fitting(length));
     if (kind->pause == BEFORE || kind->pause == AFTER)
         put(b, 0x04);
     if (kind->pause == BEFORE) {
@@ -143,9 +154,40 @@ static double dearest_row(uint8_t join, unsigned loops)
     return row(&t, name).intake;
 }
 
+/* Processor nanoseconds of one check of the instant's sequence. */
+static double check_time(const struct instant *t)
+{
+    static volatile uint8_t sink;
+    double samples[LEAST_ROUNDS];
+    for (unsigned i = 0; i < LEAST_ROUNDS; i++) {
+        double start = nanoseconds();
+        for (unsigned j = 0; j < t->calls; j++)
+            sink = intake_check(t->bytes, t->length);
+        samples[i] = (nanoseconds() - start) / t->calls;
+    }
+    (void)sink;
+    return median(samples, LEAST_ROUNDS);
+}
+
+/* One active pause behind more and more bytes: what the tick takes beyond the check. */
+static void growth_row(size_t length)
+{
+    static const struct kind kind = {"", {"", "\x04", "", "\x02", "\x02", 2, false, false, 32}, 0, 0, AFTER};
+    struct builder b = {.shape = &kind.body, .wanted = length};
+    build(&b, &kind, length);
+    struct instant t = {.length = b.length};
+    memcpy(t.bytes, b.bytes, sizeof b.bytes);
+    prepare(&t, true, "one active pause");
+    double samples[LEAST_ROUNDS];
+    for (unsigned i = 0; i < LEAST_ROUNDS; i++)
+        samples[i] = sample(&t, 0);
+    double tick = median(samples, LEAST_ROUNDS), check = check_time(&t);
+    printf("%6zu %8.0f %8.0f %8.0f\n", length, tick, check, tick - check);
+}
+
 int main(void)
 {
-    static const size_t lengths[] = {64, 256, 712, 1024};
+    static const size_t lengths[] = {14, 64, 256, 712, 1024};
     double logarithms = 0, most = 0;
     unsigned rows = 0;
     printf("medians of up to %d rounds in turn; plain C by " BUILT_BY "\n", ROUNDS);
@@ -153,9 +195,15 @@ int main(void)
     printf("%-28s %5s %9s %10s %10s %7s %7s %6s\n", "instant", "bytes", "reactions", "intake", "plain", "intake",
            "plain", "ratio");
     for (unsigned i = 0; i < sizeof kinds / sizeof *kinds; i++)
-        for (unsigned j = 0; j < sizeof lengths / sizeof *lengths; j++, rows++)
-            logarithms += log(kind_row(&kinds[i], lengths[j]));
+        for (unsigned j = 0; j < sizeof lengths / sizeof *lengths; j++)
+            if (fits(&kinds[i], lengths[j])) {
+                logarithms += log(kind_row(&kinds[i], lengths[j]));
+                rows++;
+            }
     printf("geometric mean of the ratios %.2f\n", exp(logarithms / rows));
+    printf("a resumed tick with one active pause, ns:\n%6s %8s %8s %8s\n", "bytes", "tick", "check", "beyond");
+    for (unsigned j = 0; j < sizeof lengths / sizeof *lengths; j++)
+        growth_row(lengths[j]);
     printf("the dearest instants, six signals around the loops:\n");
     for (unsigned loops = 15; loops <= 17; loops++)
         for (uint8_t join = 0x04; join <= 0x05; join++)

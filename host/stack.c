@@ -1,0 +1,114 @@
+/*
+ * The stack that a call takes, by painting: the call runs on a stack of its own that is filled with one byte before, and
+ * the lowest byte that changed tells. What the same call of an empty function takes is left out. Every sequence has depth
+ * 64, the greatest: one command with parts 63 times, inside it a leaf, and its other parts leaves beside.
+ */
+#include "intake.h"
+
+#include <stdio.h>
+#include <string.h>
+#include <ucontext.h>
+
+enum { STACK = 65536, PAINT = 0xA5, LEVELS = 63, MOST = 18432 };
+
+static uint8_t stack[STACK], sequence[1024], state[INTAKE_STATE_LENGTH], answer[INTAKE_ANSWER_LENGTH];
+static size_t length;
+static uint8_t number;
+static ucontext_t here, there;
+
+static void nothing(void) { number = INTAKE_ACCEPTED; }
+static void check(void) { number = intake_check(sequence, length); }
+static void tick(void) { number = intake_tick(sequence, length, state, sizeof state, 0, answer, sizeof answer); }
+
+/* The bytes of stack below its top that a function writes. */
+static size_t taken(void (*call)(void))
+{
+    memset(stack, PAINT, sizeof stack);
+    getcontext(&there);
+    there.uc_stack.ss_sp = stack;
+    there.uc_stack.ss_size = sizeof stack;
+    there.uc_link = &here;
+    makecontext(&there, call, 0);
+    swapcontext(&here, &there);
+    size_t low = 0;
+    while (low < sizeof stack && stack[low] == PAINT)
+        low++;
+    return sizeof stack - low;
+}
+
+/* A command with parts, as it stands around the next level. */
+struct nest {
+    const char *name, *before, *after;
+    size_t before_length, after_length;
+};
+
+#define NEST(name, before, after) {name, before, after, sizeof before - 1, sizeof after - 1}
+
+static const struct nest nests[] = {
+    NEST("sequences, in the first part", "\x04", "\x00"),
+    NEST("sequences, in the second part", "\x04\x00", ""),
+    NEST("parallels, in the first part", "\x05", "\x00"),
+    NEST("parallels, in the second part", "\x05\x00", ""),
+    NEST("loops", "\x06", ""),
+    NEST("presents, in the first part", "\x07\x00", "\x00"),
+    NEST("presents, in the second part", "\x07\x00\x00", ""),
+    NEST("try blocks", "\x09", ""),
+};
+
+/* The innermost statement is a pause, or a pause and a setpause of its label, for which row 10 walks once more. */
+static void build(const struct nest *nest, unsigned signals, int setpause)
+{
+    unsigned levels = setpause ? LEVELS - 1 : LEVELS;
+    const char *leaf = setpause ? "\x05\x01\x00\x0A\x00" : "\x01\x00";
+    size_t leaf_length = setpause ? 5 : 2;
+    length = 0;
+    for (unsigned s = 0; s < signals; s++) {
+        sequence[length++] = 0x08;
+        sequence[length++] = (uint8_t)s;
+    }
+    for (unsigned i = signals; i < levels; i++, length += nest->before_length)
+        memcpy(sequence + length, nest->before, nest->before_length);
+    memcpy(sequence + length, leaf, leaf_length);
+    length += leaf_length;
+    for (unsigned i = signals; i < levels; i++, length += nest->after_length)
+        memcpy(sequence + length, nest->after, nest->after_length);
+}
+
+/* One call, counted beyond the empty one; it must be accepted. */
+static size_t used(void (*call)(void), size_t empty, int *failed)
+{
+    size_t bytes = taken(call) - empty;
+    *failed |= number != INTAKE_ACCEPTED;
+    return bytes;
+}
+
+int main(void)
+{
+    int failed = 0;
+    size_t most = 0, empty = taken(nothing);
+    printf("%-32s %7s %7s %7s %7s\n", "bytes of stack at depth 64", "row 10", "check", "fresh", "resumed");
+    for (unsigned signals = 0; signals <= 6; signals += 6)
+        for (size_t i = 0; i < sizeof nests / sizeof *nests; i++) {
+            build(&nests[i], signals, 1);
+            size_t triggers = used(check, empty, &failed);
+            build(&nests[i], signals, 0);
+            size_t checked = used(check, empty, &failed);
+            memset(state, 0, sizeof state);
+            size_t fresh = used(tick, empty, &failed);
+            memset(state, 0, sizeof state);
+            state[0] = 1; /* waits at label 0 */
+            state[1] = 1;
+            size_t resumed = used(tick, empty, &failed);
+            size_t row[] = {triggers, checked, fresh, resumed};
+            printf("%-32s", nests[i].name);
+            for (size_t j = 0; j < sizeof row / sizeof *row; j++) {
+                printf(" %7zu", row[j]);
+                most = row[j] > most ? row[j] : most;
+            }
+            printf("%s\n", signals > 0 ? "  inside six signals" : "");
+        }
+    failed |= most > MOST;
+    printf("the most is %zu, of at most %d\n", most, MOST);
+    printf("%d passed, %d failed\n", !failed, failed);
+    return failed;
+}
