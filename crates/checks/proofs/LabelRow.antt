@@ -11,9 +11,9 @@ use Rattle.esterel.specs.LabelTests.{subset, pauses, setpauses, distinct, targe
 use Rattle.esterel.proofs.LabelSets.{in-none, subset-is}
 use Rattle.esterel.proofs.LabelTests.{setpauses-is, distinct-is, wellFormed-is, noSetpause-formed}
 use Rattle.sets.specs.Sets.{Subset}
-use Rattle.sequence.specs.Notes.{Noted, pausesIn, setpausesIn, twiceIn}
+use Rattle.reading.specs.Notes.{Noted, pausesIn, setpausesIn, twiceIn}
 use Rattle.sequence.specs.Check.{labelRules, numberOf}
-use Rattle.checks.proofs.Validities.{subset-by}
+use Rattle.sets.proofs.Tests.{subset-by}
 
 -- d, s and x are what the code takes from the notes
 module _ (p : Statement) (notes : List ℕ) (n : Noted p notes) {d : Bool} (ed : d ≡ empty (twiceIn notes)) where

@@ -1,9 +1,2 @@
-pub mod Members
-pub mod Compatible
-pub mod Ranking
-pub mod Validities
-pub mod Passing
-pub mod Surveyed
-pub mod Clashes
 pub mod LabelRow
 pub mod Verdicts

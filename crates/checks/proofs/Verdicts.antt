@@ -9,19 +9,19 @@ use lib.ListN.{length}
 use borrow.Author.Tests.{lt-ltb, le-ltb, le-leb, lt-leb}
 use Rattle.esterel.specs.Statement.{Statement}
 use Rattle.esterel.specs.LabelTests.{distinct, targeted, wellFormed}
-use Rattle.sequence.specs.declared.reader.Reading.{Reading}
-use Rattle.sequence.specs.declared.reader.Reading.the-variants.{Accepted, Refused}
-use Rattle.sequence.specs.Limits.{maxDepth, maxSignals}
+use Rattle.reading.specs.declared.reader.Reading.{Reading}
+use Rattle.reading.specs.declared.reader.Reading.the-variants.{Accepted, Refused}
+use Rattle.limits.specs.Limits.{maxDepth, maxSignals}
 use Rattle.sequence.specs.Reader.{Read, accepted, refused, read}
-use Rattle.sequence.specs.Layout.{Lies}
-use Rattle.sequence.specs.Notes.{Noted}
-use Rattle.sequence.specs.Reading.{readingOf, Reads}
+use Rattle.reading.specs.Layout.{Lies}
+use Rattle.reading.specs.Notes.{Noted}
+use Rattle.reading.specs.Reading.{readingOf, Reads}
 use Rattle.sequence.specs.Check.{sound, bad, labelRules, afterRead, numberOf, checked, checkOf}
 use Rattle.sequence.proofs.Sound as Sound
-use Rattle.sequence.proofs.Noting as Noting
-use Rattle.sequence.proofs.Laid.{lies, ready}
-use Rattle.checks.specs.Known.{Known}
-use Rattle.checks.specs.Survey.{Standing}
+use Rattle.reading.proofs.Noting as Noting
+use Rattle.reading.proofs.Laid.{lies, ready}
+use Rattle.reading.specs.Known.{Known}
+use Rattle.wellformed.specs.Survey.{Standing}
 use Rattle.checks.specs.Verdict.{ByLabels, Judged}
 
 never-sound {ℓ} : {A : Type ℓ} {k : ℕ} {p : Statement} → bad k ≡ sound p → A

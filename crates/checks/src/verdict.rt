@@ -1,31 +1,31 @@
 // The check of a sequence (01, rows 2 to 10). Of a sound one it leaves the table of second parts and the notes of labels.
 ghost use mathlib.Core.Path.{_≡_};
 ghost use lib.ListN.{length};
-ghost use Rattle.sequence.specs.Limits.{maxBytes, maxDepth};
-ghost use Rattle.sequence.specs.Notes.{noNotes};
-ghost use Rattle.checks.specs.Survey.{Standing};
+ghost use Rattle.limits.specs.Limits.{maxBytes, maxDepth};
+ghost use Rattle.reading.specs.Notes.{noNotes};
+ghost use Rattle.wellformed.specs.Survey.{Standing};
 ghost use Rattle.checks.specs.Verdict.{ByLabels, Judged};
-use sequence::notes::Notes;
-use sequence::reader::Reading;
-use sequence::reader::Seconds;
+use reading::notes::Notes;
+use reading::reader::Reading;
+use reading::reader::Seconds;
 
 // The first of rows 8, 9 and 10 that holds, or 0. Without setpauses neither row 9 nor row 10 can.
 fn label_row(s: &[u8], notes: &Notes) -> u8
     requires { ⌜ Standing maxDepth 0 (now s) ⌝ }
     ensures { λ r. ⌜ ByLabels (now (s .entry)) (now (notes .entry)) r ⌝ }
 {
-    if !sequence::notes::is_distinct(notes) {
+    if !reading::notes::is_distinct(notes) {
         return 8;
     }
-    let setpauses = sequence::notes::setpauses(notes);
+    let setpauses = reading::notes::setpauses(notes);
     if sets::labels::is_empty(setpauses) {
         return 0;
     }
-    let pauses = sequence::notes::pauses(notes);
+    let pauses = reading::notes::pauses(notes);
     if !sets::labels::subset(setpauses, pauses) {
         return 9;
     }
-    if crate::triggers::is_well_formed(s, pauses) {
+    if wellformed::triggers::is_well_formed(s, pauses) {
         0
     } else {
         10
@@ -41,10 +41,10 @@ pub fn check(s: &[u8], second: &mut Seconds, notes: &mut Notes) -> u8
     if s.len() == 0 {
         return 2;
     }
-    if s.len() > 1024 {
+    if s.len() > limits::MAX_BYTES {
         return 2;
     }
-    match sequence::reader::read_sequence(s, second, notes) {
+    match reading::reader::read_sequence(s, second, notes) {
         Reading::Refused(row) => row,
         Reading::Accepted(n) => { if n < s.len() { 7 } else { label_row(s, notes) } }
     }

@@ -15,7 +15,7 @@ use Rattle.esterel.specs.Ranks.{middle, mask, ofParts, compatible}
 use Rattle.esterel.proofs.Booleans.{clash, Tested, tested}
 use Rattle.esterel.proofs.Places.{exclusive-part}
 use Rattle.esterel.proofs.Activity.{active-is}
-use Rattle.esterel.proofs.Order.{Two, sequence, test, sides, first-part, second-part, at-part}
+use Rattle.esterel.proofs.Order.{Joined, sequence, test, sides, first-part, second-part, at-part}
 use Rattle.esterel.proofs.LabelSets.{in-none, some-member, subset-is, same-test}
 use Rattle.esterel.proofs.LabelTests.{pauses-is, valid-is}
 use Rattle.esterel.proofs.Ranks.{split-below, split-from, first-empty, second-empty}
@@ -46,17 +46,17 @@ together-single L o f k l m n a b u v (Exclusive.inside {d = d} {c = c} {a = a�
 abbrev Apart : Joint → Bool → Bool → Type 0
 Apart j x y = j ≡ alternative → x ≡ true → y ≡ true → ⊥
 
-joint-is : {j : Joint} {p q w : Statement} → Two j p q w → Alternative w → j ≡ alternative
+joint-is : {j : Joint} {p q w : Statement} → Joined j p q w → Alternative w → j ≡ alternative
 joint-is sequence x = refl
 joint-is test x = refl
 joint-is sides x = elim x [ ]
 
-alternative-is : {j : Joint} {p q w : Statement} → Two j p q w → j ≡ alternative → Alternative w
+alternative-is : {j : Joint} {p q w : Statement} → Joined j p q w → j ≡ alternative → Alternative w
 alternative-is sequence e = Alternative.sequence
 alternative-is test e = Alternative.test
 alternative-is sides e = absurd (let z : _≡_ {A = ℕ} 0 1 = cc in omega arith)
 
-module _ {j : Joint} {p q w : Statement} (L : ℕ) (t : Two j p q w) where
+module _ {j : Joint} {p q w : Statement} (L : ℕ) (t : Joined j p q w) where
   together-two : Together p L → Together q L → Apart j (active p L) (active q L) → Together w L
   together-two f g h k l m n a b u v (Exclusive.apart x) =
       h (joint-is t x) (awake k L m (at-part (first-part t) u)) (awake l L n (at-part (second-part t) v))
@@ -97,7 +97,7 @@ tests-from parallel true true a b h k f = and-eq-true-iff a b .1 (h, k)
 abbrev passes : ℕ → Statement → ℕ → Bool
 passes base p L = compatible base p (mask base p L)
 
-of-parts : {j : Joint} {p q w : Statement} (base m : ℕ) → Two j p q w
+of-parts : {j : Joint} {p q w : Statement} (base m : ℕ) → Joined j p q w
     → compatible base w m
     ≡ ofParts j (empty (below (middle base p) m)) (empty (from (middle base p) m))
     (compatible base p (below (middle base p) m)) (compatible (middle base p) q (from (middle base p) m))
@@ -106,7 +106,7 @@ of-parts base m sequence = refl
 of-parts base m test = refl
 of-parts base m sides = refl
 
-compatible-two : {j : Joint} {p q w : Statement} (base L : ℕ) → Two j p q w
+compatible-two : {j : Joint} {p q w : Statement} (base L : ℕ) → Joined j p q w
     → passes base w L ≡ tests j (active p L) (active q L) (passes base p L) (passes (middle base p) q L)
 compatible-two {w = w} base L t =
     of-parts base (mask base w L) t ∙ rw (first-empty base L t, second-empty base L t, split-below base L t, split-from base L t)
@@ -114,7 +114,7 @@ compatible-two {w = w} base L t =
 abbrev Tests : ℕ → Statement → ℕ → Type 0
 Tests base p L = passes base p L ≡ true
 
-module _ {j : Joint} {p q w : Statement} (base L : ℕ) (t : Two j p q w) where
+module _ {j : Joint} {p q w : Statement} (base L : ℕ) (t : Joined j p q w) where
   two-to : (Tests base p L → Together p L) → (Tests (middle base p) q L → Together q L) → Tests base w L → Together w L
   two-to f g h =
       let c = tests-to j (active p L) (active q L) (passes base p L) (passes (middle base p) q L)

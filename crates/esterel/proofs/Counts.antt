@@ -14,7 +14,7 @@ use Rattle.esterel.specs.Ranks.{pauseCount}
 use Rattle.esterel.proofs.Booleans.{clash, Tested, tested}
 use Rattle.esterel.proofs.Sets.{member-join, member-none, member-only, member-high}
 use Rattle.esterel.proofs.Places.{distinct-part, disjoint-parts}
-use Rattle.esterel.proofs.Order.{Two, sequence, test, sides, first-part, second-part}
+use Rattle.esterel.proofs.Order.{Joined, sequence, test, sides, first-part, second-part}
 use Rattle.esterel.proofs.LabelSets.{in-l, in-r, Disjoint}
 use Rattle.esterel.proofs.LabelTests.{pauses-is}
 
@@ -78,7 +78,7 @@ under w s h l m = go (tested (ltb l w))
 abbrev Counted : ℕ → Statement → Type 0
 Counted w p = Distinct p → Under w (pauses p) → card w (pauses p) ≡ pauseCount p
 
-counted-two : {j : Joint} {p q c : Statement} (w : ℕ) → Two j p q c → Counted w p → Counted w q
+counted-two : {j : Joint} {p q c : Statement} (w : ℕ) → Joined j p q c → Counted w p → Counted w q
     → Distinct c → Under w (join (pauses p) (pauses q)) → card w (join (pauses p) (pauses q)) ≡ pauseCount p + pauseCount q
 counted-two {p = p} {q = q} w t f g d u =
     card-join w (pauses p) (pauses q)

@@ -15,7 +15,7 @@ use Rattle.esterel.specs.Places.{Part, first, second, PartOf, seq₁, se
 use Rattle.esterel.specs.LabelTests.{disjoint, subset, labelsOf, Joint, alternative, parallel, atJoint, ifMember, before, everyLabel, triggers}
 use Rattle.esterel.proofs.Booleans.{or-l, or-r, or-cases, Tested, tested}
 use Rattle.esterel.proofs.Sets.{member-join, member-and, member-none, member-only, member-step, ext}
-use Rattle.esterel.proofs.Order.{Two, sequence, test, sides, first-part, second-part, Before, at-part, NoParts}
+use Rattle.esterel.proofs.Order.{Joined, sequence, test, sides, first-part, second-part, Before, at-part, NoParts}
 
 -- ---- members
 pub in-l : (k s t : ℕ) → member k s ≡ true → member k (join s t) ≡ true
@@ -155,7 +155,7 @@ module _ (x y : Bool) (l : ℕ) where
       subst (λ (m : ℕ). Named x y (setpause m) l) (sym (e .1))
       (record { command = setpause l; place = []; counted = as-setpause (e .0); stands = At.here })
 
-  in-two : {j : Joint} {p q w : Statement} → Two j p q w
+  in-two : {j : Joint} {p q w : Statement} → Joined j p q w
       → (member l (labelsOf x y p) ≡ true → Named x y p l) → (member l (labelsOf x y q) ≡ true → Named x y q l)
       → member l (join (labelsOf x y p) (labelsOf x y q)) ≡ true → Named x y w l
   in-two {p = p} {q = q} t f g h =
@@ -202,7 +202,7 @@ pair-in {d = d} i r =
       order = Before.inside i (r .order);
     }
 
-pair-across : {x y : Bool} {j : Joint} {p q w : Statement} {k l : ℕ} → Two j p q w → Named x y q k → Named x y p l → Pair x y j w k l
+pair-across : {x y : Bool} {j : Joint} {p q w : Statement} {k l : ℕ} → Joined j p q w → Named x y q k → Named x y p l → Pair x y j w k l
 pair-across t m n =
     record {
       later = m .command;
@@ -217,7 +217,7 @@ pair-across t m n =
     }
 
 -- a label across the joint of two parts
-across-two : {j : Joint} {p q w : Statement} (x y : Bool) (k l : ℕ) → Two j p q w
+across-two : {j : Joint} {p q w : Statement} (x y : Bool) (k l : ℕ) → Joined j p q w
     → member l (ifMember k (labelsOf x y q) (labelsOf x y p)) ≡ true → member l (before x y j w k) ≡ true
 unfolding before
 across-two x y k l (sequence {p = p} {q = q}) h =
@@ -257,7 +257,7 @@ module _ (x y : Bool) (j : Joint) (k l : ℕ) where
       go parallel alternative h = in-none l h
       go parallel parallel h = (refl, h)
 
-  pair-two : {i : Joint} {p q w : Statement} → Two i p q w → (inBefore p → Pair x y j p k l) → (inBefore q → Pair x y j q k l)
+  pair-two : {i : Joint} {p q w : Statement} → Joined i p q w → (inBefore p → Pair x y j p k l) → (inBefore q → Pair x y j q k l)
       → member l (join (crossing i p q) (join (before x y j p k) (before x y j q k))) ≡ true → Pair x y j w k l
   pair-two {i} {p} {q} {w} t f g h =
       ⊎-elim
@@ -268,7 +268,7 @@ module _ (x y : Bool) (j : Joint) (k l : ℕ) where
       cross : (i ≡ j) × (member l (ifMember k (labelsOf x y q) (labelsOf x y p)) ≡ true) → Pair x y j w k l
       cross e =
           let m = if-member (labelsOf x y p) (labelsOf x y q) (e .1) in
-          pair-across (subst (λ (n : Joint). Two n p q w) (e .0) t) (labels-from x y k q (m .0)) (labels-from x y l p (m .1))
+          pair-across (subst (λ (n : Joint). Joined n p q w) (e .0) t) (labels-from x y k q (m .0)) (labels-from x y l p (m .1))
 
   pub pair-from : (p : Statement) → inBefore p → Pair x y j p k l
   unfolding before
@@ -347,7 +347,7 @@ module _ (f : ℕ → Bool) where
   every-in : {d : Part} {c p : Statement} → PartOf d c p → Every p → Every c
   every-in i g l h = g l (labels-part true true l i h)
 
-  every-two : {j : Joint} {p q w : Statement} → Two j p q w → (Every p → everyLabel p f ≡ true) → (Every q → everyLabel q f ≡ true)
+  every-two : {j : Joint} {p q w : Statement} → Joined j p q w → (Every p → everyLabel p f ≡ true) → (Every q → everyLabel q f ≡ true)
       → Every w → (everyLabel p f && everyLabel q f) ≡ true
   every-two {p = p} {q = q} t g h e =
       and-eq-true-iff (everyLabel p f) (everyLabel q f) .1 (g (every-in (first-part t) e), h (every-in (second-part t) e))

@@ -14,7 +14,7 @@ use Rattle.esterel.specs.LabelTests.{disjoint, subset, pauses, setpauses
 use Rattle.esterel.proofs.Booleans.{or-l, or-r, or-cases}
 use Rattle.esterel.proofs.Sets.{member-none}
 use Rattle.esterel.proofs.Places.{distinct-part, disjoint-parts}
-use Rattle.esterel.proofs.Order.{Two, sequence, test, sides, first-part, second-part, Before, before-exclusive, exclusive-before, exclusive-sym, exclusive-irreflexive, beside-compatible, at-part, at-unique, NoParts, Order, same, ordered, order}
+use Rattle.esterel.proofs.Order.{Joined, sequence, test, sides, first-part, second-part, Before, before-exclusive, exclusive-before, exclusive-sym, exclusive-irreflexive, beside-compatible, at-part, at-unique, NoParts, Order, same, ordered, order}
 use Rattle.esterel.proofs.LabelSets.{in-join, some-member, Disjoint, disjoint-is, subset-is, Counted, as-pause, as-setpause, counted-leaf, Named, labels-at, labels-from, Pair, pair-from, pair-at, label-before, triggers-are, every-to, every-from}
 
 -- ---- pauses and setpauses
@@ -79,7 +79,7 @@ distinct-in (present₂ {p = p} {q = q}) h = three (disjoint (pauses p) (pauses 
 distinct-in signal₁ h = h
 distinct-in try₁ h = h
 
-parts-disjoint : {j : Joint} {p q w : Statement} → Two j p q w → distinct w ≡ true → Disjoint (pauses p) (pauses q)
+parts-disjoint : {j : Joint} {p q w : Statement} → Joined j p q w → distinct w ≡ true → Disjoint (pauses p) (pauses q)
 unfolding distinct
 parts-disjoint (sequence {p = p} {q = q}) h = disjoint-is (pauses p) (pauses q) .0 (three (disjoint (pauses p) (pauses q)) (distinct p) (distinct q) h .0)
 parts-disjoint (test {p = p} {q = q}) h = disjoint-is (pauses p) (pauses q) .0 (three (disjoint (pauses p) (pauses q)) (distinct p) (distinct q) h .0)
@@ -105,7 +105,7 @@ to-distinct p h l a b u v = go (order (pause-leaf l) (pause-leaf l) u v)
     go (ordered (inl r)) = absurd (not-before l h u v r)
     go (ordered (inr r)) = absurd (not-before l h v u r)
 
-distinct-two : {j : Joint} {p q w : Statement} → Two j p q w → (Distinct p → distinct p ≡ true) → (Distinct q → distinct q ≡ true)
+distinct-two : {j : Joint} {p q w : Statement} → Joined j p q w → (Distinct p → distinct p ≡ true) → (Distinct q → distinct q ≡ true)
     → Distinct w → (disjoint (pauses p) (pauses q) && (distinct p && distinct q)) ≡ true
 distinct-two {p = p} {q = q} t f g d =
     all-three (disjoint (pauses p) (pauses q)) (distinct p) (distinct q)

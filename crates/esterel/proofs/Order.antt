@@ -10,24 +10,24 @@ use Rattle.esterel.specs.LabelTests.{Joint, alternative, parallel}
 use Rattle.esterel.proofs.Places.{part-unique}
 
 -- a command of two parts, with what they are to each other
-pub data Two : Joint → Statement → Statement → Statement → Type 0 where
-  sequence : {p q : Statement} → Two alternative p q (seq p q)
-  test : {s : ℕ} {p q : Statement} → Two alternative p q (present s p q)
-  sides : {p q : Statement} → Two parallel p q (par p q)
+pub data Joined : Joint → Statement → Statement → Statement → Type 0 where
+  sequence : {p q : Statement} → Joined alternative p q (seq p q)
+  test : {s : ℕ} {p q : Statement} → Joined alternative p q (present s p q)
+  sides : {p q : Statement} → Joined parallel p q (par p q)
 
-pub first-part : {j : Joint} {p q w : Statement} → Two j p q w → PartOf first p w
+pub first-part : {j : Joint} {p q w : Statement} → Joined j p q w → PartOf first p w
 first-part sequence = seq₁
 first-part test = present₁
 first-part sides = par₁
 
-pub second-part : {j : Joint} {p q w : Statement} → Two j p q w → PartOf second q w
+pub second-part : {j : Joint} {p q w : Statement} → Joined j p q w → PartOf second q w
 second-part sequence = seq₂
 second-part test = present₂
 second-part sides = par₂
 
 -- `Before j p a b`: b stands before a in p, across a joint j
 pub data Before (j : Joint) : Statement → Place → Place → Type 0 where
-  across : {p q w : Statement} {a b : Place} → Two j p q w → Before j w (second ∷ a) (first ∷ b)
+  across : {p q w : Statement} {a b : Place} → Joined j p q w → Before j w (second ∷ a) (first ∷ b)
   inside : {d : Part} {c p : Statement} {a b : Place} → PartOf d c p → Before j c a b → Before j p (d ∷ a) (d ∷ b)
 
 -- a command at a place of a part stands in that part
@@ -39,11 +39,11 @@ at-unique At.here At.here = refl
 at-unique (At.inside i u) (At.inside k v) = at-unique u (at-part i (At.inside k v))
 
 -- ---- exclusive places are those in order across alternatives
-to-alternative : {p q w : Statement} → Two alternative p q w → Alternative w
+to-alternative : {p q w : Statement} → Joined alternative p q w → Alternative w
 to-alternative sequence = Alternative.sequence
 to-alternative test = Alternative.test
 
-from-alternative : {w : Statement} → Alternative w → (p : Statement) × (q : Statement) × Two alternative p q w
+from-alternative : {w : Statement} → Alternative w → (p : Statement) × (q : Statement) × Joined alternative p q w
 from-alternative (Alternative.sequence {p = p} {q = q}) = (p, q, sequence)
 from-alternative (Alternative.test {p = p} {q = q}) = (p, q, test)
 
@@ -68,7 +68,7 @@ exclusive-before (Exclusive.apart x) = inr (Before.across (from-alternative x .2
 exclusive-before (Exclusive.apart′ x) = inl (Before.across (from-alternative x .2))
 exclusive-before (Exclusive.inside i x) = either-inside i (exclusive-before x)
 
-no-sides : {p q w : Statement} → Two parallel p q w → Alternative w → ⊥
+no-sides : {p q w : Statement} → Joined parallel p q w → Alternative w → ⊥
 no-sides sides x = elim x [ ]
 
 -- sides of a parallel are compatible
@@ -92,7 +92,7 @@ order-inside : {d : Part} {c p : Statement} {a b : Place} → PartOf d c p → O
 order-inside {d} i (same e) = same (ap (λ (l : Place). d ∷ l) e)
 order-inside i (ordered r) = ordered (either-inside i r)
 
-joint : {c c₂ w : Statement} → PartOf first c w → PartOf second c₂ w → (j : Joint) × Two j c c₂ w
+joint : {c c₂ w : Statement} → PartOf first c w → PartOf second c₂ w → (j : Joint) × Joined j c c₂ w
 joint seq₁ seq₂ = (alternative, sequence)
 joint present₁ present₂ = (alternative, test)
 joint par₁ par₂ = (parallel, sides)

@@ -19,7 +19,7 @@ use Rattle.esterel.proofs.Sets.{member-join, member-only, join-none-l, 
 use Rattle.esterel.proofs.SplitSets.{none-lt, only-lt, none-over, only-over, below-join, from-join}
 use Rattle.esterel.proofs.Places.{distinct-part, disjoint-parts}
 use Rattle.esterel.proofs.Activity.{active-is}
-use Rattle.esterel.proofs.Order.{Two, sequence, test, sides, first-part, second-part}
+use Rattle.esterel.proofs.Order.{Joined, sequence, test, sides, first-part, second-part}
 use Rattle.esterel.proofs.LabelSets.{in-none, in-join, same-test}
 use Rattle.esterel.proofs.LabelTests.{pauses-is}
 
@@ -82,20 +82,20 @@ mask-over base (setpause l) L = none-over base
 
 -- ---- SPLIT
 -- the mask of a command of two parts is the masks of the parts, below and from the first rank of the second
-pub split-two : {j : Joint} {p q w : Statement} (base L : ℕ) → Two j p q w
+pub split-two : {j : Joint} {p q w : Statement} (base L : ℕ) → Joined j p q w
     → mask base w L ≡ join (mask base p L) (mask (middle base p) q L)
 unfolding mask
 split-two base L sequence = refl
 split-two base L test = refl
 split-two base L sides = refl
 
-pub split-below : {j : Joint} {p q w : Statement} (base L : ℕ) → Two j p q w
+pub split-below : {j : Joint} {p q w : Statement} (base L : ℕ) → Joined j p q w
     → below (middle base p) (mask base w L) ≡ mask base p L
 split-below {p = p} {q = q} base L t =
     ap (below (middle base p)) (split-two base L t)
     ∙ below-join (middle base p) (mask base p L) (mask (middle base p) q L) (mask-lt base p L) (mask-over (middle base p) q L)
 
-pub split-from : {j : Joint} {p q w : Statement} (base L : ℕ) → Two j p q w
+pub split-from : {j : Joint} {p q w : Statement} (base L : ℕ) → Joined j p q w
     → from (middle base p) (mask base w L) ≡ mask (middle base p) q L
 split-from {p = p} {q = q} base L t =
     ap (from (middle base p)) (split-two base L t)
@@ -140,7 +140,7 @@ none-is base p L = (
 )
 
 -- the mask of a part of a command of two parts, and whether it is empty
-module _ {j : Joint} {p q w : Statement} (base L : ℕ) (t : Two j p q w) where
+module _ {j : Joint} {p q w : Statement} (base L : ℕ) (t : Joined j p q w) where
   pub first-empty : empty (below (middle base p) (mask base w L)) ≡ not (active p L)
   first-empty = ap empty (split-below base L t) ∙ empty-is base p L
 
@@ -212,7 +212,7 @@ mask-other : (base : ℕ) (p : Statement) (l : ℕ) → member l (pauses p) ≡ 
 mask-other base p l h = none-is base p (only l) .1 (active-only p l ∙ h)
 
 -- in two parts that share no label, the one that has l
-rank-two : {j : Joint} {p q w : Statement} (base l : ℕ) → Two j p q w → Distinct w
+rank-two : {j : Joint} {p q w : Statement} (base l : ℕ) → Joined j p q w → Distinct w
     → (Distinct p → member l (pauses p) ≡ true → mask base p (only l) ≡ only (rank base p l))
     → (Distinct q → member l (pauses q) ≡ true → mask (middle base p) q (only l) ≡ only (rank (middle base p) q l))
     → member l (join (pauses p) (pauses q)) ≡ true

@@ -13,7 +13,7 @@ use Rattle.esterel.specs.Expansion.{expand, ifActive}
 use Rattle.esterel.specs.LabelTests.{alternative, parallel}
 use Rattle.esterel.specs.Ranks.{middle, mask}
 use Rattle.esterel.specs.Resume.{Instant, instant, start, idle, earlier, seqInstant, parInstant, loopInstant, tryInstant, signalInstant, resume}
-use Rattle.esterel.proofs.Order.{Two, sequence, test, sides}
+use Rattle.esterel.proofs.Order.{Joined, sequence, test, sides}
 use Rattle.esterel.proofs.Ranks.{split-below, split-from, first-empty, second-empty}
 
 -- ---- the first error of a list in parts
@@ -94,19 +94,19 @@ resumes base (pause l) L e h = refl
 resumes base (emit s) L e h = absurd (false≢true h)
 resumes base (exit n) L e h = absurd (false≢true h)
 resumes base (seq p q) L e h =
-    let t : Two alternative p q (seq p q) = sequence in
+    let t : Joined alternative p q (seq p q) = sequence in
     rw (first-empty base L t, split-below base L t, split-from base L t)
     (alternative-goes (seq (expand p L) q) (expand q L) e _ _ (active p L) (active q L)
     (λ x. seq-goes (expand p L) q e _ (resumes base p L e x)) (resumes (middle base p) q L e) h)
 resumes base (par p q) L e h =
-    let t : Two parallel p q (par p q) = sides in
+    let t : Joined parallel p q (par p q) = sides in
     rw (first-empty base L t, second-empty base L t, split-below base L t, split-from base L t)
     (ap₂ parInstant (side-goes (expand p L) e _ (active p L) (resumes base p L e))
     (side-goes (expand q L) e _ (active q L) (resumes (middle base p) q L e))
     ∙ sym (start-par (ifActive (active p L) (expand p L)) (ifActive (active q L) (expand q L)) e))
 resumes base (loop a p) L e h = seq-goes (expand p L) (loop a p) e _ (resumes base p L e h)
 resumes base (present s p q) L e h =
-    let t : Two alternative p q (present s p q) = test in
+    let t : Joined alternative p q (present s p q) = test in
     rw (first-empty base L t, split-below base L t, split-from base L t)
     (alternative-goes (expand p L) (expand q L) e _ _ (active p L) (active q L) (resumes base p L e) (resumes (middle base p) q L e) h)
 resumes base (signal a s p) L e h =

@@ -1,14 +1,2 @@
-pub mod Bytes
-pub mod Bounds
-pub mod ErrorPlaces
-pub mod RecordLaws
-pub mod Sequence
-pub mod Agreement
-pub mod TickRows
-pub mod Demands
-pub mod Replacements
-pub mod Bays
-pub mod LeLoops
-pub mod Stores
 pub mod Standing
 pub mod Ticking

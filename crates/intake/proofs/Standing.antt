@@ -17,41 +17,40 @@ use Rattle.sets.proofs.LabelValues.{labelSet-of}
 use Rattle.rules.specs.Instants.{instantOf}
 use Rattle.rules.specs.declared.instant.Completion.{Completion}
 use Rattle.rules.specs.declared.instant.Completion.the-variants.{Waiting}
-use Rattle.intake.specs.Records.{encodeState, encodeAnswer, holds, malformed, decodeState}
-use Rattle.intake.specs.Tick.{Outcome, written}
-use Rattle.intake.specs.TickRows.{phaseIn, labelsIn}
+use Rattle.records.specs.Records.{phaseIn, labelsIn, encodeState, encodeAnswer, holds, malformed, decodeState}
+use Rattle.demands.specs.Tick.{Outcome, written}
 use Rattle.intake.specs.declared.tick.Standing.the-variants as stands
 use Rattle.intake.specs.Standing.{Decodes, writtenBy, writtenFrom}
 use Rattle.sets.specs.declared.labels.Labels.{Labels}
-use Rattle.checks.specs.Activity.{ValidityOf}
-use Rattle.checks.specs.declared.activity.Validity.the-variants.{Valid, Invalid}
+use Rattle.validity.specs.Activity.{ValidityOf}
+use Rattle.validity.specs.declared.activity.Validity.the-variants.{Valid, Invalid}
 
-module _ (p : Statement) (state : List ℕ) (L : ℕ) (read : L ≡ labelsIn state) where
-  by-validity : (b : Bool) → phaseIn state ≡ 1 → valid p L ≡ b → decodeState p state ≡ cond b (holds (State.waits (labelsIn state))) malformed
+module _ (p : Statement) (state : List ℕ) (phase L : ℕ) (at : phase ≡ phaseIn state) (read : L ≡ labelsIn state) where
+  by-validity : (b : Bool) → phase ≡ 1 → valid p L ≡ b → decodeState p state ≡ cond b (holds (State.waits (labelsIn state))) malformed
   unfolding decodeState
-  by-validity b i v = let w : valid p (labelsIn state) ≡ b = rw read at v in rw (i, w)
+  by-validity b i v = let w : valid p (labelsIn state) ≡ b = rw read at v in rw (sym at ∙ i, w)
 
-  pub waiting-as : phaseIn state ≡ 1 → (m : Labels) → ValidityOf p L (Valid m) → Decodes p state (stands.Waiting m)
+  pub waiting-as : phase ≡ 1 → (m : Labels) → ValidityOf p L (Valid m) → Decodes p state (stands.Waiting m)
   waiting-as i m v = (by-validity true i (v .0), rw read at (v .0), rw read at (v .1))
 
-  pub waiting-invalid : phaseIn state ≡ 1 → ValidityOf p L Invalid → Decodes p state stands.Malformed
+  pub waiting-invalid : phase ≡ 1 → ValidityOf p L Invalid → Decodes p state stands.Malformed
   waiting-invalid i v = by-validity false i v
 
-  pub is-fresh : phaseIn state ≢ 1 → phaseIn state ≡ 0 → eqb L none ≡ true → Decodes p state stands.Fresh
+  pub is-fresh : phase ≢ 1 → phase ≡ 0 → eqb L none ≡ true → Decodes p state stands.Fresh
   unfolding decodeState
-  is-fresh n i e = rw (i, ← read, e)
+  is-fresh n i e = rw (sym at ∙ i, ← read, e)
 
-  pub is-over : phaseIn state ≢ 1 → phaseIn state ≡ 2 → eqb L none ≡ true → Decodes p state stands.Over
+  pub is-over : phase ≢ 1 → phase ≡ 2 → eqb L none ≡ true → Decodes p state stands.Over
   unfolding decodeState
-  is-over n i e = rw (i, ← read, e)
+  is-over n i e = rw (sym at ∙ i, ← read, e)
 
-  pub other-phase : phaseIn state ≢ 1 → phaseIn state ≢ 0 → phaseIn state ≢ 2 → Decodes p state stands.Malformed
+  pub other-phase : phase ≢ 1 → phase ≢ 0 → phase ≢ 2 → Decodes p state stands.Malformed
   unfolding decodeState
-  other-phase n i j = rw (ne-eqb (phaseIn state) 1 n, ne-eqb (phaseIn state) 0 i, ne-eqb (phaseIn state) 2 j)
+  other-phase n i j = rw (← at, ne-eqb phase 1 n, ne-eqb phase 0 i, ne-eqb phase 2 j)
 
-  pub stray-labels : phaseIn state ≢ 1 → eqb L none ≡ false → Decodes p state stands.Malformed
+  pub stray-labels : phase ≢ 1 → eqb L none ≡ false → Decodes p state stands.Malformed
   unfolding decodeState
-  stray-labels n e = rw (ne-eqb (phaseIn state) 1 n, ← read, e) (go (eqb (phaseIn state) 0) (eqb (phaseIn state) 2))
+  stray-labels n e = rw (← at, ne-eqb phase 1 n, ← read, e) (go (eqb phase 0) (eqb phase 2))
     where
       go : (x y : Bool) → cond (x && false) (holds State.fresh) (cond (y && false) (holds State.over) malformed) ≡ malformed
       go true true = refl

@@ -19,24 +19,23 @@ use Rattle.esterel.proofs.Figure5.{valid-active}
 use Rattle.esterel.proofs.Resume.{resumes}
 use Rattle.sets.specs.Labels.{labelSet}
 use Rattle.sets.specs.declared.labels.Labels.{Labels}
-use Rattle.sequence.specs.Limits.{maxDepth}
+use Rattle.limits.specs.Limits.{maxDepth}
 use Rattle.sequence.specs.Writer.{Ranged}
-use Rattle.sequence.specs.Layout.{Ready}
-use Rattle.sequence.proofs.Laid.{ready}
-use Rattle.checks.specs.Known.{Known, Sound}
+use Rattle.reading.specs.Layout.{Ready}
+use Rattle.reading.proofs.Laid.{ready}
+use Rattle.reading.specs.Known.{Known, Sound}
 use Rattle.checks.specs.Verdict.{Judged}
 use Rattle.sequence.specs.Check.{Checked, sound, bad, checked, numberOf, checkOf}
 use Rattle.rules.specs.Instants.{instantOf, completionOf}
 use Rattle.rules.specs.declared.instant.Instant.{Instant}
-use Rattle.intake.specs.Records.{stateLength, answerLength, Decoded, holds, malformed, decodeState}
-use Rattle.intake.specs.Tick.{outcome, byState, byCheck, tickOf}
-use Rattle.intake.specs.TickRows.{labelsIn}
+use Rattle.records.specs.Records.{stateLength, answerLength, labelsIn, Decoded, holds, malformed, decodeState}
+use Rattle.demands.specs.Tick.{outcome, byState, byCheck, tickOf}
 use Rattle.intake.specs.declared.tick.Standing.the-variants as stands
 use Rattle.intake.specs.declared.tick.Reply.{Reply}
 use Rattle.intake.specs.declared.tick.Reply.the-variants.{Refused, Reacted}
 use Rattle.intake.specs.Standing.{Decodes, WritableCode, Writable, writtenFrom, replied, Replies}
-use Rattle.intake.proofs.Sequence.{accepted}
-use Rattle.intake.proofs.Bounds.{Exits, code-exits, ranged-expand}
+use Rattle.demands.proofs.Sequence.{accepted}
+use Rattle.demands.proofs.Bounds.{Exits, code-exits, ranged-expand}
 use Rattle.intake.proofs.Standing.{written-from}
 
 -- ---- instants fit the answer record

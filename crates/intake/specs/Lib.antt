@@ -1,9 +1,1 @@
-pub mod Bytes
-pub mod Records
-pub mod Tick
-pub mod TickRows
-pub mod Paper
-pub mod Demands
-pub mod Replacements
-pub mod Bays
 pub mod Standing

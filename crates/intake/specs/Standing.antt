@@ -5,7 +5,7 @@ use mathlib.Core.Bool.{true}
 use mathlib.Core.List.{List}
 use Rattle.sequence.specs.Reader.{read}
 use Rattle.sequence.specs.Check.{checked}
-use Rattle.checks.specs.Known.{Known}
+use Rattle.reading.specs.Known.{Known}
 use Rattle.esterel.specs.Statement.{Statement}
 use Rattle.esterel.specs.LabelTests.{valid}
 use Rattle.esterel.specs.Ranks.{mask}
@@ -19,9 +19,8 @@ use Rattle.intake.specs.declared.tick.Standing.the-variants as stands
 use Rattle.intake.specs.declared.tick.Reply.{Reply}
 use Rattle.intake.specs.declared.tick.Reply.the-variants.{Refused, Reacted}
 use Rattle.esterel.specs.Sets.{none}
-use Rattle.intake.specs.Records.{holds, malformed, decodeState, stateRecord, answerRecord}
-use Rattle.intake.specs.Tick.{Outcome, outcome, byCheck}
-use Rattle.intake.specs.TickRows.{labelsIn}
+use Rattle.records.specs.Records.{labelsIn, holds, malformed, decodeState, stateRecord, answerRecord}
+use Rattle.demands.specs.Tick.{Outcome, outcome, byCheck}
 
 -- what the record holds for p; of a waiting machine also the ranks of its active pauses
 abbrev pub Decodes : Statement → List ℕ → Standing → Type 0

@@ -1,22 +1,22 @@
-// The records, the tick and the exports for hosts in C.
-pub mod le;
-mod records;
+// The check and the tick, exported for hosts in C.
 mod tick;
 
 ghost use mathlib.Core.Path.{_≡_};
 ghost use Rattle.sequence.specs.Check.{checkOf};
-ghost use Rattle.intake.specs.Demands.{TickMeets};
+ghost use Rattle.demands.specs.Demands.{TickMeets};
 use crate::tick::Reply;
-use sequence::notes::Notes;
-use sequence::reader::Seconds;
+use reading::notes::Notes;
+use reading::reader::Seconds;
+use records::layout::ANSWER_LENGTH;
+use records::layout::STATE_LENGTH;
 
 // The check: 0, or the number of the row that turns the sequence down.
 #[no_mangle]
 pub extern "C" fn intake_check(sequence: &[u8]) -> u8
     ensures { λ r. ⌜ r ≡ checkOf (now (sequence .entry)) ⌝ }
 {
-    let mut second: Seconds = [0; 1024];
-    let mut notes: Notes = [0; 68];
+    let mut second: Seconds = [0; limits::MAX_BYTES];
+    let mut notes: Notes = [0; reading::notes::LENGTH];
     checks::verdict::check(sequence, &mut second, &mut notes)
 }
 
@@ -28,12 +28,13 @@ pub extern "C" fn intake_tick(
     input: u32,
     answer: &mut [u8],
 ) -> u8
-    ensures { λ r. ⌜ TickMeets r (now (state .exit)) (now (answer .exit)) (now (sequence .entry)) (now (state .entry)) input (now (answer .entry)) ⌝ }
+    ensures { λ r. ⌜ TickMeets r (now (state .exit)) (now (answer .exit))
+        (now (sequence .entry)) (now (state .entry)) input (now (answer .entry)) ⌝ }
 {
-    if state.len() != 9 {
+    if state.len() != STATE_LENGTH {
         return 1;
     }
-    if answer.len() != 8 {
+    if answer.len() != ANSWER_LENGTH {
         return 1;
     }
     match crate::tick::reply_to(sequence, state, input) {

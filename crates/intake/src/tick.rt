@@ -1,16 +1,16 @@
 // One tick: what a state record holds, what a call comes to, and what an instant writes.
 ghost use mathlib.Core.Path.{_≡_};
 ghost use lib.ListN.{length};
-ghost use Rattle.checks.specs.Known.{Sound};
-ghost use Rattle.intake.specs.Records.{stateLength, answerLength};
-ghost use Rattle.intake.specs.Tick.{outcome};
+ghost use Rattle.reading.specs.Known.{Sound};
+ghost use Rattle.records.specs.Records.{stateLength, answerLength};
+ghost use Rattle.demands.specs.Tick.{outcome};
 ghost use Rattle.intake.specs.Standing.{DecodesRead, Replies, Writable, writtenFrom};
-use checks::activity::Validity;
+use reading::notes::Notes;
+use reading::reader::Seconds;
 use rules::instant::Completion;
 use rules::instant::Instant;
-use sequence::notes::Notes;
-use sequence::reader::Seconds;
 use sets::labels::Labels;
+use validity::activity::Validity;
 
 // What a state record holds for an accepted sequence. A waiting machine has the ranks of its active pauses.
 enum Standing {
@@ -22,13 +22,13 @@ enum Standing {
 
 // The standing of a record, by what reading the sequence noted.
 fn decode(sequence: &[u8], second: &Seconds, notes: &Notes, state: &[u8]) -> Standing
-    requires { ⌜ (length (now state) ≡ stateLength) × Sound (now second) (now notes) (now sequence) ⌝ }
+    requires { ⌜ Sound (now second) (now notes) (now sequence) ⌝ }
     ensures { λ r. ⌜ DecodesRead (now (second .entry)) (now (notes .entry)) (now (sequence .entry)) (now (state .entry)) r ⌝ }
 {
-    let phase = state[0];
-    let labels = crate::records::labels_in(state);
+    let phase = records::state::phase(state);
+    let labels = records::state::labels(state);
     if phase == 1 {
-        return match checks::activity::validity_of(sequence, second, notes, labels) {
+        return match validity::activity::validity_of(sequence, second, notes, labels) {
             Validity::Valid(active) => Standing::Waiting(active),
             Validity::Invalid => Standing::Malformed,
         };
@@ -52,11 +52,10 @@ pub enum Reply {
 
 // The sequence in the state of a record: a fresh machine reacts, a waiting one resumes.
 pub fn reply_to(sequence: &[u8], state: &[u8], input: u32) -> Reply
-    requires { ⌜ length (now state) ≡ stateLength ⌝ }
     ensures { λ r. ⌜ Replies (now (sequence .entry)) (now (state .entry)) input r ⌝ }
 {
-    let mut second: Seconds = [0; 1024];
-    let mut notes: Notes = [0; 68];
+    let mut second: Seconds = [0; limits::MAX_BYTES];
+    let mut notes: Notes = [0; reading::notes::LENGTH];
     let number = checks::verdict::check(sequence, &mut second, &mut notes);
     if number != 0 {
         return Reply::Refused(number);
@@ -64,11 +63,17 @@ pub fn reply_to(sequence: &[u8], state: &[u8], input: u32) -> Reply
     match decode(sequence, &second, &notes, state) {
         Standing::Malformed => Reply::Refused(11),
         Standing::Over => Reply::Refused(12),
-        Standing::Fresh => Reply::Reacted(react::react::react(sequence, 0, 64, input, &second)),
+        Standing::Fresh => Reply::Reacted(react::react::react(
+            sequence,
+            0,
+            limits::MAX_DEPTH,
+            input,
+            &second,
+        )),
         Standing::Waiting(active) => Reply::Reacted(resume::resume::resume(
             sequence,
             0,
-            64,
+            limits::MAX_DEPTH,
             input,
             active,
             &second,
@@ -85,20 +90,20 @@ pub fn finish(state: &mut [u8], answer: &mut [u8], i: Instant) -> u8
     let k = r.completion;
     match k {
         Completion::Ended => {
-            crate::records::write_state(state, 2, sets::labels::empty());
-            crate::records::write_answer(answer, 0, 0, 0, r.emitted);
+            records::state::write_state(state, 2, sets::labels::empty());
+            records::answer::write_answer(answer, 0, 0, 0, r.emitted);
         }
         Completion::Waiting => {
-            crate::records::write_state(state, 1, r.labels);
-            crate::records::write_answer(answer, 1, 0, 0, r.emitted);
+            records::state::write_state(state, 1, r.labels);
+            records::answer::write_answer(answer, 1, 0, 0, r.emitted);
         }
         Completion::Leaving(n) => {
-            crate::records::write_state(state, 2, sets::labels::empty());
-            crate::records::write_answer(answer, n + 1, 0, 0, r.emitted);
+            records::state::write_state(state, 2, sets::labels::empty());
+            records::answer::write_answer(answer, n + 1, 0, 0, r.emitted);
         }
         Completion::Wrong(kind, place) => {
-            crate::records::write_state(state, 2, sets::labels::empty());
-            crate::records::write_answer(answer, 255, kind, place, 0);
+            records::state::write_state(state, 2, sets::labels::empty());
+            records::answer::write_answer(answer, 255, kind, place, 0);
         }
     }
     0

@@ -9,9 +9,9 @@ use Rattle.esterel.specs.Expansion.{expand}
 use Rattle.sequence.specs.Commands.{commandOf}
 use Rattle.sequence.specs.Reader.{front, read}
 use Rattle.sequence.specs.Check.{checked, checkOf}
-use Rattle.intake.specs.Bytes.{leBytes, leNumber}
-use Rattle.intake.specs.Records.{encodeState, decodeState, encodeAnswer}
-use Rattle.intake.specs.Tick.{tickOf}
+use Rattle.records.specs.Bytes.{leBytes, leNumber}
+use Rattle.records.specs.Records.{encodeState, decodeState, encodeAnswer}
+use Rattle.demands.specs.Tick.{tickOf}
 use Rattle.listing.specs.Text.{numeralIn, numeral}
 use Rattle.listing.specs.File.{sequenceIn, words, inputsIn, fileOf}
 use Rattle.listing.specs.Listing.{lineOf, rows, lines, listingOf}

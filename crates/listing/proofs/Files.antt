@@ -1,6 +1,5 @@
 -- Laws of a run's file: its parts, whether it is whole, and its inputs.
-use Prim.Native.Nat.{ℕ, zero, suc, _+_, _-_, _*_, _%_, _^_, _≤_, _<_}
-use native.Mathlib.Nat.{pow-le-pow-right}
+use Prim.Native.Nat.{ℕ, zero, suc, _+_, _-_, _*_, _%_, _≤_, _<_}
 use native.Mathlib.Omega.{arith}
 use mathlib.Core.Bool.{true, false}
 use mathlib.Core.Logic.{_≢_}
@@ -8,36 +7,15 @@ use mathlib.Core.Option.{none, some}
 use mathlib.Core.Path.{_≡_, refl, sym, ap, _∙_, subst}
 use mathlib.Core.List.{List, [], _∷_}
 use lib.ListN.{length, take, drop, length-drop, drop-of-length-le}
-use lib.Seq.{take-all, take-nil, take-length, drop-nil, drop-drop}
+use lib.Seq.{drop-nil, drop-drop}
 use lib.Dec.{eqb}
 use borrow.Author.Tests.{le-leb, lt-leb}
 use Rattle.sequence.specs.Check.{checkOf}
-use Rattle.intake.specs.Bytes.{leNumber}
+use Rattle.records.specs.Bytes.{leNumber}
 use Rattle.listing.specs.File.{cut, refused, runs, byNumber, fileOf, sequenceLength, inputsAt, sequenceIn, words, inputsIn, whole}
 use Rattle.listing.specs.Answers.{first}
 
--- ---- a part of a slice, cut to what is there
-pub part-none : (s : List ℕ) (from count : ℕ) → length s ≤ from
-    → take (length s - length s) (drop (length s) s) ≡ take count (drop from s)
-part-none s from count h =
-    let z : length s - length s ≡ 0 = omega arith in
-    ap (λ (n : ℕ). take n (drop (length s) s)) z ∙ sym (ap (take count) (drop-of-length-le s h) ∙ take-nil count)
-
-pub part-rest : (s : List ℕ) (from count : ℕ) → length s - from ≤ count → take (length s - from) (drop from s) ≡ take count (drop from s)
-part-rest s from count h =
-    let e : length (drop from s) ≡ length s - from = length-drop from s in
-    take-all (length s - from) (drop from s) (omega arith) ∙ sym (take-all count (drop from s) (omega arith))
-
-pub part-front : (s : List ℕ) (from count : ℕ) → take (from + count - from) (drop from s) ≡ take count (drop from s)
-part-front s from count = let e : from + count - from ≡ count = omega arith in ap (λ (n : ℕ). take n (drop from s)) e
-
 -- ---- the length that a file names
-pub named-length : (file head : List ℕ) (n : ℕ) → head ≡ take 2 (drop 0 file) → n ≡ leNumber (take (length head) (drop 0 head)) → n ≡ sequenceLength file
-named-length file head n h e = e ∙ ap leNumber (take-length head) ∙ ap leNumber h
-
-pub length-bound : (n k : ℕ) → n < 256 ^ k → k ≤ 2 → n < 65536
-length-bound n k h le = let q : 256 ^ k ≤ 256 ^ 2 = pow-le-pow-right {n = 256} (omega arith) {i = k} {j = 2} le in omega arith
-
 pub sequence-part : (file s : List ℕ) (n : ℕ) → n ≡ sequenceLength file → s ≡ take n (drop 2 file) → s ≡ sequenceIn file
 unfolding sequenceIn
 sequence-part file s n e h = h ∙ ap (λ (k : ℕ). take k (drop 2 file)) e

@@ -6,3 +6,4 @@ pub mod Pieces
 pub mod Paper
 pub mod Turns
 pub mod Examples
+pub mod Theorems

@@ -14,12 +14,11 @@ use Rattle.esterel.specs.States.{NoSetpause}
 use Rattle.esterel.specs.Machines.{Seen, Rewriting, seen, termAfter, byRewriting, run}
 use Rattle.sequence.specs.Check.{checkOf}
 use Rattle.sequence.specs.Rows.{Spells}
-use Rattle.intake.specs.Records.{answerLength, codeByte}
-use Rattle.intake.specs.Tick.{Outcome, outcome, tickOf}
-use Rattle.intake.specs.TickRows.{phaseIn}
-use Rattle.intake.specs.Paper.{Call, reacted, reportOf, paper}
-use Rattle.intake.specs.Demands.{stateAfterwards, cleared, codeIn, emittedIn, report, outcomes}
-use Rattle.intake.proofs.Agreement.{demand-3}
+use Rattle.records.specs.Records.{answerLength, phaseIn, codeIn, emittedIn, codeByte}
+use Rattle.demands.specs.Tick.{Outcome, outcome, tickOf}
+use Rattle.demands.specs.Paper.{Call, reacted, reportOf, paper}
+use Rattle.demands.specs.Demands.{stateAfterwards, cleared, report, outcomes}
+use Rattle.demands.proofs.Agreement.{demand-3}
 use Rattle.listing.specs.Text.{heading, ending}
 use Rattle.listing.specs.File.{cut, runs, byNumber, fileOf, whole, sequenceIn, inputsIn}
 use Rattle.listing.specs.Listing.{Row, rowOf, isOver, ticked, rows, lines, listed, listingOf}
@@ -92,10 +91,10 @@ follow s (e ∷ es) state t i w steps h =
     (later ∙ ap (λ (x : Seen × Rewriting). paper (x .1) (callsOf es)) (steps e) ∙ ap (λ (v : Rewriting). paper v (callsOf es)) q))
     ∙ ap (λ (x : Seen × Rewriting). instants (x .0 ∷ run byRewriting (x .1) es)) (sym (steps e))
 
-pub rows-by-paper : (sequence inputs : List ℕ) → checkOf sequence ≡ 0 → ((p : Statement) → Spells sequence p → NoSetpause p)
-    → map columns (rows sequence cleared 1 inputs) ≡ paperColumns sequence inputs
-rows-by-paper sequence inputs h plain =
-    follow sequence inputs cleared _ 1 _ (λ e. refl) (demand-3 sequence h plain (callsOf inputs))
+rows-by-paper : (sequence inputs : List ℕ) → checkOf sequence ≡ 0 → (p : Statement) → Spells sequence p → NoSetpause p
+    → map columns (rows sequence cleared 1 inputs) ≡ paperColumns p inputs
+rows-by-paper sequence inputs h p s plain =
+    follow sequence inputs cleared p 1 (Rewriting.fresh p) (λ e. refl) (demand-3 sequence h p s plain (callsOf inputs))
 
 -- a file that runs holds an accepted sequence
 accepted : (b : Bool) (n : ℕ) (s es s′ es′ : List ℕ) → cond b (byNumber n s es) cut ≡ runs s′ es′ → (n ≡ 0) × (s ≡ s′)
@@ -110,8 +109,9 @@ file-accepted file s es h =
     ap checkOf (sym (a .1)) ∙ a .0
 
 -- what the run program prints: a heading, rows whose codes and sets are the machine's, and the end
-pub listing-by-paper : (file sequence inputs : List ℕ) → fileOf file ≡ runs sequence inputs → ((p : Statement) → Spells sequence p → NoSetpause p)
-    → (rs : List Row) × (listingOf file ≡ heading ++ (lines rs ++ ending)) × (map columns rs ≡ paperColumns sequence inputs)
+pub listing-by-paper : (file sequence inputs : List ℕ) → fileOf file ≡ runs sequence inputs
+    → (p : Statement) → Spells sequence p → NoSetpause p
+    → (rs : List Row) × (listingOf file ≡ heading ++ (lines rs ++ ending)) × (map columns rs ≡ paperColumns p inputs)
 unfolding listingOf
-listing-by-paper file sequence inputs h plain =
-    (rows sequence cleared 1 inputs, ap listed h, rows-by-paper sequence inputs (file-accepted file sequence inputs h) plain)
+listing-by-paper file sequence inputs h p s plain =
+    (rows sequence cleared 1 inputs, ap listed h, rows-by-paper sequence inputs (file-accepted file sequence inputs h) p s plain)

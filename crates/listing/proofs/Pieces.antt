@@ -8,8 +8,8 @@ use mathlib.Core.Path.{_≡_, refl, sym, ap, ap₂, _∙_}
 use mathlib.Core.List.{List, [], _∷_}
 use lib.ListN.{length, getD, drop, length-drop}
 use lib.Dec.{eqb}
-use Rattle.intake.specs.Tick.{Outcome, outcome}
-use Rattle.intake.specs.Demands.{stateAfterwards}
+use Rattle.demands.specs.Tick.{Outcome, outcome}
+use Rattle.demands.specs.Demands.{stateAfterwards}
 use Rattle.listing.specs.declared.file.Opened.{Opened}
 use Rattle.listing.specs.declared.Stage.{Stage}
 use Rattle.listing.specs.declared.Stage.the-variants as stages

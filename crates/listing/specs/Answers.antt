@@ -41,12 +41,16 @@ stageBy file stages.Finished state = Listing.finished
 abbrev pub stageIn : List ℕ → Run → Listing.Stage
 stageIn file run = stageBy file (run .stage) (run .state)
 
+-- the turn of a run before the instant that i inputs precede
+abbrev pub turnAt : (file state : List ℕ) (i : ℕ) → Listing.Turn
+turnAt file state i = Listing.turnOf (stageBy file (stages.Running i) state)
+
 -- a machine that is over ends the run
 abbrev pub stageAfter : (phase i : ℕ) → Stage
 stageAfter phase i = cond (eqb phase 2) stages.Closing (stages.Running (i + 1))
 
 -- the piece has the text of t and the next stage of t
-pub record Shows (file : List ℕ) (t : Listing.Turn) (piece : Piece) : Type 0 where
+pub record Prints (file : List ℕ) (t : Listing.Turn) (piece : Piece) : Type 0 where
   pub result : Listing.turn (drop (piece .from) (piece .line)) (stageIn file (piece .run)) ≡ t
   pub within : piece .from ≤ lineLength
   pub sized : length (piece .line) ≡ lineLength

@@ -5,8 +5,8 @@ use mathlib.Core.List.{List, [], _∷_}
 use lib.ListN.{length, take, drop}
 use lib.Dec.{eqb, leb}
 use Rattle.sequence.specs.Check.{checkOf}
-use Rattle.intake.specs.Bytes.{leNumber}
-use Rattle.intake.specs.Records.{signalBytes}
+use Rattle.records.specs.Bytes.{leNumber}
+use Rattle.limits.specs.Limits.{signalBytes}
 
 abbrev pub lengthBytes : ℕ
 lengthBytes = 2

@@ -4,10 +4,9 @@ use mathlib.Core.Bool.{Bool, cond}
 use mathlib.Core.List.{List, [], _∷_, _++_}
 use lib.ListN.{replicate}
 use lib.Dec.{eqb}
-use Rattle.intake.specs.Records.{answerLength}
-use Rattle.intake.specs.Tick.{Outcome, tickOf}
-use Rattle.intake.specs.TickRows.{phaseIn, labelsIn}
-use Rattle.intake.specs.Demands.{stateAfterwards, answerAfterwards, cleared, codeIn, kindIn, placeIn, emittedIn}
+use Rattle.records.specs.Records.{answerLength, phaseIn, labelsIn, codeIn, kindIn, placeIn, emittedIn}
+use Rattle.demands.specs.Tick.{Outcome, tickOf}
+use Rattle.demands.specs.Demands.{stateAfterwards, answerAfterwards, cleared}
 use Rattle.listing.specs.Text.{numeral, space, newline, heading, ending, inputCut, refusal}
 use Rattle.listing.specs.File.{File, cut, refused, runs, fileOf}
 
@@ -44,6 +43,9 @@ rowIn i state answer =
       emitted = emittedIn answer;
       labels = labelsIn state;
     }
+
+abbrev pub lineIn : (instant : ℕ) (state answer : List ℕ) → List ℕ
+lineIn i state answer = lineOf (rowIn i state answer)
 
 abbrev pub rowOf : (instant : ℕ) → Outcome → Row
 rowOf i o = rowIn i (stateAfterwards o) (answerAfterwards o)

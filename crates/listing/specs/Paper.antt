@@ -1,10 +1,10 @@
--- What the machine by rewriting of demand 3 (intake, Paper) shows for a sequence and its inputs: code and emitted set of each
+-- What the machine by rewriting of demand 3 (demands, Paper) shows for a statement and its inputs: code and emitted set of each
 -- instant, up to the one that ends it.
 use Prim.Native.Nat.{ℕ}
 use mathlib.Core.List.{List, [], _∷_}
-use Rattle.esterel.specs.Machines.{Seen, instant, refused, byRewriting, run}
-use Rattle.intake.specs.Records.{codeByte}
-use Rattle.intake.specs.Paper.{paperOf}
+use Rattle.esterel.specs.Statement.{Statement}
+use Rattle.esterel.specs.Machines.{Seen, instant, refused, Rewriting, byRewriting, run}
+use Rattle.records.specs.Records.{codeByte}
 use Rattle.listing.specs.Listing.{Row}
 
 pub record Columns : Type 0 where
@@ -19,5 +19,5 @@ instants [] = []
 instants (instant k o after ∷ later) = record { code = codeByte k; emitted = o } ∷ instants later
 instants (refused ∷ later) = []
 
-abbrev pub paperColumns : (sequence inputs : List ℕ) → List Columns
-paperColumns sequence inputs = instants (run byRewriting (paperOf sequence) inputs)
+abbrev pub paperColumns : Statement → (inputs : List ℕ) → List Columns
+paperColumns p inputs = instants (run byRewriting (Rewriting.fresh p) inputs)

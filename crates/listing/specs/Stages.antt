@@ -2,7 +2,7 @@
 use Prim.Native.Nat.{ℕ, zero, suc, _+_}
 use mathlib.Core.Bool.{Bool, true, false, cond}
 use mathlib.Core.List.{List, [], _∷_, _++_}
-use Rattle.intake.specs.Demands.{stateAfterwards, cleared}
+use Rattle.demands.specs.Demands.{stateAfterwards, cleared}
 use Rattle.listing.specs.Text.{heading, ending, inputCut, refusal}
 use Rattle.listing.specs.File.{File, cut, refused, runs, fileOf}
 use Rattle.listing.specs.Listing.{lineOf, rowOf, ticked, isOver}

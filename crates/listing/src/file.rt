@@ -1,9 +1,16 @@
 // The file of a run: length, sequence, inputs.
 ghost use Prim.Native.Nat.{_<_};
 ghost use mathlib.Core.Path.{_≡_};
-ghost use lib.ListN.{take, drop};
+ghost use lib.ListN.{drop};
 ghost use Rattle.listing.specs.File.{fileOf, sequenceLength, sequenceIn, inputsIn, whole};
 ghost use Rattle.listing.specs.Answers.{fileBy, inputBy, first};
+use limits::SIGNAL_BYTES;
+
+// The bytes of the length that begins a file.
+const LENGTH_BYTES: usize = 2;
+
+// The most bytes of a file, its first two among them.
+const MAX_FILE: usize = 65536;
 
 pub enum Opened {
     Cut,
@@ -16,51 +23,35 @@ pub enum Input {
     Nothing,
 }
 
-// The bytes of s from `from` on, at most `count` of them.
-fn part(s: &[u8], from: usize, count: usize) -> &[u8]
-    ensures { λ r. ⌜ now r ≡ take count (drop from (now (s .entry))) ⌝ }
-{
-    let n = s.len();
-    if n <= from {
-        return &s[n..n];
-    }
-    if n - from <= count {
-        return &s[from..n];
-    }
-    let end = from + count;
-    &s[from..end]
-}
-
 // The length that a file names for its sequence.
 fn sequence_length(file: &[u8]) -> usize
     ensures { λ r. ⌜ r ≡ sequenceLength (now (file .entry)) ⌝ }
     ensures { λ r. ⌜ r < 65536 ⌝ }
 {
-    let head = part(file, 0, 2);
-    intake::le::get_le(head, 0, head.len()) as usize
+    records::le::get_le(file, 0, LENGTH_BYTES) as usize
 }
 
 pub fn sequence(file: &[u8]) -> &[u8]
     ensures { λ r. ⌜ now r ≡ sequenceIn (now (file .entry)) ⌝ }
 {
-    part(file, 2, sequence_length(file))
+    records::le::part(file, LENGTH_BYTES, sequence_length(file))
 }
 
 fn is_whole(file: &[u8]) -> bool
     ensures { λ r. ⌜ r ≡ whole (now (file .entry)) ⌝ }
 {
     let n = file.len();
-    if 65536 < n {
+    if MAX_FILE < n {
         return false;
     }
-    if n < 2 {
+    if n < LENGTH_BYTES {
         return false;
     }
-    let at = 2 + sequence_length(file);
+    let at = LENGTH_BYTES + sequence_length(file);
     if n < at {
         return false;
     }
-    (n - at) % 4 == 0
+    (n - at) % SIGNAL_BYTES == 0
 }
 
 pub fn open(file: &[u8]) -> Opened
@@ -81,12 +72,12 @@ pub fn input_at(file: &[u8], i: usize) -> Input
     ensures { λ r. ⌜ inputBy r ≡ first (drop i (inputsIn (now (file .entry)))) ⌝ }
 {
     let n = file.len();
-    let at = 2 + sequence_length(file);
+    let at = LENGTH_BYTES + sequence_length(file);
     if n < at {
         return Input::Nothing;
     }
-    if (n - at) / 4 <= i {
+    if (n - at) / SIGNAL_BYTES <= i {
         return Input::Nothing;
     }
-    Input::Word(intake::le::get_le(file, at + 4 * i, 4) as u32)
+    Input::Word(records::le::get_le(file, at + SIGNAL_BYTES * i, SIGNAL_BYTES) as u32)
 }

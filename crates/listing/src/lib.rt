@@ -3,21 +3,24 @@ mod file;
 mod line;
 mod text;
 
-ghost use Prim.Native.Nat.{ℕ, suc, _+_, _^_, _≤_, _<_};
+ghost use Prim.Native.Nat.{ℕ, _+_, _^_, _≤_, _<_};
 ghost use mathlib.Core.Path.{_≡_};
 ghost use mathlib.Core.Option.{some};
 ghost use mathlib.Core.List.{List};
 ghost use lib.ListN.{length, drop};
-ghost use Rattle.intake.specs.Demands.{cleared};
+ghost use Rattle.demands.specs.Demands.{cleared};
 ghost use Rattle.listing.specs.Text.{refusal};
 ghost use Rattle.listing.specs.Text.{heading as Text·heading};
 ghost use Rattle.listing.specs.File.{fileOf, sequenceIn, inputsIn};
 ghost use Rattle.listing.specs.Stages.{opening, running, finished, isFinished, opened, turnOf};
 ghost use Rattle.listing.specs.Stages.{turn as Stages·turn};
 ghost use Rattle.listing.specs.Buffer.{lineLength};
-ghost use Rattle.listing.specs.Answers.{stageIn, stageAfter, first, Shows};
+ghost use Rattle.listing.specs.Answers.{stageIn, stageAfter, turnAt, first, Prints};
 use crate::file::Input;
 use crate::file::Opened;
+use crate::line::LINE_LENGTH;
+use records::layout::ANSWER_LENGTH;
+use records::layout::STATE_LENGTH;
 
 // How far a listing is: before its first line, before the instant that so many inputs precede, before `end`, or after it.
 pub enum Stage {
@@ -30,12 +33,12 @@ pub enum Stage {
 // A run under way: its stage, and the machine's state record.
 pub struct Run {
     pub stage: Stage,
-    pub state: [u8; 9],
+    pub state: [u8; STATE_LENGTH],
 }
 
 // A piece of a listing: its text is the line from `from` on. The greatest line takes at most 118 bytes.
 pub struct Piece {
-    pub line: [u8; 128],
+    pub line: [u8; LINE_LENGTH],
     pub from: usize,
     pub run: Run,
 }
@@ -46,7 +49,7 @@ pub fn start() -> Run
 {
     Run {
         stage: Stage::Opening,
-        state: [0; 9],
+        state: [0; STATE_LENGTH],
     }
 }
 
@@ -65,7 +68,7 @@ pub fn is_finished(run: Run) -> bool
 
 // The next piece of the listing of a file; after the last one all are empty.
 pub fn turn(file: &[u8], run: Run) -> Piece
-    ensures { λ r. ⌜ Shows (now (file .entry)) (turnOf (stageIn (now (file .entry)) run)) r ⌝ }
+    ensures { λ r. ⌜ Prints (now (file .entry)) (turnOf (stageIn (now (file .entry)) run)) r ⌝ }
 {
     let stage = run.stage;
     match stage {
@@ -82,13 +85,13 @@ pub fn turn(file: &[u8], run: Run) -> Piece
 // The last piece of a listing.
 fn last(text: &[u8]) -> Piece
     requires { ⌜ length (now text) ≤ lineLength ⌝ }
-    ensures { λ r. ⌜ ((file : List ℕ) → Shows file (Stages·turn (now (text .entry)) finished) r) ⌝ }
+    ensures { λ r. ⌜ ((file : List ℕ) → Prints file (Stages·turn (now (text .entry)) finished) r) ⌝ }
 {
-    let mut line = [0u8; 128];
-    let from = crate::text::put_text(&mut line, 128, text);
+    let mut line = [0u8; LINE_LENGTH];
+    let from = crate::text::put_text(&mut line, LINE_LENGTH, text);
     let run = Run {
         stage: Stage::Finished,
-        state: [0; 9],
+        state: [0; STATE_LENGTH],
     };
     Piece {
         line: line,
@@ -99,7 +102,7 @@ fn last(text: &[u8]) -> Piece
 
 // The first piece: the heading, or why there is no run.
 fn open(file: &[u8]) -> Piece
-    ensures { λ r. ⌜ Shows (now (file .entry)) (opened (fileOf (now (file .entry)))) r ⌝ }
+    ensures { λ r. ⌜ Prints (now (file .entry)) (opened (fileOf (now (file .entry)))) r ⌝ }
 {
     match crate::file::open(file) {
         Opened::Cut => last(b"input cut\n"),
@@ -110,13 +113,13 @@ fn open(file: &[u8]) -> Piece
 
 // The only piece where the check turns the sequence down.
 fn refused(number: u8) -> Piece
-    ensures { λ r. ⌜ ((file : List ℕ) → Shows file (Stages·turn (refusal number) finished) r) ⌝ }
+    ensures { λ r. ⌜ ((file : List ℕ) → Prints file (Stages·turn (refusal number) finished) r) ⌝ }
 {
-    let mut line = [0u8; 128];
+    let mut line = [0u8; LINE_LENGTH];
     let from = crate::line::put_refusal(&mut line, number);
     let run = Run {
         stage: Stage::Finished,
-        state: [0; 9],
+        state: [0; STATE_LENGTH],
     };
     Piece {
         line: line,
@@ -127,13 +130,17 @@ fn refused(number: u8) -> Piece
 
 // The first piece of a run.
 fn heading() -> Piece
-    ensures { λ r. ⌜ ((file : List ℕ) → Shows file (Stages·turn Text·heading (running (sequenceIn file) cleared 1 (inputsIn file))) r) ⌝ }
+    ensures { λ r. ⌜ ((file : List ℕ) → Prints file (Stages·turn Text·heading (running (sequenceIn file) cleared 1 (inputsIn file))) r) ⌝ }
 {
-    let mut line = [0u8; 128];
-    let from = crate::text::put_text(&mut line, 128, b"instant code kind place emitted labels\n");
+    let mut line = [0u8; LINE_LENGTH];
+    let from = crate::text::put_text(
+        &mut line,
+        LINE_LENGTH,
+        b"instant code kind place emitted labels\n",
+    );
     let run = Run {
         stage: Stage::Running(0),
-        state: [0; 9],
+        state: [0; STATE_LENGTH],
     };
     Piece {
         line: line,
@@ -143,8 +150,8 @@ fn heading() -> Piece
 }
 
 // The instant that i inputs precede, or the end where no input is left.
-fn step(file: &[u8], i: usize, state: [u8; 9]) -> Piece
-    ensures { λ r. ⌜ Shows (now (file .entry)) (turnOf (running (sequenceIn (now (file .entry))) state (suc i) (drop i (inputsIn (now (file .entry)))))) r ⌝ }
+fn step(file: &[u8], i: usize, state: [u8; STATE_LENGTH]) -> Piece
+    ensures { λ r. ⌜ Prints (now (file .entry)) (turnAt (now (file .entry)) state i) r ⌝ }
 {
     match crate::file::input_at(file, i) {
         Input::Nothing => last(b"end\n"),
@@ -153,17 +160,17 @@ fn step(file: &[u8], i: usize, state: [u8; 9]) -> Piece
 }
 
 // The instant on the input e: a tick, and its line.
-fn instant(file: &[u8], i: usize, e: u32, state: [u8; 9]) -> Piece
+fn instant(file: &[u8], i: usize, e: u32, state: [u8; STATE_LENGTH]) -> Piece
     requires { ⌜ first (drop i (inputsIn (now file))) ≡ some e ⌝ }
-    ensures { λ r. ⌜ Shows (now (file .entry)) (turnOf (running (sequenceIn (now (file .entry))) state (suc i) (drop i (inputsIn (now (file .entry)))))) r ⌝ }
+    ensures { λ r. ⌜ Prints (now (file .entry)) (turnAt (now (file .entry)) state i) r ⌝ }
 {
     let mut after = state;
-    let mut answer = [0u8; 8];
+    let mut answer = [0u8; ANSWER_LENGTH];
     intake::intake_tick(crate::file::sequence(file), &mut after, e, &mut answer);
-    let mut line = [0u8; 128];
+    let mut line = [0u8; LINE_LENGTH];
     let from = crate::line::put_row(&mut line, i as u64 + 1, &after, &answer);
     let run = Run {
-        stage: following(after[0], i),
+        stage: following(records::state::phase(&after), i),
         state: after,
     };
     Piece {

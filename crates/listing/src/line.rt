@@ -3,10 +3,12 @@ ghost use Prim.Native.Nat.{_+_, _≤_};
 ghost use mathlib.Core.Path.{_≡_};
 ghost use mathlib.Core.List.{[], _∷_, _++_};
 ghost use lib.ListN.{length};
-ghost use Rattle.intake.specs.Records.{stateLength, answerLength};
 ghost use Rattle.listing.specs.Text.{numeral, refusal};
-ghost use Rattle.listing.specs.Listing.{numbersOf, setsOf, lineOf, rowIn};
+ghost use Rattle.listing.specs.Listing.{numbersOf, setsOf, lineIn};
 ghost use Rattle.listing.specs.Buffer.{lineLength, Prepended};
+
+// The bytes of a line's buffer.
+pub const LINE_LENGTH: usize = 128;
 
 // Puts a numeral and the byte after it before `end`: at most 21 bytes.
 fn put_field(line: &mut [u8], end: usize, base: u64, width: usize, x: u64, after: u8) -> usize
@@ -35,20 +37,21 @@ fn put_sets(line: &mut [u8], emitted: u64, labels: u64) -> usize
     ensures { λ r. ⌜ Prepended (now (line .entry)) lineLength (setsOf emitted labels) (now (line .exit)) r ⌝ }
     ensures { λ r. ⌜ 84 ≤ r ⌝ }
 {
-    let at = put_field(line, 128, 16, 16, labels, b'\n');
+    let at = put_field(line, LINE_LENGTH, 16, 16, labels, b'\n');
     put_field(line, at, 16, 8, emitted, b' ')
 }
 
 // The line of an instant, from the records that its tick left.
 pub fn put_row(line: &mut [u8], instant: u64, state: &[u8], answer: &[u8]) -> usize
-    requires { ⌜ (length (now line) ≡ lineLength) × (length (now state) ≡ stateLength) × (length (now answer) ≡ answerLength) ⌝ }
-    ensures { λ r. ⌜ Prepended (now (line .entry)) lineLength (lineOf (rowIn instant (now (state .entry)) (now (answer .entry)))) (now (line .exit)) r ⌝ }
+    requires { ⌜ length (now line) ≡ lineLength ⌝ }
+    ensures { λ r. ⌜ Prepended (now (line .entry)) lineLength
+        (lineIn instant (now (state .entry)) (now (answer .entry))) (now (line .exit)) r ⌝ }
 {
-    let labels = intake::le::get_le(state, 1, 8);
-    let emitted = intake::le::get_le(answer, 4, 4);
-    let place = intake::le::get_le(answer, 2, 2);
-    let kind = intake::le::get_le(answer, 1, 1);
-    let code = intake::le::get_le(answer, 0, 1);
+    let labels = sets::labels::bits(records::state::labels(state));
+    let emitted = records::answer::emitted(answer) as u64;
+    let place = records::answer::place(answer) as u64;
+    let kind = records::answer::kind(answer) as u64;
+    let code = records::answer::code(answer) as u64;
     let at = put_sets(line, emitted, labels);
     put_numbers(line, at, instant, code, kind, place)
 }
@@ -58,6 +61,6 @@ pub fn put_refusal(line: &mut [u8], number: u8) -> usize
     requires { ⌜ length (now line) ≡ lineLength ⌝ }
     ensures { λ r. ⌜ Prepended (now (line .entry)) lineLength (refusal number) (now (line .exit)) r ⌝ }
 {
-    let at = put_field(line, 128, 10, 1, number as u64, b'\n');
+    let at = put_field(line, LINE_LENGTH, 10, 1, number as u64, b'\n');
     crate::text::put_text(line, at, b"refused ")
 }

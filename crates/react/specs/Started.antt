@@ -5,7 +5,7 @@ use mathlib.Core.List.{List}
 use Rattle.esterel.specs.Statement.{Statement}
 use Rattle.esterel.specs.Resume as Esterel
 use Rattle.esterel.specs.Resume.{start, seqInstant}
-use Rattle.sequence.specs.Layout.{Lies}
+use Rattle.reading.specs.Layout.{Lies}
 use Rattle.rules.specs.declared.instant.Instant.{Instant}
 use Rattle.rules.specs.Instants.{instantOf}
 

@@ -4,10 +4,10 @@ ghost use mathlib.Core.Path.{_≡_};
 ghost use Prim.Native.Nat.{_≤_};
 ghost use lib.ListN.{length, getD};
 ghost use Rattle.sets.specs.Labels.{labelSet};
-ghost use Rattle.sequence.specs.Layout.{rest, Ready};
+ghost use Rattle.reading.specs.Layout.{rest, Ready};
 ghost use Rattle.resume.specs.Resumed.{Resumed, ResumedSide};
+use reading::reader::Seconds;
 use rules::instant::Instant;
-use sequence::reader::Seconds;
 use sets::labels::Labels;
 
 // The instant of the statement at the front of s, which stands at the offset `at`, by the ranks of its active pauses.

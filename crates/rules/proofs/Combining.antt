@@ -7,7 +7,7 @@ use mathlib.Core.List.{head?}
 use native.Mathlib.Omega.{arith}
 use lib.Dec.{eqb}
 use Rattle.sets.specs.declared.labels.Labels.{Labels}
-use Rattle.sets.specs.Labels.{labelSet, labelsOf}
+use Rattle.sets.specs.Labels.{labelSet, labelsWith}
 use Rattle.sets.proofs.LabelValues.{labelSet-of, labels-of}
 use Rattle.esterel.specs.Sets.{member, none, join, remove}
 use Rattle.esterel.specs.Statement.{Statement, nothing, try}
@@ -101,7 +101,7 @@ par-joins i j p q a b = rw (a, b) (go i j)
     go (instant (gives o₁ k₁ l₁ t) x) (instant (gives o₂ k₂ l₂ v) y) o l u c k f m g d w e n =
         let z : f ≡ firstOf (earlier x y) = earlier-of f x y e in
         let g′ : codeOf k ≡ greater k₁ k₂ = g ∙ ap (λ (h : Code). greater h (codeOf (completionOf k₂ y))) (code-of k₁ x) ∙ ap (greater k₁) (code-of k₂ y) in
-        let d′ : labelSet u ≡ join l₁ l₂ = d ∙ ap (λ (h : ℕ). join h (labelSet (labelsOf l₂))) (labelSet-of l₁) ∙ ap (join l₁) (labelSet-of l₂) in
+        let d′ : labelSet u ≡ join l₁ l₂ = d ∙ ap (λ (h : ℕ). join h (labelSet (labelsWith l₂))) (labelSet-of l₁) ∙ ap (join l₁) (labelSet-of l₂) in
         made (greater k₁ k₂) (earlier x y) m
         (w ∙ ap (λ (h : Code). ifWaiting h (labelSet u)) g′ ∙ ap (ifWaiting (greater k₁ k₂)) d′)
         (n ∙ ap (λ (h : Code). completionIn h f) g′ ∙ ap (completionIn (greater k₁ k₂)) z) z
@@ -144,7 +144,7 @@ try-catches i p a = rw a (go i)
   where
     leaves : (b : Bool) (o l n : ℕ) (t : Statement) (x : Option Error) (c : Completion)
         → c ≡ cond b (completionOf ended x) (completionOf (leaving (n - 1)) x)
-        → _≡_ {A = Instant} (record { reaction = record { emitted = o; labels = labelsOf l; completion = c }; first = firstOf x })
+        → _≡_ {A = Instant} (record { reaction = record { emitted = o; labels = labelsWith l; completion = c }; first = firstOf x })
         (instantOf (instant (cond b (gives o ended l nothing) (gives o (leaving (n - 1)) l (try t))) x))
     leaves true o l n t x c h = rw h
     leaves false o l n t x c h = rw h

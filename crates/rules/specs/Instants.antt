@@ -1,9 +1,11 @@
 -- The values by which the code answers, case by case, from the terms of esterel. The residual is forgotten.
-use Prim.Native.Nat.{_-_}
+use Prim.Native.Nat.{ℕ, _-_}
+use mathlib.Core.Path.{_≡_}
 use mathlib.Core.Bool.{Bool, true, false, cond}
 use mathlib.Core.Option.{Option, none, some}
 use lib.Dec.{eqb}
-use Rattle.sets.specs.Labels.{labelsOf}
+use Rattle.sets.specs.Labels.{labelsWith}
+use Rattle.esterel.specs.Sets.{member}
 use Rattle.esterel.specs.Reaction.{Code, ended, waiting, leaving, wrong, emitted, code, labels}
 use Rattle.esterel.specs.Errors.{Error}
 use Rattle.esterel.specs.Resume as Esterel
@@ -16,8 +18,11 @@ use Rattle.rules.specs.declared.instant.Reaction.{Reaction}
 use Rattle.rules.specs.declared.instant.FirstError.{FirstError}
 use Rattle.rules.specs.declared.instant.Instant.{Instant}
 
+abbrev pub unseen : FirstError
+unseen = record { seen = false; kind = 0; place = 0 }
+
 abbrev pub firstOf : Option Error → FirstError
-firstOf none = record { seen = false; kind = 0; place = 0 }
+firstOf none = unseen
 firstOf (some x) = record { seen = true; kind = x .kind; place = x .place }
 
 -- a wrong completion names the first error; there always is one (esterel, wrong-named)
@@ -33,9 +38,20 @@ completionOf k x = completionIn k (firstOf x)
 abbrev pub instantOf : Esterel.Instant → Instant
 instantOf (Esterel.instant r x) =
     record {
-      reaction = record { emitted = emitted r; labels = labelsOf (labels r); completion = completionOf (code r) x };
+      reaction = record { emitted = emitted r; labels = labelsWith (labels r); completion = completionOf (code r) x };
       first = firstOf x;
     }
+
+-- a reaction without an error in its tree
+abbrev pub faultless : rules.Reaction → Esterel.Instant
+faultless r = Esterel.instant r none
+
+-- r is f of whatever instants the values stand for
+abbrev pub FromOne : (f : Esterel.Instant → Esterel.Instant) (p r : Instant) → Type 0
+FromOne f p r = (i : Esterel.Instant) → p ≡ instantOf i → r ≡ instantOf (f i)
+
+abbrev pub FromTwo : (f : Esterel.Instant → Esterel.Instant → Esterel.Instant) (p q r : Instant) → Type 0
+FromTwo f p q r = (i j : Esterel.Instant) → p ≡ instantOf i → q ≡ instantOf j → r ≡ instantOf (f i j)
 
 -- ---- the same from the values: the code that a completion has, and the earlier of two first errors
 abbrev pub codeOf : Completion → Code
@@ -67,3 +83,9 @@ choiceOf rules.neither = Neither
 choiceOf rules.only− = OnlyMinus
 choiceOf rules.only+ = OnlyPlus
 choiceOf rules.inherited = Inherited
+
+-- the case that fits the runs without the signal s and with it
+abbrev pub caseIn : ℕ → (minus plus : Reaction) → rules.Case
+caseIn s minus plus =
+    rules.firstFit (member s (minus .emitted)) (member s (plus .emitted))
+    (rules.isWrong (codeOf (minus .completion))) (rules.isWrong (codeOf (plus .completion)))

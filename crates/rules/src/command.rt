@@ -5,11 +5,25 @@ ghost use Rattle.sets.specs.Labels.{labelSet};
 ghost use Rattle.sets.specs.Sets.{labelCount, onlyBelow};
 ghost use Rattle.esterel.specs.Sets.{member, none};
 ghost use Rattle.esterel.specs.Statement.{Statement, nothing};
-ghost use Rattle.esterel.specs.Reaction.{ended, waiting, leaving, isWrong, greater, gives, ifWaiting, failed, firstFit};
+ghost use Rattle.esterel.specs.Reaction.{ended, waiting, leaving, isWrong, greater, gives, ifWaiting, failed};
 ghost use Rattle.esterel.specs.Errors.{Error};
 ghost use Rattle.esterel.specs.Resume.{instant, seqInstant, parInstant, loopInstant, tryInstant, signalInstant};
 ghost use Rattle.esterel.specs.Resume as Esterel;
-ghost use Rattle.rules.specs.Instants.{firstOf, earlierOf, completionIn, instantOf, codeOf, isEnded, caught, choiceOf};
+ghost use Rattle.rules.specs.Instants.{
+  unseen,
+  firstOf,
+  earlierOf,
+  completionIn,
+  faultless,
+  instantOf,
+  codeOf,
+  isEnded,
+  caught,
+  choiceOf,
+  caseIn,
+  FromOne,
+  FromTwo,
+};
 use crate::instant::Completion;
 use crate::instant::FirstError;
 use crate::instant::Instant;
@@ -17,7 +31,7 @@ use crate::instant::Reaction;
 use sets::labels::Labels;
 
 fn unseen() -> FirstError
-    ensures { λ r. ⌜ r ≡ firstOf Option.none ⌝ }
+    ensures { λ r. ⌜ r ≡ unseen ⌝ }
 {
     FirstError {
         seen: false,
@@ -120,7 +134,7 @@ enum Choice {
 
 // The first that fits, in printed order, from the runs without the signal s and with it.
 fn choose(s: u8, minus: Reaction, plus: Reaction) -> Choice
-    ensures { λ r. ⌜ r ≡ choiceOf (firstFit (member s (minus .emitted)) (member s (plus .emitted)) (isWrong (codeOf (minus .completion))) (isWrong (codeOf (plus .completion)))) ⌝ }
+    ensures { λ r. ⌜ r ≡ choiceOf (caseIn s minus plus) ⌝ }
 {
     let in_minus = sets::signals::member(minus.emitted, s);
     let in_plus = sets::signals::member(plus.emitted, s);
@@ -145,7 +159,7 @@ fn choose(s: u8, minus: Reaction, plus: Reaction) -> Choice
 
 // A command that ends at once.
 pub fn ending(emitted: u32) -> Instant
-    ensures { λ r. ⌜ r ≡ instantOf (instant (gives emitted ended none nothing) Option.none) ⌝ }
+    ensures { λ r. ⌜ r ≡ instantOf (faultless (gives emitted ended none nothing)) ⌝ }
 {
     Instant {
         reaction: Reaction {
@@ -158,7 +172,7 @@ pub fn ending(emitted: u32) -> Instant
 }
 
 pub fn pausing(l: u8) -> Instant
-    ensures { λ r. ⌜ r ≡ instantOf (instant (gives none waiting (onlyBelow labelCount l) nothing) Option.none) ⌝ }
+    ensures { λ r. ⌜ r ≡ instantOf (faultless (gives none waiting (onlyBelow labelCount l) nothing)) ⌝ }
 {
     Instant {
         reaction: Reaction {
@@ -171,7 +185,7 @@ pub fn pausing(l: u8) -> Instant
 }
 
 pub fn leaving(n: u8) -> Instant
-    ensures { λ r. ⌜ r ≡ instantOf (instant (gives none (leaving n) none nothing) Option.none) ⌝ }
+    ensures { λ r. ⌜ r ≡ instantOf (faultless (gives none (leaving n) none nothing)) ⌝ }
 {
     Instant {
         reaction: Reaction {
@@ -199,7 +213,7 @@ fn failing(first: FirstError) -> Instant
 
 // p; q
 pub fn in_sequence(p: Instant, q: Instant) -> Instant
-    ensures { λ r. ⌜ ((u : Statement) (i j : Esterel.Instant) → p ≡ instantOf i → q ≡ instantOf j → r ≡ instantOf (seqInstant u i j)) ⌝ }
+    ensures { λ r. ⌜ ((u : Statement) → FromTwo (seqInstant u) p q r) ⌝ }
 {
     let a = p.reaction;
     let b = q.reaction;
@@ -225,7 +239,7 @@ pub fn in_sequence(p: Instant, q: Instant) -> Instant
 
 // p in parallel with q
 pub fn in_parallel(p: Instant, q: Instant) -> Instant
-    ensures { λ r. ⌜ ((i j : Esterel.Instant) → p ≡ instantOf i → q ≡ instantOf j → r ≡ instantOf (parInstant i j)) ⌝ }
+    ensures { λ r. ⌜ FromTwo parInstant p q r ⌝ }
 {
     let a = p.reaction;
     let b = q.reaction;
@@ -247,7 +261,7 @@ pub fn in_parallel(p: Instant, q: Instant) -> Instant
 
 // loop p at the offset `place`
 pub fn in_loop(place: u16, p: Instant) -> Instant
-    ensures { λ r. ⌜ ((u : Statement) (i : Esterel.Instant) → p ≡ instantOf i → r ≡ instantOf (loopInstant place u i)) ⌝ }
+    ensures { λ r. ⌜ ((u : Statement) → FromOne (loopInstant place u) p r) ⌝ }
 {
     let a = p.reaction;
     let x = p.first;
@@ -281,7 +295,7 @@ fn caught(k: Completion) -> Completion
 
 // try p
 pub fn in_try(p: Instant) -> Instant
-    ensures { λ r. ⌜ ((i : Esterel.Instant) → p ≡ instantOf i → r ≡ instantOf (tryInstant i)) ⌝ }
+    ensures { λ r. ⌜ FromOne tryInstant p r ⌝ }
 {
     let a = p.reaction;
     let first = p.first;
@@ -299,25 +313,28 @@ pub fn in_try(p: Instant) -> Instant
 
 // signal s at the offset `place`, from the runs of its body without s and with it
 pub fn in_signal(place: u16, s: u8, minus: Instant, plus: Instant) -> Instant
-    ensures { λ r. ⌜ ((i j : Esterel.Instant) → minus ≡ instantOf i → plus ≡ instantOf j → r ≡ instantOf (signalInstant place s i j)) ⌝ }
+    ensures { λ r. ⌜ FromTwo (signalInstant place s) minus plus r ⌝ }
 {
-    let a = minus.reaction;
-    let b = plus.reaction;
-    let x = minus.first;
-    let y = plus.first;
-    let labels = b.labels;
-    let k = b.completion;
-    let first = earlier(x, y);
-    match choose(s, a, b) {
+    let reaction_minus = minus.reaction;
+    let reaction_plus = plus.reaction;
+    let first_minus = minus.first;
+    let first_plus = plus.first;
+    let labels = reaction_plus.labels;
+    let completion = reaction_plus.completion;
+    let first = earlier(first_minus, first_plus);
+    match choose(s, reaction_minus, reaction_plus) {
         Choice::Both => Instant {
             reaction: Reaction {
-                emitted: sets::signals::without(b.emitted, s),
+                emitted: sets::signals::without(reaction_plus.emitted, s),
                 labels,
-                completion: named(k, first),
+                completion: named(completion, first),
             },
             first,
         },
-        Choice::Neither => Instant { reaction: a, first },
+        Choice::Neither => Instant {
+            reaction: reaction_minus,
+            first,
+        },
         Choice::OnlyMinus => failing(earlier(first, seen(2, place))),
         Choice::OnlyPlus => failing(earlier(first, seen(3, place))),
         Choice::Inherited => failing(first),

@@ -1,16 +1,21 @@
 -- What is written within the limits is accepted.
 use mathlib.Core.Path.{_≡_, refl, sym, ap, _∙_}
+use mathlib.Core.Bool.{true}
+use mathlib.Core.Option.{some}
 use mathlib.Core.List.{List, [], _∷_, _++_, append-assoc}
 use Prim.Native.Nat.{ℕ, zero, suc, _+_, _-_, _≤_, _<_}
 use native.Mathlib.Omega.{arith}
-use lib.ListN.{length, drop, length-append}
+use lib.ListN.{length, getD, drop, length-append}
 use lib.Seq.{drop-at}
-use borrow.Author.Tests.{lt-ltb, le-ltb, le-leb}
+use borrow.Author.Tests.{lt-ltb, le-leb}
 use Rattle.esterel.specs.Statement.{Statement, nothing, pause, emit, exit, seq, par, loop, present, signal, try, setpause}
-use Rattle.sequence.specs.Commands.{Command, commandOf, partCount, declares}
-use Rattle.sequence.specs.Reader.{accepted, command, front, lastPart, firstPart, readParts, readCommand, read}
+use Rattle.limits.specs.Limits.{labelCount, signalCount, maxExit}
+use Rattle.sequence.specs.Commands.{Command, commandOf, operandsOf, partCount, inRange, width, declares}
+use Rattle.sequence.specs.Reader.{accepted, lastPart, firstPart, readParts, read}
 use Rattle.sequence.specs.Writer.{bytesOf, size, depthOf, Within, PlacedAt}
-use Rattle.sequence.proofs.Shapes.{One, Two, loop-shape, try-shape, signal-shape, seq-shape, par-shape, present-shape}
+use Rattle.sequence.proofs.Front.{Fronted, Fronts, front-is}
+use Rattle.sequence.proofs.Inversion.{enters}
+use Rattle.sequence.proofs.Shapes.{OnePart, TwoParts, loop-shape, try-shape, signal-shape, seq-shape, par-shape, present-shape}
 
 depth-positive : (p : Statement) → 0 < depthOf p
 unfolding depthOf
@@ -26,13 +31,15 @@ depth-positive (signal a s p) = omega arith
 depth-positive (try p) = omega arith
 depth-positive (setpause l) = omega arith
 
-enters : (d g a : ℕ) (bs : List ℕ) (c : Command) (x : ℕ) → front bs ≡ command c x → declares c ≤ g
-    → read (suc d) g a bs ≡ readParts (read d (g - declares c)) c a x (partCount c) bs
-unfolding read
-enters d g a bs c x e l = ap (readCommand (read d) g a bs) e ∙ rw (le-ltb g (declares c) l)
+-- a command that is there, with its operands in their ranges and its signals allowed
+starts : (d g a : ℕ) (bs : List ℕ) (c : Command) → commandOf (getD bs 0 0) ≡ some c → width c ≤ length bs → inRange c (operandsOf c bs) ≡ true
+    → declares c ≤ g → read (suc d) g a bs ≡ readParts (read d (g - declares c)) c a (operandsOf c bs) (partCount c) bs
+starts d g a bs c e l r f =
+    let w : Fronted bs c (operandsOf c bs) = record { byte = e; long = l; operands = refl; ranged = r } in
+    enters g a bs c (operandsOf c bs) (front-is bs _ (Fronts.whole c (operandsOf c bs) w)) d f
 
 module _ (d g a : ℕ) (h t : List ℕ) where
-  module _ (declared : ℕ) (f : Statement → Statement) (s : One h a declared f) (p : Statement) (w : Within (suc d) g (f p)) where
+  module _ (declared : ℕ) (f : Statement → Statement) (s : OnePart h a declared f) (p : Statement) (w : Within (suc d) g (f p)) where
     one-within : Within d (g - declared) p
     one-within = record {
       deep = omega (arith, w .deep, s .depth p);
@@ -50,7 +57,7 @@ module _ (d g a : ℕ) (h t : List ℕ) where
         ∙ ap (lastPart f (length h)) e
         ∙ ap (accepted (f p)) (sym (length-append h (bytesOf p)) ∙ ap length (sym (s .bytes p)))
 
-  module _ (f : Statement → Statement → Statement) (s : Two h a f) (p q : Statement) (w : Within (suc d) g (f p q)) where
+  module _ (f : Statement → Statement → Statement) (s : TwoParts h a f) (p q : Statement) (w : Within (suc d) g (f p q)) where
     two-first : Within d (g - 0) p
     two-first = record {
       deep = omega (arith, w .deep, s .depth p q);
@@ -82,36 +89,36 @@ module _ (d g a : ℕ) (h t : List ℕ) where
         rw (one, e) (rw (two, k) (ap (accepted (f p q)) n))
 
 pub complete : (d g a : ℕ) (p : Statement) → Within d g p → PlacedAt a p → (t : List ℕ) → read d g a (bytesOf p ++ t) ≡ accepted p (size p)
-unfolding bytesOf front commandOf
+unfolding bytesOf commandOf
 complete zero g a p w s t = absurd (omega (arith, w .deep, depth-positive p))
-complete (suc d) g a nothing w s t = enters d g a _ Command.nothing 0 refl (omega arith)
-complete (suc d) g a (pause l) w s t = enters d g a _ Command.pause l (rw (lt-ltb l 64 (w .ranged))) (omega arith)
-complete (suc d) g a (emit x) w s t = enters d g a _ Command.emit x (rw (lt-ltb x 32 (w .ranged))) (omega arith)
+complete (suc d) g a nothing w s t = starts d g a _ Command.nothing refl (omega arith) refl (omega arith)
+complete (suc d) g a (pause l) w s t = starts d g a _ Command.pause refl (omega arith) (lt-ltb l labelCount (w .ranged)) (omega arith)
+complete (suc d) g a (emit x) w s t = starts d g a _ Command.emit refl (omega arith) (lt-ltb x signalCount (w .ranged)) (omega arith)
 complete (suc d) g a (exit n) w s t =
-    enters d g a _ Command.exit n (rw (le-leb 1 n (w .ranged .0), le-leb n 15 (w .ranged .1))) (omega arith)
+    starts d g a _ Command.exit refl (omega arith) (rw (le-leb 1 n (w .ranged .0), le-leb n maxExit (w .ranged .1))) (omega arith)
 complete (suc d) g a (seq p q) w s t =
     let c = seq-shape a in
-    enters d g a _ Command.seq 0 refl (omega arith)
+    starts d g a _ Command.seq refl (omega arith) refl (omega arith)
     ∙ two-complete d g a (4 ∷ []) t seq c p q w _ refl
     (complete d (g - 0) (a + 1) p (two-first d g a (4 ∷ []) t seq c p q w) (s .0) (bytesOf q ++ t))
     (complete d (g - 0) (a + (1 + size p)) q (two-second d g a (4 ∷ []) t seq c p q w) (s .1) t)
 complete (suc d) g a (par p q) w s t =
     let c = par-shape a in
-    enters d g a _ Command.par 0 refl (omega arith)
+    starts d g a _ Command.par refl (omega arith) refl (omega arith)
     ∙ two-complete d g a (5 ∷ []) t par c p q w _ refl
     (complete d (g - 0) (a + 1) p (two-first d g a (5 ∷ []) t par c p q w) (s .0) (bytesOf q ++ t))
     (complete d (g - 0) (a + (1 + size p)) q (two-second d g a (5 ∷ []) t par c p q w) (s .1) t)
 complete (suc d) g a (loop b p) w s t =
     let c = loop-shape a in
     let v : Within (suc d) g (loop a p) = rw (s .0) at w in
-    enters d g a _ Command.loop 0 refl (omega arith)
+    starts d g a _ Command.loop refl (omega arith) refl (omega arith)
     ∙ one-complete d g a (6 ∷ []) t 0 (loop a) c p v
     (complete d (g - 0) (a + 1) p (one-within d g a (6 ∷ []) t 0 (loop a) c p v) (s .1) t)
     ∙ ap (λ (i : ℕ). accepted (loop i p) (size (loop i p))) (sym (s .0))
 complete (suc d) g a (present x p q) w s t =
     let c = present-shape a x (w .ranged .0) in
     let h : List ℕ = 7 ∷ x ∷ [] in
-    enters d g a _ Command.present x (rw (lt-ltb x 32 (w .ranged .0))) (omega arith)
+    starts d g a _ Command.present refl (omega arith) (lt-ltb x signalCount (w .ranged .0)) (omega arith)
     ∙ two-complete d g a h t (present x) c p q w _ refl
     (complete d (g - 0) (a + 2) p (two-first d g a h t (present x) c p q w) (s .0) (bytesOf q ++ t))
     (complete d (g - 0) (a + (2 + size p)) q (two-second d g a h t (present x) c p q w) (s .1) t)
@@ -119,13 +126,13 @@ complete (suc d) g a (signal b x p) w s t =
     let c = signal-shape a x (w .ranged .0) in
     let h : List ℕ = 8 ∷ x ∷ [] in
     let v : Within (suc d) g (signal a x p) = rw (s .0) at w in
-    enters d g a _ Command.signal x (rw (lt-ltb x 32 (w .ranged .0))) (one-fits d g a h t 1 (signal a x) c p v)
+    starts d g a _ Command.signal refl (omega arith) (lt-ltb x signalCount (w .ranged .0)) (one-fits d g a h t 1 (signal a x) c p v)
     ∙ one-complete d g a h t 1 (signal a x) c p v
     (complete d (g - 1) (a + 2) p (one-within d g a h t 1 (signal a x) c p v) (s .1) t)
     ∙ ap (λ (i : ℕ). accepted (signal i x p) (size (signal i x p))) (sym (s .0))
 complete (suc d) g a (try p) w s t =
     let c = try-shape a in
-    enters d g a _ Command.try 0 refl (omega arith)
+    starts d g a _ Command.try refl (omega arith) refl (omega arith)
     ∙ one-complete d g a (9 ∷ []) t 0 try c p w
     (complete d (g - 0) (a + 1) p (one-within d g a (9 ∷ []) t 0 try c p w) s t)
-complete (suc d) g a (setpause l) w s t = enters d g a _ Command.setpause l (rw (lt-ltb l 64 (w .ranged))) (omega arith)
+complete (suc d) g a (setpause l) w s t = starts d g a _ Command.setpause refl (omega arith) (lt-ltb l labelCount (w .ranged)) (omega arith)

@@ -1,64 +1,114 @@
--- The command at the front of the bytes, in the order in which the code looks at it.
-use mathlib.Core.Path.{_≡_, refl, sym, ap, _∙_}
-use mathlib.Core.Bool.{true, false}
-use mathlib.Core.Option.{Option, some}
-use mathlib.Core.List.{List, [], _∷_}
-use Prim.Native.Nat.{ℕ, zero, suc, _+_, _*_, _≤_, _<_}
+-- The command at the front of the bytes: what stands there for each answer of `front`, and nothing else does.
+use mathlib.Core.Path.{_≡_, refl, sym, ap, _∙_, subst}
+use mathlib.Core.Bool.{Bool, true, false, cond}
+use mathlib.Core.Option.{Option, none, some}
+use mathlib.Core.List.{List, [], _∷_, _++_}
+use Prim.Native.Nat.{ℕ, zero, suc, _+_, _≤_, _<_}
+use native.Mathlib.Decide.{decLt}
 use native.Mathlib.Omega.{arith}
-use lib.ListN.{length, getD}
-use Rattle.sequence.specs.Commands.{Command, commandOf, operandCount, inRange, width}
-use Rattle.sequence.specs.Reader.{withOperand, withCommand, front}
-use Rattle.sequence.specs.Reading.{headOf}
-use Rattle.sequence.proofs.Table.{above, at-most-one}
+use lib.ListN.{length, getD, drop}
+use Rattle.sequence.specs.Commands.{Command, commandOf, operandCount, bytesAt, operandsOf, inRange, width}
+use Rattle.sequence.specs.Reader.{Front, command, bad, after, firstBytes, withOperands, withCommand, front}
+use Rattle.sequence.proofs.Table.{above, unnamed, byteOf, byte-is}
 
-abbrev NotEmpty : List ℕ → Type 0
-NotEmpty s = length s ≡ 0 → ⊥
+-- the command c with operand bytes xs
+pub record Fronted (bs : List ℕ) (c : Command) (xs : List ℕ) : Type 0 where
+  pub byte : commandOf (getD bs 0 0) ≡ some c
+  pub long : width c ≤ length bs
+  pub operands : xs ≡ operandsOf c bs
+  pub ranged : inRange c xs ≡ true
 
-pub front-empty : (s : List ℕ) → length s ≡ 0 → 4 * 4096 ≡ headOf (front s)
+pub data Fronts (bs : List ℕ) : Front → Type 0 where
+  empty : length bs ≡ 0 → Fronts bs (bad 4)
+  unknown : 0 < length bs → 10 < getD bs 0 0 → Fronts bs (bad 3)
+  short : (c : Command) → 0 < length bs → commandOf (getD bs 0 0) ≡ some c → length bs < width c → Fronts bs (bad 4)
+  outside : (c : Command) → commandOf (getD bs 0 0) ≡ some c → width c ≤ length bs → inRange c (operandsOf c bs) ≡ false → Fronts bs (bad 5)
+  whole : (c : Command) (xs : List ℕ) → Fronted bs c xs → Fronts bs (command c xs)
+
+-- ---- the first n bytes
+behind : (b i n : ℕ) (bs : List ℕ) → bytesAt (suc i) n (b ∷ bs) ≡ bytesAt i n bs
+behind b i zero bs = refl
+behind b i (suc n) bs = ap (λ (l : List ℕ). getD bs i 0 ∷ l) (behind b (suc i) n bs)
+
+enough : (n : ℕ) (bs : List ℕ) → n ≤ length bs → firstBytes n bs ≡ some (bytesAt 0 n bs)
+enough zero bs l = refl
+enough (suc n) [] l = absurd (omega arith)
+enough (suc n) (x ∷ bs) l = ap (after x) (enough n bs (omega arith)) ∙ ap (λ (xs : List ℕ). some (x ∷ xs)) (sym (behind x 0 n bs))
+
+too-few : (n : ℕ) (bs : List ℕ) → length bs < n → firstBytes n bs ≡ none
+too-few zero bs l = absurd (omega arith)
+too-few (suc n) [] l = refl
+too-few (suc n) (x ∷ bs) l = ap (after x) (too-few n bs (omega arith))
+
+split : (n : ℕ) (bs : List ℕ) → n ≤ length bs → bs ≡ bytesAt 0 n bs ++ drop n bs
+split zero bs l = refl
+split (suc n) [] l = absurd (omega arith)
+split (suc n) (x ∷ bs) l =
+    ap (λ (t : List ℕ). x ∷ t) (split n bs (omega arith) ∙ ap (λ (xs : List ℕ). xs ++ drop n bs) (sym (behind x 0 n bs)))
+
+-- ---- the answer
+by-command : (b : ℕ) (bs : List ℕ) (c : Command) → commandOf b ≡ some c → front (b ∷ bs) ≡ withOperands c (firstBytes (operandCount c) bs)
 unfolding front
-front-empty [] e = refl
-front-empty (b ∷ t) e = absurd (omega arith)
+by-command b bs c e = ap (λ (o : Option Command). withCommand o bs) e
 
-pub front-absent : (s : List ℕ) → NotEmpty s → 10 < getD s 0 0 → 3 * 4096 ≡ headOf (front s)
+by-operands : (b : ℕ) (bs : List ℕ) (c : Command) (t : Bool) → commandOf b ≡ some c → operandCount c ≤ length bs → inRange c (operandsOf c (b ∷ bs)) ≡ t
+    → front (b ∷ bs) ≡ cond t (command c (operandsOf c (b ∷ bs))) (bad 5)
+by-operands b bs c t e l r =
+    by-command b bs c e
+    ∙ ap (withOperands c) (enough (operandCount c) bs l ∙ ap some (sym (behind b 0 (operandCount c) bs)))
+    ∙ ap (λ (t : Bool). cond t (command c (operandsOf c (b ∷ bs))) (bad 5)) r
+
+pub front-is : (bs : List ℕ) (f : Front) → Fronts bs f → front bs ≡ f
 unfolding front
-front-absent [] ne h = absurd (ne refl)
-front-absent (b ∷ t) ne h = ap (λ (o : Option Command). headOf (withCommand o t)) (sym (above b h))
+front-is [] f (Fronts.empty e) = refl
+front-is [] f (Fronts.unknown l h) = absurd (omega arith)
+front-is [] f (Fronts.short c l e h) = absurd (omega arith)
+front-is [] f (Fronts.outside c e l r) = absurd (omega arith)
+front-is [] f (Fronts.whole c xs w) = absurd (omega (arith, w .long))
+front-is (b ∷ bs) f (Fronts.empty e) = absurd (omega arith)
+front-is (b ∷ bs) f (Fronts.unknown l h) = ap (λ (o : Option Command). withCommand o bs) (above b h)
+front-is (b ∷ bs) f (Fronts.short c l e h) = by-command b bs c e ∙ ap (withOperands c) (too-few (operandCount c) bs (omega arith))
+front-is (b ∷ bs) f (Fronts.outside c e l r) = by-operands b bs c false e (omega arith) r
+front-is (b ∷ bs) f (Fronts.whole c xs w) =
+    by-operands b bs c true (w .byte) (omega (arith, w .long)) (ap (inRange c) (sym (w .operands)) ∙ w .ranged)
+    ∙ ap (command c) (sym (w .operands))
 
--- the command of the first byte, by which the head is told
-module _ (c : Command) where
-  abbrev Heads : List ℕ → Type 0
-  Heads s = commandOf (getD s 0 0) ≡ some c
+module _ (bs : List ℕ) where
+  told : (f : Front) → Fronts bs f → Fronts bs (front bs)
+  told f v = subst (Fronts bs) (sym (front-is bs f v)) v
 
-  by-command : (b : ℕ) (t : List ℕ) (h : ℕ) → commandOf b ≡ some c → h ≡ headOf (withOperand c (operandCount c) t) → h ≡ headOf (front (b ∷ t))
-  unfolding front
-  by-command b t h e q = q ∙ ap (λ (o : Option Command). headOf (withCommand o t)) (sym e)
+  by-range : (c : Command) → commandOf (getD bs 0 0) ≡ some c → width c ≤ length bs → (t : Bool) → inRange c (operandsOf c bs) ≡ t → Fronts bs (front bs)
+  by-range c e l true r = told _ (Fronts.whole c (operandsOf c bs) (record { byte = e; long = l; operands = refl; ranged = r }))
+  by-range c e l false r = told _ (Fronts.outside c e l r)
 
-  bare : (t : List ℕ) → 1 ≡ width c → 1 ≡ headOf (withOperand c (operandCount c) t)
-  bare t e = go (operandCount c) (omega arith)
-    where
-      go : (k : ℕ) → k ≡ 0 → 1 ≡ headOf (withOperand c k t)
-      go zero q = e
-      go (suc k) q = absurd (omega arith)
+  by-width : 0 < length bs → (c : Command) → commandOf (getD bs 0 0) ≡ some c → Dec (length bs < width c) → Fronts bs (front bs)
+  by-width n c e (yes l) = told _ (Fronts.short c n e l)
+  by-width n c e (no l) = by-range c e (omega (arith, l)) (inRange c (operandsOf c bs)) refl
 
-  pub front-bare : (s : List ℕ) → NotEmpty s → Heads s → 1 ≡ width c → 1 ≡ headOf (front s)
-  front-bare [] ne e w = absurd (ne refl)
-  front-bare (b ∷ t) ne e w = by-command b t 1 e (bare t w)
+  by-byte : 0 < length bs → (o : Option Command) → commandOf (getD bs 0 0) ≡ o → Fronts bs (front bs)
+  by-byte n none e = told _ (Fronts.unknown n (unnamed (getD bs 0 0) e))
+  by-byte n (some c) e = by-width n c e (decLt (length bs) (width c))
 
-  module _ (wide : width c ≡ 1 → ⊥) where
-    pub operand : operandCount c ≡ 1
-    operand = let n : operandCount c ≡ 0 → ⊥ = λ z. wide (omega arith) in omega (arith, at-most-one c)
+  by-length : Dec (0 < length bs) → Fronts bs (front bs)
+  by-length (yes n) = by-byte n (commandOf (getD bs 0 0)) refl
+  by-length (no n) = told _ (Fronts.empty (omega (arith, n)))
 
-    pub front-short : (s : List ℕ) → NotEmpty s → Heads s → length s ≤ 1 → 4 * 4096 ≡ headOf (front s)
-    front-short [] ne e l = absurd (ne refl)
-    front-short (b ∷ []) ne e l = by-command b [] (4 * 4096) e (rw operand)
-    front-short (b ∷ x ∷ t) ne e l = absurd (omega arith)
+  pub fronts : (f : Front) → front bs ≡ f → Fronts bs f
+  fronts f e = subst (Fronts bs) e (by-length (decLt 0 (length bs)))
 
-    pub front-inside : (s : List ℕ) → 1 < length s → Heads s → inRange c (getD s 1 0) ≡ true → 2 ≡ headOf (front s)
-    front-inside [] l e i = absurd (omega arith)
-    front-inside (b ∷ []) l e i = absurd (omega arith)
-    front-inside (b ∷ x ∷ t) l e i = by-command b (x ∷ t) 2 e (rw (operand, i) (ap (λ (k : ℕ). 1 + k) (sym operand)))
+  only-whole : (c : Command) (xs : List ℕ) → Fronts bs (command c xs) → Fronted bs c xs
+  only-whole c xs (Fronts.whole d ys w) = w
 
-    pub front-outside : (s : List ℕ) → 1 < length s → Heads s → inRange c (getD s 1 0) ≡ false → 5 * 4096 ≡ headOf (front s)
-    front-outside [] l e i = absurd (omega arith)
-    front-outside (b ∷ []) l e i = absurd (omega arith)
-    front-outside (b ∷ x ∷ t) l e i = by-command b (x ∷ t) (5 * 4096) e (rw (operand, i))
+  pub fronted : (c : Command) (xs : List ℕ) → front bs ≡ command c xs → Fronted bs c xs
+  fronted c xs e = only-whole c xs (fronts (command c xs) e)
+
+-- the bytes are those of the command, and the rest
+pub own-bytes : (bs : List ℕ) (c : Command) (xs : List ℕ) → Fronted bs c xs → bs ≡ byteOf c ∷ operandsOf c bs ++ drop (width c) bs
+own-bytes [] c xs f = absurd (omega (arith, f .long))
+own-bytes (b ∷ bs) c xs f =
+    let n : ℕ = operandCount c in
+    let w : 1 + n ≡ suc n = omega arith in
+    let t : bs ≡ operandsOf c (b ∷ bs) ++ drop (width c) (b ∷ bs)
+    = split n bs (omega (arith, f .long)) ∙ ap (λ (l : List ℕ). l ++ drop n bs) (sym (behind b 0 n bs))
+    ∙ ap (λ (k : ℕ). operandsOf c (b ∷ bs) ++ drop k (b ∷ bs)) (sym w) in
+    ap (λ (l : List ℕ). b ∷ l) t ∙ ap (λ (k : ℕ). k ∷ operandsOf c (b ∷ bs) ++ drop (width c) (b ∷ bs)) (byte-is b c (f .byte))

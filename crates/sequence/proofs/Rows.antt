@@ -14,13 +14,13 @@ use Rattle.esterel.specs.Statement.{Statement}
 use Rattle.esterel.specs.States.{Distinct, Targeted, WellFormed}
 use Rattle.esterel.specs.LabelTests.{distinct, targeted, wellFormed}
 use Rattle.esterel.proofs.LabelTests.{distinct-is, targeted-is, wellFormed-is}
-use Rattle.sequence.specs.Limits.{maxBytes, maxDepth, maxSignals}
+use Rattle.limits.specs.Limits.{maxBytes, maxDepth, maxSignals}
 use Rattle.sequence.specs.Commands.{declares}
 use Rattle.sequence.specs.Reader.{Read, accepted, refused, Front, command, front, read}
 use Rattle.sequence.specs.Check.{Checked, sound, bad, labelRules, afterRead, checked, numberOf, checkOf}
 use Rattle.sequence.specs.Rows.{Slot, slot, Position, at, Fault, unknown, no-statement, no-operand, out-of-range, too-deep, too-many-signals, enter, next, walk, Spells, Row, row-2, row-3-to-6, row-7, row-8, row-9, row-10, ByRows}
 use Rattle.sequence.proofs.Walk.{faultOf, fault-is, Faulty, Comes, comes}
-use Rattle.sequence.proofs.Accepted.{count-within}
+use Rattle.sequence.proofs.Sound.{count-within}
 use Rattle.sequence.proofs.Writer.{reads-what-is-written}
 use Rattle.sequence.proofs.ByRows.{refused-by, accepted-by}
 
@@ -80,7 +80,7 @@ module _ (bs : List ℕ) where
     where
       go : (y : Front) → faultOf (slot d g) y ≡ some k → enter a d g w y ≡ none
       go (Front.bad m) e = refl
-      go (command c x) e = stays k (ltb d maxDepth && leb (g + declares c) maxSignals) _ e
+      go (command c xs) e = stays k (ltb d maxDepth && leb (g + declares c) maxSignals) _ e
 
   ended-last : (n a : ℕ) → walk n bs ≡ some (at a []) → Last n (at a [])
   ended-last n a h = record { here = h; stop = refl }

@@ -1,10 +1,13 @@
 -- Laws of the table of commands: the byte of a command, and a rule on bytes shown for the bytes of the table.
 use mathlib.Core.Path.{_≡_, refl, sym, ap, _∙_}
+use mathlib.Core.Bool.{true}
 use mathlib.Core.Option.{none, some}
+use mathlib.Core.List.{List}
 use Prim.Native.Nat.{ℕ, zero, suc, _+_, _-_, _≤_, _<_}
+use lib.ListN.{List·getD-eq-default}
 use native.Mathlib.Decide.{decLt}
 use native.Mathlib.Omega.{arith}
-use Rattle.sequence.specs.Commands.{Command, commandOf, operandCount}
+use Rattle.sequence.specs.Commands.{Command, table, commandOf, operandCount, partCount, inRange, declares}
 
 -- P holds of the n numbers from k on
 abbrev pub All : (ℕ → Type 0) → (k n : ℕ) → Type 0
@@ -21,27 +24,40 @@ between P k (suc n) a b l h = go (λ p. between P (suc k) n (a .1) b p (omega ar
 
 pub above : (b : ℕ) → 10 < b → commandOf b ≡ none
 unfolding commandOf
-above b h = go (b - 11) (omega arith)
-  where
-    go : (n : ℕ) → b ≡ suc (suc (suc (suc (suc (suc (suc (suc (suc (suc (suc n)))))))))) → commandOf b ≡ none
-    go n e = rw e
+above b h = List·getD-eq-default table none {n = b} (omega arith)
 
 -- ---- the command of a byte
 -- a byte up to 0A names a command
 pub named : (b : ℕ) → b ≤ 10 → (c : Command) × (commandOf b ≡ some c)
 unfolding commandOf
-named zero l = (Command.nothing, refl)
-named (suc zero) l = (Command.pause, refl)
-named (suc (suc zero)) l = (Command.emit, refl)
-named (suc (suc (suc zero))) l = (Command.exit, refl)
-named (suc (suc (suc (suc zero)))) l = (Command.seq, refl)
-named (suc (suc (suc (suc (suc zero))))) l = (Command.par, refl)
-named (suc (suc (suc (suc (suc (suc zero)))))) l = (Command.loop, refl)
-named (suc (suc (suc (suc (suc (suc (suc zero))))))) l = (Command.present, refl)
-named (suc (suc (suc (suc (suc (suc (suc (suc zero)))))))) l = (Command.signal, refl)
-named (suc (suc (suc (suc (suc (suc (suc (suc (suc zero))))))))) l = (Command.try, refl)
-named (suc (suc (suc (suc (suc (suc (suc (suc (suc (suc zero)))))))))) l = (Command.setpause, refl)
-named (suc (suc (suc (suc (suc (suc (suc (suc (suc (suc (suc b))))))))))) l = absurd (omega arith)
+named b l =
+    between (λ (b : ℕ). (c : Command) × (commandOf b ≡ some c)) 0 11 (
+      (Command.nothing, refl),
+      (
+        (Command.pause, refl),
+        (
+          (Command.emit, refl),
+          (
+            (Command.exit, refl),
+            (
+              (Command.seq, refl),
+              (
+                (Command.par, refl),
+                ((Command.loop, refl), ((Command.present, refl), ((Command.signal, refl), ((Command.try, refl), ((Command.setpause, refl), tt))))),
+              ),
+            ),
+          ),
+        ),
+      ),
+    )
+    b (omega arith) (omega arith)
+
+pub unnamed : (b : ℕ) → commandOf b ≡ none → 10 < b
+unnamed b e = go (decLt 10 b)
+  where
+    go : Dec (10 < b) → 10 < b
+    go (yes p) = p
+    go (no z) = absurd (let x : _≡_ {A = ℕ} 0 1 = cc (named b (omega (arith, z)) .1) in omega arith)
 
 abbrev pub byteOf : Command → ℕ
 byteOf Command.nothing = 0
@@ -100,16 +116,91 @@ byte-is b c e =
 pub command-at : (b : ℕ) (c d : Command) → commandOf b ≡ some c → b ≡ byteOf d → c ≡ d
 command-at b c d e z = let h : some c ≡ some d = sym e ∙ ap commandOf z ∙ command-of-byte d in cc
 
--- a command has at most one operand
+-- ---- what is shown of the commands without parts, with one and with two
+module _ (P : Command → Type 0) where
+  pub leaves : P Command.nothing → P Command.pause → P Command.emit → P Command.exit → P Command.setpause → (c : Command) → partCount c ≡ 0 → P c
+  leaves n p e x s Command.nothing z = n
+  leaves n p e x s Command.pause z = p
+  leaves n p e x s Command.emit z = e
+  leaves n p e x s Command.exit z = x
+  leaves n p e x s Command.seq z = absurd (omega arith)
+  leaves n p e x s Command.par z = absurd (omega arith)
+  leaves n p e x s Command.loop z = absurd (omega arith)
+  leaves n p e x s Command.present z = absurd (omega arith)
+  leaves n p e x s Command.signal z = absurd (omega arith)
+  leaves n p e x s Command.try z = absurd (omega arith)
+  leaves n p e x s Command.setpause z = s
+
+  pub ones : P Command.loop → P Command.signal → P Command.try → (c : Command) → partCount c ≡ 1 → P c
+  ones l s t Command.nothing z = absurd (omega arith)
+  ones l s t Command.pause z = absurd (omega arith)
+  ones l s t Command.emit z = absurd (omega arith)
+  ones l s t Command.exit z = absurd (omega arith)
+  ones l s t Command.seq z = absurd (omega arith)
+  ones l s t Command.par z = absurd (omega arith)
+  ones l s t Command.loop z = l
+  ones l s t Command.present z = absurd (omega arith)
+  ones l s t Command.signal z = s
+  ones l s t Command.try z = t
+  ones l s t Command.setpause z = absurd (omega arith)
+
+  pub twos : P Command.seq → P Command.par → P Command.present → (c : Command) → partCount c ≡ 2 → P c
+  twos s p t Command.nothing z = absurd (omega arith)
+  twos s p t Command.pause z = absurd (omega arith)
+  twos s p t Command.emit z = absurd (omega arith)
+  twos s p t Command.exit z = absurd (omega arith)
+  twos s p t Command.seq z = s
+  twos s p t Command.par z = p
+  twos s p t Command.loop z = absurd (omega arith)
+  twos s p t Command.present z = t
+  twos s p t Command.signal z = absurd (omega arith)
+  twos s p t Command.try z = absurd (omega arith)
+  twos s p t Command.setpause z = absurd (omega arith)
+
+-- ---- the counts of operand bytes and parts
+counts : (c : Command) → (operandCount c ≤ 1) × (partCount c ≤ 2)
+counts Command.nothing = omega arith
+counts Command.pause = omega arith
+counts Command.emit = omega arith
+counts Command.exit = omega arith
+counts Command.seq = omega arith
+counts Command.par = omega arith
+counts Command.loop = omega arith
+counts Command.present = omega arith
+counts Command.signal = omega arith
+counts Command.try = omega arith
+counts Command.setpause = omega arith
+
 pub at-most-one : (c : Command) → operandCount c ≤ 1
-at-most-one Command.nothing = omega arith
-at-most-one Command.pause = omega arith
-at-most-one Command.emit = omega arith
-at-most-one Command.exit = omega arith
-at-most-one Command.seq = omega arith
-at-most-one Command.par = omega arith
-at-most-one Command.loop = omega arith
-at-most-one Command.present = omega arith
-at-most-one Command.signal = omega arith
-at-most-one Command.try = omega arith
-at-most-one Command.setpause = omega arith
+at-most-one c = counts c .0
+
+pub at-most-two : (c : Command) → partCount c ≤ 2
+at-most-two c = counts c .1
+
+-- a command without operands has no range to keep
+pub free : (c : Command) (xs : List ℕ) → operandCount c ≡ 0 → inRange c xs ≡ true
+free Command.nothing xs e = refl
+free Command.pause xs e = absurd (omega arith)
+free Command.emit xs e = absurd (omega arith)
+free Command.exit xs e = absurd (omega arith)
+free Command.seq xs e = refl
+free Command.par xs e = refl
+free Command.loop xs e = refl
+free Command.present xs e = absurd (omega arith)
+free Command.signal xs e = absurd (omega arith)
+free Command.try xs e = refl
+free Command.setpause xs e = absurd (omega arith)
+
+-- a signal alone declares one
+pub undeclared : (c : Command) → (byteOf c ≡ 8 → ⊥) → declares c ≡ 0
+undeclared Command.nothing n = refl
+undeclared Command.pause n = refl
+undeclared Command.emit n = refl
+undeclared Command.exit n = refl
+undeclared Command.seq n = refl
+undeclared Command.par n = refl
+undeclared Command.loop n = refl
+undeclared Command.present n = refl
+undeclared Command.signal n = absurd (n refl)
+undeclared Command.try n = refl
+undeclared Command.setpause n = refl

@@ -1,7 +1,7 @@
 -- Reading by recursion (Reader) and command by command from the left (Rows) meet the same commands and the same faults.
 use Prim.Native.Nat.{ℕ, zero, suc, _+_, _-_, _≤_, _<_}
 use native.Mathlib.Omega.{arith}
-use mathlib.Core.Path.{_≡_, refl, ap, _∙_, subst}
+use mathlib.Core.Path.{_≡_, refl, sym, ap, _∙_, subst}
 use mathlib.Core.Bool.{Bool, true, false, _&&_, cond}
 use mathlib.Core.Option.{Option, none, some, Option·some-injective}
 use mathlib.Core.List.{List, [], _∷_, _++_}
@@ -9,62 +9,38 @@ use mathlib.Core.Logic.{_↔_}
 use lib.ListN.{drop, replicate}
 use lib.Seq.{drop-drop}
 use lib.Dec.{leb, ltb}
-use borrow.Author.Tests.{ltb-true, ltb-false, leb-false, le-ltb, lt-ltb, le-leb, lt-leb}
-use Rattle.esterel.specs.Statement.{Statement, nothing}
-use Rattle.sequence.specs.Limits.{maxDepth, maxSignals}
-use Rattle.sequence.specs.Commands.{Command, commandOf, operandCount, partCount, inRange, width, declares, build}
-use Rattle.sequence.specs.Reader.{Read, accepted, refused, Front, command, bad, withOperand, withCommand, front, lastPart, firstPart, readParts, tooDeep, readCommand, read}
+use borrow.Author.Tests.{ltb-false, leb-false, le-ltb, lt-ltb, le-leb, lt-leb}
+use Rattle.esterel.specs.Statement.{Statement}
+use Rattle.limits.specs.Limits.{maxDepth, maxSignals}
+use Rattle.sequence.specs.Commands.{Command, partCount, width, declares}
+use Rattle.sequence.specs.Reader.{Read, accepted, refused, Front, command, bad, front, read}
 use Rattle.sequence.specs.Rows.{Slot, slot, at, Fault, unknown, no-statement, no-operand, out-of-range, too-deep, too-many-signals, walk}
-use Rattle.sequence.proofs.Table.{above, at-most-one}
+use Rattle.sequence.proofs.Front.{Fronts, fronts, front-is}
+use Rattle.sequence.proofs.Inversion.{Stops, stops, Allowed, Meets, meets}
 
 -- ---- the fault at one command, from what stands at the front
 abbrev pub faultOf : Slot → Front → Option ℕ
 faultOf s (bad number) = some number
-faultOf (slot d g) (command c x) = cond (ltb d maxDepth && leb (g + declares c) maxSignals) none (some 6)
-
-no-command : (b : ℕ) → commandOf b ≡ none → 10 < b
-unfolding commandOf
-no-command zero h = absurd (let z : _≡_ {A = ℕ} 0 1 = cc in omega arith)
-no-command (suc zero) h = absurd (let z : _≡_ {A = ℕ} 0 1 = cc in omega arith)
-no-command (suc (suc zero)) h = absurd (let z : _≡_ {A = ℕ} 0 1 = cc in omega arith)
-no-command (suc (suc (suc zero))) h = absurd (let z : _≡_ {A = ℕ} 0 1 = cc in omega arith)
-no-command (suc (suc (suc (suc zero)))) h = absurd (let z : _≡_ {A = ℕ} 0 1 = cc in omega arith)
-no-command (suc (suc (suc (suc (suc zero))))) h = absurd (let z : _≡_ {A = ℕ} 0 1 = cc in omega arith)
-no-command (suc (suc (suc (suc (suc (suc zero)))))) h = absurd (let z : _≡_ {A = ℕ} 0 1 = cc in omega arith)
-no-command (suc (suc (suc (suc (suc (suc (suc zero))))))) h = absurd (let z : _≡_ {A = ℕ} 0 1 = cc in omega arith)
-no-command (suc (suc (suc (suc (suc (suc (suc (suc zero)))))))) h = absurd (let z : _≡_ {A = ℕ} 0 1 = cc in omega arith)
-no-command (suc (suc (suc (suc (suc (suc (suc (suc (suc zero))))))))) h = absurd (let z : _≡_ {A = ℕ} 0 1 = cc in omega arith)
-no-command (suc (suc (suc (suc (suc (suc (suc (suc (suc (suc zero)))))))))) h = absurd (let z : _≡_ {A = ℕ} 0 1 = cc in omega arith)
-no-command (suc (suc (suc (suc (suc (suc (suc (suc (suc (suc (suc b))))))))))) h = omega arith
-
-one-operand : (c : Command) (n : ℕ) → operandCount c ≡ suc n → operandCount c ≡ 1
-one-operand c n h = omega (arith, at-most-one c)
+faultOf (slot d g) (command c xs) = cond (ltb d maxDepth && leb (g + declares c) maxSignals) none (some 6)
 
 -- rows 3, 4 and 5
-module _ (s : Slot) (b : ℕ) where
-  operand-fault : (c : Command) → commandOf b ≡ some c → (n : ℕ) → operandCount c ≡ n → (bs : List ℕ) (k : ℕ)
-      → withOperand c n bs ≡ bad k → Fault (b ∷ bs) s k
-  operand-fault c i zero o bs k h = absurd (let z : _≡_ {A = ℕ} 0 1 = cc in omega arith)
-  operand-fault c i (suc n) o [] k h = subst (Fault (b ∷ []) s) (let j : 4 ≡ k = cc in j) (no-operand i (one-operand c n o))
-  operand-fault c i (suc n) o (x ∷ bs) k h = go (inRange c x) refl h
-    where
-      go : (y : Bool) → inRange c x ≡ y → cond y (command c x) (bad 5) ≡ bad k → Fault (b ∷ x ∷ bs) s k
-      go true e u = absurd (let z : _≡_ {A = ℕ} 0 1 = cc in omega arith)
-      go false e u = subst (Fault (b ∷ x ∷ bs) s) (let j : 5 ≡ k = cc in j) (out-of-range i (one-operand c n o) e)
-
-  command-fault : (o : Option Command) → commandOf b ≡ o → (bs : List ℕ) (k : ℕ) → withCommand o bs ≡ bad k → Fault (b ∷ bs) s k
-  command-fault none i bs k h = subst (Fault (b ∷ bs) s) (let j : 3 ≡ k = cc in j) (unknown (no-command b i))
-  command-fault (some c) i bs k h = operand-fault c i (operandCount c) refl bs k h
+fronts-fault : (s : Slot) (bs : List ℕ) (k : ℕ) → Fronts bs (bad k) → Fault bs s k
+fronts-fault s [] k (Fronts.empty e) = no-statement
+fronts-fault s [] k (Fronts.unknown l h) = absurd (omega arith)
+fronts-fault s [] k (Fronts.short c l e h) = absurd (omega arith)
+fronts-fault s [] k (Fronts.outside c e l r) = absurd (omega arith)
+fronts-fault s (b ∷ bs) k (Fronts.empty e) = absurd (omega arith)
+fronts-fault s (b ∷ bs) k (Fronts.unknown l h) = unknown h
+fronts-fault s (b ∷ bs) k (Fronts.short c l e h) = no-operand {bs = bs} e (omega arith)
+fronts-fault s (b ∷ bs) k (Fronts.outside c e l r) = out-of-range {bs = bs} e (omega arith) r
 
 front-fault : (s : Slot) (bs : List ℕ) (k : ℕ) → front bs ≡ bad k → Fault bs s k
-unfolding front
-front-fault s [] k h = subst (Fault [] s) (let j : 4 ≡ k = cc in j) no-statement
-front-fault s (b ∷ bs) k h = command-fault s b (commandOf b) refl bs k h
+front-fault s bs k e = fronts-fault s bs k (fronts bs (bad k) e)
 
 -- row 6
-deep-fault : (d g : ℕ) (bs : List ℕ) (c : Command) (x k : ℕ) → front bs ≡ command c x
+deep-fault : (d g : ℕ) (bs : List ℕ) (c : Command) (xs : List ℕ) (k : ℕ) → front bs ≡ command c xs
     → cond (ltb d maxDepth && leb (g + declares c) maxSignals) none (some 6) ≡ some k → Fault bs (slot d g) k
-deep-fault d g bs c x k f h = go (ltb d maxDepth) (leb (g + declares c) maxSignals) refl refl h
+deep-fault d g bs c xs k f h = go (ltb d maxDepth) (leb (g + declares c) maxSignals) refl refl h
   where
     go : (y z : Bool) → ltb d maxDepth ≡ y → leb (g + declares c) maxSignals ≡ z → cond (y && z) none (some 6) ≡ some k
         → Fault bs (slot d g) k
@@ -78,14 +54,15 @@ fault-from (slot d g) bs k h = go (front bs) refl h
   where
     go : (f : Front) → front bs ≡ f → faultOf (slot d g) f ≡ some k → Fault bs (slot d g) k
     go (bad n) i u = front-fault (slot d g) bs k (i ∙ ap bad (Option·some-injective n k u))
-    go (command c x) i u = deep-fault d g bs c x k i u
+    go (command c xs) i u = deep-fault d g bs c xs k i u
 
 fault-to : {s : Slot} {bs : List ℕ} {k : ℕ} → Fault bs s k → faultOf s (front bs) ≡ some k
-unfolding front
-fault-to {s = slot d g} (unknown {b = b} h) = rw (above b h)
-fault-to {s = slot d g} no-statement = refl
-fault-to {s = slot d g} (no-operand i o) = rw (i, o)
-fault-to {s = slot d g} (out-of-range i o r) = rw (i, o, r)
+fault-to {s = slot d g} {bs = bs} (unknown h) = ap (faultOf (slot d g)) (front-is bs _ (Fronts.unknown (omega arith) h))
+fault-to {s = slot d g} {bs = bs} no-statement = ap (faultOf (slot d g)) (front-is bs _ (Fronts.empty refl))
+fault-to {s = slot d g} {bs = bs} (no-operand {c = c} e l) =
+    ap (faultOf (slot d g)) (front-is bs _ (Fronts.short c (omega arith) e (omega arith)))
+fault-to {s = slot d g} {bs = bs} (out-of-range {c = c} e l r) =
+    ap (faultOf (slot d g)) (front-is bs _ (Fronts.outside c e (omega arith) r))
 fault-to (too-deep {d = d} f h) = rw (f, le-ltb d maxDepth h)
 fault-to (too-many-signals {d = d} {g = g} {c = c} f h) = rw (f, lt-leb (g + declares c) maxSignals h) (go (ltb d maxDepth))
   where
@@ -111,87 +88,69 @@ abbrev pub Comes : List ℕ → ℕ → List Slot → Read → Type 0
 Comes bs a w (accepted p m) = (n : ℕ) × (walk n bs ≡ some (at (a + m) w))
 Comes bs a w (refused k) = Faulty bs k
 
-at-most-two : (c : Command) → partCount c ≤ 2
-at-most-two Command.nothing = omega arith
-at-most-two Command.pause = omega arith
-at-most-two Command.emit = omega arith
-at-most-two Command.exit = omega arith
-at-most-two Command.seq = omega arith
-at-most-two Command.par = omega arith
-at-most-two Command.loop = omega arith
-at-most-two Command.present = omega arith
-at-most-two Command.signal = omega arith
-at-most-two Command.try = omega arith
-at-most-two Command.setpause = omega arith
-
-module _ (bs : List ℕ) (r : ℕ → List ℕ → Read) (s : Slot)
-    (part : (n a : ℕ) (w : List Slot) → walk n bs ≡ some (at a (s ∷ w)) → Comes bs a w (r a (drop a bs))) where
-  -- a last part behind k bytes of the command at a
-  last-comes : (a k : ℕ) (w : List Slot) (f : Statement → Statement) (x : Read) → Comes bs (a + k) w x → Comes bs a w (lastPart f k x)
-  last-comes a k w f (accepted p m) h =
-      let e : a + k + m ≡ a + (k + m) = omega arith in
-      (h .0, rw e at (h .1))
-  last-comes a k w f (refused number) h = h
-
-  part-at : (n a k : ℕ) (w : List Slot) → walk n bs ≡ some (at (a + k) (s ∷ w)) → Comes bs (a + k) w (r (a + k) (drop k (drop a bs)))
-  part-at n a k w h = rw (drop-drop k a bs) (part n (a + k) w h)
-
-  parts-come : (c : Command) (a x m : ℕ) → partCount c ≡ m → (n : ℕ) (w : List Slot)
-      → walk n bs ≡ some (at (a + width c) (replicate m s ++ w)) → Comes bs a w (readParts r c a x m (drop a bs))
-  parts-come c a x zero e n w h = (n, h)
-  parts-come c a x (suc zero) e n w h =
-      last-comes a (width c) w (λ p. build c a x p nothing) (r (a + width c) (drop (width c) (drop a bs))) (part-at n a (width c) w h)
-  parts-come c a x (suc (suc zero)) e n w h =
-      go (r (a + width c) (drop (width c) (drop a bs))) (part-at n a (width c) (s ∷ w) h)
-    where
-      go : (y : Read) → Comes bs (a + width c) (s ∷ w) y
-          → Comes bs a w (firstPart (λ p m. lastPart (λ q. build c a x p q) (width c + m) (r (a + (width c + m)) (drop (width c + m) (drop a bs)))) y)
-      go (accepted p m) h₂ =
-          let i : a + width c + m ≡ a + (width c + m) = omega arith in
-          last-comes a (width c + m) w (λ q. build c a x p q) (r (a + (width c + m)) (drop (width c + m) (drop a bs)))
-          (part-at (h₂ .0) a (width c + m) w (rw i at (h₂ .1)))
-      go (refused number) h₂ = h₂
-  parts-come c a x (suc (suc (suc m))) e n w h = absurd (omega (arith, at-most-two c))
-
 module _ (bs : List ℕ) where
-  stepped : (n a d g : ℕ) (w : List Slot) (c : Command) (x : ℕ) → walk n bs ≡ some (at a (slot d g ∷ w)) → front (drop a bs) ≡ command c x
-      → d < maxDepth → g + declares c ≤ maxSignals
-      → walk (suc n) bs ≡ some (at (a + width c) (replicate (partCount c) (slot (suc d) (g + declares c)) ++ w))
+  stepped : (n a d g : ℕ) (w : List Slot) (c : Command) (xs : List ℕ) (k : ℕ) → walk n bs ≡ some (at a (slot d g ∷ w)) → front (drop a bs) ≡ command c xs
+      → d < maxDepth → g + declares c ≤ maxSignals → partCount c ≡ k
+      → walk (suc n) bs ≡ some (at (a + width c) (replicate k (slot (suc d) (g + declares c)) ++ w))
   unfolding walk
-  stepped n a d g w c x h f i j = rw (h, f, lt-ltb d maxDepth i, le-leb (g + declares c) maxSignals j)
+  stepped n a d g w c xs k h f i j z = rw (h, f, lt-ltb d maxDepth i, le-leb (g + declares c) maxSignals j, z)
 
-  faulty : (n a d g k : ℕ) (w : List Slot) → walk n bs ≡ some (at a (slot d g ∷ w)) → Fault (drop a bs) (slot d g) k → Faulty bs k
-  faulty n a d g k w h f = record { commands = n; offset = a; awaiting = slot d g; awaited = w; met = h; fault = f }
+  -- what is met where a statement is awaited inside d commands
+  module _ (n a d g : ℕ) (w : List Slot) (h : walk n bs ≡ some (at a (slot d g ∷ w))) where
+    faulty : (k : ℕ) → Fault (drop a bs) (slot d g) k → Faulty bs k
+    faulty k f = record { commands = n; offset = a; awaiting = slot d g; awaited = w; met = h; fault = f }
+
+    stop-comes : maxDepth ≤ d → (y : Read) → Stops (drop a bs) y → Comes bs a w y
+    stop-comes l y (Stops.unsound k e) = faulty k (front-fault (slot d g) (drop a bs) k e)
+    stop-comes l y (Stops.deep c xs e) = faulty 6 (too-deep e l)
+
+    module _ (signals : ℕ) (r : (g a : ℕ) → List ℕ → Read) (level : d < maxDepth) (left : signals + g ≡ maxSignals)
+        (part : (c : Command) → declares c ≤ signals → (n a : ℕ) (w : List Slot) → walk n bs ≡ some (at a (slot (suc d) (g + declares c) ∷ w))
+        → Comes bs a w (r (signals - declares c) a (drop a bs))) where
+      module _ (c : Command) (xs : List ℕ) (l : Allowed signals (drop a bs) c xs) where
+        abbrev inner : Slot
+        inner = slot (suc d) (g + declares c)
+
+        step : (k : ℕ) → partCount c ≡ k → walk (suc n) bs ≡ some (at (a + width c) (replicate k inner ++ w))
+        step k z = stepped n a d g w c xs k h (l .stands) level (omega (arith, l .fits)) z
+
+        -- the part that begins k bytes behind a
+        part-comes : (m k : ℕ) (v : List Slot) (y : Read) → walk m bs ≡ some (at (a + k) (inner ∷ v))
+            → r (signals - declares c) (a + k) (drop k (drop a bs)) ≡ y → Comes bs (a + k) v y
+        part-comes m k v y i e =
+            subst (Comes bs (a + k) v) (ap (r (signals - declares c) (a + k)) (sym (drop-drop k a bs)) ∙ e) (part c (l .fits) m (a + k) v i)
+
+        further : (k m i : ℕ) (v : List Slot) → walk i bs ≡ some (at (a + k + m) v) → walk i bs ≡ some (at (a + (k + m)) v)
+        further k m i v e = e ∙ ap (λ (j : ℕ). some (at j v)) (let j : a + k + m ≡ a + (k + m) = omega arith in j)
+
+        -- behind the first of two parts
+        between : partCount c ≡ 2 → (p : Statement) (m : ℕ) → r (signals - declares c) (a + width c) (drop (width c) (drop a bs)) ≡ accepted p m
+            → (i : ℕ) × (walk i bs ≡ some (at (a + (width c + m)) (inner ∷ w)))
+        between z p m e =
+            let i = part-comes (suc n) (width c) (inner ∷ w) (accepted p m) (step 2 z) e in
+            (i .0, further (width c) m (i .0) (inner ∷ w) (i .1))
+
+      command-comes : (y : Read) → Meets r signals a (drop a bs) y → Comes bs a w y
+      command-comes y (Meets.unsound k e) = faulty k (front-fault (slot d g) (drop a bs) k e)
+      command-comes y (Meets.crowded c xs e l) = faulty 6 (too-many-signals e (omega arith))
+      command-comes y (Meets.leaf c xs l z) = (suc n, step c xs l 0 z)
+      command-comes y (Meets.one c xs l z p m e) =
+          let i = part-comes c xs l (suc n) (width c) w (accepted p m) (step c xs l 1 z) e in
+          (i .0, further c xs l (width c) m (i .0) w (i .1))
+      command-comes y (Meets.two c xs l z p m e q k f) =
+          let i = between c xs l z p m e in
+          let j = part-comes c xs l (i .0) (width c + m) w (accepted q k) (i .1) f in
+          (j .0, further c xs l (width c + m) k (j .0) w (j .1))
+      command-comes y (Meets.first-refused c xs l i z k e) =
+          part-comes c xs l (suc n) (width c) (replicate i (inner c xs l) ++ w) (refused k) (step c xs l (suc i) z) e
+      command-comes y (Meets.second-refused c xs l z p m e k f) =
+          let i = between c xs l z p m e in
+          part-comes c xs l (i .0) (width c + m) w (refused k) (i .1) f
 
   pub comes : (fuel d signals g n a : ℕ) (w : List Slot) → fuel + d ≡ maxDepth → signals + g ≡ maxSignals
       → walk n bs ≡ some (at a (slot d g ∷ w)) → Comes bs a w (read fuel signals a (drop a bs))
-  unfolding read
-  comes zero d signals g n a w e i h = go (front (drop a bs)) refl
-    where
-      go : (f : Front) → front (drop a bs) ≡ f → Comes bs a w (tooDeep f)
-      go (bad k) j = faulty n a d g k w h (front-fault (slot d g) (drop a bs) k j)
-      go (command c x) j = faulty n a d g 6 w h (too-deep j (omega arith))
+  comes zero d signals g n a w e i h = stop-comes n a d g w h (omega arith) (read zero signals a (drop a bs)) (stops signals a (drop a bs))
   comes (suc fuel) d signals g n a w e i h =
-      go (front (drop a bs)) refl
-      (λ (c : Command) (k : declares c ≤ signals) (n₂ a₂ : ℕ) (w₂ : List Slot).
-      comes fuel (suc d) (signals - declares c) (g + declares c) n₂ a₂ w₂ (omega arith) (omega arith))
-    where
-      sound : (c : Command) (x : ℕ) → front (drop a bs) ≡ command c x
-          → ((k : declares c ≤ signals) (n₂ a₂ : ℕ) (w₂ : List Slot)
-          → walk n₂ bs ≡ some (at a₂ (slot (suc d) (g + declares c) ∷ w₂))
-          → Comes bs a₂ w₂ (read fuel (signals - declares c) a₂ (drop a₂ bs)))
-          → (y : Bool) → ltb signals (declares c) ≡ y
-          → Comes bs a w (cond y (refused 6) (readParts (read fuel (signals - declares c)) c a x (partCount c) (drop a bs)))
-      sound c x j ih true t = faulty n a d g 6 w h (too-many-signals j (omega (arith, ltb-true signals (declares c) t)))
-      sound c x j ih false t =
-          let k : declares c ≤ signals = ltb-false signals (declares c) t in
-          parts-come bs (read fuel (signals - declares c)) (slot (suc d) (g + declares c)) (ih k) c a x (partCount c) refl (suc n) w
-          (stepped n a d g w c x h j (omega arith) (omega arith))
-
-      go : (f : Front) → front (drop a bs) ≡ f
-          → ((c : Command) (k : declares c ≤ signals) (n₂ a₂ : ℕ) (w₂ : List Slot)
-          → walk n₂ bs ≡ some (at a₂ (slot (suc d) (g + declares c) ∷ w₂))
-          → Comes bs a₂ w₂ (read fuel (signals - declares c) a₂ (drop a₂ bs)))
-          → Comes bs a w (readCommand (read fuel) signals a (drop a bs) f)
-      go (bad k) j ih = faulty n a d g k w h (front-fault (slot d g) (drop a bs) k j)
-      go (command c x) j ih = sound c x j (ih c) (ltb signals (declares c)) refl
+      command-comes n a d g w h signals (read fuel) (omega arith) i
+      (λ c k m b v. comes fuel (suc d) (signals - declares c) (g + declares c) m b v (omega arith) (omega arith))
+      (read (suc fuel) signals a (drop a bs)) (meets fuel signals a (drop a bs))

@@ -6,8 +6,8 @@ use lib.ListN.{length}
 use lib.Dec.{leb, ltb}
 use Rattle.esterel.specs.Statement.{Statement}
 use Rattle.esterel.specs.LabelTests.{distinct, targeted, wellFormed}
-use Rattle.sequence.specs.Limits.{maxBytes, maxDepth, maxSignals}
-use Rattle.sequence.specs.Reader.{Read, accepted, refused, read}
+use Rattle.limits.specs.Limits.{maxBytes}
+use Rattle.sequence.specs.Reader.{Read, accepted, refused, program}
 
 pub data Checked : Type 0 where
   sound : (p : Statement) → Checked
@@ -24,7 +24,7 @@ afterRead n (accepted p count) = cond (ltb count n) (bad 7) (labelRules p)
 
 -- row 2
 unfoldable pub checked : List ℕ → Checked
-checked bs = cond (leb 1 (length bs) && leb (length bs) maxBytes) (afterRead (length bs) (read maxDepth maxSignals 0 bs)) (bad 2)
+checked bs = cond (leb 1 (length bs) && leb (length bs) maxBytes) (afterRead (length bs) (program bs)) (bad 2)
 
 abbrev pub numberOf : Checked → ℕ
 numberOf (sound p) = 0

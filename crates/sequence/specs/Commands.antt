@@ -1,21 +1,20 @@
 -- The table of commands (01, 'Commands'): the command of a byte, its operands and its parts.
-use Prim.Native.Nat.{ℕ, _+_}
+use Prim.Native.Nat.{ℕ, zero, suc, _+_}
 use mathlib.Core.Bool.{Bool, true, _&&_}
 use mathlib.Core.Option.{Option, none, some}
-use mathlib.Core.List.{[], _∷_}
+use mathlib.Core.List.{List, [], _∷_}
 use lib.ListN.{getD}
 use lib.Dec.{leb, ltb}
 use Rattle.esterel.specs.Statement.{Statement}
-use Rattle.sequence.specs.Limits.{labelCount, signalCount, maxExit}
+use Rattle.limits.specs.Limits.{labelCount, signalCount, maxExit}
 
 pub data Command : Type 0 where
   nothing pause emit exit seq par loop present signal try setpause : Command
 
--- bytes 00 to 0A in the order of the table; no command above
-unfoldable pub commandOf : ℕ → Option Command
-commandOf b =
-    getD
-    (some Command.nothing
+-- the commands of the bytes 00 to 0A, in the order of the table
+abbrev pub table : List (Option Command)
+table =
+    some Command.nothing
     ∷ some Command.pause
     ∷ some Command.emit
     ∷ some Command.exit
@@ -26,11 +25,13 @@ commandOf b =
     ∷ some Command.signal
     ∷ some Command.try
     ∷ some Command.setpause
-    ∷ [])
-    b
-    none
+    ∷ []
 
--- operands, of one byte each
+-- no command above
+unfoldable pub commandOf : ℕ → Option Command
+commandOf b = getD table b none
+
+-- the operand bytes of a command, counted
 abbrev pub operandCount : Command → ℕ
 operandCount nothing = 0
 operandCount pause = 1
@@ -57,21 +58,34 @@ partCount signal = 1
 partCount try = 1
 partCount setpause = 0
 
--- is the operand x in its range?
-abbrev pub inRange : Command → ℕ → Bool
-inRange nothing x = true
-inRange pause x = ltb x labelCount
-inRange emit x = ltb x signalCount
-inRange exit x = leb 1 x && leb x maxExit
-inRange seq x = true
-inRange par x = true
-inRange loop x = true
-inRange present x = ltb x signalCount
-inRange signal x = ltb x signalCount
-inRange try x = true
-inRange setpause x = ltb x labelCount
+-- the n bytes at offset i
+abbrev pub bytesAt : (i n : ℕ) → List ℕ → List ℕ
+bytesAt i zero bs = []
+bytesAt i (suc n) bs = getD bs i 0 ∷ bytesAt (suc i) n bs
 
--- the command byte and its operands
+-- the operand bytes of the command c at the front of the bytes
+abbrev pub operandsOf : Command → List ℕ → List ℕ
+operandsOf c bs = bytesAt 1 (operandCount c) bs
+
+-- the first operand byte
+abbrev pub firstOf : List ℕ → ℕ
+firstOf xs = getD xs 0 0
+
+-- are the operand bytes xs in their ranges?
+abbrev pub inRange : Command → List ℕ → Bool
+inRange nothing xs = true
+inRange pause xs = ltb (firstOf xs) labelCount
+inRange emit xs = ltb (firstOf xs) signalCount
+inRange exit xs = leb 1 (firstOf xs) && leb (firstOf xs) maxExit
+inRange seq xs = true
+inRange par xs = true
+inRange loop xs = true
+inRange present xs = ltb (firstOf xs) signalCount
+inRange signal xs = ltb (firstOf xs) signalCount
+inRange try xs = true
+inRange setpause xs = ltb (firstOf xs) labelCount
+
+-- the command byte and its operand bytes
 abbrev pub width : Command → ℕ
 width c = 1 + operandCount c
 
@@ -89,16 +103,16 @@ declares signal = 1
 declares try = 0
 declares setpause = 0
 
--- the statement of a command at offset a with operand x and parts p and q; what it does not have is left out
-abbrev pub build : Command → (a x : ℕ) → (p q : Statement) → Statement
-build nothing a x p q = Statement.nothing
-build pause a x p q = Statement.pause x
-build emit a x p q = Statement.emit x
-build exit a x p q = Statement.exit x
-build seq a x p q = Statement.seq p q
-build par a x p q = Statement.par p q
-build loop a x p q = Statement.loop a p
-build present a x p q = Statement.present x p q
-build signal a x p q = Statement.signal a x p
-build try a x p q = Statement.try p
-build setpause a x p q = Statement.setpause x
+-- the statement of a command at offset a with operand bytes xs and parts p and q; what it does not have is left out
+abbrev pub build : Command → (a : ℕ) (xs : List ℕ) (p q : Statement) → Statement
+build nothing a xs p q = Statement.nothing
+build pause a xs p q = Statement.pause (firstOf xs)
+build emit a xs p q = Statement.emit (firstOf xs)
+build exit a xs p q = Statement.exit (firstOf xs)
+build seq a xs p q = Statement.seq p q
+build par a xs p q = Statement.par p q
+build loop a xs p q = Statement.loop a p
+build present a xs p q = Statement.present (firstOf xs) p q
+build signal a xs p q = Statement.signal a (firstOf xs) p
+build try a xs p q = Statement.try p
+build setpause a xs p q = Statement.setpause (firstOf xs)

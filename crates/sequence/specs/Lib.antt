@@ -1,10 +1,5 @@
-pub mod Limits
 pub mod Commands
 pub mod Reader
-pub mod Accepted
 pub mod Writer
 pub mod Check
 pub mod Rows
-pub mod Notes
-pub mod Layout
-pub mod Reading

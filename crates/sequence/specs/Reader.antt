@@ -7,31 +7,41 @@ use mathlib.Core.List.{List, [], _∷_}
 use lib.ListN.{drop}
 use lib.Dec.{ltb}
 use Rattle.esterel.specs.Statement.{Statement, nothing}
+use Rattle.limits.specs.Limits.{maxDepth, maxSignals}
 use Rattle.sequence.specs.Commands.{Command, commandOf, operandCount, partCount, inRange, width, declares, build}
 
 pub data Read : Type 0 where
   accepted : (p : Statement) (count : ℕ) → Read
   refused : (number : ℕ) → Read
 
--- The command at the front of the bytes with its operand, or row 3, 4 or 5. A command without operand has operand 0.
+-- The command at the front of the bytes with its operand bytes, or row 3, 4 or 5.
 pub data Front : Type 0 where
-  command : (c : Command) (operand : ℕ) → Front
+  command : (c : Command) (operands : List ℕ) → Front
   bad : (number : ℕ) → Front
 
-abbrev pub withOperand : Command → ℕ → List ℕ → Front
-withOperand c zero bs = command c 0
-withOperand c (suc n) [] = bad 4
-withOperand c (suc n) (x ∷ bs) = cond (inRange c x) (command c x) (bad 5)
+abbrev pub after : ℕ → Option (List ℕ) → Option (List ℕ)
+after x none = none
+after x (some xs) = some (x ∷ xs)
+
+-- the first n bytes, if there are so many
+abbrev pub firstBytes : ℕ → List ℕ → Option (List ℕ)
+firstBytes zero bs = some []
+firstBytes (suc n) [] = none
+firstBytes (suc n) (x ∷ bs) = after x (firstBytes n bs)
+
+abbrev pub withOperands : Command → Option (List ℕ) → Front
+withOperands c none = bad 4
+withOperands c (some xs) = cond (inRange c xs) (command c xs) (bad 5)
 
 abbrev pub withCommand : Option Command → List ℕ → Front
 withCommand none bs = bad 3
-withCommand (some c) bs = withOperand c (operandCount c) bs
+withCommand (some c) bs = withOperands c (firstBytes (operandCount c) bs)
 
 unfoldable pub front : List ℕ → Front
 front [] = bad 4
 front (b ∷ bs) = withCommand (commandOf b) bs
 
--- ---- the parts of a command c at offset a with operand x, by a reader r of parts, given their offset and their bytes
+-- ---- the parts of a command c at offset a with operands xs, by a reader r of parts, given their offset and their bytes
 abbrev pub lastPart : (Statement → Statement) → ℕ → Read → Read
 lastPart f n (accepted p m) = accepted (f p) (n + m)
 lastPart f n (refused number) = refused number
@@ -41,28 +51,32 @@ firstPart next (accepted p m) = next p m
 firstPart next (refused number) = refused number
 
 -- by the number of parts
-abbrev pub readParts : (ℕ → List ℕ → Read) → Command → (a x : ℕ) → ℕ → List ℕ → Read
-readParts r c a x zero bs = accepted (build c a x nothing nothing) (width c)
-readParts r c a x (suc zero) bs = lastPart (λ p. build c a x p nothing) (width c) (r (a + width c) (drop (width c) bs))
-readParts r c a x (suc (suc n)) bs =
+abbrev pub readParts : (ℕ → List ℕ → Read) → Command → (a : ℕ) (xs : List ℕ) → ℕ → List ℕ → Read
+readParts r c a xs zero bs = accepted (build c a xs nothing nothing) (width c)
+readParts r c a xs (suc zero) bs = lastPart (λ p. build c a xs p nothing) (width c) (r (a + width c) (drop (width c) bs))
+readParts r c a xs (suc (suc n)) bs =
     firstPart
-    (λ p m. lastPart (λ q. build c a x p q) (width c + m) (r (a + (width c + m)) (drop (width c + m) bs)))
+    (λ p m. lastPart (λ q. build c a xs p q) (width c + m) (r (a + (width c + m)) (drop (width c + m) bs)))
     (r (a + width c) (drop (width c) bs))
 
 -- row 6: no depth left for the command, or no signal left for a signal command
 abbrev pub tooDeep : Front → Read
 tooDeep (bad number) = refused number
-tooDeep (command c x) = refused 6
+tooDeep (command c xs) = refused 6
 
 abbrev pub readCommand : (ℕ → ℕ → List ℕ → Read) → (signals a : ℕ) → List ℕ → Front → Read
 readCommand r signals a bs (bad number) = refused number
-readCommand r signals a bs (command c x) =
-    cond (ltb signals (declares c)) (refused 6) (readParts (r (signals - declares c)) c a x (partCount c) bs)
+readCommand r signals a bs (command c xs) =
+    cond (ltb signals (declares c)) (refused 6) (readParts (r (signals - declares c)) c a xs (partCount c) bs)
 
 -- The statement at offset a, where `depth` levels and `signals` signal commands are still allowed.
 unfoldable pub read : (depth signals a : ℕ) → List ℕ → Read
 read zero signals a bs = tooDeep (front bs)
 read (suc depth) signals a bs = readCommand (read depth) signals a bs (front bs)
+
+-- the term of the whole program
+abbrev pub program : List ℕ → Read
+program bs = read maxDepth maxSignals 0 bs
 
 -- the greatest number of signal commands around a command of the statement
 unfoldable pub nesting : Statement → ℕ

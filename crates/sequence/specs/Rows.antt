@@ -9,8 +9,8 @@ use lib.ListN.{length, drop, replicate}
 use lib.Dec.{leb, ltb}
 use Rattle.esterel.specs.Statement.{Statement}
 use Rattle.esterel.specs.States.{Distinct, Targeted, WellFormed}
-use Rattle.sequence.specs.Limits.{maxBytes, maxDepth, maxSignals}
-use Rattle.sequence.specs.Commands.{Command, commandOf, operandCount, partCount, inRange, width, declares}
+use Rattle.limits.specs.Limits.{maxBytes, maxDepth, maxSignals}
+use Rattle.sequence.specs.Commands.{Command, commandOf, operandCount, operandsOf, partCount, inRange, width, declares}
 use Rattle.sequence.specs.Reader.{Front, command, bad, front}
 use Rattle.sequence.specs.Writer.{bytesOf, Within, PlacedAt}
 
@@ -28,19 +28,19 @@ pub data Fault : List ℕ → Slot → (number : ℕ) → Type 0 where
   unknown : {s : Slot} {b : ℕ} {bs : List ℕ} → 10 < b → Fault (b ∷ bs) s 3
   -- operand or statement missing at the end
   no-statement : {s : Slot} → Fault [] s 4
-  no-operand : {s : Slot} {b : ℕ} {c : Command} → commandOf b ≡ some c → operandCount c ≡ 1 → Fault (b ∷ []) s 4
+  no-operand : {s : Slot} {b : ℕ} {bs : List ℕ} {c : Command} → commandOf b ≡ some c → length bs < operandCount c → Fault (b ∷ bs) s 4
   -- operand outside its range
-  out-of-range : {s : Slot} {b x : ℕ} {bs : List ℕ} {c : Command} → commandOf b ≡ some c → operandCount c ≡ 1 → inRange c x ≡ false
-      → Fault (b ∷ x ∷ bs) s 5
+  out-of-range : {s : Slot} {b : ℕ} {bs : List ℕ} {c : Command} → commandOf b ≡ some c → operandCount c ≤ length bs
+      → inRange c (operandsOf c (b ∷ bs)) ≡ false → Fault (b ∷ bs) s 5
   -- depth over 64, or a seventh signal inside six; the command has passed 3, 4 and 5
-  too-deep : {d g x : ℕ} {bs : List ℕ} {c : Command} → front bs ≡ command c x → maxDepth ≤ d → Fault bs (slot d g) 6
-  too-many-signals : {d g x : ℕ} {bs : List ℕ} {c : Command} → front bs ≡ command c x → maxSignals < g + declares c
+  too-deep : {d g : ℕ} {bs xs : List ℕ} {c : Command} → front bs ≡ command c xs → maxDepth ≤ d → Fault bs (slot d g) 6
+  too-many-signals : {d g : ℕ} {bs xs : List ℕ} {c : Command} → front bs ≡ command c xs → maxSignals < g + declares c
       → Fault bs (slot d g) 6
 
 -- ---- from one command to the next
 abbrev pub enter : (a d g : ℕ) → List Slot → Front → Option Position
 enter a d g awaited (bad number) = none
-enter a d g awaited (command c x) =
+enter a d g awaited (command c xs) =
     cond (ltb d maxDepth && leb (g + declares c) maxSignals)
     (some (at (a + width c) (replicate (partCount c) (slot (suc d) (g + declares c)) ++ awaited)))
     none

@@ -1,4 +1,1 @@
-// Sequences of commands as bytes: the table of commands, the reader, and what it notes of labels.
-pub mod commands;
-pub mod notes;
-pub mod reader;
+// Sequences of commands as bytes, and their check: definitions in specs/, theorems in proofs/, no code.

@@ -2,12 +2,12 @@
 use Prim.Native.Nat.{ℕ}
 use mathlib.Core.Path.{_≡_, refl, ap}
 use Rattle.sets.specs.declared.labels.Labels.{Labels}
-use Rattle.sets.specs.Labels.{labelSet, labelsOf}
+use Rattle.sets.specs.Labels.{labelSet, labelsWith}
 
-pub labelSet-of : (n : ℕ) → labelSet (labelsOf n) ≡ n
-unfolding labelSet labelsOf
+pub labelSet-of : (n : ℕ) → labelSet (labelsWith n) ≡ n
+unfolding labelSet labelsWith
 labelSet-of n = refl
 
-pub labels-of : (s : Labels) {n : ℕ} → labelSet s ≡ n → s ≡ labelsOf n
-unfolding labelSet labelsOf
-labels-of s e = ap labelsOf e
+pub labels-of : (s : Labels) {n : ℕ} → labelSet s ≡ n → s ≡ labelsWith n
+unfolding labelSet labelsWith
+labels-of s e = ap labelsWith e

@@ -5,5 +5,5 @@ use Rattle.sets.specs.declared.labels.Labels.{Labels}
 unfoldable pub labelSet : Labels → ℕ
 labelSet s = s .bits
 
-unfoldable pub labelsOf : ℕ → Labels
-labelsOf n = record { bits = n }
+unfoldable pub labelsWith : ℕ → Labels
+labelsWith n = record { bits = n }

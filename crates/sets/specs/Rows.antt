@@ -17,11 +17,11 @@ abbrev pub addRowBelow : (w k s : ℕ) → (ℕ → ℕ) → ℕ → ℕ
 addRowBelow w k s rows = cond (ltb k w) (addRow k s rows) rows
 
 -- w rows become w rows by f
-pub record TurnsBelow (w : ℕ) (f : (ℕ → ℕ) → ℕ → ℕ) (m n : List ℕ) : Type 0 where
-  pub turns : length m ≡ w → (length n ≡ w) × (rowBelow w n ≡ f (rowBelow w m))
+pub record UpdatesBelow (w : ℕ) (f : (ℕ → ℕ) → ℕ → ℕ) (m n : List ℕ) : Type 0 where
+  pub updates : length m ≡ w → (length n ≡ w) × (rowBelow w n ≡ f (rowBelow w m))
 
 abbrev pub rowOf : List ℕ → ℕ → ℕ
 rowOf = rowBelow labelCount
 
-abbrev pub Turns : ((ℕ → ℕ) → ℕ → ℕ) → List ℕ → List ℕ → Type 0
-Turns = TurnsBelow labelCount
+abbrev pub Updates : ((ℕ → ℕ) → ℕ → ℕ) → List ℕ → List ℕ → Type 0
+Updates = UpdatesBelow labelCount

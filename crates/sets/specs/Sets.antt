@@ -3,15 +3,8 @@ use Prim.Native.Nat.{ℕ, _<_}
 use mathlib.Core.Path.{_≡_}
 use mathlib.Core.Bool.{true, false, cond}
 use lib.Dec.{ltb}
+pub use Rattle.limits.specs.Limits.{labelCount, signalCount}
 use Rattle.esterel.specs.Sets.{member, none, only, insert}
-
--- 01, 'Commands': signals are 0 to 31
-abbrev pub signalCount : ℕ
-signalCount = 32
-
--- labels are 0 to 63
-abbrev pub labelCount : ℕ
-labelCount = 64
 
 -- a set of numbers below w has no other member
 abbrev pub onlyBelow : (w i : ℕ) → ℕ

@@ -6,7 +6,7 @@ ghost use lib.Dec.{eqb};
 ghost use Rattle.esterel.specs.Sets.{member, none, join, remove, below, from};
 ghost use Rattle.sets.specs.Sets.{labelCount, onlyBelow, Subset, Disjoint, Lowest};
 ghost use Rattle.sets.specs.Labels.{labelSet};
-ghost use Rattle.sets.specs.Rows.{rowOf, addRowBelow, Turns};
+ghost use Rattle.sets.specs.Rows.{rowOf, addRowBelow, Updates};
 
 pub struct Labels {
     bits: u64,
@@ -21,7 +21,7 @@ pub fn empty() -> Labels
 pub fn single(i: u8) -> Labels
     ensures { λ r. ⌜ labelSet r ≡ onlyBelow labelCount i ⌝ }
 {
-    if i < 64 {
+    if i < limits::LABELS {
         Labels { bits: 1u64 << i }
     } else {
         empty()
@@ -31,7 +31,7 @@ pub fn single(i: u8) -> Labels
 pub fn member(s: Labels, i: u8) -> bool
     ensures { λ r. ⌜ r ≡ member i (labelSet s) ⌝ }
 {
-    if i < 64 {
+    if i < limits::LABELS {
         (s.bits >> i) % 2 == 1
     } else {
         false
@@ -84,7 +84,7 @@ pub fn lowest(s: Labels) -> u8
 pub fn below(s: Labels, k: u32) -> Labels
     ensures { λ r. ⌜ labelSet r ≡ below k (labelSet s) ⌝ }
 {
-    if k < 64 {
+    if k < limits::LABELS as u32 {
         Labels {
             bits: s.bits & ((1u64 << k) - 1),
         }
@@ -104,13 +104,13 @@ pub fn from(s: Labels, k: u32) -> Labels
 }
 
 // A label set for each label.
-pub type Rows = [u64; 64];
+pub type Rows = [u64; limits::LABEL_COUNT];
 
 // Adds the labels of s to the row of k; a label outside the width has no row.
 pub fn add_row(rows: &mut Rows, k: u8, s: Labels)
-    ensures { λ _. ⌜ Turns (addRowBelow labelCount k (labelSet s)) (now (rows .entry)) (now (rows .exit)) ⌝ }
+    ensures { λ _. ⌜ Updates (addRowBelow labelCount k (labelSet s)) (now (rows .entry)) (now (rows .exit)) ⌝ }
 {
-    if k < 64 {
+    if k < limits::LABELS {
         let i = k as usize;
         rows[i] = rows[i] | s.bits;
     }
@@ -119,7 +119,7 @@ pub fn add_row(rows: &mut Rows, k: u8, s: Labels)
 pub fn row(rows: &Rows, k: u8) -> Labels
     ensures { λ r. ⌜ labelSet r ≡ rowOf (now (rows .entry)) k ⌝ }
 {
-    if k < 64 {
+    if k < limits::LABELS {
         let i = k as usize;
         Labels { bits: rows[i] }
     } else {

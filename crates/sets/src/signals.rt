@@ -6,13 +6,17 @@ ghost use Rattle.sets.specs.Sets.{signalCount, onlyBelow, insertBelow};
 pub fn member(s: u32, i: u8) -> bool
     ensures { λ r. ⌜ r ≡ member i s ⌝ }
 {
-    if i < 32 { (s >> i) % 2 == 1 } else { false }
+    if i < limits::SIGNALS {
+        (s >> i) % 2 == 1
+    } else {
+        false
+    }
 }
 
 pub fn single(i: u8) -> u32
     ensures { λ r. ⌜ r ≡ onlyBelow signalCount i ⌝ }
 {
-    if i < 32 { 1u32 << i } else { 0 }
+    if i < limits::SIGNALS { 1u32 << i } else { 0 }
 }
 
 pub fn union(s: u32, t: u32) -> u32

@@ -1,17 +1,27 @@
-// Runs through the tick: the bays of 01 that are not marked, the worked reactions of 003 and 002, and calls that 01 turns
-// down. A vector prints a title, then a line for each call. The file stdout was written by hand from the papers.
-mod bays;
-mod limits;
-mod paper002;
-mod paper003;
+// Runs the vectors on standard input through the tick: the bays of 01 that are not marked, the worked reactions of 003 and
+// 002, and calls that 01 turns down. A vector prints its title, then a line for each call. The file stdout was written by
+// hand from the papers.
+//
+// A line of the input is empty, a comment (#), a title, or an indented line of the vector below its title: bytes of the
+// sequence, or the inputs of a machine. The file stdin shows each form at its top. A malformed line ends the run with a line
+// that says which one it is.
+mod lines;
+mod numbers;
 mod print;
-mod refusals;
+mod room;
 mod ticks;
 
+use libc::STDIN_FILENO;
+
+// One byte more than the file may have, so that a longer one is seen.
+const ROOM: usize = 65536;
+
 fn main() {
-    bays::all();
-    paper003::all();
-    paper002::all();
-    refusals::all();
-    limits::all();
+    let mut space = io::large_buffer();
+    let count = io::read_full(STDIN_FILENO, &mut space);
+    if count == ROOM {
+        print::text(b"file too long\n");
+        return;
+    }
+    lines::all(&space[..count]);
 }

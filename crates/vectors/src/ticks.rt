@@ -1,70 +1,107 @@
-// Machines that tick on given inputs, and calls on given records.
+// Machines that tick on given inputs, and the lines of their calls.
+use crate::numbers::NONE;
+use crate::numbers::number;
 use crate::print;
+use crate::room::Bytes;
+use crate::room::MALFORMED;
+use crate::room::ROOM;
+use crate::room::zeros;
 
-// What stands in an answer record before the call.
+// What stands in an answer record before a call.
 const UNWRITTEN: u8 = 0xA5;
 
-// A line for each input, from a cleared state record on.
-pub fn run(words: &[u8], sequence: &[u8], inputs: &[u32]) {
-    let mut state = [0u8; 9];
-    resume(words, sequence, &mut state, inputs);
-}
+// Room for an answer record that is too long.
+const ANSWER_ROOM: usize = 16;
 
-// A line for each input, from the record that waits at these labels on: label 0 is the lowest bit.
-pub fn wait(words: &[u8], sequence: &[u8], labels: u8, inputs: &[u32]) {
-    let mut state = [1, labels, 0, 0, 0, 0, 0, 0, 0];
-    resume(words, sequence, &mut state, inputs);
-}
-
-// A line for each input, from a given state record on.
-pub fn resume(words: &[u8], sequence: &[u8], state: &mut [u8; 9], inputs: &[u32]) {
-    print::title(words);
-    let mut i: usize = 0;
-    while i < inputs.len() {
-        let input = inputs[i];
-        i += 1;
-        tick(sequence, state, i as u64, input);
-    }
-}
-
-// A line for each input: the first instant of a machine of its own.
-pub fn start(words: &[u8], sequence: &[u8], inputs: &[u32]) {
-    print::title(words);
-    let mut i: usize = 0;
-    while i < inputs.len() {
-        first(sequence, inputs[i]);
-        i += 1;
-    }
-}
-
-fn first(sequence: &[u8], input: u32) {
-    let mut state = [0u8; 9];
-    tick(sequence, &mut state, 1, input);
-}
-
-// One call: the line of its instant, or of its refusal with whether both records were kept.
-fn tick(sequence: &[u8], state: &mut [u8; 9], instant: u64, input: u32) {
-    let before = *state;
-    let mut answer = [UNWRITTEN; 8];
-    let number = intake::intake_tick(sequence, state, input, &mut answer);
-    if number == 0 {
-        print::instant(instant, state, &answer);
-    } else {
-        let kept = check::same(state, &before);
-        print::refusal(number, kept && check::same(&answer, &[UNWRITTEN; 8]));
-    }
-}
-
-// A call with the sequence 'nothing' on records of any length, each with a copy of what it holds.
-pub fn call(
-    words: &[u8],
+// The tick on the first bytes of each room; 255 where a room has fewer.
+fn call(
+    sequence: &[u8],
+    sequence_length: usize,
     state: &mut [u8],
-    state_before: &[u8],
+    state_length: usize,
+    input: u32,
     answer: &mut [u8],
-    answer_before: &[u8],
+    answer_length: usize,
+) -> u8 {
+    if sequence.len() < sequence_length {
+        return 255;
+    }
+    if state.len() < state_length {
+        return 255;
+    }
+    if answer.len() < answer_length {
+        return 255;
+    }
+    intake::intake_tick(
+        &sequence[0..sequence_length],
+        &mut state[0..state_length],
+        input,
+        &mut answer[0..answer_length],
+    )
+}
+
+// The line of a call: of its instant, or of its refusal with whether both records were kept.
+fn report(
+    instant: u64,
+    number: u8,
+    before: &[u8; ROOM],
+    state: &[u8; ROOM],
+    answer: &[u8; ANSWER_ROOM],
 ) {
-    print::title(words);
-    let number = intake::intake_tick(b"\x00", state, 0, answer);
-    let kept = check::same(state, state_before);
-    print::refusal(number, kept && check::same(answer, answer_before));
+    if number == 0 {
+        print::instant(instant, state, answer);
+        return;
+    }
+    let kept = check::same(state, before);
+    print::refusal(
+        number as u64,
+        kept & check::same(answer, &[UNWRITTEN; ANSWER_ROOM]),
+    );
+}
+
+// One call and its line; answers the state record after it.
+fn tick(sequence: Bytes, before: Bytes, answer_length: usize, instant: u64, input: u32) -> Bytes {
+    let room = sequence.room;
+    let kept = before.room;
+    let mut state = before.room;
+    let mut answer = [UNWRITTEN; ANSWER_ROOM];
+    let number = call(
+        &room,
+        sequence.count,
+        &mut state,
+        before.count,
+        input,
+        &mut answer,
+        answer_length,
+    );
+    report(instant, number, &kept, &state, &answer);
+    Bytes {
+        room: state,
+        count: before.count,
+    }
+}
+
+// A machine: a call for each input that the line names from `from` on. Answers the sequence, or a
+// malformed one where one of them is no input.
+pub fn run(
+    line: &[u8],
+    from: usize,
+    sequence: Bytes,
+    record: Bytes,
+    answer_length: usize,
+) -> Bytes {
+    let mut state = record;
+    let mut at = from;
+    let mut instant: u64 = 0;
+    while at < line.len() {
+        let end = bytes::scan::find(line, at + 1, line.len(), b' ');
+        let input = number(line, at, end, 16);
+        if NONE <= input {
+            return zeros(MALFORMED);
+        }
+        instant += 1;
+        state = tick(sequence, state, answer_length, instant, input as u32);
+        at = end;
+    }
+    sequence
 }

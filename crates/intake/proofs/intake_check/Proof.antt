@@ -5,11 +5,9 @@ use Rattle.intake.proofs.intake_check.Reads as reads
 use Rattle.intake.proofs.intake_check.Lts as lts
 use Rattle.checks.proofs.verdict.check.Reads as check-reads
 
--- src/lib.rt:20:5
 check-requires : tie.Need-check-requires
 check-requires c κs = search needs
 
--- src/lib.rt:14:1
 returns : tie.Need-returns
 returns c = search needs
 

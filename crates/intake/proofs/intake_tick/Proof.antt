@@ -2,7 +2,7 @@ use mathlib.Core.Path.{_∙_, subst}
 use borrow.Author.Needs.{needs}
 use Rattle.intake.specs.declared.tick.Reply.the-variants.{Refused, Reacted}
 use Rattle.intake.specs.Standing.{Replies}
-use Rattle.intake.proofs.Demands.{meets}
+use Rattle.demands.proofs.Calls.{meets}
 use Rattle.intake.proofs.Ticking.{other-state, other-answer, as-replied}
 use Rattle.intake.proofs.intake_tick.Statement.{statement}
 use Rattle.intake.proofs.intake_tick.Tie as tie
@@ -11,27 +11,21 @@ use Rattle.intake.proofs.intake_tick.Lts as lts
 use Rattle.intake.proofs.tick.finish.Reads as finish-reads
 use Rattle.intake.proofs.tick.reply_to.Reads as reply-to-reads
 
--- src/lib.rt:34:9
 returns : tie.Need-returns
 returns c = meets _ _ _ _ _ _ _ (other-state _ _ _ _ (c .if1 .taken))
 
--- src/lib.rt:37:9
 returns-2 : tie.Need-returns-2
 returns-2 c = meets _ _ _ _ _ _ _ (other-answer _ _ _ _ (c .before .if1 .left) (c .if2 .taken))
 
--- src/lib.rt:39:11
 reply-to-requires : tie.Need-reply-to-requires
 reply-to-requires c κs = search needs
 
--- src/lib.rt:40:24
 enum-known-number : tie.Need-enum-known-number
 enum-known-number c = search needs
 
--- src/lib.rt:41:24
 enum-known-instant : tie.Need-enum-known-instant
 enum-known-instant c = search needs
 
--- src/lib.rt:41:36
 finish-requires : tie.Need-finish-requires
 finish-requires c κs = (
   search needs,
@@ -39,25 +33,20 @@ finish-requires c κs = (
   subst (Replies _ _ _) (c .before .before .before .instant .given .1) (c .before .before .before .before .before .reply-to .ensures) .writable,
 )
 
--- src/lib.rt:24:1
 same-length : tie.Need-same-length
 same-length c = search needs
 
--- src/lib.rt:24:1
 returns-3 : tie.Need-returns-3
 returns-3 c =
     let r = subst (Replies _ _ _) (c .before .number .given .1) (c .before .before .before .reply-to .ensures) in
     meets _ _ _ _ _ _ _ (as-replied _ _ _ _ (c .before .before .before .before .before .before .if1 .left) (c .before .before .before .before .before .if2 .left) (Refused _) r)
 
--- src/lib.rt:24:1
 same-length-2 : tie.Need-same-length-2
 same-length-2 c = search needs
 
--- src/lib.rt:24:1
 same-length-3 : tie.Need-same-length-3
 same-length-3 c = search needs
 
--- src/lib.rt:24:1
 returns-4 : tie.Need-returns-4
 returns-4 c =
     let r = subst (Replies _ _ _) (c .before .before .before .before .before .before .before .before .instant .given .1) (c .before .before .before .before .before .before .before .before .before .before .reply-to .ensures) in

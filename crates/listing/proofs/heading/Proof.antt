@@ -1,5 +1,5 @@
 use mathlib.Core.Path.{refl}
-use Rattle.intake.specs.Demands.{cleared}
+use Rattle.demands.specs.Demands.{cleared}
 use Rattle.listing.specs.File.{sequenceIn, inputsIn}
 use Rattle.listing.specs.Stages as Listing
 use Rattle.listing.proofs.Lines.{shown}

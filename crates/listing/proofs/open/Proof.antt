@@ -1,6 +1,6 @@
 use mathlib.Core.Path.{subst}
 use Rattle.listing.specs.Stages as Listing
-use Rattle.listing.specs.Answers.{Shows}
+use Rattle.listing.specs.Answers.{Prints}
 use Rattle.listing.specs.declared.file.Opened.the-variants as opens
 use Rattle.listing.proofs.Pieces.{opened-by}
 use borrow.Author.Needs.{needs}
@@ -41,19 +41,19 @@ returns : tie.Need-returns
 returns c =
     let f = c .before .before .before .before .before .before .args .file .now in
     let o = c .before .before .before .before in
-    subst (λ (t : Listing.Turn). Shows f t (c .last .result)) (opened-by f (o .«open» .result) opens.Cut (o .«open» .ensures) (c .before .before .enum-told .given .1)) (c .last .ensures f)
+    subst (λ (t : Listing.Turn). Prints f t (c .last .result)) (opened-by f (o .«open» .result) opens.Cut (o .«open» .ensures) (c .before .before .enum-told .given .1)) (c .last .ensures f)
 
 returns-2 : tie.Need-returns-2
 returns-2 c =
     let f = c .before .before .before .before .before .before .args .file .now in
     let o = c .before .before .before .before in
-    subst (λ (t : Listing.Turn). Shows f t (c .refused .result)) (opened-by f (o .«open» .result) (opens.Refused (c .before .before .number .given .0 .0)) (o .«open» .ensures) (c .before .before .number .given .1)) (c .refused .ensures f)
+    subst (λ (t : Listing.Turn). Prints f t (c .refused .result)) (opened-by f (o .«open» .result) (opens.Refused (c .before .before .number .given .0 .0)) (o .«open» .ensures) (c .before .before .number .given .1)) (c .refused .ensures f)
 
 returns-3 : tie.Need-returns-3
 returns-3 c =
     let f = c .before .before .before .before .before .args .file .now in
     let o = c .before .before .before in
-    subst (λ (t : Listing.Turn). Shows f t (c .heading .result)) (opened-by f (o .«open» .result) opens.Runs (o .«open» .ensures) (c .before .enum-told2 .given .1)) (c .heading .ensures f)
+    subst (λ (t : Listing.Turn). Prints f t (c .heading .result)) (opened-by f (o .«open» .result) opens.Runs (o .«open» .ensures) (c .before .enum-told2 .given .1)) (c .heading .ensures f)
 
 pub open-spec : {M : Type 1} → statement M
 open-spec =

@@ -1,6 +1,6 @@
 use mathlib.Core.Path.{sym, ap, _∙_, subst}
 use Rattle.listing.specs.Stages as Listing
-use Rattle.listing.specs.Answers.{Shows}
+use Rattle.listing.specs.Answers.{Prints}
 use Prim.Native.Nat.{suc}
 use lib.ListN.{drop}
 use Rattle.listing.specs.File.{sequenceIn, inputsIn}
@@ -40,7 +40,7 @@ returns c =
     let a = c .before .before .before .before .before .before .args in
     let i = c .before .before .before .before .input-at in
     let f = a .file .now in
-    subst (λ (t : Listing.Turn). Shows f t (c .last .result))
+    subst (λ (t : Listing.Turn). Prints f t (c .last .result))
     (no-turn (sequenceIn f) (a .state) (suc (a .i)) (drop (a .i) (inputsIn f)) (sym (i .ensures) ∙ ap inputBy (c .before .before .enum-told .given .1))) (c .last .ensures f)
 
 returns-2 : tie.Need-returns-2

@@ -1,6 +1,6 @@
 use mathlib.Core.Path.{_∙_, subst}
 use Rattle.listing.specs.Stages as Listing
-use Rattle.listing.specs.Answers.{Shows}
+use Rattle.listing.specs.Answers.{Prints}
 use Rattle.listing.specs.declared.Stage.the-variants as stages
 use Rattle.listing.proofs.Pieces.{turn-by, turn-opening, turn-closing, turn-finished}
 use borrow.Author.Needs.{needs}
@@ -46,25 +46,25 @@ returns : tie.Need-returns
 returns c =
     let a = c .before .before .before .before .args in
     let f = a .file .now in
-    subst (λ (t : Listing.Turn). Shows f t (c .«open» .result)) (turn-opening f ∙ turn-by f (a .run) stages.Opening (c .before .enum-told .given .1)) (c .«open» .ensures)
+    subst (λ (t : Listing.Turn). Prints f t (c .«open» .result)) (turn-opening f ∙ turn-by f (a .run) stages.Opening (c .before .enum-told .given .1)) (c .«open» .ensures)
 
 returns-2 : tie.Need-returns-2
 returns-2 c =
     let a = c .before .before .before .before .before .before .args in
     let f = a .file .now in
-    subst (λ (t : Listing.Turn). Shows f t (c .step .result)) (turn-by f (a .run) (stages.Running (c .before .before .before .stage .given .0 .0)) (c .before .before .before .stage .given .1)) (c .step .ensures)
+    subst (λ (t : Listing.Turn). Prints f t (c .step .result)) (turn-by f (a .run) (stages.Running (c .before .before .before .stage .given .0 .0)) (c .before .before .before .stage .given .1)) (c .step .ensures)
 
 returns-3 : tie.Need-returns-3
 returns-3 c =
     let a = c .before .before .before .before .before .args in
     let f = a .file .now in
-    subst (λ (t : Listing.Turn). Shows f t (c .last .result)) (turn-closing ∙ turn-by f (a .run) stages.Closing (c .before .before .enum-told2 .given .1)) (c .last .ensures f)
+    subst (λ (t : Listing.Turn). Prints f t (c .last .result)) (turn-closing ∙ turn-by f (a .run) stages.Closing (c .before .before .enum-told2 .given .1)) (c .last .ensures f)
 
 returns-4 : tie.Need-returns-4
 returns-4 c =
     let a = c .before .before .before .before .before .args in
     let f = a .file .now in
-    subst (λ (t : Listing.Turn). Shows f t (c .last2 .result)) (turn-finished ∙ turn-by f (a .run) stages.Finished (c .before .before .enum-told3 .given .1)) (c .last2 .ensures f)
+    subst (λ (t : Listing.Turn). Prints f t (c .last2 .result)) (turn-finished ∙ turn-by f (a .run) stages.Finished (c .before .before .enum-told3 .given .1)) (c .last2 .ensures f)
 
 pub turn-spec : {M : Type 1} → statement M
 turn-spec =

@@ -1,69 +1,58 @@
 use mathlib.Core.Path.{sym, _∙_, subst}
 use borrow.Author.Needs.{needs}
-use Rattle.checks.specs.Activity.{ValidityOf}
+use Rattle.validity.specs.Activity.{ValidityOf}
 use Rattle.intake.proofs.Standing.{waiting-as, waiting-invalid, is-fresh, is-over, other-phase, stray-labels}
 use Rattle.intake.proofs.tick.decode.Statement.{statement}
 use Rattle.intake.proofs.tick.decode.Tie as tie
 use Rattle.intake.proofs.tick.decode.Reads as reads
 use Rattle.intake.proofs.tick.decode.Lts as lts
-use Rattle.checks.proofs.activity.validity_of.Reads as validity-of-reads
-use Rattle.intake.proofs.records.labels_in.Reads as labels-in-reads
+use Rattle.validity.proofs.activity.validity_of.Reads as validity-of-reads
+use Rattle.records.proofs.state.labels.Reads as labels-reads
+use Rattle.records.proofs.state.phase.Reads as phase-reads
 use Rattle.sets.proofs.labels.is_empty.Reads as is-empty-reads
 
--- src/tick.rt:28:17
-shared-slice-read-phase : tie.Need-shared-slice-read-phase
-shared-slice-read-phase c = search needs
+phase-requires : tie.Need-phase-requires
+phase-requires c κs = search needs
 
--- src/tick.rt:29:9
-labels-in-requires : tie.Need-labels-in-requires
-labels-in-requires c κs = search needs
+labels-requires : tie.Need-labels-requires
+labels-requires c κs = search needs
 
--- src/tick.rt:31:22
 validity-of-requires : tie.Need-validity-of-requires
 validity-of-requires c κs = search needs
 
--- src/tick.rt:32:29
 enum-known-active : tie.Need-enum-known-active
 enum-known-active c = search needs
 
--- src/tick.rt:33:34
 enum-told : tie.Need-enum-told
 enum-told c = search needs
 
--- src/tick.rt:31:9
 returns : tie.Need-returns
-returns c p k = waiting-as p _ _ (c .before .before .before .before .before .labels-in .ensures) (c .before .before .before .before .if1 .taken) _ (subst (ValidityOf p _) (c .before .active .given .1) (c .before .before .before .validity-of .ensures p k))
+returns c p k = waiting-as p _ _ _ (c .before .before .before .before .before .before .phase .ensures) (c .before .before .before .before .before .labels .ensures) (c .before .before .before .before .if1 .taken) _ (subst (ValidityOf p _) (c .before .active .given .1) (c .before .before .before .validity-of .ensures p k))
 
--- src/tick.rt:31:9
 returns-2 : tie.Need-returns-2
-returns-2 c p k = waiting-invalid p _ _ (c .before .before .before .before .labels-in .ensures) (c .before .before .before .if1 .taken) (subst (ValidityOf p _) (c .enum-told .given .1) (c .before .before .validity-of .ensures p k))
+returns-2 c p k = waiting-invalid p _ _ _ (c .before .before .before .before .before .phase .ensures) (c .before .before .before .before .labels .ensures) (c .before .before .before .if1 .taken) (subst (ValidityOf p _) (c .enum-told .given .1) (c .before .before .validity-of .ensures p k))
 
--- src/tick.rt:36:8
 is-empty-requires : tie.Need-is-empty-requires
 is-empty-requires c κs = search needs
 
--- src/tick.rt:38:13
 returns-3 : tie.Need-returns-3
-returns-3 c p k = is-fresh p _ _ (c .before .before .before .before .labels-in .ensures) (c .before .before .before .if1 .left) (c .if3 .taken) (sym (c .before .before .is-empty .ensures) ∙ c .before .if2 .taken)
+returns-3 c p k = is-fresh p _ _ _ (c .before .before .before .before .before .phase .ensures) (c .before .before .before .before .labels .ensures) (c .before .before .before .if1 .left) (c .if3 .taken) (sym (c .before .before .is-empty .ensures) ∙ c .before .if2 .taken)
 
--- src/tick.rt:41:13
 returns-4 : tie.Need-returns-4
-returns-4 c p k = is-over p _ _ (c .before .before .before .before .before .labels-in .ensures) (c .before .before .before .before .if1 .left) (c .if4 .taken) (sym (c .before .before .before .is-empty .ensures) ∙ c .before .before .if2 .taken)
+returns-4 c p k = is-over p _ _ _ (c .before .before .before .before .before .before .phase .ensures) (c .before .before .before .before .before .labels .ensures) (c .before .before .before .before .if1 .left) (c .if4 .taken) (sym (c .before .before .before .is-empty .ensures) ∙ c .before .before .if2 .taken)
 
--- src/tick.rt:24:1
 returns-5 : tie.Need-returns-5
-returns-5 c p k = other-phase p _ _ (c .before .before .before .before .before .labels-in .ensures) (c .before .before .before .before .if1 .left) (c .before .if3 .left) (c .if4 .left)
+returns-5 c p k = other-phase p _ _ _ (c .before .before .before .before .before .before .phase .ensures) (c .before .before .before .before .before .labels .ensures) (c .before .before .before .before .if1 .left) (c .before .if3 .left) (c .if4 .left)
 
--- src/tick.rt:24:1
 returns-6 : tie.Need-returns-6
-returns-6 c p k = stray-labels p _ _ (c .before .before .before .labels-in .ensures) (c .before .before .if1 .left) (sym (c .before .is-empty .ensures) ∙ c .if2 .left)
+returns-6 c p k = stray-labels p _ _ _ (c .before .before .before .before .phase .ensures) (c .before .before .before .labels .ensures) (c .before .before .if1 .left) (sym (c .before .is-empty .ensures) ∙ c .if2 .left)
 
 pub decode-spec : {M : Type 1} → statement M
 decode-spec =
     tie.close
     (tie.spec
-    shared-slice-read-phase
-    labels-in-requires
+    phase-requires
+    labels-requires
     validity-of-requires
     enum-known-active
     enum-told

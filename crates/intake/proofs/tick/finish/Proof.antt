@@ -1,17 +1,18 @@
 use native.Mathlib.Omega.{arith}
 use mathlib.Core.Path.{ap, ap₂, _∙_, subst}
 use Rattle.rules.specs.declared.instant.Completion.the-variants.{Ended, Waiting, Leaving, Wrong}
-use Rattle.intake.specs.Records.{stateRecord}
-use Rattle.intake.specs.Tick.{outcome}
+use Rattle.records.specs.Records.{stateRecord}
+use Rattle.demands.specs.Tick.{outcome}
 use Rattle.intake.specs.Standing.{WritableCode}
 use Rattle.intake.proofs.Standing.{arm}
+use Rattle.records.proofs.Stores.{state-replaced, answer-replaced}
 use borrow.Author.Needs.{needs}
 use Rattle.intake.proofs.tick.finish.Statement.{statement}
 use Rattle.intake.proofs.tick.finish.Tie as tie
 use Rattle.intake.proofs.tick.finish.Reads as reads
 use Rattle.intake.proofs.tick.finish.Lts as lts
-use Rattle.intake.proofs.records.write_answer.Reads as write-answer-reads
-use Rattle.intake.proofs.records.write_state.Reads as write-state-reads
+use Rattle.records.proofs.answer.write_answer.Reads as write-answer-reads
+use Rattle.records.proofs.state.write_state.Reads as write-state-reads
 use Rattle.sets.proofs.labels.empty.Reads as empty-reads
 
 enum-told : tie.Need-enum-told
@@ -71,8 +72,9 @@ same-length-2 c = search needs
 
 returns : tie.Need-returns
 returns c =
+    let s = c .before .before .before .before .before .before .before .before .before .before .before .before .before .before in
     arm _ Ended _ _ _ (c .before .before .before .before .before .before .before .before .before .enum-told .given .1)
-    (ap₂ (outcome 0) (c .before .before .before .before .before .before .write-state .ensures ∙ ap (stateRecord 2) (c .before .before .before .before .before .before .before .empty .ensures)) (c .before .before .write-answer .ensures))
+    (ap₂ (outcome 0) (c .before .before .before .before .before .before .write-state .ensures ∙ state-replaced (s .args .state .now) _ _ (s .pre .0) ∙ ap (stateRecord 2) (c .before .before .before .before .before .before .before .empty .ensures)) (c .before .before .write-answer .ensures ∙ answer-replaced (s .args .answer .now) _ _ _ _ (s .pre .1)))
 
 same-length-3 : tie.Need-same-length-3
 same-length-3 c = search needs
@@ -82,7 +84,8 @@ same-length-4 c = search needs
 
 returns-2 : tie.Need-returns-2
 returns-2 c =
-    arm _ Waiting _ _ _ (c .before .before .before .before .before .before .before .before .enum-told2 .given .1) (ap₂ (outcome 0) (c .before .before .before .before .before .before .write-state2 .ensures) (c .before .before .write-answer2 .ensures))
+    let s = c .before .before .before .before .before .before .before .before .before .before .before .before .before in
+    arm _ Waiting _ _ _ (c .before .before .before .before .before .before .before .before .enum-told2 .given .1) (ap₂ (outcome 0) (c .before .before .before .before .before .before .write-state2 .ensures ∙ state-replaced (s .args .state .now) _ _ (s .pre .0)) (c .before .before .write-answer2 .ensures ∙ answer-replaced (s .args .answer .now) _ _ _ _ (s .pre .1)))
 
 same-length-5 : tie.Need-same-length-5
 same-length-5 c = search needs
@@ -92,8 +95,9 @@ same-length-6 c = search needs
 
 returns-3 : tie.Need-returns-3
 returns-3 c =
+    let s = c .before .before .before .before .before .before .before .before .before .before .before .before .before .before .before in
     arm _ (Leaving (c .before .before .before .before .before .before .before .before .before .before .k .given .0 .0)) _ _ _ (c .before .before .before .before .before .before .before .before .before .before .k .given .1)
-    (ap₂ (outcome 0) (c .before .before .before .before .before .before .write-state3 .ensures ∙ ap (stateRecord 2) (c .before .before .before .before .before .before .before .empty2 .ensures)) (c .before .before .write-answer3 .ensures))
+    (ap₂ (outcome 0) (c .before .before .before .before .before .before .write-state3 .ensures ∙ state-replaced (s .args .state .now) _ _ (s .pre .0) ∙ ap (stateRecord 2) (c .before .before .before .before .before .before .before .empty2 .ensures)) (c .before .before .write-answer3 .ensures ∙ answer-replaced (s .args .answer .now) _ _ _ _ (s .pre .1)))
 
 same-length-7 : tie.Need-same-length-7
 same-length-7 c = search needs
@@ -103,8 +107,9 @@ same-length-8 c = search needs
 
 returns-4 : tie.Need-returns-4
 returns-4 c =
+    let s = c .before .before .before .before .before .before .before .before .before .before .before .before .before .before .before in
     arm _ (Wrong (c .before .before .before .before .before .before .before .before .before .before .k2 .given .0 .0) (c .before .before .before .before .before .before .before .before .before .before .k2 .given .0 .1 .0)) _ _ _ (c .before .before .before .before .before .before .before .before .before .before .k2 .given .1)
-    (ap₂ (outcome 0) (c .before .before .before .before .before .before .write-state4 .ensures ∙ ap (stateRecord 2) (c .before .before .before .before .before .before .before .empty3 .ensures)) (c .before .before .write-answer4 .ensures))
+    (ap₂ (outcome 0) (c .before .before .before .before .before .before .write-state4 .ensures ∙ state-replaced (s .args .state .now) _ _ (s .pre .0) ∙ ap (stateRecord 2) (c .before .before .before .before .before .before .before .empty3 .ensures)) (c .before .before .write-answer4 .ensures ∙ answer-replaced (s .args .answer .now) _ _ _ _ (s .pre .1)))
 
 pub finish-spec : {M : Type 1} → statement M
 finish-spec =

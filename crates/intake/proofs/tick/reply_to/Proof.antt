@@ -11,61 +11,48 @@ use Rattle.intake.proofs.tick.decode.Reads as decode-reads
 use Rattle.react.proofs.react.react.Reads as react-reads
 use Rattle.resume.proofs.resume.resume.Reads as resume-reads
 
--- src/tick.rt:60:9
 check-requires : tie.Need-check-requires
 check-requires c κs = search needs
 
--- src/tick.rt:62:9
 returns : tie.Need-returns
 returns c = refused _ _ _ _ (c .before .check .ensures .number) (c .if1 .taken)
 
--- src/tick.rt:64:11
 decode-requires : tie.Need-decode-requires
-decode-requires c κs = (search needs, as-sound (passed _ _ _ _ (c .before .before .before .check .ensures) (c .before .before .if1 .left)))
+decode-requires c κs = as-sound (passed _ _ _ _ (c .before .before .before .check .ensures) (c .before .before .if1 .left))
 
--- src/tick.rt:65:32
 enum-told : tie.Need-enum-told
 enum-told c = search needs
 
--- src/tick.rt:66:27
 enum-told-2 : tie.Need-enum-told-2
 enum-told-2 c = search needs
 
--- src/tick.rt:67:87
 enum-told-3 : tie.Need-enum-told-3
 enum-told-3 c = search needs
 
--- src/tick.rt:67:43
 react-requires : tie.Need-react-requires
 react-requires c κs = as-ready (passed _ _ _ _ (c .before .before .before .before .before .before .before .check .ensures) (c .before .before .before .before .before .before .if1 .left))
 
--- src/tick.rt:68:27
 enum-known-active : tie.Need-enum-known-active
 enum-known-active c = search needs
 
--- src/tick.rt:68:53
 resume-requires : tie.Need-resume-requires
 resume-requires c κs = as-ready (passed _ _ _ _ (c .before .before .before .before .before .before .before .before .check .ensures) (c .before .before .before .before .before .before .before .if1 .left))
 
--- src/tick.rt:54:1
 returns-2 : tie.Need-returns-2
 returns-2 c =
     let h = (passed _ _ _ _ (c .before .before .before .before .before .before .check .ensures) (c .before .before .before .before .before .if1 .left)) in
     malformed-reply _ _ _ (h .p) (h .is) (h .ranged) (subst (Decodes (h .p) _) (c .enum-told .given .1) (c .before .before .decode .ensures (h .p) (h .known)))
 
--- src/tick.rt:54:1
 returns-3 : tie.Need-returns-3
 returns-3 c =
     let h = (passed _ _ _ _ (c .before .before .before .before .before .before .check .ensures) (c .before .before .before .before .before .if1 .left)) in
     over-reply _ _ _ (h .p) (h .is) (h .ranged) (subst (Decodes (h .p) _) (c .enum-told2 .given .1) (c .before .before .decode .ensures (h .p) (h .known)))
 
--- src/tick.rt:54:1
 returns-4 : tie.Need-returns-4
 returns-4 c =
     let h = (passed _ _ _ _ (c .before .before .before .before .before .before .before .before .check .ensures) (c .before .before .before .before .before .before .before .if1 .left)) in
     fresh-reply _ _ _ (h .p) (h .is) (h .ranged) _ (subst (Decodes (h .p) _) (c .before .before .enum-told3 .given .1) (c .before .before .before .before .decode .ensures (h .p) (h .known))) (c .react .ensures 0 (h .p) (h .known .lies))
 
--- src/tick.rt:54:1
 returns-5 : tie.Need-returns-5
 returns-5 c =
     let h = (passed _ _ _ _ (c .before .before .before .before .before .before .before .before .before .check .ensures) (c .before .before .before .before .before .before .before .before .if1 .left)) in

@@ -5,7 +5,7 @@ use Rattle.listing.proofs.file.input_at.Statement.{statement}
 use Rattle.listing.proofs.file.input_at.Tie as tie
 use Rattle.listing.proofs.file.input_at.Reads as reads
 use Rattle.listing.proofs.file.input_at.Lts as lts
-use Rattle.intake.proofs.le.get_le.Reads as get-le-reads
+use Rattle.records.proofs.le.get_le.Reads as get-le-reads
 use Rattle.listing.proofs.file.sequence_length.Reads as sequence-length-reads
 
 sequence-length-requires : tie.Need-sequence-length-requires

@@ -4,7 +4,7 @@ use Rattle.listing.proofs.file.sequence.Statement.{statement}
 use Rattle.listing.proofs.file.sequence.Tie as tie
 use Rattle.listing.proofs.file.sequence.Reads as reads
 use Rattle.listing.proofs.file.sequence.Lts as lts
-use Rattle.listing.proofs.file.part.Reads as part-reads
+use Rattle.records.proofs.le.part.Reads as part-reads
 use Rattle.listing.proofs.file.sequence_length.Reads as sequence-length-reads
 
 sequence-length-requires : tie.Need-sequence-length-requires

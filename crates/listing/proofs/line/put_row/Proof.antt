@@ -1,4 +1,4 @@
-use mathlib.Core.Path.{subst}
+use mathlib.Core.Path.{_∙_, subst}
 use mathlib.Core.List.{List}
 use Prim.Native.Nat.{ℕ}
 use Rattle.listing.specs.Buffer.{lineLength, Prepended}
@@ -9,24 +9,44 @@ use Rattle.listing.proofs.line.put_row.Statement.{statement}
 use Rattle.listing.proofs.line.put_row.Tie as tie
 use Rattle.listing.proofs.line.put_row.Reads as reads
 use Rattle.listing.proofs.line.put_row.Lts as lts
-use Rattle.intake.proofs.le.get_le.Reads as get-le-reads
 use Rattle.listing.proofs.line.put_numbers.Reads as put-numbers-reads
 use Rattle.listing.proofs.line.put_sets.Reads as put-sets-reads
+use Rattle.records.proofs.answer.code.Reads as code-reads
+use Rattle.records.proofs.answer.emitted.Reads as emitted-reads
+use Rattle.records.proofs.answer.kind.Reads as kind-reads
+use Rattle.records.proofs.answer.place.Reads as place-reads
+use Rattle.records.proofs.state.labels.Reads as labels-reads
+use Rattle.sets.proofs.labels.bits.Reads as bits-reads
 
-get-le-requires : tie.Need-get-le-requires
-get-le-requires c κs = search needs
+labels-requires : tie.Need-labels-requires
+labels-requires c κs = search needs
 
-get-le-requires-2 : tie.Need-get-le-requires-2
-get-le-requires-2 c κs = search needs
+bits-requires : tie.Need-bits-requires
+bits-requires c κs = search needs
 
-get-le-requires-3 : tie.Need-get-le-requires-3
-get-le-requires-3 c κs = search needs
+emitted-requires : tie.Need-emitted-requires
+emitted-requires c κs = search needs
 
-get-le-requires-4 : tie.Need-get-le-requires-4
-get-le-requires-4 c κs = search needs
+cast-emitted : tie.Need-cast-emitted
+cast-emitted c = search needs
 
-get-le-requires-5 : tie.Need-get-le-requires-5
-get-le-requires-5 c κs = search needs
+place-requires : tie.Need-place-requires
+place-requires c κs = search needs
+
+cast-place : tie.Need-cast-place
+cast-place c = search needs
+
+kind-requires : tie.Need-kind-requires
+kind-requires c κs = search needs
+
+cast-kind : tie.Need-cast-kind
+cast-kind c = search needs
+
+code-requires : tie.Need-code-requires
+code-requires c κs = search needs
+
+cast-code : tie.Need-cast-code
+cast-code c = search needs
 
 put-sets-requires : tie.Need-put-sets-requires
 put-sets-requires c κs = search needs
@@ -40,17 +60,14 @@ same-length c = search needs
 returns : tie.Need-returns
 returns c =
     let g = c .before .before .before .before .before .before .before .before in
-    let a = c .before .before .before .before .before .before .before .before .before .before .before .before .before .before .before .before .args in
-    let p = c .before .before .before .before .before .before .before .before .before .before .before .before .before .before .before .before .pre in
-    let fields : Fields (a .state .now) (a .answer .now) (g .before .before .before .before .get-le .result) (g .before .before .before .get-le2 .result) (g .before .before .get-le3 .result) (g .before .get-le4 .result) (g .get-le5 .result)
+    let a = g .before .before .before .before .before .before .before .before .before .args in
+    let fields : Fields (a .state .now) (a .answer .now) (g .before .before .before .before .bits .result) (g .before .before .before .emitted .result) (g .before .before .place .result) (g .before .kind .result) (g .code .result)
     = record {
-      states = p .1;
-      answers = p .2;
-      labels-are = g .before .before .before .before .get-le .ensures .0;
-      emitted-are = g .before .before .before .get-le2 .ensures .0;
-      place-is = g .before .before .get-le3 .ensures .0;
-      kind-is = g .before .get-le4 .ensures .0;
-      code-is = g .get-le5 .ensures .0;
+      labels-are = g .before .before .before .before .bits .ensures ∙ g .before .before .before .before .before .labels .ensures;
+      emitted-are = g .before .before .before .emitted .ensures;
+      place-is = g .before .before .place .ensures;
+      kind-is = g .before .kind .ensures;
+      code-is = g .code .ensures;
     } in
     subst (λ (t : List ℕ). Prepended (a .line .now) lineLength t (c .before .before .put-numbers .last .0) (c .before .before .put-numbers .result)) (row-text (a .instant) fields)
     (before (c .before .before .before .before .before .before .put-sets .ensures .0) (c .before .before .put-numbers .ensures))
@@ -59,11 +76,16 @@ pub put-row-spec : {M : Type 1} → statement M
 put-row-spec =
     tie.close
     (tie.spec
-    get-le-requires
-    get-le-requires-2
-    get-le-requires-3
-    get-le-requires-4
-    get-le-requires-5
+    labels-requires
+    bits-requires
+    emitted-requires
+    cast-emitted
+    place-requires
+    cast-place
+    kind-requires
+    cast-kind
+    code-requires
+    cast-code
     put-sets-requires
     put-numbers-requires
     same-length

@@ -1,11 +1,11 @@
-use mathlib.Core.Path.{refl, sym, _∙_}
+use mathlib.Core.Path.{sym, _∙_}
 use native.Mathlib.Omega.{arith}
 use borrow.Author.Needs.{needs}
 use borrow.Author.Tests.{ltb-true}
 use Rattle.esterel.specs.Statement.{seq, par, loop, present, signal, try}
 use Rattle.esterel.specs.Resume.{start}
 use Rattle.sequence.specs.Commands.{Command}
-use Rattle.sequence.proofs.Laid.{ready, taken, begins, last}
+use Rattle.reading.proofs.Laid.{ready, taken, begins, last}
 use Rattle.rules.proofs.Combining.{seq-stops}
 use Rattle.react.proofs.Steps.{
   nothing-step,
@@ -309,12 +309,12 @@ react-returns t c base p l = nothing-step p _ _ (taken (c .before .before .befor
 react-returns-2 : (t : ℕ) → react-lts.Need-returns-2 (react-claims t) (react-at t) react.Post
 react-returns-2 t c base p l =
     let y = taken (c .before .before .before .before .before .pre .1) base p l Command.pause (c .before .before .match .keys2) in
-    pause-step p _ _ _ (ltb-true _ _ (y .ranged refl)) (c .pausing .ensures) (y .parts)
+    pause-step p _ _ _ (ltb-true _ _ (y .ranged)) (c .pausing .ensures) (y .parts)
 
 react-returns-3 : (t : ℕ) → react-lts.Need-returns-3 (react-claims t) (react-at t) react.Post
 react-returns-3 t c base p l =
     let y = taken (c .before .before .before .before .before .before .pre .1) base p l Command.emit (c .before .before .before .match .keys3) in
-    emit-step p _ _ _ _ (y .parts) (ltb-true _ _ (y .ranged refl)) (c .before .single .ensures) (c .ending2 .ensures)
+    emit-step p _ _ _ _ (y .parts) (ltb-true _ _ (y .ranged)) (c .before .single .ensures) (c .ending2 .ensures)
 
 react-returns-4 : (t : ℕ) → react-lts.Need-returns-4 (react-claims t) (react-at t) react.Post
 react-returns-4 t c base p l = exit-step p _ _ _ (taken (c .before .before .before .before .before .pre .1) base p l Command.exit (c .before .before .match .keys4) .parts) (c .leaving .ensures)
@@ -340,7 +340,7 @@ react-returns-10 t c base p l = c .try-part .ensures base p l
 react-returns-11 : (t : ℕ) → react-lts.Need-returns-11 (react-claims t) (react-at t) react.Post
 react-returns-11 t c base p l =
     let y = taken (c .before .before .before .before .before .pre .1) base p l Command.setpause (last (c .before .before .before .before .before .pre .1) (c .before .before .match .rest)) in
-    setpause-step p _ _ _ (ltb-true _ _ (y .ranged refl)) (c .pausing2 .ensures) (y .parts)
+    setpause-step p _ _ _ (ltb-true _ _ (y .ranged)) (c .pausing2 .ensures) (y .parts)
 
 seq-parts-element-copy-out-m : (t : ℕ) → seq-parts-lts.Need-element-copy-out-m (seq-parts-claims t) (seq-parts-at t) seq-parts.Post
 seq-parts-element-copy-out-m t c = omega (arith, c .before .pre .1 .0 .long, c .before .pre .1 .0 .fits, c .before .pre .1 .0 .bytes)
@@ -374,7 +374,7 @@ signal-rule-returns t c base p l =
     let y = taken (c .before .before .before .before .before .before .before .pre .1 .0) base p l Command.signal (c .before .before .before .before .before .before .before .pre .1 .1) in
     let q = y .parts .0 in
     here (signal _ _ q) p _ (y .parts .1 .0)
-    (signal-step _ _ _ q (ltb-true _ _ (y .ranged refl)) (c .before .before .before .before .without .ensures) (c .before .before .before .part .ensures base q (y .parts .1 .1)) (c .before .before .with .ensures)
+    (signal-step _ _ _ q (ltb-true _ _ (y .ranged)) (c .before .before .before .before .without .ensures) (c .before .before .before .part .ensures base q (y .parts .1 .1)) (c .before .before .with .ensures)
     (c .before .part2 .ensures base q (y .parts .1 .1)) (c .in-signal .ensures))
 
 try-part-part-requires : (t : ℕ) → try-part-lts.Need-part-requires (try-part-claims t) (try-part-at t) try-part.Post

@@ -1,10 +1,10 @@
-use mathlib.Core.Path.{refl, sym, _∙_}
+use mathlib.Core.Path.{sym, _∙_}
 use native.Mathlib.Omega.{arith}
 use borrow.Author.Needs.{needs}
 use borrow.Author.Tests.{ltb-true}
 use Rattle.esterel.specs.Statement.{seq, par, loop, present, signal, try}
 use Rattle.sequence.specs.Commands.{Command}
-use Rattle.sequence.proofs.Laid.{ready, whole, whole-lies, taken, begins}
+use Rattle.reading.proofs.Laid.{ready, whole, whole-lies, taken, begins}
 use Rattle.resume.proofs.Steps.{
   here,
   seq-first,
@@ -351,7 +351,7 @@ signal-rule-returns t c base p l =
     let y = taken (c .before .before .before .before .before .before .before .pre .1 .0) base p l Command.signal (c .before .before .before .before .before .before .before .pre .1 .1) in
     let q = y .parts .0 in
     here base _ _ (signal _ _ q) p (y .parts .1 .0)
-    (signal-step base _ _ q _ _ (ltb-true _ _ (y .ranged refl)) (c .before .before .before .before .without .ensures) (c .before .before .before .part .ensures base q (y .parts .1 .1)) (c .before .before .with .ensures)
+    (signal-step base _ _ q _ _ (ltb-true _ _ (y .ranged)) (c .before .before .before .before .without .ensures) (c .before .before .before .part .ensures base q (y .parts .1 .1)) (c .before .before .with .ensures)
     (c .before .part2 .ensures base q (y .parts .1 .1)) (c .in-signal .ensures))
 
 try-part-part-requires : (t : ℕ) → try-part-lts.Need-part-requires (try-part-claims t) (try-part-at t) try-part.Post

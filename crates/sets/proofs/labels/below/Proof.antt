@@ -6,11 +6,14 @@ use borrow.Author.Needs.{needs}
 use Rattle.sets.proofs.labels.below.Statement.{statement}
 use Rattle.sets.proofs.labels.below.Tie as tie
 
-shl-t6 : tie.Need-shl-t6
-shl-t6 c = search needs
+cast-if1 : tie.Need-cast-if1
+cast-if1 c = search needs
 
-sub-t7 : tie.Need-sub-t7
-sub-t7 c = let k = c .before .args .k in omega (arith, shifted 64 k (search needs), pow-pos k)
+shl-t7 : tie.Need-shl-t7
+shl-t7 c = search needs
+
+sub-t8 : tie.Need-sub-t8
+sub-t8 c = let k = c .before .args .k in omega (arith, shifted 64 k (search needs), pow-pos k)
 
 returns : tie.Need-returns
 unfolding labelSet
@@ -21,4 +24,4 @@ unfolding labelSet
 returns-2 c = all-below 64 _ _ (search needs) (search needs)
 
 pub below-spec : {M : Type 1} → statement M
-below-spec = tie.close (tie.spec shl-t6 sub-t7 returns returns-2)
+below-spec = tie.close (tie.spec cast-if1 shl-t7 sub-t8 returns returns-2)

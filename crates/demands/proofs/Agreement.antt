@@ -1,0 +1,125 @@
+-- DEMAND 3: over any list of ticks from a cleared record, the ticks of an accepted sequence without setpause report what the
+-- paper machine reports.
+use Prim.Native.Nat.{ℕ}
+use mathlib.Core.Path.{_≡_, refl, ap, ap₂, _∙_, subst}
+use mathlib.Core.Bool.{Bool, true, false, cond}
+use mathlib.Core.List.{List, [], _∷_, map}
+use lib.ListN.{length}
+use lib.Dec.{eqb}
+use borrow.Author.Tests.{eqb-true, eqb-false}
+use Rattle.esterel.specs.Sets.{none}
+use Rattle.esterel.specs.Statement.{Statement}
+use Rattle.esterel.specs.Reaction.{react}
+use Rattle.esterel.specs.Errors.{firstError}
+use Rattle.esterel.specs.States.{NoSetpause}
+use Rattle.esterel.specs.Expansion.{expand}
+use Rattle.esterel.specs.Machines.{State, stateAfter, Rewriting, byRewriting}
+use Rattle.esterel.proofs.Agreement.{TermOf, step}
+use Rattle.sequence.specs.Check.{checkOf}
+use Rattle.records.specs.Bytes.{leBytes}
+use Rattle.records.specs.Records.{answerLength, holds, encodeState, phaseIn}
+use Rattle.demands.specs.Tick.{Outcome, outcome, byState, tickOf}
+use Rattle.demands.specs.Paper.{Call, Report, turnedDown, phaseOf, reportOf, paperTick, paper}
+use Rattle.demands.specs.Demands.{stateAfterwards, outcomes, cleared, report, Demand3}
+use Rattle.records.proofs.RecordLaws.{Recorded, length-state, decode-encode}
+use Rattle.demands.proofs.Reports.{report-written}
+use Rattle.demands.proofs.Sequence.{same-statement, Accepted, accepted, tick-at, tick-short, recorded-fresh, recorded-resumed, emits-fresh, emits-resumed}
+
+module _ (sequence : List ℕ) (a : Accepted sequence) (plain : NoSetpause (a .statement)) where
+  abbrev p : Statement
+  p = a .statement
+
+  -- the record after a tick and the paper after it are related as before
+  pub record Related (result : Outcome) (shown : Report × Rewriting) : Type 0 where
+    pub state : State
+    pub same : report result ≡ shown .0
+    pub bytes : stateAfterwards result ≡ encodeState state
+    pub term : TermOf p state (shown .1)
+    pub recorded : Recorded p state
+
+  same-phase : (s : State) (w : Rewriting) → TermOf p s w → phaseIn (encodeState s) ≡ phaseOf w
+  unfolding encodeState
+  same-phase State.fresh (Rewriting.fresh t) h = refl
+  same-phase State.fresh (Rewriting.waits t) h = absurd h
+  same-phase State.fresh Rewriting.over h = absurd h
+  same-phase (State.waits L) (Rewriting.fresh t) h = absurd h
+  same-phase (State.waits L) (Rewriting.waits t) h = refl
+  same-phase (State.waits L) Rewriting.over h = absurd h
+  same-phase State.over (Rewriting.fresh t) h = absurd h
+  same-phase State.over (Rewriting.waits t) h = absurd h
+  same-phase State.over Rewriting.over h = refl
+
+  -- an answer buffer of another length: number 1, nothing changes
+  short-related : (s : State) (w : Rewriting) → TermOf p s w → Recorded p s → (buffer : List ℕ)
+      → Related (outcome 1 (encodeState s) buffer) (turnedDown 1 (phaseOf w), w)
+  short-related s w h r buffer =
+      record { state = s; same = ap (turnedDown 1) (same-phase s w h); bytes = refl; term = h; recorded = r }
+
+  tick-related : (s : State) (w : Rewriting) → TermOf p s w → Recorded p s → (e : ℕ) (buffer : List ℕ)
+      → Related (byState p (holds s) (encodeState s) e buffer) (reportOf (byRewriting w e .0), byRewriting w e .1)
+  tick-related State.fresh w h r e buffer =
+      let t = step p (a .distinct) plain State.fresh w h e in
+      record {
+        state = stateAfter (react p e);
+        same = report-written (react p e) (firstError p e) (emits-fresh sequence a e) ∙ ap reportOf (t .0);
+        bytes = refl;
+        term = t .1;
+        recorded = recorded-fresh sequence a e;
+      }
+  tick-related (State.waits L) w h r e buffer =
+      let t = step p (a .distinct) plain (State.waits L) w h e in
+      record {
+        state = stateAfter (react (expand p L) e);
+        same = report-written (react (expand p L) e) (firstError (expand p L) e) (emits-resumed sequence a L e) ∙ ap reportOf (t .0);
+        bytes = refl;
+        term = t .1;
+        recorded = recorded-resumed sequence a L e;
+      }
+  tick-related State.over w h r e buffer =
+      let t = step p (a .distinct) plain State.over w h e in
+      record {
+        state = State.over;
+        same = over-report ∙ ap reportOf (t .0);
+        bytes = refl;
+        term = t .1;
+        recorded = tt;
+      }
+    where
+      over-report : turnedDown 12 (phaseIn (encodeState State.over)) ≡ turnedDown 12 2
+      over-report = ap (turnedDown 12) (same-phase State.over Rewriting.over tt)
+
+  one-tick : (s : State) (w : Rewriting) → TermOf p s w → Recorded p s → (c : Call)
+      → Related (tickOf sequence (encodeState s) (c .input) (c .buffer)) (paperTick w (c .input) (length (c .buffer)))
+  one-tick s w h r c = go (eqb (length (c .buffer)) answerLength) refl
+    where
+      go : (b : Bool) → eqb (length (c .buffer)) answerLength ≡ b
+          → Related (tickOf sequence (encodeState s) (c .input) (c .buffer))
+          (cond b (reportOf (byRewriting w (c .input) .0), byRewriting w (c .input) .1) (turnedDown 1 (phaseOf w), w))
+      go true i =
+          rw (tick-at sequence (encodeState s) (c .input) (c .buffer) p (holds s) (a .is-checked) (length-state s)
+          (eqb-true (length (c .buffer)) answerLength i) (decode-encode p s r))
+          (tick-related s w h r (c .input) (c .buffer))
+      go false i =
+          rw (tick-short sequence (encodeState s) (c .input) (c .buffer) (eqb-false (length (c .buffer)) answerLength i))
+          (short-related s w h r (c .buffer))
+
+  pub all-ticks : (calls : List Call) (s : State) (w : Rewriting) → TermOf p s w → Recorded p s
+      → map report (outcomes tickOf sequence (encodeState s) calls) ≡ paper w calls
+  unfolding outcomes paper
+  all-ticks [] s w h r = refl
+  all-ticks (c ∷ calls) s w h r =
+      let x = one-tick s w h r c in
+      ap₂ {B = List Report} {C = List Report} _∷_ (x .same)
+      (rw (x .bytes) (all-ticks calls (x .state) (paperTick w (c .input) (length (c .buffer)) .1) (x .term) (x .recorded)))
+
+cleared-fresh : cleared ≡ encodeState State.fresh
+unfolding encodeState leBytes none
+cleared-fresh = refl
+
+-- DEMAND 3
+pub demand-3 : Demand3 checkOf tickOf
+demand-3 sequence h p s plain calls =
+    let a = accepted sequence h in
+    let same : p ≡ a .statement = same-statement sequence p (a .statement) s (a .spelled) in
+    rw (cleared-fresh, same)
+    (all-ticks sequence a (subst NoSetpause same plain) calls State.fresh (Rewriting.fresh (a .statement)) refl tt)

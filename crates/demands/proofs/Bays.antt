@@ -1,0 +1,61 @@
+-- The starred bays, by computation; those that show the same in each instant also by induction over the instants.
+use Prim.Native.Nat.{ℕ, zero, suc}
+use mathlib.Core.Path.{_≡_, refl, sym, ap, subst}
+use mathlib.Core.Logic.{⊎-elim}
+use mathlib.Core.List.{List, [], _∷_, map, List·Memᴰ, List·Memᴰ·not-nil, List·Memᴰ·cases-cons}
+use lib.ListN.{length, replicate}
+use Rattle.esterel.specs.Sets.{none, only, member, join, insert, remove}
+use Rattle.esterel.specs.Reaction.{react}
+use Rattle.esterel.specs.Errors.{errors}
+use Rattle.esterel.specs.LabelTests.{subset, disjoint, labelsOf, everyLabel, distinct, before, wellFormed, valid}
+use Rattle.esterel.specs.States.{active}
+use Rattle.esterel.specs.Expansion.{expand}
+use Rattle.sequence.specs.Commands.{commandOf}
+use Rattle.sequence.specs.Reader.{front, read}
+use Rattle.sequence.specs.Check.{checked}
+use Rattle.records.specs.Bytes.{leBytes, leNumber}
+use Rattle.records.specs.Records.{answerLength, encodeState, decodeState, encodeAnswer}
+use Rattle.demands.specs.Tick.{Outcome, outcome, tickOf}
+use Rattle.demands.specs.Paper.{Call}
+use Rattle.demands.specs.Demands.{stateAfterwards, outcomes, cleared}
+use Rattle.demands.specs.Bays.{Bay, Instant, table, shownBy, instants, ShowsBay}
+
+-- ---- in each instant
+-- after code 1 with label 0
+abbrev waiting : Outcome
+waiting = outcome 0 (1 ∷ 1 ∷ replicate 7 0) (1 ∷ replicate 7 0)
+
+-- a tick that gives the same from a cleared record and from its own result shows it in each instant
+module _ (bytes buffer : List ℕ) (o : Outcome) (first : tickOf bytes cleared 0 buffer ≡ o)
+    (again : tickOf bytes (stateAfterwards o) 0 buffer ≡ o) where
+  abbrev c : Call
+  c = record { input = 0; buffer = buffer }
+
+  then-on : (n : ℕ) (state : List ℕ) → tickOf bytes state 0 buffer ≡ o
+      → map shownBy (outcomes tickOf bytes state (replicate n c)) ≡ replicate n (shownBy o)
+  unfolding outcomes
+  then-on zero state e = refl
+  then-on (suc n) state e = rw e (ap (λ (is : List Instant). shownBy o ∷ is) (then-on n (stateAfterwards o) again))
+
+  for-ever : (n : ℕ) → instants tickOf bytes buffer n ≡ replicate n (shownBy o)
+  for-ever n = then-on n cleared first
+
+-- ---- all rows of a table
+abbrev EachShows : List Bay → (buffer : List ℕ) → Type 0
+EachShows [] buffer = Unit {0}
+EachShows (b ∷ bs) buffer = ShowsBay tickOf b buffer × EachShows bs buffer
+
+row-of : (bs : List Bay) (buffer : List ℕ) → EachShows bs buffer → (b : Bay) → List·Memᴰ b bs → ShowsBay tickOf b buffer
+row-of [] buffer h b m = absurd (List·Memᴰ·not-nil m)
+row-of (a ∷ bs) buffer h b m =
+    ⊎-elim (λ e. subst (λ (x : Bay). ShowsBay tickOf x buffer) (sym e) (h .0)) (λ t. row-of bs buffer (h .1) b t)
+    (List·Memᴰ·cases-cons m)
+
+module _ (buffer : List ℕ) (sized : length buffer ≡ answerLength) where
+  all-rows : EachShows table buffer
+  unfolding table outcomes tickOf checked read front commandOf distinct wellFormed everyLabel before labelsOf valid subset disjoint active expand decodeState encodeState encodeAnswer leNumber leBytes react errors member none only join insert remove
+  all-rows = (rw sized, (rw sized, (rw sized, (rw sized, (rw sized, (for-ever _ buffer waiting (rw sized) (rw sized), (rw sized, (rw sized, (rw sized, (rw sized, (for-ever _ buffer waiting (rw sized) (rw sized), tt)))))))))))
+
+-- THE STARRED BAYS: each row of the table, for any answer buffer of the right length
+pub starred : (b : Bay) → List·Memᴰ b table → (buffer : List ℕ) → length buffer ≡ answerLength → ShowsBay tickOf b buffer
+starred b m buffer sized = row-of table buffer (all-rows buffer sized) b m

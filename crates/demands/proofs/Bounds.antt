@@ -1,0 +1,225 @@
+-- Every number that a reaction of a ranged statement gives fits its field: emitted sets, label sets and places.
+use Prim.Native.Nat.{ℕ, zero, suc, _-_, _/_, _^_, _<_, _≤_}
+use native.Mathlib.Nat.{pow-suc}
+use native.Mathlib.Omega.{arith}
+use mathlib.Core.Path.{_≡_, refl, sym, _∙_, subst}
+use mathlib.Core.Logic.{⊎-elim}
+use mathlib.Core.Bool.{Bool, true, false, not, _&&_, cond, false≢true}
+use lib.Dec.{eqb}
+use borrow.Author.Tests.{eqb-true}
+use Rattle.esterel.specs.Sets.{member, none, only, join, insert, remove}
+use Rattle.esterel.specs.Statement.{Statement, nothing, pause, emit, exit, seq, par, loop, present, signal, try, setpause}
+use Rattle.esterel.specs.Reaction.{ended, waiting, leaving, wrong, Reaction, gives, emitted, inSeq, inPar, inLoop, inTry, Case, both, neither, only−, only+, inherited, caseOf, answer, react, Code, code, greater}
+use Rattle.esterel.specs.Places.{Part, PartOf, seq₁, seq₂, par₁, par₂, loop₁, present₁, present₂, signal₁, try₁, Place, At}
+use Rattle.esterel.specs.States.{active}
+use Rattle.esterel.specs.Expansion.{expand}
+use Rattle.esterel.proofs.Booleans.{or-cases}
+use Rattle.esterel.proofs.Sets.{member-none, member-only, member-join, member-remove, member-step, ext}
+use Rattle.esterel.proofs.Stability.{Stops}
+use Rattle.limits.specs.Limits.{labelCount, signalCount, maxExit}
+use Rattle.sequence.specs.Writer.{Ranged}
+
+-- ---- sets whose members are below a bound
+abbrev pub Below : ℕ → ℕ → Type 0
+Below n s = (i : ℕ) → member i s ≡ true → i < n
+
+no-members : (s : ℕ) → Below 0 s → s ≡ 0
+unfolding none
+no-members s h = ext s none (λ i. go i (member i s) refl ∙ sym (member-none i))
+  where
+    go : (i : ℕ) (b : Bool) → member i s ≡ b → member i s ≡ false
+    go i true e = absurd (omega (arith, h i e))
+    go i false e = e
+
+pub below-number : (n s : ℕ) → Below n s → s < 2 ^ n
+below-number zero s h = omega (arith, no-members s h)
+below-number (suc n) s h =
+    let i : s / 2 < 2 ^ n = below-number n (s / 2) (λ j m. omega (arith, h (suc j) (member-step j s ∙ m))) in
+    rw pow-suc (omega arith)
+
+pub below-none : (n : ℕ) → Below n none
+below-none n i m = absurd (false≢true (sym (member-none i) ∙ m))
+
+pub below-only : (n i : ℕ) → i < n → Below n (only i)
+below-only n i h j m = subst (λ (k : ℕ). k < n) (eqb-true i j (sym (member-only i j) ∙ m)) h
+
+pub below-join : (n s t : ℕ) → Below n s → Below n t → Below n (join s t)
+below-join n s t f g i m = ⊎-elim (f i) (g i) (or-cases (member i s) (member i t) (sym (member-join i s t) ∙ m))
+
+below-remove : (n j s : ℕ) → Below n s → Below n (remove j s)
+below-remove n j s f i m = f i (go (member i s) (not (eqb j i)) (sym (member-remove j s i) ∙ m))
+  where
+    go : (a b : Bool) → (a && b) ≡ true → a ≡ true
+    go true b h = refl
+    go false b h = h
+
+-- ---- emitted sets
+abbrev Emits : Reaction → Type 0
+Emits r = Below signalCount (emitted r)
+
+seq-emits : (q : Statement) (r r₂ : Reaction) → Emits r → Emits r₂ → Emits (inSeq q r r₂)
+seq-emits q (gives o ended l t) r₂ f g = below-join signalCount o (emitted r₂) f g
+seq-emits q (gives o waiting l t) r₂ f g = f
+seq-emits q (gives o (leaving n) l t) r₂ f g = f
+seq-emits q (gives o wrong l t) r₂ f g = f
+
+par-emits : (r r₂ : Reaction) → Emits r → Emits r₂ → Emits (inPar r r₂)
+par-emits (gives o k l t) (gives o₂ k₂ l₂ u) f g = below-join signalCount o o₂ f g
+
+loop-emits : (a : ℕ) (p : Statement) (r : Reaction) → Emits r → Emits (inLoop a p r)
+loop-emits a p (gives o ended l t) f = below-none signalCount
+loop-emits a p (gives o waiting l t) f = f
+loop-emits a p (gives o (leaving n) l t) f = f
+loop-emits a p (gives o wrong l t) f = f
+
+try-emits : (r : Reaction) → Emits r → Emits (inTry r)
+try-emits (gives o ended l t) f = f
+try-emits (gives o waiting l t) f = f
+try-emits (gives o (leaving n) l t) f = go (eqb n 1)
+  where
+    go : (b : Bool) → Emits (cond b (gives o ended l nothing) (gives o (leaving (n - 1)) l (try t)))
+    go true = f
+    go false = f
+try-emits (gives o wrong l t) f = f
+
+present-emits : (b : Bool) (r r₂ : Reaction) → Emits r → Emits r₂ → Emits (cond b r r₂)
+present-emits true r r₂ f g = f
+present-emits false r r₂ f g = g
+
+signal-emits : (c : Case) (a s : ℕ) (r− r+ : Reaction) → Emits r− → Emits r+ → Emits (answer c a s r− r+)
+signal-emits both a s r− r+ f g = below-remove signalCount s (emitted r+) g
+signal-emits neither a s r− r+ f g = f
+signal-emits only− a s r− r+ f g = below-none signalCount
+signal-emits only+ a s r− r+ f g = below-none signalCount
+signal-emits inherited a s r− r+ f g = below-none signalCount
+
+pub emitted-below : (p : Statement) (e : ℕ) → Ranged p → Below signalCount (emitted (react p e))
+unfolding react
+emitted-below nothing e h = below-none signalCount
+emitted-below (pause l) e h = below-none signalCount
+emitted-below (emit s) e h = below-only signalCount s h
+emitted-below (exit n) e h = below-none signalCount
+emitted-below (seq p q) e h = seq-emits q (react p e) (react q e) (emitted-below p e (h .0)) (emitted-below q e (h .1))
+emitted-below (par p q) e h = par-emits (react p e) (react q e) (emitted-below p e (h .0)) (emitted-below q e (h .1))
+emitted-below (loop a p) e h = loop-emits a p (react p e) (emitted-below p e h)
+emitted-below (present s p q) e h =
+    present-emits (member s e) (react p e) (react q e) (emitted-below p e (h .1)) (emitted-below q e (h .2))
+emitted-below (signal a s p) e h =
+    signal-emits (caseOf s (react p (remove s e)) (react p (insert s e))) a s (react p (remove s e)) (react p (insert s e))
+    (emitted-below p (remove s e) (h .1)) (emitted-below p (insert s e) (h .1))
+emitted-below (try p) e h = try-emits (react p e) (emitted-below p e h)
+emitted-below (setpause l) e h = below-none signalCount
+
+-- ---- labels
+ranged-part : {d : Part} {c p : Statement} → PartOf d c p → Ranged p → Ranged c
+ranged-part seq₁ h = h .0
+ranged-part seq₂ h = h .1
+ranged-part par₁ h = h .0
+ranged-part par₂ h = h .1
+ranged-part loop₁ h = h
+ranged-part present₁ h = h .1
+ranged-part present₂ h = h .2
+ranged-part signal₁ h = h .1
+ranged-part try₁ h = h
+
+ranged-at : {x p : Statement} {a : Place} → At x a p → Ranged p → Ranged x
+ranged-at At.here h = h
+ranged-at (At.inside i u) h = ranged-at u (ranged-part i h)
+
+pub stop-below : (p : Statement) → Ranged p → (l : ℕ) → Stops p l → l < labelCount
+stop-below p h l s = ⊎-elim (λ u. ranged-at u h) (λ u. ranged-at u h) (s .1)
+
+-- ---- expansions
+cond-ranged : (b : Bool) (p q : Statement) → Ranged p → Ranged q → Ranged (cond b p q)
+cond-ranged true p q f g = f
+cond-ranged false p q f g = g
+
+pub ranged-expand : (p : Statement) (L : ℕ) → Ranged p → Ranged (expand p L)
+unfolding expand
+ranged-expand nothing L h = tt
+ranged-expand (pause l) L h = tt
+ranged-expand (emit s) L h = tt
+ranged-expand (exit n) L h = tt
+ranged-expand (seq p q) L h =
+    cond-ranged (active p L) (seq (expand p L) q) (expand q L) (ranged-expand p L (h .0), h .1) (ranged-expand q L (h .1))
+ranged-expand (par p q) L h = (
+  cond-ranged (active p L) (expand p L) nothing (ranged-expand p L (h .0)) tt,
+  cond-ranged (active q L) (expand q L) nothing (ranged-expand q L (h .1)) tt,
+)
+ranged-expand (loop a p) L h = (ranged-expand p L h, h)
+ranged-expand (present s p q) L h =
+    cond-ranged (active p L) (expand p L) (expand q L) (ranged-expand p L (h .1)) (ranged-expand q L (h .2))
+ranged-expand (signal a s p) L h = (h .0, ranged-expand p L (h .1))
+ranged-expand (try p) L h = ranged-expand p L h
+ranged-expand (setpause l) L h = tt
+
+-- ---- exits: a code leaves at most as many try blocks as an exit may
+abbrev pub Exits : Code → Type 0
+Exits ended = Unit {0}
+Exits waiting = Unit {0}
+Exits (leaving n) = n ≤ maxExit
+Exits wrong = Unit {0}
+
+greater-exits : (j k : Code) → Exits j → Exits k → Exits (greater j k)
+greater-exits ended k f g = g
+greater-exits waiting ended f g = tt
+greater-exits waiting waiting f g = tt
+greater-exits waiting (leaving n) f g = g
+greater-exits waiting wrong f g = tt
+greater-exits (leaving m) ended f g = f
+greater-exits (leaving m) waiting f g = f
+greater-exits (leaving m) (leaving n) f g = omega arith
+greater-exits (leaving m) wrong f g = tt
+greater-exits wrong k f g = tt
+
+seq-exits : (q : Statement) (r r₂ : Reaction) → Exits (code r) → Exits (code r₂) → Exits (code (inSeq q r r₂))
+seq-exits q (gives o ended l t) r₂ f g = g
+seq-exits q (gives o waiting l t) r₂ f g = f
+seq-exits q (gives o (leaving n) l t) r₂ f g = f
+seq-exits q (gives o wrong l t) r₂ f g = f
+
+par-exits : (r r₂ : Reaction) → Exits (code r) → Exits (code r₂) → Exits (code (inPar r r₂))
+par-exits (gives o k l t) (gives o₂ k₂ l₂ u) f g = greater-exits k k₂ f g
+
+loop-exits : (a : ℕ) (p : Statement) (r : Reaction) → Exits (code r) → Exits (code (inLoop a p r))
+loop-exits a p (gives o ended l t) f = tt
+loop-exits a p (gives o waiting l t) f = f
+loop-exits a p (gives o (leaving n) l t) f = f
+loop-exits a p (gives o wrong l t) f = f
+
+try-exits : (r : Reaction) → Exits (code r) → Exits (code (inTry r))
+try-exits (gives o ended l t) f = f
+try-exits (gives o waiting l t) f = f
+try-exits (gives o (leaving n) l t) f = go (eqb n 1)
+  where
+    go : (b : Bool) → Exits (code (cond b (gives o ended l nothing) (gives o (leaving (n - 1)) l (try t))))
+    go true = tt
+    go false = omega arith
+try-exits (gives o wrong l t) f = f
+
+present-exits : (b : Bool) (r r₂ : Reaction) → Exits (code r) → Exits (code r₂) → Exits (code (cond b r r₂))
+present-exits true r r₂ f g = f
+present-exits false r r₂ f g = g
+
+signal-exits : (c : Case) (a s : ℕ) (r− r+ : Reaction) → Exits (code r−) → Exits (code r+) → Exits (code (answer c a s r− r+))
+signal-exits both a s r− r+ f g = g
+signal-exits neither a s r− r+ f g = f
+signal-exits only− a s r− r+ f g = tt
+signal-exits only+ a s r− r+ f g = tt
+signal-exits inherited a s r− r+ f g = tt
+
+pub code-exits : (p : Statement) (e : ℕ) → Ranged p → Exits (code (react p e))
+unfolding react
+code-exits nothing e h = tt
+code-exits (pause l) e h = tt
+code-exits (emit s) e h = tt
+code-exits (exit n) e h = h .1
+code-exits (seq p q) e h = seq-exits q (react p e) (react q e) (code-exits p e (h .0)) (code-exits q e (h .1))
+code-exits (par p q) e h = par-exits (react p e) (react q e) (code-exits p e (h .0)) (code-exits q e (h .1))
+code-exits (loop a p) e h = loop-exits a p (react p e) (code-exits p e h)
+code-exits (present s p q) e h = present-exits (member s e) (react p e) (react q e) (code-exits p e (h .1)) (code-exits q e (h .2))
+code-exits (signal a s p) e h =
+    signal-exits (caseOf s (react p (remove s e)) (react p (insert s e))) a s (react p (remove s e)) (react p (insert s e))
+    (code-exits p (remove s e) (h .1)) (code-exits p (insert s e) (h .1))
+code-exits (try p) e h = try-exits (react p e) (code-exits p e h)
+code-exits (setpause l) e h = tt

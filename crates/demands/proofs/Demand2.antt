@@ -1,0 +1,193 @@
+-- DEMAND 2 for the definitions checkOf and tickOf.
+use Prim.Native.Nat.{ℕ, _^_, _<_, _≤_}
+use native.Mathlib.Omega.{arith}
+use native.Mathlib.Decide.{decLt, ℕ-discrete}
+use mathlib.Core.Path.{_≡_, refl, sym, ap, _∙_, subst}
+use mathlib.Core.Logic.{_↔_, _≢_, inr, inl}
+use mathlib.Core.Option.{some}
+use mathlib.Core.List.{List, List·Memᴰ}
+use lib.ListN.{length}
+use Rattle.esterel.specs.Sets.{none}
+use Rattle.esterel.specs.Statement.{Statement}
+use Rattle.esterel.specs.Reaction.{Code, ended, waiting, leaving, wrong, Reaction, gives, emitted, code, react}
+use Rattle.esterel.specs.Errors.{Error, errors, firstError}
+use Rattle.esterel.specs.States.{Valid}
+use Rattle.esterel.specs.Expansion.{expand}
+use Rattle.esterel.specs.Resume.{instant, start}
+use Rattle.esterel.specs.Machines.{shown, State}
+use Rattle.esterel.specs.Rules.{Reacts}
+use Rattle.esterel.proofs.Rules.{reacts-is}
+use Rattle.esterel.proofs.Errors.{wrong-named}
+use Rattle.esterel.proofs.LabelTests.{valid-is}
+use Rattle.limits.specs.Limits.{maxBytes, signalCount}
+use Rattle.sequence.specs.Writer.{Ranged}
+use Rattle.sequence.specs.Check.{checkOf}
+use Rattle.sequence.specs.Rows.{row-2}
+use Rattle.sequence.proofs.Rows.{check-by-rows}
+use Rattle.limits.specs.Limits.{signalBytes}
+use Rattle.records.specs.Records.{stateLength, answerLength, Decoded, holds, decodeState, encodeAnswer, codeByte, phaseIn, labelsIn, kindIn, placeIn}
+use Rattle.demands.specs.Tick.{written, tickOf}
+use Rattle.demands.specs.TickRows.{TickRow, row-1, row-2-to-10, row-11, row-12}
+use Rattle.demands.specs.Demands.{number, StandsAt, at-start, at-labels, Shows, Demand2}
+use Rattle.records.proofs.RecordLaws.{code-field, kind-field, place-field, emitted-field, blameless, wrong-blame, answer-is, length-answer}
+use Rattle.demands.proofs.Bounds.{Below, emitted-below, Exits, code-exits, ranged-expand}
+use Rattle.demands.proofs.ErrorPlaces.{PlacesBelow, placed-below, places-expand, errors-below}
+use Rattle.demands.proofs.Reports.{shown-below}
+use Rattle.demands.proofs.TickRows.{Reading, reads-fresh, reads-waiting, reads-over, reads-malformed, reading, tick-by-rows}
+use Rattle.demands.proofs.Sequence.{same-statement, Accepted, accepted, tick-at}
+
+-- ---- what an instant shows
+called-wrong : (k : Code) (c : ℕ) → Exits k → c ≡ codeByte k → (c ≡ 255) ↔ (k ≡ wrong)
+called-wrong ended c f h = (λ i. absurd (omega arith), λ i. absurd (let z : _≡_ {A = ℕ} 0 1 = cc in omega arith))
+called-wrong waiting c f h = (λ i. absurd (omega arith), λ i. absurd (let z : _≡_ {A = ℕ} 0 1 = cc in omega arith))
+called-wrong (leaving n) c f h = (λ i. absurd (omega arith), λ i. absurd (let z : _≡_ {A = ℕ} 0 1 = cc in omega arith))
+called-wrong wrong c f h = (λ i. refl, λ i. h)
+
+abbrev Fitting : Statement → ℕ → Type 0
+Fitting t n = Ranged t × PlacesBelow n t
+
+module _ (t : Statement) (e n : ℕ) (small : n ≤ maxBytes) (f : Fitting t n) where
+  shown-right : (o : ℕ) (k : Code) → k ≢ wrong → shown k o ≡ o
+  shown-right o ended h = refl
+  shown-right o waiting h = refl
+  shown-right o (leaving m) h = refl
+  shown-right o wrong h = absurd (h refl)
+
+  shows : (o : ℕ) (k : Code) (l : ℕ) (t′ : Statement) → gives o k l t′ ≡ react t e
+      → Shows t e o k l t′ (written (instant (gives o k l t′) (firstError t e)))
+  shows o k l t′ h =
+      let fits : shown k o < 256 ^ signalBytes =
+      shown-below o k (subst (λ (r : Reaction). Below signalCount (emitted r)) (sym h) (emitted-below t e (f .0))) in
+      record {
+        an-instant = refl;
+        moved = refl;
+        answered = answer-is o k l t′ (firstError t e);
+        sized = length-answer o k l t′ (firstError t e);
+        code = code-field o k l t′ (firstError t e);
+        called-wrong = called-wrong k _ (subst (λ (r : Reaction). Exits (code r)) (sym h) (code-exits t e (f .0)))
+            (code-field o k l t′ (firstError t e));
+        emitted = λ i. emitted-field o k l t′ (firstError t e) fits ∙ shown-right o k i;
+        nothing-shown = λ i. emitted-field o k l t′ (firstError t e) fits ∙ ap (λ (j : Code). shown j o) i;
+        named = named;
+        unnamed = λ i. (
+          kind-field o k l t′ (firstError t e) ∙ ap (λ (b : Error). b .kind) (blameless k (firstError t e) i),
+          place-field o k l t′ (firstError t e) (rw (blameless k (firstError t e) i) (omega arith))
+              ∙ ap (λ (b : Error). b .place) (blameless k (firstError t e) i),
+        );
+      }
+    where
+      named : k ≡ wrong
+          → (x : Error) × (firstError t e ≡ some x) × List·Memᴰ x (errors t e)
+          × (kindIn (encodeAnswer (instant (gives o k l t′) (firstError t e))) ≡ x .kind)
+          × (placeIn (encodeAnswer (instant (gives o k l t′) (firstError t e))) ≡ x .place)
+      named i =
+          let w = wrong-named t e (sym (ap code h) ∙ i) in
+          let b = wrong-blame k (firstError t e) (w .0) i (w .1) in
+          let small-place : w .0 .place < n = errors-below n t e (f .1) (w .0) (w .2) in (
+            w .0,
+            w .1,
+            w .2,
+            kind-field o k l t′ (firstError t e) ∙ ap (λ (y : Error). y .kind) b,
+            place-field o k l t′ (firstError t e) (rw b (omega arith)) ∙ ap (λ (y : Error). y .place) b,
+          )
+
+-- ---- the term of an admitted record
+decode-fresh : (p : Statement) (state : List ℕ) → phaseIn state ≡ 0 → labelsIn state ≡ none → decodeState p state ≡ holds State.fresh
+unfolding decodeState none
+decode-fresh p state x n = rw (x, n)
+
+decode-waiting : (p : Statement) (state : List ℕ) → phaseIn state ≡ 1 → Valid p (labelsIn state)
+    → decodeState p state ≡ holds (State.waits (labelsIn state))
+unfolding decodeState
+decode-waiting p state x v = rw (x, valid-is p (labelsIn state) .1 v)
+
+module _ (sequence : List ℕ) (a : Accepted sequence) where
+  not-long : length sequence ≤ maxBytes
+  not-long =
+      elim (decLt maxBytes (length sequence)) [
+        | yes i ↦ absurd (a .no-row 2 (row-2 (inr i)))
+        | no i ↦ omega arith
+      ]
+
+  statement-fits : Fitting (a .statement) (length sequence)
+  statement-fits = (
+    a .spelled .1 .ranged,
+    placed-below (length sequence) 0 (a .statement) (a .spelled .2) (omega (arith, ap length (a .spelled .0))),
+  )
+
+  expansion-fits : (L : ℕ) → Fitting (expand (a .statement) L) (length sequence)
+  expansion-fits L = (
+    ranged-expand (a .statement) L (statement-fits .0),
+    places-expand (length sequence) (a .statement) L (statement-fits .1),
+  )
+
+  -- the tick from a record that stands at t is the instant of t
+  stands-written : (state : List ℕ) (e : ℕ) (answer : List ℕ) → length state ≡ stateLength → length answer ≡ answerLength
+      → {t : Statement} → StandsAt sequence state t
+      → (tickOf sequence state e answer ≡ written (start t e)) × Fitting t (length sequence)
+  stands-written state e answer i j (at-start {p = q} s x n) =
+      let same = same-statement sequence (a .statement) q (a .spelled) s in (
+        tick-at sequence state e answer (a .statement) (holds State.fresh) (a .is-checked) i j
+            (decode-fresh (a .statement) state x n)
+            ∙ ap (λ (w : Statement). written (start w e)) same,
+        subst (λ (w : Statement). Fitting w (length sequence)) same statement-fits,
+      )
+  stands-written state e answer i j (at-labels {p = q} s x v) =
+      let L : ℕ = labelsIn state in
+      let same = same-statement sequence (a .statement) q (a .spelled) s in
+      let mine : Valid (a .statement) L = subst (λ (w : Statement). Valid w L) (sym same) v in (
+        tick-at sequence state e answer (a .statement) (holds (State.waits L)) (a .is-checked) i j
+            (decode-waiting (a .statement) state x mine)
+            ∙ ap (λ (w : Statement). written (start (expand w L) e)) same,
+        subst (λ (w : Statement). Fitting (expand w L) (length sequence)) same (expansion-fits L),
+      )
+
+-- ---- a tick that gives 0 passes the check and both lengths, and its record holds a machine that reacts
+module _ (sequence state : List ℕ) (e : ℕ) (answer : List ℕ) (z : number (tickOf sequence state e answer) ≡ 0) where
+  no-tick-row : (m : ℕ) → ¬ TickRow sequence state answer m
+  no-tick-row = tick-by-rows sequence state answer e .acceptance .0 z
+
+  pub passed-check : checkOf sequence ≡ 0
+  passed-check = check-by-rows sequence .acceptance .1 (λ m r. no-tick-row m (row-2-to-10 r))
+
+  pub state-sized : length state ≡ stateLength
+  state-sized =
+      elim (ℕ-discrete (length state) stateLength) [
+        | yes i ↦ i
+        | no i ↦ absurd (no-tick-row 1 (row-1 (inl i)))
+      ]
+
+  pub answer-sized : length answer ≡ answerLength
+  answer-sized =
+      elim (ℕ-discrete (length answer) answerLength) [
+        | yes i ↦ i
+        | no i ↦ absurd (no-tick-row 1 (row-1 (inr i)))
+      ]
+
+  stands : (t : Statement) × StandsAt sequence state t
+  stands = go (decodeState p state) (reading p state)
+    where
+      a : Accepted sequence
+      a = accepted sequence passed-check
+
+      p : Statement
+      p = a .statement
+
+      go : (d : Decoded) → Reading p (phaseIn state) (labelsIn state) d → (t : Statement) × StandsAt sequence state t
+      go d (reads-malformed x) = absurd (no-tick-row 11 (row-11 (a .spelled) x))
+      go d (reads-fresh x n) = (p, at-start (a .spelled) x n)
+      go d (reads-waiting x v) = (expand p (labelsIn state), at-labels (a .spelled) x v)
+      go d (reads-over x n) = absurd (no-tick-row 12 (row-12 x))
+
+-- DEMAND 2
+shows-standing : (sequence state : List ℕ) (e : ℕ) (answer : List ℕ) → checkOf sequence ≡ 0
+    → length state ≡ stateLength → length answer ≡ answerLength → (t : Statement) → StandsAt sequence state t
+    → (o : ℕ) (k : Code) (l : ℕ) (t′ : Statement) → Reacts t e (gives o k l t′) → Shows t e o k l t′ (tickOf sequence state e answer)
+shows-standing sequence state e answer h i j t s o k l t′ d =
+    let a = accepted sequence h in
+    let w = stands-written sequence a state e answer i j s in
+    let r : gives o k l t′ ≡ react t e = reacts-is t e (gives o k l t′) .0 d in
+    rw (w .0, ← r) (shows t e (length sequence) (not-long sequence a) (w .1) o k l t′ r)
+
+pub demand-2 : Demand2 checkOf tickOf
+demand-2 = record { stands = stands; shows = shows-standing }

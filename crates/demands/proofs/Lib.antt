@@ -1,0 +1,12 @@
+pub mod Bounds
+pub mod ErrorPlaces
+pub mod Reports
+pub mod Sequence
+pub mod TickRows
+pub mod Demand1
+pub mod Demand2
+pub mod Agreement
+pub mod Calls
+pub mod Replacements
+pub mod Bays
+pub mod Theorems

@@ -1,0 +1,37 @@
+-- An instant's records, reported, are what the machine by rewriting sees.
+use Prim.Native.Nat.{ℕ, _^_, _<_}
+use native.Mathlib.Omega.{arith}
+use mathlib.Core.Path.{_≡_, refl}
+use mathlib.Core.Option.{Option}
+use Rattle.esterel.specs.Sets.{none}
+use Rattle.esterel.specs.Statement.{Statement}
+use Rattle.esterel.specs.Reaction.{Code, ended, waiting, leaving, wrong, Reaction, gives, emitted}
+use Rattle.esterel.specs.Errors.{Error}
+use Rattle.esterel.specs.Resume.{instant}
+use Rattle.esterel.specs.Machines.{shown, phaseAfter, seen, stateAfter}
+use Rattle.limits.specs.Limits.{signalCount}
+use Rattle.records.specs.Records.{encodeState, phaseIn}
+use Rattle.records.proofs.RecordLaws.{code-field, emitted-field}
+use Rattle.demands.specs.Tick.{written}
+use Rattle.demands.specs.Paper.{phaseNumber, reportOf}
+use Rattle.demands.specs.Demands.{report}
+use Rattle.demands.proofs.Bounds.{Below, below-number}
+
+pub shown-below : (o : ℕ) (k : Code) → Below signalCount o → shown k o < 2 ^ signalCount
+unfolding none
+shown-below o ended h = below-number signalCount o h
+shown-below o waiting h = below-number signalCount o h
+shown-below o (leaving n) h = below-number signalCount o h
+shown-below o wrong h = omega arith
+
+phase-field : (o : ℕ) (k : Code) (l : ℕ) (t : Statement) → phaseIn (encodeState (stateAfter (gives o k l t))) ≡ phaseNumber (phaseAfter k)
+unfolding encodeState
+phase-field o ended l t = refl
+phase-field o waiting l t = refl
+phase-field o (leaving n) l t = refl
+phase-field o wrong l t = refl
+
+-- an instant is reported as the machine by rewriting sees it
+pub report-written : (r : Reaction) (x : Option Error) → Below signalCount (emitted r) → report (written (instant r x)) ≡ reportOf (seen r)
+report-written (gives o k l t) x h =
+    rw (code-field o k l t x, emitted-field o k l t x (shown-below o k h), phase-field o k l t)

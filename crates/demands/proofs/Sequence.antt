@@ -1,0 +1,108 @@
+-- What an accepted sequence is: a statement within the limits that passes the label rules, and how a tick of it goes.
+use Prim.Native.Nat.{ℕ}
+use native.Mathlib.Omega.{arith}
+use mathlib.Core.Path.{_≡_, refl, sym, _∙_}
+use mathlib.Core.Logic.{_≢_}
+use mathlib.Core.Bool.{Bool, true, false, _&&_, cond}
+use mathlib.Core.List.{List}
+use lib.ListN.{length}
+use lib.Dec.{eqb}
+use borrow.Author.Tests.{eq-eqb, ne-eqb}
+use Rattle.esterel.specs.Statement.{Statement}
+use Rattle.esterel.specs.Reaction.{Reaction, gives, ended, waiting, leaving, wrong, emitted, react}
+use Rattle.esterel.specs.States.{Distinct, Targeted, WellFormed}
+use Rattle.esterel.specs.Expansion.{expand}
+use Rattle.esterel.specs.Machines.{stateAfter}
+use Rattle.esterel.proofs.Invariant.{Fits}
+use Rattle.esterel.proofs.Stability.{SoundLabels, labels-fresh, labels-resumed, sound-valid}
+use Rattle.limits.specs.Limits.{labelCount, signalCount}
+use Rattle.sequence.specs.Reader as Reader
+use Rattle.sequence.specs.Check.{Checked, sound, bad, checked, numberOf, checkOf}
+use Rattle.sequence.specs.Rows.{Spells, Row}
+use Rattle.sequence.proofs.Writer.{reads-what-is-written}
+use Rattle.sequence.proofs.Rows.{Decides, decided, row-range}
+use Rattle.records.specs.Records.{stateLength, answerLength, Decoded, decodeState}
+use Rattle.demands.specs.Tick.{outcome, byState, byCheck, tickOf}
+use Rattle.demands.proofs.Bounds.{Below, below-number, emitted-below, stop-below, ranged-expand}
+use Rattle.records.proofs.RecordLaws.{Recorded}
+
+-- bytes spell at most one statement
+pub same-statement : (sequence : List ℕ) (p q : Statement) → Spells sequence p → Spells sequence q → p ≡ q
+same-statement sequence p q s t =
+    let e : Reader.accepted p (length sequence) ≡ Reader.accepted q (length sequence) =
+    sym (reads-what-is-written sequence p .1 s) ∙ reads-what-is-written sequence q .1 t in
+    cc
+
+-- the statement of an accepted sequence, with all that the check says of it
+pub record Accepted (sequence : List ℕ) : Type 0 where
+  pub statement : Statement
+  pub is-checked : checked sequence ≡ sound statement
+  pub no-row : (m : ℕ) → ¬ Row sequence m
+  pub spelled : Spells sequence statement
+  pub distinct : Distinct statement
+  pub targeted : Targeted statement
+  pub formed : WellFormed statement
+
+pub accepted : (sequence : List ℕ) → checkOf sequence ≡ 0 → Accepted sequence
+unfolding checkOf
+accepted sequence h = go (checked sequence) refl (decided sequence) h
+  where
+    go : (c : Checked) → checked sequence ≡ c → Decides sequence c → numberOf c ≡ 0 → Accepted sequence
+    go (bad k) e d z = absurd (let r = row-range sequence k (d .0) in omega arith)
+    go (sound p) e d z =
+        record {
+          statement = p;
+          is-checked = e;
+          no-row = d .0;
+          spelled = d .1;
+          distinct = d .2;
+          targeted = d .3;
+          formed = d .4;
+        }
+
+-- an accepted sequence spells one statement
+pub spells-one : (sequence : List ℕ) → checkOf sequence ≡ 0
+    → (p : Statement) × Spells sequence p × ((q : Statement) → Spells sequence q → q ≡ p)
+spells-one sequence h =
+    let a = accepted sequence h in
+    (a .statement, a .spelled, λ q s. same-statement sequence q (a .statement) s (a .spelled))
+
+-- a tick by the state that the record holds
+pub tick-at : (sequence state : List ℕ) (e : ℕ) (answer : List ℕ) (p : Statement) (d : Decoded) → checked sequence ≡ sound p
+    → length state ≡ stateLength → length answer ≡ answerLength → decodeState p state ≡ d
+    → tickOf sequence state e answer ≡ byState p d state e answer
+unfolding tickOf
+tick-at sequence state e answer p d c i j h = rw (eq-eqb (length state) stateLength i, eq-eqb (length answer) answerLength j, c, h)
+
+-- a tick with an answer buffer of another length
+pub tick-short : (sequence state : List ℕ) (e : ℕ) (answer : List ℕ) → length answer ≢ answerLength
+    → tickOf sequence state e answer ≡ outcome 1 state answer
+unfolding tickOf
+tick-short sequence state e answer h = rw (ne-eqb (length answer) answerLength h) (go (eqb (length state) stateLength))
+  where
+    go : (b : Bool) → cond (b && false) (byCheck (checked sequence) state e answer) (outcome 1 state answer) ≡ outcome 1 state answer
+    go true = refl
+    go false = refl
+
+-- ---- reactions of an accepted statement keep to valid states and to the widths
+module _ (sequence : List ℕ) (a : Accepted sequence) where
+  recorded-after : (r : Reaction) → Fits SoundLabels (a .statement) r → Recorded (a .statement) (stateAfter r)
+  recorded-after (gives o ended L t) h = tt
+  recorded-after (gives o waiting L t) h = (
+    sound-valid (a .statement) (a .distinct) (a .formed) (a .targeted) L h,
+    below-number labelCount L (λ l m. stop-below (a .statement) (a .spelled .1 .ranged) l (h .stops l m)),
+  )
+  recorded-after (gives o (leaving n) L t) h = tt
+  recorded-after (gives o wrong L t) h = tt
+
+  pub recorded-fresh : (e : ℕ) → Recorded (a .statement) (stateAfter (react (a .statement) e))
+  recorded-fresh e = recorded-after (react (a .statement) e) (labels-fresh (a .statement) e)
+
+  pub recorded-resumed : (L e : ℕ) → Recorded (a .statement) (stateAfter (react (expand (a .statement) L) e))
+  recorded-resumed L e = recorded-after (react (expand (a .statement) L) e) (labels-resumed (a .statement) L e)
+
+  pub emits-fresh : (e : ℕ) → Below signalCount (emitted (react (a .statement) e))
+  emits-fresh e = emitted-below (a .statement) e (a .spelled .1 .ranged)
+
+  pub emits-resumed : (L e : ℕ) → Below signalCount (emitted (react (expand (a .statement) L) e))
+  emits-resumed L e = emitted-below (expand (a .statement) L) e (ranged-expand (a .statement) L (a .spelled .1 .ranged))

@@ -1,0 +1,74 @@
+-- The theorems of this crate: the three demands for the definitions of the check and the tick, then for calls that meet the
+-- tick's contract; the starred bays; and what the demands refuse.
+use Prim.Native.Nat.{ℕ}
+use mathlib.Core.Path.{_≡_}
+use mathlib.Core.Logic.{_≢_}
+use mathlib.Core.List.{List, map, List·Memᴰ}
+use lib.ListN.{length}
+use Rattle.esterel.specs.Statement.{Statement}
+use Rattle.esterel.specs.Reaction.{Code, gives}
+use Rattle.esterel.specs.Rules.{Reacts}
+use Rattle.esterel.specs.States.{NoSetpause}
+use Rattle.esterel.specs.Machines.{Rewriting}
+use Rattle.sequence.specs.Check.{checkOf}
+use Rattle.sequence.specs.Rows.{Spells}
+use Rattle.records.specs.Records.{answerLength}
+use Rattle.demands.specs.Tick.{Outcome, outcome, tickOf}
+use Rattle.demands.specs.Paper.{Call, paper}
+use Rattle.demands.specs.Demands.{Tick, number, cleared, report, Admitted, StandsAt, Shows, Demand1, Demand2, Demand3, TickMeets, Chain}
+use Rattle.demands.specs.Replacements as wrong
+use Rattle.demands.specs.Bays.{Bay, table, ShowsBay}
+use Rattle.demands.proofs.Sequence as sequence
+use Rattle.demands.proofs.Demand1 as one
+use Rattle.demands.proofs.Demand2 as two
+use Rattle.demands.proofs.Agreement as three
+use Rattle.demands.proofs.Calls as calls
+use Rattle.demands.proofs.Replacements as refuted
+use Rattle.demands.proofs.Bays as bays
+
+-- an accepted sequence spells one statement
+pub spells-one : (sequence : List ℕ) → checkOf sequence ≡ 0
+    → (p : Statement) × Spells sequence p × ((q : Statement) → Spells sequence q → q ≡ p)
+spells-one = sequence.spells-one
+
+-- ---- the definitions
+pub demand-1 : Demand1 checkOf tickOf
+demand-1 = one.demand-1
+
+pub demand-2 : Demand2 checkOf tickOf
+demand-2 = two.demand-2
+
+pub demand-3 : Demand3 checkOf tickOf
+demand-3 = three.demand-3
+
+-- ---- calls that meet the tick's contract
+pub demand-1-calls : (sequence state : List ℕ) → checkOf sequence ≡ 0 → Admitted sequence state
+    → (cs : List Call) (results : List Outcome) → Chain sequence state cs results
+    → (o : Outcome) → List·Memᴰ o results → number o ≢ 11
+demand-1-calls = calls.never-11-calls
+
+pub demand-2-call : {n : ℕ} {state′ answer′ : List ℕ} (sequence state : List ℕ) (e : ℕ) (answer : List ℕ)
+    → TickMeets n state′ answer′ sequence state e answer → n ≡ 0
+    → (t : Statement) × StandsAt sequence state t
+    × ((o : ℕ) (k : Code) (l : ℕ) (t′ : Statement) → Reacts t e (gives o k l t′) → Shows t e o k l t′ (outcome n state′ answer′))
+demand-2-call = calls.demand-2-call
+
+pub demand-3-calls : (sequence : List ℕ) → checkOf sequence ≡ 0 → (p : Statement) → Spells sequence p → NoSetpause p
+    → (cs : List Call) (results : List Outcome) → Chain sequence cleared cs results
+    → map report results ≡ paper (Rewriting.fresh p) cs
+demand-3-calls = calls.demand-3-calls
+
+-- ---- the starred bays
+pub starred : (b : Bay) → List·Memᴰ b table → (buffer : List ℕ) → length buffer ≡ answerLength → ShowsBay tickOf b buffer
+starred = bays.starred
+
+-- ---- what the demands refuse
+pub refused-1 : ((tick : Tick) → ¬ Demand1 wrong.turnsDown tick) × (¬ Demand1 checkOf wrong.saysOver)
+refused-1 = (refuted.not-turnsDown, refuted.not-saysOver)
+
+pub refused-2 : (¬ Demand2 checkOf wrong.everyWrong) × (¬ Demand2 checkOf wrong.alwaysEnds)
+    × (¬ Demand2 checkOf wrong.leavesLabels) × (¬ Demand2 checkOf wrong.appendsZero)
+refused-2 = (refuted.not-everyWrong, refuted.not-alwaysEnds, refuted.not-leavesLabels, refuted.not-appendsZero)
+
+pub refused-3 : ¬ Demand3 checkOf wrong.repeatsFirst
+refused-3 = refuted.not-repeatsFirst

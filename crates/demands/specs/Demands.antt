@@ -1,0 +1,122 @@
+-- The three demands, each a predicate of any check and any tick; proofs/Theorems has them of checkOf and tickOf, and refuted for
+-- the wrong ticks of 01's checklist.
+use Prim.Native.Nat.{ℕ, zero, suc}
+use mathlib.Core.Path.{_≡_}
+use mathlib.Core.Logic.{_≢_, _↔_}
+use mathlib.Core.Option.{some}
+use mathlib.Core.List.{List, [], _∷_, map, List·Memᴰ}
+use lib.ListN.{length, replicate}
+use Rattle.esterel.specs.Sets.{none}
+use Rattle.esterel.specs.Statement.{Statement}
+use Rattle.esterel.specs.Reaction.{Code, wrong, gives}
+use Rattle.esterel.specs.Rules.{Reacts}
+use Rattle.esterel.specs.Errors.{Error, errors, firstError}
+use Rattle.esterel.specs.States.{NoSetpause, Valid}
+use Rattle.esterel.specs.Expansion.{expand}
+use Rattle.esterel.specs.Machines.{shown, stateAfter, Rewriting}
+use Rattle.sequence.specs.Rows.{Spells, Row, ByRows}
+use Rattle.records.specs.Records.{stateLength, answerLength, phaseIn, labelsIn, encodeState, answerRecord, codeIn, kindIn, placeIn, emittedIn, codeByte, blame}
+use Rattle.demands.specs.Tick.{Outcome, outcome, tickOf}
+use Rattle.demands.specs.TickRows.{Malformed, TickRow}
+use Rattle.demands.specs.Paper.{Call, Report, turnedDown, reacted, paper}
+
+abbrev pub Check : Type 0
+Check = List ℕ → ℕ
+
+-- sequence, state, input, answer
+abbrev pub Tick : Type 0
+Tick = List ℕ → List ℕ → ℕ → List ℕ → Outcome
+
+abbrev pub number : Outcome → ℕ
+number (outcome n state answer) = n
+
+abbrev pub stateAfterwards : Outcome → List ℕ
+stateAfterwards (outcome n state answer) = state
+
+abbrev pub answerAfterwards : Outcome → List ℕ
+answerAfterwards (outcome n state answer) = answer
+
+-- ---- lists of ticks: each reads the record as the last one left it
+unfoldable pub outcomes : Tick → (sequence state : List ℕ) → List Call → List Outcome
+outcomes tick sequence state [] = []
+outcomes tick sequence state (c ∷ cs) =
+    tick sequence state (c .input) (c .buffer)
+    ∷ outcomes tick sequence (stateAfterwards (tick sequence state (c .input) (c .buffer))) cs
+
+-- a cleared record
+abbrev pub cleared : List ℕ
+cleared = replicate stateLength 0
+
+-- ---- demand 1
+-- a record that row 11 admits
+abbrev pub Admitted : (sequence state : List ℕ) → Type 0
+Admitted sequence state =
+    (length state ≡ stateLength) × ((p : Statement) → Spells sequence p → ¬ Malformed p (phaseIn state) (labelsIn state))
+
+pub record Demand1 (check : Check) (tick : Tick) : Type 0 where
+  pub check-by-rows : (sequence : List ℕ) → ByRows (check sequence) (Row sequence)
+  pub tick-by-rows : (sequence state : List ℕ) (e : ℕ) (answer : List ℕ)
+      → ByRows (number (tick sequence state e answer)) (TickRow sequence state answer)
+  pub refusal-writes-nothing : (sequence state : List ℕ) (e : ℕ) (answer : List ℕ) → number (tick sequence state e answer) ≢ 0
+      → tick sequence state e answer ≡ outcome (number (tick sequence state e answer)) state answer
+  pub never-11 : (sequence state : List ℕ) → check sequence ≡ 0 → Admitted sequence state → (calls : List Call) (o : Outcome)
+      → List·Memᴰ o (outcomes tick sequence state calls) → number o ≢ 11
+  pub cleared-admitted : (sequence : List ℕ) → Admitted sequence cleared
+
+-- ---- demand 2
+-- the sequence is p, and in the state of this record the machine reacts with t
+pub data StandsAt (sequence state : List ℕ) : Statement → Type 0 where
+  at-start : {p : Statement} → Spells sequence p → phaseIn state ≡ 0 → labelsIn state ≡ none → StandsAt sequence state p
+  at-labels : {p : Statement} → Spells sequence p → phaseIn state ≡ 1 → Valid p (labelsIn state)
+      → StandsAt sequence state (expand p (labelsIn state))
+
+-- what the rules give for t is what the records show: both records whole, then the answer by its fields
+pub record Shows (t : Statement) (e o : ℕ) (k : Code) (l : ℕ) (t′ : Statement) (result : Outcome) : Type 0 where
+  pub an-instant : number result ≡ 0
+  pub moved : stateAfterwards result ≡ encodeState (stateAfter (gives o k l t′))
+  pub answered : answerAfterwards result
+      ≡ answerRecord (codeByte k) (blame k (firstError t e) .kind) (blame k (firstError t e) .place) (shown k o)
+  pub sized : length (answerAfterwards result) ≡ answerLength
+  pub code : codeIn (answerAfterwards result) ≡ codeByte k
+  pub called-wrong : (codeIn (answerAfterwards result) ≡ 255) ↔ (k ≡ wrong)
+  pub emitted : k ≢ wrong → emittedIn (answerAfterwards result) ≡ o
+  pub nothing-shown : k ≡ wrong → emittedIn (answerAfterwards result) ≡ none
+  -- the error that is named is the first, so it is one of them
+  pub named : k ≡ wrong
+      → (x : Error) × (firstError t e ≡ some x) × List·Memᴰ x (errors t e)
+      × (kindIn (answerAfterwards result) ≡ x .kind) × (placeIn (answerAfterwards result) ≡ x .place)
+  pub unnamed : k ≢ wrong → (kindIn (answerAfterwards result) ≡ 0) × (placeIn (answerAfterwards result) ≡ 0)
+
+pub record Demand2 (check : Check) (tick : Tick) : Type 0 where
+  -- where the tick gives 0, the machine stands at a term
+  pub stands : (sequence state : List ℕ) (e : ℕ) (answer : List ℕ) → number (tick sequence state e answer) ≡ 0
+      → (t : Statement) × StandsAt sequence state t
+  pub shows : (sequence state : List ℕ) (e : ℕ) (answer : List ℕ) → check sequence ≡ 0
+      → length state ≡ stateLength → length answer ≡ answerLength → (t : Statement) → StandsAt sequence state t
+      → (o : ℕ) (k : Code) (l : ℕ) (t′ : Statement) → Reacts t e (gives o k l t′) → Shows t e o k l t′ (tick sequence state e answer)
+
+-- ---- demand 3
+abbrev pub report : Outcome → Report
+report (outcome zero state answer) = reacted (codeIn answer) (emittedIn answer) (phaseIn state)
+report (outcome (suc n) state answer) = turnedDown (suc n) (phaseIn state)
+
+-- an accepted sequence without setpause: the paper is fed the statement that it spells, and both report the same
+abbrev pub Demand3 : Check → Tick → Type 0
+Demand3 check tick =
+    (sequence : List ℕ) → check sequence ≡ 0 → (p : Statement) → Spells sequence p → NoSetpause p → (calls : List Call)
+    → map report (outcomes tick sequence cleared calls) ≡ paper (Rewriting.fresh p) calls
+
+-- ---- the form for the code: a call of the tick meets its contract
+-- number and both buffers are tickOf's, and the kind and place of a wrong instant belong to one of its errors
+pub record TickMeets (n : ℕ) (state′ answer′ sequence state : List ℕ) (e : ℕ) (answer : List ℕ) : Type 0 where
+  pub result : outcome n state′ answer′ ≡ tickOf sequence state e answer
+  pub named : n ≡ 0 → codeIn answer′ ≡ 255 → (t : Statement) → StandsAt sequence state t
+      → (x : Error) × List·Memᴰ x (errors t e) × (kindIn answer′ ≡ x .kind) × (placeIn answer′ ≡ x .place)
+
+-- a chain of calls: each reads the state as the last one left it, the answer buffers are free
+pub data Chain (sequence : List ℕ) : (state : List ℕ) → List Call → List Outcome → Type 0 where
+  done : {state : List ℕ} → Chain sequence state [] []
+  call : {n : ℕ} {state state′ answer′ : List ℕ} {c : Call} {calls : List Call} {results : List Outcome}
+      → TickMeets n state′ answer′ sequence state (c .input) (c .buffer)
+      → Chain sequence state′ calls results
+      → Chain sequence state (c ∷ calls) (outcome n state′ answer′ ∷ results)

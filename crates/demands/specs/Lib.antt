@@ -1,0 +1,6 @@
+pub mod Tick
+pub mod TickRows
+pub mod Paper
+pub mod Demands
+pub mod Replacements
+pub mod Bays

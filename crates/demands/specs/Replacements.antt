@@ -1,0 +1,49 @@
+-- The six replacements of 01's checklist and one more, each a wrong check or tick. proofs/Replacements refutes a demand for each.
+use Prim.Native.Nat.{ℕ, zero, suc}
+use mathlib.Core.Bool.{cond}
+use mathlib.Core.List.{List, [], _∷_, _++_}
+use lib.ListN.{take, drop, replicate}
+use lib.Dec.{eqb}
+use Rattle.esterel.specs.Machines.{State}
+use Rattle.records.specs.Records.{answerLength, encodeState, phaseIn}
+use Rattle.demands.specs.Tick.{Outcome, outcome, tickOf}
+use Rattle.demands.specs.Demands.{Check, Tick, cleared}
+
+-- another result for an instant; a refusal stays
+abbrev pub instead : (List ℕ → List ℕ → Outcome) → Outcome → Outcome
+instead f (outcome zero state answer) = f state answer
+instead f (outcome (suc n) state answer) = outcome (suc n) state answer
+
+-- a tick that calls every instant wrong
+abbrev pub everyWrong : Tick
+everyWrong sequence state e answer =
+    instead (λ state′ answer′. outcome 0 (encodeState State.over) (255 ∷ 1 ∷ replicate 6 0)) (tickOf sequence state e answer)
+
+-- a check that turns every sequence down
+abbrev pub turnsDown : Check
+turnsDown sequence = 3
+
+-- a tick that always ends with code 0
+abbrev pub alwaysEnds : Tick
+alwaysEnds sequence state e answer =
+    instead (λ state′ answer′. outcome 0 (encodeState State.over) (replicate answerLength 0)) (tickOf sequence state e answer)
+
+-- a tick that leaves the labels where they were
+abbrev pub leavesLabels : Tick
+leavesLabels sequence state e answer =
+    instead (λ state′ answer′. outcome 0 (take 1 state′ ++ drop 1 state) answer′) (tickOf sequence state e answer)
+
+-- a tick that follows the rules in the first instant and repeats it later
+abbrev pub repeatsFirst : Tick
+repeatsFirst sequence state e answer = cond (eqb (phaseIn state) 1) (tickOf sequence cleared e answer) (tickOf sequence state e answer)
+
+-- a tick that says "over" to a fresh machine
+abbrev pub saysOver : Tick
+saysOver sequence state e answer =
+    cond (eqb (phaseIn state) 0) (instead (λ state′ answer′. outcome 12 state answer) (tickOf sequence state e answer))
+    (tickOf sequence state e answer)
+
+-- a tick whose answers have a byte too many
+abbrev pub appendsZero : Tick
+appendsZero sequence state e answer =
+    instead (λ state′ answer′. outcome 0 state′ (answer′ ++ 0 ∷ [])) (tickOf sequence state e answer)

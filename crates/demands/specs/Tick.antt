@@ -1,0 +1,35 @@
+-- One tick (01, 'Turned down' and 'States and resuming'): the number and both buffers after the call, for all arguments.
+use Prim.Native.Nat.{ℕ}
+use mathlib.Core.Bool.{_&&_, cond}
+use mathlib.Core.List.{List}
+use lib.ListN.{length}
+use lib.Dec.{eqb}
+use Rattle.esterel.specs.Statement.{Statement}
+use Rattle.esterel.specs.Expansion.{expand}
+use Rattle.esterel.specs.Resume.{Instant, instant, start}
+use Rattle.esterel.specs.Machines.{State, stateAfter}
+use Rattle.sequence.specs.Check.{Checked, sound, bad, checked}
+use Rattle.records.specs.Records.{stateLength, answerLength, Decoded, holds, malformed, encodeState, decodeState, encodeAnswer}
+
+pub data Outcome : Type 0 where
+  outcome : (number : ℕ) (state answer : List ℕ) → Outcome
+
+-- an instant: number 0, the next state and the answer
+abbrev pub written : Instant → Outcome
+written (instant r x) = outcome 0 (encodeState (stateAfter r)) (encodeAnswer (instant r x))
+
+-- a fresh machine reacts with the whole statement, a waiting one with its expansion; a refusal writes nothing
+abbrev pub byState : Statement → Decoded → List ℕ → ℕ → List ℕ → Outcome
+byState p malformed state e answer = outcome 11 state answer
+byState p (holds State.fresh) state e answer = written (start p e)
+byState p (holds (State.waits L)) state e answer = written (start (expand p L) e)
+byState p (holds State.over) state e answer = outcome 12 state answer
+
+abbrev pub byCheck : Checked → List ℕ → ℕ → List ℕ → Outcome
+byCheck (bad number) state e answer = outcome number state answer
+byCheck (sound p) state e answer = byState p (decodeState p state) state e answer
+
+unfoldable pub tickOf : (sequence state : List ℕ) (e : ℕ) (answer : List ℕ) → Outcome
+tickOf sequence state e answer =
+    cond (eqb (length state) stateLength && eqb (length answer) answerLength) (byCheck (checked sequence) state e answer)
+    (outcome 1 state answer)

@@ -1,0 +1,33 @@
+-- The widths and limits of 01, each named once for the definitions; src/lib.rt names them for the code.
+use Prim.Native.Nat.{ℕ}
+
+-- ---- 01, 'Commands': labels are 0 to 63, signals 0 to 31, exits 1 to 15
+abbrev pub labelCount : ℕ
+labelCount = 64
+
+abbrev pub signalCount : ℕ
+signalCount = 32
+
+abbrev pub maxExit : ℕ
+maxExit = 15
+
+-- the outermost command has depth 1
+abbrev pub maxDepth : ℕ
+maxDepth = 64
+
+-- signal commands around a command
+abbrev pub maxSignals : ℕ
+maxSignals = 6
+
+abbrev pub maxBytes : ℕ
+maxBytes = 1024
+
+-- ---- 01, 'States and resuming': the bytes of a label set, of a place and of a signal set
+abbrev pub labelBytes : ℕ
+labelBytes = 8
+
+abbrev pub placeBytes : ℕ
+placeBytes = 2
+
+abbrev pub signalBytes : ℕ
+signalBytes = 4

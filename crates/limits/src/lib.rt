@@ -1,0 +1,26 @@
+// The widths and limits of 01, each named once for the code; specs/Limits names them for the definitions.
+// Labels are 0 to 63, signals 0 to 31, exits 1 to 15.
+pub const LABELS: u8 = 64;
+
+pub const LABEL_COUNT: usize = 64;
+
+pub const SIGNALS: u8 = 32;
+
+pub const MAX_EXIT: u8 = 15;
+
+// The command with the greatest byte.
+pub const LAST_COMMAND: u8 = 10;
+
+// The outermost command has depth 1; at most so many signal commands stand around a command.
+pub const MAX_DEPTH: u8 = 64;
+
+pub const MAX_SIGNALS: u8 = 6;
+
+pub const MAX_BYTES: usize = 1024;
+
+// The bytes of a label set, of a place and of a signal set.
+pub const LABEL_BYTES: usize = 8;
+
+pub const PLACE_BYTES: usize = 2;
+
+pub const SIGNAL_BYTES: usize = 4;

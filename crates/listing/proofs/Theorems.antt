@@ -1,0 +1,31 @@
+-- The theorems of this crate: the pieces of a run are the listing of its file, a listing shows what the machine by rewriting
+-- shows, and 01's example.
+use Prim.Native.Nat.{ℕ, _+_, _≤_}
+use mathlib.Core.Path.{_≡_}
+use mathlib.Core.List.{List, _++_, map}
+use lib.ListN.{length}
+use Rattle.esterel.specs.Statement.{Statement}
+use Rattle.esterel.specs.States.{NoSetpause}
+use Rattle.sequence.specs.Rows.{Spells}
+use Rattle.listing.specs.Text.{heading, ending}
+use Rattle.listing.specs.File.{runs, fileOf}
+use Rattle.listing.specs.Listing.{Row, lines, listingOf}
+use Rattle.listing.specs.Stages.{opening, turns}
+use Rattle.listing.specs.Paper.{columns, paperColumns}
+use Rattle.listing.specs.Examples.{exampleFile, exampleListing}
+use Rattle.listing.proofs.Turns as all
+use Rattle.listing.proofs.Paper as paper
+use Rattle.listing.proofs.Examples as examples
+
+-- as many turns as the file has bytes, and two, give the whole listing
+pub turns-list : (file : List ℕ) (n : ℕ) → length file + 2 ≤ n → turns n (opening file) ≡ listingOf file
+turns-list = all.turns-list
+
+-- for a sequence without setpause: a heading, rows whose codes and sets are the machine's, and the end
+pub listing-by-paper : (file sequence inputs : List ℕ) → fileOf file ≡ runs sequence inputs
+    → (p : Statement) → Spells sequence p → NoSetpause p
+    → (rs : List Row) × (listingOf file ≡ heading ++ (lines rs ++ ending)) × (map columns rs ≡ paperColumns p inputs)
+listing-by-paper = paper.listing-by-paper
+
+pub example : listingOf exampleFile ≡ exampleListing
+example = examples.example

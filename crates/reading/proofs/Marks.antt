@@ -1,0 +1,103 @@
+-- The table of second parts: what is marked depends only on a statement's own entries, and a command is marked by its parts.
+use Prim.Native.Nat.{ℕ, _+_, _≤_, _<_}
+use mathlib.Core.Path.{_≡_, refl, ap, _∙_}
+use mathlib.Core.Logic.{_↔_}
+use mathlib.Core.List.{List}
+use native.Mathlib.Omega.{arith}
+use lib.ListN.{getD, length, set, length-append, length-set}
+use lib.Seq.{getD-set-same, getD-set-other}
+use Rattle.esterel.specs.Statement.{Statement, nothing, pause, emit, exit, seq, par, loop, present, signal, try, setpause}
+use Rattle.esterel.specs.Ranks.{middle}
+use Rattle.sequence.specs.Commands.{Command, partCount, width, build}
+use Rattle.sequence.specs.Writer.{bytesOf, size}
+use Rattle.reading.specs.Layout.{entry, Marked}
+use Rattle.reading.specs.Reading.{Entered}
+use Rattle.sequence.proofs.Table.{leaves, ones, twos}
+
+-- u agrees with t on the entries from a to e
+abbrev pub Agrees : (t u : List ℕ) → (a e : ℕ) → Type 0
+Agrees t u a e = (i : ℕ) → a ≤ i → i < e → getD u i 0 ≡ getD t i 0
+
+-- what is marked depends only on the entries of the statement's own bytes
+pub local : (t u : List ℕ) (base a : ℕ) (p : Statement) → Agrees t u a (a + size p) → Marked t base a p → Marked u base a p
+unfolding bytesOf
+local t u base a nothing h m = tt
+local t u base a (pause l) h m = tt
+local t u base a (emit s) h m = tt
+local t u base a (exit n) h m = tt
+local t u base a (seq p q) h m =
+    let l = length-append (bytesOf p) (bytesOf q) in (
+      h a (omega arith) (omega arith) ∙ m .0,
+      local t u base (a + 1) p (λ i b e. h i (omega arith) (omega (arith, l))) (m .1),
+      local t u (middle base p) (a + (1 + size p)) q (λ i b e. h i (omega arith) (omega (arith, l))) (m .2),
+    )
+local t u base a (par p q) h m =
+    let l = length-append (bytesOf p) (bytesOf q) in (
+      h a (omega arith) (omega arith) ∙ m .0,
+      local t u base (a + 1) p (λ i b e. h i (omega arith) (omega (arith, l))) (m .1),
+      local t u (middle base p) (a + (1 + size p)) q (λ i b e. h i (omega arith) (omega (arith, l))) (m .2),
+    )
+local t u base a (loop b p) h m = local t u base (a + 1) p (λ i b e. h i (omega arith) (omega arith)) m
+local t u base a (present s p q) h m =
+    let l = length-append (bytesOf p) (bytesOf q) in (
+      h a (omega arith) (omega arith) ∙ m .0,
+      local t u base (a + 2) p (λ i b e. h i (omega arith) (omega (arith, l))) (m .1),
+      local t u (middle base p) (a + (2 + size p)) q (λ i b e. h i (omega arith) (omega (arith, l))) (m .2),
+    )
+local t u base a (signal b s p) h m = local t u base (a + 2) p (λ i b e. h i (omega arith) (omega arith)) m
+local t u base a (try p) h m = local t u base (a + 1) p (λ i b e. h i (omega arith) (omega arith)) m
+local t u base a (setpause l) h m = tt
+
+-- ---- the command c at offset a, by its parts
+module _ (t : List ℕ) (base a : ℕ) (xs : List ℕ) where
+  marked-leaf : (c : Command) → partCount c ≡ 0 → Marked t base a (build c a xs nothing nothing)
+  marked-leaf = leaves (λ (c : Command). Marked t base a (build c a xs nothing nothing)) tt tt tt tt tt
+
+  pub marked-one : (c : Command) → partCount c ≡ 1 → (p : Statement) → Marked t base (a + width c) p ↔ Marked t base a (build c a xs p nothing)
+  marked-one =
+      ones (λ (c : Command). (p : Statement) → Marked t base (a + width c) p ↔ Marked t base a (build c a xs p nothing))
+      (λ p. (λ m. m, λ m. m)) (λ p. (λ m. m, λ m. m)) (λ p. (λ m. m, λ m. m))
+
+  -- the entry of the command, and those of its parts
+  abbrev pub Marks : Command → (p q : Statement) → Type 0
+  Marks c p q =
+      (getD t a 0 ≡ entry (a + (width c + size p)) (middle base p)) × Marked t base (a + width c) p × Marked t (middle base p) (a + (width c + size p)) q
+
+  pub marked-two : (c : Command) → partCount c ≡ 2 → (p q : Statement) → Marks c p q ↔ Marked t base a (build c a xs p q)
+  marked-two =
+      twos (λ (c : Command). (p q : Statement) → Marks c p q ↔ Marked t base a (build c a xs p q))
+      (λ p q. (λ m. m, λ m. m)) (λ p q. (λ m. m, λ m. m)) (λ p q. (λ m. m, λ m. m))
+
+-- ---- the same with what is kept
+pub entered-leaf : (t : List ℕ) (base a : ℕ) (xs : List ℕ) (c : Command) → partCount c ≡ 0 → Entered t t base a (width c) (build c a xs nothing nothing)
+entered-leaf t base a xs c e = record { long = refl; marked = marked-leaf t base a xs c e; below = λ i h. refl; above = λ i h. refl }
+
+pub entered-one : (t u : List ℕ) (base a : ℕ) (xs : List ℕ) (c : Command) (p : Statement) (n : ℕ) → partCount c ≡ 1 → Entered t u base (a + width c) n p
+    → Entered t u base a (width c + n) (build c a xs p nothing)
+entered-one t u base a xs c p n e h =
+    record {
+      long = h .long;
+      marked = marked-one u base a xs c e p .0 (h .marked);
+      below = λ i l. h .below i (omega arith);
+      above = λ i l. h .above i (omega arith);
+    }
+
+-- the first part is read, the entry o of the offset b behind it is noted at the command's own offset, and the second part
+-- is read there
+pub entered-two : (t u v : List ℕ) (base a : ℕ) (xs : List ℕ) (b o : ℕ) (c : Command) (p q : Statement) (m n : ℕ) → partCount c ≡ 2 → m ≡ size p
+    → b ≡ a + (width c + m) → o ≡ entry b (middle base p) → a < length u → Entered t u base (a + width c) m p
+    → Entered (set u a o) v (middle base p) b n q → Entered t v base a (width c + m + n) (build c a xs p q)
+entered-two t u v base a xs b o c p q m n e z y w l f g =
+    let own : getD v a 0 ≡ o = g .below a (omega arith) ∙ getD-set-same u a o 0 l in
+    let place : b ≡ a + (width c + size p) = omega arith in
+    record {
+      long = g .long ∙ length-set u a o ∙ f .long;
+      marked =
+          marked-two v base a xs c e p q .0 (
+            own ∙ w ∙ ap (λ (i : ℕ). entry i (middle base p)) place,
+            local u v base (a + width c) p (λ i k h. g .below i (omega arith) ∙ getD-set-other u a i o 0 (omega arith)) (f .marked),
+            rw place at (g .marked),
+          );
+      below = λ i h. g .below i (omega arith) ∙ getD-set-other u a i o 0 (omega arith) ∙ f .below i (omega arith);
+      above = λ i h. g .above i (omega arith) ∙ getD-set-other u a i o 0 (omega arith) ∙ f .above i (omega arith);
+    }

@@ -1,0 +1,60 @@
+use Rattle.esterel.specs.Sets.{join, only}
+use Rattle.sets.proofs.Laws.{shifted}
+use Rattle.reading.specs.Notes.{notePause}
+use borrow.Author.Needs.{needs}
+use Rattle.reading.proofs.notes.note_pause.Statement.{statement}
+use Rattle.reading.proofs.notes.note_pause.Tie as tie
+
+shl-bit : tie.Need-shl-bit
+shl-bit c = search needs
+
+element-copy-out-seen : tie.Need-element-copy-out-seen
+element-copy-out-seen c = search needs
+
+element-copy-out-count : tie.Need-element-copy-out-count
+element-copy-out-count c = search needs
+
+element-copy-out-notes : tie.Need-element-copy-out-notes
+element-copy-out-notes c = search needs
+
+element-write-notes : tie.Need-element-write-notes
+element-write-notes c = search needs
+
+element-write-notes-2 : tie.Need-element-write-notes-2
+element-write-notes-2 c = search needs
+
+add-notes : tie.Need-add-notes
+add-notes c = search needs
+
+mul-notes : tie.Need-mul-notes
+mul-notes c = search needs
+
+element-write-notes-3 : tie.Need-element-write-notes-3
+element-write-notes-3 c = search needs
+
+add-notes-2 : tie.Need-add-notes-2
+add-notes-2 c = search needs
+
+element-write-notes-4 : tie.Need-element-write-notes-4
+element-write-notes-4 c = search needs
+
+returns : tie.Need-returns
+unfolding notePause join only
+returns c = rw (shifted 64 _ (c .before .before .before .pre .0))
+
+pub note-pause-spec : {M : Type 1} → statement M
+note-pause-spec =
+    tie.close
+    (tie.spec
+    shl-bit
+    element-copy-out-seen
+    element-copy-out-count
+    element-copy-out-notes
+    element-write-notes
+    element-write-notes-2
+    add-notes
+    mul-notes
+    element-write-notes-3
+    add-notes-2
+    element-write-notes-4
+    returns)

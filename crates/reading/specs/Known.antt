@@ -1,0 +1,23 @@
+-- What the check leaves of a sound sequence for reacting.
+use mathlib.Core.Path.{_≡_}
+use mathlib.Core.Bool.{true}
+use mathlib.Core.List.{List}
+use Prim.Native.Nat.{ℕ}
+use lib.ListN.{length}
+use Rattle.esterel.specs.Statement.{Statement}
+use Rattle.esterel.specs.LabelTests.{distinct}
+use Rattle.limits.specs.Limits.{maxBytes, maxDepth}
+use Rattle.reading.specs.Layout.{Lies}
+use Rattle.reading.specs.Notes.{Noted}
+
+-- p lies in bs, the table of second parts and the notes of labels are its, and row 8 does not hold of it
+pub record Known (t notes bs : List ℕ) (p : Statement) : Type 0 where
+  pub lies : Lies t maxDepth 0 0 bs p
+  pub noted : Noted p notes
+  pub once : distinct p ≡ true
+  pub long : length t ≡ maxBytes
+
+-- that of some statement
+pub record Sound (t notes bs : List ℕ) : Type 0 where
+  pub p : Statement
+  pub known : Known t notes bs p

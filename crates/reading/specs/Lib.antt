@@ -1,0 +1,5 @@
+pub mod Notes
+pub mod Layout
+pub mod Reading
+pub mod Joints
+pub mod Known

@@ -1,0 +1,82 @@
+// What reading notes of labels, in an array that the caller lends (specs/Notes).
+ghost use mathlib.Core.Path.{_≡_};
+ghost use mathlib.Core.Bool.{cond};
+ghost use Prim.Native.Nat.{_<_};
+ghost use lib.Dec.{ltb};
+ghost use Rattle.esterel.specs.Sets.{empty};
+ghost use Rattle.sets.specs.Labels.{labelSet};
+ghost use Rattle.limits.specs.Limits.{labelCount, maxBytes};
+ghost use Rattle.reading.specs.Notes.{pausesIn, setpausesIn, twiceIn, countIn, rankIn, notePause, noteSetpause};
+
+// The labels of pauses, of setpauses and of pauses that came twice, the number of pauses, then a rank for each label.
+pub const LENGTH: usize = RANKS + limits::LABEL_COUNT;
+
+pub type Notes = [u64; LENGTH];
+
+const PAUSES: usize = 0;
+
+const SETPAUSES: usize = 1;
+
+const TWICE: usize = 2;
+
+const COUNT: usize = 3;
+
+const RANKS: usize = 4;
+
+// A pause with label l was read.
+pub(crate) fn note_pause(l: u8, notes: &mut Notes)
+    requires { ⌜ (l < labelCount) × (countIn (now notes) < maxBytes) ⌝ }
+    ensures { λ _. ⌜ now (notes .exit) ≡ notePause l (now (notes .entry)) ⌝ }
+{
+    let bit = 1u64 << l;
+    let seen = notes[PAUSES];
+    let count = notes[COUNT];
+    notes[TWICE] = notes[TWICE] | (seen & bit);
+    notes[PAUSES] = seen | bit;
+    notes[RANKS + l as usize] = count;
+    notes[COUNT] = count + 1;
+}
+
+// A setpause with label l was read.
+pub(crate) fn note_setpause(l: u8, notes: &mut Notes)
+    requires { ⌜ l < labelCount ⌝ }
+    ensures { λ _. ⌜ now (notes .exit) ≡ noteSetpause l (now (notes .entry)) ⌝ }
+{
+    notes[SETPAUSES] = notes[SETPAUSES] | (1u64 << l);
+}
+
+pub fn pauses(notes: &Notes) -> sets::labels::Labels
+    ensures { λ r. ⌜ labelSet r ≡ pausesIn (now (notes .entry)) ⌝ }
+{
+    sets::labels::from_bits(notes[PAUSES])
+}
+
+pub fn setpauses(notes: &Notes) -> sets::labels::Labels
+    ensures { λ r. ⌜ labelSet r ≡ setpausesIn (now (notes .entry)) ⌝ }
+{
+    sets::labels::from_bits(notes[SETPAUSES])
+}
+
+// Did no label of a pause come twice?
+pub fn is_distinct(notes: &Notes) -> bool
+    ensures { λ r. ⌜ r ≡ empty (twiceIn (now (notes .entry))) ⌝ }
+{
+    notes[TWICE] == 0
+}
+
+pub(crate) fn count(notes: &Notes) -> u64
+    ensures { λ r. ⌜ r ≡ countIn (now (notes .entry)) ⌝ }
+{
+    notes[COUNT]
+}
+
+// The rank of the pause l; a label outside the width has none.
+pub fn rank(notes: &Notes, l: u8) -> u64
+    ensures { λ r. ⌜ r ≡ cond (ltb l labelCount) (rankIn (now (notes .entry)) l) 0 ⌝ }
+{
+    if l < limits::LABELS {
+        notes[RANKS + l as usize]
+    } else {
+        0
+    }
+}

@@ -1,0 +1,155 @@
+// The reader (01, 'Commands' and rows 3 to 6): one walk into every part of a command. It answers one number, the offset
+// behind the statement or 4096 times the row that turns it down. Offsets are those of the whole sequence.
+ghost use mathlib.Core.Path.{_≡_};
+ghost use Prim.Native.Nat.{ℕ, _+_, _≤_, _<_};
+ghost use mathlib.Core.List.{List};
+ghost use lib.ListN.{length};
+ghost use Rattle.limits.specs.Limits.{maxBytes};
+ghost use Rattle.sequence.specs.Commands.{Command, partCount, width};
+ghost use Rattle.sequence.specs.Reader.{front, read};
+ghost use Rattle.reading.specs.Layout.{entry};
+ghost use Rattle.reading.specs.Notes.{noNotes};
+ghost use Rattle.reading.specs.Reading.{headOf, Leaf, Labels, pairRead, Readable, Done, Reads};
+use crate::notes::Notes;
+
+// The table of second parts: at the offset of a command of two parts, where its second part begins and how many pauses
+// stand before that.
+pub type Seconds = [u32; limits::MAX_BYTES];
+
+// A statement: the count of its bytes, or the row that turns it down.
+pub enum Reading {
+    Accepted(usize),
+    Refused(u8),
+}
+
+// The command at the front of s: its own bytes, or 4096 times the row that turns it down.
+fn front(s: &[u8]) -> usize
+    ensures { λ r. ⌜ r ≡ headOf (front (now (s .entry))) ⌝ }
+{
+    if s.len() == 0 {
+        return 4 * 4096;
+    }
+    let b = s[0];
+    if limits::LAST_COMMAND < b {
+        return 3 * 4096;
+    }
+    if crate::commands::width(b) == 1 {
+        return 1;
+    }
+    if s.len() <= 1 {
+        return 4 * 4096;
+    }
+    if crate::commands::in_range(b, s[1]) {
+        2
+    } else {
+        5 * 4096
+    }
+}
+
+// Notes the label of the command at the front of s, which has no parts.
+fn label(s: &[u8], notes: &mut Notes)
+    requires { ⌜ Leaf (now s) (now notes) ⌝ }
+    ensures { λ _. ⌜ Labels (now (s .entry)) (now (notes .entry)) (now (notes .exit)) ⌝ }
+{
+    let b = s[0];
+    if b == 1 {
+        crate::notes::note_pause(s[1], notes);
+        return;
+    }
+    if b == 10 {
+        crate::notes::note_setpause(s[1], notes);
+    }
+}
+
+// The entry of a second part at offset m with n pauses before it.
+fn entry(m: usize, n: u64) -> u32
+    requires { ⌜ m ≤ maxBytes ⌝ }
+    requires { ⌜ n ≤ maxBytes ⌝ }
+    ensures { λ r. ⌜ r ≡ entry m n ⌝ }
+{
+    (m as u32) + 2048 * (n as u32)
+}
+
+// The two parts of the command of w bytes at offset `at`; s is behind the command.
+fn two(
+    s: &[u8],
+    at: usize,
+    w: usize,
+    depth: u8,
+    signals: u8,
+    second: &mut Seconds,
+    notes: &mut Notes,
+) -> usize
+    requires { ⌜ 0 < w ⌝ }
+    requires { ⌜ Readable (at + w) (now s) (now second) (now notes) ⌝ }
+    ensures { λ r. ⌜ ((c : Command) (xs : List ℕ) → partCount c ≡ 2 → w ≡ width c
+        → Done at (now (second .entry)) (now (second .exit)) (now (notes .entry)) (now (notes .exit))
+        (pairRead (read depth signals) c at xs (now (s .entry))) r) ⌝ }
+{
+    let m = read(&s[0..], at + w, depth, signals, second, notes);
+    if 4096 <= m {
+        return m;
+    }
+    second[at] = entry(m, crate::notes::count(notes));
+    let n = m - at - w;
+    read(&s[n..], m, depth, signals, second, notes)
+}
+
+// The statement at the front of s, which stands at offset `at`, where `depth` levels and `signals` signal commands are
+// still allowed.
+fn read(
+    s: &[u8],
+    at: usize,
+    depth: u8,
+    signals: u8,
+    second: &mut Seconds,
+    notes: &mut Notes,
+) -> usize
+    requires { ⌜ Readable at (now s) (now second) (now notes) ⌝ }
+    ensures { λ r. ⌜ Done at (now (second .entry)) (now (second .exit)) (now (notes .entry)) (now (notes .exit))
+        (read depth signals at (now (s .entry))) r ⌝ }
+{
+    let w = front(&s[0..]);
+    if 4096 <= w {
+        return w;
+    }
+    if depth == 0 {
+        return 6 * 4096;
+    }
+    let b = s[0];
+    let parts = crate::commands::parts(b);
+    if parts == 2 {
+        return two(&s[w..], at, w, depth - 1, signals, second, notes);
+    }
+    if parts == 1 {
+        let declares = crate::commands::declared(b);
+        if signals < declares {
+            return 6 * 4096;
+        }
+        let left = signals - declares;
+        return read(&s[w..], at + w, depth - 1, left, second, notes);
+    }
+    label(&s[0..], notes);
+    at + w
+}
+
+// The statement at the front of a sequence, with the table of its second parts and the notes of its labels.
+pub fn read_sequence(s: &[u8], second: &mut Seconds, notes: &mut Notes) -> Reading
+    requires { ⌜ length (now s) ≤ maxBytes ⌝ }
+    requires { ⌜ length (now second) ≡ maxBytes ⌝ }
+    requires { ⌜ now notes ≡ noNotes ⌝ }
+    ensures { λ r. ⌜ Reads (now (s .entry)) (now (second .exit)) (now (notes .exit)) r ⌝ }
+{
+    let m = read(
+        &s[0..],
+        0,
+        limits::MAX_DEPTH,
+        limits::MAX_SIGNALS,
+        second,
+        notes,
+    );
+    if 4096 <= m {
+        return Reading::Refused((m / 4096) as u8);
+    }
+    Reading::Accepted(m)
+}

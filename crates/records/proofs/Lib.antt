@@ -1,0 +1,6 @@
+pub mod Bytes
+pub mod LeLoops
+pub mod Parts
+pub mod Stores
+pub mod RecordLaws
+pub mod Theorems

@@ -1,0 +1,34 @@
+-- The theorems of this crate: what is written is what is read, a number and a state, and an answer's length and fields.
+use Prim.Native.Nat.{ℕ, _^_, _<_}
+use mathlib.Core.Path.{_≡_}
+use mathlib.Core.Option.{Option}
+use lib.ListN.{length}
+use Rattle.esterel.specs.Statement.{Statement}
+use Rattle.esterel.specs.Reaction.{Code, gives}
+use Rattle.esterel.specs.Errors.{Error}
+use Rattle.esterel.specs.Resume.{instant}
+use Rattle.esterel.specs.Machines.{shown, State}
+use Rattle.records.specs.Bytes.{leBytes, leNumber}
+use Rattle.limits.specs.Limits.{placeBytes, signalBytes}
+use Rattle.records.specs.Records.{stateLength, answerLength, encodeState, holds, decodeState, codeByte, blame, codeIn, kindIn, placeIn, emittedIn, encodeAnswer}
+use Rattle.records.proofs.Bytes as bytes
+use Rattle.records.proofs.RecordLaws.{Recorded}
+use Rattle.records.proofs.RecordLaws as laws
+
+pub le-round-trip : (n x : ℕ) → x < 256 ^ n → leNumber (leBytes n x) ≡ x
+le-round-trip = bytes.le-round-trip
+
+-- a valid state whose labels fit
+pub decode-encode : (p : Statement) (s : State) → Recorded p s → decodeState p (encodeState s) ≡ holds s
+decode-encode = laws.decode-encode
+
+pub lengths : ((s : State) → length (encodeState s) ≡ stateLength)
+    × ((o : ℕ) (k : Code) (l : ℕ) (t : Statement) (x : Option Error) → length (encodeAnswer (instant (gives o k l t) x)) ≡ answerLength)
+lengths = (laws.length-state, laws.length-answer)
+
+pub fields : (o : ℕ) (k : Code) (l : ℕ) (t : Statement) (x : Option Error)
+    → (codeIn (encodeAnswer (instant (gives o k l t) x)) ≡ codeByte k)
+    × (kindIn (encodeAnswer (instant (gives o k l t) x)) ≡ blame k x .kind)
+    × (blame k x .place < 256 ^ placeBytes → placeIn (encodeAnswer (instant (gives o k l t) x)) ≡ blame k x .place)
+    × (shown k o < 256 ^ signalBytes → emittedIn (encodeAnswer (instant (gives o k l t) x)) ≡ shown k o)
+fields o k l t x = (laws.code-field o k l t x, laws.kind-field o k l t x, laws.place-field o k l t x, laws.emitted-field o k l t x)

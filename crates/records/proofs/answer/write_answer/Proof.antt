@@ -1,0 +1,57 @@
+use Prim.Native.Nat.{ℕ}
+use native.Mathlib.Omega.{arith}
+use mathlib.Core.Path.{ap, _∙_}
+use mathlib.Core.List.{List}
+use lib.ListN.{length-set}
+use lib.Seq.{sets}
+use Rattle.records.specs.Bytes.{leBytes}
+use Rattle.limits.specs.Limits.{signalBytes}
+use Rattle.records.specs.Records.{answerLength, answerRecord}
+use Rattle.records.proofs.Stores.{left-alone, answer-stored}
+use Rattle.records.proofs.RecordLaws.{answer-sized}
+use borrow.Author.Needs.{needs}
+use Rattle.records.proofs.answer.write_answer.Statement.{statement}
+use Rattle.records.proofs.answer.write_answer.Tie as tie
+use Rattle.records.proofs.answer.write_answer.Reads as reads
+use Rattle.records.proofs.answer.write_answer.Lts as lts
+use Rattle.records.proofs.fields.put_le.Reads as put-le-reads
+
+returns : tie.Need-returns
+returns c =
+    let a = c .before .before .args in
+    left-alone answerLength (a .answer .now) (answerRecord (a .code) (a .kind) (a .place) (a .emitted)) (answer-sized (a .code) (a .kind) (a .place) (a .emitted)) (c .if1 .taken)
+
+slice-write-answer : tie.Need-slice-write-answer
+slice-write-answer c = search needs
+
+slice-write-answer-2 : tie.Need-slice-write-answer-2
+slice-write-answer-2 c = search needs
+
+put-le-requires : tie.Need-put-le-requires
+put-le-requires c κs = simp length-set (omega arith)
+
+put-le-requires-2 : tie.Need-put-le-requires-2
+put-le-requires-2 c κs = omega (arith, simp length-set at (c .before .before .before .put-le .kept .0))
+
+same-length : tie.Need-same-length
+same-length c =
+    c .before .before .put-le2 .kept .0 ∙ c .before .before .before .before .before .before .put-le .kept .0 ∙ simp length-set
+
+returns-2 : tie.Need-returns-2
+returns-2 c =
+    let s = c .before .before .before .before .before .before .before .before .before .before in
+    c .before .before .put-le2 .ensures
+    ∙ ap (λ (l : List ℕ). sets l 4 (leBytes signalBytes (s .args .emitted))) (c .before .before .before .before .before .before .put-le .ensures)
+    ∙ answer-stored (s .args .code) (s .args .kind) (s .args .place) (s .args .emitted) (s .args .answer .now) (c .before .before .before .before .before .before .before .before .if1 .left)
+
+pub write-answer-spec : {M : Type 1} → statement M
+write-answer-spec =
+    tie.close
+    (tie.spec
+    returns
+    slice-write-answer
+    slice-write-answer-2
+    put-le-requires
+    put-le-requires-2
+    same-length
+    returns-2)

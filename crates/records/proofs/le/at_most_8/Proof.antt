@@ -1,0 +1,15 @@
+use borrow.Author.Needs.{needs}
+use Rattle.records.proofs.Parts.{few, many}
+use Rattle.records.proofs.le.at_most_8.Statement.{statement}
+use Rattle.records.proofs.le.at_most_8.Tie as tie
+use Rattle.records.proofs.le.at_most_8.Reads as reads
+use Rattle.records.proofs.le.at_most_8.Lts as lts
+
+returns : tie.Need-returns
+returns c = few (c .before .args .n) (search needs)
+
+returns-2 : tie.Need-returns-2
+returns-2 c = many (c .before .args .n) (search needs)
+
+pub at-most-8-spec : {M : Type 1} → statement M
+at-most-8-spec = tie.close (tie.spec returns returns-2)

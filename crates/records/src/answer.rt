@@ -1,0 +1,45 @@
+// The answer record: code, kind and place of an error, emitted set.
+ghost use mathlib.Core.Path.{_≡_};
+ghost use Rattle.records.specs.Records.{replaced, codeIn, kindIn, placeIn, emittedIn, answerRecord};
+use crate::layout::ANSWER_LENGTH;
+use crate::layout::EMITTED_AT;
+use crate::layout::PLACE_AT;
+use limits::PLACE_BYTES;
+use limits::SIGNAL_BYTES;
+
+pub fn code(answer: &[u8]) -> u8
+    ensures { λ r. ⌜ r ≡ codeIn (now (answer .entry)) ⌝ }
+{
+    crate::fields::byte_at(answer, 0)
+}
+
+pub fn kind(answer: &[u8]) -> u8
+    ensures { λ r. ⌜ r ≡ kindIn (now (answer .entry)) ⌝ }
+{
+    crate::fields::byte_at(answer, 1)
+}
+
+pub fn place(answer: &[u8]) -> u16
+    ensures { λ r. ⌜ r ≡ placeIn (now (answer .entry)) ⌝ }
+{
+    crate::le::get_le(answer, PLACE_AT, PLACE_BYTES) as u16
+}
+
+pub fn emitted(answer: &[u8]) -> u32
+    ensures { λ r. ⌜ r ≡ emittedIn (now (answer .entry)) ⌝ }
+{
+    crate::le::get_le(answer, EMITTED_AT, SIGNAL_BYTES) as u32
+}
+
+// A buffer of another length is left as it is.
+pub fn write_answer(answer: &mut [u8], code: u8, kind: u8, place: u16, emitted: u32)
+    ensures { λ _. ⌜ now (answer .exit) ≡ replaced (now (answer .entry)) (answerRecord code kind place emitted) ⌝ }
+{
+    if answer.len() != ANSWER_LENGTH {
+        return;
+    }
+    answer[0] = code;
+    answer[1] = kind;
+    crate::fields::put_le(answer, PLACE_AT, PLACE_BYTES, place as u64);
+    crate::fields::put_le(answer, EMITTED_AT, SIGNAL_BYTES, emitted as u64);
+}

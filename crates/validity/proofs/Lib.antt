@@ -1,0 +1,3 @@
+pub mod Compatible
+pub mod Ranking
+pub mod Validities

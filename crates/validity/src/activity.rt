@@ -1,0 +1,118 @@
+// Row 11: is a set of labels valid? Its active pauses are a mask of ranks, and only parts with an active pause are entered.
+ghost use Prim.Native.Nat.{_-_, _≤_};
+ghost use lib.ListN.{length};
+ghost use Rattle.sets.specs.Labels.{labelSet};
+ghost use Rattle.reading.specs.Layout.{rest, Ready, Pair};
+ghost use Rattle.validity.specs.Activity.{Ranked, Masked, Compatible, CompatibleTwo, Judges};
+ghost use Rattle.reading.specs.Known.{Sound};
+use reading::notes::Notes;
+use reading::reader::Seconds;
+use sets::labels::Labels;
+
+// Are the active pauses pairwise compatible? The statement at the front of s stands at the offset `at`.
+fn compatible(s: &[u8], at: usize, depth: u8, second: &Seconds, active: Labels) -> bool
+    requires { ⌜ Ready (now second) depth at (now s) ⌝ }
+    ensures { λ r. ⌜ Compatible (now (second .entry)) depth at (now (s .entry)) (labelSet active) r ⌝ }
+{
+    let command = s[0];
+    match command {
+        4 => compatible_parts(s, at, 1, false, depth, second, active),
+        5 => compatible_parts(s, at, 1, true, depth, second, active),
+        6 => compatible_part(s, 1, at + 1, depth - 1, second, active),
+        7 => compatible_parts(s, at, 2, false, depth, second, active),
+        8 => compatible_part(s, 2, at + 2, depth - 1, second, active),
+        9 => compatible_part(s, 1, at + 1, depth - 1, second, active),
+        _ => true,
+    }
+}
+
+// The same of the part from s[n] on, which stands at the offset `at`.
+fn compatible_part(
+    s: &[u8],
+    n: usize,
+    at: usize,
+    depth: u8,
+    second: &Seconds,
+    active: Labels,
+) -> bool
+    requires { ⌜ n ≤ length (now s) ⌝ }
+    requires { ⌜ Ready (now second) depth at (rest n (now s)) ⌝ }
+    ensures { λ r. ⌜ Compatible (now (second .entry)) depth at (rest n (now (s .entry))) (labelSet active) r ⌝ }
+{
+    compatible(&s[n..], at, depth, second, active)
+}
+
+// The same of the two parts of the command of w bytes at the front of s, which stands at the offset `at`.
+fn compatible_parts(
+    s: &[u8],
+    at: usize,
+    w: usize,
+    parallel: bool,
+    depth: u8,
+    second: &Seconds,
+    active: Labels,
+) -> bool
+    requires { ⌜ Pair (now second) (depth - 1) at w (now s) ⌝ }
+    ensures { λ r. ⌜ CompatibleTwo (now (second .entry)) (depth - 1) at w (now (s .entry)) parallel (labelSet active) r ⌝ }
+{
+    let entry = second[at];
+    let m = (entry % 2048) as usize;
+    let n = m - at;
+    let p = sets::labels::below(active, entry / 2048);
+    let q = sets::labels::from(active, entry / 2048);
+    if sets::labels::is_empty(p) {
+        return compatible_part(s, n, m, depth - 1, second, q);
+    }
+    if sets::labels::is_empty(q) {
+        return compatible_part(s, w, at + w, depth - 1, second, p);
+    }
+    if !parallel {
+        return false;
+    }
+    if compatible_part(s, w, at + w, depth - 1, second, p) {
+        compatible_part(s, n, m, depth - 1, second, q)
+    } else {
+        false
+    }
+}
+
+// The ranks of the pauses with these labels.
+fn ranks(labels: Labels, notes: &Notes) -> Labels
+    requires { ⌜ Ranked (now notes) (labelSet labels) ⌝ }
+    ensures { λ r. ⌜ Masked (now (notes .entry)) (labelSet labels) (labelSet r) ⌝ }
+{
+    let mut mask = sets::labels::empty();
+    let mut left = labels;
+    while !sets::labels::is_empty(left) {
+        let l = sets::labels::lowest(left);
+        let rank = reading::notes::rank(notes, l) as u8;
+        mask = sets::labels::union(mask, sets::labels::single(rank));
+        left = sets::labels::without(left, l);
+    }
+    mask
+}
+
+// A valid set, with the ranks of its pauses, or none.
+pub enum Validity {
+    Valid(Labels),
+    Invalid,
+}
+
+// Is the label set valid for the statement that was read?
+pub fn validity_of(s: &[u8], second: &Seconds, notes: &Notes, labels: Labels) -> Validity
+    requires { ⌜ Sound (now second) (now notes) (now s) ⌝ }
+    ensures { λ r. ⌜ Judges (now (second .entry)) (now (notes .entry)) (now (s .entry)) (labelSet labels) r ⌝ }
+{
+    if sets::labels::is_empty(labels) {
+        return Validity::Invalid;
+    }
+    if !sets::labels::subset(labels, reading::notes::pauses(notes)) {
+        return Validity::Invalid;
+    }
+    let active = ranks(labels, notes);
+    if compatible(&s[0..], 0, limits::MAX_DEPTH, second, active) {
+        Validity::Valid(active)
+    } else {
+        Validity::Invalid
+    }
+}

@@ -1,0 +1,2 @@
+// Row 11 of 01: label sets in which a machine can stand.
+pub mod activity;

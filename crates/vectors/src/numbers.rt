@@ -1,0 +1,43 @@
+// The numbers on a line: words of digits, each with a space before it.
+ghost use Prim.Native.Nat.{_<_, _≤_};
+ghost use lib.ListN.{length};
+
+// More than any number that a line may name: what stands there is no number.
+pub const NONE: u64 = 0x100000000;
+
+// The number that `value` becomes with one digit more behind it; it has at most eight digits.
+fn extended(value: u64, byte: u8, base: u64) -> u64
+    requires { ⌜ base ≤ 16 ⌝ }
+{
+    let digit = match byte {
+        b'0'..=b'9' => byte as u64 - 48,
+        b'A'..=b'F' => byte as u64 - 55,
+        _ => 16,
+    };
+    if base <= digit {
+        return NONE;
+    }
+    if 0x10000000 <= value {
+        return NONE;
+    }
+    value * base + digit
+}
+
+// The number whose digits to the base stand behind a space at `at` and before `end`.
+pub fn number(line: &[u8], at: usize, end: usize, base: u64) -> u64
+    requires { ⌜ (at < end) × (end ≤ length (now line)) × (base ≤ 16) ⌝ }
+{
+    if line[at] != b' ' {
+        return NONE;
+    }
+    let mut i = at + 1;
+    if i == end {
+        return NONE;
+    }
+    let mut value: u64 = 0;
+    while i < end {
+        value = extended(value, line[i], base);
+        i += 1;
+    }
+    value
+}

@@ -1,0 +1,3 @@
+pub mod Passing
+pub mod Surveyed
+pub mod Clashes

@@ -1,0 +1,50 @@
+use mathlib.Core.Path.{refl}
+use Rattle.esterel.proofs.Booleans as Booleans
+use Rattle.sets.specs.Labels.{labelSet}
+use Rattle.sets.specs.Rows.{rowOf}
+use Rattle.sets.proofs.Members.{some-left, none-left, Seeking, seek, seek-on, seek-less}
+use Rattle.wellformed.proofs.Clashes.{Clear, clear-end}
+use borrow.Author.Needs.{needs}
+use Rattle.wellformed.proofs.triggers.any_clash.Statement.{statement}
+use Rattle.wellformed.proofs.triggers.any_clash.Tie as tie
+
+abbrev Inv-loop : tie.InvT-loop
+Inv-loop exclusive concurrent all left₀ left =
+    Seeking (Clear (rowOf exclusive) (rowOf concurrent) (labelSet left₀)) (labelSet left₀) (labelSet left)
+
+abbrev μ-loop : tie.MeasureT-loop
+μ-loop exclusive concurrent all left₀ left = labelSet left
+
+loop-holds : tie.Need-loop-holds Inv-loop μ-loop
+loop-holds c = seek _ _
+
+returns : tie.Need-returns Inv-loop μ-loop
+returns c g h = (λ _. (c .before .before .lowest .result, c .before .clash .ensures (c .before .before .before .before .before .before .union-of-rows .ensures g) .0 (c .if2 .taken)), λ _. refl)
+
+loop-less : tie.Need-loop-less Inv-loop μ-loop
+loop-less c =
+    seek-less _ _ _ (c .before .before .before .before .before .before .loop .inv) 64 _ (c .before .before .before .lowest .ensures)
+    (some-left (c .before .before .before .before .before .is-empty .ensures) (c .before .before .before .before .if1 .taken)) _ (c .without .ensures)
+
+loop-again : tie.Need-loop-again Inv-loop μ-loop
+loop-again c =
+    seek-on _ _ _ (c .before .before .before .before .before .before .loop .inv) _ _ (c .without .ensures)
+    (λ g x. Booleans.clash _ (c .before .before .clash .ensures (c .before .before .before .before .before .before .before .union-of-rows .ensures g) .1 x) (c .before .if2 .left))
+
+returns-2 : tie.Need-returns-2 Inv-loop μ-loop
+returns-2 c = clear-end _ _ _ _ (c .before .before .loop .inv) (none-left (c .before .is-empty .ensures) (c .if1 .left))
+
+pub any-clash-spec : {M : Type 1} → statement M
+any-clash-spec =
+    tie.close
+    (tie.spec
+    Inv-loop
+    μ-loop
+    (λ c κs. search needs)
+    loop-holds
+    (λ c κs. search needs) (λ c κs. search needs) (λ c κs. search needs)
+    returns
+    (λ c κs. search needs)
+    loop-less
+    loop-again
+    returns-2)

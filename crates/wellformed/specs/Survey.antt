@@ -1,0 +1,71 @@
+-- One walk over the bytes for row 10: the labels of the statement that lies there (sequence, specs/Layout), and what it adds
+-- to the rows of exclusive pauses and to those of pauses and setpauses aside (esterel, specs/LabelRows). The walk does not look
+-- into the table of second parts, which is any that fits.
+use Prim.Native.Nat.{ℕ, _+_}
+use mathlib.Core.Path.{_≡_}
+use mathlib.Core.Bool.{Bool, true, false}
+use mathlib.Core.List.{List}
+use Rattle.esterel.specs.Sets.{none, join}
+use Rattle.esterel.specs.Statement.{Statement}
+use Rattle.esterel.specs.LabelTests.{labelsOf, pauses, triggers, Joint, alternative, parallel}
+use Rattle.esterel.specs.LabelRows.{further, fill}
+use Rattle.sets.specs.Labels.{labelSet}
+use Rattle.sets.specs.Rows.{Updates}
+use Rattle.limits.specs.Limits.{maxDepth}
+use Rattle.sequence.specs.Writer.{size}
+use Rattle.reading.specs.Layout.{Two, Lies, Ready, Pair}
+use Rattle.reading.specs.Joints.{jointOf}
+use Rattle.wellformed.specs.declared.survey.Before.{Before}
+use Rattle.wellformed.specs.declared.survey.Passed.{Passed}
+
+-- ---- what the walk requires
+pub record Standing (d a : ℕ) (bs : List ℕ) : Type 0 where
+  pub table : List ℕ
+  pub ready : Ready table d a bs
+
+pub record StandingTwo (d a w : ℕ) (bs : List ℕ) : Type 0 where
+  pub table : List ℕ
+  pub pair : Pair table d a w bs
+
+-- ---- labels
+pub record Labelled (r : Passed) (end s t : ℕ) : Type 0 where
+  pub ends : r .end ≡ end
+  pub paused : labelSet (r .pauses) ≡ s
+  pub triggering : labelSet (r .triggers) ≡ t
+
+abbrev pub Joins : (p q r : Passed) → Type 0
+Joins p q r =
+    Labelled r (q .end) (join (labelSet (p .pauses)) (labelSet (q .pauses))) (join (labelSet (p .triggers)) (labelSet (q .triggers)))
+
+-- what stands before a second part
+pub record Begins (b : Bool) (v : Before) (p : Passed) (r : Before) : Type 0 where
+  pub excludes : labelSet (r .exclusive) ≡ further alternative (jointOf b) (labelSet (v .exclusive)) (labelSet (p .pauses))
+  pub sides : labelSet (r .concurrent) ≡ further parallel (jointOf b) (labelSet (v .concurrent)) (labelSet (p .triggers))
+
+-- ---- the walk: the labels of a statement, and what it adds to the rows m and n
+pub record Past (p : Statement) (a : ℕ) (v : Before) (r : Passed) (m m′ n n′ : List ℕ) : Type 0 where
+  pub labels : Labelled r (a + size p) (pauses p) (triggers p)
+  pub excludes : Updates (fill true false alternative p (labelSet (v .exclusive))) m m′
+  pub sides : Updates (fill true true parallel p (labelSet (v .concurrent))) n n′
+
+abbrev pub Passes : (d a : ℕ) (bs : List ℕ) (v : Before) (r : Passed) (m m′ n n′ : List ℕ) → Type 0
+Passes d a bs v r m m′ n n′ = (t : List ℕ) (base : ℕ) (p : Statement) → Lies t d base a bs p → Past p a v r m m′ n n′
+
+-- the same of the two parts of a command of w bytes at offset a
+abbrev pub fillTwo : (x y : Bool) → Joint → (parallel : Bool) (p q : Statement) → ℕ → (ℕ → ℕ) → ℕ → ℕ
+fillTwo x y j b p q known rows = fill x y j q (further j (jointOf b) known (labelsOf x y p)) (fill x y j p known rows)
+
+pub record PastTwo (b : Bool) (p q : Statement) (a w : ℕ) (v : Before) (r : Passed) (m m′ n n′ : List ℕ) : Type 0 where
+  pub labels : Labelled r (a + (w + (size p + size q))) (join (pauses p) (pauses q)) (join (triggers p) (triggers q))
+  pub excludes : Updates (fillTwo true false alternative b p q (labelSet (v .exclusive))) m m′
+  pub sides : Updates (fillTwo true true parallel b p q (labelSet (v .concurrent))) n n′
+
+abbrev pub PassesTwo : (d a w : ℕ) (bs : List ℕ) (parallel : Bool) (v : Before) (r : Passed) (m m′ n n′ : List ℕ) → Type 0
+PassesTwo d a w bs b v r m m′ n n′ =
+    (t : List ℕ) (base : ℕ) (p q : Statement) → Two (Lies t d) t base a w bs p q → PastTwo b p q a w v r m m′ n n′
+
+-- of the whole, where nothing stands before
+abbrev pub Surveys : (bs m m′ n n′ : List ℕ) → Type 0
+Surveys bs m m′ n n′ =
+    (t : List ℕ) (p : Statement) → Lies t maxDepth 0 0 bs p
+    → Updates (fill true false alternative p none) m m′ × Updates (fill true true parallel p none) n n′
