@@ -5,7 +5,7 @@ use mathlib.Core.List.{List, [], _∷_, _++_}
 use lib.ListN.{take, drop, replicate}
 use lib.Dec.{eqb}
 use Rattle.esterel.specs.Machines.{State}
-use Rattle.records.specs.Records.{answerLength, encodeState, phaseIn}
+use Rattle.records.specs.Records.{answerLength, labelsAt, encodeState, phaseIn}
 use Rattle.demands.specs.Tick.{Outcome, outcome, tickOf}
 use Rattle.demands.specs.Demands.{Check, Tick, cleared}
 
@@ -31,7 +31,7 @@ alwaysEnds sequence state e answer =
 -- a tick that leaves the labels where they were
 abbrev pub leavesLabels : Tick
 leavesLabels sequence state e answer =
-    instead (λ state′ answer′. outcome 0 (take 1 state′ ++ drop 1 state) answer′) (tickOf sequence state e answer)
+    instead (λ state′ answer′. outcome 0 (take labelsAt state′ ++ drop labelsAt state) answer′) (tickOf sequence state e answer)
 
 -- a tick that follows the rules in the first instant and repeats it later
 abbrev pub repeatsFirst : Tick

@@ -1,4 +1,4 @@
--- What a fresh statement answers, for whatever statement lies in the bytes (sequence, specs/Layout).
+-- What a fresh statement answers, for whatever statement lies in the bytes (reading, specs/Layout).
 use Prim.Native.Nat.{ℕ}
 use mathlib.Core.Path.{_≡_}
 use mathlib.Core.List.{List}

@@ -41,8 +41,8 @@ pub record Leaf (bs m : List ℕ) : Type 0 where
   pub few : countIn m < maxBytes
 
 -- its label is noted, if it has one
-abbrev pub Labels : (bs m n : List ℕ) → Type 0
-Labels bs m n = (c : Command) (a : ℕ) (xs : List ℕ) → front bs ≡ command c xs → n ≡ note (build c a xs nothing nothing) m
+abbrev pub LabelNoted : (bs m n : List ℕ) → Type 0
+LabelNoted bs m n = (c : Command) (a : ℕ) (xs : List ℕ) → front bs ≡ command c xs → n ≡ note (build c a xs nothing nothing) m
 
 -- p has its entries, and those that do not belong to its k bytes at offset a are as they were
 pub record Entered (t u : List ℕ) (base a k : ℕ) (p : Statement) : Type 0 where

@@ -9,7 +9,7 @@ ghost use Rattle.sequence.specs.Commands.{Command, partCount, width};
 ghost use Rattle.sequence.specs.Reader.{front, read};
 ghost use Rattle.reading.specs.Layout.{entry};
 ghost use Rattle.reading.specs.Notes.{noNotes};
-ghost use Rattle.reading.specs.Reading.{headOf, Leaf, Labels, pairRead, Readable, Done, Reads};
+ghost use Rattle.reading.specs.Reading.{headOf, Leaf, LabelNoted, pairRead, Readable, Done, Reads};
 use crate::notes::Notes;
 
 // The table of second parts: at the offset of a command of two parts, where its second part begins and how many pauses
@@ -49,7 +49,7 @@ fn front(s: &[u8]) -> usize
 // Notes the label of the command at the front of s, which has no parts.
 fn label(s: &[u8], notes: &mut Notes)
     requires { ⌜ Leaf (now s) (now notes) ⌝ }
-    ensures { λ _. ⌜ Labels (now (s .entry)) (now (notes .entry)) (now (notes .exit)) ⌝ }
+    ensures { λ _. ⌜ LabelNoted (now (s .entry)) (now (notes .entry)) (now (notes .exit)) ⌝ }
 {
     let b = s[0];
     if b == 1 {

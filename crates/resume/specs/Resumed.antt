@@ -1,5 +1,5 @@
 -- What a waiting statement answers by the ranks m of its active pauses, for whatever statement lies in the bytes
--- (sequence, specs/Layout).
+-- (reading, specs/Layout).
 use Prim.Native.Nat.{ℕ}
 use mathlib.Core.Path.{_≡_}
 use mathlib.Core.Bool.{cond}

@@ -68,22 +68,22 @@ abbrev pub operandsOf : Command → List ℕ → List ℕ
 operandsOf c bs = bytesAt 1 (operandCount c) bs
 
 -- the first operand byte
-abbrev pub firstOf : List ℕ → ℕ
-firstOf xs = getD xs 0 0
+abbrev pub firstOperand : List ℕ → ℕ
+firstOperand xs = getD xs 0 0
 
 -- are the operand bytes xs in their ranges?
 abbrev pub inRange : Command → List ℕ → Bool
 inRange nothing xs = true
-inRange pause xs = ltb (firstOf xs) labelCount
-inRange emit xs = ltb (firstOf xs) signalCount
-inRange exit xs = leb 1 (firstOf xs) && leb (firstOf xs) maxExit
+inRange pause xs = ltb (firstOperand xs) labelCount
+inRange emit xs = ltb (firstOperand xs) signalCount
+inRange exit xs = leb 1 (firstOperand xs) && leb (firstOperand xs) maxExit
 inRange seq xs = true
 inRange par xs = true
 inRange loop xs = true
-inRange present xs = ltb (firstOf xs) signalCount
-inRange signal xs = ltb (firstOf xs) signalCount
+inRange present xs = ltb (firstOperand xs) signalCount
+inRange signal xs = ltb (firstOperand xs) signalCount
 inRange try xs = true
-inRange setpause xs = ltb (firstOf xs) labelCount
+inRange setpause xs = ltb (firstOperand xs) labelCount
 
 -- the command byte and its operand bytes
 abbrev pub width : Command → ℕ
@@ -106,13 +106,13 @@ declares setpause = 0
 -- the statement of a command at offset a with operand bytes xs and parts p and q; what it does not have is left out
 abbrev pub build : Command → (a : ℕ) (xs : List ℕ) (p q : Statement) → Statement
 build nothing a xs p q = Statement.nothing
-build pause a xs p q = Statement.pause (firstOf xs)
-build emit a xs p q = Statement.emit (firstOf xs)
-build exit a xs p q = Statement.exit (firstOf xs)
+build pause a xs p q = Statement.pause (firstOperand xs)
+build emit a xs p q = Statement.emit (firstOperand xs)
+build exit a xs p q = Statement.exit (firstOperand xs)
 build seq a xs p q = Statement.seq p q
 build par a xs p q = Statement.par p q
 build loop a xs p q = Statement.loop a p
-build present a xs p q = Statement.present (firstOf xs) p q
-build signal a xs p q = Statement.signal a (firstOf xs) p
+build present a xs p q = Statement.present (firstOperand xs) p q
+build signal a xs p q = Statement.signal a (firstOperand xs) p
 build try a xs p q = Statement.try p
-build setpause a xs p q = Statement.setpause (firstOf xs)
+build setpause a xs p q = Statement.setpause (firstOperand xs)

@@ -1,4 +1,4 @@
--- Row 11 over the bytes, for whatever statement lies in them (sequence, specs/Layout), by the ranks that reading noted.
+-- Row 11 over the bytes, for whatever statement lies in them (reading, specs/Layout), by the ranks that reading noted.
 use Prim.Native.Nat.{ℕ, _<_}
 use mathlib.Core.Path.{_≡_}
 use mathlib.Core.Bool.{Bool, true, false}
@@ -17,12 +17,12 @@ use Rattle.validity.specs.declared.activity.Validity.{Validity}
 use Rattle.validity.specs.declared.activity.Validity.the-variants.{Valid, Invalid}
 
 -- r says whether the pauses of the mask m are pairwise compatible in the statement that lies there
-abbrev pub Compatible : (t : List ℕ) (d a : ℕ) (bs : List ℕ) (m : ℕ) (r : Bool) → Type 0
-Compatible t d a bs m r = (base : ℕ) (p : Statement) → Lies t d base a bs p → r ≡ compatible base p m
+abbrev pub TellsCompatible : (t : List ℕ) (d a : ℕ) (bs : List ℕ) (m : ℕ) (r : Bool) → Type 0
+TellsCompatible t d a bs m r = (base : ℕ) (p : Statement) → Lies t d base a bs p → r ≡ compatible base p m
 
 -- the same of the two parts of the command of w bytes at offset a
-abbrev pub CompatibleTwo : (t : List ℕ) (d a w : ℕ) (bs : List ℕ) (parallel : Bool) (m : ℕ) (r : Bool) → Type 0
-CompatibleTwo t d a w bs j m r =
+abbrev pub TellsCompatibleTwo : (t : List ℕ) (d a w : ℕ) (bs : List ℕ) (parallel : Bool) (m : ℕ) (r : Bool) → Type 0
+TellsCompatibleTwo t d a w bs j m r =
     (base : ℕ) (p q : Statement) → Two (Lies t d) t base a w bs p q
     → r
     ≡ ofParts (jointOf j) (empty (below (middle base p) m)) (empty (from (middle base p) m))

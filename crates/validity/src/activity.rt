@@ -3,7 +3,7 @@ ghost use Prim.Native.Nat.{_-_, _≤_};
 ghost use lib.ListN.{length};
 ghost use Rattle.sets.specs.Labels.{labelSet};
 ghost use Rattle.reading.specs.Layout.{rest, Ready, Pair};
-ghost use Rattle.validity.specs.Activity.{Ranked, Masked, Compatible, CompatibleTwo, Judges};
+ghost use Rattle.validity.specs.Activity.{Ranked, Masked, TellsCompatible, TellsCompatibleTwo, Judges};
 ghost use Rattle.reading.specs.Known.{Sound};
 use reading::notes::Notes;
 use reading::reader::Seconds;
@@ -12,7 +12,7 @@ use sets::labels::Labels;
 // Are the active pauses pairwise compatible? The statement at the front of s stands at the offset `at`.
 fn compatible(s: &[u8], at: usize, depth: u8, second: &Seconds, active: Labels) -> bool
     requires { ⌜ Ready (now second) depth at (now s) ⌝ }
-    ensures { λ r. ⌜ Compatible (now (second .entry)) depth at (now (s .entry)) (labelSet active) r ⌝ }
+    ensures { λ r. ⌜ TellsCompatible (now (second .entry)) depth at (now (s .entry)) (labelSet active) r ⌝ }
 {
     let command = s[0];
     match command {
@@ -37,7 +37,7 @@ fn compatible_part(
 ) -> bool
     requires { ⌜ n ≤ length (now s) ⌝ }
     requires { ⌜ Ready (now second) depth at (rest n (now s)) ⌝ }
-    ensures { λ r. ⌜ Compatible (now (second .entry)) depth at (rest n (now (s .entry))) (labelSet active) r ⌝ }
+    ensures { λ r. ⌜ TellsCompatible (now (second .entry)) depth at (rest n (now (s .entry))) (labelSet active) r ⌝ }
 {
     compatible(&s[n..], at, depth, second, active)
 }
@@ -53,7 +53,7 @@ fn compatible_parts(
     active: Labels,
 ) -> bool
     requires { ⌜ Pair (now second) (depth - 1) at w (now s) ⌝ }
-    ensures { λ r. ⌜ CompatibleTwo (now (second .entry)) (depth - 1) at w (now (s .entry)) parallel (labelSet active) r ⌝ }
+    ensures { λ r. ⌜ TellsCompatibleTwo (now (second .entry)) (depth - 1) at w (now (s .entry)) parallel (labelSet active) r ⌝ }
 {
     let entry = second[at];
     let m = (entry % 2048) as usize;

@@ -22,7 +22,7 @@ use Rattle.reading.proofs.Laid.{ready, by-command, command, first-ready}
 use Rattle.reading.specs.Joints.{jointOf}
 use Rattle.wellformed.specs.declared.survey.Before.{Before}
 use Rattle.wellformed.specs.declared.survey.Passed.{Passed}
-use Rattle.wellformed.specs.Survey.{Standing, StandingTwo, Labelled, Joins, Begins, Past, Passes, PastTwo}
+use Rattle.wellformed.specs.Survey.{Standing, StandingTwo, Labelled, Joins, BeginsSecond, Past, Passes, PastTwo}
 
 -- ---- rows
 pub unchanged : {m : List ℕ} → Updates (λ rows. rows) m m
@@ -157,7 +157,7 @@ module _ (a : ℕ) (v : Before) (r : Passed) (m m′ n n′ : List ℕ) (p q : S
       record { labels = ends-at (omega (arith, length-append (bytesOf p) (bytesOf q))) (h .labels); excludes = h .excludes; sides = h .sides }
 
   -- one part after the other; the rows m₁ and n₁ are those between them
-  pub parts-step : (w : ℕ) (b : Bool) (v₂ : Before) (x y : Passed) (m₁ n₁ : List ℕ) → Past p (a + w) v x m m₁ n n₁ → Begins b v x v₂
+  pub parts-step : (w : ℕ) (b : Bool) (v₂ : Before) (x y : Passed) (m₁ n₁ : List ℕ) → Past p (a + w) v x m m₁ n n₁ → BeginsSecond b v x v₂
       → Past q (x .end) v₂ y m₁ m′ n₁ n′ → Joins x y r → PastTwo b p q a w v r m m′ n n′
   parts-step w b v₂ x y m₁ n₁ h e k j =
       record {

@@ -1,4 +1,4 @@
--- One walk over the bytes for row 10: the labels of the statement that lies there (sequence, specs/Layout), and what it adds
+-- One walk over the bytes for row 10: the labels of the statement that lies there (reading, specs/Layout), and what it adds
 -- to the rows of exclusive pauses and to those of pauses and setpauses aside (esterel, specs/LabelRows). The walk does not look
 -- into the table of second parts, which is any that fits.
 use Prim.Native.Nat.{ℕ, _+_}
@@ -38,7 +38,7 @@ Joins p q r =
     Labelled r (q .end) (join (labelSet (p .pauses)) (labelSet (q .pauses))) (join (labelSet (p .triggers)) (labelSet (q .triggers)))
 
 -- what stands before a second part
-pub record Begins (b : Bool) (v : Before) (p : Passed) (r : Before) : Type 0 where
+pub record BeginsSecond (b : Bool) (v : Before) (p : Passed) (r : Before) : Type 0 where
   pub excludes : labelSet (r .exclusive) ≡ further alternative (jointOf b) (labelSet (v .exclusive)) (labelSet (p .pauses))
   pub sides : labelSet (r .concurrent) ≡ further parallel (jointOf b) (labelSet (v .concurrent)) (labelSet (p .triggers))
 

@@ -33,6 +33,6 @@ Clashes exclusive concurrent s r =
     RowsWithin exclusive s → RowsWithin concurrent s → (r ≡ true) ↔ ((k : ℕ) × Clash exclusive concurrent k)
 
 -- r says whether the statement that lies there is well-formed; s are its pauses, and row 9 does not hold of it
-abbrev pub WellFormed : (bs : List ℕ) (s : ℕ) (r : Bool) → Type 0
-WellFormed bs s r =
+abbrev pub TellsWellFormed : (bs : List ℕ) (s : ℕ) (r : Bool) → Type 0
+TellsWellFormed bs s r =
     (t : List ℕ) (p : Statement) → Lies t maxDepth 0 0 bs p → s ≡ pauses p → targeted p ≡ true → r ≡ wellFormed p

@@ -9,7 +9,7 @@ ghost use Rattle.sets.specs.Labels.{labelSet};
 ghost use Rattle.sets.specs.Rows.{Updates};
 ghost use Rattle.limits.specs.Limits.{maxDepth};
 ghost use Rattle.reading.specs.Layout.{rest};
-ghost use Rattle.wellformed.specs.Survey.{Standing, StandingTwo, Labelled, Joins, Begins, Passes, PassesTwo, Surveys};
+ghost use Rattle.wellformed.specs.Survey.{Standing, StandingTwo, Labelled, Joins, BeginsSecond, Passes, PassesTwo, Surveys};
 use sets::labels::Labels;
 use sets::labels::Rows;
 
@@ -75,7 +75,7 @@ fn at_setpause(l: u8, end: usize, before: Before, concurrent: &mut Rows) -> Pass
 
 // What stands before the second part of a command, whose first part was passed.
 fn before_second(parallel: bool, before: Before, first: Passed) -> Before
-    ensures { λ r. ⌜ Begins parallel before first r ⌝ }
+    ensures { λ r. ⌜ BeginsSecond parallel before first r ⌝ }
 {
     let exclusive = before.exclusive;
     let concurrent = before.concurrent;

@@ -6,7 +6,7 @@ ghost use Rattle.sets.specs.Labels.{labelSet};
 ghost use Rattle.sets.specs.Rows.{rowOf};
 ghost use Rattle.limits.specs.Limits.{maxDepth};
 ghost use Rattle.wellformed.specs.Survey.{Standing};
-ghost use Rattle.wellformed.specs.Triggers.{InRowOf, RowsWithin, CoversRows, Clash, Clashes, WellFormed};
+ghost use Rattle.wellformed.specs.Triggers.{InRowOf, RowsWithin, CoversRows, Clash, Clashes, TellsWellFormed};
 use sets::labels::Labels;
 use sets::labels::Rows;
 
@@ -75,7 +75,7 @@ fn any_clash(exclusive: &Rows, concurrent: &Rows, pauses: Labels) -> bool
 // Is the statement that lies in s well-formed? Its pauses are known, and row 9 does not hold of it.
 pub fn is_well_formed(s: &[u8], pauses: Labels) -> bool
     requires { ⌜ Standing maxDepth 0 (now s) ⌝ }
-    ensures { λ r. ⌜ WellFormed (now (s .entry)) (labelSet pauses) r ⌝ }
+    ensures { λ r. ⌜ TellsWellFormed (now (s .entry)) (labelSet pauses) r ⌝ }
 {
     let mut exclusive: Rows = [0; limits::LABEL_COUNT];
     let mut concurrent: Rows = [0; limits::LABEL_COUNT];
