@@ -11,7 +11,7 @@ use Rattle.esterel.specs.LabelTests.{subset, pauses, setpauses, distinct, targe
 use Rattle.esterel.proofs.LabelSets.{in-none, subset-is}
 use Rattle.esterel.proofs.LabelTests.{setpauses-is, distinct-is, wellFormed-is, noSetpause-formed}
 use Rattle.sets.specs.Sets.{Subset}
-use Rattle.reading.specs.Notes.{Noted, pausesIn, setpausesIn, twiceIn}
+use Rattle.layout.specs.Notes.{Noted, pausesIn, setpausesIn, twiceIn}
 use Rattle.sequence.specs.Check.{labelRules, numberOf}
 use Rattle.sets.proofs.Tests.{subset-by}
 

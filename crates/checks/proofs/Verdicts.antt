@@ -13,14 +13,14 @@ use Rattle.reading.specs.declared.reader.Reading.{Reading}
 use Rattle.reading.specs.declared.reader.Reading.the-variants.{Accepted, Refused}
 use Rattle.limits.specs.Limits.{maxDepth, maxSignals}
 use Rattle.sequence.specs.Reader.{Read, accepted, refused, read}
-use Rattle.reading.specs.Layout.{Lies}
-use Rattle.reading.specs.Notes.{Noted}
+use Rattle.layout.specs.Layout.{Lies}
+use Rattle.layout.specs.Notes.{Noted}
 use Rattle.reading.specs.Reading.{readingOf, Reads}
 use Rattle.sequence.specs.Check.{sound, bad, labelRules, afterRead, numberOf, checked, checkOf}
 use Rattle.sequence.proofs.Sound as Sound
-use Rattle.reading.proofs.Noting as Noting
-use Rattle.reading.proofs.Laid.{lies, ready}
-use Rattle.reading.specs.Known.{Known}
+use Rattle.layout.proofs.Noting as Noting
+use Rattle.layout.proofs.Laid.{lies, ready}
+use Rattle.layout.specs.Known.{Known}
 use Rattle.wellformed.specs.Survey.{Standing}
 use Rattle.checks.specs.Verdict.{ByLabels, Judged}
 

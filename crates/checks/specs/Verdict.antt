@@ -4,10 +4,10 @@ use mathlib.Core.Path.{_≡_}
 use mathlib.Core.List.{List}
 use Rattle.esterel.specs.Statement.{Statement}
 use Rattle.limits.specs.Limits.{maxDepth}
-use Rattle.reading.specs.Layout.{Lies}
-use Rattle.reading.specs.Notes.{Noted}
+use Rattle.layout.specs.Layout.{Lies}
+use Rattle.layout.specs.Notes.{Noted}
 use Rattle.sequence.specs.Check.{sound, labelRules, numberOf, checked, checkOf}
-use Rattle.reading.specs.Known.{Known}
+use Rattle.layout.specs.Known.{Known}
 
 -- r is the number that the label rules give the statement that lies there and was noted
 abbrev pub ByLabels : (bs notes : List ℕ) (r : ℕ) → Type 0

@@ -2,7 +2,7 @@
 ghost use mathlib.Core.Path.{_≡_};
 ghost use lib.ListN.{length};
 ghost use Rattle.limits.specs.Limits.{maxBytes, maxDepth};
-ghost use Rattle.reading.specs.Notes.{noNotes};
+ghost use Rattle.layout.specs.Notes.{noNotes};
 ghost use Rattle.wellformed.specs.Survey.{Standing};
 ghost use Rattle.checks.specs.Verdict.{ByLabels, Judged};
 use reading::notes::Notes;

@@ -21,9 +21,9 @@ use Rattle.sets.specs.Labels.{labelSet}
 use Rattle.sets.specs.declared.labels.Labels.{Labels}
 use Rattle.limits.specs.Limits.{maxDepth}
 use Rattle.sequence.specs.Writer.{Ranged}
-use Rattle.reading.specs.Layout.{Ready}
-use Rattle.reading.proofs.Laid.{ready}
-use Rattle.reading.specs.Known.{Known, Sound}
+use Rattle.layout.specs.Layout.{Ready}
+use Rattle.layout.proofs.Laid.{ready}
+use Rattle.layout.specs.Known.{Known, Sound}
 use Rattle.checks.specs.Verdict.{Judged}
 use Rattle.sequence.specs.Check.{Checked, sound, bad, checked, numberOf, checkOf}
 use Rattle.rules.specs.Instants.{instantOf, completionOf}

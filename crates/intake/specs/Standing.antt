@@ -5,7 +5,7 @@ use mathlib.Core.Bool.{true}
 use mathlib.Core.List.{List}
 use Rattle.sequence.specs.Reader.{read}
 use Rattle.sequence.specs.Check.{checked}
-use Rattle.reading.specs.Known.{Known}
+use Rattle.layout.specs.Known.{Known}
 use Rattle.esterel.specs.Statement.{Statement}
 use Rattle.esterel.specs.LabelTests.{valid}
 use Rattle.esterel.specs.Ranks.{mask}

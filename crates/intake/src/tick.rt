@@ -1,7 +1,7 @@
 // One tick: what a state record holds, what a call comes to, and what an instant writes.
 ghost use mathlib.Core.Path.{_≡_};
 ghost use lib.ListN.{length};
-ghost use Rattle.reading.specs.Known.{Sound};
+ghost use Rattle.layout.specs.Known.{Sound};
 ghost use Rattle.records.specs.Records.{stateLength, answerLength};
 ghost use Rattle.demands.specs.Tick.{outcome};
 ghost use Rattle.intake.specs.Standing.{DecodesRead, Replies, Writable, writtenFrom};

@@ -1,11 +1,11 @@
--- What a fresh statement answers, for whatever statement lies in the bytes (reading, specs/Layout).
+-- What a fresh statement answers, for whatever statement lies in the bytes (layout, specs/Layout).
 use Prim.Native.Nat.{ℕ}
 use mathlib.Core.Path.{_≡_}
 use mathlib.Core.List.{List}
 use Rattle.esterel.specs.Statement.{Statement}
 use Rattle.esterel.specs.Resume as Esterel
 use Rattle.esterel.specs.Resume.{start, seqInstant}
-use Rattle.reading.specs.Layout.{Lies}
+use Rattle.layout.specs.Layout.{Lies}
 use Rattle.rules.specs.declared.instant.Instant.{Instant}
 use Rattle.rules.specs.Instants.{instantOf}
 

@@ -1,5 +1,1 @@
-pub mod Notes
-pub mod Layout
 pub mod Reading
-pub mod Joints
-pub mod Known

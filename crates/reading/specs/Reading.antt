@@ -1,71 +1,16 @@
--- What the reading walk answers, and what it leaves in the table of second parts and in the notes of labels.
--- All offsets are those of the whole sequence.
-use Prim.Native.Nat.{ℕ, _+_, _*_, _≤_, _<_}
+-- What reading a whole sequence answers and leaves.
+use Prim.Native.Nat.{ℕ}
 use mathlib.Core.Path.{_≡_}
 use mathlib.Core.List.{List}
-use lib.ListN.{getD, length, drop}
-use Rattle.esterel.specs.Statement.{Statement, nothing}
+use lib.ListN.{length}
+use Rattle.esterel.specs.Statement.{Statement}
+use Rattle.limits.specs.Limits.{maxBytes}
+use Rattle.sequence.specs.Reader.{Read, accepted, refused, program}
+use Rattle.layout.specs.Layout.{Marked}
+use Rattle.layout.specs.Notes.{noNotes, note}
 use Rattle.reading.specs.declared.reader.Reading.{Reading}
 use Rattle.reading.specs.declared.reader.Reading.the-variants.{Accepted, Refused}
-use Rattle.limits.specs.Limits.{maxBytes}
-use Rattle.sequence.specs.Commands.{Command, partCount, width, build}
-use Rattle.sequence.specs.Reader.{Read, accepted, refused, Front, command, bad, front, lastPart, firstPart, read, program}
-use Rattle.reading.specs.Layout.{Marked}
-use Rattle.reading.specs.Notes.{countIn, noteCount, noNotes, note}
 
--- ---- one number for an answer: a count of bytes or an offset, or 4096 times the row
--- the bytes of the command itself
-abbrev pub headOf : Front → ℕ
-headOf (command c xs) = width c
-headOf (bad number) = number * 4096
-
--- the offset behind the statement that was read at offset a
-abbrev pub packed : ℕ → Read → ℕ
-packed a (accepted p n) = a + n
-packed a (refused number) = number * 4096
-
--- ---- the walk, while the table t becomes u and the notes m become n
--- what it requires: the bytes from offset a on lie within the limit, and no more than a pauses came before
-pub record Readable (a : ℕ) (bs t m : List ℕ) : Type 0 where
-  pub fits : a + length bs ≤ maxBytes
-  pub counted : countIn m ≤ a
-  pub long : length t ≡ maxBytes
-  pub noted : length m ≡ noteCount
-
--- a command without parts at the front, with fewer pauses before it than bytes are allowed
-pub record Leaf (bs m : List ℕ) : Type 0 where
-  pub of : Command
-  pub operands : List ℕ
-  pub stands : front bs ≡ command of operands
-  pub whole : partCount of ≡ 0
-  pub few : countIn m < maxBytes
-
--- its label is noted, if it has one
-abbrev pub LabelNoted : (bs m n : List ℕ) → Type 0
-LabelNoted bs m n = (c : Command) (a : ℕ) (xs : List ℕ) → front bs ≡ command c xs → n ≡ note (build c a xs nothing nothing) m
-
--- p has its entries, and those that do not belong to its k bytes at offset a are as they were
-pub record Entered (t u : List ℕ) (base a k : ℕ) (p : Statement) : Type 0 where
-  pub long : length u ≡ length t
-  pub marked : Marked u base a p
-  pub below : (i : ℕ) → i < a → getD u i 0 ≡ getD t i 0
-  pub above : (i : ℕ) → a + k ≤ i → getD u i 0 ≡ getD t i 0
-
--- after a refusal nothing is promised of the table and the notes
-abbrev pub Filled : (a : ℕ) → (t u m n : List ℕ) → Read → Type 0
-Filled a t u m n (accepted p k) = Entered t u (countIn m) a k p × (n ≡ note p m)
-Filled a t u m n (refused number) = Unit {0}
-
--- the answer r for what was read at offset a
-abbrev pub Done : (a : ℕ) → (t u m n : List ℕ) → Read → ℕ → Type 0
-Done a t u m n y r = (r ≡ packed a y) × Filled a t u m n y
-
--- the two parts of the command c at offset a with operands xs, by a reader r of parts; bs is behind the command
-abbrev pub pairRead : (ℕ → List ℕ → Read) → Command → (a : ℕ) (xs : List ℕ) → List ℕ → Read
-pairRead r c a xs bs =
-    firstPart (λ p k. lastPart (λ q. build c a xs p q) (width c + k) (r (a + (width c + k)) (drop k bs))) (r (a + width c) bs)
-
--- ---- a whole sequence
 abbrev pub readingOf : Read → Reading
 readingOf (accepted p n) = Accepted n
 readingOf (refused number) = Refused number

@@ -1,4 +1,3 @@
 // Reading (01, rows 3 to 6): the table of commands, the reader, and what it notes of labels.
-mod commands;
 pub mod notes;
 pub mod reader;

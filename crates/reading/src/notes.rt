@@ -1,4 +1,4 @@
-// What reading notes of labels, in an array that the caller lends (specs/Notes).
+// What reading notes of labels, in an array that the caller lends (layout, specs/Notes).
 ghost use mathlib.Core.Path.{_≡_};
 ghost use mathlib.Core.Bool.{cond};
 ghost use Prim.Native.Nat.{_<_};
@@ -6,7 +6,7 @@ ghost use lib.Dec.{ltb};
 ghost use Rattle.esterel.specs.Sets.{empty};
 ghost use Rattle.sets.specs.Labels.{labelSet};
 ghost use Rattle.limits.specs.Limits.{labelCount, maxBytes};
-ghost use Rattle.reading.specs.Notes.{pausesIn, setpausesIn, twiceIn, countIn, rankIn, notePause, noteSetpause};
+ghost use Rattle.layout.specs.Notes.{pausesIn, setpausesIn, twiceIn, countIn, rankIn, notePause, noteSetpause};
 
 // The labels of pauses, of setpauses and of pauses that came twice, the number of pauses, then a rank for each label.
 pub const LENGTH: usize = RANKS + limits::LABEL_COUNT;

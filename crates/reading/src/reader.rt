@@ -7,9 +7,10 @@ ghost use lib.ListN.{length};
 ghost use Rattle.limits.specs.Limits.{maxBytes};
 ghost use Rattle.sequence.specs.Commands.{Command, partCount, width};
 ghost use Rattle.sequence.specs.Reader.{front, read};
-ghost use Rattle.reading.specs.Layout.{entry};
-ghost use Rattle.reading.specs.Notes.{noNotes};
-ghost use Rattle.reading.specs.Reading.{headOf, Leaf, LabelNoted, pairRead, Readable, Done, Reads};
+ghost use Rattle.layout.specs.Layout.{entry};
+ghost use Rattle.layout.specs.Notes.{noNotes};
+ghost use Rattle.layout.specs.Walk.{headOf, Leaf, LabelNoted, pairRead, Readable, Done};
+ghost use Rattle.reading.specs.Reading.{Reads};
 use crate::notes::Notes;
 
 // The table of second parts: at the offset of a command of two parts, where its second part begins and how many pauses
@@ -33,13 +34,13 @@ fn front(s: &[u8]) -> usize
     if limits::LAST_COMMAND < b {
         return 3 * 4096;
     }
-    if crate::commands::width(b) == 1 {
+    if commands::width(b) == 1 {
         return 1;
     }
     if s.len() <= 1 {
         return 4 * 4096;
     }
-    if crate::commands::in_range(b, s[1]) {
+    if commands::in_range(b, s[1]) {
         2
     } else {
         5 * 4096
@@ -117,12 +118,12 @@ fn read(
         return 6 * 4096;
     }
     let b = s[0];
-    let parts = crate::commands::parts(b);
+    let parts = commands::parts(b);
     if parts == 2 {
         return two(&s[w..], at, w, depth - 1, signals, second, notes);
     }
     if parts == 1 {
-        let declares = crate::commands::declared(b);
+        let declares = commands::declared(b);
         if signals < declares {
             return 6 * 4096;
         }

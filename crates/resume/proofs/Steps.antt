@@ -15,9 +15,9 @@ use Rattle.esterel.specs.Ranks.{middle}
 use Rattle.esterel.specs.Resume as Esterel
 use Rattle.esterel.specs.Resume.{instant, start, idle, seqInstant, parInstant, tryInstant, signalInstant, resume}
 use Rattle.sequence.specs.Commands.{Command, commandOf}
-use Rattle.reading.specs.Layout.{Form, Lies}
+use Rattle.layout.specs.Layout.{Form, Lies}
 use Rattle.sequence.proofs.Table.{byte-is}
-use Rattle.reading.proofs.Laid.{opened}
+use Rattle.layout.proofs.Laid.{opened}
 use Rattle.rules.specs.declared.instant.Instant.{Instant}
 use Rattle.rules.specs.Instants.{instantOf}
 

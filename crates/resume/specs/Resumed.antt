@@ -1,5 +1,5 @@
 -- What a waiting statement answers by the ranks m of its active pauses, for whatever statement lies in the bytes
--- (reading, specs/Layout).
+-- (layout, specs/Layout).
 use Prim.Native.Nat.{ℕ}
 use mathlib.Core.Path.{_≡_}
 use mathlib.Core.Bool.{cond}
@@ -7,7 +7,7 @@ use mathlib.Core.List.{List}
 use Rattle.esterel.specs.Sets.{empty}
 use Rattle.esterel.specs.Statement.{Statement}
 use Rattle.esterel.specs.Resume.{idle, resume}
-use Rattle.reading.specs.Layout.{Lies}
+use Rattle.layout.specs.Layout.{Lies}
 use Rattle.rules.specs.declared.instant.Instant.{Instant}
 use Rattle.rules.specs.Instants.{instantOf}
 

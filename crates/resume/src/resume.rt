@@ -4,7 +4,7 @@ ghost use mathlib.Core.Path.{_≡_};
 ghost use Prim.Native.Nat.{_≤_};
 ghost use lib.ListN.{length, getD};
 ghost use Rattle.sets.specs.Labels.{labelSet};
-ghost use Rattle.reading.specs.Layout.{rest, Ready};
+ghost use Rattle.layout.specs.Layout.{rest, Ready};
 ghost use Rattle.resume.specs.Resumed.{Resumed, ResumedSide};
 use reading::reader::Seconds;
 use rules::instant::Instant;

@@ -8,10 +8,10 @@ use Rattle.esterel.specs.Sets.{empty, below, from}
 use Rattle.esterel.specs.Statement.{Statement, seq, par, loop, present, signal, try}
 use Rattle.esterel.specs.Ranks.{middle, ofParts, compatible}
 use Rattle.sequence.specs.Commands.{Command}
-use Rattle.reading.specs.Layout.{Lies, Ready}
+use Rattle.layout.specs.Layout.{Lies, Ready}
 use Rattle.sequence.proofs.Table.{byteOf}
-use Rattle.reading.proofs.Laid.{taken, command}
-use Rattle.reading.specs.Joints.{jointOf}
+use Rattle.layout.proofs.Laid.{taken, command}
+use Rattle.layout.specs.Joints.{jointOf}
 
 -- what is said of a command is said of the statement that it is
 pub here : (t p : Statement) (base m : ℕ) {r : Bool} → p ≡ t → r ≡ compatible base t m → r ≡ compatible base p m

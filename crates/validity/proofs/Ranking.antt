@@ -19,7 +19,7 @@ use Rattle.esterel.proofs.Ranks.{mask-none, mask-join, mask-only, rank-lt}
 use Rattle.esterel.proofs.Counts.{few-pauses}
 use Rattle.sets.specs.Sets.{Subset, labelCount, onlyBelow}
 use Rattle.esterel.proofs.Sets.{member-high}
-use Rattle.reading.specs.Notes.{Noted, pausesIn, rankIn}
+use Rattle.layout.specs.Notes.{Noted, pausesIn, rankIn}
 use Rattle.validity.specs.Activity.{Ranked, Masked}
 
 -- a member and the others

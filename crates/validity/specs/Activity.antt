@@ -1,4 +1,4 @@
--- Row 11 over the bytes, for whatever statement lies in them (reading, specs/Layout), by the ranks that reading noted.
+-- Row 11 over the bytes, for whatever statement lies in them (layout, specs/Layout), by the ranks that reading noted.
 use Prim.Native.Nat.{ℕ, _<_}
 use mathlib.Core.Path.{_≡_}
 use mathlib.Core.Bool.{Bool, true, false}
@@ -9,10 +9,10 @@ use Rattle.esterel.specs.LabelTests.{pauses, distinct, valid}
 use Rattle.esterel.specs.Ranks.{middle, mask, ofParts, compatible}
 use Rattle.sets.specs.Sets.{Subset, labelCount}
 use Rattle.sets.specs.Labels.{labelSet}
-use Rattle.reading.specs.Layout.{Two, Lies}
-use Rattle.reading.specs.Notes.{Noted, rankIn}
-use Rattle.reading.specs.Joints.{jointOf}
-use Rattle.reading.specs.Known.{Known}
+use Rattle.layout.specs.Layout.{Two, Lies}
+use Rattle.layout.specs.Notes.{Noted, rankIn}
+use Rattle.layout.specs.Joints.{jointOf}
+use Rattle.layout.specs.Known.{Known}
 use Rattle.validity.specs.declared.activity.Validity.{Validity}
 use Rattle.validity.specs.declared.activity.Validity.the-variants.{Valid, Invalid}
 

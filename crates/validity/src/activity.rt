@@ -2,9 +2,9 @@
 ghost use Prim.Native.Nat.{_-_, _≤_};
 ghost use lib.ListN.{length};
 ghost use Rattle.sets.specs.Labels.{labelSet};
-ghost use Rattle.reading.specs.Layout.{rest, Ready, Pair};
+ghost use Rattle.layout.specs.Layout.{rest, Ready, Pair};
 ghost use Rattle.validity.specs.Activity.{Ranked, Masked, TellsCompatible, TellsCompatibleTwo, Judges};
-ghost use Rattle.reading.specs.Known.{Sound};
+ghost use Rattle.layout.specs.Known.{Sound};
 use reading::notes::Notes;
 use reading::reader::Seconds;
 use sets::labels::Labels;

@@ -16,10 +16,10 @@ use Rattle.sets.specs.Labels.{labelSet}
 use Rattle.sets.specs.Rows.{rowOf, addRowBelow, Updates}
 use Rattle.sequence.specs.Writer.{bytesOf, size}
 use Rattle.sequence.specs.Commands.{Command}
-use Rattle.reading.specs.Layout.{rest, secondAt, Two, Lies, Ready}
+use Rattle.layout.specs.Layout.{rest, secondAt, Two, Lies, Ready}
 use Rattle.sequence.proofs.Table.{byteOf}
-use Rattle.reading.proofs.Laid.{ready, by-command, command, first-ready}
-use Rattle.reading.specs.Joints.{jointOf}
+use Rattle.layout.proofs.Laid.{ready, by-command, command, first-ready}
+use Rattle.layout.specs.Joints.{jointOf}
 use Rattle.wellformed.specs.declared.survey.Before.{Before}
 use Rattle.wellformed.specs.declared.survey.Passed.{Passed}
 use Rattle.wellformed.specs.Survey.{Standing, StandingTwo, Labelled, Joins, BeginsSecond, Past, Passes, PastTwo}

@@ -1,4 +1,4 @@
--- One walk over the bytes for row 10: the labels of the statement that lies there (reading, specs/Layout), and what it adds
+-- One walk over the bytes for row 10: the labels of the statement that lies there (layout, specs/Layout), and what it adds
 -- to the rows of exclusive pauses and to those of pauses and setpauses aside (esterel, specs/LabelRows). The walk does not look
 -- into the table of second parts, which is any that fits.
 use Prim.Native.Nat.{ℕ, _+_}
@@ -13,8 +13,8 @@ use Rattle.sets.specs.Labels.{labelSet}
 use Rattle.sets.specs.Rows.{Updates}
 use Rattle.limits.specs.Limits.{maxDepth}
 use Rattle.sequence.specs.Writer.{size}
-use Rattle.reading.specs.Layout.{Two, Lies, Ready, Pair}
-use Rattle.reading.specs.Joints.{jointOf}
+use Rattle.layout.specs.Layout.{Two, Lies, Ready, Pair}
+use Rattle.layout.specs.Joints.{jointOf}
 use Rattle.wellformed.specs.declared.survey.Before.{Before}
 use Rattle.wellformed.specs.declared.survey.Passed.{Passed}
 

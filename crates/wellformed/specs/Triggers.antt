@@ -8,7 +8,7 @@ use Rattle.esterel.specs.Sets.{member}
 use Rattle.esterel.specs.Statement.{Statement}
 use Rattle.esterel.specs.LabelTests.{pauses, targeted, wellFormed}
 use Rattle.limits.specs.Limits.{maxDepth}
-use Rattle.reading.specs.Layout.{Lies}
+use Rattle.layout.specs.Layout.{Lies}
 
 -- k is in the row of a label of s
 abbrev pub InRowOf : (rows : ℕ → ℕ) (s k : ℕ) → Type 0

@@ -8,7 +8,7 @@ ghost use Rattle.sets.specs.Sets.{labelCount};
 ghost use Rattle.sets.specs.Labels.{labelSet};
 ghost use Rattle.sets.specs.Rows.{Updates};
 ghost use Rattle.limits.specs.Limits.{maxDepth};
-ghost use Rattle.reading.specs.Layout.{rest};
+ghost use Rattle.layout.specs.Layout.{rest};
 ghost use Rattle.wellformed.specs.Survey.{Standing, StandingTwo, Labelled, Joins, BeginsSecond, Passes, PassesTwo, Surveys};
 use sets::labels::Labels;
 use sets::labels::Rows;

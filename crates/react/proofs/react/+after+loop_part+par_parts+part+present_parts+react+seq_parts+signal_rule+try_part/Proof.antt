@@ -5,7 +5,7 @@ use borrow.Author.Tests.{ltb-true}
 use Rattle.esterel.specs.Statement.{seq, par, loop, present, signal, try}
 use Rattle.esterel.specs.Resume.{start}
 use Rattle.sequence.specs.Commands.{Command}
-use Rattle.reading.proofs.Laid.{ready, taken, begins, last}
+use Rattle.layout.proofs.Laid.{ready, taken, begins, last}
 use Rattle.rules.proofs.Combining.{seq-stops}
 use Rattle.react.proofs.Steps.{
   nothing-step,

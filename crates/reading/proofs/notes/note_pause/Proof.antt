@@ -1,6 +1,6 @@
 use Rattle.esterel.specs.Sets.{join, only}
 use Rattle.sets.proofs.Laws.{shifted}
-use Rattle.reading.specs.Notes.{notePause}
+use Rattle.layout.specs.Notes.{notePause}
 use borrow.Author.Needs.{needs}
 use Rattle.reading.proofs.notes.note_pause.Statement.{statement}
 use Rattle.reading.proofs.notes.note_pause.Tie as tie

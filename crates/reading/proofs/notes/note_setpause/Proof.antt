@@ -1,6 +1,6 @@
 use Rattle.esterel.specs.Sets.{join, only}
 use Rattle.sets.proofs.Laws.{shifted}
-use Rattle.reading.specs.Notes.{noteSetpause}
+use Rattle.layout.specs.Notes.{noteSetpause}
 use borrow.Author.Needs.{needs}
 use Rattle.reading.proofs.notes.note_setpause.Statement.{statement}
 use Rattle.reading.proofs.notes.note_setpause.Tie as tie

@@ -8,19 +8,19 @@ use borrow.Fn.Kinds.{In}
 use borrow.Fn.PlainCycle.{Measures, is, falls, and}
 use Rattle.sequence.specs.Commands.{partCount}
 use Rattle.sequence.specs.Reader.{front, read as reads}
-use Rattle.reading.specs.Layout.{entry}
-use Rattle.reading.specs.Reading.{headOf, Done}
+use Rattle.layout.specs.Layout.{entry}
+use Rattle.layout.specs.Walk.{headOf, Done}
 use Rattle.sequence.proofs.Table.{at-most-two}
-use Rattle.reading.proofs.Parts.{rest-is}
-use Rattle.reading.proofs.Reading.{Heading, heading, byte, head-fits, onward, forward, again, done-bad, done-deep, done-signals, done-leaf, done-one, done-pair, Firsts, firsts, first-refused, both}
+use Rattle.layout.proofs.Parts.{rest-is}
+use Rattle.layout.proofs.Walk.{Heading, heading, byte, head-fits, onward, forward, again, done-bad, done-deep, done-signals, done-leaf, done-one, done-pair, Firsts, firsts, first-refused, both}
 use Rattle.reading.proofs.reader.read.Reads as read
 use Rattle.reading.proofs.reader.read.Kinds as read-kinds
 use Rattle.reading.proofs.reader.+read+two.Lts-read as read-lts
 use Rattle.reading.proofs.reader.two.Reads as two
 use Rattle.reading.proofs.reader.two.Kinds as two-kinds
 use Rattle.reading.proofs.reader.+read+two.Lts-two as two-lts
-use Rattle.reading.proofs.commands.declared.Reads as declared-reads
-use Rattle.reading.proofs.commands.parts.Reads as parts-reads
+use Rattle.commands.proofs.declared.Reads as declared-reads
+use Rattle.commands.proofs.parts.Reads as parts-reads
 use Rattle.reading.proofs.notes.count.Reads as count-reads
 use Rattle.reading.proofs.reader.entry.Reads as entry-reads
 use Rattle.reading.proofs.reader.front.Reads as front-reads

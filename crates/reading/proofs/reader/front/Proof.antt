@@ -7,7 +7,7 @@ use lib.ListN.{getD}
 use borrow.Author.Needs.{needs}
 use Rattle.sequence.specs.Commands.{Command, operandCount, operandsOf, bytesAt, inRange, width}
 use Rattle.sequence.specs.Reader.{Front, front}
-use Rattle.reading.specs.Reading.{headOf}
+use Rattle.layout.specs.Walk.{headOf}
 use Rattle.sequence.proofs.Table.{named, at-most-one, free}
 use Rattle.sequence.proofs.Front.{Fronts, front-is}
 use Rattle.reading.proofs.reader.front.Statement.{statement}

@@ -4,9 +4,9 @@ use mathlib.Core.List.{List}
 use native.Mathlib.Omega.{arith}
 use Rattle.sequence.specs.Commands.{Command, partCount}
 use Rattle.sequence.specs.Reader.{front, command}
-use Rattle.reading.specs.Reading.{Leaf}
+use Rattle.layout.specs.Walk.{Leaf}
 use Rattle.sequence.proofs.Front.{Fronted, fronted}
-use Rattle.reading.proofs.Leaves.{labelled, notes-pause, notes-setpause, notes-none}
+use Rattle.layout.proofs.Leaves.{labelled, notes-pause, notes-setpause, notes-none}
 use Rattle.reading.proofs.reader.label.Statement.{statement}
 use Rattle.reading.proofs.reader.label.Tie as tie
 

@@ -5,8 +5,8 @@ use native.Mathlib.Omega.{arith}
 use borrow.Author.Needs.{needs}
 use Rattle.limits.specs.Limits.{maxDepth, maxSignals}
 use Rattle.sequence.specs.Reader.{read}
-use Rattle.reading.specs.Reading.{Done}
-use Rattle.reading.proofs.Parts.{rest-is}
+use Rattle.layout.specs.Walk.{Done}
+use Rattle.layout.proofs.Parts.{rest-is}
 use Rattle.reading.proofs.Reading.{beginning, row, reads-refused, reads-accepted}
 use Rattle.reading.proofs.reader.read_sequence.Statement.{statement}
 use Rattle.reading.proofs.reader.read_sequence.Tie as tie

@@ -4,7 +4,7 @@ use borrow.Author.Needs.{needs}
 use borrow.Author.Tests.{ltb-true}
 use Rattle.esterel.specs.Statement.{seq, par, loop, present, signal, try}
 use Rattle.sequence.specs.Commands.{Command}
-use Rattle.reading.proofs.Laid.{ready, whole, whole-lies, taken, begins}
+use Rattle.layout.proofs.Laid.{ready, whole, whole-lies, taken, begins}
 use Rattle.resume.proofs.Steps.{
   here,
   seq-first,

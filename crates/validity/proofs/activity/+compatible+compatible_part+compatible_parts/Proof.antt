@@ -4,7 +4,7 @@ use borrow.Author.Needs.{needs}
 use borrow.Author.Tests.{not-true, not-false}
 use Rattle.esterel.specs.Statement.{seq, par, loop, present, signal, try}
 use Rattle.sequence.specs.Commands.{Command}
-use Rattle.reading.proofs.Laid.{ready, taken, begins, first-ready, second-ready}
+use Rattle.layout.proofs.Laid.{ready, taken, begins, first-ready, second-ready}
 use Rattle.validity.proofs.Compatible.{
   here,
   loop-step,

@@ -3,7 +3,7 @@ use borrow.Author.Needs.{needs}
 use borrow.Author.Tests.{ltb-true}
 use Rattle.esterel.specs.Statement.{nothing, pause, seq, par, loop, present, signal, try, setpause}
 use Rattle.sequence.specs.Commands.{Command}
-use Rattle.reading.proofs.Laid.{ready, begins, by-command}
+use Rattle.layout.proofs.Laid.{ready, begins, by-command}
 use Rattle.wellformed.proofs.Passing.{
   here,
   nothing-step,

@@ -1,6 +1,6 @@
 use mathlib.Core.Bool.{true, false}
 use Rattle.esterel.specs.LabelTests.{alternative, parallel}
-use Rattle.reading.proofs.Laid.{whole, whole-lies}
+use Rattle.layout.proofs.Laid.{whole, whole-lies}
 use Rattle.wellformed.proofs.Surveyed.{nothing-before}
 use borrow.Author.Needs.{needs}
 use Rattle.wellformed.proofs.survey.survey.Statement.{statement}

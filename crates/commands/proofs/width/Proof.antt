@@ -4,8 +4,8 @@ use mathlib.Core.Option.{some}
 use Prim.Native.Nat.{ℕ}
 use Rattle.sequence.specs.Commands.{Command, commandOf, width}
 use Rattle.sequence.proofs.Table.{by-bytes, valued, last-byte}
-use Rattle.reading.proofs.commands.width.Statement.{statement}
-use Rattle.reading.proofs.commands.width.Tie as tie
+use Rattle.commands.proofs.width.Statement.{statement}
+use Rattle.commands.proofs.width.Tie as tie
 
 abbrev Wide : ℕ → ℕ → Command → Type 0
 Wide w b c = w ≡ width c

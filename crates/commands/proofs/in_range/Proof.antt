@@ -7,8 +7,8 @@ use borrow.Author.Tests.{le-leb}
 use Rattle.limits.specs.Limits.{signalCount}
 use Rattle.sequence.specs.Commands.{Command, operandCount, inRange}
 use Rattle.sequence.proofs.Table.{byteOf, byte-is, command-at}
-use Rattle.reading.proofs.commands.in_range.Statement.{statement}
-use Rattle.reading.proofs.commands.in_range.Tie as tie
+use Rattle.commands.proofs.in_range.Statement.{statement}
+use Rattle.commands.proofs.in_range.Tie as tie
 
 -- an operand that is neither an exit nor a label is a signal
 signals : (x : ℕ) (d : Command) → operandCount d ≡ 1 → (byteOf d ≡ 3 → ⊥) → (byteOf d ≡ 1 → ⊥) → (byteOf d ≡ 10 → ⊥)

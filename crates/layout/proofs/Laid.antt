@@ -13,13 +13,13 @@ use Rattle.sequence.specs.Commands.{Command, commandOf, partCount, inRange, wid
 use Rattle.limits.specs.Limits.{maxBytes}
 use Rattle.sequence.specs.Reader.{accepted, read}
 use Rattle.sequence.specs.Writer.{size}
-use Rattle.reading.specs.Layout.{rest, secondAt, Marked, Two, Parts, Begins, Form, AtFront, Lies, Ready, Pair}
-use Rattle.reading.proofs.Parts.{rest-is}
+use Rattle.layout.specs.Layout.{rest, secondAt, Marked, Two, Parts, Begins, Form, AtFront, Lies, Ready, Pair}
+use Rattle.layout.proofs.Parts.{rest-is}
 use Rattle.sequence.proofs.Table.{byteOf, byte-is, command-of-byte, last-byte}
 use Rattle.sequence.proofs.Front.{Fronted}
 use Rattle.sequence.proofs.Inversion.{Meets, met, no-level}
 use Rattle.sequence.proofs.Sound.{sound, count-within}
-use Rattle.reading.proofs.Marks.{marked-one, Marks, marked-two}
+use Rattle.layout.proofs.Marks.{marked-one, Marks, marked-two}
 
 -- ---- one level, by what is known of the parts
 module _ (t : List ℕ) (d : ℕ)

@@ -19,7 +19,7 @@ use Rattle.esterel.proofs.LabelSets.{in-none, in-l, in-r, in-join, disjoint-is}
 use Rattle.esterel.proofs.SetAlgebra.{join-assoc, empty-join, disjoint-none, none-disjoint, once-both}
 use Rattle.limits.specs.Limits.{labelCount}
 use Rattle.sequence.specs.Writer.{bytesOf, size, Ranged}
-use Rattle.reading.specs.Notes.{pausesIn, setpausesIn, twiceIn, countIn, rankIn, noteCount, noNotes, notePause, noteSetpause, note, Noted}
+use Rattle.layout.specs.Notes.{pausesIn, setpausesIn, twiceIn, countIn, rankIn, noteCount, noNotes, notePause, noteSetpause, note, Noted}
 
 -- the notes m become n by these pauses and setpauses, so many pauses, the test of row 8 among them, and their ranks
 pub record Added (paused targeted count : ℕ) (once : Bool) (rank : (base l : ℕ) → ℕ) (m n : List ℕ) : Type 0 where

@@ -7,8 +7,8 @@ use lib.ListN.{length}
 use Rattle.esterel.specs.Statement.{Statement}
 use Rattle.esterel.specs.LabelTests.{distinct}
 use Rattle.limits.specs.Limits.{maxBytes, maxDepth}
-use Rattle.reading.specs.Layout.{Lies}
-use Rattle.reading.specs.Notes.{Noted}
+use Rattle.layout.specs.Layout.{Lies}
+use Rattle.layout.specs.Notes.{Noted}
 
 -- p lies in bs, the table of second parts and the notes of labels are its, and row 8 does not hold of it
 pub record Known (t notes bs : List ℕ) (p : Statement) : Type 0 where

@@ -10,7 +10,7 @@ use borrow.Author.Tests.{ltb-true}
 use Rattle.esterel.specs.Statement.{nothing}
 use Rattle.limits.specs.Limits.{labelCount}
 use Rattle.sequence.specs.Commands.{Command, operandCount, operandsOf, partCount, inRange, width, build}
-use Rattle.reading.specs.Notes.{notePause, noteSetpause, note}
+use Rattle.layout.specs.Notes.{notePause, noteSetpause, note}
 use Rattle.sequence.proofs.Table.{byteOf, byte-is, command-at, leaves}
 use Rattle.sequence.proofs.Front.{Fronted}
 

@@ -4,8 +4,8 @@ use mathlib.Core.Option.{some}
 use Prim.Native.Nat.{ℕ}
 use Rattle.sequence.specs.Commands.{Command, commandOf, partCount}
 use Rattle.sequence.proofs.Table.{by-bytes, valued, last-byte}
-use Rattle.reading.proofs.commands.parts.Statement.{statement}
-use Rattle.reading.proofs.commands.parts.Tie as tie
+use Rattle.commands.proofs.parts.Statement.{statement}
+use Rattle.commands.proofs.parts.Tie as tie
 
 abbrev Parts : ℕ → ℕ → Command → Type 0
 Parts n b c = n ≡ partCount c

@@ -10,8 +10,8 @@ use Rattle.esterel.specs.Statement.{Statement, nothing, pause, emit, exit, seq,
 use Rattle.esterel.specs.Ranks.{middle}
 use Rattle.sequence.specs.Commands.{Command, partCount, width, build}
 use Rattle.sequence.specs.Writer.{bytesOf, size}
-use Rattle.reading.specs.Layout.{entry, Marked}
-use Rattle.reading.specs.Reading.{Entered}
+use Rattle.layout.specs.Layout.{entry, Marked}
+use Rattle.layout.specs.Walk.{Entered}
 use Rattle.sequence.proofs.Table.{leaves, ones, twos}
 
 -- u agrees with t on the entries from a to e

@@ -1,8 +1,8 @@
 use mathlib.Core.Path.{sym, _∙_}
 use Rattle.sequence.specs.Commands.{Command}
 use Rattle.sequence.proofs.Table.{byte-is, command-at, undeclared}
-use Rattle.reading.proofs.commands.declared.Statement.{statement}
-use Rattle.reading.proofs.commands.declared.Tie as tie
+use Rattle.commands.proofs.declared.Statement.{statement}
+use Rattle.commands.proofs.declared.Tie as tie
 
 returns : tie.Need-returns
 returns c d e = rw (command-at _ d Command.signal e (c .if1 .taken))

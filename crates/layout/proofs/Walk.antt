@@ -1,0 +1,219 @@
+-- One law for each way out of the reading walk.
+use Prim.Native.Nat.{ℕ, zero, suc, _+_, _-_, _*_, _/_, _≤_, _<_}
+use mathlib.Core.Path.{_≡_, refl, sym, ap, _∙_, subst}
+use mathlib.Core.Option.{some}
+use mathlib.Core.List.{List}
+use native.Mathlib.Omega.{arith}
+use lib.ListN.{length, getD, drop, set, length-drop, length-replicate}
+use lib.Seq.{drop-drop}
+use Rattle.esterel.specs.Statement.{Statement, nothing}
+use Rattle.esterel.specs.Ranks.{middle}
+use Rattle.limits.specs.Limits.{maxBytes}
+use Rattle.sequence.specs.Commands.{Command, commandOf, partCount, width, declares, build}
+use Rattle.sequence.specs.Reader.{Read, accepted, refused, Front, command, bad, front, lastPart, firstPart, readParts, read}
+use Rattle.sequence.specs.Writer.{size}
+use Rattle.layout.specs.Layout.{rest, entry, Marked}
+use Rattle.layout.specs.Notes.{countIn, noteCount, noNotes, note}
+use Rattle.layout.specs.Walk.{headOf, Readable, Entered, Done, pairRead}
+use Rattle.sequence.proofs.Table.{byteOf, command-of-byte, command-at, ones, twos, undeclared}
+use Rattle.layout.proofs.Parts.{rest-is}
+use Rattle.sequence.proofs.Front.{Fronted, fronted}
+use Rattle.sequence.proofs.Inversion.{refuses-bad, refuses-deep, refuses-crowded, enters}
+use Rattle.sequence.proofs.Refusals.{Small, front-small, Rowed, rowed}
+use Rattle.sequence.proofs.Sound.{sound, count-within}
+use Rattle.layout.proofs.Noting.{noting, count-size}
+use Rattle.layout.proofs.Marks.{entered-leaf, entered-one, entered-two}
+
+-- ---- what was handed on is readable
+pub onward : (a b n : ℕ) (s t m : List ℕ) → b ≡ a + n → n ≤ length s → a + length s ≤ maxBytes → countIn m ≤ b → length t ≡ maxBytes
+    → length m ≡ noteCount → Readable b (rest n s) t m
+onward a b n s t m e l fits counted long noted =
+    let k : length (rest n s) ≡ length s - n = ap length (rest-is n s) ∙ length-drop n s in
+    record { fits = omega arith; counted = counted; long = long; noted = noted }
+
+pub forward : {a : ℕ} {s t m : List ℕ} (n : ℕ) → n ≤ length s → Readable a s t m → Readable (a + n) (rest n s) t m
+forward {a} {s} {t} {m} n l r = onward a (a + n) n s t m refl l (r .fits) (omega (arith, r .counted)) (r .long) (r .noted)
+
+pub again : {a : ℕ} {s t m : List ℕ} → Readable a s t m → Readable a (rest 0 s) t m
+again {a} {s} {t} {m} r = onward a a 0 s t m (omega arith) (omega arith) (r .fits) (r .counted) (r .long) (r .noted)
+
+-- ---- the command at the front, by its head of w bytes
+done-refused : (a : ℕ) (t u m n : List ℕ) (y : Read) (k r : ℕ) → y ≡ refused k → r ≡ k * 4096 → Done a t u m n y r
+done-refused a t u m n y k r q h = rw q (h, tt)
+
+pub done-bad : (d g a : ℕ) (s t u m n : List ℕ) (w : ℕ) → a + length s ≤ maxBytes → w ≡ headOf (front s) → 4096 ≤ w
+    → Done a t u m n (read d g a s) w
+done-bad d g a s t u m n w fits e l = go (front s) refl e
+  where
+    go : (f : Front) → front s ≡ f → w ≡ headOf f → Done a t u m n (read d g a s) w
+    go (command c xs) q h = absurd (omega (arith, fits, fronted s c xs q .long))
+    go (bad k) q h = done-refused a t u m n (read d g a s) k w (refuses-bad d g a s k q) h
+
+pub record Heading (s : List ℕ) (w : ℕ) : Type 0 where
+  pub of : Command
+  pub operands : List ℕ
+  pub stands : front s ≡ command of operands
+  pub wide : w ≡ width of
+
+pub heading : (s : List ℕ) (w : ℕ) → w ≡ headOf (front s) → w < 4096 → Heading s w
+heading s w e l = go (front s) refl e
+  where
+    go : (f : Front) → front s ≡ f → w ≡ headOf f → Heading s w
+    go (command c xs) q h = record { of = c; operands = xs; stands = q; wide = h }
+    go (bad k) q h = absurd (omega (arith, front-small s k q))
+
+-- ---- what a command notes, by its parts
+module _ (a : ℕ) (xs m : List ℕ) where
+  note-one : (c : Command) → partCount c ≡ 1 → (p : Statement) → note (build c a xs p nothing) m ≡ note p m
+  unfolding note
+  note-one = ones (λ (c : Command). (p : Statement) → note (build c a xs p nothing) m ≡ note p m) (λ p. refl) (λ p. refl) (λ p. refl)
+
+  note-two : (c : Command) → partCount c ≡ 2 → (p q : Statement) → note (build c a xs p q) m ≡ note q (note p m)
+  unfolding note
+  note-two = twos (λ (c : Command). (p q : Statement) → note (build c a xs p q) m ≡ note q (note p m)) (λ p q. refl) (λ p q. refl) (λ p q. refl)
+
+-- a command has two parts, behind its own bytes
+same-pair : (c : Command) (a : ℕ) (xs s : List ℕ) (i : ℕ → List ℕ → Read) (y : Read)
+    → firstPart (λ p m. lastPart (λ q. build c a xs p q) (width c + m) (i (a + (width c + m)) (drop (width c + m) s))) y
+    ≡ firstPart (λ p m. lastPart (λ q. build c a xs p q) (width c + m) (i (a + (width c + m)) (drop m (drop (width c) s)))) y
+same-pair c a xs s i (accepted p m) =
+    ap (λ (bs : List ℕ). lastPart (λ q. build c a xs p q) (width c + m) (i (a + (width c + m)) bs)) (sym (drop-drop m (width c) s))
+same-pair c a xs s i (refused number) = refl
+
+module _ {s : List ℕ} {w : ℕ} (h : Heading s w) where
+  at-front : Fronted s (h .of) (h .operands)
+  at-front = fronted s (h .of) (h .operands) (h .stands)
+
+  pub byte : commandOf (getD s 0 0) ≡ some (h .of)
+  byte = at-front .byte
+
+  pub head-fits : (1 ≤ w) × (w ≤ length s)
+  head-fits = (omega (arith, h .wide), omega (arith, at-front .long, h .wide))
+
+  pub done-deep : (d g a : ℕ) (t u m n : List ℕ) → d ≡ 0 → Done a t u m n (read d g a s) (6 * 4096)
+  done-deep zero g a t u m n e = done-refused a t u m n _ 6 _ (refuses-deep g a s (h .of) (h .operands) (h .stands)) refl
+  done-deep (suc d) g a t u m n e = absurd (omega arith)
+
+  module _ (d g a : ℕ) (level : d ≡ 0 → ⊥) where
+    one-level : read d g a s ≡ read (suc (d - 1)) g a s
+    one-level = ap (λ (k : ℕ). read k g a s) (let e : d ≡ suc (d - 1) = omega arith in e)
+
+    pub done-signals : (t u m n : List ℕ) (k : ℕ) → k ≡ declares (h .of) → g < k → Done a t u m n (read d g a s) (6 * 4096)
+    done-signals t u m n k e l =
+        done-refused a t u m n (read d g a s) 6 _ (one-level ∙ refuses-crowded g a s (h .of) (h .operands) (h .stands) (d - 1) (omega arith)) refl
+
+    parts-are : (k : ℕ) → k ≡ declares (h .of) → k ≤ g
+        → read d g a s ≡ readParts (read (d - 1) (g - k)) (h .of) a (h .operands) (partCount (h .of)) s
+    parts-are k e l = one-level ∙ enters g a s (h .of) (h .operands) (h .stands) (d - 1) (omega arith) ∙ rw e
+
+    -- a command other than signal
+    plain-are : (partCount (h .of) ≡ 1 → ⊥) → read d g a s ≡ readParts (read (d - 1) g) (h .of) a (h .operands) (partCount (h .of)) s
+    plain-are n =
+        let k : g - 0 ≡ g = omega arith in
+        parts-are 0 (sym (undeclared (h .of) signal)) (omega arith) ∙ rw k
+      where
+        signal : byteOf (h .of) ≡ 8 → ⊥
+        signal e = n (ap partCount (command-at (byteOf (h .of)) (h .of) Command.signal (command-of-byte (h .of)) e))
+
+    pub done-leaf : (t m n : List ℕ) → partCount (h .of) ≡ 0 → n ≡ note (build (h .of) a (h .operands) nothing nothing) m
+        → Done a t t m n (read d g a s) (a + w)
+    done-leaf t m n z e =
+        let y : read d g a s ≡ accepted (build (h .of) a (h .operands) nothing nothing) (width (h .of)) = plain-are (λ o. omega arith) ∙ rw z in
+        rw y (ap (λ (i : ℕ). a + i) (h .wide), (entered-leaf t (countIn m) a (h .operands) (h .of) z, e))
+
+    -- the part, of the bytes l
+    pub done-one : (k : ℕ) → k ≡ declares (h .of) → k ≤ g → partCount (h .of) ≡ 1 → (l : List ℕ) → l ≡ drop w s → (t u m n : List ℕ) (r : ℕ)
+        → Done (a + w) t u m n (read (d - 1) (g - k) (a + w) l) r → Done a t u m n (read d g a s) r
+    done-one k e le z l here t u m n r i =
+        let c = h .of in
+        let part = read (d - 1) (g - k) (a + width c) (drop (width c) s) in
+        let y : read d g a s ≡ lastPart (λ p. build c a (h .operands) p nothing) (width c) part = parts-are k e le ∙ rw z in
+        rw y (go part (rw (here, h .wide) at i))
+      where
+        go : (y : Read) → Done (a + width (h .of)) t u m n y r → Done a t u m n (lastPart (λ p. build (h .of) a (h .operands) p nothing) (width (h .of)) y) r
+        go (accepted p j) i =
+            (omega (arith, i .0), (entered-one t u (countIn m) a (h .operands) (h .of) p j z (i .1 .0), i .1 .1 ∙ sym (note-one a (h .operands) m (h .of) z p)))
+        go (refused j) i = i
+
+    pub done-pair : partCount (h .of) ≡ 2 → (l : List ℕ) → l ≡ drop w s → (t u m n : List ℕ) (r : ℕ)
+        → ((c : Command) (xs : List ℕ) → partCount c ≡ 2 → w ≡ width c → Done a t u m n (pairRead (read (d - 1) g) c a xs l) r)
+        → Done a t u m n (read d g a s) r
+    done-pair z l here t u m n r i =
+        let c = h .of in
+        let there : l ≡ drop (width c) s = here ∙ ap (λ (i : ℕ). drop i s) (h .wide) in
+        let y : read d g a s ≡ pairRead (read (d - 1) g) c a (h .operands) (drop (width c) s)
+        = plain-are (λ o. omega arith) ∙ rw z (same-pair c a (h .operands) s (read (d - 1) g) (read (d - 1) g (a + width c) (drop (width c) s))) in
+        rw (y, ← there) (i c (h .operands) z (h .wide))
+
+-- ---- the two parts of a command of w bytes; s is behind the command, and the first part stands at offset b
+pub record Firsts (d g b : ℕ) (s t u m n : List ℕ) (r : ℕ) : Type 0 where
+  pub part : Statement
+  pub count : ℕ
+  pub reads : read d g b s ≡ accepted part count
+  pub place : r ≡ b + count
+  pub within : count ≤ length s
+  pub sized : count ≡ size part
+  pub entered : Entered t u (countIn m) b count part
+  pub notes : n ≡ note part m
+  pub counted : countIn n ≡ middle (countIn m) part
+  pub few : countIn n ≤ r
+  pub noted : length n ≡ noteCount
+
+module _ (d g b : ℕ) (s t u m n : List ℕ) (r : ℕ) (can : Readable b s t m) (h : Done b t u m n (read d g b s) r) where
+  pub firsts : r < 4096 → Firsts d g b s t u m n r
+  firsts small = go (read d g b s) refl (rowed d g b s) h
+    where
+      go : (y : Read) → read d g b s ≡ y → Rowed (read d g b s) → Done b t u m n y r → Firsts d g b s t u m n r
+      go (accepted p k) q z i =
+          let w = sound d g b s p k q in
+          let a = noting p m (can .noted) (w .within .ranged) in
+          let c : countIn n ≡ middle (countIn m) p = ap countIn (i .1 .1) ∙ a .counted in
+          record {
+            part = p;
+            count = k;
+            reads = q;
+            place = i .0;
+            within = count-within d g b s p k q;
+            sized = w .count;
+            entered = i .1 .0;
+            notes = i .1 .1;
+            counted = c;
+            few = omega (arith, count-size p, w .count, can .counted, i .0);
+            noted = ap length (i .1 .1) ∙ a .long ∙ can .noted;
+          }
+      go (refused k) q z i = let o : Small k = rw q at z in absurd (omega (arith, i .0))
+
+  pub first-refused : (a : ℕ) (xs : List ℕ) (c : Command) → b ≡ a + width c → 4096 ≤ r → Done a t u m n (pairRead (read d g) c a xs s) r
+  first-refused a xs c e large = go (read d g b s) refl h
+    where
+      go : (y : Read) → read d g b s ≡ y → Done b t u m n y r → Done a t u m n (pairRead (read d g) c a xs s) r
+      go (accepted p k) q i = absurd (omega (arith, count-within d g b s p k q, i .0, can .fits))
+      go (refused k) q i =
+          let q' : read d g (a + width c) s ≡ refused k = rw e at q in
+          done-refused a t u m n (pairRead (read d g) c a xs s) k r (rw q') (i .0)
+
+  -- the entry o is written at offset a, and the second part, of the bytes l, is read
+  pub both : (a : ℕ) (xs : List ℕ) (c : Command) → b ≡ a + width c → partCount c ≡ 2 → Firsts d g b s t u m n r → a < length u → (o : ℕ) → o ≡ entry r (countIn n)
+      → (l : List ℕ) → l ≡ drop (r - b) s → (v j : List ℕ) (r₂ : ℕ) → Done r (set u a o) v n j (read d g r l) r₂
+      → Done a t v m j (pairRead (read d g) c a xs s) r₂
+  both a xs c e two f inside o w l here v j r₂ i =
+      let k = f .count in
+      let q : read d g (a + width c) s ≡ accepted (f .part) k = rw e at (f .reads) in
+      let place : r ≡ a + (width c + k) = omega (arith, f .place) in
+      let gone : r - b ≡ k = omega (arith, f .place) in
+      let same : read d g r l ≡ read d g (a + (width c + k)) (drop k s) = rw (here, gone, place) in
+      let fore : Entered t u (countIn m) (a + width c) k (f .part) = rw e at (f .entered) in
+      let noted : o ≡ entry r (middle (countIn m) (f .part)) = w ∙ ap (entry r) (f .counted) in
+      rw q (go fore place noted (read d g (a + (width c + k)) (drop k s)) (rw same at i))
+    where
+      go : Entered t u (countIn m) (a + width c) (f .count) (f .part) → r ≡ a + (width c + f .count) → o ≡ entry r (middle (countIn m) (f .part)) → (y : Read)
+          → Done r (set u a o) v n j y r₂ → Done a t v m j (lastPart (λ q. build c a xs (f .part) q) (width c + f .count) y) r₂
+      go fore place noted (accepted p k) i =
+          let back : Entered (set u a o) v (middle (countIn m) (f .part)) r k p = rw (f .counted) at (i .1 .0) in (
+            omega (arith, i .0),
+            (
+              entered-two t u v (countIn m) a xs r o c (f .part) p (f .count) k two (f .sized) place noted inside fore back,
+              i .1 .1 ∙ ap (note p) (f .notes) ∙ sym (note-two a xs m c two (f .part) p),
+            ),
+          )
+      go fore place noted (refused k) i = i

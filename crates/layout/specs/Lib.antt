@@ -1,0 +1,5 @@
+pub mod Layout
+pub mod Notes
+pub mod Joints
+pub mod Known
+pub mod Walk
