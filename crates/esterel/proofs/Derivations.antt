@@ -1,19 +1,33 @@
 -- The errors that the function lists are those of a derivation by the printed rules.
 use Prim.Native.Nat.{ℕ}
-use mathlib.Core.Path.{_≡_, refl, sym, _∙_}
+use mathlib.Core.Path.{_≡_, refl, sym, ap, ap₂, _∙_}
 use mathlib.Core.Logic.{_≢_}
-use mathlib.Core.List.{List, [], _∷_, append-nil}
+use mathlib.Core.List.{List, [], _∷_, _++_, append-nil}
 use Rattle.esterel.specs.Statement.{Statement}
-use Rattle.esterel.specs.Reaction.{Code, ended, waiting, leaving, wrong, Reaction}
+use Rattle.esterel.specs.Reaction.{Code, ended, waiting, leaving, wrong, Reaction, code, Case, caseOf}
 use Rattle.esterel.specs.Rules.{Reacts}
-use Rattle.esterel.specs.Errors.{Error, ifEnded, errors, uses, instantaneous}
-use Rattle.esterel.proofs.Rules.{sane, neither-wrong, inherits, sound}
+use Rattle.esterel.specs.Errors.{Error, ifEnded, signalErrors, errors, uses, instantaneous}
+use Rattle.esterel.proofs.Rules.{fits++, fits−−, fits+−, fits−+, fits∞, sound}
 
-no-more : (k : Code) (x : List Error) → k ≢ ended → ifEnded k x [] ≡ []
-no-more ended x n = absurd (n refl)
-no-more waiting x n = refl
-no-more (leaving m) x n = refl
-no-more wrong x n = refl
+-- what follows counts only after code 0
+adds-none : (k : Code) (xs ys : List Error) → k ≢ ended → xs ≡ xs ++ ifEnded k ys []
+adds-none ended xs ys n = absurd (n refl)
+adds-none waiting xs ys n = sym (append-nil xs)
+adds-none (leaving m) xs ys n = sym (append-nil xs)
+adds-none wrong xs ys n = sym (append-nil xs)
+
+adds : {k : Code} (xs ys : List Error) → k ≡ ended → xs ++ ys ≡ xs ++ ifEnded k ys []
+adds xs ys h = rw h
+
+-- the parts react as their derivations say
+ended-uses : {us xs : List Error} {x r : Reaction} (ys : List Error) → us ≡ xs → x ≡ r
+    → us ++ ifEnded (code x) ys [] ≡ xs ++ ifEnded (code r) ys []
+ended-uses ys h i = ap₂ (λ (zs : List Error) (y : Reaction). zs ++ ifEnded (code y) ys []) h i
+
+signal-uses : {us xs vs ys : List Error} {x− r− x+ r+ : Reaction} {c : Case} (a s : ℕ) → us ≡ xs → vs ≡ ys
+    → caseOf s x− x+ ≡ c → x− ≡ r− → x+ ≡ r+
+    → us ++ vs ++ signalErrors a c ≡ xs ++ ys ++ signalErrors a (caseOf s r− r+)
+signal-uses a s h g i h− h+ = ap₂ _++_ (ap₂ _++_ h g) (ap (signalErrors a) (sym i ∙ ap₂ (caseOf s) h− h+))
 
 -- USES: one error for each use of loop-error, signal+− and signal−+
 pub uses-is : {p : Statement} {e : ℕ} {r : Reaction} (d : Reacts p e r) → uses d ≡ errors p e
@@ -22,24 +36,27 @@ uses-is Reacts.nothing = refl
 uses-is Reacts.pause = refl
 uses-is Reacts.exit = refl
 uses-is Reacts.emit = refl
-uses-is {e = e} (Reacts.loop {a = a} {k = k} {p = p} d n) =
-    uses-is d ∙ rw (← sound d, no-more k (instantaneous a ∷ []) n) (sym (append-nil (errors p e)))
-uses-is (Reacts.loop-error d z) = rw (uses-is d, ← sound d, z)
-uses-is (Reacts.parallel d d₂) = rw (uses-is d, uses-is d₂)
+uses-is (Reacts.loop {a = a} {k = k} d n) =
+    adds-none k (uses d) (instantaneous a ∷ []) n ∙ ended-uses (instantaneous a ∷ []) (uses-is d) (sound d)
+uses-is (Reacts.loop-error {a = a} d z) =
+    adds (uses d) (instantaneous a ∷ []) z ∙ ended-uses (instantaneous a ∷ []) (uses-is d) (sound d)
+uses-is (Reacts.parallel d d₂) = ap₂ _++_ (uses-is d) (uses-is d₂)
 uses-is (Reacts.present+ i d) = rw i (uses-is d)
 uses-is (Reacts.present− i d) = rw i (uses-is d)
 uses-is (Reacts.try-catch d) = uses-is d
 uses-is (Reacts.try-through d n) = uses-is d
-uses-is {e = e} (Reacts.sequence-p {k = k} {p = p} {q = q} d n) =
-    uses-is d ∙ rw (← sound d, no-more k (errors q e) n) (sym (append-nil (errors p e)))
-uses-is (Reacts.sequence-q d d₂) = rw (uses-is d, uses-is d₂, ← sound d)
-uses-is (Reacts.signal++ d− i− d+ i+) =
-    rw (uses-is d−, uses-is d+, ← sound d−, ← sound d+, i−, i+) (sym (append-nil _))
-uses-is (Reacts.signal−− {k− = k−} {k+ = k+} d− i− d+ i+ n) =
-    let w = neither-wrong k− k+ n in
-    rw (uses-is d−, uses-is d+, ← sound d−, ← sound d+, i−, i+, w .0, w .1) (sym (append-nil _))
-uses-is (Reacts.signal+− {k+ = k+} d− i− d+ i+ n) = rw (uses-is d−, uses-is d+, ← sound d−, ← sound d+, i−, i+, sane k+ n)
-uses-is (Reacts.signal−+ {k− = k−} d− i− n d+ i+) = rw (uses-is d−, uses-is d+, ← sound d−, ← sound d+, i−, i+, sane k− n)
-uses-is (Reacts.signal∞ {s = s} {o− = o−} {o+ = o+} {k− = k−} {k+ = k+} d− d+ w n++ n+− n−+) =
-    rw (uses-is d−, uses-is d+, ← sound d−, ← sound d+, inherits s o− o+ k− k+ w n++ n+− n−+) (sym (append-nil _))
+uses-is {e = e} (Reacts.sequence-p {k = k} {q = q} d n) =
+    adds-none k (uses d) (errors q e) n ∙ ended-uses (errors q e) (uses-is d) (sound d)
+uses-is {e = e} (Reacts.sequence-q {q = q} d d₂) =
+    ap (λ (xs : List Error). uses d ++ xs) (uses-is d₂) ∙ ended-uses (errors q e) (uses-is d) (sound d)
+uses-is (Reacts.signal++ {a = a} {s = s} {o− = o−} {o+ = o+} {k− = k−} {k+ = k+} d− i− d+ i+) =
+    sym (append-nil _) ∙ signal-uses a s (uses-is d−) (uses-is d+) (fits++ s o− o+ k− k+ i− i+) (sound d−) (sound d+)
+uses-is (Reacts.signal−− {a = a} {s = s} {o− = o−} {o+ = o+} {k− = k−} {k+ = k+} d− i− d+ i+ n) =
+    sym (append-nil _) ∙ signal-uses a s (uses-is d−) (uses-is d+) (fits−− s o− o+ k− k+ i− i+ n) (sound d−) (sound d+)
+uses-is (Reacts.signal+− {a = a} {s = s} {o− = o−} {o+ = o+} {k− = k−} {k+ = k+} d− i− d+ i+ n) =
+    signal-uses a s (uses-is d−) (uses-is d+) (fits+− s o− o+ k− k+ i− i+ n) (sound d−) (sound d+)
+uses-is (Reacts.signal−+ {a = a} {s = s} {o− = o−} {o+ = o+} {k− = k−} {k+ = k+} d− i− n d+ i+) =
+    signal-uses a s (uses-is d−) (uses-is d+) (fits−+ s o− o+ k− k+ i− n i+) (sound d−) (sound d+)
+uses-is (Reacts.signal∞ {a = a} {s = s} {o− = o−} {o+ = o+} {k− = k−} {k+ = k+} d− d+ w n++ n+− n−+) =
+    sym (append-nil _) ∙ signal-uses a s (uses-is d−) (uses-is d+) (fits∞ s o− o+ k− k+ w n++ n+− n−+) (sound d−) (sound d+)
 uses-is Reacts.setpause = refl

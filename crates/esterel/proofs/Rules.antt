@@ -1,6 +1,6 @@
 -- The printed rules and the function give the same answers: 003's corollary 11 with 01's 'first that fits'.
 use Prim.Native.Nat.{ℕ, _-_}
-use mathlib.Core.Path.{_≡_, refl, sym, ap, subst}
+use mathlib.Core.Path.{_≡_, refl, sym, ap, ap₂, _∙_, subst}
 use mathlib.Core.Logic.{_↔_, _≢_}
 use mathlib.Core.Bool.{Bool, true, false, _||_, cond, false≢true}
 use native.Mathlib.Omega.{arith}
@@ -8,7 +8,7 @@ use lib.Dec.{eqb}
 use borrow.Author.Tests.{eqb-true, eqb-false, ne-eqb}
 use Rattle.esterel.specs.Sets.{member, insert, remove}
 use Rattle.esterel.specs.Statement.{Statement, nothing, pause, emit, exit, seq, par, loop, present, signal, try, setpause}
-use Rattle.esterel.specs.Reaction.{Code, ended, waiting, leaving, wrong, isWrong, greater, down, Reaction, gives, inSeq, inPar, inLoop, inTry, inSignal, inherited, firstFit, answer, react}
+use Rattle.esterel.specs.Reaction.{Code, ended, waiting, leaving, wrong, isWrong, greater, down, Reaction, gives, failed, inSeq, inPar, inLoop, inTry, inSignal, Case, both, neither, only−, only+, inherited, firstFit, caseOf, answer, react}
 use Rattle.esterel.specs.Rules.{Reacts}
 use Rattle.esterel.proofs.Booleans.{clash}
 
@@ -19,7 +19,7 @@ wrong-is waiting h = absurd (false≢true h)
 wrong-is (leaving n) h = absurd (false≢true h)
 wrong-is wrong h = refl
 
-pub sane : (k : Code) → k ≢ wrong → isWrong k ≡ false
+sane : (k : Code) → k ≢ wrong → isWrong k ≡ false
 sane ended n = refl
 sane waiting n = refl
 sane (leaving m) n = refl
@@ -49,6 +49,9 @@ through-loop a p o waiting l t n = refl
 through-loop a p o (leaving m) l t n = refl
 through-loop a p o wrong l t n = refl
 
+loop-fails : (a : ℕ) (p : Statement) (o : ℕ) {k : Code} (l : ℕ) (t : Statement) → k ≡ ended → failed ≡ inLoop a p (gives o k l t)
+loop-fails a p o l t h = rw h
+
 through-try : (o : ℕ) (k : Code) (l : ℕ) (t : Statement) → k ≢ leaving 1 → gives o (down k) l (try t) ≡ inTry (gives o k l t)
 through-try o ended l t n = refl
 through-try o waiting l t n = refl
@@ -56,7 +59,7 @@ through-try o (leaving m) l t n = rw (ne-eqb m 1 (λ h. n (ap leaving h)))
 through-try o wrong l t n = refl
 
 -- ---- the premises of the signal rules as tests, and back
-pub neither-wrong : (k− k+ : Code) → greater k− k+ ≢ wrong → (isWrong k− ≡ false) × (isWrong k+ ≡ false)
+neither-wrong : (k− k+ : Code) → greater k− k+ ≢ wrong → (isWrong k− ≡ false) × (isWrong k+ ≡ false)
 neither-wrong ended k+ n = (refl, sane k+ n)
 neither-wrong waiting ended n = (refl, refl)
 neither-wrong waiting waiting n = (refl, refl)
@@ -110,14 +113,35 @@ last-fits false false true w+ w n++ n+− n−+ = refl
 last-fits false false false true w n++ n+− n−+ = refl
 last-fits false false false false w n++ n+− n−+ = absurd (false≢true w)
 
--- the premises of signal∞
-pub inherits : (s o− o+ : ℕ) (k− k+ : Code) → greater k− k+ ≡ wrong → ¬ ((member s o− ≡ true) × (member s o+ ≡ true))
-    → ¬ ((member s o− ≡ true) × (member s o+ ≡ false) × (k+ ≢ wrong))
-    → ¬ ((member s o− ≡ false) × (k− ≢ wrong) × (member s o+ ≡ true))
-    → firstFit (member s o−) (member s o+) (isWrong k−) (isWrong k+) ≡ inherited
-inherits s o− o+ k− k+ w n++ n+− n−+ =
-    last-fits (member s o−) (member s o+) (isWrong k−) (isWrong k+) (some-wrong k− k+ w) n++
-    (λ h. n+− (h .0, h .1, right k+ (h .2))) (λ h. n−+ (h .0, right k− (h .1), h .2))
+-- the case of each signal rule, by its premises
+module _ (s o− o+ : ℕ) (k− k+ : Code) where
+  abbrev Selects : Case → Type 0
+  Selects c = firstFit (member s o−) (member s o+) (isWrong k−) (isWrong k+) ≡ c
+
+  pub fits++ : member s o− ≡ true → member s o+ ≡ true → Selects both
+  fits++ h− h+ = rw (h−, h+)
+
+  pub fits−− : member s o− ≡ false → member s o+ ≡ false → greater k− k+ ≢ wrong → Selects neither
+  fits−− h− h+ n = let w = neither-wrong k− k+ n in rw (h−, h+, w .0, w .1)
+
+  pub fits+− : member s o− ≡ true → member s o+ ≡ false → k+ ≢ wrong → Selects only−
+  fits+− h− h+ n = rw (h−, h+, sane k+ n)
+
+  pub fits−+ : member s o− ≡ false → k− ≢ wrong → member s o+ ≡ true → Selects only+
+  fits−+ h− n h+ = rw (h−, h+, sane k− n)
+
+  pub fits∞ : greater k− k+ ≡ wrong → ¬ ((member s o− ≡ true) × (member s o+ ≡ true))
+      → ¬ ((member s o− ≡ true) × (member s o+ ≡ false) × (k+ ≢ wrong))
+      → ¬ ((member s o− ≡ false) × (k− ≢ wrong) × (member s o+ ≡ true))
+      → Selects inherited
+  fits∞ w n++ n+− n−+ =
+      last-fits (member s o−) (member s o+) (isWrong k−) (isWrong k+) (some-wrong k− k+ w) n++
+      (λ h. n+− (h .0, h .1, right k+ (h .2))) (λ h. n−+ (h .0, right k− (h .1), h .2))
+
+-- the answer of a case is that of the signal, whose runs are the reactions of the premises
+signal-is : {r− r+ : Reaction} (a s : ℕ) (x− x+ : Reaction) {c : Case} → caseOf s x− x+ ≡ c → x− ≡ r− → x+ ≡ r+
+    → answer c a s x− x+ ≡ inSignal a s r− r+
+signal-is a s x− x+ h h− h+ = ap (λ (c : Case). answer c a s x− x+) (sym h) ∙ ap₂ (inSignal a s) h− h+
 
 -- ---- what the rules derive, the function gives
 pub sound : {p : Statement} {e : ℕ} {r : Reaction} → Reacts p e r → r ≡ react p e
@@ -126,24 +150,26 @@ sound Reacts.nothing = refl
 sound Reacts.pause = refl
 sound Reacts.exit = refl
 sound Reacts.emit = refl
-sound (Reacts.loop {a = a} {o = o} {l = l} {k = k} {p = p} {p′ = p′} d n) = rw (← sound d) (through-loop a p o k l p′ n)
-sound (Reacts.loop-error {k = k} d z) = rw (← sound d, z)
-sound (Reacts.parallel d d₂) = rw (← sound d, ← sound d₂)
+sound (Reacts.loop {a = a} {o = o} {l = l} {k = k} {p = p} {p′ = p′} d n) = through-loop a p o k l p′ n ∙ ap (inLoop a p) (sound d)
+sound (Reacts.loop-error {a = a} {o = o} {l = l} {p = p} {p′ = p′} d z) = loop-fails a p o l p′ z ∙ ap (inLoop a p) (sound d)
+sound (Reacts.parallel d d₂) = ap₂ inPar (sound d) (sound d₂)
 sound (Reacts.present+ i d) = rw (i) (sound d)
 sound (Reacts.present− i d) = rw (i) (sound d)
-sound (Reacts.try-catch d) = rw (← sound d)
-sound (Reacts.try-through {o = o} {l = l} {k = k} {p′ = p′} d n) = rw (← sound d) (through-try o k l p′ n)
+sound (Reacts.try-catch d) = ap inTry (sound d)
+sound (Reacts.try-through {o = o} {l = l} {k = k} {p′ = p′} d n) = through-try o k l p′ n ∙ ap inTry (sound d)
 sound (Reacts.sequence-p {e = e} {o = o} {l = l} {k = k} {p′ = p′} {q = q} d n) =
-    rw (← sound d) (through-seq q o k l p′ (react q e) n)
-sound (Reacts.sequence-q d d₂) = rw (← sound d, ← sound d₂)
-sound (Reacts.signal++ d− i− d+ i+) = rw (← sound d−, ← sound d+, i−, i+)
-sound (Reacts.signal−− {k− = k−} {k+ = k+} d− i− d+ i+ n) =
-    let w = neither-wrong k− k+ n in
-    rw (← sound d−, ← sound d+, i−, i+, w .0, w .1)
-sound (Reacts.signal+− {k+ = k+} d− i− d+ i+ n) = rw (← sound d−, ← sound d+, i−, i+, sane k+ n)
-sound (Reacts.signal−+ {k− = k−} d− i− n d+ i+) = rw (← sound d−, ← sound d+, i−, i+, sane k− n)
-sound (Reacts.signal∞ {s = s} {o− = o−} {o+ = o+} {k− = k−} {k+ = k+} d− d+ w n++ n+− n−+) =
-    rw (← sound d−, ← sound d+, inherits s o− o+ k− k+ w n++ n+− n−+)
+    through-seq q o k l p′ (react q e) n ∙ ap (λ (r : Reaction). inSeq q r (react q e)) (sound d)
+sound (Reacts.sequence-q {q = q} d d₂) = ap₂ (inSeq q) (sound d) (sound d₂)
+sound (Reacts.signal++ {a = a} {s = s} {o− = o−} {o+ = o+} {k− = k−} {k+ = k+} d− i− d+ i+) =
+    signal-is a s _ _ (fits++ s o− o+ k− k+ i− i+) (sound d−) (sound d+)
+sound (Reacts.signal−− {a = a} {s = s} {o− = o−} {o+ = o+} {k− = k−} {k+ = k+} d− i− d+ i+ n) =
+    signal-is a s _ _ (fits−− s o− o+ k− k+ i− i+ n) (sound d−) (sound d+)
+sound (Reacts.signal+− {a = a} {s = s} {o− = o−} {o+ = o+} {k− = k−} {k+ = k+} d− i− d+ i+ n) =
+    signal-is a s _ _ (fits+− s o− o+ k− k+ i− i+ n) (sound d−) (sound d+)
+sound (Reacts.signal−+ {a = a} {s = s} {o− = o−} {o+ = o+} {k− = k−} {k+ = k+} d− i− n d+ i+) =
+    signal-is a s _ _ (fits−+ s o− o+ k− k+ i− n i+) (sound d−) (sound d+)
+sound (Reacts.signal∞ {a = a} {s = s} {o− = o−} {o+ = o+} {k− = k−} {k+ = k+} d− d+ w n++ n+− n−+) =
+    signal-is a s _ _ (fits∞ s o− o+ k− k+ w n++ n+− n−+) (sound d−) (sound d+)
 sound Reacts.setpause = refl
 
 -- ---- what the function gives, the rules derive
