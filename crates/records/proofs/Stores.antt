@@ -1,7 +1,7 @@
 -- Runs of stores over a whole buffer give the record.
 use Prim.Native.Nat.{ℕ, _+_}
 use native.Mathlib.Omega.{arith}
-use mathlib.Core.Path.{_≡_, refl, sym, _∙_}
+use mathlib.Core.Path.{_≡_, refl, sym, ap, _∙_}
 use mathlib.Core.Logic.{_≢_}
 use mathlib.Core.List.{List, _∷_, _++_}
 use lib.ListN.{length}
@@ -22,14 +22,23 @@ module _ (n : ℕ) (b r : List ℕ) (sized : length r ≡ n) where
   pub left-alone : length b ≢ n → b ≡ replaced b r
   left-alone h = rw (ne-eqb (length b) (length r) (λ e. h (e ∙ sized))) refl
 
-pub state-replaced : (b : List ℕ) (phase labels : ℕ) → length b ≡ stateLength
+state-replaced : (b : List ℕ) (phase labels : ℕ) → length b ≡ stateLength
     → replaced b (stateRecord phase labels) ≡ stateRecord phase labels
 state-replaced b phase labels = replaced-by stateLength b (stateRecord phase labels) (state-sized phase labels)
 
-pub answer-replaced : (b : List ℕ) (code kind place emitted : ℕ) → length b ≡ answerLength
+answer-replaced : (b : List ℕ) (code kind place emitted : ℕ) → length b ≡ answerLength
     → replaced b (answerRecord code kind place emitted) ≡ answerRecord code kind place emitted
 answer-replaced b code kind place emitted =
     replaced-by answerLength b (answerRecord code kind place emitted) (answer-sized code kind place emitted)
+
+-- what the writers leave, c, in a buffer b of the right length
+pub state-written : (b : List ℕ) (phase labels : ℕ) → length b ≡ stateLength → {c : List ℕ} → c ≡ replaced b (stateRecord phase labels)
+    → {l : ℕ} → labels ≡ l → c ≡ stateRecord phase l
+state-written b phase labels s h e = h ∙ state-replaced b phase labels s ∙ ap (stateRecord phase) e
+
+pub answer-written : (b : List ℕ) (code kind place emitted : ℕ) → length b ≡ answerLength → {c : List ℕ}
+    → c ≡ replaced b (answerRecord code kind place emitted) → c ≡ answerRecord code kind place emitted
+answer-written b code kind place emitted s h = h ∙ answer-replaced b code kind place emitted s
 
 -- ---- stores
 pub state-stored : (phase labels : ℕ) (b : List ℕ) → length b ≡ stateLength

@@ -1,11 +1,10 @@
 use native.Mathlib.Omega.{arith}
-use mathlib.Core.Path.{ap, ap₂, _∙_, subst}
+use mathlib.Core.Path.{refl, ap₂, subst}
 use Rattle.rules.specs.declared.instant.Completion.the-variants.{Ended, Waiting, Leaving, Wrong}
-use Rattle.records.specs.Records.{stateRecord}
 use Rattle.demands.specs.Tick.{outcome}
 use Rattle.intake.specs.Standing.{WritableCode}
 use Rattle.intake.proofs.Standing.{arm}
-use Rattle.records.proofs.Stores.{state-replaced, answer-replaced}
+use Rattle.records.proofs.Stores.{state-written, answer-written}
 use borrow.Author.Needs.{needs}
 use Rattle.intake.proofs.tick.finish.Statement.{statement}
 use Rattle.intake.proofs.tick.finish.Tie as tie
@@ -74,7 +73,7 @@ returns : tie.Need-returns
 returns c =
     let s = c .before .before .before .before .before .before .before .before .before .before .before .before .before .before in
     arm _ Ended _ _ _ (c .before .before .before .before .before .before .before .before .before .enum-told .given .1)
-    (ap₂ (outcome 0) (c .before .before .before .before .before .before .write-state .ensures ∙ state-replaced (s .args .state .now) _ _ (s .pre .0) ∙ ap (stateRecord 2) (c .before .before .before .before .before .before .before .empty .ensures)) (c .before .before .write-answer .ensures ∙ answer-replaced (s .args .answer .now) _ _ _ _ (s .pre .1)))
+    (ap₂ (outcome 0) (state-written (s .args .state .now) _ _ (s .pre .0) (c .before .before .before .before .before .before .write-state .ensures) (c .before .before .before .before .before .before .before .empty .ensures)) (answer-written (s .args .answer .now) _ _ _ _ (s .pre .1) (c .before .before .write-answer .ensures)))
 
 same-length-3 : tie.Need-same-length-3
 same-length-3 c = search needs
@@ -85,7 +84,7 @@ same-length-4 c = search needs
 returns-2 : tie.Need-returns-2
 returns-2 c =
     let s = c .before .before .before .before .before .before .before .before .before .before .before .before .before in
-    arm _ Waiting _ _ _ (c .before .before .before .before .before .before .before .before .enum-told2 .given .1) (ap₂ (outcome 0) (c .before .before .before .before .before .before .write-state2 .ensures ∙ state-replaced (s .args .state .now) _ _ (s .pre .0)) (c .before .before .write-answer2 .ensures ∙ answer-replaced (s .args .answer .now) _ _ _ _ (s .pre .1)))
+    arm _ Waiting _ _ _ (c .before .before .before .before .before .before .before .before .enum-told2 .given .1) (ap₂ (outcome 0) (state-written (s .args .state .now) _ _ (s .pre .0) (c .before .before .before .before .before .before .write-state2 .ensures) refl) (answer-written (s .args .answer .now) _ _ _ _ (s .pre .1) (c .before .before .write-answer2 .ensures)))
 
 same-length-5 : tie.Need-same-length-5
 same-length-5 c = search needs
@@ -97,7 +96,7 @@ returns-3 : tie.Need-returns-3
 returns-3 c =
     let s = c .before .before .before .before .before .before .before .before .before .before .before .before .before .before .before in
     arm _ (Leaving (c .before .before .before .before .before .before .before .before .before .before .k .given .0 .0)) _ _ _ (c .before .before .before .before .before .before .before .before .before .before .k .given .1)
-    (ap₂ (outcome 0) (c .before .before .before .before .before .before .write-state3 .ensures ∙ state-replaced (s .args .state .now) _ _ (s .pre .0) ∙ ap (stateRecord 2) (c .before .before .before .before .before .before .before .empty2 .ensures)) (c .before .before .write-answer3 .ensures ∙ answer-replaced (s .args .answer .now) _ _ _ _ (s .pre .1)))
+    (ap₂ (outcome 0) (state-written (s .args .state .now) _ _ (s .pre .0) (c .before .before .before .before .before .before .write-state3 .ensures) (c .before .before .before .before .before .before .before .empty2 .ensures)) (answer-written (s .args .answer .now) _ _ _ _ (s .pre .1) (c .before .before .write-answer3 .ensures)))
 
 same-length-7 : tie.Need-same-length-7
 same-length-7 c = search needs
@@ -109,7 +108,7 @@ returns-4 : tie.Need-returns-4
 returns-4 c =
     let s = c .before .before .before .before .before .before .before .before .before .before .before .before .before .before .before in
     arm _ (Wrong (c .before .before .before .before .before .before .before .before .before .before .k2 .given .0 .0) (c .before .before .before .before .before .before .before .before .before .before .k2 .given .0 .1 .0)) _ _ _ (c .before .before .before .before .before .before .before .before .before .before .k2 .given .1)
-    (ap₂ (outcome 0) (c .before .before .before .before .before .before .write-state4 .ensures ∙ state-replaced (s .args .state .now) _ _ (s .pre .0) ∙ ap (stateRecord 2) (c .before .before .before .before .before .before .before .empty3 .ensures)) (c .before .before .write-answer4 .ensures ∙ answer-replaced (s .args .answer .now) _ _ _ _ (s .pre .1)))
+    (ap₂ (outcome 0) (state-written (s .args .state .now) _ _ (s .pre .0) (c .before .before .before .before .before .before .write-state4 .ensures) (c .before .before .before .before .before .before .before .empty3 .ensures)) (answer-written (s .args .answer .now) _ _ _ _ (s .pre .1) (c .before .before .write-answer4 .ensures)))
 
 pub finish-spec : {M : Type 1} → statement M
 finish-spec =
