@@ -5,9 +5,9 @@ use mathlib.Core.Path.{_≡_, ap, ap₂, _∙_}
 use mathlib.Core.List.{List, _++_, append-nil}
 use lib.ListN.{length, drop, drop-of-length-le}
 use Rattle.records.specs.Records.{labelsIn, codeIn, kindIn, placeIn, emittedIn}
+use Rattle.runs.specs.Listing.{numbersOf, setsOf, lineOf, rowIn}
+use Rattle.runs.specs.Stages as Listing
 use Rattle.listing.specs.declared.Piece.{Piece}
-use Rattle.listing.specs.Listing.{numbersOf, setsOf, lineOf, rowIn}
-use Rattle.listing.specs.Stages as Listing
 use Rattle.listing.specs.Buffer.{lineLength, Prepended}
 use Rattle.listing.specs.Answers.{stageIn, Prints}
 

@@ -6,7 +6,7 @@ use mathlib.Core.Path.{_≡_, refl, sym, ap, ap₂, _∙_, subst}
 use mathlib.Core.List.{List, [], _∷_, _++_}
 use lib.ListN.{length, set, length-append}
 use lib.Dec.{eqb·suc-zero}
-use Rattle.listing.specs.Text.{digit, numeralIn, numeral}
+use Rattle.runs.specs.Text.{digit, numeralIn, numeral}
 use Rattle.listing.specs.Buffer.{Prepended}
 use Rattle.listing.proofs.Buffers.{before, Filling, room, again, end-filling}
 

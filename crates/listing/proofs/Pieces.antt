@@ -1,52 +1,25 @@
--- Laws of the pieces: the input of an instant, and the turn that each stage takes.
-use Prim.Native.Nat.{ℕ, zero, suc, _+_, _≤_, _<_}
+-- Laws of the pieces: the turn that each stage takes.
+use Prim.Native.Nat.{ℕ, suc, _+_}
 use native.Mathlib.Numerals.{add-one}
 use native.Mathlib.Omega.{arith}
 use mathlib.Core.Bool.{Bool, true, false, cond}
 use mathlib.Core.Option.{none, some}
 use mathlib.Core.Path.{_≡_, refl, sym, ap, ap₂, _∙_}
 use mathlib.Core.List.{List, [], _∷_}
-use lib.ListN.{length, getD, drop, length-drop}
+use lib.ListN.{getD, drop}
 use lib.Dec.{eqb}
 use Rattle.demands.specs.Tick.{Outcome, outcome}
 use Rattle.demands.specs.Demands.{stateAfterwards}
+use Rattle.runs.specs.Text.{ending}
+use Rattle.runs.specs.File.{fileOf, sequenceIn, inputsIn, first}
+use Rattle.runs.specs.Listing.{lineOf, rowIn, rowOf, ticked, isOver}
+use Rattle.runs.specs.Stages as Listing
+use Rattle.runs.proofs.Files.{input-next}
 use Rattle.listing.specs.declared.file.Opened.{Opened}
 use Rattle.listing.specs.declared.Stage.{Stage}
 use Rattle.listing.specs.declared.Stage.the-variants as stages
 use Rattle.listing.specs.declared.Run.{Run}
-use Rattle.listing.specs.Text.{ending}
-use Rattle.listing.specs.File.{fileOf, sequenceIn, words, inputsIn, inputsAt}
-use Rattle.listing.specs.Listing.{lineOf, rowIn, rowOf, ticked, isOver}
-use Rattle.listing.specs.Stages as Listing
-use Rattle.listing.specs.Answers.{fileBy, first, stageBy, stageIn, stageAfter}
-
--- ---- the input that i others precede
-pub input-next : (i e : ℕ) (ws : List ℕ) → first (drop i ws) ≡ some e → drop i ws ≡ e ∷ drop (suc i) ws
-input-next zero e [] h = absurd (let z : _≡_ {A = ℕ} 0 1 = cc in omega arith)
-input-next zero e (w ∷ ws) h = let z : w ≡ e = cc in ap (λ (x : ℕ). x ∷ ws) z
-input-next (suc i) e [] h = absurd (let z : _≡_ {A = ℕ} 0 1 = cc in omega arith)
-input-next (suc i) e (w ∷ ws) h = input-next i e ws h
-
-within : (i e : ℕ) (ws : List ℕ) → first (drop i ws) ≡ some e → i < length ws
-within zero e [] h = absurd (let z : _≡_ {A = ℕ} 0 1 = cc in omega arith)
-within zero e (w ∷ ws) h = omega arith
-within (suc i) e [] h = absurd (let z : _≡_ {A = ℕ} 0 1 = cc in omega arith)
-within (suc i) e (w ∷ ws) h = omega (arith, within i e ws h)
-
-words-length : (bs : List ℕ) → length (words bs) ≤ length bs
-unfolding words
-words-length [] = omega arith
-words-length (a ∷ []) = omega arith
-words-length (a ∷ b ∷ []) = omega arith
-words-length (a ∷ b ∷ c ∷ []) = omega arith
-words-length (a ∷ b ∷ c ∷ d ∷ bs) = omega (arith, words-length bs)
-
-pub inputs-length : (file : List ℕ) → length (inputsIn file) ≤ length file
-unfolding inputsIn
-inputs-length file = omega (arith, words-length (drop (inputsAt file) file), length-drop (inputsAt file) file)
-
-pub input-within : (file : List ℕ) (i e : ℕ) → first (drop i (inputsIn file)) ≡ some e → i < length file
-input-within file i e h = omega (arith, within i e (inputsIn file) h, inputs-length file)
+use Rattle.listing.specs.Answers.{fileBy, stageBy, stageIn, stageAfter}
 
 -- ---- an instant
 stage-after : (b : Bool) (file after : List ℕ) (i : ℕ)

@@ -1,35 +1,24 @@
--- What the code's answers stand for: a file, the next input, the stage of a run, a turn.
+-- What the code's answers stand for: a file, the stage of a run, a turn.
 use Prim.Native.Nat.{ℕ, suc, _+_, _≤_}
 use mathlib.Core.Bool.{cond}
 use mathlib.Core.Path.{_≡_}
-use mathlib.Core.Option.{Option, none, some}
-use mathlib.Core.List.{List, [], _∷_}
+use mathlib.Core.List.{List}
 use lib.ListN.{length, drop}
 use lib.Dec.{eqb}
+use Rattle.runs.specs.File.{File, cut, refused, runs, sequenceIn, inputsIn}
+use Rattle.runs.specs.Stages as Listing
 use Rattle.listing.specs.declared.file.Opened.{Opened}
 use Rattle.listing.specs.declared.file.Opened.the-variants as opens
-use Rattle.listing.specs.declared.file.Input.{Input}
-use Rattle.listing.specs.declared.file.Input.the-variants as inputs
 use Rattle.listing.specs.declared.Stage.{Stage}
 use Rattle.listing.specs.declared.Stage.the-variants as stages
 use Rattle.listing.specs.declared.Run.{Run}
 use Rattle.listing.specs.declared.Piece.{Piece}
 use Rattle.listing.specs.Buffer.{lineLength}
-use Rattle.listing.specs.File.{File, cut, refused, runs, sequenceIn, inputsIn}
-use Rattle.listing.specs.Stages as Listing
 
 abbrev pub fileBy : List ℕ → Opened → File
 fileBy file opens.Cut = cut
 fileBy file (opens.Refused number) = refused number
 fileBy file opens.Runs = runs (sequenceIn file) (inputsIn file)
-
-abbrev pub first : List ℕ → Option ℕ
-first [] = none
-first (x ∷ xs) = some x
-
-abbrev pub inputBy : Input → Option ℕ
-inputBy (inputs.Word e) = some e
-inputBy inputs.Nothing = none
 
 -- an instant's number is one more than the inputs before it
 abbrev pub stageBy : List ℕ → Stage → (state : List ℕ) → Listing.Stage

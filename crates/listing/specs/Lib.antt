@@ -1,8 +1,2 @@
-pub mod Text
-pub mod File
-pub mod Listing
-pub mod Stages
-pub mod Paper
 pub mod Buffer
 pub mod Answers
-pub mod Examples

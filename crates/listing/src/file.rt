@@ -1,16 +1,7 @@
-// The file of a run: length, sequence, inputs.
-ghost use Prim.Native.Nat.{_<_};
+// What a file comes to: a run, or why there is none.
 ghost use mathlib.Core.Path.{_≡_};
-ghost use lib.ListN.{drop};
-ghost use Rattle.listing.specs.File.{fileOf, sequenceLength, sequenceIn, inputsIn, whole};
-ghost use Rattle.listing.specs.Answers.{fileBy, inputBy, first};
-use limits::SIGNAL_BYTES;
-
-// The bytes of the length that begins a file.
-const LENGTH_BYTES: usize = 2;
-
-// The most bytes of a file, its first two among them.
-const MAX_FILE: usize = 65536;
+ghost use Rattle.runs.specs.File.{fileOf};
+ghost use Rattle.listing.specs.Answers.{fileBy};
 
 pub enum Opened {
     Cut,
@@ -18,66 +9,15 @@ pub enum Opened {
     Runs,
 }
 
-pub enum Input {
-    Word(u32),
-    Nothing,
-}
-
-// The length that a file names for its sequence.
-fn sequence_length(file: &[u8]) -> usize
-    ensures { λ r. ⌜ r ≡ sequenceLength (now (file .entry)) ⌝ }
-    ensures { λ r. ⌜ r < 65536 ⌝ }
-{
-    records::le::get_le(file, 0, LENGTH_BYTES) as usize
-}
-
-pub fn sequence(file: &[u8]) -> &[u8]
-    ensures { λ r. ⌜ now r ≡ sequenceIn (now (file .entry)) ⌝ }
-{
-    records::le::part(file, LENGTH_BYTES, sequence_length(file))
-}
-
-fn is_whole(file: &[u8]) -> bool
-    ensures { λ r. ⌜ r ≡ whole (now (file .entry)) ⌝ }
-{
-    let n = file.len();
-    if MAX_FILE < n {
-        return false;
-    }
-    if n < LENGTH_BYTES {
-        return false;
-    }
-    let at = LENGTH_BYTES + sequence_length(file);
-    if n < at {
-        return false;
-    }
-    (n - at) % SIGNAL_BYTES == 0
-}
-
 pub fn open(file: &[u8]) -> Opened
     ensures { λ r. ⌜ fileBy (now (file .entry)) r ≡ fileOf (now (file .entry)) ⌝ }
 {
-    if !is_whole(file) {
+    if !files::is_whole(file) {
         return Opened::Cut;
     }
-    let number = intake::intake_check(sequence(file));
+    let number = intake::intake_check(files::sequence(file));
     if number == 0 {
         return Opened::Runs;
     }
     Opened::Refused(number)
-}
-
-// The input that i others stand before.
-pub fn input_at(file: &[u8], i: usize) -> Input
-    ensures { λ r. ⌜ inputBy r ≡ first (drop i (inputsIn (now (file .entry)))) ⌝ }
-{
-    let n = file.len();
-    let at = LENGTH_BYTES + sequence_length(file);
-    if n < at {
-        return Input::Nothing;
-    }
-    if (n - at) / SIGNAL_BYTES <= i {
-        return Input::Nothing;
-    }
-    Input::Word(records::le::get_le(file, at + SIGNAL_BYTES * i, SIGNAL_BYTES) as u32)
 }

@@ -9,16 +9,16 @@ ghost use mathlib.Core.Option.{some};
 ghost use mathlib.Core.List.{List};
 ghost use lib.ListN.{length, drop};
 ghost use Rattle.demands.specs.Demands.{cleared};
-ghost use Rattle.listing.specs.Text.{refusal};
-ghost use Rattle.listing.specs.Text.{heading as Text·heading};
-ghost use Rattle.listing.specs.File.{fileOf, sequenceIn, inputsIn};
-ghost use Rattle.listing.specs.Stages.{opening, running, finished, isFinished, opened, turnOf};
-ghost use Rattle.listing.specs.Stages.{turn as Stages·turn};
+ghost use Rattle.runs.specs.Text.{refusal};
+ghost use Rattle.runs.specs.Text.{heading as Text·heading};
+ghost use Rattle.runs.specs.File.{fileOf, sequenceIn, inputsIn, first};
+ghost use Rattle.runs.specs.Stages.{opening, running, finished, isFinished, opened, turnOf};
+ghost use Rattle.runs.specs.Stages.{turn as Stages·turn};
 ghost use Rattle.listing.specs.Buffer.{lineLength};
-ghost use Rattle.listing.specs.Answers.{stageIn, stageAfter, turnAt, first, Prints};
-use crate::file::Input;
+ghost use Rattle.listing.specs.Answers.{stageIn, stageAfter, turnAt, Prints};
 use crate::file::Opened;
 use crate::line::LINE_LENGTH;
+use files::Input;
 use records::layout::ANSWER_LENGTH;
 use records::layout::STATE_LENGTH;
 
@@ -153,7 +153,7 @@ fn heading() -> Piece
 fn step(file: &[u8], i: usize, state: [u8; STATE_LENGTH]) -> Piece
     ensures { λ r. ⌜ Prints (now (file .entry)) (turnAt (now (file .entry)) state i) r ⌝ }
 {
-    match crate::file::input_at(file, i) {
+    match files::input_at(file, i) {
         Input::Nothing => last(b"end\n"),
         Input::Word(e) => instant(file, i, e, state),
     }
@@ -166,7 +166,7 @@ fn instant(file: &[u8], i: usize, e: u32, state: [u8; STATE_LENGTH]) -> Piece
 {
     let mut after = state;
     let mut answer = [0u8; ANSWER_LENGTH];
-    intake::intake_tick(crate::file::sequence(file), &mut after, e, &mut answer);
+    intake::intake_tick(files::sequence(file), &mut after, e, &mut answer);
     let mut line = [0u8; LINE_LENGTH];
     let from = crate::line::put_row(&mut line, i as u64 + 1, &after, &answer);
     let run = Run {

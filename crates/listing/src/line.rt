@@ -3,8 +3,8 @@ ghost use Prim.Native.Nat.{_+_, _≤_};
 ghost use mathlib.Core.Path.{_≡_};
 ghost use mathlib.Core.List.{[], _∷_, _++_};
 ghost use lib.ListN.{length};
-ghost use Rattle.listing.specs.Text.{numeral, refusal};
-ghost use Rattle.listing.specs.Listing.{numbersOf, setsOf, lineIn};
+ghost use Rattle.runs.specs.Text.{numeral, refusal};
+ghost use Rattle.runs.specs.Listing.{numbersOf, setsOf, lineIn};
 ghost use Rattle.listing.specs.Buffer.{lineLength, Prepended};
 
 // The bytes of a line's buffer.

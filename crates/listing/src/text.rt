@@ -3,8 +3,8 @@ ghost use Prim.Native.Nat.{_-_, _≤_, _<_};
 ghost use mathlib.Core.Path.{_≡_};
 ghost use mathlib.Core.List.{[], _∷_};
 ghost use lib.ListN.{length};
-ghost use Rattle.listing.specs.Text.{numeral};
-ghost use Rattle.listing.specs.Text.{digit as Text·digit};
+ghost use Rattle.runs.specs.Text.{numeral};
+ghost use Rattle.runs.specs.Text.{digit as Text·digit};
 ghost use Rattle.listing.specs.Buffer.{Prepended};
 
 fn digit(d: u64) -> u8

@@ -1,7 +1,7 @@
 use mathlib.Core.Path.{refl}
 use Rattle.demands.specs.Demands.{cleared}
-use Rattle.listing.specs.File.{sequenceIn, inputsIn}
-use Rattle.listing.specs.Stages as Listing
+use Rattle.runs.specs.File.{sequenceIn, inputsIn}
+use Rattle.runs.specs.Stages as Listing
 use Rattle.listing.proofs.Lines.{shown}
 use borrow.Author.Needs.{needs}
 use Rattle.listing.proofs.heading.Statement.{statement}

@@ -1,16 +1,17 @@
 use Rattle.demands.specs.Tick.{outcome}
+use Rattle.runs.specs.File.{sequenceIn}
+use Rattle.runs.specs.Listing.{ticked}
+use Rattle.runs.specs.Stages as Listing
+use Rattle.runs.proofs.Files.{input-within}
 use Rattle.listing.specs.declared.Stage.{Stage}
 use Rattle.listing.specs.declared.Piece.{Piece}
-use Rattle.listing.specs.File.{sequenceIn}
-use Rattle.listing.specs.Listing.{ticked}
 use Rattle.listing.specs.Answers.{stageBy, stageAfter}
 use mathlib.Core.Path.{_≡_, refl, ap, _∙_, subst}
 use mathlib.Core.List.{List}
 use Prim.Native.Nat.{ℕ}
-use Rattle.listing.specs.Stages as Listing
 use Rattle.listing.specs.Answers.{Prints}
 use native.Mathlib.Omega.{arith}
-use Rattle.listing.proofs.Pieces.{input-within, instant-turn}
+use Rattle.listing.proofs.Pieces.{instant-turn}
 use Rattle.listing.proofs.Lines.{shown}
 use borrow.Author.Needs.{needs}
 use Rattle.listing.proofs.instant.Statement.{statement}
@@ -18,7 +19,7 @@ use Rattle.listing.proofs.instant.Tie as tie
 use Rattle.listing.proofs.instant.Reads as reads
 use Rattle.listing.proofs.instant.Lts as lts
 use Rattle.intake.proofs.intake_tick.Reads as intake-tick-reads
-use Rattle.listing.proofs.file.sequence.Reads as sequence-reads
+use Rattle.files.proofs.sequence.Reads as sequence-reads
 use Rattle.listing.proofs.following.Reads as following-reads
 use Rattle.listing.proofs.line.put_row.Reads as put-row-reads
 use Rattle.records.proofs.state.phase.Reads as phase-reads

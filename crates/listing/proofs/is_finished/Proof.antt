@@ -1,6 +1,6 @@
 use mathlib.Core.Path.{sym, ap}
+use Rattle.runs.specs.Stages.{isFinished}
 use Rattle.listing.specs.declared.Stage.{Stage}
-use Rattle.listing.specs.Stages.{isFinished}
 use Rattle.listing.specs.Answers.{stageBy}
 use borrow.Author.Needs.{needs}
 use Rattle.listing.proofs.is_finished.Statement.{statement}

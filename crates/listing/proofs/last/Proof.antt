@@ -1,5 +1,5 @@
 use mathlib.Core.Path.{refl}
-use Rattle.listing.specs.Stages as Listing
+use Rattle.runs.specs.Stages as Listing
 use Rattle.listing.proofs.Lines.{shown}
 use borrow.Author.Needs.{needs}
 use Rattle.listing.proofs.last.Statement.{statement}

@@ -1,5 +1,5 @@
 use mathlib.Core.Path.{subst}
-use Rattle.listing.specs.Stages as Listing
+use Rattle.runs.specs.Stages as Listing
 use Rattle.listing.specs.Answers.{Prints}
 use Rattle.listing.specs.declared.file.Opened.the-variants as opens
 use Rattle.listing.proofs.Pieces.{opened-by}

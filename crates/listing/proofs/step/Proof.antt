@@ -1,17 +1,17 @@
 use mathlib.Core.Path.{sym, ap, _∙_, subst}
-use Rattle.listing.specs.Stages as Listing
+use Rattle.runs.specs.Stages as Listing
 use Rattle.listing.specs.Answers.{Prints}
 use Prim.Native.Nat.{suc}
 use lib.ListN.{drop}
-use Rattle.listing.specs.File.{sequenceIn, inputsIn}
-use Rattle.listing.specs.Answers.{inputBy}
+use Rattle.runs.specs.File.{sequenceIn, inputsIn}
+use Rattle.files.specs.Answers.{inputBy}
 use Rattle.listing.proofs.Pieces.{no-turn}
 use borrow.Author.Needs.{needs}
 use Rattle.listing.proofs.step.Statement.{statement}
 use Rattle.listing.proofs.step.Tie as tie
 use Rattle.listing.proofs.step.Reads as reads
 use Rattle.listing.proofs.step.Lts as lts
-use Rattle.listing.proofs.file.input_at.Reads as input-at-reads
+use Rattle.files.proofs.input_at.Reads as input-at-reads
 use Rattle.listing.proofs.instant.Reads as instant-reads
 use Rattle.listing.proofs.last.Reads as last-reads
 

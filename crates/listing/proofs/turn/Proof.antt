@@ -1,5 +1,5 @@
 use mathlib.Core.Path.{_∙_, subst}
-use Rattle.listing.specs.Stages as Listing
+use Rattle.runs.specs.Stages as Listing
 use Rattle.listing.specs.Answers.{Prints}
 use Rattle.listing.specs.declared.Stage.the-variants as stages
 use Rattle.listing.proofs.Pieces.{turn-by, turn-opening, turn-closing, turn-finished}

@@ -1,17 +1,17 @@
 use borrow.Author.Tests.{not-true, not-false}
-use Rattle.listing.specs.File.{whole, sequenceIn}
+use Rattle.runs.specs.File.{whole, sequenceIn}
 use mathlib.Core.Bool.{true}
 use mathlib.Core.Path.{_≡_, sym, ap, _∙_}
 use Rattle.sequence.specs.Check.{checkOf}
-use Rattle.listing.proofs.Files.{file-cut, file-runs, file-refused}
+use Rattle.runs.proofs.Files.{file-cut, file-runs, file-refused}
 use borrow.Author.Needs.{needs}
 use Rattle.listing.proofs.file.open.Statement.{statement}
 use Rattle.listing.proofs.file.open.Tie as tie
 use Rattle.listing.proofs.file.open.Reads as reads
 use Rattle.listing.proofs.file.open.Lts as lts
 use Rattle.intake.proofs.intake_check.Reads as intake-check-reads
-use Rattle.listing.proofs.file.is_whole.Reads as is-whole-reads
-use Rattle.listing.proofs.file.sequence.Reads as sequence-reads
+use Rattle.files.proofs.is_whole.Reads as is-whole-reads
+use Rattle.files.proofs.sequence.Reads as sequence-reads
 
 is-whole-requires : tie.Need-is-whole-requires
 is-whole-requires c κs = search needs

@@ -1,7 +1,7 @@
 use Prim.Native.Nat.{_≤_}
 use native.Mathlib.Omega.{arith}
 use lib.ListN.{length}
-use Rattle.listing.specs.Text.{numeral}
+use Rattle.runs.specs.Text.{numeral}
 use Rattle.listing.proofs.Numerals.{field-fits, field}
 use borrow.Author.Needs.{needs}
 use Rattle.listing.proofs.line.put_field.Statement.{statement}

@@ -6,7 +6,7 @@ use native.Mathlib.Omega.{arith}
 use mathlib.Core.Logic.{⊎-elim}
 use mathlib.Core.Path.{_≡_, refl}
 use lib.ListN.{length, length-set}
-use Rattle.listing.specs.Text.{numeral}
+use Rattle.runs.specs.Text.{numeral}
 use Rattle.listing.proofs.Buffers.{Filling, begin, under}
 use Rattle.listing.proofs.Numerals.{measure-falls, numeral-room, numeral-again, numeral-end}
 use Rattle.listing.proofs.text.put_numeral.Statement.{statement}

@@ -7,15 +7,15 @@ use lib.ListN.{length}
 use Rattle.esterel.specs.Statement.{Statement}
 use Rattle.esterel.specs.States.{NoSetpause}
 use Rattle.sequence.specs.Rows.{Spells}
-use Rattle.listing.specs.Text.{heading, ending}
-use Rattle.listing.specs.File.{runs, fileOf}
-use Rattle.listing.specs.Listing.{Row, lines, listingOf}
-use Rattle.listing.specs.Stages.{opening, turns}
-use Rattle.listing.specs.Paper.{columns, paperColumns}
-use Rattle.listing.specs.Examples.{exampleFile, exampleListing}
-use Rattle.listing.proofs.Turns as all
-use Rattle.listing.proofs.Paper as paper
-use Rattle.listing.proofs.Examples as examples
+use Rattle.runs.specs.Text.{heading, ending}
+use Rattle.runs.specs.File.{runs, fileOf}
+use Rattle.runs.specs.Listing.{Row, lines, listingOf}
+use Rattle.runs.specs.Stages.{opening, turns}
+use Rattle.runs.specs.Paper.{columns, paperColumns}
+use Rattle.runs.specs.Examples.{exampleFile, exampleListing}
+use Rattle.runs.proofs.Turns as all
+use Rattle.runs.proofs.Paper as paper
+use Rattle.runs.proofs.Examples as examples
 
 -- as many turns as the file has bytes, and two, give the whole listing
 pub turns-list : (file : List ℕ) (n : ℕ) → length file + 2 ≤ n → turns n (opening file) ≡ listingOf file

@@ -1,12 +1,12 @@
 use native.Mathlib.Omega.{arith}
-use Rattle.listing.proofs.Files.{no-input, an-input}
+use Rattle.runs.proofs.Files.{no-input, an-input}
 use borrow.Author.Needs.{needs}
-use Rattle.listing.proofs.file.input_at.Statement.{statement}
-use Rattle.listing.proofs.file.input_at.Tie as tie
-use Rattle.listing.proofs.file.input_at.Reads as reads
-use Rattle.listing.proofs.file.input_at.Lts as lts
+use Rattle.files.proofs.input_at.Statement.{statement}
+use Rattle.files.proofs.input_at.Tie as tie
+use Rattle.files.proofs.input_at.Reads as reads
+use Rattle.files.proofs.input_at.Lts as lts
 use Rattle.records.proofs.le.get_le.Reads as get-le-reads
-use Rattle.listing.proofs.file.sequence_length.Reads as sequence-length-reads
+use Rattle.files.proofs.sequence_length.Reads as sequence-length-reads
 
 sequence-length-requires : tie.Need-sequence-length-requires
 sequence-length-requires c κs = search needs

@@ -1,11 +1,11 @@
-use Rattle.listing.proofs.Files.{sequence-part}
+use Rattle.runs.proofs.Files.{sequence-part}
 use borrow.Author.Needs.{needs}
-use Rattle.listing.proofs.file.sequence.Statement.{statement}
-use Rattle.listing.proofs.file.sequence.Tie as tie
-use Rattle.listing.proofs.file.sequence.Reads as reads
-use Rattle.listing.proofs.file.sequence.Lts as lts
+use Rattle.files.proofs.sequence.Statement.{statement}
+use Rattle.files.proofs.sequence.Tie as tie
+use Rattle.files.proofs.sequence.Reads as reads
+use Rattle.files.proofs.sequence.Lts as lts
 use Rattle.records.proofs.le.part.Reads as part-reads
-use Rattle.listing.proofs.file.sequence_length.Reads as sequence-length-reads
+use Rattle.files.proofs.sequence_length.Reads as sequence-length-reads
 
 sequence-length-requires : tie.Need-sequence-length-requires
 sequence-length-requires c κs = search needs

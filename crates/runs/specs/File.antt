@@ -1,6 +1,7 @@
 -- The file of a run (01, 'Bays to run'): the sequence's length in 2 bytes, the sequence, then 4 bytes an instant.
 use Prim.Native.Nat.{ℕ, zero, suc, _+_, _-_, _%_}
 use mathlib.Core.Bool.{Bool, _&&_, cond}
+use mathlib.Core.Option.{Option, none, some}
 use mathlib.Core.List.{List, [], _∷_}
 use lib.ListN.{length, take, drop}
 use lib.Dec.{eqb, leb}
@@ -35,6 +36,10 @@ words [] = []
 
 unfoldable pub inputsIn : List ℕ → List ℕ
 inputsIn file = words (drop (inputsAt file) file)
+
+abbrev pub first : List ℕ → Option ℕ
+first [] = none
+first (x ∷ xs) = some x
 
 -- not longer than allowed, not ended early, and no bytes over
 abbrev pub whole : List ℕ → Bool

@@ -19,10 +19,10 @@ use Rattle.demands.specs.Tick.{Outcome, outcome, tickOf}
 use Rattle.demands.specs.Paper.{Call, reacted, reportOf, paper}
 use Rattle.demands.specs.Demands.{stateAfterwards, cleared, report, outcomes}
 use Rattle.demands.proofs.Agreement.{demand-3}
-use Rattle.listing.specs.Text.{heading, ending}
-use Rattle.listing.specs.File.{cut, runs, byNumber, fileOf, whole, sequenceIn, inputsIn}
-use Rattle.listing.specs.Listing.{Row, rowOf, isOver, ticked, rows, lines, listed, listingOf}
-use Rattle.listing.specs.Paper.{Columns, columns, instants, paperColumns}
+use Rattle.runs.specs.Text.{heading, ending}
+use Rattle.runs.specs.File.{cut, runs, byNumber, fileOf, whole, sequenceIn, inputsIn}
+use Rattle.runs.specs.Listing.{Row, rowOf, isOver, ticked, rows, lines, listed, listingOf}
+use Rattle.runs.specs.Paper.{Columns, columns, instants, paperColumns}
 
 abbrev callsOf : List ℕ → List Call
 callsOf es = map (λ (e : ℕ). record { input = e; buffer = replicate answerLength 0 }) es

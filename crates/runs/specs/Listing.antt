@@ -7,8 +7,8 @@ use lib.Dec.{eqb}
 use Rattle.records.specs.Records.{answerLength, phaseIn, labelsIn, codeIn, kindIn, placeIn, emittedIn}
 use Rattle.demands.specs.Tick.{Outcome, tickOf}
 use Rattle.demands.specs.Demands.{stateAfterwards, answerAfterwards, cleared}
-use Rattle.listing.specs.Text.{numeral, space, newline, heading, ending, inputCut, refusal}
-use Rattle.listing.specs.File.{File, cut, refused, runs, fileOf}
+use Rattle.runs.specs.Text.{numeral, space, newline, heading, ending, inputCut, refusal}
+use Rattle.runs.specs.File.{File, cut, refused, runs, fileOf}
 
 pub record Row : Type 0 where
   pub instant : ℕ

@@ -1,7 +1,7 @@
 -- 01's example of a run (01, 'Bays to run'): 08 00 04 02 00 04 01 01 02 01 and eight bytes 00.
 use Prim.Native.Nat.{ℕ}
 use mathlib.Core.List.{List, [], _∷_, _++_}
-use Rattle.listing.specs.Text.{heading, ending}
+use Rattle.runs.specs.Text.{heading, ending}
 
 abbrev pub exampleFile : List ℕ
 exampleFile =

@@ -7,12 +7,12 @@ use mathlib.Core.Path.{_≡_, refl, sym, ap, _∙_}
 use mathlib.Core.List.{List, [], _∷_, _++_, append-nil, append-assoc}
 use lib.ListN.{length}
 use Rattle.demands.specs.Demands.{stateAfterwards}
-use Rattle.listing.specs.Text.{ending}
+use Rattle.runs.specs.Text.{ending}
 use Rattle.sequence.specs.Check.{checkOf}
-use Rattle.listing.specs.File.{File, cut, refused, runs, byNumber, fileOf, whole, sequenceIn, inputsIn}
-use Rattle.listing.specs.Listing.{rowOf, lineOf, ticked, isOver, rows, lines, listed, listingOf}
-use Rattle.listing.specs.Stages.{Stage, opening, running, closing, finished, opened, turnOf, turns}
-use Rattle.listing.proofs.Pieces.{inputs-length}
+use Rattle.runs.specs.File.{File, cut, refused, runs, byNumber, fileOf, whole, sequenceIn, inputsIn}
+use Rattle.runs.specs.Listing.{rowOf, lineOf, ticked, isOver, rows, lines, listed, listingOf}
+use Rattle.runs.specs.Stages.{Stage, opening, running, closing, finished, opened, turnOf, turns}
+use Rattle.runs.proofs.Files.{inputs-length}
 
 -- the text still to come
 abbrev rest : Stage → List ℕ

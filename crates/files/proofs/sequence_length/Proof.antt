@@ -1,9 +1,9 @@
 use native.Mathlib.Omega.{arith}
 use borrow.Author.Needs.{needs}
-use Rattle.listing.proofs.file.sequence_length.Statement.{statement}
-use Rattle.listing.proofs.file.sequence_length.Tie as tie
-use Rattle.listing.proofs.file.sequence_length.Reads as reads
-use Rattle.listing.proofs.file.sequence_length.Lts as lts
+use Rattle.files.proofs.sequence_length.Statement.{statement}
+use Rattle.files.proofs.sequence_length.Tie as tie
+use Rattle.files.proofs.sequence_length.Reads as reads
+use Rattle.files.proofs.sequence_length.Lts as lts
 use Rattle.records.proofs.le.get_le.Reads as get-le-reads
 
 get-le-requires : tie.Need-get-le-requires

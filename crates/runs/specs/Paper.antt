@@ -5,7 +5,7 @@ use mathlib.Core.List.{List, [], _∷_}
 use Rattle.esterel.specs.Statement.{Statement}
 use Rattle.esterel.specs.Machines.{Seen, instant, refused, Rewriting, byRewriting, run}
 use Rattle.records.specs.Records.{codeByte}
-use Rattle.listing.specs.Listing.{Row}
+use Rattle.runs.specs.Listing.{Row}
 
 pub record Columns : Type 0 where
   pub code : ℕ

@@ -12,8 +12,7 @@ use lib.Dec.{eqb}
 use borrow.Author.Tests.{le-leb, lt-leb}
 use Rattle.sequence.specs.Check.{checkOf}
 use Rattle.records.specs.Bytes.{leNumber}
-use Rattle.listing.specs.File.{cut, refused, runs, byNumber, fileOf, sequenceLength, inputsAt, sequenceIn, words, inputsIn, whole}
-use Rattle.listing.specs.Answers.{first}
+use Rattle.runs.specs.File.{cut, refused, runs, byNumber, fileOf, sequenceLength, inputsAt, sequenceIn, words, inputsIn, first, whole}
 
 -- ---- the length that a file names
 pub sequence-part : (file s : List ℕ) (n : ℕ) → n ≡ sequenceLength file → s ≡ take n (drop 2 file) → s ≡ sequenceIn file
@@ -105,3 +104,31 @@ an-input file i n e k v h =
     let v′ : e ≡ leNumber (take 4 (drop (inputsAt file + 4 * i) file)) = v ∙ ap (λ (m : ℕ). leNumber (take 4 (drop m file))) at in
     ap some v′
     ∙ sym (ap first (inputs-from file i) ∙ words-first (drop (inputsAt file + 4 * i) file) (omega (arith, length-drop (inputsAt file + 4 * i) file, at)))
+
+-- ---- the input that i others precede
+pub input-next : (i e : ℕ) (ws : List ℕ) → first (drop i ws) ≡ some e → drop i ws ≡ e ∷ drop (suc i) ws
+input-next zero e [] h = absurd (let z : _≡_ {A = ℕ} 0 1 = cc in omega arith)
+input-next zero e (w ∷ ws) h = let z : w ≡ e = cc in ap (λ (x : ℕ). x ∷ ws) z
+input-next (suc i) e [] h = absurd (let z : _≡_ {A = ℕ} 0 1 = cc in omega arith)
+input-next (suc i) e (w ∷ ws) h = input-next i e ws h
+
+within : (i e : ℕ) (ws : List ℕ) → first (drop i ws) ≡ some e → i < length ws
+within zero e [] h = absurd (let z : _≡_ {A = ℕ} 0 1 = cc in omega arith)
+within zero e (w ∷ ws) h = omega arith
+within (suc i) e [] h = absurd (let z : _≡_ {A = ℕ} 0 1 = cc in omega arith)
+within (suc i) e (w ∷ ws) h = omega (arith, within i e ws h)
+
+words-length : (bs : List ℕ) → length (words bs) ≤ length bs
+unfolding words
+words-length [] = omega arith
+words-length (a ∷ []) = omega arith
+words-length (a ∷ b ∷ []) = omega arith
+words-length (a ∷ b ∷ c ∷ []) = omega arith
+words-length (a ∷ b ∷ c ∷ d ∷ bs) = omega (arith, words-length bs)
+
+pub inputs-length : (file : List ℕ) → length (inputsIn file) ≤ length file
+unfolding inputsIn
+inputs-length file = omega (arith, words-length (drop (inputsAt file) file), length-drop (inputsAt file) file)
+
+pub input-within : (file : List ℕ) (i e : ℕ) → first (drop i (inputsIn file)) ≡ some e → i < length file
+input-within file i e h = omega (arith, within i e (inputsIn file) h, inputs-length file)

@@ -1,10 +1,10 @@
-use Rattle.listing.proofs.Files.{too-long, too-short, ended-early, bytes-over}
+use Rattle.runs.proofs.Files.{too-long, too-short, ended-early, bytes-over}
 use borrow.Author.Needs.{needs}
-use Rattle.listing.proofs.file.is_whole.Statement.{statement}
-use Rattle.listing.proofs.file.is_whole.Tie as tie
-use Rattle.listing.proofs.file.is_whole.Reads as reads
-use Rattle.listing.proofs.file.is_whole.Lts as lts
-use Rattle.listing.proofs.file.sequence_length.Reads as sequence-length-reads
+use Rattle.files.proofs.is_whole.Statement.{statement}
+use Rattle.files.proofs.is_whole.Tie as tie
+use Rattle.files.proofs.is_whole.Reads as reads
+use Rattle.files.proofs.is_whole.Lts as lts
+use Rattle.files.proofs.sequence_length.Reads as sequence-length-reads
 
 returns : tie.Need-returns
 returns c = too-long (c .before .before .args .file .now) (c .if1 .taken)

@@ -12,10 +12,10 @@ use Rattle.sequence.specs.Check.{checked, checkOf}
 use Rattle.records.specs.Bytes.{leBytes, leNumber}
 use Rattle.records.specs.Records.{encodeState, decodeState, encodeAnswer}
 use Rattle.demands.specs.Tick.{tickOf}
-use Rattle.listing.specs.Text.{numeralIn, numeral}
-use Rattle.listing.specs.File.{sequenceIn, words, inputsIn, fileOf}
-use Rattle.listing.specs.Listing.{lineOf, rows, lines, listingOf}
-use Rattle.listing.specs.Examples.{exampleFile, exampleListing}
+use Rattle.runs.specs.Text.{numeralIn, numeral}
+use Rattle.runs.specs.File.{sequenceIn, words, inputsIn, fileOf}
+use Rattle.runs.specs.Listing.{lineOf, rows, lines, listingOf}
+use Rattle.runs.specs.Examples.{exampleFile, exampleListing}
 
 pub example : listingOf exampleFile ≡ exampleListing
 unfolding listingOf fileOf sequenceIn words inputsIn rows lines lineOf numeral numeralIn tickOf checkOf checked read front commandOf distinct wellFormed everyLabel before labelsOf subset disjoint valid active expand decodeState encodeState encodeAnswer leNumber leBytes react errors member none only join insert remove

@@ -1,0 +1,64 @@
+// The file of a run: length, sequence, inputs.
+ghost use Prim.Native.Nat.{_<_};
+ghost use mathlib.Core.Path.{_≡_};
+ghost use lib.ListN.{drop};
+ghost use Rattle.runs.specs.File.{sequenceLength, sequenceIn, inputsIn, first, whole};
+ghost use Rattle.files.specs.Answers.{inputBy};
+use limits::SIGNAL_BYTES;
+
+// The bytes of the length that begins a file.
+const LENGTH_BYTES: usize = 2;
+
+// The most bytes of a file, its first two among them.
+const MAX_FILE: usize = 65536;
+
+pub enum Input {
+    Word(u32),
+    Nothing,
+}
+
+// The length that a file names for its sequence.
+fn sequence_length(file: &[u8]) -> usize
+    ensures { λ r. ⌜ r ≡ sequenceLength (now (file .entry)) ⌝ }
+    ensures { λ r. ⌜ r < 65536 ⌝ }
+{
+    records::le::get_le(file, 0, LENGTH_BYTES) as usize
+}
+
+pub fn sequence(file: &[u8]) -> &[u8]
+    ensures { λ r. ⌜ now r ≡ sequenceIn (now (file .entry)) ⌝ }
+{
+    records::le::part(file, LENGTH_BYTES, sequence_length(file))
+}
+
+pub fn is_whole(file: &[u8]) -> bool
+    ensures { λ r. ⌜ r ≡ whole (now (file .entry)) ⌝ }
+{
+    let n = file.len();
+    if MAX_FILE < n {
+        return false;
+    }
+    if n < LENGTH_BYTES {
+        return false;
+    }
+    let at = LENGTH_BYTES + sequence_length(file);
+    if n < at {
+        return false;
+    }
+    (n - at) % SIGNAL_BYTES == 0
+}
+
+// The input that i others stand before.
+pub fn input_at(file: &[u8], i: usize) -> Input
+    ensures { λ r. ⌜ inputBy r ≡ first (drop i (inputsIn (now (file .entry)))) ⌝ }
+{
+    let n = file.len();
+    let at = LENGTH_BYTES + sequence_length(file);
+    if n < at {
+        return Input::Nothing;
+    }
+    if (n - at) / SIGNAL_BYTES <= i {
+        return Input::Nothing;
+    }
+    Input::Word(records::le::get_le(file, at + SIGNAL_BYTES * i, SIGNAL_BYTES) as u32)
+}
