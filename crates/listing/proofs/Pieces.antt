@@ -38,6 +38,10 @@ turn-on s state j e es o h =
     Listing.turn (lineOf (rowOf j r)) (cond (isOver (stateAfterwards r)) Listing.closing (Listing.running s (stateAfterwards r) (suc j) es)))
     (sym h)
 
+-- the tick of a sequence that is the file's
+pub ticked-at : {o : Outcome} {s s′ : List ℕ} (state : List ℕ) (e : ℕ) → o ≡ ticked s state e → s ≡ s′ → o ≡ ticked s′ state e
+ticked-at state e h k = h ∙ ap (λ (x : List ℕ). ticked x state e) k
+
 pub instant-turn : (file state after answer : List ℕ) (i e n : ℕ) → first (drop i (inputsIn file)) ≡ some e
     → outcome n after answer ≡ ticked (sequenceIn file) state e
     → Listing.turn (lineOf (rowIn (i + 1) after answer)) (stageBy file (stageAfter (getD after 0 0) i) after)

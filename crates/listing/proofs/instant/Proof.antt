@@ -7,11 +7,10 @@ use Rattle.listing.specs.declared.Stage.{Stage}
 use Rattle.listing.specs.declared.Piece.{Piece}
 use Rattle.listing.specs.Answers.{stageBy, stageAfter}
 use mathlib.Core.Path.{_≡_, refl, ap, _∙_, subst}
-use mathlib.Core.List.{List}
 use Prim.Native.Nat.{ℕ}
 use Rattle.listing.specs.Answers.{Prints}
 use native.Mathlib.Omega.{arith}
-use Rattle.listing.proofs.Pieces.{instant-turn}
+use Rattle.listing.proofs.Pieces.{ticked-at, instant-turn}
 use Rattle.listing.proofs.Lines.{shown}
 use borrow.Author.Needs.{needs}
 use Rattle.listing.proofs.instant.Statement.{statement}
@@ -66,7 +65,7 @@ returns c =
     let f = a .file .now in
     let t = c .before .before .before .before .before .before .before .before .before .before .intake-tick in
     let o : outcome (t .result) (t .last .1 .0) (t .last .1 .1 .1 .0) ≡ ticked (sequenceIn f) (a .state) (a .e)
-    = t .ensures .result ∙ ap (λ (s : List ℕ). ticked s (a .state) (a .e)) (c .before .before .before .before .before .before .before .before .before .before .before .before .before .sequence .ensures) in
+    = ticked-at (a .state) (a .e) (t .ensures .result) (c .before .before .before .before .before .before .before .before .before .before .before .before .before .sequence .ensures) in
     let piece : Piece
     = record { line = c .before .before .before .before .put-row .last .0; from = c .before .before .before .before .put-row .result; run = record { stage = c .following .result; state = t .last .1 .0 } } in
     subst (λ (u : Listing.Turn). Prints f u piece) (instant-turn f (a .state) (t .last .1 .0) (t .last .1 .1 .1 .0) (a .i) (a .e) (t .result) (c .before .before .before .before .before .before .before .before .before .before .before .before .before .before .before .pre) o)
