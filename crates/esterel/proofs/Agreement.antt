@@ -3,14 +3,16 @@
 use Prim.Native.Nat.{ℕ}
 use mathlib.Core.Path.{_≡_, refl, ap₂}
 use mathlib.Core.List.{List, [], _∷_}
+use Rattle.esterel.specs.Sets.{none}
 use Rattle.esterel.specs.Statement.{Statement}
 use Rattle.esterel.specs.Reaction.{ended, waiting, leaving, wrong, Reaction, gives, react}
-use Rattle.esterel.specs.States.{Valid, Distinct, Targeted, NoSetpause, WellFormed}
+use Rattle.esterel.specs.States.{Valid, Distinct, Targeted, NoSetpause, Source, WellFormed}
 use Rattle.esterel.specs.Expansion.{expand}
 use Rattle.esterel.specs.Machines.{Seen, Machine, run, reached, State, stateAfter, byLabels, Rewriting, termAfter, byRewriting}
 use Rattle.esterel.proofs.Invariant.{Fits}
 use Rattle.esterel.proofs.Residual.{Remains, residual-fresh, residual-resumed}
-use Rattle.esterel.proofs.Stability.{SoundLabels, labels-fresh, labels-resumed, sound-valid}
+use Rattle.esterel.proofs.Stability.{SoundLabels, labels-fresh, labels-resumed, together-none, sound-valid}
+use Rattle.esterel.proofs.Places.{Together}
 
 -- ---- machines that show the same at each step and stay related show the same for ever
 pub simulation : {S T : Type 0} (m : Machine S) (n : Machine T) (R : S → T → Type 0)
@@ -39,10 +41,10 @@ TermOf p State.over (Rewriting.fresh t) = ⊥
 TermOf p State.over (Rewriting.waits t) = ⊥
 TermOf p State.over Rewriting.over = Unit {0}
 
-module _ (p : Statement) (distinct : Distinct p) (plain : NoSetpause p) where
+module _ (p : Statement) (source : Source p) (distinct : Distinct p) (plain : NoSetpause p) where
   term-after : (r : Reaction) → Fits Remains p r → TermOf p (stateAfter r) (termAfter r)
   term-after (gives o ended L t) h = tt
-  term-after (gives o waiting L t) h = h distinct plain .equal
+  term-after (gives o waiting L t) h = h source distinct plain .equal
   term-after (gives o (leaving n) L t) h = tt
   term-after (gives o wrong L t) h = tt
 
@@ -67,16 +69,16 @@ ValidState p State.fresh = Unit {0}
 ValidState p (State.waits L) = Valid p L
 ValidState p State.over = Unit {0}
 
-module _ (p : Statement) (distinct : Distinct p) (targeted : Targeted p) (formed : WellFormed p) where
-  state-after : (r : Reaction) → Fits SoundLabels p r → ValidState p (stateAfter r)
-  state-after (gives o ended L t) h = tt
-  state-after (gives o waiting L t) h = sound-valid p distinct formed targeted L h
-  state-after (gives o (leaving n) L t) h = tt
-  state-after (gives o wrong L t) h = tt
+module _ (p : Statement) (source : Source p) (distinct : Distinct p) (targeted : Targeted p) (formed : WellFormed p) where
+  state-after : (S : ℕ) → Together p S → (r : Reaction) → Fits (SoundLabels S) p r → ValidState p (stateAfter r)
+  state-after S w (gives o ended L t) h = tt
+  state-after S w (gives o waiting L t) h = sound-valid p distinct formed targeted S w L (h source)
+  state-after S w (gives o (leaving n) L t) h = tt
+  state-after S w (gives o wrong L t) h = tt
 
   pub valid-step : (s : State) → ValidState p s → (e : ℕ) → ValidState p (byLabels p s e .1)
-  valid-step State.fresh h e = state-after (react p e) (labels-fresh p e)
-  valid-step (State.waits L) h e = state-after (react (expand p L) e) (labels-resumed p L e)
+  valid-step State.fresh h e = state-after none (together-none p) (react p e) (labels-fresh none p e)
+  valid-step (State.waits L) h e = state-after L (h .together) (react (expand p L) e) (labels-resumed p L e)
   valid-step State.over h e = tt
 
   pub valid-reached : (s : State) → ValidState p s → (es : List ℕ) → ValidState p (reached (byLabels p) s es)

@@ -7,26 +7,18 @@ use mathlib.Core.List.{_∷_}
 use native.Mathlib.Omega.{arith}
 use borrow.Author.Tests.{eqb-false, ne-eqb, not-true}
 use Rattle.esterel.specs.Sets.{member, none, empty, below, from}
-use Rattle.esterel.specs.Statement.{Statement, nothing, pause, emit, exit, seq, par, loop, present, signal, try, setpause}
-use Rattle.esterel.specs.Places.{Part, first, second, PartOf, loop₁, signal₁, try₁, Place, At, Alternative, Exclusive, Compatible}
+use Rattle.esterel.specs.Statement.{Statement, nothing, pause, emit, exit, seq, par, loop, present, signal, try, setpause, suspend, held}
+use Rattle.esterel.specs.Places.{Part, first, second, PartOf, loop₁, signal₁, try₁, suspend₁, Place, At, Alternative, Exclusive, Compatible}
 use Rattle.esterel.specs.States.{active}
 use Rattle.esterel.specs.LabelTests.{Joint, alternative, parallel, subset, pauses, valid}
 use Rattle.esterel.specs.Ranks.{middle, mask, ofParts, compatible}
 use Rattle.esterel.proofs.Booleans.{clash, Tested, tested}
-use Rattle.esterel.proofs.Places.{exclusive-part}
+use Rattle.esterel.proofs.Places.{Together, together-part, exclusive-part}
 use Rattle.esterel.proofs.Activity.{active-is}
 use Rattle.esterel.proofs.Order.{Joined, sequence, test, sides, first-part, second-part, at-part}
 use Rattle.esterel.proofs.LabelSets.{in-none, some-member, subset-is, same-test}
 use Rattle.esterel.proofs.LabelTests.{pauses-is, valid-is}
 use Rattle.esterel.proofs.Ranks.{split-below, split-from, first-empty, second-empty}
-
--- the active pauses are pairwise compatible (the last condition of Valid)
-abbrev pub Together : Statement → ℕ → Type 0
-Together p L =
-    (k l : ℕ) → member k L ≡ true → member l L ≡ true → (a b : Place) → At (pause k) a p → At (pause l) b p → Compatible p a b
-
-together-part : {d : Part} {c p : Statement} (L : ℕ) → PartOf d c p → Together p L → Together c L
-together-part {d = d} L i f k l m n a b u v x = f k l m n (d ∷ a) (d ∷ b) (At.inside i u) (At.inside i v) (Exclusive.inside i x)
 
 awake : {p : Statement} {a : Place} (k L : ℕ) → member k L ≡ true → At (pause k) a p → active p L ≡ true
 awake {p = p} {a = a} k L m u = active-is p L .1 (k, m, (a, u))
@@ -153,6 +145,11 @@ compatible-to base (try p) L h = together-single L (λ x. elim x [ ]) (λ d c i.
     go : {d : Part} {c : Statement} → PartOf d c (try p) → Together p L → Together c L
     go try₁ f = f
 compatible-to base (setpause l) L h = together-single L (λ x. elim x [ ]) (λ d c i. elim i [ ])
+compatible-to base (suspend s p) L h = together-single L (λ x. elim x [ ]) (λ d c i. go i (compatible-to base p L h))
+  where
+    go : {d : Part} {c : Statement} → PartOf d c (suspend s p) → Together p L → Together c L
+    go suspend₁ f = f
+compatible-to base (held s K p) L h = together-single L (λ x. elim x [ ]) (λ d c i. elim i [ ])
 
 compatible-from : (base : ℕ) (p : Statement) (L : ℕ) → Together p L → Tests base p L
 unfolding compatible mask
@@ -167,6 +164,8 @@ compatible-from base (present s p q) L f = two-from base L (test {s = s}) (compa
 compatible-from base (signal a s p) L f = compatible-from base p L (together-part L (signal₁ {a = a} {s = s}) f)
 compatible-from base (try p) L f = compatible-from base p L (together-part L try₁ f)
 compatible-from base (setpause l) L f = refl
+compatible-from base (suspend s p) L f = compatible-from base p L (together-part L (suspend₁ {s = s}) f)
+compatible-from base (held s K p) L f = refl
 
 pub compatible-is : (base : ℕ) (p : Statement) (L : ℕ) → (compatible base p (mask base p L) ≡ true) ↔ Together p L
 compatible-is base p L = (compatible-to base p L, compatible-from base p L)

@@ -6,8 +6,8 @@ use native.Mathlib.Omega.{arith}
 use lib.Dec.{eqb, ltb}
 use borrow.Author.Tests.{eqb-true, eqb-false, eq-eqb, ne-eqb, ltb-true, ltb-false}
 use Rattle.esterel.specs.Sets.{member, none, only, join}
-use Rattle.esterel.specs.Statement.{Statement, nothing, pause, emit, exit, seq, par, loop, present, signal, try, setpause}
-use Rattle.esterel.specs.Places.{loop₁, signal₁, try₁}
+use Rattle.esterel.specs.Statement.{Statement, nothing, pause, emit, exit, seq, par, loop, present, signal, try, setpause, suspend, held}
+use Rattle.esterel.specs.Places.{loop₁, signal₁, try₁, suspend₁}
 use Rattle.esterel.specs.States.{Distinct}
 use Rattle.esterel.specs.LabelTests.{Joint, labelsOf, pauses}
 use Rattle.esterel.specs.Ranks.{pauseCount}
@@ -99,6 +99,8 @@ counted w (present s p q) d u = counted-two w (test {s = s}) (counted w p) (coun
 counted w (signal a s p) d u = counted w p (distinct-part (signal₁ {a = a} {s = s}) d) u
 counted w (try p) d u = counted w p (distinct-part try₁ d) u
 counted w (setpause l) d u = card-none w
+counted w (suspend s p) d u = counted w p (distinct-part (suspend₁ {s = s}) d) u
+counted w (held s K p) d u = card-none w
 
 pub few-pauses : (w : ℕ) (p : Statement) → Distinct p → pauses p < 2 ^ w → pauseCount p ≤ w
 few-pauses w p d h = omega (arith, counted w p d (under w (pauses p) h), card-le w (pauses p))

@@ -60,3 +60,6 @@ uses-is (Reacts.signal−+ {a = a} {s = s} {o− = o−} {o+ = o+} {k− = k−}
 uses-is (Reacts.signal∞ {a = a} {s = s} {o− = o−} {o+ = o+} {k− = k−} {k+ = k+} d− d+ w n++ n+− n−+) =
     sym (append-nil _) ∙ signal-uses a s (uses-is d−) (uses-is d+) (fits∞ s o− o+ k− k+ w n++ n+− n−+) (sound d−) (sound d+)
 uses-is Reacts.setpause = refl
+uses-is (Reacts.suspend d) = uses-is d
+uses-is (Reacts.held+ i) = rw i
+uses-is (Reacts.held− i d) = rw i (uses-is d)

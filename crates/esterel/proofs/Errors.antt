@@ -8,8 +8,8 @@ use mathlib.Core.List.{List, [], _∷_, _++_, head?, List·Memᴰ, List·Memᴰ�
 use lib.Dec.{eqb}
 use native.Mathlib.Omega.{arith}
 use Rattle.esterel.specs.Sets.{member, insert, remove}
-use Rattle.esterel.specs.Statement.{Statement, nothing, pause, emit, exit, seq, par, loop, present, signal, try, setpause}
-use Rattle.esterel.specs.Reaction.{ended, waiting, leaving, wrong, isWrong, greater, Reaction, gives, code, inSeq, inPar, inLoop, inTry, inSignal, firstFit, caseOf, answer, react}
+use Rattle.esterel.specs.Statement.{Statement, nothing, pause, emit, exit, seq, par, loop, present, signal, try, setpause, suspend, held}
+use Rattle.esterel.specs.Reaction.{ended, waiting, leaving, wrong, isWrong, greater, Reaction, gives, code, inSeq, inPar, inLoop, inTry, inSignal, inSuspend, stopped, firstFit, caseOf, answer, react}
 use Rattle.esterel.specs.Errors.{Error, ifEnded, loopErrors, signalErrors, errors, firstError, instantaneous, notReactive, notDeterministic}
 use Rattle.esterel.proofs.Booleans.{or-cases}
 use Rattle.esterel.proofs.Rules.{wrong-is, some-wrong}
@@ -68,6 +68,14 @@ present-blamed : (b : Bool) (r r₂ : Reaction) (xs ys : List Error) → Blamed 
 present-blamed true r r₂ xs ys f g = f
 present-blamed false r r₂ xs ys f g = g
 
+suspend-blamed : (s : ℕ) (r : Reaction) (xs : List Error) → Blamed r xs → Blamed (inSuspend s r) xs
+suspend-blamed s (gives o k l t) xs f = f
+
+held-blamed : (s K : ℕ) (q : Statement) (b : Bool) (r : Reaction) (xs : List Error) → Blamed r xs
+    → Blamed (cond b (stopped s K q) (inSuspend s r)) (cond b [] xs)
+held-blamed s K q true r xs f h = absurd (false≢true h)
+held-blamed s K q false r xs f h = suspend-blamed s r xs f h
+
 module _ (a s : ℕ) (r− r+ : Reaction) (xs ys : List Error) where
   case-blamed : (i− i+ w− w+ : Bool) → isWrong (code r−) ≡ w− → isWrong (code r+) ≡ w+ → Blamed r− xs → Blamed r+ ys
       → Blamed (answer (firstFit i− i+ w− w+) a s r− r+) (xs ++ ys ++ signalErrors a (firstFit i− i+ w− w+))
@@ -102,6 +110,8 @@ blamed (signal a s p) e h =
     (blamed p (remove s e)) (blamed p (insert s e)) h
 blamed (try p) e h = try-blamed (react p e) (errors p e) (blamed p e) h
 blamed (setpause l) e h = absurd (false≢true h)
+blamed (suspend s p) e h = suspend-blamed s (react p e) (errors p e) (blamed p e) h
+blamed (held s K q) e h = held-blamed s K q (member s e) (react q e) (errors q e) (blamed q e) h
 
 -- WRONG
 pub wrong-named : (p : Statement) (e : ℕ) → code (react p e) ≡ wrong

@@ -5,12 +5,13 @@ use mathlib.Core.Logic.{_↔_}
 use mathlib.Core.Bool.{Bool, true, false, _||_, cond, false≢true}
 use mathlib.Core.List.{_∷_}
 use Rattle.esterel.specs.Sets.{member}
-use Rattle.esterel.specs.Statement.{Statement, nothing, pause, emit, exit, seq, par, loop, present, signal, try, setpause}
-use Rattle.esterel.specs.Places.{Part, first, second, PartOf, seq₁, seq₂, par₁, par₂, loop₁, present₁, present₂, signal₁, try₁, Place, At, Alternative, Exclusive, Compatible}
+use Rattle.esterel.specs.Statement.{Statement, nothing, pause, emit, exit, seq, par, loop, present, signal, try, setpause, suspend, held}
+use Rattle.esterel.specs.Places.{Part, first, second, PartOf, seq₁, seq₂, par₁, par₂, loop₁, present₁, present₂, signal₁, try₁, suspend₁, Place, At, Alternative, Exclusive, Compatible}
 use Rattle.esterel.specs.States.{active, Valid}
 use Rattle.esterel.specs.Expansion.{expand, ifActive, Expands, clause}
 use Rattle.esterel.proofs.Booleans.{or-l, or-r, never, clash, Tested, tested}
 use Rattle.esterel.proofs.Activity.{active-is}
+use Rattle.esterel.proofs.Places.{Together, together-part}
 
 -- ---- what the figure derives
 expands-active : {L : ℕ} {p t : Statement} → Expands L p t → active p L ≡ true
@@ -26,6 +27,7 @@ expands-active {L} (Expands.par₁ {p = p} {q = q} d h) = or-l (active p L) (act
 expands-active {L} (Expands.par₂ {p = p} {q = q} h d) = or-r (active p L) (active q L) (expands-active d)
 expands-active (Expands.loop d) = expands-active d
 expands-active (Expands.signal d) = expands-active d
+expands-active (Expands.suspend d) = expands-active d
 
 expands-to : {L : ℕ} {p t : Statement} → Expands L p t → t ≡ expand p L
 unfolding expand
@@ -40,6 +42,7 @@ expands-to (Expands.par₁ d h) = rw (expands-active d, h, expands-to d)
 expands-to (Expands.par₂ h d) = rw (h, expands-active d, expands-to d)
 expands-to (Expands.loop d) = rw (expands-to d)
 expands-to (Expands.signal d) = rw (expands-to d)
+expands-to (Expands.suspend d) = rw (expands-active d, expands-to d)
 
 -- ---- at most one clause
 clause-unique : {L : ℕ} {p t u : Statement} (d : Expands L p t) (d₂ : Expands L p u) → clause d ≡ clause d₂
@@ -65,17 +68,10 @@ clause-unique (Expands.par₂ h d) (Expands.par₁ d₂ i) = clash _ (expands-ac
 clause-unique (Expands.par₂ h d) (Expands.par₂ i d₂) = refl
 clause-unique (Expands.loop d) (Expands.loop d₂) = refl
 clause-unique (Expands.signal d) (Expands.signal d₂) = refl
+clause-unique (Expands.suspend d) (Expands.suspend d₂) = refl
 
 -- ---- at least one, where the active pauses are pairwise compatible
-abbrev Together : Statement → ℕ → Type 0
-Together p L = (k l : ℕ) → member k L ≡ true → member l L ≡ true
-    → (a b : Place) → At (pause k) a p → At (pause l) b p → Compatible p a b
-
 module _ (L : ℕ) where
-  together-part : {d : Part} {c p : Statement} → PartOf d c p → Together p L → Together c L
-  together-part {d} i h k l x y a b u v e =
-      h k l x y (d ∷ a) (d ∷ b) (At.inside i u) (At.inside i v) (Exclusive.inside i e)
-
   -- not both parts of a sequence or a present are active
   lone : {w p q : Statement} → Alternative w → PartOf first p w → PartOf second q w → Together w L
       → active p L ≡ true → active q L ≡ false
@@ -97,14 +93,14 @@ module _ (L : ℕ) where
   expands (pause l) h t = Expands.pause h
   expands (emit s) h t = absurd (false≢true h)
   expands (exit n) h t = absurd (false≢true h)
-  expands (seq p q) h t = go (tested (active p L)) (λ x. expands p x (together-part seq₁ t)) (λ x. expands q x (together-part seq₂ t))
+  expands (seq p q) h t = go (tested (active p L)) (λ x. expands p x (together-part L seq₁ t)) (λ x. expands q x (together-part L seq₂ t))
     where
       go : Tested (active p L) → (active p L ≡ true → Expands L p (expand p L)) → (active q L ≡ true → Expands L q (expand q L))
           → Expands L (seq p q) (cond (active p L) (seq (expand p L) q) (expand q L))
       go (Tested.yes x) f g = rw x (Expands.seq₁ (f x) (lone Alternative.sequence seq₁ seq₂ t x))
       go (Tested.no x) f g = rw x (Expands.seq₂ x (g (other (active p L) (active q L) h x)))
   expands (par p q) h t =
-      go (tested (active p L)) (tested (active q L)) (λ x. expands p x (together-part par₁ t)) (λ x. expands q x (together-part par₂ t))
+      go (tested (active p L)) (tested (active q L)) (λ x. expands p x (together-part L par₁ t)) (λ x. expands q x (together-part L par₂ t))
     where
       go : Tested (active p L) → Tested (active q L) → (active p L ≡ true → Expands L p (expand p L))
           → (active q L ≡ true → Expands L q (expand q L))
@@ -113,17 +109,19 @@ module _ (L : ℕ) where
       go (Tested.yes x) (Tested.no y) f g = rw (x, y) (Expands.par₁ (f x) y)
       go (Tested.no x) (Tested.yes y) f g = rw (x, y) (Expands.par₂ x (g y))
       go (Tested.no x) (Tested.no y) f g = clash (active q L) (other (active p L) (active q L) h x) y
-  expands (loop a p) h t = Expands.loop (expands p h (together-part loop₁ t))
+  expands (loop a p) h t = Expands.loop (expands p h (together-part L loop₁ t))
   expands (present s p q) h t =
-      go (tested (active p L)) (λ x. expands p x (together-part present₁ t)) (λ x. expands q x (together-part present₂ t))
+      go (tested (active p L)) (λ x. expands p x (together-part L present₁ t)) (λ x. expands q x (together-part L present₂ t))
     where
       go : Tested (active p L) → (active p L ≡ true → Expands L p (expand p L)) → (active q L ≡ true → Expands L q (expand q L))
           → Expands L (present s p q) (cond (active p L) (expand p L) (expand q L))
       go (Tested.yes x) f g = rw x (Expands.present₁ (f x) (lone Alternative.test present₁ present₂ t x))
       go (Tested.no x) f g = rw x (Expands.present₂ x (g (other (active p L) (active q L) h x)))
-  expands (signal a s p) h t = Expands.signal (expands p h (together-part signal₁ t))
-  expands (try p) h t = Expands.try (expands p h (together-part try₁ t))
+  expands (signal a s p) h t = Expands.signal (expands p h (together-part L signal₁ t))
+  expands (try p) h t = Expands.try (expands p h (together-part L try₁ t))
   expands (setpause l) h t = absurd (false≢true h)
+  expands (suspend s p) h t = rw h (Expands.suspend (expands p h (together-part L suspend₁ t)))
+  expands (held s K q) h t = absurd (false≢true h)
 
 -- a valid set is active
 pub valid-active : (p : Statement) (L : ℕ) → Valid p L → active p L ≡ true

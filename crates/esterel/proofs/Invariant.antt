@@ -1,14 +1,17 @@
 -- One induction for everything that is true of the labels and the residual of a reaction: a relation between a statement
 -- and both that each command keeps holds after code 1 of every reaction, fresh or resumed, and other codes have no labels.
+-- Where a suspend is stopped nothing reacts: there the relation is asked for by itself (`Stopped`).
 use Prim.Native.Nat.{ℕ, _-_}
 use mathlib.Core.Path.{_≡_, refl}
 use mathlib.Core.Bool.{Bool, true, false, cond}
 use lib.Dec.{eqb}
 use Rattle.esterel.specs.Sets.{member, none, only, join, insert, remove}
-use Rattle.esterel.specs.Statement.{Statement, nothing, pause, emit, exit, seq, par, loop, present, signal, try, setpause}
-use Rattle.esterel.specs.Reaction.{Code, ended, waiting, leaving, wrong, Reaction, gives, inSeq, inPar, inLoop, inTry, Case, both, neither, only−, only+, inherited, caseOf, answer, react}
+use Rattle.esterel.specs.Statement.{Statement, nothing, pause, emit, exit, seq, par, loop, present, signal, try, setpause, suspend, held}
+use Rattle.esterel.specs.Reaction.{Code, ended, waiting, leaving, wrong, Reaction, gives, inSeq, inPar, inLoop, inTry, inSuspend, stopped, Case, both, neither, only−, only+, inherited, caseOf, answer, react}
 use Rattle.esterel.specs.States.{active}
 use Rattle.esterel.specs.Expansion.{expand, ifActive}
+use Rattle.esterel.specs.LabelTests.{activeLabels}
+use Rattle.esterel.proofs.Booleans.{Tested, tested}
 use Rattle.esterel.proofs.Sets.{join-none-l, join-none-r}
 
 abbrev pub Relation : Type 1
@@ -28,6 +31,13 @@ pub record Kept (K : Relation) : Type 0 where
   pub present-second : (s : ℕ) (p q : Statement) (L : ℕ) (t : Statement) → K q L t → K (present s p q) L t
   pub signal-body : (a s : ℕ) (p : Statement) (L : ℕ) (t : Statement) → K p L t → K (signal a s p) L (signal a s t)
   pub try-body : (p : Statement) (L : ℕ) (t : Statement) → K p L t → K (try p) L (try t)
+  pub suspend-body : (s : ℕ) (p : Statement) (L : ℕ) (t : Statement) → K p L t → K (suspend s p) L (held s L t)
+  -- nothing is asked of a statement that is held
+  pub at-held : (s M : ℕ) (q : Statement) (L : ℕ) (t : Statement) → K (held s M q) L t
+
+-- a suspend that is stopped where it waits at L
+abbrev pub Stopped : Relation → ℕ → Type 0
+Stopped K L = (s : ℕ) (p : Statement) → active p L ≡ true → K (suspend s p) (activeLabels p L) (held s (activeLabels p L) (expand p L))
 
 abbrev pub Fits : Relation → Statement → Reaction → Type 0
 Fits K p (gives o ended L t) = L ≡ none
@@ -102,6 +112,18 @@ module _ (K : Relation) (kept : Kept K) where
   present-fits s p q true r₁ r₂ h i = lift p (present s p q) (kept .present-first s p q) r₁ h
   present-fits s p q false r₁ r₂ h i = lift q (present s p q) (kept .present-second s p q) r₂ i
 
+  suspend-fits : (s : ℕ) (p w : Statement) → ((L : ℕ) (t : Statement) → K p L t → K w L (held s L t))
+      → (r : Reaction) → Fits K p r → Fits K w (inSuspend s r)
+  suspend-fits s p w f (gives o ended L t) h = h
+  suspend-fits s p w f (gives o waiting L t) h = f L t h
+  suspend-fits s p w f (gives o (leaving n) L t) h = h
+  suspend-fits s p w f (gives o wrong L t) h = h
+
+  held-fits : (s M : ℕ) (p q w : Statement) → ((L : ℕ) (t : Statement) → K p L t → K w L (held s L t)) → K w M (held s M q)
+      → (b : Bool) (r : Reaction) → Fits K p r → Fits K w (cond b (stopped s M q) (inSuspend s r))
+  held-fits s M p q w f g true r h = g
+  held-fits s M p q w f g false r h = suspend-fits s p w f r h
+
   -- ---- both ways to react
   pub fresh-fits : (p : Statement) (e : ℕ) → Fits K p (react p e)
   unfolding react
@@ -119,6 +141,10 @@ module _ (K : Relation) (kept : Kept K) where
       (fresh-fits p (remove s e)) (fresh-fits p (insert s e))
   fresh-fits (try p) e = try-fits p (react p e) (fresh-fits p e)
   fresh-fits (setpause l) e = kept .at-setpause l
+  fresh-fits (suspend s p) e = suspend-fits s p (suspend s p) (kept .suspend-body s p) (react p e) (fresh-fits p e)
+  fresh-fits (held s M q) e =
+      held-fits s M q q (held s M q) (λ L t h. kept .at-held s M q L (held s L t)) (kept .at-held s M q M (held s M q))
+      (member s e) (react q e) (fresh-fits q e)
 
   -- a side of a resumed parallel
   side-fits : (p t : Statement) (b : Bool) (e : ℕ) → Fits K p (react t e) → Fits K p (react (ifActive b t) e)
@@ -126,33 +152,41 @@ module _ (K : Relation) (kept : Kept K) where
   side-fits p t true e h = h
   side-fits p t false e h = refl
 
-  pub resumed-fits : (p : Statement) (L e : ℕ) → Fits K p (react (expand p L) e)
+  pub resumed-fits : (p : Statement) (L e : ℕ) → Stopped K L → Fits K p (react (expand p L) e)
   unfolding react expand
-  resumed-fits nothing L e = refl
-  resumed-fits (pause l) L e = refl
-  resumed-fits (emit s) L e = refl
-  resumed-fits (exit n) L e = refl
-  resumed-fits (seq p q) L e = go (active p L) (resumed-fits p L e) (resumed-fits q L e)
+  resumed-fits nothing L e z = refl
+  resumed-fits (pause l) L e z = refl
+  resumed-fits (emit s) L e z = refl
+  resumed-fits (exit n) L e z = refl
+  resumed-fits (seq p q) L e z = go (active p L) (resumed-fits p L e z) (resumed-fits q L e z)
     where
       go : (b : Bool) → Fits K p (react (expand p L) e) → Fits K q (react (expand q L) e)
           → Fits K (seq p q) (react (cond b (seq (expand p L) q) (expand q L)) e)
       go true h i =
           seq-fits p q (seq p q) q (kept .seq-first p q) (kept .seq-second p q) (react (expand p L) e) (react q e) h (fresh-fits q e)
       go false h i = lift q (seq p q) (kept .seq-second p q) (react (expand q L) e) i
-  resumed-fits (par p q) L e =
+  resumed-fits (par p q) L e z =
       par-fits p q (react (ifActive (active p L) (expand p L)) e) (react (ifActive (active q L) (expand q L)) e)
-      (side-fits p (expand p L) (active p L) e (resumed-fits p L e)) (side-fits q (expand q L) (active q L) e (resumed-fits q L e))
-  resumed-fits (loop a p) L e =
+      (side-fits p (expand p L) (active p L) e (resumed-fits p L e z)) (side-fits q (expand q L) (active q L) e (resumed-fits q L e z))
+  resumed-fits (loop a p) L e z =
       seq-fits p (loop a p) (loop a p) (loop a p) (kept .loop-body a p) (λ M t h. h) (react (expand p L) e) (react (loop a p) e)
-      (resumed-fits p L e) (fresh-fits (loop a p) e)
-  resumed-fits (present s p q) L e = go (active p L) (resumed-fits p L e) (resumed-fits q L e)
+      (resumed-fits p L e z) (fresh-fits (loop a p) e)
+  resumed-fits (present s p q) L e z = go (active p L) (resumed-fits p L e z) (resumed-fits q L e z)
     where
       go : (b : Bool) → Fits K p (react (expand p L) e) → Fits K q (react (expand q L) e)
           → Fits K (present s p q) (react (cond b (expand p L) (expand q L)) e)
       go true h i = lift p (present s p q) (kept .present-first s p q) (react (expand p L) e) h
       go false h i = lift q (present s p q) (kept .present-second s p q) (react (expand q L) e) i
-  resumed-fits (signal a s p) L e =
+  resumed-fits (signal a s p) L e z =
       signal-fits (caseOf s (react (expand p L) (remove s e)) (react (expand p L) (insert s e))) a s p
-      (react (expand p L) (remove s e)) (react (expand p L) (insert s e)) (resumed-fits p L (remove s e)) (resumed-fits p L (insert s e))
-  resumed-fits (try p) L e = try-fits p (react (expand p L) e) (resumed-fits p L e)
-  resumed-fits (setpause l) L e = refl
+      (react (expand p L) (remove s e)) (react (expand p L) (insert s e)) (resumed-fits p L (remove s e) z) (resumed-fits p L (insert s e) z)
+  resumed-fits (try p) L e z = try-fits p (react (expand p L) e) (resumed-fits p L e z)
+  resumed-fits (setpause l) L e z = refl
+  resumed-fits (suspend s p) L e z = go (tested (active p L)) (resumed-fits p L e z)
+    where
+      go : Tested (active p L) → Fits K p (react (expand p L) e)
+          → Fits K (suspend s p) (react (ifActive (active p L) (held s (activeLabels p L) (expand p L))) e)
+      go (Tested.yes x) h = rw x
+          (held-fits s (activeLabels p L) p (expand p L) (suspend s p) (kept .suspend-body s p) (z s p x) (member s e) (react (expand p L) e) h)
+      go (Tested.no x) h = rw x refl
+  resumed-fits (held s M q) L e z = refl

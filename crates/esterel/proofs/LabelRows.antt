@@ -5,7 +5,7 @@ use mathlib.Core.Path.{_≡_, refl, sym, ap, ap₂, _∙_}
 use mathlib.Core.Bool.{Bool, true, false, _&&_, _||_, cond}
 use lib.Dec.{eqb}
 use Rattle.esterel.specs.Sets.{member, none, only, join}
-use Rattle.esterel.specs.Statement.{Statement, nothing, pause, emit, exit, seq, par, loop, present, signal, try, setpause}
+use Rattle.esterel.specs.Statement.{Statement, nothing, pause, emit, exit, seq, par, loop, present, signal, try, setpause, suspend, held}
 use Rattle.esterel.specs.LabelTests.{labelsOf, Joint, alternative, parallel, atJoint, ifMember, before}
 use Rattle.esterel.specs.LabelRows.{addRow, further, fill}
 use Rattle.esterel.proofs.Booleans.{or-false}
@@ -133,3 +133,5 @@ module _ (x y : Bool) (j : Joint) where
   fill-is (signal a s p) known rows k = fill-is p known rows k
   fill-is (try p) known rows k = fill-is p known rows k
   fill-is (setpause l) known rows k = single (setpause l) y l known rows k refl refl
+  fill-is (suspend s p) known rows k = fill-is p known rows k
+  fill-is (held s K q) known rows k = bare (held s K q) known rows k refl refl

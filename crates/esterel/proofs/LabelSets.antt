@@ -10,8 +10,8 @@ use lib.Arith.{bin-ind}
 use lib.Bits.{bitAnd}
 use borrow.Author.Tests.{eqb-true, eqb-false, eq-eqb}
 use Rattle.esterel.specs.Sets.{member, none, only, join}
-use Rattle.esterel.specs.Statement.{Statement, nothing, pause, emit, exit, seq, par, loop, present, signal, try, setpause}
-use Rattle.esterel.specs.Places.{Part, first, second, PartOf, seq₁, seq₂, par₁, par₂, loop₁, present₁, present₂, signal₁, try₁, Place, At}
+use Rattle.esterel.specs.Statement.{Statement, nothing, pause, emit, exit, seq, par, loop, present, signal, try, setpause, suspend, held}
+use Rattle.esterel.specs.Places.{Part, first, second, PartOf, seq₁, seq₂, par₁, par₂, loop₁, present₁, present₂, signal₁, try₁, suspend₁, Place, At}
 use Rattle.esterel.specs.LabelTests.{disjoint, subset, labelsOf, Joint, alternative, parallel, atJoint, ifMember, before, everyLabel, triggers}
 use Rattle.esterel.proofs.Booleans.{or-l, or-r, or-cases, Tested, tested}
 use Rattle.esterel.proofs.Sets.{member-join, member-and, member-none, member-only, member-step, ext}
@@ -127,6 +127,7 @@ module _ (x y : Bool) (l : ℕ) where
   labels-part (present₂ {p = p} {q = q}) h = in-r l (labelsOf x y p) (labelsOf x y q) h
   labels-part signal₁ h = h
   labels-part try₁ h = h
+  labels-part suspend₁ h = h
 
   in-leaf : (b : Bool) → b ≡ true → member l (cond b (only l) none) ≡ true
   in-leaf true e = member-only l l ∙ eq-eqb l l refl
@@ -174,6 +175,8 @@ module _ (x y : Bool) (l : ℕ) where
   labels-from (signal a s p) h = named-in signal₁ (labels-from p h)
   labels-from (try p) h = named-in try₁ (labels-from p h)
   labels-from (setpause k) h = here-setpause k (from-leaf y k h)
+  labels-from (suspend s p) h = named-in suspend₁ (labels-from p h)
+  labels-from (held s K q) h = in-none l h
 
 -- ---- labels in order
 -- a counted command with label k stands before one with label l, across a joint j
@@ -283,6 +286,8 @@ module _ (x y : Bool) (j : Joint) (k l : ℕ) where
   pair-from (signal a s p) h = pair-in signal₁ (pair-from p h)
   pair-from (try p) h = pair-in try₁ (pair-from p h)
   pair-from (setpause m) h = in-none l h
+  pair-from (suspend s p) h = pair-in suspend₁ (pair-from p h)
+  pair-from (held s K q) h = in-none l h
 
   in-first : (r s t : ℕ) → member l s ≡ true → member l (join r (join s t)) ≡ true
   in-first r s t h = in-r l r (join s t) (in-l l s t h)
@@ -301,6 +306,7 @@ module _ (x y : Bool) (j : Joint) (k l : ℕ) where
   before-part (present₂ {p = p} {q = q}) h = in-second (crossing alternative p q) (before x y j p k) (before x y j q k) h
   before-part signal₁ h = h
   before-part try₁ h = h
+  before-part suspend₁ h = h
 
   pub pair-at : {p v w : Statement} {a b : Place} → Counted x y k v → Counted x y l w → At v a p → At w b p → Before j p a b → inBefore p
   pair-at m n u v (Before.across {p = p} {q = q} t) =
@@ -327,6 +333,7 @@ module _ (f : ℕ → Bool) where
   every-part (present₂ {p = p} {q = q}) h = and-eq-true-iff (everyLabel p f) (everyLabel q f) .0 h .1
   every-part signal₁ h = h
   every-part try₁ h = h
+  every-part suspend₁ h = h
 
   every-here : {l : ℕ} {w : Statement} → Counted true true l w → everyLabel w f ≡ true → f l ≡ true
   unfolding everyLabel
@@ -365,6 +372,8 @@ module _ (f : ℕ → Bool) where
   every-from (signal a s p) e = every-from p (every-in (signal₁ {a = a} {s = s}) e)
   every-from (try p) e = every-from p (every-in try₁ e)
   every-from (setpause l) e = e l (labels-at true true l (as-setpause refl) At.here)
+  every-from (suspend s p) e = every-from p (every-in (suspend₁ {s = s}) e)
+  every-from (held s K q) e = refl
 
 -- ---- two tests that are true together are one
 pub same-test : (a b : Bool) → (a ≡ true → b ≡ true) → (b ≡ true → a ≡ true) → a ≡ b

@@ -7,8 +7,8 @@ use lib.Dec.{eqb}
 use native.Mathlib.Omega.{arith}
 use borrow.Author.Tests.{eqb-false, ne-eqb, not-true}
 use Rattle.esterel.specs.Sets.{member, none}
-use Rattle.esterel.specs.Statement.{Statement, nothing, pause, emit, exit, seq, par, loop, present, signal, try, setpause}
-use Rattle.esterel.specs.Places.{Part, PartOf, seq₁, seq₂, par₁, par₂, loop₁, present₁, present₂, signal₁, try₁, Place, At, Exclusive, Compatible}
+use Rattle.esterel.specs.Statement.{Statement, nothing, pause, emit, exit, seq, par, loop, present, signal, try, setpause, suspend, held}
+use Rattle.esterel.specs.Places.{Part, PartOf, seq₁, seq₂, par₁, par₂, loop₁, present₁, present₂, signal₁, try₁, suspend₁, Place, At, Exclusive, Compatible}
 use Rattle.esterel.specs.States.{Holds, Valid, Distinct, Targeted, NoSetpause, WellFormed}
 use Rattle.esterel.specs.LabelTests.{disjoint, subset, pauses, setpauses, triggers, everyLabel, distinct, targeted, Joint, alternative, parallel, rivals, aside, exclusive, wellFormed, valid}
 use Rattle.esterel.proofs.Booleans.{or-l, or-r, or-cases}
@@ -21,22 +21,22 @@ use Rattle.esterel.proofs.LabelSets.{in-join, some-member, Disjoint, di
 pub pauses-is : (p : Statement) (l : ℕ) → (member l (pauses p) ≡ true) ↔ Holds p (pause l)
 pauses-is p l = (λ h. to (labels-from true false l p h), λ n. labels-at true false l (as-pause refl) (n .1))
   where
-    held : {w : Statement} {a : Place} → Counted true false l w → At w a p → Holds p (pause l)
-    held {a = a} (as-pause e) u = (a, u)
-    held (as-setpause e) u = absurd (false≢true e)
+    standing : {w : Statement} {a : Place} → Counted true false l w → At w a p → Holds p (pause l)
+    standing {a = a} (as-pause e) u = (a, u)
+    standing (as-setpause e) u = absurd (false≢true e)
 
     to : Named true false p l → Holds p (pause l)
-    to n = held (n .counted) (n .stands)
+    to n = standing (n .counted) (n .stands)
 
 pub setpauses-is : (p : Statement) (l : ℕ) → (member l (setpauses p) ≡ true) ↔ Holds p (setpause l)
 setpauses-is p l = (λ h. to (labels-from false true l p h), λ n. labels-at false true l (as-setpause refl) (n .1))
   where
-    held : {w : Statement} {a : Place} → Counted false true l w → At w a p → Holds p (setpause l)
-    held (as-pause e) u = absurd (false≢true e)
-    held {a = a} (as-setpause e) u = (a, u)
+    standing : {w : Statement} {a : Place} → Counted false true l w → At w a p → Holds p (setpause l)
+    standing (as-pause e) u = absurd (false≢true e)
+    standing {a = a} (as-setpause e) u = (a, u)
 
     to : Named false true p l → Holds p (setpause l)
-    to n = held (n .counted) (n .stands)
+    to n = standing (n .counted) (n .stands)
 
 -- ---- row 9
 pub targeted-is : (p : Statement) → (targeted p ≡ true) ↔ Targeted p
@@ -78,6 +78,7 @@ distinct-in (present₁ {p = p} {q = q}) h = three (disjoint (pauses p) (pauses 
 distinct-in (present₂ {p = p} {q = q}) h = three (disjoint (pauses p) (pauses q)) (distinct p) (distinct q) h .2
 distinct-in signal₁ h = h
 distinct-in try₁ h = h
+distinct-in suspend₁ h = h
 
 parts-disjoint : {j : Joint} {p q w : Statement} → Joined j p q w → distinct w ≡ true → Disjoint (pauses p) (pauses q)
 unfolding distinct
@@ -127,6 +128,8 @@ from-distinct (present s p q) d = distinct-two (test {s = s}) (from-distinct p) 
 from-distinct (signal a s p) d = from-distinct p (distinct-part (signal₁ {a = a} {s = s}) d)
 from-distinct (try p) d = from-distinct p (distinct-part try₁ d)
 from-distinct (setpause l) d = refl
+from-distinct (suspend s p) d = from-distinct p (distinct-part (suspend₁ {s = s}) d)
+from-distinct (held s K q) d = refl
 
 pub distinct-is : (p : Statement) → (distinct p ≡ true) ↔ Distinct p
 distinct-is p = (to-distinct p, from-distinct p)

@@ -1,11 +1,13 @@
 -- Laws of parts, places and exclusive places: how each statement about a part is one about the whole.
 use Prim.Native.Nat.{ℕ}
 use mathlib.Core.Path.{_≡_, refl, subst}
+use mathlib.Core.Bool.{true}
 use mathlib.Core.List.{_∷_, tail-eq-of-cons-eq, head-eq-of-cons-eq}
 use native.Mathlib.Omega.{arith}
-use Rattle.esterel.specs.Statement.{Statement, pause, setpause, par}
-use Rattle.esterel.specs.Places.{Part, first, second, PartOf, seq₁, seq₂, par₁, par₂, loop₁, present₁, present₂, signal₁, try₁, Place, At, Exclusive, Compatible}
-use Rattle.esterel.specs.States.{Holds, Distinct, NoSetpause}
+use Rattle.esterel.specs.Sets.{member}
+use Rattle.esterel.specs.Statement.{Statement, pause, setpause, par, held}
+use Rattle.esterel.specs.Places.{Part, first, second, PartOf, seq₁, seq₂, par₁, par₂, loop₁, present₁, present₂, signal₁, try₁, suspend₁, Place, At, Exclusive, Compatible}
+use Rattle.esterel.specs.States.{Holds, Distinct, NoSetpause, Source}
 
 pub part-unique : {d : Part} {c c₂ p : Statement} → PartOf d c p → PartOf d c₂ p → c ≡ c₂
 part-unique seq₁ seq₁ = refl
@@ -17,6 +19,7 @@ part-unique present₁ present₁ = refl
 part-unique present₂ present₂ = refl
 part-unique signal₁ signal₁ = refl
 part-unique try₁ try₁ = refl
+part-unique suspend₁ suspend₁ = refl
 
 pub first≢second : first ≡ second → ⊥
 first≢second e = let z : _≡_ {A = ℕ} 0 1 = cc in omega arith
@@ -37,6 +40,18 @@ disjoint-parts i j h l x y =
 
 pub noSetpause-part : {d : Part} {c p : Statement} → PartOf d c p → NoSetpause p → NoSetpause c
 noSetpause-part i h l x = h l (holds-in (setpause l) i x)
+
+pub source-part : {d : Part} {c p : Statement} → PartOf d c p → Source p → Source c
+source-part i h s K q x = h s K q (holds-in (held s K q) i x)
+
+-- the active pauses are pairwise compatible (the last condition of Valid)
+abbrev pub Together : Statement → ℕ → Type 0
+Together p L = (k l : ℕ) → member k L ≡ true → member l L ≡ true
+    → (a b : Place) → At (pause k) a p → At (pause l) b p → Compatible p a b
+
+pub together-part : {d : Part} {c p : Statement} (L : ℕ) → PartOf d c p → Together p L → Together c L
+together-part {d} L i h k l x y a b u v e =
+    h k l x y (d ∷ a) (d ∷ b) (At.inside i u) (At.inside i v) (Exclusive.inside i e)
 
 pub exclusive-part : {d : Part} {c p : Statement} {a b : Place} → PartOf d c p → Exclusive p (d ∷ a) (d ∷ b) → Exclusive c a b
 exclusive-part {a = a} {b = b} i (Exclusive.inside j x) = subst (λ (c : Statement). Exclusive c a b) (part-unique j i) x

@@ -3,22 +3,22 @@
 use Prim.Native.Nat.{ℕ, _+_, _%_, _^_, _<_, _≤_}
 use mathlib.Core.Path.{_≡_, refl, sym, ap, ap₂, _∙_, subst}
 use mathlib.Core.Logic.{⊎-elim, _↔_}
-use mathlib.Core.Bool.{Bool, true, false, not, _||_, cond}
+use mathlib.Core.Bool.{Bool, true, false, not, _||_, cond, false≢true}
 use native.Mathlib.Omega.{arith}
 use lib.Bits.{bitOr, or-self, or-zero-l, or-lt, or-mod, or-add-and, and-le-l, and-le-r}
 use lib.Pow.{pow-pos, pow-mono, mod-mod-pow}
 use borrow.Author.Tests.{eqb-true, eqb-false, eq-eqb, ne-eqb, not-true}
 use Rattle.esterel.specs.Sets.{member, none, only, join, empty, below, from}
-use Rattle.esterel.specs.Statement.{Statement, nothing, pause, emit, exit, seq, par, loop, present, signal, try, setpause}
-use Rattle.esterel.specs.Places.{loop₁, signal₁, try₁}
+use Rattle.esterel.specs.Statement.{Statement, nothing, pause, emit, exit, seq, par, loop, present, signal, try, setpause, suspend, held}
+use Rattle.esterel.specs.Places.{loop₁, signal₁, try₁, suspend₁}
 use Rattle.esterel.specs.States.{active, Distinct}
-use Rattle.esterel.specs.LabelTests.{Joint, labelsOf, pauses}
-use Rattle.esterel.specs.Ranks.{pauseCount, middle, mask, rank}
+use Rattle.esterel.specs.LabelTests.{Joint, labelsOf, pauses, activeLabels}
+use Rattle.esterel.specs.Ranks.{pauseCount, middle, mask, rank, ifSome, labelsBy}
 use Rattle.esterel.proofs.Booleans.{clash, never, Tested, tested}
 use Rattle.esterel.proofs.Sets.{member-join, member-only, join-none-l, join-none-r, ext}
 use Rattle.esterel.proofs.SplitSets.{none-lt, only-lt, none-over, only-over, below-join, from-join}
 use Rattle.esterel.proofs.Places.{distinct-part, disjoint-parts}
-use Rattle.esterel.proofs.Activity.{active-is}
+use Rattle.esterel.proofs.Activity.{active-is, activeLabels-none, activeLabels-pause, activeLabels-two}
 use Rattle.esterel.proofs.Order.{Joined, sequence, test, sides, first-part, second-part}
 use Rattle.esterel.proofs.LabelSets.{in-none, in-join, same-test}
 use Rattle.esterel.proofs.LabelTests.{pauses-is}
@@ -51,6 +51,8 @@ mask-lt base (present s p q) L =
 mask-lt base (signal a s p) L = mask-lt base p L
 mask-lt base (try p) L = mask-lt base p L
 mask-lt base (setpause l) L = none-lt (base + 0)
+mask-lt base (suspend s p) L = mask-lt base p L
+mask-lt base (held s K p) L = none-lt (base + 0)
 
 over-two : (base m a b : ℕ) → a % 2 ^ base ≡ 0 → b % 2 ^ (base + m) ≡ 0 → join a b % 2 ^ base ≡ 0
 unfolding join none
@@ -79,6 +81,8 @@ mask-over base (present s p q) L =
 mask-over base (signal a s p) L = mask-over base p L
 mask-over base (try p) L = mask-over base p L
 mask-over base (setpause l) L = none-over base
+mask-over base (suspend s p) L = mask-over base p L
+mask-over base (held s K p) L = none-over base
 
 -- ---- SPLIT
 -- the mask of a command of two parts is the masks of the parts, below and from the first rank of the second
@@ -132,6 +136,8 @@ empty-is base (present s p q) L =
 empty-is base (signal a s p) L = empty-is base p L
 empty-is base (try p) L = empty-is base p L
 empty-is base (setpause l) L = eq-eqb none none refl
+empty-is base (suspend s p) L = empty-is base p L
+empty-is base (held s K p) L = eq-eqb none none refl
 
 pub none-is : (base : ℕ) (p : Statement) (L : ℕ) → (mask base p L ≡ none) ↔ (active p L ≡ false)
 none-is base p L = (
@@ -146,6 +152,45 @@ module _ {j : Joint} {p q w : Statement} (base L : ℕ) (t : Joined j p q w) whe
 
   pub second-empty : empty (from (middle base p) (mask base w L)) ≡ not (active q L)
   second-empty = ap empty (split-from base L t) ∙ empty-is (middle base p) q L
+
+-- ---- LABELS BY RANKS
+module _ (L : ℕ) where
+  -- a part whose mask is empty has no active label
+  part-labels : (base : ℕ) (p : Statement) → (active p L ≡ true → labelsBy base p (mask base p L) ≡ activeLabels p L)
+      → ifSome (mask base p L) (labelsBy base p (mask base p L)) ≡ activeLabels p L
+  part-labels base p f = ap (λ (b : Bool). cond b none (labelsBy base p (mask base p L))) (empty-is base p L) ∙ go (tested (active p L))
+    where
+      go : Tested (active p L) → cond (not (active p L)) none (labelsBy base p (mask base p L)) ≡ activeLabels p L
+      go (Tested.yes h) = rw h (f h)
+      go (Tested.no h) = rw h (sym (activeLabels-none p L h))
+
+  two-labels : {j : Joint} {p q w : Statement} (base : ℕ) → Joined j p q w
+      → (active p L ≡ true → labelsBy base p (mask base p L) ≡ activeLabels p L)
+      → (active q L ≡ true → labelsBy (middle base p) q (mask (middle base p) q L) ≡ activeLabels q L)
+      → join (ifSome (below (middle base p) (mask base w L)) (labelsBy base p (below (middle base p) (mask base w L))))
+      (ifSome (from (middle base p) (mask base w L)) (labelsBy (middle base p) q (from (middle base p) (mask base w L))))
+      ≡ activeLabels w L
+  two-labels {p = p} {q = q} base t f g =
+      ap₂ join
+      (ap (λ (m : ℕ). ifSome m (labelsBy base p m)) (split-below base L t) ∙ part-labels base p f)
+      (ap (λ (m : ℕ). ifSome m (labelsBy (middle base p) q m)) (split-from base L t) ∙ part-labels (middle base p) q g)
+      ∙ sym (activeLabels-two L t)
+
+  pub labels-by : (base : ℕ) (p : Statement) → active p L ≡ true → labelsBy base p (mask base p L) ≡ activeLabels p L
+  unfolding labelsBy active activeLabels labelsOf mask
+  labels-by base nothing h = absurd (false≢true h)
+  labels-by base (pause l) h = sym (activeLabels-pause l L h)
+  labels-by base (emit s) h = absurd (false≢true h)
+  labels-by base (exit n) h = absurd (false≢true h)
+  labels-by base (seq p q) h = two-labels {q = q} base sequence (labels-by base p) (labels-by (middle base p) q)
+  labels-by base (par p q) h = two-labels {q = q} base sides (labels-by base p) (labels-by (middle base p) q)
+  labels-by base (loop a p) h = labels-by base p h
+  labels-by base (present s p q) h = two-labels {q = q} base (test {s = s}) (labels-by base p) (labels-by (middle base p) q)
+  labels-by base (signal a s p) h = labels-by base p h
+  labels-by base (try p) h = labels-by base p h
+  labels-by base (setpause l) h = absurd (false≢true h)
+  labels-by base (suspend s p) h = labels-by base p h
+  labels-by base (held s K p) h = absurd (false≢true h)
 
 -- ---- MASK BY LABELS: label by label, each at its rank
 four : (a b c d : ℕ) → join (join a b) (join c d) ≡ join (join a c) (join b d)
@@ -194,6 +239,8 @@ mask-join base (present s p q) L M =
 mask-join base (signal a s p) L M = mask-join base p L M
 mask-join base (try p) L M = mask-join base p L M
 mask-join base (setpause l) L M = sym (join-none-l none)
+mask-join base (suspend s p) L M = mask-join base p L M
+mask-join base (held s K p) L M = sym (join-none-l none)
 
 active-only : (p : Statement) (l : ℕ) → active p (only l) ≡ member l (pauses p)
 active-only p l = same-test (active p (only l)) (member l (pauses p)) to from
@@ -246,6 +293,8 @@ mask-only base (present s p q) l d h = rank-two base l (test {s = s}) d (mask-on
 mask-only base (signal a s p) l d h = mask-only base p l (distinct-part (signal₁ {a = a} {s = s}) d) h
 mask-only base (try p) l d h = mask-only base p l (distinct-part try₁ d) h
 mask-only base (setpause k) l d h = in-none l h
+mask-only base (suspend s p) l d h = mask-only base p l (distinct-part (suspend₁ {s = s}) d) h
+mask-only base (held s K p) l d h = in-none l h
 
 -- the rank of a pause is one of p's ranks
 lt-parts : (base m n i k : ℕ) (x y : Bool) → (x ≡ true → i < base + m) → (y ≡ true → k < (base + m) + n) → (x || y) ≡ true
@@ -272,3 +321,5 @@ rank-lt base (present s p q) l h =
 rank-lt base (signal a s p) l h = rank-lt base p l h
 rank-lt base (try p) l h = rank-lt base p l h
 rank-lt base (setpause k) l h = in-none l h
+rank-lt base (suspend s p) l h = rank-lt base p l h
+rank-lt base (held s K p) l h = in-none l h

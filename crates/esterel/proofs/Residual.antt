@@ -7,16 +7,17 @@ use mathlib.Core.Bool.{true}
 use mathlib.Core.List.{[]}
 use borrow.Author.Tests.{eqb-true, eq-eqb}
 use Rattle.esterel.specs.Sets.{member, only, join}
-use Rattle.esterel.specs.Statement.{Statement, nothing, pause, seq, par, loop, present, signal, try}
+use Rattle.esterel.specs.Statement.{Statement, nothing, pause, seq, par, loop, present, signal, try, suspend, held}
 use Rattle.esterel.specs.Reaction.{react}
-use Rattle.esterel.specs.Places.{Part, PartOf, seq₁, seq₂, par₁, par₂, loop₁, present₁, present₂, signal₁, try₁, At}
-use Rattle.esterel.specs.States.{Holds, active, Distinct, NoSetpause}
+use Rattle.esterel.specs.Places.{Part, PartOf, seq₁, seq₂, par₁, par₂, loop₁, present₁, present₂, signal₁, try₁, suspend₁, At}
+use Rattle.esterel.specs.States.{Holds, active, Distinct, NoSetpause, Source}
 use Rattle.esterel.specs.Expansion.{expand}
+use Rattle.esterel.specs.LabelTests.{activeLabels}
 use Rattle.esterel.proofs.Booleans.{or-l, or-cases, or-false, never}
 use Rattle.esterel.proofs.Sets.{member-join, member-only}
-use Rattle.esterel.proofs.Places.{holds-in, Disjoint, distinct-part, disjoint-parts, noSetpause-part}
-use Rattle.esterel.proofs.Activity.{active-part, Same, active-same, expand-same, Inside, asleep}
-use Rattle.esterel.proofs.Invariant.{Kept, Fits, fresh-fits, resumed-fits}
+use Rattle.esterel.proofs.Places.{holds-in, Disjoint, distinct-part, disjoint-parts, noSetpause-part, source-part}
+use Rattle.esterel.proofs.Activity.{active-part, Same, active-same, expand-same, Inside, activeLabels-inside, activeLabels-wakes, activeLabels-all, asleep}
+use Rattle.esterel.proofs.Invariant.{Kept, Stopped, Fits, fresh-fits, resumed-fits}
 
 -- the labels are the state of which t is the expansion
 pub record Expanded (p : Statement) (L : ℕ) (t : Statement) : Type 0 where
@@ -25,11 +26,11 @@ pub record Expanded (p : Statement) (L : ℕ) (t : Statement) : Type 0 where
   pub equal : t ≡ expand p L
 
 abbrev pub Remains : Statement → ℕ → Statement → Type 0
-Remains p L t = Distinct p → NoSetpause p → Expanded p L t
+Remains p L t = Source p → Distinct p → NoSetpause p → Expanded p L t
 
 at-pause : (l : ℕ) → Remains (pause l) (only l) nothing
 unfolding active expand
-at-pause l d n =
+at-pause l z d n =
     record {
       inside = λ j h. subst (λ (x : ℕ). Holds (pause l) (pause x)) (eqb-true l j (sym (member-only l j) ∙ h)) ([], At.here);
       awake = member-only l l ∙ eq-eqb l l refl;
@@ -40,8 +41,8 @@ module _ (w : Statement) (L : ℕ) (u : Statement) where
   -- what holds of a part holds of the whole, whose residual u is then the expansion
   from-part : {d : Part} {c : Statement} → PartOf d c w → (t : Statement) → Remains c L t
       → (Expanded c L t → Distinct w → u ≡ expand w L) → Remains w L u
-  from-part i t h g d n =
-      let x = h (distinct-part i d) (noSetpause-part i n) in
+  from-part i t h g z d n =
+      let x = h (source-part i z) (distinct-part i d) (noSetpause-part i n) in
       record {
         inside = λ l y. holds-in (pause l) i (x .inside l y);
         awake = active-part L i (x .awake);
@@ -85,12 +86,13 @@ unfolding expand
 kept =
     record {
       at-pause = at-pause;
-      at-setpause = λ l d n. absurd (n l ([], At.here));
+      at-setpause = λ l z d n. absurd (n l ([], At.here));
       seq-first = λ p q L t h. from-part (seq p q) L (seq t q) seq₁ t h (λ x d. rw (x .awake, x .equal));
       seq-second = λ p q L t h. from-part (seq p q) L t seq₂ t h
           (λ x d. rw (asleep p q L (disjoint-parts seq₁ seq₂ d) (x .inside)) (x .equal));
-      par-both = λ p q L M t u h i d n. both-expanded p q L M t u d (h (distinct-part par₁ d) (noSetpause-part par₁ n))
-          (i (distinct-part par₂ d) (noSetpause-part par₂ n));
+      par-both = λ p q L M t u h i z d n. both-expanded p q L M t u d
+          (h (source-part par₁ z) (distinct-part par₁ d) (noSetpause-part par₁ n))
+          (i (source-part par₂ z) (distinct-part par₂ d) (noSetpause-part par₂ n));
       par-first = λ p q L t h. from-part (par p q) L (par t nothing) par₁ t h
           (λ x d. rw (x .awake, asleep q p L (flipped (disjoint-parts par₁ par₂ d)) (x .inside), x .equal));
       par-second = λ p q L t h. from-part (par p q) L (par nothing t) par₂ t h
@@ -101,6 +103,20 @@ kept =
           (λ x d. rw (asleep p q L (disjoint-parts present₁ present₂ d) (x .inside)) (x .equal));
       signal-body = λ a s p L t h. from-part (signal a s p) L (signal a s t) signal₁ t h (λ x d. rw (x .equal));
       try-body = λ p L t h. from-part (try p) L (try t) try₁ t h (λ x d. rw (x .equal));
+      suspend-body = λ s p L t h. from-part (suspend s p) L (held s L t) suspend₁ t h
+          (λ x d. rw (x .awake, activeLabels-all p L (x .inside), x .equal));
+      at-held = λ s M q L t z d n. absurd (z s M q ([], At.here));
+    }
+
+-- a stopped suspend holds what it held
+at-stopped : (L : ℕ) → Stopped Remains L
+unfolding active expand
+at-stopped L s p h z d n =
+    let awake : active p (activeLabels p L) ≡ true = active-same p (activeLabels p L) L (activeLabels-wakes p L) ∙ h in
+    record {
+      inside = λ l x. holds-in (pause l) suspend₁ (activeLabels-inside p L l x);
+      awake = awake;
+      equal = rw (awake, activeLabels-all p (activeLabels p L) (activeLabels-inside p L), expand-same p (activeLabels p L) L (activeLabels-wakes p L));
     }
 
 -- THEOREM 1, fresh and resumed
@@ -108,4 +124,4 @@ pub residual-fresh : (p : Statement) (e : ℕ) → Fits Remains p (react p e)
 residual-fresh = fresh-fits Remains kept
 
 pub residual-resumed : (p : Statement) (L e : ℕ) → Fits Remains p (react (expand p L) e)
-residual-resumed = resumed-fits Remains kept
+residual-resumed p L e = resumed-fits Remains kept p L e (at-stopped L)

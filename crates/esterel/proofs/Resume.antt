@@ -5,16 +5,17 @@ use mathlib.Core.Bool.{Bool, true, false, not, _||_, cond, false≢true}
 use mathlib.Core.Option.{Option}
 use mathlib.Core.List.{List, [], _∷_, _++_, head?}
 use Rattle.esterel.specs.Sets.{member, insert, remove}
-use Rattle.esterel.specs.Statement.{Statement, nothing, pause, emit, exit, seq, par, loop, present, signal, try, setpause}
-use Rattle.esterel.specs.Reaction.{Code, ended, waiting, leaving, wrong, code, inSeq, inPar, inLoop, inSignal, caseOf, react}
+use Rattle.esterel.specs.Statement.{Statement, nothing, pause, emit, exit, seq, par, loop, present, signal, try, setpause, suspend, held}
+use Rattle.esterel.specs.Reaction.{Code, ended, waiting, leaving, wrong, code, inSeq, inPar, inLoop, inSignal, inSuspend, stopped, caseOf, react}
 use Rattle.esterel.specs.Errors.{Error, ifEnded, loopErrors, signalErrors, errors, firstError}
 use Rattle.esterel.specs.States.{active}
 use Rattle.esterel.specs.Expansion.{expand, ifActive}
-use Rattle.esterel.specs.LabelTests.{alternative, parallel}
-use Rattle.esterel.specs.Ranks.{middle, mask}
-use Rattle.esterel.specs.Resume.{Instant, instant, start, idle, earlier, seqInstant, parInstant, loopInstant, tryInstant, signalInstant, resume}
+use Rattle.esterel.specs.LabelTests.{alternative, parallel, activeLabels}
+use Rattle.esterel.specs.Ranks.{middle, mask, labelsBy}
+use Rattle.esterel.specs.Resume.{Instant, instant, start, idle, earlier, seqInstant, parInstant, loopInstant, tryInstant, signalInstant, suspendInstant, stoppedInstant, resume}
 use Rattle.esterel.proofs.Order.{Joined, sequence, test, sides}
-use Rattle.esterel.proofs.Ranks.{split-below, split-from, first-empty, second-empty}
+use Rattle.esterel.proofs.Activity.{activeLabels-wakes, expand-same}
+use Rattle.esterel.proofs.Ranks.{split-below, split-from, first-empty, second-empty, labels-by}
 
 -- ---- the first error of a list in parts
 pub first-append : (xs ys : List Error) → head? (xs ++ ys) ≡ earlier (head? xs) (head? ys)
@@ -66,6 +67,21 @@ pub start-try : (p : Statement) (e : ℕ) → start (try p) e ≡ tryInstant (st
 unfolding react errors
 start-try p e = refl
 
+pub start-suspend : (s : ℕ) (p : Statement) (e : ℕ) → start (suspend s p) e ≡ suspendInstant s (start p e)
+unfolding react errors
+start-suspend s p e = refl
+
+pub start-held : (s K : ℕ) (q : Statement) (e : ℕ)
+    → start (held s K q) e ≡ cond (member s e) (stoppedInstant s K q) (suspendInstant s (start q e))
+unfolding react errors
+start-held s K q e = go (member s e)
+  where
+    go : (b : Bool)
+        → instant (cond b (stopped s K q) (inSuspend s (react q e))) (head? (cond b [] (errors q e)))
+        ≡ cond b (stoppedInstant s K q) (suspendInstant s (start q e))
+    go true = refl
+    go false = refl
+
 -- ---- RESUME
 -- where b, the instant i of a part is that of the part's expansion t
 abbrev Goes : Bool → Instant → Statement → ℕ → Type 0
@@ -85,6 +101,15 @@ side-goes : (p : Statement) (e : ℕ) (i : Instant) (b : Bool) → Goes b i p e 
 unfolding react errors
 side-goes p e i true f = f refl
 side-goes p e i false f = refl
+
+-- a suspend holds its active labels and its part's expansion, which is by these labels only
+suspend-goes : (s : ℕ) (p : Statement) (L e K : ℕ) (i : Instant) → K ≡ activeLabels p L → i ≡ start (expand p L) e
+    → cond (member s e) (stoppedInstant s K (expand p K)) (suspendInstant s i) ≡ start (held s (activeLabels p L) (expand p L)) e
+suspend-goes s p L e K i k h =
+    ap₂ (λ (x y : Instant). cond (member s e) x y)
+    (ap₂ (stoppedInstant s) k (ap (expand p) k ∙ expand-same p (activeLabels p L) L (activeLabels-wakes p L)))
+    (ap (suspendInstant s) h)
+    ∙ sym (start-held s (activeLabels p L) (expand p L) e)
 
 -- resuming by the ranks of the active pauses is the instant of the expansion, first error included
 pub resumes : (base : ℕ) (p : Statement) (L e : ℕ) → active p L ≡ true → resume base p (mask base p L) e ≡ start (expand p L) e
@@ -113,3 +138,6 @@ resumes base (signal a s p) L e h =
     ap₂ (signalInstant a s) (resumes base p L (remove s e) h) (resumes base p L (insert s e) h) ∙ sym (start-signal a s (expand p L) e)
 resumes base (try p) L e h = ap tryInstant (resumes base p L e h) ∙ sym (start-try (expand p L) e)
 resumes base (setpause l) L e h = absurd (false≢true h)
+resumes base (suspend s p) L e h =
+    rw h (suspend-goes s p L e (labelsBy base p (mask base p L)) _ (labels-by L base p h) (resumes base p L e h))
+resumes base (held s K p) L e h = absurd (false≢true h)

@@ -7,8 +7,8 @@ use native.Mathlib.Omega.{arith}
 use lib.Dec.{eqb}
 use borrow.Author.Tests.{eqb-true, eqb-false, ne-eqb}
 use Rattle.esterel.specs.Sets.{member, insert, remove}
-use Rattle.esterel.specs.Statement.{Statement, nothing, pause, emit, exit, seq, par, loop, present, signal, try, setpause}
-use Rattle.esterel.specs.Reaction.{Code, ended, waiting, leaving, wrong, isWrong, greater, down, Reaction, gives, failed, inSeq, inPar, inLoop, inTry, inSignal, Case, both, neither, only−, only+, inherited, firstFit, caseOf, answer, react}
+use Rattle.esterel.specs.Statement.{Statement, nothing, pause, emit, exit, seq, par, loop, present, signal, try, setpause, suspend, held}
+use Rattle.esterel.specs.Reaction.{Code, ended, waiting, leaving, wrong, isWrong, greater, down, Reaction, gives, failed, inSeq, inPar, inLoop, inTry, inSuspend, stopped, inSignal, Case, both, neither, only−, only+, inherited, firstFit, caseOf, answer, react}
 use Rattle.esterel.specs.Rules.{Reacts}
 use Rattle.esterel.proofs.Booleans.{clash}
 
@@ -171,6 +171,9 @@ sound (Reacts.signal−+ {a = a} {s = s} {o− = o−} {o+ = o+} {k− = k−} {
 sound (Reacts.signal∞ {a = a} {s = s} {o− = o−} {o+ = o+} {k− = k−} {k+ = k+} d− d+ w n++ n+− n−+) =
     signal-is a s _ _ (fits∞ s o− o+ k− k+ w n++ n+− n−+) (sound d−) (sound d+)
 sound Reacts.setpause = refl
+sound (Reacts.suspend d) = rw (← sound d)
+sound (Reacts.held+ i) = rw i
+sound (Reacts.held− i d) = rw (i, ← sound d)
 
 -- ---- what the function gives, the rules derive
 seq-derives : {p q : Statement} {e : ℕ} (r r₂ : Reaction) → Reacts p e r → Reacts q e r₂ → Reacts (seq p q) e (inSeq q r r₂)
@@ -229,6 +232,14 @@ signal-derives : {p : Statement} {e : ℕ} (a s : ℕ) (r− r+ : Reaction) → 
 signal-derives a s (gives o− k− l− t−) (gives o+ k+ l+ t+) d− d+ =
     case-derives a s o− o+ l− l+ k− k+ t− t+ d− d+ (member s o−) (member s o+) (isWrong k−) (isWrong k+) refl refl refl refl
 
+suspend-derives : {p : Statement} {e : ℕ} (s : ℕ) (r : Reaction) → Reacts p e r → Reacts (suspend s p) e (inSuspend s r)
+suspend-derives s (gives o k l t) d = Reacts.suspend d
+
+held-derives : {q : Statement} {e : ℕ} (s K : ℕ) (b : Bool) (r : Reaction) → member s e ≡ b → Reacts q e r
+    → Reacts (held s K q) e (cond b (stopped s K q) (inSuspend s r))
+held-derives s K true r h d = Reacts.held+ h
+held-derives s K false (gives o k l t) h d = Reacts.held− h d
+
 derive : (p : Statement) (e : ℕ) → Reacts p e (react p e)
 unfolding react
 derive nothing e = Reacts.nothing
@@ -243,6 +254,8 @@ derive (signal a s p) e =
     signal-derives a s (react p (remove s e)) (react p (insert s e)) (derive p (remove s e)) (derive p (insert s e))
 derive (try p) e = try-derives (react p e) (derive p e)
 derive (setpause l) e = Reacts.setpause
+derive (suspend s p) e = suspend-derives s (react p e) (derive p e)
+derive (held s K q) e = held-derives s K (member s e) (react q e) refl (derive q e)
 
 -- RULES: the relation holds of an answer exactly if the function gives it
 pub reacts-is : (p : Statement) (e : ℕ) (r : Reaction) → Reacts p e r ↔ (r ≡ react p e)

@@ -3,19 +3,20 @@
 use Prim.Native.Nat.{ℕ}
 use mathlib.Core.Path.{_≡_, refl, sym, _∙_, subst, subst₂}
 use mathlib.Core.Logic.{_⊎_, inl, inr, ⊎-elim}
-use mathlib.Core.Bool.{true}
+use mathlib.Core.Bool.{true, false≢true}
 use mathlib.Core.List.{[], _∷_}
 use borrow.Author.Tests.{eqb-true, eq-eqb}
-use Rattle.esterel.specs.Sets.{member, only, join}
-use Rattle.esterel.specs.Statement.{Statement, pause, setpause, par}
+use Rattle.esterel.specs.Sets.{member, none, only, join}
+use Rattle.esterel.specs.Statement.{Statement, pause, setpause, par, suspend, held}
 use Rattle.esterel.specs.Reaction.{react}
-use Rattle.esterel.specs.Places.{Part, first, second, PartOf, seq₁, seq₂, par₁, par₂, loop₁, present₁, present₂, signal₁, try₁, Place, At, Exclusive, Compatible}
-use Rattle.esterel.specs.States.{Holds, Valid, Distinct, Targeted, WellFormed}
+use Rattle.esterel.specs.Places.{Part, first, second, PartOf, seq₁, seq₂, par₁, par₂, loop₁, present₁, present₂, signal₁, try₁, suspend₁, Place, At, Exclusive, Compatible}
+use Rattle.esterel.specs.States.{Holds, Valid, Distinct, Targeted, Source, WellFormed}
 use Rattle.esterel.specs.Expansion.{expand}
 use Rattle.esterel.proofs.Booleans.{or-l, or-cases}
-use Rattle.esterel.proofs.Sets.{member-join, member-only}
-use Rattle.esterel.proofs.Places.{compatible-part, compatible-sides, compatible-sides′}
-use Rattle.esterel.proofs.Invariant.{Kept, Fits, fresh-fits, resumed-fits}
+use Rattle.esterel.proofs.Sets.{member-join, member-none, member-only}
+use Rattle.esterel.proofs.Places.{compatible-part, compatible-sides, compatible-sides′, source-part, Together, together-part}
+use Rattle.esterel.proofs.Activity.{active-is, activeLabels-inside, activeLabels-wakes}
+use Rattle.esterel.proofs.Invariant.{Kept, Stopped, Fits, fresh-fits, resumed-fits}
 
 -- a pause or a setpause with label l at the place a
 abbrev pub Stop : Statement → ℕ → Place → Type 0
@@ -28,10 +29,11 @@ Stops p l = (a : Place) × Stop p l a
 abbrev pub Meet : Statement → ℕ → ℕ → Type 0
 Meet p k l = (a : Place) × (b : Place) × Stop p k a × Stop p l b × Compatible p a b
 
-pub record Sound (p : Statement) (L : ℕ) : Type 0 where
+-- S is the state that was resumed: what a stopped suspend keeps of it stands together if it did before
+pub record Sound (S : ℕ) (p : Statement) (L : ℕ) : Type 0 where
   pub some : (l : ℕ) × (member l L ≡ true)
   pub stops : (l : ℕ) → member l L ≡ true → Stops p l
-  pub meet : (k l : ℕ) → member k L ≡ true → member l L ≡ true → Meet p k l
+  pub meet : Together p S → (k l : ℕ) → member k L ≡ true → member l L ≡ true → Meet p k l
 
 -- ---- from a part to the whole
 stop-in : {d : Part} {c p : Statement} (l : ℕ) {a : Place} → PartOf d c p → Stop c l a → Stop p l (d ∷ a)
@@ -44,21 +46,21 @@ stops-in {d} l i s = (d ∷ s .0, stop-in l i (s .1))
 meet-in : {d : Part} {c p : Statement} (k l : ℕ) → PartOf d c p → Meet c k l → Meet p k l
 meet-in {d} k l i m = (d ∷ m .0, d ∷ m .1, stop-in k i (m .2), stop-in l i (m .3), compatible-part i (m .4))
 
-sound-in : {d : Part} {c p : Statement} (L : ℕ) → PartOf d c p → Sound c L → Sound p L
-sound-in L i s =
+sound-in : {d : Part} {c p : Statement} (S L : ℕ) → PartOf d c p → Sound S c L → Sound S p L
+sound-in S L i s =
     record {
       some = s .some;
       stops = λ l h. stops-in l i (s .stops l h);
-      meet = λ k l h h₂. meet-in k l i (s .meet k l h h₂);
+      meet = λ w k l h h₂. meet-in k l i (s .meet (together-part S i w) k l h h₂);
     }
 
 -- ---- one label, and the labels of two sides
-alone : (p : Statement) (l : ℕ) → Stop p l [] → Compatible p [] [] → Sound p (only l)
-alone p l s c =
+alone : (S : ℕ) (p : Statement) (l : ℕ) → Stop p l [] → Compatible p [] [] → Sound S p (only l)
+alone S p l s c =
     record {
       some = (l, member-only l l ∙ eq-eqb l l refl);
       stops = λ k h. ([], at k h);
-      meet = λ k k₂ h h₂. ([], [], at k h, at k₂ h₂, c);
+      meet = λ w k k₂ h h₂. ([], [], at k h, at k₂ h₂, c);
     }
   where
     at : (k : ℕ) → member k (only l) ≡ true → Stop p k []
@@ -67,7 +69,7 @@ alone p l s c =
 nowhere : (p : Statement) → Compatible p [] []
 nowhere p x = elim x [ ]
 
-module _ (p q : Statement) (L M : ℕ) (f : Sound p L) (g : Sound q M) where
+module _ (S : ℕ) (p q : Statement) (L M : ℕ) (f : Sound S p L) (g : Sound S q M) where
   either : (l : ℕ) → member l (join L M) ≡ true → (member l L ≡ true) ⊎ (member l M ≡ true)
   either l h = or-cases (member l L) (member l M) (sym (member-join l L M) ∙ h)
 
@@ -77,42 +79,69 @@ module _ (p q : Statement) (L M : ℕ) (f : Sound p L) (g : Sound q M) where
   across′ : (k l : ℕ) → Stops q k → Stops p l → Meet (par p q) k l
   across′ k l x y = (second ∷ x .0, first ∷ y .0, stop-in k par₂ (x .1), stop-in l par₁ (y .1), compatible-sides′)
 
-  sound-join : Sound (par p q) (join L M)
+  sound-join : Sound S (par p q) (join L M)
   sound-join =
       record {
         some = ((f .some) .0, member-join (f .some .0) L M ∙ or-l _ _ (f .some .1));
         stops = λ l h. ⊎-elim (λ x. stops-in l par₁ (f .stops l x)) (λ x. stops-in l par₂ (g .stops l x)) (either l h);
-        meet = λ k l h i. ⊎-elim
-            (λ x. ⊎-elim (λ y. meet-in k l par₁ (f .meet k l x y)) (λ y. across k l (f .stops k x) (g .stops l y)) (either l i))
-            (λ x. ⊎-elim (λ y. across′ k l (g .stops k x) (f .stops l y)) (λ y. meet-in k l par₂ (g .meet k l x y)) (either l i))
+        meet = λ w k l h i. ⊎-elim
+            (λ x. ⊎-elim (λ y. meet-in k l par₁ (f .meet (together-part S par₁ w) k l x y)) (λ y. across k l (f .stops k x) (g .stops l y)) (either l i))
+            (λ x. ⊎-elim (λ y. across′ k l (g .stops k x) (f .stops l y)) (λ y. meet-in k l par₂ (g .meet (together-part S par₂ w) k l x y)) (either l i))
             (either k h);
       }
 
-abbrev pub SoundLabels : Statement → ℕ → Statement → Type 0
-SoundLabels p L t = Sound p L
+abbrev pub SoundLabels : ℕ → Statement → ℕ → Statement → Type 0
+SoundLabels S p L t = Source p → Sound S p L
 
-kept : Kept SoundLabels
-kept =
+part : {d : Part} {c p : Statement} (S L : ℕ) → PartOf d c p → (Source c → Sound S c L) → Source p → Sound S p L
+part S L i h z = sound-in S L i (h (source-part i z))
+
+kept : (S : ℕ) → Kept (SoundLabels S)
+kept S =
     record {
-      at-pause = λ l. alone (pause l) l (inl At.here) (nowhere (pause l));
-      at-setpause = λ l. alone (setpause l) l (inr At.here) (nowhere (setpause l));
-      seq-first = λ p q L t. sound-in L seq₁;
-      seq-second = λ p q L t. sound-in L seq₂;
-      par-both = λ p q L M t u. sound-join p q L M;
-      par-first = λ p q L t. sound-in L par₁;
-      par-second = λ p q L t. sound-in L par₂;
-      loop-body = λ a p L t. sound-in L loop₁;
-      present-first = λ s p q L t. sound-in L present₁;
-      present-second = λ s p q L t. sound-in L present₂;
-      signal-body = λ a s p L t. sound-in L signal₁;
-      try-body = λ p L t. sound-in L try₁;
+      at-pause = λ l z. alone S (pause l) l (inl At.here) (nowhere (pause l));
+      at-setpause = λ l z. alone S (setpause l) l (inr At.here) (nowhere (setpause l));
+      seq-first = λ p q L t. part S L seq₁;
+      seq-second = λ p q L t. part S L seq₂;
+      par-both = λ p q L M t u h i z. sound-join S p q L M (h (source-part par₁ z)) (i (source-part par₂ z));
+      par-first = λ p q L t. part S L par₁;
+      par-second = λ p q L t. part S L par₂;
+      loop-body = λ a p L t. part S L loop₁;
+      present-first = λ s p q L t. part S L present₁;
+      present-second = λ s p q L t. part S L present₂;
+      signal-body = λ a s p L t. part S L signal₁;
+      try-body = λ p L t. part S L try₁;
+      suspend-body = λ s p L t. part S L suspend₁;
+      at-held = λ s M q L t z. absurd (z s M q ([], At.here));
     }
 
-pub labels-fresh : (p : Statement) (e : ℕ) → Fits SoundLabels p (react p e)
-labels-fresh = fresh-fits SoundLabels kept
+-- what a stopped suspend keeps
+at-stopped : (S : ℕ) → Stopped (SoundLabels S) S
+at-stopped S s p h z =
+    record {
+      some = let x = active-is p S .0 h in (x .0, activeLabels-wakes p S (x .0) (x .2) ∙ x .1);
+      stops = λ l i. let x = activeLabels-inside p S l i in (first ∷ x .0, inl (At.inside suspend₁ (x .1)));
+      meet = λ w k l i j.
+          let x = activeLabels-inside p S k i in
+          let y = activeLabels-inside p S l j in (
+            first ∷ x .0,
+            first ∷ y .0,
+            inl (At.inside suspend₁ (x .1)),
+            inl (At.inside suspend₁ (y .1)),
+            w k l (sym (activeLabels-wakes p S k x) ∙ i) (sym (activeLabels-wakes p S l y) ∙ j) (first ∷ x .0) (first ∷ y .0)
+                (At.inside suspend₁ (x .1)) (At.inside suspend₁ (y .1)),
+          );
+    }
 
-pub labels-resumed : (p : Statement) (L e : ℕ) → Fits SoundLabels p (react (expand p L) e)
-labels-resumed = resumed-fits SoundLabels kept
+pub labels-fresh : (S : ℕ) (p : Statement) (e : ℕ) → Fits (SoundLabels S) p (react p e)
+labels-fresh S = fresh-fits (SoundLabels S) (kept S)
+
+pub labels-resumed : (p : Statement) (L e : ℕ) → Fits (SoundLabels L) p (react (expand p L) e)
+labels-resumed p L e = resumed-fits (SoundLabels L) (kept L) p L e (at-stopped L)
+
+-- no label, nothing to stand together
+pub together-none : (p : Statement) → Together p none
+together-none p k l h i = absurd (false≢true (sym (member-none k) ∙ h))
 
 -- ---- from compatible triggers to compatible pauses, by 002's definition 3
 module _ (p : Statement) (distinct : Distinct p) (formed : WellFormed p) (targeted : Targeted p) where
@@ -128,10 +157,10 @@ module _ (p : Statement) (distinct : Distinct p) (formed : WellFormed p) (target
       go (inr u) (inl v) = m .4 (formed k l a b x y exclusive .setpause-pause (m .0) (m .1) u v)
       go (inr u) (inr v) = m .4 (formed k l a b x y exclusive .setpauses (m .0) (m .1) u v)
 
-  pub sound-valid : (L : ℕ) → Sound p L → Valid p L
-  sound-valid L s =
+  pub sound-valid : (S : ℕ) → Together p S → (L : ℕ) → Sound S p L → Valid p L
+  sound-valid S w L s =
       record {
         some = s .some;
         paused = λ l h. paused l (s .stops l h);
-        together = λ k l h i. together k l (s .meet k l h i);
+        together = λ k l h i. together k l (s .meet w k l h i);
       }

@@ -5,7 +5,7 @@ use mathlib.Core.Bool.{cond}
 use mathlib.Core.Option.{Option}
 use mathlib.Core.List.{List, [], _∷_, _++_, head?}
 use Rattle.esterel.specs.Sets.{member, insert, remove}
-use Rattle.esterel.specs.Statement.{Statement, nothing, pause, emit, exit, seq, par, loop, present, signal, try, setpause}
+use Rattle.esterel.specs.Statement.{Statement, nothing, pause, emit, exit, seq, par, loop, present, signal, try, setpause, suspend, held}
 use Rattle.esterel.specs.Reaction.{Code, ended, waiting, leaving, wrong, Reaction, code, Case, both, neither, only−, only+, inherited, caseOf, react}
 use Rattle.esterel.specs.Rules.{Reacts}
 
@@ -53,6 +53,8 @@ errors (signal a s p) e =
     errors p (remove s e) ++ errors p (insert s e) ++ signalErrors a (caseOf s (react p (remove s e)) (react p (insert s e)))
 errors (try p) e = errors p e
 errors (setpause l) e = []
+errors (suspend s p) e = errors p e
+errors (held s K p) e = cond (member s e) [] (errors p e)
 
 -- the error that a wrong instant names
 abbrev pub firstError : Statement → ℕ → Option Error
@@ -79,3 +81,6 @@ uses (Reacts.signal+− {a = a} d− i− d+ i+ n) = uses d− ++ uses d+ ++ (no
 uses (Reacts.signal−+ {a = a} d− i− n d+ i+) = uses d− ++ uses d+ ++ (notDeterministic a ∷ [])
 uses (Reacts.signal∞ d− d+ w n++ n+− n−+) = uses d− ++ uses d+
 uses Reacts.setpause = []
+uses (Reacts.suspend d) = uses d
+uses (Reacts.held+ i) = []
+uses (Reacts.held− i d) = uses d

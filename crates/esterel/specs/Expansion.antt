@@ -1,12 +1,13 @@
--- The expansion of a waiting statement (01, 'States and resuming'; 002, figure 5).
+-- The expansion of a waiting statement (01, 'States and resuming'; 002, figure 5; 02, item 1).
 use Prim.Native.Nat.{ℕ}
 use mathlib.Core.Path.{_≡_}
 use mathlib.Core.Bool.{Bool, true, false, cond}
 use Rattle.esterel.specs.Sets.{member}
 use Rattle.esterel.specs.Statement.{Statement}
 use Rattle.esterel.specs.States.{active}
+use Rattle.esterel.specs.LabelTests.{activeLabels}
 
--- 01: an inactive side of a parallel becomes nothing
+-- 01: an inactive side of a parallel becomes nothing, and an inactive suspend with it
 abbrev pub ifActive : Bool → Statement → Statement
 ifActive b t = cond b t Statement.nothing
 
@@ -24,6 +25,8 @@ expand (Statement.present s p q) L = cond (active p L) (expand p L) (expand q L)
 expand (Statement.signal a s p) L = Statement.signal a s (expand p L)
 expand (Statement.try p) L = Statement.try (expand p L)
 expand (Statement.setpause l) L = Statement.nothing
+expand (Statement.suspend s p) L = ifActive (active p L) (Statement.held s (activeLabels p L) (expand p L))
+expand (Statement.held s K p) L = Statement.nothing
 
 -- Figure 5 as printed, clause by clause. A part printed without its hat holds no active pause.
 pub data Expands (L : ℕ) : Statement → Statement → Type 0 where
@@ -48,10 +51,13 @@ pub data Expands (L : ℕ) : Statement → Statement → Type 0 where
       → Expands L (Statement.loop a p) (Statement.seq p′ (Statement.loop a p))
   signal : {a s : ℕ} {p p′ : Statement} → Expands L p p′
       → Expands L (Statement.signal a s p) (Statement.signal a s p′)
+  -- not in the figure: 02, item 1, by Berry's rule of 1999
+  suspend : {s : ℕ} {p p′ : Statement} → Expands L p p′
+      → Expands L (Statement.suspend s p) (Statement.held s (activeLabels p L) p′)
 
--- the names of figure 5's clauses, and the one that a derivation uses at its outermost command
+-- the names of these clauses, and the one that a derivation uses at its outermost command
 pub data Clause : Type 0 where
-  pause seq₁ seq₂ present₁ present₂ try par par₁ par₂ loop signal : Clause
+  pause seq₁ seq₂ present₁ present₂ try par par₁ par₂ loop signal suspend : Clause
 
 unfoldable pub clause : {L : ℕ} {p p′ : Statement} → Expands L p p′ → Clause
 clause (Expands.pause i) = Clause.pause
@@ -65,3 +71,4 @@ clause (Expands.par₁ d i) = Clause.par₁
 clause (Expands.par₂ i d) = Clause.par₂
 clause (Expands.loop d) = Clause.loop
 clause (Expands.signal d) = Clause.signal
+clause (Expands.suspend d) = Clause.suspend

@@ -4,7 +4,7 @@ use Prim.Native.Nat.{ℕ}
 use mathlib.Core.Bool.{Bool, cond}
 use lib.Dec.{eqb}
 use Rattle.esterel.specs.Sets.{join}
-use Rattle.esterel.specs.Statement.{Statement, nothing, pause, emit, exit, seq, par, loop, present, signal, try, setpause}
+use Rattle.esterel.specs.Statement.{Statement, nothing, pause, emit, exit, seq, par, loop, present, signal, try, setpause, suspend, held}
 use Rattle.esterel.specs.LabelTests.{labelsOf, Joint, alternative, parallel}
 
 -- the rows with the labels of s added to row k
@@ -31,3 +31,5 @@ fill x y j (present s p q) known rows = fill x y j q (further j alternative know
 fill x y j (signal a s p) known rows = fill x y j p known rows
 fill x y j (try p) known rows = fill x y j p known rows
 fill x y j (setpause l) known rows = cond y (addRow l known rows) rows
+fill x y j (suspend s p) known rows = fill x y j p known rows
+fill x y j (held s K p) known rows = rows

@@ -5,7 +5,7 @@ use mathlib.Core.Bool.{Bool, true, false, not, _&&_, _||_, cond}
 use lib.Dec.{eqb}
 use lib.Bits.{bitAnd}
 use Rattle.esterel.specs.Sets.{member, none, only, join}
-use Rattle.esterel.specs.Statement.{Statement, nothing, pause, emit, exit, seq, par, loop, present, signal, try, setpause}
+use Rattle.esterel.specs.Statement.{Statement, nothing, pause, emit, exit, seq, par, loop, present, signal, try, setpause, suspend, held}
 
 unfoldable pub disjoint : ℕ → ℕ → Bool
 disjoint s t = eqb (bitAnd s t) none
@@ -26,6 +26,8 @@ labelsOf x y (present s p q) = join (labelsOf x y p) (labelsOf x y q)
 labelsOf x y (signal a s p) = labelsOf x y p
 labelsOf x y (try p) = labelsOf x y p
 labelsOf x y (setpause l) = cond y (only l) none
+labelsOf x y (suspend s p) = labelsOf x y p
+labelsOf x y (held s K p) = none
 
 abbrev pub pauses : Statement → ℕ
 pauses = labelsOf true false
@@ -35,6 +37,10 @@ setpauses = labelsOf false true
 
 abbrev pub triggers : Statement → ℕ
 triggers = labelsOf true true
+
+-- 02: 'the active labels inside it'
+unfoldable pub activeLabels : Statement → ℕ → ℕ
+activeLabels p L = bitAnd L (pauses p)
 
 -- does f hold for the label of each pause and each setpause?
 unfoldable pub everyLabel : Statement → (ℕ → Bool) → Bool
@@ -49,6 +55,8 @@ everyLabel (present s p q) f = everyLabel p f && everyLabel q f
 everyLabel (signal a s p) f = everyLabel p f
 everyLabel (try p) f = everyLabel p f
 everyLabel (setpause l) f = f l
+everyLabel (suspend s p) f = everyLabel p f
+everyLabel (held s K p) f = true
 
 -- row 8 does not hold
 unfoldable pub distinct : Statement → Bool
@@ -63,6 +71,8 @@ distinct (present s p q) = disjoint (pauses p) (pauses q) && (distinct p && dist
 distinct (signal a s p) = distinct p
 distinct (try p) = distinct p
 distinct (setpause l) = true
+distinct (suspend s p) = distinct p
+distinct (held s K p) = true
 
 -- row 9 does not hold
 abbrev pub targeted : Statement → Bool
@@ -100,6 +110,8 @@ before x y j (present s p q) k =
 before x y j (signal a s p) k = before x y j p k
 before x y j (try p) k = before x y j p k
 before x y j (setpause l) k = none
+before x y j (suspend s p) k = before x y j p k
+before x y j (held s K p) k = none
 
 -- the labels of the pauses before a pause k and exclusive with it
 abbrev pub rivals : Statement → ℕ → ℕ

@@ -3,7 +3,7 @@
 use Prim.Native.Nat.{ℕ}
 use mathlib.Core.List.{List, [], _∷_}
 use Rattle.esterel.specs.Sets.{none}
-use Rattle.esterel.specs.Statement.{Statement}
+use Rattle.esterel.specs.Statement.{Statement, nothing, pause, emit, exit, seq, par, loop, present, signal, try, setpause, suspend, held}
 use Rattle.esterel.specs.Reaction.{Code, ended, waiting, leaving, wrong, Reaction, gives, react}
 use Rattle.esterel.specs.Expansion.{expand}
 
@@ -77,3 +77,19 @@ abbrev pub byRewriting : Machine Rewriting
 byRewriting (Rewriting.fresh t) e = (seen (react t e), termAfter (react t e))
 byRewriting (Rewriting.waits t) e = (seen (react t e), termAfter (react t e))
 byRewriting Rewriting.over e = (refused, Rewriting.over)
+
+-- The term with no labels in its held suspends, as the paper, which knows no labels, would have it.
+unfoldable pub erase : Statement → Statement
+erase nothing = nothing
+erase (pause l) = pause l
+erase (emit s) = emit s
+erase (exit n) = exit n
+erase (seq p q) = seq (erase p) (erase q)
+erase (par p q) = par (erase p) (erase q)
+erase (loop a p) = loop a (erase p)
+erase (present s p q) = present s (erase p) (erase q)
+erase (signal a s p) = signal a s (erase p)
+erase (try p) = try (erase p)
+erase (setpause l) = setpause l
+erase (suspend s p) = suspend s (erase p)
+erase (held s K p) = held s none (erase p)

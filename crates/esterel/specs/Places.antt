@@ -1,7 +1,7 @@
 -- Places of commands in a statement, and which of them are exclusive (01, 'States and resuming'; 002, section 2).
 use mathlib.Core.List.{List, [], _∷_}
 use Prim.Native.Nat.{ℕ}
-use Rattle.esterel.specs.Statement.{Statement, seq, par, loop, present, signal, try}
+use Rattle.esterel.specs.Statement.{Statement, seq, par, loop, present, signal, try, suspend}
 
 -- a command with a single part has it as its first
 pub data Part : Type 0 where
@@ -18,6 +18,7 @@ pub data PartOf : Part → Statement → Statement → Type 0 where
   present₂ : {s : ℕ} {p q : Statement} → PartOf second q (present s p q)
   signal₁ : {a s : ℕ} {p : Statement} → PartOf first p (signal a s p)
   try₁ : {p : Statement} → PartOf first p (try p)
+  suspend₁ : {s : ℕ} {p : Statement} → PartOf first p (suspend s p)
 
 -- a place: the parts to enter, from the outermost command inwards
 abbrev pub Place : Type 0

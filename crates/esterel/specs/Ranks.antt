@@ -4,7 +4,7 @@
 use Prim.Native.Nat.{ℕ, _+_}
 use mathlib.Core.Bool.{Bool, true, false, _&&_, cond}
 use Rattle.esterel.specs.Sets.{member, none, only, join, empty, below, from}
-use Rattle.esterel.specs.Statement.{Statement, nothing, pause, emit, exit, seq, par, loop, present, signal, try, setpause}
+use Rattle.esterel.specs.Statement.{Statement, nothing, pause, emit, exit, seq, par, loop, present, signal, try, setpause, suspend, held}
 use Rattle.esterel.specs.LabelTests.{pauses, Joint, alternative, parallel}
 
 -- ---- ranks
@@ -20,6 +20,8 @@ pauseCount (present s p q) = pauseCount p + pauseCount q
 pauseCount (signal a s p) = pauseCount p
 pauseCount (try p) = pauseCount p
 pauseCount (setpause l) = 0
+pauseCount (suspend s p) = pauseCount p
+pauseCount (held s K p) = 0
 
 -- the first rank of the second part, after a first part p
 abbrev pub middle : ℕ → Statement → ℕ
@@ -38,6 +40,8 @@ mask base (present s p q) L = join (mask base p L) (mask (middle base p) q L)
 mask base (signal a s p) L = mask base p L
 mask base (try p) L = mask base p L
 mask base (setpause l) L = none
+mask base (suspend s p) L = mask base p L
+mask base (held s K p) L = none
 
 -- the rank of the pause l of p, if p has one
 unfoldable pub rank : (base : ℕ) → Statement → (l : ℕ) → ℕ
@@ -52,6 +56,34 @@ rank base (present s p q) l = cond (member l (pauses p)) (rank base p l) (rank (
 rank base (signal a s p) l = rank base p l
 rank base (try p) l = rank base p l
 rank base (setpause k) l = base
+rank base (suspend s p) l = rank base p l
+rank base (held s K p) l = base
+
+-- no labels where the mask is empty
+abbrev pub ifSome : (m labels : ℕ) → ℕ
+ifSome m labels = cond (empty m) none labels
+
+-- the labels of the pauses of p with these ranks; only parts that have one are entered, and m is not empty
+unfoldable pub labelsBy : (base : ℕ) → Statement → (m : ℕ) → ℕ
+labelsBy base nothing m = none
+labelsBy base (pause l) m = only l
+labelsBy base (emit s) m = none
+labelsBy base (exit n) m = none
+labelsBy base (seq p q) m =
+    join (ifSome (below (middle base p) m) (labelsBy base p (below (middle base p) m)))
+    (ifSome (from (middle base p) m) (labelsBy (middle base p) q (from (middle base p) m)))
+labelsBy base (par p q) m =
+    join (ifSome (below (middle base p) m) (labelsBy base p (below (middle base p) m)))
+    (ifSome (from (middle base p) m) (labelsBy (middle base p) q (from (middle base p) m)))
+labelsBy base (loop a p) m = labelsBy base p m
+labelsBy base (present s p q) m =
+    join (ifSome (below (middle base p) m) (labelsBy base p (below (middle base p) m)))
+    (ifSome (from (middle base p) m) (labelsBy (middle base p) q (from (middle base p) m)))
+labelsBy base (signal a s p) m = labelsBy base p m
+labelsBy base (try p) m = labelsBy base p m
+labelsBy base (setpause l) m = none
+labelsBy base (suspend s p) m = labelsBy base p m
+labelsBy base (held s K p) m = none
 
 -- ---- row 11: are the active pauses pairwise compatible?
 -- A test of two parts, x and y saying that a part has no active pause: of the active part, or of both. Active pauses in
@@ -80,3 +112,5 @@ compatible base (present s p q) m =
 compatible base (signal a s p) m = compatible base p m
 compatible base (try p) m = compatible base p m
 compatible base (setpause l) m = true
+compatible base (suspend s p) m = compatible base p m
+compatible base (held s K p) m = true

@@ -1,10 +1,10 @@
--- One reaction as a function (01, 'One reaction'; 003, figures 3 and 7; 002, figure 4): a statement and the present
--- set E give the emitted set O, the completion code k, the labels L and the residual.
+-- One reaction as a function (01, 'One reaction'; 003, figures 3 and 7; 002, figure 4; 02, item 1): a statement and the
+-- present set E give the emitted set O, the completion code k, the labels L and the residual.
 use Prim.Native.Nat.{ℕ, _-_, max}
 use mathlib.Core.Bool.{Bool, true, false, not, _&&_, cond}
 use lib.Dec.{eqb}
 use Rattle.esterel.specs.Sets.{member, none, only, join, insert, remove}
-use Rattle.esterel.specs.Statement.{Statement, nothing, pause, emit, exit, seq, par, loop, present, signal, try, setpause}
+use Rattle.esterel.specs.Statement.{Statement, nothing, pause, emit, exit, seq, par, loop, present, signal, try, setpause, suspend, held}
 
 -- 01: ended (0), waiting (1), leaving n enclosing try blocks (n + 1), wrong (greater than all)
 pub data Code : Type 0 where
@@ -100,6 +100,21 @@ inTry (gives o waiting l p′) = gives o waiting l (try p′)
 inTry (gives o (leaving n) l p′) = cond (eqb n 1) (gives o ended l nothing) (gives o (down (leaving n)) l (try p′))
 inTry (gives o wrong l p′) = gives o wrong l (try p′)
 
+-- 02: after code 1 a held suspend remains, with the labels of its part and around its residual; else nothing
+abbrev pub remains : ℕ → Code → ℕ → Statement → Statement
+remains s ended l p′ = nothing
+remains s waiting l p′ = held s l p′
+remains s (leaving n) l p′ = nothing
+remains s wrong l p′ = nothing
+
+-- suspend s p, fresh or resumed with s absent
+abbrev pub inSuspend : ℕ → Reaction → Reaction
+inSuspend s (gives o k l p′) = gives o k l (remains s k l p′)
+
+-- a held suspend with s present: nothing inside reacts
+abbrev pub stopped : (s K : ℕ) → Statement → Reaction
+stopped s K p = gives none waiting K (held s K p)
+
 -- The five signal cases of 01.
 pub data Case : Type 0 where
   both neither only− only+ inherited : Case
@@ -141,3 +156,5 @@ react (present s p q) e = cond (member s e) (react p e) (react q e)
 react (signal a s p) e = inSignal a s (react p (remove s e)) (react p (insert s e))
 react (try p) e = inTry (react p e)
 react (setpause l) e = gives none waiting (only l) nothing
+react (suspend s p) e = inSuspend s (react p e)
+react (held s K p) e = cond (member s e) (stopped s K p) (inSuspend s (react p e))

@@ -4,11 +4,12 @@ use Prim.Native.Nat.{ℕ}
 use mathlib.Core.Bool.{cond}
 use mathlib.Core.Option.{Option, some}
 use mathlib.Core.List.{head?}
-use Rattle.esterel.specs.Sets.{insert, remove, empty, below, from}
-use Rattle.esterel.specs.Statement.{Statement, nothing, pause, emit, exit, seq, par, loop, present, signal, try, setpause}
-use Rattle.esterel.specs.Reaction.{Reaction, code, quiet, inSeq, inPar, inLoop, inTry, inSignal, caseOf, react}
+use Rattle.esterel.specs.Sets.{member, insert, remove, empty, below, from}
+use Rattle.esterel.specs.Statement.{Statement, nothing, pause, emit, exit, seq, par, loop, present, signal, try, setpause, suspend, held}
+use Rattle.esterel.specs.Reaction.{Reaction, code, quiet, inSeq, inPar, inLoop, inTry, inSuspend, stopped, inSignal, caseOf, react}
 use Rattle.esterel.specs.Errors.{Error, ifEnded, loopErrors, signalErrors, firstError}
-use Rattle.esterel.specs.Ranks.{middle}
+use Rattle.esterel.specs.Expansion.{expand}
+use Rattle.esterel.specs.Ranks.{middle, labelsBy}
 
 -- a reaction, and the first error of its tree
 pub data Instant : Type 0 where
@@ -41,8 +42,15 @@ abbrev pub signalInstant : ℕ → ℕ → Instant → Instant → Instant
 signalInstant a s (instant r− x−) (instant r+ x+) =
     instant (inSignal a s r− r+) (earlier (earlier x− x+) (head? (signalErrors a (caseOf s r− r+))))
 
+abbrev pub suspendInstant : ℕ → Instant → Instant
+suspendInstant s (instant r x) = instant (inSuspend s r) x
+
+-- the expansion stands in the residual only
+abbrev pub stoppedInstant : (s K : ℕ) → Statement → Instant
+stoppedInstant s K p = instant (stopped s K p) Option.none
+
 -- ---- the instant of p, whose first pause has rank base, by the ranks m of its active pauses; m is not empty
--- of a parallel, a side without an active pause has ended
+-- Of a parallel, a side without an active pause has ended; a suspend tests its signal first
 unfoldable pub resume : (base : ℕ) → Statement → (m : ℕ) → (e : ℕ) → Instant
 resume base nothing m e = idle
 resume base (pause l) m e = idle
@@ -62,3 +70,6 @@ resume base (present s p q) m e =
 resume base (signal a s p) m e = signalInstant a s (resume base p m (remove s e)) (resume base p m (insert s e))
 resume base (try p) m e = tryInstant (resume base p m e)
 resume base (setpause l) m e = idle
+resume base (suspend s p) m e =
+    cond (member s e) (stoppedInstant s (labelsBy base p m) (expand p (labelsBy base p m))) (suspendInstant s (resume base p m e))
+resume base (held s K p) m e = idle

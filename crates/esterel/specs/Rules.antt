@@ -1,5 +1,6 @@
 -- The rules of a reaction as printed: 003, figure 3 (all but loop and signal) and figure 7 (loop and signal), with the
--- labels of 002, figure 4, and its setpause (section 4.2). `Reacts p e (gives o k l p′)` is the printed p —O,k,L/E→ p′.
+-- labels of 002, figure 4, its setpause (section 4.2), and the suspend of 02, item 1, which is Berry's (1999).
+-- `Reacts p e (gives o k l p′)` is the printed p —O,k,L/E→ p′.
 -- Three things are added, each marked where it stands: the labels, 01's residuals, and 01's 'first that fits'.
 use Prim.Native.Nat.{ℕ}
 use mathlib.Core.Path.{_≡_}
@@ -7,7 +8,7 @@ use mathlib.Core.Logic.{_≢_}
 use mathlib.Core.Bool.{true, false}
 use Rattle.esterel.specs.Sets.{member, none, only, join, insert, remove}
 use Rattle.esterel.specs.Statement.{Statement}
-use Rattle.esterel.specs.Reaction.{Code, ended, waiting, leaving, wrong, greater, down, ifWaiting, side, Reaction, gives}
+use Rattle.esterel.specs.Reaction.{Code, ended, waiting, leaving, wrong, greater, down, ifWaiting, side, remains, Reaction, gives}
 
 pub data Reacts : Statement → ℕ → Reaction → Type 0 where
   nothing : {e : ℕ} → Reacts Statement.nothing e (gives none ended none Statement.nothing)
@@ -91,3 +92,14 @@ pub data Reacts : Statement → ℕ → Reaction → Type 0 where
       → Reacts (Statement.signal a s p) e (gives none wrong none Statement.nothing)
   -- 002, section 4.2
   setpause : {e l : ℕ} → Reacts (Statement.setpause l) e (gives none waiting (only l) Statement.nothing)
+  -- 02, item 1: fresh as p; held, s is tested first
+  suspend : {e s o l : ℕ} {k : Code} {p p′ : Statement}
+      → Reacts p e (gives o k l p′)
+      → Reacts (Statement.suspend s p) e (gives o k l (remains s k l p′))
+  held+ : {e s K : ℕ} {p : Statement}
+      → member s e ≡ true
+      → Reacts (Statement.held s K p) e (gives none waiting K (Statement.held s K p))
+  held− : {e s K o l : ℕ} {k : Code} {p p′ : Statement}
+      → member s e ≡ false
+      → Reacts p e (gives o k l p′)
+      → Reacts (Statement.held s K p) e (gives o k l (remains s k l p′))

@@ -1,4 +1,5 @@
--- Statements of kernel Pure Esterel (003, figure 1) with the labels and the setpause of 002 (sections 3.3 and 4).
+-- Statements of kernel Pure Esterel (003, figure 1) with the labels and the setpause of 002 (sections 3.3 and 4), and
+-- the suspend of 02, item 1.
 -- Signals, labels and exits are numbers. A loop and a signal carry their place, by which an error names them (01).
 use Prim.Native.Nat.{ℕ}
 
@@ -13,3 +14,6 @@ pub data Statement : Type 0 where
   signal : (place signal : ℕ) (p : Statement) → Statement
   try : (p : Statement) → Statement
   setpause : (label : ℕ) → Statement
+  suspend : (signal : ℕ) (p : Statement) → Statement
+  -- what remains of a suspend that waits with these labels; no bytes spell it
+  held : (signal labels : ℕ) (p : Statement) → Statement

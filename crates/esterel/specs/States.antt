@@ -3,14 +3,14 @@ use Prim.Native.Nat.{ℕ}
 use mathlib.Core.Path.{_≡_}
 use mathlib.Core.Bool.{Bool, true, false, _||_}
 use Rattle.esterel.specs.Sets.{member}
-use Rattle.esterel.specs.Statement.{Statement, nothing, pause, emit, exit, seq, par, loop, present, signal, try, setpause}
+use Rattle.esterel.specs.Statement.{Statement, nothing, pause, emit, exit, seq, par, loop, present, signal, try, setpause, suspend, held}
 use Rattle.esterel.specs.Places.{Place, At, Exclusive, Compatible}
 
 -- the command x stands somewhere in p
 abbrev pub Holds : Statement → Statement → Type 0
 Holds p x = (a : Place) × At x a p
 
--- does p hold a pause whose label is in L?
+-- does p hold a pause whose label is in L? No bytes spell a held suspend, and no place is inside it
 unfoldable pub active : Statement → ℕ → Bool
 active nothing L = false
 active (pause l) L = member l L
@@ -23,6 +23,8 @@ active (present s p q) L = active p L || active q L
 active (signal a s p) L = active p L
 active (try p) L = active p L
 active (setpause l) L = false
+active (suspend s p) L = active p L
+active (held s K p) L = false
 
 -- 01: not empty, each label has a pause, and those pauses are pairwise compatible
 pub record Valid (p : Statement) (L : ℕ) : Type 0 where
@@ -41,6 +43,10 @@ Targeted p = (l : ℕ) → Holds p (setpause l) → Holds p (pause l)
 
 abbrev pub NoSetpause : Statement → Type 0
 NoSetpause p = (l : ℕ) → ¬ Holds p (setpause l)
+
+-- no held suspend stands in p, as in every statement that bytes spell
+abbrev pub Source : Statement → Type 0
+Source p = (s K : ℕ) (q : Statement) → ¬ Holds p (held s K q)
 
 -- every x of p is exclusive with every y of p
 abbrev pub AllExclusive : Statement → Statement → Statement → Type 0
