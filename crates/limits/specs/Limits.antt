@@ -1,4 +1,4 @@
--- The widths and limits of 01, each named once for the definitions; src/lib.rt names them for the code.
+-- The widths and limits of 01 and 02, each named once for the definitions; src/lib.rt names them for the code.
 use Prim.Native.Nat.{ℕ}
 
 -- ---- 01, 'Commands': labels are 0 to 63, signals 0 to 31, exits 1 to 15
@@ -10,6 +10,10 @@ signalCount = 32
 
 abbrev pub maxExit : ℕ
 maxExit = 15
+
+-- the greatest command byte (02, item 1): row 3 begins above it
+abbrev pub lastCommand : ℕ
+lastCommand = 11
 
 -- the outermost command has depth 1
 abbrev pub maxDepth : ℕ

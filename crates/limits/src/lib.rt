@@ -1,4 +1,4 @@
-// The widths and limits of 01, each named once for the code; specs/Limits names them for the definitions.
+// The widths and limits of 01 and 02, each named once for the code; specs/Limits names them for the definitions.
 // Labels are 0 to 63, signals 0 to 31, exits 1 to 15.
 pub const LABELS: u8 = 64;
 
@@ -8,8 +8,8 @@ pub const SIGNALS: u8 = 32;
 
 pub const MAX_EXIT: u8 = 15;
 
-// The command with the greatest byte.
-pub const LAST_COMMAND: u8 = 10;
+// The greatest command byte: row 3 begins above it.
+pub const LAST_COMMAND: u8 = 11;
 
 // The outermost command has depth 1; at most so many signal commands stand around a command.
 pub const MAX_DEPTH: u8 = 64;

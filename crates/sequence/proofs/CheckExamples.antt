@@ -1,4 +1,5 @@
--- The check on the examples of 01 ('Turned down', rows 2 to 10; 'Just inside'; 'Just outside') and on the order of its checks.
+-- The check on the examples of 01 ('Turned down', rows 2 to 10; 'Just inside'; 'Just outside'), row 3 by 02, and on the order of
+-- its checks.
 use mathlib.Core.Path.{_≡_, refl}
 use mathlib.Core.List.{List, [], _∷_, _++_, map, flatten}
 use Prim.Native.Nat.{ℕ}
@@ -28,7 +29,7 @@ abbrev table : List (List ℕ × ℕ)
 table =
     -- the examples of the rows
     ([], 2)
-    ∷ (0x0B ∷ [], 3)
+    ∷ (0x0C ∷ [], 3)
     ∷ (0x02 ∷ [], 4)
     ∷ (0x02 ∷ 0x20 ∷ [], 5)
     ∷ (loops 64 (0x00 ∷ []), 6)
@@ -43,25 +44,32 @@ table =
     ∷ (0x03 ∷ 0x0F ∷ [], 0)
     ∷ (signals 6 (0x00 ∷ []), 0)
     ∷ (loops 63 (0x00 ∷ []), 0)
+    -- a suspend: its greatest operand, depth 64
+    ∷ (0x0B ∷ 0x1F ∷ 0x00 ∷ [], 0)
+    ∷ (loops 62 (0x0B ∷ 0x00 ∷ 0x00 ∷ []), 0)
     -- just outside
     ∷ (long 31 ++ (0x00 ∷ []), 2)
     ∷ (0x01 ∷ 0x40 ∷ [], 5)
     ∷ (0x03 ∷ 0x00 ∷ [], 5)
     ∷ (0x03 ∷ 0x10 ∷ [], 5)
+    ∷ (0x0B ∷ [], 4)
+    ∷ (0x0B ∷ 0x00 ∷ [], 4)
+    ∷ (0x0B ∷ 0x20 ∷ 0x00 ∷ [], 5)
+    ∷ (loops 63 (0x0B ∷ 0x00 ∷ 0x00 ∷ []), 6)
     -- a missing statement is found where it would begin, and nothing else is checked there
     ∷ (loops 64 [], 4)
     ∷ (loops 65 [], 6)
     -- 3 to 6 in that order at one command
-    ∷ (loops 64 (0x0B ∷ []), 3)
+    ∷ (loops 64 (0x0C ∷ []), 3)
     ∷ (loops 64 (0x01 ∷ []), 4)
     ∷ (loops 64 (0x01 ∷ 0x40 ∷ []), 5)
     ∷ (loops 64 (0x01 ∷ 0x00 ∷ []), 6)
     ∷ (signals 7 [], 6)
     ∷ (0x07 ∷ 0x20 ∷ [], 5)
     -- command by command from the left; what follows the statement is not read as commands; 2 before all
-    ∷ (0x04 ∷ 0x0B ∷ [], 3)
-    ∷ (0x00 ∷ 0x0B ∷ [], 7)
-    ∷ (replicate 1025 0x0B, 2)
+    ∷ (0x04 ∷ 0x0C ∷ [], 3)
+    ∷ (0x00 ∷ 0x0C ∷ [], 7)
+    ∷ (replicate 1025 0x0C, 2)
     ∷ []
 
 -- THE TABLE

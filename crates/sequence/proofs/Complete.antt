@@ -8,14 +8,14 @@ use native.Mathlib.Omega.{arith}
 use lib.ListN.{length, getD, drop, length-append}
 use lib.Seq.{drop-at}
 use borrow.Author.Tests.{lt-ltb, le-leb}
-use Rattle.esterel.specs.Statement.{Statement, nothing, pause, emit, exit, seq, par, loop, present, signal, try, setpause}
+use Rattle.esterel.specs.Statement.{Statement, nothing, pause, emit, exit, seq, par, loop, present, signal, try, setpause, suspend, held}
 use Rattle.limits.specs.Limits.{labelCount, signalCount, maxExit}
 use Rattle.sequence.specs.Commands.{Command, commandOf, operandsOf, partCount, inRange, width, declares}
 use Rattle.sequence.specs.Reader.{accepted, lastPart, firstPart, readParts, read}
 use Rattle.sequence.specs.Writer.{bytesOf, size, depthOf, Within, PlacedAt}
 use Rattle.sequence.proofs.Front.{Fronted, Fronts, front-is}
 use Rattle.sequence.proofs.Inversion.{enters}
-use Rattle.sequence.proofs.Shapes.{OnePart, TwoParts, loop-shape, try-shape, signal-shape, seq-shape, par-shape, present-shape}
+use Rattle.sequence.proofs.Shapes.{OnePart, TwoParts, loop-shape, try-shape, signal-shape, suspend-shape, seq-shape, par-shape, present-shape}
 
 depth-positive : (p : Statement) → 0 < depthOf p
 unfolding depthOf
@@ -30,6 +30,8 @@ depth-positive (present s p q) = omega arith
 depth-positive (signal a s p) = omega arith
 depth-positive (try p) = omega arith
 depth-positive (setpause l) = omega arith
+depth-positive (suspend s p) = omega arith
+depth-positive (held s K p) = omega arith
 
 -- a command that is there, with its operands in their ranges and its signals allowed
 starts : (d g a : ℕ) (bs : List ℕ) (c : Command) → commandOf (getD bs 0 0) ≡ some c → width c ≤ length bs → inRange c (operandsOf c bs) ≡ true
@@ -136,3 +138,10 @@ complete (suc d) g a (try p) w s t =
     ∙ one-complete d g a (9 ∷ []) t 0 try c p w
     (complete d (g - 0) (a + 1) p (one-within d g a (9 ∷ []) t 0 try c p w) s t)
 complete (suc d) g a (setpause l) w s t = starts d g a _ Command.setpause refl (omega arith) (lt-ltb l labelCount (w .ranged)) (omega arith)
+complete (suc d) g a (suspend x p) w s t =
+    let c = suspend-shape a x (w .ranged .0) in
+    let h : List ℕ = 11 ∷ x ∷ [] in
+    starts d g a _ Command.suspend refl (omega arith) (lt-ltb x signalCount (w .ranged .0)) (omega arith)
+    ∙ one-complete d g a h t 0 (suspend x) c p w
+    (complete d (g - 0) (a + 2) p (one-within d g a h t 0 (suspend x) c p w) s t)
+complete (suc d) g a (held x K p) w s t = absurd (w .ranged)

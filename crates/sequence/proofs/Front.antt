@@ -7,6 +7,7 @@ use Prim.Native.Nat.{ℕ, zero, suc, _+_, _≤_, _<_}
 use native.Mathlib.Decide.{decLt}
 use native.Mathlib.Omega.{arith}
 use lib.ListN.{length, getD, drop}
+use Rattle.limits.specs.Limits.{lastCommand}
 use Rattle.sequence.specs.Commands.{Command, commandOf, operandCount, bytesAt, operandsOf, inRange, width}
 use Rattle.sequence.specs.Reader.{Front, command, bad, after, firstBytes, withOperands, withCommand, front}
 use Rattle.sequence.proofs.Table.{above, unnamed, byteOf, byte-is}
@@ -20,7 +21,7 @@ pub record Fronted (bs : List ℕ) (c : Command) (xs : List ℕ) : Type 0 where
 
 pub data Fronts (bs : List ℕ) : Front → Type 0 where
   empty : length bs ≡ 0 → Fronts bs (bad 4)
-  unknown : 0 < length bs → 10 < getD bs 0 0 → Fronts bs (bad 3)
+  unknown : 0 < length bs → lastCommand < getD bs 0 0 → Fronts bs (bad 3)
   short : (c : Command) → 0 < length bs → commandOf (getD bs 0 0) ≡ some c → length bs < width c → Fronts bs (bad 4)
   outside : (c : Command) → commandOf (getD bs 0 0) ≡ some c → width c ≤ length bs → inRange c (operandsOf c bs) ≡ false → Fronts bs (bad 5)
   whole : (c : Command) (xs : List ℕ) → Fronted bs c xs → Fronts bs (command c xs)

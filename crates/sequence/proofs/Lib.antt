@@ -5,6 +5,7 @@ pub mod Shapes
 pub mod Sound
 pub mod Complete
 pub mod Writer
+pub mod Source
 pub mod CheckExamples
 pub mod Walk
 pub mod Refusals

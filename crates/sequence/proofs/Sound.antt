@@ -8,7 +8,7 @@ use lib.ListN.{length, getD, drop, length-append}
 use lib.Seq.{drop-at, drop-drop}
 use lib.Dec.{leb}
 use borrow.Author.Tests.{ltb-true, leb-true}
-use Rattle.esterel.specs.Statement.{Statement, nothing, pause, emit, exit, seq, par, loop, present, signal, try, setpause}
+use Rattle.esterel.specs.Statement.{Statement, nothing, pause, emit, exit, seq, par, loop, present, signal, try, setpause, suspend}
 use Rattle.limits.specs.Limits.{labelCount, signalCount, maxExit}
 use Rattle.sequence.specs.Commands.{Command, partCount, operandsOf, inRange, width, declares, build}
 use Rattle.sequence.specs.Reader.{accepted, read, nesting}
@@ -16,7 +16,7 @@ use Rattle.sequence.specs.Writer.{bytesOf, depthOf, Ranged, PlacedAt, Wr
 use Rattle.sequence.proofs.Table.{byteOf, leaves, ones, twos}
 use Rattle.sequence.proofs.Front.{Fronted, own-bytes}
 use Rattle.sequence.proofs.Inversion.{Meets, met, no-level}
-use Rattle.sequence.proofs.Shapes.{OnePart, TwoParts, loop-shape, try-shape, signal-shape, seq-shape, par-shape, present-shape}
+use Rattle.sequence.proofs.Shapes.{OnePart, TwoParts, loop-shape, try-shape, signal-shape, suspend-shape, seq-shape, par-shape, present-shape}
 
 -- ---- a command whose own bytes h stand at the front, by its parts
 module _ (d g a : ℕ) (h bs : List ℕ) (are : bs ≡ h ++ drop (length h) bs) where
@@ -109,6 +109,7 @@ module _ (d g a : ℕ) (bs : List ℕ) where
       (λ s l. one-sound d g a (6 ∷ []) bs (s .1) 0 (loop a) (loop-shape a) l)
       (λ s l. one-sound d g a (8 ∷ x ∷ []) bs (s .1) 1 (signal a x) (signal-shape a x (ltb-true x signalCount (s .0))) l)
       (λ s l. one-sound d g a (9 ∷ []) bs (s .1) 0 try (try-shape a) l)
+      (λ s l. one-sound d g a (11 ∷ x ∷ []) bs (s .1) 0 (suspend x) (suspend-shape a x (ltb-true x signalCount (s .0))) l)
 
   sound-two : (c : Command) → partCount c ≡ 2 → TwoSound c
   sound-two =

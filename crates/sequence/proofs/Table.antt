@@ -7,6 +7,7 @@ use Prim.Native.Nat.{ℕ, zero, suc, _+_, _-_, _≤_, _<_}
 use lib.ListN.{List·getD-eq-default}
 use native.Mathlib.Decide.{decLt}
 use native.Mathlib.Omega.{arith}
+use Rattle.limits.specs.Limits.{lastCommand}
 use Rattle.sequence.specs.Commands.{Command, table, commandOf, operandCount, partCount, inRange, declares}
 
 -- P holds of the n numbers from k on
@@ -22,16 +23,16 @@ between P k (suc n) a b l h = go (λ p. between P (suc k) n (a .1) b p (omega ar
     go f (yes p) = f p
     go f (no z) = let e : k ≡ b = omega (arith, z) in rw e at (a .0)
 
-pub above : (b : ℕ) → 10 < b → commandOf b ≡ none
+pub above : (b : ℕ) → lastCommand < b → commandOf b ≡ none
 unfolding commandOf
 above b h = List·getD-eq-default table none {n = b} (omega arith)
 
 -- ---- the command of a byte
--- a byte up to 0A names a command
-pub named : (b : ℕ) → b ≤ 10 → (c : Command) × (commandOf b ≡ some c)
+-- a byte up to the last names a command
+pub named : (b : ℕ) → b ≤ lastCommand → (c : Command) × (commandOf b ≡ some c)
 unfolding commandOf
 named b l =
-    between (λ (b : ℕ). (c : Command) × (commandOf b ≡ some c)) 0 11 (
+    between (λ (b : ℕ). (c : Command) × (commandOf b ≡ some c)) 0 12 (
       (Command.nothing, refl),
       (
         (Command.pause, refl),
@@ -43,7 +44,7 @@ named b l =
               (Command.seq, refl),
               (
                 (Command.par, refl),
-                ((Command.loop, refl), ((Command.present, refl), ((Command.signal, refl), ((Command.try, refl), ((Command.setpause, refl), tt))))),
+                ((Command.loop, refl), ((Command.present, refl), ((Command.signal, refl), ((Command.try, refl), ((Command.setpause, refl), ((Command.suspend, refl), tt)))))),
               ),
             ),
           ),
@@ -52,10 +53,10 @@ named b l =
     )
     b (omega arith) (omega arith)
 
-pub unnamed : (b : ℕ) → commandOf b ≡ none → 10 < b
-unnamed b e = go (decLt 10 b)
+pub unnamed : (b : ℕ) → commandOf b ≡ none → lastCommand < b
+unnamed b e = go (decLt lastCommand b)
   where
-    go : Dec (10 < b) → 10 < b
+    go : Dec (lastCommand < b) → lastCommand < b
     go (yes p) = p
     go (no z) = absurd (let x : _≡_ {A = ℕ} 0 1 = cc (named b (omega (arith, z)) .1) in omega arith)
 
@@ -71,6 +72,7 @@ byteOf Command.present = 7
 byteOf Command.signal = 8
 byteOf Command.try = 9
 byteOf Command.setpause = 10
+byteOf Command.suspend = 11
 
 pub command-of-byte : (c : Command) → commandOf (byteOf c) ≡ some c
 unfolding commandOf
@@ -85,15 +87,16 @@ command-of-byte Command.present = refl
 command-of-byte Command.signal = refl
 command-of-byte Command.try = refl
 command-of-byte Command.setpause = refl
+command-of-byte Command.suspend = refl
 
 -- f at the command that a byte names
 pub valued : (f : Command → ℕ) {k : Command} (c : Command) → some k ≡ some c → f k ≡ f c
 valued f {k} c e = let q : k ≡ c = cc in ap f q
 
-pub last-byte : (b : ℕ) (c : Command) → commandOf b ≡ some c → b ≤ 10
-last-byte b c e = go (decLt 10 b)
+pub last-byte : (b : ℕ) (c : Command) → commandOf b ≡ some c → b ≤ lastCommand
+last-byte b c e = go (decLt lastCommand b)
   where
-    go : Dec (10 < b) → b ≤ 10
+    go : Dec (lastCommand < b) → b ≤ lastCommand
     go (yes p) = absurd (let z : _≡_ {A = ℕ} 0 1 = cc (above b p) in omega arith)
     go (no n) = omega (arith, n)
 
@@ -105,8 +108,8 @@ by-bytes P k n a b c e l h = between (λ (b : ℕ). (c : Command) → commandOf 
 pub byte-is : (b : ℕ) (c : Command) → commandOf b ≡ some c → b ≡ byteOf c
 unfolding commandOf
 byte-is b c e =
-    by-bytes (λ (b : ℕ) (c : Command). b ≡ byteOf c) 0 11
-    (is, (is, (is, (is, (is, (is, (is, (is, (is, (is, (is, tt)))))))))))
+    by-bytes (λ (b : ℕ) (c : Command). b ≡ byteOf c) 0 12
+    (is, (is, (is, (is, (is, (is, (is, (is, (is, (is, (is, (is, tt))))))))))))
     b c e (omega arith) (omega (arith, last-byte b c e))
   where
     is : {k : Command} (c : Command) → some k ≡ some c → byteOf k ≡ byteOf c
@@ -130,19 +133,21 @@ module _ (P : Command → Type 0) where
   leaves n p e x s Command.signal z = absurd (omega arith)
   leaves n p e x s Command.try z = absurd (omega arith)
   leaves n p e x s Command.setpause z = s
+  leaves n p e x s Command.suspend z = absurd (omega arith)
 
-  pub ones : P Command.loop → P Command.signal → P Command.try → (c : Command) → partCount c ≡ 1 → P c
-  ones l s t Command.nothing z = absurd (omega arith)
-  ones l s t Command.pause z = absurd (omega arith)
-  ones l s t Command.emit z = absurd (omega arith)
-  ones l s t Command.exit z = absurd (omega arith)
-  ones l s t Command.seq z = absurd (omega arith)
-  ones l s t Command.par z = absurd (omega arith)
-  ones l s t Command.loop z = l
-  ones l s t Command.present z = absurd (omega arith)
-  ones l s t Command.signal z = s
-  ones l s t Command.try z = t
-  ones l s t Command.setpause z = absurd (omega arith)
+  pub ones : P Command.loop → P Command.signal → P Command.try → P Command.suspend → (c : Command) → partCount c ≡ 1 → P c
+  ones l s t f Command.nothing z = absurd (omega arith)
+  ones l s t f Command.pause z = absurd (omega arith)
+  ones l s t f Command.emit z = absurd (omega arith)
+  ones l s t f Command.exit z = absurd (omega arith)
+  ones l s t f Command.seq z = absurd (omega arith)
+  ones l s t f Command.par z = absurd (omega arith)
+  ones l s t f Command.loop z = l
+  ones l s t f Command.present z = absurd (omega arith)
+  ones l s t f Command.signal z = s
+  ones l s t f Command.try z = t
+  ones l s t f Command.setpause z = absurd (omega arith)
+  ones l s t f Command.suspend z = f
 
   pub twos : P Command.seq → P Command.par → P Command.present → (c : Command) → partCount c ≡ 2 → P c
   twos s p t Command.nothing z = absurd (omega arith)
@@ -156,6 +161,7 @@ module _ (P : Command → Type 0) where
   twos s p t Command.signal z = absurd (omega arith)
   twos s p t Command.try z = absurd (omega arith)
   twos s p t Command.setpause z = absurd (omega arith)
+  twos s p t Command.suspend z = absurd (omega arith)
 
 -- ---- the counts of operand bytes and parts
 counts : (c : Command) → (operandCount c ≤ 1) × (partCount c ≤ 2)
@@ -170,6 +176,7 @@ counts Command.present = omega arith
 counts Command.signal = omega arith
 counts Command.try = omega arith
 counts Command.setpause = omega arith
+counts Command.suspend = omega arith
 
 pub at-most-one : (c : Command) → operandCount c ≤ 1
 at-most-one c = counts c .0
@@ -190,6 +197,7 @@ free Command.present xs e = absurd (omega arith)
 free Command.signal xs e = absurd (omega arith)
 free Command.try xs e = refl
 free Command.setpause xs e = absurd (omega arith)
+free Command.suspend xs e = absurd (omega arith)
 
 -- a signal alone declares one
 pub undeclared : (c : Command) → (byteOf c ≡ 8 → ⊥) → declares c ≡ 0
@@ -204,3 +212,4 @@ undeclared Command.present n = refl
 undeclared Command.signal n = absurd (n refl)
 undeclared Command.try n = refl
 undeclared Command.setpause n = refl
+undeclared Command.suspend n = refl

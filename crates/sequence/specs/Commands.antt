@@ -1,4 +1,4 @@
--- The table of commands (01, 'Commands'): the command of a byte, its operands and its parts.
+-- The table of commands (01, 'Commands'; 02, item 1): the command of a byte, its operands and its parts.
 use Prim.Native.Nat.{ℕ, zero, suc, _+_}
 use mathlib.Core.Bool.{Bool, true, _&&_}
 use mathlib.Core.Option.{Option, none, some}
@@ -9,9 +9,9 @@ use Rattle.esterel.specs.Statement.{Statement}
 use Rattle.limits.specs.Limits.{labelCount, signalCount, maxExit}
 
 pub data Command : Type 0 where
-  nothing pause emit exit seq par loop present signal try setpause : Command
+  nothing pause emit exit seq par loop present signal try setpause suspend : Command
 
--- the commands of the bytes 00 to 0A, in the order of the table
+-- the commands of the bytes 00 to 0A, in the order of 01's table, and 02's 0B
 abbrev pub table : List (Option Command)
 table =
     some Command.nothing
@@ -25,6 +25,7 @@ table =
     ∷ some Command.signal
     ∷ some Command.try
     ∷ some Command.setpause
+    ∷ some Command.suspend
     ∷ []
 
 -- no command above
@@ -44,6 +45,7 @@ operandCount present = 1
 operandCount signal = 1
 operandCount try = 0
 operandCount setpause = 1
+operandCount suspend = 1
 
 abbrev pub partCount : Command → ℕ
 partCount nothing = 0
@@ -57,6 +59,7 @@ partCount present = 2
 partCount signal = 1
 partCount try = 1
 partCount setpause = 0
+partCount suspend = 1
 
 -- the n bytes at offset i
 abbrev pub bytesAt : (i n : ℕ) → List ℕ → List ℕ
@@ -84,6 +87,7 @@ inRange present xs = ltb (firstOperand xs) signalCount
 inRange signal xs = ltb (firstOperand xs) signalCount
 inRange try xs = true
 inRange setpause xs = ltb (firstOperand xs) labelCount
+inRange suspend xs = ltb (firstOperand xs) signalCount
 
 -- the command byte and its operand bytes
 abbrev pub width : Command → ℕ
@@ -102,6 +106,7 @@ declares present = 0
 declares signal = 1
 declares try = 0
 declares setpause = 0
+declares suspend = 0
 
 -- the statement of a command at offset a with operand bytes xs and parts p and q; what it does not have is left out
 abbrev pub build : Command → (a : ℕ) (xs : List ℕ) (p q : Statement) → Statement
@@ -116,3 +121,4 @@ build present a xs p q = Statement.present (firstOperand xs) p q
 build signal a xs p q = Statement.signal a (firstOperand xs) p
 build try a xs p q = Statement.try p
 build setpause a xs p q = Statement.setpause (firstOperand xs)
+build suspend a xs p q = Statement.suspend (firstOperand xs) p

@@ -91,3 +91,5 @@ nesting (Statement.present s p q) = max (nesting p) (nesting q)
 nesting (Statement.signal a s p) = 1 + nesting p
 nesting (Statement.try p) = nesting p
 nesting (Statement.setpause l) = 0
+nesting (Statement.suspend s p) = nesting p
+nesting (Statement.held s K p) = 0

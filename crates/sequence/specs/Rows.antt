@@ -9,7 +9,7 @@ use lib.ListN.{length, drop, replicate}
 use lib.Dec.{leb, ltb}
 use Rattle.esterel.specs.Statement.{Statement}
 use Rattle.esterel.specs.States.{Distinct, Targeted, WellFormed}
-use Rattle.limits.specs.Limits.{maxBytes, maxDepth, maxSignals}
+use Rattle.limits.specs.Limits.{lastCommand, maxBytes, maxDepth, maxSignals}
 use Rattle.sequence.specs.Commands.{Command, commandOf, operandCount, operandsOf, partCount, inRange, width, declares}
 use Rattle.sequence.specs.Reader.{Front, command, bad, front}
 use Rattle.sequence.specs.Writer.{bytesOf, Within, PlacedAt}
@@ -24,8 +24,8 @@ pub data Position : Type 0 where
 
 -- ---- rows 3 to 6 at one command: what is wrong where a statement is awaited and these bytes are left
 pub data Fault : List ℕ → Slot → (number : ℕ) → Type 0 where
-  -- command byte above 0A
-  unknown : {s : Slot} {b : ℕ} {bs : List ℕ} → 10 < b → Fault (b ∷ bs) s 3
+  -- command byte above 0B
+  unknown : {s : Slot} {b : ℕ} {bs : List ℕ} → lastCommand < b → Fault (b ∷ bs) s 3
   -- operand or statement missing at the end
   no-statement : {s : Slot} → Fault [] s 4
   no-operand : {s : Slot} {b : ℕ} {bs : List ℕ} {c : Command} → commandOf b ≡ some c → length bs < operandCount c → Fault (b ∷ bs) s 4

@@ -3,10 +3,11 @@ use Prim.Native.Nat.{ℕ, _+_, _≤_, _<_, max}
 use mathlib.Core.Path.{_≡_}
 use mathlib.Core.List.{List, [], _∷_, _++_}
 use lib.ListN.{length}
-use Rattle.esterel.specs.Statement.{Statement, nothing, pause, emit, exit, seq, par, loop, present, signal, try, setpause}
+use Rattle.esterel.specs.Statement.{Statement, nothing, pause, emit, exit, seq, par, loop, present, signal, try, setpause, suspend, held}
 use Rattle.limits.specs.Limits.{labelCount, signalCount, maxExit}
 use Rattle.sequence.specs.Reader.{nesting}
 
+-- no bytes spell a held suspend (02)
 unfoldable pub bytesOf : Statement → List ℕ
 bytesOf nothing = 0 ∷ []
 bytesOf (pause l) = 1 ∷ l ∷ []
@@ -19,6 +20,8 @@ bytesOf (present s p q) = 7 ∷ s ∷ bytesOf p ++ bytesOf q
 bytesOf (signal a s p) = 8 ∷ s ∷ bytesOf p
 bytesOf (try p) = 9 ∷ bytesOf p
 bytesOf (setpause l) = 10 ∷ l ∷ []
+bytesOf (suspend s p) = 11 ∷ s ∷ bytesOf p
+bytesOf (held s K p) = []
 
 -- the bytes of a statement, counted
 abbrev pub size : Statement → ℕ
@@ -37,8 +40,10 @@ depthOf (present s p q) = 1 + max (depthOf p) (depthOf q)
 depthOf (signal a s p) = 1 + depthOf p
 depthOf (try p) = 1 + depthOf p
 depthOf (setpause l) = 1
+depthOf (suspend s p) = 1 + depthOf p
+depthOf (held s K p) = 1
 
--- signals are 0 to 31, labels 0 to 63, exits 1 to 15
+-- signals are 0 to 31, labels 0 to 63, exits 1 to 15; no held suspend
 abbrev pub Ranged : Statement → Type 0
 Ranged nothing = Unit {0}
 Ranged (pause l) = l < labelCount
@@ -51,6 +56,8 @@ Ranged (present s p q) = (s < signalCount) × Ranged p × Ranged q
 Ranged (signal a s p) = (s < signalCount) × Ranged p
 Ranged (try p) = Ranged p
 Ranged (setpause l) = l < labelCount
+Ranged (suspend s p) = (s < signalCount) × Ranged p
+Ranged (held s K p) = ⊥
 
 pub record Within (depth signals : ℕ) (p : Statement) : Type 0 where
   pub deep : depthOf p ≤ depth
@@ -70,6 +77,8 @@ PlacedAt a (present s p q) = PlacedAt (a + 2) p × PlacedAt (a + (2 + size p)) q
 PlacedAt a (signal b s p) = (b ≡ a) × PlacedAt (a + 2) p
 PlacedAt a (try p) = PlacedAt (a + 1) p
 PlacedAt a (setpause l) = Unit {0}
+PlacedAt a (suspend s p) = PlacedAt (a + 2) p
+PlacedAt a (held s K p) = Unit {0}
 
 -- the bytes begin with p, of n bytes, as the writer writes it at offset a within the limits
 pub record Written (depth signals a : ℕ) (bs : List ℕ) (p : Statement) (n : ℕ) : Type 0 where

@@ -1,0 +1,27 @@
+-- No bytes spell a held suspend.
+use Prim.Native.Nat.{ℕ}
+use mathlib.Core.List.{List}
+use Rattle.esterel.specs.Statement.{Statement, held}
+use Rattle.esterel.specs.Places.{Part, PartOf, seq₁, seq₂, par₁, par₂, loop₁, present₁, present₂, signal₁, try₁, suspend₁, Place, At}
+use Rattle.esterel.specs.States.{Source}
+use Rattle.sequence.specs.Writer.{Ranged}
+use Rattle.sequence.specs.Rows.{Spells}
+
+ranged-part : {d : Part} {p w : Statement} → PartOf d p w → Ranged w → Ranged p
+ranged-part seq₁ r = r .0
+ranged-part seq₂ r = r .1
+ranged-part par₁ r = r .0
+ranged-part par₂ r = r .1
+ranged-part loop₁ r = r
+ranged-part present₁ r = r .1
+ranged-part present₂ r = r .2
+ranged-part signal₁ r = r .1
+ranged-part try₁ r = r
+ranged-part suspend₁ r = r .1
+
+none-held : {s K : ℕ} {q p : Statement} {a : Place} → At (held s K q) a p → Ranged p → ⊥
+none-held At.here r = r
+none-held (At.inside i u) r = none-held u (ranged-part i r)
+
+pub spells-source : (bs : List ℕ) (p : Statement) → Spells bs p → Source p
+spells-source bs p w s K q h = none-held (h .1) (w .1 .ranged)
