@@ -60,5 +60,5 @@ pub fn parts(b: u8) -> usize
     if b == 7 {
         return 2;
     }
-    if b < 10 { 1 } else { 0 }
+    if b == 10 { 0 } else { 1 }
 }

@@ -10,7 +10,7 @@ use lib.ListN.{length, drop, getD, length-drop}
 use Rattle.esterel.specs.Statement.{Statement, nothing}
 use Rattle.esterel.specs.Ranks.{middle}
 use Rattle.sequence.specs.Commands.{Command, commandOf, partCount, inRange, width, declares, build}
-use Rattle.limits.specs.Limits.{maxBytes}
+use Rattle.limits.specs.Limits.{lastCommand, maxBytes}
 use Rattle.sequence.specs.Reader.{accepted, read}
 use Rattle.sequence.specs.Writer.{size}
 use Rattle.layout.specs.Layout.{rest, secondAt, Marked, Two, Parts, Begins, Form, AtFront, Lies, Ready, Pair}
@@ -129,11 +129,11 @@ beyond : (b n : ℕ) → Beyond b n → n ≤ b
 beyond b zero h = omega arith
 beyond b (suc n) h = let l : n ≤ b = beyond b n (h .0) in let z : b ≡ n → ⊥ = h .1 in omega arith
 
-byte-small : (c : Command) → byteOf c ≤ 10
+byte-small : (c : Command) → byteOf c ≤ lastCommand
 byte-small c = last-byte (byteOf c) c (command-of-byte c)
 
-pub last : {t : List ℕ} {d a : ℕ} {bs : List ℕ} → Ready t d a bs → Beyond (getD bs 0 0) 10 → getD bs 0 0 ≡ 10
-last {bs = bs} r h = let c = command r in omega (arith, beyond (getD bs 0 0) 10 h, c .1, byte-small (c .0))
+pub last : {t : List ℕ} {d a : ℕ} {bs : List ℕ} → Ready t d a bs → Beyond (getD bs 0 0) lastCommand → getD bs 0 0 ≡ lastCommand
+last {bs = bs} r h = let c = command r in omega (arith, beyond (getD bs 0 0) lastCommand h, c .1, byte-small (c .0))
 
 -- ---- the two parts of a command of w bytes
 module _ {t : List ℕ} {d a w : ℕ} {bs : List ℕ} (r : Pair t d a w bs) where

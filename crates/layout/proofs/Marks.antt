@@ -6,7 +6,7 @@ use mathlib.Core.List.{List}
 use native.Mathlib.Omega.{arith}
 use lib.ListN.{getD, length, set, length-append, length-set}
 use lib.Seq.{getD-set-same, getD-set-other}
-use Rattle.esterel.specs.Statement.{Statement, nothing, pause, emit, exit, seq, par, loop, present, signal, try, setpause}
+use Rattle.esterel.specs.Statement.{Statement, nothing, pause, emit, exit, seq, par, loop, present, signal, try, setpause, suspend, held}
 use Rattle.esterel.specs.Ranks.{middle}
 use Rattle.sequence.specs.Commands.{Command, partCount, width, build}
 use Rattle.sequence.specs.Writer.{bytesOf, size}
@@ -47,6 +47,8 @@ local t u base a (present s p q) h m =
 local t u base a (signal b s p) h m = local t u base (a + 2) p (λ i b e. h i (omega arith) (omega arith)) m
 local t u base a (try p) h m = local t u base (a + 1) p (λ i b e. h i (omega arith) (omega arith)) m
 local t u base a (setpause l) h m = tt
+local t u base a (suspend s p) h m = local t u base (a + 2) p (λ i b e. h i (omega arith) (omega arith)) m
+local t u base a (held s K p) h m = tt
 
 -- ---- the command c at offset a, by its parts
 module _ (t : List ℕ) (base a : ℕ) (xs : List ℕ) where
@@ -56,7 +58,7 @@ module _ (t : List ℕ) (base a : ℕ) (xs : List ℕ) where
   pub marked-one : (c : Command) → partCount c ≡ 1 → (p : Statement) → Marked t base (a + width c) p ↔ Marked t base a (build c a xs p nothing)
   marked-one =
       ones (λ (c : Command). (p : Statement) → Marked t base (a + width c) p ↔ Marked t base a (build c a xs p nothing))
-      (λ p. (λ m. m, λ m. m)) (λ p. (λ m. m, λ m. m)) (λ p. (λ m. m, λ m. m))
+      (λ p. (λ m. m, λ m. m)) (λ p. (λ m. m, λ m. m)) (λ p. (λ m. m, λ m. m)) (λ p. (λ m. m, λ m. m))
 
   -- the entry of the command, and those of its parts
   abbrev pub Marks : Command → (p q : Statement) → Type 0

@@ -10,7 +10,7 @@ use lib.Seq.{getD-set-same, getD-set-other}
 use lib.Bits.{bitAnd}
 use borrow.Author.Tests.{eqb-true, eqb-false}
 use Rattle.esterel.specs.Sets.{member, none, only, join, empty}
-use Rattle.esterel.specs.Statement.{Statement, nothing, pause, emit, exit, seq, par, loop, present, signal, try, setpause}
+use Rattle.esterel.specs.Statement.{Statement, nothing, pause, emit, exit, seq, par, loop, present, signal, try, setpause, suspend, held}
 use Rattle.esterel.specs.LabelTests.{disjoint, labelsOf, pauses, setpauses, distinct}
 use Rattle.esterel.specs.Ranks.{pauseCount, rank}
 use Rattle.esterel.proofs.Booleans.{never, clash, Tested, tested}
@@ -183,6 +183,8 @@ noting (present s p q) m h r = let a = noting p m h (r .1) in two-adds a (noting
 noting (signal a s p) m h r = noting p m h (r .1)
 noting (try p) m h r = noting p m h r
 noting (setpause l) m h r = setpause-adds l m r h
+noting (suspend s p) m h r = noting p m h (r .1)
+noting (held s K p) m h r = absurd r
 
 -- from nothing noted, the notes of p
 pub noted : (p : Statement) → Ranged p → Noted p (note p noNotes)
@@ -210,3 +212,5 @@ count-size (present s p q) = let a = count-size p in let b = count-size q in ome
 count-size (signal a s p) = let b = count-size p in omega arith
 count-size (try p) = let b = count-size p in omega arith
 count-size (setpause l) = omega arith
+count-size (suspend s p) = let b = count-size p in omega arith
+count-size (held s K p) = omega arith

@@ -66,7 +66,7 @@ heading s w e l = go (front s) refl e
 module _ (a : ℕ) (xs m : List ℕ) where
   note-one : (c : Command) → partCount c ≡ 1 → (p : Statement) → note (build c a xs p nothing) m ≡ note p m
   unfolding note
-  note-one = ones (λ (c : Command). (p : Statement) → note (build c a xs p nothing) m ≡ note p m) (λ p. refl) (λ p. refl) (λ p. refl)
+  note-one = ones (λ (c : Command). (p : Statement) → note (build c a xs p nothing) m ≡ note p m) (λ p. refl) (λ p. refl) (λ p. refl) (λ p. refl)
 
   note-two : (c : Command) → partCount c ≡ 2 → (p q : Statement) → note (build c a xs p q) m ≡ note q (note p m)
   unfolding note

@@ -6,7 +6,7 @@ use mathlib.Core.Bool.{true}
 use mathlib.Core.Option.{Option, none, some}
 use mathlib.Core.List.{List}
 use lib.ListN.{getD, length, take, drop}
-use Rattle.esterel.specs.Statement.{Statement, nothing, pause, emit, exit, seq, par, loop, present, signal, try, setpause}
+use Rattle.esterel.specs.Statement.{Statement, nothing, pause, emit, exit, seq, par, loop, present, signal, try, setpause, suspend, held}
 use Rattle.esterel.specs.Ranks.{middle}
 use Rattle.limits.specs.Limits.{maxBytes}
 use Rattle.sequence.specs.Commands.{Command, commandOf, operandsOf, partCount, inRange, width, build}
@@ -43,6 +43,8 @@ Marked t base a (present s p q) =
 Marked t base a (signal b s p) = Marked t base (a + 2) p
 Marked t base a (try p) = Marked t base (a + 1) p
 Marked t base a (setpause l) = Unit {0}
+Marked t base a (suspend s p) = Marked t base (a + 2) p
+Marked t base a (held s K p) = Unit {0}
 
 -- ---- a statement in the bytes
 -- L says of a number of pauses before, an offset, bytes and a statement that it lies there.

@@ -7,7 +7,7 @@ use mathlib.Core.List.{List}
 use lib.ListN.{getD, set, replicate}
 use lib.Bits.{bitAnd}
 use Rattle.esterel.specs.Sets.{member, only, join, empty}
-use Rattle.esterel.specs.Statement.{Statement, nothing, pause, emit, exit, seq, par, loop, present, signal, try, setpause}
+use Rattle.esterel.specs.Statement.{Statement, nothing, pause, emit, exit, seq, par, loop, present, signal, try, setpause, suspend, held}
 use Rattle.esterel.specs.LabelTests.{pauses, setpauses, distinct}
 use Rattle.esterel.specs.Ranks.{rank}
 use Rattle.limits.specs.Limits.{labelCount}
@@ -57,6 +57,8 @@ note (present s p q) notes = note q (note p notes)
 note (signal a s p) notes = note p notes
 note (try p) notes = note p notes
 note (setpause l) notes = noteSetpause l notes
+note (suspend s p) notes = note p notes
+note (held s K p) notes = notes
 
 -- the notes are those of p
 pub record Noted (p : Statement) (notes : List ℕ) : Type 0 where

@@ -24,6 +24,7 @@ signals x Command.present o n3 n1 n10 = refl
 signals x Command.signal o n3 n1 n10 = refl
 signals x Command.try o n3 n1 n10 = absurd (omega arith)
 signals x Command.setpause o n3 n1 n10 = absurd (n10 refl)
+signals x Command.suspend o n3 n1 n10 = refl
 
 returns : tie.Need-returns
 returns c d e o = rw (command-at _ d Command.exit e (c .before .if1 .taken), c .if2 .taken)

@@ -27,13 +27,16 @@ returns-3 c d e = by-bytes (Parts 2) 7 1 (is, tt) (c .before .before .before .ar
 
 returns-4 : tie.Need-returns-4
 unfolding commandOf
-returns-4 c d e =
-    by-bytes (λ (b : ℕ) (c : Command). (b ≡ 7 → ⊥) → 1 ≡ partCount c) 6 4
-    ((λ c e n. is c e), ((λ c e n. absurd (n refl)), ((λ c e n. is c e), ((λ c e n. is c e), tt)))) (c .before .before .before .before .args .b) d e (omega arith) (omega arith) (c .before .if3 .left)
+returns-4 c d e = by-bytes (Parts 0) 10 1 (is, tt) (c .before .before .before .before .args .b) d e (omega arith) (omega arith)
 
 returns-5 : tie.Need-returns-5
 unfolding commandOf
-returns-5 c d e = by-bytes (Parts 0) 10 1 (is, tt) (c .before .before .before .before .args .b) d e (omega arith) (omega (arith, last-byte (c .before .before .before .before .args .b) d e))
+returns-5 c d e =
+    by-bytes (λ (b : ℕ) (c : Command). (b ≡ 7 → ⊥) → (b ≡ 10 → ⊥) → 1 ≡ partCount c) 6 6
+    (one, ((λ c e n m. absurd (n refl)), (one, (one, ((λ c e n m. absurd (m refl)), (one, tt)))))) (c .before .before .before .before .args .b) d e (omega arith) (omega (arith, last-byte (c .before .before .before .before .args .b) d e)) (c .before .if3 .left) (c .if4 .left)
+  where
+    one : {A B : Type 0} {k : Command} (c : Command) → some k ≡ some c → A → B → partCount k ≡ partCount c
+    one c e n m = is c e
 
 pub parts-spec : {M : Type 1} → statement M
 parts-spec = tie.close (tie.spec returns returns-2 returns-3 returns-4 returns-5)

@@ -32,8 +32,8 @@ returns-4 c d e = by-bytes (Wide 1) 9 1 (is, tt) (c .before .before .before .bef
 returns-5 : tie.Need-returns-5
 unfolding commandOf
 returns-5 c d e =
-    by-bytes (λ (b : ℕ) (c : Command). (b ≡ 9 → ⊥) → 2 ≡ width c) 7 4
-    ((λ c e n. is c e), ((λ c e n. is c e), ((λ c e n. absurd (n refl)), ((λ c e n. is c e), tt)))) (c .before .before .before .before .args .b) d e (omega arith) (omega (arith, last-byte (c .before .before .before .before .args .b) d e)) (c .if4 .left)
+    by-bytes (λ (b : ℕ) (c : Command). (b ≡ 9 → ⊥) → 2 ≡ width c) 7 5
+    ((λ c e n. is c e), ((λ c e n. is c e), ((λ c e n. absurd (n refl)), ((λ c e n. is c e), ((λ c e n. is c e), tt))))) (c .before .before .before .before .args .b) d e (omega arith) (omega (arith, last-byte (c .before .before .before .before .args .b) d e)) (c .if4 .left)
 
 pub width-spec : {M : Type 1} → statement M
 width-spec = tie.close (tie.spec returns returns-2 returns-3 returns-4 returns-5)
