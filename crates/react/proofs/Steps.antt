@@ -6,14 +6,15 @@ use mathlib.Core.Option.{Option}
 use borrow.Author.Tests.{lt-ltb}
 use Rattle.sets.specs.Sets.{signalCount, labelCount, onlyBelow, insertBelow}
 use Rattle.esterel.specs.Sets.{member, none, insert, remove}
-use Rattle.esterel.specs.Statement.{Statement, nothing, pause, emit, exit, seq, par, loop, present, signal, try, setpause}
+use Rattle.esterel.specs.Statement.{Statement, nothing, pause, emit, exit, seq, par, loop, present, signal, try, setpause, suspend}
 use Rattle.esterel.specs.Reaction.{ended, waiting, leaving, gives, react}
 use Rattle.esterel.specs.Errors.{errors}
 use Rattle.esterel.specs.Resume as Esterel
 use Rattle.esterel.specs.Resume.{instant, start, seqInstant, parInstant, loopInstant, tryInstant, signalInstant}
-use Rattle.esterel.proofs.Resume.{start-seq, start-par, start-loop, start-present, start-signal, start-try}
+use Rattle.esterel.proofs.Resume.{start-seq, start-par, start-loop, start-present, start-signal, start-try, start-suspend}
 use Rattle.rules.specs.declared.instant.Instant.{Instant}
 use Rattle.rules.specs.Instants.{instantOf}
+use Rattle.rules.proofs.Combining.{suspend-instant}
 
 -- ---- commands without parts, once they are known
 module _ (p : Statement) (e : ℕ) (r : Instant) where
@@ -51,6 +52,9 @@ module _ (e : ℕ) {p r : Instant} where
   pub try-step : (t : Statement) → p ≡ instantOf (start t e)
       → ((i : Esterel.Instant) → p ≡ instantOf i → r ≡ instantOf (tryInstant i)) → r ≡ instantOf (start (try t) e)
   try-step t h k = k (start t e) h ∙ ap instantOf (sym (start-try t e))
+
+  pub suspend-step : (s : ℕ) (t : Statement) → p ≡ instantOf (start t e) → p ≡ instantOf (start (suspend s t) e)
+  suspend-step s t h = h ∙ suspend-instant s (start t e) ∙ ap instantOf (sym (start-suspend s t e))
 
   pub signal-step : (a x : ℕ) (t : Statement) {q : Instant} {e− e+ : ℕ} → x < signalCount
       → e− ≡ remove x e → p ≡ instantOf (start t e−) → e+ ≡ insertBelow signalCount x e → q ≡ instantOf (start t e+)

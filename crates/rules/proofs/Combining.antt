@@ -14,7 +14,7 @@ use Rattle.esterel.specs.Statement.{Statement, nothing, try}
 use Rattle.esterel.specs.Reaction.{Code, ended, waiting, leaving, wrong, isWrong, greater, gives, failed, ifWaiting, emitted, code, Reaction, Case, both, neither, only−, only+, inherited, firstFit, answer}
 use Rattle.esterel.specs.Errors.{Error, instantaneous, signalErrors}
 use Rattle.esterel.specs.Resume as Esterel
-use Rattle.esterel.specs.Resume.{instant, earlier, seqInstant, parInstant, loopInstant, tryInstant, signalInstant}
+use Rattle.esterel.specs.Resume.{instant, earlier, seqInstant, parInstant, loopInstant, tryInstant, suspendInstant, signalInstant}
 use Rattle.rules.specs.declared.instant.Completion.{Completion}
 use Rattle.rules.specs.declared.instant.FirstError.{FirstError}
 use Rattle.rules.specs.declared.instant.Instant.{Instant}
@@ -46,6 +46,10 @@ unmoved wrong x y h = absurd (true≢false h)
 pub earlier-none : (x : Option Error) → earlier x Option.none ≡ x
 earlier-none Option.none = refl
 earlier-none (some x) = refl
+
+-- a suspend changes only what remains
+pub suspend-instant : (s : ℕ) (i : Esterel.Instant) → instantOf i ≡ instantOf (suspendInstant s i)
+suspend-instant s (instant (gives o k l t) x) = refl
 
 pub earlier-of : (f : FirstError) (x y : Option Error) → f ≡ earlierOf (firstOf x) (firstOf y) → f ≡ firstOf (earlier x y)
 earlier-of f Option.none y h = h

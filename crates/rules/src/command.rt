@@ -171,17 +171,24 @@ pub fn ending(emitted: u32) -> Instant
     }
 }
 
-pub fn pausing(l: u8) -> Instant
-    ensures { λ r. ⌜ r ≡ instantOf (faultless (gives none waiting (onlyBelow labelCount l) nothing)) ⌝ }
+// A command that waits: a pause with its label, a stopped suspend with the active labels inside it.
+pub fn waiting(labels: Labels) -> Instant
+    ensures { λ r. ⌜ r ≡ instantOf (faultless (gives none waiting (labelSet labels) nothing)) ⌝ }
 {
     Instant {
         reaction: Reaction {
             emitted: 0,
-            labels: sets::labels::single(l),
+            labels,
             completion: Completion::Waiting,
         },
         first: unseen(),
     }
+}
+
+pub fn pausing(l: u8) -> Instant
+    ensures { λ r. ⌜ r ≡ instantOf (faultless (gives none waiting (onlyBelow labelCount l) nothing)) ⌝ }
+{
+    waiting(sets::labels::single(l))
 }
 
 pub fn leaving(n: u8) -> Instant

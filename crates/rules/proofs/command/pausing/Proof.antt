@@ -1,8 +1,9 @@
-use Rattle.rules.proofs.Combining.{made}
-use mathlib.Core.Path.{refl}
-use mathlib.Core.Option.{Option}
+use Prim.Native.Nat.{ℕ}
+use mathlib.Core.Path.{ap, _∙_}
 use Rattle.esterel.specs.Sets.{none}
-use Rattle.esterel.specs.Reaction.{waiting}
+use Rattle.esterel.specs.Statement.{nothing}
+use Rattle.esterel.specs.Reaction.{waiting, gives}
+use Rattle.rules.specs.Instants.{faultless, instantOf}
 use borrow.Author.Needs.{needs}
 use Rattle.rules.proofs.command.pausing.Statement.{statement}
 use Rattle.rules.proofs.command.pausing.Tie as tie
@@ -10,12 +11,11 @@ use Rattle.rules.proofs.command.pausing.Tie as tie
 single-requires : tie.Need-single-requires
 single-requires c κs = search needs
 
-unseen-requires : tie.Need-unseen-requires
-unseen-requires c κs = search needs
+waiting-requires : tie.Need-waiting-requires
+waiting-requires c κs = search needs
 
 returns : tie.Need-returns
-unfolding none
-returns c = made waiting Option.none refl (c .before .single .ensures) refl (c .unseen .ensures)
+returns c = c .waiting .ensures ∙ ap (λ (l : ℕ). instantOf (faultless (gives none waiting l nothing))) (c .before .single .ensures)
 
 pub pausing-spec : {M : Type 1} → statement M
-pausing-spec = tie.close (tie.spec single-requires unseen-requires returns)
+pausing-spec = tie.close (tie.spec single-requires waiting-requires returns)
