@@ -53,9 +53,6 @@ module _ (e : ℕ) {p r : Instant} where
       → ((i : Esterel.Instant) → p ≡ instantOf i → r ≡ instantOf (tryInstant i)) → r ≡ instantOf (start (try t) e)
   try-step t h k = k (start t e) h ∙ ap instantOf (sym (start-try t e))
 
-  pub suspend-step : (s : ℕ) (t : Statement) → p ≡ instantOf (start t e) → p ≡ instantOf (start (suspend s t) e)
-  suspend-step s t h = h ∙ suspend-instant s (start t e) ∙ ap instantOf (sym (start-suspend s t e))
-
   pub signal-step : (a x : ℕ) (t : Statement) {q : Instant} {e− e+ : ℕ} → x < signalCount
       → e− ≡ remove x e → p ≡ instantOf (start t e−) → e+ ≡ insertBelow signalCount x e → q ≡ instantOf (start t e+)
       → ((i j : Esterel.Instant) → p ≡ instantOf i → q ≡ instantOf j → r ≡ instantOf (signalInstant a x i j)) → r ≡ instantOf (start (signal a x t) e)
@@ -70,6 +67,9 @@ module _ (e : ℕ) {p r : Instant} where
   pub par-step : (t u : Statement) {q : Instant} → p ≡ instantOf (start t e) → q ≡ instantOf (start u e)
       → ((i j : Esterel.Instant) → p ≡ instantOf i → q ≡ instantOf j → r ≡ instantOf (parInstant i j)) → r ≡ instantOf (start (par t u) e)
   par-step t u h m k = k (start t e) (start u e) h m ∙ ap instantOf (sym (start-par t u e))
+
+pub suspend-step : (e s : ℕ) (t : Statement) {r : Instant} → r ≡ instantOf (start t e) → r ≡ instantOf (start (suspend s t) e)
+suspend-step e s t h = h ∙ suspend-instant s (start t e) ∙ ap instantOf (sym (start-suspend s t e))
 
 module _ (e x : ℕ) (t u : Statement) {r : Instant} where
   pub present-step : member x e ≡ true → r ≡ instantOf (start t e) → r ≡ instantOf (start (present x t u) e)
