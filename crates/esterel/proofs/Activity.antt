@@ -1,11 +1,9 @@
 -- Laws of activity and expansion: both depend only on the labels of a statement's own pauses.
 use Prim.Native.Nat.{ℕ}
-use mathlib.Core.Path.{_≡_, refl, sym, ap, ap₂, _∙_}
+use mathlib.Core.Path.{_≡_, refl, sym, ap₂, _∙_, subst}
 use mathlib.Core.Logic.{_↔_, ⊎-elim}
-use mathlib.Core.Bool.{Bool, true, false, _&&_, _||_, and-eq-true-iff, false≢true}
+use mathlib.Core.Bool.{true, false, _||_, and-eq-true-iff, false≢true}
 use mathlib.Core.List.{[]}
-use lib.Dec.{eqb}
-use lib.Bits.{bitAnd}
 use borrow.Author.Tests.{eqb-true}
 use Rattle.esterel.specs.Sets.{member, none, only, join}
 use Rattle.esterel.specs.Statement.{Statement, nothing, pause, emit, exit, seq, par, loop, present, signal, try, setpause, suspend, held}
@@ -13,10 +11,12 @@ use Rattle.esterel.specs.Places.{Part, PartOf, seq₁, seq₂, par₁, p
 use Rattle.esterel.specs.States.{Holds, active}
 use Rattle.esterel.specs.Expansion.{expand}
 use Rattle.esterel.specs.LabelTests.{Joint, labelsOf, pauses, activeLabels}
-use Rattle.esterel.proofs.Booleans.{or-l, or-r, or-cases, and-true, and-false, never, clash, Tested, tested}
-use Rattle.esterel.proofs.Sets.{member-join, member-and, member-none, member-only, ext}
+use Rattle.esterel.proofs.Booleans.{or-l, or-r, or-cases, never, clash}
+use Rattle.esterel.proofs.Sets.{member-and, member-only}
 use Rattle.esterel.proofs.Places.{holds-in, Disjoint}
 use Rattle.esterel.proofs.Order.{Joined, sequence, test, sides}
+use Rattle.esterel.proofs.LabelSets.{in-none, same-test, same-set}
+use Rattle.esterel.proofs.SetAlgebra.{and-join}
 use Rattle.esterel.proofs.LabelTests.{pauses-is}
 
 -- ---- active in 01's words: a pause whose label is in the set
@@ -44,7 +44,7 @@ active-awake (signal a s p) L h = awake-in L signal₁ (active-awake p L h)
 active-awake (try p) L h = awake-in L try₁ (active-awake p L h)
 active-awake (setpause l) L h = absurd (false≢true h)
 active-awake (suspend s p) L h = awake-in L suspend₁ (active-awake p L h)
-active-awake (held s K q) L h = absurd (false≢true h)
+active-awake (held s K p) L h = absurd (false≢true h)
 
 pub active-part : {d : Part} {c p : Statement} (L : ℕ) → PartOf d c p → active c L ≡ true → active p L ≡ true
 unfolding active
@@ -90,67 +90,52 @@ active-same (signal a s p) L M h = active-same p L M (same-part L M signal₁ h)
 active-same (try p) L M h = active-same p L M (same-part L M try₁ h)
 active-same (setpause l) L M h = refl
 active-same (suspend s p) L M h = active-same p L M (same-part L M suspend₁ h)
-active-same (held s K q) L M h = refl
+active-same (held s K p) L M h = refl
 
-and-join : (s a b : ℕ) → bitAnd s (join a b) ≡ join (bitAnd s a) (bitAnd s b)
-and-join s a b =
-    ext (bitAnd s (join a b)) (join (bitAnd s a) (bitAnd s b))
-    (λ i. member-and i s (join a b) ∙ ap (λ (x : Bool). member i s && x) (member-join i a b)
-    ∙ go (member i s) (member i a) (member i b)
-    ∙ sym (member-join i (bitAnd s a) (bitAnd s b) ∙ ap₂ _||_ (member-and i s a) (member-and i s b)))
-  where
-    go : (x y z : Bool) → (x && (y || z)) ≡ ((x && y) || (x && z))
-    go true y z = refl
-    go false y z = refl
+-- ---- the active labels inside it, in 02's words
+pub activeLabels-is : (p : Statement) (L l : ℕ) → (member l (activeLabels p L) ≡ true) ↔ ((member l L ≡ true) × Holds p (pause l))
+unfolding activeLabels
+activeLabels-is p L l = (
+  λ h. let x = and-eq-true-iff (member l L) (member l (pauses p)) .0 (sym (member-and l L (pauses p)) ∙ h) in (x .0, pauses-is p l .0 (x .1)),
+  λ h. member-and l L (pauses p) ∙ and-eq-true-iff (member l L) (member l (pauses p)) .1 (h .0, pauses-is p l .1 (h .1)),
+)
 
--- ---- the labels of L that are its own
 abbrev pub Inside : Statement → ℕ → Type 0
 Inside p L = (l : ℕ) → member l L ≡ true → Holds p (pause l)
 
-pub member-activeLabels : (l : ℕ) (p : Statement) (L : ℕ) → member l (activeLabels p L) ≡ (member l L && member l (pauses p))
-unfolding activeLabels
-member-activeLabels l p L = member-and l L (pauses p)
-
 pub activeLabels-inside : (p : Statement) (L : ℕ) → Inside p (activeLabels p L)
-activeLabels-inside p L l h = pauses-is p l .0 (and-eq-true-iff (member l L) (member l (pauses p)) .0 (sym (member-activeLabels l p L) ∙ h) .1)
+activeLabels-inside p L l h = activeLabels-is p L l .0 h .1
 
--- it wakes the same pauses
+-- they wake the same pauses
 pub activeLabels-wakes : (p : Statement) (L : ℕ) → Same p (activeLabels p L) L
-activeLabels-wakes p L l h = member-activeLabels l p L ∙ rw (pauses-is p l .1 h) (and-true (member l L))
+activeLabels-wakes p L l x =
+    same-test (member l (activeLabels p L)) (member l L) (λ h. activeLabels-is p L l .0 h .0) (λ h. activeLabels-is p L l .1 (h, x))
 
 pub activeLabels-same : (p : Statement) (L M : ℕ) → Same p L M → activeLabels p L ≡ activeLabels p M
-activeLabels-same p L M h =
-    ext (activeLabels p L) (activeLabels p M)
-    (λ l. member-activeLabels l p L ∙ go l (tested (member l (pauses p))) ∙ sym (member-activeLabels l p M))
+activeLabels-same p L M s = same-set _ _ (half L M s) (half M L (λ l x. sym (s l x)))
   where
-    go : (l : ℕ) → Tested (member l (pauses p)) → (member l L && member l (pauses p)) ≡ (member l M && member l (pauses p))
-    go l (Tested.yes x) = ap (λ (b : Bool). b && member l (pauses p)) (h l (pauses-is p l .0 x))
-    go l (Tested.no x) = rw x (and-false (member l L) ∙ sym (and-false (member l M)))
+    half : (L M : ℕ) → Same p L M → (l : ℕ) → member l (activeLabels p L) ≡ true → member l (activeLabels p M) ≡ true
+    half L M s l h = let x = activeLabels-is p L l .0 h in activeLabels-is p M l .1 (sym (s l (x .1)) ∙ x .0, x .1)
 
--- labels of its own pauses only are all its own
+-- of labels of its own pauses all are active; of an inactive statement none is
 pub activeLabels-all : (p : Statement) (L : ℕ) → Inside p L → activeLabels p L ≡ L
-activeLabels-all p L h = ext (activeLabels p L) L (λ l. member-activeLabels l p L ∙ go l (tested (member l L)))
-  where
-    go : (l : ℕ) → Tested (member l L) → (member l L && member l (pauses p)) ≡ member l L
-    go l (Tested.yes x) = rw (x, pauses-is p l .1 (h l x))
-    go l (Tested.no x) = rw x
+activeLabels-all p L i = same-set _ _ (λ l h. activeLabels-is p L l .0 h .0) (λ l h. activeLabels-is p L l .1 (h, i l h))
 
--- none of them, one, and those of two parts
 pub activeLabels-none : (p : Statement) (L : ℕ) → active p L ≡ false → activeLabels p L ≡ none
-activeLabels-none p L h = ext (activeLabels p L) none (λ l. never (member l (activeLabels p L)) (λ i. clash (active p L) (found l i) h) ∙ sym (member-none l))
-  where
-    found : (l : ℕ) → member l (activeLabels p L) ≡ true → active p L ≡ true
-    found l i = let x = activeLabels-inside p L l i in awake-active l L (sym (activeLabels-wakes p L l x) ∙ i) (x .1)
+activeLabels-none p L n =
+    same-set _ _
+    (λ l h. let x = activeLabels-is p L l .0 h in clash (active p L) (awake-active l L (x .0) (x .1 .1)) n) (λ l h. in-none l h)
 
 pub activeLabels-pause : (l L : ℕ) → member l L ≡ true → activeLabels (pause l) L ≡ only l
 unfolding labelsOf
-activeLabels-pause l L h = ext (activeLabels (pause l) L) (only l) (λ i. member-activeLabels i (pause l) L ∙ rw (member-only l i) (go i (tested (eqb l i))))
-  where
-    go : (i : ℕ) → Tested (eqb l i) → (member i L && eqb l i) ≡ eqb l i
-    go i (Tested.yes x) = rw (x, ← eqb-true l i x, h)
-    go i (Tested.no x) = rw x (and-false (member i L))
+activeLabels-pause l L m =
+    same-set _ _
+    (λ k h. pauses-is (pause l) k .1 (activeLabels-inside (pause l) L k h))
+    (λ k h. activeLabels-is (pause l) L k .1
+    (subst (λ (i : ℕ). member i L ≡ true) (eqb-true l k (sym (member-only l k) ∙ h)) m, pauses-is (pause l) k .0 h))
 
-pub activeLabels-two : {j : Joint} {p q w : Statement} (L : ℕ) → Joined j p q w → activeLabels w L ≡ join (activeLabels p L) (activeLabels q L)
+pub activeLabels-two : {j : Joint} {p q w : Statement} (L : ℕ) → Joined j p q w
+    → activeLabels w L ≡ join (activeLabels p L) (activeLabels q L)
 unfolding activeLabels labelsOf
 activeLabels-two L (sequence {p = p} {q = q}) = and-join L (pauses p) (pauses q)
 activeLabels-two L (test {p = p} {q = q}) = and-join L (pauses p) (pauses q)
@@ -191,7 +176,11 @@ expand-same (suspend s p) L M h =
       activeLabels-same p L M (same-part L M suspend₁ h),
       expand-same p L M (same-part L M suspend₁ h),
     )
-expand-same (held s K q) L M h = refl
+expand-same (held s K p) L M h = refl
+
+pub expand-suspend : (s : ℕ) (p : Statement) (L : ℕ) → active p L ≡ true → expand (suspend s p) L ≡ held s (activeLabels p L) (expand p L)
+unfolding expand
+expand-suspend s p L h = rw h
 
 -- ---- labels of other pauses wake nothing
 pub asleep : (p q : Statement) (L : ℕ) → Disjoint p q → Inside q L → active p L ≡ false

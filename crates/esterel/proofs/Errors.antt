@@ -71,10 +71,10 @@ present-blamed false r r₂ xs ys f g = g
 suspend-blamed : (s : ℕ) (r : Reaction) (xs : List Error) → Blamed r xs → Blamed (inSuspend s r) xs
 suspend-blamed s (gives o k l t) xs f = f
 
-held-blamed : (s K : ℕ) (q : Statement) (b : Bool) (r : Reaction) (xs : List Error) → Blamed r xs
-    → Blamed (cond b (stopped s K q) (inSuspend s r)) (cond b [] xs)
-held-blamed s K q true r xs f h = absurd (false≢true h)
-held-blamed s K q false r xs f h = suspend-blamed s r xs f h
+held-blamed : (s K : ℕ) (p : Statement) (b : Bool) (r : Reaction) (xs : List Error) → Blamed r xs
+    → Blamed (cond b (stopped s K p) (inSuspend s r)) (cond b [] xs)
+held-blamed s K p true r xs f h = absurd (false≢true h)
+held-blamed s K p false r xs f h = suspend-blamed s r xs f h
 
 module _ (a s : ℕ) (r− r+ : Reaction) (xs ys : List Error) where
   case-blamed : (i− i+ w− w+ : Bool) → isWrong (code r−) ≡ w− → isWrong (code r+) ≡ w+ → Blamed r− xs → Blamed r+ ys
@@ -111,7 +111,7 @@ blamed (signal a s p) e h =
 blamed (try p) e h = try-blamed (react p e) (errors p e) (blamed p e) h
 blamed (setpause l) e h = absurd (false≢true h)
 blamed (suspend s p) e h = suspend-blamed s (react p e) (errors p e) (blamed p e) h
-blamed (held s K q) e h = held-blamed s K q (member s e) (react q e) (errors q e) (blamed q e) h
+blamed (held s K p) e h = held-blamed s K p (member s e) (react p e) (errors p e) (blamed p e) h
 
 -- WRONG
 pub wrong-named : (p : Statement) (e : ℕ) → code (react p e) ≡ wrong

@@ -121,7 +121,7 @@ module _ (L : ℕ) where
   expands (try p) h t = Expands.try (expands p h (together-part L try₁ t))
   expands (setpause l) h t = absurd (false≢true h)
   expands (suspend s p) h t = rw h (Expands.suspend (expands p h (together-part L suspend₁ t)))
-  expands (held s K q) h t = absurd (false≢true h)
+  expands (held s K p) h t = absurd (false≢true h)
 
 -- a valid set is active
 pub valid-active : (p : Statement) (L : ℕ) → Valid p L → active p L ≡ true

@@ -134,4 +134,4 @@ module _ (x y : Bool) (j : Joint) where
   fill-is (try p) known rows k = fill-is p known rows k
   fill-is (setpause l) known rows k = single (setpause l) y l known rows k refl refl
   fill-is (suspend s p) known rows k = fill-is p known rows k
-  fill-is (held s K q) known rows k = bare (held s K q) known rows k refl refl
+  fill-is (held s K p) known rows k = bare (held s K p) known rows k refl refl

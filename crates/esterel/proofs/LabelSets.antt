@@ -176,7 +176,7 @@ module _ (x y : Bool) (l : ℕ) where
   labels-from (try p) h = named-in try₁ (labels-from p h)
   labels-from (setpause k) h = here-setpause k (from-leaf y k h)
   labels-from (suspend s p) h = named-in suspend₁ (labels-from p h)
-  labels-from (held s K q) h = in-none l h
+  labels-from (held s K p) h = in-none l h
 
 -- ---- labels in order
 -- a counted command with label k stands before one with label l, across a joint j
@@ -287,7 +287,7 @@ module _ (x y : Bool) (j : Joint) (k l : ℕ) where
   pair-from (try p) h = pair-in try₁ (pair-from p h)
   pair-from (setpause m) h = in-none l h
   pair-from (suspend s p) h = pair-in suspend₁ (pair-from p h)
-  pair-from (held s K q) h = in-none l h
+  pair-from (held s K p) h = in-none l h
 
   in-first : (r s t : ℕ) → member l s ≡ true → member l (join r (join s t)) ≡ true
   in-first r s t h = in-r l r (join s t) (in-l l s t h)
@@ -373,17 +373,20 @@ module _ (f : ℕ → Bool) where
   every-from (try p) e = every-from p (every-in try₁ e)
   every-from (setpause l) e = e l (labels-at true true l (as-setpause refl) At.here)
   every-from (suspend s p) e = every-from p (every-in (suspend₁ {s = s}) e)
-  every-from (held s K q) e = refl
+  every-from (held s K p) e = refl
 
--- ---- two tests that are true together are one
+-- ---- two tests that are true together are one, and so are two sets with the same members
 pub same-test : (a b : Bool) → (a ≡ true → b ≡ true) → (b ≡ true → a ≡ true) → a ≡ b
 same-test true b f g = sym (f refl)
 same-test false true f g = g refl
 same-test false false f g = refl
 
+pub same-set : (s t : ℕ) → ((l : ℕ) → member l s ≡ true → member l t ≡ true) → ((l : ℕ) → member l t ≡ true → member l s ≡ true) → s ≡ t
+same-set s t f g = ext s t (λ l. same-test (member l s) (member l t) (f l) (g l))
+
 -- the triggers are the pauses and the setpauses
 pub triggers-are : (p : Statement) → triggers p ≡ join (labelsOf true false p) (labelsOf false true p)
-triggers-are p = ext _ _ (λ l. same-test _ _ (to l) (from l))
+triggers-are p = same-set _ _ to from
   where
     found : {w : Statement} {a : Place} (l : ℕ) → Counted true true l w → At w a p → member l (join (labelsOf true false p) (labelsOf false true p)) ≡ true
     found l (as-pause e) u = in-l l (labelsOf true false p) (labelsOf false true p) (labels-at true false l (as-pause refl) u)

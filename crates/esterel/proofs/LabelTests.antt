@@ -129,7 +129,7 @@ from-distinct (signal a s p) d = from-distinct p (distinct-part (signal₁ {a = 
 from-distinct (try p) d = from-distinct p (distinct-part try₁ d)
 from-distinct (setpause l) d = refl
 from-distinct (suspend s p) d = from-distinct p (distinct-part (suspend₁ {s = s}) d)
-from-distinct (held s K q) d = refl
+from-distinct (held s K p) d = refl
 
 pub distinct-is : (p : Statement) → (distinct p ≡ true) ↔ Distinct p
 distinct-is p = (to-distinct p, from-distinct p)

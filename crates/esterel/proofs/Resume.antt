@@ -71,14 +71,14 @@ pub start-suspend : (s : ℕ) (p : Statement) (e : ℕ) → start (suspend s p) 
 unfolding react errors
 start-suspend s p e = refl
 
-pub start-held : (s K : ℕ) (q : Statement) (e : ℕ)
-    → start (held s K q) e ≡ cond (member s e) (stoppedInstant s K q) (suspendInstant s (start q e))
+pub start-held : (s K : ℕ) (p : Statement) (e : ℕ)
+    → start (held s K p) e ≡ cond (member s e) (stoppedInstant s K p) (suspendInstant s (start p e))
 unfolding react errors
-start-held s K q e = go (member s e)
+start-held s K p e = go (member s e)
   where
     go : (b : Bool)
-        → instant (cond b (stopped s K q) (inSuspend s (react q e))) (head? (cond b [] (errors q e)))
-        ≡ cond b (stoppedInstant s K q) (suspendInstant s (start q e))
+        → instant (cond b (stopped s K p) (inSuspend s (react p e))) (head? (cond b [] (errors p e)))
+        ≡ cond b (stoppedInstant s K p) (suspendInstant s (start p e))
     go true = refl
     go false = refl
 
@@ -102,7 +102,7 @@ unfolding react errors
 side-goes p e i true f = f refl
 side-goes p e i false f = refl
 
--- a suspend holds its active labels and its part's expansion, which is by these labels only
+-- the expansion that an active suspend holds is by the labels that it holds
 suspend-goes : (s : ℕ) (p : Statement) (L e K : ℕ) (i : Instant) → K ≡ activeLabels p L → i ≡ start (expand p L) e
     → cond (member s e) (stoppedInstant s K (expand p K)) (suspendInstant s i) ≡ start (held s (activeLabels p L) (expand p L)) e
 suspend-goes s p L e K i k h =

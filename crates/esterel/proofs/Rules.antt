@@ -171,9 +171,9 @@ sound (Reacts.signal−+ {a = a} {s = s} {o− = o−} {o+ = o+} {k− = k−} {
 sound (Reacts.signal∞ {a = a} {s = s} {o− = o−} {o+ = o+} {k− = k−} {k+ = k+} d− d+ w n++ n+− n−+) =
     signal-is a s _ _ (fits∞ s o− o+ k− k+ w n++ n+− n−+) (sound d−) (sound d+)
 sound Reacts.setpause = refl
-sound (Reacts.suspend d) = rw (← sound d)
+sound (Reacts.suspend {s = s} d) = ap (inSuspend s) (sound d)
 sound (Reacts.held+ i) = rw i
-sound (Reacts.held− i d) = rw (i, ← sound d)
+sound (Reacts.held− {s = s} i d) = rw i (ap (inSuspend s) (sound d))
 
 -- ---- what the function gives, the rules derive
 seq-derives : {p q : Statement} {e : ℕ} (r r₂ : Reaction) → Reacts p e r → Reacts q e r₂ → Reacts (seq p q) e (inSeq q r r₂)
@@ -235,8 +235,8 @@ signal-derives a s (gives o− k− l− t−) (gives o+ k+ l+ t+) d− d+ =
 suspend-derives : {p : Statement} {e : ℕ} (s : ℕ) (r : Reaction) → Reacts p e r → Reacts (suspend s p) e (inSuspend s r)
 suspend-derives s (gives o k l t) d = Reacts.suspend d
 
-held-derives : {q : Statement} {e : ℕ} (s K : ℕ) (b : Bool) (r : Reaction) → member s e ≡ b → Reacts q e r
-    → Reacts (held s K q) e (cond b (stopped s K q) (inSuspend s r))
+held-derives : {p : Statement} {e : ℕ} (s K : ℕ) (b : Bool) (r : Reaction) → member s e ≡ b → Reacts p e r
+    → Reacts (held s K p) e (cond b (stopped s K p) (inSuspend s r))
 held-derives s K true r h d = Reacts.held+ h
 held-derives s K false (gives o k l t) h d = Reacts.held− h d
 
@@ -255,7 +255,7 @@ derive (signal a s p) e =
 derive (try p) e = try-derives (react p e) (derive p e)
 derive (setpause l) e = Reacts.setpause
 derive (suspend s p) e = suspend-derives s (react p e) (derive p e)
-derive (held s K q) e = held-derives s K (member s e) (react q e) refl (derive q e)
+derive (held s K p) e = held-derives s K (member s e) (react p e) refl (derive p e)
 
 -- RULES: the relation holds of an answer exactly if the function gives it
 pub reacts-is : (p : Statement) (e : ℕ) (r : Reaction) → Reacts p e r ↔ (r ≡ react p e)

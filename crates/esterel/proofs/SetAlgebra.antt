@@ -1,14 +1,14 @@
--- Unions of sets, tests that a set is empty or two are disjoint, and row 8 at two parts.
+-- Unions and meets of sets, tests that a set is empty or two are disjoint, and row 8 at two parts.
 use Prim.Native.Nat.{ℕ}
-use mathlib.Core.Path.{_≡_, refl, sym, ap, _∙_}
+use mathlib.Core.Path.{_≡_, refl, sym, ap, ap₂, _∙_}
 use mathlib.Core.Logic.{⊎-elim}
 use mathlib.Core.Bool.{Bool, true, false, _&&_, _||_, and-eq-true-iff}
 use native.Mathlib.Omega.{arith}
-use lib.Bits.{bitOr, or-add-and, and-le-l, and-le-r}
+use lib.Bits.{bitOr, bitAnd, or-add-and, and-le-l, and-le-r}
 use borrow.Author.Tests.{eqb-true, eq-eqb}
 use Rattle.esterel.specs.Sets.{member, none, join, empty}
 use Rattle.esterel.specs.LabelTests.{disjoint}
-use Rattle.esterel.proofs.Sets.{member-join, ext}
+use Rattle.esterel.proofs.Sets.{member-join, member-and, ext}
 use Rattle.esterel.proofs.LabelSets.{in-none, in-l, in-r, in-join, same-test, disjoint-is}
 
 or-assoc : (a b c : Bool) → (a || (b || c)) ≡ ((a || b) || c)
@@ -29,6 +29,17 @@ empty-join a b =
     and-eq-true-iff (empty a) (empty b) .1
     (eq-eqb a 0 (omega (arith, or-add-and a b, and-le-r a b)), eq-eqb b 0 (omega (arith, or-add-and a b, and-le-l a b))))
     (λ h. let d = and-eq-true-iff (empty a) (empty b) .0 h in rw (eqb-true a 0 (d .0), eqb-true b 0 (d .1)))
+
+pub and-join : (s a b : ℕ) → bitAnd s (join a b) ≡ join (bitAnd s a) (bitAnd s b)
+and-join s a b =
+    ext _ _
+    (λ i. member-and i s (join a b) ∙ ap (λ (x : Bool). member i s && x) (member-join i a b)
+    ∙ go (member i s) (member i a) (member i b)
+    ∙ sym (member-join i (bitAnd s a) (bitAnd s b) ∙ ap₂ _||_ (member-and i s a) (member-and i s b)))
+  where
+    go : (x y z : Bool) → (x && (y || z)) ≡ ((x && y) || (x && z))
+    go true y z = refl
+    go false y z = refl
 
 -- ---- disjoint sets
 pub disjoint-none : (s : ℕ) → disjoint s none ≡ true

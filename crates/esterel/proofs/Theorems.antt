@@ -1,27 +1,31 @@
 -- The theorems of this crate in the words of the papers, each a line or two over the files beside it. Others stand
 -- where they are proved: `reacts-is` of Rules (003, corollary 11), `uses-is` of Derivations, `figure-5` of Figure5.
 use Prim.Native.Nat.{ℕ}
-use mathlib.Core.Path.{_≡_, refl}
+use mathlib.Core.Path.{_≡_, refl, _∙_}
 use mathlib.Core.Logic.{_↔_, _≢_}
-use mathlib.Core.Bool.{true}
+use mathlib.Core.Bool.{true, false}
+use mathlib.Core.Option.{Option}
 use mathlib.Core.List.{List}
 use Rattle.esterel.specs.Sets.{member, none}
-use Rattle.esterel.specs.Statement.{Statement}
-use Rattle.esterel.specs.Reaction.{ended, waiting, leaving, wrong, Reaction, gives, code, labels, react}
-use Rattle.esterel.specs.States.{active, Valid, Distinct, Targeted, NoSetpause, Source, WellFormed}
+use Rattle.esterel.specs.Statement.{Statement, pause, suspend}
+use Rattle.esterel.specs.Reaction.{ended, waiting, leaving, wrong, Reaction, gives, emitted, code, labels, residual, react}
+use Rattle.esterel.specs.Errors.{errors}
+use Rattle.esterel.specs.States.{Holds, active, Valid, Distinct, Targeted, NoSetpause, Source, WellFormed}
 use Rattle.esterel.specs.Expansion.{expand}
-use Rattle.esterel.specs.Ranks.{mask}
-use Rattle.esterel.specs.Resume.{start, resume}
-use Rattle.esterel.specs.Machines.{run, reached, State, byLabels, Rewriting, byRewriting}
+use Rattle.esterel.specs.LabelTests.{activeLabels}
+use Rattle.esterel.specs.Ranks.{mask, labelsBy}
+use Rattle.esterel.specs.Resume.{instant, start, suspendInstant, resume}
+use Rattle.esterel.specs.Machines.{run, reached, State, byLabels, Rewriting, byRewriting, erase}
 use Rattle.esterel.proofs.Booleans.{never, clash}
-use Rattle.esterel.proofs.Activity.{Awake, active-is}
+use Rattle.esterel.proofs.Activity.{Awake, active-is, activeLabels-is, expand-suspend}
 use Rattle.esterel.proofs.Invariant.{Fits}
 use Rattle.esterel.proofs.Residual.{Remains, residual-fresh, residual-resumed}
 use Rattle.esterel.proofs.Places.{Together}
 use Rattle.esterel.proofs.Stability.{Stops, SoundLabels, labels-fresh, labels-resumed, together-none, sound-valid}
-use Rattle.esterel.proofs.Ranks.{none-is}
-use Rattle.esterel.proofs.Resume.{resumes}
+use Rattle.esterel.proofs.Ranks.{none-is, labels-by}
+use Rattle.esterel.proofs.Resume.{start-held, resumes}
 use Rattle.esterel.proofs.Agreement.{ValidState, agree, valid-reached}
+use Rattle.esterel.proofs.Erasure.{erased-reaction, erased-errors, erased-run}
 
 -- A reaction of p itself, or of an expansion of p.
 pub data ReactionOf (p : Statement) (e : ℕ) : Reaction → Type 0 where
@@ -34,29 +38,29 @@ both-fit : (K : Statement → ℕ → Statement → Type 0) (p : Statement) (e :
 both-fit K p e f g of-statement = f
 both-fit K p e f g (of-expansion L) = g L
 
--- what resumed: no label, or those of the expansion
-abbrev state : (p : Statement) (e : ℕ) {r : Reaction} → ReactionOf p e r → ℕ
-state p e of-statement = none
-state p e (of-expansion L) = L
+-- the label set that was resumed
+abbrev resumedFrom : (p : Statement) (e : ℕ) {r : Reaction} → ReactionOf p e r → ℕ
+resumedFrom p e of-statement = none
+resumedFrom p e (of-expansion L) = L
 
-sound-of : (p : Statement) (e : ℕ) {r : Reaction} (x : ReactionOf p e r) → Fits (SoundLabels (state p e x)) p r
-sound-of p e of-statement = labels-fresh none p e
-sound-of p e (of-expansion L) = labels-resumed p L e
+sound-labels : (p : Statement) (e : ℕ) {r : Reaction} (x : ReactionOf p e r) → Fits (SoundLabels (resumedFrom p e x)) p r
+sound-labels p e of-statement = labels-fresh none p e
+sound-labels p e (of-expansion L) = labels-resumed p L e
 
--- fresh, or resumed from a valid set
+-- if anything was resumed, a valid set
 abbrev pub FromValid : (p : Statement) (e : ℕ) {r : Reaction} → ReactionOf p e r → Type 0
 FromValid p e of-statement = Unit {0}
 FromValid p e (of-expansion L) = Valid p L
 
-stood-together : (p : Statement) (e : ℕ) {r : Reaction} (x : ReactionOf p e r) → FromValid p e x → Together p (state p e x)
-stood-together p e of-statement v = together-none p
-stood-together p e (of-expansion L) v = v .together
+were-together : (p : Statement) (e : ℕ) {r : Reaction} (x : ReactionOf p e r) → FromValid p e x → Together p (resumedFrom p e x)
+were-together p e of-statement v = together-none p
+were-together p e (of-expansion L) v = v .together
 
 -- 1. RESIDUAL IS EXPANSION (002, theorem 6)
 pub residual-is-expansion : (p : Statement) → Source p → Distinct p → NoSetpause p → (e o l : ℕ) (t : Statement)
     → ReactionOf p e (gives o waiting l t) → t ≡ expand p l
-residual-is-expansion p z d n e o l t x =
-    both-fit Remains p e (residual-fresh p e) (λ L. residual-resumed p L e) x z d n .equal
+residual-is-expansion p c d n e o l t x =
+    both-fit Remains p e (residual-fresh p e) (λ L. residual-resumed p L e) x c d n .equal
 
 -- 2. RESUME, by the ranks of the active pauses, is the reaction of the expansion with its first error, where a pause is
 -- active; else there are no such ranks
@@ -69,11 +73,18 @@ mask-inactive base p L = (
   λ n. none-is base p L .1 (never (active p L) (λ h. n (active-is p L .0 h))),
 )
 
--- 3. STABILITY (002, theorem 8), setpause and suspend included; from a set that is not valid, a stopped suspend may keep one
--- that is not (specs/Examples)
+-- and the labels of those ranks are the active labels inside p, in 02's words
+pub labels-by-ranks : (base : ℕ) (p : Statement) (L : ℕ) → Awake p L → labelsBy base p (mask base p L) ≡ activeLabels p L
+labels-by-ranks base p L w = labels-by L base p (active-is p L .1 w)
+
+pub active-labels : (p : Statement) (L l : ℕ) → (member l (activeLabels p L) ≡ true) ↔ ((member l L ≡ true) × Holds p (pause l))
+active-labels = activeLabels-is
+
+-- 3. STABILITY (002, theorem 8), setpause and suspend included. What is resumed is valid: of a set that is not, a stopped
+-- suspend keeps one that is not (`kept` of specs/Examples)
 pub stable : (p : Statement) → Source p → Distinct p → Targeted p → WellFormed p → (e o l : ℕ) (t : Statement)
     → (x : ReactionOf p e (gives o waiting l t)) → FromValid p e x → Valid p l
-stable p z d g w e o l t x v = sound-valid p d w g (state p e x) (stood-together p e x v) l (sound-of p e x z)
+stable p c d g w e o l t x v = sound-valid p d w g (resumedFrom p e x) (were-together p e x v) l (sound-labels p e x c)
 
 pub always-valid : (p : Statement) → Source p → Distinct p → Targeted p → WellFormed p → (s : State) → ValidState p s
     → (es : List ℕ) → ValidState p (reached (byLabels p) s es)
@@ -82,11 +93,11 @@ always-valid = valid-reached
 -- 4. AGREEMENT: from fresh, and from any set of labels, valid or not, against its expansion
 pub agreement : (p : Statement) → Source p → Distinct p → NoSetpause p → (es : List ℕ)
     → run (byLabels p) State.fresh es ≡ run byRewriting (Rewriting.fresh p) es
-agreement p z d n es = agree p z d n State.fresh (Rewriting.fresh p) refl es
+agreement p c d n es = agree p c d n State.fresh (Rewriting.fresh p) refl es
 
 pub agreement-from : (p : Statement) → Source p → Distinct p → NoSetpause p → (L : ℕ) (es : List ℕ)
     → run (byLabels p) (State.waits L) es ≡ run byRewriting (Rewriting.waits (expand p L)) es
-agreement-from p z d n L es = agree p z d n (State.waits L) (Rewriting.waits (expand p L)) refl es
+agreement-from p c d n L es = agree p c d n (State.waits L) (Rewriting.waits (expand p L)) refl es
 
 -- 5. LABELS exist only with code 1 (002, theorem 4), are not empty then, and are those of pauses and setpauses of p
 no-labels : (K : Statement → ℕ → Statement → Type 0) (p : Statement) (r : Reaction) → Fits K p r → code r ≢ waiting → labels r ≡ none
@@ -96,8 +107,31 @@ no-labels K p (gives o (leaving m) l t) h n = h
 no-labels K p (gives o wrong l t) h n = h
 
 pub labels-only-waiting : (p : Statement) (e : ℕ) (r : Reaction) → ReactionOf p e r → code r ≢ waiting → labels r ≡ none
-labels-only-waiting p e r x = no-labels (SoundLabels (state p e x)) p r (sound-of p e x)
+labels-only-waiting p e r x = no-labels (SoundLabels (resumedFrom p e x)) p r (sound-labels p e x)
 
 pub labels-of-stops : (p : Statement) → Source p → (e o l : ℕ) (t : Statement) → ReactionOf p e (gives o waiting l t)
     → ((k : ℕ) × (member k l ≡ true)) × ((k : ℕ) → member k l ≡ true → Stops p k)
-labels-of-stops p z e o l t x = let s = sound-of p e x z in (s .some, s .stops)
+labels-of-stops p c e o l t x = let s = sound-labels p e x c in (s .some, s .stops)
+
+-- 6. SUSPEND (02, item 1; Berry 1999), a pause inside being active: while its signal is present it emits nothing, waits with
+-- the active labels inside it and stays as it is, with no error; else its part resumes
+pub suspend-stops : (s : ℕ) (p : Statement) (L e : ℕ) → Awake p L → member s e ≡ true
+    → start (expand (suspend s p) L) e ≡ instant (gives none waiting (activeLabels p L) (expand (suspend s p) L)) Option.none
+suspend-stops s p L e w i =
+    rw (expand-suspend s p L (active-is p L .1 w)) (start-held s (activeLabels p L) (expand p L) e ∙ rw i)
+
+pub suspend-resumes : (s : ℕ) (p : Statement) (L e : ℕ) → Awake p L → member s e ≡ false
+    → start (expand (suspend s p) L) e ≡ suspendInstant s (start (expand p L) e)
+suspend-resumes s p L e w i =
+    rw (expand-suspend s p L (active-is p L .1 w)) (start-held s (activeLabels p L) (expand p L) e ∙ rw i)
+
+-- 7. HELD LABELS never matter: statements that differ only in them have one code, one emitted set and one list of errors,
+-- what remains of them differs only in them, and so by rewriting they show the same for ever
+pub held-labels-unseen : (t u : Statement) (e : ℕ) → erase t ≡ erase u
+    → (code (react t e) ≡ code (react u e)) × (emitted (react t e) ≡ emitted (react u e)) × (errors t e ≡ errors u e)
+    × (erase (residual (react t e)) ≡ erase (residual (react u e)))
+held-labels-unseen t u e h = let r = erased-reaction t u e h in (r .0, r .1, erased-errors t u e h, r .2)
+
+pub held-labels-unseen-run : (t u : Statement) → erase t ≡ erase u → (es : List ℕ)
+    → run byRewriting (Rewriting.waits t) es ≡ run byRewriting (Rewriting.waits u) es
+held-labels-unseen-run = erased-run
