@@ -1,18 +1,18 @@
--- Worked reactions by computation: 01's starred bays as trees, and the examples that the papers turn on.
+-- Worked reactions by computation: 01's starred bays as trees, the examples that the papers turn on, and 02's suspend.
 use Prim.Native.Nat.{ℕ}
 use mathlib.Core.Path.{_≡_, refl}
 use mathlib.Core.Bool.{true, false}
 use mathlib.Core.Option.{Option}
 use mathlib.Core.List.{List, [], _∷_, map}
 use Rattle.esterel.specs.Sets.{member, none, only, join, insert, remove, below, from}
-use Rattle.esterel.specs.Statement.{Statement, nothing, pause, emit, exit, seq, par, loop, present, signal, try, setpause}
+use Rattle.esterel.specs.Statement.{Statement, nothing, pause, emit, exit, seq, par, loop, present, signal, try, setpause, suspend, held}
 use Rattle.esterel.specs.Reaction.{Code, ended, waiting, leaving, wrong, gives, code, emitted, labels, residual, react}
 use Rattle.esterel.specs.Errors.{Error, errors, instantaneous, notReactive, notDeterministic}
 use Rattle.esterel.specs.Places.{first, second, Alternative, Exclusive}
 use Rattle.esterel.specs.States.{active}
 use Rattle.esterel.specs.Expansion.{expand}
-use Rattle.esterel.specs.LabelTests.{labelsOf}
-use Rattle.esterel.specs.Ranks.{pauseCount, mask, rank, compatible}
+use Rattle.esterel.specs.LabelTests.{labelsOf, activeLabels}
+use Rattle.esterel.specs.Ranks.{pauseCount, mask, rank, labelsBy, compatible}
 use Rattle.esterel.specs.Resume.{Instant, resume}
 use Rattle.esterel.specs.Machines.{waits, over, Seen, instant, refused, run, State, byLabels, Rewriting, byRewriting}
 
@@ -124,3 +124,113 @@ together : (compatible 0 three 6 ≡ true) × (compatible 0 three 5 ≡ false) �
     × (compatible 0 (present 0 (pause 1) (pause 2)) 3 ≡ false) × (compatible 0 (present 0 (pause 1) (pause 2)) 2 ≡ true)
 unfolding compatible pauseCount below from none
 together = (refl, refl, refl, refl, refl)
+
+-- ---- suspend (02, item 1)
+-- code, emitted set and labels of an instant
+abbrev Step : Type 0
+Step = Code × ℕ × ℕ
+
+abbrev step : Statement → ℕ → Step
+step t e = (code (react t e), emitted (react t e), labels (react t e))
+
+-- the instants of p by labels, from the term t; and those of a term by rewriting
+trace : Statement → Statement → List ℕ → List Step
+trace p t [] = []
+trace p t (e ∷ es) = step t e ∷ trace p (expand p (labels (react t e))) es
+
+rewriting : Statement → List ℕ → List Step
+rewriting t [] = []
+rewriting t (e ∷ es) = step t e ∷ rewriting (residual (react t e)) es
+
+-- 05 0B 00 04 01 00 01 01 04 01 02 01 03
+abbrev frozen : Statement
+frozen = par (suspend 0 (seq (pause 0) (pause 1))) (seq (pause 2) (pause 3))
+
+-- a local signal that the other side emits in the second instant
+abbrev local : Statement
+local = signal 0 0 (par (suspend 0 (seq (pause 0) (emit 1))) (seq (pause 1) (seq (emit 0) (pause 2))))
+
+-- a setpause from outside into the suspend
+abbrev enters : Statement
+enters = seq (setpause 0) (suspend 0 (seq (pause 0) (emit 1)))
+
+abbrev Traced : Type 0
+Traced = Statement × List ℕ × List Step
+
+-- Fresh a suspend reacts though its signal is present; resumed it is stopped while the signal is present.
+suspended : List Traced
+suspended =
+    -- 0B 00 04 02 01 04 01 05 02 02
+    (
+      suspend 0 (seq (emit 1) (seq (pause 5) (emit 2))),
+      1 ∷ 1 ∷ 1 ∷ 0 ∷ [],
+      (waiting, 2, 32) ∷ (waiting, 0, 32) ∷ (waiting, 0, 32) ∷ (ended, 4, 0) ∷ [],
+    )
+    -- 06 0B 00 04 02 01 01 00: the next round is fresh, in the instant in which the last one was resumed
+    ∷ (
+      loop 0 (suspend 0 (seq (emit 1) (pause 0))),
+      1 ∷ 1 ∷ 0 ∷ 1 ∷ [],
+      (waiting, 2, 1) ∷ (waiting, 0, 1) ∷ (waiting, 2, 1) ∷ (waiting, 0, 1) ∷ [],
+    )
+    -- in the second round too it starts fresh, its signal being present, and is stopped after that
+    ∷ (
+      loop 0 (seq (pause 1) (suspend 0 (seq (emit 1) (pause 0)))),
+      0 ∷ 0 ∷ 0 ∷ 1 ∷ 1 ∷ 0 ∷ [],
+      (waiting, 0, 2) ∷ (waiting, 2, 1) ∷ (waiting, 0, 2) ∷ (waiting, 2, 1) ∷ (waiting, 0, 1) ∷ (waiting, 0, 2) ∷ [],
+    )
+    -- only what is inside is kept
+    ∷ (frozen, 0 ∷ 1 ∷ 1 ∷ [], (waiting, 0, 5) ∷ (waiting, 0, 9) ∷ (waiting, 0, 1) ∷ [])
+    -- 09 05 0B 00 01 00 04 01 01 03 01: an exit drops what is kept
+    ∷ (
+      try (par (suspend 0 (pause 0)) (seq (pause 1) (exit 1))),
+      0 ∷ 1 ∷ [],
+      (waiting, 0, 3) ∷ (ended, 0, 0) ∷ [],
+    )
+    -- 08 00 0B 00 04 01 00 02 00: the suspend emits what stops it
+    ∷ (signal 0 0 (suspend 0 (seq (pause 0) (emit 0))), 0 ∷ 0 ∷ [], (waiting, 0, 1) ∷ (wrong, 0, 0) ∷ [])
+    -- stopped in the run with the signal, which gives the answer
+    ∷ (local, 0 ∷ 0 ∷ 0 ∷ [], (waiting, 0, 3) ∷ (waiting, 0, 5) ∷ (ended, 2, 0) ∷ [])
+    -- two signals: the outer stops both, the inner only its own part
+    ∷ (
+      suspend 0 (par (suspend 1 (pause 0)) (seq (pause 1) (seq (pause 2) (emit 3)))),
+      0 ∷ 1 ∷ 2 ∷ 3 ∷ 2 ∷ 0 ∷ [],
+      (waiting, 0, 3) ∷ (waiting, 0, 3) ∷ (waiting, 0, 5) ∷ (waiting, 0, 5) ∷ (waiting, 8, 1) ∷ (ended, 0, 0) ∷ [],
+    )
+    -- one side of the parallel inside has ended
+    ∷ (
+      suspend 0 (par (seq (pause 0) (emit 1)) (seq (pause 1) (seq (pause 2) (emit 2)))),
+      0 ∷ 0 ∷ 1 ∷ 0 ∷ [],
+      (waiting, 0, 3) ∷ (waiting, 2, 4) ∷ (waiting, 0, 4) ∷ (ended, 4, 0) ∷ [],
+    )
+    ∷ []
+
+-- by labels and by rewriting; what a setpause entered is stopped from the next instant on
+traces : (map (λ (x : Traced). trace (x .0) (x .0) (x .1)) suspended
+    ≡ map (λ (x : Traced). x .2) suspended)
+    × (map (λ (x : Traced). rewriting (x .0) (x .1)) suspended
+    ≡ map (λ (x : Traced). x .2) suspended)
+    × (trace enters enters (1 ∷ 1 ∷ 0 ∷ []) ≡ (waiting, 0, 1) ∷ (waiting, 0, 1) ∷ (ended, 2, 0) ∷ [])
+unfolding suspended trace rewriting active activeLabels labelsOf expand react member none only join insert remove
+traces = (refl, refl, refl)
+
+-- Nothing inside a stopped suspend errs, and after any other code than 1 nothing remains of it. Of a set that is not valid
+-- a stopped suspend keeps one that is not.
+kept : (errors (expand (signal 0 0 (suspend 0 (seq (pause 0) (emit 0)))) 1) 0 ≡ notReactive 0 ∷ [])
+    × (errors (expand (suspend 0 (loop 2 (seq (pause 0) (loop 6 nothing)))) 1) 0 ≡ instantaneous 6 ∷ [])
+    × (errors (expand (suspend 0 (loop 2 (seq (pause 0) (loop 6 nothing)))) 1) 1 ≡ [])
+    × (residual (react (suspend 0 (try nothing)) 0) ≡ nothing)
+    × (residual (react (held 0 1 (try (exit 2))) 0) ≡ nothing)
+    × (labels (react (expand (suspend 0 (seq (pause 0) (pause 1))) 3) 1) ≡ 3)
+unfolding errors active activeLabels labelsOf expand react member none only join insert remove
+kept = (refl, refl, refl, refl, refl, refl)
+
+-- Ranks 0 and 2 of `frozen` are labels 0 and 2; ranks 8 and 9 of `three`, from base 7, are labels 3 and 4. A stopped
+-- suspend keeps the labels inside it, and nothing inside errs.
+kept-by-ranks : (labelsBy 0 frozen 5 ≡ 5)
+    × (labelsBy 7 three 768 ≡ 24)
+    × (resume 0 frozen 5 1 ≡ Instant.instant (gives 0 waiting 9 (par (held 0 1 (seq nothing (pause 1))) nothing)) Option.none)
+    × (resume 0 frozen 5 0 ≡ Instant.instant (gives 0 waiting 10 (par (held 0 2 nothing) nothing)) Option.none)
+    × (resume 0 (suspend 0 (seq (pause 0) (loop 5 nothing))) 1 1
+    ≡ Instant.instant (gives 0 waiting 1 (held 0 1 (seq nothing (loop 5 nothing)))) Option.none)
+unfolding labelsBy resume pauseCount below from active activeLabels labelsOf expand react errors member none only join insert remove
+kept-by-ranks = (refl, refl, refl, refl, refl)
