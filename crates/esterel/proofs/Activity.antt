@@ -96,7 +96,8 @@ active-same (held s K p) L M h = refl
 pub activeLabels-is : (p : Statement) (L l : ℕ) → (member l (activeLabels p L) ≡ true) ↔ ((member l L ≡ true) × Holds p (pause l))
 unfolding activeLabels
 activeLabels-is p L l = (
-  λ h. let x = and-eq-true-iff (member l L) (member l (pauses p)) .0 (sym (member-and l L (pauses p)) ∙ h) in (x .0, pauses-is p l .0 (x .1)),
+  λ h. let x = and-eq-true-iff (member l L) (member l (pauses p)) .0 (sym (member-and l L (pauses p)) ∙ h) in
+      (x .0, pauses-is p l .0 (x .1)),
   λ h. member-and l L (pauses p) ∙ and-eq-true-iff (member l L) (member l (pauses p)) .1 (h .0, pauses-is p l .1 (h .1)),
 )
 
@@ -177,6 +178,10 @@ expand-same (suspend s p) L M h =
       expand-same p L M (same-part L M suspend₁ h),
     )
 expand-same (held s K p) L M h = refl
+
+-- a statement expands by its active labels
+pub expand-activeLabels : (p : Statement) (L : ℕ) → expand p (activeLabels p L) ≡ expand p L
+expand-activeLabels p L = expand-same p (activeLabels p L) L (activeLabels-wakes p L)
 
 pub expand-suspend : (s : ℕ) (p : Statement) (L : ℕ) → active p L ≡ true → expand (suspend s p) L ≡ held s (activeLabels p L) (expand p L)
 unfolding expand

@@ -1,5 +1,5 @@
 -- The labels of held suspends never matter: statements that differ only in them react with one code, one emitted set and
--- one list of errors, and so do what remains of them.
+-- one list of errors, and what remains of them differs only in them.
 use Prim.Native.Nat.{ℕ, _-_}
 use mathlib.Core.Path.{_≡_, refl, sym, ap, ap₂, _∙_, subst}
 use mathlib.Core.Bool.{Bool, true, false, cond}

@@ -1,4 +1,5 @@
--- The expansion is 002's figure 5: for a valid set exactly one clause fits at each command, and `expand` gives its result.
+-- The expansion is 002's figure 5 with suspend's clause: for a valid set exactly one clause fits at each command, and
+-- `expand` gives its result.
 use Prim.Native.Nat.{ℕ}
 use mathlib.Core.Path.{_≡_, refl, sym, subst}
 use mathlib.Core.Logic.{_↔_}
@@ -6,7 +7,7 @@ use mathlib.Core.Bool.{Bool, true, false, _||_, cond, false≢true}
 use mathlib.Core.List.{_∷_}
 use Rattle.esterel.specs.Sets.{member}
 use Rattle.esterel.specs.Statement.{Statement, nothing, pause, emit, exit, seq, par, loop, present, signal, try, setpause, suspend, held}
-use Rattle.esterel.specs.Places.{Part, first, second, PartOf, seq₁, seq₂, par₁, par₂, loop₁, present₁, present₂, signal₁, try₁, suspend₁, Place, At, Alternative, Exclusive, Compatible}
+use Rattle.esterel.specs.Places.{first, second, PartOf, seq₁, seq₂, par₁, par₂, loop₁, present₁, present₂, signal₁, try₁, suspend₁, Place, At, Alternative, Exclusive}
 use Rattle.esterel.specs.States.{active, Valid}
 use Rattle.esterel.specs.Expansion.{expand, ifActive, Expands, clause}
 use Rattle.esterel.proofs.Booleans.{or-l, or-r, never, clash, Tested, tested}

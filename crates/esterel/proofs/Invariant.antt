@@ -1,6 +1,6 @@
 -- One induction for everything that is true of the labels and the residual of a reaction: a relation between a statement
 -- and both that each command keeps holds after code 1 of every reaction, fresh or resumed, and other codes have no labels.
--- Where a suspend is stopped nothing reacts: there the relation is asked for by itself (`Stopped`).
+-- In a stopped suspend nothing reacts, so the relation is asked for there (`Stopped`).
 use Prim.Native.Nat.{ℕ, _-_}
 use mathlib.Core.Path.{_≡_, refl}
 use mathlib.Core.Bool.{Bool, true, false, cond}
@@ -32,10 +32,10 @@ pub record Kept (K : Relation) : Type 0 where
   pub signal-body : (a s : ℕ) (p : Statement) (L : ℕ) (t : Statement) → K p L t → K (signal a s p) L (signal a s t)
   pub try-body : (p : Statement) (L : ℕ) (t : Statement) → K p L t → K (try p) L (try t)
   pub suspend-body : (s : ℕ) (p : Statement) (L : ℕ) (t : Statement) → K p L t → K (suspend s p) L (held s L t)
-  -- nothing is asked of a statement that is held
+  -- no source is a held suspend
   pub at-held : (s M : ℕ) (q : Statement) (L : ℕ) (t : Statement) → K (held s M q) L t
 
--- a suspend that is stopped where it waits at L
+-- every suspend that is stopped where it waits with L
 abbrev pub Stopped : Relation → ℕ → Type 0
 Stopped K L = (s : ℕ) (p : Statement) → active p L ≡ true → K (suspend s p) (activeLabels p L) (held s (activeLabels p L) (expand p L))
 
@@ -179,7 +179,8 @@ module _ (K : Relation) (kept : Kept K) where
       go false h i = lift q (present s p q) (kept .present-second s p q) (react (expand q L) e) i
   resumed-fits (signal a s p) L e z =
       signal-fits (caseOf s (react (expand p L) (remove s e)) (react (expand p L) (insert s e))) a s p
-      (react (expand p L) (remove s e)) (react (expand p L) (insert s e)) (resumed-fits p L (remove s e) z) (resumed-fits p L (insert s e) z)
+      (react (expand p L) (remove s e)) (react (expand p L) (insert s e))
+      (resumed-fits p L (remove s e) z) (resumed-fits p L (insert s e) z)
   resumed-fits (try p) L e z = try-fits p (react (expand p L) e) (resumed-fits p L e z)
   resumed-fits (setpause l) L e z = refl
   resumed-fits (suspend s p) L e z = go (tested (active p L)) (resumed-fits p L e z)
@@ -187,6 +188,7 @@ module _ (K : Relation) (kept : Kept K) where
       go : Tested (active p L) → Fits K p (react (expand p L) e)
           → Fits K (suspend s p) (react (ifActive (active p L) (held s (activeLabels p L) (expand p L))) e)
       go (Tested.yes x) h = rw x
-          (held-fits s (activeLabels p L) p (expand p L) (suspend s p) (kept .suspend-body s p) (z s p x) (member s e) (react (expand p L) e) h)
+          (held-fits s (activeLabels p L) p (expand p L) (suspend s p) (kept .suspend-body s p) (z s p x)
+          (member s e) (react (expand p L) e) h)
       go (Tested.no x) h = rw x refl
   resumed-fits (held s M q) L e z = refl

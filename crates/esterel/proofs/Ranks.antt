@@ -1,5 +1,5 @@
 -- Ranks: the mask of a command of two parts splits at the first rank of the second part, a mask is empty where no pause
--- is active, and it is made label by label.
+-- is active, it gives the active labels back, and it is made label by label.
 use Prim.Native.Nat.{ℕ, _+_, _%_, _^_, _<_, _≤_}
 use mathlib.Core.Path.{_≡_, refl, sym, ap, ap₂, _∙_, subst}
 use mathlib.Core.Logic.{⊎-elim, _↔_}

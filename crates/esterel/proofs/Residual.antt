@@ -1,5 +1,5 @@
 -- 002, theorem 6, with 01's residuals: after code 1 the residual is the expansion by the labels, and the labels are those
--- of pauses; for distinct labels and no setpause, fresh or resumed.
+-- of pauses; for a source with distinct labels and no setpause, fresh or resumed.
 use Prim.Native.Nat.{ℕ}
 use mathlib.Core.Path.{_≡_, refl, sym, _∙_, subst}
 use mathlib.Core.Logic.{⊎-elim}
@@ -16,7 +16,7 @@ use Rattle.esterel.specs.LabelTests.{activeLabels}
 use Rattle.esterel.proofs.Booleans.{or-l, or-cases, or-false, never}
 use Rattle.esterel.proofs.Sets.{member-join, member-only}
 use Rattle.esterel.proofs.Places.{holds-in, Disjoint, distinct-part, disjoint-parts, noSetpause-part, source-part}
-use Rattle.esterel.proofs.Activity.{active-part, Same, active-same, expand-same, Inside, activeLabels-inside, activeLabels-wakes, activeLabels-all, asleep}
+use Rattle.esterel.proofs.Activity.{active-part, Same, active-same, expand-same, Inside, activeLabels-inside, activeLabels-wakes, activeLabels-all, expand-activeLabels, asleep}
 use Rattle.esterel.proofs.Invariant.{Kept, Stopped, Fits, fresh-fits, resumed-fits}
 
 -- the labels are the state of which t is the expansion
@@ -116,7 +116,7 @@ at-stopped L s p h z d n =
     record {
       inside = λ l x. holds-in (pause l) suspend₁ (activeLabels-inside p L l x);
       awake = awake;
-      equal = rw (awake, activeLabels-all p (activeLabels p L) (activeLabels-inside p L), expand-same p (activeLabels p L) L (activeLabels-wakes p L));
+      equal = rw (awake, activeLabels-all p (activeLabels p L) (activeLabels-inside p L), expand-activeLabels p L);
     }
 
 -- THEOREM 1, fresh and resumed

@@ -14,7 +14,7 @@ use Rattle.esterel.specs.LabelTests.{alternative, parallel, activeLabels
 use Rattle.esterel.specs.Ranks.{middle, mask, labelsBy}
 use Rattle.esterel.specs.Resume.{Instant, instant, start, idle, earlier, seqInstant, parInstant, loopInstant, tryInstant, signalInstant, suspendInstant, stoppedInstant, resume}
 use Rattle.esterel.proofs.Order.{Joined, sequence, test, sides}
-use Rattle.esterel.proofs.Activity.{activeLabels-wakes, expand-same}
+use Rattle.esterel.proofs.Activity.{expand-activeLabels}
 use Rattle.esterel.proofs.Ranks.{split-below, split-from, first-empty, second-empty, labels-by}
 
 -- ---- the first error of a list in parts
@@ -107,7 +107,7 @@ suspend-goes : (s : ℕ) (p : Statement) (L e K : ℕ) (i : Instant) → K ≡ a
     → cond (member s e) (stoppedInstant s K (expand p K)) (suspendInstant s i) ≡ start (held s (activeLabels p L) (expand p L)) e
 suspend-goes s p L e K i k h =
     ap₂ (λ (x y : Instant). cond (member s e) x y)
-    (ap₂ (stoppedInstant s) k (ap (expand p) k ∙ expand-same p (activeLabels p L) L (activeLabels-wakes p L)))
+    (ap₂ (stoppedInstant s) k (ap (expand p) k ∙ expand-activeLabels p L))
     (ap (suspendInstant s) h)
     ∙ sym (start-held s (activeLabels p L) (expand p L) e)
 

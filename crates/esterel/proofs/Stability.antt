@@ -1,5 +1,6 @@
 -- 002, theorems 4 and 8: the labels of a waiting reaction are those of pauses and setpauses of the statement at pairwise
--- compatible places; so, for a well-formed statement, they are a valid set. Fresh or resumed, setpause included.
+-- compatible places; so, for a well-formed statement, they are a valid set. Fresh, or resumed from a valid set; setpause
+-- and suspend included.
 use Prim.Native.Nat.{ℕ}
 use mathlib.Core.Path.{_≡_, refl, sym, _∙_, subst, subst₂}
 use mathlib.Core.Logic.{_⊎_, inl, inr, ⊎-elim}
@@ -7,15 +8,16 @@ use mathlib.Core.Bool.{true, false≢true}
 use mathlib.Core.List.{[], _∷_}
 use borrow.Author.Tests.{eqb-true, eq-eqb}
 use Rattle.esterel.specs.Sets.{member, none, only, join}
-use Rattle.esterel.specs.Statement.{Statement, pause, setpause, par, suspend, held}
+use Rattle.esterel.specs.Statement.{Statement, pause, setpause, par}
 use Rattle.esterel.specs.Reaction.{react}
 use Rattle.esterel.specs.Places.{Part, first, second, PartOf, seq₁, seq₂, par₁, par₂, loop₁, present₁, present₂, signal₁, try₁, suspend₁, Place, At, Exclusive, Compatible}
-use Rattle.esterel.specs.States.{Holds, Valid, Distinct, Targeted, Source, WellFormed}
+use Rattle.esterel.specs.States.{Holds, active, Valid, Distinct, Targeted, Source, WellFormed}
 use Rattle.esterel.specs.Expansion.{expand}
+use Rattle.esterel.specs.LabelTests.{activeLabels}
 use Rattle.esterel.proofs.Booleans.{or-l, or-cases}
 use Rattle.esterel.proofs.Sets.{member-join, member-none, member-only}
 use Rattle.esterel.proofs.Places.{compatible-part, compatible-sides, compatible-sides′, source-part, Together, together-part}
-use Rattle.esterel.proofs.Activity.{active-is, activeLabels-inside, activeLabels-wakes}
+use Rattle.esterel.proofs.Activity.{active-is, activeLabels-is, activeLabels-inside}
 use Rattle.esterel.proofs.Invariant.{Kept, Stopped, Fits, fresh-fits, resumed-fits}
 
 -- a pause or a setpause with label l at the place a
@@ -29,7 +31,7 @@ Stops p l = (a : Place) × Stop p l a
 abbrev pub Meet : Statement → ℕ → ℕ → Type 0
 Meet p k l = (a : Place) × (b : Place) × Stop p k a × Stop p l b × Compatible p a b
 
--- S is the state that was resumed: what a stopped suspend keeps of it stands together if it did before
+-- S is the label set that was resumed: of it a stopped suspend keeps labels, which are compatible if those of S are
 pub record Sound (S : ℕ) (p : Statement) (L : ℕ) : Type 0 where
   pub some : (l : ℕ) × (member l L ≡ true)
   pub stops : (l : ℕ) → member l L ≡ true → Stops p l
@@ -85,8 +87,10 @@ module _ (S : ℕ) (p q : Statement) (L M : ℕ) (f : Sound S p L) (g : Sound S 
         some = ((f .some) .0, member-join (f .some .0) L M ∙ or-l _ _ (f .some .1));
         stops = λ l h. ⊎-elim (λ x. stops-in l par₁ (f .stops l x)) (λ x. stops-in l par₂ (g .stops l x)) (either l h);
         meet = λ w k l h i. ⊎-elim
-            (λ x. ⊎-elim (λ y. meet-in k l par₁ (f .meet (together-part S par₁ w) k l x y)) (λ y. across k l (f .stops k x) (g .stops l y)) (either l i))
-            (λ x. ⊎-elim (λ y. across′ k l (g .stops k x) (f .stops l y)) (λ y. meet-in k l par₂ (g .meet (together-part S par₂ w) k l x y)) (either l i))
+            (λ x. ⊎-elim (λ y. meet-in k l par₁ (f .meet (together-part S par₁ w) k l x y))
+            (λ y. across k l (f .stops k x) (g .stops l y)) (either l i))
+            (λ x. ⊎-elim (λ y. across′ k l (g .stops k x) (f .stops l y))
+            (λ y. meet-in k l par₂ (g .meet (together-part S par₂ w) k l x y)) (either l i))
             (either k h);
       }
 
@@ -116,22 +120,19 @@ kept S =
     }
 
 -- what a stopped suspend keeps
-at-stopped : (S : ℕ) → Stopped (SoundLabels S) S
-at-stopped S s p h z =
+active-sound : (S : ℕ) (p : Statement) → active p S ≡ true → Sound S p (activeLabels p S)
+active-sound S p h =
     record {
-      some = let x = active-is p S .0 h in (x .0, activeLabels-wakes p S (x .0) (x .2) ∙ x .1);
-      stops = λ l i. let x = activeLabels-inside p S l i in (first ∷ x .0, inl (At.inside suspend₁ (x .1)));
+      some = let x = active-is p S .0 h in (x .0, activeLabels-is p S (x .0) .1 (x .1, x .2));
+      stops = λ l i. let x = activeLabels-inside p S l i in (x .0, inl (x .1));
       meet = λ w k l i j.
-          let x = activeLabels-inside p S k i in
-          let y = activeLabels-inside p S l j in (
-            first ∷ x .0,
-            first ∷ y .0,
-            inl (At.inside suspend₁ (x .1)),
-            inl (At.inside suspend₁ (y .1)),
-            w k l (sym (activeLabels-wakes p S k x) ∙ i) (sym (activeLabels-wakes p S l y) ∙ j) (first ∷ x .0) (first ∷ y .0)
-                (At.inside suspend₁ (x .1)) (At.inside suspend₁ (y .1)),
-          );
+          let x = activeLabels-is p S k .0 i in
+          let y = activeLabels-is p S l .0 j in
+          (x .1 .0, y .1 .0, inl (x .1 .1), inl (y .1 .1), w k l (x .0) (y .0) (x .1 .0) (y .1 .0) (x .1 .1) (y .1 .1));
     }
+
+at-stopped : (S : ℕ) → Stopped (SoundLabels S) S
+at-stopped S s p h z = sound-in S (activeLabels p S) suspend₁ (active-sound S p h)
 
 pub labels-fresh : (S : ℕ) (p : Statement) (e : ℕ) → Fits (SoundLabels S) p (react p e)
 labels-fresh S = fresh-fits (SoundLabels S) (kept S)
@@ -139,7 +140,7 @@ labels-fresh S = fresh-fits (SoundLabels S) (kept S)
 pub labels-resumed : (p : Statement) (L e : ℕ) → Fits (SoundLabels L) p (react (expand p L) e)
 labels-resumed p L e = resumed-fits (SoundLabels L) (kept L) p L e (at-stopped L)
 
--- no label, nothing to stand together
+-- fresh, no label is resumed
 pub together-none : (p : Statement) → Together p none
 together-none p k l h i = absurd (false≢true (sym (member-none k) ∙ h))
 
