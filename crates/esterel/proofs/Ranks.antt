@@ -13,7 +13,7 @@ use Rattle.esterel.specs.Statement.{Statement, nothing, pause, emit, exi
 use Rattle.esterel.specs.Places.{loop₁, signal₁, try₁, suspend₁}
 use Rattle.esterel.specs.States.{active, Distinct}
 use Rattle.esterel.specs.LabelTests.{Joint, labelsOf, pauses, activeLabels}
-use Rattle.esterel.specs.Ranks.{pauseCount, middle, mask, rank, ifSome, labelsBy}
+use Rattle.esterel.specs.Ranks.{pauseCount, middle, mask, rank, labelsBy}
 use Rattle.esterel.proofs.Booleans.{clash, never, Tested, tested}
 use Rattle.esterel.proofs.Sets.{member-join, member-only, join-none-l, join-none-r, ext}
 use Rattle.esterel.proofs.SplitSets.{none-lt, only-lt, none-over, only-over, below-join, from-join}
@@ -145,6 +145,12 @@ none-is base p L = (
   λ h. eqb-true (mask base p L) none (empty-is base p L ∙ ap not h),
 )
 
+active-none : (p : Statement) → active p none ≡ false
+active-none p = never (active p none) (λ h. let w = active-is p none .0 h in in-none (w .0) (w .1))
+
+pub mask-none : (base : ℕ) (p : Statement) → mask base p none ≡ none
+mask-none base p = none-is base p none .1 (active-none p)
+
 -- the mask of a part of a command of two parts, and whether it is empty
 module _ {j : Joint} {p q w : Statement} (base L : ℕ) (t : Joined j p q w) where
   pub first-empty : empty (below (middle base p) (mask base w L)) ≡ not (active p L)
@@ -155,42 +161,38 @@ module _ {j : Joint} {p q w : Statement} (base L : ℕ) (t : Joined j p q w) whe
 
 -- ---- LABELS BY RANKS
 module _ (L : ℕ) where
-  -- a part whose mask is empty has no active label
-  part-labels : (base : ℕ) (p : Statement) → (active p L ≡ true → labelsBy base p (mask base p L) ≡ activeLabels p L)
-      → ifSome (mask base p L) (labelsBy base p (mask base p L)) ≡ activeLabels p L
-  part-labels base p f = ap (λ (b : Bool). cond b none (labelsBy base p (mask base p L))) (empty-is base p L) ∙ go (tested (active p L))
-    where
-      go : Tested (active p L) → cond (not (active p L)) none (labelsBy base p (mask base p L)) ≡ activeLabels p L
-      go (Tested.yes h) = rw h (f h)
-      go (Tested.no h) = rw h (sym (activeLabels-none p L h))
+  pause-labels : (base l : ℕ) → Tested (member l L) → cond (empty (cond (member l L) (only base) none)) none (only l) ≡ activeLabels (pause l) L
+  unfolding active
+  pause-labels base l (Tested.yes h) = rw (h, only-some base) (sym (activeLabels-pause l L h))
+  pause-labels base l (Tested.no h) = rw (h, eq-eqb none none refl) (sym (activeLabels-none (pause l) L h))
 
-  two-labels : {j : Joint} {p q w : Statement} (base : ℕ) → Joined j p q w
-      → (active p L ≡ true → labelsBy base p (mask base p L) ≡ activeLabels p L)
-      → (active q L ≡ true → labelsBy (middle base p) q (mask (middle base p) q L) ≡ activeLabels q L)
-      → join (ifSome (below (middle base p) (mask base w L)) (labelsBy base p (below (middle base p) (mask base w L))))
-      (ifSome (from (middle base p) (mask base w L)) (labelsBy (middle base p) q (from (middle base p) (mask base w L))))
+  two-labels : {j : Joint} {p q w : Statement} (base : ℕ) → Joined j p q w → labelsBy base p (mask base p L) ≡ activeLabels p L
+      → labelsBy (middle base p) q (mask (middle base p) q L) ≡ activeLabels q L
+      → join (labelsBy base p (below (middle base p) (mask base w L))) (labelsBy (middle base p) q (from (middle base p) (mask base w L)))
       ≡ activeLabels w L
   two-labels {p = p} {q = q} base t f g =
-      ap₂ join
-      (ap (λ (m : ℕ). ifSome m (labelsBy base p m)) (split-below base L t) ∙ part-labels base p f)
-      (ap (λ (m : ℕ). ifSome m (labelsBy (middle base p) q m)) (split-from base L t) ∙ part-labels (middle base p) q g)
+      ap₂ join (ap (labelsBy base p) (split-below base L t) ∙ f) (ap (labelsBy (middle base p) q) (split-from base L t) ∙ g)
       ∙ sym (activeLabels-two L t)
 
-  pub labels-by : (base : ℕ) (p : Statement) → active p L ≡ true → labelsBy base p (mask base p L) ≡ activeLabels p L
-  unfolding labelsBy active activeLabels labelsOf mask
-  labels-by base nothing h = absurd (false≢true h)
-  labels-by base (pause l) h = sym (activeLabels-pause l L h)
-  labels-by base (emit s) h = absurd (false≢true h)
-  labels-by base (exit n) h = absurd (false≢true h)
-  labels-by base (seq p q) h = two-labels {q = q} base sequence (labels-by base p) (labels-by (middle base p) q)
-  labels-by base (par p q) h = two-labels {q = q} base sides (labels-by base p) (labels-by (middle base p) q)
-  labels-by base (loop a p) h = labels-by base p h
-  labels-by base (present s p q) h = two-labels {q = q} base (test {s = s}) (labels-by base p) (labels-by (middle base p) q)
-  labels-by base (signal a s p) h = labels-by base p h
-  labels-by base (try p) h = labels-by base p h
-  labels-by base (setpause l) h = absurd (false≢true h)
-  labels-by base (suspend s p) h = labels-by base p h
-  labels-by base (held s K p) h = absurd (false≢true h)
+  pub labels-by : (base : ℕ) (p : Statement) → labelsBy base p (mask base p L) ≡ activeLabels p L
+  unfolding labelsBy activeLabels labelsOf mask active
+  labels-by base nothing = sym (activeLabels-none nothing L refl)
+  labels-by base (pause l) = pause-labels base l (tested (member l L))
+  labels-by base (emit s) = sym (activeLabels-none (emit s) L refl)
+  labels-by base (exit n) = sym (activeLabels-none (exit n) L refl)
+  labels-by base (seq p q) = two-labels {q = q} base sequence (labels-by base p) (labels-by (middle base p) q)
+  labels-by base (par p q) = two-labels {q = q} base sides (labels-by base p) (labels-by (middle base p) q)
+  labels-by base (loop a p) = labels-by base p
+  labels-by base (present s p q) = two-labels {q = q} base (test {s = s}) (labels-by base p) (labels-by (middle base p) q)
+  labels-by base (signal a s p) = labels-by base p
+  labels-by base (try p) = labels-by base p
+  labels-by base (setpause l) = sym (activeLabels-none (setpause l) L refl)
+  labels-by base (suspend s p) = labels-by base p
+  labels-by base (held s K p) = sym (activeLabels-none (held s K p) L refl)
+
+-- a part whose mask is empty need not be entered
+pub labels-by-none : (base : ℕ) (p : Statement) → labelsBy base p none ≡ none
+labels-by-none base p = ap (labelsBy base p) (sym (mask-none base p)) ∙ labels-by none base p ∙ activeLabels-none p none (active-none p)
 
 -- ---- MASK BY LABELS: label by label, each at its rank
 four : (a b c d : ℕ) → join (join a b) (join c d) ≡ join (join a c) (join b d)
@@ -210,9 +212,6 @@ four a b c d =
 join-self : (s : ℕ) → join s s ≡ s
 unfolding join
 join-self s = or-self s
-
-pub mask-none : (base : ℕ) (p : Statement) → mask base p none ≡ none
-mask-none base p = none-is base p none .1 (never (active p none) (λ h. let w = active-is p none .0 h in in-none (w .0) (w .1)))
 
 pub mask-join : (base : ℕ) (p : Statement) (L M : ℕ) → mask base p (join L M) ≡ join (mask base p L) (mask base p M)
 unfolding mask

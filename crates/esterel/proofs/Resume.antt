@@ -139,5 +139,5 @@ resumes base (signal a s p) L e h =
 resumes base (try p) L e h = ap tryInstant (resumes base p L e h) ∙ sym (start-try (expand p L) e)
 resumes base (setpause l) L e h = absurd (false≢true h)
 resumes base (suspend s p) L e h =
-    rw h (suspend-goes s p L e (labelsBy base p (mask base p L)) _ (labels-by L base p h) (resumes base p L e h))
+    rw h (suspend-goes s p L e (labelsBy base p (mask base p L)) _ (labels-by L base p) (resumes base p L e h))
 resumes base (held s K p) L e h = absurd (false≢true h)

@@ -74,8 +74,8 @@ mask-inactive base p L = (
 )
 
 -- and the labels of those ranks are the active labels inside p, in 02's words
-pub labels-by-ranks : (base : ℕ) (p : Statement) (L : ℕ) → Awake p L → labelsBy base p (mask base p L) ≡ activeLabels p L
-labels-by-ranks base p L w = labels-by L base p (active-is p L .1 w)
+pub labels-by-ranks : (base : ℕ) (p : Statement) (L : ℕ) → labelsBy base p (mask base p L) ≡ activeLabels p L
+labels-by-ranks base p L = labels-by L base p
 
 pub active-labels : (p : Statement) (L l : ℕ) → (member l (activeLabels p L) ≡ true) ↔ ((member l L ≡ true) × Holds p (pause l))
 active-labels = activeLabels-is

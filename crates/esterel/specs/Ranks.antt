@@ -1,6 +1,6 @@
--- Active pauses as a mask, the set of their ranks, and row 11 by it. The rank of a pause is the number of pauses left of
--- it in the whole; those of a part are neighbours in rank, from a base, so the masks of two parts are a mask below and
--- from a number.
+-- Active pauses as a mask, the set of their ranks, with their labels and row 11 by it. The rank of a pause is the number of
+-- pauses left of it in the whole; those of a part are neighbours in rank, from a base, so the masks of two parts are a
+-- mask below and from a number.
 use Prim.Native.Nat.{ℕ, _+_}
 use mathlib.Core.Bool.{Bool, true, false, _&&_, cond}
 use Rattle.esterel.specs.Sets.{member, none, only, join, empty, below, from}
@@ -59,26 +59,16 @@ rank base (setpause k) l = base
 rank base (suspend s p) l = rank base p l
 rank base (held s K p) l = base
 
--- no labels where the mask is empty
-abbrev pub ifSome : (m labels : ℕ) → ℕ
-ifSome m labels = cond (empty m) none labels
-
--- the labels of the pauses of p with these ranks; only parts that have one are entered, and m is not empty
+-- the labels of the pauses of p with these ranks; a part whose mask is empty has none and need not be entered
 unfoldable pub labelsBy : (base : ℕ) → Statement → (m : ℕ) → ℕ
 labelsBy base nothing m = none
-labelsBy base (pause l) m = only l
+labelsBy base (pause l) m = cond (empty m) none (only l)
 labelsBy base (emit s) m = none
 labelsBy base (exit n) m = none
-labelsBy base (seq p q) m =
-    join (ifSome (below (middle base p) m) (labelsBy base p (below (middle base p) m)))
-    (ifSome (from (middle base p) m) (labelsBy (middle base p) q (from (middle base p) m)))
-labelsBy base (par p q) m =
-    join (ifSome (below (middle base p) m) (labelsBy base p (below (middle base p) m)))
-    (ifSome (from (middle base p) m) (labelsBy (middle base p) q (from (middle base p) m)))
+labelsBy base (seq p q) m = join (labelsBy base p (below (middle base p) m)) (labelsBy (middle base p) q (from (middle base p) m))
+labelsBy base (par p q) m = join (labelsBy base p (below (middle base p) m)) (labelsBy (middle base p) q (from (middle base p) m))
 labelsBy base (loop a p) m = labelsBy base p m
-labelsBy base (present s p q) m =
-    join (ifSome (below (middle base p) m) (labelsBy base p (below (middle base p) m)))
-    (ifSome (from (middle base p) m) (labelsBy (middle base p) q (from (middle base p) m)))
+labelsBy base (present s p q) m = join (labelsBy base p (below (middle base p) m)) (labelsBy (middle base p) q (from (middle base p) m))
 labelsBy base (signal a s p) m = labelsBy base p m
 labelsBy base (try p) m = labelsBy base p m
 labelsBy base (setpause l) m = none
