@@ -58,7 +58,7 @@ module _ (sequence : List ℕ) (a : Accepted sequence) (plain : NoSetpause (a .s
   tick-related : (s : State) (w : Rewriting) → TermOf p s w → Recorded p s → (e : ℕ) (buffer : List ℕ)
       → Related (byState p (holds s) (encodeState s) e buffer) (reportOf (byRewriting w e .0), byRewriting w e .1)
   tick-related State.fresh w h r e buffer =
-      let t = step p (a .distinct) plain State.fresh w h e in
+      let t = step p (a .source) (a .distinct) plain State.fresh w h e in
       record {
         state = stateAfter (react p e);
         same = report-written (react p e) (firstError p e) (emits-fresh sequence a e) ∙ ap reportOf (t .0);
@@ -67,16 +67,16 @@ module _ (sequence : List ℕ) (a : Accepted sequence) (plain : NoSetpause (a .s
         recorded = recorded-fresh sequence a e;
       }
   tick-related (State.waits L) w h r e buffer =
-      let t = step p (a .distinct) plain (State.waits L) w h e in
+      let t = step p (a .source) (a .distinct) plain (State.waits L) w h e in
       record {
         state = stateAfter (react (expand p L) e);
         same = report-written (react (expand p L) e) (firstError (expand p L) e) (emits-resumed sequence a L e) ∙ ap reportOf (t .0);
         bytes = refl;
         term = t .1;
-        recorded = recorded-resumed sequence a L e;
+        recorded = recorded-resumed sequence a L e (r .0);
       }
   tick-related State.over w h r e buffer =
-      let t = step p (a .distinct) plain State.over w h e in
+      let t = step p (a .source) (a .distinct) plain State.over w h e in
       record {
         state = State.over;
         same = over-report ∙ ap reportOf (t .0);

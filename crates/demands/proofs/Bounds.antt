@@ -1,4 +1,4 @@
--- Every number that a reaction of a ranged statement gives fits its field: emitted sets, label sets and places.
+-- Every number that a reaction of a ranged statement or of its expansion gives fits its field: emitted sets, label sets and exits.
 use Prim.Native.Nat.{ℕ, zero, suc, _-_, _/_, _^_, _<_, _≤_}
 use native.Mathlib.Nat.{pow-suc}
 use native.Mathlib.Omega.{arith}
@@ -8,10 +8,11 @@ use mathlib.Core.Bool.{Bool, true, false, not, _&&_, cond, false≢true}
 use lib.Dec.{eqb}
 use borrow.Author.Tests.{eqb-true}
 use Rattle.esterel.specs.Sets.{member, none, only, join, insert, remove}
-use Rattle.esterel.specs.Statement.{Statement, nothing, pause, emit, exit, seq, par, loop, present, signal, try, setpause}
-use Rattle.esterel.specs.Reaction.{ended, waiting, leaving, wrong, Reaction, gives, emitted, inSeq, inPar, inLoop, inTry, Case, both, neither, only−, only+, inherited, caseOf, answer, react, Code, code, greater}
-use Rattle.esterel.specs.Places.{Part, PartOf, seq₁, seq₂, par₁, par₂, loop₁, present₁, present₂, signal₁, try₁, Place, At}
+use Rattle.esterel.specs.Statement.{Statement, nothing, pause, emit, exit, seq, par, loop, present, signal, try, setpause, suspend, held}
+use Rattle.esterel.specs.Reaction.{ended, waiting, leaving, wrong, Reaction, gives, emitted, inSeq, inPar, inLoop, inTry, inSuspend, stopped, Case, both, neither, only−, only+, inherited, caseOf, answer, react, Code, code, greater}
+use Rattle.esterel.specs.Places.{Part, PartOf, seq₁, seq₂, par₁, par₂, loop₁, present₁, present₂, signal₁, try₁, suspend₁, Place, At}
 use Rattle.esterel.specs.States.{active}
+use Rattle.esterel.specs.LabelTests.{activeLabels}
 use Rattle.esterel.specs.Expansion.{expand}
 use Rattle.esterel.proofs.Booleans.{or-cases}
 use Rattle.esterel.proofs.Sets.{member-none, member-only, member-join, member-remove, member-step, ext}
@@ -53,6 +54,63 @@ below-remove n j s f i m = f i (go (member i s) (not (eqb j i)) (sym (member-rem
     go true b h = refl
     go false b h = h
 
+-- ---- each emit and each exit is in its range, inside held suspends too; so in a ranged statement and in its expansions
+abbrev pub Bounded : Statement → Type 0
+Bounded nothing = Unit {0}
+Bounded (pause l) = Unit {0}
+Bounded (emit s) = s < signalCount
+Bounded (exit n) = n ≤ maxExit
+Bounded (seq p q) = Bounded p × Bounded q
+Bounded (par p q) = Bounded p × Bounded q
+Bounded (loop a p) = Bounded p
+Bounded (present s p q) = Bounded p × Bounded q
+Bounded (signal a s p) = Bounded p
+Bounded (try p) = Bounded p
+Bounded (setpause l) = Unit {0}
+Bounded (suspend s p) = Bounded p
+Bounded (held s K p) = Bounded p
+
+pub ranged-bounded : (p : Statement) → Ranged p → Bounded p
+ranged-bounded nothing h = tt
+ranged-bounded (pause l) h = tt
+ranged-bounded (emit s) h = h
+ranged-bounded (exit n) h = h .1
+ranged-bounded (seq p q) h = (ranged-bounded p (h .0), ranged-bounded q (h .1))
+ranged-bounded (par p q) h = (ranged-bounded p (h .0), ranged-bounded q (h .1))
+ranged-bounded (loop a p) h = ranged-bounded p h
+ranged-bounded (present s p q) h = (ranged-bounded p (h .1), ranged-bounded q (h .2))
+ranged-bounded (signal a s p) h = ranged-bounded p (h .1)
+ranged-bounded (try p) h = ranged-bounded p h
+ranged-bounded (setpause l) h = tt
+ranged-bounded (suspend s p) h = ranged-bounded p (h .1)
+ranged-bounded (held s K p) h = absurd h
+
+cond-bounded : (b : Bool) (p q : Statement) → Bounded p → Bounded q → Bounded (cond b p q)
+cond-bounded true p q f g = f
+cond-bounded false p q f g = g
+
+pub bounded-expand : (p : Statement) (L : ℕ) → Bounded p → Bounded (expand p L)
+unfolding expand
+bounded-expand nothing L h = tt
+bounded-expand (pause l) L h = tt
+bounded-expand (emit s) L h = tt
+bounded-expand (exit n) L h = tt
+bounded-expand (seq p q) L h =
+    cond-bounded (active p L) (seq (expand p L) q) (expand q L) (bounded-expand p L (h .0), h .1) (bounded-expand q L (h .1))
+bounded-expand (par p q) L h = (
+  cond-bounded (active p L) (expand p L) nothing (bounded-expand p L (h .0)) tt,
+  cond-bounded (active q L) (expand q L) nothing (bounded-expand q L (h .1)) tt,
+)
+bounded-expand (loop a p) L h = (bounded-expand p L h, h)
+bounded-expand (present s p q) L h =
+    cond-bounded (active p L) (expand p L) (expand q L) (bounded-expand p L (h .0)) (bounded-expand q L (h .1))
+bounded-expand (signal a s p) L h = bounded-expand p L h
+bounded-expand (try p) L h = bounded-expand p L h
+bounded-expand (setpause l) L h = tt
+bounded-expand (suspend s p) L h =
+    cond-bounded (active p L) (held s (activeLabels p L) (expand p L)) nothing (bounded-expand p L h) tt
+bounded-expand (held s K p) L h = tt
+
 -- ---- emitted sets
 abbrev Emits : Reaction → Type 0
 Emits r = Below signalCount (emitted r)
@@ -93,7 +151,10 @@ signal-emits only− a s r− r+ f g = below-none signalCount
 signal-emits only+ a s r− r+ f g = below-none signalCount
 signal-emits inherited a s r− r+ f g = below-none signalCount
 
-pub emitted-below : (p : Statement) (e : ℕ) → Ranged p → Below signalCount (emitted (react p e))
+suspend-emits : (s : ℕ) (r : Reaction) → Emits r → Emits (inSuspend s r)
+suspend-emits s (gives o k l t) f = f
+
+pub emitted-below : (p : Statement) (e : ℕ) → Bounded p → Below signalCount (emitted (react p e))
 unfolding react
 emitted-below nothing e h = below-none signalCount
 emitted-below (pause l) e h = below-none signalCount
@@ -103,12 +164,15 @@ emitted-below (seq p q) e h = seq-emits q (react p e) (react q e) (emitted-below
 emitted-below (par p q) e h = par-emits (react p e) (react q e) (emitted-below p e (h .0)) (emitted-below q e (h .1))
 emitted-below (loop a p) e h = loop-emits a p (react p e) (emitted-below p e h)
 emitted-below (present s p q) e h =
-    present-emits (member s e) (react p e) (react q e) (emitted-below p e (h .1)) (emitted-below q e (h .2))
+    present-emits (member s e) (react p e) (react q e) (emitted-below p e (h .0)) (emitted-below q e (h .1))
 emitted-below (signal a s p) e h =
     signal-emits (caseOf s (react p (remove s e)) (react p (insert s e))) a s (react p (remove s e)) (react p (insert s e))
-    (emitted-below p (remove s e) (h .1)) (emitted-below p (insert s e) (h .1))
+    (emitted-below p (remove s e) h) (emitted-below p (insert s e) h)
 emitted-below (try p) e h = try-emits (react p e) (emitted-below p e h)
 emitted-below (setpause l) e h = below-none signalCount
+emitted-below (suspend s p) e h = suspend-emits s (react p e) (emitted-below p e h)
+emitted-below (held s K p) e h =
+    present-emits (member s e) (stopped s K p) (inSuspend s (react p e)) (below-none signalCount) (suspend-emits s (react p e) (emitted-below p e h))
 
 -- ---- labels
 ranged-part : {d : Part} {c p : Statement} → PartOf d c p → Ranged p → Ranged c
@@ -121,6 +185,7 @@ ranged-part present₁ h = h .1
 ranged-part present₂ h = h .2
 ranged-part signal₁ h = h .1
 ranged-part try₁ h = h
+ranged-part suspend₁ h = h .1
 
 ranged-at : {x p : Statement} {a : Place} → At x a p → Ranged p → Ranged x
 ranged-at At.here h = h
@@ -128,30 +193,6 @@ ranged-at (At.inside i u) h = ranged-at u (ranged-part i h)
 
 pub stop-below : (p : Statement) → Ranged p → (l : ℕ) → Stops p l → l < labelCount
 stop-below p h l s = ⊎-elim (λ u. ranged-at u h) (λ u. ranged-at u h) (s .1)
-
--- ---- expansions
-cond-ranged : (b : Bool) (p q : Statement) → Ranged p → Ranged q → Ranged (cond b p q)
-cond-ranged true p q f g = f
-cond-ranged false p q f g = g
-
-pub ranged-expand : (p : Statement) (L : ℕ) → Ranged p → Ranged (expand p L)
-unfolding expand
-ranged-expand nothing L h = tt
-ranged-expand (pause l) L h = tt
-ranged-expand (emit s) L h = tt
-ranged-expand (exit n) L h = tt
-ranged-expand (seq p q) L h =
-    cond-ranged (active p L) (seq (expand p L) q) (expand q L) (ranged-expand p L (h .0), h .1) (ranged-expand q L (h .1))
-ranged-expand (par p q) L h = (
-  cond-ranged (active p L) (expand p L) nothing (ranged-expand p L (h .0)) tt,
-  cond-ranged (active q L) (expand q L) nothing (ranged-expand q L (h .1)) tt,
-)
-ranged-expand (loop a p) L h = (ranged-expand p L h, h)
-ranged-expand (present s p q) L h =
-    cond-ranged (active p L) (expand p L) (expand q L) (ranged-expand p L (h .1)) (ranged-expand q L (h .2))
-ranged-expand (signal a s p) L h = (h .0, ranged-expand p L (h .1))
-ranged-expand (try p) L h = ranged-expand p L h
-ranged-expand (setpause l) L h = tt
 
 -- ---- exits: a code leaves at most as many try blocks as an exit may
 abbrev pub Exits : Code → Type 0
@@ -208,18 +249,24 @@ signal-exits only− a s r− r+ f g = tt
 signal-exits only+ a s r− r+ f g = tt
 signal-exits inherited a s r− r+ f g = tt
 
-pub code-exits : (p : Statement) (e : ℕ) → Ranged p → Exits (code (react p e))
+suspend-exits : (s : ℕ) (r : Reaction) → Exits (code r) → Exits (code (inSuspend s r))
+suspend-exits s (gives o k l t) f = f
+
+pub code-exits : (p : Statement) (e : ℕ) → Bounded p → Exits (code (react p e))
 unfolding react
 code-exits nothing e h = tt
 code-exits (pause l) e h = tt
 code-exits (emit s) e h = tt
-code-exits (exit n) e h = h .1
+code-exits (exit n) e h = h
 code-exits (seq p q) e h = seq-exits q (react p e) (react q e) (code-exits p e (h .0)) (code-exits q e (h .1))
 code-exits (par p q) e h = par-exits (react p e) (react q e) (code-exits p e (h .0)) (code-exits q e (h .1))
 code-exits (loop a p) e h = loop-exits a p (react p e) (code-exits p e h)
-code-exits (present s p q) e h = present-exits (member s e) (react p e) (react q e) (code-exits p e (h .1)) (code-exits q e (h .2))
+code-exits (present s p q) e h = present-exits (member s e) (react p e) (react q e) (code-exits p e (h .0)) (code-exits q e (h .1))
 code-exits (signal a s p) e h =
     signal-exits (caseOf s (react p (remove s e)) (react p (insert s e))) a s (react p (remove s e)) (react p (insert s e))
-    (code-exits p (remove s e) (h .1)) (code-exits p (insert s e) (h .1))
+    (code-exits p (remove s e) h) (code-exits p (insert s e) h)
 code-exits (try p) e h = try-exits (react p e) (code-exits p e h)
 code-exits (setpause l) e h = tt
+code-exits (suspend s p) e h = suspend-exits s (react p e) (code-exits p e h)
+code-exits (held s K p) e h =
+    present-exits (member s e) (stopped s K p) (inSuspend s (react p e)) tt (suspend-exits s (react p e) (code-exits p e h))

@@ -71,7 +71,7 @@ module _ (sequence : List ℕ) (a : Accepted sequence) where
   state-passes state h e answer d (reads-malformed x) = absurd (h .1 p (a .spelled) x)
   state-passes state h e answer d (reads-fresh x n) = (omega arith, admitted-state (stateAfter (react p e)) (recorded-fresh sequence a e))
   state-passes state h e answer d (reads-waiting x v) =
-      (omega arith, admitted-state (stateAfter (react (expand p (labelsIn state)) e)) (recorded-resumed sequence a (labelsIn state) e))
+      (omega arith, admitted-state (stateAfter (react (expand p (labelsIn state)) e)) (recorded-resumed sequence a (labelsIn state) e v))
   state-passes state h e answer d (reads-over x n) = (omega arith, h)
 
   tick-passes : (state : List ℕ) → Admitted sequence state → (e : ℕ) (answer : List ℕ) → Passes (tickOf sequence state e answer)

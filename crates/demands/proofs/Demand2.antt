@@ -20,7 +20,6 @@ use Rattle.esterel.proofs.Rules.{reacts-is}
 use Rattle.esterel.proofs.Errors.{wrong-named}
 use Rattle.esterel.proofs.LabelTests.{valid-is}
 use Rattle.limits.specs.Limits.{maxBytes, signalCount}
-use Rattle.sequence.specs.Writer.{Ranged}
 use Rattle.sequence.specs.Check.{checkOf}
 use Rattle.sequence.specs.Rows.{row-2}
 use Rattle.sequence.proofs.Rows.{check-by-rows}
@@ -30,7 +29,7 @@ use Rattle.demands.specs.Tick.{written, tickOf}
 use Rattle.demands.specs.TickRows.{TickRow, row-1, row-2-to-10, row-11, row-12}
 use Rattle.demands.specs.Demands.{number, StandsAt, at-start, at-labels, Shows, Demand2}
 use Rattle.records.proofs.RecordLaws.{code-field, kind-field, place-field, emitted-field, blameless, wrong-blame, answer-is, length-answer}
-use Rattle.demands.proofs.Bounds.{Below, emitted-below, Exits, code-exits, ranged-expand}
+use Rattle.demands.proofs.Bounds.{Below, Bounded, ranged-bounded, bounded-expand, emitted-below, Exits, code-exits}
 use Rattle.demands.proofs.ErrorPlaces.{PlacesBelow, placed-below, places-expand, errors-below}
 use Rattle.demands.proofs.Reports.{shown-below}
 use Rattle.demands.proofs.TickRows.{Reading, reads-fresh, reads-waiting, reads-over, reads-malformed, reading, tick-by-rows}
@@ -44,7 +43,7 @@ called-wrong (leaving n) c f h = (λ i. absurd (omega arith), λ i. absurd (let 
 called-wrong wrong c f h = (λ i. refl, λ i. h)
 
 abbrev Fitting : Statement → ℕ → Type 0
-Fitting t n = Ranged t × PlacesBelow n t
+Fitting t n = Bounded t × PlacesBelow n t
 
 module _ (t : Statement) (e n : ℕ) (small : n ≤ maxBytes) (f : Fitting t n) where
   shown-right : (o : ℕ) (k : Code) → k ≢ wrong → shown k o ≡ o
@@ -111,13 +110,13 @@ module _ (sequence : List ℕ) (a : Accepted sequence) where
 
   statement-fits : Fitting (a .statement) (length sequence)
   statement-fits = (
-    a .spelled .1 .ranged,
-    placed-below (length sequence) 0 (a .statement) (a .spelled .2) (omega (arith, ap length (a .spelled .0))),
+    ranged-bounded (a .statement) (a .spelled .1 .ranged),
+    placed-below (length sequence) 0 (a .statement) (a .spelled .1 .ranged) (a .spelled .2) (omega (arith, ap length (a .spelled .0))),
   )
 
   expansion-fits : (L : ℕ) → Fitting (expand (a .statement) L) (length sequence)
   expansion-fits L = (
-    ranged-expand (a .statement) L (statement-fits .0),
+    bounded-expand (a .statement) L (statement-fits .0),
     places-expand (length sequence) (a .statement) L (statement-fits .1),
   )
 

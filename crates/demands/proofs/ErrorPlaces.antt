@@ -7,12 +7,13 @@ use mathlib.Core.Bool.{Bool, true, false, cond}
 use mathlib.Core.List.{List, [], _∷_, _++_, List·Memᴰ, List·Memᴰ·not-nil, List·Memᴰ·append-cases, List·Memᴰ·eq-of-singleton}
 use lib.ListN.{length-append}
 use Rattle.esterel.specs.Sets.{member, insert, remove}
-use Rattle.esterel.specs.Statement.{Statement, nothing, pause, emit, exit, seq, par, loop, present, signal, try, setpause}
+use Rattle.esterel.specs.Statement.{Statement, nothing, pause, emit, exit, seq, par, loop, present, signal, try, setpause, suspend, held}
 use Rattle.esterel.specs.Reaction.{Code, ended, waiting, leaving, wrong, code, Case, both, neither, only−, only+, inherited, caseOf, react}
 use Rattle.esterel.specs.Errors.{Error, ifEnded, loopErrors, signalErrors, errors}
 use Rattle.esterel.specs.States.{active}
+use Rattle.esterel.specs.LabelTests.{activeLabels}
 use Rattle.esterel.specs.Expansion.{expand}
-use Rattle.sequence.specs.Writer.{bytesOf, size, PlacedAt}
+use Rattle.sequence.specs.Writer.{bytesOf, size, Ranged, PlacedAt}
 
 -- each loop and signal of p has a place below n
 abbrev pub PlacesBelow : ℕ → Statement → Type 0
@@ -27,26 +28,30 @@ PlacesBelow n (present s p q) = PlacesBelow n p × PlacesBelow n q
 PlacesBelow n (signal a s p) = (a < n) × PlacesBelow n p
 PlacesBelow n (try p) = PlacesBelow n p
 PlacesBelow n (setpause l) = Unit {0}
+PlacesBelow n (suspend s p) = PlacesBelow n p
+PlacesBelow n (held s K p) = PlacesBelow n p
 
-pub placed-below : (n a : ℕ) (p : Statement) → PlacedAt a p → a + size p ≤ n → PlacesBelow n p
+pub placed-below : (n a : ℕ) (p : Statement) → Ranged p → PlacedAt a p → a + size p ≤ n → PlacesBelow n p
 unfolding bytesOf
-placed-below n a nothing h i = tt
-placed-below n a (pause l) h i = tt
-placed-below n a (emit s) h i = tt
-placed-below n a (exit k) h i = tt
-placed-below n a (seq p q) h i =
+placed-below n a nothing r h i = tt
+placed-below n a (pause l) r h i = tt
+placed-below n a (emit s) r h i = tt
+placed-below n a (exit k) r h i = tt
+placed-below n a (seq p q) r h i =
     let e = length-append (bytesOf p) (bytesOf q) in
-    (placed-below n (a + 1) p (h .0) (omega arith), placed-below n (a + (1 + size p)) q (h .1) (omega arith))
-placed-below n a (par p q) h i =
+    (placed-below n (a + 1) p (r .0) (h .0) (omega arith), placed-below n (a + (1 + size p)) q (r .1) (h .1) (omega arith))
+placed-below n a (par p q) r h i =
     let e = length-append (bytesOf p) (bytesOf q) in
-    (placed-below n (a + 1) p (h .0) (omega arith), placed-below n (a + (1 + size p)) q (h .1) (omega arith))
-placed-below n a (loop b p) h i = (omega (arith, h .0), placed-below n (a + 1) p (h .1) (omega arith))
-placed-below n a (present s p q) h i =
+    (placed-below n (a + 1) p (r .0) (h .0) (omega arith), placed-below n (a + (1 + size p)) q (r .1) (h .1) (omega arith))
+placed-below n a (loop b p) r h i = (omega (arith, h .0), placed-below n (a + 1) p r (h .1) (omega arith))
+placed-below n a (present s p q) r h i =
     let e = length-append (bytesOf p) (bytesOf q) in
-    (placed-below n (a + 2) p (h .0) (omega arith), placed-below n (a + (2 + size p)) q (h .1) (omega arith))
-placed-below n a (signal b s p) h i = (omega (arith, h .0), placed-below n (a + 2) p (h .1) (omega arith))
-placed-below n a (try p) h i = placed-below n (a + 1) p h (omega arith)
-placed-below n a (setpause l) h i = tt
+    (placed-below n (a + 2) p (r .1) (h .0) (omega arith), placed-below n (a + (2 + size p)) q (r .2) (h .1) (omega arith))
+placed-below n a (signal b s p) r h i = (omega (arith, h .0), placed-below n (a + 2) p (r .1) (h .1) (omega arith))
+placed-below n a (try p) r h i = placed-below n (a + 1) p r h (omega arith)
+placed-below n a (setpause l) r h i = tt
+placed-below n a (suspend s p) r h i = placed-below n (a + 2) p (r .1) h (omega arith)
+placed-below n a (held s K p) r h i = absurd r
 
 cond-places : (n : ℕ) (b : Bool) (p q : Statement) → PlacesBelow n p → PlacesBelow n q → PlacesBelow n (cond b p q)
 cond-places n true p q f g = f
@@ -70,6 +75,9 @@ places-expand n (present s p q) L h =
 places-expand n (signal a s p) L h = (h .0, places-expand n p L (h .1))
 places-expand n (try p) L h = places-expand n p L h
 places-expand n (setpause l) L h = tt
+places-expand n (suspend s p) L h =
+    cond-places n (active p L) (held s (activeLabels p L) (expand p L)) nothing (places-expand n p L h) tt
+places-expand n (held s K p) L h = tt
 
 -- ---- the errors
 abbrev AllBelow : ℕ → List Error → Type 0
@@ -122,3 +130,5 @@ errors-below n (signal a s p) e h =
     (below-signal n a (caseOf s (react p (remove s e)) (react p (insert s e))) (h .0))
 errors-below n (try p) e h = errors-below n p e h
 errors-below n (setpause l) e h = below-nil n
+errors-below n (suspend s p) e h = errors-below n p e h
+errors-below n (held s K p) e h = below-present n (member s e) [] (errors p e) (below-nil n) (errors-below n p e h)

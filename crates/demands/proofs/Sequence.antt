@@ -10,20 +10,20 @@ use lib.Dec.{eqb}
 use borrow.Author.Tests.{eq-eqb, ne-eqb}
 use Rattle.esterel.specs.Statement.{Statement}
 use Rattle.esterel.specs.Reaction.{Reaction, gives, ended, waiting, leaving, wrong, emitted, react}
-use Rattle.esterel.specs.States.{Distinct, Targeted, WellFormed}
+use Rattle.esterel.specs.States.{Valid, Distinct, Targeted, Source, WellFormed}
 use Rattle.esterel.specs.Expansion.{expand}
 use Rattle.esterel.specs.Machines.{stateAfter}
-use Rattle.esterel.proofs.Invariant.{Fits}
-use Rattle.esterel.proofs.Stability.{SoundLabels, labels-fresh, labels-resumed, sound-valid}
+use Rattle.esterel.proofs.Theorems.{ReactionOf, of-statement, of-expansion, FromValid, stable, labels-of-stops}
 use Rattle.limits.specs.Limits.{labelCount, signalCount}
 use Rattle.sequence.specs.Reader as Reader
 use Rattle.sequence.specs.Check.{Checked, sound, bad, checked, numberOf, checkOf}
 use Rattle.sequence.specs.Rows.{Spells, Row}
 use Rattle.sequence.proofs.Writer.{reads-what-is-written}
+use Rattle.sequence.proofs.Source.{spells-source}
 use Rattle.sequence.proofs.Rows.{Decides, decided, row-range}
 use Rattle.records.specs.Records.{stateLength, answerLength, Decoded, decodeState}
 use Rattle.demands.specs.Tick.{outcome, byState, byCheck, tickOf}
-use Rattle.demands.proofs.Bounds.{Below, below-number, emitted-below, stop-below, ranged-expand}
+use Rattle.demands.proofs.Bounds.{Below, below-number, ranged-bounded, bounded-expand, emitted-below, stop-below}
 use Rattle.records.proofs.RecordLaws.{Recorded}
 
 -- bytes spell at most one statement
@@ -39,6 +39,7 @@ pub record Accepted (sequence : List ℕ) : Type 0 where
   pub is-checked : checked sequence ≡ sound statement
   pub no-row : (m : ℕ) → ¬ Row sequence m
   pub spelled : Spells sequence statement
+  pub source : Source statement
   pub distinct : Distinct statement
   pub targeted : Targeted statement
   pub formed : WellFormed statement
@@ -55,6 +56,7 @@ accepted sequence h = go (checked sequence) refl (decided sequence) h
           is-checked = e;
           no-row = d .0;
           spelled = d .1;
+          source = spells-source sequence p (d .1);
           distinct = d .2;
           targeted = d .3;
           formed = d .4;
@@ -86,23 +88,26 @@ tick-short sequence state e answer h = rw (ne-eqb (length answer) answerLength h
 
 -- ---- reactions of an accepted statement keep to valid states and to the widths
 module _ (sequence : List ℕ) (a : Accepted sequence) where
-  recorded-after : (r : Reaction) → Fits SoundLabels (a .statement) r → Recorded (a .statement) (stateAfter r)
-  recorded-after (gives o ended L t) h = tt
-  recorded-after (gives o waiting L t) h = (
-    sound-valid (a .statement) (a .distinct) (a .formed) (a .targeted) L h,
-    below-number labelCount L (λ l m. stop-below (a .statement) (a .spelled .1 .ranged) l (h .stops l m)),
+  abbrev p : Statement
+  p = a .statement
+
+  recorded-after : (e : ℕ) (r : Reaction) (x : ReactionOf p e r) → FromValid p e x → Recorded p (stateAfter r)
+  recorded-after e (gives o ended L t) x v = tt
+  recorded-after e (gives o waiting L t) x v = (
+    stable p (a .source) (a .distinct) (a .targeted) (a .formed) e o L t x v,
+    below-number labelCount L (λ l m. stop-below p (a .spelled .1 .ranged) l (labels-of-stops p (a .source) e o L t x .1 l m)),
   )
-  recorded-after (gives o (leaving n) L t) h = tt
-  recorded-after (gives o wrong L t) h = tt
+  recorded-after e (gives o (leaving n) L t) x v = tt
+  recorded-after e (gives o wrong L t) x v = tt
 
-  pub recorded-fresh : (e : ℕ) → Recorded (a .statement) (stateAfter (react (a .statement) e))
-  recorded-fresh e = recorded-after (react (a .statement) e) (labels-fresh (a .statement) e)
+  pub recorded-fresh : (e : ℕ) → Recorded p (stateAfter (react p e))
+  recorded-fresh e = recorded-after e (react p e) of-statement tt
 
-  pub recorded-resumed : (L e : ℕ) → Recorded (a .statement) (stateAfter (react (expand (a .statement) L) e))
-  recorded-resumed L e = recorded-after (react (expand (a .statement) L) e) (labels-resumed (a .statement) L e)
+  pub recorded-resumed : (L e : ℕ) → Valid p L → Recorded p (stateAfter (react (expand p L) e))
+  recorded-resumed L e v = recorded-after e (react (expand p L) e) (of-expansion L) v
 
-  pub emits-fresh : (e : ℕ) → Below signalCount (emitted (react (a .statement) e))
-  emits-fresh e = emitted-below (a .statement) e (a .spelled .1 .ranged)
+  pub emits-fresh : (e : ℕ) → Below signalCount (emitted (react p e))
+  emits-fresh e = emitted-below p e (ranged-bounded p (a .spelled .1 .ranged))
 
-  pub emits-resumed : (L e : ℕ) → Below signalCount (emitted (react (expand (a .statement) L) e))
-  emits-resumed L e = emitted-below (expand (a .statement) L) e (ranged-expand (a .statement) L (a .spelled .1 .ranged))
+  pub emits-resumed : (L e : ℕ) → Below signalCount (emitted (react (expand p L) e))
+  emits-resumed L e = emitted-below (expand p L) e (bounded-expand p L (ranged-bounded p (a .spelled .1 .ranged)))
