@@ -7,11 +7,11 @@ use mathlib.Core.List.{List}
 use lib.ListN.{getD}
 use borrow.Author.Tests.{lt-ltb}
 use Rattle.sets.specs.Sets.{signalCount, insertBelow}
-use Rattle.esterel.specs.Sets.{insert, remove, empty, below, from}
-use Rattle.esterel.specs.Statement.{Statement, nothing, seq, par, loop, present, signal, try}
-use Rattle.esterel.specs.Reaction.{ended, gives}
+use Rattle.esterel.specs.Sets.{member, insert, remove, empty, below, from}
+use Rattle.esterel.specs.Statement.{Statement, nothing, seq, par, loop, present, signal, try, suspend}
+use Rattle.esterel.specs.Reaction.{ended, waiting, gives}
 use Rattle.esterel.specs.Sets as sets
-use Rattle.esterel.specs.Ranks.{middle}
+use Rattle.esterel.specs.Ranks.{middle, labelsBy}
 use Rattle.esterel.specs.Resume as Esterel
 use Rattle.esterel.specs.Resume.{instant, start, idle, seqInstant, parInstant, tryInstant, signalInstant, resume}
 use Rattle.sequence.specs.Commands.{Command, commandOf}
@@ -19,7 +19,8 @@ use Rattle.layout.specs.Layout.{Form, Lies}
 use Rattle.sequence.proofs.Table.{byte-is}
 use Rattle.layout.proofs.Laid.{opened}
 use Rattle.rules.specs.declared.instant.Instant.{Instant}
-use Rattle.rules.specs.Instants.{instantOf}
+use Rattle.rules.specs.Instants.{faultless, instantOf}
+use Rattle.rules.proofs.Combining.{suspend-instant}
 
 -- a cut at k is one at j
 moved : (cut : ℕ → ℕ → ℕ) (m : ℕ) {k j f : ℕ} → k ≡ j → f ≡ cut k m → f ≡ cut j m
@@ -79,6 +80,18 @@ module _ (base m e : ℕ) {r : Instant} where
         let hi : e+ ≡ insert x e = hv ∙ rw (lt-ltb x signalCount l) in
         w (resume base p m (remove x e)) (resume base p m (insert x e)) (rw hu at h) (rw hi at k)
 
+-- ---- a suspend
+module _ (base m e s : ℕ) (p : Statement) {r : Instant} where
+  -- it keeps the labels K
+  pub suspend-stopped : {K : ℕ} → member s e ≡ true → K ≡ labelsBy base p m → r ≡ instantOf (faultless (gives sets.none waiting K nothing))
+      → r ≡ instantOf (resume base (suspend s p) m e)
+  unfolding resume
+  suspend-stopped i k h = rw i (h ∙ ap (λ (z : ℕ). instantOf (faultless (gives sets.none waiting z nothing))) k)
+
+  pub suspend-resumed : member s e ≡ false → r ≡ instantOf (resume base p m e) → r ≡ instantOf (resume base (suspend s p) m e)
+  unfolding resume
+  suspend-resumed i h = rw i (h ∙ suspend-instant s (resume base p m e))
+
 -- ---- a side of a parallel
 module _ (base m e : ℕ) (p : Statement) {r : Instant} where
   pub side-ended : empty m ≡ true → r ≡ instantOf idle → r ≡ instantOf (cond (empty m) idle (resume base p m e))
@@ -97,7 +110,7 @@ abbrev pub Without : (b low n : ℕ) → Type 0
 Without b low zero = Unit {0}
 Without b low (suc n) = Without b low n × (b ≡ low + n → ⊥)
 
-pub leaf-step : (t : List ℕ) (d base a : ℕ) (bs : List ℕ) (p : Statement) (m e : ℕ) {r : Instant} → Lies t d base a bs p → Without (getD bs 0 0) 4 6
+pub leaf-step : (t : List ℕ) (d base a : ℕ) (bs : List ℕ) (p : Statement) (m e : ℕ) {r : Instant} → Lies t d base a bs p → Without (getD bs 0 0) 4 6 × (getD bs 0 0 ≡ 11 → ⊥)
     → r ≡ instantOf idle → r ≡ instantOf (resume base p m e)
 unfolding resume
 leaf-step t d base a bs p m e {r} l w h = go (commandOf (getD bs 0 0)) refl (opened t d base a bs p l .1 .form)
@@ -108,10 +121,11 @@ leaf-step t d base a bs p m e {r} l w h = go (commandOf (getD bs 0 0)) refl (ope
     go (some Command.pause) q f = rw (f .parts) h
     go (some Command.emit) q f = rw (f .parts) h
     go (some Command.exit) q f = rw (f .parts) h
-    go (some Command.seq) q f = absurd (w .0 .0 .0 .0 .0 .1 (byte-is (getD bs 0 0) Command.seq q))
-    go (some Command.par) q f = absurd (w .0 .0 .0 .0 .1 (byte-is (getD bs 0 0) Command.par q))
-    go (some Command.loop) q f = absurd (w .0 .0 .0 .1 (byte-is (getD bs 0 0) Command.loop q))
-    go (some Command.present) q f = absurd (w .0 .0 .1 (byte-is (getD bs 0 0) Command.present q))
-    go (some Command.signal) q f = absurd (w .0 .1 (byte-is (getD bs 0 0) Command.signal q))
-    go (some Command.try) q f = absurd (w .1 (byte-is (getD bs 0 0) Command.try q))
+    go (some Command.seq) q f = absurd (w .0 .0 .0 .0 .0 .0 .1 (byte-is (getD bs 0 0) Command.seq q))
+    go (some Command.par) q f = absurd (w .0 .0 .0 .0 .0 .1 (byte-is (getD bs 0 0) Command.par q))
+    go (some Command.loop) q f = absurd (w .0 .0 .0 .0 .1 (byte-is (getD bs 0 0) Command.loop q))
+    go (some Command.present) q f = absurd (w .0 .0 .0 .1 (byte-is (getD bs 0 0) Command.present q))
+    go (some Command.signal) q f = absurd (w .0 .0 .1 (byte-is (getD bs 0 0) Command.signal q))
+    go (some Command.try) q f = absurd (w .0 .1 (byte-is (getD bs 0 0) Command.try q))
     go (some Command.setpause) q f = rw (f .parts) h
+    go (some Command.suspend) q f = absurd (w .1 (byte-is (getD bs 0 0) Command.suspend q))

@@ -30,6 +30,7 @@ pub fn resume(
         7 => present_parts(s, at, depth, input, active, second),
         8 => signal_rule(s, at, depth, input, active, second),
         9 => try_part(s, at, depth, input, active, second),
+        11 => suspend_part(s, at, depth, input, active, second),
         _ => rules::command::ending(0),
     }
 }
@@ -169,6 +170,25 @@ fn signal_rule(
     let with = sets::signals::with(input, x);
     let q = part(s, 2, at + 2, depth - 1, with, active, second);
     rules::command::in_signal(at as u16, x, p, q)
+}
+
+// The signal is tested first. Where it is present nothing inside reacts, and the active labels inside are kept.
+fn suspend_part(
+    s: &[u8],
+    at: usize,
+    depth: u8,
+    input: u32,
+    active: Labels,
+    second: &Seconds,
+) -> Instant
+    requires { ⌜ Ready (now second) depth at (now s) × (getD (now s) 0 0 ≡ 11) ⌝ }
+    ensures { λ r. ⌜ Resumed (now (second .entry)) depth at (now (s .entry)) (labelSet active) input r ⌝ }
+{
+    if sets::signals::member(input, s[1]) {
+        rules::command::waiting(active::labels::of_part(s, 2, at + 2, depth - 1, active, second))
+    } else {
+        part(s, 2, at + 2, depth - 1, input, active, second)
+    }
 }
 
 fn try_part(s: &[u8], at: usize, depth: u8, input: u32, active: Labels, second: &Seconds) -> Instant

@@ -2,7 +2,7 @@ use mathlib.Core.Path.{sym, _∙_}
 use native.Mathlib.Omega.{arith}
 use borrow.Author.Needs.{needs}
 use borrow.Author.Tests.{ltb-true}
-use Rattle.esterel.specs.Statement.{seq, par, loop, present, signal, try}
+use Rattle.esterel.specs.Statement.{seq, par, loop, present, signal, try, suspend}
 use Rattle.sequence.specs.Commands.{Command}
 use Rattle.layout.proofs.Laid.{ready, whole, whole-lies, taken, begins}
 use Rattle.resume.proofs.Steps.{
@@ -15,6 +15,8 @@ use Rattle.resume.proofs.Steps.{
   loop-step,
   try-step,
   signal-step,
+  suspend-stopped,
+  suspend-resumed,
   side-ended,
   side-active,
   idle-is,
@@ -25,45 +27,51 @@ use borrow.Fn.Kinds.{In}
 use borrow.Fn.PlainCycle.{Measures, is, falls, and}
 use Rattle.resume.proofs.resume.loop_part.Reads as loop-part
 use Rattle.resume.proofs.resume.loop_part.Kinds as loop-part-kinds
-use Rattle.resume.proofs.resume.+loop_part+par_parts+part+present_parts+resume+seq_parts+side+signal_rule+try_part.Lts-loop_part as loop-part-lts
+use Rattle.resume.proofs.resume.+loop_part+par_parts+part+present_parts+resume+seq_parts+side+signal_rule+suspend_part+try_part.Lts-loop_part as loop-part-lts
 use Rattle.resume.proofs.resume.par_parts.Reads as par-parts
 use Rattle.resume.proofs.resume.par_parts.Kinds as par-parts-kinds
-use Rattle.resume.proofs.resume.+loop_part+par_parts+part+present_parts+resume+seq_parts+side+signal_rule+try_part.Lts-par_parts as par-parts-lts
+use Rattle.resume.proofs.resume.+loop_part+par_parts+part+present_parts+resume+seq_parts+side+signal_rule+suspend_part+try_part.Lts-par_parts as par-parts-lts
 use Rattle.resume.proofs.resume.part.Reads as part
 use Rattle.resume.proofs.resume.part.Kinds as part-kinds
-use Rattle.resume.proofs.resume.+loop_part+par_parts+part+present_parts+resume+seq_parts+side+signal_rule+try_part.Lts-part as part-lts
+use Rattle.resume.proofs.resume.+loop_part+par_parts+part+present_parts+resume+seq_parts+side+signal_rule+suspend_part+try_part.Lts-part as part-lts
 use Rattle.resume.proofs.resume.present_parts.Reads as present-parts
 use Rattle.resume.proofs.resume.present_parts.Kinds as present-parts-kinds
-use Rattle.resume.proofs.resume.+loop_part+par_parts+part+present_parts+resume+seq_parts+side+signal_rule+try_part.Lts-present_parts as present-parts-lts
+use Rattle.resume.proofs.resume.+loop_part+par_parts+part+present_parts+resume+seq_parts+side+signal_rule+suspend_part+try_part.Lts-present_parts as present-parts-lts
 use Rattle.resume.proofs.resume.resume.Reads as resume
 use Rattle.resume.proofs.resume.resume.Kinds as resume-kinds
-use Rattle.resume.proofs.resume.+loop_part+par_parts+part+present_parts+resume+seq_parts+side+signal_rule+try_part.Lts-resume as resume-lts
+use Rattle.resume.proofs.resume.+loop_part+par_parts+part+present_parts+resume+seq_parts+side+signal_rule+suspend_part+try_part.Lts-resume as resume-lts
 use Rattle.resume.proofs.resume.seq_parts.Reads as seq-parts
 use Rattle.resume.proofs.resume.seq_parts.Kinds as seq-parts-kinds
-use Rattle.resume.proofs.resume.+loop_part+par_parts+part+present_parts+resume+seq_parts+side+signal_rule+try_part.Lts-seq_parts as seq-parts-lts
+use Rattle.resume.proofs.resume.+loop_part+par_parts+part+present_parts+resume+seq_parts+side+signal_rule+suspend_part+try_part.Lts-seq_parts as seq-parts-lts
 use Rattle.resume.proofs.resume.side.Reads as side
 use Rattle.resume.proofs.resume.side.Kinds as side-kinds
-use Rattle.resume.proofs.resume.+loop_part+par_parts+part+present_parts+resume+seq_parts+side+signal_rule+try_part.Lts-side as side-lts
+use Rattle.resume.proofs.resume.+loop_part+par_parts+part+present_parts+resume+seq_parts+side+signal_rule+suspend_part+try_part.Lts-side as side-lts
 use Rattle.resume.proofs.resume.signal_rule.Reads as signal-rule
 use Rattle.resume.proofs.resume.signal_rule.Kinds as signal-rule-kinds
-use Rattle.resume.proofs.resume.+loop_part+par_parts+part+present_parts+resume+seq_parts+side+signal_rule+try_part.Lts-signal_rule as signal-rule-lts
+use Rattle.resume.proofs.resume.+loop_part+par_parts+part+present_parts+resume+seq_parts+side+signal_rule+suspend_part+try_part.Lts-signal_rule as signal-rule-lts
+use Rattle.resume.proofs.resume.suspend_part.Reads as suspend-part
+use Rattle.resume.proofs.resume.suspend_part.Kinds as suspend-part-kinds
+use Rattle.resume.proofs.resume.+loop_part+par_parts+part+present_parts+resume+seq_parts+side+signal_rule+suspend_part+try_part.Lts-suspend_part as suspend-part-lts
 use Rattle.resume.proofs.resume.try_part.Reads as try-part
 use Rattle.resume.proofs.resume.try_part.Kinds as try-part-kinds
-use Rattle.resume.proofs.resume.+loop_part+par_parts+part+present_parts+resume+seq_parts+side+signal_rule+try_part.Lts-try_part as try-part-lts
+use Rattle.resume.proofs.resume.+loop_part+par_parts+part+present_parts+resume+seq_parts+side+signal_rule+suspend_part+try_part.Lts-try_part as try-part-lts
 use Rattle.react.proofs.react.after.Reads as after-reads
 use Rattle.rules.proofs.command.ending.Reads as ending-reads
 use Rattle.rules.proofs.command.in_parallel.Reads as in-parallel-reads
 use Rattle.rules.proofs.command.in_signal.Reads as in-signal-reads
 use Rattle.rules.proofs.command.in_try.Reads as in-try-reads
+use Rattle.rules.proofs.command.waiting.Reads as waiting-reads
+use Rattle.active.proofs.labels.of_part.Reads as of-part-reads
 use Rattle.sets.proofs.labels.below.Reads as below-reads
 use Rattle.sets.proofs.labels.from.Reads as from-reads
 use Rattle.sets.proofs.labels.is_empty.Reads as is-empty-reads
+use Rattle.sets.proofs.signals.member.Reads as member-reads
 use Rattle.sets.proofs.signals.with.Reads as with-reads
 use Rattle.sets.proofs.signals.without.Reads as without-reads
-use Rattle.resume.proofs.resume.+loop_part+par_parts+part+present_parts+resume+seq_parts+side+signal_rule+try_part.{
+use Rattle.resume.proofs.resume.+loop_part+par_parts+part+present_parts+resume+seq_parts+side+signal_rule+suspend_part+try_part.{
   statement,
 }
-use Rattle.resume.proofs.resume.+loop_part+par_parts+part+present_parts+resume+seq_parts+side+signal_rule+try_part.Tie.{
+use Rattle.resume.proofs.resume.+loop_part+par_parts+part+present_parts+resume+seq_parts+side+signal_rule+suspend_part+try_part.Tie.{
   close,
 }
 
@@ -90,6 +98,9 @@ abbrev μ-side : Measures 2 side-kinds.ps ℕ
 
 abbrev μ-signal-rule : Measures 2 signal-rule-kinds.ps ℕ
 μ-signal-rule κs a = 4 * (a .1 .1 .0) - 1
+
+abbrev μ-suspend-part : Measures 2 suspend-part-kinds.ps ℕ
+μ-suspend-part κs a = 4 * (a .1 .1 .0) - 1
 
 abbrev μ-try-part : Measures 2 try-part-kinds.ps ℕ
 μ-try-part κs a = 4 * (a .1 .1 .0) - 1
@@ -153,6 +164,13 @@ abbrev signal-rule-below : ℕ → In 2 signal-rule-kinds.ps
 signal-rule-below t =
     and 2 signal-rule-kinds.ps (falls 2 signal-rule-kinds.ps _<_ μ-signal-rule t) signal-rule.Pre
 
+abbrev suspend-part-at : ℕ → In 2 suspend-part-kinds.ps
+suspend-part-at t = and 2 suspend-part-kinds.ps (is 2 suspend-part-kinds.ps μ-suspend-part t) suspend-part.Pre
+
+abbrev suspend-part-below : ℕ → In 2 suspend-part-kinds.ps
+suspend-part-below t =
+    and 2 suspend-part-kinds.ps (falls 2 suspend-part-kinds.ps _<_ μ-suspend-part t) suspend-part.Pre
+
 abbrev try-part-at : ℕ → In 2 try-part-kinds.ps
 try-part-at t = and 2 try-part-kinds.ps (is 2 try-part-kinds.ps μ-try-part t) try-part.Pre
 
@@ -173,7 +191,7 @@ abbrev present-parts-claims : ℕ → present-parts-lts.Claims
 present-parts-claims t = (below-reads.Asked, below-reads.Learnt, is-empty-reads.Asked, is-empty-reads.Learnt, from-reads.Asked, from-reads.Learnt, part-below t, part.Post)
 
 abbrev resume-claims : ℕ → resume-lts.Claims
-resume-claims t = (seq-parts-below t, seq-parts.Post, par-parts-below t, par-parts.Post, loop-part-below t, loop-part.Post, present-parts-below t, present-parts.Post, signal-rule-below t, signal-rule.Post, try-part-below t, try-part.Post, ending-reads.Asked, ending-reads.Learnt)
+resume-claims t = (seq-parts-below t, seq-parts.Post, par-parts-below t, par-parts.Post, loop-part-below t, loop-part.Post, present-parts-below t, present-parts.Post, signal-rule-below t, signal-rule.Post, try-part-below t, try-part.Post, suspend-part-below t, suspend-part.Post, ending-reads.Asked, ending-reads.Learnt)
 
 abbrev seq-parts-claims : ℕ → seq-parts-lts.Claims
 seq-parts-claims t = (below-reads.Asked, below-reads.Learnt, is-empty-reads.Asked, is-empty-reads.Learnt, from-reads.Asked, from-reads.Learnt, part-below t, part.Post, after-reads.Asked, after-reads.Learnt)
@@ -183,6 +201,9 @@ side-claims t = (is-empty-reads.Asked, is-empty-reads.Learnt, ending-reads.Asked
 
 abbrev signal-rule-claims : ℕ → signal-rule-lts.Claims
 signal-rule-claims t = (without-reads.Asked, without-reads.Learnt, part-below t, part.Post, with-reads.Asked, with-reads.Learnt, in-signal-reads.Asked, in-signal-reads.Learnt)
+
+abbrev suspend-part-claims : ℕ → suspend-part-lts.Claims
+suspend-part-claims t = (member-reads.Asked, member-reads.Learnt, of-part-reads.Asked, of-part-reads.Learnt, waiting-reads.Asked, waiting-reads.Learnt, part-below t, part.Post)
 
 abbrev try-part-claims : ℕ → try-part-lts.Claims
 try-part-claims t = (part-below t, part.Post, in-try-reads.Asked, in-try-reads.Learnt)
@@ -277,6 +298,9 @@ resume-signal-rule-requires t c κs = (search needs, ((c .before .before .before
 resume-try-part-requires : (t : ℕ) → resume-lts.Need-try-part-requires (resume-claims t) (resume-at t) resume.Post
 resume-try-part-requires t c κs = (search needs, ((c .before .before .before .pre .1), c .match .keys6))
 
+resume-suspend-part-requires : (t : ℕ) → resume-lts.Need-suspend-part-requires (resume-claims t) (resume-at t) resume.Post
+resume-suspend-part-requires t c κs = (search needs, ((c .before .before .before .pre .1), c .match .keys7))
+
 resume-returns : (t : ℕ) → resume-lts.Need-returns (resume-claims t) (resume-at t) resume.Post
 resume-returns t c base p l = c .seq-parts .ensures base p l
 
@@ -296,7 +320,10 @@ resume-returns-6 : (t : ℕ) → resume-lts.Need-returns-6 (resume-claims t) (re
 resume-returns-6 t c base p l = c .try-part .ensures base p l
 
 resume-returns-7 : (t : ℕ) → resume-lts.Need-returns-7 (resume-claims t) (resume-at t) resume.Post
-resume-returns-7 t c base p l = leaf-step _ _ base _ _ p _ _ l (c .before .match .rest) (idle-is (c .ending .ensures))
+resume-returns-7 t c base p l = c .suspend-part .ensures base p l
+
+resume-returns-8 : (t : ℕ) → resume-lts.Need-returns-8 (resume-claims t) (resume-at t) resume.Post
+resume-returns-8 t c base p l = leaf-step _ _ base _ _ p _ _ l (c .before .match .rest) (idle-is (c .ending .ensures))
 
 seq-parts-element-copy-out-entry : (t : ℕ) → seq-parts-lts.Need-element-copy-out-entry (seq-parts-claims t) (seq-parts-at t) seq-parts.Post
 seq-parts-element-copy-out-entry t c = omega (arith, c .before .pre .1 .0 .long, c .before .pre .1 .0 .fits, c .before .pre .1 .0 .bytes)
@@ -354,6 +381,27 @@ signal-rule-returns t c base p l =
     (signal-step base _ _ q _ _ (ltb-true _ _ (y .ranged)) (c .before .before .before .before .without .ensures) (c .before .before .before .part .ensures base q (y .parts .1 .1)) (c .before .before .with .ensures)
     (c .before .part2 .ensures base q (y .parts .1 .1)) (c .in-signal .ensures))
 
+suspend-part-shared-slice-read-member : (t : ℕ) → suspend-part-lts.Need-shared-slice-read-member (suspend-part-claims t) (suspend-part-at t) suspend-part.Post
+suspend-part-shared-slice-read-member t c = begins (c .before .before .pre .1 .0) Command.suspend (c .before .before .pre .1 .1) .there
+
+suspend-part-of-part-requires : (t : ℕ) → suspend-part-lts.Need-of-part-requires (suspend-part-claims t) (suspend-part-at t) suspend-part.Post
+suspend-part-of-part-requires t c κs = let y = begins (c .before .before .before .before .pre .1 .0) Command.suspend (c .before .before .before .before .pre .1 .1) in (y .there, ready _ (y .parts .0) (c .before .before .before .before .pre .1 .0 .long) (y .parts .1 .1))
+
+suspend-part-part-requires : (t : ℕ) → suspend-part-lts.Need-part-requires (suspend-part-claims t) (suspend-part-at t) suspend-part.Post
+suspend-part-part-requires t c κs = let y = begins (c .before .before .before .before .pre .1 .0) Command.suspend (c .before .before .before .before .pre .1 .1) in (search needs, (y .there, ready _ (y .parts .0) (c .before .before .before .before .pre .1 .0 .long) (y .parts .1 .1)))
+
+suspend-part-returns : (t : ℕ) → suspend-part-lts.Need-returns (suspend-part-claims t) (suspend-part-at t) suspend-part.Post
+suspend-part-returns t c base p l =
+    let y = taken (c .before .before .before .before .before .before .pre .1 .0) base p l Command.suspend (c .before .before .before .before .before .before .pre .1 .1) .parts in
+    here base _ _ (suspend _ (y .0)) p (y .1 .0)
+    (suspend-stopped base _ _ _ (y .0) (sym (c .before .before .before .member .ensures) ∙ c .before .before .if1 .taken) (c .before .of-part .ensures base (y .0) (y .1 .1)) (c .waiting .ensures))
+
+suspend-part-returns-2 : (t : ℕ) → suspend-part-lts.Need-returns-2 (suspend-part-claims t) (suspend-part-at t) suspend-part.Post
+suspend-part-returns-2 t c base p l =
+    let y = taken (c .before .before .before .before .before .pre .1 .0) base p l Command.suspend (c .before .before .before .before .before .pre .1 .1) .parts in
+    here base _ _ (suspend _ (y .0)) p (y .1 .0)
+    (suspend-resumed base _ _ _ (y .0) (sym (c .before .before .member .ensures) ∙ c .before .if1 .left) (c .part .ensures base (y .0) (y .1 .1)))
+
 try-part-part-requires : (t : ℕ) → try-part-lts.Need-part-requires (try-part-claims t) (try-part-at t) try-part.Post
 try-part-part-requires t c κs = let y = begins (c .before .pre .1 .0) Command.try (c .before .pre .1 .1) in (search needs, (y .there, ready _ (y .parts .0) (c .before .pre .1 .0 .long) (y .parts .1 .1)))
 
@@ -362,9 +410,9 @@ try-part-returns t c base p l =
     let y = taken (c .before .before .before .pre .1 .0) base p l Command.try (c .before .before .before .pre .1 .1) .parts in
     here base _ _ (try (y .0)) p (y .1 .0) (try-step base _ _ (y .0) (c .before .part .ensures base (y .0) (y .1 .1)) (c .in-try .ensures))
 
-pub +loop-part+par-parts+part+present-parts+resume+seq-parts+side+signal-rule+try-part-spec :
+pub +loop-part+par-parts+part+present-parts+resume+seq-parts+side+signal-rule+suspend-part+try-part-spec :
     {M : Type 1} → statement M
-+loop-part+par-parts+part+present-parts+resume+seq-parts+side+signal-rule+try-part-spec =
++loop-part+par-parts+part+present-parts+resume+seq-parts+side+signal-rule+suspend-part+try-part-spec =
     close
     μ-loop-part
     μ-par-parts
@@ -374,6 +422,7 @@ pub +loop-part+par-parts+part+present-parts+resume+seq-parts+side+signal-rule+tr
     μ-seq-parts
     μ-side
     μ-signal-rule
+    μ-suspend-part
     μ-try-part
     (λ t. loop-part-lts.spec (loop-part-claims t) (loop-part-at t)
     loop-part.Post
@@ -421,6 +470,7 @@ pub +loop-part+par-parts+part+present-parts+resume+seq-parts+side+signal-rule+tr
     (resume-present-parts-requires t)
     (resume-signal-rule-requires t)
     (resume-try-part-requires t)
+    (resume-suspend-part-requires t)
     (λ c κs. search needs)
     (resume-returns t)
     (resume-returns-2 t)
@@ -428,7 +478,8 @@ pub +loop-part+par-parts+part+present-parts+resume+seq-parts+side+signal-rule+tr
     (resume-returns-4 t)
     (resume-returns-5 t)
     (resume-returns-6 t)
-    (resume-returns-7 t))
+    (resume-returns-7 t)
+    (resume-returns-8 t))
     (λ t. seq-parts-lts.spec (seq-parts-claims t) (seq-parts-at t)
     seq-parts.Post
     (λ c. search needs)
@@ -459,6 +510,15 @@ pub +loop-part+par-parts+part+present-parts+resume+seq-parts+side+signal-rule+tr
     (signal-rule-part-requires-2 t)
     (λ c. search needs) (λ c κs. search needs)
     (signal-rule-returns t))
+    (λ t. suspend-part-lts.spec (suspend-part-claims t) (suspend-part-at t)
+    suspend-part.Post
+    (suspend-part-shared-slice-read-member t)
+    (λ c κs. search needs) (λ c. search needs) (λ c. search needs)
+    (suspend-part-of-part-requires t)
+    (λ c κs. search needs) (λ c. search needs) (λ c. search needs)
+    (suspend-part-part-requires t)
+    (suspend-part-returns t)
+    (suspend-part-returns-2 t))
     λ t. try-part-lts.spec (try-part-claims t) (try-part-at t)
     try-part.Post
     (λ c. search needs) (λ c. search needs)
