@@ -7,7 +7,7 @@ use native.Mathlib.Omega.{arith}
 use lib.ListN.{length, getD, length-append}
 use borrow.Author.Tests.{lt-ltb}
 use Rattle.esterel.specs.Sets.{none, only, join}
-use Rattle.esterel.specs.Statement.{Statement, nothing, pause, emit, exit, seq, par, loop, present, signal, try, setpause}
+use Rattle.esterel.specs.Statement.{Statement, nothing, pause, emit, exit, seq, par, loop, present, signal, try, setpause, suspend}
 use Rattle.esterel.specs.LabelTests.{labelsOf, alternative, parallel}
 use Rattle.esterel.specs.LabelRows.{addRow, further, fill}
 use Rattle.esterel.specs.Ranks.{middle}
@@ -77,24 +77,25 @@ module _ (a : ℕ) (v : Before) (r : Passed) (m n : List ℕ) where
 -- the command is none of those with labels or parts, nor nothing
 abbrev pub Other : ℕ → Type 0
 Other b =
-    ((((((((Unit {0} × (b ≡ 0 → ⊥)) × (b ≡ 1 → ⊥)) × (b ≡ 4 → ⊥)) × (b ≡ 5 → ⊥)) × (b ≡ 6 → ⊥)) × (b ≡ 7 → ⊥)) × (b ≡ 8 → ⊥)) × (b ≡ 9 → ⊥)) × (b ≡ 10 → ⊥)
+    (((((((((Unit {0} × (b ≡ 0 → ⊥)) × (b ≡ 1 → ⊥)) × (b ≡ 4 → ⊥)) × (b ≡ 5 → ⊥)) × (b ≡ 6 → ⊥)) × (b ≡ 7 → ⊥)) × (b ≡ 8 → ⊥)) × (b ≡ 9 → ⊥)) × (b ≡ 10 → ⊥)) × (b ≡ 11 → ⊥)
 
 pub other-step : {u : List ℕ} {d a : ℕ} {bs : List ℕ} (i : Ready u d a bs) (v : Before) (r : Passed) (m n : List ℕ) → Labelled r (a + 2) none none
     → Other (getD bs 0 0) → (t : List ℕ) (base : ℕ) (p : Statement) → Lies t d base a bs p → Past p a v r m m n n
 other-step {d = d} {a = a} {bs = bs} i v r m n h o t base p l = go (command i .0) (command i .1)
   where
     go : (c : Command) → getD bs 0 0 ≡ byteOf c → Past p a v r m m n n
-    go Command.nothing b = absurd (o .0 .0 .0 .0 .0 .0 .0 .0 .1 b)
-    go Command.pause b = absurd (o .0 .0 .0 .0 .0 .0 .0 .1 b)
+    go Command.nothing b = absurd (o .0 .0 .0 .0 .0 .0 .0 .0 .0 .1 b)
+    go Command.pause b = absurd (o .0 .0 .0 .0 .0 .0 .0 .0 .1 b)
     go Command.emit b = here a v r m m n n p (emit (getD bs 1 0)) (by-command t d base a bs p l Command.emit b .parts) (emit-step a v r m n h (getD bs 1 0))
     go Command.exit b = here a v r m m n n p (exit (getD bs 1 0)) (by-command t d base a bs p l Command.exit b .parts) (exit-step a v r m n h (getD bs 1 0))
-    go Command.seq b = absurd (o .0 .0 .0 .0 .0 .0 .1 b)
-    go Command.par b = absurd (o .0 .0 .0 .0 .0 .1 b)
-    go Command.loop b = absurd (o .0 .0 .0 .0 .1 b)
-    go Command.present b = absurd (o .0 .0 .0 .1 b)
-    go Command.signal b = absurd (o .0 .0 .1 b)
-    go Command.try b = absurd (o .0 .1 b)
-    go Command.setpause b = absurd (o .1 b)
+    go Command.seq b = absurd (o .0 .0 .0 .0 .0 .0 .0 .1 b)
+    go Command.par b = absurd (o .0 .0 .0 .0 .0 .0 .1 b)
+    go Command.loop b = absurd (o .0 .0 .0 .0 .0 .1 b)
+    go Command.present b = absurd (o .0 .0 .0 .0 .1 b)
+    go Command.signal b = absurd (o .0 .0 .0 .1 b)
+    go Command.try b = absurd (o .0 .0 .1 b)
+    go Command.setpause b = absurd (o .0 .1 b)
+    go Command.suspend b = absurd (o .1 b)
 
 -- ---- commands of one part
 module _ (a : ℕ) (v : Before) (r : Passed) (m m′ n n′ : List ℕ) (p : Statement) where
@@ -109,6 +110,10 @@ module _ (a : ℕ) (v : Before) (r : Passed) (m m′ n n′ : List ℕ) (p : Sta
   pub try-step : Past p (a + 1) v r m m′ n n′ → Past (try p) a v r m m′ n n′
   unfolding labelsOf bytesOf fill
   try-step h = record { labels = ends-at (omega arith) (h .labels); excludes = h .excludes; sides = h .sides }
+
+  pub suspend-step : (s : ℕ) → Past p (a + 2) v r m m′ n n′ → Past (suspend s p) a v r m m′ n n′
+  unfolding labelsOf bytesOf fill
+  suspend-step s h = record { labels = ends-at (omega arith) (h .labels); excludes = h .excludes; sides = h .sides }
 
 -- ---- commands of two parts
 -- the first part ends at k, and there the second begins

@@ -127,6 +127,7 @@ fn pass(
         8 => pass_part(s, 2, at + 2, depth - 1, before, exclusive, concurrent),
         9 => pass_part(s, 1, at + 1, depth - 1, before, exclusive, concurrent),
         10 => at_setpause(s[1], at + 2, before, concurrent),
+        11 => pass_part(s, 2, at + 2, depth - 1, before, exclusive, concurrent),
         _ => at_other(at + 2),
     }
 }

@@ -1,7 +1,7 @@
 use native.Mathlib.Omega.{arith}
 use borrow.Author.Needs.{needs}
 use borrow.Author.Tests.{ltb-true}
-use Rattle.esterel.specs.Statement.{nothing, pause, seq, par, loop, present, signal, try, setpause}
+use Rattle.esterel.specs.Statement.{nothing, pause, seq, par, loop, present, signal, try, setpause, suspend}
 use Rattle.sequence.specs.Commands.{Command}
 use Rattle.layout.proofs.Laid.{ready, begins, by-command}
 use Rattle.wellformed.proofs.Passing.{
@@ -13,6 +13,7 @@ use Rattle.wellformed.proofs.Passing.{
   loop-step,
   signal-step,
   try-step,
+  suspend-step,
   seq-step,
   par-step,
   present-step,
@@ -130,6 +131,11 @@ pass-add-at-setpause t c = omega (arith, begins (c .before .before .before .befo
 pass-at-setpause-requires : (t : ℕ) → pass-lts.Need-at-setpause-requires (pass-claims t) (pass-at t) pass.Post
 pass-at-setpause-requires t c κs = ltb-true _ _ (begins (c .before .before .before .before .before .pre .1 .ready) Command.setpause (c .before .before .match .keys9) .ranged)
 
+pass-pass-part-requires-4 : (t : ℕ) → pass-lts.Need-pass-part-requires-4 (pass-claims t) (pass-at t) pass.Post
+pass-pass-part-requires-4 t c κs =
+    let y = begins (c .before .before .before .before .before .pre .1 .ready) Command.suspend (c .before .before .match .keys10) in
+    (search needs, (y .there, record { table = _; ready = ready _ (y .parts .0) (c .before .before .before .before .before .pre .1 .ready .long) (y .parts .1 .1) }))
+
 pass-returns : (t : ℕ) → pass-lts.Need-returns (pass-claims t) (pass-at t) pass.Post
 pass-returns t c u base p l =
     let y = by-command u _ base _ _ p l Command.nothing (c .before .match .keys1) .parts in
@@ -176,7 +182,12 @@ pass-returns-9 t c u base p l =
     here _ _ _ _ _ _ _ p (setpause _) (y) (setpause-step _ _ _ _ _ _ _ (c .at-setpause .ensures .1) (c .at-setpause .ensures .0))
 
 pass-returns-10 : (t : ℕ) → pass-lts.Need-returns-10 (pass-claims t) (pass-at t) pass.Post
-pass-returns-10 t c = other-step (c .before .before .before .before .pre .1 .ready) _ _ _ _ (c .at-other2 .ensures) (c .before .match .rest)
+pass-returns-10 t c u base p l =
+    let y = by-command u _ base _ _ p l Command.suspend (c .before .before .before .match .keys10) .parts in
+    here _ _ _ _ _ _ _ p (suspend _ (y .0)) (y .1 .0) (suspend-step _ _ _ _ _ _ _ (y .0) _ (c .pass-part4 .ensures u base (y .0) (y .1 .1)))
+
+pass-returns-11 : (t : ℕ) → pass-lts.Need-returns-11 (pass-claims t) (pass-at t) pass.Post
+pass-returns-11 t c = other-step (c .before .before .before .before .pre .1 .ready) _ _ _ _ (c .at-other2 .ensures) (c .before .match .rest)
 
 pass-part-pass-requires : (t : ℕ) →
     pass-part-lts.Need-pass-requires (pass-part-claims t) (pass-part-at t) pass-part.Post
@@ -229,6 +240,8 @@ pub +pass+pass-part+pass-parts-spec : {M : Type 1} → statement M
     (pass-shared-slice-read-at-setpause t)
     (pass-add-at-setpause t)
     (pass-at-setpause-requires t)
+    (λ c. search needs) (λ c. search needs)
+    (pass-pass-part-requires-4 t)
     (λ c. search needs) (λ c κs. search needs)
     (pass-returns t)
     (pass-returns-2 t)
@@ -239,7 +252,8 @@ pub +pass+pass-part+pass-parts-spec : {M : Type 1} → statement M
     (pass-returns-7 t)
     (pass-returns-8 t)
     (pass-returns-9 t)
-    (pass-returns-10 t))
+    (pass-returns-10 t)
+    (pass-returns-11 t))
     (λ t. pass-part-lts.spec (pass-part-claims t) (pass-part-at t)
     pass-part.Post
     (λ c. search needs) (λ c. search needs) (λ c. search needs)
