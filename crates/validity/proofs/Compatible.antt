@@ -5,7 +5,7 @@ use mathlib.Core.Bool.{Bool, true, false, _&&_}
 use mathlib.Core.List.{List}
 use lib.ListN.{getD}
 use Rattle.esterel.specs.Sets.{empty, below, from}
-use Rattle.esterel.specs.Statement.{Statement, seq, par, loop, present, signal, try}
+use Rattle.esterel.specs.Statement.{Statement, seq, par, loop, present, signal, try, suspend}
 use Rattle.esterel.specs.Ranks.{middle, ofParts, compatible}
 use Rattle.sequence.specs.Commands.{Command}
 use Rattle.layout.specs.Layout.{Lies, Ready}
@@ -30,6 +30,10 @@ module _ (base m : ℕ) (p : Statement) {r : Bool} (h : r ≡ compatible base p 
   pub try-step : r ≡ compatible base (try p) m
   unfolding compatible
   try-step = h
+
+  pub suspend-step : (s : ℕ) → r ≡ compatible base (suspend s p) m
+  unfolding compatible
+  suspend-step s = h
 
 -- ---- commands of two parts
 abbrev ofTwo : (parallel : Bool) (base m : ℕ) (p q : Statement) → Bool
@@ -78,9 +82,9 @@ both e h = rw e h
 pub neither : {a : Bool} (b : Bool) → a ≡ false → false ≡ (a && b)
 neither b e = rw e
 
--- ---- commands without parts: none of the bytes 4 to 9
+-- ---- commands without parts: none of the bytes 4 to 9, nor 11
 abbrev pub NoParts : ℕ → Type 0
-NoParts b = (((((Unit {0} × (b ≡ 4 → ⊥)) × (b ≡ 5 → ⊥)) × (b ≡ 6 → ⊥)) × (b ≡ 7 → ⊥)) × (b ≡ 8 → ⊥)) × (b ≡ 9 → ⊥)
+NoParts b = ((((((Unit {0} × (b ≡ 4 → ⊥)) × (b ≡ 5 → ⊥)) × (b ≡ 6 → ⊥)) × (b ≡ 7 → ⊥)) × (b ≡ 8 → ⊥)) × (b ≡ 9 → ⊥)) × (b ≡ 11 → ⊥)
 
 pub leaf-step : {t : List ℕ} {d a : ℕ} {bs : List ℕ} (r : Ready t d a bs) (base m : ℕ) (p : Statement) → Lies t d base a bs p
     → NoParts (getD bs 0 0) → true ≡ compatible base p m
@@ -92,10 +96,11 @@ leaf-step {bs = bs} r base m p l n = go (command r .0) (command r .1)
     go Command.pause b = rw (taken r base p l Command.pause b .parts)
     go Command.emit b = rw (taken r base p l Command.emit b .parts)
     go Command.exit b = rw (taken r base p l Command.exit b .parts)
-    go Command.seq b = absurd (n .0 .0 .0 .0 .0 .1 b)
-    go Command.par b = absurd (n .0 .0 .0 .0 .1 b)
-    go Command.loop b = absurd (n .0 .0 .0 .1 b)
-    go Command.present b = absurd (n .0 .0 .1 b)
-    go Command.signal b = absurd (n .0 .1 b)
-    go Command.try b = absurd (n .1 b)
+    go Command.seq b = absurd (n .0 .0 .0 .0 .0 .0 .1 b)
+    go Command.par b = absurd (n .0 .0 .0 .0 .0 .1 b)
+    go Command.loop b = absurd (n .0 .0 .0 .0 .1 b)
+    go Command.present b = absurd (n .0 .0 .0 .1 b)
+    go Command.signal b = absurd (n .0 .0 .1 b)
+    go Command.try b = absurd (n .0 .1 b)
     go Command.setpause b = rw (taken r base p l Command.setpause b .parts)
+    go Command.suspend b = absurd (n .1 b)

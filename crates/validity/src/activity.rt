@@ -22,6 +22,7 @@ fn compatible(s: &[u8], at: usize, depth: u8, second: &Seconds, active: Labels) 
         7 => compatible_parts(s, at, 2, false, depth, second, active),
         8 => compatible_part(s, 2, at + 2, depth - 1, second, active),
         9 => compatible_part(s, 1, at + 1, depth - 1, second, active),
+        11 => compatible_part(s, 2, at + 2, depth - 1, second, active),
         _ => true,
     }
 }

@@ -2,7 +2,7 @@ use mathlib.Core.Path.{refl, sym, _∙_}
 use native.Mathlib.Omega.{arith}
 use borrow.Author.Needs.{needs}
 use borrow.Author.Tests.{not-true, not-false}
-use Rattle.esterel.specs.Statement.{seq, par, loop, present, signal, try}
+use Rattle.esterel.specs.Statement.{seq, par, loop, present, signal, try, suspend}
 use Rattle.sequence.specs.Commands.{Command}
 use Rattle.layout.proofs.Laid.{ready, taken, begins, first-ready, second-ready}
 use Rattle.validity.proofs.Compatible.{
@@ -10,6 +10,7 @@ use Rattle.validity.proofs.Compatible.{
   loop-step,
   signal-step,
   try-step,
+  suspend-step,
   seq-step,
   par-step,
   present-step,
@@ -115,6 +116,9 @@ compatible-compatible-part-requires-2 t c κs = let y = begins (c .before .befor
 compatible-compatible-part-requires-3 : (t : ℕ) → compatible-lts.Need-compatible-part-requires-3 (compatible-claims t) (compatible-at t) compatible.Post
 compatible-compatible-part-requires-3 t c κs = let y = begins (c .before .before .before .pre .1) Command.try (c .match .keys6) .parts in (search needs, (search needs, ready _ (y .0) (c .before .before .before .pre .1 .long) (y .1 .1)))
 
+compatible-compatible-part-requires-4 : (t : ℕ) → compatible-lts.Need-compatible-part-requires-4 (compatible-claims t) (compatible-at t) compatible.Post
+compatible-compatible-part-requires-4 t c κs = let y = begins (c .before .before .before .pre .1) Command.suspend (c .match .keys7) in (search needs, (y .there, ready _ (y .parts .0) (c .before .before .before .pre .1 .long) (y .parts .1 .1)))
+
 compatible-returns : (t : ℕ) → compatible-lts.Need-returns (compatible-claims t) (compatible-at t) compatible.Post
 compatible-returns t c base p l =
     let y = taken (c .before .before .before .before .pre .1) base p l Command.seq (c .before .match .keys1) .parts in
@@ -146,7 +150,12 @@ compatible-returns-6 t c base p l =
     here (try (y .0)) p base _ (y .1 .0) (try-step base _ (y .0) (c .compatible-part3 .ensures base (y .0) (y .1 .1)))
 
 compatible-returns-7 : (t : ℕ) → compatible-lts.Need-returns-7 (compatible-claims t) (compatible-at t) compatible.Post
-compatible-returns-7 t c base p l = leaf-step (c .before .before .before .pre .1) base _ p l (c .match .rest)
+compatible-returns-7 t c base p l =
+    let y = taken (c .before .before .before .before .pre .1) base p l Command.suspend (c .before .match .keys7) .parts in
+    here (suspend _ (y .0)) p base _ (y .1 .0) (suspend-step base _ (y .0) (c .compatible-part4 .ensures base (y .0) (y .1 .1)) _)
+
+compatible-returns-8 : (t : ℕ) → compatible-lts.Need-returns-8 (compatible-claims t) (compatible-at t) compatible.Post
+compatible-returns-8 t c base p l = leaf-step (c .before .before .before .pre .1) base _ p l (c .match .rest)
 
 compatible-part-compatible-requires : (t : ℕ) → compatible-part-lts.Need-compatible-requires (compatible-part-claims t) (compatible-part-at t) compatible-part.Post
 compatible-part-compatible-requires t c κs = (search needs, c .before .before .pre .1 .1)
@@ -273,13 +282,16 @@ pub +compatible+compatible-part+compatible-parts-spec : {M : Type 1} → stateme
     (compatible-compatible-part-requires-2 t)
     (λ c. search needs) (λ c. search needs)
     (compatible-compatible-part-requires-3 t)
+    (λ c. search needs) (λ c. search needs)
+    (compatible-compatible-part-requires-4 t)
     (compatible-returns t)
     (compatible-returns-2 t)
     (compatible-returns-3 t)
     (compatible-returns-4 t)
     (compatible-returns-5 t)
     (compatible-returns-6 t)
-    (compatible-returns-7 t))
+    (compatible-returns-7 t)
+    (compatible-returns-8 t))
     (λ t. compatible-part-lts.spec (compatible-part-claims t) (compatible-part-at t)
     compatible-part.Post
     (λ c. search needs) (λ c. search needs) (λ c. search needs)
