@@ -6,7 +6,9 @@ pub mod TickRows
 pub mod Demand1
 pub mod Demand2
 pub mod Agreement
+pub mod NoLabels
 pub mod Calls
 pub mod Replacements
 pub mod Bays
+pub mod Suspended
 pub mod Theorems

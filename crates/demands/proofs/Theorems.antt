@@ -1,5 +1,5 @@
 -- The theorems of this crate: the three demands for the definitions of the check and the tick, then for calls that meet the
--- tick's contract; the starred bays; and what the demands refuse.
+-- tick's contract; that the paper knows no labels; the starred bays and bays with suspend; and what the demands refuse.
 use Prim.Native.Nat.{ℕ}
 use mathlib.Core.Path.{_≡_}
 use mathlib.Core.Logic.{_≢_}
@@ -9,7 +9,7 @@ use Rattle.esterel.specs.Statement.{Statement}
 use Rattle.esterel.specs.Reaction.{Code, gives}
 use Rattle.esterel.specs.Rules.{Reacts}
 use Rattle.esterel.specs.States.{NoSetpause}
-use Rattle.esterel.specs.Machines.{Rewriting}
+use Rattle.esterel.specs.Machines.{Rewriting, erase}
 use Rattle.sequence.specs.Check.{checkOf}
 use Rattle.sequence.specs.Rows.{Spells}
 use Rattle.records.specs.Records.{answerLength}
@@ -18,13 +18,16 @@ use Rattle.demands.specs.Paper.{Call, paper}
 use Rattle.demands.specs.Demands.{Tick, number, cleared, report, Admitted, StandsAt, Shows, Demand1, Demand2, Demand3, TickMeets, Chain}
 use Rattle.demands.specs.Replacements as wrong
 use Rattle.demands.specs.Bays.{Bay, table, ShowsBay}
+use Rattle.demands.specs.Suspended.{ShowsRuns}
 use Rattle.demands.proofs.Sequence as sequence
 use Rattle.demands.proofs.Demand1 as one
 use Rattle.demands.proofs.Demand2 as two
 use Rattle.demands.proofs.Agreement as three
+use Rattle.demands.proofs.NoLabels as paper-labels
 use Rattle.demands.proofs.Calls as calls
 use Rattle.demands.proofs.Replacements as refuted
 use Rattle.demands.proofs.Bays as bays
+use Rattle.demands.proofs.Suspended as suspends
 
 -- an accepted sequence spells one statement
 pub spells-one : (sequence : List ℕ) → checkOf sequence ≡ 0
@@ -58,9 +61,18 @@ pub demand-3-calls : (sequence : List ℕ) → checkOf sequence ≡ 0 → (p : S
     → map report results ≡ paper (Rewriting.fresh p) cs
 demand-3-calls = calls.demand-3-calls
 
+-- ---- the paper knows no labels: its terms carry them in held suspends, and what it reports never depends on them
+pub paper-knows-no-labels : (t u : Statement) → erase t ≡ erase u → (cs : List Call)
+    → paper (Rewriting.waits t) cs ≡ paper (Rewriting.waits u) cs
+paper-knows-no-labels = paper-labels.paper-knows-no-labels
+
 -- ---- the starred bays
 pub starred : (b : Bay) → List·Memᴰ b table → (buffer : List ℕ) → length buffer ≡ answerLength → ShowsBay tickOf b buffer
 starred = bays.starred
+
+-- ---- bays with suspend
+pub suspended : ShowsRuns tickOf
+suspended = suspends.suspended
 
 -- ---- what the demands refuse
 pub refused-1 : ((tick : Tick) → ¬ Demand1 wrong.turnsDown tick) × (¬ Demand1 checkOf wrong.saysOver)

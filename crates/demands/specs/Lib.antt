@@ -4,3 +4,4 @@ pub mod Paper
 pub mod Demands
 pub mod Replacements
 pub mod Bays
+pub mod Suspended

@@ -1,0 +1,65 @@
+-- Bays with suspend (02, item 1): bytes, inputs, and what the tick of a fresh machine shows on them in each instant, worked by hand.
+-- Signal 0 stops each of them: input 1 has it, input 0 has not, and the last one declares it.
+use Prim.Native.Nat.{ℕ}
+use mathlib.Core.Path.{_≡_}
+use mathlib.Core.List.{List, [], _∷_, map}
+use lib.ListN.{replicate}
+use Rattle.records.specs.Records.{answerLength}
+use Rattle.demands.specs.Demands.{Tick, outcomes, cleared}
+use Rattle.demands.specs.Bays.{Instant, quiet, shownBy}
+
+pub record Run : Type 0 where
+  pub bytes : List ℕ
+  pub inputs : List ℕ
+  pub shows : List Instant
+
+-- number 0 and code 1
+abbrev pub waits : (emitted labels : ℕ) → Instant
+waits emitted labels = record { number = 0; code = 1; kind = 0; place = 0; emitted = emitted; labels = labels }
+
+-- number 0 and code 0
+abbrev pub ends : (emitted : ℕ) → Instant
+ends emitted = record { number = 0; code = 0; kind = 0; place = 0; emitted = emitted; labels = 0 }
+
+unfoldable pub table : List Run
+table =
+    -- fresh it is not stopped; stopped it emits nothing and keeps label 5
+    record {
+      bytes = 0x0B ∷ 0x00 ∷ 0x04 ∷ 0x02 ∷ 0x01 ∷ 0x04 ∷ 0x01 ∷ 0x05 ∷ 0x02 ∷ 0x02 ∷ [];
+      inputs = 1 ∷ 1 ∷ 1 ∷ 0 ∷ [];
+      shows = waits 2 32 ∷ waits 0 32 ∷ waits 0 32 ∷ ends 4 ∷ [];
+    }
+    -- each round of a loop begins fresh and is stopped once resumed
+    ∷ record {
+      bytes = 0x06 ∷ 0x0B ∷ 0x00 ∷ 0x04 ∷ 0x02 ∷ 0x01 ∷ 0x01 ∷ 0x00 ∷ [];
+      inputs = 1 ∷ 1 ∷ 0 ∷ 1 ∷ [];
+      shows = waits 2 1 ∷ waits 0 1 ∷ waits 2 1 ∷ waits 0 1 ∷ [];
+    }
+    -- labels 0 and 2, then 0 and 3, then 0: it keeps what is active inside, and the other side goes on
+    ∷ record {
+      bytes = 0x05 ∷ 0x0B ∷ 0x00 ∷ 0x04 ∷ 0x01 ∷ 0x00 ∷ 0x01 ∷ 0x01 ∷ 0x04 ∷ 0x01 ∷ 0x02 ∷ 0x01 ∷ 0x03 ∷ [];
+      inputs = 0 ∷ 1 ∷ 1 ∷ [];
+      shows = waits 0 5 ∷ waits 0 9 ∷ waits 0 1 ∷ [];
+    }
+    -- an exit beside it drops what it keeps
+    ∷ record {
+      bytes = 0x09 ∷ 0x05 ∷ 0x0B ∷ 0x00 ∷ 0x01 ∷ 0x00 ∷ 0x04 ∷ 0x01 ∷ 0x01 ∷ 0x03 ∷ 0x01 ∷ [];
+      inputs = 0 ∷ 1 ∷ [];
+      shows = waits 0 3 ∷ ends 0 ∷ [];
+    }
+    -- its own signal stops it in the run with it, and is emitted in the run without it: not reactive
+    ∷ record {
+      bytes = 0x08 ∷ 0x00 ∷ 0x0B ∷ 0x00 ∷ 0x04 ∷ 0x01 ∷ 0x00 ∷ 0x02 ∷ 0x00 ∷ [];
+      inputs = 0 ∷ 0 ∷ [];
+      shows = waits 0 1 ∷ quiet 255 2 0 0 ∷ [];
+    }
+    ∷ []
+
+-- what a tick shows on these inputs from a cleared record, with a cleared answer buffer
+abbrev pub shownOn : Tick → (bytes inputs : List ℕ) → List Instant
+shownOn tick bytes inputs =
+    map shownBy (outcomes tick bytes cleared (map (λ (e : ℕ). record { input = e; buffer = replicate answerLength 0 }) inputs))
+
+-- each row of the table
+abbrev pub ShowsRuns : Tick → Type 0
+ShowsRuns tick = map (λ (r : Run). shownOn tick (r .bytes) (r .inputs)) table ≡ map (λ (r : Run). r .shows) table
