@@ -10,7 +10,6 @@ use borrow.Author.Tests.{eqb-true}
 use Rattle.esterel.specs.Sets.{member, none, only, join, insert, remove}
 use Rattle.esterel.specs.Statement.{Statement, nothing, pause, emit, exit, seq, par, loop, present, signal, try, setpause, suspend, held}
 use Rattle.esterel.specs.Reaction.{ended, waiting, leaving, wrong, Reaction, gives, emitted, inSeq, inPar, inLoop, inTry, inSuspend, stopped, Case, both, neither, only−, only+, inherited, caseOf, answer, react, Code, code, greater}
-use Rattle.esterel.specs.Places.{Part, PartOf, seq₁, seq₂, par₁, par₂, loop₁, present₁, present₂, signal₁, try₁, suspend₁, Place, At}
 use Rattle.esterel.specs.States.{active}
 use Rattle.esterel.specs.LabelTests.{activeLabels}
 use Rattle.esterel.specs.Expansion.{expand}
@@ -19,6 +18,7 @@ use Rattle.esterel.proofs.Sets.{member-none, member-only, member-join, member-r
 use Rattle.esterel.proofs.Stability.{Stops}
 use Rattle.limits.specs.Limits.{labelCount, signalCount, maxExit}
 use Rattle.sequence.specs.Writer.{Ranged}
+use Rattle.sequence.proofs.Source.{ranged-at}
 
 -- ---- sets whose members are below a bound
 abbrev pub Below : ℕ → ℕ → Type 0
@@ -175,22 +175,6 @@ emitted-below (held s K p) e h =
     present-emits (member s e) (stopped s K p) (inSuspend s (react p e)) (below-none signalCount) (suspend-emits s (react p e) (emitted-below p e h))
 
 -- ---- labels
-ranged-part : {d : Part} {c p : Statement} → PartOf d c p → Ranged p → Ranged c
-ranged-part seq₁ h = h .0
-ranged-part seq₂ h = h .1
-ranged-part par₁ h = h .0
-ranged-part par₂ h = h .1
-ranged-part loop₁ h = h
-ranged-part present₁ h = h .1
-ranged-part present₂ h = h .2
-ranged-part signal₁ h = h .1
-ranged-part try₁ h = h
-ranged-part suspend₁ h = h .1
-
-ranged-at : {x p : Statement} {a : Place} → At x a p → Ranged p → Ranged x
-ranged-at At.here h = h
-ranged-at (At.inside i u) h = ranged-at u (ranged-part i h)
-
 pub stop-below : (p : Statement) → Ranged p → (l : ℕ) → Stops p l → l < labelCount
 stop-below p h l s = ⊎-elim (λ u. ranged-at u h) (λ u. ranged-at u h) (s .1)
 

@@ -35,7 +35,7 @@ use Rattle.intake.specs.declared.tick.Reply.{Reply}
 use Rattle.intake.specs.declared.tick.Reply.the-variants.{Refused, Reacted}
 use Rattle.intake.specs.Standing.{Decodes, WritableCode, Writable, writtenFrom, replied, Replies}
 use Rattle.demands.proofs.Sequence.{accepted}
-use Rattle.demands.proofs.Bounds.{Exits, code-exits, ranged-expand}
+use Rattle.demands.proofs.Bounds.{Bounded, Exits, ranged-bounded, bounded-expand, code-exits}
 use Rattle.intake.proofs.Standing.{written-from}
 
 -- ---- instants fit the answer record
@@ -46,7 +46,7 @@ writable-code (leaving n) x f = omega arith
 writable-code wrong Option.none f = tt
 writable-code wrong (some x) f = tt
 
-writable : (t : Statement) (e : ℕ) → Ranged t → (i : Instant) → i ≡ instantOf (start t e) → Writable i
+writable : (t : Statement) (e : ℕ) → Bounded t → (i : Instant) → i ≡ instantOf (start t e) → Writable i
 writable t e r i w = subst Writable (sym w) (writable-code (code (react t e)) (firstError t e) (code-exits t e r))
 
 -- ---- what is known of a sequence that the check has passed
@@ -88,7 +88,7 @@ module _ (sequence state : List ℕ) (e : ℕ) where
     by-record : (d : Decoded) → decodeState p state ≡ d → (answer : List ℕ) → byState p d state e answer ≡ byCheck (checked sequence) state e answer
     by-record d w answer = sym (ap (λ (c : Checked). byCheck c state e answer) s ∙ ap (λ (x : Decoded). byState p x state e answer) w)
 
-    reacts : (t : Statement) (i : Instant) → Ranged t → i ≡ instantOf (start t e)
+    reacts : (t : Statement) (i : Instant) → Bounded t → i ≡ instantOf (start t e)
         → ((answer : List ℕ) → writtenFrom (instantOf (start t e)) ≡ byCheck (checked sequence) state e answer) → Replies sequence state e (Reacted i)
     reacts t i r h k = record { writable = writable t e r i h; is = λ answer. ap writtenFrom h ∙ k answer }
 
@@ -99,14 +99,14 @@ module _ (sequence state : List ℕ) (e : ℕ) where
     over-reply d = record { writable = tt; is = by-record (holds State.over) d }
 
     pub fresh-reply : (i : Instant) → Decodes p state stands.Fresh → i ≡ instantOf (start p e) → Replies sequence state e (Reacted i)
-    fresh-reply i d h = reacts p i ranged h (λ answer. written-from (start p e) ∙ by-record (holds State.fresh) d answer)
+    fresh-reply i d h = reacts p i (ranged-bounded p ranged) h (λ answer. written-from (start p e) ∙ by-record (holds State.fresh) d answer)
 
     pub waiting-reply : (i : Instant) (m : Labels) → Decodes p state (stands.Waiting m) → i ≡ instantOf (resume 0 p (labelSet m) e)
         → Replies sequence state e (Reacted i)
     waiting-reply i m d h =
         let L = labelsIn state in
         let t : resume 0 p (mask 0 p L) e ≡ start (expand p L) e = resumes 0 p L e (valid-active p L (valid-is p L .0 (d .1))) in
-        reacts (expand p L) i (ranged-expand p L ranged) (h ∙ ap (λ (k : ℕ). instantOf (resume 0 p k e)) (d .2) ∙ ap instantOf t)
+        reacts (expand p L) i (bounded-expand p L (ranged-bounded p ranged)) (h ∙ ap (λ (k : ℕ). instantOf (resume 0 p k e)) (d .2) ∙ ap instantOf t)
         (λ answer. written-from (start (expand p L) e) ∙ by-record (holds (State.waits L)) (d .0) answer)
 
 -- ---- the returns of the tick

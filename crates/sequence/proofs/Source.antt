@@ -1,7 +1,7 @@
--- No bytes spell a held suspend.
+-- What stands in a statement within the limits is within them; so no bytes spell a held suspend.
 use Prim.Native.Nat.{ℕ}
 use mathlib.Core.List.{List}
-use Rattle.esterel.specs.Statement.{Statement, held}
+use Rattle.esterel.specs.Statement.{Statement}
 use Rattle.esterel.specs.Places.{Part, PartOf, seq₁, seq₂, par₁, par₂, loop₁, present₁, present₂, signal₁, try₁, suspend₁, Place, At}
 use Rattle.esterel.specs.States.{Source}
 use Rattle.sequence.specs.Writer.{Ranged}
@@ -19,9 +19,9 @@ ranged-part signal₁ r = r .1
 ranged-part try₁ r = r
 ranged-part suspend₁ r = r .1
 
-none-held : {s K : ℕ} {q p : Statement} {a : Place} → At (held s K q) a p → Ranged p → ⊥
-none-held At.here r = r
-none-held (At.inside i u) r = none-held u (ranged-part i r)
+pub ranged-at : {x p : Statement} {a : Place} → At x a p → Ranged p → Ranged x
+ranged-at At.here r = r
+ranged-at (At.inside i u) r = ranged-at u (ranged-part i r)
 
 pub spells-source : (bs : List ℕ) (p : Statement) → Spells bs p → Source p
-spells-source bs p w s K q h = none-held (h .1) (w .1 .ranged)
+spells-source bs p w s K q h = ranged-at (h .1) (w .1 .ranged)
