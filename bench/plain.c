@@ -1,7 +1,7 @@
 /*
- * The check and the tick of document 01 as one would write them in C. The check is one recursive walk that reads and
- * fills two bit matrices. The tick is a recursion over the bytes: it skips a part that does not react, and looks
- * through a part for an active pause before it resumes it.
+ * The check and the tick of document 01, with the suspend of 02, item 1, as one would write them in C. The check is one
+ * recursive walk that reads and fills two bit matrices. The tick is a recursion over the bytes: it skips a part that does
+ * not react, and looks through a part for an active pause before it resumes it.
  */
 #include "plain.h"
 
@@ -11,13 +11,13 @@
 #define REACTED ((void)0) /* counted.c counts here */
 #endif
 
-enum { NOTHING, PAUSE, EMIT, EXIT, SEQUENCE, PARALLEL, LOOP, PRESENT, SIGNAL, TRY, SETPAUSE };
+enum { NOTHING, PAUSE, EMIT, EXIT, SEQUENCE, PARALLEL, LOOP, PRESENT, SIGNAL, TRY, SETPAUSE, SUSPEND };
 enum { MAX_BYTES = 1024, MAX_DEPTH = 64, MAX_SIGNALS = 6, LABELS = 64 };
 
 static const struct { uint8_t parts, operands, low, high; } commands[] = {
     [PAUSE] = {0, 1, 0, 63},   [EMIT] = {0, 1, 0, 31},   [EXIT] = {0, 1, 1, 15},   [SEQUENCE] = {2, 0, 0, 0},
     [PARALLEL] = {2, 0, 0, 0}, [LOOP] = {1, 0, 0, 0},    [PRESENT] = {2, 1, 0, 31}, [SIGNAL] = {1, 1, 0, 31},
-    [TRY] = {1, 0, 0, 0},      [SETPAUSE] = {0, 1, 0, 63},
+    [TRY] = {1, 0, 0, 0},      [SETPAUSE] = {0, 1, 0, 63}, [SUSPEND] = {1, 1, 0, 31},
 };
 
 /* The labels in a statement; its triggers are its pauses and its setpauses. */
@@ -71,7 +71,7 @@ static struct labels statement(struct check *c, unsigned depth, unsigned signals
     if (c->next == c->end)
         return refuse(c, 4);
     uint8_t byte = *c->next++, operand = 0;
-    if (byte > SETPAUSE)
+    if (byte > SUSPEND)
         return refuse(c, 3);
     if (commands[byte].operands != 0) {
         if (c->next == c->end)
@@ -97,6 +97,7 @@ static struct labels statement(struct check *c, unsigned depth, unsigned signals
         return both(c, byte, depth + 1, signals);
     case LOOP:
     case TRY:
+    case SUSPEND:
         return statement(c, depth + 1, signals);
     case SIGNAL:
         return statement(c, depth + 1, signals + 1);
@@ -163,14 +164,14 @@ static struct reaction wrong(struct instant *t, uint8_t kind, const uint8_t *com
     return (struct reaction){.code = WRONG};
 }
 
-/* Moves past a statement; was an active pause in it? */
-static bool skip(struct instant *t)
+/* Moves past a statement; which labels of its pauses are active? */
+static uint64_t skip(struct instant *t)
 {
-    bool found = false;
+    uint64_t found = 0;
     for (unsigned missing = 1; missing > 0; missing--) {
         uint8_t byte = *t->next++;
         if (byte == PAUSE)
-            found |= t->active >> *t->next & 1;
+            found |= t->active & UINT64_C(1) << *t->next;
         t->next += commands[byte].operands;
         missing += commands[byte].parts;
     }
@@ -180,7 +181,7 @@ static bool skip(struct instant *t)
 static bool active(const struct instant *t)
 {
     struct instant look = *t;
-    return skip(&look);
+    return skip(&look) != 0;
 }
 
 static struct reaction parallel(struct reaction p, struct reaction q)
@@ -277,6 +278,8 @@ static struct reaction react(struct instant *t, uint32_t present)
         return local(t, react, present);
     case TRY:
         return caught(react(t, present));
+    case SUSPEND:
+        return react(t, present);
     default:
         return ended;
     }
@@ -323,6 +326,9 @@ static struct reaction resume(struct instant *t, uint32_t present)
     case TRY:
         REACTED;
         return caught(resume(t, present));
+    case SUSPEND:
+        REACTED;
+        return present >> command[1] & 1 ? (struct reaction){skip(t), 0, WAITING} : resume(t, present);
     default: /* an active pause */
         REACTED;
         return ended;

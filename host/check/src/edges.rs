@@ -3,7 +3,7 @@ use common::table::bytes;
 
 /// All byte strings up to 4 bytes over the command bytes, one above them, and edges of operands.
 pub fn byte_strings(mut run: impl FnMut(&[u8])) {
-    const VALUES: [u8; 16] = [0, 1, 2, 3, 4, 5, 6, 7, 8, 9, 0x0A, 0x0B, 0x10, 0x20, 0x40, 0xFF];
+    const VALUES: [u8; 17] = [0, 1, 2, 3, 4, 5, 6, 7, 8, 9, 0x0A, 0x0B, 0x0C, 0x10, 0x20, 0x40, 0xFF];
     let mut strings = vec![Vec::new()];
     for _ in 0..=4 {
         strings.iter().for_each(|s: &Vec<u8>| run(s));
@@ -12,7 +12,7 @@ pub fn byte_strings(mut run: impl FnMut(&[u8])) {
 }
 
 /// What stands before a part, for every part of a command, and what must follow it.
-const PARTS: [(&str, &str); 10] = [
+const PARTS: [(&str, &str); 11] = [
     ("", ""),
     ("04", "00"),
     ("04 00", ""),
@@ -23,25 +23,31 @@ const PARTS: [(&str, &str); 10] = [
     ("07 1F 00", ""),
     ("08 1F", ""),
     ("09", ""),
+    ("0B 1F", ""),
+];
+
+/// What stands at the limits of depth and signals: nothing, and what is and what is not a statement.
+const INSIDE: [&str; 15] = [
+    "", "00", "0C", "01", "01 00", "01 40", "04 00", "06 00", "08", "08 20 00", "08 00 00", "0A", "0B", "0B 20 00", "0B 00 00",
 ];
 
 /// The edges of rows 2 to 7.
 pub fn reading(mut run: impl FnMut(&[u8])) {
     // Row 2: every length around the limit, and lengths that a narrow counter would take for short ones.
     for length in (0..=1030).chain([2048, 65_535, 65_536, 65_537, 66_560]) {
-        [0x00, 0x06, 0x0B].iter().for_each(|&byte| run(&vec![byte; length]));
+        [0x00, 0x06, 0x0B, 0x0C].iter().for_each(|&byte| run(&vec![byte; length]));
     }
     for (before, after) in PARTS {
         // Rows 3 to 5 and 7: every command byte and operand in every part, with too few, enough and too many parts.
         for tail in ["", "00", "00 00", "00 00 00"] {
             let (before, after) = (bytes(before), bytes(&format!("{tail} {after}")));
-            (0x0C..=0xFF).for_each(|first| run(&[&before[..], &[first], &after].concat()));
-            for (first, second) in (0..=0x0B).flat_map(|x| (0..=0xFF).map(move |y| (x, y))) {
+            (0x0D..=0xFF).for_each(|first| run(&[&before[..], &[first], &after].concat()));
+            for (first, second) in (0..=0x0C).flat_map(|x| (0..=0xFF).map(move |y| (x, y))) {
                 run(&[&before[..], &[first, second], &after].concat());
             }
         }
         // Row 6: around depth 64, and around six signals with other commands between and beside them.
-        for inside in ["", "00", "0B", "01", "01 00", "01 40", "04 00", "06 00", "08", "08 20 00", "08 00 00", "0A"] {
+        for inside in INSIDE {
             for n in 60..=66 {
                 run(&bytes(&format!("{n}({before}) {inside} {n}({after})")));
                 run(&bytes(&format!("{before} {n}(06) {inside} {after}")));
@@ -71,14 +77,21 @@ pub fn labels(mut run: impl FnMut(&[u8])) {
     }
 }
 
-/// All trees of one to four leaves: pauses and setpauses of three labels under sequences, parallels and presents.
+/// All trees of one to four leaves: pauses and setpauses of three labels under sequences, parallels and presents; then the
+/// same with every part in a suspend, which makes nothing exclusive.
 pub fn small_trees(mut run: impl FnMut(&[u8])) {
+    trees(&[], &mut run);
+    trees(&[0x0B, 0x1F], &mut run);
+}
+
+/// The trees with some bytes before each part of a join.
+fn trees(before: &[u8], run: &mut impl FnMut(&[u8])) {
     let mut trees = vec![vec![], ["00", "01 00", "01 01", "01 02", "0A 00", "0A 01"].map(bytes).to_vec()];
     for leaves in 2..=4 {
         let mut larger = Vec::new();
         for first in 1..leaves {
             for (p, q) in trees[first].iter().flat_map(|p| trees[leaves - first].iter().map(move |q| (p, q))) {
-                larger.extend(["04", "05", "07 00"].map(|join| [&bytes(join)[..], p, q].concat()));
+                larger.extend(["04", "05", "07 00"].map(|join| [&bytes(join)[..], before, p, before, q].concat()));
             }
         }
         trees.push(larger);

@@ -26,17 +26,20 @@ pub struct Sequence {
     commands: Vec<usize>,
 }
 
+/// The number of commands: their bytes are 00 to 0B.
+pub const COMMANDS: usize = 0x0C;
+
 /// The label of a setpause whose pauses are not all read yet.
 const UNSET: u8 = 0xFF;
 
 /// What a sequence is made of; drawn anew for each, so that extremes occur.
 pub struct Style {
     /// How often each command is taken.
-    pub weights: [usize; 11],
+    pub weights: [usize; COMMANDS],
     /// Signals and exits are taken from so many.
     pub names: usize,
     pub exits: usize,
-    /// How many percent of the loops get a body that waits, and of the signals one that uses them.
+    /// How many percent of the loops and suspends get a body that waits, and of the signals one that uses them.
     pub framed: usize,
     /// Whether the whole is a loop.
     pub endless: bool,
@@ -54,7 +57,7 @@ pub struct Style {
 impl Style {
     /// Any names; now and then a level or a signal too many.
     pub fn any(random: &mut Random) -> Self {
-        let mut weights = [0; 11];
+        let mut weights = [0; COMMANDS];
         weights.fill_with(|| random.pick(&[0, 1, 1, 4, 16]));
         Style {
             weights,
@@ -85,12 +88,17 @@ const LOOPS: [Frame; 4] = [
     (&[0x09, 0x05, 0x04, 0x01, 0x03, HOLE], 2),
 ];
 
-/// Bodies that emit the signal before, after or beside the statement, and one whose run without the signal is wrong.
-const SIGNALS: [Frame; 4] = [
+/// Bodies that wait before, after or beside the statement.
+const SUSPENDS: [Frame; 3] = [(&[0x04, 0x01, HOLE], 1), (&[0x04, HOLE, 0x01], 1), (&[0x05, 0x01, HOLE], 1)];
+
+/// Bodies that emit the signal before, after or beside the statement, one whose run without the signal is wrong, and one that
+/// emits it in the second instant.
+const SIGNALS: [Frame; 5] = [
     (&[0x04, 0x02, HOLE], 1),
     (&[0x04, HOLE, 0x02], 1),
     (&[0x05, HOLE, 0x02], 1),
     (&[0x05, 0x02, 0x07, HOLE, 0x06, 0x00], 2),
+    (&[0x05, HOLE, 0x04, 0x01, 0x02], 1),
 ];
 
 struct Generator<'a> {
@@ -149,12 +157,14 @@ impl Generator<'_> {
             0x06 | 0x09 => length >= 2 && length - 1 <= part,
             0x07 => length >= 4,
             0x08 => length >= 3 && length - 2 <= part && signals > 0,
+            0x0B => length >= 3 && length - 2 <= part,
             _ => length == 2 && (g.style.loose || !parallels),
         });
         let rest = length - self.command(byte);
         match byte {
             0x06 => self.body(&LOOPS, rest, levels - 1, signals, parallels),
             0x09 => self.statement(rest, levels - 1, signals, parallels),
+            0x0B => self.body(&SUSPENDS, rest, levels - 1, signals, parallels),
             0x08 => {
                 self.declared.extend(self.bytes.last());
                 self.body(&SIGNALS, rest, levels - 1, signals - 1, parallels);
@@ -169,7 +179,7 @@ impl Generator<'_> {
         }
     }
 
-    /// Appends the body of a loop or a signal: a statement, or one inside a frame, of exactly `length` bytes.
+    /// Appends the body of a loop, a suspend or a signal: a statement, or one inside a frame, of exactly `length` bytes.
     fn body(&mut self, frames: &[Frame], length: usize, levels: usize, signals: usize, parallels: bool) {
         let (frame, depth) = self.random.pick(frames);
         let operands = frame.iter().filter(|byte| [0x01, 0x02, 0x03, 0x07].contains(byte)).count();
@@ -204,7 +214,7 @@ impl Generator<'_> {
 
     /// One of the allowed commands by their weights, or the first of them.
     fn choose(&mut self, allowed: impl Fn(&Self, u8) -> bool) -> u8 {
-        let candidates: Vec<u8> = (0..=0x0A).filter(|&byte| allowed(self, byte)).collect();
+        let candidates: Vec<u8> = (0..COMMANDS as u8).filter(|&byte| allowed(self, byte)).collect();
         let weights = candidates.iter().map(|&byte| self.style.weights[byte as usize]);
         let mut ticket = self.random.below(weights.clone().sum::<usize>().max(1));
         for (&byte, weight) in candidates.iter().zip(weights) {
@@ -229,10 +239,10 @@ impl Generator<'_> {
                 self.bytes.push(UNSET);
             }
             0x03 => self.bytes.push(1 + self.random.below(self.style.exits) as u8),
-            0x02 | 0x07 if !self.declared.is_empty() && self.random.chance(self.style.framed) => {
+            0x02 | 0x07 | 0x0B if !self.declared.is_empty() && self.random.chance(self.style.framed) => {
                 self.bytes.push(self.random.pick(&self.declared));
             }
-            0x02 | 0x07 | 0x08 => self.bytes.push(self.random.below(self.style.names) as u8),
+            0x02 | 0x07 | 0x08 | 0x0B => self.bytes.push(self.random.below(self.style.names) as u8),
             _ => {}
         }
         self.bytes.len() - at
@@ -286,8 +296,9 @@ fn alike(byte: u8) -> &'static [u8] {
         0x01 | 0x02 | 0x03 | 0x0A => &[0x01, 0x02, 0x0A],
         0x04 | 0x05 => &[0x04, 0x05],
         0x06 | 0x09 => &[0x06, 0x09],
+        0x08 | 0x0B => &[0x08, 0x0B],
         0x00 => &[0x00],
-        _ => &[0x0B],
+        _ => &[0x0C],
     }
 }
 
@@ -299,11 +310,11 @@ pub fn damaged(random: &mut Random, sequence: &Sequence) -> Vec<u8> {
         let command = if sequence.commands.is_empty() { 0 } else { random.pick(&sequence.commands) };
         match random.below(12) {
             0 => bytes.truncate(at),
-            1 => bytes.insert(at, random.below(12) as u8),
-            2 => bytes.extend((0..=random.below(3)).map(|i| [0, 1, 0x0B][i])),
+            1 => bytes.insert(at, random.below(COMMANDS + 1) as u8),
+            2 => bytes.extend((0..=random.below(3)).map(|i| [0, 1, 0x0C][i])),
             3 => drop(bytes.get(at).is_some().then(|| bytes.remove(at))),
             4 => set(&mut bytes, at, |_| random.below(256) as u8),
-            5 => set(&mut bytes, at, |_| random.below(12) as u8),
+            5 => set(&mut bytes, at, |_| random.below(COMMANDS + 1) as u8),
             6 => set(&mut bytes, command + 1, |x| x.wrapping_add(1)),
             7 => set(&mut bytes, command + 1, |x| x.wrapping_sub(1)),
             8 => set(&mut bytes, command + 1, |_| random.pick(&[0x00, 0x0F, 0x10, 0x1F, 0x20, 0x3F, 0x40, 0xFF])),

@@ -1,12 +1,14 @@
-//! The check as document 01 words it, on an explicit tree. It shares no idea with the archive: commands are read in a
-//! loop and not by recursion, and the rows on labels look at all pairs of places and not at sets.
+//! The check as document 01 words it, with the suspend of 02, item 1, on an explicit tree. It shares no idea with the
+//! archive: commands are read in a loop and not by recursion, and the rows on labels look at all pairs of places and not at
+//! sets.
 use std::ops::RangeInclusive;
 
-const PAUSE: u8 = 0x01;
+pub const PAUSE: u8 = 0x01;
 const SEQUENCE: u8 = 0x04;
 const PRESENT: u8 = 0x07;
-const SIGNAL: u8 = 0x08;
+pub const SIGNAL: u8 = 0x08;
 const SETPAUSE: u8 = 0x0A;
+pub const SUSPEND: u8 = 0x0B;
 
 pub struct Command {
     /// Its offset in the sequence.
@@ -20,7 +22,7 @@ pub struct Command {
 /// The commands of a statement in prefix order.
 pub struct Tree(pub Vec<Command>);
 
-/// 01, 'Commands': the range of the operand, if there is one, and the number of parts.
+/// 01, 'Commands', and 02, item 1: the range of the operand, if there is one, and the number of parts.
 fn shape(byte: u8) -> Option<(Option<RangeInclusive<u8>>, u8)> {
     match byte {
         0x00 => Some((None, 0)),
@@ -30,7 +32,7 @@ fn shape(byte: u8) -> Option<(Option<RangeInclusive<u8>>, u8)> {
         SEQUENCE | 0x05 => Some((None, 2)),
         0x06 | 0x09 => Some((None, 1)),
         PRESENT => Some((Some(0..=31), 2)),
-        SIGNAL => Some((Some(0..=31), 1)),
+        SIGNAL | SUSPEND => Some((Some(0..=31), 1)),
         _ => None,
     }
 }

@@ -1,9 +1,10 @@
-//! The instants of document 01 by labels: a waiting machine reacts with its expansion. It shares nothing with
-//! rewriting.rs but the terms.
+//! The instants of document 01 by labels, with the suspend of 02, item 1: a waiting machine reacts with its expansion. It
+//! shares nothing with rewriting.rs but the terms.
 use crate::statement::{Statement, Term};
 use std::rc::Rc;
 
-/// 002, figure 5: the expansion of a statement with an active pause. None if it has none.
+/// 002, figure 5: the expansion of a statement with an active pause. None if it has none. A suspend chooses, in the
+/// instant, between waiting again at its active pauses and the expansion of its body.
 pub fn expand(term: &Term, labels: u64) -> Option<Term> {
     let expanded = match &**term {
         Statement::Pause(l) if labels >> l & 1 == 1 => Statement::Nothing,
@@ -24,9 +25,23 @@ pub fn expand(term: &Term, labels: u64) -> Option<Term> {
         Statement::Loop(_, p) => Statement::Seq(expand(p, labels)?, term.clone()),
         Statement::Signal(place, s, p) => Statement::Signal(*place, *s, expand(p, labels)?),
         Statement::Try(p) => Statement::Try(expand(p, labels)?),
+        Statement::Suspend(s, p) => {
+            let body = expand(p, labels)?;
+            Statement::Present(*s, Rc::new(Statement::Kept(labels & pauses(p))), body)
+        }
         _ => return None,
     };
     Some(Rc::new(expanded))
+}
+
+/// The labels of the pauses in a statement.
+fn pauses(term: &Term) -> u64 {
+    match &**term {
+        Statement::Pause(l) => 1 << l,
+        Statement::Seq(p, q) | Statement::Par(p, q) | Statement::Present(_, p, q) => pauses(p) | pauses(q),
+        Statement::Loop(_, p) | Statement::Signal(_, _, p) | Statement::Try(p) | Statement::Suspend(_, p) => pauses(p),
+        _ => 0,
+    }
 }
 
 fn nothing() -> Term {
@@ -63,6 +78,21 @@ pub struct Tree {
     pub emitted_beside: u64,
     /// The places of loops that began.
     pub begun: Vec<usize>,
+    /// Suspends that began though their signal was present.
+    pub begun_present: u64,
+    /// Suspends that were stopped.
+    pub stopped: u64,
+    /// Signals in whose two runs not the same number of suspends was stopped.
+    pub stopped_once: u64,
+}
+
+fn caught(body: Answer) -> Answer {
+    let code = match body.code {
+        0 | 1 | WRONG => body.code,
+        2 => 0,
+        greater => greater - 1,
+    };
+    Answer { code, ..body }
 }
 
 impl Tree {
@@ -75,14 +105,7 @@ impl Tree {
             Statement::Pause(l) | Statement::Setpause(l) => Answer { code: 1, labels: 1 << l, ..quiet },
             Statement::Emit(s) => Answer { emitted: 1 << s, ..quiet },
             Statement::Exit(n) => Answer { code: *n as u32 + 1, ..quiet },
-            Statement::Seq(p, q) => {
-                let first = self.react(p, present);
-                if first.code != 0 {
-                    return first;
-                }
-                let second = self.react(q, present);
-                Answer { emitted: first.emitted | second.emitted, ..second }
-            }
+            Statement::Seq(p, q) => self.sequence(p, q, present),
             Statement::Par(p, q) => self.parallel(p, q, present),
             Statement::Loop(place, p) => {
                 self.begun.push(*place);
@@ -93,16 +116,26 @@ impl Tree {
             }
             Statement::Present(s, p, q) => self.react(if present & 1 << s != 0 { p } else { q }, present),
             Statement::Signal(place, s, p) => self.signal(*place, *s, p, present),
-            Statement::Try(p) => {
-                let body = self.react(p, present);
-                let code = match body.code {
-                    0 | 1 | WRONG => body.code,
-                    2 => 0,
-                    greater => greater - 1,
-                };
-                Answer { code, ..body }
+            Statement::Try(p) => caught(self.react(p, present)),
+            Statement::Suspend(s, p) => {
+                self.begun_present += (present >> s & 1) as u64;
+                self.react(p, present)
             }
+            Statement::Kept(labels) => {
+                self.stopped += 1;
+                Answer { code: 1, labels: *labels, ..quiet }
+            }
+            Statement::Held(..) => unreachable!("the paper's"),
         }
+    }
+
+    fn sequence(&mut self, p: &Term, q: &Term, present: u32) -> Answer {
+        let first = self.react(p, present);
+        if first.code != 0 {
+            return first;
+        }
+        let second = self.react(q, present);
+        Answer { emitted: first.emitted | second.emitted, ..second }
     }
 
     fn wrong(&mut self, kind: u8, place: usize) -> Answer {
@@ -121,8 +154,11 @@ impl Tree {
 
     fn signal(&mut self, place: usize, s: u8, p: &Term, present: u32) -> Answer {
         let only = 1u32 << s;
+        let before = self.stopped;
         let minus = self.react(p, present - (present & only));
+        let between = self.stopped;
         let plus = self.react(p, present | only);
+        self.stopped_once += (between - before != self.stopped - between) as u64;
         let (in_minus, in_plus) = (minus.emitted & only != 0, plus.emitted & only != 0);
         let fits = [
             in_minus && in_plus,

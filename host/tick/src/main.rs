@@ -36,7 +36,7 @@ fn by_hand(tally: &mut Tally) {
 /// Row 1: buffers of all lengths around the right ones, and such as a narrow counter would take for them.
 fn lengths(tally: &mut Tally) {
     let lengths = || (0..=20).chain([255, 256, 264, 265, 65_544, 65_545]);
-    for bytes in ["", "0B", "00", "01 00", "00 00", "1025(00)"].map(table::bytes) {
+    for bytes in ["", "0C", "00", "01 00", "00 00", "1025(00)"].map(table::bytes) {
         let sequence = Sequence::new(bytes);
         for (state, answer) in lengths().flat_map(|s| lengths().map(move |a| (s, a))) {
             (0..3).for_each(|phase| {

@@ -1,5 +1,5 @@
-//! The fitters' paper of document 01: a machine that holds a term and rewrites it. It knows no labels, states or
-//! errors, and shares nothing with expansion.rs but the terms.
+//! The fitters' paper of document 01, with the suspend of 02, item 1: a machine that holds a term and rewrites it. It knows
+//! no labels, states or errors, and shares nothing with expansion.rs but the terms.
 use crate::statement::{Statement, Term};
 use std::rc::Rc;
 
@@ -39,7 +39,10 @@ fn react(term: &Term, present: u32) -> Reaction {
             signal(*place, *s, react(p, present & !bit), react(p, present | bit))
         }
         Statement::Try(p) => catch(react(p, present)),
-        Statement::Setpause(_) => unreachable!("the paper has no labels to set"),
+        Statement::Suspend(s, p) => hold(*s, react(p, present)),
+        Statement::Held(s, _) if present >> s & 1 == 1 => Reaction { emitted: 0, code: Waiting, residual: term.clone() },
+        Statement::Held(s, p) => hold(*s, react(p, present)),
+        Statement::Setpause(_) | Statement::Kept(_) => unreachable!("the paper has no labels to set or to keep"),
     }
 }
 
@@ -73,6 +76,12 @@ fn catch(p: Reaction) -> Reaction {
         Leaving(n) => gives(p.emitted, Leaving(n - 1), Statement::Try(p.residual)),
         Ended | Waiting | Wrong => gives(p.emitted, p.code, Statement::Try(p.residual)),
     }
+}
+
+/// 02, item 1: after code 1 a held suspend remains around the residual, after any other code nothing
+fn hold(s: u8, p: Reaction) -> Reaction {
+    let residual = if p.code == Waiting { Statement::Held(s, p.residual) } else { Statement::Nothing };
+    gives(p.emitted, p.code, residual)
 }
 
 /// (signal++), (signal--), (signal+-), (signal-+), (signal∞): the first that fits

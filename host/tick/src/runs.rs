@@ -2,11 +2,11 @@
 use crate::reference::Sequence;
 use crate::rewriting::Paper;
 use crate::tally::Tally;
-use common::generate::{self, Random, Style};
+use common::generate::{self, Random, Style, COMMANDS};
 
 /// Few names, so that emissions meet tests, and loops that mostly wait.
 fn style(random: &mut Random) -> Style {
-    let mut weights = [0; 11];
+    let mut weights = [0; COMMANDS];
     weights.fill_with(|| random.pick(&[0, 1, 2, 4, 8]));
     weights[0x0A] *= random.below(2);
     Style {

@@ -7,7 +7,8 @@ use common::table::bytes;
 /// All statements of up to `most` commands, by their count.
 fn statements(most: usize) -> Vec<Vec<Vec<u8>>> {
     let leaves = ["00", "01 00", "01 01", "02 00", "02 01", "03 01", "03 02", "0A 00", "0A 01"];
-    let (wraps, joins) = (["06", "08 00", "08 01", "09"].map(bytes), ["04", "05", "07 00", "07 01"].map(bytes));
+    let wraps = ["06", "08 00", "08 01", "09", "0B 00", "0B 01"].map(bytes);
+    let joins = ["04", "05", "07 00", "07 01"].map(bytes);
     let mut all = vec![vec![], leaves.map(bytes).to_vec()];
     for count in 2..=most {
         let mut larger: Vec<Vec<u8>> = Vec::new();

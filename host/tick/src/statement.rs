@@ -4,7 +4,8 @@ use std::rc::Rc;
 
 pub type Term = Rc<Statement>;
 
-/// A loop and a signal carry their place, by which an error names them.
+/// A loop and a signal carry their place, by which an error names them. What is left of a suspend after its first instant
+/// is each machine's own: Kept is made by the expansion alone, Held by the paper alone.
 pub enum Statement {
     Nothing,
     Pause(u8),
@@ -17,6 +18,11 @@ pub enum Statement {
     Signal(usize, u8, Term),
     Try(Term),
     Setpause(u8),
+    Suspend(u8, Term),
+    /// Waits with each of these labels, as setpauses in parallel do.
+    Kept(u64),
+    /// Tests the signal first, and with it stays as it is.
+    Held(u8, Term),
 }
 
 /// The term of an accepted sequence.
@@ -39,6 +45,7 @@ fn build<'a>(commands: &mut impl Iterator<Item = &'a Command>) -> Term {
         0x07 => Statement::Present(operand, part(), part()),
         0x08 => Statement::Signal(command.at, operand, part()),
         0x09 => Statement::Try(part()),
-        _ => Statement::Setpause(operand),
+        0x0A => Statement::Setpause(operand),
+        _ => Statement::Suspend(operand, part()),
     })
 }
