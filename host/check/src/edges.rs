@@ -28,7 +28,8 @@ const PARTS: [(&str, &str); 11] = [
 
 /// What stands at the limits of depth and signals: nothing, and what is and what is not a statement.
 const INSIDE: [&str; 15] = [
-    "", "00", "0C", "01", "01 00", "01 40", "04 00", "06 00", "08", "08 20 00", "08 00 00", "0A", "0B", "0B 20 00", "0B 00 00",
+    "", "00", "0C", "01", "01 00", "01 40", "04 00", "06 00", "08", "08 20 00", "08 00 00", "0A", "0B", "0B 20 00",
+    "0B 00 00",
 ];
 
 /// The edges of rows 2 to 7.

@@ -24,8 +24,8 @@ struct Tally {
     counts: Counts,
     /// How often each number was the answer, in the group that runs.
     numbers: [u64; GREATEST + 1],
-    /// The most pauses, setpauses, levels and signals around a command in an accepted sequence of the group.
-    most: [usize; 4],
+    /// The most pauses, setpauses, suspends, levels and signals around a command in an accepted sequence of the group.
+    most: [usize; 5],
 }
 
 impl Tally {
@@ -37,7 +37,8 @@ impl Tally {
         if let Ok(tree) = tree {
             let levels = tree.0.iter().map(|c| c.place.len() + 1).max().unwrap_or(0);
             let signals = tree.0.iter().map(|c| tree.signals(&c.place)).max().unwrap_or(0);
-            let reached = [tree.pauses().len(), tree.setpauses().len(), levels, signals];
+            let suspends = tree.0.iter().filter(|c| c.byte == reference::SUSPEND).count();
+            let reached = [tree.pauses().len(), tree.setpauses().len(), suspends, levels, signals];
             self.most = std::array::from_fn(|i| self.most[i].max(reached[i]));
         }
         let answer = archive(bytes);
@@ -67,9 +68,10 @@ fn random_sequences(tally: &mut Tally, random: &mut Random) {
         let count = tally.numbers[number];
         tally.counts.expect(count >= 100, || format!("the number {number} occurred only {count} times"));
     }
-    let [pauses, setpauses, levels, signals] = tally.most;
-    println!("accepted: up to {pauses} pauses, {setpauses} setpauses, depth {levels}, {signals} signals");
-    tally.counts.expect(pauses == 64 && setpauses > 100 && levels == 64 && signals == 6, || "too far from the limits".into());
+    let [pauses, setpauses, suspends, levels, signals] = tally.most;
+    println!("accepted: up to {pauses} pauses, {setpauses} setpauses, {suspends} suspends, depth {levels}, {signals} signals");
+    let far = pauses < 64 || setpauses <= 100 || suspends <= 100 || levels < 64 || signals < 6;
+    tally.counts.expect(!far, || "too far from the limits".into());
 }
 
 fn main() -> ExitCode {

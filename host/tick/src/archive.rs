@@ -1,4 +1,5 @@
 //! The archive's tick, in buffers between guard bytes.
+use common::table::hex;
 
 extern "C" {
     fn intake_tick(
@@ -49,6 +50,14 @@ pub struct Outcome {
     pub number: u8,
     pub state: Option<Vec<u8>>,
     pub answer: Option<Vec<u8>>,
+}
+
+impl Outcome {
+    /// The number and both buffers as a table writes them.
+    pub fn text(&self) -> String {
+        let text = |buffer: &Option<Vec<u8>>| buffer.as_deref().map_or("guards gone".into(), hex);
+        format!("{}: {} | {}", self.number, text(&self.state), text(&self.answer))
+    }
 }
 
 pub fn tick(sequence: &[u8], state: &[u8], input: u32, answer_length: usize, fill: u8) -> Outcome {

@@ -1,8 +1,10 @@
 //! The host test of the tick: intake_tick of the archive against two implementations of document 01 on explicit terms,
-//! by expansion of the label set (expansion.rs) and by rewriting (rewriting.rs).
+//! by expansion of the label set (expansion.rs) and by rewriting (rewriting.rs), and a sequence with suspends against its
+//! kernel form (kernel.rs).
 //! An argument replaces the seed. The last line is 'N passed, M failed'.
 mod archive;
 mod expansion;
+mod kernel;
 mod reference;
 mod rewriting;
 mod runs;

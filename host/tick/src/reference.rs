@@ -1,12 +1,14 @@
 //! What document 01 says a tick gives: the number and both records, by the check on an explicit tree and the expansion.
 use crate::expansion::{expand, Tree, WRONG};
+use crate::kernel::Kernel;
 use crate::statement::{term, Term};
 use common::reference;
 
-/// A sequence with its term, or the number of the row from 2 to 10 that turns it down.
+/// A sequence with its term, or the number of the row from 2 to 10 that turns it down; and its kernel form, if it has one.
 pub struct Sequence {
     pub bytes: Vec<u8>,
     pub read: Result<(reference::Tree, Term), u8>,
+    pub kernel: Option<Kernel>,
 }
 
 impl Sequence {
@@ -15,7 +17,8 @@ impl Sequence {
             let term = term(&tree);
             (tree, term)
         });
-        Sequence { bytes, read }
+        let kernel = read.as_ref().ok().and_then(|(tree, _)| Kernel::of(&bytes, tree));
+        Sequence { bytes, read, kernel }
     }
 
     pub fn setpauses(&self) -> usize {

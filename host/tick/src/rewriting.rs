@@ -40,7 +40,9 @@ fn react(term: &Term, present: u32) -> Reaction {
         }
         Statement::Try(p) => catch(react(p, present)),
         Statement::Suspend(s, p) => hold(*s, react(p, present)),
-        Statement::Held(s, _) if present >> s & 1 == 1 => Reaction { emitted: 0, code: Waiting, residual: term.clone() },
+        Statement::Held(s, _) if present >> s & 1 == 1 => {
+            Reaction { emitted: 0, code: Waiting, residual: term.clone() }
+        }
         Statement::Held(s, p) => hold(*s, react(p, present)),
         Statement::Setpause(_) | Statement::Kept(_) => unreachable!("the paper has no labels to set or to keep"),
     }

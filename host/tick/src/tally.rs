@@ -1,6 +1,7 @@
 //! The comparisons, and what they reached.
 use crate::archive;
 use crate::expansion::CASES;
+use crate::kernel::Kernel;
 use crate::reference::{tick, Instant, Sequence};
 use crate::rewriting::{Paper, Seen};
 use common::counts::Counts;
@@ -9,7 +10,7 @@ use common::table::hex;
 pub const GREATEST: usize = 12;
 
 /// Names of what a tree of reactions may hold, beside the cases of a signal.
-const EVENTS: [&str; 7] = [
+const EVENTS: [&str; 12] = [
     "resumed",
     "errors in an instant that is not wrong",
     "wrong with several errors",
@@ -17,6 +18,21 @@ const EVENTS: [&str; 7] = [
     "emitted beside an error",
     "one loop begun three times in one run",
     "over a thousand reactions",
+    "suspend begun with its signal",
+    "suspend stopped",
+    "suspend stopped, code not 1",
+    "suspend stopped, other labels change",
+    "suspend stopped in one of two runs",
+];
+
+/// What is counted of the ticks that are compared with the kernel form.
+const KERNELS: [&str; 6] = [
+    "compared with the kernel form",
+    "the same, stopped",
+    "the same, stopped inside two suspends",
+    "the same, stopped, with setpauses",
+    "the same, wrong",
+    "the kernel form is too long or too deep",
 ];
 
 #[derive(Default)]
@@ -32,13 +48,15 @@ pub struct Tally {
     events: [u64; EVENTS.len()],
     /// Ticks compared with the paper.
     papers: u64,
+    kernels: [u64; KERNELS.len()],
     most_reactions: u64,
     fill: u8,
 }
 
 impl Tally {
-    /// Compares one tick of the archive with the expansion, and with the paper where there is one: number, both records
-    /// and the guards. Gives the number and the state that the archive left.
+    /// Compares one tick of the archive with the expansion, with the paper where there is one, and with the tick of the
+    /// kernel form where there is one: number, both records and the guards. Gives the number and the state that the archive
+    /// left.
     pub fn compare(
         &mut self,
         sequence: &Sequence,
@@ -62,13 +80,16 @@ impl Tally {
         let holds = outcome.number == number && outcome.state.as_ref() == Some(&after);
         let holds = holds && outcome.answer.as_ref() == Some(&answer);
         let told = || {
-            let [s, a] = [&outcome.state, &outcome.answer].map(|b| b.as_ref().map_or("guards gone".into(), |b| hex(b)));
             let call = format!("{} | {} | {answer_length} | {input:08X}", hex(&sequence.bytes), hex(state));
-            format!("{call}: {}: {s} | {a}, not {number}: {} | {}", outcome.number, hex(&after), hex(&answer))
+            format!("{call}: {}, not {number}: {} | {}", outcome.text(), hex(&after), hex(&answer))
         };
         self.counts.expect(holds, told);
         if let Some(paper) = paper {
             self.compare_paper(paper, input, &outcome, answer_length, told);
+        }
+        if let Some(kernel) = &sequence.kernel {
+            self.count_kernel(sequence, kernel, expected.ok().as_ref());
+            self.compare_kernel(kernel, state, input, &outcome, answer_length, told);
         }
         (outcome.number, outcome.state.unwrap_or(after))
     }
@@ -96,6 +117,44 @@ impl Tally {
         self.counts.expect(holds, || format!("paper {seen:?}, phase {}: {}", paper.phase(), told()));
     }
 
+    /// 02, item 1, in the kernel: number and both records, the answer's place being that of the same command.
+    fn compare_kernel(
+        &mut self,
+        kernel: &Kernel,
+        state: &[u8],
+        input: u32,
+        outcome: &archive::Outcome,
+        answer_length: usize,
+        told: impl Fn() -> String,
+    ) {
+        let own = archive::tick(&kernel.bytes, state, input, answer_length, self.fill);
+        let holds = if kernel.number == 0 {
+            let moved = |answer: &Vec<u8>| if outcome.number == 0 { kernel.moved(answer) } else { answer.clone() };
+            own.number == outcome.number
+                && own.state.is_some()
+                && own.state == outcome.state
+                && own.answer.is_some()
+                && own.answer == outcome.answer.as_ref().map(moved)
+        } else {
+            matches!(kernel.number, 2 | 6) && own.number == if outcome.number == 1 { 1 } else { kernel.number }
+        };
+        self.counts.expect(holds, || format!("kernel {}: {}: {}", hex(&kernel.bytes), own.text(), told()));
+    }
+
+    fn count_kernel(&mut self, sequence: &Sequence, kernel: &Kernel, instant: Option<&Instant>) {
+        let within = kernel.number == 0;
+        let stopped = within && instant.is_some_and(|instant| instant.tree.stopped > 0);
+        let kinds = [
+            within,
+            stopped,
+            stopped && kernel.nested > 1,
+            stopped && sequence.setpauses() > 0,
+            within && instant.is_some_and(|instant| instant.answer[0] == 255),
+            !within,
+        ];
+        (0..KERNELS.len()).for_each(|i| self.kernels[i] += kinds[i] as u64);
+    }
+
     fn count(&mut self, state: &[u8], instant: &Instant) {
         let (code, tree) = (instant.answer[0], &instant.tree);
         self.codes[if code == 255 { 17 } else { code as usize }] += 1;
@@ -109,6 +168,11 @@ impl Tally {
             tree.emitted_beside > 0,
             tree.cases == [0; CASES.len()] && begun_thrice(&tree.begun),
             tree.reactions > 1000,
+            tree.begun_present > 0,
+            tree.stopped > 0,
+            tree.stopped > 0 && code != 1,
+            tree.stopped > 0 && code == 1 && state[1..] != instant.state[1..],
+            tree.stopped_once > 0,
         ];
         (0..EVENTS.len()).for_each(|i| self.events[i] += events[i] as u64);
         self.most_reactions = self.most_reactions.max(tree.reactions);
@@ -130,7 +194,9 @@ impl Tally {
         let cases = (0..CASES.len()).map(|i| (format!("signal {}", CASES[i]), self.cases[i]));
         let events = (0..EVENTS.len()).map(|i| (EVENTS[i].to_string(), self.events[i]));
         let papers = [("compared with the paper".to_string(), self.papers)];
-        let all: Vec<_> = numbers.chain(codes).chain(kinds).chain(cases).chain(events).chain(papers).collect();
+        let kernels = (0..KERNELS.len()).map(|i| (KERNELS[i].to_string(), self.kernels[i]));
+        let answers = numbers.chain(codes).chain(kinds);
+        let all: Vec<_> = answers.chain(cases).chain(events).chain(papers).chain(kernels).collect();
         for (name, count) in all {
             println!("{name:<40}{count:>10}");
             self.counts.expect(count >= 100, || format!("{name} occurred only {count} times"));
