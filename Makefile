@@ -12,8 +12,8 @@ TIMED = $(OPTIMIZED) -DBUILT_BY='"$(OPTIMIZED)"'
 CARGO = cargo run --release --offline --quiet --target-dir target/cargo --manifest-path
 SOURCES := crates.txt $(shell find crates -name '*.rt' -o -name '*.antt')
 
-.PHONY: help run show test host host-rust host-c host-tick-rust host-tick-c host-example host-stack show-test bench \
-	bench-check bench-tick bench-run
+.PHONY: help run show test host host-rust host-c host-tick-rust host-tick-c host-example host-stack host-plain show-test \
+	bench bench-check bench-tick bench-run
 
 help: # lists the targets
 	@sed -n 's/^\([a-z-]*\):[^#]*# /\1: /p' Makefile
@@ -53,6 +53,9 @@ host-stack: $(INTAKE_ARCHIVE) # measures the stack of a call at the greatest dep
 	@mkdir -p target/host
 	$(WARNED) -D_DEFAULT_SOURCE -O2 -Iinclude host/stack.c $(INTAKE_ARCHIVE) -o target/host/stack && target/host/stack
 
+host-plain: target/plain/libintake.a # runs the host tests against plain C, with which the benchmarks compare
+	$(MAKE) host-rust host-c host-tick-rust host-tick-c INTAKE_ARCHIVE=target/plain/libintake.a
+
 show-test: # tests tools/show
 	tools/test_show.py
 
@@ -77,6 +80,11 @@ bench-run: $(RUN_PROGRAM) # times the run program on its greatest input, for som
 
 target/staticlib/libintake.a: $(SOURCES)
 	rt staticlib intake
+
+target/plain/libintake.a: bench/plain.c bench/plain.h
+	@mkdir -p target/plain
+	$(OPTIMIZED) -Dplain_check=intake_check -Dplain_tick=intake_tick -c bench/plain.c -o target/plain/plain.o
+	ar rcs $@ target/plain/plain.o
 
 # A crate that is proved already is not built again, so the program may keep its time.
 target/bin/run: $(SOURCES)

@@ -11,6 +11,7 @@ mod runs;
 mod small;
 mod statement;
 mod tally;
+mod vectors;
 
 use common::{generate::Random, table};
 use reference::Sequence;
@@ -58,6 +59,8 @@ fn main() -> ExitCode {
     let (mut tally, mut random) = (Tally::default(), Random(seed));
     by_hand(&mut tally);
     tally.close("by hand");
+    vectors::vectors(&mut tally);
+    tally.close("vectors");
     lengths(&mut tally);
     tally.close("buffers");
     small::every_state(&mut tally);

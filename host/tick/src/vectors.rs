@@ -1,0 +1,62 @@
+//! The vectors of crates/vectors: what its stdout says, by hand, is what the reference gives on its stdin, and the archive
+//! too. The top of that stdin explains its lines.
+use crate::reference::{self, Sequence};
+use crate::tally::Tally;
+use common::table;
+
+pub fn vectors(tally: &mut Tally) {
+    let given = listing(tally, include_str!("../../../crates/vectors/stdin"));
+    let expected: Vec<&str> = include_str!("../../../crates/vectors/stdout").lines().collect();
+    tally.counts.expect(given.len() == expected.len(), || "the vectors have more lines, or fewer".into());
+    let mut title = "";
+    for (given, expected) in given.iter().zip(expected) {
+        title = if expected.starts_with(' ') { title } else { expected };
+        tally.counts.expect(given == expected, || format!("the reference on {title}: {given}, not {expected}"));
+    }
+}
+
+/// The titles, and a line for each call.
+fn listing(tally: &mut Tally, vectors: &str) -> Vec<String> {
+    let (mut lines, mut bytes) = (Vec::new(), Vec::new());
+    for line in vectors.lines().filter(|line| !line.is_empty() && !line.starts_with('#')) {
+        let Some(indented) = line.strip_prefix("  ") else {
+            lines.push(line.to_string());
+            bytes.clear();
+            continue;
+        };
+        let (word, rest) = indented.split_once(' ').unwrap_or((indented, ""));
+        match word {
+            "bytes" => bytes.extend(table::bytes(rest)),
+            "times" => {
+                let (count, repeated) = rest.split_once(' ').expect("a count and bytes");
+                bytes.extend(table::bytes(repeated).repeat(count.parse().expect("a count")));
+            }
+            "run" | "from" => lines.extend(machine(tally, &bytes, rest, 8)),
+            "short" => lines.extend(machine(tally, &bytes, rest, 7)),
+            "long" => lines.extend(machine(tally, &bytes, rest, 9)),
+            _ => panic!("no line of a vector: {line}"),
+        }
+    }
+    lines
+}
+
+/// The lines of a machine: from the record before a colon, or a cleared one, on the inputs behind it.
+fn machine(tally: &mut Tally, bytes: &[u8], rest: &str, answer_length: usize) -> Vec<String> {
+    let (record, inputs) = rest.split_once(':').unwrap_or(("9(00)", rest));
+    let (sequence, mut state) = (Sequence::new(bytes.to_vec()), table::bytes(record));
+    let inputs = inputs.split_whitespace().map(|input| u32::from_str_radix(input, 16).expect("an input"));
+    let line = |(i, input): (usize, u32)| {
+        tally.compare(&sequence, &state, input, answer_length, None);
+        match reference::tick(&sequence, &state, input, answer_length) {
+            Ok(instant) => {
+                let number = |bytes: &[u8]| bytes.iter().rev().fold(0u64, |n, byte| n << 8 | *byte as u64);
+                let (a, place) = (&instant.answer, number(&instant.answer[2..4]));
+                let (emitted, labels) = (number(&a[4..]), number(&instant.state[1..]));
+                state = instant.state;
+                format!("  {} {} {} {place} {emitted:08x} {labels:016x}", i + 1, a[0], a[1])
+            }
+            Err(number) => format!("  refused {number}, records kept"),
+        }
+    };
+    inputs.enumerate().map(line).collect()
+}
