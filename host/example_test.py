@@ -66,7 +66,7 @@ def edges():
         yield f"cut to {count} bytes", worked[:count], CUT
     for over in range(1, 4):
         yield f"{over} bytes over", worked + bytes(over), CUT
-        yield f"{over} bytes over, and a bad sequence", run_file(b"\x0b") + bytes(over), CUT
+        yield f"{over} bytes over, and a bad sequence", run_file(b"\x0c") + bytes(over), CUT
     yield "one instant of two", worked[:-4], WORKED.replace(WORKED.splitlines(True)[2], "")
     yield "more instants than are used", worked + bytes(8), WORKED
     yield "no instants", run_file(sustain), HEADER + "end\n"
@@ -84,7 +84,7 @@ def edges():
     yield "length 65,534", run_file(bytes(65534)), "refused 2\n"
     yield "length 65,535", run_file(bytes(65534), length=65535), CUT
     yield "length over what is there", run_file(sustain, 0, 7), CUT
-    for number, sequence in enumerate(["0b", "02", "0220", "06" * 64 + "00", "0000", "0501000100", "0a00",
+    for number, sequence in enumerate(["0c", "02", "0220", "06" * 64 + "00", "0000", "0501000100", "0a00",
                                        "04010104050a0201030102"], 3):
         yield f"row {number}", run_file(bytes.fromhex(sequence), 1), f"refused {number}\n"
     yield "a wrong instant", run_file(bytes.fromhex("04010008000700000200"), 3), (
@@ -99,7 +99,7 @@ def damaged(files):
     for number in range(DAMAGED):
         data = bytearray(rng.choice(files)[1])
         for _ in range(rng.randrange(1, 4)):
-            data[rng.randrange(len(data))] = rng.choice([rng.randrange(256), rng.randrange(11)])
+            data[rng.randrange(len(data))] = rng.choice([rng.randrange(256), rng.randrange(12)])
         yield f"damaged run file {number}", bytes(data[: rng.choice([len(data)] * 3 + [rng.randrange(len(data))])])
 
 

@@ -23,9 +23,10 @@ SHOW = ROOT / "tools" / "show"
 SEQUENCES, RUNS, DAMAGED, GARBAGE = 400, 150, 1500, 600
 HEADER = "instant code kind place emitted labels\n"
 WORDS = {0: "nothing", 1: "pause, label {}", 2: "emit {}", 3: "exit {}", 4: "…; then …", 5: "… in parallel with …",
-         6: "loop …", 7: "present {} then … else …", 8: "signal {} in …", 9: "try …", 10: "setpause {}"}
-RANGES = {1: range(64), 2: range(32), 3: range(1, 16), 7: range(32), 8: range(32), 10: range(64)}
-PARTS = {4: 2, 5: 2, 6: 1, 7: 2, 8: 1, 9: 1}
+         6: "loop …", 7: "present {} then … else …", 8: "signal {} in …", 9: "try …", 10: "setpause {}",
+         11: "suspend … when {}"}
+RANGES = {1: range(64), 2: range(32), 3: range(1, 16), 7: range(32), 8: range(32), 10: range(64), 11: range(32)}
+PARTS = {4: 2, 5: 2, 6: 1, 7: 2, 8: 1, 9: 1, 11: 1}
 
 WORKED = bytes.fromhex("0a00 08000402000401010201 0000000000000000")
 WORKED_LISTING = HEADER + """\
@@ -117,7 +118,7 @@ def expect_damage(answer, said, what):
 def generate(place, depth, signals, size):
     """A random statement: its bytes, and a line (place, depth, own bytes) for each command."""
     leaf = size <= 1 or depth == 64
-    kind = rng.choice([0, 1, 2, 3, 10] if leaf else [4, 4, 5, 5, 6, 7, 7, 8 if signals < 6 else 6, 9])
+    kind = rng.choice([0, 1, 2, 3, 10] if leaf else [4, 4, 5, 5, 6, 7, 7, 8 if signals < 6 else 6, 9, 11])
     own = bytes([kind] + ([rng.choice(RANGES[kind])] if kind in RANGES else []))
     lines, data = [(place, depth, own)], own
     for part in range(PARTS.get(kind, 0)):
@@ -141,7 +142,7 @@ def verdict(data):
         if at == len(data):
             raise LookupError(4, at)
         kind, end = data[at], at + 1
-        if kind > 10:
+        if kind > 11:
             raise LookupError(3, at)
         if kind in RANGES:
             if end == len(data):
@@ -208,7 +209,7 @@ def damage(data):
     elif kind == 1:
         data[at] = rng.randrange(256)
     elif kind == 2:
-        data[at] = rng.randrange(11)
+        data[at] = rng.randrange(12)
     else:
         data[at:at] = bytes([rng.choice([6, 8, 9, rng.randrange(256)])]) * rng.choice([1, 1, 8, 64, 1024])
     return bytes(data)
@@ -222,7 +223,7 @@ def test_damaged_sequences():
         expect_sequence(data, f"damaged sequence {number}")
     expect(rows == {0, 2, 3, 4, 5, 6, 7}, f"the rows met: {rows}")
     for number in range(GARBAGE):
-        data = rng.randbytes(rng.randrange(40)) if number % 2 else bytes(rng.choices(range(12), k=rng.randrange(1100)))
+        data = rng.randbytes(rng.randrange(40)) if number % 2 else bytes(rng.choices(range(13), k=rng.randrange(1100)))
         expect_sequence(data, f"random bytes {number}")
 
 
@@ -395,7 +396,7 @@ def test_damaged_runs():
     for data, said in [
         (b"", cut.format(0)), (b"\x0a", cut.format(1)), (WORKED[:2], cut.format(2)), (WORKED[:11], cut.format(11)),
         (WORKED[:13], cut.format(12)), (WORKED + b"\0", cut.format(20)), (WORKED + b"\0\0\0", cut.format(20)),
-        (b"\x02\0\x0b", cut.format(3)), (b"\x01\0\x0b", r"place 0: .*\(row 3\)"), (b"\x01\0\x0b\0", cut.format(3)),
+        (b"\x02\0\x0c", cut.format(3)), (b"\x01\0\x0c", r"place 0: .*\(row 3\)"), (b"\x01\0\x0c\0", cut.format(3)),
         (bytes(65537), cut.format(65536)), (bytes(65534), r"place 0: .*\(row 2\)"), (b"\0\0", r"\(row 2\)"),
         (b"\x01\x04" + bytes(1025), r"\(row 2\)"), (b"\xff\xff" + bytes(65534), cut.format(65536)),
     ]:
