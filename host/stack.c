@@ -9,16 +9,17 @@
 #include <string.h>
 #include <ucontext.h>
 
-enum { STACK = 65536, PAINT = 0xA5, LEVELS = 63, MOST = 18432 };
+enum { STACK = 65536, PAINT = 0xA5, LEVELS = 63, HATCH = 31, MOST = 18432 };
 
 static uint8_t stack[STACK], sequence[1024], state[INTAKE_STATE_LENGTH], answer[INTAKE_ANSWER_LENGTH];
 static size_t length;
+static uint32_t input;
 static uint8_t number;
 static ucontext_t here, there;
 
 static void nothing(void) { number = INTAKE_ACCEPTED; }
 static void check(void) { number = intake_check(sequence, length); }
-static void tick(void) { number = intake_tick(sequence, length, state, sizeof state, 0, answer, sizeof answer); }
+static void tick(void) { number = intake_tick(sequence, length, state, sizeof state, input, answer, sizeof answer); }
 
 /* The bytes of stack below its top that a function writes. */
 static size_t taken(void (*call)(void))
@@ -53,15 +54,23 @@ static const struct nest nests[] = {
     NEST("presents, in the first part", "\x07\x00", "\x00"),
     NEST("presents, in the second part", "\x07\x00\x00", ""),
     NEST("try blocks", "\x09", ""),
+    NEST("suspends", "\x0B\x00", ""),
 };
 
-/* The innermost statement is a pause, or a pause and a setpause of its label, for which row 10 walks once more. */
-static void build(const struct nest *nest, unsigned signals, int setpause)
+/*
+ * The innermost statement is a pause, or a pause and a setpause of its label, for which row 10 walks once more. The
+ * outermost may be a suspend, by a signal that no other command names.
+ */
+static void build(const struct nest *nest, unsigned signals, int setpause, int suspend)
 {
-    unsigned levels = setpause ? LEVELS - 1 : LEVELS;
+    unsigned levels = LEVELS - (setpause ? 1 : 0) - (suspend ? 1 : 0);
     const char *leaf = setpause ? "\x05\x01\x00\x0A\x00" : "\x01\x00";
     size_t leaf_length = setpause ? 5 : 2;
     length = 0;
+    if (suspend) {
+        sequence[length++] = 0x0B;
+        sequence[length++] = HATCH;
+    }
     for (unsigned s = 0; s < signals; s++) {
         sequence[length++] = 0x08;
         sequence[length++] = (uint8_t)s;
@@ -82,24 +91,35 @@ static size_t used(void (*call)(void), size_t empty, int *failed)
     return bytes;
 }
 
+/* A machine that waits at label 0. */
+static void wait_at_0(void)
+{
+    memset(state, 0, sizeof state);
+    state[0] = 1;
+    state[1] = 1;
+}
+
 int main(void)
 {
     int failed = 0;
     size_t most = 0, empty = taken(nothing);
-    printf("%-32s %7s %7s %7s %7s\n", "bytes of stack at depth 64", "row 10", "check", "fresh", "resumed");
+    printf("%-32s %7s %7s %7s %7s %7s\n", "bytes of stack at depth 64", "row 10", "check", "fresh", "resumed", "stopped");
     for (unsigned signals = 0; signals <= 6; signals += 6)
         for (size_t i = 0; i < sizeof nests / sizeof *nests; i++) {
-            build(&nests[i], signals, 1);
+            build(&nests[i], signals, 1, 0);
             size_t triggers = used(check, empty, &failed);
-            build(&nests[i], signals, 0);
+            build(&nests[i], signals, 0, 0);
+            input = 0;
             size_t checked = used(check, empty, &failed);
             memset(state, 0, sizeof state);
             size_t fresh = used(tick, empty, &failed);
-            memset(state, 0, sizeof state);
-            state[0] = 1; /* waits at label 0 */
-            state[1] = 1;
+            wait_at_0();
             size_t resumed = used(tick, empty, &failed);
-            size_t row[] = {triggers, checked, fresh, resumed};
+            build(&nests[i], signals, 0, 1);
+            input = UINT32_C(1) << HATCH;
+            wait_at_0();
+            size_t stopped = used(tick, empty, &failed);
+            size_t row[] = {triggers, checked, fresh, resumed, stopped};
             printf("%-32s", nests[i].name);
             for (size_t j = 0; j < sizeof row / sizeof *row; j++) {
                 printf(" %7zu", row[j]);

@@ -17,7 +17,7 @@ enum intake_number {
     INTAKE_ACCEPTED = 0,                /* accepted */
     INTAKE_BUFFER_LENGTH = 1,           /* state buffer not 9 bytes, or answer buffer not 8 */
     INTAKE_SEQUENCE_LENGTH = 2,         /* sequence of no bytes or over 1,024 */
-    INTAKE_UNKNOWN_COMMAND = 3,         /* command byte above 0A */
+    INTAKE_UNKNOWN_COMMAND = 3,         /* command byte above 0B */
     INTAKE_CUT_SHORT = 4,               /* operand or statement missing at the end */
     INTAKE_OPERAND_RANGE = 5,           /* operand outside its range */
     INTAKE_TOO_DEEP = 6,                /* depth over 64, or a seventh signal inside six */
