@@ -15,6 +15,7 @@ static const struct shape shapes[] = {
     {"pauses in parallel", "\x05", "", "\x02", "\x01", 2, false, false, 32},
     {"presents with pauses", "\x07", "", "\x01", "\x01", 2, false, false, 32},
     {"nested loops and tries", "\x04\x05", "\x06\x09", "\x01\x02\x03", "\x01\x02\x03", 4, false, false, 32},
+    {"nested suspends", "\x04\x05", "\x0B", "\x01\x02\x03", "\x01\x02\x03", 4, false, false, 32},
     {"setpause automaton", "\x04\x07", "\x06", "\x02\x0A\x01", "\x02\x0A\x01", 4, false, false, 32},
     {"mixed at random", "\x04\x05\x07", "\x06\x08\x09", "\x01\x02\x03\x0A", "\x01\x02\x03\x0A", 3, false, true, 32},
     /* the label rules at their worst: large sets at every join */

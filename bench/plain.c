@@ -164,14 +164,14 @@ static struct reaction wrong(struct instant *t, uint8_t kind, const uint8_t *com
     return (struct reaction){.code = WRONG};
 }
 
-/* Moves past a statement; which labels of its pauses are active? */
-static uint64_t skip(struct instant *t)
+/* Moves past a statement; was an active pause in it? */
+static bool skip(struct instant *t)
 {
-    uint64_t found = 0;
+    bool found = false;
     for (unsigned missing = 1; missing > 0; missing--) {
         uint8_t byte = *t->next++;
         if (byte == PAUSE)
-            found |= t->active & UINT64_C(1) << *t->next;
+            found |= t->active >> *t->next & 1;
         t->next += commands[byte].operands;
         missing += commands[byte].parts;
     }
@@ -181,7 +181,21 @@ static uint64_t skip(struct instant *t)
 static bool active(const struct instant *t)
 {
     struct instant look = *t;
-    return skip(&look) != 0;
+    return skip(&look);
+}
+
+/* Moves past a stopped statement; which of its labels are active? A skip that told this would slow down every instant. */
+static uint64_t kept(struct instant *t)
+{
+    uint64_t labels = 0;
+    for (unsigned missing = 1; missing > 0; missing--) {
+        uint8_t byte = *t->next++;
+        if (byte == PAUSE)
+            labels |= t->active & UINT64_C(1) << *t->next;
+        t->next += commands[byte].operands;
+        missing += commands[byte].parts;
+    }
+    return labels;
 }
 
 static struct reaction parallel(struct reaction p, struct reaction q)
@@ -328,7 +342,7 @@ static struct reaction resume(struct instant *t, uint32_t present)
         return caught(resume(t, present));
     case SUSPEND:
         REACTED;
-        return present >> command[1] & 1 ? (struct reaction){skip(t), 0, WAITING} : resume(t, present);
+        return present >> command[1] & 1 ? (struct reaction){kept(t), 0, WAITING} : resume(t, present);
     default: /* an active pause */
         REACTED;
         return ended;

@@ -9,6 +9,9 @@
 
 enum { CAPACITY = 1024, LABELS = 64, SIGNALS = 6 };
 
+/* What every benchmark ticks with, unless it says otherwise, gives the even signals: ABSENT suspends nothing, PRESENT does. */
+enum { INPUT = 0x55555555, ABSENT = 1, PRESENT = 2 };
+
 /* A kind of sequence. Its commands are taken in turn, or at random. */
 struct shape {
     const char *name;
@@ -67,14 +70,14 @@ static inline void statement(struct builder *b, size_t n, unsigned signals)
 {
     if (n >= 8 && *b->shape->wraps != '\0' && (!b->shape->random || below(3) == 0)) {
         uint8_t wrap = next(b, b->shape->wraps);
-        if (wrap != 0x08) {
+        if (wrap == 0x0B || (wrap == 0x08 && signals < SIGNALS)) {
+            put(b, wrap);
+            put(b, wrap == 0x0B ? ABSENT : below(32));
+            n -= 2;
+            signals += wrap == 0x08;
+        } else if (wrap != 0x08) {
             put(b, wrap);
             n--;
-        } else if (signals < SIGNALS) {
-            put(b, wrap);
-            put(b, below(32));
-            n -= 2;
-            signals++;
         }
     }
     if (n == 1) {

@@ -14,28 +14,32 @@ enum { LEAST_ROUNDS = 11, SAMPLE = 20000, ROW = 150000000 /* nanoseconds */ };
 /* Where a pause stands before the instant that is timed. */
 enum pause { NONE, BEFORE, AFTER, INSIDE };
 
-/* A body inside signals and inside loops that an instant leaves and begins again. */
+/* A body inside signals, inside loops that an instant leaves and begins again, and inside a suspend on a signal, unless 0. */
 struct kind {
     const char *name;
     struct shape body;
-    unsigned signals, loops;
+    unsigned signals, loops, suspend;
     enum pause pause;
 };
 
 static const struct kind kinds[] = {
-    {"fresh, emits", {"", "\x04", "", "\x02", "\x02", 2, false, false, 32}, 0, 0, NONE},
-    {"fresh, pauses in parallel", {"", "\x05", "", "\x02", "\x01", 2, false, false, 32}, 0, 0, NONE},
-    {"fresh, tests", {"", "\x04\x07", "", "\x02", "\x02", 2, false, false, 32}, 0, 0, NONE},
-    {"fresh, tries and exits", {"", "\x04\x05", "\x09", "\x02\x03", "\x02\x03", 3, false, false, 32}, 0, 0, NONE},
-    {"resumed before emits", {"", "\x04", "", "\x02", "\x02", 2, false, false, 32}, 0, 0, BEFORE},
-    {"resumed after emits", {"", "\x04", "", "\x02", "\x02", 2, false, false, 32}, 0, 0, AFTER},
-    {"resumed, pauses in parallel", {"", "\x05", "", "\x02", "\x01", 2, false, false, 32}, 0, 0, INSIDE},
-    {"resumed, pauses deep down", {"", "\x05", "", "\x02", "\x01", 12, false, false, 32}, 0, 0, INSIDE},
-    {"six signals, fresh", {"", "\x04", "", "\x02", "\x02", 2, false, false, 6}, 6, 0, NONE},
-    {"six signals, resumed", {"", "\x04", "", "\x02", "\x02", 2, false, false, 6}, 6, 0, BEFORE},
-    {"six signals, all tested", {"", "\x04\x07", "", "\x02", "\x02", 2, false, false, 6}, 6, 0, NONE},
-    {"loops begun again", {"", "\x05", "", "\x02", "\x02", 2, false, false, 6}, 0, 16, INSIDE},
-    {"six signals, such loops", {"", "\x05", "", "\x02", "\x02", 2, false, false, 6}, 6, 16, INSIDE},
+    {"fresh, emits", {"", "\x04", "", "\x02", "\x02", 2, false, false, 32}, 0, 0, 0, NONE},
+    {"fresh, pauses in parallel", {"", "\x05", "", "\x02", "\x01", 2, false, false, 32}, 0, 0, 0, NONE},
+    {"fresh, tests", {"", "\x04\x07", "", "\x02", "\x02", 2, false, false, 32}, 0, 0, 0, NONE},
+    {"fresh, tries and exits", {"", "\x04\x05", "\x09", "\x02\x03", "\x02\x03", 3, false, false, 32}, 0, 0, 0, NONE},
+    {"resumed before emits", {"", "\x04", "", "\x02", "\x02", 2, false, false, 32}, 0, 0, 0, BEFORE},
+    {"resumed after emits", {"", "\x04", "", "\x02", "\x02", 2, false, false, 32}, 0, 0, 0, AFTER},
+    {"resumed, pauses in parallel", {"", "\x05", "", "\x02", "\x01", 2, false, false, 32}, 0, 0, 0, INSIDE},
+    {"resumed, pauses deep down", {"", "\x05", "", "\x02", "\x01", 12, false, false, 32}, 0, 0, 0, INSIDE},
+    {"six signals, fresh", {"", "\x04", "", "\x02", "\x02", 2, false, false, 6}, 6, 0, 0, NONE},
+    {"six signals, resumed", {"", "\x04", "", "\x02", "\x02", 2, false, false, 6}, 6, 0, 0, BEFORE},
+    {"six signals, all tested", {"", "\x04\x07", "", "\x02", "\x02", 2, false, false, 6}, 6, 0, 0, NONE},
+    {"loops begun again", {"", "\x05", "", "\x02", "\x02", 2, false, false, 6}, 0, 16, 0, INSIDE},
+    {"six signals, such loops", {"", "\x05", "", "\x02", "\x02", 2, false, false, 6}, 6, 16, 0, INSIDE},
+    {"suspend, running", {"", "\x05", "", "\x02", "\x01", 2, false, false, 32}, 0, 0, ABSENT, INSIDE},
+    {"suspend, stopped", {"", "\x05", "", "\x02", "\x01", 2, false, false, 32}, 0, 0, PRESENT, INSIDE},
+    {"nested suspends, running", {"", "\x05", "\x0B", "\x02", "\x01", 2, false, false, 32}, 0, 0, 0, INSIDE},
+    {"nested suspends, stopped", {"", "\x05", "\x0B", "\x02", "\x01", 2, false, false, 32}, 0, 0, PRESENT, INSIDE},
 };
 
 /* An instant to time. */
@@ -84,6 +88,10 @@ static bool fits(const struct kind *kind, size_t length)
 static void build(struct builder *b, const struct kind *kind, size_t length)
 {
     enclose(b, kind->signals, kind->loops < fitting(length) ? kind->loops : fitting(length));
+    if (kind->suspend != 0) {
+        put(b, 0x0B);
+        put(b, kind->suspend);
+    }
     if (kind->pause == BEFORE || kind->pause == AFTER)
         put(b, 0x04);
     if (kind->pause == BEFORE) {
@@ -137,7 +145,7 @@ static double kind_row(const struct kind *kind, size_t length)
 {
     struct builder b = {.shape = &kind->body, .wanted = length};
     build(&b, kind, length);
-    struct instant t = {.length = b.length, .input = 0x55555555};
+    struct instant t = {.length = b.length, .input = INPUT};
     memcpy(t.bytes, b.bytes, sizeof b.bytes);
     prepare(&t, kind->pause != NONE, kind->name);
     return row(&t, kind->name).ratio;
@@ -172,7 +180,7 @@ static double check_time(const struct instant *t)
 /* One active pause behind more and more bytes: what the tick takes beyond the check. */
 static void growth_row(size_t length)
 {
-    static const struct kind kind = {"", {"", "\x04", "", "\x02", "\x02", 2, false, false, 32}, 0, 0, AFTER};
+    static const struct kind kind = {"", {"", "\x04", "", "\x02", "\x02", 2, false, false, 32}, 0, 0, 0, AFTER};
     struct builder b = {.shape = &kind.body, .wanted = length};
     build(&b, &kind, length);
     struct instant t = {.length = b.length};
