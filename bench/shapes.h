@@ -9,8 +9,8 @@
 
 enum { CAPACITY = 1024, LABELS = 64, SIGNALS = 6 };
 
-/* What every benchmark ticks with, unless it says otherwise, gives the even signals: ABSENT suspends nothing, PRESENT does. */
-enum { INPUT = 0x55555555, ABSENT = 1, PRESENT = 2 };
+/* The input of an instant that is timed has the even signals: one that it gives, and one that it does not give. */
+enum { INPUT = 0x55555555, PRESENT = 2, ABSENT = 1 };
 
 /* A kind of sequence. Its commands are taken in turn, or at random. */
 struct shape {

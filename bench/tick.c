@@ -14,11 +14,12 @@ enum { LEAST_ROUNDS = 11, SAMPLE = 20000, ROW = 150000000 /* nanoseconds */ };
 /* Where a pause stands before the instant that is timed. */
 enum pause { NONE, BEFORE, AFTER, INSIDE };
 
-/* A body inside signals, inside loops that an instant leaves and begins again, and inside a suspend on a signal, unless 0. */
+/* A body inside signals, inside loops that an instant leaves and begins again, and inside a suspend. */
 struct kind {
     const char *name;
     struct shape body;
-    unsigned signals, loops, suspend;
+    unsigned signals, loops;
+    unsigned suspend; /* its signal; 0 if there is no suspend */
     enum pause pause;
 };
 

@@ -78,8 +78,8 @@ pub fn labels(mut run: impl FnMut(&[u8])) {
     }
 }
 
-/// All trees of one to four leaves: pauses and setpauses of three labels under sequences, parallels and presents; then the
-/// same with every part in a suspend, which makes nothing exclusive.
+/// All trees of one to four leaves: pauses and setpauses of three labels under sequences, parallels and presents; then
+/// the same with every part in a suspend, which makes nothing exclusive.
 pub fn small_trees(mut run: impl FnMut(&[u8])) {
     trees(&[], &mut run);
     trees(&[0x0B, 0x1F], &mut run);

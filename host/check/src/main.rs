@@ -69,7 +69,8 @@ fn random_sequences(tally: &mut Tally, random: &mut Random) {
         tally.counts.expect(count >= 100, || format!("the number {number} occurred only {count} times"));
     }
     let [pauses, setpauses, suspends, levels, signals] = tally.most;
-    println!("accepted: up to {pauses} pauses, {setpauses} setpauses, {suspends} suspends, depth {levels}, {signals} signals");
+    print!("accepted: up to {pauses} pauses, {setpauses} setpauses, {suspends} suspends, ");
+    println!("depth {levels}, {signals} signals");
     let far = pauses < 64 || setpauses <= 100 || suspends <= 100 || levels < 64 || signals < 6;
     tally.counts.expect(!far, || "too far from the limits".into());
 }

@@ -91,8 +91,8 @@ const LOOPS: [Frame; 4] = [
 /// Bodies that wait before, after or beside the statement.
 const SUSPENDS: [Frame; 3] = [(&[0x04, 0x01, HOLE], 1), (&[0x04, HOLE, 0x01], 1), (&[0x05, 0x01, HOLE], 1)];
 
-/// Bodies that emit the signal before, after or beside the statement, one whose run without the signal is wrong, and one that
-/// emits it in the second instant.
+/// Bodies that emit the signal before, after or beside the statement, one whose run without the signal is wrong, and
+/// one that emits it in the second instant.
 const SIGNALS: [Frame; 5] = [
     (&[0x04, 0x02, HOLE], 1),
     (&[0x04, HOLE, 0x02], 1),

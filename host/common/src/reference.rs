@@ -1,6 +1,6 @@
 //! The check as document 01 words it, with the suspend of 02, item 1, on an explicit tree. It shares no idea with the
-//! archive: commands are read in a loop and not by recursion, and the rows on labels look at all pairs of places and not at
-//! sets.
+//! archive: commands are read in a loop and not by recursion, and the rows on labels look at all pairs of places and
+//! not at sets.
 use std::ops::RangeInclusive;
 
 pub const PAUSE: u8 = 0x01;

@@ -1,5 +1,5 @@
-//! The instants of document 01 by labels, with the suspend of 02, item 1: a waiting machine reacts with its expansion. It
-//! shares nothing with rewriting.rs but the terms.
+//! The instants of document 01 by labels, with the suspend of 02, item 1: a waiting machine reacts with its expansion.
+//! It shares nothing with rewriting.rs but the terms.
 use crate::statement::{Statement, Term};
 use std::rc::Rc;
 

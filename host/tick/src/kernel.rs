@@ -1,18 +1,20 @@
-//! Suspend in the kernel: each pause l inside suspend s becomes `try loop (pause l; present s then nothing else exit 1)`, and
-//! the suspend itself goes. By the rule of Berry (1999), which 02, item 1, names, both give the same number, code, kind,
-//! emitted set and state record, from every state record, reachable or not, on two premises:
+//! Suspend in the kernel: each pause l inside suspend s becomes
+//! `try loop (pause l; present s then nothing else exit 1)`, and the suspend itself goes. By the rule of Berry (1999),
+//! which 02, item 1, names, both give the same number, code, kind, emitted set and state record, from every state
+//! record, reachable or not, on two premises:
 //!
-//! - No signal inside the suspend declares s again, or the added test would read that one: 0B 00 08 00 04 01 00 02 01 is
-//!   stopped by an input 0 in its second instant, and its kernel form ends. A suspend with such a signal inside stays; the
-//!   suspends around and inside it are replaced all the same.
-//! - The kernel form has at most 1,024 bytes and depth 64: a pause inside n suspends takes 8 bytes for each of them, and the
-//!   tests added last stand 3n + 1 levels below the place of the pause. Else row 2 or 6 turns it down.
+//! - No signal inside the suspend declares s again, or the added test would read that one: 0B 00 08 00 04 01 00 02 01
+//!   is stopped by an input 0 in its second instant, and its kernel form ends. A suspend with such a signal inside
+//!   stays; the suspends around and inside it are replaced all the same.
+//! - The kernel form has at most 1,024 bytes and depth 64: a pause inside n suspends takes 8 bytes for each of them,
+//!   and the tests added last stand 3n + 1 levels below the place of the pause. Else row 2 or 6 turns it down.
 //!
-//! Nothing else is asked. The added exit leaves the try that is added with it, which holds no exit of the sequence, so no
-//! other exit counts differently. In suspends inside each other the outermost tests first, so its test stands nearest to
-//! the pause. A label stays with its pause, so a setpause reaches the same one, and the added sequence holds a single pause
-//! and no setpause: nothing becomes exclusive, and rows 8 to 11 say the same. The added loop begins with a pause and never
-//! errs. Only places differ: the erring command is the same, at its own place in the kernel form.
+//! Nothing else is asked. The added exit leaves the try that is added with it, which holds no exit of the sequence, so
+//! no other exit counts differently. In suspends inside each other the outermost tests first, so its test stands
+//! nearest to the pause. A label stays with its pause, so a setpause reaches the same one, and the added sequence
+//! holds a single pause and no setpause: nothing becomes exclusive, and rows 8 to 11 say the same. The added loop
+//! begins with a pause and never errs. Only places differ: the erring command is the same, at its own place in the
+//! kernel form.
 use common::reference::{check, Tree, PAUSE, SIGNAL, SUSPEND};
 
 pub struct Kernel {

@@ -4,7 +4,8 @@ use crate::kernel::Kernel;
 use crate::statement::{term, Term};
 use common::reference;
 
-/// A sequence with its term, or the number of the row from 2 to 10 that turns it down; and its kernel form, if it has one.
+/// A sequence with its term, or the number of the row from 2 to 10 that turns it down; and its kernel form, if there
+/// is one.
 pub struct Sequence {
     pub bytes: Vec<u8>,
     pub read: Result<(reference::Tree, Term), u8>,

@@ -1,5 +1,5 @@
-//! The fitters' paper of document 01, with the suspend of 02, item 1: a machine that holds a term and rewrites it. It knows
-//! no labels, states or errors, and shares nothing with expansion.rs but the terms.
+//! The fitters' paper of document 01, with the suspend of 02, item 1: a machine that holds a term and rewrites it. It
+//! knows no labels, states or errors, and shares nothing with expansion.rs but the terms.
 use crate::statement::{Statement, Term};
 use std::rc::Rc;
 

@@ -54,9 +54,9 @@ pub struct Tally {
 }
 
 impl Tally {
-    /// Compares one tick of the archive with the expansion, with the paper where there is one, and with the tick of the
-    /// kernel form where there is one: number, both records and the guards. Gives the number and the state that the archive
-    /// left.
+    /// Compares one tick of the archive with the expansion, with the paper where there is one, and with the tick of
+    /// the kernel form where there is one: number, both records and the guards. Gives the number and the state that
+    /// the archive left.
     pub fn compare(
         &mut self,
         sequence: &Sequence,
