@@ -132,8 +132,11 @@ beyond b (suc n) h = let l : n ≤ b = beyond b n (h .0) in let z : b ≡ n → 
 byte-small : (c : Command) → byteOf c ≤ lastCommand
 byte-small c = last-byte (byteOf c) c (command-of-byte c)
 
-pub last : {t : List ℕ} {d a : ℕ} {bs : List ℕ} → Ready t d a bs → Beyond (getD bs 0 0) lastCommand → getD bs 0 0 ≡ lastCommand
-last {bs = bs} r h = let c = command r in omega (arith, beyond (getD bs 0 0) lastCommand h, c .1, byte-small (c .0))
+-- the last command but one, by the bytes that it is not
+pub last-but-one : {t : List ℕ} {d a : ℕ} {bs : List ℕ} → Ready t d a bs → Beyond (getD bs 0 0) 10 × (getD bs 0 0 ≡ lastCommand → ⊥) → getD bs 0 0 ≡ 10
+last-but-one {bs = bs} r h =
+    let c = command r in
+    let z : getD bs 0 0 ≡ lastCommand → ⊥ = h .1 in omega (arith, beyond (getD bs 0 0) 10 (h .0), c .1, byte-small (c .0))
 
 -- ---- the two parts of a command of w bytes
 module _ {t : List ℕ} {d a w : ℕ} {bs : List ℕ} (r : Pair t d a w bs) where

@@ -24,9 +24,9 @@ pub fn react(s: &[u8], at: usize, depth: u8, input: u32, second: &Seconds) -> In
         7 => present_parts(s, at, depth, input, second),
         8 => signal_rule(s, at, depth, input, second),
         9 => try_part(s, at, depth, input, second),
-        10 => rules::command::pausing(s[1]),
         // a fresh suspend reacts as its part
-        _ => part(s, 2, at + 2, depth - 1, input, second),
+        11 => part(s, 2, at + 2, depth - 1, input, second),
+        _ => rules::command::pausing(s[1]),
     }
 }
 

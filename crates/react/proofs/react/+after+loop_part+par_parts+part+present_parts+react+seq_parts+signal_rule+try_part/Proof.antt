@@ -5,7 +5,7 @@ use borrow.Author.Tests.{ltb-true}
 use Rattle.esterel.specs.Statement.{seq, par, loop, present, signal, try, suspend}
 use Rattle.esterel.specs.Resume.{start}
 use Rattle.sequence.specs.Commands.{Command}
-use Rattle.layout.proofs.Laid.{ready, taken, begins, last}
+use Rattle.layout.proofs.Laid.{ready, taken, begins, last-but-one}
 use Rattle.rules.proofs.Combining.{seq-stops}
 use Rattle.react.proofs.Steps.{
   nothing-step,
@@ -302,10 +302,10 @@ react-try-part-requires : (t : ℕ) → react-lts.Need-try-part-requires (react-
 react-try-part-requires t c κs = (search needs, ((c .before .before .before .pre .1), c .match .keys10))
 
 react-shared-slice-read-pausing-2 : (t : ℕ) → react-lts.Need-shared-slice-read-pausing-2 (react-claims t) (react-at t) react.Post
-react-shared-slice-read-pausing-2 t c = begins (c .before .before .before .before .pre .1) Command.setpause (c .before .match .keys11) .there
+react-shared-slice-read-pausing-2 t c = begins (c .before .before .before .before .pre .1) Command.setpause (last-but-one (c .before .before .before .before .pre .1) (c .before .match .rest)) .there
 
 react-part-requires : (t : ℕ) → react-lts.Need-part-requires (react-claims t) (react-at t) react.Post
-react-part-requires t c κs = let y = begins (c .before .before .before .pre .1) Command.suspend (last (c .before .before .before .pre .1) (c .match .rest)) in (search needs, (y .there, ready _ (y .parts .0) (c .before .before .before .pre .1 .long) (y .parts .1 .1)))
+react-part-requires t c κs = let y = begins (c .before .before .before .pre .1) Command.suspend (c .match .keys11) in (search needs, (y .there, ready _ (y .parts .0) (c .before .before .before .pre .1 .long) (y .parts .1 .1)))
 
 react-returns : (t : ℕ) → react-lts.Need-returns (react-claims t) (react-at t) react.Post
 react-returns t c base p l = nothing-step p _ _ (taken (c .before .before .before .before .pre .1) base p l Command.nothing (c .before .match .keys1) .parts) (c .ending .ensures)
@@ -343,13 +343,13 @@ react-returns-10 t c base p l = c .try-part .ensures base p l
 
 react-returns-11 : (t : ℕ) → react-lts.Need-returns-11 (react-claims t) (react-at t) react.Post
 react-returns-11 t c base p l =
-    let y = taken (c .before .before .before .before .before .pre .1) base p l Command.setpause (c .before .before .match .keys11) in
-    setpause-step p _ _ _ (ltb-true _ _ (y .ranged)) (c .pausing2 .ensures) (y .parts)
+    let y = taken (c .before .before .before .before .pre .1) base p l Command.suspend (c .before .match .keys11) .parts in
+    here (suspend _ (y .0)) p _ (y .1 .0) (suspend-step _ _ (y .0) (c .part .ensures base (y .0) (y .1 .1)))
 
 react-returns-12 : (t : ℕ) → react-lts.Need-returns-12 (react-claims t) (react-at t) react.Post
 react-returns-12 t c base p l =
-    let y = taken (c .before .before .before .before .pre .1) base p l Command.suspend (last (c .before .before .before .before .pre .1) (c .before .match .rest)) .parts in
-    here (suspend _ (y .0)) p _ (y .1 .0) (suspend-step _ _ (y .0) (c .part .ensures base (y .0) (y .1 .1)))
+    let y = taken (c .before .before .before .before .before .pre .1) base p l Command.setpause (last-but-one (c .before .before .before .before .before .pre .1) (c .before .before .match .rest)) in
+    setpause-step p _ _ _ (ltb-true _ _ (y .ranged)) (c .pausing2 .ensures) (y .parts)
 
 seq-parts-element-copy-out-m : (t : ℕ) → seq-parts-lts.Need-element-copy-out-m (seq-parts-claims t) (seq-parts-at t) seq-parts.Post
 seq-parts-element-copy-out-m t c = omega (arith, c .before .pre .1 .0 .long, c .before .pre .1 .0 .fits, c .before .pre .1 .0 .bytes)
@@ -466,9 +466,10 @@ pub +after+loop-part+par-parts+part+present-parts+react+seq-parts+signal-rule+tr
     (react-present-parts-requires t)
     (react-signal-rule-requires t)
     (react-try-part-requires t)
-    (react-shared-slice-read-pausing-2 t)
-    (λ c κs. search needs) (λ c. search needs) (λ c. search needs)
+    (λ c. search needs) (λ c. search needs)
     (react-part-requires t)
+    (react-shared-slice-read-pausing-2 t)
+    (λ c κs. search needs)
     (react-returns t)
     (react-returns-2 t)
     (react-returns-3 t)
