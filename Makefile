@@ -12,7 +12,7 @@ TIMED = $(OPTIMIZED) -DBUILT_BY='"$(OPTIMIZED)"'
 CARGO = cargo run --release --offline --quiet --target-dir target/cargo --manifest-path
 SOURCES := crates.txt $(shell find crates -name '*.rt' -o -name '*.antt')
 
-.PHONY: help run show test host host-rust host-c host-tick-rust host-tick-c host-example host-stack host-plain show-test \
+.PHONY: help run show test host host-rust host-c host-tick-rust host-tick-c host-example host-stack host-archive host-plain show-test \
 	bench bench-check bench-tick bench-run
 
 help: # lists the targets
@@ -27,7 +27,7 @@ show: $(RUN_PROGRAM) # shows the commands and the run of a shipped example; BAY 
 test: # proves everything and runs all tests: the gate
 	.ci/run
 
-host: host-rust host-c host-tick-rust host-tick-c host-example host-stack # runs all host tests against the archive
+host: host-rust host-c host-tick-rust host-tick-c host-example host-stack host-archive # runs all host tests against the archive
 
 host-rust: $(INTAKE_ARCHIVE) # compares the archive with the check on an explicit tree
 	$(CARGO) host/check/Cargo.toml
@@ -52,6 +52,9 @@ host-example: $(INTAKE_ARCHIVE) $(RUN_PROGRAM) # compares the example host with 
 host-stack: $(INTAKE_ARCHIVE) # measures the stack of a call at the greatest depth, by painting
 	@mkdir -p target/host
 	$(WARNED) -D_DEFAULT_SOURCE -O2 -Iinclude host/stack.c $(INTAKE_ARCHIVE) -o target/host/stack && target/host/stack
+
+host-archive: $(INTAKE_ARCHIVE) # shows the read-only data of the archive: jump tables and no constant array
+	host/archive_test.py $(INTAKE_ARCHIVE)
 
 host-plain: target/plain/libintake.a # runs the host tests against plain C, with which the benchmarks compare
 	$(MAKE) host-rust host-c host-tick-rust host-tick-c INTAKE_ARCHIVE=target/plain/libintake.a

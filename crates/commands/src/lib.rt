@@ -1,9 +1,60 @@
-// The table of commands (01, 'Commands') by tests on the command byte, which is known to be a command's. Tests in this order
-// cost less than a table: where the next command stands does not wait for a look into memory.
+// The table of commands (01, 'Commands'; 02, items 1 and 2) by cases on the command byte, with no constant array. Comparisons in
+// this order cost less than a table: where the next command stands does not wait for a look into memory.
 ghost use mathlib.Core.Path.{_≡_};
 ghost use mathlib.Core.Option.{some};
 ghost use mathlib.Core.List.{[], _∷_};
-ghost use Rattle.sequence.specs.Commands.{Command, commandOf, operandCount, partCount, inRange, width, declares};
+ghost use Rattle.sequence.specs.Commands.{Command, commandOf, operandCount, inRange, declares};
+ghost use Rattle.commands.specs.Counts.{countOf, operandsAt, partsAt};
+
+// A count, or that the byte has no command.
+pub enum Count {
+    NoCommand,
+    Of(u8),
+}
+
+// The operand bytes of the command b.
+pub fn operand_count(b: u8) -> Count
+    ensures { λ r. ⌜ r ≡ countOf (operandsAt b) ⌝ }
+{
+    if b == 0 {
+        return Count::Of(0);
+    }
+    if b < 4 {
+        return Count::Of(1);
+    }
+    if b < 7 {
+        return Count::Of(0);
+    }
+    if b == 9 {
+        return Count::Of(0);
+    }
+    if b <= limits::LAST_COMMAND {
+        return Count::Of(1);
+    }
+    Count::NoCommand
+}
+
+// The parts of the command b.
+pub fn part_count(b: u8) -> Count
+    ensures { λ r. ⌜ r ≡ countOf (partsAt b) ⌝ }
+{
+    if b < 4 {
+        return Count::Of(0);
+    }
+    if b < 6 {
+        return Count::Of(2);
+    }
+    if b == 7 {
+        return Count::Of(2);
+    }
+    if b == 10 {
+        return Count::Of(0);
+    }
+    if limits::LAST_COMMAND < b {
+        return Count::NoCommand;
+    }
+    Count::Of(1)
+}
 
 // Is x, the one operand byte of the command b, in its range?
 pub fn in_range(b: u8, x: u8) -> bool
@@ -29,36 +80,4 @@ pub fn declared(b: u8) -> u8
     ensures { λ r. ⌜ ((c : Command) → commandOf b ≡ some c → r ≡ declares c) ⌝ }
 {
     if b == 8 { 1 } else { 0 }
-}
-
-// The bytes of the command b with its operands.
-pub fn width(b: u8) -> usize
-    ensures { λ r. ⌜ ((c : Command) → commandOf b ≡ some c → r ≡ width c) ⌝ }
-{
-    if b == 0 {
-        return 1;
-    }
-    if b < 4 {
-        return 2;
-    }
-    if b < 7 {
-        return 1;
-    }
-    if b == 9 { 1 } else { 2 }
-}
-
-// The parts of the command b.
-pub fn parts(b: u8) -> usize
-    ensures { λ r. ⌜ ((c : Command) → commandOf b ≡ some c → r ≡ partCount c) ⌝ }
-{
-    if b < 4 {
-        return 0;
-    }
-    if b < 6 {
-        return 2;
-    }
-    if b == 7 {
-        return 2;
-    }
-    if b == 10 { 0 } else { 1 }
 }

@@ -2,16 +2,18 @@
 // behind the statement or 4096 times the row that turns it down. Offsets are those of the whole sequence.
 ghost use mathlib.Core.Path.{_≡_};
 ghost use Prim.Native.Nat.{ℕ, _+_, _≤_, _<_};
+ghost use mathlib.Core.Option.{some};
 ghost use mathlib.Core.List.{List};
 ghost use lib.ListN.{length};
 ghost use Rattle.limits.specs.Limits.{maxBytes};
-ghost use Rattle.sequence.specs.Commands.{Command, partCount, width};
+ghost use Rattle.sequence.specs.Commands.{Command, commandOf, partCount, width};
 ghost use Rattle.sequence.specs.Reader.{front, read};
 ghost use Rattle.layout.specs.Layout.{entry};
 ghost use Rattle.layout.specs.Notes.{noNotes};
 ghost use Rattle.layout.specs.Walk.{headOf, Leaf, LabelNoted, pairRead, Readable, Done};
 ghost use Rattle.reading.specs.Reading.{Reads};
 use crate::notes::Notes;
+use commands::Count;
 
 // The table of second parts: at the offset of a command of two parts, where its second part begins and how many pauses
 // stand before that.
@@ -31,19 +33,31 @@ fn front(s: &[u8]) -> usize
         return 4 * 4096;
     }
     let b = s[0];
-    if limits::LAST_COMMAND < b {
-        return 3 * 4096;
+    match commands::operand_count(b) {
+        Count::NoCommand => 3 * 4096,
+        Count::Of(n) => {
+            if n == 0 {
+                return 1;
+            }
+            if s.len() <= 1 {
+                return 4 * 4096;
+            }
+            if commands::in_range(b, s[1]) {
+                2
+            } else {
+                5 * 4096
+            }
+        }
     }
-    if commands::width(b) == 1 {
-        return 1;
-    }
-    if s.len() <= 1 {
-        return 4 * 4096;
-    }
-    if commands::in_range(b, s[1]) {
-        2
-    } else {
-        5 * 4096
+}
+
+// The parts of the command b, which is known to be one.
+fn parts(b: u8) -> u8
+    ensures { λ r. ⌜ ((c : Command) → commandOf b ≡ some c → r ≡ partCount c) ⌝ }
+{
+    match commands::part_count(b) {
+        Count::NoCommand => 0,
+        Count::Of(n) => n,
     }
 }
 
@@ -118,7 +132,7 @@ fn read(
         return 6 * 4096;
     }
     let b = s[0];
-    let parts = commands::parts(b);
+    let parts = parts(b);
     if parts == 2 {
         return two(&s[w..], at, w, depth - 1, signals, second, notes);
     }

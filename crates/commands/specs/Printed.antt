@@ -1,0 +1,52 @@
+-- 01's table of commands as it is printed, with the row of 02, item 1: a byte, then a letter for each operand and each part.
+use Prim.Native.Nat.{ℕ, _+_}
+use mathlib.Core.Bool.{Bool, true, false, not, cond}
+use mathlib.Core.Option.{Option, none, some}
+use mathlib.Core.List.{List, [], _∷_}
+use lib.Dec.{eqb}
+
+-- l is a label, s a signal, n the number of an exit; p and q are parts
+pub data Letter : Type 0 where
+  l s n p q : Letter
+
+pub data Row : Type 0 where
+  row : (byte : ℕ) (letters : List Letter) → Row
+
+abbrev pub printed : List Row
+printed =
+    row 0x00 []
+    ∷ row 0x01 (l ∷ [])
+    ∷ row 0x02 (s ∷ [])
+    ∷ row 0x03 (n ∷ [])
+    ∷ row 0x04 (p ∷ q ∷ [])
+    ∷ row 0x05 (p ∷ q ∷ [])
+    ∷ row 0x06 (p ∷ [])
+    ∷ row 0x07 (s ∷ p ∷ q ∷ [])
+    ∷ row 0x08 (s ∷ p ∷ [])
+    ∷ row 0x09 (p ∷ [])
+    ∷ row 0x0A (l ∷ [])
+    ∷ row 0x0B (s ∷ p ∷ [])
+    ∷ []
+
+abbrev pub isPart : Letter → Bool
+isPart l = false
+isPart s = false
+isPart n = false
+isPart p = true
+isPart q = true
+
+-- the letters of which f says true, counted
+abbrev pub count : (Letter → Bool) → List Letter → ℕ
+count f [] = 0
+count f (x ∷ xs) = cond (f x) (1 + count f xs) (count f xs)
+
+-- the count in the row of a byte, if the table has one
+abbrev pub countIn : (Letter → Bool) → ℕ → List Row → Option ℕ
+countIn f b [] = none
+countIn f b (row a xs ∷ rows) = cond (eqb a b) (some (count f xs)) (countIn f b rows)
+
+abbrev pub operandsPrinted : ℕ → Option ℕ
+operandsPrinted b = countIn (λ x. not (isPart x)) b printed
+
+abbrev pub partsPrinted : ℕ → Option ℕ
+partsPrinted b = countIn isPart b printed
