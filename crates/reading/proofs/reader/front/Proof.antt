@@ -5,21 +5,22 @@ use Prim.Native.Nat.{ℕ}
 use native.Mathlib.Omega.{arith}
 use lib.ListN.{getD}
 use borrow.Author.Needs.{needs}
-use Rattle.sequence.specs.Commands.{Command, operandCount, operandsOf, bytesAt, inRange, width}
+use Rattle.sequence.specs.Commands.{Command, commandOf, operandCount, operandsOf, bytesAt, inRange, width}
 use Rattle.sequence.specs.Reader.{Front, front}
 use Rattle.layout.specs.Walk.{headOf}
-use Rattle.sequence.proofs.Table.{named, at-most-one, free}
+use Rattle.sequence.proofs.Table.{unnamed, at-most-one, free}
 use Rattle.sequence.proofs.Front.{Fronts, front-is}
+use Rattle.commands.proofs.Counts.{of-command, of-none}
 use Rattle.reading.proofs.reader.front.Statement.{statement}
 use Rattle.reading.proofs.reader.front.Tie as tie
 
 heads : (s : List ℕ) (f : Front) → Fronts s f → headOf f ≡ headOf (front s)
 heads s f v = ap headOf (sym (front-is s f v))
 
--- a command of more than one byte has one operand
-module _ (c : Command) (wide : width c ≡ 1 → ⊥) where
+-- a command with operands has one
+module _ (c : Command) (n : ℕ) (counts : n ≡ operandCount c) (some : n ≡ 0 → ⊥) where
   operand : operandCount c ≡ 1
-  operand = let n : operandCount c ≡ 0 → ⊥ = λ z. wide (omega arith) in omega (arith, at-most-one c)
+  operand = let z : operandCount c ≡ 0 → ⊥ = λ e. some (counts ∙ e) in omega (arith, at-most-one c)
 
   range : (s : List ℕ) (r : Bool) → r ≡ inRange c (getD s 1 0 ∷ []) → inRange c (operandsOf c s) ≡ r
   range s r e = ap (λ (n : ℕ). inRange c (bytesAt 1 n s)) operand ∙ sym e
@@ -33,34 +34,37 @@ returns c = heads _ _ (Fronts.empty (c .if1 .taken))
 shared-slice-read-b : tie.Need-shared-slice-read-b
 shared-slice-read-b c = search needs
 
+operand-count-requires : tie.Need-operand-count-requires
+operand-count-requires c κs = search needs
+
+enum-told : tie.Need-enum-told
+enum-told c = search needs
+
 mul-result-2 : tie.Need-mul-result-2
 mul-result-2 c = search needs
 
+enum-known-n : tie.Need-enum-known-n
+enum-known-n c = search needs
+
 returns-2 : tie.Need-returns-2
-returns-2 c = heads _ _ (Fronts.unknown (omega (arith, c .before .before .if1 .left)) (c .if2 .taken))
-
-width-requires : tie.Need-width-requires
-width-requires c κs = search needs
-
-returns-3 : tie.Need-returns-3
-returns-3 c =
-    let n = named _ (c .before .before .if2 .left) in
-    let w : 1 ≡ width (n .0) = sym (c .if3 .taken) ∙ c .before .width .ensures (n .0) (n .1) in
-    w ∙ heads _ _ (Fronts.whole (n .0) _ (record {
-      byte = n .1;
-      long = omega (arith, w, c .before .before .before .before .if1 .left);
+returns-2 c =
+    let g = of-command operandCount (commandOf (getD (c .before .before .before .before .before .before .before .before .args .s .now) 0 0)) (c .before .before .n .given .0 .0) (sym (c .before .before .n .given .1) ∙ c .before .before .before .before .operand-count .ensures) in
+    let w : 1 ≡ width (g .0) = omega (arith, g .1 .1, c .if2 .taken) in
+    w ∙ heads _ _ (Fronts.whole (g .0) _ (record {
+      byte = g .1 .0;
+      long = omega (arith, w, c .before .before .before .before .before .before .if1 .left);
       operands = refl;
-      ranged = free (n .0) _ (omega (arith, w));
+      ranged = free (g .0) _ (omega (arith, w));
     }))
 
 mul-result-3 : tie.Need-mul-result-3
 mul-result-3 c = search needs
 
-returns-4 : tie.Need-returns-4
-returns-4 c =
-    let n = named _ (c .before .before .before .if2 .left) in
-    let w = operand (n .0) (λ z. c .before .if3 .left (c .before .before .width .ensures (n .0) (n .1) ∙ z)) in
-    heads _ _ (Fronts.short (n .0) (omega (arith, c .before .before .before .before .before .if1 .left)) (n .1) (omega (arith, w, c .if4 .taken)))
+returns-3 : tie.Need-returns-3
+returns-3 c =
+    let g = of-command operandCount (commandOf (getD (c .before .before .before .before .before .before .before .before .before .args .s .now) 0 0)) (c .before .before .before .n .given .0 .0) (sym (c .before .before .before .n .given .1) ∙ c .before .before .before .before .before .operand-count .ensures) in
+    let w = operand (g .0) _ (g .1 .1) (c .before .if2 .left) in
+    heads _ _ (Fronts.short (g .0) (omega (arith, c .before .before .before .before .before .before .before .if1 .left)) (g .1 .0) (omega (arith, w, c .if3 .taken)))
 
 shared-slice-read-in-range : tie.Need-shared-slice-read-in-range
 shared-slice-read-in-range c = search needs
@@ -71,29 +75,33 @@ in-range-requires c κs = search needs
 mul-result-4 : tie.Need-mul-result-4
 mul-result-4 c = search needs
 
+returns-4 : tie.Need-returns-4
+returns-4 c =
+    heads _ _
+    (Fronts.unknown (omega (arith, c .before .before .before .before .if1 .left))
+    (unnamed _ (of-none operandCount (commandOf (getD (c .before .before .before .before .before .before .args .s .now) 0 0)) (sym (c .enum-told .given .1) ∙ c .before .before .operand-count .ensures))))
+
 returns-5 : tie.Need-returns-5
 returns-5 c =
-    let p = c .before .before .before .before in
-    let n = named _ (p .before .before .if2 .left) in
-    let wide : width (n .0) ≡ 1 → ⊥ = λ z. p .if3 .left (p .before .width .ensures (n .0) (n .1) ∙ z) in
-    let w = operand (n .0) wide in
-    let two : 2 ≡ width (n .0) = omega (arith, w) in
-    two ∙ heads _ _ (Fronts.whole (n .0) _ (record {
-      byte = n .1;
-      long = omega (arith, w, c .before .before .before .if4 .left);
+    let g = of-command operandCount (commandOf (getD (c .before .before .before .before .before .before .before .before .before .before .before .before .args .s .now) 0 0)) (c .before .before .before .before .before .before .n .given .0 .0) (sym (c .before .before .before .before .before .before .n .given .1) ∙ c .before .before .before .before .before .before .before .before .operand-count .ensures) in
+    let some = c .before .before .before .before .if2 .left in
+    let w = operand (g .0) _ (g .1 .1) some in
+    let two : 2 ≡ width (g .0) = omega (arith, w) in
+    two ∙ heads _ _ (Fronts.whole (g .0) _ (record {
+      byte = g .1 .0;
+      long = omega (arith, w, c .before .before .before .if3 .left);
       operands = refl;
-      ranged = range (n .0) wide _ _ (c .before .in-range .ensures (n .0) (n .1) w) ∙ c .if5 .taken;
+      ranged = range (g .0) _ (g .1 .1) some _ _ (c .before .in-range .ensures (g .0) (g .1 .0) w) ∙ c .if4 .taken;
     }))
 
 returns-6 : tie.Need-returns-6
 returns-6 c =
-    let p = c .before .before .before .before in
-    let n = named _ (p .before .before .if2 .left) in
-    let wide : width (n .0) ≡ 1 → ⊥ = λ z. p .if3 .left (p .before .width .ensures (n .0) (n .1) ∙ z) in
-    let w = operand (n .0) wide in
+    let g = of-command operandCount (commandOf (getD (c .before .before .before .before .before .before .before .before .before .before .before .before .args .s .now) 0 0)) (c .before .before .before .before .before .before .n .given .0 .0) (sym (c .before .before .before .before .before .before .n .given .1) ∙ c .before .before .before .before .before .before .before .before .operand-count .ensures) in
+    let some = c .before .before .before .before .if2 .left in
+    let w = operand (g .0) _ (g .1 .1) some in
     heads _ _
-    (Fronts.outside (n .0) (n .1) (omega (arith, w, c .before .before .before .if4 .left))
-    (range (n .0) wide _ _ (c .before .in-range .ensures (n .0) (n .1) w) ∙ c .if5 .left))
+    (Fronts.outside (g .0) (g .1 .0) (omega (arith, w, c .before .before .before .if3 .left))
+    (range (g .0) _ (g .1 .1) some _ _ (c .before .in-range .ensures (g .0) (g .1 .0) w) ∙ c .if4 .left))
 
 pub front-spec : {M : Type 1} → statement M
 front-spec =
@@ -102,14 +110,16 @@ front-spec =
     mul-result
     returns
     shared-slice-read-b
+    operand-count-requires
+    enum-told
     mul-result-2
+    enum-known-n
     returns-2
-    width-requires
-    returns-3
     mul-result-3
-    returns-4
+    returns-3
     shared-slice-read-in-range
     in-range-requires
     mul-result-4
+    returns-4
     returns-5
     returns-6)
