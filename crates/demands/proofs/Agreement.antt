@@ -9,7 +9,7 @@ use lib.Dec.{eqb}
 use borrow.Author.Tests.{eqb-true, eqb-false}
 use Rattle.esterel.specs.Sets.{none}
 use Rattle.esterel.specs.Statement.{Statement}
-use Rattle.esterel.specs.Reaction.{react}
+use Rattle.esterel.specs.Reaction.{code, react}
 use Rattle.esterel.specs.Errors.{firstError}
 use Rattle.esterel.specs.States.{NoSetpause}
 use Rattle.esterel.specs.Expansion.{expand}
@@ -23,7 +23,7 @@ use Rattle.demands.specs.Paper.{Call, Report, turnedDown, phaseOf, repor
 use Rattle.demands.specs.Demands.{stateAfterwards, outcomes, cleared, report, Demand3}
 use Rattle.records.proofs.RecordLaws.{Recorded, length-state, decode-encode}
 use Rattle.demands.proofs.Reports.{report-written}
-use Rattle.demands.proofs.Sequence.{same-statement, Accepted, accepted, tick-at, tick-short, recorded-fresh, recorded-resumed, emits-fresh, emits-resumed}
+use Rattle.demands.proofs.Sequence.{same-statement, Accepted, accepted, tick-at, tick-short, recorded-fresh, recorded-resumed, emits-fresh, emits-resumed, names-fresh, names-resumed}
 
 module _ (sequence : List ℕ) (a : Accepted sequence) (plain : NoSetpause (a .statement)) where
   abbrev p : Statement
@@ -61,7 +61,7 @@ module _ (sequence : List ℕ) (a : Accepted sequence) (plain : NoSetpause (a .s
       let t = step p (a .source) (a .distinct) plain State.fresh w h e in
       record {
         state = stateAfter (react p e);
-        same = report-written (react p e) (firstError p e) (emits-fresh sequence a e) ∙ ap reportOf (t .0);
+        same = report-written (react p e) (firstError p e) (emits-fresh sequence a e) (names-fresh sequence a e (code (react p e))) ∙ ap reportOf (t .0);
         bytes = refl;
         term = t .1;
         recorded = recorded-fresh sequence a e;
@@ -70,7 +70,9 @@ module _ (sequence : List ℕ) (a : Accepted sequence) (plain : NoSetpause (a .s
       let t = step p (a .source) (a .distinct) plain (State.waits L) w h e in
       record {
         state = stateAfter (react (expand p L) e);
-        same = report-written (react (expand p L) e) (firstError (expand p L) e) (emits-resumed sequence a L e) ∙ ap reportOf (t .0);
+        same = report-written (react (expand p L) e) (firstError (expand p L) e) (emits-resumed sequence a L e)
+            (names-resumed sequence a L e (code (react (expand p L) e)))
+            ∙ ap reportOf (t .0);
         bytes = refl;
         term = t .1;
         recorded = recorded-resumed sequence a L e (r .0);

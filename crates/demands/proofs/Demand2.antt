@@ -1,16 +1,16 @@
 -- DEMAND 2 for the definitions checkOf and tickOf.
 use Prim.Native.Nat.{ℕ, _^_, _<_, _≤_}
 use native.Mathlib.Omega.{arith}
-use native.Mathlib.Decide.{decLt, ℕ-discrete}
+use native.Mathlib.Decide.{ℕ-discrete}
 use mathlib.Core.Path.{_≡_, refl, sym, ap, _∙_, subst}
 use mathlib.Core.Logic.{_↔_, _≢_, inr, inl}
 use mathlib.Core.Option.{some}
-use mathlib.Core.List.{List, List·Memᴰ}
+use mathlib.Core.List.{List, head?}
 use lib.ListN.{length}
 use Rattle.esterel.specs.Sets.{none}
 use Rattle.esterel.specs.Statement.{Statement}
 use Rattle.esterel.specs.Reaction.{Code, ended, waiting, leaving, wrong, Reaction, gives, emitted, code, react}
-use Rattle.esterel.specs.Errors.{Error, errors, firstError}
+use Rattle.esterel.specs.Errors.{Error, firstError, uses}
 use Rattle.esterel.specs.States.{Valid}
 use Rattle.esterel.specs.Expansion.{expand}
 use Rattle.esterel.specs.Resume.{instant, start}
@@ -18,10 +18,10 @@ use Rattle.esterel.specs.Machines.{shown, State}
 use Rattle.esterel.specs.Rules.{Reacts}
 use Rattle.esterel.proofs.Rules.{reacts-is}
 use Rattle.esterel.proofs.Errors.{wrong-named}
+use Rattle.esterel.proofs.Derivations.{first-use}
 use Rattle.esterel.proofs.LabelTests.{valid-is}
 use Rattle.limits.specs.Limits.{maxBytes, signalCount}
 use Rattle.sequence.specs.Check.{checkOf}
-use Rattle.sequence.specs.Rows.{row-2}
 use Rattle.sequence.proofs.Rows.{check-by-rows}
 use Rattle.limits.specs.Limits.{signalBytes}
 use Rattle.records.specs.Records.{stateLength, answerLength, Decoded, holds, decodeState, encodeAnswer, codeByte, phaseIn, labelsIn, kindIn, placeIn}
@@ -30,10 +30,10 @@ use Rattle.demands.specs.TickRows.{TickRow, row-1, row-2-to-10, row-11, 
 use Rattle.demands.specs.Demands.{number, StandsAt, at-start, at-labels, Shows, Demand2}
 use Rattle.records.proofs.RecordLaws.{code-field, kind-field, place-field, emitted-field, blameless, wrong-blame, answer-is, length-answer}
 use Rattle.demands.proofs.Bounds.{Below, Bounded, ranged-bounded, bounded-expand, emitted-below, Exits, code-exits}
-use Rattle.demands.proofs.ErrorPlaces.{PlacesBelow, placed-below, places-expand, errors-below}
+use Rattle.demands.proofs.ErrorPlaces.{PlacesBelow, place-fits}
 use Rattle.demands.proofs.Reports.{shown-below}
 use Rattle.demands.proofs.TickRows.{Reading, reads-fresh, reads-waiting, reads-over, reads-malformed, reading, tick-by-rows}
-use Rattle.demands.proofs.Sequence.{same-statement, Accepted, accepted, tick-at}
+use Rattle.demands.proofs.Sequence.{same-statement, Accepted, accepted, tick-at, not-long, places-fresh, places-resumed}
 
 -- ---- what an instant shows
 called-wrong : (k : Code) (c : ℕ) → Exits k → c ≡ codeByte k → (c ≡ 255) ↔ (k ≡ wrong)
@@ -70,24 +70,23 @@ module _ (t : Statement) (e n : ℕ) (small : n ≤ maxBytes) (f : Fitting t n) 
         named = named;
         unnamed = λ i. (
           kind-field o k l t′ (firstError t e) ∙ ap (λ (b : Error). b .kind) (blameless k (firstError t e) i),
-          place-field o k l t′ (firstError t e) (rw (blameless k (firstError t e) i) (omega arith))
+          place-field o k l t′ (firstError t e) (place-fits n t e k small (f .1))
               ∙ ap (λ (b : Error). b .place) (blameless k (firstError t e) i),
         );
       }
     where
       named : k ≡ wrong
-          → (x : Error) × (firstError t e ≡ some x) × List·Memᴰ x (errors t e)
+          → (x : Error) × (firstError t e ≡ some x) × ((d : Reacts t e (gives o k l t′)) → head? (uses d) ≡ some x)
           × (kindIn (encodeAnswer (instant (gives o k l t′) (firstError t e))) ≡ x .kind)
           × (placeIn (encodeAnswer (instant (gives o k l t′) (firstError t e))) ≡ x .place)
       named i =
           let w = wrong-named t e (sym (ap code h) ∙ i) in
-          let b = wrong-blame k (firstError t e) (w .0) i (w .1) in
-          let small-place : w .0 .place < n = errors-below n t e (f .1) (w .0) (w .2) in (
+          let b = wrong-blame k (firstError t e) (w .0) i (w .1) in (
             w .0,
             w .1,
-            w .2,
+            λ d. first-use d ∙ w .1,
             kind-field o k l t′ (firstError t e) ∙ ap (λ (y : Error). y .kind) b,
-            place-field o k l t′ (firstError t e) (rw b (omega arith)) ∙ ap (λ (y : Error). y .place) b,
+            place-field o k l t′ (firstError t e) (place-fits n t e k small (f .1)) ∙ ap (λ (y : Error). y .place) b,
           )
 
 -- ---- the term of an admitted record
@@ -101,24 +100,11 @@ unfolding decodeState
 decode-waiting p state x v = rw (x, valid-is p (labelsIn state) .1 v)
 
 module _ (sequence : List ℕ) (a : Accepted sequence) where
-  not-long : length sequence ≤ maxBytes
-  not-long =
-      elim (decLt maxBytes (length sequence)) [
-        | yes i ↦ absurd (a .no-row 2 (row-2 (inr i)))
-        | no i ↦ omega arith
-      ]
-
   statement-fits : Fitting (a .statement) (length sequence)
-  statement-fits = (
-    ranged-bounded (a .statement) (a .spelled .1 .ranged),
-    placed-below (length sequence) 0 (a .statement) (a .spelled .1 .ranged) (a .spelled .2) (omega (arith, ap length (a .spelled .0))),
-  )
+  statement-fits = (ranged-bounded (a .statement) (a .spelled .1 .ranged), places-fresh sequence a)
 
   expansion-fits : (L : ℕ) → Fitting (expand (a .statement) L) (length sequence)
-  expansion-fits L = (
-    bounded-expand (a .statement) L (statement-fits .0),
-    places-expand (length sequence) (a .statement) L (statement-fits .1),
-  )
+  expansion-fits L = (bounded-expand (a .statement) L (statement-fits .0), places-resumed sequence a L)
 
   -- the tick from a record that stands at t is the instant of t
   stands-written : (state : List ℕ) (e : ℕ) (answer : List ℕ) → length state ≡ stateLength → length answer ≡ answerLength

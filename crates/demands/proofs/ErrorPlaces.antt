@@ -1,18 +1,19 @@
 -- The place that an error names is an offset of the sequence, also for a copy made by expansion, so it fits two bytes.
-use Prim.Native.Nat.{ℕ, _+_, _<_, _≤_}
+use Prim.Native.Nat.{ℕ, _+_, _^_, _<_, _≤_}
 use native.Mathlib.Omega.{arith}
-use mathlib.Core.Path.{sym, subst}
+use mathlib.Core.Path.{refl, sym, subst}
 use mathlib.Core.Logic.{⊎-elim}
 use mathlib.Core.Bool.{Bool, true, false, cond}
-use mathlib.Core.List.{List, [], _∷_, _++_, List·Memᴰ, List·Memᴰ·not-nil, List·Memᴰ·append-cases, List·Memᴰ·eq-of-singleton}
+use mathlib.Core.List.{List, [], _∷_, _++_, head?, List·Memᴰ, List·Memᴰ·head, List·Memᴰ·not-nil, List·Memᴰ·append-cases, List·Memᴰ·eq-of-singleton}
 use lib.ListN.{length-append}
 use Rattle.esterel.specs.Sets.{member, insert, remove}
 use Rattle.esterel.specs.Statement.{Statement, nothing, pause, emit, exit, seq, par, loop, present, signal, try, setpause, suspend, held}
 use Rattle.esterel.specs.Reaction.{Code, ended, waiting, leaving, wrong, code, Case, both, neither, only−, only+, inherited, caseOf, react}
-use Rattle.esterel.specs.Errors.{Error, ifEnded, loopErrors, signalErrors, errors}
+use Rattle.esterel.specs.Errors.{Error, ifEnded, loopErrors, signalErrors, errors, firstError, blame}
 use Rattle.esterel.specs.States.{active}
 use Rattle.esterel.specs.LabelTests.{activeLabels}
 use Rattle.esterel.specs.Expansion.{expand}
+use Rattle.limits.specs.Limits.{maxBytes, placeBytes}
 use Rattle.sequence.specs.Writer.{bytesOf, size, Ranged, PlacedAt}
 
 -- each loop and signal of p has a place below n
@@ -132,3 +133,15 @@ errors-below n (try p) e h = errors-below n p e h
 errors-below n (setpause l) e h = below-nil n
 errors-below n (suspend s p) e h = errors-below n p e h
 errors-below n (held s K p) e h = below-present n (member s e) [] (errors p e) (below-nil n) (errors-below n p e h)
+
+-- ---- what an instant names
+names-below : (n : ℕ) (k : Code) (xs : List Error) → n ≤ maxBytes → AllBelow n xs → blame k (head? xs) .place < 256 ^ placeBytes
+names-below n ended xs h f = omega arith
+names-below n waiting xs h f = omega arith
+names-below n (leaving m) xs h f = omega arith
+names-below n wrong [] h f = omega arith
+names-below n wrong (x ∷ xs) h f = let i = f x (List·Memᴰ·head refl) in omega arith
+
+pub place-fits : (n : ℕ) (t : Statement) (e : ℕ) (k : Code) → n ≤ maxBytes → PlacesBelow n t
+    → blame k (firstError t e) .place < 256 ^ placeBytes
+place-fits n t e k h f = names-below n k (errors t e) h (errors-below n t e f)

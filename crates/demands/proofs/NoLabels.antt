@@ -3,11 +3,13 @@
 use Prim.Native.Nat.{ℕ}
 use mathlib.Core.Path.{_≡_, refl, sym, ap, ap₂, _∙_}
 use mathlib.Core.Bool.{Bool, true, false, cond}
+use mathlib.Core.Option.{Option}
 use mathlib.Core.List.{List, [], _∷_, head-eq-of-cons-eq, tail-eq-of-cons-eq}
 use lib.ListN.{length}
 use lib.Dec.{eqb}
 use Rattle.esterel.specs.Statement.{Statement}
 use Rattle.esterel.specs.Reaction.{ended, waiting, leaving, wrong, Reaction, gives, react}
+use Rattle.esterel.specs.Errors.{Error, firstError}
 use Rattle.esterel.specs.Machines.{Seen, instant, refused, seen, run, Rewriting, termAfter, byRewriting, erase}
 use Rattle.esterel.proofs.Erasure.{erased-run}
 use Rattle.records.specs.Records.{answerLength}
@@ -15,18 +17,18 @@ use Rattle.demands.specs.Paper.{Call, Report, turnedDown, phaseNumber, p
 
 -- what is seen of a tick tells the phase after it
 abbrev phaseSeen : Seen → ℕ
-phaseSeen (instant k o after) = phaseNumber after
+phaseSeen (instant k x o after) = phaseNumber after
 phaseSeen refused = 2
 
-phase-after : (r : Reaction) → phaseOf (termAfter r) ≡ phaseSeen (seen r)
-phase-after (gives o ended l t) = refl
-phase-after (gives o waiting l t) = refl
-phase-after (gives o (leaving n) l t) = refl
-phase-after (gives o wrong l t) = refl
+phase-after : (r : Reaction) (x : Option Error) → phaseOf (termAfter r) ≡ phaseSeen (seen r x)
+phase-after (gives o ended l t) x = refl
+phase-after (gives o waiting l t) x = refl
+phase-after (gives o (leaving n) l t) x = refl
+phase-after (gives o wrong l t) x = refl
 
 phase-seen : (w : Rewriting) (e : ℕ) → phaseOf (byRewriting w e .1) ≡ phaseSeen (byRewriting w e .0)
-phase-seen (Rewriting.fresh t) e = phase-after (react t e)
-phase-seen (Rewriting.waits t) e = phase-after (react t e)
+phase-seen (Rewriting.fresh t) e = phase-after (react t e) (firstError t e)
+phase-seen (Rewriting.waits t) e = phase-after (react t e) (firstError t e)
 phase-seen Rewriting.over e = refl
 
 -- terms of one phase whose runs show the same

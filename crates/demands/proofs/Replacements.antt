@@ -29,7 +29,7 @@ use Rattle.demands.proofs.Demand1.{demand-1}
 abbrev codeAt : ℕ → List Report → ℕ
 codeAt i [] = 255
 codeAt zero (turnedDown n ph ∷ rs) = 255
-codeAt zero (reacted c o ph ∷ rs) = c
+codeAt zero (reacted c k a o ph ∷ rs) = c
 codeAt (suc i) (r ∷ rs) = codeAt i rs
 
 -- 00, 01 00, and 04 01 00 02 00

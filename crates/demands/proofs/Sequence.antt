@@ -1,29 +1,32 @@
 -- What an accepted sequence is: a statement within the limits that passes the label rules, and how a tick of it goes.
-use Prim.Native.Nat.{ℕ}
+use Prim.Native.Nat.{ℕ, _^_, _<_, _≤_}
 use native.Mathlib.Omega.{arith}
-use mathlib.Core.Path.{_≡_, refl, sym, _∙_}
-use mathlib.Core.Logic.{_≢_}
+use native.Mathlib.Decide.{decLt}
+use mathlib.Core.Path.{_≡_, refl, sym, ap, _∙_}
+use mathlib.Core.Logic.{_≢_, inr}
 use mathlib.Core.Bool.{Bool, true, false, _&&_, cond}
 use mathlib.Core.List.{List}
 use lib.ListN.{length}
 use lib.Dec.{eqb}
 use borrow.Author.Tests.{eq-eqb, ne-eqb}
 use Rattle.esterel.specs.Statement.{Statement}
-use Rattle.esterel.specs.Reaction.{Reaction, gives, ended, waiting, leaving, wrong, emitted, react}
+use Rattle.esterel.specs.Reaction.{Code, Reaction, gives, ended, waiting, leaving, wrong, emitted, react}
+use Rattle.esterel.specs.Errors.{firstError, blame}
 use Rattle.esterel.specs.States.{Valid, Distinct, Targeted, Source, WellFormed}
 use Rattle.esterel.specs.Expansion.{expand}
 use Rattle.esterel.specs.Machines.{stateAfter}
 use Rattle.esterel.proofs.Theorems.{ReactionOf, of-statement, of-expansion, FromValid, stable, labels-of-stops}
-use Rattle.limits.specs.Limits.{labelCount, signalCount}
+use Rattle.limits.specs.Limits.{labelCount, signalCount, maxBytes, placeBytes}
 use Rattle.sequence.specs.Reader as Reader
 use Rattle.sequence.specs.Check.{Checked, sound, bad, checked, numberOf, checkOf}
-use Rattle.sequence.specs.Rows.{Spells, Row}
+use Rattle.sequence.specs.Rows.{Spells, Row, row-2}
 use Rattle.sequence.proofs.Writer.{reads-what-is-written}
 use Rattle.sequence.proofs.Source.{spells-source}
 use Rattle.sequence.proofs.Rows.{Decides, decided, row-range}
 use Rattle.records.specs.Records.{stateLength, answerLength, Decoded, decodeState}
 use Rattle.demands.specs.Tick.{outcome, byState, byCheck, tickOf}
 use Rattle.demands.proofs.Bounds.{Below, below-number, ranged-bounded, bounded-expand, emitted-below, stop-below}
+use Rattle.demands.proofs.ErrorPlaces.{PlacesBelow, placed-below, places-expand, place-fits}
 use Rattle.records.proofs.RecordLaws.{Recorded}
 
 -- bytes spell at most one statement
@@ -111,3 +114,24 @@ module _ (sequence : List ℕ) (a : Accepted sequence) where
 
   pub emits-resumed : (L e : ℕ) → Below signalCount (emitted (react (expand p L) e))
   emits-resumed L e = emitted-below (expand p L) e (bounded-expand p L (ranged-bounded p (a .spelled .1 .ranged)))
+
+  pub not-long : length sequence ≤ maxBytes
+  not-long =
+      elim (decLt maxBytes (length sequence)) [
+        | yes i ↦ absurd (a .no-row 2 (row-2 (inr i)))
+        | no i ↦ omega arith
+      ]
+
+  -- the places are offsets of the sequence, also those of what expansion copies
+  pub places-fresh : PlacesBelow (length sequence) p
+  places-fresh =
+      placed-below (length sequence) 0 p (a .spelled .1 .ranged) (a .spelled .2) (omega (arith, ap length (a .spelled .0)))
+
+  pub places-resumed : (L : ℕ) → PlacesBelow (length sequence) (expand p L)
+  places-resumed L = places-expand (length sequence) p L places-fresh
+
+  pub names-fresh : (e : ℕ) (k : Code) → blame k (firstError p e) .place < 256 ^ placeBytes
+  names-fresh e k = place-fits (length sequence) p e k not-long places-fresh
+
+  pub names-resumed : (L e : ℕ) (k : Code) → blame k (firstError (expand p L) e) .place < 256 ^ placeBytes
+  names-resumed L e k = place-fits (length sequence) (expand p L) e k not-long (places-resumed L)

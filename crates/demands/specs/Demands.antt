@@ -4,18 +4,18 @@ use Prim.Native.Nat.{ℕ, zero, suc}
 use mathlib.Core.Path.{_≡_}
 use mathlib.Core.Logic.{_≢_, _↔_}
 use mathlib.Core.Option.{some}
-use mathlib.Core.List.{List, [], _∷_, map, List·Memᴰ}
+use mathlib.Core.List.{List, [], _∷_, map, head?, List·Memᴰ}
 use lib.ListN.{length, replicate}
 use Rattle.esterel.specs.Sets.{none}
 use Rattle.esterel.specs.Statement.{Statement}
 use Rattle.esterel.specs.Reaction.{Code, wrong, gives}
 use Rattle.esterel.specs.Rules.{Reacts}
-use Rattle.esterel.specs.Errors.{Error, errors, firstError}
+use Rattle.esterel.specs.Errors.{Error, firstError, blame, uses}
 use Rattle.esterel.specs.States.{NoSetpause, Valid}
 use Rattle.esterel.specs.Expansion.{expand}
 use Rattle.esterel.specs.Machines.{shown, stateAfter, Rewriting}
 use Rattle.sequence.specs.Rows.{Spells, Row, ByRows}
-use Rattle.records.specs.Records.{stateLength, answerLength, phaseIn, labelsIn, encodeState, answerRecord, codeIn, kindIn, placeIn, emittedIn, codeByte, blame}
+use Rattle.records.specs.Records.{stateLength, answerLength, phaseIn, labelsIn, encodeState, answerRecord, codeIn, kindIn, placeIn, emittedIn, codeByte}
 use Rattle.demands.specs.Tick.{Outcome, outcome, tickOf}
 use Rattle.demands.specs.TickRows.{Malformed, TickRow}
 use Rattle.demands.specs.Paper.{Call, Report, turnedDown, reacted, paper}
@@ -81,9 +81,9 @@ pub record Shows (t : Statement) (e o : ℕ) (k : Code) (l : ℕ) (t′ : Statem
   pub called-wrong : (codeIn (answerAfterwards result) ≡ 255) ↔ (k ≡ wrong)
   pub emitted : k ≢ wrong → emittedIn (answerAfterwards result) ≡ o
   pub nothing-shown : k ≡ wrong → emittedIn (answerAfterwards result) ≡ none
-  -- the error that is named is the first, so it is one of them
+  -- the error that is named is the first of the tree of reactions, and the first use in any derivation
   pub named : k ≡ wrong
-      → (x : Error) × (firstError t e ≡ some x) × List·Memᴰ x (errors t e)
+      → (x : Error) × (firstError t e ≡ some x) × ((d : Reacts t e (gives o k l t′)) → head? (uses d) ≡ some x)
       × (kindIn (answerAfterwards result) ≡ x .kind) × (placeIn (answerAfterwards result) ≡ x .place)
   pub unnamed : k ≢ wrong → (kindIn (answerAfterwards result) ≡ 0) × (placeIn (answerAfterwards result) ≡ 0)
 
@@ -97,7 +97,7 @@ pub record Demand2 (check : Check) (tick : Tick) : Type 0 where
 
 -- ---- demand 3
 abbrev pub report : Outcome → Report
-report (outcome zero state answer) = reacted (codeIn answer) (emittedIn answer) (phaseIn state)
+report (outcome zero state answer) = reacted (codeIn answer) (kindIn answer) (placeIn answer) (emittedIn answer) (phaseIn state)
 report (outcome (suc n) state answer) = turnedDown (suc n) (phaseIn state)
 
 -- an accepted sequence without setpause: the paper is fed the statement that it spells, and both report the same
@@ -107,11 +107,9 @@ Demand3 check tick =
     → map report (outcomes tick sequence cleared calls) ≡ paper (Rewriting.fresh p) calls
 
 -- ---- the form for the code: a call of the tick meets its contract
--- number and both buffers are tickOf's, and the kind and place of a wrong instant belong to one of its errors
-pub record TickMeets (n : ℕ) (state′ answer′ sequence state : List ℕ) (e : ℕ) (answer : List ℕ) : Type 0 where
-  pub result : outcome n state′ answer′ ≡ tickOf sequence state e answer
-  pub named : n ≡ 0 → codeIn answer′ ≡ 255 → (t : Statement) → StandsAt sequence state t
-      → (x : Error) × List·Memᴰ x (errors t e) × (kindIn answer′ ≡ x .kind) × (placeIn answer′ ≡ x .place)
+-- number and both buffers are tickOf's
+abbrev pub TickMeets : (n : ℕ) (state′ answer′ sequence state : List ℕ) (e : ℕ) (answer : List ℕ) → Type 0
+TickMeets n state′ answer′ sequence state e answer = outcome n state′ answer′ ≡ tickOf sequence state e answer
 
 -- a chain of calls: each reads the state as the last one left it, the answer buffers are free
 pub data Chain (sequence : List ℕ) : (state : List ℕ) → List Call → List Outcome → Type 0 where

@@ -2,11 +2,11 @@
 use Prim.Native.Nat.{ℕ}
 use mathlib.Core.Path.{_≡_, refl, sym, ap, ap₂, _∙_}
 use mathlib.Core.Logic.{_≢_}
-use mathlib.Core.List.{List, [], _∷_, _++_, append-nil}
+use mathlib.Core.List.{List, [], _∷_, _++_, append-nil, head?}
 use Rattle.esterel.specs.Statement.{Statement}
 use Rattle.esterel.specs.Reaction.{Code, ended, waiting, leaving, wrong, Reaction, code, Case, caseOf}
 use Rattle.esterel.specs.Rules.{Reacts}
-use Rattle.esterel.specs.Errors.{Error, ifEnded, signalErrors, errors, uses, instantaneous}
+use Rattle.esterel.specs.Errors.{Error, ifEnded, signalErrors, errors, firstError, uses, instantaneous}
 use Rattle.esterel.proofs.Rules.{fits++, fits−−, fits+−, fits−+, fits∞, sound}
 
 -- what follows counts only after code 0
@@ -63,3 +63,7 @@ uses-is Reacts.setpause = refl
 uses-is (Reacts.suspend d) = uses-is d
 uses-is (Reacts.held+ i) = rw i
 uses-is (Reacts.held− i d) = rw i (uses-is d)
+
+-- the first error is the first use in any derivation
+pub first-use : {p : Statement} {e : ℕ} {r : Reaction} (d : Reacts p e r) → head? (uses d) ≡ firstError p e
+first-use d = ap head? (uses-is d)

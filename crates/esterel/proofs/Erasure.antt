@@ -3,12 +3,13 @@
 use Prim.Native.Nat.{ℕ, _-_}
 use mathlib.Core.Path.{_≡_, refl, sym, ap, ap₂, _∙_, subst}
 use mathlib.Core.Bool.{Bool, true, false, cond}
-use mathlib.Core.List.{List}
+use mathlib.Core.Option.{Option}
+use mathlib.Core.List.{List, head?}
 use lib.Dec.{eqb}
 use Rattle.esterel.specs.Sets.{member, none, insert, remove}
 use Rattle.esterel.specs.Statement.{Statement, nothing, pause, emit, exit, seq, par, loop, present, signal, try, setpause, suspend, held}
 use Rattle.esterel.specs.Reaction.{Code, ended, waiting, leaving, wrong, Reaction, gives, code, emitted, residual, side, inSeq, inPar, inLoop, inTry, inSignal, inSuspend, stopped, Case, both, neither, only−, only+, inherited, caseOf, answer, react}
-use Rattle.esterel.specs.Errors.{errors}
+use Rattle.esterel.specs.Errors.{Error, errors, firstError}
 use Rattle.esterel.specs.Machines.{erase, seen, run, Rewriting, termAfter, byRewriting}
 use Rattle.esterel.proofs.Agreement.{simulation}
 
@@ -179,19 +180,23 @@ SameTerm Rewriting.over (Rewriting.fresh u) = ⊥
 SameTerm Rewriting.over (Rewriting.waits u) = ⊥
 SameTerm Rewriting.over Rewriting.over = Unit {0}
 
-after-alike : {r r′ : Reaction} → Alike r r′ → (seen r ≡ seen r′) × SameTerm (termAfter r) (termAfter r′)
-after-alike (alike {k = ended} h) = (refl, tt)
-after-alike (alike {k = waiting} h) = (refl, h)
-after-alike (alike {k = leaving n} h) = (refl, tt)
-after-alike (alike {k = wrong} h) = (refl, tt)
+after-alike : {r r′ : Reaction} {x y : Option Error} → Alike r r′ → x ≡ y
+    → (seen r x ≡ seen r′ y) × SameTerm (termAfter r) (termAfter r′)
+after-alike (alike {k = ended} h) i = (refl, tt)
+after-alike (alike {k = waiting} h) i = (refl, h)
+after-alike (alike {k = leaving n} h) i = (refl, tt)
+after-alike (alike {k = wrong} h) i = (rw i, tt)
+
+first-alike : (t u : Statement) (e : ℕ) → erase t ≡ erase u → firstError t e ≡ firstError u e
+first-alike t u e h = ap head? (erased-errors t u e h)
 
 step : (v w : Rewriting) → SameTerm v w → (e : ℕ)
     → (byRewriting v e .0 ≡ byRewriting w e .0) × SameTerm (byRewriting v e .1) (byRewriting w e .1)
-step (Rewriting.fresh t) (Rewriting.fresh u) h e = after-alike (react-alike t u e h)
+step (Rewriting.fresh t) (Rewriting.fresh u) h e = after-alike (react-alike t u e h) (first-alike t u e h)
 step (Rewriting.fresh t) (Rewriting.waits u) h e = absurd h
 step (Rewriting.fresh t) Rewriting.over h e = absurd h
 step (Rewriting.waits t) (Rewriting.fresh u) h e = absurd h
-step (Rewriting.waits t) (Rewriting.waits u) h e = after-alike (react-alike t u e h)
+step (Rewriting.waits t) (Rewriting.waits u) h e = after-alike (react-alike t u e h) (first-alike t u e h)
 step (Rewriting.waits t) Rewriting.over h e = absurd h
 step Rewriting.over (Rewriting.fresh u) h e = absurd h
 step Rewriting.over (Rewriting.waits u) h e = absurd h

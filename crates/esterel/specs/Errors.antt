@@ -1,8 +1,8 @@
 -- The errors of an instant (01, 'One reaction'): the uses of kinds 1, 2 and 3 anywhere in its tree of reactions, both
--- runs of each signal counted. Order: first part before second, run without the signal before run with it, a command after its parts.
+-- runs of each signal counted, in the order of 02, item 3. A wrong instant names the first.
 use Prim.Native.Nat.{ℕ}
 use mathlib.Core.Bool.{cond}
-use mathlib.Core.Option.{Option}
+use mathlib.Core.Option.{Option, some}
 use mathlib.Core.List.{List, [], _∷_, _++_, head?}
 use Rattle.esterel.specs.Sets.{member, insert, remove}
 use Rattle.esterel.specs.Statement.{Statement, nothing, pause, emit, exit, seq, par, loop, present, signal, try, setpause, suspend, held}
@@ -40,6 +40,7 @@ signalErrors a only− = notReactive a ∷ []
 signalErrors a only+ = notDeterministic a ∷ []
 signalErrors a inherited = []
 
+-- 02, item 3: 'first part before second, run without the signal before run with it, a command after its parts'
 unfoldable pub errors : Statement → ℕ → List Error
 errors nothing e = []
 errors (pause l) e = []
@@ -56,11 +57,22 @@ errors (setpause l) e = []
 errors (suspend s p) e = errors p e
 errors (held s K p) e = cond (member s e) [] (errors p e)
 
--- the error that a wrong instant names
+-- 02, item 3: 'the first error in the tree of reactions'
 abbrev pub firstError : Statement → ℕ → Option Error
 firstError p e = head? (errors p e)
 
--- ---- the same on derivations: one error for each use of loop-error, signal+− and signal−+
+-- what an instant names: nothing, as kind 0 and place 0, unless its code is wrong
+abbrev pub noError : Error
+noError = record { kind = 0; place = 0 }
+
+abbrev pub blame : Code → Option Error → Error
+blame ended x = noError
+blame waiting x = noError
+blame (leaving n) x = noError
+blame wrong (some x) = x
+blame wrong Option.none = noError
+
+-- ---- the same on derivations: one error for each use of loop-error, signal+− and signal−+, in the same order
 unfoldable pub uses : {p : Statement} {e : ℕ} {r : Reaction} → Reacts p e r → List Error
 uses Reacts.nothing = []
 uses Reacts.pause = []

@@ -7,7 +7,7 @@ use mathlib.Core.List.{List, [], _∷_, map}
 use Rattle.esterel.specs.Sets.{member, none, only, join, insert, remove, below, from}
 use Rattle.esterel.specs.Statement.{Statement, nothing, pause, emit, exit, seq, par, loop, present, signal, try, setpause, suspend, held}
 use Rattle.esterel.specs.Reaction.{Code, ended, waiting, leaving, wrong, gives, code, emitted, labels, residual, react}
-use Rattle.esterel.specs.Errors.{Error, errors, instantaneous, notReactive, notDeterministic}
+use Rattle.esterel.specs.Errors.{Error, noError, errors, instantaneous, notReactive, notDeterministic}
 use Rattle.esterel.specs.Places.{first, second, Alternative, Exclusive}
 use Rattle.esterel.specs.States.{active}
 use Rattle.esterel.specs.Expansion.{expand}
@@ -70,19 +70,19 @@ rows : map (λ (x : Statement × Row). row (x .0)) table ≡ map (λ (x : Statem
 unfolding table react errors member none only join insert remove
 rows = refl
 
--- an instant that waits, or ends, and shows no signal
+-- an instant that waits, or ends, names no error and shows no signal
 abbrev quietly : Code → Seen
-quietly ended = instant ended 0 over
-quietly waiting = instant waiting 0 waits
-quietly (leaving n) = instant (leaving n) 0 over
-quietly wrong = instant wrong 0 over
+quietly ended = instant ended noError 0 over
+quietly waiting = instant waiting noError 0 waits
+quietly (leaving n) = instant (leaving n) noError 0 over
+quietly wrong = instant wrong noError 0 over
 
 runs : (run (byLabels reincarnated) State.fresh (0 ∷ 0 ∷ 0 ∷ []) ≡ map quietly (waiting ∷ waiting ∷ waiting ∷ []))
     × (run byRewriting (Rewriting.fresh reincarnated) (0 ∷ 0 ∷ []) ≡ map quietly (waiting ∷ waiting ∷ []))
     × (run (byLabels jump) State.fresh (0 ∷ 0 ∷ 0 ∷ []) ≡ map quietly (waiting ∷ waiting ∷ ended ∷ []))
     × (run (byLabels nothing) State.fresh (0 ∷ 0 ∷ []) ≡ quietly ended ∷ refused ∷ [])
-    × (run (byLabels (par (emit 1) (loop 3 nothing))) State.fresh (0 ∷ []) ≡ quietly wrong ∷ [])
-unfolding run active expand react member none only join insert remove
+    × (run (byLabels (par (emit 1) (loop 3 nothing))) State.fresh (0 ∷ []) ≡ instant wrong (instantaneous 3) 0 over ∷ [])
+unfolding run active expand react errors member none only join insert remove
 runs = (refl, refl, refl, refl, refl)
 
 -- labels 1 and 2 of `jump`, labels 2 and 3 of `split`; a side that ended, and one that is inactive, is nothing

@@ -8,7 +8,7 @@ use lib.ListN.{length}
 use Rattle.esterel.specs.Sets.{none}
 use Rattle.esterel.specs.Statement.{Statement}
 use Rattle.esterel.specs.Reaction.{Code, ended, waiting, leaving, wrong, gives}
-use Rattle.esterel.specs.Errors.{Error}
+use Rattle.esterel.specs.Errors.{Error, noError, blame}
 use Rattle.esterel.specs.States.{Valid}
 use Rattle.esterel.specs.LabelTests.{valid}
 use Rattle.esterel.specs.Resume.{instant}
@@ -16,7 +16,7 @@ use Rattle.esterel.specs.Machines.{shown, State}
 use Rattle.esterel.proofs.LabelTests.{valid-is}
 use Rattle.records.specs.Bytes.{leBytes, leNumber}
 use Rattle.limits.specs.Limits.{labelBytes, placeBytes, signalBytes}
-use Rattle.records.specs.Records.{stateLength, answerLength, stateRecord, encodeState, holds, malformed, decodeState, codeByte, blame, answerRecord, codeIn, kindIn, placeIn, emittedIn, encodeAnswer}
+use Rattle.records.specs.Records.{stateLength, answerLength, stateRecord, encodeState, holds, malformed, decodeState, codeByte, answerRecord, codeIn, kindIn, placeIn, emittedIn, encodeAnswer}
 use Rattle.records.proofs.Bytes.{length-leBytes, le-round-trip}
 
 -- ---- states: valid, with labels that fit the record
@@ -50,7 +50,7 @@ decode-encode p (State.waits L) h = go (leNumber (leBytes labelBytes L)) (le-rou
 decode-encode p State.over h = refl
 
 -- ---- what an instant answers: no kind and place unless it is wrong, and then those of its first error
-pub blameless : (k : Code) (x : Option Error) → k ≢ wrong → blame k x ≡ record { kind = 0; place = 0 }
+pub blameless : (k : Code) (x : Option Error) → k ≢ wrong → blame k x ≡ noError
 blameless ended x h = refl
 blameless waiting x h = refl
 blameless (leaving m) x h = refl

@@ -1,14 +1,13 @@
 -- The state record and the answer record as bytes (01, 'States and resuming').
 use Prim.Native.Nat.{ℕ, _+_}
 use mathlib.Core.Bool.{_&&_, cond}
-use mathlib.Core.Option.{Option, some}
 use mathlib.Core.List.{List, _∷_, _++_}
 use lib.ListN.{length, getD, take, drop}
 use lib.Dec.{eqb}
 use Rattle.esterel.specs.Sets.{none}
 use Rattle.esterel.specs.Statement.{Statement}
 use Rattle.esterel.specs.Reaction.{Code, ended, waiting, leaving, wrong, gives}
-use Rattle.esterel.specs.Errors.{Error}
+use Rattle.esterel.specs.Errors.{blame}
 use Rattle.esterel.specs.LabelTests.{valid}
 use Rattle.esterel.specs.Resume.{Instant, instant}
 use Rattle.esterel.specs.Machines.{shown, State}
@@ -87,14 +86,6 @@ codeByte ended = 0
 codeByte waiting = 1
 codeByte (leaving n) = n + 1
 codeByte wrong = 255
-
--- kind and place are 0 unless the code is wrong
-abbrev pub blame : Code → Option Error → Error
-blame ended x = record { kind = 0; place = 0 }
-blame waiting x = record { kind = 0; place = 0 }
-blame (leaving n) x = record { kind = 0; place = 0 }
-blame wrong (some x) = x
-blame wrong Option.none = record { kind = 0; place = 0 }
 
 unfoldable pub encodeAnswer : Instant → List ℕ
 encodeAnswer (instant (gives o k l p′) x) = answerRecord (codeByte k) (blame k x .kind) (blame k x .place) (shown k o)

@@ -21,7 +21,7 @@ use Rattle.runs.proofs.Examples as examples
 pub turns-list : (file : List ℕ) (n : ℕ) → length file + 2 ≤ n → turns n (opening file) ≡ listingOf file
 turns-list = all.turns-list
 
--- for a sequence without setpause: a heading, rows whose codes and sets are the machine's, and the end
+-- for a sequence without setpause: a heading, rows that are the machine's in every field but the labels, and the end
 pub listing-by-paper : (file sequence inputs : List ℕ) → fileOf file ≡ runs sequence inputs
     → (p : Statement) → Spells sequence p → NoSetpause p
     → (rs : List Row) × (listingOf file ≡ heading ++ (lines rs ++ ending)) × (map columns rs ≡ paperColumns p inputs)

@@ -1,6 +1,6 @@
--- What the machine by rewriting of demand 3 (demands, Paper) shows for a statement and its inputs: code and emitted set of each
--- instant, up to the one that ends it.
-use Prim.Native.Nat.{ℕ}
+-- What the machine by rewriting of demand 3 (demands, Paper) shows for a statement and its inputs, up to the instant that ends it:
+-- every field of a listing but the labels, which the paper does not know.
+use Prim.Native.Nat.{ℕ, suc}
 use mathlib.Core.List.{List, [], _∷_}
 use Rattle.esterel.specs.Statement.{Statement}
 use Rattle.esterel.specs.Machines.{Seen, instant, refused, Rewriting, byRewriting, run}
@@ -8,16 +8,21 @@ use Rattle.records.specs.Records.{codeByte}
 use Rattle.runs.specs.Listing.{Row}
 
 pub record Columns : Type 0 where
+  pub instant : ℕ
   pub code : ℕ
+  pub kind : ℕ
+  pub place : ℕ
   pub emitted : ℕ
 
 abbrev pub columns : Row → Columns
-columns r = record { code = r .code; emitted = r .emitted }
+columns r = record { instant = r .instant; code = r .code; kind = r .kind; place = r .place; emitted = r .emitted }
 
-unfoldable pub instants : List Seen → List Columns
-instants [] = []
-instants (instant k o after ∷ later) = record { code = codeByte k; emitted = o } ∷ instants later
-instants (refused ∷ later) = []
+-- numbered from i
+unfoldable pub instants : (i : ℕ) → List Seen → List Columns
+instants i [] = []
+instants i (instant k x o after ∷ later) =
+    record { instant = i; code = codeByte k; kind = x .kind; place = x .place; emitted = o } ∷ instants (suc i) later
+instants i (refused ∷ later) = []
 
 abbrev pub paperColumns : Statement → (inputs : List ℕ) → List Columns
-paperColumns p inputs = instants (run byRewriting (Rewriting.fresh p) inputs)
+paperColumns p inputs = instants 1 (run byRewriting (Rewriting.fresh p) inputs)

@@ -2,7 +2,6 @@ use mathlib.Core.Path.{_∙_, subst}
 use borrow.Author.Needs.{needs}
 use Rattle.intake.specs.declared.tick.Reply.the-variants.{Refused, Reacted}
 use Rattle.intake.specs.Standing.{Replies}
-use Rattle.demands.proofs.Calls.{meets}
 use Rattle.intake.proofs.Ticking.{other-state, other-answer, as-replied}
 use Rattle.intake.proofs.intake_tick.Statement.{statement}
 use Rattle.intake.proofs.intake_tick.Tie as tie
@@ -12,10 +11,10 @@ use Rattle.intake.proofs.tick.finish.Reads as finish-reads
 use Rattle.intake.proofs.tick.reply_to.Reads as reply-to-reads
 
 returns : tie.Need-returns
-returns c = meets _ _ _ _ _ _ _ (other-state _ _ _ _ (c .if1 .taken))
+returns c = other-state _ _ _ _ (c .if1 .taken)
 
 returns-2 : tie.Need-returns-2
-returns-2 c = meets _ _ _ _ _ _ _ (other-answer _ _ _ _ (c .before .if1 .left) (c .if2 .taken))
+returns-2 c = other-answer _ _ _ _ (c .before .if1 .left) (c .if2 .taken)
 
 reply-to-requires : tie.Need-reply-to-requires
 reply-to-requires c κs = search needs
@@ -39,7 +38,7 @@ same-length c = search needs
 returns-3 : tie.Need-returns-3
 returns-3 c =
     let r = subst (Replies _ _ _) (c .before .number .given .1) (c .before .before .before .reply-to .ensures) in
-    meets _ _ _ _ _ _ _ (as-replied _ _ _ _ (c .before .before .before .before .before .before .if1 .left) (c .before .before .before .before .before .if2 .left) (Refused _) r)
+    as-replied _ _ _ _ (c .before .before .before .before .before .before .if1 .left) (c .before .before .before .before .before .if2 .left) (Refused _) r
 
 same-length-2 : tie.Need-same-length-2
 same-length-2 c = search needs
@@ -50,7 +49,7 @@ same-length-3 c = search needs
 returns-4 : tie.Need-returns-4
 returns-4 c =
     let r = subst (Replies _ _ _) (c .before .before .before .before .before .before .before .before .instant .given .1) (c .before .before .before .before .before .before .before .before .before .before .reply-to .ensures) in
-    meets _ _ _ _ _ _ _ (c .before .before .before .before .finish .ensures ∙ as-replied _ _ _ _ (c .before .before .before .before .before .before .before .before .before .before .before .before .before .if1 .left) (c .before .before .before .before .before .before .before .before .before .before .before .before .if2 .left) (Reacted _) r)
+    c .before .before .before .before .finish .ensures ∙ as-replied _ _ _ _ (c .before .before .before .before .before .before .before .before .before .before .before .before .before .if1 .left) (c .before .before .before .before .before .before .before .before .before .before .before .before .if2 .left) (Reacted _) r
 
 pub intake-tick-spec : {M : Type 1} → statement M
 intake-tick-spec =

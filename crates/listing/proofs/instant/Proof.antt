@@ -65,7 +65,7 @@ returns c =
     let f = a .file .now in
     let t = c .before .before .before .before .before .before .before .before .before .before .intake-tick in
     let o : outcome (t .result) (t .last .1 .0) (t .last .1 .1 .1 .0) ≡ ticked (sequenceIn f) (a .state) (a .e)
-    = ticked-at (a .state) (a .e) (t .ensures .result) (c .before .before .before .before .before .before .before .before .before .before .before .before .before .sequence .ensures) in
+    = ticked-at (a .state) (a .e) (t .ensures) (c .before .before .before .before .before .before .before .before .before .before .before .before .before .sequence .ensures) in
     let piece : Piece
     = record { line = c .before .before .before .before .put-row .last .0; from = c .before .before .before .before .put-row .result; run = record { stage = c .following .result; state = t .last .1 .0 } } in
     subst (λ (u : Listing.Turn). Prints f u piece) (instant-turn f (a .state) (t .last .1 .0) (t .last .1 .1 .1 .0) (a .i) (a .e) (t .result) (c .before .before .before .before .before .before .before .before .before .before .before .before .before .before .before .pre) o)
