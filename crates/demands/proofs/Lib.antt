@@ -11,4 +11,5 @@ pub mod Calls
 pub mod Replacements
 pub mod Bays
 pub mod Suspended
+pub mod FirstErrors
 pub mod Theorems

@@ -13,9 +13,9 @@ use Rattle.records.specs.Bytes.{leBytes, leNumber}
 use Rattle.records.specs.Records.{encodeState, decodeState, encodeAnswer}
 use Rattle.demands.specs.Tick.{tickOf}
 use Rattle.demands.specs.Demands.{outcomes}
-use Rattle.demands.specs.Suspended.{table, ShowsRuns}
+use Rattle.demands.specs.Suspended.{suspendRuns, ShowsRuns}
 
 -- THE BAYS WITH SUSPEND: each row of the table
-pub suspended : ShowsRuns tickOf
-unfolding table outcomes tickOf checked read front commandOf distinct wellFormed everyLabel before labelsOf activeLabels valid subset disjoint active expand decodeState encodeState encodeAnswer leNumber leBytes react errors member none only join insert remove
+pub suspended : ShowsRuns suspendRuns tickOf
+unfolding suspendRuns outcomes tickOf checked read front commandOf distinct wellFormed everyLabel before labelsOf activeLabels valid subset disjoint active expand decodeState encodeState encodeAnswer leNumber leBytes react errors member none only join insert remove
 suspended = refl

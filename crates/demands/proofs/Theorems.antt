@@ -1,5 +1,5 @@
 -- The theorems of this crate: the three demands for the definitions of the check and the tick, then for calls that meet the
--- tick's contract; that the paper knows no labels; the starred bays and bays with suspend; and what the demands refuse.
+-- tick's contract; that the paper knows no labels; the starred bays, bays with suspend and first errors; and what the demands refuse.
 use Prim.Native.Nat.{ℕ}
 use mathlib.Core.Path.{_≡_}
 use mathlib.Core.Logic.{_≢_}
@@ -18,7 +18,8 @@ use Rattle.demands.specs.Paper.{Call, paper}
 use Rattle.demands.specs.Demands.{Tick, number, cleared, report, Admitted, StandsAt, Shows, Demand1, Demand2, Demand3, TickMeets, Chain}
 use Rattle.demands.specs.Replacements as wrong
 use Rattle.demands.specs.Bays.{Bay, table, ShowsBay}
-use Rattle.demands.specs.Suspended.{ShowsRuns}
+use Rattle.demands.specs.Suspended.{suspendRuns, ShowsRuns}
+use Rattle.demands.specs.FirstErrors.{firstErrorRuns}
 use Rattle.demands.proofs.Sequence as sequence
 use Rattle.demands.proofs.Demand1 as one
 use Rattle.demands.proofs.Demand2 as two
@@ -28,6 +29,7 @@ use Rattle.demands.proofs.Calls as calls
 use Rattle.demands.proofs.Replacements as refuted
 use Rattle.demands.proofs.Bays as bays
 use Rattle.demands.proofs.Suspended as suspends
+use Rattle.demands.proofs.FirstErrors as firsts
 
 -- an accepted sequence spells one statement
 pub spells-one : (sequence : List ℕ) → checkOf sequence ≡ 0
@@ -71,8 +73,12 @@ pub starred : (b : Bay) → List·Memᴰ b table → (buffer : List ℕ) → len
 starred = bays.starred
 
 -- ---- bays with suspend
-pub suspended : ShowsRuns tickOf
+pub suspended : ShowsRuns suspendRuns tickOf
 suspended = suspends.suspended
+
+-- ---- bays with more errors than one, or one out of sight
+pub first-errors : ShowsRuns firstErrorRuns tickOf
+first-errors = firsts.first-errors
 
 -- ---- what the demands refuse
 pub refused-1 : ((tick : Tick) → ¬ Demand1 wrong.turnsDown tick) × (¬ Demand1 checkOf wrong.saysOver)

@@ -5,3 +5,4 @@ pub mod Demands
 pub mod Replacements
 pub mod Bays
 pub mod Suspended
+pub mod FirstErrors

@@ -21,8 +21,8 @@ waits emitted labels = record { number = 0; code = 1; kind = 0; place = 0; emitt
 abbrev pub ends : (emitted : ℕ) → Instant
 ends emitted = record { number = 0; code = 0; kind = 0; place = 0; emitted = emitted; labels = 0 }
 
-unfoldable pub table : List Run
-table =
+unfoldable pub suspendRuns : List Run
+suspendRuns =
     -- fresh it is not stopped; stopped it emits nothing and keeps label 5
     record {
       bytes = 0x0B ∷ 0x00 ∷ 0x04 ∷ 0x02 ∷ 0x01 ∷ 0x04 ∷ 0x01 ∷ 0x05 ∷ 0x02 ∷ 0x02 ∷ [];
@@ -60,6 +60,6 @@ abbrev pub shownOn : Tick → (bytes inputs : List ℕ) → List Instant
 shownOn tick bytes inputs =
     map shownBy (outcomes tick bytes cleared (map (λ (e : ℕ). record { input = e; buffer = replicate answerLength 0 }) inputs))
 
--- each row of the table
-abbrev pub ShowsRuns : Tick → Type 0
-ShowsRuns tick = map (λ (r : Run). shownOn tick (r .bytes) (r .inputs)) table ≡ map (λ (r : Run). r .shows) table
+-- each row of a table
+abbrev pub ShowsRuns : List Run → Tick → Type 0
+ShowsRuns table tick = map (λ (r : Run). shownOn tick (r .bytes) (r .inputs)) table ≡ map (λ (r : Run). r .shows) table

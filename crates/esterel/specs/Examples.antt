@@ -1,5 +1,5 @@
 -- Worked reactions by computation: 01's starred bays as trees, the examples that the papers turn on, and 02's suspend.
-use Prim.Native.Nat.{ℕ}
+use Prim.Native.Nat.{ℕ, _+_}
 use mathlib.Core.Path.{_≡_, refl}
 use mathlib.Core.Bool.{true, false}
 use mathlib.Core.Option.{Option}
@@ -27,9 +27,12 @@ row p = (code (react p 0), emitted (react p 0), labels (react p 0), errors p 0)
 abbrev reincarnated : Statement
 reincarnated = loop 0 (signal 1 0 (seq (present 0 (emit 1) nothing) (seq (pause 0) (emit 0))))
 
--- 08 00 04 02 00 07 00 00 06 00: code 0 with an error in the run that is not chosen
+-- 08 00 04 02 00 07 00 00 06 00, at place a: code 0 with an error in the run that is not chosen
+abbrev hiddenAt : ℕ → Statement
+hiddenAt a = signal a 0 (seq (emit 0) (present 0 nothing (loop (a + 8) nothing)))
+
 abbrev hidden : Statement
-hidden = signal 0 0 (seq (emit 0) (present 0 nothing (loop 8 nothing)))
+hidden = hiddenAt 0
 
 -- 08 01 08 00 04 02 00 04 02 01 07 01 00 06 00: what is emitted beside an error counts inside a signal
 abbrev beside : Statement
@@ -64,6 +67,24 @@ table =
     ∷ (hidden, (ended, 0, 0, instantaneous 8 ∷ []))
     ∷ (beside, (ended, 0, 0, instantaneous 13 ∷ instantaneous 13 ∷ []))
     ∷ (par (emit 1) (loop 3 nothing), (wrong, 2, 0, instantaneous 3 ∷ []))
+    -- the order of 02, item 3: an error in the run without the signal, in the run with it, in both
+    ∷ (signal 0 0 (present 0 nothing (loop 5 nothing)), (wrong, 0, 0, instantaneous 5 ∷ []))
+    ∷ (signal 0 0 (present 0 (loop 4 nothing) nothing), (wrong, 0, 0, instantaneous 4 ∷ []))
+    ∷ (signal 0 0 (present 0 (loop 4 nothing) (loop 6 nothing)), (wrong, 0, 0, instantaneous 6 ∷ instantaneous 4 ∷ []))
+    -- the first part hides one, the second is wrong
+    ∷ (par (hiddenAt 1) (loop 11 nothing), (wrong, 0, 0, instantaneous 9 ∷ instantaneous 11 ∷ []))
+    ∷ (seq (hiddenAt 1) (loop 11 nothing), (wrong, 0, 0, instantaneous 9 ∷ instantaneous 11 ∷ []))
+    -- a command after its parts
+    ∷ (loop 0 (hiddenAt 1), (wrong, 0, 0, instantaneous 9 ∷ instantaneous 0 ∷ []))
+    ∷ (
+      signal 0 1 (seq (hiddenAt 3) (present 1 nothing (emit 1))),
+      (wrong, 0, 0, instantaneous 11 ∷ instantaneous 11 ∷ notReactive 0 ∷ []),
+    )
+    -- two errors of one command, in the two runs of another
+    ∷ (
+      signal 0 1 (signal 2 0 (present 1 (present 0 nothing (emit 0)) (present 0 (emit 0) nothing))),
+      (wrong, 0, 0, notDeterministic 2 ∷ notReactive 2 ∷ []),
+    )
     ∷ []
 
 rows : map (λ (x : Statement × Row). row (x .0)) table ≡ map (λ (x : Statement × Row). x .1) table
@@ -223,6 +244,23 @@ kept : (errors (expand (signal 0 0 (suspend 0 (seq (pause 0) (emit 0)))) 1) 0 �
     × (labels (react (expand (suspend 0 (seq (pause 0) (pause 1))) 3) 1) ≡ 3)
 unfolding errors active activeLabels labelsOf expand react member none only join insert remove
 kept = (refl, refl, refl, refl, refl, refl)
+
+-- A loop's next round, which resuming copies, errs at the places of the first: in its body, and itself. The run of both
+-- machines names them.
+abbrev errsLater : Statement
+errsLater = loop 2 (present 0 (loop 5 nothing) (pause 0))
+
+abbrev endsLater : Statement
+endsLater = loop 2 (present 0 nothing (pause 0))
+
+next-round : (errors (expand errsLater 1) 1 ≡ instantaneous 5 ∷ [])
+    × (errors (expand endsLater 1) 1 ≡ instantaneous 2 ∷ [])
+    × (run (byLabels errsLater) State.fresh (0 ∷ 1 ∷ []) ≡ quietly waiting ∷ instant wrong (instantaneous 5) 0 over ∷ [])
+    × (run byRewriting (Rewriting.fresh errsLater) (0 ∷ 1 ∷ []) ≡ quietly waiting ∷ instant wrong (instantaneous 5) 0 over ∷ [])
+    × (run (byLabels endsLater) State.fresh (0 ∷ 1 ∷ []) ≡ quietly waiting ∷ instant wrong (instantaneous 2) 0 over ∷ [])
+    × (run byRewriting (Rewriting.fresh endsLater) (0 ∷ 1 ∷ []) ≡ quietly waiting ∷ instant wrong (instantaneous 2) 0 over ∷ [])
+unfolding run errors active expand react member none only join insert remove
+next-round = (refl, refl, refl, refl, refl, refl)
 
 -- Ranks 0 and 2 of `frozen` are labels 0 and 2; ranks 8 and 9 of `three`, from base 7, are labels 3 and 4. A stopped
 -- suspend keeps the labels inside it, and nothing inside errs.
