@@ -69,6 +69,8 @@ pub const CASES: [&str; 5] = ["++", "--", "+-", "-+", "inherited"];
 pub struct Tree {
     /// First part before second, run without the signal before run with it, a command after its parts.
     pub errors: Vec<Error>,
+    /// The first error is of a run without a signal that both runs emit: it was not chosen.
+    pub hidden: bool,
     pub reactions: u64,
     /// Uses of each case.
     pub cases: [u64; 5],
@@ -154,9 +156,9 @@ impl Tree {
 
     fn signal(&mut self, place: usize, s: u8, p: &Term, present: u32) -> Answer {
         let only = 1u32 << s;
-        let before = self.stopped;
+        let (before, none) = (self.stopped, self.errors.is_empty());
         let minus = self.react(p, present - (present & only));
-        let between = self.stopped;
+        let (between, erred) = (self.stopped, !self.errors.is_empty());
         let plus = self.react(p, present | only);
         self.stopped_once += (between - before != self.stopped - between) as u64;
         let (in_minus, in_plus) = (minus.emitted & only != 0, plus.emitted & only != 0);
@@ -169,6 +171,7 @@ impl Tree {
         ];
         let case = fits.iter().position(|&fit| fit).expect("the last one fits");
         self.cases[case] += 1;
+        self.hidden |= none && erred && case == 0;
         match case {
             0 => Answer { emitted: plus.emitted - only, ..plus },
             1 => minus,

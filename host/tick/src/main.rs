@@ -32,7 +32,8 @@ fn by_hand(tally: &mut Tally) {
         let given = reference::tick(&sequence, &state, input, answer_length);
         let holds = given.map(|instant| (instant.state, instant.answer)) == expected;
         tally.counts.expect(holds, || format!("the reference on {number}:{text}"));
-        tally.compare(&sequence, &state, input, answer_length, None);
+        let mut paper = sequence.paper().filter(|_| state == [0; 9]);
+        tally.compare(&sequence, &state, input, answer_length, paper.as_mut());
     }
 }
 

@@ -1,6 +1,7 @@
 //! What document 01 says a tick gives: the number and both records, by the check on an explicit tree and the expansion.
 use crate::expansion::{expand, Tree, WRONG};
 use crate::kernel::Kernel;
+use crate::rewriting::Paper;
 use crate::statement::{term, Term};
 use common::reference;
 
@@ -24,6 +25,12 @@ impl Sequence {
 
     pub fn setpauses(&self) -> usize {
         self.read.as_ref().map_or(0, |(tree, _)| tree.setpauses().len())
+    }
+
+    /// The fitters' paper, fresh, of an accepted sequence without setpause.
+    pub fn paper(&self) -> Option<Paper> {
+        let (_, term) = self.read.as_ref().ok().filter(|_| self.setpauses() == 0)?;
+        Some(Paper::Fresh(term.clone()))
     }
 }
 

@@ -1,5 +1,6 @@
 //! The fitters' paper of document 01, with the suspend of 02, item 1: a machine that holds a term and rewrites it. It
-//! knows no labels, states or errors, and shares nothing with expansion.rs but the terms.
+//! knows no labels or states, and shares nothing with expansion.rs but the terms. The first error (02, item 3) is found
+//! in the term that it holds, where a copy of a loop or a signal keeps the place of its command.
 use crate::statement::{Statement, Term};
 use std::rc::Rc;
 
@@ -13,14 +14,31 @@ enum Code {
 }
 use Code::*;
 
+/// Kind and place.
+type Error = (u8, usize);
+
 struct Reaction {
     emitted: u32,
     code: Code,
     residual: Term,
+    /// Of the whole tree of this reaction, runs that are not chosen included.
+    first: Option<Error>,
 }
 
 fn gives(emitted: u32, code: Code, residual: Statement) -> Reaction {
-    Reaction { emitted, code, residual: Rc::new(residual) }
+    Reaction { emitted, code, residual: Rc::new(residual), first: None }
+}
+
+impl Reaction {
+    /// This reaction, whose parts reacted before with this first error, or none.
+    fn after(self, earlier: Option<Error>) -> Reaction {
+        Reaction { first: earlier.or(self.first), ..self }
+    }
+}
+
+/// (loop-error), (signal+-), (signal-+)
+fn errs(kind: u8, place: usize) -> Reaction {
+    Reaction { first: Some((kind, place)), ..gives(0, Wrong, Statement::Nothing) }
 }
 
 /// 003, figures 3 and 7, with 01's residuals.
@@ -32,7 +50,7 @@ fn react(term: &Term, present: u32) -> Reaction {
         Statement::Exit(n) => gives(0, Leaving(*n), Statement::Nothing),
         Statement::Seq(p, q) => sequence(react(p, present), q, present),
         Statement::Par(p, q) => parallel(react(p, present), react(q, present)),
-        Statement::Loop(_, p) => repeat(react(p, present), term),
+        Statement::Loop(place, p) => repeat(*place, react(p, present), term),
         Statement::Present(s, p, q) => react(if present >> s & 1 == 1 { p } else { q }, present),
         Statement::Signal(place, s, p) => {
             let bit = 1 << s;
@@ -41,7 +59,7 @@ fn react(term: &Term, present: u32) -> Reaction {
         Statement::Try(p) => catch(react(p, present)),
         Statement::Suspend(s, p) => hold(*s, react(p, present)),
         Statement::Held(s, _) if present >> s & 1 == 1 => {
-            Reaction { emitted: 0, code: Waiting, residual: term.clone() }
+            Reaction { emitted: 0, code: Waiting, residual: term.clone(), first: None }
         }
         Statement::Held(s, p) => hold(*s, react(p, present)),
         Statement::Setpause(_) | Statement::Kept(_) => unreachable!("the paper has no labels to set or to keep"),
@@ -51,58 +69,64 @@ fn react(term: &Term, present: u32) -> Reaction {
 /// (sequence-p), (sequence-q)
 fn sequence(p: Reaction, q: &Term, present: u32) -> Reaction {
     if p.code != Ended {
-        return gives(p.emitted, p.code, Statement::Seq(p.residual, q.clone()));
+        return gives(p.emitted, p.code, Statement::Seq(p.residual, q.clone())).after(p.first);
     }
     let q = react(q, present);
-    Reaction { emitted: p.emitted | q.emitted, ..q }
+    Reaction { emitted: p.emitted | q.emitted, ..q }.after(p.first)
 }
 
 /// (parallel)
 fn parallel(p: Reaction, q: Reaction) -> Reaction {
     let side = |r: Reaction| if r.code == Ended { Rc::new(Statement::Nothing) } else { r.residual };
-    gives(p.emitted | q.emitted, p.code.max(q.code), Statement::Par(side(p), side(q)))
+    let first = p.first.or(q.first);
+    gives(p.emitted | q.emitted, p.code.max(q.code), Statement::Par(side(p), side(q))).after(first)
 }
 
 /// (loop), (loop-error)
-fn repeat(p: Reaction, whole: &Term) -> Reaction {
-    match p.code {
-        Ended => gives(0, Wrong, Statement::Nothing),
+fn repeat(place: usize, p: Reaction, whole: &Term) -> Reaction {
+    let all = match p.code {
+        Ended => errs(1, place),
         _ => gives(p.emitted, p.code, Statement::Seq(p.residual, whole.clone())),
-    }
+    };
+    all.after(p.first)
 }
 
 /// (try-catch), (try-through)
 fn catch(p: Reaction) -> Reaction {
-    match p.code {
+    let all = match p.code {
         Leaving(1) => gives(p.emitted, Ended, Statement::Nothing),
         Leaving(n) => gives(p.emitted, Leaving(n - 1), Statement::Try(p.residual)),
         Ended | Waiting | Wrong => gives(p.emitted, p.code, Statement::Try(p.residual)),
-    }
+    };
+    all.after(p.first)
 }
 
 /// 02, item 1: after code 1 a held suspend remains around the residual, after any other code nothing
 fn hold(s: u8, p: Reaction) -> Reaction {
     let residual = if p.code == Waiting { Statement::Held(s, p.residual) } else { Statement::Nothing };
-    gives(p.emitted, p.code, residual)
+    gives(p.emitted, p.code, residual).after(p.first)
 }
 
 /// (signal++), (signal--), (signal+-), (signal-+), (signal∞): the first that fits
 fn signal(place: usize, s: u8, minus: Reaction, plus: Reaction) -> Reaction {
     let emits = |r: &Reaction| r.emitted >> s & 1 == 1;
-    match (emits(&minus), emits(&plus)) {
+    let all = match (emits(&minus), emits(&plus)) {
         (true, true) => gives(plus.emitted & !(1 << s), plus.code, Statement::Signal(place, s, plus.residual)),
         (false, false) if minus.code.max(plus.code) < Wrong => {
             gives(minus.emitted, minus.code, Statement::Signal(place, s, minus.residual))
         }
+        (true, false) if plus.code < Wrong => errs(2, place),
+        (false, true) if minus.code < Wrong => errs(3, place),
         _ => gives(0, Wrong, Statement::Nothing),
-    }
+    };
+    all.after(minus.first.or(plus.first))
 }
 
-/// What is compared of one tick: the number, then code and emitted set of an instant.
+/// What is compared of one tick: the number, then code, kind, place and emitted set of an instant.
 #[derive(Debug, PartialEq)]
 pub enum Seen {
     TurnedDown(u8),
-    Instant { code: u8, emitted: u32 },
+    Instant { code: u8, kind: u8, place: usize, emitted: u32 },
 }
 
 #[derive(Clone)]
@@ -126,13 +150,17 @@ impl Paper {
             return Seen::TurnedDown(1);
         }
         let (Paper::Fresh(term) | Paper::Waiting(term)) = self else { return Seen::TurnedDown(12) };
-        let Reaction { emitted, code, residual } = react(term, input);
+        let Reaction { emitted, code, residual, first } = react(term, input);
         *self = if code == Waiting { Paper::Waiting(residual) } else { Paper::Over };
+        let right = |code| Seen::Instant { code, kind: 0, place: 0, emitted };
         match code {
-            Ended => Seen::Instant { code: 0, emitted },
-            Waiting => Seen::Instant { code: 1, emitted },
-            Leaving(n) => Seen::Instant { code: n + 1, emitted },
-            Wrong => Seen::Instant { code: 255, emitted: 0 },
+            Ended => right(0),
+            Waiting => right(1),
+            Leaving(n) => right(n + 1),
+            Wrong => {
+                let (kind, place) = first.expect("a wrong instant has an error");
+                Seen::Instant { code: 255, kind, place, emitted: 0 }
+            }
         }
     }
 }

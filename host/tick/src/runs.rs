@@ -1,6 +1,5 @@
 //! Random runs of many instants, and single ticks from random state records.
 use crate::reference::Sequence;
-use crate::rewriting::Paper;
 use crate::tally::Tally;
 use common::generate::{self, Random, Style, COMMANDS};
 
@@ -57,10 +56,7 @@ pub fn runs(tally: &mut Tally, random: &mut Random, count: usize) {
     let mut endless = 0;
     for _ in 0..count {
         let sequence = sequence(random);
-        let mut paper = match &sequence.read {
-            Ok((_, term)) if sequence.setpauses() == 0 => Some(Paper::Fresh(term.clone())),
-            _ => None,
-        };
+        let mut paper = sequence.paper();
         let mut state = vec![0; 9];
         let mut after_over = 0;
         let ticks = random.pick(&[4, 8, 16, 40]);

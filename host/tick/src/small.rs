@@ -46,10 +46,8 @@ pub fn every_state(tally: &mut Tally) {
 pub fn every_run(tally: &mut Tally) {
     for bytes in statements(5).into_iter().flatten() {
         let sequence = Sequence::new(bytes);
-        if let Ok((_, term)) = &sequence.read {
-            if sequence.setpauses() == 0 {
-                continue_run(tally, &sequence, &Paper::Fresh(term.clone()), &[0; 9], 3);
-            }
+        if let Some(paper) = sequence.paper() {
+            continue_run(tally, &sequence, &paper, &[0; 9], 3);
         }
     }
 }

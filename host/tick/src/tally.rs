@@ -10,10 +10,12 @@ use common::table::hex;
 pub const GREATEST: usize = 12;
 
 /// Names of what a tree of reactions may hold, beside the cases of a signal.
-const EVENTS: [&str; 12] = [
+const EVENTS: [&str; 14] = [
     "resumed",
     "errors in an instant that is not wrong",
-    "wrong with several errors",
+    "wrong when resumed",
+    "wrong with errors that differ",
+    "wrong, first error of a run not chosen",
     "labels lost in a parallel",
     "emitted beside an error",
     "one loop begun three times in one run",
@@ -23,6 +25,14 @@ const EVENTS: [&str; 12] = [
     "suspend stopped, code not 1",
     "suspend stopped, other labels change",
     "suspend stopped in one of two runs",
+];
+
+/// What is counted of the ticks that are compared with the paper.
+const PAPERS: [&str; 4] = [
+    "compared with the paper",
+    "the same, wrong when resumed",
+    "the same, wrong with errors that differ",
+    "the same, first error of a run not chosen",
 ];
 
 /// What is counted of the ticks that are compared with the kernel form.
@@ -46,8 +56,7 @@ pub struct Tally {
     kinds: [u64; 4],
     cases: [u64; CASES.len()],
     events: [u64; EVENTS.len()],
-    /// Ticks compared with the paper.
-    papers: u64,
+    papers: [u64; PAPERS.len()],
     kernels: [u64; KERNELS.len()],
     most_reactions: u64,
     fill: u8,
@@ -85,6 +94,7 @@ impl Tally {
         };
         self.counts.expect(holds, told);
         if let Some(paper) = paper {
+            self.count_paper(state, expected.as_ref().ok());
             self.compare_paper(paper, input, &outcome, answer_length, told);
         }
         if let Some(kernel) = &sequence.kernel {
@@ -94,7 +104,7 @@ impl Tally {
         (outcome.number, outcome.state.unwrap_or(after))
     }
 
-    /// 01, 'The fitters' paper': number, code, emitted set and, after each tick, the phase.
+    /// 01, 'The fitters' paper', and 02, item 3: number, code, kind, place, emitted set and, after each tick, the phase.
     fn compare_paper(
         &mut self,
         paper: &mut Paper,
@@ -103,11 +113,11 @@ impl Tally {
         answer_length: usize,
         told: impl Fn() -> String,
     ) {
-        self.papers += 1;
         let seen = paper.tick(input, answer_length);
         let shown = match (outcome.number, outcome.answer.as_deref()) {
-            (0, Some(&[code, _, _, _, a, b, c, d])) => {
-                Some(Seen::Instant { code, emitted: u32::from_le_bytes([a, b, c, d]) })
+            (0, Some(&[code, kind, low, high, a, b, c, d])) => {
+                let place = u16::from_le_bytes([low, high]) as usize;
+                Some(Seen::Instant { code, kind, place, emitted: u32::from_le_bytes([a, b, c, d]) })
             }
             (0, _) => None,
             (number, _) => Some(Seen::TurnedDown(number)),
@@ -115,6 +125,12 @@ impl Tally {
         let phase = outcome.state.as_ref().and_then(|state| state.first().copied());
         let holds = shown.as_ref() == Some(&seen) && phase == Some(paper.phase());
         self.counts.expect(holds, || format!("paper {seen:?}, phase {}: {}", paper.phase(), told()));
+    }
+
+    fn count_paper(&mut self, state: &[u8], instant: Option<&Instant>) {
+        let wrong = instant.map_or([false; 3], |instant| wrong_kinds(state, instant));
+        let kinds = [true].into_iter().chain(wrong);
+        kinds.enumerate().for_each(|(i, kind)| self.papers[i] += kind as u64);
     }
 
     /// 02, item 1, in the kernel: number and both records, the answer's place being that of the same command.
@@ -160,10 +176,13 @@ impl Tally {
         self.codes[if code == 255 { 17 } else { code as usize }] += 1;
         self.kinds[instant.answer[1] as usize] += (code == 255) as u64;
         (0..CASES.len()).for_each(|i| self.cases[i] += tree.cases[i]);
+        let [resumed, differ, hidden] = wrong_kinds(state, instant);
         let events = [
             state[0] == 1,
             code != 255 && !tree.errors.is_empty(),
-            code == 255 && tree.errors.len() > 1,
+            resumed,
+            differ,
+            hidden,
             tree.lost > 0,
             tree.emitted_beside > 0,
             tree.cases == [0; CASES.len()] && begun_thrice(&tree.begun),
@@ -193,7 +212,7 @@ impl Tally {
         let numbers = (0..=GREATEST).map(|n| (format!("number {n}"), self.all_numbers[n]));
         let cases = (0..CASES.len()).map(|i| (format!("signal {}", CASES[i]), self.cases[i]));
         let events = (0..EVENTS.len()).map(|i| (EVENTS[i].to_string(), self.events[i]));
-        let papers = [("compared with the paper".to_string(), self.papers)];
+        let papers = (0..PAPERS.len()).map(|i| (PAPERS[i].to_string(), self.papers[i]));
         let kernels = (0..KERNELS.len()).map(|i| (KERNELS[i].to_string(), self.kernels[i]));
         let answers = numbers.chain(codes).chain(kinds);
         let all: Vec<_> = answers.chain(cases).chain(events).chain(papers).chain(kernels).collect();
@@ -203,6 +222,13 @@ impl Tally {
         }
         println!("{:<40}{:>10}", "most reactions in one instant", self.most_reactions);
     }
+}
+
+/// Is it a wrong instant of a waiting machine, one with errors that differ, one whose first error a run hides?
+fn wrong_kinds(state: &[u8], instant: &Instant) -> [bool; 3] {
+    let errors = &instant.tree.errors;
+    let differ = errors.iter().any(|error| error != &errors[0]);
+    [state[0] == 1, differ, instant.tree.hidden].map(|kind| kind && instant.answer[0] == 255)
 }
 
 fn begun_thrice(places: &[usize]) -> bool {

@@ -40,13 +40,15 @@ fn listing(tally: &mut Tally, vectors: &str) -> Vec<String> {
     lines
 }
 
-/// The lines of a machine: from the record before a colon, or a cleared one, on the inputs behind it.
+/// The lines of a machine: from the record before a colon, or a cleared one, on the inputs behind it. From a cleared
+/// record on the paper is there to compare, if there is one.
 fn machine(tally: &mut Tally, bytes: &[u8], rest: &str, answer_length: usize) -> Vec<String> {
     let (record, inputs) = rest.split_once(':').unwrap_or(("9(00)", rest));
     let (sequence, mut state) = (Sequence::new(bytes.to_vec()), table::bytes(record));
+    let mut paper = sequence.paper().filter(|_| state == [0; 9]);
     let inputs = inputs.split_whitespace().map(|input| u32::from_str_radix(input, 16).expect("an input"));
     let line = |(i, input): (usize, u32)| {
-        tally.compare(&sequence, &state, input, answer_length, None);
+        tally.compare(&sequence, &state, input, answer_length, paper.as_mut());
         match reference::tick(&sequence, &state, input, answer_length) {
             Ok(instant) => {
                 let number = |bytes: &[u8]| bytes.iter().rev().fold(0u64, |n, byte| n << 8 | *byte as u64);
