@@ -3,6 +3,7 @@
 //! kernel form (kernel.rs).
 //! An argument replaces the seed. The last line is 'N passed, M failed'.
 mod archive;
+mod examples;
 mod expansion;
 mod kernel;
 mod reference;
@@ -62,6 +63,8 @@ fn main() -> ExitCode {
     tally.close("by hand");
     vectors::vectors(&mut tally);
     tally.close("vectors");
+    examples::examples(&mut tally);
+    tally.close("examples");
     lengths(&mut tally);
     tally.close("buffers");
     small::every_state(&mut tally);

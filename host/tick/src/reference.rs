@@ -41,6 +41,16 @@ pub struct Instant {
     pub tree: Tree,
 }
 
+impl Instant {
+    /// The line of a listing (01, 'Bays to run').
+    pub fn line(&self, number: usize) -> String {
+        let value = |bytes: &[u8]| bytes.iter().rev().fold(0u64, |n, byte| n << 8 | *byte as u64);
+        let (code, kind, place) = (self.answer[0], self.answer[1], value(&self.answer[2..4]));
+        let (emitted, labels) = (value(&self.answer[4..]), value(&self.state[1..]));
+        format!("{number} {code} {kind} {place} {emitted:08x} {labels:016x}")
+    }
+}
+
 /// 01, 'Turned down' and 'States and resuming'.
 pub fn tick(sequence: &Sequence, state: &[u8], input: u32, answer_length: usize) -> Result<Instant, u8> {
     if state.len() != 9 || answer_length != 8 {

@@ -51,11 +51,9 @@ fn machine(tally: &mut Tally, bytes: &[u8], rest: &str, answer_length: usize) ->
         tally.compare(&sequence, &state, input, answer_length, paper.as_mut());
         match reference::tick(&sequence, &state, input, answer_length) {
             Ok(instant) => {
-                let number = |bytes: &[u8]| bytes.iter().rev().fold(0u64, |n, byte| n << 8 | *byte as u64);
-                let (a, place) = (&instant.answer, number(&instant.answer[2..4]));
-                let (emitted, labels) = (number(&a[4..]), number(&instant.state[1..]));
+                let line = instant.line(i + 1);
                 state = instant.state;
-                format!("  {} {} {} {place} {emitted:08x} {labels:016x}", i + 1, a[0], a[1])
+                format!("  {line}")
             }
             Err(number) => format!("  refused {number}, records kept"),
         }
