@@ -69,8 +69,13 @@ enum intake_code {
     INTAKE_WRONG = 255
 };
 
-/* The first error of a wrong instant: first part before second, run without the signal before run with it, a command
- * after its parts; an error in a run that is not chosen counts too. */
+/*
+ * Kind and place are those of the first error of a wrong instant. Errors come in this order: of two parts those of the
+ * first before those of the second; of a signal's two runs those of the run without the signal before those of the run
+ * with it; the error of a loop or a signal itself after all errors inside it. The errors of a run that is not chosen
+ * count, so the first error need not be what makes the instant wrong: once it is mended, the next one is shown. A loop's
+ * next round has the places of its commands. The same sequence, state and input always show the same error.
+ */
 enum intake_kind {
     INTAKE_NO_ERROR = 0,
     INTAKE_INSTANTANEOUS_LOOP = 1,        /* at a loop: its body ended in the instant in which it began */
