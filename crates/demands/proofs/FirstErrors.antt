@@ -13,7 +13,7 @@ use Rattle.records.specs.Bytes.{leBytes, leNumber}
 use Rattle.records.specs.Records.{encodeState, decodeState, encodeAnswer}
 use Rattle.demands.specs.Tick.{tickOf}
 use Rattle.demands.specs.Demands.{outcomes}
-use Rattle.demands.specs.Suspended.{ShowsRuns}
+use Rattle.demands.specs.Worked.{ShowsRuns}
 use Rattle.demands.specs.FirstErrors.{firstErrorRuns}
 
 -- THE FIRST ERROR: each row of the table

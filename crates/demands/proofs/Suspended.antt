@@ -13,7 +13,8 @@ use Rattle.records.specs.Bytes.{leBytes, leNumber}
 use Rattle.records.specs.Records.{encodeState, decodeState, encodeAnswer}
 use Rattle.demands.specs.Tick.{tickOf}
 use Rattle.demands.specs.Demands.{outcomes}
-use Rattle.demands.specs.Suspended.{suspendRuns, ShowsRuns}
+use Rattle.demands.specs.Worked.{ShowsRuns}
+use Rattle.demands.specs.Suspended.{suspendRuns}
 
 -- THE BAYS WITH SUSPEND: each row of the table
 pub suspended : ShowsRuns suspendRuns tickOf

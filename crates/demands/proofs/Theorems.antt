@@ -18,7 +18,8 @@ use Rattle.demands.specs.Paper.{Call, paper}
 use Rattle.demands.specs.Demands.{Tick, number, cleared, report, Admitted, StandsAt, Shows, Demand1, Demand2, Demand3, TickMeets, Chain}
 use Rattle.demands.specs.Replacements as wrong
 use Rattle.demands.specs.Bays.{Bay, table, ShowsBay}
-use Rattle.demands.specs.Suspended.{suspendRuns, ShowsRuns}
+use Rattle.demands.specs.Worked.{ShowsRuns}
+use Rattle.demands.specs.Suspended.{suspendRuns}
 use Rattle.demands.specs.FirstErrors.{firstErrorRuns}
 use Rattle.demands.proofs.Sequence as sequence
 use Rattle.demands.proofs.Demand1 as one

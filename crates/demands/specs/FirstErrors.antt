@@ -1,8 +1,8 @@
--- Bays whose wrong instant has more errors than one, or has one out of sight (02, item 3): bytes, inputs, and what the tick of a
--- fresh machine shows on them in each instant, worked by hand. The kind and place are the first error's.
+-- Bays whose wrong instant has more errors than one, or has one out of sight (02, item 3), worked by hand. The kind and place are
+-- the first error's.
 use mathlib.Core.List.{List, [], _∷_}
 use Rattle.demands.specs.Bays.{quiet}
-use Rattle.demands.specs.Suspended.{Run, waits, ends}
+use Rattle.demands.specs.Worked.{Run, waits, ends}
 
 unfoldable pub firstErrorRuns : List Run
 firstErrorRuns =

@@ -4,5 +4,6 @@ pub mod Paper
 pub mod Demands
 pub mod Replacements
 pub mod Bays
+pub mod Worked
 pub mod Suspended
 pub mod FirstErrors
