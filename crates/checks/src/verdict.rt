@@ -5,7 +5,7 @@ ghost use Rattle.limits.specs.Limits.{maxBytes, maxDepth};
 ghost use Rattle.layout.specs.Notes.{noNotes};
 ghost use Rattle.wellformed.specs.Survey.{Standing};
 ghost use Rattle.checks.specs.Verdict.{ByLabels, Judged};
-use reading::notes::Notes;
+use notes::Notes;
 use reading::reader::Reading;
 use reading::reader::Seconds;
 
@@ -14,14 +14,14 @@ fn label_row(s: &[u8], notes: &Notes) -> u8
     requires { ⌜ Standing maxDepth 0 (now s) ⌝ }
     ensures { λ r. ⌜ ByLabels (now (s .entry)) (now (notes .entry)) r ⌝ }
 {
-    if !reading::notes::is_distinct(notes) {
+    if !notes::is_distinct(notes) {
         return 8;
     }
-    let setpauses = reading::notes::setpauses(notes);
+    let setpauses = notes::setpauses(notes);
     if sets::labels::is_empty(setpauses) {
         return 0;
     }
-    let pauses = reading::notes::pauses(notes);
+    let pauses = notes::pauses(notes);
     if !sets::labels::subset(setpauses, pauses) {
         return 9;
     }

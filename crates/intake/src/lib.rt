@@ -5,7 +5,7 @@ ghost use mathlib.Core.Path.{_≡_};
 ghost use Rattle.sequence.specs.Check.{checkOf};
 ghost use Rattle.demands.specs.Demands.{TickMeets};
 use crate::tick::Reply;
-use reading::notes::Notes;
+use notes::Notes;
 use reading::reader::Seconds;
 use records::layout::ANSWER_LENGTH;
 use records::layout::STATE_LENGTH;
@@ -16,7 +16,7 @@ pub extern "C" fn intake_check(sequence: &[u8]) -> u8
     ensures { λ r. ⌜ r ≡ checkOf (now (sequence .entry)) ⌝ }
 {
     let mut second: Seconds = [0; limits::MAX_BYTES];
-    let mut notes: Notes = [0; reading::notes::LENGTH];
+    let mut notes: Notes = [0; notes::LENGTH];
     checks::verdict::check(sequence, &mut second, &mut notes)
 }
 

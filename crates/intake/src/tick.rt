@@ -5,7 +5,7 @@ ghost use Rattle.layout.specs.Known.{Sound};
 ghost use Rattle.records.specs.Records.{stateLength, answerLength};
 ghost use Rattle.demands.specs.Tick.{outcome};
 ghost use Rattle.intake.specs.Standing.{DecodesRead, Replies, Writable, writtenFrom};
-use reading::notes::Notes;
+use notes::Notes;
 use reading::reader::Seconds;
 use rules::instant::Completion;
 use rules::instant::Instant;
@@ -55,7 +55,7 @@ pub fn reply_to(sequence: &[u8], state: &[u8], input: u32) -> Reply
     ensures { λ r. ⌜ Replies (now (sequence .entry)) (now (state .entry)) input r ⌝ }
 {
     let mut second: Seconds = [0; limits::MAX_BYTES];
-    let mut notes: Notes = [0; reading::notes::LENGTH];
+    let mut notes: Notes = [0; notes::LENGTH];
     let number = checks::verdict::check(sequence, &mut second, &mut notes);
     if number != 0 {
         return Reply::Refused(number);

@@ -1,3 +1,2 @@
-// Reading (01, rows 3 to 6): the table of commands, the reader, and what it notes of labels.
-pub mod notes;
+// Reading (01, rows 3 to 6): the walk that fills the table of second parts and the notes of labels.
 pub mod reader;

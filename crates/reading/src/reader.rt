@@ -2,18 +2,16 @@
 // behind the statement or 4096 times the row that turns it down. Offsets are those of the whole sequence.
 ghost use mathlib.Core.Path.{_≡_};
 ghost use Prim.Native.Nat.{ℕ, _+_, _≤_, _<_};
-ghost use mathlib.Core.Option.{some};
 ghost use mathlib.Core.List.{List};
 ghost use lib.ListN.{length};
 ghost use Rattle.limits.specs.Limits.{maxBytes};
-ghost use Rattle.sequence.specs.Commands.{Command, commandOf, partCount, width};
-ghost use Rattle.sequence.specs.Reader.{front, read};
+ghost use Rattle.sequence.specs.Commands.{Command, partCount, width};
+ghost use Rattle.sequence.specs.Reader.{read};
 ghost use Rattle.layout.specs.Layout.{entry};
 ghost use Rattle.layout.specs.Notes.{noNotes};
-ghost use Rattle.layout.specs.Walk.{headOf, Leaf, LabelNoted, pairRead, Readable, Done};
+ghost use Rattle.layout.specs.Walk.{pairRead, Readable, Done};
 ghost use Rattle.reading.specs.Reading.{Reads};
-use crate::notes::Notes;
-use commands::Count;
+use notes::Notes;
 
 // The table of second parts: at the offset of a command of two parts, where its second part begins and how many pauses
 // stand before that.
@@ -23,57 +21,6 @@ pub type Seconds = [u32; limits::MAX_BYTES];
 pub enum Reading {
     Accepted(usize),
     Refused(u8),
-}
-
-// The command at the front of s: its own bytes, or 4096 times the row that turns it down.
-fn front(s: &[u8]) -> usize
-    ensures { λ r. ⌜ r ≡ headOf (front (now (s .entry))) ⌝ }
-{
-    if s.len() == 0 {
-        return 4 * 4096;
-    }
-    let b = s[0];
-    match commands::operand_count(b) {
-        Count::NoCommand => 3 * 4096,
-        Count::Of(n) => {
-            if n == 0 {
-                return 1;
-            }
-            if s.len() <= 1 {
-                return 4 * 4096;
-            }
-            if commands::in_range(b, s[1]) {
-                2
-            } else {
-                5 * 4096
-            }
-        }
-    }
-}
-
-// The parts of the command b, which is known to be one.
-fn parts(b: u8) -> u8
-    ensures { λ r. ⌜ ((c : Command) → commandOf b ≡ some c → r ≡ partCount c) ⌝ }
-{
-    match commands::part_count(b) {
-        Count::NoCommand => 0,
-        Count::Of(n) => n,
-    }
-}
-
-// Notes the label of the command at the front of s, which has no parts.
-fn label(s: &[u8], notes: &mut Notes)
-    requires { ⌜ Leaf (now s) (now notes) ⌝ }
-    ensures { λ _. ⌜ LabelNoted (now (s .entry)) (now (notes .entry)) (now (notes .exit)) ⌝ }
-{
-    let b = s[0];
-    if b == 1 {
-        crate::notes::note_pause(s[1], notes);
-        return;
-    }
-    if b == 10 {
-        crate::notes::note_setpause(s[1], notes);
-    }
 }
 
 // The entry of a second part at offset m with n pauses before it.
@@ -105,7 +52,7 @@ fn two(
     if 4096 <= m {
         return m;
     }
-    second[at] = entry(m, crate::notes::count(notes));
+    second[at] = entry(m, notes::count(notes));
     let n = m - at - w;
     read(&s[n..], m, depth, signals, second, notes)
 }
@@ -124,7 +71,7 @@ fn read(
     ensures { λ r. ⌜ Done at (now (second .entry)) (now (second .exit)) (now (notes .entry)) (now (notes .exit))
         (read depth signals at (now (s .entry))) r ⌝ }
 {
-    let w = front(&s[0..]);
+    let w = heads::front(&s[0..]);
     if 4096 <= w {
         return w;
     }
@@ -132,7 +79,7 @@ fn read(
         return 6 * 4096;
     }
     let b = s[0];
-    let parts = parts(b);
+    let parts = heads::parts(b);
     if parts == 2 {
         return two(&s[w..], at, w, depth - 1, signals, second, notes);
     }
@@ -144,7 +91,7 @@ fn read(
         let left = signals - declares;
         return read(&s[w..], at + w, depth - 1, left, second, notes);
     }
-    label(&s[0..], notes);
+    notes::label(&s[0..], notes);
     at + w
 }
 

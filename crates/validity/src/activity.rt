@@ -5,7 +5,7 @@ ghost use Rattle.sets.specs.Labels.{labelSet};
 ghost use Rattle.layout.specs.Layout.{rest, Ready, Pair};
 ghost use Rattle.validity.specs.Activity.{Ranked, Masked, TellsCompatible, TellsCompatibleTwo, Judges};
 ghost use Rattle.layout.specs.Known.{Sound};
-use reading::notes::Notes;
+use notes::Notes;
 use reading::reader::Seconds;
 use sets::labels::Labels;
 
@@ -86,7 +86,7 @@ fn ranks(labels: Labels, notes: &Notes) -> Labels
     let mut left = labels;
     while !sets::labels::is_empty(left) {
         let l = sets::labels::lowest(left);
-        let rank = reading::notes::rank(notes, l) as u8;
+        let rank = notes::rank(notes, l) as u8;
         mask = sets::labels::union(mask, sets::labels::single(rank));
         left = sets::labels::without(left, l);
     }
@@ -107,7 +107,7 @@ pub fn validity_of(s: &[u8], second: &Seconds, notes: &Notes, labels: Labels) ->
     if sets::labels::is_empty(labels) {
         return Validity::Invalid;
     }
-    if !sets::labels::subset(labels, reading::notes::pauses(notes)) {
+    if !sets::labels::subset(labels, notes::pauses(notes)) {
         return Validity::Invalid;
     }
     let active = ranks(labels, notes);

@@ -20,11 +20,11 @@ use Rattle.reading.proofs.reader.two.Reads as two
 use Rattle.reading.proofs.reader.two.Kinds as two-kinds
 use Rattle.reading.proofs.reader.+read+two.Lts-two as two-lts
 use Rattle.commands.proofs.declared.Reads as declared-reads
-use Rattle.reading.proofs.reader.parts.Reads as parts-reads
-use Rattle.reading.proofs.notes.count.Reads as count-reads
+use Rattle.heads.proofs.parts.Reads as parts-reads
+use Rattle.notes.proofs.count.Reads as count-reads
 use Rattle.reading.proofs.reader.entry.Reads as entry-reads
-use Rattle.reading.proofs.reader.front.Reads as front-reads
-use Rattle.reading.proofs.reader.label.Reads as label-reads
+use Rattle.heads.proofs.front.Reads as front-reads
+use Rattle.notes.proofs.label.Reads as label-reads
 use Rattle.reading.proofs.reader.+read+two.{statement}
 use Rattle.reading.proofs.reader.+read+two.Tie.{close}
 

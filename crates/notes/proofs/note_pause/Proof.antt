@@ -2,8 +2,8 @@ use Rattle.esterel.specs.Sets.{join, only}
 use Rattle.sets.proofs.Laws.{shifted}
 use Rattle.layout.specs.Notes.{notePause}
 use borrow.Author.Needs.{needs}
-use Rattle.reading.proofs.notes.note_pause.Statement.{statement}
-use Rattle.reading.proofs.notes.note_pause.Tie as tie
+use Rattle.notes.proofs.note_pause.Statement.{statement}
+use Rattle.notes.proofs.note_pause.Tie as tie
 
 shl-bit : tie.Need-shl-bit
 shl-bit c = search needs

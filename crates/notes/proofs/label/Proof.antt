@@ -7,8 +7,8 @@ use Rattle.sequence.specs.Reader.{front, command}
 use Rattle.layout.specs.Walk.{Leaf}
 use Rattle.sequence.proofs.Front.{Fronted, fronted}
 use Rattle.layout.proofs.Leaves.{labelled, notes-pause, notes-setpause, notes-none}
-use Rattle.reading.proofs.reader.label.Statement.{statement}
-use Rattle.reading.proofs.reader.label.Tie as tie
+use Rattle.notes.proofs.label.Statement.{statement}
+use Rattle.notes.proofs.label.Tie as tie
 
 found : {s m : List ℕ} (l : Leaf s m) → Fronted s (l .of) (l .operands)
 found {s} l = fronted s (l .of) (l .operands) (l .stands)

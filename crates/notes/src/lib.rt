@@ -7,6 +7,7 @@ ghost use Rattle.esterel.specs.Sets.{empty};
 ghost use Rattle.sets.specs.Labels.{labelSet};
 ghost use Rattle.limits.specs.Limits.{labelCount, maxBytes};
 ghost use Rattle.layout.specs.Notes.{pausesIn, setpausesIn, twiceIn, countIn, rankIn, notePause, noteSetpause};
+ghost use Rattle.layout.specs.Walk.{Leaf, LabelNoted};
 
 // The labels of pauses, of setpauses and of pauses that came twice, the number of pauses, then a rank for each label.
 pub const LENGTH: usize = RANKS + limits::LABEL_COUNT;
@@ -24,7 +25,7 @@ const COUNT: usize = 3;
 const RANKS: usize = 4;
 
 // A pause with label l was read.
-pub(crate) fn note_pause(l: u8, notes: &mut Notes)
+fn note_pause(l: u8, notes: &mut Notes)
     requires { ⌜ (l < labelCount) × (countIn (now notes) < maxBytes) ⌝ }
     ensures { λ _. ⌜ now (notes .exit) ≡ notePause l (now (notes .entry)) ⌝ }
 {
@@ -38,11 +39,26 @@ pub(crate) fn note_pause(l: u8, notes: &mut Notes)
 }
 
 // A setpause with label l was read.
-pub(crate) fn note_setpause(l: u8, notes: &mut Notes)
+fn note_setpause(l: u8, notes: &mut Notes)
     requires { ⌜ l < labelCount ⌝ }
     ensures { λ _. ⌜ now (notes .exit) ≡ noteSetpause l (now (notes .entry)) ⌝ }
 {
     notes[SETPAUSES] = notes[SETPAUSES] | (1u64 << l);
+}
+
+// Notes the label of the command at the front of s, which has no parts.
+pub fn label(s: &[u8], notes: &mut Notes)
+    requires { ⌜ Leaf (now s) (now notes) ⌝ }
+    ensures { λ _. ⌜ LabelNoted (now (s .entry)) (now (notes .entry)) (now (notes .exit)) ⌝ }
+{
+    let b = s[0];
+    if b == 1 {
+        note_pause(s[1], notes);
+        return;
+    }
+    if b == 10 {
+        note_setpause(s[1], notes);
+    }
 }
 
 pub fn pauses(notes: &Notes) -> sets::labels::Labels
@@ -64,7 +80,7 @@ pub fn is_distinct(notes: &Notes) -> bool
     notes[TWICE] == 0
 }
 
-pub(crate) fn count(notes: &Notes) -> u64
+pub fn count(notes: &Notes) -> u64
     ensures { λ r. ⌜ r ≡ countIn (now (notes .entry)) ⌝ }
 {
     notes[COUNT]

@@ -6,8 +6,8 @@ use borrow.Author.Needs.{needs}
 use Rattle.sequence.specs.Commands.{Command, commandOf, partCount}
 use Rattle.sequence.proofs.Table.{valued}
 use Rattle.commands.proofs.Counts.{of-command, of-none}
-use Rattle.reading.proofs.reader.parts.Statement.{statement}
-use Rattle.reading.proofs.reader.parts.Tie as tie
+use Rattle.heads.proofs.parts.Statement.{statement}
+use Rattle.heads.proofs.parts.Tie as tie
 
 part-count-requires : tie.Need-part-count-requires
 part-count-requires c κs = search needs

@@ -1,7 +1,7 @@
 use borrow.Author.Tests.{lt-ltb, le-ltb}
 use borrow.Author.Needs.{needs}
-use Rattle.reading.proofs.notes.rank.Statement.{statement}
-use Rattle.reading.proofs.notes.rank.Tie as tie
+use Rattle.notes.proofs.rank.Statement.{statement}
+use Rattle.notes.proofs.rank.Tie as tie
 
 add-result : tie.Need-add-result
 add-result c = search needs

@@ -11,8 +11,8 @@ use Rattle.layout.specs.Walk.{headOf}
 use Rattle.sequence.proofs.Table.{unnamed, at-most-one, free}
 use Rattle.sequence.proofs.Front.{Fronts, front-is}
 use Rattle.commands.proofs.Counts.{of-command, of-none}
-use Rattle.reading.proofs.reader.front.Statement.{statement}
-use Rattle.reading.proofs.reader.front.Tie as tie
+use Rattle.heads.proofs.front.Statement.{statement}
+use Rattle.heads.proofs.front.Tie as tie
 
 heads : (s : List ℕ) (f : Front) → Fronts s f → headOf f ≡ headOf (front s)
 heads s f v = ap headOf (sym (front-is s f v))

@@ -2,8 +2,8 @@ use Rattle.esterel.specs.Sets.{join, only}
 use Rattle.sets.proofs.Laws.{shifted}
 use Rattle.layout.specs.Notes.{noteSetpause}
 use borrow.Author.Needs.{needs}
-use Rattle.reading.proofs.notes.note_setpause.Statement.{statement}
-use Rattle.reading.proofs.notes.note_setpause.Tie as tie
+use Rattle.notes.proofs.note_setpause.Statement.{statement}
+use Rattle.notes.proofs.note_setpause.Tie as tie
 
 element-copy-out-notes : tie.Need-element-copy-out-notes
 element-copy-out-notes c = search needs

@@ -1,8 +1,8 @@
 use mathlib.Core.Path.{refl}
 use Rattle.esterel.specs.Sets.{none}
 use borrow.Author.Needs.{needs}
-use Rattle.reading.proofs.notes.is_distinct.Statement.{statement}
-use Rattle.reading.proofs.notes.is_distinct.Tie as tie
+use Rattle.notes.proofs.is_distinct.Statement.{statement}
+use Rattle.notes.proofs.is_distinct.Tie as tie
 
 element-copy-out-result : tie.Need-element-copy-out-result
 element-copy-out-result c = search needs

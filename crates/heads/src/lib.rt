@@ -1,0 +1,43 @@
+// The head of a command (01, 'Commands' and rows 3 to 5): its own bytes, and how many parts follow it.
+ghost use mathlib.Core.Path.{_≡_};
+ghost use mathlib.Core.Option.{some};
+ghost use Rattle.sequence.specs.Commands.{Command, commandOf, partCount};
+ghost use Rattle.sequence.specs.Reader.{front};
+ghost use Rattle.layout.specs.Walk.{headOf};
+use commands::Count;
+
+// The command at the front of s: its own bytes, or 4096 times the row that turns it down.
+pub fn front(s: &[u8]) -> usize
+    ensures { λ r. ⌜ r ≡ headOf (front (now (s .entry))) ⌝ }
+{
+    if s.len() == 0 {
+        return 4 * 4096;
+    }
+    let b = s[0];
+    match commands::operand_count(b) {
+        Count::NoCommand => 3 * 4096,
+        Count::Of(n) => {
+            if n == 0 {
+                return 1;
+            }
+            if s.len() <= 1 {
+                return 4 * 4096;
+            }
+            if commands::in_range(b, s[1]) {
+                2
+            } else {
+                5 * 4096
+            }
+        }
+    }
+}
+
+// The parts of the command b, which is known to be one.
+pub fn parts(b: u8) -> u8
+    ensures { λ r. ⌜ ((c : Command) → commandOf b ≡ some c → r ≡ partCount c) ⌝ }
+{
+    match commands::part_count(b) {
+        Count::NoCommand => 0,
+        Count::Of(n) => n,
+    }
+}
