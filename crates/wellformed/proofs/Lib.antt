@@ -1,3 +1,3 @@
 pub mod Passing
 pub mod Surveyed
-pub mod Clashes
+pub mod Formed

@@ -20,9 +20,10 @@ use Rattle.layout.specs.Layout.{rest, secondAt, Two, Lies, Ready}
 use Rattle.sequence.proofs.Table.{byteOf}
 use Rattle.layout.proofs.Laid.{ready, by-command, command, first-ready}
 use Rattle.layout.specs.Joints.{jointOf}
-use Rattle.wellformed.specs.declared.survey.Before.{Before}
-use Rattle.wellformed.specs.declared.survey.Passed.{Passed}
-use Rattle.wellformed.specs.Survey.{Standing, StandingTwo, Labelled, Joins, BeginsSecond, Past, Passes, PastTwo}
+use Rattle.exclusion.specs.declared.Before.{Before}
+use Rattle.exclusion.specs.declared.Passed.{Passed}
+use Rattle.exclusion.specs.Exclusion.{Labelled, Joins, BeginsSecond}
+use Rattle.wellformed.specs.Survey.{Standing, StandingTwo, Past, Passes, PastTwo}
 
 -- ---- rows
 pub unchanged : {m : List ℕ} → Updates (λ rows. rows) m m
@@ -32,14 +33,14 @@ unchanged = record { updates = λ l. (l, refl) }
 pub in-turn : {f g : (ℕ → ℕ) → ℕ → ℕ} {m n o : List ℕ} → Updates f m n → Updates g n o → Updates (λ rows. g (f rows)) m o
 in-turn {g = g} s t = record { updates = λ l. let x = s .updates l in let y = t .updates (x .0) in (y .0, y .1 ∙ ap g (x .1)) }
 
-pub row-of-label : (l s : ℕ) {m n : List ℕ} → l < labelCount → Updates (addRowBelow labelCount l s) m n → Updates (addRow l s) m n
+row-of-label : (l s : ℕ) {m n : List ℕ} → l < labelCount → Updates (addRowBelow labelCount l s) m n → Updates (addRow l s) m n
 row-of-label l s {m} h t =
     record {
       updates = λ e. let x = t .updates e in
           (x .0, x .1 ∙ ap (λ (b : Bool). cond b (addRow l s (rowOf m)) (rowOf m)) (lt-ltb l labelCount h));
     }
 
-pub only-label : {l s : ℕ} → l < labelCount → s ≡ onlyBelow labelCount l → s ≡ only l
+only-label : {l s : ℕ} → l < labelCount → s ≡ onlyBelow labelCount l → s ≡ only l
 only-label {l} h e = e ∙ rw (lt-ltb l labelCount h)
 
 -- ---- what is said of a command is said of the statement that it is
@@ -65,14 +66,24 @@ module _ (a : ℕ) (v : Before) (r : Passed) (m n : List ℕ) where
     unfolding labelsOf bytesOf fill
     exit-step k = record { labels = h; excludes = unchanged; sides = unchanged }
 
-  module _ (l : ℕ) (n′ : List ℕ) (w : Updates (addRow l (labelSet (v .concurrent))) n n′) where
-    pub setpause-step : Labelled r (a + 2) none (only l) → Past (setpause l) a v r m m n n′
+  -- a label below the width
+  module _ (l : ℕ) (small : l < labelCount) (n′ : List ℕ) (w : Updates (addRowBelow labelCount l (labelSet (v .concurrent))) n n′) where
+    pub setpause-step : Labelled r (a + 2) none (onlyBelow labelCount l) → Past (setpause l) a v r m m n n′
     unfolding labelsOf bytesOf fill
-    setpause-step h = record { labels = h; excludes = unchanged; sides = w }
+    setpause-step h = record {
+      labels = record { ends = h .ends; paused = h .paused; triggering = only-label small (h .triggering) };
+      excludes = unchanged;
+      sides = row-of-label l (labelSet (v .concurrent)) small w;
+    }
 
-    pub pause-step : (m′ : List ℕ) → Labelled r (a + 2) (only l) (only l) → Updates (addRow l (labelSet (v .exclusive))) m m′ → Past (pause l) a v r m m′ n n′
+    pub pause-step : (m′ : List ℕ) → Labelled r (a + 2) (onlyBelow labelCount l) (onlyBelow labelCount l)
+        → Updates (addRowBelow labelCount l (labelSet (v .exclusive))) m m′ → Past (pause l) a v r m m′ n n′
     unfolding labelsOf bytesOf fill
-    pause-step m′ h u = record { labels = h; excludes = u; sides = w }
+    pause-step m′ h u = record {
+      labels = record { ends = h .ends; paused = only-label small (h .paused); triggering = only-label small (h .triggering) };
+      excludes = row-of-label l (labelSet (v .exclusive)) small u;
+      sides = row-of-label l (labelSet (v .concurrent)) small w;
+    }
 
 -- the command is none of those with labels or parts, nor nothing
 abbrev pub Other : ℕ → Type 0

@@ -2,7 +2,6 @@
 -- to the rows of exclusive pauses and to those of pauses and setpauses aside (esterel, specs/LabelRows). The walk does not look
 -- into the table of second parts, which is any that fits.
 use Prim.Native.Nat.{ℕ, _+_}
-use mathlib.Core.Path.{_≡_}
 use mathlib.Core.Bool.{Bool, true, false}
 use mathlib.Core.List.{List}
 use Rattle.esterel.specs.Sets.{none, join}
@@ -15,8 +14,9 @@ use Rattle.limits.specs.Limits.{maxDepth}
 use Rattle.sequence.specs.Writer.{size}
 use Rattle.layout.specs.Layout.{Two, Lies, Ready, Pair}
 use Rattle.layout.specs.Joints.{jointOf}
-use Rattle.wellformed.specs.declared.survey.Before.{Before}
-use Rattle.wellformed.specs.declared.survey.Passed.{Passed}
+use Rattle.exclusion.specs.declared.Before.{Before}
+use Rattle.exclusion.specs.declared.Passed.{Passed}
+use Rattle.exclusion.specs.Exclusion.{Labelled}
 
 -- ---- what the walk requires
 pub record Standing (d a : ℕ) (bs : List ℕ) : Type 0 where
@@ -26,21 +26,6 @@ pub record Standing (d a : ℕ) (bs : List ℕ) : Type 0 where
 pub record StandingTwo (d a w : ℕ) (bs : List ℕ) : Type 0 where
   pub table : List ℕ
   pub pair : Pair table d a w bs
-
--- ---- labels
-pub record Labelled (r : Passed) (end s t : ℕ) : Type 0 where
-  pub ends : r .end ≡ end
-  pub paused : labelSet (r .pauses) ≡ s
-  pub triggering : labelSet (r .triggers) ≡ t
-
-abbrev pub Joins : (p q r : Passed) → Type 0
-Joins p q r =
-    Labelled r (q .end) (join (labelSet (p .pauses)) (labelSet (q .pauses))) (join (labelSet (p .triggers)) (labelSet (q .triggers)))
-
--- what stands before a second part
-pub record BeginsSecond (b : Bool) (v : Before) (p : Passed) (r : Before) : Type 0 where
-  pub excludes : labelSet (r .exclusive) ≡ further alternative (jointOf b) (labelSet (v .exclusive)) (labelSet (p .pauses))
-  pub sides : labelSet (r .concurrent) ≡ further parallel (jointOf b) (labelSet (v .concurrent)) (labelSet (p .triggers))
 
 -- ---- the walk: the labels of a statement, and what it adds to the rows m and n
 pub record Past (p : Statement) (a : ℕ) (v : Before) (r : Passed) (m m′ n n′ : List ℕ) : Type 0 where

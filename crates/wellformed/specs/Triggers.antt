@@ -1,36 +1,12 @@
--- Row 10 by the rows of exclusive pauses and of concurrent triggers that the survey filled.
+-- Row 10 of the statement that lies in the bytes.
 use Prim.Native.Nat.{ℕ}
 use mathlib.Core.Path.{_≡_}
-use mathlib.Core.Bool.{Bool, true, _||_}
-use mathlib.Core.Logic.{_↔_}
+use mathlib.Core.Bool.{Bool, true}
 use mathlib.Core.List.{List}
-use Rattle.esterel.specs.Sets.{member}
 use Rattle.esterel.specs.Statement.{Statement}
 use Rattle.esterel.specs.LabelTests.{pauses, targeted, wellFormed}
 use Rattle.limits.specs.Limits.{maxDepth}
 use Rattle.layout.specs.Layout.{Lies}
-
--- k is in the row of a label of s
-abbrev pub InRowOf : (rows : ℕ → ℕ) (s k : ℕ) → Type 0
-InRowOf rows s k = (l : ℕ) × (member l s ≡ true) × (member k (rows l) ≡ true)
-
--- only labels of s have a row
-abbrev pub RowsWithin : (rows : ℕ → ℕ) (s : ℕ) → Type 0
-RowsWithin rows s = (l k : ℕ) → member k (rows l) ≡ true → member l s ≡ true
-
--- each label that stands in a row is in s
-abbrev pub CoversRows : (rows : ℕ → ℕ) (s : ℕ) → Type 0
-CoversRows rows s = (l k : ℕ) → member k (rows l) ≡ true → member k s ≡ true
-
--- a label concurrent with k has a pause exclusive with that of k
-abbrev pub Clash : (exclusive concurrent : ℕ → ℕ) → ℕ → Type 0
-Clash exclusive concurrent k =
-    (l : ℕ) × (member l (concurrent k) ≡ true) × ((member l (exclusive k) || member k (exclusive l)) ≡ true)
-
--- r says whether a label clashes, if only labels of s have a row
-abbrev pub Clashes : (exclusive concurrent : ℕ → ℕ) (s : ℕ) (r : Bool) → Type 0
-Clashes exclusive concurrent s r =
-    RowsWithin exclusive s → RowsWithin concurrent s → (r ≡ true) ↔ ((k : ℕ) × Clash exclusive concurrent k)
 
 -- r says whether the statement that lies there is well-formed; s are its pauses, and row 9 does not hold of it
 abbrev pub TellsWellFormed : (bs : List ℕ) (s : ℕ) (r : Bool) → Type 0

@@ -36,11 +36,11 @@ use Rattle.wellformed.proofs.survey.+pass+pass_part+pass_parts.Lts-pass
 use Rattle.wellformed.proofs.survey.pass_parts.Reads as pass-parts
 use Rattle.wellformed.proofs.survey.pass_parts.Kinds as pass-parts-kinds
 use Rattle.wellformed.proofs.survey.+pass+pass_part+pass_parts.Lts-pass_parts as pass-parts-lts
-use Rattle.wellformed.proofs.survey.at_other.Reads as at-other-reads
-use Rattle.wellformed.proofs.survey.at_pause.Reads as at-pause-reads
-use Rattle.wellformed.proofs.survey.at_setpause.Reads as at-setpause-reads
-use Rattle.wellformed.proofs.survey.before_second.Reads as before-second-reads
-use Rattle.wellformed.proofs.survey.joined.Reads as joined-reads
+use Rattle.exclusion.proofs.at_other.Reads as at-other-reads
+use Rattle.exclusion.proofs.at_pause.Reads as at-pause-reads
+use Rattle.exclusion.proofs.at_setpause.Reads as at-setpause-reads
+use Rattle.exclusion.proofs.before_second.Reads as before-second-reads
+use Rattle.exclusion.proofs.joined.Reads as joined-reads
 use Rattle.wellformed.proofs.survey.+pass+pass_part+pass_parts.{statement}
 use Rattle.wellformed.proofs.survey.+pass+pass_part+pass_parts.Tie.{close}
 
@@ -89,9 +89,6 @@ pass-shared-slice-read-at-pause t c = omega (arith, begins (c .before .before .b
 pass-add-at-pause : (t : ℕ) → pass-lts.Need-add-at-pause (pass-claims t) (pass-at t) pass.Post
 pass-add-at-pause t c = omega (arith, begins (c .before .before .before .before .pre .1 .ready) Command.pause (c .before .match .keys2) .there)
 
-pass-at-pause-requires : (t : ℕ) → pass-lts.Need-at-pause-requires (pass-claims t) (pass-at t) pass.Post
-pass-at-pause-requires t c κs = ltb-true _ _ (begins (c .before .before .before .before .before .before .pre .1 .ready) Command.pause (c .before .before .before .match .keys2) .ranged)
-
 pass-pass-parts-requires : (t : ℕ) → pass-lts.Need-pass-parts-requires (pass-claims t) (pass-at t) pass.Post
 pass-pass-parts-requires t c κs =
     let y = begins (c .before .before .before .before .before .pre .1 .ready) Command.seq (c .before .before .match .keys3) in
@@ -128,9 +125,6 @@ pass-shared-slice-read-at-setpause t c = omega (arith, begins (c .before .before
 pass-add-at-setpause : (t : ℕ) → pass-lts.Need-add-at-setpause (pass-claims t) (pass-at t) pass.Post
 pass-add-at-setpause t c = omega (arith, begins (c .before .before .before .before .pre .1 .ready) Command.setpause (c .before .match .keys9) .there)
 
-pass-at-setpause-requires : (t : ℕ) → pass-lts.Need-at-setpause-requires (pass-claims t) (pass-at t) pass.Post
-pass-at-setpause-requires t c κs = ltb-true _ _ (begins (c .before .before .before .before .before .pre .1 .ready) Command.setpause (c .before .before .match .keys9) .ranged)
-
 pass-pass-part-requires-4 : (t : ℕ) → pass-lts.Need-pass-part-requires-4 (pass-claims t) (pass-at t) pass.Post
 pass-pass-part-requires-4 t c κs =
     let y = begins (c .before .before .before .before .before .pre .1 .ready) Command.suspend (c .before .before .match .keys10) in
@@ -144,7 +138,8 @@ pass-returns t c u base p l =
 pass-returns-2 : (t : ℕ) → pass-lts.Need-returns-2 (pass-claims t) (pass-at t) pass.Post
 pass-returns-2 t c u base p l =
     let y = by-command u _ base _ _ p l Command.pause (c .before .before .before .before .match .keys2) .parts in
-    here _ _ _ _ _ _ _ p (pause _) (y) (pause-step _ _ _ _ _ _ _ (c .at-pause .ensures .1 .1) _ (c .at-pause .ensures .0) (c .at-pause .ensures .1 .0))
+    let small = ltb-true _ _ (begins (c .before .before .before .before .before .before .before .pre .1 .ready) Command.pause (c .before .before .before .before .match .keys2) .ranged) in
+    here _ _ _ _ _ _ _ p (pause _) (y) (pause-step _ _ _ _ _ _ small _ (c .at-pause .ensures .1 .1) _ (c .at-pause .ensures .0) (c .at-pause .ensures .1 .0))
 
 pass-returns-3 : (t : ℕ) → pass-lts.Need-returns-3 (pass-claims t) (pass-at t) pass.Post
 pass-returns-3 t c u base p l =
@@ -179,7 +174,8 @@ pass-returns-8 t c u base p l =
 pass-returns-9 : (t : ℕ) → pass-lts.Need-returns-9 (pass-claims t) (pass-at t) pass.Post
 pass-returns-9 t c u base p l =
     let y = by-command u _ base _ _ p l Command.setpause (c .before .before .before .match .keys9) .parts in
-    here _ _ _ _ _ _ _ p (setpause _) (y) (setpause-step _ _ _ _ _ _ _ (c .at-setpause .ensures .1) (c .at-setpause .ensures .0))
+    let small = ltb-true _ _ (begins (c .before .before .before .before .before .before .pre .1 .ready) Command.setpause (c .before .before .before .match .keys9) .ranged) in
+    here _ _ _ _ _ _ _ p (setpause _) (y) (setpause-step _ _ _ _ _ _ small _ (c .at-setpause .ensures .1) (c .at-setpause .ensures .0))
 
 pass-returns-10 : (t : ℕ) → pass-lts.Need-returns-10 (pass-claims t) (pass-at t) pass.Post
 pass-returns-10 t c u base p l =
@@ -227,7 +223,7 @@ pub +pass+pass-part+pass-parts-spec : {M : Type 1} → statement M
     (λ c. search needs) (λ c. search needs) (λ c κs. search needs)
     (pass-shared-slice-read-at-pause t)
     (pass-add-at-pause t)
-    (pass-at-pause-requires t)
+    (λ c κs. search needs)
     (pass-pass-parts-requires t)
     (pass-pass-parts-requires-2 t)
     (λ c. search needs) (λ c. search needs)
@@ -239,7 +235,7 @@ pub +pass+pass-part+pass-parts-spec : {M : Type 1} → statement M
     (pass-pass-part-requires-3 t)
     (pass-shared-slice-read-at-setpause t)
     (pass-add-at-setpause t)
-    (pass-at-setpause-requires t)
+    (λ c κs. search needs)
     (λ c. search needs) (λ c. search needs)
     (pass-pass-part-requires-4 t)
     (λ c. search needs) (λ c κs. search needs)

@@ -2,7 +2,7 @@ use mathlib.Core.Path.{refl}
 use mathlib.Core.Bool.{true, false}
 use Rattle.esterel.specs.LabelTests.{alternative, parallel}
 use Rattle.wellformed.proofs.Surveyed.{fresh-rows}
-use Rattle.wellformed.proofs.Clashes.{formed-is}
+use Rattle.wellformed.proofs.Formed.{formed-is}
 use borrow.Author.Needs.{needs}
 use Rattle.wellformed.proofs.triggers.is_well_formed.Statement.{statement}
 use Rattle.wellformed.proofs.triggers.is_well_formed.Tie as tie

@@ -4,10 +4,10 @@ use Rattle.esterel.specs.Sets.{member}
 use Rattle.sets.specs.Labels.{labelSet}
 use Rattle.sets.specs.Rows.{rowOf}
 use Rattle.sets.proofs.Members.{some-left, none-left, Seeking, seek, seek-on, seek-less, seek-hit, seek-end}
-use Rattle.wellformed.proofs.Clashes.{in-row-end}
+use Rattle.clashes.proofs.Clashes.{in-row-end}
 use borrow.Author.Needs.{needs}
-use Rattle.wellformed.proofs.triggers.in_row_of.Statement.{statement}
-use Rattle.wellformed.proofs.triggers.in_row_of.Tie as tie
+use Rattle.clashes.proofs.in_row_of.Statement.{statement}
+use Rattle.clashes.proofs.in_row_of.Tie as tie
 
 abbrev Inv-loop : tie.InvT-loop
 Inv-loop rows k left₀ left = Seeking (λ i. member k (rowOf rows i) ≡ false) (labelSet left₀) (labelSet left)

@@ -1,10 +1,10 @@
 use Rattle.sets.specs.Labels.{labelSet}
 use Rattle.sets.specs.Rows.{rowOf}
 use Rattle.sets.proofs.Members.{some-left, none-left, Seeking, seek, seek-less}
-use Rattle.wellformed.proofs.Clashes.{CoversRow, covers-on, covers-end}
+use Rattle.clashes.proofs.Clashes.{CoversRow, covers-on, covers-end}
 use borrow.Author.Needs.{needs}
-use Rattle.wellformed.proofs.triggers.union_of_rows.Statement.{statement}
-use Rattle.wellformed.proofs.triggers.union_of_rows.Tie as tie
+use Rattle.clashes.proofs.union_of_rows.Statement.{statement}
+use Rattle.clashes.proofs.union_of_rows.Tie as tie
 
 abbrev Inv-loop : tie.InvT-loop
 Inv-loop rows all₀ left₀ all left = Seeking (CoversRow (rowOf rows) (labelSet all)) (labelSet left₀) (labelSet left)

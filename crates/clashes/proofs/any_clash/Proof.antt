@@ -3,10 +3,10 @@ use Rattle.esterel.proofs.Booleans as Booleans
 use Rattle.sets.specs.Labels.{labelSet}
 use Rattle.sets.specs.Rows.{rowOf}
 use Rattle.sets.proofs.Members.{some-left, none-left, Seeking, seek, seek-on, seek-less}
-use Rattle.wellformed.proofs.Clashes.{Clear, clear-end}
+use Rattle.clashes.proofs.Clashes.{Clear, clear-end}
 use borrow.Author.Needs.{needs}
-use Rattle.wellformed.proofs.triggers.any_clash.Statement.{statement}
-use Rattle.wellformed.proofs.triggers.any_clash.Tie as tie
+use Rattle.clashes.proofs.any_clash.Statement.{statement}
+use Rattle.clashes.proofs.any_clash.Tie as tie
 
 abbrev Inv-loop : tie.InvT-loop
 Inv-loop exclusive concurrent all left₀ left =

@@ -1,8 +1,7 @@
 use mathlib.Core.Path.{refl}
-use Rattle.wellformed.proofs.Passing.{row-of-label, only-label}
 use borrow.Author.Needs.{needs}
-use Rattle.wellformed.proofs.survey.at_setpause.Statement.{statement}
-use Rattle.wellformed.proofs.survey.at_setpause.Tie as tie
+use Rattle.exclusion.proofs.at_setpause.Statement.{statement}
+use Rattle.exclusion.proofs.at_setpause.Tie as tie
 
 add-row-requires : tie.Need-add-row-requires
 add-row-requires c κs = search needs
@@ -15,8 +14,8 @@ single-requires c κs = search needs
 
 returns : tie.Need-returns
 returns c = (
-  record { ends = refl; paused = c .before .empty .ensures; triggering = only-label (c .before .before .before .before .pre) (c .single .ensures) },
-  row-of-label _ _ (c .before .before .before .before .pre) (c .before .before .add-row .ensures),
+  record { ends = refl; paused = c .before .empty .ensures; triggering = c .single .ensures },
+  c .before .before .add-row .ensures,
 )
 
 pub at-setpause-spec : {M : Type 1} → statement M

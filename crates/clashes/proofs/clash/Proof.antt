@@ -1,9 +1,9 @@
 use mathlib.Core.Path.{sym, _∙_}
 use Rattle.sets.specs.Rows.{rowOf}
-use Rattle.wellformed.proofs.Clashes.{clash-by, clash-at, in-row-never}
+use Rattle.clashes.proofs.Clashes.{clash-by, clash-at, in-row-never}
 use borrow.Author.Needs.{needs}
-use Rattle.wellformed.proofs.triggers.clash.Statement.{statement}
-use Rattle.wellformed.proofs.triggers.clash.Tie as tie
+use Rattle.clashes.proofs.clash.Statement.{statement}
+use Rattle.clashes.proofs.clash.Tie as tie
 
 row-requires : tie.Need-row-requires
 row-requires c κs = search needs

@@ -1,6 +1,6 @@
 use borrow.Author.Needs.{needs}
-use Rattle.wellformed.proofs.survey.before_second.Statement.{statement}
-use Rattle.wellformed.proofs.survey.before_second.Tie as tie
+use Rattle.exclusion.proofs.before_second.Statement.{statement}
+use Rattle.exclusion.proofs.before_second.Tie as tie
 
 union-requires : tie.Need-union-requires
 union-requires c κs = search needs

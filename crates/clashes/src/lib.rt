@@ -1,0 +1,71 @@
+// Row 10 by two matrices: does a label clash, having a concurrent one whose pause is exclusive with its own?
+ghost use mathlib.Core.Path.{_≡_};
+ghost use mathlib.Core.Bool.{true};
+ghost use mathlib.Core.Logic.{_↔_};
+ghost use Rattle.sets.specs.Labels.{labelSet};
+ghost use Rattle.sets.specs.Rows.{rowOf};
+ghost use Rattle.clashes.specs.Clashes.{InRowOf, RowsWithin, CoversRows, Clash, Clashes};
+use sets::labels::Labels;
+use sets::labels::Rows;
+
+// Is k in the row of a label of s?
+fn in_row_of(rows: &Rows, s: Labels, k: u8) -> bool
+    ensures { λ r. ⌜ (r ≡ true) ↔ InRowOf (rowOf (now (rows .entry))) (labelSet s) k ⌝ }
+{
+    let mut left = s;
+    while !sets::labels::is_empty(left) {
+        let l = sets::labels::lowest(left);
+        if sets::labels::member(sets::labels::row(rows, l), k) {
+            return true;
+        }
+        left = sets::labels::without(left, l);
+    }
+    false
+}
+
+// The labels that stand in the rows of the labels of s.
+fn union_of_rows(rows: &Rows, s: Labels) -> Labels
+    ensures { λ r. ⌜ (RowsWithin (rowOf (now (rows .entry))) (labelSet s) → CoversRows (rowOf (now (rows .entry))) (labelSet r)) ⌝ }
+{
+    let mut all = sets::labels::empty();
+    let mut left = s;
+    while !sets::labels::is_empty(left) {
+        let l = sets::labels::lowest(left);
+        all = sets::labels::union(all, sets::labels::row(rows, l));
+        left = sets::labels::without(left, l);
+    }
+    all
+}
+
+// Has a label concurrent with k a pause exclusive with that of k? The labels of all rows of `exclusive` are in `all`.
+fn clash(exclusive: &Rows, concurrent: &Rows, all: Labels, k: u8) -> bool
+    ensures { λ r. ⌜ (CoversRows (rowOf (now (exclusive .entry))) (labelSet all)
+        → (r ≡ true) ↔ Clash (rowOf (now (exclusive .entry))) (rowOf (now (concurrent .entry))) k) ⌝ }
+{
+    let beside = sets::labels::row(concurrent, k);
+    if sets::labels::disjoint(beside, sets::labels::row(exclusive, k)) {
+        if sets::labels::member(all, k) {
+            in_row_of(exclusive, beside, k)
+        } else {
+            false
+        }
+    } else {
+        true
+    }
+}
+
+// Does a label clash? Only those of `pauses` have a row.
+pub fn any_clash(exclusive: &Rows, concurrent: &Rows, pauses: Labels) -> bool
+    ensures { λ r. ⌜ Clashes (rowOf (now (exclusive .entry))) (rowOf (now (concurrent .entry))) (labelSet pauses) r ⌝ }
+{
+    let all = union_of_rows(exclusive, pauses);
+    let mut left = pauses;
+    while !sets::labels::is_empty(left) {
+        let k = sets::labels::lowest(left);
+        if clash(exclusive, concurrent, all, k) {
+            return true;
+        }
+        left = sets::labels::without(left, k);
+    }
+    false
+}
