@@ -1,3 +1,2 @@
-pub mod Compatible
 pub mod Ranking
 pub mod Validities

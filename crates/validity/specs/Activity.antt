@@ -3,30 +3,16 @@ use Prim.Native.Nat.{ℕ, _<_}
 use mathlib.Core.Path.{_≡_}
 use mathlib.Core.Bool.{Bool, true, false}
 use mathlib.Core.List.{List}
-use Rattle.esterel.specs.Sets.{member, empty, below, from}
+use Rattle.esterel.specs.Sets.{member}
 use Rattle.esterel.specs.Statement.{Statement}
 use Rattle.esterel.specs.LabelTests.{pauses, distinct, valid}
-use Rattle.esterel.specs.Ranks.{middle, mask, ofParts, compatible}
+use Rattle.esterel.specs.Ranks.{mask}
 use Rattle.sets.specs.Sets.{Subset, labelCount}
 use Rattle.sets.specs.Labels.{labelSet}
-use Rattle.layout.specs.Layout.{Two, Lies}
 use Rattle.layout.specs.Notes.{Noted, rankIn}
-use Rattle.layout.specs.Joints.{jointOf}
 use Rattle.layout.specs.Known.{Known}
 use Rattle.validity.specs.declared.activity.Validity.{Validity}
 use Rattle.validity.specs.declared.activity.Validity.the-variants.{Valid, Invalid}
-
--- r says whether the pauses of the mask m are pairwise compatible in the statement that lies there
-abbrev pub TellsCompatible : (t : List ℕ) (d a : ℕ) (bs : List ℕ) (m : ℕ) (r : Bool) → Type 0
-TellsCompatible t d a bs m r = (base : ℕ) (p : Statement) → Lies t d base a bs p → r ≡ compatible base p m
-
--- the same of the two parts of the command of w bytes at offset a
-abbrev pub TellsCompatibleTwo : (t : List ℕ) (d a w : ℕ) (bs : List ℕ) (parallel : Bool) (m : ℕ) (r : Bool) → Type 0
-TellsCompatibleTwo t d a w bs j m r =
-    (base : ℕ) (p q : Statement) → Two (Lies t d) t base a w bs p q
-    → r
-    ≡ ofParts (jointOf j) (empty (below (middle base p) m)) (empty (from (middle base p) m))
-    (compatible base p (below (middle base p) m)) (compatible (middle base p) q (from (middle base p) m))
 
 -- the numbers of L are labels, and their noted ranks are numbers of a mask
 abbrev pub Ranked : (notes : List ℕ) (L : ℕ) → Type 0
