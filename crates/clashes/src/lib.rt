@@ -3,10 +3,10 @@ ghost use mathlib.Core.Path.{_≡_};
 ghost use mathlib.Core.Bool.{true};
 ghost use mathlib.Core.Logic.{_↔_};
 ghost use Rattle.sets.specs.Labels.{labelSet};
-ghost use Rattle.sets.specs.Rows.{rowOf};
+ghost use Rattle.matrix.specs.Rows.{rowOf};
 ghost use Rattle.clashes.specs.Clashes.{InRowOf, RowsWithin, CoversRows, Clash, Clashes};
+use matrix::Rows;
 use sets::labels::Labels;
-use sets::labels::Rows;
 
 // Is k in the row of a label of s?
 fn in_row_of(rows: &Rows, s: Labels, k: u8) -> bool
@@ -15,7 +15,7 @@ fn in_row_of(rows: &Rows, s: Labels, k: u8) -> bool
     let mut left = s;
     while !sets::labels::is_empty(left) {
         let l = sets::labels::lowest(left);
-        if sets::labels::member(sets::labels::row(rows, l), k) {
+        if sets::labels::member(matrix::row(rows, l), k) {
             return true;
         }
         left = sets::labels::without(left, l);
@@ -31,7 +31,7 @@ fn union_of_rows(rows: &Rows, s: Labels) -> Labels
     let mut left = s;
     while !sets::labels::is_empty(left) {
         let l = sets::labels::lowest(left);
-        all = sets::labels::union(all, sets::labels::row(rows, l));
+        all = sets::labels::union(all, matrix::row(rows, l));
         left = sets::labels::without(left, l);
     }
     all
@@ -42,8 +42,8 @@ fn clash(exclusive: &Rows, concurrent: &Rows, all: Labels, k: u8) -> bool
     ensures { λ r. ⌜ (CoversRows (rowOf (now (exclusive .entry))) (labelSet all)
         → (r ≡ true) ↔ Clash (rowOf (now (exclusive .entry))) (rowOf (now (concurrent .entry))) k) ⌝ }
 {
-    let beside = sets::labels::row(concurrent, k);
-    if sets::labels::disjoint(beside, sets::labels::row(exclusive, k)) {
+    let beside = matrix::row(concurrent, k);
+    if sets::labels::disjoint(beside, matrix::row(exclusive, k)) {
         if sets::labels::member(all, k) {
             in_row_of(exclusive, beside, k)
         } else {

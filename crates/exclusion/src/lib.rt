@@ -3,10 +3,10 @@
 ghost use Rattle.esterel.specs.Sets.{none};
 ghost use Rattle.sets.specs.Sets.{labelCount, onlyBelow};
 ghost use Rattle.sets.specs.Labels.{labelSet};
-ghost use Rattle.sets.specs.Rows.{addRowBelow, Updates};
+ghost use Rattle.matrix.specs.Rows.{addRowBelow, Updates};
 ghost use Rattle.exclusion.specs.Exclusion.{Labelled, Joins, BeginsSecond};
+use matrix::Rows;
 use sets::labels::Labels;
-use sets::labels::Rows;
 
 // What stands before a statement: the pauses exclusive with it, and the pauses and setpauses on another side of a parallel.
 pub struct Before {
@@ -47,8 +47,8 @@ pub fn at_pause(
     ensures sides { λ _. ⌜ Updates (addRowBelow labelCount l (labelSet (before .concurrent)))
         (now (concurrent .entry)) (now (concurrent .exit)) ⌝ }
 {
-    sets::labels::add_row(exclusive, l, before.exclusive);
-    sets::labels::add_row(concurrent, l, before.concurrent);
+    matrix::add_row(exclusive, l, before.exclusive);
+    matrix::add_row(concurrent, l, before.concurrent);
     let one = sets::labels::single(l);
     Passed {
         end,
@@ -62,7 +62,7 @@ pub fn at_setpause(l: u8, end: usize, before: Before, concurrent: &mut Rows) -> 
     ensures sides { λ _. ⌜ Updates (addRowBelow labelCount l (labelSet (before .concurrent)))
         (now (concurrent .entry)) (now (concurrent .exit)) ⌝ }
 {
-    sets::labels::add_row(concurrent, l, before.concurrent);
+    matrix::add_row(concurrent, l, before.concurrent);
     Passed {
         end,
         pauses: sets::labels::empty(),

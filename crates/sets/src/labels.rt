@@ -6,7 +6,6 @@ ghost use lib.Dec.{eqb};
 ghost use Rattle.esterel.specs.Sets.{member, none, join, remove, below, from};
 ghost use Rattle.sets.specs.Sets.{labelCount, onlyBelow, Subset, Disjoint, Lowest};
 ghost use Rattle.sets.specs.Labels.{labelSet};
-ghost use Rattle.sets.specs.Rows.{rowOf, addRowBelow, Updates};
 
 pub struct Labels {
     bits: u64,
@@ -100,30 +99,6 @@ pub fn from(s: Labels, k: u32) -> Labels
     let t = below(s, k);
     Labels {
         bits: s.bits ^ t.bits,
-    }
-}
-
-// A label set for each label.
-pub type Rows = [u64; limits::LABEL_COUNT];
-
-// Adds the labels of s to the row of k; a label outside the width has no row.
-pub fn add_row(rows: &mut Rows, k: u8, s: Labels)
-    ensures { λ _. ⌜ Updates (addRowBelow labelCount k (labelSet s)) (now (rows .entry)) (now (rows .exit)) ⌝ }
-{
-    if k < limits::LABELS {
-        let i = k as usize;
-        rows[i] = rows[i] | s.bits;
-    }
-}
-
-pub fn row(rows: &Rows, k: u8) -> Labels
-    ensures { λ r. ⌜ labelSet r ≡ rowOf (now (rows .entry)) k ⌝ }
-{
-    if k < limits::LABELS {
-        let i = k as usize;
-        Labels { bits: rows[i] }
-    } else {
-        empty()
     }
 }
 

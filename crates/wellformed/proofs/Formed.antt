@@ -10,7 +10,7 @@ use Rattle.esterel.specs.LabelTests as Esterel
 use Rattle.esterel.specs.LabelTests.{pauses, targeted, rivals, aside, wellFormed}
 use Rattle.esterel.proofs.Booleans.{never}
 use Rattle.esterel.proofs.LabelTests.{rivals-paused, aside-paused, unmixed-is}
-use Rattle.sets.specs.Rows.{rowOf}
+use Rattle.matrix.specs.Rows.{rowOf}
 use Rattle.clashes.specs.Clashes.{RowsWithin, Clash, Clashes}
 
 module _ (p : Statement) (exclusive concurrent : List ℕ) (er : (k : ℕ) → rowOf exclusive k ≡ rivals p k) (es : (k : ℕ) → rowOf concurrent k ≡ aside p k) where

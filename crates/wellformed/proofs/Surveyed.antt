@@ -14,7 +14,7 @@ use Rattle.esterel.proofs.Sets.{join-none-l}
 use Rattle.esterel.proofs.Booleans.{Tested, tested}
 use Rattle.esterel.proofs.LabelRows.{fill-is}
 use Rattle.sets.specs.Sets.{labelCount}
-use Rattle.sets.specs.Rows.{rowBelow, rowOf, Updates}
+use Rattle.matrix.specs.Rows.{rowBelow, rowOf, Updates}
 
 pub nothing-before : (x y : Bool) (j : Joint) (p : Statement) {s : ℕ} {m n : List ℕ} → s ≡ none → Updates (fill x y j p s) m n → Updates (fill x y j p none) m n
 nothing-before x y j p {s} {m} {n} e t = subst (λ (k : ℕ). Updates (fill x y j p k) m n) e t

@@ -7,7 +7,7 @@ ghost use Rattle.layout.specs.Layout.{rest};
 ghost use Rattle.wellformed.specs.Survey.{Standing, StandingTwo, Passes, PassesTwo, Surveys};
 use exclusion::Before;
 use exclusion::Passed;
-use sets::labels::Rows;
+use matrix::Rows;
 
 // Past the statement at the front of s, which stands at the offset `at`.
 fn pass(

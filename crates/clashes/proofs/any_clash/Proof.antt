@@ -1,7 +1,7 @@
 use mathlib.Core.Path.{refl}
 use Rattle.esterel.proofs.Booleans as Booleans
 use Rattle.sets.specs.Labels.{labelSet}
-use Rattle.sets.specs.Rows.{rowOf}
+use Rattle.matrix.specs.Rows.{rowOf}
 use Rattle.sets.proofs.Members.{some-left, none-left, Seeking, seek, seek-on, seek-less}
 use Rattle.clashes.proofs.Clashes.{Clear, clear-end}
 use borrow.Author.Needs.{needs}

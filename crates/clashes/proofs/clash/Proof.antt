@@ -1,5 +1,5 @@
 use mathlib.Core.Path.{sym, _∙_}
-use Rattle.sets.specs.Rows.{rowOf}
+use Rattle.matrix.specs.Rows.{rowOf}
 use Rattle.clashes.proofs.Clashes.{clash-by, clash-at, in-row-never}
 use borrow.Author.Needs.{needs}
 use Rattle.clashes.proofs.clash.Statement.{statement}

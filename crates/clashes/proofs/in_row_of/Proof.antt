@@ -2,7 +2,7 @@ use mathlib.Core.Path.{_≡_, refl, sym, ap, _∙_}
 use mathlib.Core.Bool.{false}
 use Rattle.esterel.specs.Sets.{member}
 use Rattle.sets.specs.Labels.{labelSet}
-use Rattle.sets.specs.Rows.{rowOf}
+use Rattle.matrix.specs.Rows.{rowOf}
 use Rattle.sets.proofs.Members.{some-left, none-left, Seeking, seek, seek-on, seek-less, seek-hit, seek-end}
 use Rattle.clashes.proofs.Clashes.{in-row-end}
 use borrow.Author.Needs.{needs}

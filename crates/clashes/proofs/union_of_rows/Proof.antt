@@ -1,5 +1,5 @@
 use Rattle.sets.specs.Labels.{labelSet}
-use Rattle.sets.specs.Rows.{rowOf}
+use Rattle.matrix.specs.Rows.{rowOf}
 use Rattle.sets.proofs.Members.{some-left, none-left, Seeking, seek, seek-less}
 use Rattle.clashes.proofs.Clashes.{CoversRow, covers-on, covers-end}
 use borrow.Author.Needs.{needs}

@@ -10,7 +10,7 @@ use lib.Seq.{getD-set-same, getD-set-other}
 use borrow.Author.Tests.{eqb-true, eqb-false, lt-ltb, le-ltb}
 use Rattle.esterel.specs.Sets.{none, join}
 use Rattle.esterel.specs.LabelRows.{addRow}
-use Rattle.sets.specs.Rows.{rowBelow, addRowBelow, UpdatesBelow}
+use Rattle.matrix.specs.Rows.{rowBelow, addRowBelow, UpdatesBelow}
 
 pub row-here : (w k : ℕ) (m : List ℕ) → k < w → getD m k 0 ≡ rowBelow w m k
 unfolding rowBelow

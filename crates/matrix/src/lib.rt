@@ -1,0 +1,29 @@
+// A label set for each label: the rows of a matrix.
+ghost use mathlib.Core.Path.{_≡_};
+ghost use Rattle.sets.specs.Sets.{labelCount};
+ghost use Rattle.sets.specs.Labels.{labelSet};
+ghost use Rattle.matrix.specs.Rows.{rowOf, addRowBelow, Updates};
+use sets::labels::Labels;
+
+pub type Rows = [u64; limits::LABEL_COUNT];
+
+// Adds the labels of s to the row of k; a label outside the width has no row.
+pub fn add_row(rows: &mut Rows, k: u8, s: Labels)
+    ensures { λ _. ⌜ Updates (addRowBelow labelCount k (labelSet s)) (now (rows .entry)) (now (rows .exit)) ⌝ }
+{
+    if k < limits::LABELS {
+        let i = k as usize;
+        rows[i] = rows[i] | sets::labels::bits(s);
+    }
+}
+
+pub fn row(rows: &Rows, k: u8) -> Labels
+    ensures { λ r. ⌜ labelSet r ≡ rowOf (now (rows .entry)) k ⌝ }
+{
+    if k < limits::LABELS {
+        let i = k as usize;
+        sets::labels::from_bits(rows[i])
+    } else {
+        sets::labels::empty()
+    }
+}
