@@ -1,2 +1,1 @@
-pub mod LabelRow
 pub mod Verdicts

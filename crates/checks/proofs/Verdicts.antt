@@ -22,7 +22,8 @@ use Rattle.layout.proofs.Noting as Noting
 use Rattle.layout.proofs.Laid.{lies, ready}
 use Rattle.layout.specs.Known.{Known}
 use Rattle.wellformed.specs.Survey.{Standing}
-use Rattle.checks.specs.Verdict.{ByLabels, Judged}
+use Rattle.labelling.specs.Labelling.{ByLabels}
+use Rattle.checks.specs.Verdict.{Judged}
 
 never-sound {ℓ} : {A : Type ℓ} {k : ℕ} {p : Statement} → bad k ≡ sound p → A
 never-sound e = absurd (let z : _≡_ {A = ℕ} 0 1 = cc in omega arith)

@@ -1,0 +1,13 @@
+-- What the label rules give for the statement that lies in the bytes.
+use Prim.Native.Nat.{ℕ}
+use mathlib.Core.Path.{_≡_}
+use mathlib.Core.List.{List}
+use Rattle.esterel.specs.Statement.{Statement}
+use Rattle.limits.specs.Limits.{maxDepth}
+use Rattle.layout.specs.Layout.{Lies}
+use Rattle.layout.specs.Notes.{Noted}
+use Rattle.sequence.specs.Check.{labelRules, numberOf}
+
+-- r is the number that the label rules give the statement that lies there and was noted
+abbrev pub ByLabels : (bs notes : List ℕ) (r : ℕ) → Type 0
+ByLabels bs notes r = (t : List ℕ) (p : Statement) → Lies t maxDepth 0 0 bs p → Noted p notes → r ≡ numberOf (labelRules p)
