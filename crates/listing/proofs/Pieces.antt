@@ -16,10 +16,18 @@ use Rattle.runs.specs.Listing.{lineOf, rowIn, rowOf, ticked, isOver}
 use Rattle.runs.specs.Stages as Listing
 use Rattle.runs.proofs.Files.{input-next}
 use Rattle.listing.specs.declared.file.Opened.{Opened}
-use Rattle.listing.specs.declared.Stage.{Stage}
-use Rattle.listing.specs.declared.Stage.the-variants as stages
-use Rattle.listing.specs.declared.Run.{Run}
-use Rattle.listing.specs.Answers.{fileBy, stageBy, stageIn, stageAfter}
+use Rattle.stages.specs.declared.Stage.{Stage}
+use Rattle.stages.specs.declared.Stage.the-variants as stages
+use Rattle.stages.specs.declared.Run.{Run}
+use Rattle.stages.specs.Answers.{stageBy, stageIn, stageAfter}
+use Rattle.listing.specs.declared.Piece.{Piece}
+use Rattle.lines.specs.Shown.{Shows}
+use Rattle.listing.specs.Answers.{fileBy, Prints}
+
+-- a line with the text, and a run at the next stage
+pub printed : {text : List ℕ} (file : List ℕ) (piece : Piece) (next : Listing.Stage) → Shows (piece .line) text → stageIn file (piece .run) ≡ next
+    → Prints file (Listing.turn text next) piece
+printed file piece next s e = record { result = ap₂ Listing.turn (s .told) e; within = s .within; sized = s .sized }
 
 -- ---- an instant
 stage-after : (b : Bool) (file after : List ℕ) (i : ℕ)
@@ -44,7 +52,7 @@ ticked-at state e h k = h ∙ ap (λ (x : List ℕ). ticked x state e) k
 
 pub instant-turn : (file state after answer : List ℕ) (i e n : ℕ) → first (drop i (inputsIn file)) ≡ some e
     → outcome n after answer ≡ ticked (sequenceIn file) state e
-    → Listing.turn (lineOf (rowIn (i + 1) after answer)) (stageBy file (stageAfter (getD after 0 0) i) after)
+    → Listing.turn (lineOf (rowIn (i + 1) after answer)) (stageBy file (stageAfter (getD after 0 0) (i + 1)) after)
     ≡ Listing.turnOf (Listing.running (sequenceIn file) state (suc i) (drop i (inputsIn file)))
 instant-turn file state after answer i e n h o =
     let b : Bool = eqb (getD after 0 0) 2 in

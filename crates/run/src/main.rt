@@ -3,7 +3,7 @@
 // The listing is the library's, piece by piece; this program only reads, writes and counts its turns.
 use libc::STDIN_FILENO;
 use libc::STDOUT_FILENO;
-use listing::Run;
+use stages::Run;
 
 // One byte more than a file may have, so that a longer one is seen.
 const ROOM: usize = 65537;
@@ -15,15 +15,16 @@ const TURNS: usize = 65539;
 fn print_piece(file: &[u8], run: Run) -> Run {
     let piece = listing::turn(file, run);
     let line = piece.line;
-    let from = piece.from;
-    io::write_all(STDOUT_FILENO, &line[from..]);
+    let bytes = line.bytes;
+    let from = line.from;
+    io::write_all(STDOUT_FILENO, &bytes[from..]);
     piece.run
 }
 
 fn print_listing(file: &[u8]) {
-    let mut run = listing::start();
+    let mut run = stages::start();
     let mut turns = TURNS;
-    while turns > 0 && !listing::is_finished(run) {
+    while turns > 0 && !stages::is_finished(run) {
         run = print_piece(file, run);
         turns -= 1;
     }

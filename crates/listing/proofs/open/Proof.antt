@@ -1,4 +1,5 @@
 use mathlib.Core.Path.{subst}
+use Rattle.runs.specs.Text.{inputCut, refusal}
 use Rattle.runs.specs.Stages as Listing
 use Rattle.listing.specs.Answers.{Prints}
 use Rattle.listing.specs.declared.file.Opened.the-variants as opens
@@ -6,12 +7,6 @@ use Rattle.listing.proofs.Pieces.{opened-by}
 use borrow.Author.Needs.{needs}
 use Rattle.listing.proofs.open.Statement.{statement}
 use Rattle.listing.proofs.open.Tie as tie
-use Rattle.listing.proofs.open.Reads as reads
-use Rattle.listing.proofs.open.Lts as lts
-use Rattle.listing.proofs.file.open.Reads as open-reads
-use Rattle.listing.proofs.heading.Reads as heading-reads
-use Rattle.listing.proofs.last.Reads as last-reads
-use Rattle.listing.proofs.refused.Reads as refused-reads
 
 open-requires : tie.Need-open-requires
 open-requires c κs = search needs
@@ -19,8 +14,8 @@ open-requires c κs = search needs
 enum-told : tie.Need-enum-told
 enum-told c = search needs
 
-slice-aggregate-last : tie.Need-slice-aggregate-last
-slice-aggregate-last c = search needs
+cut-requires : tie.Need-cut-requires
+cut-requires c κs = search needs
 
 last-requires : tie.Need-last-requires
 last-requires c κs = search needs
@@ -28,8 +23,11 @@ last-requires c κs = search needs
 enum-known-number : tie.Need-enum-known-number
 enum-known-number c = search needs
 
-refused-requires : tie.Need-refused-requires
-refused-requires c κs = search needs
+refusal-requires : tie.Need-refusal-requires
+refusal-requires c κs = search needs
+
+last-requires-2 : tie.Need-last-requires-2
+last-requires-2 c κs = search needs
 
 enum-told-2 : tie.Need-enum-told-2
 enum-told-2 c = search needs
@@ -39,20 +37,21 @@ heading-requires c κs = search needs
 
 returns : tie.Need-returns
 returns c =
-    let f = c .before .before .before .before .before .before .args .file .now in
     let o = c .before .before .before .before in
-    subst (λ (t : Listing.Turn). Prints f t (c .last .result)) (opened-by f (o .«open» .result) opens.Cut (o .«open» .ensures) (c .before .before .enum-told .given .1)) (c .last .ensures f)
+    let f = o .before .before .args .file .now in
+    subst (λ (t : Listing.Turn). Prints f t (c .last .result)) (opened-by f (o .«open» .result) opens.Cut (o .«open» .ensures) (c .before .before .enum-told .given .1)) (c .last .ensures f inputCut (c .before .cut .ensures))
 
 returns-2 : tie.Need-returns-2
 returns-2 c =
-    let f = c .before .before .before .before .before .before .args .file .now in
-    let o = c .before .before .before .before in
-    subst (λ (t : Listing.Turn). Prints f t (c .refused .result)) (opened-by f (o .«open» .result) (opens.Refused (c .before .before .number .given .0 .0)) (o .«open» .ensures) (c .before .before .number .given .1)) (c .refused .ensures f)
+    let o = c .before .before .before .before .before in
+    let f = o .before .before .args .file .now in
+    let n = c .before .before .before .number .given in
+    subst (λ (t : Listing.Turn). Prints f t (c .last2 .result)) (opened-by f (o .«open» .result) (opens.Refused (n .0 .0)) (o .«open» .ensures) (n .1)) (c .last2 .ensures f (refusal (n .0 .0)) (c .before .refusal .ensures))
 
 returns-3 : tie.Need-returns-3
 returns-3 c =
-    let f = c .before .before .before .before .before .args .file .now in
     let o = c .before .before .before in
+    let f = o .before .before .args .file .now in
     subst (λ (t : Listing.Turn). Prints f t (c .heading .result)) (opened-by f (o .«open» .result) opens.Runs (o .«open» .ensures) (c .before .enum-told2 .given .1)) (c .heading .ensures f)
 
 pub open-spec : {M : Type 1} → statement M
@@ -61,10 +60,11 @@ open-spec =
     (tie.spec
     open-requires
     enum-told
-    slice-aggregate-last
+    cut-requires
     last-requires
     enum-known-number
-    refused-requires
+    refusal-requires
+    last-requires-2
     enum-told-2
     heading-requires
     returns

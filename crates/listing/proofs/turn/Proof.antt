@@ -1,16 +1,13 @@
 use mathlib.Core.Path.{_∙_, subst}
+use mathlib.Core.List.{[]}
+use Rattle.runs.specs.Text.{ending}
 use Rattle.runs.specs.Stages as Listing
+use Rattle.stages.specs.declared.Stage.the-variants as stages
 use Rattle.listing.specs.Answers.{Prints}
-use Rattle.listing.specs.declared.Stage.the-variants as stages
 use Rattle.listing.proofs.Pieces.{turn-by, turn-opening, turn-closing, turn-finished}
 use borrow.Author.Needs.{needs}
 use Rattle.listing.proofs.turn.Statement.{statement}
 use Rattle.listing.proofs.turn.Tie as tie
-use Rattle.listing.proofs.turn.Reads as reads
-use Rattle.listing.proofs.turn.Lts as lts
-use Rattle.listing.proofs.last.Reads as last-reads
-use Rattle.listing.proofs.open.Reads as open-reads
-use Rattle.listing.proofs.step.Reads as step-reads
 
 enum-told : tie.Need-enum-told
 enum-told c = search needs
@@ -27,8 +24,8 @@ step-requires c κs = search needs
 enum-told-2 : tie.Need-enum-told-2
 enum-told-2 c = search needs
 
-slice-aggregate-last : tie.Need-slice-aggregate-last
-slice-aggregate-last c = search needs
+ending-requires : tie.Need-ending-requires
+ending-requires c κs = search needs
 
 last-requires : tie.Need-last-requires
 last-requires c κs = search needs
@@ -36,8 +33,8 @@ last-requires c κs = search needs
 enum-told-3 : tie.Need-enum-told-3
 enum-told-3 c = search needs
 
-slice-aggregate-last-2 : tie.Need-slice-aggregate-last-2
-slice-aggregate-last-2 c = search needs
+nothing-requires : tie.Need-nothing-requires
+nothing-requires c κs = search needs
 
 last-requires-2 : tie.Need-last-requires-2
 last-requires-2 c κs = search needs
@@ -58,13 +55,13 @@ returns-3 : tie.Need-returns-3
 returns-3 c =
     let a = c .before .before .before .before .before .args in
     let f = a .file .now in
-    subst (λ (t : Listing.Turn). Prints f t (c .last .result)) (turn-closing ∙ turn-by f (a .run) stages.Closing (c .before .before .enum-told2 .given .1)) (c .last .ensures f)
+    subst (λ (t : Listing.Turn). Prints f t (c .last .result)) (turn-closing ∙ turn-by f (a .run) stages.Closing (c .before .before .enum-told2 .given .1)) (c .last .ensures f ending (c .before .ending .ensures))
 
 returns-4 : tie.Need-returns-4
 returns-4 c =
     let a = c .before .before .before .before .before .args in
     let f = a .file .now in
-    subst (λ (t : Listing.Turn). Prints f t (c .last2 .result)) (turn-finished ∙ turn-by f (a .run) stages.Finished (c .before .before .enum-told3 .given .1)) (c .last2 .ensures f)
+    subst (λ (t : Listing.Turn). Prints f t (c .last2 .result)) (turn-finished ∙ turn-by f (a .run) stages.Finished (c .before .before .enum-told3 .given .1)) (c .last2 .ensures f [] (c .before .nothing .ensures))
 
 pub turn-spec : {M : Type 1} → statement M
 turn-spec =
@@ -75,10 +72,10 @@ turn-spec =
     enum-known-stage
     step-requires
     enum-told-2
-    slice-aggregate-last
+    ending-requires
     last-requires
     enum-told-3
-    slice-aggregate-last-2
+    nothing-requires
     last-requires-2
     returns
     returns-2

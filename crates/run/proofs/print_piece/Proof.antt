@@ -17,7 +17,7 @@ part-write-all-start : tie.Need-part-write-all-start
 part-write-all-start c = search needs
 
 part-write-all-end : tie.Need-part-write-all-end
-part-write-all-end c = omega (arith, c .before .before .turn .ensures .sized)
+part-write-all-end c = omega (arith, c .before .before .before .turn .ensures .sized)
 
 write-all-requires : tie.Need-write-all-requires
 write-all-requires c κs = search needs

@@ -1,0 +1,41 @@
+-- Laws of the lines: the row of fields that the records hold, and the text that a buffer ends with.
+use Prim.Native.Nat.{ℕ, _+_}
+use native.Mathlib.Omega.{arith}
+use mathlib.Core.Path.{_≡_, ap, _∙_, subst}
+use mathlib.Core.List.{List, _++_, append-nil}
+use lib.ListN.{length, drop, drop-of-length-le}
+use Rattle.records.specs.Records.{labelsIn, codeIn, kindIn, placeIn, emittedIn}
+use Rattle.runs.specs.Listing.{numbersOf, setsOf, lineOf, rowIn}
+use Rattle.lines.specs.declared.Line.{Line}
+use Rattle.lines.specs.Buffer.{lineLength, Prepended}
+use Rattle.lines.specs.Shown.{Shows}
+use Rattle.lines.proofs.Buffers.{before}
+
+-- what a row reads of the records
+pub record Fields (state answer : List ℕ) (labels emitted place kind code : ℕ) : Type 0 where
+  pub labels-are : labels ≡ labelsIn state
+  pub emitted-are : emitted ≡ emittedIn answer
+  pub place-is : place ≡ placeIn answer
+  pub kind-is : kind ≡ kindIn answer
+  pub code-is : code ≡ codeIn answer
+
+row-text : {state answer : List ℕ} {labels emitted place kind code : ℕ} (instant : ℕ) → Fields state answer labels emitted place kind code
+    → numbersOf instant code kind place ++ setsOf emitted labels ≡ lineOf (rowIn instant state answer)
+unfolding lineOf
+row-text instant f = rw (f .labels-are, f .emitted-are, f .place-is, f .kind-is, f .code-is)
+
+-- a text that was put at the end of a buffer is the line's
+pub shown : {l text : List ℕ} (line : Line) → length l ≡ lineLength → length (line .bytes) ≡ length l
+    → Prepended l lineLength text (line .bytes) (line .from) → Shows line text
+shown {l} {text} line n k p =
+    let t : drop (line .from) (line .bytes) ≡ text
+    = p .shows ∙ ap (λ (r : List ℕ). text ++ r) (drop-of-length-le l {i = lineLength} (omega (arith, n))) ∙ append-nil text in
+    record { told = t; within = omega (arith, p .fits); sized = k ∙ n }
+
+-- a row: its numbers before its sets
+pub shown-row : {l m state answer : List ℕ} {at labels emitted place kind code : ℕ} (instant : ℕ) → Fields state answer labels emitted place kind code
+    → (line : Line) → length l ≡ lineLength → length (line .bytes) ≡ length l
+    → Prepended l lineLength (setsOf emitted labels) m at → Prepended m at (numbersOf instant code kind place) (line .bytes) (line .from)
+    → Shows line (lineOf (rowIn instant state answer))
+shown-row {l} instant f line n k p q =
+    shown line n k (subst (λ (t : List ℕ). Prepended l lineLength t (line .bytes) (line .from)) (row-text instant f) (before p q))

@@ -1,0 +1,13 @@
+-- A line and its text.
+use Prim.Native.Nat.{ℕ, _≤_}
+use mathlib.Core.Path.{_≡_}
+use mathlib.Core.List.{List}
+use lib.ListN.{length, drop}
+use Rattle.lines.specs.declared.Line.{Line}
+use Rattle.lines.specs.Buffer.{lineLength}
+
+-- the line has the text
+pub record Shows (line : Line) (text : List ℕ) : Type 0 where
+  pub told : drop (line .from) (line .bytes) ≡ text
+  pub within : line .from ≤ lineLength
+  pub sized : length (line .bytes) ≡ lineLength

@@ -1,0 +1,47 @@
+// The fields of a line: a numeral and the byte after it.
+ghost use Prim.Native.Nat.{_+_, _≤_};
+ghost use mathlib.Core.Path.{_≡_};
+ghost use mathlib.Core.List.{[], _∷_, _++_};
+ghost use lib.ListN.{length};
+ghost use Rattle.runs.specs.Text.{numeral};
+ghost use Rattle.runs.specs.Listing.{numbersOf, setsOf};
+ghost use Rattle.lines.specs.Buffer.{lineLength, Prepended};
+use crate::LINE_LENGTH;
+
+// Puts a numeral and the byte after it before `end`: at most 21 bytes.
+pub fn put_field(line: &mut [u8], end: usize, base: u64, width: usize, x: u64, after: u8) -> usize
+    requires { ⌜ (10 ≤ base) × (base ≤ 16) × (width ≤ 16) × (21 ≤ end) × (end ≤ length (now line)) ⌝ }
+    ensures { λ r. ⌜ Prepended (now (line .entry)) end (numeral base width x ++ after ∷ []) (now (line .exit)) r ⌝ }
+    ensures { λ r. ⌜ end ≤ r + 21 ⌝ }
+{
+    let at = crate::text::put_byte(line, end, after);
+    crate::text::put_numeral(line, at, base, width, x)
+}
+
+// The fields of a row that are numerals to the base 10, before `end`.
+pub fn put_numbers(
+    line: &mut [u8],
+    end: usize,
+    instant: u64,
+    code: u64,
+    kind: u64,
+    place: u64,
+) -> usize
+    requires { ⌜ (84 ≤ end) × (end ≤ length (now line)) ⌝ }
+    ensures { λ r. ⌜ Prepended (now (line .entry)) end (numbersOf instant code kind place) (now (line .exit)) r ⌝ }
+{
+    let mut at = put_field(line, end, 10, 1, place, b' ');
+    at = put_field(line, at, 10, 1, kind, b' ');
+    at = put_field(line, at, 10, 1, code, b' ');
+    put_field(line, at, 10, 1, instant, b' ')
+}
+
+// The fields of a row that are sets, at the end of the line.
+pub fn put_sets(line: &mut [u8], emitted: u64, labels: u64) -> usize
+    requires { ⌜ length (now line) ≡ lineLength ⌝ }
+    ensures { λ r. ⌜ Prepended (now (line .entry)) lineLength (setsOf emitted labels) (now (line .exit)) r ⌝ }
+    ensures { λ r. ⌜ 84 ≤ r ⌝ }
+{
+    let at = put_field(line, LINE_LENGTH, 16, 16, labels, b'\n');
+    put_field(line, at, 16, 8, emitted, b' ')
+}

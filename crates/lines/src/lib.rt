@@ -1,0 +1,96 @@
+// The lines of a listing (01, 'Bays to run'), each at the end of a buffer of its own.
+mod fields;
+mod text;
+
+ghost use Prim.Native.Nat.{_≤_};
+ghost use mathlib.Core.List.{[]};
+ghost use lib.ListN.{length};
+ghost use Rattle.runs.specs.Text.{inputCut};
+ghost use Rattle.runs.specs.Text.{heading as Text·heading, ending as Text·ending, refusal as Text·refusal};
+ghost use Rattle.runs.specs.Listing.{lineIn};
+ghost use Rattle.lines.specs.Buffer.{lineLength};
+ghost use Rattle.lines.specs.Shown.{Shows};
+
+// The bytes of a line's buffer.
+pub const LINE_LENGTH: usize = 128;
+
+// A line: its text is the bytes from `from` on. The greatest takes at most 118 bytes.
+pub struct Line {
+    pub bytes: [u8; LINE_LENGTH],
+    pub from: usize,
+}
+
+// The line of an instant, from the records that its tick left.
+pub fn row(instant: u64, state: &[u8], answer: &[u8]) -> Line
+    ensures { λ r. ⌜ Shows r (lineIn instant (now (state .entry)) (now (answer .entry))) ⌝ }
+{
+    let labels = sets::labels::bits(records::state::labels(state));
+    let emitted = records::answer::emitted(answer) as u64;
+    let place = records::answer::place(answer) as u64;
+    let kind = records::answer::kind(answer) as u64;
+    let code = records::answer::code(answer) as u64;
+    let mut bytes = [0u8; LINE_LENGTH];
+    let at = crate::fields::put_sets(&mut bytes, emitted, labels);
+    let from = crate::fields::put_numbers(&mut bytes, at, instant, code, kind, place);
+    Line {
+        bytes: bytes,
+        from: from,
+    }
+}
+
+// The line for a sequence that the check turns down.
+pub fn refusal(number: u8) -> Line
+    ensures { λ r. ⌜ Shows r (Text·refusal number) ⌝ }
+{
+    let mut bytes = [0u8; LINE_LENGTH];
+    let at = crate::fields::put_field(&mut bytes, LINE_LENGTH, 10, 1, number as u64, b'\n');
+    let from = crate::text::put_text(&mut bytes, at, b"refused ");
+    Line {
+        bytes: bytes,
+        from: from,
+    }
+}
+
+// The line for a file that is not whole.
+pub fn cut() -> Line
+    ensures { λ r. ⌜ Shows r inputCut ⌝ }
+{
+    fixed(b"input cut\n")
+}
+
+// The first line of a run.
+pub fn heading() -> Line
+    ensures { λ r. ⌜ Shows r Text·heading ⌝ }
+{
+    fixed(b"instant code kind place emitted labels\n")
+}
+
+// The last line of a run.
+pub fn ending() -> Line
+    ensures { λ r. ⌜ Shows r Text·ending ⌝ }
+{
+    fixed(b"end\n")
+}
+
+// No line: an empty text.
+pub fn nothing() -> Line
+    ensures { λ r. ⌜ Shows r [] ⌝ }
+{
+    Line {
+        bytes: [0; LINE_LENGTH],
+        from: LINE_LENGTH,
+    }
+}
+
+// A line that never changes.
+fn fixed(words: &[u8]) -> Line
+    requires { ⌜ length (now words) ≤ lineLength ⌝ }
+    ensures { λ r. ⌜ Shows r (now (words .entry)) ⌝ }
+{
+    let mut bytes = [0u8; LINE_LENGTH];
+    let from = crate::text::put_text(&mut bytes, LINE_LENGTH, words);
+    Line {
+        bytes: bytes,
+        from: from,
+    }
+}
