@@ -22,13 +22,13 @@ fn sequence_length(file: &[u8]) -> usize
     ensures { λ r. ⌜ r ≡ sequenceLength (now (file .entry)) ⌝ }
     ensures { λ r. ⌜ r < 65536 ⌝ }
 {
-    records::le::get_le(file, 0, LENGTH_BYTES) as usize
+    numbers::get_le(file, 0, LENGTH_BYTES) as usize
 }
 
 pub fn sequence(file: &[u8]) -> &[u8]
     ensures { λ r. ⌜ now r ≡ sequenceIn (now (file .entry)) ⌝ }
 {
-    records::le::part(file, LENGTH_BYTES, sequence_length(file))
+    numbers::part(file, LENGTH_BYTES, sequence_length(file))
 }
 
 pub fn is_whole(file: &[u8]) -> bool
@@ -60,5 +60,5 @@ pub fn input_at(file: &[u8], i: usize) -> Input
     if (n - at) / SIGNAL_BYTES <= i {
         return Input::Nothing;
     }
-    Input::Word(records::le::get_le(file, at + SIGNAL_BYTES * i, SIGNAL_BYTES) as u32)
+    Input::Word(numbers::get_le(file, at + SIGNAL_BYTES * i, SIGNAL_BYTES) as u32)
 }

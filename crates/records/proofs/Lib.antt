@@ -1,6 +1,4 @@
-pub mod Bytes
-pub mod LeLoops
-pub mod Parts
+pub mod Writing
 pub mod Stores
 pub mod RecordLaws
 pub mod Theorems

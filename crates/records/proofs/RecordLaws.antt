@@ -14,10 +14,10 @@ use Rattle.esterel.specs.LabelTests.{valid}
 use Rattle.esterel.specs.Resume.{instant}
 use Rattle.esterel.specs.Machines.{shown, State}
 use Rattle.esterel.proofs.LabelTests.{valid-is}
-use Rattle.records.specs.Bytes.{leBytes, leNumber}
+use Rattle.numbers.specs.Bytes.{leBytes, leNumber}
 use Rattle.limits.specs.Limits.{labelBytes, placeBytes, signalBytes}
 use Rattle.records.specs.Records.{stateLength, answerLength, stateRecord, encodeState, holds, malformed, decodeState, codeByte, answerRecord, codeIn, kindIn, placeIn, emittedIn, encodeAnswer}
-use Rattle.records.proofs.Bytes.{length-leBytes, le-round-trip}
+use Rattle.numbers.proofs.Bytes.{length-leBytes, le-round-trip}
 
 -- ---- states: valid, with labels that fit the record
 abbrev pub Recorded : Statement → State → Type 0

@@ -7,12 +7,12 @@ use mathlib.Core.List.{List, _∷_, _++_}
 use lib.ListN.{length}
 use lib.Seq.{sets}
 use borrow.Author.Tests.{eq-eqb, ne-eqb}
-use Rattle.records.specs.Bytes.{leBytes}
+use Rattle.numbers.specs.Bytes.{leBytes}
 use Rattle.limits.specs.Limits.{labelBytes, placeBytes, signalBytes}
 use Rattle.records.specs.Records.{stateLength, answerLength, emittedAt, replaced, stateRecord, answerRecord}
-use Rattle.records.proofs.Bytes.{length-leBytes}
+use Rattle.numbers.proofs.Bytes.{length-leBytes}
 use Rattle.records.proofs.RecordLaws.{state-sized, answer-sized}
-use Rattle.records.proofs.LeLoops.{sets-whole, sets-append}
+use Rattle.records.proofs.Writing.{sets-whole, sets-append}
 
 -- ---- buffers
 module _ (n : ℕ) (b r : List ℕ) (sized : length r ≡ n) where

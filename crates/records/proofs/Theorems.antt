@@ -8,10 +8,10 @@ use Rattle.esterel.specs.Reaction.{Code, gives}
 use Rattle.esterel.specs.Errors.{Error, blame}
 use Rattle.esterel.specs.Resume.{instant}
 use Rattle.esterel.specs.Machines.{shown, State}
-use Rattle.records.specs.Bytes.{leBytes, leNumber}
+use Rattle.numbers.specs.Bytes.{leBytes, leNumber}
 use Rattle.limits.specs.Limits.{placeBytes, signalBytes}
 use Rattle.records.specs.Records.{stateLength, answerLength, encodeState, holds, decodeState, codeByte, codeIn, kindIn, placeIn, emittedIn, encodeAnswer}
-use Rattle.records.proofs.Bytes as bytes
+use Rattle.numbers.proofs.Bytes as bytes
 use Rattle.records.proofs.RecordLaws.{Recorded}
 use Rattle.records.proofs.RecordLaws as laws
 

@@ -12,7 +12,7 @@ use Rattle.esterel.specs.LabelTests.{valid}
 use Rattle.esterel.specs.Resume.{Instant, instant}
 use Rattle.esterel.specs.Machines.{shown, State}
 use Rattle.limits.specs.Limits.{labelBytes, placeBytes, signalBytes}
-use Rattle.records.specs.Bytes.{leBytes, leNumber}
+use Rattle.numbers.specs.Bytes.{leBytes, leNumber}
 
 -- ---- layout: where a field of several bytes begins, and the lengths
 abbrev pub labelsAt : ℕ

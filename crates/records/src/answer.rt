@@ -22,13 +22,13 @@ pub fn kind(answer: &[u8]) -> u8
 pub fn place(answer: &[u8]) -> u16
     ensures { λ r. ⌜ r ≡ placeIn (now (answer .entry)) ⌝ }
 {
-    crate::le::get_le(answer, PLACE_AT, PLACE_BYTES) as u16
+    numbers::get_le(answer, PLACE_AT, PLACE_BYTES) as u16
 }
 
 pub fn emitted(answer: &[u8]) -> u32
     ensures { λ r. ⌜ r ≡ emittedIn (now (answer .entry)) ⌝ }
 {
-    crate::le::get_le(answer, EMITTED_AT, SIGNAL_BYTES) as u32
+    numbers::get_le(answer, EMITTED_AT, SIGNAL_BYTES) as u32
 }
 
 // A buffer of another length is left as it is.

@@ -3,7 +3,7 @@ ghost use mathlib.Core.Path.{_≡_};
 ghost use Prim.Native.Nat.{_+_, _≤_};
 ghost use lib.ListN.{length, getD};
 ghost use lib.Seq.{sets};
-ghost use Rattle.records.specs.Bytes.{leBytes};
+ghost use Rattle.numbers.specs.Bytes.{leBytes};
 
 // The byte at an index, or 0 behind the end.
 pub fn byte_at(b: &[u8], at: usize) -> u8

@@ -1,6 +1,5 @@
-// Numbers as bytes, and the records that a host lends: the state of a machine, the answer of an instant.
+// The records that a host lends: the state of a machine, the answer of an instant.
 pub mod answer;
 mod fields;
 pub mod layout;
-pub mod le;
 pub mod state;

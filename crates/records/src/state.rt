@@ -16,7 +16,7 @@ pub fn phase(state: &[u8]) -> u8
 pub fn labels(state: &[u8]) -> Labels
     ensures { λ r. ⌜ labelSet r ≡ labelsIn (now (state .entry)) ⌝ }
 {
-    sets::labels::from_bits(crate::le::get_le(state, LABELS_AT, LABEL_BYTES))
+    sets::labels::from_bits(numbers::get_le(state, LABELS_AT, LABEL_BYTES))
 }
 
 // A buffer of another length is left as it is.

@@ -9,7 +9,7 @@ use Rattle.esterel.specs.Expansion.{expand}
 use Rattle.sequence.specs.Commands.{commandOf}
 use Rattle.sequence.specs.Reader.{front, read}
 use Rattle.sequence.specs.Check.{checked, checkOf}
-use Rattle.records.specs.Bytes.{leBytes, leNumber}
+use Rattle.numbers.specs.Bytes.{leBytes, leNumber}
 use Rattle.records.specs.Records.{encodeState, decodeState, encodeAnswer}
 use Rattle.demands.specs.Tick.{tickOf}
 use Rattle.runs.specs.Text.{numeralIn, numeral}

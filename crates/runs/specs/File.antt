@@ -6,7 +6,7 @@ use mathlib.Core.List.{List, [], _∷_}
 use lib.ListN.{length, take, drop}
 use lib.Dec.{eqb, leb}
 use Rattle.sequence.specs.Check.{checkOf}
-use Rattle.records.specs.Bytes.{leNumber}
+use Rattle.numbers.specs.Bytes.{leNumber}
 use Rattle.limits.specs.Limits.{signalBytes}
 
 abbrev pub lengthBytes : ℕ

@@ -5,7 +5,7 @@ use Rattle.files.proofs.input_at.Statement.{statement}
 use Rattle.files.proofs.input_at.Tie as tie
 use Rattle.files.proofs.input_at.Reads as reads
 use Rattle.files.proofs.input_at.Lts as lts
-use Rattle.records.proofs.le.get_le.Reads as get-le-reads
+use Rattle.numbers.proofs.get_le.Reads as get-le-reads
 use Rattle.files.proofs.sequence_length.Reads as sequence-length-reads
 
 sequence-length-requires : tie.Need-sequence-length-requires

@@ -4,7 +4,7 @@ use Rattle.files.proofs.sequence.Statement.{statement}
 use Rattle.files.proofs.sequence.Tie as tie
 use Rattle.files.proofs.sequence.Reads as reads
 use Rattle.files.proofs.sequence.Lts as lts
-use Rattle.records.proofs.le.part.Reads as part-reads
+use Rattle.numbers.proofs.part.Reads as part-reads
 use Rattle.files.proofs.sequence_length.Reads as sequence-length-reads
 
 sequence-length-requires : tie.Need-sequence-length-requires

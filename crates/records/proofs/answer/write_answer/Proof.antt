@@ -4,7 +4,7 @@ use mathlib.Core.Path.{ap, _∙_}
 use mathlib.Core.List.{List}
 use lib.ListN.{length-set}
 use lib.Seq.{sets}
-use Rattle.records.specs.Bytes.{leBytes}
+use Rattle.numbers.specs.Bytes.{leBytes}
 use Rattle.limits.specs.Limits.{signalBytes}
 use Rattle.records.specs.Records.{answerLength, answerRecord}
 use Rattle.records.proofs.Stores.{left-alone, answer-stored}

@@ -1,12 +1,12 @@
-use Rattle.records.proofs.LeLoops.{put-end}
+use Rattle.records.proofs.Writing.{put-end}
 use borrow.Author.Needs.{needs}
 use Prim.Native.Nat.{_+_}
 use mathlib.Core.Path.{_≡_, refl, _∙_}
 use native.Mathlib.Omega.{arith}
 use lib.ListN.{length, length-set}
 use lib.Seq.{sets}
-use Rattle.records.specs.Bytes.{leBytes}
-use Rattle.records.proofs.LeLoops.{put-step}
+use Rattle.numbers.specs.Bytes.{leBytes}
+use Rattle.records.proofs.Writing.{put-step}
 use Rattle.records.proofs.fields.put_le.Statement.{statement}
 use Rattle.records.proofs.fields.put_le.Tie as tie
 use Rattle.records.proofs.fields.put_le.Reads as reads

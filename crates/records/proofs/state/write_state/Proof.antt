@@ -4,7 +4,7 @@ use mathlib.Core.Path.{ap, _∙_}
 use lib.ListN.{set, length-set}
 use lib.Seq.{sets}
 use Rattle.sets.specs.Labels.{labelSet}
-use Rattle.records.specs.Bytes.{leBytes}
+use Rattle.numbers.specs.Bytes.{leBytes}
 use Rattle.limits.specs.Limits.{labelBytes}
 use Rattle.records.specs.Records.{stateLength, stateRecord}
 use Rattle.records.proofs.Stores.{left-alone, state-stored}

@@ -1,17 +1,17 @@
-use Rattle.records.proofs.LeLoops.{get-bound, get-again, get-start, get-end}
+use Rattle.numbers.proofs.Reading.{get-bound, get-again, get-start, get-end}
 use Prim.Native.Nat.{ℕ, _*_, _^_, _<_}
 use borrow.Author.Needs.{needs}
 use Prim.Native.Nat.{_+_, _-_, _≤_}
 use mathlib.Core.Path.{_≡_, sym, ap, _∙_, subst}
 use native.Mathlib.Omega.{arith}
 use lib.ListN.{take, drop}
-use Rattle.records.specs.Bytes.{leNumber}
-use Rattle.records.proofs.LeLoops.{leNumber-lt}
-use Rattle.records.proofs.le.read_le.Statement.{statement}
-use Rattle.records.proofs.le.read_le.Tie as tie
-use Rattle.records.proofs.le.read_le.Reads as reads
-use Rattle.records.proofs.le.read_le.Lts as lts
-use Rattle.records.proofs.le.wide.Reads as wide-reads
+use Rattle.numbers.specs.Bytes.{leNumber}
+use Rattle.numbers.proofs.Reading.{leNumber-lt}
+use Rattle.numbers.proofs.read_le.Statement.{statement}
+use Rattle.numbers.proofs.read_le.Tie as tie
+use Rattle.numbers.proofs.read_le.Reads as reads
+use Rattle.numbers.proofs.read_le.Lts as lts
+use Rattle.numbers.proofs.wide.Reads as wide-reads
 
 abbrev Inv-loop : tie.InvT-loop
 Inv-loop b at n x₀ k₀ x k = (k ≤ n) × (x ≡ leNumber (take (n - k) (drop (at + k) b)))

@@ -1,8 +1,8 @@
-// Numbers read from bytes, lowest first.
+// Numbers as bytes, lowest first (01): how they are read.
 ghost use mathlib.Core.Path.{_≡_};
 ghost use Prim.Native.Nat.{_+_, _^_, _≤_, _<_};
 ghost use lib.ListN.{length, take, drop};
-ghost use Rattle.records.specs.Bytes.{leNumber, atMost8, numberAt};
+ghost use Rattle.numbers.specs.Bytes.{leNumber, atMost8, numberAt};
 
 fn wide(x: u8) -> u64
     ensures { λ r. ⌜ r ≡ x ⌝ }

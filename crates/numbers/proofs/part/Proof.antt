@@ -1,9 +1,9 @@
-use Rattle.records.proofs.Parts.{part-none, part-rest, part-front}
+use Rattle.numbers.proofs.Parts.{part-none, part-rest, part-front}
 use borrow.Author.Needs.{needs}
-use Rattle.records.proofs.le.part.Statement.{statement}
-use Rattle.records.proofs.le.part.Tie as tie
-use Rattle.records.proofs.le.part.Reads as reads
-use Rattle.records.proofs.le.part.Lts as lts
+use Rattle.numbers.proofs.part.Statement.{statement}
+use Rattle.numbers.proofs.part.Tie as tie
+use Rattle.numbers.proofs.part.Reads as reads
+use Rattle.numbers.proofs.part.Lts as lts
 
 sub-result : tie.Need-sub-result
 sub-result c = search needs
