@@ -1,14 +1,14 @@
 // The lines of the file of vectors: each is read with the sequence that the lines before it gave.
 ghost use Prim.Native.Nat.{_≤_};
 ghost use lib.ListN.{length};
-use crate::print;
-use crate::room::Bytes;
-use crate::room::MALFORMED;
-use crate::room::ROOM;
-use crate::room::append;
-use crate::room::repeat;
-use crate::room::zeros;
 use crate::ticks::run;
+use notation::print;
+use notation::room::Bytes;
+use notation::room::MALFORMED;
+use notation::room::ROOM;
+use notation::room::append;
+use notation::room::repeat;
+use notation::room::zeros;
 use records::layout::ANSWER_LENGTH;
 use records::layout::STATE_LENGTH;
 

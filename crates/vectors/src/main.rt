@@ -6,9 +6,6 @@
 // sequence, or the inputs of a machine. The file stdin shows each form at its top. A malformed line ends the run with a line
 // that says which one it is.
 mod lines;
-mod numbers;
-mod print;
-mod room;
 mod ticks;
 
 use libc::STDIN_FILENO;
@@ -20,7 +17,7 @@ fn main() {
     let mut space = io::large_buffer();
     let count = io::read_full(STDIN_FILENO, &mut space);
     if count == ROOM {
-        print::text(b"file too long\n");
+        notation::print::text(b"file too long\n");
         return;
     }
     lines::all(&space[..count]);

@@ -1,11 +1,11 @@
 // Machines that tick on given inputs, and the lines of their calls.
-use crate::numbers::NONE;
-use crate::numbers::number;
-use crate::print;
-use crate::room::Bytes;
-use crate::room::MALFORMED;
-use crate::room::ROOM;
-use crate::room::zeros;
+use notation::print;
+use notation::room::Bytes;
+use notation::room::MALFORMED;
+use notation::room::ROOM;
+use notation::room::zeros;
+use notation::words::NONE;
+use notation::words::word;
 
 // What stands in an answer record before a call.
 const UNWRITTEN: u8 = 0xA5;
@@ -94,14 +94,14 @@ pub fn run(
     let mut at = from;
     let mut instant: u64 = 0;
     while at < line.len() {
-        let end = bytes::scan::find(line, at + 1, line.len(), b' ');
-        let input = number(line, at, end, 16);
+        let word = word(line, at);
+        let input = word.value;
         if NONE <= input {
             return zeros(MALFORMED);
         }
         instant += 1;
         state = tick(sequence, state, answer_length, instant, input as u32);
-        at = end;
+        at = word.end;
     }
     sequence
 }

@@ -13,14 +13,8 @@ abbrev μ-loop : tie.MeasureT-loop
 loop-holds : tie.Need-loop-holds Inv-loop μ-loop
 loop-holds c = search needs
 
-add-find : tie.Need-add-find Inv-loop μ-loop
-add-find c = search needs
-
-find-requires : tie.Need-find-requires Inv-loop μ-loop
-find-requires c κs = search needs
-
-number-requires : tie.Need-number-requires Inv-loop μ-loop
-number-requires c κs = search needs
+word-requires : tie.Need-word-requires Inv-loop μ-loop
+word-requires c κs = search needs
 
 zeros-requires : tie.Need-zeros-requires Inv-loop μ-loop
 zeros-requires c κs = search needs
@@ -53,9 +47,7 @@ run-spec =
     Inv-loop
     μ-loop
     loop-holds
-    add-find
-    find-requires
-    number-requires
+    word-requires
     zeros-requires
     returns
     add-instant

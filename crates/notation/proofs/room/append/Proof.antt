@@ -1,8 +1,8 @@
 use borrow.Author.Needs.{needs}
 use Prim.Native.Nat.{_-_}
 use lib.ListN.{length}
-use Rattle.vectors.proofs.room.append.Statement.{statement}
-use Rattle.vectors.proofs.room.append.Tie as tie
+use Rattle.notation.proofs.room.append.Statement.{statement}
+use Rattle.notation.proofs.room.append.Tie as tie
 
 abbrev Inv-loop : tie.InvT-loop
 Inv-loop line from after₀ at₀ after at = Unit {0}
@@ -13,14 +13,8 @@ abbrev μ-loop : tie.MeasureT-loop
 loop-holds : tie.Need-loop-holds Inv-loop μ-loop
 loop-holds c = search needs
 
-add-find : tie.Need-add-find Inv-loop μ-loop
-add-find c = search needs
-
-find-requires : tie.Need-find-requires Inv-loop μ-loop
-find-requires c κs = search needs
-
-number-requires : tie.Need-number-requires Inv-loop μ-loop
-number-requires c κs = search needs
+word-requires : tie.Need-word-requires Inv-loop μ-loop
+word-requires c κs = search needs
 
 push-requires : tie.Need-push-requires Inv-loop μ-loop
 push-requires c κs = search needs
@@ -41,9 +35,7 @@ append-spec =
     Inv-loop
     μ-loop
     loop-holds
-    add-find
-    find-requires
-    number-requires
+    word-requires
     push-requires
     loop-less
     loop-again

@@ -2,8 +2,8 @@ use borrow.Author.Needs.{needs}
 use Prim.Native.Nat.{ℕ, _*_, _≤_, _<_}
 use native.Mathlib.Nat.{mul-le-mul}
 use native.Mathlib.Omega.{arith}
-use Rattle.vectors.proofs.numbers.extended.Statement.{statement}
-use Rattle.vectors.proofs.numbers.extended.Tie as tie
+use Rattle.notation.proofs.digits.extended.Statement.{statement}
+use Rattle.notation.proofs.digits.extended.Tie as tie
 
 -- One digit more behind a number of seven.
 bounded : {value base : ℕ} → value < 268435456 → base ≤ 16 → value * base ≤ 4294967296

@@ -16,22 +16,13 @@ fn decimal(number: u64) {
     io::print_decimal(STDOUT_FILENO, number);
 }
 
-// A number to the base 16, with a space before it.
-fn hexadecimal(number: u64, width: usize) {
-    text(b" ");
-    io::print_hex(STDOUT_FILENO, number, width);
-}
-
-// The line of an instant: its number, code, kind, place, emitted set and the labels of the next state.
+// The line of an instant, behind two spaces.
 pub fn instant(number: u64, state: &[u8], answer: &[u8]) {
-    text(b" ");
-    decimal(number);
-    decimal(records::answer::code(answer) as u64);
-    decimal(records::answer::kind(answer) as u64);
-    decimal(records::answer::place(answer) as u64);
-    hexadecimal(records::answer::emitted(answer) as u64, 8);
-    hexadecimal(sets::labels::bits(records::state::labels(state)), 16);
-    text(b"\n");
+    let line = lines::row(number, state, answer);
+    let bytes = line.bytes;
+    let from = line.from;
+    text(b"  ");
+    text(&bytes[from..]);
 }
 
 // The line of a call that was turned down.

@@ -1,5 +1,6 @@
 // The bytes that lines of the file give.
-use crate::numbers::number;
+use crate::digits::number;
+use crate::words::word;
 
 // Room for the longest sequence that a vector has, and more.
 pub const ROOM: usize = 2048;
@@ -39,9 +40,9 @@ pub fn append(line: &[u8], from: usize, before: Bytes) -> Bytes {
     let mut after = before;
     let mut at = from;
     while at < line.len() {
-        let end = bytes::scan::find(line, at + 1, line.len(), b' ');
-        after = push(after, number(line, at, end, 16));
-        at = end;
+        let word = word(line, at);
+        after = push(after, word.value);
+        at = word.end;
     }
     after
 }

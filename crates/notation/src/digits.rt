@@ -1,9 +1,7 @@
-// The numbers on a line: words of digits, each with a space before it.
+// The digits of a number.
 ghost use Prim.Native.Nat.{_<_, _≤_};
 ghost use lib.ListN.{length};
-
-// More than any number that a line may name: what stands there is no number.
-pub const NONE: u64 = 0x100000000;
+use crate::words::NONE;
 
 // The number that `value` becomes with one digit more behind it; it has at most eight digits.
 fn extended(value: u64, byte: u8, base: u64) -> u64

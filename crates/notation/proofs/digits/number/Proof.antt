@@ -1,7 +1,7 @@
 use borrow.Author.Needs.{needs}
 use Prim.Native.Nat.{_-_}
-use Rattle.vectors.proofs.numbers.number.Statement.{statement}
-use Rattle.vectors.proofs.numbers.number.Tie as tie
+use Rattle.notation.proofs.digits.number.Statement.{statement}
+use Rattle.notation.proofs.digits.number.Tie as tie
 
 abbrev Inv-loop : tie.InvT-loop
 Inv-loop line at end base i₀ value₀ i value = Unit {0}

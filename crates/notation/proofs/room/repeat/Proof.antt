@@ -1,6 +1,6 @@
 use borrow.Author.Needs.{needs}
-use Rattle.vectors.proofs.room.repeat.Statement.{statement}
-use Rattle.vectors.proofs.room.repeat.Tie as tie
+use Rattle.notation.proofs.room.repeat.Statement.{statement}
+use Rattle.notation.proofs.room.repeat.Tie as tie
 
 abbrev Inv-loop : tie.InvT-loop
 Inv-loop line from end times₀ after₀ times after = Unit {0}
