@@ -9,11 +9,12 @@ SANITIZED = $(WARNED) -O1 -g -fsanitize=address,undefined -fno-sanitize-recover
 # Where a function begins in its cache line changes its time by a tenth.
 OPTIMIZED = $(WARNED) -O2 -falign-functions=64
 TIMED = $(OPTIMIZED) -DBUILT_BY='"$(OPTIMIZED)"'
-CARGO = cargo run --release --offline --quiet --target-dir target/cargo --manifest-path
+CARGO_WORDS = --release --offline --quiet --target-dir target/cargo --manifest-path
+CARGO = cargo run $(CARGO_WORDS)
 SOURCES := crates.txt $(shell find crates -name '*.rt' -o -name '*.antt')
 
-.PHONY: help run show test host host-rust host-c host-tick-rust host-tick-c host-example host-stack host-archive host-plain show-test \
-	bench bench-check bench-tick bench-run
+.PHONY: help run show test host host-rust host-c host-tick-rust host-tick-c host-example host-stack host-archive host-built host-plain \
+	show-test bench bench-check bench-tick bench-run
 
 help: # lists the targets
 	@sed -n 's/^\([a-z-]*\):[^#]*# /\1: /p' Makefile
@@ -55,6 +56,10 @@ host-stack: $(INTAKE_ARCHIVE) # measures the stack of a call at the greatest dep
 
 host-archive: $(INTAKE_ARCHIVE) # shows the read-only data of the archive: jump tables and no constant array
 	host/archive_test.py $(INTAKE_ARCHIVE)
+
+host-built: $(INTAKE_ARCHIVE) # builds the archive and the host tests in Rust
+	cargo build $(CARGO_WORDS) host/tick/Cargo.toml
+	cargo build $(CARGO_WORDS) host/check/Cargo.toml
 
 host-plain: target/plain/libintake.a # runs the host tests against plain C, with which the benchmarks compare
 	$(MAKE) host-rust host-c host-tick-rust host-tick-c INTAKE_ARCHIVE=target/plain/libintake.a
