@@ -9,7 +9,7 @@ use lib.Dec.{eqb}
 use borrow.Author.Tests.{eqb-true, eqb-false}
 use Rattle.esterel.specs.Sets.{none}
 use Rattle.esterel.specs.Statement.{Statement}
-use Rattle.esterel.specs.Reaction.{code, react}
+use Rattle.esterel.specs.Reaction.{code, react, inheritanceFirst}
 use Rattle.esterel.specs.Errors.{firstError}
 use Rattle.esterel.specs.States.{NoSetpause}
 use Rattle.esterel.specs.Expansion.{expand}
@@ -56,7 +56,7 @@ module _ (sequence : List ℕ) (a : Accepted sequence) (plain : NoSetpause (a .s
       record { state = s; same = ap (turnedDown 1) (same-phase s w h); bytes = refl; term = h; recorded = r }
 
   tick-related : (s : State) (w : Rewriting) → TermOf p s w → Recorded p s → (e : ℕ) (buffer : List ℕ)
-      → Related (byState p (holds s) (encodeState s) e buffer) (reportOf (byRewriting w e .0), byRewriting w e .1)
+      → Related (byState inheritanceFirst p (holds s) (encodeState s) e buffer) (reportOf (byRewriting w e .0), byRewriting w e .1)
   tick-related State.fresh w h r e buffer =
       let t = step p (a .source) (a .distinct) plain State.fresh w h e in
       record {

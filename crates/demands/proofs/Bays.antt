@@ -5,8 +5,8 @@ use mathlib.Core.Logic.{⊎-elim}
 use mathlib.Core.List.{List, [], _∷_, map, List·Memᴰ, List·Memᴰ·not-nil, List·Memᴰ·cases-cons}
 use lib.ListN.{length, replicate}
 use Rattle.esterel.specs.Sets.{none, only, member, join, insert, remove}
-use Rattle.esterel.specs.Reaction.{react}
-use Rattle.esterel.specs.Errors.{errors}
+use Rattle.esterel.specs.Reaction.{reactBy}
+use Rattle.esterel.specs.Errors.{errorsBy}
 use Rattle.esterel.specs.LabelTests.{subset, disjoint, labelsOf, everyLabel, distinct, before, wellFormed, valid}
 use Rattle.esterel.specs.States.{active}
 use Rattle.esterel.specs.Expansion.{expand}
@@ -15,7 +15,7 @@ use Rattle.sequence.specs.Reader.{front, read}
 use Rattle.sequence.specs.Check.{checked}
 use Rattle.records.specs.Bytes.{leBytes, leNumber}
 use Rattle.records.specs.Records.{answerLength, encodeState, decodeState, encodeAnswer}
-use Rattle.demands.specs.Tick.{Outcome, outcome, tickOf}
+use Rattle.demands.specs.Tick.{Outcome, outcome, tickBy, tickOf}
 use Rattle.demands.specs.Paper.{Call}
 use Rattle.demands.specs.Demands.{stateAfterwards, outcomes, cleared}
 use Rattle.demands.specs.Bays.{Bay, Instant, table, shownBy, instants, ShowsBay}
@@ -53,7 +53,7 @@ row-of (a ∷ bs) buffer h b m =
 
 module _ (buffer : List ℕ) (sized : length buffer ≡ answerLength) where
   all-rows : EachShows table buffer
-  unfolding table outcomes tickOf checked read front commandOf distinct wellFormed everyLabel before labelsOf valid subset disjoint active expand decodeState encodeState encodeAnswer leNumber leBytes react errors member none only join insert remove
+  unfolding table outcomes tickBy checked read front commandOf distinct wellFormed everyLabel before labelsOf valid subset disjoint active expand decodeState encodeState encodeAnswer leNumber leBytes reactBy errorsBy member none only join insert remove
   all-rows = (rw sized, (rw sized, (rw sized, (rw sized, (rw sized, (for-ever _ buffer waiting (rw sized) (rw sized), (rw sized, (rw sized, (rw sized, (rw sized, (for-ever _ buffer waiting (rw sized) (rw sized), tt)))))))))))
 
 -- THE STARRED BAYS: each row of the table, for any answer buffer of the right length

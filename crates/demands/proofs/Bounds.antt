@@ -9,7 +9,7 @@ use lib.Dec.{eqb}
 use borrow.Author.Tests.{eqb-true}
 use Rattle.esterel.specs.Sets.{member, none, only, join, insert, remove}
 use Rattle.esterel.specs.Statement.{Statement, nothing, pause, emit, exit, seq, par, loop, present, signal, try, setpause, suspend, held}
-use Rattle.esterel.specs.Reaction.{ended, waiting, leaving, wrong, Reaction, gives, emitted, inSeq, inPar, inLoop, inTry, inSuspend, stopped, Case, both, neither, only−, only+, inherited, caseOf, answer, react, Code, code, greater}
+use Rattle.esterel.specs.Reaction.{ended, waiting, leaving, wrong, Reaction, gives, emitted, inSeq, inPar, inLoop, inTry, inSuspend, stopped, Case, both, neither, only−, only+, inherited, caseOf, answer, react, Code, code, greater, inheritanceFirst, reactBy}
 use Rattle.esterel.specs.States.{active}
 use Rattle.esterel.specs.LabelTests.{activeLabels}
 use Rattle.esterel.specs.Expansion.{expand}
@@ -155,7 +155,7 @@ suspend-emits : (s : ℕ) (r : Reaction) → Emits r → Emits (inSuspend s r)
 suspend-emits s (gives o k l t) f = f
 
 pub emitted-below : (p : Statement) (e : ℕ) → Bounded p → Below signalCount (emitted (react p e))
-unfolding react
+unfolding reactBy
 emitted-below nothing e h = below-none signalCount
 emitted-below (pause l) e h = below-none signalCount
 emitted-below (emit s) e h = below-only signalCount s h
@@ -166,7 +166,7 @@ emitted-below (loop a p) e h = loop-emits a p (react p e) (emitted-below p e h)
 emitted-below (present s p q) e h =
     present-emits (member s e) (react p e) (react q e) (emitted-below p e (h .0)) (emitted-below q e (h .1))
 emitted-below (signal a s p) e h =
-    signal-emits (caseOf s (react p (remove s e)) (react p (insert s e))) a s (react p (remove s e)) (react p (insert s e))
+    signal-emits (caseOf inheritanceFirst s (react p (remove s e)) (react p (insert s e))) a s (react p (remove s e)) (react p (insert s e))
     (emitted-below p (remove s e) h) (emitted-below p (insert s e) h)
 emitted-below (try p) e h = try-emits (react p e) (emitted-below p e h)
 emitted-below (setpause l) e h = below-none signalCount
@@ -237,7 +237,7 @@ suspend-exits : (s : ℕ) (r : Reaction) → Exits (code r) → Exits (code (inS
 suspend-exits s (gives o k l t) f = f
 
 pub code-exits : (p : Statement) (e : ℕ) → Bounded p → Exits (code (react p e))
-unfolding react
+unfolding reactBy
 code-exits nothing e h = tt
 code-exits (pause l) e h = tt
 code-exits (emit s) e h = tt
@@ -247,7 +247,7 @@ code-exits (par p q) e h = par-exits (react p e) (react q e) (code-exits p e (h 
 code-exits (loop a p) e h = loop-exits a p (react p e) (code-exits p e h)
 code-exits (present s p q) e h = present-exits (member s e) (react p e) (react q e) (code-exits p e (h .0)) (code-exits q e (h .1))
 code-exits (signal a s p) e h =
-    signal-exits (caseOf s (react p (remove s e)) (react p (insert s e))) a s (react p (remove s e)) (react p (insert s e))
+    signal-exits (caseOf inheritanceFirst s (react p (remove s e)) (react p (insert s e))) a s (react p (remove s e)) (react p (insert s e))
     (code-exits p (remove s e) h) (code-exits p (insert s e) h)
 code-exits (try p) e h = try-exits (react p e) (code-exits p e h)
 code-exits (setpause l) e h = tt

@@ -10,14 +10,14 @@ use lib.ListN.{length}
 use lib.Dec.{eqb}
 use Rattle.esterel.specs.Sets.{none}
 use Rattle.esterel.specs.Statement.{Statement}
-use Rattle.esterel.specs.Reaction.{gives, react}
+use Rattle.esterel.specs.Reaction.{gives, react, inheritanceFirst}
 use Rattle.esterel.specs.Expansion.{expand}
 use Rattle.esterel.specs.Machines.{State, stateAfter}
 use Rattle.sequence.specs.Check.{Checked, sound, bad, checked, checkOf}
 use Rattle.sequence.proofs.Rows.{check-by-rows}
 use Rattle.records.specs.Bytes.{leNumber}
 use Rattle.records.specs.Records.{stateLength, answerLength, Decoded, holds, malformed, encodeState, decodeState, phaseIn, labelsIn}
-use Rattle.demands.specs.Tick.{Outcome, outcome, byState, byCheck, tickOf}
+use Rattle.demands.specs.Tick.{Outcome, outcome, byState, byCheck, tickBy, tickOf}
 use Rattle.demands.specs.TickRows.{Malformed, phase-above, labels-fresh, labels-over, not-valid}
 use Rattle.demands.specs.Paper.{Call}
 use Rattle.demands.specs.Demands.{number, stateAfterwards, outcomes, Admitted, Demand1, cleared}
@@ -29,21 +29,21 @@ use Rattle.demands.proofs.Sequence.{same-statement, Accepted, accepted,
 abbrev Unwritten : Outcome → List ℕ → List ℕ → Type 0
 Unwritten o state answer = number o ≢ 0 → o ≡ outcome (number o) state answer
 
-state-unwritten : (p : Statement) (d : Decoded) (state : List ℕ) (e : ℕ) (answer : List ℕ) → Unwritten (byState p d state e answer) state answer
+state-unwritten : (p : Statement) (d : Decoded) (state : List ℕ) (e : ℕ) (answer : List ℕ) → Unwritten (byState inheritanceFirst p d state e answer) state answer
 state-unwritten p malformed state e answer h = refl
 state-unwritten p (holds State.fresh) state e answer h = absurd (h refl)
 state-unwritten p (holds (State.waits L)) state e answer h = absurd (h refl)
 state-unwritten p (holds State.over) state e answer h = refl
 
-check-unwritten : (c : Checked) (state : List ℕ) (e : ℕ) (answer : List ℕ) → Unwritten (byCheck c state e answer) state answer
+check-unwritten : (c : Checked) (state : List ℕ) (e : ℕ) (answer : List ℕ) → Unwritten (byCheck inheritanceFirst c state e answer) state answer
 check-unwritten (bad k) state e answer h = refl
 check-unwritten (sound p) state e answer h = state-unwritten p (decodeState p state) state e answer h
 
 refusal-writes-nothing : (sequence state : List ℕ) (e : ℕ) (answer : List ℕ) → Unwritten (tickOf sequence state e answer) state answer
-unfolding tickOf
+unfolding tickBy
 refusal-writes-nothing sequence state e answer = go (eqb (length state) stateLength && eqb (length answer) answerLength)
   where
-    go : (b : Bool) → Unwritten (cond b (byCheck (checked sequence) state e answer) (outcome 1 state answer)) state answer
+    go : (b : Bool) → Unwritten (cond b (byCheck inheritanceFirst (checked sequence) state e answer) (outcome 1 state answer)) state answer
     go true h = check-unwritten (checked sequence) state e answer h
     go false h = refl
 
@@ -67,7 +67,7 @@ module _ (sequence : List ℕ) (a : Accepted sequence) where
   Passes o = (number o ≢ 11) × Admitted sequence (stateAfterwards o)
 
   state-passes : (state : List ℕ) → Admitted sequence state → (e : ℕ) (answer : List ℕ) (d : Decoded)
-      → Reading p (phaseIn state) (labelsIn state) d → Passes (byState p d state e answer)
+      → Reading p (phaseIn state) (labelsIn state) d → Passes (byState inheritanceFirst p d state e answer)
   state-passes state h e answer d (reads-malformed x) = absurd (h .1 p (a .spelled) x)
   state-passes state h e answer d (reads-fresh x n) = (omega arith, admitted-state (stateAfter (react p e)) (recorded-fresh sequence a e))
   state-passes state h e answer d (reads-waiting x v) =

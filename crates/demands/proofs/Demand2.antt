@@ -17,7 +17,7 @@ use Rattle.esterel.specs.Resume.{instant, start}
 use Rattle.esterel.specs.Machines.{shown, State}
 use Rattle.esterel.specs.Rules.{Reacts}
 use Rattle.esterel.proofs.Rules.{reacts-is}
-use Rattle.esterel.proofs.Errors.{wrong-named}
+use Rattle.esterel.proofs.SignalOrders.{wrong-named}
 use Rattle.esterel.proofs.Derivations.{first-use}
 use Rattle.esterel.proofs.LabelTests.{valid-is}
 use Rattle.limits.specs.Limits.{maxBytes, signalCount}

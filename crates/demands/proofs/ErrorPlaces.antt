@@ -8,8 +8,8 @@ use mathlib.Core.List.{List, [], _∷_, _++_, head?, List·Memᴰ, List·Memᴰ�
 use lib.ListN.{length-append}
 use Rattle.esterel.specs.Sets.{member, insert, remove}
 use Rattle.esterel.specs.Statement.{Statement, nothing, pause, emit, exit, seq, par, loop, present, signal, try, setpause, suspend, held}
-use Rattle.esterel.specs.Reaction.{Code, ended, waiting, leaving, wrong, code, Case, both, neither, only−, only+, inherited, caseOf, react}
-use Rattle.esterel.specs.Errors.{Error, ifEnded, loopErrors, signalErrors, errors, firstError, blame}
+use Rattle.esterel.specs.Reaction.{Code, ended, waiting, leaving, wrong, code, Case, both, neither, only−, only+, inherited, caseOf, react, inheritanceFirst}
+use Rattle.esterel.specs.Errors.{Error, ifEnded, loopErrors, signalErrors, errors, firstError, blame, errorsBy}
 use Rattle.esterel.specs.States.{active}
 use Rattle.esterel.specs.LabelTests.{activeLabels}
 use Rattle.esterel.specs.Expansion.{expand}
@@ -111,7 +111,7 @@ below-present n true xs ys f g = f
 below-present n false xs ys f g = g
 
 pub errors-below : (n : ℕ) (p : Statement) (e : ℕ) → PlacesBelow n p → AllBelow n (errors p e)
-unfolding errors
+unfolding errorsBy
 errors-below n nothing e h = below-nil n
 errors-below n (pause l) e h = below-nil n
 errors-below n (emit s) e h = below-nil n
@@ -128,7 +128,7 @@ errors-below n (present s p q) e h =
 errors-below n (signal a s p) e h =
     below-append n (errors p (remove s e) ++ errors p (insert s e)) _
     (below-append n (errors p (remove s e)) (errors p (insert s e)) (errors-below n p (remove s e) (h .1)) (errors-below n p (insert s e) (h .1)))
-    (below-signal n a (caseOf s (react p (remove s e)) (react p (insert s e))) (h .0))
+    (below-signal n a (caseOf inheritanceFirst s (react p (remove s e)) (react p (insert s e))) (h .0))
 errors-below n (try p) e h = errors-below n p e h
 errors-below n (setpause l) e h = below-nil n
 errors-below n (suspend s p) e h = errors-below n p e h

@@ -6,9 +6,9 @@ use mathlib.Core.List.{List, [], _∷_}
 use lib.ListN.{getD, replicate}
 use Rattle.esterel.specs.Sets.{none, only, member, join}
 use Rattle.esterel.specs.Statement.{nothing, pause, emit, seq, setpause}
-use Rattle.esterel.specs.Reaction.{ended, waiting, react}
+use Rattle.esterel.specs.Reaction.{ended, waiting, reactBy}
 use Rattle.esterel.specs.Rules.{Reacts}
-use Rattle.esterel.specs.Errors.{errors}
+use Rattle.esterel.specs.Errors.{errorsBy}
 use Rattle.esterel.specs.Places.{seq₁, seq₂, Place, At}
 use Rattle.esterel.specs.States.{NoSetpause}
 use Rattle.esterel.specs.LabelTests.{subset, disjoint, labelsOf, everyLabel, distinct, before, wellFormed}
@@ -19,7 +19,7 @@ use Rattle.sequence.specs.Rows.{Spells}
 use Rattle.sequence.proofs.Writer.{reads-what-is-written}
 use Rattle.records.specs.Bytes.{leBytes, leNumber}
 use Rattle.records.specs.Records.{answerLength, labelsIn, encodeState, decodeState, encodeAnswer}
-use Rattle.demands.specs.Tick.{outcome, tickOf}
+use Rattle.demands.specs.Tick.{outcome, tickBy, tickOf}
 use Rattle.demands.specs.Paper.{Call, Report, turnedDown, reacted, paper}
 use Rattle.demands.specs.Demands.{Tick, number, outcomes, Demand1, Demand2, Demand3, StandsAt, at-start, cleared}
 use Rattle.demands.specs.Replacements.{everyWrong, turnsDown, alwaysEnds, leavesLabels, repeatsFirst, saysOver, appendsZero}
@@ -68,7 +68,7 @@ cleared-labels = refl
 
 first-ticks : (tickOf ends cleared 0 buffer ≡ outcome 0 (2 ∷ replicate 8 0) buffer)
     × (tickOf waits cleared 0 buffer ≡ outcome 0 (1 ∷ 1 ∷ replicate 7 0) (1 ∷ replicate 7 0))
-unfolding tickOf checked read front commandOf distinct wellFormed everyLabel before labelsOf subset disjoint decodeState encodeState encodeAnswer leNumber leBytes react errors member none only join
+unfolding tickBy checked read front commandOf distinct wellFormed everyLabel before labelsOf subset disjoint decodeState encodeState encodeAnswer leNumber leBytes reactBy errorsBy member none only join
 first-ticks = (refl, refl)
 
 stands-ends : StandsAt ends cleared nothing
@@ -128,7 +128,7 @@ two-calls : List Call
 two-calls = record { input = 0; buffer = buffer } ∷ record { input = 0; buffer = buffer } ∷ []
 
 pub not-repeatsFirst : ¬ Demand3 checkOf repeatsFirst
-unfolding two-calls outcomes paper tickOf checked read front commandOf distinct wellFormed everyLabel before labelsOf subset disjoint decodeState encodeState encodeAnswer leNumber leBytes react errors member none only join
+unfolding two-calls outcomes paper tickBy checked read front commandOf distinct wellFormed everyLabel before labelsOf subset disjoint decodeState encodeState encodeAnswer leNumber leBytes reactBy errorsBy member none only join
 not-repeatsFirst d =
     let x = d later (all-accepted .2) (seq (pause 0) (emit 0)) spells-later no-setpause two-calls in
     let z : _≡_ {A = ℕ} 1 0 = ap (λ (l : List Report). codeAt 1 l) x in

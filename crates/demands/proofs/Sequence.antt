@@ -10,7 +10,7 @@ use lib.ListN.{length}
 use lib.Dec.{eqb}
 use borrow.Author.Tests.{eq-eqb, ne-eqb}
 use Rattle.esterel.specs.Statement.{Statement}
-use Rattle.esterel.specs.Reaction.{Code, Reaction, gives, ended, waiting, leaving, wrong, emitted, react}
+use Rattle.esterel.specs.Reaction.{Code, Reaction, gives, ended, waiting, leaving, wrong, emitted, react, inheritanceFirst}
 use Rattle.esterel.specs.Errors.{firstError, blame}
 use Rattle.esterel.specs.States.{Valid, Distinct, Targeted, Source, WellFormed}
 use Rattle.esterel.specs.Expansion.{expand}
@@ -24,7 +24,7 @@ use Rattle.sequence.proofs.Writer.{reads-what-is-written}
 use Rattle.sequence.proofs.Source.{spells-source}
 use Rattle.sequence.proofs.Rows.{Decides, decided, row-range}
 use Rattle.records.specs.Records.{stateLength, answerLength, Decoded, decodeState}
-use Rattle.demands.specs.Tick.{outcome, byState, byCheck, tickOf}
+use Rattle.demands.specs.Tick.{outcome, byState, byCheck, tickBy, tickOf}
 use Rattle.demands.proofs.Bounds.{Below, below-number, ranged-bounded, bounded-expand, emitted-below, stop-below}
 use Rattle.demands.proofs.ErrorPlaces.{PlacesBelow, placed-below, places-expand, place-fits}
 use Rattle.records.proofs.RecordLaws.{Recorded}
@@ -75,17 +75,17 @@ spells-one sequence h =
 -- a tick by the state that the record holds
 pub tick-at : (sequence state : List ℕ) (e : ℕ) (answer : List ℕ) (p : Statement) (d : Decoded) → checked sequence ≡ sound p
     → length state ≡ stateLength → length answer ≡ answerLength → decodeState p state ≡ d
-    → tickOf sequence state e answer ≡ byState p d state e answer
-unfolding tickOf
+    → tickOf sequence state e answer ≡ byState inheritanceFirst p d state e answer
+unfolding tickBy
 tick-at sequence state e answer p d c i j h = rw (eq-eqb (length state) stateLength i, eq-eqb (length answer) answerLength j, c, h)
 
 -- a tick with an answer buffer of another length
 pub tick-short : (sequence state : List ℕ) (e : ℕ) (answer : List ℕ) → length answer ≢ answerLength
     → tickOf sequence state e answer ≡ outcome 1 state answer
-unfolding tickOf
+unfolding tickBy
 tick-short sequence state e answer h = rw (ne-eqb (length answer) answerLength h) (go (eqb (length state) stateLength))
   where
-    go : (b : Bool) → cond (b && false) (byCheck (checked sequence) state e answer) (outcome 1 state answer) ≡ outcome 1 state answer
+    go : (b : Bool) → cond (b && false) (byCheck inheritanceFirst (checked sequence) state e answer) (outcome 1 state answer) ≡ outcome 1 state answer
     go true = refl
     go false = refl
 

@@ -77,7 +77,7 @@ starred = bays.starred
 pub suspended : ShowsRuns suspendRuns tickOf
 suspended = suspends.suspended
 
--- ---- bays with more errors than one, or one out of sight
+-- ---- bays with more errors than one, or one in a run of a signal
 pub first-errors : ShowsRuns firstErrorRuns tickOf
 first-errors = firsts.first-errors
 

@@ -8,6 +8,7 @@ use mathlib.Core.List.{List}
 use lib.ListN.{length}
 use lib.Dec.{eqb}
 use borrow.Author.Tests.{eqb-true, eqb-false}
+use Rattle.esterel.specs.Reaction.{inheritanceFirst}
 use Rattle.esterel.specs.Sets.{none}
 use Rattle.esterel.specs.Statement.{Statement}
 use Rattle.esterel.specs.States.{Valid}
@@ -19,7 +20,7 @@ use Rattle.sequence.specs.Rows.{Spells, ByRows}
 use Rattle.sequence.proofs.ByRows.{refused-by, accepted-by}
 use Rattle.sequence.proofs.Rows.{Decides, decided, row-range}
 use Rattle.records.specs.Records.{stateLength, answerLength, Decoded, holds, malformed, decode, decodeState, phaseIn, labelsIn}
-use Rattle.demands.specs.Tick.{outcome, byState, byCheck, tickOf}
+use Rattle.demands.specs.Tick.{outcome, byState, byCheck, tickBy, tickOf}
 use Rattle.demands.specs.TickRows.{Malformed, phase-above, labels-fresh, labels-over, not-valid, TickRow, row-1, row-2-to-10, row-11, row-12}
 use Rattle.demands.specs.Demands.{number}
 use Rattle.demands.proofs.Sequence.{same-statement}
@@ -123,7 +124,7 @@ module _ (sequence state answer : List ℕ) where
     nowhere r n m (row-11 t y) = not-11 r t y
     nowhere r n m (row-12 y) = n y
 
-    by-state : (e : ℕ) (d : Decoded) → Reading p (phaseIn state) (labelsIn state) d → ByRows (number (byState p d state e answer)) Holds
+    by-state : (e : ℕ) (d : Decoded) → Reading p (phaseIn state) (labelsIn state) d → ByRows (number (byState inheritanceFirst p d state e answer)) Holds
     by-state e d (reads-malformed x) =
         refused-by 11 Holds (λ r. omega (arith, row-positive 0 r)) (row-11 (c .1) x) below
       where
@@ -144,15 +145,15 @@ module _ (sequence state answer : List ℕ) where
     by-state e d (reads-waiting x v) = accepted-by Holds (nowhere (reads-waiting x v) (omega arith))
 
   pub tick-by-rows : (e : ℕ) → ByRows (number (tickOf sequence state e answer)) Holds
-  unfolding tickOf
+  unfolding tickBy
   tick-by-rows e = go (eqb (length state) stateLength) (eqb (length answer) answerLength) refl refl
     where
-      checks : Sized → (c : Checked) → Decides sequence c → ByRows (number (byCheck c state e answer)) Holds
+      checks : Sized → (c : Checked) → Decides sequence c → ByRows (number (byCheck inheritanceFirst c state e answer)) Holds
       checks z (bad k) d = by-check z k d
       checks z (sound p) d = by-state z p d e (decodeState p state) (reading p state)
 
       go : (b c : Bool) → eqb (length state) stateLength ≡ b → eqb (length answer) answerLength ≡ c
-          → ByRows (number (cond (b && c) (byCheck (checked sequence) state e answer) (outcome 1 state answer))) Holds
+          → ByRows (number (cond (b && c) (byCheck inheritanceFirst (checked sequence) state e answer) (outcome 1 state answer))) Holds
       go true true i j =
           checks (eqb-true (length state) stateLength i, eqb-true (length answer) answerLength j) (checked sequence) (decided sequence)
       go true false i j = by-1 (inr (eqb-false (length answer) answerLength j))

@@ -1,8 +1,8 @@
--- Bays whose wrong instant has more errors than one, or has one out of sight (02, item 3), worked by hand. The kind and place are
--- the first error's.
+-- Bays whose wrong instant has more errors than one, or has one in a run of a signal (02, items 3 and 4), worked by hand. The kind
+-- and place are the first error's.
 use mathlib.Core.List.{List, [], _∷_}
 use Rattle.demands.specs.Bays.{quiet}
-use Rattle.demands.specs.Worked.{Run, waits, ends}
+use Rattle.demands.specs.Worked.{Run, waits}
 
 unfoldable pub firstErrorRuns : List Run
 firstErrorRuns =
@@ -22,13 +22,13 @@ firstErrorRuns =
       inputs = 0 ∷ [];
       shows = quiet 255 1 6 0 ∷ [];
     }
-    -- a run that is not chosen hides one: no error is named, the instant not being wrong
+    -- 02, item 4: the signal is emitted in both runs, one of which is wrong
     ∷ record {
       bytes = 0x08 ∷ 0x00 ∷ 0x04 ∷ 0x02 ∷ 0x00 ∷ 0x07 ∷ 0x00 ∷ 0x00 ∷ 0x06 ∷ 0x00 ∷ [];
       inputs = 0 ∷ [];
-      shows = ends 0 ∷ [];
+      shows = quiet 255 1 8 0 ∷ [];
     }
-    -- the second side of a parallel at 11 makes it wrong, the first hides an error at 9; so for the parts of a sequence
+    -- that signal, with its error at 9, before a loop at 11 that errs too: in parallel, and in a sequence
     ∷ record {
       bytes = 0x05 ∷ 0x08 ∷ 0x00 ∷ 0x04 ∷ 0x02 ∷ 0x00 ∷ 0x07 ∷ 0x00 ∷ 0x00 ∷ 0x06 ∷ 0x00 ∷ 0x06 ∷ 0x00 ∷ [];
       inputs = 0 ∷ [];
@@ -39,7 +39,7 @@ firstErrorRuns =
       inputs = 0 ∷ [];
       shows = quiet 255 1 9 0 ∷ [];
     }
-    -- a loop at 0 around a part that hides an error at 9, and a signal at 0 around one that hides an error at 11
+    -- the same in a loop at 0, with its error at 9, and in a signal at 0, with its error at 11
     ∷ record {
       bytes = 0x06 ∷ 0x08 ∷ 0x00 ∷ 0x04 ∷ 0x02 ∷ 0x00 ∷ 0x07 ∷ 0x00 ∷ 0x00 ∷ 0x06 ∷ 0x00 ∷ [];
       inputs = 0 ∷ [];
@@ -66,5 +66,17 @@ firstErrorRuns =
       bytes = 0x04 ∷ 0x00 ∷ 0x06 ∷ 0x07 ∷ 0x00 ∷ 0x00 ∷ 0x01 ∷ 0x00 ∷ [];
       inputs = 0 ∷ 1 ∷ [];
       shows = waits 0 1 ∷ quiet 255 1 2 0 ∷ [];
+    }
+    -- 02, item 4, and a suspend: in the second instant the run with the signal is stopped, the run without it goes on and is wrong
+    ∷ record {
+      bytes = 0x08 ∷ 0x00 ∷ 0x05 ∷ 0x0B ∷ 0x00 ∷ 0x04 ∷ 0x01 ∷ 0x00 ∷ 0x06 ∷ 0x00 ∷ 0x04 ∷ 0x01 ∷ 0x01 ∷ 0x02 ∷ 0x00 ∷ [];
+      inputs = 0 ∷ 0 ∷ [];
+      shows = waits 0 3 ∷ quiet 255 1 8 0 ∷ [];
+    }
+    -- 02, item 4: the signal at 0 hung on what a wrong signal at 2 emitted
+    ∷ record {
+      bytes = 0x08 ∷ 0x01 ∷ 0x08 ∷ 0x00 ∷ 0x04 ∷ 0x02 ∷ 0x00 ∷ 0x04 ∷ 0x02 ∷ 0x01 ∷ 0x07 ∷ 0x01 ∷ 0x00 ∷ 0x06 ∷ 0x00 ∷ [];
+      inputs = 0 ∷ [];
+      shows = quiet 255 1 13 0 ∷ [];
     }
     ∷ []

@@ -4,9 +4,9 @@ use mathlib.Core.Path.{_≡_, refl, sym, ap, ap₂, _∙_}
 use mathlib.Core.Logic.{_≢_}
 use mathlib.Core.List.{List, [], _∷_, _++_, append-nil, head?}
 use Rattle.esterel.specs.Statement.{Statement}
-use Rattle.esterel.specs.Reaction.{Code, ended, waiting, leaving, wrong, Reaction, code, Case, caseOf}
+use Rattle.esterel.specs.Reaction.{Code, ended, waiting, leaving, wrong, Reaction, code, Case, inheritanceFirst, caseOf}
 use Rattle.esterel.specs.Rules.{Reacts}
-use Rattle.esterel.specs.Errors.{Error, ifEnded, signalErrors, errors, firstError, uses, instantaneous}
+use Rattle.esterel.specs.Errors.{Error, ifEnded, signalErrors, errorsBy, errors, firstError, uses, instantaneous}
 use Rattle.esterel.proofs.Rules.{fits++, fits−−, fits+−, fits−+, fits∞, sound}
 
 -- what follows counts only after code 0
@@ -25,13 +25,13 @@ ended-uses : {us xs : List Error} {x r : Reaction} (ys : List Error) → us ≡ 
 ended-uses ys h i = ap₂ (λ (zs : List Error) (y : Reaction). zs ++ ifEnded (code y) ys []) h i
 
 signal-uses : {us xs vs ys : List Error} {x− r− x+ r+ : Reaction} {c : Case} (a s : ℕ) → us ≡ xs → vs ≡ ys
-    → caseOf s x− x+ ≡ c → x− ≡ r− → x+ ≡ r+
-    → us ++ vs ++ signalErrors a c ≡ xs ++ ys ++ signalErrors a (caseOf s r− r+)
-signal-uses a s h g i h− h+ = ap₂ _++_ (ap₂ _++_ h g) (ap (signalErrors a) (sym i ∙ ap₂ (caseOf s) h− h+))
+    → caseOf inheritanceFirst s x− x+ ≡ c → x− ≡ r− → x+ ≡ r+
+    → us ++ vs ++ signalErrors a c ≡ xs ++ ys ++ signalErrors a (caseOf inheritanceFirst s r− r+)
+signal-uses a s h g i h− h+ = ap₂ _++_ (ap₂ _++_ h g) (ap (signalErrors a) (sym i ∙ ap₂ (caseOf inheritanceFirst s) h− h+))
 
 -- USES: one error for each use of loop-error, signal+− and signal−+
 pub uses-is : {p : Statement} {e : ℕ} {r : Reaction} (d : Reacts p e r) → uses d ≡ errors p e
-unfolding uses errors
+unfolding uses errorsBy
 uses-is Reacts.nothing = refl
 uses-is Reacts.pause = refl
 uses-is Reacts.exit = refl
@@ -49,16 +49,16 @@ uses-is {e = e} (Reacts.sequence-p {k = k} {q = q} d n) =
     adds-none k (uses d) (errors q e) n ∙ ended-uses (errors q e) (uses-is d) (sound d)
 uses-is {e = e} (Reacts.sequence-q {q = q} d d₂) =
     ap (λ (xs : List Error). uses d ++ xs) (uses-is d₂) ∙ ended-uses (errors q e) (uses-is d) (sound d)
-uses-is (Reacts.signal++ {a = a} {s = s} {o− = o−} {o+ = o+} {k− = k−} {k+ = k+} d− i− d+ i+) =
-    sym (append-nil _) ∙ signal-uses a s (uses-is d−) (uses-is d+) (fits++ s o− o+ k− k+ i− i+) (sound d−) (sound d+)
+uses-is (Reacts.signal++ {a = a} {s = s} {o− = o−} {o+ = o+} {k− = k−} {k+ = k+} d− i− d+ i+ n) =
+    sym (append-nil _) ∙ signal-uses a s (uses-is d−) (uses-is d+) (fits++ s o− o+ k− k+ i− i+ n) (sound d−) (sound d+)
 uses-is (Reacts.signal−− {a = a} {s = s} {o− = o−} {o+ = o+} {k− = k−} {k+ = k+} d− i− d+ i+ n) =
     sym (append-nil _) ∙ signal-uses a s (uses-is d−) (uses-is d+) (fits−− s o− o+ k− k+ i− i+ n) (sound d−) (sound d+)
 uses-is (Reacts.signal+− {a = a} {s = s} {o− = o−} {o+ = o+} {k− = k−} {k+ = k+} d− i− d+ i+ n) =
     signal-uses a s (uses-is d−) (uses-is d+) (fits+− s o− o+ k− k+ i− i+ n) (sound d−) (sound d+)
-uses-is (Reacts.signal−+ {a = a} {s = s} {o− = o−} {o+ = o+} {k− = k−} {k+ = k+} d− i− n d+ i+) =
-    signal-uses a s (uses-is d−) (uses-is d+) (fits−+ s o− o+ k− k+ i− n i+) (sound d−) (sound d+)
-uses-is (Reacts.signal∞ {a = a} {s = s} {o− = o−} {o+ = o+} {k− = k−} {k+ = k+} d− d+ w n++ n+− n−+) =
-    sym (append-nil _) ∙ signal-uses a s (uses-is d−) (uses-is d+) (fits∞ s o− o+ k− k+ w n++ n+− n−+) (sound d−) (sound d+)
+uses-is (Reacts.signal−+ {a = a} {s = s} {o− = o−} {o+ = o+} {k− = k−} {k+ = k+} d− i− d+ i+ n) =
+    signal-uses a s (uses-is d−) (uses-is d+) (fits−+ s o− o+ k− k+ i− i+ n) (sound d−) (sound d+)
+uses-is (Reacts.signal∞ {a = a} {s = s} {o− = o−} {o+ = o+} {k− = k−} {k+ = k+} d− d+ w) =
+    sym (append-nil _) ∙ signal-uses a s (uses-is d−) (uses-is d+) (fits∞ s o− o+ k− k+ w) (sound d−) (sound d+)
 uses-is Reacts.setpause = refl
 uses-is (Reacts.suspend d) = uses-is d
 uses-is (Reacts.held+ i) = rw i

@@ -8,8 +8,8 @@ use mathlib.Core.List.{List, head?}
 use lib.Dec.{eqb}
 use Rattle.esterel.specs.Sets.{member, none, insert, remove}
 use Rattle.esterel.specs.Statement.{Statement, nothing, pause, emit, exit, seq, par, loop, present, signal, try, setpause, suspend, held}
-use Rattle.esterel.specs.Reaction.{Code, ended, waiting, leaving, wrong, Reaction, gives, code, emitted, residual, side, inSeq, inPar, inLoop, inTry, inSignal, inSuspend, stopped, Case, both, neither, only−, only+, inherited, caseOf, answer, react}
-use Rattle.esterel.specs.Errors.{Error, errors, firstError}
+use Rattle.esterel.specs.Reaction.{Code, ended, waiting, leaving, wrong, Reaction, gives, code, emitted, residual, side, inSeq, inPar, inLoop, inTry, inSignal, inSuspend, stopped, Case, both, neither, only−, only+, inherited, inheritanceFirst, caseOf, answer, reactBy, react}
+use Rattle.esterel.specs.Errors.{Error, errorsBy, errors, firstError}
 use Rattle.esterel.specs.Machines.{erase, seen, run, Rewriting, termAfter, byRewriting}
 use Rattle.esterel.proofs.Agreement.{simulation}
 
@@ -84,11 +84,11 @@ answer-alike only− a s h i = alike refl
 answer-alike only+ a s h i = alike refl
 answer-alike inherited a s h i = alike refl
 
-case-alike : (s : ℕ) {r− r′− r+ r′+ : Reaction} → Alike r− r′− → Alike r+ r′+ → caseOf s r− r+ ≡ caseOf s r′− r′+
+case-alike : (s : ℕ) {r− r′− r+ r′+ : Reaction} → Alike r− r′− → Alike r+ r′+ → caseOf inheritanceFirst s r− r+ ≡ caseOf inheritanceFirst s r′− r′+
 case-alike s (alike h) (alike i) = refl
 
-signal-alike : (a s : ℕ) {r− r′− r+ r′+ : Reaction} → Alike r− r′− → Alike r+ r′+ → Alike (inSignal a s r− r+) (inSignal a s r′− r′+)
-signal-alike a s {r−} {r′−} {r+} {r′+} h i = rw (case-alike s h i) (answer-alike (caseOf s r′− r′+) a s h i)
+signal-alike : (a s : ℕ) {r− r′− r+ r′+ : Reaction} → Alike r− r′− → Alike r+ r′+ → Alike (inSignal inheritanceFirst a s r− r+) (inSignal inheritanceFirst a s r′− r′+)
+signal-alike a s {r−} {r′−} {r+} {r′+} h i = rw (case-alike s h i) (answer-alike (caseOf inheritanceFirst s r′− r′+) a s h i)
 
 suspend-alike : (s : ℕ) {r r′ : Reaction} → Alike r r′ → Alike (inSuspend s r) (inSuspend s r′)
 unfolding erase
@@ -102,7 +102,7 @@ unfolding erase
 stopped-alike s K p = alike (ap (held s none) (erase-erase p))
 
 erase-alike : (p : Statement) (e : ℕ) → Alike (react (erase p) e) (react p e)
-unfolding erase react
+unfolding erase reactBy
 erase-alike nothing e = alike refl
 erase-alike (pause l) e = alike refl
 erase-alike (emit s) e = alike refl
@@ -122,7 +122,7 @@ code-alike : {r r′ : Reaction} → Alike r r′ → code r ≡ code r′
 code-alike (alike h) = refl
 
 erase-errors : (p : Statement) (e : ℕ) → errors (erase p) e ≡ errors p e
-unfolding erase errors
+unfolding erase errorsBy
 erase-errors nothing e = refl
 erase-errors (pause l) e = refl
 erase-errors (emit s) e = refl

@@ -7,7 +7,7 @@ use mathlib.Core.Bool.{Bool, true, false, cond}
 use lib.Dec.{eqb}
 use Rattle.esterel.specs.Sets.{member, none, only, join, insert, remove}
 use Rattle.esterel.specs.Statement.{Statement, nothing, pause, emit, exit, seq, par, loop, present, signal, try, setpause, suspend, held}
-use Rattle.esterel.specs.Reaction.{Code, ended, waiting, leaving, wrong, Reaction, gives, inSeq, inPar, inLoop, inTry, inSuspend, stopped, Case, both, neither, only−, only+, inherited, caseOf, answer, react}
+use Rattle.esterel.specs.Reaction.{Code, ended, waiting, leaving, wrong, Reaction, gives, inSeq, inPar, inLoop, inTry, inSuspend, stopped, Case, both, neither, only−, only+, inherited, inheritanceFirst, caseOf, answer, reactBy, react}
 use Rattle.esterel.specs.States.{active}
 use Rattle.esterel.specs.Expansion.{expand, ifActive}
 use Rattle.esterel.specs.LabelTests.{activeLabels}
@@ -126,7 +126,7 @@ module _ (K : Relation) (kept : Kept K) where
 
   -- ---- both ways to react
   pub fresh-fits : (p : Statement) (e : ℕ) → Fits K p (react p e)
-  unfolding react
+  unfolding reactBy
   fresh-fits nothing e = refl
   fresh-fits (pause l) e = kept .at-pause l
   fresh-fits (emit s) e = refl
@@ -137,7 +137,7 @@ module _ (K : Relation) (kept : Kept K) where
   fresh-fits (loop a p) e = loop-fits a p (react p e) (fresh-fits p e)
   fresh-fits (present s p q) e = present-fits s p q (member s e) (react p e) (react q e) (fresh-fits p e) (fresh-fits q e)
   fresh-fits (signal a s p) e =
-      signal-fits (caseOf s (react p (remove s e)) (react p (insert s e))) a s p (react p (remove s e)) (react p (insert s e))
+      signal-fits (caseOf inheritanceFirst s (react p (remove s e)) (react p (insert s e))) a s p (react p (remove s e)) (react p (insert s e))
       (fresh-fits p (remove s e)) (fresh-fits p (insert s e))
   fresh-fits (try p) e = try-fits p (react p e) (fresh-fits p e)
   fresh-fits (setpause l) e = kept .at-setpause l
@@ -148,12 +148,12 @@ module _ (K : Relation) (kept : Kept K) where
 
   -- a side of a resumed parallel
   side-fits : (p t : Statement) (b : Bool) (e : ℕ) → Fits K p (react t e) → Fits K p (react (ifActive b t) e)
-  unfolding react
+  unfolding reactBy
   side-fits p t true e h = h
   side-fits p t false e h = refl
 
   pub resumed-fits : (p : Statement) (L e : ℕ) → Stopped K L → Fits K p (react (expand p L) e)
-  unfolding react expand
+  unfolding reactBy expand
   resumed-fits nothing L e z = refl
   resumed-fits (pause l) L e z = refl
   resumed-fits (emit s) L e z = refl
@@ -178,7 +178,7 @@ module _ (K : Relation) (kept : Kept K) where
       go true h i = lift p (present s p q) (kept .present-first s p q) (react (expand p L) e) h
       go false h i = lift q (present s p q) (kept .present-second s p q) (react (expand q L) e) i
   resumed-fits (signal a s p) L e z =
-      signal-fits (caseOf s (react (expand p L) (remove s e)) (react (expand p L) (insert s e))) a s p
+      signal-fits (caseOf inheritanceFirst s (react (expand p L) (remove s e)) (react (expand p L) (insert s e))) a s p
       (react (expand p L) (remove s e)) (react (expand p L) (insert s e))
       (resumed-fits p L (remove s e) z) (resumed-fits p L (insert s e) z)
   resumed-fits (try p) L e z = try-fits p (react (expand p L) e) (resumed-fits p L e z)

@@ -6,47 +6,62 @@ use mathlib.Core.Option.{Option}
 use mathlib.Core.List.{List, [], _∷_, _++_, head?}
 use Rattle.esterel.specs.Sets.{member, insert, remove}
 use Rattle.esterel.specs.Statement.{Statement, nothing, pause, emit, exit, seq, par, loop, present, signal, try, setpause, suspend, held}
-use Rattle.esterel.specs.Reaction.{Code, ended, waiting, leaving, wrong, code, inSeq, inPar, inLoop, inSignal, inSuspend, stopped, caseOf, react}
-use Rattle.esterel.specs.Errors.{Error, ifEnded, loopErrors, signalErrors, errors, firstError}
+use Rattle.esterel.specs.Reaction.{Code, ended, waiting, leaving, wrong, isWrong, emitted, code, inSeq, inPar, inLoop, inSignal, inSuspend, stopped, inheritanceFirst, firstFit, reactBy, react}
+use Rattle.esterel.specs.Errors.{Error, instantaneous, ifEnded, signalErrors, errorsBy, errors}
 use Rattle.esterel.specs.States.{active}
 use Rattle.esterel.specs.Expansion.{expand, ifActive}
 use Rattle.esterel.specs.LabelTests.{alternative, parallel, activeLabels}
 use Rattle.esterel.specs.Ranks.{middle, mask, labelsBy}
-use Rattle.esterel.specs.Resume.{Instant, instant, start, idle, earlier, seqInstant, parInstant, loopInstant, tryInstant, signalInstant, suspendInstant, stoppedInstant, resume}
+use Rattle.esterel.specs.Resume.{Instant, instant, start, idle, seqInstant, parInstant, loopInstant, tryInstant, signalNames, signalInstant, suspendInstant, stoppedInstant, resume}
+use Rattle.esterel.proofs.SignalOrders.{Blamed, blamed}
 use Rattle.esterel.proofs.Order.{Joined, sequence, test, sides}
 use Rattle.esterel.proofs.Activity.{expand-activeLabels}
 use Rattle.esterel.proofs.Ranks.{split-below, split-from, first-empty, second-empty, labels-by}
 
--- ---- the first error of a list in parts
-pub first-append : (xs ys : List Error) → head? (xs ++ ys) ≡ earlier (head? xs) (head? ys)
-first-append [] ys = refl
-first-append (x ∷ xs) ys = refl
+-- ---- the first error of a list in parts: what is wrong has one, what is not has none
+seq-first : (k : Code) (xs ys : List Error) → Blamed (isWrong k) xs → head? (xs ++ ifEnded k ys []) ≡ ifEnded k (head? ys) (head? xs)
+seq-first ended xs ys h = rw h
+seq-first waiting xs ys h = rw h
+seq-first (leaving n) xs ys h = rw h
+seq-first wrong xs ys h = rw (h .2)
 
-first-ifEnded : (k : Code) (xs : List Error) → head? (ifEnded k xs []) ≡ ifEnded k (head? xs) Option.none
-first-ifEnded ended xs = refl
-first-ifEnded waiting xs = refl
-first-ifEnded (leaving n) xs = refl
-first-ifEnded wrong xs = refl
+par-first : (w : Bool) (xs ys : List Error) → Blamed w xs → head? (xs ++ ys) ≡ cond w (head? xs) (head? ys)
+par-first true xs ys h = rw (h .2)
+par-first false xs ys h = rw h
+
+alone : (i− i+ : Bool) (a : ℕ) (x : Option Error)
+    → head? (signalErrors a (firstFit inheritanceFirst i− i+ false false))
+    ≡ signalNames (firstFit inheritanceFirst i− i+ false false) a x
+alone true true a x = refl
+alone true false a x = refl
+alone false true a x = refl
+alone false false a x = refl
+
+signal-first : (i− i+ w− w+ : Bool) (a : ℕ) (xs ys : List Error) → Blamed w− xs → Blamed w+ ys
+    → head? (xs ++ ys ++ signalErrors a (firstFit inheritanceFirst i− i+ w− w+))
+    ≡ signalNames (firstFit inheritanceFirst i− i+ w− w+) a (cond w− (head? xs) (head? ys))
+signal-first i− i+ true w+ a xs ys h g = rw (h .2)
+signal-first i− i+ false true a xs ys h g = rw (h, g .2)
+signal-first i− i+ false false a xs ys h g = rw (h, g) (alone i− i+ a Option.none)
 
 -- ---- an instant from the instants of the parts
 pub start-seq : (p q : Statement) (e : ℕ) → start (seq p q) e ≡ seqInstant q (start p e) (start q e)
-unfolding react errors
+unfolding reactBy errorsBy
 start-seq p q e =
-    ap (λ (x : Option Error). instant (inSeq q (react p e) (react q e)) x)
-    (first-append (errors p e) (ifEnded (code (react p e)) (errors q e) [])
-    ∙ ap (λ (x : Option Error). earlier (firstError p e) x) (first-ifEnded (code (react p e)) (errors q e)))
+    ap (instant (inSeq q (react p e) (react q e))) (seq-first (code (react p e)) (errors p e) (errors q e) (blamed p e))
 
 pub start-par : (p q : Statement) (e : ℕ) → start (par p q) e ≡ parInstant (start p e) (start q e)
-unfolding react errors
-start-par p q e = ap (λ (x : Option Error). instant (inPar (react p e) (react q e)) x) (first-append (errors p e) (errors q e))
+unfolding reactBy errorsBy
+start-par p q e =
+    ap (instant (inPar (react p e) (react q e))) (par-first (isWrong (code (react p e))) (errors p e) (errors q e) (blamed p e))
 
 pub start-loop : (a : ℕ) (p : Statement) (e : ℕ) → start (loop a p) e ≡ loopInstant a p (start p e)
-unfolding react errors
+unfolding reactBy errorsBy
 start-loop a p e =
-    ap (λ (x : Option Error). instant (inLoop a p (react p e)) x) (first-append (errors p e) (loopErrors a (code (react p e))))
+    ap (instant (inLoop a p (react p e))) (seq-first (code (react p e)) (errors p e) (instantaneous a ∷ []) (blamed p e))
 
 pub start-present : (s : ℕ) (p q : Statement) (e : ℕ) → start (present s p q) e ≡ cond (member s e) (start p e) (start q e)
-unfolding react errors
+unfolding reactBy errorsBy
 start-present s p q e = go (member s e)
   where
     go : (b : Bool)
@@ -56,24 +71,25 @@ start-present s p q e = go (member s e)
 
 pub start-signal : (a s : ℕ) (p : Statement) (e : ℕ)
     → start (signal a s p) e ≡ signalInstant a s (start p (remove s e)) (start p (insert s e))
-unfolding react errors
+unfolding reactBy errorsBy
 start-signal a s p e =
-    let last : List Error = signalErrors a (caseOf s (react p (remove s e)) (react p (insert s e))) in
-    ap (λ (x : Option Error). instant (inSignal a s (react p (remove s e)) (react p (insert s e))) x)
-    (first-append (errors p (remove s e) ++ errors p (insert s e)) last
-    ∙ ap (λ (x : Option Error). earlier x (head? last)) (first-append (errors p (remove s e)) (errors p (insert s e))))
+    let r− = react p (remove s e) in
+    let r+ = react p (insert s e) in
+    ap (instant (inSignal inheritanceFirst a s r− r+))
+    (signal-first (member s (emitted r−)) (member s (emitted r+)) (isWrong (code r−)) (isWrong (code r+)) a
+    (errors p (remove s e)) (errors p (insert s e)) (blamed p (remove s e)) (blamed p (insert s e)))
 
 pub start-try : (p : Statement) (e : ℕ) → start (try p) e ≡ tryInstant (start p e)
-unfolding react errors
+unfolding reactBy errorsBy
 start-try p e = refl
 
 pub start-suspend : (s : ℕ) (p : Statement) (e : ℕ) → start (suspend s p) e ≡ suspendInstant s (start p e)
-unfolding react errors
+unfolding reactBy errorsBy
 start-suspend s p e = refl
 
 pub start-held : (s K : ℕ) (p : Statement) (e : ℕ)
     → start (held s K p) e ≡ cond (member s e) (stoppedInstant s K p) (suspendInstant s (start p e))
-unfolding react errors
+unfolding reactBy errorsBy
 start-held s K p e = go (member s e)
   where
     go : (b : Bool)
@@ -98,7 +114,7 @@ alternative-goes p q e i j false c f g h = g h
 
 -- of two sides each active one
 side-goes : (p : Statement) (e : ℕ) (i : Instant) (b : Bool) → Goes b i p e → cond (not b) idle i ≡ start (ifActive b p) e
-unfolding react errors
+unfolding reactBy errorsBy
 side-goes p e i true f = f refl
 side-goes p e i false f = refl
 
@@ -113,7 +129,7 @@ suspend-goes s p L e K i k h =
 
 -- resuming by the ranks of the active pauses is the instant of the expansion, first error included
 pub resumes : (base : ℕ) (p : Statement) (L e : ℕ) → active p L ≡ true → resume base p (mask base p L) e ≡ start (expand p L) e
-unfolding resume mask active expand react errors
+unfolding resume mask active expand reactBy errorsBy
 resumes base nothing L e h = absurd (false≢true h)
 resumes base (pause l) L e h = refl
 resumes base (emit s) L e h = absurd (false≢true h)

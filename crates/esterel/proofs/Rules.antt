@@ -1,4 +1,4 @@
--- The printed rules and the function give the same answers: 003's corollary 11 with 01's 'first that fits'.
+-- The printed rules and the function give the same answers: 003's corollary 11 with 02's order of the signal rules.
 use Prim.Native.Nat.{ℕ, _-_}
 use mathlib.Core.Path.{_≡_, refl, sym, ap, ap₂, _∙_, subst}
 use mathlib.Core.Logic.{_↔_, _≢_}
@@ -8,7 +8,7 @@ use lib.Dec.{eqb}
 use borrow.Author.Tests.{eqb-true, eqb-false, ne-eqb}
 use Rattle.esterel.specs.Sets.{member, insert, remove}
 use Rattle.esterel.specs.Statement.{Statement, nothing, pause, emit, exit, seq, par, loop, present, signal, try, setpause, suspend, held}
-use Rattle.esterel.specs.Reaction.{Code, ended, waiting, leaving, wrong, isWrong, greater, down, Reaction, gives, failed, inSeq, inPar, inLoop, inTry, inSuspend, stopped, inSignal, Case, both, neither, only−, only+, inherited, firstFit, caseOf, answer, react}
+use Rattle.esterel.specs.Reaction.{Code, ended, waiting, leaving, wrong, isWrong, greater, down, Reaction, gives, failed, inSeq, inPar, inLoop, inTry, inSuspend, stopped, inSignal, Case, both, neither, only−, only+, inherited, inheritanceFirst, firstFit, caseOf, answer, reactBy, react}
 use Rattle.esterel.specs.Rules.{Reacts}
 use Rattle.esterel.proofs.Booleans.{clash}
 
@@ -83,69 +83,59 @@ some-wrong (leaving m) (leaving n) h = absurd (let z : _≡_ {A = ℕ} 0 1 = cc 
 some-wrong (leaving m) wrong h = refl
 some-wrong wrong k+ h = refl
 
-wrong-l : (k− k+ : Code) → isWrong k− ≡ true → greater k− k+ ≡ wrong
-wrong-l k− k+ h = rw (wrong-is k− h)
-
-wrong-r : (k− k+ : Code) → isWrong k+ ≡ true → greater k− k+ ≡ wrong
-wrong-r ended k+ h = wrong-is k+ h
-wrong-r waiting k+ h = rw (wrong-is k+ h)
-wrong-r (leaving m) k+ h = rw (wrong-is k+ h)
-wrong-r wrong k+ h = refl
+pub either-wrong : (k− k+ : Code) → (isWrong k− || isWrong k+) ≡ true → greater k− k+ ≡ wrong
+either-wrong ended k+ h = wrong-is k+ h
+either-wrong waiting k+ h = rw (wrong-is k+ h)
+either-wrong (leaving m) k+ h = rw (wrong-is k+ h)
+either-wrong wrong k+ h = refl
 
 right : (k : Code) → isWrong k ≡ false → k ≢ wrong
 right k h e = clash (isWrong k) (rw e) h
 
-calm : (k− k+ : Code) → isWrong k− ≡ false → isWrong k+ ≡ false → greater k− k+ ≢ wrong
-calm k− k+ h i e = go (isWrong k−) (isWrong k+) (some-wrong k− k+ e) h i
-  where
-    go : (a b : Bool) → (a || b) ≡ true → a ≡ false → b ≡ false → ⊥
-    go a b x y z = clash (a || b) x (rw (y, z))
+-- a code that is not wrong, of two that are not
+pub right-both : (j k : Code) → isWrong j ≡ false → isWrong k ≡ false → isWrong (greater j k) ≡ false
+right-both ended k g h = h
+right-both waiting ended g h = refl
+right-both waiting waiting g h = refl
+right-both waiting (leaving n) g h = refl
+right-both waiting wrong g h = h
+right-both (leaving m) ended g h = refl
+right-both (leaving m) waiting g h = refl
+right-both (leaving m) (leaving n) g h = refl
+right-both (leaving m) wrong g h = h
+right-both wrong k g h = g
 
-last-fits : (i− i+ w− w+ : Bool) → (w− || w+) ≡ true → ¬ ((i− ≡ true) × (i+ ≡ true))
-    → ¬ ((i− ≡ true) × (i+ ≡ false) × (w+ ≡ false)) → ¬ ((i− ≡ false) × (w− ≡ false) × (i+ ≡ true))
-    → firstFit i− i+ w− w+ ≡ inherited
-last-fits true true w− w+ w n++ n+− n−+ = absurd (n++ (refl, refl))
-last-fits true false w− true w n++ n+− n−+ = refl
-last-fits true false w− false w n++ n+− n−+ = absurd (n+− (refl, refl, refl))
-last-fits false true true w+ w n++ n+− n−+ = refl
-last-fits false true false w+ w n++ n+− n−+ = absurd (n−+ (refl, refl, refl))
-last-fits false false true w+ w n++ n+− n−+ = refl
-last-fits false false false true w n++ n+− n−+ = refl
-last-fits false false false false w n++ n+− n−+ = absurd (false≢true w)
+right-two : (k− k+ : Code) → isWrong k− ≡ false → isWrong k+ ≡ false → greater k− k+ ≢ wrong
+right-two k− k+ h i = right (greater k− k+) (right-both k− k+ h i)
 
 -- the case of each signal rule, by its premises
 module _ (s o− o+ : ℕ) (k− k+ : Code) where
   abbrev Selects : Case → Type 0
-  Selects c = firstFit (member s o−) (member s o+) (isWrong k−) (isWrong k+) ≡ c
+  Selects c = firstFit inheritanceFirst (member s o−) (member s o+) (isWrong k−) (isWrong k+) ≡ c
 
-  pub fits++ : member s o− ≡ true → member s o+ ≡ true → Selects both
-  fits++ h− h+ = rw (h−, h+)
+  pub fits++ : member s o− ≡ true → member s o+ ≡ true → greater k− k+ ≢ wrong → Selects both
+  fits++ h− h+ n = let w = neither-wrong k− k+ n in rw (h−, h+, w .0, w .1)
 
   pub fits−− : member s o− ≡ false → member s o+ ≡ false → greater k− k+ ≢ wrong → Selects neither
   fits−− h− h+ n = let w = neither-wrong k− k+ n in rw (h−, h+, w .0, w .1)
 
-  pub fits+− : member s o− ≡ true → member s o+ ≡ false → k+ ≢ wrong → Selects only−
-  fits+− h− h+ n = rw (h−, h+, sane k+ n)
+  pub fits+− : member s o− ≡ true → member s o+ ≡ false → greater k− k+ ≢ wrong → Selects only−
+  fits+− h− h+ n = let w = neither-wrong k− k+ n in rw (h−, h+, w .0, w .1)
 
-  pub fits−+ : member s o− ≡ false → k− ≢ wrong → member s o+ ≡ true → Selects only+
-  fits−+ h− n h+ = rw (h−, h+, sane k− n)
+  pub fits−+ : member s o− ≡ false → member s o+ ≡ true → greater k− k+ ≢ wrong → Selects only+
+  fits−+ h− h+ n = let w = neither-wrong k− k+ n in rw (h−, h+, w .0, w .1)
 
-  pub fits∞ : greater k− k+ ≡ wrong → ¬ ((member s o− ≡ true) × (member s o+ ≡ true))
-      → ¬ ((member s o− ≡ true) × (member s o+ ≡ false) × (k+ ≢ wrong))
-      → ¬ ((member s o− ≡ false) × (k− ≢ wrong) × (member s o+ ≡ true))
-      → Selects inherited
-  fits∞ w n++ n+− n−+ =
-      last-fits (member s o−) (member s o+) (isWrong k−) (isWrong k+) (some-wrong k− k+ w) n++
-      (λ h. n+− (h .0, h .1, right k+ (h .2))) (λ h. n−+ (h .0, right k− (h .1), h .2))
+  pub fits∞ : greater k− k+ ≡ wrong → Selects inherited
+  fits∞ w = rw (some-wrong k− k+ w)
 
 -- the answer of a case is that of the signal, whose runs are the reactions of the premises
-signal-is : {r− r+ : Reaction} (a s : ℕ) (x− x+ : Reaction) {c : Case} → caseOf s x− x+ ≡ c → x− ≡ r− → x+ ≡ r+
-    → answer c a s x− x+ ≡ inSignal a s r− r+
-signal-is a s x− x+ h h− h+ = ap (λ (c : Case). answer c a s x− x+) (sym h) ∙ ap₂ (inSignal a s) h− h+
+signal-is : {r− r+ : Reaction} (a s : ℕ) (x− x+ : Reaction) {c : Case} → caseOf inheritanceFirst s x− x+ ≡ c → x− ≡ r− → x+ ≡ r+
+    → answer c a s x− x+ ≡ inSignal inheritanceFirst a s r− r+
+signal-is a s x− x+ h h− h+ = ap (λ (c : Case). answer c a s x− x+) (sym h) ∙ ap₂ (inSignal inheritanceFirst a s) h− h+
 
 -- ---- what the rules derive, the function gives
 pub sound : {p : Statement} {e : ℕ} {r : Reaction} → Reacts p e r → r ≡ react p e
-unfolding react
+unfolding reactBy
 sound Reacts.nothing = refl
 sound Reacts.pause = refl
 sound Reacts.exit = refl
@@ -160,16 +150,16 @@ sound (Reacts.try-through {o = o} {l = l} {k = k} {p′ = p′} d n) = through-t
 sound (Reacts.sequence-p {e = e} {o = o} {l = l} {k = k} {p′ = p′} {q = q} d n) =
     through-seq q o k l p′ (react q e) n ∙ ap (λ (r : Reaction). inSeq q r (react q e)) (sound d)
 sound (Reacts.sequence-q {q = q} d d₂) = ap₂ (inSeq q) (sound d) (sound d₂)
-sound (Reacts.signal++ {a = a} {s = s} {o− = o−} {o+ = o+} {k− = k−} {k+ = k+} d− i− d+ i+) =
-    signal-is a s _ _ (fits++ s o− o+ k− k+ i− i+) (sound d−) (sound d+)
+sound (Reacts.signal++ {a = a} {s = s} {o− = o−} {o+ = o+} {k− = k−} {k+ = k+} d− i− d+ i+ n) =
+    signal-is a s _ _ (fits++ s o− o+ k− k+ i− i+ n) (sound d−) (sound d+)
 sound (Reacts.signal−− {a = a} {s = s} {o− = o−} {o+ = o+} {k− = k−} {k+ = k+} d− i− d+ i+ n) =
     signal-is a s _ _ (fits−− s o− o+ k− k+ i− i+ n) (sound d−) (sound d+)
 sound (Reacts.signal+− {a = a} {s = s} {o− = o−} {o+ = o+} {k− = k−} {k+ = k+} d− i− d+ i+ n) =
     signal-is a s _ _ (fits+− s o− o+ k− k+ i− i+ n) (sound d−) (sound d+)
-sound (Reacts.signal−+ {a = a} {s = s} {o− = o−} {o+ = o+} {k− = k−} {k+ = k+} d− i− n d+ i+) =
-    signal-is a s _ _ (fits−+ s o− o+ k− k+ i− n i+) (sound d−) (sound d+)
-sound (Reacts.signal∞ {a = a} {s = s} {o− = o−} {o+ = o+} {k− = k−} {k+ = k+} d− d+ w n++ n+− n−+) =
-    signal-is a s _ _ (fits∞ s o− o+ k− k+ w n++ n+− n−+) (sound d−) (sound d+)
+sound (Reacts.signal−+ {a = a} {s = s} {o− = o−} {o+ = o+} {k− = k−} {k+ = k+} d− i− d+ i+ n) =
+    signal-is a s _ _ (fits−+ s o− o+ k− k+ i− i+ n) (sound d−) (sound d+)
+sound (Reacts.signal∞ {a = a} {s = s} {o− = o−} {o+ = o+} {k− = k−} {k+ = k+} d− d+ w) =
+    signal-is a s _ _ (fits∞ s o− o+ k− k+ w) (sound d−) (sound d+)
 sound Reacts.setpause = refl
 sound (Reacts.suspend {s = s} d) = ap (inSuspend s) (sound d)
 sound (Reacts.held+ i) = rw i
@@ -209,26 +199,16 @@ try-derives (gives o wrong l t) d = Reacts.try-through d (λ h. let z : _≡_ {A
 module _ {p : Statement} {e : ℕ} (a s o− o+ l− l+ : ℕ) (k− k+ : Code) (t− t+ : Statement)
     (d− : Reacts p (remove s e) (gives o− k− l− t−)) (d+ : Reacts p (insert s e) (gives o+ k+ l+ t+)) where
   case-derives : (i− i+ w− w+ : Bool) → member s o− ≡ i− → member s o+ ≡ i+ → isWrong k− ≡ w− → isWrong k+ ≡ w+
-      → Reacts (signal a s p) e (answer (firstFit i− i+ w− w+) a s (gives o− k− l− t−) (gives o+ k+ l+ t+))
-  case-derives true true w− w+ h− h+ v− v+ = Reacts.signal++ d− h− d+ h+
-  case-derives true false w− false h− h+ v− v+ = Reacts.signal+− d− h− d+ h+ (right k+ v+)
-  case-derives true false w− true h− h+ v− v+ =
-      Reacts.signal∞ d− d+ (wrong-r k− k+ v+) (λ x. clash (member s o+) (x .1) h+) (λ x. x .2 (wrong-is k+ v+))
-      (λ x. clash (member s o−) h− (x .0))
-  case-derives false true false w+ h− h+ v− v+ = Reacts.signal−+ d− h− (right k− v−) d+ h+
-  case-derives false true true w+ h− h+ v− v+ =
-      Reacts.signal∞ d− d+ (wrong-l k− k+ v−) (λ x. clash (member s o−) (x .0) h−) (λ x. clash (member s o−) (x .0) h−)
-      (λ x. x .1 (wrong-is k− v−))
-  case-derives false false false false h− h+ v− v+ = Reacts.signal−− d− h− d+ h+ (calm k− k+ v− v+)
-  case-derives false false true w+ h− h+ v− v+ =
-      Reacts.signal∞ d− d+ (wrong-l k− k+ v−) (λ x. clash (member s o−) (x .0) h−) (λ x. clash (member s o−) (x .0) h−)
-      (λ x. clash (member s o+) (x .2) h+)
-  case-derives false false false true h− h+ v− v+ =
-      Reacts.signal∞ d− d+ (wrong-r k− k+ v+) (λ x. clash (member s o−) (x .0) h−) (λ x. clash (member s o−) (x .0) h−)
-      (λ x. clash (member s o+) (x .2) h+)
+      → Reacts (signal a s p) e (answer (firstFit inheritanceFirst i− i+ w− w+) a s (gives o− k− l− t−) (gives o+ k+ l+ t+))
+  case-derives i− i+ true w+ h− h+ v− v+ = Reacts.signal∞ d− d+ (either-wrong k− k+ (rw v−))
+  case-derives i− i+ false true h− h+ v− v+ = Reacts.signal∞ d− d+ (either-wrong k− k+ (rw (v−, v+)))
+  case-derives true true false false h− h+ v− v+ = Reacts.signal++ d− h− d+ h+ (right-two k− k+ v− v+)
+  case-derives true false false false h− h+ v− v+ = Reacts.signal+− d− h− d+ h+ (right-two k− k+ v− v+)
+  case-derives false true false false h− h+ v− v+ = Reacts.signal−+ d− h− d+ h+ (right-two k− k+ v− v+)
+  case-derives false false false false h− h+ v− v+ = Reacts.signal−− d− h− d+ h+ (right-two k− k+ v− v+)
 
 signal-derives : {p : Statement} {e : ℕ} (a s : ℕ) (r− r+ : Reaction) → Reacts p (remove s e) r− → Reacts p (insert s e) r+
-    → Reacts (signal a s p) e (inSignal a s r− r+)
+    → Reacts (signal a s p) e (inSignal inheritanceFirst a s r− r+)
 signal-derives a s (gives o− k− l− t−) (gives o+ k+ l+ t+) d− d+ =
     case-derives a s o− o+ l− l+ k− k+ t− t+ d− d+ (member s o−) (member s o+) (isWrong k−) (isWrong k+) refl refl refl refl
 
@@ -241,7 +221,7 @@ held-derives s K true r h d = Reacts.held+ h
 held-derives s K false (gives o k l t) h d = Reacts.held− h d
 
 derive : (p : Statement) (e : ℕ) → Reacts p e (react p e)
-unfolding react
+unfolding reactBy
 derive nothing e = Reacts.nothing
 derive (pause l) e = Reacts.pause
 derive (emit s) e = Reacts.emit

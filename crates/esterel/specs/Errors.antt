@@ -6,7 +6,7 @@ use mathlib.Core.Option.{Option, some}
 use mathlib.Core.List.{List, [], _∷_, _++_, head?}
 use Rattle.esterel.specs.Sets.{member, insert, remove}
 use Rattle.esterel.specs.Statement.{Statement, nothing, pause, emit, exit, seq, par, loop, present, signal, try, setpause, suspend, held}
-use Rattle.esterel.specs.Reaction.{Code, ended, waiting, leaving, wrong, Reaction, code, Case, both, neither, only−, only+, inherited, caseOf, react}
+use Rattle.esterel.specs.Reaction.{Code, ended, waiting, leaving, wrong, Reaction, code, Case, both, neither, only−, only+, inherited, Order, inheritanceFirst, caseOf, reactBy}
 use Rattle.esterel.specs.Rules.{Reacts}
 
 pub record Error : Type 0 where
@@ -41,25 +41,32 @@ signalErrors a only+ = notDeterministic a ∷ []
 signalErrors a inherited = []
 
 -- 02, item 3: 'first part before second, run without the signal before run with it, a command after its parts'
-unfoldable pub errors : Statement → ℕ → List Error
-errors nothing e = []
-errors (pause l) e = []
-errors (emit s) e = []
-errors (exit n) e = []
-errors (seq p q) e = errors p e ++ ifEnded (code (react p e)) (errors q e) []
-errors (par p q) e = errors p e ++ errors q e
-errors (loop a p) e = errors p e ++ loopErrors a (code (react p e))
-errors (present s p q) e = cond (member s e) (errors p e) (errors q e)
-errors (signal a s p) e =
-    errors p (remove s e) ++ errors p (insert s e) ++ signalErrors a (caseOf s (react p (remove s e)) (react p (insert s e)))
-errors (try p) e = errors p e
-errors (setpause l) e = []
-errors (suspend s p) e = errors p e
-errors (held s K p) e = cond (member s e) [] (errors p e)
+unfoldable pub errorsBy : Order → Statement → ℕ → List Error
+errorsBy ord nothing e = []
+errorsBy ord (pause l) e = []
+errorsBy ord (emit s) e = []
+errorsBy ord (exit n) e = []
+errorsBy ord (seq p q) e = errorsBy ord p e ++ ifEnded (code (reactBy ord p e)) (errorsBy ord q e) []
+errorsBy ord (par p q) e = errorsBy ord p e ++ errorsBy ord q e
+errorsBy ord (loop a p) e = errorsBy ord p e ++ loopErrors a (code (reactBy ord p e))
+errorsBy ord (present s p q) e = cond (member s e) (errorsBy ord p e) (errorsBy ord q e)
+errorsBy ord (signal a s p) e =
+    errorsBy ord p (remove s e) ++ errorsBy ord p (insert s e)
+    ++ signalErrors a (caseOf ord s (reactBy ord p (remove s e)) (reactBy ord p (insert s e)))
+errorsBy ord (try p) e = errorsBy ord p e
+errorsBy ord (setpause l) e = []
+errorsBy ord (suspend s p) e = errorsBy ord p e
+errorsBy ord (held s K p) e = cond (member s e) [] (errorsBy ord p e)
+
+abbrev pub errors : Statement → ℕ → List Error
+errors = errorsBy inheritanceFirst
 
 -- 02, item 3: 'the first error in the tree of reactions'
+abbrev pub firstErrorBy : Order → Statement → ℕ → Option Error
+firstErrorBy ord p e = head? (errorsBy ord p e)
+
 abbrev pub firstError : Statement → ℕ → Option Error
-firstError p e = head? (errors p e)
+firstError = firstErrorBy inheritanceFirst
 
 -- what an instant names: nothing, as kind 0 and place 0, unless its code is wrong
 abbrev pub noError : Error
@@ -87,11 +94,11 @@ uses (Reacts.try-catch d) = uses d
 uses (Reacts.try-through d n) = uses d
 uses (Reacts.sequence-p d n) = uses d
 uses (Reacts.sequence-q d d₂) = uses d ++ uses d₂
-uses (Reacts.signal++ d− i− d+ i+) = uses d− ++ uses d+
+uses (Reacts.signal++ d− i− d+ i+ n) = uses d− ++ uses d+
 uses (Reacts.signal−− d− i− d+ i+ n) = uses d− ++ uses d+
 uses (Reacts.signal+− {a = a} d− i− d+ i+ n) = uses d− ++ uses d+ ++ (notReactive a ∷ [])
-uses (Reacts.signal−+ {a = a} d− i− n d+ i+) = uses d− ++ uses d+ ++ (notDeterministic a ∷ [])
-uses (Reacts.signal∞ d− d+ w n++ n+− n−+) = uses d− ++ uses d+
+uses (Reacts.signal−+ {a = a} d− i− d+ i+ n) = uses d− ++ uses d+ ++ (notDeterministic a ∷ [])
+uses (Reacts.signal∞ d− d+ w) = uses d− ++ uses d+
 uses Reacts.setpause = []
 uses (Reacts.suspend d) = uses d
 uses (Reacts.held+ i) = []

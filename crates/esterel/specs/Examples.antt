@@ -6,8 +6,8 @@ use mathlib.Core.Option.{Option}
 use mathlib.Core.List.{List, [], _∷_, map}
 use Rattle.esterel.specs.Sets.{member, none, only, join, insert, remove, below, from}
 use Rattle.esterel.specs.Statement.{Statement, nothing, pause, emit, exit, seq, par, loop, present, signal, try, setpause, suspend, held}
-use Rattle.esterel.specs.Reaction.{Code, ended, waiting, leaving, wrong, gives, code, emitted, labels, residual, react}
-use Rattle.esterel.specs.Errors.{Error, noError, errors, instantaneous, notReactive, notDeterministic}
+use Rattle.esterel.specs.Reaction.{Code, ended, waiting, leaving, wrong, gives, code, emitted, labels, residual, reactBy, react}
+use Rattle.esterel.specs.Errors.{Error, noError, errorsBy, errors, instantaneous, notReactive, notDeterministic}
 use Rattle.esterel.specs.Places.{first, second, Alternative, Exclusive}
 use Rattle.esterel.specs.States.{active}
 use Rattle.esterel.specs.Expansion.{expand}
@@ -27,14 +27,14 @@ row p = (code (react p 0), emitted (react p 0), labels (react p 0), errors p 0)
 abbrev reincarnated : Statement
 reincarnated = loop 0 (signal 1 0 (seq (present 0 (emit 1) nothing) (seq (pause 0) (emit 0))))
 
--- 08 00 04 02 00 07 00 00 06 00, at place a: code 0 with an error in the run that is not chosen
-abbrev hiddenAt : ℕ → Statement
-hiddenAt a = signal a 0 (seq (emit 0) (present 0 nothing (loop (a + 8) nothing)))
+-- 08 00 04 02 00 07 00 00 06 00, at place a: the body emits its signal in both runs, and one run is wrong (02, item 4)
+abbrev inheritsAt : ℕ → Statement
+inheritsAt a = signal a 0 (seq (emit 0) (present 0 nothing (loop (a + 8) nothing)))
 
-abbrev hidden : Statement
-hidden = hiddenAt 0
+abbrev inherits : Statement
+inherits = inheritsAt 0
 
--- 08 01 08 00 04 02 00 04 02 01 07 01 00 06 00: what is emitted beside an error counts inside a signal
+-- 08 01 08 00 04 02 00 04 02 01 07 01 00 06 00: what is emitted beside an error decides nothing
 abbrev beside : Statement
 beside = signal 0 1 (signal 2 0 (seq (emit 0) (seq (emit 1) (present 1 nothing (loop 13 nothing)))))
 
@@ -64,21 +64,21 @@ table =
     ∷ (try (par (pause 0) (exit 1)), (ended, 0, 0, []))
     ∷ (reincarnated, (waiting, 0, 1, []))
     ∷ (seq (emit 0) (present 0 (emit 1) nothing), (ended, 1, 0, []))
-    ∷ (hidden, (ended, 0, 0, instantaneous 8 ∷ []))
-    ∷ (beside, (ended, 0, 0, instantaneous 13 ∷ instantaneous 13 ∷ []))
+    ∷ (inherits, (wrong, 0, 0, instantaneous 8 ∷ []))
+    ∷ (beside, (wrong, 0, 0, instantaneous 13 ∷ instantaneous 13 ∷ []))
     ∷ (par (emit 1) (loop 3 nothing), (wrong, 2, 0, instantaneous 3 ∷ []))
     -- the order of 02, item 3: an error in the run without the signal, in the run with it, in both
     ∷ (signal 0 0 (present 0 nothing (loop 5 nothing)), (wrong, 0, 0, instantaneous 5 ∷ []))
     ∷ (signal 0 0 (present 0 (loop 4 nothing) nothing), (wrong, 0, 0, instantaneous 4 ∷ []))
     ∷ (signal 0 0 (present 0 (loop 4 nothing) (loop 6 nothing)), (wrong, 0, 0, instantaneous 6 ∷ instantaneous 4 ∷ []))
-    -- the first part hides one, the second is wrong
-    ∷ (par (hiddenAt 1) (loop 11 nothing), (wrong, 0, 0, instantaneous 9 ∷ instantaneous 11 ∷ []))
-    ∷ (seq (hiddenAt 1) (loop 11 nothing), (wrong, 0, 0, instantaneous 9 ∷ instantaneous 11 ∷ []))
-    -- a command after its parts
-    ∷ (loop 0 (hiddenAt 1), (wrong, 0, 0, instantaneous 9 ∷ instantaneous 0 ∷ []))
+    -- both sides of a parallel react; after a wrong first part of a sequence the second does not
+    ∷ (par (inheritsAt 1) (loop 11 nothing), (wrong, 0, 0, instantaneous 9 ∷ instantaneous 11 ∷ []))
+    ∷ (seq (inheritsAt 1) (loop 11 nothing), (wrong, 0, 0, instantaneous 9 ∷ []))
+    -- a loop and a signal do not err beside a wrong body
+    ∷ (loop 0 (inheritsAt 1), (wrong, 0, 0, instantaneous 9 ∷ []))
     ∷ (
-      signal 0 1 (seq (hiddenAt 3) (present 1 nothing (emit 1))),
-      (wrong, 0, 0, instantaneous 11 ∷ instantaneous 11 ∷ notReactive 0 ∷ []),
+      signal 0 1 (seq (inheritsAt 3) (present 1 nothing (emit 1))),
+      (wrong, 0, 0, instantaneous 11 ∷ instantaneous 11 ∷ []),
     )
     -- two errors of one command, in the two runs of another
     ∷ (
@@ -88,7 +88,7 @@ table =
     ∷ []
 
 rows : map (λ (x : Statement × Row). row (x .0)) table ≡ map (λ (x : Statement × Row). x .1) table
-unfolding table react errors member none only join insert remove
+unfolding table reactBy errorsBy member none only join insert remove
 rows = refl
 
 -- an instant that waits, or ends, names no error and shows no signal
@@ -103,7 +103,7 @@ runs : (run (byLabels reincarnated) State.fresh (0 ∷ 0 ∷ 0 ∷ []) ≡ map q
     × (run (byLabels jump) State.fresh (0 ∷ 0 ∷ 0 ∷ []) ≡ map quietly (waiting ∷ waiting ∷ ended ∷ []))
     × (run (byLabels nothing) State.fresh (0 ∷ 0 ∷ []) ≡ quietly ended ∷ refused ∷ [])
     × (run (byLabels (par (emit 1) (loop 3 nothing))) State.fresh (0 ∷ []) ≡ instant wrong (instantaneous 3) 0 over ∷ [])
-unfolding run active expand react errors member none only join insert remove
+unfolding run active expand reactBy errorsBy member none only join insert remove
 runs = (refl, refl, refl, refl, refl)
 
 -- labels 1 and 2 of `jump`, labels 2 and 3 of `split`; a side that ended, and one that is inactive, is nothing
@@ -113,7 +113,7 @@ states : (labels (react jump 0) ≡ 2)
     × (residual (react (par (try nothing) (pause 1)) 0) ≡ par nothing nothing)
     × (expand (par (pause 0) (loop 3 (pause 1))) 1 ≡ par nothing nothing)
     × Exclusive (present 0 (pause 1) (pause 2)) (first ∷ []) (second ∷ [])
-unfolding active expand react member none only join insert remove
+unfolding active expand reactBy member none only join insert remove
 states = (refl, refl, refl, refl, refl, Exclusive.apart Alternative.test)
 
 -- labels 5 and 4 have ranks 0 and 2; the second part begins with rank 1, the second side of the parallel with rank 2
@@ -137,7 +137,7 @@ resumed : (resume 0 three 4 0 ≡ Instant.instant (gives 0 ended 0 (par nothing 
     × (resume 0 (seq three (emit 1)) 2 0
     ≡ Instant.instant (gives 0 waiting 8 (seq (par (seq nothing (loop 3 (pause 3))) nothing) (emit 1))) Option.none)
     × (resume 0 (seq three (emit 1)) 4 0 ≡ Instant.instant (gives 2 ended 0 nothing) Option.none)
-unfolding resume pauseCount below from react errors member none only join insert remove
+unfolding resume pauseCount below from reactBy errorsBy member none only join insert remove
 resumed = (refl, refl, refl, refl, refl, refl)
 
 -- the pauses of the parallel are compatible, those of the sequence are not
@@ -231,7 +231,7 @@ traces : (map (λ (x : Traced). trace (x .0) (x .0) (x .1)) suspended
     × (map (λ (x : Traced). rewriting (x .0) (x .1)) suspended
     ≡ map (λ (x : Traced). x .2) suspended)
     × (trace enters enters (1 ∷ 1 ∷ 0 ∷ []) ≡ (waiting, 0, 1) ∷ (waiting, 0, 1) ∷ (ended, 2, 0) ∷ [])
-unfolding suspended trace rewriting active activeLabels labelsOf expand react member none only join insert remove
+unfolding suspended trace rewriting active activeLabels labelsOf expand reactBy member none only join insert remove
 traces = (refl, refl, refl)
 
 -- Nothing inside a stopped suspend errs, and after any other code than 1 nothing remains of it. Of a set that is not valid
@@ -242,7 +242,7 @@ kept : (errors (expand (signal 0 0 (suspend 0 (seq (pause 0) (emit 0)))) 1) 0 �
     × (residual (react (suspend 0 (try nothing)) 0) ≡ nothing)
     × (residual (react (held 0 1 (try (exit 2))) 0) ≡ nothing)
     × (labels (react (expand (suspend 0 (seq (pause 0) (pause 1))) 3) 1) ≡ 3)
-unfolding errors active activeLabels labelsOf expand react member none only join insert remove
+unfolding errorsBy active activeLabels labelsOf expand reactBy member none only join insert remove
 kept = (refl, refl, refl, refl, refl, refl)
 
 -- A loop's next round, which resuming copies, errs at the places of the first: in its body, and itself. The run of both
@@ -259,7 +259,7 @@ next-round : (errors (expand errsLater 1) 1 ≡ instantaneous 5 ∷ [])
     × (run byRewriting (Rewriting.fresh errsLater) (0 ∷ 1 ∷ []) ≡ quietly waiting ∷ instant wrong (instantaneous 5) 0 over ∷ [])
     × (run (byLabels endsLater) State.fresh (0 ∷ 1 ∷ []) ≡ quietly waiting ∷ instant wrong (instantaneous 2) 0 over ∷ [])
     × (run byRewriting (Rewriting.fresh endsLater) (0 ∷ 1 ∷ []) ≡ quietly waiting ∷ instant wrong (instantaneous 2) 0 over ∷ [])
-unfolding run errors active expand react member none only join insert remove
+unfolding run errorsBy active expand reactBy member none only join insert remove
 next-round = (refl, refl, refl, refl, refl, refl)
 
 -- Ranks 0 and 2 of `frozen` are labels 0 and 2; ranks 8 and 9 of `three`, from base 7, are labels 3 and 4. A stopped
@@ -270,5 +270,5 @@ kept-by-ranks : (labelsBy 0 frozen 5 ≡ 5)
     × (resume 0 frozen 5 0 ≡ Instant.instant (gives 0 waiting 10 (par (held 0 2 nothing) nothing)) Option.none)
     × (resume 0 (suspend 0 (seq (pause 0) (loop 5 nothing))) 1 1
     ≡ Instant.instant (gives 0 waiting 1 (held 0 1 (seq nothing (loop 5 nothing)))) Option.none)
-unfolding labelsBy resume pauseCount below from active activeLabels labelsOf expand react errors member none only join insert remove
+unfolding labelsBy resume pauseCount below from active activeLabels labelsOf expand reactBy errorsBy member none only join insert remove
 kept-by-ranks = (refl, refl, refl, refl, refl)

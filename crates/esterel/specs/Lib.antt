@@ -3,6 +3,7 @@ pub mod Statement
 pub mod Reaction
 pub mod Rules
 pub mod Errors
+pub mod SignalOrders
 pub mod Places
 pub mod States
 pub mod Expansion

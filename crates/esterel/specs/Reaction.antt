@@ -1,7 +1,7 @@
 -- One reaction as a function (01, 'One reaction'; 003, figures 3 and 7; 002, figure 4; 02, item 1): a statement and the
 -- present set E give the emitted set O, the completion code k, the labels L and the residual.
 use Prim.Native.Nat.{ℕ, _-_, max}
-use mathlib.Core.Bool.{Bool, true, false, not, _&&_, cond}
+use mathlib.Core.Bool.{Bool, true, false, not, _&&_, _||_, cond}
 use lib.Dec.{eqb}
 use Rattle.esterel.specs.Sets.{member, none, only, join, insert, remove}
 use Rattle.esterel.specs.Statement.{Statement, nothing, pause, emit, exit, seq, par, loop, present, signal, try, setpause, suspend, held}
@@ -119,17 +119,25 @@ stopped s K p = gives none waiting K (held s K p)
 pub data Case : Type 0 where
   both neither only− only+ inherited : Case
 
+-- The order in which they are tried: as 01 prints them, or inheritance of a wrong run before the other four (02, item 4).
+pub data Order : Type 0 where
+  printed inheritanceFirst : Order
+
 -- The first that fits, in printed order; is s in O−, in O+; is the code of −, of + wrong?
-abbrev pub firstFit : Bool → Bool → Bool → Bool → Case
-firstFit in− in+ wrong− wrong+ =
+abbrev pub printedFit : Bool → Bool → Bool → Bool → Case
+printedFit in− in+ wrong− wrong+ =
     cond (in− && in+) both
     (cond (not in− && not in+ && not wrong− && not wrong+) neither
     (cond (in− && not in+ && not wrong+) only−
     (cond (not in− && in+ && not wrong−) only+
     inherited)))
 
-abbrev pub caseOf : ℕ → Reaction → Reaction → Case
-caseOf s r− r+ = firstFit (member s (emitted r−)) (member s (emitted r+)) (isWrong (code r−)) (isWrong (code r+))
+abbrev pub firstFit : Order → Bool → Bool → Bool → Bool → Case
+firstFit printed in− in+ wrong− wrong+ = printedFit in− in+ wrong− wrong+
+firstFit inheritanceFirst in− in+ wrong− wrong+ = cond (wrong− || wrong+) inherited (printedFit in− in+ wrong− wrong+)
+
+abbrev pub caseOf : Order → ℕ → Reaction → Reaction → Case
+caseOf ord s r− r+ = firstFit ord (member s (emitted r−)) (member s (emitted r+)) (isWrong (code r−)) (isWrong (code r+))
 
 -- the answer of each case, from the runs without s and with s
 abbrev pub answer : Case → ℕ → ℕ → Reaction → Reaction → Reaction
@@ -140,21 +148,25 @@ answer only+ a s r− r+ = failed
 answer inherited a s r− r+ = failed
 
 -- signal s in p at place a
-abbrev pub inSignal : ℕ → ℕ → Reaction → Reaction → Reaction
-inSignal a s r− r+ = answer (caseOf s r− r+) a s r− r+
+abbrev pub inSignal : Order → ℕ → ℕ → Reaction → Reaction → Reaction
+inSignal ord a s r− r+ = answer (caseOf ord s r− r+) a s r− r+
 
--- ---- the reaction
-unfoldable pub react : Statement → ℕ → Reaction
-react nothing e = quiet
-react (pause l) e = gives none waiting (only l) nothing
-react (emit s) e = gives (only s) ended none nothing
-react (exit n) e = gives none (leaving n) none nothing
-react (seq p q) e = inSeq q (react p e) (react q e)
-react (par p q) e = inPar (react p e) (react q e)
-react (loop a p) e = inLoop a p (react p e)
-react (present s p q) e = cond (member s e) (react p e) (react q e)
-react (signal a s p) e = inSignal a s (react p (remove s e)) (react p (insert s e))
-react (try p) e = inTry (react p e)
-react (setpause l) e = gives none waiting (only l) nothing
-react (suspend s p) e = inSuspend s (react p e)
-react (held s K p) e = cond (member s e) (stopped s K p) (inSuspend s (react p e))
+-- ---- the reaction, by either order
+unfoldable pub reactBy : Order → Statement → ℕ → Reaction
+reactBy ord nothing e = quiet
+reactBy ord (pause l) e = gives none waiting (only l) nothing
+reactBy ord (emit s) e = gives (only s) ended none nothing
+reactBy ord (exit n) e = gives none (leaving n) none nothing
+reactBy ord (seq p q) e = inSeq q (reactBy ord p e) (reactBy ord q e)
+reactBy ord (par p q) e = inPar (reactBy ord p e) (reactBy ord q e)
+reactBy ord (loop a p) e = inLoop a p (reactBy ord p e)
+reactBy ord (present s p q) e = cond (member s e) (reactBy ord p e) (reactBy ord q e)
+reactBy ord (signal a s p) e = inSignal ord a s (reactBy ord p (remove s e)) (reactBy ord p (insert s e))
+reactBy ord (try p) e = inTry (reactBy ord p e)
+reactBy ord (setpause l) e = gives none waiting (only l) nothing
+reactBy ord (suspend s p) e = inSuspend s (reactBy ord p e)
+reactBy ord (held s K p) e = cond (member s e) (stopped s K p) (inSuspend s (reactBy ord p e))
+
+-- 02, item 4: 'inheritance of a wrong run is tried before the other four'; all that is not marked `printed` goes by it
+abbrev pub react : Statement → ℕ → Reaction
+react = reactBy inheritanceFirst

@@ -3,44 +3,54 @@
 use Prim.Native.Nat.{ℕ}
 use mathlib.Core.Bool.{cond}
 use mathlib.Core.Option.{Option, some}
-use mathlib.Core.List.{head?}
 use Rattle.esterel.specs.Sets.{member, insert, remove, empty, below, from}
 use Rattle.esterel.specs.Statement.{Statement, nothing, pause, emit, exit, seq, par, loop, present, signal, try, setpause, suspend, held}
-use Rattle.esterel.specs.Reaction.{Reaction, code, quiet, inSeq, inPar, inLoop, inTry, inSuspend, stopped, inSignal, caseOf, react}
-use Rattle.esterel.specs.Errors.{Error, ifEnded, loopErrors, signalErrors, firstError}
+use Rattle.esterel.specs.Reaction.{Code, isWrong, Reaction, code, quiet, inSeq, inPar, inLoop, inTry, inSuspend, stopped, Case, both, neither, only−, only+, inherited, Order, inheritanceFirst, caseOf, inSignal, reactBy}
+use Rattle.esterel.specs.Errors.{Error, instantaneous, notReactive, notDeterministic, ifEnded, firstErrorBy}
 use Rattle.esterel.specs.Expansion.{expand}
 use Rattle.esterel.specs.Ranks.{middle, labelsBy}
 
--- a reaction, and the first error of its tree
+-- a reaction and, where it is wrong, the first error of its tree
 pub data Instant : Type 0 where
   instant : (r : Reaction) (first : Option Error) → Instant
 
-abbrev pub start : Statement → ℕ → Instant
-start p e = instant (react p e) (firstError p e)
+abbrev pub startBy : Order → Statement → ℕ → Instant
+startBy ord p e = instant (reactBy ord p e) (firstErrorBy ord p e)
 
-abbrev pub earlier : Option Error → Option Error → Option Error
-earlier (some x) y = some x
-earlier Option.none y = y
+abbrev pub start : Statement → ℕ → Instant
+start = startBy inheritanceFirst
+
+-- the error of the first of two reactions where it is wrong, else that of the second
+abbrev pub ifWrong : Code → (x y : Option Error) → Option Error
+ifWrong k x y = cond (isWrong k) x y
 
 -- ---- what a command makes of the instants of its parts
 abbrev pub idle : Instant
 idle = instant quiet Option.none
 
 abbrev pub seqInstant : Statement → Instant → Instant → Instant
-seqInstant q (instant r x) (instant r₂ x₂) = instant (inSeq q r r₂) (earlier x (ifEnded (code r) x₂ Option.none))
+seqInstant q (instant r x) (instant r₂ x₂) = instant (inSeq q r r₂) (ifEnded (code r) x₂ x)
 
 abbrev pub parInstant : Instant → Instant → Instant
-parInstant (instant r x) (instant r₂ x₂) = instant (inPar r r₂) (earlier x x₂)
+parInstant (instant r x) (instant r₂ x₂) = instant (inPar r r₂) (ifWrong (code r) x x₂)
 
 abbrev pub loopInstant : ℕ → Statement → Instant → Instant
-loopInstant a p (instant r x) = instant (inLoop a p r) (earlier x (head? (loopErrors a (code r))))
+loopInstant a p (instant r x) = instant (inLoop a p r) (ifEnded (code r) (some (instantaneous a)) x)
 
 abbrev pub tryInstant : Instant → Instant
 tryInstant (instant r x) = instant (inTry r) x
 
+-- a signal errs itself only where neither run is wrong
+abbrev pub signalNames : Case → ℕ → Option Error → Option Error
+signalNames both a x = Option.none
+signalNames neither a x = Option.none
+signalNames only− a x = some (notReactive a)
+signalNames only+ a x = some (notDeterministic a)
+signalNames inherited a x = x
+
 abbrev pub signalInstant : ℕ → ℕ → Instant → Instant → Instant
 signalInstant a s (instant r− x−) (instant r+ x+) =
-    instant (inSignal a s r− r+) (earlier (earlier x− x+) (head? (signalErrors a (caseOf s r− r+))))
+    instant (inSignal inheritanceFirst a s r− r+) (signalNames (caseOf inheritanceFirst s r− r+) a (ifWrong (code r−) x− x+))
 
 abbrev pub suspendInstant : ℕ → Instant → Instant
 suspendInstant s (instant r x) = instant (inSuspend s r) x

@@ -1,7 +1,7 @@
 -- The rules of a reaction as printed: 003, figure 3 (all but loop and signal) and figure 7 (loop and signal), with the
 -- labels of 002, figure 4, its setpause (section 4.2), and the suspend of 02, item 1, which is Berry's (1999).
 -- `Reacts p e (gives o k l p′)` is the printed p —O,k,L/E→ p′.
--- Three things are added, each marked where it stands: the labels, 01's residuals, and 01's 'first that fits'.
+-- Three things are added, each marked where it stands: the labels, 01's residuals, and 02's order of the signal rules.
 use Prim.Native.Nat.{ℕ}
 use mathlib.Core.Path.{_≡_}
 use mathlib.Core.Logic.{_≢_}
@@ -54,11 +54,13 @@ pub data Reacts : Statement → ℕ → Reaction → Type 0 where
       → Reacts p e (gives o ended l p′)
       → Reacts q e (gives o₂ k l₂ q′)
       → Reacts (Statement.seq p q) e (gives (join o o₂) k l₂ q′)
+  -- 02, item 4: inheritance is tried first, so the other four ask that no run is wrong
   signal++ : {e a s o− o+ l− l+ : ℕ} {k− k+ : Code} {p p− p+ : Statement}
       → Reacts p (remove s e) (gives o− k− l− p−)
       → member s o− ≡ true
       → Reacts p (insert s e) (gives o+ k+ l+ p+)
       → member s o+ ≡ true
+      → greater k− k+ ≢ wrong
       → Reacts (Statement.signal a s p) e (gives (remove s o+) k+ l+ (Statement.signal a s p+))
   signal−− : {e a s o− o+ l− l+ : ℕ} {k− k+ : Code} {p p− p+ : Statement}
       → Reacts p (remove s e) (gives o− k− l− p−)
@@ -72,23 +74,19 @@ pub data Reacts : Statement → ℕ → Reaction → Type 0 where
       → member s o− ≡ true
       → Reacts p (insert s e) (gives o+ k+ l+ p+)
       → member s o+ ≡ false
-      → k+ ≢ wrong
+      → greater k− k+ ≢ wrong
       → Reacts (Statement.signal a s p) e (gives none wrong none Statement.nothing)
   signal−+ : {e a s o− o+ l− l+ : ℕ} {k− k+ : Code} {p p− p+ : Statement}
       → Reacts p (remove s e) (gives o− k− l− p−)
       → member s o− ≡ false
-      → k− ≢ wrong
       → Reacts p (insert s e) (gives o+ k+ l+ p+)
       → member s o+ ≡ true
+      → greater k− k+ ≢ wrong
       → Reacts (Statement.signal a s p) e (gives none wrong none Statement.nothing)
-  -- 01, first that fits: the last three premises say that signal++, signal+− and signal−+ do not fit
   signal∞ : {e a s o− o+ l− l+ : ℕ} {k− k+ : Code} {p p− p+ : Statement}
       → Reacts p (remove s e) (gives o− k− l− p−)
       → Reacts p (insert s e) (gives o+ k+ l+ p+)
       → greater k− k+ ≡ wrong
-      → ¬ ((member s o− ≡ true) × (member s o+ ≡ true))
-      → ¬ ((member s o− ≡ true) × (member s o+ ≡ false) × (k+ ≢ wrong))
-      → ¬ ((member s o− ≡ false) × (k− ≢ wrong) × (member s o+ ≡ true))
       → Reacts (Statement.signal a s p) e (gives none wrong none Statement.nothing)
   -- 002, section 4.2
   setpause : {e l : ℕ} → Reacts (Statement.setpause l) e (gives none waiting (only l) Statement.nothing)

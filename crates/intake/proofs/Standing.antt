@@ -3,7 +3,6 @@ use Prim.Native.Nat.{ℕ}
 use mathlib.Core.Path.{_≡_, refl, sym, ap, _∙_}
 use mathlib.Core.Logic.{_≢_}
 use mathlib.Core.Bool.{Bool, true, false, _&&_, cond}
-use mathlib.Core.Option.{Option, some}
 use mathlib.Core.List.{List}
 use lib.Dec.{eqb}
 use borrow.Author.Tests.{ne-eqb}
@@ -14,9 +13,9 @@ use Rattle.esterel.specs.LabelTests.{valid}
 use Rattle.esterel.specs.Resume as Esterel
 use Rattle.esterel.specs.Machines.{State}
 use Rattle.sets.proofs.LabelValues.{labelSet-of}
-use Rattle.rules.specs.Instants.{instantOf}
-use Rattle.rules.specs.declared.instant.Completion.{Completion}
-use Rattle.rules.specs.declared.instant.Completion.the-variants.{Waiting}
+use Rattle.rules.specs.Reactions.{reactionOf}
+use Rattle.rules.specs.declared.reaction.Completion.{Completion}
+use Rattle.rules.specs.declared.reaction.Completion.the-variants.{Waiting}
 use Rattle.records.specs.Records.{phaseIn, labelsIn, encodeState, encodeAnswer, holds, malformed, decodeState}
 use Rattle.demands.specs.Tick.{Outcome, written}
 use Rattle.intake.specs.declared.tick.Standing.the-variants as stands
@@ -63,10 +62,9 @@ pub arm : (k c : Completion) (o L : ℕ) (result : Outcome) → k ≡ c → resu
 arm k c o L result e h = h ∙ ap (λ (x : Completion). writtenBy x o L) (sym e)
 
 -- WRITTEN: the code's instant writes what esterel's does
-pub written-from : (j : Esterel.Instant) → writtenFrom (instantOf j) ≡ written j
+pub written-from : (j : Esterel.Instant) → writtenFrom (reactionOf j) ≡ written j
 unfolding encodeState encodeAnswer none
 written-from (Esterel.instant (gives o ended l t) x) = refl
 written-from (Esterel.instant (gives o waiting l t) x) = rw labelSet-of
 written-from (Esterel.instant (gives o (leaving n) l t) x) = refl
-written-from (Esterel.instant (gives o wrong l t) Option.none) = refl
-written-from (Esterel.instant (gives o wrong l t) (some x)) = refl
+written-from (Esterel.instant (gives o wrong l t) x) = refl

@@ -3,12 +3,12 @@ use Prim.Native.Nat.{ℕ}
 use native.Mathlib.Omega.{arith}
 use mathlib.Core.Path.{_≡_, sym, ap, _∙_, subst}
 use mathlib.Core.Logic.{_≢_}
-use mathlib.Core.Option.{Option, some}
+use mathlib.Core.Option.{Option}
 use mathlib.Core.List.{List}
 use lib.ListN.{length}
 use borrow.Author.Tests.{eq-eqb, ne-eqb}
 use Rattle.esterel.specs.Statement.{Statement}
-use Rattle.esterel.specs.Reaction.{Code, ended, waiting, leaving, wrong, code, react}
+use Rattle.esterel.specs.Reaction.{Code, ended, waiting, leaving, wrong, code, react, inheritanceFirst}
 use Rattle.esterel.specs.Errors.{Error, firstError}
 use Rattle.esterel.specs.Ranks.{mask}
 use Rattle.esterel.specs.Expansion.{expand}
@@ -26,10 +26,10 @@ use Rattle.layout.proofs.Laid.{ready}
 use Rattle.layout.specs.Known.{Known, Sound}
 use Rattle.checks.specs.Verdict.{Judged}
 use Rattle.sequence.specs.Check.{Checked, sound, bad, checked, numberOf, checkOf}
-use Rattle.rules.specs.Instants.{instantOf, completionOf}
-use Rattle.rules.specs.declared.instant.Instant.{Instant}
+use Rattle.rules.specs.Reactions.{reactionOf, completionOf}
+use Rattle.rules.specs.declared.reaction.Reaction.{Reaction}
 use Rattle.records.specs.Records.{stateLength, answerLength, labelsIn, Decoded, holds, malformed, decodeState}
-use Rattle.demands.specs.Tick.{outcome, byState, byCheck, tickOf}
+use Rattle.demands.specs.Tick.{outcome, byState, byCheck, tickBy, tickOf}
 use Rattle.intake.specs.declared.tick.Standing.the-variants as stands
 use Rattle.intake.specs.declared.tick.Reply.{Reply}
 use Rattle.intake.specs.declared.tick.Reply.the-variants.{Refused, Reacted}
@@ -43,10 +43,9 @@ writable-code : (k : Code) (x : Option Error) → Exits k → WritableCode (comp
 writable-code ended x f = tt
 writable-code waiting x f = tt
 writable-code (leaving n) x f = omega arith
-writable-code wrong Option.none f = tt
-writable-code wrong (some x) f = tt
+writable-code wrong x f = tt
 
-writable : (t : Statement) (e : ℕ) → Bounded t → (i : Instant) → i ≡ instantOf (start t e) → Writable i
+writable : (t : Statement) (e : ℕ) → Bounded t → (i : Reaction) → i ≡ reactionOf (start t e) → Writable i
 writable t e r i w = subst Writable (sym w) (writable-code (code (react t e)) (firstError t e) (code-exits t e r))
 
 -- ---- what is known of a sequence that the check has passed
@@ -79,17 +78,17 @@ module _ (sequence state : List ℕ) (e : ℕ) where
   unfolding checkOf
   refused n h z = record { writable = tt; is = λ answer. go (checked sequence) h answer }
     where
-      go : (c : Checked) → n ≡ numberOf c → (answer : List ℕ) → outcome n state answer ≡ byCheck c state e answer
+      go : (c : Checked) → n ≡ numberOf c → (answer : List ℕ) → outcome n state answer ≡ byCheck inheritanceFirst c state e answer
       go (bad k) x answer = ap (λ (m : ℕ). outcome m state answer) x
       go (sound p) x answer = absurd (z x)
 
   module _ (p : Statement) (s : checked sequence ≡ sound p) (ranged : Ranged p) where
     -- the record holds d
-    by-record : (d : Decoded) → decodeState p state ≡ d → (answer : List ℕ) → byState p d state e answer ≡ byCheck (checked sequence) state e answer
-    by-record d w answer = sym (ap (λ (c : Checked). byCheck c state e answer) s ∙ ap (λ (x : Decoded). byState p x state e answer) w)
+    by-record : (d : Decoded) → decodeState p state ≡ d → (answer : List ℕ) → byState inheritanceFirst p d state e answer ≡ byCheck inheritanceFirst (checked sequence) state e answer
+    by-record d w answer = sym (ap (λ (c : Checked). byCheck inheritanceFirst c state e answer) s ∙ ap (λ (x : Decoded). byState inheritanceFirst p x state e answer) w)
 
-    reacts : (t : Statement) (i : Instant) → Bounded t → i ≡ instantOf (start t e)
-        → ((answer : List ℕ) → writtenFrom (instantOf (start t e)) ≡ byCheck (checked sequence) state e answer) → Replies sequence state e (Reacted i)
+    reacts : (t : Statement) (i : Reaction) → Bounded t → i ≡ reactionOf (start t e)
+        → ((answer : List ℕ) → writtenFrom (reactionOf (start t e)) ≡ byCheck inheritanceFirst (checked sequence) state e answer) → Replies sequence state e (Reacted i)
     reacts t i r h k = record { writable = writable t e r i h; is = λ answer. ap writtenFrom h ∙ k answer }
 
     pub malformed-reply : Decodes p state stands.Malformed → Replies sequence state e (Refused 11)
@@ -98,28 +97,28 @@ module _ (sequence state : List ℕ) (e : ℕ) where
     pub over-reply : Decodes p state stands.Over → Replies sequence state e (Refused 12)
     over-reply d = record { writable = tt; is = by-record (holds State.over) d }
 
-    pub fresh-reply : (i : Instant) → Decodes p state stands.Fresh → i ≡ instantOf (start p e) → Replies sequence state e (Reacted i)
+    pub fresh-reply : (i : Reaction) → Decodes p state stands.Fresh → i ≡ reactionOf (start p e) → Replies sequence state e (Reacted i)
     fresh-reply i d h = reacts p i (ranged-bounded p ranged) h (λ answer. written-from (start p e) ∙ by-record (holds State.fresh) d answer)
 
-    pub waiting-reply : (i : Instant) (m : Labels) → Decodes p state (stands.Waiting m) → i ≡ instantOf (resume 0 p (labelSet m) e)
+    pub waiting-reply : (i : Reaction) (m : Labels) → Decodes p state (stands.Waiting m) → i ≡ reactionOf (resume 0 p (labelSet m) e)
         → Replies sequence state e (Reacted i)
     waiting-reply i m d h =
         let L = labelsIn state in
         let t : resume 0 p (mask 0 p L) e ≡ start (expand p L) e = resumes 0 p L e (valid-active p L (valid-is p L .0 (d .1))) in
-        reacts (expand p L) i (bounded-expand p L (ranged-bounded p ranged)) (h ∙ ap (λ (k : ℕ). instantOf (resume 0 p k e)) (d .2) ∙ ap instantOf t)
+        reacts (expand p L) i (bounded-expand p L (ranged-bounded p ranged)) (h ∙ ap (λ (k : ℕ). reactionOf (resume 0 p k e)) (d .2) ∙ ap reactionOf t)
         (λ answer. written-from (start (expand p L) e) ∙ by-record (holds (State.waits L)) (d .0) answer)
 
 -- ---- the returns of the tick
 module _ (sequence state : List ℕ) (e : ℕ) (answer : List ℕ) where
   pub other-state : length state ≢ stateLength → outcome 1 state answer ≡ tickOf sequence state e answer
-  unfolding tickOf
+  unfolding tickBy
   other-state n = rw (ne-eqb (length state) stateLength n)
 
   module _ (i : length state ≡ stateLength) where
     pub other-answer : length answer ≢ answerLength → outcome 1 state answer ≡ tickOf sequence state e answer
-    unfolding tickOf
+    unfolding tickBy
     other-answer n = rw (eq-eqb (length state) stateLength i, ne-eqb (length answer) answerLength n)
 
     pub as-replied : length answer ≡ answerLength → (r : Reply) → Replies sequence state e r → replied r state answer ≡ tickOf sequence state e answer
-    unfolding tickOf
+    unfolding tickBy
     as-replied j r h = rw (eq-eqb (length state) stateLength i, eq-eqb (length answer) answerLength j) (h .is answer)

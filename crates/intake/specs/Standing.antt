@@ -6,14 +6,15 @@ use mathlib.Core.List.{List}
 use Rattle.sequence.specs.Reader.{read}
 use Rattle.sequence.specs.Check.{checked}
 use Rattle.layout.specs.Known.{Known}
+use Rattle.esterel.specs.Reaction.{inheritanceFirst}
 use Rattle.esterel.specs.Statement.{Statement}
 use Rattle.esterel.specs.LabelTests.{valid}
 use Rattle.esterel.specs.Ranks.{mask}
 use Rattle.esterel.specs.Machines.{State}
 use Rattle.sets.specs.Labels.{labelSet}
-use Rattle.rules.specs.declared.instant.Completion.{Completion}
-use Rattle.rules.specs.declared.instant.Completion.the-variants.{Ended, Waiting, Leaving, Wrong}
-use Rattle.rules.specs.declared.instant.Instant.{Instant}
+use Rattle.rules.specs.declared.reaction.Completion.{Completion}
+use Rattle.rules.specs.declared.reaction.Completion.the-variants.{Ended, Waiting, Leaving, Wrong}
+use Rattle.rules.specs.declared.reaction.Reaction.{Reaction}
 use Rattle.intake.specs.declared.tick.Standing.{Standing}
 use Rattle.intake.specs.declared.tick.Standing.the-variants as stands
 use Rattle.intake.specs.declared.tick.Reply.{Reply}
@@ -41,8 +42,8 @@ WritableCode Waiting = Unit {0}
 WritableCode (Leaving n) = n < 254
 WritableCode (Wrong kind place) = Unit {0}
 
-abbrev pub Writable : Instant → Type 0
-Writable i = WritableCode (i .reaction .completion)
+abbrev pub Writable : Reaction → Type 0
+Writable r = WritableCode (r .completion)
 
 -- what an instant writes, by its completion: phase and labels, then code, kind, place and emitted set
 abbrev pub writtenBy : Completion → (emitted labels : ℕ) → Outcome
@@ -51,20 +52,20 @@ writtenBy Waiting o L = outcome 0 (stateRecord 1 L) (answerRecord 1 0 0 o)
 writtenBy (Leaving n) o L = outcome 0 (stateRecord 2 none) (answerRecord (n + 1) 0 0 o)
 writtenBy (Wrong kind place) o L = outcome 0 (stateRecord 2 none) (answerRecord 255 kind place 0)
 
-abbrev pub writtenFrom : Instant → Outcome
-writtenFrom i = writtenBy (i .reaction .completion) (i .reaction .emitted) (labelSet (i .reaction .labels))
+abbrev pub writtenFrom : Reaction → Outcome
+writtenFrom r = writtenBy (r .completion) (r .emitted) (labelSet (r .labels))
 
 -- ---- what a call comes to before anything is written
 abbrev pub WritableReply : Reply → Type 0
 WritableReply (Refused number) = Unit {0}
-WritableReply (Reacted i) = Writable i
+WritableReply (Reacted r) = Writable r
 
 -- a refusal leaves both buffers
 abbrev pub replied : Reply → (state answer : List ℕ) → Outcome
 replied (Refused number) state answer = outcome number state answer
-replied (Reacted i) state answer = writtenFrom i
+replied (Reacted r) state answer = writtenFrom r
 
 -- r is what an accepted or refused sequence comes to in the state of the record, whatever the answer buffer
 pub record Replies (sequence state : List ℕ) (e : ℕ) (r : Reply) : Type 0 where
   pub writable : WritableReply r
-  pub is : (answer : List ℕ) → replied r state answer ≡ byCheck (checked sequence) state e answer
+  pub is : (answer : List ℕ) → replied r state answer ≡ byCheck inheritanceFirst (checked sequence) state e answer

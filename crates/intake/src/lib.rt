@@ -39,6 +39,6 @@ pub extern "C" fn intake_tick(
     }
     match crate::tick::reply_to(sequence, state, input) {
         Reply::Refused(number) => number,
-        Reply::Reacted(instant) => crate::tick::finish(state, answer, instant),
+        Reply::Reacted(reaction) => crate::tick::finish(state, answer, reaction),
     }
 }

@@ -7,8 +7,8 @@ ghost use Rattle.demands.specs.Tick.{outcome};
 ghost use Rattle.intake.specs.Standing.{DecodesRead, Replies, Writable, writtenFrom};
 use notes::Notes;
 use reading::reader::Seconds;
-use rules::instant::Completion;
-use rules::instant::Instant;
+use rules::reaction::Completion;
+use rules::reaction::Reaction;
 use sets::labels::Labels;
 use validity::activity::Validity;
 
@@ -44,10 +44,10 @@ fn decode(sequence: &[u8], second: &Seconds, notes: &Notes, state: &[u8]) -> Sta
     Standing::Malformed
 }
 
-// What a call comes to before anything is written: the row that turns it down, or its instant.
+// What a call comes to before anything is written: the row that turns it down, or its reaction.
 pub enum Reply {
     Refused(u8),
-    Reacted(Instant),
+    Reacted(Reaction),
 }
 
 // The sequence in the state of a record: a fresh machine reacts, a waiting one resumes.
@@ -82,11 +82,10 @@ pub fn reply_to(sequence: &[u8], state: &[u8], input: u32) -> Reply
 }
 
 // Writes both records of an instant.
-pub fn finish(state: &mut [u8], answer: &mut [u8], i: Instant) -> u8
-    requires { ⌜ (length (now state) ≡ stateLength) × (length (now answer) ≡ answerLength) × Writable i ⌝ }
-    ensures { λ r. ⌜ outcome r (now (state .exit)) (now (answer .exit)) ≡ writtenFrom i ⌝ }
+pub fn finish(state: &mut [u8], answer: &mut [u8], r: Reaction) -> u8
+    requires { ⌜ (length (now state) ≡ stateLength) × (length (now answer) ≡ answerLength) × Writable r ⌝ }
+    ensures { λ n. ⌜ outcome n (now (state .exit)) (now (answer .exit)) ≡ writtenFrom r ⌝ }
 {
-    let r = i.reaction;
     let k = r.completion;
     match k {
         Completion::Ended => {

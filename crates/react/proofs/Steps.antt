@@ -7,73 +7,73 @@ use borrow.Author.Tests.{lt-ltb}
 use Rattle.sets.specs.Sets.{signalCount, labelCount, onlyBelow, insertBelow}
 use Rattle.esterel.specs.Sets.{member, none, insert, remove}
 use Rattle.esterel.specs.Statement.{Statement, nothing, pause, emit, exit, seq, par, loop, present, signal, try, setpause, suspend}
-use Rattle.esterel.specs.Reaction.{ended, waiting, leaving, gives, react}
-use Rattle.esterel.specs.Errors.{errors}
+use Rattle.esterel.specs.Reaction.{ended, waiting, leaving, gives, reactBy}
+use Rattle.esterel.specs.Errors.{errorsBy}
 use Rattle.esterel.specs.Resume as Esterel
 use Rattle.esterel.specs.Resume.{instant, start, seqInstant, parInstant, loopInstant, tryInstant, signalInstant}
 use Rattle.esterel.proofs.Resume.{start-seq, start-par, start-loop, start-present, start-signal, start-try, start-suspend}
-use Rattle.rules.specs.declared.instant.Instant.{Instant}
-use Rattle.rules.specs.Instants.{instantOf}
-use Rattle.rules.proofs.Combining.{suspend-instant}
+use Rattle.rules.specs.declared.reaction.Reaction.{Reaction}
+use Rattle.rules.specs.Reactions.{reactionOf}
+use Rattle.rules.proofs.Combining.{suspend-reaction}
 
 -- ---- commands without parts, once they are known
-module _ (p : Statement) (e : ℕ) (r : Instant) where
-  pub nothing-step : p ≡ nothing → r ≡ instantOf (instant (gives 0 ended none nothing) Option.none) → r ≡ instantOf (start p e)
-  unfolding react errors none
+module _ (p : Statement) (e : ℕ) (r : Reaction) where
+  pub nothing-step : p ≡ nothing → r ≡ reactionOf (instant (gives 0 ended none nothing) Option.none) → r ≡ reactionOf (start p e)
+  unfolding reactBy errorsBy none
   nothing-step h k = rw h k
 
   pub emit-step : (x s : ℕ) → p ≡ emit s → s < signalCount → x ≡ onlyBelow signalCount s
-      → r ≡ instantOf (instant (gives x ended none nothing) Option.none) → r ≡ instantOf (start p e)
-  unfolding react errors
+      → r ≡ reactionOf (instant (gives x ended none nothing) Option.none) → r ≡ reactionOf (start p e)
+  unfolding reactBy errorsBy
   emit-step x s h l k i = rw h (i ∙ rw (k, lt-ltb s signalCount l))
 
-  pub exit-step : (n : ℕ) → p ≡ exit n → r ≡ instantOf (instant (gives none (leaving n) none nothing) Option.none) → r ≡ instantOf (start p e)
-  unfolding react errors
+  pub exit-step : (n : ℕ) → p ≡ exit n → r ≡ reactionOf (instant (gives none (leaving n) none nothing) Option.none) → r ≡ reactionOf (start p e)
+  unfolding reactBy errorsBy
   exit-step n h k = rw h k
 
-  module _ (l : ℕ) (small : l < labelCount) (h : r ≡ instantOf (instant (gives none waiting (onlyBelow labelCount l) nothing) Option.none)) where
-    pub pause-step : p ≡ pause l → r ≡ instantOf (start p e)
-    unfolding react errors
+  module _ (l : ℕ) (small : l < labelCount) (h : r ≡ reactionOf (instant (gives none waiting (onlyBelow labelCount l) nothing) Option.none)) where
+    pub pause-step : p ≡ pause l → r ≡ reactionOf (start p e)
+    unfolding reactBy errorsBy
     pause-step k = rw k (h ∙ rw (lt-ltb l labelCount small))
 
-    pub setpause-step : p ≡ setpause l → r ≡ instantOf (start p e)
-    unfolding react errors
+    pub setpause-step : p ≡ setpause l → r ≡ reactionOf (start p e)
+    unfolding reactBy errorsBy
     setpause-step k = rw k (h ∙ rw (lt-ltb l labelCount small))
 
 -- what is said of a command is said of the statement that it is
-pub here : (t : Statement) (p : Statement) (e : ℕ) {r : Instant} → p ≡ t → r ≡ instantOf (start t e) → r ≡ instantOf (start p e)
-here t p e h m = m ∙ ap (λ (z : Statement). instantOf (start z e)) (sym h)
+pub here : (t : Statement) (p : Statement) (e : ℕ) {r : Reaction} → p ≡ t → r ≡ reactionOf (start t e) → r ≡ reactionOf (start p e)
+here t p e h m = m ∙ ap (λ (z : Statement). reactionOf (start z e)) (sym h)
 
-module _ (e : ℕ) {p r : Instant} where
-  pub loop-step : (a : ℕ) (t : Statement) → p ≡ instantOf (start t e)
-      → ((u : Statement) (i : Esterel.Instant) → p ≡ instantOf i → r ≡ instantOf (loopInstant a u i)) → r ≡ instantOf (start (loop a t) e)
-  loop-step a t h k = k t (start t e) h ∙ ap instantOf (sym (start-loop a t e))
+module _ (e : ℕ) {p r : Reaction} where
+  pub loop-step : (a : ℕ) (t : Statement) → p ≡ reactionOf (start t e)
+      → ((u : Statement) (i : Esterel.Instant) → p ≡ reactionOf i → r ≡ reactionOf (loopInstant a u i)) → r ≡ reactionOf (start (loop a t) e)
+  loop-step a t h k = k t (start t e) h ∙ ap reactionOf (sym (start-loop a t e))
 
-  pub try-step : (t : Statement) → p ≡ instantOf (start t e)
-      → ((i : Esterel.Instant) → p ≡ instantOf i → r ≡ instantOf (tryInstant i)) → r ≡ instantOf (start (try t) e)
-  try-step t h k = k (start t e) h ∙ ap instantOf (sym (start-try t e))
+  pub try-step : (t : Statement) → p ≡ reactionOf (start t e)
+      → ((i : Esterel.Instant) → p ≡ reactionOf i → r ≡ reactionOf (tryInstant i)) → r ≡ reactionOf (start (try t) e)
+  try-step t h k = k (start t e) h ∙ ap reactionOf (sym (start-try t e))
 
-  pub signal-step : (a x : ℕ) (t : Statement) {q : Instant} {e− e+ : ℕ} → x < signalCount
-      → e− ≡ remove x e → p ≡ instantOf (start t e−) → e+ ≡ insertBelow signalCount x e → q ≡ instantOf (start t e+)
-      → ((i j : Esterel.Instant) → p ≡ instantOf i → q ≡ instantOf j → r ≡ instantOf (signalInstant a x i j)) → r ≡ instantOf (start (signal a x t) e)
+  pub signal-step : (a x : ℕ) (t : Statement) {q : Reaction} {e− e+ : ℕ} → x < signalCount
+      → e− ≡ remove x e → p ≡ reactionOf (start t e−) → e+ ≡ insertBelow signalCount x e → q ≡ reactionOf (start t e+)
+      → ((i j : Esterel.Instant) → p ≡ reactionOf i → q ≡ reactionOf j → r ≡ reactionOf (signalInstant a x i j)) → r ≡ reactionOf (start (signal a x t) e)
   signal-step a x t {q} {e−} {e+} l u h v m k =
       let v′ : e+ ≡ insert x e = v ∙ rw (lt-ltb x signalCount l) in
-      k (start t (remove x e)) (start t (insert x e)) (rw u at h) (rw v′ at m) ∙ ap instantOf (sym (start-signal a x t e))
+      k (start t (remove x e)) (start t (insert x e)) (rw u at h) (rw v′ at m) ∙ ap reactionOf (sym (start-signal a x t e))
 
-  pub seq-step : (t u : Statement) → p ≡ instantOf (start t e)
-      → ((i : Esterel.Instant) → p ≡ instantOf i → r ≡ instantOf (seqInstant u i (start u e))) → r ≡ instantOf (start (seq t u) e)
-  seq-step t u h k = k (start t e) h ∙ ap instantOf (sym (start-seq t u e))
+  pub seq-step : (t u : Statement) → p ≡ reactionOf (start t e)
+      → ((i : Esterel.Instant) → p ≡ reactionOf i → r ≡ reactionOf (seqInstant u i (start u e))) → r ≡ reactionOf (start (seq t u) e)
+  seq-step t u h k = k (start t e) h ∙ ap reactionOf (sym (start-seq t u e))
 
-  pub par-step : (t u : Statement) {q : Instant} → p ≡ instantOf (start t e) → q ≡ instantOf (start u e)
-      → ((i j : Esterel.Instant) → p ≡ instantOf i → q ≡ instantOf j → r ≡ instantOf (parInstant i j)) → r ≡ instantOf (start (par t u) e)
-  par-step t u h m k = k (start t e) (start u e) h m ∙ ap instantOf (sym (start-par t u e))
+  pub par-step : (t u : Statement) {q : Reaction} → p ≡ reactionOf (start t e) → q ≡ reactionOf (start u e)
+      → ((i j : Esterel.Instant) → p ≡ reactionOf i → q ≡ reactionOf j → r ≡ reactionOf (parInstant i j)) → r ≡ reactionOf (start (par t u) e)
+  par-step t u h m k = k (start t e) (start u e) h m ∙ ap reactionOf (sym (start-par t u e))
 
-pub suspend-step : (e s : ℕ) (t : Statement) {r : Instant} → r ≡ instantOf (start t e) → r ≡ instantOf (start (suspend s t) e)
-suspend-step e s t h = h ∙ suspend-instant s (start t e) ∙ ap instantOf (sym (start-suspend s t e))
+pub suspend-step : (e s : ℕ) (t : Statement) {r : Reaction} → r ≡ reactionOf (start t e) → r ≡ reactionOf (start (suspend s t) e)
+suspend-step e s t h = h ∙ suspend-reaction s (start t e) ∙ ap reactionOf (sym (start-suspend s t e))
 
-module _ (e x : ℕ) (t u : Statement) {r : Instant} where
-  pub present-step : member x e ≡ true → r ≡ instantOf (start t e) → r ≡ instantOf (start (present x t u) e)
-  present-step b h = h ∙ ap instantOf (sym (start-present x t u e ∙ ap (λ (z : Bool). cond z (start t e) (start u e)) b))
+module _ (e x : ℕ) (t u : Statement) {r : Reaction} where
+  pub present-step : member x e ≡ true → r ≡ reactionOf (start t e) → r ≡ reactionOf (start (present x t u) e)
+  present-step b h = h ∙ ap reactionOf (sym (start-present x t u e ∙ ap (λ (z : Bool). cond z (start t e) (start u e)) b))
 
-  pub absent-step : member x e ≡ false → r ≡ instantOf (start u e) → r ≡ instantOf (start (present x t u) e)
-  absent-step b h = h ∙ ap instantOf (sym (start-present x t u e ∙ ap (λ (z : Bool). cond z (start t e) (start u e)) b))
+  pub absent-step : member x e ≡ false → r ≡ reactionOf (start u e) → r ≡ reactionOf (start (present x t u) e)
+  absent-step b h = h ∙ ap reactionOf (sym (start-present x t u e ∙ ap (λ (z : Bool). cond z (start t e) (start u e)) b))

@@ -6,14 +6,14 @@ use Rattle.esterel.specs.Statement.{Statement}
 use Rattle.esterel.specs.Resume as Esterel
 use Rattle.esterel.specs.Resume.{start, seqInstant}
 use Rattle.layout.specs.Layout.{Lies}
-use Rattle.rules.specs.declared.instant.Instant.{Instant}
-use Rattle.rules.specs.Instants.{instantOf}
+use Rattle.rules.specs.declared.reaction.Reaction.{Reaction}
+use Rattle.rules.specs.Reactions.{reactionOf}
 
 -- r is the instant of the statement that lies there
-abbrev pub Started : (t : List ℕ) (d a : ℕ) (bs : List ℕ) (e : ℕ) (r : Instant) → Type 0
-Started t d a bs e r = (base : ℕ) (p : Statement) → Lies t d base a bs p → r ≡ instantOf (start p e)
+abbrev pub Started : (t : List ℕ) (d a : ℕ) (bs : List ℕ) (e : ℕ) (r : Reaction) → Type 0
+Started t d a bs e r = (base : ℕ) (p : Statement) → Lies t d base a bs p → r ≡ reactionOf (start p e)
 
 -- r is what comes of an instant i and then the statement that lies there, started where i has ended
-abbrev pub StartedAfter : (t : List ℕ) (d a : ℕ) (bs : List ℕ) (e : ℕ) (p r : Instant) → Type 0
+abbrev pub StartedAfter : (t : List ℕ) (d a : ℕ) (bs : List ℕ) (e : ℕ) (p r : Reaction) → Type 0
 StartedAfter t d a bs e p r =
-    (base : ℕ) (q : Statement) (i : Esterel.Instant) → Lies t d base a bs q → p ≡ instantOf i → r ≡ instantOf (seqInstant q i (start q e))
+    (base : ℕ) (q : Statement) (i : Esterel.Instant) → Lies t d base a bs q → p ≡ reactionOf i → r ≡ reactionOf (seqInstant q i (start q e))

@@ -5,10 +5,10 @@ ghost use lib.ListN.{length, getD};
 ghost use Rattle.layout.specs.Layout.{rest, Ready};
 ghost use Rattle.react.specs.Started.{Started, StartedAfter};
 use reading::reader::Seconds;
-use rules::instant::Instant;
+use rules::reaction::Reaction;
 
 // The reaction of the statement at the front of s, which stands at the offset `at`.
-pub fn react(s: &[u8], at: usize, depth: u8, input: u32, second: &Seconds) -> Instant
+pub fn react(s: &[u8], at: usize, depth: u8, input: u32, second: &Seconds) -> Reaction
     requires { ⌜ Ready (now second) depth at (now s) ⌝ }
     ensures { λ r. ⌜ Started (now (second .entry)) depth at (now (s .entry)) input r ⌝ }
 {
@@ -31,7 +31,7 @@ pub fn react(s: &[u8], at: usize, depth: u8, input: u32, second: &Seconds) -> In
 }
 
 // The part that begins at index n of s, at the offset `at`.
-fn part(s: &[u8], n: usize, at: usize, depth: u8, input: u32, second: &Seconds) -> Instant
+fn part(s: &[u8], n: usize, at: usize, depth: u8, input: u32, second: &Seconds) -> Reaction
     requires { ⌜ n ≤ length (now s) ⌝ }
     requires { ⌜ Ready (now second) depth at (rest n (now s)) ⌝ }
     ensures { λ r. ⌜ Started (now (second .entry)) depth at (rest n (now (s .entry))) input r ⌝ }
@@ -41,20 +41,19 @@ fn part(s: &[u8], n: usize, at: usize, depth: u8, input: u32, second: &Seconds) 
 
 // What comes of p, which reacted, and then the part that begins at index n of s, which starts where p has ended.
 pub fn after(
-    p: Instant,
+    p: Reaction,
     s: &[u8],
     n: usize,
     at: usize,
     depth: u8,
     input: u32,
     second: &Seconds,
-) -> Instant
+) -> Reaction
     requires { ⌜ n ≤ length (now s) ⌝ }
     requires { ⌜ Ready (now second) depth at (rest n (now s)) ⌝ }
     ensures { λ r. ⌜ StartedAfter (now (second .entry)) depth at (rest n (now (s .entry))) input p r ⌝ }
 {
-    let a = p.reaction;
-    let k = a.completion;
+    let k = p.completion;
     if rules::command::is_ended(k) {
         rules::command::in_sequence(p, part(s, n, at, depth, input, second))
     } else {
@@ -62,7 +61,7 @@ pub fn after(
     }
 }
 
-fn seq_parts(s: &[u8], at: usize, depth: u8, input: u32, second: &Seconds) -> Instant
+fn seq_parts(s: &[u8], at: usize, depth: u8, input: u32, second: &Seconds) -> Reaction
     requires { ⌜ Ready (now second) depth at (now s) × (getD (now s) 0 0 ≡ 4) ⌝ }
     ensures { λ r. ⌜ Started (now (second .entry)) depth at (now (s .entry)) input r ⌝ }
 {
@@ -71,7 +70,7 @@ fn seq_parts(s: &[u8], at: usize, depth: u8, input: u32, second: &Seconds) -> In
     after(p, s, m - at, m, depth - 1, input, second)
 }
 
-fn par_parts(s: &[u8], at: usize, depth: u8, input: u32, second: &Seconds) -> Instant
+fn par_parts(s: &[u8], at: usize, depth: u8, input: u32, second: &Seconds) -> Reaction
     requires { ⌜ Ready (now second) depth at (now s) × (getD (now s) 0 0 ≡ 5) ⌝ }
     ensures { λ r. ⌜ Started (now (second .entry)) depth at (now (s .entry)) input r ⌝ }
 {
@@ -81,7 +80,7 @@ fn par_parts(s: &[u8], at: usize, depth: u8, input: u32, second: &Seconds) -> In
     rules::command::in_parallel(p, q)
 }
 
-fn loop_part(s: &[u8], at: usize, depth: u8, input: u32, second: &Seconds) -> Instant
+fn loop_part(s: &[u8], at: usize, depth: u8, input: u32, second: &Seconds) -> Reaction
     requires { ⌜ Ready (now second) depth at (now s) × (getD (now s) 0 0 ≡ 6) ⌝ }
     ensures { λ r. ⌜ Started (now (second .entry)) depth at (now (s .entry)) input r ⌝ }
 {
@@ -89,7 +88,7 @@ fn loop_part(s: &[u8], at: usize, depth: u8, input: u32, second: &Seconds) -> In
     rules::command::in_loop(at as u16, p)
 }
 
-fn present_parts(s: &[u8], at: usize, depth: u8, input: u32, second: &Seconds) -> Instant
+fn present_parts(s: &[u8], at: usize, depth: u8, input: u32, second: &Seconds) -> Reaction
     requires { ⌜ Ready (now second) depth at (now s) × (getD (now s) 0 0 ≡ 7) ⌝ }
     ensures { λ r. ⌜ Started (now (second .entry)) depth at (now (s .entry)) input r ⌝ }
 {
@@ -102,7 +101,7 @@ fn present_parts(s: &[u8], at: usize, depth: u8, input: u32, second: &Seconds) -
 }
 
 // The body reacts twice, without the signal and with it.
-fn signal_rule(s: &[u8], at: usize, depth: u8, input: u32, second: &Seconds) -> Instant
+fn signal_rule(s: &[u8], at: usize, depth: u8, input: u32, second: &Seconds) -> Reaction
     requires { ⌜ Ready (now second) depth at (now s) × (getD (now s) 0 0 ≡ 8) ⌝ }
     ensures { λ r. ⌜ Started (now (second .entry)) depth at (now (s .entry)) input r ⌝ }
 {
@@ -114,7 +113,7 @@ fn signal_rule(s: &[u8], at: usize, depth: u8, input: u32, second: &Seconds) -> 
     rules::command::in_signal(at as u16, x, p, q)
 }
 
-fn try_part(s: &[u8], at: usize, depth: u8, input: u32, second: &Seconds) -> Instant
+fn try_part(s: &[u8], at: usize, depth: u8, input: u32, second: &Seconds) -> Reaction
     requires { ⌜ Ready (now second) depth at (now s) × (getD (now s) 0 0 ≡ 9) ⌝ }
     ensures { λ r. ⌜ Started (now (second .entry)) depth at (now (s .entry)) input r ⌝ }
 {

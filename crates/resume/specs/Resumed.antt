@@ -8,14 +8,14 @@ use Rattle.esterel.specs.Sets.{empty}
 use Rattle.esterel.specs.Statement.{Statement}
 use Rattle.esterel.specs.Resume.{idle, resume}
 use Rattle.layout.specs.Layout.{Lies}
-use Rattle.rules.specs.declared.instant.Instant.{Instant}
-use Rattle.rules.specs.Instants.{instantOf}
+use Rattle.rules.specs.declared.reaction.Reaction.{Reaction}
+use Rattle.rules.specs.Reactions.{reactionOf}
 
 -- r is the instant of the statement that lies there
-abbrev pub Resumed : (t : List ℕ) (d a : ℕ) (bs : List ℕ) (m e : ℕ) (r : Instant) → Type 0
-Resumed t d a bs m e r = (base : ℕ) (p : Statement) → Lies t d base a bs p → r ≡ instantOf (resume base p m e)
+abbrev pub Resumed : (t : List ℕ) (d a : ℕ) (bs : List ℕ) (m e : ℕ) (r : Reaction) → Type 0
+Resumed t d a bs m e r = (base : ℕ) (p : Statement) → Lies t d base a bs p → r ≡ reactionOf (resume base p m e)
 
 -- the same of a side of a parallel, which may have no active pause
-abbrev pub ResumedSide : (t : List ℕ) (d a : ℕ) (bs : List ℕ) (m e : ℕ) (r : Instant) → Type 0
+abbrev pub ResumedSide : (t : List ℕ) (d a : ℕ) (bs : List ℕ) (m e : ℕ) (r : Reaction) → Type 0
 ResumedSide t d a bs m e r =
-    (base : ℕ) (p : Statement) → Lies t d base a bs p → r ≡ instantOf (cond (empty m) idle (resume base p m e))
+    (base : ℕ) (p : Statement) → Lies t d base a bs p → r ≡ reactionOf (cond (empty m) idle (resume base p m e))

@@ -7,10 +7,10 @@ ghost use Rattle.sets.specs.Labels.{labelSet};
 ghost use Rattle.layout.specs.Layout.{rest, Ready};
 ghost use Rattle.resume.specs.Resumed.{Resumed, ResumedSide};
 use reading::reader::Seconds;
-use rules::instant::Instant;
+use rules::reaction::Reaction;
 use sets::labels::Labels;
 
-// The instant of the statement at the front of s, which stands at the offset `at`, by the ranks of its active pauses.
+// The reaction of the statement at the front of s, which stands at the offset `at`, by the ranks of its active pauses.
 pub fn resume(
     s: &[u8],
     at: usize,
@@ -18,7 +18,7 @@ pub fn resume(
     input: u32,
     active: Labels,
     second: &Seconds,
-) -> Instant
+) -> Reaction
     requires { ⌜ Ready (now second) depth at (now s) ⌝ }
     ensures { λ r. ⌜ Resumed (now (second .entry)) depth at (now (s .entry)) (labelSet active) input r ⌝ }
 {
@@ -44,7 +44,7 @@ fn part(
     input: u32,
     active: Labels,
     second: &Seconds,
-) -> Instant
+) -> Reaction
     requires { ⌜ n ≤ length (now s) ⌝ }
     requires { ⌜ Ready (now second) depth at (rest n (now s)) ⌝ }
     ensures { λ r. ⌜ Resumed (now (second .entry)) depth at (rest n (now (s .entry))) (labelSet active) input r ⌝ }
@@ -59,7 +59,7 @@ fn seq_parts(
     input: u32,
     active: Labels,
     second: &Seconds,
-) -> Instant
+) -> Reaction
     requires { ⌜ Ready (now second) depth at (now s) × (getD (now s) 0 0 ≡ 4) ⌝ }
     ensures { λ r. ⌜ Resumed (now (second .entry)) depth at (now (s .entry)) (labelSet active) input r ⌝ }
 {
@@ -83,7 +83,7 @@ fn side(
     input: u32,
     active: Labels,
     second: &Seconds,
-) -> Instant
+) -> Reaction
     requires { ⌜ n ≤ length (now s) ⌝ }
     requires { ⌜ Ready (now second) depth at (rest n (now s)) ⌝ }
     ensures { λ r. ⌜ ResumedSide (now (second .entry)) depth at (rest n (now (s .entry))) (labelSet active) input r ⌝ }
@@ -101,7 +101,7 @@ fn par_parts(
     input: u32,
     active: Labels,
     second: &Seconds,
-) -> Instant
+) -> Reaction
     requires { ⌜ Ready (now second) depth at (now s) × (getD (now s) 0 0 ≡ 5) ⌝ }
     ensures { λ r. ⌜ Resumed (now (second .entry)) depth at (now (s .entry)) (labelSet active) input r ⌝ }
 {
@@ -122,7 +122,7 @@ fn loop_part(
     input: u32,
     active: Labels,
     second: &Seconds,
-) -> Instant
+) -> Reaction
     requires { ⌜ Ready (now second) depth at (now s) × (getD (now s) 0 0 ≡ 6) ⌝ }
     ensures { λ r. ⌜ Resumed (now (second .entry)) depth at (now (s .entry)) (labelSet active) input r ⌝ }
 {
@@ -138,7 +138,7 @@ fn present_parts(
     input: u32,
     active: Labels,
     second: &Seconds,
-) -> Instant
+) -> Reaction
     requires { ⌜ Ready (now second) depth at (now s) × (getD (now s) 0 0 ≡ 7) ⌝ }
     ensures { λ r. ⌜ Resumed (now (second .entry)) depth at (now (s .entry)) (labelSet active) input r ⌝ }
 {
@@ -160,7 +160,7 @@ fn signal_rule(
     input: u32,
     active: Labels,
     second: &Seconds,
-) -> Instant
+) -> Reaction
     requires { ⌜ Ready (now second) depth at (now s) × (getD (now s) 0 0 ≡ 8) ⌝ }
     ensures { λ r. ⌜ Resumed (now (second .entry)) depth at (now (s .entry)) (labelSet active) input r ⌝ }
 {
@@ -180,7 +180,7 @@ fn suspend_part(
     input: u32,
     active: Labels,
     second: &Seconds,
-) -> Instant
+) -> Reaction
     requires { ⌜ Ready (now second) depth at (now s) × (getD (now s) 0 0 ≡ 11) ⌝ }
     ensures { λ r. ⌜ Resumed (now (second .entry)) depth at (now (s .entry)) (labelSet active) input r ⌝ }
 {
@@ -191,7 +191,14 @@ fn suspend_part(
     }
 }
 
-fn try_part(s: &[u8], at: usize, depth: u8, input: u32, active: Labels, second: &Seconds) -> Instant
+fn try_part(
+    s: &[u8],
+    at: usize,
+    depth: u8,
+    input: u32,
+    active: Labels,
+    second: &Seconds,
+) -> Reaction
     requires { ⌜ Ready (now second) depth at (now s) × (getD (now s) 0 0 ≡ 9) ⌝ }
     ensures { λ r. ⌜ Resumed (now (second .entry)) depth at (now (s .entry)) (labelSet active) input r ⌝ }
 {

@@ -1,3 +1,3 @@
-// What one reaction gives, and what a command makes of the instants of its parts.
+// What one reaction gives, and what a command makes of the reactions of its parts.
 pub mod command;
-pub mod instant;
+pub mod reaction;

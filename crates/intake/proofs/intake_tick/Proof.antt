@@ -22,14 +22,14 @@ reply-to-requires c κs = search needs
 enum-known-number : tie.Need-enum-known-number
 enum-known-number c = search needs
 
-enum-known-instant : tie.Need-enum-known-instant
-enum-known-instant c = search needs
+enum-known-reaction : tie.Need-enum-known-reaction
+enum-known-reaction c = search needs
 
 finish-requires : tie.Need-finish-requires
 finish-requires c κs = (
   search needs,
   search needs,
-  subst (Replies _ _ _) (c .before .before .before .instant .given .1) (c .before .before .before .before .before .reply-to .ensures) .writable,
+  subst (Replies _ _ _) (c .before .before .before .reaction .given .1) (c .before .before .before .before .before .reply-to .ensures) .writable,
 )
 
 same-length : tie.Need-same-length
@@ -48,7 +48,7 @@ same-length-3 c = search needs
 
 returns-4 : tie.Need-returns-4
 returns-4 c =
-    let r = subst (Replies _ _ _) (c .before .before .before .before .before .before .before .before .instant .given .1) (c .before .before .before .before .before .before .before .before .before .before .reply-to .ensures) in
+    let r = subst (Replies _ _ _) (c .before .before .before .before .before .before .before .before .reaction .given .1) (c .before .before .before .before .before .before .before .before .before .before .reply-to .ensures) in
     c .before .before .before .before .finish .ensures ∙ as-replied _ _ _ _ (c .before .before .before .before .before .before .before .before .before .before .before .before .before .if1 .left) (c .before .before .before .before .before .before .before .before .before .before .before .before .if2 .left) (Reacted _) r
 
 pub intake-tick-spec : {M : Type 1} → statement M
@@ -59,7 +59,7 @@ intake-tick-spec =
     returns-2
     reply-to-requires
     enum-known-number
-    enum-known-instant
+    enum-known-reaction
     finish-requires
     same-length
     returns-3

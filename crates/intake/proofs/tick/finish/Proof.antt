@@ -1,6 +1,6 @@
 use native.Mathlib.Omega.{arith}
 use mathlib.Core.Path.{refl, ap₂, subst}
-use Rattle.rules.specs.declared.instant.Completion.the-variants.{Ended, Waiting, Leaving, Wrong}
+use Rattle.rules.specs.declared.reaction.Completion.the-variants.{Ended, Waiting, Leaving, Wrong}
 use Rattle.demands.specs.Tick.{outcome}
 use Rattle.intake.specs.Standing.{WritableCode}
 use Rattle.intake.proofs.Standing.{arm}
@@ -46,7 +46,7 @@ write-state-requires-3 c κs = search needs
 
 add-write-answer : tie.Need-add-write-answer
 add-write-answer c =
-    let h = subst WritableCode (c .before .before .before .before .before .before .before .k .given .1) (c .before .before .before .before .before .before .before .before .before .before .before .before .pre .2) in omega arith
+    let h = subst WritableCode (c .before .before .before .before .before .before .before .k .given .1) (c .before .before .before .before .before .before .before .before .before .before .before .pre .2) in omega arith
 
 write-answer-requires-3 : tie.Need-write-answer-requires-3
 write-answer-requires-3 c κs = search needs
@@ -71,7 +71,7 @@ same-length-2 c = search needs
 
 returns : tie.Need-returns
 returns c =
-    let s = c .before .before .before .before .before .before .before .before .before .before .before .before .before .before in
+    let s = c .before .before .before .before .before .before .before .before .before .before .before .before .before in
     arm _ Ended _ _ _ (c .before .before .before .before .before .before .before .before .before .enum-told .given .1)
     (ap₂ (outcome 0) (state-written (s .args .state .now) _ _ (s .pre .0) (c .before .before .before .before .before .before .write-state .ensures) (c .before .before .before .before .before .before .before .empty .ensures)) (answer-written (s .args .answer .now) _ _ _ _ (s .pre .1) (c .before .before .write-answer .ensures)))
 
@@ -83,7 +83,7 @@ same-length-4 c = search needs
 
 returns-2 : tie.Need-returns-2
 returns-2 c =
-    let s = c .before .before .before .before .before .before .before .before .before .before .before .before .before in
+    let s = c .before .before .before .before .before .before .before .before .before .before .before .before in
     arm _ Waiting _ _ _ (c .before .before .before .before .before .before .before .before .enum-told2 .given .1) (ap₂ (outcome 0) (state-written (s .args .state .now) _ _ (s .pre .0) (c .before .before .before .before .before .before .write-state2 .ensures) refl) (answer-written (s .args .answer .now) _ _ _ _ (s .pre .1) (c .before .before .write-answer2 .ensures)))
 
 same-length-5 : tie.Need-same-length-5
@@ -94,7 +94,7 @@ same-length-6 c = search needs
 
 returns-3 : tie.Need-returns-3
 returns-3 c =
-    let s = c .before .before .before .before .before .before .before .before .before .before .before .before .before .before .before in
+    let s = c .before .before .before .before .before .before .before .before .before .before .before .before .before .before in
     arm _ (Leaving (c .before .before .before .before .before .before .before .before .before .before .k .given .0 .0)) _ _ _ (c .before .before .before .before .before .before .before .before .before .before .k .given .1)
     (ap₂ (outcome 0) (state-written (s .args .state .now) _ _ (s .pre .0) (c .before .before .before .before .before .before .write-state3 .ensures) (c .before .before .before .before .before .before .before .empty2 .ensures)) (answer-written (s .args .answer .now) _ _ _ _ (s .pre .1) (c .before .before .write-answer3 .ensures)))
 
@@ -106,7 +106,7 @@ same-length-8 c = search needs
 
 returns-4 : tie.Need-returns-4
 returns-4 c =
-    let s = c .before .before .before .before .before .before .before .before .before .before .before .before .before .before .before in
+    let s = c .before .before .before .before .before .before .before .before .before .before .before .before .before .before in
     arm _ (Wrong (c .before .before .before .before .before .before .before .before .before .before .k2 .given .0 .0) (c .before .before .before .before .before .before .before .before .before .before .k2 .given .0 .1 .0)) _ _ _ (c .before .before .before .before .before .before .before .before .before .before .k2 .given .1)
     (ap₂ (outcome 0) (state-written (s .args .state .now) _ _ (s .pre .0) (c .before .before .before .before .before .before .write-state4 .ensures) (c .before .before .before .before .before .before .before .empty3 .ensures)) (answer-written (s .args .answer .now) _ _ _ _ (s .pre .1) (c .before .before .write-answer4 .ensures)))
 

@@ -194,13 +194,13 @@ abbrev try-part-claims : ℕ → try-part-lts.Claims
 try-part-claims t = (part-below t, part.Post, in-try-reads.Asked, in-try-reads.Learnt)
 
 after-part-requires : (t : ℕ) → after-lts.Need-part-requires (after-claims t) (after-at t) after.Post
-after-part-requires t c κs = (search needs, (c .before .before .before .before .pre .1 .0, c .before .before .before .before .pre .1 .1))
+after-part-requires t c κs = (search needs, (c .before .before .before .pre .1 .0, c .before .before .before .pre .1 .1))
 
 after-returns : (t : ℕ) → after-lts.Need-returns (after-claims t) (after-at t) after.Post
 after-returns t c base u i l h = c .in-sequence .ensures u i (start u _) h (c .before .part .ensures base u l)
 
 after-returns-2 : (t : ℕ) → after-lts.Need-returns-2 (after-claims t) (after-at t) after.Post
-after-returns-2 t c base u i l h = seq-stops u i (start u _) _ (c .before .before .before .before .args .p) h (sym (c .before .is-ended .ensures) ∙ c .if1 .left)
+after-returns-2 t c base u i l h = seq-stops u i (start u _) _ (c .before .before .before .args .p) h (sym (c .before .is-ended .ensures) ∙ c .if1 .left)
 
 loop-part-part-requires : (t : ℕ) → loop-part-lts.Need-part-requires (loop-part-claims t) (loop-part-at t) loop-part.Post
 loop-part-part-requires t c κs = let y = begins (c .before .pre .1 .0) Command.loop (c .before .pre .1 .1) in (search needs, (y .there, ready _ (y .parts .0) (c .before .pre .1 .0 .long) (y .parts .1 .1)))

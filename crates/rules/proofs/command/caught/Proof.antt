@@ -1,7 +1,7 @@
 use mathlib.Core.Path.{ap}
 use native.Mathlib.Omega.{arith}
 use borrow.Author.Tests.{ne-eqb}
-use Rattle.rules.specs.declared.instant.Completion.the-variants.{Leaving}
+use Rattle.rules.specs.declared.reaction.Completion.the-variants.{Leaving}
 use borrow.Author.Needs.{needs}
 use Rattle.rules.proofs.command.caught.Statement.{statement}
 use Rattle.rules.proofs.command.caught.Tie as tie

@@ -1,8 +1,8 @@
-use Rattle.rules.proofs.Combining.{made}
-use Rattle.rules.specs.Instants.{completionIn}
-use mathlib.Core.Path.{refl, ap}
+use mathlib.Core.Path.{refl}
+use mathlib.Core.Option.{some}
 use Rattle.esterel.specs.Sets.{none}
 use Rattle.esterel.specs.Reaction.{wrong}
+use Rattle.rules.proofs.Combining.{made}
 use borrow.Author.Needs.{needs}
 use Rattle.rules.proofs.command.failing.Statement.{statement}
 use Rattle.rules.proofs.command.failing.Tie as tie
@@ -12,7 +12,7 @@ empty-requires c κs = search needs
 
 returns : tie.Need-returns
 unfolding none
-returns c x h = made wrong x refl (c .empty .ensures) (ap (completionIn wrong) h) h
+returns c = made wrong (some _) refl (c .empty .ensures) refl
 
 pub failing-spec : {M : Type 1} → statement M
 failing-spec = tie.close (tie.spec empty-requires returns)

@@ -1,6 +1,6 @@
 use mathlib.Core.Path.{ap}
 use native.Mathlib.Omega.{arith}
-use Rattle.esterel.specs.Reaction.{leaving}
+use Rattle.rules.specs.declared.reaction.Completion.the-variants.{Leaving}
 use borrow.Author.Needs.{needs}
 use Rattle.rules.proofs.command.greater_of.Statement.{statement}
 use Rattle.rules.proofs.command.greater_of.Tie as tie
@@ -60,10 +60,10 @@ returns-6 : tie.Need-returns-6
 returns-6 c = search needs
 
 returns-7 : tie.Need-returns-7
-returns-7 c = rw (c .before .before .before .before .before .k .given .1, c .before .before .l .given .1) (ap leaving (omega arith))
+returns-7 c = rw (c .before .before .before .before .before .k .given .1, c .before .before .l .given .1) (ap Leaving (omega arith))
 
 returns-8 : tie.Need-returns-8
-returns-8 c = rw (c .before .before .before .before .before .k .given .1, c .before .before .l .given .1) (ap leaving (omega arith))
+returns-8 c = rw (c .before .before .before .before .before .k .given .1, c .before .before .l .given .1) (ap Leaving (omega arith))
 
 returns-9 : tie.Need-returns-9
 returns-9 c = rw (c .before .before .before .k .given .1, c .enum-told8 .given .1)

@@ -6,9 +6,6 @@ use Rattle.rules.proofs.command.in_parallel.Tie as tie
 greater-of-requires : tie.Need-greater-of-requires
 greater-of-requires c κs = search needs
 
-earlier-requires : tie.Need-earlier-requires
-earlier-requires c κs = search needs
-
 union-requires : tie.Need-union-requires
 union-requires c κs = search needs
 
@@ -18,20 +15,10 @@ union-requires-2 c κs = search needs
 if-waiting-requires : tie.Need-if-waiting-requires
 if-waiting-requires c κs = search needs
 
-named-requires : tie.Need-named-requires
-named-requires c κs = search needs
-
 returns : tie.Need-returns
-returns c i j a b = par-joins i j _ _ a b _ _ _ _ (c .before .before .before .before .before .greater-of .result) _ (c .before .before .before .union .ensures) (c .before .before .before .before .before .greater-of .ensures) (c .before .before .union2 .ensures) (c .before .if-waiting .ensures) (c .before .before .before .before .earlier .ensures) (c .named .ensures)
+returns c i j a b = par-joins i j _ _ a b _ _ _ _ (c .before .before .union .ensures) (c .before .before .before .greater-of .ensures) (c .before .union2 .ensures) (c .if-waiting .ensures)
 
 pub in-parallel-spec : {M : Type 1} → statement M
 in-parallel-spec =
     tie.close
-    (tie.spec
-    greater-of-requires
-    earlier-requires
-    union-requires
-    union-requires-2
-    if-waiting-requires
-    named-requires
-    returns)
+    (tie.spec greater-of-requires union-requires union-requires-2 if-waiting-requires returns)

@@ -7,22 +7,14 @@ use Rattle.rules.proofs.command.in_sequence.Tie as tie
 is-ended-requires : tie.Need-is-ended-requires
 is-ended-requires c κs = search needs
 
-earlier-requires : tie.Need-earlier-requires
-earlier-requires c κs = search needs
-
 union-requires : tie.Need-union-requires
 union-requires c κs = search needs
 
-named-requires : tie.Need-named-requires
-named-requires c κs = search needs
-
 returns : tie.Need-returns
-returns c u i j a b = seq-goes-on u i j _ _ a b _ _ _ (sym (c .before .before .before .before .is-ended .ensures) ∙ c .before .before .before .if1 .taken) (c .before .union .ensures) (c .before .before .earlier .ensures) (c .named .ensures)
+returns c u i j a b = seq-goes-on u i j _ _ a b _ (sym (c .before .before .before .is-ended .ensures) ∙ c .before .before .if1 .taken) (c .union .ensures)
 
 returns-2 : tie.Need-returns-2
-returns-2 c u i j a b = seq-stops u i j _ (c .before .before .before .before .before .before .before .args .q) a (sym (c .before .is-ended .ensures) ∙ c .if1 .left)
+returns-2 c u i j a b = seq-stops u i j _ (c .before .before .args .q) a (sym (c .before .is-ended .ensures) ∙ c .if1 .left)
 
 pub in-sequence-spec : {M : Type 1} → statement M
-in-sequence-spec =
-    tie.close
-    (tie.spec is-ended-requires earlier-requires union-requires named-requires returns returns-2)
+in-sequence-spec = tie.close (tie.spec is-ended-requires union-requires returns returns-2)

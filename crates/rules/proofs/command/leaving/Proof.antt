@@ -1,8 +1,8 @@
-use Rattle.rules.proofs.Combining.{made}
 use mathlib.Core.Path.{refl}
 use mathlib.Core.Option.{Option}
 use Rattle.esterel.specs.Sets.{none}
 use Rattle.esterel.specs.Reaction.{leaving}
+use Rattle.rules.proofs.Combining.{made}
 use borrow.Author.Needs.{needs}
 use Rattle.rules.proofs.command.leaving.Statement.{statement}
 use Rattle.rules.proofs.command.leaving.Tie as tie
@@ -10,12 +10,9 @@ use Rattle.rules.proofs.command.leaving.Tie as tie
 empty-requires : tie.Need-empty-requires
 empty-requires c κs = search needs
 
-unseen-requires : tie.Need-unseen-requires
-unseen-requires c κs = search needs
-
 returns : tie.Need-returns
 unfolding none
-returns c = made (leaving _) Option.none refl (c .before .empty .ensures) refl (c .unseen .ensures)
+returns c = made (leaving _) Option.none refl (c .empty .ensures) refl
 
 pub leaving-spec : {M : Type 1} → statement M
-leaving-spec = tie.close (tie.spec empty-requires unseen-requires returns)
+leaving-spec = tie.close (tie.spec empty-requires returns)
