@@ -98,7 +98,7 @@ module _ (sequence : List ℕ) (a : Accepted sequence) (plain : NoSetpause (a .s
           → Related (tickOf sequence (encodeState s) (c .input) (c .buffer))
           (cond b (reportOf (byRewriting w (c .input) .0), byRewriting w (c .input) .1) (turnedDown 1 (phaseOf w), w))
       go true i =
-          rw (tick-at sequence (encodeState s) (c .input) (c .buffer) p (holds s) (a .is-checked) (length-state s)
+          rw (tick-at inheritanceFirst sequence (encodeState s) (c .input) (c .buffer) p (holds s) (a .is-checked) (length-state s)
           (eqb-true (length (c .buffer)) answerLength i) (decode-encode p s r))
           (tick-related s w h r (c .input) (c .buffer))
       go false i =

@@ -9,7 +9,7 @@ use lib.Dec.{eqb}
 use borrow.Author.Tests.{eqb-true}
 use Rattle.esterel.specs.Sets.{member, none, only, join, insert, remove}
 use Rattle.esterel.specs.Statement.{Statement, nothing, pause, emit, exit, seq, par, loop, present, signal, try, setpause, suspend, held}
-use Rattle.esterel.specs.Reaction.{ended, waiting, leaving, wrong, Reaction, gives, emitted, inSeq, inPar, inLoop, inTry, inSuspend, stopped, Case, both, neither, only−, only+, inherited, caseOf, answer, react, Code, code, greater, inheritanceFirst, reactBy}
+use Rattle.esterel.specs.Reaction.{ended, waiting, leaving, wrong, Reaction, gives, emitted, inSeq, inPar, inLoop, inTry, inSuspend, stopped, Case, both, neither, only−, only+, inherited, caseOf, answer, react, Code, code, greater, inheritanceFirst, reactBy, Order}
 use Rattle.esterel.specs.States.{active}
 use Rattle.esterel.specs.LabelTests.{activeLabels}
 use Rattle.esterel.specs.Expansion.{expand}
@@ -236,21 +236,21 @@ signal-exits inherited a s r− r+ f g = tt
 suspend-exits : (s : ℕ) (r : Reaction) → Exits (code r) → Exits (code (inSuspend s r))
 suspend-exits s (gives o k l t) f = f
 
-pub code-exits : (p : Statement) (e : ℕ) → Bounded p → Exits (code (react p e))
+pub code-exits : (ord : Order) (p : Statement) (e : ℕ) → Bounded p → Exits (code (reactBy ord p e))
 unfolding reactBy
-code-exits nothing e h = tt
-code-exits (pause l) e h = tt
-code-exits (emit s) e h = tt
-code-exits (exit n) e h = h
-code-exits (seq p q) e h = seq-exits q (react p e) (react q e) (code-exits p e (h .0)) (code-exits q e (h .1))
-code-exits (par p q) e h = par-exits (react p e) (react q e) (code-exits p e (h .0)) (code-exits q e (h .1))
-code-exits (loop a p) e h = loop-exits a p (react p e) (code-exits p e h)
-code-exits (present s p q) e h = present-exits (member s e) (react p e) (react q e) (code-exits p e (h .0)) (code-exits q e (h .1))
-code-exits (signal a s p) e h =
-    signal-exits (caseOf inheritanceFirst s (react p (remove s e)) (react p (insert s e))) a s (react p (remove s e)) (react p (insert s e))
-    (code-exits p (remove s e) h) (code-exits p (insert s e) h)
-code-exits (try p) e h = try-exits (react p e) (code-exits p e h)
-code-exits (setpause l) e h = tt
-code-exits (suspend s p) e h = suspend-exits s (react p e) (code-exits p e h)
-code-exits (held s K p) e h =
-    present-exits (member s e) (stopped s K p) (inSuspend s (react p e)) tt (suspend-exits s (react p e) (code-exits p e h))
+code-exits ord nothing e h = tt
+code-exits ord (pause l) e h = tt
+code-exits ord (emit s) e h = tt
+code-exits ord (exit n) e h = h
+code-exits ord (seq p q) e h = seq-exits q (reactBy ord p e) (reactBy ord q e) (code-exits ord p e (h .0)) (code-exits ord q e (h .1))
+code-exits ord (par p q) e h = par-exits (reactBy ord p e) (reactBy ord q e) (code-exits ord p e (h .0)) (code-exits ord q e (h .1))
+code-exits ord (loop a p) e h = loop-exits a p (reactBy ord p e) (code-exits ord p e h)
+code-exits ord (present s p q) e h = present-exits (member s e) (reactBy ord p e) (reactBy ord q e) (code-exits ord p e (h .0)) (code-exits ord q e (h .1))
+code-exits ord (signal a s p) e h =
+    signal-exits (caseOf ord s (reactBy ord p (remove s e)) (reactBy ord p (insert s e))) a s (reactBy ord p (remove s e)) (reactBy ord p (insert s e))
+    (code-exits ord p (remove s e) h) (code-exits ord p (insert s e) h)
+code-exits ord (try p) e h = try-exits (reactBy ord p e) (code-exits ord p e h)
+code-exits ord (setpause l) e h = tt
+code-exits ord (suspend s p) e h = suspend-exits s (reactBy ord p e) (code-exits ord p e h)
+code-exits ord (held s K p) e h =
+    present-exits (member s e) (stopped s K p) (inSuspend s (reactBy ord p e)) tt (suspend-exits s (reactBy ord p e) (code-exits ord p e h))

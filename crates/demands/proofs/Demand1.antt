@@ -77,7 +77,7 @@ module _ (sequence : List ℕ) (a : Accepted sequence) where
   tick-passes : (state : List ℕ) → Admitted sequence state → (e : ℕ) (answer : List ℕ) → Passes (tickOf sequence state e answer)
   tick-passes state h e answer =
       elim (ℕ-discrete (length answer) answerLength) [
-        | yes i ↦ rw (tick-at sequence state e answer p (decodeState p state) (a .is-checked) (h .0) i refl)
+        | yes i ↦ rw (tick-at inheritanceFirst sequence state e answer p (decodeState p state) (a .is-checked) (h .0) i refl)
             (state-passes state h e answer (decodeState p state) (reading p state))
         | no i ↦ rw (tick-short sequence state e answer i) (omega arith, h)
       ]

@@ -9,11 +9,11 @@ use mathlib.Core.List.{List, head?}
 use lib.ListN.{length}
 use Rattle.esterel.specs.Sets.{none}
 use Rattle.esterel.specs.Statement.{Statement}
-use Rattle.esterel.specs.Reaction.{Code, ended, waiting, leaving, wrong, Reaction, gives, emitted, code, react}
+use Rattle.esterel.specs.Reaction.{Code, ended, waiting, leaving, wrong, Reaction, gives, emitted, code, react, Order, inheritanceFirst}
 use Rattle.esterel.specs.Errors.{Error, firstError, uses}
 use Rattle.esterel.specs.States.{Valid}
 use Rattle.esterel.specs.Expansion.{expand}
-use Rattle.esterel.specs.Resume.{instant, start}
+use Rattle.esterel.specs.Resume.{instant, startBy}
 use Rattle.esterel.specs.Machines.{shown, State}
 use Rattle.esterel.specs.Rules.{Reacts}
 use Rattle.esterel.proofs.Rules.{reacts-is}
@@ -25,7 +25,7 @@ use Rattle.sequence.specs.Check.{checkOf}
 use Rattle.sequence.proofs.Rows.{check-by-rows}
 use Rattle.limits.specs.Limits.{signalBytes}
 use Rattle.records.specs.Records.{stateLength, answerLength, Decoded, holds, decodeState, encodeAnswer, codeByte, phaseIn, labelsIn, kindIn, placeIn}
-use Rattle.demands.specs.Tick.{written, tickOf}
+use Rattle.demands.specs.Tick.{written, tickBy, tickOf}
 use Rattle.demands.specs.TickRows.{TickRow, row-1, row-2-to-10, row-11, row-12}
 use Rattle.demands.specs.Demands.{number, StandsAt, at-start, at-labels, Shows, Demand2}
 use Rattle.records.proofs.RecordLaws.{code-field, kind-field, place-field, emitted-field, blameless, wrong-blame, answer-is, length-answer}
@@ -36,13 +36,13 @@ use Rattle.demands.proofs.TickRows.{Reading, reads-fresh, reads-waiting
 use Rattle.demands.proofs.Sequence.{same-statement, Accepted, accepted, tick-at, not-long, places-fresh, places-resumed}
 
 -- ---- what an instant shows
-called-wrong : (k : Code) (c : ℕ) → Exits k → c ≡ codeByte k → (c ≡ 255) ↔ (k ≡ wrong)
+pub called-wrong : (k : Code) (c : ℕ) → Exits k → c ≡ codeByte k → (c ≡ 255) ↔ (k ≡ wrong)
 called-wrong ended c f h = (λ i. absurd (omega arith), λ i. absurd (let z : _≡_ {A = ℕ} 0 1 = cc in omega arith))
 called-wrong waiting c f h = (λ i. absurd (omega arith), λ i. absurd (let z : _≡_ {A = ℕ} 0 1 = cc in omega arith))
 called-wrong (leaving n) c f h = (λ i. absurd (omega arith), λ i. absurd (let z : _≡_ {A = ℕ} 0 1 = cc in omega arith))
 called-wrong wrong c f h = (λ i. refl, λ i. h)
 
-abbrev Fitting : Statement → ℕ → Type 0
+abbrev pub Fitting : Statement → ℕ → Type 0
 Fitting t n = Bounded t × PlacesBelow n t
 
 module _ (t : Statement) (e n : ℕ) (small : n ≤ maxBytes) (f : Fitting t n) where
@@ -63,7 +63,7 @@ module _ (t : Statement) (e n : ℕ) (small : n ≤ maxBytes) (f : Fitting t n) 
         answered = answer-is o k l t′ (firstError t e);
         sized = length-answer o k l t′ (firstError t e);
         code = code-field o k l t′ (firstError t e);
-        called-wrong = called-wrong k _ (subst (λ (r : Reaction). Exits (code r)) (sym h) (code-exits t e (f .0)))
+        called-wrong = called-wrong k _ (subst (λ (r : Reaction). Exits (code r)) (sym h) (code-exits inheritanceFirst t e (f .0)))
             (code-field o k l t′ (firstError t e));
         emitted = λ i. emitted-field o k l t′ (firstError t e) fits ∙ shown-right o k i;
         nothing-shown = λ i. emitted-field o k l t′ (firstError t e) fits ∙ ap (λ (j : Code). shown j o) i;
@@ -107,23 +107,23 @@ module _ (sequence : List ℕ) (a : Accepted sequence) where
   expansion-fits L = (bounded-expand (a .statement) L (statement-fits .0), places-resumed sequence a L)
 
   -- the tick from a record that stands at t is the instant of t
-  stands-written : (state : List ℕ) (e : ℕ) (answer : List ℕ) → length state ≡ stateLength → length answer ≡ answerLength
+  pub stands-written : (ord : Order) (state : List ℕ) (e : ℕ) (answer : List ℕ) → length state ≡ stateLength → length answer ≡ answerLength
       → {t : Statement} → StandsAt sequence state t
-      → (tickOf sequence state e answer ≡ written (start t e)) × Fitting t (length sequence)
-  stands-written state e answer i j (at-start {p = q} s x n) =
+      → (tickBy ord sequence state e answer ≡ written (startBy ord t e)) × Fitting t (length sequence)
+  stands-written ord state e answer i j (at-start {p = q} s x n) =
       let same = same-statement sequence (a .statement) q (a .spelled) s in (
-        tick-at sequence state e answer (a .statement) (holds State.fresh) (a .is-checked) i j
+        tick-at ord sequence state e answer (a .statement) (holds State.fresh) (a .is-checked) i j
             (decode-fresh (a .statement) state x n)
-            ∙ ap (λ (w : Statement). written (start w e)) same,
+            ∙ ap (λ (w : Statement). written (startBy ord w e)) same,
         subst (λ (w : Statement). Fitting w (length sequence)) same statement-fits,
       )
-  stands-written state e answer i j (at-labels {p = q} s x v) =
+  stands-written ord state e answer i j (at-labels {p = q} s x v) =
       let L : ℕ = labelsIn state in
       let same = same-statement sequence (a .statement) q (a .spelled) s in
       let mine : Valid (a .statement) L = subst (λ (w : Statement). Valid w L) (sym same) v in (
-        tick-at sequence state e answer (a .statement) (holds (State.waits L)) (a .is-checked) i j
+        tick-at ord sequence state e answer (a .statement) (holds (State.waits L)) (a .is-checked) i j
             (decode-waiting (a .statement) state x mine)
-            ∙ ap (λ (w : Statement). written (start (expand w L) e)) same,
+            ∙ ap (λ (w : Statement). written (startBy ord (expand w L) e)) same,
         subst (λ (w : Statement). Fitting (expand w L) (length sequence)) same (expansion-fits L),
       )
 
@@ -149,7 +149,7 @@ module _ (sequence state : List ℕ) (e : ℕ) (answer : List ℕ) (z : number (
         | no i ↦ absurd (no-tick-row 1 (row-1 (inr i)))
       ]
 
-  stands : (t : Statement) × StandsAt sequence state t
+  pub stands : (t : Statement) × StandsAt sequence state t
   stands = go (decodeState p state) (reading p state)
     where
       a : Accepted sequence
@@ -170,7 +170,7 @@ shows-standing : (sequence state : List ℕ) (e : ℕ) (answer : List ℕ) → c
     → (o : ℕ) (k : Code) (l : ℕ) (t′ : Statement) → Reacts t e (gives o k l t′) → Shows t e o k l t′ (tickOf sequence state e answer)
 shows-standing sequence state e answer h i j t s o k l t′ d =
     let a = accepted sequence h in
-    let w = stands-written sequence a state e answer i j s in
+    let w = stands-written sequence a inheritanceFirst state e answer i j s in
     let r : gives o k l t′ ≡ react t e = reacts-is t e (gives o k l t′) .0 d in
     rw (w .0, ← r) (shows t e (length sequence) (not-long sequence a) (w .1) o k l t′ r)
 

@@ -5,6 +5,7 @@ pub mod Sequence
 pub mod TickRows
 pub mod Demand1
 pub mod Demand2
+pub mod SignalOrders
 pub mod Agreement
 pub mod NoLabels
 pub mod Calls

@@ -10,7 +10,7 @@ use lib.ListN.{length}
 use lib.Dec.{eqb}
 use borrow.Author.Tests.{eq-eqb, ne-eqb}
 use Rattle.esterel.specs.Statement.{Statement}
-use Rattle.esterel.specs.Reaction.{Code, Reaction, gives, ended, waiting, leaving, wrong, emitted, react, inheritanceFirst}
+use Rattle.esterel.specs.Reaction.{Code, Reaction, gives, ended, waiting, leaving, wrong, emitted, react, inheritanceFirst, Order}
 use Rattle.esterel.specs.Errors.{firstError, blame}
 use Rattle.esterel.specs.States.{Valid, Distinct, Targeted, Source, WellFormed}
 use Rattle.esterel.specs.Expansion.{expand}
@@ -73,11 +73,11 @@ spells-one sequence h =
     (a .statement, a .spelled, λ q s. same-statement sequence q (a .statement) s (a .spelled))
 
 -- a tick by the state that the record holds
-pub tick-at : (sequence state : List ℕ) (e : ℕ) (answer : List ℕ) (p : Statement) (d : Decoded) → checked sequence ≡ sound p
+pub tick-at : (ord : Order) (sequence state : List ℕ) (e : ℕ) (answer : List ℕ) (p : Statement) (d : Decoded) → checked sequence ≡ sound p
     → length state ≡ stateLength → length answer ≡ answerLength → decodeState p state ≡ d
-    → tickOf sequence state e answer ≡ byState inheritanceFirst p d state e answer
+    → tickBy ord sequence state e answer ≡ byState ord p d state e answer
 unfolding tickBy
-tick-at sequence state e answer p d c i j h = rw (eq-eqb (length state) stateLength i, eq-eqb (length answer) answerLength j, c, h)
+tick-at ord sequence state e answer p d c i j h = rw (eq-eqb (length state) stateLength i, eq-eqb (length answer) answerLength j, c, h)
 
 -- a tick with an answer buffer of another length
 pub tick-short : (sequence state : List ℕ) (e : ℕ) (answer : List ℕ) → length answer ≢ answerLength

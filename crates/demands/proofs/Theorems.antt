@@ -1,21 +1,23 @@
 -- The theorems of this crate: the three demands for the definitions of the check and the tick, then for calls that meet the
--- tick's contract; that the paper knows no labels; the starred bays, bays with suspend and first errors; and what the demands refuse.
+-- tick's contract; that the paper knows no labels; what 02, item 4, changed; the starred bays, bays with suspend and first errors; and what the demands refuse.
 use Prim.Native.Nat.{ℕ}
 use mathlib.Core.Path.{_≡_}
 use mathlib.Core.Logic.{_≢_}
+use mathlib.Core.Bool.{true}
 use mathlib.Core.List.{List, map, List·Memᴰ}
 use lib.ListN.{length}
 use Rattle.esterel.specs.Statement.{Statement}
-use Rattle.esterel.specs.Reaction.{Code, gives}
+use Rattle.esterel.specs.Reaction.{Code, gives, printed}
+use Rattle.esterel.specs.SignalOrders.{overlap}
 use Rattle.esterel.specs.Rules.{Reacts}
 use Rattle.esterel.specs.States.{NoSetpause}
 use Rattle.esterel.specs.Machines.{Rewriting, erase}
 use Rattle.sequence.specs.Check.{checkOf}
 use Rattle.sequence.specs.Rows.{Spells}
-use Rattle.records.specs.Records.{answerLength}
-use Rattle.demands.specs.Tick.{Outcome, outcome, tickOf}
+use Rattle.records.specs.Records.{answerLength, codeIn}
+use Rattle.demands.specs.Tick.{Outcome, outcome, tickBy, tickOf}
 use Rattle.demands.specs.Paper.{Call, paper}
-use Rattle.demands.specs.Demands.{Tick, number, cleared, report, Admitted, StandsAt, Shows, Demand1, Demand2, Demand3, TickMeets, Chain}
+use Rattle.demands.specs.Demands.{Tick, number, answerAfterwards, outcomes, cleared, report, Admitted, StandsAt, Shows, Demand1, Demand2, Demand3, TickMeets, Chain}
 use Rattle.demands.specs.Replacements as wrong
 use Rattle.demands.specs.Bays.{Bay, table, ShowsBay}
 use Rattle.demands.specs.Worked.{ShowsRuns}
@@ -24,6 +26,7 @@ use Rattle.demands.specs.FirstErrors.{firstErrorRuns}
 use Rattle.demands.proofs.Sequence as sequence
 use Rattle.demands.proofs.Demand1 as one
 use Rattle.demands.proofs.Demand2 as two
+use Rattle.demands.proofs.SignalOrders as orders
 use Rattle.demands.proofs.Agreement as three
 use Rattle.demands.proofs.NoLabels as paper-labels
 use Rattle.demands.proofs.Calls as calls
@@ -68,6 +71,31 @@ demand-3-calls = calls.demand-3-calls
 pub paper-knows-no-labels : (t u : Statement) → erase t ≡ erase u → (cs : List Call)
     → paper (Rewriting.waits t) cs ≡ paper (Rewriting.waits u) cs
 paper-knows-no-labels = paper-labels.paper-knows-no-labels
+
+-- ---- the two orders of the signal rules (02, item 4): `tickBy printed` is the tick as it was
+-- an instant that is not wrong has the records it had
+pub not-wrong-kept : (sequence state : List ℕ) (e : ℕ) (answer : List ℕ) → codeIn (answerAfterwards (tickOf sequence state e answer)) ≢ 255
+    → tickBy printed sequence state e answer ≡ tickOf sequence state e answer
+not-wrong-kept = orders.tick-kept
+
+-- a record that changes is that of an instant which uses a signal whose body emitted in both runs with a run wrong; it is wrong now
+pub changed-only : (sequence state : List ℕ) (e : ℕ) (answer : List ℕ)
+    → tickBy printed sequence state e answer ≢ tickOf sequence state e answer
+    → (number (tickOf sequence state e answer) ≡ 0) × (codeIn (answerAfterwards (tickOf sequence state e answer)) ≡ 255)
+    × ((t : Statement) × StandsAt sequence state t × (overlap t e ≡ true))
+changed-only = orders.tick-changed
+
+-- an instant that was wrong has the records it had: the same first error is named
+pub wrong-stays : (sequence state : List ℕ) (e : ℕ) (answer : List ℕ) → number (tickBy printed sequence state e answer) ≡ 0
+    → codeIn (answerAfterwards (tickBy printed sequence state e answer)) ≡ 255
+    → tickBy printed sequence state e answer ≡ tickOf sequence state e answer
+wrong-stays = orders.tick-stays
+
+-- so lists of ticks are the same up to the first that is wrong
+pub not-wrong-kept-list : (sequence state : List ℕ) (cs : List Call)
+    → ((o : Outcome) → List·Memᴰ o (outcomes tickOf sequence state cs) → codeIn (answerAfterwards o) ≢ 255)
+    → outcomes (tickBy printed) sequence state cs ≡ outcomes tickOf sequence state cs
+not-wrong-kept-list = orders.outcomes-kept
 
 -- ---- the starred bays
 pub starred : (b : Bay) → List·Memᴰ b table → (buffer : List ℕ) → length buffer ≡ answerLength → ShowsBay tickOf b buffer

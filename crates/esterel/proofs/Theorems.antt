@@ -5,18 +5,21 @@ use mathlib.Core.Path.{_≡_, refl, _∙_}
 use mathlib.Core.Logic.{_↔_, _≢_}
 use mathlib.Core.Bool.{true, false}
 use mathlib.Core.Option.{Option}
-use mathlib.Core.List.{List}
+use mathlib.Core.List.{List, []}
 use Rattle.esterel.specs.Sets.{member, none}
 use Rattle.esterel.specs.Statement.{Statement, pause, suspend}
-use Rattle.esterel.specs.Reaction.{ended, waiting, leaving, wrong, Reaction, gives, emitted, code, labels, residual, react}
-use Rattle.esterel.specs.Errors.{errors}
+use Rattle.esterel.specs.Reaction.{ended, waiting, leaving, wrong, Reaction, gives, emitted, code, labels, residual, isWrong, printed, reactBy, react}
+use Rattle.esterel.specs.Errors.{errorsBy, errors, firstErrorBy, firstError}
+use Rattle.esterel.specs.SignalOrders.{overlap}
 use Rattle.esterel.specs.States.{Holds, active, Valid, Distinct, Targeted, NoSetpause, Source, WellFormed}
 use Rattle.esterel.specs.Expansion.{expand}
 use Rattle.esterel.specs.LabelTests.{activeLabels}
 use Rattle.esterel.specs.Ranks.{mask, labelsBy}
 use Rattle.esterel.specs.Resume.{instant, start, suspendInstant, resume}
 use Rattle.esterel.specs.Machines.{run, reached, State, byLabels, Rewriting, byRewriting, erase}
-use Rattle.esterel.proofs.Booleans.{never, clash}
+use Rattle.esterel.proofs.Booleans.{never, clash, Tested, tested}
+use Rattle.esterel.proofs.Rules.{wrong-is}
+use Rattle.esterel.proofs.SignalOrders.{kept, wrong-iff-error, same-first, unchanged, overlap-wrong}
 use Rattle.esterel.proofs.Activity.{Awake, active-is, activeLabels-is, expand-suspend}
 use Rattle.esterel.proofs.Invariant.{Fits}
 use Rattle.esterel.proofs.Residual.{Remains, residual-fresh, residual-resumed}
@@ -135,3 +138,28 @@ held-labels-unseen t u e h = let r = erased-reaction t u e h in (r .0, r .1, era
 pub held-labels-unseen-run : (t u : Statement) → erase t ≡ erase u → (es : List ℕ)
     → run byRewriting (Rewriting.waits t) es ≡ run byRewriting (Rewriting.waits u) es
 held-labels-unseen-run = erased-run
+
+-- 8. ORDERS of the signal rules (02, item 4). An instant that is not wrong is as it was by the printed order: code, emitted set,
+-- labels and residual, with no error in either tree
+pub not-wrong-kept : (p : Statement) (e : ℕ) → code (react p e) ≢ wrong
+    → (reactBy printed p e ≡ react p e) × (errorsBy printed p e ≡ []) × (errors p e ≡ [])
+not-wrong-kept p e n = kept p e (never (isWrong (code (react p e))) (λ h. n (wrong-is (code (react p e)) h)))
+
+-- it is wrong exactly if its tree has an error (003, lemma 12)
+pub wrong-is-error : (p : Statement) (e : ℕ) → (code (react p e) ≡ wrong) ↔ (errors p e ≢ [])
+wrong-is-error = wrong-iff-error
+
+-- the same first error by both, or none, whatever the codes
+pub first-stays : (p : Statement) (e : ℕ) → firstErrorBy printed p e ≡ firstError p e
+first-stays = same-first
+
+-- where no signal is used whose body emitted in both runs with a run wrong, nothing changes; where one is, the instant is wrong
+pub changed-only : (p : Statement) (e : ℕ) → reactBy printed p e ≢ react p e → (overlap p e ≡ true) × (code (react p e) ≡ wrong)
+changed-only p e n = go (tested (overlap p e))
+  where
+    go : Tested (overlap p e) → (overlap p e ≡ true) × (code (react p e) ≡ wrong)
+    go (Tested.yes x) = (x, overlap-wrong p e x)
+    go (Tested.no x) = absurd (n (unchanged p e x))
+
+pub overlap-is-wrong : (p : Statement) (e : ℕ) → overlap p e ≡ true → code (react p e) ≡ wrong
+overlap-is-wrong = overlap-wrong

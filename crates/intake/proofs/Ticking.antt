@@ -46,7 +46,7 @@ writable-code (leaving n) x f = omega arith
 writable-code wrong x f = tt
 
 writable : (t : Statement) (e : ℕ) → Bounded t → (i : Reaction) → i ≡ reactionOf (start t e) → Writable i
-writable t e r i w = subst Writable (sym w) (writable-code (code (react t e)) (firstError t e) (code-exits t e r))
+writable t e r i w = subst Writable (sym w) (writable-code (code (react t e)) (firstError t e) (code-exits inheritanceFirst t e r))
 
 -- ---- what is known of a sequence that the check has passed
 pub record Passed (second notes sequence : List ℕ) : Type 0 where

@@ -1,0 +1,177 @@
+-- The ticks by the two orders of the signal rules (02, item 4), compared record by record.
+use Prim.Native.Nat.{ℕ}
+use native.Mathlib.Decide.{ℕ-discrete}
+use mathlib.Core.Path.{_≡_, refl, sym, ap, ap₂, _∙_}
+use mathlib.Core.Logic.{_≢_}
+use mathlib.Core.Bool.{Bool, true, false, _&&_, cond}
+use mathlib.Core.Option.{Option}
+use mathlib.Core.List.{List, [], _∷_, List·Memᴰ}
+use lib.ListN.{length}
+use lib.Dec.{eqb}
+use Rattle.esterel.specs.Statement.{Statement}
+use Rattle.esterel.specs.Reaction.{Code, wrong, isWrong, Reaction, gives, code, Order, printed, inheritanceFirst, reactBy, react}
+use Rattle.esterel.specs.Errors.{Error, firstErrorBy, firstError}
+use Rattle.esterel.specs.SignalOrders.{overlap}
+use Rattle.esterel.specs.Resume.{instant, startBy, start}
+use Rattle.esterel.specs.Machines.{State}
+use Rattle.esterel.proofs.Booleans.{Tested, tested}
+use Rattle.esterel.proofs.Rules.{wrong-is}
+use Rattle.esterel.proofs.SignalOrders as orders
+use Rattle.sequence.specs.Check.{Checked, sound, bad, checked, checkOf}
+use Rattle.records.specs.Records.{stateLength, answerLength, Decoded, holds, malformed, decodeState, encodeState, encodeAnswer, codeIn, codeByte}
+use Rattle.demands.specs.Tick.{Outcome, outcome, written, byState, byCheck, tickBy, tickOf}
+use Rattle.demands.specs.Paper.{Call}
+use Rattle.demands.specs.Demands.{number, stateAfterwards, answerAfterwards, outcomes, StandsAt}
+use Rattle.demands.proofs.Bounds.{Exits, code-exits}
+use Rattle.demands.proofs.Sequence.{accepted}
+use Rattle.demands.proofs.Demand2.{called-wrong, Fitting, stands-written, passed-check, state-sized, answer-sized, stands}
+
+-- ---- the code in the records
+-- the code byte that an outcome shows
+abbrev codeShown : Outcome → ℕ
+codeShown o = codeIn (answerAfterwards o)
+
+code-shown : (r : Reaction) (x : Option Error) → codeShown (written (instant r x)) ≡ codeByte (code r)
+unfolding encodeAnswer
+code-shown (gives o k l t) x = refl
+
+-- of a statement within the widths, 255 means wrong by either order
+wrong-shown : (ord : Order) (t : Statement) (e n : ℕ) → Fitting t n → codeShown (written (startBy ord t e)) ≡ 255
+    → code (reactBy ord t e) ≡ wrong
+wrong-shown ord t e n f =
+    called-wrong (code (reactBy ord t e)) _ (code-exits ord t e (f .0)) (code-shown (reactBy ord t e) (firstErrorBy ord t e)) .0
+
+shown-wrong : (t : Statement) (e : ℕ) → code (react t e) ≡ wrong → codeShown (written (start t e)) ≡ 255
+shown-wrong t e h = code-shown (react t e) (firstError t e) ∙ ap codeByte h
+
+-- what a wrong instant writes depends on its first error alone
+wrong-written : (r r′ : Reaction) (x : Option Error) → code r ≡ wrong → code r′ ≡ wrong → written (instant r x) ≡ written (instant r′ x)
+unfolding encodeState encodeAnswer
+wrong-written (gives o k l t) (gives o′ k′ l′ t′) x h h′ = rw (h, h′)
+
+-- ---- one instant by both orders
+module _ (t : Statement) (e : ℕ) where
+  alike : reactBy printed t e ≡ react t e → written (startBy printed t e) ≡ written (start t e)
+  alike h = ap₂ (λ (r : Reaction) (x : Option Error). written (instant r x)) h (orders.same-first t e)
+
+  kept-written : isWrong (code (react t e)) ≡ false → written (startBy printed t e) ≡ written (start t e)
+  kept-written h = alike (orders.kept t e h .0)
+
+  stays-written : code (reactBy printed t e) ≡ wrong → written (startBy printed t e) ≡ written (start t e)
+  stays-written h =
+      wrong-written (reactBy printed t e) (react t e) (firstErrorBy printed t e) h (orders.wrong-stays t e h)
+      ∙ ap (λ (x : Option Error). written (instant (react t e) x)) (orders.same-first t e)
+
+  -- where they differ, two of the printed rules fit at some signal
+  differs : written (startBy printed t e) ≢ written (start t e) → overlap t e ≡ true
+  differs n = go (tested (overlap t e))
+    where
+      go : Tested (overlap t e) → overlap t e ≡ true
+      go (Tested.yes x) = x
+      go (Tested.no x) = absurd (n (alike (orders.unchanged t e x)))
+
+-- ---- one tick by both orders: a refusal is the same
+module _ (state : List ℕ) (e : ℕ) (answer : List ℕ) where
+  state-refused : (p : Statement) (d : Decoded) → number (byState inheritanceFirst p d state e answer) ≢ 0
+      → byState printed p d state e answer ≡ byState inheritanceFirst p d state e answer
+  state-refused p malformed n = refl
+  state-refused p (holds State.fresh) n = absurd (n refl)
+  state-refused p (holds (State.waits L)) n = absurd (n refl)
+  state-refused p (holds State.over) n = refl
+
+  check-refused : (c : Checked) → number (byCheck inheritanceFirst c state e answer) ≢ 0
+      → byCheck printed c state e answer ≡ byCheck inheritanceFirst c state e answer
+  check-refused (bad k) n = refl
+  check-refused (sound p) n = state-refused p (decodeState p state) n
+
+  refused : (sequence : List ℕ) → number (tickOf sequence state e answer) ≢ 0
+      → tickBy printed sequence state e answer ≡ tickOf sequence state e answer
+  unfolding tickBy
+  refused sequence = go (eqb (length state) stateLength && eqb (length answer) answerLength)
+    where
+      go : (b : Bool) → number (cond b (byCheck inheritanceFirst (checked sequence) state e answer) (outcome 1 state answer)) ≢ 0
+          → cond b (byCheck printed (checked sequence) state e answer) (outcome 1 state answer)
+          ≡ cond b (byCheck inheritanceFirst (checked sequence) state e answer) (outcome 1 state answer)
+      go true n = check-refused (checked sequence) n
+      go false n = refl
+
+-- an instant: the term at which the machine stands, and what both orders write
+pub record Compared (sequence state : List ℕ) (e : ℕ) (answer : List ℕ) : Type 0 where
+  pub term : Statement
+  pub at : StandsAt sequence state term
+  pub old : tickBy printed sequence state e answer ≡ written (startBy printed term e)
+  pub new : tickOf sequence state e answer ≡ written (start term e)
+  pub fits : Fitting term (length sequence)
+
+module _ (sequence state : List ℕ) (e : ℕ) (answer : List ℕ) where
+  compared : number (tickOf sequence state e answer) ≡ 0 → Compared sequence state e answer
+  compared z =
+      let t = stands sequence state e answer z in
+      let a = accepted sequence (passed-check sequence state e answer z) in
+      let i = state-sized sequence state e answer z in
+      let j = answer-sized sequence state e answer z in
+      let w = stands-written sequence a inheritanceFirst state e answer i j (t .1) in
+      record {
+        term = t .0;
+        at = t .1;
+        old = stands-written sequence a printed state e answer i j (t .1) .0;
+        new = w .0;
+        fits = w .1;
+      }
+
+  -- of a refusal, or of an instant
+  by-number : {A : Type 0} → (number (tickOf sequence state e answer) ≢ 0 → A) → (Compared sequence state e answer → A) → A
+  by-number f g =
+      elim (ℕ-discrete (number (tickOf sequence state e answer)) 0) [
+        | yes z ↦ g (compared z)
+        | no z ↦ f z
+      ]
+
+  abbrev Same : Type 0
+  Same = tickBy printed sequence state e answer ≡ tickOf sequence state e answer
+
+  same-written : (c : Compared sequence state e answer) → written (startBy printed (c .term) e) ≡ written (start (c .term) e) → Same
+  same-written c h = c .old ∙ h ∙ sym (c .new)
+
+  -- (a) not wrong by the new order
+  pub tick-kept : codeShown (tickOf sequence state e answer) ≢ 255 → Same
+  tick-kept n = by-number (refused state e answer sequence) go
+    where
+      go : Compared sequence state e answer → Same
+      go c = same-written c (by (tested (isWrong (code (react (c .term) e)))))
+        where
+          by : Tested (isWrong (code (react (c .term) e))) → written (startBy printed (c .term) e) ≡ written (start (c .term) e)
+          by (Tested.yes w) = absurd (n (ap codeShown (c .new) ∙ shown-wrong (c .term) e (wrong-is (code (react (c .term) e)) w)))
+          by (Tested.no w) = kept-written (c .term) e w
+
+  -- (b) changed
+  pub tick-changed : tickBy printed sequence state e answer ≢ tickOf sequence state e answer
+      → (number (tickOf sequence state e answer) ≡ 0) × (codeShown (tickOf sequence state e answer) ≡ 255)
+      × ((t : Statement) × StandsAt sequence state t × (overlap t e ≡ true))
+  tick-changed n = by-number (λ z. absurd (n (refused state e answer sequence z))) go
+    where
+      go : Compared sequence state e answer
+          → (number (tickOf sequence state e answer) ≡ 0) × (codeShown (tickOf sequence state e answer) ≡ 255)
+          × ((t : Statement) × StandsAt sequence state t × (overlap t e ≡ true))
+      go c =
+          let o = differs (c .term) e (λ h. n (same-written c h)) in (
+            ap number (c .new),
+            ap codeShown (c .new) ∙ shown-wrong (c .term) e (orders.overlap-wrong (c .term) e o),
+            (c .term, c .at, o),
+          )
+
+  -- (c) wrong by the printed order: the same records, kind and place included
+  pub tick-stays : number (tickBy printed sequence state e answer) ≡ 0 → codeShown (tickBy printed sequence state e answer) ≡ 255 → Same
+  tick-stays z h = by-number (refused state e answer sequence)
+      (λ c. same-written c (stays-written (c .term) e (wrong-shown printed (c .term) e (length sequence) (c .fits) (ap codeShown (sym (c .old)) ∙ h))))
+
+-- ---- lists of ticks, up to the first that is wrong by the new order
+pub outcomes-kept : (sequence state : List ℕ) (calls : List Call)
+    → ((o : Outcome) → List·Memᴰ o (outcomes tickOf sequence state calls) → codeShown o ≢ 255)
+    → outcomes (tickBy printed) sequence state calls ≡ outcomes tickOf sequence state calls
+unfolding outcomes
+outcomes-kept sequence state [] n = refl
+outcomes-kept sequence state (c ∷ cs) n =
+    let h = tick-kept sequence state (c .input) (c .buffer) (n (tickOf sequence state (c .input) (c .buffer)) (List·Memᴰ.List·Memᴰ·head refl)) in
+    rw h (ap (λ (os : List Outcome). tickOf sequence state (c .input) (c .buffer) ∷ os)
+    (outcomes-kept sequence (stateAfterwards (tickOf sequence state (c .input) (c .buffer))) cs (λ o m. n o (List·Memᴰ.List·Memᴰ·tail m))))
