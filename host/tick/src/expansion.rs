@@ -1,6 +1,7 @@
 //! The instants of document 01 by labels, with the suspend of 02, item 1: a waiting machine reacts with its expansion.
-//! It shares nothing with rewriting.rs but the terms.
-use crate::statement::{Statement, Term};
+//! The rules of a signal are tried in either order (02, item 4). It shares nothing with rewriting.rs but the terms and
+//! the names of the orders.
+use crate::statement::{Order, Statement, Term};
 use std::rc::Rc;
 
 /// 002, figure 5: the expansion of a statement with an active pause. None if it has none. A suspend chooses, in the
@@ -67,13 +68,15 @@ pub const CASES: [&str; 5] = ["++", "--", "+-", "-+", "inherited"];
 /// What happened anywhere in the tree of reactions of one instant.
 #[derive(Default)]
 pub struct Tree {
+    pub order: Order,
     /// First part before second, run without the signal before run with it, a command after its parts.
     pub errors: Vec<Error>,
-    /// The first error is of a run without a signal that both runs emit: it was not chosen.
-    pub hidden: bool,
     pub reactions: u64,
     /// Uses of each case.
     pub cases: [u64; 5],
+    /// Signals that both runs emit while a run is wrong, so that two printed rules fit: the run without the signal
+    /// alone, the run with it alone, both.
+    pub two_fit: [u64; 3],
     /// Parallels that lost the labels of a side.
     pub lost: u64,
     /// Parallels with an error and an emission.
@@ -156,22 +159,29 @@ impl Tree {
 
     fn signal(&mut self, place: usize, s: u8, p: &Term, present: u32) -> Answer {
         let only = 1u32 << s;
-        let (before, none) = (self.stopped, self.errors.is_empty());
+        let before = self.stopped;
         let minus = self.react(p, present - (present & only));
-        let (between, erred) = (self.stopped, !self.errors.is_empty());
+        let between = self.stopped;
         let plus = self.react(p, present | only);
         self.stopped_once += (between - before != self.stopped - between) as u64;
         let (in_minus, in_plus) = (minus.emitted & only != 0, plus.emitted & only != 0);
+        let (minus_wrong, plus_wrong) = (minus.code == WRONG, plus.code == WRONG);
         let fits = [
             in_minus && in_plus,
-            !in_minus && !in_plus && minus.code != WRONG && plus.code != WRONG,
-            in_minus && !in_plus && plus.code != WRONG,
-            in_plus && !in_minus && minus.code != WRONG,
-            true,
+            !in_minus && !in_plus && !minus_wrong && !plus_wrong,
+            in_minus && !in_plus && !plus_wrong,
+            in_plus && !in_minus && !minus_wrong,
+            minus_wrong || plus_wrong,
         ];
-        let case = fits.iter().position(|&fit| fit).expect("the last one fits");
+        let tried = match self.order {
+            Order::Printed => [0, 1, 2, 3, 4],
+            Order::InheritanceFirst => [4, 0, 1, 2, 3],
+        };
+        let case = tried.into_iter().find(|&case| fits[case]).expect("one of the five fits");
         self.cases[case] += 1;
-        self.hidden |= none && erred && case == 0;
+        if fits[0] && fits[4] {
+            self.two_fit[minus_wrong as usize + 2 * plus_wrong as usize - 1] += 1;
+        }
         match case {
             0 => Answer { emitted: plus.emitted - only, ..plus },
             1 => minus,

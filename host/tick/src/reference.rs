@@ -2,7 +2,7 @@
 use crate::expansion::{expand, Tree, WRONG};
 use crate::kernel::Kernel;
 use crate::rewriting::Paper;
-use crate::statement::{term, Term};
+use crate::statement::{term, Order, Term};
 use common::reference;
 
 /// A sequence with its term, or the number of the row from 2 to 10 that turns it down; and its kernel form, if there
@@ -51,8 +51,19 @@ impl Instant {
     }
 }
 
-/// 01, 'Turned down' and 'States and resuming'.
+/// The tick as 02, item 4, has it.
 pub fn tick(sequence: &Sequence, state: &[u8], input: u32, answer_length: usize) -> Result<Instant, u8> {
+    tick_by(Order::InheritanceFirst, sequence, state, input, answer_length)
+}
+
+/// 01, 'Turned down' and 'States and resuming', by either order of the signal rules.
+pub fn tick_by(
+    order: Order,
+    sequence: &Sequence,
+    state: &[u8],
+    input: u32,
+    answer_length: usize,
+) -> Result<Instant, u8> {
     if state.len() != 9 || answer_length != 8 {
         return Err(1);
     }
@@ -64,7 +75,7 @@ pub fn tick(sequence: &Sequence, state: &[u8], input: u32, answer_length: usize)
         2 if labels == 0 => return Err(12),
         _ => return Err(11),
     };
-    let mut tree = Tree::default();
+    let mut tree = Tree { order, ..Tree::default() };
     let reaction = tree.react(&now, input);
     let wrong = reaction.code == WRONG;
     let (kind, place) = if wrong { tree.errors[0] } else { (0, 0) };

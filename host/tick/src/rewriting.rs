@@ -1,7 +1,8 @@
-//! The fitters' paper of document 01, with the suspend of 02, item 1: a machine that holds a term and rewrites it. It
-//! knows no labels or states, and shares nothing with expansion.rs but the terms. The first error (02, item 3) is found
-//! in the term that it holds, where a copy of a loop or a signal keeps the place of its command.
-use crate::statement::{Statement, Term};
+//! The fitters' paper of document 01, with the suspend of 02, item 1: a machine that holds a term and rewrites it, by
+//! either order of the signal rules (02, item 4). It knows no labels or states, and shares nothing with expansion.rs
+//! but the terms and the names of the orders. The first error (02, item 3) is found in the term that it holds, where a
+//! copy of a loop or a signal keeps the place of its command.
+use crate::statement::{Order, Statement, Term};
 use std::rc::Rc;
 
 /// In the order of 01, so that the greater of two is their maximum.
@@ -21,7 +22,7 @@ struct Reaction {
     emitted: u32,
     code: Code,
     residual: Term,
-    /// Of the whole tree of this reaction, runs that are not chosen included.
+    /// Of the whole tree of this reaction, both runs of each signal included.
     first: Option<Error>,
 }
 
@@ -42,19 +43,20 @@ fn errs(kind: u8, place: usize) -> Reaction {
 }
 
 /// 003, figures 3 and 7, with 01's residuals.
-fn react(term: &Term, present: u32) -> Reaction {
+fn react(order: Order, term: &Term, present: u32) -> Reaction {
+    let react = |term: &Term, present: u32| react(order, term, present);
     match &**term {
         Statement::Nothing => gives(0, Ended, Statement::Nothing),
         Statement::Pause(_) => gives(0, Waiting, Statement::Nothing),
         Statement::Emit(s) => gives(1 << s, Ended, Statement::Nothing),
         Statement::Exit(n) => gives(0, Leaving(*n), Statement::Nothing),
-        Statement::Seq(p, q) => sequence(react(p, present), q, present),
+        Statement::Seq(p, q) => sequence(order, react(p, present), q, present),
         Statement::Par(p, q) => parallel(react(p, present), react(q, present)),
         Statement::Loop(place, p) => repeat(*place, react(p, present), term),
         Statement::Present(s, p, q) => react(if present >> s & 1 == 1 { p } else { q }, present),
         Statement::Signal(place, s, p) => {
             let bit = 1 << s;
-            signal(*place, *s, react(p, present & !bit), react(p, present | bit))
+            signal(order, *place, *s, react(p, present & !bit), react(p, present | bit))
         }
         Statement::Try(p) => catch(react(p, present)),
         Statement::Suspend(s, p) => hold(*s, react(p, present)),
@@ -67,11 +69,11 @@ fn react(term: &Term, present: u32) -> Reaction {
 }
 
 /// (sequence-p), (sequence-q)
-fn sequence(p: Reaction, q: &Term, present: u32) -> Reaction {
+fn sequence(order: Order, p: Reaction, q: &Term, present: u32) -> Reaction {
     if p.code != Ended {
         return gives(p.emitted, p.code, Statement::Seq(p.residual, q.clone())).after(p.first);
     }
-    let q = react(q, present);
+    let q = react(order, q, present);
     Reaction { emitted: p.emitted | q.emitted, ..q }.after(p.first)
 }
 
@@ -107,12 +109,15 @@ fn hold(s: u8, p: Reaction) -> Reaction {
     gives(p.emitted, p.code, residual).after(p.first)
 }
 
-/// (signal++), (signal--), (signal+-), (signal-+), (signal∞): the first that fits
-fn signal(place: usize, s: u8, minus: Reaction, plus: Reaction) -> Reaction {
+/// (signal++), (signal--), (signal+-), (signal-+), (signal∞): the first that fits, or, if so ordered, (signal∞) before
+/// the other four
+fn signal(order: Order, place: usize, s: u8, minus: Reaction, plus: Reaction) -> Reaction {
     let emits = |r: &Reaction| r.emitted >> s & 1 == 1;
+    let greater = minus.code.max(plus.code);
     let all = match (emits(&minus), emits(&plus)) {
+        _ if order == Order::InheritanceFirst && greater == Wrong => gives(0, Wrong, Statement::Nothing),
         (true, true) => gives(plus.emitted & !(1 << s), plus.code, Statement::Signal(place, s, plus.residual)),
-        (false, false) if minus.code.max(plus.code) < Wrong => {
+        (false, false) if greater < Wrong => {
             gives(minus.emitted, minus.code, Statement::Signal(place, s, minus.residual))
         }
         (true, false) if plus.code < Wrong => errs(2, place),
@@ -129,7 +134,16 @@ pub enum Seen {
     Instant { code: u8, kind: u8, place: usize, emitted: u32 },
 }
 
-#[derive(Clone)]
+impl Seen {
+    /// What an answer record shows.
+    pub fn of(answer: &[u8]) -> Option<Seen> {
+        let &[code, kind, low, high, a, b, c, d] = answer else { return None };
+        let (place, emitted) = (u16::from_le_bytes([low, high]) as usize, u32::from_le_bytes([a, b, c, d]));
+        Some(Seen::Instant { code, kind, place, emitted })
+    }
+}
+
+#[derive(Clone, PartialEq)]
 pub enum Paper {
     Fresh(Term),
     Waiting(Term),
@@ -145,12 +159,12 @@ impl Paper {
         }
     }
 
-    pub fn tick(&mut self, input: u32, answer_length: usize) -> Seen {
+    pub fn tick(&mut self, order: Order, input: u32, answer_length: usize) -> Seen {
         if answer_length != 8 {
             return Seen::TurnedDown(1);
         }
         let (Paper::Fresh(term) | Paper::Waiting(term)) = self else { return Seen::TurnedDown(12) };
-        let Reaction { emitted, code, residual, first } = react(term, input);
+        let Reaction { emitted, code, residual, first } = react(order, term, input);
         *self = if code == Waiting { Paper::Waiting(residual) } else { Paper::Over };
         let right = |code| Seen::Instant { code, kind: 0, place: 0, emitted };
         match code {

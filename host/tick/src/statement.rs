@@ -4,8 +4,18 @@ use std::rc::Rc;
 
 pub type Term = Rc<Statement>;
 
+/// The order in which the rules of a signal are tried: as 01 prints them, or inheritance of a wrong run before the
+/// other four (02, item 4).
+#[derive(Clone, Copy, Default, PartialEq, Eq)]
+pub enum Order {
+    Printed,
+    #[default]
+    InheritanceFirst,
+}
+
 /// A loop and a signal carry their place, by which an error names them. What is left of a suspend after its first instant
 /// is each machine's own: Kept is made by the expansion alone, Held by the paper alone.
+#[derive(PartialEq, Eq)]
 pub enum Statement {
     Nothing,
     Pause(u8),

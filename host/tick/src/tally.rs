@@ -4,18 +4,20 @@ use crate::expansion::CASES;
 use crate::kernel::Kernel;
 use crate::reference::{tick, Instant, Sequence};
 use crate::rewriting::{Paper, Seen};
+use crate::statement::Order;
 use common::counts::Counts;
 use common::table::hex;
 
 pub const GREATEST: usize = 12;
 
 /// Names of what a tree of reactions may hold, beside the cases of a signal.
-const EVENTS: [&str; 14] = [
+const EVENTS: [&str; 15] = [
     "resumed",
-    "errors in an instant that is not wrong",
     "wrong when resumed",
     "wrong with errors that differ",
-    "wrong, first error of a run not chosen",
+    "two signal rules fit, wrong without",
+    "two signal rules fit, wrong with",
+    "two signal rules fit, wrong in both",
     "labels lost in a parallel",
     "emitted beside an error",
     "one loop begun three times in one run",
@@ -32,7 +34,7 @@ const PAPERS: [&str; 4] = [
     "compared with the paper",
     "the same, wrong when resumed",
     "the same, wrong with errors that differ",
-    "the same, first error of a run not chosen",
+    "the same, two signal rules fit",
 ];
 
 /// What is counted of the ticks that are compared with the kernel form.
@@ -113,14 +115,10 @@ impl Tally {
         answer_length: usize,
         told: impl Fn() -> String,
     ) {
-        let seen = paper.tick(input, answer_length);
-        let shown = match (outcome.number, outcome.answer.as_deref()) {
-            (0, Some(&[code, kind, low, high, a, b, c, d])) => {
-                let place = u16::from_le_bytes([low, high]) as usize;
-                Some(Seen::Instant { code, kind, place, emitted: u32::from_le_bytes([a, b, c, d]) })
-            }
-            (0, _) => None,
-            (number, _) => Some(Seen::TurnedDown(number)),
+        let seen = paper.tick(Order::InheritanceFirst, input, answer_length);
+        let shown = match outcome.number {
+            0 => outcome.answer.as_deref().and_then(Seen::of),
+            number => Some(Seen::TurnedDown(number)),
         };
         let phase = outcome.state.as_ref().and_then(|state| state.first().copied());
         let holds = shown.as_ref() == Some(&seen) && phase == Some(paper.phase());
@@ -176,13 +174,14 @@ impl Tally {
         self.codes[if code == 255 { 17 } else { code as usize }] += 1;
         self.kinds[instant.answer[1] as usize] += (code == 255) as u64;
         (0..CASES.len()).for_each(|i| self.cases[i] += tree.cases[i]);
-        let [resumed, differ, hidden] = wrong_kinds(state, instant);
+        let [resumed, differ, _] = wrong_kinds(state, instant);
         let events = [
             state[0] == 1,
-            code != 255 && !tree.errors.is_empty(),
             resumed,
             differ,
-            hidden,
+            tree.two_fit[0] > 0,
+            tree.two_fit[1] > 0,
+            tree.two_fit[2] > 0,
             tree.lost > 0,
             tree.emitted_beside > 0,
             tree.cases == [0; CASES.len()] && begun_thrice(&tree.begun),
@@ -224,11 +223,11 @@ impl Tally {
     }
 }
 
-/// Is it a wrong instant of a waiting machine, one with errors that differ, one whose first error a run hides?
+/// Is it a wrong instant of a waiting machine, one with errors that differ, one with a signal for which two rules fit?
 fn wrong_kinds(state: &[u8], instant: &Instant) -> [bool; 3] {
     let errors = &instant.tree.errors;
     let differ = errors.iter().any(|error| error != &errors[0]);
-    [state[0] == 1, differ, instant.tree.hidden].map(|kind| kind && instant.answer[0] == 255)
+    [state[0] == 1, differ, instant.tree.two_fit != [0; 3]].map(|kind| kind && instant.answer[0] == 255)
 }
 
 fn begun_thrice(places: &[usize]) -> bool {
