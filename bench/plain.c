@@ -1,5 +1,5 @@
 /*
- * The check and the tick of document 01, with the suspend of 02, item 1, as one would write them in C. The check is one
+ * The check and the tick of document 01, with items 1, 3 and 4 of 02, as one would write them in C. The check is one
  * recursive walk that reads and fills two bit matrices. The tick is a recursion over the bytes: it skips a part that does
  * not react, and looks through a part for an active pause before it resumes it.
  */
@@ -147,7 +147,7 @@ struct instant {
     const uint8_t *sequence;
     const uint8_t *next; /* the statement to react */
     uint64_t active;     /* the labels of the state */
-    uint16_t place;      /* the first error, if there is one */
+    uint16_t place;      /* the first error; there is one exactly if the instant is wrong */
     uint8_t kind;
 };
 
@@ -214,7 +214,7 @@ static struct reaction caught(struct reaction p)
     return p;
 }
 
-/* The signal whose body is at t->next: both runs, then the first case that fits. */
+/* The signal whose body is at t->next: both runs, then inheritance of a wrong one, then the other cases. */
 static struct reaction local(struct instant *t, run *body, uint32_t present)
 {
     const uint8_t *start = t->next;
@@ -222,18 +222,15 @@ static struct reaction local(struct instant *t, run *body, uint32_t present)
     struct reaction minus = body(t, present & ~s);
     t->next = start;
     struct reaction plus = body(t, present | s);
+    if (minus.code == WRONG || plus.code == WRONG)
+        return (struct reaction){.code = WRONG};
     bool in_minus = (minus.emitted & s) != 0, in_plus = (plus.emitted & s) != 0;
-    if (in_minus && in_plus) {
-        plus.emitted &= ~s;
-        return plus;
-    }
-    if (!in_minus && !in_plus && minus.code != WRONG && plus.code != WRONG)
+    if (in_minus != in_plus)
+        return wrong(t, in_minus ? 2 : 3, start - 2);
+    if (!in_plus)
         return minus;
-    if (in_minus && !in_plus && plus.code != WRONG)
-        return wrong(t, 2, start - 2);
-    if (!in_minus && in_plus && minus.code != WRONG)
-        return wrong(t, 3, start - 2);
-    return (struct reaction){.code = WRONG};
+    plus.emitted &= ~s;
+    return plus;
 }
 
 static struct reaction react(struct instant *t, uint32_t present);
@@ -392,8 +389,8 @@ uint8_t plain_tick(const uint8_t *sequence, size_t sequence_length, uint8_t *sta
     state[0] = r.code == WAITING ? WAITS : OVER;
     put(state + 1, 8, r.labels);
     answer[0] = r.code;
-    answer[1] = r.code == WRONG ? t.kind : 0;
-    put(answer + 2, 2, r.code == WRONG ? t.place : 0);
+    answer[1] = t.kind;
+    put(answer + 2, 2, t.place);
     put(answer + 4, 4, r.code == WRONG ? 0 : r.emitted);
     return 0;
 }
