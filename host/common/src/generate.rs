@@ -91,14 +91,16 @@ const LOOPS: [Frame; 4] = [
 /// Bodies that wait before, after or beside the statement.
 const SUSPENDS: [Frame; 3] = [(&[0x04, 0x01, HOLE], 1), (&[0x04, HOLE, 0x01], 1), (&[0x05, 0x01, HOLE], 1)];
 
-/// Bodies that emit the signal before, after or beside the statement, one whose run without the signal is wrong, and
-/// one that emits it in the second instant.
-const SIGNALS: [Frame; 5] = [
+/// Bodies that emit the signal before, after or beside the statement, one that emits it in the second instant, two of
+/// which one run is wrong, without the signal or with it, and one whose statement reacts in the run without it alone.
+const SIGNALS: [Frame; 7] = [
     (&[0x04, 0x02, HOLE], 1),
     (&[0x04, HOLE, 0x02], 1),
     (&[0x05, HOLE, 0x02], 1),
-    (&[0x05, 0x02, 0x07, HOLE, 0x06, 0x00], 2),
     (&[0x05, HOLE, 0x04, 0x01, 0x02], 1),
+    (&[0x05, 0x02, 0x07, HOLE, 0x06, 0x00], 2),
+    (&[0x05, 0x02, 0x07, 0x06, 0x00, HOLE], 2),
+    (&[0x05, 0x02, 0x07, 0x00, HOLE], 2),
 ];
 
 struct Generator<'a> {

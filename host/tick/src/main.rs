@@ -1,17 +1,19 @@
 //! The host test of the tick: intake_tick of the archive against two implementations of document 01 on explicit terms,
 //! by expansion of the label set (expansion.rs) and by rewriting (rewriting.rs), and a sequence with suspends against its
-//! kernel form (kernel.rs).
+//! kernel form (kernel.rs); then these implementations by both orders of the signal rules (orders.rs).
 //! An argument replaces the seed. The last line is 'N passed, M failed'.
 mod archive;
 mod examples;
 mod expansion;
 mod kernel;
+mod orders;
 mod reference;
 mod rewriting;
 mod runs;
 mod small;
 mod statement;
 mod tally;
+mod ticks;
 mod vectors;
 
 use common::{generate::Random, table};
@@ -21,20 +23,12 @@ use tally::{Tally, GREATEST};
 
 /// The lines of host/ticks.txt: what is written there by hand is what the reference gives, and the archive too.
 fn by_hand(tally: &mut Tally) {
-    for (number, text) in table::lines(include_str!("../../ticks.txt")) {
-        let fields: Vec<&str> = text.split('|').map(str::trim).collect();
-        let (sequence, state) = (Sequence::new(table::bytes(fields[0])), table::bytes(fields[1]));
-        let answer_length = fields[2].parse().expect("a length");
-        let input = u32::from_str_radix(fields[3], 16).expect("an input");
-        let expected = match fields[4..] {
-            [state, answer] => Ok((table::bytes(state), table::bytes(answer))),
-            _ => Err(number),
-        };
-        let given = reference::tick(&sequence, &state, input, answer_length);
-        let holds = given.map(|instant| (instant.state, instant.answer)) == expected;
-        tally.counts.expect(holds, || format!("the reference on {number}:{text}"));
-        let mut paper = sequence.paper().filter(|_| state == [0; 9]);
-        tally.compare(&sequence, &state, input, answer_length, paper.as_mut());
+    for tick in ticks::read(include_str!("../../ticks.txt")) {
+        let ticks::Tick { sequence, state, input, answer_length, .. } = &tick;
+        let given = reference::tick(sequence, state, *input, *answer_length);
+        tally.counts.expect(tick.gives(given), || format!("the reference on {}", tick.line));
+        let mut paper = sequence.paper().filter(|_| *state == [0; 9]);
+        tally.compare(sequence, state, *input, *answer_length, paper.as_mut());
     }
 }
 
@@ -77,6 +71,9 @@ fn main() -> ExitCode {
     tally.close("states");
     runs::damaged(&mut tally, &mut random, 60_000);
     tally.close("damaged");
+    let orders = orders::both(&mut tally, &mut random);
+    tally.close("orders, changed");
     tally.reached();
+    orders.reached(&mut tally);
     tally.counts.finish()
 }

@@ -23,7 +23,7 @@ fn style(random: &mut Random) -> Style {
 }
 
 /// An accepted sequence; most are short.
-fn sequence(random: &mut Random) -> Sequence {
+pub fn sequence(random: &mut Random) -> Sequence {
     loop {
         let longest = random.pick(&[12, 24, 24, 48, 48, 48, 96, 96, 200]);
         let longest = if random.chance(1) { 1024 } else { longest };
@@ -36,7 +36,7 @@ fn sequence(random: &mut Random) -> Sequence {
     }
 }
 
-fn input(random: &mut Random) -> u32 {
+pub fn input(random: &mut Random) -> u32 {
     let any = random.below(1 << 32) as u32;
     random.pick(&[0, u32::MAX, any & 7, any, any])
 }
@@ -77,7 +77,7 @@ pub fn runs(tally: &mut Tally, random: &mut Random, count: usize) {
 }
 
 /// A valid label set, grown from the pauses in random order.
-fn valid_set(random: &mut Random, sequence: &Sequence) -> u64 {
+pub fn valid_set(random: &mut Random, sequence: &Sequence) -> u64 {
     let Ok((tree, _)) = &sequence.read else { return 0 };
     let pauses = tree.pauses();
     let most = random.pick(&[1, 2, 64]);
@@ -91,7 +91,7 @@ fn valid_set(random: &mut Random, sequence: &Sequence) -> u64 {
     set
 }
 
-fn record(phase: u8, labels: u64) -> Vec<u8> {
+pub fn record(phase: u8, labels: u64) -> Vec<u8> {
     [&[phase][..], &labels.to_le_bytes()].concat()
 }
 

@@ -1,15 +1,35 @@
-//! All statements of one to five commands over two signals, two labels and two exits.
+//! All statements of one to five commands over two signals, two labels and two exits; and, for the two orders of the
+//! signal rules, of one to seven commands over one signal and one exit.
 use crate::reference::Sequence;
 use crate::rewriting::Paper;
 use crate::tally::Tally;
 use common::table::bytes;
 
+/// What statements are made of: commands of no part, of one and of two.
+struct Commands<'a> {
+    leaves: &'a [&'a str],
+    wraps: &'a [&'a str],
+    joins: &'a [&'a str],
+}
+
+const OF_FIVE: Commands = Commands {
+    leaves: &["00", "01 00", "01 01", "02 00", "02 01", "03 01", "03 02", "0A 00", "0A 01"],
+    wraps: &["06", "08 00", "08 01", "09", "0B 00", "0B 01"],
+    joins: &["04", "05", "07 00", "07 01"],
+};
+
+/// The pauses are numbered afterwards.
+const OF_SEVEN: Commands = Commands {
+    leaves: &["00", "01 FF", "02 00", "03 01"],
+    wraps: &["06", "08 00", "09", "0B 00"],
+    joins: &["04", "05", "07 00"],
+};
+
 /// All statements of up to `most` commands, by their count.
-fn statements(most: usize) -> Vec<Vec<Vec<u8>>> {
-    let leaves = ["00", "01 00", "01 01", "02 00", "02 01", "03 01", "03 02", "0A 00", "0A 01"];
-    let wraps = ["06", "08 00", "08 01", "09", "0B 00", "0B 01"].map(bytes);
-    let joins = ["04", "05", "07 00", "07 01"].map(bytes);
-    let mut all = vec![vec![], leaves.map(bytes).to_vec()];
+fn statements(most: usize, commands: &Commands) -> Vec<Vec<Vec<u8>>> {
+    let [leaves, wraps, joins] = [commands.leaves, commands.wraps, commands.joins]
+        .map(|texts| texts.iter().map(|text| bytes(text)).collect::<Vec<_>>());
+    let mut all = vec![vec![], leaves];
     for count in 2..=most {
         let mut larger: Vec<Vec<u8>> = Vec::new();
         for p in &all[count - 1] {
@@ -25,9 +45,22 @@ fn statements(most: usize) -> Vec<Vec<Vec<u8>>> {
     all
 }
 
+/// The statements of up to seven commands with a signal among them, and those of eight with a signal around; each pause
+/// has a label of its own.
+pub fn with_signals() -> impl Iterator<Item = Vec<u8>> {
+    let all = statements(7, &OF_SEVEN);
+    let around: Vec<Vec<u8>> = all[7].iter().map(|body| [&[0x08, 0x00], &body[..]].concat()).collect();
+    let inside = all.into_iter().flatten().filter(|bytes| bytes.contains(&0x08));
+    inside.chain(around).map(|mut bytes| {
+        let pauses = bytes.iter_mut().filter(|byte| **byte == 0xFF);
+        pauses.zip(0..).for_each(|(label, number)| *label = number);
+        bytes
+    })
+}
+
 /// Every statement from every record of phase 0 to 3 and labels 0 to 2, with every input of two bits.
 pub fn every_state(tally: &mut Tally) {
-    for bytes in statements(5).into_iter().flatten() {
+    for bytes in statements(5, &OF_FIVE).into_iter().flatten() {
         let sequence = Sequence::new(bytes);
         for (phase, labels) in (0..4).flat_map(|phase| (0..8).map(move |labels| (phase, labels))) {
             let state = [phase, labels, 0, 0, 0, 0, 0, 0, 0];
@@ -44,7 +77,7 @@ pub fn every_state(tally: &mut Tally) {
 
 /// Every statement without setpause against the paper, over every list of three inputs of two bits.
 pub fn every_run(tally: &mut Tally) {
-    for bytes in statements(5).into_iter().flatten() {
+    for bytes in statements(5, &OF_FIVE).into_iter().flatten() {
         let sequence = Sequence::new(bytes);
         if let Some(paper) = sequence.paper() {
             continue_run(tally, &sequence, &paper, &[0; 9], 3);
