@@ -72,9 +72,9 @@ enum intake_code {
 /*
  * Kind and place are those of the first error of a wrong instant. Errors come in this order: of two parts those of the
  * first before those of the second; of a signal's two runs those of the run without the signal before those of the run
- * with it; the error of a loop or a signal itself after all errors inside it. The errors of a run that is not chosen
- * count, so the first error need not be what makes the instant wrong: once it is mended, the next one is shown. A loop's
- * next round has the places of its commands. The same sequence, state and input always show the same error.
+ * with it; the error of a loop or a signal itself after all errors inside it. A signal is tried without and with, and an
+ * error in either run makes the instant wrong; once the first error is mended, the next one is shown. A loop's next
+ * round has the places of its commands. The same sequence, state and input always show the same error.
  */
 enum intake_kind {
     INTAKE_NO_ERROR = 0,
