@@ -116,26 +116,30 @@ fn choose(s: u8, minus: Reaction, plus: Reaction) -> Choice
     }
 }
 
+// A reaction from its three values. The completion comes in one register: stored in pieces, it could not be read back whole
+// before they have all reached memory.
+fn made(emitted: u32, labels: Labels, completion: Completion) -> Reaction
+    ensures { λ r. ⌜ r ≡ record { emitted = emitted; labels = labels; completion = completion } ⌝ }
+{
+    Reaction {
+        emitted,
+        labels,
+        completion,
+    }
+}
+
 // A command that ends at once.
 pub fn ending(emitted: u32) -> Reaction
     ensures { λ r. ⌜ r ≡ reactionOf (faultless (gives emitted ended none nothing)) ⌝ }
 {
-    Reaction {
-        emitted,
-        labels: sets::labels::empty(),
-        completion: Completion::Ended,
-    }
+    made(emitted, sets::labels::empty(), Completion::Ended)
 }
 
 // A command that waits: a pause with its label, a stopped suspend with the active labels inside it.
 pub fn waiting(labels: Labels) -> Reaction
     ensures { λ r. ⌜ r ≡ reactionOf (faultless (gives none waiting (labelSet labels) nothing)) ⌝ }
 {
-    Reaction {
-        emitted: 0,
-        labels,
-        completion: Completion::Waiting,
-    }
+    made(0, labels, Completion::Waiting)
 }
 
 pub fn pausing(l: u8) -> Reaction
@@ -147,22 +151,14 @@ pub fn pausing(l: u8) -> Reaction
 pub fn leaving(n: u8) -> Reaction
     ensures { λ r. ⌜ r ≡ reactionOf (faultless (gives none (leaving n) none nothing)) ⌝ }
 {
-    Reaction {
-        emitted: 0,
-        labels: sets::labels::empty(),
-        completion: Completion::Leaving(n),
-    }
+    made(0, sets::labels::empty(), Completion::Leaving(n))
 }
 
 // Wrong, with nothing emitted.
 fn failing(kind: u8, place: u16) -> Reaction
     ensures { λ r. ⌜ r ≡ reactionOf (instant failed (some (record { kind = kind; place = place }))) ⌝ }
 {
-    Reaction {
-        emitted: 0,
-        labels: sets::labels::empty(),
-        completion: Completion::Wrong(kind, place),
-    }
+    made(0, sets::labels::empty(), Completion::Wrong(kind, place))
 }
 
 // p; q

@@ -1,4 +1,4 @@
-use mathlib.Core.Path.{refl}
+use mathlib.Core.Path.{refl, _∙_}
 use mathlib.Core.Option.{Option}
 use Rattle.esterel.specs.Reaction.{ended}
 use Rattle.rules.proofs.Combining.{made}
@@ -9,8 +9,11 @@ use Rattle.rules.proofs.command.ending.Tie as tie
 empty-requires : tie.Need-empty-requires
 empty-requires c κs = search needs
 
+made-requires : tie.Need-made-requires
+made-requires c κs = search needs
+
 returns : tie.Need-returns
-returns c = made ended Option.none refl (c .empty .ensures) refl
+returns c = c .made .ensures ∙ made ended Option.none refl (c .before .empty .ensures) refl
 
 pub ending-spec : {M : Type 1} → statement M
-ending-spec = tie.close (tie.spec empty-requires returns)
+ending-spec = tie.close (tie.spec empty-requires made-requires returns)

@@ -1,4 +1,4 @@
-use mathlib.Core.Path.{refl}
+use mathlib.Core.Path.{refl, _∙_}
 use mathlib.Core.Option.{Option}
 use Rattle.esterel.specs.Sets.{none}
 use Rattle.esterel.specs.Reaction.{leaving}
@@ -10,9 +10,12 @@ use Rattle.rules.proofs.command.leaving.Tie as tie
 empty-requires : tie.Need-empty-requires
 empty-requires c κs = search needs
 
+made-requires : tie.Need-made-requires
+made-requires c κs = search needs
+
 returns : tie.Need-returns
 unfolding none
-returns c = made (leaving _) Option.none refl (c .empty .ensures) refl
+returns c = c .made .ensures ∙ made (leaving _) Option.none refl (c .before .empty .ensures) refl
 
 pub leaving-spec : {M : Type 1} → statement M
-leaving-spec = tie.close (tie.spec empty-requires returns)
+leaving-spec = tie.close (tie.spec empty-requires made-requires returns)
