@@ -40,7 +40,7 @@ active-awake (loop a p) L h = awake-in L loop₁ (active-awake p L h)
 active-awake (present s p q) L h =
     ⊎-elim (λ x. awake-in L present₁ (active-awake p L x)) (λ x. awake-in L present₂ (active-awake q L x))
     (or-cases (active p L) (active q L) h)
-active-awake (signal a s p) L h = awake-in L signal₁ (active-awake p L h)
+active-awake (signal sc a s p) L h = awake-in L signal₁ (active-awake p L h)
 active-awake (try p) L h = awake-in L try₁ (active-awake p L h)
 active-awake (setpause l) L h = absurd (false≢true h)
 active-awake (suspend s p) L h = awake-in L suspend₁ (active-awake p L h)
@@ -86,7 +86,7 @@ active-same (par p q) L M h = ap₂ _||_ (active-same p L M (same-part L M par�
 active-same (loop a p) L M h = active-same p L M (same-part L M loop₁ h)
 active-same (present s p q) L M h =
     ap₂ _||_ (active-same p L M (same-part L M present₁ h)) (active-same q L M (same-part L M present₂ h))
-active-same (signal a s p) L M h = active-same p L M (same-part L M signal₁ h)
+active-same (signal sc a s p) L M h = active-same p L M (same-part L M signal₁ h)
 active-same (try p) L M h = active-same p L M (same-part L M try₁ h)
 active-same (setpause l) L M h = refl
 active-same (suspend s p) L M h = active-same p L M (same-part L M suspend₁ h)
@@ -168,7 +168,7 @@ expand-same (present s p q) L M h =
       expand-same p L M (same-part L M present₁ h),
       expand-same q L M (same-part L M present₂ h),
     )
-expand-same (signal a s p) L M h = rw (expand-same p L M (same-part L M signal₁ h))
+expand-same (signal sc a s p) L M h = rw (expand-same p L M (same-part L M signal₁ h))
 expand-same (try p) L M h = rw (expand-same p L M (same-part L M try₁ h))
 expand-same (setpause l) L M h = refl
 expand-same (suspend s p) L M h =

@@ -1,7 +1,7 @@
 -- Facts on tests.
 use mathlib.Core.Path.{_≡_, refl, sym, _∙_}
 use mathlib.Core.Logic.{_⊎_, inl, inr}
-use mathlib.Core.Bool.{Bool, true, false, _||_, true≢false}
+use mathlib.Core.Bool.{Bool, true, false, _&&_, _||_, true≢false}
 
 pub or-l : (a b : Bool) → a ≡ true → (a || b) ≡ true
 or-l a b h = rw h
@@ -17,6 +17,14 @@ or-cases false b h = inr h
 pub or-false : (a : Bool) → (a || false) ≡ a
 or-false true = refl
 or-false false = refl
+
+pub or-true : (a : Bool) → (a || true) ≡ true
+or-true true = refl
+or-true false = refl
+
+pub and-false : (a : Bool) → (a && false) ≡ false
+and-false true = refl
+and-false false = refl
 
 pub or-first : (a b : Bool) → (a || b) ≡ false → a ≡ false
 or-first true b h = h

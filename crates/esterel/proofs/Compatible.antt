@@ -136,9 +136,9 @@ compatible-to base (loop a p) L h = together-single L (λ x. elim x [ ]) (λ d c
     go : {d : Part} {c : Statement} → PartOf d c (loop a p) → Together p L → Together c L
     go loop₁ f = f
 compatible-to base (present s p q) L h = two-to base L (test {s = s}) (compatible-to base p L) (compatible-to (middle base p) q L) h
-compatible-to base (signal a s p) L h = together-single L (λ x. elim x [ ]) (λ d c i. go i (compatible-to base p L h))
+compatible-to base (signal sc a s p) L h = together-single L (λ x. elim x [ ]) (λ d c i. go i (compatible-to base p L h))
   where
-    go : {d : Part} {c : Statement} → PartOf d c (signal a s p) → Together p L → Together c L
+    go : {d : Part} {c : Statement} → PartOf d c (signal sc a s p) → Together p L → Together c L
     go signal₁ f = f
 compatible-to base (try p) L h = together-single L (λ x. elim x [ ]) (λ d c i. go i (compatible-to base p L h))
   where
@@ -161,7 +161,7 @@ compatible-from base (seq p q) L f = two-from base L sequence (compatible-from b
 compatible-from base (par p q) L f = two-from base L sides (compatible-from base p L) (compatible-from (middle base p) q L) f
 compatible-from base (loop a p) L f = compatible-from base p L (together-part L (loop₁ {a = a}) f)
 compatible-from base (present s p q) L f = two-from base L (test {s = s}) (compatible-from base p L) (compatible-from (middle base p) q L) f
-compatible-from base (signal a s p) L f = compatible-from base p L (together-part L (signal₁ {a = a} {s = s}) f)
+compatible-from base (signal sc a s p) L f = compatible-from base p L (together-part L (signal₁ {sc = sc} {a = a} {s = s}) f)
 compatible-from base (try p) L f = compatible-from base p L (together-part L try₁ f)
 compatible-from base (setpause l) L f = refl
 compatible-from base (suspend s p) L f = compatible-from base p L (together-part L (suspend₁ {s = s}) f)

@@ -96,7 +96,7 @@ counted w (seq p q) d u = counted-two w sequence (counted w p) (counted w q) d u
 counted w (par p q) d u = counted-two w sides (counted w p) (counted w q) d u
 counted w (loop a p) d u = counted w p (distinct-part (loop₁ {a = a}) d) u
 counted w (present s p q) d u = counted-two w (test {s = s}) (counted w p) (counted w q) d u
-counted w (signal a s p) d u = counted w p (distinct-part (signal₁ {a = a} {s = s}) d) u
+counted w (signal sc a s p) d u = counted w p (distinct-part (signal₁ {sc = sc} {a = a} {s = s}) d) u
 counted w (try p) d u = counted w p (distinct-part try₁ d) u
 counted w (setpause l) d u = card-none w
 counted w (suspend s p) d u = counted w p (distinct-part (suspend₁ {s = s}) d) u

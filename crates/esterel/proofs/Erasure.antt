@@ -7,7 +7,7 @@ use mathlib.Core.Option.{Option}
 use mathlib.Core.List.{List, head?}
 use lib.Dec.{eqb}
 use Rattle.esterel.specs.Sets.{member, none, insert, remove}
-use Rattle.esterel.specs.Statement.{Statement, nothing, pause, emit, exit, seq, par, loop, present, signal, try, setpause, suspend, held}
+use Rattle.esterel.specs.Statement.{Scope, Statement, nothing, pause, emit, exit, seq, par, loop, present, signal, try, setpause, suspend, held}
 use Rattle.esterel.specs.Reaction.{Code, ended, waiting, leaving, wrong, Reaction, gives, code, emitted, residual, side, inSeq, inPar, inLoop, inTry, inSignal, inSuspend, stopped, Case, both, neither, only−, only+, inherited, inheritanceFirst, caseOf, answer, reactBy, react}
 use Rattle.esterel.specs.Errors.{Error, errorsBy, errors, firstError}
 use Rattle.esterel.specs.Machines.{erase, seen, run, Rewriting, termAfter, byRewriting}
@@ -23,7 +23,7 @@ erase-erase (seq p q) = rw (erase-erase p, erase-erase q)
 erase-erase (par p q) = rw (erase-erase p, erase-erase q)
 erase-erase (loop a p) = rw (erase-erase p)
 erase-erase (present s p q) = rw (erase-erase p, erase-erase q)
-erase-erase (signal a s p) = rw (erase-erase p)
+erase-erase (signal sc a s p) = rw (erase-erase p)
 erase-erase (try p) = rw (erase-erase p)
 erase-erase (setpause l) = refl
 erase-erase (suspend s p) = rw (erase-erase p)
@@ -75,20 +75,20 @@ cond-alike : (b : Bool) {r r′ s s′ : Reaction} → Alike r r′ → Alike s 
 cond-alike true h i = h
 cond-alike false h i = i
 
-answer-alike : (c : Case) (a s : ℕ) {r− r′− r+ r′+ : Reaction} → Alike r− r′− → Alike r+ r′+
-    → Alike (answer c a s r− r+) (answer c a s r′− r′+)
+answer-alike : (c : Case) (sc : Scope) (a s : ℕ) {r− r′− r+ r′+ : Reaction} → Alike r− r′− → Alike r+ r′+
+    → Alike (answer c sc a s r− r+) (answer c sc a s r′− r′+)
 unfolding erase
-answer-alike both a s h (alike i) = alike (ap (signal a s) i)
-answer-alike neither a s (alike h) i = alike (ap (signal a s) h)
-answer-alike only− a s h i = alike refl
-answer-alike only+ a s h i = alike refl
-answer-alike inherited a s h i = alike refl
+answer-alike both sc a s h (alike i) = alike (ap (signal sc a s) i)
+answer-alike neither sc a s (alike h) i = alike (ap (signal sc a s) h)
+answer-alike only− sc a s h i = alike refl
+answer-alike only+ sc a s h i = alike refl
+answer-alike inherited sc a s h i = alike refl
 
 case-alike : (s : ℕ) {r− r′− r+ r′+ : Reaction} → Alike r− r′− → Alike r+ r′+ → caseOf inheritanceFirst s r− r+ ≡ caseOf inheritanceFirst s r′− r′+
 case-alike s (alike h) (alike i) = refl
 
-signal-alike : (a s : ℕ) {r− r′− r+ r′+ : Reaction} → Alike r− r′− → Alike r+ r′+ → Alike (inSignal inheritanceFirst a s r− r+) (inSignal inheritanceFirst a s r′− r′+)
-signal-alike a s {r−} {r′−} {r+} {r′+} h i = rw (case-alike s h i) (answer-alike (caseOf inheritanceFirst s r′− r′+) a s h i)
+signal-alike : (sc : Scope) (a s : ℕ) {r− r′− r+ r′+ : Reaction} → Alike r− r′− → Alike r+ r′+ → Alike (inSignal inheritanceFirst sc a s r− r+) (inSignal inheritanceFirst sc a s r′− r′+)
+signal-alike sc a s {r−} {r′−} {r+} {r′+} h i = rw (case-alike s h i) (answer-alike (caseOf inheritanceFirst s r′− r′+) sc a s h i)
 
 suspend-alike : (s : ℕ) {r r′ : Reaction} → Alike r r′ → Alike (inSuspend s r) (inSuspend s r′)
 unfolding erase
@@ -111,7 +111,7 @@ erase-alike (seq p q) e = seq-alike q (erase-alike p e) (erase-alike q e)
 erase-alike (par p q) e = par-alike (erase-alike p e) (erase-alike q e)
 erase-alike (loop a p) e = loop-alike a p (erase-alike p e)
 erase-alike (present s p q) e = cond-alike (member s e) (erase-alike p e) (erase-alike q e)
-erase-alike (signal a s p) e = signal-alike a s (erase-alike p (remove s e)) (erase-alike p (insert s e))
+erase-alike (signal sc a s p) e = signal-alike sc a s (erase-alike p (remove s e)) (erase-alike p (insert s e))
 erase-alike (try p) e = try-alike (erase-alike p e)
 erase-alike (setpause l) e = alike refl
 erase-alike (suspend s p) e = suspend-alike s (erase-alike p e)
@@ -131,7 +131,7 @@ erase-errors (seq p q) e = rw (erase-errors p e, erase-errors q e, code-alike (e
 erase-errors (par p q) e = rw (erase-errors p e, erase-errors q e)
 erase-errors (loop a p) e = rw (erase-errors p e, code-alike (erase-alike p e))
 erase-errors (present s p q) e = rw (erase-errors p e, erase-errors q e)
-erase-errors (signal a s p) e =
+erase-errors (signal sc a s p) e =
     rw (
       erase-errors p (remove s e),
       erase-errors p (insert s e),

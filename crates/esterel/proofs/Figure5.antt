@@ -118,7 +118,7 @@ module _ (L : ℕ) where
           → Expands L (present s p q) (cond (active p L) (expand p L) (expand q L))
       go (Tested.yes x) f g = rw x (Expands.present₁ (f x) (lone Alternative.test present₁ present₂ t x))
       go (Tested.no x) f g = rw x (Expands.present₂ x (g (other (active p L) (active q L) h x)))
-  expands (signal a s p) h t = Expands.signal (expands p h (together-part L signal₁ t))
+  expands (signal sc a s p) h t = Expands.signal (expands p h (together-part L signal₁ t))
   expands (try p) h t = Expands.try (expands p h (together-part L try₁ t))
   expands (setpause l) h t = absurd (false≢true h)
   expands (suspend s p) h t = rw h (Expands.suspend (expands p h (together-part L suspend₁ t)))

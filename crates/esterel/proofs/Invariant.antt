@@ -6,8 +6,8 @@ use mathlib.Core.Path.{_≡_, refl}
 use mathlib.Core.Bool.{Bool, true, false, cond}
 use lib.Dec.{eqb}
 use Rattle.esterel.specs.Sets.{member, none, only, join, insert, remove}
-use Rattle.esterel.specs.Statement.{Statement, nothing, pause, emit, exit, seq, par, loop, present, signal, try, setpause, suspend, held}
-use Rattle.esterel.specs.Reaction.{Code, ended, waiting, leaving, wrong, Reaction, gives, inSeq, inPar, inLoop, inTry, inSuspend, stopped, Case, both, neither, only−, only+, inherited, inheritanceFirst, caseOf, answer, reactBy, react}
+use Rattle.esterel.specs.Statement.{Scope, Statement, nothing, pause, emit, exit, seq, par, loop, present, signal, try, setpause, suspend, held}
+use Rattle.esterel.specs.Reaction.{Code, ended, waiting, leaving, wrong, Reaction, gives, inSeq, inPar, inLoop, inTry, inSuspend, stopped, outside, Case, both, neither, only−, only+, inherited, inheritanceFirst, caseOf, answer, reactBy, react}
 use Rattle.esterel.specs.States.{active}
 use Rattle.esterel.specs.Expansion.{expand, ifActive}
 use Rattle.esterel.specs.LabelTests.{activeLabels}
@@ -29,7 +29,7 @@ pub record Kept (K : Relation) : Type 0 where
   pub loop-body : (a : ℕ) (p : Statement) (L : ℕ) (t : Statement) → K p L t → K (loop a p) L (seq t (loop a p))
   pub present-first : (s : ℕ) (p q : Statement) (L : ℕ) (t : Statement) → K p L t → K (present s p q) L t
   pub present-second : (s : ℕ) (p q : Statement) (L : ℕ) (t : Statement) → K q L t → K (present s p q) L t
-  pub signal-body : (a s : ℕ) (p : Statement) (L : ℕ) (t : Statement) → K p L t → K (signal a s p) L (signal a s t)
+  pub signal-body : (sc : Scope) (a s : ℕ) (p : Statement) (L : ℕ) (t : Statement) → K p L t → K (signal sc a s p) L (signal sc a s t)
   pub try-body : (p : Statement) (L : ℕ) (t : Statement) → K p L t → K (try p) L (try t)
   pub suspend-body : (s : ℕ) (p : Statement) (L : ℕ) (t : Statement) → K p L t → K (suspend s p) L (held s L t)
   -- no source is a held suspend
@@ -92,20 +92,20 @@ module _ (K : Relation) (kept : Kept K) where
       go false = h
   try-fits p (gives o wrong L t) h = h
 
-  under-signal : (a s o₂ : ℕ) (p : Statement) (o : ℕ) (k : Code) (L : ℕ) (t : Statement) → Fits K p (gives o k L t)
-      → Fits K (signal a s p) (gives o₂ k L (signal a s t))
-  under-signal a s o₂ p o ended L t h = h
-  under-signal a s o₂ p o waiting L t h = kept .signal-body a s p L t h
-  under-signal a s o₂ p o (leaving n) L t h = h
-  under-signal a s o₂ p o wrong L t h = h
+  under-signal : (sc : Scope) (a s o₂ : ℕ) (p : Statement) (o : ℕ) (k : Code) (L : ℕ) (t : Statement) → Fits K p (gives o k L t)
+      → Fits K (signal sc a s p) (gives o₂ k L (signal sc a s t))
+  under-signal sc a s o₂ p o ended L t h = h
+  under-signal sc a s o₂ p o waiting L t h = kept .signal-body sc a s p L t h
+  under-signal sc a s o₂ p o (leaving n) L t h = h
+  under-signal sc a s o₂ p o wrong L t h = h
 
-  signal-fits : (c : Case) (a s : ℕ) (p : Statement) (r− r+ : Reaction) → Fits K p r− → Fits K p r+
-      → Fits K (signal a s p) (answer c a s r− r+)
-  signal-fits both a s p r− (gives o k L t) h i = under-signal a s (remove s o) p o k L t i
-  signal-fits neither a s p (gives o k L t) r+ h i = under-signal a s o p o k L t h
-  signal-fits only− a s p r− r+ h i = refl
-  signal-fits only+ a s p r− r+ h i = refl
-  signal-fits inherited a s p r− r+ h i = refl
+  signal-fits : (c : Case) (sc : Scope) (a s : ℕ) (p : Statement) (r− r+ : Reaction) → Fits K p r− → Fits K p r+
+      → Fits K (signal sc a s p) (answer c sc a s r− r+)
+  signal-fits both sc a s p r− (gives o k L t) h i = under-signal sc a s (outside sc s o) p o k L t i
+  signal-fits neither sc a s p (gives o k L t) r+ h i = under-signal sc a s o p o k L t h
+  signal-fits only− sc a s p r− r+ h i = refl
+  signal-fits only+ sc a s p r− r+ h i = refl
+  signal-fits inherited sc a s p r− r+ h i = refl
 
   present-fits : (s : ℕ) (p q : Statement) (b : Bool) (r₁ r₂ : Reaction) → Fits K p r₁ → Fits K q r₂
       → Fits K (present s p q) (cond b r₁ r₂)
@@ -136,8 +136,8 @@ module _ (K : Relation) (kept : Kept K) where
   fresh-fits (par p q) e = par-fits p q (react p e) (react q e) (fresh-fits p e) (fresh-fits q e)
   fresh-fits (loop a p) e = loop-fits a p (react p e) (fresh-fits p e)
   fresh-fits (present s p q) e = present-fits s p q (member s e) (react p e) (react q e) (fresh-fits p e) (fresh-fits q e)
-  fresh-fits (signal a s p) e =
-      signal-fits (caseOf inheritanceFirst s (react p (remove s e)) (react p (insert s e))) a s p (react p (remove s e)) (react p (insert s e))
+  fresh-fits (signal sc a s p) e =
+      signal-fits (caseOf inheritanceFirst s (react p (remove s e)) (react p (insert s e))) sc a s p (react p (remove s e)) (react p (insert s e))
       (fresh-fits p (remove s e)) (fresh-fits p (insert s e))
   fresh-fits (try p) e = try-fits p (react p e) (fresh-fits p e)
   fresh-fits (setpause l) e = kept .at-setpause l
@@ -177,8 +177,8 @@ module _ (K : Relation) (kept : Kept K) where
           → Fits K (present s p q) (react (cond b (expand p L) (expand q L)) e)
       go true h i = lift p (present s p q) (kept .present-first s p q) (react (expand p L) e) h
       go false h i = lift q (present s p q) (kept .present-second s p q) (react (expand q L) e) i
-  resumed-fits (signal a s p) L e z =
-      signal-fits (caseOf inheritanceFirst s (react (expand p L) (remove s e)) (react (expand p L) (insert s e))) a s p
+  resumed-fits (signal sc a s p) L e z =
+      signal-fits (caseOf inheritanceFirst s (react (expand p L) (remove s e)) (react (expand p L) (insert s e))) sc a s p
       (react (expand p L) (remove s e)) (react (expand p L) (insert s e))
       (resumed-fits p L (remove s e) z) (resumed-fits p L (insert s e) z)
   resumed-fits (try p) L e z = try-fits p (react (expand p L) e) (resumed-fits p L e z)

@@ -130,7 +130,7 @@ module _ (x y : Bool) (j : Joint) where
   fill-is (present s p q) known rows k =
       fill-is q (further j alternative known (labelsOf x y p)) (fill x y j p known rows) k
       ∙ split alternative p q (present s p q) known rows k refl refl (fill x y j p known rows) (fill-is p known rows k)
-  fill-is (signal a s p) known rows k = fill-is p known rows k
+  fill-is (signal sc a s p) known rows k = fill-is p known rows k
   fill-is (try p) known rows k = fill-is p known rows k
   fill-is (setpause l) known rows k = single (setpause l) y l known rows k refl refl
   fill-is (suspend s p) known rows k = fill-is p known rows k

@@ -172,7 +172,7 @@ module _ (x y : Bool) (l : ℕ) where
   labels-from (par p q) h = in-two sides (labels-from p) (labels-from q) h
   labels-from (loop a p) h = named-in loop₁ (labels-from p h)
   labels-from (present s p q) h = in-two (test {s = s}) (labels-from p) (labels-from q) h
-  labels-from (signal a s p) h = named-in signal₁ (labels-from p h)
+  labels-from (signal sc a s p) h = named-in signal₁ (labels-from p h)
   labels-from (try p) h = named-in try₁ (labels-from p h)
   labels-from (setpause k) h = here-setpause k (from-leaf y k h)
   labels-from (suspend s p) h = named-in suspend₁ (labels-from p h)
@@ -283,7 +283,7 @@ module _ (x y : Bool) (j : Joint) (k l : ℕ) where
   pair-from (par p q) h = pair-two sides (pair-from p) (pair-from q) h
   pair-from (loop a p) h = pair-in loop₁ (pair-from p h)
   pair-from (present s p q) h = pair-two (test {s = s}) (pair-from p) (pair-from q) h
-  pair-from (signal a s p) h = pair-in signal₁ (pair-from p h)
+  pair-from (signal sc a s p) h = pair-in signal₁ (pair-from p h)
   pair-from (try p) h = pair-in try₁ (pair-from p h)
   pair-from (setpause m) h = in-none l h
   pair-from (suspend s p) h = pair-in suspend₁ (pair-from p h)
@@ -369,7 +369,7 @@ module _ (f : ℕ → Bool) where
   every-from (par p q) e = every-two sides (every-from p) (every-from q) e
   every-from (loop a p) e = every-from p (every-in (loop₁ {a = a}) e)
   every-from (present s p q) e = every-two (test {s = s}) (every-from p) (every-from q) e
-  every-from (signal a s p) e = every-from p (every-in (signal₁ {a = a} {s = s}) e)
+  every-from (signal sc a s p) e = every-from p (every-in (signal₁ {sc = sc} {a = a} {s = s}) e)
   every-from (try p) e = every-from p (every-in try₁ e)
   every-from (setpause l) e = e l (labels-at true true l (as-setpause refl) At.here)
   every-from (suspend s p) e = every-from p (every-in (suspend₁ {s = s}) e)

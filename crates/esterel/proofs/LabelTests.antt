@@ -125,7 +125,7 @@ from-distinct (seq p q) d = distinct-two sequence (from-distinct p) (from-distin
 from-distinct (par p q) d = distinct-two sides (from-distinct p) (from-distinct q) d
 from-distinct (loop a p) d = from-distinct p (distinct-part (loop₁ {a = a}) d)
 from-distinct (present s p q) d = distinct-two (test {s = s}) (from-distinct p) (from-distinct q) d
-from-distinct (signal a s p) d = from-distinct p (distinct-part (signal₁ {a = a} {s = s}) d)
+from-distinct (signal sc a s p) d = from-distinct p (distinct-part (signal₁ {sc = sc} {a = a} {s = s}) d)
 from-distinct (try p) d = from-distinct p (distinct-part try₁ d)
 from-distinct (setpause l) d = refl
 from-distinct (suspend s p) d = from-distinct p (distinct-part (suspend₁ {s = s}) d)

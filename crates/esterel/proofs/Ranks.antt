@@ -48,7 +48,7 @@ mask-lt base (par p q) L =
 mask-lt base (loop a p) L = mask-lt base p L
 mask-lt base (present s p q) L =
     lt-two base (pauseCount p) (pauseCount q) _ _ (mask-lt base p L) (mask-lt (middle base p) q L)
-mask-lt base (signal a s p) L = mask-lt base p L
+mask-lt base (signal sc a s p) L = mask-lt base p L
 mask-lt base (try p) L = mask-lt base p L
 mask-lt base (setpause l) L = none-lt (base + 0)
 mask-lt base (suspend s p) L = mask-lt base p L
@@ -78,7 +78,7 @@ mask-over base (par p q) L =
 mask-over base (loop a p) L = mask-over base p L
 mask-over base (present s p q) L =
     over-two base (pauseCount p) _ _ (mask-over base p L) (mask-over (middle base p) q L)
-mask-over base (signal a s p) L = mask-over base p L
+mask-over base (signal sc a s p) L = mask-over base p L
 mask-over base (try p) L = mask-over base p L
 mask-over base (setpause l) L = none-over base
 mask-over base (suspend s p) L = mask-over base p L
@@ -133,7 +133,7 @@ empty-is base (par p q) L =
 empty-is base (loop a p) L = empty-is base p L
 empty-is base (present s p q) L =
     empty-two _ _ (active p L) (active q L) (empty-is base p L) (empty-is (middle base p) q L)
-empty-is base (signal a s p) L = empty-is base p L
+empty-is base (signal sc a s p) L = empty-is base p L
 empty-is base (try p) L = empty-is base p L
 empty-is base (setpause l) L = eq-eqb none none refl
 empty-is base (suspend s p) L = empty-is base p L
@@ -184,7 +184,7 @@ module _ (L : ℕ) where
   labels-by base (par p q) = two-labels {q = q} base sides (labels-by base p) (labels-by (middle base p) q)
   labels-by base (loop a p) = labels-by base p
   labels-by base (present s p q) = two-labels {q = q} base (test {s = s}) (labels-by base p) (labels-by (middle base p) q)
-  labels-by base (signal a s p) = labels-by base p
+  labels-by base (signal sc a s p) = labels-by base p
   labels-by base (try p) = labels-by base p
   labels-by base (setpause l) = sym (activeLabels-none (setpause l) L refl)
   labels-by base (suspend s p) = labels-by base p
@@ -235,7 +235,7 @@ mask-join base (loop a p) L M = mask-join base p L M
 mask-join base (present s p q) L M =
     ap₂ join (mask-join base p L M) (mask-join (middle base p) q L M)
     ∙ four (mask base p L) (mask base p M) (mask (middle base p) q L) (mask (middle base p) q M)
-mask-join base (signal a s p) L M = mask-join base p L M
+mask-join base (signal sc a s p) L M = mask-join base p L M
 mask-join base (try p) L M = mask-join base p L M
 mask-join base (setpause l) L M = sym (join-none-l none)
 mask-join base (suspend s p) L M = mask-join base p L M
@@ -289,7 +289,7 @@ mask-only base (seq p q) l d h = rank-two base l sequence d (mask-only base p l)
 mask-only base (par p q) l d h = rank-two base l sides d (mask-only base p l) (mask-only (middle base p) q l) h
 mask-only base (loop a p) l d h = mask-only base p l (distinct-part (loop₁ {a = a}) d) h
 mask-only base (present s p q) l d h = rank-two base l (test {s = s}) d (mask-only base p l) (mask-only (middle base p) q l) h
-mask-only base (signal a s p) l d h = mask-only base p l (distinct-part (signal₁ {a = a} {s = s}) d) h
+mask-only base (signal sc a s p) l d h = mask-only base p l (distinct-part (signal₁ {sc = sc} {a = a} {s = s}) d) h
 mask-only base (try p) l d h = mask-only base p l (distinct-part try₁ d) h
 mask-only base (setpause k) l d h = in-none l h
 mask-only base (suspend s p) l d h = mask-only base p l (distinct-part (suspend₁ {s = s}) d) h
@@ -317,7 +317,7 @@ rank-lt base (loop a p) l h = rank-lt base p l h
 rank-lt base (present s p q) l h =
     lt-parts base (pauseCount p) (pauseCount q) _ _ (member l (pauses p)) (member l (pauses q))
     (rank-lt base p l) (rank-lt (middle base p) q l) (sym (member-join l (pauses p) (pauses q)) ∙ h)
-rank-lt base (signal a s p) l h = rank-lt base p l h
+rank-lt base (signal sc a s p) l h = rank-lt base p l h
 rank-lt base (try p) l h = rank-lt base p l h
 rank-lt base (setpause k) l h = in-none l h
 rank-lt base (suspend s p) l h = rank-lt base p l h

@@ -101,7 +101,7 @@ kept =
       present-first = λ s p q L t h. from-part (present s p q) L t present₁ t h (λ x d. rw (x .awake) (x .equal));
       present-second = λ s p q L t h. from-part (present s p q) L t present₂ t h
           (λ x d. rw (asleep p q L (disjoint-parts present₁ present₂ d) (x .inside)) (x .equal));
-      signal-body = λ a s p L t h. from-part (signal a s p) L (signal a s t) signal₁ t h (λ x d. rw (x .equal));
+      signal-body = λ sc a s p L t h. from-part (signal sc a s p) L (signal sc a s t) signal₁ t h (λ x d. rw (x .equal));
       try-body = λ p L t h. from-part (try p) L (try t) try₁ t h (λ x d. rw (x .equal));
       suspend-body = λ s p L t h. from-part (suspend s p) L (held s L t) suspend₁ t h
           (λ x d. rw (x .awake, activeLabels-all p L (x .inside), x .equal));

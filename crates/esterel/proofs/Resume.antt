@@ -5,7 +5,7 @@ use mathlib.Core.Bool.{Bool, true, false, not, _||_, cond, false≢true}
 use mathlib.Core.Option.{Option}
 use mathlib.Core.List.{List, [], _∷_, _++_, head?}
 use Rattle.esterel.specs.Sets.{member, insert, remove}
-use Rattle.esterel.specs.Statement.{Statement, nothing, pause, emit, exit, seq, par, loop, present, signal, try, setpause, suspend, held}
+use Rattle.esterel.specs.Statement.{Scope, Statement, nothing, pause, emit, exit, seq, par, loop, present, signal, try, setpause, suspend, held}
 use Rattle.esterel.specs.Reaction.{Code, ended, waiting, leaving, wrong, isWrong, emitted, code, inSeq, inPar, inLoop, inSignal, inSuspend, stopped, inheritanceFirst, firstFit, reactBy, react}
 use Rattle.esterel.specs.Errors.{Error, instantaneous, ifEnded, signalErrors, errorsBy, errors}
 use Rattle.esterel.specs.States.{active}
@@ -69,13 +69,13 @@ start-present s p q e = go (member s e)
     go true = refl
     go false = refl
 
-pub start-signal : (a s : ℕ) (p : Statement) (e : ℕ)
-    → start (signal a s p) e ≡ signalInstant a s (start p (remove s e)) (start p (insert s e))
+pub start-signal : (sc : Scope) (a s : ℕ) (p : Statement) (e : ℕ)
+    → start (signal sc a s p) e ≡ signalInstant sc a s (start p (remove s e)) (start p (insert s e))
 unfolding reactBy errorsBy
-start-signal a s p e =
+start-signal sc a s p e =
     let r− = react p (remove s e) in
     let r+ = react p (insert s e) in
-    ap (instant (inSignal inheritanceFirst a s r− r+))
+    ap (instant (inSignal inheritanceFirst sc a s r− r+))
     (signal-first (member s (emitted r−)) (member s (emitted r+)) (isWrong (code r−)) (isWrong (code r+)) a
     (errors p (remove s e)) (errors p (insert s e)) (blamed p (remove s e)) (blamed p (insert s e)))
 
@@ -150,8 +150,8 @@ resumes base (present s p q) L e h =
     let t : Joined alternative p q (present s p q) = test in
     rw (first-empty base L t, split-below base L t, split-from base L t)
     (alternative-goes (expand p L) (expand q L) e _ _ (active p L) (active q L) (resumes base p L e) (resumes (middle base p) q L e) h)
-resumes base (signal a s p) L e h =
-    ap₂ (signalInstant a s) (resumes base p L (remove s e) h) (resumes base p L (insert s e) h) ∙ sym (start-signal a s (expand p L) e)
+resumes base (signal sc a s p) L e h =
+    ap₂ (signalInstant sc a s) (resumes base p L (remove s e) h) (resumes base p L (insert s e) h) ∙ sym (start-signal sc a s (expand p L) e)
 resumes base (try p) L e h = ap tryInstant (resumes base p L e h) ∙ sym (start-try (expand p L) e)
 resumes base (setpause l) L e h = absurd (false≢true h)
 resumes base (suspend s p) L e h =

@@ -7,7 +7,7 @@ use native.Mathlib.Omega.{arith}
 use lib.Dec.{eqb}
 use borrow.Author.Tests.{eqb-true, eqb-false, ne-eqb}
 use Rattle.esterel.specs.Sets.{member, insert, remove}
-use Rattle.esterel.specs.Statement.{Statement, nothing, pause, emit, exit, seq, par, loop, present, signal, try, setpause, suspend, held}
+use Rattle.esterel.specs.Statement.{Scope, Statement, nothing, pause, emit, exit, seq, par, loop, present, signal, try, setpause, suspend, held}
 use Rattle.esterel.specs.Reaction.{Code, ended, waiting, leaving, wrong, isWrong, greater, down, Reaction, gives, failed, inSeq, inPar, inLoop, inTry, inSuspend, stopped, inSignal, Case, both, neither, only−, only+, inherited, inheritanceFirst, firstFit, caseOf, answer, reactBy, react}
 use Rattle.esterel.specs.Rules.{Reacts}
 use Rattle.esterel.proofs.Booleans.{clash}
@@ -129,9 +129,9 @@ module _ (s o− o+ : ℕ) (k− k+ : Code) where
   fits∞ w = rw (some-wrong k− k+ w)
 
 -- the answer of a case is that of the signal, whose runs are the reactions of the premises
-signal-is : {r− r+ : Reaction} (a s : ℕ) (x− x+ : Reaction) {c : Case} → caseOf inheritanceFirst s x− x+ ≡ c → x− ≡ r− → x+ ≡ r+
-    → answer c a s x− x+ ≡ inSignal inheritanceFirst a s r− r+
-signal-is a s x− x+ h h− h+ = ap (λ (c : Case). answer c a s x− x+) (sym h) ∙ ap₂ (inSignal inheritanceFirst a s) h− h+
+signal-is : {r− r+ : Reaction} (sc : Scope) (a s : ℕ) (x− x+ : Reaction) {c : Case} → caseOf inheritanceFirst s x− x+ ≡ c → x− ≡ r− → x+ ≡ r+
+    → answer c sc a s x− x+ ≡ inSignal inheritanceFirst sc a s r− r+
+signal-is sc a s x− x+ h h− h+ = ap (λ (c : Case). answer c sc a s x− x+) (sym h) ∙ ap₂ (inSignal inheritanceFirst sc a s) h− h+
 
 -- ---- what the rules derive, the function gives
 pub sound : {p : Statement} {e : ℕ} {r : Reaction} → Reacts p e r → r ≡ react p e
@@ -150,16 +150,16 @@ sound (Reacts.try-through {o = o} {l = l} {k = k} {p′ = p′} d n) = through-t
 sound (Reacts.sequence-p {e = e} {o = o} {l = l} {k = k} {p′ = p′} {q = q} d n) =
     through-seq q o k l p′ (react q e) n ∙ ap (λ (r : Reaction). inSeq q r (react q e)) (sound d)
 sound (Reacts.sequence-q {q = q} d d₂) = ap₂ (inSeq q) (sound d) (sound d₂)
-sound (Reacts.signal++ {a = a} {s = s} {o− = o−} {o+ = o+} {k− = k−} {k+ = k+} d− i− d+ i+ n) =
-    signal-is a s _ _ (fits++ s o− o+ k− k+ i− i+ n) (sound d−) (sound d+)
-sound (Reacts.signal−− {a = a} {s = s} {o− = o−} {o+ = o+} {k− = k−} {k+ = k+} d− i− d+ i+ n) =
-    signal-is a s _ _ (fits−− s o− o+ k− k+ i− i+ n) (sound d−) (sound d+)
-sound (Reacts.signal+− {a = a} {s = s} {o− = o−} {o+ = o+} {k− = k−} {k+ = k+} d− i− d+ i+ n) =
-    signal-is a s _ _ (fits+− s o− o+ k− k+ i− i+ n) (sound d−) (sound d+)
-sound (Reacts.signal−+ {a = a} {s = s} {o− = o−} {o+ = o+} {k− = k−} {k+ = k+} d− i− d+ i+ n) =
-    signal-is a s _ _ (fits−+ s o− o+ k− k+ i− i+ n) (sound d−) (sound d+)
-sound (Reacts.signal∞ {a = a} {s = s} {o− = o−} {o+ = o+} {k− = k−} {k+ = k+} d− d+ w) =
-    signal-is a s _ _ (fits∞ s o− o+ k− k+ w) (sound d−) (sound d+)
+sound (Reacts.signal++ {sc = sc} {a = a} {s = s} {o− = o−} {o+ = o+} {k− = k−} {k+ = k+} d− i− d+ i+ n) =
+    signal-is sc a s _ _ (fits++ s o− o+ k− k+ i− i+ n) (sound d−) (sound d+)
+sound (Reacts.signal−− {sc = sc} {a = a} {s = s} {o− = o−} {o+ = o+} {k− = k−} {k+ = k+} d− i− d+ i+ n) =
+    signal-is sc a s _ _ (fits−− s o− o+ k− k+ i− i+ n) (sound d−) (sound d+)
+sound (Reacts.signal+− {sc = sc} {a = a} {s = s} {o− = o−} {o+ = o+} {k− = k−} {k+ = k+} d− i− d+ i+ n) =
+    signal-is sc a s _ _ (fits+− s o− o+ k− k+ i− i+ n) (sound d−) (sound d+)
+sound (Reacts.signal−+ {sc = sc} {a = a} {s = s} {o− = o−} {o+ = o+} {k− = k−} {k+ = k+} d− i− d+ i+ n) =
+    signal-is sc a s _ _ (fits−+ s o− o+ k− k+ i− i+ n) (sound d−) (sound d+)
+sound (Reacts.signal∞ {sc = sc} {a = a} {s = s} {o− = o−} {o+ = o+} {k− = k−} {k+ = k+} d− d+ w) =
+    signal-is sc a s _ _ (fits∞ s o− o+ k− k+ w) (sound d−) (sound d+)
 sound Reacts.setpause = refl
 sound (Reacts.suspend {s = s} d) = ap (inSuspend s) (sound d)
 sound (Reacts.held+ i) = rw i
@@ -196,10 +196,10 @@ try-derives {p} {e} (gives o (leaving n) l t) d = go (eqb n 1) refl
     go false h = Reacts.try-through d (λ i. eqb-false n 1 h (let j : n ≡ 1 = cc in j))
 try-derives (gives o wrong l t) d = Reacts.try-through d (λ h. let z : _≡_ {A = ℕ} 0 1 = cc in omega arith)
 
-module _ {p : Statement} {e : ℕ} (a s o− o+ l− l+ : ℕ) (k− k+ : Code) (t− t+ : Statement)
+module _ {p : Statement} {e : ℕ} (sc : Scope) (a s o− o+ l− l+ : ℕ) (k− k+ : Code) (t− t+ : Statement)
     (d− : Reacts p (remove s e) (gives o− k− l− t−)) (d+ : Reacts p (insert s e) (gives o+ k+ l+ t+)) where
   case-derives : (i− i+ w− w+ : Bool) → member s o− ≡ i− → member s o+ ≡ i+ → isWrong k− ≡ w− → isWrong k+ ≡ w+
-      → Reacts (signal a s p) e (answer (firstFit inheritanceFirst i− i+ w− w+) a s (gives o− k− l− t−) (gives o+ k+ l+ t+))
+      → Reacts (signal sc a s p) e (answer (firstFit inheritanceFirst i− i+ w− w+) sc a s (gives o− k− l− t−) (gives o+ k+ l+ t+))
   case-derives i− i+ true w+ h− h+ v− v+ = Reacts.signal∞ d− d+ (either-wrong k− k+ (rw v−))
   case-derives i− i+ false true h− h+ v− v+ = Reacts.signal∞ d− d+ (either-wrong k− k+ (rw (v−, v+)))
   case-derives true true false false h− h+ v− v+ = Reacts.signal++ d− h− d+ h+ (right-two k− k+ v− v+)
@@ -207,10 +207,10 @@ module _ {p : Statement} {e : ℕ} (a s o− o+ l− l+ : ℕ) (k− k+ : Code) 
   case-derives false true false false h− h+ v− v+ = Reacts.signal−+ d− h− d+ h+ (right-two k− k+ v− v+)
   case-derives false false false false h− h+ v− v+ = Reacts.signal−− d− h− d+ h+ (right-two k− k+ v− v+)
 
-signal-derives : {p : Statement} {e : ℕ} (a s : ℕ) (r− r+ : Reaction) → Reacts p (remove s e) r− → Reacts p (insert s e) r+
-    → Reacts (signal a s p) e (inSignal inheritanceFirst a s r− r+)
-signal-derives a s (gives o− k− l− t−) (gives o+ k+ l+ t+) d− d+ =
-    case-derives a s o− o+ l− l+ k− k+ t− t+ d− d+ (member s o−) (member s o+) (isWrong k−) (isWrong k+) refl refl refl refl
+signal-derives : {p : Statement} {e : ℕ} (sc : Scope) (a s : ℕ) (r− r+ : Reaction) → Reacts p (remove s e) r− → Reacts p (insert s e) r+
+    → Reacts (signal sc a s p) e (inSignal inheritanceFirst sc a s r− r+)
+signal-derives sc a s (gives o− k− l− t−) (gives o+ k+ l+ t+) d− d+ =
+    case-derives sc a s o− o+ l− l+ k− k+ t− t+ d− d+ (member s o−) (member s o+) (isWrong k−) (isWrong k+) refl refl refl refl
 
 suspend-derives : {p : Statement} {e : ℕ} (s : ℕ) (r : Reaction) → Reacts p e r → Reacts (suspend s p) e (inSuspend s r)
 suspend-derives s (gives o k l t) d = Reacts.suspend d
@@ -230,8 +230,8 @@ derive (seq p q) e = seq-derives (react p e) (react q e) (derive p e) (derive q 
 derive (par p q) e = par-derives (react p e) (react q e) (derive p e) (derive q e)
 derive (loop a p) e = loop-derives a (react p e) (derive p e)
 derive (present s p q) e = present-derives s (member s e) (react p e) (react q e) refl (derive p e) (derive q e)
-derive (signal a s p) e =
-    signal-derives a s (react p (remove s e)) (react p (insert s e)) (derive p (remove s e)) (derive p (insert s e))
+derive (signal sc a s p) e =
+    signal-derives sc a s (react p (remove s e)) (react p (insert s e)) (derive p (remove s e)) (derive p (insert s e))
 derive (try p) e = try-derives (react p e) (derive p e)
 derive (setpause l) e = Reacts.setpause
 derive (suspend s p) e = suspend-derives s (react p e) (derive p e)

@@ -8,7 +8,7 @@ use lib.Dec.{eqb, eqb·zero-suc, eqb·suc-zero, eqb·suc-suc}
 use lib.Bits.{bitOr, bitAnd, bitXor, differ, or-step, and-step, xor-step, or-zero-l, or-zero-r, or-shr, and-shr, xor-shr}
 use lib.Pow.{pow-mono, shr-shr}
 use lib.Arith.{digits-mod, bin-ind}
-use Rattle.esterel.specs.Sets.{member, none, only, join, remove}
+use Rattle.esterel.specs.Sets.{member, none, only, join, remove, insert}
 
 -- ---- one law for the three operations on digits
 data Digit : ℕ → Type 0 where
@@ -111,6 +111,10 @@ member-only zero zero = refl
 member-only zero (suc j) = rw (member-step, eqb·zero-suc) (member-none j)
 member-only (suc i) zero = ap (λ (x : ℕ). eqb x 1) (even i) ∙ sym (eqb·suc-zero i)
 member-only (suc i) (suc j) = rw (member-step, double-half, eqb·suc-suc) (member-only i j)
+
+pub member-insert : (i s j : ℕ) → member j (insert i s) ≡ (member j s || eqb i j)
+unfolding insert only join
+member-insert i s j = member-join j s (only i) ∙ ap (λ (b : Bool). member j s || b) (member-only i j)
 
 without : (a b : Bool) → xor a (a && b) ≡ (a && not b)
 without true true = refl

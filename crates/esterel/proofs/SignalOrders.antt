@@ -9,8 +9,8 @@ use mathlib.Core.List.{List, [], _∷_, _++_, head?}
 use lib.Dec.{eqb}
 use native.Mathlib.Omega.{arith}
 use Rattle.esterel.specs.Sets.{member, none, only, join, insert, remove}
-use Rattle.esterel.specs.Statement.{Statement, nothing, pause, emit, exit, seq, par, loop, present, signal, try, setpause, suspend, held}
-use Rattle.esterel.specs.Reaction.{Code, ended, waiting, leaving, wrong, isWrong, greater, ifWaiting, side, Reaction, gives, emitted, code, failed, inSeq, inPar, inLoop, inTry, remains, inSuspend, Case, inherited, printed, inheritanceFirst, firstFit, caseOf, answer, inSignal, reactBy, react}
+use Rattle.esterel.specs.Statement.{Scope, Statement, nothing, pause, emit, exit, seq, par, loop, present, signal, try, setpause, suspend, held}
+use Rattle.esterel.specs.Reaction.{Code, ended, waiting, leaving, wrong, isWrong, greater, ifWaiting, side, Reaction, gives, emitted, code, failed, inSeq, inPar, inLoop, inTry, remains, inSuspend, outside, Case, inherited, printed, inheritanceFirst, firstFit, caseOf, answer, inSignal, reactBy, react}
 use Rattle.esterel.specs.Errors.{Error, ifEnded, loopErrors, signalErrors, errorsBy, errors, firstErrorBy, firstError, instantaneous, notReactive, notDeterministic}
 use Rattle.esterel.specs.SignalOrders.{overlaps, overlap}
 use Rattle.esterel.proofs.Booleans.{or-l, or-r, or-first, or-second, clash}
@@ -102,9 +102,9 @@ suspend-tied s (Tied.same o k l t h) = Tied.same o k l (remains s k l t) h
 suspend-tied s (Tied.broken w r o l t x zs zs′ f) = Tied.broken w (inSuspend s r) o l nothing x zs zs′ (λ i. ap (inSuspend s) (f i))
 
 -- a wrong run without an overlap: the printed order fails too
-module _ (a s : ℕ) (r− r+ : Reaction) where
+module _ (sc : Scope) (a s : ℕ) (r− r+ : Reaction) where
   fails : (i− i+ w− w+ : Bool) → (w− || w+) ≡ true → (i− && i+ && (w− || w+)) ≡ false
-      → answer (firstFit printed i− i+ w− w+) a s r− r+ ≡ failed
+      → answer (firstFit printed i− i+ w− w+) sc a s r− r+ ≡ failed
   fails true true w− w+ h n = clash (w− || w+) h n
   fails true false w− false h n = refl
   fails true false w− true h n = refl
@@ -114,27 +114,27 @@ module _ (a s : ℕ) (r− r+ : Reaction) where
   fails false false false true h n = refl
   fails false false true w+ h n = refl
 
-  fails-of : (isWrong (code r−) || isWrong (code r+)) ≡ true → overlaps s r− r+ ≡ false → inSignal printed a s r− r+ ≡ failed
+  fails-of : (isWrong (code r−) || isWrong (code r+)) ≡ true → overlaps s r− r+ ≡ false → inSignal printed sc a s r− r+ ≡ failed
   fails-of = fails (member s (emitted r−)) (member s (emitted r+)) (isWrong (code r−)) (isWrong (code r+))
 
 -- two runs that are right by both orders
-module _ (a s o− : ℕ) (k− : Code) (l− : ℕ) (t− : Statement) (o+ : ℕ) (k+ : Code) (l+ : ℕ) (t+ : Statement) where
+module _ (sc : Scope) (a s o− : ℕ) (k− : Code) (l− : ℕ) (t− : Statement) (o+ : ℕ) (k+ : Code) (l+ : ℕ) (t+ : Statement) where
   right-tied : (i− i+ w− w+ : Bool) → isWrong k− ≡ w− → isWrong k+ ≡ w+ → w− ≡ false → w+ ≡ false
       → Tied (i− && i+ && (w− || w+))
-      (answer (firstFit printed i− i+ w− w+) a s (gives o− k− l− t−) (gives o+ k+ l+ t+))
-      (answer (firstFit inheritanceFirst i− i+ w− w+) a s (gives o− k− l− t−) (gives o+ k+ l+ t+))
+      (answer (firstFit printed i− i+ w− w+) sc a s (gives o− k− l− t−) (gives o+ k+ l+ t+))
+      (answer (firstFit inheritanceFirst i− i+ w− w+) sc a s (gives o− k− l− t−) (gives o+ k+ l+ t+))
       (signalErrors a (firstFit printed i− i+ w− w+)) (signalErrors a (firstFit inheritanceFirst i− i+ w− w+))
   right-tied i− i+ true w+ g h m n = clash true refl m
   right-tied i− i+ false true g h m n = clash true refl n
-  right-tied true true false false g h m n = Tied.same (remove s o+) k+ l+ (signal a s t+) h
+  right-tied true true false false g h m n = Tied.same (outside sc s o+) k+ l+ (signal sc a s t+) h
   right-tied true false false false g h m n = Tied.broken false failed none none nothing (notReactive a) [] [] (λ i. refl)
   right-tied false true false false g h m n = Tied.broken false failed none none nothing (notDeterministic a) [] [] (λ i. refl)
-  right-tied false false false false g h m n = Tied.same o− k− l− (signal a s t−) g
+  right-tied false false false false g h m n = Tied.same o− k− l− (signal sc a s t−) g
 
 -- a run that is wrong by the new order
-inherit-tied : (a s : ℕ) (v : Bool) (r r− r+ : Reaction) (c : Case) (x : Error) (xs ys : List Error) → c ≡ inherited
-    → (v ≡ false → r ≡ failed) → Tied v r (answer c a s r− r+) (x ∷ xs) (x ∷ (ys ++ signalErrors a c))
-inherit-tied a s v r r− r+ c x xs ys h f = rw h (Tied.broken v r none none nothing x xs (ys ++ []) f)
+inherit-tied : (sc : Scope) (a s : ℕ) (v : Bool) (r r− r+ : Reaction) (c : Case) (x : Error) (xs ys : List Error) → c ≡ inherited
+    → (v ≡ false → r ≡ failed) → Tied v r (answer c sc a s r− r+) (x ∷ xs) (x ∷ (ys ++ signalErrors a c))
+inherit-tied sc a s v r r− r+ c x xs ys h f = rw h (Tied.broken v r none none nothing x xs (ys ++ []) f)
 
 inherits : (i− i+ w− w+ : Bool) → (w− || w+) ≡ true → firstFit inheritanceFirst i− i+ w− w+ ≡ inherited
 inherits i− i+ w− w+ h = rw h
@@ -142,24 +142,24 @@ inherits i− i+ w− w+ h = rw h
 wrong-by : {r : Reaction} {o l : ℕ} {t : Statement} → r ≡ gives o wrong l t → isWrong (code r) ≡ true
 wrong-by h = ap (λ (z : Reaction). isWrong (code z)) h
 
-signal-tied : {v− v+ : Bool} {r− r−′ r+ r+′ : Reaction} {xs xs′ ys ys′ : List Error} (a s : ℕ)
+signal-tied : {v− v+ : Bool} {r− r−′ r+ r+′ : Reaction} {xs xs′ ys ys′ : List Error} (sc : Scope) (a s : ℕ)
     → Tied v− r− r−′ xs xs′ → Tied v+ r+ r+′ ys ys′
-    → Tied (v− || v+ || overlaps s r− r+) (inSignal printed a s r− r+) (inSignal inheritanceFirst a s r−′ r+′)
+    → Tied (v− || v+ || overlaps s r− r+) (inSignal printed sc a s r− r+) (inSignal inheritanceFirst sc a s r−′ r+′)
     (xs ++ ys ++ signalErrors a (caseOf printed s r− r+)) (xs′ ++ ys′ ++ signalErrors a (caseOf inheritanceFirst s r−′ r+′))
-signal-tied a s (Tied.same o k l t h) (Tied.same o₂ k₂ l₂ t₂ i) =
-    right-tied a s o k l t o₂ k₂ l₂ t₂ (member s o) (member s o₂) (isWrong k) (isWrong k₂) refl refl h i
-signal-tied a s (Tied.same o k l t h) (Tied.broken w r+ o₂ l₂ t₂ x zs zs′ f) =
+signal-tied sc a s (Tied.same o k l t h) (Tied.same o₂ k₂ l₂ t₂ i) =
+    right-tied sc a s o k l t o₂ k₂ l₂ t₂ (member s o) (member s o₂) (isWrong k) (isWrong k₂) refl refl h i
+signal-tied sc a s (Tied.same o k l t h) (Tied.broken w r+ o₂ l₂ t₂ x zs zs′ f) =
     let r− = gives o k l t in
     let r+′ = gives o₂ wrong l₂ t₂ in
-    inherit-tied a s (w || overlaps s r− r+) (inSignal printed a s r− r+) r− r+′ (caseOf inheritanceFirst s r− r+′) x
+    inherit-tied sc a s (w || overlaps s r− r+) (inSignal printed sc a s r− r+) r− r+′ (caseOf inheritanceFirst s r− r+′) x
     (zs ++ signalErrors a (caseOf printed s r− r+)) zs′ (inherits (member s o) (member s o₂) (isWrong k) true (or-r (isWrong k) true refl))
-    (λ i. fails-of a s r− r+ (or-r (isWrong k) (isWrong (code r+)) (wrong-by (f (or-first w (overlaps s r− r+) i))))
+    (λ i. fails-of sc a s r− r+ (or-r (isWrong k) (isWrong (code r+)) (wrong-by (f (or-first w (overlaps s r− r+) i))))
     (or-second w (overlaps s r− r+) i))
-signal-tied {v+ = v+} {r+ = r+} {r+′ = r+′} {ys = ys} {ys′ = ys′} a s (Tied.broken w r− o l t x zs zs′ f) d =
+signal-tied {v+ = v+} {r+ = r+} {r+′ = r+′} {ys = ys} {ys′ = ys′} sc a s (Tied.broken w r− o l t x zs zs′ f) d =
     let r−′ = gives o wrong l t in
-    inherit-tied a s (w || v+ || overlaps s r− r+) (inSignal printed a s r− r+) r−′ r+′ (caseOf inheritanceFirst s r−′ r+′) x
+    inherit-tied sc a s (w || v+ || overlaps s r− r+) (inSignal printed sc a s r− r+) r−′ r+′ (caseOf inheritanceFirst s r−′ r+′) x
     (zs ++ ys ++ signalErrors a (caseOf printed s r− r+)) (zs′ ++ ys′) refl
-    (λ i. fails-of a s r− r+
+    (λ i. fails-of sc a s r− r+
     (or-l (isWrong (code r−)) (isWrong (code r+)) (wrong-by (f (or-first w v+ (or-first (w || v+) (overlaps s r− r+) i)))))
     (or-second (w || v+) (overlaps s r− r+) i))
 
@@ -174,7 +174,7 @@ tied (seq p q) e = seq-tied q (tied p e) (tied q e)
 tied (par p q) e = par-tied (tied p e) (tied q e)
 tied (loop a p) e = loop-tied a p (tied p e)
 tied (present s p q) e = present-tied (member s e) (tied p e) (tied q e)
-tied (signal a s p) e = signal-tied a s (tied p (remove s e)) (tied p (insert s e))
+tied (signal sc a s p) e = signal-tied sc a s (tied p (remove s e)) (tied p (insert s e))
 tied (try p) e = try-tied (tied p e)
 tied (setpause l) e = Tied.same none waiting (only l) nothing refl
 tied (suspend s p) e = suspend-tied s (tied p e)

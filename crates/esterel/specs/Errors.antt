@@ -50,7 +50,7 @@ errorsBy ord (seq p q) e = errorsBy ord p e ++ ifEnded (code (reactBy ord p e)) 
 errorsBy ord (par p q) e = errorsBy ord p e ++ errorsBy ord q e
 errorsBy ord (loop a p) e = errorsBy ord p e ++ loopErrors a (code (reactBy ord p e))
 errorsBy ord (present s p q) e = cond (member s e) (errorsBy ord p e) (errorsBy ord q e)
-errorsBy ord (signal a s p) e =
+errorsBy ord (signal sc a s p) e =
     errorsBy ord p (remove s e) ++ errorsBy ord p (insert s e)
     ++ signalErrors a (caseOf ord s (reactBy ord p (remove s e)) (reactBy ord p (insert s e)))
 errorsBy ord (try p) e = errorsBy ord p e

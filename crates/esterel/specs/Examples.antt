@@ -5,7 +5,7 @@ use mathlib.Core.Bool.{true, false}
 use mathlib.Core.Option.{Option}
 use mathlib.Core.List.{List, [], _∷_, map}
 use Rattle.esterel.specs.Sets.{member, none, only, join, insert, remove, below, from}
-use Rattle.esterel.specs.Statement.{Statement, nothing, pause, emit, exit, seq, par, loop, present, signal, try, setpause, suspend, held}
+use Rattle.esterel.specs.Statement.{local, Statement, nothing, pause, emit, exit, seq, par, loop, present, signal, try, setpause, suspend, held}
 use Rattle.esterel.specs.Reaction.{Code, ended, waiting, leaving, wrong, gives, code, emitted, labels, residual, reactBy, react}
 use Rattle.esterel.specs.Errors.{Error, noError, errorsBy, errors, instantaneous, notReactive, notDeterministic}
 use Rattle.esterel.specs.Places.{first, second, Alternative, Exclusive}
@@ -25,18 +25,18 @@ row p = (code (react p 0), emitted (react p 0), labels (react p 0), errors p 0)
 
 -- 06 08 00 04 07 00 02 01 00 04 01 00 02 00, and 002's figure 6: the next round does not see the last one's signal
 abbrev reincarnated : Statement
-reincarnated = loop 0 (signal 1 0 (seq (present 0 (emit 1) nothing) (seq (pause 0) (emit 0))))
+reincarnated = loop 0 (signal local 1 0 (seq (present 0 (emit 1) nothing) (seq (pause 0) (emit 0))))
 
 -- 08 00 04 02 00 07 00 00 06 00, at place a: the body emits its signal in both runs, and one run is wrong (02, item 4)
 abbrev inheritsAt : ℕ → Statement
-inheritsAt a = signal a 0 (seq (emit 0) (present 0 nothing (loop (a + 8) nothing)))
+inheritsAt a = signal local a 0 (seq (emit 0) (present 0 nothing (loop (a + 8) nothing)))
 
 abbrev inherits : Statement
 inherits = inheritsAt 0
 
 -- 08 01 08 00 04 02 00 04 02 01 07 01 00 06 00: what is emitted beside an error decides nothing
 abbrev beside : Statement
-beside = signal 0 1 (signal 2 0 (seq (emit 0) (seq (emit 1) (present 1 nothing (loop 13 nothing)))))
+beside = signal local 0 1 (signal local 2 0 (seq (emit 0) (seq (emit 1) (present 1 nothing (loop 13 nothing)))))
 
 -- 04 01 01 04 0A 02 04 02 00 01 02
 abbrev jump : Statement
@@ -58,9 +58,9 @@ table =
     ∷ (par (exit 3) (exit 5), (leaving 5, 0, 0, []))
     ∷ (loop 0 nothing, (wrong, 0, 0, instantaneous 0 ∷ []))
     ∷ (loop 0 (pause 0), (waiting, 0, 1, []))
-    ∷ (signal 0 0 (emit 0), (ended, 0, 0, []))
-    ∷ (signal 0 0 (present 0 nothing (emit 0)), (wrong, 0, 0, notReactive 0 ∷ []))
-    ∷ (signal 0 0 (present 0 (emit 0) nothing), (wrong, 0, 0, notDeterministic 0 ∷ []))
+    ∷ (signal local 0 0 (emit 0), (ended, 0, 0, []))
+    ∷ (signal local 0 0 (present 0 nothing (emit 0)), (wrong, 0, 0, notReactive 0 ∷ []))
+    ∷ (signal local 0 0 (present 0 (emit 0) nothing), (wrong, 0, 0, notDeterministic 0 ∷ []))
     ∷ (try (par (pause 0) (exit 1)), (ended, 0, 0, []))
     ∷ (reincarnated, (waiting, 0, 1, []))
     ∷ (seq (emit 0) (present 0 (emit 1) nothing), (ended, 1, 0, []))
@@ -68,21 +68,21 @@ table =
     ∷ (beside, (wrong, 0, 0, instantaneous 13 ∷ instantaneous 13 ∷ []))
     ∷ (par (emit 1) (loop 3 nothing), (wrong, 2, 0, instantaneous 3 ∷ []))
     -- the order of 02, item 3: an error in the run without the signal, in the run with it, in both
-    ∷ (signal 0 0 (present 0 nothing (loop 5 nothing)), (wrong, 0, 0, instantaneous 5 ∷ []))
-    ∷ (signal 0 0 (present 0 (loop 4 nothing) nothing), (wrong, 0, 0, instantaneous 4 ∷ []))
-    ∷ (signal 0 0 (present 0 (loop 4 nothing) (loop 6 nothing)), (wrong, 0, 0, instantaneous 6 ∷ instantaneous 4 ∷ []))
+    ∷ (signal local 0 0 (present 0 nothing (loop 5 nothing)), (wrong, 0, 0, instantaneous 5 ∷ []))
+    ∷ (signal local 0 0 (present 0 (loop 4 nothing) nothing), (wrong, 0, 0, instantaneous 4 ∷ []))
+    ∷ (signal local 0 0 (present 0 (loop 4 nothing) (loop 6 nothing)), (wrong, 0, 0, instantaneous 6 ∷ instantaneous 4 ∷ []))
     -- both sides of a parallel react; after a wrong first part of a sequence the second does not
     ∷ (par (inheritsAt 1) (loop 11 nothing), (wrong, 0, 0, instantaneous 9 ∷ instantaneous 11 ∷ []))
     ∷ (seq (inheritsAt 1) (loop 11 nothing), (wrong, 0, 0, instantaneous 9 ∷ []))
     -- a loop and a signal do not err beside a wrong body
     ∷ (loop 0 (inheritsAt 1), (wrong, 0, 0, instantaneous 9 ∷ []))
     ∷ (
-      signal 0 1 (seq (inheritsAt 3) (present 1 nothing (emit 1))),
+      signal local 0 1 (seq (inheritsAt 3) (present 1 nothing (emit 1))),
       (wrong, 0, 0, instantaneous 11 ∷ instantaneous 11 ∷ []),
     )
     -- two errors of one command, in the two runs of another
     ∷ (
-      signal 0 1 (signal 2 0 (present 1 (present 0 nothing (emit 0)) (present 0 (emit 0) nothing))),
+      signal local 0 1 (signal local 2 0 (present 1 (present 0 nothing (emit 0)) (present 0 (emit 0) nothing))),
       (wrong, 0, 0, notDeterministic 2 ∷ notReactive 2 ∷ []),
     )
     ∷ []
@@ -168,8 +168,8 @@ abbrev frozen : Statement
 frozen = par (suspend 0 (seq (pause 0) (pause 1))) (seq (pause 2) (pause 3))
 
 -- a local signal that the other side emits in the second instant
-abbrev local : Statement
-local = signal 0 0 (par (suspend 0 (seq (pause 0) (emit 1))) (seq (pause 1) (seq (emit 0) (pause 2))))
+abbrev inner : Statement
+inner = signal local 0 0 (par (suspend 0 (seq (pause 0) (emit 1))) (seq (pause 1) (seq (emit 0) (pause 2))))
 
 -- a setpause from outside into the suspend
 abbrev enters : Statement
@@ -208,9 +208,9 @@ suspended =
       (waiting, 0, 3) ∷ (ended, 0, 0) ∷ [],
     )
     -- 08 00 0B 00 04 01 00 02 00: the suspend emits what stops it
-    ∷ (signal 0 0 (suspend 0 (seq (pause 0) (emit 0))), 0 ∷ 0 ∷ [], (waiting, 0, 1) ∷ (wrong, 0, 0) ∷ [])
+    ∷ (signal local 0 0 (suspend 0 (seq (pause 0) (emit 0))), 0 ∷ 0 ∷ [], (waiting, 0, 1) ∷ (wrong, 0, 0) ∷ [])
     -- stopped in the run with the signal, which gives the answer
-    ∷ (local, 0 ∷ 0 ∷ 0 ∷ [], (waiting, 0, 3) ∷ (waiting, 0, 5) ∷ (ended, 2, 0) ∷ [])
+    ∷ (inner, 0 ∷ 0 ∷ 0 ∷ [], (waiting, 0, 3) ∷ (waiting, 0, 5) ∷ (ended, 2, 0) ∷ [])
     -- two signals: the outer stops both, the inner only its own part
     ∷ (
       suspend 0 (par (suspend 1 (pause 0)) (seq (pause 1) (seq (pause 2) (emit 3)))),
@@ -236,7 +236,7 @@ traces = (refl, refl, refl)
 
 -- Nothing inside a stopped suspend errs, and after any other code than 1 nothing remains of it. Of a set that is not valid
 -- a stopped suspend keeps one that is not.
-kept : (errors (expand (signal 0 0 (suspend 0 (seq (pause 0) (emit 0)))) 1) 0 ≡ notReactive 0 ∷ [])
+kept : (errors (expand (signal local 0 0 (suspend 0 (seq (pause 0) (emit 0)))) 1) 0 ≡ notReactive 0 ∷ [])
     × (errors (expand (suspend 0 (loop 2 (seq (pause 0) (loop 6 nothing)))) 1) 0 ≡ instantaneous 6 ∷ [])
     × (errors (expand (suspend 0 (loop 2 (seq (pause 0) (loop 6 nothing)))) 1) 1 ≡ [])
     × (residual (react (suspend 0 (try nothing)) 0) ≡ nothing)

@@ -3,7 +3,7 @@ use Prim.Native.Nat.{ℕ}
 use mathlib.Core.Path.{_≡_}
 use mathlib.Core.Bool.{Bool, true, false, cond}
 use Rattle.esterel.specs.Sets.{member}
-use Rattle.esterel.specs.Statement.{Statement}
+use Rattle.esterel.specs.Statement.{Scope, Statement}
 use Rattle.esterel.specs.States.{active}
 use Rattle.esterel.specs.LabelTests.{activeLabels}
 
@@ -22,7 +22,7 @@ expand (Statement.seq p q) L = cond (active p L) (Statement.seq (expand p L) q) 
 expand (Statement.par p q) L = Statement.par (ifActive (active p L) (expand p L)) (ifActive (active q L) (expand q L))
 expand (Statement.loop a p) L = Statement.seq (expand p L) (Statement.loop a p)
 expand (Statement.present s p q) L = cond (active p L) (expand p L) (expand q L)
-expand (Statement.signal a s p) L = Statement.signal a s (expand p L)
+expand (Statement.signal sc a s p) L = Statement.signal sc a s (expand p L)
 expand (Statement.try p) L = Statement.try (expand p L)
 expand (Statement.setpause l) L = Statement.nothing
 expand (Statement.suspend s p) L = ifActive (active p L) (Statement.held s (activeLabels p L) (expand p L))
@@ -49,8 +49,8 @@ pub data Expands (L : ℕ) : Statement → Statement → Type 0 where
       → Expands L (Statement.par p q) (Statement.par Statement.nothing q′)
   loop : {a : ℕ} {p p′ : Statement} → Expands L p p′
       → Expands L (Statement.loop a p) (Statement.seq p′ (Statement.loop a p))
-  signal : {a s : ℕ} {p p′ : Statement} → Expands L p p′
-      → Expands L (Statement.signal a s p) (Statement.signal a s p′)
+  signal : {sc : Scope} {a s : ℕ} {p p′ : Statement} → Expands L p p′
+      → Expands L (Statement.signal sc a s p) (Statement.signal sc a s p′)
   -- not in the figure: 02, item 1, by Berry's rule of 1999
   suspend : {s : ℕ} {p p′ : Statement} → Expands L p p′
       → Expands L (Statement.suspend s p) (Statement.held s (activeLabels p L) p′)

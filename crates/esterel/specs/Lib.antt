@@ -11,5 +11,6 @@ pub mod LabelTests
 pub mod LabelRows
 pub mod Ranks
 pub mod Resume
+pub mod ReadBack
 pub mod Machines
 pub mod Examples

@@ -1,7 +1,7 @@
 -- Places of commands in a statement, and which of them are exclusive (01, 'States and resuming'; 002, section 2).
 use mathlib.Core.List.{List, [], _∷_}
 use Prim.Native.Nat.{ℕ}
-use Rattle.esterel.specs.Statement.{Statement, seq, par, loop, present, signal, try, suspend}
+use Rattle.esterel.specs.Statement.{Scope, Statement, seq, par, loop, present, signal, try, suspend}
 
 -- a command with a single part has it as its first
 pub data Part : Type 0 where
@@ -16,7 +16,7 @@ pub data PartOf : Part → Statement → Statement → Type 0 where
   loop₁ : {a : ℕ} {p : Statement} → PartOf first p (loop a p)
   present₁ : {s : ℕ} {p q : Statement} → PartOf first p (present s p q)
   present₂ : {s : ℕ} {p q : Statement} → PartOf second q (present s p q)
-  signal₁ : {a s : ℕ} {p : Statement} → PartOf first p (signal a s p)
+  signal₁ : {sc : Scope} {a s : ℕ} {p : Statement} → PartOf first p (signal sc a s p)
   try₁ : {p : Statement} → PartOf first p (try p)
   suspend₁ : {s : ℕ} {p : Statement} → PartOf first p (suspend s p)
 

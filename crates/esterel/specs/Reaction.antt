@@ -4,7 +4,7 @@ use Prim.Native.Nat.{ℕ, _-_, max}
 use mathlib.Core.Bool.{Bool, true, false, not, _&&_, _||_, cond}
 use lib.Dec.{eqb}
 use Rattle.esterel.specs.Sets.{member, none, only, join, insert, remove}
-use Rattle.esterel.specs.Statement.{Statement, nothing, pause, emit, exit, seq, par, loop, present, signal, try, setpause, suspend, held}
+use Rattle.esterel.specs.Statement.{Scope, local, reported, Statement, nothing, pause, emit, exit, seq, par, loop, present, signal, try, setpause, suspend, held}
 
 -- 01: ended (0), waiting (1), leaving n enclosing try blocks (n + 1), wrong (greater than all)
 pub data Code : Type 0 where
@@ -139,17 +139,22 @@ firstFit inheritanceFirst in− in+ wrong− wrong+ = cond (wrong− || wrong+) 
 abbrev pub caseOf : Order → ℕ → Reaction → Reaction → Case
 caseOf ord s r− r+ = firstFit ord (member s (emitted r−)) (member s (emitted r+)) (isWrong (code r−)) (isWrong (code r+))
 
+-- what is emitted outside a declaration of s around o
+abbrev pub outside : Scope → ℕ → ℕ → ℕ
+outside local s o = remove s o
+outside reported s o = o
+
 -- the answer of each case, from the runs without s and with s
-abbrev pub answer : Case → ℕ → ℕ → Reaction → Reaction → Reaction
-answer both a s r− r+ = gives (remove s (emitted r+)) (code r+) (labels r+) (signal a s (residual r+))
-answer neither a s r− r+ = gives (emitted r−) (code r−) (labels r−) (signal a s (residual r−))
-answer only− a s r− r+ = failed
-answer only+ a s r− r+ = failed
-answer inherited a s r− r+ = failed
+abbrev pub answer : Case → Scope → ℕ → ℕ → Reaction → Reaction → Reaction
+answer both sc a s r− r+ = gives (outside sc s (emitted r+)) (code r+) (labels r+) (signal sc a s (residual r+))
+answer neither sc a s r− r+ = gives (emitted r−) (code r−) (labels r−) (signal sc a s (residual r−))
+answer only− sc a s r− r+ = failed
+answer only+ sc a s r− r+ = failed
+answer inherited sc a s r− r+ = failed
 
 -- signal s in p at place a
-abbrev pub inSignal : Order → ℕ → ℕ → Reaction → Reaction → Reaction
-inSignal ord a s r− r+ = answer (caseOf ord s r− r+) a s r− r+
+abbrev pub inSignal : Order → Scope → ℕ → ℕ → Reaction → Reaction → Reaction
+inSignal ord sc a s r− r+ = answer (caseOf ord s r− r+) sc a s r− r+
 
 -- ---- the reaction, by either order
 unfoldable pub reactBy : Order → Statement → ℕ → Reaction
@@ -161,7 +166,7 @@ reactBy ord (seq p q) e = inSeq q (reactBy ord p e) (reactBy ord q e)
 reactBy ord (par p q) e = inPar (reactBy ord p e) (reactBy ord q e)
 reactBy ord (loop a p) e = inLoop a p (reactBy ord p e)
 reactBy ord (present s p q) e = cond (member s e) (reactBy ord p e) (reactBy ord q e)
-reactBy ord (signal a s p) e = inSignal ord a s (reactBy ord p (remove s e)) (reactBy ord p (insert s e))
+reactBy ord (signal sc a s p) e = inSignal ord sc a s (reactBy ord p (remove s e)) (reactBy ord p (insert s e))
 reactBy ord (try p) e = inTry (reactBy ord p e)
 reactBy ord (setpause l) e = gives none waiting (only l) nothing
 reactBy ord (suspend s p) e = inSuspend s (reactBy ord p e)

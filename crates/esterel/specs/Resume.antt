@@ -4,7 +4,7 @@ use Prim.Native.Nat.{ℕ}
 use mathlib.Core.Bool.{cond}
 use mathlib.Core.Option.{Option, some}
 use Rattle.esterel.specs.Sets.{member, insert, remove, empty, below, from}
-use Rattle.esterel.specs.Statement.{Statement, nothing, pause, emit, exit, seq, par, loop, present, signal, try, setpause, suspend, held}
+use Rattle.esterel.specs.Statement.{Scope, Statement, nothing, pause, emit, exit, seq, par, loop, present, signal, try, setpause, suspend, held}
 use Rattle.esterel.specs.Reaction.{Code, isWrong, Reaction, code, quiet, inSeq, inPar, inLoop, inTry, inSuspend, stopped, Case, both, neither, only−, only+, inherited, Order, inheritanceFirst, caseOf, inSignal, reactBy}
 use Rattle.esterel.specs.Errors.{Error, instantaneous, notReactive, notDeterministic, ifEnded, firstErrorBy}
 use Rattle.esterel.specs.Expansion.{expand}
@@ -48,9 +48,9 @@ signalNames only− a x = some (notReactive a)
 signalNames only+ a x = some (notDeterministic a)
 signalNames inherited a x = x
 
-abbrev pub signalInstant : ℕ → ℕ → Instant → Instant → Instant
-signalInstant a s (instant r− x−) (instant r+ x+) =
-    instant (inSignal inheritanceFirst a s r− r+) (signalNames (caseOf inheritanceFirst s r− r+) a (ifWrong (code r−) x− x+))
+abbrev pub signalInstant : Scope → ℕ → ℕ → Instant → Instant → Instant
+signalInstant sc a s (instant r− x−) (instant r+ x+) =
+    instant (inSignal inheritanceFirst sc a s r− r+) (signalNames (caseOf inheritanceFirst s r− r+) a (ifWrong (code r−) x− x+))
 
 abbrev pub suspendInstant : ℕ → Instant → Instant
 suspendInstant s (instant r x) = instant (inSuspend s r) x
@@ -77,7 +77,7 @@ resume base (loop a p) m e = seqInstant (loop a p) (resume base p m e) (start (l
 resume base (present s p q) m e =
     cond (empty (below (middle base p) m)) (resume (middle base p) q (from (middle base p) m) e)
     (resume base p (below (middle base p) m) e)
-resume base (signal a s p) m e = signalInstant a s (resume base p m (remove s e)) (resume base p m (insert s e))
+resume base (signal sc a s p) m e = signalInstant sc a s (resume base p m (remove s e)) (resume base p m (insert s e))
 resume base (try p) m e = tryInstant (resume base p m e)
 resume base (setpause l) m e = idle
 resume base (suspend s p) m e =

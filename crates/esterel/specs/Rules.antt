@@ -7,8 +7,8 @@ use mathlib.Core.Path.{_≡_}
 use mathlib.Core.Logic.{_≢_}
 use mathlib.Core.Bool.{true, false}
 use Rattle.esterel.specs.Sets.{member, none, only, join, insert, remove}
-use Rattle.esterel.specs.Statement.{Statement}
-use Rattle.esterel.specs.Reaction.{Code, ended, waiting, leaving, wrong, greater, down, ifWaiting, side, remains, Reaction, gives}
+use Rattle.esterel.specs.Statement.{Scope, Statement}
+use Rattle.esterel.specs.Reaction.{Code, ended, waiting, leaving, wrong, greater, down, ifWaiting, side, outside, remains, Reaction, gives}
 
 pub data Reacts : Statement → ℕ → Reaction → Type 0 where
   nothing : {e : ℕ} → Reacts Statement.nothing e (gives none ended none Statement.nothing)
@@ -55,39 +55,39 @@ pub data Reacts : Statement → ℕ → Reaction → Type 0 where
       → Reacts q e (gives o₂ k l₂ q′)
       → Reacts (Statement.seq p q) e (gives (join o o₂) k l₂ q′)
   -- 02, item 4: inheritance is tried first, so the other four ask that no run is wrong
-  signal++ : {e a s o− o+ l− l+ : ℕ} {k− k+ : Code} {p p− p+ : Statement}
+  signal++ : {sc : Scope} {e a s o− o+ l− l+ : ℕ} {k− k+ : Code} {p p− p+ : Statement}
       → Reacts p (remove s e) (gives o− k− l− p−)
       → member s o− ≡ true
       → Reacts p (insert s e) (gives o+ k+ l+ p+)
       → member s o+ ≡ true
       → greater k− k+ ≢ wrong
-      → Reacts (Statement.signal a s p) e (gives (remove s o+) k+ l+ (Statement.signal a s p+))
-  signal−− : {e a s o− o+ l− l+ : ℕ} {k− k+ : Code} {p p− p+ : Statement}
+      → Reacts (Statement.signal sc a s p) e (gives (outside sc s o+) k+ l+ (Statement.signal sc a s p+))
+  signal−− : {sc : Scope} {e a s o− o+ l− l+ : ℕ} {k− k+ : Code} {p p− p+ : Statement}
       → Reacts p (remove s e) (gives o− k− l− p−)
       → member s o− ≡ false
       → Reacts p (insert s e) (gives o+ k+ l+ p+)
       → member s o+ ≡ false
       → greater k− k+ ≢ wrong
-      → Reacts (Statement.signal a s p) e (gives o− k− l− (Statement.signal a s p−))
-  signal+− : {e a s o− o+ l− l+ : ℕ} {k− k+ : Code} {p p− p+ : Statement}
+      → Reacts (Statement.signal sc a s p) e (gives o− k− l− (Statement.signal sc a s p−))
+  signal+− : {sc : Scope} {e a s o− o+ l− l+ : ℕ} {k− k+ : Code} {p p− p+ : Statement}
       → Reacts p (remove s e) (gives o− k− l− p−)
       → member s o− ≡ true
       → Reacts p (insert s e) (gives o+ k+ l+ p+)
       → member s o+ ≡ false
       → greater k− k+ ≢ wrong
-      → Reacts (Statement.signal a s p) e (gives none wrong none Statement.nothing)
-  signal−+ : {e a s o− o+ l− l+ : ℕ} {k− k+ : Code} {p p− p+ : Statement}
+      → Reacts (Statement.signal sc a s p) e (gives none wrong none Statement.nothing)
+  signal−+ : {sc : Scope} {e a s o− o+ l− l+ : ℕ} {k− k+ : Code} {p p− p+ : Statement}
       → Reacts p (remove s e) (gives o− k− l− p−)
       → member s o− ≡ false
       → Reacts p (insert s e) (gives o+ k+ l+ p+)
       → member s o+ ≡ true
       → greater k− k+ ≢ wrong
-      → Reacts (Statement.signal a s p) e (gives none wrong none Statement.nothing)
-  signal∞ : {e a s o− o+ l− l+ : ℕ} {k− k+ : Code} {p p− p+ : Statement}
+      → Reacts (Statement.signal sc a s p) e (gives none wrong none Statement.nothing)
+  signal∞ : {sc : Scope} {e a s o− o+ l− l+ : ℕ} {k− k+ : Code} {p p− p+ : Statement}
       → Reacts p (remove s e) (gives o− k− l− p−)
       → Reacts p (insert s e) (gives o+ k+ l+ p+)
       → greater k− k+ ≡ wrong
-      → Reacts (Statement.signal a s p) e (gives none wrong none Statement.nothing)
+      → Reacts (Statement.signal sc a s p) e (gives none wrong none Statement.nothing)
   -- 002, section 4.2
   setpause : {e l : ℕ} → Reacts (Statement.setpause l) e (gives none waiting (only l) Statement.nothing)
   -- 02, item 1: fresh as p; held, s is tested first

@@ -4,7 +4,7 @@ use mathlib.Core.Path.{_≡_, refl}
 use mathlib.Core.Bool.{Bool, true, false, _&&_, _||_, cond}
 use mathlib.Core.List.{[], _∷_}
 use Rattle.esterel.specs.Sets.{member, none, only, join, insert, remove}
-use Rattle.esterel.specs.Statement.{Statement, nothing, pause, emit, exit, seq, par, loop, present, signal, try, setpause, suspend, held}
+use Rattle.esterel.specs.Statement.{local, Statement, nothing, pause, emit, exit, seq, par, loop, present, signal, try, setpause, suspend, held}
 use Rattle.esterel.specs.Reaction.{ended, wrong, isWrong, Reaction, gives, emitted, code, failed, printed, reactBy, react}
 use Rattle.esterel.specs.Errors.{ifEnded, errorsBy, errors, instantaneous, notReactive}
 
@@ -22,7 +22,7 @@ overlap (seq p q) e = overlap p e || ifEnded (code (reactBy printed p e)) (overl
 overlap (par p q) e = overlap p e || overlap q e
 overlap (loop a p) e = overlap p e
 overlap (present s p q) e = cond (member s e) (overlap p e) (overlap q e)
-overlap (signal a s p) e =
+overlap (signal sc a s p) e =
     overlap p (remove s e) || overlap p (insert s e)
     || overlaps s (reactBy printed p (remove s e)) (reactBy printed p (insert s e))
 overlap (try p) e = overlap p e
@@ -33,7 +33,7 @@ overlap (held s K p) e = cond (member s e) false (overlap p e)
 -- ---- by computation
 -- 02: 08 00 04 02 00 07 00 00 06 00
 abbrev twofold : Statement
-twofold = signal 0 0 (seq (emit 0) (present 0 nothing (loop 8 nothing)))
+twofold = signal local 0 0 (seq (emit 0) (present 0 nothing (loop 8 nothing)))
 
 two-fit : (code (reactBy printed twofold 0) ≡ ended)
     × (react twofold 0 ≡ failed)
@@ -45,9 +45,9 @@ two-fit = (refl, refl, refl, refl, refl)
 
 -- an overlap in an instant that was wrong before: only what is emitted beside the error differs, and is not shown
 abbrev stillWrong : Statement
-stillWrong = signal 0 0 (seq (emit 0) (seq (emit 1) (loop 8 nothing)))
+stillWrong = signal local 0 0 (seq (emit 0) (seq (emit 1) (loop 8 nothing)))
 
-still-wrong : (reactBy printed stillWrong 0 ≡ gives 2 wrong 0 (signal 0 0 nothing))
+still-wrong : (reactBy printed stillWrong 0 ≡ gives 2 wrong 0 (signal local 0 0 nothing))
     × (react stillWrong 0 ≡ failed)
     × (overlap stillWrong 0 ≡ true)
 unfolding reactBy overlap member none only join insert remove
@@ -55,7 +55,7 @@ still-wrong = (refl, refl, refl)
 
 -- no overlap: the reactions are equal, but the printed order has an error more, never the first
 abbrev oneMore : Statement
-oneMore = signal 0 0 (par (present 0 nothing (emit 0)) (present 0 nothing (loop 10 nothing)))
+oneMore = signal local 0 0 (par (present 0 nothing (emit 0)) (present 0 nothing (loop 10 nothing)))
 
 one-more : (reactBy printed oneMore 0 ≡ react oneMore 0)
     × (errorsBy printed oneMore 0 ≡ instantaneous 10 ∷ notReactive 0 ∷ [])

@@ -1,7 +1,11 @@
 -- Statements of kernel Pure Esterel (003, figure 1) with the labels and the setpause of 002 (sections 3.3 and 4), and
--- the suspend of 02, item 1.
+-- the suspend of 02, item 1, and the scope of 02, item 5.
 -- Signals, labels and exits are numbers. A loop and a signal carry their place, by which an error names them (01).
 use Prim.Native.Nat.{ℕ}
+
+-- 02, item 5: a declared signal that is emitted stays inside its declaration, or is reported all the same
+pub data Scope : Type 0 where
+  local reported : Scope
 
 pub data Statement : Type 0 where
   nothing : Statement
@@ -11,7 +15,7 @@ pub data Statement : Type 0 where
   seq par : (p q : Statement) → Statement
   loop : (place : ℕ) (p : Statement) → Statement
   present : (signal : ℕ) (p q : Statement) → Statement
-  signal : (place signal : ℕ) (p : Statement) → Statement
+  signal : (scope : Scope) (place signal : ℕ) (p : Statement) → Statement
   try : (p : Statement) → Statement
   setpause : (label : ℕ) → Statement
   suspend : (signal : ℕ) (p : Statement) → Statement

@@ -1,0 +1,133 @@
+-- A program under read-back declarations (02, item 5): expansion and rewriting leave the declarations in place, what is said
+-- of labels is said of the statement inside, and the host's status of a declared signal is never read.
+use Prim.Native.Nat.{ℕ}
+use mathlib.Core.Path.{_≡_, refl, sym, ap, ap₂, _∙_}
+use mathlib.Core.Logic.{_⊎_, inl, inr, ⊎-elim}
+use mathlib.Core.Bool.{Bool, true, false, not, _&&_, _||_}
+use mathlib.Core.List.{List, [], _∷_, List·Memᴰ, List·Memᴰ·cases-cons, List·Memᴰ·not-nil}
+use lib.Dec.{eqb}
+use native.Mathlib.Omega.{arith}
+use borrow.Author.Tests.{eqb-false}
+use Rattle.esterel.specs.Sets.{member, insert, remove}
+use Rattle.esterel.specs.Statement.{Scope, reported, Statement, signal, setpause, held}
+use Rattle.esterel.specs.Reaction.{waiting, Reaction, code, residual, Case, both, neither, only−, only+, inherited, inheritanceFirst, caseOf, answer, reactBy, react}
+use Rattle.esterel.specs.Places.{signal₁, At}
+use Rattle.esterel.specs.States.{Holds, NoSetpause, Source}
+use Rattle.esterel.specs.Expansion.{expand}
+use Rattle.esterel.specs.LabelTests.{labelsOf, everyLabel, before, distinct, targeted, wellFormed, valid}
+use Rattle.esterel.specs.Resume.{Instant, signalInstant, start}
+use Rattle.esterel.specs.ReadBack.{declared, declaredInstant}
+use Rattle.esterel.proofs.Booleans.{or-true, and-false, Tested, tested}
+use Rattle.esterel.proofs.Sets.{member-insert, member-remove, ext}
+use Rattle.esterel.proofs.Resume.{start-signal}
+
+-- ---- EXPANSION
+pub expand-declared : (a : ℕ) (ss : List ℕ) (p : Statement) (L : ℕ) → expand (declared a ss p) L ≡ declared a ss (expand p L)
+unfolding declared expand
+expand-declared a [] p L = refl
+expand-declared a (s ∷ ss) p L = ap (signal reported a s) (expand-declared a ss p L)
+
+-- ---- the instant, from that of the statement inside
+pub start-declared : (a : ℕ) (ss : List ℕ) (p : Statement) (f : ℕ → Instant) → ((e : ℕ) → f e ≡ start p e)
+    → (e : ℕ) → declaredInstant a ss f e ≡ start (declared a ss p) e
+unfolding declared declaredInstant
+start-declared a [] p f h e = h e
+start-declared a (s ∷ ss) p f h e =
+    ap₂ (signalInstant reported a s) (start-declared a ss p f h (remove s e)) (start-declared a ss p f h (insert s e))
+    ∙ sym (start-signal reported a s (declared a ss p) e)
+
+-- ---- REWRITING: what remains after code 1 is under the same declarations
+abbrev pub RemainsUnder : (a : ℕ) → List ℕ → Statement → Statement → Type 0
+RemainsUnder a ss p t =
+    (e : ℕ) × (code (react p e) ≡ waiting) × (t ≡ declared a ss (residual (react p e)))
+
+remains-in : (a s : ℕ) (ss : List ℕ) (p : Statement) (c : Case) (r− r+ : Reaction)
+    → (code r− ≡ waiting → RemainsUnder a ss p (residual r−)) → (code r+ ≡ waiting → RemainsUnder a ss p (residual r+))
+    → code (answer c reported a s r− r+) ≡ waiting → RemainsUnder a (s ∷ ss) p (residual (answer c reported a s r− r+))
+unfolding declared
+remains-in a s ss p both r− r+ f g h = let x = g h in (x .0, x .1, ap (signal reported a s) (x .2))
+remains-in a s ss p neither r− r+ f g h = let x = f h in (x .0, x .1, ap (signal reported a s) (x .2))
+remains-in a s ss p only− r− r+ f g h = absurd (let z : _≡_ {A = ℕ} 0 1 = cc in omega arith)
+remains-in a s ss p only+ r− r+ f g h = absurd (let z : _≡_ {A = ℕ} 0 1 = cc in omega arith)
+remains-in a s ss p inherited r− r+ f g h = absurd (let z : _≡_ {A = ℕ} 0 1 = cc in omega arith)
+
+pub remains-declared : (a : ℕ) (ss : List ℕ) (p : Statement) (e : ℕ) → code (react (declared a ss p) e) ≡ waiting
+    → RemainsUnder a ss p (residual (react (declared a ss p) e))
+unfolding declared reactBy
+remains-declared a [] p e h = (e, h, refl)
+remains-declared a (s ∷ ss) p e h =
+    let r− = react (declared a ss p) (remove s e) in
+    let r+ = react (declared a ss p) (insert s e) in
+    remains-in a s ss p (caseOf inheritanceFirst s r− r+) r− r+
+    (remains-declared a ss p (remove s e)) (remains-declared a ss p (insert s e)) h
+
+-- ---- the host's status of a declared signal is not read
+-- two present sets that agree on every other signal
+abbrev pub AgreeOutside : List ℕ → (e e′ : ℕ) → Type 0
+AgreeOutside ss e e′ = (i : ℕ) → ¬ List·Memᴰ i ss → member i e ≡ member i e′
+
+module _ (s : ℕ) (ss : List ℕ) (e e′ : ℕ) (h : AgreeOutside (s ∷ ss) e e′) where
+  other : (i : ℕ) → eqb s i ≡ false → ¬ List·Memᴰ i ss → member i e ≡ member i e′
+  other i n out = h i (λ m. ⊎-elim (λ x. eqb-false s i n (sym x)) out (List·Memᴰ·cases-cons m))
+
+  agree-removed : AgreeOutside ss (remove s e) (remove s e′)
+  agree-removed i out = rw (member-remove s e i, member-remove s e′ i) (go (tested (eqb s i)))
+    where
+      go : Tested (eqb s i) → (member i e && not (eqb s i)) ≡ (member i e′ && not (eqb s i))
+      go (Tested.yes x) = rw x (and-false (member i e) ∙ sym (and-false (member i e′)))
+      go (Tested.no x) = ap (λ (b : Bool). b && not (eqb s i)) (other i x out)
+
+  agree-inserted : AgreeOutside ss (insert s e) (insert s e′)
+  agree-inserted i out = rw (member-insert s e i, member-insert s e′ i) (go (tested (eqb s i)))
+    where
+      go : Tested (eqb s i) → (member i e || eqb s i) ≡ (member i e′ || eqb s i)
+      go (Tested.yes x) = rw x (or-true (member i e) ∙ sym (or-true (member i e′)))
+      go (Tested.no x) = ap (λ (b : Bool). b || eqb s i) (other i x out)
+
+pub declared-unread : (a : ℕ) (ss : List ℕ) (f : ℕ → Instant) (e e′ : ℕ) → AgreeOutside ss e e′
+    → declaredInstant a ss f e ≡ declaredInstant a ss f e′
+unfolding declaredInstant
+declared-unread a [] f e e′ h = ap f (ext e e′ (λ i. h i (λ m. List·Memᴰ·not-nil m)))
+declared-unread a (s ∷ ss) f e e′ h =
+    ap₂ (signalInstant reported a s)
+    (declared-unread a ss f (remove s e) (remove s e′) (agree-removed s ss e e′ h))
+    (declared-unread a ss f (insert s e) (insert s e′) (agree-inserted s ss e e′ h))
+
+-- ---- labels: the declarations have none
+module _ (a : ℕ) where
+  pub distinct-declared : (ss : List ℕ) (p : Statement) → distinct (declared a ss p) ≡ distinct p
+  unfolding declared distinct
+  distinct-declared [] p = refl
+  distinct-declared (s ∷ ss) p = distinct-declared ss p
+
+  pub targeted-declared : (ss : List ℕ) (p : Statement) → targeted (declared a ss p) ≡ targeted p
+  unfolding declared labelsOf
+  targeted-declared [] p = refl
+  targeted-declared (s ∷ ss) p = targeted-declared ss p
+
+  pub wellFormed-declared : (ss : List ℕ) (p : Statement) → wellFormed (declared a ss p) ≡ wellFormed p
+  unfolding declared wellFormed everyLabel before
+  wellFormed-declared [] p = refl
+  wellFormed-declared (s ∷ ss) p = wellFormed-declared ss p
+
+  pub valid-declared : (ss : List ℕ) (p : Statement) (L : ℕ) → valid (declared a ss p) L ≡ valid p L
+  unfolding declared valid everyLabel before labelsOf
+  valid-declared [] p L = refl
+  valid-declared (s ∷ ss) p L = valid-declared ss p L
+
+-- ---- places: no other command is added than the declarations
+inside-or-itself : (x : Statement) {sc : Scope} {a s : ℕ} {p : Statement} → Holds (signal sc a s p) x → Holds p x ⊎ (signal sc a s p ≡ x)
+inside-or-itself x (pl, At.here) = inr refl
+inside-or-itself x (pl, At.inside signal₁ h) = inl (_, h)
+
+pub noSetpause-declared : (a : ℕ) (ss : List ℕ) (p : Statement) → NoSetpause p → NoSetpause (declared a ss p)
+unfolding declared
+noSetpause-declared a [] p n l h = n l h
+noSetpause-declared a (s ∷ ss) p n l h =
+    ⊎-elim (noSetpause-declared a ss p n l) (λ e. let z : _≡_ {A = ℕ} 0 1 = cc in omega arith) (inside-or-itself (setpause l) h)
+
+pub source-declared : (a : ℕ) (ss : List ℕ) (p : Statement) → Source p → Source (declared a ss p)
+unfolding declared
+source-declared a [] p n t K q h = n t K q h
+source-declared a (s ∷ ss) p n t K q h =
+    ⊎-elim (source-declared a ss p n t K q) (λ e. let z : _≡_ {A = ℕ} 0 1 = cc in omega arith) (inside-or-itself (held t K q) h)

@@ -1,0 +1,50 @@
+-- Read-back declarations (02, item 5): 'as if each were declared around it, lowest outermost, except that an emitted one is
+-- still reported'.
+use Prim.Native.Nat.{ℕ, zero, suc}
+use mathlib.Core.Path.{_≡_, refl}
+use mathlib.Core.Bool.{cond}
+use mathlib.Core.List.{List, [], _∷_}
+use Rattle.esterel.specs.Sets.{member, none, only, join, insert, remove}
+use Rattle.esterel.specs.Statement.{reported, Statement, nothing, emit, seq, present, signal}
+use Rattle.esterel.specs.Reaction.{ended, gives, failed, reactBy, react}
+use Rattle.esterel.specs.Errors.{errorsBy, errors, notReactive, notDeterministic}
+use Rattle.esterel.specs.Resume.{Instant, signalInstant}
+
+-- the members of a set from i on, n numbers being left; the lowest first
+unfoldable pub membersFrom : (n i s : ℕ) → List ℕ
+membersFrom zero i s = []
+membersFrom (suc n) i s = cond (member i s) (i ∷ membersFrom n (suc i) s) (membersFrom n (suc i) s)
+
+-- p under a declaration at place a for each signal of the list, the first outermost
+unfoldable pub declared : (a : ℕ) → List ℕ → Statement → Statement
+declared a [] p = p
+declared a (s ∷ ss) p = signal reported a s (declared a ss p)
+
+-- the instant of such a program from that of what stands inside, f
+unfoldable pub declaredInstant : (a : ℕ) → List ℕ → (f : ℕ → Instant) → (e : ℕ) → Instant
+declaredInstant a [] f e = f e
+declaredInstant a (s ∷ ss) f e = signalInstant reported a s (declaredInstant a ss f (remove s e)) (declaredInstant a ss f (insert s e))
+
+-- ---- by computation
+-- emit 0; present 0 then emit 1: both are reported, and the test sees what was emitted
+lowest-first : membersFrom 32 0 37 ≡ 0 ∷ 2 ∷ 5 ∷ []
+unfolding membersFrom member
+lowest-first = refl
+
+seen-and-reported : react (declared 9 (0 ∷ []) (seq (emit 0) (present 0 (emit 1) nothing))) 0 ≡ gives 3 ended 0 (signal reported 9 0 nothing)
+unfolding declared reactBy member none only join insert remove
+seen-and-reported = refl
+
+-- the declarations err as every signal does, at their place
+emitted-if-absent : (react (declared 9 (0 ∷ []) (present 0 nothing (emit 0))) 0 ≡ failed)
+    × (errors (declared 9 (0 ∷ []) (present 0 nothing (emit 0))) 0 ≡ notReactive 9 ∷ [])
+    × (errors (declared 9 (0 ∷ []) (present 0 (emit 0) nothing)) 0 ≡ notDeterministic 9 ∷ [])
+unfolding declared reactBy errorsBy member none only join insert remove
+emitted-if-absent = (refl, refl, refl)
+
+-- 003, section 6.4: the order of two declarations matters
+order-matters : (react (declared 9 (0 ∷ 1 ∷ []) (present 0 (present 1 (emit 0) nothing) nothing)) 0
+    ≡ gives 0 ended 0 (signal reported 9 0 (signal reported 9 1 nothing)))
+    × (errors (declared 9 (0 ∷ 1 ∷ []) (present 1 (present 0 (emit 1) nothing) nothing)) 0 ≡ notDeterministic 9 ∷ [])
+unfolding declared reactBy errorsBy member none only join insert remove
+order-matters = (refl, refl)
