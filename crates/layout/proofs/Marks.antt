@@ -44,7 +44,7 @@ local t u base a (present s p q) h m =
       local t u base (a + 2) p (λ i b e. h i (omega arith) (omega (arith, l))) (m .1),
       local t u (middle base p) (a + (2 + size p)) q (λ i b e. h i (omega arith) (omega (arith, l))) (m .2),
     )
-local t u base a (signal b s p) h m = local t u base (a + 2) p (λ i b e. h i (omega arith) (omega arith)) m
+local t u base a (signal sc b s p) h m = local t u base (a + 2) p (λ i b e. h i (omega arith) (omega arith)) m
 local t u base a (try p) h m = local t u base (a + 1) p (λ i b e. h i (omega arith) (omega arith)) m
 local t u base a (setpause l) h m = tt
 local t u base a (suspend s p) h m = local t u base (a + 2) p (λ i b e. h i (omega arith) (omega arith)) m

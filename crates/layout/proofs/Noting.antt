@@ -180,7 +180,7 @@ noting (seq p q) m h r = let a = noting p m h (r .0) in two-adds a (noting q (no
 noting (par p q) m h r = let a = noting p m h (r .0) in two-adds a (noting q (note p m) (a .long ∙ h) (r .1))
 noting (loop a p) m h r = noting p m h r
 noting (present s p q) m h r = let a = noting p m h (r .1) in two-adds a (noting q (note p m) (a .long ∙ h) (r .2))
-noting (signal a s p) m h r = noting p m h (r .1)
+noting (signal sc a s p) m h r = noting p m h (r .2)
 noting (try p) m h r = noting p m h r
 noting (setpause l) m h r = setpause-adds l m r h
 noting (suspend s p) m h r = noting p m h (r .1)
@@ -209,7 +209,7 @@ count-size (seq p q) = let a = count-size p in let b = count-size q in omega (ar
 count-size (par p q) = let a = count-size p in let b = count-size q in omega (arith, length-append (bytesOf p) (bytesOf q))
 count-size (loop a p) = let b = count-size p in omega arith
 count-size (present s p q) = let a = count-size p in let b = count-size q in omega (arith, length-append (bytesOf p) (bytesOf q))
-count-size (signal a s p) = let b = count-size p in omega arith
+count-size (signal sc a s p) = let b = count-size p in omega arith
 count-size (try p) = let b = count-size p in omega arith
 count-size (setpause l) = omega arith
 count-size (suspend s p) = let b = count-size p in omega arith

@@ -40,7 +40,7 @@ Marked t base a (par p q) =
 Marked t base a (loop b p) = Marked t base (a + 1) p
 Marked t base a (present s p q) =
     (getD t a 0 ≡ entry (a + (2 + size p)) (middle base p)) × Marked t base (a + 2) p × Marked t (middle base p) (a + (2 + size p)) q
-Marked t base a (signal b s p) = Marked t base (a + 2) p
+Marked t base a (signal sc b s p) = Marked t base (a + 2) p
 Marked t base a (try p) = Marked t base (a + 1) p
 Marked t base a (setpause l) = Unit {0}
 Marked t base a (suspend s p) = Marked t base (a + 2) p

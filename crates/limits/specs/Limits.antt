@@ -26,6 +26,10 @@ maxSignals = 6
 abbrev pub maxBytes : ℕ
 maxBytes = 1024
 
+-- the place of an error of a read-back declaration (02, item 5)
+abbrev pub readBackPlace : ℕ
+readBackPlace = 65535
+
 -- ---- 01, 'States and resuming': the bytes of a label set, of a place and of a signal set
 abbrev pub labelBytes : ℕ
 labelBytes = 8

@@ -18,6 +18,9 @@ pub const MAX_SIGNALS: u8 = 6;
 
 pub const MAX_BYTES: usize = 1024;
 
+// The place of an error of a read-back declaration (02, item 5).
+pub const READ_BACK_PLACE: u16 = 65535;
+
 // The bytes of a label set, of a place and of a signal set.
 pub const LABEL_BYTES: usize = 8;
 

@@ -1,13 +1,14 @@
 -- The check on the examples of 01 ('Turned down', rows 2 to 10; 'Just inside'; 'Just outside'), row 3 by 02, and on the order of
--- its checks.
+-- its checks, with no read-back set and with one.
 use mathlib.Core.Path.{_≡_, refl}
 use mathlib.Core.List.{List, [], _∷_, _++_, map, flatten}
 use Prim.Native.Nat.{ℕ}
 use lib.ListN.{replicate}
 use Rattle.esterel.specs.Sets.{member, none, only, join}
+use Rattle.esterel.specs.ReadBack.{membersFrom, declared}
 use Rattle.esterel.specs.LabelTests.{subset, disjoint, labelsOf, everyLabel, distinct, before, wellFormed}
 use Rattle.sequence.specs.Commands.{commandOf}
-use Rattle.sequence.specs.Reader.{front, read}
+use Rattle.sequence.specs.Reader.{front, read, nesting}
 use Rattle.sequence.specs.Check.{checked, checkOf}
 
 -- n times
@@ -72,7 +73,31 @@ table =
     ∷ (replicate 1025 0x0C, 2)
     ∷ []
 
--- THE TABLE
-pub examples : map (λ (x : List ℕ × ℕ). checkOf (x .0)) table ≡ map (λ (x : List ℕ × ℕ). x .1) table
-unfolding checkOf checked read front commandOf flatten distinct wellFormed everyLabel before labelsOf subset disjoint member none only join
-examples = refl
+-- 02, item 5: with a read-back set. More than six signals, around nothing and around one; then the order of the checks: 3, 4 and 5
+-- of the sequence's own, 2 before them, and 6 before 7 and 8
+abbrev readBackTable : List (List ℕ × ℕ × ℕ)
+readBackTable =
+    (0x00 ∷ [], 0x3F, 0)
+    ∷ (0x00 ∷ [], 0x7F, 6)
+    ∷ (0x00 ∷ [], 0x80000000, 0)
+    ∷ (signals 1 (0x00 ∷ []), 0x1F, 0)
+    ∷ (signals 1 (0x00 ∷ []), 0x3F, 6)
+    ∷ (signals 6 (0x00 ∷ []), 0x00, 0)
+    ∷ (signals 6 (0x00 ∷ []), 0x01, 6)
+    ∷ (0x05 ∷ signals 1 (0x00 ∷ []) ++ signals 2 (0x00 ∷ []), 0x0F, 0)
+    ∷ (0x05 ∷ signals 1 (0x00 ∷ []) ++ signals 2 (0x00 ∷ []), 0x1F, 6)
+    ∷ (loops 63 (0x00 ∷ []), 0x3F, 0)
+    ∷ (signals 1 (0x0C ∷ []), 0x3F, 3)
+    ∷ (signals 1 (0x02 ∷ []), 0x3F, 4)
+    ∷ (signals 1 (0x02 ∷ 0x20 ∷ []), 0x3F, 5)
+    ∷ (signals 7 [], 0x7F, 6)
+    ∷ (replicate 1025 0x00, 0x7F, 2)
+    ∷ (signals 1 (0x00 ∷ 0x00 ∷ []), 0x3F, 6)
+    ∷ (signals 1 (0x05 ∷ 0x01 ∷ 0x00 ∷ 0x01 ∷ 0x00 ∷ []), 0x3F, 6)
+    ∷ []
+
+-- THE TABLES
+pub examples : (map (λ (x : List ℕ × ℕ). checkOf (x .0) none) table ≡ map (λ (x : List ℕ × ℕ). x .1) table)
+    × (map (λ (x : List ℕ × ℕ × ℕ). checkOf (x .0) (x .1)) readBackTable ≡ map (λ (x : List ℕ × ℕ × ℕ). x .2) readBackTable)
+unfolding checkOf checked read front commandOf nesting declared membersFrom flatten distinct wellFormed everyLabel before labelsOf subset disjoint member none only join
+examples = (refl, refl)

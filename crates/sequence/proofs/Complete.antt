@@ -8,7 +8,7 @@ use native.Mathlib.Omega.{arith}
 use lib.ListN.{length, getD, drop, length-append}
 use lib.Seq.{drop-at}
 use borrow.Author.Tests.{lt-ltb, le-leb}
-use Rattle.esterel.specs.Statement.{Statement, nothing, pause, emit, exit, seq, par, loop, present, signal, try, setpause, suspend, held}
+use Rattle.esterel.specs.Statement.{local, reported, Statement, nothing, pause, emit, exit, seq, par, loop, present, signal, try, setpause, suspend, held}
 use Rattle.limits.specs.Limits.{labelCount, signalCount, maxExit}
 use Rattle.sequence.specs.Commands.{Command, commandOf, operandsOf, partCount, inRange, width, declares}
 use Rattle.sequence.specs.Reader.{accepted, lastPart, firstPart, readParts, read}
@@ -27,7 +27,7 @@ depth-positive (seq p q) = omega arith
 depth-positive (par p q) = omega arith
 depth-positive (loop a p) = omega arith
 depth-positive (present s p q) = omega arith
-depth-positive (signal a s p) = omega arith
+depth-positive (signal sc a s p) = omega arith
 depth-positive (try p) = omega arith
 depth-positive (setpause l) = omega arith
 depth-positive (suspend s p) = omega arith
@@ -124,14 +124,15 @@ complete (suc d) g a (present x p q) w s t =
     ∙ two-complete d g a h t (present x) c p q w _ refl
     (complete d (g - 0) (a + 2) p (two-first d g a h t (present x) c p q w) (s .0) (bytesOf q ++ t))
     (complete d (g - 0) (a + (2 + size p)) q (two-second d g a h t (present x) c p q w) (s .1) t)
-complete (suc d) g a (signal b x p) w s t =
-    let c = signal-shape a x (w .ranged .0) in
+complete (suc d) g a (signal reported b x p) w s t = absurd (let z : _≡_ {A = ℕ} 0 1 = cc (w .ranged .0) in omega arith)
+complete (suc d) g a (signal local b x p) w s t =
+    let c = signal-shape a x (w .ranged .1) in
     let h : List ℕ = 8 ∷ x ∷ [] in
-    let v : Within (suc d) g (signal a x p) = rw (s .0) at w in
-    starts d g a _ Command.signal refl (omega arith) (lt-ltb x signalCount (w .ranged .0)) (one-fits d g a h t 1 (signal a x) c p v)
-    ∙ one-complete d g a h t 1 (signal a x) c p v
-    (complete d (g - 1) (a + 2) p (one-within d g a h t 1 (signal a x) c p v) (s .1) t)
-    ∙ ap (λ (i : ℕ). accepted (signal i x p) (size (signal i x p))) (sym (s .0))
+    let v : Within (suc d) g (signal local a x p) = rw (s .0) at w in
+    starts d g a _ Command.signal refl (omega arith) (lt-ltb x signalCount (w .ranged .1)) (one-fits d g a h t 1 (signal local a x) c p v)
+    ∙ one-complete d g a h t 1 (signal local a x) c p v
+    (complete d (g - 1) (a + 2) p (one-within d g a h t 1 (signal local a x) c p v) (s .1) t)
+    ∙ ap (λ (i : ℕ). accepted (signal local i x p) (size (signal local i x p))) (sym (s .0))
 complete (suc d) g a (try p) w s t =
     let c = try-shape a in
     starts d g a _ Command.try refl (omega arith) refl (omega arith)

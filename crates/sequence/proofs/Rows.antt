@@ -16,12 +16,14 @@ use Rattle.esterel.specs.LabelTests.{distinct, targeted, wellFormed}
 use Rattle.esterel.proofs.LabelTests.{distinct-is, targeted-is, wellFormed-is}
 use Rattle.limits.specs.Limits.{maxBytes, maxDepth, maxSignals}
 use Rattle.sequence.specs.Commands.{declares}
-use Rattle.sequence.specs.Reader.{Read, accepted, refused, Front, command, front, read}
+use Rattle.sequence.specs.Reader.{Read, accepted, refused, Front, command, front, read, nesting}
+use Rattle.sequence.specs.Program.{program}
+use Rattle.sequence.specs.Writer.{Written}
 use Rattle.sequence.specs.Check.{Checked, sound, bad, labelRules, afterRead, checked, numberOf, checkOf}
-use Rattle.sequence.specs.Rows.{Slot, slot, Position, at, Fault, unknown, no-statement, no-operand, out-of-range, too-deep, too-many-signals, enter, next, walk, Spells, Row, row-2, row-3-to-6, row-7, row-8, row-9, row-10, ByRows}
+use Rattle.sequence.specs.Rows.{Slot, slot, Position, at, Fault, unknown, no-statement, no-operand, out-of-range, too-deep, too-many-signals, enter, next, walk, Spells, Row, row-2, row-3-to-6, row-6, row-7, row-8, row-9, row-10, ByRows}
 use Rattle.sequence.proofs.Walk.{faultOf, fault-is, Faulty, Comes, comes}
 use Rattle.sequence.proofs.Sound.{count-within}
-use Rattle.sequence.proofs.Writer.{reads-what-is-written}
+use Rattle.sequence.proofs.Writer.{reader-writer, reads-what-is-written}
 use Rattle.sequence.proofs.ByRows.{refused-by, accepted-by}
 
 fault-range : {bs : List ℕ} {s : Slot} {k : ℕ} → Fault bs s k → (3 ≤ k) × (k ≤ 6)
@@ -109,10 +111,17 @@ module _ (bs : List ℕ) where
       let e : at a [] ≡ at b [] = last-unique n m _ _ (ended-last n a h) (ended-last m b i) in
       cc
 
+  -- the bytes begin with one statement
+  one-statement : (p q : Statement) (n m : ℕ) → read maxDepth maxSignals 0 bs ≡ accepted p n → Written maxDepth maxSignals 0 bs q m → q ≡ p
+  one-statement p q n m e w =
+      let f : accepted q m ≡ accepted p n = sym (reader-writer maxDepth maxSignals 0 bs q m .1 w) ∙ e in
+      cc
+
+module _ (bs : List ℕ) (readBack : ℕ) where
   -- ---- which rows the reader's answer leaves
   -- n is given: its row holds, and no row of a smaller number
   abbrev pub Given : ℕ → Type 0
-  Given n = Row bs n × ((m : ℕ) → m < n → ¬ Row bs m)
+  Given n = Row bs readBack n × ((m : ℕ) → m < n → ¬ Row bs readBack m)
 
   abbrev pub Sized : Type 0
   Sized = (1 ≤ length bs) × (length bs ≤ maxBytes)
@@ -125,9 +134,10 @@ module _ (bs : List ℕ) where
       go (yes x) (no y) = absurd (h (x, omega arith))
       go (no x) y = inl (omega arith)
 
-      none-below : (m : ℕ) → m < 2 → ¬ Row bs m
+      none-below : (m : ℕ) → m < 2 → ¬ Row bs readBack m
       none-below m l (row-2 x) = omega arith
       none-below m l (row-3-to-6 n h f) = omega (arith, fault-range f)
+      none-below m l (row-6 w x) = omega arith
       none-below m l (row-7 n h x) = omega arith
       none-below m l (row-8 s x) = omega arith
       none-below m l (row-9 s x) = omega arith
@@ -140,28 +150,48 @@ module _ (bs : List ℕ) where
   given-fault : Sized → (k : ℕ) → Faulty bs k → Given k
   given-fault z k x = (row-3-to-6 (x .commands) (x .met) (x .fault), none-below)
     where
-      none-below : (m : ℕ) → m < k → ¬ Row bs m
+      none-below : (m : ℕ) → m < k → ¬ Row bs readBack m
       none-below m l (row-2 y) = not-2 z y
       none-below m l (row-3-to-6 n {a = a} {s = s} {awaited = w} h f) =
-          omega (arith, one-fault n (x .commands) a (x .offset) m k s (x .awaiting) w (x .awaited) h f (x .met) (x .fault))
+          omega (arith, one-fault bs n (x .commands) a (x .offset) m k s (x .awaiting) w (x .awaited) h f (x .met) (x .fault))
+      none-below m l (row-6 w y) = omega (arith, fault-range (x .fault))
       none-below m l (row-7 n h y) = omega (arith, fault-range (x .fault))
       none-below m l (row-8 s y) = omega (arith, fault-range (x .fault))
       none-below m l (row-9 s y) = omega (arith, fault-range (x .fault))
       none-below m l (row-10 s y) = omega (arith, fault-range (x .fault))
 
-  given-7 : Sized → (n a : ℕ) → walk n bs ≡ some (at a []) → a < length bs → Given 7
-  given-7 z n a h i = (row-7 n h i, none-below)
+  -- the declarations make the nesting of signals exceed six
+  abbrev Crowded : Statement → Type 0
+  Crowded p = maxSignals < nesting (program readBack p)
+
+  given-6 : Sized → (p : Statement) (m n a : ℕ) → read maxDepth maxSignals 0 bs ≡ accepted p m → walk n bs ≡ some (at a []) → Crowded p → Given 6
+  given-6 z p j n a e h c = (row-6 (reader-writer maxDepth maxSignals 0 bs p j .0 e) c, none-below)
     where
-      none-below : (m : ℕ) → m < 7 → ¬ Row bs m
+      none-below : (m : ℕ) → m < 6 → ¬ Row bs readBack m
       none-below m l (row-2 y) = not-2 z y
-      none-below m l (row-3-to-6 k {a = b} {s = s} {awaited = w} j f) = fault-or-end k n b a m s w j f h
-      none-below m l (row-7 k j y) = omega arith
+      none-below m l (row-3-to-6 k {a = b} {s = s} {awaited = w} i f) = fault-or-end bs k n b a m s w i f h
+      none-below m l (row-6 w y) = omega arith
+      none-below m l (row-7 k i y) = omega arith
+      none-below m l (row-8 s y) = omega arith
+      none-below m l (row-9 s y) = omega arith
+      none-below m l (row-10 s y) = omega arith
+
+  given-7 : Sized → (p : Statement) (j n a : ℕ) → read maxDepth maxSignals 0 bs ≡ accepted p j → ¬ Crowded p
+      → walk n bs ≡ some (at a []) → a < length bs → Given 7
+  given-7 z p j n a e c h i = (row-7 n h i, none-below)
+    where
+      none-below : (m : ℕ) → m < 7 → ¬ Row bs readBack m
+      none-below m l (row-2 y) = not-2 z y
+      none-below m l (row-3-to-6 k {a = b} {s = s} {awaited = w} g f) = fault-or-end bs k n b a m s w g f h
+      none-below m l (row-6 {p = q} w y) = c (subst Crowded (one-statement bs p q j _ e w) y)
+      none-below m l (row-7 k g y) = omega arith
       none-below m l (row-8 s y) = omega arith
       none-below m l (row-9 s y) = omega arith
       none-below m l (row-10 s y) = omega arith
 
   -- ---- the bytes are one statement
-  module _ (z : Sized) (p : Statement) (n : ℕ) (h : walk n bs ≡ some (at (length bs) [])) (spelled : Spells bs p) where
+  module _ (z : Sized) (p : Statement) (n : ℕ) (h : walk n bs ≡ some (at (length bs) [])) (spelled : Spells bs p)
+      (clear : ¬ Crowded p) where
     same-statement : (q : Statement) → Spells bs q → p ≡ q
     same-statement q s =
         let e : accepted p (length bs) ≡ accepted q (length bs) =
@@ -169,11 +199,13 @@ module _ (bs : List ℕ) where
         cc
 
     -- no row up to 7 holds, and the label rows speak of p
-    remaining : (m : ℕ) → Row bs m
+    remaining : (m : ℕ) → Row bs readBack m
         → ((m ≡ 8) × ¬ Distinct p) ⊎ (((m ≡ 9) × ¬ Targeted p) ⊎ ((m ≡ 10) × ¬ WellFormed p))
     remaining m (row-2 y) = absurd (not-2 z y)
-    remaining m (row-3-to-6 k {a = b} {s = s} {awaited = w} j f) = absurd (fault-or-end k n b (length bs) m s w j f h)
-    remaining m (row-7 k {a = a} j y) = absurd (omega (arith, one-end k n a (length bs) j h))
+    remaining m (row-3-to-6 k {a = b} {s = s} {awaited = w} j f) = absurd (fault-or-end bs k n b (length bs) m s w j f h)
+    remaining m (row-6 {p = q} w y) =
+        absurd (clear (subst Crowded (one-statement bs p q (length bs) _ (reads-what-is-written bs p .1 spelled) w) y))
+    remaining m (row-7 k {a = a} j y) = absurd (omega (arith, one-end bs k n a (length bs) j h))
     remaining m (row-8 {p = q} s y) = inl (refl, λ d. y (subst Distinct (same-statement q s) d))
     remaining m (row-9 {p = q} s y) = inr (inl (refl, λ d. y (subst Targeted (same-statement q s) d)))
     remaining m (row-10 {p = q} s y) = inr (inr (refl, λ d. y (subst WellFormed (same-statement q s) d)))
@@ -202,7 +234,7 @@ module _ (bs : List ℕ) where
         go m l (inr (inl e)) = e .1 t
         go m l (inr (inr e)) = omega arith
 
-    given-none : Distinct p → Targeted p → WellFormed p → (m : ℕ) → ¬ Row bs m
+    given-none : Distinct p → Targeted p → WellFormed p → (m : ℕ) → ¬ Row bs readBack m
     given-none d t f m r = go (remaining m r)
       where
         go : ((m ≡ 8) × ¬ Distinct p) ⊎ (((m ≡ 9) × ¬ Targeted p) ⊎ ((m ≡ 10) × ¬ WellFormed p)) → ⊥
@@ -213,65 +245,71 @@ module _ (bs : List ℕ) where
   -- ---- the check decides by the rows
   abbrev pub Decides : Checked → Type 0
   Decides (bad number) = Given number
-  Decides (sound p) = ((m : ℕ) → ¬ Row bs m) × Spells bs p × Distinct p × Targeted p × WellFormed p
+  Decides (sound p) = ((m : ℕ) → ¬ Row bs readBack m) × Spells bs p × Distinct p × Targeted p × WellFormed p
 
-  labels-decide : Sized → (p : Statement) (n : ℕ) → walk n bs ≡ some (at (length bs) []) → Spells bs p → Decides (labelRules p)
-  labels-decide z p n h s = go-8 (distinct p) refl
+  labels-decide : Sized → (p : Statement) (n : ℕ) → walk n bs ≡ some (at (length bs) []) → Spells bs p → ¬ Crowded p → Decides (labelRules p)
+  labels-decide z p n h s c = go-8 (distinct p) refl
     where
       go-10 : Distinct p → Targeted p → (b : Bool) → wellFormed p ≡ b → Decides (cond b (sound p) (bad 10))
       go-10 d t true e =
           let f = wellFormed-is p d .0 e in
-          (given-none z p n h s d t f, s, d, t, f)
-      go-10 d t false e = given-10 z p n h s d t (λ f. true≢false (sym (wellFormed-is p d .1 f) ∙ e))
+          (given-none z p n h s c d t f, s, d, t, f)
+      go-10 d t false e = given-10 z p n h s c d t (λ f. true≢false (sym (wellFormed-is p d .1 f) ∙ e))
 
       go-9 : Distinct p → (b : Bool) → targeted p ≡ b → Decides (cond b (cond (wellFormed p) (sound p) (bad 10)) (bad 9))
       go-9 d true e = go-10 d (targeted-is p .0 e) (wellFormed p) refl
-      go-9 d false e = given-9 z p n h s d (λ t. true≢false (sym (targeted-is p .1 t) ∙ e))
+      go-9 d false e = given-9 z p n h s c d (λ t. true≢false (sym (targeted-is p .1 t) ∙ e))
 
       go-8 : (b : Bool) → distinct p ≡ b
           → Decides (cond b (cond (targeted p) (cond (wellFormed p) (sound p) (bad 10)) (bad 9)) (bad 8))
       go-8 true e = go-9 (distinct-is p .0 e) (targeted p) refl
-      go-8 false e = given-8 z p n h s (λ d. true≢false (sym (distinct-is p .1 d) ∙ e))
+      go-8 false e = given-8 z p n h s c (λ d. true≢false (sym (distinct-is p .1 d) ∙ e))
 
-  read-decides : Sized → (r : Read) → read maxDepth maxSignals 0 bs ≡ r → Comes bs 0 [] r → Decides (afterRead (length bs) r)
+  read-decides : Sized → (r : Read) → read maxDepth maxSignals 0 bs ≡ r → Comes bs 0 [] r → Decides (afterRead readBack (length bs) r)
   read-decides z (refused k) e x = given-fault z k x
-  read-decides z (accepted p m) e x = go (ltb m (length bs)) refl
+  read-decides z (accepted p m) e x = crowds (ltb maxSignals (nesting (program readBack p))) refl
     where
-      exact : (m ≡ length bs) → Decides (labelRules p)
-      exact i =
+      exact : (m ≡ length bs) → ¬ Crowded p → Decides (labelRules p)
+      exact i c =
           labels-decide z p (x .0) (x .1 ∙ ap (λ (k : ℕ). some (at k [])) (let j : 0 + m ≡ length bs = omega arith in j))
-          (reads-what-is-written bs p .0 (e ∙ ap (accepted p) i))
+          (reads-what-is-written bs p .0 (e ∙ ap (accepted p) i)) c
 
-      go : (b : Bool) → ltb m (length bs) ≡ b → Decides (cond b (bad 7) (labelRules p))
-      go true i = given-7 z (x .0) (0 + m) (x .1) (omega (arith, ltb-true m (length bs) i))
-      go false i =
-          exact (omega (arith, ltb-false m (length bs) i, count-within maxDepth maxSignals 0 bs p m e))
+      go : ¬ Crowded p → (b : Bool) → ltb m (length bs) ≡ b → Decides (cond b (bad 7) (labelRules p))
+      go c true i = given-7 z p m (x .0) (0 + m) e c (x .1) (omega (arith, ltb-true m (length bs) i))
+      go c false i =
+          exact (omega (arith, ltb-false m (length bs) i, count-within maxDepth maxSignals 0 bs p m e)) c
 
-  pub decided : Decides (checked bs)
+      crowds : (b : Bool) → ltb maxSignals (nesting (program readBack p)) ≡ b
+          → Decides (cond b (bad 6) (cond (ltb m (length bs)) (bad 7) (labelRules p)))
+      crowds true i = given-6 z p m (x .0) (0 + m) e (x .1) (ltb-true maxSignals (nesting (program readBack p)) i)
+      crowds false i = go (λ c. omega (arith, ltb-false maxSignals (nesting (program readBack p)) i)) (ltb m (length bs)) refl
+
+  pub decided : Decides (checked bs readBack)
   unfolding checked walk
   decided = go (leb 1 (length bs)) (leb (length bs) maxBytes) refl refl
     where
       go : (b c : Bool) → leb 1 (length bs) ≡ b → leb (length bs) maxBytes ≡ c
-          → Decides (cond (b && c) (afterRead (length bs) (read maxDepth maxSignals 0 bs)) (bad 2))
+          → Decides (cond (b && c) (afterRead readBack (length bs) (read maxDepth maxSignals 0 bs)) (bad 2))
       go true true i j =
           read-decides (leb-true 1 (length bs) i, leb-true (length bs) maxBytes j) (read maxDepth maxSignals 0 bs) refl
           (comes bs maxDepth 0 maxSignals 0 0 0 [] refl refl refl)
       go true false i j = given-2 (λ z. true≢false (sym (le-leb (length bs) maxBytes (z .1)) ∙ j))
       go false c i j = given-2 (λ z. true≢false (sym (le-leb 1 (length bs) (z .0)) ∙ i))
 
-  pub row-range : (k : ℕ) → Row bs k → (2 ≤ k) × (k ≤ 10)
+  pub row-range : (k : ℕ) → Row bs readBack k → (2 ≤ k) × (k ≤ 10)
   row-range k (row-2 x) = omega arith
   row-range k (row-3-to-6 n h f) = omega (arith, fault-range f)
+  row-range k (row-6 w x) = omega arith
   row-range k (row-7 n h x) = omega arith
   row-range k (row-8 s x) = omega arith
   row-range k (row-9 s x) = omega arith
   row-range k (row-10 s x) = omega arith
 
   -- CHECK: the number goes by rows 2 to 10
-  pub check-by-rows : ByRows (checkOf bs) (Row bs)
+  pub check-by-rows : ByRows (checkOf bs readBack) (Row bs readBack)
   unfolding checkOf
-  check-by-rows = go (checked bs) decided
+  check-by-rows = go (checked bs readBack) decided
     where
-      go : (c : Checked) → Decides c → ByRows (numberOf c) (Row bs)
-      go (bad k) d = refused-by k (Row bs) (λ r. omega (arith, row-range 0 r)) (d .0) (d .1)
-      go (sound p) d = accepted-by (Row bs) (d .0)
+      go : (c : Checked) → Decides c → ByRows (numberOf c) (Row bs readBack)
+      go (bad k) d = refused-by k (Row bs readBack) (λ r. omega (arith, row-range 0 r)) (d .0) (d .1)
+      go (sound p) d = accepted-by (Row bs readBack) (d .0)

@@ -5,7 +5,7 @@ use mathlib.Core.List.{List, [], _∷_, _++_}
 use Prim.Native.Nat.{ℕ, _+_, _<_, max}
 use native.Mathlib.Omega.{arith}
 use lib.ListN.{length}
-use Rattle.esterel.specs.Statement.{Statement, seq, par, loop, present, signal, try, suspend}
+use Rattle.esterel.specs.Statement.{local, Statement, seq, par, loop, present, signal, try, suspend}
 use Rattle.limits.specs.Limits.{signalCount}
 use Rattle.sequence.specs.Reader.{nesting}
 use Rattle.sequence.specs.Writer.{bytesOf, size, depthOf, Ranged, PlacedAt}
@@ -34,10 +34,10 @@ unfolding bytesOf depthOf nesting
 try-shape a =
     record { bytes = λ p. refl; depth = λ p. refl; signals = λ p. omega arith; ranged = λ p. (λ r. r, λ r. r); placed = λ p. (λ s. s, λ s. s) }
 
-pub signal-shape : (a x : ℕ) → x < signalCount → OnePart (8 ∷ x ∷ []) a 1 (signal a x)
+pub signal-shape : (a x : ℕ) → x < signalCount → OnePart (8 ∷ x ∷ []) a 1 (signal local a x)
 unfolding bytesOf depthOf nesting
 signal-shape a x i =
-    record { bytes = λ p. refl; depth = λ p. refl; signals = λ p. refl; ranged = λ p. (λ r. (i, r), λ r. r .1); placed = λ p. (λ s. (refl, s), λ s. s .1) }
+    record { bytes = λ p. refl; depth = λ p. refl; signals = λ p. refl; ranged = λ p. (λ r. (refl, i, r), λ r. r .2); placed = λ p. (λ s. (refl, s), λ s. s .1) }
 
 pub suspend-shape : (a x : ℕ) → x < signalCount → OnePart (11 ∷ x ∷ []) a 0 (suspend x)
 unfolding bytesOf depthOf nesting

@@ -8,7 +8,7 @@ use lib.ListN.{length, getD, drop, length-append}
 use lib.Seq.{drop-at, drop-drop}
 use lib.Dec.{leb}
 use borrow.Author.Tests.{ltb-true, leb-true}
-use Rattle.esterel.specs.Statement.{Statement, nothing, pause, emit, exit, seq, par, loop, present, signal, try, setpause, suspend}
+use Rattle.esterel.specs.Statement.{local, Statement, nothing, pause, emit, exit, seq, par, loop, present, signal, try, setpause, suspend}
 use Rattle.limits.specs.Limits.{labelCount, signalCount, maxExit}
 use Rattle.sequence.specs.Commands.{Command, partCount, operandsOf, inRange, width, declares, build}
 use Rattle.sequence.specs.Reader.{accepted, read, nesting}
@@ -107,7 +107,7 @@ module _ (d g a : ℕ) (bs : List ℕ) where
   sound-one =
       ones OneSound
       (λ s l. one-sound d g a (6 ∷ []) bs (s .1) 0 (loop a) (loop-shape a) l)
-      (λ s l. one-sound d g a (8 ∷ x ∷ []) bs (s .1) 1 (signal a x) (signal-shape a x (ltb-true x signalCount (s .0))) l)
+      (λ s l. one-sound d g a (8 ∷ x ∷ []) bs (s .1) 1 (signal local a x) (signal-shape a x (ltb-true x signalCount (s .0))) l)
       (λ s l. one-sound d g a (9 ∷ []) bs (s .1) 0 try (try-shape a) l)
       (λ s l. one-sound d g a (11 ∷ x ∷ []) bs (s .1) 0 (suspend x) (suspend-shape a x (ltb-true x signalCount (s .0))) l)
 

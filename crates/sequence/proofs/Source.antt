@@ -15,7 +15,7 @@ ranged-part par₂ r = r .1
 ranged-part loop₁ r = r
 ranged-part present₁ r = r .1
 ranged-part present₂ r = r .2
-ranged-part signal₁ r = r .1
+ranged-part signal₁ r = r .2
 ranged-part try₁ r = r
 ranged-part suspend₁ r = r .1
 

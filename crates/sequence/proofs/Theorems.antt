@@ -15,8 +15,8 @@ use Rattle.sequence.proofs.Writer as writer
 use Rattle.sequence.proofs.Rows as rows
 use Rattle.sequence.proofs.Source as source
 
--- 0 if no row of 'Turned down' holds, else the smallest number whose row does
-pub check-by-rows : (bs : List ℕ) → ByRows (checkOf bs) (Row bs)
+-- 0 if no row of 'Turned down' holds, else the smallest number whose row does, for every read-back set
+pub check-by-rows : (bs : List ℕ) (readBack : ℕ) → ByRows (checkOf bs readBack) (Row bs readBack)
 check-by-rows = rows.check-by-rows
 
 -- the reader accepts all bytes as p exactly if p is within the limits and they are its bytes

@@ -5,7 +5,7 @@ use mathlib.Core.Option.{Option, none, some}
 use mathlib.Core.List.{List, [], _∷_}
 use lib.ListN.{getD}
 use lib.Dec.{leb, ltb}
-use Rattle.esterel.specs.Statement.{Statement}
+use Rattle.esterel.specs.Statement.{local, Statement}
 use Rattle.limits.specs.Limits.{labelCount, signalCount, maxExit}
 
 pub data Command : Type 0 where
@@ -118,7 +118,7 @@ build seq a xs p q = Statement.seq p q
 build par a xs p q = Statement.par p q
 build loop a xs p q = Statement.loop a p
 build present a xs p q = Statement.present (firstOperand xs) p q
-build signal a xs p q = Statement.signal a (firstOperand xs) p
+build signal a xs p q = Statement.signal local a (firstOperand xs) p
 build try a xs p q = Statement.try p
 build setpause a xs p q = Statement.setpause (firstOperand xs)
 build suspend a xs p q = Statement.suspend (firstOperand xs) p

@@ -1,5 +1,6 @@
 pub mod Commands
 pub mod Reader
 pub mod Writer
+pub mod Program
 pub mod Check
 pub mod Rows

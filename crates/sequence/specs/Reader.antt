@@ -74,9 +74,9 @@ unfoldable pub read : (depth signals a : ℕ) → List ℕ → Read
 read zero signals a bs = tooDeep (front bs)
 read (suc depth) signals a bs = readCommand (read depth) signals a bs (front bs)
 
--- the term of the whole program
-abbrev pub program : List ℕ → Read
-program bs = read maxDepth maxSignals 0 bs
+-- the statement at the front of a whole sequence
+abbrev pub readAll : List ℕ → Read
+readAll bs = read maxDepth maxSignals 0 bs
 
 -- the greatest number of signal commands around a command of the statement
 unfoldable pub nesting : Statement → ℕ
@@ -88,7 +88,7 @@ nesting (Statement.seq p q) = max (nesting p) (nesting q)
 nesting (Statement.par p q) = max (nesting p) (nesting q)
 nesting (Statement.loop a p) = nesting p
 nesting (Statement.present s p q) = max (nesting p) (nesting q)
-nesting (Statement.signal a s p) = 1 + nesting p
+nesting (Statement.signal sc a s p) = 1 + nesting p
 nesting (Statement.try p) = nesting p
 nesting (Statement.setpause l) = 0
 nesting (Statement.suspend s p) = nesting p

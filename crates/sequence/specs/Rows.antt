@@ -11,8 +11,9 @@ use Rattle.esterel.specs.Statement.{Statement}
 use Rattle.esterel.specs.States.{Distinct, Targeted, WellFormed}
 use Rattle.limits.specs.Limits.{lastCommand, maxBytes, maxDepth, maxSignals}
 use Rattle.sequence.specs.Commands.{Command, commandOf, operandCount, operandsOf, partCount, inRange, width, declares}
-use Rattle.sequence.specs.Reader.{Front, command, bad, front}
-use Rattle.sequence.specs.Writer.{bytesOf, Within, PlacedAt}
+use Rattle.sequence.specs.Reader.{Front, command, bad, front, nesting}
+use Rattle.sequence.specs.Program.{program}
+use Rattle.sequence.specs.Writer.{bytesOf, Within, PlacedAt, Written}
 
 -- a statement that is awaited, inside so many commands, so many of them signal commands
 pub data Slot : Type 0 where
@@ -60,18 +61,22 @@ walk (suc n) bs = next bs (walk n bs)
 abbrev pub Spells : List ℕ → Statement → Type 0
 Spells bs p = (bs ≡ bytesOf p) × Within maxDepth maxSignals p × PlacedAt 0 p
 
-pub data Row (bs : List ℕ) : (number : ℕ) → Type 0 where
+-- of a sequence with a read-back set
+pub data Row (bs : List ℕ) (readBack : ℕ) : (number : ℕ) → Type 0 where
   -- no bytes or over 1,024
-  row-2 : (length bs ≡ 0) ⊎ (maxBytes < length bs) → Row bs 2
+  row-2 : (length bs ≡ 0) ⊎ (maxBytes < length bs) → Row bs readBack 2
   -- rows 3 to 6 at the first command that is not sound
   row-3-to-6 : (n : ℕ) {a number : ℕ} {s : Slot} {awaited : List Slot} → walk n bs ≡ some (at a (s ∷ awaited))
-      → Fault (drop a bs) s number → Row bs number
+      → Fault (drop a bs) s number → Row bs readBack number
+  -- 02, item 5: the bytes begin with a whole statement, and the declarations make the nesting of signals exceed six
+  row-6 : {p : Statement} {n : ℕ} → Written maxDepth maxSignals 0 bs p n → maxSignals < nesting (program readBack p)
+      → Row bs readBack 6
   -- bytes after the statement
-  row-7 : (n : ℕ) {a : ℕ} → walk n bs ≡ some (at a []) → a < length bs → Row bs 7
+  row-7 : (n : ℕ) {a : ℕ} → walk n bs ≡ some (at a []) → a < length bs → Row bs readBack 7
   -- two pauses with one label; a setpause whose label has no pause; not well-formed
-  row-8 : {p : Statement} → Spells bs p → ¬ Distinct p → Row bs 8
-  row-9 : {p : Statement} → Spells bs p → ¬ Targeted p → Row bs 9
-  row-10 : {p : Statement} → Spells bs p → ¬ WellFormed p → Row bs 10
+  row-8 : {p : Statement} → Spells bs p → ¬ Distinct p → Row bs readBack 8
+  row-9 : {p : Statement} → Spells bs p → ¬ Targeted p → Row bs readBack 9
+  row-10 : {p : Statement} → Spells bs p → ¬ WellFormed p → Row bs readBack 10
 
 -- A number goes by rows: n is given exactly if row n holds and no row of a smaller number does, 0 exactly if none holds.
 pub record ByRows (n : ℕ) (Holds : ℕ → Type 0) : Type 0 where

@@ -3,7 +3,7 @@ use Prim.Native.Nat.{ℕ, _+_, _≤_, _<_, max}
 use mathlib.Core.Path.{_≡_}
 use mathlib.Core.List.{List, [], _∷_, _++_}
 use lib.ListN.{length}
-use Rattle.esterel.specs.Statement.{Statement, nothing, pause, emit, exit, seq, par, loop, present, signal, try, setpause, suspend, held}
+use Rattle.esterel.specs.Statement.{local, Statement, nothing, pause, emit, exit, seq, par, loop, present, signal, try, setpause, suspend, held}
 use Rattle.limits.specs.Limits.{labelCount, signalCount, maxExit}
 use Rattle.sequence.specs.Reader.{nesting}
 
@@ -17,7 +17,7 @@ bytesOf (seq p q) = 4 ∷ bytesOf p ++ bytesOf q
 bytesOf (par p q) = 5 ∷ bytesOf p ++ bytesOf q
 bytesOf (loop a p) = 6 ∷ bytesOf p
 bytesOf (present s p q) = 7 ∷ s ∷ bytesOf p ++ bytesOf q
-bytesOf (signal a s p) = 8 ∷ s ∷ bytesOf p
+bytesOf (signal sc a s p) = 8 ∷ s ∷ bytesOf p
 bytesOf (try p) = 9 ∷ bytesOf p
 bytesOf (setpause l) = 10 ∷ l ∷ []
 bytesOf (suspend s p) = 11 ∷ s ∷ bytesOf p
@@ -37,13 +37,13 @@ depthOf (seq p q) = 1 + max (depthOf p) (depthOf q)
 depthOf (par p q) = 1 + max (depthOf p) (depthOf q)
 depthOf (loop a p) = 1 + depthOf p
 depthOf (present s p q) = 1 + max (depthOf p) (depthOf q)
-depthOf (signal a s p) = 1 + depthOf p
+depthOf (signal sc a s p) = 1 + depthOf p
 depthOf (try p) = 1 + depthOf p
 depthOf (setpause l) = 1
 depthOf (suspend s p) = 1 + depthOf p
 depthOf (held s K p) = 1
 
--- signals are 0 to 31, labels 0 to 63, exits 1 to 15; no held suspend
+-- signals are 0 to 31, labels 0 to 63, exits 1 to 15; no held suspend, and no signal that is reported
 abbrev pub Ranged : Statement → Type 0
 Ranged nothing = Unit {0}
 Ranged (pause l) = l < labelCount
@@ -53,7 +53,7 @@ Ranged (seq p q) = Ranged p × Ranged q
 Ranged (par p q) = Ranged p × Ranged q
 Ranged (loop a p) = Ranged p
 Ranged (present s p q) = (s < signalCount) × Ranged p × Ranged q
-Ranged (signal a s p) = (s < signalCount) × Ranged p
+Ranged (signal sc a s p) = (sc ≡ local) × (s < signalCount) × Ranged p
 Ranged (try p) = Ranged p
 Ranged (setpause l) = l < labelCount
 Ranged (suspend s p) = (s < signalCount) × Ranged p
@@ -74,7 +74,7 @@ PlacedAt a (seq p q) = PlacedAt (a + 1) p × PlacedAt (a + (1 + size p)) q
 PlacedAt a (par p q) = PlacedAt (a + 1) p × PlacedAt (a + (1 + size p)) q
 PlacedAt a (loop b p) = (b ≡ a) × PlacedAt (a + 1) p
 PlacedAt a (present s p q) = PlacedAt (a + 2) p × PlacedAt (a + (2 + size p)) q
-PlacedAt a (signal b s p) = (b ≡ a) × PlacedAt (a + 2) p
+PlacedAt a (signal sc b s p) = (b ≡ a) × PlacedAt (a + 2) p
 PlacedAt a (try p) = PlacedAt (a + 1) p
 PlacedAt a (setpause l) = Unit {0}
 PlacedAt a (suspend s p) = PlacedAt (a + 2) p

@@ -1,0 +1,14 @@
+-- The program of a host (02, item 5): the statement of its sequence under the read-back declarations.
+use Prim.Native.Nat.{ℕ}
+use mathlib.Core.List.{List}
+use Rattle.esterel.specs.Statement.{Statement}
+use Rattle.esterel.specs.ReadBack.{membersFrom, declared}
+use Rattle.limits.specs.Limits.{signalCount, readBackPlace}
+
+-- the signals of a read-back set, lowest first
+abbrev pub readBackSignals : (readBack : ℕ) → List ℕ
+readBackSignals readBack = membersFrom signalCount 0 readBack
+
+-- the term of the program; no declaration counts to depth or offsets, which are the sequence's
+abbrev pub program : (readBack : ℕ) → Statement → Statement
+program readBack p = declared readBackPlace (readBackSignals readBack) p
