@@ -1,6 +1,7 @@
 -- DEMAND 3: over any list of ticks from a cleared record, the ticks of an accepted sequence without setpause report what the
 -- paper machine reports.
-use Prim.Native.Nat.{ℕ}
+use Prim.Native.Nat.{ℕ, _^_}
+use native.Mathlib.Omega.{arith}
 use mathlib.Core.Path.{_≡_, refl, ap, ap₂, _∙_, subst}
 use mathlib.Core.Bool.{Bool, true, false, cond}
 use mathlib.Core.List.{List, [], _∷_, map}
@@ -13,8 +14,11 @@ use Rattle.esterel.specs.Reaction.{code, react, inheritanceFirst}
 use Rattle.esterel.specs.Errors.{firstError}
 use Rattle.esterel.specs.States.{NoSetpause}
 use Rattle.esterel.specs.Expansion.{expand}
-use Rattle.esterel.specs.Machines.{State, stateAfter, Rewriting, byRewriting}
+use Rattle.esterel.specs.Machines.{State, stateAfter, byLabels, Rewriting, byRewriting}
 use Rattle.esterel.proofs.Agreement.{TermOf, step}
+use Rattle.esterel.proofs.ReadBack.{noSetpause-declared}
+use Rattle.limits.specs.Limits.{placeBytes, readBackPlace}
+use Rattle.sequence.specs.Program.{readBackSignals, program}
 use Rattle.sequence.specs.Check.{checkOf}
 use Rattle.records.specs.Bytes.{leBytes}
 use Rattle.records.specs.Records.{answerLength, holds, encodeState, phaseIn}
@@ -23,21 +27,34 @@ use Rattle.demands.specs.Paper.{Call, Report, turnedDown, phaseOf, repor
 use Rattle.demands.specs.Demands.{stateAfterwards, outcomes, cleared, report, Demand3}
 use Rattle.records.proofs.RecordLaws.{Recorded, length-state, decode-encode}
 use Rattle.demands.proofs.Reports.{report-written}
-use Rattle.demands.proofs.Sequence.{same-statement, Accepted, accepted, tick-at, tick-short, recorded-fresh, recorded-resumed, emits-fresh, emits-resumed, names-fresh, names-resumed}
+use Rattle.demands.proofs.Bounds.{emitted-below}
+use Rattle.demands.proofs.ErrorPlaces.{place-fits}
+use Rattle.demands.proofs.Sequence.{same-statement, Accepted, accepted, tick-at, tick-short, term-source, term-distinct, recorded-fresh, recorded-resumed, bounded-fresh, bounded-resumed, places-fresh, places-resumed}
 
-module _ (sequence : List ℕ) (a : Accepted sequence) (plain : NoSetpause (a .statement)) where
+module _ (sequence : List ℕ) (readBack : ℕ) (a : Accepted sequence readBack) (plain : NoSetpause (a .statement)) where
   abbrev p : Statement
   p = a .statement
+
+  -- the term of the program
+  abbrev q : Statement
+  q = program readBack p
+
+  plain-term : NoSetpause q
+  plain-term = noSetpause-declared readBackPlace (readBackSignals readBack) p plain
+
+  same-step : (s : State) (w : Rewriting) → TermOf q s w → (e : ℕ)
+      → (byLabels q s e .0 ≡ byRewriting w e .0) × TermOf q (byLabels q s e .1) (byRewriting w e .1)
+  same-step = step q (term-source sequence readBack a) (term-distinct sequence readBack a) plain-term
 
   -- the record after a tick and the paper after it are related as before
   pub record Related (result : Outcome) (shown : Report × Rewriting) : Type 0 where
     pub state : State
     pub same : report result ≡ shown .0
     pub bytes : stateAfterwards result ≡ encodeState state
-    pub term : TermOf p state (shown .1)
+    pub term : TermOf q state (shown .1)
     pub recorded : Recorded p state
 
-  same-phase : (s : State) (w : Rewriting) → TermOf p s w → phaseIn (encodeState s) ≡ phaseOf w
+  same-phase : (s : State) (w : Rewriting) → TermOf q s w → phaseIn (encodeState s) ≡ phaseOf w
   unfolding encodeState
   same-phase State.fresh (Rewriting.fresh t) h = refl
   same-phase State.fresh (Rewriting.waits t) h = absurd h
@@ -50,35 +67,37 @@ module _ (sequence : List ℕ) (a : Accepted sequence) (plain : NoSetpause (a .s
   same-phase State.over Rewriting.over h = refl
 
   -- an answer buffer of another length: number 1, nothing changes
-  short-related : (s : State) (w : Rewriting) → TermOf p s w → Recorded p s → (buffer : List ℕ)
+  short-related : (s : State) (w : Rewriting) → TermOf q s w → Recorded p s → (buffer : List ℕ)
       → Related (outcome 1 (encodeState s) buffer) (turnedDown 1 (phaseOf w), w)
   short-related s w h r buffer =
       record { state = s; same = ap (turnedDown 1) (same-phase s w h); bytes = refl; term = h; recorded = r }
 
-  tick-related : (s : State) (w : Rewriting) → TermOf p s w → Recorded p s → (e : ℕ) (buffer : List ℕ)
-      → Related (byState inheritanceFirst p (holds s) (encodeState s) e buffer) (reportOf (byRewriting w e .0), byRewriting w e .1)
+  tick-related : (s : State) (w : Rewriting) → TermOf q s w → Recorded p s → (e : ℕ) (buffer : List ℕ)
+      → Related (byState inheritanceFirst q (holds s) (encodeState s) e buffer) (reportOf (byRewriting w e .0), byRewriting w e .1)
   tick-related State.fresh w h r e buffer =
-      let t = step p (a .source) (a .distinct) plain State.fresh w h e in
+      let t = same-step State.fresh w h e in
       record {
-        state = stateAfter (react p e);
-        same = report-written (react p e) (firstError p e) (emits-fresh sequence a e) (names-fresh sequence a e (code (react p e))) ∙ ap reportOf (t .0);
-        bytes = refl;
-        term = t .1;
-        recorded = recorded-fresh sequence a e;
-      }
-  tick-related (State.waits L) w h r e buffer =
-      let t = step p (a .source) (a .distinct) plain (State.waits L) w h e in
-      record {
-        state = stateAfter (react (expand p L) e);
-        same = report-written (react (expand p L) e) (firstError (expand p L) e) (emits-resumed sequence a L e)
-            (names-resumed sequence a L e (code (react (expand p L) e)))
+        state = stateAfter (react q e);
+        same = report-written (react q e) (firstError q e) (emitted-below q e (bounded-fresh sequence readBack a))
+            (place-fits (256 ^ placeBytes) q e (code (react q e)) (omega arith) (places-fresh sequence readBack a))
             ∙ ap reportOf (t .0);
         bytes = refl;
         term = t .1;
-        recorded = recorded-resumed sequence a L e (r .0);
+        recorded = recorded-fresh sequence readBack a e;
+      }
+  tick-related (State.waits L) w h r e buffer =
+      let t = same-step (State.waits L) w h e in
+      record {
+        state = stateAfter (react (expand q L) e);
+        same = report-written (react (expand q L) e) (firstError (expand q L) e) (emitted-below (expand q L) e (bounded-resumed sequence readBack a L))
+            (place-fits (256 ^ placeBytes) (expand q L) e (code (react (expand q L) e)) (omega arith) (places-resumed sequence readBack a L))
+            ∙ ap reportOf (t .0);
+        bytes = refl;
+        term = t .1;
+        recorded = recorded-resumed sequence readBack a L e (r .0);
       }
   tick-related State.over w h r e buffer =
-      let t = step p (a .source) (a .distinct) plain State.over w h e in
+      let t = same-step State.over w h e in
       record {
         state = State.over;
         same = over-report ∙ ap reportOf (t .0);
@@ -90,23 +109,23 @@ module _ (sequence : List ℕ) (a : Accepted sequence) (plain : NoSetpause (a .s
       over-report : turnedDown 12 (phaseIn (encodeState State.over)) ≡ turnedDown 12 2
       over-report = ap (turnedDown 12) (same-phase State.over Rewriting.over tt)
 
-  one-tick : (s : State) (w : Rewriting) → TermOf p s w → Recorded p s → (c : Call)
-      → Related (tickOf sequence (encodeState s) (c .input) (c .buffer)) (paperTick w (c .input) (length (c .buffer)))
+  one-tick : (s : State) (w : Rewriting) → TermOf q s w → Recorded p s → (c : Call)
+      → Related (tickOf sequence (encodeState s) (c .input) readBack (c .buffer)) (paperTick w (c .input) (length (c .buffer)))
   one-tick s w h r c = go (eqb (length (c .buffer)) answerLength) refl
     where
       go : (b : Bool) → eqb (length (c .buffer)) answerLength ≡ b
-          → Related (tickOf sequence (encodeState s) (c .input) (c .buffer))
+          → Related (tickOf sequence (encodeState s) (c .input) readBack (c .buffer))
           (cond b (reportOf (byRewriting w (c .input) .0), byRewriting w (c .input) .1) (turnedDown 1 (phaseOf w), w))
       go true i =
-          rw (tick-at inheritanceFirst sequence (encodeState s) (c .input) (c .buffer) p (holds s) (a .is-checked) (length-state s)
+          rw (tick-at inheritanceFirst sequence (encodeState s) (c .input) readBack (c .buffer) p (holds s) (a .is-checked) (length-state s)
           (eqb-true (length (c .buffer)) answerLength i) (decode-encode p s r))
           (tick-related s w h r (c .input) (c .buffer))
       go false i =
-          rw (tick-short sequence (encodeState s) (c .input) (c .buffer) (eqb-false (length (c .buffer)) answerLength i))
+          rw (tick-short sequence (encodeState s) (c .input) readBack (c .buffer) (eqb-false (length (c .buffer)) answerLength i))
           (short-related s w h r (c .buffer))
 
-  pub all-ticks : (calls : List Call) (s : State) (w : Rewriting) → TermOf p s w → Recorded p s
-      → map report (outcomes tickOf sequence (encodeState s) calls) ≡ paper w calls
+  pub all-ticks : (calls : List Call) (s : State) (w : Rewriting) → TermOf q s w → Recorded p s
+      → map report (outcomes tickOf sequence readBack (encodeState s) calls) ≡ paper w calls
   unfolding outcomes paper
   all-ticks [] s w h r = refl
   all-ticks (c ∷ calls) s w h r =
@@ -120,8 +139,8 @@ cleared-fresh = refl
 
 -- DEMAND 3
 pub demand-3 : Demand3 checkOf tickOf
-demand-3 sequence h p s plain calls =
-    let a = accepted sequence h in
+demand-3 sequence readBack h p s plain calls =
+    let a = accepted sequence readBack h in
     let same : p ≡ a .statement = same-statement sequence p (a .statement) s (a .spelled) in
     rw (cleared-fresh, same)
-    (all-ticks sequence a (subst NoSetpause same plain) calls State.fresh (Rewriting.fresh (a .statement)) refl tt)
+    (all-ticks sequence readBack a (subst NoSetpause same plain) calls State.fresh (Rewriting.fresh (program readBack (a .statement))) refl tt)

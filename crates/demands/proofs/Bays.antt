@@ -1,6 +1,6 @@
 -- The starred bays, by computation; those that show the same in each instant also by induction over the instants.
 use Prim.Native.Nat.{ℕ, zero, suc}
-use mathlib.Core.Path.{_≡_, refl, sym, ap, subst}
+use mathlib.Core.Path.{_≡_, refl, sym, ap, _∙_, subst}
 use mathlib.Core.Logic.{⊎-elim}
 use mathlib.Core.List.{List, [], _∷_, map, List·Memᴰ, List·Memᴰ·not-nil, List·Memᴰ·cases-cons}
 use lib.ListN.{length, replicate}
@@ -12,13 +12,14 @@ use Rattle.esterel.specs.States.{active}
 use Rattle.esterel.specs.Expansion.{expand}
 use Rattle.sequence.specs.Commands.{commandOf}
 use Rattle.sequence.specs.Reader.{front, read}
-use Rattle.sequence.specs.Check.{checked}
 use Rattle.records.specs.Bytes.{leBytes, leNumber}
 use Rattle.records.specs.Records.{answerLength, encodeState, decodeState, encodeAnswer}
-use Rattle.demands.specs.Tick.{Outcome, outcome, tickBy, tickOf}
+use Rattle.demands.specs.Tick.{Outcome, outcome, tickOf}
+use Rattle.demands.specs.Plain.{plainChecked, plainTick}
 use Rattle.demands.specs.Paper.{Call}
 use Rattle.demands.specs.Demands.{stateAfterwards, outcomes, cleared}
 use Rattle.demands.specs.Bays.{Bay, Instant, table, shownBy, instants, ShowsBay}
+use Rattle.demands.proofs.ReadBack.{plain-tick}
 
 -- ---- in each instant
 -- after code 1 with label 0
@@ -26,13 +27,13 @@ abbrev waiting : Outcome
 waiting = outcome 0 (1 ∷ 1 ∷ replicate 7 0) (1 ∷ replicate 7 0)
 
 -- a tick that gives the same from a cleared record and from its own result shows it in each instant
-module _ (bytes buffer : List ℕ) (o : Outcome) (first : tickOf bytes cleared 0 buffer ≡ o)
-    (again : tickOf bytes (stateAfterwards o) 0 buffer ≡ o) where
+module _ (bytes buffer : List ℕ) (o : Outcome) (first : tickOf bytes cleared 0 none buffer ≡ o)
+    (again : tickOf bytes (stateAfterwards o) 0 none buffer ≡ o) where
   abbrev c : Call
   c = record { input = 0; buffer = buffer }
 
-  then-on : (n : ℕ) (state : List ℕ) → tickOf bytes state 0 buffer ≡ o
-      → map shownBy (outcomes tickOf bytes state (replicate n c)) ≡ replicate n (shownBy o)
+  then-on : (n : ℕ) (state : List ℕ) → tickOf bytes state 0 none buffer ≡ o
+      → map shownBy (outcomes tickOf bytes none state (replicate n c)) ≡ replicate n (shownBy o)
   unfolding outcomes
   then-on zero state e = refl
   then-on (suc n) state e = rw e (ap (λ (is : List Instant). shownBy o ∷ is) (then-on n (stateAfterwards o) again))
@@ -51,10 +52,21 @@ row-of (a ∷ bs) buffer h b m =
     ⊎-elim (λ e. subst (λ (x : Bay). ShowsBay tickOf x buffer) (sym e) (h .0)) (λ t. row-of bs buffer (h .1) b t)
     (List·Memᴰ·cases-cons m)
 
+-- no signal is read back: the plain tick shows it
+once-shows : (bytes buffer : List ℕ) (shown : Instant) → shownBy (plainTick bytes cleared 0 buffer) ≡ shown
+    → instants tickOf bytes buffer 1 ≡ shown ∷ []
+unfolding outcomes
+once-shows bytes buffer shown h = ap (λ (o : Outcome). shownBy o ∷ []) (plain-tick bytes cleared 0 buffer) ∙ ap (λ (i : Instant). i ∷ []) h
+
+for-ever-plain : (bytes buffer : List ℕ) (o : Outcome) → plainTick bytes cleared 0 buffer ≡ o
+    → plainTick bytes (stateAfterwards o) 0 buffer ≡ o → (n : ℕ) → instants tickOf bytes buffer n ≡ replicate n (shownBy o)
+for-ever-plain bytes buffer o h g =
+    for-ever bytes buffer o (plain-tick bytes cleared 0 buffer ∙ h) (plain-tick bytes (stateAfterwards o) 0 buffer ∙ g)
+
 module _ (buffer : List ℕ) (sized : length buffer ≡ answerLength) where
   all-rows : EachShows table buffer
-  unfolding table outcomes tickBy checked read front commandOf distinct wellFormed everyLabel before labelsOf valid subset disjoint active expand decodeState encodeState encodeAnswer leNumber leBytes reactBy errorsBy member none only join insert remove
-  all-rows = (rw sized, (rw sized, (rw sized, (rw sized, (rw sized, (for-ever _ buffer waiting (rw sized) (rw sized), (rw sized, (rw sized, (rw sized, (rw sized, (for-ever _ buffer waiting (rw sized) (rw sized), tt)))))))))))
+  unfolding table plainTick plainChecked read front commandOf distinct wellFormed everyLabel before labelsOf valid subset disjoint active expand decodeState encodeState encodeAnswer leNumber leBytes reactBy errorsBy member none only join insert remove
+  all-rows = (once-shows _ buffer _ (rw sized), (once-shows _ buffer _ (rw sized), (once-shows _ buffer _ (rw sized), (once-shows _ buffer _ (rw sized), (once-shows _ buffer _ (rw sized), (for-ever-plain _ buffer waiting (rw sized) (rw sized), (once-shows _ buffer _ (rw sized), (once-shows _ buffer _ (rw sized), (once-shows _ buffer _ (rw sized), (once-shows _ buffer _ (rw sized), (for-ever-plain _ buffer waiting (rw sized) (rw sized), tt)))))))))))
 
 -- THE STARRED BAYS: each row of the table, for any answer buffer of the right length
 pub starred : (b : Bay) → List·Memᴰ b table → (buffer : List ℕ) → length buffer ≡ answerLength → ShowsBay tickOf b buffer

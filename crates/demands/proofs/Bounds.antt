@@ -2,13 +2,14 @@
 use Prim.Native.Nat.{ℕ, zero, suc, _-_, _/_, _^_, _<_, _≤_}
 use native.Mathlib.Nat.{pow-suc}
 use native.Mathlib.Omega.{arith}
+use mathlib.Core.List.{List, [], _∷_}
 use mathlib.Core.Path.{_≡_, refl, sym, _∙_, subst}
 use mathlib.Core.Logic.{⊎-elim}
 use mathlib.Core.Bool.{Bool, true, false, not, _&&_, cond, false≢true}
 use lib.Dec.{eqb}
 use borrow.Author.Tests.{eqb-true}
 use Rattle.esterel.specs.Sets.{member, none, only, join, insert, remove}
-use Rattle.esterel.specs.Statement.{Statement, nothing, pause, emit, exit, seq, par, loop, present, signal, try, setpause, suspend, held}
+use Rattle.esterel.specs.Statement.{Scope, local, reported, Statement, nothing, pause, emit, exit, seq, par, loop, present, signal, try, setpause, suspend, held}
 use Rattle.esterel.specs.Reaction.{ended, waiting, leaving, wrong, Reaction, gives, emitted, inSeq, inPar, inLoop, inTry, inSuspend, stopped, Case, both, neither, only−, only+, inherited, caseOf, answer, react, Code, code, greater, inheritanceFirst, reactBy, Order}
 use Rattle.esterel.specs.States.{active}
 use Rattle.esterel.specs.LabelTests.{activeLabels}
@@ -16,6 +17,7 @@ use Rattle.esterel.specs.Expansion.{expand}
 use Rattle.esterel.proofs.Booleans.{or-cases}
 use Rattle.esterel.proofs.Sets.{member-none, member-only, member-join, member-remove, member-step, ext}
 use Rattle.esterel.proofs.Stability.{Stops}
+use Rattle.esterel.specs.ReadBack.{declared}
 use Rattle.limits.specs.Limits.{labelCount, signalCount, maxExit}
 use Rattle.sequence.specs.Writer.{Ranged}
 use Rattle.sequence.proofs.Source.{ranged-at}
@@ -64,7 +66,7 @@ Bounded (seq p q) = Bounded p × Bounded q
 Bounded (par p q) = Bounded p × Bounded q
 Bounded (loop a p) = Bounded p
 Bounded (present s p q) = Bounded p × Bounded q
-Bounded (signal a s p) = Bounded p
+Bounded (signal sc a s p) = Bounded p
 Bounded (try p) = Bounded p
 Bounded (setpause l) = Unit {0}
 Bounded (suspend s p) = Bounded p
@@ -79,7 +81,7 @@ ranged-bounded (seq p q) h = (ranged-bounded p (h .0), ranged-bounded q (h .1))
 ranged-bounded (par p q) h = (ranged-bounded p (h .0), ranged-bounded q (h .1))
 ranged-bounded (loop a p) h = ranged-bounded p h
 ranged-bounded (present s p q) h = (ranged-bounded p (h .1), ranged-bounded q (h .2))
-ranged-bounded (signal a s p) h = ranged-bounded p (h .1)
+ranged-bounded (signal sc a s p) h = ranged-bounded p (h .2)
 ranged-bounded (try p) h = ranged-bounded p h
 ranged-bounded (setpause l) h = tt
 ranged-bounded (suspend s p) h = ranged-bounded p (h .1)
@@ -104,7 +106,7 @@ bounded-expand (par p q) L h = (
 bounded-expand (loop a p) L h = (bounded-expand p L h, h)
 bounded-expand (present s p q) L h =
     cond-bounded (active p L) (expand p L) (expand q L) (bounded-expand p L (h .0)) (bounded-expand q L (h .1))
-bounded-expand (signal a s p) L h = bounded-expand p L h
+bounded-expand (signal sc a s p) L h = bounded-expand p L h
 bounded-expand (try p) L h = bounded-expand p L h
 bounded-expand (setpause l) L h = tt
 bounded-expand (suspend s p) L h =
@@ -144,12 +146,13 @@ present-emits : (b : Bool) (r r₂ : Reaction) → Emits r → Emits r₂ → Em
 present-emits true r r₂ f g = f
 present-emits false r r₂ f g = g
 
-signal-emits : (c : Case) (a s : ℕ) (r− r+ : Reaction) → Emits r− → Emits r+ → Emits (answer c a s r− r+)
-signal-emits both a s r− r+ f g = below-remove signalCount s (emitted r+) g
-signal-emits neither a s r− r+ f g = f
-signal-emits only− a s r− r+ f g = below-none signalCount
-signal-emits only+ a s r− r+ f g = below-none signalCount
-signal-emits inherited a s r− r+ f g = below-none signalCount
+signal-emits : (c : Case) (sc : Scope) (a s : ℕ) (r− r+ : Reaction) → Emits r− → Emits r+ → Emits (answer c sc a s r− r+)
+signal-emits both local a s r− r+ f g = below-remove signalCount s (emitted r+) g
+signal-emits both reported a s r− r+ f g = g
+signal-emits neither sc a s r− r+ f g = f
+signal-emits only− sc a s r− r+ f g = below-none signalCount
+signal-emits only+ sc a s r− r+ f g = below-none signalCount
+signal-emits inherited sc a s r− r+ f g = below-none signalCount
 
 suspend-emits : (s : ℕ) (r : Reaction) → Emits r → Emits (inSuspend s r)
 suspend-emits s (gives o k l t) f = f
@@ -165,14 +168,20 @@ emitted-below (par p q) e h = par-emits (react p e) (react q e) (emitted-below p
 emitted-below (loop a p) e h = loop-emits a p (react p e) (emitted-below p e h)
 emitted-below (present s p q) e h =
     present-emits (member s e) (react p e) (react q e) (emitted-below p e (h .0)) (emitted-below q e (h .1))
-emitted-below (signal a s p) e h =
-    signal-emits (caseOf inheritanceFirst s (react p (remove s e)) (react p (insert s e))) a s (react p (remove s e)) (react p (insert s e))
+emitted-below (signal sc a s p) e h =
+    signal-emits (caseOf inheritanceFirst s (react p (remove s e)) (react p (insert s e))) sc a s (react p (remove s e)) (react p (insert s e))
     (emitted-below p (remove s e) h) (emitted-below p (insert s e) h)
 emitted-below (try p) e h = try-emits (react p e) (emitted-below p e h)
 emitted-below (setpause l) e h = below-none signalCount
 emitted-below (suspend s p) e h = suspend-emits s (react p e) (emitted-below p e h)
 emitted-below (held s K p) e h =
     present-emits (member s e) (stopped s K p) (inSuspend s (react p e)) (below-none signalCount) (suspend-emits s (react p e) (emitted-below p e h))
+
+-- ---- read-back declarations
+pub bounded-declared : (a : ℕ) (ss : List ℕ) (p : Statement) → Bounded p → Bounded (declared a ss p)
+unfolding declared
+bounded-declared a [] p h = h
+bounded-declared a (s ∷ ss) p h = bounded-declared a ss p h
 
 -- ---- labels
 pub stop-below : (p : Statement) → Ranged p → (l : ℕ) → Stops p l → l < labelCount
@@ -226,12 +235,12 @@ present-exits : (b : Bool) (r r₂ : Reaction) → Exits (code r) → Exits (cod
 present-exits true r r₂ f g = f
 present-exits false r r₂ f g = g
 
-signal-exits : (c : Case) (a s : ℕ) (r− r+ : Reaction) → Exits (code r−) → Exits (code r+) → Exits (code (answer c a s r− r+))
-signal-exits both a s r− r+ f g = g
-signal-exits neither a s r− r+ f g = f
-signal-exits only− a s r− r+ f g = tt
-signal-exits only+ a s r− r+ f g = tt
-signal-exits inherited a s r− r+ f g = tt
+signal-exits : (c : Case) (sc : Scope) (a s : ℕ) (r− r+ : Reaction) → Exits (code r−) → Exits (code r+) → Exits (code (answer c sc a s r− r+))
+signal-exits both sc a s r− r+ f g = g
+signal-exits neither sc a s r− r+ f g = f
+signal-exits only− sc a s r− r+ f g = tt
+signal-exits only+ sc a s r− r+ f g = tt
+signal-exits inherited sc a s r− r+ f g = tt
 
 suspend-exits : (s : ℕ) (r : Reaction) → Exits (code r) → Exits (code (inSuspend s r))
 suspend-exits s (gives o k l t) f = f
@@ -246,8 +255,8 @@ code-exits ord (seq p q) e h = seq-exits q (reactBy ord p e) (reactBy ord q e) (
 code-exits ord (par p q) e h = par-exits (reactBy ord p e) (reactBy ord q e) (code-exits ord p e (h .0)) (code-exits ord q e (h .1))
 code-exits ord (loop a p) e h = loop-exits a p (reactBy ord p e) (code-exits ord p e h)
 code-exits ord (present s p q) e h = present-exits (member s e) (reactBy ord p e) (reactBy ord q e) (code-exits ord p e (h .0)) (code-exits ord q e (h .1))
-code-exits ord (signal a s p) e h =
-    signal-exits (caseOf ord s (reactBy ord p (remove s e)) (reactBy ord p (insert s e))) a s (reactBy ord p (remove s e)) (reactBy ord p (insert s e))
+code-exits ord (signal sc a s p) e h =
+    signal-exits (caseOf ord s (reactBy ord p (remove s e)) (reactBy ord p (insert s e))) sc a s (reactBy ord p (remove s e)) (reactBy ord p (insert s e))
     (code-exits ord p (remove s e) h) (code-exits ord p (insert s e) h)
 code-exits ord (try p) e h = try-exits (reactBy ord p e) (code-exits ord p e h)
 code-exits ord (setpause l) e h = tt

@@ -13,6 +13,7 @@ use Rattle.esterel.specs.Statement.{Statement}
 use Rattle.esterel.specs.Reaction.{gives, react, inheritanceFirst}
 use Rattle.esterel.specs.Expansion.{expand}
 use Rattle.esterel.specs.Machines.{State, stateAfter}
+use Rattle.sequence.specs.Program.{program}
 use Rattle.sequence.specs.Check.{Checked, sound, bad, checked, checkOf}
 use Rattle.sequence.proofs.Rows.{check-by-rows}
 use Rattle.records.specs.Bytes.{leNumber}
@@ -35,20 +36,23 @@ state-unwritten p (holds State.fresh) state e answer h = absurd (h refl)
 state-unwritten p (holds (State.waits L)) state e answer h = absurd (h refl)
 state-unwritten p (holds State.over) state e answer h = refl
 
-check-unwritten : (c : Checked) (state : List ℕ) (e : ℕ) (answer : List ℕ) → Unwritten (byCheck inheritanceFirst c state e answer) state answer
-check-unwritten (bad k) state e answer h = refl
-check-unwritten (sound p) state e answer h = state-unwritten p (decodeState p state) state e answer h
+check-unwritten : (readBack : ℕ) (c : Checked) (state : List ℕ) (e : ℕ) (answer : List ℕ)
+    → Unwritten (byCheck inheritanceFirst readBack c state e answer) state answer
+check-unwritten readBack (bad k) state e answer h = refl
+check-unwritten readBack (sound p) state e answer h = state-unwritten (program readBack p) (decodeState p state) state e answer h
 
-refusal-writes-nothing : (sequence state : List ℕ) (e : ℕ) (answer : List ℕ) → Unwritten (tickOf sequence state e answer) state answer
+refusal-writes-nothing : (sequence state : List ℕ) (e readBack : ℕ) (answer : List ℕ)
+    → Unwritten (tickOf sequence state e readBack answer) state answer
 unfolding tickBy
-refusal-writes-nothing sequence state e answer = go (eqb (length state) stateLength && eqb (length answer) answerLength)
+refusal-writes-nothing sequence state e readBack answer = go (eqb (length state) stateLength && eqb (length answer) answerLength)
   where
-    go : (b : Bool) → Unwritten (cond b (byCheck inheritanceFirst (checked sequence) state e answer) (outcome 1 state answer)) state answer
-    go true h = check-unwritten (checked sequence) state e answer h
+    go : (b : Bool)
+        → Unwritten (cond b (byCheck inheritanceFirst readBack (checked sequence readBack) state e answer) (outcome 1 state answer)) state answer
+    go true h = check-unwritten readBack (checked sequence readBack) state e answer h
     go false h = refl
 
 -- ---- row 11 is never met
-module _ (sequence : List ℕ) (a : Accepted sequence) where
+module _ (sequence : List ℕ) (readBack : ℕ) (a : Accepted sequence readBack) where
   abbrev p : Statement
   p = a .statement
 
@@ -67,29 +71,30 @@ module _ (sequence : List ℕ) (a : Accepted sequence) where
   Passes o = (number o ≢ 11) × Admitted sequence (stateAfterwards o)
 
   state-passes : (state : List ℕ) → Admitted sequence state → (e : ℕ) (answer : List ℕ) (d : Decoded)
-      → Reading p (phaseIn state) (labelsIn state) d → Passes (byState inheritanceFirst p d state e answer)
+      → Reading p (phaseIn state) (labelsIn state) d → Passes (byState inheritanceFirst (program readBack p) d state e answer)
   state-passes state h e answer d (reads-malformed x) = absurd (h .1 p (a .spelled) x)
-  state-passes state h e answer d (reads-fresh x n) = (omega arith, admitted-state (stateAfter (react p e)) (recorded-fresh sequence a e))
+  state-passes state h e answer d (reads-fresh x n) = (omega arith, admitted-state (stateAfter (react (program readBack p) e)) (recorded-fresh sequence readBack a e))
   state-passes state h e answer d (reads-waiting x v) =
-      (omega arith, admitted-state (stateAfter (react (expand p (labelsIn state)) e)) (recorded-resumed sequence a (labelsIn state) e v))
+      (omega arith, admitted-state (stateAfter (react (expand (program readBack p) (labelsIn state)) e))
+      (recorded-resumed sequence readBack a (labelsIn state) e v))
   state-passes state h e answer d (reads-over x n) = (omega arith, h)
 
-  tick-passes : (state : List ℕ) → Admitted sequence state → (e : ℕ) (answer : List ℕ) → Passes (tickOf sequence state e answer)
+  tick-passes : (state : List ℕ) → Admitted sequence state → (e : ℕ) (answer : List ℕ) → Passes (tickOf sequence state e readBack answer)
   tick-passes state h e answer =
       elim (ℕ-discrete (length answer) answerLength) [
-        | yes i ↦ rw (tick-at inheritanceFirst sequence state e answer p (decodeState p state) (a .is-checked) (h .0) i refl)
+        | yes i ↦ rw (tick-at inheritanceFirst sequence state e readBack answer p (decodeState p state) (a .is-checked) (h .0) i refl)
             (state-passes state h e answer (decodeState p state) (reading p state))
-        | no i ↦ rw (tick-short sequence state e answer i) (omega arith, h)
+        | no i ↦ rw (tick-short sequence state e readBack answer i) (omega arith, h)
       ]
 
   all-pass : (calls : List Call) (state : List ℕ) → Admitted sequence state → (o : Outcome)
-      → List·Memᴰ o (outcomes tickOf sequence state calls) → number o ≢ 11
+      → List·Memᴰ o (outcomes tickOf sequence readBack state calls) → number o ≢ 11
   unfolding outcomes
   all-pass [] state h o m = absurd (List·Memᴰ·not-nil m)
   all-pass (c ∷ calls) state h o m =
       let x = tick-passes state h (c .input) (c .buffer) in
       ⊎-elim (λ e. subst (λ (w : Outcome). number w ≢ 11) (sym e) (x .0))
-      (λ t. all-pass calls (stateAfterwards (tickOf sequence state (c .input) (c .buffer))) (x .1) o t)
+      (λ t. all-pass calls (stateAfterwards (tickOf sequence state (c .input) readBack (c .buffer))) (x .1) o t)
       (List·Memᴰ·cases-cons m)
 
 -- a cleared record is one that row 11 admits
@@ -108,8 +113,8 @@ pub demand-1 : Demand1 checkOf tickOf
 demand-1 =
     record {
       check-by-rows = check-by-rows;
-      tick-by-rows = λ sequence state e answer. tick-by-rows sequence state answer e;
+      tick-by-rows = λ sequence state e readBack answer. tick-by-rows sequence readBack state answer e;
       refusal-writes-nothing = refusal-writes-nothing;
-      never-11 = λ sequence state h m calls. all-pass sequence (accepted sequence h) calls state m;
+      never-11 = λ sequence readBack state h m calls. all-pass sequence readBack (accepted sequence readBack h) calls state m;
       cleared-admitted = cleared-admitted;
     }

@@ -20,7 +20,8 @@ use Rattle.esterel.proofs.Rules.{reacts-is}
 use Rattle.esterel.proofs.SignalOrders.{wrong-named}
 use Rattle.esterel.proofs.Derivations.{first-use}
 use Rattle.esterel.proofs.LabelTests.{valid-is}
-use Rattle.limits.specs.Limits.{maxBytes, signalCount}
+use Rattle.limits.specs.Limits.{signalCount, placeBytes}
+use Rattle.sequence.specs.Program.{program}
 use Rattle.sequence.specs.Check.{checkOf}
 use Rattle.sequence.proofs.Rows.{check-by-rows}
 use Rattle.limits.specs.Limits.{signalBytes}
@@ -29,11 +30,11 @@ use Rattle.demands.specs.Tick.{written, tickBy, tickOf}
 use Rattle.demands.specs.TickRows.{TickRow, row-1, row-2-to-10, row-11, row-12}
 use Rattle.demands.specs.Demands.{number, StandsAt, at-start, at-labels, Shows, Demand2}
 use Rattle.records.proofs.RecordLaws.{code-field, kind-field, place-field, emitted-field, blameless, wrong-blame, answer-is, length-answer}
-use Rattle.demands.proofs.Bounds.{Below, Bounded, ranged-bounded, bounded-expand, emitted-below, Exits, code-exits}
+use Rattle.demands.proofs.Bounds.{Below, Bounded, emitted-below, Exits, code-exits}
 use Rattle.demands.proofs.ErrorPlaces.{PlacesBelow, place-fits}
 use Rattle.demands.proofs.Reports.{shown-below}
 use Rattle.demands.proofs.TickRows.{Reading, reads-fresh, reads-waiting, reads-over, reads-malformed, reading, tick-by-rows}
-use Rattle.demands.proofs.Sequence.{same-statement, Accepted, accepted, tick-at, not-long, places-fresh, places-resumed}
+use Rattle.demands.proofs.Sequence.{same-statement, Accepted, accepted, tick-at, bounded-fresh, bounded-resumed, places-fresh, places-resumed}
 
 -- ---- what an instant shows
 pub called-wrong : (k : Code) (c : ℕ) → Exits k → c ≡ codeByte k → (c ≡ 255) ↔ (k ≡ wrong)
@@ -42,10 +43,11 @@ called-wrong waiting c f h = (λ i. absurd (omega arith), λ i. absurd (let z : 
 called-wrong (leaving n) c f h = (λ i. absurd (omega arith), λ i. absurd (let z : _≡_ {A = ℕ} 0 1 = cc in omega arith))
 called-wrong wrong c f h = (λ i. refl, λ i. h)
 
-abbrev pub Fitting : Statement → ℕ → Type 0
-Fitting t n = Bounded t × PlacesBelow n t
+-- a term within the widths of the records
+abbrev pub Fitting : Statement → Type 0
+Fitting t = Bounded t × PlacesBelow (256 ^ placeBytes) t
 
-module _ (t : Statement) (e n : ℕ) (small : n ≤ maxBytes) (f : Fitting t n) where
+module _ (t : Statement) (e : ℕ) (f : Fitting t) where
   shown-right : (o : ℕ) (k : Code) → k ≢ wrong → shown k o ≡ o
   shown-right o ended h = refl
   shown-right o waiting h = refl
@@ -70,7 +72,7 @@ module _ (t : Statement) (e n : ℕ) (small : n ≤ maxBytes) (f : Fitting t n) 
         named = named;
         unnamed = λ i. (
           kind-field o k l t′ (firstError t e) ∙ ap (λ (b : Error). b .kind) (blameless k (firstError t e) i),
-          place-field o k l t′ (firstError t e) (place-fits n t e k small (f .1))
+          place-field o k l t′ (firstError t e) (place-fits (256 ^ placeBytes) t e k (omega arith) (f .1))
               ∙ ap (λ (b : Error). b .place) (blameless k (firstError t e) i),
         );
       }
@@ -86,7 +88,7 @@ module _ (t : Statement) (e n : ℕ) (small : n ≤ maxBytes) (f : Fitting t n) 
             w .1,
             λ d. first-use d ∙ w .1,
             kind-field o k l t′ (firstError t e) ∙ ap (λ (y : Error). y .kind) b,
-            place-field o k l t′ (firstError t e) (place-fits n t e k small (f .1)) ∙ ap (λ (y : Error). y .place) b,
+            place-field o k l t′ (firstError t e) (place-fits (256 ^ placeBytes) t e k (omega arith) (f .1)) ∙ ap (λ (y : Error). y .place) b,
           )
 
 -- ---- the term of an admitted record
@@ -99,41 +101,41 @@ decode-waiting : (p : Statement) (state : List ℕ) → phaseIn state ≡ 1 → 
 unfolding decodeState
 decode-waiting p state x v = rw (x, valid-is p (labelsIn state) .1 v)
 
-module _ (sequence : List ℕ) (a : Accepted sequence) where
-  statement-fits : Fitting (a .statement) (length sequence)
-  statement-fits = (ranged-bounded (a .statement) (a .spelled .1 .ranged), places-fresh sequence a)
+module _ (sequence : List ℕ) (readBack : ℕ) (a : Accepted sequence readBack) where
+  program-fits : Fitting (program readBack (a .statement))
+  program-fits = (bounded-fresh sequence readBack a, places-fresh sequence readBack a)
 
-  expansion-fits : (L : ℕ) → Fitting (expand (a .statement) L) (length sequence)
-  expansion-fits L = (bounded-expand (a .statement) L (statement-fits .0), places-resumed sequence a L)
+  expansion-fits : (L : ℕ) → Fitting (expand (program readBack (a .statement)) L)
+  expansion-fits L = (bounded-resumed sequence readBack a L, places-resumed sequence readBack a L)
 
   -- the tick from a record that stands at t is the instant of t
   pub stands-written : (ord : Order) (state : List ℕ) (e : ℕ) (answer : List ℕ) → length state ≡ stateLength → length answer ≡ answerLength
-      → {t : Statement} → StandsAt sequence state t
-      → (tickBy ord sequence state e answer ≡ written (startBy ord t e)) × Fitting t (length sequence)
+      → {t : Statement} → StandsAt sequence readBack state t
+      → (tickBy ord sequence state e readBack answer ≡ written (startBy ord t e)) × Fitting t
   stands-written ord state e answer i j (at-start {p = q} s x n) =
       let same = same-statement sequence (a .statement) q (a .spelled) s in (
-        tick-at ord sequence state e answer (a .statement) (holds State.fresh) (a .is-checked) i j
+        tick-at ord sequence state e readBack answer (a .statement) (holds State.fresh) (a .is-checked) i j
             (decode-fresh (a .statement) state x n)
-            ∙ ap (λ (w : Statement). written (startBy ord w e)) same,
-        subst (λ (w : Statement). Fitting w (length sequence)) same statement-fits,
+            ∙ ap (λ (w : Statement). written (startBy ord (program readBack w) e)) same,
+        subst (λ (w : Statement). Fitting (program readBack w)) same program-fits,
       )
   stands-written ord state e answer i j (at-labels {p = q} s x v) =
       let L : ℕ = labelsIn state in
       let same = same-statement sequence (a .statement) q (a .spelled) s in
       let mine : Valid (a .statement) L = subst (λ (w : Statement). Valid w L) (sym same) v in (
-        tick-at ord sequence state e answer (a .statement) (holds (State.waits L)) (a .is-checked) i j
+        tick-at ord sequence state e readBack answer (a .statement) (holds (State.waits L)) (a .is-checked) i j
             (decode-waiting (a .statement) state x mine)
-            ∙ ap (λ (w : Statement). written (startBy ord (expand w L) e)) same,
-        subst (λ (w : Statement). Fitting (expand w L) (length sequence)) same (expansion-fits L),
+            ∙ ap (λ (w : Statement). written (startBy ord (expand (program readBack w) L) e)) same,
+        subst (λ (w : Statement). Fitting (expand (program readBack w) L)) same (expansion-fits L),
       )
 
 -- ---- a tick that gives 0 passes the check and both lengths, and its record holds a machine that reacts
-module _ (sequence state : List ℕ) (e : ℕ) (answer : List ℕ) (z : number (tickOf sequence state e answer) ≡ 0) where
-  no-tick-row : (m : ℕ) → ¬ TickRow sequence state answer m
-  no-tick-row = tick-by-rows sequence state answer e .acceptance .0 z
+module _ (sequence state : List ℕ) (e readBack : ℕ) (answer : List ℕ) (z : number (tickOf sequence state e readBack answer) ≡ 0) where
+  no-tick-row : (m : ℕ) → ¬ TickRow sequence readBack state answer m
+  no-tick-row = tick-by-rows sequence readBack state answer e .acceptance .0 z
 
-  pub passed-check : checkOf sequence ≡ 0
-  passed-check = check-by-rows sequence .acceptance .1 (λ m r. no-tick-row m (row-2-to-10 r))
+  pub passed-check : checkOf sequence readBack ≡ 0
+  passed-check = check-by-rows sequence readBack .acceptance .1 (λ m r. no-tick-row m (row-2-to-10 r))
 
   pub state-sized : length state ≡ stateLength
   state-sized =
@@ -149,30 +151,30 @@ module _ (sequence state : List ℕ) (e : ℕ) (answer : List ℕ) (z : number (
         | no i ↦ absurd (no-tick-row 1 (row-1 (inr i)))
       ]
 
-  pub stands : (t : Statement) × StandsAt sequence state t
+  pub stands : (t : Statement) × StandsAt sequence readBack state t
   stands = go (decodeState p state) (reading p state)
     where
-      a : Accepted sequence
-      a = accepted sequence passed-check
+      a : Accepted sequence readBack
+      a = accepted sequence readBack passed-check
 
       p : Statement
       p = a .statement
 
-      go : (d : Decoded) → Reading p (phaseIn state) (labelsIn state) d → (t : Statement) × StandsAt sequence state t
+      go : (d : Decoded) → Reading p (phaseIn state) (labelsIn state) d → (t : Statement) × StandsAt sequence readBack state t
       go d (reads-malformed x) = absurd (no-tick-row 11 (row-11 (a .spelled) x))
-      go d (reads-fresh x n) = (p, at-start (a .spelled) x n)
-      go d (reads-waiting x v) = (expand p (labelsIn state), at-labels (a .spelled) x v)
+      go d (reads-fresh x n) = (program readBack p, at-start (a .spelled) x n)
+      go d (reads-waiting x v) = (expand (program readBack p) (labelsIn state), at-labels (a .spelled) x v)
       go d (reads-over x n) = absurd (no-tick-row 12 (row-12 x))
 
 -- DEMAND 2
-shows-standing : (sequence state : List ℕ) (e : ℕ) (answer : List ℕ) → checkOf sequence ≡ 0
-    → length state ≡ stateLength → length answer ≡ answerLength → (t : Statement) → StandsAt sequence state t
-    → (o : ℕ) (k : Code) (l : ℕ) (t′ : Statement) → Reacts t e (gives o k l t′) → Shows t e o k l t′ (tickOf sequence state e answer)
-shows-standing sequence state e answer h i j t s o k l t′ d =
-    let a = accepted sequence h in
-    let w = stands-written sequence a inheritanceFirst state e answer i j s in
+shows-standing : (sequence state : List ℕ) (e readBack : ℕ) (answer : List ℕ) → checkOf sequence readBack ≡ 0
+    → length state ≡ stateLength → length answer ≡ answerLength → (t : Statement) → StandsAt sequence readBack state t
+    → (o : ℕ) (k : Code) (l : ℕ) (t′ : Statement) → Reacts t e (gives o k l t′) → Shows t e o k l t′ (tickOf sequence state e readBack answer)
+shows-standing sequence state e readBack answer h i j t s o k l t′ d =
+    let a = accepted sequence readBack h in
+    let w = stands-written sequence readBack a inheritanceFirst state e answer i j s in
     let r : gives o k l t′ ≡ react t e = reacts-is t e (gives o k l t′) .0 d in
-    rw (w .0, ← r) (shows t e (length sequence) (not-long sequence a) (w .1) o k l t′ r)
+    rw (w .0, ← r) (shows t e (w .1) o k l t′ r)
 
 pub demand-2 : Demand2 checkOf tickOf
 demand-2 = record { stands = stands; shows = shows-standing }

@@ -13,7 +13,8 @@ use Rattle.esterel.specs.Errors.{Error, ifEnded, loopErrors, signalErrors, erro
 use Rattle.esterel.specs.States.{active}
 use Rattle.esterel.specs.LabelTests.{activeLabels}
 use Rattle.esterel.specs.Expansion.{expand}
-use Rattle.limits.specs.Limits.{maxBytes, placeBytes}
+use Rattle.esterel.specs.ReadBack.{declared}
+use Rattle.limits.specs.Limits.{placeBytes}
 use Rattle.sequence.specs.Writer.{bytesOf, size, Ranged, PlacedAt}
 
 -- each loop and signal of p has a place below n
@@ -26,7 +27,7 @@ PlacesBelow n (seq p q) = PlacesBelow n p × PlacesBelow n q
 PlacesBelow n (par p q) = PlacesBelow n p × PlacesBelow n q
 PlacesBelow n (loop a p) = (a < n) × PlacesBelow n p
 PlacesBelow n (present s p q) = PlacesBelow n p × PlacesBelow n q
-PlacesBelow n (signal a s p) = (a < n) × PlacesBelow n p
+PlacesBelow n (signal sc a s p) = (a < n) × PlacesBelow n p
 PlacesBelow n (try p) = PlacesBelow n p
 PlacesBelow n (setpause l) = Unit {0}
 PlacesBelow n (suspend s p) = PlacesBelow n p
@@ -48,7 +49,7 @@ placed-below n a (loop b p) r h i = (omega (arith, h .0), placed-below n (a + 1)
 placed-below n a (present s p q) r h i =
     let e = length-append (bytesOf p) (bytesOf q) in
     (placed-below n (a + 2) p (r .1) (h .0) (omega arith), placed-below n (a + (2 + size p)) q (r .2) (h .1) (omega arith))
-placed-below n a (signal b s p) r h i = (omega (arith, h .0), placed-below n (a + 2) p (r .1) (h .1) (omega arith))
+placed-below n a (signal sc b s p) r h i = (omega (arith, h .0), placed-below n (a + 2) p (r .2) (h .1) (omega arith))
 placed-below n a (try p) r h i = placed-below n (a + 1) p r h (omega arith)
 placed-below n a (setpause l) r h i = tt
 placed-below n a (suspend s p) r h i = placed-below n (a + 2) p (r .1) h (omega arith)
@@ -73,7 +74,7 @@ places-expand n (par p q) L h = (
 places-expand n (loop a p) L h = (places-expand n p L (h .1), h)
 places-expand n (present s p q) L h =
     cond-places n (active p L) (expand p L) (expand q L) (places-expand n p L (h .0)) (places-expand n q L (h .1))
-places-expand n (signal a s p) L h = (h .0, places-expand n p L (h .1))
+places-expand n (signal sc a s p) L h = (h .0, places-expand n p L (h .1))
 places-expand n (try p) L h = places-expand n p L h
 places-expand n (setpause l) L h = tt
 places-expand n (suspend s p) L h =
@@ -125,7 +126,7 @@ errors-below n (loop a p) e h =
     (below-ifEnded n (code (react p e)) _ (below-one n _ (h .0)))
 errors-below n (present s p q) e h =
     below-present n (member s e) (errors p e) (errors q e) (errors-below n p e (h .0)) (errors-below n q e (h .1))
-errors-below n (signal a s p) e h =
+errors-below n (signal sc a s p) e h =
     below-append n (errors p (remove s e) ++ errors p (insert s e)) _
     (below-append n (errors p (remove s e)) (errors p (insert s e)) (errors-below n p (remove s e) (h .1)) (errors-below n p (insert s e) (h .1)))
     (below-signal n a (caseOf inheritanceFirst s (react p (remove s e)) (react p (insert s e))) (h .0))
@@ -134,14 +135,20 @@ errors-below n (setpause l) e h = below-nil n
 errors-below n (suspend s p) e h = errors-below n p e h
 errors-below n (held s K p) e h = below-present n (member s e) [] (errors p e) (below-nil n) (errors-below n p e h)
 
+-- ---- read-back declarations, at a place below n
+pub places-declared : (n a : ℕ) (ss : List ℕ) (p : Statement) → a < n → PlacesBelow n p → PlacesBelow n (declared a ss p)
+unfolding declared
+places-declared n a [] p i h = h
+places-declared n a (s ∷ ss) p i h = (i, places-declared n a ss p i h)
+
 -- ---- what an instant names
-names-below : (n : ℕ) (k : Code) (xs : List Error) → n ≤ maxBytes → AllBelow n xs → blame k (head? xs) .place < 256 ^ placeBytes
+names-below : (n : ℕ) (k : Code) (xs : List Error) → n ≤ 256 ^ placeBytes → AllBelow n xs → blame k (head? xs) .place < 256 ^ placeBytes
 names-below n ended xs h f = omega arith
 names-below n waiting xs h f = omega arith
 names-below n (leaving m) xs h f = omega arith
 names-below n wrong [] h f = omega arith
 names-below n wrong (x ∷ xs) h f = let i = f x (List·Memᴰ·head refl) in omega arith
 
-pub place-fits : (n : ℕ) (t : Statement) (e : ℕ) (k : Code) → n ≤ maxBytes → PlacesBelow n t
+pub place-fits : (n : ℕ) (t : Statement) (e : ℕ) (k : Code) → n ≤ 256 ^ placeBytes → PlacesBelow n t
     → blame k (firstError t e) .place < 256 ^ placeBytes
 place-fits n t e k h f = names-below n k (errors t e) h (errors-below n t e f)

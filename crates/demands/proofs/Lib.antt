@@ -10,6 +10,7 @@ pub mod Agreement
 pub mod NoLabels
 pub mod Calls
 pub mod Replacements
+pub mod ReadBack
 pub mod Bays
 pub mod Suspended
 pub mod FirstErrors

@@ -13,7 +13,8 @@ use Rattle.esterel.specs.Places.{seq₁, seq₂, Place, At}
 use Rattle.esterel.specs.States.{NoSetpause}
 use Rattle.esterel.specs.LabelTests.{subset, disjoint, labelsOf, everyLabel, distinct, before, wellFormed}
 use Rattle.sequence.specs.Commands.{commandOf}
-use Rattle.sequence.specs.Reader.{front, read}
+use Rattle.esterel.specs.ReadBack.{membersFrom, declared}
+use Rattle.sequence.specs.Reader.{front, read, nesting}
 use Rattle.sequence.specs.Check.{checkOf, checked}
 use Rattle.sequence.specs.Rows.{Spells}
 use Rattle.sequence.proofs.Writer.{reads-what-is-written}
@@ -58,63 +59,65 @@ spells-later : Spells later (seq (pause 0) (emit 0))
 unfolding read front commandOf
 spells-later = reads-what-is-written later (seq (pause 0) (emit 0)) .0 refl
 
-all-accepted : (checkOf ends ≡ 0) × (checkOf waits ≡ 0) × (checkOf later ≡ 0)
-unfolding checkOf checked read front commandOf distinct wellFormed everyLabel before labelsOf subset disjoint member none only join
+all-accepted : (checkOf ends none ≡ 0) × (checkOf waits none ≡ 0) × (checkOf later none ≡ 0)
+unfolding checkOf checked read front commandOf nesting declared membersFrom distinct wellFormed everyLabel before labelsOf subset disjoint member none only join
 all-accepted = (refl, refl, refl)
 
 cleared-labels : labelsIn cleared ≡ none
 unfolding leNumber none
 cleared-labels = refl
 
-first-ticks : (tickOf ends cleared 0 buffer ≡ outcome 0 (2 ∷ replicate 8 0) buffer)
-    × (tickOf waits cleared 0 buffer ≡ outcome 0 (1 ∷ 1 ∷ replicate 7 0) (1 ∷ replicate 7 0))
-unfolding tickBy checked read front commandOf distinct wellFormed everyLabel before labelsOf subset disjoint decodeState encodeState encodeAnswer leNumber leBytes reactBy errorsBy member none only join
+first-ticks : (tickOf ends cleared 0 none buffer ≡ outcome 0 (2 ∷ replicate 8 0) buffer)
+    × (tickOf waits cleared 0 none buffer ≡ outcome 0 (1 ∷ 1 ∷ replicate 7 0) (1 ∷ replicate 7 0))
+unfolding tickBy checked read front commandOf nesting declared membersFrom distinct wellFormed everyLabel before labelsOf subset disjoint decodeState encodeState encodeAnswer leNumber leBytes reactBy errorsBy member none only join
 first-ticks = (refl, refl)
 
-stands-ends : StandsAt ends cleared nothing
+stands-ends : StandsAt ends none cleared nothing
+unfolding declared membersFrom member none
 stands-ends = at-start spells-ends refl cleared-labels
 
-stands-waits : StandsAt waits cleared (pause 0)
+stands-waits : StandsAt waits none cleared (pause 0)
+unfolding declared membersFrom member none
 stands-waits = at-start spells-waits refl cleared-labels
 
 -- ---- demand 2
 pub not-everyWrong : ¬ Demand2 checkOf everyWrong
 not-everyWrong d =
-    let x = d .shows ends cleared 0 buffer (all-accepted .0) refl refl nothing stands-ends none ended none nothing Reacts.nothing in
+    let x = d .shows ends cleared 0 none buffer (all-accepted .0) refl refl nothing stands-ends none ended none nothing Reacts.nothing in
     let y = rw (first-ticks .0) at (x .code) in
     omega arith
 
 pub not-alwaysEnds : ¬ Demand2 checkOf alwaysEnds
 not-alwaysEnds d =
-    let x = d .shows waits cleared 0 buffer (all-accepted .1) refl refl (pause 0) stands-waits none waiting (only 0) nothing Reacts.pause in
+    let x = d .shows waits cleared 0 none buffer (all-accepted .1) refl refl (pause 0) stands-waits none waiting (only 0) nothing Reacts.pause in
     let y = rw (first-ticks .1) at (x .code) in
     omega arith
 
 pub not-leavesLabels : ¬ Demand2 checkOf leavesLabels
 unfolding encodeState leBytes only
 not-leavesLabels d =
-    let x = d .shows waits cleared 0 buffer (all-accepted .1) refl refl (pause 0) stands-waits none waiting (only 0) nothing Reacts.pause in
+    let x = d .shows waits cleared 0 none buffer (all-accepted .1) refl refl (pause 0) stands-waits none waiting (only 0) nothing Reacts.pause in
     let y = rw (first-ticks .1) at (x .moved) in
     let z : _≡_ {A = ℕ} 0 1 = ap (λ (l : List ℕ). getD l 1 0) y in
     omega arith
 
 pub not-appendsZero : ¬ Demand2 checkOf appendsZero
 not-appendsZero d =
-    let x = d .shows ends cleared 0 buffer (all-accepted .0) refl refl nothing stands-ends none ended none nothing Reacts.nothing in
+    let x = d .shows ends cleared 0 none buffer (all-accepted .0) refl refl nothing stands-ends none ended none nothing Reacts.nothing in
     let y = rw (first-ticks .0) at (x .sized) in
     omega arith
 
 -- ---- demand 1
 pub not-turnsDown : (tick : Tick) → ¬ Demand1 turnsDown tick
 not-turnsDown tick d =
-    let r = d .check-by-rows ends .refusal 3 (omega arith) .0 refl in
-    demand-1 .check-by-rows ends .acceptance .0 (all-accepted .0) 3 (r .0)
+    let r = d .check-by-rows ends none .refusal 3 (omega arith) .0 refl in
+    demand-1 .check-by-rows ends none .acceptance .0 (all-accepted .0) 3 (r .0)
 
 pub not-saysOver : ¬ Demand1 checkOf saysOver
 not-saysOver d =
-    let n : number (saysOver ends cleared 0 buffer) ≡ 12 = rw (first-ticks .0) in
-    let r = d .tick-by-rows ends cleared 0 buffer .refusal 12 (omega arith) .0 n in
-    demand-1 .tick-by-rows ends cleared 0 buffer .acceptance .0 (ap number (first-ticks .0)) 12 (r .0)
+    let n : number (saysOver ends cleared 0 none buffer) ≡ 12 = rw (first-ticks .0) in
+    let r = d .tick-by-rows ends cleared 0 none buffer .refusal 12 (omega arith) .0 n in
+    demand-1 .tick-by-rows ends cleared 0 none buffer .acceptance .0 (ap number (first-ticks .0)) 12 (r .0)
 
 -- ---- demand 3
 no-setpause : NoSetpause (seq (pause 0) (emit 0))
@@ -128,8 +131,8 @@ two-calls : List Call
 two-calls = record { input = 0; buffer = buffer } ∷ record { input = 0; buffer = buffer } ∷ []
 
 pub not-repeatsFirst : ¬ Demand3 checkOf repeatsFirst
-unfolding two-calls outcomes paper tickBy checked read front commandOf distinct wellFormed everyLabel before labelsOf subset disjoint decodeState encodeState encodeAnswer leNumber leBytes reactBy errorsBy member none only join
+unfolding two-calls outcomes paper tickBy checked read front commandOf nesting declared membersFrom distinct wellFormed everyLabel before labelsOf subset disjoint decodeState encodeState encodeAnswer leNumber leBytes reactBy errorsBy member none only join
 not-repeatsFirst d =
-    let x = d later (all-accepted .2) (seq (pause 0) (emit 0)) spells-later no-setpause two-calls in
+    let x = d later none (all-accepted .2) (seq (pause 0) (emit 0)) spells-later no-setpause two-calls in
     let z : _≡_ {A = ℕ} 1 0 = ap (λ (l : List Report). codeAt 1 l) x in
     omega arith

@@ -1,23 +1,25 @@
 -- What an accepted sequence is: a statement within the limits that passes the label rules, and how a tick of it goes.
-use Prim.Native.Nat.{ℕ, _^_, _<_, _≤_}
+use Prim.Native.Nat.{ℕ, _^_, _≤_}
 use native.Mathlib.Omega.{arith}
 use native.Mathlib.Decide.{decLt}
 use mathlib.Core.Path.{_≡_, refl, sym, ap, _∙_}
-use mathlib.Core.Logic.{_≢_, inr}
+use mathlib.Core.Logic.{_≢_, _↔_, inr}
 use mathlib.Core.Bool.{Bool, true, false, _&&_, cond}
 use mathlib.Core.List.{List}
 use lib.ListN.{length}
 use lib.Dec.{eqb}
 use borrow.Author.Tests.{eq-eqb, ne-eqb}
 use Rattle.esterel.specs.Statement.{Statement}
-use Rattle.esterel.specs.Reaction.{Code, Reaction, gives, ended, waiting, leaving, wrong, emitted, react, inheritanceFirst, Order}
-use Rattle.esterel.specs.Errors.{firstError, blame}
+use Rattle.esterel.specs.Reaction.{Reaction, gives, ended, waiting, leaving, wrong, react, inheritanceFirst, Order}
 use Rattle.esterel.specs.States.{Valid, Distinct, Targeted, Source, WellFormed}
 use Rattle.esterel.specs.Expansion.{expand}
 use Rattle.esterel.specs.Machines.{stateAfter}
 use Rattle.esterel.proofs.Theorems.{ReactionOf, of-statement, of-expansion, FromValid, stable, labels-of-stops}
-use Rattle.limits.specs.Limits.{labelCount, signalCount, maxBytes, placeBytes}
+use Rattle.limits.specs.Limits.{labelCount, maxBytes, placeBytes, readBackPlace}
+use Rattle.esterel.proofs.ReadBack.{source-declared, distinct-declared, targeted-declared, wellFormed-declared, valid-declared, stops-declared}
+use Rattle.esterel.proofs.LabelTests.{distinct-is, targeted-is, wellFormed-is, valid-is}
 use Rattle.sequence.specs.Reader as Reader
+use Rattle.sequence.specs.Program.{readBackSignals, program}
 use Rattle.sequence.specs.Check.{Checked, sound, bad, checked, numberOf, checkOf}
 use Rattle.sequence.specs.Rows.{Spells, Row, row-2}
 use Rattle.sequence.proofs.Writer.{reads-what-is-written}
@@ -25,8 +27,8 @@ use Rattle.sequence.proofs.Source.{spells-source}
 use Rattle.sequence.proofs.Rows.{Decides, decided, row-range}
 use Rattle.records.specs.Records.{stateLength, answerLength, Decoded, decodeState}
 use Rattle.demands.specs.Tick.{outcome, byState, byCheck, tickBy, tickOf}
-use Rattle.demands.proofs.Bounds.{Below, below-number, ranged-bounded, bounded-expand, emitted-below, stop-below}
-use Rattle.demands.proofs.ErrorPlaces.{PlacesBelow, placed-below, places-expand, place-fits}
+use Rattle.demands.proofs.Bounds.{Bounded, below-number, ranged-bounded, bounded-expand, bounded-declared, stop-below}
+use Rattle.demands.proofs.ErrorPlaces.{PlacesBelow, placed-below, places-expand, places-declared}
 use Rattle.records.proofs.RecordLaws.{Recorded}
 
 -- bytes spell at most one statement
@@ -37,101 +39,113 @@ same-statement sequence p q s t =
     cc
 
 -- the statement of an accepted sequence, with all that the check says of it
-pub record Accepted (sequence : List ℕ) : Type 0 where
+pub record Accepted (sequence : List ℕ) (readBack : ℕ) : Type 0 where
   pub statement : Statement
-  pub is-checked : checked sequence ≡ sound statement
-  pub no-row : (m : ℕ) → ¬ Row sequence m
+  pub is-checked : checked sequence readBack ≡ sound statement
+  pub no-row : (m : ℕ) → ¬ Row sequence readBack m
   pub spelled : Spells sequence statement
-  pub source : Source statement
   pub distinct : Distinct statement
   pub targeted : Targeted statement
   pub formed : WellFormed statement
 
-pub accepted : (sequence : List ℕ) → checkOf sequence ≡ 0 → Accepted sequence
+pub accepted : (sequence : List ℕ) (readBack : ℕ) → checkOf sequence readBack ≡ 0 → Accepted sequence readBack
 unfolding checkOf
-accepted sequence h = go (checked sequence) refl (decided sequence) h
+accepted sequence readBack h = go (checked sequence readBack) refl (decided sequence readBack) h
   where
-    go : (c : Checked) → checked sequence ≡ c → Decides sequence c → numberOf c ≡ 0 → Accepted sequence
-    go (bad k) e d z = absurd (let r = row-range sequence k (d .0) in omega arith)
+    go : (c : Checked) → checked sequence readBack ≡ c → Decides sequence readBack c → numberOf c ≡ 0 → Accepted sequence readBack
+    go (bad k) e d z = absurd (let r = row-range sequence readBack k (d .0) in omega arith)
     go (sound p) e d z =
-        record {
-          statement = p;
-          is-checked = e;
-          no-row = d .0;
-          spelled = d .1;
-          source = spells-source sequence p (d .1);
-          distinct = d .2;
-          targeted = d .3;
-          formed = d .4;
-        }
+        record { statement = p; is-checked = e; no-row = d .0; spelled = d .1; distinct = d .2; targeted = d .3; formed = d .4 }
 
 -- an accepted sequence spells one statement
-pub spells-one : (sequence : List ℕ) → checkOf sequence ≡ 0
+pub spells-one : (sequence : List ℕ) (readBack : ℕ) → checkOf sequence readBack ≡ 0
     → (p : Statement) × Spells sequence p × ((q : Statement) → Spells sequence q → q ≡ p)
-spells-one sequence h =
-    let a = accepted sequence h in
+spells-one sequence readBack h =
+    let a = accepted sequence readBack h in
     (a .statement, a .spelled, λ q s. same-statement sequence q (a .statement) s (a .spelled))
 
 -- a tick by the state that the record holds
-pub tick-at : (ord : Order) (sequence state : List ℕ) (e : ℕ) (answer : List ℕ) (p : Statement) (d : Decoded) → checked sequence ≡ sound p
+pub tick-at : (ord : Order) (sequence state : List ℕ) (e readBack : ℕ) (answer : List ℕ) (p : Statement) (d : Decoded)
+    → checked sequence readBack ≡ sound p
     → length state ≡ stateLength → length answer ≡ answerLength → decodeState p state ≡ d
-    → tickBy ord sequence state e answer ≡ byState ord p d state e answer
+    → tickBy ord sequence state e readBack answer ≡ byState ord (program readBack p) d state e answer
 unfolding tickBy
-tick-at ord sequence state e answer p d c i j h = rw (eq-eqb (length state) stateLength i, eq-eqb (length answer) answerLength j, c, h)
+tick-at ord sequence state e readBack answer p d c i j h = rw (eq-eqb (length state) stateLength i, eq-eqb (length answer) answerLength j, c, h)
 
 -- a tick with an answer buffer of another length
-pub tick-short : (sequence state : List ℕ) (e : ℕ) (answer : List ℕ) → length answer ≢ answerLength
-    → tickOf sequence state e answer ≡ outcome 1 state answer
+pub tick-short : (sequence state : List ℕ) (e readBack : ℕ) (answer : List ℕ) → length answer ≢ answerLength
+    → tickOf sequence state e readBack answer ≡ outcome 1 state answer
 unfolding tickBy
-tick-short sequence state e answer h = rw (ne-eqb (length answer) answerLength h) (go (eqb (length state) stateLength))
+tick-short sequence state e readBack answer h = rw (ne-eqb (length answer) answerLength h) (go (eqb (length state) stateLength))
   where
-    go : (b : Bool) → cond (b && false) (byCheck inheritanceFirst (checked sequence) state e answer) (outcome 1 state answer) ≡ outcome 1 state answer
+    go : (b : Bool) → cond (b && false) (byCheck inheritanceFirst readBack (checked sequence readBack) state e answer) (outcome 1 state answer) ≡ outcome 1 state answer
     go true = refl
     go false = refl
 
--- ---- reactions of an accepted statement keep to valid states and to the widths
-module _ (sequence : List ℕ) (a : Accepted sequence) where
+-- ---- reactions of an accepted program keep to valid states and to the widths
+module _ (sequence : List ℕ) (readBack : ℕ) (a : Accepted sequence readBack) where
   abbrev p : Statement
   p = a .statement
 
-  recorded-after : (e : ℕ) (r : Reaction) (x : ReactionOf p e r) → FromValid p e x → Recorded p (stateAfter r)
+  -- the term of the program, and what is said of it because it is said of p
+  abbrev term : Statement
+  term = program readBack p
+
+  pub term-source : Source term
+  term-source = source-declared readBackPlace (readBackSignals readBack) p (spells-source sequence p (a .spelled))
+
+  pub term-distinct : Distinct term
+  term-distinct = distinct-is term .0 (distinct-declared readBackPlace (readBackSignals readBack) p ∙ distinct-is p .1 (a .distinct))
+
+  term-targeted : Targeted term
+  term-targeted = targeted-is term .0 (targeted-declared readBackPlace (readBackSignals readBack) p ∙ targeted-is p .1 (a .targeted))
+
+  term-formed : WellFormed term
+  term-formed =
+      wellFormed-is term term-distinct .0
+      (wellFormed-declared readBackPlace (readBackSignals readBack) p ∙ wellFormed-is p (a .distinct) .1 (a .formed))
+
+  -- a set is valid for the program exactly if it is for the sequence
+  term-valid : (L : ℕ) → Valid p L ↔ Valid term L
+  term-valid L =
+      let e = valid-declared readBackPlace (readBackSignals readBack) p L in
+      (λ v. valid-is term L .0 (e ∙ valid-is p L .1 v), λ v. valid-is p L .0 (sym e ∙ valid-is term L .1 v))
+
+  recorded-after : (e : ℕ) (r : Reaction) (x : ReactionOf term e r) → FromValid term e x → Recorded p (stateAfter r)
   recorded-after e (gives o ended L t) x v = tt
   recorded-after e (gives o waiting L t) x v = (
-    stable p (a .source) (a .distinct) (a .targeted) (a .formed) e o L t x v,
-    below-number labelCount L (λ l m. stop-below p (a .spelled .1 .ranged) l (labels-of-stops p (a .source) e o L t x .1 l m)),
+    term-valid L .1 (stable term term-source term-distinct term-targeted term-formed e o L t x v),
+    below-number labelCount L
+        (λ l m. stop-below p (a .spelled .1 .ranged) l
+        (stops-declared readBackPlace (readBackSignals readBack) p l (labels-of-stops term term-source e o L t x .1 l m))),
   )
   recorded-after e (gives o (leaving n) L t) x v = tt
   recorded-after e (gives o wrong L t) x v = tt
 
-  pub recorded-fresh : (e : ℕ) → Recorded p (stateAfter (react p e))
-  recorded-fresh e = recorded-after e (react p e) of-statement tt
+  pub recorded-fresh : (e : ℕ) → Recorded p (stateAfter (react term e))
+  recorded-fresh e = recorded-after e (react term e) of-statement tt
 
-  pub recorded-resumed : (L e : ℕ) → Valid p L → Recorded p (stateAfter (react (expand p L) e))
-  recorded-resumed L e v = recorded-after e (react (expand p L) e) (of-expansion L) v
+  pub recorded-resumed : (L e : ℕ) → Valid p L → Recorded p (stateAfter (react (expand term L) e))
+  recorded-resumed L e v = recorded-after e (react (expand term L) e) (of-expansion L) (term-valid L .0 v)
 
-  pub emits-fresh : (e : ℕ) → Below signalCount (emitted (react p e))
-  emits-fresh e = emitted-below p e (ranged-bounded p (a .spelled .1 .ranged))
+  pub bounded-fresh : Bounded term
+  bounded-fresh = bounded-declared readBackPlace (readBackSignals readBack) p (ranged-bounded p (a .spelled .1 .ranged))
 
-  pub emits-resumed : (L e : ℕ) → Below signalCount (emitted (react (expand p L) e))
-  emits-resumed L e = emitted-below (expand p L) e (bounded-expand p L (ranged-bounded p (a .spelled .1 .ranged)))
+  pub bounded-resumed : (L : ℕ) → Bounded (expand term L)
+  bounded-resumed L = bounded-expand term L bounded-fresh
 
-  pub not-long : length sequence ≤ maxBytes
+  not-long : length sequence ≤ maxBytes
   not-long =
       elim (decLt maxBytes (length sequence)) [
         | yes i ↦ absurd (a .no-row 2 (row-2 (inr i)))
         | no i ↦ omega arith
       ]
 
-  -- the places are offsets of the sequence, also those of what expansion copies
-  pub places-fresh : PlacesBelow (length sequence) p
+  -- the places are offsets of the sequence, also those of what expansion copies, or that of the declarations
+  pub places-fresh : PlacesBelow (256 ^ placeBytes) term
   places-fresh =
-      placed-below (length sequence) 0 p (a .spelled .1 .ranged) (a .spelled .2) (omega (arith, ap length (a .spelled .0)))
+      places-declared (256 ^ placeBytes) readBackPlace (readBackSignals readBack) p (omega arith)
+      (placed-below (256 ^ placeBytes) 0 p (a .spelled .1 .ranged) (a .spelled .2) (omega (arith, not-long, ap length (a .spelled .0))))
 
-  pub places-resumed : (L : ℕ) → PlacesBelow (length sequence) (expand p L)
-  places-resumed L = places-expand (length sequence) p L places-fresh
-
-  pub names-fresh : (e : ℕ) (k : Code) → blame k (firstError p e) .place < 256 ^ placeBytes
-  names-fresh e k = place-fits (length sequence) p e k not-long places-fresh
-
-  pub names-resumed : (L e : ℕ) (k : Code) → blame k (firstError (expand p L) e) .place < 256 ^ placeBytes
-  names-resumed L e k = place-fits (length sequence) (expand p L) e k not-long (places-resumed L)
+  pub places-resumed : (L : ℕ) → PlacesBelow (256 ^ placeBytes) (expand term L)
+  places-resumed L = places-expand (256 ^ placeBytes) term L places-fresh

@@ -17,6 +17,7 @@ use Rattle.esterel.specs.Machines.{State}
 use Rattle.esterel.proofs.Booleans.{Tested, tested}
 use Rattle.esterel.proofs.Rules.{wrong-is}
 use Rattle.esterel.proofs.SignalOrders as orders
+use Rattle.sequence.specs.Program.{program}
 use Rattle.sequence.specs.Check.{Checked, sound, bad, checked, checkOf}
 use Rattle.records.specs.Records.{stateLength, answerLength, Decoded, holds, malformed, decodeState, encodeState, encodeAnswer, codeIn, codeByte}
 use Rattle.demands.specs.Tick.{Outcome, outcome, written, byState, byCheck, tickBy, tickOf}
@@ -36,9 +37,9 @@ unfolding encodeAnswer
 code-shown (gives o k l t) x = refl
 
 -- of a statement within the widths, 255 means wrong by either order
-wrong-shown : (ord : Order) (t : Statement) (e n : ℕ) → Fitting t n → codeShown (written (startBy ord t e)) ≡ 255
+wrong-shown : (ord : Order) (t : Statement) (e : ℕ) → Fitting t → codeShown (written (startBy ord t e)) ≡ 255
     → code (reactBy ord t e) ≡ wrong
-wrong-shown ord t e n f =
+wrong-shown ord t e f =
     called-wrong (code (reactBy ord t e)) _ (code-exits ord t e (f .0)) (code-shown (reactBy ord t e) (firstErrorBy ord t e)) .0
 
 shown-wrong : (t : Statement) (e : ℕ) → code (react t e) ≡ wrong → codeShown (written (start t e)) ≡ 255
@@ -71,7 +72,7 @@ module _ (t : Statement) (e : ℕ) where
       go (Tested.no x) = absurd (n (alike (orders.unchanged t e x)))
 
 -- ---- one tick by both orders: a refusal is the same
-module _ (state : List ℕ) (e : ℕ) (answer : List ℕ) where
+module _ (state : List ℕ) (e readBack : ℕ) (answer : List ℕ) where
   state-refused : (p : Statement) (d : Decoded) → number (byState inheritanceFirst p d state e answer) ≢ 0
       → byState printed p d state e answer ≡ byState inheritanceFirst p d state e answer
   state-refused p malformed n = refl
@@ -79,65 +80,65 @@ module _ (state : List ℕ) (e : ℕ) (answer : List ℕ) where
   state-refused p (holds (State.waits L)) n = absurd (n refl)
   state-refused p (holds State.over) n = refl
 
-  check-refused : (c : Checked) → number (byCheck inheritanceFirst c state e answer) ≢ 0
-      → byCheck printed c state e answer ≡ byCheck inheritanceFirst c state e answer
+  check-refused : (c : Checked) → number (byCheck inheritanceFirst readBack c state e answer) ≢ 0
+      → byCheck printed readBack c state e answer ≡ byCheck inheritanceFirst readBack c state e answer
   check-refused (bad k) n = refl
-  check-refused (sound p) n = state-refused p (decodeState p state) n
+  check-refused (sound p) n = state-refused (program readBack p) (decodeState p state) n
 
-  refused : (sequence : List ℕ) → number (tickOf sequence state e answer) ≢ 0
-      → tickBy printed sequence state e answer ≡ tickOf sequence state e answer
+  refused : (sequence : List ℕ) → number (tickOf sequence state e readBack answer) ≢ 0
+      → tickBy printed sequence state e readBack answer ≡ tickOf sequence state e readBack answer
   unfolding tickBy
   refused sequence = go (eqb (length state) stateLength && eqb (length answer) answerLength)
     where
-      go : (b : Bool) → number (cond b (byCheck inheritanceFirst (checked sequence) state e answer) (outcome 1 state answer)) ≢ 0
-          → cond b (byCheck printed (checked sequence) state e answer) (outcome 1 state answer)
-          ≡ cond b (byCheck inheritanceFirst (checked sequence) state e answer) (outcome 1 state answer)
-      go true n = check-refused (checked sequence) n
+      go : (b : Bool) → number (cond b (byCheck inheritanceFirst readBack (checked sequence readBack) state e answer) (outcome 1 state answer)) ≢ 0
+          → cond b (byCheck printed readBack (checked sequence readBack) state e answer) (outcome 1 state answer)
+          ≡ cond b (byCheck inheritanceFirst readBack (checked sequence readBack) state e answer) (outcome 1 state answer)
+      go true n = check-refused (checked sequence readBack) n
       go false n = refl
 
 -- an instant: the term at which the machine stands, and what both orders write
-pub record Compared (sequence state : List ℕ) (e : ℕ) (answer : List ℕ) : Type 0 where
+pub record Compared (sequence state : List ℕ) (e readBack : ℕ) (answer : List ℕ) : Type 0 where
   pub term : Statement
-  pub at : StandsAt sequence state term
-  pub old : tickBy printed sequence state e answer ≡ written (startBy printed term e)
-  pub new : tickOf sequence state e answer ≡ written (start term e)
-  pub fits : Fitting term (length sequence)
+  pub at : StandsAt sequence readBack state term
+  pub old : tickBy printed sequence state e readBack answer ≡ written (startBy printed term e)
+  pub new : tickOf sequence state e readBack answer ≡ written (start term e)
+  pub fits : Fitting term
 
-module _ (sequence state : List ℕ) (e : ℕ) (answer : List ℕ) where
-  compared : number (tickOf sequence state e answer) ≡ 0 → Compared sequence state e answer
+module _ (sequence state : List ℕ) (e readBack : ℕ) (answer : List ℕ) where
+  compared : number (tickOf sequence state e readBack answer) ≡ 0 → Compared sequence state e readBack answer
   compared z =
-      let t = stands sequence state e answer z in
-      let a = accepted sequence (passed-check sequence state e answer z) in
-      let i = state-sized sequence state e answer z in
-      let j = answer-sized sequence state e answer z in
-      let w = stands-written sequence a inheritanceFirst state e answer i j (t .1) in
+      let t = stands sequence state e readBack answer z in
+      let a = accepted sequence readBack (passed-check sequence state e readBack answer z) in
+      let i = state-sized sequence state e readBack answer z in
+      let j = answer-sized sequence state e readBack answer z in
+      let w = stands-written sequence readBack a inheritanceFirst state e answer i j (t .1) in
       record {
         term = t .0;
         at = t .1;
-        old = stands-written sequence a printed state e answer i j (t .1) .0;
+        old = stands-written sequence readBack a printed state e answer i j (t .1) .0;
         new = w .0;
         fits = w .1;
       }
 
   -- of a refusal, or of an instant
-  by-number : {A : Type 0} → (number (tickOf sequence state e answer) ≢ 0 → A) → (Compared sequence state e answer → A) → A
+  by-number : {A : Type 0} → (number (tickOf sequence state e readBack answer) ≢ 0 → A) → (Compared sequence state e readBack answer → A) → A
   by-number f g =
-      elim (ℕ-discrete (number (tickOf sequence state e answer)) 0) [
+      elim (ℕ-discrete (number (tickOf sequence state e readBack answer)) 0) [
         | yes z ↦ g (compared z)
         | no z ↦ f z
       ]
 
   abbrev Same : Type 0
-  Same = tickBy printed sequence state e answer ≡ tickOf sequence state e answer
+  Same = tickBy printed sequence state e readBack answer ≡ tickOf sequence state e readBack answer
 
-  same-written : (c : Compared sequence state e answer) → written (startBy printed (c .term) e) ≡ written (start (c .term) e) → Same
+  same-written : (c : Compared sequence state e readBack answer) → written (startBy printed (c .term) e) ≡ written (start (c .term) e) → Same
   same-written c h = c .old ∙ h ∙ sym (c .new)
 
   -- (a) not wrong by the new order
-  pub tick-kept : codeShown (tickOf sequence state e answer) ≢ 255 → Same
-  tick-kept n = by-number (refused state e answer sequence) go
+  pub tick-kept : codeShown (tickOf sequence state e readBack answer) ≢ 255 → Same
+  tick-kept n = by-number (refused state e readBack answer sequence) go
     where
-      go : Compared sequence state e answer → Same
+      go : Compared sequence state e readBack answer → Same
       go c = same-written c (by (tested (isWrong (code (react (c .term) e)))))
         where
           by : Tested (isWrong (code (react (c .term) e))) → written (startBy printed (c .term) e) ≡ written (start (c .term) e)
@@ -145,14 +146,14 @@ module _ (sequence state : List ℕ) (e : ℕ) (answer : List ℕ) where
           by (Tested.no w) = kept-written (c .term) e w
 
   -- (b) changed
-  pub tick-changed : tickBy printed sequence state e answer ≢ tickOf sequence state e answer
-      → (number (tickOf sequence state e answer) ≡ 0) × (codeShown (tickOf sequence state e answer) ≡ 255)
-      × ((t : Statement) × StandsAt sequence state t × (overlap t e ≡ true))
-  tick-changed n = by-number (λ z. absurd (n (refused state e answer sequence z))) go
+  pub tick-changed : tickBy printed sequence state e readBack answer ≢ tickOf sequence state e readBack answer
+      → (number (tickOf sequence state e readBack answer) ≡ 0) × (codeShown (tickOf sequence state e readBack answer) ≡ 255)
+      × ((t : Statement) × StandsAt sequence readBack state t × (overlap t e ≡ true))
+  tick-changed n = by-number (λ z. absurd (n (refused state e readBack answer sequence z))) go
     where
-      go : Compared sequence state e answer
-          → (number (tickOf sequence state e answer) ≡ 0) × (codeShown (tickOf sequence state e answer) ≡ 255)
-          × ((t : Statement) × StandsAt sequence state t × (overlap t e ≡ true))
+      go : Compared sequence state e readBack answer
+          → (number (tickOf sequence state e readBack answer) ≡ 0) × (codeShown (tickOf sequence state e readBack answer) ≡ 255)
+          × ((t : Statement) × StandsAt sequence readBack state t × (overlap t e ≡ true))
       go c =
           let o = differs (c .term) e (λ h. n (same-written c h)) in (
             ap number (c .new),
@@ -161,17 +162,17 @@ module _ (sequence state : List ℕ) (e : ℕ) (answer : List ℕ) where
           )
 
   -- (c) wrong by the printed order: the same records, kind and place included
-  pub tick-stays : number (tickBy printed sequence state e answer) ≡ 0 → codeShown (tickBy printed sequence state e answer) ≡ 255 → Same
-  tick-stays z h = by-number (refused state e answer sequence)
-      (λ c. same-written c (stays-written (c .term) e (wrong-shown printed (c .term) e (length sequence) (c .fits) (ap codeShown (sym (c .old)) ∙ h))))
+  pub tick-stays : number (tickBy printed sequence state e readBack answer) ≡ 0 → codeShown (tickBy printed sequence state e readBack answer) ≡ 255 → Same
+  tick-stays z h = by-number (refused state e readBack answer sequence)
+      (λ c. same-written c (stays-written (c .term) e (wrong-shown printed (c .term) e (c .fits) (ap codeShown (sym (c .old)) ∙ h))))
 
 -- ---- lists of ticks, up to the first that is wrong by the new order
-pub outcomes-kept : (sequence state : List ℕ) (calls : List Call)
-    → ((o : Outcome) → List·Memᴰ o (outcomes tickOf sequence state calls) → codeShown o ≢ 255)
-    → outcomes (tickBy printed) sequence state calls ≡ outcomes tickOf sequence state calls
+pub outcomes-kept : (sequence : List ℕ) (readBack : ℕ) (state : List ℕ) (calls : List Call)
+    → ((o : Outcome) → List·Memᴰ o (outcomes tickOf sequence readBack state calls) → codeShown o ≢ 255)
+    → outcomes (tickBy printed) sequence readBack state calls ≡ outcomes tickOf sequence readBack state calls
 unfolding outcomes
-outcomes-kept sequence state [] n = refl
-outcomes-kept sequence state (c ∷ cs) n =
-    let h = tick-kept sequence state (c .input) (c .buffer) (n (tickOf sequence state (c .input) (c .buffer)) (List·Memᴰ.List·Memᴰ·head refl)) in
-    rw h (ap (λ (os : List Outcome). tickOf sequence state (c .input) (c .buffer) ∷ os)
-    (outcomes-kept sequence (stateAfterwards (tickOf sequence state (c .input) (c .buffer))) cs (λ o m. n o (List·Memᴰ.List·Memᴰ·tail m))))
+outcomes-kept sequence readBack state [] n = refl
+outcomes-kept sequence readBack state (c ∷ cs) n =
+    let h = tick-kept sequence state (c .input) readBack (c .buffer) (n (tickOf sequence state (c .input) readBack (c .buffer)) (List·Memᴰ.List·Memᴰ·head refl)) in
+    rw h (ap (λ (os : List Outcome). tickOf sequence state (c .input) readBack (c .buffer) ∷ os)
+    (outcomes-kept sequence readBack (stateAfterwards (tickOf sequence state (c .input) readBack (c .buffer))) cs (λ o m. n o (List·Memᴰ.List·Memᴰ·tail m))))

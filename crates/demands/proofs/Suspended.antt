@@ -7,7 +7,8 @@ use Rattle.esterel.specs.LabelTests.{subset, disjoint, labelsOf, activeLabels, 
 use Rattle.esterel.specs.States.{active}
 use Rattle.esterel.specs.Expansion.{expand}
 use Rattle.sequence.specs.Commands.{commandOf}
-use Rattle.sequence.specs.Reader.{front, read}
+use Rattle.esterel.specs.ReadBack.{membersFrom, declared}
+use Rattle.sequence.specs.Reader.{front, read, nesting}
 use Rattle.sequence.specs.Check.{checked}
 use Rattle.records.specs.Bytes.{leBytes, leNumber}
 use Rattle.records.specs.Records.{encodeState, decodeState, encodeAnswer}
@@ -18,5 +19,5 @@ use Rattle.demands.specs.Suspended.{suspendRuns}
 
 -- THE BAYS WITH SUSPEND: each row of the table
 pub suspended : ShowsRuns suspendRuns tickOf
-unfolding suspendRuns outcomes tickBy checked read front commandOf distinct wellFormed everyLabel before labelsOf activeLabels valid subset disjoint active expand decodeState encodeState encodeAnswer leNumber leBytes reactBy errorsBy member none only join insert remove
+unfolding suspendRuns outcomes tickBy checked read front commandOf nesting declared membersFrom distinct wellFormed everyLabel before labelsOf activeLabels valid subset disjoint active expand decodeState encodeState encodeAnswer leNumber leBytes reactBy errorsBy member none only join insert remove
 suspended = refl

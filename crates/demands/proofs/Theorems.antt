@@ -12,6 +12,7 @@ use Rattle.esterel.specs.SignalOrders.{overlap}
 use Rattle.esterel.specs.Rules.{Reacts}
 use Rattle.esterel.specs.States.{NoSetpause}
 use Rattle.esterel.specs.Machines.{Rewriting, erase}
+use Rattle.sequence.specs.Program.{program}
 use Rattle.sequence.specs.Check.{checkOf}
 use Rattle.sequence.specs.Rows.{Spells}
 use Rattle.records.specs.Records.{answerLength, codeIn}
@@ -36,7 +37,7 @@ use Rattle.demands.proofs.Suspended as suspends
 use Rattle.demands.proofs.FirstErrors as firsts
 
 -- an accepted sequence spells one statement
-pub spells-one : (sequence : List ℕ) → checkOf sequence ≡ 0
+pub spells-one : (sequence : List ℕ) (readBack : ℕ) → checkOf sequence readBack ≡ 0
     → (p : Statement) × Spells sequence p × ((q : Statement) → Spells sequence q → q ≡ p)
 spells-one = sequence.spells-one
 
@@ -51,20 +52,20 @@ pub demand-3 : Demand3 checkOf tickOf
 demand-3 = three.demand-3
 
 -- ---- calls that meet the tick's contract
-pub demand-1-calls : (sequence state : List ℕ) → checkOf sequence ≡ 0 → Admitted sequence state
-    → (cs : List Call) (results : List Outcome) → Chain sequence state cs results
+pub demand-1-calls : (sequence : List ℕ) (readBack : ℕ) (state : List ℕ) → checkOf sequence readBack ≡ 0 → Admitted sequence state
+    → (cs : List Call) (results : List Outcome) → Chain sequence readBack state cs results
     → (o : Outcome) → List·Memᴰ o results → number o ≢ 11
 demand-1-calls = calls.never-11-calls
 
-pub demand-2-call : {n : ℕ} {state′ answer′ : List ℕ} (sequence state : List ℕ) (e : ℕ) (answer : List ℕ)
-    → TickMeets n state′ answer′ sequence state e answer → n ≡ 0
-    → (t : Statement) × StandsAt sequence state t
+pub demand-2-call : {n : ℕ} {state′ answer′ : List ℕ} (sequence state : List ℕ) (e readBack : ℕ) (answer : List ℕ)
+    → TickMeets n state′ answer′ sequence state e readBack answer → n ≡ 0
+    → (t : Statement) × StandsAt sequence readBack state t
     × ((o : ℕ) (k : Code) (l : ℕ) (t′ : Statement) → Reacts t e (gives o k l t′) → Shows t e o k l t′ (outcome n state′ answer′))
 demand-2-call = calls.demand-2-call
 
-pub demand-3-calls : (sequence : List ℕ) → checkOf sequence ≡ 0 → (p : Statement) → Spells sequence p → NoSetpause p
-    → (cs : List Call) (results : List Outcome) → Chain sequence cleared cs results
-    → map report results ≡ paper (Rewriting.fresh p) cs
+pub demand-3-calls : (sequence : List ℕ) (readBack : ℕ) → checkOf sequence readBack ≡ 0 → (p : Statement) → Spells sequence p → NoSetpause p
+    → (cs : List Call) (results : List Outcome) → Chain sequence readBack cleared cs results
+    → map report results ≡ paper (Rewriting.fresh (program readBack p)) cs
 demand-3-calls = calls.demand-3-calls
 
 -- ---- the paper knows no labels: its terms carry them in held suspends, and what it reports never depends on them
@@ -74,27 +75,29 @@ paper-knows-no-labels = paper-labels.paper-knows-no-labels
 
 -- ---- the two orders of the signal rules (02, item 4): `tickBy printed` is the tick as it was
 -- an instant that is not wrong has the records it had
-pub not-wrong-kept : (sequence state : List ℕ) (e : ℕ) (answer : List ℕ) → codeIn (answerAfterwards (tickOf sequence state e answer)) ≢ 255
-    → tickBy printed sequence state e answer ≡ tickOf sequence state e answer
+pub not-wrong-kept : (sequence state : List ℕ) (e readBack : ℕ) (answer : List ℕ)
+    → codeIn (answerAfterwards (tickOf sequence state e readBack answer)) ≢ 255
+    → tickBy printed sequence state e readBack answer ≡ tickOf sequence state e readBack answer
 not-wrong-kept = orders.tick-kept
 
 -- a record that changes is that of an instant which uses a signal whose body emitted in both runs with a run wrong; it is wrong now
-pub changed-only : (sequence state : List ℕ) (e : ℕ) (answer : List ℕ)
-    → tickBy printed sequence state e answer ≢ tickOf sequence state e answer
-    → (number (tickOf sequence state e answer) ≡ 0) × (codeIn (answerAfterwards (tickOf sequence state e answer)) ≡ 255)
-    × ((t : Statement) × StandsAt sequence state t × (overlap t e ≡ true))
+pub changed-only : (sequence state : List ℕ) (e readBack : ℕ) (answer : List ℕ)
+    → tickBy printed sequence state e readBack answer ≢ tickOf sequence state e readBack answer
+    → (number (tickOf sequence state e readBack answer) ≡ 0) × (codeIn (answerAfterwards (tickOf sequence state e readBack answer)) ≡ 255)
+    × ((t : Statement) × StandsAt sequence readBack state t × (overlap t e ≡ true))
 changed-only = orders.tick-changed
 
 -- an instant that was wrong has the records it had: the same first error is named
-pub wrong-stays : (sequence state : List ℕ) (e : ℕ) (answer : List ℕ) → number (tickBy printed sequence state e answer) ≡ 0
-    → codeIn (answerAfterwards (tickBy printed sequence state e answer)) ≡ 255
-    → tickBy printed sequence state e answer ≡ tickOf sequence state e answer
+pub wrong-stays : (sequence state : List ℕ) (e readBack : ℕ) (answer : List ℕ)
+    → number (tickBy printed sequence state e readBack answer) ≡ 0
+    → codeIn (answerAfterwards (tickBy printed sequence state e readBack answer)) ≡ 255
+    → tickBy printed sequence state e readBack answer ≡ tickOf sequence state e readBack answer
 wrong-stays = orders.tick-stays
 
 -- so lists of ticks are the same up to the first that is wrong
-pub not-wrong-kept-list : (sequence state : List ℕ) (cs : List Call)
-    → ((o : Outcome) → List·Memᴰ o (outcomes tickOf sequence state cs) → codeIn (answerAfterwards o) ≢ 255)
-    → outcomes (tickBy printed) sequence state cs ≡ outcomes tickOf sequence state cs
+pub not-wrong-kept-list : (sequence : List ℕ) (readBack : ℕ) (state : List ℕ) (cs : List Call)
+    → ((o : Outcome) → List·Memᴰ o (outcomes tickOf sequence readBack state cs) → codeIn (answerAfterwards o) ≢ 255)
+    → outcomes (tickBy printed) sequence readBack state cs ≡ outcomes tickOf sequence readBack state cs
 not-wrong-kept-list = orders.outcomes-kept
 
 -- ---- the starred bays

@@ -15,6 +15,7 @@ use Rattle.esterel.specs.States.{Valid}
 use Rattle.esterel.specs.LabelTests.{valid}
 use Rattle.esterel.specs.Machines.{State}
 use Rattle.esterel.proofs.LabelTests.{valid-is}
+use Rattle.sequence.specs.Program.{program}
 use Rattle.sequence.specs.Check.{Checked, sound, bad, checked}
 use Rattle.sequence.specs.Rows.{Spells, ByRows}
 use Rattle.sequence.proofs.ByRows.{refused-by, accepted-by}
@@ -81,16 +82,16 @@ well-formed (reads-over e n) (labels-over f m) = m n
 well-formed (reads-over e n) (not-valid f m) = omega arith
 
 -- ---- the rows of one tick
-module _ (sequence state answer : List ℕ) where
+module _ (sequence : List ℕ) (readBack : ℕ) (state answer : List ℕ) where
   abbrev Holds : ℕ → Type 0
-  Holds = TickRow sequence state answer
+  Holds = TickRow sequence readBack state answer
 
   abbrev Sized : Type 0
   Sized = (length state ≡ stateLength) × (length answer ≡ answerLength)
 
   row-positive : (m : ℕ) → Holds m → 1 ≤ m
   row-positive m (row-1 x) = omega arith
-  row-positive m (row-2-to-10 r) = omega (arith, row-range sequence m r)
+  row-positive m (row-2-to-10 r) = omega (arith, row-range sequence readBack m r)
   row-positive m (row-11 s x) = omega arith
   row-positive m (row-12 x) = omega arith
 
@@ -101,17 +102,17 @@ module _ (sequence state answer : List ℕ) where
   by-1 : (length state ≢ stateLength) ⊎ (length answer ≢ answerLength) → ByRows 1 Holds
   by-1 x = refused-by 1 Holds (λ r. omega (arith, row-positive 0 r)) (row-1 x) (λ k l r. omega (arith, row-positive k r))
 
-  by-check : Sized → (k : ℕ) → Decides sequence (bad k) → ByRows k Holds
+  by-check : Sized → (k : ℕ) → Decides sequence readBack (bad k) → ByRows k Holds
   by-check z k d =
       refused-by k Holds (λ r. omega (arith, row-positive 0 r)) (row-2-to-10 (d .0)) below
     where
       below : (m : ℕ) → m < k → ¬ Holds m
       below m l (row-1 x) = not-1 z x
       below m l (row-2-to-10 r) = d .1 m l r
-      below m l (row-11 s x) = omega (arith, row-range sequence k (d .0))
-      below m l (row-12 x) = omega (arith, row-range sequence k (d .0))
+      below m l (row-11 s x) = omega (arith, row-range sequence readBack k (d .0))
+      below m l (row-12 x) = omega (arith, row-range sequence readBack k (d .0))
 
-  module _ (z : Sized) (p : Statement) (c : Decides sequence (sound p)) where
+  module _ (z : Sized) (p : Statement) (c : Decides sequence readBack (sound p)) where
     not-11 : {s : State} {q : Statement} → Reading p (phaseIn state) (labelsIn state) (holds s) → Spells sequence q
         → Malformed q (phaseIn state) (labelsIn state) → ⊥
     not-11 {q = q} r t y =
@@ -124,7 +125,7 @@ module _ (sequence state answer : List ℕ) where
     nowhere r n m (row-11 t y) = not-11 r t y
     nowhere r n m (row-12 y) = n y
 
-    by-state : (e : ℕ) (d : Decoded) → Reading p (phaseIn state) (labelsIn state) d → ByRows (number (byState inheritanceFirst p d state e answer)) Holds
+    by-state : (e : ℕ) (d : Decoded) → Reading p (phaseIn state) (labelsIn state) d → ByRows (number (byState inheritanceFirst (program readBack p) d state e answer)) Holds
     by-state e d (reads-malformed x) =
         refused-by 11 Holds (λ r. omega (arith, row-positive 0 r)) (row-11 (c .1) x) below
       where
@@ -144,17 +145,17 @@ module _ (sequence state answer : List ℕ) where
     by-state e d (reads-fresh x n) = accepted-by Holds (nowhere (reads-fresh x n) (omega arith))
     by-state e d (reads-waiting x v) = accepted-by Holds (nowhere (reads-waiting x v) (omega arith))
 
-  pub tick-by-rows : (e : ℕ) → ByRows (number (tickOf sequence state e answer)) Holds
+  pub tick-by-rows : (e : ℕ) → ByRows (number (tickOf sequence state e readBack answer)) Holds
   unfolding tickBy
   tick-by-rows e = go (eqb (length state) stateLength) (eqb (length answer) answerLength) refl refl
     where
-      checks : Sized → (c : Checked) → Decides sequence c → ByRows (number (byCheck inheritanceFirst c state e answer)) Holds
+      checks : Sized → (c : Checked) → Decides sequence readBack c → ByRows (number (byCheck inheritanceFirst readBack c state e answer)) Holds
       checks z (bad k) d = by-check z k d
       checks z (sound p) d = by-state z p d e (decodeState p state) (reading p state)
 
       go : (b c : Bool) → eqb (length state) stateLength ≡ b → eqb (length answer) answerLength ≡ c
-          → ByRows (number (cond (b && c) (byCheck inheritanceFirst (checked sequence) state e answer) (outcome 1 state answer))) Holds
+          → ByRows (number (cond (b && c) (byCheck inheritanceFirst readBack (checked sequence readBack) state e answer) (outcome 1 state answer))) Holds
       go true true i j =
-          checks (eqb-true (length state) stateLength i, eqb-true (length answer) answerLength j) (checked sequence) (decided sequence)
+          checks (eqb-true (length state) stateLength i, eqb-true (length answer) answerLength j) (checked sequence readBack) (decided sequence readBack)
       go true false i j = by-1 (inr (eqb-false (length answer) answerLength j))
       go false c i j = by-1 (inl (eqb-false (length state) stateLength i))

@@ -1,9 +1,10 @@
 -- 01's starred bays (01, 'Bays to run'): bytes, and what the tick of a fresh machine shows with empty input, once or in each
--- instant, whatever the answer buffer of the right length held before.
+-- instant, whatever the answer buffer of the right length held before. No signal is read back.
 use Prim.Native.Nat.{ℕ}
 use mathlib.Core.Path.{_≡_}
 use mathlib.Core.List.{List, [], _∷_, map}
 use lib.ListN.{replicate}
+use Rattle.esterel.specs.Sets.{none}
 use Rattle.records.specs.Records.{labelsIn, codeIn, kindIn, placeIn, emittedIn}
 use Rattle.demands.specs.Tick.{Outcome}
 use Rattle.demands.specs.Demands.{Tick, number, stateAfterwards, answerAfterwards, outcomes, cleared}
@@ -63,7 +64,7 @@ shownBy o =
 
 -- what a tick shows in n instants from a cleared record
 abbrev pub instants : Tick → (bytes buffer : List ℕ) → ℕ → List Instant
-instants tick bytes buffer n = map shownBy (outcomes tick bytes cleared (replicate n (record { input = 0; buffer = buffer })))
+instants tick bytes buffer n = map shownBy (outcomes tick bytes none cleared (replicate n (record { input = 0; buffer = buffer })))
 
 -- the tick shows what the row says, as often as the row says
 abbrev pub ShowsWhen : When → Tick → (bytes buffer : List ℕ) → Instant → Type 0

@@ -14,18 +14,20 @@ use Rattle.esterel.specs.Errors.{Error, firstError, blame, uses}
 use Rattle.esterel.specs.States.{NoSetpause, Valid}
 use Rattle.esterel.specs.Expansion.{expand}
 use Rattle.esterel.specs.Machines.{shown, stateAfter, Rewriting}
+use Rattle.sequence.specs.Program.{program}
 use Rattle.sequence.specs.Rows.{Spells, Row, ByRows}
 use Rattle.records.specs.Records.{stateLength, answerLength, phaseIn, labelsIn, encodeState, answerRecord, codeIn, kindIn, placeIn, emittedIn, codeByte}
 use Rattle.demands.specs.Tick.{Outcome, outcome, tickOf}
 use Rattle.demands.specs.TickRows.{Malformed, TickRow}
 use Rattle.demands.specs.Paper.{Call, Report, turnedDown, reacted, paper}
 
+-- sequence, read-back set
 abbrev pub Check : Type 0
-Check = List ℕ → ℕ
+Check = List ℕ → ℕ → ℕ
 
--- sequence, state, input, answer
+-- sequence, state, input, read-back set, answer
 abbrev pub Tick : Type 0
-Tick = List ℕ → List ℕ → ℕ → List ℕ → Outcome
+Tick = List ℕ → List ℕ → ℕ → ℕ → List ℕ → Outcome
 
 abbrev pub number : Outcome → ℕ
 number (outcome n state answer) = n
@@ -36,12 +38,12 @@ stateAfterwards (outcome n state answer) = state
 abbrev pub answerAfterwards : Outcome → List ℕ
 answerAfterwards (outcome n state answer) = answer
 
--- ---- lists of ticks: each reads the record as the last one left it
-unfoldable pub outcomes : Tick → (sequence state : List ℕ) → List Call → List Outcome
-outcomes tick sequence state [] = []
-outcomes tick sequence state (c ∷ cs) =
-    tick sequence state (c .input) (c .buffer)
-    ∷ outcomes tick sequence (stateAfterwards (tick sequence state (c .input) (c .buffer))) cs
+-- ---- lists of ticks: each reads the record as the last one left it; the read-back set is the same in all (02, item 5)
+unfoldable pub outcomes : Tick → (sequence : List ℕ) (readBack : ℕ) (state : List ℕ) → List Call → List Outcome
+outcomes tick sequence readBack state [] = []
+outcomes tick sequence readBack state (c ∷ cs) =
+    tick sequence state (c .input) readBack (c .buffer)
+    ∷ outcomes tick sequence readBack (stateAfterwards (tick sequence state (c .input) readBack (c .buffer))) cs
 
 -- a cleared record
 abbrev pub cleared : List ℕ
@@ -54,21 +56,24 @@ Admitted sequence state =
     (length state ≡ stateLength) × ((p : Statement) → Spells sequence p → ¬ Malformed p (phaseIn state) (labelsIn state))
 
 pub record Demand1 (check : Check) (tick : Tick) : Type 0 where
-  pub check-by-rows : (sequence : List ℕ) → ByRows (check sequence) (Row sequence)
-  pub tick-by-rows : (sequence state : List ℕ) (e : ℕ) (answer : List ℕ)
-      → ByRows (number (tick sequence state e answer)) (TickRow sequence state answer)
-  pub refusal-writes-nothing : (sequence state : List ℕ) (e : ℕ) (answer : List ℕ) → number (tick sequence state e answer) ≢ 0
-      → tick sequence state e answer ≡ outcome (number (tick sequence state e answer)) state answer
-  pub never-11 : (sequence state : List ℕ) → check sequence ≡ 0 → Admitted sequence state → (calls : List Call) (o : Outcome)
-      → List·Memᴰ o (outcomes tick sequence state calls) → number o ≢ 11
+  pub check-by-rows : (sequence : List ℕ) (readBack : ℕ) → ByRows (check sequence readBack) (Row sequence readBack)
+  pub tick-by-rows : (sequence state : List ℕ) (e readBack : ℕ) (answer : List ℕ)
+      → ByRows (number (tick sequence state e readBack answer)) (TickRow sequence readBack state answer)
+  pub refusal-writes-nothing : (sequence state : List ℕ) (e readBack : ℕ) (answer : List ℕ)
+      → number (tick sequence state e readBack answer) ≢ 0
+      → tick sequence state e readBack answer ≡ outcome (number (tick sequence state e readBack answer)) state answer
+  pub never-11 : (sequence : List ℕ) (readBack : ℕ) (state : List ℕ) → check sequence readBack ≡ 0 → Admitted sequence state
+      → (calls : List Call) (o : Outcome)
+      → List·Memᴰ o (outcomes tick sequence readBack state calls) → number o ≢ 11
   pub cleared-admitted : (sequence : List ℕ) → Admitted sequence cleared
 
 -- ---- demand 2
--- the sequence is p, and in the state of this record the machine reacts with t
-pub data StandsAt (sequence state : List ℕ) : Statement → Type 0 where
-  at-start : {p : Statement} → Spells sequence p → phaseIn state ≡ 0 → labelsIn state ≡ none → StandsAt sequence state p
+-- the sequence is p, and in the state of this record the machine reacts with t, the program or its expansion
+pub data StandsAt (sequence : List ℕ) (readBack : ℕ) (state : List ℕ) : Statement → Type 0 where
+  at-start : {p : Statement} → Spells sequence p → phaseIn state ≡ 0 → labelsIn state ≡ none
+      → StandsAt sequence readBack state (program readBack p)
   at-labels : {p : Statement} → Spells sequence p → phaseIn state ≡ 1 → Valid p (labelsIn state)
-      → StandsAt sequence state (expand p (labelsIn state))
+      → StandsAt sequence readBack state (expand (program readBack p) (labelsIn state))
 
 -- what the rules give for t is what the records show: both records whole, then the answer by its fields
 pub record Shows (t : Statement) (e o : ℕ) (k : Code) (l : ℕ) (t′ : Statement) (result : Outcome) : Type 0 where
@@ -89,32 +94,34 @@ pub record Shows (t : Statement) (e o : ℕ) (k : Code) (l : ℕ) (t′ : Statem
 
 pub record Demand2 (check : Check) (tick : Tick) : Type 0 where
   -- where the tick gives 0, the machine stands at a term
-  pub stands : (sequence state : List ℕ) (e : ℕ) (answer : List ℕ) → number (tick sequence state e answer) ≡ 0
-      → (t : Statement) × StandsAt sequence state t
-  pub shows : (sequence state : List ℕ) (e : ℕ) (answer : List ℕ) → check sequence ≡ 0
-      → length state ≡ stateLength → length answer ≡ answerLength → (t : Statement) → StandsAt sequence state t
-      → (o : ℕ) (k : Code) (l : ℕ) (t′ : Statement) → Reacts t e (gives o k l t′) → Shows t e o k l t′ (tick sequence state e answer)
+  pub stands : (sequence state : List ℕ) (e readBack : ℕ) (answer : List ℕ) → number (tick sequence state e readBack answer) ≡ 0
+      → (t : Statement) × StandsAt sequence readBack state t
+  pub shows : (sequence state : List ℕ) (e readBack : ℕ) (answer : List ℕ) → check sequence readBack ≡ 0
+      → length state ≡ stateLength → length answer ≡ answerLength → (t : Statement) → StandsAt sequence readBack state t
+      → (o : ℕ) (k : Code) (l : ℕ) (t′ : Statement) → Reacts t e (gives o k l t′)
+      → Shows t e o k l t′ (tick sequence state e readBack answer)
 
 -- ---- demand 3
 abbrev pub report : Outcome → Report
 report (outcome zero state answer) = reacted (codeIn answer) (kindIn answer) (placeIn answer) (emittedIn answer) (phaseIn state)
 report (outcome (suc n) state answer) = turnedDown (suc n) (phaseIn state)
 
--- an accepted sequence without setpause: the paper is fed the statement that it spells, and both report the same
+-- an accepted sequence without setpause: the paper is fed the program of the statement that it spells, and both report the same
 abbrev pub Demand3 : Check → Tick → Type 0
 Demand3 check tick =
-    (sequence : List ℕ) → check sequence ≡ 0 → (p : Statement) → Spells sequence p → NoSetpause p → (calls : List Call)
-    → map report (outcomes tick sequence cleared calls) ≡ paper (Rewriting.fresh p) calls
+    (sequence : List ℕ) (readBack : ℕ) → check sequence readBack ≡ 0 → (p : Statement) → Spells sequence p → NoSetpause p
+    → (calls : List Call)
+    → map report (outcomes tick sequence readBack cleared calls) ≡ paper (Rewriting.fresh (program readBack p)) calls
 
 -- ---- the form for the code: a call of the tick meets its contract
 -- number and both buffers are tickOf's
-abbrev pub TickMeets : (n : ℕ) (state′ answer′ sequence state : List ℕ) (e : ℕ) (answer : List ℕ) → Type 0
-TickMeets n state′ answer′ sequence state e answer = outcome n state′ answer′ ≡ tickOf sequence state e answer
+abbrev pub TickMeets : (n : ℕ) (state′ answer′ sequence state : List ℕ) (e readBack : ℕ) (answer : List ℕ) → Type 0
+TickMeets n state′ answer′ sequence state e readBack answer = outcome n state′ answer′ ≡ tickOf sequence state e readBack answer
 
 -- a chain of calls: each reads the state as the last one left it, the answer buffers are free
-pub data Chain (sequence : List ℕ) : (state : List ℕ) → List Call → List Outcome → Type 0 where
-  done : {state : List ℕ} → Chain sequence state [] []
+pub data Chain (sequence : List ℕ) (readBack : ℕ) : (state : List ℕ) → List Call → List Outcome → Type 0 where
+  done : {state : List ℕ} → Chain sequence readBack state [] []
   call : {n : ℕ} {state state′ answer′ : List ℕ} {c : Call} {calls : List Call} {results : List Outcome}
-      → TickMeets n state′ answer′ sequence state (c .input) (c .buffer)
-      → Chain sequence state′ calls results
-      → Chain sequence state (c ∷ calls) (outcome n state′ answer′ ∷ results)
+      → TickMeets n state′ answer′ sequence state (c .input) readBack (c .buffer)
+      → Chain sequence readBack state′ calls results
+      → Chain sequence readBack state (c ∷ calls) (outcome n state′ answer′ ∷ results)

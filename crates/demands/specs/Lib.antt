@@ -1,4 +1,5 @@
 pub mod Tick
+pub mod Plain
 pub mod TickRows
 pub mod Paper
 pub mod Demands

@@ -16,34 +16,35 @@ instead f (outcome (suc n) state answer) = outcome (suc n) state answer
 
 -- a tick that calls every instant wrong
 abbrev pub everyWrong : Tick
-everyWrong sequence state e answer =
-    instead (λ state′ answer′. outcome 0 (encodeState State.over) (255 ∷ 1 ∷ replicate 6 0)) (tickOf sequence state e answer)
+everyWrong sequence state e readBack answer =
+    instead (λ state′ answer′. outcome 0 (encodeState State.over) (255 ∷ 1 ∷ replicate 6 0)) (tickOf sequence state e readBack answer)
 
 -- a check that turns every sequence down
 abbrev pub turnsDown : Check
-turnsDown sequence = 3
+turnsDown sequence readBack = 3
 
 -- a tick that always ends with code 0
 abbrev pub alwaysEnds : Tick
-alwaysEnds sequence state e answer =
-    instead (λ state′ answer′. outcome 0 (encodeState State.over) (replicate answerLength 0)) (tickOf sequence state e answer)
+alwaysEnds sequence state e readBack answer =
+    instead (λ state′ answer′. outcome 0 (encodeState State.over) (replicate answerLength 0)) (tickOf sequence state e readBack answer)
 
 -- a tick that leaves the labels where they were
 abbrev pub leavesLabels : Tick
-leavesLabels sequence state e answer =
-    instead (λ state′ answer′. outcome 0 (take labelsAt state′ ++ drop labelsAt state) answer′) (tickOf sequence state e answer)
+leavesLabels sequence state e readBack answer =
+    instead (λ state′ answer′. outcome 0 (take labelsAt state′ ++ drop labelsAt state) answer′) (tickOf sequence state e readBack answer)
 
 -- a tick that follows the rules in the first instant and repeats it later
 abbrev pub repeatsFirst : Tick
-repeatsFirst sequence state e answer = cond (eqb (phaseIn state) 1) (tickOf sequence cleared e answer) (tickOf sequence state e answer)
+repeatsFirst sequence state e readBack answer =
+    cond (eqb (phaseIn state) 1) (tickOf sequence cleared e readBack answer) (tickOf sequence state e readBack answer)
 
 -- a tick that says "over" to a fresh machine
 abbrev pub saysOver : Tick
-saysOver sequence state e answer =
-    cond (eqb (phaseIn state) 0) (instead (λ state′ answer′. outcome 12 state answer) (tickOf sequence state e answer))
-    (tickOf sequence state e answer)
+saysOver sequence state e readBack answer =
+    cond (eqb (phaseIn state) 0) (instead (λ state′ answer′. outcome 12 state answer) (tickOf sequence state e readBack answer))
+    (tickOf sequence state e readBack answer)
 
 -- a tick whose answers have a byte too many
 abbrev pub appendsZero : Tick
-appendsZero sequence state e answer =
-    instead (λ state′ answer′. outcome 0 state′ (answer′ ++ 0 ∷ [])) (tickOf sequence state e answer)
+appendsZero sequence state e readBack answer =
+    instead (λ state′ answer′. outcome 0 state′ (answer′ ++ 0 ∷ [])) (tickOf sequence state e readBack answer)

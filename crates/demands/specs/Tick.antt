@@ -9,6 +9,7 @@ use Rattle.esterel.specs.Reaction.{Order, inheritanceFirst}
 use Rattle.esterel.specs.Expansion.{expand}
 use Rattle.esterel.specs.Resume.{Instant, instant, startBy}
 use Rattle.esterel.specs.Machines.{State, stateAfter}
+use Rattle.sequence.specs.Program.{program}
 use Rattle.sequence.specs.Check.{Checked, sound, bad, checked}
 use Rattle.records.specs.Records.{stateLength, answerLength, Decoded, holds, malformed, encodeState, decodeState, encodeAnswer}
 
@@ -19,23 +20,25 @@ pub data Outcome : Type 0 where
 abbrev pub written : Instant → Outcome
 written (instant r x) = outcome 0 (encodeState (stateAfter r)) (encodeAnswer (instant r x))
 
--- a fresh machine reacts with the whole statement, a waiting one with its expansion; a refusal writes nothing
+-- A fresh machine reacts with the whole program p, a waiting one with its expansion; a refusal writes nothing
 abbrev pub byState : Order → Statement → Decoded → List ℕ → ℕ → List ℕ → Outcome
 byState ord p malformed state e answer = outcome 11 state answer
 byState ord p (holds State.fresh) state e answer = written (startBy ord p e)
 byState ord p (holds (State.waits L)) state e answer = written (startBy ord (expand p L) e)
 byState ord p (holds State.over) state e answer = outcome 12 state answer
 
-abbrev pub byCheck : Order → Checked → List ℕ → ℕ → List ℕ → Outcome
-byCheck ord (bad number) state e answer = outcome number state answer
-byCheck ord (sound p) state e answer = byState ord p (decodeState p state) state e answer
+-- the program is the sequence under its read-back declarations (02, item 5); the state is one of the sequence itself
+abbrev pub byCheck : Order → (readBack : ℕ) → Checked → List ℕ → ℕ → List ℕ → Outcome
+byCheck ord readBack (bad number) state e answer = outcome number state answer
+byCheck ord readBack (sound p) state e answer = byState ord (program readBack p) (decodeState p state) state e answer
 
 -- the tick by either order of the signal rules
-unfoldable pub tickBy : Order → (sequence state : List ℕ) (e : ℕ) (answer : List ℕ) → Outcome
-tickBy ord sequence state e answer =
-    cond (eqb (length state) stateLength && eqb (length answer) answerLength) (byCheck ord (checked sequence) state e answer)
+unfoldable pub tickBy : Order → (sequence state : List ℕ) (e readBack : ℕ) (answer : List ℕ) → Outcome
+tickBy ord sequence state e readBack answer =
+    cond (eqb (length state) stateLength && eqb (length answer) answerLength)
+    (byCheck ord readBack (checked sequence readBack) state e answer)
     (outcome 1 state answer)
 
 -- the tick: by 02's order (item 4)
-abbrev pub tickOf : (sequence state : List ℕ) (e : ℕ) (answer : List ℕ) → Outcome
+abbrev pub tickOf : (sequence state : List ℕ) (e readBack : ℕ) (answer : List ℕ) → Outcome
 tickOf = tickBy inheritanceFirst

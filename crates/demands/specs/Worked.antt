@@ -1,4 +1,4 @@
--- Runs worked by hand: bytes, inputs, and what the tick of a fresh machine shows on them in each instant.
+-- Runs worked by hand: bytes, read-back set, inputs, and what the tick of a fresh machine shows on them in each instant.
 use Prim.Native.Nat.{ℕ}
 use mathlib.Core.Path.{_≡_}
 use mathlib.Core.List.{List, map}
@@ -9,6 +9,7 @@ use Rattle.demands.specs.Bays.{Instant, shownBy}
 
 pub record Run : Type 0 where
   pub bytes : List ℕ
+  pub readBack : ℕ
   pub inputs : List ℕ
   pub shows : List Instant
 
@@ -21,10 +22,10 @@ abbrev pub ends : (emitted : ℕ) → Instant
 ends emitted = record { number = 0; code = 0; kind = 0; place = 0; emitted = emitted; labels = 0 }
 
 -- what a tick shows on these inputs from a cleared record, with a cleared answer buffer
-abbrev pub shownOn : Tick → (bytes inputs : List ℕ) → List Instant
-shownOn tick bytes inputs =
-    map shownBy (outcomes tick bytes cleared (map (λ (e : ℕ). record { input = e; buffer = replicate answerLength 0 }) inputs))
+abbrev pub shownOn : Tick → (bytes : List ℕ) (readBack : ℕ) (inputs : List ℕ) → List Instant
+shownOn tick bytes readBack inputs =
+    map shownBy (outcomes tick bytes readBack cleared (map (λ (e : ℕ). record { input = e; buffer = replicate answerLength 0 }) inputs))
 
 -- each row of a table
 abbrev pub ShowsRuns : List Run → Tick → Type 0
-ShowsRuns table tick = map (λ (r : Run). shownOn tick (r .bytes) (r .inputs)) table ≡ map (λ (r : Run). r .shows) table
+ShowsRuns table tick = map (λ (r : Run). shownOn tick (r .bytes) (r .readBack) (r .inputs)) table ≡ map (λ (r : Run). r .shows) table

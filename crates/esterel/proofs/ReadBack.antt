@@ -1,25 +1,32 @@
 -- A program under read-back declarations (02, item 5): expansion and rewriting leave the declarations in place, what is said
 -- of labels is said of the statement inside, and the host's status of a declared signal is never read.
-use Prim.Native.Nat.{ℕ}
+use Prim.Native.Nat.{ℕ, zero, suc}
 use mathlib.Core.Path.{_≡_, refl, sym, ap, ap₂, _∙_}
-use mathlib.Core.Logic.{_⊎_, inl, inr, ⊎-elim}
+use mathlib.Core.Logic.{_≢_, inl, inr, ⊎-elim}
 use mathlib.Core.Bool.{Bool, true, false, not, _&&_, _||_}
 use mathlib.Core.List.{List, [], _∷_, List·Memᴰ, List·Memᴰ·cases-cons, List·Memᴰ·not-nil}
 use lib.Dec.{eqb}
 use native.Mathlib.Omega.{arith}
 use borrow.Author.Tests.{eqb-false}
-use Rattle.esterel.specs.Sets.{member, insert, remove}
-use Rattle.esterel.specs.Statement.{Scope, reported, Statement, signal, setpause, held}
+use Rattle.esterel.specs.Sets.{member, none, insert, remove}
+use Rattle.esterel.specs.Statement.{reported, Statement, pause, signal, setpause, held}
 use Rattle.esterel.specs.Reaction.{waiting, Reaction, code, residual, Case, both, neither, only−, only+, inherited, inheritanceFirst, caseOf, answer, reactBy, react}
-use Rattle.esterel.specs.Places.{signal₁, At}
+use Rattle.esterel.specs.Places.{Place, signal₁, At}
 use Rattle.esterel.specs.States.{Holds, NoSetpause, Source}
 use Rattle.esterel.specs.Expansion.{expand}
 use Rattle.esterel.specs.LabelTests.{labelsOf, everyLabel, before, distinct, targeted, wellFormed, valid}
 use Rattle.esterel.specs.Resume.{Instant, signalInstant, start}
-use Rattle.esterel.specs.ReadBack.{declared, declaredInstant}
+use Rattle.esterel.specs.ReadBack.{membersFrom, declared, declaredInstant}
 use Rattle.esterel.proofs.Booleans.{or-true, and-false, Tested, tested}
-use Rattle.esterel.proofs.Sets.{member-insert, member-remove, ext}
+use Rattle.esterel.proofs.Sets.{member-none, member-insert, member-remove, ext}
+use Rattle.esterel.proofs.Stability.{Stops}
 use Rattle.esterel.proofs.Resume.{start-signal}
+
+-- ---- an empty set has no members
+pub members-none : (n i : ℕ) → membersFrom n i none ≡ []
+unfolding membersFrom
+members-none zero i = refl
+members-none (suc n) i = rw (member-none i) (members-none n (suc i))
 
 -- ---- EXPANSION
 pub expand-declared : (a : ℕ) (ss : List ℕ) (p : Statement) (L : ℕ) → expand (declared a ss p) L ≡ declared a ss (expand p L)
@@ -116,18 +123,27 @@ module _ (a : ℕ) where
   valid-declared (s ∷ ss) p L = valid-declared ss p L
 
 -- ---- places: no other command is added than the declarations
-inside-or-itself : (x : Statement) {sc : Scope} {a s : ℕ} {p : Statement} → Holds (signal sc a s p) x → Holds p x ⊎ (signal sc a s p ≡ x)
-inside-or-itself x (pl, At.here) = inr refl
-inside-or-itself x (pl, At.inside signal₁ h) = inl (_, h)
+entered : {a s : ℕ} {p x : Statement} → ((b t : ℕ) (q : Statement) → signal reported b t q ≢ x)
+    → (pl : Place) → At x pl (signal reported a s p) → Holds p x
+entered n pl At.here = absurd (n _ _ _ refl)
+entered n pl (At.inside signal₁ i) = (_, i)
+
+pub holds-inside : (a : ℕ) (ss : List ℕ) (p x : Statement) → ((b s : ℕ) (q : Statement) → signal reported b s q ≢ x)
+    → Holds (declared a ss p) x → Holds p x
+unfolding declared
+holds-inside a [] p x n h = h
+holds-inside a (s ∷ ss) p x n h = holds-inside a ss p x n (entered n (h .0) (h .1))
 
 pub noSetpause-declared : (a : ℕ) (ss : List ℕ) (p : Statement) → NoSetpause p → NoSetpause (declared a ss p)
-unfolding declared
-noSetpause-declared a [] p n l h = n l h
-noSetpause-declared a (s ∷ ss) p n l h =
-    ⊎-elim (noSetpause-declared a ss p n l) (λ e. let z : _≡_ {A = ℕ} 0 1 = cc in omega arith) (inside-or-itself (setpause l) h)
+noSetpause-declared a ss p n l h =
+    n l (holds-inside a ss p (setpause l) (λ b s q e. let z : _≡_ {A = ℕ} 0 1 = cc in omega arith) h)
 
 pub source-declared : (a : ℕ) (ss : List ℕ) (p : Statement) → Source p → Source (declared a ss p)
-unfolding declared
-source-declared a [] p n t K q h = n t K q h
-source-declared a (s ∷ ss) p n t K q h =
-    ⊎-elim (source-declared a ss p n t K q) (λ e. let z : _≡_ {A = ℕ} 0 1 = cc in omega arith) (inside-or-itself (held t K q) h)
+source-declared a ss p n t K q h =
+    n t K q (holds-inside a ss p (held t K q) (λ b s u e. let z : _≡_ {A = ℕ} 0 1 = cc in omega arith) h)
+
+pub stops-declared : (a : ℕ) (ss : List ℕ) (p : Statement) (k : ℕ) → Stops (declared a ss p) k → Stops p k
+stops-declared a ss p k (pl, inl h) =
+    let x = holds-inside a ss p (pause k) (λ b s q e. let z : _≡_ {A = ℕ} 0 1 = cc in omega arith) (pl, h) in (x .0, inl (x .1))
+stops-declared a ss p k (pl, inr h) =
+    let x = holds-inside a ss p (setpause k) (λ b s q e. let z : _≡_ {A = ℕ} 0 1 = cc in omega arith) (pl, h) in (x .0, inr (x .1))

@@ -2,7 +2,7 @@
 -- still reported'.
 use Prim.Native.Nat.{ℕ, zero, suc}
 use mathlib.Core.Path.{_≡_, refl}
-use mathlib.Core.Bool.{cond}
+use mathlib.Core.Bool.{Bool, true, false}
 use mathlib.Core.List.{List, [], _∷_}
 use Rattle.esterel.specs.Sets.{member, none, only, join, insert, remove}
 use Rattle.esterel.specs.Statement.{reported, Statement, nothing, emit, seq, present, signal}
@@ -10,10 +10,14 @@ use Rattle.esterel.specs.Reaction.{ended, gives, failed, reactBy, react}
 use Rattle.esterel.specs.Errors.{errorsBy, errors, notReactive, notDeterministic}
 use Rattle.esterel.specs.Resume.{Instant, signalInstant}
 
+abbrev pub keepIf : Bool → ℕ → List ℕ → List ℕ
+keepIf true i is = i ∷ is
+keepIf false i is = is
+
 -- the members of a set from i on, n numbers being left; the lowest first
 unfoldable pub membersFrom : (n i s : ℕ) → List ℕ
 membersFrom zero i s = []
-membersFrom (suc n) i s = cond (member i s) (i ∷ membersFrom n (suc i) s) (membersFrom n (suc i) s)
+membersFrom (suc n) i s = keepIf (member i s) i (membersFrom n (suc i) s)
 
 -- p under a declaration at place a for each signal of the list, the first outermost
 unfoldable pub declared : (a : ℕ) → List ℕ → Statement → Statement

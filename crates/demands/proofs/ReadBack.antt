@@ -1,0 +1,89 @@
+-- What a read-back set changes (02, item 5): an empty one nothing, and the host's status of its signals is never read.
+use Prim.Native.Nat.{ℕ, zero, suc, _+_, _<_}
+use native.Mathlib.Omega.{arith}
+use mathlib.Core.Path.{_≡_, refl, sym, ap, _∙_}
+use mathlib.Core.Bool.{Bool, true, false, _&&_, cond}
+use mathlib.Core.List.{List, [], _∷_, List·Memᴰ}
+use lib.ListN.{length}
+use lib.Dec.{eqb, leb, ltb}
+use borrow.Author.Tests.{le-ltb}
+use Rattle.esterel.specs.Sets.{member, none}
+use Rattle.esterel.specs.Statement.{Statement}
+use Rattle.esterel.specs.Reaction.{Order, inheritanceFirst}
+use Rattle.esterel.specs.Expansion.{expand}
+use Rattle.esterel.specs.Resume.{Instant, start}
+use Rattle.esterel.specs.Machines.{State}
+use Rattle.esterel.specs.ReadBack.{membersFrom, declared, declaredInstant}
+use Rattle.esterel.proofs.ReadBack.{members-none, expand-declared, start-declared, AgreeOutside, declared-unread}
+use Rattle.limits.specs.Limits.{maxBytes, maxDepth, maxSignals, signalCount, readBackPlace}
+use Rattle.sequence.specs.Reader.{Read, accepted, refused, read, nesting}
+use Rattle.sequence.specs.Program.{readBackSignals, program}
+use Rattle.sequence.specs.Check.{Checked, sound, bad, afterRead, checked, checkOf, numberOf}
+use Rattle.sequence.proofs.Sound as reader
+use Rattle.records.specs.Records.{stateLength, answerLength, Decoded, holds, malformed, decodeState}
+use Rattle.demands.specs.Tick.{Outcome, outcome, written, byState, byCheck, tickBy, tickOf}
+use Rattle.demands.specs.Plain.{plainAfterRead, plainChecked, plainByCheck, plainTick}
+
+-- ---- an empty set
+pub none-declared : (p : Statement) → program none p ≡ p
+unfolding declared
+none-declared p = ap (λ (ss : List ℕ). declared readBackPlace ss p) (members-none signalCount 0)
+
+plain-read : (bs : List ℕ) (r : Read) → read maxDepth maxSignals 0 bs ≡ r → afterRead none (length bs) r ≡ plainAfterRead (length bs) r
+plain-read bs (refused k) e = refl
+plain-read bs (accepted p n) e =
+    rw (none-declared p, le-ltb maxSignals (nesting p) (reader.sound maxDepth maxSignals 0 bs p n e .within .nested))
+
+plain-checked : (bs : List ℕ) → checked bs none ≡ plainChecked bs
+unfolding checked plainChecked
+plain-checked bs =
+    ap (λ (c : Checked). cond (leb 1 (length bs) && leb (length bs) maxBytes) c (bad 2)) (plain-read bs (read maxDepth maxSignals 0 bs) refl)
+
+pub plain-check : (bs : List ℕ) → checkOf bs none ≡ numberOf (plainChecked bs)
+unfolding checkOf
+plain-check bs = ap numberOf (plain-checked bs)
+
+pub plain-tick : (sequence state : List ℕ) (e : ℕ) (answer : List ℕ) → tickOf sequence state e none answer ≡ plainTick sequence state e answer
+unfolding tickBy plainTick
+plain-tick sequence state e answer =
+    ap (λ (o : Outcome). cond (eqb (length state) stateLength && eqb (length answer) answerLength) o (outcome 1 state answer))
+    (ap (λ (c : Checked). byCheck inheritanceFirst none c state e answer) (plain-checked sequence) ∙ go (plainChecked sequence))
+  where
+    go : (c : Checked) → byCheck inheritanceFirst none c state e answer ≡ plainByCheck c state e answer
+    go (bad k) = refl
+    go (sound p) = rw (none-declared p)
+
+-- ---- the host's status of a read-back signal
+-- two inputs that agree on every signal that is not read back
+abbrev pub SameOutside : (readBack e e′ : ℕ) → Type 0
+SameOutside readBack e e′ = AgreeOutside (readBackSignals readBack) e e′
+
+start-unread : (readBack : ℕ) (p : Statement) (e e′ : ℕ) → SameOutside readBack e e′
+    → start (program readBack p) e ≡ start (program readBack p) e′
+start-unread readBack p e e′ h =
+    sym (start-declared readBackPlace (readBackSignals readBack) p (start p) (λ x. refl) e)
+    ∙ declared-unread readBackPlace (readBackSignals readBack) (start p) e e′ h
+    ∙ start-declared readBackPlace (readBackSignals readBack) p (start p) (λ x. refl) e′
+
+resumed-unread : (readBack : ℕ) (p : Statement) (L e e′ : ℕ) → SameOutside readBack e e′
+    → start (expand (program readBack p) L) e ≡ start (expand (program readBack p) L) e′
+resumed-unread readBack p L e e′ h =
+    rw (expand-declared readBackPlace (readBackSignals readBack) p L) (start-unread readBack (expand p L) e e′ h)
+
+module _ (readBack : ℕ) (state : List ℕ) (e e′ : ℕ) (answer : List ℕ) (h : SameOutside readBack e e′) where
+  state-unread : (p : Statement) (d : Decoded)
+      → byState inheritanceFirst (program readBack p) d state e answer ≡ byState inheritanceFirst (program readBack p) d state e′ answer
+  state-unread p malformed = refl
+  state-unread p (holds State.fresh) = ap written (start-unread readBack p e e′ h)
+  state-unread p (holds (State.waits L)) = ap written (resumed-unread readBack p L e e′ h)
+  state-unread p (holds State.over) = refl
+
+  check-unread : (c : Checked) → byCheck inheritanceFirst readBack c state e answer ≡ byCheck inheritanceFirst readBack c state e′ answer
+  check-unread (bad k) = refl
+  check-unread (sound p) = state-unread p (decodeState p state)
+
+  pub tick-unread : (sequence : List ℕ) → tickOf sequence state e readBack answer ≡ tickOf sequence state e′ readBack answer
+  unfolding tickBy
+  tick-unread sequence =
+      ap (λ (o : Outcome). cond (eqb (length state) stateLength && eqb (length answer) answerLength) o (outcome 1 state answer))
+      (check-unread (checked sequence readBack))

@@ -1,0 +1,29 @@
+-- The check and the tick as they were before there were read-back sets (02, item 4), to compare with: an empty set gives them.
+use Prim.Native.Nat.{ℕ}
+use mathlib.Core.Bool.{_&&_, cond}
+use mathlib.Core.List.{List}
+use lib.ListN.{length}
+use lib.Dec.{eqb, leb, ltb}
+use Rattle.esterel.specs.Reaction.{inheritanceFirst}
+use Rattle.limits.specs.Limits.{maxBytes}
+use Rattle.sequence.specs.Reader.{Read, accepted, refused, readAll}
+use Rattle.sequence.specs.Check.{Checked, sound, bad, labelRules}
+use Rattle.records.specs.Records.{stateLength, answerLength, decodeState}
+use Rattle.demands.specs.Tick.{Outcome, outcome, byState}
+
+abbrev pub plainAfterRead : ℕ → Read → Checked
+plainAfterRead n (refused number) = bad number
+plainAfterRead n (accepted p count) = cond (ltb count n) (bad 7) (labelRules p)
+
+unfoldable pub plainChecked : List ℕ → Checked
+plainChecked bs = cond (leb 1 (length bs) && leb (length bs) maxBytes) (plainAfterRead (length bs) (readAll bs)) (bad 2)
+
+-- the sequence itself reacts
+abbrev pub plainByCheck : Checked → List ℕ → ℕ → List ℕ → Outcome
+plainByCheck (bad number) state e answer = outcome number state answer
+plainByCheck (sound p) state e answer = byState inheritanceFirst p (decodeState p state) state e answer
+
+unfoldable pub plainTick : (sequence state : List ℕ) (e : ℕ) (answer : List ℕ) → Outcome
+plainTick sequence state e answer =
+    cond (eqb (length state) stateLength && eqb (length answer) answerLength) (plainByCheck (plainChecked sequence) state e answer)
+    (outcome 1 state answer)
