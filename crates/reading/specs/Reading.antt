@@ -5,7 +5,7 @@ use mathlib.Core.List.{List}
 use lib.ListN.{length}
 use Rattle.esterel.specs.Statement.{Statement}
 use Rattle.limits.specs.Limits.{maxBytes}
-use Rattle.sequence.specs.Reader.{Read, accepted, refused, program}
+use Rattle.sequence.specs.Reader.{Read, accepted, refused, readAll}
 use Rattle.layout.specs.Layout.{Marked}
 use Rattle.layout.specs.Notes.{noNotes, note}
 use Rattle.reading.specs.declared.reader.Reading.{Reading}
@@ -17,6 +17,6 @@ readingOf (refused number) = Refused number
 
 -- the answer r for the bytes; if they are accepted, t has the second parts of the statement and the notes are its notes
 pub record Reads (bs t notes : List ℕ) (r : Reading) : Type 0 where
-  pub answer : r ≡ readingOf (program bs)
-  pub marked : (p : Statement) (n : ℕ) → program bs ≡ accepted p n → Marked t 0 0 p × (notes ≡ note p noNotes)
-  pub long : (p : Statement) (n : ℕ) → program bs ≡ accepted p n → length t ≡ maxBytes
+  pub answer : r ≡ readingOf (readAll bs)
+  pub marked : (p : Statement) (n : ℕ) → readAll bs ≡ accepted p n → Marked t 0 0 p × (notes ≡ note p noNotes)
+  pub long : (p : Statement) (n : ℕ) → readAll bs ≡ accepted p n → length t ≡ maxBytes
