@@ -74,9 +74,11 @@ module _ (sequence : List ℕ) (readBack : ℕ) (a : Accepted sequence readBack)
       → Reading p (phaseIn state) (labelsIn state) d → Passes (byState inheritanceFirst (program readBack p) d state e answer)
   state-passes state h e answer d (reads-malformed x) = absurd (h .1 p (a .spelled) x)
   state-passes state h e answer d (reads-fresh x n) = (omega arith, admitted-state (stateAfter (react (program readBack p) e)) (recorded-fresh sequence readBack a e))
-  state-passes state h e answer d (reads-waiting x v) =
-      (omega arith, admitted-state (stateAfter (react (expand (program readBack p) (labelsIn state)) e))
-      (recorded-resumed sequence readBack a (labelsIn state) e v))
+  state-passes state h e answer d (reads-waiting x v) = (
+    omega arith,
+    admitted-state (stateAfter (react (expand (program readBack p) (labelsIn state)) e))
+        (recorded-resumed sequence readBack a (labelsIn state) e v),
+  )
   state-passes state h e answer d (reads-over x n) = (omega arith, h)
 
   tick-passes : (state : List ℕ) → Admitted sequence state → (e : ℕ) (answer : List ℕ) → Passes (tickOf sequence state e readBack answer)

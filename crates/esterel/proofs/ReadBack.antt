@@ -1,13 +1,14 @@
 -- A program under read-back declarations (02, item 5): expansion and rewriting leave the declarations in place, what is said
 -- of labels is said of the statement inside, and the host's status of a declared signal is never read.
-use Prim.Native.Nat.{ℕ, zero, suc}
+use Prim.Native.Nat.{ℕ, zero, suc, _+_, _≤_, _<_}
 use mathlib.Core.Path.{_≡_, refl, sym, ap, ap₂, _∙_}
 use mathlib.Core.Logic.{_≢_, inl, inr, ⊎-elim}
 use mathlib.Core.Bool.{Bool, true, false, not, _&&_, _||_}
 use mathlib.Core.List.{List, [], _∷_, List·Memᴰ, List·Memᴰ·cases-cons, List·Memᴰ·not-nil}
 use lib.Dec.{eqb}
 use native.Mathlib.Omega.{arith}
-use borrow.Author.Tests.{eqb-false}
+use native.Mathlib.Decide.{ℕ-discrete}
+use borrow.Author.Tests.{eqb-false, eq-eqb, ne-eqb}
 use Rattle.esterel.specs.Sets.{member, none, insert, remove}
 use Rattle.esterel.specs.Statement.{reported, Statement, pause, signal, setpause, held}
 use Rattle.esterel.specs.Reaction.{waiting, Reaction, code, residual, Case, both, neither, only−, only+, inherited, inheritanceFirst, caseOf, answer, reactBy, react}
@@ -16,8 +17,8 @@ use Rattle.esterel.specs.States.{Holds, NoSetpause, Source}
 use Rattle.esterel.specs.Expansion.{expand}
 use Rattle.esterel.specs.LabelTests.{labelsOf, everyLabel, before, distinct, targeted, wellFormed, valid}
 use Rattle.esterel.specs.Resume.{Instant, signalInstant, start}
-use Rattle.esterel.specs.ReadBack.{membersFrom, declared, declaredInstant}
-use Rattle.esterel.proofs.Booleans.{or-true, and-false, Tested, tested}
+use Rattle.esterel.specs.ReadBack.{keepIf, membersFrom, declared, declaredInstant}
+use Rattle.esterel.proofs.Booleans.{or-true, and-true, and-false, Tested, tested}
 use Rattle.esterel.proofs.Sets.{member-none, member-insert, member-remove, ext}
 use Rattle.esterel.proofs.Stability.{Stops}
 use Rattle.esterel.proofs.Resume.{start-signal}
@@ -27,6 +28,31 @@ pub members-none : (n i : ℕ) → membersFrom n i none ≡ []
 unfolding membersFrom
 members-none zero i = refl
 members-none (suc n) i = rw (member-none i) (members-none n (suc i))
+
+-- ---- the lowest member comes first
+members-same : (n j s t : ℕ) → ((k : ℕ) → j ≤ k → member k s ≡ member k t) → membersFrom n j s ≡ membersFrom n j t
+unfolding membersFrom
+members-same zero j s t h = refl
+members-same (suc n) j s t h =
+    ap₂ (λ (b : Bool) (is : List ℕ). keepIf b j is) (h j (omega arith)) (members-same n (suc j) s t (λ k l. h k (omega arith)))
+
+pub members-lowest : (n j s i : ℕ) → j ≤ i → i < j + n → member i s ≡ true → ((k : ℕ) → k < i → member k s ≡ false)
+    → membersFrom n j s ≡ i ∷ membersFrom n j (remove i s)
+unfolding membersFrom
+members-lowest zero j s i l m h f = absurd (omega arith)
+members-lowest (suc n) j s i l m h f =
+    elim (ℕ-discrete i j) [
+      | yes e ↦ here e
+      | no e ↦ rw (f j (omega arith), member-remove i s j, f j (omega arith)) (members-lowest n (suc j) s i (omega arith) (omega arith) h f)
+    ]
+  where
+    kept : (k : ℕ) → suc i ≤ k → member k s ≡ member k (remove i s)
+    kept k g = sym (member-remove i s k ∙ rw (ne-eqb i k (omega arith)) (and-true (member k s)))
+
+    here : i ≡ j → membersFrom (suc n) j s ≡ i ∷ membersFrom (suc n) j (remove i s)
+    here e =
+        rw (← e, h, member-remove i s i, eq-eqb i i refl, and-false (member i s))
+        (ap (λ (is : List ℕ). i ∷ is) (members-same n (suc i) s (remove i s) kept))
 
 -- ---- EXPANSION
 pub expand-declared : (a : ℕ) (ss : List ℕ) (p : Statement) (L : ℕ) → expand (declared a ss p) L ≡ declared a ss (expand p L)
