@@ -6,7 +6,7 @@ use mathlib.Core.List.{List}
 use lib.ListN.{getD}
 use borrow.Author.Tests.{eqb-true, lt-ltb}
 use Rattle.esterel.specs.Sets.{none, join, empty, below, from}
-use Rattle.esterel.specs.Statement.{Statement, pause, seq, par, loop, present, signal, try, suspend}
+use Rattle.esterel.specs.Statement.{local, Statement, pause, seq, par, loop, present, signal, try, suspend}
 use Rattle.esterel.specs.Ranks.{middle, labelsBy}
 use Rattle.esterel.proofs.Ranks.{labels-by-none}
 use Rattle.sets.specs.Sets.{labelCount, onlyBelow}
@@ -33,7 +33,7 @@ module _ (base m : ℕ) (p : Statement) {x : ℕ} (h : x ≡ labelsBy base p m) 
   unfolding labelsBy
   loop-step a = h
 
-  pub signal-step : (a s : ℕ) → x ≡ labelsBy base (signal a s p) m
+  pub signal-step : (a s : ℕ) → x ≡ labelsBy base (signal local a s p) m
   unfolding labelsBy
   signal-step a s = h
 

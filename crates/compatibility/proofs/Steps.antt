@@ -5,7 +5,7 @@ use mathlib.Core.Bool.{Bool, true, false, _&&_}
 use mathlib.Core.List.{List}
 use lib.ListN.{getD}
 use Rattle.esterel.specs.Sets.{empty, below, from}
-use Rattle.esterel.specs.Statement.{Statement, seq, par, loop, present, signal, try, suspend}
+use Rattle.esterel.specs.Statement.{local, Statement, seq, par, loop, present, signal, try, suspend}
 use Rattle.esterel.specs.Ranks.{middle, ofParts, compatible}
 use Rattle.sequence.specs.Commands.{Command}
 use Rattle.layout.specs.Layout.{Lies, Ready}
@@ -23,7 +23,7 @@ module _ (base m : ℕ) (p : Statement) {r : Bool} (h : r ≡ compatible base p 
   unfolding compatible
   loop-step a = h
 
-  pub signal-step : (a s : ℕ) → r ≡ compatible base (signal a s p) m
+  pub signal-step : (a s : ℕ) → r ≡ compatible base (signal local a s p) m
   unfolding compatible
   signal-step a s = h
 

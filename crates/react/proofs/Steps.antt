@@ -6,7 +6,7 @@ use mathlib.Core.Option.{Option}
 use borrow.Author.Tests.{lt-ltb}
 use Rattle.sets.specs.Sets.{signalCount, labelCount, onlyBelow, insertBelow}
 use Rattle.esterel.specs.Sets.{member, none, insert, remove}
-use Rattle.esterel.specs.Statement.{Statement, nothing, pause, emit, exit, seq, par, loop, present, signal, try, setpause, suspend}
+use Rattle.esterel.specs.Statement.{local, Statement, nothing, pause, emit, exit, seq, par, loop, present, signal, try, setpause, suspend}
 use Rattle.esterel.specs.Reaction.{ended, waiting, leaving, gives, reactBy}
 use Rattle.esterel.specs.Errors.{errorsBy}
 use Rattle.esterel.specs.Resume as Esterel
@@ -55,10 +55,10 @@ module _ (e : ℕ) {p r : Reaction} where
 
   pub signal-step : (a x : ℕ) (t : Statement) {q : Reaction} {e− e+ : ℕ} → x < signalCount
       → e− ≡ remove x e → p ≡ reactionOf (start t e−) → e+ ≡ insertBelow signalCount x e → q ≡ reactionOf (start t e+)
-      → ((i j : Esterel.Instant) → p ≡ reactionOf i → q ≡ reactionOf j → r ≡ reactionOf (signalInstant a x i j)) → r ≡ reactionOf (start (signal a x t) e)
+      → ((i j : Esterel.Instant) → p ≡ reactionOf i → q ≡ reactionOf j → r ≡ reactionOf (signalInstant local a x i j)) → r ≡ reactionOf (start (signal local a x t) e)
   signal-step a x t {q} {e−} {e+} l u h v m k =
       let v′ : e+ ≡ insert x e = v ∙ rw (lt-ltb x signalCount l) in
-      k (start t (remove x e)) (start t (insert x e)) (rw u at h) (rw v′ at m) ∙ ap reactionOf (sym (start-signal a x t e))
+      k (start t (remove x e)) (start t (insert x e)) (rw u at h) (rw v′ at m) ∙ ap reactionOf (sym (start-signal local a x t e))
 
   pub seq-step : (t u : Statement) → p ≡ reactionOf (start t e)
       → ((i : Esterel.Instant) → p ≡ reactionOf i → r ≡ reactionOf (seqInstant u i (start u e))) → r ≡ reactionOf (start (seq t u) e)

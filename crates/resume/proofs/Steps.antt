@@ -8,7 +8,7 @@ use lib.ListN.{getD}
 use borrow.Author.Tests.{lt-ltb}
 use Rattle.sets.specs.Sets.{signalCount, insertBelow}
 use Rattle.esterel.specs.Sets.{member, insert, remove, empty, below, from}
-use Rattle.esterel.specs.Statement.{Statement, nothing, seq, par, loop, present, signal, try, suspend}
+use Rattle.esterel.specs.Statement.{local, Statement, nothing, seq, par, loop, present, signal, try, suspend}
 use Rattle.esterel.specs.Reaction.{ended, waiting, gives}
 use Rattle.esterel.specs.Sets as sets
 use Rattle.esterel.specs.Ranks.{middle, labelsBy}
@@ -73,8 +73,8 @@ module _ (base m e : ℕ) {r : Reaction} where
 
     pub signal-step : (a x : ℕ) {v : Reaction} {e− e+ : ℕ} → x < signalCount → e− ≡ remove x e → u ≡ reactionOf (resume base p m e−)
         → e+ ≡ insertBelow signalCount x e → v ≡ reactionOf (resume base p m e+)
-        → ((i j : Esterel.Instant) → u ≡ reactionOf i → v ≡ reactionOf j → r ≡ reactionOf (signalInstant a x i j))
-        → r ≡ reactionOf (resume base (signal a x p) m e)
+        → ((i j : Esterel.Instant) → u ≡ reactionOf i → v ≡ reactionOf j → r ≡ reactionOf (signalInstant local a x i j))
+        → r ≡ reactionOf (resume base (signal local a x p) m e)
     unfolding resume
     signal-step a x {v} {e−} {e+} l hu h hv k w =
         let hi : e+ ≡ insert x e = hv ∙ rw (lt-ltb x signalCount l) in

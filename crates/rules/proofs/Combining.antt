@@ -7,9 +7,9 @@ use lib.Dec.{eqb}
 use Rattle.sets.specs.declared.labels.Labels.{Labels}
 use Rattle.sets.specs.Labels.{labelSet, labelsWith}
 use Rattle.sets.proofs.LabelValues.{labelSet-of, labels-of}
-use Rattle.esterel.specs.Sets.{member, none, join, remove}
-use Rattle.esterel.specs.Statement.{Statement, nothing, try}
-use Rattle.esterel.specs.Reaction.{Code, ended, waiting, leaving, wrong, isWrong, greater, gives, failed, ifWaiting, Case, both, neither, only−, only+, inherited, inheritanceFirst, firstFit, answer}
+use Rattle.esterel.specs.Sets.{member, none, join}
+use Rattle.esterel.specs.Statement.{Scope, Statement, nothing, try}
+use Rattle.esterel.specs.Reaction.{Code, ended, waiting, leaving, wrong, isWrong, greater, gives, failed, ifWaiting, outside, Case, both, neither, only−, only+, inherited, inheritanceFirst, firstFit, answer}
 use Rattle.esterel.specs.Reaction as rules
 use Rattle.esterel.specs.Errors.{Error, instantaneous, notReactive, notDeterministic}
 use Rattle.esterel.specs.Resume as Esterel
@@ -154,12 +154,13 @@ same-case only+ = refl
 same-case inherited = refl
 
 -- the instant of a case
-abbrev inCase : Case → (b s : ℕ) → Esterel.Instant → Esterel.Instant → Esterel.Instant
-inCase d b s (instant (gives o− k− l− t−) x−) (instant r+ x+) =
-    instant (answer d b s (gives o− k− l− t−) r+) (signalNames d b (ifWrong k− x− x+))
+abbrev inCase : Case → Scope → (b s : ℕ) → Esterel.Instant → Esterel.Instant → Esterel.Instant
+inCase d sc b s (instant (gives o− k− l− t−) x−) (instant r+ x+) =
+    instant (answer d sc b s (gives o− k− l− t−) r+) (signalNames d b (ifWrong k− x− x+))
 
-as-fits : (b s : ℕ) (i j : Esterel.Instant) → signalInstant b s i j ≡ inCase (caseIn s (reactionOf i) (reactionOf j)) b s i j
-as-fits b s (instant (gives o− k− l− t−) x−) (instant (gives o+ k+ l+ t+) x+) = rw (code-of k− x−, code-of k+ x+)
+as-fits : (sc : Scope) (b s : ℕ) (i j : Esterel.Instant)
+    → signalInstant sc b s i j ≡ inCase (caseIn s (reactionOf i) (reactionOf j)) sc b s i j
+as-fits sc b s (instant (gives o− k− l− t−) x−) (instant (gives o+ k+ l+ t+) x+) = rw (code-of k− x−, code-of k+ x+)
 
 -- the two runs of a case: not wrong, or one of them wrong
 abbrev isInherited : Case → Bool
@@ -208,73 +209,73 @@ unmoved wrong x y h = absurd (true≢false h)
 abbrev Runs : (s : ℕ) (p q : Reaction) → Bool → Type 0
 Runs s p q b = isInherited (caseIn s p q) ≡ b
 
-abbrev InBoth : (b s : ℕ) (i j : Esterel.Instant) (p q : Reaction) → Type 0
-InBoth b s i j p q =
-    (o : ℕ) → Runs s p q false → o ≡ remove s (q .emitted)
-    → _≡_ {A = Reaction} (record { emitted = o; labels = q .labels; completion = q .completion }) (reactionOf (inCase both b s i j))
+abbrev InBoth : (sc : Scope) (b s : ℕ) (i j : Esterel.Instant) (p q : Reaction) → Type 0
+InBoth sc b s i j p q =
+    (o : ℕ) → Runs s p q false → o ≡ outside sc s (q .emitted)
+    → _≡_ {A = Reaction} (record { emitted = o; labels = q .labels; completion = q .completion }) (reactionOf (inCase both sc b s i j))
 
-in-both : (b s : ℕ) (i j : Esterel.Instant) → InBoth b s i j (reactionOf i) (reactionOf j)
-in-both b s (instant (gives o− k− l− t−) x−) (instant (gives o+ k+ l+ t+) x+) o h m =
+in-both : (sc : Scope) (b s : ℕ) (i j : Esterel.Instant) → InBoth sc b s i j (reactionOf i) (reactionOf j)
+in-both sc b s (instant (gives o− k− l− t−) x−) (instant (gives o+ k+ l+ t+) x+) o h m =
     made k+ Option.none m (labelSet-of l+)
     (unmoved k+ x+ Option.none
     (right-runs (member s o−) (member s o+) (isWrong k−) (isWrong k+) (rw (code-of k− x−, code-of k+ x+) at h) .1))
 
-abbrev InNeither : (b s : ℕ) (i j : Esterel.Instant) (p q : Reaction) → Type 0
-InNeither b s i j p q = Runs s p q false → p ≡ reactionOf (inCase neither b s i j)
+abbrev InNeither : (sc : Scope) (b s : ℕ) (i j : Esterel.Instant) (p q : Reaction) → Type 0
+InNeither sc b s i j p q = Runs s p q false → p ≡ reactionOf (inCase neither sc b s i j)
 
-in-neither : (b s : ℕ) (i j : Esterel.Instant) → InNeither b s i j (reactionOf i) (reactionOf j)
-in-neither b s (instant (gives o− k− l− t−) x−) (instant (gives o+ k+ l+ t+) x+) h =
+in-neither : (sc : Scope) (b s : ℕ) (i j : Esterel.Instant) → InNeither sc b s i j (reactionOf i) (reactionOf j)
+in-neither sc b s (instant (gives o− k− l− t−) x−) (instant (gives o+ k+ l+ t+) x+) h =
     made k− Option.none refl (labelSet-of l−)
     (unmoved k− x− Option.none
     (right-runs (member s o−) (member s o+) (isWrong k−) (isWrong k+) (rw (code-of k− x−, code-of k+ x+) at h) .0))
 
-abbrev InInherited : (b s : ℕ) (i j : Esterel.Instant) (p q : Reaction) → Type 0
-InInherited b s i j p q =
+abbrev InInherited : (sc : Scope) (b s : ℕ) (i j : Esterel.Instant) (p q : Reaction) → Type 0
+InInherited sc b s i j p q =
     (l : Labels) (c : Completion) → Runs s p q true → labelSet l ≡ none → c ≡ greaterOf (p .completion) (q .completion)
-    → _≡_ {A = Reaction} (record { emitted = none; labels = l; completion = c }) (reactionOf (inCase inherited b s i j))
+    → _≡_ {A = Reaction} (record { emitted = none; labels = l; completion = c }) (reactionOf (inCase inherited sc b s i j))
 
-in-inherited : (b s : ℕ) (i j : Esterel.Instant) → InInherited b s i j (reactionOf i) (reactionOf j)
-in-inherited b s (instant (gives o− k− l− t−) x−) (instant (gives o+ k+ l+ t+) x+) l c h m g =
+in-inherited : (sc : Scope) (b s : ℕ) (i j : Esterel.Instant) → InInherited sc b s i j (reactionOf i) (reactionOf j)
+in-inherited sc b s (instant (gives o− k− l− t−) x−) (instant (gives o+ k+ l+ t+) x+) l c h m g =
     let w = wrong-runs (member s o−) (member s o+) (isWrong k−) (isWrong k+) (rw (code-of k− x−, code-of k+ x+) at h) in
     made wrong (ifWrong k− x− x+) refl m
     (g ∙ greater-of k− k+ x− x+ ∙ ap (λ (k : Code). completionOf k (ifWrong k− x− x+)) (either-wrong k− k+ w))
 
 -- a case of the signal's own error
-in-failed : (d : Case) (b s : ℕ) (i j : Esterel.Instant) (x : Error)
-    → ((r− r+ : rules.Reaction) → answer d b s r− r+ ≡ failed) → ((y : Option Error) → signalNames d b y ≡ some x)
-    → reactionOf (instant failed (some x)) ≡ reactionOf (inCase d b s i j)
-in-failed d b s (instant (gives o− k− l− t−) x−) (instant r+ x+) x a n = rw (a (gives o− k− l− t−) r+, n (ifWrong k− x− x+))
+in-failed : (d : Case) (sc : Scope) (b s : ℕ) (i j : Esterel.Instant) (x : Error)
+    → ((r− r+ : rules.Reaction) → answer d sc b s r− r+ ≡ failed) → ((y : Option Error) → signalNames d b y ≡ some x)
+    → reactionOf (instant failed (some x)) ≡ reactionOf (inCase d sc b s i j)
+in-failed d sc b s (instant (gives o− k− l− t−) x−) (instant r+ x+) x a n = rw (a (gives o− k− l− t−) r+, n (ifWrong k− x− x+))
 
-module _ (b s : ℕ) (i j : Esterel.Instant) (p q : Reaction) (p-is : p ≡ reactionOf i) (q-is : q ≡ reactionOf j)
+module _ (sc : Scope) (b s : ℕ) (i j : Esterel.Instant) (p q : Reaction) (p-is : p ≡ reactionOf i) (q-is : q ≡ reactionOf j)
     (v : Choice) (fits : v ≡ choiceOf (caseIn s p q)) where
   fit-is : (d : Case) → v ≡ choiceOf d → caseIn s p q ≡ d
   fit-is d h = sym (same-case (caseIn s p q)) ∙ ap caseOf (sym fits ∙ h) ∙ same-case d
 
-  chosen : (d : Case) → v ≡ choiceOf d → reactionOf (inCase d b s i j) ≡ reactionOf (signalInstant b s i j)
+  chosen : (d : Case) → v ≡ choiceOf d → reactionOf (inCase d sc b s i j) ≡ reactionOf (signalInstant sc b s i j)
   chosen d h =
-      sym (ap reactionOf (as-fits b s i j ∙ ap (λ (c : Case). inCase c b s i j) (rw (p-is, q-is) at (fit-is d h))))
+      sym (ap reactionOf (as-fits sc b s i j ∙ ap (λ (c : Case). inCase c sc b s i j) (rw (p-is, q-is) at (fit-is d h))))
 
-  pub signal-both : v ≡ Both → (o : ℕ) → o ≡ remove s (q .emitted)
-      → _≡_ {A = Reaction} (record { emitted = o; labels = q .labels; completion = q .completion }) (reactionOf (signalInstant b s i j))
+  pub signal-both : v ≡ Both → (o : ℕ) → o ≡ outside sc s (q .emitted)
+      → _≡_ {A = Reaction} (record { emitted = o; labels = q .labels; completion = q .completion }) (reactionOf (signalInstant sc b s i j))
   signal-both h o m =
-      let law : InBoth b s i j p q = rw (p-is, q-is) (in-both b s i j) in
+      let law : InBoth sc b s i j p q = rw (p-is, q-is) (in-both sc b s i j) in
       law o (ap isInherited (fit-is both h)) m ∙ chosen both h
 
-  pub signal-neither : v ≡ Neither → p ≡ reactionOf (signalInstant b s i j)
+  pub signal-neither : v ≡ Neither → p ≡ reactionOf (signalInstant sc b s i j)
   signal-neither h =
-      let law : InNeither b s i j p q = rw (p-is, q-is) (in-neither b s i j) in
+      let law : InNeither sc b s i j p q = rw (p-is, q-is) (in-neither sc b s i j) in
       law (ap isInherited (fit-is neither h)) ∙ chosen neither h
 
   pub signal-inherits : v ≡ Inherited → (l : Labels) (c : Completion) → labelSet l ≡ none → c ≡ greaterOf (p .completion) (q .completion)
-      → _≡_ {A = Reaction} (record { emitted = none; labels = l; completion = c }) (reactionOf (signalInstant b s i j))
+      → _≡_ {A = Reaction} (record { emitted = none; labels = l; completion = c }) (reactionOf (signalInstant sc b s i j))
   signal-inherits h l c m g =
-      let law : InInherited b s i j p q = rw (p-is, q-is) (in-inherited b s i j) in
+      let law : InInherited sc b s i j p q = rw (p-is, q-is) (in-inherited sc b s i j) in
       law l c (ap isInherited (fit-is inherited h)) m g ∙ chosen inherited h
 
   pub signal-unreactive : v ≡ OnlyMinus → (r : Reaction) → r ≡ reactionOf (instant failed (some (notReactive b)))
-      → r ≡ reactionOf (signalInstant b s i j)
-  signal-unreactive h r w = w ∙ in-failed only− b s i j (notReactive b) (λ r− r+. refl) (λ y. refl) ∙ chosen only− h
+      → r ≡ reactionOf (signalInstant sc b s i j)
+  signal-unreactive h r w = w ∙ in-failed only− sc b s i j (notReactive b) (λ r− r+. refl) (λ y. refl) ∙ chosen only− h
 
   pub signal-undetermined : v ≡ OnlyPlus → (r : Reaction) → r ≡ reactionOf (instant failed (some (notDeterministic b)))
-      → r ≡ reactionOf (signalInstant b s i j)
-  signal-undetermined h r w = w ∙ in-failed only+ b s i j (notDeterministic b) (λ r− r+. refl) (λ y. refl) ∙ chosen only+ h
+      → r ≡ reactionOf (signalInstant sc b s i j)
+  signal-undetermined h r w = w ∙ in-failed only+ sc b s i j (notDeterministic b) (λ r− r+. refl) (λ y. refl) ∙ chosen only+ h

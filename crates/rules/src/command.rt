@@ -4,8 +4,9 @@ ghost use mathlib.Core.Option.{some};
 ghost use Rattle.sets.specs.Labels.{labelSet};
 ghost use Rattle.sets.specs.Sets.{labelCount, onlyBelow};
 ghost use Rattle.esterel.specs.Sets.{none};
-ghost use Rattle.esterel.specs.Statement.{Statement, nothing};
-ghost use Rattle.esterel.specs.Reaction.{ended, waiting, leaving, isWrong, gives, ifWaiting, failed};
+ghost use Rattle.limits.specs.Limits.{readBackPlace};
+ghost use Rattle.esterel.specs.Statement.{Scope, local, reported, Statement, nothing};
+ghost use Rattle.esterel.specs.Reaction.{ended, waiting, leaving, isWrong, gives, ifWaiting, failed, outside};
 ghost use Rattle.esterel.specs.Resume.{instant, seqInstant, parInstant, loopInstant, tryInstant, signalInstant};
 ghost use Rattle.rules.specs.Reactions.{
   faultless,
@@ -234,16 +235,17 @@ pub fn in_try(p: Reaction) -> Reaction
     }
 }
 
-// signal s at the offset `place`, from the runs of its body without s and with it
-pub fn in_signal(place: u16, s: u8, minus: Reaction, plus: Reaction) -> Reaction
-    ensures { λ r. ⌜ FromTwo (signalInstant place s) minus plus r ⌝ }
+// A declaration of s at the offset `place`, from the runs of its body without s and with it. Where both runs emit s, it emits
+// the set `kept`.
+fn declaring(place: u16, s: u8, kept: u32, minus: Reaction, plus: Reaction) -> Reaction
+    ensures { λ r. ⌜ ((sc : Scope) → kept ≡ outside sc s (plus .emitted) → FromTwo (signalInstant sc place s) minus plus r) ⌝ }
 {
     let k = minus.completion;
     let l = plus.completion;
     let labels = plus.labels;
     match choose(s, minus, plus) {
         Choice::Both => Reaction {
-            emitted: sets::signals::without(plus.emitted, s),
+            emitted: kept,
             labels,
             completion: l,
         },
@@ -256,4 +258,24 @@ pub fn in_signal(place: u16, s: u8, minus: Reaction, plus: Reaction) -> Reaction
             completion: greater_of(k, l),
         },
     }
+}
+
+// signal s at the offset `place`: s stays inside
+pub fn in_signal(place: u16, s: u8, minus: Reaction, plus: Reaction) -> Reaction
+    ensures { λ r. ⌜ FromTwo (signalInstant local place s) minus plus r ⌝ }
+{
+    declaring(
+        place,
+        s,
+        sets::signals::without(plus.emitted, s),
+        minus,
+        plus,
+    )
+}
+
+// The read-back declaration of s (02, item 5): s is reported all the same.
+pub fn in_read_back(s: u8, minus: Reaction, plus: Reaction) -> Reaction
+    ensures { λ r. ⌜ FromTwo (signalInstant reported readBackPlace s) minus plus r ⌝ }
+{
+    declaring(limits::READ_BACK_PLACE, s, plus.emitted, minus, plus)
 }

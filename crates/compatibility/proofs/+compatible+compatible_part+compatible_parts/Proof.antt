@@ -2,7 +2,7 @@ use mathlib.Core.Path.{refl, sym, _∙_}
 use native.Mathlib.Omega.{arith}
 use borrow.Author.Needs.{needs}
 use borrow.Author.Tests.{not-true, not-false}
-use Rattle.esterel.specs.Statement.{seq, par, loop, present, signal, try, suspend}
+use Rattle.esterel.specs.Statement.{local, seq, par, loop, present, signal, try, suspend}
 use Rattle.sequence.specs.Commands.{Command}
 use Rattle.layout.proofs.Laid.{ready, taken, begins, first-ready, second-ready}
 use Rattle.compatibility.proofs.Steps.{
@@ -142,7 +142,7 @@ compatible-returns-4 t c base p l =
 compatible-returns-5 : (t : ℕ) → compatible-lts.Need-returns-5 (compatible-claims t) (compatible-at t) compatible.Post
 compatible-returns-5 t c base p l =
     let y = taken (c .before .before .before .before .pre .1) base p l Command.signal (c .before .match .keys5) .parts in
-    here (signal _ _ (y .0)) p base _ (y .1 .0) (signal-step base _ (y .0) (c .compatible-part2 .ensures base (y .0) (y .1 .1)) _ _)
+    here (signal local _ _ (y .0)) p base _ (y .1 .0) (signal-step base _ (y .0) (c .compatible-part2 .ensures base (y .0) (y .1 .1)) _ _)
 
 compatible-returns-6 : (t : ℕ) → compatible-lts.Need-returns-6 (compatible-claims t) (compatible-at t) compatible.Post
 compatible-returns-6 t c base p l =

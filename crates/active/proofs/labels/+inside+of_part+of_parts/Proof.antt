@@ -2,7 +2,7 @@ use mathlib.Core.Path.{sym, _∙_}
 use native.Mathlib.Omega.{arith}
 use borrow.Author.Needs.{needs}
 use borrow.Author.Tests.{ltb-true}
-use Rattle.esterel.specs.Statement.{pause, seq, par, loop, present, signal, try, suspend}
+use Rattle.esterel.specs.Statement.{local, pause, seq, par, loop, present, signal, try, suspend}
 use Rattle.sequence.specs.Commands.{Command}
 use Rattle.layout.proofs.Laid.{ready, taken, begins, first-ready, second-ready}
 use Rattle.active.proofs.Steps.{
@@ -133,7 +133,7 @@ inside-returns-6 t c base p l =
 inside-returns-7 : (t : ℕ) → inside-lts.Need-returns-7 (inside-claims t) (inside-at t) inside.Post
 inside-returns-7 t c base p l =
     let y = taken (c .before .before .before .before .before .before .pre .1) base p l Command.signal (c .before .match .keys6) .parts in
-    here (signal _ _ (y .0)) p base _ (y .1 .0) (signal-step base _ (y .0) (c .of-part2 .ensures base (y .0) (y .1 .1)) _ _)
+    here (signal local _ _ (y .0)) p base _ (y .1 .0) (signal-step base _ (y .0) (c .of-part2 .ensures base (y .0) (y .1 .1)) _ _)
 
 inside-returns-8 : (t : ℕ) → inside-lts.Need-returns-8 (inside-claims t) (inside-at t) inside.Post
 inside-returns-8 t c base p l =

@@ -2,7 +2,7 @@ use mathlib.Core.Path.{sym, _∙_}
 use native.Mathlib.Omega.{arith}
 use borrow.Author.Needs.{needs}
 use borrow.Author.Tests.{ltb-true}
-use Rattle.esterel.specs.Statement.{seq, par, loop, present, signal, try, suspend}
+use Rattle.esterel.specs.Statement.{local, seq, par, loop, present, signal, try, suspend}
 use Rattle.esterel.specs.Resume.{start}
 use Rattle.sequence.specs.Commands.{Command}
 use Rattle.layout.proofs.Laid.{ready, taken, begins, last-but-one}
@@ -382,7 +382,7 @@ signal-rule-returns : (t : ℕ) → signal-rule-lts.Need-returns (signal-rule-cl
 signal-rule-returns t c base p l =
     let y = taken (c .before .before .before .before .before .before .before .pre .1 .0) base p l Command.signal (c .before .before .before .before .before .before .before .pre .1 .1) in
     let q = y .parts .0 in
-    here (signal _ _ q) p _ (y .parts .1 .0)
+    here (signal local _ _ q) p _ (y .parts .1 .0)
     (signal-step _ _ _ q (ltb-true _ _ (y .ranged)) (c .before .before .before .before .without .ensures) (c .before .before .before .part .ensures base q (y .parts .1 .1)) (c .before .before .with .ensures)
     (c .before .part2 .ensures base q (y .parts .1 .1)) (c .in-signal .ensures))
 

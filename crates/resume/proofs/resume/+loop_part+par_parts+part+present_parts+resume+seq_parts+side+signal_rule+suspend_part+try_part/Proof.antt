@@ -2,7 +2,7 @@ use mathlib.Core.Path.{sym, _∙_}
 use native.Mathlib.Omega.{arith}
 use borrow.Author.Needs.{needs}
 use borrow.Author.Tests.{ltb-true}
-use Rattle.esterel.specs.Statement.{seq, par, loop, present, signal, try, suspend}
+use Rattle.esterel.specs.Statement.{local, seq, par, loop, present, signal, try, suspend}
 use Rattle.sequence.specs.Commands.{Command}
 use Rattle.layout.proofs.Laid.{ready, whole, whole-lies, taken, begins}
 use Rattle.resume.proofs.Steps.{
@@ -377,7 +377,7 @@ signal-rule-returns : (t : ℕ) → signal-rule-lts.Need-returns (signal-rule-cl
 signal-rule-returns t c base p l =
     let y = taken (c .before .before .before .before .before .before .before .pre .1 .0) base p l Command.signal (c .before .before .before .before .before .before .before .pre .1 .1) in
     let q = y .parts .0 in
-    here base _ _ (signal _ _ q) p (y .parts .1 .0)
+    here base _ _ (signal local _ _ q) p (y .parts .1 .0)
     (signal-step base _ _ q _ _ (ltb-true _ _ (y .ranged)) (c .before .before .before .before .without .ensures) (c .before .before .before .part .ensures base q (y .parts .1 .1)) (c .before .before .with .ensures)
     (c .before .part2 .ensures base q (y .parts .1 .1)) (c .in-signal .ensures))
 
