@@ -1,0 +1,116 @@
+use Prim.Native.Nat.{ℕ, _<_}
+use mathlib.Core.Path.{sym, _∙_}
+use native.Mathlib.Omega.{arith}
+use borrow.Author.Needs.{needs}
+use borrow.Fn.Kinds.{In}
+use borrow.Fn.PlainCycle.{Measures, is, falls, and}
+use Rattle.sets.proofs.Lowest.{remove-less}
+use Rattle.program.specs.Program.{instantAt}
+use Rattle.program.proofs.Steps.{none-left, found, one-more}
+use Rattle.program.proofs.react.Reads as react
+use Rattle.program.proofs.react.Kinds as react-kinds
+use Rattle.program.proofs.+react.Lts-react as react-lts
+use Rattle.program.proofs.inside.Reads as inside-reads
+use Rattle.rules.proofs.command.in_read_back.Reads as in-read-back-reads
+use Rattle.sets.proofs.signals.is_empty.Reads as is-empty-reads
+use Rattle.sets.proofs.signals.lowest.Reads as lowest-reads
+use Rattle.sets.proofs.signals.with.Reads as with-reads
+use Rattle.sets.proofs.signals.without.Reads as without-reads
+use Rattle.program.proofs.+react.{statement}
+use Rattle.program.proofs.+react.Tie.{close}
+
+-- the read-back set loses its lowest signal at each level
+abbrev μ-react : Measures 2 react-kinds.ps ℕ
+μ-react κs a = a .1 .1 .1 .0
+
+abbrev react-at : ℕ → In 2 react-kinds.ps
+react-at t = and 2 react-kinds.ps (is 2 react-kinds.ps μ-react t) react.Pre
+
+abbrev react-below : ℕ → In 2 react-kinds.ps
+react-below t = and 2 react-kinds.ps (falls 2 react-kinds.ps _<_ μ-react t) react.Pre
+
+abbrev claims : ℕ → react-lts.Claims
+claims t = (
+  is-empty-reads.Asked,
+  is-empty-reads.Learnt,
+  inside-reads.Asked,
+  inside-reads.Learnt,
+  lowest-reads.Asked,
+  lowest-reads.Learnt,
+  without-reads.Asked,
+  without-reads.Learnt,
+  react-below t,
+  react.Post,
+  with-reads.Asked,
+  with-reads.Learnt,
+  in-read-back-reads.Asked,
+  in-read-back-reads.Learnt,
+)
+
+react-is-empty-requires : (t : ℕ) → react-lts.Need-is-empty-requires (claims t) (react-at t) react.Post
+react-is-empty-requires t c κs = search needs
+
+react-inside-requires : (t : ℕ) → react-lts.Need-inside-requires (claims t) (react-at t) react.Post
+react-inside-requires t c κs = search needs
+
+react-returns : (t : ℕ) → react-lts.Need-returns (claims t) (react-at t) react.Post
+react-returns t c p l =
+    let a = c .before .before .before .before .args in
+    none-left (a .read-back) (instantAt (a .position) p) (a .input) (sym (c .before .before .is-empty .ensures) ∙ c .before .if1 .taken) (c .inside .ensures p l)
+
+react-lowest-requires : (t : ℕ) → react-lts.Need-lowest-requires (claims t) (react-at t) react.Post
+react-lowest-requires t c κs = search needs
+
+react-without-requires : (t : ℕ) → react-lts.Need-without-requires (claims t) (react-at t) react.Post
+react-without-requires t c κs = search needs
+
+react-without-requires-2 : (t : ℕ) → react-lts.Need-without-requires-2 (claims t) (react-at t) react.Post
+react-without-requires-2 t c κs = search needs
+
+react-react-requires : (t : ℕ) → react-lts.Need-react-requires (claims t) (react-at t) react.Post
+react-react-requires t c κs =
+    let i = c .before .before .before .before .before .before in
+    let less = remove-less _ (i .args .read-back)
+    (found (i .args .read-back) _ (search needs) (sym (c .before .before .before .before .is-empty .ensures) ∙ c .before .before .before .if1 .left)
+    (c .before .before .lowest .ensures)) in
+    (omega (arith, less, i .pre .0, c .before .without .ensures), i .pre .1)
+
+react-with-requires : (t : ℕ) → react-lts.Need-with-requires (claims t) (react-at t) react.Post
+react-with-requires t c κs = search needs
+
+react-react-requires-2 : (t : ℕ) → react-lts.Need-react-requires-2 (claims t) (react-at t) react.Post
+react-react-requires-2 t c κs =
+    let i = c .before .before .before .before .before .before .before .before in
+    let less = remove-less _ (i .args .read-back)
+    (found (i .args .read-back) _ (search needs)
+    (sym (c .before .before .before .before .before .before .is-empty .ensures) ∙ c .before .before .before .before .before .if1 .left)
+    (c .before .before .before .before .lowest .ensures)) in
+    (omega (arith, less, i .pre .0, c .before .before .before .without .ensures), i .pre .1)
+
+react-in-read-back-requires : (t : ℕ) → react-lts.Need-in-read-back-requires (claims t) (react-at t) react.Post
+react-in-read-back-requires t c κs = search needs
+
+react-returns-2 : (t : ℕ) → react-lts.Need-returns-2 (claims t) (react-at t) react.Post
+react-returns-2 t c p l =
+    let w = c .before .before .before .before .before .before in
+    let a = w .before .before .before .before .args in
+    one-more (a .read-back) _ (search needs) (sym (w .before .before .is-empty .ensures) ∙ w .before .if1 .left) (w .lowest .ensures) (instantAt (a .position) p) (a .input)
+    (c .before .before .before .before .before .without .ensures) (c .before .before .before .before .without2 .ensures)
+    (c .before .before .with .ensures) (c .before .before .before .react .ensures p l) (c .before .react2 .ensures p l)
+    (c .in-read-back .ensures)
+
+pub +react-spec : {M : Type 1} → statement M
++react-spec = close μ-react λ t. react-lts.spec (claims t)
+    (react-at t)
+    react.Post
+    (react-is-empty-requires t)
+    (react-inside-requires t)
+    (react-returns t)
+    (react-lowest-requires t)
+    (react-without-requires t)
+    (react-without-requires-2 t)
+    (react-react-requires t)
+    (react-with-requires t)
+    (react-react-requires-2 t)
+    (react-in-read-back-requires t)
+    (react-returns-2 t)

@@ -1,0 +1,56 @@
+// An instant of a program (02, item 5): the read-back declarations are walked outside, the lowest outermost, and the sequence
+// reacts or resumes inside.
+ghost use mathlib.Core.Path.{_≡_};
+ghost use Rattle.limits.specs.Limits.{maxDepth};
+ghost use Rattle.layout.specs.Layout.{Ready};
+ghost use Rattle.program.specs.Program.{Inside, Reacted};
+use reading::reader::Seconds;
+use rules::reaction::Reaction;
+use sets::labels::Labels;
+
+// Where a sequence stands: at its beginning, or at its active pauses, by their ranks.
+pub enum Position {
+    Fresh,
+    Waiting(Labels),
+}
+
+// The sequence itself, with no declaration left around it.
+fn inside(s: &[u8], position: Position, input: u32, second: &Seconds) -> Reaction
+    requires { ⌜ Ready (now second) maxDepth 0 (now s) ⌝ }
+    ensures { λ r. ⌜ Inside (now (second .entry)) (now (s .entry)) position input r ⌝ }
+{
+    match position {
+        Position::Fresh => react::react::react(s, 0, limits::MAX_DEPTH, input, second),
+        Position::Waiting(active) => resume::resume::resume(
+            s,
+            0,
+            limits::MAX_DEPTH,
+            input,
+            active,
+            second,
+        ),
+    }
+}
+
+// The sequence under a declaration of each read-back signal.
+pub fn react(
+    s: &[u8],
+    position: Position,
+    input: u32,
+    read_back: u32,
+    second: &Seconds,
+) -> Reaction
+    requires { ⌜ Ready (now second) maxDepth 0 (now s) ⌝ }
+    ensures { λ r. ⌜ Reacted (now (second .entry)) (now (s .entry)) position input «read_back» r ⌝ }
+{
+    if sets::signals::is_empty(read_back) {
+        return inside(s, position, input, second);
+    }
+    let x = sets::signals::lowest(read_back);
+    let others = sets::signals::without(read_back, x);
+    let without = sets::signals::without(input, x);
+    let p = react(s, position, without, others, second);
+    let with = sets::signals::with(input, x);
+    let q = react(s, position, with, others, second);
+    rules::command::in_read_back(x, p, q)
+}
