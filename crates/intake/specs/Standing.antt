@@ -66,6 +66,6 @@ replied (Refused number) state answer = outcome number state answer
 replied (Reacted r) state answer = writtenFrom r
 
 -- r is what an accepted or refused sequence comes to in the state of the record, whatever the answer buffer
-pub record Replies (sequence state : List ℕ) (e : ℕ) (r : Reply) : Type 0 where
+pub record Replies (sequence state : List ℕ) (e readBack : ℕ) (r : Reply) : Type 0 where
   pub writable : WritableReply r
-  pub is : (answer : List ℕ) → replied r state answer ≡ byCheck inheritanceFirst (checked sequence) state e answer
+  pub is : (answer : List ℕ) → replied r state answer ≡ byCheck inheritanceFirst readBack (checked sequence readBack) state e answer

@@ -6,6 +6,7 @@ ghost use Rattle.records.specs.Records.{stateLength, answerLength};
 ghost use Rattle.demands.specs.Tick.{outcome};
 ghost use Rattle.intake.specs.Standing.{DecodesRead, Replies, Writable, writtenFrom};
 use notes::Notes;
+use program::Position;
 use reading::reader::Seconds;
 use rules::reaction::Completion;
 use rules::reaction::Reaction;
@@ -50,32 +51,31 @@ pub enum Reply {
     Reacted(Reaction),
 }
 
-// The sequence in the state of a record: a fresh machine reacts, a waiting one resumes.
-pub fn reply_to(sequence: &[u8], state: &[u8], input: u32) -> Reply
-    ensures { λ r. ⌜ Replies (now (sequence .entry)) (now (state .entry)) input r ⌝ }
+// The program in the state of a record: a fresh machine reacts, a waiting one resumes.
+pub fn reply_to(sequence: &[u8], state: &[u8], input: u32, read_back: u32) -> Reply
+    ensures { λ r. ⌜ Replies (now (sequence .entry)) (now (state .entry)) input «read_back» r ⌝ }
 {
     let mut second: Seconds = [0; limits::MAX_BYTES];
     let mut notes: Notes = [0; notes::LENGTH];
-    let number = checks::verdict::check(sequence, &mut second, &mut notes);
+    let number = checks::verdict::check(sequence, read_back, &mut second, &mut notes);
     if number != 0 {
         return Reply::Refused(number);
     }
     match decode(sequence, &second, &notes, state) {
         Standing::Malformed => Reply::Refused(11),
         Standing::Over => Reply::Refused(12),
-        Standing::Fresh => Reply::Reacted(react::react::react(
+        Standing::Fresh => Reply::Reacted(program::react(
             sequence,
-            0,
-            limits::MAX_DEPTH,
+            Position::Fresh,
             input,
+            read_back,
             &second,
         )),
-        Standing::Waiting(active) => Reply::Reacted(resume::resume::resume(
+        Standing::Waiting(active) => Reply::Reacted(program::react(
             sequence,
-            0,
-            limits::MAX_DEPTH,
+            Position::Waiting(active),
             input,
-            active,
+            read_back,
             &second,
         )),
     }

@@ -33,13 +33,7 @@ fn inside(s: &[u8], position: Position, input: u32, second: &Seconds) -> Reactio
 }
 
 // The sequence under a declaration of each read-back signal.
-pub fn react(
-    s: &[u8],
-    position: Position,
-    input: u32,
-    read_back: u32,
-    second: &Seconds,
-) -> Reaction
+pub fn react(s: &[u8], position: Position, input: u32, read_back: u32, second: &Seconds) -> Reaction
     requires { ⌜ Ready (now second) maxDepth 0 (now s) ⌝ }
     ensures { λ r. ⌜ Reacted (now (second .entry)) (now (s .entry)) position input «read_back» r ⌝ }
 {

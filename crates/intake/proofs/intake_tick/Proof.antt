@@ -11,10 +11,10 @@ use Rattle.intake.proofs.tick.finish.Reads as finish-reads
 use Rattle.intake.proofs.tick.reply_to.Reads as reply-to-reads
 
 returns : tie.Need-returns
-returns c = other-state _ _ _ _ (c .if1 .taken)
+returns c = other-state _ _ _ _ _ (c .if1 .taken)
 
 returns-2 : tie.Need-returns-2
-returns-2 c = other-answer _ _ _ _ (c .before .if1 .left) (c .if2 .taken)
+returns-2 c = other-answer _ _ _ _ _ (c .before .if1 .left) (c .if2 .taken)
 
 reply-to-requires : tie.Need-reply-to-requires
 reply-to-requires c κs = search needs
@@ -29,7 +29,7 @@ finish-requires : tie.Need-finish-requires
 finish-requires c κs = (
   search needs,
   search needs,
-  subst (Replies _ _ _) (c .before .before .before .reaction .given .1) (c .before .before .before .before .before .reply-to .ensures) .writable,
+  subst (Replies _ _ _ _) (c .before .before .before .reaction .given .1) (c .before .before .before .before .before .reply-to .ensures) .writable,
 )
 
 same-length : tie.Need-same-length
@@ -37,8 +37,8 @@ same-length c = search needs
 
 returns-3 : tie.Need-returns-3
 returns-3 c =
-    let r = subst (Replies _ _ _) (c .before .number .given .1) (c .before .before .before .reply-to .ensures) in
-    as-replied _ _ _ _ (c .before .before .before .before .before .before .if1 .left) (c .before .before .before .before .before .if2 .left) (Refused _) r
+    let r = subst (Replies _ _ _ _) (c .before .number .given .1) (c .before .before .before .reply-to .ensures) in
+    as-replied _ _ _ _ _ (c .before .before .before .before .before .before .if1 .left) (c .before .before .before .before .before .if2 .left) (Refused _) r
 
 same-length-2 : tie.Need-same-length-2
 same-length-2 c = search needs
@@ -48,8 +48,8 @@ same-length-3 c = search needs
 
 returns-4 : tie.Need-returns-4
 returns-4 c =
-    let r = subst (Replies _ _ _) (c .before .before .before .before .before .before .before .before .reaction .given .1) (c .before .before .before .before .before .before .before .before .before .before .reply-to .ensures) in
-    c .before .before .before .before .finish .ensures ∙ as-replied _ _ _ _ (c .before .before .before .before .before .before .before .before .before .before .before .before .before .if1 .left) (c .before .before .before .before .before .before .before .before .before .before .before .before .if2 .left) (Reacted _) r
+    let r = subst (Replies _ _ _ _) (c .before .before .before .before .before .before .before .before .reaction .given .1) (c .before .before .before .before .before .before .before .before .before .before .reply-to .ensures) in
+    c .before .before .before .before .finish .ensures ∙ as-replied _ _ _ _ _ (c .before .before .before .before .before .before .before .before .before .before .before .before .before .if1 .left) (c .before .before .before .before .before .before .before .before .before .before .before .before .if2 .left) (Reacted _) r
 
 pub intake-tick-spec : {M : Type 1} → statement M
 intake-tick-spec =
