@@ -6,27 +6,27 @@ ghost use Rattle.sequence.specs.Reader.{front};
 ghost use Rattle.layout.specs.Walk.{headOf};
 use commands::Count;
 
-// The command at the front of s: its own bytes, or 4096 times the row that turns it down.
+// The command at the front of s: its own bytes, or so many units for the row that turns it down.
 pub fn front(s: &[u8]) -> usize
     ensures { λ r. ⌜ r ≡ headOf (front (now (s .entry))) ⌝ }
 {
     if s.len() == 0 {
-        return 4 * 4096;
+        return 4 * layout::ROW_UNIT;
     }
     let b = s[0];
     match commands::operand_count(b) {
-        Count::NoCommand => 3 * 4096,
+        Count::NoCommand => 3 * layout::ROW_UNIT,
         Count::Of(n) => {
             if n == 0 {
                 return 1;
             }
             if s.len() <= 1 {
-                return 4 * 4096;
+                return 4 * layout::ROW_UNIT;
             }
             if commands::in_range(b, s[1]) {
                 2
             } else {
-                5 * 4096
+                5 * layout::ROW_UNIT
             }
         }
     }

@@ -1,26 +1,37 @@
 -- What the reading walk answers, and what it leaves in the table of second parts and in the notes of labels.
 -- All offsets are those of the whole sequence.
-use Prim.Native.Nat.{ℕ, _+_, _*_, _≤_, _<_}
+use Prim.Native.Nat.{ℕ, _+_, _-_, _*_, _/_, _%_, _≤_, _<_, min}
 use mathlib.Core.Path.{_≡_}
 use mathlib.Core.List.{List}
 use lib.ListN.{getD, length, drop}
 use Rattle.esterel.specs.Statement.{Statement, nothing}
 use Rattle.limits.specs.Limits.{maxBytes}
 use Rattle.sequence.specs.Commands.{Command, partCount, width, build}
-use Rattle.sequence.specs.Reader.{Read, accepted, refused, Front, command, bad, front, lastPart, firstPart, read}
+use Rattle.sequence.specs.Reader.{Read, accepted, refused, Front, command, bad, front, lastPart, firstPart, read, nesting}
 use Rattle.layout.specs.Layout.{Marked}
 use Rattle.layout.specs.Notes.{countIn, noteCount, noNotes, note}
 
--- ---- one number for an answer: a count of bytes or an offset, or 4096 times the row
+-- ---- one number for an answer: so many rowUnits for a row, else an offset and so many leftUnits for the signals left
+abbrev pub leftUnit : ℕ
+leftUnit = 4096
+
+abbrev pub rowUnit : ℕ
+rowUnit = 1048576
+
 -- the bytes of the command itself
 abbrev pub headOf : Front → ℕ
 headOf (command c xs) = width c
-headOf (bad number) = number * 4096
+headOf (bad number) = number * rowUnit
 
--- the offset behind the statement that was read at offset a
-abbrev pub packed : ℕ → Read → ℕ
-packed a (accepted p n) = a + n
-packed a (refused number) = number * 4096
+-- the offset behind the statement that was read at offset a, and how many of the signals allowed it leaves
+abbrev pub packed : (signals a : ℕ) → Read → ℕ
+packed signals a (accepted p n) = a + n + (signals - nesting p) * leftUnit
+packed signals a (refused number) = number * rowUnit
+
+-- the answer z for two parts, of which the first answered m and the second r
+pub record Both (m r z : ℕ) : Type 0 where
+  pub refusal : rowUnit ≤ r → z ≡ r
+  pub acceptance : r < rowUnit → z ≡ r % leftUnit + min (m / leftUnit) (r / leftUnit) * leftUnit
 
 -- ---- the walk, while the table t becomes u and the notes m become n
 -- what it requires: the bytes from offset a on lie within the limit, and no more than a pauses came before
@@ -54,9 +65,9 @@ abbrev pub Filled : (a : ℕ) → (t u m n : List ℕ) → Read → Type 0
 Filled a t u m n (accepted p k) = Entered t u (countIn m) a k p × (n ≡ note p m)
 Filled a t u m n (refused number) = Unit {0}
 
--- the answer r for what was read at offset a
-abbrev pub Done : (a : ℕ) → (t u m n : List ℕ) → Read → ℕ → Type 0
-Done a t u m n y r = (r ≡ packed a y) × Filled a t u m n y
+-- the answer r for what was read at offset a, with so many signals allowed
+abbrev pub Done : (signals a : ℕ) → (t u m n : List ℕ) → Read → ℕ → Type 0
+Done signals a t u m n y r = (r ≡ packed signals a y) × Filled a t u m n y
 
 -- the two parts of the command c at offset a with operands xs, by a reader r of parts; bs is behind the command
 abbrev pub pairRead : (ℕ → List ℕ → Read) → Command → (a : ℕ) (xs : List ℕ) → List ℕ → Read
