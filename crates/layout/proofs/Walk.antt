@@ -228,9 +228,9 @@ module _ (d g b : ℕ) (s t u m n : List ℕ) (r : ℕ) (can : Readable b s t m)
 
   -- the entry o is written at offset a, the second part, of the bytes l, is read at offset x, and z is the answer for both
   pub both : (a : ℕ) (xs : List ℕ) (c : Command) → g < 256 → b ≡ a + width c → partCount c ≡ 2 → Firsts d g b s t u m n r → a < length u → (x o : ℕ)
-      → x ≡ r % leftUnit → o ≡ entry x (countIn n) → (l : List ℕ) → l ≡ drop (x - b) s → x + length l ≤ maxBytes → (v j : List ℕ) (r₂ z : ℕ)
+      → x ≡ r % leftUnit → o ≡ entry x (countIn n) → (l : List ℕ) → l ≡ drop (x - b) s → (v j : List ℕ) (r₂ z : ℕ)
       → Done g x (set u a o) v n j (read d g x l) r₂ → Both r r₂ z → Done g a t v m j (pairRead (read d g) c a xs s) z
-  both a xs c allowed e two f inside x o behind w l here fits v j r₂ z i joined =
+  both a xs c allowed e two f inside x o behind w l here v j r₂ z i joined =
       let k = f .count in
       let q : read d g (a + width c) s ≡ accepted (f .part) k = rw e at (f .reads) in
       let place : x ≡ a + (width c + k) = omega (arith, f .place) in
@@ -245,6 +245,8 @@ module _ (d g b : ℕ) (s t u m n : List ℕ) (r : ℕ) (can : Readable b s t m)
       go fore place noted (accepted p k) y i =
           let back : Entered (set u a o) v (middle (countIn m) (f .part)) x k p = rw (f .counted) at (i .1 .0) in
           let within = count-within d g x l p k (sym y) in
+          let long : length l ≡ length s - (x - b) = ap length here ∙ length-drop (x - b) s in
+          let fits : x + k ≤ maxBytes = omega (arith, can .fits, f .place, f .within) in
           let small : r₂ < rowUnit = omega (arith, i .0) in
           let left = both-left g (nesting (f .part)) (nesting p) (b + f .count) (x + k) r r₂ z (omega arith) (omega arith) (f .answer) (i .0)
           (joined .acceptance small) in

@@ -1,18 +1,17 @@
 -- What the walk over a whole sequence answers and leaves.
-use Prim.Native.Nat.{ℕ, _*_, _/_, _≤_, _<_}
-use mathlib.Core.Path.{_≡_, refl, sym, ap, _∙_, subst}
+use Prim.Native.Nat.{ℕ, _-_, _*_, _/_, _%_, _≤_, _<_}
+use mathlib.Core.Path.{_≡_, refl, sym, ap, ap₂, _∙_, subst}
 use mathlib.Core.List.{List}
-use native.Mathlib.Nat.{zero-add}
 use native.Mathlib.Omega.{arith}
 use lib.ListN.{length, length-replicate}
 use Rattle.esterel.specs.Statement.{Statement}
 use Rattle.limits.specs.Limits.{maxBytes, maxDepth, maxSignals}
-use Rattle.sequence.specs.Reader.{Read, accepted, refused, read}
+use Rattle.sequence.specs.Reader.{Read, accepted, refused, read, nesting}
 use Rattle.sequence.proofs.Refusals.{Small, Rowed, rowed}
 use Rattle.sequence.proofs.Sound.{count-within}
 use Rattle.layout.specs.Layout.{rest, Marked}
 use Rattle.layout.specs.Notes.{countIn, noteCount, noNotes, note}
-use Rattle.layout.specs.Walk.{Readable, Entered, Done}
+use Rattle.layout.specs.Walk.{leftUnit, rowUnit, Readable, Entered, Done}
 use Rattle.layout.proofs.Walk.{onward}
 use Rattle.reading.specs.declared.reader.Reading.the-variants.{Accepted, Refused}
 use Rattle.reading.specs.Reading.{readingOf, Reads}
@@ -24,38 +23,41 @@ beginning s t m l long e =
     onward 0 0 0 s t m refl (omega arith) (omega arith) (omega arith) long k
 
 module _ (s t u m n : List ℕ) (r : ℕ) (short : length s ≤ maxBytes) (long : length t ≡ maxBytes) (none : m ≡ noNotes)
-    (h : Done 0 t u m n (read maxDepth maxSignals 0 s) r) where
+    (h : Done maxSignals 0 t u m n (read maxDepth maxSignals 0 s) r) where
   -- the row of a refusal
-  pub row : 4096 ≤ r → (k : ℕ) × ((read maxDepth maxSignals 0 s ≡ refused k) × (r ≡ k * 4096) × (k ≤ 6))
+  pub row : rowUnit ≤ r → (k : ℕ) × ((read maxDepth maxSignals 0 s ≡ refused k) × (r ≡ k * rowUnit) × (k ≤ 6))
   row large = go (read maxDepth maxSignals 0 s) refl (rowed maxDepth maxSignals 0 s) h
     where
-      go : (y : Read) → read maxDepth maxSignals 0 s ≡ y → Rowed (read maxDepth maxSignals 0 s) → Done 0 t u m n y r
-          → (k : ℕ) × ((read maxDepth maxSignals 0 s ≡ refused k) × (r ≡ k * 4096) × (k ≤ 6))
+      go : (y : Read) → read maxDepth maxSignals 0 s ≡ y → Rowed (read maxDepth maxSignals 0 s) → Done maxSignals 0 t u m n y r
+          → (k : ℕ) × ((read maxDepth maxSignals 0 s ≡ refused k) × (r ≡ k * rowUnit) × (k ≤ 6))
       go (accepted p k) q z i = absurd (omega (arith, count-within maxDepth maxSignals 0 s p k q, i .0))
       go (refused k) q z i = let o : Small k = rw q at z in (k, (q, i .0, o .1))
 
-  pub reads-refused : 4096 ≤ r → Reads s u n (Refused (r / 4096))
+  pub reads-refused : rowUnit ≤ r → Reads s u n (Refused (r / rowUnit))
   reads-refused large =
       let k = row large in
-      let e : r / 4096 ≡ k .0 = omega (arith, k .1 .1) in
+      let e : r / rowUnit ≡ k .0 = omega (arith, k .1 .1) in
       record { answer = ap Refused e ∙ ap readingOf (sym (k .1 .0)); marked = λ p j q. never q; long = λ p j q. never q }
     where
       never : {A : Type 0} {p : Statement} {j : ℕ} → read maxDepth maxSignals 0 s ≡ accepted p j → A
       never q = absurd (let z : _≡_ {A = ℕ} 0 1 = cc (row large .1 .0) in omega arith)
 
-  pub reads-accepted : r < 4096 → Reads s u n (Accepted r)
+  pub reads-accepted : r < rowUnit → Reads s u n (Accepted (r % leftUnit) (r / leftUnit))
   reads-accepted small = go (read maxDepth maxSignals 0 s) refl (rowed maxDepth maxSignals 0 s) h
     where
       at : {p q : Statement} {j k : ℕ} (P : Statement → Type 0) → accepted p j ≡ accepted q k → P p → P q
       at {p} {q} P e x = let f : p ≡ q = cc in subst P f x
 
-      go : (y : Read) → read maxDepth maxSignals 0 s ≡ y → Rowed (read maxDepth maxSignals 0 s) → Done 0 t u m n y r → Reads s u n (Accepted r)
+      go : (y : Read) → read maxDepth maxSignals 0 s ≡ y → Rowed (read maxDepth maxSignals 0 s) → Done maxSignals 0 t u m n y r → Reads s u n (Accepted (r % leftUnit) (r / leftUnit))
       go (refused k) q z i = let o : Small k = rw q at z in absurd (omega (arith, i .0))
       go (accepted p k) q z i =
           let f : Entered t u 0 0 k p = rw none at (i .1 .0) in
           let g : n ≡ note p noNotes = rw none at (i .1 .1) in
+          let l = count-within maxDepth maxSignals 0 s p k q in
+          let count : r % leftUnit ≡ k = omega (arith, i .0) in
+          let left : r / leftUnit ≡ maxSignals - nesting p = omega (arith, i .0) in
           record {
-            answer = ap Accepted (i .0 ∙ zero-add k) ∙ ap readingOf (sym q);
+            answer = ap₂ Accepted count left ∙ ap readingOf (sym q);
             marked = λ p' j e. at (λ (p : Statement). Marked u 0 0 p × (n ≡ note p noNotes)) (sym q ∙ e) (f .marked, g);
             long = λ p' j e. f .long ∙ long;
           }

@@ -1,18 +1,18 @@
 -- What reading a whole sequence answers and leaves.
-use Prim.Native.Nat.{ℕ}
+use Prim.Native.Nat.{ℕ, _-_}
 use mathlib.Core.Path.{_≡_}
 use mathlib.Core.List.{List}
 use lib.ListN.{length}
 use Rattle.esterel.specs.Statement.{Statement}
-use Rattle.limits.specs.Limits.{maxBytes}
-use Rattle.sequence.specs.Reader.{Read, accepted, refused, readAll}
+use Rattle.limits.specs.Limits.{maxBytes, maxSignals}
+use Rattle.sequence.specs.Reader.{Read, accepted, refused, readAll, nesting}
 use Rattle.layout.specs.Layout.{Marked}
 use Rattle.layout.specs.Notes.{noNotes, note}
 use Rattle.reading.specs.declared.reader.Reading.{Reading}
 use Rattle.reading.specs.declared.reader.Reading.the-variants.{Accepted, Refused}
 
 abbrev pub readingOf : Read → Reading
-readingOf (accepted p n) = Accepted n
+readingOf (accepted p n) = Accepted n (maxSignals - nesting p)
 readingOf (refused number) = Refused number
 
 -- the answer r for the bytes; if they are accepted, t has the second parts of the statement and the notes are its notes

@@ -1,5 +1,5 @@
-// The reader (01, 'Commands' and rows 3 to 6): one walk into every part of a command. It answers one number, the offset
-// behind the statement or 4096 times the row that turns it down. Offsets are those of the whole sequence.
+// The reader (01, 'Commands' and rows 3 to 6): one walk into every part of a command. It answers one number: the row that
+// turns it down, or the offset behind the statement and the signals left. Offsets are those of the whole sequence.
 ghost use mathlib.Core.Path.{_≡_};
 ghost use Prim.Native.Nat.{ℕ, _+_, _≤_, _<_};
 ghost use mathlib.Core.List.{List};
@@ -9,7 +9,7 @@ ghost use Rattle.sequence.specs.Commands.{Command, partCount, width};
 ghost use Rattle.sequence.specs.Reader.{read};
 ghost use Rattle.layout.specs.Layout.{entry};
 ghost use Rattle.layout.specs.Notes.{noNotes};
-ghost use Rattle.layout.specs.Walk.{pairRead, Readable, Done};
+ghost use Rattle.layout.specs.Walk.{Both, pairRead, Readable, Done};
 ghost use Rattle.reading.specs.Reading.{Reads};
 use notes::Notes;
 
@@ -17,9 +17,9 @@ use notes::Notes;
 // stand before that.
 pub type Seconds = [u32; limits::MAX_BYTES];
 
-// A statement: the count of its bytes, or the row that turns it down.
+// A statement: the count of its bytes and how many more signals may stand around it, or the row that turns it down.
 pub enum Reading {
-    Accepted(usize),
+    Accepted(usize, u8),
     Refused(u8),
 }
 
@@ -30,6 +30,21 @@ fn entry(m: usize, n: u64) -> u32
     ensures { λ r. ⌜ r ≡ entry m n ⌝ }
 {
     (m as u32) + 2048 * (n as u32)
+}
+
+// The answer for two parts of which the first answered m and the second r: the fewer signals that either leaves.
+fn both(m: usize, r: usize) -> usize
+    ensures { λ z. ⌜ Both m r z ⌝ }
+{
+    if layout::ROW_UNIT <= r {
+        return r;
+    }
+    let left = m / layout::LEFT_UNIT;
+    if left < r / layout::LEFT_UNIT {
+        r % layout::LEFT_UNIT + left * layout::LEFT_UNIT
+    } else {
+        r
+    }
 }
 
 // The two parts of the command of w bytes at offset `at`; s is behind the command.
@@ -45,16 +60,17 @@ fn two(
     requires { ⌜ 0 < w ⌝ }
     requires { ⌜ Readable (at + w) (now s) (now second) (now notes) ⌝ }
     ensures { λ r. ⌜ ((c : Command) (xs : List ℕ) → partCount c ≡ 2 → w ≡ width c
-        → Done at (now (second .entry)) (now (second .exit)) (now (notes .entry)) (now (notes .exit))
+        → Done signals at (now (second .entry)) (now (second .exit)) (now (notes .entry)) (now (notes .exit))
         (pairRead (read depth signals) c at xs (now (s .entry))) r) ⌝ }
 {
     let m = read(&s[0..], at + w, depth, signals, second, notes);
-    if 4096 <= m {
+    if layout::ROW_UNIT <= m {
         return m;
     }
-    second[at] = entry(m, notes::count(notes));
-    let n = m - at - w;
-    read(&s[n..], m, depth, signals, second, notes)
+    let next = m % layout::LEFT_UNIT;
+    second[at] = entry(next, notes::count(notes));
+    let n = next - at - w;
+    both(m, read(&s[n..], next, depth, signals, second, notes))
 }
 
 // The statement at the front of s, which stands at offset `at`, where `depth` levels and `signals` signal commands are
@@ -68,15 +84,15 @@ fn read(
     notes: &mut Notes,
 ) -> usize
     requires { ⌜ Readable at (now s) (now second) (now notes) ⌝ }
-    ensures { λ r. ⌜ Done at (now (second .entry)) (now (second .exit)) (now (notes .entry)) (now (notes .exit))
+    ensures { λ r. ⌜ Done signals at (now (second .entry)) (now (second .exit)) (now (notes .entry)) (now (notes .exit))
         (read depth signals at (now (s .entry))) r ⌝ }
 {
     let w = heads::front(&s[0..]);
-    if 4096 <= w {
+    if layout::ROW_UNIT <= w {
         return w;
     }
     if depth == 0 {
-        return 6 * 4096;
+        return 6 * layout::ROW_UNIT;
     }
     let b = s[0];
     let parts = heads::parts(b);
@@ -86,13 +102,13 @@ fn read(
     if parts == 1 {
         let declares = commands::declared(b);
         if signals < declares {
-            return 6 * 4096;
+            return 6 * layout::ROW_UNIT;
         }
         let left = signals - declares;
         return read(&s[w..], at + w, depth - 1, left, second, notes);
     }
     notes::label(&s[0..], notes);
-    at + w
+    at + w + (signals as usize) * layout::LEFT_UNIT
 }
 
 // The statement at the front of a sequence, with the table of its second parts and the notes of its labels.
@@ -110,8 +126,8 @@ pub fn read_sequence(s: &[u8], second: &mut Seconds, notes: &mut Notes) -> Readi
         second,
         notes,
     );
-    if 4096 <= m {
-        return Reading::Refused((m / 4096) as u8);
+    if layout::ROW_UNIT <= m {
+        return Reading::Refused((m / layout::ROW_UNIT) as u8);
     }
-    Reading::Accepted(m)
+    Reading::Accepted(m % layout::LEFT_UNIT, (m / layout::LEFT_UNIT) as u8)
 }

@@ -1,5 +1,5 @@
-use Prim.Native.Nat.{ℕ, _+_, _-_, _*_, _<_}
-use mathlib.Core.Path.{_≡_, sym, ap, _∙_, subst}
+use Prim.Native.Nat.{ℕ, _+_, _-_, _*_, _%_, _<_}
+use mathlib.Core.Path.{_≡_, refl, sym, ap, _∙_, subst}
 use mathlib.Core.List.{List}
 use lib.ListN.{drop, length-set}
 use native.Mathlib.Omega.{arith}
@@ -9,7 +9,7 @@ use borrow.Fn.PlainCycle.{Measures, is, falls, and}
 use Rattle.sequence.specs.Commands.{partCount}
 use Rattle.sequence.specs.Reader.{front, read as reads}
 use Rattle.layout.specs.Layout.{entry}
-use Rattle.layout.specs.Walk.{headOf, Done}
+use Rattle.layout.specs.Walk.{leftUnit, headOf, Done}
 use Rattle.sequence.proofs.Table.{at-most-two}
 use Rattle.layout.proofs.Parts.{rest-is}
 use Rattle.layout.proofs.Walk.{Heading, heading, byte, head-fits, onward, forward, again, done-bad, done-deep, done-signals, done-leaf, done-one, done-pair, Firsts, firsts, first-refused, both}
@@ -22,6 +22,7 @@ use Rattle.reading.proofs.reader.+read+two.Lts-two as two-lts
 use Rattle.commands.proofs.declared.Reads as declared-reads
 use Rattle.heads.proofs.parts.Reads as parts-reads
 use Rattle.notes.proofs.count.Reads as count-reads
+use Rattle.reading.proofs.reader.both.Reads as both-reads
 use Rattle.reading.proofs.reader.entry.Reads as entry-reads
 use Rattle.heads.proofs.front.Reads as front-reads
 use Rattle.notes.proofs.label.Reads as label-reads
@@ -71,6 +72,8 @@ two-claims t = (
   count-reads.Learnt,
   entry-reads.Asked,
   entry-reads.Learnt,
+  both-reads.Asked,
+  both-reads.Learnt,
 )
 
 -- ---- what is known once the command is seen, and once its parts are counted
@@ -207,6 +210,12 @@ read-label-requires t c κs =
 read-add-result : (t : ℕ) → read-lts.Need-add-result (read-claims t) (read-at t) read.Post
 read-add-result t c = search needs
 
+read-mul-result-3 : (t : ℕ) → read-lts.Need-mul-result-3 (read-claims t) (read-at t) read.Post
+read-mul-result-3 t c = search needs
+
+read-add-result-2 : (t : ℕ) → read-lts.Need-add-result-2 (read-claims t) (read-at t) read.Post
+read-add-result-2 t c = search needs
+
 read-returns-6 : (t : ℕ) → read-lts.Need-returns-6 (read-claims t) (read-at t) read.Post
 read-returns-6 t c =
     let q = c .before .before .before .before .before in
@@ -216,11 +225,11 @@ read-returns-6 t c =
 -- ---- the first part, of the bytes behind the command
 first-told : (t : ℕ) (c : two-lts.After-read (two-claims t) (two-at t) two.Post)
     → let a = c .before .before .before .before .before .args in
-    Done (a .at + a .w) (a .second .now) (c .read .last .1 .1 .1 .1 .0) (a .notes .now) (c .read .last .1 .1 .1 .1 .1 .0)
+    Done (a .signals) (a .at + a .w) (a .second .now) (c .read .last .1 .1 .1 .1 .0) (a .notes .now) (c .read .last .1 .1 .1 .1 .1 .0)
     (reads (a .depth) (a .signals) (a .at + a .w) (a .s .now)) (c .read .result)
 first-told t c =
     let a = c .before .before .before .before .before .args in
-    subst (λ (l : List ℕ). Done (a .at + a .w) (a .second .now) (c .read .last .1 .1 .1 .1 .0) (a .notes .now) (c .read .last .1 .1 .1 .1 .1 .0)
+    subst (λ (l : List ℕ). Done (a .signals) (a .at + a .w) (a .second .now) (c .read .last .1 .1 .1 .1 .0) (a .notes .now) (c .read .last .1 .1 .1 .1 .1 .0)
     (reads (a .depth) (a .signals) (a .at + a .w) l) (c .read .result))
     (rest-is 0 (a .s .now)) (c .read .ensures)
 
@@ -250,7 +259,8 @@ two-read-requires t c κs =
 two-returns : (t : ℕ) → two-lts.Need-returns (two-claims t) (two-at t) two.Post
 two-returns t c k x p e =
     let i = c .before .before .before .before .before .before in
-    first-refused _ _ _ _ _ _ _ _ _ (i .pre .1 .1) (first-told t (c .before)) (i .args .at) x k (ap (λ (w : ℕ). i .args .at + w) e) (c .if1 .taken)
+    first-refused _ _ _ _ _ _ _ _ _ (i .pre .1 .1) (first-told t (c .before)) (i .args .at) x k (omega (arith, i .fits))
+    (ap (λ (w : ℕ). i .args .at + w) e) (c .if1 .taken)
 
 two-count-requires : (t : ℕ) → two-lts.Need-count-requires (two-claims t) (two-at t) two.Post
 two-count-requires t c κs = search needs
@@ -286,21 +296,25 @@ two-read-requires-2 : (t : ℕ) → two-lts.Need-read-requires-2 (two-claims t) 
 two-read-requires-2 t c κs =
     let i = c .before .before .before .before .before .before .before .before .before .before .before .before in
     let f = first-is t (c .before .before .before .before .before .before) in
-    let r = c .before .before .before .before .before .before .before .read .result in
+    let x = c .before .before .before .before .before .before .before .read .result % leftUnit in
     let u = c .before .before .before .before .before .before .before .read .last .1 .1 .1 .1 .0 in
-    (omega (arith, i .pre .0), onward (i .args .at + i .args .w) r (r - i .args .at - i .args .w) (i .args .s .now) _ _ (omega (arith, f .place)) (omega (arith, f .place, f .within)) (i .pre .1 .1 .fits) (f .few) (length-set u (i .args .at) _ ∙ f .entered .long ∙ i .pre .1 .1 .long) (f .noted))
+    (omega (arith, i .pre .0), onward (i .args .at + i .args .w) x (x - i .args .at - i .args .w) (i .args .s .now) _ _ (omega (arith, f .place)) (omega (arith, f .place, f .within)) (i .pre .1 .1 .fits) (f .few) (length-set u (i .args .at) _ ∙ f .entered .long ∙ i .pre .1 .1 .long) (f .noted))
+
+two-both-requires : (t : ℕ) → two-lts.Need-both-requires (two-claims t) (two-at t) two.Post
+two-both-requires t c κs = search needs
 
 two-returns-2 : (t : ℕ) → two-lts.Need-returns-2 (two-claims t) (two-at t) two.Post
 two-returns-2 t c k x p e =
-    let i = c .before .before .before .before .before .before .before .before .before .before .before .before .before in
-    let f = first-is t (c .before .before .before .before .before .before .before) in
-    let r = c .before .before .before .before .before .before .before .before .read .result in
-    let n = r - i .args .at - i .args .w in
-    let skipped : n ≡ r - (i .args .at + i .args .w) = omega arith in
-    both _ _ _ _ _ _ _ _ _ (i .pre .1 .1) (first-told t (c .before .before .before .before .before .before .before .before)) (i .args .at) x k (ap (λ (w : ℕ). i .args .at + w) e) p f
+    let i = c .before .before .before .before .before .before .before .before .before .before .before .before .before .before in
+    let f = first-is t (c .before .before .before .before .before .before .before .before) in
+    let m = c .before .before .before .before .before .before .before .before .before .read .result % leftUnit in
+    let n = m - i .args .at - i .args .w in
+    let skipped : n ≡ m - (i .args .at + i .args .w) = omega arith in
+    both _ _ _ _ _ _ _ _ _ (i .pre .1 .1) (first-told t (c .before .before .before .before .before .before .before .before .before)) (i .args .at) x k
+    (omega (arith, i .fits)) (ap (λ (w : ℕ). i .args .at + w) e) p f
     (omega (arith, i .pre .1 .0, i .pre .1 .1 .fits, i .pre .1 .1 .long, f .entered .long))
-    _ (c .before .before .before .before .entry .ensures ∙ ap (entry r) (c .before .before .before .before .before .count .ensures))
-    _ (rest-is n (i .args .s .now) ∙ ap (λ (j : ℕ). drop j (i .args .s .now)) skipped) _ _ _ (c .read2 .ensures)
+    m _ refl (c .before .before .before .before .before .entry .ensures ∙ ap (entry m) (c .before .before .before .before .before .before .count .ensures))
+    _ (rest-is n (i .args .s .now) ∙ ap (λ (j : ℕ). drop j (i .args .s .now)) skipped) _ _ _ _ (c .before .read2 .ensures) (c .both .ensures)
 
 pub +read+two-spec : {M : Type 1} → statement M
 +read+two-spec = close μ-read μ-two (λ t. read-lts.spec (read-claims t)
@@ -336,6 +350,8 @@ pub +read+two-spec : {M : Type 1} → statement M
     (read-part-label-end t)
     (read-label-requires t)
     (read-add-result t)
+    (read-mul-result-3 t)
+    (read-add-result-2 t)
     (read-returns-6 t))
     λ t. two-lts.spec (two-claims t)
     (two-at t)
@@ -356,4 +372,5 @@ pub +read+two-spec : {M : Type 1} → statement M
     (two-part-read-start-2 t)
     (two-part-read-end-2 t)
     (two-read-requires-2 t)
+    (two-both-requires t)
     (two-returns-2 t)

@@ -17,11 +17,11 @@ use Rattle.reading.proofs.reader.read.Reads as read-reads
 -- what was read, of the bytes themselves
 told : (c : lts.After-read (read-reads.Asked, read-reads.Learnt) reads.Pre reads.Post)
     → let a = c .before .before .before .before .before .args in
-    Done 0 (a .second .now) (c .read .last .1 .1 .1 .1 .0) (a .notes .now) (c .read .last .1 .1 .1 .1 .1 .0)
+    Done maxSignals 0 (a .second .now) (c .read .last .1 .1 .1 .1 .0) (a .notes .now) (c .read .last .1 .1 .1 .1 .1 .0)
     (read maxDepth maxSignals 0 (a .s .now)) (c .read .result)
 told c =
     let a = c .before .before .before .before .before .args in
-    subst (λ (l : List ℕ). Done 0 (a .second .now) (c .read .last .1 .1 .1 .1 .0) (a .notes .now) (c .read .last .1 .1 .1 .1 .1 .0)
+    subst (λ (l : List ℕ). Done maxSignals 0 (a .second .now) (c .read .last .1 .1 .1 .1 .0) (a .notes .now) (c .read .last .1 .1 .1 .1 .1 .0)
     (read maxDepth maxSignals 0 l) (c .read .result))
     (rest-is 0 (a .s .now)) (c .read .ensures)
 
@@ -50,10 +50,13 @@ returns c =
     let i = c .before .before .before .before .before .before in
     reads-refused _ _ _ _ _ _ (i .pre .0) (i .pre .1 .0) (i .pre .1 .1) (told (c .before)) (c .if1 .taken)
 
+cast-t15 : tie.Need-cast-t15
+cast-t15 c = search needs
+
 returns-2 : tie.Need-returns-2
 returns-2 c =
     let i = c .before .before .before .before .before .before in
     reads-accepted _ _ _ _ _ _ (i .pre .0) (i .pre .1 .0) (i .pre .1 .1) (told (c .before)) (c .if1 .left)
 
 pub read-sequence-spec : {M : Type 1} → statement M
-read-sequence-spec = tie.close (tie.spec sub-read part-read-start part-read-end read-requires cast-t13 returns returns-2)
+read-sequence-spec = tie.close (tie.spec sub-read part-read-start part-read-end read-requires cast-t13 returns cast-t15 returns-2)
