@@ -7,7 +7,7 @@ use native.Mathlib.Omega.{arith}
 use lib.ListN.{length, getD, length-append}
 use borrow.Author.Tests.{lt-ltb}
 use Rattle.esterel.specs.Sets.{none, only, join}
-use Rattle.esterel.specs.Statement.{Statement, nothing, pause, emit, exit, seq, par, loop, present, signal, try, setpause, suspend}
+use Rattle.esterel.specs.Statement.{local, Statement, nothing, pause, emit, exit, seq, par, loop, present, signal, try, setpause, suspend}
 use Rattle.esterel.specs.LabelTests.{labelsOf, alternative, parallel}
 use Rattle.esterel.specs.LabelRows.{addRow, further, fill}
 use Rattle.esterel.specs.Ranks.{middle}
@@ -114,7 +114,7 @@ module _ (a : ℕ) (v : Before) (r : Passed) (m m′ n n′ : List ℕ) (p : Sta
   unfolding labelsOf bytesOf fill
   loop-step b h = record { labels = ends-at (omega arith) (h .labels); excludes = h .excludes; sides = h .sides }
 
-  pub signal-step : (b s : ℕ) → Past p (a + 2) v r m m′ n n′ → Past (signal b s p) a v r m m′ n n′
+  pub signal-step : (b s : ℕ) → Past p (a + 2) v r m m′ n n′ → Past (signal local b s p) a v r m m′ n n′
   unfolding labelsOf bytesOf fill
   signal-step b s h = record { labels = ends-at (omega arith) (h .labels); excludes = h .excludes; sides = h .sides }
 

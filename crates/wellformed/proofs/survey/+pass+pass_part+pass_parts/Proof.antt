@@ -1,7 +1,7 @@
 use native.Mathlib.Omega.{arith}
 use borrow.Author.Needs.{needs}
 use borrow.Author.Tests.{ltb-true}
-use Rattle.esterel.specs.Statement.{nothing, pause, seq, par, loop, present, signal, try, setpause, suspend}
+use Rattle.esterel.specs.Statement.{local, nothing, pause, seq, par, loop, present, signal, try, setpause, suspend}
 use Rattle.sequence.specs.Commands.{Command}
 use Rattle.layout.proofs.Laid.{ready, begins, by-command}
 use Rattle.wellformed.proofs.Passing.{
@@ -164,7 +164,7 @@ pass-returns-6 t c u base p l =
 pass-returns-7 : (t : ℕ) → pass-lts.Need-returns-7 (pass-claims t) (pass-at t) pass.Post
 pass-returns-7 t c u base p l =
     let y = by-command u _ base _ _ p l Command.signal (c .before .before .before .match .keys7) .parts in
-    here _ _ _ _ _ _ _ p (signal _ _ (y .0)) (y .1 .0) (signal-step _ _ _ _ _ _ _ (y .0) _ _ (c .pass-part2 .ensures u base (y .0) (y .1 .1)))
+    here _ _ _ _ _ _ _ p (signal local _ _ (y .0)) (y .1 .0) (signal-step _ _ _ _ _ _ _ (y .0) _ _ (c .pass-part2 .ensures u base (y .0) (y .1 .1)))
 
 pass-returns-8 : (t : ℕ) → pass-lts.Need-returns-8 (pass-claims t) (pass-at t) pass.Post
 pass-returns-8 t c u base p l =
