@@ -1,18 +1,21 @@
 -- The verdict of the check, from the reader's answer and the label rules.
-use Prim.Native.Nat.{ℕ, _≤_, _<_}
+use Prim.Native.Nat.{ℕ, _+_, _-_, _≤_, _<_}
 use mathlib.Core.Path.{_≡_, refl, sym, ap, _∙_, subst}
 use mathlib.Core.Bool.{Bool, true, false, cond}
-use mathlib.Core.List.{List}
+use mathlib.Core.List.{List, [], _∷_}
 use native.Mathlib.Omega.{arith}
-use lib.Dec.{leb}
+use lib.Dec.{leb, ltb}
 use lib.ListN.{length}
 use borrow.Author.Tests.{lt-ltb, le-ltb, le-leb, lt-leb}
 use Rattle.esterel.specs.Statement.{Statement}
+use Rattle.esterel.specs.ReadBack.{declared}
 use Rattle.esterel.specs.LabelTests.{distinct, targeted, wellFormed}
 use Rattle.reading.specs.declared.reader.Reading.{Reading}
 use Rattle.reading.specs.declared.reader.Reading.the-variants.{Accepted, Refused}
-use Rattle.limits.specs.Limits.{maxDepth, maxSignals}
-use Rattle.sequence.specs.Reader.{Read, accepted, refused, read}
+use Rattle.limits.specs.Limits.{maxDepth, maxSignals, readBackPlace}
+use Rattle.sequence.specs.Reader.{Read, accepted, refused, readAll, nesting}
+use Rattle.sequence.specs.Writer.{Written}
+use Rattle.sequence.specs.Program.{readBackSignals, program}
 use Rattle.layout.specs.Layout.{Lies}
 use Rattle.layout.specs.Notes.{Noted}
 use Rattle.reading.specs.Reading.{readingOf, Reads}
@@ -34,17 +37,29 @@ rules-sound true true false p q e = never-sound e
 rules-sound true false c p q e = never-sound e
 rules-sound false b c p q e = never-sound e
 
-module _ (bs t notes : List ℕ) where
+-- the bytes begin with a statement of n bytes, around which so many more signals may stand
+record ReadAs (bs : List ℕ) (n left : ℕ) : Type 0 where
+  statement : Statement
+  reads : readAll bs ≡ accepted statement n
+  leaves : left ≡ maxSignals - nesting statement
+
+-- each declaration is a signal around what stands inside
+nesting-declared : (a : ℕ) (ss : List ℕ) (p : Statement) → nesting (declared a ss p) ≡ length ss + nesting p
+unfolding nesting declared
+nesting-declared a [] p = omega arith
+nesting-declared a (s ∷ ss) p = let h = nesting-declared a ss p in omega arith
+
+module _ (bs : List ℕ) (readBack : ℕ) (t notes : List ℕ) where
   -- turned down
-  refuse : {r k : ℕ} → checked bs ≡ bad k → r ≡ k → Judged bs t notes r
+  refuse : {r k : ℕ} → checked bs readBack ≡ bad k → r ≡ k → Judged bs readBack t notes r
   unfolding checkOf
   refuse e h = record { number = h ∙ ap numberOf (sym e); known = λ p z. never-sound (sym e ∙ z) }
 
-  pub too-short : length bs ≡ 0 → Judged bs t notes 2
+  pub too-short : length bs ≡ 0 → Judged bs readBack t notes 2
   unfolding checked
   too-short e = refuse (let z : leb 1 (length bs) ≡ false = lt-leb 1 (length bs) (omega arith) in rw z) refl
 
-  pub too-long : 1024 < length bs → Judged bs t notes 2
+  pub too-long : 1024 < length bs → Judged bs readBack t notes 2
   unfolding checked
   too-long e =
       refuse
@@ -53,51 +68,67 @@ module _ (bs t notes : List ℕ) where
       rw (y, z)) refl
 
   module _ (some : length bs ≡ 0 → ⊥) (few : length bs ≤ 1024) {x : Reading} (h : Reads bs t notes x) where
-    by-reading : (y : Read) → read maxDepth maxSignals 0 bs ≡ y → checked bs ≡ afterRead (length bs) y
+    by-reading : (y : Read) → readAll bs ≡ y → checked bs readBack ≡ afterRead readBack (length bs) y
     unfolding checked
     by-reading y e =
         let u : leb 1 (length bs) ≡ true = le-leb 1 (length bs) (omega (arith, some)) in
         let v : leb (length bs) 1024 ≡ true = le-leb (length bs) 1024 few in
         rw (u, v, e)
 
-    pub refused-is : {r : ℕ} → x ≡ Refused r → Judged bs t notes r
-    refused-is {r} g = go (read maxDepth maxSignals 0 bs) refl (sym g ∙ h .answer)
+    pub refused-is : {r : ℕ} → x ≡ Refused r → Judged bs readBack t notes r
+    refused-is {r} g = go (readAll bs) refl (sym g ∙ h .answer)
       where
-        go : (y : Read) → read maxDepth maxSignals 0 bs ≡ y → Refused r ≡ readingOf y → Judged bs t notes r
+        go : (y : Read) → readAll bs ≡ y → Refused r ≡ readingOf y → Judged bs readBack t notes r
         go (accepted p n) q z = absurd (let n : _≡_ {A = ℕ} 0 1 = cc in omega arith)
         go (refused n) q z = refuse (by-reading (refused n) q) cc
 
-    module _ {n : ℕ} (g : x ≡ Accepted n) where
-      -- the statement that was read
-      read-as : (p : Statement) × (read maxDepth maxSignals 0 bs ≡ accepted p n)
-      read-as = go (read maxDepth maxSignals 0 bs) refl (sym g ∙ h .answer)
+    module _ {n left : ℕ} (g : x ≡ Accepted n left) where
+      as-read : ReadAs bs n left
+      as-read = go (readAll bs) refl (sym g ∙ h .answer)
         where
-          go : (y : Read) → read maxDepth maxSignals 0 bs ≡ y → Accepted n ≡ readingOf y → (p : Statement) × (read maxDepth maxSignals 0 bs ≡ accepted p n)
-          go (accepted p m) q z = let e : m ≡ n = cc in (p, q ∙ ap (accepted p) e)
+          go : (y : Read) → readAll bs ≡ y → Accepted n left ≡ readingOf y → ReadAs bs n left
+          go (accepted p m) q z = let e : m ≡ n = cc in record { statement = p; reads = q ∙ ap (accepted p) e; leaves = cc }
           go (refused m) q z = absurd (let n : _≡_ {A = ℕ} 0 1 = cc in omega arith)
 
-      laid : Lies t maxDepth 0 0 bs (read-as .0)
-      laid = lies t maxDepth maxSignals 0 0 bs (read-as .0) n (read-as .1) (h .marked (read-as .0) n (read-as .1) .0) (omega arith)
+      abbrev p : Statement
+      p = as-read .statement
 
-      noted : Noted (read-as .0) notes
-      noted =
-          subst (Noted (read-as .0)) (sym (h .marked (read-as .0) n (read-as .1) .1))
-          (Noting.noted (read-as .0) (Sound.sound maxDepth maxSignals 0 bs (read-as .0) n (read-as .1) .within .ranged))
+      written : Written maxDepth maxSignals 0 bs p n
+      written = Sound.sound maxDepth maxSignals 0 bs p n (as-read .reads)
 
-      pub bytes-left : n < length bs → Judged bs t notes 7
-      bytes-left l = refuse (by-reading (accepted (read-as .0) n) (read-as .1) ∙ rw (lt-ltb n (length bs) l)) refl
+      laid : Lies t maxDepth 0 0 bs p
+      laid = lies t maxDepth maxSignals 0 0 bs p n (as-read .reads) (h .marked p n (as-read .reads) .0) (omega arith)
+
+      noted : Noted p notes
+      noted = subst (Noted p) (sym (h .marked p n (as-read .reads) .1)) (Noting.noted p (written .within .ranged))
 
       pub standing : Standing maxDepth 0 bs
-      standing = record { table = t; ready = ready 0 (read-as .0) (h .long (read-as .0) n (read-as .1)) laid }
+      standing = record { table = t; ready = ready 0 p (h .long p n (as-read .reads)) laid }
 
-      pub by-labels : length bs ≤ n → {r : ℕ} → ByLabels bs notes r → Judged bs t notes r
-      unfolding checkOf
-      by-labels l f =
-          let p = read-as .0 in
-          let e : checked bs ≡ labelRules p = by-reading (accepted p n) (read-as .1) ∙ rw (le-ltb n (length bs) l) in
-          record {
-            number = f t p laid noted ∙ ap numberOf (sym e);
-            known = λ q z.
-                let s = rules-sound (distinct p) (targeted p) (wellFormed p) p q (sym e ∙ z) in
-                subst (Known t notes bs) (s .1) (record { lies = laid; noted = noted; once = s .0; long = h .long p n (read-as .1) });
-          }
+      -- k signals are read back
+      module _ {k : ℕ} (size : k ≡ length (readBackSignals readBack)) where
+        nests : nesting (program readBack p) ≡ k + nesting p
+        nests = nesting-declared readBackPlace (readBackSignals readBack) p ∙ ap (λ (i : ℕ). i + nesting p) (sym size)
+
+        pub too-many : left < k → Judged bs readBack t notes 6
+        too-many l =
+            let c : ltb maxSignals (nesting (program readBack p)) ≡ true = lt-ltb maxSignals (nesting (program readBack p)) (omega (arith, nests, as-read .leaves)) in
+            refuse (by-reading (accepted p n) (as-read .reads) ∙ rw c) refl
+
+        module _ (fits : k ≤ left) where
+          within : ltb maxSignals (nesting (program readBack p)) ≡ false
+          within = le-ltb maxSignals (nesting (program readBack p)) (omega (arith, nests, as-read .leaves, written .within .nested))
+
+          pub bytes-left : n < length bs → Judged bs readBack t notes 7
+          bytes-left l = refuse (by-reading (accepted p n) (as-read .reads) ∙ rw (within, lt-ltb n (length bs) l)) refl
+
+          pub by-labels : length bs ≤ n → {r : ℕ} → ByLabels bs notes r → Judged bs readBack t notes r
+          unfolding checkOf
+          by-labels l f =
+              let e : checked bs readBack ≡ labelRules p = by-reading (accepted p n) (as-read .reads) ∙ rw (within, le-ltb n (length bs) l) in
+              record {
+                number = f t p laid noted ∙ ap numberOf (sym e);
+                known = λ q z.
+                    let s = rules-sound (distinct p) (targeted p) (wellFormed p) p q (sym e ∙ z) in
+                    subst (Known t notes bs) (s .1) (record { lies = laid; noted = noted; once = s .0; long = h .long p n (as-read .reads) });
+              }

@@ -1,4 +1,4 @@
--- The check's verdict on a sequence: its number, and of a sound sequence what reacting needs.
+-- The check's verdict on a sequence with a read-back set: its number, and of a sound sequence what reacting needs.
 use Prim.Native.Nat.{ℕ}
 use mathlib.Core.Path.{_≡_}
 use mathlib.Core.List.{List}
@@ -6,6 +6,6 @@ use Rattle.esterel.specs.Statement.{Statement}
 use Rattle.sequence.specs.Check.{sound, checked, checkOf}
 use Rattle.layout.specs.Known.{Known}
 
-pub record Judged (bs t notes : List ℕ) (r : ℕ) : Type 0 where
-  pub number : r ≡ checkOf bs
-  pub known : (p : Statement) → checked bs ≡ sound p → Known t notes bs p
+pub record Judged (bs : List ℕ) (readBack : ℕ) (t notes : List ℕ) (r : ℕ) : Type 0 where
+  pub number : r ≡ checkOf bs readBack
+  pub known : (p : Statement) → checked bs readBack ≡ sound p → Known t notes bs p

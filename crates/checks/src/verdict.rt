@@ -1,4 +1,4 @@
-// The check of a sequence (01, rows 2 to 10). Of a sound one it leaves the table of second parts and the notes of labels.
+// The check of a sequence with a read-back set (01, rows 2 to 10). Of a sound one it leaves the table of second parts and the notes of labels.
 ghost use mathlib.Core.Path.{_≡_};
 ghost use lib.ListN.{length};
 ghost use Rattle.limits.specs.Limits.{maxBytes};
@@ -9,10 +9,10 @@ use reading::reader::Reading;
 use reading::reader::Seconds;
 
 // The row that turns the sequence down, or 0.
-pub fn check(s: &[u8], second: &mut Seconds, notes: &mut Notes) -> u8
+pub fn check(s: &[u8], read_back: u32, second: &mut Seconds, notes: &mut Notes) -> u8
     requires { ⌜ length (now second) ≡ maxBytes ⌝ }
     requires { ⌜ now notes ≡ noNotes ⌝ }
-    ensures { λ r. ⌜ Judged (now (s .entry)) (now (second .exit)) (now (notes .exit)) r ⌝ }
+    ensures { λ r. ⌜ Judged (now (s .entry)) «read_back» (now (second .exit)) (now (notes .exit)) r ⌝ }
 {
     if s.len() == 0 {
         return 2;
@@ -22,8 +22,10 @@ pub fn check(s: &[u8], second: &mut Seconds, notes: &mut Notes) -> u8
     }
     match reading::reader::read_sequence(s, second, notes) {
         Reading::Refused(row) => row,
-        Reading::Accepted(n) => {
-            if n < s.len() {
+        Reading::Accepted(n, left) => {
+            if left < sets::signals::size(read_back) {
+                6
+            } else if n < s.len() {
                 7
             } else {
                 labelling::label_row(s, notes)
