@@ -14,4 +14,5 @@ pub mod ReadBack
 pub mod Bays
 pub mod Suspended
 pub mod FirstErrors
+pub mod ReadBackRuns
 pub mod Theorems

@@ -1,11 +1,12 @@
 -- The theorems of this crate: the three demands for the definitions of the check and the tick, then for calls that meet the
--- tick's contract; that the paper knows no labels; what 02, item 4, changed; the starred bays, bays with suspend and first errors; and what the demands refuse.
+-- tick's contract; that the paper knows no labels; what 02, items 4 and 5, changed; the starred bays, bays with suspend and first errors; and what the demands refuse.
 use Prim.Native.Nat.{ℕ}
 use mathlib.Core.Path.{_≡_}
 use mathlib.Core.Logic.{_≢_}
 use mathlib.Core.Bool.{true}
 use mathlib.Core.List.{List, map, List·Memᴰ}
 use lib.ListN.{length}
+use Rattle.esterel.specs.Sets.{none}
 use Rattle.esterel.specs.Statement.{Statement}
 use Rattle.esterel.specs.Reaction.{Code, gives, printed}
 use Rattle.esterel.specs.SignalOrders.{overlap}
@@ -13,7 +14,7 @@ use Rattle.esterel.specs.Rules.{Reacts}
 use Rattle.esterel.specs.States.{NoSetpause}
 use Rattle.esterel.specs.Machines.{Rewriting, erase}
 use Rattle.sequence.specs.Program.{program}
-use Rattle.sequence.specs.Check.{checkOf}
+use Rattle.sequence.specs.Check.{numberOf, checkOf}
 use Rattle.sequence.specs.Rows.{Spells}
 use Rattle.records.specs.Records.{answerLength, codeIn}
 use Rattle.demands.specs.Tick.{Outcome, outcome, tickBy, tickOf}
@@ -24,6 +25,8 @@ use Rattle.demands.specs.Bays.{Bay, table, ShowsBay}
 use Rattle.demands.specs.Worked.{ShowsRuns}
 use Rattle.demands.specs.Suspended.{suspendRuns}
 use Rattle.demands.specs.FirstErrors.{firstErrorRuns}
+use Rattle.demands.specs.Plain.{plainChecked, plainTick}
+use Rattle.demands.specs.ReadBack.{readBackRuns}
 use Rattle.demands.proofs.Sequence as sequence
 use Rattle.demands.proofs.Demand1 as one
 use Rattle.demands.proofs.Demand2 as two
@@ -35,6 +38,9 @@ use Rattle.demands.proofs.Replacements as refuted
 use Rattle.demands.proofs.Bays as bays
 use Rattle.demands.proofs.Suspended as suspends
 use Rattle.demands.proofs.FirstErrors as firsts
+use Rattle.demands.proofs.ReadBack as reads
+use Rattle.demands.proofs.ReadBack.{SameOutside}
+use Rattle.demands.proofs.ReadBackRuns as read-back-runs
 
 -- an accepted sequence spells one statement
 pub spells-one : (sequence : List ℕ) (readBack : ℕ) → checkOf sequence readBack ≡ 0
@@ -99,6 +105,24 @@ pub not-wrong-kept-list : (sequence : List ℕ) (readBack : ℕ) (state : List �
     → ((o : Outcome) → List·Memᴰ o (outcomes tickOf sequence readBack state cs) → codeIn (answerAfterwards o) ≢ 255)
     → outcomes (tickBy printed) sequence readBack state cs ≡ outcomes tickOf sequence readBack state cs
 not-wrong-kept-list = orders.outcomes-kept
+
+-- ---- read-back sets (02, item 5)
+-- an empty set gives the check and the tick as they were
+pub empty-set-check : (sequence : List ℕ) → checkOf sequence none ≡ numberOf (plainChecked sequence)
+empty-set-check = reads.plain-check
+
+pub empty-set-tick : (sequence state : List ℕ) (e : ℕ) (answer : List ℕ)
+    → tickOf sequence state e none answer ≡ plainTick sequence state e answer
+empty-set-tick = reads.plain-tick
+
+-- the host's status of a read-back signal is ignored: inputs that agree on all other signals give one result
+pub host-status-ignored : (readBack : ℕ) (state : List ℕ) (e e′ : ℕ) (answer : List ℕ) → SameOutside readBack e e′
+    → (sequence : List ℕ) → tickOf sequence state e readBack answer ≡ tickOf sequence state e′ readBack answer
+host-status-ignored = reads.tick-unread
+
+-- bays with a read-back set
+pub read-back : ShowsRuns readBackRuns tickOf
+read-back = read-back-runs.read-back
 
 -- ---- the starred bays
 pub starred : (b : Bay) → List·Memᴰ b table → (buffer : List ℕ) → length buffer ≡ answerLength → ShowsBay tickOf b buffer

@@ -8,3 +8,4 @@ pub mod Bays
 pub mod Worked
 pub mod Suspended
 pub mod FirstErrors
+pub mod ReadBack

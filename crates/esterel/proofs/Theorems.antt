@@ -1,7 +1,7 @@
 -- The theorems of this crate in the words of the papers, each a line or two over the files beside it. Others stand
 -- where they are proved: `reacts-is` of Rules (003, corollary 11), `uses-is` and `first-use` of Derivations, `figure-5` of Figure5.
 use Prim.Native.Nat.{ℕ}
-use mathlib.Core.Path.{_≡_, refl, _∙_}
+use mathlib.Core.Path.{_≡_, refl, sym, _∙_}
 use mathlib.Core.Logic.{_↔_, _≢_}
 use mathlib.Core.Bool.{true, false}
 use mathlib.Core.Option.{Option}
@@ -16,6 +16,7 @@ use Rattle.esterel.specs.Expansion.{expand}
 use Rattle.esterel.specs.LabelTests.{activeLabels}
 use Rattle.esterel.specs.Ranks.{mask, labelsBy}
 use Rattle.esterel.specs.Resume.{instant, start, suspendInstant, resume}
+use Rattle.esterel.specs.ReadBack.{declared}
 use Rattle.esterel.specs.Machines.{run, reached, State, byLabels, Rewriting, byRewriting, erase}
 use Rattle.esterel.proofs.Booleans.{never, clash, Tested, tested}
 use Rattle.esterel.proofs.Rules.{wrong-is}
@@ -27,6 +28,7 @@ use Rattle.esterel.proofs.Places.{Together}
 use Rattle.esterel.proofs.Stability.{Stops, SoundLabels, labels-fresh, labels-resumed, together-none, sound-valid}
 use Rattle.esterel.proofs.Ranks.{none-is, labels-by}
 use Rattle.esterel.proofs.Resume.{start-held, resumes}
+use Rattle.esterel.proofs.ReadBack.{expand-declared, start-declared, RemainsUnder, remains-declared, AgreeOutside, declared-unread}
 use Rattle.esterel.proofs.Agreement.{ValidState, agree, valid-reached}
 use Rattle.esterel.proofs.Erasure.{erased-reaction, erased-errors, erased-run}
 
@@ -163,3 +165,19 @@ changed-only p e n = go (tested (overlap p e))
 
 pub overlap-is-wrong : (p : Statement) (e : ℕ) → overlap p e ≡ true → code (react p e) ≡ wrong
 overlap-is-wrong = overlap-wrong
+
+-- 9. READ-BACK declarations (02, item 5) stay in place: expansion goes on inside them, and what remains by rewriting after code 1
+-- is a residual of the statement inside, under the same declarations
+pub expansion-inside : (a : ℕ) (ss : List ℕ) (p : Statement) (L : ℕ) → expand (declared a ss p) L ≡ declared a ss (expand p L)
+expansion-inside = expand-declared
+
+pub rewriting-inside : (a : ℕ) (ss : List ℕ) (p : Statement) (e : ℕ) → code (react (declared a ss p) e) ≡ waiting
+    → RemainsUnder a ss p (residual (react (declared a ss p) e))
+rewriting-inside = remains-declared
+
+-- the host's status of a declared signal is not read
+pub declared-not-read : (a : ℕ) (ss : List ℕ) (p : Statement) (e e′ : ℕ) → AgreeOutside ss e e′
+    → start (declared a ss p) e ≡ start (declared a ss p) e′
+declared-not-read a ss p e e′ h =
+    sym (start-declared a ss p (start p) (λ x. refl) e) ∙ declared-unread a ss (start p) e e′ h
+    ∙ start-declared a ss p (start p) (λ x. refl) e′

@@ -1,0 +1,22 @@
+-- The bays with a read-back set, by computation.
+use mathlib.Core.Path.{refl}
+use Rattle.esterel.specs.Sets.{none, only, member, join, insert, remove}
+use Rattle.esterel.specs.Reaction.{reactBy}
+use Rattle.esterel.specs.Errors.{errorsBy}
+use Rattle.esterel.specs.LabelTests.{subset, disjoint, labelsOf, activeLabels, everyLabel, distinct, before, wellFormed, valid}
+use Rattle.esterel.specs.States.{active}
+use Rattle.esterel.specs.Expansion.{expand}
+use Rattle.sequence.specs.Commands.{commandOf}
+use Rattle.esterel.specs.ReadBack.{membersFrom, declared}
+use Rattle.sequence.specs.Reader.{front, read, nesting}
+use Rattle.sequence.specs.Check.{checked}
+use Rattle.records.specs.Bytes.{leBytes, leNumber}
+use Rattle.records.specs.Records.{encodeState, decodeState, encodeAnswer}
+use Rattle.demands.specs.Tick.{tickBy, tickOf}
+use Rattle.demands.specs.Demands.{outcomes}
+use Rattle.demands.specs.Worked.{ShowsRuns}
+use Rattle.demands.specs.ReadBack.{readBackRuns}
+
+-- THE BAYS WITH A READ-BACK SET: each row of the table
+pub read-back : ShowsRuns readBackRuns tickOf
+unfolding readBackRuns outcomes tickBy checked read front commandOf nesting declared membersFrom distinct wellFormed everyLabel before labelsOf activeLabels valid subset disjoint active expand decodeState encodeState encodeAnswer leNumber leBytes reactBy errorsBy member none only join insert remove
