@@ -11,7 +11,8 @@ extern "C" {
 
 /*
  * What a call answers: 0, or the row of document 01, 'Turned down', that turns it down. The check gives 2 to 10, the
- * tick 1 to 12; of several rows that hold, the lowest, but rows 3 to 6 go command by command from the left.
+ * tick 1 to 12; of several rows that hold, the lowest, but rows 3 to 6 go command by command from the left. Row 6 by the
+ * read-back set comes after them, once the whole statement was read, and before row 7.
  */
 enum intake_number {
     INTAKE_ACCEPTED = 0,                /* accepted */
@@ -20,7 +21,7 @@ enum intake_number {
     INTAKE_UNKNOWN_COMMAND = 3,         /* command byte above 0B */
     INTAKE_CUT_SHORT = 4,               /* operand or statement missing at the end */
     INTAKE_OPERAND_RANGE = 5,           /* operand outside its range */
-    INTAKE_TOO_DEEP = 6,                /* depth over 64, or a seventh signal inside six */
+    INTAKE_TOO_DEEP = 6,                /* depth over 64, or a seventh signal inside six, read-back ones counted */
     INTAKE_BYTES_AFTER = 7,             /* bytes after the statement */
     INTAKE_PAUSE_TWICE = 8,             /* two pauses with one label */
     INTAKE_SETPAUSE_WITHOUT_PAUSE = 9,  /* setpause whose label has no pause */
@@ -49,8 +50,8 @@ enum intake_phase {
 
 /*
  * The answer record: where its fields begin, and their bytes. Kind and place are 0 unless the code is INTAKE_WRONG. The
- * place is the byte offset of the erring command in the sequence, lowest byte first. Byte 0 of the emitted set holds the
- * signals 0 to 7, signal 0 in the lowest bit; the set is empty if the code is INTAKE_WRONG.
+ * place is the byte offset of the erring command in the sequence, lowest byte first, or INTAKE_PLACE_READ_BACK. Byte 0 of
+ * the emitted set holds the signals 0 to 7, signal 0 in the lowest bit; the set is empty if the code is INTAKE_WRONG.
  */
 enum intake_answer {
     INTAKE_ANSWER_CODE = 0,
@@ -60,6 +61,11 @@ enum intake_answer {
     INTAKE_ANSWER_EMITTED = 4,
     INTAKE_ANSWER_EMITTED_LENGTH = 4,
     INTAKE_ANSWER_LENGTH = 8
+};
+
+/* The place of an error of a read-back signal, of which no command in the sequence is to blame. */
+enum intake_place {
+    INTAKE_PLACE_READ_BACK = 65535
 };
 
 /* The code of an instant. One from 2 to 16 leaves the sequence: so many less one try blocks around it would be left. */
@@ -74,24 +80,49 @@ enum intake_code {
  * first before those of the second; of a signal's two runs those of the run without the signal before those of the run
  * with it; the error of a loop or a signal itself after all errors inside it. A signal is tried without and with, and an
  * error in either run makes the instant wrong; once the first error is mended, the next one is shown. A loop's next
- * round has the places of its commands. The same sequence, state and input always show the same error.
+ * round has the places of its commands. The same sequence, state, input and read-back set always show the same error.
  */
 enum intake_kind {
     INTAKE_NO_ERROR = 0,
     INTAKE_INSTANTANEOUS_LOOP = 1,        /* at a loop: its body ended in the instant in which it began */
-    INTAKE_NOT_REACTIVE = 2,              /* at a signal: it is emitted only if absent */
-    INTAKE_NOT_STRONGLY_DETERMINISTIC = 3 /* at a signal: it is emitted only if present */
+    INTAKE_NOT_REACTIVE = 2,              /* at a signal, or a read-back one: it is emitted only if absent */
+    INTAKE_NOT_STRONGLY_DETERMINISTIC = 3 /* at a signal, or a read-back one: it is emitted only if present */
 };
 
 /*
- * Checks a sequence and answers INTAKE_ACCEPTED or the number of the row that turns it down.
+ * Read-back. A sequence that emits 'valve open' may want to test it in the same instant: the pump runs if the valve is
+ * open, whichever step opened it. A test of an interface signal reads the host's input, where an output is not given. The
+ * read-back set names the outputs that the sequence can read: bit s says that a test of signal s, or a suspend by it, sees
+ * s present exactly if the sequence emits s in this instant, and absent if not. The host is told of an emitted one as of
+ * any other output.
+ *
+ * - Put into the set the outputs that the sequence tests, and no others: each takes one of the six signals that may stand
+ *   around a command, and doubles the work of an instant. A signal that the host gives does not belong there: the host's
+ *   status of a read-back signal is ignored.
+ * - Pass the same set to the check and to every tick of one machine. The tick takes any set and does not remember the last
+ *   one, so a set that changes half way gives each instant the answers of another program.
+ * - An empty set, 0, gives what the calls give without read-back: every test of an interface signal reads the input.
+ *
+ * In full: the sequence reacts as if each signal of the set were declared by a signal command around all of it, the lowest
+ * outermost, except that an emitted one stays in the emitted set. So a signal command inside the sequence hides a
+ * read-back signal of the same name, and a read-back signal can err as a declared one does, when it is emitted only if
+ * absent (kind 2) or only if present (kind 3). There is no command to point at, and the place is INTAKE_PLACE_READ_BACK;
+ * of several such errors in one instant the kind is that of the first. These declarations have no bytes and no depth: all
+ * other places, the depth and the state record are those of the sequence itself. They count as signals: if the number of
+ * signals in the set and the greatest number of signal commands around a command of the sequence are more than six in sum,
+ * the number is INTAKE_TOO_DEEP. A set of seven is too much for any sequence.
+ */
+
+/*
+ * Checks a sequence with its read-back set and answers INTAKE_ACCEPTED or the number of the row that turns it down. Every
+ * set is allowed; bit s is signal s.
  *
  * The caller must see to it that `length` bytes from `sequence` on are readable and that nobody writes them during the
  * call. With length 0 nothing is read, `sequence` may be a null pointer, and the answer is INTAKE_SEQUENCE_LENGTH.
  * Every value of the bytes and every length is allowed. The call reads no byte outside, writes nothing, keeps nothing
  * and always returns, so any number of threads may check at the same time.
  */
-uint8_t intake_check(const uint8_t *sequence, size_t length);
+uint8_t intake_check(const uint8_t *sequence, size_t length, uint32_t read_back);
 
 /*
  * Runs one instant of the machine whose sequence and state record these are, and answers INTAKE_ACCEPTED, or the number
@@ -99,8 +130,9 @@ uint8_t intake_check(const uint8_t *sequence, size_t length);
  * is then ready for the next call. A call turned down writes neither, not even bytes of the same value. The sequence
  * stays the same through all instants of a machine. A wrong instant is accepted: its code is INTAKE_WRONG.
  *
- * Bit s of `input` says that the host gives signal s; every value is allowed. A test of a signal that no signal command
- * around it declares reads `input` only, never what the sequence emits.
+ * Bit s of `input` says that the host gives signal s, and bit s of `read_back` that the sequence reads s back; every value
+ * of both is allowed. A test of a signal that neither a signal command around it nor `read_back` declares reads `input`
+ * only, never what the sequence emits. The bits of `input` that are in `read_back` do not matter.
  *
  * The caller must see to it that the three buffers have the lengths given and share no byte, that the sequence is
  * readable and the two records readable and writable, and that nobody else writes the sequence or uses the records
@@ -109,7 +141,7 @@ uint8_t intake_check(const uint8_t *sequence, size_t length);
  * keeps nothing and always returns, so any number of threads may tick at the same time, each with its own two records.
  */
 uint8_t intake_tick(const uint8_t *sequence, size_t sequence_length, uint8_t *state, size_t state_length,
-                    uint32_t input, uint8_t *answer, size_t answer_length);
+                    uint32_t input, uint32_t read_back, uint8_t *answer, size_t answer_length);
 
 #ifdef __cplusplus
 }
