@@ -1,4 +1,7 @@
-/* Statements whose instants are dear: six signals around loops that an instant leaves and begins again. */
+/*
+ * Statements whose instants are dear: six signals, declared in the sequence or read back, around loops that an instant
+ * leaves and begins again.
+ */
 #ifndef DEAREST_H
 #define DEAREST_H
 
@@ -37,16 +40,22 @@ static inline void commands(struct builder *b, size_t n, uint8_t join)
     commands(b, n - 1 - first, join);
 }
 
-/* Six signals and as many loops begun again as leave room for a body in whose every byte a command reacts. */
-static inline struct builder dearest(uint8_t join, unsigned loops, size_t length)
+/* The set of the signals from 0 on, so many. */
+static inline uint32_t first_signals(unsigned count)
 {
-    size_t body = length - 2 * SIGNALS - 8 * loops;
+    return (UINT32_C(1) << count) - 1;
+}
+
+/* So many signals and loops begun again, which leave room for a body in whose every byte a command reacts. */
+static inline struct builder dearest(uint8_t join, unsigned loops, unsigned signals, size_t length)
+{
+    size_t body = length - 2 * signals - 8 * loops;
     struct builder b;
     do {
         b = (struct builder){.length = 0};
-        enclose(&b, SIGNALS, loops);
+        enclose(&b, signals, loops);
         commands(&b, body--, join);
-    } while (b.length > length || plain_check(b.bytes, b.length) != 0);
+    } while (b.length > length || plain_check(b.bytes, b.length, first_signals(SIGNALS - signals)) != 0);
     return b;
 }
 

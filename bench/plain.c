@@ -1,7 +1,7 @@
 /*
- * The check and the tick of document 01, with items 1, 3 and 4 of 02, as one would write them in C. The check is one
- * recursive walk that reads and fills two bit matrices. The tick is a recursion over the bytes: it skips a part that does
- * not react, and looks through a part for an active pause before it resumes it.
+ * The check and the tick of document 01, with items 1 and 3 to 5 of 02, as one would write them in C. The check is one
+ * recursive walk that reads and fills two bit matrices. The tick is a recursion over the read-back set, and inside it over
+ * the bytes: it skips a part that does not react, and looks through a part for an active pause before it resumes it.
  */
 #include "plain.h"
 
@@ -12,7 +12,7 @@
 #endif
 
 enum { NOTHING, PAUSE, EMIT, EXIT, SEQUENCE, PARALLEL, LOOP, PRESENT, SIGNAL, TRY, SETPAUSE, SUSPEND };
-enum { MAX_BYTES = 1024, MAX_DEPTH = 64, MAX_SIGNALS = 6, LABELS = 64 };
+enum { MAX_BYTES = 1024, MAX_DEPTH = 64, MAX_SIGNALS = 6, LABELS = 64, READ_BACK = 65535 };
 
 static const struct { uint8_t parts, operands, low, high; } commands[] = {
     [PAUSE] = {0, 1, 0, 63},   [EMIT] = {0, 1, 0, 31},   [EXIT] = {0, 1, 1, 15},   [SEQUENCE] = {2, 0, 0, 0},
@@ -29,6 +29,7 @@ struct check {
     const uint8_t *next, *end;
     uint8_t number;                /* row 3 to 6 if one holds */
     bool twice;                    /* row 8 */
+    unsigned nested;               /* the most signals around a command */
     uint64_t pauses;               /* those read so far */
     uint64_t exclusive[LABELS];    /* bit l of row k, and bit k of row l: the pauses k and l are exclusive */
     uint64_t compatible[LABELS];   /* bit l of row k: a trigger k is compatible with a later trigger l */
@@ -100,6 +101,8 @@ static struct labels statement(struct check *c, unsigned depth, unsigned signals
     case SUSPEND:
         return statement(c, depth + 1, signals);
     case SIGNAL:
+        if (c->nested <= signals)
+            c->nested = signals + 1;
         return statement(c, depth + 1, signals + 1);
     default:
         return (struct labels){0, 0};
@@ -107,7 +110,7 @@ static struct labels statement(struct check *c, unsigned depth, unsigned signals
 }
 
 /* Rows 2 to 10, and what row 11 needs to know: all pauses and which of them are exclusive. */
-static uint8_t check(struct check *c, const uint8_t *sequence, size_t length)
+static uint8_t check(struct check *c, const uint8_t *sequence, size_t length, uint32_t read_back)
 {
     if (length == 0 || length > MAX_BYTES)
         return 2;
@@ -115,6 +118,8 @@ static uint8_t check(struct check *c, const uint8_t *sequence, size_t length)
     struct labels all = statement(c, 1, 0);
     if (c->number != 0)
         return c->number;
+    if ((unsigned)__builtin_popcount(read_back) + c->nested > MAX_SIGNALS)
+        return 6;
     if (c->next != c->end)
         return 7;
     if (c->twice)
@@ -127,10 +132,10 @@ static uint8_t check(struct check *c, const uint8_t *sequence, size_t length)
     return 0;
 }
 
-uint8_t plain_check(const uint8_t *sequence, size_t length)
+uint8_t plain_check(const uint8_t *sequence, size_t length, uint32_t read_back)
 {
     struct check c;
-    return check(&c, sequence, length);
+    return check(&c, sequence, length, read_back);
 }
 
 enum { STATE_BYTES = 9, ANSWER_BYTES = 8 };
@@ -155,11 +160,11 @@ typedef struct reaction run(struct instant *t, uint32_t present);
 
 static const struct reaction ended = {.code = ENDED};
 
-static struct reaction wrong(struct instant *t, uint8_t kind, const uint8_t *command)
+static struct reaction wrong(struct instant *t, uint8_t kind, ptrdiff_t place)
 {
     if (t->kind == 0) {
         t->kind = kind;
-        t->place = (uint16_t)(command - t->sequence);
+        t->place = (uint16_t)place;
     }
     return (struct reaction){.code = WRONG};
 }
@@ -214,7 +219,18 @@ static struct reaction caught(struct reaction p)
     return p;
 }
 
-/* The signal whose body is at t->next: both runs, then inheritance of a wrong one, then the other cases. */
+/* The signal s by both runs of its body: inheritance of a wrong one, then the other cases. */
+static struct reaction choose(struct instant *t, struct reaction minus, struct reaction plus, uint32_t s, ptrdiff_t place)
+{
+    if (minus.code == WRONG || plus.code == WRONG)
+        return (struct reaction){.code = WRONG};
+    bool in_minus = (minus.emitted & s) != 0, in_plus = (plus.emitted & s) != 0;
+    if (in_minus != in_plus)
+        return wrong(t, in_minus ? 2 : 3, place);
+    return in_plus ? plus : minus;
+}
+
+/* The signal whose body is at t->next. */
 static struct reaction local(struct instant *t, run *body, uint32_t present)
 {
     const uint8_t *start = t->next;
@@ -222,15 +238,23 @@ static struct reaction local(struct instant *t, run *body, uint32_t present)
     struct reaction minus = body(t, present & ~s);
     t->next = start;
     struct reaction plus = body(t, present | s);
-    if (minus.code == WRONG || plus.code == WRONG)
-        return (struct reaction){.code = WRONG};
-    bool in_minus = (minus.emitted & s) != 0, in_plus = (plus.emitted & s) != 0;
-    if (in_minus != in_plus)
-        return wrong(t, in_minus ? 2 : 3, start - 2);
-    if (!in_plus)
-        return minus;
-    plus.emitted &= ~s;
-    return plus;
+    struct reaction all = choose(t, minus, plus, s, start - 2 - t->sequence);
+    all.emitted &= ~s;
+    return all;
+}
+
+/* The whole sequence inside the read-back signals of a set, the lowest outermost. What it emits of them is reported. */
+static struct reaction declared(struct instant *t, run *body, uint32_t set, uint32_t present)
+{
+    if (set == 0) {
+        t->next = t->sequence;
+        return body(t, present);
+    }
+    REACTED;
+    uint32_t s = set & -set;
+    struct reaction minus = declared(t, body, set ^ s, present & ~s);
+    struct reaction plus = declared(t, body, set ^ s, present | s);
+    return choose(t, minus, plus, s, READ_BACK);
 }
 
 static struct reaction react(struct instant *t, uint32_t present);
@@ -282,7 +306,7 @@ static struct reaction react(struct instant *t, uint32_t present)
         return parallel(p, react(t, present));
     case LOOP:
         p = react(t, present);
-        return p.code == ENDED ? wrong(t, 1, command) : p;
+        return p.code == ENDED ? wrong(t, 1, command - t->sequence) : p;
     case PRESENT:
         return branch(t, react, present >> operand & 1, present);
     case SIGNAL:
@@ -372,20 +396,20 @@ static uint8_t check_state(const struct check *c, uint8_t phase, uint64_t labels
 }
 
 uint8_t plain_tick(const uint8_t *sequence, size_t sequence_length, uint8_t *state, size_t state_length, uint32_t input,
-                   uint8_t *answer, size_t answer_length)
+                   uint32_t read_back, uint8_t *answer, size_t answer_length)
 {
     if (state_length != STATE_BYTES || answer_length != ANSWER_BYTES)
         return 1;
     struct check c;
-    uint8_t number = check(&c, sequence, sequence_length);
+    uint8_t number = check(&c, sequence, sequence_length, read_back);
     if (number != 0)
         return number;
-    struct instant t = {.sequence = sequence, .next = sequence, .active = get(state + 1, 8)};
+    struct instant t = {.sequence = sequence, .active = get(state + 1, 8)};
     number = check_state(&c, state[0], t.active);
     if (number != 0)
         return number;
 
-    struct reaction r = state[0] == FRESH ? react(&t, input) : resume(&t, input);
+    struct reaction r = declared(&t, state[0] == FRESH ? react : resume, read_back, input);
     state[0] = r.code == WAITING ? WAITS : OVER;
     put(state + 1, 8, r.labels);
     answer[0] = r.code;

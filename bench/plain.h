@@ -5,8 +5,8 @@
 #include <stddef.h>
 #include <stdint.h>
 
-uint8_t plain_check(const uint8_t *sequence, size_t length);
+uint8_t plain_check(const uint8_t *sequence, size_t length, uint32_t read_back);
 uint8_t plain_tick(const uint8_t *sequence, size_t sequence_length, uint8_t *state, size_t state_length, uint32_t input,
-                   uint8_t *answer, size_t answer_length);
+                   uint32_t read_back, uint8_t *answer, size_t answer_length);
 
 #endif

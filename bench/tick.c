@@ -21,43 +21,48 @@ struct kind {
     unsigned signals, loops;
     unsigned suspend; /* its signal; 0 if there is no suspend */
     enum pause pause;
+    unsigned read_back; /* so many signals from 0 on are read back */
 };
 
 static const struct kind kinds[] = {
-    {"fresh, emits", {"", "\x04", "", "\x02", "\x02", 2, false, false, 32}, 0, 0, 0, NONE},
-    {"fresh, pauses in parallel", {"", "\x05", "", "\x02", "\x01", 2, false, false, 32}, 0, 0, 0, NONE},
-    {"fresh, tests", {"", "\x04\x07", "", "\x02", "\x02", 2, false, false, 32}, 0, 0, 0, NONE},
-    {"fresh, tries and exits", {"", "\x04\x05", "\x09", "\x02\x03", "\x02\x03", 3, false, false, 32}, 0, 0, 0, NONE},
-    {"resumed before emits", {"", "\x04", "", "\x02", "\x02", 2, false, false, 32}, 0, 0, 0, BEFORE},
-    {"resumed after emits", {"", "\x04", "", "\x02", "\x02", 2, false, false, 32}, 0, 0, 0, AFTER},
-    {"resumed, pauses in parallel", {"", "\x05", "", "\x02", "\x01", 2, false, false, 32}, 0, 0, 0, INSIDE},
-    {"resumed, pauses deep down", {"", "\x05", "", "\x02", "\x01", 12, false, false, 32}, 0, 0, 0, INSIDE},
-    {"six signals, fresh", {"", "\x04", "", "\x02", "\x02", 2, false, false, 6}, 6, 0, 0, NONE},
-    {"six signals, resumed", {"", "\x04", "", "\x02", "\x02", 2, false, false, 6}, 6, 0, 0, BEFORE},
-    {"six signals, all tested", {"", "\x04\x07", "", "\x02", "\x02", 2, false, false, 6}, 6, 0, 0, NONE},
-    {"loops begun again", {"", "\x05", "", "\x02", "\x02", 2, false, false, 6}, 0, 16, 0, INSIDE},
-    {"six signals, such loops", {"", "\x05", "", "\x02", "\x02", 2, false, false, 6}, 6, 16, 0, INSIDE},
-    {"suspend, running", {"", "\x05", "", "\x02", "\x01", 2, false, false, 32}, 0, 0, ABSENT, INSIDE},
-    {"suspend, stopped", {"", "\x05", "", "\x02", "\x01", 2, false, false, 32}, 0, 0, PRESENT, INSIDE},
-    {"nested suspends, running", {"", "\x05", "\x0B", "\x02", "\x01", 2, false, false, 32}, 0, 0, 0, INSIDE},
-    {"nested suspends, stopped", {"", "\x05", "\x0B", "\x02", "\x01", 2, false, false, 32}, 0, 0, PRESENT, INSIDE},
+    {"fresh, emits", {"", "\x04", "", "\x02", "\x02", 2, false, false, 32}, 0, 0, 0, NONE, 0},
+    {"fresh, pauses in parallel", {"", "\x05", "", "\x02", "\x01", 2, false, false, 32}, 0, 0, 0, NONE, 0},
+    {"fresh, tests", {"", "\x04\x07", "", "\x02", "\x02", 2, false, false, 32}, 0, 0, 0, NONE, 0},
+    {"fresh, tries and exits", {"", "\x04\x05", "\x09", "\x02\x03", "\x02\x03", 3, false, false, 32}, 0, 0, 0, NONE, 0},
+    {"resumed before emits", {"", "\x04", "", "\x02", "\x02", 2, false, false, 32}, 0, 0, 0, BEFORE, 0},
+    {"resumed after emits", {"", "\x04", "", "\x02", "\x02", 2, false, false, 32}, 0, 0, 0, AFTER, 0},
+    {"resumed, pauses in parallel", {"", "\x05", "", "\x02", "\x01", 2, false, false, 32}, 0, 0, 0, INSIDE, 0},
+    {"resumed, pauses deep down", {"", "\x05", "", "\x02", "\x01", 12, false, false, 32}, 0, 0, 0, INSIDE, 0},
+    {"six signals, fresh", {"", "\x04", "", "\x02", "\x02", 2, false, false, 6}, 6, 0, 0, NONE, 0},
+    {"six signals, resumed", {"", "\x04", "", "\x02", "\x02", 2, false, false, 6}, 6, 0, 0, BEFORE, 0},
+    {"six signals, all tested", {"", "\x04\x07", "", "\x02", "\x02", 2, false, false, 6}, 6, 0, 0, NONE, 0},
+    {"six read back, fresh", {"", "\x04", "", "\x02", "\x02", 2, false, false, 32}, 0, 0, 0, NONE, 6},
+    {"six read back, resumed", {"", "\x04", "", "\x02", "\x02", 2, false, false, 32}, 0, 0, 0, BEFORE, 6},
+    {"six read back, all tested", {"", "\x04\x07", "", "\x02", "\x02", 2, false, false, 6}, 0, 0, 0, NONE, 6},
+    {"loops begun again", {"", "\x05", "", "\x02", "\x02", 2, false, false, 6}, 0, 16, 0, INSIDE, 0},
+    {"six signals, such loops", {"", "\x05", "", "\x02", "\x02", 2, false, false, 6}, 6, 16, 0, INSIDE, 0},
+    {"six read back, such loops", {"", "\x05", "", "\x02", "\x02", 2, false, false, 6}, 0, 16, 0, INSIDE, 6},
+    {"suspend, running", {"", "\x05", "", "\x02", "\x01", 2, false, false, 32}, 0, 0, ABSENT, INSIDE, 0},
+    {"suspend, stopped", {"", "\x05", "", "\x02", "\x01", 2, false, false, 32}, 0, 0, PRESENT, INSIDE, 0},
+    {"nested suspends, running", {"", "\x05", "\x0B", "\x02", "\x01", 2, false, false, 32}, 0, 0, 0, INSIDE, 0},
+    {"nested suspends, stopped", {"", "\x05", "\x0B", "\x02", "\x01", 2, false, false, 32}, 0, 0, PRESENT, INSIDE, 0},
 };
 
 /* An instant to time. */
 struct instant {
     uint8_t bytes[CAPACITY], state[INTAKE_STATE_LENGTH];
     size_t length;
-    uint32_t input;
+    uint32_t input, read_back;
     uint64_t reactions;
     unsigned calls;
 };
 
-typedef uint8_t ticks(const uint8_t *, size_t, uint8_t *, size_t, uint32_t, uint8_t *, size_t);
+typedef uint8_t ticks(const uint8_t *, size_t, uint8_t *, size_t, uint32_t, uint32_t, uint8_t *, size_t);
 
 static uint8_t once(ticks *tick, const struct instant *t, uint8_t *state, uint8_t *answer)
 {
     memcpy(state, t->state, sizeof t->state);
-    return tick(t->bytes, t->length, state, INTAKE_STATE_LENGTH, t->input, answer, INTAKE_ANSWER_LENGTH);
+    return tick(t->bytes, t->length, state, INTAKE_STATE_LENGTH, t->input, t->read_back, answer, INTAKE_ANSWER_LENGTH);
 }
 
 /* Processor nanoseconds per instant over one sample. */
@@ -146,19 +151,20 @@ static double kind_row(const struct kind *kind, size_t length)
 {
     struct builder b = {.shape = &kind->body, .wanted = length};
     build(&b, kind, length);
-    struct instant t = {.length = b.length, .input = INPUT};
+    struct instant t = {.length = b.length, .input = INPUT, .read_back = first_signals(kind->read_back)};
     memcpy(t.bytes, b.bytes, sizeof b.bytes);
     prepare(&t, kind->pause != NONE, kind->name);
     return row(&t, kind->name).ratio;
 }
 
-static double dearest_row(uint8_t join, unsigned loops)
+static double dearest_row(uint8_t join, unsigned loops, unsigned signals)
 {
-    struct builder b = dearest(join, loops, CAPACITY);
-    struct instant t = {.length = b.length};
+    struct builder b = dearest(join, loops, signals, CAPACITY);
+    struct instant t = {.length = b.length, .read_back = first_signals(SIGNALS - signals)};
     memcpy(t.bytes, b.bytes, sizeof b.bytes);
     char name[64];
-    snprintf(name, sizeof name, "%u loops, body of %s", loops, join == 0x04 ? "sequences" : "parallels");
+    snprintf(name, sizeof name, "%u loops, %s%s", loops, join == 0x04 ? "sequences" : "parallels",
+             signals == 0 ? ", read back" : "");
     prepare(&t, true, name);
     return row(&t, name).intake;
 }
@@ -171,7 +177,7 @@ static double check_time(const struct instant *t)
     for (unsigned i = 0; i < LEAST_ROUNDS; i++) {
         double start = nanoseconds();
         for (unsigned j = 0; j < t->calls; j++)
-            sink = intake_check(t->bytes, t->length);
+            sink = intake_check(t->bytes, t->length, t->read_back);
         samples[i] = (nanoseconds() - start) / t->calls;
     }
     (void)sink;
@@ -181,7 +187,7 @@ static double check_time(const struct instant *t)
 /* One active pause behind more and more bytes: what the tick takes beyond the check. */
 static void growth_row(size_t length)
 {
-    static const struct kind kind = {"", {"", "\x04", "", "\x02", "\x02", 2, false, false, 32}, 0, 0, 0, AFTER};
+    static const struct kind kind = {"", {"", "\x04", "", "\x02", "\x02", 2, false, false, 32}, 0, 0, 0, AFTER, 0};
     struct builder b = {.shape = &kind.body, .wanted = length};
     build(&b, &kind, length);
     struct instant t = {.length = b.length};
@@ -213,9 +219,10 @@ int main(void)
     printf("a resumed tick with one active pause, ns:\n%6s %8s %8s %8s\n", "bytes", "tick", "check", "beyond");
     for (unsigned j = 0; j < sizeof lengths / sizeof *lengths; j++)
         growth_row(lengths[j]);
-    printf("the dearest instants, six signals around the loops:\n");
+    printf("the dearest instants, six signals around the loops, declared or read back:\n");
     for (unsigned loops = 15; loops <= 17; loops++)
         for (uint8_t join = 0x04; join <= 0x05; join++)
-            most = fmax(most, dearest_row(join, loops));
+            for (unsigned signals = 0; signals <= SIGNALS; signals += SIGNALS)
+                most = fmax(most, dearest_row(join, loops, signals));
     printf("the dearest takes %.2f ms\n", most / 1e6);
 }
