@@ -61,6 +61,20 @@ pub fn reading(mut run: impl FnMut(&[u8])) {
     }
 }
 
+/// Row 6 by the read-back set: signals inside each other or beside, in each part, then what is and what is not a
+/// statement, with too few, enough and too many bytes; with each set.
+pub fn nested(sets: &[u32], mut run: impl FnMut(&[u8], u32)) {
+    for (before, after) in PARTS {
+        for inside in INSIDE {
+            for (n, tail) in (0..=7).flat_map(|n| ["", "00", "00 00"].map(|tail| (n, tail))) {
+                let beside = bytes(&format!("04 {n}(08 00) 00 {before} 08 1F {inside} {after} {tail}"));
+                let around = bytes(&format!("{n}(08 1F {before}) {inside} {n}({after}) {tail}"));
+                sets.iter().for_each(|set| [&beside, &around].into_iter().for_each(|bytes| run(bytes, *set)));
+            }
+        }
+    }
+}
+
 /// The edges of rows 8 to 10, with every pair of labels.
 pub fn labels(mut run: impl FnMut(&[u8])) {
     for (k, l) in (0..64).flat_map(|k| (0..64).map(move |l| (k, l))) {

@@ -1,4 +1,4 @@
-//! The host test: intake_check of the archive against the check of document 01 on an explicit tree.
+//! The host test: intake_check of the archive against the check of document 01 on an explicit tree, with read-back sets.
 //! An argument replaces the seed. The last line is 'N passed, M failed'.
 mod edges;
 
@@ -8,15 +8,29 @@ use common::{reference, table};
 use std::{env, process::ExitCode};
 
 extern "C" {
-    fn intake_check(sequence: *const u8, length: usize) -> u8;
+    fn intake_check(sequence: *const u8, length: usize, read_back: u32) -> u8;
 }
 
-fn archive(bytes: &[u8]) -> u8 {
+fn archive(bytes: &[u8], read_back: u32) -> u8 {
     // Safe: the slice's own pointer and length.
-    unsafe { intake_check(bytes.as_ptr(), bytes.len()) }
+    unsafe { intake_check(bytes.as_ptr(), bytes.len(), read_back) }
 }
 
 const GREATEST: usize = 10;
+
+/// What is counted of the checks with a read-back set.
+const SETS: [&str; 10] = [
+    "accepted with a set",
+    "the same, six signals in sum",
+    "the same, of a name that is declared",
+    "the same, depth 64",
+    "6 by the set, seven in sum",
+    "6 by the set alone",
+    "6 by the set, all 32 signals",
+    "6 by the set before 7",
+    "6 by the set before 8 to 10",
+    "2 to 5 before 6 by the set",
+];
 
 /// The comparisons so far.
 #[derive(Default)]
@@ -26,32 +40,87 @@ struct Tally {
     numbers: [u64; GREATEST + 1],
     /// The most pauses, setpauses, suspends, levels and signals around a command in an accepted sequence of the group.
     most: [usize; 5],
+    /// Of all groups.
+    sets: [u64; SETS.len()],
 }
 
 impl Tally {
     /// Compares the archive with the tree, and with the number written by hand where there is one.
-    fn compare(&mut self, bytes: &[u8], by_hand: Option<u8>) {
-        let tree = reference::check(bytes);
+    fn compare(&mut self, bytes: &[u8], read_back: u32, by_hand: Option<u8>) {
+        let tree = reference::check(bytes, read_back);
         let number = tree.as_ref().err().copied().unwrap_or(0);
         self.numbers[number as usize] += 1;
+        if read_back != 0 {
+            self.count_set(bytes, read_back, &tree);
+        }
         if let Ok(tree) = tree {
-            let levels = tree.0.iter().map(|c| c.place.len() + 1).max().unwrap_or(0);
-            let signals = tree.0.iter().map(|c| tree.signals(&c.place)).max().unwrap_or(0);
             let suspends = tree.0.iter().filter(|c| c.byte == reference::SUSPEND).count();
-            let reached = [tree.pauses().len(), tree.setpauses().len(), suspends, levels, signals];
+            let reached = [tree.pauses().len(), tree.setpauses().len(), suspends, levels(&tree), tree.nesting()];
             self.most = std::array::from_fn(|i| self.most[i].max(reached[i]));
         }
-        let answer = archive(bytes);
+        let answer = archive(bytes, read_back);
         self.counts.expect(answer == number && by_hand.unwrap_or(number) == number, || {
-            format!("archive {answer}, tree {number}, by hand {by_hand:?}: {}", table::hex(bytes))
+            let program = format!("{} & {read_back:08X}", table::hex(bytes));
+            format!("archive {answer}, tree {number}, by hand {by_hand:?}: {program}")
         });
+    }
+
+    fn count_set(&mut self, bytes: &[u8], read_back: u32, tree: &Result<reference::Tree, u8>) {
+        let size = read_back.count_ones() as usize;
+        let kinds = match tree {
+            Ok(tree) => {
+                let declares = |c: &reference::Command| c.byte == reference::SIGNAL && read_back >> c.operand & 1 == 1;
+                let six = size + tree.nesting() == 6 && tree.nesting() > 0;
+                let mut kinds = [false; SETS.len()];
+                kinds[..4].copy_from_slice(&[true, six, tree.0.iter().any(declares), levels(tree) == 64]);
+                kinds
+            }
+            Err(6) => {
+                let bare = reference::check(bytes, 0);
+                let (number, nesting) = (bare.as_ref().err().copied().unwrap_or(0), bare.map_or(0, |tree| tree.nesting()));
+                let by_set = number != 6;
+                let mut kinds = [false; SETS.len()];
+                kinds[4] = number == 0 && size + nesting == 7;
+                kinds[5..9].copy_from_slice(&[by_set && size > 6, by_set && size == 32, number == 7, by_set && number > 7]);
+                kinds
+            }
+            Err(number) => std::array::from_fn(|i| i == 9 && size > 6 && *number < 6),
+        };
+        (0..SETS.len()).for_each(|i| self.sets[i] += kinds[i] as u64);
     }
 
     /// Prints what the group `name` answered and begins the next one.
     fn close(&mut self, name: &str) {
         let numbers: String = self.numbers.iter().map(|n| format!("{n:>9}")).collect();
         println!("{name:<16}{numbers}{:>9}", self.counts.close());
-        *self = Tally { counts: self.counts, ..Tally::default() };
+        *self = Tally { counts: self.counts, sets: self.sets, ..Tally::default() };
+    }
+
+    /// Prints what was reached with read-back sets; a test that does not get there would show nothing.
+    fn reached(&mut self) {
+        for (name, count) in SETS.into_iter().zip(self.sets) {
+            println!("{name:<40}{count:>10}");
+            self.counts.expect(count >= 100, || format!("{name} occurred only {count} times"));
+        }
+    }
+}
+
+fn levels(tree: &reference::Tree) -> usize {
+    tree.0.iter().map(|c| c.place.len() + 1).max().unwrap_or(0)
+}
+
+/// A read-back set for a sequence: empty, of names in it, one that just fits or is one too large, any, or all signals.
+fn read_back(random: &mut Random, bytes: &[u8]) -> u32 {
+    match random.below(8) {
+        0 | 1 => 0,
+        2 | 3 => generate::read_back(random, bytes, 6),
+        4 | 5 => {
+            let room = 6 - reference::check(bytes, 0).map_or(0, |tree| tree.nesting());
+            let count = room + random.below(2);
+            generate::set_of(random, count)
+        }
+        6 => random.below(1 << 32) as u32,
+        _ => u32::MAX,
     }
 }
 
@@ -60,8 +129,13 @@ fn random_sequences(tally: &mut Tally, random: &mut Random) {
     for length in (0..=1030).flat_map(|n| [n, n / 4, n / 8, n / 16]).cycle().take(25 * 4 * 1031) {
         let style = Style::any(random);
         let sequence = generate::sequence(random, style, length);
-        tally.compare(&sequence.bytes, None);
-        tally.compare(&generate::damaged(random, &sequence), None);
+        for bytes in [generate::damaged(random, &sequence), sequence.bytes] {
+            tally.compare(&bytes, 0, None);
+            let read_back = read_back(random, &bytes);
+            if read_back != 0 {
+                tally.compare(&bytes, read_back, None);
+            }
+        }
     }
     // A generator that does not get there would test nothing.
     for number in (0..=GREATEST).filter(|n| *n != 1) {
@@ -75,6 +149,19 @@ fn random_sequences(tally: &mut Tally, random: &mut Random) {
     tally.counts.expect(!far, || "too far from the limits".into());
 }
 
+/// Sets of no signal to seven, from the lowest on, and all.
+const EDGES: [u32; 9] = [0, 1, 3, 7, 0xF, 0x1F, 0x3F, 0x7F, u32::MAX];
+
+/// The same, from the highest on.
+fn edge(turn: usize) -> u32 {
+    let set = EDGES[turn % EDGES.len()];
+    if turn / EDGES.len() % 2 == 0 {
+        set
+    } else {
+        set.reverse_bits()
+    }
+}
+
 fn main() -> ExitCode {
     let seed = env::args().nth(1).map_or(20_251_115, |s| s.parse().expect("the seed is a number"));
     println!("seed {seed}");
@@ -82,18 +169,31 @@ fn main() -> ExitCode {
     println!("{:<16}{numbers}   failed", "answers");
     let mut tally = Tally::default();
     for (number, text) in table::lines(include_str!("../../examples.txt")) {
-        tally.compare(&table::bytes(text), Some(number));
+        let (bytes, read_back) = table::program(text);
+        tally.compare(&bytes, read_back, Some(number));
     }
     tally.close("examples");
-    edges::byte_strings(|bytes| tally.compare(bytes, None));
+    edges::byte_strings(|bytes| EDGES.iter().for_each(|set| tally.compare(bytes, *set, None)));
     tally.close("byte strings");
-    edges::reading(|bytes| tally.compare(bytes, None));
+    let mut turn = 0;
+    // Without a set, and with the sets in turn: every sequence, every second one, every eighth.
+    let mut with_sets = |tally: &mut Tally, bytes: &[u8], each: usize| {
+        turn += 1;
+        tally.compare(bytes, 0, None);
+        if turn % each == 0 {
+            tally.compare(bytes, edge(turn / each), None);
+        }
+    };
+    edges::reading(|bytes| with_sets(&mut tally, bytes, 1));
     tally.close("edges, 2 to 7");
-    edges::labels(|bytes| tally.compare(bytes, None));
+    edges::nested(&EDGES, |bytes, set| tally.compare(bytes, set, None));
+    tally.close("edges, 6 by set");
+    edges::labels(|bytes| with_sets(&mut tally, bytes, 2));
     tally.close("edges, 8 to 10");
-    edges::small_trees(|bytes| tally.compare(bytes, None));
+    edges::small_trees(|bytes| with_sets(&mut tally, bytes, 8));
     tally.close("small trees");
     random_sequences(&mut tally, &mut Random(seed));
     tally.close("random");
+    tally.reached();
     tally.counts.finish()
 }

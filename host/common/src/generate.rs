@@ -1,4 +1,4 @@
-//! Random sequences of an exact length, most of them accepted or nearly so, and damaged copies of them.
+//! Random sequences of an exact length, most of them accepted or nearly so, damaged copies of them, and read-back sets.
 
 pub struct Random(pub u64);
 
@@ -52,6 +52,8 @@ pub struct Style {
     /// The greatest depth and the most signals around a command.
     pub levels: usize,
     pub signals: usize,
+    /// Signals that count as declared around the whole: a read-back set.
+    pub read_back: u32,
 }
 
 impl Style {
@@ -70,6 +72,7 @@ impl Style {
             labels: random.pick(&[0, 2, 8, 40, 64, 64]),
             levels: if random.chance(90) { 64 } else { 65 },
             signals: if random.chance(90) { 6 } else { 7 },
+            read_back: 0,
         }
     }
 }
@@ -108,7 +111,7 @@ struct Generator<'a> {
     style: Style,
     /// Labels for pauses to come.
     labels: Vec<u8>,
-    /// The signals declared around the statement.
+    /// The signals declared around the statement, read-back ones first.
     declared: Vec<u8>,
     bytes: Vec<u8>,
     commands: Vec<usize>,
@@ -123,10 +126,14 @@ pub fn sequence(random: &mut Random, style: Style, length: usize) -> Sequence {
     labels.truncate(style.labels);
     let (bytes, commands, pauses, setpauses) = (Vec::new(), Vec::new(), Vec::new(), Vec::new());
     let (levels, signals, endless) = (style.levels, style.signals, style.endless);
-    let mut g = Generator { random, style, labels, declared: Vec::new(), bytes, commands, pauses, setpauses };
+    let declared: Vec<u8> = (0..32).filter(|signal| style.read_back >> signal & 1 == 1).collect();
+    let read_back = !declared.is_empty();
+    let mut g = Generator { random, style, labels, declared, bytes, commands, pauses, setpauses };
     if endless && length > 1 {
         g.command(0x06);
         g.body(&LOOPS, length - 1, levels - 1, signals, true);
+    } else if length > 0 && read_back {
+        g.body(&SIGNALS, length, levels, signals, true);
     } else if length > 0 {
         g.statement(length, levels, signals, true);
     }
@@ -290,6 +297,25 @@ impl Generator<'_> {
             self.bytes[to] = self.bytes[from];
         }
     }
+}
+
+/// A read-back set of up to `most` signals, mostly such as the sequence names: emitted, tested, declared, or a suspend's.
+pub fn read_back(random: &mut Random, sequence: &[u8], most: usize) -> u32 {
+    let naming = |pair: &&[u8]| [0x02, 0x07, 0x08, 0x0B].contains(&pair[0]) && pair[1] < 32;
+    let named: Vec<u8> = sequence.windows(2).filter(naming).map(|pair| pair[1]).collect();
+    (0..random.below(most + 1)).fold(0, |set, _| match named.is_empty() || random.chance(10) {
+        true => set | 1 << random.below(32),
+        false => set | 1 << random.pick(&named),
+    })
+}
+
+/// A set of exactly `count` signals.
+pub fn set_of(random: &mut Random, count: usize) -> u32 {
+    let mut set = 0u32;
+    while (set.count_ones() as usize) < count.min(32) {
+        set |= 1 << random.below(32);
+    }
+    set
 }
 
 /// The commands that a command is exchanged for: of its shape, so that the sequence stays readable, or none.

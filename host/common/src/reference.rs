@@ -1,6 +1,6 @@
-//! The check as document 01 words it, with the suspend of 02, item 1, on an explicit tree. It shares no idea with the
-//! archive: commands are read in a loop and not by recursion, and the rows on labels look at all pairs of places and
-//! not at sets.
+//! The check as document 01 words it, with the suspend and the read-back set of 02, items 1 and 5, on an explicit tree. It
+//! shares no idea with the archive: commands are read in a loop and not by recursion, the nesting of signals is found on
+//! the tree when all of it is there, and the rows on labels look at all pairs of places and not at sets.
 use std::ops::RangeInclusive;
 
 pub const PAUSE: u8 = 0x01;
@@ -72,6 +72,11 @@ impl Tree {
         place.iter().filter(|around| self.0[around.0].byte == SIGNAL).count()
     }
 
+    /// The greatest number of signal commands around a command.
+    pub fn nesting(&self) -> usize {
+        self.0.iter().map(|command| self.signals(&command.place)).max().unwrap_or(0)
+    }
+
     pub fn pauses(&self) -> Vec<&Command> {
         self.0.iter().filter(|c| c.byte == PAUSE).collect()
     }
@@ -110,14 +115,17 @@ impl Tree {
     }
 }
 
-/// 01, 'Turned down', rows 2 to 10: the tree of an accepted sequence, or the number.
-pub fn check(bytes: &[u8]) -> Result<Tree, u8> {
+/// 01, 'Turned down', rows 2 to 10, with 02, item 5: the tree of a sequence that is accepted with these read-back signals,
+/// or the number. The tree has no commands for them: they are declared around it and count to nothing but row 6.
+pub fn check(bytes: &[u8], read_back: u32) -> Result<Tree, u8> {
     if bytes.is_empty() || bytes.len() > 1024 {
         return Err(2);
     }
     let (tree, count) = read(bytes)?;
     let (pauses, setpauses) = (tree.pauses(), tree.setpauses());
-    if count < bytes.len() {
+    if read_back.count_ones() as usize + tree.nesting() > 6 {
+        Err(6)
+    } else if count < bytes.len() {
         Err(7)
     } else if pauses.iter().enumerate().any(|(i, p)| pauses[..i].iter().any(|q| p.operand == q.operand)) {
         Err(8)

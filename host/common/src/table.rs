@@ -1,4 +1,5 @@
-//! The tables host/*.txt: lines of a number, a colon and fields of bytes, written by hand.
+//! The tables host/*.txt: lines of a number, a colon and fields of bytes, written by hand. Behind a sequence may stand its
+//! read-back set.
 
 /// Each line's number and what follows its colon.
 pub fn lines(table: &str) -> impl Iterator<Item = (u8, &str)> {
@@ -25,6 +26,12 @@ pub fn bytes(text: &str) -> Vec<u8> {
         }
     }
     groups.remove(0).1
+}
+
+/// A sequence and its read-back set, of a text such as `02 00 & 00000001`; without the second part the set is empty.
+pub fn program(text: &str) -> (Vec<u8>, u32) {
+    let (sequence, set) = text.split_once('&').unwrap_or((text, "0"));
+    (bytes(sequence), u32::from_str_radix(set.trim(), 16).expect("a read-back set"))
 }
 
 /// Bytes as a table writes them, without groups.

@@ -8,6 +8,7 @@ extern "C" {
         state: *mut u8,
         state_length: usize,
         input: u32,
+        read_back: u32,
         answer: *mut u8,
         answer_length: usize,
     ) -> u8;
@@ -60,14 +61,26 @@ impl Outcome {
     }
 }
 
-pub fn tick(sequence: &[u8], state: &[u8], input: u32, answer_length: usize, fill: u8) -> Outcome {
+/// A call but for its sequence and the signals that this reads back.
+#[derive(Clone, Copy)]
+pub struct Call<'a> {
+    pub state: &'a [u8],
+    pub input: u32,
+    pub answer_length: usize,
+    pub fill: u8,
+}
+
+/// The tick of a sequence that reads these signals back.
+pub fn tick((sequence, read_back): (&[u8], u32), call: Call) -> Outcome {
+    let Call { state, input, answer_length, fill } = call;
     let mut state = Guarded::new(state.iter().copied(), !fill);
     let mut answer = Guarded::new((0..answer_length).map(|_| fill), !fill);
     let (state_length, answer_length) = (state.len(), answer.len());
+    let (sequence, length) = (sequence.as_ptr(), sequence.len());
     let (state_start, answer_start) = (state.start(), answer.start());
     // Safe: three buffers that share no byte, each with its own pointer and length.
     let number = unsafe {
-        intake_tick(sequence.as_ptr(), sequence.len(), state_start, state_length, input, answer_start, answer_length)
+        intake_tick(sequence, length, state_start, state_length, input, read_back, answer_start, answer_length)
     };
     let bytes = |buffer: Guarded| buffer.content().map(<[u8]>::to_vec);
     Outcome { number, state: bytes(state), answer: bytes(answer) }

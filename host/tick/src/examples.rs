@@ -26,11 +26,13 @@ pub fn examples(tally: &mut Tally) {
 
 /// What the run program prints of an accepted sequence.
 fn listing(tally: &mut Tally, file: &[u8]) -> String {
-    let (sequence, inputs) = file[2..].split_at(file[0] as usize + 256 * file[1] as usize);
-    let (sequence, mut state) = (Sequence::new(sequence.to_vec()), vec![0; 9]);
+    let number = |bytes: &[u8]| bytes.iter().rev().fold(0, |n, byte| n << 8 | *byte as u32);
+    let (sequence, rest) = file[2..].split_at(number(&file[..2]) as usize);
+    let (read_back, inputs) = rest.split_at(4);
+    let (sequence, mut state) = (Sequence::new(sequence.to_vec(), number(read_back)), vec![0; 9]);
     let (mut paper, mut lines) = (sequence.paper(), String::from("instant code kind place emitted labels\n"));
     for (i, input) in inputs.chunks(4).enumerate() {
-        let input = input.iter().rev().fold(0, |n, byte| n << 8 | *byte as u32);
+        let input = number(input);
         tally.compare(&sequence, &state, input, 8, paper.as_mut());
         let Ok(instant) = reference::tick(&sequence, &state, input, 8) else { break };
         lines += &format!("{}\n", instant.line(i + 1));

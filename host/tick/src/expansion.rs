@@ -1,7 +1,7 @@
 //! The instants of document 01 by labels, with the suspend of 02, item 1: a waiting machine reacts with its expansion.
-//! The rules of a signal are tried in either order (02, item 4). It shares nothing with rewriting.rs but the terms and
-//! the names of the orders.
-use crate::statement::{Order, Statement, Term};
+//! The rules of a signal are tried in either order (02, item 4); the declarations of read-back signals (item 5) stay
+//! around the expansion. It shares nothing with rewriting.rs but the terms and the names of the orders.
+use crate::statement::{Declaration, Order, Statement, Term};
 use std::rc::Rc;
 
 /// 002, figure 5: the expansion of a statement with an active pause. None if it has none. A suspend chooses, in the
@@ -24,7 +24,7 @@ pub fn expand(term: &Term, labels: u64) -> Option<Term> {
             (p, q) => Statement::Par(p.unwrap_or_else(nothing), q.unwrap_or_else(nothing)),
         },
         Statement::Loop(_, p) => Statement::Seq(expand(p, labels)?, term.clone()),
-        Statement::Signal(place, s, p) => Statement::Signal(*place, *s, expand(p, labels)?),
+        Statement::Signal(declaration, p) => Statement::Signal(*declaration, expand(p, labels)?),
         Statement::Try(p) => Statement::Try(expand(p, labels)?),
         Statement::Suspend(s, p) => {
             let body = expand(p, labels)?;
@@ -40,7 +40,7 @@ fn pauses(term: &Term) -> u64 {
     match &**term {
         Statement::Pause(l) => 1 << l,
         Statement::Seq(p, q) | Statement::Par(p, q) | Statement::Present(_, p, q) => pauses(p) | pauses(q),
-        Statement::Loop(_, p) | Statement::Signal(_, _, p) | Statement::Try(p) | Statement::Suspend(_, p) => pauses(p),
+        Statement::Loop(_, p) | Statement::Signal(_, p) | Statement::Try(p) | Statement::Suspend(_, p) => pauses(p),
         _ => 0,
     }
 }
@@ -89,6 +89,14 @@ pub struct Tree {
     pub stopped: u64,
     /// Signals in whose two runs not the same number of suspends was stopped.
     pub stopped_once: u64,
+    /// Interface and read-back signals that a test found present, and those that stopped a suspend.
+    pub found: u32,
+    pub stopping: u32,
+    /// Signal commands that hide a read-back signal and are emitted.
+    pub hiding: u64,
+    /// The signals that commands around the reaction declare, and those that the read-back set does.
+    pub declared: u32,
+    pub read_back: u32,
 }
 
 fn caught(body: Answer) -> Answer {
@@ -119,8 +127,14 @@ impl Tree {
                     body => body,
                 }
             }
-            Statement::Present(s, p, q) => self.react(if present & 1 << s != 0 { p } else { q }, present),
-            Statement::Signal(place, s, p) => self.signal(*place, *s, p, present),
+            Statement::Present(s, p, _) if present & 1 << s != 0 => {
+                let outside = 1 << s & !self.declared;
+                self.found |= outside;
+                self.stopping |= if matches!(**p, Statement::Kept(_)) { outside } else { 0 };
+                self.react(p, present)
+            }
+            Statement::Present(_, _, q) => self.react(q, present),
+            Statement::Signal(declaration, p) => self.signal(*declaration, p, present),
             Statement::Try(p) => caught(self.react(p, present)),
             Statement::Suspend(s, p) => {
                 self.begun_present += (present >> s & 1) as u64;
@@ -157,13 +171,19 @@ impl Tree {
         Answer { emitted: p.emitted | q.emitted, code, labels: if code == 1 { labels } else { 0 } }
     }
 
-    fn signal(&mut self, place: usize, s: u8, p: &Term, present: u32) -> Answer {
-        let only = 1u32 << s;
+    fn signal(&mut self, Declaration { place, signal, reported }: Declaration, p: &Term, present: u32) -> Answer {
+        let only = 1u32 << signal;
         let before = self.stopped;
+        let around = self.declared;
+        match reported {
+            true => self.read_back |= only,
+            false => self.declared |= only,
+        }
         let minus = self.react(p, present - (present & only));
         let between = self.stopped;
         let plus = self.react(p, present | only);
         self.stopped_once += (between - before != self.stopped - between) as u64;
+        self.declared = around;
         let (in_minus, in_plus) = (minus.emitted & only != 0, plus.emitted & only != 0);
         let (minus_wrong, plus_wrong) = (minus.code == WRONG, plus.code == WRONG);
         let fits = [
@@ -179,10 +199,12 @@ impl Tree {
         };
         let case = tried.into_iter().find(|&case| fits[case]).expect("one of the five fits");
         self.cases[case] += 1;
+        self.hiding += (case == 0 && !reported && self.read_back & only != 0) as u64;
         if fits[0] && fits[4] {
             self.two_fit[minus_wrong as usize + 2 * plus_wrong as usize - 1] += 1;
         }
         match case {
+            0 if reported => plus,
             0 => Answer { emitted: plus.emitted - only, ..plus },
             1 => minus,
             2 | 3 => self.wrong(case as u8, place),

@@ -14,7 +14,8 @@
 //! nearest to the pause. A label stays with its pause, so a setpause reaches the same one, and the added sequence
 //! holds a single pause and no setpause: nothing becomes exclusive, and rows 8 to 11 say the same. The added loop
 //! begins with a pause and never errs. Only places differ: the erring command is the same, at its own place in the
-//! kernel form.
+//! kernel form; a read-back declaration (item 5) has none in either, and its errors stay outside.
+use crate::statement::OUTSIDE;
 use common::reference::{check, Tree, PAUSE, SIGNAL, SUSPEND};
 
 pub struct Kernel {
@@ -28,8 +29,8 @@ pub struct Kernel {
 }
 
 impl Kernel {
-    /// The kernel form of an accepted sequence; None if no suspend can be replaced.
-    pub fn of(sequence: &[u8], tree: &Tree) -> Option<Kernel> {
+    /// The kernel form of a sequence that is accepted with this read-back set; None if no suspend can be replaced.
+    pub fn of(sequence: &[u8], tree: &Tree, read_back: u32) -> Option<Kernel> {
         let replaced: Vec<bool> = (0..tree.0.len()).map(|i| replaceable(tree, i)).collect();
         let (mut bytes, mut places, mut nested) = (Vec::new(), Vec::new(), 0);
         for (i, command) in tree.0.iter().enumerate() {
@@ -42,7 +43,7 @@ impl Kernel {
             tested.iter().for_each(|&s| bytes.extend([0x07, s, 0x00, 0x03, 0x01]));
             nested = nested.max(tested.len());
         }
-        let number = check(&bytes).err().unwrap_or(0);
+        let number = check(&bytes, read_back).err().unwrap_or(0);
         replaced.contains(&true).then_some(Kernel { bytes, number, nested, places })
     }
 
@@ -51,7 +52,8 @@ impl Kernel {
         let mut moved = answer.to_vec();
         if let [0xFF, _, low, high, ..] = &mut moved[..] {
             let place = *low as usize + 256 * *high as usize;
-            let there = self.places.iter().find(|(at, _)| *at == place).map_or(0xFFFF, |found| found.1);
+            let outside = (OUTSIDE, OUTSIDE);
+            let there = self.places.iter().chain([&outside]).find(|(at, _)| *at == place).map_or(0xFFFE, |found| found.1);
             (*low, *high) = ((there % 256) as u8, (there / 256) as u8);
         }
         moved

@@ -1,12 +1,14 @@
 //! The host test of the tick: intake_tick of the archive against two implementations of document 01 on explicit terms,
 //! by expansion of the label set (expansion.rs) and by rewriting (rewriting.rs), and a sequence with suspends against its
-//! kernel form (kernel.rs); then these implementations by both orders of the signal rules (orders.rs).
+//! kernel form (kernel.rs); a tick with a read-back set also against other calls (readback.rs); then these
+//! implementations by both orders of the signal rules (orders.rs).
 //! An argument replaces the seed. The last line is 'N passed, M failed'.
 mod archive;
 mod examples;
 mod expansion;
 mod kernel;
 mod orders;
+mod readback;
 mod reference;
 mod rewriting;
 mod runs;
@@ -36,7 +38,7 @@ fn by_hand(tally: &mut Tally) {
 fn lengths(tally: &mut Tally) {
     let lengths = || (0..=20).chain([255, 256, 264, 265, 65_544, 65_545]);
     for bytes in ["", "0C", "00", "01 00", "00 00", "1025(00)"].map(table::bytes) {
-        let sequence = Sequence::new(bytes);
+        let sequence = Sequence::new(bytes, 0);
         for (state, answer) in lengths().flat_map(|s| lengths().map(move |a| (s, a))) {
             (0..3).for_each(|phase| {
                 let mut record = vec![0; state];
@@ -63,8 +65,12 @@ fn main() -> ExitCode {
     tally.close("buffers");
     small::every_state(&mut tally);
     tally.close("small, states");
+    small::every_set(&mut tally);
+    tally.close("small, read back");
     small::every_run(&mut tally);
     tally.close("small, runs");
+    small::every_run_with_sets(&mut tally);
+    tally.close("runs, read back");
     runs::runs(&mut tally, &mut random, 200_000);
     tally.close("runs");
     runs::states(&mut tally, &mut random, 60_000);

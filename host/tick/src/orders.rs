@@ -18,7 +18,7 @@ use crate::{runs, small, ticks};
 use common::generate::Random;
 use common::table::hex;
 
-const COUNTED: [&str; 13] = [
+const COUNTED: [&str; 15] = [
     "by both orders",
     "the same, resumed",
     "the same, residuals compared",
@@ -32,6 +32,8 @@ const COUNTED: [&str; 13] = [
     "changed, a suspend stopped in one run",
     "changed, with a signal wrong with alone",
     "changed, with a signal wrong in both",
+    "changed, with a read-back set",
+    "changed, with a read-back signal reported",
 ];
 
 #[derive(Default)]
@@ -46,7 +48,7 @@ pub fn both(tally: &mut Tally, random: &mut Random) -> Orders {
     let mut orders = Orders::default();
     orders.by_hand(tally);
     orders.small = true;
-    small::with_signals().for_each(|bytes| orders.every_state(tally, &Sequence::new(bytes)));
+    small::with_signals().for_each(|(bytes, read_back)| orders.every_state(tally, &Sequence::new(bytes, read_back)));
     orders.small = false;
     (0..60_000).for_each(|_| orders.run(tally, random));
     orders
@@ -68,9 +70,9 @@ impl Orders {
 
     /// A statement of one signal: runs of up to three instants, and one instant from every valid label set.
     fn every_state(&mut self, tally: &mut Tally, sequence: &Sequence) {
-        let Ok((tree, _)) = &sequence.read else { return };
+        let Ok(read) = &sequence.read else { return };
         self.every_run(tally, sequence, sequence.paper().as_ref(), &[0; 9], 3);
-        for labels in (1..1 << tree.pauses().len()).filter(|labels| tree.valid(*labels)) {
+        for labels in (1..1 << read.tree.pauses().len()).filter(|labels| read.tree.valid(*labels)) {
             (0..2).for_each(|input| drop(self.compare(tally, sequence, &runs::record(1, labels), input, None)));
         }
     }
@@ -124,10 +126,10 @@ impl Orders {
             (old_errors.first() == new_errors.first(), "another first error"),
             (wrong != new_errors.is_empty(), "wrong without an error, or an error and not wrong"),
         ];
-        let told = || format!("{} | {} | {input:08X}", hex(&sequence.bytes), hex(state));
+        let told = || format!("{} | {} | {input:08X}", sequence.text(), hex(state));
         let broken = claims.iter().find(|(holds, _)| !holds);
         tally.counts.expect(broken.is_none(), || format!("orders, {broken:?}: {}", told()));
-        self.count(state, &old, &new, paper.is_some());
+        self.count(sequence.read_back, state, (&old, &new), paper.is_some());
         if let Some(paper) = paper {
             let mut other = paper.clone();
             let agrees = |paper: &mut Paper, order, instant: &Instant| {
@@ -145,7 +147,7 @@ impl Orders {
         Some(old.state)
     }
 
-    fn count(&mut self, state: &[u8], old: &Instant, new: &Instant, paper: bool) {
+    fn count(&mut self, read_back: u32, state: &[u8], (old, new): (&Instant, &Instant), paper: bool) {
         let changed = old.answer != new.answer || old.state != new.state;
         let (resumed, wrong) = (state[0] == 1, new.answer[0] == 255);
         let kinds = [
@@ -162,6 +164,8 @@ impl Orders {
             changed && old.tree.stopped_once > 0,
             changed && old.tree.two_fit[1] > 0,
             changed && old.tree.two_fit[2] > 0,
+            changed && read_back != 0,
+            changed && read_back.to_le_bytes().iter().zip(&old.answer[4..]).any(|(set, emitted)| set & emitted != 0),
         ];
         (0..COUNTED.len()).for_each(|i| self.counted[i] += kinds[i] as u64);
     }

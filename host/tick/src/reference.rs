@@ -1,36 +1,58 @@
-//! What document 01 says a tick gives: the number and both records, by the check on an explicit tree and the expansion.
+//! What document 01, with 02, says a tick gives: the number and both records, by the check on an explicit tree and the
+//! expansion, inside the declarations of the read-back signals.
 use crate::expansion::{expand, Tree, WRONG};
 use crate::kernel::Kernel;
+use crate::readback::Written;
 use crate::rewriting::Paper;
-use crate::statement::{term, Order, Term};
+use crate::statement::{term, wrap, Order, Term};
 use common::reference;
+use common::table::hex;
 
-/// A sequence with its term, or the number of the row from 2 to 10 that turns it down; and its kernel form, if there
-/// is one.
+/// What is read of an accepted sequence: its commands, its own term, and that inside the read-back declarations.
+pub struct Read {
+    pub tree: reference::Tree,
+    pub bare: Term,
+    pub wrapped: Term,
+}
+
+/// A sequence with its read-back set: what is read of it, or the number of the row from 2 to 10 that turns it down; its
+/// kernel form, if there is one, and its form without a set.
 pub struct Sequence {
     pub bytes: Vec<u8>,
-    pub read: Result<(reference::Tree, Term), u8>,
+    pub read_back: u32,
+    pub read: Result<Read, u8>,
     pub kernel: Option<Kernel>,
+    pub written: Option<Written>,
 }
 
 impl Sequence {
-    pub fn new(bytes: Vec<u8>) -> Self {
-        let read = reference::check(&bytes).map(|tree| {
-            let term = term(&tree);
-            (tree, term)
+    pub fn new(bytes: Vec<u8>, read_back: u32) -> Self {
+        let read = reference::check(&bytes, read_back).map(|tree| {
+            let bare = term(&tree);
+            Read { tree, wrapped: wrap(read_back, &bare), bare }
         });
-        let kernel = read.as_ref().ok().and_then(|(tree, _)| Kernel::of(&bytes, tree));
-        Sequence { bytes, read, kernel }
+        let kernel = read.as_ref().ok().and_then(|read| Kernel::of(&bytes, &read.tree, read_back));
+        let written = read.as_ref().ok().and_then(|_| Written::of(&bytes, read_back));
+        Sequence { bytes, read_back, read, kernel, written }
+    }
+
+    pub fn program(&self) -> (&[u8], u32) {
+        (&self.bytes, self.read_back)
+    }
+
+    /// As a table writes it.
+    pub fn text(&self) -> String {
+        format!("{} & {:08X}", hex(&self.bytes), self.read_back)
     }
 
     pub fn setpauses(&self) -> usize {
-        self.read.as_ref().map_or(0, |(tree, _)| tree.setpauses().len())
+        self.read.as_ref().map_or(0, |read| read.tree.setpauses().len())
     }
 
     /// The fitters' paper, fresh, of an accepted sequence without setpause.
     pub fn paper(&self) -> Option<Paper> {
-        let (_, term) = self.read.as_ref().ok().filter(|_| self.setpauses() == 0)?;
-        Some(Paper::Fresh(term.clone()))
+        let read = self.read.as_ref().ok().filter(|_| self.setpauses() == 0)?;
+        Some(Paper::Fresh(read.wrapped.clone()))
     }
 }
 
@@ -51,7 +73,7 @@ impl Instant {
     }
 }
 
-/// The tick as 02, item 4, has it.
+/// The tick as 02, items 4 and 5, have it.
 pub fn tick(sequence: &Sequence, state: &[u8], input: u32, answer_length: usize) -> Result<Instant, u8> {
     tick_by(Order::InheritanceFirst, sequence, state, input, answer_length)
 }
@@ -67,7 +89,18 @@ pub fn tick_by(
     if state.len() != 9 || answer_length != 8 {
         return Err(1);
     }
-    let (commands, term) = sequence.read.as_ref().map_err(|number| *number)?;
+    let read = sequence.read.as_ref().map_err(|number| *number)?;
+    instant(order, &read.tree, &read.wrapped, state, input)
+}
+
+/// An instant of the machine of these commands, by their term, bare or wrapped: rows 11 and 12, then the reaction.
+pub fn instant(
+    order: Order,
+    commands: &reference::Tree,
+    term: &Term,
+    state: &[u8],
+    input: u32,
+) -> Result<Instant, u8> {
     let labels = (0..64).filter(|l| state[1 + l / 8] >> (l % 8) & 1 == 1).fold(0, |set, l| set | 1u64 << l);
     let now = match state[0] {
         0 if labels == 0 => term.clone(),

@@ -1,8 +1,8 @@
 //! The fitters' paper of document 01, with the suspend of 02, item 1: a machine that holds a term and rewrites it, by
-//! either order of the signal rules (02, item 4). It knows no labels or states, and shares nothing with expansion.rs
+//! either order of the signal rules (02, item 4), inside the declarations of its read-back signals (item 5). It knows no labels or states, and shares nothing with expansion.rs
 //! but the terms and the names of the orders. The first error (02, item 3) is found in the term that it holds, where a
 //! copy of a loop or a signal keeps the place of its command.
-use crate::statement::{Order, Statement, Term};
+use crate::statement::{Declaration, Order, Statement, Term};
 use std::rc::Rc;
 
 /// In the order of 01, so that the greater of two is their maximum.
@@ -54,9 +54,9 @@ fn react(order: Order, term: &Term, present: u32) -> Reaction {
         Statement::Par(p, q) => parallel(react(p, present), react(q, present)),
         Statement::Loop(place, p) => repeat(*place, react(p, present), term),
         Statement::Present(s, p, q) => react(if present >> s & 1 == 1 { p } else { q }, present),
-        Statement::Signal(place, s, p) => {
-            let bit = 1 << s;
-            signal(order, *place, *s, react(p, present & !bit), react(p, present | bit))
+        Statement::Signal(declared, p) => {
+            let bit = 1 << declared.signal;
+            signal(order, *declared, react(p, present & !bit), react(p, present | bit))
         }
         Statement::Try(p) => catch(react(p, present)),
         Statement::Suspend(s, p) => hold(*s, react(p, present)),
@@ -110,18 +110,19 @@ fn hold(s: u8, p: Reaction) -> Reaction {
 }
 
 /// (signal++), (signal--), (signal+-), (signal-+), (signal∞): the first that fits, or, if so ordered, (signal∞) before
-/// the other four
-fn signal(order: Order, place: usize, s: u8, minus: Reaction, plus: Reaction) -> Reaction {
-    let emits = |r: &Reaction| r.emitted >> s & 1 == 1;
+/// the other four. What is emitted of a read-back signal is not taken out.
+fn signal(order: Order, declared: Declaration, minus: Reaction, plus: Reaction) -> Reaction {
+    let emits = |r: &Reaction| r.emitted >> declared.signal & 1 == 1;
+    let kept = if declared.reported { u32::MAX } else { !(1 << declared.signal) };
     let greater = minus.code.max(plus.code);
     let all = match (emits(&minus), emits(&plus)) {
         _ if order == Order::InheritanceFirst && greater == Wrong => gives(0, Wrong, Statement::Nothing),
-        (true, true) => gives(plus.emitted & !(1 << s), plus.code, Statement::Signal(place, s, plus.residual)),
+        (true, true) => gives(plus.emitted & kept, plus.code, Statement::Signal(declared, plus.residual)),
         (false, false) if greater < Wrong => {
-            gives(minus.emitted, minus.code, Statement::Signal(place, s, minus.residual))
+            gives(minus.emitted, minus.code, Statement::Signal(declared, minus.residual))
         }
-        (true, false) if plus.code < Wrong => errs(2, place),
-        (false, true) if minus.code < Wrong => errs(3, place),
+        (true, false) if plus.code < Wrong => errs(2, declared.place),
+        (false, true) if minus.code < Wrong => errs(3, declared.place),
         _ => gives(0, Wrong, Statement::Nothing),
     };
     all.after(minus.first.or(plus.first))

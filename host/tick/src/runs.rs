@@ -1,7 +1,8 @@
-//! Random runs of many instants, and single ticks from random state records.
+//! Random runs of many instants, each with one read-back set, and single ticks from random state records.
 use crate::reference::Sequence;
 use crate::tally::Tally;
 use common::generate::{self, Random, Style, COMMANDS};
+use common::reference;
 
 /// Few names, so that emissions meet tests, and loops that mostly wait.
 fn style(random: &mut Random) -> Style {
@@ -19,19 +20,34 @@ fn style(random: &mut Random) -> Style {
         labels: random.pick(&[2, 16, 64, 64]),
         levels: 64,
         signals: random.pick(&[1, 2, 3, 6]),
+        read_back: 0,
     }
 }
 
-/// An accepted sequence; most are short.
+/// The set without its lowest signals, so that with it a sequence of such a nesting is accepted.
+fn fitting(mut set: u32, nesting: usize) -> u32 {
+    while set.count_ones() as usize + nesting > 6 {
+        set &= set - 1;
+    }
+    set
+}
+
+/// An accepted sequence; most are short. Half of them have no read-back set, a quarter one that their tests and emissions
+/// go by, a quarter one of names that they use, declared ones too.
 pub fn sequence(random: &mut Random) -> Sequence {
     loop {
         let longest = random.pick(&[12, 24, 24, 48, 48, 48, 96, 96, 200]);
         let longest = if random.chance(1) { 1024 } else { longest };
         let length = 1 + random.below(longest);
-        let style = style(random);
-        let sequence = Sequence::new(generate::sequence(random, style, length).bytes);
-        if sequence.read.is_ok() {
-            return sequence;
+        let (mut style, kind, most) = (style(random), random.below(4), random.pick(&[1, 1, 2, 3, 6]));
+        if kind == 0 {
+            style.read_back = (0..most).fold(0, |set, _| set | 1 << random.below(style.names));
+        }
+        let set = style.read_back;
+        let bytes = generate::sequence(random, style, length).bytes;
+        if let Ok(tree) = reference::check(&bytes, 0) {
+            let set = if kind == 1 { generate::read_back(random, &bytes, most) } else { set };
+            return Sequence::new(bytes, fitting(set, tree.nesting()));
         }
     }
 }
@@ -78,8 +94,8 @@ pub fn runs(tally: &mut Tally, random: &mut Random, count: usize) {
 
 /// A valid label set, grown from the pauses in random order.
 pub fn valid_set(random: &mut Random, sequence: &Sequence) -> u64 {
-    let Ok((tree, _)) = &sequence.read else { return 0 };
-    let pauses = tree.pauses();
+    let Ok(read) = &sequence.read else { return 0 };
+    let (tree, pauses) = (&read.tree, read.tree.pauses());
     let most = random.pick(&[1, 2, 64]);
     let mut set = 0u64;
     for _ in 0..2 * pauses.len() {
@@ -124,14 +140,17 @@ pub fn states(tally: &mut Tally, random: &mut Random, count: usize) {
     }
 }
 
-/// Ticks of damaged sequences, with records and buffers of any length.
+/// Ticks of damaged sequences, with records and buffers of any length, and any read-back sets.
 pub fn damaged(tally: &mut Tally, random: &mut Random, count: usize) {
     for _ in 0..count {
         let style = Style::any(random);
         let longest = random.pick(&[16, 64, 256, 1031]);
         let length = random.below(longest);
         let sequence = generate::sequence(random, style, length);
-        let sequence = Sequence::new(generate::damaged(random, &sequence));
+        let bytes = generate::damaged(random, &sequence);
+        let (any, few) = (random.below(1 << 32) as u32, generate::read_back(random, &bytes, 8));
+        let read_back = random.pick(&[0, 0, 0, 0, few, few, any, u32::MAX]);
+        let sequence = Sequence::new(bytes, read_back);
         let mut state = state(random, &sequence);
         if random.chance(5) {
             state.resize(random.below(20), 0);

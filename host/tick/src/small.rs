@@ -1,5 +1,6 @@
-//! All statements of one to five commands over two signals, two labels and two exits; and, for the two orders of the
-//! signal rules, of one to seven commands over one signal and one exit.
+//! All statements of one to five commands over two signals, two labels and two exits, with every read-back set of them up
+//! to four commands and with one in turn of five; and, for the two orders of the signal rules, of one to seven commands
+//! over one signal and one exit.
 use crate::reference::Sequence;
 use crate::rewriting::Paper;
 use crate::tally::Tally;
@@ -45,23 +46,30 @@ fn statements(most: usize, commands: &Commands) -> Vec<Vec<Vec<u8>>> {
     all
 }
 
-/// The statements of up to seven commands with a signal among them, and those of eight with a signal around; each pause
-/// has a label of its own.
-pub fn with_signals() -> impl Iterator<Item = Vec<u8>> {
+/// The statements of up to seven commands with a signal among them, those of eight with a signal around, and those of up
+/// to six whose signal is read back; each pause has a label of its own.
+pub fn with_signals() -> impl Iterator<Item = (Vec<u8>, u32)> {
     let all = statements(7, &OF_SEVEN);
     let around: Vec<Vec<u8>> = all[7].iter().map(|body| [&[0x08, 0x00], &body[..]].concat()).collect();
+    let read_back: Vec<Vec<u8>> = all[..7].iter().flatten().cloned().collect();
     let inside = all.into_iter().flatten().filter(|bytes| bytes.contains(&0x08));
-    inside.chain(around).map(|mut bytes| {
+    let declared = inside.chain(around).map(|bytes| (bytes, 0));
+    declared.chain(read_back.into_iter().map(|bytes| (bytes, 1))).map(|(mut bytes, set)| {
         let pauses = bytes.iter_mut().filter(|byte| **byte == 0xFF);
         pauses.zip(0..).for_each(|(label, number)| *label = number);
-        bytes
+        (bytes, set)
     })
+}
+
+/// Read-back sets of the two signals, none empty, for the statements of so many commands, the sets in turn for five.
+fn sets(commands: usize, turn: usize) -> impl Iterator<Item = u32> {
+    (1..4).filter(move |set| commands < 5 || turn % 3 + 1 == *set as usize)
 }
 
 /// Every statement from every record of phase 0 to 3 and labels 0 to 2, with every input of two bits.
 pub fn every_state(tally: &mut Tally) {
     for bytes in statements(5, &OF_FIVE).into_iter().flatten() {
-        let sequence = Sequence::new(bytes);
+        let sequence = Sequence::new(bytes, 0);
         for (phase, labels) in (0..4).flat_map(|phase| (0..8).map(move |labels| (phase, labels))) {
             let state = [phase, labels, 0, 0, 0, 0, 0, 0, 0];
             // a tick turned down does not depend on the input
@@ -75,18 +83,52 @@ pub fn every_state(tally: &mut Tally) {
     }
 }
 
+/// Every accepted statement with a read-back set, fresh and from every valid label set, with every input of two bits.
+pub fn every_set(tally: &mut Tally) {
+    for (commands, statements) in statements(5, &OF_FIVE).into_iter().enumerate() {
+        for (turn, bytes) in statements.into_iter().enumerate() {
+            for set in sets(commands, turn) {
+                let sequence = Sequence::new(bytes.clone(), set);
+                let Ok(read) = &sequence.read else { break };
+                for labels in (0..4).filter(|labels| *labels == 0 || read.tree.valid(*labels)) {
+                    let state = [(labels != 0) as u8, labels as u8, 0, 0, 0, 0, 0, 0, 0];
+                    inputs(set).for_each(|input| drop(tally.compare(&sequence, &state, input, 8, None)));
+                }
+            }
+        }
+    }
+}
+
 /// Every statement without setpause against the paper, over every list of three inputs of two bits.
 pub fn every_run(tally: &mut Tally) {
     for bytes in statements(5, &OF_FIVE).into_iter().flatten() {
-        let sequence = Sequence::new(bytes);
+        let sequence = Sequence::new(bytes, 0);
         if let Some(paper) = sequence.paper() {
             continue_run(tally, &sequence, &paper, &[0; 9], 3);
         }
     }
 }
 
+/// The same with a read-back set, one through all the list.
+pub fn every_run_with_sets(tally: &mut Tally) {
+    for (commands, statements) in statements(5, &OF_FIVE).into_iter().enumerate() {
+        for (turn, bytes) in statements.into_iter().enumerate() {
+            for set in sets(commands, turn) {
+                let sequence = Sequence::new(bytes.clone(), set);
+                let Some(paper) = sequence.paper() else { break };
+                continue_run(tally, &sequence, &paper, &[0; 9], 3);
+            }
+        }
+    }
+}
+
+/// The inputs of two bits without those of a read-back set, which each comparison turns by itself.
+fn inputs(set: u32) -> impl Iterator<Item = u32> {
+    (0..4).filter(move |input| input & set == 0)
+}
+
 fn continue_run(tally: &mut Tally, sequence: &Sequence, paper: &Paper, state: &[u8], ticks: usize) {
-    for input in 0..4 {
+    for input in inputs(sequence.read_back) {
         let mut paper = paper.clone();
         let (_, after) = tally.compare(sequence, state, input, 8, Some(&mut paper));
         if ticks > 1 && after[0] == 1 {

@@ -1,4 +1,4 @@
-//! Statements as terms (01, 'Commands').
+//! Statements as terms (01, 'Commands'), and a term inside its read-back declarations (02, item 5).
 use common::reference::{Command, Tree};
 use std::rc::Rc;
 
@@ -13,6 +13,14 @@ pub enum Order {
     InheritanceFirst,
 }
 
+/// What declares a signal: a command of the sequence, at its place, or the read-back set, which reports it all the same.
+#[derive(Clone, Copy, PartialEq, Eq)]
+pub struct Declaration {
+    pub place: usize,
+    pub signal: u8,
+    pub reported: bool,
+}
+
 /// A loop and a signal carry their place, by which an error names them. What is left of a suspend after its first instant
 /// is each machine's own: Kept is made by the expansion alone, Held by the paper alone.
 #[derive(PartialEq, Eq)]
@@ -25,7 +33,7 @@ pub enum Statement {
     Par(Term, Term),
     Loop(usize, Term),
     Present(u8, Term, Term),
-    Signal(usize, u8, Term),
+    Signal(Declaration, Term),
     Try(Term),
     Setpause(u8),
     Suspend(u8, Term),
@@ -53,9 +61,19 @@ fn build<'a>(commands: &mut impl Iterator<Item = &'a Command>) -> Term {
         0x05 => Statement::Par(part(), part()),
         0x06 => Statement::Loop(command.at, part()),
         0x07 => Statement::Present(operand, part(), part()),
-        0x08 => Statement::Signal(command.at, operand, part()),
+        0x08 => Statement::Signal(Declaration { place: command.at, signal: operand, reported: false }, part()),
         0x09 => Statement::Try(part()),
         0x0A => Statement::Setpause(operand),
         _ => Statement::Suspend(operand, part()),
+    })
+}
+
+/// The place of every error of a read-back declaration.
+pub const OUTSIDE: usize = 65535;
+
+/// The term inside a declaration for each signal of the set, the lowest outermost.
+pub fn wrap(read_back: u32, term: &Term) -> Term {
+    (0..32).rev().filter(|signal| read_back >> signal & 1 == 1).fold(term.clone(), |inside, signal| {
+        Rc::new(Statement::Signal(Declaration { place: OUTSIDE, signal, reported: true }, inside))
     })
 }

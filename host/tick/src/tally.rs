@@ -1,7 +1,8 @@
 //! The comparisons, and what they reached.
-use crate::archive;
+use crate::archive::{self, Call};
 use crate::expansion::CASES;
 use crate::kernel::Kernel;
+use crate::readback::ReadBack;
 use crate::reference::{tick, Instant, Sequence};
 use crate::rewriting::{Paper, Seen};
 use crate::statement::Order;
@@ -30,11 +31,14 @@ const EVENTS: [&str; 15] = [
 ];
 
 /// What is counted of the ticks that are compared with the paper.
-const PAPERS: [&str; 4] = [
+const PAPERS: [&str; 7] = [
     "compared with the paper",
     "the same, wrong when resumed",
     "the same, wrong with errors that differ",
     "the same, two signal rules fit",
+    "the same, with a read-back set",
+    "the same, with a set, turned down",
+    "the same, with a set, wrong at 65535",
 ];
 
 /// What is counted of the ticks that are compared with the kernel form.
@@ -60,14 +64,15 @@ pub struct Tally {
     events: [u64; EVENTS.len()],
     papers: [u64; PAPERS.len()],
     kernels: [u64; KERNELS.len()],
+    read_back: ReadBack,
     most_reactions: u64,
     fill: u8,
 }
 
 impl Tally {
-    /// Compares one tick of the archive with the expansion, with the paper where there is one, and with the tick of
-    /// the kernel form where there is one: number, both records and the guards. Gives the number and the state that
-    /// the archive left.
+    /// Compares one tick of the archive with the expansion, with the paper where there is one, with the tick of the
+    /// kernel form where there is one, and with other calls where there is a read-back set: number, both records and the
+    /// guards. Gives the number and the state that the archive left.
     pub fn compare(
         &mut self,
         sequence: &Sequence,
@@ -78,8 +83,9 @@ impl Tally {
     ) -> (u8, Vec<u8>) {
         self.fill = !self.fill;
         let fill = self.fill;
+        let call = Call { state, input, answer_length, fill };
         let expected = tick(sequence, state, input, answer_length);
-        let outcome = archive::tick(&sequence.bytes, state, input, answer_length, fill);
+        let outcome = archive::tick(sequence.program(), call);
         let (number, after, answer) = match &expected {
             Ok(instant) => (0, instant.state.clone(), instant.answer.clone()),
             Err(number) => (*number, state.to_vec(), vec![fill; answer_length]),
@@ -91,17 +97,20 @@ impl Tally {
         let holds = outcome.number == number && outcome.state.as_ref() == Some(&after);
         let holds = holds && outcome.answer.as_ref() == Some(&answer);
         let told = || {
-            let call = format!("{} | {} | {answer_length} | {input:08X}", hex(&sequence.bytes), hex(state));
+            let call = format!("{} | {} | {answer_length} | {input:08X}", sequence.text(), hex(state));
             format!("{call}: {}, not {number}: {} | {}", outcome.text(), hex(&after), hex(&answer))
         };
         self.counts.expect(holds, told);
         if let Some(paper) = paper {
-            self.count_paper(state, expected.as_ref().ok());
+            self.count_paper(sequence, state, expected.as_ref().ok());
             self.compare_paper(paper, input, &outcome, answer_length, told);
         }
         if let Some(kernel) = &sequence.kernel {
-            self.count_kernel(sequence, kernel, expected.ok().as_ref());
-            self.compare_kernel(kernel, state, input, &outcome, answer_length, told);
+            self.count_kernel(sequence, kernel, expected.as_ref().ok());
+            self.compare_kernel(kernel, sequence.read_back, call, &outcome, told);
+        }
+        if sequence.read_back != 0 {
+            self.read_back.compare(&mut self.counts, sequence, call, &expected, &outcome);
         }
         (outcome.number, outcome.state.unwrap_or(after))
     }
@@ -125,9 +134,11 @@ impl Tally {
         self.counts.expect(holds, || format!("paper {seen:?}, phase {}: {}", paper.phase(), told()));
     }
 
-    fn count_paper(&mut self, state: &[u8], instant: Option<&Instant>) {
+    fn count_paper(&mut self, sequence: &Sequence, state: &[u8], instant: Option<&Instant>) {
         let wrong = instant.map_or([false; 3], |instant| wrong_kinds(state, instant));
-        let kinds = [true].into_iter().chain(wrong);
+        let outside = instant.is_some_and(|instant| instant.answer[2..4] == [0xFF, 0xFF]);
+        let set = sequence.read_back != 0;
+        let kinds = [true].into_iter().chain(wrong).chain([set, set && instant.is_none(), set && outside]);
         kinds.enumerate().for_each(|(i, kind)| self.papers[i] += kind as u64);
     }
 
@@ -135,13 +146,12 @@ impl Tally {
     fn compare_kernel(
         &mut self,
         kernel: &Kernel,
-        state: &[u8],
-        input: u32,
+        read_back: u32,
+        call: Call,
         outcome: &archive::Outcome,
-        answer_length: usize,
         told: impl Fn() -> String,
     ) {
-        let own = archive::tick(&kernel.bytes, state, input, answer_length, self.fill);
+        let own = archive::tick((&kernel.bytes, read_back), call);
         let holds = if kernel.number == 0 {
             let moved = |answer: &Vec<u8>| if outcome.number == 0 { kernel.moved(answer) } else { answer.clone() };
             own.number == outcome.number
@@ -219,6 +229,7 @@ impl Tally {
             println!("{name:<40}{count:>10}");
             self.counts.expect(count >= 100, || format!("{name} occurred only {count} times"));
         }
+        self.read_back.reached(&mut self.counts);
         println!("{:<40}{:>10}", "most reactions in one instant", self.most_reactions);
     }
 }

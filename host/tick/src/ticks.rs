@@ -26,9 +26,10 @@ pub fn read(table: &str) -> impl Iterator<Item = Tick> + '_ {
             [state, answer] => Ok((table::bytes(state), table::bytes(answer))),
             _ => Err(number),
         };
+        let (sequence, read_back) = table::program(fields[0]);
         Tick {
             line: format!("{number}:{text}"),
-            sequence: Sequence::new(table::bytes(fields[0])),
+            sequence: Sequence::new(sequence, read_back),
             state: table::bytes(fields[1]),
             input: u32::from_str_radix(fields[3], 16).expect("an input"),
             answer_length: fields[2].parse().expect("a length"),

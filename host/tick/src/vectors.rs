@@ -17,11 +17,12 @@ pub fn vectors(tally: &mut Tally) {
 
 /// The titles, and a line for each call.
 fn listing(tally: &mut Tally, vectors: &str) -> Vec<String> {
-    let (mut lines, mut bytes) = (Vec::new(), Vec::new());
+    let (mut lines, mut bytes, mut read_back) = (Vec::new(), Vec::new(), 0);
     for line in vectors.lines().filter(|line| !line.is_empty() && !line.starts_with('#')) {
         let Some(indented) = line.strip_prefix("  ") else {
             lines.push(line.to_string());
             bytes.clear();
+            read_back = 0;
             continue;
         };
         let (word, rest) = indented.split_once(' ').unwrap_or((indented, ""));
@@ -31,9 +32,10 @@ fn listing(tally: &mut Tally, vectors: &str) -> Vec<String> {
                 let (count, repeated) = rest.split_once(' ').expect("a count and bytes");
                 bytes.extend(table::bytes(repeated).repeat(count.parse().expect("a count")));
             }
-            "run" | "from" => lines.extend(machine(tally, &bytes, rest, 8)),
-            "short" => lines.extend(machine(tally, &bytes, rest, 7)),
-            "long" => lines.extend(machine(tally, &bytes, rest, 9)),
+            "declared" => read_back = u32::from_str_radix(rest, 16).expect("a read-back set"),
+            "run" | "from" => lines.extend(machine(tally, (&bytes, read_back), rest, 8)),
+            "short" => lines.extend(machine(tally, (&bytes, read_back), rest, 7)),
+            "long" => lines.extend(machine(tally, (&bytes, read_back), rest, 9)),
             _ => panic!("no line of a vector: {line}"),
         }
     }
@@ -42,9 +44,14 @@ fn listing(tally: &mut Tally, vectors: &str) -> Vec<String> {
 
 /// The lines of a machine: from the record before a colon, or a cleared one, on the inputs behind it. From a cleared
 /// record on the paper is there to compare, if there is one.
-fn machine(tally: &mut Tally, bytes: &[u8], rest: &str, answer_length: usize) -> Vec<String> {
+fn machine(
+    tally: &mut Tally,
+    (bytes, read_back): (&[u8], u32),
+    rest: &str,
+    answer_length: usize,
+) -> Vec<String> {
     let (record, inputs) = rest.split_once(':').unwrap_or(("9(00)", rest));
-    let (sequence, mut state) = (Sequence::new(bytes.to_vec()), table::bytes(record));
+    let (sequence, mut state) = (Sequence::new(bytes.to_vec(), read_back), table::bytes(record));
     let mut paper = sequence.paper().filter(|_| state == [0; 9]);
     let inputs = inputs.split_whitespace().map(|input| u32::from_str_radix(input, 16).expect("an input"));
     let line = |(i, input): (usize, u32)| {

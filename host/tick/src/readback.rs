@@ -1,0 +1,193 @@
+//! Read-back sets (02, item 5), beside the references that wrap the term. Each tick with a set that is not empty is
+//! compared with other calls of the archive:
+//!
+//! - With the host's status of every read-back signal turned: the same number and records.
+//! - After an instant that is not wrong, without a set, on the input in which each read-back signal has the status that
+//!   the answer reports: the same number and records. The chosen run is that one, for each signal.
+//! - The sequence with a signal command for each signal of the set in front of it, the lowest first, without a set, where
+//!   length and depth leave room: the same number and state, the same answer but for the read-back signals in the emitted
+//!   set, its places moved, those of the commands in front being 65535 with the set.
+//! - Where the sequence names no signal of the set, without a set: the same number and records.
+use crate::archive::{tick, Call, Outcome};
+use crate::reference::{instant, Instant, Sequence};
+use crate::statement::{Order, OUTSIDE};
+use common::counts::Counts;
+use common::reference::{check, SIGNAL};
+use common::table::hex;
+
+const COUNTED: [&str; 21] = [
+    "with a read-back set",
+    "the same, resumed",
+    "the same, resumed, with setpauses",
+    "the same, six signals in sum",
+    "read-back signal reported",
+    "the same, code 1",
+    "the same, code over 1",
+    "the same, resumed",
+    "two read-back signals reported",
+    "read-back signal reported, tested present",
+    "suspend stopped by a read-back signal",
+    "another answer than without a set",
+    "read-back signal hidden and emitted",
+    "kind 2 at 65535",
+    "kind 3 at 65535",
+    "kind 2 or 3 at 65535, resumed",
+    "wrong inside, with a read-back set",
+    "the set names no signal of the sequence",
+    "compared with the sequence written out",
+    "the sequence written out is too long or deep",
+    "number 6 by the set",
+];
+
+#[derive(Default)]
+pub struct ReadBack {
+    counted: [u64; COUNTED.len()],
+}
+
+/// The sequence with its read-back signals declared in front of it.
+pub struct Written {
+    bytes: Vec<u8>,
+    /// What the check on the tree says of it.
+    number: u8,
+    /// The bytes in front.
+    moved: usize,
+}
+
+impl Written {
+    pub fn of(bytes: &[u8], read_back: u32) -> Option<Written> {
+        let signals = (0..32u8).filter(|signal| read_back >> signal & 1 == 1);
+        let written: Vec<u8> = signals.flat_map(|signal| [SIGNAL, signal]).chain(bytes.iter().copied()).collect();
+        let (number, moved) = (check(&written, 0).err().unwrap_or(0), written.len() - bytes.len());
+        (read_back != 0).then_some(Written { bytes: written, number, moved })
+    }
+
+    /// The answer record of an instant, as the sequence with the set gives it but for the set.
+    fn back(&self, answer: &[u8]) -> Vec<u8> {
+        let mut back = answer.to_vec();
+        if let [0xFF, _, low, high, ..] = &mut back[..] {
+            let place = *low as usize + 256 * *high as usize;
+            let there = place.checked_sub(self.moved).unwrap_or(OUTSIDE);
+            (*low, *high) = ((there % 256) as u8, (there / 256) as u8);
+        }
+        back
+    }
+}
+
+/// The answer record of an instant without some signals.
+fn without(answer: &[u8], signals: u32) -> Vec<u8> {
+    let kept = [0; 4].into_iter().chain(signals.to_le_bytes());
+    answer.iter().zip(kept).map(|(byte, signals)| byte & !signals).collect()
+}
+
+fn emitted(answer: &[u8]) -> u32 {
+    answer[4..8].iter().rev().fold(0, |set, byte| set << 8 | *byte as u32)
+}
+
+fn same(one: &Outcome, other: &Outcome) -> bool {
+    one.number == other.number && one.state.is_some() && one.state == other.state && one.answer == other.answer
+}
+
+impl ReadBack {
+    /// A tick of the archive with a set that is not empty, and what the reference gives.
+    pub fn compare(
+        &mut self,
+        counts: &mut Counts,
+        sequence: &Sequence,
+        tried: Call,
+        expected: &Result<Instant, u8>,
+        outcome: &Outcome,
+    ) {
+        let Call { state, input, answer_length, .. } = tried;
+        let (bytes, set) = sequence.program();
+        let call = |program, input| tick(program, Call { input, ..tried });
+        let told = |what: &str, other: &Outcome| {
+            let tick = format!("{} | {} | {answer_length} | {input:08X}", sequence.text(), hex(state));
+            format!("{tick}: {}, {what} {}", outcome.text(), other.text())
+        };
+        let turned = call((bytes, set), input ^ set);
+        counts.expect(same(outcome, &turned), || told("with the host's bits turned", &turned));
+        if !names(sequence, set) {
+            let without_set = call((bytes, 0), input);
+            let holds = same(outcome, &without_set) || outcome.number == 6;
+            counts.expect(holds, || told("without a set that is not named", &without_set));
+        }
+        if let (Some(written), true) = (&sequence.written, answer_length == 8) {
+            let own = call((&written.bytes, 0), input);
+            let holds = match (written.number, outcome.number) {
+                (0, 0) => {
+                    let answers = outcome.answer.as_ref().zip(own.answer.as_ref());
+                    let fits = answers.is_some_and(|(answer, own)| without(answer, set) == written.back(own));
+                    own.number == 0 && own.state == outcome.state && fits
+                }
+                (0, number) => own.number == number,
+                (number, of_tick) => matches!(number, 2 | 6) && own.number == if of_tick == 1 { 1 } else { number },
+            };
+            counts.expect(holds, || told("written out", &own));
+        }
+        match expected {
+            Ok(instant) => {
+                if instant.answer[0] != 255 {
+                    let input = input & !set | emitted(&instant.answer) & set;
+                    let own = call((bytes, 0), input);
+                    counts.expect(same(outcome, &own), || told("without a set, on what is reported,", &own));
+                }
+                self.count(sequence, state, input, instant);
+            }
+            Err(6) => self.counted[20] += (check(bytes, 0).err() != Some(6)) as u64,
+            Err(_) => {}
+        }
+    }
+
+    fn count(&mut self, sequence: &Sequence, state: &[u8], input: u32, whole: &Instant) {
+        let Ok(read) = &sequence.read else { return };
+        let set = sequence.read_back;
+        let (code, kind, tree) = (whole.answer[0], whole.answer[1], &whole.tree);
+        let (resumed, wrong) = (state[0] == 1, code == 255);
+        let reported = emitted(&whole.answer) & set;
+        let outside = wrong && whole.answer[2..4] == [0xFF, 0xFF];
+        let bare = |input| instant(Order::InheritanceFirst, &read.tree, &read.bare, state, input).ok();
+        let chosen = bare(input & !set | reported).filter(|_| !wrong);
+        let found = chosen.as_ref().map_or(0, |chosen| chosen.tree.found & reported);
+        let stopping = chosen.as_ref().map_or(0, |chosen| chosen.tree.stopping & reported);
+        let other = bare(input).is_some_and(|bare| bare.answer != whole.answer || bare.state != whole.state);
+        let written = sequence.written.as_ref().is_some_and(|written| written.number == 0);
+        let kinds = [
+            true,
+            resumed,
+            resumed && sequence.setpauses() > 0,
+            set.count_ones() as usize + read.tree.nesting() == 6,
+            reported != 0,
+            reported != 0 && code == 1,
+            reported != 0 && code > 1,
+            reported != 0 && resumed,
+            reported.count_ones() > 1,
+            found != 0,
+            stopping != 0,
+            other,
+            tree.hiding > 0 && !wrong,
+            outside && kind == 2,
+            outside && kind == 3,
+            outside && resumed,
+            wrong && !outside,
+            !names(sequence, set),
+            written,
+            !written,
+            false,
+        ];
+        (0..COUNTED.len()).for_each(|i| self.counted[i] += kinds[i] as u64);
+    }
+
+    /// Prints what was reached; a test that does not get there would show nothing.
+    pub fn reached(&self, counts: &mut Counts) {
+        for (name, count) in COUNTED.into_iter().zip(self.counted) {
+            println!("{name:<44}{count:>10}");
+            counts.expect(count >= 100, || format!("{name} occurred only {count} times"));
+        }
+    }
+}
+
+/// Does a command name a signal of the set? The operands of an accepted sequence tell.
+fn names(sequence: &Sequence, set: u32) -> bool {
+    let Ok(read) = &sequence.read else { return true };
+    read.tree.0.iter().any(|c| [0x02, 0x07, 0x08, 0x0B].contains(&c.byte) && set >> c.operand & 1 == 1)
+}
