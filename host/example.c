@@ -10,13 +10,14 @@
 #include <stdio.h>
 #include <stdlib.h>
 
-/* The run file: the length of the sequence, the sequence, then an input for each instant. */
-enum { MAX_FILE = 65536, LENGTH_BYTES = 2, INPUT_BYTES = 4 };
+/* The run file: the length of the sequence, the sequence, its read-back set, then an input for each instant. */
+enum { MAX_FILE = 65536, LENGTH_BYTES = 2, READ_BACK_BYTES = 4, INPUT_BYTES = 4 };
 
-/* A bay: its sequence, which nobody changes, and the two records that the tick writes. */
+/* A bay: its sequence and the outputs that it reads back, which nobody changes, and the two records that the tick writes. */
 struct bay {
     const uint8_t *sequence;
     size_t length;
+    uint32_t read_back;
     uint8_t state[INTAKE_STATE_LENGTH];
     uint8_t answer[INTAKE_ANSWER_LENGTH];
 };
@@ -32,7 +33,7 @@ static uint64_t number_in(const uint8_t *bytes, size_t count)
 
 static uint8_t tick(struct bay *bay, uint32_t input)
 {
-    return intake_tick(bay->sequence, bay->length, bay->state, sizeof bay->state, input, bay->answer,
+    return intake_tick(bay->sequence, bay->length, bay->state, sizeof bay->state, input, bay->read_back, bay->answer,
                        sizeof bay->answer);
 }
 
@@ -47,14 +48,15 @@ static void print_instant(size_t instant, const struct bay *bay)
 }
 
 /* Checks the sequence once, then ticks until the machine is over or the inputs are used up. */
-static void run(const uint8_t *sequence, size_t length, const uint8_t *inputs, size_t instants)
+static void run(const uint8_t *sequence, size_t length, uint32_t read_back, const uint8_t *inputs, size_t instants)
 {
-    uint8_t number = intake_check(sequence, length);
+    uint8_t number = intake_check(sequence, length, read_back);
     if (number != INTAKE_ACCEPTED) {
         printf("refused %u\n", (unsigned)number);
         return;
     }
-    struct bay bay = {.sequence = sequence, .length = length}; /* a cleared state record: a fresh machine */
+    /* a cleared state record: a fresh machine */
+    struct bay bay = {.sequence = sequence, .length = length, .read_back = read_back};
     puts("instant code kind place emitted labels");
     for (size_t i = 0; i < instants; i++) {
         /* After the last instant the answer is INTAKE_OVER. No other number comes from a checked sequence whose
@@ -69,11 +71,13 @@ static void run(const uint8_t *sequence, size_t length, const uint8_t *inputs, s
 static void run_file(const uint8_t *file, size_t count)
 {
     size_t length = count < LENGTH_BYTES ? 0 : (size_t)number_in(file, LENGTH_BYTES);
-    size_t start = LENGTH_BYTES + length; /* of the inputs */
+    size_t end = LENGTH_BYTES + length; /* of the sequence */
+    size_t start = end + READ_BACK_BYTES; /* of the inputs */
     if (count > MAX_FILE || count < start || (count - start) % INPUT_BYTES != 0)
         puts("input cut");
     else
-        run(file + LENGTH_BYTES, length, file + start, (count - start) / INPUT_BYTES);
+        run(file + LENGTH_BYTES, length, (uint32_t)number_in(file + end, READ_BACK_BYTES), file + start,
+            (count - start) / INPUT_BYTES);
 }
 
 int main(int argc, char **argv)

@@ -1,7 +1,8 @@
 /*
  * The stack that a call takes, by painting: the call runs on a stack of its own that is filled with one byte before, and
  * the lowest byte that changed tells. What the same call of an empty function takes is left out. Every sequence has depth
- * 64, the greatest: one command with parts 63 times, inside it a leaf, and its other parts leaves beside.
+ * 64, the greatest: one command with parts 63 times, inside it a leaf, and its other parts leaves beside. Six signals stand
+ * around it in the sequence, or outside by the read-back set, which takes no level of the depth.
  */
 #include "intake.h"
 
@@ -13,13 +14,16 @@ enum { STACK = 65536, PAINT = 0xA5, LEVELS = 63, HATCH = 31, MOST = 18432 };
 
 static uint8_t stack[STACK], sequence[1024], state[INTAKE_STATE_LENGTH], answer[INTAKE_ANSWER_LENGTH];
 static size_t length;
-static uint32_t input;
+static uint32_t input, read_back;
 static uint8_t number;
 static ucontext_t here, there;
 
 static void nothing(void) { number = INTAKE_ACCEPTED; }
-static void check(void) { number = intake_check(sequence, length); }
-static void tick(void) { number = intake_tick(sequence, length, state, sizeof state, input, answer, sizeof answer); }
+static void check(void) { number = intake_check(sequence, length, read_back); }
+static void tick(void)
+{
+    number = intake_tick(sequence, length, state, sizeof state, input, read_back, answer, sizeof answer);
+}
 
 /* The bytes of stack below its top that a function writes. */
 static size_t taken(void (*call)(void))
@@ -104,8 +108,13 @@ int main(void)
     int failed = 0;
     size_t most = 0, empty = taken(nothing);
     printf("%-32s %7s %7s %7s %7s %7s\n", "bytes of stack at depth 64", "row 10", "check", "fresh", "resumed", "stopped");
-    for (unsigned signals = 0; signals <= 6; signals += 6)
+    static const struct { unsigned signals; uint32_t read_back; const char *name; } around[] = {
+        {0, 0, ""}, {6, 0, "  inside six signals"}, {0, 0x3F, "  with six read back"},
+    };
+    for (size_t a = 0; a < sizeof around / sizeof *around; a++)
         for (size_t i = 0; i < sizeof nests / sizeof *nests; i++) {
+            unsigned signals = around[a].signals;
+            read_back = around[a].read_back;
             build(&nests[i], signals, 1, 0);
             size_t triggers = used(check, empty, &failed);
             build(&nests[i], signals, 0, 0);
@@ -125,7 +134,7 @@ int main(void)
                 printf(" %7zu", row[j]);
                 most = row[j] > most ? row[j] : most;
             }
-            printf("%s\n", signals > 0 ? "  inside six signals" : "");
+            printf("%s\n", around[a].name);
         }
     failed |= most > MOST;
     printf("the most is %zu, of at most %d\n", most, MOST);

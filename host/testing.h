@@ -40,12 +40,12 @@ static inline int verdict(void)
     return failed != 0;
 }
 
-/* Appends the bytes of a text such as `64(06) 00` up to a closing bracket, a bar or the line's end; returns its end. */
+/* Appends the bytes of a text such as `64(06) 00` up to a closing bracket, a bar, an & or the line's end; returns it. */
 static inline const char *expand(const char *text, struct bytes *bytes)
 {
     for (;;) {
         text += strspn(text, " ");
-        if (*text == ')' || *text == '|' || *text == '\n')
+        if (*text == ')' || *text == '|' || *text == '&' || *text == '\n')
             return text;
         char *after;
         unsigned long times = strtoul(text, &after, 10);
@@ -62,6 +62,20 @@ static inline const char *expand(const char *text, struct bytes *bytes)
             text = after;
         }
     }
+}
+
+/* A sequence with the signals that it reads back, of a text such as `02 00 & 00000001`; returns its end. */
+static inline const char *program(const char *text, struct bytes *sequence, uint32_t *read_back)
+{
+    text = expand(text, sequence);
+    *read_back = 0;
+    if (*text != '&')
+        return text;
+    char *after;
+    *read_back = (uint32_t)strtoul(text + 1, &after, 16);
+    if (after != text + 10)
+        die("no read-back set", text);
+    return after + strspn(after, " ");
 }
 
 /* Calls `run` with every line of a table but empty ones and comments. */

@@ -10,7 +10,7 @@
 /* A tick and what it gives. */
 struct tick {
     struct bytes sequence, state, answer;
-    uint32_t input;
+    uint32_t input, read_back;
     uint8_t number;
     struct bytes state_after, answer_after;
 };
@@ -30,7 +30,7 @@ static struct tick read_line(const char *line, uint8_t fill)
     t.number = (uint8_t)strtoul(line, &after, 10);
     if (*after != ':')
         die("no line of a table", line);
-    const char *text = field(expand(after + 1, &t.sequence), line);
+    const char *text = field(program(after + 1, &t.sequence, &t.read_back), line);
     text = field(expand(text, &t.state), line);
     t.answer.count = strtoul(text, &after, 10);
     memset(t.answer.at, fill, t.answer.count);
@@ -50,12 +50,18 @@ static struct tick read_line(const char *line, uint8_t fill)
     return t;
 }
 
-/* Ticks, and compares the number and both records; the three buffers hold what `t` says. */
+/*
+ * Ticks, and compares the number and both records; the three buffers hold what `t` says. The host's status of a
+ * read-back signal is ignored, so every second tick turns it.
+ */
 static void run_in(const struct tick *t, const uint8_t *sequence, uint8_t *state, uint8_t *answer, const char *where,
                    const char *line)
 {
-    uint8_t number =
-        intake_tick(sequence, t->sequence.count, state, t->state.count, t->input, answer, t->answer.count);
+    static bool turned;
+    uint32_t input = turned ? t->input ^ t->read_back : t->input;
+    turned = !turned;
+    uint8_t number = intake_tick(sequence, t->sequence.count, state, t->state.count, input, t->read_back, answer,
+                                 t->answer.count);
     bool same = memcmp(sequence, t->sequence.at, t->sequence.count) == 0 &&
                 memcmp(state, t->state_after.at, t->state.count) == 0 &&
                 memcmp(answer, t->answer_after.at, t->answer.count) == 0;
@@ -118,25 +124,49 @@ static void listing(void)
 {
     static const uint8_t sequence[] = {0x08, 0x00, 0x04, 0x02, 0x00, 0x04, 0x01, 0x01, 0x02, 0x01};
     uint8_t state[INTAKE_STATE_LENGTH] = {0}, answer[INTAKE_ANSWER_LENGTH];
-    uint8_t number = intake_tick(sequence, sizeof sequence, state, sizeof state, 0, answer, sizeof answer);
+    uint8_t number = intake_tick(sequence, sizeof sequence, state, sizeof state, 0, 0, answer, sizeof answer);
     expect(number == INTAKE_ACCEPTED && answer[INTAKE_ANSWER_CODE] == INTAKE_WAITING &&
                answer[INTAKE_ANSWER_KIND] == INTAKE_NO_ERROR && state[INTAKE_STATE_PHASE] == INTAKE_PHASE_WAITING &&
                state[INTAKE_STATE_LABELS] == 1 << 1,
            number, "first instant", "listing\n");
-    number = intake_tick(sequence, sizeof sequence, state, sizeof state, 0, answer, sizeof answer);
+    number = intake_tick(sequence, sizeof sequence, state, sizeof state, 0, 0, answer, sizeof answer);
     expect(number == INTAKE_ACCEPTED && answer[INTAKE_ANSWER_CODE] == INTAKE_ENDED &&
                answer[INTAKE_ANSWER_EMITTED] == 1 << 1 && state[INTAKE_STATE_PHASE] == INTAKE_PHASE_OVER,
            number, "second instant", "listing\n");
-    number = intake_tick(sequence, sizeof sequence, state, sizeof state, 0, answer, sizeof answer);
+    number = intake_tick(sequence, sizeof sequence, state, sizeof state, 0, 0, answer, sizeof answer);
     expect(number == INTAKE_OVER, number, "once over", "listing\n");
+}
+
+/* A valve, 8, that the sequence opens and then reads back for the pump, 9; and one that it opens only if it is closed. */
+static void read_back(void)
+{
+    static const uint8_t opens[] = {0x04, 0x02, 0x08, 0x07, 0x08, 0x02, 0x09, 0x00};
+    static const uint8_t errs[] = {0x07, 0x08, 0x00, 0x02, 0x08};
+    enum { VALVE = 1 << 8 };
+    uint8_t state[INTAKE_STATE_LENGTH] = {0}, answer[INTAKE_ANSWER_LENGTH];
+    uint8_t number = intake_tick(opens, sizeof opens, state, sizeof state, 0, VALVE, answer, sizeof answer);
+    expect(number == INTAKE_ACCEPTED && answer[INTAKE_ANSWER_CODE] == INTAKE_ENDED &&
+               answer[INTAKE_ANSWER_EMITTED + 1] == 3,
+           number, "valve open", "read-back\n");
+    memset(state, 0, sizeof state);
+    number = intake_tick(opens, sizeof opens, state, sizeof state, 0, 0, answer, sizeof answer);
+    expect(number == INTAKE_ACCEPTED && answer[INTAKE_ANSWER_CODE] == INTAKE_ENDED &&
+               answer[INTAKE_ANSWER_EMITTED + 1] == 1,
+           number, "not read back", "read-back\n");
+    memset(state, 0, sizeof state);
+    number = intake_tick(errs, sizeof errs, state, sizeof state, 0, VALVE, answer, sizeof answer);
+    expect(number == INTAKE_ACCEPTED && answer[INTAKE_ANSWER_CODE] == INTAKE_WRONG &&
+               answer[INTAKE_ANSWER_KIND] == INTAKE_NOT_REACTIVE &&
+               answer[INTAKE_ANSWER_PLACE] + 256 * answer[INTAKE_ANSWER_PLACE + 1] == INTAKE_PLACE_READ_BACK,
+           number, "a place outside", "read-back\n");
 }
 
 static void null_pointers(void)
 {
     uint8_t state[INTAKE_STATE_LENGTH] = {0}, answer[INTAKE_ANSWER_LENGTH];
-    uint8_t number = intake_tick(NULL, 0, NULL, 0, 0, NULL, 0);
+    uint8_t number = intake_tick(NULL, 0, NULL, 0, 0, UINT32_MAX, NULL, 0);
     expect(number == INTAKE_BUFFER_LENGTH, number, "null pointers", "1\n");
-    number = intake_tick(NULL, 0, state, sizeof state, 0, answer, sizeof answer);
+    number = intake_tick(NULL, 0, state, sizeof state, 0, UINT32_MAX, answer, sizeof answer);
     expect(number == INTAKE_SEQUENCE_LENGTH, number, "null pointer", "2\n");
 }
 
@@ -148,6 +178,7 @@ int main(int argc, char **argv)
 {
     each_line(argc == 2 ? argv[1] : NULL, run);
     listing();
+    read_back();
     null_pointers();
     return verdict();
 }
