@@ -28,7 +28,7 @@ WORDS = {0: "nothing", 1: "pause, label {}", 2: "emit {}", 3: "exit {}", 4: "…
 RANGES = {1: range(64), 2: range(32), 3: range(1, 16), 7: range(32), 8: range(32), 10: range(64), 11: range(32)}
 PARTS = {4: 2, 5: 2, 6: 1, 7: 2, 8: 1, 9: 1, 11: 1}
 
-WORKED = bytes.fromhex("0a00 08000402000401010201 0000000000000000")
+WORKED = bytes.fromhex("0a00 08000402000401010201 00000000 0000000000000000")
 WORKED_LISTING = HEADER + """\
 1 1 0 0 00000000 0000000000000002
 2 0 0 0 00000002 0000000000000000
@@ -49,6 +49,24 @@ label    1 # .
 code       1 0
 
 instant 2: ended
+"""
+VALVE = bytes.fromhex("0800 0402080708020900 00010001 00000000")  # with 24, which is in no command, the highest of the set
+VALVE_LISTING = HEADER + "1 0 0 0 00000300 0000000000000000\nend\n"
+VALVE_SHOWN = """\
+reads back 8, 24
+place  bytes  command
+    0  04     …; then …
+    1  02 08    emit 8
+    3  07 08    present 8 then … else …
+    5  02 09      emit 9
+    7  00         nothing
+
+instant    1
+emitted  8 #
+emitted  9 #
+code       0
+
+instant 1: ended
 """
 TOPPING_SHOWN = """
 instant      1   2   3   4
@@ -126,6 +144,15 @@ def generate(place, depth, signals, size):
         inner, below = generate(place + len(data), depth + 1, signals + (kind == 8), share)
         data, lines = data + inner, lines + below
     return data, lines
+
+
+def nesting(lines):
+    """The most signal commands around a command."""
+    around, most = [], 0  # the depths of those around the last line
+    for _, depth, own in lines:
+        around = [outer for outer in around if outer < depth] + [depth] * (own[0] == 8)
+        most = max(most, len(around))
+    return most
 
 
 def sequence():
@@ -236,15 +263,33 @@ def expand(text):
 
 
 def test_rows():
-    """The sequences of host/examples.txt: a number from 2 to 7 is told, those after it are the check's alone."""
+    """The sequences of host/examples.txt: a number from 2 to 7 is told, those after it are the check's alone. One with a
+    read-back set stands in a run file."""
     for line in (ROOT / "host" / "examples.txt").read_text(encoding="utf-8").splitlines():
         if line and not line.startswith("#"):
             number, _, text = line.partition(":")
+            text, _, read_back = text.partition("&")
+            if read_back.strip(" 0"):
+                expect_row(int(number), expand(text), int(read_back, 16), line)
+                continue
             answer = show("--sequence", data=expand(text))
             if 2 <= int(number) <= 7:
                 expect_damage(answer, rf"\(row {number}\)", line)
             else:
                 expect(answer[0] == 0 and bytes_shown(answer[1]) == expand(text), f"{line}: {answer}")
+
+
+def expect_row(number, data, read_back, what):
+    """A run file without instants whose sequence is accepted with a read-back set, or turned down by a row."""
+    run = len(data).to_bytes(2, "little") + data + read_back.to_bytes(4, "little")
+    answer = show(data=run, listing=HEADER + "end\n" if number == 0 else f"refused {number}\n")
+    if number:
+        expect_damage(answer, rf"\(row {number}\)", what)
+    else:
+        head, _, shown = answer[1].partition("\n")
+        signals = [str(signal) for signal in range(32) if read_back >> signal & 1]
+        expect(answer[0] == 0 and head == "reads back " + ", ".join(signals), f"{what}: {answer}")
+        expect(bytes_shown(shown.partition("\n\n")[0]) == data, f"{what}: {answer}")
 
 
 # Runs
@@ -256,7 +301,7 @@ def examples():
         text = page.read_text(encoding="utf-8")
         for run in re.finditer(r"\n## Run `([\w-]+\.bin)`", text):
             section = text[run.end() :].partition("\n## ")[0]
-            table_in = re.compile(r"```text\n(place .*?)```", re.S)
+            table_in = re.compile(r"```text\n((?:reads back [\d, ]+\n)?place .*?)```", re.S)
             commands = re.sub(r" +# .*", "", (table_in.search(section) or table_in.search(text))[1])
             listing = re.search(f"({HEADER}.*?)```", section, re.S)[1]
             yield run[1], (ROOT / "examples" / run[1]).read_bytes(), commands, listing
@@ -306,7 +351,7 @@ def read_svg(root):
 def sets_of(data, listing):
     """What a picture must show: the members of all sets of a run file and its listing."""
     lines = [line.split() for line in listing.splitlines()[1:-1]]
-    start = 2 + int.from_bytes(data[:2], "little")
+    start = 2 + int.from_bytes(data[:2], "little") + 4
     inputs = [int.from_bytes(data[at : at + 4], "little") for at in range(start, len(data), 4)]
     rows = {}
     for instant, line in enumerate(lines, 1):
@@ -345,6 +390,7 @@ def test_examples():
             expect(drawn == kept.read_text("utf-8"), f"{kept.name} is what tools/show draws")
     expect(names == {path.name for path in (ROOT / "examples").glob("*.bin")}, f"every example has a page: {names}")
     expect(show(data=WORKED, listing=WORKED_LISTING) == (0, WORKED_SHOWN, ""), "the worked example of 01")
+    expect(show(data=VALVE, listing=VALVE_LISTING) == (0, VALVE_SHOWN, ""), "a signal read back")
 
 
 def random_run():
@@ -356,6 +402,8 @@ def random_run():
         erring = [(kind, place) for place, _, own in lines for kind in {6: [1], 8: [2, 3]}.get(own[0], [])]
         if pauses:
             break
+    signals = rng.sample(range(32), rng.randrange(7 - nesting(lines))) if rng.random() < 0.5 else []
+    erring += [(2, 65535), (3, 65535)] * bool(emits & set(signals))
     count = rng.choice([0, 1, 5, 29, 31, 120])
     inputs = [rng.getrandbits(32) & rng.getrandbits(32) for _ in range(count)]
     listed = rng.choice([count, rng.randrange(count + 1)])
@@ -369,7 +417,8 @@ def random_run():
         if code == 255:
             emitted, (kind, place) = 0, rng.choice(erring)
         listing += f"{instant} {code} {kind} {place} {emitted:08x} {labels:016x}\n"
-    run = len(data).to_bytes(2, "little") + data + b"".join(value.to_bytes(4, "little") for value in inputs)
+    words = [sum(1 << signal for signal in signals), *inputs]
+    run = len(data).to_bytes(2, "little") + data + b"".join(word.to_bytes(4, "little") for word in words)
     return run, listing + "end\n", listed == 0 and count > 0
 
 
@@ -395,10 +444,14 @@ def test_damaged_runs():
     cut = r"byte {}: .*\(input cut\)"
     for data, said in [
         (b"", cut.format(0)), (b"\x0a", cut.format(1)), (WORKED[:2], cut.format(2)), (WORKED[:11], cut.format(11)),
-        (WORKED[:13], cut.format(12)), (WORKED + b"\0", cut.format(20)), (WORKED + b"\0\0\0", cut.format(20)),
-        (b"\x02\0\x0c", cut.format(3)), (b"\x01\0\x0c", r"place 0: .*\(row 3\)"), (b"\x01\0\x0c\0", cut.format(3)),
-        (bytes(65537), cut.format(65536)), (bytes(65534), r"place 0: .*\(row 2\)"), (b"\0\0", r"\(row 2\)"),
-        (b"\x01\x04" + bytes(1025), r"\(row 2\)"), (b"\xff\xff" + bytes(65534), cut.format(65536)),
+        (WORKED[:12], cut.format(12)), (WORKED[:13], cut.format(13)), (WORKED[:15], cut.format(15)),
+        (WORKED[:17], cut.format(16)), (WORKED + b"\0", cut.format(24)), (WORKED + b"\0\0\0", cut.format(24)),
+        (b"\x02\0\x0c", cut.format(3)), (b"\x01\0\x0c", cut.format(3)), (b"\x01\0\x0c" + bytes(3), cut.format(6)),
+        (b"\x01\0\x0c" + bytes(4), r"place 0: .*\(row 3\)"), (b"\x01\0\x0c" + bytes(5), cut.format(7)),
+        (b"\x01\0\0\x7f\0\0", cut.format(6)), (b"\x01\0\0\x7f\0\0\0", r"read-back: 7 signals .*\(row 6\)"),
+        (bytes(65537), cut.format(65536)), (bytes(65534), r"place 0: .*\(row 2\)"), (b"\0\0", cut.format(2)),
+        (bytes(6), r"\(row 2\)"), (b"\x01\x04" + bytes(1025), cut.format(1027)),
+        (b"\x01\x04" + bytes(1029), r"\(row 2\)"), (b"\xff\xff" + bytes(65534), cut.format(65536)),
     ]:
         expect_damage_of_run(data, WORKED_LISTING, said, f"run file {data[:20].hex()}")
     expect(bytes_shown(show(data=WORKED[:9], listing="")[1]) == WORKED[2:8], "commands before the cut")
@@ -419,6 +472,26 @@ def test_damaged_runs():
         expect_damage_of_run(WORKED, f"refused {number}\n", rf"{why}.*\(row {number}\)", f"refused {number}")
     wrong = WORKED_LISTING.replace(two, "2 255 2 0 00000000 0000000000000000")
     expect(show(data=WORKED, listing=wrong)[0] == 0, "a wrong instant at the signal")
+    test_read_back_places()
+
+
+def test_read_back_places():
+    """An error outside the sequence: only of a signal that is read back and emitted, and of kind 2 or 3."""
+
+    def listing(kind, place=65535):
+        return HEADER + f"1 255 {kind} {place} 00000000 0000000000000000\nend\n"
+
+    def without(signal):
+        return VALVE[:10] + (0x01000100 & ~(1 << signal)).to_bytes(4, "little") + VALVE[14:]
+
+    for kind, why in (2, "absent"), (3, "present"):
+        status, shown, _ = answer = show(data=VALVE, listing=listing(kind))
+        told = f"instant 1: wrong, kind {kind} (the signal is emitted only if {why}), place 65535: a read-back signal\n"
+        expect(status == 0 and shown.endswith(told), f"kind {kind} outside: {answer}")
+        expect(show(data=without(24), listing=listing(kind))[0] == 0, f"kind {kind} outside, without a signal not emitted")
+        expect_damage_of_run(without(8), listing(kind), "listing: line 2", f"kind {kind} outside, and not read back")
+    for bad in listing(1), listing(2, 65534), listing(2, 655350), listing(0):
+        expect_damage_of_run(VALVE, bad, "listing: line 2", f"an error that cannot be: {bad}")
 
 
 def test_garbage():
