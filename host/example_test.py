@@ -35,10 +35,10 @@ def expect(holds, what):
         print(f"FAILED {what}")
 
 
-def run_file(sequence, instants=0, length=None):
+def run_file(sequence, instants=0, length=None, read_back=0):
     """A run file on empty inputs, whose length field may lie."""
     length = len(sequence) if length is None else length
-    return length.to_bytes(2, "little") + sequence + bytes(4 * instants)
+    return length.to_bytes(2, "little") + sequence + read_back.to_bytes(4, "little") + bytes(4 * instants)
 
 
 def documented():
@@ -55,38 +55,57 @@ def documented():
 
 
 def edges():
-    """Run files at the edges of document 01, 'Bays to run'."""
+    """Run files at the edges of document 01, 'Bays to run', and of 02, item 5."""
     worked = run_file(bytes.fromhex("08000402000401010201"), 2)
     sustain = bytes.fromhex("060402050100")  # loop (emit 5; pause, label 0)
     line = "{} 1 0 0 00000020 0000000000000001\n"
     yield "the worked example of 01", worked, WORKED
     yield "no byte", b"", CUT
     yield "one byte", b"\x01", CUT
-    for count in range(2, 12):
+    for count in range(2, 16):  # from 12 on in the read-back set
         yield f"cut to {count} bytes", worked[:count], CUT
+    yield "cut to 16 bytes", worked[:16], HEADER + "end\n"
     for over in range(1, 4):
         yield f"{over} bytes over", worked + bytes(over), CUT
         yield f"{over} bytes over, and a bad sequence", run_file(b"\x0c") + bytes(over), CUT
+        yield f"{over} bytes of a set, and a bad sequence", run_file(b"\x0c")[: 3 + over], CUT
+    yield "no set, and a bad sequence", run_file(b"\x0c")[:3], CUT
+    yield "no set, and no sequence", run_file(b"")[:2], CUT
     yield "one instant of two", worked[:-4], WORKED.replace(WORKED.splitlines(True)[2], "")
     yield "more instants than are used", worked + bytes(8), WORKED
     yield "no instants", run_file(sustain), HEADER + "end\n"
-    full = "".join(line.format(number) for number in range(1, 16383))
-    yield "65,536 bytes", run_file(sustain, 16382), HEADER + full + "end\n"
-    yield "65,537 bytes", run_file(sustain, 16382) + b"\0", CUT
-    yield "65,537 bytes, whole instants", run_file(bytes.fromhex("060100"), 16383), CUT
-    yield "65,540 bytes, whole instants", run_file(sustain, 16383), CUT
+    full = "".join(line.format(number) for number in range(1, 16382))
+    yield "65,536 bytes", run_file(sustain, 16381), HEADER + full + "end\n"
+    yield "65,536 bytes, with a set", run_file(sustain, 16381, read_back=0x3F), HEADER + full + "end\n"
+    yield "65,537 bytes", run_file(sustain, 16381) + b"\0", CUT
+    yield "65,537 bytes, whole instants", run_file(bytes.fromhex("060100"), 16382), CUT
+    yield "65,540 bytes, whole instants", run_file(sustain, 16382), CUT
     yield "length 0", run_file(b""), "refused 2\n"
     yield "length 0 and an instant", run_file(b"", 1), "refused 2\n"
     longest = bytes.fromhex("04" + "0400" * 15 + "0200") * 31 + b"\0"  # 31 sequences of nothing that end with emit 0
     yield "length 1,024", run_file(longest, 1), HEADER + "1 0 0 0 00000001 0000000000000000\nend\n"
     yield "length 1,024 and no instants", run_file(longest), HEADER + "end\n"
     yield "length 1,025", run_file(bytes(1025), 1), "refused 2\n"
-    yield "length 65,534", run_file(bytes(65534)), "refused 2\n"
-    yield "length 65,535", run_file(bytes(65534), length=65535), CUT
+    yield "length 65,530", run_file(bytes(65530)), "refused 2\n"
+    yield "length 65,534 and no set", run_file(bytes(65534))[:-4], CUT
+    yield "length 65,535", run_file(bytes(65530), length=65535), CUT
     yield "length over what is there", run_file(sustain, 0, 7), CUT
+    yield "length over what is there, by the set", run_file(sustain, 0, 10), CUT
     for number, sequence in enumerate(["0c", "02", "0220", "06" * 64 + "00", "0000", "0501000100", "0a00",
                                        "04010104050a0201030102"], 3):
         yield f"row {number}", run_file(bytes.fromhex(sequence), 1), f"refused {number}\n"
+    yield "row 6 by the set", run_file(bytes.fromhex("080000"), 1, read_back=0x3F), "refused 6\n"
+    yield "row 6 by the highest byte of the set", run_file(b"\0", 1, read_back=0xFE000000), "refused 6\n"
+    yield "row 6 by the set before 7", run_file(b"\0\0", 1, read_back=0x7F), "refused 6\n"
+    yield "row 3 before row 6 by the set", run_file(b"\x0c", 1, read_back=0x7F), "refused 3\n"
+    opens = bytes.fromhex("060402080407080209000100")  # loop (emit 8; (present 8 then emit 9 else nothing); pause 0)
+    for set_of, emitted in (0x100, "00000300"), (0, "00000100"), (0x300, "00000300"), (1, "00000100"):
+        yield f"valve open, reads {set_of:x}", run_file(opens, 2, read_back=set_of), (
+            HEADER + f"1 1 0 0 {emitted} 0000000000000001\n2 1 0 0 {emitted} 0000000000000001\nend\n")
+    yield "wrong outside", run_file(bytes.fromhex("0401000708000208"), 2, read_back=0x100), (
+        HEADER + "1 1 0 0 00000000 0000000000000001\n2 255 2 65535 00000000 0000000000000000\nend\n")
+    given = run_file(bytes.fromhex("070802090200"), read_back=0x100) + b"\xff" * 4  # the host's 8 is ignored
+    yield "every bit of the host's", given, HEADER + "1 0 0 0 00000001 0000000000000000\nend\n"
     yield "a wrong instant", run_file(bytes.fromhex("04010008000700000200"), 3), (
         HEADER + "1 1 0 0 00000000 0000000000000001\n2 255 2 3 00000000 0000000000000000\nend\n")
     yield "every bit", run_file(bytes.fromhex("0404021f013f071f0200020f")) + b"\xff" * 8, (
