@@ -82,6 +82,11 @@ instant 4: wrong, kind 1 (the loop's body ended in the instant in which it began
 inputs not used: 1
 """
 
+KNOT_SHOWN = """
+instant 3: wrong, kind 2 (the signal is emitted only if absent), place 65535: a read-back signal
+inputs not used: 1
+"""
+
 passed = failed = 0
 folder = None  # for the files of the tests
 rng = random.Random(1)
@@ -302,9 +307,12 @@ def examples():
         for run in re.finditer(r"\n## Run `([\w-]+\.bin)`", text):
             section = text[run.end() :].partition("\n## ")[0]
             table_in = re.compile(r"```text\n((?:reads back [\d, ]+\n)?place .*?)```", re.S)
-            commands = re.sub(r" +# .*", "", (table_in.search(section) or table_in.search(text))[1])
+            own, data = table_in.search(section), (ROOT / "examples" / run[1]).read_bytes()
+            commands = re.sub(r" +# .*", "", (own or table_in.search(text))[1])
+            if own is None and not any(data[2 + int.from_bytes(data[:2], "little") :][:4]):
+                commands = re.sub(r"^reads back .*\n", "", commands)  # a table of several runs, this one with an empty set
             listing = re.search(f"({HEADER}.*?)```", section, re.S)[1]
-            yield run[1], (ROOT / "examples" / run[1]).read_bytes(), commands, listing
+            yield run[1], data, commands, listing
 
 
 def picture_of(shown):
@@ -383,6 +391,7 @@ def test_examples():
         status, shown, message = show(data=data, listing=listing)
         expect(status == 0 and shown.startswith(commands + "\n") and not message, f"{name}: {shown}")
         expect(name != "topping.bin" or shown == commands + TOPPING_SHOWN, f"{name}, the whole: {shown}")
+        expect(name != "valve-knot.bin" or shown.endswith(KNOT_SHOWN), f"{name}, its end: {shown}")
         expect_pictures(data, listing, name)
         kept = (ROOT / "examples" / name).with_suffix(".svg")  # the picture of a page, where it has one
         if kept.exists():
