@@ -6,7 +6,7 @@
 
 #include <stdio.h>
 
-enum { FILE_LENGTH = 65536, LENGTH_BYTES = 2, SET_BYTES = 4, DEAREST_LOOPS = 16 };
+enum { FILE_LENGTH = 65536, LENGTH_BYTES = 2, SET_BYTES = 4, DEAREST_LOOPS = 18 };
 
 int main(void)
 {
