@@ -77,11 +77,17 @@ impl Tally {
             }
             Err(6) => {
                 let bare = reference::check(bytes, 0);
-                let (number, nesting) = (bare.as_ref().err().copied().unwrap_or(0), bare.map_or(0, |tree| tree.nesting()));
+                let (number, nesting) =
+                    (bare.as_ref().err().copied().unwrap_or(0), bare.map_or(0, |tree| tree.nesting()));
                 let by_set = number != 6;
                 let mut kinds = [false; SETS.len()];
                 kinds[4] = number == 0 && size + nesting == 7;
-                kinds[5..9].copy_from_slice(&[by_set && size > 6, by_set && size == 32, number == 7, by_set && number > 7]);
+                kinds[5..9].copy_from_slice(&[
+                    by_set && size > 6,
+                    by_set && size == 32,
+                    number == 7,
+                    by_set && number > 7,
+                ]);
                 kinds
             }
             Err(number) => std::array::from_fn(|i| i == 9 && size > 6 && *number < 6),

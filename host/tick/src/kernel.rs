@@ -53,7 +53,8 @@ impl Kernel {
         if let [0xFF, _, low, high, ..] = &mut moved[..] {
             let place = *low as usize + 256 * *high as usize;
             let outside = (OUTSIDE, OUTSIDE);
-            let there = self.places.iter().chain([&outside]).find(|(at, _)| *at == place).map_or(0xFFFE, |found| found.1);
+            let there =
+                self.places.iter().chain([&outside]).find(|(at, _)| *at == place).map_or(0xFFFE, |found| found.1);
             (*low, *high) = ((there % 256) as u8, (there / 256) as u8);
         }
         moved

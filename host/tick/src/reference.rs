@@ -94,13 +94,7 @@ pub fn tick_by(
 }
 
 /// An instant of the machine of these commands, by their term, bare or wrapped: rows 11 and 12, then the reaction.
-pub fn instant(
-    order: Order,
-    commands: &reference::Tree,
-    term: &Term,
-    state: &[u8],
-    input: u32,
-) -> Result<Instant, u8> {
+pub fn instant(order: Order, commands: &reference::Tree, term: &Term, state: &[u8], input: u32) -> Result<Instant, u8> {
     let labels = (0..64).filter(|l| state[1 + l / 8] >> (l % 8) & 1 == 1).fold(0, |set, l| set | 1u64 << l);
     let now = match state[0] {
         0 if labels == 0 => term.clone(),

@@ -44,12 +44,7 @@ fn listing(tally: &mut Tally, vectors: &str) -> Vec<String> {
 
 /// The lines of a machine: from the record before a colon, or a cleared one, on the inputs behind it. From a cleared
 /// record on the paper is there to compare, if there is one.
-fn machine(
-    tally: &mut Tally,
-    (bytes, read_back): (&[u8], u32),
-    rest: &str,
-    answer_length: usize,
-) -> Vec<String> {
+fn machine(tally: &mut Tally, (bytes, read_back): (&[u8], u32), rest: &str, answer_length: usize) -> Vec<String> {
     let (record, inputs) = rest.split_once(':').unwrap_or(("9(00)", rest));
     let (sequence, mut state) = (Sequence::new(bytes.to_vec(), read_back), table::bytes(record));
     let mut paper = sequence.paper().filter(|_| state == [0; 9]);
