@@ -63,7 +63,7 @@ enum intake_answer {
     INTAKE_ANSWER_LENGTH = 8
 };
 
-/* The place of an error of a read-back signal, of which no command in the sequence is to blame. */
+/* The place of an error of a read-back signal, which no command of the sequence declares. */
 enum intake_place {
     INTAKE_PLACE_READ_BACK = 65535
 };
@@ -127,8 +127,9 @@ uint8_t intake_check(const uint8_t *sequence, size_t length, uint32_t read_back)
 /*
  * Runs one instant of the machine whose sequence and state record these are, and answers INTAKE_ACCEPTED, or the number
  * of the row that turns the call down. An accepted call writes the whole answer record and the whole state record, which
- * is then ready for the next call. A call turned down writes neither, not even bytes of the same value. The sequence
- * stays the same through all instants of a machine. A wrong instant is accepted: its code is INTAKE_WRONG.
+ * is then ready for the next call. A call turned down writes neither, not even bytes of the same value. The sequence and
+ * the read-back set stay the same through all instants of a machine. A wrong instant is accepted: its code is
+ * INTAKE_WRONG.
  *
  * Bit s of `input` says that the host gives signal s, and bit s of `read_back` that the sequence reads s back; every value
  * of both is allowed. A test of a signal that neither a signal command around it nor `read_back` declares reads `input`

@@ -61,9 +61,14 @@ pub fn with_signals() -> impl Iterator<Item = (Vec<u8>, u32)> {
     })
 }
 
-/// Read-back sets of the two signals, none empty, for the statements of so many commands, the sets in turn for five.
-fn sets(commands: usize, turn: usize) -> impl Iterator<Item = u32> {
-    (1..4).filter(move |set| commands < 5 || turn % 3 + 1 == *set as usize)
+/// The statements of up to four commands with each read-back set of the two signals, and those of five with one in turn.
+fn with_sets(mut run: impl FnMut(&Sequence)) {
+    for (commands, statements) in statements(5, &OF_FIVE).into_iter().enumerate() {
+        for (turn, bytes) in statements.into_iter().enumerate() {
+            let sets = (1..4).filter(|set| commands < 5 || turn % 3 + 1 == *set as usize);
+            sets.for_each(|set| run(&Sequence::new(bytes.clone(), set)));
+        }
+    }
 }
 
 /// Every statement from every record of phase 0 to 3 and labels 0 to 2, with every input of two bits.
@@ -85,18 +90,13 @@ pub fn every_state(tally: &mut Tally) {
 
 /// Every accepted statement with a read-back set, fresh and from every valid label set, with every input of two bits.
 pub fn every_set(tally: &mut Tally) {
-    for (commands, statements) in statements(5, &OF_FIVE).into_iter().enumerate() {
-        for (turn, bytes) in statements.into_iter().enumerate() {
-            for set in sets(commands, turn) {
-                let sequence = Sequence::new(bytes.clone(), set);
-                let Ok(read) = &sequence.read else { break };
-                for labels in (0..4).filter(|labels| *labels == 0 || read.tree.valid(*labels)) {
-                    let state = [(labels != 0) as u8, labels as u8, 0, 0, 0, 0, 0, 0, 0];
-                    inputs(set).for_each(|input| drop(tally.compare(&sequence, &state, input, 8, None)));
-                }
-            }
+    with_sets(|sequence| {
+        let Ok(read) = &sequence.read else { return };
+        for labels in (0..4).filter(|labels| *labels == 0 || read.tree.valid(*labels)) {
+            let state = [(labels != 0) as u8, labels as u8, 0, 0, 0, 0, 0, 0, 0];
+            inputs(sequence.read_back).for_each(|input| drop(tally.compare(sequence, &state, input, 8, None)));
         }
-    }
+    });
 }
 
 /// Every statement without setpause against the paper, over every list of three inputs of two bits.
@@ -111,15 +111,11 @@ pub fn every_run(tally: &mut Tally) {
 
 /// The same with a read-back set, one through all the list.
 pub fn every_run_with_sets(tally: &mut Tally) {
-    for (commands, statements) in statements(5, &OF_FIVE).into_iter().enumerate() {
-        for (turn, bytes) in statements.into_iter().enumerate() {
-            for set in sets(commands, turn) {
-                let sequence = Sequence::new(bytes.clone(), set);
-                let Some(paper) = sequence.paper() else { break };
-                continue_run(tally, &sequence, &paper, &[0; 9], 3);
-            }
+    with_sets(|sequence| {
+        if let Some(paper) = sequence.paper() {
+            continue_run(tally, sequence, &paper, &[0; 9], 3);
         }
-    }
+    });
 }
 
 /// The inputs of two bits without those of a read-back set, which each comparison turns by itself.
