@@ -20,3 +20,4 @@ use Rattle.demands.specs.ReadBack.{readBackRuns}
 -- THE BAYS WITH A READ-BACK SET: each row of the table
 pub read-back : ShowsRuns readBackRuns tickOf
 unfolding readBackRuns outcomes tickBy checked read front commandOf nesting declared membersFrom distinct wellFormed everyLabel before labelsOf activeLabels valid subset disjoint active expand decodeState encodeState encodeAnswer leNumber leBytes reactBy errorsBy member none only join insert remove
+read-back = refl
