@@ -14,7 +14,7 @@ use Rattle.sequence.specs.Reader.{Read, accepted, refused, Front, command, bad,
 use Rattle.sequence.specs.Writer.{size}
 use Rattle.layout.specs.Layout.{rest, entry, Marked}
 use Rattle.layout.specs.Notes.{countIn, noteCount, noNotes, note}
-use Rattle.layout.specs.Walk.{leftUnit, rowUnit, headOf, packed, Both, Readable, Entered, Done, pairRead}
+use Rattle.layout.specs.Walk.{leftUnit, rowUnit, headOf, Both, Readable, Entered, Done, pairRead}
 use Rattle.sequence.proofs.Table.{byteOf, command-of-byte, command-at, leaves, ones, twos, undeclared}
 use Rattle.layout.proofs.Parts.{rest-is}
 use Rattle.sequence.proofs.Front.{Fronted, fronted}
@@ -217,6 +217,7 @@ module _ (d g b : ℕ) (s t u m n : List ℕ) (r : ℕ) (can : Readable b s t m)
           }
       go (refused k) q z i = let o : Small k = rw q at z in absurd (omega (arith, i .0))
 
+  -- the signals allowed are a byte
   pub first-refused : (a : ℕ) (xs : List ℕ) (c : Command) → g < 256 → b ≡ a + width c → rowUnit ≤ r → Done g a t u m n (pairRead (read d g) c a xs s) r
   first-refused a xs c allowed e large = go (read d g b s) refl h
     where
