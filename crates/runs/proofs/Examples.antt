@@ -1,4 +1,4 @@
--- 01's example of a run, by computation.
+-- 01's example of a run and one with a read-back set, by computation.
 use mathlib.Core.Path.{_≡_, refl}
 use Rattle.esterel.specs.Sets.{none, only, member, join, insert, remove}
 use Rattle.esterel.specs.Reaction.{reactBy}
@@ -6,17 +6,22 @@ use Rattle.esterel.specs.Errors.{errorsBy}
 use Rattle.esterel.specs.LabelTests.{subset, disjoint, labelsOf, everyLabel, distinct, before, wellFormed, valid}
 use Rattle.esterel.specs.States.{active}
 use Rattle.esterel.specs.Expansion.{expand}
+use Rattle.esterel.specs.ReadBack.{membersFrom, declared}
 use Rattle.sequence.specs.Commands.{commandOf}
-use Rattle.sequence.specs.Reader.{front, read}
+use Rattle.sequence.specs.Reader.{front, read, nesting}
 use Rattle.sequence.specs.Check.{checked, checkOf}
 use Rattle.numbers.specs.Bytes.{leBytes, leNumber}
 use Rattle.records.specs.Records.{encodeState, decodeState, encodeAnswer}
 use Rattle.demands.specs.Tick.{tickBy, tickOf}
 use Rattle.runs.specs.Text.{numeralIn, numeral}
-use Rattle.runs.specs.File.{sequenceIn, words, inputsIn, fileOf}
+use Rattle.runs.specs.File.{sequenceIn, readBackIn, words, inputsIn, fileOf}
 use Rattle.runs.specs.Listing.{lineOf, rows, lines, listingOf}
-use Rattle.runs.specs.Examples.{exampleFile, exampleListing}
+use Rattle.runs.specs.Examples.{exampleFile, exampleListing, readBackFile, readBackListing}
 
 pub example : listingOf exampleFile ≡ exampleListing
-unfolding listingOf fileOf sequenceIn words inputsIn rows lines lineOf numeral numeralIn tickBy checkOf checked read front commandOf distinct wellFormed everyLabel before labelsOf subset disjoint valid active expand decodeState encodeState encodeAnswer leNumber leBytes reactBy errorsBy member none only join insert remove
+unfolding listingOf fileOf sequenceIn readBackIn words inputsIn rows lines lineOf numeral numeralIn tickBy checkOf checked read front commandOf nesting declared membersFrom distinct wellFormed everyLabel before labelsOf subset disjoint valid active expand decodeState encodeState encodeAnswer leNumber leBytes reactBy errorsBy member none only join insert remove
 example = refl
+
+pub read-back : listingOf readBackFile ≡ readBackListing
+unfolding listingOf fileOf sequenceIn readBackIn words inputsIn rows lines lineOf numeral numeralIn tickBy checkOf checked read front commandOf nesting declared membersFrom distinct wellFormed everyLabel before labelsOf subset disjoint valid active expand decodeState encodeState encodeAnswer leNumber leBytes reactBy errorsBy member none only join insert remove
+read-back = refl

@@ -12,12 +12,16 @@ use lib.Dec.{eqb}
 use borrow.Author.Tests.{le-leb, lt-leb}
 use Rattle.sequence.specs.Check.{checkOf}
 use Rattle.numbers.specs.Bytes.{leNumber}
-use Rattle.runs.specs.File.{cut, refused, runs, byNumber, fileOf, sequenceLength, inputsAt, sequenceIn, words, inputsIn, first, whole}
+use Rattle.runs.specs.File.{File, cut, refused, runs, byNumber, fileOf, sequenceLength, inputsAt, sequenceIn, readBackIn, words, inputsIn, first, whole}
 
 -- ---- the length that a file names
 pub sequence-part : (file s : List ℕ) (n : ℕ) → n ≡ sequenceLength file → s ≡ take n (drop 2 file) → s ≡ sequenceIn file
 unfolding sequenceIn
 sequence-part file s n e h = h ∙ ap (λ (k : ℕ). take k (drop 2 file)) e
+
+pub read-back-part : (file : List ℕ) (x n : ℕ) → n ≡ sequenceLength file → x ≡ leNumber (take 4 (drop (2 + n) file)) → x ≡ readBackIn file
+unfolding readBackIn
+read-back-part file x n e h = h ∙ ap (λ (k : ℕ). leNumber (take 4 (drop (2 + k) file))) e
 
 -- ---- whole
 pub too-long : (file : List ℕ) → 65536 < length file → false ≡ whole file
@@ -26,15 +30,17 @@ too-long file h = rw (lt-leb (length file) 65536 h) refl
 pub too-short : (file : List ℕ) → length file ≤ 65536 → length file < 2 → false ≡ whole file
 too-short file a h = rw (le-leb (length file) 65536 a, lt-leb 2 (length file) h) refl
 
-pub ended-early : (file : List ℕ) (n : ℕ) → n ≡ sequenceLength file → length file ≤ 65536 → 2 ≤ length file → length file < 2 + n → false ≡ whole file
-ended-early file n e a b h =
-    let k : length file < inputsAt file = subst (λ (m : ℕ). length file < 2 + m) e h in
+-- the file ends before its inputs begin: within the sequence, or before or within the read-back set
+pub ended-early : (file : List ℕ) (at : ℕ) → at ≡ inputsAt file → length file ≤ 65536 → 2 ≤ length file → length file < at
+    → false ≡ whole file
+ended-early file at e a b h =
+    let k : length file < inputsAt file = subst (λ (m : ℕ). length file < m) e h in
     rw (le-leb (length file) 65536 a, le-leb 2 (length file) b, lt-leb (inputsAt file) (length file) k) refl
 
-pub bytes-over : (file : List ℕ) (n : ℕ) → n ≡ sequenceLength file → length file ≤ 65536 → 2 ≤ length file → 2 + n ≤ length file
-    → eqb ((length file - (2 + n)) % 4) 0 ≡ whole file
-bytes-over file n e a b h =
-    let k : inputsAt file ≤ length file = subst (λ (m : ℕ). 2 + m ≤ length file) e h in
+pub bytes-over : (file : List ℕ) (at : ℕ) → at ≡ inputsAt file → length file ≤ 65536 → 2 ≤ length file → at ≤ length file
+    → eqb ((length file - at) % 4) 0 ≡ whole file
+bytes-over file at e a b h =
+    let k : inputsAt file ≤ length file = subst (λ (m : ℕ). m ≤ length file) e h in
     rw (le-leb (length file) 65536 a, le-leb 2 (length file) b, le-leb (inputsAt file) (length file) k, e) refl
 
 -- ---- what the file is
@@ -42,21 +48,26 @@ pub file-cut : (file : List ℕ) → whole file ≡ false → cut ≡ fileOf fil
 unfolding fileOf
 file-cut file h = rw h refl
 
-file-whole : (file : List ℕ) → whole file ≡ true → fileOf file ≡ byNumber (checkOf (sequenceIn file)) (sequenceIn file) (inputsIn file)
+-- the file whose check gives the number n
+abbrev numbered : (n : ℕ) (file : List ℕ) → File
+numbered n file = byNumber n (sequenceIn file) (readBackIn file) (inputsIn file)
+
+file-numbered : (file : List ℕ) (n : ℕ) → whole file ≡ true → n ≡ checkOf (sequenceIn file) (readBackIn file) → fileOf file ≡ numbered n file
 unfolding fileOf
-file-whole file h = rw h refl
+file-numbered file n h e = rw (h, ← e) refl
 
-pub file-runs : (file : List ℕ) (n : ℕ) → whole file ≡ true → n ≡ checkOf (sequenceIn file) → n ≡ 0 → runs (sequenceIn file) (inputsIn file) ≡ fileOf file
-file-runs file n h e z =
-    sym (file-whole file h ∙ ap (λ (k : ℕ). byNumber k (sequenceIn file) (inputsIn file)) (sym e ∙ z))
+pub file-runs : (file : List ℕ) (n : ℕ) → whole file ≡ true → n ≡ checkOf (sequenceIn file) (readBackIn file) → n ≡ 0
+    → runs (sequenceIn file) (readBackIn file) (inputsIn file) ≡ fileOf file
+file-runs file n h e z = sym (file-numbered file n h e ∙ ap (λ (k : ℕ). numbered k file) z)
 
-by-number-refused : (n : ℕ) (s es : List ℕ) → n ≢ 0 → byNumber n s es ≡ refused n
-by-number-refused zero s es h = absurd (h refl)
-by-number-refused (suc n) s es h = refl
+by-number-refused : (n : ℕ) (s : List ℕ) (b : ℕ) (es : List ℕ) → n ≢ 0 → byNumber n s b es ≡ refused n
+by-number-refused zero s b es h = absurd (h refl)
+by-number-refused (suc n) s b es h = refl
 
-pub file-refused : (file : List ℕ) (n : ℕ) → whole file ≡ true → n ≡ checkOf (sequenceIn file) → n ≢ 0 → refused n ≡ fileOf file
+pub file-refused : (file : List ℕ) (n : ℕ) → whole file ≡ true → n ≡ checkOf (sequenceIn file) (readBackIn file) → n ≢ 0
+    → refused n ≡ fileOf file
 file-refused file n h e z =
-    sym (file-whole file h ∙ ap (λ (k : ℕ). byNumber k (sequenceIn file) (inputsIn file)) (sym e) ∙ by-number-refused n (sequenceIn file) (inputsIn file) z)
+    sym (file-numbered file n h e ∙ by-number-refused n (sequenceIn file) (readBackIn file) (inputsIn file) z)
 
 -- ---- inputs
 pub words-drop : (i : ℕ) (bs : List ℕ) → drop i (words bs) ≡ words (drop (4 * i) bs)
@@ -90,20 +101,19 @@ inputs-from : (file : List ℕ) (i : ℕ) → drop i (inputsIn file) ≡ words (
 unfolding inputsIn
 inputs-from file i = words-drop i (drop (inputsAt file) file) ∙ ap words (drop-drop (4 * i) (inputsAt file) file)
 
-pub no-input : (file : List ℕ) (i n : ℕ) → n ≡ sequenceLength file → length file < 2 + n + 4 * i + 4 → none ≡ first (drop i (inputsIn file))
-no-input file i n k h =
-    let at : 2 + n + 4 * i ≡ inputsAt file + 4 * i = ap (λ (m : ℕ). 2 + m + 4 * i) k in
+pub no-input : (file : List ℕ) (i at : ℕ) → at ≡ inputsAt file → length file < at + 4 * i + 4 → none ≡ first (drop i (inputsIn file))
+no-input file i at k h =
     sym
     (ap first (inputs-from file i)
-    ∙ words-none (drop (inputsAt file + 4 * i) file) (omega (arith, length-drop (inputsAt file + 4 * i) file, at)))
+    ∙ words-none (drop (inputsAt file + 4 * i) file) (omega (arith, length-drop (inputsAt file + 4 * i) file)))
 
-pub an-input : (file : List ℕ) (i n e : ℕ) → n ≡ sequenceLength file → e ≡ leNumber (take 4 (drop (2 + n + 4 * i) file)) → 2 + n + 4 * i + 4 ≤ length file
+pub an-input : (file : List ℕ) (i at e : ℕ) → at ≡ inputsAt file → e ≡ leNumber (take 4 (drop (at + 4 * i) file))
+    → at + 4 * i + 4 ≤ length file
     → some e ≡ first (drop i (inputsIn file))
-an-input file i n e k v h =
-    let at : 2 + n + 4 * i ≡ inputsAt file + 4 * i = ap (λ (m : ℕ). 2 + m + 4 * i) k in
-    let v′ : e ≡ leNumber (take 4 (drop (inputsAt file + 4 * i) file)) = v ∙ ap (λ (m : ℕ). leNumber (take 4 (drop m file))) at in
+an-input file i at e k v h =
+    let v′ : e ≡ leNumber (take 4 (drop (inputsAt file + 4 * i) file)) = v ∙ ap (λ (m : ℕ). leNumber (take 4 (drop (m + 4 * i) file))) k in
     ap some v′
-    ∙ sym (ap first (inputs-from file i) ∙ words-first (drop (inputsAt file + 4 * i) file) (omega (arith, length-drop (inputsAt file + 4 * i) file, at)))
+    ∙ sym (ap first (inputs-from file i) ∙ words-first (drop (inputsAt file + 4 * i) file) (omega (arith, length-drop (inputsAt file + 4 * i) file)))
 
 -- ---- the input that i others precede
 pub input-next : (i e : ℕ) (ws : List ℕ) → first (drop i ws) ≡ some e → drop i ws ≡ e ∷ drop (suc i) ws

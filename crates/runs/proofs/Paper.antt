@@ -14,6 +14,7 @@ use Rattle.esterel.specs.Reaction.{ended, waiting, leaving, wrong, Reaction, gi
 use Rattle.esterel.specs.Errors.{Error, noError, firstError, blame}
 use Rattle.esterel.specs.States.{NoSetpause}
 use Rattle.esterel.specs.Machines.{Seen, Rewriting, seen, termAfter, byRewriting, run}
+use Rattle.sequence.specs.Program.{program}
 use Rattle.sequence.specs.Check.{checkOf}
 use Rattle.sequence.specs.Rows.{Spells}
 use Rattle.records.specs.Records.{answerLength, phaseIn, codeIn, kindIn, placeIn, emittedIn, codeByte}
@@ -22,7 +23,7 @@ use Rattle.demands.specs.Paper.{Call, Report, reacted, reportOf, paper}
 use Rattle.demands.specs.Demands.{stateAfterwards, cleared, report, outcomes}
 use Rattle.demands.proofs.Agreement.{demand-3}
 use Rattle.runs.specs.Text.{heading, ending}
-use Rattle.runs.specs.File.{cut, runs, byNumber, fileOf, whole, sequenceIn, inputsIn}
+use Rattle.runs.specs.File.{cut, runs, byNumber, fileOf, whole, sequenceIn, readBackIn, inputsIn}
 use Rattle.runs.specs.Listing.{Row, rowOf, isOver, ticked, rows, lines, listed, listingOf}
 use Rattle.runs.specs.Paper.{Columns, columns, instants, paperColumns}
 
@@ -52,78 +53,83 @@ row-columns i code x emitted phase state answer h =
     let o : emittedIn answer ≡ emitted = cc in
     rw (c, k, a, o)
 
-last-row : (i code : ℕ) (x : Error) (emitted : ℕ) (state answer s es : List ℕ)
+last-row : (i code : ℕ) (x : Error) (emitted : ℕ) (state answer s : List ℕ) (b : ℕ) (es : List ℕ)
     → report (outcome 0 state answer) ≡ reports code x emitted 2
-    → map columns (rowOf i (outcome 0 state answer) ∷ cond (isOver state) [] (rows s state (suc i) es))
+    → map columns (rowOf i (outcome 0 state answer) ∷ cond (isOver state) [] (rows s b state (suc i) es))
     ≡ shownAt i code x emitted ∷ instants (suc i) (run byRewriting Rewriting.over es)
-last-row i code x emitted state answer s es h =
+last-row i code x emitted state answer s b es h =
     let p : phaseIn state ≡ 2 = cc in
     rw (eq-eqb (phaseIn state) 2 p, over-shows-none (suc i) es) (ap (λ (y : Columns). y ∷ []) (row-columns i code x emitted 2 state answer h))
 
-later-row : (i code : ℕ) (x : Error) (emitted : ℕ) (state answer s es : List ℕ) (later : List Columns)
+later-row : (i code : ℕ) (x : Error) (emitted : ℕ) (state answer s : List ℕ) (b : ℕ) (es : List ℕ) (later : List Columns)
     → report (outcome 0 state answer) ≡ reports code x emitted 1
-    → map columns (rows s state (suc i) es) ≡ later
-    → map columns (rowOf i (outcome 0 state answer) ∷ cond (isOver state) [] (rows s state (suc i) es))
+    → map columns (rows s b state (suc i) es) ≡ later
+    → map columns (rowOf i (outcome 0 state answer) ∷ cond (isOver state) [] (rows s b state (suc i) es))
     ≡ shownAt i code x emitted ∷ later
-later-row i code x emitted state answer s es later h q =
+later-row i code x emitted state answer s b es later h q =
     let p : phaseIn state ≡ 1 = cc in
     let n : phaseIn state ≢ 2 = λ z. absurd (let w : _≡_ {A = ℕ} 1 2 = sym p ∙ z in omega arith) in
     rw (ne-eqb (phaseIn state) 2 n) (ap₂ (λ (y : Columns) (ys : List Columns). y ∷ ys) (row-columns i code x emitted 1 state answer h) q)
 
 -- a reaction with the first error of its tree, and the tick that reports it
-instant-columns : (r : Reaction) (x : Option Error) (o : Outcome) (i : ℕ) (s es : List ℕ) → report o ≡ reportOf (seen r x)
+instant-columns : (r : Reaction) (x : Option Error) (o : Outcome) (i : ℕ) (s : List ℕ) (b : ℕ) (es : List ℕ) → report o ≡ reportOf (seen r x)
     → ((t : Statement) → termAfter r ≡ Rewriting.waits t
-    → map columns (rows s (stateAfterwards o) (suc i) es) ≡ instants (suc i) (run byRewriting (Rewriting.waits t) es))
-    → map columns (rowOf i o ∷ cond (isOver (stateAfterwards o)) [] (rows s (stateAfterwards o) (suc i) es))
+    → map columns (rows s b (stateAfterwards o) (suc i) es) ≡ instants (suc i) (run byRewriting (Rewriting.waits t) es))
+    → map columns (rowOf i o ∷ cond (isOver (stateAfterwards o)) [] (rows s b (stateAfterwards o) (suc i) es))
     ≡ instants i (seen r x ∷ run byRewriting (termAfter r) es)
 unfolding instants
-instant-columns (gives o ended l t) x (outcome zero state answer) i s es h later = last-row i 0 noError o state answer s es h
-instant-columns (gives o waiting l t) x (outcome zero state answer) i s es h later =
-    later-row i 1 noError o state answer s es (instants (suc i) (run byRewriting (Rewriting.waits t) es)) h (later t refl)
-instant-columns (gives o (leaving n) l t) x (outcome zero state answer) i s es h later =
-    last-row i (codeByte (leaving n)) noError o state answer s es h
-instant-columns (gives o wrong l t) x (outcome zero state answer) i s es h later =
-    last-row i 255 (blame wrong x) none state answer s es h
-instant-columns (gives o k l t) x (outcome (suc n) state answer) i s es h later = absurd (let z : _≡_ {A = ℕ} 0 1 = cc in omega arith)
+instant-columns (gives o ended l t) x (outcome zero state answer) i s b es h later = last-row i 0 noError o state answer s b es h
+instant-columns (gives o waiting l t) x (outcome zero state answer) i s b es h later =
+    later-row i 1 noError o state answer s b es (instants (suc i) (run byRewriting (Rewriting.waits t) es)) h (later t refl)
+instant-columns (gives o (leaving n) l t) x (outcome zero state answer) i s b es h later =
+    last-row i (codeByte (leaving n)) noError o state answer s b es h
+instant-columns (gives o wrong l t) x (outcome zero state answer) i s b es h later =
+    last-row i 255 (blame wrong x) none state answer s b es h
+instant-columns (gives o k l t) x (outcome (suc n) state answer) i s b es h later = absurd (let z : _≡_ {A = ℕ} 0 1 = cc in omega arith)
 
 -- ---- all instants, from a machine that stands at t
-follow : (s es state : List ℕ) (t : Statement) (i : ℕ) (w : Rewriting)
+follow : (s : List ℕ) (b : ℕ) (es state : List ℕ) (t : Statement) (i : ℕ) (w : Rewriting)
     → ((e : ℕ) → byRewriting w e ≡ (seen (react t e) (firstError t e), termAfter (react t e)))
-    → map report (outcomes tickOf s state (callsOf es)) ≡ paper w (callsOf es)
-    → map columns (rows s state i es) ≡ instants i (run byRewriting w es)
+    → map report (outcomes tickOf s b state (callsOf es)) ≡ paper w (callsOf es)
+    → map columns (rows s b state i es) ≡ instants i (run byRewriting w es)
 unfolding rows run outcomes paper instants
-follow s [] state t i w steps h = refl
-follow s (e ∷ es) state t i w steps h =
-    let o : Outcome = ticked s state e in
+follow s b [] state t i w steps h = refl
+follow s b (e ∷ es) state t i w steps h =
+    let o : Outcome = ticked s b state e in
     let now-seen : report o ≡ reportOf (byRewriting w e .0) = cc in
-    let later : map report (outcomes tickOf s (stateAfterwards o) (callsOf es)) ≡ paper (byRewriting w e .1) (callsOf es) = cc in
-    instant-columns (react t e) (firstError t e) o i s es (now-seen ∙ ap (λ (x : Seen × Rewriting). reportOf (x .0)) (steps e))
+    let later : map report (outcomes tickOf s b (stateAfterwards o) (callsOf es)) ≡ paper (byRewriting w e .1) (callsOf es) = cc in
+    instant-columns (react t e) (firstError t e) o i s b es (now-seen ∙ ap (λ (x : Seen × Rewriting). reportOf (x .0)) (steps e))
     (λ t′ q.
-    follow s es (stateAfterwards o) t′ (suc i) (Rewriting.waits t′) (λ e′. refl)
+    follow s b es (stateAfterwards o) t′ (suc i) (Rewriting.waits t′) (λ e′. refl)
     (later ∙ ap (λ (x : Seen × Rewriting). paper (x .1) (callsOf es)) (steps e) ∙ ap (λ (v : Rewriting). paper v (callsOf es)) q))
     ∙ ap (λ (x : Seen × Rewriting). instants i (x .0 ∷ run byRewriting (x .1) es)) (sym (steps e))
 
-rows-by-paper : (sequence inputs : List ℕ) → checkOf sequence ≡ 0 → (p : Statement) → Spells sequence p → NoSetpause p
-    → map columns (rows sequence cleared 1 inputs) ≡ paperColumns p inputs
-rows-by-paper sequence inputs h p s plain =
-    follow sequence inputs cleared p 1 (Rewriting.fresh p) (λ e. refl) (demand-3 sequence h p s plain (callsOf inputs))
+rows-by-paper : (sequence : List ℕ) (readBack : ℕ) (inputs : List ℕ) → checkOf sequence readBack ≡ 0
+    → (p : Statement) → Spells sequence p → NoSetpause p
+    → map columns (rows sequence readBack cleared 1 inputs) ≡ paperColumns (program readBack p) inputs
+rows-by-paper sequence readBack inputs h p s plain =
+    let q : Statement = program readBack p in
+    follow sequence readBack inputs cleared q 1 (Rewriting.fresh q) (λ e. refl)
+    (demand-3 sequence readBack h p s plain (callsOf inputs))
 
--- a file that runs holds an accepted sequence
-accepted : (b : Bool) (n : ℕ) (s es s′ es′ : List ℕ) → cond b (byNumber n s es) cut ≡ runs s′ es′ → (n ≡ 0) × (s ≡ s′)
-accepted true zero s es s′ es′ h = (refl, cc)
-accepted true (suc n) s es s′ es′ h = absurd (let z : _≡_ {A = ℕ} 0 1 = cc in omega arith)
-accepted false n s es s′ es′ h = absurd (let z : _≡_ {A = ℕ} 0 1 = cc in omega arith)
+-- a file that runs holds a sequence that is accepted with its read-back set
+accepted : (w : Bool) (n : ℕ) (s : List ℕ) (b : ℕ) (es s′ : List ℕ) (b′ : ℕ) (es′ : List ℕ)
+    → cond w (byNumber n s b es) cut ≡ runs s′ b′ es′ → (n ≡ 0) × (s ≡ s′) × (b ≡ b′)
+accepted true zero s b es s′ b′ es′ h = (refl, cc, cc)
+accepted true (suc n) s b es s′ b′ es′ h = absurd (let z : _≡_ {A = ℕ} 0 1 = cc in omega arith)
+accepted false n s b es s′ b′ es′ h = absurd (let z : _≡_ {A = ℕ} 0 1 = cc in omega arith)
 
-file-accepted : (file s es : List ℕ) → fileOf file ≡ runs s es → checkOf s ≡ 0
+file-accepted : (file s : List ℕ) (b : ℕ) (es : List ℕ) → fileOf file ≡ runs s b es → checkOf s b ≡ 0
 unfolding fileOf
-file-accepted file s es h =
-    let a = accepted (whole file) (checkOf (sequenceIn file)) (sequenceIn file) (inputsIn file) s es h in
-    ap checkOf (sym (a .1)) ∙ a .0
+file-accepted file s b es h =
+    let a = accepted (whole file) (checkOf (sequenceIn file) (readBackIn file)) (sequenceIn file) (readBackIn file) (inputsIn file) s b es h in
+    ap₂ checkOf (sym (a .1)) (sym (a .2)) ∙ a .0
 
 -- what the run program prints: a heading, rows that are the machine's in every field but the labels, and the end
-pub listing-by-paper : (file sequence inputs : List ℕ) → fileOf file ≡ runs sequence inputs
+pub listing-by-paper : (file sequence : List ℕ) (readBack : ℕ) (inputs : List ℕ) → fileOf file ≡ runs sequence readBack inputs
     → (p : Statement) → Spells sequence p → NoSetpause p
-    → (rs : List Row) × (listingOf file ≡ heading ++ (lines rs ++ ending)) × (map columns rs ≡ paperColumns p inputs)
+    → (rs : List Row) × (listingOf file ≡ heading ++ (lines rs ++ ending)) × (map columns rs ≡ paperColumns (program readBack p) inputs)
 unfolding listingOf
-listing-by-paper file sequence inputs h p s plain =
-    (rows sequence cleared 1 inputs, ap listed h, rows-by-paper sequence inputs (file-accepted file sequence inputs h) p s plain)
+listing-by-paper file sequence readBack inputs h p s plain =
+    let accepted : checkOf sequence readBack ≡ 0 = file-accepted file sequence readBack inputs h in
+    (rows sequence readBack cleared 1 inputs, ap listed h, rows-by-paper sequence readBack inputs accepted p s plain)

@@ -1,18 +1,19 @@
 -- The theorems of this crate: the pieces of a run are the listing of its file, a listing shows what the machine by rewriting
--- shows, and 01's example.
+-- shows, 01's example, and one with a read-back set.
 use Prim.Native.Nat.{ℕ, _+_, _≤_}
 use mathlib.Core.Path.{_≡_}
 use mathlib.Core.List.{List, _++_, map}
 use lib.ListN.{length}
 use Rattle.esterel.specs.Statement.{Statement}
 use Rattle.esterel.specs.States.{NoSetpause}
+use Rattle.sequence.specs.Program.{program}
 use Rattle.sequence.specs.Rows.{Spells}
 use Rattle.runs.specs.Text.{heading, ending}
 use Rattle.runs.specs.File.{runs, fileOf}
 use Rattle.runs.specs.Listing.{Row, lines, listingOf}
 use Rattle.runs.specs.Stages.{opening, turns}
 use Rattle.runs.specs.Paper.{columns, paperColumns}
-use Rattle.runs.specs.Examples.{exampleFile, exampleListing}
+use Rattle.runs.specs.Examples.{exampleFile, exampleListing, readBackFile, readBackListing}
 use Rattle.runs.proofs.Turns as all
 use Rattle.runs.proofs.Paper as paper
 use Rattle.runs.proofs.Examples as examples
@@ -21,11 +22,16 @@ use Rattle.runs.proofs.Examples as examples
 pub turns-list : (file : List ℕ) (n : ℕ) → length file + 2 ≤ n → turns n (opening file) ≡ listingOf file
 turns-list = all.turns-list
 
--- for a sequence without setpause: a heading, rows that are the machine's in every field but the labels, and the end
-pub listing-by-paper : (file sequence inputs : List ℕ) → fileOf file ≡ runs sequence inputs
+-- for a sequence without setpause: a heading, rows that are the machine's in every field but the labels, and the end; the
+-- machine is fed the sequence under the declarations of its read-back set
+pub listing-by-paper : (file sequence : List ℕ) (readBack : ℕ) (inputs : List ℕ) → fileOf file ≡ runs sequence readBack inputs
     → (p : Statement) → Spells sequence p → NoSetpause p
-    → (rs : List Row) × (listingOf file ≡ heading ++ (lines rs ++ ending)) × (map columns rs ≡ paperColumns p inputs)
+    → (rs : List Row) × (listingOf file ≡ heading ++ (lines rs ++ ending)) × (map columns rs ≡ paperColumns (program readBack p) inputs)
 listing-by-paper = paper.listing-by-paper
 
 pub example : listingOf exampleFile ≡ exampleListing
 example = examples.example
+
+-- a signal that is read back is seen by a test behind its emission, and reported
+pub read-back-example : listingOf readBackFile ≡ readBackListing
+read-back-example = examples.read-back

@@ -9,7 +9,7 @@ use lib.ListN.{length}
 use Rattle.demands.specs.Demands.{stateAfterwards}
 use Rattle.runs.specs.Text.{ending}
 use Rattle.sequence.specs.Check.{checkOf}
-use Rattle.runs.specs.File.{File, cut, refused, runs, byNumber, fileOf, whole, sequenceIn, inputsIn}
+use Rattle.runs.specs.File.{File, cut, refused, runs, byNumber, fileOf, whole, sequenceIn, readBackIn, inputsIn}
 use Rattle.runs.specs.Listing.{rowOf, lineOf, ticked, isOver, rows, lines, listed, listingOf}
 use Rattle.runs.specs.Stages.{Stage, opening, running, closing, finished, opened, turnOf, turns}
 use Rattle.runs.proofs.Files.{inputs-length}
@@ -17,7 +17,7 @@ use Rattle.runs.proofs.Files.{inputs-length}
 -- the text still to come
 abbrev rest : Stage → List ℕ
 rest (opening file) = listed (fileOf file)
-rest (running s state i es) = lines (rows s state i es) ++ ending
+rest (running s b state i es) = lines (rows s b state i es) ++ ending
 rest closing = ending
 rest finished = []
 
@@ -25,11 +25,11 @@ rest finished = []
 abbrev leftIn : File → ℕ
 leftIn cut = 0
 leftIn (refused number) = 0
-leftIn (runs s es) = suc (length es)
+leftIn (runs s b es) = suc (length es)
 
 abbrev left : Stage → ℕ
 left (opening file) = suc (leftIn (fileOf file))
-left (running s state i es) = suc (length es)
+left (running s b state i es) = suc (length es)
 left closing = 1
 left finished = 0
 
@@ -37,40 +37,41 @@ left finished = 0
 opened-text : (f : File) → listed f ≡ opened f .text ++ rest (opened f .next)
 opened-text cut = sym (append-nil _)
 opened-text (refused number) = sym (append-nil _)
-opened-text (runs s es) = refl
+opened-text (runs s b es) = refl
 
 opened-left : (f : File) (n : ℕ) → leftIn f ≤ n → left (opened f .next) ≤ n
 opened-left cut n h = h
 opened-left (refused number) n h = h
-opened-left (runs s es) n h = h
+opened-left (runs s b es) n h = h
 
-over-or-on : (b : Bool) (s state : List ℕ) (i : ℕ) (es : List ℕ)
-    → lines (cond b [] (rows s state i es)) ++ ending ≡ rest (cond b closing (running s state i es))
+over-or-on : (over : Bool) (s : List ℕ) (b : ℕ) (state : List ℕ) (i : ℕ) (es : List ℕ)
+    → lines (cond over [] (rows s b state i es)) ++ ending ≡ rest (cond over closing (running s b state i es))
 unfolding lines
-over-or-on true s state i es = refl
-over-or-on false s state i es = refl
+over-or-on true s b state i es = refl
+over-or-on false s b state i es = refl
 
-over-or-left : (b : Bool) (s state : List ℕ) (i : ℕ) (es : List ℕ) (n : ℕ) → suc (length es) ≤ n → left (cond b closing (running s state i es)) ≤ n
-over-or-left true s state i es n h = omega arith
-over-or-left false s state i es n h = h
+over-or-left : (over : Bool) (s : List ℕ) (b : ℕ) (state : List ℕ) (i : ℕ) (es : List ℕ) (n : ℕ) → suc (length es) ≤ n
+    → left (cond over closing (running s b state i es)) ≤ n
+over-or-left true s b state i es n h = omega arith
+over-or-left false s b state i es n h = h
 
 turn-text : (g : Stage) → rest g ≡ turnOf g .text ++ rest (turnOf g .next)
 unfolding turnOf rows lines
 turn-text (opening file) = opened-text (fileOf file)
-turn-text (running s state i []) = sym (append-nil ending)
-turn-text (running s state i (e ∷ es)) =
-    let o = ticked s state e in
-    append-assoc (lineOf (rowOf i o)) (lines (cond (isOver (stateAfterwards o)) [] (rows s (stateAfterwards o) (suc i) es))) ending
-    ∙ ap (λ (t : List ℕ). lineOf (rowOf i o) ++ t) (over-or-on (isOver (stateAfterwards o)) s (stateAfterwards o) (suc i) es)
+turn-text (running s b state i []) = sym (append-nil ending)
+turn-text (running s b state i (e ∷ es)) =
+    let o = ticked s b state e in
+    append-assoc (lineOf (rowOf i o)) (lines (cond (isOver (stateAfterwards o)) [] (rows s b (stateAfterwards o) (suc i) es))) ending
+    ∙ ap (λ (t : List ℕ). lineOf (rowOf i o) ++ t) (over-or-on (isOver (stateAfterwards o)) s b (stateAfterwards o) (suc i) es)
 turn-text closing = sym (append-nil ending)
 turn-text finished = refl
 
 turn-left : (g : Stage) (n : ℕ) → left g ≤ suc n → left (turnOf g .next) ≤ n
 unfolding turnOf
 turn-left (opening file) n h = opened-left (fileOf file) n (omega arith)
-turn-left (running s state i []) n h = omega arith
-turn-left (running s state i (e ∷ es)) n h =
-    let o = ticked s state e in over-or-left (isOver (stateAfterwards o)) s (stateAfterwards o) (suc i) es n (omega arith)
+turn-left (running s b state i []) n h = omega arith
+turn-left (running s b state i (e ∷ es)) n h =
+    let o = ticked s b state e in over-or-left (isOver (stateAfterwards o)) s b (stateAfterwards o) (suc i) es n (omega arith)
 turn-left closing n h = omega arith
 turn-left finished n h = omega arith
 
@@ -78,23 +79,24 @@ turn-left finished n h = omega arith
 all-turns : (n : ℕ) (g : Stage) → left g ≤ n → turns n g ≡ rest g
 unfolding turns
 all-turns zero (opening file) h = absurd (not-suc-le-zero h)
-all-turns zero (running s state i es) h = absurd (not-suc-le-zero h)
+all-turns zero (running s b state i es) h = absurd (not-suc-le-zero h)
 all-turns zero closing h = absurd (not-suc-le-zero h)
 all-turns zero finished h = refl
 all-turns (suc n) g h =
     ap (λ (t : List ℕ). turnOf g .text ++ t) (all-turns n (turnOf g .next) (turn-left g n h)) ∙ sym (turn-text g)
 
-by-check : (n : ℕ) (file : List ℕ) → leftIn (byNumber n (sequenceIn file) (inputsIn file)) ≤ suc (length file)
+by-check : (n : ℕ) (file : List ℕ) → leftIn (byNumber n (sequenceIn file) (readBackIn file) (inputsIn file)) ≤ suc (length file)
 by-check zero file = omega (arith, inputs-length file)
 by-check (suc n) file = omega arith
 
-by-file : (b : Bool) (n : ℕ) (file : List ℕ) → leftIn (cond b (byNumber n (sequenceIn file) (inputsIn file)) cut) ≤ suc (length file)
+by-file : (b : Bool) (n : ℕ) (file : List ℕ)
+    → leftIn (cond b (byNumber n (sequenceIn file) (readBackIn file) (inputsIn file)) cut) ≤ suc (length file)
 by-file true n file = by-check n file
 by-file false n file = omega arith
 
 left-at-first : (file : List ℕ) → leftIn (fileOf file) ≤ suc (length file)
 unfolding fileOf
-left-at-first file = by-file (whole file) (checkOf (sequenceIn file)) file
+left-at-first file = by-file (whole file) (checkOf (sequenceIn file) (readBackIn file)) file
 
 -- as many turns as the file has bytes, and two, give the whole listing
 pub turns-list : (file : List ℕ) (n : ℕ) → length file + 2 ≤ n → turns n (opening file) ≡ listingOf file

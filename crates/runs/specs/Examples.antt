@@ -1,4 +1,5 @@
--- 01's example of a run (01, 'Bays to run'): 08 00 04 02 00 04 01 01 02 01 and eight bytes 00.
+-- 01's example of a run (01, 'Bays to run'; 02, item 5): 08 00 04 02 00 04 01 01 02 01 and twelve bytes 00; and one with a
+-- read-back set.
 use Prim.Native.Nat.{ℕ}
 use mathlib.Core.List.{List, [], _∷_, _++_}
 use Rattle.runs.specs.Text.{heading, ending}
@@ -6,7 +7,7 @@ use Rattle.runs.specs.Text.{heading, ending}
 abbrev pub exampleFile : List ℕ
 exampleFile =
     0x0A ∷ 0x00 ∷ 0x08 ∷ 0x00 ∷ 0x04 ∷ 0x02 ∷ 0x00 ∷ 0x04 ∷ 0x01 ∷ 0x01 ∷ 0x02 ∷ 0x01 ∷ 0x00 ∷ 0x00 ∷ 0x00 ∷ 0x00 ∷ 0x00
-    ∷ 0x00 ∷ 0x00 ∷ 0x00 ∷ []
+    ∷ 0x00 ∷ 0x00 ∷ 0x00 ∷ 0x00 ∷ 0x00 ∷ 0x00 ∷ 0x00 ∷ []
 
 -- 1 1 0 0 00000000 0000000000000002
 abbrev pub firstLine : List ℕ
@@ -22,3 +23,18 @@ secondLine =
 
 abbrev pub exampleListing : List ℕ
 exampleListing = heading ++ (firstLine ++ (secondLine ++ ending))
+
+-- emit 0; present 0 then emit 1: the read-back set is signal 0, the input of the only instant is empty
+abbrev pub readBackFile : List ℕ
+readBackFile =
+    0x08 ∷ 0x00 ∷ 0x04 ∷ 0x02 ∷ 0x00 ∷ 0x07 ∷ 0x00 ∷ 0x02 ∷ 0x01 ∷ 0x00 ∷ 0x01 ∷ 0x00 ∷ 0x00 ∷ 0x00 ∷ 0x00 ∷ 0x00 ∷ 0x00
+    ∷ 0x00 ∷ []
+
+-- 1 0 0 0 00000003 0000000000000000
+abbrev pub readBackLine : List ℕ
+readBackLine =
+    0x31 ∷ 0x20 ∷ 0x30 ∷ 0x20 ∷ 0x30 ∷ 0x20 ∷ 0x30 ∷ 0x20 ∷ 0x30 ∷ 0x30 ∷ 0x30 ∷ 0x30 ∷ 0x30 ∷ 0x30 ∷ 0x30 ∷ 0x33 ∷ 0x20
+    ∷ 0x30 ∷ 0x30 ∷ 0x30 ∷ 0x30 ∷ 0x30 ∷ 0x30 ∷ 0x30 ∷ 0x30 ∷ 0x30 ∷ 0x30 ∷ 0x30 ∷ 0x30 ∷ 0x30 ∷ 0x30 ∷ 0x30 ∷ 0x30 ∷ 0x0A ∷ []
+
+abbrev pub readBackListing : List ℕ
+readBackListing = heading ++ (readBackLine ++ ending)

@@ -1,4 +1,5 @@
--- The file of a run (01, 'Bays to run'): the sequence's length in 2 bytes, the sequence, then 4 bytes an instant.
+-- The file of a run (01, 'Bays to run'; 02, item 5): the sequence's length in 2 bytes, the sequence, the read-back set in 4 bytes,
+-- then 4 bytes an instant.
 use Prim.Native.Nat.{ℕ, zero, suc, _+_, _-_, _%_}
 use mathlib.Core.Bool.{Bool, _&&_, cond}
 use mathlib.Core.Option.{Option, none, some}
@@ -19,12 +20,19 @@ maxFile = 65536
 abbrev pub sequenceLength : List ℕ → ℕ
 sequenceLength file = leNumber (take lengthBytes file)
 
+-- where the read-back set begins
+abbrev pub readBackAt : List ℕ → ℕ
+readBackAt file = lengthBytes + sequenceLength file
+
 -- where the inputs begin
 abbrev pub inputsAt : List ℕ → ℕ
-inputsAt file = lengthBytes + sequenceLength file
+inputsAt file = readBackAt file + signalBytes
 
 unfoldable pub sequenceIn : List ℕ → List ℕ
 sequenceIn file = take (sequenceLength file) (drop lengthBytes file)
+
+unfoldable pub readBackIn : List ℕ → ℕ
+readBackIn file = leNumber (take signalBytes (drop (readBackAt file) file))
 
 -- the numbers of 4 bytes each
 unfoldable pub words : List ℕ → List ℕ
@@ -50,12 +58,15 @@ whole file =
 pub data File : Type 0 where
   cut : File
   refused : (number : ℕ) → File
-  runs : (sequence inputs : List ℕ) → File
+  runs : (sequence : List ℕ) (readBack : ℕ) (inputs : List ℕ) → File
 
 -- the check's number decides
-abbrev pub byNumber : (number : ℕ) (sequence inputs : List ℕ) → File
-byNumber zero sequence inputs = runs sequence inputs
-byNumber (suc n) sequence inputs = refused (suc n)
+abbrev pub byNumber : (number : ℕ) (sequence : List ℕ) (readBack : ℕ) (inputs : List ℕ) → File
+byNumber zero sequence readBack inputs = runs sequence readBack inputs
+byNumber (suc n) sequence readBack inputs = refused (suc n)
 
 unfoldable pub fileOf : List ℕ → File
-fileOf file = cond (whole file) (byNumber (checkOf (sequenceIn file)) (sequenceIn file) (inputsIn file)) cut
+fileOf file =
+    cond (whole file)
+    (byNumber (checkOf (sequenceIn file) (readBackIn file)) (sequenceIn file) (readBackIn file) (inputsIn file))
+    cut

@@ -54,15 +54,15 @@ abbrev pub isOver : List ℕ → Bool
 isOver state = eqb (phaseIn state) 2
 
 -- a tick with an answer buffer of zeros
-abbrev pub ticked : (sequence state : List ℕ) (input : ℕ) → Outcome
-ticked sequence state e = tickOf sequence state e (replicate answerLength 0)
+abbrev pub ticked : (sequence : List ℕ) (readBack : ℕ) (state : List ℕ) (input : ℕ) → Outcome
+ticked sequence readBack state e = tickOf sequence state e readBack (replicate answerLength 0)
 
--- an instant for each input, up to the one that ends the machine
-unfoldable pub rows : (sequence state : List ℕ) (instant : ℕ) (inputs : List ℕ) → List Row
-rows sequence state i [] = []
-rows sequence state i (e ∷ es) =
-    let o = ticked sequence state e in
-    rowOf i o ∷ cond (isOver (stateAfterwards o)) [] (rows sequence (stateAfterwards o) (suc i) es)
+-- an instant for each input, up to the one that ends the machine; the read-back set is the same in all
+unfoldable pub rows : (sequence : List ℕ) (readBack : ℕ) (state : List ℕ) (instant : ℕ) (inputs : List ℕ) → List Row
+rows sequence readBack state i [] = []
+rows sequence readBack state i (e ∷ es) =
+    let o = ticked sequence readBack state e in
+    rowOf i o ∷ cond (isOver (stateAfterwards o)) [] (rows sequence readBack (stateAfterwards o) (suc i) es)
 
 unfoldable pub lines : List Row → List ℕ
 lines [] = []
@@ -71,7 +71,7 @@ lines (r ∷ rs) = lineOf r ++ lines rs
 abbrev pub listed : File → List ℕ
 listed cut = inputCut
 listed (refused number) = refusal number
-listed (runs sequence inputs) = heading ++ (lines (rows sequence cleared 1 inputs) ++ ending)
+listed (runs sequence readBack inputs) = heading ++ (lines (rows sequence readBack cleared 1 inputs) ++ ending)
 
 unfoldable pub listingOf : List ℕ → List ℕ
 listingOf file = listed (fileOf file)

@@ -9,13 +9,13 @@ use Rattle.runs.specs.Listing.{lineOf, rowOf, ticked, isOver}
 
 pub data Stage : Type 0 where
   opening : (file : List ℕ) → Stage
-  running : (sequence state : List ℕ) (instant : ℕ) (inputs : List ℕ) → Stage
+  running : (sequence : List ℕ) (readBack : ℕ) (state : List ℕ) (instant : ℕ) (inputs : List ℕ) → Stage
   closing : Stage
   finished : Stage
 
 abbrev pub isFinished : Stage → Bool
 isFinished (opening file) = false
-isFinished (running sequence state i inputs) = false
+isFinished (running sequence readBack state i inputs) = false
 isFinished closing = false
 isFinished finished = true
 
@@ -29,14 +29,14 @@ turn text next = record { text = text; next = next }
 abbrev pub opened : File → Turn
 opened cut = turn inputCut finished
 opened (refused number) = turn (refusal number) finished
-opened (runs sequence inputs) = turn heading (running sequence cleared 1 inputs)
+opened (runs sequence readBack inputs) = turn heading (running sequence readBack cleared 1 inputs)
 
 unfoldable pub turnOf : Stage → Turn
 turnOf (opening file) = opened (fileOf file)
-turnOf (running sequence state i []) = turn ending finished
-turnOf (running sequence state i (e ∷ es)) =
-    let o = ticked sequence state e in
-    turn (lineOf (rowOf i o)) (cond (isOver (stateAfterwards o)) closing (running sequence (stateAfterwards o) (suc i) es))
+turnOf (running sequence readBack state i []) = turn ending finished
+turnOf (running sequence readBack state i (e ∷ es)) =
+    let o = ticked sequence readBack state e in
+    turn (lineOf (rowOf i o)) (cond (isOver (stateAfterwards o)) closing (running sequence readBack (stateAfterwards o) (suc i) es))
 turnOf closing = turn ending finished
 turnOf finished = turn [] finished
 

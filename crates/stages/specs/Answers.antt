@@ -4,7 +4,7 @@ use mathlib.Core.Bool.{cond}
 use mathlib.Core.List.{List}
 use lib.ListN.{drop}
 use lib.Dec.{eqb}
-use Rattle.runs.specs.File.{sequenceIn, inputsIn}
+use Rattle.runs.specs.File.{sequenceIn, readBackIn, inputsIn}
 use Rattle.runs.specs.Stages as Listing
 use Rattle.stages.specs.declared.Stage.{Stage}
 use Rattle.stages.specs.declared.Stage.the-variants as stages
@@ -13,7 +13,7 @@ use Rattle.stages.specs.declared.Run.{Run}
 -- an instant's number is one more than the inputs before it
 abbrev pub stageBy : List ℕ → Stage → (state : List ℕ) → Listing.Stage
 stageBy file stages.Opening state = Listing.opening file
-stageBy file (stages.Running i) state = Listing.running (sequenceIn file) state (suc i) (drop i (inputsIn file))
+stageBy file (stages.Running i) state = Listing.running (sequenceIn file) (readBackIn file) state (suc i) (drop i (inputsIn file))
 stageBy file stages.Closing state = Listing.closing
 stageBy file stages.Finished state = Listing.finished
 
