@@ -1,8 +1,8 @@
-// The file of a run: length, sequence, inputs.
+// The file of a run: length, sequence, read-back set, inputs.
 ghost use Prim.Native.Nat.{_<_};
 ghost use mathlib.Core.Path.{_≡_};
 ghost use lib.ListN.{drop};
-ghost use Rattle.runs.specs.File.{sequenceLength, sequenceIn, inputsIn, first, whole};
+ghost use Rattle.runs.specs.File.{sequenceLength, inputsAt, sequenceIn, readBackIn, inputsIn, first, whole};
 ghost use Rattle.files.specs.Answers.{inputBy};
 use limits::SIGNAL_BYTES;
 
@@ -31,6 +31,22 @@ pub fn sequence(file: &[u8]) -> &[u8]
     numbers::part(file, LENGTH_BYTES, sequence_length(file))
 }
 
+// The set of read-back signals, which stands behind the sequence.
+pub fn read_back(file: &[u8]) -> u32
+    ensures { λ r. ⌜ r ≡ readBackIn (now (file .entry)) ⌝ }
+{
+    let at = LENGTH_BYTES + sequence_length(file);
+    numbers::get_le(file, at, SIGNAL_BYTES) as u32
+}
+
+// Where the inputs begin, behind the read-back set.
+fn inputs_begin(file: &[u8]) -> usize
+    ensures { λ r. ⌜ r ≡ inputsAt (now (file .entry)) ⌝ }
+    ensures { λ r. ⌜ r < 65542 ⌝ }
+{
+    LENGTH_BYTES + sequence_length(file) + SIGNAL_BYTES
+}
+
 pub fn is_whole(file: &[u8]) -> bool
     ensures { λ r. ⌜ r ≡ whole (now (file .entry)) ⌝ }
 {
@@ -41,7 +57,7 @@ pub fn is_whole(file: &[u8]) -> bool
     if n < LENGTH_BYTES {
         return false;
     }
-    let at = LENGTH_BYTES + sequence_length(file);
+    let at = inputs_begin(file);
     if n < at {
         return false;
     }
@@ -53,7 +69,7 @@ pub fn input_at(file: &[u8], i: usize) -> Input
     ensures { λ r. ⌜ inputBy r ≡ first (drop i (inputsIn (now (file .entry)))) ⌝ }
 {
     let n = file.len();
-    let at = LENGTH_BYTES + sequence_length(file);
+    let at = inputs_begin(file);
     if n < at {
         return Input::Nothing;
     }

@@ -5,25 +5,23 @@ use Rattle.files.proofs.input_at.Statement.{statement}
 use Rattle.files.proofs.input_at.Tie as tie
 use Rattle.files.proofs.input_at.Reads as reads
 use Rattle.files.proofs.input_at.Lts as lts
+use Rattle.files.proofs.inputs_begin.Reads as inputs-begin-reads
 use Rattle.numbers.proofs.get_le.Reads as get-le-reads
-use Rattle.files.proofs.sequence_length.Reads as sequence-length-reads
 
-sequence-length-requires : tie.Need-sequence-length-requires
-sequence-length-requires c κs = search needs
-
-add-at : tie.Need-add-at
-add-at c = search needs
+inputs-begin-requires : tie.Need-inputs-begin-requires
+inputs-begin-requires c κs = search needs
 
 returns : tie.Need-returns
 returns c =
     let a = c .before .before .before .args in
-    no-input (a .file .now) (a .i) (c .before .sequence-length .result) (c .before .sequence-length .ensures .0) (omega arith)
+    let b = c .before .inputs-begin in
+    no-input (a .file .now) (a .i) (b .result) (b .ensures .0) (omega arith)
 
 returns-2 : tie.Need-returns-2
 returns-2 c =
     let a = c .before .before .before .before .args in
-    let l = c .before .before .sequence-length in
-    no-input (a .file .now) (a .i) (l .result) (l .ensures .0) (omega arith)
+    let b = c .before .before .inputs-begin in
+    no-input (a .file .now) (a .i) (b .result) (b .ensures .0) (omega arith)
 
 mul-get-le : tie.Need-mul-get-le
 mul-get-le c = search needs
@@ -35,20 +33,19 @@ get-le-requires : tie.Need-get-le-requires
 get-le-requires c κs = search needs
 
 cast-t9 : tie.Need-cast-t9
-cast-t9 c = omega (arith, c .get-le .ensures .1)
+cast-t9 c = search needs
 
 returns-3 : tie.Need-returns-3
 returns-3 c =
     let a = c .before .before .before .before .before .args in
-    let l = c .before .before .before .sequence-length in
-    an-input (a .file .now) (a .i) (l .result) (c .get-le .result) (l .ensures .0) (c .get-le .ensures .0) (omega arith)
+    let b = c .before .before .before .inputs-begin in
+    an-input (a .file .now) (a .i) (b .result) (c .get-le .result) (b .ensures .0) (c .get-le .ensures .0) (omega arith)
 
 pub input-at-spec : {M : Type 1} → statement M
 input-at-spec =
     tie.close
     (tie.spec
-    sequence-length-requires
-    add-at
+    inputs-begin-requires
     returns
     returns-2
     mul-get-le
