@@ -11,7 +11,7 @@ use lib.Dec.{eqb}
 use Rattle.demands.specs.Tick.{Outcome, outcome}
 use Rattle.demands.specs.Demands.{stateAfterwards}
 use Rattle.runs.specs.Text.{ending}
-use Rattle.runs.specs.File.{fileOf, sequenceIn, inputsIn, first}
+use Rattle.runs.specs.File.{fileOf, sequenceIn, readBackIn, inputsIn, first}
 use Rattle.runs.specs.Listing.{lineOf, rowIn, rowOf, ticked, isOver}
 use Rattle.runs.specs.Stages as Listing
 use Rattle.runs.proofs.Files.{input-next}
@@ -31,42 +31,43 @@ printed file piece next s e = record { result = ap₂ Listing.turn (s .told) e; 
 
 -- ---- an instant
 stage-after : (b : Bool) (file after : List ℕ) (i : ℕ)
-    → cond b Listing.closing (Listing.running (sequenceIn file) after (suc (suc i)) (drop (suc i) (inputsIn file)))
+    → cond b Listing.closing (Listing.running (sequenceIn file) (readBackIn file) after (suc (suc i)) (drop (suc i) (inputsIn file)))
     ≡ stageBy file (cond b stages.Closing (stages.Running (suc i))) after
 stage-after true file after i = refl
 stage-after false file after i = refl
 
-turn-on : (s state : List ℕ) (j e : ℕ) (es : List ℕ) (o : Outcome) → o ≡ ticked s state e
-    → Listing.turnOf (Listing.running s state j (e ∷ es))
-    ≡ Listing.turn (lineOf (rowOf j o)) (cond (isOver (stateAfterwards o)) Listing.closing (Listing.running s (stateAfterwards o) (suc j) es))
+turn-on : (s : List ℕ) (b : ℕ) (state : List ℕ) (j e : ℕ) (es : List ℕ) (o : Outcome) → o ≡ ticked s b state e
+    → Listing.turnOf (Listing.running s b state j (e ∷ es))
+    ≡ Listing.turn (lineOf (rowOf j o)) (cond (isOver (stateAfterwards o)) Listing.closing (Listing.running s b (stateAfterwards o) (suc j) es))
 unfolding Listing.turnOf
-turn-on s state j e es o h =
+turn-on s b state j e es o h =
     ap
     (λ (r : Outcome).
-    Listing.turn (lineOf (rowOf j r)) (cond (isOver (stateAfterwards r)) Listing.closing (Listing.running s (stateAfterwards r) (suc j) es)))
+    Listing.turn (lineOf (rowOf j r)) (cond (isOver (stateAfterwards r)) Listing.closing (Listing.running s b (stateAfterwards r) (suc j) es)))
     (sym h)
 
--- the tick of a sequence that is the file's
-pub ticked-at : {o : Outcome} {s s′ : List ℕ} (state : List ℕ) (e : ℕ) → o ≡ ticked s state e → s ≡ s′ → o ≡ ticked s′ state e
-ticked-at state e h k = h ∙ ap (λ (x : List ℕ). ticked x state e) k
+-- the tick of a sequence and a read-back set that are the file's
+pub ticked-at : {o : Outcome} {s s′ : List ℕ} {b b′ : ℕ} (state : List ℕ) (e : ℕ) → o ≡ ticked s b state e → s ≡ s′ → b ≡ b′
+    → o ≡ ticked s′ b′ state e
+ticked-at state e h k l = h ∙ ap₂ (λ (x : List ℕ) (y : ℕ). ticked x y state e) k l
 
 pub instant-turn : (file state after answer : List ℕ) (i e n : ℕ) → first (drop i (inputsIn file)) ≡ some e
-    → outcome n after answer ≡ ticked (sequenceIn file) state e
+    → outcome n after answer ≡ ticked (sequenceIn file) (readBackIn file) state e
     → Listing.turn (lineOf (rowIn (i + 1) after answer)) (stageBy file (stageAfter (getD after 0 0) (i + 1)) after)
-    ≡ Listing.turnOf (Listing.running (sequenceIn file) state (suc i) (drop i (inputsIn file)))
+    ≡ Listing.turnOf (Listing.running (sequenceIn file) (readBackIn file) state (suc i) (drop i (inputsIn file)))
 instant-turn file state after answer i e n h o =
     let b : Bool = eqb (getD after 0 0) 2 in
     ap₂ Listing.turn (ap (λ (j : ℕ). lineOf (rowIn j after answer)) (add-one i))
     (ap (λ (j : ℕ). stageBy file (cond b stages.Closing (stages.Running j)) after) (add-one i) ∙ sym (stage-after b file after i))
     ∙ sym
-    (ap (λ (es : List ℕ). Listing.turnOf (Listing.running (sequenceIn file) state (suc i) es)) (input-next i e (inputsIn file) h)
-    ∙ turn-on (sequenceIn file) state (suc i) e (drop (suc i) (inputsIn file)) (outcome n after answer) o)
+    (ap (λ (es : List ℕ). Listing.turnOf (Listing.running (sequenceIn file) (readBackIn file) state (suc i) es)) (input-next i e (inputsIn file) h)
+    ∙ turn-on (sequenceIn file) (readBackIn file) state (suc i) e (drop (suc i) (inputsIn file)) (outcome n after answer) o)
 
-pub no-turn : (s state : List ℕ) (j : ℕ) (es : List ℕ) → first es ≡ none
-    → Listing.turn ending Listing.finished ≡ Listing.turnOf (Listing.running s state j es)
+pub no-turn : (s : List ℕ) (b : ℕ) (state : List ℕ) (j : ℕ) (es : List ℕ) → first es ≡ none
+    → Listing.turn ending Listing.finished ≡ Listing.turnOf (Listing.running s b state j es)
 unfolding Listing.turnOf
-no-turn s state j [] h = refl
-no-turn s state j (e ∷ es) h = absurd (let z : _≡_ {A = ℕ} 0 1 = cc in omega arith)
+no-turn s b state j [] h = refl
+no-turn s b state j (e ∷ es) h = absurd (let z : _≡_ {A = ℕ} 0 1 = cc in omega arith)
 
 -- ---- the arms of a match
 pub opened-by : (file : List ℕ) (r r′ : Opened) → fileBy file r ≡ fileOf file → r ≡ r′

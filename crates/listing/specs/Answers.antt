@@ -3,7 +3,7 @@ use Prim.Native.Nat.{ℕ, _≤_}
 use mathlib.Core.Path.{_≡_}
 use mathlib.Core.List.{List}
 use lib.ListN.{length, drop}
-use Rattle.runs.specs.File.{File, cut, refused, runs, sequenceIn, inputsIn}
+use Rattle.runs.specs.File.{File, cut, refused, runs, sequenceIn, readBackIn, inputsIn}
 use Rattle.runs.specs.Stages as Listing
 use Rattle.stages.specs.declared.Stage.the-variants as stages
 use Rattle.stages.specs.Answers.{stageBy, stageIn}
@@ -15,7 +15,7 @@ use Rattle.listing.specs.declared.Piece.{Piece}
 abbrev pub fileBy : List ℕ → Opened → File
 fileBy file opens.Cut = cut
 fileBy file (opens.Refused number) = refused number
-fileBy file opens.Runs = runs (sequenceIn file) (inputsIn file)
+fileBy file opens.Runs = runs (sequenceIn file) (readBackIn file) (inputsIn file)
 
 -- the turn of a run before the instant that i inputs precede
 abbrev pub turnAt : (file state : List ℕ) (i : ℕ) → Listing.Turn

@@ -15,7 +15,8 @@ pub fn open(file: &[u8]) -> Opened
     if !files::is_whole(file) {
         return Opened::Cut;
     }
-    let number = intake::intake_check(files::sequence(file));
+    let read_back = files::read_back(file);
+    let number = intake::intake_check(files::sequence(file), read_back);
     if number == 0 {
         return Opened::Runs;
     }

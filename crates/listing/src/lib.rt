@@ -8,7 +8,7 @@ ghost use mathlib.Core.List.{List};
 ghost use lib.ListN.{drop};
 ghost use Rattle.demands.specs.Demands.{cleared};
 ghost use Rattle.runs.specs.Text.{heading as Text·heading};
-ghost use Rattle.runs.specs.File.{fileOf, sequenceIn, inputsIn, first};
+ghost use Rattle.runs.specs.File.{fileOf, sequenceIn, readBackIn, inputsIn, first};
 ghost use Rattle.runs.specs.Stages.{running, finished, opened, turnOf};
 ghost use Rattle.runs.specs.Stages.{turn as Stages·turn};
 ghost use Rattle.lines.specs.Shown.{Shows};
@@ -71,7 +71,8 @@ fn open(file: &[u8]) -> Piece
 
 // The first piece of a run.
 fn heading() -> Piece
-    ensures { λ r. ⌜ ((file : List ℕ) → Prints file (Stages·turn Text·heading (running (sequenceIn file) cleared 1 (inputsIn file))) r) ⌝ }
+    ensures { λ r. ⌜ ((file : List ℕ)
+        → Prints file (Stages·turn Text·heading (running (sequenceIn file) (readBackIn file) cleared 1 (inputsIn file))) r) ⌝ }
 {
     let run = Run {
         stage: Stage::Running(0),
@@ -100,7 +101,8 @@ fn instant(file: &[u8], i: usize, e: u32, state: [u8; STATE_LENGTH]) -> Piece
 {
     let mut after = state;
     let mut answer = [0u8; ANSWER_LENGTH];
-    intake::intake_tick(files::sequence(file), &mut after, e, &mut answer);
+    let read_back = files::read_back(file);
+    intake::intake_tick(files::sequence(file), &mut after, e, read_back, &mut answer);
     let line = lines::row(i as u64 + 1, &after, &answer);
     let run = Run {
         stage: stages::following(records::state::phase(&after), i + 1),

@@ -1,6 +1,6 @@
 use mathlib.Core.Path.{refl}
 use Rattle.demands.specs.Demands.{cleared}
-use Rattle.runs.specs.File.{sequenceIn, inputsIn}
+use Rattle.runs.specs.File.{sequenceIn, readBackIn, inputsIn}
 use Rattle.runs.specs.Stages as Listing
 use Rattle.listing.proofs.Pieces.{printed}
 use borrow.Author.Needs.{needs}
@@ -11,7 +11,7 @@ heading-requires : tie.Need-heading-requires
 heading-requires c κs = search needs
 
 returns : tie.Need-returns
-returns c = λ file. printed file _ (Listing.running (sequenceIn file) cleared 1 (inputsIn file)) (c .heading .ensures) refl
+returns c = λ file. printed file _ (Listing.running (sequenceIn file) (readBackIn file) cleared 1 (inputsIn file)) (c .heading .ensures) refl
 
 pub heading-spec : {M : Type 1} → statement M
 heading-spec = tie.close (tie.spec heading-requires returns)

@@ -2,7 +2,7 @@ use Prim.Native.Nat.{ℕ, _+_}
 use native.Mathlib.Omega.{arith}
 use mathlib.Core.Path.{_≡_, ap, _∙_, subst}
 use Rattle.demands.specs.Tick.{outcome}
-use Rattle.runs.specs.File.{sequenceIn}
+use Rattle.runs.specs.File.{sequenceIn, readBackIn}
 use Rattle.runs.specs.Listing.{ticked}
 use Rattle.runs.specs.Stages as Listing
 use Rattle.runs.proofs.Files.{input-within}
@@ -14,6 +14,9 @@ use Rattle.listing.proofs.Pieces.{printed, ticked-at, instant-turn}
 use borrow.Author.Needs.{needs}
 use Rattle.listing.proofs.instant.Statement.{statement}
 use Rattle.listing.proofs.instant.Tie as tie
+
+read-back-requires : tie.Need-read-back-requires
+read-back-requires c κs = search needs
 
 sequence-requires : tie.Need-sequence-requires
 sequence-requires c κs = search needs
@@ -29,7 +32,7 @@ intake-tick-requires c κs = search needs
 
 add-row : tie.Need-add-row
 add-row c =
-    let s = c .before .before .before .before .before .before .before in
+    let s = c .before .before .before .before .before .before .before .before in
     let a = s .args in
     omega (arith, input-within (a .file .now) (a .i) (a .e) (s .pre))
 
@@ -50,7 +53,7 @@ phase-requires c κs = search needs
 
 add-following : tie.Need-add-following
 add-following c =
-    let s = c .before .before .before .before .before .before .before .before .before .before .before .before in
+    let s = c .before .before .before .before .before .before .before .before .before .before .before .before .before in
     let a = s .args in
     omega (arith, input-within (a .file .now) (a .i) (a .e) (s .pre))
 
@@ -61,20 +64,21 @@ returns : tie.Need-returns
 returns c =
     let t = c .before .before .before .before .before .before .before .before .intake-tick in
     let q = c .before .before .before .before .before .before .before .before .before .before .before in
-    let s = q .before .before in
+    let s = q .before .before .before in
     let a = s .args in
     let f = a .file .now in
-    let o : outcome (t .result) (t .last .1 .0) (t .last .1 .1 .1 .0) ≡ ticked (sequenceIn f) (a .state) (a .e)
-    = ticked-at (a .state) (a .e) (t .ensures) (q .sequence .ensures) in
+    let o : outcome (t .result) (t .last .1 .0) (t .last .1 .1 .1 .1 .0) ≡ ticked (sequenceIn f) (readBackIn f) (a .state) (a .e)
+    = ticked-at (a .state) (a .e) (t .ensures) (q .sequence .ensures) (q .before .read-back .ensures) in
     let piece : Piece
     = record { line = c .before .before .before .row .result; run = record { stage = c .following .result; state = t .last .1 .0 } } in
-    subst (λ (u : Listing.Turn). Prints f u piece) (instant-turn f (a .state) (t .last .1 .0) (t .last .1 .1 .1 .0) (a .i) (a .e) (t .result) (s .pre) o)
+    subst (λ (u : Listing.Turn). Prints f u piece) (instant-turn f (a .state) (t .last .1 .0) (t .last .1 .1 .1 .1 .0) (a .i) (a .e) (t .result) (s .pre) o)
     (printed f piece _ (c .before .before .before .row .ensures) (ap (λ (g : Stage). stageBy f g (t .last .1 .0)) (c .following .ensures ∙ ap (λ (n : ℕ). stageAfter n (a .i + 1)) (c .before .phase .ensures))))
 
 pub instant-spec : {M : Type 1} → statement M
 instant-spec =
     tie.close
     (tie.spec
+    read-back-requires
     sequence-requires
     slice-aggregate-intake-tick
     slice-aggregate-intake-tick-2

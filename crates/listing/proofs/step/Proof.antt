@@ -2,7 +2,7 @@ use mathlib.Core.Path.{sym, ap, _∙_, subst}
 use Prim.Native.Nat.{suc}
 use lib.ListN.{drop}
 use Rattle.runs.specs.Text.{ending}
-use Rattle.runs.specs.File.{sequenceIn, inputsIn}
+use Rattle.runs.specs.File.{sequenceIn, readBackIn, inputsIn}
 use Rattle.runs.specs.Stages as Listing
 use Rattle.files.specs.Answers.{inputBy}
 use Rattle.listing.specs.Answers.{Prints}
@@ -35,7 +35,7 @@ returns c =
     let a = i .before .before .args in
     let f = a .file .now in
     subst (λ (t : Listing.Turn). Prints f t (c .last .result))
-    (no-turn (sequenceIn f) (a .state) (suc (a .i)) (drop (a .i) (inputsIn f)) (sym (i .input-at .ensures) ∙ ap inputBy (c .before .before .enum-told .given .1))) (c .last .ensures f ending (c .before .ending .ensures))
+    (no-turn (sequenceIn f) (readBackIn f) (a .state) (suc (a .i)) (drop (a .i) (inputsIn f)) (sym (i .input-at .ensures) ∙ ap inputBy (c .before .before .enum-told .given .1))) (c .last .ensures f ending (c .before .ending .ensures))
 
 returns-2 : tie.Need-returns-2
 returns-2 c = search needs
