@@ -1,74 +1,96 @@
-// The lines of the file of vectors: each is read with the sequence that the lines before it gave.
+// The lines of the file of vectors: each is read with what the lines before it gave.
 ghost use Prim.Native.Nat.{_≤_};
 ghost use lib.ListN.{length};
 use crate::ticks::run;
+use crate::vector::Vector;
+use crate::vector::fresh;
+use crate::vector::malformed;
+use crate::vector::spelled;
 use notation::print;
-use notation::room::Bytes;
-use notation::room::MALFORMED;
 use notation::room::ROOM;
 use notation::room::append;
 use notation::room::repeat;
 use notation::room::zeros;
+use notation::words::NONE;
+use notation::words::word;
 use records::layout::ANSWER_LENGTH;
 use records::layout::STATE_LENGTH;
 
+// The read-back set that the line names, for the calls after it.
+fn declared(line: &[u8], from: usize, vector: Vector) -> Vector {
+    let set = word(line, from);
+    if NONE <= set.value {
+        return malformed();
+    }
+    if set.end < line.len() {
+        return malformed();
+    }
+    let sequence = vector.sequence;
+    Vector {
+        sequence: sequence,
+        read_back: set.value as u32,
+    }
+}
+
 // A machine from the state record that the line names before a colon.
-fn resume(line: &[u8], from: usize, sequence: Bytes) -> Bytes
+fn resume(line: &[u8], from: usize, vector: Vector) -> Vector
     requires { ⌜ from ≤ length (now line) ⌝ }
 {
     let colon = bytes::scan::find(line, from, line.len(), b':');
     let record = append(&line[0..colon], from, zeros(0));
     if ROOM < record.count {
-        return record;
+        return malformed();
     }
     if colon == line.len() {
-        return zeros(MALFORMED);
+        return malformed();
     }
-    run(line, colon + 1, sequence, record, ANSWER_LENGTH)
+    run(line, colon + 1, vector, record, ANSWER_LENGTH)
 }
 
-// The sequence after an indented line: the first letter of its word tells what it gives.
-fn indented(line: &[u8], sequence: Bytes) -> Bytes {
+// The vector after an indented line: the first letter of its word tells what it gives.
+fn indented(line: &[u8], vector: Vector) -> Vector {
     if line.len() < 3 {
-        return zeros(MALFORMED);
+        return malformed();
     }
     let at = bytes::scan::find(line, 2, line.len(), b' ');
+    let sequence = vector.sequence;
     match line[2] {
-        b'b' => append(line, at, sequence),
-        b't' => repeat(line, at, sequence),
-        b'f' => resume(line, at, sequence),
-        b'r' => run(line, at, sequence, zeros(STATE_LENGTH), ANSWER_LENGTH),
-        b's' => run(line, at, sequence, zeros(STATE_LENGTH), ANSWER_LENGTH - 1),
-        b'l' => run(line, at, sequence, zeros(STATE_LENGTH), ANSWER_LENGTH + 1),
-        _ => zeros(MALFORMED),
+        b'b' => spelled(vector, append(line, at, sequence)),
+        b't' => spelled(vector, repeat(line, at, sequence)),
+        b'd' => declared(line, at, vector),
+        b'f' => resume(line, at, vector),
+        b'r' => run(line, at, vector, zeros(STATE_LENGTH), ANSWER_LENGTH),
+        b's' => run(line, at, vector, zeros(STATE_LENGTH), ANSWER_LENGTH - 1),
+        b'l' => run(line, at, vector, zeros(STATE_LENGTH), ANSWER_LENGTH + 1),
+        _ => malformed(),
     }
 }
 
-// The sequence after a line.
-fn line(line: &[u8], sequence: Bytes) -> Bytes {
+// The vector after a line.
+fn line(line: &[u8], vector: Vector) -> Vector {
     if line.len() == 0 {
-        return sequence;
+        return vector;
     }
     if line[0] == b'#' {
-        return sequence;
+        return vector;
     }
     if line[0] == b' ' {
-        return indented(line, sequence);
+        return indented(line, vector);
     }
     print::title(line);
-    zeros(0)
+    fresh()
 }
 
 // Runs the vectors of a file, up to the first line that is malformed.
 pub fn all(file: &[u8]) {
-    let mut sequence = zeros(0);
+    let mut vector = fresh();
     let mut at: usize = 0;
     let mut number: u64 = 0;
     while at < file.len() {
         let end = bytes::scan::find(file, at, file.len(), b'\n');
-        sequence = line(&file[at..end], sequence);
+        vector = line(&file[at..end], vector);
         number += 1;
-        if ROOM < sequence.count {
+        if ROOM < vector.sequence.count {
             print::malformed(number);
             return;
         }

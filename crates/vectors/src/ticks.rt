@@ -1,9 +1,9 @@
 // Machines that tick on given inputs, and the lines of their calls.
+use crate::vector::Vector;
+use crate::vector::malformed;
 use notation::print;
 use notation::room::Bytes;
-use notation::room::MALFORMED;
 use notation::room::ROOM;
-use notation::room::zeros;
 use notation::words::NONE;
 use notation::words::word;
 
@@ -20,6 +20,7 @@ fn call(
     state: &mut [u8],
     state_length: usize,
     input: u32,
+    read_back: u32,
     answer: &mut [u8],
     answer_length: usize,
 ) -> u8 {
@@ -36,6 +37,7 @@ fn call(
         &sequence[0..sequence_length],
         &mut state[0..state_length],
         input,
+        read_back,
         &mut answer[0..answer_length],
     )
 }
@@ -60,7 +62,8 @@ fn report(
 }
 
 // One call and its line; answers the state record after it.
-fn tick(sequence: Bytes, before: Bytes, answer_length: usize, instant: u64, input: u32) -> Bytes {
+fn tick(vector: Vector, before: Bytes, answer_length: usize, instant: u64, input: u32) -> Bytes {
+    let sequence = vector.sequence;
     let room = sequence.room;
     let kept = before.room;
     let mut state = before.room;
@@ -71,6 +74,7 @@ fn tick(sequence: Bytes, before: Bytes, answer_length: usize, instant: u64, inpu
         &mut state,
         before.count,
         input,
+        vector.read_back,
         &mut answer,
         answer_length,
     );
@@ -81,15 +85,15 @@ fn tick(sequence: Bytes, before: Bytes, answer_length: usize, instant: u64, inpu
     }
 }
 
-// A machine: a call for each input that the line names from `from` on. Answers the sequence, or a
+// A machine: a call for each input that the line names from `from` on. Answers the vector, or a
 // malformed one where one of them is no input.
 pub fn run(
     line: &[u8],
     from: usize,
-    sequence: Bytes,
+    vector: Vector,
     record: Bytes,
     answer_length: usize,
-) -> Bytes {
+) -> Vector {
     let mut state = record;
     let mut at = from;
     let mut instant: u64 = 0;
@@ -97,11 +101,11 @@ pub fn run(
         let word = word(line, at);
         let input = word.value;
         if NONE <= input {
-            return zeros(MALFORMED);
+            return malformed();
         }
         instant += 1;
-        state = tick(sequence, state, answer_length, instant, input as u32);
+        state = tick(vector, state, answer_length, instant, input as u32);
         at = word.end;
     }
-    sequence
+    vector
 }

@@ -5,13 +5,13 @@ use Rattle.vectors.proofs.lines.all.Statement.{statement}
 use Rattle.vectors.proofs.lines.all.Tie as tie
 
 abbrev Inv-loop : tie.InvT-loop
-Inv-loop file sequence₀ at₀ number₀ sequence at number = number ≤ at
+Inv-loop file vector₀ at₀ number₀ vector at number = number ≤ at
 
 abbrev μ-loop : tie.MeasureT-loop
-μ-loop file sequence₀ at₀ number₀ sequence at number = length file - at
+μ-loop file vector₀ at₀ number₀ vector at number = length file - at
 
-zeros-requires : tie.Need-zeros-requires Inv-loop μ-loop
-zeros-requires c κs = search needs
+fresh-requires : tie.Need-fresh-requires Inv-loop μ-loop
+fresh-requires c κs = search needs
 
 loop-holds : tie.Need-loop-holds Inv-loop μ-loop
 loop-holds c = search needs
@@ -58,7 +58,7 @@ all-spec =
     (tie.spec
     Inv-loop
     μ-loop
-    zeros-requires
+    fresh-requires
     loop-holds
     find-requires
     sub-line

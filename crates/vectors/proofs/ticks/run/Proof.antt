@@ -5,10 +5,10 @@ use Rattle.vectors.proofs.ticks.run.Statement.{statement}
 use Rattle.vectors.proofs.ticks.run.Tie as tie
 
 abbrev Inv-loop : tie.InvT-loop
-Inv-loop line from sequence answer-length state₀ at₀ instant₀ state at instant = instant ≤ at
+Inv-loop line from vector answer-length state₀ at₀ instant₀ state at instant = instant ≤ at
 
 abbrev μ-loop : tie.MeasureT-loop
-μ-loop line from sequence answer-length state₀ at₀ instant₀ state at instant = length line - at
+μ-loop line from vector answer-length state₀ at₀ instant₀ state at instant = length line - at
 
 loop-holds : tie.Need-loop-holds Inv-loop μ-loop
 loop-holds c = search needs
@@ -16,8 +16,8 @@ loop-holds c = search needs
 word-requires : tie.Need-word-requires Inv-loop μ-loop
 word-requires c κs = search needs
 
-zeros-requires : tie.Need-zeros-requires Inv-loop μ-loop
-zeros-requires c κs = search needs
+malformed-requires : tie.Need-malformed-requires Inv-loop μ-loop
+malformed-requires c κs = search needs
 
 returns : tie.Need-returns Inv-loop μ-loop
 returns c = search needs
@@ -48,7 +48,7 @@ run-spec =
     μ-loop
     loop-holds
     word-requires
-    zeros-requires
+    malformed-requires
     returns
     add-instant
     cast-tick
