@@ -4,7 +4,7 @@ mod tick;
 ghost use mathlib.Core.Path.{_≡_};
 ghost use Rattle.sequence.specs.Check.{checkOf};
 ghost use Rattle.demands.specs.Demands.{TickMeets};
-use crate::tick::Reply;
+use instants::Reply;
 use notes::Notes;
 use reading::reader::Seconds;
 use records::layout::ANSWER_LENGTH;
@@ -38,7 +38,7 @@ pub extern "C" fn intake_tick(
     if answer.len() != ANSWER_LENGTH {
         return 1;
     }
-    match crate::tick::reply_to(sequence, state, input, read_back) {
+    match instants::reply_to(sequence, state, input, read_back) {
         Reply::Refused(number) => number,
         Reply::Reacted(reaction) => crate::tick::finish(state, answer, reaction),
     }

@@ -54,7 +54,7 @@ pub fn after(
     ensures { λ r. ⌜ StartedAfter (now (second .entry)) depth at (rest n (now (s .entry))) input p r ⌝ }
 {
     let k = p.completion;
-    if rules::command::is_ended(k) {
+    if completions::is_ended(k) {
         rules::command::in_sequence(p, part(s, n, at, depth, input, second))
     } else {
         p

@@ -15,31 +15,13 @@ use Rattle.esterel.specs.Errors.{Error, instantaneous, notReactive, notDetermin
 use Rattle.esterel.specs.Resume as Esterel
 use Rattle.esterel.specs.Resume.{instant, ifWrong, seqInstant, parInstant, loopInstant, tryInstant, suspendInstant, signalNames, signalInstant}
 use Rattle.esterel.proofs.Rules.{either-wrong}
-use Rattle.rules.specs.declared.reaction.Completion.{Completion}
+use Rattle.completions.specs.declared.Completion.{Completion}
 use Rattle.rules.specs.declared.reaction.Reaction.{Reaction}
 use Rattle.rules.specs.declared.command.Choice.{Choice}
 use Rattle.rules.specs.declared.command.Choice.the-variants.{Both, Neither, OnlyMinus, OnlyPlus, Inherited}
-use Rattle.rules.specs.Reactions.{completionOf, reactionOf, codeOf, greaterOf, isEnded, caught, choiceOf, caseIn}
-
--- ---- a value and what it stands for
-pub code-of : (k : Code) (x : Option Error) → codeOf (completionOf k x) ≡ k
-code-of ended x = refl
-code-of waiting x = refl
-code-of (leaving n) x = refl
-code-of wrong x = refl
-
-pub greater-of : (j k : Code) (x y : Option Error)
-    → greaterOf (completionOf j x) (completionOf k y) ≡ completionOf (greater j k) (ifWrong j x y)
-greater-of ended k x y = refl
-greater-of waiting ended x y = refl
-greater-of waiting waiting x y = refl
-greater-of waiting (leaving n) x y = refl
-greater-of waiting wrong x y = refl
-greater-of (leaving m) ended x y = refl
-greater-of (leaving m) waiting x y = refl
-greater-of (leaving m) (leaving n) x y = refl
-greater-of (leaving m) wrong x y = refl
-greater-of wrong k x y = refl
+use Rattle.completions.specs.Completions.{completionOf, codeOf, greaterOf, isEnded, caught}
+use Rattle.completions.proofs.Completions.{code-of, greater-of}
+use Rattle.rules.specs.Reactions.{reactionOf, choiceOf, caseIn}
 
 -- a reaction is that of its three values
 module _ (k : Code) (x : Option Error) {o o′ : ℕ} {l : Labels} {l′ : ℕ} {c : Completion} where

@@ -6,67 +6,20 @@ ghost use Rattle.sets.specs.Sets.{labelCount, onlyBelow};
 ghost use Rattle.esterel.specs.Sets.{none};
 ghost use Rattle.limits.specs.Limits.{readBackPlace};
 ghost use Rattle.esterel.specs.Statement.{Scope, local, reported, Statement, nothing};
-ghost use Rattle.esterel.specs.Reaction.{ended, waiting, leaving, isWrong, gives, ifWaiting, failed, outside};
+ghost use Rattle.esterel.specs.Reaction.{ended, waiting, leaving, gives, ifWaiting, failed, outside};
 ghost use Rattle.esterel.specs.Resume.{instant, seqInstant, parInstant, loopInstant, tryInstant, signalInstant};
+ghost use Rattle.completions.specs.Completions.{codeOf};
 ghost use Rattle.rules.specs.Reactions.{
   faultless,
   reactionOf,
-  codeOf,
-  greaterOf,
-  isEnded,
-  caught,
   choiceOf,
   caseIn,
   FromOne,
   FromTwo,
 };
-use crate::reaction::Completion;
 use crate::reaction::Reaction;
+use completions::Completion;
 use sets::labels::Labels;
-
-pub fn is_ended(k: Completion) -> bool
-    ensures { λ r. ⌜ r ≡ isEnded k ⌝ }
-{
-    match k {
-        Completion::Ended => true,
-        Completion::Waiting => false,
-        Completion::Leaving(_) => false,
-        Completion::Wrong(_, _) => false,
-    }
-}
-
-fn is_wrong(k: Completion) -> bool
-    ensures { λ r. ⌜ r ≡ isWrong (codeOf k) ⌝ }
-{
-    match k {
-        Completion::Ended => false,
-        Completion::Waiting => false,
-        Completion::Leaving(_) => false,
-        Completion::Wrong(_, _) => true,
-    }
-}
-
-// The greater of two codes; of two that are wrong the first, whose error is the first.
-fn greater_of(k: Completion, l: Completion) -> Completion
-    ensures { λ r. ⌜ r ≡ greaterOf k l ⌝ }
-{
-    match k {
-        Completion::Ended => l,
-        Completion::Wrong(_, _) => k,
-        Completion::Waiting => match l {
-            Completion::Ended => k,
-            Completion::Waiting => l,
-            Completion::Leaving(_) => l,
-            Completion::Wrong(_, _) => l,
-        },
-        Completion::Leaving(m) => match l {
-            Completion::Leaving(n) => { if m < n { l } else { k } }
-            Completion::Ended => k,
-            Completion::Waiting => k,
-            Completion::Wrong(_, _) => l,
-        },
-    }
-}
 
 // Labels are kept only with code 1.
 fn if_waiting(k: Completion, labels: Labels) -> Labels
@@ -95,8 +48,8 @@ fn choose(s: u8, minus: Reaction, plus: Reaction) -> Choice
 {
     let k = minus.completion;
     let l = plus.completion;
-    let wrong_minus = is_wrong(k);
-    let wrong_plus = is_wrong(l);
+    let wrong_minus = completions::is_wrong(k);
+    let wrong_plus = completions::is_wrong(l);
     if wrong_minus | wrong_plus {
         return Choice::Inherited;
     }
@@ -167,7 +120,7 @@ pub fn in_sequence(p: Reaction, q: Reaction) -> Reaction
     ensures { λ r. ⌜ ((u : Statement) → FromTwo (seqInstant u) p q r) ⌝ }
 {
     let k = p.completion;
-    if is_ended(k) {
+    if completions::is_ended(k) {
         let labels = q.labels;
         let l = q.completion;
         Reaction {
@@ -186,7 +139,7 @@ pub fn in_parallel(p: Reaction, q: Reaction) -> Reaction
 {
     let k = p.completion;
     let l = q.completion;
-    let code = greater_of(k, l);
+    let code = completions::greater_of(k, l);
     Reaction {
         emitted: sets::signals::union(p.emitted, q.emitted),
         labels: if_waiting(code, sets::labels::union(p.labels, q.labels)),
@@ -199,26 +152,10 @@ pub fn in_loop(place: u16, p: Reaction) -> Reaction
     ensures { λ r. ⌜ ((u : Statement) → FromOne (loopInstant place u) p r) ⌝ }
 {
     let k = p.completion;
-    if is_ended(k) { failing(1, place) } else { p }
-}
-
-// The completion of a try block from that of its body.
-fn caught(k: Completion) -> Completion
-    ensures { λ r. ⌜ r ≡ caught k ⌝ }
-{
-    match k {
-        Completion::Ended => k,
-        Completion::Waiting => k,
-        Completion::Leaving(n) => {
-            if n == 1 {
-                return Completion::Ended;
-            }
-            if n == 0 {
-                return k;
-            }
-            Completion::Leaving(n - 1)
-        }
-        Completion::Wrong(_, _) => k,
+    if completions::is_ended(k) {
+        failing(1, place)
+    } else {
+        p
     }
 }
 
@@ -231,7 +168,7 @@ pub fn in_try(p: Reaction) -> Reaction
     Reaction {
         emitted: p.emitted,
         labels,
-        completion: caught(k),
+        completion: completions::caught(k),
     }
 }
 
@@ -255,7 +192,7 @@ fn declaring(place: u16, s: u8, kept: u32, minus: Reaction, plus: Reaction) -> R
         Choice::Inherited => Reaction {
             emitted: 0,
             labels: sets::labels::empty(),
-            completion: greater_of(k, l),
+            completion: completions::greater_of(k, l),
         },
     }
 }

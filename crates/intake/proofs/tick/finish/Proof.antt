@@ -1,9 +1,9 @@
 use native.Mathlib.Omega.{arith}
 use mathlib.Core.Path.{refl, ap₂, subst}
-use Rattle.rules.specs.declared.reaction.Completion.the-variants.{Ended, Waiting, Leaving, Wrong}
+use Rattle.completions.specs.declared.Completion.the-variants.{Ended, Waiting, Leaving, Wrong}
 use Rattle.demands.specs.Tick.{outcome}
-use Rattle.intake.specs.Standing.{WritableCode}
-use Rattle.intake.proofs.Standing.{arm}
+use Rattle.instants.specs.Written.{WritableCode}
+use Rattle.intake.proofs.Ticking.{arm}
 use Rattle.records.proofs.Stores.{state-written, answer-written}
 use borrow.Author.Needs.{needs}
 use Rattle.intake.proofs.tick.finish.Statement.{statement}

@@ -59,7 +59,7 @@ use Rattle.rules.proofs.command.in_parallel.Reads as in-parallel-reads
 use Rattle.rules.proofs.command.in_sequence.Reads as in-sequence-reads
 use Rattle.rules.proofs.command.in_signal.Reads as in-signal-reads
 use Rattle.rules.proofs.command.in_try.Reads as in-try-reads
-use Rattle.rules.proofs.command.is_ended.Reads as is-ended-reads
+use Rattle.completions.proofs.is_ended.Reads as is-ended-reads
 use Rattle.rules.proofs.command.leaving.Reads as leaving-reads
 use Rattle.rules.proofs.command.pausing.Reads as pausing-reads
 use Rattle.sets.proofs.signals.member.Reads as member-reads

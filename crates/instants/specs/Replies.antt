@@ -1,9 +1,8 @@
--- What the code's answers stand for: a state record's standing, and instants that fit the answer record.
-use Prim.Native.Nat.{ℕ, _+_, _<_}
+-- What the code's answers stand for: a state record's standing, and what a call comes to before anything is written.
+use Prim.Native.Nat.{ℕ}
 use mathlib.Core.Path.{_≡_}
 use mathlib.Core.Bool.{true}
 use mathlib.Core.List.{List}
-use Rattle.sequence.specs.Reader.{read}
 use Rattle.sequence.specs.Check.{checked}
 use Rattle.layout.specs.Known.{Known}
 use Rattle.esterel.specs.Reaction.{inheritanceFirst}
@@ -12,15 +11,12 @@ use Rattle.esterel.specs.LabelTests.{valid}
 use Rattle.esterel.specs.Ranks.{mask}
 use Rattle.esterel.specs.Machines.{State}
 use Rattle.sets.specs.Labels.{labelSet}
-use Rattle.rules.specs.declared.reaction.Completion.{Completion}
-use Rattle.rules.specs.declared.reaction.Completion.the-variants.{Ended, Waiting, Leaving, Wrong}
-use Rattle.rules.specs.declared.reaction.Reaction.{Reaction}
-use Rattle.intake.specs.declared.tick.Standing.{Standing}
-use Rattle.intake.specs.declared.tick.Standing.the-variants as stands
-use Rattle.intake.specs.declared.tick.Reply.{Reply}
-use Rattle.intake.specs.declared.tick.Reply.the-variants.{Refused, Reacted}
-use Rattle.esterel.specs.Sets.{none}
-use Rattle.records.specs.Records.{labelsIn, holds, malformed, decodeState, stateRecord, answerRecord}
+use Rattle.instants.specs.declared.Standing.{Standing}
+use Rattle.instants.specs.declared.Standing.the-variants as stands
+use Rattle.instants.specs.declared.Reply.{Reply}
+use Rattle.instants.specs.declared.Reply.the-variants.{Refused, Reacted}
+use Rattle.instants.specs.Written.{Writable, writtenFrom}
+use Rattle.records.specs.Records.{labelsIn, holds, malformed, decodeState}
 use Rattle.demands.specs.Tick.{Outcome, outcome, byCheck}
 
 -- what the record holds for p; of a waiting machine also the ranks of its active pauses
@@ -34,26 +30,6 @@ Decodes p state stands.Malformed = decodeState p state ≡ malformed
 -- the same for the statement that was read
 abbrev pub DecodesRead : (t notes sequence state : List ℕ) → Standing → Type 0
 DecodesRead t notes sequence state r = (p : Statement) → Known t notes sequence p → Decodes p state r
-
--- the code of the instant fits a byte
-abbrev pub WritableCode : Completion → Type 0
-WritableCode Ended = Unit {0}
-WritableCode Waiting = Unit {0}
-WritableCode (Leaving n) = n < 254
-WritableCode (Wrong kind place) = Unit {0}
-
-abbrev pub Writable : Reaction → Type 0
-Writable r = WritableCode (r .completion)
-
--- what an instant writes, by its completion: phase and labels, then code, kind, place and emitted set
-abbrev pub writtenBy : Completion → (emitted labels : ℕ) → Outcome
-writtenBy Ended o L = outcome 0 (stateRecord 2 none) (answerRecord 0 0 0 o)
-writtenBy Waiting o L = outcome 0 (stateRecord 1 L) (answerRecord 1 0 0 o)
-writtenBy (Leaving n) o L = outcome 0 (stateRecord 2 none) (answerRecord (n + 1) 0 0 o)
-writtenBy (Wrong kind place) o L = outcome 0 (stateRecord 2 none) (answerRecord 255 kind place 0)
-
-abbrev pub writtenFrom : Reaction → Outcome
-writtenFrom r = writtenBy (r .completion) (r .emitted) (labelSet (r .labels))
 
 -- ---- what a call comes to before anything is written
 abbrev pub WritableReply : Reply → Type 0

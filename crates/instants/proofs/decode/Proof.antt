@@ -1,11 +1,11 @@
 use mathlib.Core.Path.{sym, _∙_, subst}
 use borrow.Author.Needs.{needs}
 use Rattle.validity.specs.Activity.{ValidityOf}
-use Rattle.intake.proofs.Standing.{waiting-as, waiting-invalid, is-fresh, is-over, other-phase, stray-labels}
-use Rattle.intake.proofs.tick.decode.Statement.{statement}
-use Rattle.intake.proofs.tick.decode.Tie as tie
-use Rattle.intake.proofs.tick.decode.Reads as reads
-use Rattle.intake.proofs.tick.decode.Lts as lts
+use Rattle.instants.proofs.Decoding.{waiting-as, waiting-invalid, is-fresh, is-over, other-phase, stray-labels}
+use Rattle.instants.proofs.decode.Statement.{statement}
+use Rattle.instants.proofs.decode.Tie as tie
+use Rattle.instants.proofs.decode.Reads as reads
+use Rattle.instants.proofs.decode.Lts as lts
 use Rattle.validity.proofs.activity.validity_of.Reads as validity-of-reads
 use Rattle.records.proofs.state.labels.Reads as labels-reads
 use Rattle.records.proofs.state.phase.Reads as phase-reads

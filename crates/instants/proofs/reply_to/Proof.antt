@@ -1,13 +1,13 @@
 use mathlib.Core.Path.{subst}
 use borrow.Author.Needs.{needs}
-use Rattle.intake.specs.Standing.{Decodes}
-use Rattle.intake.proofs.Ticking.{passed, as-sound, as-ready, refused, malformed-reply, over-reply, fresh-reply, waiting-reply}
-use Rattle.intake.proofs.tick.reply_to.Statement.{statement}
-use Rattle.intake.proofs.tick.reply_to.Tie as tie
-use Rattle.intake.proofs.tick.reply_to.Reads as reads
-use Rattle.intake.proofs.tick.reply_to.Lts as lts
+use Rattle.instants.specs.Replies.{Decodes}
+use Rattle.instants.proofs.Replying.{passed, as-sound, as-ready, refused, malformed-reply, over-reply, fresh-reply, waiting-reply}
+use Rattle.instants.proofs.reply_to.Statement.{statement}
+use Rattle.instants.proofs.reply_to.Tie as tie
+use Rattle.instants.proofs.reply_to.Reads as reads
+use Rattle.instants.proofs.reply_to.Lts as lts
 use Rattle.checks.proofs.verdict.check.Reads as check-reads
-use Rattle.intake.proofs.tick.decode.Reads as decode-reads
+use Rattle.instants.proofs.decode.Reads as decode-reads
 use Rattle.react.proofs.react.react.Reads as react-reads
 use Rattle.resume.proofs.resume.resume.Reads as resume-reads
 

@@ -1,9 +1,9 @@
 use mathlib.Core.Path.{ap}
 use native.Mathlib.Omega.{arith}
-use Rattle.rules.specs.declared.reaction.Completion.the-variants.{Leaving}
+use Rattle.completions.specs.declared.Completion.the-variants.{Leaving}
 use borrow.Author.Needs.{needs}
-use Rattle.rules.proofs.command.greater_of.Statement.{statement}
-use Rattle.rules.proofs.command.greater_of.Tie as tie
+use Rattle.completions.proofs.greater_of.Statement.{statement}
+use Rattle.completions.proofs.greater_of.Tie as tie
 
 enum-told : tie.Need-enum-told
 enum-told c = search needs

@@ -1,6 +1,6 @@
--- What the code's tests say of a state record, and what each arm of an instant writes.
+-- What the code's tests say of a state record.
 use Prim.Native.Nat.{ℕ}
-use mathlib.Core.Path.{_≡_, refl, sym, ap, _∙_}
+use mathlib.Core.Path.{_≡_, refl, sym, _∙_}
 use mathlib.Core.Logic.{_≢_}
 use mathlib.Core.Bool.{Bool, true, false, _&&_, cond}
 use mathlib.Core.List.{List}
@@ -8,18 +8,11 @@ use lib.Dec.{eqb}
 use borrow.Author.Tests.{ne-eqb}
 use Rattle.esterel.specs.Sets.{none}
 use Rattle.esterel.specs.Statement.{Statement}
-use Rattle.esterel.specs.Reaction.{ended, waiting, leaving, wrong, gives}
 use Rattle.esterel.specs.LabelTests.{valid}
-use Rattle.esterel.specs.Resume as Esterel
 use Rattle.esterel.specs.Machines.{State}
-use Rattle.sets.proofs.LabelValues.{labelSet-of}
-use Rattle.rules.specs.Reactions.{reactionOf}
-use Rattle.rules.specs.declared.reaction.Completion.{Completion}
-use Rattle.rules.specs.declared.reaction.Completion.the-variants.{Waiting}
-use Rattle.records.specs.Records.{phaseIn, labelsIn, encodeState, encodeAnswer, holds, malformed, decodeState}
-use Rattle.demands.specs.Tick.{Outcome, written}
-use Rattle.intake.specs.declared.tick.Standing.the-variants as stands
-use Rattle.intake.specs.Standing.{Decodes, writtenBy, writtenFrom}
+use Rattle.records.specs.Records.{phaseIn, labelsIn, holds, malformed, decodeState}
+use Rattle.instants.specs.declared.Standing.the-variants as stands
+use Rattle.instants.specs.Replies.{Decodes}
 use Rattle.sets.specs.declared.labels.Labels.{Labels}
 use Rattle.validity.specs.Activity.{ValidityOf}
 use Rattle.validity.specs.declared.activity.Validity.the-variants.{Valid, Invalid}
@@ -56,15 +49,3 @@ module _ (p : Statement) (state : List ℕ) (phase L : ℕ) (at : phase ≡ phas
       go true false = refl
       go false true = refl
       go false false = refl
-
--- ---- an instant's records by its completion
-pub arm : (k c : Completion) (o L : ℕ) (result : Outcome) → k ≡ c → result ≡ writtenBy c o L → result ≡ writtenBy k o L
-arm k c o L result e h = h ∙ ap (λ (x : Completion). writtenBy x o L) (sym e)
-
--- WRITTEN: the code's instant writes what esterel's does
-pub written-from : (j : Esterel.Instant) → writtenFrom (reactionOf j) ≡ written j
-unfolding encodeState encodeAnswer none
-written-from (Esterel.instant (gives o ended l t) x) = refl
-written-from (Esterel.instant (gives o waiting l t) x) = rw labelSet-of
-written-from (Esterel.instant (gives o (leaving n) l t) x) = refl
-written-from (Esterel.instant (gives o wrong l t) x) = refl

@@ -1,0 +1,148 @@
+-- One law for each return of the core, over plain lists.
+use Prim.Native.Nat.{ℕ}
+use native.Mathlib.Omega.{arith}
+use mathlib.Core.Path.{_≡_, refl, sym, ap, _∙_, subst}
+use mathlib.Core.Logic.{_≢_}
+use mathlib.Core.Option.{Option}
+use mathlib.Core.List.{List}
+use Rattle.esterel.specs.Statement.{Statement}
+use Rattle.esterel.specs.Sets.{none}
+use Rattle.esterel.specs.Reaction.{Code, ended, waiting, leaving, wrong, gives, code, react, inheritanceFirst}
+use Rattle.esterel.specs.Errors.{Error, firstError}
+use Rattle.esterel.specs.Ranks.{mask}
+use Rattle.esterel.specs.Expansion.{expand}
+use Rattle.esterel.specs.Resume as Esterel
+use Rattle.esterel.specs.Resume.{start, resume}
+use Rattle.esterel.specs.Machines.{State}
+use Rattle.esterel.proofs.LabelTests.{valid-is}
+use Rattle.esterel.proofs.Figure5.{valid-active}
+use Rattle.esterel.proofs.Resume.{resumes}
+use Rattle.esterel.specs.States.{Valid}
+use Rattle.esterel.specs.ReadBack.{declaredInstant}
+use Rattle.esterel.proofs.ReadBack.{expand-declared, start-declared}
+use Rattle.sequence.specs.Program.{readBackSignals, program}
+use Rattle.sets.specs.Labels.{labelSet}
+use Rattle.sets.proofs.LabelValues.{labelSet-of}
+use Rattle.sets.specs.declared.labels.Labels.{Labels}
+use Rattle.limits.specs.Limits.{maxDepth, readBackPlace}
+use Rattle.sequence.specs.Writer.{Ranged}
+use Rattle.layout.specs.Layout.{Ready}
+use Rattle.layout.proofs.Laid.{ready}
+use Rattle.layout.specs.Known.{Known, Sound}
+use Rattle.checks.specs.Verdict.{Judged}
+use Rattle.sequence.specs.Check.{Checked, sound, bad, checked, numberOf, checkOf}
+use Rattle.completions.specs.Completions.{completionOf}
+use Rattle.rules.specs.Reactions.{reactionOf}
+use Rattle.rules.specs.declared.reaction.Reaction.{Reaction}
+use Rattle.records.specs.Records.{labelsIn, encodeState, encodeAnswer, Decoded, holds, malformed, decodeState}
+use Rattle.demands.specs.Tick.{Outcome, outcome, written, byState, byCheck}
+use Rattle.instants.specs.declared.Standing.the-variants as stands
+use Rattle.instants.specs.declared.Reply.the-variants.{Refused, Reacted}
+use Rattle.instants.specs.Written.{WritableCode, Writable, writtenFrom}
+use Rattle.instants.specs.Replies.{Decodes, Replies}
+use Rattle.demands.proofs.Sequence.{accepted}
+use Rattle.demands.proofs.Bounds.{Bounded, Exits, ranged-bounded, bounded-expand, bounded-declared, code-exits}
+
+-- WRITTEN: the code's instant writes what esterel's does
+pub written-from : (j : Esterel.Instant) → writtenFrom (reactionOf j) ≡ written j
+unfolding encodeState encodeAnswer none
+written-from (Esterel.instant (gives o ended l t) x) = refl
+written-from (Esterel.instant (gives o waiting l t) x) = rw labelSet-of
+written-from (Esterel.instant (gives o (leaving n) l t) x) = refl
+written-from (Esterel.instant (gives o wrong l t) x) = refl
+
+-- ---- instants fit the answer record
+writable-code : (k : Code) (x : Option Error) → Exits k → WritableCode (completionOf k x)
+writable-code ended x f = tt
+writable-code waiting x f = tt
+writable-code (leaving n) x f = omega arith
+writable-code wrong x f = tt
+
+writable : (t : Statement) (e : ℕ) → Bounded t → (i : Reaction) → i ≡ reactionOf (start t e) → Writable i
+writable t e r i w = subst Writable (sym w) (writable-code (code (react t e)) (firstError t e) (code-exits inheritanceFirst t e r))
+
+-- ---- what is known of a sequence that the check has passed
+pub record Passed (second notes sequence : List ℕ) (readBack : ℕ) : Type 0 where
+  pub p : Statement
+  pub is : checked sequence readBack ≡ sound p
+  pub ranged : Ranged p
+  pub known : Known second notes sequence p
+
+pub passed : (sequence : List ℕ) (readBack : ℕ) (second notes : List ℕ) (n : ℕ) → Judged sequence readBack second notes n → n ≡ 0
+    → Passed second notes sequence readBack
+passed sequence readBack second notes n j z =
+    let a = accepted sequence readBack (sym (j .number) ∙ z) in
+    record {
+      p = a .statement;
+      is = a .is-checked;
+      ranged = a .spelled .1 .ranged;
+      known = j .known (a .statement) (a .is-checked);
+    }
+
+module _ {sequence second notes : List ℕ} {readBack : ℕ} (h : Passed second notes sequence readBack) where
+  pub as-sound : Sound second notes sequence
+  as-sound = record { p = h .p; known = h .known }
+
+  pub as-ready : Ready second maxDepth 0 sequence
+  as-ready = ready 0 (h .p) (h .known .long) (h .known .lies)
+
+-- ---- what a call comes to
+module _ (sequence state : List ℕ) (e readBack : ℕ) where
+  -- what the definition of the tick gives once the lengths are right
+  abbrev Gives : Outcome → List ℕ → Type 0
+  Gives o answer = o ≡ byCheck inheritanceFirst readBack (checked sequence readBack) state e answer
+
+  pub refused : (n : ℕ) → n ≡ checkOf sequence readBack → n ≢ 0 → Replies sequence state e readBack (Refused n)
+  unfolding checkOf
+  refused n h z = record { writable = tt; is = λ answer. go (checked sequence readBack) h answer }
+    where
+      go : (c : Checked) → n ≡ numberOf c → (answer : List ℕ) → outcome n state answer ≡ byCheck inheritanceFirst readBack c state e answer
+      go (bad k) x answer = ap (λ (m : ℕ). outcome m state answer) x
+      go (sound p) x answer = absurd (z x)
+
+  module _ (p : Statement) (s : checked sequence readBack ≡ sound p) (ranged : Ranged p) where
+    -- the term of the program
+    abbrev q : Statement
+    q = program readBack p
+
+    bounded : Bounded q
+    bounded = bounded-declared readBackPlace (readBackSignals readBack) p (ranged-bounded p ranged)
+
+    -- the record holds d
+    by-record : (d : Decoded) → decodeState p state ≡ d → (answer : List ℕ) → Gives (byState inheritanceFirst q d state e answer) answer
+    by-record d w answer =
+        sym (ap (λ (c : Checked). byCheck inheritanceFirst readBack c state e answer) s
+        ∙ ap (λ (x : Decoded). byState inheritanceFirst q x state e answer) w)
+
+    reacts : (t : Statement) (i : Reaction) → Bounded t → i ≡ reactionOf (start t e)
+        → ((answer : List ℕ) → Gives (writtenFrom (reactionOf (start t e))) answer) → Replies sequence state e readBack (Reacted i)
+    reacts t i r h k = record { writable = writable t e r i h; is = λ answer. ap writtenFrom h ∙ k answer }
+
+    pub malformed-reply : Decodes p state stands.Malformed → Replies sequence state e readBack (Refused 11)
+    malformed-reply d = record { writable = tt; is = by-record malformed d }
+
+    pub over-reply : Decodes p state stands.Over → Replies sequence state e readBack (Refused 12)
+    over-reply d = record { writable = tt; is = by-record (holds State.over) d }
+
+    pub fresh-reply : (i : Reaction) → Decodes p state stands.Fresh
+        → i ≡ reactionOf (declaredInstant readBackPlace (readBackSignals readBack) (start p) e) → Replies sequence state e readBack (Reacted i)
+    fresh-reply i d h =
+        reacts q i bounded (h ∙ ap reactionOf (start-declared readBackPlace (readBackSignals readBack) p (start p) (λ x. refl) e))
+        (λ answer. written-from (start q e) ∙ by-record (holds State.fresh) d answer)
+
+    -- resuming by ranks, under the declarations, is the expansion of the program
+    resumed : (m L : ℕ) → Valid p L → m ≡ mask 0 p L
+        → declaredInstant readBackPlace (readBackSignals readBack) (resume 0 p m) e ≡ start (expand q L) e
+    resumed m L v h =
+        start-declared readBackPlace (readBackSignals readBack) (expand p L) (resume 0 p m)
+        (λ x. ap (λ (k : ℕ). resume 0 p k x) h ∙ resumes 0 p L x (valid-active p L v)) e
+        ∙ ap (λ (t : Statement). start t e) (sym (expand-declared readBackPlace (readBackSignals readBack) p L))
+
+    pub waiting-reply : (i : Reaction) (m : Labels) → Decodes p state (stands.Waiting m)
+        → i ≡ reactionOf (declaredInstant readBackPlace (readBackSignals readBack) (resume 0 p (labelSet m)) e)
+        → Replies sequence state e readBack (Reacted i)
+    waiting-reply i m d h =
+        let L = labelsIn state in
+        reacts (expand q L) i (bounded-expand q L bounded)
+        (h ∙ ap reactionOf (resumed (labelSet m) L (valid-is p L .0 (d .1)) (d .2)))
+        (λ answer. written-from (start (expand q L) e) ∙ by-record (holds (State.waits L)) (d .0) answer)

@@ -1,0 +1,29 @@
+-- What an instant writes, from the value by which the code answers, and which instants fit the answer record.
+use Prim.Native.Nat.{ℕ, _+_, _<_}
+use Rattle.esterel.specs.Sets.{none}
+use Rattle.sets.specs.Labels.{labelSet}
+use Rattle.completions.specs.declared.Completion.{Completion}
+use Rattle.completions.specs.declared.Completion.the-variants.{Ended, Waiting, Leaving, Wrong}
+use Rattle.rules.specs.declared.reaction.Reaction.{Reaction}
+use Rattle.records.specs.Records.{stateRecord, answerRecord}
+use Rattle.demands.specs.Tick.{Outcome, outcome}
+
+-- the code of the instant fits a byte
+abbrev pub WritableCode : Completion → Type 0
+WritableCode Ended = Unit {0}
+WritableCode Waiting = Unit {0}
+WritableCode (Leaving n) = n < 254
+WritableCode (Wrong kind place) = Unit {0}
+
+abbrev pub Writable : Reaction → Type 0
+Writable r = WritableCode (r .completion)
+
+-- what an instant writes, by its completion: phase and labels, then code, kind, place and emitted set
+abbrev pub writtenBy : Completion → (emitted labels : ℕ) → Outcome
+writtenBy Ended o L = outcome 0 (stateRecord 2 none) (answerRecord 0 0 0 o)
+writtenBy Waiting o L = outcome 0 (stateRecord 1 L) (answerRecord 1 0 0 o)
+writtenBy (Leaving n) o L = outcome 0 (stateRecord 2 none) (answerRecord (n + 1) 0 0 o)
+writtenBy (Wrong kind place) o L = outcome 0 (stateRecord 2 none) (answerRecord 255 kind place 0)
+
+abbrev pub writtenFrom : Reaction → Outcome
+writtenFrom r = writtenBy (r .completion) (r .emitted) (labelSet (r .labels))

@@ -1,0 +1,78 @@
+// The core of a tick: what a state record holds, and what a call comes to before anything is written. It answers by value and
+// writes nothing.
+ghost use Rattle.layout.specs.Known.{Sound};
+ghost use Rattle.instants.specs.Replies.{DecodesRead, Replies};
+use notes::Notes;
+use program::Position;
+use reading::reader::Seconds;
+use rules::reaction::Reaction;
+use sets::labels::Labels;
+use validity::activity::Validity;
+
+// What a state record holds for an accepted sequence. A waiting machine has the ranks of its active pauses.
+enum Standing {
+    Fresh,
+    Waiting(Labels),
+    Over,
+    Malformed,
+}
+
+// The standing of a record, by what reading the sequence noted.
+fn decode(sequence: &[u8], second: &Seconds, notes: &Notes, state: &[u8]) -> Standing
+    requires { ⌜ Sound (now second) (now notes) (now sequence) ⌝ }
+    ensures { λ r. ⌜ DecodesRead (now (second .entry)) (now (notes .entry)) (now (sequence .entry)) (now (state .entry)) r ⌝ }
+{
+    let phase = records::state::phase(state);
+    let labels = records::state::labels(state);
+    if phase == 1 {
+        return match validity::activity::validity_of(sequence, second, notes, labels) {
+            Validity::Valid(active) => Standing::Waiting(active),
+            Validity::Invalid => Standing::Malformed,
+        };
+    }
+    if sets::labels::is_empty(labels) {
+        if phase == 0 {
+            return Standing::Fresh;
+        }
+        if phase == 2 {
+            return Standing::Over;
+        }
+    }
+    Standing::Malformed
+}
+
+// What a call comes to before anything is written: the row that turns it down, or its reaction.
+pub enum Reply {
+    Refused(u8),
+    Reacted(Reaction),
+}
+
+// The program in the state of a record: a fresh machine reacts, a waiting one resumes.
+pub fn reply_to(sequence: &[u8], state: &[u8], input: u32, read_back: u32) -> Reply
+    ensures { λ r. ⌜ Replies (now (sequence .entry)) (now (state .entry)) input «read_back» r ⌝ }
+{
+    let mut second: Seconds = [0; limits::MAX_BYTES];
+    let mut notes: Notes = [0; notes::LENGTH];
+    let number = checks::verdict::check(sequence, read_back, &mut second, &mut notes);
+    if number != 0 {
+        return Reply::Refused(number);
+    }
+    match decode(sequence, &second, &notes, state) {
+        Standing::Malformed => Reply::Refused(11),
+        Standing::Over => Reply::Refused(12),
+        Standing::Fresh => Reply::Reacted(program::react(
+            sequence,
+            Position::Fresh,
+            input,
+            read_back,
+            &second,
+        )),
+        Standing::Waiting(active) => Reply::Reacted(program::react(
+            sequence,
+            Position::Waiting(active),
+            input,
+            read_back,
+            &second,
+        )),
+    }
+}
