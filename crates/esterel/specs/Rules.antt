@@ -1,7 +1,7 @@
 -- The rules of a reaction as printed: 003, figure 3 (all but loop and signal) and figure 7 (loop and signal), with the
 -- labels of 002, figure 4, its setpause (section 4.2), and the suspend of 02, item 1, which is Berry's (1999).
 -- `Reacts p e (gives o k l p′)` is the printed p —O,k,L/E→ p′.
--- Three things are added, each marked where it stands: the labels, 01's residuals, and 02's order of the signal rules.
+-- Four things are added, each marked where it stands: the labels, 01's residuals, 02's order of the signal rules and its scopes.
 use Prim.Native.Nat.{ℕ}
 use mathlib.Core.Path.{_≡_}
 use mathlib.Core.Logic.{_≢_}
@@ -55,6 +55,7 @@ pub data Reacts : Statement → ℕ → Reaction → Type 0 where
       → Reacts q e (gives o₂ k l₂ q′)
       → Reacts (Statement.seq p q) e (gives (join o o₂) k l₂ q′)
   -- 02, item 4: inheritance is tried first, so the other four ask that no run is wrong
+  -- 02, item 5: outside a declaration with scope `reported` its signal stays emitted; with `local` this is figure 7's removal
   signal++ : {sc : Scope} {e a s o− o+ l− l+ : ℕ} {k− k+ : Code} {p p− p+ : Statement}
       → Reacts p (remove s e) (gives o− k− l− p−)
       → member s o− ≡ true
