@@ -134,15 +134,15 @@ module _ (sequence state : List ℕ) (e readBack : ℕ) (answer : List ℕ) wher
   same-written : (c : Compared sequence state e readBack answer) → written (startBy printed (c .term) e) ≡ written (start (c .term) e) → Same
   same-written c h = c .old ∙ h ∙ sym (c .new)
 
-  -- (a) not wrong by the new order
-  pub tick-kept : codeShown (tickOf sequence state e readBack answer) ≢ 255 → Same
+  -- (a) no instant that is wrong by the new order
+  pub tick-kept : (number (tickOf sequence state e readBack answer) ≡ 0 → codeShown (tickOf sequence state e readBack answer) ≢ 255) → Same
   tick-kept n = by-number (refused state e readBack answer sequence) go
     where
       go : Compared sequence state e readBack answer → Same
       go c = same-written c (by (tested (isWrong (code (react (c .term) e)))))
         where
           by : Tested (isWrong (code (react (c .term) e))) → written (startBy printed (c .term) e) ≡ written (start (c .term) e)
-          by (Tested.yes w) = absurd (n (ap codeShown (c .new) ∙ shown-wrong (c .term) e (wrong-is (code (react (c .term) e)) w)))
+          by (Tested.yes w) = absurd (n (ap number (c .new)) (ap codeShown (c .new) ∙ shown-wrong (c .term) e (wrong-is (code (react (c .term) e)) w)))
           by (Tested.no w) = kept-written (c .term) e w
 
   -- (b) changed
@@ -162,13 +162,13 @@ module _ (sequence state : List ℕ) (e readBack : ℕ) (answer : List ℕ) wher
           )
 
   -- (c) wrong by the printed order: the same records, kind and place included
-  pub tick-stays : number (tickBy printed sequence state e readBack answer) ≡ 0 → codeShown (tickBy printed sequence state e readBack answer) ≡ 255 → Same
-  tick-stays z h = by-number (refused state e readBack answer sequence)
+  pub tick-stays : codeShown (tickBy printed sequence state e readBack answer) ≡ 255 → Same
+  tick-stays h = by-number (refused state e readBack answer sequence)
       (λ c. same-written c (stays-written (c .term) e (wrong-shown printed (c .term) e (c .fits) (ap codeShown (sym (c .old)) ∙ h))))
 
 -- ---- lists of ticks, up to the first that is wrong by the new order
 pub outcomes-kept : (sequence : List ℕ) (readBack : ℕ) (state : List ℕ) (calls : List Call)
-    → ((o : Outcome) → List·Memᴰ o (outcomes tickOf sequence readBack state calls) → codeShown o ≢ 255)
+    → ((o : Outcome) → List·Memᴰ o (outcomes tickOf sequence readBack state calls) → number o ≡ 0 → codeShown o ≢ 255)
     → outcomes (tickBy printed) sequence readBack state calls ≡ outcomes tickOf sequence readBack state calls
 unfolding outcomes
 outcomes-kept sequence readBack state [] n = refl

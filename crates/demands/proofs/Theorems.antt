@@ -80,9 +80,9 @@ pub paper-knows-no-labels : (t u : Statement) → erase t ≡ erase u → (cs : 
 paper-knows-no-labels = paper-labels.paper-knows-no-labels
 
 -- ---- the two orders of the signal rules (02, item 4): `tickBy printed` is the tick as it was
--- an instant that is not wrong has the records it had
+-- an instant that is not wrong has the records it had, and so has a call that is turned down
 pub not-wrong-kept : (sequence state : List ℕ) (e readBack : ℕ) (answer : List ℕ)
-    → codeIn (answerAfterwards (tickOf sequence state e readBack answer)) ≢ 255
+    → (number (tickOf sequence state e readBack answer) ≡ 0 → codeIn (answerAfterwards (tickOf sequence state e readBack answer)) ≢ 255)
     → tickBy printed sequence state e readBack answer ≡ tickOf sequence state e readBack answer
 not-wrong-kept = orders.tick-kept
 
@@ -95,14 +95,13 @@ changed-only = orders.tick-changed
 
 -- an instant that was wrong has the records it had: the same first error is named
 pub wrong-stays : (sequence state : List ℕ) (e readBack : ℕ) (answer : List ℕ)
-    → number (tickBy printed sequence state e readBack answer) ≡ 0
     → codeIn (answerAfterwards (tickBy printed sequence state e readBack answer)) ≡ 255
     → tickBy printed sequence state e readBack answer ≡ tickOf sequence state e readBack answer
 wrong-stays = orders.tick-stays
 
 -- so lists of ticks are the same up to the first that is wrong
 pub not-wrong-kept-list : (sequence : List ℕ) (readBack : ℕ) (state : List ℕ) (cs : List Call)
-    → ((o : Outcome) → List·Memᴰ o (outcomes tickOf sequence readBack state cs) → codeIn (answerAfterwards o) ≢ 255)
+    → ((o : Outcome) → List·Memᴰ o (outcomes tickOf sequence readBack state cs) → number o ≡ 0 → codeIn (answerAfterwards o) ≢ 255)
     → outcomes (tickBy printed) sequence readBack state cs ≡ outcomes tickOf sequence readBack state cs
 not-wrong-kept-list = orders.outcomes-kept
 
