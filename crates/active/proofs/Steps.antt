@@ -8,7 +8,7 @@ use borrow.Author.Tests.{eqb-true, lt-ltb}
 use Rattle.esterel.specs.Sets.{none, join, empty, below, from}
 use Rattle.esterel.specs.Statement.{local, Statement, pause, seq, par, loop, present, signal, try, suspend}
 use Rattle.esterel.specs.Ranks.{middle, labelsBy}
-use Rattle.esterel.proofs.Ranks.{labels-by-none}
+use Rattle.theory.proofs.Ranks.{labels-by-none}
 use Rattle.sets.specs.Sets.{labelCount, onlyBelow}
 use Rattle.sequence.specs.Commands.{Command}
 use Rattle.sequence.proofs.Table.{byteOf}

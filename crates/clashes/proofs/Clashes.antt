@@ -5,9 +5,9 @@ use mathlib.Core.Bool.{Bool, true, false, not, _||_, and-eq-true-iff, false≢tr
 use mathlib.Core.Logic.{_↔_, ⊎-elim}
 use lib.Bits.{bitAnd}
 use Rattle.esterel.specs.Sets.{member, none, join, remove}
-use Rattle.esterel.proofs.Booleans.{or-l, or-r, or-cases, never, clash}
-use Rattle.esterel.proofs.Sets.{member-and}
-use Rattle.esterel.proofs.LabelSets.{in-l, in-r, in-none, some-member}
+use Rattle.theory.proofs.Booleans.{or-l, or-r, or-cases, never, clash}
+use Rattle.theory.proofs.Sets.{member-and}
+use Rattle.theory.proofs.LabelSets.{in-l, in-r, in-none, some-member}
 use Rattle.sets.specs.Sets.{Disjoint}
 use Rattle.clashes.specs.Clashes.{InRowOf, RowsWithin, CoversRows, Clash, Clashes}
 use Rattle.sets.proofs.Members.{Seeking, seek-as, seek-on, seek-end}

@@ -15,8 +15,8 @@ use Rattle.esterel.specs.Errors.{firstError}
 use Rattle.esterel.specs.States.{NoSetpause}
 use Rattle.esterel.specs.Expansion.{expand}
 use Rattle.esterel.specs.Machines.{State, stateAfter, byLabels, Rewriting, byRewriting}
-use Rattle.esterel.proofs.Agreement.{TermOf, step}
-use Rattle.esterel.proofs.ReadBack.{noSetpause-declared}
+use Rattle.theory.proofs.Agreement.{TermOf, step}
+use Rattle.theory.proofs.ReadBack.{noSetpause-declared}
 use Rattle.limits.specs.Limits.{placeBytes, readBackPlace}
 use Rattle.sequence.specs.Program.{readBackSignals, program}
 use Rattle.sequence.specs.Check.{checkOf}

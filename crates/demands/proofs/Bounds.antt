@@ -14,9 +14,9 @@ use Rattle.esterel.specs.Reaction.{ended, waiting, leaving, wrong, Reaction, gi
 use Rattle.esterel.specs.States.{active}
 use Rattle.esterel.specs.LabelTests.{activeLabels}
 use Rattle.esterel.specs.Expansion.{expand}
-use Rattle.esterel.proofs.Booleans.{or-cases}
-use Rattle.esterel.proofs.Sets.{member-none, member-only, member-join, member-remove, member-step, ext}
-use Rattle.esterel.proofs.Stability.{Stops}
+use Rattle.theory.proofs.Booleans.{or-cases}
+use Rattle.theory.proofs.Sets.{member-none, member-only, member-join, member-remove, member-step, ext}
+use Rattle.theory.proofs.Stability.{Stops}
 use Rattle.esterel.specs.ReadBack.{declared}
 use Rattle.limits.specs.Limits.{labelCount, signalCount, maxExit}
 use Rattle.sequence.specs.Writer.{Ranged}

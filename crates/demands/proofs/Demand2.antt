@@ -16,10 +16,10 @@ use Rattle.esterel.specs.Expansion.{expand}
 use Rattle.esterel.specs.Resume.{instant, startBy}
 use Rattle.esterel.specs.Machines.{shown, State}
 use Rattle.esterel.specs.Rules.{Reacts}
-use Rattle.esterel.proofs.Rules.{reacts-is}
-use Rattle.esterel.proofs.SignalOrders.{wrong-named}
-use Rattle.esterel.proofs.Derivations.{first-use}
-use Rattle.esterel.proofs.LabelTests.{valid-is}
+use Rattle.theory.proofs.Rules.{reacts-is}
+use Rattle.theory.proofs.SignalOrders.{wrong-named}
+use Rattle.theory.proofs.Derivations.{first-use}
+use Rattle.theory.proofs.LabelTests.{valid-is}
 use Rattle.limits.specs.Limits.{signalCount, placeBytes}
 use Rattle.sequence.specs.Program.{program}
 use Rattle.sequence.specs.Check.{checkOf}

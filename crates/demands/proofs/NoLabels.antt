@@ -11,7 +11,7 @@ use Rattle.esterel.specs.Statement.{Statement}
 use Rattle.esterel.specs.Reaction.{ended, waiting, leaving, wrong, Reaction, gives, react}
 use Rattle.esterel.specs.Errors.{Error, firstError}
 use Rattle.esterel.specs.Machines.{Seen, instant, refused, seen, run, Rewriting, termAfter, byRewriting, erase}
-use Rattle.esterel.proofs.Erasure.{erased-run}
+use Rattle.theory.proofs.Erasure.{erased-run}
 use Rattle.records.specs.Records.{answerLength}
 use Rattle.demands.specs.Paper.{Call, Report, turnedDown, phaseNumber, phaseOf, reportOf, paperTick, paper}
 

@@ -14,7 +14,7 @@ use Rattle.esterel.specs.Expansion.{expand}
 use Rattle.esterel.specs.Resume.{Instant, start}
 use Rattle.esterel.specs.Machines.{State}
 use Rattle.esterel.specs.ReadBack.{membersFrom, declared, declaredInstant}
-use Rattle.esterel.proofs.ReadBack.{members-none, expand-declared, start-declared, AgreeOutside, declared-unread}
+use Rattle.theory.proofs.ReadBack.{members-none, expand-declared, start-declared, AgreeOutside, declared-unread}
 use Rattle.limits.specs.Limits.{maxBytes, maxDepth, maxSignals, signalCount, readBackPlace}
 use Rattle.sequence.specs.Reader.{Read, accepted, refused, read, nesting}
 use Rattle.sequence.specs.Program.{readBackSignals, program}

@@ -14,10 +14,10 @@ use Rattle.esterel.specs.Reaction.{Reaction, gives, ended, waiting, leaving, wr
 use Rattle.esterel.specs.States.{Valid, Distinct, Targeted, Source, WellFormed}
 use Rattle.esterel.specs.Expansion.{expand}
 use Rattle.esterel.specs.Machines.{stateAfter}
-use Rattle.esterel.proofs.Theorems.{ReactionOf, of-statement, of-expansion, FromValid, stable, labels-of-stops}
+use Rattle.theory.proofs.Theorems.{ReactionOf, of-statement, of-expansion, FromValid, stable, labels-of-stops}
 use Rattle.limits.specs.Limits.{labelCount, maxBytes, placeBytes, readBackPlace}
-use Rattle.esterel.proofs.ReadBack.{source-declared, distinct-declared, targeted-declared, wellFormed-declared, valid-declared, stops-declared}
-use Rattle.esterel.proofs.LabelTests.{distinct-is, targeted-is, wellFormed-is, valid-is}
+use Rattle.theory.proofs.ReadBack.{source-declared, distinct-declared, targeted-declared, wellFormed-declared, valid-declared, stops-declared}
+use Rattle.theory.proofs.LabelTests.{distinct-is, targeted-is, wellFormed-is, valid-is}
 use Rattle.sequence.specs.Reader as Reader
 use Rattle.sequence.specs.Program.{readBackSignals, program}
 use Rattle.sequence.specs.Check.{Checked, sound, bad, checked, numberOf, checkOf}

@@ -14,9 +14,9 @@ use Rattle.esterel.specs.Errors.{Error, firstErrorBy, firstError}
 use Rattle.esterel.specs.SignalOrders.{overlap}
 use Rattle.esterel.specs.Resume.{instant, startBy, start}
 use Rattle.esterel.specs.Machines.{State}
-use Rattle.esterel.proofs.Booleans.{Tested, tested}
-use Rattle.esterel.proofs.Rules.{wrong-is}
-use Rattle.esterel.proofs.SignalOrders as orders
+use Rattle.theory.proofs.Booleans.{Tested, tested}
+use Rattle.theory.proofs.Rules.{wrong-is}
+use Rattle.theory.proofs.SignalOrders as orders
 use Rattle.sequence.specs.Program.{program}
 use Rattle.sequence.specs.Check.{Checked, sound, bad, checked, checkOf}
 use Rattle.records.specs.Records.{stateLength, answerLength, Decoded, holds, malformed, decodeState, encodeState, encodeAnswer, codeIn, codeByte}

@@ -14,7 +14,7 @@ use Rattle.esterel.specs.Statement.{Statement}
 use Rattle.esterel.specs.States.{Valid}
 use Rattle.esterel.specs.LabelTests.{valid}
 use Rattle.esterel.specs.Machines.{State}
-use Rattle.esterel.proofs.LabelTests.{valid-is}
+use Rattle.theory.proofs.LabelTests.{valid-is}
 use Rattle.sequence.specs.Program.{program}
 use Rattle.sequence.specs.Check.{Checked, sound, bad, checked}
 use Rattle.sequence.specs.Rows.{Spells, ByRows}

@@ -2,14 +2,14 @@
 use Prim.Native.Nat.{ℕ, _+_}
 use mathlib.Core.Path.{_≡_, refl}
 use mathlib.Core.Bool.{true, false}
-use mathlib.Core.Option.{Option}
+use mathlib.Core.Option.{Option, some}
 use mathlib.Core.List.{List, [], _∷_, map}
 use Rattle.esterel.specs.Sets.{member, none, only, join, insert, remove, below, from}
 use Rattle.esterel.specs.Statement.{local, Statement, nothing, pause, emit, exit, seq, par, loop, present, signal, try, setpause, suspend, held}
 use Rattle.esterel.specs.Reaction.{Code, ended, waiting, leaving, wrong, gives, code, emitted, labels, residual, reactBy, react}
-use Rattle.esterel.specs.Errors.{Error, noError, errorsBy, errors, instantaneous, notReactive, notDeterministic}
-use Rattle.esterel.specs.Places.{first, second, Alternative, Exclusive}
-use Rattle.esterel.specs.States.{active}
+use Rattle.esterel.specs.Errors.{Error, noError, errorsBy, errors, firstError, instantaneous, notReactive, notDeterministic}
+use Rattle.esterel.specs.Places.{first, second, PartOf, At, Alternative, Exclusive}
+use Rattle.esterel.specs.States.{active, Triggers}
 use Rattle.esterel.specs.Expansion.{expand}
 use Rattle.esterel.specs.LabelTests.{labelsOf, activeLabels}
 use Rattle.esterel.specs.Ranks.{pauseCount, mask, rank, labelsBy, compatible}
@@ -66,6 +66,8 @@ table =
     ∷ (seq (emit 0) (present 0 (emit 1) nothing), (ended, 1, 0, []))
     ∷ (inherits, (wrong, 0, 0, instantaneous 8 ∷ []))
     ∷ (beside, (wrong, 0, 0, instantaneous 13 ∷ instantaneous 13 ∷ []))
+    -- the body emits its signal in both runs, and the run with it is wrong
+    ∷ (signal local 0 0 (seq (emit 0) (seq (emit 1) (present 0 (loop 10 nothing) nothing))), (wrong, 0, 0, instantaneous 10 ∷ []))
     ∷ (par (emit 1) (loop 3 nothing), (wrong, 2, 0, instantaneous 3 ∷ []))
     -- the order of 02, item 3: an error in the run without the signal, in the run with it, in both
     ∷ (signal local 0 0 (present 0 nothing (loop 5 nothing)), (wrong, 0, 0, instantaneous 5 ∷ []))
@@ -90,6 +92,14 @@ table =
 rows : map (λ (x : Statement × Row). row (x .0)) table ≡ map (λ (x : Statement × Row). x .1) table
 unfolding table reactBy errorsBy member none only join insert remove
 rows = refl
+
+-- of two errors the first is named: that of the run without the signal
+abbrev erring : Statement
+erring = signal local 0 0 (present 0 (loop 4 nothing) (loop 6 nothing))
+
+first-named : (firstError erring 0 ≡ some (instantaneous 6)) × (firstError nothing 0 ≡ Option.none)
+unfolding reactBy errorsBy member none only join insert remove
+first-named = (refl, refl)
 
 -- an instant that waits, or ends, names no error and shows no signal
 abbrev quietly : Code → Seen
@@ -116,6 +126,16 @@ states : (labels (react jump 0) ≡ 2)
 unfolding active expand reactBy member none only join insert remove
 states = (refl, refl, refl, refl, refl, Exclusive.apart Alternative.test)
 
+-- 002, definition 3: two setpauses side by side do not trigger together, as their labels would have to
+side-by-side : ¬ Triggers (par (setpause 1) (setpause 2)) 1 2
+side-by-side t = go (t .setpauses (first ∷ []) (second ∷ []) (At.inside PartOf.par₁ At.here) (At.inside PartOf.par₂ At.here))
+  where
+    neither : ¬ Alternative (par (setpause 1) (setpause 2))
+    neither = elim [ ]
+
+    go : ¬ Exclusive (par (setpause 1) (setpause 2)) (first ∷ []) (second ∷ [])
+    go (Exclusive.apart h) = neither h
+
 -- labels 5 and 4 have ranks 0 and 2; the second part begins with rank 1, the second side of the parallel with rank 2
 ranks : (mask 0 three 48 ≡ 5)
     × (mask 7 three 48 ≡ 640)
@@ -139,6 +159,12 @@ resumed : (resume 0 three 4 0 ≡ Instant.instant (gives 0 ended 0 (par nothing 
     × (resume 0 (seq three (emit 1)) 4 0 ≡ Instant.instant (gives 2 ended 0 nothing) Option.none)
 unfolding resume pauseCount below from reactBy errorsBy member none only join insert remove
 resumed = (refl, refl, refl, refl, refl, refl)
+
+-- of two wrong sides the first is named
+both-wrong : resume 0 (par (seq (pause 0) (loop 4 nothing)) (seq (pause 1) (loop 9 nothing))) 3 0
+    ≡ Instant.instant (gives 0 wrong 0 (par nothing nothing)) (some (instantaneous 4))
+unfolding resume pauseCount below from reactBy errorsBy member none only join insert remove
+both-wrong = refl
 
 -- the pauses of the parallel are compatible, those of the sequence are not
 together : (compatible 0 three 6 ≡ true) × (compatible 0 three 5 ≡ false) × (compatible 0 three 3 ≡ false)

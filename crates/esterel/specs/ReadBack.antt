@@ -8,7 +8,7 @@ use Rattle.esterel.specs.Sets.{member, none, only, join, insert, remove}
 use Rattle.esterel.specs.Statement.{reported, Statement, nothing, emit, seq, present, signal}
 use Rattle.esterel.specs.Reaction.{ended, gives, failed, reactBy, react}
 use Rattle.esterel.specs.Errors.{errorsBy, errors, notReactive, notDeterministic}
-use Rattle.esterel.specs.Resume.{Instant, signalInstant}
+use Rattle.esterel.specs.Resume.{Instant, start, signalInstant}
 
 abbrev pub keepIf : Bool → ℕ → List ℕ → List ℕ
 keepIf true i is = i ∷ is
@@ -52,3 +52,9 @@ order-matters : (react (declared 9 (0 ∷ 1 ∷ []) (present 0 (present 1 (emit 
     × (errors (declared 9 (0 ∷ 1 ∷ []) (present 1 (present 0 (emit 1) nothing) nothing)) 0 ≡ notDeterministic 9 ∷ [])
 unfolding declared reactBy errorsBy member none only join insert remove
 order-matters = (refl, refl)
+
+-- the host says that 0 is present: the test does not see it
+not-believed : declaredInstant 9 (0 ∷ []) (start (present 0 (emit 1) nothing)) 1
+    ≡ start (declared 9 (0 ∷ []) (present 0 (emit 1) nothing)) 0
+unfolding declared declaredInstant reactBy errorsBy member none only join insert remove
+not-believed = refl

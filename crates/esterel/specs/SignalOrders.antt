@@ -63,3 +63,9 @@ one-more : (reactBy printed oneMore 0 ≡ react oneMore 0)
     × (overlap oneMore 0 ≡ false)
 unfolding reactBy errorsBy overlap member none only join insert remove
 one-more = (refl, refl, refl, refl)
+
+-- by the printed order a body may end though an error is in its tree: a loop around it errs after it
+errs-after : errorsBy printed (loop 0 (signal local 1 0 (seq (emit 0) (present 0 nothing (loop 9 nothing))))) 0
+    ≡ instantaneous 9 ∷ instantaneous 0 ∷ []
+unfolding reactBy errorsBy member none only join insert remove
+errs-after = refl

@@ -1,1 +1,1 @@
-// Kernel Pure Esterel with no bytes in it: definitions in specs/, theorems in proofs/, no code.
+// Kernel Pure Esterel with no bytes in it: definitions and worked examples in specs/, no code. The theorems are theory's.

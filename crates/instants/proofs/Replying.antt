@@ -14,12 +14,12 @@ use Rattle.esterel.specs.Expansion.{expand}
 use Rattle.esterel.specs.Resume as Esterel
 use Rattle.esterel.specs.Resume.{start, resume}
 use Rattle.esterel.specs.Machines.{State}
-use Rattle.esterel.proofs.LabelTests.{valid-is}
-use Rattle.esterel.proofs.Figure5.{valid-active}
-use Rattle.esterel.proofs.Resume.{resumes}
+use Rattle.theory.proofs.LabelTests.{valid-is}
+use Rattle.theory.proofs.Figure5.{valid-active}
+use Rattle.theory.proofs.Resume.{resumes}
 use Rattle.esterel.specs.States.{Valid}
 use Rattle.esterel.specs.ReadBack.{declaredInstant}
-use Rattle.esterel.proofs.ReadBack.{expand-declared, start-declared}
+use Rattle.theory.proofs.ReadBack.{expand-declared, start-declared}
 use Rattle.sequence.specs.Program.{readBackSignals, program}
 use Rattle.sets.specs.Labels.{labelSet}
 use Rattle.sets.proofs.LabelValues.{labelSet-of}

@@ -8,8 +8,8 @@ use borrow.Author.Tests.{eqb-true}
 use Rattle.esterel.specs.Sets.{member, none, empty}
 use Rattle.esterel.specs.Statement.{Statement}
 use Rattle.esterel.specs.LabelTests.{subset, pauses, setpauses, distinct, targeted, wellFormed}
-use Rattle.esterel.proofs.LabelSets.{in-none, subset-is}
-use Rattle.esterel.proofs.LabelTests.{setpauses-is, distinct-is, wellFormed-is, noSetpause-formed}
+use Rattle.theory.proofs.LabelSets.{in-none, subset-is}
+use Rattle.theory.proofs.LabelTests.{setpauses-is, distinct-is, wellFormed-is, noSetpause-formed}
 use Rattle.sets.specs.Sets.{Subset}
 use Rattle.layout.specs.Notes.{Noted, pausesIn, setpausesIn, twiceIn}
 use Rattle.sequence.specs.Check.{labelRules, numberOf}

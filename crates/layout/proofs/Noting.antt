@@ -13,10 +13,10 @@ use Rattle.esterel.specs.Sets.{member, none, only, join, empty}
 use Rattle.esterel.specs.Statement.{Statement, nothing, pause, emit, exit, seq, par, loop, present, signal, try, setpause, suspend, held}
 use Rattle.esterel.specs.LabelTests.{disjoint, labelsOf, pauses, setpauses, distinct}
 use Rattle.esterel.specs.Ranks.{pauseCount, rank}
-use Rattle.esterel.proofs.Booleans.{never, clash, Tested, tested}
-use Rattle.esterel.proofs.Sets.{member-only, join-none-l, join-none-r}
-use Rattle.esterel.proofs.LabelSets.{in-none, in-l, in-r, in-join, disjoint-is}
-use Rattle.esterel.proofs.SetAlgebra.{join-assoc, empty-join, disjoint-none, none-disjoint, once-both}
+use Rattle.theory.proofs.Booleans.{never, clash, Tested, tested}
+use Rattle.theory.proofs.Sets.{member-only, join-none-l, join-none-r}
+use Rattle.theory.proofs.LabelSets.{in-none, in-l, in-r, in-join, disjoint-is}
+use Rattle.theory.proofs.SetAlgebra.{join-assoc, empty-join, disjoint-none, none-disjoint, once-both}
 use Rattle.limits.specs.Limits.{labelCount}
 use Rattle.sequence.specs.Writer.{bytesOf, size, Ranged}
 use Rattle.layout.specs.Notes.{pausesIn, setpausesIn, twiceIn, countIn, rankIn, noteCount, noNotes, notePause, noteSetpause, note, Noted}

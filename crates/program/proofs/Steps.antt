@@ -13,9 +13,9 @@ use Rattle.esterel.specs.Sets.{member, none, empty, insert, remove}
 use Rattle.esterel.specs.Statement.{reported}
 use Rattle.esterel.specs.Resume.{Instant, signalInstant}
 use Rattle.esterel.specs.ReadBack.{membersFrom, declaredInstant}
-use Rattle.esterel.proofs.Booleans.{clash}
-use Rattle.esterel.proofs.Sets.{member-high}
-use Rattle.esterel.proofs.ReadBack.{members-none, members-lowest}
+use Rattle.theory.proofs.Booleans.{clash}
+use Rattle.theory.proofs.Sets.{member-high}
+use Rattle.theory.proofs.ReadBack.{members-none, members-lowest}
 use Rattle.sequence.specs.Program.{readBackSignals}
 use Rattle.rules.specs.declared.reaction.Reaction.{Reaction}
 use Rattle.rules.specs.Reactions.{reactionOf, FromTwo}

@@ -11,7 +11,7 @@ use Rattle.esterel.specs.Reaction.{ended, waiting, leaving, gives, reactBy}
 use Rattle.esterel.specs.Errors.{errorsBy}
 use Rattle.esterel.specs.Resume as Esterel
 use Rattle.esterel.specs.Resume.{instant, start, seqInstant, parInstant, loopInstant, tryInstant, signalInstant}
-use Rattle.esterel.proofs.Resume.{start-seq, start-par, start-loop, start-present, start-signal, start-try, start-suspend}
+use Rattle.theory.proofs.Resume.{start-seq, start-par, start-loop, start-present, start-signal, start-try, start-suspend}
 use Rattle.rules.specs.declared.reaction.Reaction.{Reaction}
 use Rattle.rules.specs.Reactions.{reactionOf}
 use Rattle.rules.proofs.Combining.{suspend-reaction}

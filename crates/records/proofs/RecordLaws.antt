@@ -13,7 +13,7 @@ use Rattle.esterel.specs.States.{Valid}
 use Rattle.esterel.specs.LabelTests.{valid}
 use Rattle.esterel.specs.Resume.{instant}
 use Rattle.esterel.specs.Machines.{shown, State}
-use Rattle.esterel.proofs.LabelTests.{valid-is}
+use Rattle.theory.proofs.LabelTests.{valid-is}
 use Rattle.numbers.specs.Bytes.{leBytes, leNumber}
 use Rattle.limits.specs.Limits.{labelBytes, placeBytes, signalBytes}
 use Rattle.records.specs.Records.{stateLength, answerLength, stateRecord, encodeState, holds, malformed, decodeState, codeByte, answerRecord, codeIn, kindIn, placeIn, emittedIn, encodeAnswer}

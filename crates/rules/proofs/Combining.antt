@@ -14,7 +14,7 @@ use Rattle.esterel.specs.Reaction as rules
 use Rattle.esterel.specs.Errors.{Error, instantaneous, notReactive, notDeterministic}
 use Rattle.esterel.specs.Resume as Esterel
 use Rattle.esterel.specs.Resume.{instant, ifWrong, seqInstant, parInstant, loopInstant, tryInstant, suspendInstant, signalNames, signalInstant}
-use Rattle.esterel.proofs.Rules.{either-wrong}
+use Rattle.theory.proofs.Rules.{either-wrong}
 use Rattle.completions.specs.declared.Completion.{Completion}
 use Rattle.rules.specs.declared.reaction.Reaction.{Reaction}
 use Rattle.rules.specs.declared.command.Choice.{Choice}

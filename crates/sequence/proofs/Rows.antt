@@ -13,7 +13,7 @@ use borrow.Author.Tests.{ltb-true, ltb-false, leb-true, le-leb}
 use Rattle.esterel.specs.Statement.{Statement}
 use Rattle.esterel.specs.States.{Distinct, Targeted, WellFormed}
 use Rattle.esterel.specs.LabelTests.{distinct, targeted, wellFormed}
-use Rattle.esterel.proofs.LabelTests.{distinct-is, targeted-is, wellFormed-is}
+use Rattle.theory.proofs.LabelTests.{distinct-is, targeted-is, wellFormed-is}
 use Rattle.limits.specs.Limits.{maxBytes, maxDepth, maxSignals}
 use Rattle.sequence.specs.Commands.{declares}
 use Rattle.sequence.specs.Reader.{Read, accepted, refused, Front, command, front, read, nesting}

@@ -10,8 +10,8 @@ use lib.Pow.{pow-mono, shl-exact}
 use lib.Bits.{bitAnd, bitXor, and-zero-r, xor-zero-r}
 use borrow.Author.Tests.{eqb-true, eq-eqb, lt-ltb, le-ltb, ltb-false}
 use Rattle.esterel.specs.Sets.{member, none, only, join, insert, remove, below}
-use Rattle.esterel.proofs.Sets.{member-and, member-none, member-remove, member-high, join-none-r, ext}
-use Rattle.esterel.proofs.SplitSets.{below-and, below-all}
+use Rattle.theory.proofs.Sets.{member-and, member-none, member-remove, member-high, join-none-r, ext}
+use Rattle.theory.proofs.SplitSets.{below-and, below-all}
 use Rattle.sets.specs.Sets.{onlyBelow, insertBelow, Subset, Disjoint}
 
 -- one, shifted

@@ -8,8 +8,8 @@ use lib.Dec.{eqb, eqb·suc-suc, eqb·zero-suc}
 use lib.Count.{trailingZeros, under, trailing-of-zero}
 use borrow.Author.Tests.{eq-eqb, eqb-true}
 use Rattle.esterel.specs.Sets.{member, none, remove}
-use Rattle.esterel.proofs.Sets.{member-step, member-remove, ext}
-use Rattle.esterel.proofs.LabelSets.{even as even-number}
+use Rattle.theory.proofs.Sets.{member-step, member-remove, ext}
+use Rattle.theory.proofs.LabelSets.{even as even-number}
 use Rattle.sets.specs.Sets.{Lowest}
 
 odd : (s : ℕ) (r : ℕ) → s % 2 ≡ suc r → member 0 s ≡ true

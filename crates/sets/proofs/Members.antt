@@ -7,8 +7,8 @@ use native.Mathlib.Omega.{arith}
 use lib.Dec.{eqb}
 use borrow.Author.Tests.{eqb-true, eqb-false, not-true, not-false}
 use Rattle.esterel.specs.Sets.{member, none, remove}
-use Rattle.esterel.proofs.Booleans.{clash}
-use Rattle.esterel.proofs.Sets.{member-none, member-remove}
+use Rattle.theory.proofs.Booleans.{clash}
+use Rattle.theory.proofs.Sets.{member-none, member-remove}
 use Rattle.sets.specs.Sets.{Lowest}
 use Rattle.sets.proofs.Lowest.{remove-less}
 

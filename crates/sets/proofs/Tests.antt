@@ -4,7 +4,7 @@ use mathlib.Core.Path.{_≡_}
 use mathlib.Core.Bool.{Bool, true}
 use mathlib.Core.Logic.{_↔_}
 use Rattle.esterel.specs.LabelTests.{subset}
-use Rattle.esterel.proofs.LabelSets.{subset-is, same-test}
+use Rattle.theory.proofs.LabelSets.{subset-is, same-test}
 use Rattle.sets.specs.Sets.{Subset}
 
 -- the code's test that one set is in another

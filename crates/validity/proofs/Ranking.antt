@@ -11,14 +11,14 @@ use Rattle.esterel.specs.Sets.{member, none, only, join, remove}
 use Rattle.esterel.specs.Statement.{Statement}
 use Rattle.esterel.specs.LabelTests.{pauses, distinct}
 use Rattle.esterel.specs.Ranks.{pauseCount, mask, rank}
-use Rattle.esterel.proofs.Booleans.{Tested, tested, clash}
-use Rattle.esterel.proofs.Sets.{member-join, member-only, member-remove, join-none-l, join-none-r, ext}
-use Rattle.esterel.proofs.SetAlgebra.{join-assoc}
-use Rattle.esterel.proofs.LabelTests.{distinct-is}
-use Rattle.esterel.proofs.Ranks.{mask-none, mask-join, mask-only, rank-lt}
-use Rattle.esterel.proofs.Counts.{few-pauses}
+use Rattle.theory.proofs.Booleans.{Tested, tested, clash}
+use Rattle.theory.proofs.Sets.{member-join, member-only, member-remove, join-none-l, join-none-r, ext}
+use Rattle.theory.proofs.SetAlgebra.{join-assoc}
+use Rattle.theory.proofs.LabelTests.{distinct-is}
+use Rattle.theory.proofs.Ranks.{mask-none, mask-join, mask-only, rank-lt}
+use Rattle.theory.proofs.Counts.{few-pauses}
 use Rattle.sets.specs.Sets.{Subset, labelCount, onlyBelow}
-use Rattle.esterel.proofs.Sets.{member-high}
+use Rattle.theory.proofs.Sets.{member-high}
 use Rattle.layout.specs.Notes.{Noted, pausesIn, rankIn}
 use Rattle.validity.specs.Activity.{Ranked, Masked}
 

@@ -8,7 +8,7 @@ use Rattle.esterel.specs.Sets.{none, empty}
 use Rattle.esterel.specs.Statement.{Statement}
 use Rattle.esterel.specs.LabelTests.{subset, pauses, valid}
 use Rattle.esterel.specs.Ranks.{mask, compatible}
-use Rattle.esterel.proofs.Compatible.{valid-by}
+use Rattle.theory.proofs.Compatible.{valid-by}
 use Rattle.sets.specs.Sets.{Subset}
 use Rattle.sets.proofs.Tests.{subset-by}
 

@@ -8,8 +8,8 @@ use Rattle.esterel.specs.Sets.{member}
 use Rattle.esterel.specs.Statement.{Statement}
 use Rattle.esterel.specs.LabelTests as Esterel
 use Rattle.esterel.specs.LabelTests.{pauses, targeted, rivals, aside, wellFormed}
-use Rattle.esterel.proofs.Booleans.{never}
-use Rattle.esterel.proofs.LabelTests.{rivals-paused, aside-paused, unmixed-is}
+use Rattle.theory.proofs.Booleans.{never}
+use Rattle.theory.proofs.LabelTests.{rivals-paused, aside-paused, unmixed-is}
 use Rattle.matrix.specs.Rows.{rowOf}
 use Rattle.clashes.specs.Clashes.{RowsWithin, Clash, Clashes}
 

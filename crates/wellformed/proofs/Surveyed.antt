@@ -10,9 +10,9 @@ use Rattle.esterel.specs.Sets.{member, none, join}
 use Rattle.esterel.specs.Statement.{Statement}
 use Rattle.esterel.specs.LabelTests.{labelsOf, Joint, before}
 use Rattle.esterel.specs.LabelRows.{fill}
-use Rattle.esterel.proofs.Sets.{join-none-l}
-use Rattle.esterel.proofs.Booleans.{Tested, tested}
-use Rattle.esterel.proofs.LabelRows.{fill-is}
+use Rattle.theory.proofs.Sets.{join-none-l}
+use Rattle.theory.proofs.Booleans.{Tested, tested}
+use Rattle.theory.proofs.LabelRows.{fill-is}
 use Rattle.sets.specs.Sets.{labelCount}
 use Rattle.matrix.specs.Rows.{rowBelow, rowOf, Updates}
 

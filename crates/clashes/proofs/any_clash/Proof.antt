@@ -1,5 +1,5 @@
 use mathlib.Core.Path.{refl}
-use Rattle.esterel.proofs.Booleans as Booleans
+use Rattle.theory.proofs.Booleans as Booleans
 use Rattle.sets.specs.Labels.{labelSet}
 use Rattle.matrix.specs.Rows.{rowOf}
 use Rattle.sets.proofs.Members.{some-left, none-left, Seeking, seek, seek-on, seek-less}

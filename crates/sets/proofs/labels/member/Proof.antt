@@ -1,7 +1,7 @@
 use mathlib.Core.Path.{refl, sym}
 use Rattle.esterel.specs.Sets.{member}
 use Rattle.sets.specs.Labels.{labelSet}
-use Rattle.esterel.proofs.Sets.{member-high}
+use Rattle.theory.proofs.Sets.{member-high}
 use borrow.Author.Needs.{needs}
 use Rattle.sets.proofs.labels.member.Statement.{statement}
 use Rattle.sets.proofs.labels.member.Tie as tie

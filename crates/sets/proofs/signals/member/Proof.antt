@@ -1,6 +1,6 @@
 use mathlib.Core.Path.{refl, sym}
 use Rattle.esterel.specs.Sets.{member}
-use Rattle.esterel.proofs.Sets.{member-high}
+use Rattle.theory.proofs.Sets.{member-high}
 use borrow.Author.Needs.{needs}
 use Rattle.sets.proofs.signals.member.Statement.{statement}
 use Rattle.sets.proofs.signals.member.Tie as tie

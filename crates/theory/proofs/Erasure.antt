@@ -6,12 +6,12 @@ use mathlib.Core.Bool.{Bool, true, false, cond}
 use mathlib.Core.Option.{Option}
 use mathlib.Core.List.{List, head?}
 use lib.Dec.{eqb}
 use Rattle.esterel.specs.Sets.{member, none, insert, remove}
 use Rattle.esterel.specs.Statement.{Scope, Statement, nothing, pause, emit, exit, seq, par, loop, present, signal, try, setpause, suspend, held}
 use Rattle.esterel.specs.Reaction.{Code, ended, waiting, leaving, wrong, Reaction, gives, code, emitted, residual, side, inSeq, inPar, inLoop, inTry, inSignal, inSuspend, stopped, Case, both, neither, only−, only+, inherited, inheritanceFirst, caseOf, answer, reactBy, react}
 use Rattle.esterel.specs.Errors.{Error, errorsBy, errors, firstError}
 use Rattle.esterel.specs.Machines.{erase, seen, run, Rewriting, termAfter, byRewriting}
-use Rattle.esterel.proofs.Agreement.{simulation}
+use Rattle.theory.proofs.Agreement.{simulation}
 
 erase-erase : (p : Statement) → erase (erase p) ≡ erase p
 unfolding erase

@@ -4,12 +4,12 @@ use Prim.Native.Nat.{ℕ}
 use mathlib.Core.Path.{_≡_, refl, sym, ap, ap₂, _∙_}
 use mathlib.Core.Bool.{Bool, true, false, _&&_, _||_, cond}
 use lib.Dec.{eqb}
 use Rattle.esterel.specs.Sets.{member, none, only, join}
 use Rattle.esterel.specs.Statement.{Statement, nothing, pause, emit, exit, seq, par, loop, present, signal, try, setpause, suspend, held}
 use Rattle.esterel.specs.LabelTests.{labelsOf, Joint, alternative, parallel, atJoint, ifMember, before}
 use Rattle.esterel.specs.LabelRows.{addRow, further, fill}
-use Rattle.esterel.proofs.Booleans.{or-false}
-use Rattle.esterel.proofs.Sets.{member-join, member-none, member-only, ext}
+use Rattle.theory.proofs.Booleans.{or-false}
+use Rattle.theory.proofs.Sets.{member-join, member-none, member-only, ext}
 
 -- ---- members
 pub member-if : (l k s t : ℕ) → member l (ifMember k s t) ≡ (member k s && member l t)

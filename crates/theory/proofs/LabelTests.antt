@@ -6,16 +6,16 @@ use mathlib.Core.Bool.{Bool, true, false, not, _&&_, _||_, false≢true}
 use lib.Dec.{eqb}
 use native.Mathlib.Omega.{arith}
 use borrow.Author.Tests.{eqb-false, ne-eqb, not-true}
 use Rattle.esterel.specs.Sets.{member, none}
 use Rattle.esterel.specs.Statement.{Statement, nothing, pause, emit, exit, seq, par, loop, present, signal, try, setpause, suspend, held}
 use Rattle.esterel.specs.Places.{Part, PartOf, seq₁, seq₂, par₁, par₂, loop₁, present₁, present₂, signal₁, try₁, suspend₁, Place, At, Exclusive, Compatible}
 use Rattle.esterel.specs.States.{Holds, Valid, Distinct, Targeted, NoSetpause, WellFormed}
 use Rattle.esterel.specs.LabelTests.{disjoint, subset, pauses, setpauses, triggers, everyLabel, distinct, targeted, Joint, alternative, parallel, rivals, aside, exclusive, wellFormed, valid}
-use Rattle.esterel.proofs.Booleans.{or-l, or-r, or-cases}
-use Rattle.esterel.proofs.Sets.{member-none}
-use Rattle.esterel.proofs.Places.{distinct-part, disjoint-parts}
-use Rattle.esterel.proofs.Order.{Joined, sequence, test, sides, first-part, second-part, Before, before-exclusive, exclusive-before, exclusive-sym, exclusive-irreflexive, beside-compatible, at-part, at-unique, NoParts, Order, same, ordered, order}
-use Rattle.esterel.proofs.LabelSets.{in-join, some-member, Disjoint, disjoint-is, subset-is, Counted, as-pause, as-setpause, counted-leaf, Named, labels-at, labels-from, Pair, pair-from, pair-at, label-before, triggers-are, every-to, every-from}
+use Rattle.theory.proofs.Booleans.{or-l, or-r, or-cases}
+use Rattle.theory.proofs.Sets.{member-none}
+use Rattle.theory.proofs.Places.{distinct-part, disjoint-parts}
+use Rattle.theory.proofs.Order.{Joined, sequence, test, sides, first-part, second-part, Before, before-exclusive, exclusive-before, exclusive-sym, exclusive-irreflexive, beside-compatible, at-part, at-unique, NoParts, Order, same, ordered, order}
+use Rattle.theory.proofs.LabelSets.{in-join, some-member, Disjoint, disjoint-is, subset-is, Counted, as-pause, as-setpause, counted-leaf, Named, labels-at, labels-from, Pair, pair-from, pair-at, label-before, triggers-are, every-to, every-from}
 
 -- ---- pauses and setpauses
 pub pauses-is : (p : Statement) (l : ℕ) → (member l (pauses p) ≡ true) ↔ Holds p (pause l)

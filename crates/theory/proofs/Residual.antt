@@ -6,18 +6,18 @@ use mathlib.Core.Logic.{⊎-elim}
 use mathlib.Core.Bool.{true}
 use mathlib.Core.List.{[]}
 use borrow.Author.Tests.{eqb-true, eq-eqb}
 use Rattle.esterel.specs.Sets.{member, only, join}
 use Rattle.esterel.specs.Statement.{Statement, nothing, pause, seq, par, loop, present, signal, try, suspend, held}
 use Rattle.esterel.specs.Reaction.{react}
 use Rattle.esterel.specs.Places.{Part, PartOf, seq₁, seq₂, par₁, par₂, loop₁, present₁, present₂, signal₁, try₁, suspend₁, At}
 use Rattle.esterel.specs.States.{Holds, active, Distinct, NoSetpause, Source}
 use Rattle.esterel.specs.Expansion.{expand}
 use Rattle.esterel.specs.LabelTests.{activeLabels}
-use Rattle.esterel.proofs.Booleans.{or-l, or-cases, or-false, never}
-use Rattle.esterel.proofs.Sets.{member-join, member-only}
-use Rattle.esterel.proofs.Places.{holds-in, Disjoint, distinct-part, disjoint-parts, noSetpause-part, source-part}
-use Rattle.esterel.proofs.Activity.{active-part, Same, active-same, expand-same, Inside, activeLabels-inside, activeLabels-wakes, activeLabels-all, expand-activeLabels, asleep}
-use Rattle.esterel.proofs.Invariant.{Kept, Stopped, Fits, fresh-fits, resumed-fits}
+use Rattle.theory.proofs.Booleans.{or-l, or-cases, or-false, never}
+use Rattle.theory.proofs.Sets.{member-join, member-only}
+use Rattle.theory.proofs.Places.{holds-in, Disjoint, distinct-part, disjoint-parts, noSetpause-part, source-part}
+use Rattle.theory.proofs.Activity.{active-part, Same, active-same, expand-same, Inside, activeLabels-inside, activeLabels-wakes, activeLabels-all, expand-activeLabels, asleep}
+use Rattle.theory.proofs.Invariant.{Kept, Stopped, Fits, fresh-fits, resumed-fits}
 
 -- the labels are the state of which t is the expansion
 pub record Expanded (p : Statement) (L : ℕ) (t : Statement) : Type 0 where

@@ -9,13 +9,13 @@ use lib.Dec.{eqb}
 use lib.Arith.{bin-ind}
 use lib.Bits.{bitAnd}
 use borrow.Author.Tests.{eqb-true, eqb-false, eq-eqb}
 use Rattle.esterel.specs.Sets.{member, none, only, join}
 use Rattle.esterel.specs.Statement.{Statement, nothing, pause, emit, exit, seq, par, loop, present, signal, try, setpause, suspend, held}
 use Rattle.esterel.specs.Places.{Part, first, second, PartOf, seq₁, seq₂, par₁, par₂, loop₁, present₁, present₂, signal₁, try₁, suspend₁, Place, At}
 use Rattle.esterel.specs.LabelTests.{disjoint, subset, labelsOf, Joint, alternative, parallel, atJoint, ifMember, before, everyLabel, triggers}
-use Rattle.esterel.proofs.Booleans.{or-l, or-r, or-cases, Tested, tested}
-use Rattle.esterel.proofs.Sets.{member-join, member-and, member-none, member-only, member-step, ext}
-use Rattle.esterel.proofs.Order.{Joined, sequence, test, sides, first-part, second-part, Before, at-part, NoParts}
+use Rattle.theory.proofs.Booleans.{or-l, or-r, or-cases, Tested, tested}
+use Rattle.theory.proofs.Sets.{member-join, member-and, member-none, member-only, member-step, ext}
+use Rattle.theory.proofs.Order.{Joined, sequence, test, sides, first-part, second-part, Before, at-part, NoParts}
 
 -- ---- members
 pub in-l : (k s t : ℕ) → member k s ≡ true → member k (join s t) ≡ true

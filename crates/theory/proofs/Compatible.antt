@@ -6,19 +6,19 @@ use mathlib.Core.Bool.{Bool, true, false, not, _&&_, and-eq-true-iff, false≢tr
 use mathlib.Core.List.{_∷_}
 use native.Mathlib.Omega.{arith}
 use borrow.Author.Tests.{eqb-false, ne-eqb, not-true}
 use Rattle.esterel.specs.Sets.{member, none, empty, below, from}
 use Rattle.esterel.specs.Statement.{Statement, nothing, pause, emit, exit, seq, par, loop, present, signal, try, setpause, suspend, held}
 use Rattle.esterel.specs.Places.{Part, first, second, PartOf, loop₁, signal₁, try₁, suspend₁, Place, At, Alternative, Exclusive}
 use Rattle.esterel.specs.States.{active}
 use Rattle.esterel.specs.LabelTests.{Joint, alternative, parallel, subset, pauses, valid}
 use Rattle.esterel.specs.Ranks.{middle, mask, ofParts, compatible}
-use Rattle.esterel.proofs.Booleans.{clash, Tested, tested}
-use Rattle.esterel.proofs.Places.{Together, together-part, exclusive-part}
-use Rattle.esterel.proofs.Activity.{active-is}
-use Rattle.esterel.proofs.Order.{Joined, sequence, test, sides, first-part, second-part, at-part}
-use Rattle.esterel.proofs.LabelSets.{in-none, some-member, subset-is, same-test}
-use Rattle.esterel.proofs.LabelTests.{pauses-is, valid-is}
-use Rattle.esterel.proofs.Ranks.{split-below, split-from, first-empty, second-empty}
+use Rattle.theory.proofs.Booleans.{clash, Tested, tested}
+use Rattle.theory.proofs.Places.{Together, together-part, exclusive-part}
+use Rattle.theory.proofs.Activity.{active-is}
+use Rattle.theory.proofs.Order.{Joined, sequence, test, sides, first-part, second-part, at-part}
+use Rattle.theory.proofs.LabelSets.{in-none, some-member, subset-is, same-test}
+use Rattle.theory.proofs.LabelTests.{pauses-is, valid-is}
+use Rattle.theory.proofs.Ranks.{split-below, split-from, first-empty, second-empty}
 
 awake : {p : Statement} {a : Place} (k L : ℕ) → member k L ≡ true → At (pause k) a p → active p L ≡ true
 awake {p = p} {a = a} k L m u = active-is p L .1 (k, m, (a, u))

@@ -6,31 +6,31 @@ use mathlib.Core.Logic.{_↔_, _≢_}
 use mathlib.Core.Bool.{true, false}
 use mathlib.Core.Option.{Option}
 use mathlib.Core.List.{List, []}
 use Rattle.esterel.specs.Sets.{member, none}
 use Rattle.esterel.specs.Statement.{Statement, pause, suspend}
 use Rattle.esterel.specs.Reaction.{ended, waiting, leaving, wrong, Reaction, gives, emitted, code, labels, residual, isWrong, printed, reactBy, react}
 use Rattle.esterel.specs.Errors.{errorsBy, errors, firstErrorBy, firstError}
 use Rattle.esterel.specs.SignalOrders.{overlap}
 use Rattle.esterel.specs.States.{Holds, active, Valid, Distinct, Targeted, NoSetpause, Source, WellFormed}
 use Rattle.esterel.specs.Expansion.{expand}
 use Rattle.esterel.specs.LabelTests.{activeLabels}
 use Rattle.esterel.specs.Ranks.{mask, labelsBy}
 use Rattle.esterel.specs.Resume.{instant, start, suspendInstant, resume}
 use Rattle.esterel.specs.ReadBack.{declared}
 use Rattle.esterel.specs.Machines.{run, reached, State, byLabels, Rewriting, byRewriting, erase}
-use Rattle.esterel.proofs.Booleans.{never, clash, Tested, tested}
-use Rattle.esterel.proofs.Rules.{wrong-is}
-use Rattle.esterel.proofs.SignalOrders.{kept, wrong-iff-error, same-first, unchanged, overlap-wrong}
-use Rattle.esterel.proofs.Activity.{Awake, active-is, activeLabels-is, expand-suspend}
-use Rattle.esterel.proofs.Invariant.{Fits}
-use Rattle.esterel.proofs.Residual.{Remains, residual-fresh, residual-resumed}
-use Rattle.esterel.proofs.Places.{Together}
-use Rattle.esterel.proofs.Stability.{Stops, SoundLabels, labels-fresh, labels-resumed, together-none, sound-valid}
-use Rattle.esterel.proofs.Ranks.{none-is, labels-by}
-use Rattle.esterel.proofs.Resume.{start-held, resumes}
-use Rattle.esterel.proofs.ReadBack.{expand-declared, start-declared, RemainsUnder, remains-declared, AgreeOutside, declared-unread}
-use Rattle.esterel.proofs.Agreement.{ValidState, agree, valid-reached}
-use Rattle.esterel.proofs.Erasure.{erased-reaction, erased-errors, erased-run}
+use Rattle.theory.proofs.Booleans.{never, clash, Tested, tested}
+use Rattle.theory.proofs.Rules.{wrong-is}
+use Rattle.theory.proofs.SignalOrders.{kept, wrong-iff-error, same-first, unchanged, overlap-wrong}
+use Rattle.theory.proofs.Activity.{Awake, active-is, activeLabels-is, expand-suspend}
+use Rattle.theory.proofs.Invariant.{Fits}
+use Rattle.theory.proofs.Residual.{Remains, residual-fresh, residual-resumed}
+use Rattle.theory.proofs.Places.{Together}
+use Rattle.theory.proofs.Stability.{Stops, SoundLabels, labels-fresh, labels-resumed, together-none, sound-valid}
+use Rattle.theory.proofs.Ranks.{none-is, labels-by}
+use Rattle.theory.proofs.Resume.{start-held, resumes}
+use Rattle.theory.proofs.ReadBack.{expand-declared, start-declared, RemainsUnder, remains-declared, AgreeOutside, declared-unread}
+use Rattle.theory.proofs.Agreement.{ValidState, agree, valid-reached}
+use Rattle.theory.proofs.Erasure.{erased-reaction, erased-errors, erased-run}
 
 -- A reaction of p itself, or of an expansion of p.
 pub data ReactionOf (p : Statement) (e : ℕ) : Reaction → Type 0 where

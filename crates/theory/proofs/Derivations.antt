@@ -3,11 +3,11 @@ use Prim.Native.Nat.{ℕ}
 use mathlib.Core.Path.{_≡_, refl, sym, ap, ap₂, _∙_}
 use mathlib.Core.Logic.{_≢_}
 use mathlib.Core.List.{List, [], _∷_, _++_, append-nil, head?}
 use Rattle.esterel.specs.Statement.{Statement}
 use Rattle.esterel.specs.Reaction.{Code, ended, waiting, leaving, wrong, Reaction, code, Case, inheritanceFirst, caseOf}
 use Rattle.esterel.specs.Rules.{Reacts}
 use Rattle.esterel.specs.Errors.{Error, ifEnded, signalErrors, errorsBy, errors, firstError, uses, instantaneous}
-use Rattle.esterel.proofs.Rules.{fits++, fits−−, fits+−, fits−+, fits∞, sound}
+use Rattle.theory.proofs.Rules.{fits++, fits−−, fits+−, fits−+, fits∞, sound}
 
 -- what follows counts only after code 0
 adds-none : (k : Code) (xs ys : List Error) → k ≢ ended → xs ≡ xs ++ ifEnded k ys []

@@ -4,10 +4,10 @@ use Prim.Native.Nat.{ℕ}
 use mathlib.Core.Path.{_≡_, refl, ap, subst}
 use mathlib.Core.Logic.{_⊎_, inl, inr}
 use mathlib.Core.List.{_∷_}
 use Rattle.esterel.specs.Statement.{Statement, seq, par, present}
 use Rattle.esterel.specs.Places.{Part, first, second, PartOf, seq₁, seq₂, par₁, par₂, present₁, present₂, Place, At, Alternative, Exclusive}
 use Rattle.esterel.specs.LabelTests.{Joint, alternative, parallel}
-use Rattle.esterel.proofs.Places.{part-unique}
+use Rattle.theory.proofs.Places.{part-unique}
 
 -- a command of two parts, with what they are to each other
 pub data Joined : Joint → Statement → Statement → Statement → Type 0 where

@@ -7,18 +7,18 @@ use mathlib.Core.Logic.{_⊎_, inl, inr, ⊎-elim}
 use mathlib.Core.Bool.{true, false≢true}
 use mathlib.Core.List.{[], _∷_}
 use borrow.Author.Tests.{eqb-true, eq-eqb}
 use Rattle.esterel.specs.Sets.{member, none, only, join}
 use Rattle.esterel.specs.Statement.{Statement, pause, setpause, par}
 use Rattle.esterel.specs.Reaction.{react}
 use Rattle.esterel.specs.Places.{Part, first, second, PartOf, seq₁, seq₂, par₁, par₂, loop₁, present₁, present₂, signal₁, try₁, suspend₁, Place, At, Exclusive, Compatible}
 use Rattle.esterel.specs.States.{Holds, active, Valid, Distinct, Targeted, Source, WellFormed}
 use Rattle.esterel.specs.Expansion.{expand}
 use Rattle.esterel.specs.LabelTests.{activeLabels}
-use Rattle.esterel.proofs.Booleans.{or-l, or-cases}
-use Rattle.esterel.proofs.Sets.{member-join, member-none, member-only}
-use Rattle.esterel.proofs.Places.{compatible-part, compatible-sides, compatible-sides′, source-part, Together, together-part}
-use Rattle.esterel.proofs.Activity.{active-is, activeLabels-is, activeLabels-inside}
-use Rattle.esterel.proofs.Invariant.{Kept, Stopped, Fits, fresh-fits, resumed-fits}
+use Rattle.theory.proofs.Booleans.{or-l, or-cases}
+use Rattle.theory.proofs.Sets.{member-join, member-none, member-only}
+use Rattle.theory.proofs.Places.{compatible-part, compatible-sides, compatible-sides′, source-part, Together, together-part}
+use Rattle.theory.proofs.Activity.{active-is, activeLabels-is, activeLabels-inside}
+use Rattle.theory.proofs.Invariant.{Kept, Stopped, Fits, fresh-fits, resumed-fits}
 
 -- a pause or a setpause with label l at the place a
 abbrev pub Stop : Statement → ℕ → Place → Type 0

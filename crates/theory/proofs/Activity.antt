@@ -5,19 +5,19 @@ use mathlib.Core.Logic.{_↔_, ⊎-elim}
 use mathlib.Core.Bool.{true, false, _||_, and-eq-true-iff, false≢true}
 use mathlib.Core.List.{[]}
 use borrow.Author.Tests.{eqb-true}
 use Rattle.esterel.specs.Sets.{member, none, only, join}
 use Rattle.esterel.specs.Statement.{Statement, nothing, pause, emit, exit, seq, par, loop, present, signal, try, setpause, suspend, held}
 use Rattle.esterel.specs.Places.{Part, PartOf, seq₁, seq₂, par₁, par₂, loop₁, present₁, present₂, signal₁, try₁, suspend₁, Place, At}
 use Rattle.esterel.specs.States.{Holds, active}
 use Rattle.esterel.specs.Expansion.{expand}
 use Rattle.esterel.specs.LabelTests.{Joint, labelsOf, pauses, activeLabels}
-use Rattle.esterel.proofs.Booleans.{or-l, or-r, or-cases, never, clash}
-use Rattle.esterel.proofs.Sets.{member-and, member-only}
-use Rattle.esterel.proofs.Places.{holds-in, Disjoint}
-use Rattle.esterel.proofs.Order.{Joined, sequence, test, sides}
-use Rattle.esterel.proofs.LabelSets.{in-none, same-test, same-set}
-use Rattle.esterel.proofs.SetAlgebra.{and-join}
-use Rattle.esterel.proofs.LabelTests.{pauses-is}
+use Rattle.theory.proofs.Booleans.{or-l, or-r, or-cases, never, clash}
+use Rattle.theory.proofs.Sets.{member-and, member-only}
+use Rattle.theory.proofs.Places.{holds-in, Disjoint}
+use Rattle.theory.proofs.Order.{Joined, sequence, test, sides}
+use Rattle.theory.proofs.LabelSets.{in-none, same-test, same-set}
+use Rattle.theory.proofs.SetAlgebra.{and-join}
+use Rattle.theory.proofs.LabelTests.{pauses-is}
 
 -- ---- active in 01's words: a pause whose label is in the set
 abbrev pub Awake : Statement → ℕ → Type 0

@@ -8,20 +8,20 @@ use native.Mathlib.Omega.{arith}
 use lib.Bits.{bitOr, or-self, or-zero-l, or-lt, or-mod, or-add-and, and-le-l, and-le-r}
 use lib.Pow.{pow-pos, pow-mono, mod-mod-pow}
 use borrow.Author.Tests.{eqb-true, eqb-false, eq-eqb, ne-eqb, not-true}
 use Rattle.esterel.specs.Sets.{member, none, only, join, empty, below, from}
 use Rattle.esterel.specs.Statement.{Statement, nothing, pause, emit, exit, seq, par, loop, present, signal, try, setpause, suspend, held}
 use Rattle.esterel.specs.Places.{loop₁, signal₁, try₁, suspend₁}
 use Rattle.esterel.specs.States.{active, Distinct}
 use Rattle.esterel.specs.LabelTests.{Joint, labelsOf, pauses, activeLabels}
 use Rattle.esterel.specs.Ranks.{pauseCount, middle, mask, rank, labelsBy}
-use Rattle.esterel.proofs.Booleans.{clash, never, Tested, tested}
-use Rattle.esterel.proofs.Sets.{member-join, member-only, join-none-l, join-none-r, ext}
-use Rattle.esterel.proofs.SplitSets.{none-lt, only-lt, none-over, only-over, below-join, from-join}
-use Rattle.esterel.proofs.Places.{distinct-part, disjoint-parts}
-use Rattle.esterel.proofs.Activity.{active-is, activeLabels-none, activeLabels-pause, activeLabels-two}
-use Rattle.esterel.proofs.Order.{Joined, sequence, test, sides, first-part, second-part}
-use Rattle.esterel.proofs.LabelSets.{in-none, in-join, same-test}
-use Rattle.esterel.proofs.LabelTests.{pauses-is}
+use Rattle.theory.proofs.Booleans.{clash, never, Tested, tested}
+use Rattle.theory.proofs.Sets.{member-join, member-only, join-none-l, join-none-r, ext}
+use Rattle.theory.proofs.SplitSets.{none-lt, only-lt, none-over, only-over, below-join, from-join}
+use Rattle.theory.proofs.Places.{distinct-part, disjoint-parts}
+use Rattle.theory.proofs.Activity.{active-is, activeLabels-none, activeLabels-pause, activeLabels-two}
+use Rattle.theory.proofs.Order.{Joined, sequence, test, sides, first-part, second-part}
+use Rattle.theory.proofs.LabelSets.{in-none, in-join, same-test}
+use Rattle.theory.proofs.LabelTests.{pauses-is}
 
 -- ---- the ranks of p are those from base, as many as it has pauses
 lt-two : (base m n a b : ℕ) → a < 2 ^ (base + m) → b < 2 ^ ((base + m) + n) → join a b < 2 ^ (base + (m + n))

@@ -6,10 +6,10 @@ use mathlib.Core.Bool.{Bool, true, false, _&&_, _||_, and-eq-true-iff}
 use native.Mathlib.Omega.{arith}
 use lib.Bits.{bitOr, bitAnd, or-add-and, and-le-l, and-le-r}
 use borrow.Author.Tests.{eqb-true, eq-eqb}
 use Rattle.esterel.specs.Sets.{member, none, join, empty}
 use Rattle.esterel.specs.LabelTests.{disjoint}
-use Rattle.esterel.proofs.Sets.{member-join, member-and, ext}
-use Rattle.esterel.proofs.LabelSets.{in-none, in-l, in-r, in-join, same-test, disjoint-is}
+use Rattle.theory.proofs.Sets.{member-join, member-and, ext}
+use Rattle.theory.proofs.LabelSets.{in-none, in-l, in-r, in-join, same-test, disjoint-is}
 
 or-assoc : (a b c : Bool) → (a || (b || c)) ≡ ((a || b) || c)
 or-assoc true b c = refl

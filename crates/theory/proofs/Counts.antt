@@ -5,18 +5,18 @@ use mathlib.Core.Bool.{Bool, true, false, _||_, cond}
 use native.Mathlib.Omega.{arith}
 use lib.Dec.{eqb, ltb}
 use borrow.Author.Tests.{eqb-true, eqb-false, eq-eqb, ne-eqb, ltb-true, ltb-false}
 use Rattle.esterel.specs.Sets.{member, none, only, join}
 use Rattle.esterel.specs.Statement.{Statement, nothing, pause, emit, exit, seq, par, loop, present, signal, try, setpause, suspend, held}
 use Rattle.esterel.specs.Places.{loop₁, signal₁, try₁, suspend₁}
 use Rattle.esterel.specs.States.{Distinct}
 use Rattle.esterel.specs.LabelTests.{Joint, labelsOf, pauses}
 use Rattle.esterel.specs.Ranks.{pauseCount}
-use Rattle.esterel.proofs.Booleans.{clash, Tested, tested}
-use Rattle.esterel.proofs.Sets.{member-join, member-none, member-only, member-high}
-use Rattle.esterel.proofs.Places.{distinct-part, disjoint-parts}
-use Rattle.esterel.proofs.Order.{Joined, sequence, test, sides, first-part, second-part}
-use Rattle.esterel.proofs.LabelSets.{in-l, in-r, Disjoint}
-use Rattle.esterel.proofs.LabelTests.{pauses-is}
+use Rattle.theory.proofs.Booleans.{clash, Tested, tested}
+use Rattle.theory.proofs.Sets.{member-join, member-none, member-only, member-high}
+use Rattle.theory.proofs.Places.{distinct-part, disjoint-parts}
+use Rattle.theory.proofs.Order.{Joined, sequence, test, sides, first-part, second-part}
+use Rattle.theory.proofs.LabelSets.{in-l, in-r, Disjoint}
+use Rattle.theory.proofs.LabelTests.{pauses-is}
 
 -- ---- the number of members below w
 unfoldable card : (w s : ℕ) → ℕ

@@ -3,16 +3,16 @@
 use Prim.Native.Nat.{ℕ}
 use mathlib.Core.Path.{_≡_, refl, ap₂}
 use mathlib.Core.List.{List, [], _∷_}
 use Rattle.esterel.specs.Sets.{none}
 use Rattle.esterel.specs.Statement.{Statement}
 use Rattle.esterel.specs.Reaction.{ended, waiting, leaving, wrong, Reaction, gives, react}
 use Rattle.esterel.specs.States.{Valid, Distinct, Targeted, NoSetpause, Source, WellFormed}
 use Rattle.esterel.specs.Expansion.{expand}
 use Rattle.esterel.specs.Machines.{Seen, Machine, run, reached, State, stateAfter, byLabels, Rewriting, termAfter, byRewriting}
-use Rattle.esterel.proofs.Invariant.{Fits}
-use Rattle.esterel.proofs.Residual.{Remains, residual-fresh, residual-resumed}
-use Rattle.esterel.proofs.Stability.{SoundLabels, labels-fresh, labels-resumed, together-none, sound-valid}
-use Rattle.esterel.proofs.Places.{Together}
+use Rattle.theory.proofs.Invariant.{Fits}
+use Rattle.theory.proofs.Residual.{Remains, residual-fresh, residual-resumed}
+use Rattle.theory.proofs.Stability.{SoundLabels, labels-fresh, labels-resumed, together-none, sound-valid}
+use Rattle.theory.proofs.Places.{Together}
 
 -- ---- machines that show the same at each step and stay related show the same for ever
 pub simulation : {S T : Type 0} (m : Machine S) (n : Machine T) (R : S → T → Type 0)

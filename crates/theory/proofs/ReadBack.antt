@@ -9,19 +9,19 @@ use lib.Dec.{eqb}
 use native.Mathlib.Omega.{arith}
 use native.Mathlib.Decide.{ℕ-discrete}
 use borrow.Author.Tests.{eqb-false, eq-eqb, ne-eqb}
 use Rattle.esterel.specs.Sets.{member, none, insert, remove}
 use Rattle.esterel.specs.Statement.{reported, Statement, pause, signal, setpause, held}
 use Rattle.esterel.specs.Reaction.{waiting, Reaction, code, residual, Case, both, neither, only−, only+, inherited, inheritanceFirst, caseOf, answer, reactBy, react}
 use Rattle.esterel.specs.Places.{Place, signal₁, At}
 use Rattle.esterel.specs.States.{Holds, NoSetpause, Source}
 use Rattle.esterel.specs.Expansion.{expand}
 use Rattle.esterel.specs.LabelTests.{labelsOf, everyLabel, before, distinct, targeted, wellFormed, valid}
 use Rattle.esterel.specs.Resume.{Instant, signalInstant, start}
 use Rattle.esterel.specs.ReadBack.{keepIf, membersFrom, declared, declaredInstant}
-use Rattle.esterel.proofs.Booleans.{or-true, and-true, and-false, Tested, tested}
-use Rattle.esterel.proofs.Sets.{member-none, member-insert, member-remove, ext}
-use Rattle.esterel.proofs.Stability.{Stops}
-use Rattle.esterel.proofs.Resume.{start-signal}
+use Rattle.theory.proofs.Booleans.{or-true, and-true, and-false, Tested, tested}
+use Rattle.theory.proofs.Sets.{member-none, member-insert, member-remove, ext}
+use Rattle.theory.proofs.Stability.{Stops}
+use Rattle.theory.proofs.Resume.{start-signal}
 
 -- ---- an empty set has no members
 pub members-none : (n i : ℕ) → membersFrom n i none ≡ []

@@ -4,19 +4,19 @@ use mathlib.Core.Path.{_≡_, refl, sym, ap, ap₂, _∙_}
 use mathlib.Core.Bool.{Bool, true, false, not, _||_, cond, false≢true}
 use mathlib.Core.Option.{Option}
 use mathlib.Core.List.{List, [], _∷_, _++_, head?}
 use Rattle.esterel.specs.Sets.{member, insert, remove}
 use Rattle.esterel.specs.Statement.{Scope, Statement, nothing, pause, emit, exit, seq, par, loop, present, signal, try, setpause, suspend, held}
 use Rattle.esterel.specs.Reaction.{Code, ended, waiting, leaving, wrong, isWrong, emitted, code, inSeq, inPar, inLoop, inSignal, inSuspend, stopped, inheritanceFirst, firstFit, reactBy, react}
 use Rattle.esterel.specs.Errors.{Error, instantaneous, ifEnded, signalErrors, errorsBy, errors}
 use Rattle.esterel.specs.States.{active}
 use Rattle.esterel.specs.Expansion.{expand, ifActive}
 use Rattle.esterel.specs.LabelTests.{alternative, parallel, activeLabels}
 use Rattle.esterel.specs.Ranks.{middle, mask, labelsBy}
 use Rattle.esterel.specs.Resume.{Instant, instant, start, idle, seqInstant, parInstant, loopInstant, tryInstant, signalNames, signalInstant, suspendInstant, stoppedInstant, resume}
-use Rattle.esterel.proofs.SignalOrders.{Blamed, blamed}
-use Rattle.esterel.proofs.Order.{Joined, sequence, test, sides}
-use Rattle.esterel.proofs.Activity.{expand-activeLabels}
-use Rattle.esterel.proofs.Ranks.{split-below, split-from, first-empty, second-empty, labels-by}
+use Rattle.theory.proofs.SignalOrders.{Blamed, blamed}
+use Rattle.theory.proofs.Order.{Joined, sequence, test, sides}
+use Rattle.theory.proofs.Activity.{expand-activeLabels}
+use Rattle.theory.proofs.Ranks.{split-below, split-from, first-empty, second-empty, labels-by}
 
 -- ---- the first error of a list in parts: what is wrong has one, what is not has none
 seq-first : (k : Code) (xs ys : List Error) → Blamed (isWrong k) xs → head? (xs ++ ifEnded k ys []) ≡ ifEnded k (head? ys) (head? xs)
