@@ -5,8 +5,8 @@ use mathlib.Core.List.{List}
 use Rattle.esterel.specs.Sets.{join, below, from}
 use Rattle.esterel.specs.Statement.{Statement}
 use Rattle.esterel.specs.Ranks.{middle, labelsBy}
-use Rattle.sets.specs.declared.labels.Labels.{Labels}
-use Rattle.sets.specs.Labels.{labelSet}
+use Rattle.labels.specs.declared.Labels.{Labels}
+use Rattle.labels.specs.Labels.{labelSet}
 use Rattle.layout.specs.Layout.{Two, Lies}
 
 -- r has the labels of the pauses of the mask m in the statement that lies there

@@ -24,7 +24,7 @@ pub fn check(s: &[u8], read_back: u32, second: &mut Seconds, notes: &mut Notes) 
     match reading::reader::read_sequence(s, second, notes) {
         Reading::Refused(row) => row,
         Reading::Accepted(n, left) => {
-            if left < sets::signals::size(read_back) {
+            if left < signals::size(read_back) {
                 6
             } else if n < s.len() {
                 7

@@ -2,23 +2,23 @@
 ghost use mathlib.Core.Path.{_≡_};
 ghost use mathlib.Core.Bool.{true};
 ghost use mathlib.Core.Logic.{_↔_};
-ghost use Rattle.sets.specs.Labels.{labelSet};
+ghost use Rattle.labels.specs.Labels.{labelSet};
 ghost use Rattle.matrix.specs.Rows.{rowOf};
 ghost use Rattle.clashes.specs.Clashes.{InRowOf, RowsWithin, CoversRows, Clash, Clashes};
 use matrix::Rows;
-use sets::labels::Labels;
+use labels::Labels;
 
 // Is k in the row of a label of s?
 fn in_row_of(rows: &Rows, s: Labels, k: u8) -> bool
     ensures { λ r. ⌜ (r ≡ true) ↔ InRowOf (rowOf (now (rows .entry))) (labelSet s) k ⌝ }
 {
     let mut left = s;
-    while !sets::labels::is_empty(left) {
-        let l = sets::labels::lowest(left);
-        if sets::labels::member(matrix::row(rows, l), k) {
+    while !labels::is_empty(left) {
+        let l = labels::lowest(left);
+        if labels::member(matrix::row(rows, l), k) {
             return true;
         }
-        left = sets::labels::without(left, l);
+        left = labels::without(left, l);
     }
     false
 }
@@ -27,12 +27,12 @@ fn in_row_of(rows: &Rows, s: Labels, k: u8) -> bool
 fn union_of_rows(rows: &Rows, s: Labels) -> Labels
     ensures { λ r. ⌜ (RowsWithin (rowOf (now (rows .entry))) (labelSet s) → CoversRows (rowOf (now (rows .entry))) (labelSet r)) ⌝ }
 {
-    let mut all = sets::labels::empty();
+    let mut all = labels::empty();
     let mut left = s;
-    while !sets::labels::is_empty(left) {
-        let l = sets::labels::lowest(left);
-        all = sets::labels::union(all, matrix::row(rows, l));
-        left = sets::labels::without(left, l);
+    while !labels::is_empty(left) {
+        let l = labels::lowest(left);
+        all = labels::union(all, matrix::row(rows, l));
+        left = labels::without(left, l);
     }
     all
 }
@@ -43,8 +43,8 @@ fn clash(exclusive: &Rows, concurrent: &Rows, all: Labels, k: u8) -> bool
         → (r ≡ true) ↔ Clash (rowOf (now (exclusive .entry))) (rowOf (now (concurrent .entry))) k) ⌝ }
 {
     let beside = matrix::row(concurrent, k);
-    if sets::labels::disjoint(beside, matrix::row(exclusive, k)) {
-        if sets::labels::member(all, k) {
+    if labels::disjoint(beside, matrix::row(exclusive, k)) {
+        if labels::member(all, k) {
             in_row_of(exclusive, beside, k)
         } else {
             false
@@ -60,12 +60,12 @@ pub fn any_clash(exclusive: &Rows, concurrent: &Rows, pauses: Labels) -> bool
 {
     let all = union_of_rows(exclusive, pauses);
     let mut left = pauses;
-    while !sets::labels::is_empty(left) {
-        let k = sets::labels::lowest(left);
+    while !labels::is_empty(left) {
+        let k = labels::lowest(left);
         if clash(exclusive, concurrent, all, k) {
             return true;
         }
-        left = sets::labels::without(left, k);
+        left = labels::without(left, k);
     }
     false
 }

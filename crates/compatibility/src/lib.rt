@@ -1,11 +1,11 @@
 // Row 11 at a mask of active pauses: are they pairwise compatible? Only parts with an active pause are entered.
 ghost use Prim.Native.Nat.{_-_, _≤_};
 ghost use lib.ListN.{length};
-ghost use Rattle.sets.specs.Labels.{labelSet};
+ghost use Rattle.labels.specs.Labels.{labelSet};
 ghost use Rattle.layout.specs.Layout.{rest, Ready, Pair};
 ghost use Rattle.compatibility.specs.Compatibility.{TellsCompatible, TellsCompatibleTwo};
 use reading::reader::Seconds;
-use sets::labels::Labels;
+use labels::Labels;
 
 // Are the active pauses pairwise compatible? The statement at the front of s stands at the offset `at`.
 pub fn compatible(s: &[u8], at: usize, depth: u8, second: &Seconds, active: Labels) -> bool
@@ -57,12 +57,12 @@ fn compatible_parts(
     let entry = second[at];
     let m = (entry % 2048) as usize;
     let n = m - at;
-    let p = sets::labels::below(active, entry / 2048);
-    let q = sets::labels::from(active, entry / 2048);
-    if sets::labels::is_empty(p) {
+    let p = labels::below(active, entry / 2048);
+    let q = labels::from(active, entry / 2048);
+    if labels::is_empty(p) {
         return compatible_part(s, n, m, depth - 1, second, q);
     }
-    if sets::labels::is_empty(q) {
+    if labels::is_empty(q) {
         return compatible_part(s, w, at + w, depth - 1, second, p);
     }
     if !parallel {

@@ -5,7 +5,7 @@ use mathlib.Core.Bool.{Bool}
 use Rattle.esterel.specs.Sets.{join}
 use Rattle.esterel.specs.LabelTests.{alternative, parallel}
 use Rattle.esterel.specs.LabelRows.{further}
-use Rattle.sets.specs.Labels.{labelSet}
+use Rattle.labels.specs.Labels.{labelSet}
 use Rattle.layout.specs.Joints.{jointOf}
 use Rattle.exclusion.specs.declared.Before.{Before}
 use Rattle.exclusion.specs.declared.Passed.{Passed}

@@ -2,11 +2,11 @@
 // second part. Functions without recursion.
 ghost use Rattle.esterel.specs.Sets.{none};
 ghost use Rattle.sets.specs.Sets.{labelCount, onlyBelow};
-ghost use Rattle.sets.specs.Labels.{labelSet};
+ghost use Rattle.labels.specs.Labels.{labelSet};
 ghost use Rattle.matrix.specs.Rows.{addRowBelow, Updates};
 ghost use Rattle.exclusion.specs.Exclusion.{Labelled, Joins, BeginsSecond};
 use matrix::Rows;
-use sets::labels::Labels;
+use labels::Labels;
 
 // What stands before a statement: the pauses exclusive with it, and the pauses and setpauses on another side of a parallel.
 pub struct Before {
@@ -25,7 +25,7 @@ pub struct Passed {
 pub fn at_other(end: usize) -> Passed
     ensures { λ r. ⌜ Labelled r end none none ⌝ }
 {
-    let none = sets::labels::empty();
+    let none = labels::empty();
     Passed {
         end,
         pauses: none,
@@ -49,7 +49,7 @@ pub fn at_pause(
 {
     matrix::add_row(exclusive, l, before.exclusive);
     matrix::add_row(concurrent, l, before.concurrent);
-    let one = sets::labels::single(l);
+    let one = labels::single(l);
     Passed {
         end,
         pauses: one,
@@ -65,8 +65,8 @@ pub fn at_setpause(l: u8, end: usize, before: Before, concurrent: &mut Rows) -> 
     matrix::add_row(concurrent, l, before.concurrent);
     Passed {
         end,
-        pauses: sets::labels::empty(),
-        triggers: sets::labels::single(l),
+        pauses: labels::empty(),
+        triggers: labels::single(l),
     }
 }
 
@@ -79,11 +79,11 @@ pub fn before_second(parallel: bool, before: Before, first: Passed) -> Before
     if parallel {
         Before {
             exclusive,
-            concurrent: sets::labels::union(concurrent, first.triggers),
+            concurrent: labels::union(concurrent, first.triggers),
         }
     } else {
         Before {
-            exclusive: sets::labels::union(exclusive, first.pauses),
+            exclusive: labels::union(exclusive, first.pauses),
             concurrent,
         }
     }
@@ -95,7 +95,7 @@ pub fn joined(p: Passed, q: Passed) -> Passed
 {
     Passed {
         end: q.end,
-        pauses: sets::labels::union(p.pauses, q.pauses),
-        triggers: sets::labels::union(p.triggers, q.triggers),
+        pauses: labels::union(p.pauses, q.pauses),
+        triggers: labels::union(p.triggers, q.triggers),
     }
 }

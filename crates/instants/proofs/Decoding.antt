@@ -13,7 +13,7 @@ use Rattle.esterel.specs.Machines.{State}
 use Rattle.records.specs.Records.{phaseIn, labelsIn, holds, malformed, decodeState}
 use Rattle.instants.specs.declared.Standing.the-variants as stands
 use Rattle.instants.specs.Replies.{Decodes}
-use Rattle.sets.specs.declared.labels.Labels.{Labels}
+use Rattle.labels.specs.declared.Labels.{Labels}
 use Rattle.validity.specs.Activity.{ValidityOf}
 use Rattle.validity.specs.declared.activity.Validity.the-variants.{Valid, Invalid}
 

@@ -21,9 +21,9 @@ use Rattle.esterel.specs.States.{Valid}
 use Rattle.esterel.specs.ReadBack.{declaredInstant}
 use Rattle.theory.proofs.ReadBack.{expand-declared, start-declared}
 use Rattle.sequence.specs.Program.{readBackSignals, program}
-use Rattle.sets.specs.Labels.{labelSet}
-use Rattle.sets.proofs.LabelValues.{labelSet-of}
-use Rattle.sets.specs.declared.labels.Labels.{Labels}
+use Rattle.labels.specs.Labels.{labelSet}
+use Rattle.labels.proofs.LabelValues.{labelSet-of}
+use Rattle.labels.specs.declared.Labels.{Labels}
 use Rattle.limits.specs.Limits.{maxDepth, readBackPlace}
 use Rattle.sequence.specs.Writer.{Ranged}
 use Rattle.layout.specs.Layout.{Ready}
@@ -32,8 +32,8 @@ use Rattle.layout.specs.Known.{Known, Sound}
 use Rattle.checks.specs.Verdict.{Judged}
 use Rattle.sequence.specs.Check.{Checked, sound, bad, checked, numberOf, checkOf}
 use Rattle.completions.specs.Completions.{completionOf}
-use Rattle.rules.specs.Reactions.{reactionOf}
-use Rattle.rules.specs.declared.reaction.Reaction.{Reaction}
+use Rattle.reaction.specs.Reactions.{reactionOf}
+use Rattle.reaction.specs.declared.Reaction.{Reaction}
 use Rattle.records.specs.Records.{labelsIn, encodeState, encodeAnswer, Decoded, holds, malformed, decodeState}
 use Rattle.demands.specs.Tick.{Outcome, outcome, written, byState, byCheck}
 use Rattle.instants.specs.declared.Standing.the-variants as stands

@@ -10,7 +10,7 @@ use Rattle.esterel.specs.Statement.{Statement}
 use Rattle.esterel.specs.LabelTests.{valid}
 use Rattle.esterel.specs.Ranks.{mask}
 use Rattle.esterel.specs.Machines.{State}
-use Rattle.sets.specs.Labels.{labelSet}
+use Rattle.labels.specs.Labels.{labelSet}
 use Rattle.instants.specs.declared.Standing.{Standing}
 use Rattle.instants.specs.declared.Standing.the-variants as stands
 use Rattle.instants.specs.declared.Reply.{Reply}

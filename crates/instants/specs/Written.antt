@@ -1,10 +1,10 @@
 -- What an instant writes, from the value by which the code answers, and which instants fit the answer record.
 use Prim.Native.Nat.{ℕ, _+_, _<_}
 use Rattle.esterel.specs.Sets.{none}
-use Rattle.sets.specs.Labels.{labelSet}
+use Rattle.labels.specs.Labels.{labelSet}
 use Rattle.completions.specs.declared.Completion.{Completion}
 use Rattle.completions.specs.declared.Completion.the-variants.{Ended, Waiting, Leaving, Wrong}
-use Rattle.rules.specs.declared.reaction.Reaction.{Reaction}
+use Rattle.reaction.specs.declared.Reaction.{Reaction}
 use Rattle.records.specs.Records.{stateRecord, answerRecord}
 use Rattle.demands.specs.Tick.{Outcome, outcome}
 

@@ -5,8 +5,8 @@ ghost use Rattle.instants.specs.Replies.{DecodesRead, Replies};
 use notes::Notes;
 use program::Position;
 use reading::reader::Seconds;
-use rules::reaction::Reaction;
-use sets::labels::Labels;
+use reaction::Reaction;
+use labels::Labels;
 use validity::activity::Validity;
 
 // What a state record holds for an accepted sequence. A waiting machine has the ranks of its active pauses.
@@ -30,7 +30,7 @@ fn decode(sequence: &[u8], second: &Seconds, notes: &Notes, state: &[u8]) -> Sta
             Validity::Invalid => Standing::Malformed,
         };
     }
-    if sets::labels::is_empty(labels) {
+    if labels::is_empty(labels) {
         if phase == 0 {
             return Standing::Fresh;
         }

@@ -5,7 +5,7 @@ ghost use Rattle.records.specs.Records.{stateLength, answerLength};
 ghost use Rattle.demands.specs.Tick.{outcome};
 ghost use Rattle.instants.specs.Written.{Writable, writtenFrom};
 use completions::Completion;
-use rules::reaction::Reaction;
+use reaction::Reaction;
 
 // Writes both records of an instant.
 pub fn finish(state: &mut [u8], answer: &mut [u8], r: Reaction) -> u8
@@ -15,7 +15,7 @@ pub fn finish(state: &mut [u8], answer: &mut [u8], r: Reaction) -> u8
     let k = r.completion;
     match k {
         Completion::Ended => {
-            records::state::write_state(state, 2, sets::labels::empty());
+            records::state::write_state(state, 2, labels::empty());
             records::answer::write_answer(answer, 0, 0, 0, r.emitted);
         }
         Completion::Waiting => {
@@ -23,11 +23,11 @@ pub fn finish(state: &mut [u8], answer: &mut [u8], r: Reaction) -> u8
             records::answer::write_answer(answer, 1, 0, 0, r.emitted);
         }
         Completion::Leaving(n) => {
-            records::state::write_state(state, 2, sets::labels::empty());
+            records::state::write_state(state, 2, labels::empty());
             records::answer::write_answer(answer, n + 1, 0, 0, r.emitted);
         }
         Completion::Wrong(kind, place) => {
-            records::state::write_state(state, 2, sets::labels::empty());
+            records::state::write_state(state, 2, labels::empty());
             records::answer::write_answer(answer, 255, kind, place, 0);
         }
     }

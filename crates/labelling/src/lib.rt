@@ -13,11 +13,11 @@ pub fn label_row(s: &[u8], notes: &Notes) -> u8
         return 8;
     }
     let setpauses = notes::setpauses(notes);
-    if sets::labels::is_empty(setpauses) {
+    if labels::is_empty(setpauses) {
         return 0;
     }
     let pauses = notes::pauses(notes);
-    if !sets::labels::subset(setpauses, pauses) {
+    if !labels::subset(setpauses, pauses) {
         return 9;
     }
     if wellformed::triggers::is_well_formed(s, pauses) {

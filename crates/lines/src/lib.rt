@@ -24,7 +24,7 @@ pub struct Line {
 pub fn row(instant: u64, state: &[u8], answer: &[u8]) -> Line
     ensures { λ r. ⌜ Shows r (lineIn instant (now (state .entry)) (now (answer .entry))) ⌝ }
 {
-    let labels = sets::labels::bits(records::state::labels(state));
+    let labels = labels::bits(records::state::labels(state));
     let emitted = records::answer::emitted(answer) as u64;
     let place = records::answer::place(answer) as u64;
     let kind = records::answer::kind(answer) as u64;

@@ -1,9 +1,9 @@
 // A label set for each label: the rows of a matrix.
 ghost use mathlib.Core.Path.{_≡_};
 ghost use Rattle.sets.specs.Sets.{labelCount};
-ghost use Rattle.sets.specs.Labels.{labelSet};
+ghost use Rattle.labels.specs.Labels.{labelSet};
 ghost use Rattle.matrix.specs.Rows.{rowOf, addRowBelow, Updates};
-use sets::labels::Labels;
+use labels::Labels;
 
 pub type Rows = [u64; limits::LABEL_COUNT];
 
@@ -13,7 +13,7 @@ pub fn add_row(rows: &mut Rows, k: u8, s: Labels)
 {
     if k < limits::LABELS {
         let i = k as usize;
-        rows[i] = rows[i] | sets::labels::bits(s);
+        rows[i] = rows[i] | labels::bits(s);
     }
 }
 
@@ -22,8 +22,8 @@ pub fn row(rows: &Rows, k: u8) -> Labels
 {
     if k < limits::LABELS {
         let i = k as usize;
-        sets::labels::from_bits(rows[i])
+        labels::from_bits(rows[i])
     } else {
-        sets::labels::empty()
+        labels::empty()
     }
 }

@@ -4,7 +4,7 @@ ghost use mathlib.Core.Bool.{cond};
 ghost use Prim.Native.Nat.{_<_};
 ghost use lib.Dec.{ltb};
 ghost use Rattle.esterel.specs.Sets.{empty};
-ghost use Rattle.sets.specs.Labels.{labelSet};
+ghost use Rattle.labels.specs.Labels.{labelSet};
 ghost use Rattle.limits.specs.Limits.{labelCount, maxBytes};
 ghost use Rattle.layout.specs.Notes.{pausesIn, setpausesIn, twiceIn, countIn, rankIn, notePause, noteSetpause};
 ghost use Rattle.layout.specs.Walk.{Leaf, LabelNoted};
@@ -61,16 +61,16 @@ pub fn label(s: &[u8], notes: &mut Notes)
     }
 }
 
-pub fn pauses(notes: &Notes) -> sets::labels::Labels
+pub fn pauses(notes: &Notes) -> labels::Labels
     ensures { λ r. ⌜ labelSet r ≡ pausesIn (now (notes .entry)) ⌝ }
 {
-    sets::labels::from_bits(notes[PAUSES])
+    labels::from_bits(notes[PAUSES])
 }
 
-pub fn setpauses(notes: &Notes) -> sets::labels::Labels
+pub fn setpauses(notes: &Notes) -> labels::Labels
     ensures { λ r. ⌜ labelSet r ≡ setpausesIn (now (notes .entry)) ⌝ }
 {
-    sets::labels::from_bits(notes[SETPAUSES])
+    labels::from_bits(notes[SETPAUSES])
 }
 
 // Did no label of a pause come twice?

@@ -17,8 +17,8 @@ use Rattle.theory.proofs.Booleans.{clash}
 use Rattle.theory.proofs.Sets.{member-high}
 use Rattle.theory.proofs.ReadBack.{members-none, members-lowest}
 use Rattle.sequence.specs.Program.{readBackSignals}
-use Rattle.rules.specs.declared.reaction.Reaction.{Reaction}
-use Rattle.rules.specs.Reactions.{reactionOf, FromTwo}
+use Rattle.reaction.specs.declared.Reaction.{Reaction}
+use Rattle.reaction.specs.Reactions.{reactionOf, FromTwo}
 
 -- the instant of f under the declarations of a read-back set
 abbrev pub under : (readBack : ℕ) → (ℕ → Instant) → ℕ → Instant

@@ -3,15 +3,15 @@ use Prim.Native.Nat.{ℕ}
 use mathlib.Core.Path.{_≡_}
 use mathlib.Core.List.{List}
 use Rattle.limits.specs.Limits.{maxDepth, readBackPlace}
-use Rattle.sets.specs.Labels.{labelSet}
+use Rattle.labels.specs.Labels.{labelSet}
 use Rattle.esterel.specs.Statement.{Statement}
 use Rattle.esterel.specs.Resume as Esterel
 use Rattle.esterel.specs.Resume.{start, resume}
 use Rattle.esterel.specs.ReadBack.{declaredInstant}
 use Rattle.sequence.specs.Program.{readBackSignals}
 use Rattle.layout.specs.Layout.{Lies}
-use Rattle.rules.specs.declared.reaction.Reaction.{Reaction}
-use Rattle.rules.specs.Reactions.{reactionOf}
+use Rattle.reaction.specs.declared.Reaction.{Reaction}
+use Rattle.reaction.specs.Reactions.{reactionOf}
 use Rattle.program.specs.declared.Position.{Position}
 use Rattle.program.specs.declared.Position.the-variants.{Fresh, Waiting}
 

@@ -5,8 +5,8 @@ ghost use Rattle.limits.specs.Limits.{maxDepth};
 ghost use Rattle.layout.specs.Layout.{Ready};
 ghost use Rattle.program.specs.Program.{Inside, Reacted};
 use reading::reader::Seconds;
-use rules::reaction::Reaction;
-use sets::labels::Labels;
+use reaction::Reaction;
+use labels::Labels;
 
 // Where a sequence stands: at its beginning, or at its active pauses, by their ranks.
 pub enum Position {
@@ -37,14 +37,14 @@ pub fn react(s: &[u8], position: Position, input: u32, read_back: u32, second: &
     requires { ⌜ Ready (now second) maxDepth 0 (now s) ⌝ }
     ensures { λ r. ⌜ Reacted (now (second .entry)) (now (s .entry)) position input «read_back» r ⌝ }
 {
-    if sets::signals::is_empty(read_back) {
+    if signals::is_empty(read_back) {
         return inside(s, position, input, second);
     }
-    let x = sets::signals::lowest(read_back);
-    let others = sets::signals::without(read_back, x);
-    let without = sets::signals::without(input, x);
+    let x = signals::lowest(read_back);
+    let others = signals::without(read_back, x);
+    let without = signals::without(input, x);
     let p = react(s, position, without, others, second);
-    let with = sets::signals::with(input, x);
+    let with = signals::with(input, x);
     let q = react(s, position, with, others, second);
-    rules::command::in_read_back(x, p, q)
+    declarations::in_read_back(x, p, q)
 }

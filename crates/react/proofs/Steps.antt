@@ -12,9 +12,9 @@ use Rattle.esterel.specs.Errors.{errorsBy}
 use Rattle.esterel.specs.Resume as Esterel
 use Rattle.esterel.specs.Resume.{instant, start, seqInstant, parInstant, loopInstant, tryInstant, signalInstant}
 use Rattle.theory.proofs.Resume.{start-seq, start-par, start-loop, start-present, start-signal, start-try, start-suspend}
-use Rattle.rules.specs.declared.reaction.Reaction.{Reaction}
-use Rattle.rules.specs.Reactions.{reactionOf}
-use Rattle.rules.proofs.Combining.{suspend-reaction}
+use Rattle.reaction.specs.declared.Reaction.{Reaction}
+use Rattle.reaction.specs.Reactions.{reactionOf}
+use Rattle.reaction.proofs.Values.{suspend-reaction}
 
 -- ---- commands without parts, once they are known
 module _ (p : Statement) (e : ℕ) (r : Reaction) where

@@ -6,8 +6,8 @@ use Rattle.esterel.specs.Statement.{Statement}
 use Rattle.esterel.specs.Resume as Esterel
 use Rattle.esterel.specs.Resume.{start, seqInstant}
 use Rattle.layout.specs.Layout.{Lies}
-use Rattle.rules.specs.declared.reaction.Reaction.{Reaction}
-use Rattle.rules.specs.Reactions.{reactionOf}
+use Rattle.reaction.specs.declared.Reaction.{Reaction}
+use Rattle.reaction.specs.Reactions.{reactionOf}
 
 -- r is the instant of the statement that lies there
 abbrev pub Started : (t : List ℕ) (d a : ℕ) (bs : List ℕ) (e : ℕ) (r : Reaction) → Type 0

@@ -5,7 +5,7 @@ ghost use lib.ListN.{length, getD};
 ghost use Rattle.layout.specs.Layout.{rest, Ready};
 ghost use Rattle.react.specs.Started.{Started, StartedAfter};
 use reading::reader::Seconds;
-use rules::reaction::Reaction;
+use reaction::Reaction;
 
 // The reaction of the statement at the front of s, which stands at the offset `at`.
 pub fn react(s: &[u8], at: usize, depth: u8, input: u32, second: &Seconds) -> Reaction
@@ -14,10 +14,10 @@ pub fn react(s: &[u8], at: usize, depth: u8, input: u32, second: &Seconds) -> Re
 {
     let command = s[0];
     match command {
-        0 => rules::command::ending(0),
-        1 => rules::command::pausing(s[1]),
-        2 => rules::command::ending(sets::signals::single(s[1])),
-        3 => rules::command::leaving(s[1]),
+        0 => reaction::ending(0),
+        1 => reaction::pausing(s[1]),
+        2 => reaction::ending(signals::single(s[1])),
+        3 => reaction::leaving(s[1]),
         4 => seq_parts(s, at, depth, input, second),
         5 => par_parts(s, at, depth, input, second),
         6 => loop_part(s, at, depth, input, second),
@@ -26,7 +26,7 @@ pub fn react(s: &[u8], at: usize, depth: u8, input: u32, second: &Seconds) -> Re
         9 => try_part(s, at, depth, input, second),
         // a fresh suspend reacts as its part
         11 => part(s, 2, at + 2, depth - 1, input, second),
-        _ => rules::command::pausing(s[1]),
+        _ => reaction::pausing(s[1]),
     }
 }
 
@@ -55,7 +55,7 @@ pub fn after(
 {
     let k = p.completion;
     if completions::is_ended(k) {
-        rules::command::in_sequence(p, part(s, n, at, depth, input, second))
+        rules::in_sequence(p, part(s, n, at, depth, input, second))
     } else {
         p
     }
@@ -77,7 +77,7 @@ fn par_parts(s: &[u8], at: usize, depth: u8, input: u32, second: &Seconds) -> Re
     let m = (second[at] % 2048) as usize;
     let p = part(s, 1, at + 1, depth - 1, input, second);
     let q = part(s, m - at, m, depth - 1, input, second);
-    rules::command::in_parallel(p, q)
+    rules::in_parallel(p, q)
 }
 
 fn loop_part(s: &[u8], at: usize, depth: u8, input: u32, second: &Seconds) -> Reaction
@@ -85,14 +85,14 @@ fn loop_part(s: &[u8], at: usize, depth: u8, input: u32, second: &Seconds) -> Re
     ensures { λ r. ⌜ Started (now (second .entry)) depth at (now (s .entry)) input r ⌝ }
 {
     let p = part(s, 1, at + 1, depth - 1, input, second);
-    rules::command::in_loop(at as u16, p)
+    rules::in_loop(at as u16, p)
 }
 
 fn present_parts(s: &[u8], at: usize, depth: u8, input: u32, second: &Seconds) -> Reaction
     requires { ⌜ Ready (now second) depth at (now s) × (getD (now s) 0 0 ≡ 7) ⌝ }
     ensures { λ r. ⌜ Started (now (second .entry)) depth at (now (s .entry)) input r ⌝ }
 {
-    if sets::signals::member(input, s[1]) {
+    if signals::member(input, s[1]) {
         part(s, 2, at + 2, depth - 1, input, second)
     } else {
         let m = (second[at] % 2048) as usize;
@@ -106,11 +106,11 @@ fn signal_rule(s: &[u8], at: usize, depth: u8, input: u32, second: &Seconds) -> 
     ensures { λ r. ⌜ Started (now (second .entry)) depth at (now (s .entry)) input r ⌝ }
 {
     let x = s[1];
-    let without = sets::signals::without(input, x);
+    let without = signals::without(input, x);
     let p = part(s, 2, at + 2, depth - 1, without, second);
-    let with = sets::signals::with(input, x);
+    let with = signals::with(input, x);
     let q = part(s, 2, at + 2, depth - 1, with, second);
-    rules::command::in_signal(at as u16, x, p, q)
+    declarations::in_signal(at as u16, x, p, q)
 }
 
 fn try_part(s: &[u8], at: usize, depth: u8, input: u32, second: &Seconds) -> Reaction
@@ -118,5 +118,5 @@ fn try_part(s: &[u8], at: usize, depth: u8, input: u32, second: &Seconds) -> Rea
     ensures { λ r. ⌜ Started (now (second .entry)) depth at (now (s .entry)) input r ⌝ }
 {
     let p = part(s, 1, at + 1, depth - 1, input, second);
-    rules::command::in_try(p)
+    rules::in_try(p)
 }

@@ -1,11 +1,11 @@
 // The state record: phase, then the label set.
 ghost use mathlib.Core.Path.{_≡_};
-ghost use Rattle.sets.specs.Labels.{labelSet};
+ghost use Rattle.labels.specs.Labels.{labelSet};
 ghost use Rattle.records.specs.Records.{replaced, phaseIn, labelsIn, stateRecord};
 use crate::layout::LABELS_AT;
 use crate::layout::STATE_LENGTH;
 use limits::LABEL_BYTES;
-use sets::labels::Labels;
+use labels::Labels;
 
 pub fn phase(state: &[u8]) -> u8
     ensures { λ r. ⌜ r ≡ phaseIn (now (state .entry)) ⌝ }
@@ -16,7 +16,7 @@ pub fn phase(state: &[u8]) -> u8
 pub fn labels(state: &[u8]) -> Labels
     ensures { λ r. ⌜ labelSet r ≡ labelsIn (now (state .entry)) ⌝ }
 {
-    sets::labels::from_bits(numbers::get_le(state, LABELS_AT, LABEL_BYTES))
+    labels::from_bits(numbers::get_le(state, LABELS_AT, LABEL_BYTES))
 }
 
 // A buffer of another length is left as it is.
@@ -27,5 +27,5 @@ pub fn write_state(state: &mut [u8], phase: u8, labels: Labels)
         return;
     }
     state[0] = phase;
-    crate::fields::put_le(state, LABELS_AT, LABEL_BYTES, sets::labels::bits(labels));
+    crate::fields::put_le(state, LABELS_AT, LABEL_BYTES, labels::bits(labels));
 }

@@ -18,9 +18,9 @@ use Rattle.sequence.specs.Commands.{Command, commandOf}
 use Rattle.layout.specs.Layout.{Form, Lies}
 use Rattle.sequence.proofs.Table.{byte-is}
 use Rattle.layout.proofs.Laid.{opened}
-use Rattle.rules.specs.declared.reaction.Reaction.{Reaction}
-use Rattle.rules.specs.Reactions.{faultless, reactionOf}
-use Rattle.rules.proofs.Combining.{suspend-reaction}
+use Rattle.reaction.specs.declared.Reaction.{Reaction}
+use Rattle.reaction.specs.Reactions.{faultless, reactionOf}
+use Rattle.reaction.proofs.Values.{suspend-reaction}
 
 -- a cut at k is one at j
 moved : (cut : ℕ → ℕ → ℕ) (m : ℕ) {k j f : ℕ} → k ≡ j → f ≡ cut k m → f ≡ cut j m

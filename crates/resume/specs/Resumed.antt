@@ -8,8 +8,8 @@ use Rattle.esterel.specs.Sets.{empty}
 use Rattle.esterel.specs.Statement.{Statement}
 use Rattle.esterel.specs.Resume.{idle, resume}
 use Rattle.layout.specs.Layout.{Lies}
-use Rattle.rules.specs.declared.reaction.Reaction.{Reaction}
-use Rattle.rules.specs.Reactions.{reactionOf}
+use Rattle.reaction.specs.declared.Reaction.{Reaction}
+use Rattle.reaction.specs.Reactions.{reactionOf}
 
 -- r is the instant of the statement that lies there
 abbrev pub Resumed : (t : List ℕ) (d a : ℕ) (bs : List ℕ) (m e : ℕ) (r : Reaction) → Type 0

@@ -3,12 +3,12 @@
 ghost use mathlib.Core.Path.{_≡_};
 ghost use Prim.Native.Nat.{_≤_};
 ghost use lib.ListN.{length, getD};
-ghost use Rattle.sets.specs.Labels.{labelSet};
+ghost use Rattle.labels.specs.Labels.{labelSet};
 ghost use Rattle.layout.specs.Layout.{rest, Ready};
 ghost use Rattle.resume.specs.Resumed.{Resumed, ResumedSide};
 use reading::reader::Seconds;
-use rules::reaction::Reaction;
-use sets::labels::Labels;
+use reaction::Reaction;
+use labels::Labels;
 
 // The reaction of the statement at the front of s, which stands at the offset `at`, by the ranks of its active pauses.
 pub fn resume(
@@ -31,7 +31,7 @@ pub fn resume(
         8 => signal_rule(s, at, depth, input, active, second),
         9 => try_part(s, at, depth, input, active, second),
         11 => suspend_part(s, at, depth, input, active, second),
-        _ => rules::command::ending(0),
+        _ => reaction::ending(0),
     }
 }
 
@@ -65,9 +65,9 @@ fn seq_parts(
 {
     let entry = second[at];
     let m = (entry % 2048) as usize;
-    let first = sets::labels::below(active, entry / 2048);
-    if sets::labels::is_empty(first) {
-        let others = sets::labels::from(active, entry / 2048);
+    let first = labels::below(active, entry / 2048);
+    if labels::is_empty(first) {
+        let others = labels::from(active, entry / 2048);
         return part(s, m - at, m, depth - 1, input, others, second);
     }
     let p = part(s, 1, at + 1, depth - 1, input, first, second);
@@ -88,8 +88,8 @@ fn side(
     requires { ⌜ Ready (now second) depth at (rest n (now s)) ⌝ }
     ensures { λ r. ⌜ ResumedSide (now (second .entry)) depth at (rest n (now (s .entry))) (labelSet active) input r ⌝ }
 {
-    if sets::labels::is_empty(active) {
-        return rules::command::ending(0);
+    if labels::is_empty(active) {
+        return reaction::ending(0);
     }
     part(s, n, at, depth, input, active, second)
 }
@@ -107,11 +107,11 @@ fn par_parts(
 {
     let entry = second[at];
     let m = (entry % 2048) as usize;
-    let first = sets::labels::below(active, entry / 2048);
+    let first = labels::below(active, entry / 2048);
     let p = side(s, 1, at + 1, depth - 1, input, first, second);
-    let others = sets::labels::from(active, entry / 2048);
+    let others = labels::from(active, entry / 2048);
     let q = side(s, m - at, m, depth - 1, input, others, second);
-    rules::command::in_parallel(p, q)
+    rules::in_parallel(p, q)
 }
 
 // The loop begins again where its body has ended.
@@ -143,10 +143,10 @@ fn present_parts(
     ensures { λ r. ⌜ Resumed (now (second .entry)) depth at (now (s .entry)) (labelSet active) input r ⌝ }
 {
     let entry = second[at];
-    let first = sets::labels::below(active, entry / 2048);
-    if sets::labels::is_empty(first) {
+    let first = labels::below(active, entry / 2048);
+    if labels::is_empty(first) {
         let m = (entry % 2048) as usize;
-        let others = sets::labels::from(active, entry / 2048);
+        let others = labels::from(active, entry / 2048);
         return part(s, m - at, m, depth - 1, input, others, second);
     }
     part(s, 2, at + 2, depth - 1, input, first, second)
@@ -165,11 +165,11 @@ fn signal_rule(
     ensures { λ r. ⌜ Resumed (now (second .entry)) depth at (now (s .entry)) (labelSet active) input r ⌝ }
 {
     let x = s[1];
-    let without = sets::signals::without(input, x);
+    let without = signals::without(input, x);
     let p = part(s, 2, at + 2, depth - 1, without, active, second);
-    let with = sets::signals::with(input, x);
+    let with = signals::with(input, x);
     let q = part(s, 2, at + 2, depth - 1, with, active, second);
-    rules::command::in_signal(at as u16, x, p, q)
+    declarations::in_signal(at as u16, x, p, q)
 }
 
 // The signal is tested first. Where it is present nothing inside reacts, and the active labels inside are kept.
@@ -184,8 +184,8 @@ fn suspend_part(
     requires { ⌜ Ready (now second) depth at (now s) × (getD (now s) 0 0 ≡ 11) ⌝ }
     ensures { λ r. ⌜ Resumed (now (second .entry)) depth at (now (s .entry)) (labelSet active) input r ⌝ }
 {
-    if sets::signals::member(input, s[1]) {
-        rules::command::waiting(active::labels::of_part(s, 2, at + 2, depth - 1, active, second))
+    if signals::member(input, s[1]) {
+        reaction::waiting(active::of_part(s, 2, at + 2, depth - 1, active, second))
     } else {
         part(s, 2, at + 2, depth - 1, input, active, second)
     }
@@ -203,5 +203,5 @@ fn try_part(
     ensures { λ r. ⌜ Resumed (now (second .entry)) depth at (now (s .entry)) (labelSet active) input r ⌝ }
 {
     let p = part(s, 1, at + 1, depth - 1, input, active, second);
-    rules::command::in_try(p)
+    rules::in_try(p)
 }

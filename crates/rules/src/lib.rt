@@ -1,3 +1,75 @@
-// What one reaction gives, and what a command makes of the reactions of its parts.
-pub mod command;
-pub mod reaction;
+// The rules of a reaction (01, 'One reaction'): what a command makes of the reactions of its parts.
+ghost use mathlib.Core.Path.{_≡_};
+ghost use Rattle.labels.specs.Labels.{labelSet};
+ghost use Rattle.esterel.specs.Statement.{Statement};
+ghost use Rattle.esterel.specs.Reaction.{ifWaiting};
+ghost use Rattle.esterel.specs.Resume.{seqInstant, parInstant, loopInstant, tryInstant};
+ghost use Rattle.completions.specs.Completions.{codeOf};
+ghost use Rattle.reaction.specs.Reactions.{FromOne, FromTwo};
+use completions::Completion;
+use labels::Labels;
+use reaction::Reaction;
+
+fn if_waiting(k: Completion, labels: Labels) -> Labels
+    ensures { λ r. ⌜ labelSet r ≡ ifWaiting (codeOf k) (labelSet labels) ⌝ }
+{
+    match k {
+        Completion::Waiting => labels,
+        Completion::Ended => labels::empty(),
+        Completion::Leaving(_) => labels::empty(),
+        Completion::Wrong(_, _) => labels::empty(),
+    }
+}
+
+pub fn in_sequence(p: Reaction, q: Reaction) -> Reaction
+    ensures { λ r. ⌜ ((u : Statement) → FromTwo (seqInstant u) p q r) ⌝ }
+{
+    let k = p.completion;
+    if completions::is_ended(k) {
+        let labels = q.labels;
+        let l = q.completion;
+        Reaction {
+            emitted: signals::union(p.emitted, q.emitted),
+            labels,
+            completion: l,
+        }
+    } else {
+        p
+    }
+}
+
+pub fn in_parallel(p: Reaction, q: Reaction) -> Reaction
+    ensures { λ r. ⌜ FromTwo parInstant p q r ⌝ }
+{
+    let k = p.completion;
+    let l = q.completion;
+    let code = completions::greater_of(k, l);
+    Reaction {
+        emitted: signals::union(p.emitted, q.emitted),
+        labels: if_waiting(code, labels::union(p.labels, q.labels)),
+        completion: code,
+    }
+}
+
+pub fn in_loop(place: u16, p: Reaction) -> Reaction
+    ensures { λ r. ⌜ ((u : Statement) → FromOne (loopInstant place u) p r) ⌝ }
+{
+    let k = p.completion;
+    if completions::is_ended(k) {
+        reaction::failing(1, place)
+    } else {
+        p
+    }
+}
+
+pub fn in_try(p: Reaction) -> Reaction
+    ensures { λ r. ⌜ FromOne tryInstant p r ⌝ }
+{
+    let labels = p.labels;
+    let k = p.completion;
+    Reaction {
+        emitted: p.emitted,
+        labels,
+        completion: completions::caught(k),
+    }
+}

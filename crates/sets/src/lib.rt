@@ -1,3 +1,1 @@
-// Sets of signals and of labels as bits. Every function is defined for every index; one outside the width is no member.
-pub mod labels;
-pub mod signals;
+// Sets below a width, and the laws by which sets are held as bits: definitions and proofs, no code.

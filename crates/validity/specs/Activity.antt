@@ -8,7 +8,7 @@ use Rattle.esterel.specs.Statement.{Statement}
 use Rattle.esterel.specs.LabelTests.{pauses, distinct, valid}
 use Rattle.esterel.specs.Ranks.{mask}
 use Rattle.sets.specs.Sets.{Subset, labelCount}
-use Rattle.sets.specs.Labels.{labelSet}
+use Rattle.labels.specs.Labels.{labelSet}
 use Rattle.layout.specs.Notes.{Noted, rankIn}
 use Rattle.layout.specs.Known.{Known}
 use Rattle.validity.specs.declared.activity.Validity.{Validity}

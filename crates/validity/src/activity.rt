@@ -1,23 +1,23 @@
 // Row 11: is a set of labels valid? Its active pauses are a mask of ranks.
-ghost use Rattle.sets.specs.Labels.{labelSet};
+ghost use Rattle.labels.specs.Labels.{labelSet};
 ghost use Rattle.validity.specs.Activity.{Ranked, Masked, Judges};
 ghost use Rattle.layout.specs.Known.{Sound};
 use notes::Notes;
 use reading::reader::Seconds;
-use sets::labels::Labels;
+use labels::Labels;
 
 // The ranks of the pauses with these labels.
 fn ranks(labels: Labels, notes: &Notes) -> Labels
     requires { ⌜ Ranked (now notes) (labelSet labels) ⌝ }
     ensures { λ r. ⌜ Masked (now (notes .entry)) (labelSet labels) (labelSet r) ⌝ }
 {
-    let mut mask = sets::labels::empty();
+    let mut mask = labels::empty();
     let mut left = labels;
-    while !sets::labels::is_empty(left) {
-        let l = sets::labels::lowest(left);
+    while !labels::is_empty(left) {
+        let l = labels::lowest(left);
         let rank = notes::rank(notes, l) as u8;
-        mask = sets::labels::union(mask, sets::labels::single(rank));
-        left = sets::labels::without(left, l);
+        mask = labels::union(mask, labels::single(rank));
+        left = labels::without(left, l);
     }
     mask
 }
@@ -33,10 +33,10 @@ pub fn validity_of(s: &[u8], second: &Seconds, notes: &Notes, labels: Labels) ->
     requires { ⌜ Sound (now second) (now notes) (now s) ⌝ }
     ensures { λ r. ⌜ Judges (now (second .entry)) (now (notes .entry)) (now (s .entry)) (labelSet labels) r ⌝ }
 {
-    if sets::labels::is_empty(labels) {
+    if labels::is_empty(labels) {
         return Validity::Invalid;
     }
-    if !sets::labels::subset(labels, notes::pauses(notes)) {
+    if !labels::subset(labels, notes::pauses(notes)) {
         return Validity::Invalid;
     }
     let active = ranks(labels, notes);

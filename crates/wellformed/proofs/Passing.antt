@@ -12,7 +12,7 @@ use Rattle.esterel.specs.LabelTests.{labelsOf, alternative, parallel}
 use Rattle.esterel.specs.LabelRows.{addRow, further, fill}
 use Rattle.esterel.specs.Ranks.{middle}
 use Rattle.sets.specs.Sets.{labelCount, onlyBelow}
-use Rattle.sets.specs.Labels.{labelSet}
+use Rattle.labels.specs.Labels.{labelSet}
 use Rattle.matrix.specs.Rows.{rowOf, addRowBelow, Updates}
 use Rattle.sequence.specs.Writer.{bytesOf, size}
 use Rattle.sequence.specs.Commands.{Command}

@@ -8,7 +8,7 @@ use Rattle.esterel.specs.Sets.{none, join}
 use Rattle.esterel.specs.Statement.{Statement}
 use Rattle.esterel.specs.LabelTests.{labelsOf, pauses, triggers, Joint, alternative, parallel}
 use Rattle.esterel.specs.LabelRows.{further, fill}
-use Rattle.sets.specs.Labels.{labelSet}
+use Rattle.labels.specs.Labels.{labelSet}
 use Rattle.matrix.specs.Rows.{Updates}
 use Rattle.limits.specs.Limits.{maxDepth}
 use Rattle.sequence.specs.Writer.{size}

@@ -85,7 +85,7 @@ pub fn survey(s: &[u8], exclusive: &mut Rows, concurrent: &mut Rows)
     ensures { λ _. ⌜ Surveys (now (s .entry))
         (now (exclusive .entry)) (now (exclusive .exit)) (now (concurrent .entry)) (now (concurrent .exit)) ⌝ }
 {
-    let none = sets::labels::empty();
+    let none = labels::empty();
     let before = Before {
         exclusive: none,
         concurrent: none,

@@ -1,10 +1,10 @@
 // Row 10: is a sequence well-formed? Triggers, the pauses and setpauses, on two sides of a parallel have no exclusive pauses.
-ghost use Rattle.sets.specs.Labels.{labelSet};
+ghost use Rattle.labels.specs.Labels.{labelSet};
 ghost use Rattle.limits.specs.Limits.{maxDepth};
 ghost use Rattle.wellformed.specs.Survey.{Standing};
 ghost use Rattle.wellformed.specs.Triggers.{TellsWellFormed};
 use matrix::Rows;
-use sets::labels::Labels;
+use labels::Labels;
 
 // Is the statement that lies in s well-formed? Its pauses are known, and row 9 does not hold of it.
 pub fn is_well_formed(s: &[u8], pauses: Labels) -> bool

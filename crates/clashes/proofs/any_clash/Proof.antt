@@ -1,6 +1,6 @@
 use mathlib.Core.Path.{refl}
 use Rattle.theory.proofs.Booleans as Booleans
-use Rattle.sets.specs.Labels.{labelSet}
+use Rattle.labels.specs.Labels.{labelSet}
 use Rattle.matrix.specs.Rows.{rowOf}
 use Rattle.sets.proofs.Members.{some-left, none-left, Seeking, seek, seek-on, seek-less}
 use Rattle.clashes.proofs.Clashes.{Clear, clear-end}

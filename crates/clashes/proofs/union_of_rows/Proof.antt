@@ -1,4 +1,4 @@
-use Rattle.sets.specs.Labels.{labelSet}
+use Rattle.labels.specs.Labels.{labelSet}
 use Rattle.matrix.specs.Rows.{rowOf}
 use Rattle.sets.proofs.Members.{some-left, none-left, Seeking, seek, seek-less}
 use Rattle.clashes.proofs.Clashes.{CoversRow, covers-on, covers-end}

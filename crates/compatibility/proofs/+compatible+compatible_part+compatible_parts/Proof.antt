@@ -34,9 +34,9 @@ use Rattle.compatibility.proofs.+compatible+compatible_part+compatible_
 use Rattle.compatibility.proofs.compatible_parts.Reads as compatible-parts
 use Rattle.compatibility.proofs.compatible_parts.Kinds as compatible-parts-kinds
 use Rattle.compatibility.proofs.+compatible+compatible_part+compatible_parts.Lts-compatible_parts as compatible-parts-lts
-use Rattle.sets.proofs.labels.below.Reads as below-reads
-use Rattle.sets.proofs.labels.from.Reads as from-reads
-use Rattle.sets.proofs.labels.is_empty.Reads as is-empty-reads
+use Rattle.labels.proofs.below.Reads as below-reads
+use Rattle.labels.proofs.from.Reads as from-reads
+use Rattle.labels.proofs.is_empty.Reads as is-empty-reads
 use Rattle.compatibility.proofs.+compatible+compatible_part+compatible_parts.{statement}
 use Rattle.compatibility.proofs.+compatible+compatible_part+compatible_parts.Tie.{close}
 

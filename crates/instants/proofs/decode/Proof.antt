@@ -9,7 +9,7 @@ use Rattle.instants.proofs.decode.Lts as lts
 use Rattle.validity.proofs.activity.validity_of.Reads as validity-of-reads
 use Rattle.records.proofs.state.labels.Reads as labels-reads
 use Rattle.records.proofs.state.phase.Reads as phase-reads
-use Rattle.sets.proofs.labels.is_empty.Reads as is-empty-reads
+use Rattle.labels.proofs.is_empty.Reads as is-empty-reads
 
 phase-requires : tie.Need-phase-requires
 phase-requires c κs = search needs

@@ -11,11 +11,11 @@ use Rattle.program.proofs.react.Reads as react
 use Rattle.program.proofs.react.Kinds as react-kinds
 use Rattle.program.proofs.+react.Lts-react as react-lts
 use Rattle.program.proofs.inside.Reads as inside-reads
-use Rattle.rules.proofs.command.in_read_back.Reads as in-read-back-reads
-use Rattle.sets.proofs.signals.is_empty.Reads as is-empty-reads
-use Rattle.sets.proofs.signals.lowest.Reads as lowest-reads
-use Rattle.sets.proofs.signals.with.Reads as with-reads
-use Rattle.sets.proofs.signals.without.Reads as without-reads
+use Rattle.declarations.proofs.in_read_back.Reads as in-read-back-reads
+use Rattle.signals.proofs.is_empty.Reads as is-empty-reads
+use Rattle.signals.proofs.lowest.Reads as lowest-reads
+use Rattle.signals.proofs.with.Reads as with-reads
+use Rattle.signals.proofs.without.Reads as without-reads
 use Rattle.program.proofs.+react.{statement}
 use Rattle.program.proofs.+react.Tie.{close}
 

@@ -12,7 +12,7 @@ use Rattle.intake.proofs.tick.finish.Reads as reads
 use Rattle.intake.proofs.tick.finish.Lts as lts
 use Rattle.records.proofs.answer.write_answer.Reads as write-answer-reads
 use Rattle.records.proofs.state.write_state.Reads as write-state-reads
-use Rattle.sets.proofs.labels.empty.Reads as empty-reads
+use Rattle.labels.proofs.empty.Reads as empty-reads
 
 enum-told : tie.Need-enum-told
 enum-told c = search needs

@@ -53,19 +53,19 @@ use Rattle.react.proofs.react.+after+loop_part+par_parts+part+present_p
 use Rattle.react.proofs.react.try_part.Reads as try-part
 use Rattle.react.proofs.react.try_part.Kinds as try-part-kinds
 use Rattle.react.proofs.react.+after+loop_part+par_parts+part+present_parts+react+seq_parts+signal_rule+try_part.Lts-try_part as try-part-lts
-use Rattle.rules.proofs.command.ending.Reads as ending-reads
-use Rattle.rules.proofs.command.in_loop.Reads as in-loop-reads
-use Rattle.rules.proofs.command.in_parallel.Reads as in-parallel-reads
-use Rattle.rules.proofs.command.in_sequence.Reads as in-sequence-reads
-use Rattle.rules.proofs.command.in_signal.Reads as in-signal-reads
-use Rattle.rules.proofs.command.in_try.Reads as in-try-reads
+use Rattle.reaction.proofs.ending.Reads as ending-reads
+use Rattle.rules.proofs.in_loop.Reads as in-loop-reads
+use Rattle.rules.proofs.in_parallel.Reads as in-parallel-reads
+use Rattle.rules.proofs.in_sequence.Reads as in-sequence-reads
+use Rattle.declarations.proofs.in_signal.Reads as in-signal-reads
+use Rattle.rules.proofs.in_try.Reads as in-try-reads
 use Rattle.completions.proofs.is_ended.Reads as is-ended-reads
-use Rattle.rules.proofs.command.leaving.Reads as leaving-reads
-use Rattle.rules.proofs.command.pausing.Reads as pausing-reads
-use Rattle.sets.proofs.signals.member.Reads as member-reads
-use Rattle.sets.proofs.signals.single.Reads as single-reads
-use Rattle.sets.proofs.signals.with.Reads as with-reads
-use Rattle.sets.proofs.signals.without.Reads as without-reads
+use Rattle.reaction.proofs.leaving.Reads as leaving-reads
+use Rattle.reaction.proofs.pausing.Reads as pausing-reads
+use Rattle.signals.proofs.member.Reads as member-reads
+use Rattle.signals.proofs.single.Reads as single-reads
+use Rattle.signals.proofs.with.Reads as with-reads
+use Rattle.signals.proofs.without.Reads as without-reads
 use Rattle.react.proofs.react.+after+loop_part+par_parts+part+present_parts+react+seq_parts+signal_rule+try_part.{
   statement,
 }

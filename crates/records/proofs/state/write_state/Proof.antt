@@ -3,7 +3,7 @@ use native.Mathlib.Omega.{arith}
 use mathlib.Core.Path.{ap, _∙_}
 use lib.ListN.{set, length-set}
 use lib.Seq.{sets}
-use Rattle.sets.specs.Labels.{labelSet}
+use Rattle.labels.specs.Labels.{labelSet}
 use Rattle.numbers.specs.Bytes.{leBytes}
 use Rattle.limits.specs.Limits.{labelBytes}
 use Rattle.records.specs.Records.{stateLength, stateRecord}
@@ -15,7 +15,7 @@ use Rattle.records.proofs.state.write_state.Tie as tie
 use Rattle.records.proofs.state.write_state.Reads as reads
 use Rattle.records.proofs.state.write_state.Lts as lts
 use Rattle.records.proofs.fields.put_le.Reads as put-le-reads
-use Rattle.sets.proofs.labels.bits.Reads as bits-reads
+use Rattle.labels.proofs.bits.Reads as bits-reads
 
 returns : tie.Need-returns
 returns c =

@@ -56,18 +56,18 @@ use Rattle.resume.proofs.resume.try_part.Reads as try-part
 use Rattle.resume.proofs.resume.try_part.Kinds as try-part-kinds
 use Rattle.resume.proofs.resume.+loop_part+par_parts+part+present_parts+resume+seq_parts+side+signal_rule+suspend_part+try_part.Lts-try_part as try-part-lts
 use Rattle.react.proofs.react.after.Reads as after-reads
-use Rattle.rules.proofs.command.ending.Reads as ending-reads
-use Rattle.rules.proofs.command.in_parallel.Reads as in-parallel-reads
-use Rattle.rules.proofs.command.in_signal.Reads as in-signal-reads
-use Rattle.rules.proofs.command.in_try.Reads as in-try-reads
-use Rattle.rules.proofs.command.waiting.Reads as waiting-reads
-use Rattle.active.proofs.labels.of_part.Reads as of-part-reads
-use Rattle.sets.proofs.labels.below.Reads as below-reads
-use Rattle.sets.proofs.labels.from.Reads as from-reads
-use Rattle.sets.proofs.labels.is_empty.Reads as is-empty-reads
-use Rattle.sets.proofs.signals.member.Reads as member-reads
-use Rattle.sets.proofs.signals.with.Reads as with-reads
-use Rattle.sets.proofs.signals.without.Reads as without-reads
+use Rattle.reaction.proofs.ending.Reads as ending-reads
+use Rattle.rules.proofs.in_parallel.Reads as in-parallel-reads
+use Rattle.declarations.proofs.in_signal.Reads as in-signal-reads
+use Rattle.rules.proofs.in_try.Reads as in-try-reads
+use Rattle.reaction.proofs.waiting.Reads as waiting-reads
+use Rattle.active.proofs.of_part.Reads as of-part-reads
+use Rattle.labels.proofs.below.Reads as below-reads
+use Rattle.labels.proofs.from.Reads as from-reads
+use Rattle.labels.proofs.is_empty.Reads as is-empty-reads
+use Rattle.signals.proofs.member.Reads as member-reads
+use Rattle.signals.proofs.with.Reads as with-reads
+use Rattle.signals.proofs.without.Reads as without-reads
 use Rattle.resume.proofs.resume.+loop_part+par_parts+part+present_parts+resume+seq_parts+side+signal_rule+suspend_part+try_part.{
   statement,
 }

@@ -1,6 +1,6 @@
 use native.Mathlib.Omega.{arith}
 use borrow.Author.Needs.{needs}
-use Rattle.sets.specs.Labels.{labelSet}
+use Rattle.labels.specs.Labels.{labelSet}
 use Rattle.sets.proofs.Lowest.{remove-less}
 use Rattle.sets.proofs.Members.{some-left, none-left}
 use Rattle.validity.proofs.Ranking.{Ranking, ranking-begin, ranking-end, rank-small, ranking-on}

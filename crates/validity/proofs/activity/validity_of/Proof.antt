@@ -1,6 +1,6 @@
 use mathlib.Core.Path.{_∙_}
 use borrow.Author.Tests.{not-true, not-false}
-use Rattle.sets.specs.Labels.{labelSet}
+use Rattle.labels.specs.Labels.{labelSet}
 use Rattle.layout.proofs.Laid.{ready, whole, whole-lies}
 use Rattle.validity.proofs.Ranking.{ranked, paused-in}
 use Rattle.validity.proofs.Validities.{none-invalid, outside-invalid, valid-is}

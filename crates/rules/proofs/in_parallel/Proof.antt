@@ -1,0 +1,24 @@
+use Rattle.rules.proofs.Combining.{par-joins}
+use borrow.Author.Needs.{needs}
+use Rattle.rules.proofs.in_parallel.Statement.{statement}
+use Rattle.rules.proofs.in_parallel.Tie as tie
+
+greater-of-requires : tie.Need-greater-of-requires
+greater-of-requires c κs = search needs
+
+union-requires : tie.Need-union-requires
+union-requires c κs = search needs
+
+union-requires-2 : tie.Need-union-requires-2
+union-requires-2 c κs = search needs
+
+if-waiting-requires : tie.Need-if-waiting-requires
+if-waiting-requires c κs = search needs
+
+returns : tie.Need-returns
+returns c i j a b = par-joins i j _ _ a b _ _ _ _ (c .before .before .union .ensures) (c .before .before .before .greater-of .ensures) (c .before .union2 .ensures) (c .if-waiting .ensures)
+
+pub in-parallel-spec : {M : Type 1} → statement M
+in-parallel-spec =
+    tie.close
+    (tie.spec greater-of-requires union-requires union-requires-2 if-waiting-requires returns)

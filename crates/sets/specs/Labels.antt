@@ -1,9 +1,0 @@
--- The set that a value of `Labels` stands for, and the value of a set.
-use Prim.Native.Nat.{ℕ}
-use Rattle.sets.specs.declared.labels.Labels.{Labels}
-
-unfoldable pub labelSet : Labels → ℕ
-labelSet s = s .bits
-
-unfoldable pub labelsWith : ℕ → Labels
-labelsWith n = record { bits = n }

@@ -1,0 +1,11 @@
+use mathlib.Core.Path.{refl}
+use Rattle.esterel.specs.Sets.{none}
+use Rattle.signals.proofs.is_empty.Statement.{statement}
+use Rattle.signals.proofs.is_empty.Tie as tie
+
+returns : tie.Need-returns
+unfolding none
+returns c = refl
+
+pub is-empty-spec : {M : Type 1} → statement M
+is-empty-spec = tie.close (tie.spec returns)
