@@ -13,7 +13,8 @@ use Rattle.esterel.specs.LabelTests.{distinct, targeted, wellFormed}
 use Rattle.reading.specs.declared.reader.Reading.{Reading}
 use Rattle.reading.specs.declared.reader.Reading.the-variants.{Accepted, Refused}
 use Rattle.limits.specs.Limits.{maxDepth, maxSignals, readBackPlace}
-use Rattle.sequence.specs.Reader.{Read, accepted, refused, readAll, nesting}
+use Rattle.sequence.specs.Reader.{Read, accepted, refused, readAll}
+use Rattle.esterel.specs.Ceiling.{nesting}
 use Rattle.sequence.specs.Writer.{Written}
 use Rattle.sequence.specs.Program.{readBackSignals, program}
 use Rattle.layout.specs.Layout.{Lies}

@@ -16,7 +16,8 @@ use Rattle.esterel.specs.Machines.{State}
 use Rattle.esterel.specs.ReadBack.{membersFrom, declared, declaredInstant}
 use Rattle.theory.proofs.ReadBack.{members-none, expand-declared, start-declared, AgreeOutside, declared-unread}
 use Rattle.limits.specs.Limits.{maxBytes, maxDepth, maxSignals, signalCount, readBackPlace}
-use Rattle.sequence.specs.Reader.{Read, accepted, refused, read, nesting}
+use Rattle.sequence.specs.Reader.{Read, accepted, refused, read}
+use Rattle.esterel.specs.Ceiling.{nesting}
 use Rattle.sequence.specs.Program.{readBackSignals, program}
 use Rattle.sequence.specs.Check.{Checked, sound, bad, afterRead, checked, checkOf, numberOf}
 use Rattle.sequence.proofs.Sound as reader

@@ -14,7 +14,8 @@ use Rattle.esterel.specs.States.{NoSetpause}
 use Rattle.esterel.specs.LabelTests.{subset, disjoint, labelsOf, everyLabel, distinct, before, wellFormed}
 use Rattle.sequence.specs.Commands.{commandOf}
 use Rattle.esterel.specs.ReadBack.{membersFrom, declared}
-use Rattle.sequence.specs.Reader.{front, read, nesting}
+use Rattle.sequence.specs.Reader.{front, read}
+use Rattle.esterel.specs.Ceiling.{nesting}
 use Rattle.sequence.specs.Check.{checkOf, checked}
 use Rattle.sequence.specs.Rows.{Spells}
 use Rattle.sequence.proofs.Writer.{reads-what-is-written}

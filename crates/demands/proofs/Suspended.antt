@@ -8,7 +8,8 @@ use Rattle.esterel.specs.States.{active}
 use Rattle.esterel.specs.Expansion.{expand}
 use Rattle.sequence.specs.Commands.{commandOf}
 use Rattle.esterel.specs.ReadBack.{membersFrom, declared}
-use Rattle.sequence.specs.Reader.{front, read, nesting}
+use Rattle.sequence.specs.Reader.{front, read}
+use Rattle.esterel.specs.Ceiling.{nesting}
 use Rattle.sequence.specs.Check.{checked}
 use Rattle.records.specs.Bytes.{leBytes, leNumber}
 use Rattle.records.specs.Records.{encodeState, decodeState, encodeAnswer}

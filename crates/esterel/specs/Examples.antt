@@ -8,6 +8,7 @@ use Rattle.esterel.specs.Sets.{member, none, only, join, insert, remove,
 use Rattle.esterel.specs.Statement.{local, Statement, nothing, pause, emit, exit, seq, par, loop, present, signal, try, setpause, suspend, held}
 use Rattle.esterel.specs.Reaction.{Code, ended, waiting, leaving, wrong, gives, code, emitted, labels, residual, reactBy, react}
 use Rattle.esterel.specs.Errors.{Error, noError, errorsBy, errors, firstError, instantaneous, notReactive, notDeterministic}
+use Rattle.esterel.specs.Reactions.{reactionsBy}
 use Rattle.esterel.specs.Places.{first, second, PartOf, At, Alternative, Exclusive}
 use Rattle.esterel.specs.States.{active, Triggers}
 use Rattle.esterel.specs.Expansion.{expand}
@@ -101,19 +102,19 @@ first-named : (firstError erring 0 ≡ some (instantaneous 6)) × (firstError no
 unfolding reactBy errorsBy member none only join insert remove
 first-named = (refl, refl)
 
--- an instant that waits, or ends, names no error and shows no signal
-abbrev quietly : Code → Seen
-quietly ended = instant ended noError 0 over
-quietly waiting = instant waiting noError 0 waits
-quietly (leaving n) = instant (leaving n) noError 0 over
-quietly wrong = instant wrong noError 0 over
+-- an instant that names no error, shows no signal and takes n reactions: it waits, or ends
+abbrev waitsIn : ℕ → Seen
+waitsIn n = instant waiting noError 0 n waits
 
-runs : (run (byLabels reincarnated) State.fresh (0 ∷ 0 ∷ 0 ∷ []) ≡ map quietly (waiting ∷ waiting ∷ waiting ∷ []))
-    × (run byRewriting (Rewriting.fresh reincarnated) (0 ∷ 0 ∷ []) ≡ map quietly (waiting ∷ waiting ∷ []))
-    × (run (byLabels jump) State.fresh (0 ∷ 0 ∷ 0 ∷ []) ≡ map quietly (waiting ∷ waiting ∷ ended ∷ []))
-    × (run (byLabels nothing) State.fresh (0 ∷ 0 ∷ []) ≡ quietly ended ∷ refused ∷ [])
-    × (run (byLabels (par (emit 1) (loop 3 nothing))) State.fresh (0 ∷ []) ≡ instant wrong (instantaneous 3) 0 over ∷ [])
-unfolding run active expand reactBy errorsBy member none only join insert remove
+abbrev endsIn : ℕ → Seen
+endsIn n = instant ended noError 0 n over
+
+runs : (run (byLabels reincarnated) State.fresh (0 ∷ 0 ∷ 0 ∷ []) ≡ waitsIn 12 ∷ waitsIn 20 ∷ waitsIn 20 ∷ [])
+    × (run byRewriting (Rewriting.fresh reincarnated) (0 ∷ 0 ∷ []) ≡ waitsIn 12 ∷ waitsIn 20 ∷ [])
+    × (run (byLabels jump) State.fresh (0 ∷ 0 ∷ 0 ∷ []) ≡ waitsIn 2 ∷ waitsIn 4 ∷ endsIn 1 ∷ [])
+    × (run (byLabels nothing) State.fresh (0 ∷ 0 ∷ []) ≡ endsIn 1 ∷ refused ∷ [])
+    × (run (byLabels (par (emit 1) (loop 3 nothing))) State.fresh (0 ∷ []) ≡ instant wrong (instantaneous 3) 0 4 over ∷ [])
+unfolding run active expand reactBy errorsBy reactionsBy member none only join insert remove
 runs = (refl, refl, refl, refl, refl)
 
 -- labels 1 and 2 of `jump`, labels 2 and 3 of `split`; a side that ended, and one that is inactive, is nothing
@@ -150,20 +151,20 @@ ranks = (refl, refl, refl, refl, refl, refl, refl, refl)
 
 -- Only active sides of the parallel are entered: by rank 2 the loop is not, and the parallel ends; by rank 1, and by
 -- both, the loop waits again. By rank 0 the sequence starts the parallel. What ends goes on with the command behind it.
-resumed : (resume 0 three 4 0 ≡ Instant.instant (gives 0 ended 0 (par nothing nothing)) Option.none)
-    × (resume 0 three 2 0 ≡ Instant.instant (gives 0 waiting 8 (par (seq nothing (loop 3 (pause 3))) nothing)) Option.none)
+resumed : (resume 0 three 4 0 ≡ Instant.instant (gives 0 ended 0 (par nothing nothing)) Option.none 3)
+    × (resume 0 three 2 0 ≡ Instant.instant (gives 0 waiting 8 (par (seq nothing (loop 3 (pause 3))) nothing)) Option.none 6)
     × (resume 0 three 6 0 ≡ resume 0 three 2 0)
-    × (resume 0 three 1 0 ≡ Instant.instant (gives 0 waiting 24 (par (seq nothing (loop 3 (pause 3))) nothing)) Option.none)
+    × (resume 0 three 1 0 ≡ Instant.instant (gives 0 waiting 24 (par (seq nothing (loop 3 (pause 3))) nothing)) Option.none 6)
     × (resume 0 (seq three (emit 1)) 2 0
-    ≡ Instant.instant (gives 0 waiting 8 (seq (par (seq nothing (loop 3 (pause 3))) nothing) (emit 1))) Option.none)
-    × (resume 0 (seq three (emit 1)) 4 0 ≡ Instant.instant (gives 2 ended 0 nothing) Option.none)
-unfolding resume pauseCount below from reactBy errorsBy member none only join insert remove
+    ≡ Instant.instant (gives 0 waiting 8 (seq (par (seq nothing (loop 3 (pause 3))) nothing) (emit 1))) Option.none 7)
+    × (resume 0 (seq three (emit 1)) 4 0 ≡ Instant.instant (gives 2 ended 0 nothing) Option.none 5)
+unfolding resume pauseCount below from reactBy errorsBy reactionsBy member none only join insert remove
 resumed = (refl, refl, refl, refl, refl, refl)
 
 -- of two wrong sides the first is named
 both-wrong : resume 0 (par (seq (pause 0) (loop 4 nothing)) (seq (pause 1) (loop 9 nothing))) 3 0
-    ≡ Instant.instant (gives 0 wrong 0 (par nothing nothing)) (some (instantaneous 4))
-unfolding resume pauseCount below from reactBy errorsBy member none only join insert remove
+    ≡ Instant.instant (gives 0 wrong 0 (par nothing nothing)) (some (instantaneous 4)) 9
+unfolding resume pauseCount below from reactBy errorsBy reactionsBy member none only join insert remove
 both-wrong = refl
 
 -- the pauses of the parallel are compatible, those of the sequence are not
@@ -281,20 +282,20 @@ endsLater = loop 2 (present 0 nothing (pause 0))
 
 next-round : (errors (expand errsLater 1) 1 ≡ instantaneous 5 ∷ [])
     × (errors (expand endsLater 1) 1 ≡ instantaneous 2 ∷ [])
-    × (run (byLabels errsLater) State.fresh (0 ∷ 1 ∷ []) ≡ quietly waiting ∷ instant wrong (instantaneous 5) 0 over ∷ [])
-    × (run byRewriting (Rewriting.fresh errsLater) (0 ∷ 1 ∷ []) ≡ quietly waiting ∷ instant wrong (instantaneous 5) 0 over ∷ [])
-    × (run (byLabels endsLater) State.fresh (0 ∷ 1 ∷ []) ≡ quietly waiting ∷ instant wrong (instantaneous 2) 0 over ∷ [])
-    × (run byRewriting (Rewriting.fresh endsLater) (0 ∷ 1 ∷ []) ≡ quietly waiting ∷ instant wrong (instantaneous 2) 0 over ∷ [])
-unfolding run errorsBy active expand reactBy member none only join insert remove
+    × (run (byLabels errsLater) State.fresh (0 ∷ 1 ∷ []) ≡ waitsIn 3 ∷ instant wrong (instantaneous 5) 0 6 over ∷ [])
+    × (run byRewriting (Rewriting.fresh errsLater) (0 ∷ 1 ∷ []) ≡ waitsIn 3 ∷ instant wrong (instantaneous 5) 0 6 over ∷ [])
+    × (run (byLabels endsLater) State.fresh (0 ∷ 1 ∷ []) ≡ waitsIn 3 ∷ instant wrong (instantaneous 2) 0 5 over ∷ [])
+    × (run byRewriting (Rewriting.fresh endsLater) (0 ∷ 1 ∷ []) ≡ waitsIn 3 ∷ instant wrong (instantaneous 2) 0 5 over ∷ [])
+unfolding run errorsBy reactionsBy active expand reactBy member none only join insert remove
 next-round = (refl, refl, refl, refl, refl, refl)
 
 -- Ranks 0 and 2 of `frozen` are labels 0 and 2; ranks 8 and 9 of `three`, from base 7, are labels 3 and 4. A stopped
 -- suspend keeps the labels inside it, and nothing inside errs.
 kept-by-ranks : (labelsBy 0 frozen 5 ≡ 5)
     × (labelsBy 7 three 768 ≡ 24)
-    × (resume 0 frozen 5 1 ≡ Instant.instant (gives 0 waiting 9 (par (held 0 1 (seq nothing (pause 1))) nothing)) Option.none)
-    × (resume 0 frozen 5 0 ≡ Instant.instant (gives 0 waiting 10 (par (held 0 2 nothing) nothing)) Option.none)
+    × (resume 0 frozen 5 1 ≡ Instant.instant (gives 0 waiting 9 (par (held 0 1 (seq nothing (pause 1))) nothing)) Option.none 5)
+    × (resume 0 frozen 5 0 ≡ Instant.instant (gives 0 waiting 10 (par (held 0 2 nothing) nothing)) Option.none 8)
     × (resume 0 (suspend 0 (seq (pause 0) (loop 5 nothing))) 1 1
-    ≡ Instant.instant (gives 0 waiting 1 (held 0 1 (seq nothing (loop 5 nothing)))) Option.none)
-unfolding labelsBy resume pauseCount below from active activeLabels labelsOf expand reactBy errorsBy member none only join insert remove
+    ≡ Instant.instant (gives 0 waiting 1 (held 0 1 (seq nothing (loop 5 nothing)))) Option.none 1)
+unfolding reactionsBy labelsBy resume pauseCount below from active activeLabels labelsOf expand reactBy errorsBy member none only join insert remove
 kept-by-ranks = (refl, refl, refl, refl, refl)

@@ -3,6 +3,8 @@ pub mod Statement
 pub mod Reaction
 pub mod Rules
 pub mod Errors
+pub mod Reactions
+pub mod Ceiling
 pub mod SignalOrders
 pub mod Places
 pub mod States

@@ -7,6 +7,7 @@ use Rattle.esterel.specs.Sets.{none}
 use Rattle.esterel.specs.Statement.{Statement, nothing, pause, emit, exit, seq, par, loop, present, signal, try, setpause, suspend, held}
 use Rattle.esterel.specs.Reaction.{Code, ended, waiting, leaving, wrong, Reaction, gives, react}
 use Rattle.esterel.specs.Errors.{Error, firstError, blame}
+use Rattle.esterel.specs.Reactions.{reactions}
 use Rattle.esterel.specs.Expansion.{expand}
 
 -- 01: code 1 gives phase 1 (waiting), every other code phase 2 (over)
@@ -26,15 +27,15 @@ shown waiting o = o
 shown (leaving n) o = o
 shown wrong o = none
 
--- What is seen of one tick: an instant with its code, the error it names, the set it shows and the phase after it; no
--- instant once over.
+-- What is seen of one tick: an instant with its code, the error it names, the set it shows, the number of reactions it takes
+-- and the phase after it; no instant once over.
 pub data Seen : Type 0 where
-  instant : (k : Code) (names : Error) (shows : ℕ) (after : Phase) → Seen
+  instant : (k : Code) (names : Error) (shows taken : ℕ) (after : Phase) → Seen
   refused : Seen
 
--- from a reaction and the first error of its tree
-abbrev pub seen : Reaction → Option Error → Seen
-seen (gives o k l p′) x = instant k (blame k x) (shown k o) (phaseAfter k)
+-- from a reaction, the first error of its tree and the number of reactions in it
+abbrev pub seen : Reaction → Option Error → ℕ → Seen
+seen (gives o k l p′) x n = instant k (blame k x) (shown k o) n (phaseAfter k)
 
 -- A machine: from its state and the input, what is seen and the next state.
 abbrev pub Machine : Type 0 → Type 0
@@ -62,8 +63,9 @@ stateAfter (gives o (leaving n) l p′) = State.over
 stateAfter (gives o wrong l p′) = State.over
 
 abbrev pub byLabels : Statement → Machine State
-byLabels p State.fresh e = (seen (react p e) (firstError p e), stateAfter (react p e))
-byLabels p (State.waits L) e = (seen (react (expand p L) e) (firstError (expand p L) e), stateAfter (react (expand p L) e))
+byLabels p State.fresh e = (seen (react p e) (firstError p e) (reactions p e), stateAfter (react p e))
+byLabels p (State.waits L) e =
+    (seen (react (expand p L) e) (firstError (expand p L) e) (reactions (expand p L) e), stateAfter (react (expand p L) e))
 byLabels p State.over e = (refused, State.over)
 
 -- ---- by rewriting
@@ -78,8 +80,8 @@ termAfter (gives o (leaving n) l p′) = Rewriting.over
 termAfter (gives o wrong l p′) = Rewriting.over
 
 abbrev pub byRewriting : Machine Rewriting
-byRewriting (Rewriting.fresh t) e = (seen (react t e) (firstError t e), termAfter (react t e))
-byRewriting (Rewriting.waits t) e = (seen (react t e) (firstError t e), termAfter (react t e))
+byRewriting (Rewriting.fresh t) e = (seen (react t e) (firstError t e) (reactions t e), termAfter (react t e))
+byRewriting (Rewriting.waits t) e = (seen (react t e) (firstError t e) (reactions t e), termAfter (react t e))
 byRewriting Rewriting.over e = (refused, Rewriting.over)
 
 -- The term with no labels in its held suspends, as the paper, which knows no labels, would have it.

@@ -8,6 +8,7 @@ use Rattle.esterel.specs.Sets.{member, none, only, join, insert, remove}
 use Rattle.esterel.specs.Statement.{reported, Statement, nothing, emit, seq, present, signal}
 use Rattle.esterel.specs.Reaction.{ended, gives, failed, reactBy, react}
 use Rattle.esterel.specs.Errors.{errorsBy, errors, notReactive, notDeterministic}
+use Rattle.esterel.specs.Reactions.{reactionsBy}
 use Rattle.esterel.specs.Resume.{Instant, start, signalInstant}
 
 abbrev pub keepIf : Bool → ℕ → List ℕ → List ℕ
@@ -56,5 +57,5 @@ order-matters = (refl, refl)
 -- the host says that 0 is present: the test does not see it
 not-believed : declaredInstant 9 (0 ∷ []) (start (present 0 (emit 1) nothing)) 1
     ≡ start (declared 9 (0 ∷ []) (present 0 (emit 1) nothing)) 0
-unfolding declared declaredInstant reactBy errorsBy member none only join insert remove
+unfolding declared declaredInstant reactBy errorsBy reactionsBy member none only join insert remove
 not-believed = refl

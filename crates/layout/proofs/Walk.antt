@@ -10,7 +10,8 @@ use Rattle.esterel.specs.Statement.{Statement, nothing}
 use Rattle.esterel.specs.Ranks.{middle}
 use Rattle.limits.specs.Limits.{maxBytes}
 use Rattle.sequence.specs.Commands.{Command, commandOf, partCount, width, declares, build}
-use Rattle.sequence.specs.Reader.{Read, accepted, refused, Front, command, bad, front, lastPart, firstPart, readParts, read, nesting}
+use Rattle.sequence.specs.Reader.{Read, accepted, refused, Front, command, bad, front, lastPart, firstPart, readParts, read}
+use Rattle.esterel.specs.Ceiling.{nesting}
 use Rattle.sequence.specs.Writer.{size}
 use Rattle.layout.specs.Layout.{rest, entry, Marked}
 use Rattle.layout.specs.Notes.{countIn, noteCount, noNotes, note}

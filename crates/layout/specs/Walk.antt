@@ -7,7 +7,8 @@ use lib.ListN.{getD, length, drop}
 use Rattle.esterel.specs.Statement.{Statement, nothing}
 use Rattle.limits.specs.Limits.{maxBytes}
 use Rattle.sequence.specs.Commands.{Command, partCount, width, build}
-use Rattle.sequence.specs.Reader.{Read, accepted, refused, Front, command, bad, front, lastPart, firstPart, read, nesting}
+use Rattle.sequence.specs.Reader.{Read, accepted, refused, Front, command, bad, front, lastPart, firstPart, read}
+use Rattle.esterel.specs.Ceiling.{nesting}
 use Rattle.layout.specs.Layout.{Marked}
 use Rattle.layout.specs.Notes.{countIn, noteCount, noNotes, note}
 

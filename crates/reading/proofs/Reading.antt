@@ -6,7 +6,8 @@ use native.Mathlib.Omega.{arith}
 use lib.ListN.{length, length-replicate}
 use Rattle.esterel.specs.Statement.{Statement}
 use Rattle.limits.specs.Limits.{maxBytes, maxDepth, maxSignals}
-use Rattle.sequence.specs.Reader.{Read, accepted, refused, read, nesting}
+use Rattle.sequence.specs.Reader.{Read, accepted, refused, read}
+use Rattle.esterel.specs.Ceiling.{nesting}
 use Rattle.sequence.proofs.Refusals.{Small, Rowed, rowed}
 use Rattle.sequence.proofs.Sound.{count-within}
 use Rattle.layout.specs.Layout.{rest, Marked}

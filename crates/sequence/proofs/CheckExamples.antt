@@ -8,7 +8,8 @@ use Rattle.esterel.specs.Sets.{member, none, only, join}
 use Rattle.esterel.specs.ReadBack.{membersFrom, declared}
 use Rattle.esterel.specs.LabelTests.{subset, disjoint, labelsOf, everyLabel, distinct, before, wellFormed}
 use Rattle.sequence.specs.Commands.{commandOf}
-use Rattle.sequence.specs.Reader.{front, read, nesting}
+use Rattle.sequence.specs.Reader.{front, read}
+use Rattle.esterel.specs.Ceiling.{nesting}
 use Rattle.sequence.specs.Check.{checked, checkOf}
 
 -- n times

@@ -7,7 +7,7 @@ use native.Mathlib.Omega.{arith}
 use lib.ListN.{length}
 use Rattle.esterel.specs.Statement.{local, Statement, seq, par, loop, present, signal, try, suspend}
 use Rattle.limits.specs.Limits.{signalCount}
-use Rattle.sequence.specs.Reader.{nesting}
+use Rattle.esterel.specs.Ceiling.{nesting}
 use Rattle.sequence.specs.Writer.{bytesOf, size, depthOf, Ranged, PlacedAt}
 
 pub record OnePart (h : List ℕ) (a declared : ℕ) (f : Statement → Statement) : Type 0 where

@@ -11,7 +11,8 @@ use borrow.Author.Tests.{ltb-true, leb-true}
 use Rattle.esterel.specs.Statement.{local, Statement, nothing, pause, emit, exit, seq, par, loop, present, signal, try, setpause, suspend}
 use Rattle.limits.specs.Limits.{labelCount, signalCount, maxExit}
 use Rattle.sequence.specs.Commands.{Command, partCount, operandsOf, inRange, width, declares, build}
-use Rattle.sequence.specs.Reader.{accepted, read, nesting}
+use Rattle.sequence.specs.Reader.{accepted, read}
+use Rattle.esterel.specs.Ceiling.{nesting}
 use Rattle.sequence.specs.Writer.{bytesOf, depthOf, Ranged, PlacedAt, Written}
 use Rattle.sequence.proofs.Table.{byteOf, leaves, ones, twos}
 use Rattle.sequence.proofs.Front.{Fronted, own-bytes}

@@ -1,6 +1,6 @@
 -- The reader (01, 'Commands' and rows 3 to 6 of 'Turned down'): from bytes to the statement at their front with the
 -- count of its bytes, or the number of the first row that holds, command by command from the left.
-use Prim.Native.Nat.{ℕ, zero, suc, _+_, _-_, max}
+use Prim.Native.Nat.{ℕ, zero, suc, _+_, _-_}
 use mathlib.Core.Bool.{cond}
 use mathlib.Core.Option.{Option, none, some}
 use mathlib.Core.List.{List, [], _∷_}
@@ -77,19 +77,3 @@ read (suc depth) signals a bs = readCommand (read depth) signals a bs (front bs)
 -- the statement at the front of a whole sequence
 abbrev pub readAll : List ℕ → Read
 readAll bs = read maxDepth maxSignals 0 bs
-
--- the greatest number of signal commands around a command of the statement
-unfoldable pub nesting : Statement → ℕ
-nesting Statement.nothing = 0
-nesting (Statement.pause l) = 0
-nesting (Statement.emit s) = 0
-nesting (Statement.exit n) = 0
-nesting (Statement.seq p q) = max (nesting p) (nesting q)
-nesting (Statement.par p q) = max (nesting p) (nesting q)
-nesting (Statement.loop a p) = nesting p
-nesting (Statement.present s p q) = max (nesting p) (nesting q)
-nesting (Statement.signal sc a s p) = 1 + nesting p
-nesting (Statement.try p) = nesting p
-nesting (Statement.setpause l) = 0
-nesting (Statement.suspend s p) = nesting p
-nesting (Statement.held s K p) = 0

@@ -11,7 +11,8 @@ use Rattle.esterel.specs.Statement.{Statement}
 use Rattle.esterel.specs.States.{Distinct, Targeted, WellFormed}
 use Rattle.limits.specs.Limits.{lastCommand, maxBytes, maxDepth, maxSignals}
 use Rattle.sequence.specs.Commands.{Command, commandOf, operandCount, operandsOf, partCount, inRange, width, declares}
-use Rattle.sequence.specs.Reader.{Front, command, bad, front, nesting}
+use Rattle.sequence.specs.Reader.{Front, command, bad, front}
+use Rattle.esterel.specs.Ceiling.{nesting}
 use Rattle.sequence.specs.Program.{program}
 use Rattle.sequence.specs.Writer.{bytesOf, Within, PlacedAt, Written}
 

@@ -5,7 +5,7 @@ use mathlib.Core.List.{List, [], _∷_, _++_}
 use lib.ListN.{length}
 use Rattle.esterel.specs.Statement.{local, Statement, nothing, pause, emit, exit, seq, par, loop, present, signal, try, setpause, suspend, held}
 use Rattle.limits.specs.Limits.{labelCount, signalCount, maxExit}
-use Rattle.sequence.specs.Reader.{nesting}
+use Rattle.esterel.specs.Ceiling.{nesting}
 
 -- no bytes spell a held suspend (02)
 unfoldable pub bytesOf : Statement → List ℕ

@@ -1,0 +1,81 @@
+-- The number of reactions in the tree of an instant (02, item 6): each command that reacts counts 1, each time. The tree is that of
+-- the term that reacts: commands that expansion made count, and so do both runs of a signal, in a wrong instant too.
+use Prim.Native.Nat.{ℕ, _+_}
+use mathlib.Core.Path.{_≡_, refl}
+use mathlib.Core.Bool.{cond}
+use Rattle.esterel.specs.Sets.{member, none, only, join, insert, remove}
+use Rattle.esterel.specs.Statement.{local, Statement, nothing, pause, emit, exit, seq, par, loop, present, signal, try, setpause, suspend, held}
+use Rattle.esterel.specs.Reaction.{Reaction, code, Order, inheritanceFirst, reactBy}
+use Rattle.esterel.specs.Rules.{Reacts}
+use Rattle.esterel.specs.Errors.{ifEnded}
+use Rattle.esterel.specs.States.{active}
+use Rattle.esterel.specs.LabelTests.{labelsOf, activeLabels}
+use Rattle.esterel.specs.Expansion.{expand}
+
+unfoldable pub reactionsBy : Order → Statement → ℕ → ℕ
+reactionsBy ord nothing e = 1
+reactionsBy ord (pause l) e = 1
+reactionsBy ord (emit s) e = 1
+reactionsBy ord (exit n) e = 1
+reactionsBy ord (seq p q) e = 1 + reactionsBy ord p e + ifEnded (code (reactBy ord p e)) (reactionsBy ord q e) 0
+reactionsBy ord (par p q) e = 1 + reactionsBy ord p e + reactionsBy ord q e
+reactionsBy ord (loop a p) e = 1 + reactionsBy ord p e
+reactionsBy ord (present s p q) e = 1 + cond (member s e) (reactionsBy ord p e) (reactionsBy ord q e)
+reactionsBy ord (signal sc a s p) e = 1 + reactionsBy ord p (remove s e) + reactionsBy ord p (insert s e)
+reactionsBy ord (try p) e = 1 + reactionsBy ord p e
+reactionsBy ord (setpause l) e = 1
+reactionsBy ord (suspend s p) e = 1 + reactionsBy ord p e
+reactionsBy ord (held s K p) e = 1 + cond (member s e) 0 (reactionsBy ord p e)
+
+abbrev pub reactions : Statement → ℕ → ℕ
+reactions = reactionsBy inheritanceFirst
+
+-- ---- the same on derivations: one for each use of a rule
+unfoldable pub rulesUsed : {p : Statement} {e : ℕ} {r : Reaction} → Reacts p e r → ℕ
+rulesUsed Reacts.nothing = 1
+rulesUsed Reacts.pause = 1
+rulesUsed Reacts.exit = 1
+rulesUsed Reacts.emit = 1
+rulesUsed (Reacts.loop d n) = 1 + rulesUsed d
+rulesUsed (Reacts.loop-error d z) = 1 + rulesUsed d
+rulesUsed (Reacts.parallel d d₂) = 1 + rulesUsed d + rulesUsed d₂
+rulesUsed (Reacts.present+ i d) = 1 + rulesUsed d
+rulesUsed (Reacts.present− i d) = 1 + rulesUsed d
+rulesUsed (Reacts.try-catch d) = 1 + rulesUsed d
+rulesUsed (Reacts.try-through d n) = 1 + rulesUsed d
+rulesUsed (Reacts.sequence-p d n) = 1 + rulesUsed d
+rulesUsed (Reacts.sequence-q d d₂) = 1 + rulesUsed d + rulesUsed d₂
+rulesUsed (Reacts.signal++ d− i− d+ i+ n) = 1 + rulesUsed d− + rulesUsed d+
+rulesUsed (Reacts.signal−− d− i− d+ i+ n) = 1 + rulesUsed d− + rulesUsed d+
+rulesUsed (Reacts.signal+− d− i− d+ i+ n) = 1 + rulesUsed d− + rulesUsed d+
+rulesUsed (Reacts.signal−+ d− i− d+ i+ n) = 1 + rulesUsed d− + rulesUsed d+
+rulesUsed (Reacts.signal∞ d− d+ w) = 1 + rulesUsed d− + rulesUsed d+
+rulesUsed Reacts.setpause = 1
+rulesUsed (Reacts.suspend d) = 1 + rulesUsed d
+rulesUsed (Reacts.held+ i) = 1
+rulesUsed (Reacts.held− i d) = 1 + rulesUsed d
+
+-- ---- by computation
+-- 06 01 00 and 06 0B 00 01 00, resumed: the made sequence, what had waited, and the loop begun again; stopped, the last takes 2
+resumed-loops : (reactions (expand (loop 0 (pause 0)) 1) 0 ≡ 4)
+    × (reactions (expand (loop 0 (suspend 0 (pause 0))) 1) 0 ≡ 6)
+    × (reactions (expand (loop 0 (suspend 0 (pause 0))) 1) 1 ≡ 2)
+unfolding reactionsBy reactBy active activeLabels labelsOf expand member none only join insert remove
+resumed-loops = (refl, refl, refl)
+
+-- A present counts where it tests, and not where its branch is resumed; nor does a sequence whose second part is resumed. Of a
+-- parallel the side that ended counts 1.
+resumed-parts : (reactions (present 0 (pause 0) nothing) 1 ≡ 2)
+    × (reactions (expand (present 0 (pause 0) nothing) 1) 1 ≡ 1)
+    × (reactions (expand (seq (pause 0) (pause 1)) 1) 0 ≡ 3)
+    × (reactions (expand (seq (pause 0) (pause 1)) 2) 0 ≡ 1)
+    × (reactions (expand (par (seq (pause 0) (emit 0)) (seq (pause 1) (emit 1))) 2) 0 ≡ 5)
+unfolding reactionsBy reactBy active expand member none only join insert remove
+resumed-parts = (refl, refl, refl, refl, refl)
+
+-- Both runs of a signal count, and what reacts in a wrong instant; the second part of a sequence only where the first ended.
+trees : (reactions (signal local 0 0 (present 0 (emit 1) (seq nothing nothing))) 0 ≡ 7)
+    × (reactions (par (loop 1 nothing) (seq (exit 1) (emit 0))) 0 ≡ 5)
+    × (reactions (suspend 0 (try (pause 0))) 1 ≡ 3)
+unfolding reactionsBy reactBy member none only join insert remove
+trees = (refl, refl, refl)
