@@ -9,6 +9,7 @@ use lib.Dec.{eqb}
 use Rattle.esterel.specs.Sets.{member, none, insert, remove}
 use Rattle.esterel.specs.Statement.{Scope, Statement, nothing, pause, emit, exit, seq, par, loop, present, signal, try, setpause, suspend, held}
 use Rattle.esterel.specs.Reaction.{Code, ended, waiting, leaving, wrong, Reaction, gives, code, emitted, residual, side, inSeq, inPar, inLoop, inTry, inSignal, inSuspend, stopped, Case, both, neither, only−, only+, inherited, inheritanceFirst, caseOf, answer, reactBy, react}
+use Rattle.esterel.specs.Reactions.{reactionsBy, reactions}
 use Rattle.esterel.specs.Errors.{Error, errorsBy, errors, firstError}
 use Rattle.esterel.specs.Machines.{erase, seen, run, Rewriting, termAfter, byRewriting}
 use Rattle.theory.proofs.Agreement.{simulation}
@@ -142,6 +143,22 @@ erase-errors (setpause l) e = refl
 erase-errors (suspend s p) e = erase-errors p e
 erase-errors (held s K p) e = rw (erase-errors p e)
 
+erase-reactions : (p : Statement) (e : ℕ) → reactions (erase p) e ≡ reactions p e
+unfolding erase reactionsBy
+erase-reactions nothing e = refl
+erase-reactions (pause l) e = refl
+erase-reactions (emit s) e = refl
+erase-reactions (exit n) e = refl
+erase-reactions (seq p q) e = rw (erase-reactions p e, erase-reactions q e, code-alike (erase-alike p e))
+erase-reactions (par p q) e = rw (erase-reactions p e, erase-reactions q e)
+erase-reactions (loop a p) e = rw (erase-reactions p e)
+erase-reactions (present s p q) e = rw (erase-reactions p e, erase-reactions q e)
+erase-reactions (signal sc a s p) e = rw (erase-reactions p (remove s e), erase-reactions p (insert s e))
+erase-reactions (try p) e = rw (erase-reactions p e)
+erase-reactions (setpause l) e = refl
+erase-reactions (suspend s p) e = rw (erase-reactions p e)
+erase-reactions (held s K p) e = rw (erase-reactions p e)
+
 -- ---- statements that differ only in the labels of held suspends
 flip-alike : {r r′ : Reaction} → Alike r r′ → Alike r′ r
 flip-alike (alike h) = alike (sym h)
@@ -168,6 +185,10 @@ erased-reaction t u e h = parts-alike (react-alike t u e h)
 pub erased-errors : (t u : Statement) (e : ℕ) → erase t ≡ erase u → errors t e ≡ errors u e
 erased-errors t u e h = sym (erase-errors t e) ∙ ap (λ (x : Statement). errors x e) h ∙ erase-errors u e
 
+-- NUMBER OF REACTIONS
+pub erased-reactions : (t u : Statement) (e : ℕ) → erase t ≡ erase u → reactions t e ≡ reactions u e
+erased-reactions t u e h = sym (erase-reactions t e) ∙ ap (λ (x : Statement). reactions x e) h ∙ erase-reactions u e
+
 -- ---- rewriting
 abbrev SameTerm : Rewriting → Rewriting → Type 0
 SameTerm (Rewriting.fresh t) (Rewriting.fresh u) = erase t ≡ erase u
@@ -180,23 +201,23 @@ SameTerm Rewriting.over (Rewriting.fresh u) = ⊥
 SameTerm Rewriting.over (Rewriting.waits u) = ⊥
 SameTerm Rewriting.over Rewriting.over = Unit {0}
 
-after-alike : {r r′ : Reaction} {x y : Option Error} → Alike r r′ → x ≡ y
-    → (seen r x ≡ seen r′ y) × SameTerm (termAfter r) (termAfter r′)
-after-alike (alike {k = ended} h) i = (refl, tt)
-after-alike (alike {k = waiting} h) i = (refl, h)
-after-alike (alike {k = leaving n} h) i = (refl, tt)
-after-alike (alike {k = wrong} h) i = (rw i, tt)
+after-alike : {r r′ : Reaction} {x y : Option Error} {n m : ℕ} → Alike r r′ → x ≡ y → n ≡ m
+    → (seen r x n ≡ seen r′ y m) × SameTerm (termAfter r) (termAfter r′)
+after-alike (alike {k = ended} h) i j = (rw j, tt)
+after-alike (alike {k = waiting} h) i j = (rw j, h)
+after-alike (alike {k = leaving n} h) i j = (rw j, tt)
+after-alike (alike {k = wrong} h) i j = (rw (i, j), tt)
 
 first-alike : (t u : Statement) (e : ℕ) → erase t ≡ erase u → firstError t e ≡ firstError u e
 first-alike t u e h = ap head? (erased-errors t u e h)
 
 step : (v w : Rewriting) → SameTerm v w → (e : ℕ)
     → (byRewriting v e .0 ≡ byRewriting w e .0) × SameTerm (byRewriting v e .1) (byRewriting w e .1)
-step (Rewriting.fresh t) (Rewriting.fresh u) h e = after-alike (react-alike t u e h) (first-alike t u e h)
+step (Rewriting.fresh t) (Rewriting.fresh u) h e = after-alike (react-alike t u e h) (first-alike t u e h) (erased-reactions t u e h)
 step (Rewriting.fresh t) (Rewriting.waits u) h e = absurd h
 step (Rewriting.fresh t) Rewriting.over h e = absurd h
 step (Rewriting.waits t) (Rewriting.fresh u) h e = absurd h
-step (Rewriting.waits t) (Rewriting.waits u) h e = after-alike (react-alike t u e h) (first-alike t u e h)
+step (Rewriting.waits t) (Rewriting.waits u) h e = after-alike (react-alike t u e h) (first-alike t u e h) (erased-reactions t u e h)
 step (Rewriting.waits t) Rewriting.over h e = absurd h
 step Rewriting.over (Rewriting.fresh u) h e = absurd h
 step Rewriting.over (Rewriting.waits u) h e = absurd h

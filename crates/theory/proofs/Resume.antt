@@ -1,5 +1,5 @@
--- Resuming by ranks is the reaction of the expansion, first error included.
-use Prim.Native.Nat.{ℕ}
+-- Resuming by ranks is the reaction of the expansion, first error and number of reactions included.
+use Prim.Native.Nat.{ℕ, _+_}
 use mathlib.Core.Path.{_≡_, refl, sym, ap, ap₂, _∙_}
 use mathlib.Core.Bool.{Bool, true, false, not, _||_, cond, false≢true}
 use mathlib.Core.Option.{Option}
@@ -8,11 +8,12 @@ use Rattle.esterel.specs.Sets.{member, insert, remove}
 use Rattle.esterel.specs.Statement.{Scope, Statement, nothing, pause, emit, exit, seq, par, loop, present, signal, try, setpause, suspend, held}
 use Rattle.esterel.specs.Reaction.{Code, ended, waiting, leaving, wrong, isWrong, emitted, code, inSeq, inPar, inLoop, inSignal, inSuspend, stopped, inheritanceFirst, firstFit, reactBy, react}
 use Rattle.esterel.specs.Errors.{Error, instantaneous, ifEnded, signalErrors, errorsBy, errors}
+use Rattle.esterel.specs.Reactions.{reactionsBy, reactions}
 use Rattle.esterel.specs.States.{active}
 use Rattle.esterel.specs.Expansion.{expand, ifActive}
 use Rattle.esterel.specs.LabelTests.{alternative, parallel, activeLabels}
 use Rattle.esterel.specs.Ranks.{middle, mask, labelsBy}
-use Rattle.esterel.specs.Resume.{Instant, instant, start, idle, seqInstant, parInstant, loopInstant, tryInstant, signalNames, signalInstant, suspendInstant, stoppedInstant, resume}
+use Rattle.esterel.specs.Resume.{Instant, instant, start, idle, seqInstant, parInstant, loopInstant, presentInstant, tryInstant, signalNames, signalInstant, suspendInstant, stoppedInstant, resume}
 use Rattle.theory.proofs.SignalOrders.{Blamed, blamed}
 use Rattle.theory.proofs.Order.{Joined, sequence, test, sides}
 use Rattle.theory.proofs.Activity.{expand-activeLabels}
@@ -46,54 +47,55 @@ signal-first i− i+ false false a xs ys h g = rw (h, g) (alone i− i+ a Option
 
 -- ---- an instant from the instants of the parts
 pub start-seq : (p q : Statement) (e : ℕ) → start (seq p q) e ≡ seqInstant q (start p e) (start q e)
-unfolding reactBy errorsBy
+unfolding reactBy errorsBy reactionsBy
 start-seq p q e =
-    ap (instant (inSeq q (react p e) (react q e))) (seq-first (code (react p e)) (errors p e) (errors q e) (blamed p e))
+    ap (λ (x : Option Error). instant (inSeq q (react p e) (react q e)) x (reactions (seq p q) e)) (seq-first (code (react p e)) (errors p e) (errors q e) (blamed p e))
 
 pub start-par : (p q : Statement) (e : ℕ) → start (par p q) e ≡ parInstant (start p e) (start q e)
-unfolding reactBy errorsBy
+unfolding reactBy errorsBy reactionsBy
 start-par p q e =
-    ap (instant (inPar (react p e) (react q e))) (par-first (isWrong (code (react p e))) (errors p e) (errors q e) (blamed p e))
+    ap (λ (x : Option Error). instant (inPar (react p e) (react q e)) x (reactions (par p q) e)) (par-first (isWrong (code (react p e))) (errors p e) (errors q e) (blamed p e))
 
 pub start-loop : (a : ℕ) (p : Statement) (e : ℕ) → start (loop a p) e ≡ loopInstant a p (start p e)
-unfolding reactBy errorsBy
+unfolding reactBy errorsBy reactionsBy
 start-loop a p e =
-    ap (instant (inLoop a p (react p e))) (seq-first (code (react p e)) (errors p e) (instantaneous a ∷ []) (blamed p e))
+    ap (λ (x : Option Error). instant (inLoop a p (react p e)) x (reactions (loop a p) e)) (seq-first (code (react p e)) (errors p e) (instantaneous a ∷ []) (blamed p e))
 
-pub start-present : (s : ℕ) (p q : Statement) (e : ℕ) → start (present s p q) e ≡ cond (member s e) (start p e) (start q e)
-unfolding reactBy errorsBy
+pub start-present : (s : ℕ) (p q : Statement) (e : ℕ) → start (present s p q) e ≡ presentInstant (cond (member s e) (start p e) (start q e))
+unfolding reactBy errorsBy reactionsBy
 start-present s p q e = go (member s e)
   where
     go : (b : Bool)
-        → instant (cond b (react p e) (react q e)) (head? (cond b (errors p e) (errors q e))) ≡ cond b (start p e) (start q e)
+        → instant (cond b (react p e) (react q e)) (head? (cond b (errors p e) (errors q e))) (1 + cond b (reactions p e) (reactions q e))
+        ≡ presentInstant (cond b (start p e) (start q e))
     go true = refl
     go false = refl
 
 pub start-signal : (sc : Scope) (a s : ℕ) (p : Statement) (e : ℕ)
     → start (signal sc a s p) e ≡ signalInstant sc a s (start p (remove s e)) (start p (insert s e))
-unfolding reactBy errorsBy
+unfolding reactBy errorsBy reactionsBy
 start-signal sc a s p e =
     let r− = react p (remove s e) in
     let r+ = react p (insert s e) in
-    ap (instant (inSignal inheritanceFirst sc a s r− r+))
+    ap (λ (x : Option Error). instant (inSignal inheritanceFirst sc a s r− r+) x (reactions (signal sc a s p) e))
     (signal-first (member s (emitted r−)) (member s (emitted r+)) (isWrong (code r−)) (isWrong (code r+)) a
     (errors p (remove s e)) (errors p (insert s e)) (blamed p (remove s e)) (blamed p (insert s e)))
 
 pub start-try : (p : Statement) (e : ℕ) → start (try p) e ≡ tryInstant (start p e)
-unfolding reactBy errorsBy
+unfolding reactBy errorsBy reactionsBy
 start-try p e = refl
 
 pub start-suspend : (s : ℕ) (p : Statement) (e : ℕ) → start (suspend s p) e ≡ suspendInstant s (start p e)
-unfolding reactBy errorsBy
+unfolding reactBy errorsBy reactionsBy
 start-suspend s p e = refl
 
 pub start-held : (s K : ℕ) (p : Statement) (e : ℕ)
     → start (held s K p) e ≡ cond (member s e) (stoppedInstant s K p) (suspendInstant s (start p e))
-unfolding reactBy errorsBy
+unfolding reactBy errorsBy reactionsBy
 start-held s K p e = go (member s e)
   where
     go : (b : Bool)
-        → instant (cond b (stopped s K p) (inSuspend s (react p e))) (head? (cond b [] (errors p e)))
+        → instant (cond b (stopped s K p) (inSuspend s (react p e))) (head? (cond b [] (errors p e))) (1 + cond b 0 (reactions p e))
         ≡ cond b (stoppedInstant s K p) (suspendInstant s (start p e))
     go true = refl
     go false = refl
@@ -114,7 +116,7 @@ alternative-goes p q e i j false c f g h = g h
 
 -- of two sides each active one
 side-goes : (p : Statement) (e : ℕ) (i : Instant) (b : Bool) → Goes b i p e → cond (not b) idle i ≡ start (ifActive b p) e
-unfolding reactBy errorsBy
+unfolding reactBy errorsBy reactionsBy
 side-goes p e i true f = f refl
 side-goes p e i false f = refl
 
@@ -127,9 +129,9 @@ suspend-goes s p L e K i k h =
     (ap (suspendInstant s) h)
     ∙ sym (start-held s (activeLabels p L) (expand p L) e)
 
--- resuming by the ranks of the active pauses is the instant of the expansion, first error included
+-- resuming by the ranks of the active pauses is the instant of the expansion
 pub resumes : (base : ℕ) (p : Statement) (L e : ℕ) → active p L ≡ true → resume base p (mask base p L) e ≡ start (expand p L) e
-unfolding resume mask active expand reactBy errorsBy
+unfolding resume mask active expand reactBy errorsBy reactionsBy
 resumes base nothing L e h = absurd (false≢true h)
 resumes base (pause l) L e h = refl
 resumes base (emit s) L e h = absurd (false≢true h)

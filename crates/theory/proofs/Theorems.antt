@@ -10,6 +10,7 @@ use Rattle.esterel.specs.Sets.{member, none}
 use Rattle.esterel.specs.Statement.{Statement, pause, suspend}
 use Rattle.esterel.specs.Reaction.{ended, waiting, leaving, wrong, Reaction, gives, emitted, code, labels, residual, isWrong, printed, reactBy, react}
 use Rattle.esterel.specs.Errors.{errorsBy, errors, firstErrorBy, firstError}
+use Rattle.esterel.specs.Reactions.{reactions}
 use Rattle.esterel.specs.SignalOrders.{overlap}
 use Rattle.esterel.specs.States.{Holds, active, Valid, Distinct, Targeted, NoSetpause, Source, WellFormed}
 use Rattle.esterel.specs.Expansion.{expand}
@@ -30,7 +31,7 @@ use Rattle.theory.proofs.Ranks.{none-is, labels-by}
 use Rattle.theory.proofs.Resume.{start-held, resumes}
 use Rattle.theory.proofs.ReadBack.{expand-declared, start-declared, RemainsUnder, remains-declared, AgreeOutside, declared-unread}
 use Rattle.theory.proofs.Agreement.{ValidState, agree, valid-reached}
-use Rattle.theory.proofs.Erasure.{erased-reaction, erased-errors, erased-run}
+use Rattle.theory.proofs.Erasure.{erased-reaction, erased-errors, erased-reactions, erased-run}
 
 -- A reaction of p itself, or of an expansion of p.
 pub data ReactionOf (p : Statement) (e : ℕ) : Reaction → Type 0 where
@@ -119,9 +120,9 @@ pub labels-of-stops : (p : Statement) → Source p → (e o l : ℕ) (t : Statem
 labels-of-stops p c e o l t x = let s = sound-labels p e x c in (s .some, s .stops)
 
 -- 6. SUSPEND (02, item 1; Berry 1999), a pause inside being active: while its signal is present it emits nothing, waits with
--- the active labels inside it and stays as it is, with no error; else its part resumes
+-- the active labels inside it and stays as it is, with no error, in one reaction; else its part resumes
 pub suspend-stops : (s : ℕ) (p : Statement) (L e : ℕ) → Awake p L → member s e ≡ true
-    → start (expand (suspend s p) L) e ≡ instant (gives none waiting (activeLabels p L) (expand (suspend s p) L)) Option.none
+    → start (expand (suspend s p) L) e ≡ instant (gives none waiting (activeLabels p L) (expand (suspend s p) L)) Option.none 1
 suspend-stops s p L e w i =
     rw (expand-suspend s p L (active-is p L .1 w)) (start-held s (activeLabels p L) (expand p L) e ∙ rw i)
 
@@ -130,12 +131,12 @@ pub suspend-resumes : (s : ℕ) (p : Statement) (L e : ℕ) → Awake p L → me
 suspend-resumes s p L e w i =
     rw (expand-suspend s p L (active-is p L .1 w)) (start-held s (activeLabels p L) (expand p L) e ∙ rw i)
 
--- 7. HELD LABELS never matter: statements that differ only in them have one code, one emitted set and one list of errors,
--- what remains of them differs only in them, and so by rewriting they show the same for ever
+-- 7. HELD LABELS never matter: statements that differ only in them have one code, one emitted set, one list of errors and one
+-- number of reactions, what remains of them differs only in them, and so by rewriting they show the same for ever
 pub held-labels-unseen : (t u : Statement) (e : ℕ) → erase t ≡ erase u
     → (code (react t e) ≡ code (react u e)) × (emitted (react t e) ≡ emitted (react u e)) × (errors t e ≡ errors u e)
-    × (erase (residual (react t e)) ≡ erase (residual (react u e)))
-held-labels-unseen t u e h = let r = erased-reaction t u e h in (r .0, r .1, erased-errors t u e h, r .2)
+    × (reactions t e ≡ reactions u e) × (erase (residual (react t e)) ≡ erase (residual (react u e)))
+held-labels-unseen t u e h = let r = erased-reaction t u e h in (r .0, r .1, erased-errors t u e h, erased-reactions t u e h, r .2)
 
 pub held-labels-unseen-run : (t u : Statement) → erase t ≡ erase u → (es : List ℕ)
     → run byRewriting (Rewriting.waits t) es ≡ run byRewriting (Rewriting.waits u) es
