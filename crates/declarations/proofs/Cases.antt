@@ -1,5 +1,5 @@
 -- The signal rules on the values of the code are esterel's: one law for each case.
-use Prim.Native.Nat.{ℕ, _-_}
+use Prim.Native.Nat.{ℕ, _+_}
 use mathlib.Core.Path.{_≡_, refl, sym, ap, _∙_}
 use mathlib.Core.Bool.{Bool, true, false, _||_, cond, false≢true, true≢false}
 use mathlib.Core.Option.{Option, some}
@@ -20,9 +20,9 @@ use Rattle.declarations.specs.declared.Choice.{Choice}
 use Rattle.declarations.specs.declared.Choice.the-variants.{Both, Neither, OnlyMinus, OnlyPlus, Inherited}
 use Rattle.completions.specs.Completions.{completionOf, codeOf, greaterOf}
 use Rattle.completions.proofs.Completions.{code-of, greater-of}
-use Rattle.reaction.specs.Reactions.{reactionOf}
+use Rattle.reaction.specs.Reactions.{word, reactionOf, failedWith}
 use Rattle.declarations.specs.Choices.{choiceOf, caseIn}
-use Rattle.reaction.proofs.Values.{made}
+use Rattle.reaction.proofs.Values.{word-two, made}
 
 abbrev caseOf : Choice → Case
 caseOf Both = both
@@ -40,12 +40,12 @@ same-case inherited = refl
 
 -- the instant of a case
 abbrev inCase : Case → Scope → (b s : ℕ) → Esterel.Instant → Esterel.Instant → Esterel.Instant
-inCase d sc b s (instant (gives o− k− l− t−) x−) (instant r+ x+) =
-    instant (answer d sc b s (gives o− k− l− t−) r+) (signalNames d b (ifWrong k− x− x+))
+inCase d sc b s (instant (gives o− k− l− t−) x− n−) (instant r+ x+ n+) =
+    instant (answer d sc b s (gives o− k− l− t−) r+) (signalNames d b (ifWrong k− x− x+)) (1 + n− + n+)
 
 as-fits : (sc : Scope) (b s : ℕ) (i j : Esterel.Instant)
     → signalInstant sc b s i j ≡ inCase (caseIn s (reactionOf i) (reactionOf j)) sc b s i j
-as-fits sc b s (instant (gives o− k− l− t−) x−) (instant (gives o+ k+ l+ t+) x+) = rw (code-of k− x−, code-of k+ x+)
+as-fits sc b s (instant (gives o− k− l− t−) x− n−) (instant (gives o+ k+ l+ t+) x+ n+) = rw (code-of k− x−, code-of k+ x+)
 
 -- the two runs of a case: not wrong, or one of them wrong
 abbrev isInherited : Case → Bool
@@ -96,43 +96,54 @@ Runs s p q b = isInherited (caseIn s p q) ≡ b
 
 abbrev InBoth : (sc : Scope) (b s : ℕ) (i j : Esterel.Instant) (p q : Reaction) → Type 0
 InBoth sc b s i j p q =
-    (o : ℕ) → Runs s p q false → o ≡ outside sc s (q .emitted)
-    → _≡_ {A = Reaction} (record { emitted = o; labels = q .labels; completion = q .completion }) (reactionOf (inCase both sc b s i j))
+    (o m : ℕ) → Runs s p q false → o ≡ outside sc s (q .emitted) → m ≡ word (1 + p .taken + q .taken)
+    → _≡_ {A = Reaction} (record { emitted = o; labels = q .labels; completion = q .completion; taken = m }) (reactionOf (inCase both sc b s i j))
 
 in-both : (sc : Scope) (b s : ℕ) (i j : Esterel.Instant) → InBoth sc b s i j (reactionOf i) (reactionOf j)
-in-both sc b s (instant (gives o− k− l− t−) x−) (instant (gives o+ k+ l+ t+) x+) o h m =
-    made k+ Option.none m (labelSet-of l+)
+in-both sc b s (instant (gives o− k− l− t−) x− n−) (instant (gives o+ k+ l+ t+) x+ n+) o m h e w =
+    made k+ Option.none (1 + n− + n+) e (labelSet-of l+)
     (unmoved k+ x+ Option.none
     (right-runs (member s o−) (member s o+) (isWrong k−) (isWrong k+) (rw (code-of k− x−, code-of k+ x+) at h) .1))
+    (w ∙ word-two n− n+)
 
 abbrev InNeither : (sc : Scope) (b s : ℕ) (i j : Esterel.Instant) (p q : Reaction) → Type 0
-InNeither sc b s i j p q = Runs s p q false → p ≡ reactionOf (inCase neither sc b s i j)
+InNeither sc b s i j p q =
+    (m : ℕ) → Runs s p q false → m ≡ word (1 + p .taken + q .taken)
+    → _≡_ {A = Reaction} (record { emitted = p .emitted; labels = p .labels; completion = p .completion; taken = m })
+    (reactionOf (inCase neither sc b s i j))
 
 in-neither : (sc : Scope) (b s : ℕ) (i j : Esterel.Instant) → InNeither sc b s i j (reactionOf i) (reactionOf j)
-in-neither sc b s (instant (gives o− k− l− t−) x−) (instant (gives o+ k+ l+ t+) x+) h =
-    made k− Option.none refl (labelSet-of l−)
+in-neither sc b s (instant (gives o− k− l− t−) x− n−) (instant (gives o+ k+ l+ t+) x+ n+) m h w =
+    made k− Option.none (1 + n− + n+) refl (labelSet-of l−)
     (unmoved k− x− Option.none
     (right-runs (member s o−) (member s o+) (isWrong k−) (isWrong k+) (rw (code-of k− x−, code-of k+ x+) at h) .0))
+    (w ∙ word-two n− n+)
 
 abbrev InInherited : (sc : Scope) (b s : ℕ) (i j : Esterel.Instant) (p q : Reaction) → Type 0
 InInherited sc b s i j p q =
-    (l : Labels) (c : Completion) → Runs s p q true → labelSet l ≡ none → c ≡ greaterOf (p .completion) (q .completion)
-    → _≡_ {A = Reaction} (record { emitted = none; labels = l; completion = c }) (reactionOf (inCase inherited sc b s i j))
+    (l : Labels) (c : Completion) (m : ℕ) → Runs s p q true → labelSet l ≡ none → c ≡ greaterOf (p .completion) (q .completion)
+    → m ≡ word (1 + p .taken + q .taken)
+    → _≡_ {A = Reaction} (record { emitted = none; labels = l; completion = c; taken = m }) (reactionOf (inCase inherited sc b s i j))
 
 in-inherited : (sc : Scope) (b s : ℕ) (i j : Esterel.Instant) → InInherited sc b s i j (reactionOf i) (reactionOf j)
-in-inherited sc b s (instant (gives o− k− l− t−) x−) (instant (gives o+ k+ l+ t+) x+) l c h m g =
-    let w = wrong-runs (member s o−) (member s o+) (isWrong k−) (isWrong k+) (rw (code-of k− x−, code-of k+ x+) at h) in
-    made wrong (ifWrong k− x− x+) refl m
-    (g ∙ greater-of k− k+ x− x+ ∙ ap (λ (k : Code). completionOf k (ifWrong k− x− x+)) (either-wrong k− k+ w))
+in-inherited sc b s (instant (gives o− k− l− t−) x− n−) (instant (gives o+ k+ l+ t+) x+ n+) l c m h e g w =
+    let v = wrong-runs (member s o−) (member s o+) (isWrong k−) (isWrong k+) (rw (code-of k− x−, code-of k+ x+) at h) in
+    made wrong (ifWrong k− x− x+) (1 + n− + n+) refl e
+    (g ∙ greater-of k− k+ x− x+ ∙ ap (λ (k : Code). completionOf k (ifWrong k− x− x+)) (either-wrong k− k+ v))
+    (w ∙ word-two n− n+)
 
 -- a case of the signal's own error
-in-failed : (d : Case) (sc : Scope) (b s : ℕ) (i j : Esterel.Instant) (x : Error)
-    → ((r− r+ : rules.Reaction) → answer d sc b s r− r+ ≡ failed) → ((y : Option Error) → signalNames d b y ≡ some x)
-    → reactionOf (instant failed (some x)) ≡ reactionOf (inCase d sc b s i j)
-in-failed d sc b s (instant (gives o− k− l− t−) x−) (instant r+ x+) x a n = rw (a (gives o− k− l− t−) r+, n (ifWrong k− x− x+))
+abbrev InFailed : (d : Case) (sc : Scope) (b s : ℕ) (i j : Esterel.Instant) (p q : Reaction) → Type 0
+InFailed d sc b s i j p q =
+    (x : Error) (m : ℕ) → ((r− r+ : rules.Reaction) → answer d sc b s r− r+ ≡ failed) → ((y : Option Error) → signalNames d b y ≡ some x)
+    → m ≡ word (1 + p .taken + q .taken) → failedWith x m ≡ reactionOf (inCase d sc b s i j)
+
+in-failed : (d : Case) (sc : Scope) (b s : ℕ) (i j : Esterel.Instant) → InFailed d sc b s i j (reactionOf i) (reactionOf j)
+in-failed d sc b s (instant (gives o− k− l− t−) x− n−) (instant r+ x+ n+) x m a n w =
+    rw (a (gives o− k− l− t−) r+, n (ifWrong k− x− x+), w, word-two n− n+)
 
 module _ (sc : Scope) (b s : ℕ) (i j : Esterel.Instant) (p q : Reaction) (p-is : p ≡ reactionOf i) (q-is : q ≡ reactionOf j)
-    (v : Choice) (fits : v ≡ choiceOf (caseIn s p q)) where
+    (v : Choice) (fits : v ≡ choiceOf (caseIn s p q)) (m : ℕ) (counted : m ≡ word (1 + p .taken + q .taken)) where
   fit-is : (d : Case) → v ≡ choiceOf d → caseIn s p q ≡ d
   fit-is d h = sym (same-case (caseIn s p q)) ∙ ap caseOf (sym fits ∙ h) ∙ same-case d
 
@@ -141,26 +152,29 @@ module _ (sc : Scope) (b s : ℕ) (i j : Esterel.Instant) (p q : Reaction) (p-is
       sym (ap reactionOf (as-fits sc b s i j ∙ ap (λ (c : Case). inCase c sc b s i j) (rw (p-is, q-is) at (fit-is d h))))
 
   pub signal-both : v ≡ Both → (o : ℕ) → o ≡ outside sc s (q .emitted)
-      → _≡_ {A = Reaction} (record { emitted = o; labels = q .labels; completion = q .completion }) (reactionOf (signalInstant sc b s i j))
-  signal-both h o m =
+      → _≡_ {A = Reaction} (record { emitted = o; labels = q .labels; completion = q .completion; taken = m }) (reactionOf (signalInstant sc b s i j))
+  signal-both h o e =
       let law : InBoth sc b s i j p q = rw (p-is, q-is) (in-both sc b s i j) in
-      law o (ap isInherited (fit-is both h)) m ∙ chosen both h
+      law o m (ap isInherited (fit-is both h)) e counted ∙ chosen both h
 
-  pub signal-neither : v ≡ Neither → p ≡ reactionOf (signalInstant sc b s i j)
+  pub signal-neither : v ≡ Neither
+      → _≡_ {A = Reaction} (record { emitted = p .emitted; labels = p .labels; completion = p .completion; taken = m })
+      (reactionOf (signalInstant sc b s i j))
   signal-neither h =
       let law : InNeither sc b s i j p q = rw (p-is, q-is) (in-neither sc b s i j) in
-      law (ap isInherited (fit-is neither h)) ∙ chosen neither h
+      law m (ap isInherited (fit-is neither h)) counted ∙ chosen neither h
 
   pub signal-inherits : v ≡ Inherited → (l : Labels) (c : Completion) → labelSet l ≡ none → c ≡ greaterOf (p .completion) (q .completion)
-      → _≡_ {A = Reaction} (record { emitted = none; labels = l; completion = c }) (reactionOf (signalInstant sc b s i j))
-  signal-inherits h l c m g =
+      → _≡_ {A = Reaction} (record { emitted = none; labels = l; completion = c; taken = m }) (reactionOf (signalInstant sc b s i j))
+  signal-inherits h l c e g =
       let law : InInherited sc b s i j p q = rw (p-is, q-is) (in-inherited sc b s i j) in
-      law l c (ap isInherited (fit-is inherited h)) m g ∙ chosen inherited h
+      law l c m (ap isInherited (fit-is inherited h)) e g counted ∙ chosen inherited h
 
-  pub signal-unreactive : v ≡ OnlyMinus → (r : Reaction) → r ≡ reactionOf (instant failed (some (notReactive b)))
-      → r ≡ reactionOf (signalInstant sc b s i j)
-  signal-unreactive h r w = w ∙ in-failed only− sc b s i j (notReactive b) (λ r− r+. refl) (λ y. refl) ∙ chosen only− h
+  failed-as : (d : Case) → InFailed d sc b s i j p q
+  failed-as d = rw (p-is, q-is) (in-failed d sc b s i j)
 
-  pub signal-undetermined : v ≡ OnlyPlus → (r : Reaction) → r ≡ reactionOf (instant failed (some (notDeterministic b)))
-      → r ≡ reactionOf (signalInstant sc b s i j)
-  signal-undetermined h r w = w ∙ in-failed only+ sc b s i j (notDeterministic b) (λ r− r+. refl) (λ y. refl) ∙ chosen only+ h
+  pub signal-unreactive : v ≡ OnlyMinus → failedWith (notReactive b) m ≡ reactionOf (signalInstant sc b s i j)
+  signal-unreactive h = failed-as only− (notReactive b) m (λ r− r+. refl) (λ y. refl) counted ∙ chosen only− h
+
+  pub signal-undetermined : v ≡ OnlyPlus → failedWith (notDeterministic b) m ≡ reactionOf (signalInstant sc b s i j)
+  signal-undetermined h = failed-as only+ (notDeterministic b) m (λ r− r+. refl) (λ y. refl) counted ∙ chosen only+ h

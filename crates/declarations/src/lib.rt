@@ -8,6 +8,7 @@ ghost use Rattle.reaction.specs.Reactions.{FromTwo};
 ghost use Rattle.declarations.specs.Choices.{choiceOf, caseIn};
 use reaction::Reaction;
 
+// The five signal cases of 01.
 enum Choice {
     Both,
     Neither,
@@ -16,6 +17,7 @@ enum Choice {
     Inherited,
 }
 
+// The first that fits the runs without the signal s and with it, inheritance before the other four (02, item 4).
 fn choose(s: u8, minus: Reaction, plus: Reaction) -> Choice
     ensures { λ r. ⌜ r ≡ choiceOf (caseIn s minus plus) ⌝ }
 {
@@ -43,29 +45,31 @@ fn choose(s: u8, minus: Reaction, plus: Reaction) -> Choice
     }
 }
 
+// A declaration of s at the offset `place`, from the runs of its body without s and with it. Where both runs emit s, it emits
+// the set `kept`. Both runs count, whichever answers.
 fn declaring(place: u16, s: u8, kept: u32, minus: Reaction, plus: Reaction) -> Reaction
     ensures { λ r. ⌜ ((sc : Scope) → kept ≡ outside sc s (plus .emitted) → FromTwo (signalInstant sc place s) minus plus r) ⌝ }
 {
     let k = minus.completion;
     let l = plus.completion;
-    let labels = plus.labels;
+    let minus_labels = minus.labels;
+    let plus_labels = plus.labels;
+    let taken = reaction::over_two(minus.taken, plus.taken);
     match choose(s, minus, plus) {
-        Choice::Both => Reaction {
-            emitted: kept,
-            labels,
-            completion: l,
-        },
-        Choice::Neither => minus,
-        Choice::OnlyMinus => reaction::failing(2, place),
-        Choice::OnlyPlus => reaction::failing(3, place),
+        Choice::Both => reaction::made(kept, plus_labels, l, taken),
+        Choice::Neither => reaction::made(minus.emitted, minus_labels, k, taken),
+        Choice::OnlyMinus => reaction::failing(2, place, taken),
+        Choice::OnlyPlus => reaction::failing(3, place, taken),
         Choice::Inherited => Reaction {
             emitted: 0,
             labels: labels::empty(),
             completion: completions::greater_of(k, l),
+            taken,
         },
     }
 }
 
+// signal s at the offset `place`: s stays inside
 pub fn in_signal(place: u16, s: u8, minus: Reaction, plus: Reaction) -> Reaction
     ensures { λ r. ⌜ FromTwo (signalInstant local place s) minus plus r ⌝ }
 {
@@ -78,6 +82,7 @@ pub fn in_signal(place: u16, s: u8, minus: Reaction, plus: Reaction) -> Reaction
     )
 }
 
+// The read-back declaration of s (02, item 5): s is reported all the same.
 pub fn in_read_back(s: u8, minus: Reaction, plus: Reaction) -> Reaction
     ensures { λ r. ⌜ FromTwo (signalInstant reported readBackPlace s) minus plus r ⌝ }
 {

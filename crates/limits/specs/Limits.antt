@@ -30,7 +30,7 @@ maxBytes = 1024
 abbrev pub readBackPlace : ℕ
 readBackPlace = 65535
 
--- ---- 01, 'States and resuming': the bytes of a label set, of a place and of a signal set
+-- ---- 01, 'States and resuming', and 02, item 6: the bytes of a label set, of a place, of a signal set and of a number of reactions
 abbrev pub labelBytes : ℕ
 labelBytes = 8
 
@@ -39,3 +39,10 @@ placeBytes = 2
 
 abbrev pub signalBytes : ℕ
 signalBytes = 4
+
+abbrev pub takenBytes : ℕ
+takenBytes = 4
+
+-- how many numbers those hold
+abbrev pub wordCount : ℕ
+wordCount = 4294967296

@@ -2,42 +2,42 @@
 use Prim.Native.Nat.{ℕ, _<_}
 use mathlib.Core.Path.{_≡_, sym, ap, _∙_}
 use mathlib.Core.Bool.{Bool, true, false, cond}
-use mathlib.Core.Option.{Option}
 use borrow.Author.Tests.{lt-ltb}
 use Rattle.sets.specs.Sets.{signalCount, labelCount, onlyBelow, insertBelow}
 use Rattle.esterel.specs.Sets.{member, none, insert, remove}
 use Rattle.esterel.specs.Statement.{local, Statement, nothing, pause, emit, exit, seq, par, loop, present, signal, try, setpause, suspend}
 use Rattle.esterel.specs.Reaction.{ended, waiting, leaving, gives, reactBy}
 use Rattle.esterel.specs.Errors.{errorsBy}
+use Rattle.esterel.specs.Reactions.{reactionsBy}
 use Rattle.esterel.specs.Resume as Esterel
-use Rattle.esterel.specs.Resume.{instant, start, seqInstant, parInstant, loopInstant, tryInstant, signalInstant}
+use Rattle.esterel.specs.Resume.{start, seqInstant, parInstant, loopInstant, presentInstant, tryInstant, signalInstant}
 use Rattle.theory.proofs.Resume.{start-seq, start-par, start-loop, start-present, start-signal, start-try, start-suspend}
 use Rattle.reaction.specs.declared.Reaction.{Reaction}
-use Rattle.reaction.specs.Reactions.{reactionOf}
+use Rattle.reaction.specs.Reactions.{alone, reactionOf, FromOne}
 use Rattle.reaction.proofs.Values.{suspend-reaction}
 
 -- ---- commands without parts, once they are known
 module _ (p : Statement) (e : ℕ) (r : Reaction) where
-  pub nothing-step : p ≡ nothing → r ≡ reactionOf (instant (gives 0 ended none nothing) Option.none) → r ≡ reactionOf (start p e)
-  unfolding reactBy errorsBy none
+  pub nothing-step : p ≡ nothing → r ≡ reactionOf (alone (gives 0 ended none nothing)) → r ≡ reactionOf (start p e)
+  unfolding reactBy errorsBy reactionsBy none
   nothing-step h k = rw h k
 
   pub emit-step : (x s : ℕ) → p ≡ emit s → s < signalCount → x ≡ onlyBelow signalCount s
-      → r ≡ reactionOf (instant (gives x ended none nothing) Option.none) → r ≡ reactionOf (start p e)
-  unfolding reactBy errorsBy
+      → r ≡ reactionOf (alone (gives x ended none nothing)) → r ≡ reactionOf (start p e)
+  unfolding reactBy errorsBy reactionsBy
   emit-step x s h l k i = rw h (i ∙ rw (k, lt-ltb s signalCount l))
 
-  pub exit-step : (n : ℕ) → p ≡ exit n → r ≡ reactionOf (instant (gives none (leaving n) none nothing) Option.none) → r ≡ reactionOf (start p e)
-  unfolding reactBy errorsBy
+  pub exit-step : (n : ℕ) → p ≡ exit n → r ≡ reactionOf (alone (gives none (leaving n) none nothing)) → r ≡ reactionOf (start p e)
+  unfolding reactBy errorsBy reactionsBy
   exit-step n h k = rw h k
 
-  module _ (l : ℕ) (small : l < labelCount) (h : r ≡ reactionOf (instant (gives none waiting (onlyBelow labelCount l) nothing) Option.none)) where
+  module _ (l : ℕ) (small : l < labelCount) (h : r ≡ reactionOf (alone (gives none waiting (onlyBelow labelCount l) nothing))) where
     pub pause-step : p ≡ pause l → r ≡ reactionOf (start p e)
-    unfolding reactBy errorsBy
+    unfolding reactBy errorsBy reactionsBy
     pause-step k = rw k (h ∙ rw (lt-ltb l labelCount small))
 
     pub setpause-step : p ≡ setpause l → r ≡ reactionOf (start p e)
-    unfolding reactBy errorsBy
+    unfolding reactBy errorsBy reactionsBy
     setpause-step k = rw k (h ∙ rw (lt-ltb l labelCount small))
 
 -- what is said of a command is said of the statement that it is
@@ -68,12 +68,19 @@ module _ (e : ℕ) {p r : Reaction} where
       → ((i j : Esterel.Instant) → p ≡ reactionOf i → q ≡ reactionOf j → r ≡ reactionOf (parInstant i j)) → r ≡ reactionOf (start (par t u) e)
   par-step t u h m k = k (start t e) (start u e) h m ∙ ap reactionOf (sym (start-par t u e))
 
-pub suspend-step : (e s : ℕ) (t : Statement) {r : Reaction} → r ≡ reactionOf (start t e) → r ≡ reactionOf (start (suspend s t) e)
-suspend-step e s t h = h ∙ suspend-reaction s (start t e) ∙ ap reactionOf (sym (start-suspend s t e))
+  -- commands that only count, around what reacted
+  pub suspend-step : (s : ℕ) (t : Statement) → p ≡ reactionOf (start t e) → FromOne presentInstant p r → r ≡ reactionOf (start (suspend s t) e)
+  suspend-step s t h k = k (start t e) h ∙ suspend-reaction s (start t e) ∙ ap reactionOf (sym (start-suspend s t e))
 
-module _ (e x : ℕ) (t u : Statement) {r : Reaction} where
-  pub present-step : member x e ≡ true → r ≡ reactionOf (start t e) → r ≡ reactionOf (start (present x t u) e)
-  present-step b h = h ∙ ap reactionOf (sym (start-present x t u e ∙ ap (λ (z : Bool). cond z (start t e) (start u e)) b))
+  module _ (x : ℕ) (t u : Statement) where
+    tested : (b : Bool) → member x e ≡ b → p ≡ reactionOf (cond b (start t e) (start u e)) → FromOne presentInstant p r
+        → r ≡ reactionOf (start (present x t u) e)
+    tested b i h k =
+        k (cond b (start t e) (start u e)) h
+        ∙ ap reactionOf (sym (start-present x t u e ∙ ap (λ (z : Bool). presentInstant (cond z (start t e) (start u e))) i))
 
-  pub absent-step : member x e ≡ false → r ≡ reactionOf (start u e) → r ≡ reactionOf (start (present x t u) e)
-  absent-step b h = h ∙ ap reactionOf (sym (start-present x t u e ∙ ap (λ (z : Bool). cond z (start t e) (start u e)) b))
+    pub present-step : member x e ≡ true → p ≡ reactionOf (start t e) → FromOne presentInstant p r → r ≡ reactionOf (start (present x t u) e)
+    present-step = tested true
+
+    pub absent-step : member x e ≡ false → p ≡ reactionOf (start u e) → FromOne presentInstant p r → r ≡ reactionOf (start (present x t u) e)
+    absent-step = tested false

@@ -25,7 +25,7 @@ pub fn react(s: &[u8], at: usize, depth: u8, input: u32, second: &Seconds) -> Re
         8 => signal_rule(s, at, depth, input, second),
         9 => try_part(s, at, depth, input, second),
         // a fresh suspend reacts as its part
-        11 => part(s, 2, at + 2, depth - 1, input, second),
+        11 => reaction::around(part(s, 2, at + 2, depth - 1, input, second)),
         _ => reaction::pausing(s[1]),
     }
 }
@@ -57,7 +57,7 @@ pub fn after(
     if completions::is_ended(k) {
         rules::in_sequence(p, part(s, n, at, depth, input, second))
     } else {
-        p
+        reaction::around(p)
     }
 }
 
@@ -93,10 +93,10 @@ fn present_parts(s: &[u8], at: usize, depth: u8, input: u32, second: &Seconds) -
     ensures { λ r. ⌜ Started (now (second .entry)) depth at (now (s .entry)) input r ⌝ }
 {
     if signals::member(input, s[1]) {
-        part(s, 2, at + 2, depth - 1, input, second)
+        reaction::around(part(s, 2, at + 2, depth - 1, input, second))
     } else {
         let m = (second[at] % 2048) as usize;
-        part(s, m - at, m, depth - 1, input, second)
+        reaction::around(part(s, m - at, m, depth - 1, input, second))
     }
 }
 

@@ -1,13 +1,15 @@
-// What one reaction gives (01, 'One reaction'), and the reactions of commands without parts.
+// What one reaction gives (01, 'One reaction'), the reactions of commands without parts, and the number of reactions of a tree
+// from those of its parts (02, item 6).
 ghost use mathlib.Core.Path.{_≡_};
 ghost use mathlib.Core.Option.{some};
+ghost use Prim.Native.Nat.{_+_};
 ghost use Rattle.labels.specs.Labels.{labelSet};
 ghost use Rattle.sets.specs.Sets.{labelCount, onlyBelow};
 ghost use Rattle.esterel.specs.Sets.{none};
 ghost use Rattle.esterel.specs.Statement.{nothing};
-ghost use Rattle.esterel.specs.Reaction.{ended, waiting, leaving, gives, failed};
-ghost use Rattle.esterel.specs.Resume.{instant};
-ghost use Rattle.reaction.specs.Reactions.{faultless, reactionOf};
+ghost use Rattle.esterel.specs.Reaction.{ended, waiting, leaving, gives};
+ghost use Rattle.esterel.specs.Resume.{presentInstant};
+ghost use Rattle.reaction.specs.Reactions.{word, alone, reactionOf, failedWith, FromOne};
 use completions::Completion;
 use labels::Labels;
 
@@ -16,44 +18,75 @@ pub struct Reaction {
     pub labels: Labels,
     pub emitted: u32,
     pub completion: Completion,
+    pub taken: u32,
 }
 
-pub fn made(emitted: u32, labels: Labels, completion: Completion) -> Reaction
-    ensures { λ r. ⌜ r ≡ record { emitted = emitted; labels = labels; completion = completion } ⌝ }
+// The reactions of a command over two parts. The sum is in range whatever they are, and keeps 32 bits, as the answer does; that
+// no instant takes more is a theorem about the definition (theory, Ceiling).
+pub fn over_two(n: u32, m: u32) -> u32
+    ensures { λ r. ⌜ r ≡ word (1 + n + m) ⌝ }
+{
+    ((1 + n as u64 + m as u64) % limits::WORD) as u32
+}
+
+// The reactions of a command over one part.
+pub fn over_one(n: u32) -> u32
+    ensures { λ r. ⌜ r ≡ word (1 + n) ⌝ }
+{
+    over_two(n, 0)
+}
+
+// A reaction from its values. The completion comes in one register: stored in pieces, it could not be read back whole before they
+// have all reached memory.
+pub fn made(emitted: u32, labels: Labels, completion: Completion, taken: u32) -> Reaction
+    ensures { λ r. ⌜ r ≡ record { emitted = emitted; labels = labels; completion = completion; taken = taken } ⌝ }
 {
     Reaction {
         emitted,
         labels,
         completion,
+        taken,
     }
 }
 
+// A command that ends at once.
 pub fn ending(emitted: u32) -> Reaction
-    ensures { λ r. ⌜ r ≡ reactionOf (faultless (gives emitted ended none nothing)) ⌝ }
+    ensures { λ r. ⌜ r ≡ reactionOf (alone (gives emitted ended none nothing)) ⌝ }
 {
-    made(emitted, labels::empty(), Completion::Ended)
+    made(emitted, labels::empty(), Completion::Ended, 1)
 }
 
+// A command that waits: a pause with its label, a stopped suspend with the active labels inside it.
 pub fn waiting(labels: Labels) -> Reaction
-    ensures { λ r. ⌜ r ≡ reactionOf (faultless (gives none waiting (labelSet labels) nothing)) ⌝ }
+    ensures { λ r. ⌜ r ≡ reactionOf (alone (gives none waiting (labelSet labels) nothing)) ⌝ }
 {
-    made(0, labels, Completion::Waiting)
+    made(0, labels, Completion::Waiting, 1)
 }
 
 pub fn pausing(l: u8) -> Reaction
-    ensures { λ r. ⌜ r ≡ reactionOf (faultless (gives none waiting (onlyBelow labelCount l) nothing)) ⌝ }
+    ensures { λ r. ⌜ r ≡ reactionOf (alone (gives none waiting (onlyBelow labelCount l) nothing)) ⌝ }
 {
     waiting(labels::single(l))
 }
 
 pub fn leaving(n: u8) -> Reaction
-    ensures { λ r. ⌜ r ≡ reactionOf (faultless (gives none (leaving n) none nothing)) ⌝ }
+    ensures { λ r. ⌜ r ≡ reactionOf (alone (gives none (leaving n) none nothing)) ⌝ }
 {
-    made(0, labels::empty(), Completion::Leaving(n))
+    made(0, labels::empty(), Completion::Leaving(n), 1)
 }
 
-pub fn failing(kind: u8, place: u16) -> Reaction
-    ensures { λ r. ⌜ r ≡ reactionOf (instant failed (some (record { kind = kind; place = place }))) ⌝ }
+// Wrong, with nothing emitted.
+pub fn failing(kind: u8, place: u16, taken: u32) -> Reaction
+    ensures { λ r. ⌜ r ≡ failedWith (record { kind = kind; place = place }) taken ⌝ }
 {
-    made(0, labels::empty(), Completion::Wrong(kind, place))
+    made(0, labels::empty(), Completion::Wrong(kind, place), taken)
+}
+
+// A command that only counts: a test around the branch taken, a suspend around what reacts.
+pub fn around(p: Reaction) -> Reaction
+    ensures { λ r. ⌜ FromOne presentInstant p r ⌝ }
+{
+    let labels = p.labels;
+    let k = p.completion;
+    made(p.emitted, labels, k, over_one(p.taken))
 }

@@ -10,6 +10,7 @@ use completions::Completion;
 use labels::Labels;
 use reaction::Reaction;
 
+// Labels are kept only with code 1.
 fn if_waiting(k: Completion, labels: Labels) -> Labels
     ensures { λ r. ⌜ labelSet r ≡ ifWaiting (codeOf k) (labelSet labels) ⌝ }
 {
@@ -21,6 +22,7 @@ fn if_waiting(k: Completion, labels: Labels) -> Labels
     }
 }
 
+// p; q
 pub fn in_sequence(p: Reaction, q: Reaction) -> Reaction
     ensures { λ r. ⌜ ((u : Statement) → FromTwo (seqInstant u) p q r) ⌝ }
 {
@@ -32,12 +34,14 @@ pub fn in_sequence(p: Reaction, q: Reaction) -> Reaction
             emitted: signals::union(p.emitted, q.emitted),
             labels,
             completion: l,
+            taken: reaction::over_two(p.taken, q.taken),
         }
     } else {
-        p
+        reaction::around(p)
     }
 }
 
+// p in parallel with q
 pub fn in_parallel(p: Reaction, q: Reaction) -> Reaction
     ensures { λ r. ⌜ FromTwo parInstant p q r ⌝ }
 {
@@ -48,20 +52,23 @@ pub fn in_parallel(p: Reaction, q: Reaction) -> Reaction
         emitted: signals::union(p.emitted, q.emitted),
         labels: if_waiting(code, labels::union(p.labels, q.labels)),
         completion: code,
+        taken: reaction::over_two(p.taken, q.taken),
     }
 }
 
+// loop p at the offset `place`
 pub fn in_loop(place: u16, p: Reaction) -> Reaction
     ensures { λ r. ⌜ ((u : Statement) → FromOne (loopInstant place u) p r) ⌝ }
 {
     let k = p.completion;
     if completions::is_ended(k) {
-        reaction::failing(1, place)
+        reaction::failing(1, place, reaction::over_one(p.taken))
     } else {
-        p
+        reaction::around(p)
     }
 }
 
+// try p
 pub fn in_try(p: Reaction) -> Reaction
     ensures { λ r. ⌜ FromOne tryInstant p r ⌝ }
 {
@@ -71,5 +78,6 @@ pub fn in_try(p: Reaction) -> Reaction
         emitted: p.emitted,
         labels,
         completion: completions::caught(k),
+        taken: reaction::over_one(p.taken),
     }
 }

@@ -1,8 +1,6 @@
-use mathlib.Core.Path.{refl, _∙_}
-use mathlib.Core.Option.{some}
+use mathlib.Core.Path.{_∙_}
 use Rattle.esterel.specs.Sets.{none}
-use Rattle.esterel.specs.Reaction.{wrong}
-use Rattle.reaction.proofs.Values.{made}
+use Rattle.reaction.proofs.Values.{failed-made}
 use borrow.Author.Needs.{needs}
 use Rattle.reaction.proofs.failing.Statement.{statement}
 use Rattle.reaction.proofs.failing.Tie as tie
@@ -15,7 +13,7 @@ made-requires c κs = search needs
 
 returns : tie.Need-returns
 unfolding none
-returns c = c .made .ensures ∙ made wrong (some _) refl (c .before .empty .ensures) refl
+returns c = c .made .ensures ∙ failed-made _ _ _ (c .before .empty .ensures)
 
 pub failing-spec : {M : Type 1} → statement M
 failing-spec = tie.close (tie.spec empty-requires made-requires returns)

@@ -3,7 +3,7 @@ use mathlib.Core.Path.{ap, _∙_}
 use Rattle.esterel.specs.Sets.{none}
 use Rattle.esterel.specs.Statement.{nothing}
 use Rattle.esterel.specs.Reaction.{waiting, gives}
-use Rattle.reaction.specs.Reactions.{faultless, reactionOf}
+use Rattle.reaction.specs.Reactions.{alone, reactionOf}
 use borrow.Author.Needs.{needs}
 use Rattle.reaction.proofs.pausing.Statement.{statement}
 use Rattle.reaction.proofs.pausing.Tie as tie
@@ -15,7 +15,7 @@ waiting-requires : tie.Need-waiting-requires
 waiting-requires c κs = search needs
 
 returns : tie.Need-returns
-returns c = c .waiting .ensures ∙ ap (λ (l : ℕ). reactionOf (faultless (gives none waiting l nothing))) (c .before .single .ensures)
+returns c = c .waiting .ensures ∙ ap (λ (l : ℕ). reactionOf (alone (gives none waiting l nothing))) (c .before .single .ensures)
 
 pub pausing-spec : {M : Type 1} → statement M
 pausing-spec = tie.close (tie.spec single-requires waiting-requires returns)

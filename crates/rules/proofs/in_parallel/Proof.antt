@@ -15,10 +15,13 @@ union-requires-2 c κs = search needs
 if-waiting-requires : tie.Need-if-waiting-requires
 if-waiting-requires c κs = search needs
 
+over-two-requires : tie.Need-over-two-requires
+over-two-requires c κs = search needs
+
 returns : tie.Need-returns
-returns c i j a b = par-joins i j _ _ a b _ _ _ _ (c .before .before .union .ensures) (c .before .before .before .greater-of .ensures) (c .before .union2 .ensures) (c .if-waiting .ensures)
+returns c i j a b = par-joins i j _ _ a b _ _ _ _ _ (c .before .before .before .union .ensures) (c .before .before .before .before .greater-of .ensures) (c .over-two .ensures) (c .before .before .union2 .ensures) (c .before .if-waiting .ensures)
 
 pub in-parallel-spec : {M : Type 1} → statement M
 in-parallel-spec =
     tie.close
-    (tie.spec greater-of-requires union-requires union-requires-2 if-waiting-requires returns)
+    (tie.spec greater-of-requires union-requires union-requires-2 if-waiting-requires over-two-requires returns)

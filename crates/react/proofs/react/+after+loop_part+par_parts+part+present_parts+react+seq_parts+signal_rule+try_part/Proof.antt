@@ -53,6 +53,7 @@ use Rattle.react.proofs.react.+after+loop_part+par_parts+part+present_p
 use Rattle.react.proofs.react.try_part.Reads as try-part
 use Rattle.react.proofs.react.try_part.Kinds as try-part-kinds
 use Rattle.react.proofs.react.+after+loop_part+par_parts+part+present_parts+react+seq_parts+signal_rule+try_part.Lts-try_part as try-part-lts
+use Rattle.reaction.proofs.around.Reads as around-reads
 use Rattle.reaction.proofs.ending.Reads as ending-reads
 use Rattle.rules.proofs.in_loop.Reads as in-loop-reads
 use Rattle.rules.proofs.in_parallel.Reads as in-parallel-reads
@@ -167,7 +168,7 @@ try-part-below t =
     and 2 try-part-kinds.ps (falls 2 try-part-kinds.ps _<_ μ-try-part t) try-part.Pre
 
 abbrev after-claims : ℕ → after-lts.Claims
-after-claims t = (is-ended-reads.Asked, is-ended-reads.Learnt, part-below t, part.Post, in-sequence-reads.Asked, in-sequence-reads.Learnt)
+after-claims t = (is-ended-reads.Asked, is-ended-reads.Learnt, part-below t, part.Post, in-sequence-reads.Asked, in-sequence-reads.Learnt, around-reads.Asked, around-reads.Learnt)
 
 abbrev loop-part-claims : ℕ → loop-part-lts.Claims
 loop-part-claims t = (part-below t, part.Post, in-loop-reads.Asked, in-loop-reads.Learnt)
@@ -179,10 +180,10 @@ abbrev part-claims : ℕ → part-lts.Claims
 part-claims t = (react-below t, react.Post)
 
 abbrev present-parts-claims : ℕ → present-parts-lts.Claims
-present-parts-claims t = (member-reads.Asked, member-reads.Learnt, part-below t, part.Post)
+present-parts-claims t = (member-reads.Asked, member-reads.Learnt, part-below t, part.Post, around-reads.Asked, around-reads.Learnt)
 
 abbrev react-claims : ℕ → react-lts.Claims
-react-claims t = (ending-reads.Asked, ending-reads.Learnt, pausing-reads.Asked, pausing-reads.Learnt, single-reads.Asked, single-reads.Learnt, leaving-reads.Asked, leaving-reads.Learnt, seq-parts-below t, seq-parts.Post, par-parts-below t, par-parts.Post, loop-part-below t, loop-part.Post, present-parts-below t, present-parts.Post, signal-rule-below t, signal-rule.Post, try-part-below t, try-part.Post, part-below t, part.Post)
+react-claims t = (ending-reads.Asked, ending-reads.Learnt, pausing-reads.Asked, pausing-reads.Learnt, single-reads.Asked, single-reads.Learnt, leaving-reads.Asked, leaving-reads.Learnt, seq-parts-below t, seq-parts.Post, par-parts-below t, par-parts.Post, loop-part-below t, loop-part.Post, present-parts-below t, present-parts.Post, signal-rule-below t, signal-rule.Post, try-part-below t, try-part.Post, part-below t, part.Post, around-reads.Asked, around-reads.Learnt)
 
 abbrev seq-parts-claims : ℕ → seq-parts-lts.Claims
 seq-parts-claims t = (part-below t, part.Post, after-below t, after.Post)
@@ -200,7 +201,8 @@ after-returns : (t : ℕ) → after-lts.Need-returns (after-claims t) (after-at 
 after-returns t c base u i l h = c .in-sequence .ensures u i (start u _) h (c .before .part .ensures base u l)
 
 after-returns-2 : (t : ℕ) → after-lts.Need-returns-2 (after-claims t) (after-at t) after.Post
-after-returns-2 t c base u i l h = seq-stops u i (start u _) _ (c .before .before .before .args .p) h (sym (c .before .is-ended .ensures) ∙ c .if1 .left)
+after-returns-2 t c base u i l h =
+    seq-stops u i (start u _) _ (c .before .before .before .before .args .p) h (sym (c .before .before .is-ended .ensures) ∙ c .before .if1 .left) (c .around .ensures i h)
 
 loop-part-part-requires : (t : ℕ) → loop-part-lts.Need-part-requires (loop-part-claims t) (loop-part-at t) loop-part.Post
 loop-part-part-requires t c κs = let y = begins (c .before .pre .1 .0) Command.loop (c .before .pre .1 .1) in (search needs, (y .there, ready _ (y .parts .0) (c .before .pre .1 .0 .long) (y .parts .1 .1)))
@@ -264,15 +266,19 @@ present-parts-part-requires-2 t c κs = let y = begins (c .before .before .befor
 
 present-parts-returns : (t : ℕ) → present-parts-lts.Need-returns (present-parts-claims t) (present-parts-at t) present-parts.Post
 present-parts-returns t c base p l =
-    let y = taken (c .before .before .before .before .before .pre .1 .0) base p l Command.present (c .before .before .before .before .before .pre .1 .1) .parts in
+    let f = c .before .before .before .before .before .before .pre .1 in
+    let y = taken (f .0) base p l Command.present (f .1) .parts in
     here (present _ (y .0) (y .1)) p _ (y .2 .0)
-    (present-step _ _ (y .0) (y .1) (sym (c .before .before .member .ensures) ∙ c .before .if1 .taken) (c .part .ensures base (y .0) (y .2 .1 .first)))
+    (present-step _ _ (y .0) (y .1) (sym (c .before .before .before .member .ensures) ∙ c .before .before .if1 .taken)
+    (c .before .part .ensures base (y .0) (y .2 .1 .first)) (c .around .ensures))
 
 present-parts-returns-2 : (t : ℕ) → present-parts-lts.Need-returns-2 (present-parts-claims t) (present-parts-at t) present-parts.Post
 present-parts-returns-2 t c base p l =
-    let y = taken (c .before .before .before .before .before .before .pre .1 .0) base p l Command.present (c .before .before .before .before .before .before .pre .1 .1) .parts in
+    let f = c .before .before .before .before .before .before .before .pre .1 in
+    let y = taken (f .0) base p l Command.present (f .1) .parts in
     here (present _ (y .0) (y .1)) p _ (y .2 .0)
-    (absent-step _ _ (y .0) (y .1) (sym (c .before .before .before .member .ensures) ∙ c .before .before .if1 .left) (c .part2 .ensures _ (y .1) (y .2 .1 .second)))
+    (absent-step _ _ (y .0) (y .1) (sym (c .before .before .before .before .member .ensures) ∙ c .before .before .before .if1 .left)
+    (c .before .part2 .ensures _ (y .1) (y .2 .1 .second)) (c .around2 .ensures))
 
 react-shared-slice-read-pausing : (t : ℕ) → react-lts.Need-shared-slice-read-pausing (react-claims t) (react-at t) react.Post
 react-shared-slice-read-pausing t c = begins (c .before .before .before .before .pre .1) Command.pause (c .before .match .keys2) .there
@@ -343,8 +349,8 @@ react-returns-10 t c base p l = c .try-part .ensures base p l
 
 react-returns-11 : (t : ℕ) → react-lts.Need-returns-11 (react-claims t) (react-at t) react.Post
 react-returns-11 t c base p l =
-    let y = taken (c .before .before .before .before .pre .1) base p l Command.suspend (c .before .match .keys11) .parts in
-    here (suspend _ (y .0)) p _ (y .1 .0) (suspend-step _ _ (y .0) (c .part .ensures base (y .0) (y .1 .1)))
+    let y = taken (c .before .before .before .before .before .pre .1) base p l Command.suspend (c .before .before .match .keys11) .parts in
+    here (suspend _ (y .0)) p _ (y .1 .0) (suspend-step _ _ (y .0) (c .before .part .ensures base (y .0) (y .1 .1)) (c .around .ensures))
 
 react-returns-12 : (t : ℕ) → react-lts.Need-returns-12 (react-claims t) (react-at t) react.Post
 react-returns-12 t c base p l =
@@ -411,7 +417,7 @@ pub +after+loop-part+par-parts+part+present-parts+react+seq-parts+signal-rule+tr
     after.Post
     (λ c κs. search needs)
     (after-part-requires t)
-    (λ c κs. search needs)
+    (λ c κs. search needs) (λ c κs. search needs)
     (after-returns t)
     (after-returns-2 t))
     (λ t. loop-part-lts.spec (loop-part-claims t) (loop-part-at t)
@@ -443,12 +449,13 @@ pub +after+loop-part+par-parts+part+present-parts+react+seq-parts+signal-rule+tr
     (present-parts-shared-slice-read-member t)
     (λ c κs. search needs) (λ c. search needs) (λ c. search needs)
     (present-parts-part-requires t)
-    (λ c. search needs)
+    (λ c κs. search needs) (λ c. search needs)
     (present-parts-element-copy-out-m t)
     (λ c. search needs)
     (present-parts-sub-part-2 t)
     (λ c. search needs)
     (present-parts-part-requires-2 t)
+    (λ c κs. search needs)
     (present-parts-returns t)
     (present-parts-returns-2 t))
     (λ t. react-lts.spec (react-claims t) (react-at t)
@@ -468,6 +475,7 @@ pub +after+loop-part+par-parts+part+present-parts+react+seq-parts+signal-rule+tr
     (react-try-part-requires t)
     (λ c. search needs) (λ c. search needs)
     (react-part-requires t)
+    (λ c κs. search needs)
     (react-shared-slice-read-pausing-2 t)
     (λ c κs. search needs)
     (react-returns t)
