@@ -13,13 +13,13 @@ use Rattle.esterel.specs.Reaction.{ended, waiting, gives}
 use Rattle.esterel.specs.Sets as sets
 use Rattle.esterel.specs.Ranks.{middle, labelsBy}
 use Rattle.esterel.specs.Resume as Esterel
-use Rattle.esterel.specs.Resume.{instant, start, idle, seqInstant, parInstant, tryInstant, signalInstant, resume}
+use Rattle.esterel.specs.Resume.{start, idle, seqInstant, parInstant, presentInstant, tryInstant, signalInstant, resume}
 use Rattle.sequence.specs.Commands.{Command, commandOf}
 use Rattle.layout.specs.Layout.{Form, Lies}
 use Rattle.sequence.proofs.Table.{byte-is}
 use Rattle.layout.proofs.Laid.{opened}
 use Rattle.reaction.specs.declared.Reaction.{Reaction}
-use Rattle.reaction.specs.Reactions.{faultless, reactionOf}
+use Rattle.reaction.specs.Reactions.{alone, reactionOf, FromOne}
 use Rattle.reaction.proofs.Values.{suspend-reaction}
 
 -- a cut at k is one at j
@@ -83,14 +83,15 @@ module _ (base m e : ℕ) {r : Reaction} where
 -- ---- a suspend
 module _ (base m e s : ℕ) (p : Statement) {r : Reaction} where
   -- it keeps the labels K
-  pub suspend-stopped : {K : ℕ} → member s e ≡ true → K ≡ labelsBy base p m → r ≡ reactionOf (faultless (gives sets.none waiting K nothing))
+  pub suspend-stopped : {K : ℕ} → member s e ≡ true → K ≡ labelsBy base p m → r ≡ reactionOf (alone (gives sets.none waiting K nothing))
       → r ≡ reactionOf (resume base (suspend s p) m e)
   unfolding resume
-  suspend-stopped i k h = rw i (h ∙ ap (λ (z : ℕ). reactionOf (faultless (gives sets.none waiting z nothing))) k)
+  suspend-stopped i k h = rw i (h ∙ ap (λ (z : ℕ). reactionOf (alone (gives sets.none waiting z nothing))) k)
 
-  pub suspend-resumed : member s e ≡ false → r ≡ reactionOf (resume base p m e) → r ≡ reactionOf (resume base (suspend s p) m e)
+  pub suspend-resumed : {u : Reaction} → member s e ≡ false → u ≡ reactionOf (resume base p m e) → FromOne presentInstant u r
+      → r ≡ reactionOf (resume base (suspend s p) m e)
   unfolding resume
-  suspend-resumed i h = rw i (h ∙ suspend-reaction s (resume base p m e))
+  suspend-resumed i h k = rw i (k (resume base p m e) h ∙ suspend-reaction s (resume base p m e))
 
 -- ---- a side of a parallel
 module _ (base m e : ℕ) (p : Statement) {r : Reaction} where
@@ -100,7 +101,7 @@ module _ (base m e : ℕ) (p : Statement) {r : Reaction} where
   pub side-active : empty m ≡ false → r ≡ reactionOf (resume base p m e) → r ≡ reactionOf (cond (empty m) idle (resume base p m e))
   side-active z h = rw z h
 
-pub idle-is : {r : Reaction} → r ≡ reactionOf (instant (gives 0 ended sets.none nothing) Option.none) → r ≡ reactionOf idle
+pub idle-is : {r : Reaction} → r ≡ reactionOf (alone (gives 0 ended sets.none nothing)) → r ≡ reactionOf idle
 unfolding sets.none
 idle-is h = h
 

@@ -67,6 +67,7 @@ fn seq_parts(
     let m = (entry % 2048) as usize;
     let first = labels::below(active, entry / 2048);
     if labels::is_empty(first) {
+        // the expansion is that of the second part
         let others = labels::from(active, entry / 2048);
         return part(s, m - at, m, depth - 1, input, others, second);
     }
@@ -187,7 +188,7 @@ fn suspend_part(
     if signals::member(input, s[1]) {
         reaction::waiting(active::of_part(s, 2, at + 2, depth - 1, active, second))
     } else {
-        part(s, 2, at + 2, depth - 1, input, active, second)
+        reaction::around(part(s, 2, at + 2, depth - 1, input, active, second))
     }
 }
 

@@ -60,6 +60,7 @@ use Rattle.reaction.proofs.ending.Reads as ending-reads
 use Rattle.rules.proofs.in_parallel.Reads as in-parallel-reads
 use Rattle.declarations.proofs.in_signal.Reads as in-signal-reads
 use Rattle.rules.proofs.in_try.Reads as in-try-reads
+use Rattle.reaction.proofs.around.Reads as around-reads
 use Rattle.reaction.proofs.waiting.Reads as waiting-reads
 use Rattle.active.proofs.of_part.Reads as of-part-reads
 use Rattle.labels.proofs.below.Reads as below-reads
@@ -203,7 +204,7 @@ abbrev signal-rule-claims : ℕ → signal-rule-lts.Claims
 signal-rule-claims t = (without-reads.Asked, without-reads.Learnt, part-below t, part.Post, with-reads.Asked, with-reads.Learnt, in-signal-reads.Asked, in-signal-reads.Learnt)
 
 abbrev suspend-part-claims : ℕ → suspend-part-lts.Claims
-suspend-part-claims t = (member-reads.Asked, member-reads.Learnt, of-part-reads.Asked, of-part-reads.Learnt, waiting-reads.Asked, waiting-reads.Learnt, part-below t, part.Post)
+suspend-part-claims t = (member-reads.Asked, member-reads.Learnt, of-part-reads.Asked, of-part-reads.Learnt, waiting-reads.Asked, waiting-reads.Learnt, part-below t, part.Post, around-reads.Asked, around-reads.Learnt)
 
 abbrev try-part-claims : ℕ → try-part-lts.Claims
 try-part-claims t = (part-below t, part.Post, in-try-reads.Asked, in-try-reads.Learnt)
@@ -398,9 +399,11 @@ suspend-part-returns t c base p l =
 
 suspend-part-returns-2 : (t : ℕ) → suspend-part-lts.Need-returns-2 (suspend-part-claims t) (suspend-part-at t) suspend-part.Post
 suspend-part-returns-2 t c base p l =
-    let y = taken (c .before .before .before .before .before .pre .1 .0) base p l Command.suspend (c .before .before .before .before .before .pre .1 .1) .parts in
+    let f = c .before .before .before .before .before .before .pre .1 in
+    let y = taken (f .0) base p l Command.suspend (f .1) .parts in
     here base _ _ (suspend _ (y .0)) p (y .1 .0)
-    (suspend-resumed base _ _ _ (y .0) (sym (c .before .before .member .ensures) ∙ c .before .if1 .left) (c .part .ensures base (y .0) (y .1 .1)))
+    (suspend-resumed base _ _ _ (y .0) (sym (c .before .before .before .member .ensures) ∙ c .before .before .if1 .left)
+    (c .before .part .ensures base (y .0) (y .1 .1)) (c .around .ensures))
 
 try-part-part-requires : (t : ℕ) → try-part-lts.Need-part-requires (try-part-claims t) (try-part-at t) try-part.Post
 try-part-part-requires t c κs = let y = begins (c .before .pre .1 .0) Command.try (c .before .pre .1 .1) in (search needs, (y .there, ready _ (y .parts .0) (c .before .pre .1 .0 .long) (y .parts .1 .1)))
@@ -517,6 +520,7 @@ pub +loop-part+par-parts+part+present-parts+resume+seq-parts+side+signal-rule+su
     (suspend-part-of-part-requires t)
     (λ c κs. search needs) (λ c. search needs) (λ c. search needs)
     (suspend-part-part-requires t)
+    (λ c κs. search needs)
     (suspend-part-returns t)
     (suspend-part-returns-2 t))
     λ t. try-part-lts.spec (try-part-claims t) (try-part-at t)
