@@ -15,8 +15,8 @@ use Rattle.esterel.specs.Resume.{instant}
 use Rattle.esterel.specs.Machines.{shown, State}
 use Rattle.theory.proofs.LabelTests.{valid-is}
 use Rattle.numbers.specs.Bytes.{leBytes, leNumber}
-use Rattle.limits.specs.Limits.{labelBytes, placeBytes, signalBytes}
-use Rattle.records.specs.Records.{stateLength, answerLength, stateRecord, encodeState, holds, malformed, decodeState, codeByte, answerRecord, codeIn, kindIn, placeIn, emittedIn, encodeAnswer}
+use Rattle.limits.specs.Limits.{labelBytes, placeBytes, signalBytes, takenBytes}
+use Rattle.records.specs.Records.{stateLength, answerLength, stateRecord, encodeState, holds, malformed, decodeState, codeByte, answerRecord, codeIn, kindIn, placeIn, emittedIn, takenIn, encodeAnswer}
 use Rattle.numbers.proofs.Bytes.{length-leBytes, le-round-trip}
 
 -- ---- states: valid, with labels that fit the record
@@ -29,9 +29,9 @@ Recorded p State.over = Unit {0}
 pub state-sized : (phase labels : ℕ) → length (stateRecord phase labels) ≡ stateLength
 state-sized phase labels = ap suc (length-leBytes labelBytes labels)
 
-pub answer-sized : (code kind place emitted : ℕ) → length (answerRecord code kind place emitted) ≡ answerLength
+pub answer-sized : (code kind place emitted taken : ℕ) → length (answerRecord code kind place emitted taken) ≡ answerLength
 unfolding leBytes
-answer-sized code kind place emitted = refl
+answer-sized code kind place emitted taken = refl
 
 pub length-state : (s : State) → length (encodeState s) ≡ stateLength
 unfolding encodeState
@@ -60,27 +60,32 @@ pub wrong-blame : (k : Code) (x : Option Error) (y : Error) → k ≡ wrong → 
 wrong-blame k x y i h = rw (i, h)
 
 -- ---- an answer, whole and by its fields
-module _ (o : ℕ) (k : Code) (l : ℕ) (t : Statement) (x : Option Error) where
-  pub answer-is : encodeAnswer (instant (gives o k l t) x) ≡ answerRecord (codeByte k) (blame k x .kind) (blame k x .place) (shown k o)
+module _ (o : ℕ) (k : Code) (l : ℕ) (t : Statement) (x : Option Error) (n : ℕ) where
+  pub answer-is : encodeAnswer (instant (gives o k l t) x n)
+      ≡ answerRecord (codeByte k) (blame k x .kind) (blame k x .place) (shown k o) n
   unfolding encodeAnswer
   answer-is = refl
 
-  pub length-answer : length (encodeAnswer (instant (gives o k l t) x)) ≡ answerLength
+  pub length-answer : length (encodeAnswer (instant (gives o k l t) x n)) ≡ answerLength
   unfolding encodeAnswer
-  length-answer = answer-sized (codeByte k) (blame k x .kind) (blame k x .place) (shown k o)
+  length-answer = answer-sized (codeByte k) (blame k x .kind) (blame k x .place) (shown k o) n
 
-  pub code-field : codeIn (encodeAnswer (instant (gives o k l t) x)) ≡ codeByte k
+  pub code-field : codeIn (encodeAnswer (instant (gives o k l t) x n)) ≡ codeByte k
   unfolding encodeAnswer
   code-field = refl
 
-  pub kind-field : kindIn (encodeAnswer (instant (gives o k l t) x)) ≡ blame k x .kind
+  pub kind-field : kindIn (encodeAnswer (instant (gives o k l t) x n)) ≡ blame k x .kind
   unfolding encodeAnswer
   kind-field = refl
 
-  pub place-field : blame k x .place < 256 ^ placeBytes → placeIn (encodeAnswer (instant (gives o k l t) x)) ≡ blame k x .place
+  pub place-field : blame k x .place < 256 ^ placeBytes → placeIn (encodeAnswer (instant (gives o k l t) x n)) ≡ blame k x .place
   unfolding encodeAnswer leBytes
   place-field h = le-round-trip placeBytes (blame k x .place) h
 
-  pub emitted-field : shown k o < 256 ^ signalBytes → emittedIn (encodeAnswer (instant (gives o k l t) x)) ≡ shown k o
+  pub emitted-field : shown k o < 256 ^ signalBytes → emittedIn (encodeAnswer (instant (gives o k l t) x n)) ≡ shown k o
   unfolding encodeAnswer leBytes
   emitted-field h = le-round-trip signalBytes (shown k o) h
+
+  pub taken-field : n < 256 ^ takenBytes → takenIn (encodeAnswer (instant (gives o k l t) x n)) ≡ n
+  unfolding encodeAnswer leBytes
+  taken-field h = le-round-trip takenBytes n h

@@ -8,8 +8,8 @@ use lib.ListN.{length}
 use lib.Seq.{sets}
 use borrow.Author.Tests.{eq-eqb, ne-eqb}
 use Rattle.numbers.specs.Bytes.{leBytes}
-use Rattle.limits.specs.Limits.{labelBytes, placeBytes, signalBytes}
-use Rattle.records.specs.Records.{stateLength, answerLength, emittedAt, replaced, stateRecord, answerRecord}
+use Rattle.limits.specs.Limits.{labelBytes, placeBytes, signalBytes, takenBytes}
+use Rattle.records.specs.Records.{stateLength, answerLength, emittedAt, takenAt, replaced, stateRecord, answerRecord}
 use Rattle.numbers.proofs.Bytes.{length-leBytes}
 use Rattle.records.proofs.RecordLaws.{state-sized, answer-sized}
 use Rattle.records.proofs.Writing.{sets-whole, sets-append}
@@ -26,19 +26,19 @@ state-replaced : (b : List ℕ) (phase labels : ℕ) → length b ≡ stateLengt
     → replaced b (stateRecord phase labels) ≡ stateRecord phase labels
 state-replaced b phase labels = replaced-by stateLength b (stateRecord phase labels) (state-sized phase labels)
 
-answer-replaced : (b : List ℕ) (code kind place emitted : ℕ) → length b ≡ answerLength
-    → replaced b (answerRecord code kind place emitted) ≡ answerRecord code kind place emitted
-answer-replaced b code kind place emitted =
-    replaced-by answerLength b (answerRecord code kind place emitted) (answer-sized code kind place emitted)
+answer-replaced : (b : List ℕ) (code kind place emitted taken : ℕ) → length b ≡ answerLength
+    → replaced b (answerRecord code kind place emitted taken) ≡ answerRecord code kind place emitted taken
+answer-replaced b code kind place emitted taken =
+    replaced-by answerLength b (answerRecord code kind place emitted taken) (answer-sized code kind place emitted taken)
 
 -- what the writers leave, c, in a buffer b of the right length
 pub state-written : (b : List ℕ) (phase labels : ℕ) → length b ≡ stateLength → {c : List ℕ} → c ≡ replaced b (stateRecord phase labels)
     → {l : ℕ} → labels ≡ l → c ≡ stateRecord phase l
 state-written b phase labels s h e = h ∙ state-replaced b phase labels s ∙ ap (stateRecord phase) e
 
-pub answer-written : (b : List ℕ) (code kind place emitted : ℕ) → length b ≡ answerLength → {c : List ℕ}
-    → c ≡ replaced b (answerRecord code kind place emitted) → c ≡ answerRecord code kind place emitted
-answer-written b code kind place emitted s h = h ∙ answer-replaced b code kind place emitted s
+pub answer-written : (b : List ℕ) (code kind place emitted taken : ℕ) → length b ≡ answerLength → {c : List ℕ}
+    → c ≡ replaced b (answerRecord code kind place emitted taken) → c ≡ answerRecord code kind place emitted taken
+answer-written b code kind place emitted taken s h = h ∙ answer-replaced b code kind place emitted taken s
 
 -- ---- stores
 pub state-stored : (phase labels : ℕ) (b : List ℕ) → length b ≡ stateLength
@@ -47,11 +47,13 @@ state-stored phase labels b e =
     sets-whole b (phase ∷ leBytes labelBytes labels) (omega (arith, length-leBytes labelBytes labels))
     ∙ sym (state-replaced b phase labels e)
 
-pub answer-stored : (code kind place emitted : ℕ) (b : List ℕ) → length b ≡ answerLength
-    → sets (sets b 0 (code ∷ kind ∷ leBytes placeBytes place)) emittedAt (leBytes signalBytes emitted)
-    ≡ replaced b (answerRecord code kind place emitted)
+pub answer-stored : (code kind place emitted taken : ℕ) (b : List ℕ) → length b ≡ answerLength
+    → sets (sets (sets b 0 (code ∷ kind ∷ leBytes placeBytes place)) emittedAt (leBytes signalBytes emitted)) takenAt (leBytes takenBytes taken)
+    ≡ replaced b (answerRecord code kind place emitted taken)
 unfolding leBytes
-answer-stored code kind place emitted b e =
-    sets-append b 0 (code ∷ kind ∷ leBytes placeBytes place) (leBytes signalBytes emitted)
-    ∙ sets-whole b ((code ∷ kind ∷ leBytes placeBytes place) ++ leBytes signalBytes emitted) (omega arith)
-    ∙ sym (answer-replaced b code kind place emitted e)
+answer-stored code kind place emitted taken b e =
+    let h = code ∷ kind ∷ leBytes placeBytes place in
+    ap (λ (l : List ℕ). sets l takenAt (leBytes takenBytes taken)) (sets-append b 0 h (leBytes signalBytes emitted))
+    ∙ sets-append b 0 (h ++ leBytes signalBytes emitted) (leBytes takenBytes taken)
+    ∙ sets-whole b ((h ++ leBytes signalBytes emitted) ++ leBytes takenBytes taken) (omega arith)
+    ∙ sym (answer-replaced b code kind place emitted taken e)

@@ -9,8 +9,8 @@ use Rattle.esterel.specs.Errors.{Error, blame}
 use Rattle.esterel.specs.Resume.{instant}
 use Rattle.esterel.specs.Machines.{shown, State}
 use Rattle.numbers.specs.Bytes.{leBytes, leNumber}
-use Rattle.limits.specs.Limits.{placeBytes, signalBytes}
-use Rattle.records.specs.Records.{stateLength, answerLength, encodeState, holds, decodeState, codeByte, codeIn, kindIn, placeIn, emittedIn, encodeAnswer}
+use Rattle.limits.specs.Limits.{placeBytes, signalBytes, takenBytes}
+use Rattle.records.specs.Records.{stateLength, answerLength, encodeState, holds, decodeState, codeByte, codeIn, kindIn, placeIn, emittedIn, takenIn, encodeAnswer}
 use Rattle.numbers.proofs.Bytes as bytes
 use Rattle.records.proofs.RecordLaws.{Recorded}
 use Rattle.records.proofs.RecordLaws as laws
@@ -23,12 +23,15 @@ pub decode-encode : (p : Statement) (s : State) → Recorded p s → decodeState
 decode-encode = laws.decode-encode
 
 pub lengths : ((s : State) → length (encodeState s) ≡ stateLength)
-    × ((o : ℕ) (k : Code) (l : ℕ) (t : Statement) (x : Option Error) → length (encodeAnswer (instant (gives o k l t) x)) ≡ answerLength)
+    × ((o : ℕ) (k : Code) (l : ℕ) (t : Statement) (x : Option Error) (n : ℕ)
+    → length (encodeAnswer (instant (gives o k l t) x n)) ≡ answerLength)
 lengths = (laws.length-state, laws.length-answer)
 
-pub fields : (o : ℕ) (k : Code) (l : ℕ) (t : Statement) (x : Option Error)
-    → (codeIn (encodeAnswer (instant (gives o k l t) x)) ≡ codeByte k)
-    × (kindIn (encodeAnswer (instant (gives o k l t) x)) ≡ blame k x .kind)
-    × (blame k x .place < 256 ^ placeBytes → placeIn (encodeAnswer (instant (gives o k l t) x)) ≡ blame k x .place)
-    × (shown k o < 256 ^ signalBytes → emittedIn (encodeAnswer (instant (gives o k l t) x)) ≡ shown k o)
-fields o k l t x = (laws.code-field o k l t x, laws.kind-field o k l t x, laws.place-field o k l t x, laws.emitted-field o k l t x)
+pub fields : (o : ℕ) (k : Code) (l : ℕ) (t : Statement) (x : Option Error) (n : ℕ)
+    → (codeIn (encodeAnswer (instant (gives o k l t) x n)) ≡ codeByte k)
+    × (kindIn (encodeAnswer (instant (gives o k l t) x n)) ≡ blame k x .kind)
+    × (blame k x .place < 256 ^ placeBytes → placeIn (encodeAnswer (instant (gives o k l t) x n)) ≡ blame k x .place)
+    × (shown k o < 256 ^ signalBytes → emittedIn (encodeAnswer (instant (gives o k l t) x n)) ≡ shown k o)
+    × (n < 256 ^ takenBytes → takenIn (encodeAnswer (instant (gives o k l t) x n)) ≡ n)
+fields o k l t x n =
+    (laws.code-field o k l t x n, laws.kind-field o k l t x n, laws.place-field o k l t x n, laws.emitted-field o k l t x n, laws.taken-field o k l t x n)

@@ -1,4 +1,4 @@
--- The state record and the answer record as bytes (01, 'States and resuming').
+-- The state record and the answer record as bytes (01, 'States and resuming'; 02, item 6).
 use Prim.Native.Nat.{ℕ, _+_}
 use mathlib.Core.Bool.{_&&_, cond}
 use mathlib.Core.List.{List, _∷_, _++_}
@@ -11,7 +11,7 @@ use Rattle.esterel.specs.Errors.{blame}
 use Rattle.esterel.specs.LabelTests.{valid}
 use Rattle.esterel.specs.Resume.{Instant, instant}
 use Rattle.esterel.specs.Machines.{shown, State}
-use Rattle.limits.specs.Limits.{labelBytes, placeBytes, signalBytes}
+use Rattle.limits.specs.Limits.{labelBytes, placeBytes, signalBytes, takenBytes}
 use Rattle.numbers.specs.Bytes.{leBytes, leNumber}
 
 -- ---- layout: where a field of several bytes begins, and the lengths
@@ -27,8 +27,11 @@ placeAt = 2
 abbrev pub emittedAt : ℕ
 emittedAt = placeAt + placeBytes
 
+abbrev pub takenAt : ℕ
+takenAt = emittedAt + signalBytes
+
 abbrev pub answerLength : ℕ
-answerLength = emittedAt + signalBytes
+answerLength = takenAt + takenBytes
 
 -- a buffer that a record is written to; one of another length is left
 abbrev pub replaced : (buffer bytes : List ℕ) → List ℕ
@@ -64,9 +67,10 @@ decode p phase labels =
 unfoldable pub decodeState : Statement → List ℕ → Decoded
 decodeState p state = decode p (phaseIn state) (labelsIn state)
 
--- ---- the answer record: code, kind, place, emitted set
-abbrev pub answerRecord : (code kind place emitted : ℕ) → List ℕ
-answerRecord code kind place emitted = (code ∷ kind ∷ leBytes placeBytes place) ++ leBytes signalBytes emitted
+-- ---- the answer record: code, kind, place, emitted set, number of reactions
+abbrev pub answerRecord : (code kind place emitted taken : ℕ) → List ℕ
+answerRecord code kind place emitted taken =
+    ((code ∷ kind ∷ leBytes placeBytes place) ++ leBytes signalBytes emitted) ++ leBytes takenBytes taken
 
 abbrev pub codeIn : List ℕ → ℕ
 codeIn answer = getD answer 0 0
@@ -80,6 +84,9 @@ placeIn answer = leNumber (take placeBytes (drop placeAt answer))
 abbrev pub emittedIn : List ℕ → ℕ
 emittedIn answer = leNumber (take signalBytes (drop emittedAt answer))
 
+abbrev pub takenIn : List ℕ → ℕ
+takenIn answer = leNumber (take takenBytes (drop takenAt answer))
+
 -- what an instant answers: its code
 abbrev pub codeByte : Code → ℕ
 codeByte ended = 0
@@ -88,4 +95,4 @@ codeByte (leaving n) = n + 1
 codeByte wrong = 255
 
 unfoldable pub encodeAnswer : Instant → List ℕ
-encodeAnswer (instant (gives o k l p′) x) = answerRecord (codeByte k) (blame k x .kind) (blame k x .place) (shown k o)
+encodeAnswer (instant (gives o k l p′) x n) = answerRecord (codeByte k) (blame k x .kind) (blame k x .place) (shown k o) n

@@ -1,11 +1,13 @@
-// The answer record: code, kind and place of an error, emitted set.
+// The answer record: code, kind and place of an error, emitted set, number of reactions.
 ghost use mathlib.Core.Path.{_≡_};
-ghost use Rattle.records.specs.Records.{replaced, codeIn, kindIn, placeIn, emittedIn, answerRecord};
+ghost use Rattle.records.specs.Records.{replaced, codeIn, kindIn, placeIn, emittedIn, takenIn, answerRecord};
 use crate::layout::ANSWER_LENGTH;
 use crate::layout::EMITTED_AT;
 use crate::layout::PLACE_AT;
+use crate::layout::TAKEN_AT;
 use limits::PLACE_BYTES;
 use limits::SIGNAL_BYTES;
+use limits::TAKEN_BYTES;
 
 pub fn code(answer: &[u8]) -> u8
     ensures { λ r. ⌜ r ≡ codeIn (now (answer .entry)) ⌝ }
@@ -31,9 +33,22 @@ pub fn emitted(answer: &[u8]) -> u32
     numbers::get_le(answer, EMITTED_AT, SIGNAL_BYTES) as u32
 }
 
+pub fn taken(answer: &[u8]) -> u32
+    ensures { λ r. ⌜ r ≡ takenIn (now (answer .entry)) ⌝ }
+{
+    numbers::get_le(answer, TAKEN_AT, TAKEN_BYTES) as u32
+}
+
 // A buffer of another length is left as it is.
-pub fn write_answer(answer: &mut [u8], code: u8, kind: u8, place: u16, emitted: u32)
-    ensures { λ _. ⌜ now (answer .exit) ≡ replaced (now (answer .entry)) (answerRecord code kind place emitted) ⌝ }
+pub fn write_answer(
+    answer: &mut [u8],
+    code: u8,
+    kind: u8,
+    place: u16,
+    emitted: u32,
+    taken: u32,
+)
+    ensures { λ _. ⌜ now (answer .exit) ≡ replaced (now (answer .entry)) (answerRecord code kind place emitted taken) ⌝ }
 {
     if answer.len() != ANSWER_LENGTH {
         return;
@@ -42,4 +57,5 @@ pub fn write_answer(answer: &mut [u8], code: u8, kind: u8, place: u16, emitted: 
     answer[1] = kind;
     crate::fields::put_le(answer, PLACE_AT, PLACE_BYTES, place as u64);
     crate::fields::put_le(answer, EMITTED_AT, SIGNAL_BYTES, emitted as u64);
+    crate::fields::put_le(answer, TAKEN_AT, TAKEN_BYTES, taken as u64);
 }

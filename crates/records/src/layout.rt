@@ -2,6 +2,7 @@
 use limits::LABEL_BYTES;
 use limits::PLACE_BYTES;
 use limits::SIGNAL_BYTES;
+use limits::TAKEN_BYTES;
 
 pub const LABELS_AT: usize = 1;
 
@@ -11,4 +12,6 @@ pub const PLACE_AT: usize = 2;
 
 pub const EMITTED_AT: usize = PLACE_AT + PLACE_BYTES;
 
-pub const ANSWER_LENGTH: usize = EMITTED_AT + SIGNAL_BYTES;
+pub const TAKEN_AT: usize = EMITTED_AT + SIGNAL_BYTES;
+
+pub const ANSWER_LENGTH: usize = TAKEN_AT + TAKEN_BYTES;

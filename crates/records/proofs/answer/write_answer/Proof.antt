@@ -5,8 +5,8 @@ use mathlib.Core.List.{List}
 use lib.ListN.{length-set}
 use lib.Seq.{sets}
 use Rattle.numbers.specs.Bytes.{leBytes}
-use Rattle.limits.specs.Limits.{signalBytes}
-use Rattle.records.specs.Records.{answerLength, answerRecord}
+use Rattle.limits.specs.Limits.{signalBytes, takenBytes}
+use Rattle.records.specs.Records.{answerLength, emittedAt, takenAt, answerRecord}
 use Rattle.records.proofs.Stores.{left-alone, answer-stored}
 use Rattle.records.proofs.RecordLaws.{answer-sized}
 use borrow.Author.Needs.{needs}
@@ -19,7 +19,8 @@ use Rattle.records.proofs.fields.put_le.Reads as put-le-reads
 returns : tie.Need-returns
 returns c =
     let a = c .before .before .args in
-    left-alone answerLength (a .answer .now) (answerRecord (a .code) (a .kind) (a .place) (a .emitted)) (answer-sized (a .code) (a .kind) (a .place) (a .emitted)) (c .if1 .taken)
+    left-alone answerLength (a .answer .now) (answerRecord (a .code) (a .kind) (a .place) (a .emitted) (a .taken))
+    (answer-sized (a .code) (a .kind) (a .place) (a .emitted) (a .taken)) (c .if1 .taken)
 
 slice-write-answer : tie.Need-slice-write-answer
 slice-write-answer c = search needs
@@ -33,16 +34,27 @@ put-le-requires c κs = simp length-set (omega arith)
 put-le-requires-2 : tie.Need-put-le-requires-2
 put-le-requires-2 c κs = omega (arith, simp length-set at (c .before .before .before .put-le .kept .0))
 
+put-le-requires-3 : tie.Need-put-le-requires-3
+put-le-requires-3 c κs =
+    let d = c .before .before .before in
+    omega (arith, d .put-le2 .kept .0, simp length-set at (d .before .before .before .before .put-le .kept .0))
+
 same-length : tie.Need-same-length
 same-length c =
-    c .before .before .put-le2 .kept .0 ∙ c .before .before .before .before .before .before .put-le .kept .0 ∙ simp length-set
+    let d = c .before .before in
+    d .put-le3 .kept .0 ∙ d .before .before .before .before .put-le2 .kept .0
+    ∙ d .before .before .before .before .before .before .before .before .put-le .kept .0 ∙ simp length-set
 
 returns-2 : tie.Need-returns-2
 returns-2 c =
-    let s = c .before .before .before .before .before .before .before .before .before .before in
-    c .before .before .put-le2 .ensures
-    ∙ ap (λ (l : List ℕ). sets l 4 (leBytes signalBytes (s .args .emitted))) (c .before .before .before .before .before .before .put-le .ensures)
-    ∙ answer-stored (s .args .code) (s .args .kind) (s .args .place) (s .args .emitted) (s .args .answer .now) (c .before .before .before .before .before .before .before .before .if1 .left)
+    let d = c .before .before in
+    let e = d .before .before .before .before in
+    let f = e .before .before .before .before in
+    let s = f .before .before .before .before .args in
+    d .put-le3 .ensures
+    ∙ ap (λ (l : List ℕ). sets l takenAt (leBytes takenBytes (s .taken)))
+    (e .put-le2 .ensures ∙ ap (λ (l : List ℕ). sets l emittedAt (leBytes signalBytes (s .emitted))) (f .put-le .ensures))
+    ∙ answer-stored (s .code) (s .kind) (s .place) (s .emitted) (s .taken) (s .answer .now) (f .before .before .if1 .left)
 
 pub write-answer-spec : {M : Type 1} → statement M
 write-answer-spec =
@@ -53,5 +65,6 @@ write-answer-spec =
     slice-write-answer-2
     put-le-requires
     put-le-requires-2
+    put-le-requires-3
     same-length
     returns-2)
