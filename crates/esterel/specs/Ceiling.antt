@@ -98,10 +98,10 @@ shorter (suc k) = seq (shorter k) (row k)
 unfoldable pub hundred : Statement
 hundred = signal local 0 0 (signal local 2 1 (signal local 4 2 (signal local 6 3 (signal local 8 4 (signal local 10 5 (shorter 5))))))
 
-hundred-takes : (commands hundred ≡ 100) × (nesting hundred ≡ 6) × (ceiling hundred ≡ 6400) × (reactions hundred 0 ≡ 6079)
+pub hundred-takes : (commands hundred ≡ 100) × (nesting hundred ≡ 6) × (ceiling hundred ≡ 6400) × ((e : ℕ) → reactions hundred e ≡ 6079)
     × (dearest 6 100 ≡ 6080)
 unfolding reactionsBy reactBy commands nesting loopNesting ceiling dearest hundred row shorter member none only join insert remove
-hundred-takes = (refl, refl, refl, refl, refl)
+hundred-takes = (refl, refl, refl, λ e. refl, refl)
 
 -- 06 01 00, whose resumed instant takes 4 (specs/Reactions); and read-back declarations count as commands and as signals
 reached : (ceiling (loop 0 (pause 0)) ≡ 4) × (ceiling (loop 0 (suspend 0 (pause 0))) ≡ 6)

@@ -1,22 +1,22 @@
--- The number of reactions of an instant: at least 1, that of the uses of rules in a derivation, and, where the instant is not wrong,
--- the same by both orders of the signal rules.
+-- The number of reactions of an instant: at least 1, that of the uses of rules in a derivation, and the same by both orders of the
+-- signal rules where no two of the printed rules fit.
 use Prim.Native.Nat.{ℕ, _+_, _≤_}
 use mathlib.Core.Path.{_≡_, refl, ap}
 use mathlib.Core.Logic.{_≢_}
-use mathlib.Core.Bool.{Bool, true, false, cond}
-use mathlib.Core.List.{List, [], append-eq-nil-iff}
+use mathlib.Core.Bool.{Bool, true, false, _||_, cond}
 use native.Mathlib.Nat.{le-refl}
 use native.Mathlib.Omega.{arith}
 use Rattle.esterel.specs.Sets.{member, insert, remove}
 use Rattle.esterel.specs.Statement.{Statement, nothing, pause, emit, exit, seq, par, loop, present, signal, try, setpause, suspend, held}
 use Rattle.esterel.specs.Reaction.{Code, ended, waiting, leaving, wrong, isWrong, Reaction, code, printed, reactBy, react}
 use Rattle.esterel.specs.Rules.{Reacts}
-use Rattle.esterel.specs.Errors.{Error, ifEnded, errorsBy, errors}
+use Rattle.esterel.specs.Errors.{ifEnded}
 use Rattle.esterel.specs.Reactions.{reactionsBy, reactions, rulesUsed}
+use Rattle.esterel.specs.SignalOrders.{overlaps, overlap}
 use Rattle.esterel.specs.Ceiling.{commands}
-use Rattle.theory.proofs.Booleans.{never}
-use Rattle.theory.proofs.Rules.{wrong-is, sound}
-use Rattle.theory.proofs.SignalOrders.{kept, wrong-iff-error}
+use Rattle.theory.proofs.Booleans.{or-first, or-second, never, clash}
+use Rattle.theory.proofs.Rules.{sound}
+use Rattle.theory.proofs.SignalOrders.{unchanged, overlap-wrong}
 
 -- ---- what may not react
 pub if-ended : (k : Code) (y : ℕ) → ifEnded k y 0 ≤ y
@@ -97,48 +97,47 @@ rules-used (Reacts.suspend d) = rw (rules-used d)
 rules-used (Reacts.held+ i) = rw i
 rules-used (Reacts.held− i d) = rw (i, rules-used d)
 
--- ---- orders of the signal rules: a tree without an error has none in its parts
-same-on : (k : Code) (xs : List Error) {x y : ℕ} → (xs ≡ [] → x ≡ y) → ifEnded k xs [] ≡ [] → ifEnded k x 0 ≡ ifEnded k y 0
-same-on ended xs f h = f h
-same-on waiting xs f h = refl
-same-on (leaving n) xs f h = refl
-same-on wrong xs f h = refl
+-- ---- orders of the signal rules
+same-on : (k : Code) (x : Bool) {n m : ℕ} → (x ≡ false → n ≡ m) → ifEnded k x false ≡ false → ifEnded k n 0 ≡ ifEnded k m 0
+same-on ended x f h = f h
+same-on waiting x f h = refl
+same-on (leaving n) x f h = refl
+same-on wrong x f h = refl
 
-same-either : (b : Bool) (xs ys : List Error) {x x′ y y′ : ℕ} → (xs ≡ [] → x ≡ x′) → (ys ≡ [] → y ≡ y′) → cond b xs ys ≡ []
-    → cond b x y ≡ cond b x′ y′
-same-either true xs ys f g h = f h
-same-either false xs ys f g h = g h
+same-either : (b x y : Bool) {n n′ m m′ : ℕ} → (x ≡ false → n ≡ n′) → (y ≡ false → m ≡ m′) → cond b x y ≡ false → cond b n m ≡ cond b n′ m′
+same-either true x y f g h = f h
+same-either false x y f g h = g h
 
-without-error : (p : Statement) (e : ℕ) → errors p e ≡ [] → reactBy printed p e ≡ react p e
-without-error p e h =
-    let k = code (react p e) in
-    kept p e (never (isWrong k) (λ w. wrong-iff-error p e .0 (wrong-is k w) h)) .0
+-- UNCHANGED: where no two of the printed rules fit at a signal, both orders take the same number
+pub reactions-unchanged : (p : Statement) (e : ℕ) → overlap p e ≡ false → reactionsBy printed p e ≡ reactions p e
+unfolding overlap reactionsBy
+reactions-unchanged nothing e h = refl
+reactions-unchanged (pause l) e h = refl
+reactions-unchanged (emit s) e h = refl
+reactions-unchanged (exit n) e h = refl
+reactions-unchanged (seq p q) e h =
+    let k = code (reactBy printed p e) in
+    let x = or-first (overlap p e) (ifEnded k (overlap q e) false) h in
+    let i : ifEnded k (reactionsBy printed q e) 0 ≡ ifEnded k (reactions q e) 0
+    = same-on k (overlap q e) (reactions-unchanged q e) (or-second (overlap p e) (ifEnded k (overlap q e) false) h) in
+    rw (i, reactions-unchanged p e x, unchanged p e x)
+reactions-unchanged (par p q) e h =
+    rw (reactions-unchanged p e (or-first (overlap p e) (overlap q e) h), reactions-unchanged q e (or-second (overlap p e) (overlap q e) h))
+reactions-unchanged (loop a p) e h = rw (reactions-unchanged p e h)
+reactions-unchanged (present s p q) e h =
+    ap (λ (n : ℕ). 1 + n) (same-either (member s e) (overlap p e) (overlap q e) (reactions-unchanged p e) (reactions-unchanged q e) h)
+reactions-unchanged (signal sc a s p) e h =
+    let o− = overlap p (remove s e) in
+    let o+ = overlap p (insert s e) in
+    let x = or-first (o− || o+) (overlaps s (reactBy printed p (remove s e)) (reactBy printed p (insert s e))) h in
+    rw (reactions-unchanged p (remove s e) (or-first o− o+ x), reactions-unchanged p (insert s e) (or-second o− o+ x))
+reactions-unchanged (try p) e h = rw (reactions-unchanged p e h)
+reactions-unchanged (setpause l) e h = refl
+reactions-unchanged (suspend s p) e h = rw (reactions-unchanged p e h)
+reactions-unchanged (held s K p) e h =
+    ap (λ (n : ℕ). 1 + n) (same-either (member s e) false (overlap p e) (λ x. refl) (reactions-unchanged p e) h)
 
-same-number : (p : Statement) (e : ℕ) → errors p e ≡ [] → reactionsBy printed p e ≡ reactions p e
-unfolding errorsBy reactionsBy
-same-number nothing e h = refl
-same-number (pause l) e h = refl
-same-number (emit s) e h = refl
-same-number (exit n) e h = refl
-same-number (seq p q) e h =
-    let x = append-eq-nil-iff .0 h in
-    let i = same-number p e (x .0) in
-    let k = without-error p e (x .0) in
-    rw (i, k) (ap (λ (n : ℕ). 1 + reactions p e + n) (same-on (code (react p e)) (errors q e) (same-number q e) (x .1)))
-same-number (par p q) e h =
-    let x = append-eq-nil-iff .0 h in rw (same-number p e (x .0), same-number q e (x .1))
-same-number (loop a p) e h = rw (same-number p e (append-eq-nil-iff .0 h .0))
-same-number (present s p q) e h =
-    ap (λ (n : ℕ). 1 + n) (same-either (member s e) (errors p e) (errors q e) (same-number p e) (same-number q e) h)
-same-number (signal sc a s p) e h =
-    let x = append-eq-nil-iff .0 (append-eq-nil-iff .0 h .0) in
-    rw (same-number p (remove s e) (x .0), same-number p (insert s e) (x .1))
-same-number (try p) e h = rw (same-number p e h)
-same-number (setpause l) e h = refl
-same-number (suspend s p) e h = rw (same-number p e h)
-same-number (held s K p) e h =
-    ap (λ (n : ℕ). 1 + n) (same-either (member s e) [] (errors p e) (λ x. refl) (same-number p e) h)
-
--- KEPT
+-- KEPT: so do they where the instant is not wrong
 pub reactions-kept : (p : Statement) (e : ℕ) → isWrong (code (react p e)) ≡ false → reactionsBy printed p e ≡ reactions p e
-reactions-kept p e h = same-number p e (kept p e h .2)
+reactions-kept p e h =
+    reactions-unchanged p e (never (overlap p e) (λ o. clash (isWrong (code (react p e))) (ap isWrong (overlap-wrong p e o)) h))

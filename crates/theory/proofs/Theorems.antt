@@ -1,6 +1,6 @@
 -- The theorems of this crate in the words of the papers, each a line or two over the files beside it. Others stand
 -- where they are proved: `reacts-is` of Rules (003, corollary 11), `uses-is` and `first-use` of Derivations, `figure-5` of Figure5.
-use Prim.Native.Nat.{ℕ}
+use Prim.Native.Nat.{ℕ, _+_, _-_, _*_, _^_, _≤_, min}
 use mathlib.Core.Path.{_≡_, refl, sym, _∙_}
 use mathlib.Core.Logic.{_↔_, _≢_}
 use mathlib.Core.Bool.{true, false}
@@ -10,8 +10,10 @@ use Rattle.esterel.specs.Sets.{member, none}
 use Rattle.esterel.specs.Statement.{Statement, pause, suspend}
 use Rattle.esterel.specs.Reaction.{ended, waiting, leaving, wrong, Reaction, gives, emitted, code, labels, residual, isWrong, printed, reactBy, react}
 use Rattle.esterel.specs.Errors.{errorsBy, errors, firstErrorBy, firstError}
-use Rattle.esterel.specs.Reactions.{reactions}
+use Rattle.esterel.specs.Reactions.{reactionsBy, reactions, rulesUsed}
 use Rattle.esterel.specs.SignalOrders.{overlap}
+use Rattle.esterel.specs.Rules.{Reacts}
+use Rattle.esterel.specs.Ceiling.{commands, nesting, ceiling, LoopFree, dearest}
 use Rattle.esterel.specs.States.{Holds, active, Valid, Distinct, Targeted, NoSetpause, Source, WellFormed}
 use Rattle.esterel.specs.Expansion.{expand}
 use Rattle.esterel.specs.LabelTests.{activeLabels}
@@ -22,6 +24,9 @@ use Rattle.esterel.specs.Machines.{run, reached, State, byLabels, Rewriting, by
 use Rattle.theory.proofs.Booleans.{never, clash, Tested, tested}
 use Rattle.theory.proofs.Rules.{wrong-is}
 use Rattle.theory.proofs.SignalOrders.{kept, wrong-iff-error, same-first, unchanged, overlap-wrong}
+use Rattle.theory.proofs.Reactions.{rules-used, reactions-kept}
+use Rattle.theory.proofs.Ceiling as ceilings
+use Rattle.theory.proofs.Dearest as dearests
 use Rattle.theory.proofs.Activity.{Awake, active-is, activeLabels-is, expand-suspend}
 use Rattle.theory.proofs.Invariant.{Fits}
 use Rattle.theory.proofs.Residual.{Remains, residual-fresh, residual-resumed}
@@ -143,10 +148,12 @@ pub held-labels-unseen-run : (t u : Statement) → erase t ≡ erase u → (es :
 held-labels-unseen-run = erased-run
 
 -- 8. ORDERS of the signal rules (02, item 4). An instant that is not wrong is as it was by the printed order: code, emitted set,
--- labels and residual, with no error in either tree
+-- labels and residual, in as many reactions, with no error in either tree
 pub not-wrong-kept : (p : Statement) (e : ℕ) → code (react p e) ≢ wrong
-    → (reactBy printed p e ≡ react p e) × (errorsBy printed p e ≡ []) × (errors p e ≡ [])
-not-wrong-kept p e n = kept p e (never (isWrong (code (react p e))) (λ h. n (wrong-is (code (react p e)) h)))
+    → (reactBy printed p e ≡ react p e) × (reactionsBy printed p e ≡ reactions p e) × (errorsBy printed p e ≡ []) × (errors p e ≡ [])
+not-wrong-kept p e n =
+    let w = never (isWrong (code (react p e))) (λ h. n (wrong-is (code (react p e)) h)) in
+    let k = kept p e w in (k .0, reactions-kept p e w, k .1, k .2)
 
 -- it is wrong exactly if its tree has an error (003, lemma 12)
 pub wrong-is-error : (p : Statement) (e : ℕ) → (code (react p e) ≡ wrong) ↔ (errors p e ≢ [])
@@ -182,3 +189,19 @@ pub declared-not-read : (a : ℕ) (ss : List ℕ) (p : Statement) (e e′ : ℕ)
 declared-not-read a ss p e e′ h =
     sym (start-declared a ss p (start p) (λ x. refl) e) ∙ declared-unread a ss (start p) e e′ h
     ∙ start-declared a ss p (start p) (λ x. refl) e′
+
+-- 10. THE NUMBER OF REACTIONS (02, item 6) is that of the rules used in any derivation
+pub number-of-rules : {p : Statement} {e : ℕ} {r : Reaction} (d : Reacts p e r) → rulesUsed d ≡ reactions p e
+number-of-rules = rules-used
+
+-- it never exceeds the ceiling, fresh or resumed with any label set
+pub ceiling-holds : (p : Statement) (e : ℕ) → (reactions p e ≤ ceiling p) × ((L : ℕ) → reactions (expand p L) e ≤ ceiling p)
+ceiling-holds p e = (ceilings.fresh-below p e, λ L. ceilings.resumed-below p L e)
+
+-- what no loop-free statement exceeds, by its commands and the signals around one; as a product
+pub dearest-holds : (g : ℕ) (p : Statement) (e : ℕ) → nesting p ≤ g
+    → (1 + reactions p e ≤ dearest g (commands p)) × (LoopFree p → (L : ℕ) → 1 + reactions (expand p L) e ≤ dearest g (commands p))
+dearest-holds g p e h = (dearests.fresh-dearest g p e h, λ f L. dearests.resumed-dearest g p L e f h)
+
+pub dearest-product : (g n : ℕ) → let k = min g (n - 1) in dearest g n ≡ 2 ^ k * (n - k + 1)
+dearest-product = dearests.dearest-is
