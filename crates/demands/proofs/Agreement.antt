@@ -12,6 +12,7 @@ use Rattle.esterel.specs.Sets.{none}
 use Rattle.esterel.specs.Statement.{Statement}
 use Rattle.esterel.specs.Reaction.{code, react, inheritanceFirst}
 use Rattle.esterel.specs.Errors.{firstError}
+use Rattle.esterel.specs.Reactions.{reactions}
 use Rattle.esterel.specs.States.{NoSetpause}
 use Rattle.esterel.specs.Expansion.{expand}
 use Rattle.esterel.specs.Machines.{State, stateAfter, byLabels, Rewriting, byRewriting}
@@ -29,7 +30,7 @@ use Rattle.records.proofs.RecordLaws.{Recorded, length-state, decode-encode}
 use Rattle.demands.proofs.Reports.{report-written}
 use Rattle.demands.proofs.Bounds.{emitted-below}
 use Rattle.demands.proofs.ErrorPlaces.{place-fits}
-use Rattle.demands.proofs.Sequence.{same-statement, Accepted, accepted, tick-at, tick-short, term-source, term-distinct, recorded-fresh, recorded-resumed, bounded-fresh, bounded-resumed, places-fresh, places-resumed}
+use Rattle.demands.proofs.Sequence.{same-statement, Accepted, accepted, tick-at, tick-short, term-source, term-distinct, recorded-fresh, recorded-resumed, bounded-fresh, bounded-resumed, places-fresh, places-resumed, counted-fresh, counted-resumed}
 
 module _ (sequence : List ℕ) (readBack : ℕ) (a : Accepted sequence readBack) (plain : NoSetpause (a .statement)) where
   abbrev p : Statement
@@ -78,8 +79,9 @@ module _ (sequence : List ℕ) (readBack : ℕ) (a : Accepted sequence readBack)
       let t = same-step State.fresh w h e in
       record {
         state = stateAfter (react q e);
-        same = report-written (react q e) (firstError q e) (emitted-below q e (bounded-fresh sequence readBack a))
+        same = report-written (react q e) (firstError q e) (reactions q e) (emitted-below q e (bounded-fresh sequence readBack a))
             (place-fits (256 ^ placeBytes) q e (code (react q e)) (omega arith) (places-fresh sequence readBack a))
+            (counted-fresh sequence readBack a e)
             ∙ ap reportOf (t .0);
         bytes = refl;
         term = t .1;
@@ -89,8 +91,10 @@ module _ (sequence : List ℕ) (readBack : ℕ) (a : Accepted sequence readBack)
       let t = same-step (State.waits L) w h e in
       record {
         state = stateAfter (react (expand q L) e);
-        same = report-written (react (expand q L) e) (firstError (expand q L) e) (emitted-below (expand q L) e (bounded-resumed sequence readBack a L))
+        same = report-written (react (expand q L) e) (firstError (expand q L) e) (reactions (expand q L) e)
+            (emitted-below (expand q L) e (bounded-resumed sequence readBack a L))
             (place-fits (256 ^ placeBytes) (expand q L) e (code (react (expand q L) e)) (omega arith) (places-resumed sequence readBack a L))
+            (counted-resumed sequence readBack a L e)
             ∙ ap reportOf (t .0);
         bytes = refl;
         term = t .1;

@@ -7,6 +7,7 @@ use lib.ListN.{length, replicate}
 use Rattle.esterel.specs.Sets.{none, only, member, join, insert, remove}
 use Rattle.esterel.specs.Reaction.{reactBy}
 use Rattle.esterel.specs.Errors.{errorsBy}
+use Rattle.esterel.specs.Reactions.{reactionsBy}
 use Rattle.esterel.specs.LabelTests.{subset, disjoint, labelsOf, everyLabel, distinct, before, wellFormed, valid}
 use Rattle.esterel.specs.States.{active}
 use Rattle.esterel.specs.Expansion.{expand}
@@ -22,24 +23,24 @@ use Rattle.demands.specs.Bays.{Bay, Instant, table, shownBy, instants, S
 use Rattle.demands.proofs.ReadBack.{plain-tick}
 
 -- ---- in each instant
--- after code 1 with label 0
-abbrev waiting : Outcome
-waiting = outcome 0 (1 ∷ 1 ∷ replicate 7 0) (1 ∷ replicate 7 0)
+-- after code 1 with label 0, in n reactions
+abbrev waitsIn : ℕ → Outcome
+waitsIn n = outcome 0 (1 ∷ 1 ∷ replicate 7 0) (1 ∷ 0 ∷ 0 ∷ 0 ∷ 0 ∷ 0 ∷ 0 ∷ 0 ∷ n ∷ 0 ∷ 0 ∷ 0 ∷ [])
 
--- a tick that gives the same from a cleared record and from its own result shows it in each instant
-module _ (bytes buffer : List ℕ) (o : Outcome) (first : tickOf bytes cleared 0 none buffer ≡ o)
-    (again : tickOf bytes (stateAfterwards o) 0 none buffer ≡ o) where
+-- a tick that waits so from a cleared record, in n reactions, and from its own result, in m, shows that in each instant
+module _ (bytes buffer : List ℕ) (n m : ℕ) (first : tickOf bytes cleared 0 none buffer ≡ waitsIn n)
+    (again : tickOf bytes (stateAfterwards (waitsIn n)) 0 none buffer ≡ waitsIn m) where
   abbrev c : Call
   c = record { input = 0; buffer = buffer }
 
-  then-on : (n : ℕ) (state : List ℕ) → tickOf bytes state 0 none buffer ≡ o
-      → map shownBy (outcomes tickOf bytes none state (replicate n c)) ≡ replicate n (shownBy o)
+  then-on : (k i : ℕ) (state : List ℕ) → tickOf bytes state 0 none buffer ≡ waitsIn i
+      → map shownBy (outcomes tickOf bytes none state (replicate k c)) ≡ replicate k (shownBy (waitsIn n))
   unfolding outcomes
-  then-on zero state e = refl
-  then-on (suc n) state e = rw e (ap (λ (is : List Instant). shownBy o ∷ is) (then-on n (stateAfterwards o) again))
+  then-on zero i state e = refl
+  then-on (suc k) i state e = rw e (ap (λ (is : List Instant). shownBy (waitsIn n) ∷ is) (then-on k m (stateAfterwards (waitsIn n)) again))
 
-  for-ever : (n : ℕ) → instants tickOf bytes buffer n ≡ replicate n (shownBy o)
-  for-ever n = then-on n cleared first
+  for-ever : (k : ℕ) → instants tickOf bytes buffer k ≡ replicate k (shownBy (waitsIn n))
+  for-ever k = then-on k n cleared first
 
 -- ---- all rows of a table
 abbrev EachShows : List Bay → (buffer : List ℕ) → Type 0
@@ -58,15 +59,16 @@ once-shows : (bytes buffer : List ℕ) (shown : Instant) → shownBy (plainTick 
 unfolding outcomes
 once-shows bytes buffer shown h = ap (λ (o : Outcome). shownBy o ∷ []) (plain-tick bytes cleared 0 buffer) ∙ ap (λ (i : Instant). i ∷ []) h
 
-for-ever-plain : (bytes buffer : List ℕ) (o : Outcome) → plainTick bytes cleared 0 buffer ≡ o
-    → plainTick bytes (stateAfterwards o) 0 buffer ≡ o → (n : ℕ) → instants tickOf bytes buffer n ≡ replicate n (shownBy o)
-for-ever-plain bytes buffer o h g =
-    for-ever bytes buffer o (plain-tick bytes cleared 0 buffer ∙ h) (plain-tick bytes (stateAfterwards o) 0 buffer ∙ g)
+for-ever-plain : (bytes buffer : List ℕ) (n m : ℕ) → plainTick bytes cleared 0 buffer ≡ waitsIn n
+    → plainTick bytes (stateAfterwards (waitsIn n)) 0 buffer ≡ waitsIn m → (k : ℕ)
+    → instants tickOf bytes buffer k ≡ replicate k (shownBy (waitsIn n))
+for-ever-plain bytes buffer n m h g =
+    for-ever bytes buffer n m (plain-tick bytes cleared 0 buffer ∙ h) (plain-tick bytes (stateAfterwards (waitsIn n)) 0 buffer ∙ g)
 
 module _ (buffer : List ℕ) (sized : length buffer ≡ answerLength) where
   all-rows : EachShows table buffer
-  unfolding table plainTick plainChecked read front commandOf distinct wellFormed everyLabel before labelsOf valid subset disjoint active expand decodeState encodeState encodeAnswer leNumber leBytes reactBy errorsBy member none only join insert remove
-  all-rows = (once-shows _ buffer _ (rw sized), (once-shows _ buffer _ (rw sized), (once-shows _ buffer _ (rw sized), (once-shows _ buffer _ (rw sized), (once-shows _ buffer _ (rw sized), (for-ever-plain _ buffer waiting (rw sized) (rw sized), (once-shows _ buffer _ (rw sized), (once-shows _ buffer _ (rw sized), (once-shows _ buffer _ (rw sized), (once-shows _ buffer _ (rw sized), (for-ever-plain _ buffer waiting (rw sized) (rw sized), tt)))))))))))
+  unfolding table plainTick plainChecked read front commandOf distinct wellFormed everyLabel before labelsOf valid subset disjoint active expand decodeState encodeState encodeAnswer leNumber leBytes reactBy errorsBy reactionsBy member none only join insert remove
+  all-rows = (once-shows _ buffer _ (rw sized), (once-shows _ buffer _ (rw sized), (once-shows _ buffer _ (rw sized), (once-shows _ buffer _ (rw sized), (once-shows _ buffer _ (rw sized), (for-ever-plain _ buffer 2 4 (rw sized) (rw sized), (once-shows _ buffer _ (rw sized), (once-shows _ buffer _ (rw sized), (once-shows _ buffer _ (rw sized), (once-shows _ buffer _ (rw sized), (for-ever-plain _ buffer 12 20 (rw sized) (rw sized), tt)))))))))))
 
 -- THE STARRED BAYS: each row of the table, for any answer buffer of the right length
 pub starred : (b : Bay) → List·Memᴰ b table → (buffer : List ℕ) → length buffer ≡ answerLength → ShowsBay tickOf b buffer

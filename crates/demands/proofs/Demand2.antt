@@ -11,6 +11,7 @@ use Rattle.esterel.specs.Sets.{none}
 use Rattle.esterel.specs.Statement.{Statement}
 use Rattle.esterel.specs.Reaction.{Code, ended, waiting, leaving, wrong, Reaction, gives, emitted, code, react, Order, inheritanceFirst}
 use Rattle.esterel.specs.Errors.{Error, firstError, uses}
+use Rattle.esterel.specs.Reactions.{reactions}
 use Rattle.esterel.specs.States.{Valid}
 use Rattle.esterel.specs.Expansion.{expand}
 use Rattle.esterel.specs.Resume.{instant, startBy}
@@ -19,22 +20,23 @@ use Rattle.esterel.specs.Rules.{Reacts}
 use Rattle.theory.proofs.Rules.{reacts-is}
 use Rattle.theory.proofs.SignalOrders.{wrong-named}
 use Rattle.theory.proofs.Derivations.{first-use}
+use Rattle.theory.proofs.Reactions.{rules-used}
 use Rattle.theory.proofs.LabelTests.{valid-is}
-use Rattle.limits.specs.Limits.{signalCount, placeBytes}
+use Rattle.limits.specs.Limits.{signalCount, placeBytes, takenBytes}
 use Rattle.sequence.specs.Program.{program}
 use Rattle.sequence.specs.Check.{checkOf}
 use Rattle.sequence.proofs.Rows.{check-by-rows}
 use Rattle.limits.specs.Limits.{signalBytes}
-use Rattle.records.specs.Records.{stateLength, answerLength, Decoded, holds, decodeState, encodeAnswer, codeByte, phaseIn, labelsIn, kindIn, placeIn}
+use Rattle.records.specs.Records.{stateLength, answerLength, Decoded, holds, decodeState, encodeAnswer, codeByte, phaseIn, labelsIn, kindIn, placeIn, takenIn}
 use Rattle.demands.specs.Tick.{written, tickBy, tickOf}
 use Rattle.demands.specs.TickRows.{TickRow, row-1, row-2-to-10, row-11, row-12}
 use Rattle.demands.specs.Demands.{number, StandsAt, at-start, at-labels, Shows, Demand2}
-use Rattle.records.proofs.RecordLaws.{code-field, kind-field, place-field, emitted-field, blameless, wrong-blame, answer-is, length-answer}
+use Rattle.records.proofs.RecordLaws.{code-field, kind-field, place-field, emitted-field, taken-field, blameless, wrong-blame, answer-is, length-answer}
 use Rattle.demands.proofs.Bounds.{Below, Bounded, emitted-below, Exits, code-exits}
 use Rattle.demands.proofs.ErrorPlaces.{PlacesBelow, place-fits}
 use Rattle.demands.proofs.Reports.{shown-below}
 use Rattle.demands.proofs.TickRows.{Reading, reads-fresh, reads-waiting, reads-over, reads-malformed, reading, tick-by-rows}
-use Rattle.demands.proofs.Sequence.{same-statement, Accepted, accepted, tick-at, bounded-fresh, bounded-resumed, places-fresh, places-resumed}
+use Rattle.demands.proofs.Sequence.{same-statement, Accepted, accepted, tick-at, bounded-fresh, bounded-resumed, places-fresh, places-resumed, counted-fresh, counted-resumed}
 
 -- ---- what an instant shows
 pub called-wrong : (k : Code) (c : ℕ) → Exits k → c ≡ codeByte k → (c ≡ 255) ↔ (k ≡ wrong)
@@ -45,7 +47,7 @@ called-wrong wrong c f h = (λ i. refl, λ i. h)
 
 -- a term within the widths of the records
 abbrev pub Fitting : Statement → Type 0
-Fitting t = Bounded t × PlacesBelow (256 ^ placeBytes) t
+Fitting t = Bounded t × PlacesBelow (256 ^ placeBytes) t × ((e : ℕ) → reactions t e < 256 ^ takenBytes)
 
 module _ (t : Statement) (e : ℕ) (f : Fitting t) where
   shown-right : (o : ℕ) (k : Code) → k ≢ wrong → shown k o ≡ o
@@ -55,40 +57,45 @@ module _ (t : Statement) (e : ℕ) (f : Fitting t) where
   shown-right o wrong h = absurd (h refl)
 
   shows : (o : ℕ) (k : Code) (l : ℕ) (t′ : Statement) → gives o k l t′ ≡ react t e
-      → Shows t e o k l t′ (written (instant (gives o k l t′) (firstError t e)))
+      → Shows t e o k l t′ (written (instant (gives o k l t′) (firstError t e) (reactions t e)))
   shows o k l t′ h =
       let fits : shown k o < 256 ^ signalBytes =
       shown-below o k (subst (λ (r : Reaction). Below signalCount (emitted r)) (sym h) (emitted-below t e (f .0))) in
       record {
         an-instant = refl;
         moved = refl;
-        answered = answer-is o k l t′ (firstError t e);
-        sized = length-answer o k l t′ (firstError t e);
-        code = code-field o k l t′ (firstError t e);
+        answered = answer-is o k l t′ (firstError t e) (reactions t e);
+        sized = length-answer o k l t′ (firstError t e) (reactions t e);
+        code = code-field o k l t′ (firstError t e) (reactions t e);
         called-wrong = called-wrong k _ (subst (λ (r : Reaction). Exits (code r)) (sym h) (code-exits inheritanceFirst t e (f .0)))
-            (code-field o k l t′ (firstError t e));
-        emitted = λ i. emitted-field o k l t′ (firstError t e) fits ∙ shown-right o k i;
-        nothing-shown = λ i. emitted-field o k l t′ (firstError t e) fits ∙ ap (λ (j : Code). shown j o) i;
+            (code-field o k l t′ (firstError t e) (reactions t e));
+        emitted = λ i. emitted-field o k l t′ (firstError t e) (reactions t e) fits ∙ shown-right o k i;
+        nothing-shown = λ i. emitted-field o k l t′ (firstError t e) (reactions t e) fits ∙ ap (λ (j : Code). shown j o) i;
         named = named;
         unnamed = λ i. (
-          kind-field o k l t′ (firstError t e) ∙ ap (λ (b : Error). b .kind) (blameless k (firstError t e) i),
-          place-field o k l t′ (firstError t e) (place-fits (256 ^ placeBytes) t e k (omega arith) (f .1))
+          kind-field o k l t′ (firstError t e) (reactions t e) ∙ ap (λ (b : Error). b .kind) (blameless k (firstError t e) i),
+          place-field o k l t′ (firstError t e) (reactions t e) (place-fits (256 ^ placeBytes) t e k (omega arith) (f .1))
               ∙ ap (λ (b : Error). b .place) (blameless k (firstError t e) i),
         );
+        counted = counts;
+        counted-rules = λ d. counts ∙ sym (rules-used d);
       }
     where
+      counts : takenIn (encodeAnswer (instant (gives o k l t′) (firstError t e) (reactions t e))) ≡ reactions t e
+      counts = taken-field o k l t′ (firstError t e) (reactions t e) (f .2 e)
+
       named : k ≡ wrong
           → (x : Error) × (firstError t e ≡ some x) × ((d : Reacts t e (gives o k l t′)) → head? (uses d) ≡ some x)
-          × (kindIn (encodeAnswer (instant (gives o k l t′) (firstError t e))) ≡ x .kind)
-          × (placeIn (encodeAnswer (instant (gives o k l t′) (firstError t e))) ≡ x .place)
+          × (kindIn (encodeAnswer (instant (gives o k l t′) (firstError t e) (reactions t e))) ≡ x .kind)
+          × (placeIn (encodeAnswer (instant (gives o k l t′) (firstError t e) (reactions t e))) ≡ x .place)
       named i =
           let w = wrong-named t e (sym (ap code h) ∙ i) in
           let b = wrong-blame k (firstError t e) (w .0) i (w .1) in (
             w .0,
             w .1,
             λ d. first-use d ∙ w .1,
-            kind-field o k l t′ (firstError t e) ∙ ap (λ (y : Error). y .kind) b,
-            place-field o k l t′ (firstError t e) (place-fits (256 ^ placeBytes) t e k (omega arith) (f .1)) ∙ ap (λ (y : Error). y .place) b,
+            kind-field o k l t′ (firstError t e) (reactions t e) ∙ ap (λ (y : Error). y .kind) b,
+            place-field o k l t′ (firstError t e) (reactions t e) (place-fits (256 ^ placeBytes) t e k (omega arith) (f .1)) ∙ ap (λ (y : Error). y .place) b,
           )
 
 -- ---- the term of an admitted record
@@ -103,10 +110,10 @@ decode-waiting p state x v = rw (x, valid-is p (labelsIn state) .1 v)
 
 module _ (sequence : List ℕ) (readBack : ℕ) (a : Accepted sequence readBack) where
   program-fits : Fitting (program readBack (a .statement))
-  program-fits = (bounded-fresh sequence readBack a, places-fresh sequence readBack a)
+  program-fits = (bounded-fresh sequence readBack a, places-fresh sequence readBack a, counted-fresh sequence readBack a)
 
   expansion-fits : (L : ℕ) → Fitting (expand (program readBack (a .statement)) L)
-  expansion-fits L = (bounded-resumed sequence readBack a L, places-resumed sequence readBack a L)
+  expansion-fits L = (bounded-resumed sequence readBack a L, places-resumed sequence readBack a L, counted-resumed sequence readBack a L)
 
   -- the tick from a record that stands at t is the instant of t
   pub stands-written : (ord : Order) (state : List ℕ) (e : ℕ) (answer : List ℕ) → length state ≡ stateLength → length answer ≡ answerLength

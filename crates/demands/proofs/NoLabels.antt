@@ -10,6 +10,7 @@ use lib.Dec.{eqb}
 use Rattle.esterel.specs.Statement.{Statement}
 use Rattle.esterel.specs.Reaction.{ended, waiting, leaving, wrong, Reaction, gives, react}
 use Rattle.esterel.specs.Errors.{Error, firstError}
+use Rattle.esterel.specs.Reactions.{reactions}
 use Rattle.esterel.specs.Machines.{Seen, instant, refused, seen, run, Rewriting, termAfter, byRewriting, erase}
 use Rattle.theory.proofs.Erasure.{erased-run}
 use Rattle.records.specs.Records.{answerLength}
@@ -17,18 +18,18 @@ use Rattle.demands.specs.Paper.{Call, Report, turnedDown, phaseNumber, p
 
 -- what is seen of a tick tells the phase after it
 abbrev phaseSeen : Seen → ℕ
-phaseSeen (instant k x o after) = phaseNumber after
+phaseSeen (instant k x o n after) = phaseNumber after
 phaseSeen refused = 2
 
-phase-after : (r : Reaction) (x : Option Error) → phaseOf (termAfter r) ≡ phaseSeen (seen r x)
-phase-after (gives o ended l t) x = refl
-phase-after (gives o waiting l t) x = refl
-phase-after (gives o (leaving n) l t) x = refl
-phase-after (gives o wrong l t) x = refl
+phase-after : (r : Reaction) (x : Option Error) (n : ℕ) → phaseOf (termAfter r) ≡ phaseSeen (seen r x n)
+phase-after (gives o ended l t) x n = refl
+phase-after (gives o waiting l t) x n = refl
+phase-after (gives o (leaving m) l t) x n = refl
+phase-after (gives o wrong l t) x n = refl
 
 phase-seen : (w : Rewriting) (e : ℕ) → phaseOf (byRewriting w e .1) ≡ phaseSeen (byRewriting w e .0)
-phase-seen (Rewriting.fresh t) e = phase-after (react t e) (firstError t e)
-phase-seen (Rewriting.waits t) e = phase-after (react t e) (firstError t e)
+phase-seen (Rewriting.fresh t) e = phase-after (react t e) (firstError t e) (reactions t e)
+phase-seen (Rewriting.waits t) e = phase-after (react t e) (firstError t e) (reactions t e)
 phase-seen Rewriting.over e = refl
 
 -- terms of one phase whose runs show the same

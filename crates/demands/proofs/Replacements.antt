@@ -2,13 +2,14 @@
 use Prim.Native.Nat.{ℕ, zero, suc}
 use native.Mathlib.Omega.{arith}
 use mathlib.Core.Path.{_≡_, refl, ap}
-use mathlib.Core.List.{List, [], _∷_}
+use mathlib.Core.List.{List, [], _∷_, _++_}
 use lib.ListN.{getD, replicate}
 use Rattle.esterel.specs.Sets.{none, only, member, join}
 use Rattle.esterel.specs.Statement.{nothing, pause, emit, seq, setpause}
 use Rattle.esterel.specs.Reaction.{ended, waiting, reactBy}
 use Rattle.esterel.specs.Rules.{Reacts}
 use Rattle.esterel.specs.Errors.{errorsBy}
+use Rattle.esterel.specs.Reactions.{reactionsBy}
 use Rattle.esterel.specs.Places.{seq₁, seq₂, Place, At}
 use Rattle.esterel.specs.States.{NoSetpause}
 use Rattle.esterel.specs.LabelTests.{subset, disjoint, labelsOf, everyLabel, distinct, before, wellFormed}
@@ -24,14 +25,14 @@ use Rattle.records.specs.Records.{answerLength, labelsIn, encodeState, decodeSt
 use Rattle.demands.specs.Tick.{outcome, tickBy, tickOf}
 use Rattle.demands.specs.Paper.{Call, Report, turnedDown, reacted, paper}
 use Rattle.demands.specs.Demands.{Tick, number, outcomes, Demand1, Demand2, Demand3, StandsAt, at-start, cleared}
-use Rattle.demands.specs.Replacements.{everyWrong, turnsDown, alwaysEnds, leavesLabels, repeatsFirst, saysOver, appendsZero}
+use Rattle.demands.specs.Replacements.{everyWrong, turnsDown, alwaysEnds, leavesLabels, repeatsFirst, saysOver, appendsZero, countsNone}
 use Rattle.demands.proofs.Demand1.{demand-1}
 
 -- the code of report i
 abbrev codeAt : ℕ → List Report → ℕ
 codeAt i [] = 255
 codeAt zero (turnedDown n ph ∷ rs) = 255
-codeAt zero (reacted c k a o ph ∷ rs) = c
+codeAt zero (reacted c k a o n ph ∷ rs) = c
 codeAt (suc i) (r ∷ rs) = codeAt i rs
 
 -- 00, 01 00, and 04 01 00 02 00
@@ -68,9 +69,9 @@ cleared-labels : labelsIn cleared ≡ none
 unfolding leNumber none
 cleared-labels = refl
 
-first-ticks : (tickOf ends cleared 0 none buffer ≡ outcome 0 (2 ∷ replicate 8 0) buffer)
-    × (tickOf waits cleared 0 none buffer ≡ outcome 0 (1 ∷ 1 ∷ replicate 7 0) (1 ∷ replicate 7 0))
-unfolding tickBy checked read front commandOf nesting declared membersFrom distinct wellFormed everyLabel before labelsOf subset disjoint decodeState encodeState encodeAnswer leNumber leBytes reactBy errorsBy member none only join
+first-ticks : (tickOf ends cleared 0 none buffer ≡ outcome 0 (2 ∷ replicate 8 0) (replicate 8 0 ++ 1 ∷ replicate 3 0))
+    × (tickOf waits cleared 0 none buffer ≡ outcome 0 (1 ∷ 1 ∷ replicate 7 0) (1 ∷ replicate 7 0 ++ 1 ∷ replicate 3 0))
+unfolding tickBy checked read front commandOf nesting declared membersFrom distinct wellFormed everyLabel before labelsOf subset disjoint decodeState encodeState encodeAnswer leNumber leBytes reactBy errorsBy reactionsBy member none only join
 first-ticks = (refl, refl)
 
 stands-ends : StandsAt ends none cleared nothing
@@ -108,6 +109,13 @@ not-appendsZero d =
     let y = rw (first-ticks .0) at (x .sized) in
     omega arith
 
+pub not-countsNone : ¬ Demand2 checkOf countsNone
+unfolding leNumber reactionsBy
+not-countsNone d =
+    let x = d .shows ends cleared 0 none buffer (all-accepted .0) refl refl nothing stands-ends none ended none nothing Reacts.nothing in
+    let y = rw (first-ticks .0) at (x .counted) in
+    omega arith
+
 -- ---- demand 1
 pub not-turnsDown : (tick : Tick) → ¬ Demand1 turnsDown tick
 not-turnsDown tick d =
@@ -132,7 +140,7 @@ two-calls : List Call
 two-calls = record { input = 0; buffer = buffer } ∷ record { input = 0; buffer = buffer } ∷ []
 
 pub not-repeatsFirst : ¬ Demand3 checkOf repeatsFirst
-unfolding two-calls outcomes paper tickBy checked read front commandOf nesting declared membersFrom distinct wellFormed everyLabel before labelsOf subset disjoint decodeState encodeState encodeAnswer leNumber leBytes reactBy errorsBy member none only join
+unfolding two-calls outcomes paper tickBy checked read front commandOf nesting declared membersFrom distinct wellFormed everyLabel before labelsOf subset disjoint decodeState encodeState encodeAnswer leNumber leBytes reactBy errorsBy reactionsBy member none only join
 not-repeatsFirst d =
     let x = d later none (all-accepted .2) (seq (pause 0) (emit 0)) spells-later no-setpause two-calls in
     let z : _≡_ {A = ℕ} 1 0 = ap (λ (l : List Report). codeAt 1 l) x in

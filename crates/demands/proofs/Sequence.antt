@@ -1,11 +1,11 @@
 -- What an accepted sequence is: a statement within the limits that passes the label rules, and how a tick of it goes.
-use Prim.Native.Nat.{ℕ, _^_, _≤_}
+use Prim.Native.Nat.{ℕ, _+_, _^_, _≤_, _<_}
 use native.Mathlib.Omega.{arith}
 use native.Mathlib.Decide.{decLt}
 use mathlib.Core.Path.{_≡_, refl, sym, ap, _∙_}
 use mathlib.Core.Logic.{_≢_, _↔_, inr}
 use mathlib.Core.Bool.{Bool, true, false, _&&_, cond}
-use mathlib.Core.List.{List}
+use mathlib.Core.List.{List, [], append-nil}
 use lib.ListN.{length}
 use lib.Dec.{eqb}
 use borrow.Author.Tests.{eq-eqb, ne-eqb}
@@ -13,15 +13,20 @@ use Rattle.esterel.specs.Statement.{Statement}
 use Rattle.esterel.specs.Reaction.{Reaction, gives, ended, waiting, leaving, wrong, react, inheritanceFirst, Order}
 use Rattle.esterel.specs.States.{Valid, Distinct, Targeted, Source, WellFormed}
 use Rattle.esterel.specs.Expansion.{expand}
+use Rattle.esterel.specs.Reactions.{reactions}
+use Rattle.esterel.specs.Ceiling.{commands, loopNesting, nesting, ceiling}
 use Rattle.esterel.specs.Machines.{stateAfter}
 use Rattle.theory.proofs.Theorems.{ReactionOf, of-statement, of-expansion, FromValid, stable, labels-of-stops}
-use Rattle.limits.specs.Limits.{labelCount, maxBytes, placeBytes, readBackPlace}
+use Rattle.limits.specs.Limits.{labelCount, maxBytes, maxDepth, maxSignals, placeBytes, takenBytes, readBackPlace}
 use Rattle.theory.proofs.ReadBack.{source-declared, distinct-declared, targeted-declared, wellFormed-declared, valid-declared, stops-declared}
+use Rattle.theory.proofs.Ceiling.{fresh-below, resumed-below, ceiling-within, commands-declared, loops-declared, nesting-declared}
 use Rattle.theory.proofs.LabelTests.{distinct-is, targeted-is, wellFormed-is, valid-is}
 use Rattle.sequence.specs.Reader as Reader
 use Rattle.sequence.specs.Program.{readBackSignals, program}
 use Rattle.sequence.specs.Check.{Checked, sound, bad, checked, numberOf, checkOf}
-use Rattle.sequence.specs.Rows.{Spells, Row, row-2}
+use Rattle.sequence.specs.Rows.{Spells, Row, row-2, row-6}
+use Rattle.sequence.specs.Writer.{bytesOf, size, Written}
+use Rattle.sequence.proofs.Extents.{extent}
 use Rattle.sequence.proofs.Writer.{reads-what-is-written}
 use Rattle.sequence.proofs.Source.{spells-source}
 use Rattle.sequence.proofs.Rows.{Decides, decided, row-range}
@@ -149,3 +154,31 @@ module _ (sequence : List ℕ) (readBack : ℕ) (a : Accepted sequence readBack)
 
   pub places-resumed : (L : ℕ) → PlacesBelow (256 ^ placeBytes) (expand term L)
   places-resumed L = places-expand (256 ^ placeBytes) term L places-fresh
+
+  -- the declarations do not make the nesting of signals exceed six
+  nested : nesting term ≤ maxSignals
+  nested =
+      elim (decLt maxSignals (nesting term)) [
+        | yes i ↦ absurd (a .no-row 6 (row-6 as-written i))
+        | no i ↦ omega arith
+      ]
+    where
+      as-written : Written maxDepth maxSignals 0 sequence p (size p)
+      as-written =
+          record { rest = []; bytes = a .spelled .0 ∙ sym (append-nil (bytesOf p)); count = refl; within = a .spelled .1; placed = a .spelled .2 }
+
+  -- so the ceiling is far below what the answer's bytes hold
+  term-ceiling : ceiling term < 256 ^ takenBytes
+  term-ceiling =
+      let ss = readBackSignals readBack in
+      let x = extent p (a .spelled .1 .ranged) in
+      let n : commands term ≤ maxSignals + maxBytes =
+      omega (arith, commands-declared readBackPlace ss p, nesting-declared readBackPlace ss p, nested, x .0, not-long, ap length (a .spelled .0)) in
+      let m : loopNesting term ≤ maxDepth = omega (arith, loops-declared readBackPlace ss p, x .1, a .spelled .1 .deep) in
+      omega (arith, ceiling-within term (maxSignals + maxBytes) maxDepth maxSignals n m nested)
+
+  pub counted-fresh : (e : ℕ) → reactions term e < 256 ^ takenBytes
+  counted-fresh e = omega (arith, fresh-below term e, term-ceiling)
+
+  pub counted-resumed : (L e : ℕ) → reactions (expand term L) e < 256 ^ takenBytes
+  counted-resumed L e = omega (arith, resumed-below term L e, term-ceiling)

@@ -1,25 +1,28 @@
 -- The ticks by the two orders of the signal rules (02, item 4), compared record by record.
 use Prim.Native.Nat.{ℕ}
 use native.Mathlib.Decide.{ℕ-discrete}
-use mathlib.Core.Path.{_≡_, refl, sym, ap, ap₂, _∙_}
+use mathlib.Core.Path.{_≡_, refl, sym, ap, _∙_}
 use mathlib.Core.Logic.{_≢_}
 use mathlib.Core.Bool.{Bool, true, false, _&&_, cond}
 use mathlib.Core.Option.{Option}
 use mathlib.Core.List.{List, [], _∷_, List·Memᴰ}
-use lib.ListN.{length}
+use lib.ListN.{length, take}
 use lib.Dec.{eqb}
 use Rattle.esterel.specs.Statement.{Statement}
 use Rattle.esterel.specs.Reaction.{Code, wrong, isWrong, Reaction, gives, code, Order, printed, inheritanceFirst, reactBy, react}
 use Rattle.esterel.specs.Errors.{Error, firstErrorBy, firstError}
+use Rattle.esterel.specs.Reactions.{reactionsBy, reactions}
 use Rattle.esterel.specs.SignalOrders.{overlap}
 use Rattle.esterel.specs.Resume.{instant, startBy, start}
 use Rattle.esterel.specs.Machines.{State}
 use Rattle.theory.proofs.Booleans.{Tested, tested}
 use Rattle.theory.proofs.Rules.{wrong-is}
 use Rattle.theory.proofs.SignalOrders as orders
+use Rattle.theory.proofs.Reactions.{reactions-unchanged, reactions-kept}
+use Rattle.numbers.specs.Bytes.{leBytes}
 use Rattle.sequence.specs.Program.{program}
 use Rattle.sequence.specs.Check.{Checked, sound, bad, checked, checkOf}
-use Rattle.records.specs.Records.{stateLength, answerLength, Decoded, holds, malformed, decodeState, encodeState, encodeAnswer, codeIn, codeByte}
+use Rattle.records.specs.Records.{stateLength, takenAt, answerLength, Decoded, holds, malformed, decodeState, encodeState, encodeAnswer, codeIn, codeByte}
 use Rattle.demands.specs.Tick.{Outcome, outcome, written, byState, byCheck, tickBy, tickOf}
 use Rattle.demands.specs.Paper.{Call}
 use Rattle.demands.specs.Demands.{number, stateAfterwards, answerAfterwards, outcomes, StandsAt}
@@ -32,36 +35,41 @@ use Rattle.demands.proofs.Demand2.{called-wrong, Fitting, stands-writte
 abbrev codeShown : Outcome → ℕ
 codeShown o = codeIn (answerAfterwards o)
 
-code-shown : (r : Reaction) (x : Option Error) → codeShown (written (instant r x)) ≡ codeByte (code r)
+code-shown : (r : Reaction) (x : Option Error) (n : ℕ) → codeShown (written (instant r x n)) ≡ codeByte (code r)
 unfolding encodeAnswer
-code-shown (gives o k l t) x = refl
+code-shown (gives o k l t) x n = refl
 
 -- of a statement within the widths, 255 means wrong by either order
 wrong-shown : (ord : Order) (t : Statement) (e : ℕ) → Fitting t → codeShown (written (startBy ord t e)) ≡ 255
     → code (reactBy ord t e) ≡ wrong
 wrong-shown ord t e f =
-    called-wrong (code (reactBy ord t e)) _ (code-exits ord t e (f .0)) (code-shown (reactBy ord t e) (firstErrorBy ord t e)) .0
+    called-wrong (code (reactBy ord t e)) _ (code-exits ord t e (f .0)) (code-shown (reactBy ord t e) (firstErrorBy ord t e) (reactionsBy ord t e)) .0
 
 shown-wrong : (t : Statement) (e : ℕ) → code (react t e) ≡ wrong → codeShown (written (start t e)) ≡ 255
-shown-wrong t e h = code-shown (react t e) (firstError t e) ∙ ap codeByte h
+shown-wrong t e h = code-shown (react t e) (firstError t e) (reactions t e) ∙ ap codeByte h
 
--- what a wrong instant writes depends on its first error alone
-wrong-written : (r r′ : Reaction) (x : Option Error) → code r ≡ wrong → code r′ ≡ wrong → written (instant r x) ≡ written (instant r′ x)
-unfolding encodeState encodeAnswer
-wrong-written (gives o k l t) (gives o′ k′ l′ t′) x h h′ = rw (h, h′)
+-- an outcome without the number of reactions in its answer
+abbrev pub uncounted : Outcome → Outcome
+uncounted (outcome n state answer) = outcome n state (take takenAt answer)
+
+-- what a wrong instant writes depends, the number of reactions aside, on its first error alone
+wrong-written : (r r′ : Reaction) (x : Option Error) (n n′ : ℕ) → code r ≡ wrong → code r′ ≡ wrong
+    → uncounted (written (instant r x n)) ≡ uncounted (written (instant r′ x n′))
+unfolding encodeState encodeAnswer leBytes
+wrong-written (gives o k l t) (gives o′ k′ l′ t′) x n n′ h h′ = rw (h, h′)
 
 -- ---- one instant by both orders
 module _ (t : Statement) (e : ℕ) where
-  alike : reactBy printed t e ≡ react t e → written (startBy printed t e) ≡ written (start t e)
-  alike h = ap₂ (λ (r : Reaction) (x : Option Error). written (instant r x)) h (orders.same-first t e)
+  alike : reactBy printed t e ≡ react t e → reactionsBy printed t e ≡ reactions t e → written (startBy printed t e) ≡ written (start t e)
+  alike h n = rw (h, n, orders.same-first t e)
 
   kept-written : isWrong (code (react t e)) ≡ false → written (startBy printed t e) ≡ written (start t e)
-  kept-written h = alike (orders.kept t e h .0)
+  kept-written h = alike (orders.kept t e h .0) (reactions-kept t e h)
 
-  stays-written : code (reactBy printed t e) ≡ wrong → written (startBy printed t e) ≡ written (start t e)
+  stays-written : code (reactBy printed t e) ≡ wrong → uncounted (written (startBy printed t e)) ≡ uncounted (written (start t e))
   stays-written h =
-      wrong-written (reactBy printed t e) (react t e) (firstErrorBy printed t e) h (orders.wrong-stays t e h)
-      ∙ ap (λ (x : Option Error). written (instant (react t e) x)) (orders.same-first t e)
+      wrong-written (reactBy printed t e) (react t e) (firstErrorBy printed t e) (reactionsBy printed t e) (reactions t e) h (orders.wrong-stays t e h)
+      ∙ ap (λ (x : Option Error). uncounted (written (instant (react t e) x (reactions t e)))) (orders.same-first t e)
 
   -- where they differ, two of the printed rules fit at some signal
   differs : written (startBy printed t e) ≢ written (start t e) → overlap t e ≡ true
@@ -69,7 +77,7 @@ module _ (t : Statement) (e : ℕ) where
     where
       go : Tested (overlap t e) → overlap t e ≡ true
       go (Tested.yes x) = x
-      go (Tested.no x) = absurd (n (alike (orders.unchanged t e x)))
+      go (Tested.no x) = absurd (n (alike (orders.unchanged t e x) (reactions-unchanged t e x)))
 
 -- ---- one tick by both orders: a refusal is the same
 module _ (state : List ℕ) (e readBack : ℕ) (answer : List ℕ) where
@@ -161,10 +169,12 @@ module _ (sequence state : List ℕ) (e readBack : ℕ) (answer : List ℕ) wher
             (c .term, c .at, o),
           )
 
-  -- (c) wrong by the printed order: the same records, kind and place included
-  pub tick-stays : codeShown (tickBy printed sequence state e readBack answer) ≡ 255 → Same
-  tick-stays h = by-number (refused state e readBack answer sequence)
-      (λ c. same-written c (stays-written (c .term) e (wrong-shown printed (c .term) e (c .fits) (ap codeShown (sym (c .old)) ∙ h))))
+  -- (c) wrong by the printed order: the same records, kind and place included, but for the number of reactions
+  pub tick-stays : codeShown (tickBy printed sequence state e readBack answer) ≡ 255
+      → uncounted (tickBy printed sequence state e readBack answer) ≡ uncounted (tickOf sequence state e readBack answer)
+  tick-stays h = by-number (λ z. ap uncounted (refused state e readBack answer sequence z))
+      (λ c. ap uncounted (c .old) ∙ stays-written (c .term) e (wrong-shown printed (c .term) e (c .fits) (ap codeShown (sym (c .old)) ∙ h))
+      ∙ sym (ap uncounted (c .new)))
 
 -- ---- lists of ticks, up to the first that is wrong by the new order
 pub outcomes-kept : (sequence : List ℕ) (readBack : ℕ) (state : List ℕ) (calls : List Call)

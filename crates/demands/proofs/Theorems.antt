@@ -31,6 +31,7 @@ use Rattle.demands.proofs.Sequence as sequence
 use Rattle.demands.proofs.Demand1 as one
 use Rattle.demands.proofs.Demand2 as two
 use Rattle.demands.proofs.SignalOrders as orders
+use Rattle.demands.proofs.SignalOrders.{uncounted}
 use Rattle.demands.proofs.Agreement as three
 use Rattle.demands.proofs.NoLabels as paper-labels
 use Rattle.demands.proofs.Calls as calls
@@ -93,10 +94,10 @@ pub changed-only : (sequence state : List ℕ) (e readBack : ℕ) (answer : List
     × ((t : Statement) × StandsAt sequence readBack state t × (overlap t e ≡ true))
 changed-only = orders.tick-changed
 
--- an instant that was wrong has the records it had: the same first error is named
+-- an instant that was wrong has the records it had, but for the number of reactions: the same first error is named
 pub wrong-stays : (sequence state : List ℕ) (e readBack : ℕ) (answer : List ℕ)
     → codeIn (answerAfterwards (tickBy printed sequence state e readBack answer)) ≡ 255
-    → tickBy printed sequence state e readBack answer ≡ tickOf sequence state e readBack answer
+    → uncounted (tickBy printed sequence state e readBack answer) ≡ uncounted (tickOf sequence state e readBack answer)
 wrong-stays = orders.tick-stays
 
 -- so lists of ticks are the same up to the first that is wrong
@@ -140,8 +141,8 @@ pub refused-1 : ((tick : Tick) → ¬ Demand1 wrong.turnsDown tick) × (¬ Deman
 refused-1 = (refuted.not-turnsDown, refuted.not-saysOver)
 
 pub refused-2 : (¬ Demand2 checkOf wrong.everyWrong) × (¬ Demand2 checkOf wrong.alwaysEnds)
-    × (¬ Demand2 checkOf wrong.leavesLabels) × (¬ Demand2 checkOf wrong.appendsZero)
-refused-2 = (refuted.not-everyWrong, refuted.not-alwaysEnds, refuted.not-leavesLabels, refuted.not-appendsZero)
+    × (¬ Demand2 checkOf wrong.leavesLabels) × (¬ Demand2 checkOf wrong.appendsZero) × (¬ Demand2 checkOf wrong.countsNone)
+refused-2 = (refuted.not-everyWrong, refuted.not-alwaysEnds, refuted.not-leavesLabels, refuted.not-appendsZero, refuted.not-countsNone)
 
 pub refused-3 : ¬ Demand3 checkOf wrong.repeatsFirst
 refused-3 = refuted.not-repeatsFirst

@@ -11,12 +11,13 @@ use Rattle.esterel.specs.Statement.{Statement}
 use Rattle.esterel.specs.Reaction.{Code, wrong, gives}
 use Rattle.esterel.specs.Rules.{Reacts}
 use Rattle.esterel.specs.Errors.{Error, firstError, blame, uses}
+use Rattle.esterel.specs.Reactions.{reactions, rulesUsed}
 use Rattle.esterel.specs.States.{NoSetpause, Valid}
 use Rattle.esterel.specs.Expansion.{expand}
 use Rattle.esterel.specs.Machines.{shown, stateAfter, Rewriting}
 use Rattle.sequence.specs.Program.{program}
 use Rattle.sequence.specs.Rows.{Spells, Row, ByRows}
-use Rattle.records.specs.Records.{stateLength, answerLength, phaseIn, labelsIn, encodeState, answerRecord, codeIn, kindIn, placeIn, emittedIn, codeByte}
+use Rattle.records.specs.Records.{stateLength, answerLength, phaseIn, labelsIn, encodeState, answerRecord, codeIn, kindIn, placeIn, emittedIn, takenIn, codeByte}
 use Rattle.demands.specs.Tick.{Outcome, outcome, tickOf}
 use Rattle.demands.specs.TickRows.{Malformed, TickRow}
 use Rattle.demands.specs.Paper.{Call, Report, turnedDown, reacted, paper}
@@ -80,7 +81,7 @@ pub record Shows (t : Statement) (e o : ℕ) (k : Code) (l : ℕ) (t′ : Statem
   pub an-instant : number result ≡ 0
   pub moved : stateAfterwards result ≡ encodeState (stateAfter (gives o k l t′))
   pub answered : answerAfterwards result
-      ≡ answerRecord (codeByte k) (blame k (firstError t e) .kind) (blame k (firstError t e) .place) (shown k o)
+      ≡ answerRecord (codeByte k) (blame k (firstError t e) .kind) (blame k (firstError t e) .place) (shown k o) (reactions t e)
   pub sized : length (answerAfterwards result) ≡ answerLength
   pub code : codeIn (answerAfterwards result) ≡ codeByte k
   pub called-wrong : (codeIn (answerAfterwards result) ≡ 255) ↔ (k ≡ wrong)
@@ -91,6 +92,9 @@ pub record Shows (t : Statement) (e o : ℕ) (k : Code) (l : ℕ) (t′ : Statem
       → (x : Error) × (firstError t e ≡ some x) × ((d : Reacts t e (gives o k l t′)) → head? (uses d) ≡ some x)
       × (kindIn (answerAfterwards result) ≡ x .kind) × (placeIn (answerAfterwards result) ≡ x .place)
   pub unnamed : k ≢ wrong → (kindIn (answerAfterwards result) ≡ 0) × (placeIn (answerAfterwards result) ≡ 0)
+  -- the number of reactions in the tree, whole: it fits its bytes (02, item 6); and that of the rules used in any derivation
+  pub counted : takenIn (answerAfterwards result) ≡ reactions t e
+  pub counted-rules : (d : Reacts t e (gives o k l t′)) → takenIn (answerAfterwards result) ≡ rulesUsed d
 
 pub record Demand2 (check : Check) (tick : Tick) : Type 0 where
   -- where the tick gives 0, the machine stands at a term
@@ -103,7 +107,8 @@ pub record Demand2 (check : Check) (tick : Tick) : Type 0 where
 
 -- ---- demand 3
 abbrev pub report : Outcome → Report
-report (outcome zero state answer) = reacted (codeIn answer) (kindIn answer) (placeIn answer) (emittedIn answer) (phaseIn state)
+report (outcome zero state answer) =
+    reacted (codeIn answer) (kindIn answer) (placeIn answer) (emittedIn answer) (takenIn answer) (phaseIn state)
 report (outcome (suc n) state answer) = turnedDown (suc n) (phaseIn state)
 
 -- an accepted sequence without setpause: the paper is fed the program of the statement that it spells, and both report the same

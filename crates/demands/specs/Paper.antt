@@ -1,6 +1,6 @@
 -- The machine that demand 3 compares the ticks with (01, 'The fitters' paper'). It is fed the statement of the sequence once, and
 -- for each tick the input and the length of the answer buffer. It rewrites a term, in which it also finds the error that a wrong
--- instant names; it knows no labels, no expansion and no record.
+-- instant names, and counts its reactions; it knows no labels, no expansion and no record.
 use Prim.Native.Nat.{ℕ}
 use mathlib.Core.Bool.{cond}
 use mathlib.Core.List.{List, [], _∷_}
@@ -14,10 +14,10 @@ pub record Call : Type 0 where
   pub input : ℕ
   pub buffer : List ℕ
 
--- what is compared: number, code, kind, place and emitted set of an instant, and the phase after each tick
+-- what is compared: number, code, kind, place, emitted set and number of reactions of an instant, and the phase after each tick
 pub data Report : Type 0 where
   turnedDown : (number : ℕ) (phase : ℕ) → Report
-  reacted : (code kind place emitted : ℕ) (phase : ℕ) → Report
+  reacted : (code kind place emitted taken : ℕ) (phase : ℕ) → Report
 
 abbrev pub phaseNumber : Phase → ℕ
 phaseNumber fresh = 0
@@ -31,7 +31,7 @@ phaseOf Rewriting.over = 2
 
 -- a machine that is over gives number 12
 abbrev pub reportOf : Seen → Report
-reportOf (instant k x o after) = reacted (codeByte k) (x .kind) (x .place) o (phaseNumber after)
+reportOf (instant k x o n after) = reacted (codeByte k) (x .kind) (x .place) o n (phaseNumber after)
 reportOf refused = turnedDown 12 2
 
 abbrev pub paperTick : Rewriting → (input bufferLength : ℕ) → Report × Rewriting

@@ -1,11 +1,12 @@
--- The six replacements of 01's checklist and one more, each a wrong check or tick. proofs/Replacements refutes a demand for each.
+-- The six replacements of 01's checklist and two more, each a wrong check or tick. proofs/Replacements refutes a demand for each.
 use Prim.Native.Nat.{ℕ, zero, suc}
 use mathlib.Core.Bool.{cond}
 use mathlib.Core.List.{List, [], _∷_, _++_}
 use lib.ListN.{take, drop, replicate}
 use lib.Dec.{eqb}
 use Rattle.esterel.specs.Machines.{State}
-use Rattle.records.specs.Records.{answerLength, labelsAt, encodeState, phaseIn}
+use Rattle.limits.specs.Limits.{takenBytes}
+use Rattle.records.specs.Records.{takenAt, answerLength, labelsAt, encodeState, phaseIn}
 use Rattle.demands.specs.Tick.{Outcome, outcome, tickOf}
 use Rattle.demands.specs.Demands.{Check, Tick, cleared}
 
@@ -17,7 +18,7 @@ instead f (outcome (suc n) state answer) = outcome (suc n) state answer
 -- a tick that calls every instant wrong
 abbrev pub everyWrong : Tick
 everyWrong sequence state e readBack answer =
-    instead (λ state′ answer′. outcome 0 (encodeState State.over) (255 ∷ 1 ∷ replicate 6 0)) (tickOf sequence state e readBack answer)
+    instead (λ state′ answer′. outcome 0 (encodeState State.over) (255 ∷ 1 ∷ replicate 10 0)) (tickOf sequence state e readBack answer)
 
 -- a check that turns every sequence down
 abbrev pub turnsDown : Check
@@ -48,3 +49,8 @@ saysOver sequence state e readBack answer =
 abbrev pub appendsZero : Tick
 appendsZero sequence state e readBack answer =
     instead (λ state′ answer′. outcome 0 state′ (answer′ ++ 0 ∷ [])) (tickOf sequence state e readBack answer)
+
+-- a tick that counts no reactions
+abbrev pub countsNone : Tick
+countsNone sequence state e readBack answer =
+    instead (λ state′ answer′. outcome 0 state′ (take takenAt answer′ ++ replicate takenBytes 0)) (tickOf sequence state e readBack answer)

@@ -18,7 +18,7 @@ pub data Outcome : Type 0 where
 
 -- an instant: number 0, the next state and the answer
 abbrev pub written : Instant → Outcome
-written (instant r x) = outcome 0 (encodeState (stateAfter r)) (encodeAnswer (instant r x))
+written (instant r x n) = outcome 0 (encodeState (stateAfter r)) (encodeAnswer (instant r x n))
 
 -- A fresh machine reacts with the whole program p, a waiting one with its expansion; a refusal writes nothing
 abbrev pub byState : Order → Statement → Decoded → List ℕ → ℕ → List ℕ → Outcome

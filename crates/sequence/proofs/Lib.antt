@@ -12,3 +12,4 @@ pub mod Refusals
 pub mod ByRows
 pub mod Rows
 pub mod Theorems
+pub mod Extents
