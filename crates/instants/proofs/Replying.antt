@@ -24,7 +24,7 @@ use Rattle.sequence.specs.Program.{readBackSignals, program}
 use Rattle.labels.specs.Labels.{labelSet}
 use Rattle.labels.proofs.LabelValues.{labelSet-of}
 use Rattle.labels.specs.declared.Labels.{Labels}
-use Rattle.limits.specs.Limits.{maxDepth, readBackPlace}
+use Rattle.limits.specs.Limits.{maxDepth, readBackPlace, takenBytes}
 use Rattle.sequence.specs.Writer.{Ranged}
 use Rattle.layout.specs.Layout.{Ready}
 use Rattle.layout.proofs.Laid.{ready}
@@ -34,11 +34,12 @@ use Rattle.sequence.specs.Check.{Checked, sound, bad, checked, numberOf, checkO
 use Rattle.completions.specs.Completions.{completionOf}
 use Rattle.reaction.specs.Reactions.{reactionOf}
 use Rattle.reaction.specs.declared.Reaction.{Reaction}
+use Rattle.numbers.proofs.Bytes.{le-low}
 use Rattle.records.specs.Records.{labelsIn, encodeState, encodeAnswer, Decoded, holds, malformed, decodeState}
 use Rattle.demands.specs.Tick.{Outcome, outcome, written, byState, byCheck}
 use Rattle.instants.specs.declared.Standing.the-variants as stands
 use Rattle.instants.specs.declared.Reply.the-variants.{Refused, Reacted}
-use Rattle.instants.specs.Written.{WritableCode, Writable, writtenFrom}
+use Rattle.writing.specs.Written.{WritableCode, Writable, writtenFrom}
 use Rattle.instants.specs.Replies.{Decodes, Replies}
 use Rattle.demands.proofs.Sequence.{accepted}
 use Rattle.demands.proofs.Bounds.{Bounded, Exits, ranged-bounded, bounded-expand, bounded-declared, code-exits}
@@ -46,10 +47,10 @@ use Rattle.demands.proofs.Bounds.{Bounded, Exits, ranged-bounded, bounded-expan
 -- WRITTEN: the code's instant writes what esterel's does
 pub written-from : (j : Esterel.Instant) → writtenFrom (reactionOf j) ≡ written j
 unfolding encodeState encodeAnswer none
-written-from (Esterel.instant (gives o ended l t) x) = refl
-written-from (Esterel.instant (gives o waiting l t) x) = rw labelSet-of
-written-from (Esterel.instant (gives o (leaving n) l t) x) = refl
-written-from (Esterel.instant (gives o wrong l t) x) = refl
+written-from (Esterel.instant (gives o ended l t) x n) = rw (le-low takenBytes n)
+written-from (Esterel.instant (gives o waiting l t) x n) = rw (labelSet-of, le-low takenBytes n)
+written-from (Esterel.instant (gives o (leaving m) l t) x n) = rw (le-low takenBytes n)
+written-from (Esterel.instant (gives o wrong l t) x n) = rw (le-low takenBytes n)
 
 -- ---- instants fit the answer record
 writable-code : (k : Code) (x : Option Error) → Exits k → WritableCode (completionOf k x)

@@ -15,7 +15,7 @@ use Rattle.instants.specs.declared.Standing.{Standing}
 use Rattle.instants.specs.declared.Standing.the-variants as stands
 use Rattle.instants.specs.declared.Reply.{Reply}
 use Rattle.instants.specs.declared.Reply.the-variants.{Refused, Reacted}
-use Rattle.instants.specs.Written.{Writable, writtenFrom}
+use Rattle.writing.specs.Written.{Writable, writtenFrom}
 use Rattle.records.specs.Records.{labelsIn, holds, malformed, decodeState}
 use Rattle.demands.specs.Tick.{Outcome, outcome, byCheck}
 

@@ -1,6 +1,4 @@
 // The check and the tick, exported for hosts in C.
-mod tick;
-
 ghost use mathlib.Core.Path.{_≡_};
 ghost use Rattle.sequence.specs.Check.{checkOf};
 ghost use Rattle.demands.specs.Demands.{TickMeets};
@@ -40,6 +38,6 @@ pub extern "C" fn intake_tick(
     }
     match instants::reply_to(sequence, state, input, read_back) {
         Reply::Refused(number) => number,
-        Reply::Reacted(reaction) => crate::tick::finish(state, answer, reaction),
+        Reply::Reacted(reaction) => writing::finish(state, answer, reaction),
     }
 }

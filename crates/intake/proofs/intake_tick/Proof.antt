@@ -7,7 +7,7 @@ use Rattle.intake.proofs.intake_tick.Statement.{statement}
 use Rattle.intake.proofs.intake_tick.Tie as tie
 use Rattle.intake.proofs.intake_tick.Reads as reads
 use Rattle.intake.proofs.intake_tick.Lts as lts
-use Rattle.intake.proofs.tick.finish.Reads as finish-reads
+use Rattle.writing.proofs.finish.Reads as finish-reads
 use Rattle.instants.proofs.reply_to.Reads as reply-to-reads
 
 returns : tie.Need-returns

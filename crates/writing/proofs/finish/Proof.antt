@@ -2,14 +2,14 @@ use native.Mathlib.Omega.{arith}
 use mathlib.Core.Path.{refl, ap₂, subst}
 use Rattle.completions.specs.declared.Completion.the-variants.{Ended, Waiting, Leaving, Wrong}
 use Rattle.demands.specs.Tick.{outcome}
-use Rattle.instants.specs.Written.{WritableCode}
-use Rattle.intake.proofs.Ticking.{arm}
+use Rattle.writing.specs.Written.{WritableCode}
+use Rattle.writing.proofs.Arms.{arm}
 use Rattle.records.proofs.Stores.{state-written, answer-written}
 use borrow.Author.Needs.{needs}
-use Rattle.intake.proofs.tick.finish.Statement.{statement}
-use Rattle.intake.proofs.tick.finish.Tie as tie
-use Rattle.intake.proofs.tick.finish.Reads as reads
-use Rattle.intake.proofs.tick.finish.Lts as lts
+use Rattle.writing.proofs.finish.Statement.{statement}
+use Rattle.writing.proofs.finish.Tie as tie
+use Rattle.writing.proofs.finish.Reads as reads
+use Rattle.writing.proofs.finish.Lts as lts
 use Rattle.records.proofs.answer.write_answer.Reads as write-answer-reads
 use Rattle.records.proofs.state.write_state.Reads as write-state-reads
 use Rattle.labels.proofs.empty.Reads as empty-reads
@@ -72,8 +72,8 @@ same-length-2 c = search needs
 returns : tie.Need-returns
 returns c =
     let s = c .before .before .before .before .before .before .before .before .before .before .before .before .before in
-    arm _ Ended _ _ _ (c .before .before .before .before .before .before .before .before .before .enum-told .given .1)
-    (ap₂ (outcome 0) (state-written (s .args .state .now) _ _ (s .pre .0) (c .before .before .before .before .before .before .write-state .ensures) (c .before .before .before .before .before .before .before .empty .ensures)) (answer-written (s .args .answer .now) _ _ _ _ (s .pre .1) (c .before .before .write-answer .ensures)))
+    arm _ Ended _ _ _ _ (c .before .before .before .before .before .before .before .before .before .enum-told .given .1)
+    (ap₂ (outcome 0) (state-written (s .args .state .now) _ _ (s .pre .0) (c .before .before .before .before .before .before .write-state .ensures) (c .before .before .before .before .before .before .before .empty .ensures)) (answer-written (s .args .answer .now) _ _ _ _ _ (s .pre .1) (c .before .before .write-answer .ensures)))
 
 same-length-3 : tie.Need-same-length-3
 same-length-3 c = search needs
@@ -84,7 +84,7 @@ same-length-4 c = search needs
 returns-2 : tie.Need-returns-2
 returns-2 c =
     let s = c .before .before .before .before .before .before .before .before .before .before .before .before in
-    arm _ Waiting _ _ _ (c .before .before .before .before .before .before .before .before .enum-told2 .given .1) (ap₂ (outcome 0) (state-written (s .args .state .now) _ _ (s .pre .0) (c .before .before .before .before .before .before .write-state2 .ensures) refl) (answer-written (s .args .answer .now) _ _ _ _ (s .pre .1) (c .before .before .write-answer2 .ensures)))
+    arm _ Waiting _ _ _ _ (c .before .before .before .before .before .before .before .before .enum-told2 .given .1) (ap₂ (outcome 0) (state-written (s .args .state .now) _ _ (s .pre .0) (c .before .before .before .before .before .before .write-state2 .ensures) refl) (answer-written (s .args .answer .now) _ _ _ _ _ (s .pre .1) (c .before .before .write-answer2 .ensures)))
 
 same-length-5 : tie.Need-same-length-5
 same-length-5 c = search needs
@@ -95,8 +95,8 @@ same-length-6 c = search needs
 returns-3 : tie.Need-returns-3
 returns-3 c =
     let s = c .before .before .before .before .before .before .before .before .before .before .before .before .before .before in
-    arm _ (Leaving (c .before .before .before .before .before .before .before .before .before .before .k .given .0 .0)) _ _ _ (c .before .before .before .before .before .before .before .before .before .before .k .given .1)
-    (ap₂ (outcome 0) (state-written (s .args .state .now) _ _ (s .pre .0) (c .before .before .before .before .before .before .write-state3 .ensures) (c .before .before .before .before .before .before .before .empty2 .ensures)) (answer-written (s .args .answer .now) _ _ _ _ (s .pre .1) (c .before .before .write-answer3 .ensures)))
+    arm _ (Leaving (c .before .before .before .before .before .before .before .before .before .before .k .given .0 .0)) _ _ _ _ (c .before .before .before .before .before .before .before .before .before .before .k .given .1)
+    (ap₂ (outcome 0) (state-written (s .args .state .now) _ _ (s .pre .0) (c .before .before .before .before .before .before .write-state3 .ensures) (c .before .before .before .before .before .before .before .empty2 .ensures)) (answer-written (s .args .answer .now) _ _ _ _ _ (s .pre .1) (c .before .before .write-answer3 .ensures)))
 
 same-length-7 : tie.Need-same-length-7
 same-length-7 c = search needs
@@ -107,8 +107,8 @@ same-length-8 c = search needs
 returns-4 : tie.Need-returns-4
 returns-4 c =
     let s = c .before .before .before .before .before .before .before .before .before .before .before .before .before .before in
-    arm _ (Wrong (c .before .before .before .before .before .before .before .before .before .before .k2 .given .0 .0) (c .before .before .before .before .before .before .before .before .before .before .k2 .given .0 .1 .0)) _ _ _ (c .before .before .before .before .before .before .before .before .before .before .k2 .given .1)
-    (ap₂ (outcome 0) (state-written (s .args .state .now) _ _ (s .pre .0) (c .before .before .before .before .before .before .write-state4 .ensures) (c .before .before .before .before .before .before .before .empty3 .ensures)) (answer-written (s .args .answer .now) _ _ _ _ (s .pre .1) (c .before .before .write-answer4 .ensures)))
+    arm _ (Wrong (c .before .before .before .before .before .before .before .before .before .before .k2 .given .0 .0) (c .before .before .before .before .before .before .before .before .before .before .k2 .given .0 .1 .0)) _ _ _ _ (c .before .before .before .before .before .before .before .before .before .before .k2 .given .1)
+    (ap₂ (outcome 0) (state-written (s .args .state .now) _ _ (s .pre .0) (c .before .before .before .before .before .before .write-state4 .ensures) (c .before .before .before .before .before .before .before .empty3 .ensures)) (answer-written (s .args .answer .now) _ _ _ _ _ (s .pre .1) (c .before .before .write-answer4 .ensures)))
 
 pub finish-spec : {M : Type 1} → statement M
 finish-spec =

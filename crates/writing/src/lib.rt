@@ -1,9 +1,9 @@
-// What an instant writes.
+// What an instant writes: both records, from its reaction.
 ghost use mathlib.Core.Path.{_≡_};
 ghost use lib.ListN.{length};
 ghost use Rattle.records.specs.Records.{stateLength, answerLength};
 ghost use Rattle.demands.specs.Tick.{outcome};
-ghost use Rattle.instants.specs.Written.{Writable, writtenFrom};
+ghost use Rattle.writing.specs.Written.{Writable, writtenFrom};
 use completions::Completion;
 use reaction::Reaction;
 
@@ -16,19 +16,19 @@ pub fn finish(state: &mut [u8], answer: &mut [u8], r: Reaction) -> u8
     match k {
         Completion::Ended => {
             records::state::write_state(state, 2, labels::empty());
-            records::answer::write_answer(answer, 0, 0, 0, r.emitted);
+            records::answer::write_answer(answer, 0, 0, 0, r.emitted, r.taken);
         }
         Completion::Waiting => {
             records::state::write_state(state, 1, r.labels);
-            records::answer::write_answer(answer, 1, 0, 0, r.emitted);
+            records::answer::write_answer(answer, 1, 0, 0, r.emitted, r.taken);
         }
         Completion::Leaving(n) => {
             records::state::write_state(state, 2, labels::empty());
-            records::answer::write_answer(answer, n + 1, 0, 0, r.emitted);
+            records::answer::write_answer(answer, n + 1, 0, 0, r.emitted, r.taken);
         }
         Completion::Wrong(kind, place) => {
             records::state::write_state(state, 2, labels::empty());
-            records::answer::write_answer(answer, 255, kind, place, 0);
+            records::answer::write_answer(answer, 255, kind, place, 0, r.taken);
         }
     }
     0
