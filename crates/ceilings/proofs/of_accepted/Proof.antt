@@ -1,0 +1,26 @@
+use borrow.Author.Needs.{needs}
+use Rattle.ceilings.proofs.Planning.{starts, plannable, planned}
+use Rattle.ceilings.proofs.of_accepted.Statement.{statement}
+use Rattle.ceilings.proofs.of_accepted.Tie as tie
+
+of-statement-requires : tie.Need-of-statement-requires
+of-statement-requires c κs = starts _ _ _ (c .before .pre)
+
+size-requires : tie.Need-size-requires
+size-requires c κs = search needs
+
+cast-under : tie.Need-cast-under
+cast-under c = search needs
+
+under-requires : tie.Need-under-requires
+under-requires c κs =
+    let a = c .before .before .before .pre in plannable _ _ _ a (c .before .of-statement .ensures 0 (a .p) (a .lies)) (c .size .ensures)
+
+returns : tie.Need-returns
+returns c =
+    let a = c .before .before .before .before .pre in
+    planned _ _ _ a (c .before .before .of-statement .ensures 0 (a .p) (a .lies)) (c .before .size .ensures) (c .under .ensures)
+
+pub of-accepted-spec : {M : Type 1} → statement M
+of-accepted-spec =
+    tie.close (tie.spec of-statement-requires size-requires cast-under under-requires returns)
