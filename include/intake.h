@@ -16,7 +16,7 @@ extern "C" {
  */
 enum intake_number {
     INTAKE_ACCEPTED = 0,                /* accepted */
-    INTAKE_BUFFER_LENGTH = 1,           /* state buffer not 9 bytes, or answer buffer not 8 */
+    INTAKE_BUFFER_LENGTH = 1,           /* state buffer not 9 bytes, or answer buffer not 12 */
     INTAKE_SEQUENCE_LENGTH = 2,         /* sequence of no bytes or over 1,024 */
     INTAKE_UNKNOWN_COMMAND = 3,         /* command byte above 0B */
     INTAKE_CUT_SHORT = 4,               /* operand or statement missing at the end */
@@ -52,6 +52,12 @@ enum intake_phase {
  * The answer record: where its fields begin, and their bytes. Kind and place are 0 unless the code is INTAKE_WRONG. The
  * place is the byte offset of the erring command in the sequence, lowest byte first, or INTAKE_PLACE_READ_BACK. Byte 0 of
  * the emitted set holds the signals 0 to 7, signal 0 in the lowest bit; the set is empty if the code is INTAKE_WRONG.
+ *
+ * The reactions, lowest byte first, are those that the instant took, a wrong one too: each command counts each time it
+ * reacts, in both runs of every signal around it. They tell the work of the instant. Counted are the commands of the
+ * statement that reacts: the sequence, or what is left of it where it waits, with each read-back signal as a signal
+ * command around it. A sequence never takes more than its ceiling in an instant: commands * (1 + L) << S, where L is the
+ * greatest number of loops around a command and S of signals, read-back ones counted as commands and as signals.
  */
 enum intake_answer {
     INTAKE_ANSWER_CODE = 0,
@@ -60,7 +66,9 @@ enum intake_answer {
     INTAKE_ANSWER_PLACE_LENGTH = 2,
     INTAKE_ANSWER_EMITTED = 4,
     INTAKE_ANSWER_EMITTED_LENGTH = 4,
-    INTAKE_ANSWER_LENGTH = 8
+    INTAKE_ANSWER_REACTIONS = 8,
+    INTAKE_ANSWER_REACTIONS_LENGTH = 4,
+    INTAKE_ANSWER_LENGTH = 12
 };
 
 /* The place of an error of a read-back signal, which no command of the sequence declares. */
