@@ -53,11 +53,11 @@ enum intake_phase {
  * place is the byte offset of the erring command in the sequence, lowest byte first, or INTAKE_PLACE_READ_BACK. Byte 0 of
  * the emitted set holds the signals 0 to 7, signal 0 in the lowest bit; the set is empty if the code is INTAKE_WRONG.
  *
- * The reactions, lowest byte first, are those that the instant took, a wrong one too: each command counts each time it
- * reacts, in both runs of every signal around it. They tell the work of the instant. Counted are the commands of the
- * statement that reacts: the sequence, or what is left of it where it waits, with each read-back signal as a signal
- * command around it. A sequence never takes more than its ceiling in an instant: commands * (1 + L) << S, where L is the
- * greatest number of loops around a command and S of signals, read-back ones counted as commands and as signals.
+ * The number of reactions, lowest byte first, is the work of the instant, a wrong one too: each command of the statement
+ * that reacts counts each time it reacts, in both runs of every signal around it, read-back ones included. That statement is
+ * the sequence, or its expansion when it is resumed. The number never exceeds commands * (1 + loops) * 2^signals, where
+ * loops and signals are the greatest numbers of them around a command, and a read-back signal counts as a command and as a
+ * signal. docs/CEILING.md has more.
  */
 enum intake_answer {
     INTAKE_ANSWER_CODE = 0,
