@@ -59,7 +59,7 @@ impl Kernel {
     /// The answer record of an instant, with the place at which the erring command stands in the kernel form, and with the
     /// reactions of that form.
     pub fn moved(&self, answer: &[u8], call: Call) -> Vec<u8> {
-        let mut moved = answer[..8].to_vec();
+        let mut moved: Vec<u8> = answer.iter().copied().take(8).collect();
         if let [0xFF, _, low, high, ..] = &mut moved[..] {
             let place = *low as usize + 256 * *high as usize;
             let outside = (OUTSIDE, OUTSIDE);

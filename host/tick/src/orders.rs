@@ -6,7 +6,8 @@
 //! - An instant whose answer record or next state changes uses, as printed, a signal that both runs emit while a run is
 //!   wrong. An instant that uses such a signal is wrong by the new order. Said of the record as item 4 found it, without
 //!   the number of reactions; where this alone changes, such a signal is used too.
-//! - Both trees have the same first error, or none, and that of the new order has no more reactions.
+//! - Both trees have the same first error, or none; that of the new order has no more reactions, and the other one is within
+//!   the ceiling too.
 //! - By the new order an instant is wrong exactly if its tree has an error.
 //!
 //! Where there is a paper, its instant is compared with that of the expansion by each order. Each instant that changes
@@ -121,6 +122,7 @@ impl Orders {
         input: u32,
         paper: Option<&mut Paper>,
     ) -> Option<Vec<u8>> {
+        let ceiling = sequence.read.as_ref().ok()?.ceiling;
         let by = |order| tick_by(order, sequence, state, input, ANSWER_LENGTH);
         let (Ok(old), Ok(new)) = (by(Order::Printed), by(Order::InheritanceFirst)) else { return None };
         let (old_errors, new_errors) = (&old.tree.errors, &new.tree.errors);
@@ -132,6 +134,7 @@ impl Orders {
             (wrong || old_errors.is_empty() && new_errors.is_empty(), "not wrong, and an error"),
             (!changed && !fewer || two_fit, "changed, and no two rules that fit"),
             (!more, "more reactions by the new order"),
+            (ceiling.allows(state[0] == 0, old.tree.reactions), "more reactions than the ceiling"),
             (wrong || !two_fit, "not wrong, and two rules that fit"),
             (old_errors.first() == new_errors.first(), "another first error"),
             (wrong != new_errors.is_empty(), "wrong without an error, or an error and not wrong"),

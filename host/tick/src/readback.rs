@@ -106,7 +106,7 @@ fn same(one: &Outcome, other: &Outcome) -> bool {
 fn shows_the_same(one: &Outcome, other: &Outcome) -> bool {
     match (one.number, &one.answer, &other.answer) {
         (0, Some(answer), Some(others)) => {
-            other.number == 0 && one.state.is_some() && one.state == other.state && answer[..8] == others[..8]
+            other.number == 0 && one.state.is_some() && one.state == other.state && answer.get(..8) == others.get(..8)
         }
         _ => same(one, other),
     }
