@@ -76,7 +76,7 @@ bench-check: $(INTAKE_ARCHIVE) # times the check
 
 bench-tick: $(INTAKE_ARCHIVE) # times the tick, and the dearest instant
 	@mkdir -p target/bench
-	$(TIMED) -Iinclude bench/tick.c bench/plain.c bench/counted.c $(INTAKE_ARCHIVE) -lm -o target/bench/tick
+	$(TIMED) -Iinclude bench/tick.c bench/plain.c $(INTAKE_ARCHIVE) -lm -o target/bench/tick
 	@target/bench/tick
 
 bench-run: $(RUN_PROGRAM) # times the run program on its greatest input, for some minutes

@@ -1,15 +1,11 @@
 /*
- * The check and the tick of document 01, with items 1 and 3 to 5 of 02, as one would write them in C. The check is one
+ * The check and the tick of document 01, with items 1 and 3 to 6 of 02, as one would write them in C. The check is one
  * recursive walk that reads and fills two bit matrices. The tick is a recursion over the read-back set, and inside it over
  * the bytes: it skips a part that does not react, and looks through a part for an active pause before it resumes it.
  */
 #include "plain.h"
 
 #include <stdbool.h>
-
-#ifndef REACTED
-#define REACTED ((void)0) /* counted.c counts here */
-#endif
 
 enum { NOTHING, PAUSE, EMIT, EXIT, SEQUENCE, PARALLEL, LOOP, PRESENT, SIGNAL, TRY, SETPAUSE, SUSPEND };
 enum { MAX_BYTES = 1024, MAX_DEPTH = 64, MAX_SIGNALS = 6, LABELS = 64, READ_BACK = 65535 };
@@ -138,7 +134,7 @@ uint8_t plain_check(const uint8_t *sequence, size_t length, uint32_t read_back)
     return check(&c, sequence, length, read_back);
 }
 
-enum { STATE_BYTES = 9, ANSWER_BYTES = 8 };
+enum { STATE_BYTES = 9, ANSWER_BYTES = 12 };
 enum { FRESH, WAITS, OVER };
 enum { ENDED = 0, WAITING = 1, CAUGHT = 2, WRONG = 255 };
 
@@ -152,6 +148,7 @@ struct instant {
     const uint8_t *sequence;
     const uint8_t *next; /* the statement to react */
     uint64_t active;     /* the labels of the state */
+    uint32_t reactions;  /* those so far, both runs of each signal */
     uint16_t place;      /* the first error; there is one exactly if the instant is wrong */
     uint8_t kind;
 };
@@ -250,7 +247,7 @@ static struct reaction declared(struct instant *t, run *body, uint32_t set, uint
         t->next = t->sequence;
         return body(t, present);
     }
-    REACTED;
+    t->reactions++;
     uint32_t s = set & -set;
     struct reaction minus = declared(t, body, set ^ s, present & ~s);
     struct reaction plus = declared(t, body, set ^ s, present | s);
@@ -287,7 +284,7 @@ static struct reaction branch(struct instant *t, run *part, bool first, uint32_t
 /* A statement begins. */
 static struct reaction react(struct instant *t, uint32_t present)
 {
-    REACTED;
+    t->reactions++;
     const uint8_t *command = t->next++;
     uint8_t operand = commands[*command].operands != 0 ? *t->next++ : 0;
     struct reaction p;
@@ -320,17 +317,17 @@ static struct reaction react(struct instant *t, uint32_t present)
     }
 }
 
-/* A side of a parallel resumes, or was over. */
+/* A side of a parallel resumes, or was over and is `nothing` in the expansion. */
 static struct reaction side(struct instant *t, uint32_t present)
 {
     if (active(t))
         return resume(t, present);
     skip(t);
-    REACTED;
+    t->reactions++;
     return ended;
 }
 
-/* A statement with an active pause goes on as its expansion would. */
+/* A statement with an active pause goes on as its expansion would, whose commands are counted. */
 static struct reaction resume(struct instant *t, uint32_t present)
 {
     const uint8_t *command = t->next++;
@@ -340,14 +337,14 @@ static struct reaction resume(struct instant *t, uint32_t present)
     case SEQUENCE:
         if (!active(t))
             return branch(t, resume, false, present);
-        REACTED;
+        t->reactions++;
         return then(t, resume(t, present), present);
     case PARALLEL:
-        REACTED;
+        t->reactions++;
         p = side(t, present);
         return parallel(p, side(t, present));
     case LOOP:
-        REACTED;
+        t->reactions++;
         p = resume(t, present);
         if (p.code != ENDED)
             return p;
@@ -356,16 +353,16 @@ static struct reaction resume(struct instant *t, uint32_t present)
     case PRESENT:
         return branch(t, resume, active(t), present);
     case SIGNAL:
-        REACTED;
+        t->reactions++;
         return local(t, resume, present);
     case TRY:
-        REACTED;
+        t->reactions++;
         return caught(resume(t, present));
     case SUSPEND:
-        REACTED;
+        t->reactions++;
         return present >> command[1] & 1 ? (struct reaction){kept(t), 0, WAITING} : resume(t, present);
     default: /* an active pause */
-        REACTED;
+        t->reactions++;
         return ended;
     }
 }
@@ -416,5 +413,6 @@ uint8_t plain_tick(const uint8_t *sequence, size_t sequence_length, uint8_t *sta
     answer[1] = t.kind;
     put(answer + 2, 2, t.place);
     put(answer + 4, 4, r.code == WRONG ? 0 : r.emitted);
+    put(answer + 8, 4, t.reactions);
     return 0;
 }

@@ -1,10 +1,9 @@
 /*
  * Times intake_tick against plain_tick on the same instants, in turn within each round. Every call ticks the same
- * record again: caches and branch predictors are warm. Reactions are counted by counted.c.
+ * record again: caches and branch predictors are warm. The reactions of an instant are those that its answer tells.
  */
 #include "timing.h"
 
-#include "counted.h"
 #include "dearest.h"
 #include "intake.h"
 #include "plain.h"
@@ -53,7 +52,7 @@ struct instant {
     uint8_t bytes[CAPACITY], state[INTAKE_STATE_LENGTH];
     size_t length;
     uint32_t input, read_back;
-    uint64_t reactions;
+    uint32_t reactions;
     unsigned calls;
 };
 
@@ -111,7 +110,16 @@ static void build(struct builder *b, const struct kind *kind, size_t length)
     }
 }
 
-/* Sets the record, after one instant or none, and counts; both must give the same, and no error. */
+/* The number of reactions that an answer record holds. */
+static uint32_t reactions_in(const uint8_t *answer)
+{
+    uint32_t number = 0;
+    for (unsigned i = INTAKE_ANSWER_REACTIONS_LENGTH; i > 0; i--)
+        number = number << 8 | answer[INTAKE_ANSWER_REACTIONS + i - 1];
+    return number;
+}
+
+/* Sets the record, after one instant or none, and what it takes; both must give the same, and no error. */
 static void prepare(struct instant *t, bool resumed, const char *name)
 {
     uint8_t state[INTAKE_STATE_LENGTH], answer[INTAKE_ANSWER_LENGTH];
@@ -119,9 +127,6 @@ static void prepare(struct instant *t, bool resumed, const char *name)
     memset(t->state, 0, sizeof t->state);
     if (resumed && once(plain_tick, t, state, answer) == 0)
         memcpy(t->state, state, sizeof state);
-    reactions = 0;
-    once(counted_tick, t, state, answer);
-    t->reactions = reactions;
     double start = nanoseconds();
     bool accepted = once(intake_tick, t, states[0], answers[0]) == 0;
     double time = fmax(nanoseconds() - start, 1);
@@ -132,6 +137,7 @@ static void prepare(struct instant *t, bool resumed, const char *name)
         fprintf(stderr, "%s, %zu bytes: not accepted by both, or not the same\n", name, t->length);
         exit(1);
     }
+    t->reactions = reactions_in(answers[0]);
 }
 
 /* Prints the row of one instant, and returns the comparison. */
@@ -140,7 +146,7 @@ static struct comparison row(const struct instant *t, const char *name)
     unsigned rounds = (unsigned)(ROW / (2 * t->calls * sample(t, 1)));
     rounds = rounds < LEAST_ROUNDS ? LEAST_ROUNDS : rounds > ROUNDS ? ROUNDS : rounds;
     struct comparison c = compare(sample, t, rounds);
-    double n = (double)t->reactions;
+    double n = t->reactions;
     printf("%-30s %5zu %9.0f %10.0f %10.0f %7.2f %7.2f %6.2f\n", name, t->length, n, c.intake, c.plain, c.intake / n,
            c.plain / n, c.ratio);
     fflush(stdout);

@@ -127,11 +127,12 @@ static void listing(void)
     uint8_t number = intake_tick(sequence, sizeof sequence, state, sizeof state, 0, 0, answer, sizeof answer);
     expect(number == INTAKE_ACCEPTED && answer[INTAKE_ANSWER_CODE] == INTAKE_WAITING &&
                answer[INTAKE_ANSWER_KIND] == INTAKE_NO_ERROR && state[INTAKE_STATE_PHASE] == INTAKE_PHASE_WAITING &&
-               state[INTAKE_STATE_LABELS] == 1 << 1,
+               state[INTAKE_STATE_LABELS] == 1 << 1 && answer[INTAKE_ANSWER_REACTIONS] == 1 + 2 * 4,
            number, "first instant", "listing\n");
     number = intake_tick(sequence, sizeof sequence, state, sizeof state, 0, 0, answer, sizeof answer);
     expect(number == INTAKE_ACCEPTED && answer[INTAKE_ANSWER_CODE] == INTAKE_ENDED &&
-               answer[INTAKE_ANSWER_EMITTED] == 1 << 1 && state[INTAKE_STATE_PHASE] == INTAKE_PHASE_OVER,
+               answer[INTAKE_ANSWER_EMITTED] == 1 << 1 && state[INTAKE_STATE_PHASE] == INTAKE_PHASE_OVER &&
+               answer[INTAKE_ANSWER_REACTIONS] == 1 + 2 * 3,
            number, "second instant", "listing\n");
     number = intake_tick(sequence, sizeof sequence, state, sizeof state, 0, 0, answer, sizeof answer);
     expect(number == INTAKE_OVER, number, "once over", "listing\n");
@@ -172,7 +173,8 @@ static void null_pointers(void)
 
 _Static_assert(INTAKE_STATE_LABELS + INTAKE_STATE_LABELS_LENGTH == INTAKE_STATE_LENGTH, "the state record");
 _Static_assert(INTAKE_ANSWER_PLACE + INTAKE_ANSWER_PLACE_LENGTH == INTAKE_ANSWER_EMITTED, "the answer record");
-_Static_assert(INTAKE_ANSWER_EMITTED + INTAKE_ANSWER_EMITTED_LENGTH == INTAKE_ANSWER_LENGTH, "the answer record");
+_Static_assert(INTAKE_ANSWER_EMITTED + INTAKE_ANSWER_EMITTED_LENGTH == INTAKE_ANSWER_REACTIONS, "the answer record");
+_Static_assert(INTAKE_ANSWER_REACTIONS + INTAKE_ANSWER_REACTIONS_LENGTH == INTAKE_ANSWER_LENGTH, "the answer record");
 
 int main(int argc, char **argv)
 {

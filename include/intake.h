@@ -16,7 +16,7 @@ extern "C" {
  */
 enum intake_number {
     INTAKE_ACCEPTED = 0,                /* accepted */
-    INTAKE_BUFFER_LENGTH = 1,           /* state buffer not 9 bytes, or answer buffer not 8 */
+    INTAKE_BUFFER_LENGTH = 1,           /* state buffer not 9 bytes, or answer buffer not 12 */
     INTAKE_SEQUENCE_LENGTH = 2,         /* sequence of no bytes or over 1,024 */
     INTAKE_UNKNOWN_COMMAND = 3,         /* command byte above 0B */
     INTAKE_CUT_SHORT = 4,               /* operand or statement missing at the end */
@@ -52,6 +52,12 @@ enum intake_phase {
  * The answer record: where its fields begin, and their bytes. Kind and place are 0 unless the code is INTAKE_WRONG. The
  * place is the byte offset of the erring command in the sequence, lowest byte first, or INTAKE_PLACE_READ_BACK. Byte 0 of
  * the emitted set holds the signals 0 to 7, signal 0 in the lowest bit; the set is empty if the code is INTAKE_WRONG.
+ *
+ * The number of reactions, lowest byte first, is the work of the instant, a wrong one too: each command of the statement
+ * that reacts counts each time it reacts, in both runs of every signal around it, read-back ones included. That statement is
+ * the sequence, or its expansion when it is resumed. The number never exceeds commands * (1 + loops) * 2^signals, where
+ * loops and signals are the greatest numbers of them around a command, and a read-back signal counts as a command and as a
+ * signal. docs/CEILING.md has more.
  */
 enum intake_answer {
     INTAKE_ANSWER_CODE = 0,
@@ -60,7 +66,9 @@ enum intake_answer {
     INTAKE_ANSWER_PLACE_LENGTH = 2,
     INTAKE_ANSWER_EMITTED = 4,
     INTAKE_ANSWER_EMITTED_LENGTH = 4,
-    INTAKE_ANSWER_LENGTH = 8
+    INTAKE_ANSWER_REACTIONS = 8,
+    INTAKE_ANSWER_REACTIONS_LENGTH = 4,
+    INTAKE_ANSWER_LENGTH = 12
 };
 
 /* The place of an error of a read-back signal, which no command of the sequence declares. */

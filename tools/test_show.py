@@ -43,6 +43,8 @@ place  bytes  command
     6  01 01        pause, label 1
     8  02 01        emit 1
 
+ceiling: 6 × 1 × 2 = 12 reactions (commands 6, around one: loops 0, signals 1)
+
 instant    1 2
 emitted  1 . #
 label    1 # .
@@ -61,6 +63,8 @@ place  bytes  command
     5  02 09      emit 9
     7  00         nothing
 
+ceiling: 7 × 1 × 4 = 28 reactions (commands 7, around one: loops 0, signals 2)
+
 instant    1
 emitted  8 #
 emitted  9 #
@@ -69,6 +73,8 @@ code       0
 instant 1: ended
 """
 TOPPING_SHOWN = """
+ceiling: 18 × 2 × 1 = 36 reactions (commands 18, around one: loops 1, signals 0)
+
 instant      1   2   3   4
 input    0   #   #   #   .
 emitted  8   #   #   #   .
@@ -151,13 +157,20 @@ def generate(place, depth, signals, size):
     return data, lines
 
 
-def nesting(lines):
-    """The most signal commands around a command."""
+def nesting(lines, kind=8):
+    """The most commands of a kind around a command: signals, if not told."""
     around, most = [], 0  # the depths of those around the last line
     for _, depth, own in lines:
-        around = [outer for outer in around if outer < depth] + [depth] * (own[0] == 8)
+        around = [outer for outer in around if outer < depth] + [depth] * (own[0] == kind)
         most = max(most, len(around))
     return most
+
+
+def ceiling(lines, declared=0):
+    """The line on the ceiling (02, item 6), with so many signals read back."""
+    commands, loops, signals = len(lines) + declared, nesting(lines, 6), nesting(lines) + declared
+    factors = f"{commands:,} × {loops + 1} × {1 << signals} = {commands * (loops + 1) << signals:,}"
+    return f"ceiling: {factors} reactions (commands {commands:,}, around one: loops {loops}, signals {signals})\n"
 
 
 def sequence():
@@ -198,15 +211,16 @@ def verdict(data):
 
 
 def table(lines):
+    """All that is shown of a sequence."""
     rows = (f"{place:5}  {own.hex(' ').upper():5}  {'  ' * (depth - 1)}{WORDS[own[0]].format(*own[1:])}\n"
             for place, depth, own in lines)
-    return "place  bytes  command\n" + "".join(rows)
+    return "place  bytes  command\n" + "".join(rows) + "\n" + ceiling(lines)
 
 
 def bytes_shown(shown):
     """The bytes of the commands in a table, each at the place where the one before it ends."""
     data = b""
-    for line in shown.splitlines()[1:]:
+    for line in shown.partition("\n\n")[0].splitlines()[1:]:
         if int(line[:5]) != len(data):
             return None
         data += bytes.fromhex(line[7:12])
@@ -222,6 +236,7 @@ def expect_sequence(data, what):
         expect(status == 0 and message == "", f"{what}: {data.hex()}: {answer}")
     else:
         expect_damage(answer, rf": place {place}: .*\(row {row}\)\n", f"{what}: {data.hex()}")
+        expect("ceiling" not in shown, f"{what}: no ceiling: {data.hex()}: {answer}")
 
 
 def test_sequences():
@@ -294,7 +309,36 @@ def expect_row(number, data, read_back, what):
         head, _, shown = answer[1].partition("\n")
         signals = [str(signal) for signal in range(32) if read_back >> signal & 1]
         expect(answer[0] == 0 and head == "reads back " + ", ".join(signals), f"{what}: {answer}")
-        expect(bytes_shown(shown.partition("\n\n")[0]) == data, f"{what}: {answer}")
+        expect(bytes_shown(shown) == data, f"{what}: {answer}")
+
+
+def test_ceilings():
+    """By hand: loops and signals inside each other and beside, read-back signals, and the bytes of docs/CEILING.md."""
+    page = (ROOT / "docs" / "CEILING.md").read_text(encoding="utf-8")
+    dearest = re.search(r"```text\n(08 00 [0-9A-F \n]*)```", page)[1]
+    for text, read_back, factors, rest in [
+        ("00", 0, "1 × 1 × 1 = 1", "commands 1, around one: loops 0, signals 0"),
+        ("06 01 00", 0, "2 × 2 × 1 = 4", "commands 2, around one: loops 1, signals 0"),
+        ("06 0B 00 01 00", 0, "3 × 2 × 1 = 6", "commands 3, around one: loops 1, signals 0"),
+        ("05 06 01 00 06 01 01", 0, "5 × 2 × 1 = 10", "commands 5, around one: loops 1, signals 0"),
+        ("06 05 06 01 00 01 01", 0, "5 × 3 × 1 = 15", "commands 5, around one: loops 2, signals 0"),
+        ("05 08 00 08 01 00 08 02 00", 0, "6 × 1 × 4 = 24", "commands 6, around one: loops 0, signals 2"),
+        ("05 08 00 00 06 01 00", 0, "5 × 2 × 2 = 20", "commands 5, around one: loops 1, signals 1"),
+        ("06 08 00 06 01 00", 0, "4 × 3 × 2 = 24", "commands 4, around one: loops 2, signals 1"),
+        ("00", 0x80000000, "2 × 1 × 2 = 4", "commands 2, around one: loops 0, signals 1"),
+        ("06 08 00 01 00", 0x101, "5 × 2 × 8 = 80", "commands 5, around one: loops 1, signals 3"),
+        ("63(06) 00", 0x3F, "70 × 64 × 64 = 286,720", "commands 70, around one: loops 63, signals 6"),
+        ("09 04 2(04 2(04 2(04 2(04 2(04 2(04 2(04 2(04 2(00)))))))))", 0x3F, "1,030 × 1 × 64 = 65,920",
+         "commands 1,030, around one: loops 0, signals 6"),
+        (dearest, 0, "100 × 1 × 64 = 6,400", "commands 100, around one: loops 0, signals 6"),
+    ]:
+        data = expand(text)
+        run = len(data).to_bytes(2, "little") + data + read_back.to_bytes(4, "little")
+        line = f"\n\nceiling: {factors} reactions ({rest})\n"
+        status, shown, _ = answer = show(data=run, listing=HEADER + "end\n")
+        expect(status == 0 and line in shown and shown.count("ceiling") == 1, f"the ceiling of {text}: {answer}")
+        answer = show("--sequence", data=data)
+        expect(read_back or answer[0] == 0 and answer[1].endswith(line), f"the ceiling of {text}, alone: {answer}")
 
 
 # Runs
@@ -573,8 +617,8 @@ def main():
     global folder
     with tempfile.TemporaryDirectory() as name:
         folder = Path(name)
-        for test in (test_sequences, test_damaged_sequences, test_rows, test_examples, test_random_runs, test_damaged_runs,
-                     test_garbage, test_calls, test_run_program):
+        for test in (test_sequences, test_damaged_sequences, test_rows, test_ceilings, test_examples, test_random_runs,
+                     test_damaged_runs, test_garbage, test_calls, test_run_program):
             test()
     print(f"{passed} passed, {failed} failed")
     return failed != 0

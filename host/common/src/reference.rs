@@ -5,6 +5,7 @@ use std::ops::RangeInclusive;
 
 pub const PAUSE: u8 = 0x01;
 const SEQUENCE: u8 = 0x04;
+pub const LOOP: u8 = 0x06;
 const PRESENT: u8 = 0x07;
 pub const SIGNAL: u8 = 0x08;
 const SETPAUSE: u8 = 0x0A;
@@ -30,7 +31,7 @@ fn shape(byte: u8) -> Option<(Option<RangeInclusive<u8>>, u8)> {
         0x02 => Some((Some(0..=31), 0)),
         0x03 => Some((Some(1..=15), 0)),
         SEQUENCE | 0x05 => Some((None, 2)),
-        0x06 | 0x09 => Some((None, 1)),
+        LOOP | 0x09 => Some((None, 1)),
         PRESENT => Some((Some(0..=31), 2)),
         SIGNAL | SUSPEND => Some((Some(0..=31), 1)),
         _ => None,
@@ -55,7 +56,7 @@ fn read(bytes: &[u8]) -> Result<(Tree, usize), u8> {
             }
             at += 1;
         }
-        if place.len() + 1 > 64 || byte == SIGNAL && tree.signals(&place) + 1 > 6 {
+        if place.len() + 1 > 64 || byte == SIGNAL && tree.around(&place, SIGNAL) + 1 > 6 {
             return Err(6);
         }
         for part in (0..parts).rev() {
@@ -67,14 +68,19 @@ fn read(bytes: &[u8]) -> Result<(Tree, usize), u8> {
 }
 
 impl Tree {
-    /// The number of signal commands around a place.
-    pub fn signals(&self, place: &[(usize, u8)]) -> usize {
-        place.iter().filter(|around| self.0[around.0].byte == SIGNAL).count()
+    /// The number of commands with this byte around a place.
+    fn around(&self, place: &[(usize, u8)], byte: u8) -> usize {
+        place.iter().filter(|around| self.0[around.0].byte == byte).count()
+    }
+
+    /// The greatest number of commands with this byte around a command.
+    pub fn most_around(&self, byte: u8) -> usize {
+        self.0.iter().map(|command| self.around(&command.place, byte)).max().unwrap_or(0)
     }
 
     /// The greatest number of signal commands around a command.
     pub fn nesting(&self) -> usize {
-        self.0.iter().map(|command| self.signals(&command.place)).max().unwrap_or(0)
+        self.most_around(SIGNAL)
     }
 
     pub fn pauses(&self) -> Vec<&Command> {

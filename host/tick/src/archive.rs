@@ -16,6 +16,9 @@ extern "C" {
 
 const GUARD: usize = 16;
 
+/// The length of an answer buffer that row 1 lets pass.
+pub const ANSWER_LENGTH: usize = 12;
+
 /// A buffer between guard bytes.
 struct Guarded {
     bytes: Vec<u8>,

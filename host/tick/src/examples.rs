@@ -1,5 +1,6 @@
 //! The run files of examples/: what their pages list, by hand, is what the reference gives, and the archive and the
 //! paper too.
+use crate::archive::ANSWER_LENGTH;
 use crate::reference::{self, Sequence};
 use crate::tally::Tally;
 use std::{fs, path::Path};
@@ -33,8 +34,8 @@ fn listing(tally: &mut Tally, file: &[u8]) -> String {
     let (mut paper, mut lines) = (sequence.paper(), String::from("instant code kind place emitted labels\n"));
     for (i, input) in inputs.chunks(4).enumerate() {
         let input = number(input);
-        tally.compare(&sequence, &state, input, 8, paper.as_mut());
-        let Ok(instant) = reference::tick(&sequence, &state, input, 8) else { break };
+        tally.compare(&sequence, &state, input, ANSWER_LENGTH, paper.as_mut());
+        let Ok(instant) = reference::tick(&sequence, &state, input, ANSWER_LENGTH) else { break };
         lines += &format!("{}\n", instant.line(i + 1));
         state = instant.state;
     }

@@ -1,11 +1,12 @@
 //! The instants of document 01 by labels, with the suspend of 02, item 1: a waiting machine reacts with its expansion.
 //! The rules of a signal are tried in either order (02, item 4); the declarations of read-back signals (item 5) stay
-//! around the expansion. It shares nothing with rewriting.rs but the terms and the names of the orders.
+//! around the expansion. Reactions (item 6) are counted as they happen. It shares nothing with rewriting.rs but the terms
+//! and the names of the orders.
 use crate::statement::{Declaration, Order, Statement, Term};
 use std::rc::Rc;
 
-/// 002, figure 5: the expansion of a statement with an active pause. None if it has none. A suspend chooses, in the
-/// instant, between waiting again at its active pauses and the expansion of its body.
+/// 002, figure 5: the expansion of a statement with an active pause. None if it has none. What a suspend becomes chooses, in
+/// the instant, between waiting again at its active pauses and the expansion of its body.
 pub fn expand(term: &Term, labels: u64) -> Option<Term> {
     let expanded = match &**term {
         Statement::Pause(l) if labels >> l & 1 == 1 => Statement::Nothing,
@@ -28,7 +29,7 @@ pub fn expand(term: &Term, labels: u64) -> Option<Term> {
         Statement::Try(p) => Statement::Try(expand(p, labels)?),
         Statement::Suspend(s, p) => {
             let body = expand(p, labels)?;
-            Statement::Present(*s, Rc::new(Statement::Kept(labels & pauses(p))), body)
+            Statement::Kept(*s, labels & pauses(p), body)
         }
         _ => return None,
     };
@@ -71,6 +72,7 @@ pub struct Tree {
     pub order: Order,
     /// First part before second, run without the signal before run with it, a command after its parts.
     pub errors: Vec<Error>,
+    /// One for each reaction: of a command of the sequence, of one that the expansion made, of a read-back declaration.
     pub reactions: u64,
     /// Uses of each case.
     pub cases: [u64; 5],
@@ -128,9 +130,7 @@ impl Tree {
                 }
             }
             Statement::Present(s, p, _) if present & 1 << s != 0 => {
-                let outside = 1 << s & !self.declared;
-                self.found |= outside;
-                self.stopping |= if matches!(**p, Statement::Kept(_)) { outside } else { 0 };
+                self.found |= 1 << s & !self.declared;
                 self.react(p, present)
             }
             Statement::Present(_, _, q) => self.react(q, present),
@@ -140,10 +140,12 @@ impl Tree {
                 self.begun_present += (present >> s & 1) as u64;
                 self.react(p, present)
             }
-            Statement::Kept(labels) => {
+            Statement::Kept(s, labels, _) if present & 1 << s != 0 => {
                 self.stopped += 1;
+                self.stopping |= 1 << s & !self.declared;
                 Answer { code: 1, labels: *labels, ..quiet }
             }
+            Statement::Kept(_, _, p) => self.react(p, present),
             Statement::Held(..) => unreachable!("the paper's"),
         }
     }

@@ -13,15 +13,18 @@
 //! no other exit counts differently. In suspends inside each other the outermost tests first, so its test stands
 //! nearest to the pause. A label stays with its pause, so a setpause reaches the same one, and the added sequence
 //! holds a single pause and no setpause: nothing becomes exclusive, and rows 8 to 11 say the same. The added loop
-//! begins with a pause and never errs. Only places differ: the erring command is the same, at its own place in the
-//! kernel form; a read-back declaration (item 5) has none in either, and its errors stay outside.
-use crate::statement::OUTSIDE;
+//! begins with a pause and never errs. Only places and reactions differ: the erring command is the same, at its own place
+//! in the kernel form; a read-back declaration (item 5) has none in either, and its errors stay outside. The reactions are
+//! those of the kernel form's expansion.
+use crate::archive::Call;
+use crate::reference::instant;
+use crate::statement::{term, wrap, Order, Term, OUTSIDE};
 use common::reference::{check, Tree, PAUSE, SIGNAL, SUSPEND};
 
 pub struct Kernel {
     pub bytes: Vec<u8>,
-    /// What the check on the tree says of it.
-    pub number: u8,
+    /// Its commands and its term inside the read-back declarations, or the row that turns it down.
+    pub read: Result<(Tree, Term), u8>,
     /// The most suspends that are replaced around one pause.
     pub nested: usize,
     /// The place of each command, and its place in the kernel form.
@@ -43,13 +46,20 @@ impl Kernel {
             tested.iter().for_each(|&s| bytes.extend([0x07, s, 0x00, 0x03, 0x01]));
             nested = nested.max(tested.len());
         }
-        let number = check(&bytes, read_back).err().unwrap_or(0);
-        replaced.contains(&true).then_some(Kernel { bytes, number, nested, places })
+        if !replaced.contains(&true) {
+            return None;
+        }
+        let read = check(&bytes, read_back).map(|tree| {
+            let wrapped = wrap(read_back, &term(&tree));
+            (tree, wrapped)
+        });
+        Some(Kernel { bytes, read, nested, places })
     }
 
-    /// The answer record of an instant, with the place at which the erring command stands in the kernel form.
-    pub fn moved(&self, answer: &[u8]) -> Vec<u8> {
-        let mut moved = answer.to_vec();
+    /// The answer record of an instant, with the place at which the erring command stands in the kernel form, and with the
+    /// reactions of that form.
+    pub fn moved(&self, answer: &[u8], call: Call) -> Vec<u8> {
+        let mut moved: Vec<u8> = answer.iter().copied().take(8).collect();
         if let [0xFF, _, low, high, ..] = &mut moved[..] {
             let place = *low as usize + 256 * *high as usize;
             let outside = (OUTSIDE, OUTSIDE);
@@ -57,6 +67,9 @@ impl Kernel {
                 self.places.iter().chain([&outside]).find(|(at, _)| *at == place).map_or(0xFFFE, |found| found.1);
             (*low, *high) = ((there % 256) as u8, (there / 256) as u8);
         }
+        let own = self.read.as_ref().ok();
+        let own = own.and_then(|(tree, term)| instant(Order::default(), tree, term, call.state, call.input).ok());
+        moved.extend(own.map_or(vec![], |own| own.answer[8..].to_vec()));
         moved
     }
 }

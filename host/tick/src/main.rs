@@ -1,9 +1,11 @@
 //! The host test of the tick: intake_tick of the archive against two implementations of document 01 on explicit terms,
 //! by expansion of the label set (expansion.rs) and by rewriting (rewriting.rs), and a sequence with suspends against its
 //! kernel form (kernel.rs); a tick with a read-back set also against other calls (readback.rs); then these
-//! implementations by both orders of the signal rules (orders.rs).
+//! implementations by both orders of the signal rules (orders.rs). The reactions of each instant are held to the ceiling of
+//! its sequence (ceiling.rs).
 //! An argument replaces the seed. The last line is 'N passed, M failed'.
 mod archive;
+mod ceiling;
 mod examples;
 mod expansion;
 mod kernel;
@@ -36,7 +38,7 @@ fn by_hand(tally: &mut Tally) {
 
 /// Row 1: buffers of all lengths around the right ones, and such as a narrow counter would take for them.
 fn lengths(tally: &mut Tally) {
-    let lengths = || (0..=20).chain([255, 256, 264, 265, 65_544, 65_545]);
+    let lengths = || (0..=20).chain([255, 256, 264, 265, 268, 65_545, 65_548]);
     for bytes in ["", "0C", "00", "01 00", "00 00", "1025(00)"].map(table::bytes) {
         let sequence = Sequence::new(bytes, 0);
         for (state, answer) in lengths().flat_map(|s| lengths().map(move |a| (s, a))) {
@@ -61,6 +63,8 @@ fn main() -> ExitCode {
     tally.close("vectors");
     examples::examples(&mut tally);
     tally.close("examples");
+    ceiling::ceilings(&mut tally);
+    tally.close("ceilings");
     lengths(&mut tally);
     tally.close("buffers");
     small::every_state(&mut tally);

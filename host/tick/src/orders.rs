@@ -4,12 +4,15 @@
 //! - An instant that is not wrong by the new order has the records that it had by the printed one, and the same
 //!   residual, and neither tree has an error.
 //! - An instant whose answer record or next state changes uses, as printed, a signal that both runs emit while a run is
-//!   wrong. An instant that uses such a signal is wrong by the new order.
-//! - Both trees have the same first error, or none.
+//!   wrong. An instant that uses such a signal is wrong by the new order. Said of the record as item 4 found it, without
+//!   the number of reactions; where this alone changes, such a signal is used too.
+//! - Both trees have the same first error, or none; that of the new order has no more reactions, and the other one is within
+//!   the ceiling too.
 //! - By the new order an instant is wrong exactly if its tree has an error.
 //!
 //! Where there is a paper, its instant is compared with that of the expansion by each order. Each instant that changes
 //! is compared with the archive as well.
+use crate::archive::ANSWER_LENGTH;
 use crate::reference::{tick_by, Instant, Sequence};
 use crate::rewriting::{Paper, Seen};
 use crate::statement::Order;
@@ -18,12 +21,13 @@ use crate::{runs, small, ticks};
 use common::generate::Random;
 use common::table::hex;
 
-const COUNTED: [&str; 15] = [
+const COUNTED: [&str; 16] = [
     "by both orders",
     "the same, resumed",
     "the same, residuals compared",
     "the same, wrong by both",
     "the same, fewer errors by the new order",
+    "the same, wrong by both, fewer reactions",
     "changed, from code 0",
     "changed, from code 1",
     "changed, from a greater code",
@@ -52,6 +56,11 @@ pub fn both(tally: &mut Tally, random: &mut Random) -> Orders {
     orders.small = false;
     (0..60_000).for_each(|_| orders.run(tally, random));
     orders
+}
+
+/// Did another record come out, the number of reactions aside?
+fn changed(old: &Instant, new: &Instant) -> bool {
+    old.answer[..8] != new.answer[..8] || old.state != new.state
 }
 
 impl Orders {
@@ -113,15 +122,19 @@ impl Orders {
         input: u32,
         paper: Option<&mut Paper>,
     ) -> Option<Vec<u8>> {
-        let by = |order| tick_by(order, sequence, state, input, 8);
+        let ceiling = sequence.read.as_ref().ok()?.ceiling;
+        let by = |order| tick_by(order, sequence, state, input, ANSWER_LENGTH);
         let (Ok(old), Ok(new)) = (by(Order::Printed), by(Order::InheritanceFirst)) else { return None };
         let (old_errors, new_errors) = (&old.tree.errors, &new.tree.errors);
-        let (wrong, changed) = (new.answer[0] == 255, old.answer != new.answer || old.state != new.state);
+        let (wrong, changed) = (new.answer[0] == 255, changed(&old, &new));
+        let (more, fewer) = (new.tree.reactions > old.tree.reactions, new.tree.reactions < old.tree.reactions);
         let two_fit = old.tree.two_fit != [0; 3];
         let claims = [
-            (wrong || !changed, "not wrong, and changed"),
+            (wrong || !changed && old.answer == new.answer, "not wrong, and changed"),
             (wrong || old_errors.is_empty() && new_errors.is_empty(), "not wrong, and an error"),
-            (!changed || two_fit, "changed, and no two rules that fit"),
+            (!changed && !fewer || two_fit, "changed, and no two rules that fit"),
+            (!more, "more reactions by the new order"),
+            (ceiling.allows(state[0] == 0, old.tree.reactions), "more reactions than the ceiling"),
             (wrong || !two_fit, "not wrong, and two rules that fit"),
             (old_errors.first() == new_errors.first(), "another first error"),
             (wrong != new_errors.is_empty(), "wrong without an error, or an error and not wrong"),
@@ -133,7 +146,7 @@ impl Orders {
         if let Some(paper) = paper {
             let mut other = paper.clone();
             let agrees = |paper: &mut Paper, order, instant: &Instant| {
-                let seen = paper.tick(order, input, 8);
+                let seen = paper.tick(order, input, ANSWER_LENGTH);
                 Seen::of(&instant.answer) == Some(seen) && paper.phase() == instant.state[0]
             };
             let agree = agrees(&mut other, Order::InheritanceFirst, &new) && agrees(paper, Order::Printed, &old);
@@ -142,13 +155,13 @@ impl Orders {
         }
         if changed {
             self.changed += 1;
-            tally.compare(sequence, state, input, 8, None);
+            tally.compare(sequence, state, input, ANSWER_LENGTH, None);
         }
         Some(old.state)
     }
 
     fn count(&mut self, read_back: u32, state: &[u8], (old, new): (&Instant, &Instant), paper: bool) {
-        let changed = old.answer != new.answer || old.state != new.state;
+        let changed = changed(old, new);
         let (resumed, wrong) = (state[0] == 1, new.answer[0] == 255);
         let kinds = [
             true,
@@ -156,6 +169,7 @@ impl Orders {
             paper && !wrong,
             wrong && !changed,
             old.tree.errors.len() > new.tree.errors.len(),
+            wrong && !changed && old.tree.reactions > new.tree.reactions,
             changed && old.answer[0] == 0,
             changed && old.answer[0] == 1,
             changed && old.answer[0] > 1,
@@ -165,7 +179,7 @@ impl Orders {
             changed && old.tree.two_fit[1] > 0,
             changed && old.tree.two_fit[2] > 0,
             changed && read_back != 0,
-            changed && read_back.to_le_bytes().iter().zip(&old.answer[4..]).any(|(set, emitted)| set & emitted != 0),
+            changed && read_back.to_le_bytes().iter().zip(&old.answer[4..8]).any(|(set, emitted)| set & emitted != 0),
         ];
         (0..COUNTED.len()).for_each(|i| self.counted[i] += kinds[i] as u64);
     }

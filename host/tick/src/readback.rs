@@ -3,12 +3,14 @@
 //!
 //! - With the host's status of every read-back signal turned: the same number and records.
 //! - After an instant that is not wrong, without a set, on the input in which each read-back signal has the status that
-//!   the answer reports: the same number and records. The chosen run is that one, for each signal.
+//!   the answer reports: the same number and records but for the reactions. The chosen run is that one, for each signal.
 //! - The sequence with a signal command for each signal of the set in front of it, the lowest first, without a set, where
 //!   length and depth leave room: the same number and state, the same answer but for the read-back signals in the emitted
 //!   set, its places moved, those of the commands in front being 65535 with the set.
-//! - Where the sequence names no signal of the set, without a set: the same number and records.
-use crate::archive::{tick, Call, Outcome};
+//! - Where the sequence names no signal of the set, without a set: the same number and records but for the reactions.
+//! - The reactions (item 6) are those without a set, summed over every status of the set's signals, and one for each time
+//!   that a declaration reacts: 2^n - 1 times for n signals.
+use crate::archive::{tick, Call, Outcome, ANSWER_LENGTH};
 use crate::reference::{instant, Instant, Sequence};
 use crate::statement::{Order, OUTSIDE};
 use common::counts::Counts;
@@ -71,11 +73,24 @@ impl Written {
         }
         back
     }
+
+    /// Is this what the sequence written out gives, where that gives `own`?
+    fn agrees(&self, set: u32, outcome: &Outcome, own: &Outcome) -> bool {
+        match (self.number, outcome.number) {
+            (0, 0) => {
+                let answers = outcome.answer.as_ref().zip(own.answer.as_ref());
+                let fits = answers.is_some_and(|(answer, own)| without(answer, set) == self.back(own));
+                own.number == 0 && own.state == outcome.state && fits
+            }
+            (0, number) => own.number == number,
+            (number, of_tick) => matches!(number, 2 | 6) && own.number == if of_tick == 1 { 1 } else { number },
+        }
+    }
 }
 
 /// The answer record of an instant without some signals.
 fn without(answer: &[u8], signals: u32) -> Vec<u8> {
-    let kept = [0; 4].into_iter().chain(signals.to_le_bytes());
+    let kept = [0; 4].into_iter().chain(signals.to_le_bytes()).chain([0; 4]);
     answer.iter().zip(kept).map(|(byte, signals)| byte & !signals).collect()
 }
 
@@ -85,6 +100,38 @@ fn emitted(answer: &[u8]) -> u32 {
 
 fn same(one: &Outcome, other: &Outcome) -> bool {
     one.number == other.number && one.state.is_some() && one.state == other.state && one.answer == other.answer
+}
+
+/// The same, but for the reactions of an instant.
+fn shows_the_same(one: &Outcome, other: &Outcome) -> bool {
+    match (one.number, &one.answer, &other.answer) {
+        (0, Some(answer), Some(others)) => {
+            other.number == 0 && one.state.is_some() && one.state == other.state && answer.get(..8) == others.get(..8)
+        }
+        _ => same(one, other),
+    }
+}
+
+/// The number of reactions that an accepted tick tells.
+fn reactions(outcome: &Outcome) -> Option<u64> {
+    let told = outcome.answer.as_ref().filter(|answer| outcome.number == 0 && answer.len() == ANSWER_LENGTH)?;
+    Some(told[8..].iter().rev().fold(0, |number, byte| number << 8 | *byte as u64))
+}
+
+/// All subsets of a set.
+fn subsets(set: u32) -> impl Iterator<Item = u32> {
+    let mut next = Some(set);
+    std::iter::from_fn(move || {
+        let subset = next?;
+        next = (subset != 0).then(|| (subset - 1) & set);
+        Some(subset)
+    })
+}
+
+/// The reactions of all runs of the declarations of a set: of the sequence for each status of them, and their own.
+fn in_all_runs(set: u32, bare: impl Fn(u32) -> Outcome) -> Option<u64> {
+    let sum = subsets(set).map(|present| reactions(&bare(present))).sum::<Option<u64>>()?;
+    Some(sum + (1 << set.count_ones()) - 1)
 }
 
 impl ReadBack {
@@ -100,36 +147,30 @@ impl ReadBack {
         let Call { state, input, answer_length, .. } = tried;
         let (bytes, set) = sequence.program();
         let call = |program, input| tick(program, Call { input, ..tried });
-        let told = |what: &str, other: &Outcome| {
-            let tick = format!("{} | {} | {answer_length} | {input:08X}", sequence.text(), hex(state));
-            format!("{tick}: {}, {what} {}", outcome.text(), other.text())
+        let mut expect = |holds: bool, what: &str, other: &Outcome| {
+            counts.expect(holds, || {
+                let tick = format!("{} | {} | {answer_length} | {input:08X}", sequence.text(), hex(state));
+                format!("{tick}: {}, {what} {}", outcome.text(), other.text())
+            });
         };
         let turned = call((bytes, set), input ^ set);
-        counts.expect(same(outcome, &turned), || told("with the host's bits turned", &turned));
+        expect(same(outcome, &turned), "with the host's bits turned", &turned);
         if !names(sequence, set) {
-            let without_set = call((bytes, 0), input);
-            counts.expect(same(outcome, &without_set), || told("without a set, which is not named,", &without_set));
+            let own = call((bytes, 0), input);
+            expect(shows_the_same(outcome, &own), "without a set, which is not named,", &own);
         }
-        if let (Some(written), true) = (&sequence.written, answer_length == 8) {
+        if let (Some(written), true) = (&sequence.written, answer_length == ANSWER_LENGTH) {
             let own = call((&written.bytes, 0), input);
-            let holds = match (written.number, outcome.number) {
-                (0, 0) => {
-                    let answers = outcome.answer.as_ref().zip(own.answer.as_ref());
-                    let fits = answers.is_some_and(|(answer, own)| without(answer, set) == written.back(own));
-                    own.number == 0 && own.state == outcome.state && fits
-                }
-                (0, number) => own.number == number,
-                (number, of_tick) => matches!(number, 2 | 6) && own.number == if of_tick == 1 { 1 } else { number },
-            };
-            counts.expect(holds, || told("written out", &own));
+            expect(written.agrees(set, outcome, &own), "written out", &own);
         }
         match expected {
             Ok(instant) => {
                 if instant.answer[0] != 255 {
-                    let input = input & !set | emitted(&instant.answer) & set;
-                    let own = call((bytes, 0), input);
-                    counts.expect(same(outcome, &own), || told("without a set, on what is reported,", &own));
+                    let own = call((bytes, 0), input & !set | emitted(&instant.answer) & set);
+                    expect(shows_the_same(outcome, &own), "without a set, on what is reported,", &own);
                 }
+                let all = in_all_runs(set, |present| call((bytes, 0), input & !set | present));
+                expect(all.is_some() && all == reactions(outcome), &format!("reactions of all runs {all:?},"), outcome);
                 self.count(sequence, state, input, instant);
             }
             Err(6) => self.counted[20] += (check(bytes, 0).err() != Some(6)) as u64,
@@ -148,7 +189,7 @@ impl ReadBack {
         let chosen = bare(input & !set | reported).filter(|_| !wrong);
         let found = chosen.as_ref().map_or(0, |chosen| chosen.tree.found & reported);
         let stopping = chosen.as_ref().map_or(0, |chosen| chosen.tree.stopping & reported);
-        let other = bare(input).is_some_and(|bare| bare.answer != whole.answer || bare.state != whole.state);
+        let other = bare(input).is_some_and(|bare| bare.answer[..8] != whole.answer[..8] || bare.state != whole.state);
         let written = sequence.written.as_ref().is_some_and(|written| written.number == 0);
         let kinds = [
             true,

@@ -1,5 +1,6 @@
 //! What document 01, with 02, says a tick gives: the number and both records, by the check on an explicit tree and the
 //! expansion, inside the declarations of the read-back signals.
+use crate::ceiling::Ceiling;
 use crate::expansion::{expand, Tree, WRONG};
 use crate::kernel::Kernel;
 use crate::readback::Written;
@@ -8,11 +9,13 @@ use crate::statement::{term, wrap, Order, Term};
 use common::reference;
 use common::table::hex;
 
-/// What is read of an accepted sequence: its commands, its own term, and that inside the read-back declarations.
+/// What is read of an accepted sequence: its commands, its own term, that inside the read-back declarations, and what an
+/// instant takes at most.
 pub struct Read {
     pub tree: reference::Tree,
     pub bare: Term,
     pub wrapped: Term,
+    pub ceiling: Ceiling,
 }
 
 /// A sequence with its read-back set: what is read of it, or the number of the row from 2 to 10 that turns it down; its
@@ -29,7 +32,7 @@ impl Sequence {
     pub fn new(bytes: Vec<u8>, read_back: u32) -> Self {
         let read = reference::check(&bytes, read_back).map(|tree| {
             let bare = term(&tree);
-            Read { tree, wrapped: wrap(read_back, &bare), bare }
+            Read { wrapped: wrap(read_back, &bare), ceiling: Ceiling::of(&tree, read_back), tree, bare }
         });
         let kernel = read.as_ref().ok().and_then(|read| Kernel::of(&bytes, &read.tree, read_back));
         let written = read.as_ref().ok().and_then(|_| Written::of(&bytes, read_back));
@@ -68,7 +71,7 @@ impl Instant {
     pub fn line(&self, number: usize) -> String {
         let value = |bytes: &[u8]| bytes.iter().rev().fold(0u64, |n, byte| n << 8 | *byte as u64);
         let (code, kind, place) = (self.answer[0], self.answer[1], value(&self.answer[2..4]));
-        let (emitted, labels) = (value(&self.answer[4..]), value(&self.state[1..]));
+        let (emitted, labels) = (value(&self.answer[4..8]), value(&self.state[1..]));
         format!("{number} {code} {kind} {place} {emitted:08x} {labels:016x}")
     }
 }
@@ -86,7 +89,7 @@ pub fn tick_by(
     input: u32,
     answer_length: usize,
 ) -> Result<Instant, u8> {
-    if state.len() != 9 || answer_length != 8 {
+    if state.len() != 9 || answer_length != 12 {
         return Err(1);
     }
     let read = sequence.read.as_ref().map_err(|number| *number)?;
@@ -110,6 +113,7 @@ pub fn instant(order: Order, commands: &reference::Tree, term: &Term, state: &[u
     let mut answer = vec![if wrong { 255 } else { reaction.code as u8 }, kind];
     answer.extend([(place % 256) as u8, (place / 256) as u8]);
     answer.extend((0..4).map(|i| if wrong { 0 } else { (reaction.emitted >> (8 * i)) as u8 }));
+    answer.extend((0..4).map(|i| (tree.reactions >> (8 * i)) as u8));
     let labels = (0..8).map(|i| (reaction.labels >> (8 * i)) as u8);
     Ok(Instant { state: [phase].into_iter().chain(labels).collect(), answer, tree })
 }

@@ -1,7 +1,8 @@
 //! The fitters' paper of document 01, with the suspend of 02, item 1: a machine that holds a term and rewrites it, by
-//! either order of the signal rules (02, item 4), inside the declarations of its read-back signals (item 5). It knows no labels or states, and shares nothing with expansion.rs
-//! but the terms and the names of the orders. The first error (02, item 3) is found in the term that it holds, where a
-//! copy of a loop or a signal keeps the place of its command.
+//! either order of the signal rules (02, item 4), inside the declarations of its read-back signals (item 5). It knows no
+//! labels or states, and shares nothing with expansion.rs but the terms and the names of the orders. The first error (02,
+//! item 3) is found in the term that it holds, where a copy of a loop or a signal keeps the place of its command. The
+//! number of reactions (item 6) is that of its derivation: one for each rule used, summed over its premises.
 use crate::statement::{Declaration, Order, Statement, Term};
 use std::rc::Rc;
 
@@ -18,28 +19,39 @@ use Code::*;
 /// Kind and place.
 type Error = (u8, usize);
 
+/// The first error in the tree of a reaction, if there is one, and its number of reactions, both runs of each signal
+/// included.
+#[derive(Clone, Copy)]
+struct Tree {
+    first: Option<Error>,
+    reactions: u64,
+}
+
 struct Reaction {
     emitted: u32,
     code: Code,
     residual: Term,
-    /// Of the whole tree of this reaction, both runs of each signal included.
-    first: Option<Error>,
+    tree: Tree,
 }
 
+/// By a rule without premises, or as `by` is to complete it.
 fn gives(emitted: u32, code: Code, residual: Statement) -> Reaction {
-    Reaction { emitted, code, residual: Rc::new(residual), first: None }
+    Reaction { emitted, code, residual: Rc::new(residual), tree: Tree { first: None, reactions: 1 } }
 }
 
 impl Reaction {
-    /// This reaction, whose parts reacted before with this first error, or none.
-    fn after(self, earlier: Option<Error>) -> Reaction {
-        Reaction { first: earlier.or(self.first), ..self }
+    /// By a rule whose premises have these trees, in this order.
+    fn by<const N: usize>(self, premises: [Tree; N]) -> Reaction {
+        let first = premises.iter().find_map(|tree| tree.first).or(self.tree.first);
+        let reactions = 1 + premises.iter().map(|tree| tree.reactions).sum::<u64>();
+        Reaction { tree: Tree { first, reactions }, ..self }
     }
 }
 
 /// (loop-error), (signal+-), (signal-+)
 fn errs(kind: u8, place: usize) -> Reaction {
-    Reaction { first: Some((kind, place)), ..gives(0, Wrong, Statement::Nothing) }
+    let wrong = gives(0, Wrong, Statement::Nothing);
+    Reaction { tree: Tree { first: Some((kind, place)), ..wrong.tree }, ..wrong }
 }
 
 /// 003, figures 3 and 7, with 01's residuals.
@@ -53,7 +65,11 @@ fn react(order: Order, term: &Term, present: u32) -> Reaction {
         Statement::Seq(p, q) => sequence(order, react(p, present), q, present),
         Statement::Par(p, q) => parallel(react(p, present), react(q, present)),
         Statement::Loop(place, p) => repeat(*place, react(p, present), term),
-        Statement::Present(s, p, q) => react(if present >> s & 1 == 1 { p } else { q }, present),
+        Statement::Present(s, p, q) => {
+            let branch = react(if present >> s & 1 == 1 { p } else { q }, present);
+            let tree = branch.tree;
+            branch.by([tree])
+        }
         Statement::Signal(declared, p) => {
             let bit = 1 << declared.signal;
             signal(order, *declared, react(p, present & !bit), react(p, present | bit))
@@ -61,27 +77,28 @@ fn react(order: Order, term: &Term, present: u32) -> Reaction {
         Statement::Try(p) => catch(react(p, present)),
         Statement::Suspend(s, p) => hold(*s, react(p, present)),
         Statement::Held(s, _) if present >> s & 1 == 1 => {
-            Reaction { emitted: 0, code: Waiting, residual: term.clone(), first: None }
+            Reaction { residual: term.clone(), ..gives(0, Waiting, Statement::Nothing) }
         }
         Statement::Held(s, p) => hold(*s, react(p, present)),
-        Statement::Setpause(_) | Statement::Kept(_) => unreachable!("the paper has no labels to set or to keep"),
+        Statement::Setpause(_) | Statement::Kept(..) => unreachable!("the paper has no labels to set or to keep"),
     }
 }
 
 /// (sequence-p), (sequence-q)
 fn sequence(order: Order, p: Reaction, q: &Term, present: u32) -> Reaction {
     if p.code != Ended {
-        return gives(p.emitted, p.code, Statement::Seq(p.residual, q.clone())).after(p.first);
+        return gives(p.emitted, p.code, Statement::Seq(p.residual, q.clone())).by([p.tree]);
     }
     let q = react(order, q, present);
-    Reaction { emitted: p.emitted | q.emitted, ..q }.after(p.first)
+    let trees = [p.tree, q.tree];
+    Reaction { emitted: p.emitted | q.emitted, ..q }.by(trees)
 }
 
 /// (parallel)
 fn parallel(p: Reaction, q: Reaction) -> Reaction {
     let side = |r: Reaction| if r.code == Ended { Rc::new(Statement::Nothing) } else { r.residual };
-    let first = p.first.or(q.first);
-    gives(p.emitted | q.emitted, p.code.max(q.code), Statement::Par(side(p), side(q))).after(first)
+    let trees = [p.tree, q.tree];
+    gives(p.emitted | q.emitted, p.code.max(q.code), Statement::Par(side(p), side(q))).by(trees)
 }
 
 /// (loop), (loop-error)
@@ -90,7 +107,7 @@ fn repeat(place: usize, p: Reaction, whole: &Term) -> Reaction {
         Ended => errs(1, place),
         _ => gives(p.emitted, p.code, Statement::Seq(p.residual, whole.clone())),
     };
-    all.after(p.first)
+    all.by([p.tree])
 }
 
 /// (try-catch), (try-through)
@@ -100,13 +117,13 @@ fn catch(p: Reaction) -> Reaction {
         Leaving(n) => gives(p.emitted, Leaving(n - 1), Statement::Try(p.residual)),
         Ended | Waiting | Wrong => gives(p.emitted, p.code, Statement::Try(p.residual)),
     };
-    all.after(p.first)
+    all.by([p.tree])
 }
 
 /// 02, item 1: after code 1 a held suspend remains around the residual, after any other code nothing
 fn hold(s: u8, p: Reaction) -> Reaction {
     let residual = if p.code == Waiting { Statement::Held(s, p.residual) } else { Statement::Nothing };
-    gives(p.emitted, p.code, residual).after(p.first)
+    gives(p.emitted, p.code, residual).by([p.tree])
 }
 
 /// (signal++), (signal--), (signal+-), (signal-+), (signal∞): the first that fits, or, if so ordered, (signal∞) before
@@ -125,22 +142,22 @@ fn signal(order: Order, declared: Declaration, minus: Reaction, plus: Reaction) 
         (false, true) if minus.code < Wrong => errs(3, declared.place),
         _ => gives(0, Wrong, Statement::Nothing),
     };
-    all.after(minus.first.or(plus.first))
+    all.by([minus.tree, plus.tree])
 }
 
-/// What is compared of one tick: the number, then code, kind, place and emitted set of an instant.
+/// What is compared of one tick: the number, then code, kind, place, emitted set and number of reactions of an instant.
 #[derive(Debug, PartialEq)]
 pub enum Seen {
     TurnedDown(u8),
-    Instant { code: u8, kind: u8, place: usize, emitted: u32 },
+    Instant { code: u8, kind: u8, place: usize, emitted: u32, reactions: u64 },
 }
 
 impl Seen {
     /// What an answer record shows.
     pub fn of(answer: &[u8]) -> Option<Seen> {
-        let &[code, kind, low, high, a, b, c, d] = answer else { return None };
+        let &[code, kind, low, high, a, b, c, d, e, f, g, h] = answer else { return None };
         let (place, emitted) = (u16::from_le_bytes([low, high]) as usize, u32::from_le_bytes([a, b, c, d]));
-        Some(Seen::Instant { code, kind, place, emitted })
+        Some(Seen::Instant { code, kind, place, emitted, reactions: u32::from_le_bytes([e, f, g, h]) as u64 })
     }
 }
 
@@ -161,20 +178,20 @@ impl Paper {
     }
 
     pub fn tick(&mut self, order: Order, input: u32, answer_length: usize) -> Seen {
-        if answer_length != 8 {
+        if answer_length != 12 {
             return Seen::TurnedDown(1);
         }
         let (Paper::Fresh(term) | Paper::Waiting(term)) = self else { return Seen::TurnedDown(12) };
-        let Reaction { emitted, code, residual, first } = react(order, term, input);
+        let Reaction { emitted, code, residual, tree: Tree { first, reactions } } = react(order, term, input);
         *self = if code == Waiting { Paper::Waiting(residual) } else { Paper::Over };
-        let right = |code| Seen::Instant { code, kind: 0, place: 0, emitted };
+        let right = |code| Seen::Instant { code, kind: 0, place: 0, emitted, reactions };
         match code {
             Ended => right(0),
             Waiting => right(1),
             Leaving(n) => right(n + 1),
             Wrong => {
                 let (kind, place) = first.expect("a wrong instant has an error");
-                Seen::Instant { code: 255, kind, place, emitted: 0 }
+                Seen::Instant { code: 255, kind, place, emitted: 0, reactions }
             }
         }
     }

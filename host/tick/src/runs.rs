@@ -1,4 +1,5 @@
 //! Random runs of many instants, each with one read-back set, and single ticks from random state records.
+use crate::archive::ANSWER_LENGTH;
 use crate::reference::Sequence;
 use crate::tally::Tally;
 use common::generate::{self, Random, Style, COMMANDS};
@@ -60,7 +61,7 @@ pub fn input(random: &mut Random) -> u32 {
 /// Mostly right.
 fn answer_length(random: &mut Random) -> usize {
     if random.chance(97) {
-        8
+        ANSWER_LENGTH
     } else {
         random.below(20)
     }
@@ -135,7 +136,7 @@ pub fn states(tally: &mut Tally, random: &mut Random, count: usize) {
         for _ in 0..4 {
             let state = state(random, &sequence);
             let input = input(random);
-            tally.compare(&sequence, &state, input, 8, None);
+            tally.compare(&sequence, &state, input, ANSWER_LENGTH, None);
         }
     }
 }

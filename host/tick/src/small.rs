@@ -1,6 +1,7 @@
 //! All statements of one to five commands over two signals, two labels and two exits, with every read-back set of them up
 //! to four commands and with one in turn of five; and, for the two orders of the signal rules, of one to seven commands
 //! over one signal and one exit.
+use crate::archive::ANSWER_LENGTH;
 use crate::reference::Sequence;
 use crate::rewriting::Paper;
 use crate::tally::Tally;
@@ -78,8 +79,8 @@ pub fn every_state(tally: &mut Tally) {
         for (phase, labels) in (0..4).flat_map(|phase| (0..8).map(move |labels| (phase, labels))) {
             let state = [phase, labels, 0, 0, 0, 0, 0, 0, 0];
             // a tick turned down does not depend on the input
-            if tally.compare(&sequence, &state, 0, 8, None).0 == 0 {
-                (1..4).for_each(|input| drop(tally.compare(&sequence, &state, input, 8, None)));
+            if tally.compare(&sequence, &state, 0, ANSWER_LENGTH, None).0 == 0 {
+                (1..4).for_each(|input| drop(tally.compare(&sequence, &state, input, ANSWER_LENGTH, None)));
             }
             if sequence.read.is_err() {
                 break; // nor a bad sequence on the record
@@ -94,7 +95,8 @@ pub fn every_set(tally: &mut Tally) {
         let Ok(read) = &sequence.read else { return };
         for labels in (0..4).filter(|labels| *labels == 0 || read.tree.valid(*labels)) {
             let state = [(labels != 0) as u8, labels as u8, 0, 0, 0, 0, 0, 0, 0];
-            inputs(sequence.read_back).for_each(|input| drop(tally.compare(sequence, &state, input, 8, None)));
+            inputs(sequence.read_back)
+                .for_each(|input| drop(tally.compare(sequence, &state, input, ANSWER_LENGTH, None)));
         }
     });
 }
@@ -126,7 +128,7 @@ fn inputs(set: u32) -> impl Iterator<Item = u32> {
 fn continue_run(tally: &mut Tally, sequence: &Sequence, paper: &Paper, state: &[u8], ticks: usize) {
     for input in inputs(sequence.read_back) {
         let mut paper = paper.clone();
-        let (_, after) = tally.compare(sequence, state, input, 8, Some(&mut paper));
+        let (_, after) = tally.compare(sequence, state, input, ANSWER_LENGTH, Some(&mut paper));
         if ticks > 1 && after[0] == 1 {
             continue_run(tally, sequence, &paper, &after, ticks - 1);
         }

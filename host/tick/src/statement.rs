@@ -37,8 +37,8 @@ pub enum Statement {
     Try(Term),
     Setpause(u8),
     Suspend(u8, Term),
-    /// Waits with each of these labels, as setpauses in parallel do.
-    Kept(u64),
+    /// Tests the signal first, and with it waits with these labels.
+    Kept(u8, u64, Term),
     /// Tests the signal first, and with it stays as it is.
     Held(u8, Term),
 }

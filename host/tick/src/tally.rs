@@ -1,5 +1,6 @@
 //! The comparisons, and what they reached.
 use crate::archive::{self, Call};
+use crate::ceiling::Ceiling;
 use crate::expansion::CASES;
 use crate::kernel::Kernel;
 use crate::readback::ReadBack;
@@ -12,7 +13,7 @@ use common::table::hex;
 pub const GREATEST: usize = 12;
 
 /// Names of what a tree of reactions may hold, beside the cases of a signal.
-const EVENTS: [&str; 15] = [
+const EVENTS: [&str; 19] = [
     "resumed",
     "wrong when resumed",
     "wrong with errors that differ",
@@ -28,6 +29,10 @@ const EVENTS: [&str; 15] = [
     "suspend stopped, code not 1",
     "suspend stopped, other labels change",
     "suspend stopped in one of two runs",
+    "as many reactions as the ceiling",
+    "the same, resumed in a loop",
+    "without loops, as many as can be",
+    "the same, inside signals",
 ];
 
 /// What is counted of the ticks that are compared with the paper.
@@ -72,7 +77,7 @@ pub struct Tally {
 impl Tally {
     /// Compares one tick of the archive with the expansion, with the paper where there is one, with the tick of the
     /// kernel form where there is one, and with other calls where there is a read-back set: number, both records and the
-    /// guards. Gives the number and the state that the archive left.
+    /// guards. Holds the reactions to the ceiling. Gives the number and the state that the archive left.
     pub fn compare(
         &mut self,
         sequence: &Sequence,
@@ -91,8 +96,11 @@ impl Tally {
             Err(number) => (*number, state.to_vec(), vec![fill; answer_length]),
         };
         self.numbers[number as usize] += 1;
-        if let Ok(instant) = &expected {
-            self.count(state, instant);
+        if let (Ok(instant), Ok(read)) = (&expected, &sequence.read) {
+            self.count(state, instant, read.ceiling);
+            let taken = instant.tree.reactions;
+            let within = read.ceiling.allows(state[0] == 0, taken);
+            self.counts.expect(within, || format!("{taken} reactions: {} | {}", sequence.text(), hex(state)));
         }
         let holds = outcome.number == number && outcome.state.as_ref() == Some(&after);
         let holds = holds && outcome.answer.as_ref() == Some(&answer);
@@ -115,7 +123,8 @@ impl Tally {
         (outcome.number, outcome.state.unwrap_or(after))
     }
 
-    /// 01, 'The fitters' paper', and 02, item 3: number, code, kind, place, emitted set and, after each tick, the phase.
+    /// 01, 'The fitters' paper', and 02, items 3 and 6: number, code, kind, place, emitted set, number of reactions and,
+    /// after each tick, the phase.
     fn compare_paper(
         &mut self,
         paper: &mut Paper,
@@ -142,7 +151,8 @@ impl Tally {
         kinds.enumerate().for_each(|(i, kind)| self.papers[i] += kind as u64);
     }
 
-    /// 02, item 1, in the kernel: number and both records, the answer's place being that of the same command.
+    /// 02, item 1, in the kernel: number and both records, the answer's place being that of the same command, and its
+    /// reactions the kernel form's own.
     fn compare_kernel(
         &mut self,
         kernel: &Kernel,
@@ -152,21 +162,23 @@ impl Tally {
         told: impl Fn() -> String,
     ) {
         let own = archive::tick((&kernel.bytes, read_back), call);
-        let holds = if kernel.number == 0 {
-            let moved = |answer: &Vec<u8>| if outcome.number == 0 { kernel.moved(answer) } else { answer.clone() };
-            own.number == outcome.number
-                && own.state.is_some()
-                && own.state == outcome.state
-                && own.answer.is_some()
-                && own.answer == outcome.answer.as_ref().map(moved)
-        } else {
-            matches!(kernel.number, 2 | 6) && own.number == if outcome.number == 1 { 1 } else { kernel.number }
+        let holds = match &kernel.read {
+            Ok(_) => {
+                let accepted = outcome.number == 0;
+                let moved = |answer: &Vec<u8>| if accepted { kernel.moved(answer, call) } else { answer.clone() };
+                own.number == outcome.number
+                    && own.state.is_some()
+                    && own.state == outcome.state
+                    && own.answer.is_some()
+                    && own.answer == outcome.answer.as_ref().map(moved)
+            }
+            Err(number) => matches!(number, 2 | 6) && own.number == if outcome.number == 1 { 1 } else { *number },
         };
         self.counts.expect(holds, || format!("kernel {}: {}: {}", hex(&kernel.bytes), own.text(), told()));
     }
 
     fn count_kernel(&mut self, sequence: &Sequence, kernel: &Kernel, instant: Option<&Instant>) {
-        let within = kernel.number == 0;
+        let within = kernel.read.is_ok();
         let stopped = within && instant.is_some_and(|instant| instant.tree.stopped > 0);
         let kinds = [
             within,
@@ -179,8 +191,10 @@ impl Tally {
         (0..KERNELS.len()).for_each(|i| self.kernels[i] += kinds[i] as u64);
     }
 
-    fn count(&mut self, state: &[u8], instant: &Instant) {
+    fn count(&mut self, state: &[u8], instant: &Instant, ceiling: Ceiling) {
         let (code, tree) = (instant.answer[0], &instant.tree);
+        let reached = tree.reactions == ceiling.most();
+        let most_without_loops = ceiling.loops == 0 && tree.reactions == ceiling.without_loops();
         self.codes[if code == 255 { 17 } else { code as usize }] += 1;
         self.kinds[instant.answer[1] as usize] += (code == 255) as u64;
         (0..CASES.len()).for_each(|i| self.cases[i] += tree.cases[i]);
@@ -201,6 +215,10 @@ impl Tally {
             tree.stopped > 0 && code != 1,
             tree.stopped > 0 && code == 1 && state[1..] != instant.state[1..],
             tree.stopped_once > 0,
+            reached,
+            reached && state[0] == 1 && ceiling.loops > 0,
+            most_without_loops,
+            most_without_loops && ceiling.signals > 0,
         ];
         (0..EVENTS.len()).for_each(|i| self.events[i] += events[i] as u64);
         self.most_reactions = self.most_reactions.max(tree.reactions);

@@ -1,5 +1,6 @@
 //! The vectors of crates/vectors: what its stdout says, by hand, is what the reference gives on its stdin, and the
 //! archive too. The top of that stdin explains its lines.
+use crate::archive::ANSWER_LENGTH;
 use crate::reference::{self, Sequence};
 use crate::tally::Tally;
 use common::table;
@@ -33,9 +34,9 @@ fn listing(tally: &mut Tally, vectors: &str) -> Vec<String> {
                 bytes.extend(table::bytes(repeated).repeat(count.parse().expect("a count")));
             }
             "declared" => read_back = u32::from_str_radix(rest, 16).expect("a read-back set"),
-            "run" | "from" => lines.extend(machine(tally, (&bytes, read_back), rest, 8)),
-            "short" => lines.extend(machine(tally, (&bytes, read_back), rest, 7)),
-            "long" => lines.extend(machine(tally, (&bytes, read_back), rest, 9)),
+            "run" | "from" => lines.extend(machine(tally, (&bytes, read_back), rest, ANSWER_LENGTH)),
+            "short" => lines.extend(machine(tally, (&bytes, read_back), rest, ANSWER_LENGTH - 1)),
+            "long" => lines.extend(machine(tally, (&bytes, read_back), rest, ANSWER_LENGTH + 1)),
             _ => panic!("no line of a vector: {line}"),
         }
     }
