@@ -12,6 +12,7 @@ use Rattle.esterel.specs.Sets.{none}
 use Rattle.esterel.specs.Statement.{Statement}
 use Rattle.esterel.specs.Reaction.{ended, waiting, leaving, wrong, Reaction, gives, react}
 use Rattle.esterel.specs.Errors.{Error, noError, firstError, blame}
+use Rattle.esterel.specs.Reactions.{reactions}
 use Rattle.esterel.specs.States.{NoSetpause}
 use Rattle.esterel.specs.Machines.{Seen, Rewriting, seen, termAfter, byRewriting, run}
 use Rattle.sequence.specs.Program.{program}
@@ -40,56 +41,57 @@ over-shows-none i (e ∷ es) = refl
 abbrev shownAt : (i code : ℕ) → Error → (emitted : ℕ) → Columns
 shownAt i code x emitted = record { instant = i; code = code; kind = x .kind; place = x .place; emitted = emitted }
 
-abbrev reports : (code : ℕ) → Error → (emitted phase : ℕ) → Report
-reports code x emitted phase = reacted code (x .kind) (x .place) emitted phase
+abbrev reports : (code : ℕ) → Error → (emitted taken phase : ℕ) → Report
+reports code x emitted taken phase = reacted code (x .kind) (x .place) emitted taken phase
 
-row-columns : (i code : ℕ) (x : Error) (emitted phase : ℕ) (state answer : List ℕ)
-    → report (outcome 0 state answer) ≡ reports code x emitted phase
+row-columns : (i code : ℕ) (x : Error) (emitted taken phase : ℕ) (state answer : List ℕ)
+    → report (outcome 0 state answer) ≡ reports code x emitted taken phase
     → columns (rowOf i (outcome 0 state answer)) ≡ shownAt i code x emitted
-row-columns i code x emitted phase state answer h =
+row-columns i code x emitted taken phase state answer h =
     let c : codeIn answer ≡ code = cc in
     let k : kindIn answer ≡ x .kind = cc in
     let a : placeIn answer ≡ x .place = cc in
     let o : emittedIn answer ≡ emitted = cc in
     rw (c, k, a, o)
 
-last-row : (i code : ℕ) (x : Error) (emitted : ℕ) (state answer s : List ℕ) (b : ℕ) (es : List ℕ)
-    → report (outcome 0 state answer) ≡ reports code x emitted 2
+last-row : (i code : ℕ) (x : Error) (emitted taken : ℕ) (state answer s : List ℕ) (b : ℕ) (es : List ℕ)
+    → report (outcome 0 state answer) ≡ reports code x emitted taken 2
     → map columns (rowOf i (outcome 0 state answer) ∷ cond (isOver state) [] (rows s b state (suc i) es))
     ≡ shownAt i code x emitted ∷ instants (suc i) (run byRewriting Rewriting.over es)
-last-row i code x emitted state answer s b es h =
+last-row i code x emitted taken state answer s b es h =
     let p : phaseIn state ≡ 2 = cc in
-    rw (eq-eqb (phaseIn state) 2 p, over-shows-none (suc i) es) (ap (λ (y : Columns). y ∷ []) (row-columns i code x emitted 2 state answer h))
+    rw (eq-eqb (phaseIn state) 2 p, over-shows-none (suc i) es) (ap (λ (y : Columns). y ∷ []) (row-columns i code x emitted taken 2 state answer h))
 
-later-row : (i code : ℕ) (x : Error) (emitted : ℕ) (state answer s : List ℕ) (b : ℕ) (es : List ℕ) (later : List Columns)
-    → report (outcome 0 state answer) ≡ reports code x emitted 1
+later-row : (i code : ℕ) (x : Error) (emitted taken : ℕ) (state answer s : List ℕ) (b : ℕ) (es : List ℕ) (later : List Columns)
+    → report (outcome 0 state answer) ≡ reports code x emitted taken 1
     → map columns (rows s b state (suc i) es) ≡ later
     → map columns (rowOf i (outcome 0 state answer) ∷ cond (isOver state) [] (rows s b state (suc i) es))
     ≡ shownAt i code x emitted ∷ later
-later-row i code x emitted state answer s b es later h q =
+later-row i code x emitted taken state answer s b es later h q =
     let p : phaseIn state ≡ 1 = cc in
     let n : phaseIn state ≢ 2 = λ z. absurd (let w : _≡_ {A = ℕ} 1 2 = sym p ∙ z in omega arith) in
-    rw (ne-eqb (phaseIn state) 2 n) (ap₂ (λ (y : Columns) (ys : List Columns). y ∷ ys) (row-columns i code x emitted 1 state answer h) q)
+    rw (ne-eqb (phaseIn state) 2 n) (ap₂ (λ (y : Columns) (ys : List Columns). y ∷ ys) (row-columns i code x emitted taken 1 state answer h) q)
 
--- a reaction with the first error of its tree, and the tick that reports it
-instant-columns : (r : Reaction) (x : Option Error) (o : Outcome) (i : ℕ) (s : List ℕ) (b : ℕ) (es : List ℕ) → report o ≡ reportOf (seen r x)
+-- a reaction with the first error and the number of reactions of its tree, and the tick that reports it
+instant-columns : (r : Reaction) (x : Option Error) (m : ℕ) (o : Outcome) (i : ℕ) (s : List ℕ) (b : ℕ) (es : List ℕ)
+    → report o ≡ reportOf (seen r x m)
     → ((t : Statement) → termAfter r ≡ Rewriting.waits t
     → map columns (rows s b (stateAfterwards o) (suc i) es) ≡ instants (suc i) (run byRewriting (Rewriting.waits t) es))
     → map columns (rowOf i o ∷ cond (isOver (stateAfterwards o)) [] (rows s b (stateAfterwards o) (suc i) es))
-    ≡ instants i (seen r x ∷ run byRewriting (termAfter r) es)
+    ≡ instants i (seen r x m ∷ run byRewriting (termAfter r) es)
 unfolding instants
-instant-columns (gives o ended l t) x (outcome zero state answer) i s b es h later = last-row i 0 noError o state answer s b es h
-instant-columns (gives o waiting l t) x (outcome zero state answer) i s b es h later =
-    later-row i 1 noError o state answer s b es (instants (suc i) (run byRewriting (Rewriting.waits t) es)) h (later t refl)
-instant-columns (gives o (leaving n) l t) x (outcome zero state answer) i s b es h later =
-    last-row i (codeByte (leaving n)) noError o state answer s b es h
-instant-columns (gives o wrong l t) x (outcome zero state answer) i s b es h later =
-    last-row i 255 (blame wrong x) none state answer s b es h
-instant-columns (gives o k l t) x (outcome (suc n) state answer) i s b es h later = absurd (let z : _≡_ {A = ℕ} 0 1 = cc in omega arith)
+instant-columns (gives o ended l t) x m (outcome zero state answer) i s b es h later = last-row i 0 noError o m state answer s b es h
+instant-columns (gives o waiting l t) x m (outcome zero state answer) i s b es h later =
+    later-row i 1 noError o m state answer s b es (instants (suc i) (run byRewriting (Rewriting.waits t) es)) h (later t refl)
+instant-columns (gives o (leaving n) l t) x m (outcome zero state answer) i s b es h later =
+    last-row i (codeByte (leaving n)) noError o m state answer s b es h
+instant-columns (gives o wrong l t) x m (outcome zero state answer) i s b es h later =
+    last-row i 255 (blame wrong x) none m state answer s b es h
+instant-columns (gives o k l t) x m (outcome (suc n) state answer) i s b es h later = absurd (let z : _≡_ {A = ℕ} 0 1 = cc in omega arith)
 
 -- ---- all instants, from a machine that stands at t
 follow : (s : List ℕ) (b : ℕ) (es state : List ℕ) (t : Statement) (i : ℕ) (w : Rewriting)
-    → ((e : ℕ) → byRewriting w e ≡ (seen (react t e) (firstError t e), termAfter (react t e)))
+    → ((e : ℕ) → byRewriting w e ≡ (seen (react t e) (firstError t e) (reactions t e), termAfter (react t e)))
     → map report (outcomes tickOf s b state (callsOf es)) ≡ paper w (callsOf es)
     → map columns (rows s b state i es) ≡ instants i (run byRewriting w es)
 unfolding rows run outcomes paper instants
@@ -98,7 +100,7 @@ follow s b (e ∷ es) state t i w steps h =
     let o : Outcome = ticked s b state e in
     let now-seen : report o ≡ reportOf (byRewriting w e .0) = cc in
     let later : map report (outcomes tickOf s b (stateAfterwards o) (callsOf es)) ≡ paper (byRewriting w e .1) (callsOf es) = cc in
-    instant-columns (react t e) (firstError t e) o i s b es (now-seen ∙ ap (λ (x : Seen × Rewriting). reportOf (x .0)) (steps e))
+    instant-columns (react t e) (firstError t e) (reactions t e) o i s b es (now-seen ∙ ap (λ (x : Seen × Rewriting). reportOf (x .0)) (steps e))
     (λ t′ q.
     follow s b es (stateAfterwards o) t′ (suc i) (Rewriting.waits t′) (λ e′. refl)
     (later ∙ ap (λ (x : Seen × Rewriting). paper (x .1) (callsOf es)) (steps e) ∙ ap (λ (v : Rewriting). paper v (callsOf es)) q))

@@ -1,5 +1,5 @@
 -- What the machine by rewriting of demand 3 (demands, Paper) shows for a program and its inputs, up to the instant that ends it:
--- every field of a listing but the labels, which the paper does not know.
+-- every field of a listing but the labels, which the paper does not know. A listing does not print the number of reactions.
 use Prim.Native.Nat.{ℕ, suc}
 use mathlib.Core.List.{List, [], _∷_}
 use Rattle.esterel.specs.Statement.{Statement}
@@ -20,7 +20,7 @@ columns r = record { instant = r .instant; code = r .code; kind = r .kind; place
 -- numbered from i
 unfoldable pub instants : (i : ℕ) → List Seen → List Columns
 instants i [] = []
-instants i (instant k x o after ∷ later) =
+instants i (instant k x o n after ∷ later) =
     record { instant = i; code = codeByte k; kind = x .kind; place = x .place; emitted = o } ∷ instants (suc i) later
 instants i (refused ∷ later) = []
 
