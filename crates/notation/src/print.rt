@@ -16,12 +16,14 @@ fn decimal(number: u64) {
     io::print_decimal(STDOUT_FILENO, number);
 }
 
-// The line of an instant, behind two spaces.
+// The line of an instant, behind the number of its reactions.
 pub fn instant(number: u64, state: &[u8], answer: &[u8]) {
     let line = lines::row(number, state, answer);
     let bytes = line.bytes;
     let from = line.from;
-    text(b"  ");
+    text(b" ");
+    decimal(records::answer::taken(answer) as u64);
+    text(b": ");
     text(&bytes[from..]);
 }
 

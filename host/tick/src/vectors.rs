@@ -54,9 +54,9 @@ fn machine(tally: &mut Tally, (bytes, read_back): (&[u8], u32), rest: &str, answ
         tally.compare(&sequence, &state, input, answer_length, paper.as_mut());
         match reference::tick(&sequence, &state, input, answer_length) {
             Ok(instant) => {
-                let line = instant.line(i + 1);
+                let line = format!("  {}: {}", instant.tree.reactions, instant.line(i + 1));
                 state = instant.state;
-                format!("  {line}")
+                line
             }
             Err(number) => format!("  refused {number}, records kept"),
         }
