@@ -15,4 +15,5 @@ pub mod Bays
 pub mod Suspended
 pub mod FirstErrors
 pub mod ReadBackRuns
+pub mod Ceiling
 pub mod Theorems

@@ -1,6 +1,7 @@
 -- The theorems of this crate: the three demands for the definitions of the check and the tick, then for calls that meet the
--- tick's contract; that the paper knows no labels; what 02, items 4 and 5, changed; the starred bays, bays with suspend and first errors; and what the demands refuse.
-use Prim.Native.Nat.{ℕ}
+-- tick's contract; that the paper knows no labels; what 02, items 4 and 5, changed; the ceiling on the number of reactions (item 6);
+-- the starred bays, bays with suspend and first errors; and what the demands refuse.
+use Prim.Native.Nat.{ℕ, _≤_}
 use mathlib.Core.Path.{_≡_}
 use mathlib.Core.Logic.{_≢_}
 use mathlib.Core.Bool.{true}
@@ -11,12 +12,13 @@ use Rattle.esterel.specs.Statement.{Statement}
 use Rattle.esterel.specs.Reaction.{Code, gives, printed}
 use Rattle.esterel.specs.SignalOrders.{overlap}
 use Rattle.esterel.specs.Rules.{Reacts}
+use Rattle.esterel.specs.Ceiling.{commands, ceiling, LoopFree, hundred}
 use Rattle.esterel.specs.States.{NoSetpause}
 use Rattle.esterel.specs.Machines.{Rewriting, erase}
 use Rattle.sequence.specs.Program.{program}
 use Rattle.sequence.specs.Check.{numberOf, checkOf}
 use Rattle.sequence.specs.Rows.{Spells}
-use Rattle.records.specs.Records.{answerLength, codeIn}
+use Rattle.records.specs.Records.{answerLength, codeIn, takenIn}
 use Rattle.demands.specs.Tick.{Outcome, outcome, tickBy, tickOf}
 use Rattle.demands.specs.Paper.{Call, paper}
 use Rattle.demands.specs.Demands.{Tick, number, answerAfterwards, outcomes, cleared, report, Admitted, StandsAt, Shows, Demand1, Demand2, Demand3, TickMeets, Chain}
@@ -27,6 +29,7 @@ use Rattle.demands.specs.Suspended.{suspendRuns}
 use Rattle.demands.specs.FirstErrors.{firstErrorRuns}
 use Rattle.demands.specs.Plain.{plainChecked, plainTick}
 use Rattle.demands.specs.ReadBack.{readBackRuns}
+use Rattle.demands.specs.Dearest.{hundredBytes}
 use Rattle.demands.proofs.Sequence as sequence
 use Rattle.demands.proofs.Demand1 as one
 use Rattle.demands.proofs.Demand2 as two
@@ -42,6 +45,7 @@ use Rattle.demands.proofs.FirstErrors as firsts
 use Rattle.demands.proofs.ReadBack as reads
 use Rattle.demands.proofs.ReadBack.{SameOutside}
 use Rattle.demands.proofs.ReadBackRuns as read-back-runs
+use Rattle.demands.proofs.Ceiling as ceilings
 
 -- an accepted sequence spells one statement
 pub spells-one : (sequence : List ℕ) (readBack : ℕ) → checkOf sequence readBack ≡ 0
@@ -123,6 +127,26 @@ host-status-ignored = reads.tick-unread
 -- bays with a read-back set
 pub read-back : ShowsRuns readBackRuns tickOf
 read-back = read-back-runs.read-back
+
+-- ---- the number of reactions (02, item 6); that the answer holds it whole is demand 2's (`counted`, `counted-rules`)
+-- it never exceeds the ceiling: of every accepted sequence and set, in every state that row 11 admits and for every input
+pub ceiling-holds : (sequence state : List ℕ) (e readBack : ℕ) (answer : List ℕ) → number (tickOf sequence state e readBack answer) ≡ 0
+    → (p : Statement) → Spells sequence p → takenIn (answerAfterwards (tickOf sequence state e readBack answer)) ≤ ceiling (program readBack p)
+ceiling-holds = ceilings.never-above
+
+-- the sequence of docs/CEILING.md is loop-free and has 100 commands; its fresh instant takes 6,079, without read-back and for every
+-- input, and no sequence of that kind takes more in any instant
+pub hundred-commands : Spells hundredBytes hundred × LoopFree hundred × (commands hundred ≡ 100)
+hundred-commands = ceilings.hundred-spelled
+
+pub hundred-takes : (e : ℕ) (answer : List ℕ) → length answer ≡ answerLength
+    → (number (tickOf hundredBytes cleared e none answer) ≡ 0) × (takenIn (answerAfterwards (tickOf hundredBytes cleared e none answer)) ≡ 6079)
+hundred-takes = ceilings.hundred-shown
+
+pub none-dearer : (sequence state : List ℕ) (e : ℕ) (answer : List ℕ) → number (tickOf sequence state e none answer) ≡ 0
+    → (p : Statement) → Spells sequence p → LoopFree p → commands p ≡ 100
+    → takenIn (answerAfterwards (tickOf sequence state e none answer)) ≤ 6079
+none-dearer = ceilings.none-dearer
 
 -- ---- the starred bays
 pub starred : (b : Bay) → List·Memᴰ b table → (buffer : List ℕ) → length buffer ≡ answerLength → ShowsBay tickOf b buffer

@@ -9,3 +9,4 @@ pub mod Worked
 pub mod Suspended
 pub mod FirstErrors
 pub mod ReadBack
+pub mod Dearest

@@ -1,0 +1,98 @@
+-- The number of reactions that a tick tells (02, item 6): its ceiling, and the dearest loop-free sequences of 100 commands.
+use Prim.Native.Nat.{ℕ, _^_, _≤_, _<_}
+use native.Mathlib.Omega.{arith}
+use mathlib.Core.Path.{_≡_, refl, sym, ap, _∙_, subst}
+use mathlib.Core.Option.{Option}
+use mathlib.Core.List.{List}
+use lib.ListN.{length}
+use Rattle.esterel.specs.Sets.{member, none, only, join}
+use Rattle.esterel.specs.Statement.{Statement}
+use Rattle.esterel.specs.Reaction.{Reaction, gives, react, inheritanceFirst}
+use Rattle.esterel.specs.Errors.{Error, firstError}
+use Rattle.esterel.specs.Reactions.{reactions}
+use Rattle.esterel.specs.Ceiling.{commands, nesting, ceiling, LoopFree, row, shorter, hundred, hundred-takes}
+use Rattle.esterel.specs.LabelTests.{subset, disjoint, labelsOf, everyLabel, distinct, before, wellFormed}
+use Rattle.esterel.specs.ReadBack.{membersFrom, declared}
+use Rattle.esterel.specs.Expansion.{expand}
+use Rattle.esterel.specs.Resume.{instant}
+use Rattle.theory.proofs.Ceiling.{fresh-below, resumed-below}
+use Rattle.theory.proofs.Dearest.{hundred-fresh, hundred-resumed, hundred-free}
+use Rattle.limits.specs.Limits.{takenBytes}
+use Rattle.sequence.specs.Commands.{commandOf}
+use Rattle.sequence.specs.Reader.{front, read}
+use Rattle.sequence.specs.Program.{program}
+use Rattle.sequence.specs.Check.{checked, checkOf}
+use Rattle.sequence.specs.Rows.{Spells}
+use Rattle.sequence.proofs.Writer.{reads-what-is-written}
+use Rattle.numbers.specs.Bytes.{leNumber}
+use Rattle.records.specs.Records.{answerLength, labelsIn, takenIn}
+use Rattle.records.proofs.RecordLaws.{taken-field}
+use Rattle.demands.specs.Tick.{written, tickOf}
+use Rattle.demands.specs.Demands.{number, answerAfterwards, cleared, StandsAt, at-start, at-labels}
+use Rattle.demands.specs.Dearest.{hundredBytes}
+use Rattle.demands.proofs.Sequence.{same-statement, accepted}
+use Rattle.demands.proofs.Demand2.{stands-written, passed-check, state-sized, answer-sized, stands}
+use Rattle.demands.proofs.ReadBack.{none-declared}
+
+-- ---- the number told is that of the term at which the machine stands
+taken-written : (r : Reaction) (x : Option Error) (n : ℕ) → n < 256 ^ takenBytes → takenIn (answerAfterwards (written (instant r x n))) ≡ n
+taken-written (gives o k l t) x n h = taken-field o k l t x n h
+
+told : (sequence state : List ℕ) (e readBack : ℕ) (answer : List ℕ) → number (tickOf sequence state e readBack answer) ≡ 0
+    → (t : Statement) × StandsAt sequence readBack state t × (takenIn (answerAfterwards (tickOf sequence state e readBack answer)) ≡ reactions t e)
+told sequence state e readBack answer z =
+    let t = stands sequence state e readBack answer z in
+    let a = accepted sequence readBack (passed-check sequence state e readBack answer z) in
+    let w = stands-written sequence readBack a inheritanceFirst state e answer (state-sized sequence state e readBack answer z)
+    (answer-sized sequence state e readBack answer z) (t .1) in
+    (t .0, t .1, rw (w .0) (taken-written (react (t .0) e) (firstError (t .0) e) (reactions (t .0) e) (w .1 .2 e)))
+
+-- ---- CEILING
+standing-below : {sequence state : List ℕ} {readBack : ℕ} {t : Statement} (e : ℕ) → StandsAt sequence readBack state t
+    → (p : Statement) → Spells sequence p → reactions t e ≤ ceiling (program readBack p)
+standing-below {sequence} {state} {readBack} e (at-start {p = q} s x n) p h =
+    rw (same-statement sequence p q h s) (fresh-below (program readBack q) e)
+standing-below {sequence} {state} {readBack} e (at-labels {p = q} s x v) p h =
+    rw (same-statement sequence p q h s) (resumed-below (program readBack q) (labelsIn state) e)
+
+pub never-above : (sequence state : List ℕ) (e readBack : ℕ) (answer : List ℕ) → number (tickOf sequence state e readBack answer) ≡ 0
+    → (p : Statement) → Spells sequence p → takenIn (answerAfterwards (tickOf sequence state e readBack answer)) ≤ ceiling (program readBack p)
+never-above sequence state e readBack answer z p h =
+    let x = told sequence state e readBack answer z in omega (arith, x .2, standing-below e (x .1) p h)
+
+-- ---- DEAREST: without loops and without read-back
+standing-hundred : {sequence state : List ℕ} {t : Statement} (e : ℕ) → StandsAt sequence none state t
+    → (p : Statement) → Spells sequence p → LoopFree p → commands p ≡ 100 → reactions t e ≤ 6079
+standing-hundred {sequence} {state} e (at-start {p = q} s x n) p h free many =
+    rw (none-declared q, ← same-statement sequence p q h s) (hundred-fresh p many (h .1 .nested) e)
+standing-hundred {sequence} {state} e (at-labels {p = q} s x v) p h free many =
+    rw (none-declared q, ← same-statement sequence p q h s) (hundred-resumed p many (h .1 .nested) free (labelsIn state) e)
+
+pub none-dearer : (sequence state : List ℕ) (e : ℕ) (answer : List ℕ) → number (tickOf sequence state e none answer) ≡ 0
+    → (p : Statement) → Spells sequence p → LoopFree p → commands p ≡ 100
+    → takenIn (answerAfterwards (tickOf sequence state e none answer)) ≤ 6079
+none-dearer sequence state e answer z p h free many =
+    let x = told sequence state e none answer z in omega (arith, x .2, standing-hundred e (x .1) p h free many)
+
+-- the sequence of docs/CEILING.md
+pub hundred-spelled : Spells hundredBytes hundred × LoopFree hundred × (commands hundred ≡ 100)
+unfolding read front commandOf hundredBytes hundred row shorter
+hundred-spelled = (reads-what-is-written hundredBytes hundred .0 refl, hundred-free, hundred-takes .0)
+
+hundred-accepted : checkOf hundredBytes none ≡ 0
+unfolding checkOf checked read front commandOf hundredBytes nesting declared membersFrom distinct wellFormed everyLabel before labelsOf subset disjoint member none only join
+hundred-accepted = refl
+
+cleared-labels : labelsIn cleared ≡ none
+unfolding leNumber none
+cleared-labels = refl
+
+pub hundred-shown : (e : ℕ) (answer : List ℕ) → length answer ≡ answerLength
+    → (number (tickOf hundredBytes cleared e none answer) ≡ 0) × (takenIn (answerAfterwards (tickOf hundredBytes cleared e none answer)) ≡ 6079)
+hundred-shown e answer j =
+    let s : StandsAt hundredBytes none cleared (program none hundred) = at-start (hundred-spelled .0) refl cleared-labels in
+    let t = program none hundred in
+    let w = stands-written hundredBytes none (accepted hundredBytes none hundred-accepted) inheritanceFirst cleared e answer refl j s in (
+      rw (w .0),
+      rw (w .0) (taken-written (react t e) (firstError t e) (reactions t e) (w .1 .2 e) ∙ ap (λ (p : Statement). reactions p e) (none-declared hundred) ∙ hundred-takes .3 e),
+    )
