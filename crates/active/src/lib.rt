@@ -5,8 +5,8 @@ ghost use lib.ListN.{length};
 ghost use Rattle.labels.specs.Labels.{labelSet};
 ghost use Rattle.layout.specs.Layout.{rest, Ready, Pair};
 ghost use Rattle.active.specs.Labelled.{Labelled, LabelledTwo};
-use reading::reader::Seconds;
 use labels::Labels;
+use reading::reader::Seconds;
 
 // The labels of the statement at the front of s, which stands at the offset `at`.
 fn inside(s: &[u8], at: usize, depth: u8, active: Labels, second: &Seconds) -> Labels

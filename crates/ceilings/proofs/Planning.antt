@@ -1,20 +1,18 @@
 -- The ceiling of a program by the numbers of its statement and the number of its declarations.
 use Prim.Native.Nat.{ℕ, _+_, _*_, _%_, _^_, _≤_, _<_}
-use mathlib.Core.Path.{_≡_, refl, sym, ap, _∙_, subst}
-use mathlib.Core.List.{List, [], _∷_, append-nil}
+use mathlib.Core.Path.{_≡_, refl, sym, ap, _∙_}
+use mathlib.Core.List.{List}
 use native.Mathlib.Omega.{arith}
-use native.Mathlib.Decide.{decLt}
 use native.Mathlib.Nat.{mul-le-mul, one-mul}
 use lib.ListN.{length}
 use lib.Pow.{pow-mono, shl-exact}
 use Rattle.esterel.specs.Statement.{Statement}
-use Rattle.esterel.specs.ReadBack.{declared}
 use Rattle.esterel.specs.Ceiling.{commands, loopNesting, nesting, ceiling}
+use Rattle.theory.proofs.Ceiling.{commands-declared, loops-declared, nesting-declared}
 use Rattle.limits.specs.Limits.{maxBytes, maxDepth, maxSignals, readBackPlace}
 use Rattle.sequence.specs.Program.{readBackSignals, program}
 use Rattle.sequence.specs.Check.{Checked, sound, bad, checked, numberOf, checkOf}
-use Rattle.sequence.specs.Writer.{bytesOf, size, Written}
-use Rattle.sequence.specs.Rows.{row-6}
+use Rattle.sequence.proofs.Extents.{few-signals}
 use Rattle.sequence.proofs.Rows.{Decides, decided, row-range}
 use Rattle.layout.specs.Layout.{Ready}
 use Rattle.layout.proofs.Laid.{ready}
@@ -22,22 +20,6 @@ use Rattle.checks.specs.Verdict.{Judged}
 use Rattle.ceilings.specs.declared.Numbers.{Numbers}
 use Rattle.ceilings.specs.Ceilings.{ceilingOf, Has, Plannable, Admitted}
 use Rattle.ceilings.proofs.Sizes.{sized}
-
--- each declaration is a command, no loop, and a signal around what stands inside
-commands-declared : (a : ℕ) (ss : List ℕ) (p : Statement) → commands (declared a ss p) ≡ length ss + commands p
-unfolding commands declared
-commands-declared a [] p = omega arith
-commands-declared a (s ∷ ss) p = let h = commands-declared a ss p in omega arith
-
-loops-declared : (a : ℕ) (ss : List ℕ) (p : Statement) → loopNesting (declared a ss p) ≡ loopNesting p
-unfolding loopNesting declared
-loops-declared a [] p = refl
-loops-declared a (s ∷ ss) p = loops-declared a ss p
-
-nesting-declared : (a : ℕ) (ss : List ℕ) (p : Statement) → nesting (declared a ss p) ≡ length ss + nesting p
-unfolding nesting declared
-nesting-declared a [] p = omega arith
-nesting-declared a (s ∷ ss) p = let h = nesting-declared a ss p in omega arith
 
 -- ---- the product, and that it fits
 pub ceiling-is : (readBack k : ℕ) (p : Statement) → k ≡ length (readBackSignals readBack)
@@ -60,19 +42,6 @@ module _ (x y : ℕ) (c : x ≤ maxBytes + maxSignals) (l : y ≤ maxDepth) wher
 
 -- ---- a sequence that the check has judged
 module _ (bs : List ℕ) (readBack : ℕ) where
-  -- row 6 with the read-back set
-  room : (p : Statement) → checked bs readBack ≡ sound p → nesting (program readBack p) ≤ maxSignals
-  room p e =
-      let d = subst (Decides bs readBack) e (decided bs readBack) in
-      let w : Written maxDepth maxSignals 0 bs p (size p)
-      = record { rest = []; bytes = d .1 .0 ∙ sym (append-nil (bytesOf p)); count = refl; within = d .1 .1; placed = d .1 .2 } in
-      go d w (decLt maxSignals (nesting (program readBack p)))
-    where
-      go : Decides bs readBack (sound p) → Written maxDepth maxSignals 0 bs p (size p) → Dec (maxSignals < nesting (program readBack p))
-          → nesting (program readBack p) ≤ maxSignals
-      go d w (yes i) = absurd (d .0 6 (row-6 w i))
-      go d w (no i) = omega (arith, i)
-
   module _ (t : List ℕ) (a : Admitted bs readBack t) where
     pub starts : Ready t maxDepth 0 bs
     starts = ready 0 (a .p) (a .long) (a .lies)
@@ -83,7 +52,7 @@ module _ (bs : List ℕ) (readBack : ℕ) where
       plannable =
           let s = sized t maxDepth 0 0 bs (a .p) (a .lies) in
           let r = starts in
-          let g = room (a .p) (a .is) in
+          let g = few-signals bs readBack (a .p) (a .is) in
           let f = nesting-declared readBackPlace (readBackSignals readBack) (a .p) in
           record { count = omega (arith, h, s, r .fits); loops = omega (arith, h, s); signals = omega (arith, h, e, g, f) }
 

@@ -2,17 +2,17 @@
 use Prim.Native.Nat.{ℕ, _+_, _-_, _≤_, _<_}
 use mathlib.Core.Path.{_≡_, refl, sym, ap, _∙_, subst}
 use mathlib.Core.Bool.{Bool, true, false, cond}
-use mathlib.Core.List.{List, [], _∷_}
+use mathlib.Core.List.{List}
 use native.Mathlib.Omega.{arith}
 use lib.Dec.{leb, ltb}
 use lib.ListN.{length}
 use borrow.Author.Tests.{lt-ltb, le-ltb, le-leb, lt-leb}
 use Rattle.esterel.specs.Statement.{Statement}
-use Rattle.esterel.specs.ReadBack.{declared}
 use Rattle.esterel.specs.LabelTests.{distinct, targeted, wellFormed}
 use Rattle.reading.specs.declared.reader.Reading.{Reading}
 use Rattle.reading.specs.declared.reader.Reading.the-variants.{Accepted, Refused}
 use Rattle.limits.specs.Limits.{maxDepth, maxSignals, readBackPlace}
+use Rattle.theory.proofs.Ceiling.{nesting-declared}
 use Rattle.sequence.specs.Reader.{Read, accepted, refused, readAll}
 use Rattle.esterel.specs.Ceiling.{nesting}
 use Rattle.sequence.specs.Writer.{Written}
@@ -43,12 +43,6 @@ record ReadAs (bs : List ℕ) (n left : ℕ) : Type 0 where
   statement : Statement
   reads : readAll bs ≡ accepted statement n
   leaves : left ≡ maxSignals - nesting statement
-
--- each declaration is a signal around what stands inside
-nesting-declared : (a : ℕ) (ss : List ℕ) (p : Statement) → nesting (declared a ss p) ≡ length ss + nesting p
-unfolding nesting declared
-nesting-declared a [] p = omega arith
-nesting-declared a (s ∷ ss) p = let h = nesting-declared a ss p in omega arith
 
 module _ (bs : List ℕ) (readBack : ℕ) (t notes : List ℕ) where
   -- turned down

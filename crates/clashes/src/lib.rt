@@ -5,8 +5,8 @@ ghost use mathlib.Core.Logic.{_↔_};
 ghost use Rattle.labels.specs.Labels.{labelSet};
 ghost use Rattle.matrix.specs.Rows.{rowOf};
 ghost use Rattle.clashes.specs.Clashes.{InRowOf, RowsWithin, CoversRows, Clash, Clashes};
-use matrix::Rows;
 use labels::Labels;
+use matrix::Rows;
 
 // Is k in the row of a label of s?
 fn in_row_of(rows: &Rows, s: Labels, k: u8) -> bool

@@ -4,8 +4,8 @@ ghost use lib.ListN.{length};
 ghost use Rattle.labels.specs.Labels.{labelSet};
 ghost use Rattle.layout.specs.Layout.{rest, Ready, Pair};
 ghost use Rattle.compatibility.specs.Compatibility.{TellsCompatible, TellsCompatibleTwo};
-use reading::reader::Seconds;
 use labels::Labels;
+use reading::reader::Seconds;
 
 // Are the active pauses pairwise compatible? The statement at the front of s stands at the offset `at`.
 pub fn compatible(s: &[u8], at: usize, depth: u8, second: &Seconds, active: Labels) -> bool

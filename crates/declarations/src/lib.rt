@@ -73,13 +73,7 @@ fn declaring(place: u16, s: u8, kept: u32, minus: Reaction, plus: Reaction) -> R
 pub fn in_signal(place: u16, s: u8, minus: Reaction, plus: Reaction) -> Reaction
     ensures { λ r. ⌜ FromTwo (signalInstant local place s) minus plus r ⌝ }
 {
-    declaring(
-        place,
-        s,
-        signals::without(plus.emitted, s),
-        minus,
-        plus,
-    )
+    declaring(place, s, signals::without(plus.emitted, s), minus, plus)
 }
 
 // The read-back declaration of s (02, item 5): s is reported all the same.

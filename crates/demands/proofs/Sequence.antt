@@ -5,7 +5,7 @@ use native.Mathlib.Decide.{decLt}
 use mathlib.Core.Path.{_≡_, refl, sym, ap, _∙_}
 use mathlib.Core.Logic.{_≢_, _↔_, inr}
 use mathlib.Core.Bool.{Bool, true, false, _&&_, cond}
-use mathlib.Core.List.{List, [], append-nil}
+use mathlib.Core.List.{List}
 use lib.ListN.{length}
 use lib.Dec.{eqb}
 use borrow.Author.Tests.{eq-eqb, ne-eqb}
@@ -24,9 +24,8 @@ use Rattle.theory.proofs.LabelTests.{distinct-is, targeted-is, wellFormed-is, v
 use Rattle.sequence.specs.Reader as Reader
 use Rattle.sequence.specs.Program.{readBackSignals, program}
 use Rattle.sequence.specs.Check.{Checked, sound, bad, checked, numberOf, checkOf}
-use Rattle.sequence.specs.Rows.{Spells, Row, row-2, row-6}
-use Rattle.sequence.specs.Writer.{bytesOf, size, Written}
-use Rattle.sequence.proofs.Extents.{extent}
+use Rattle.sequence.specs.Rows.{Spells, Row, row-2}
+use Rattle.sequence.proofs.Extents.{extent, few-signals}
 use Rattle.sequence.proofs.Writer.{reads-what-is-written}
 use Rattle.sequence.proofs.Source.{spells-source}
 use Rattle.sequence.proofs.Rows.{Decides, decided, row-range}
@@ -155,22 +154,11 @@ module _ (sequence : List ℕ) (readBack : ℕ) (a : Accepted sequence readBack)
   pub places-resumed : (L : ℕ) → PlacesBelow (256 ^ placeBytes) (expand term L)
   places-resumed L = places-expand (256 ^ placeBytes) term L places-fresh
 
-  -- the declarations do not make the nesting of signals exceed six
-  nested : nesting term ≤ maxSignals
-  nested =
-      elim (decLt maxSignals (nesting term)) [
-        | yes i ↦ absurd (a .no-row 6 (row-6 as-written i))
-        | no i ↦ omega arith
-      ]
-    where
-      as-written : Written maxDepth maxSignals 0 sequence p (size p)
-      as-written =
-          record { rest = []; bytes = a .spelled .0 ∙ sym (append-nil (bytesOf p)); count = refl; within = a .spelled .1; placed = a .spelled .2 }
-
-  -- so the ceiling is far below what the answer's bytes hold
+  -- the ceiling is far below what the answer's bytes hold
   term-ceiling : ceiling term < 256 ^ takenBytes
   term-ceiling =
       let ss = readBackSignals readBack in
+      let nested = few-signals sequence readBack p (a .is-checked) in
       let x = extent p (a .spelled .1 .ranged) in
       let n : commands term ≤ maxSignals + maxBytes =
       omega (arith, commands-declared readBackPlace ss p, nesting-declared readBackPlace ss p, nested, x .0, not-long, ap length (a .spelled .0)) in

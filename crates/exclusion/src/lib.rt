@@ -5,8 +5,8 @@ ghost use Rattle.sets.specs.Sets.{labelCount, onlyBelow};
 ghost use Rattle.labels.specs.Labels.{labelSet};
 ghost use Rattle.matrix.specs.Rows.{addRowBelow, Updates};
 ghost use Rattle.exclusion.specs.Exclusion.{Labelled, Joins, BeginsSecond};
-use matrix::Rows;
 use labels::Labels;
+use matrix::Rows;
 
 // What stands before a statement: the pauses exclusive with it, and the pauses and setpauses on another side of a parallel.
 pub struct Before {

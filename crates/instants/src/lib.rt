@@ -2,11 +2,11 @@
 // writes nothing.
 ghost use Rattle.layout.specs.Known.{Sound};
 ghost use Rattle.instants.specs.Replies.{DecodesRead, Replies};
+use labels::Labels;
 use notes::Notes;
 use program::Position;
-use reading::reader::Seconds;
 use reaction::Reaction;
-use labels::Labels;
+use reading::reader::Seconds;
 use validity::activity::Validity;
 
 // What a state record holds for an accepted sequence. A waiting machine has the ranks of its active pauses.

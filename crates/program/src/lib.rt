@@ -4,9 +4,9 @@ ghost use mathlib.Core.Path.{_≡_};
 ghost use Rattle.limits.specs.Limits.{maxDepth};
 ghost use Rattle.layout.specs.Layout.{Ready};
 ghost use Rattle.program.specs.Program.{Inside, Reacted};
-use reading::reader::Seconds;
-use reaction::Reaction;
 use labels::Labels;
+use reaction::Reaction;
+use reading::reader::Seconds;
 
 // Where a sequence stands: at its beginning, or at its active pauses, by their ranks.
 pub enum Position {

@@ -4,8 +4,8 @@ ghost use Prim.Native.Nat.{_≤_};
 ghost use lib.ListN.{length, getD};
 ghost use Rattle.layout.specs.Layout.{rest, Ready};
 ghost use Rattle.react.specs.Started.{Started, StartedAfter};
-use reading::reader::Seconds;
 use reaction::Reaction;
+use reading::reader::Seconds;
 
 // The reaction of the statement at the front of s, which stands at the offset `at`.
 pub fn react(s: &[u8], at: usize, depth: u8, input: u32, second: &Seconds) -> Reaction

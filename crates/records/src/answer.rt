@@ -40,14 +40,7 @@ pub fn taken(answer: &[u8]) -> u32
 }
 
 // A buffer of another length is left as it is.
-pub fn write_answer(
-    answer: &mut [u8],
-    code: u8,
-    kind: u8,
-    place: u16,
-    emitted: u32,
-    taken: u32,
-)
+pub fn write_answer(answer: &mut [u8], code: u8, kind: u8, place: u16, emitted: u32, taken: u32)
     ensures { λ _. ⌜ now (answer .exit) ≡ replaced (now (answer .entry)) (answerRecord code kind place emitted taken) ⌝ }
 {
     if answer.len() != ANSWER_LENGTH {

@@ -4,8 +4,8 @@ ghost use Rattle.labels.specs.Labels.{labelSet};
 ghost use Rattle.records.specs.Records.{replaced, phaseIn, labelsIn, stateRecord};
 use crate::layout::LABELS_AT;
 use crate::layout::STATE_LENGTH;
-use limits::LABEL_BYTES;
 use labels::Labels;
+use limits::LABEL_BYTES;
 
 pub fn phase(state: &[u8]) -> u8
     ensures { λ r. ⌜ r ≡ phaseIn (now (state .entry)) ⌝ }

@@ -6,9 +6,9 @@ ghost use lib.ListN.{length, getD};
 ghost use Rattle.labels.specs.Labels.{labelSet};
 ghost use Rattle.layout.specs.Layout.{rest, Ready};
 ghost use Rattle.resume.specs.Resumed.{Resumed, ResumedSide};
-use reading::reader::Seconds;
-use reaction::Reaction;
 use labels::Labels;
+use reaction::Reaction;
+use reading::reader::Seconds;
 
 // The reaction of the statement at the front of s, which stands at the offset `at`, by the ranks of its active pauses.
 pub fn resume(

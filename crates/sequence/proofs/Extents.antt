@@ -1,10 +1,19 @@
--- A statement that bytes spell has at most as many commands as bytes, and fewer loops around a command than levels.
+-- A statement that bytes spell has at most as many commands as bytes, and fewer loops around a command than levels; an accepted
+-- program at most six signals around one.
 use Prim.Native.Nat.{ℕ, _+_, _≤_, _<_}
 use native.Mathlib.Omega.{arith}
+use native.Mathlib.Decide.{decLt}
+use mathlib.Core.Path.{_≡_, refl, sym, _∙_, subst}
+use mathlib.Core.List.{List, [], append-nil}
 use lib.ListN.{length-append}
 use Rattle.esterel.specs.Statement.{Statement, nothing, pause, emit, exit, seq, par, loop, present, signal, try, setpause, suspend, held}
-use Rattle.esterel.specs.Ceiling.{commands, loopNesting}
-use Rattle.sequence.specs.Writer.{bytesOf, size, depthOf, Ranged}
+use Rattle.esterel.specs.Ceiling.{commands, loopNesting, nesting}
+use Rattle.limits.specs.Limits.{maxDepth, maxSignals}
+use Rattle.sequence.specs.Program.{program}
+use Rattle.sequence.specs.Check.{sound, checked}
+use Rattle.sequence.specs.Rows.{row-6}
+use Rattle.sequence.specs.Writer.{bytesOf, size, depthOf, Ranged, Written}
+use Rattle.sequence.proofs.Rows.{Decides, decided}
 
 pub extent : (p : Statement) → Ranged p → (commands p ≤ size p) × (loopNesting p < depthOf p)
 unfolding commands loopNesting bytesOf depthOf
@@ -30,3 +39,14 @@ extent (try p) h = let x = extent p h in (omega arith, omega arith)
 extent (setpause l) h = (omega arith, omega arith)
 extent (suspend s p) h = let x = extent p (h .1) in (omega arith, omega arith)
 extent (held s K p) h = absurd h
+
+-- row 6 with the read-back set
+pub few-signals : (bs : List ℕ) (readBack : ℕ) (p : Statement) → checked bs readBack ≡ sound p → nesting (program readBack p) ≤ maxSignals
+few-signals bs readBack p e =
+    let d = subst (Decides bs readBack) e (decided bs readBack) in
+    let w : Written maxDepth maxSignals 0 bs p (size p)
+    = record { rest = []; bytes = d .1 .0 ∙ sym (append-nil (bytesOf p)); count = refl; within = d .1 .1; placed = d .1 .2 } in
+    elim (decLt maxSignals (nesting (program readBack p))) [
+      | yes i ↦ absurd (d .0 6 (row-6 w i))
+      | no i ↦ omega (arith, i)
+    ]

@@ -2,9 +2,9 @@
 ghost use Rattle.labels.specs.Labels.{labelSet};
 ghost use Rattle.validity.specs.Activity.{Ranked, Masked, Judges};
 ghost use Rattle.layout.specs.Known.{Sound};
+use labels::Labels;
 use notes::Notes;
 use reading::reader::Seconds;
-use labels::Labels;
 
 // The ranks of the pauses with these labels.
 fn ranks(labels: Labels, notes: &Notes) -> Labels

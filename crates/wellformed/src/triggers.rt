@@ -3,8 +3,8 @@ ghost use Rattle.labels.specs.Labels.{labelSet};
 ghost use Rattle.limits.specs.Limits.{maxDepth};
 ghost use Rattle.wellformed.specs.Survey.{Standing};
 ghost use Rattle.wellformed.specs.Triggers.{TellsWellFormed};
-use matrix::Rows;
 use labels::Labels;
+use matrix::Rows;
 
 // Is the statement that lies in s well-formed? Its pauses are known, and row 9 does not hold of it.
 pub fn is_well_formed(s: &[u8], pauses: Labels) -> bool
