@@ -13,7 +13,7 @@ CARGO_WORDS = --release --offline --quiet --target-dir target/cargo --manifest-p
 CARGO = cargo run $(CARGO_WORDS)
 SOURCES := crates.txt $(shell find crates -name '*.rt' -o -name '*.antt')
 
-.PHONY: help run show test host host-rust host-c host-tick-rust host-tick-c host-example host-stack host-archive host-built host-plain \
+.PHONY: help run show test host host-rust host-c host-tick-rust host-tick-c host-example host-stack host-archive host-plain \
 	show-test bench bench-check bench-tick bench-run
 
 help: # lists the targets
@@ -56,10 +56,6 @@ host-stack: $(INTAKE_ARCHIVE) # measures the stack of a call at the greatest dep
 
 host-archive: $(INTAKE_ARCHIVE) # shows the read-only data of the archive: jump tables and no constant array
 	host/archive_test.py $(INTAKE_ARCHIVE)
-
-host-built: $(INTAKE_ARCHIVE) # builds the archive and the host tests in Rust
-	cargo build $(CARGO_WORDS) host/tick/Cargo.toml
-	cargo build $(CARGO_WORDS) host/check/Cargo.toml
 
 host-plain: target/plain/libintake.a # runs the host tests against plain C, with which the benchmarks compare
 	$(MAKE) host-rust host-c host-tick-rust host-tick-c INTAKE_ARCHIVE=target/plain/libintake.a

@@ -1,4 +1,2 @@
-pub mod Sizes
-pub mod Steps
 pub mod Planning
 pub mod CeilingExamples

@@ -17,9 +17,10 @@ use Rattle.sequence.proofs.Rows.{Decides, decided, row-range}
 use Rattle.layout.specs.Layout.{Ready}
 use Rattle.layout.proofs.Laid.{ready}
 use Rattle.checks.specs.Verdict.{Judged}
-use Rattle.ceilings.specs.declared.Numbers.{Numbers}
-use Rattle.ceilings.specs.Ceilings.{ceilingOf, Has, Plannable, Admitted}
-use Rattle.ceilings.proofs.Sizes.{sized}
+use Rattle.extents.specs.declared.Numbers.{Numbers}
+use Rattle.extents.specs.Extents.{Has}
+use Rattle.ceilings.specs.Ceilings.{ceilingOf, Plannable, Admitted}
+use Rattle.extents.proofs.Sizes.{sized}
 
 -- ---- the product, and that it fits
 pub ceiling-is : (readBack k : ℕ) (p : Statement) → k ≡ length (readBackSignals readBack)

@@ -1,98 +1,11 @@
 // The ceiling on the reactions of an instant (02, item 6), from the bytes of a sequence and a read-back set.
 ghost use mathlib.Core.Path.{_≡_};
-ghost use Prim.Native.Nat.{_+_, _-_, _*_, _^_, _≤_, max};
-ghost use lib.ListN.{length};
+ghost use Prim.Native.Nat.{_+_, _*_, _^_};
 ghost use Rattle.sequence.specs.Check.{checked};
-ghost use Rattle.layout.specs.Layout.{rest, Ready, Pair};
-ghost use Rattle.ceilings.specs.Ceilings.{ceilingOf, Around, AroundTwo, Numbered, NumberedTwo, Few, Plannable, Admitted};
+ghost use Rattle.ceilings.specs.Ceilings.{ceilingOf, Plannable, Admitted};
+use extents::Numbers;
 use notes::Notes;
 use reading::reader::Seconds;
-
-// Of a statement: its commands, and the greatest numbers of loops and of signals around one.
-struct Numbers {
-    commands: u32,
-    loops: u32,
-    signals: u32,
-}
-
-// Those of a command without parts.
-fn single() -> Numbers
-    ensures { λ r. ⌜ (r .commands ≡ 1) × (r .loops ≡ 0) × (r .signals ≡ 0) ⌝ }
-{
-    Numbers {
-        commands: 1,
-        loops: 0,
-        signals: 0,
-    }
-}
-
-// Those of a command around a part with the numbers n.
-fn around(n: Numbers, loops: u32, signals: u32) -> Numbers
-    requires { ⌜ Few n × (loops ≤ 1) × (signals ≤ 1) ⌝ }
-    ensures { λ r. ⌜ Around loops signals n r ⌝ }
-{
-    Numbers {
-        commands: 1 + n.commands,
-        loops: loops + n.loops,
-        signals: signals + n.signals,
-    }
-}
-
-fn greater(x: u32, y: u32) -> u32
-    ensures { λ r. ⌜ r ≡ max x y ⌝ }
-{
-    if x < y { y } else { x }
-}
-
-// Those of a command around two parts.
-fn around_two(p: Numbers, q: Numbers) -> Numbers
-    requires { ⌜ Few p × Few q ⌝ }
-    ensures { λ r. ⌜ AroundTwo p q r ⌝ }
-{
-    Numbers {
-        commands: 1 + p.commands + q.commands,
-        loops: greater(p.loops, q.loops),
-        signals: greater(p.signals, q.signals),
-    }
-}
-
-// The numbers of the statement at the front of s, which stands at the offset `at`.
-fn of_statement(s: &[u8], at: usize, depth: u8, second: &Seconds) -> Numbers
-    requires { ⌜ Ready (now second) depth at (now s) ⌝ }
-    ensures { λ r. ⌜ Numbered (now (second .entry)) depth at (now (s .entry)) r ⌝ }
-{
-    let command = s[0];
-    match command {
-        4 => of_parts(s, at, 1, depth, second),
-        5 => of_parts(s, at, 1, depth, second),
-        6 => around(of_part(s, 1, at + 1, depth - 1, second), 1, 0),
-        7 => of_parts(s, at, 2, depth, second),
-        8 => around(of_part(s, 2, at + 2, depth - 1, second), 0, 1),
-        9 => around(of_part(s, 1, at + 1, depth - 1, second), 0, 0),
-        11 => around(of_part(s, 2, at + 2, depth - 1, second), 0, 0),
-        _ => single(),
-    }
-}
-
-// The same of the part from s[n] on, which stands at the offset `at`.
-fn of_part(s: &[u8], n: usize, at: usize, depth: u8, second: &Seconds) -> Numbers
-    requires { ⌜ n ≤ length (now s) ⌝ }
-    requires { ⌜ Ready (now second) depth at (rest n (now s)) ⌝ }
-    ensures { λ r. ⌜ Numbered (now (second .entry)) depth at (rest n (now (s .entry))) r ⌝ }
-{
-    of_statement(&s[n..], at, depth, second)
-}
-
-// The same of the command of w bytes and two parts at the front of s, which stands at the offset `at`.
-fn of_parts(s: &[u8], at: usize, w: usize, depth: u8, second: &Seconds) -> Numbers
-    requires { ⌜ Pair (now second) (depth - 1) at w (now s) ⌝ }
-    ensures { λ r. ⌜ NumberedTwo (now (second .entry)) (depth - 1) at w (now (s .entry)) r ⌝ }
-{
-    let m = (second[at] % 2048) as usize;
-    let p = of_part(s, w, at + w, depth - 1, second);
-    let q = of_part(s, m - at, m, depth - 1, second);
-    around_two(p, q)
-}
 
 // The ceiling of a statement with these numbers under k declarations: each is a command and a signal around one.
 fn under(n: Numbers, k: u32) -> u32
@@ -107,7 +20,7 @@ pub fn of_accepted(sequence: &[u8], read_back: u32, second: &Seconds) -> u32
     requires { ⌜ Admitted (now sequence) «read_back» (now second) ⌝ }
     ensures { λ r. ⌜ r ≡ ceilingOf «read_back» (checked (now (sequence .entry)) «read_back») ⌝ }
 {
-    let n = of_statement(sequence, 0, limits::MAX_DEPTH, second);
+    let n = extents::of_statement(sequence, 0, limits::MAX_DEPTH, second);
     under(n, signals::size(read_back) as u32)
 }
 

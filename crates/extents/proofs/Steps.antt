@@ -10,8 +10,8 @@ use Rattle.sequence.specs.Commands.{Command, partCount, width}
 use Rattle.sequence.proofs.Table.{byteOf}
 use Rattle.layout.specs.Layout.{rest, Parts, Lies, Ready, Pair}
 use Rattle.layout.proofs.Laid.{ready, taken, begins, command}
-use Rattle.ceilings.specs.declared.Numbers.{Numbers}
-use Rattle.ceilings.specs.Ceilings.{Has, Around, AroundTwo}
+use Rattle.extents.specs.declared.Numbers.{Numbers}
+use Rattle.extents.specs.Extents.{Has, Around, AroundTwo}
 
 -- ---- the parts of a command lie in the bytes behind it
 module _ {t : List ℕ} {d a : ℕ} {bs : List ℕ} (r : Ready t d a bs) (c : Command) where

@@ -4,8 +4,8 @@ use borrow.Author.Needs.{needs}
 use Rattle.esterel.specs.Statement.{local, seq, par, loop, present, signal, try, suspend}
 use Rattle.sequence.specs.Commands.{Command}
 use Rattle.layout.proofs.Laid.{taken, first-ready, second-ready}
-use Rattle.ceilings.proofs.Sizes.{few}
-use Rattle.ceilings.proofs.Steps.{
+use Rattle.extents.proofs.Sizes.{few}
+use Rattle.extents.proofs.Steps.{
   part-ready,
   pair-ready,
   here,
@@ -21,20 +21,20 @@ use Rattle.ceilings.proofs.Steps.{
 use Prim.Native.Nat.{ℕ, _+_, _*_, _<_}
 use borrow.Fn.Kinds.{In}
 use borrow.Fn.PlainCycle.{Measures, is, falls, and}
-use Rattle.ceilings.proofs.of_part.Reads as of-part
-use Rattle.ceilings.proofs.of_part.Kinds as of-part-kinds
-use Rattle.ceilings.proofs.+of_part+of_parts+of_statement.Lts-of_part as of-part-lts
-use Rattle.ceilings.proofs.of_parts.Reads as of-parts
-use Rattle.ceilings.proofs.of_parts.Kinds as of-parts-kinds
-use Rattle.ceilings.proofs.+of_part+of_parts+of_statement.Lts-of_parts as of-parts-lts
-use Rattle.ceilings.proofs.of_statement.Reads as of-statement
-use Rattle.ceilings.proofs.of_statement.Kinds as of-statement-kinds
-use Rattle.ceilings.proofs.+of_part+of_parts+of_statement.Lts-of_statement as of-statement-lts
-use Rattle.ceilings.proofs.around.Reads as around-reads
-use Rattle.ceilings.proofs.around_two.Reads as around-two-reads
-use Rattle.ceilings.proofs.single.Reads as single-reads
-use Rattle.ceilings.proofs.+of_part+of_parts+of_statement.{statement}
-use Rattle.ceilings.proofs.+of_part+of_parts+of_statement.Tie.{close}
+use Rattle.extents.proofs.of_part.Reads as of-part
+use Rattle.extents.proofs.of_part.Kinds as of-part-kinds
+use Rattle.extents.proofs.+of_part+of_parts+of_statement.Lts-of_part as of-part-lts
+use Rattle.extents.proofs.of_parts.Reads as of-parts
+use Rattle.extents.proofs.of_parts.Kinds as of-parts-kinds
+use Rattle.extents.proofs.+of_part+of_parts+of_statement.Lts-of_parts as of-parts-lts
+use Rattle.extents.proofs.of_statement.Reads as of-statement
+use Rattle.extents.proofs.of_statement.Kinds as of-statement-kinds
+use Rattle.extents.proofs.+of_part+of_parts+of_statement.Lts-of_statement as of-statement-lts
+use Rattle.extents.proofs.around.Reads as around-reads
+use Rattle.extents.proofs.around_two.Reads as around-two-reads
+use Rattle.extents.proofs.single.Reads as single-reads
+use Rattle.extents.proofs.+of_part+of_parts+of_statement.{statement}
+use Rattle.extents.proofs.+of_part+of_parts+of_statement.Tie.{close}
 
 abbrev μ-of-part : Measures 2 of-part-kinds.ps ℕ
 μ-of-part κs a = 3 * (a .1 .1 .1 .0) + 2

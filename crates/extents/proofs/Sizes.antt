@@ -12,8 +12,8 @@ use Rattle.sequence.specs.Writer.{bytesOf, size}
 use Rattle.sequence.proofs.Table.{leaves, ones, twos, at-most-two}
 use Rattle.layout.specs.Layout.{rest, Parts, Form, Lies, Ready}
 use Rattle.layout.proofs.Parts.{rest-is}
-use Rattle.ceilings.specs.declared.Numbers.{Numbers}
-use Rattle.ceilings.specs.Ceilings.{Numbered, Few}
+use Rattle.extents.specs.declared.Numbers.{Numbers}
+use Rattle.extents.specs.Extents.{Numbered, Few}
 
 -- in n bytes, with at most d levels
 pub record Sized (d n : ℕ) (p : Statement) : Type 0 where
