@@ -9,7 +9,7 @@ use Rattle.esterel.specs.Ceiling.{commands, loopNesting, nesting, ceiling}
 use Rattle.sequence.specs.Commands.{commandOf}
 use Rattle.sequence.specs.Reader.{front, read}
 use Rattle.sequence.specs.Check.{checked}
-use Rattle.ceilings.specs.Ceilings.{ceilingOf}
+use Rattle.sequence.specs.Ceilings.{ceilingOf}
 
 -- bytes, a read-back set, and the ceiling
 abbrev table : List (List ℕ × ℕ × ℕ)

@@ -19,7 +19,8 @@ use Rattle.layout.proofs.Laid.{ready}
 use Rattle.checks.specs.Verdict.{Judged}
 use Rattle.extents.specs.declared.Numbers.{Numbers}
 use Rattle.extents.specs.Extents.{Has}
-use Rattle.ceilings.specs.Ceilings.{ceilingOf, Plannable, Admitted}
+use Rattle.sequence.specs.Ceilings.{ceilingOf}
+use Rattle.ceilings.specs.Ceilings.{Plannable, Passed}
 use Rattle.extents.proofs.Sizes.{sized}
 
 -- ---- the product, and that it fits
@@ -43,7 +44,7 @@ module _ (x y : ℕ) (c : x ≤ maxBytes + maxSignals) (l : y ≤ maxDepth) wher
 
 -- ---- a sequence that the check has judged
 module _ (bs : List ℕ) (readBack : ℕ) where
-  module _ (t : List ℕ) (a : Admitted bs readBack t) where
+  module _ (t : List ℕ) (a : Passed bs readBack t) where
     pub starts : Ready t maxDepth 0 bs
     starts = ready 0 (a .p) (a .long) (a .lies)
 
@@ -62,11 +63,11 @@ module _ (bs : List ℕ) (readBack : ℕ) where
           z ∙ rw (h .count, h .loops, h .signals) (sym (ceiling-is readBack k (a .p) e)) ∙ ap (ceilingOf readBack) (sym (a .is))
 
   module _ {t notes : List ℕ} {r : ℕ} (j : Judged bs readBack t notes r) where
-    pub admitted : r ≡ 0 → Admitted bs readBack t
+    pub passed : r ≡ 0 → Passed bs readBack t
     unfolding checkOf
-    admitted z = go (checked bs readBack) refl (decided bs readBack) (sym (j .number) ∙ z)
+    passed z = go (checked bs readBack) refl (decided bs readBack) (sym (j .number) ∙ z)
       where
-        go : (c : Checked) → checked bs readBack ≡ c → Decides bs readBack c → numberOf c ≡ 0 → Admitted bs readBack t
+        go : (c : Checked) → checked bs readBack ≡ c → Decides bs readBack c → numberOf c ≡ 0 → Passed bs readBack t
         go (bad k) e d h = absurd (let i = row-range bs readBack k (d .0) in omega arith)
         go (sound p) e d h = let k = j .known p e in record { p = p; is = e; lies = k .lies; long = k .long }
 

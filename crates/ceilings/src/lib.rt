@@ -2,7 +2,8 @@
 ghost use mathlib.Core.Path.{_≡_};
 ghost use Prim.Native.Nat.{_+_, _*_, _^_};
 ghost use Rattle.sequence.specs.Check.{checked};
-ghost use Rattle.ceilings.specs.Ceilings.{ceilingOf, Plannable, Admitted};
+ghost use Rattle.sequence.specs.Ceilings.{ceilingOf};
+ghost use Rattle.ceilings.specs.Ceilings.{Plannable, Passed};
 use extents::Numbers;
 use notes::Notes;
 use reading::reader::Seconds;
@@ -16,8 +17,8 @@ fn under(n: Numbers, k: u32) -> u32
 }
 
 // The ceiling of a sequence that the check has passed, with the table of second parts that it left.
-pub fn of_accepted(sequence: &[u8], read_back: u32, second: &Seconds) -> u32
-    requires { ⌜ Admitted (now sequence) «read_back» (now second) ⌝ }
+fn of_accepted(sequence: &[u8], read_back: u32, second: &Seconds) -> u32
+    requires { ⌜ Passed (now sequence) «read_back» (now second) ⌝ }
     ensures { λ r. ⌜ r ≡ ceilingOf «read_back» (checked (now (sequence .entry)) «read_back») ⌝ }
 {
     let n = extents::of_statement(sequence, 0, limits::MAX_DEPTH, second);

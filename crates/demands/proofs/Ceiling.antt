@@ -1,7 +1,7 @@
 -- The number of reactions that a tick tells (02, item 6): its ceiling, and the dearest loop-free sequences of 100 commands.
 use Prim.Native.Nat.{ℕ, _^_, _≤_, _<_}
 use native.Mathlib.Omega.{arith}
-use mathlib.Core.Path.{_≡_, refl, sym, ap, _∙_, subst}
+use mathlib.Core.Path.{_≡_, refl, sym, ap, _∙_}
 use mathlib.Core.Option.{Option}
 use mathlib.Core.List.{List}
 use lib.ListN.{length}
@@ -10,10 +10,9 @@ use Rattle.esterel.specs.Statement.{Statement}
 use Rattle.esterel.specs.Reaction.{Reaction, gives, react, inheritanceFirst}
 use Rattle.esterel.specs.Errors.{Error, firstError}
 use Rattle.esterel.specs.Reactions.{reactions}
-use Rattle.esterel.specs.Ceiling.{commands, nesting, ceiling, LoopFree, row, shorter, hundred, hundred-takes}
+use Rattle.esterel.specs.Ceiling.{commands, nesting, ceiling, LoopFree, tries, triesButOne, hundred, hundred-takes}
 use Rattle.esterel.specs.LabelTests.{subset, disjoint, labelsOf, everyLabel, distinct, before, wellFormed}
 use Rattle.esterel.specs.ReadBack.{membersFrom, declared}
-use Rattle.esterel.specs.Expansion.{expand}
 use Rattle.esterel.specs.Resume.{instant}
 use Rattle.theory.proofs.Ceiling.{fresh-below, resumed-below}
 use Rattle.theory.proofs.Dearest.{hundred-fresh, hundred-resumed, hundred-free}
@@ -21,16 +20,18 @@ use Rattle.limits.specs.Limits.{takenBytes}
 use Rattle.sequence.specs.Commands.{commandOf}
 use Rattle.sequence.specs.Reader.{front, read}
 use Rattle.sequence.specs.Program.{program}
-use Rattle.sequence.specs.Check.{checked, checkOf}
+use Rattle.sequence.specs.Check.{Checked, sound, bad, checked, checkOf}
+use Rattle.sequence.specs.Ceilings.{ceilingOf}
+use Rattle.sequence.proofs.Rows.{Decides, decided}
 use Rattle.sequence.specs.Rows.{Spells}
 use Rattle.sequence.proofs.Writer.{reads-what-is-written}
 use Rattle.numbers.specs.Bytes.{leNumber}
 use Rattle.records.specs.Records.{answerLength, labelsIn, takenIn}
 use Rattle.records.proofs.RecordLaws.{taken-field}
 use Rattle.demands.specs.Tick.{written, tickOf}
-use Rattle.demands.specs.Demands.{number, answerAfterwards, cleared, StandsAt, at-start, at-labels}
+use Rattle.demands.specs.Demands.{number, answerAfterwards, cleared, StandsAt, at-start, at-labels, TickMeets}
 use Rattle.demands.specs.Dearest.{hundredBytes}
-use Rattle.demands.proofs.Sequence.{same-statement, accepted}
+use Rattle.demands.proofs.Sequence.{same-statement, Accepted, accepted, term-ceiling}
 use Rattle.demands.proofs.Demand2.{stands-written, passed-check, state-sized, answer-sized, stands}
 use Rattle.demands.proofs.ReadBack.{none-declared}
 
@@ -56,9 +57,27 @@ standing-below {sequence} {state} {readBack} e (at-labels {p = q} s x v) p h =
     rw (same-statement sequence p q h s) (resumed-below (program readBack q) (labelsIn state) e)
 
 pub never-above : (sequence state : List ℕ) (e readBack : ℕ) (answer : List ℕ) → number (tickOf sequence state e readBack answer) ≡ 0
-    → (p : Statement) → Spells sequence p → takenIn (answerAfterwards (tickOf sequence state e readBack answer)) ≤ ceiling (program readBack p)
-never-above sequence state e readBack answer z p h =
-    let x = told sequence state e readBack answer z in omega (arith, x .2, standing-below e (x .1) p h)
+    → takenIn (answerAfterwards (tickOf sequence state e readBack answer)) ≤ ceilingOf readBack (checked sequence readBack)
+never-above sequence state e readBack answer z =
+    let x = told sequence state e readBack answer z in
+    let a = accepted sequence readBack (passed-check sequence state e readBack answer z) in
+    rw (a .is-checked) (omega (arith, x .2, standing-below e (x .1) (a .statement) (a .spelled)))
+
+pub never-above-call : {n : ℕ} {state′ answer′ : List ℕ} (sequence state : List ℕ) (e readBack : ℕ) (answer : List ℕ)
+    → TickMeets n state′ answer′ sequence state e readBack answer → n ≡ 0 → takenIn answer′ ≤ ceilingOf readBack (checked sequence readBack)
+never-above-call sequence state e readBack answer m z =
+    let h = never-above sequence state e readBack answer (ap number (sym m) ∙ z) in rw (← m) at h
+
+-- the ceiling of an accepted sequence
+pub most : (sequence : List ℕ) (readBack : ℕ) → ceilingOf readBack (checked sequence readBack) ≤ 4218880
+most sequence readBack = go (checked sequence readBack) refl (decided sequence readBack)
+  where
+    go : (c : Checked) → checked sequence readBack ≡ c → Decides sequence readBack c → ceilingOf readBack c ≤ 4218880
+    go (bad k) e d = omega arith
+    go (sound p) e d =
+        let a : Accepted sequence readBack
+        = record { statement = p; is-checked = e; no-row = d .0; spelled = d .1; distinct = d .2; targeted = d .3; formed = d .4 } in
+        term-ceiling sequence readBack a
 
 -- ---- DEAREST: without loops and without read-back
 standing-hundred : {sequence state : List ℕ} {t : Statement} (e : ℕ) → StandsAt sequence none state t
@@ -76,7 +95,7 @@ none-dearer sequence state e answer z p h free many =
 
 -- the sequence of docs/CEILING.md
 pub hundred-spelled : Spells hundredBytes hundred × LoopFree hundred × (commands hundred ≡ 100)
-unfolding read front commandOf hundredBytes hundred row shorter
+unfolding read front commandOf hundredBytes hundred tries triesButOne
 hundred-spelled = (reads-what-is-written hundredBytes hundred .0 refl, hundred-free, hundred-takes .0)
 
 hundred-accepted : checkOf hundredBytes none ≡ 0

@@ -22,11 +22,10 @@ use Rattle.theory.proofs.SignalOrders.{wrong-named}
 use Rattle.theory.proofs.Derivations.{first-use}
 use Rattle.theory.proofs.Reactions.{rules-used}
 use Rattle.theory.proofs.LabelTests.{valid-is}
-use Rattle.limits.specs.Limits.{signalCount, placeBytes, takenBytes}
+use Rattle.limits.specs.Limits.{signalCount, signalBytes, placeBytes, takenBytes}
 use Rattle.sequence.specs.Program.{program}
 use Rattle.sequence.specs.Check.{checkOf}
 use Rattle.sequence.proofs.Rows.{check-by-rows}
-use Rattle.limits.specs.Limits.{signalBytes}
 use Rattle.records.specs.Records.{stateLength, answerLength, Decoded, holds, decodeState, encodeAnswer, codeByte, phaseIn, labelsIn, kindIn, placeIn, takenIn}
 use Rattle.demands.specs.Tick.{written, tickBy, tickOf}
 use Rattle.demands.specs.TickRows.{TickRow, row-1, row-2-to-10, row-11, row-12}

@@ -1,5 +1,5 @@
 -- What an accepted sequence is: a statement within the limits that passes the label rules, and how a tick of it goes.
-use Prim.Native.Nat.{ℕ, _+_, _^_, _≤_, _<_}
+use Prim.Native.Nat.{ℕ, _+_, _-_, _^_, _≤_, _<_}
 use native.Mathlib.Omega.{arith}
 use native.Mathlib.Decide.{decLt}
 use mathlib.Core.Path.{_≡_, refl, sym, ap, _∙_}
@@ -14,7 +14,7 @@ use Rattle.esterel.specs.Reaction.{Reaction, gives, ended, waiting, leaving, wr
 use Rattle.esterel.specs.States.{Valid, Distinct, Targeted, Source, WellFormed}
 use Rattle.esterel.specs.Expansion.{expand}
 use Rattle.esterel.specs.Reactions.{reactions}
-use Rattle.esterel.specs.Ceiling.{commands, loopNesting, nesting, ceiling}
+use Rattle.esterel.specs.Ceiling.{commands, loopNesting, ceiling}
 use Rattle.esterel.specs.Machines.{stateAfter}
 use Rattle.theory.proofs.Theorems.{ReactionOf, of-statement, of-expansion, FromValid, stable, labels-of-stops}
 use Rattle.limits.specs.Limits.{labelCount, maxBytes, maxDepth, maxSignals, placeBytes, takenBytes, readBackPlace}
@@ -154,16 +154,16 @@ module _ (sequence : List ℕ) (readBack : ℕ) (a : Accepted sequence readBack)
   pub places-resumed : (L : ℕ) → PlacesBelow (256 ^ placeBytes) (expand term L)
   places-resumed L = places-expand (256 ^ placeBytes) term L places-fresh
 
-  -- the ceiling is far below what the answer's bytes hold
-  term-ceiling : ceiling term < 256 ^ takenBytes
+  -- 1,024 commands and six declarations, 63 loops around one and six signals: 1,030 × 64 × 64
+  pub term-ceiling : ceiling term ≤ 4218880
   term-ceiling =
       let ss = readBackSignals readBack in
-      let nested = few-signals sequence readBack p (a .is-checked) in
+      let g = few-signals sequence readBack p (a .is-checked) in
       let x = extent p (a .spelled .1 .ranged) in
       let n : commands term ≤ maxSignals + maxBytes =
-      omega (arith, commands-declared readBackPlace ss p, nesting-declared readBackPlace ss p, nested, x .0, not-long, ap length (a .spelled .0)) in
-      let m : loopNesting term ≤ maxDepth = omega (arith, loops-declared readBackPlace ss p, x .1, a .spelled .1 .deep) in
-      omega (arith, ceiling-within term (maxSignals + maxBytes) maxDepth maxSignals n m nested)
+      omega (arith, commands-declared readBackPlace ss p, nesting-declared readBackPlace ss p, g, x .0, not-long, ap length (a .spelled .0)) in
+      let m : loopNesting term ≤ maxDepth - 1 = omega (arith, loops-declared readBackPlace ss p, x .1, a .spelled .1 .deep) in
+      omega (arith, ceiling-within term (maxSignals + maxBytes) (maxDepth - 1) maxSignals n m g)
 
   pub counted-fresh : (e : ℕ) → reactions term e < 256 ^ takenBytes
   counted-fresh e = omega (arith, fresh-below term e, term-ceiling)

@@ -6,7 +6,7 @@ use mathlib.Core.Logic.{_≢_}
 use mathlib.Core.Bool.{Bool, true, false, _&&_, cond}
 use mathlib.Core.Option.{Option}
 use mathlib.Core.List.{List, [], _∷_, List·Memᴰ}
-use lib.ListN.{length, take}
+use lib.ListN.{length}
 use lib.Dec.{eqb}
 use Rattle.esterel.specs.Statement.{Statement}
 use Rattle.esterel.specs.Reaction.{Code, wrong, isWrong, Reaction, gives, code, Order, printed, inheritanceFirst, reactBy, react}
@@ -22,10 +22,10 @@ use Rattle.theory.proofs.Reactions.{reactions-unchanged, reactions-kept}
 use Rattle.numbers.specs.Bytes.{leBytes}
 use Rattle.sequence.specs.Program.{program}
 use Rattle.sequence.specs.Check.{Checked, sound, bad, checked, checkOf}
-use Rattle.records.specs.Records.{stateLength, takenAt, answerLength, Decoded, holds, malformed, decodeState, encodeState, encodeAnswer, codeIn, codeByte}
+use Rattle.records.specs.Records.{stateLength, answerLength, Decoded, holds, malformed, decodeState, encodeState, encodeAnswer, codeIn, codeByte}
 use Rattle.demands.specs.Tick.{Outcome, outcome, written, byState, byCheck, tickBy, tickOf}
 use Rattle.demands.specs.Paper.{Call}
-use Rattle.demands.specs.Demands.{number, stateAfterwards, answerAfterwards, outcomes, StandsAt}
+use Rattle.demands.specs.Demands.{number, stateAfterwards, answerAfterwards, outcomes, StandsAt, uncounted}
 use Rattle.demands.proofs.Bounds.{Exits, code-exits}
 use Rattle.demands.proofs.Sequence.{accepted}
 use Rattle.demands.proofs.Demand2.{called-wrong, Fitting, stands-written, passed-check, state-sized, answer-sized, stands}
@@ -47,10 +47,6 @@ wrong-shown ord t e f =
 
 shown-wrong : (t : Statement) (e : ℕ) → code (react t e) ≡ wrong → codeShown (written (start t e)) ≡ 255
 shown-wrong t e h = code-shown (react t e) (firstError t e) (reactions t e) ∙ ap codeByte h
-
--- an outcome without the number of reactions in its answer
-abbrev pub uncounted : Outcome → Outcome
-uncounted (outcome n state answer) = outcome n state (take takenAt answer)
 
 -- what a wrong instant writes depends, the number of reactions aside, on its first error alone
 wrong-written : (r r′ : Reaction) (x : Option Error) (n n′ : ℕ) → code r ≡ wrong → code r′ ≡ wrong

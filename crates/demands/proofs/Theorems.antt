@@ -12,16 +12,17 @@ use Rattle.esterel.specs.Statement.{Statement}
 use Rattle.esterel.specs.Reaction.{Code, gives, printed}
 use Rattle.esterel.specs.SignalOrders.{overlap}
 use Rattle.esterel.specs.Rules.{Reacts}
-use Rattle.esterel.specs.Ceiling.{commands, ceiling, LoopFree, hundred}
+use Rattle.esterel.specs.Ceiling.{commands, LoopFree, hundred}
+use Rattle.sequence.specs.Ceilings.{ceilingOf}
 use Rattle.esterel.specs.States.{NoSetpause}
 use Rattle.esterel.specs.Machines.{Rewriting, erase}
 use Rattle.sequence.specs.Program.{program}
-use Rattle.sequence.specs.Check.{numberOf, checkOf}
+use Rattle.sequence.specs.Check.{numberOf, checked, checkOf}
 use Rattle.sequence.specs.Rows.{Spells}
 use Rattle.records.specs.Records.{answerLength, codeIn, takenIn}
 use Rattle.demands.specs.Tick.{Outcome, outcome, tickBy, tickOf}
 use Rattle.demands.specs.Paper.{Call, paper}
-use Rattle.demands.specs.Demands.{Tick, number, answerAfterwards, outcomes, cleared, report, Admitted, StandsAt, Shows, Demand1, Demand2, Demand3, TickMeets, Chain}
+use Rattle.demands.specs.Demands.{Tick, number, answerAfterwards, outcomes, cleared, report, Admitted, StandsAt, Shows, uncounted, Demand1, Demand2, Demand3, TickMeets, Chain}
 use Rattle.demands.specs.Replacements as wrong
 use Rattle.demands.specs.Bays.{Bay, table, ShowsBay}
 use Rattle.demands.specs.Worked.{ShowsRuns}
@@ -34,7 +35,6 @@ use Rattle.demands.proofs.Sequence as sequence
 use Rattle.demands.proofs.Demand1 as one
 use Rattle.demands.proofs.Demand2 as two
 use Rattle.demands.proofs.SignalOrders as orders
-use Rattle.demands.proofs.SignalOrders.{uncounted}
 use Rattle.demands.proofs.Agreement as three
 use Rattle.demands.proofs.NoLabels as paper-labels
 use Rattle.demands.proofs.Calls as calls
@@ -130,9 +130,18 @@ read-back = read-back-runs.read-back
 
 -- ---- the number of reactions (02, item 6); that the answer holds it whole is demand 2's (`counted`, `counted-rules`)
 -- it never exceeds the ceiling: of every accepted sequence and set, in every state that row 11 admits and for every input
-pub ceiling-holds : (sequence state : List ℕ) (e readBack : ℕ) (answer : List ℕ) → number (tickOf sequence state e readBack answer) ≡ 0
-    → (p : Statement) → Spells sequence p → takenIn (answerAfterwards (tickOf sequence state e readBack answer)) ≤ ceiling (program readBack p)
+pub ceiling-holds : (sequence state : List ℕ) (e readBack : ℕ) (answer : List ℕ)
+    → number (tickOf sequence state e readBack answer) ≡ 0
+    → takenIn (answerAfterwards (tickOf sequence state e readBack answer)) ≤ ceilingOf readBack (checked sequence readBack)
 ceiling-holds = ceilings.never-above
+
+pub ceiling-holds-call : {n : ℕ} {state′ answer′ : List ℕ} (sequence state : List ℕ) (e readBack : ℕ) (answer : List ℕ)
+    → TickMeets n state′ answer′ sequence state e readBack answer → n ≡ 0
+    → takenIn answer′ ≤ ceilingOf readBack (checked sequence readBack)
+ceiling-holds-call = ceilings.never-above-call
+
+pub ceiling-most : (sequence : List ℕ) (readBack : ℕ) → ceilingOf readBack (checked sequence readBack) ≤ 4218880
+ceiling-most = ceilings.most
 
 -- the sequence of docs/CEILING.md is loop-free and has 100 commands; its fresh instant takes 6,079, without read-back and for every
 -- input, and no sequence of that kind takes more in any instant
@@ -140,7 +149,8 @@ pub hundred-commands : Spells hundredBytes hundred × LoopFree hundred × (comma
 hundred-commands = ceilings.hundred-spelled
 
 pub hundred-takes : (e : ℕ) (answer : List ℕ) → length answer ≡ answerLength
-    → (number (tickOf hundredBytes cleared e none answer) ≡ 0) × (takenIn (answerAfterwards (tickOf hundredBytes cleared e none answer)) ≡ 6079)
+    → (number (tickOf hundredBytes cleared e none answer) ≡ 0)
+    × (takenIn (answerAfterwards (tickOf hundredBytes cleared e none answer)) ≡ 6079)
 hundred-takes = ceilings.hundred-shown
 
 pub none-dearer : (sequence state : List ℕ) (e : ℕ) (answer : List ℕ) → number (tickOf sequence state e none answer) ≡ 0

@@ -5,7 +5,7 @@ use mathlib.Core.Path.{_≡_}
 use mathlib.Core.Logic.{_≢_, _↔_}
 use mathlib.Core.Option.{some}
 use mathlib.Core.List.{List, [], _∷_, map, head?, List·Memᴰ}
-use lib.ListN.{length, replicate}
+use lib.ListN.{length, take, replicate}
 use Rattle.esterel.specs.Sets.{none}
 use Rattle.esterel.specs.Statement.{Statement}
 use Rattle.esterel.specs.Reaction.{Code, wrong, gives}
@@ -17,7 +17,7 @@ use Rattle.esterel.specs.Expansion.{expand}
 use Rattle.esterel.specs.Machines.{shown, stateAfter, Rewriting}
 use Rattle.sequence.specs.Program.{program}
 use Rattle.sequence.specs.Rows.{Spells, Row, ByRows}
-use Rattle.records.specs.Records.{stateLength, answerLength, phaseIn, labelsIn, encodeState, answerRecord, codeIn, kindIn, placeIn, emittedIn, takenIn, codeByte}
+use Rattle.records.specs.Records.{stateLength, takenAt, answerLength, phaseIn, labelsIn, encodeState, answerRecord, codeIn, kindIn, placeIn, emittedIn, takenIn, codeByte}
 use Rattle.demands.specs.Tick.{Outcome, outcome, tickOf}
 use Rattle.demands.specs.TickRows.{Malformed, TickRow}
 use Rattle.demands.specs.Paper.{Call, Report, turnedDown, reacted, paper}
@@ -38,6 +38,10 @@ stateAfterwards (outcome n state answer) = state
 
 abbrev pub answerAfterwards : Outcome → List ℕ
 answerAfterwards (outcome n state answer) = answer
+
+-- an outcome without the number of reactions in its answer
+abbrev pub uncounted : Outcome → Outcome
+uncounted (outcome n state answer) = outcome n state (take takenAt answer)
 
 -- ---- lists of ticks: each reads the record as the last one left it; the read-back set is the same in all (02, item 5)
 unfoldable pub outcomes : Tick → (sequence : List ℕ) (readBack : ℕ) (state : List ℕ) → List Call → List Outcome

@@ -77,8 +77,8 @@ LoopFree (setpause l) = Unit {0}
 LoopFree (suspend s p) = LoopFree p
 LoopFree (held s K p) = LoopFree p
 
--- One more than the reactions of the dearest loop-free statement of n commands with at most g signals around one: each signal
--- doubles, as long as a command is left. theory has it as a product (proofs/Dearest).
+-- One more than any loop-free statement of n commands with at most g signals around one takes: each signal doubles, as long as a
+-- command is left. theory has it as a product (proofs/Dearest).
 unfoldable pub dearest : (g n : ℕ) → ℕ
 dearest zero n = 1 + n
 dearest (suc g) zero = 1
@@ -86,25 +86,25 @@ dearest (suc g) (suc n) = 2 * dearest g n
 
 -- ---- by computation
 -- 2 ^ k times `try nothing`, all run in one instant; and the same with the first of them `nothing`
-unfoldable pub row : (k : ℕ) → Statement
-row zero = try nothing
-row (suc k) = seq (row k) (row k)
+unfoldable pub tries : (k : ℕ) → Statement
+tries zero = try nothing
+tries (suc k) = seq (tries k) (tries k)
 
-unfoldable pub shorter : (k : ℕ) → Statement
-shorter zero = nothing
-shorter (suc k) = seq (shorter k) (row k)
+unfoldable pub triesButOne : (k : ℕ) → Statement
+triesButOne zero = nothing
+triesButOne (suc k) = seq (triesButOne k) (tries k)
 
 -- 08 00 08 01 08 02 08 03 08 04 08 05, and 31 sequences over 00 and 31 times 09 00: 106 bytes
 unfoldable pub hundred : Statement
-hundred = signal local 0 0 (signal local 2 1 (signal local 4 2 (signal local 6 3 (signal local 8 4 (signal local 10 5 (shorter 5))))))
+hundred = signal local 0 0 (signal local 2 1 (signal local 4 2 (signal local 6 3 (signal local 8 4 (signal local 10 5 (triesButOne 5))))))
 
 pub hundred-takes : (commands hundred ≡ 100) × (nesting hundred ≡ 6) × (ceiling hundred ≡ 6400) × ((e : ℕ) → reactions hundred e ≡ 6079)
     × (dearest 6 100 ≡ 6080)
-unfolding reactionsBy reactBy commands nesting loopNesting ceiling dearest hundred row shorter member none only join insert remove
+unfolding reactionsBy reactBy commands nesting loopNesting ceiling dearest hundred tries triesButOne member none only join insert remove
 hundred-takes = (refl, refl, refl, λ e. refl, refl)
 
 -- 06 01 00, whose resumed instant takes 4 (specs/Reactions); and read-back declarations count as commands and as signals
-reached : (ceiling (loop 0 (pause 0)) ≡ 4) × (ceiling (loop 0 (suspend 0 (pause 0))) ≡ 6)
+ceilings-reached : (ceiling (loop 0 (pause 0)) ≡ 4) × (ceiling (loop 0 (suspend 0 (pause 0))) ≡ 6)
     × (ceiling (declared 65535 (0 ∷ 1 ∷ []) (loop 0 (loop 1 (pause 0)))) ≡ 60)
 unfolding ceiling commands loopNesting nesting declared
-reached = (refl, refl, refl)
+ceilings-reached = (refl, refl, refl)

@@ -12,7 +12,7 @@ abbrev pub ifActive : Bool → Statement → Statement
 ifActive b t = cond b t Statement.nothing
 
 -- The expansion as a function: of a sequence and of a present the first active part counts. For a valid set it is
--- figure 5 (proofs/Figure5); of an inactive statement nobody asks for it.
+-- figure 5 (theory/proofs/Figure5); of an inactive statement nobody asks for it.
 unfoldable pub expand : Statement → ℕ → Statement
 expand Statement.nothing L = Statement.nothing
 expand (Statement.pause l) L = Statement.nothing

@@ -1,5 +1,5 @@
 -- Rows of label sets, one for each label, as one walk from the left fills them: where the walk meets a label, it adds to
--- its row the labels that it knows to stand before. proofs/LabelRows shows that the rows are those of LabelTests.
+-- its row the labels that it knows to stand before. theory/proofs/LabelRows shows that the rows are those of LabelTests.
 use Prim.Native.Nat.{ℕ}
 use mathlib.Core.Bool.{Bool, cond}
 use lib.Dec.{eqb}

@@ -1,4 +1,4 @@
--- 01's rules on labels (rows 8 to 11) as tests on label sets, which a program can compute in one walk. proofs/LabelTests
+-- 01's rules on labels (rows 8 to 11) as tests on label sets, which a program can compute in one walk. theory/proofs/LabelTests
 -- shows that each test is true exactly if the definition by places (States) holds.
 use Prim.Native.Nat.{ℕ}
 use mathlib.Core.Bool.{Bool, true, false, not, _&&_, _||_, cond}

@@ -1,5 +1,5 @@
 -- The instant of a waiting statement by the ranks of its active pauses, with no expansion built: only parts that hold
--- an active pause are entered. proofs/Resume shows that it is the instant of the expansion.
+-- an active pause are entered. theory/proofs/Resume shows that it is the instant of the expansion.
 use Prim.Native.Nat.{ℕ, _+_}
 use mathlib.Core.Bool.{cond}
 use mathlib.Core.Option.{Option, some}

@@ -28,8 +28,8 @@ Leaf w p = (size p ≡ w) × (commands p ≡ 1) × (loopNesting p ≡ 0)
 abbrev One : (w : ℕ) (p q : Statement) → Type 0
 One w p q = (size p ≡ w + size q) × (commands p ≡ 1 + commands q) × (loopNesting p ≤ 1 + loopNesting q)
 
-abbrev Pair : (w : ℕ) (p q r : Statement) → Type 0
-Pair w p q r =
+abbrev Two : (w : ℕ) (p q r : Statement) → Type 0
+Two w p q r =
     (size p ≡ w + (size q + size r)) × (commands p ≡ 1 + commands q + commands r) × (loopNesting p ≡ max (loopNesting q) (loopNesting r))
 
 module _ (a : ℕ) (xs : List ℕ) where
@@ -45,10 +45,10 @@ module _ (a : ℕ) (xs : List ℕ) where
       ones (λ (c : Command). (q : Statement) → One (width c) (build c a xs q nothing) q)
       (λ q. omega arith) (λ q. omega arith) (λ q. omega arith) (λ q. omega arith)
 
-  two-shape : (c : Command) → partCount c ≡ 2 → (q r : Statement) → Pair (width c) (build c a xs q r) q r
+  two-shape : (c : Command) → partCount c ≡ 2 → (q r : Statement) → Two (width c) (build c a xs q r) q r
   unfolding bytesOf commands loopNesting
   two-shape =
-      twos (λ (c : Command). (q r : Statement) → Pair (width c) (build c a xs q r) q r)
+      twos (λ (c : Command). (q r : Statement) → Two (width c) (build c a xs q r) q r)
       (λ q r. omega (arith, length-append (bytesOf q) (bytesOf r)))
       (λ q r. omega (arith, length-append (bytesOf q) (bytesOf r)))
       (λ q r. omega (arith, length-append (bytesOf q) (bytesOf r)))
@@ -104,7 +104,7 @@ nested (setpause l) = omega arith
 nested (suspend s p) = omega (arith, nested p)
 nested (held s K p) = omega (arith, nested p)
 
--- what a walk finds is small enough to count on
+-- what a walk finds is at most 1,024
 pub few : {t : List ℕ} {d a : ℕ} {bs : List ℕ} {n : Numbers} → Ready t d a bs → Numbered t d a bs n → Few n
 few {t} {d} {a} {bs} r h =
     let k = h (r .base) (r .p) (r .lies) in

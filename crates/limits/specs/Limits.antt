@@ -1,5 +1,5 @@
 -- The widths and limits of 01 and 02, each named once for the definitions; src/lib.rt names them for the code.
-use Prim.Native.Nat.{ℕ}
+use Prim.Native.Nat.{ℕ, _^_}
 
 -- ---- 01, 'Commands': labels are 0 to 63, signals 0 to 31, exits 1 to 15
 abbrev pub labelCount : ℕ
@@ -45,4 +45,4 @@ takenBytes = 4
 
 -- how many numbers those hold
 abbrev pub wordCount : ℕ
-wordCount = 4294967296
+wordCount = 256 ^ takenBytes

@@ -1,6 +1,5 @@
 -- The values by which the code answers, case by case, from the terms of esterel. The residual is forgotten, and so is an error
--- beside a code that is not wrong: there is none (theory, wrong-is-error). Of the number of reactions 32 bits are kept: no
--- accepted program takes more (demands, Shows.counted).
+-- beside a code that is not wrong: there is none (theory, wrong-is-error).
 use Prim.Native.Nat.{ℕ, _%_}
 use mathlib.Core.Path.{_≡_}
 use mathlib.Core.Option.{none, some}
@@ -13,7 +12,7 @@ use Rattle.esterel.specs.Reaction as rules
 use Rattle.completions.specs.Completions.{completionOf}
 use Rattle.reaction.specs.declared.Reaction.{Reaction}
 
--- what 32 bits keep of a number
+-- what 32 bits keep of a number: no accepted program takes more reactions (demands, Shows.counted)
 abbrev pub word : ℕ → ℕ
 word n = n % wordCount
 
@@ -25,9 +24,10 @@ reactionOf (Esterel.instant r x n) =
 abbrev pub alone : rules.Reaction → Esterel.Instant
 alone r = Esterel.instant r none 1
 
--- the error of a command that fails
+-- the reaction of a command that fails, with its error
 abbrev pub failedWith : Error → (taken : ℕ) → Reaction
-failedWith x n = record { emitted = emitted failed; labels = labelsWith (labels failed); completion = completionOf (code failed) (some x); taken = n }
+failedWith x n =
+    record { emitted = emitted failed; labels = labelsWith (labels failed); completion = completionOf (code failed) (some x); taken = n }
 
 -- r is f of whatever instants the values stand for
 abbrev pub FromOne : (f : Esterel.Instant → Esterel.Instant) (p r : Reaction) → Type 0

@@ -22,7 +22,7 @@ pub struct Reaction {
 }
 
 // The reactions of a command over two parts. The sum is in range whatever they are, and keeps 32 bits, as the answer does; that
-// no instant takes more is a theorem about the definition (theory, Ceiling).
+// no accepted program takes more is part of demand 2 (demands, Shows.counted).
 pub fn over_two(n: u32, m: u32) -> u32
     ensures { λ r. ⌜ r ≡ word (1 + n + m) ⌝ }
 {
@@ -82,7 +82,7 @@ pub fn failing(kind: u8, place: u16, taken: u32) -> Reaction
     made(0, labels::empty(), Completion::Wrong(kind, place), taken)
 }
 
-// A command that only counts: a test around the branch taken, a suspend around what reacts.
+// A command that only counts: a test, a suspend, a sequence whose first part has not ended, a loop whose body has not.
 pub fn around(p: Reaction) -> Reaction
     ensures { λ r. ⌜ FromOne presentInstant p r ⌝ }
 {

@@ -33,5 +33,10 @@ pub fields : (o : ℕ) (k : Code) (l : ℕ) (t : Statement) (x : Option Error) (
     × (blame k x .place < 256 ^ placeBytes → placeIn (encodeAnswer (instant (gives o k l t) x n)) ≡ blame k x .place)
     × (shown k o < 256 ^ signalBytes → emittedIn (encodeAnswer (instant (gives o k l t) x n)) ≡ shown k o)
     × (n < 256 ^ takenBytes → takenIn (encodeAnswer (instant (gives o k l t) x n)) ≡ n)
-fields o k l t x n =
-    (laws.code-field o k l t x n, laws.kind-field o k l t x n, laws.place-field o k l t x n, laws.emitted-field o k l t x n, laws.taken-field o k l t x n)
+fields o k l t x n = (
+  laws.code-field o k l t x n,
+  laws.kind-field o k l t x n,
+  laws.place-field o k l t x n,
+  laws.emitted-field o k l t x n,
+  laws.taken-field o k l t x n,
+)

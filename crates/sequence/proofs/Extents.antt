@@ -1,6 +1,6 @@
 -- A statement that bytes spell has at most as many commands as bytes, and fewer loops around a command than levels; an accepted
 -- program at most six signals around one.
-use Prim.Native.Nat.{ℕ, _+_, _≤_, _<_}
+use Prim.Native.Nat.{ℕ, _≤_, _<_}
 use native.Mathlib.Omega.{arith}
 use native.Mathlib.Decide.{decLt}
 use mathlib.Core.Path.{_≡_, refl, sym, _∙_, subst}

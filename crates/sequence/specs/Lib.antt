@@ -4,3 +4,4 @@ pub mod Writer
 pub mod Program
 pub mod Check
 pub mod Rows
+pub mod Ceilings

@@ -12,7 +12,7 @@ use Rattle.esterel.specs.States.{active}
 use Rattle.esterel.specs.LabelTests.{activeLabels}
 use Rattle.esterel.specs.Expansion.{expand, ifActive}
 use Rattle.esterel.specs.Reactions.{reactionsBy, reactions}
-use Rattle.esterel.specs.Ceiling.{commands, nesting, LoopFree, dearest, row, shorter, hundred}
+use Rattle.esterel.specs.Ceiling.{commands, nesting, LoopFree, dearest, tries, triesButOne, hundred, hundred-takes}
 use Rattle.theory.proofs.Reactions.{if-ended, either, some-command}
 use Rattle.theory.proofs.Ceiling.{chosen}
 
@@ -126,12 +126,8 @@ fresh-dearest g (held s K p) e h =
     let j = over-one g e p (fresh-dearest g p e h) in
     omega arith
 
--- ---- the expansion of a loop-free statement is loop-free, with no more commands and no more signals around one
+-- ---- the expansion of a loop-free statement has no more commands and no more signals around one
 -- an inactive part is nothing
-free-if : (b : Bool) (t : Statement) → LoopFree t → LoopFree (ifActive b t)
-unfolding LoopFree
-free-if b t h = chosen LoopFree b t nothing h tt
-
 commands-if : (b : Bool) (t p : Statement) → commands t ≤ commands p → commands (ifActive b t) ≤ commands p
 unfolding commands
 commands-if b t p h = chosen (λ u. commands u ≤ commands p) b t nothing h (some-command p)
@@ -141,24 +137,6 @@ unfolding nesting
 nesting-if b t p h = chosen (λ u. nesting u ≤ nesting p) b t nothing h (omega arith)
 
 module _ (L : ℕ) where
-  pub expand-free : (p : Statement) → LoopFree p → LoopFree (expand p L)
-  unfolding LoopFree expand
-  expand-free nothing h = tt
-  expand-free (pause l) h = tt
-  expand-free (emit s) h = tt
-  expand-free (exit n) h = tt
-  expand-free (seq p q) h =
-      chosen LoopFree (active p L) (seq (expand p L) q) (expand q L) (expand-free p (h .0), h .1) (expand-free q (h .1))
-  expand-free (par p q) h =
-      (free-if (active p L) (expand p L) (expand-free p (h .0)), free-if (active q L) (expand q L) (expand-free q (h .1)))
-  expand-free (loop a p) h = absurd h
-  expand-free (present s p q) h = chosen LoopFree (active p L) (expand p L) (expand q L) (expand-free p (h .0)) (expand-free q (h .1))
-  expand-free (signal sc a s p) h = expand-free p h
-  expand-free (try p) h = expand-free p h
-  expand-free (setpause l) h = tt
-  expand-free (suspend s p) h = free-if (active p L) (held s (activeLabels p L) (expand p L)) (expand-free p h)
-  expand-free (held s K p) h = tt
-
   pub expand-commands : (p : Statement) → LoopFree p → commands (expand p L) ≤ commands p
   unfolding LoopFree expand commands
   expand-commands nothing h = omega arith
@@ -219,13 +197,9 @@ resumed-dearest g p L e f h =
     (dearest-mono g (commands (expand p L)) (commands p) (expand-commands L p f))
 
 -- ---- of 100 commands
-dearest-hundred : dearest 6 100 ≡ 6080
-unfolding dearest
-dearest-hundred = refl
-
 module _ (p : Statement) (many : commands p ≡ 100) (nested : nesting p ≤ 6) where
   at-hundred : dearest 6 (commands p) ≡ 6080
-  at-hundred = ap (dearest 6) many ∙ dearest-hundred
+  at-hundred = ap (dearest 6) many ∙ hundred-takes .4
 
   -- also with loops
   pub hundred-fresh : (e : ℕ) → reactions p e ≤ 6079
@@ -236,5 +210,5 @@ module _ (p : Statement) (many : commands p ≡ 100) (nested : nesting p ≤ 6) 
 
 -- the one that takes so many (esterel, specs/Ceiling) is one of them
 pub hundred-free : LoopFree hundred
-unfolding LoopFree hundred row shorter
+unfolding LoopFree hundred tries triesButOne
 hundred-free = search

@@ -73,8 +73,8 @@ pub residual-is-expansion : (p : Statement) → Source p → Distinct p → NoSe
 residual-is-expansion p c d n e o l t x =
     both-fit Remains p e (residual-fresh p e) (λ L. residual-resumed p L e) x c d n .equal
 
--- 2. RESUME, by the ranks of the active pauses, is the reaction of the expansion with its first error, where a pause is
--- active; else there are no such ranks
+-- 2. RESUME, by the ranks of the active pauses, is the instant of the expansion, its first error and number of reactions
+-- included, where a pause is active; else there are no such ranks
 pub resume-reacts : (base : ℕ) (p : Statement) (L e : ℕ) → Awake p L → resume base p (mask base p L) e ≡ start (expand p L) e
 resume-reacts base p L e w = resumes base p L e (active-is p L .1 w)
 

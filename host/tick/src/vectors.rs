@@ -1,5 +1,5 @@
-//! The vectors of crates/vectors: what its stdout says, by hand, is what the reference gives on its stdin, and the
-//! archive too. The top of that stdin explains its lines.
+//! The vectors of crates/vectors: what its stdout says, by hand but for numbers of reactions outside item 6, is what the
+//! reference gives on its stdin, and the archive too. The top of that stdin explains its lines.
 use crate::archive::ANSWER_LENGTH;
 use crate::reference::{self, Sequence};
 use crate::tally::Tally;
