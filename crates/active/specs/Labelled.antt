@@ -2,19 +2,35 @@
 use Prim.Native.Nat.{ℕ}
 use mathlib.Core.Path.{_≡_}
 use mathlib.Core.List.{List}
+use lib.ListN.{length, getD}
 use Rattle.esterel.specs.Sets.{join, below, from}
 use Rattle.esterel.specs.Statement.{Statement}
 use Rattle.esterel.specs.Ranks.{middle, labelsBy}
+use Rattle.limits.specs.Limits.{wordLabels}
+use Rattle.sets.specs.Sets.{twoWords}
 use Rattle.labels.specs.declared.Labels.{Labels}
 use Rattle.labels.specs.Labels.{labelSet}
 use Rattle.layout.specs.Layout.{Two, Lies}
+
+-- the set held in the two words of an array
+abbrev pub setIn : List ℕ → ℕ
+setIn words = twoWords wordLabels (getD words 0 0) (getD words 1 0)
 
 -- r has the labels of the pauses of the mask m in the statement that lies there
 abbrev pub Labelled : (t : List ℕ) (d a : ℕ) (bs : List ℕ) (m : ℕ) (r : Labels) → Type 0
 Labelled t d a bs m r = (base : ℕ) (p : Statement) → Lies t d base a bs p → labelSet r ≡ labelsBy base p m
 
+-- the labels of s are put among those in an array of two words
+pub record Adds (s : ℕ) (before after : List ℕ) : Type 0 where
+  pub adds : length before ≡ 2 → (length after ≡ 2) × (setIn after ≡ join (setIn before) s)
+
+-- the labels of the pauses of a mask of two words are put there
+abbrev pub Found : (t : List ℕ) (d a : ℕ) (bs : List ℕ) (low high : ℕ) (before after : List ℕ) → Type 0
+Found t d a bs low high before after =
+    (base : ℕ) (p : Statement) → Lies t d base a bs p → Adds (labelsBy base p (twoWords wordLabels low high)) before after
+
 -- the same of the two parts of the command of w bytes at offset a
-abbrev pub LabelledTwo : (t : List ℕ) (d a w : ℕ) (bs : List ℕ) (m : ℕ) (r : Labels) → Type 0
-LabelledTwo t d a w bs m r =
-    (base : ℕ) (p q : Statement) → Two (Lies t d) t base a w bs p q
-    → labelSet r ≡ join (labelsBy base p (below (middle base p) m)) (labelsBy (middle base p) q (from (middle base p) m))
+abbrev pub FoundTwo : (t : List ℕ) (d a w : ℕ) (bs : List ℕ) (low high : ℕ) (before after : List ℕ) → Type 0
+FoundTwo t d a w bs low high before after =
+    (base : ℕ) (p q : Statement) → Two (Lies t d) t base a w bs p q → let m = twoWords wordLabels low high in
+    Adds (join (labelsBy base p (below (middle base p) m)) (labelsBy (middle base p) q (from (middle base p) m))) before after

@@ -2,54 +2,140 @@
 // with an active pause are entered.
 ghost use Prim.Native.Nat.{_-_, _≤_};
 ghost use lib.ListN.{length};
+ghost use Rattle.sets.specs.Sets.{labelCount, onlyBelow};
 ghost use Rattle.labels.specs.Labels.{labelSet};
 ghost use Rattle.layout.specs.Layout.{rest, Ready, Pair};
-ghost use Rattle.active.specs.Labelled.{Labelled, LabelledTwo};
+ghost use Rattle.active.specs.Labelled.{Adds, Labelled, Found, FoundTwo};
 use labels::Labels;
 use reading::reader::Seconds;
 
-// The labels of the statement at the front of s, which stands at the offset `at`.
-fn inside(s: &[u8], at: usize, depth: u8, active: Labels, second: &Seconds) -> Labels
-    requires { ⌜ Ready (now second) depth at (now s) ⌝ }
-    ensures { λ r. ⌜ Labelled (now (second .entry)) depth at (now (s .entry)) (labelSet active) r ⌝ }
+// The two words of a set of labels.
+type Words = [u64; 2];
+
+// A pause with label l is active.
+fn add(l: u8, found: &mut Words)
+    ensures { λ _. ⌜ Adds (onlyBelow labelCount l) (now (found .entry)) (now (found .exit)) ⌝ }
 {
-    if labels::is_empty(active) {
-        return labels::empty();
+    let labels = labels::union(labels::from_words(found[0], found[1]), labels::single(l));
+    found[0] = labels::low_word(labels);
+    found[1] = labels::high_word(labels);
+}
+
+// Adds the labels of the statement at the front of s, which stands at the offset `at`. The words of the mask are passed in
+// registers, and those of the result are kept in one place.
+fn inside(s: &[u8], at: usize, depth: u8, low: u64, high: u64, second: &Seconds, found: &mut Words)
+    requires { ⌜ Ready (now second) depth at (now s) ⌝ }
+    ensures { λ _. ⌜ Found (now (second .entry)) depth at (now (s .entry)) low high (now (found .entry)) (now (found .exit)) ⌝ }
+{
+    if labels::is_empty(labels::from_words(low, high)) {
+        return;
     }
     let command = s[0];
     match command {
-        1 => labels::single(s[1]),
-        4 => of_parts(s, at, 1, depth, active, second),
-        5 => of_parts(s, at, 1, depth, active, second),
-        6 => of_part(s, 1, at + 1, depth - 1, active, second),
-        7 => of_parts(s, at, 2, depth, active, second),
-        8 => of_part(s, 2, at + 2, depth - 1, active, second),
-        9 => of_part(s, 1, at + 1, depth - 1, active, second),
-        11 => of_part(s, 2, at + 2, depth - 1, active, second),
-        _ => labels::empty(),
+        1 => add(s[1], found),
+        4 => parts(s, at, 1, depth, low, high, second, found),
+        5 => parts(s, at, 1, depth, low, high, second, found),
+        6 => part(s, 1, at + 1, depth - 1, low, high, second, found),
+        7 => parts(s, at, 2, depth, low, high, second, found),
+        8 => part(s, 2, at + 2, depth - 1, low, high, second, found),
+        9 => part(s, 1, at + 1, depth - 1, low, high, second, found),
+        11 => part(s, 2, at + 2, depth - 1, low, high, second, found),
+        _ => {}
     }
 }
 
 // The same of the part from s[n] on, which stands at the offset `at`.
+fn part(
+    s: &[u8],
+    n: usize,
+    at: usize,
+    depth: u8,
+    low: u64,
+    high: u64,
+    second: &Seconds,
+    found: &mut Words,
+)
+    requires { ⌜ n ≤ length (now s) ⌝ }
+    requires { ⌜ Ready (now second) depth at (rest n (now s)) ⌝ }
+    ensures { λ _. ⌜ Found (now (second .entry)) depth at (rest n (now (s .entry))) low high (now (found .entry)) (now (found .exit)) ⌝ }
+{
+    inside(&s[n..], at, depth, low, high, second, found);
+}
+
+// The same of the two parts of the command of w bytes at the front of s, which stands at the offset `at`.
+fn parts(
+    s: &[u8],
+    at: usize,
+    w: usize,
+    depth: u8,
+    low: u64,
+    high: u64,
+    second: &Seconds,
+    found: &mut Words,
+)
+    requires { ⌜ Pair (now second) (depth - 1) at w (now s) ⌝ }
+    ensures { λ _. ⌜ FoundTwo (now (second .entry)) (depth - 1) at w (now (s .entry)) low high (now (found .entry)) (now (found .exit)) ⌝ }
+{
+    let entry = second[at];
+    let m = (entry % 2048) as usize;
+    let n = m - at;
+    let active = labels::from_words(low, high);
+    let first = labels::below(active, entry / 2048);
+    let others = labels::from(active, entry / 2048);
+    if labels::is_empty(first) {
+        part(
+            s,
+            n,
+            m,
+            depth - 1,
+            labels::low_word(others),
+            labels::high_word(others),
+            second,
+            found,
+        );
+        return;
+    }
+    part(
+        s,
+        w,
+        at + w,
+        depth - 1,
+        labels::low_word(first),
+        labels::high_word(first),
+        second,
+        found,
+    );
+    if labels::is_empty(others) {
+        return;
+    }
+    part(
+        s,
+        n,
+        m,
+        depth - 1,
+        labels::low_word(others),
+        labels::high_word(others),
+        second,
+        found,
+    );
+}
+
+// The labels of the part from s[n] on, which stands at the offset `at`.
 pub fn of_part(s: &[u8], n: usize, at: usize, depth: u8, active: Labels, second: &Seconds) -> Labels
     requires { ⌜ n ≤ length (now s) ⌝ }
     requires { ⌜ Ready (now second) depth at (rest n (now s)) ⌝ }
     ensures { λ r. ⌜ Labelled (now (second .entry)) depth at (rest n (now (s .entry))) (labelSet active) r ⌝ }
 {
-    inside(&s[n..], at, depth, active, second)
-}
-
-// The same of the two parts of the command of w bytes at the front of s, which stands at the offset `at`.
-fn of_parts(s: &[u8], at: usize, w: usize, depth: u8, active: Labels, second: &Seconds) -> Labels
-    requires { ⌜ Pair (now second) (depth - 1) at w (now s) ⌝ }
-    ensures { λ r. ⌜ LabelledTwo (now (second .entry)) (depth - 1) at w (now (s .entry)) (labelSet active) r ⌝ }
-{
-    let entry = second[at];
-    let m = (entry % 2048) as usize;
-    let n = m - at;
-    let first = labels::below(active, entry / 2048);
-    let p = of_part(s, w, at + w, depth - 1, first, second);
-    let others = labels::from(active, entry / 2048);
-    let q = of_part(s, n, m, depth - 1, others, second);
-    labels::union(p, q)
+    let mut found: Words = [0; 2];
+    part(
+        s,
+        n,
+        at,
+        depth,
+        labels::low_word(active),
+        labels::high_word(active),
+        second,
+        &mut found,
+    );
+    labels::from_words(found[0], found[1])
 }

@@ -4,8 +4,8 @@ use mathlib.Core.Path.{_≡_, refl, sym, ap, _∙_}
 use mathlib.Core.Bool.{Bool, true, false, _||_, cond, false≢true, true≢false}
 use mathlib.Core.Option.{Option, some}
 use Rattle.labels.specs.declared.Labels.{Labels}
-use Rattle.labels.specs.Labels.{labelSet}
-use Rattle.labels.proofs.LabelValues.{labelSet-of}
+use Rattle.labels.specs.Labels.{Stands}
+use Rattle.labels.proofs.LabelValues.{stands-of}
 use Rattle.esterel.specs.Sets.{member, none}
 use Rattle.esterel.specs.Statement.{Scope}
 use Rattle.esterel.specs.Reaction.{Code, ended, waiting, leaving, wrong, isWrong, gives, failed, outside, Case, both, neither, only−, only+, inherited, inheritanceFirst, firstFit, answer}
@@ -101,7 +101,7 @@ InBoth sc b s i j p q =
 
 in-both : (sc : Scope) (b s : ℕ) (i j : Esterel.Instant) → InBoth sc b s i j (reactionOf i) (reactionOf j)
 in-both sc b s (instant (gives o− k− l− t−) x− n−) (instant (gives o+ k+ l+ t+) x+ n+) o m h e w =
-    made k+ Option.none (1 + n− + n+) e (labelSet-of l+)
+    made k+ Option.none (1 + n− + n+) e (stands-of l+)
     (unmoved k+ x+ Option.none
     (right-runs (member s o−) (member s o+) (isWrong k−) (isWrong k+) (rw (code-of k− x−, code-of k+ x+) at h) .1))
     (w ∙ word-two n− n+)
@@ -114,14 +114,14 @@ InNeither sc b s i j p q =
 
 in-neither : (sc : Scope) (b s : ℕ) (i j : Esterel.Instant) → InNeither sc b s i j (reactionOf i) (reactionOf j)
 in-neither sc b s (instant (gives o− k− l− t−) x− n−) (instant (gives o+ k+ l+ t+) x+ n+) m h w =
-    made k− Option.none (1 + n− + n+) refl (labelSet-of l−)
+    made k− Option.none (1 + n− + n+) refl (stands-of l−)
     (unmoved k− x− Option.none
     (right-runs (member s o−) (member s o+) (isWrong k−) (isWrong k+) (rw (code-of k− x−, code-of k+ x+) at h) .0))
     (w ∙ word-two n− n+)
 
 abbrev InInherited : (sc : Scope) (b s : ℕ) (i j : Esterel.Instant) (p q : Reaction) → Type 0
 InInherited sc b s i j p q =
-    (l : Labels) (c : Completion) (m : ℕ) → Runs s p q true → labelSet l ≡ none → c ≡ greaterOf (p .completion) (q .completion)
+    (l : Labels) (c : Completion) (m : ℕ) → Runs s p q true → Stands l none → c ≡ greaterOf (p .completion) (q .completion)
     → m ≡ word (1 + p .taken + q .taken)
     → _≡_ {A = Reaction} (record { emitted = none; labels = l; completion = c; taken = m }) (reactionOf (inCase inherited sc b s i j))
 
@@ -164,7 +164,7 @@ module _ (sc : Scope) (b s : ℕ) (i j : Esterel.Instant) (p q : Reaction) (p-is
       let law : InNeither sc b s i j p q = rw (p-is, q-is) (in-neither sc b s i j) in
       law m (ap isInherited (fit-is neither h)) counted ∙ chosen neither h
 
-  pub signal-inherits : v ≡ Inherited → (l : Labels) (c : Completion) → labelSet l ≡ none → c ≡ greaterOf (p .completion) (q .completion)
+  pub signal-inherits : v ≡ Inherited → (l : Labels) (c : Completion) → Stands l none → c ≡ greaterOf (p .completion) (q .completion)
       → _≡_ {A = Reaction} (record { emitted = none; labels = l; completion = c; taken = m }) (reactionOf (signalInstant sc b s i j))
   signal-inherits h l c e g =
       let law : InInherited sc b s i j p q = rw (p-is, q-is) (in-inherited sc b s i j) in

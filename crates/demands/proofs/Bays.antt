@@ -25,7 +25,7 @@ use Rattle.demands.proofs.ReadBack.{plain-tick}
 -- ---- in each instant
 -- after code 1 with label 0, in n reactions
 abbrev waitsIn : ℕ → Outcome
-waitsIn n = outcome 0 (1 ∷ 1 ∷ replicate 7 0) (1 ∷ 0 ∷ 0 ∷ 0 ∷ 0 ∷ 0 ∷ 0 ∷ 0 ∷ n ∷ 0 ∷ 0 ∷ 0 ∷ [])
+waitsIn n = outcome 0 (1 ∷ 1 ∷ replicate 15 0) (1 ∷ 0 ∷ 0 ∷ 0 ∷ 0 ∷ 0 ∷ 0 ∷ 0 ∷ n ∷ 0 ∷ 0 ∷ 0 ∷ [])
 
 -- a tick that waits so from a cleared record, in n reactions, and from its own result, in m, shows that in each instant
 module _ (bytes buffer : List ℕ) (n m : ℕ) (first : tickOf bytes cleared 0 none buffer ≡ waitsIn n)

@@ -69,8 +69,8 @@ cleared-labels : labelsIn cleared ≡ none
 unfolding leNumber none
 cleared-labels = refl
 
-first-ticks : (tickOf ends cleared 0 none buffer ≡ outcome 0 (2 ∷ replicate 8 0) (replicate 8 0 ++ 1 ∷ replicate 3 0))
-    × (tickOf waits cleared 0 none buffer ≡ outcome 0 (1 ∷ 1 ∷ replicate 7 0) (1 ∷ replicate 7 0 ++ 1 ∷ replicate 3 0))
+first-ticks : (tickOf ends cleared 0 none buffer ≡ outcome 0 (2 ∷ replicate 16 0) (replicate 8 0 ++ 1 ∷ replicate 3 0))
+    × (tickOf waits cleared 0 none buffer ≡ outcome 0 (1 ∷ 1 ∷ replicate 15 0) (1 ∷ replicate 7 0 ++ 1 ∷ replicate 3 0))
 unfolding tickBy checked read front commandOf nesting declared membersFrom distinct wellFormed everyLabel before labelsOf subset disjoint decodeState encodeState encodeAnswer leNumber leBytes reactBy errorsBy reactionsBy member none only join
 first-ticks = (refl, refl)
 

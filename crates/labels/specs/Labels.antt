@@ -1,9 +1,19 @@
 -- The set that a value of `Labels` stands for, and the value of a set.
-use Prim.Native.Nat.{ℕ}
+use Prim.Native.Nat.{ℕ, _/_, _%_, _^_, _<_}
+use mathlib.Core.Path.{_≡_}
+use Rattle.limits.specs.Limits.{wordLabels}
+use Rattle.sets.specs.Sets.{twoWords}
 use Rattle.labels.specs.declared.Labels.{Labels}
 
 unfoldable pub labelSet : Labels → ℕ
-labelSet s = s .bits
+labelSet s = twoWords wordLabels (s .low) (s .high)
 
 unfoldable pub labelsWith : ℕ → Labels
-labelsWith n = record { bits = n }
+labelsWith n = record { low = n % 2 ^ wordLabels; high = n / 2 ^ wordLabels }
+
+-- a value of the code, which holds no more in its first word than that has room for, stands for n
+abbrev pub Held : Labels → Type 0
+Held s = s .low < 2 ^ wordLabels
+
+abbrev pub Stands : Labels → ℕ → Type 0
+Stands s n = Held s × (labelSet s ≡ n)

@@ -1,28 +1,43 @@
-// Sets of labels 0 to 63. Only this crate knows how a set is held. Every function is defined for every index; one outside the
-// width is no member.
+// Sets of labels 0 to 127, in two words. Only this crate knows how a set is held. Every function is defined for every index; one
+// outside the width is no member.
 ghost use mathlib.Core.Path.{_≡_};
 ghost use mathlib.Core.Bool.{true};
 ghost use mathlib.Core.Logic.{_↔_};
+ghost use Prim.Native.Nat.{_/_, _%_, _^_};
 ghost use lib.Dec.{eqb};
+ghost use Rattle.limits.specs.Limits.{wordLabels};
 ghost use Rattle.esterel.specs.Sets.{member, none, join, remove, below, from};
-ghost use Rattle.sets.specs.Sets.{labelCount, onlyBelow, Subset, Disjoint, Lowest};
+ghost use Rattle.sets.specs.Sets.{labelCount, twoWords, onlyBelow, Subset, Disjoint, Lowest};
 ghost use Rattle.labels.specs.Labels.{labelSet};
+use limits::LABELS;
+use limits::WORD_LABELS;
 
+// The labels below 64, and the others.
 pub struct Labels {
-    bits: u64,
+    low: u64,
+    high: u64,
 }
 
 pub fn empty() -> Labels
     ensures { λ r. ⌜ labelSet r ≡ none ⌝ }
 {
-    Labels { bits: 0 }
+    Labels { low: 0, high: 0 }
 }
 
 pub fn single(i: u8) -> Labels
     ensures { λ r. ⌜ labelSet r ≡ onlyBelow labelCount i ⌝ }
 {
-    if i < limits::LABELS {
-        Labels { bits: 1u64 << i }
+    if i < WORD_LABELS {
+        return Labels {
+            low: 1u64 << i,
+            high: 0,
+        };
+    }
+    if i < LABELS {
+        Labels {
+            low: 0,
+            high: 1u64 << (i - WORD_LABELS),
+        }
     } else {
         empty()
     }
@@ -31,8 +46,11 @@ pub fn single(i: u8) -> Labels
 pub fn member(s: Labels, i: u8) -> bool
     ensures { λ r. ⌜ r ≡ member i (labelSet s) ⌝ }
 {
-    if i < limits::LABELS {
-        (s.bits >> i) % 2 == 1
+    if i < WORD_LABELS {
+        return (s.low >> i) % 2 == 1;
+    }
+    if i < LABELS {
+        (s.high >> (i - WORD_LABELS)) % 2 == 1
     } else {
         false
     }
@@ -42,7 +60,8 @@ pub fn union(s: Labels, t: Labels) -> Labels
     ensures { λ r. ⌜ labelSet r ≡ join (labelSet s) (labelSet t) ⌝ }
 {
     Labels {
-        bits: s.bits | t.bits,
+        low: s.low | t.low,
+        high: s.high | t.high,
     }
 }
 
@@ -51,42 +70,62 @@ pub fn without(s: Labels, i: u8) -> Labels
 {
     let t = single(i);
     Labels {
-        bits: s.bits ^ (s.bits & t.bits),
+        low: s.low ^ (s.low & t.low),
+        high: s.high ^ (s.high & t.high),
     }
 }
 
 pub fn is_empty(s: Labels) -> bool
     ensures { λ r. ⌜ r ≡ eqb (labelSet s) none ⌝ }
 {
-    s.bits == 0
+    if s.low == 0 { s.high == 0 } else { false }
 }
 
 pub fn subset(s: Labels, t: Labels) -> bool
     ensures { λ r. ⌜ (r ≡ true) ↔ Subset (labelSet s) (labelSet t) ⌝ }
 {
-    s.bits & t.bits == s.bits
+    if s.low & t.low == s.low {
+        s.high & t.high == s.high
+    } else {
+        false
+    }
 }
 
 pub fn disjoint(s: Labels, t: Labels) -> bool
     ensures { λ r. ⌜ (r ≡ true) ↔ Disjoint (labelSet s) (labelSet t) ⌝ }
 {
-    s.bits & t.bits == 0
+    if s.low & t.low == 0 {
+        s.high & t.high == 0
+    } else {
+        false
+    }
 }
 
 // The lowest member; of the empty set, the width.
 pub fn lowest(s: Labels) -> u8
     ensures { λ r. ⌜ Lowest labelCount (labelSet s) r ⌝ }
 {
-    u64::trailing_zeros(s.bits) as u8
+    if s.low == 0 {
+        WORD_LABELS + u64::trailing_zeros(s.high) as u8
+    } else {
+        u64::trailing_zeros(s.low) as u8
+    }
 }
 
 // The members below k.
 pub fn below(s: Labels, k: u32) -> Labels
     ensures { λ r. ⌜ labelSet r ≡ below k (labelSet s) ⌝ }
 {
-    if k < limits::LABELS as u32 {
+    if k < WORD_LABELS as u32 {
+        return Labels {
+            low: s.low & ((1u64 << k) - 1),
+            high: 0,
+        };
+    }
+    if k < LABELS as u32 {
         Labels {
-            bits: s.bits & ((1u64 << k) - 1),
+            low: s.low,
+            high: s.high & ((1u64 << (k - WORD_LABELS as u32)) - 1),
         }
     } else {
         s
@@ -99,19 +138,26 @@ pub fn from(s: Labels, k: u32) -> Labels
 {
     let t = below(s, k);
     Labels {
-        bits: s.bits ^ t.bits,
+        low: s.low ^ t.low,
+        high: s.high ^ t.high,
     }
 }
 
-// The set whose member i is bit i.
-pub fn from_bits(bits: u64) -> Labels
-    ensures { λ r. ⌜ labelSet r ≡ bits ⌝ }
+// The set whose member i is bit i of `low`, or bit i - 64 of `high`.
+pub fn from_words(low: u64, high: u64) -> Labels
+    ensures { λ r. ⌜ labelSet r ≡ twoWords wordLabels low high ⌝ }
 {
-    Labels { bits }
+    Labels { low, high }
 }
 
-pub fn bits(s: Labels) -> u64
-    ensures { λ r. ⌜ r ≡ labelSet s ⌝ }
+pub fn low_word(s: Labels) -> u64
+    ensures { λ r. ⌜ r ≡ labelSet s % 2 ^ wordLabels ⌝ }
 {
-    s.bits
+    s.low
+}
+
+pub fn high_word(s: Labels) -> u64
+    ensures { λ r. ⌜ r ≡ labelSet s / 2 ^ wordLabels ⌝ }
+{
+    s.high
 }

@@ -1,14 +1,16 @@
 -- What reading notes of a statement: its labels, whether a pause's label came twice, the number and the ranks of its pauses.
-use Prim.Native.Nat.{ℕ, _+_, _≤_, _<_}
-use mathlib.Core.Path.{_≡_, refl, sym, ap, ap₂, _∙_}
+use Prim.Native.Nat.{ℕ, _+_, _-_, _/_, _%_, _^_, _≤_, _<_}
+use mathlib.Core.Path.{_≡_, refl, sym, ap, ap₂, _∙_, subst}
 use mathlib.Core.Logic.{⊎-elim}
 use mathlib.Core.Bool.{Bool, true, false, _&&_, cond, and-eq-true-iff, and-true}
 use mathlib.Core.List.{List}
 use native.Mathlib.Omega.{arith}
-use lib.ListN.{length, getD, set, length-set, length-replicate, length-append}
+use lib.ListN.{length, getD, set, length-set, length-replicate, length-append, getD-replicate}
 use lib.Seq.{getD-set-same, getD-set-other}
-use lib.Bits.{bitAnd}
-use borrow.Author.Tests.{eqb-true, eqb-false}
+use lib.Dec.{eqb, ltb}
+use lib.Pow.{pow-pos, pow-lt}
+use lib.Bits.{bitAnd, or-lt}
+use borrow.Author.Tests.{eqb-true, eqb-false, ltb-true, ltb-false}
 use Rattle.esterel.specs.Sets.{member, none, only, join, empty}
 use Rattle.esterel.specs.Statement.{Statement, nothing, pause, emit, exit, seq, par, loop, present, signal, try, setpause, suspend, held}
 use Rattle.esterel.specs.LabelTests.{disjoint, labelsOf, pauses, setpauses, distinct}
@@ -17,17 +19,24 @@ use Rattle.theory.proofs.Booleans.{never, clash, Tested, tested}
 use Rattle.theory.proofs.Sets.{member-only, join-none-l, join-none-r}
 use Rattle.theory.proofs.LabelSets.{in-none, in-l, in-r, in-join, disjoint-is}
 use Rattle.theory.proofs.SetAlgebra.{join-assoc, empty-join, disjoint-none, none-disjoint, once-both}
-use Rattle.limits.specs.Limits.{labelCount}
+use Rattle.limits.specs.Limits.{labelCount, wordLabels}
+use Rattle.sets.specs.Sets.{twoWords}
+use Rattle.sets.proofs.Words.{words-none, one-low, one-high, common-low, common-high}
 use Rattle.sequence.specs.Writer.{bytesOf, size, Ranged}
-use Rattle.layout.specs.Notes.{pausesIn, setpausesIn, twiceIn, countIn, rankIn, noteCount, noNotes, notePause, noteSetpause, note, Noted}
+use Rattle.layout.specs.Notes.{pausesIn, setpausesIn, twiceIn, countIn, rankIn, noteCount, noNotes, wordAt, digitOf, notePause, noteSetpause, note, Noted}
+
+-- the words of both sets hold what they have room for
+pub record Held (m : List ℕ) : Type 0 where
+  pub fits : (j : ℕ) → j < 4 → getD m j 0 < 2 ^ wordLabels
 
 -- the notes m become n by these pauses and setpauses, so many pauses, the test of row 8 among them, and their ranks
 pub record Added (paused targeted count : ℕ) (once : Bool) (rank : (base l : ℕ) → ℕ) (m n : List ℕ) : Type 0 where
   pub long : length n ≡ length m
-  pub pauses-in : pausesIn n ≡ join (pausesIn m) paused
-  pub setpauses-in : setpausesIn n ≡ join (setpausesIn m) targeted
+  pub held : Held m → Held n
+  pub pauses-in : Held m → pausesIn n ≡ join (pausesIn m) paused
+  pub setpauses-in : Held m → setpausesIn n ≡ join (setpausesIn m) targeted
   pub counted : countIn n ≡ countIn m + count
-  pub twice : empty (twiceIn n) ≡ (empty (twiceIn m) && (disjoint (pausesIn m) paused && once))
+  pub twice : Held m → empty (twiceIn n) ≡ (empty (twiceIn m) && (disjoint (pausesIn m) paused && once))
   pub kept : (l : ℕ) → member l paused ≡ false → rankIn n l ≡ rankIn m l
   pub ranked : once ≡ true → (l : ℕ) → member l paused ≡ true → rankIn n l ≡ rank (countIn m) l
 
@@ -43,94 +52,193 @@ silent : (m : List ℕ) → Added none none 0 true (λ base l. base) m m
 silent m =
     record {
       long = refl;
-      pauses-in = sym (join-none-r (pausesIn m));
-      setpauses-in = sym (join-none-r (setpausesIn m));
+      held = λ f. f;
+      pauses-in = λ f. sym (join-none-r (pausesIn m));
+      setpauses-in = λ f. sym (join-none-r (setpausesIn m));
       counted = omega arith;
-      twice = once-none (empty (twiceIn m)) (pausesIn m);
+      twice = λ f. once-none (empty (twiceIn m)) (pausesIn m);
       kept = λ l e. refl;
       ranked = λ e l h. in-none l h;
     }
 
+-- ---- a word of a set
+-- the set that begins at `at`
+abbrev setAt : ℕ → List ℕ → ℕ
+setAt at m = twoWords wordLabels (getD m at 0) (getD m (at + 1) 0)
+
+-- a word stored among those of the sets, and a number stored behind them
+held-set : (i v : ℕ) (m : List ℕ) → i < length m → v < 2 ^ wordLabels → Held m → Held (set m i v)
+held-set i v m k f fit = record { fits = λ j g. go j g (tested (eqb i j)) }
+  where
+    go : (j : ℕ) → j < 4 → Tested (eqb i j) → getD (set m i v) j 0 < 2 ^ wordLabels
+    go j g (Tested.yes e) =
+        let z : i ≡ j = eqb-true i j e in
+        subst (λ (n : ℕ). getD (set m i v) n 0 < 2 ^ wordLabels) z (subst (λ (x : ℕ). x < 2 ^ wordLabels) (sym (getD-set-same m i v 0 k)) f)
+    go j g (Tested.no e) =
+        subst (λ (x : ℕ). x < 2 ^ wordLabels) (sym (getD-set-other m i j v 0 (λ z. eqb-false i j e (sym z)))) (fit .fits j g)
+
+held-above : (i v : ℕ) (m : List ℕ) → 4 ≤ i → Held m → Held (set m i v)
+held-above i v m k fit =
+    record { fits = λ j g. subst (λ (x : ℕ). x < 2 ^ wordLabels) (sym (getD-set-other m i j v 0 (λ z. omega arith))) (fit .fits j g) }
+
+digit-fits : (l : ℕ) → digitOf l < 2 ^ wordLabels
+unfolding only
+digit-fits l = let h : l % wordLabels < wordLabels = omega arith in pow-lt h
+
+module _ (at l : ℕ) (m : List ℕ) (h : l < labelCount) (long : at + 1 < length m) (fits : getD m at 0 < 2 ^ wordLabels) where
+  -- the notes with l in the set
+  abbrev with-digit : List ℕ
+  with-digit = set m (at + l / wordLabels) (join (wordAt at l m) (digitOf l))
+
+  in-low : l < wordLabels → (at + l / wordLabels ≡ at) × (l % wordLabels ≡ l)
+  in-low k = (omega arith, omega arith)
+
+  in-high : wordLabels ≤ l → (at + l / wordLabels ≡ at + 1) × (l % wordLabels ≡ l - wordLabels)
+  in-high k = (omega arith, omega arith)
+
+  joined-fits : wordAt at l m < 2 ^ wordLabels → join (wordAt at l m) (digitOf l) < 2 ^ wordLabels
+  unfolding join
+  joined-fits k = or-lt wordLabels (wordAt at l m) (digitOf l) k (digit-fits l)
+
+  set-joins : setAt at with-digit ≡ join (setAt at m) (only l)
+  set-joins = go (tested (ltb l wordLabels))
+    where
+      go : Tested (ltb l wordLabels) → setAt at with-digit ≡ join (setAt at m) (only l)
+      go (Tested.yes k) =
+          let q = in-low (ltb-true l wordLabels k) in
+          rw (q .0, q .1)
+          (ap₂ (twoWords wordLabels) (getD-set-same m at (join (getD m at 0) (only l)) 0 (omega arith))
+          (getD-set-other m at (at + 1) (join (getD m at 0) (only l)) 0 (λ e. omega arith))
+          ∙ one-low wordLabels (getD m at 0) (getD m (at + 1) 0) l fits (ltb-true l wordLabels k))
+      go (Tested.no k) =
+          let q = in-high (ltb-false l wordLabels k) in
+          rw (q .0, q .1)
+          (ap₂ (twoWords wordLabels) (getD-set-other m (at + 1) at (join (getD m (at + 1) 0) (only (l - wordLabels))) 0 (λ e. omega arith))
+          (getD-set-same m (at + 1) (join (getD m (at + 1) 0) (only (l - wordLabels))) 0 (omega arith))
+          ∙ one-high wordLabels (getD m at 0) (getD m (at + 1) 0) l fits (ltb-false l wordLabels k))
+
+  digit-common : empty (bitAnd (wordAt at l m) (digitOf l)) ≡ disjoint (setAt at m) (only l)
+  unfolding disjoint none
+  digit-common = go (tested (ltb l wordLabels))
+    where
+      go : Tested (ltb l wordLabels) → eqb (bitAnd (wordAt at l m) (digitOf l)) 0 ≡ eqb (bitAnd (setAt at m) (only l)) 0
+      go (Tested.yes k) =
+          let q = in-low (ltb-true l wordLabels k) in
+          rw (q .0, q .1) (common-low wordLabels (getD m at 0) (getD m (at + 1) 0) l fits (ltb-true l wordLabels k))
+      go (Tested.no k) =
+          let q = in-high (ltb-false l wordLabels k) in
+          rw (q .0, q .1) (common-high wordLabels (getD m at 0) (getD m (at + 1) 0) l fits (ltb-false l wordLabels k))
+
 -- ---- a pause and a setpause
 module _ (l : ℕ) (m : List ℕ) (h : l < labelCount) (long : length m ≡ noteCount) where
-  -- notePause: the sets that it stores, and the notes with the first store, and with the second
+  -- notePause: what it stores first, and the notes with the first store, and with the second
   abbrev twice : ℕ
-  twice = join (twiceIn m) (bitAnd (pausesIn m) (only l))
+  twice = join (twiceIn m) (bitAnd (wordAt 0 l m) (digitOf l))
 
   abbrev paused : ℕ
-  paused = join (pausesIn m) (only l)
+  paused = join (wordAt 0 l m) (digitOf l)
 
   abbrev one : List ℕ
-  one = set m 2 twice
+  one = set m 4 twice
 
   abbrev two : List ℕ
-  two = set one 0 paused
+  two = set one (0 + l / wordLabels) paused
 
-  at-two : (j : ℕ) → (j ≡ 3 → ⊥) → (j ≡ 4 + l → ⊥) → getD (notePause l m) j 0 ≡ getD two j 0
+  at-two : (j : ℕ) → (j ≡ 5 → ⊥) → (j ≡ 6 + l → ⊥) → getD (notePause l m) j 0 ≡ getD two j 0
   unfolding notePause
-  at-two j f g = getD-set-other (set two (4 + l) (countIn m)) 3 j (countIn m + 1) 0 f ∙ getD-set-other two (4 + l) j (countIn m) 0 g
+  at-two j f g = getD-set-other (set two (6 + l) (countIn m)) 5 j (countIn m + 1) 0 f ∙ getD-set-other two (6 + l) j (countIn m) 0 g
 
-  at-rest : (j : ℕ) → (j ≡ 0 → ⊥) → (j ≡ 2 → ⊥) → getD two j 0 ≡ getD m j 0
-  at-rest j f g = getD-set-other one 0 j paused 0 f ∙ getD-set-other m 2 j twice 0 g
+  at-one : (j : ℕ) → (j ≡ 4 → ⊥) → getD one j 0 ≡ getD m j 0
+  at-one j f = getD-set-other m 4 j twice 0 f
+
+  at-rest : (j : ℕ) → (j ≡ 0 + l / wordLabels → ⊥) → (j ≡ 4 → ⊥) → getD two j 0 ≡ getD m j 0
+  at-rest j f g = getD-set-other one (0 + l / wordLabels) j paused 0 f ∙ at-one j g
 
   at-twice : twiceIn (notePause l m) ≡ twice
   at-twice =
-      at-two 2 (λ e. omega arith) (λ e. omega arith)
-      ∙ getD-set-other one 0 2 paused 0 (λ e. omega arith)
-      ∙ getD-set-same m 2 twice 0 (omega arith)
+      at-two 4 (λ e. omega arith) (λ e. omega arith)
+      ∙ getD-set-other one (0 + l / wordLabels) 4 paused 0 (λ e. omega arith)
+      ∙ getD-set-same m 4 twice 0 (omega arith)
 
   at-rank : rankIn (notePause l m) l ≡ countIn m
   unfolding notePause
   at-rank =
-      getD-set-other (set two (4 + l) (countIn m)) 3 (4 + l) (countIn m + 1) 0 (λ e. omega arith)
-      ∙ getD-set-same two (4 + l) (countIn m) 0 (simp length-set (omega arith))
+      getD-set-other (set two (6 + l) (countIn m)) 5 (6 + l) (countIn m + 1) 0 (λ e. omega arith)
+      ∙ getD-set-same two (6 + l) (countIn m) 0 (simp length-set (omega arith))
 
   at-count : countIn (notePause l m) ≡ countIn m + 1
   unfolding notePause
-  at-count = getD-set-same (set two (4 + l) (countIn m)) 3 (countIn m + 1) 0 (simp length-set (omega arith))
+  at-count = getD-set-same (set two (6 + l) (countIn m)) 5 (countIn m + 1) 0 (simp length-set (omega arith))
 
   pause-length : length (notePause l m) ≡ length m
   unfolding notePause
   pause-length = simp length-set
 
-  pause-twice : empty (twiceIn (notePause l m)) ≡ (empty (twiceIn m) && (disjoint (pausesIn m) (only l) && true))
-  unfolding disjoint
-  pause-twice =
-      ap empty at-twice ∙ empty-join (twiceIn m) (bitAnd (pausesIn m) (only l))
-      ∙ ap (λ (b : Bool). empty (twiceIn m) && b) (sym (and-true (disjoint (pausesIn m) (only l))))
+  -- the two words of the pauses, which the first store leaves
+  same-words : (j : ℕ) → j < 2 → getD one j 0 ≡ getD m j 0
+  same-words j k = at-one j (λ e. omega arith)
+
+  pause-joins : Held m → pausesIn (notePause l m) ≡ join (pausesIn m) (only l)
+  pause-joins fit =
+      ap₂ (twoWords wordLabels) (at-two 0 (λ e. omega arith) (λ e. omega arith)) (at-two 1 (λ e. omega arith) (λ e. omega arith))
+      ∙ ap (λ (v : ℕ). setAt 0 (set one (0 + l / wordLabels) (join v (digitOf l)))) (sym (same-words (0 + l / wordLabels) (omega arith)))
+      ∙ set-joins 0 l one h (simp length-set (omega arith)) (omega (arith, same-words 0 (omega arith), fit .fits 0 (omega arith)))
+      ∙ ap₂ (λ (a b : ℕ). join (twoWords wordLabels a b) (only l)) (same-words 0 (omega arith)) (same-words 1 (omega arith))
+
+  pause-twice : Held m → empty (twiceIn (notePause l m)) ≡ (empty (twiceIn m) && (disjoint (pausesIn m) (only l) && true))
+  pause-twice fit =
+      ap empty at-twice ∙ empty-join (twiceIn m) (bitAnd (wordAt 0 l m) (digitOf l))
+      ∙ ap (λ (b : Bool). empty (twiceIn m) && b)
+      (digit-common 0 l m h (omega arith) (fit .fits 0 (omega arith)) ∙ sym (and-true (disjoint (pausesIn m) (only l))))
+
+  pause-held : Held m → Held (notePause l m)
+  unfolding notePause
+  pause-held fit =
+      held-above 5 (countIn m + 1) (set two (6 + l) (countIn m)) (omega arith)
+      (held-above (6 + l) (countIn m) two (omega arith)
+      (held-set (0 + l / wordLabels) paused one (simp length-set (omega arith))
+      (joined-fits 0 l m h (omega arith) (fit .fits 0 (omega arith)) (fit .fits (0 + l / wordLabels) (omega arith)))
+      (held-above 4 twice m (omega arith) fit)))
 
   pause-adds : Added (only l) none 1 true (λ base k. base) m (notePause l m)
   pause-adds =
       record {
         long = pause-length;
-        pauses-in =
-            at-two 0 (λ e. omega arith) (λ e. omega arith) ∙ getD-set-same one 0 paused 0 (simp length-set (omega arith));
-        setpauses-in =
-            at-two 1 (λ e. omega arith) (λ e. omega arith) ∙ at-rest 1 (λ e. omega arith) (λ e. omega arith)
+        held = pause-held;
+        pauses-in = pause-joins;
+        setpauses-in = λ fit.
+            ap₂ (twoWords wordLabels) (other 2 (omega arith) (omega arith)) (other 3 (omega arith) (omega arith))
             ∙ sym (join-none-r (setpausesIn m));
         counted = at-count;
         twice = pause-twice;
         kept = λ k e.
-            at-two (4 + k) (λ q. omega arith) (λ q. eqb-false l k (sym (member-only l k) ∙ e) (omega arith))
-            ∙ at-rest (4 + k) (λ q. omega arith) (λ q. omega arith);
+            at-two (6 + k) (λ q. omega arith) (λ q. eqb-false l k (sym (member-only l k) ∙ e) (omega arith))
+            ∙ at-rest (6 + k) (λ q. omega arith) (λ q. omega arith);
         ranked = λ o k e.
             ap (rankIn (notePause l m)) (sym (eqb-true l k (sym (member-only l k) ∙ e))) ∙ at-rank;
       }
+    where
+      other : (j : ℕ) → 2 ≤ j → j < 4 → getD (notePause l m) j 0 ≡ getD m j 0
+      other j g k = at-two j (λ e. omega arith) (λ e. omega arith) ∙ at-rest j (λ e. omega arith) (λ e. omega arith)
 
-  setpause-other : (j : ℕ) → (j ≡ 1 → ⊥) → getD (noteSetpause l m) j 0 ≡ getD m j 0
+  setpause-other : (j : ℕ) → (j ≡ 2 + l / wordLabels → ⊥) → getD (noteSetpause l m) j 0 ≡ getD m j 0
   unfolding noteSetpause
-  setpause-other j f = getD-set-other m 1 j (join (setpausesIn m) (only l)) 0 f
+  setpause-other j f = getD-set-other m (2 + l / wordLabels) j (join (wordAt 2 l m) (digitOf l)) 0 f
 
   setpause-adds : Added none (only l) 0 true (λ base k. base) m (noteSetpause l m)
-  unfolding noteSetpause
   setpause-adds =
       record {
-        long = length-set m 1 (join (setpausesIn m) (only l));
-        pauses-in = setpause-other 0 (λ e. omega arith) ∙ sym (join-none-r (pausesIn m));
-        setpauses-in = getD-set-same m 1 (join (setpausesIn m) (only l)) 0 (omega arith);
-        counted = setpause-other 3 (λ e. omega arith) ∙ (omega arith);
-        twice = ap empty (setpause-other 2 (λ e. omega arith)) ∙ once-none (empty (twiceIn m)) (pausesIn m);
-        kept = λ k e. setpause-other (4 + k) (λ q. omega arith);
+        long = unfold noteSetpause in length-set m (2 + l / wordLabels) (join (wordAt 2 l m) (digitOf l));
+        held = λ fit. unfold noteSetpause in
+            held-set (2 + l / wordLabels) (join (wordAt 2 l m) (digitOf l)) m (omega arith)
+            (joined-fits 2 l m h (omega arith) (fit .fits 2 (omega arith)) (fit .fits (2 + l / wordLabels) (omega arith))) fit;
+        pauses-in = λ fit.
+            ap₂ (twoWords wordLabels) (setpause-other 0 (λ e. omega arith)) (setpause-other 1 (λ e. omega arith))
+            ∙ sym (join-none-r (pausesIn m));
+        setpauses-in = λ fit. unfold noteSetpause in set-joins 2 l m h (omega arith) (fit .fits 2 (omega arith));
+        counted = setpause-other 5 (λ e. omega arith) ∙ (omega arith);
+        twice = λ fit. ap empty (setpause-other 4 (λ e. omega arith)) ∙ once-none (empty (twiceIn m)) (pausesIn m);
+        kept = λ k e. setpause-other (6 + k) (λ q. omega arith);
         ranked = λ e k q. in-none k q;
       }
 
@@ -159,11 +267,12 @@ module _ {x y s t a b : ℕ} {o u : Bool} {f g : (base l : ℕ) → ℕ} {m n r 
   two-adds =
       record {
         long = q .long ∙ p .long;
-        pauses-in = q .pauses-in ∙ ap (λ (z : ℕ). join z y) (p .pauses-in) ∙ sym (join-assoc (pausesIn m) x y);
-        setpauses-in = q .setpauses-in ∙ ap (λ (z : ℕ). join z t) (p .setpauses-in) ∙ sym (join-assoc (setpausesIn m) s t);
+        held = λ f. q .held (p .held f);
+        pauses-in = λ f. q .pauses-in (p .held f) ∙ ap (λ (z : ℕ). join z y) (p .pauses-in f) ∙ sym (join-assoc (pausesIn m) x y);
+        setpauses-in = λ f. q .setpauses-in (p .held f) ∙ ap (λ (z : ℕ). join z t) (p .setpauses-in f) ∙ sym (join-assoc (setpausesIn m) s t);
         counted = let e = q .counted in let d = p .counted in omega arith;
-        twice =
-            q .twice ∙ ap₂ (λ (c : Bool) (z : ℕ). c && (disjoint z y && u)) (p .twice) (p .pauses-in)
+        twice = λ f.
+            q .twice (p .held f) ∙ ap₂ (λ (c : Bool) (z : ℕ). c && (disjoint z y && u)) (p .twice f) (p .pauses-in f)
             ∙ sym (once-both (empty (twiceIn m)) (pausesIn m) x y o u);
         kept = two-kept;
         ranked = two-ranked;
@@ -186,15 +295,18 @@ noting (setpause l) m h r = setpause-adds l m r h
 noting (suspend s p) m h r = noting p m h (r .1)
 noting (held s K p) m h r = absurd r
 
+nothing-held : Held noNotes
+nothing-held = record { fits = λ j g. subst (λ (x : ℕ). x < 2 ^ wordLabels) (sym (getD-replicate noteCount j 0 0 (omega arith))) (pow-pos wordLabels) }
+
 -- from nothing noted, the notes of p
 pub noted : (p : Statement) → Ranged p → Noted p (note p noNotes)
 unfolding none
 noted p r =
     let a = noting p noNotes (length-replicate {A = ℕ} noteCount 0) r in
     record {
-      paused = a .pauses-in ∙ join-none-l (pauses p);
-      targeting = a .setpauses-in ∙ join-none-l (setpauses p);
-      once = a .twice ∙ ap (λ (b : Bool). b && distinct p) (none-disjoint (pauses p));
+      paused = a .pauses-in nothing-held ∙ ap (λ (x : ℕ). join x (pauses p)) (words-none wordLabels) ∙ join-none-l (pauses p);
+      targeting = a .setpauses-in nothing-held ∙ ap (λ (x : ℕ). join x (setpauses p)) (words-none wordLabels) ∙ join-none-l (setpauses p);
+      once = a .twice nothing-held ∙ ap (λ (s : ℕ). disjoint s (pauses p) && distinct p) (words-none wordLabels) ∙ ap (λ (b : Bool). b && distinct p) (none-disjoint (pauses p));
       ranked = a .ranked;
     }
 

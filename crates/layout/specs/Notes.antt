@@ -1,6 +1,6 @@
--- What reading notes of labels, in one list of numbers: the labels of the pauses, those of the setpauses, those of pauses
--- that came twice, the number of pauses, and for each label the rank of its pause (esterel, specs/Ranks).
-use Prim.Native.Nat.{ℕ, _+_}
+-- What reading notes of labels, in one list of words: the labels of the pauses and those of the setpauses, in two words each,
+-- whether the label of a pause came twice, the number of pauses, and for each label the rank of its pause (esterel, specs/Ranks).
+use Prim.Native.Nat.{ℕ, _+_, _/_, _%_}
 use mathlib.Core.Path.{_≡_}
 use mathlib.Core.Bool.{true}
 use mathlib.Core.List.{List}
@@ -10,39 +10,48 @@ use Rattle.esterel.specs.Sets.{member, only, join, empty}
 use Rattle.esterel.specs.Statement.{Statement, nothing, pause, emit, exit, seq, par, loop, present, signal, try, setpause, suspend, held}
 use Rattle.esterel.specs.LabelTests.{pauses, setpauses, distinct}
 use Rattle.esterel.specs.Ranks.{rank}
-use Rattle.limits.specs.Limits.{labelCount}
+use Rattle.limits.specs.Limits.{labelCount, wordLabels}
+use Rattle.sets.specs.Sets.{twoWords}
 
 -- ---- the fields
 abbrev pub pausesIn : List ℕ → ℕ
-pausesIn notes = getD notes 0 0
+pausesIn notes = twoWords wordLabels (getD notes 0 0) (getD notes 1 0)
 
 abbrev pub setpausesIn : List ℕ → ℕ
-setpausesIn notes = getD notes 1 0
+setpausesIn notes = twoWords wordLabels (getD notes 2 0) (getD notes 3 0)
 
+-- empty if no label of a pause came twice
 abbrev pub twiceIn : List ℕ → ℕ
-twiceIn notes = getD notes 2 0
+twiceIn notes = getD notes 4 0
 
 abbrev pub countIn : List ℕ → ℕ
-countIn notes = getD notes 3 0
+countIn notes = getD notes 5 0
 
 abbrev pub rankIn : List ℕ → ℕ → ℕ
-rankIn notes l = getD notes (4 + l) 0
+rankIn notes l = getD notes (6 + l) 0
 
 abbrev pub noteCount : ℕ
-noteCount = 4 + labelCount
+noteCount = 6 + labelCount
 
 -- nothing is noted yet
 abbrev pub noNotes : List ℕ
 noNotes = replicate noteCount 0
 
 -- ---- what a pause and a setpause add
+-- the word that has label l, of a set that begins at `at`, and l in it
+abbrev pub wordAt : (at l : ℕ) → List ℕ → ℕ
+wordAt at l notes = getD notes (at + l / wordLabels) 0
+
+abbrev pub digitOf : ℕ → ℕ
+digitOf l = only (l % wordLabels)
+
 unfoldable pub notePause : (l : ℕ) → List ℕ → List ℕ
 notePause l notes =
-    set (set (set (set notes 2 (join (twiceIn notes) (bitAnd (pausesIn notes) (only l)))) 0 (join (pausesIn notes) (only l)))
-    (4 + l) (countIn notes)) 3 (countIn notes + 1)
+    set (set (set (set notes 4 (join (twiceIn notes) (bitAnd (wordAt 0 l notes) (digitOf l))))
+    (0 + l / wordLabels) (join (wordAt 0 l notes) (digitOf l))) (6 + l) (countIn notes)) 5 (countIn notes + 1)
 
 unfoldable pub noteSetpause : (l : ℕ) → List ℕ → List ℕ
-noteSetpause l notes = set notes 1 (join (setpausesIn notes) (only l))
+noteSetpause l notes = set notes (2 + l / wordLabels) (join (wordAt 2 l notes) (digitOf l))
 
 -- what reading a statement makes of the notes, from the left
 unfoldable pub note : Statement → List ℕ → List ℕ

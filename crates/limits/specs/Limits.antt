@@ -1,9 +1,13 @@
 -- The widths and limits of 01 and 02, each named once for the definitions; src/lib.rt names them for the code.
 use Prim.Native.Nat.{ℕ, _^_}
 
--- ---- 01, 'Commands': labels are 0 to 63, signals 0 to 31, exits 1 to 15
+-- ---- 01, 'Commands', and 02, item 7: labels are 0 to 127, signals 0 to 31, exits 1 to 15
 abbrev pub labelCount : ℕ
-labelCount = 64
+labelCount = 128
+
+-- a label set is held in two words of so many bits
+abbrev pub wordLabels : ℕ
+wordLabels = 64
 
 abbrev pub signalCount : ℕ
 signalCount = 32
@@ -30,9 +34,12 @@ maxBytes = 1024
 abbrev pub readBackPlace : ℕ
 readBackPlace = 65535
 
--- ---- 01, 'States and resuming', and 02, item 6: the bytes of a label set, of a place, of a signal set and of a number of reactions
+-- ---- 01, 'States and resuming', and 02, items 6 and 7: the bytes of a word of labels, of a label set, of a place, of a signal set and of a number of reactions
+abbrev pub wordBytes : ℕ
+wordBytes = 8
+
 abbrev pub labelBytes : ℕ
-labelBytes = 8
+labelBytes = 16
 
 abbrev pub placeBytes : ℕ
 placeBytes = 2

@@ -1,8 +1,11 @@
 // The widths and limits of 01 and 02, each named once for the code; specs/Limits names them for the definitions.
-// Labels are 0 to 63, signals 0 to 31, exits 1 to 15.
-pub const LABELS: u8 = 64;
+// Labels are 0 to 127 (02, item 7), signals 0 to 31, exits 1 to 15.
+pub const LABELS: u8 = 128;
 
-pub const LABEL_COUNT: usize = 64;
+pub const LABEL_COUNT: usize = 128;
+
+// A label set is held in two words of so many bits.
+pub const WORD_LABELS: u8 = 64;
 
 pub const SIGNALS: u8 = 32;
 
@@ -21,8 +24,10 @@ pub const MAX_BYTES: usize = 1024;
 // The place of an error of a read-back declaration (02, item 5).
 pub const READ_BACK_PLACE: u16 = 65535;
 
-// The bytes of a label set, of a place, of a signal set and of a number of reactions, and how many numbers the last can hold.
-pub const LABEL_BYTES: usize = 8;
+// The bytes of a word of labels, of a label set, of a place, of a signal set and of a number of reactions, and how many numbers the last can hold.
+pub const WORD_BYTES: usize = 8;
+
+pub const LABEL_BYTES: usize = 16;
 
 pub const PLACE_BYTES: usize = 2;
 

@@ -1,9 +1,9 @@
 -- Laws of numerals, over every base.
-use Prim.Native.Nat.{ℕ, zero, suc, _+_, _-_, _/_, _%_, _^_, _≤_, _<_}
-use native.Mathlib.Nat.{pow-le-pow-left, not-suc-le-zero, div-le-self, div-lt-self, div-lt-iff-lt-mul, pow-suc, pow-zero}
+use Prim.Native.Nat.{ℕ, zero, suc, _+_, _*_, _-_, _/_, _%_, _^_, _≤_, _<_}
+use native.Mathlib.Nat.{pow-le-pow-left, not-suc-le-zero, div-le-self, div-lt-self, div-lt-iff-lt-mul, pow-suc, pow-zero, mul-assoc, mul-comm, add-comm, add-mul-div-left, mul-add-mod-self-left}
 use native.Mathlib.Omega.{arith}
 use mathlib.Core.Path.{_≡_, refl, sym, ap, ap₂, _∙_, subst}
-use mathlib.Core.List.{List, [], _∷_, _++_}
+use mathlib.Core.List.{List, [], _∷_, _++_, append-nil, append-assoc}
 use lib.ListN.{length, set, length-append}
 use lib.Dec.{eqb·suc-zero}
 use Rattle.runs.specs.Text.{digit, numeralIn, numeral}
@@ -79,6 +79,34 @@ numeral-fits base (suc k) zero (suc x) h lt le =
     grown base k 0 (suc x) h (omega arith) (numeral-fits base k (0 - 1) (suc x / base) h (smaller base k (suc x) h lt) (omega arith))
 numeral-fits base (suc k) (suc w) x h lt le =
     grown base k (suc w) x h (omega arith) (numeral-fits base k (suc w - 1) (x / base) h (smaller base k x h lt) (omega arith))
+
+-- ---- a numeral in two: its last n digits, and those before
+split-half : (b n h l : ℕ) → 0 < b → (h * b ^ suc n + l) / b ≡ h * b ^ n + l / b
+split-half b n h l pos =
+    ap (λ (x : ℕ). (x + l) / b) (ap (λ (y : ℕ). h * y) (pow-suc b n) ∙ sym (mul-assoc h (b ^ n) b) ∙ mul-comm (h * b ^ n) b)
+    ∙ ap (λ (x : ℕ). x / b) (add-comm (b * (h * b ^ n)) l) ∙ add-mul-div-left l (h * b ^ n) pos ∙ add-comm (l / b) (h * b ^ n)
+
+split-last : (b n h l : ℕ) → (h * b ^ suc n + l) % b ≡ l % b
+split-last b n h l =
+    ap (λ (x : ℕ). (x + l) % b) (ap (λ (y : ℕ). h * y) (pow-suc b n) ∙ sym (mul-assoc h (b ^ n) b) ∙ mul-comm (h * b ^ n) b)
+    ∙ mul-add-mod-self-left b (h * b ^ n) l
+
+pub numeral-split : (b m n h l : ℕ) → 1 < b → l < b ^ n → numeral b (m + n) (h * b ^ n + l) ≡ numeral b m h ++ numeral b n l
+numeral-split b m zero h l g lt =
+    let z : l ≡ 0 = omega (arith, subst (λ (x : ℕ). l < x) (pow-zero b) lt) in
+    let e : h * b ^ 0 + l ≡ h = ap₂ (λ (x y : ℕ). h * x + y) (pow-zero b) z ∙ (omega arith) in
+    let k : m + 0 ≡ m = omega arith in
+    ap₂ (numeral b) k e ∙ sym (append-nil (numeral b m h)) ∙ ap (λ (t : List ℕ). numeral b m h ++ t) (sym (ap (numeral b 0) z ∙ numeral-none b))
+numeral-split b m (suc n) h l g lt =
+    let x = h * b ^ suc n + l in
+    let w : m + suc n - 1 ≡ m + n = omega arith in
+    let v : suc n - 1 ≡ n = omega arith in
+    numeral-step b (m + suc n) x g (omega arith)
+    ∙ ap₂ (λ (t : List ℕ) (d : ℕ). t ++ digit d ∷ [])
+    (ap₂ (numeral b) w (split-half b n h l (omega arith)) ∙ numeral-split b m n h (l / b) g (smaller b n l g lt)) (split-last b n h l)
+    ∙ append-assoc (numeral b m h) (numeral b n (l / b)) (digit (l % b) ∷ [])
+    ∙ ap (λ (t : List ℕ). numeral b m h ++ t)
+    (ap (λ (k : ℕ). numeral b k (l / b) ++ digit (l % b) ∷ []) (sym v) ∙ sym (numeral-step b (suc n) l g (omega arith)))
 
 -- ---- the loop over a numeral
 pub measure-falls : (base width x : ℕ) → 1 < base → 0 < width + x → width - 1 + x / base < width + x

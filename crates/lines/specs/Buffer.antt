@@ -6,7 +6,7 @@ use lib.ListN.{length, take, drop}
 
 -- the bytes of a line's buffer
 abbrev pub lineLength : ℕ
-lineLength = 128
+lineLength = 160
 
 -- the text stands from `from` to `end`, and the other bytes are as before
 pub record Prepended (before : List ℕ) (end : ℕ) (text after : List ℕ) (from : ℕ) : Type 0 where

@@ -3,6 +3,8 @@ ghost use Prim.Native.Nat.{_+_, _≤_};
 ghost use mathlib.Core.Path.{_≡_};
 ghost use mathlib.Core.List.{[], _∷_, _++_};
 ghost use lib.ListN.{length};
+ghost use Rattle.limits.specs.Limits.{wordLabels};
+ghost use Rattle.sets.specs.Sets.{twoWords};
 ghost use Rattle.runs.specs.Text.{numeral};
 ghost use Rattle.runs.specs.Listing.{numbersOf, setsOf};
 ghost use Rattle.lines.specs.Buffer.{lineLength, Prepended};
@@ -36,12 +38,13 @@ pub fn put_numbers(
     put_field(line, at, 10, 1, instant, b' ')
 }
 
-// The fields of a row that are sets, at the end of the line.
-pub fn put_sets(line: &mut [u8], emitted: u64, labels: u64) -> usize
+// The fields of a row that are sets, at the end of the line. The labels are two words, the second of those from 64 on.
+pub fn put_sets(line: &mut [u8], emitted: u64, low: u64, high: u64) -> usize
     requires { ⌜ length (now line) ≡ lineLength ⌝ }
-    ensures { λ r. ⌜ Prepended (now (line .entry)) lineLength (setsOf emitted labels) (now (line .exit)) r ⌝ }
+    ensures { λ r. ⌜ Prepended (now (line .entry)) lineLength (setsOf emitted (twoWords wordLabels low high)) (now (line .exit)) r ⌝ }
     ensures { λ r. ⌜ 84 ≤ r ⌝ }
 {
-    let at = put_field(line, LINE_LENGTH, 16, 16, labels, b'\n');
+    let mut at = put_field(line, LINE_LENGTH, 16, 16, low, b'\n');
+    at = crate::text::put_numeral(line, at, 16, 16, high);
     put_field(line, at, 16, 8, emitted, b' ')
 }

@@ -12,9 +12,9 @@ ghost use Rattle.lines.specs.Buffer.{lineLength};
 ghost use Rattle.lines.specs.Shown.{Shows};
 
 // The bytes of a line's buffer.
-pub const LINE_LENGTH: usize = 128;
+pub const LINE_LENGTH: usize = 160;
 
-// A line: its text is the bytes from `from` on. The greatest takes at most 118 bytes.
+// A line: its text is the bytes from `from` on. The greatest takes at most 138 bytes.
 pub struct Line {
     pub bytes: [u8; LINE_LENGTH],
     pub from: usize,
@@ -24,13 +24,15 @@ pub struct Line {
 pub fn row(instant: u64, state: &[u8], answer: &[u8]) -> Line
     ensures { λ r. ⌜ Shows r (lineIn instant (now (state .entry)) (now (answer .entry))) ⌝ }
 {
-    let labels = labels::bits(records::state::labels(state));
+    let labels = records::state::labels(state);
+    let low = labels::low_word(labels);
+    let high = labels::high_word(labels);
     let emitted = records::answer::emitted(answer) as u64;
     let place = records::answer::place(answer) as u64;
     let kind = records::answer::kind(answer) as u64;
     let code = records::answer::code(answer) as u64;
     let mut bytes = [0u8; LINE_LENGTH];
-    let at = crate::fields::put_sets(&mut bytes, emitted, labels);
+    let at = crate::fields::put_sets(&mut bytes, emitted, low, high);
     let from = crate::fields::put_numbers(&mut bytes, at, instant, code, kind, place);
     Line {
         bytes: bytes,

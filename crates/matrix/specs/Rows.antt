@@ -1,5 +1,5 @@
--- Rows of label sets as they are held, one number for each label.
-use Prim.Native.Nat.{ℕ}
+-- Rows of label sets as they are held, two words for each label.
+use Prim.Native.Nat.{ℕ, _+_, _*_}
 use mathlib.Core.Path.{_≡_}
 use mathlib.Core.List.{List}
 use mathlib.Core.Bool.{cond}
@@ -7,18 +7,19 @@ use lib.ListN.{length, getD}
 use lib.Dec.{ltb}
 use Rattle.esterel.specs.Sets.{none}
 use Rattle.esterel.specs.LabelRows.{addRow}
-use Rattle.sets.specs.Sets.{labelCount}
+use Rattle.limits.specs.Limits.{wordLabels}
+use Rattle.sets.specs.Sets.{labelCount, twoWords}
 
 -- the row of k, for labels below w: no other label has one
 unfoldable pub rowBelow : (w : ℕ) → List ℕ → ℕ → ℕ
-rowBelow w rows k = cond (ltb k w) (getD rows k 0) none
+rowBelow w rows k = cond (ltb k w) (twoWords wordLabels (getD rows (2 * k) 0) (getD rows (2 * k + 1) 0)) none
 
 abbrev pub addRowBelow : (w k s : ℕ) → (ℕ → ℕ) → ℕ → ℕ
 addRowBelow w k s rows = cond (ltb k w) (addRow k s rows) rows
 
 -- w rows become w rows by f
 pub record UpdatesBelow (w : ℕ) (f : (ℕ → ℕ) → ℕ → ℕ) (m n : List ℕ) : Type 0 where
-  pub updates : length m ≡ w → (length n ≡ w) × (rowBelow w n ≡ f (rowBelow w m))
+  pub updates : length m ≡ 2 * w → (length n ≡ 2 * w) × (rowBelow w n ≡ f (rowBelow w m))
 
 abbrev pub rowOf : List ℕ → ℕ → ℕ
 rowOf = rowBelow labelCount

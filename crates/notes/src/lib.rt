@@ -8,32 +8,34 @@ ghost use Rattle.labels.specs.Labels.{labelSet};
 ghost use Rattle.limits.specs.Limits.{labelCount, maxBytes};
 ghost use Rattle.layout.specs.Notes.{pausesIn, setpausesIn, twiceIn, countIn, rankIn, notePause, noteSetpause};
 ghost use Rattle.layout.specs.Walk.{Leaf, LabelNoted};
+use limits::WORD_LABELS;
 
-// The labels of pauses, of setpauses and of pauses that came twice, the number of pauses, then a rank for each label.
+// The labels of pauses and of setpauses in two words each, what came twice, the number of pauses, then a rank for each label.
 pub const LENGTH: usize = RANKS + limits::LABEL_COUNT;
 
 pub type Notes = [u64; LENGTH];
 
 const PAUSES: usize = 0;
 
-const SETPAUSES: usize = 1;
+const SETPAUSES: usize = 2;
 
-const TWICE: usize = 2;
+const TWICE: usize = 4;
 
-const COUNT: usize = 3;
+const COUNT: usize = 5;
 
-const RANKS: usize = 4;
+const RANKS: usize = 6;
 
 // A pause with label l was read.
 fn note_pause(l: u8, notes: &mut Notes)
     requires { ⌜ (l < labelCount) × (countIn (now notes) < maxBytes) ⌝ }
     ensures { λ _. ⌜ now (notes .exit) ≡ notePause l (now (notes .entry)) ⌝ }
 {
-    let bit = 1u64 << l;
-    let seen = notes[PAUSES];
+    let word = PAUSES + (l / WORD_LABELS) as usize;
+    let bit = 1u64 << (l % WORD_LABELS);
+    let seen = notes[word];
     let count = notes[COUNT];
     notes[TWICE] = notes[TWICE] | (seen & bit);
-    notes[PAUSES] = seen | bit;
+    notes[word] = seen | bit;
     notes[RANKS + l as usize] = count;
     notes[COUNT] = count + 1;
 }
@@ -43,7 +45,8 @@ fn note_setpause(l: u8, notes: &mut Notes)
     requires { ⌜ l < labelCount ⌝ }
     ensures { λ _. ⌜ now (notes .exit) ≡ noteSetpause l (now (notes .entry)) ⌝ }
 {
-    notes[SETPAUSES] = notes[SETPAUSES] | (1u64 << l);
+    let word = SETPAUSES + (l / WORD_LABELS) as usize;
+    notes[word] = notes[word] | (1u64 << (l % WORD_LABELS));
 }
 
 // Notes the label of the command at the front of s, which has no parts.
@@ -64,13 +67,13 @@ pub fn label(s: &[u8], notes: &mut Notes)
 pub fn pauses(notes: &Notes) -> labels::Labels
     ensures { λ r. ⌜ labelSet r ≡ pausesIn (now (notes .entry)) ⌝ }
 {
-    labels::from_bits(notes[PAUSES])
+    labels::from_words(notes[PAUSES], notes[PAUSES + 1])
 }
 
 pub fn setpauses(notes: &Notes) -> labels::Labels
     ensures { λ r. ⌜ labelSet r ≡ setpausesIn (now (notes .entry)) ⌝ }
 {
-    labels::from_bits(notes[SETPAUSES])
+    labels::from_words(notes[SETPAUSES], notes[SETPAUSES + 1])
 }
 
 // Did no label of a pause come twice?

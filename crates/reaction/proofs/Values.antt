@@ -4,7 +4,7 @@ use mathlib.Core.Path.{_≡_, refl}
 use mathlib.Core.Option.{Option, some}
 use native.Mathlib.Omega.{arith}
 use Rattle.labels.specs.declared.Labels.{Labels}
-use Rattle.labels.specs.Labels.{labelSet}
+use Rattle.labels.specs.Labels.{Stands}
 use Rattle.labels.proofs.LabelValues.{labels-of}
 use Rattle.esterel.specs.Sets.{none}
 use Rattle.esterel.specs.Statement.{nothing}
@@ -26,12 +26,12 @@ word-one n = omega arith
 
 -- a reaction is that of its four values
 module _ (k : Code) (x : Option Error) (n : ℕ) {o o′ : ℕ} {l : Labels} {l′ : ℕ} {c : Completion} {m : ℕ} where
-  pub made : o ≡ o′ → labelSet l ≡ l′ → c ≡ completionOf k x → m ≡ word n
+  pub made : o ≡ o′ → Stands l l′ → c ≡ completionOf k x → m ≡ word n
       → _≡_ {A = Reaction} (record { emitted = o; labels = l; completion = c; taken = m }) (reactionOf (instant (gives o′ k l′ nothing) x n))
   made a b d e = rw (← a, ← labels-of l b, ← d, ← e)
 
 -- one that fails, whatever was taken
-pub failed-made : (x : Error) (m : ℕ) (l : Labels) → labelSet l ≡ none
+pub failed-made : (x : Error) (m : ℕ) (l : Labels) → Stands l none
     → _≡_ {A = Reaction} (record { emitted = none; labels = l; completion = completionOf wrong (some x); taken = m }) (failedWith x m)
 failed-made x m l b = rw (← labels-of l b)
 

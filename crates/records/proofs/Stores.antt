@@ -1,5 +1,5 @@
 -- Runs of stores over a whole buffer give the record.
-use Prim.Native.Nat.{ℕ, _+_}
+use Prim.Native.Nat.{ℕ, _+_, _/_, _%_, _^_}
 use native.Mathlib.Omega.{arith}
 use mathlib.Core.Path.{_≡_, refl, sym, ap, _∙_}
 use mathlib.Core.Logic.{_≢_}
@@ -8,9 +8,9 @@ use lib.ListN.{length}
 use lib.Seq.{sets}
 use borrow.Author.Tests.{eq-eqb, ne-eqb}
 use Rattle.numbers.specs.Bytes.{leBytes}
-use Rattle.limits.specs.Limits.{labelBytes, placeBytes, signalBytes, takenBytes}
-use Rattle.records.specs.Records.{stateLength, answerLength, emittedAt, takenAt, replaced, stateRecord, answerRecord}
-use Rattle.numbers.proofs.Bytes.{length-leBytes}
+use Rattle.limits.specs.Limits.{wordLabels, wordBytes, labelBytes, placeBytes, signalBytes, takenBytes}
+use Rattle.records.specs.Records.{labelsAt, stateLength, answerLength, emittedAt, takenAt, replaced, stateRecord, answerRecord}
+use Rattle.numbers.proofs.Bytes.{length-leBytes, le-low, le-append}
 use Rattle.records.proofs.RecordLaws.{state-sized, answer-sized}
 use Rattle.records.proofs.Writing.{sets-whole, sets-append}
 
@@ -42,9 +42,18 @@ answer-written b code kind place emitted taken s h = h ∙ answer-replaced b cod
 
 -- ---- stores
 pub state-stored : (phase labels : ℕ) (b : List ℕ) → length b ≡ stateLength
-    → sets b 0 (phase ∷ leBytes labelBytes labels) ≡ replaced b (stateRecord phase labels)
+    → sets (sets b 0 (phase ∷ leBytes wordBytes (labels % 2 ^ wordLabels))) (labelsAt + wordBytes) (leBytes wordBytes (labels / 2 ^ wordLabels))
+    ≡ replaced b (stateRecord phase labels)
 state-stored phase labels b e =
-    sets-whole b (phase ∷ leBytes labelBytes labels) (omega (arith, length-leBytes labelBytes labels))
+    let low = leBytes wordBytes labels in
+    let high = leBytes wordBytes (labels / 2 ^ wordLabels) in
+    let sized : length low ≡ wordBytes = length-leBytes wordBytes labels in
+    let behind : labelsAt + wordBytes ≡ length (phase ∷ low) + 0 = omega arith in
+    ap (λ (l : List ℕ). sets (sets b 0 (phase ∷ l)) (labelsAt + wordBytes) high) (le-low wordBytes labels)
+    ∙ ap (λ (k : ℕ). sets (sets b 0 (phase ∷ low)) k high) behind
+    ∙ sets-append b 0 (phase ∷ low) high
+    ∙ ap (λ (l : List ℕ). sets b 0 (phase ∷ l)) (sym (le-append wordBytes wordBytes labels))
+    ∙ sets-whole b (phase ∷ leBytes labelBytes labels) (omega (arith, length-leBytes labelBytes labels))
     ∙ sym (state-replaced b phase labels e)
 
 pub answer-stored : (code kind place emitted taken : ℕ) (b : List ℕ) → length b ≡ answerLength

@@ -3,8 +3,12 @@ use limits::LABEL_BYTES;
 use limits::PLACE_BYTES;
 use limits::SIGNAL_BYTES;
 use limits::TAKEN_BYTES;
+use limits::WORD_BYTES;
 
 pub const LABELS_AT: usize = 1;
+
+// The word of the labels from 64 on.
+pub const HIGH_AT: usize = LABELS_AT + WORD_BYTES;
 
 pub const STATE_LENGTH: usize = LABELS_AT + LABEL_BYTES;
 

@@ -2,10 +2,11 @@
 ghost use mathlib.Core.Path.{_≡_};
 ghost use Rattle.labels.specs.Labels.{labelSet};
 ghost use Rattle.records.specs.Records.{replaced, phaseIn, labelsIn, stateRecord};
+use crate::layout::HIGH_AT;
 use crate::layout::LABELS_AT;
 use crate::layout::STATE_LENGTH;
 use labels::Labels;
-use limits::LABEL_BYTES;
+use limits::WORD_BYTES;
 
 pub fn phase(state: &[u8]) -> u8
     ensures { λ r. ⌜ r ≡ phaseIn (now (state .entry)) ⌝ }
@@ -16,7 +17,9 @@ pub fn phase(state: &[u8]) -> u8
 pub fn labels(state: &[u8]) -> Labels
     ensures { λ r. ⌜ labelSet r ≡ labelsIn (now (state .entry)) ⌝ }
 {
-    labels::from_bits(numbers::get_le(state, LABELS_AT, LABEL_BYTES))
+    let low = numbers::get_le(state, LABELS_AT, WORD_BYTES);
+    let high = numbers::get_le(state, HIGH_AT, WORD_BYTES);
+    labels::from_words(low, high)
 }
 
 // A buffer of another length is left as it is.
@@ -27,5 +30,6 @@ pub fn write_state(state: &mut [u8], phase: u8, labels: Labels)
         return;
     }
     state[0] = phase;
-    crate::fields::put_le(state, LABELS_AT, LABEL_BYTES, labels::bits(labels));
+    crate::fields::put_le(state, LABELS_AT, WORD_BYTES, labels::low_word(labels));
+    crate::fields::put_le(state, HIGH_AT, WORD_BYTES, labels::high_word(labels));
 }

@@ -6,8 +6,8 @@ use mathlib.Core.Option.{Option}
 use native.Mathlib.Omega.{arith}
 use lib.Dec.{eqb}
 use Rattle.labels.specs.declared.Labels.{Labels}
-use Rattle.labels.specs.Labels.{labelSet, labelsWith}
-use Rattle.labels.proofs.LabelValues.{labelSet-of}
+use Rattle.labels.specs.Labels.{labelSet, labelsWith, Stands}
+use Rattle.labels.proofs.LabelValues.{labelSet-of, stands-of}
 use Rattle.esterel.specs.Sets.{join}
 use Rattle.esterel.specs.Statement.{Statement, nothing, try}
 use Rattle.esterel.specs.Reaction.{Code, ended, waiting, leaving, wrong, greater, gives, ifWaiting}
@@ -36,7 +36,7 @@ module _ (u : Statement) (i j : Esterel.Instant) (p q : Reaction) (a : p ≡ rea
     where
       go : (i j : Esterel.Instant) → SeqGoesOn u i j (reactionOf i) (reactionOf j)
       go (instant (gives o₁ ended l₁ t) x n) (instant (gives o₂ k l₂ v) y n₂) o m h e w =
-          made k y (1 + n + n₂) e (labelSet-of l₂) refl (w ∙ word-two n n₂)
+          made k y (1 + n + n₂) e (stands-of l₂) refl (w ∙ word-two n n₂)
       go (instant (gives o₁ waiting l₁ t) x n) j o m h e w = absurd (false≢true h)
       go (instant (gives o₁ (leaving n) l₁ t) x n₁) j o m h e w = absurd (false≢true h)
       go (instant (gives o₁ wrong l₁ t) x n) j o m h e w = absurd (false≢true h)
@@ -56,7 +56,7 @@ abbrev ParJoins : (i j : Esterel.Instant) (p q : Reaction) → Type 0
 ParJoins i j p q =
     (o m : ℕ) (l u : Labels) (c : Completion)
     → o ≡ join (p .emitted) (q .emitted) → c ≡ greaterOf (p .completion) (q .completion) → m ≡ word (1 + p .taken + q .taken)
-    → labelSet u ≡ join (labelSet (p .labels)) (labelSet (q .labels)) → labelSet l ≡ ifWaiting (codeOf c) (labelSet u)
+    → labelSet u ≡ join (labelSet (p .labels)) (labelSet (q .labels)) → Stands l (ifWaiting (codeOf c) (labelSet u))
     → _≡_ {A = Reaction} (record { emitted = o; labels = l; completion = c; taken = m }) (reactionOf (parInstant i j))
 
 pub par-joins : (i j : Esterel.Instant) (p q : Reaction) → p ≡ reactionOf i → q ≡ reactionOf j → ParJoins i j p q
@@ -68,7 +68,7 @@ par-joins i j p q a b = rw (a, b) (go i j)
         let z′ : codeOf c ≡ greater k₁ k₂ = ap codeOf z ∙ code-of (greater k₁ k₂) (ifWrong k₁ x y) in
         let d′ : labelSet u ≡ join l₁ l₂ = d ∙ ap (λ (h : ℕ). join h (labelSet (labelsWith l₂))) (labelSet-of l₁) ∙ ap (join l₁) (labelSet-of l₂) in
         made (greater k₁ k₂) (ifWrong k₁ x y) (1 + n + n₂) e
-        (w ∙ ap (λ (h : Code). ifWaiting h (labelSet u)) z′ ∙ ap (ifWaiting (greater k₁ k₂)) d′) z (s ∙ word-two n n₂)
+        (w .0, w .1 ∙ ap (λ (h : Code). ifWaiting h (labelSet u)) z′ ∙ ap (ifWaiting (greater k₁ k₂)) d′) z (s ∙ word-two n n₂)
 
 -- ---- loop p at the offset b
 module _ (b : ℕ) (u : Statement) (i : Esterel.Instant) (p : Reaction) (a : p ≡ reactionOf i) {r : Reaction} where

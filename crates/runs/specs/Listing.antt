@@ -1,9 +1,10 @@
 -- The listing of a run (01, 'Bays to run'): what the run program prints for a file, for all bytes.
-use Prim.Native.Nat.{ℕ, suc}
+use Prim.Native.Nat.{ℕ, suc, _*_}
 use mathlib.Core.Bool.{Bool, cond}
 use mathlib.Core.List.{List, [], _∷_, _++_}
 use lib.ListN.{replicate}
 use lib.Dec.{eqb}
+use Rattle.limits.specs.Limits.{signalBytes, labelBytes}
 use Rattle.records.specs.Records.{answerLength, phaseIn, labelsIn, codeIn, kindIn, placeIn, emittedIn}
 use Rattle.demands.specs.Tick.{Outcome, tickOf}
 use Rattle.demands.specs.Demands.{stateAfterwards, answerAfterwards, cleared}
@@ -18,7 +19,7 @@ pub record Row : Type 0 where
   pub emitted : ℕ
   pub labels : ℕ
 
--- the first four fields are decimal, the sets hexadecimal; one byte ends each
+-- the first four fields are decimal, the sets hexadecimal, two digits for a byte (02, item 7: 32 for the labels); one byte ends each
 abbrev pub numbersOf : (instant code kind place : ℕ) → List ℕ
 numbersOf instant code kind place =
     (numeral 10 1 instant ++ space ∷ [])
@@ -27,7 +28,7 @@ numbersOf instant code kind place =
     ++ (numeral 10 1 place ++ space ∷ [])))
 
 abbrev pub setsOf : (emitted labels : ℕ) → List ℕ
-setsOf emitted labels = (numeral 16 8 emitted ++ space ∷ []) ++ (numeral 16 16 labels ++ newline ∷ [])
+setsOf emitted labels = (numeral 16 (2 * signalBytes) emitted ++ space ∷ []) ++ (numeral 16 (2 * labelBytes) labels ++ newline ∷ [])
 
 unfoldable pub lineOf : Row → List ℕ
 lineOf r = numbersOf (r .instant) (r .code) (r .kind) (r .place) ++ setsOf (r .emitted) (r .labels)

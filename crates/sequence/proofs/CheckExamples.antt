@@ -42,7 +42,8 @@ table =
     -- just inside: 1,024 bytes, the greatest operands, six signals, depth 64
     ∷ (long 31, 0)
     ∷ (0x02 ∷ 0x1F ∷ [], 0)
-    ∷ (0x01 ∷ 0x3F ∷ [], 0)
+    ∷ (0x01 ∷ 0x7F ∷ [], 0)
+    ∷ (0x05 ∷ 0x01 ∷ 0x7F ∷ 0x01 ∷ 0x40 ∷ [], 0)
     ∷ (0x03 ∷ 0x0F ∷ [], 0)
     ∷ (signals 6 (0x00 ∷ []), 0)
     ∷ (loops 63 (0x00 ∷ []), 0)
@@ -51,7 +52,8 @@ table =
     ∷ (loops 62 (0x0B ∷ 0x00 ∷ 0x00 ∷ []), 0)
     -- just outside
     ∷ (long 31 ++ (0x00 ∷ []), 2)
-    ∷ (0x01 ∷ 0x40 ∷ [], 5)
+    ∷ (0x01 ∷ 0x80 ∷ [], 5)
+    ∷ (0x0A ∷ 0x80 ∷ [], 5)
     ∷ (0x03 ∷ 0x00 ∷ [], 5)
     ∷ (0x03 ∷ 0x10 ∷ [], 5)
     ∷ (0x0B ∷ [], 4)
@@ -64,7 +66,7 @@ table =
     -- 3 to 6 in that order at one command
     ∷ (loops 64 (0x0C ∷ []), 3)
     ∷ (loops 64 (0x01 ∷ []), 4)
-    ∷ (loops 64 (0x01 ∷ 0x40 ∷ []), 5)
+    ∷ (loops 64 (0x01 ∷ 0x80 ∷ []), 5)
     ∷ (loops 64 (0x01 ∷ 0x00 ∷ []), 6)
     ∷ (signals 7 [], 6)
     ∷ (0x07 ∷ 0x20 ∷ [], 5)

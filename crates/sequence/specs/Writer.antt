@@ -43,7 +43,7 @@ depthOf (setpause l) = 1
 depthOf (suspend s p) = 1 + depthOf p
 depthOf (held s K p) = 1
 
--- signals are 0 to 31, labels 0 to 63, exits 1 to 15; no held suspend, and no signal that is reported
+-- signals are 0 to 31, labels 0 to 127, exits 1 to 15; no held suspend, and no signal that is reported
 abbrev pub Ranged : Statement → Type 0
 Ranged nothing = Unit {0}
 Ranged (pause l) = l < labelCount

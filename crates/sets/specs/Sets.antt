@@ -1,5 +1,5 @@
 -- Sets below a width, and two relations between sets, over the sets of esterel.
-use Prim.Native.Nat.{ℕ, _<_}
+use Prim.Native.Nat.{ℕ, _+_, _*_, _^_, _<_}
 use mathlib.Core.Path.{_≡_}
 use mathlib.Core.Bool.{true, false, cond}
 use lib.Dec.{ltb}
@@ -12,6 +12,10 @@ onlyBelow w i = cond (ltb i w) (only i) none
 
 abbrev pub insertBelow : (w i s : ℕ) → ℕ
 insertBelow w i s = cond (ltb i w) (insert i s) s
+
+-- the set held in two words: the members below w, and those from w on moved down by w
+unfoldable pub twoWords : (w low high : ℕ) → ℕ
+twoWords w low high = high * 2 ^ w + low
 
 abbrev pub Subset : ℕ → ℕ → Type 0
 Subset s t = (i : ℕ) → member i s ≡ true → member i t ≡ true

@@ -1,5 +1,6 @@
 -- The rows of a survey of the whole that starts from empty rows are those of the statement.
-use Prim.Native.Nat.{ℕ}
+use Prim.Native.Nat.{ℕ, _+_, _*_}
+use native.Mathlib.Omega.{arith}
 use mathlib.Core.Path.{_≡_, refl, ap, ap₂, _∙_, subst}
 use mathlib.Core.Bool.{Bool, true, false, cond}
 use mathlib.Core.List.{List}
@@ -13,24 +14,33 @@ use Rattle.esterel.specs.LabelRows.{fill}
 use Rattle.theory.proofs.Sets.{join-none-l}
 use Rattle.theory.proofs.Booleans.{Tested, tested}
 use Rattle.theory.proofs.LabelRows.{fill-is}
-use Rattle.sets.specs.Sets.{labelCount}
+use Rattle.limits.specs.Limits.{wordLabels}
+use Rattle.sets.specs.Sets.{labelCount, twoWords}
+use Rattle.sets.proofs.Words.{words-none}
 use Rattle.matrix.specs.Rows.{rowBelow, rowOf, Updates}
 
 pub nothing-before : (x y : Bool) (j : Joint) (p : Statement) {s : ℕ} {m n : List ℕ} → s ≡ none → Updates (fill x y j p s) m n → Updates (fill x y j p none) m n
 nothing-before x y j p {s} {m} {n} e t = subst (λ (k : ℕ). Updates (fill x y j p k) m n) e t
 
-no-rows : (w k : ℕ) → rowBelow w (replicate w 0) k ≡ none
-unfolding rowBelow none
+no-rows : (w k : ℕ) → rowBelow w (replicate (2 * w) 0) k ≡ none
+unfolding rowBelow
 no-rows w k = go (tested (ltb k w))
   where
-    go : Tested (ltb k w) → cond (ltb k w) (getD (replicate w 0) k 0) none ≡ none
-    go (Tested.yes h) = rw h (getD-replicate w k 0 0 (ltb-true k w h))
+    words : ℕ
+    words = twoWords wordLabels (getD (replicate (2 * w) 0) (2 * k) 0) (getD (replicate (2 * w) 0) (2 * k + 1) 0)
+
+    go : Tested (ltb k w) → cond (ltb k w) words none ≡ none
+    go (Tested.yes h) =
+        let l = ltb-true k w h in
+        rw h
+        (ap₂ (twoWords wordLabels) (getD-replicate (2 * w) (2 * k) 0 0 (omega arith)) (getD-replicate (2 * w) (2 * k + 1) 0 0 (omega arith))
+        ∙ words-none wordLabels)
     go (Tested.no h) = rw h
 
-pub fresh-rows : (x y : Bool) (j : Joint) (p : Statement) (m n : List ℕ) → m ≡ replicate labelCount 0 → Updates (fill x y j p none) m n
+pub fresh-rows : (x y : Bool) (j : Joint) (p : Statement) (m n : List ℕ) → m ≡ replicate (2 * labelCount) 0 → Updates (fill x y j p none) m n
     → (k : ℕ) → rowOf n k ≡ before x y j p k
 fresh-rows x y j p m n e t k =
-    ap (λ (f : ℕ → ℕ). f k) (t .updates (rw e (length-replicate {A = ℕ} labelCount 0)) .1)
+    ap (λ (f : ℕ → ℕ). f k) (t .updates (rw e (length-replicate {A = ℕ} (2 * labelCount) 0)) .1)
     ∙ fill-is x y j p none (rowOf m) k
     ∙ ap₂ (λ (a b : ℕ). join a (join b (before x y j p k))) (ap (λ (l : List ℕ). rowOf l k) e ∙ no-rows labelCount k) (nothing (member k (labelsOf x y p)))
     ∙ join-none-l (join none (before x y j p k))

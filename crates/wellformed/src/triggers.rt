@@ -11,8 +11,8 @@ pub fn is_well_formed(s: &[u8], pauses: Labels) -> bool
     requires { ⌜ Standing maxDepth 0 (now s) ⌝ }
     ensures { λ r. ⌜ TellsWellFormed (now (s .entry)) (labelSet pauses) r ⌝ }
 {
-    let mut exclusive: Rows = [0; limits::LABEL_COUNT];
-    let mut concurrent: Rows = [0; limits::LABEL_COUNT];
+    let mut exclusive: Rows = [0; matrix::LENGTH];
+    let mut concurrent: Rows = [0; matrix::LENGTH];
     crate::survey::survey(s, &mut exclusive, &mut concurrent);
     !clashes::any_clash(&exclusive, &concurrent, pauses)
 }

@@ -71,7 +71,7 @@ unfolding none
 returns-5 c sc w i j a b =
     let d = c .before .before .before .before in
     signal-inherits sc _ _ i j _ _ a b _ (d .choose .ensures) _ (d .before .over-two .ensures) (c .before .before .enum-told5 .given .1) _ _
-    (c .before .empty .ensures) (c .greater-of .ensures)
+    (search needs, c .before .empty .ensures) (c .greater-of .ensures)
 
 pub declaring-spec : {M : Type 1} → statement M
 declaring-spec =

@@ -1,7 +1,11 @@
+use Prim.Native.Nat.{ℕ, _-_}
+use mathlib.Core.Path.{ap, _∙_}
 use native.Mathlib.Omega.{arith}
 use lib.Pow.{pow-pos}
+use Rattle.sets.specs.Sets.{twoWords}
 use Rattle.labels.specs.Labels.{labelSet}
 use Rattle.sets.proofs.Laws.{shifted, masked, all-below}
+use Rattle.sets.proofs.Words.{words-lt, below-low, below-high}
 use borrow.Author.Needs.{needs}
 use Rattle.labels.proofs.below.Statement.{statement}
 use Rattle.labels.proofs.below.Tie as tie
@@ -9,19 +13,47 @@ use Rattle.labels.proofs.below.Tie as tie
 cast-if1 : tie.Need-cast-if1
 cast-if1 c = search needs
 
-shl-t7 : tie.Need-shl-t7
-shl-t7 c = search needs
+shl-t6 : tie.Need-shl-t6
+shl-t6 c = search needs
 
-sub-t8 : tie.Need-sub-t8
-sub-t8 c = let k = c .before .args .k in omega (arith, shifted 64 k (search needs), pow-pos k)
+sub-t7 : tie.Need-sub-t7
+sub-t7 c = let k = c .before .args .k in omega (arith, shifted 64 k (search needs), pow-pos k)
 
 returns : tie.Need-returns
 unfolding labelSet
-returns c = masked 64 (c .before .before .args .k) _ (search needs)
+returns c =
+    let a = c .before .before .args in
+    ap (λ (x : ℕ). twoWords 64 x 0) (masked 64 (a .k) (a .s .low) (c .before .if1 .taken))
+    ∙ below-low 64 (a .s .low) (a .s .high) (search needs) (a .k) (omega arith)
+
+cast-if2 : tie.Need-cast-if2
+cast-if2 c = search needs
+
+cast-t10 : tie.Need-cast-t10
+cast-t10 c = search needs
+
+sub-t11 : tie.Need-sub-t11
+sub-t11 c = search needs
+
+cast-t12 : tie.Need-cast-t12
+cast-t12 c = search needs
+
+shl-t13 : tie.Need-shl-t13
+shl-t13 c = search needs
+
+sub-t14 : tie.Need-sub-t14
+sub-t14 c = let k = c .before .before .args .k - 64 in omega (arith, shifted 64 k (search needs), pow-pos k)
 
 returns-2 : tie.Need-returns-2
 unfolding labelSet
-returns-2 c = all-below 64 _ _ (search needs) (search needs)
+returns-2 c =
+    let a = c .before .before .before .args in
+    ap (twoWords 64 (a .s .low)) (masked 64 (a .k - 64) (a .s .high) (omega arith))
+    ∙ below-high 64 (a .s .low) (a .s .high) (search needs) (a .k) (c .before .before .if1 .left)
+
+returns-3 : tie.Need-returns-3
+unfolding labelSet
+returns-3 c = all-below 128 _ _ (words-lt 64 _ _ (search needs) 64 (search needs)) (c .if2 .left)
 
 pub below-spec : {M : Type 1} → statement M
-below-spec = tie.close (tie.spec cast-if1 shl-t7 sub-t8 returns returns-2)
+below-spec = tie.close (tie.spec cast-if1 shl-t6 sub-t7 returns cast-if2 cast-t10 sub-t11 cast-t12 shl-t13 sub-t14 returns-2 returns-3)

@@ -1,12 +1,11 @@
-use mathlib.Core.Path.{refl}
-use Rattle.esterel.specs.Sets.{none}
 use Rattle.labels.specs.Labels.{labelSet}
+use Rattle.sets.proofs.Words.{words-none}
 use Rattle.labels.proofs.empty.Statement.{statement}
 use Rattle.labels.proofs.empty.Tie as tie
 
 returns : tie.Need-returns
-unfolding labelSet none
-returns c = refl
+unfolding labelSet
+returns c = words-none 64
 
 pub empty-spec : {M : Type 1} → statement M
 empty-spec = tie.close (tie.spec returns)

@@ -1,7 +1,9 @@
-use mathlib.Core.Path.{ap}
+use mathlib.Core.Path.{ap, _∙_}
 use lib.Bits.{bitXor}
 use Rattle.esterel.specs.Sets.{from}
+use Rattle.sets.specs.Sets.{twoWords}
 use Rattle.labels.specs.Labels.{labelSet}
+use Rattle.sets.proofs.Words.{words-xor}
 use borrow.Author.Needs.{needs}
 use Rattle.labels.proofs.from.Statement.{statement}
 use Rattle.labels.proofs.from.Tie as tie
@@ -11,7 +13,10 @@ below-requires c κs = search needs
 
 returns : tie.Need-returns
 unfolding labelSet from
-returns c = ap (bitXor (c .before .before .before .args .s .bits)) (c .before .before .below .ensures)
+returns c =
+    let s = c .before .before .before .before .before .args .s in
+    words-xor 64 (s .low) (s .high) _ _ (search needs) (search needs)
+    ∙ ap (bitXor (twoWords 64 (s .low) (s .high))) (c .before .before .before .before .below .ensures)
 
 pub from-spec : {M : Type 1} → statement M
 from-spec = tie.close (tie.spec below-requires returns)

@@ -1,12 +1,27 @@
-use mathlib.Core.Path.{refl}
+use mathlib.Core.Path.{ap, _∙_}
+use lib.Dec.{eqb}
+use lib.Pow.{pow-pos}
 use Rattle.esterel.specs.Sets.{none}
+use Rattle.sets.specs.Sets.{twoWords}
 use Rattle.labels.specs.Labels.{labelSet}
+use Rattle.sets.proofs.Words.{words-none, words-same, words-differ}
+use borrow.Author.Needs.{needs}
 use Rattle.labels.proofs.is_empty.Statement.{statement}
 use Rattle.labels.proofs.is_empty.Tie as tie
 
 returns : tie.Need-returns
-unfolding labelSet none
-returns c = refl
+unfolding labelSet
+returns c =
+    let s = c .before .before .before .args .s in
+    words-same 64 (s .low) (s .high) 0 0 (search needs) (pow-pos 64) (c .before .if1 .taken)
+    ∙ ap (eqb (twoWords 64 (s .low) (s .high))) (words-none 64)
+
+returns-2 : tie.Need-returns-2
+unfolding labelSet
+returns-2 c =
+    let s = c .before .before .args .s in
+    words-differ 64 (s .low) (s .high) 0 0 (search needs) (pow-pos 64) (c .if1 .left)
+    ∙ ap (eqb (twoWords 64 (s .low) (s .high))) (words-none 64)
 
 pub is-empty-spec : {M : Type 1} → statement M
-is-empty-spec = tie.close (tie.spec returns)
+is-empty-spec = tie.close (tie.spec returns returns-2)

@@ -1,17 +1,29 @@
 use native.Mathlib.Omega.{arith}
-use borrow.Author.Needs.{needs}
 use lib.Count.{trailing-le}
+use Rattle.esterel.specs.Sets.{none}
 use Rattle.labels.specs.Labels.{labelSet}
 use Rattle.sets.proofs.Lowest.{lowest-is}
+use Rattle.sets.proofs.Words.{lowest-low, lowest-high}
+use borrow.Author.Needs.{needs}
 use Rattle.labels.proofs.lowest.Statement.{statement}
 use Rattle.labels.proofs.lowest.Tie as tie
 
 cast-result : tie.Need-cast-result
-cast-result c = omega (arith, trailing-le 64 (c .before .args .s .bits))
+cast-result c = omega (arith, trailing-le 64 (c .before .before .before .args .s .high))
+
+add-result : tie.Need-add-result
+add-result c = omega (arith, trailing-le 64 (c .before .before .before .args .s .high))
+
+cast-result-2 : tie.Need-cast-result-2
+cast-result-2 c = omega (arith, trailing-le 64 (c .before .before .before .args .s .low))
 
 returns : tie.Need-returns
-unfolding labelSet
-returns c = lowest-is 64 _ (search needs)
+unfolding labelSet none
+returns c = lowest-high 64 64 _ _ (search needs) _ (c .before .if1 .taken) (lowest-is 64 _ (search needs))
+
+returns-2 : tie.Need-returns-2
+unfolding labelSet none
+returns-2 c = lowest-low 64 64 _ _ (search needs) _ (c .before .if1 .left) (lowest-is 64 _ (search needs))
 
 pub lowest-spec : {M : Type 1} → statement M
-lowest-spec = tie.close (tie.spec cast-result returns)
+lowest-spec = tie.close (tie.spec cast-result add-result cast-result-2 returns returns-2)

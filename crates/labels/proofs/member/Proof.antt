@@ -1,7 +1,8 @@
-use mathlib.Core.Path.{refl, sym}
-use Rattle.esterel.specs.Sets.{member}
+use mathlib.Core.Path.{sym}
 use Rattle.labels.specs.Labels.{labelSet}
+use Rattle.esterel.specs.Sets.{member}
 use Rattle.theory.proofs.Sets.{member-high}
+use Rattle.sets.proofs.Words.{words-lt, member-low, member-from}
 use borrow.Author.Needs.{needs}
 use Rattle.labels.proofs.member.Statement.{statement}
 use Rattle.labels.proofs.member.Tie as tie
@@ -11,11 +12,21 @@ shr-result c = search needs
 
 returns : tie.Need-returns
 unfolding labelSet member
-returns c = refl
+returns c = member-low 64 _ _ (search needs) _ (c .before .if1 .taken)
+
+cast-result : tie.Need-cast-result
+cast-result c = search needs
+
+shr-result-2 : tie.Need-shr-result-2
+shr-result-2 c = search needs
 
 returns-2 : tie.Need-returns-2
+unfolding labelSet member
+returns-2 c = member-from 64 _ _ (search needs) _ (c .before .before .if1 .left)
+
+returns-3 : tie.Need-returns-3
 unfolding labelSet
-returns-2 c = sym (member-high {w = 64} _ (search needs) (search needs))
+returns-3 c = sym (member-high {w = 128} _ (words-lt 64 _ _ (search needs) 64 (search needs)) (c .if2 .left))
 
 pub member-spec : {M : Type 1} → statement M
-member-spec = tie.close (tie.spec shr-result returns returns-2)
+member-spec = tie.close (tie.spec shr-result returns cast-result shr-result-2 returns-2 returns-3)

@@ -1,12 +1,13 @@
-use mathlib.Core.Path.{refl}
-use Rattle.esterel.specs.Sets.{join}
 use Rattle.labels.specs.Labels.{labelSet}
+use Rattle.esterel.specs.Sets.{join}
+use Rattle.sets.proofs.Words.{words-join}
+use borrow.Author.Needs.{needs}
 use Rattle.labels.proofs.union.Statement.{statement}
 use Rattle.labels.proofs.union.Tie as tie
 
 returns : tie.Need-returns
 unfolding labelSet join
-returns c = refl
+returns c = words-join 64 _ _ _ _ (search needs) (search needs)
 
 pub union-spec : {M : Type 1} → statement M
 union-spec = tie.close (tie.spec returns)

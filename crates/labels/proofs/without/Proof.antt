@@ -1,8 +1,10 @@
 use mathlib.Core.Path.{ap, _∙_}
 use Prim.Native.Nat.{ℕ}
 use lib.Bits.{bitAnd, bitXor}
+use Rattle.sets.specs.Sets.{twoWords}
 use Rattle.labels.specs.Labels.{labelSet}
 use Rattle.sets.proofs.Laws.{difference-only}
+use Rattle.sets.proofs.Words.{words-lt, words-difference}
 use borrow.Author.Needs.{needs}
 use Rattle.labels.proofs.without.Statement.{statement}
 use Rattle.labels.proofs.without.Tie as tie
@@ -12,8 +14,12 @@ single-requires c κs = search needs
 
 returns : tie.Need-returns
 unfolding labelSet
-returns c = let s = c .before .before .before .before .args .s .bits in
-    ap (λ (x : ℕ). bitXor s (bitAnd s x)) (c .before .before .before .single .ensures) ∙ difference-only 64 _ s (search needs)
+returns c =
+    let a = c .before .before .before .before .before .before .before .args in
+    let s = twoWords 64 (a .s .low) (a .s .high) in
+    words-difference 64 (a .s .low) (a .s .high) _ _ (search needs) (search needs)
+    ∙ ap (λ (x : ℕ). bitXor s (bitAnd s x)) (c .before .before .before .before .before .before .single .ensures)
+    ∙ difference-only 128 (a .i) s (words-lt 64 (a .s .low) (a .s .high) (search needs) 64 (search needs))
 
 pub without-spec : {M : Type 1} → statement M
 without-spec = tie.close (tie.spec single-requires returns)

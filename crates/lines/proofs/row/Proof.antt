@@ -1,4 +1,8 @@
-use mathlib.Core.Path.{refl, _∙_}
+use mathlib.Core.Path.{refl, ap₂, _∙_}
+use Rattle.limits.specs.Limits.{wordLabels}
+use Rattle.sets.specs.Sets.{twoWords}
+use Rattle.sets.proofs.Words.{words-of}
+use Rattle.labels.specs.Labels.{labelSet}
 use Rattle.lines.proofs.Lines.{Fields, shown-row}
 use borrow.Author.Needs.{needs}
 use Rattle.lines.proofs.row.Statement.{statement}
@@ -7,8 +11,11 @@ use Rattle.lines.proofs.row.Tie as tie
 labels-requires : tie.Need-labels-requires
 labels-requires c κs = search needs
 
-bits-requires : tie.Need-bits-requires
-bits-requires c κs = search needs
+low-word-requires : tie.Need-low-word-requires
+low-word-requires c κs = search needs
+
+high-word-requires : tie.Need-high-word-requires
+high-word-requires c κs = search needs
 
 emitted-requires : tie.Need-emitted-requires
 emitted-requires c κs = search needs
@@ -52,10 +59,12 @@ returns c =
     let s = c .before .before .before .before .put-sets in
     let g = c .before .before .before .before .before .before in
     let b = g .before .before .before .before in
-    let a = b .before .before .before .before .args in
-    let fields : Fields (a .state .now) (a .answer .now) (b .bits .result) (g .before .before .before .emitted .result) (g .before .before .place .result) (g .before .kind .result) (g .code .result)
+    let a = b .before .before .before .before .before .args in
+    let fields : Fields (a .state .now) (a .answer .now) (twoWords wordLabels (b .before .low-word .result) (b .high-word .result)) (g .before .before .before .emitted .result) (g .before .before .place .result) (g .before .kind .result) (g .code .result)
     = record {
-      labels-are = b .bits .ensures ∙ b .before .labels .ensures;
+      labels-are =
+          ap₂ (twoWords wordLabels) (b .before .low-word .ensures) (b .high-word .ensures)
+          ∙ words-of wordLabels (labelSet (b .before .before .labels .result)) ∙ b .before .before .labels .ensures;
       emitted-are = g .before .before .before .emitted .ensures;
       place-is = g .before .before .place .ensures;
       kind-is = g .before .kind .ensures;
@@ -68,7 +77,8 @@ row-spec =
     tie.close
     (tie.spec
     labels-requires
-    bits-requires
+    low-word-requires
+    high-word-requires
     emitted-requires
     cast-emitted
     place-requires

@@ -4,25 +4,47 @@ use borrow.Author.Needs.{needs}
 use Rattle.matrix.proofs.row.Statement.{statement}
 use Rattle.matrix.proofs.row.Tie as tie
 
-mul-from-bits : tie.Need-mul-from-bits
-mul-from-bits c = search needs
+mul-i : tie.Need-mul-i
+mul-i c = search needs
 
-element-copy-out-from-bits : tie.Need-element-copy-out-from-bits
-element-copy-out-from-bits c = search needs
+mul-from-words : tie.Need-mul-from-words
+mul-from-words c = search needs
 
-from-bits-requires : tie.Need-from-bits-requires
-from-bits-requires c κs = search needs
+element-copy-out-from-words : tie.Need-element-copy-out-from-words
+element-copy-out-from-words c = search needs
+
+add-from-words : tie.Need-add-from-words
+add-from-words c = search needs
+
+mul-from-words-2 : tie.Need-mul-from-words-2
+mul-from-words-2 c = search needs
+
+element-copy-out-from-words-2 : tie.Need-element-copy-out-from-words-2
+element-copy-out-from-words-2 c = search needs
+
+from-words-requires : tie.Need-from-words-requires
+from-words-requires c κs = search needs
 
 empty-requires : tie.Need-empty-requires
 empty-requires c κs = search needs
 
 returns : tie.Need-returns
-returns c = c .from-bits .ensures ∙ row-here 64 _ _ (c .before .before .if1 .taken)
+returns c = c .from-words .ensures ∙ row-here 128 _ _ (c .before .before .before .if1 .taken)
 
 returns-2 : tie.Need-returns-2
-returns-2 c = c .empty .ensures ∙ no-row 64 _ _ (c .before .if1 .left)
+returns-2 c = c .empty .ensures ∙ no-row 128 _ _ (c .before .if1 .left)
 
 pub row-spec : {M : Type 1} → statement M
 row-spec =
     tie.close
-    (tie.spec mul-from-bits element-copy-out-from-bits from-bits-requires empty-requires returns returns-2)
+    (tie.spec
+    mul-i
+    mul-from-words
+    element-copy-out-from-words
+    add-from-words
+    mul-from-words-2
+    element-copy-out-from-words-2
+    from-words-requires
+    empty-requires
+    returns
+    returns-2)

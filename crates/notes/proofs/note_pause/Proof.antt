@@ -1,3 +1,5 @@
+use Prim.Native.Nat.{_%_, _<_}
+use native.Mathlib.Omega.{arith}
 use Rattle.esterel.specs.Sets.{join, only}
 use Rattle.sets.proofs.Laws.{shifted}
 use Rattle.layout.specs.Notes.{notePause}
@@ -5,8 +7,20 @@ use borrow.Author.Needs.{needs}
 use Rattle.notes.proofs.note_pause.Statement.{statement}
 use Rattle.notes.proofs.note_pause.Tie as tie
 
+cast-word : tie.Need-cast-word
+cast-word c = search needs
+
+add-word : tie.Need-add-word
+add-word c = search needs
+
+cast-bit : tie.Need-cast-bit
+cast-bit c = search needs
+
 shl-bit : tie.Need-shl-bit
 shl-bit c = search needs
+
+mul-seen : tie.Need-mul-seen
+mul-seen c = search needs
 
 element-copy-out-seen : tie.Need-element-copy-out-seen
 element-copy-out-seen c = search needs
@@ -20,14 +34,17 @@ element-copy-out-notes c = search needs
 element-write-notes : tie.Need-element-write-notes
 element-write-notes c = search needs
 
+mul-notes : tie.Need-mul-notes
+mul-notes c = search needs
+
 element-write-notes-2 : tie.Need-element-write-notes-2
 element-write-notes-2 c = search needs
 
 add-notes : tie.Need-add-notes
 add-notes c = search needs
 
-mul-notes : tie.Need-mul-notes
-mul-notes c = search needs
+mul-notes-2 : tie.Need-mul-notes-2
+mul-notes-2 c = search needs
 
 element-write-notes-3 : tie.Need-element-write-notes-3
 element-write-notes-3 c = search needs
@@ -40,20 +57,25 @@ element-write-notes-4 c = search needs
 
 returns : tie.Need-returns
 unfolding notePause join only
-returns c = rw (shifted 64 _ (c .before .before .before .pre .0))
+returns c = let h : (c .before .before .before .args .l) % 64 < 64 = omega arith in rw (shifted 64 ((c .before .before .before .args .l) % 64) h)
 
 pub note-pause-spec : {M : Type 1} → statement M
 note-pause-spec =
     tie.close
     (tie.spec
+    cast-word
+    add-word
+    cast-bit
     shl-bit
+    mul-seen
     element-copy-out-seen
     element-copy-out-count
     element-copy-out-notes
     element-write-notes
+    mul-notes
     element-write-notes-2
     add-notes
-    mul-notes
+    mul-notes-2
     element-write-notes-3
     add-notes-2
     element-write-notes-4

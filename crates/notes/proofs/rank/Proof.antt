@@ -13,10 +13,10 @@ element-copy-out-result : tie.Need-element-copy-out-result
 element-copy-out-result c = search needs
 
 returns : tie.Need-returns
-returns c = rw (lt-ltb _ 64 (c .before .if1 .taken))
+returns c = rw (lt-ltb _ 128 (c .before .if1 .taken))
 
 returns-2 : tie.Need-returns-2
-returns-2 c = rw (le-ltb _ 64 (c .if1 .left))
+returns-2 c = rw (le-ltb _ 128 (c .if1 .left))
 
 pub rank-spec : {M : Type 1} → statement M
 rank-spec = tie.close (tie.spec add-result mul-result element-copy-out-result returns returns-2)

@@ -13,7 +13,7 @@ made-requires : tie.Need-made-requires
 made-requires c κs = search needs
 
 returns : tie.Need-returns
-returns c = c .made .ensures ∙ made ended Option.none 1 refl (c .before .empty .ensures) refl refl
+returns c = c .made .ensures ∙ made ended Option.none 1 refl (search needs, c .before .empty .ensures) refl refl
 
 pub ending-spec : {M : Type 1} → statement M
 ending-spec = tie.close (tie.spec empty-requires made-requires returns)

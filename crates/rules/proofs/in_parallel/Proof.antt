@@ -19,7 +19,7 @@ over-two-requires : tie.Need-over-two-requires
 over-two-requires c κs = search needs
 
 returns : tie.Need-returns
-returns c i j a b = par-joins i j _ _ a b _ _ _ _ _ (c .before .before .before .union .ensures) (c .before .before .before .before .greater-of .ensures) (c .over-two .ensures) (c .before .before .union2 .ensures) (c .before .if-waiting .ensures)
+returns c i j a b = par-joins i j _ _ a b _ _ _ _ _ (c .before .before .before .union .ensures) (c .before .before .before .before .greater-of .ensures) (c .over-two .ensures) (c .before .before .union2 .ensures) (search needs, c .before .if-waiting .ensures)
 
 pub in-parallel-spec : {M : Type 1} → statement M
 in-parallel-spec =
