@@ -1,5 +1,5 @@
 /*
- * The check and the tick of document 01, with items 1 and 3 to 6 of 02, as one would write them in C. The check is one
+ * The check and the tick of document 01, with items 1 and 3 to 7 of 02, as one would write them in C. The check is one
  * recursive walk that reads and fills two bit matrices. The tick is a recursion over the read-back set, and inside it over
  * the bytes: it skips a part that does not react, and looks through a part for an active pause before it resumes it.
  */
@@ -8,17 +8,64 @@
 #include <stdbool.h>
 
 enum { NOTHING, PAUSE, EMIT, EXIT, SEQUENCE, PARALLEL, LOOP, PRESENT, SIGNAL, TRY, SETPAUSE, SUSPEND };
-enum { MAX_BYTES = 1024, MAX_DEPTH = 64, MAX_SIGNALS = 6, LABELS = 64, READ_BACK = 65535 };
+enum { MAX_BYTES = 1024, MAX_DEPTH = 64, MAX_SIGNALS = 6, LABELS = 128, READ_BACK = 65535 };
 
 static const struct { uint8_t parts, operands, low, high; } commands[] = {
-    [PAUSE] = {0, 1, 0, 63},   [EMIT] = {0, 1, 0, 31},   [EXIT] = {0, 1, 1, 15},   [SEQUENCE] = {2, 0, 0, 0},
-    [PARALLEL] = {2, 0, 0, 0}, [LOOP] = {1, 0, 0, 0},    [PRESENT] = {2, 1, 0, 31}, [SIGNAL] = {1, 1, 0, 31},
-    [TRY] = {1, 0, 0, 0},      [SETPAUSE] = {0, 1, 0, 63}, [SUSPEND] = {1, 1, 0, 31},
+    [PAUSE] = {0, 1, 0, LABELS - 1},    [EMIT] = {0, 1, 0, 31},    [EXIT] = {0, 1, 1, 15},
+    [SEQUENCE] = {2, 0, 0, 0},          [PARALLEL] = {2, 0, 0, 0}, [LOOP] = {1, 0, 0, 0},
+    [PRESENT] = {2, 1, 0, 31},          [SIGNAL] = {1, 1, 0, 31},  [TRY] = {1, 0, 0, 0},
+    [SETPAUSE] = {0, 1, 0, LABELS - 1}, [SUSPEND] = {1, 1, 0, 31},
 };
+
+/* A set of labels: 0 to 63, and 64 to 127. */
+struct set {
+    uint64_t low, high;
+};
+
+static struct set only(uint8_t label)
+{
+    uint64_t bit = UINT64_C(1) << label % 64;
+    return label < 64 ? (struct set){bit, 0} : (struct set){0, bit};
+}
+
+static bool has(struct set a, uint8_t label)
+{
+    return (label < 64 ? a.low : a.high) >> label % 64 & 1;
+}
+
+static struct set join(struct set a, struct set b)
+{
+    return (struct set){a.low | b.low, a.high | b.high};
+}
+
+static bool empty(struct set a)
+{
+    return (a.low | a.high) == 0;
+}
+
+/* Do they share a label? */
+static bool meet(struct set a, struct set b)
+{
+    return ((a.low & b.low) | (a.high & b.high)) != 0;
+}
+
+static bool within(struct set a, struct set b)
+{
+    return ((a.low & ~b.low) | (a.high & ~b.high)) == 0;
+}
+
+/* Takes the lowest label out of a set that is not empty. */
+static unsigned take(struct set *a)
+{
+    uint64_t *word = a->low != 0 ? &a->low : &a->high;
+    unsigned label = (unsigned)__builtin_ctzll(*word) + (a->low != 0 ? 0 : 64);
+    *word &= *word - 1;
+    return label;
+}
 
 /* The labels in a statement; its triggers are its pauses and its setpauses. */
 struct labels {
-    uint64_t pauses, triggers;
+    struct set pauses, triggers;
 };
 
 struct check {
@@ -26,23 +73,38 @@ struct check {
     uint8_t number;                /* row 3 to 6 if one holds */
     bool twice;                    /* row 8 */
     unsigned nested;               /* the most signals around a command */
-    uint64_t pauses;               /* those read so far */
-    uint64_t exclusive[LABELS];    /* bit l of row k, and bit k of row l: the pauses k and l are exclusive */
-    uint64_t compatible[LABELS];   /* bit l of row k: a trigger k is compatible with a later trigger l */
+    struct set pauses, triggers;   /* those read so far; a row of the matrices is cleared with its first trigger */
+    struct set exclusive[LABELS];  /* l in row k, and k in row l: the pauses k and l are exclusive */
+    struct set compatible[LABELS]; /* l in row k: a trigger k is compatible with a later trigger l */
 };
+
+static const struct set no_labels;
+static const struct labels neither;
 
 static struct labels refuse(struct check *c, uint8_t number)
 {
     c->number = number;
-    return (struct labels){0, 0};
+    return neither;
 }
 
-static void add(uint64_t *matrix, uint64_t rows, uint64_t columns)
+static void add(struct set *matrix, struct set rows, struct set columns)
 {
-    if (columns == 0)
+    if (empty(columns))
         return;
-    for (; rows != 0; rows &= rows - 1)
-        matrix[__builtin_ctzll(rows)] |= columns;
+    while (!empty(rows)) {
+        unsigned row = take(&rows);
+        matrix[row] = join(matrix[row], columns);
+    }
+}
+
+/* A trigger is read: gives its label alone. */
+static struct set trigger(struct check *c, uint8_t label)
+{
+    struct set own = only(label);
+    if (!has(c->triggers, label))
+        c->exclusive[label] = c->compatible[label] = no_labels;
+    c->triggers = join(c->triggers, own);
+    return own;
 }
 
 static struct labels statement(struct check *c, unsigned depth, unsigned signals);
@@ -59,7 +121,7 @@ static struct labels both(struct check *c, uint8_t byte, unsigned depth, unsigne
         add(c->exclusive, p.pauses, q.pauses);
         add(c->exclusive, q.pauses, p.pauses);
     }
-    return (struct labels){p.pauses | q.pauses, p.triggers | q.triggers};
+    return (struct labels){join(p.pauses, q.pauses), join(p.triggers, q.triggers)};
 }
 
 /* Reads the statement that begins at c->next, whose command stands at this depth inside so many signals. */
@@ -80,14 +142,15 @@ static struct labels statement(struct check *c, unsigned depth, unsigned signals
     if (depth > MAX_DEPTH || (byte == SIGNAL && signals == MAX_SIGNALS))
         return refuse(c, 6);
 
-    uint64_t label = UINT64_C(1) << (operand & 63);
+    struct set label;
     switch (byte) {
     case PAUSE:
-        c->twice |= (c->pauses & label) != 0;
-        c->pauses |= label;
+        label = trigger(c, operand);
+        c->twice |= has(c->pauses, operand);
+        c->pauses = join(c->pauses, label);
         return (struct labels){label, label};
     case SETPAUSE:
-        return (struct labels){0, label};
+        return (struct labels){no_labels, trigger(c, operand)};
     case SEQUENCE:
     case PARALLEL:
     case PRESENT:
@@ -101,7 +164,7 @@ static struct labels statement(struct check *c, unsigned depth, unsigned signals
             c->nested = signals + 1;
         return statement(c, depth + 1, signals + 1);
     default:
-        return (struct labels){0, 0};
+        return neither;
     }
 }
 
@@ -110,8 +173,13 @@ static uint8_t check(struct check *c, const uint8_t *sequence, size_t length, ui
 {
     if (length == 0 || length > MAX_BYTES)
         return 2;
-    *c = (struct check){.next = sequence, .end = sequence + length};
-    struct labels all = statement(c, 1, 0);
+    c->next = sequence;
+    c->end = sequence + length;
+    c->number = 0;
+    c->twice = false;
+    c->nested = 0;
+    c->pauses = c->triggers = no_labels;
+    statement(c, 1, 0);
     if (c->number != 0)
         return c->number;
     if ((unsigned)__builtin_popcount(read_back) + c->nested > MAX_SIGNALS)
@@ -120,11 +188,13 @@ static uint8_t check(struct check *c, const uint8_t *sequence, size_t length, ui
         return 7;
     if (c->twice)
         return 8;
-    if ((all.triggers & ~all.pauses) != 0)
+    if (!within(c->triggers, c->pauses))
         return 9;
-    for (uint64_t rest = all.pauses; rest != 0; rest &= rest - 1)
-        if ((c->exclusive[__builtin_ctzll(rest)] & c->compatible[__builtin_ctzll(rest)]) != 0)
+    for (struct set rest = c->pauses; !empty(rest);) {
+        unsigned row = take(&rest);
+        if (meet(c->exclusive[row], c->compatible[row]))
             return 10;
+    }
     return 0;
 }
 
@@ -134,12 +204,12 @@ uint8_t plain_check(const uint8_t *sequence, size_t length, uint32_t read_back)
     return check(&c, sequence, length, read_back);
 }
 
-enum { STATE_BYTES = 9, ANSWER_BYTES = 12 };
+enum { STATE_BYTES = 17, ANSWER_BYTES = 12 };
 enum { FRESH, WAITS, OVER };
 enum { ENDED = 0, WAITING = 1, CAUGHT = 2, WRONG = 255 };
 
 struct reaction {
-    uint64_t labels;
+    struct set labels;
     uint32_t emitted;
     uint8_t code;
 };
@@ -147,7 +217,7 @@ struct reaction {
 struct instant {
     const uint8_t *sequence;
     const uint8_t *next; /* the statement to react */
-    uint64_t active;     /* the labels of the state */
+    struct set active;   /* the labels of the state */
     uint32_t reactions;  /* those so far, both runs of each signal */
     uint16_t place;      /* the first error; there is one exactly if the instant is wrong */
     uint8_t kind;
@@ -173,7 +243,7 @@ static bool skip(struct instant *t)
     for (unsigned missing = 1; missing > 0; missing--) {
         uint8_t byte = *t->next++;
         if (byte == PAUSE)
-            found |= t->active >> *t->next & 1;
+            found |= has(t->active, *t->next);
         t->next += commands[byte].operands;
         missing += commands[byte].parts;
     }
@@ -187,13 +257,13 @@ static bool active(const struct instant *t)
 }
 
 /* Moves past a stopped statement; which of its labels are active? A skip that told this would slow down every instant. */
-static uint64_t kept(struct instant *t)
+static struct set kept(struct instant *t)
 {
-    uint64_t labels = 0;
+    struct set labels = no_labels;
     for (unsigned missing = 1; missing > 0; missing--) {
         uint8_t byte = *t->next++;
-        if (byte == PAUSE)
-            labels |= t->active & UINT64_C(1) << *t->next;
+        if (byte == PAUSE && has(t->active, *t->next))
+            labels = join(labels, only(*t->next));
         t->next += commands[byte].operands;
         missing += commands[byte].parts;
     }
@@ -203,7 +273,7 @@ static uint64_t kept(struct instant *t)
 static struct reaction parallel(struct reaction p, struct reaction q)
 {
     uint8_t code = p.code > q.code ? p.code : q.code;
-    uint64_t labels = code == WAITING ? p.labels | q.labels : 0;
+    struct set labels = code == WAITING ? join(p.labels, q.labels) : no_labels;
     return (struct reaction){labels, p.emitted | q.emitted, code};
 }
 
@@ -291,9 +361,9 @@ static struct reaction react(struct instant *t, uint32_t present)
     switch (*command) {
     case PAUSE:
     case SETPAUSE:
-        return (struct reaction){UINT64_C(1) << operand, 0, WAITING};
+        return (struct reaction){only(operand), 0, WAITING};
     case EMIT:
-        return (struct reaction){0, UINT32_C(1) << operand, ENDED};
+        return (struct reaction){.emitted = UINT32_C(1) << operand, .code = ENDED};
     case EXIT:
         return (struct reaction){.code = operand + 1};
     case SEQUENCE:
@@ -382,12 +452,12 @@ static void put(uint8_t *bytes, unsigned count, uint64_t value)
 }
 
 /* Rows 11 and 12. */
-static uint8_t check_state(const struct check *c, uint8_t phase, uint64_t labels)
+static uint8_t check_state(const struct check *c, uint8_t phase, struct set labels)
 {
-    if (phase > OVER || (labels == 0) != (phase != WAITS) || (labels & ~c->pauses) != 0)
+    if (phase > OVER || empty(labels) != (phase != WAITS) || !within(labels, c->pauses))
         return 11;
-    for (uint64_t rest = labels; rest != 0; rest &= rest - 1)
-        if ((c->exclusive[__builtin_ctzll(rest)] & labels) != 0)
+    for (struct set rest = labels; !empty(rest);)
+        if (meet(c->exclusive[take(&rest)], labels))
             return 11;
     return phase == OVER ? 12 : 0;
 }
@@ -401,14 +471,15 @@ uint8_t plain_tick(const uint8_t *sequence, size_t sequence_length, uint8_t *sta
     uint8_t number = check(&c, sequence, sequence_length, read_back);
     if (number != 0)
         return number;
-    struct instant t = {.sequence = sequence, .active = get(state + 1, 8)};
+    struct instant t = {.sequence = sequence, .active = {get(state + 1, 8), get(state + 9, 8)}};
     number = check_state(&c, state[0], t.active);
     if (number != 0)
         return number;
 
     struct reaction r = declared(&t, state[0] == FRESH ? react : resume, read_back, input);
     state[0] = r.code == WAITING ? WAITS : OVER;
-    put(state + 1, 8, r.labels);
+    put(state + 1, 8, r.labels.low);
+    put(state + 9, 8, r.labels.high);
     answer[0] = r.code;
     answer[1] = t.kind;
     put(answer + 2, 2, t.place);

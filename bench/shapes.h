@@ -7,7 +7,10 @@
 #include <stdint.h>
 #include <string.h>
 
-enum { CAPACITY = 1024, LABELS = 64, SIGNALS = 6 };
+enum { CAPACITY = 1024, LABELS = 128, SIGNALS = 6 };
+
+/* The bytes of a pause for each label and of their joins. */
+enum { PAUSES = 3 * LABELS - 1 };
 
 /* The input of an instant that is timed has the even signals: one that it gives, and one that it does not give. */
 enum { INPUT = 0x55555555, PRESENT = 2, ABSENT = 1 };
@@ -18,7 +21,7 @@ struct shape {
     const char *joins;  /* commands with two parts */
     const char *wraps;  /* commands with one part, put around joins; there may be none */
     const char *leaves; /* commands without parts */
-    const char *last;   /* those of the last 191 bytes, which 64 pauses and their joins fill, or of the second half */
+    const char *last;   /* those of the last bytes, which all pauses and their joins fill, or of the second half */
     unsigned share;     /* one part gets one share-th of the bytes: 2 gives a balanced tree, 12 a long chain */
     bool second;        /* that part is the second */
     bool random;
@@ -54,7 +57,7 @@ static inline void put(struct builder *b, size_t byte)
 /* A setpause begins as an emit; the check's benchmark turns it into one when all pauses are there. */
 static inline void leaf(struct builder *b)
 {
-    size_t last = b->wanted / 2 < 191 ? b->wanted / 2 : 191;
+    size_t last = b->wanted / 2 < PAUSES ? b->wanted / 2 : PAUSES;
     uint8_t byte = next(b, b->wanted - b->length <= last ? b->shape->last : b->shape->leaves);
     if (byte == 0x0A)
         b->setpauses[b->setpause_count++] = b->length;

@@ -22,10 +22,10 @@ struct bay {
     uint8_t answer[INTAKE_ANSWER_LENGTH];
 };
 
-/* The number in `count` bytes, at most 8, lowest first. */
-static uint64_t number_in(const uint8_t *bytes, size_t count)
+/* The number in `count` bytes, at most 4, lowest first. */
+static uint32_t number_in(const uint8_t *bytes, size_t count)
 {
-    uint64_t number = 0;
+    uint32_t number = 0;
     while (count > 0)
         number = number << 8 | bytes[--count];
     return number;
@@ -37,14 +37,23 @@ static uint8_t tick(struct bay *bay, uint32_t input)
                        sizeof bay->answer);
 }
 
+/* A set in hexadecimal digits: its bytes are lowest first, the digits highest first. */
+static void print_set(const uint8_t *bytes, size_t count)
+{
+    while (count > 0)
+        printf("%02x", (unsigned)bytes[--count]);
+}
+
 /* A line of the listing. A host that steers a plant acts on the code and the emitted set here instead. */
 static void print_instant(size_t instant, const struct bay *bay)
 {
     const uint8_t *answer = bay->answer;
-    printf("%zu %u %u %" PRIu64 " %08" PRIx64 " %016" PRIx64 "\n", instant, (unsigned)answer[INTAKE_ANSWER_CODE],
-           (unsigned)answer[INTAKE_ANSWER_KIND], number_in(answer + INTAKE_ANSWER_PLACE, INTAKE_ANSWER_PLACE_LENGTH),
-           number_in(answer + INTAKE_ANSWER_EMITTED, INTAKE_ANSWER_EMITTED_LENGTH),
-           number_in(bay->state + INTAKE_STATE_LABELS, INTAKE_STATE_LABELS_LENGTH));
+    printf("%zu %u %u %" PRIu32 " ", instant, (unsigned)answer[INTAKE_ANSWER_CODE], (unsigned)answer[INTAKE_ANSWER_KIND],
+           number_in(answer + INTAKE_ANSWER_PLACE, INTAKE_ANSWER_PLACE_LENGTH));
+    print_set(answer + INTAKE_ANSWER_EMITTED, INTAKE_ANSWER_EMITTED_LENGTH);
+    putchar(' ');
+    print_set(bay->state + INTAKE_STATE_LABELS, INTAKE_STATE_LABELS_LENGTH);
+    putchar('\n');
 }
 
 /* Checks the sequence once, then ticks until the machine is over or the inputs are used up. */
@@ -61,7 +70,7 @@ static void run(const uint8_t *sequence, size_t length, uint32_t read_back, cons
     for (size_t i = 0; i < instants; i++) {
         /* After the last instant the answer is INTAKE_OVER. No other number comes from a checked sequence whose
          * state record only the tick has written. */
-        if (tick(&bay, (uint32_t)number_in(inputs + i * INPUT_BYTES, INPUT_BYTES)) != INTAKE_ACCEPTED)
+        if (tick(&bay, number_in(inputs + i * INPUT_BYTES, INPUT_BYTES)) != INTAKE_ACCEPTED)
             break;
         print_instant(i + 1, &bay);
     }
@@ -70,13 +79,13 @@ static void run(const uint8_t *sequence, size_t length, uint32_t read_back, cons
 
 static void run_file(const uint8_t *file, size_t count)
 {
-    size_t length = count < LENGTH_BYTES ? 0 : (size_t)number_in(file, LENGTH_BYTES);
+    size_t length = count < LENGTH_BYTES ? 0 : number_in(file, LENGTH_BYTES);
     size_t end = LENGTH_BYTES + length; /* of the sequence */
     size_t start = end + READ_BACK_BYTES; /* of the inputs */
     if (count > MAX_FILE || count < start || (count - start) % INPUT_BYTES != 0)
         puts("input cut");
     else
-        run(file + LENGTH_BYTES, length, (uint32_t)number_in(file + end, READ_BACK_BYTES), file + start,
+        run(file + LENGTH_BYTES, length, number_in(file + end, READ_BACK_BYTES), file + start,
             (count - start) / INPUT_BYTES);
 }
 

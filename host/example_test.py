@@ -15,10 +15,12 @@ from pathlib import Path
 
 ROOT = Path(__file__).resolve().parent.parent
 HEADER = "instant code kind place emitted labels\n"
-WORKED = """\
+NONE = 32 * "0"  # of the labels
+ZERO = 31 * "0" + "1"  # label 0 alone
+WORKED = f"""\
 instant code kind place emitted labels
-1 1 0 0 00000000 0000000000000002
-2 0 0 0 00000002 0000000000000000
+1 1 0 0 00000000 00000000000000000000000000000002
+2 0 0 0 00000002 {NONE}
 end
 """
 CUT = "input cut\n"
@@ -41,6 +43,14 @@ def run_file(sequence, instants=0, length=None, read_back=0):
     return length.to_bytes(2, "little") + sequence + read_back.to_bytes(4, "little") + bytes(4 * instants)
 
 
+def side_by_side(labels):
+    """A pause for each label, in parallel."""
+    if len(labels) == 1:
+        return bytes([0x01, labels[0]])
+    half = len(labels) // 2
+    return b"\x05" + side_by_side(labels[:half]) + side_by_side(labels[half:])
+
+
 def documented():
     """The run files of the examples with the listings that their pages show."""
     shown = {}
@@ -55,10 +65,10 @@ def documented():
 
 
 def edges():
-    """Run files at the edges of document 01, 'Bays to run', and of 02, item 5."""
+    """Run files at the edges of document 01, 'Bays to run', and of 02, items 5 and 7."""
     worked = run_file(bytes.fromhex("08000402000401010201"), 2)
     sustain = bytes.fromhex("060402050100")  # loop (emit 5; pause, label 0)
-    line = "{} 1 0 0 00000020 0000000000000001\n"
+    line = "{} 1 0 0 00000020 " + ZERO + "\n"
     yield "the worked example of 01", worked, WORKED
     yield "no byte", b"", CUT
     yield "one byte", b"\x01", CUT
@@ -83,7 +93,7 @@ def edges():
     yield "length 0", run_file(b""), "refused 2\n"
     yield "length 0 and an instant", run_file(b"", 1), "refused 2\n"
     longest = bytes.fromhex("04" + "0400" * 15 + "0200") * 31 + b"\0"  # 31 sequences of nothing that end with emit 0
-    yield "length 1,024", run_file(longest, 1), HEADER + "1 0 0 0 00000001 0000000000000000\nend\n"
+    yield "length 1,024", run_file(longest, 1), HEADER + f"1 0 0 0 00000001 {NONE}\nend\n"
     yield "length 1,024 and no instants", run_file(longest), HEADER + "end\n"
     yield "length 1,025", run_file(bytes(1025), 1), "refused 2\n"
     yield "length 65,530", run_file(bytes(65530)), "refused 2\n"
@@ -101,15 +111,21 @@ def edges():
     opens = bytes.fromhex("060402080407080209000100")  # loop (emit 8; (present 8 then emit 9 else nothing); pause 0)
     for set_of, emitted in (0x100, "00000300"), (0, "00000100"), (0x300, "00000300"), (1, "00000100"):
         yield f"valve open, reads {set_of:x}", run_file(opens, 2, read_back=set_of), (
-            HEADER + f"1 1 0 0 {emitted} 0000000000000001\n2 1 0 0 {emitted} 0000000000000001\nend\n")
+            HEADER + f"1 1 0 0 {emitted} {ZERO}\n2 1 0 0 {emitted} {ZERO}\nend\n")
     yield "wrong outside", run_file(bytes.fromhex("0401000708000208"), 2, read_back=0x100), (
-        HEADER + "1 1 0 0 00000000 0000000000000001\n2 255 2 65535 00000000 0000000000000000\nend\n")
+        HEADER + f"1 1 0 0 00000000 {ZERO}\n2 255 2 65535 00000000 {NONE}\nend\n")
     given = run_file(bytes.fromhex("070802090200"), read_back=0x100) + b"\xff" * 4  # the host's 8 is ignored
-    yield "every bit of the host's", given, HEADER + "1 0 0 0 00000001 0000000000000000\nend\n"
+    yield "every bit of the host's", given, HEADER + f"1 0 0 0 00000001 {NONE}\nend\n"
     yield "a wrong instant", run_file(bytes.fromhex("04010008000700000200"), 3), (
-        HEADER + "1 1 0 0 00000000 0000000000000001\n2 255 2 3 00000000 0000000000000000\nend\n")
-    yield "every bit", run_file(bytes.fromhex("0404021f013f071f0200020f")) + b"\xff" * 8, (
-        HEADER + "1 1 0 0 80000000 8000000000000000\n2 0 0 0 00000001 0000000000000000\nend\n")
+        HEADER + f"1 1 0 0 00000000 {ZERO}\n2 255 2 3 00000000 {NONE}\nend\n")
+    yield "every bit", run_file(bytes.fromhex("0404021f017f071f0200020f")) + b"\xff" * 8, (
+        HEADER + f"1 1 0 0 80000000 8{NONE[1:]}\n2 0 0 0 00000001 {NONE}\nend\n")
+    for sequence, labels in [(bytes.fromhex("05017f0140"), "80000000000000010000000000000000"),
+                             (bytes.fromhex("05013f0140"), "00000000000000018000000000000000"),
+                             (side_by_side(range(128)), 32 * "f"), (side_by_side(range(0, 128, 4)), 32 * "1")]:
+        yield f"labels {labels}", run_file(sequence, 2), (
+            HEADER + f"1 1 0 0 00000000 {labels}\n2 0 0 0 00000000 {NONE}\nend\n")
+    yield "label 128", run_file(b"\x01\x80", 1), "refused 5\n"
 
 
 def damaged(files):

@@ -10,7 +10,7 @@
 #include <string.h>
 #include <ucontext.h>
 
-enum { STACK = 65536, PAINT = 0xA5, LEVELS = 63, HATCH = 31, MOST = 18432 };
+enum { STACK = 65536, PAINT = 0xA5, LEVELS = 63, HATCH = 31, MOST = 24576 };
 
 static uint8_t stack[STACK], sequence[1024], state[INTAKE_STATE_LENGTH], answer[INTAKE_ANSWER_LENGTH];
 static size_t length;

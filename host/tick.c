@@ -68,9 +68,9 @@ static void run_in(const struct tick *t, const uint8_t *sequence, uint8_t *state
     expect(number == t->number && same, number, where, line);
 }
 
-static bool all(const uint8_t *bytes, uint8_t value)
+static bool all(const uint8_t *bytes, size_t count, uint8_t value)
 {
-    for (int i = 0; i < GUARD; i++)
+    for (size_t i = 0; i < count; i++)
         if (bytes[i] != value)
             return false;
     return true;
@@ -88,9 +88,9 @@ static void between_guards(const struct tick *t, size_t gap, uint8_t guard, cons
     memcpy(state, t->state.at, t->state.count);
     memcpy(answer, t->answer.at, t->answer.count);
     run_in(t, sequence, state, answer, gap == 0 ? "no gaps" : "guards", line);
-    bool kept = all(buffer, guard) && all(end, guard);
+    bool kept = all(buffer, GUARD, guard) && all(end, GUARD, guard);
     if (gap != 0)
-        kept = kept && all(state - gap, guard) && all(answer - gap, guard);
+        kept = kept && all(state - gap, gap, guard) && all(answer - gap, gap, guard);
     expect(kept, t->number, "the guards", line);
 }
 
@@ -162,6 +162,47 @@ static void read_back(void)
            number, "a place outside", "read-back\n");
 }
 
+/* Writes a pause for each of `count` labels from `label` on, side by side, and returns their end. */
+static uint8_t *side_by_side(uint8_t *at, unsigned label, unsigned count)
+{
+    if (count == 1) {
+        *at++ = 0x01;
+        *at++ = (uint8_t)label;
+        return at;
+    }
+    *at++ = 0x05;
+    return side_by_side(side_by_side(at, label, count / 2), label + count / 2, count - count / 2);
+}
+
+/* All labels at once: every bit of the set, then none; each label alone is a state of its own. */
+static void every_label(void)
+{
+    enum { LABELS = 8 * INTAKE_STATE_LABELS_LENGTH };
+    uint8_t sequence[3 * LABELS - 1], state[INTAKE_STATE_LENGTH] = {0}, answer[INTAKE_ANSWER_LENGTH];
+    uint8_t *labels = state + INTAKE_STATE_LABELS;
+    size_t length = (size_t)(side_by_side(sequence, 0, LABELS) - sequence);
+    uint8_t number = intake_tick(sequence, length, state, sizeof state, 0, 0, answer, sizeof answer);
+    expect(number == INTAKE_ACCEPTED && answer[INTAKE_ANSWER_CODE] == INTAKE_WAITING &&
+               state[INTAKE_STATE_PHASE] == INTAKE_PHASE_WAITING && all(labels, INTAKE_STATE_LABELS_LENGTH, 0xFF),
+           number, "all wait", "labels\n");
+    number = intake_tick(sequence, length, state, sizeof state, 0, 0, answer, sizeof answer);
+    expect(number == INTAKE_ACCEPTED && answer[INTAKE_ANSWER_CODE] == INTAKE_ENDED &&
+               state[INTAKE_STATE_PHASE] == INTAKE_PHASE_OVER && all(labels, INTAKE_STATE_LABELS_LENGTH, 0x00),
+           number, "all end", "labels\n");
+    for (unsigned label = 0; label < LABELS; label++) {
+        const uint8_t pause[] = {0x01, (uint8_t)label};
+        memset(state, 0, sizeof state);
+        number = intake_tick(pause, sizeof pause, state, sizeof state, 0, 0, answer, sizeof answer);
+        bool alone = labels[label / 8] == 1 << label % 8;
+        labels[label / 8] = 0;
+        expect(number == INTAKE_ACCEPTED && alone && all(labels, INTAKE_STATE_LABELS_LENGTH, 0x00), number, "one label",
+               "labels\n");
+    }
+    const uint8_t outside[] = {0x01, LABELS};
+    number = intake_check(outside, sizeof outside, 0);
+    expect(number == INTAKE_OPERAND_RANGE, number, "label 128", "labels\n");
+}
+
 static void null_pointers(void)
 {
     uint8_t state[INTAKE_STATE_LENGTH] = {0}, answer[INTAKE_ANSWER_LENGTH];
@@ -181,6 +222,7 @@ int main(int argc, char **argv)
     each_line(argc == 2 ? argv[1] : NULL, run);
     listing();
     read_back();
+    every_label();
     null_pointers();
     return verdict();
 }

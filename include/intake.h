@@ -16,11 +16,11 @@ extern "C" {
  */
 enum intake_number {
     INTAKE_ACCEPTED = 0,                /* accepted */
-    INTAKE_BUFFER_LENGTH = 1,           /* state buffer not 9 bytes, or answer buffer not 12 */
+    INTAKE_BUFFER_LENGTH = 1,           /* state buffer not 17 bytes, or answer buffer not 12 */
     INTAKE_SEQUENCE_LENGTH = 2,         /* sequence of no bytes or over 1,024 */
     INTAKE_UNKNOWN_COMMAND = 3,         /* command byte above 0B */
     INTAKE_CUT_SHORT = 4,               /* operand or statement missing at the end */
-    INTAKE_OPERAND_RANGE = 5,           /* operand outside its range */
+    INTAKE_OPERAND_RANGE = 5,           /* operand outside its range: from label 128, signal 32, exit 16 on; exit 0 */
     INTAKE_TOO_DEEP = 6,                /* depth over 64, or a seventh signal inside six, read-back ones counted */
     INTAKE_BYTES_AFTER = 7,             /* bytes after the statement */
     INTAKE_PAUSE_TWICE = 8,             /* two pauses with one label */
@@ -31,15 +31,16 @@ enum intake_number {
 };
 
 /*
- * The state record: where its fields begin, and their bytes. A machine starts by clearing its record: nine bytes 00 are
- * the record of a fresh machine. The label set names the pauses that the next instant resumes; byte 0 of it holds the
- * labels 0 to 7, label 0 in the lowest bit. It is empty unless the phase is INTAKE_PHASE_WAITING.
+ * The state record: where its fields begin, and their bytes: the phase, then a bit for each of the labels 0 to 127. A
+ * machine starts by clearing its record: seventeen bytes 00 are the record of a fresh machine. The label set names the
+ * pauses that the next instant resumes; byte 0 of it holds the labels 0 to 7, label 0 in the lowest bit, and byte 15 the
+ * labels 120 to 127. It is empty unless the phase is INTAKE_PHASE_WAITING.
  */
 enum intake_state {
     INTAKE_STATE_PHASE = 0,
     INTAKE_STATE_LABELS = 1,
-    INTAKE_STATE_LABELS_LENGTH = 8,
-    INTAKE_STATE_LENGTH = 9
+    INTAKE_STATE_LABELS_LENGTH = 16,
+    INTAKE_STATE_LENGTH = 17
 };
 
 enum intake_phase {

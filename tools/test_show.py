@@ -22,16 +22,17 @@ ROOT = Path(__file__).resolve().parent.parent
 SHOW = ROOT / "tools" / "show"
 SEQUENCES, RUNS, DAMAGED, GARBAGE = 400, 150, 1500, 600
 HEADER = "instant code kind place emitted labels\n"
+NO_LABELS = 32 * "0"
 WORDS = {0: "nothing", 1: "pause, label {}", 2: "emit {}", 3: "exit {}", 4: "…; then …", 5: "… in parallel with …",
          6: "loop …", 7: "present {} then … else …", 8: "signal {} in …", 9: "try …", 10: "setpause {}",
          11: "suspend … when {}"}
-RANGES = {1: range(64), 2: range(32), 3: range(1, 16), 7: range(32), 8: range(32), 10: range(64), 11: range(32)}
+RANGES = {1: range(128), 2: range(32), 3: range(1, 16), 7: range(32), 8: range(32), 10: range(128), 11: range(32)}
 PARTS = {4: 2, 5: 2, 6: 1, 7: 2, 8: 1, 9: 1, 11: 1}
 
 WORKED = bytes.fromhex("0a00 08000402000401010201 00000000 0000000000000000")
 WORKED_LISTING = HEADER + """\
-1 1 0 0 00000000 0000000000000002
-2 0 0 0 00000002 0000000000000000
+1 1 0 0 00000000 00000000000000000000000000000002
+2 0 0 0 00000002 00000000000000000000000000000000
 end
 """
 WORKED_SHOWN = """\
@@ -53,7 +54,7 @@ code       1 0
 instant 2: ended
 """
 VALVE = bytes.fromhex("0800 0402080708020900 00010001 00000000")  # with 24, which is in no command, the highest of the set
-VALVE_LISTING = HEADER + "1 0 0 0 00000300 0000000000000000\nend\n"
+VALVE_LISTING = HEADER + f"1 0 0 0 00000300 {NO_LABELS}\nend\n"
 VALVE_SHOWN = """\
 reads back 8, 24
 place  bytes  command
@@ -71,6 +72,23 @@ emitted  9 #
 code       0
 
 instant 1: ended
+"""
+FAR = bytes.fromhex("0500 05017f0140 00000000 0000000000000000")
+FAR_LISTING = HEADER + f"1 1 0 0 00000000 80000000000000010000000000000000\n2 0 0 0 00000000 {NO_LABELS}\nend\n"
+FAR_SHOWN = """\
+place  bytes  command
+    0  05     … in parallel with …
+    1  01 7F    pause, label 127
+    3  01 40    pause, label 64
+
+ceiling: 3 × 1 × 1 = 3 reactions (commands 3, around one: loops 0, signals 0)
+
+instant    1 2
+label   64 # .
+label  127 # .
+code       1 0
+
+instant 2: ended
 """
 TOPPING_SHOWN = """
 ceiling: 18 × 2 × 1 = 36 reactions (commands 18, around one: loops 1, signals 0)
@@ -408,7 +426,7 @@ def sets_of(data, listing):
     rows = {}
     for instant, line in enumerate(lines, 1):
         for kind, members in ("input", inputs[instant - 1]), ("emitted", int(line[4], 16)), ("label", int(line[5], 16)):
-            for number in range(64):
+            for number in range(128):
                 if members >> number & 1:
                     rows.setdefault((kind, number), set()).add(instant)
     return rows, [int(line[1]) for line in lines], len(lines)
@@ -444,6 +462,9 @@ def test_examples():
     expect(names == {path.name for path in (ROOT / "examples").glob("*.bin")}, f"every example has a page: {names}")
     expect(show(data=WORKED, listing=WORKED_LISTING) == (0, WORKED_SHOWN, ""), "the worked example of 01")
     expect(show(data=VALVE, listing=VALVE_LISTING) == (0, VALVE_SHOWN, ""), "a signal read back")
+    expect(show(data=FAR, listing=FAR_LISTING) == (0, FAR_SHOWN, ""), "labels above 63")
+    expect_pictures(FAR, FAR_LISTING, "labels above 63")
+    expect_damage(show("--sequence", data=b"\x01\x80"), r"operand 128 is outside 0 to 127 \(row 5\)", "label 128")
 
 
 def random_run():
@@ -469,7 +490,7 @@ def random_run():
             code, labels = rng.choice([0, 2, 16, 255 if erring else 0]), 0
         if code == 255:
             emitted, (kind, place) = 0, rng.choice(erring)
-        listing += f"{instant} {code} {kind} {place} {emitted:08x} {labels:016x}\n"
+        listing += f"{instant} {code} {kind} {place} {emitted:08x} {labels:032x}\n"
     words = [sum(1 << signal for signal in signals), *inputs]
     run = len(data).to_bytes(2, "little") + data + b"".join(word.to_bytes(4, "little") for word in words)
     return run, listing + "end\n", listed == 0 and count > 0
@@ -511,19 +532,20 @@ def test_damaged_runs():
     one, two = WORKED_LISTING.splitlines()[1:3]
     for old, new in [
         ("instant code", "instant  code"), ("end\n", ""), ("end\n", "end"), ("end\n", "end\nend\n"), ("end\n", "\nend\n"),
-        (one + "\n", ""), (two + "\n", ""), (two, two + "\n3 0 0 0 00000000 0000000000000000"), (one, one + " "),
-        (two, "2 1 0 0 00000002 0000000000000000"), (one, "1 0 0 0 00000000 0000000000000000"), (one, "1" + one),
-        (one, "1 1 0 0 00000000 0000000000000004"), (two, "2 0 0 0 00000004 0000000000000000"),
-        (two, "2 17 0 0 00000002 0000000000000000"), (two, "2 0 1 0 00000002 0000000000000000"),
-        (two, "2 255 2 2 00000000 0000000000000000"), (two, "2 255 1 0 00000000 0000000000000000"),
-        (two, "2 255 2 0 00000002 0000000000000000"), (two, "2 255 0 0 00000000 0000000000000000"),
+        (one + "\n", ""), (two + "\n", ""), (two, f"{two}\n3 0 0 0 00000000 {NO_LABELS}"), (one, one + " "),
+        (two, f"2 1 0 0 00000002 {NO_LABELS}"), (one, f"1 0 0 0 00000000 {NO_LABELS}"), (one, "1" + one),
+        (one, one[:-1] + "4"), (one, one[:-32] + "8" + one[-31:]), (two, f"2 0 0 0 00000004 {NO_LABELS}"),
+        (two, f"2 17 0 0 00000002 {NO_LABELS}"), (two, f"2 0 1 0 00000002 {NO_LABELS}"),
+        (two, f"2 255 2 2 00000000 {NO_LABELS}"), (two, f"2 255 1 0 00000000 {NO_LABELS}"),
+        (two, f"2 255 2 0 00000002 {NO_LABELS}"), (two, f"2 255 0 0 00000000 {NO_LABELS}"),
+        (one, one[:-32] + one[-16:]), (one, one[:-32] + one[-31:]), (one, one[:-32] + "0" + one[-32:]),
         (one, one.upper()[:-1] + "²"), (one, "١" + one[1:]), (WORKED_LISTING, ""), (WORKED_LISTING, "input cut\n"),
         (WORKED_LISTING, "refused 3\n"), (WORKED_LISTING, "refused 11\n"), (WORKED_LISTING, "x" * 2000000),
     ]:
         expect_damage_of_run(WORKED, WORKED_LISTING.replace(old, new, 1), "listing: ", f"listing with {new[:60]!r}")
     for number, why in (8, "two pauses"), (9, "setpause"), (10, "not well-formed"):
         expect_damage_of_run(WORKED, f"refused {number}\n", rf"{why}.*\(row {number}\)", f"refused {number}")
-    wrong = WORKED_LISTING.replace(two, "2 255 2 0 00000000 0000000000000000")
+    wrong = WORKED_LISTING.replace(two, f"2 255 2 0 00000000 {NO_LABELS}")
     expect(show(data=WORKED, listing=wrong)[0] == 0, "a wrong instant at the signal")
     test_read_back_places()
 
@@ -532,7 +554,7 @@ def test_read_back_places():
     """An error outside the sequence: only of a signal that is read back and emitted, and of kind 2 or 3."""
 
     def listing(kind, place=65535):
-        return HEADER + f"1 255 {kind} {place} 00000000 0000000000000000\nend\n"
+        return HEADER + f"1 255 {kind} {place} 00000000 {NO_LABELS}\nend\n"
 
     def without(signal):
         return VALVE[:10] + (0x01000100 & ~(1 << signal)).to_bytes(4, "little") + VALVE[14:]

@@ -1,9 +1,10 @@
 //! Sequences made by rule: all short ones, the edges of every row, and all small trees of labels.
+use common::reference::LABELS;
 use common::table::bytes;
 
 /// All byte strings up to 4 bytes over the command bytes, one above them, and edges of operands.
 pub fn byte_strings(mut run: impl FnMut(&[u8])) {
-    const VALUES: [u8; 17] = [0, 1, 2, 3, 4, 5, 6, 7, 8, 9, 0x0A, 0x0B, 0x0C, 0x10, 0x20, 0x40, 0xFF];
+    const VALUES: [u8; 17] = [0, 1, 2, 3, 4, 5, 6, 7, 8, 9, 0x0A, 0x0B, 0x0C, 0x10, 0x20, 0x80, 0xFF];
     let mut strings = vec![Vec::new()];
     for _ in 0..=4 {
         strings.iter().for_each(|s: &Vec<u8>| run(s));
@@ -28,7 +29,7 @@ const PARTS: [(&str, &str); 11] = [
 
 /// What stands at the limits of depth and signals: nothing, and what is and what is not a statement.
 const INSIDE: [&str; 15] = [
-    "", "00", "0C", "01", "01 00", "01 40", "04 00", "06 00", "08", "08 20 00", "08 00 00", "0A", "0B", "0B 20 00",
+    "", "00", "0C", "01", "01 00", "01 80", "04 00", "06 00", "08", "08 20 00", "08 00 00", "0A", "0B", "0B 20 00",
     "0B 00 00",
 ];
 
@@ -77,7 +78,7 @@ pub fn nested(sets: &[u32], mut run: impl FnMut(&[u8], u32)) {
 
 /// The edges of rows 8 to 10, with every pair of labels.
 pub fn labels(mut run: impl FnMut(&[u8])) {
-    for (k, l) in (0..64).flat_map(|k| (0..64).map(move |l| (k, l))) {
+    for (k, l) in (0..LABELS).flat_map(|k| (0..LABELS).map(move |l| (k, l))) {
         for join in ["04", "05", "07 00"] {
             run(&bytes(&format!("{join} 01 {k:02X} 01 {l:02X}")));
             run(&bytes(&format!("{join} 01 {k:02X} 0A {l:02X}")));
@@ -92,7 +93,7 @@ pub fn labels(mut run: impl FnMut(&[u8])) {
     }
 }
 
-/// All trees of one to four leaves: pauses and setpauses of three labels under sequences, parallels and presents; then
+/// All trees of one to four leaves: pauses and setpauses of three labels, below 64 and above, under sequences, parallels and presents; then
 /// the same with every part in a suspend, which makes nothing exclusive.
 pub fn small_trees(mut run: impl FnMut(&[u8])) {
     trees(&[], &mut run);
@@ -101,7 +102,7 @@ pub fn small_trees(mut run: impl FnMut(&[u8])) {
 
 /// The trees with some bytes before each part of a join.
 fn trees(before: &[u8], run: &mut impl FnMut(&[u8])) {
-    let mut trees = vec![vec![], ["00", "01 00", "01 01", "01 02", "0A 00", "0A 01"].map(bytes).to_vec()];
+    let mut trees = vec![vec![], ["00", "01 3F", "01 40", "01 7F", "0A 3F", "0A 40"].map(bytes).to_vec()];
     for leaves in 2..=4 {
         let mut larger = Vec::new();
         for first in 1..leaves {

@@ -151,7 +151,7 @@ fn random_sequences(tally: &mut Tally, random: &mut Random) {
     let [pauses, setpauses, suspends, levels, signals] = tally.most;
     print!("accepted: up to {pauses} pauses, {setpauses} setpauses, {suspends} suspends, ");
     println!("depth {levels}, {signals} signals");
-    let far = pauses < 64 || setpauses <= 100 || suspends <= 100 || levels < 64 || signals < 6;
+    let far = pauses < reference::LABELS || setpauses <= 100 || suspends <= 100 || levels < 64 || signals < 6;
     tally.counts.expect(!far, || "too far from the limits".into());
 }
 

@@ -1,4 +1,5 @@
 //! Random sequences of an exact length, most of them accepted or nearly so, damaged copies of them, and read-back sets.
+use crate::reference::LABELS;
 
 pub struct Random(pub u64);
 
@@ -47,7 +48,7 @@ pub struct Style {
     pub small: usize,
     /// Whether setpauses may stand where a parallel is around them and their labels.
     pub loose: bool,
-    /// How many different labels there are, at most 64.
+    /// How many different labels there are, at most all; which ones is drawn.
     pub labels: usize,
     /// The greatest depth and the most signals around a command.
     pub levels: usize,
@@ -69,7 +70,7 @@ impl Style {
             endless: false,
             small: random.below(4),
             loose: random.chance(50),
-            labels: random.pick(&[0, 2, 8, 40, 64, 64]),
+            labels: random.pick(&[0, 2, 8, 40, LABELS, LABELS]),
             levels: if random.chance(90) { 64 } else { 65 },
             signals: if random.chance(90) { 6 } else { 7 },
             read_back: 0,
@@ -121,8 +122,8 @@ struct Generator<'a> {
 }
 
 pub fn sequence(random: &mut Random, style: Style, length: usize) -> Sequence {
-    let mut labels: Vec<u8> = (0..64).collect();
-    (0..64).for_each(|i| labels.swap(i, random.below(i + 1)));
+    let mut labels: Vec<u8> = (0..LABELS as u8).collect();
+    (0..LABELS).for_each(|i| labels.swap(i, random.below(i + 1)));
     labels.truncate(style.labels);
     let (bytes, commands, pauses, setpauses) = (Vec::new(), Vec::new(), Vec::new(), Vec::new());
     let (levels, signals, endless) = (style.levels, style.signals, style.endless);
@@ -288,7 +289,7 @@ impl Generator<'_> {
         if !self.setpauses.is_empty() && self.random.chance(50) {
             let at = self.random.pick(&self.setpauses);
             self.bytes[at] = match self.random.below(8) {
-                0 => self.random.below(64) as u8,
+                0 => self.random.below(LABELS) as u8,
                 _ => self.bytes[self.random.pick(&self.pauses)],
             };
         }
@@ -330,6 +331,9 @@ fn alike(byte: u8) -> &'static [u8] {
     }
 }
 
+/// Operands around the ends of their ranges, and of a word of labels.
+const EDGES: [u8; 10] = [0x00, 0x0F, 0x10, 0x1F, 0x20, 0x3F, 0x40, 0x7F, 0x80, 0xFF];
+
 /// A copy damaged in one to three places.
 pub fn damaged(random: &mut Random, sequence: &Sequence) -> Vec<u8> {
     let mut bytes = sequence.bytes.clone();
@@ -345,7 +349,7 @@ pub fn damaged(random: &mut Random, sequence: &Sequence) -> Vec<u8> {
             5 => set(&mut bytes, at, |_| random.below(COMMANDS + 1) as u8),
             6 => set(&mut bytes, command + 1, |x| x.wrapping_add(1)),
             7 => set(&mut bytes, command + 1, |x| x.wrapping_sub(1)),
-            8 => set(&mut bytes, command + 1, |_| random.pick(&[0x00, 0x0F, 0x10, 0x1F, 0x20, 0x3F, 0x40, 0xFF])),
+            8 => set(&mut bytes, command + 1, |_| random.pick(&EDGES)),
             _ => set(&mut bytes, command, |x| random.pick(alike(x))),
         }
     }

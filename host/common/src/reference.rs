@@ -1,5 +1,5 @@
-//! The check as document 01 words it, with the suspend and the read-back set of 02, items 1 and 5, on an explicit tree. It
-//! shares no idea with the archive: commands are read in a loop and not by recursion, the nesting of signals is found on
+//! The check as document 01 words it, with the suspend, the read-back set and the labels of 02, items 1, 5 and 7, on an
+//! explicit tree. It shares no idea with the archive: commands are read in a loop and not by recursion, the nesting of signals is found on
 //! the tree when all of it is there, and the rows on labels look at all pairs of places and not at sets.
 use std::ops::RangeInclusive;
 
@@ -10,6 +10,15 @@ const PRESENT: u8 = 0x07;
 pub const SIGNAL: u8 = 0x08;
 const SETPAUSE: u8 = 0x0A;
 pub const SUSPEND: u8 = 0x0B;
+
+/// Labels are below it (02, item 7).
+pub const LABELS: usize = 128;
+
+/// A set of labels, label 0 in the lowest bit.
+pub type Labels = u128;
+
+/// The length of a state record: the phase and a bit for each label.
+pub const STATE_LENGTH: usize = 1 + LABELS / 8;
 
 pub struct Command {
     /// Its offset in the sequence.
@@ -27,7 +36,7 @@ pub struct Tree(pub Vec<Command>);
 fn shape(byte: u8) -> Option<(Option<RangeInclusive<u8>>, u8)> {
     match byte {
         0x00 => Some((None, 0)),
-        PAUSE | SETPAUSE => Some((Some(0..=63), 0)),
+        PAUSE | SETPAUSE => Some((Some(0..=LABELS as u8 - 1), 0)),
         0x02 => Some((Some(0..=31), 0)),
         0x03 => Some((Some(1..=15), 0)),
         SEQUENCE | 0x05 => Some((None, 2)),
@@ -99,7 +108,7 @@ impl Tree {
     }
 
     /// 01, 'States and resuming': not empty, each label has a pause, and those pauses are pairwise compatible.
-    pub fn valid(&self, labels: u64) -> bool {
+    pub fn valid(&self, labels: Labels) -> bool {
         let named = |pause: &&Command| labels >> pause.operand & 1 == 1;
         let active: Vec<&Command> = self.pauses().into_iter().filter(named).collect();
         labels != 0

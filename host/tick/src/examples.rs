@@ -2,6 +2,7 @@
 //! paper too.
 use crate::archive::ANSWER_LENGTH;
 use crate::reference::{self, Sequence};
+use crate::runs::record;
 use crate::tally::Tally;
 use std::{fs, path::Path};
 
@@ -30,7 +31,7 @@ fn listing(tally: &mut Tally, file: &[u8]) -> String {
     let number = |bytes: &[u8]| bytes.iter().rev().fold(0, |n, byte| n << 8 | *byte as u32);
     let (sequence, rest) = file[2..].split_at(number(&file[..2]) as usize);
     let (read_back, inputs) = rest.split_at(4);
-    let (sequence, mut state) = (Sequence::new(sequence.to_vec(), number(read_back)), vec![0; 9]);
+    let (sequence, mut state) = (Sequence::new(sequence.to_vec(), number(read_back)), record(0, 0));
     let (mut paper, mut lines) = (sequence.paper(), String::from("instant code kind place emitted labels\n"));
     for (i, input) in inputs.chunks(4).enumerate() {
         let input = number(input);

@@ -3,11 +3,12 @@
 //! around the expansion. Reactions (item 6) are counted as they happen. It shares nothing with rewriting.rs but the terms
 //! and the names of the orders.
 use crate::statement::{Declaration, Order, Statement, Term};
+use common::reference::Labels;
 use std::rc::Rc;
 
 /// 002, figure 5: the expansion of a statement with an active pause. None if it has none. What a suspend becomes chooses, in
 /// the instant, between waiting again at its active pauses and the expansion of its body.
-pub fn expand(term: &Term, labels: u64) -> Option<Term> {
+pub fn expand(term: &Term, labels: Labels) -> Option<Term> {
     let expanded = match &**term {
         Statement::Pause(l) if labels >> l & 1 == 1 => Statement::Nothing,
         Statement::Seq(p, q) => match (expand(p, labels), expand(q, labels)) {
@@ -37,7 +38,7 @@ pub fn expand(term: &Term, labels: u64) -> Option<Term> {
 }
 
 /// The labels of the pauses in a statement.
-fn pauses(term: &Term) -> u64 {
+fn pauses(term: &Term) -> Labels {
     match &**term {
         Statement::Pause(l) => 1 << l,
         Statement::Seq(p, q) | Statement::Par(p, q) | Statement::Present(_, p, q) => pauses(p) | pauses(q),
@@ -57,7 +58,7 @@ pub const WRONG: u32 = u32::MAX;
 pub struct Answer {
     pub emitted: u32,
     pub code: u32,
-    pub labels: u64,
+    pub labels: Labels,
 }
 
 /// Kind and place.

@@ -9,6 +9,7 @@ mod ceiling;
 mod examples;
 mod expansion;
 mod kernel;
+mod labels;
 mod orders;
 mod readback;
 mod reference;
@@ -31,14 +32,14 @@ fn by_hand(tally: &mut Tally) {
         let ticks::Tick { sequence, state, input, answer_length, .. } = &tick;
         let given = reference::tick(sequence, state, *input, *answer_length);
         tally.counts.expect(tick.gives(given), || format!("the reference on {}", tick.line));
-        let mut paper = sequence.paper().filter(|_| *state == [0; 9]);
+        let mut paper = sequence.paper().filter(|_| *state == runs::record(0, 0));
         tally.compare(sequence, state, *input, *answer_length, paper.as_mut());
     }
 }
 
 /// Row 1: buffers of all lengths around the right ones, and such as a narrow counter would take for them.
 fn lengths(tally: &mut Tally) {
-    let lengths = || (0..=20).chain([255, 256, 264, 265, 268, 65_545, 65_548]);
+    let lengths = || (0..=20).chain([255, 256, 265, 268, 273, 65_548, 65_553]);
     for bytes in ["", "0C", "00", "01 00", "00 00", "1025(00)"].map(table::bytes) {
         let sequence = Sequence::new(bytes, 0);
         for (state, answer) in lengths().flat_map(|s| lengths().map(move |a| (s, a))) {
@@ -67,6 +68,8 @@ fn main() -> ExitCode {
     tally.close("ceilings");
     lengths(&mut tally);
     tally.close("buffers");
+    labels::labels(&mut tally, &mut random);
+    tally.close("labels");
     small::every_state(&mut tally);
     tally.close("small, states");
     small::every_set(&mut tally);

@@ -19,6 +19,7 @@ use crate::statement::Order;
 use crate::tally::Tally;
 use crate::{runs, small, ticks};
 use common::generate::Random;
+use common::reference::Labels;
 use common::table::hex;
 
 const COUNTED: [&str; 16] = [
@@ -71,7 +72,7 @@ impl Orders {
             let ticks::Tick { sequence, state, input, answer_length, .. } = &tick;
             let given = tick_by(Order::Printed, sequence, state, *input, *answer_length);
             tally.counts.expect(tick.gives(given), || format!("the reference, as printed, on {}", tick.line));
-            let mut paper = sequence.paper().filter(|_| *state == [0; 9]);
+            let mut paper = sequence.paper().filter(|_| *state == runs::record(0, 0));
             self.compare(tally, sequence, state, *input, paper.as_mut());
             tally.counts.expect(self.changed == before + 1, || format!("not changed: {}", tick.line));
         }
@@ -80,8 +81,9 @@ impl Orders {
     /// A statement of one signal: runs of up to three instants, and one instant from every valid label set.
     fn every_state(&mut self, tally: &mut Tally, sequence: &Sequence) {
         let Ok(read) = &sequence.read else { return };
-        self.every_run(tally, sequence, sequence.paper().as_ref(), &[0; 9], 3);
-        for labels in (1..1 << read.tree.pauses().len()).filter(|labels| read.tree.valid(*labels)) {
+        self.every_run(tally, sequence, sequence.paper().as_ref(), &runs::record(0, 0), 3);
+        let sets = (1..1 << read.tree.pauses().len()).map(|set: Labels| set << small::FIRST_LABEL);
+        for labels in sets.filter(|labels| read.tree.valid(*labels)) {
             (0..2).for_each(|input| drop(self.compare(tally, sequence, &runs::record(1, labels), input, None)));
         }
     }
@@ -99,7 +101,7 @@ impl Orders {
     /// A random sequence: a run, and single instants from valid label sets.
     fn run(&mut self, tally: &mut Tally, random: &mut Random) {
         let sequence = runs::sequence(random);
-        let (mut paper, mut state) = (sequence.paper(), vec![0; 9]);
+        let (mut paper, mut state) = (sequence.paper(), runs::record(0, 0));
         for _ in 0..8 {
             let input = runs::input(random);
             let Some(after) = self.compare(tally, &sequence, &state, input, paper.as_mut()) else { break };

@@ -6,7 +6,7 @@ use crate::kernel::Kernel;
 use crate::readback::Written;
 use crate::rewriting::Paper;
 use crate::statement::{term, wrap, Order, Term};
-use common::reference;
+use common::reference::{self, Labels, LABELS, STATE_LENGTH};
 use common::table::hex;
 
 /// What is read of an accepted sequence: its commands, its own term, that inside the read-back declarations, and what an
@@ -69,10 +69,10 @@ pub struct Instant {
 impl Instant {
     /// The line of a listing (01, 'Bays to run').
     pub fn line(&self, number: usize) -> String {
-        let value = |bytes: &[u8]| bytes.iter().rev().fold(0u64, |n, byte| n << 8 | *byte as u64);
+        let value = |bytes: &[u8]| bytes.iter().rev().fold(0u128, |n, byte| n << 8 | *byte as u128);
         let (code, kind, place) = (self.answer[0], self.answer[1], value(&self.answer[2..4]));
         let (emitted, labels) = (value(&self.answer[4..8]), value(&self.state[1..]));
-        format!("{number} {code} {kind} {place} {emitted:08x} {labels:016x}")
+        format!("{number} {code} {kind} {place} {emitted:08x} {labels:032x}")
     }
 }
 
@@ -89,7 +89,7 @@ pub fn tick_by(
     input: u32,
     answer_length: usize,
 ) -> Result<Instant, u8> {
-    if state.len() != 9 || answer_length != 12 {
+    if state.len() != STATE_LENGTH || answer_length != 12 {
         return Err(1);
     }
     let read = sequence.read.as_ref().map_err(|number| *number)?;
@@ -98,7 +98,8 @@ pub fn tick_by(
 
 /// An instant of the machine of these commands, by their term, bare or wrapped: rows 11 and 12, then the reaction.
 pub fn instant(order: Order, commands: &reference::Tree, term: &Term, state: &[u8], input: u32) -> Result<Instant, u8> {
-    let labels = (0..64).filter(|l| state[1 + l / 8] >> (l % 8) & 1 == 1).fold(0, |set, l| set | 1u64 << l);
+    let active = |l: &usize| state[1 + l / 8] >> (l % 8) & 1 == 1;
+    let labels = (0..LABELS).filter(active).fold(0, |set: Labels, l| set | 1 << l);
     let now = match state[0] {
         0 if labels == 0 => term.clone(),
         1 if commands.valid(labels) => expand(term, labels).expect("a valid set has an active pause"),
@@ -114,6 +115,6 @@ pub fn instant(order: Order, commands: &reference::Tree, term: &Term, state: &[u
     answer.extend([(place % 256) as u8, (place / 256) as u8]);
     answer.extend((0..4).map(|i| if wrong { 0 } else { (reaction.emitted >> (8 * i)) as u8 }));
     answer.extend((0..4).map(|i| (tree.reactions >> (8 * i)) as u8));
-    let labels = (0..8).map(|i| (reaction.labels >> (8 * i)) as u8);
+    let labels = (0..LABELS / 8).map(|i| (reaction.labels >> (8 * i)) as u8);
     Ok(Instant { state: [phase].into_iter().chain(labels).collect(), answer, tree })
 }

@@ -3,7 +3,7 @@ use crate::archive::ANSWER_LENGTH;
 use crate::reference::Sequence;
 use crate::tally::Tally;
 use common::generate::{self, Random, Style, COMMANDS};
-use common::reference;
+use common::reference::{self, Labels, LABELS, STATE_LENGTH};
 
 /// Few names, so that emissions meet tests, and loops that mostly wait.
 fn style(random: &mut Random) -> Style {
@@ -18,7 +18,7 @@ fn style(random: &mut Random) -> Style {
         endless: random.chance(60),
         small: random.below(4),
         loose: random.chance(30),
-        labels: random.pick(&[2, 16, 64, 64]),
+        labels: random.pick(&[2, 16, LABELS, LABELS]),
         levels: 64,
         signals: random.pick(&[1, 2, 3, 6]),
         read_back: 0,
@@ -74,7 +74,7 @@ pub fn runs(tally: &mut Tally, random: &mut Random, count: usize) {
     for _ in 0..count {
         let sequence = sequence(random);
         let mut paper = sequence.paper();
-        let mut state = vec![0; 9];
+        let mut state = record(0, 0);
         let mut after_over = 0;
         let ticks = random.pick(&[4, 8, 16, 40]);
         for _ in 0..ticks {
@@ -94,11 +94,11 @@ pub fn runs(tally: &mut Tally, random: &mut Random, count: usize) {
 }
 
 /// A valid label set, grown from the pauses in random order.
-pub fn valid_set(random: &mut Random, sequence: &Sequence) -> u64 {
+pub fn valid_set(random: &mut Random, sequence: &Sequence) -> Labels {
     let Ok(read) = &sequence.read else { return 0 };
     let (tree, pauses) = (&read.tree, read.tree.pauses());
-    let most = random.pick(&[1, 2, 64]);
-    let mut set = 0u64;
+    let most = random.pick(&[1, 2, LABELS as u32]);
+    let mut set: Labels = 0;
     for _ in 0..2 * pauses.len() {
         let larger = set | 1 << random.pick(&pauses).operand;
         if larger.count_ones() <= most && tree.valid(larger) {
@@ -108,14 +108,14 @@ pub fn valid_set(random: &mut Random, sequence: &Sequence) -> u64 {
     set
 }
 
-pub fn record(phase: u8, labels: u64) -> Vec<u8> {
+pub fn record(phase: u8, labels: Labels) -> Vec<u8> {
     [&[phase][..], &labels.to_le_bytes()].concat()
 }
 
-/// A record that is valid, nearly so, or any nine bytes.
-fn state(random: &mut Random, sequence: &Sequence) -> Vec<u8> {
+/// A record that is valid, nearly so, or any bytes.
+pub fn state(random: &mut Random, sequence: &Sequence) -> Vec<u8> {
     let set = valid_set(random, sequence);
-    let label = 1 << random.below(64);
+    let label = 1 << random.below(LABELS);
     match random.below(12) {
         0 => record(0, 0),
         1 => record(2, 0),
@@ -124,7 +124,7 @@ fn state(random: &mut Random, sequence: &Sequence) -> Vec<u8> {
         4 => record(1, set | label),
         5 => record(1, set ^ label),
         6 => record(1, set | valid_set(random, sequence)),
-        7 => (0..9).map(|_| random.below(256) as u8).collect(),
+        7 => (0..STATE_LENGTH).map(|_| random.below(256) as u8).collect(),
         _ => record(1, set),
     }
 }
@@ -154,7 +154,7 @@ pub fn damaged(tally: &mut Tally, random: &mut Random, count: usize) {
         let sequence = Sequence::new(bytes, read_back);
         let mut state = state(random, &sequence);
         if random.chance(5) {
-            state.resize(random.below(20), 0);
+            state.resize(random.below(2 * STATE_LENGTH), 0);
         }
         let (input, length) = (input(random), answer_length(random));
         tally.compare(&sequence, &state, input, length, None);

@@ -1,11 +1,16 @@
-//! All statements of one to five commands over two signals, two labels and two exits, with every read-back set of them up
+//! All statements of one to five commands over two signals, two labels, 63 and 64, and two exits, with every read-back set of them up
 //! to four commands and with one in turn of five; and, for the two orders of the signal rules, of one to seven commands
 //! over one signal and one exit.
 use crate::archive::ANSWER_LENGTH;
 use crate::reference::Sequence;
 use crate::rewriting::Paper;
+use crate::runs::record;
 use crate::tally::Tally;
+use common::reference::Labels;
 use common::table::bytes;
+
+/// The lowest label of a small statement: the others are in the other half of the set.
+pub const FIRST_LABEL: u8 = 63;
 
 /// What statements are made of: commands of no part, of one and of two.
 struct Commands<'a> {
@@ -15,7 +20,7 @@ struct Commands<'a> {
 }
 
 const OF_FIVE: Commands = Commands {
-    leaves: &["00", "01 00", "01 01", "02 00", "02 01", "03 01", "03 02", "0A 00", "0A 01"],
+    leaves: &["00", "01 3F", "01 40", "02 00", "02 01", "03 01", "03 02", "0A 3F", "0A 40"],
     wraps: &["06", "08 00", "08 01", "09", "0B 00", "0B 01"],
     joins: &["04", "05", "07 00", "07 01"],
 };
@@ -57,7 +62,7 @@ pub fn with_signals() -> impl Iterator<Item = (Vec<u8>, u32)> {
     let declared = inside.chain(around).map(|bytes| (bytes, 0));
     declared.chain(read_back.into_iter().map(|bytes| (bytes, 1))).map(|(mut bytes, set)| {
         let pauses = bytes.iter_mut().filter(|byte| **byte == 0xFF);
-        pauses.zip(0..).for_each(|(label, number)| *label = number);
+        pauses.zip(FIRST_LABEL..).for_each(|(label, number)| *label = number);
         (bytes, set)
     })
 }
@@ -72,12 +77,12 @@ fn with_sets(mut run: impl FnMut(&Sequence)) {
     }
 }
 
-/// Every statement from every record of phase 0 to 3 and labels 0 to 2, with every input of two bits.
+/// Every statement from every record of phase 0 to 3 and labels 63 to 65, with every input of two bits.
 pub fn every_state(tally: &mut Tally) {
     for bytes in statements(5, &OF_FIVE).into_iter().flatten() {
         let sequence = Sequence::new(bytes, 0);
         for (phase, labels) in (0..4).flat_map(|phase| (0..8).map(move |labels| (phase, labels))) {
-            let state = [phase, labels, 0, 0, 0, 0, 0, 0, 0];
+            let state = record(phase, labels << FIRST_LABEL);
             // a tick turned down does not depend on the input
             if tally.compare(&sequence, &state, 0, ANSWER_LENGTH, None).0 == 0 {
                 (1..4).for_each(|input| drop(tally.compare(&sequence, &state, input, ANSWER_LENGTH, None)));
@@ -93,8 +98,9 @@ pub fn every_state(tally: &mut Tally) {
 pub fn every_set(tally: &mut Tally) {
     with_sets(|sequence| {
         let Ok(read) = &sequence.read else { return };
-        for labels in (0..4).filter(|labels| *labels == 0 || read.tree.valid(*labels)) {
-            let state = [(labels != 0) as u8, labels as u8, 0, 0, 0, 0, 0, 0, 0];
+        let sets = (0..4).map(|labels: Labels| labels << FIRST_LABEL);
+        for labels in sets.filter(|labels| *labels == 0 || read.tree.valid(*labels)) {
+            let state = record((labels != 0) as u8, labels);
             inputs(sequence.read_back)
                 .for_each(|input| drop(tally.compare(sequence, &state, input, ANSWER_LENGTH, None)));
         }
@@ -106,7 +112,7 @@ pub fn every_run(tally: &mut Tally) {
     for bytes in statements(5, &OF_FIVE).into_iter().flatten() {
         let sequence = Sequence::new(bytes, 0);
         if let Some(paper) = sequence.paper() {
-            continue_run(tally, &sequence, &paper, &[0; 9], 3);
+            continue_run(tally, &sequence, &paper, &record(0, 0), 3);
         }
     }
 }
@@ -115,7 +121,7 @@ pub fn every_run(tally: &mut Tally) {
 pub fn every_run_with_sets(tally: &mut Tally) {
     with_sets(|sequence| {
         if let Some(paper) = sequence.paper() {
-            continue_run(tally, sequence, &paper, &[0; 9], 3);
+            continue_run(tally, sequence, &paper, &record(0, 0), 3);
         }
     });
 }

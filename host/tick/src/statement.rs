@@ -1,5 +1,5 @@
 //! Statements as terms (01, 'Commands'), and a term inside its read-back declarations (02, item 5).
-use common::reference::{Command, Tree};
+use common::reference::{Command, Labels, Tree};
 use std::rc::Rc;
 
 pub type Term = Rc<Statement>;
@@ -38,7 +38,7 @@ pub enum Statement {
     Setpause(u8),
     Suspend(u8, Term),
     /// Tests the signal first, and with it waits with these labels.
-    Kept(u8, u64, Term),
+    Kept(u8, Labels, Term),
     /// Tests the signal first, and with it stays as it is.
     Held(u8, Term),
 }

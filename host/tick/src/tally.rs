@@ -13,8 +13,11 @@ use common::table::hex;
 pub const GREATEST: usize = 12;
 
 /// Names of what a tree of reactions may hold, beside the cases of a signal.
-const EVENTS: [&str; 19] = [
+const EVENTS: [&str; 22] = [
     "resumed",
+    "the same, labels on both sides of 64",
+    "waits at labels on both sides of 64",
+    "suspend stopped, such labels",
     "wrong when resumed",
     "wrong with errors that differ",
     "two signal rules fit, wrong without",
@@ -201,6 +204,9 @@ impl Tally {
         let [resumed, differ, _] = wrong_kinds(state, instant);
         let events = [
             state[0] == 1,
+            state[0] == 1 && both_sides(state),
+            both_sides(&instant.state),
+            tree.stopped > 0 && both_sides(&instant.state),
             resumed,
             differ,
             tree.two_fit[0] > 0,
@@ -257,6 +263,12 @@ fn wrong_kinds(state: &[u8], instant: &Instant) -> [bool; 3] {
     let errors = &instant.tree.errors;
     let differ = errors.iter().any(|error| error != &errors[0]);
     [state[0] == 1, differ, instant.tree.two_fit != [0; 3]].map(|kind| kind && instant.answer[0] == 255)
+}
+
+/// Does a state record hold a label below 64 and one from 64 on?
+fn both_sides(state: &[u8]) -> bool {
+    let (low, high) = state[1..].split_at(64 / 8);
+    [low, high].iter().all(|half| half.iter().any(|byte| *byte != 0))
 }
 
 fn begun_thrice(places: &[usize]) -> bool {

@@ -2,6 +2,7 @@
 //! reference gives on its stdin, and the archive too. The top of that stdin explains its lines.
 use crate::archive::ANSWER_LENGTH;
 use crate::reference::{self, Sequence};
+use crate::runs;
 use crate::tally::Tally;
 use common::table;
 
@@ -46,9 +47,11 @@ fn listing(tally: &mut Tally, vectors: &str) -> Vec<String> {
 /// The lines of a machine: from the record before a colon, or a cleared one, on the inputs behind it. From a cleared
 /// record on the paper is there to compare, if there is one.
 fn machine(tally: &mut Tally, (bytes, read_back): (&[u8], u32), rest: &str, answer_length: usize) -> Vec<String> {
-    let (record, inputs) = rest.split_once(':').unwrap_or(("9(00)", rest));
-    let (sequence, mut state) = (Sequence::new(bytes.to_vec(), read_back), table::bytes(record));
-    let mut paper = sequence.paper().filter(|_| state == [0; 9]);
+    let (record, inputs) = rest.split_once(':').map_or((None, rest), |(record, inputs)| (Some(record), inputs));
+    let cleared = runs::record(0, 0);
+    let (sequence, mut state) =
+        (Sequence::new(bytes.to_vec(), read_back), record.map_or(cleared.clone(), table::bytes));
+    let mut paper = sequence.paper().filter(|_| state == cleared);
     let inputs = inputs.split_whitespace().map(|input| u32::from_str_radix(input, 16).expect("an input"));
     let line = |(i, input): (usize, u32)| {
         tally.compare(&sequence, &state, input, answer_length, paper.as_mut());
