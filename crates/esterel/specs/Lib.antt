@@ -4,6 +4,7 @@ pub mod Reaction
 pub mod Rules
 pub mod Errors
 pub mod Reactions
+pub mod Asked
 pub mod Ceiling
 pub mod SignalOrders
 pub mod Places

@@ -1,13 +1,14 @@
 -- The instant of a waiting statement by the ranks of its active pauses, with no expansion built: only parts that hold
--- an active pause are entered. theory/proofs/Resume shows that it is the instant of the expansion.
+-- an active pause are entered. theory/proofs/Resume shows that it is the instant of the expansion, which asks for the same signals.
 use Prim.Native.Nat.{ℕ, _+_}
 use mathlib.Core.Bool.{cond}
 use mathlib.Core.Option.{Option, some}
-use Rattle.esterel.specs.Sets.{member, insert, remove, empty, below, from}
+use Rattle.esterel.specs.Sets.{member, none, join, insert, remove, empty, below, from}
 use Rattle.esterel.specs.Statement.{Scope, Statement, nothing, pause, emit, exit, seq, par, loop, present, signal, try, setpause, suspend, held}
 use Rattle.esterel.specs.Reaction.{Code, isWrong, Reaction, code, quiet, inSeq, inPar, inLoop, inTry, inSuspend, stopped, Case, both, neither, only−, only+, inherited, Order, inheritanceFirst, caseOf, inSignal, reactBy}
 use Rattle.esterel.specs.Errors.{Error, instantaneous, notReactive, notDeterministic, ifEnded, firstErrorBy}
 use Rattle.esterel.specs.Reactions.{reactionsBy}
+use Rattle.esterel.specs.Asked.{asked}
 use Rattle.esterel.specs.Expansion.{expand}
 use Rattle.esterel.specs.Ranks.{middle, labelsBy}
 
@@ -65,28 +66,79 @@ suspendInstant s (instant r x n) = instant (inSuspend s r) x (1 + n)
 abbrev pub stoppedInstant : (s K : ℕ) → Statement → Instant
 stoppedInstant s K p = instant (stopped s K p) Option.none 1
 
--- ---- the instant of p, whose first pause has rank base, by the ranks m of its active pauses; m is not empty
+-- ---- an instant with the signals that its tree asks for; these are not told, but say where one run of a signal stands for both
+pub data Tree : Type 0 where
+  tree : (i : Instant) (asked : ℕ) → Tree
+
+abbrev pub instantOf : Tree → Instant
+instantOf (tree i a) = i
+
+abbrev pub askedOf : Tree → ℕ
+askedOf (tree i a) = a
+
+abbrev pub startTree : Statement → ℕ → Tree
+startTree p e = tree (start p e) (asked p e)
+
+abbrev pub codeIn : Instant → Code
+codeIn (instant r x n) = code r
+
+-- what a command makes of the trees of its parts
+abbrev pub idleTree : Tree
+idleTree = tree idle none
+
+abbrev pub seqTree : Statement → Tree → Tree → Tree
+seqTree q (tree i a) (tree j b) = tree (seqInstant q i j) (join a (ifEnded (codeIn i) b none))
+
+abbrev pub parTree : Tree → Tree → Tree
+parTree (tree i a) (tree j b) = tree (parInstant i j) (join a b)
+
+abbrev pub loopTree : ℕ → Statement → Tree → Tree
+loopTree a p (tree i b) = tree (loopInstant a p i) b
+
+abbrev pub presentTree : ℕ → Tree → Tree
+presentTree s (tree i a) = tree (presentInstant i) (insert s a)
+
+abbrev pub tryTree : Tree → Tree
+tryTree (tree i a) = tree (tryInstant i) a
+
+abbrev pub signalTree : Scope → ℕ → ℕ → Tree → Tree → Tree
+signalTree sc a s (tree i− a−) (tree i+ a+) = tree (signalInstant sc a s i− i+) (remove s (join a− a+))
+
+-- a fresh suspend, and a held one whose signal is absent, or present
+abbrev pub suspendTree : ℕ → Tree → Tree
+suspendTree s (tree i a) = tree (suspendInstant s i) a
+
+abbrev pub heldTree : ℕ → Tree → Tree
+heldTree s (tree i a) = tree (suspendInstant s i) (insert s a)
+
+abbrev pub stoppedTree : (s K : ℕ) → Statement → Tree
+stoppedTree s K p = tree (stoppedInstant s K p) (insert s none)
+
+-- ---- the tree of p, whose first pause has rank base, by the ranks m of its active pauses; m is not empty
 -- Of a parallel, a side without an active pause has ended; a suspend tests its signal first. A sequence whose second part is
 -- active, and a present, are gone from the expansion: they do not react.
-unfoldable pub resume : (base : ℕ) → Statement → (m : ℕ) → (e : ℕ) → Instant
-resume base nothing m e = idle
-resume base (pause l) m e = idle
-resume base (emit s) m e = idle
-resume base (exit n) m e = idle
-resume base (seq p q) m e =
-    cond (empty (below (middle base p) m)) (resume (middle base p) q (from (middle base p) m) e)
-    (seqInstant q (resume base p (below (middle base p) m) e) (start q e))
-resume base (par p q) m e =
-    parInstant
-    (cond (empty (below (middle base p) m)) idle (resume base p (below (middle base p) m) e))
-    (cond (empty (from (middle base p) m)) idle (resume (middle base p) q (from (middle base p) m) e))
-resume base (loop a p) m e = seqInstant (loop a p) (resume base p m e) (start (loop a p) e)
-resume base (present s p q) m e =
-    cond (empty (below (middle base p) m)) (resume (middle base p) q (from (middle base p) m) e)
-    (resume base p (below (middle base p) m) e)
-resume base (signal sc a s p) m e = signalInstant sc a s (resume base p m (remove s e)) (resume base p m (insert s e))
-resume base (try p) m e = tryInstant (resume base p m e)
-resume base (setpause l) m e = idle
-resume base (suspend s p) m e =
-    cond (member s e) (stoppedInstant s (labelsBy base p m) (expand p (labelsBy base p m))) (suspendInstant s (resume base p m e))
-resume base (held s K p) m e = idle
+unfoldable pub resumeTree : (base : ℕ) → Statement → (m : ℕ) → (e : ℕ) → Tree
+resumeTree base nothing m e = idleTree
+resumeTree base (pause l) m e = idleTree
+resumeTree base (emit s) m e = idleTree
+resumeTree base (exit n) m e = idleTree
+resumeTree base (seq p q) m e =
+    cond (empty (below (middle base p) m)) (resumeTree (middle base p) q (from (middle base p) m) e)
+    (seqTree q (resumeTree base p (below (middle base p) m) e) (startTree q e))
+resumeTree base (par p q) m e =
+    parTree
+    (cond (empty (below (middle base p) m)) idleTree (resumeTree base p (below (middle base p) m) e))
+    (cond (empty (from (middle base p) m)) idleTree (resumeTree (middle base p) q (from (middle base p) m) e))
+resumeTree base (loop a p) m e = seqTree (loop a p) (resumeTree base p m e) (startTree (loop a p) e)
+resumeTree base (present s p q) m e =
+    cond (empty (below (middle base p) m)) (resumeTree (middle base p) q (from (middle base p) m) e)
+    (resumeTree base p (below (middle base p) m) e)
+resumeTree base (signal sc a s p) m e = signalTree sc a s (resumeTree base p m (remove s e)) (resumeTree base p m (insert s e))
+resumeTree base (try p) m e = tryTree (resumeTree base p m e)
+resumeTree base (setpause l) m e = idleTree
+resumeTree base (suspend s p) m e =
+    cond (member s e) (stoppedTree s (labelsBy base p m) (expand p (labelsBy base p m))) (heldTree s (resumeTree base p m e))
+resumeTree base (held s K p) m e = idleTree
+
+abbrev pub resume : (base : ℕ) → Statement → (m : ℕ) → (e : ℕ) → Instant
+resume base p m e = instantOf (resumeTree base p m e)
