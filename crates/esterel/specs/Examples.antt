@@ -15,7 +15,7 @@ use Rattle.esterel.specs.States.{active, Triggers}
 use Rattle.esterel.specs.Expansion.{expand}
 use Rattle.esterel.specs.LabelTests.{labelsOf, activeLabels}
 use Rattle.esterel.specs.Ranks.{pauseCount, mask, rank, labelsBy, compatible}
-use Rattle.esterel.specs.Resume.{Instant, askedOf, resumeTree, resume}
+use Rattle.esterel.specs.Resume.{Instant, askedOf, expandBy, resume, resumeTree}
 use Rattle.esterel.specs.Machines.{waits, over, Seen, instant, refused, run, State, byLabels, Rewriting, byRewriting}
 
 -- what the table says of an instant with empty input: code, emitted set, labels, errors
@@ -159,13 +159,13 @@ resumed : (resume 0 three 4 0 ≡ Instant.instant (gives 0 ended 0 (par nothing 
     × (resume 0 (seq three (emit 1)) 2 0
     ≡ Instant.instant (gives 0 waiting 8 (seq (par (seq nothing (loop 3 (pause 3))) nothing) (emit 1))) Option.none 7)
     × (resume 0 (seq three (emit 1)) 4 0 ≡ Instant.instant (gives 2 ended 0 nothing) Option.none 5)
-unfolding resumeTree askedBy pauseCount below from reactBy errorsBy reactionsBy member none only join insert remove
+unfolding expandBy pauseCount below from reactBy errorsBy reactionsBy member none only join insert remove
 resumed = (refl, refl, refl, refl, refl, refl)
 
 -- of two wrong sides the first is named
 both-wrong : resume 0 (par (seq (pause 0) (loop 4 nothing)) (seq (pause 1) (loop 9 nothing))) 3 0
     ≡ Instant.instant (gives 0 wrong 0 (par nothing nothing)) (some (instantaneous 4)) 9
-unfolding resumeTree askedBy pauseCount below from reactBy errorsBy reactionsBy member none only join insert remove
+unfolding expandBy pauseCount below from reactBy errorsBy reactionsBy member none only join insert remove
 both-wrong = refl
 
 -- the pauses of the parallel are compatible, those of the sequence are not
@@ -298,7 +298,7 @@ kept-by-ranks : (labelsBy 0 frozen 5 ≡ 5)
     × (resume 0 frozen 5 0 ≡ Instant.instant (gives 0 waiting 10 (par (held 0 2 nothing) nothing)) Option.none 8)
     × (resume 0 (suspend 0 (seq (pause 0) (loop 5 nothing))) 1 1
     ≡ Instant.instant (gives 0 waiting 1 (held 0 1 (seq nothing (loop 5 nothing)))) Option.none 1)
-unfolding reactionsBy labelsBy resumeTree askedBy pauseCount below from active activeLabels labelsOf expand reactBy errorsBy member none only join insert remove
+unfolding reactionsBy labelsBy expandBy pauseCount below from active activeLabels labelsOf expand reactBy errorsBy member none only join insert remove
 kept-by-ranks = (refl, refl, refl, refl, refl)
 
 -- A present whose branch is resumed asks for nothing; the round that begins after it does. A resumed suspend asks first, and what
@@ -307,5 +307,5 @@ asked-by-ranks : (askedOf (resumeTree 0 (present 0 (pause 0) nothing) 1 0) ≡ 0
     × (askedOf (resumeTree 0 errsLater 1 0) ≡ 1)
     × (askedOf (resumeTree 0 (suspend 3 errsLater) 1 8) ≡ 8)
     × (askedOf (resumeTree 0 (suspend 3 errsLater) 1 0) ≡ 9)
-unfolding resumeTree askedBy pauseCount below from labelsBy reactBy errorsBy reactionsBy member none only join insert remove
+unfolding expandBy askedBy pauseCount below from labelsBy reactBy errorsBy reactionsBy member none only join insert remove
 asked-by-ranks = (refl, refl, refl, refl)

@@ -10,7 +10,7 @@ use Rattle.esterel.specs.Reaction.{ended, gives, failed, reactBy, react}
 use Rattle.esterel.specs.Errors.{errorsBy, errors, notReactive, notDeterministic}
 use Rattle.esterel.specs.Reactions.{reactionsBy}
 use Rattle.esterel.specs.Asked.{askedBy}
-use Rattle.esterel.specs.Resume.{Tree, startTree, signalTree}
+use Rattle.esterel.specs.Resume.{startTree}
 
 abbrev pub keepIf : Bool → ℕ → List ℕ → List ℕ
 keepIf true i is = i ∷ is
@@ -25,11 +25,6 @@ membersFrom (suc n) i s = keepIf (member i s) i (membersFrom n (suc i) s)
 unfoldable pub declared : (a : ℕ) → List ℕ → Statement → Statement
 declared a [] p = p
 declared a (s ∷ ss) p = signal reported a s (declared a ss p)
-
--- the tree of such a program from that of what stands inside, f
-unfoldable pub declaredTree : (a : ℕ) → List ℕ → (f : ℕ → Tree) → (e : ℕ) → Tree
-declaredTree a [] f e = f e
-declaredTree a (s ∷ ss) f e = signalTree reported a s (declaredTree a ss f (remove s e)) (declaredTree a ss f (insert s e))
 
 -- ---- by computation
 -- emit 0; present 0 then emit 1: both are reported, and the test sees what was emitted
@@ -56,7 +51,7 @@ unfolding declared reactBy errorsBy member none only join insert remove
 order-matters = (refl, refl)
 
 -- the host says that 0 is present: the test does not see it
-not-believed : declaredTree 9 (0 ∷ []) (startTree (present 0 (emit 1) nothing)) 1
+not-believed : startTree (declared 9 (0 ∷ []) (present 0 (emit 1) nothing)) 1
     ≡ startTree (declared 9 (0 ∷ []) (present 0 (emit 1) nothing)) 0
-unfolding declared declaredTree reactBy errorsBy reactionsBy askedBy member none only join insert remove
+unfolding declared reactBy errorsBy reactionsBy askedBy member none only join insert remove
 not-believed = refl

@@ -1,15 +1,14 @@
--- The instant of a waiting statement by the ranks of its active pauses, with no expansion built: only parts that hold
--- an active pause are entered. theory/proofs/Resume shows that it is the instant of the expansion, which asks for the same signals.
+-- What one instant tells, fresh or of a waiting statement by the ranks of its active pauses, and its tree; what a command makes
+-- of those of its parts, by which the code goes, with no expansion built.
 use Prim.Native.Nat.{ℕ, _+_}
 use mathlib.Core.Bool.{cond}
 use mathlib.Core.Option.{Option, some}
-use Rattle.esterel.specs.Sets.{member, none, join, insert, remove, empty, below, from}
+use Rattle.esterel.specs.Sets.{none, join, insert, remove, empty, below, from}
 use Rattle.esterel.specs.Statement.{Scope, Statement, nothing, pause, emit, exit, seq, par, loop, present, signal, try, setpause, suspend, held}
 use Rattle.esterel.specs.Reaction.{Code, isWrong, Reaction, code, quiet, inSeq, inPar, inLoop, inTry, inSuspend, stopped, Case, both, neither, only−, only+, inherited, Order, inheritanceFirst, caseOf, inSignal, reactBy}
 use Rattle.esterel.specs.Errors.{Error, instantaneous, notReactive, notDeterministic, ifEnded, firstErrorBy}
 use Rattle.esterel.specs.Reactions.{reactionsBy}
 use Rattle.esterel.specs.Asked.{asked}
-use Rattle.esterel.specs.Expansion.{expand}
 use Rattle.esterel.specs.Ranks.{middle, labelsBy}
 
 -- a reaction with the first error of its tree, where it is wrong, and the number of reactions in it
@@ -114,31 +113,33 @@ heldTree s (tree i a) = tree (suspendInstant s i) (insert s a)
 abbrev pub stoppedTree : (s K : ℕ) → Statement → Tree
 stoppedTree s K p = tree (stoppedInstant s K p) (insert s none)
 
--- ---- the tree of p, whose first pause has rank base, by the ranks m of its active pauses; m is not empty
--- Of a parallel, a side without an active pause has ended; a suspend tests its signal first. A sequence whose second part is
--- active, and a present, are gone from the expansion: they do not react.
-unfoldable pub resumeTree : (base : ℕ) → Statement → (m : ℕ) → (e : ℕ) → Tree
-resumeTree base nothing m e = idleTree
-resumeTree base (pause l) m e = idleTree
-resumeTree base (emit s) m e = idleTree
-resumeTree base (exit n) m e = idleTree
-resumeTree base (seq p q) m e =
-    cond (empty (below (middle base p) m)) (resumeTree (middle base p) q (from (middle base p) m) e)
-    (seqTree q (resumeTree base p (below (middle base p) m) e) (startTree q e))
-resumeTree base (par p q) m e =
-    parTree
-    (cond (empty (below (middle base p) m)) idleTree (resumeTree base p (below (middle base p) m) e))
-    (cond (empty (from (middle base p) m)) idleTree (resumeTree (middle base p) q (from (middle base p) m) e))
-resumeTree base (loop a p) m e = seqTree (loop a p) (resumeTree base p m e) (startTree (loop a p) e)
-resumeTree base (present s p q) m e =
-    cond (empty (below (middle base p) m)) (resumeTree (middle base p) q (from (middle base p) m) e)
-    (resumeTree base p (below (middle base p) m) e)
-resumeTree base (signal sc a s p) m e = signalTree sc a s (resumeTree base p m (remove s e)) (resumeTree base p m (insert s e))
-resumeTree base (try p) m e = tryTree (resumeTree base p m e)
-resumeTree base (setpause l) m e = idleTree
-resumeTree base (suspend s p) m e =
-    cond (member s e) (stoppedTree s (labelsBy base p m) (expand p (labelsBy base p m))) (heldTree s (resumeTree base p m e))
-resumeTree base (held s K p) m e = idleTree
+-- ---- the expansion of p, whose first pause has rank base, by the ranks m of its active pauses; m is not empty
+-- Of a parallel, a side without an active pause has ended; what a suspend holds are the labels of its ranks. A sequence whose
+-- second part is active, and a present, are gone.
+unfoldable pub expandBy : (base : ℕ) → Statement → (m : ℕ) → Statement
+expandBy base nothing m = nothing
+expandBy base (pause l) m = nothing
+expandBy base (emit s) m = nothing
+expandBy base (exit n) m = nothing
+expandBy base (seq p q) m =
+    cond (empty (below (middle base p) m)) (expandBy (middle base p) q (from (middle base p) m))
+    (seq (expandBy base p (below (middle base p) m)) q)
+expandBy base (par p q) m =
+    par
+    (cond (empty (below (middle base p) m)) nothing (expandBy base p (below (middle base p) m)))
+    (cond (empty (from (middle base p) m)) nothing (expandBy (middle base p) q (from (middle base p) m)))
+expandBy base (loop a p) m = seq (expandBy base p m) (loop a p)
+expandBy base (present s p q) m =
+    cond (empty (below (middle base p) m)) (expandBy (middle base p) q (from (middle base p) m))
+    (expandBy base p (below (middle base p) m))
+expandBy base (signal sc a s p) m = signal sc a s (expandBy base p m)
+expandBy base (try p) m = try (expandBy base p m)
+expandBy base (setpause l) m = nothing
+expandBy base (suspend s p) m = held s (labelsBy base p m) (expandBy base p m)
+expandBy base (held s K p) m = nothing
 
 abbrev pub resume : (base : ℕ) → Statement → (m : ℕ) → (e : ℕ) → Instant
-resume base p m e = instantOf (resumeTree base p m e)
+resume base p m e = start (expandBy base p m) e
+
+abbrev pub resumeTree : (base : ℕ) → Statement → (m : ℕ) → (e : ℕ) → Tree
+resumeTree base p m e = startTree (expandBy base p m) e
