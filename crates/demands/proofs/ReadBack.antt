@@ -1,7 +1,7 @@
 -- What a read-back set changes (02, item 5): an empty one nothing, and the host's status of its signals is never read.
 use Prim.Native.Nat.{ℕ, zero, suc, _+_, _<_}
 use native.Mathlib.Omega.{arith}
-use mathlib.Core.Path.{_≡_, refl, sym, ap, _∙_}
+use mathlib.Core.Path.{_≡_, refl, ap, _∙_}
 use mathlib.Core.Bool.{Bool, true, false, _&&_, cond}
 use mathlib.Core.List.{List, [], _∷_, List·Memᴰ}
 use lib.ListN.{length}
@@ -11,10 +11,10 @@ use Rattle.esterel.specs.Sets.{member, none}
 use Rattle.esterel.specs.Statement.{Statement}
 use Rattle.esterel.specs.Reaction.{Order, inheritanceFirst}
 use Rattle.esterel.specs.Expansion.{expand}
-use Rattle.esterel.specs.Resume.{Instant, start}
+use Rattle.esterel.specs.Resume.{start}
 use Rattle.esterel.specs.Machines.{State}
-use Rattle.esterel.specs.ReadBack.{membersFrom, declared, declaredInstant}
-use Rattle.theory.proofs.ReadBack.{members-none, expand-declared, start-declared, AgreeOutside, declared-unread}
+use Rattle.esterel.specs.ReadBack.{membersFrom, declared}
+use Rattle.theory.proofs.ReadBack.{members-none, expand-declared, AgreeOutside, declared-unread}
 use Rattle.limits.specs.Limits.{maxBytes, maxDepth, maxSignals, signalCount, readBackPlace}
 use Rattle.sequence.specs.Reader.{Read, accepted, refused, read}
 use Rattle.esterel.specs.Ceiling.{nesting}
@@ -61,10 +61,7 @@ SameOutside readBack e e′ = AgreeOutside (readBackSignals readBack) e e′
 
 start-unread : (readBack : ℕ) (p : Statement) (e e′ : ℕ) → SameOutside readBack e e′
     → start (program readBack p) e ≡ start (program readBack p) e′
-start-unread readBack p e e′ h =
-    sym (start-declared readBackPlace (readBackSignals readBack) p (start p) (λ x. refl) e)
-    ∙ declared-unread readBackPlace (readBackSignals readBack) (start p) e e′ h
-    ∙ start-declared readBackPlace (readBackSignals readBack) p (start p) (λ x. refl) e′
+start-unread readBack p = declared-unread readBackPlace (readBackSignals readBack) p
 
 resumed-unread : (readBack : ℕ) (p : Statement) (L e e′ : ℕ) → SameOutside readBack e e′
     → start (expand (program readBack p) L) e ≡ start (expand (program readBack p) L) e′

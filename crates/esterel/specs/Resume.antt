@@ -103,6 +103,10 @@ tryTree (tree i a) = tree (tryInstant i) a
 abbrev pub signalTree : Scope → ℕ → ℕ → Tree → Tree → Tree
 signalTree sc a s (tree i− a−) (tree i+ a+) = tree (signalInstant sc a s i− i+) (remove s (join a− a+))
 
+-- the same from one run that stands for both, and does not ask for s
+abbrev pub signalOnce : Scope → ℕ → ℕ → Tree → Tree
+signalOnce sc a s (tree i b) = tree (signalInstant sc a s i i) b
+
 -- a fresh suspend, and a held one whose signal is absent, or present
 abbrev pub suspendTree : ℕ → Tree → Tree
 suspendTree s (tree i a) = tree (suspendInstant s i) a

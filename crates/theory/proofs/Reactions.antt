@@ -62,11 +62,11 @@ some-command (suspend s p) = omega arith
 some-command (held s K p) = omega arith
 
 -- ---- derivations
-stays : (k : Code) (x : ℕ) → k ≢ ended → ifEnded k x 0 ≡ 0
-stays ended x n = absurd (n refl)
-stays waiting x n = refl
-stays (leaving m) x n = refl
-stays wrong x n = refl
+pub stays : (k : Code) (x y : ℕ) → k ≢ ended → ifEnded k x y ≡ y
+stays ended x y n = absurd (n refl)
+stays waiting x y n = refl
+stays (leaving m) x y n = refl
+stays wrong x y n = refl
 
 -- TREE: one reaction for each use of a rule
 pub rules-used : {p : Statement} {e : ℕ} {r : Reaction} (d : Reacts p e r) → rulesUsed d ≡ reactions p e
@@ -84,7 +84,7 @@ rules-used (Reacts.try-catch d) = rw (rules-used d)
 rules-used (Reacts.try-through d n) = rw (rules-used d)
 rules-used {e = e} (Reacts.sequence-p {k = k} {p = p} {q = q} d n) =
     let i = rules-used d in
-    let j : ifEnded (code (react p e)) (reactions q e) 0 ≡ 0 = rw (← sound d) (stays k (reactions q e) n) in
+    let j : ifEnded (code (react p e)) (reactions q e) 0 ≡ 0 = rw (← sound d) (stays k (reactions q e) 0 n) in
     omega arith
 rules-used (Reacts.sequence-q d d₂) = rw (rules-used d, rules-used d₂, ← sound d)
 rules-used (Reacts.signal++ d− i− d+ i+ n) = rw (rules-used d−, rules-used d+)

@@ -3,25 +3,27 @@
 use Prim.Native.Nat.{ℕ, zero, suc, _+_, _≤_, _<_}
 use mathlib.Core.Path.{_≡_, refl, sym, ap, ap₂, _∙_}
 use mathlib.Core.Logic.{_≢_, inl, inr, ⊎-elim}
-use mathlib.Core.Bool.{Bool, true, false, not, _&&_, _||_}
+use mathlib.Core.Bool.{Bool, true, false, not, _&&_, false≢true}
 use mathlib.Core.List.{List, [], _∷_, List·Memᴰ, List·Memᴰ·cases-cons, List·Memᴰ·not-nil}
 use lib.Dec.{eqb}
 use native.Mathlib.Omega.{arith}
 use native.Mathlib.Decide.{ℕ-discrete}
 use borrow.Author.Tests.{eqb-false, eq-eqb, ne-eqb}
-use Rattle.esterel.specs.Sets.{member, none, insert, remove}
+use Rattle.esterel.specs.Sets.{member, none, join, insert, remove}
 use Rattle.esterel.specs.Statement.{reported, Statement, pause, signal, setpause, held}
 use Rattle.esterel.specs.Reaction.{waiting, Reaction, code, residual, Case, both, neither, only−, only+, inherited, inheritanceFirst, caseOf, answer, reactBy, react}
 use Rattle.esterel.specs.Places.{Place, signal₁, At}
 use Rattle.esterel.specs.States.{Holds, NoSetpause, Source}
 use Rattle.esterel.specs.Expansion.{expand}
 use Rattle.esterel.specs.LabelTests.{labelsOf, everyLabel, before, distinct, targeted, wellFormed, valid}
-use Rattle.esterel.specs.Resume.{Instant, signalInstant, start}
-use Rattle.esterel.specs.ReadBack.{keepIf, membersFrom, declared, declaredInstant}
-use Rattle.theory.proofs.Booleans.{or-true, and-true, and-false, Tested, tested}
-use Rattle.theory.proofs.Sets.{member-none, member-insert, member-remove, ext}
+use Rattle.esterel.specs.Asked.{askedBy, asked}
+use Rattle.esterel.specs.Resume.{start, instantOf}
+use Rattle.esterel.specs.ReadBack.{keepIf, membersFrom, declared}
+use Rattle.theory.proofs.Booleans.{and-true, and-false}
+use Rattle.theory.proofs.Sets.{member-none, member-remove}
+use Rattle.theory.proofs.LabelSets.{in-join}
 use Rattle.theory.proofs.Stability.{Stops}
-use Rattle.theory.proofs.Resume.{start-signal}
+use Rattle.theory.proofs.Asked.{unasked-tree}
 
 -- ---- an empty set has no members
 pub members-none : (n i : ℕ) → membersFrom n i none ≡ []
@@ -60,15 +62,6 @@ unfolding declared expand
 expand-declared a [] p L = refl
 expand-declared a (s ∷ ss) p L = ap (signal reported a s) (expand-declared a ss p L)
 
--- ---- the instant, from that of the statement inside
-pub start-declared : (a : ℕ) (ss : List ℕ) (p : Statement) (f : ℕ → Instant) → ((e : ℕ) → f e ≡ start p e)
-    → (e : ℕ) → declaredInstant a ss f e ≡ start (declared a ss p) e
-unfolding declared declaredInstant
-start-declared a [] p f h e = h e
-start-declared a (s ∷ ss) p f h e =
-    ap₂ (signalInstant reported a s) (start-declared a ss p f h (remove s e)) (start-declared a ss p f h (insert s e))
-    ∙ sym (start-signal reported a s (declared a ss p) e)
-
 -- ---- REWRITING: what remains after code 1 is under the same declarations
 abbrev pub RemainsUnder : (a : ℕ) → List ℕ → Statement → Statement → Type 0
 RemainsUnder a ss p t =
@@ -99,32 +92,30 @@ remains-declared a (s ∷ ss) p e h =
 abbrev pub AgreeOutside : List ℕ → (e e′ : ℕ) → Type 0
 AgreeOutside ss e e′ = (i : ℕ) → ¬ List·Memᴰ i ss → member i e ≡ member i e′
 
-module _ (s : ℕ) (ss : List ℕ) (e e′ : ℕ) (h : AgreeOutside (s ∷ ss) e e′) where
-  other : (i : ℕ) → eqb s i ≡ false → ¬ List·Memᴰ i ss → member i e ≡ member i e′
-  other i n out = h i (λ m. ⊎-elim (λ x. eqb-false s i n (sym x)) out (List·Memᴰ·cases-cons m))
+-- whoever asks inside a declaration of s for s asks for the declared one
+asked-other : (s i b : ℕ) → member i (remove s b) ≡ true → (member i b ≡ true) × (eqb s i ≡ false)
+asked-other s i b h = go (member i b) (eqb s i) (sym (member-remove s b i) ∙ h)
+  where
+    go : (m x : Bool) → (m && not x) ≡ true → (m ≡ true) × (x ≡ false)
+    go true true k = absurd (false≢true k)
+    go true false k = (refl, refl)
+    go false x k = absurd (false≢true k)
 
-  agree-removed : AgreeOutside ss (remove s e) (remove s e′)
-  agree-removed i out = rw (member-remove s e i, member-remove s e′ i) (go (tested (eqb s i)))
-    where
-      go : Tested (eqb s i) → (member i e && not (eqb s i)) ≡ (member i e′ && not (eqb s i))
-      go (Tested.yes x) = rw x (and-false (member i e) ∙ sym (and-false (member i e′)))
-      go (Tested.no x) = ap (λ (b : Bool). b && not (eqb s i)) (other i x out)
+declared-unasked : (a : ℕ) (ss : List ℕ) (p : Statement) (e i : ℕ) → member i (asked (declared a ss p) e) ≡ true → ¬ List·Memᴰ i ss
+unfolding declared askedBy
+declared-unasked a [] p e i h m = List·Memᴰ·not-nil m
+declared-unasked a (s ∷ ss) p e i h m =
+    let b− = asked (declared a ss p) (remove s e) in
+    let b+ = asked (declared a ss p) (insert s e) in
+    let x = asked-other s i (join b− b+) h in
+    ⊎-elim (λ k. eqb-false s i (x .1) (sym k))
+    (λ k. ⊎-elim (λ y. declared-unasked a ss p (remove s e) i y k) (λ y. declared-unasked a ss p (insert s e) i y k) (in-join i b− b+ (x .0)))
+    (List·Memᴰ·cases-cons m)
 
-  agree-inserted : AgreeOutside ss (insert s e) (insert s e′)
-  agree-inserted i out = rw (member-insert s e i, member-insert s e′ i) (go (tested (eqb s i)))
-    where
-      go : Tested (eqb s i) → (member i e || eqb s i) ≡ (member i e′ || eqb s i)
-      go (Tested.yes x) = rw x (or-true (member i e) ∙ sym (or-true (member i e′)))
-      go (Tested.no x) = ap (λ (b : Bool). b || eqb s i) (other i x out)
-
-pub declared-unread : (a : ℕ) (ss : List ℕ) (f : ℕ → Instant) (e e′ : ℕ) → AgreeOutside ss e e′
-    → declaredInstant a ss f e ≡ declaredInstant a ss f e′
-unfolding declaredInstant
-declared-unread a [] f e e′ h = ap f (ext e e′ (λ i. h i (λ m. List·Memᴰ·not-nil m)))
-declared-unread a (s ∷ ss) f e e′ h =
-    ap₂ (signalInstant reported a s)
-    (declared-unread a ss f (remove s e) (remove s e′) (agree-removed s ss e e′ h))
-    (declared-unread a ss f (insert s e) (insert s e′) (agree-inserted s ss e e′ h))
+pub declared-unread : (a : ℕ) (ss : List ℕ) (p : Statement) (e e′ : ℕ) → AgreeOutside ss e e′
+    → start (declared a ss p) e ≡ start (declared a ss p) e′
+declared-unread a ss p e e′ h =
+    ap instantOf (sym (unasked-tree (declared a ss p) e e′ (λ i m. h i (declared-unasked a ss p e i m))))
 
 -- ---- labels: the declarations have none
 module _ (a : ℕ) where

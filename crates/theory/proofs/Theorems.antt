@@ -1,16 +1,17 @@
 -- The theorems of this crate in the words of the papers, each a line or two over the files beside it. Others stand
 -- where they are proved: `reacts-is` of Rules (003, corollary 11), `uses-is` and `first-use` of Derivations, `figure-5` of Figure5.
 use Prim.Native.Nat.{ℕ, _+_, _-_, _*_, _^_, _≤_, min}
-use mathlib.Core.Path.{_≡_, refl, sym, _∙_}
+use mathlib.Core.Path.{_≡_, refl, sym, ap, _∙_}
 use mathlib.Core.Logic.{_↔_, _≢_}
 use mathlib.Core.Bool.{true, false}
 use mathlib.Core.Option.{Option}
-use mathlib.Core.List.{List, []}
-use Rattle.esterel.specs.Sets.{member, none}
-use Rattle.esterel.specs.Statement.{Statement, pause, suspend}
-use Rattle.esterel.specs.Reaction.{ended, waiting, leaving, wrong, Reaction, gives, emitted, code, labels, residual, isWrong, printed, reactBy, react}
+use mathlib.Core.List.{List, [], _∷_}
+use Rattle.esterel.specs.Sets.{member, none, insert, remove}
+use Rattle.esterel.specs.Statement.{Scope, reported, Statement, pause, signal, suspend}
+use Rattle.esterel.specs.Reaction.{ended, waiting, leaving, wrong, Reaction, gives, emitted, code, labels, residual, isWrong, printed, inheritanceFirst, reactBy, react}
 use Rattle.esterel.specs.Errors.{errorsBy, errors, firstErrorBy, firstError}
 use Rattle.esterel.specs.Reactions.{reactionsBy, reactions, rulesUsed}
+use Rattle.esterel.specs.Asked.{asked, asks}
 use Rattle.esterel.specs.SignalOrders.{overlap}
 use Rattle.esterel.specs.Rules.{Reacts}
 use Rattle.esterel.specs.Ceiling.{commands, nesting, ceiling, LoopFree, dearest}
@@ -18,7 +19,7 @@ use Rattle.esterel.specs.States.{Holds, active, Valid, Distinct, Targeted, NoSe
 use Rattle.esterel.specs.Expansion.{expand}
 use Rattle.esterel.specs.LabelTests.{activeLabels}
 use Rattle.esterel.specs.Ranks.{mask, labelsBy}
-use Rattle.esterel.specs.Resume.{instant, start, suspendInstant, resume}
+use Rattle.esterel.specs.Resume.{instant, start, suspendInstant, askedOf, startTree, signalOnce, expandBy, resume, resumeTree}
 use Rattle.esterel.specs.ReadBack.{declared}
 use Rattle.esterel.specs.Machines.{run, reached, State, byLabels, Rewriting, byRewriting, erase}
 use Rattle.theory.proofs.Booleans.{never, clash, Tested, tested}
@@ -33,8 +34,10 @@ use Rattle.theory.proofs.Residual.{Remains, residual-fresh, residual-re
 use Rattle.theory.proofs.Places.{Together}
 use Rattle.theory.proofs.Stability.{Stops, SoundLabels, labels-fresh, labels-resumed, together-none, sound-valid}
 use Rattle.theory.proofs.Ranks.{none-is, labels-by}
-use Rattle.theory.proofs.Resume.{start-held, resumes}
-use Rattle.theory.proofs.ReadBack.{expand-declared, start-declared, RemainsUnder, remains-declared, AgreeOutside, declared-unread}
+use Rattle.theory.proofs.Trees.{start-held}
+use Rattle.theory.proofs.Resume.{expand-by}
+use Rattle.theory.proofs.ReadBack.{expand-declared, RemainsUnder, remains-declared, AgreeOutside, declared-unread}
+use Rattle.theory.proofs.Asked.{unasked, one-run, one-run-signal, asks-is}
 use Rattle.theory.proofs.Agreement.{ValidState, agree, valid-reached}
 use Rattle.theory.proofs.Erasure.{erased-reaction, erased-errors, erased-reactions, erased-run}
 
@@ -73,10 +76,13 @@ pub residual-is-expansion : (p : Statement) → Source p → Distinct p → NoSe
 residual-is-expansion p c d n e o l t x =
     both-fit Remains p e (residual-fresh p e) (λ L. residual-resumed p L e) x c d n .equal
 
--- 2. RESUME, by the ranks of the active pauses, is the instant of the expansion, its first error and number of reactions
--- included, where a pause is active; else there are no such ranks
+-- 2. RESUME. Where a pause is active, the expansion by the ranks of the active pauses is the expansion, and so is its instant, its
+-- first error and number of reactions included; else there are no such ranks
+pub ranks-expand : (base : ℕ) (p : Statement) (L : ℕ) → Awake p L → expandBy base p (mask base p L) ≡ expand p L
+ranks-expand base p L w = expand-by base p L (active-is p L .1 w)
+
 pub resume-reacts : (base : ℕ) (p : Statement) (L e : ℕ) → Awake p L → resume base p (mask base p L) e ≡ start (expand p L) e
-resume-reacts base p L e w = resumes base p L e (active-is p L .1 w)
+resume-reacts base p L e w = ap (λ (t : Statement). start t e) (ranks-expand base p L w)
 
 pub mask-inactive : (base : ℕ) (p : Statement) (L : ℕ) → (mask base p L ≡ none) ↔ (¬ Awake p L)
 mask-inactive base p L = (
@@ -186,9 +192,7 @@ rewriting-inside = remains-declared
 -- the host's status of a declared signal is not read
 pub declared-not-read : (a : ℕ) (ss : List ℕ) (p : Statement) (e e′ : ℕ) → AgreeOutside ss e e′
     → start (declared a ss p) e ≡ start (declared a ss p) e′
-declared-not-read a ss p e e′ h =
-    sym (start-declared a ss p (start p) (λ x. refl) e) ∙ declared-unread a ss (start p) e e′ h
-    ∙ start-declared a ss p (start p) (λ x. refl) e′
+declared-not-read = declared-unread
 
 -- 10. THE NUMBER OF REACTIONS (02, item 6) is that of the rules used in any derivation
 pub number-of-rules : {p : Statement} {e : ℕ} {r : Reaction} (d : Reacts p e r) → rulesUsed d ≡ reactions p e
@@ -205,3 +209,29 @@ dearest-holds g p e h = (dearests.fresh-dearest g p e h, λ f L. dearests.resume
 
 pub dearest-product : (g n : ℕ) → let k = min g (n - 1) in dearest g n ≡ 2 ^ k * (n - k + 1)
 dearest-product = dearests.dearest-is
+
+-- 11. THE SIGNALS ASKED FOR are those that the rules used in any derivation test, a declaration hiding its own
+pub asked-is-tested : {p : Statement} {e : ℕ} {r : Reaction} (d : Reacts p e r) → asks d ≡ asked p e
+asked-is-tested = asks-is
+
+-- two present sets that agree on them give the same reaction, errors, number of reactions and signals asked for
+pub not-asked : (p : Statement) (e e′ : ℕ) → ((s : ℕ) → member s (asked p e) ≡ true → member s e ≡ member s e′)
+    → (react p e′ ≡ react p e) × (errors p e′ ≡ errors p e) × (reactions p e′ ≡ reactions p e) × (asked p e′ ≡ asked p e)
+not-asked = unasked inheritanceFirst
+
+-- So where the run of a signal's body without the signal does not ask for it, that run is the run with it, and the signal asks for
+-- what that run asks for; of a statement,
+pub one-run-for-both : (sc : Scope) (a s : ℕ) (p : Statement) (e : ℕ) → member s (asked p (remove s e)) ≡ false
+    → (startTree p (insert s e) ≡ startTree p (remove s e)) × (asked (signal sc a s p) e ≡ asked p (remove s e))
+one-run-for-both sc a s p e h = (one-run s p e h, ap askedOf (one-run-signal s p e h sc a))
+
+-- of one that resumes by any ranks, and under read-back declarations
+pub one-run-resumed : (sc : Scope) (a s base : ℕ) (p : Statement) (m e : ℕ) → member s (askedOf (resumeTree base p m (remove s e))) ≡ false
+    → resumeTree base (signal sc a s p) m e ≡ signalOnce sc a s (resumeTree base p m (remove s e))
+unfolding expandBy
+one-run-resumed sc a s base p m e h = one-run-signal s (expandBy base p m) e h sc a
+
+pub one-run-declared : (a s : ℕ) (ss : List ℕ) (p : Statement) (e : ℕ) → member s (asked (declared a ss p) (remove s e)) ≡ false
+    → startTree (declared a (s ∷ ss) p) e ≡ signalOnce reported a s (startTree (declared a ss p) (remove s e))
+unfolding declared
+one-run-declared a s ss p e h = one-run-signal s (declared a ss p) e h reported a

@@ -1,0 +1,200 @@
+-- A status that the tree of an instant does not ask for changes nothing of it. So where the run of a signal's body without the
+-- signal does not ask for it, that run is the run with it too.
+use Prim.Native.Nat.{ℕ, _+_}
+use mathlib.Core.Path.{_≡_, refl, sym, ap, _∙_}
+use mathlib.Core.Bool.{Bool, true, false, not, _&&_, _||_, cond}
+use mathlib.Core.List.{[], _++_}
+use lib.Dec.{eqb}
+use borrow.Author.Tests.{eqb-true, eq-eqb}
+use Rattle.esterel.specs.Sets.{member, none, join, insert, remove}
+use Rattle.esterel.specs.Statement.{Scope, Statement, nothing, pause, emit, exit, seq, par, loop, present, signal, try, setpause, suspend, held}
+use Rattle.esterel.specs.Reaction.{ended, waiting, leaving, wrong, Reaction, gives, code, inSeq, inSuspend, stopped, Order, inheritanceFirst, reactBy, react}
+use Rattle.esterel.specs.Rules.{Reacts}
+use Rattle.esterel.specs.Errors.{ifEnded, errorsBy}
+use Rattle.esterel.specs.Reactions.{reactionsBy}
+use Rattle.esterel.specs.Asked.{askedBy, asked, asks}
+use Rattle.esterel.specs.Resume.{signalInstant, Tree, tree, askedOf, startTree, signalTree, signalOnce}
+use Rattle.theory.proofs.Booleans.{or-l, or-true, or-false, and-true, and-false, clash, Tested, tested}
+use Rattle.theory.proofs.Sets.{member-join, member-insert, member-remove, join-none-r, ext}
+use Rattle.theory.proofs.LabelSets.{in-l, in-r}
+use Rattle.theory.proofs.Rules.{sound}
+use Rattle.theory.proofs.Reactions.{stays}
+use Rattle.theory.proofs.Trees.{start-tree-signal}
+
+-- ---- two present sets that give each member of a set the same status
+abbrev pub Agree : (a e e′ : ℕ) → Type 0
+Agree a e e′ = (i : ℕ) → member i a ≡ true → member i e ≡ member i e′
+
+module _ (a b e e′ : ℕ) (h : Agree (join a b) e e′) where
+  agree-l : Agree a e e′
+  agree-l i m = h i (in-l i a b m)
+
+  agree-r : Agree b e e′
+  agree-r i m = h i (in-r i a b m)
+
+module _ (s a e e′ : ℕ) (h : Agree (insert s a) e e′) where
+  agree-tested : member s e′ ≡ member s e
+  agree-tested = sym (h s (member-insert s a s ∙ rw (eq-eqb s s refl) (or-true (member s a))))
+
+  agree-taken : Agree a e e′
+  agree-taken i m = h i (member-insert s a i ∙ or-l (member i a) (eqb s i) m)
+
+-- in each run of a signal its own status is given, and the others stay
+module _ (s a e e′ : ℕ) (h : Agree (remove s a) e e′) where
+  other : (i : ℕ) → eqb s i ≡ false → member i a ≡ true → member i e ≡ member i e′
+  other i n m = h i (member-remove s a i ∙ rw (n, m))
+
+  agree-without : Agree a (remove s e) (remove s e′)
+  agree-without i m = rw (member-remove s e i, member-remove s e′ i) (go (tested (eqb s i)))
+    where
+      go : Tested (eqb s i) → (member i e && not (eqb s i)) ≡ (member i e′ && not (eqb s i))
+      go (Tested.yes x) = rw x (and-false (member i e) ∙ sym (and-false (member i e′)))
+      go (Tested.no x) = ap (λ (b : Bool). b && not (eqb s i)) (other i x m)
+
+  agree-with : Agree a (insert s e) (insert s e′)
+  agree-with i m = rw (member-insert s e i, member-insert s e′ i) (go (tested (eqb s i)))
+    where
+      go : Tested (eqb s i) → (member i e || eqb s i) ≡ (member i e′ || eqb s i)
+      go (Tested.yes x) = rw x (or-true (member i e) ∙ sym (or-true (member i e′)))
+      go (Tested.no x) = ap (λ (b : Bool). b || eqb s i) (other i x m)
+
+-- ---- UNASKED, by either order of the signal rules
+module _ (ord : Order) where
+  abbrev pub SameTree : (p : Statement) (e e′ : ℕ) → Type 0
+  SameTree p e e′ =
+      (reactBy ord p e′ ≡ reactBy ord p e) × (errorsBy ord p e′ ≡ errorsBy ord p e) × (reactionsBy ord p e′ ≡ reactionsBy ord p e)
+      × (askedBy ord p e′ ≡ askedBy ord p e)
+
+  -- where the statuses that are asked for agree
+  abbrev Unasked : (p : Statement) (e e′ : ℕ) → Type 0
+  Unasked p e e′ = Agree (askedBy ord p e) e e′ → SameTree p e e′
+
+  seq-unasked : (p q : Statement) (e e′ : ℕ) → SameTree p e e′ → Unasked q e e′ → Unasked (seq p q) e e′
+  unfolding reactBy errorsBy reactionsBy askedBy
+  seq-unasked p q e e′ f g h =
+      rw (f .0, f .1, f .2, f .3)
+      (go (reactBy ord p e) (agree-r (askedBy ord p e) (ifEnded (code (reactBy ord p e)) (askedBy ord q e) none) e e′ h))
+    where
+      go : (r : Reaction) → Agree (ifEnded (code r) (askedBy ord q e) none) e e′
+          → (inSeq q r (reactBy ord q e′) ≡ inSeq q r (reactBy ord q e))
+          × (errorsBy ord p e ++ ifEnded (code r) (errorsBy ord q e′) [] ≡ errorsBy ord p e ++ ifEnded (code r) (errorsBy ord q e) [])
+          × (1 + reactionsBy ord p e + ifEnded (code r) (reactionsBy ord q e′) 0 ≡ 1 + reactionsBy ord p e + ifEnded (code r) (reactionsBy ord q e) 0)
+          × (join (askedBy ord p e) (ifEnded (code r) (askedBy ord q e′) none) ≡ join (askedBy ord p e) (ifEnded (code r) (askedBy ord q e) none))
+      go (gives o ended l t) k = rw (g k .0, g k .1, g k .2, g k .3) (refl, refl, refl, refl)
+      go (gives o waiting l t) k = (refl, refl, refl, refl)
+      go (gives o (leaving n) l t) k = (refl, refl, refl, refl)
+      go (gives o wrong l t) k = (refl, refl, refl, refl)
+
+  present-unasked : (s : ℕ) (p q : Statement) (e e′ : ℕ) → Unasked p e e′ → Unasked q e e′ → Unasked (present s p q) e e′
+  unfolding reactBy errorsBy reactionsBy askedBy
+  present-unasked s p q e e′ f g h =
+      rw (agree-tested s _ e e′ h) (go (member s e) (agree-taken s _ e e′ h))
+    where
+      go : (b : Bool) → Agree (cond b (askedBy ord p e) (askedBy ord q e)) e e′
+          → (cond b (reactBy ord p e′) (reactBy ord q e′) ≡ cond b (reactBy ord p e) (reactBy ord q e))
+          × (cond b (errorsBy ord p e′) (errorsBy ord q e′) ≡ cond b (errorsBy ord p e) (errorsBy ord q e))
+          × (1 + cond b (reactionsBy ord p e′) (reactionsBy ord q e′) ≡ 1 + cond b (reactionsBy ord p e) (reactionsBy ord q e))
+          × (insert s (cond b (askedBy ord p e′) (askedBy ord q e′)) ≡ insert s (cond b (askedBy ord p e) (askedBy ord q e)))
+      go true k = rw (f k .0, f k .1, f k .2, f k .3) (refl, refl, refl, refl)
+      go false k = rw (g k .0, g k .1, g k .2, g k .3) (refl, refl, refl, refl)
+
+  held-unasked : (s K : ℕ) (p : Statement) (e e′ : ℕ) → Unasked p e e′ → Unasked (held s K p) e e′
+  unfolding reactBy errorsBy reactionsBy askedBy
+  held-unasked s K p e e′ f h =
+      rw (agree-tested s _ e e′ h) (go (member s e) (agree-taken s _ e e′ h))
+    where
+      go : (b : Bool) → Agree (cond b none (askedBy ord p e)) e e′
+          → (cond b (stopped s K p) (inSuspend s (reactBy ord p e′)) ≡ cond b (stopped s K p) (inSuspend s (reactBy ord p e)))
+          × (cond b [] (errorsBy ord p e′) ≡ cond b [] (errorsBy ord p e))
+          × (1 + cond b 0 (reactionsBy ord p e′) ≡ 1 + cond b 0 (reactionsBy ord p e))
+          × (insert s (cond b none (askedBy ord p e′)) ≡ insert s (cond b none (askedBy ord p e)))
+      go true k = (refl, refl, refl, refl)
+      go false k = rw (f k .0, f k .1, f k .2, f k .3) (refl, refl, refl, refl)
+
+  pub unasked : (p : Statement) (e e′ : ℕ) → Agree (askedBy ord p e) e e′ → SameTree p e e′
+  unfolding reactBy errorsBy reactionsBy askedBy
+  unasked nothing e e′ h = (refl, refl, refl, refl)
+  unasked (pause l) e e′ h = (refl, refl, refl, refl)
+  unasked (emit s) e e′ h = (refl, refl, refl, refl)
+  unasked (exit n) e e′ h = (refl, refl, refl, refl)
+  unasked (seq p q) e e′ h =
+      seq-unasked p q e e′
+      (unasked p e e′ (agree-l (askedBy ord p e) (ifEnded (code (reactBy ord p e)) (askedBy ord q e) none) e e′ h)) (unasked q e e′) h
+  unasked (par p q) e e′ h =
+      let f = unasked p e e′ (agree-l (askedBy ord p e) (askedBy ord q e) e e′ h) in
+      let g = unasked q e e′ (agree-r (askedBy ord p e) (askedBy ord q e) e e′ h) in
+      rw (f .0, f .1, f .2, f .3, g .0, g .1, g .2, g .3) (refl, refl, refl, refl)
+  unasked (loop a p) e e′ h = let f = unasked p e e′ h in rw (f .0, f .1, f .2, f .3) (refl, refl, refl, refl)
+  unasked (present s p q) e e′ h = present-unasked s p q e e′ (unasked p e e′) (unasked q e e′) h
+  unasked (signal sc a s p) e e′ h =
+      let a− = askedBy ord p (remove s e) in
+      let a+ = askedBy ord p (insert s e) in
+      let f = unasked p (remove s e) (remove s e′) (agree-l a− a+ (remove s e) (remove s e′) (agree-without s (join a− a+) e e′ h)) in
+      let g = unasked p (insert s e) (insert s e′) (agree-r a− a+ (insert s e) (insert s e′) (agree-with s (join a− a+) e e′ h)) in
+      rw (f .0, f .1, f .2, f .3, g .0, g .1, g .2, g .3) (refl, refl, refl, refl)
+  unasked (try p) e e′ h = let f = unasked p e e′ h in rw (f .0, f .1, f .2, f .3) (refl, refl, refl, refl)
+  unasked (setpause l) e e′ h = (refl, refl, refl, refl)
+  unasked (suspend s p) e e′ h = let f = unasked p e e′ h in rw (f .0, f .1, f .2, f .3) (refl, refl, refl, refl)
+  unasked (held s K p) e e′ h = held-unasked s K p e e′ (unasked p e e′) h
+
+pub unasked-tree : (p : Statement) (e e′ : ℕ) → Agree (asked p e) e e′ → startTree p e′ ≡ startTree p e
+unasked-tree p e e′ h = let f = unasked inheritanceFirst p e e′ h in rw (f .0, f .1, f .2, f .3) refl
+
+-- ---- ONE RUN: the two runs of a signal s differ in s only
+agree-runs : (s a e : ℕ) → member s a ≡ false → Agree a (remove s e) (insert s e)
+agree-runs s a e h i m = rw (member-remove s e i, member-insert s e i) (go (tested (eqb s i)))
+  where
+    go : Tested (eqb s i) → (member i e && not (eqb s i)) ≡ (member i e || eqb s i)
+    go (Tested.yes x) = clash (member s a) (ap (λ (j : ℕ). member j a) (eqb-true s i x) ∙ m) h
+    go (Tested.no x) = rw x (and-true (member i e) ∙ sym (or-false (member i e)))
+
+pub one-run : (s : ℕ) (p : Statement) (e : ℕ) → member s (asked p (remove s e)) ≡ false → startTree p (insert s e) ≡ startTree p (remove s e)
+one-run s p e h = unasked-tree p (remove s e) (insert s e) (agree-runs s (asked p (remove s e)) e h)
+
+-- two equal runs that do not ask for s ask for the same outside its declaration
+twice : (s a : ℕ) → member s a ≡ false → remove s (join a a) ≡ a
+twice s a h =
+    ext (remove s (join a a)) a (λ i. member-remove s (join a a) i ∙ rw (member-join i a a) (go i (tested (eqb s i)) (tested (member i a))))
+  where
+    go : (i : ℕ) → Tested (eqb s i) → Tested (member i a) → ((member i a || member i a) && not (eqb s i)) ≡ member i a
+    go i (Tested.yes x) (Tested.yes m) = clash (member s a) (ap (λ (j : ℕ). member j a) (eqb-true s i x) ∙ m) h
+    go i (Tested.yes x) (Tested.no m) = rw (x, m)
+    go i (Tested.no x) (Tested.yes m) = rw (x, m)
+    go i (Tested.no x) (Tested.no m) = rw (x, m)
+
+pub once-is : (sc : Scope) (a s : ℕ) (t : Tree) → member s (askedOf t) ≡ false → signalTree sc a s t t ≡ signalOnce sc a s t
+once-is sc a s (tree i b) h = ap (tree (signalInstant sc a s i i)) (twice s b h)
+
+pub one-run-signal : (s : ℕ) (p : Statement) (e : ℕ) → member s (asked p (remove s e)) ≡ false → (sc : Scope) (a : ℕ)
+    → startTree (signal sc a s p) e ≡ signalOnce sc a s (startTree p (remove s e))
+one-run-signal s p e h sc a =
+    start-tree-signal sc a s p e ∙ ap (signalTree sc a s (startTree p (remove s e))) (one-run s p e h)
+    ∙ once-is sc a s (startTree p (remove s e)) h
+
+-- ---- DERIVATIONS: what is asked for is what the rules used test
+pub asks-is : {p : Statement} {e : ℕ} {r : Reaction} (d : Reacts p e r) → asks d ≡ asked p e
+unfolding asks askedBy
+asks-is Reacts.nothing = refl
+asks-is Reacts.pause = refl
+asks-is Reacts.exit = refl
+asks-is Reacts.emit = refl
+asks-is (Reacts.loop d n) = asks-is d
+asks-is (Reacts.loop-error d z) = asks-is d
+asks-is (Reacts.parallel d d₂) = rw (asks-is d, asks-is d₂)
+asks-is (Reacts.present+ i d) = rw (i, asks-is d)
+asks-is (Reacts.present− i d) = rw (i, asks-is d)
+asks-is (Reacts.try-catch d) = asks-is d
+asks-is (Reacts.try-through d n) = asks-is d
+asks-is {e = e} (Reacts.sequence-p {k = k} {p = p} {q = q} d n) =
+    let j : ifEnded (code (react p e)) (asked q e) none ≡ none = rw (← sound d) (stays k (asked q e) none n) in
+    rw (j, asks-is d) (sym (join-none-r (asked p e)))
+asks-is (Reacts.sequence-q d d₂) = rw (asks-is d, asks-is d₂, ← sound d)
+asks-is (Reacts.signal++ d− i− d+ i+ n) = rw (asks-is d−, asks-is d+)
+asks-is (Reacts.signal−− d− i− d+ i+ n) = rw (asks-is d−, asks-is d+)
+asks-is (Reacts.signal+− d− i− d+ i+ n) = rw (asks-is d−, asks-is d+)
+asks-is (Reacts.signal−+ d− i− d+ i+ n) = rw (asks-is d−, asks-is d+)
+asks-is (Reacts.signal∞ d− d+ w) = rw (asks-is d−, asks-is d+)
+asks-is Reacts.setpause = refl
+asks-is (Reacts.suspend d) = asks-is d
+asks-is (Reacts.held+ i) = rw i
+asks-is (Reacts.held− i d) = rw (i, asks-is d)
