@@ -55,7 +55,7 @@ asks (Reacts.held− {s = s} i d) = insert s (asks d)
 
 -- ---- by computation
 -- a test of signal s, and nothing more
-abbrev tests : ℕ → Statement
+abbrev pub tests : ℕ → Statement
 tests s = present s nothing nothing
 
 -- A test is asked, and what the branch taken asks; what is emitted is not.
@@ -70,8 +70,9 @@ hidden : (asked (signal local 0 3 (tests 3)) 0 ≡ 0)
     × (asked (signal reported 0 3 (tests 3)) 0 ≡ 0)
     × (asked (signal local 0 3 (present 3 (tests 1) nothing)) 0 ≡ 2)
     × (asked (signal local 0 3 (present 3 nothing (tests 2))) 8 ≡ 4)
+    × (asked (signal local 1 0 (par (tests 0) (tests 1))) 0 ≡ 2)
 unfolding askedBy reactBy member none only join insert remove
-hidden = (refl, refl, refl, refl)
+hidden = (refl, refl, refl, refl, refl)
 
 -- An inner declaration hides an outer signal of the same number inside it, and only there.
 shadowed : (asked (signal local 2 0 (tests 0)) 1 ≡ 0)

@@ -1,14 +1,15 @@
 -- What one instant tells, fresh or of a waiting statement by the ranks of its active pauses, and its tree; what a command makes
 -- of those of its parts, by which the code goes, with no expansion built.
 use Prim.Native.Nat.{ℕ, _+_}
+use mathlib.Core.Path.{_≡_, refl}
 use mathlib.Core.Bool.{cond}
 use mathlib.Core.Option.{Option, some}
-use Rattle.esterel.specs.Sets.{none, join, insert, remove, empty, below, from}
-use Rattle.esterel.specs.Statement.{Scope, Statement, nothing, pause, emit, exit, seq, par, loop, present, signal, try, setpause, suspend, held}
+use Rattle.esterel.specs.Sets.{member, none, only, join, insert, remove, empty, below, from}
+use Rattle.esterel.specs.Statement.{Scope, local, Statement, nothing, pause, emit, exit, seq, par, loop, present, signal, try, setpause, suspend, held}
 use Rattle.esterel.specs.Reaction.{Code, isWrong, Reaction, code, quiet, inSeq, inPar, inLoop, inTry, inSuspend, stopped, Case, both, neither, only−, only+, inherited, Order, inheritanceFirst, caseOf, inSignal, reactBy}
-use Rattle.esterel.specs.Errors.{Error, instantaneous, notReactive, notDeterministic, ifEnded, firstErrorBy}
+use Rattle.esterel.specs.Errors.{Error, instantaneous, notReactive, notDeterministic, ifEnded, errorsBy, firstErrorBy}
 use Rattle.esterel.specs.Reactions.{reactionsBy}
-use Rattle.esterel.specs.Asked.{asked}
+use Rattle.esterel.specs.Asked.{askedBy, asked, tests}
 use Rattle.esterel.specs.Ranks.{middle, labelsBy}
 
 -- a reaction with the first error of its tree, where it is wrong, and the number of reactions in it
@@ -147,3 +148,25 @@ resume base p m e = start (expandBy base p m) e
 
 abbrev pub resumeTree : (base : ℕ) → Statement → (m : ℕ) → (e : ℕ) → Tree
 resumeTree base p m e = startTree (expandBy base p m) e
+
+-- ---- by computation: a tree is what its command makes of the trees of the parts (theory/proofs/Trees)
+from-parts : (startTree (seq (tests 1) (tests 0)) 0 ≡ seqTree (tests 0) (startTree (tests 1) 0) (startTree (tests 0) 0))
+    × (startTree (seq (pause 0) (tests 0)) 0 ≡ seqTree (tests 0) (startTree (pause 0) 0) (startTree (tests 0) 0))
+    × (startTree (par (loop 1 (tests 0)) (loop 5 (tests 1))) 0 ≡ parTree (startTree (loop 1 (tests 0)) 0) (startTree (loop 5 (tests 1)) 0))
+    × (startTree (loop 1 (tests 0)) 0 ≡ loopTree 1 (tests 0) (startTree (tests 0) 0))
+    × (startTree (present 2 (tests 0) nothing) 4 ≡ presentTree 2 (startTree (tests 0) 4))
+    × (startTree (try (par (tests 0) (exit 1))) 0 ≡ tryTree (startTree (par (tests 0) (exit 1)) 0))
+    × (startTree (suspend 2 (tests 0)) 4 ≡ suspendTree 2 (startTree (tests 0) 4))
+    × (startTree (held 2 1 (tests 0)) 4 ≡ stoppedTree 2 1 (tests 0))
+    × (startTree (held 2 1 (tests 0)) 0 ≡ heldTree 2 (startTree (tests 0) 0))
+unfolding reactBy errorsBy reactionsBy askedBy member none only join insert remove
+from-parts = (refl, refl, refl, refl, refl, refl, refl, refl, refl)
+
+-- both runs of a signal, and one for both where the first does not ask for it
+from-runs : (startTree (signal local 4 3 (present 3 (tests 1) (emit 2))) 0
+    ≡ signalTree local 4 3 (startTree (present 3 (tests 1) (emit 2)) 0) (startTree (present 3 (tests 1) (emit 2)) 8))
+    × (startTree (signal local 4 3 (present 3 nothing (emit 3))) 0
+    ≡ signalTree local 4 3 (startTree (present 3 nothing (emit 3)) 0) (startTree (present 3 nothing (emit 3)) 8))
+    × (startTree (signal local 4 3 (tests 1)) 0 ≡ signalOnce local 4 3 (startTree (tests 1) 0))
+unfolding reactBy errorsBy reactionsBy askedBy member none only join insert remove
+from-runs = (refl, refl, refl)

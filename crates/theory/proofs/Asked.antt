@@ -78,8 +78,10 @@ module _ (ord : Order) where
       go : (r : Reaction) → Agree (ifEnded (code r) (askedBy ord q e) none) e e′
           → (inSeq q r (reactBy ord q e′) ≡ inSeq q r (reactBy ord q e))
           × (errorsBy ord p e ++ ifEnded (code r) (errorsBy ord q e′) [] ≡ errorsBy ord p e ++ ifEnded (code r) (errorsBy ord q e) [])
-          × (1 + reactionsBy ord p e + ifEnded (code r) (reactionsBy ord q e′) 0 ≡ 1 + reactionsBy ord p e + ifEnded (code r) (reactionsBy ord q e) 0)
-          × (join (askedBy ord p e) (ifEnded (code r) (askedBy ord q e′) none) ≡ join (askedBy ord p e) (ifEnded (code r) (askedBy ord q e) none))
+          × (1 + reactionsBy ord p e + ifEnded (code r) (reactionsBy ord q e′) 0
+          ≡ 1 + reactionsBy ord p e + ifEnded (code r) (reactionsBy ord q e) 0)
+          × (join (askedBy ord p e) (ifEnded (code r) (askedBy ord q e′) none)
+          ≡ join (askedBy ord p e) (ifEnded (code r) (askedBy ord q e) none))
       go (gives o ended l t) k = rw (g k .0, g k .1, g k .2, g k .3) (refl, refl, refl, refl)
       go (gives o waiting l t) k = (refl, refl, refl, refl)
       go (gives o (leaving n) l t) k = (refl, refl, refl, refl)
@@ -148,7 +150,8 @@ agree-runs s a e h i m = rw (member-remove s e i, member-insert s e i) (go (test
     go (Tested.yes x) = clash (member s a) (ap (λ (j : ℕ). member j a) (eqb-true s i x) ∙ m) h
     go (Tested.no x) = rw x (and-true (member i e) ∙ sym (or-false (member i e)))
 
-pub one-run : (s : ℕ) (p : Statement) (e : ℕ) → member s (asked p (remove s e)) ≡ false → startTree p (insert s e) ≡ startTree p (remove s e)
+pub one-run : (s : ℕ) (p : Statement) (e : ℕ) → member s (asked p (remove s e)) ≡ false
+    → startTree p (insert s e) ≡ startTree p (remove s e)
 one-run s p e h = unasked-tree p (remove s e) (insert s e) (agree-runs s (asked p (remove s e)) e h)
 
 -- two equal runs that do not ask for s ask for the same outside its declaration

@@ -109,7 +109,8 @@ declared-unasked a (s ∷ ss) p e i h m =
     let b+ = asked (declared a ss p) (insert s e) in
     let x = asked-other s i (join b− b+) h in
     ⊎-elim (λ k. eqb-false s i (x .1) (sym k))
-    (λ k. ⊎-elim (λ y. declared-unasked a ss p (remove s e) i y k) (λ y. declared-unasked a ss p (insert s e) i y k) (in-join i b− b+ (x .0)))
+    (λ k. ⊎-elim (λ y. declared-unasked a ss p (remove s e) i y k) (λ y. declared-unasked a ss p (insert s e) i y k)
+    (in-join i b− b+ (x .0)))
     (List·Memᴰ·cases-cons m)
 
 pub declared-unread : (a : ℕ) (ss : List ℕ) (p : Statement) (e e′ : ℕ) → AgreeOutside ss e e′

@@ -1,7 +1,7 @@
 -- The theorems of this crate in the words of the papers, each a line or two over the files beside it. Others stand
 -- where they are proved: `reacts-is` of Rules (003, corollary 11), `uses-is` and `first-use` of Derivations, `figure-5` of Figure5.
 use Prim.Native.Nat.{ℕ, _+_, _-_, _*_, _^_, _≤_, min}
-use mathlib.Core.Path.{_≡_, refl, sym, ap, _∙_}
+use mathlib.Core.Path.{_≡_, refl, ap, _∙_}
 use mathlib.Core.Logic.{_↔_, _≢_}
 use mathlib.Core.Bool.{true, false}
 use mathlib.Core.Option.{Option}

@@ -10,7 +10,7 @@ use Rattle.esterel.specs.Reaction.{Code, ended, waiting, leaving, wrong, isWron
 use Rattle.esterel.specs.Errors.{Error, instantaneous, ifEnded, signalErrors, errorsBy, errors}
 use Rattle.esterel.specs.Reactions.{reactionsBy, reactions}
 use Rattle.esterel.specs.Asked.{askedBy, asked}
-use Rattle.esterel.specs.Resume.{Instant, instant, start, seqInstant, parInstant, loopInstant, presentInstant, tryInstant, signalNames, signalInstant, suspendInstant, stoppedInstant, Tree, tree, startTree, seqTree, parTree, loopTree, presentTree, tryTree, signalTree, suspendTree, heldTree, stoppedTree}
+use Rattle.esterel.specs.Resume.{Instant, instant, start, seqInstant, parInstant, loopInstant, presentInstant, tryInstant, signalNames, signalInstant, suspendInstant, stoppedInstant, tree, startTree, seqTree, parTree, loopTree, presentTree, tryTree, signalTree, suspendTree, heldTree, stoppedTree}
 use Rattle.theory.proofs.SignalOrders.{Blamed, blamed}
 
 -- ---- the first error of a list in parts: what is wrong has one, what is not has none
