@@ -6,16 +6,17 @@ use native.Mathlib.Omega.{arith}
 use Rattle.labels.specs.declared.Labels.{Labels}
 use Rattle.labels.specs.Labels.{Stands}
 use Rattle.labels.proofs.LabelValues.{labels-of}
-use Rattle.esterel.specs.Sets.{none}
+use Rattle.esterel.specs.Sets.{none, only, join, insert}
 use Rattle.esterel.specs.Statement.{nothing}
 use Rattle.esterel.specs.Reaction.{Code, wrong, gives}
 use Rattle.esterel.specs.Errors.{Error}
 use Rattle.esterel.specs.Resume as Esterel
-use Rattle.esterel.specs.Resume.{instant, presentInstant, suspendInstant}
+use Rattle.esterel.specs.Resume.{instant, presentInstant, tree, presentTree, suspendTree, heldTree}
+use Rattle.theory.proofs.Sets.{join-none-r}
 use Rattle.completions.specs.declared.Completion.{Completion}
 use Rattle.completions.specs.Completions.{completionOf}
 use Rattle.reaction.specs.declared.Reaction.{Reaction}
-use Rattle.reaction.specs.Reactions.{word, reactionOf, failedWith}
+use Rattle.reaction.specs.Reactions.{word, reactionOf, failedWith, countedAround}
 
 -- what is kept of a sum is that of what was kept of its parts
 pub word-two : (n m : ℕ) → word (1 + word n + word m) ≡ word (1 + n + m)
@@ -24,22 +25,37 @@ word-two n m = omega arith
 pub word-one : (n : ℕ) → word (1 + word n) ≡ word (1 + n)
 word-one n = omega arith
 
--- a reaction is that of its four values
-module _ (k : Code) (x : Option Error) (n : ℕ) {o o′ : ℕ} {l : Labels} {l′ : ℕ} {c : Completion} {m : ℕ} where
-  pub made : o ≡ o′ → Stands l l′ → c ≡ completionOf k x → m ≡ word n
-      → _≡_ {A = Reaction} (record { emitted = o; labels = l; completion = c; taken = m }) (reactionOf (instant (gives o′ k l′ nothing) x n))
-  made a b d e = rw (← a, ← labels-of l b, ← d, ← e)
+-- a reaction is that of its five values
+module _ (k : Code) (x : Option Error) (n a : ℕ) {o o′ : ℕ} {l : Labels} {l′ : ℕ} {c : Completion} {m b : ℕ} where
+  pub made : o ≡ o′ → Stands l l′ → c ≡ completionOf k x → m ≡ word n → b ≡ a
+      → _≡_ {A = Reaction} (record { emitted = o; labels = l; completion = c; taken = m; asked = b })
+      (reactionOf (tree (instant (gives o′ k l′ nothing) x n) a))
+  made h b d e f = rw (← h, ← labels-of l b, ← d, ← e, ← f)
 
--- one that fails, whatever was taken
-pub failed-made : (x : Error) (m : ℕ) (l : Labels) → Stands l none
-    → _≡_ {A = Reaction} (record { emitted = none; labels = l; completion = completionOf wrong (some x); taken = m }) (failedWith x m)
-failed-made x m l b = rw (← labels-of l b)
+-- one that fails, whatever was taken and asked for
+pub failed-made : (x : Error) (m a : ℕ) (l : Labels) → Stands l none
+    → _≡_ {A = Reaction} (record { emitted = none; labels = l; completion = completionOf wrong (some x); taken = m; asked = a }) (failedWith x m a)
+failed-made x m a l b = rw (← labels-of l b)
 
--- a command that only counts
-pub present-reaction : (i : Esterel.Instant) (p : Reaction) (m : ℕ) → p ≡ reactionOf i → m ≡ word (1 + p .taken)
-    → _≡_ {A = Reaction} (record { emitted = p .emitted; labels = p .labels; completion = p .completion; taken = m }) (reactionOf (presentInstant i))
-present-reaction (instant (gives o k l t) x n) p m h e = rw (e, h, word-one n)
+-- ---- a command that only counts, and asks for the signals b
+pub around-reaction : (t : Esterel.Tree) (p : Reaction) (m a b : ℕ) → p ≡ reactionOf t → m ≡ word (1 + p .taken) → a ≡ join (p .asked) b
+    → _≡_ {A = Reaction} (record { emitted = p .emitted; labels = p .labels; completion = p .completion; taken = m; asked = a })
+    (reactionOf (countedAround b t))
+around-reaction (tree (instant (gives o k l t) x n) a₁) p m a b h e f = rw (e, f, h, word-one n)
+
+-- around an instant whose tree asks for a; where it asks for none itself, nothing is added
+pub counts-only : (i : Esterel.Instant) (a : ℕ) → reactionOf (countedAround none (tree i a)) ≡ reactionOf (tree (presentInstant i) a)
+counts-only i a = rw (join-none-r a)
 
 -- a suspend changes only what remains
-pub suspend-reaction : (s : ℕ) (i : Esterel.Instant) → reactionOf (presentInstant i) ≡ reactionOf (suspendInstant s i)
-suspend-reaction s (instant (gives o k l t) x n) = refl
+pub suspend-reaction : (s : ℕ) (t : Esterel.Tree) → reactionOf (countedAround none t) ≡ reactionOf (suspendTree s t)
+suspend-reaction s (tree (instant (gives o k l t) x n) a) = rw (join-none-r a)
+
+-- a test and a held suspend ask for their signal
+pub present-reaction : (s : ℕ) (t : Esterel.Tree) → reactionOf (countedAround (only s) t) ≡ reactionOf (presentTree s t)
+unfolding join only insert
+present-reaction s (tree (instant (gives o k l t) x n) a) = refl
+
+pub held-reaction : (s : ℕ) (t : Esterel.Tree) → reactionOf (countedAround (only s) t) ≡ reactionOf (heldTree s t)
+unfolding join only insert
+held-reaction s (tree (instant (gives o k l t) x n) a) = refl

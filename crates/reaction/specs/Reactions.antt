@@ -5,6 +5,7 @@ use mathlib.Core.Path.{_≡_}
 use mathlib.Core.Option.{none, some}
 use Rattle.limits.specs.Limits.{wordCount}
 use Rattle.labels.specs.Labels.{labelsWith}
+use Rattle.esterel.specs.Sets.{join}
 use Rattle.esterel.specs.Reaction.{emitted, code, labels, failed}
 use Rattle.esterel.specs.Errors.{Error}
 use Rattle.esterel.specs.Resume as Esterel
@@ -16,22 +17,32 @@ use Rattle.reaction.specs.declared.Reaction.{Reaction}
 abbrev pub word : ℕ → ℕ
 word n = n % wordCount
 
-abbrev pub reactionOf : Esterel.Instant → Reaction
-reactionOf (Esterel.instant r x n) =
-    record { emitted = emitted r; labels = labelsWith (labels r); completion = completionOf (code r) x; taken = word n }
+abbrev pub reactionOf : Esterel.Tree → Reaction
+reactionOf (Esterel.tree (Esterel.instant r x n) a) =
+    record { emitted = emitted r; labels = labelsWith (labels r); completion = completionOf (code r) x; taken = word n; asked = a }
 
--- the reaction of a command without parts
-abbrev pub alone : rules.Reaction → Esterel.Instant
-alone r = Esterel.instant r none 1
+-- the reaction of a command without parts, which asks for the signals a
+abbrev pub alone : rules.Reaction → (a : ℕ) → Esterel.Tree
+alone r a = Esterel.tree (Esterel.instant r none 1) a
 
 -- the reaction of a command that fails, with its error
-abbrev pub failedWith : Error → (taken : ℕ) → Reaction
-failedWith x n =
-    record { emitted = emitted failed; labels = labelsWith (labels failed); completion = completionOf (code failed) (some x); taken = n }
+abbrev pub failedWith : Error → (taken asked : ℕ) → Reaction
+failedWith x n a =
+    record {
+      emitted = emitted failed;
+      labels = labelsWith (labels failed);
+      completion = completionOf (code failed) (some x);
+      taken = n;
+      asked = a;
+    }
 
--- r is f of whatever instants the values stand for
-abbrev pub FromOne : (f : Esterel.Instant → Esterel.Instant) (p r : Reaction) → Type 0
-FromOne f p r = (i : Esterel.Instant) → p ≡ reactionOf i → r ≡ reactionOf (f i)
+-- what a command makes of its part if it only counts, and asks for the signals b itself
+abbrev pub countedAround : (b : ℕ) → Esterel.Tree → Esterel.Tree
+countedAround b (Esterel.tree i a) = Esterel.tree (Esterel.presentInstant i) (join a b)
 
-abbrev pub FromTwo : (f : Esterel.Instant → Esterel.Instant → Esterel.Instant) (p q r : Reaction) → Type 0
-FromTwo f p q r = (i j : Esterel.Instant) → p ≡ reactionOf i → q ≡ reactionOf j → r ≡ reactionOf (f i j)
+-- r is f of whatever trees the values stand for
+abbrev pub FromOne : (f : Esterel.Tree → Esterel.Tree) (p r : Reaction) → Type 0
+FromOne f p r = (t : Esterel.Tree) → p ≡ reactionOf t → r ≡ reactionOf (f t)
+
+abbrev pub FromTwo : (f : Esterel.Tree → Esterel.Tree → Esterel.Tree) (p q r : Reaction) → Type 0
+FromTwo f p q r = (t u : Esterel.Tree) → p ≡ reactionOf t → q ≡ reactionOf u → r ≡ reactionOf (f t u)

@@ -1,5 +1,5 @@
-// What one reaction gives (01, 'One reaction'), the reactions of commands without parts, and the number of reactions of a tree
-// from those of its parts (02, item 6).
+// What one reaction gives (01, 'One reaction'), the reactions of commands without parts, the number of reactions of a tree
+// from those of its parts (02, item 6), and the signals that a tree asks for.
 ghost use mathlib.Core.Path.{_≡_};
 ghost use mathlib.Core.Option.{some};
 ghost use Prim.Native.Nat.{_+_};
@@ -8,17 +8,18 @@ ghost use Rattle.sets.specs.Sets.{labelCount, onlyBelow};
 ghost use Rattle.esterel.specs.Sets.{none};
 ghost use Rattle.esterel.specs.Statement.{nothing};
 ghost use Rattle.esterel.specs.Reaction.{ended, waiting, leaving, gives};
-ghost use Rattle.esterel.specs.Resume.{presentInstant};
-ghost use Rattle.reaction.specs.Reactions.{word, alone, reactionOf, failedWith, FromOne};
+ghost use Rattle.reaction.specs.Reactions.{word, alone, reactionOf, failedWith, countedAround, FromOne};
 use completions::Completion;
 use labels::Labels;
 
-// The greatest field first, so that no room is lost between two.
+// The greatest field first, so that no room is lost between two. `asked` are the signals whose status its tree asked for: where
+// a run of a signal's body did not ask for it, the other run is the same.
 pub struct Reaction {
     pub labels: Labels,
     pub emitted: u32,
     pub completion: Completion,
     pub taken: u32,
+    pub asked: u32,
 }
 
 // The reactions of a command over two parts. The sum is in range whatever they are, and keeps 32 bits, as the answer does; that
@@ -38,55 +39,58 @@ pub fn over_one(n: u32) -> u32
 
 // A reaction from its values. The completion comes in one register: stored in pieces, it could not be read back whole before they
 // have all reached memory.
-pub fn made(emitted: u32, labels: Labels, completion: Completion, taken: u32) -> Reaction
-    ensures { λ r. ⌜ r ≡ record { emitted = emitted; labels = labels; completion = completion; taken = taken } ⌝ }
+pub fn made(emitted: u32, labels: Labels, completion: Completion, taken: u32, asked: u32) -> Reaction
+    ensures { λ r. ⌜ r ≡ record { emitted = emitted; labels = labels; completion = completion; taken = taken; asked = asked } ⌝ }
 {
     Reaction {
         emitted,
         labels,
         completion,
         taken,
+        asked,
     }
 }
 
 // A command that ends at once.
 pub fn ending(emitted: u32) -> Reaction
-    ensures { λ r. ⌜ r ≡ reactionOf (alone (gives emitted ended none nothing)) ⌝ }
+    ensures { λ r. ⌜ r ≡ reactionOf (alone (gives emitted ended none nothing) none) ⌝ }
 {
-    made(emitted, labels::empty(), Completion::Ended, 1)
+    made(emitted, labels::empty(), Completion::Ended, 1, 0)
 }
 
-// A command that waits: a pause with its label, a stopped suspend with the active labels inside it.
-pub fn waiting(labels: Labels) -> Reaction
-    ensures { λ r. ⌜ r ≡ reactionOf (alone (gives none waiting (labelSet labels) nothing)) ⌝ }
+// A command that waits: a pause with its label, a stopped suspend with the active labels inside it. A stopped suspend asked for
+// its signal.
+pub fn waiting(labels: Labels, asked: u32) -> Reaction
+    ensures { λ r. ⌜ r ≡ reactionOf (alone (gives none waiting (labelSet labels) nothing) asked) ⌝ }
 {
-    made(0, labels, Completion::Waiting, 1)
+    made(0, labels, Completion::Waiting, 1, asked)
 }
 
 pub fn pausing(l: u8) -> Reaction
-    ensures { λ r. ⌜ r ≡ reactionOf (alone (gives none waiting (onlyBelow labelCount l) nothing)) ⌝ }
+    ensures { λ r. ⌜ r ≡ reactionOf (alone (gives none waiting (onlyBelow labelCount l) nothing) none) ⌝ }
 {
-    waiting(labels::single(l))
+    waiting(labels::single(l), 0)
 }
 
 pub fn leaving(n: u8) -> Reaction
-    ensures { λ r. ⌜ r ≡ reactionOf (alone (gives none (leaving n) none nothing)) ⌝ }
+    ensures { λ r. ⌜ r ≡ reactionOf (alone (gives none (leaving n) none nothing) none) ⌝ }
 {
-    made(0, labels::empty(), Completion::Leaving(n), 1)
+    made(0, labels::empty(), Completion::Leaving(n), 1, 0)
 }
 
 // Wrong, with nothing emitted.
-pub fn failing(kind: u8, place: u16, taken: u32) -> Reaction
-    ensures { λ r. ⌜ r ≡ failedWith (record { kind = kind; place = place }) taken ⌝ }
+pub fn failing(kind: u8, place: u16, taken: u32, asked: u32) -> Reaction
+    ensures { λ r. ⌜ r ≡ failedWith (record { kind = kind; place = place }) taken asked ⌝ }
 {
-    made(0, labels::empty(), Completion::Wrong(kind, place), taken)
+    made(0, labels::empty(), Completion::Wrong(kind, place), taken, asked)
 }
 
-// A command that only counts: a test, a suspend, a sequence whose first part has not ended, a loop whose body has not.
-pub fn around(p: Reaction) -> Reaction
-    ensures { λ r. ⌜ FromOne presentInstant p r ⌝ }
+// A command that only counts: a test, a suspend, a sequence whose first part has not ended, a loop whose body has not. A test and
+// a held suspend ask for their signal, `asked`; the others for none.
+pub fn around(p: Reaction, asked: u32) -> Reaction
+    ensures { λ r. ⌜ FromOne (countedAround asked) p r ⌝ }
 {
     let labels = p.labels;
     let k = p.completion;
-    made(p.emitted, labels, k, over_one(p.taken))
+    made(p.emitted, labels, k, over_one(p.taken), signals::union(p.asked, asked))
 }

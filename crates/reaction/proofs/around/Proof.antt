@@ -1,5 +1,5 @@
 use mathlib.Core.Path.{_∙_}
-use Rattle.reaction.proofs.Values.{present-reaction}
+use Rattle.reaction.proofs.Values.{around-reaction}
 use borrow.Author.Needs.{needs}
 use Rattle.reaction.proofs.around.Statement.{statement}
 use Rattle.reaction.proofs.around.Tie as tie
@@ -7,11 +7,14 @@ use Rattle.reaction.proofs.around.Tie as tie
 over-one-requires : tie.Need-over-one-requires
 over-one-requires c κs = search needs
 
+union-requires : tie.Need-union-requires
+union-requires c κs = search needs
+
 made-requires : tie.Need-made-requires
 made-requires c κs = search needs
 
 returns : tie.Need-returns
-returns c i a = c .made .ensures ∙ present-reaction i _ _ a (c .before .over-one .ensures)
+returns c t a = c .made .ensures ∙ around-reaction t _ _ _ _ a (c .before .before .over-one .ensures) (c .before .union .ensures)
 
 pub around-spec : {M : Type 1} → statement M
-around-spec = tie.close (tie.spec over-one-requires made-requires returns)
+around-spec = tie.close (tie.spec over-one-requires union-requires made-requires returns)

@@ -1,5 +1,6 @@
 use mathlib.Core.Path.{refl, _∙_}
 use mathlib.Core.Option.{Option}
+use Rattle.esterel.specs.Sets.{none}
 use Rattle.esterel.specs.Reaction.{ended}
 use Rattle.reaction.proofs.Values.{made}
 use borrow.Author.Needs.{needs}
@@ -13,7 +14,8 @@ made-requires : tie.Need-made-requires
 made-requires c κs = search needs
 
 returns : tie.Need-returns
-returns c = c .made .ensures ∙ made ended Option.none 1 refl (search needs, c .before .empty .ensures) refl refl
+unfolding none
+returns c = c .made .ensures ∙ made ended Option.none 1 none refl (search needs, c .before .empty .ensures) refl refl refl
 
 pub ending-spec : {M : Type 1} → statement M
 ending-spec = tie.close (tie.spec empty-requires made-requires returns)

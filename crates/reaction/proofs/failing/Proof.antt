@@ -13,7 +13,7 @@ made-requires c κs = search needs
 
 returns : tie.Need-returns
 unfolding none
-returns c = c .made .ensures ∙ failed-made _ _ _ (search needs, c .before .empty .ensures)
+returns c = c .made .ensures ∙ failed-made _ _ _ _ (search needs, c .before .empty .ensures)
 
 pub failing-spec : {M : Type 1} → statement M
 failing-spec = tie.close (tie.spec empty-requires made-requires returns)

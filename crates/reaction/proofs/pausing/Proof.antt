@@ -15,7 +15,8 @@ waiting-requires : tie.Need-waiting-requires
 waiting-requires c κs = search needs
 
 returns : tie.Need-returns
-returns c = c .waiting .ensures ∙ ap (λ (l : ℕ). reactionOf (alone (gives none waiting l nothing))) (c .before .single .ensures)
+unfolding none
+returns c = c .waiting .ensures ∙ ap (λ (l : ℕ). reactionOf (alone (gives none waiting l nothing) none)) (c .before .single .ensures)
 
 pub pausing-spec : {M : Type 1} → statement M
 pausing-spec = tie.close (tie.spec single-requires waiting-requires returns)
