@@ -39,7 +39,13 @@ pub fn over_one(n: u32) -> u32
 
 // A reaction from its values. The completion comes in one register: stored in pieces, it could not be read back whole before they
 // have all reached memory.
-pub fn made(emitted: u32, labels: Labels, completion: Completion, taken: u32, asked: u32) -> Reaction
+pub fn made(
+    emitted: u32,
+    labels: Labels,
+    completion: Completion,
+    taken: u32,
+    asked: u32,
+) -> Reaction
     ensures { λ r. ⌜ r ≡ record { emitted = emitted; labels = labels; completion = completion; taken = taken; asked = asked } ⌝ }
 {
     Reaction {
@@ -82,7 +88,13 @@ pub fn leaving(n: u8) -> Reaction
 pub fn failing(kind: u8, place: u16, taken: u32, asked: u32) -> Reaction
     ensures { λ r. ⌜ r ≡ failedWith (record { kind = kind; place = place }) taken asked ⌝ }
 {
-    made(0, labels::empty(), Completion::Wrong(kind, place), taken, asked)
+    made(
+        0,
+        labels::empty(),
+        Completion::Wrong(kind, place),
+        taken,
+        asked,
+    )
 }
 
 // A command that only counts: a test, a suspend, a sequence whose first part has not ended, a loop whose body has not. A test and
@@ -92,5 +104,11 @@ pub fn around(p: Reaction, asked: u32) -> Reaction
 {
     let labels = p.labels;
     let k = p.completion;
-    made(p.emitted, labels, k, over_one(p.taken), signals::union(p.asked, asked))
+    made(
+        p.emitted,
+        labels,
+        k,
+        over_one(p.taken),
+        signals::union(p.asked, asked),
+    )
 }

@@ -3,7 +3,7 @@ ghost use mathlib.Core.Path.{_≡_};
 ghost use Rattle.labels.specs.Labels.{labelSet};
 ghost use Rattle.esterel.specs.Statement.{Statement};
 ghost use Rattle.esterel.specs.Reaction.{ifWaiting};
-ghost use Rattle.esterel.specs.Resume.{seqInstant, parInstant, loopInstant, tryInstant};
+ghost use Rattle.esterel.specs.Resume.{seqTree, parTree, loopTree, tryTree};
 ghost use Rattle.completions.specs.Completions.{codeOf};
 ghost use Rattle.reaction.specs.Reactions.{FromOne, FromTwo};
 use completions::Completion;
@@ -24,7 +24,7 @@ fn if_waiting(k: Completion, labels: Labels) -> Labels
 
 // p; q
 pub fn in_sequence(p: Reaction, q: Reaction) -> Reaction
-    ensures { λ r. ⌜ ((u : Statement) → FromTwo (seqInstant u) p q r) ⌝ }
+    ensures { λ r. ⌜ ((u : Statement) → FromTwo (seqTree u) p q r) ⌝ }
 {
     let k = p.completion;
     if completions::is_ended(k) {
@@ -35,15 +35,16 @@ pub fn in_sequence(p: Reaction, q: Reaction) -> Reaction
             labels,
             completion: l,
             taken: reaction::over_two(p.taken, q.taken),
+            asked: signals::union(p.asked, q.asked),
         }
     } else {
-        reaction::around(p)
+        reaction::around(p, 0)
     }
 }
 
 // p in parallel with q
 pub fn in_parallel(p: Reaction, q: Reaction) -> Reaction
-    ensures { λ r. ⌜ FromTwo parInstant p q r ⌝ }
+    ensures { λ r. ⌜ FromTwo parTree p q r ⌝ }
 {
     let k = p.completion;
     let l = q.completion;
@@ -53,24 +54,25 @@ pub fn in_parallel(p: Reaction, q: Reaction) -> Reaction
         labels: if_waiting(code, labels::union(p.labels, q.labels)),
         completion: code,
         taken: reaction::over_two(p.taken, q.taken),
+        asked: signals::union(p.asked, q.asked),
     }
 }
 
 // loop p at the offset `place`
 pub fn in_loop(place: u16, p: Reaction) -> Reaction
-    ensures { λ r. ⌜ ((u : Statement) → FromOne (loopInstant place u) p r) ⌝ }
+    ensures { λ r. ⌜ ((u : Statement) → FromOne (loopTree place u) p r) ⌝ }
 {
     let k = p.completion;
     if completions::is_ended(k) {
-        reaction::failing(1, place, reaction::over_one(p.taken))
+        reaction::failing(1, place, reaction::over_one(p.taken), p.asked)
     } else {
-        reaction::around(p)
+        reaction::around(p, 0)
     }
 }
 
 // try p
 pub fn in_try(p: Reaction) -> Reaction
-    ensures { λ r. ⌜ FromOne tryInstant p r ⌝ }
+    ensures { λ r. ⌜ FromOne tryTree p r ⌝ }
 {
     let labels = p.labels;
     let k = p.completion;
@@ -79,5 +81,6 @@ pub fn in_try(p: Reaction) -> Reaction
         labels,
         completion: completions::caught(k),
         taken: reaction::over_one(p.taken),
+        asked: p.asked,
     }
 }

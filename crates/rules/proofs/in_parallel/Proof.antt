@@ -18,10 +18,16 @@ if-waiting-requires c κs = search needs
 over-two-requires : tie.Need-over-two-requires
 over-two-requires c κs = search needs
 
+union-requires-3 : tie.Need-union-requires-3
+union-requires-3 c κs = search needs
+
 returns : tie.Need-returns
-returns c i j a b = par-joins i j _ _ a b _ _ _ _ _ (c .before .before .before .union .ensures) (c .before .before .before .before .greater-of .ensures) (c .over-two .ensures) (c .before .before .union2 .ensures) (search needs, c .before .if-waiting .ensures)
+returns c t v a b =
+    let d = c .before in
+    par-joins t v _ _ a b _ _ _ _ _ _ (d .before .before .before .union .ensures) (d .before .before .before .before .greater-of .ensures) (d .over-two .ensures)
+    (c .union3 .ensures) (d .before .before .union2 .ensures) (d .before .if-waiting .ensures)
 
 pub in-parallel-spec : {M : Type 1} → statement M
 in-parallel-spec =
     tie.close
-    (tie.spec greater-of-requires union-requires union-requires-2 if-waiting-requires over-two-requires returns)
+    (tie.spec greater-of-requires union-requires union-requires-2 if-waiting-requires over-two-requires union-requires-3 returns)

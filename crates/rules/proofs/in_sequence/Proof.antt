@@ -1,4 +1,5 @@
 use mathlib.Core.Path.{sym, _∙_}
+use Rattle.esterel.specs.Sets.{none}
 use Rattle.rules.proofs.Combining.{seq-goes-on, seq-stops}
 use borrow.Author.Needs.{needs}
 use Rattle.rules.proofs.in_sequence.Statement.{statement}
@@ -13,14 +14,22 @@ union-requires c κs = search needs
 over-two-requires : tie.Need-over-two-requires
 over-two-requires c κs = search needs
 
+union-requires-2 : tie.Need-union-requires-2
+union-requires-2 c κs = search needs
+
 around-requires : tie.Need-around-requires
 around-requires c κs = search needs
 
 returns : tie.Need-returns
-returns c u i j a b = seq-goes-on u i j _ _ a b _ _ (sym (c .before .before .before .before .is-ended .ensures) ∙ c .before .before .before .if1 .taken) (c .before .union .ensures) (c .over-two .ensures)
+returns c u t v a b =
+    let d = c .before .before .before .before in
+    seq-goes-on u t v _ _ a b _ _ _ (sym (d .before .is-ended .ensures) ∙ d .if1 .taken) (c .before .before .union .ensures) (c .before .over-two .ensures)
+    (c .union2 .ensures)
 
 returns-2 : tie.Need-returns-2
-returns-2 c u i j a b = seq-stops u i j _ (c .before .before .before .args .q) a (sym (c .before .before .is-ended .ensures) ∙ c .before .if1 .left) (c .around .ensures i a)
+unfolding none
+returns-2 c u t v a b =
+    seq-stops u t v _ (c .before .before .before .args .q) a (sym (c .before .before .is-ended .ensures) ∙ c .before .if1 .left) (c .around .ensures t a)
 
 pub in-sequence-spec : {M : Type 1} → statement M
-in-sequence-spec = tie.close (tie.spec is-ended-requires union-requires over-two-requires around-requires returns returns-2)
+in-sequence-spec = tie.close (tie.spec is-ended-requires union-requires over-two-requires union-requires-2 around-requires returns returns-2)
