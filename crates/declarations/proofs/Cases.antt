@@ -1,18 +1,22 @@
 -- The signal rules on the values of the code are esterel's: one law for each case.
 use Prim.Native.Nat.{ℕ, _+_}
 use mathlib.Core.Path.{_≡_, refl, sym, ap, _∙_}
-use mathlib.Core.Bool.{Bool, true, false, _||_, cond, false≢true, true≢false}
+use mathlib.Core.Bool.{Bool, true, false, not, _&&_, _||_, cond, false≢true, true≢false}
 use mathlib.Core.Option.{Option, some}
+use lib.Dec.{eqb}
+use borrow.Author.Tests.{eqb-true}
 use Rattle.labels.specs.declared.Labels.{Labels}
 use Rattle.labels.specs.Labels.{Stands}
 use Rattle.labels.proofs.LabelValues.{stands-of}
-use Rattle.esterel.specs.Sets.{member, none}
-use Rattle.esterel.specs.Statement.{Scope}
+use Rattle.esterel.specs.Sets.{member, none, join, remove}
+use Rattle.esterel.specs.Statement.{Scope, local, reported, Statement}
 use Rattle.esterel.specs.Reaction.{Code, ended, waiting, leaving, wrong, isWrong, gives, failed, outside, Case, both, neither, only−, only+, inherited, inheritanceFirst, firstFit, answer}
 use Rattle.esterel.specs.Reaction as rules
 use Rattle.esterel.specs.Errors.{Error, notReactive, notDeterministic}
 use Rattle.esterel.specs.Resume as Esterel
-use Rattle.esterel.specs.Resume.{instant, ifWrong, signalNames, signalInstant}
+use Rattle.esterel.specs.Resume.{instant, ifWrong, signalNames, tree, signalTree, signalOnce}
+use Rattle.theory.proofs.Sets.{member-remove, ext}
+use Rattle.theory.proofs.Booleans.{and-true, Tested, tested}
 use Rattle.theory.proofs.Rules.{either-wrong}
 use Rattle.completions.specs.declared.Completion.{Completion}
 use Rattle.reaction.specs.declared.Reaction.{Reaction}
@@ -38,14 +42,15 @@ same-case only− = refl
 same-case only+ = refl
 same-case inherited = refl
 
--- the instant of a case
-abbrev inCase : Case → Scope → (b s : ℕ) → Esterel.Instant → Esterel.Instant → Esterel.Instant
-inCase d sc b s (instant (gives o− k− l− t−) x− n−) (instant r+ x+ n+) =
-    instant (answer d sc b s (gives o− k− l− t−) r+) (signalNames d b (ifWrong k− x− x+)) (1 + n− + n+)
+-- the tree of a case
+abbrev inCase : Case → Scope → (b s : ℕ) → Esterel.Tree → Esterel.Tree → Esterel.Tree
+inCase d sc b s (tree (instant (gives o− k− l− t−) x− n−) a−) (tree (instant r+ x+ n+) a+) =
+    tree (instant (answer d sc b s (gives o− k− l− t−) r+) (signalNames d b (ifWrong k− x− x+)) (1 + n− + n+)) (remove s (join a− a+))
 
-as-fits : (sc : Scope) (b s : ℕ) (i j : Esterel.Instant)
-    → signalInstant sc b s i j ≡ inCase (caseIn s (reactionOf i) (reactionOf j)) sc b s i j
-as-fits sc b s (instant (gives o− k− l− t−) x− n−) (instant (gives o+ k+ l+ t+) x+ n+) = rw (code-of k− x−, code-of k+ x+)
+as-fits : (sc : Scope) (b s : ℕ) (t u : Esterel.Tree)
+    → signalTree sc b s t u ≡ inCase (caseIn s (reactionOf t) (reactionOf u)) sc b s t u
+as-fits sc b s (tree (instant (gives o− k− l− t−) x− n−) a−) (tree (instant (gives o+ k+ l+ t+) x+ n+) a+) =
+    rw (code-of k− x−, code-of k+ x+)
 
 -- the two runs of a case: not wrong, or one of them wrong
 abbrev isInherited : Case → Bool
@@ -94,87 +99,140 @@ unmoved wrong x y h = absurd (true≢false h)
 abbrev Runs : (s : ℕ) (p q : Reaction) → Bool → Type 0
 Runs s p q b = isInherited (caseIn s p q) ≡ b
 
-abbrev InBoth : (sc : Scope) (b s : ℕ) (i j : Esterel.Instant) (p q : Reaction) → Type 0
-InBoth sc b s i j p q =
-    (o m : ℕ) → Runs s p q false → o ≡ outside sc s (q .emitted) → m ≡ word (1 + p .taken + q .taken)
-    → _≡_ {A = Reaction} (record { emitted = o; labels = q .labels; completion = q .completion; taken = m }) (reactionOf (inCase both sc b s i j))
+-- both runs count, and what they ask for is asked outside but s
+abbrev Counted : (p q : Reaction) (m : ℕ) → Type 0
+Counted p q m = m ≡ word (1 + p .taken + q .taken)
 
-in-both : (sc : Scope) (b s : ℕ) (i j : Esterel.Instant) → InBoth sc b s i j (reactionOf i) (reactionOf j)
-in-both sc b s (instant (gives o− k− l− t−) x− n−) (instant (gives o+ k+ l+ t+) x+ n+) o m h e w =
-    made k+ Option.none (1 + n− + n+) e (stands-of l+)
+abbrev Noted : (s : ℕ) (p q : Reaction) (a : ℕ) → Type 0
+Noted s p q a = a ≡ remove s (join (p .asked) (q .asked))
+
+abbrev InBoth : (sc : Scope) (b s : ℕ) (t u : Esterel.Tree) (p q : Reaction) → Type 0
+InBoth sc b s t u p q =
+    (o m a : ℕ) → Runs s p q false → o ≡ outside sc s (q .emitted) → Counted p q m → Noted s p q a
+    → _≡_ {A = Reaction} (record { emitted = o; labels = q .labels; completion = q .completion; taken = m; asked = a })
+    (reactionOf (inCase both sc b s t u))
+
+in-both : (sc : Scope) (b s : ℕ) (t u : Esterel.Tree) → InBoth sc b s t u (reactionOf t) (reactionOf u)
+in-both sc b s (tree (instant (gives o− k− l− t−) x− n−) a−) (tree (instant (gives o+ k+ l+ t+) x+ n+) a+) o m a h e w f =
+    made k+ Option.none (1 + n− + n+) (remove s (join a− a+)) e (stands-of l+)
     (unmoved k+ x+ Option.none
     (right-runs (member s o−) (member s o+) (isWrong k−) (isWrong k+) (rw (code-of k− x−, code-of k+ x+) at h) .1))
-    (w ∙ word-two n− n+)
+    (w ∙ word-two n− n+) f
 
-abbrev InNeither : (sc : Scope) (b s : ℕ) (i j : Esterel.Instant) (p q : Reaction) → Type 0
-InNeither sc b s i j p q =
-    (m : ℕ) → Runs s p q false → m ≡ word (1 + p .taken + q .taken)
-    → _≡_ {A = Reaction} (record { emitted = p .emitted; labels = p .labels; completion = p .completion; taken = m })
-    (reactionOf (inCase neither sc b s i j))
+abbrev InNeither : (sc : Scope) (b s : ℕ) (t u : Esterel.Tree) (p q : Reaction) → Type 0
+InNeither sc b s t u p q =
+    (m a : ℕ) → Runs s p q false → Counted p q m → Noted s p q a
+    → _≡_ {A = Reaction} (record { emitted = p .emitted; labels = p .labels; completion = p .completion; taken = m; asked = a })
+    (reactionOf (inCase neither sc b s t u))
 
-in-neither : (sc : Scope) (b s : ℕ) (i j : Esterel.Instant) → InNeither sc b s i j (reactionOf i) (reactionOf j)
-in-neither sc b s (instant (gives o− k− l− t−) x− n−) (instant (gives o+ k+ l+ t+) x+ n+) m h w =
-    made k− Option.none (1 + n− + n+) refl (stands-of l−)
+in-neither : (sc : Scope) (b s : ℕ) (t u : Esterel.Tree) → InNeither sc b s t u (reactionOf t) (reactionOf u)
+in-neither sc b s (tree (instant (gives o− k− l− t−) x− n−) a−) (tree (instant (gives o+ k+ l+ t+) x+ n+) a+) m a h w f =
+    made k− Option.none (1 + n− + n+) (remove s (join a− a+)) refl (stands-of l−)
     (unmoved k− x− Option.none
     (right-runs (member s o−) (member s o+) (isWrong k−) (isWrong k+) (rw (code-of k− x−, code-of k+ x+) at h) .0))
-    (w ∙ word-two n− n+)
+    (w ∙ word-two n− n+) f
 
-abbrev InInherited : (sc : Scope) (b s : ℕ) (i j : Esterel.Instant) (p q : Reaction) → Type 0
-InInherited sc b s i j p q =
-    (l : Labels) (c : Completion) (m : ℕ) → Runs s p q true → Stands l none → c ≡ greaterOf (p .completion) (q .completion)
-    → m ≡ word (1 + p .taken + q .taken)
-    → _≡_ {A = Reaction} (record { emitted = none; labels = l; completion = c; taken = m }) (reactionOf (inCase inherited sc b s i j))
+abbrev InInherited : (sc : Scope) (b s : ℕ) (t u : Esterel.Tree) (p q : Reaction) → Type 0
+InInherited sc b s t u p q =
+    (l : Labels) (c : Completion) (m a : ℕ) → Runs s p q true → Stands l none → c ≡ greaterOf (p .completion) (q .completion)
+    → Counted p q m → Noted s p q a
+    → _≡_ {A = Reaction} (record { emitted = none; labels = l; completion = c; taken = m; asked = a })
+    (reactionOf (inCase inherited sc b s t u))
 
-in-inherited : (sc : Scope) (b s : ℕ) (i j : Esterel.Instant) → InInherited sc b s i j (reactionOf i) (reactionOf j)
-in-inherited sc b s (instant (gives o− k− l− t−) x− n−) (instant (gives o+ k+ l+ t+) x+ n+) l c m h e g w =
+in-inherited : (sc : Scope) (b s : ℕ) (t u : Esterel.Tree) → InInherited sc b s t u (reactionOf t) (reactionOf u)
+in-inherited sc b s (tree (instant (gives o− k− l− t−) x− n−) a−) (tree (instant (gives o+ k+ l+ t+) x+ n+) a+) l c m a h e g w f =
     let v = wrong-runs (member s o−) (member s o+) (isWrong k−) (isWrong k+) (rw (code-of k− x−, code-of k+ x+) at h) in
-    made wrong (ifWrong k− x− x+) (1 + n− + n+) refl e
+    made wrong (ifWrong k− x− x+) (1 + n− + n+) (remove s (join a− a+)) refl e
     (g ∙ greater-of k− k+ x− x+ ∙ ap (λ (k : Code). completionOf k (ifWrong k− x− x+)) (either-wrong k− k+ v))
-    (w ∙ word-two n− n+)
+    (w ∙ word-two n− n+) f
 
 -- a case of the signal's own error
-abbrev InFailed : (d : Case) (sc : Scope) (b s : ℕ) (i j : Esterel.Instant) (p q : Reaction) → Type 0
-InFailed d sc b s i j p q =
-    (x : Error) (m : ℕ) → ((r− r+ : rules.Reaction) → answer d sc b s r− r+ ≡ failed) → ((y : Option Error) → signalNames d b y ≡ some x)
-    → m ≡ word (1 + p .taken + q .taken) → failedWith x m ≡ reactionOf (inCase d sc b s i j)
+abbrev InFailed : (d : Case) (sc : Scope) (b s : ℕ) (t u : Esterel.Tree) (p q : Reaction) → Type 0
+InFailed d sc b s t u p q =
+    (x : Error) (m a : ℕ) → ((r− r+ : rules.Reaction) → answer d sc b s r− r+ ≡ failed) → ((y : Option Error) → signalNames d b y ≡ some x)
+    → Counted p q m → Noted s p q a → failedWith x m a ≡ reactionOf (inCase d sc b s t u)
 
-in-failed : (d : Case) (sc : Scope) (b s : ℕ) (i j : Esterel.Instant) → InFailed d sc b s i j (reactionOf i) (reactionOf j)
-in-failed d sc b s (instant (gives o− k− l− t−) x− n−) (instant r+ x+ n+) x m a n w =
-    rw (a (gives o− k− l− t−) r+, n (ifWrong k− x− x+), w, word-two n− n+)
+in-failed : (d : Case) (sc : Scope) (b s : ℕ) (t u : Esterel.Tree) → InFailed d sc b s t u (reactionOf t) (reactionOf u)
+in-failed d sc b s (tree (instant (gives o− k− l− t−) x− n−) a−) (tree (instant r+ x+ n+) a+) x m a h n w f =
+    rw (h (gives o− k− l− t−) r+, n (ifWrong k− x− x+), w, word-two n− n+, f)
 
-module _ (sc : Scope) (b s : ℕ) (i j : Esterel.Instant) (p q : Reaction) (p-is : p ≡ reactionOf i) (q-is : q ≡ reactionOf j)
-    (v : Choice) (fits : v ≡ choiceOf (caseIn s p q)) (m : ℕ) (counted : m ≡ word (1 + p .taken + q .taken)) where
+module _ (sc : Scope) (b s : ℕ) (t u : Esterel.Tree) (p q : Reaction) (p-is : p ≡ reactionOf t) (q-is : q ≡ reactionOf u)
+    (v : Choice) (fits : v ≡ choiceOf (caseIn s p q)) (m a : ℕ) (counted : Counted p q m) (noted : Noted s p q a) where
   fit-is : (d : Case) → v ≡ choiceOf d → caseIn s p q ≡ d
   fit-is d h = sym (same-case (caseIn s p q)) ∙ ap caseOf (sym fits ∙ h) ∙ same-case d
 
-  chosen : (d : Case) → v ≡ choiceOf d → reactionOf (inCase d sc b s i j) ≡ reactionOf (signalInstant sc b s i j)
+  chosen : (d : Case) → v ≡ choiceOf d → reactionOf (inCase d sc b s t u) ≡ reactionOf (signalTree sc b s t u)
   chosen d h =
-      sym (ap reactionOf (as-fits sc b s i j ∙ ap (λ (c : Case). inCase c sc b s i j) (rw (p-is, q-is) at (fit-is d h))))
+      sym (ap reactionOf (as-fits sc b s t u ∙ ap (λ (c : Case). inCase c sc b s t u) (rw (p-is, q-is) at (fit-is d h))))
 
   pub signal-both : v ≡ Both → (o : ℕ) → o ≡ outside sc s (q .emitted)
-      → _≡_ {A = Reaction} (record { emitted = o; labels = q .labels; completion = q .completion; taken = m }) (reactionOf (signalInstant sc b s i j))
+      → _≡_ {A = Reaction} (record { emitted = o; labels = q .labels; completion = q .completion; taken = m; asked = a })
+      (reactionOf (signalTree sc b s t u))
   signal-both h o e =
-      let law : InBoth sc b s i j p q = rw (p-is, q-is) (in-both sc b s i j) in
-      law o m (ap isInherited (fit-is both h)) e counted ∙ chosen both h
+      let law : InBoth sc b s t u p q = rw (p-is, q-is) (in-both sc b s t u) in
+      law o m a (ap isInherited (fit-is both h)) e counted noted ∙ chosen both h
 
   pub signal-neither : v ≡ Neither
-      → _≡_ {A = Reaction} (record { emitted = p .emitted; labels = p .labels; completion = p .completion; taken = m })
-      (reactionOf (signalInstant sc b s i j))
+      → _≡_ {A = Reaction} (record { emitted = p .emitted; labels = p .labels; completion = p .completion; taken = m; asked = a })
+      (reactionOf (signalTree sc b s t u))
   signal-neither h =
-      let law : InNeither sc b s i j p q = rw (p-is, q-is) (in-neither sc b s i j) in
-      law m (ap isInherited (fit-is neither h)) counted ∙ chosen neither h
+      let law : InNeither sc b s t u p q = rw (p-is, q-is) (in-neither sc b s t u) in
+      law m a (ap isInherited (fit-is neither h)) counted noted ∙ chosen neither h
 
   pub signal-inherits : v ≡ Inherited → (l : Labels) (c : Completion) → Stands l none → c ≡ greaterOf (p .completion) (q .completion)
-      → _≡_ {A = Reaction} (record { emitted = none; labels = l; completion = c; taken = m }) (reactionOf (signalInstant sc b s i j))
+      → _≡_ {A = Reaction} (record { emitted = none; labels = l; completion = c; taken = m; asked = a }) (reactionOf (signalTree sc b s t u))
   signal-inherits h l c e g =
-      let law : InInherited sc b s i j p q = rw (p-is, q-is) (in-inherited sc b s i j) in
-      law l c m (ap isInherited (fit-is inherited h)) e g counted ∙ chosen inherited h
+      let law : InInherited sc b s t u p q = rw (p-is, q-is) (in-inherited sc b s t u) in
+      law l c m a (ap isInherited (fit-is inherited h)) e g counted noted ∙ chosen inherited h
 
-  failed-as : (d : Case) → InFailed d sc b s i j p q
-  failed-as d = rw (p-is, q-is) (in-failed d sc b s i j)
+  failed-as : (d : Case) → InFailed d sc b s t u p q
+  failed-as d = rw (p-is, q-is) (in-failed d sc b s t u)
 
-  pub signal-unreactive : v ≡ OnlyMinus → failedWith (notReactive b) m ≡ reactionOf (signalInstant sc b s i j)
-  signal-unreactive h = failed-as only− (notReactive b) m (λ r− r+. refl) (λ y. refl) counted ∙ chosen only− h
+  pub signal-unreactive : v ≡ OnlyMinus → failedWith (notReactive b) m a ≡ reactionOf (signalTree sc b s t u)
+  signal-unreactive h = failed-as only− (notReactive b) m a (λ r− r+. refl) (λ y. refl) counted noted ∙ chosen only− h
 
-  pub signal-undetermined : v ≡ OnlyPlus → failedWith (notDeterministic b) m ≡ reactionOf (signalInstant sc b s i j)
-  signal-undetermined h = failed-as only+ (notDeterministic b) m (λ r− r+. refl) (λ y. refl) counted ∙ chosen only+ h
+  pub signal-undetermined : v ≡ OnlyPlus → failedWith (notDeterministic b) m a ≡ reactionOf (signalTree sc b s t u)
+  signal-undetermined h = failed-as only+ (notDeterministic b) m a (λ r− r+. refl) (λ y. refl) counted noted ∙ chosen only+ h
+
+-- ---- one run that stands for both: s is emitted by both or by neither, and a wrong run is inherited
+absent-outside : (sc : Scope) (s o : ℕ) → member s o ≡ false → outside sc s o ≡ o
+absent-outside local s o h = ext (remove s o) o (λ i. member-remove s o i ∙ go i (tested (eqb s i)))
+  where
+    go : (i : ℕ) → Tested (eqb s i) → (member i o && not (eqb s i)) ≡ member i o
+    go i (Tested.yes x) = rw (x, ← eqb-true s i x, h)
+    go i (Tested.no x) = rw x (and-true (member i o))
+absent-outside reported s o h = refl
+
+module _ (sc : Scope) (b s : ℕ) where
+  abbrev OnceRight : Esterel.Tree → Reaction → Type 0
+  OnceRight t p =
+      (o m : ℕ) → isWrong (codeOf (p .completion)) ≡ false → o ≡ outside sc s (p .emitted) → Counted p p m
+      → _≡_ {A = Reaction} (record { emitted = o; labels = p .labels; completion = p .completion; taken = m; asked = p .asked })
+      (reactionOf (signalOnce sc b s t))
+
+  pub once-right : (t : Esterel.Tree) (p : Reaction) → p ≡ reactionOf t → OnceRight t p
+  once-right t p p-is = rw p-is (go t)
+    where
+      by-member : (c : Bool) (o₁ : ℕ) (k : Code) (l : ℕ) (t₁ : Statement) (x : Option Error) (n a : ℕ) → member s o₁ ≡ c
+          → isWrong k ≡ false → OnceRight (tree (instant (gives o₁ k l t₁) x n) a) (reactionOf (tree (instant (gives o₁ k l t₁) x n) a))
+      by-member true o₁ k l t₁ x n a i r o m h e w = rw (i, r, e, w, word-two n n, unmoved k x Option.none r)
+      by-member false o₁ k l t₁ x n a i r o m h e w = rw (i, r, e, absent-outside sc s o₁ i, w, word-two n n, unmoved k x Option.none r)
+
+      go : (t : Esterel.Tree) → OnceRight t (reactionOf t)
+      go (tree (instant (gives o₁ k l t₁) x n) a) o m h =
+          by-member (member s o₁) o₁ k l t₁ x n a refl (rw (code-of k x) at h) o m h
+
+  abbrev OnceWrong : Esterel.Tree → Reaction → Type 0
+  OnceWrong t p =
+      (l : Labels) (m : ℕ) → isWrong (codeOf (p .completion)) ≡ true → Stands l none → Counted p p m
+      → _≡_ {A = Reaction} (record { emitted = none; labels = l; completion = p .completion; taken = m; asked = p .asked })
+      (reactionOf (signalOnce sc b s t))
+
+  pub once-wrong : (t : Esterel.Tree) (p : Reaction) → p ≡ reactionOf t → OnceWrong t p
+  once-wrong t p p-is = rw p-is (go t)
+    where
+      go : (t : Esterel.Tree) → OnceWrong t (reactionOf t)
+      go (tree (instant (gives o₁ ended l₁ t₁) x n) a) l m h e w = absurd (false≢true h)
+      go (tree (instant (gives o₁ waiting l₁ t₁) x n) a) l m h e w = absurd (false≢true h)
+      go (tree (instant (gives o₁ (leaving k) l₁ t₁) x n) a) l m h e w = absurd (false≢true h)
+      go (tree (instant (gives o₁ wrong l₁ t₁) x n) a) l m h e w = made wrong x (1 + n + n) a refl e refl (w ∙ word-two n n) refl

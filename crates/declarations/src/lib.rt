@@ -1,10 +1,11 @@
 // The signal rules (01, 'One reaction', and 02, items 4 and 5): what a declaration makes of the two runs of its body.
 ghost use mathlib.Core.Path.{_≡_};
+ghost use Prim.Native.Nat.{ℕ};
 ghost use Rattle.limits.specs.Limits.{readBackPlace};
 ghost use Rattle.esterel.specs.Statement.{Scope, local, reported};
 ghost use Rattle.esterel.specs.Reaction.{outside};
-ghost use Rattle.esterel.specs.Resume.{signalInstant};
-ghost use Rattle.reaction.specs.Reactions.{FromTwo};
+ghost use Rattle.esterel.specs.Resume.{signalTree, signalOnce};
+ghost use Rattle.reaction.specs.Reactions.{FromOne, FromTwo};
 ghost use Rattle.declarations.specs.Choices.{choiceOf, caseIn};
 use reaction::Reaction;
 
@@ -46,39 +47,69 @@ fn choose(s: u8, minus: Reaction, plus: Reaction) -> Choice
 }
 
 // A declaration of s at the offset `place`, from the runs of its body without s and with it. Where both runs emit s, it emits
-// the set `kept`. Both runs count, whichever answers.
+// the set `kept`. Both runs count and ask, whichever answers; what asks inside for s does not ask outside.
 fn declaring(place: u16, s: u8, kept: u32, minus: Reaction, plus: Reaction) -> Reaction
-    ensures { λ r. ⌜ ((sc : Scope) → kept ≡ outside sc s (plus .emitted) → FromTwo (signalInstant sc place s) minus plus r) ⌝ }
+    ensures { λ r. ⌜ ((sc : Scope) → kept ≡ outside sc s (plus .emitted) → FromTwo (signalTree sc place s) minus plus r) ⌝ }
 {
     let k = minus.completion;
     let l = plus.completion;
     let minus_labels = minus.labels;
     let plus_labels = plus.labels;
     let taken = reaction::over_two(minus.taken, plus.taken);
+    let asked = signals::without(signals::union(minus.asked, plus.asked), s);
     match choose(s, minus, plus) {
-        Choice::Both => reaction::made(kept, plus_labels, l, taken),
-        Choice::Neither => reaction::made(minus.emitted, minus_labels, k, taken),
-        Choice::OnlyMinus => reaction::failing(2, place, taken),
-        Choice::OnlyPlus => reaction::failing(3, place, taken),
+        Choice::Both => reaction::made(kept, plus_labels, l, taken, asked),
+        Choice::Neither => reaction::made(minus.emitted, minus_labels, k, taken, asked),
+        Choice::OnlyMinus => reaction::failing(2, place, taken, asked),
+        Choice::OnlyPlus => reaction::failing(3, place, taken, asked),
         Choice::Inherited => Reaction {
             emitted: 0,
             labels: labels::empty(),
             completion: completions::greater_of(k, l),
             taken,
+            asked,
         },
+    }
+}
+
+// The same where the run p without s did not ask for s: p stands for both runs, and counts twice.
+fn declaring_once(kept: u32, p: Reaction) -> Reaction
+    ensures { λ r. ⌜ ((sc : Scope) (a s : ℕ) → kept ≡ outside sc s (p .emitted) → FromOne (signalOnce sc a s) p r) ⌝ }
+{
+    let k = p.completion;
+    let labels = p.labels;
+    let taken = reaction::over_two(p.taken, p.taken);
+    if completions::is_wrong(k) {
+        reaction::made(0, labels::empty(), k, taken, p.asked)
+    } else {
+        reaction::made(kept, labels, k, taken, p.asked)
     }
 }
 
 // signal s at the offset `place`: s stays inside
 pub fn in_signal(place: u16, s: u8, minus: Reaction, plus: Reaction) -> Reaction
-    ensures { λ r. ⌜ FromTwo (signalInstant local place s) minus plus r ⌝ }
+    ensures { λ r. ⌜ FromTwo (signalTree local place s) minus plus r ⌝ }
 {
     declaring(place, s, signals::without(plus.emitted, s), minus, plus)
 }
 
+// signal s at any place, from one run that stands for both
+pub fn in_signal_once(s: u8, p: Reaction) -> Reaction
+    ensures { λ r. ⌜ ((a : ℕ) → FromOne (signalOnce local a s) p r) ⌝ }
+{
+    declaring_once(signals::without(p.emitted, s), p)
+}
+
 // The read-back declaration of s (02, item 5): s is reported all the same.
 pub fn in_read_back(s: u8, minus: Reaction, plus: Reaction) -> Reaction
-    ensures { λ r. ⌜ FromTwo (signalInstant reported readBackPlace s) minus plus r ⌝ }
+    ensures { λ r. ⌜ FromTwo (signalTree reported readBackPlace s) minus plus r ⌝ }
 {
     declaring(limits::READ_BACK_PLACE, s, plus.emitted, minus, plus)
+}
+
+// The read-back declaration of any signal, from one run that stands for both.
+pub fn in_read_back_once(p: Reaction) -> Reaction
+    ensures { λ r. ⌜ ((s : ℕ) → FromOne (signalOnce reported readBackPlace s) p r) ⌝ }
+{
+    declaring_once(p.emitted, p)
 }

@@ -1,12 +1,18 @@
-use mathlib.Core.Path.{_∙_}
+use mathlib.Core.Path.{ap, _∙_}
 use Rattle.declarations.proofs.Cases.{signal-both, signal-neither, signal-inherits, signal-unreactive, signal-undetermined}
-use Rattle.esterel.specs.Sets.{none}
+use Rattle.esterel.specs.Sets.{none, remove}
 use borrow.Author.Needs.{needs}
 use Rattle.declarations.proofs.declaring.Statement.{statement}
 use Rattle.declarations.proofs.declaring.Tie as tie
 
 over-two-requires : tie.Need-over-two-requires
 over-two-requires c κs = search needs
+
+union-requires : tie.Need-union-requires
+union-requires c κs = search needs
+
+without-requires : tie.Need-without-requires
+without-requires c κs = search needs
 
 choose-requires : tie.Need-choose-requires
 choose-requires c κs = search needs
@@ -45,32 +51,32 @@ greater-of-requires : tie.Need-greater-of-requires
 greater-of-requires c κs = search needs
 
 returns : tie.Need-returns
-returns c sc w i j a b =
+returns c sc w t u a b =
     let d = c .before .before .before in
-    c .made .ensures ∙ signal-both sc _ _ i j _ _ a b _ (d .choose .ensures) _ (d .before .over-two .ensures) (c .before .enum-told .given .1) _ w
+    c .made .ensures ∙ signal-both sc _ _ t u _ _ a b _ (d .choose .ensures) _ _ (d .before .before .before .over-two .ensures) (d .before .without .ensures ∙ ap (remove _) (d .before .before .union .ensures)) (c .before .enum-told .given .1) _ w
 
 returns-2 : tie.Need-returns-2
-returns-2 c sc w i j a b =
+returns-2 c sc w t u a b =
     let d = c .before .before .before in
-    c .made2 .ensures ∙ signal-neither sc _ _ i j _ _ a b _ (d .choose .ensures) _ (d .before .over-two .ensures) (c .before .enum-told2 .given .1)
+    c .made2 .ensures ∙ signal-neither sc _ _ t u _ _ a b _ (d .choose .ensures) _ _ (d .before .before .before .over-two .ensures) (d .before .without .ensures ∙ ap (remove _) (d .before .before .union .ensures)) (c .before .enum-told2 .given .1)
 
 returns-3 : tie.Need-returns-3
-returns-3 c sc w i j a b =
+returns-3 c sc w t u a b =
     let d = c .before .before .before in
     c .failing .ensures
-    ∙ signal-unreactive sc _ _ i j _ _ a b _ (d .choose .ensures) _ (d .before .over-two .ensures) (c .before .enum-told3 .given .1)
+    ∙ signal-unreactive sc _ _ t u _ _ a b _ (d .choose .ensures) _ _ (d .before .before .before .over-two .ensures) (d .before .without .ensures ∙ ap (remove _) (d .before .before .union .ensures)) (c .before .enum-told3 .given .1)
 
 returns-4 : tie.Need-returns-4
-returns-4 c sc w i j a b =
+returns-4 c sc w t u a b =
     let d = c .before .before .before in
     c .failing2 .ensures
-    ∙ signal-undetermined sc _ _ i j _ _ a b _ (d .choose .ensures) _ (d .before .over-two .ensures) (c .before .enum-told4 .given .1)
+    ∙ signal-undetermined sc _ _ t u _ _ a b _ (d .choose .ensures) _ _ (d .before .before .before .over-two .ensures) (d .before .without .ensures ∙ ap (remove _) (d .before .before .union .ensures)) (c .before .enum-told4 .given .1)
 
 returns-5 : tie.Need-returns-5
 unfolding none
-returns-5 c sc w i j a b =
+returns-5 c sc w t u a b =
     let d = c .before .before .before .before in
-    signal-inherits sc _ _ i j _ _ a b _ (d .choose .ensures) _ (d .before .over-two .ensures) (c .before .before .enum-told5 .given .1) _ _
+    signal-inherits sc _ _ t u _ _ a b _ (d .choose .ensures) _ _ (d .before .before .before .over-two .ensures) (d .before .without .ensures ∙ ap (remove _) (d .before .before .union .ensures)) (c .before .before .enum-told5 .given .1) _ _
     (search needs, c .before .empty .ensures) (c .greater-of .ensures)
 
 pub declaring-spec : {M : Type 1} → statement M
@@ -78,6 +84,8 @@ declaring-spec =
     tie.close
     (tie.spec
     over-two-requires
+    union-requires
+    without-requires
     choose-requires
     enum-told
     made-requires

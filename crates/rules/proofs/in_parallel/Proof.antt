@@ -25,7 +25,7 @@ returns : tie.Need-returns
 returns c t v a b =
     let d = c .before in
     par-joins t v _ _ a b _ _ _ _ _ _ (d .before .before .before .union .ensures) (d .before .before .before .before .greater-of .ensures) (d .over-two .ensures)
-    (c .union3 .ensures) (d .before .before .union2 .ensures) (d .before .if-waiting .ensures)
+    (c .union3 .ensures) (d .before .before .union2 .ensures) (search needs, d .before .if-waiting .ensures)
 
 pub in-parallel-spec : {M : Type 1} → statement M
 in-parallel-spec =
