@@ -1,86 +1,102 @@
--- The instant of each command from those of its parts, as the code finds them.
+-- The tree of each command from those of its parts, as the code finds them.
 use Prim.Native.Nat.{ℕ, _<_}
 use mathlib.Core.Path.{_≡_, sym, ap, _∙_}
 use mathlib.Core.Bool.{Bool, true, false, cond}
 use borrow.Author.Tests.{lt-ltb}
 use Rattle.sets.specs.Sets.{signalCount, labelCount, onlyBelow, insertBelow}
-use Rattle.esterel.specs.Sets.{member, none, insert, remove}
+use Rattle.esterel.specs.Sets.{member, none, only, insert, remove}
 use Rattle.esterel.specs.Statement.{local, Statement, nothing, pause, emit, exit, seq, par, loop, present, signal, try, setpause, suspend}
 use Rattle.esterel.specs.Reaction.{ended, waiting, leaving, gives, reactBy}
 use Rattle.esterel.specs.Errors.{errorsBy}
 use Rattle.esterel.specs.Reactions.{reactionsBy}
+use Rattle.esterel.specs.Asked.{askedBy}
 use Rattle.esterel.specs.Resume as Esterel
-use Rattle.esterel.specs.Resume.{start, seqInstant, parInstant, loopInstant, presentInstant, tryInstant, signalInstant}
-use Rattle.theory.proofs.Resume.{start-seq, start-par, start-loop, start-present, start-signal, start-try, start-suspend}
+use Rattle.esterel.specs.Resume.{startTree, seqTree, parTree, loopTree, presentTree, tryTree, signalTree, signalOnce}
+use Rattle.theory.proofs.Trees.{start-tree-seq, start-tree-par, start-tree-loop, start-tree-present, start-tree-signal, start-tree-try, start-tree-suspend}
+use Rattle.theory.proofs.Asked.{one-run-signal}
 use Rattle.reaction.specs.declared.Reaction.{Reaction}
-use Rattle.reaction.specs.Reactions.{alone, reactionOf, FromOne}
-use Rattle.reaction.proofs.Values.{suspend-reaction}
+use Rattle.reaction.specs.Reactions.{alone, reactionOf, countedAround, FromOne, FromTwo}
+use Rattle.reaction.proofs.Values.{suspend-reaction, present-reaction}
 
 -- ---- commands without parts, once they are known
 module _ (p : Statement) (e : ℕ) (r : Reaction) where
-  pub nothing-step : p ≡ nothing → r ≡ reactionOf (alone (gives 0 ended none nothing)) → r ≡ reactionOf (start p e)
-  unfolding reactBy errorsBy reactionsBy none
+  pub nothing-step : p ≡ nothing → r ≡ reactionOf (alone (gives 0 ended none nothing) none) → r ≡ reactionOf (startTree p e)
+  unfolding reactBy errorsBy reactionsBy askedBy none
   nothing-step h k = rw h k
 
   pub emit-step : (x s : ℕ) → p ≡ emit s → s < signalCount → x ≡ onlyBelow signalCount s
-      → r ≡ reactionOf (alone (gives x ended none nothing)) → r ≡ reactionOf (start p e)
-  unfolding reactBy errorsBy reactionsBy
+      → r ≡ reactionOf (alone (gives x ended none nothing) none) → r ≡ reactionOf (startTree p e)
+  unfolding reactBy errorsBy reactionsBy askedBy
   emit-step x s h l k i = rw h (i ∙ rw (k, lt-ltb s signalCount l))
 
-  pub exit-step : (n : ℕ) → p ≡ exit n → r ≡ reactionOf (alone (gives none (leaving n) none nothing)) → r ≡ reactionOf (start p e)
-  unfolding reactBy errorsBy reactionsBy
+  pub exit-step : (n : ℕ) → p ≡ exit n → r ≡ reactionOf (alone (gives none (leaving n) none nothing) none) → r ≡ reactionOf (startTree p e)
+  unfolding reactBy errorsBy reactionsBy askedBy
   exit-step n h k = rw h k
 
-  module _ (l : ℕ) (small : l < labelCount) (h : r ≡ reactionOf (alone (gives none waiting (onlyBelow labelCount l) nothing))) where
-    pub pause-step : p ≡ pause l → r ≡ reactionOf (start p e)
-    unfolding reactBy errorsBy reactionsBy
+  module _ (l : ℕ) (small : l < labelCount) (h : r ≡ reactionOf (alone (gives none waiting (onlyBelow labelCount l) nothing) none)) where
+    pub pause-step : p ≡ pause l → r ≡ reactionOf (startTree p e)
+    unfolding reactBy errorsBy reactionsBy askedBy
     pause-step k = rw k (h ∙ rw (lt-ltb l labelCount small))
 
-    pub setpause-step : p ≡ setpause l → r ≡ reactionOf (start p e)
-    unfolding reactBy errorsBy reactionsBy
+    pub setpause-step : p ≡ setpause l → r ≡ reactionOf (startTree p e)
+    unfolding reactBy errorsBy reactionsBy askedBy
     setpause-step k = rw k (h ∙ rw (lt-ltb l labelCount small))
 
 -- what is said of a command is said of the statement that it is
-pub here : (t : Statement) (p : Statement) (e : ℕ) {r : Reaction} → p ≡ t → r ≡ reactionOf (start t e) → r ≡ reactionOf (start p e)
-here t p e h m = m ∙ ap (λ (z : Statement). reactionOf (start z e)) (sym h)
+pub here : (t : Statement) (p : Statement) (e : ℕ) {r : Reaction} → p ≡ t → r ≡ reactionOf (startTree t e) → r ≡ reactionOf (startTree p e)
+here t p e h m = m ∙ ap (λ (z : Statement). reactionOf (startTree z e)) (sym h)
 
 module _ (e : ℕ) {p r : Reaction} where
-  pub loop-step : (a : ℕ) (t : Statement) → p ≡ reactionOf (start t e)
-      → ((u : Statement) (i : Esterel.Instant) → p ≡ reactionOf i → r ≡ reactionOf (loopInstant a u i)) → r ≡ reactionOf (start (loop a t) e)
-  loop-step a t h k = k t (start t e) h ∙ ap reactionOf (sym (start-loop a t e))
+  pub loop-step : (a : ℕ) (t : Statement) → p ≡ reactionOf (startTree t e) → ((u : Statement) → FromOne (loopTree a u) p r)
+      → r ≡ reactionOf (startTree (loop a t) e)
+  loop-step a t h k = k t (startTree t e) h ∙ ap reactionOf (sym (start-tree-loop a t e))
 
-  pub try-step : (t : Statement) → p ≡ reactionOf (start t e)
-      → ((i : Esterel.Instant) → p ≡ reactionOf i → r ≡ reactionOf (tryInstant i)) → r ≡ reactionOf (start (try t) e)
-  try-step t h k = k (start t e) h ∙ ap reactionOf (sym (start-try t e))
+  pub try-step : (t : Statement) → p ≡ reactionOf (startTree t e) → FromOne tryTree p r → r ≡ reactionOf (startTree (try t) e)
+  try-step t h k = k (startTree t e) h ∙ ap reactionOf (sym (start-tree-try t e))
 
-  pub signal-step : (a x : ℕ) (t : Statement) {q : Reaction} {e− e+ : ℕ} → x < signalCount
-      → e− ≡ remove x e → p ≡ reactionOf (start t e−) → e+ ≡ insertBelow signalCount x e → q ≡ reactionOf (start t e+)
-      → ((i j : Esterel.Instant) → p ≡ reactionOf i → q ≡ reactionOf j → r ≡ reactionOf (signalInstant local a x i j)) → r ≡ reactionOf (start (signal local a x t) e)
-  signal-step a x t {q} {e−} {e+} l u h v m k =
-      let v′ : e+ ≡ insert x e = v ∙ rw (lt-ltb x signalCount l) in
-      k (start t (remove x e)) (start t (insert x e)) (rw u at h) (rw v′ at m) ∙ ap reactionOf (sym (start-signal local a x t e))
+  pub seq-step : (t u : Statement) → p ≡ reactionOf (startTree t e) → FromOne (λ (z : Esterel.Tree). seqTree u z (startTree u e)) p r
+      → r ≡ reactionOf (startTree (seq t u) e)
+  seq-step t u h k = k (startTree t e) h ∙ ap reactionOf (sym (start-tree-seq t u e))
 
-  pub seq-step : (t u : Statement) → p ≡ reactionOf (start t e)
-      → ((i : Esterel.Instant) → p ≡ reactionOf i → r ≡ reactionOf (seqInstant u i (start u e))) → r ≡ reactionOf (start (seq t u) e)
-  seq-step t u h k = k (start t e) h ∙ ap reactionOf (sym (start-seq t u e))
+  pub par-step : (t u : Statement) {q : Reaction} → p ≡ reactionOf (startTree t e) → q ≡ reactionOf (startTree u e) → FromTwo parTree p q r
+      → r ≡ reactionOf (startTree (par t u) e)
+  par-step t u h m k = k (startTree t e) (startTree u e) h m ∙ ap reactionOf (sym (start-tree-par t u e))
 
-  pub par-step : (t u : Statement) {q : Reaction} → p ≡ reactionOf (start t e) → q ≡ reactionOf (start u e)
-      → ((i j : Esterel.Instant) → p ≡ reactionOf i → q ≡ reactionOf j → r ≡ reactionOf (parInstant i j)) → r ≡ reactionOf (start (par t u) e)
-  par-step t u h m k = k (start t e) (start u e) h m ∙ ap reactionOf (sym (start-par t u e))
+  -- a fresh suspend only counts
+  pub suspend-step : (s : ℕ) (t : Statement) → p ≡ reactionOf (startTree t e) → FromOne (countedAround none) p r
+      → r ≡ reactionOf (startTree (suspend s t) e)
+  suspend-step s t h k = k (startTree t e) h ∙ suspend-reaction s (startTree t e) ∙ ap reactionOf (sym (start-tree-suspend s t e))
 
-  -- commands that only count, around what reacted
-  pub suspend-step : (s : ℕ) (t : Statement) → p ≡ reactionOf (start t e) → FromOne presentInstant p r → r ≡ reactionOf (start (suspend s t) e)
-  suspend-step s t h k = k (start t e) h ∙ suspend-reaction s (start t e) ∙ ap reactionOf (sym (start-suspend s t e))
+  -- ---- a signal x at place a, whose run without it is p
+  module _ (a x : ℕ) (t : Statement) (small : x < signalCount) {e− : ℕ} (less : e− ≡ remove x e) (p-is : p ≡ reactionOf (startTree t e−)) where
+    pub signal-step : {q : Reaction} {e+ : ℕ} → e+ ≡ insertBelow signalCount x e → q ≡ reactionOf (startTree t e+)
+        → FromTwo (signalTree local a x) p q r → r ≡ reactionOf (startTree (signal local a x t) e)
+    signal-step {q} {e+} more m k =
+        let more′ : e+ ≡ insert x e = more ∙ rw (lt-ltb x signalCount small) in
+        k (startTree t (remove x e)) (startTree t (insert x e)) (rw less at p-is) (rw more′ at m)
+        ∙ ap reactionOf (sym (start-tree-signal local a x t e))
 
-  module _ (x : ℕ) (t u : Statement) where
-    tested : (b : Bool) → member x e ≡ b → p ≡ reactionOf (cond b (start t e) (start u e)) → FromOne presentInstant p r
-        → r ≡ reactionOf (start (present x t u) e)
-    tested b i h k =
-        k (cond b (start t e) (start u e)) h
-        ∙ ap reactionOf (sym (start-present x t u e ∙ ap (λ (z : Bool). presentInstant (cond z (start t e) (start u e))) i))
+    -- it was not asked for
+    pub signal-once-step : member x (p .asked) ≡ false → ((b : ℕ) → FromOne (signalOnce local b x) p r)
+        → r ≡ reactionOf (startTree (signal local a x t) e)
+    signal-once-step n k =
+        let h : p ≡ reactionOf (startTree t (remove x e)) = rw less at p-is in
+        k a (startTree t (remove x e)) h ∙ ap reactionOf (sym (one-run-signal x t e (rw h at n) local a))
 
-    pub present-step : member x e ≡ true → p ≡ reactionOf (start t e) → FromOne presentInstant p r → r ≡ reactionOf (start (present x t u) e)
+  -- ---- a test of x, which notes it
+  module _ (x : ℕ) (t u : Statement) (small : x < signalCount) {b : ℕ} (noted : b ≡ onlyBelow signalCount x) where
+    tested : (c : Bool) → member x e ≡ c → p ≡ reactionOf (cond c (startTree t e) (startTree u e)) → FromOne (countedAround b) p r
+        → r ≡ reactionOf (startTree (present x t u) e)
+    tested c i h k =
+        let z : b ≡ only x = noted ∙ rw (lt-ltb x signalCount small) in
+        let v : Esterel.Tree = cond c (startTree t e) (startTree u e) in
+        k v h ∙ ap (λ (s : ℕ). reactionOf (countedAround s v)) z ∙ present-reaction x v
+        ∙ ap reactionOf (sym (start-tree-present x t u e ∙ ap (λ (y : Bool). presentTree x (cond y (startTree t e) (startTree u e))) i))
+
+    pub present-step : member x e ≡ true → p ≡ reactionOf (startTree t e) → FromOne (countedAround b) p r
+        → r ≡ reactionOf (startTree (present x t u) e)
     present-step = tested true
 
-    pub absent-step : member x e ≡ false → p ≡ reactionOf (start u e) → FromOne presentInstant p r → r ≡ reactionOf (start (present x t u) e)
+    pub absent-step : member x e ≡ false → p ≡ reactionOf (startTree u e) → FromOne (countedAround b) p r
+        → r ≡ reactionOf (startTree (present x t u) e)
     absent-step = tested false

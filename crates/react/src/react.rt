@@ -25,7 +25,7 @@ pub fn react(s: &[u8], at: usize, depth: u8, input: u32, second: &Seconds) -> Re
         8 => signal_rule(s, at, depth, input, second),
         9 => try_part(s, at, depth, input, second),
         // a fresh suspend reacts as its part
-        11 => reaction::around(part(s, 2, at + 2, depth - 1, input, second)),
+        11 => reaction::around(part(s, 2, at + 2, depth - 1, input, second), 0),
         _ => reaction::pausing(s[1]),
     }
 }
@@ -57,7 +57,7 @@ pub fn after(
     if completions::is_ended(k) {
         rules::in_sequence(p, part(s, n, at, depth, input, second))
     } else {
-        reaction::around(p)
+        reaction::around(p, 0)
     }
 }
 
@@ -92,25 +92,31 @@ fn present_parts(s: &[u8], at: usize, depth: u8, input: u32, second: &Seconds) -
     requires { ⌜ Ready (now second) depth at (now s) × (getD (now s) 0 0 ≡ 7) ⌝ }
     ensures { λ r. ⌜ Started (now (second .entry)) depth at (now (s .entry)) input r ⌝ }
 {
-    if signals::member(input, s[1]) {
-        reaction::around(part(s, 2, at + 2, depth - 1, input, second))
+    let x = s[1];
+    let tested = signals::single(x);
+    if signals::member(input, x) {
+        reaction::around(part(s, 2, at + 2, depth - 1, input, second), tested)
     } else {
         let m = (second[at] % 2048) as usize;
-        reaction::around(part(s, m - at, m, depth - 1, input, second))
+        reaction::around(part(s, m - at, m, depth - 1, input, second), tested)
     }
 }
 
-// The body reacts twice, without the signal and with it.
+// The body reacts without the signal, and with it where that run asked for the signal; else the second run would repeat the first.
 fn signal_rule(s: &[u8], at: usize, depth: u8, input: u32, second: &Seconds) -> Reaction
     requires { ⌜ Ready (now second) depth at (now s) × (getD (now s) 0 0 ≡ 8) ⌝ }
     ensures { λ r. ⌜ Started (now (second .entry)) depth at (now (s .entry)) input r ⌝ }
 {
     let x = s[1];
     let without = signals::without(input, x);
-    let p = part(s, 2, at + 2, depth - 1, without, second);
     let with = signals::with(input, x);
-    let q = part(s, 2, at + 2, depth - 1, with, second);
-    declarations::in_signal(at as u16, x, p, q)
+    let p = part(s, 2, at + 2, depth - 1, without, second);
+    if signals::member(p.asked, x) {
+        let q = part(s, 2, at + 2, depth - 1, with, second);
+        declarations::in_signal(at as u16, x, p, q)
+    } else {
+        declarations::in_signal_once(x, p)
+    }
 }
 
 fn try_part(s: &[u8], at: usize, depth: u8, input: u32, second: &Seconds) -> Reaction

@@ -3,7 +3,8 @@ use native.Mathlib.Omega.{arith}
 use borrow.Author.Needs.{needs}
 use borrow.Author.Tests.{ltb-true}
 use Rattle.esterel.specs.Statement.{local, seq, par, loop, present, signal, try, suspend}
-use Rattle.esterel.specs.Resume.{start}
+use Rattle.esterel.specs.Sets.{none}
+use Rattle.esterel.specs.Resume.{startTree}
 use Rattle.sequence.specs.Commands.{Command}
 use Rattle.layout.proofs.Laid.{ready, taken, begins, last-but-one}
 use Rattle.rules.proofs.Combining.{seq-stops}
@@ -18,6 +19,7 @@ use Rattle.react.proofs.Steps.{
   try-step,
   suspend-step,
   signal-step,
+  signal-once-step,
   seq-step,
   par-step,
   present-step,
@@ -59,6 +61,7 @@ use Rattle.rules.proofs.in_loop.Reads as in-loop-reads
 use Rattle.rules.proofs.in_parallel.Reads as in-parallel-reads
 use Rattle.rules.proofs.in_sequence.Reads as in-sequence-reads
 use Rattle.declarations.proofs.in_signal.Reads as in-signal-reads
+use Rattle.declarations.proofs.in_signal_once.Reads as in-signal-once-reads
 use Rattle.rules.proofs.in_try.Reads as in-try-reads
 use Rattle.completions.proofs.is_ended.Reads as is-ended-reads
 use Rattle.reaction.proofs.leaving.Reads as leaving-reads
@@ -180,7 +183,7 @@ abbrev part-claims : ℕ → part-lts.Claims
 part-claims t = (react-below t, react.Post)
 
 abbrev present-parts-claims : ℕ → present-parts-lts.Claims
-present-parts-claims t = (member-reads.Asked, member-reads.Learnt, part-below t, part.Post, around-reads.Asked, around-reads.Learnt)
+present-parts-claims t = (single-reads.Asked, single-reads.Learnt, member-reads.Asked, member-reads.Learnt, part-below t, part.Post, around-reads.Asked, around-reads.Learnt)
 
 abbrev react-claims : ℕ → react-lts.Claims
 react-claims t = (ending-reads.Asked, ending-reads.Learnt, pausing-reads.Asked, pausing-reads.Learnt, single-reads.Asked, single-reads.Learnt, leaving-reads.Asked, leaving-reads.Learnt, seq-parts-below t, seq-parts.Post, par-parts-below t, par-parts.Post, loop-part-below t, loop-part.Post, present-parts-below t, present-parts.Post, signal-rule-below t, signal-rule.Post, try-part-below t, try-part.Post, part-below t, part.Post, around-reads.Asked, around-reads.Learnt)
@@ -189,7 +192,7 @@ abbrev seq-parts-claims : ℕ → seq-parts-lts.Claims
 seq-parts-claims t = (part-below t, part.Post, after-below t, after.Post)
 
 abbrev signal-rule-claims : ℕ → signal-rule-lts.Claims
-signal-rule-claims t = (without-reads.Asked, without-reads.Learnt, part-below t, part.Post, with-reads.Asked, with-reads.Learnt, in-signal-reads.Asked, in-signal-reads.Learnt)
+signal-rule-claims t = (without-reads.Asked, without-reads.Learnt, with-reads.Asked, with-reads.Learnt, part-below t, part.Post, member-reads.Asked, member-reads.Learnt, in-signal-reads.Asked, in-signal-reads.Learnt, in-signal-once-reads.Asked, in-signal-once-reads.Learnt)
 
 abbrev try-part-claims : ℕ → try-part-lts.Claims
 try-part-claims t = (part-below t, part.Post, in-try-reads.Asked, in-try-reads.Learnt)
@@ -198,11 +201,12 @@ after-part-requires : (t : ℕ) → after-lts.Need-part-requires (after-claims t
 after-part-requires t c κs = (search needs, (c .before .before .before .pre .1 .0, c .before .before .before .pre .1 .1))
 
 after-returns : (t : ℕ) → after-lts.Need-returns (after-claims t) (after-at t) after.Post
-after-returns t c base u i l h = c .in-sequence .ensures u i (start u _) h (c .before .part .ensures base u l)
+after-returns t c base u i l h = c .in-sequence .ensures u i (startTree u _) h (c .before .part .ensures base u l)
 
 after-returns-2 : (t : ℕ) → after-lts.Need-returns-2 (after-claims t) (after-at t) after.Post
+unfolding none
 after-returns-2 t c base u i l h =
-    seq-stops u i (start u _) _ (c .before .before .before .before .args .p) h (sym (c .before .before .is-ended .ensures) ∙ c .before .if1 .left) (c .around .ensures i h)
+    seq-stops u i (startTree u _) _ (c .before .before .before .before .args .p) h (sym (c .before .before .is-ended .ensures) ∙ c .before .if1 .left) (c .around .ensures i h)
 
 loop-part-part-requires : (t : ℕ) → loop-part-lts.Need-part-requires (loop-part-claims t) (loop-part-at t) loop-part.Post
 loop-part-part-requires t c κs = let y = begins (c .before .pre .1 .0) Command.loop (c .before .pre .1 .1) in (search needs, (y .there, ready _ (y .parts .0) (c .before .pre .1 .0 .long) (y .parts .1 .1)))
@@ -249,36 +253,50 @@ part-react-requires t c κs = (search needs, c .before .before .pre .1 .1)
 part-returns : (t : ℕ) → part-lts.Need-returns (part-claims t) (part-at t) part.Post
 part-returns t c base p l = c .react .ensures base p l
 
-present-parts-shared-slice-read-member : (t : ℕ) → present-parts-lts.Need-shared-slice-read-member (present-parts-claims t) (present-parts-at t) present-parts.Post
-present-parts-shared-slice-read-member t c = begins (c .before .before .pre .1 .0) Command.present (c .before .before .pre .1 .1) .there
+present-parts-shared-slice-read-x : (t : ℕ) → present-parts-lts.Need-shared-slice-read-x (present-parts-claims t) (present-parts-at t) present-parts.Post
+present-parts-shared-slice-read-x t c = begins (c .before .before .pre .1 .0) Command.present (c .before .before .pre .1 .1) .there
 
 present-parts-part-requires : (t : ℕ) → present-parts-lts.Need-part-requires (present-parts-claims t) (present-parts-at t) present-parts.Post
-present-parts-part-requires t c κs = let y = begins (c .before .before .before .before .pre .1 .0) Command.present (c .before .before .before .before .pre .1 .1) in (search needs, (y .there, ready _ (y .parts .0) (c .before .before .before .before .pre .1 .0 .long) (y .parts .2 .1 .first)))
+present-parts-part-requires t c κs =
+    let f = c .before .before .before .before .before .pre .1 in
+    let y = begins (f .0) Command.present (f .1) in
+    (search needs, (y .there, ready _ (y .parts .0) (f .0 .long) (y .parts .2 .1 .first)))
 
 present-parts-element-copy-out-m : (t : ℕ) → present-parts-lts.Need-element-copy-out-m (present-parts-claims t) (present-parts-at t) present-parts.Post
-present-parts-element-copy-out-m t c = omega (arith, c .before .before .before .before .pre .1 .0 .long, c .before .before .before .before .pre .1 .0 .fits, c .before .before .before .before .pre .1 .0 .bytes)
+present-parts-element-copy-out-m t c =
+    let f = c .before .before .before .before .before .pre .1 .0 in
+    omega (arith, f .long, f .fits, f .bytes)
 
 present-parts-sub-part-2 : (t : ℕ) → present-parts-lts.Need-sub-part-2 (present-parts-claims t) (present-parts-at t) present-parts.Post
-present-parts-sub-part-2 t c = omega (arith, begins (c .before .before .before .before .before .pre .1 .0) Command.present (c .before .before .before .before .before .pre .1 .1) .parts .2 .1 .place)
+present-parts-sub-part-2 t c =
+    let f = c .before .before .before .before .before .before .pre .1 in
+    omega (arith, begins (f .0) Command.present (f .1) .parts .2 .1 .place)
 
 present-parts-part-requires-2 : (t : ℕ) → present-parts-lts.Need-part-requires-2 (present-parts-claims t) (present-parts-at t) present-parts.Post
-present-parts-part-requires-2 t c κs = let y = begins (c .before .before .before .before .before .pre .1 .0) Command.present (c .before .before .before .before .before .pre .1 .1) in (search needs, (y .parts .2 .1 .within, ready _ (y .parts .1) (c .before .before .before .before .before .pre .1 .0 .long) (y .parts .2 .1 .second)))
+present-parts-part-requires-2 t c κs =
+    let f = c .before .before .before .before .before .before .pre .1 in
+    let y = begins (f .0) Command.present (f .1) in
+    (search needs, (y .parts .2 .1 .within, ready _ (y .parts .1) (f .0 .long) (y .parts .2 .1 .second)))
 
 present-parts-returns : (t : ℕ) → present-parts-lts.Need-returns (present-parts-claims t) (present-parts-at t) present-parts.Post
 present-parts-returns t c base p l =
-    let f = c .before .before .before .before .before .before .pre .1 in
-    let y = taken (f .0) base p l Command.present (f .1) .parts in
-    here (present _ (y .0) (y .1)) p _ (y .2 .0)
-    (present-step _ _ (y .0) (y .1) (sym (c .before .before .before .member .ensures) ∙ c .before .before .if1 .taken)
-    (c .before .part .ensures base (y .0) (y .2 .1 .first)) (c .around .ensures))
+    let f = c .before .before .before .before .before .before .before .pre .1 in
+    let d = c .before .before .before in
+    let y = taken (f .0) base p l Command.present (f .1) in
+    let z = y .parts in
+    here (present _ (z .0) (z .1)) p _ (z .2 .0)
+    (present-step _ _ (z .0) (z .1) (ltb-true _ _ (y .ranged)) (d .before .single .ensures) (sym (d .member .ensures) ∙ c .before .before .if1 .taken)
+    (c .before .part .ensures base (z .0) (z .2 .1 .first)) (c .around .ensures))
 
 present-parts-returns-2 : (t : ℕ) → present-parts-lts.Need-returns-2 (present-parts-claims t) (present-parts-at t) present-parts.Post
 present-parts-returns-2 t c base p l =
-    let f = c .before .before .before .before .before .before .before .pre .1 in
-    let y = taken (f .0) base p l Command.present (f .1) .parts in
-    here (present _ (y .0) (y .1)) p _ (y .2 .0)
-    (absent-step _ _ (y .0) (y .1) (sym (c .before .before .before .before .member .ensures) ∙ c .before .before .before .if1 .left)
-    (c .before .part2 .ensures _ (y .1) (y .2 .1 .second)) (c .around2 .ensures))
+    let f = c .before .before .before .before .before .before .before .before .pre .1 in
+    let d = c .before .before .before .before in
+    let y = taken (f .0) base p l Command.present (f .1) in
+    let z = y .parts in
+    here (present _ (z .0) (z .1)) p _ (z .2 .0)
+    (absent-step _ _ (z .0) (z .1) (ltb-true _ _ (y .ranged)) (d .before .single .ensures) (sym (d .member .ensures) ∙ c .before .before .before .if1 .left)
+    (c .before .part2 .ensures _ (z .1) (z .2 .1 .second)) (c .around2 .ensures))
 
 react-shared-slice-read-pausing : (t : ℕ) → react-lts.Need-shared-slice-read-pausing (react-claims t) (react-at t) react.Post
 react-shared-slice-read-pausing t c = begins (c .before .before .before .before .pre .1) Command.pause (c .before .match .keys2) .there
@@ -348,6 +366,7 @@ react-returns-10 : (t : ℕ) → react-lts.Need-returns-10 (react-claims t) (rea
 react-returns-10 t c base p l = c .try-part .ensures base p l
 
 react-returns-11 : (t : ℕ) → react-lts.Need-returns-11 (react-claims t) (react-at t) react.Post
+unfolding none
 react-returns-11 t c base p l =
     let y = taken (c .before .before .before .before .before .pre .1) base p l Command.suspend (c .before .before .match .keys11) .parts in
     here (suspend _ (y .0)) p _ (y .1 .0) (suspend-step _ _ (y .0) (c .before .part .ensures base (y .0) (y .1 .1)) (c .around .ensures))
@@ -379,18 +398,36 @@ signal-rule-shared-slice-read-x : (t : ℕ) → signal-rule-lts.Need-shared-slic
 signal-rule-shared-slice-read-x t c = begins (c .before .before .pre .1 .0) Command.signal (c .before .before .pre .1 .1) .there
 
 signal-rule-part-requires : (t : ℕ) → signal-rule-lts.Need-part-requires (signal-rule-claims t) (signal-rule-at t) signal-rule.Post
-signal-rule-part-requires t c κs = let y = begins (c .before .before .before .pre .1 .0) Command.signal (c .before .before .before .pre .1 .1) in (search needs, (y .there, ready _ (y .parts .0) (c .before .before .before .pre .1 .0 .long) (y .parts .1 .1)))
+signal-rule-part-requires t c κs =
+    let f = c .before .before .before .before .pre .1 in
+    let y = begins (f .0) Command.signal (f .1) in
+    (search needs, (y .there, ready _ (y .parts .0) (f .0 .long) (y .parts .1 .1)))
 
 signal-rule-part-requires-2 : (t : ℕ) → signal-rule-lts.Need-part-requires-2 (signal-rule-claims t) (signal-rule-at t) signal-rule.Post
-signal-rule-part-requires-2 t c κs = let y = begins (c .before .before .before .before .before .pre .1 .0) Command.signal (c .before .before .before .before .before .pre .1 .1) in (search needs, (y .there, ready _ (y .parts .0) (c .before .before .before .before .before .pre .1 .0 .long) (y .parts .1 .1)))
+signal-rule-part-requires-2 t c κs =
+    let f = c .before .before .before .before .before .before .before .pre .1 in
+    let y = begins (f .0) Command.signal (f .1) in
+    (search needs, (y .there, ready _ (y .parts .0) (f .0 .long) (y .parts .1 .1)))
 
 signal-rule-returns : (t : ℕ) → signal-rule-lts.Need-returns (signal-rule-claims t) (signal-rule-at t) signal-rule.Post
 signal-rule-returns t c base p l =
-    let y = taken (c .before .before .before .before .before .before .before .pre .1 .0) base p l Command.signal (c .before .before .before .before .before .before .before .pre .1 .1) in
+    let f = c .before .before .before .before .before .before .before .before .before .pre .1 in
+    let d = c .before .before .before .before in
+    let y = taken (f .0) base p l Command.signal (f .1) in
     let q = y .parts .0 in
     here (signal local _ _ q) p _ (y .parts .1 .0)
-    (signal-step _ _ _ q (ltb-true _ _ (y .ranged)) (c .before .before .before .before .without .ensures) (c .before .before .before .part .ensures base q (y .parts .1 .1)) (c .before .before .with .ensures)
-    (c .before .part2 .ensures base q (y .parts .1 .1)) (c .in-signal .ensures))
+    (signal-step _ _ _ q (ltb-true _ _ (y .ranged)) (d .before .before .without .ensures) (d .part .ensures base q (y .parts .1 .1))
+    (d .before .with .ensures) (c .before .part2 .ensures base q (y .parts .1 .1)) (c .in-signal .ensures))
+
+signal-rule-returns-2 : (t : ℕ) → signal-rule-lts.Need-returns-2 (signal-rule-claims t) (signal-rule-at t) signal-rule.Post
+signal-rule-returns-2 t c base p l =
+    let f = c .before .before .before .before .before .before .before .before .pre .1 in
+    let d = c .before .before .before in
+    let y = taken (f .0) base p l Command.signal (f .1) in
+    let q = y .parts .0 in
+    here (signal local _ _ q) p _ (y .parts .1 .0)
+    (signal-once-step _ _ _ q (ltb-true _ _ (y .ranged)) (d .before .before .without .ensures) (d .part .ensures base q (y .parts .1 .1))
+    (sym (c .before .before .member .ensures) ∙ c .before .if1 .left) (c .in-signal-once .ensures))
 
 try-part-part-requires : (t : ℕ) → try-part-lts.Need-part-requires (try-part-claims t) (try-part-at t) try-part.Post
 try-part-part-requires t c κs = let y = begins (c .before .pre .1 .0) Command.try (c .before .pre .1 .1) in (search needs, (y .there, ready _ (y .parts .0) (c .before .pre .1 .0 .long) (y .parts .1 .1)))
@@ -446,8 +483,8 @@ pub +after+loop-part+par-parts+part+present-parts+react+seq-parts+signal-rule+tr
     (part-returns t))
     (λ t. present-parts-lts.spec (present-parts-claims t) (present-parts-at t)
     present-parts.Post
-    (present-parts-shared-slice-read-member t)
-    (λ c κs. search needs) (λ c. search needs) (λ c. search needs)
+    (present-parts-shared-slice-read-x t)
+    (λ c κs. search needs) (λ c κs. search needs) (λ c. search needs) (λ c. search needs)
     (present-parts-part-requires t)
     (λ c κs. search needs) (λ c. search needs)
     (present-parts-element-copy-out-m t)
@@ -503,12 +540,13 @@ pub +after+loop-part+par-parts+part+present-parts+react+seq-parts+signal-rule+tr
     (λ t. signal-rule-lts.spec (signal-rule-claims t) (signal-rule-at t)
     signal-rule.Post
     (signal-rule-shared-slice-read-x t)
-    (λ c κs. search needs) (λ c. search needs) (λ c. search needs)
+    (λ c κs. search needs) (λ c κs. search needs) (λ c. search needs) (λ c. search needs)
     (signal-rule-part-requires t)
     (λ c κs. search needs) (λ c. search needs) (λ c. search needs)
     (signal-rule-part-requires-2 t)
-    (λ c. search needs) (λ c κs. search needs)
-    (signal-rule-returns t))
+    (λ c. search needs) (λ c κs. search needs) (λ c κs. search needs)
+    (signal-rule-returns t)
+    (signal-rule-returns-2 t))
     λ t. try-part-lts.spec (try-part-claims t) (try-part-at t)
     try-part.Post
     (λ c. search needs) (λ c. search needs)
