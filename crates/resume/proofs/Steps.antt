@@ -1,109 +1,143 @@
--- The instant of each command from those of its active parts, as the code finds them.
+-- The tree of each command from those of its active parts, as the code finds them: that of the fresh command to which it expands.
 use Prim.Native.Nat.{ℕ, zero, suc, _+_, _-_, _<_}
 use mathlib.Core.Path.{_≡_, refl, sym, ap, _∙_}
-use mathlib.Core.Bool.{true, false, cond}
+use mathlib.Core.Bool.{Bool, true, false, cond}
 use mathlib.Core.Option.{Option, none, some}
 use mathlib.Core.List.{List}
 use lib.ListN.{getD}
 use borrow.Author.Tests.{lt-ltb}
-use Rattle.sets.specs.Sets.{signalCount, insertBelow}
-use Rattle.esterel.specs.Sets.{member, insert, remove, empty, below, from}
-use Rattle.esterel.specs.Statement.{local, Statement, nothing, seq, par, loop, present, signal, try, suspend}
-use Rattle.esterel.specs.Reaction.{ended, waiting, gives}
+use Rattle.sets.specs.Sets.{signalCount, onlyBelow, insertBelow}
+use Rattle.esterel.specs.Sets.{member, only, join, insert, remove, empty, below, from}
 use Rattle.esterel.specs.Sets as sets
+use Rattle.esterel.specs.Statement.{local, Statement, nothing, seq, par, loop, present, signal, try, suspend, held}
+use Rattle.esterel.specs.Reaction.{waiting, gives}
 use Rattle.esterel.specs.Ranks.{middle, labelsBy}
 use Rattle.esterel.specs.Resume as Esterel
-use Rattle.esterel.specs.Resume.{start, idle, seqInstant, parInstant, presentInstant, tryInstant, signalInstant, resume}
+use Rattle.esterel.specs.Resume.{startTree, seqTree, parTree, tryTree, signalTree, signalOnce, heldTree, stoppedTree, expandBy, resumeTree}
+use Rattle.theory.proofs.Sets.{join-none-l}
+use Rattle.theory.proofs.Trees.{start-tree-held}
 use Rattle.sequence.specs.Commands.{Command, commandOf}
 use Rattle.layout.specs.Layout.{Form, Lies}
 use Rattle.sequence.proofs.Table.{byte-is}
 use Rattle.layout.proofs.Laid.{opened}
 use Rattle.reaction.specs.declared.Reaction.{Reaction}
-use Rattle.reaction.specs.Reactions.{alone, reactionOf, FromOne}
-use Rattle.reaction.proofs.Values.{suspend-reaction}
+use Rattle.reaction.specs.Reactions.{alone, reactionOf, countedAround, FromOne, FromTwo}
+use Rattle.reaction.proofs.Values.{held-reaction}
+use Rattle.react.proofs.Steps as fresh
+use Rattle.resume.specs.Resumed.{sideBy}
 
 -- a cut at k is one at j
 moved : (cut : ℕ → ℕ → ℕ) (m : ℕ) {k j f : ℕ} → k ≡ j → f ≡ cut k m → f ≡ cut j m
 moved cut m h g = g ∙ ap (λ (i : ℕ). cut i m) h
 
+-- ---- to what a command expands, the first rank of its second part being k
+module _ (base m : ℕ) (p q : Statement) where
+  module _ {k f : ℕ} (hk : k ≡ middle base p) (hf : f ≡ below k m) where
+    seq-expands : empty f ≡ false → expandBy base (seq p q) m ≡ seq (expandBy base p f) q
+    unfolding expandBy
+    seq-expands z = rw (← moved below m hk hf, z)
+
+    par-expands : {g : ℕ} → g ≡ from k m → expandBy base (par p q) m ≡ par (sideBy base p f) (sideBy (middle base p) q g)
+    unfolding expandBy
+    par-expands hg = rw (← moved below m hk hf, ← moved from m hk hg)
+
+  loop-expands : {a : ℕ} → q ≡ loop a p → expandBy base q m ≡ seq (expandBy base p m) q
+  unfolding expandBy
+  loop-expands h = rw h
+
 module _ (base m e : ℕ) {r : Reaction} where
   -- what is said of a command is said of the statement that it is
-  pub here : (t p : Statement) → p ≡ t → r ≡ reactionOf (resume base t m e) → r ≡ reactionOf (resume base p m e)
-  here t p h k = k ∙ ap (λ (z : Statement). reactionOf (resume base z m e)) (sym h)
+  pub here : (t p : Statement) → p ≡ t → r ≡ reactionOf (resumeTree base t m e) → r ≡ reactionOf (resumeTree base p m e)
+  here t p h = fresh.here (expandBy base t m) (expandBy base p m) e (ap (λ (z : Statement). expandBy base z m) h)
 
   -- ---- two parts; the first rank of the second part is k
   module _ (p q : Statement) (k f : ℕ) (hk : k ≡ middle base p) (hf : f ≡ below k m) where
-    pub seq-first : {u : Reaction} → empty f ≡ false → u ≡ reactionOf (resume base p f e)
-        → ((i : Esterel.Instant) → u ≡ reactionOf i → r ≡ reactionOf (seqInstant q i (start q e))) → r ≡ reactionOf (resume base (seq p q) m e)
-    unfolding resume
-    seq-first z h g = rw (← moved below m hk hf, z) (g (resume base p f e) h)
+    pub seq-first : {u : Reaction} → empty f ≡ false → u ≡ reactionOf (resumeTree base p f e)
+        → FromOne (λ (t : Esterel.Tree). seqTree q t (startTree q e)) u r → r ≡ reactionOf (resumeTree base (seq p q) m e)
+    seq-first z h g =
+        fresh.here (seq (expandBy base p f) q) (expandBy base (seq p q) m) e (seq-expands base m p q hk hf z) (fresh.seq-step e (expandBy base p f) q h g)
 
-    pub present-first : (x : ℕ) → empty f ≡ false → r ≡ reactionOf (resume base p f e) → r ≡ reactionOf (resume base (present x p q) m e)
-    unfolding resume
+    pub present-first : (x : ℕ) → empty f ≡ false → r ≡ reactionOf (resumeTree base p f e) → r ≡ reactionOf (resumeTree base (present x p q) m e)
+    unfolding expandBy
     present-first x z h = rw (← moved below m hk hf, z) h
 
     module _ (g : ℕ) (hg : g ≡ from k m) where
-      pub seq-second : empty f ≡ true → r ≡ reactionOf (resume (middle base p) q g e) → r ≡ reactionOf (resume base (seq p q) m e)
-      unfolding resume
+      pub seq-second : empty f ≡ true → r ≡ reactionOf (resumeTree (middle base p) q g e) → r ≡ reactionOf (resumeTree base (seq p q) m e)
+      unfolding expandBy
       seq-second z h = rw (← moved below m hk hf, ← moved from m hk hg, z) h
 
-      pub present-second : (x : ℕ) → empty f ≡ true → r ≡ reactionOf (resume (middle base p) q g e)
-          → r ≡ reactionOf (resume base (present x p q) m e)
-      unfolding resume
+      pub present-second : (x : ℕ) → empty f ≡ true → r ≡ reactionOf (resumeTree (middle base p) q g e)
+          → r ≡ reactionOf (resumeTree base (present x p q) m e)
+      unfolding expandBy
       present-second x z h = rw (← moved below m hk hf, ← moved from m hk hg, z) h
 
-      pub par-step : {u v : Reaction} → u ≡ reactionOf (cond (empty f) idle (resume base p f e))
-          → v ≡ reactionOf (cond (empty g) idle (resume (middle base p) q g e))
-          → ((i j : Esterel.Instant) → u ≡ reactionOf i → v ≡ reactionOf j → r ≡ reactionOf (parInstant i j))
-          → r ≡ reactionOf (resume base (par p q) m e)
-      unfolding resume
-      par-step h i w = rw (← moved below m hk hf, ← moved from m hk hg) (w (cond (empty f) idle (resume base p f e)) (cond (empty g) idle (resume (middle base p) q g e)) h i)
+      pub par-step : {u v : Reaction} → u ≡ reactionOf (startTree (sideBy base p f) e)
+          → v ≡ reactionOf (startTree (sideBy (middle base p) q g) e) → FromTwo parTree u v r → r ≡ reactionOf (resumeTree base (par p q) m e)
+      par-step h i w =
+          let x = sideBy base p f in
+          let y = sideBy (middle base p) q g in
+          fresh.here (par x y) (expandBy base (par p q) m) e (par-expands base m p q hk hf hg) (fresh.par-step e x y h i w)
 
   -- ---- one part, which resumed as u
   module _ (p : Statement) {u : Reaction} where
-    pub loop-step : (a : ℕ) (q : Statement) → q ≡ loop a p → u ≡ reactionOf (resume base p m e)
-        → ((i : Esterel.Instant) → u ≡ reactionOf i → r ≡ reactionOf (seqInstant q i (start q e))) → r ≡ reactionOf (resume base q m e)
-    unfolding resume
-    loop-step a q h k w = rw h (rw h at (w (resume base p m e) k))
+    pub loop-step : (a : ℕ) (q : Statement) → q ≡ loop a p → u ≡ reactionOf (resumeTree base p m e)
+        → FromOne (λ (t : Esterel.Tree). seqTree q t (startTree q e)) u r → r ≡ reactionOf (resumeTree base q m e)
+    loop-step a q h k w =
+        fresh.here (seq (expandBy base p m) q) (expandBy base q m) e (loop-expands base m p q h) (fresh.seq-step e (expandBy base p m) q k w)
 
-    pub try-step : u ≡ reactionOf (resume base p m e)
-        → ((i : Esterel.Instant) → u ≡ reactionOf i → r ≡ reactionOf (tryInstant i)) → r ≡ reactionOf (resume base (try p) m e)
-    unfolding resume
-    try-step h k = k (resume base p m e) h
+    pub try-step : u ≡ reactionOf (resumeTree base p m e) → FromOne tryTree u r → r ≡ reactionOf (resumeTree base (try p) m e)
+    unfolding expandBy
+    try-step = fresh.try-step e (expandBy base p m)
 
-    pub signal-step : (a x : ℕ) {v : Reaction} {e− e+ : ℕ} → x < signalCount → e− ≡ remove x e → u ≡ reactionOf (resume base p m e−)
-        → e+ ≡ insertBelow signalCount x e → v ≡ reactionOf (resume base p m e+)
-        → ((i j : Esterel.Instant) → u ≡ reactionOf i → v ≡ reactionOf j → r ≡ reactionOf (signalInstant local a x i j))
-        → r ≡ reactionOf (resume base (signal local a x p) m e)
-    unfolding resume
-    signal-step a x {v} {e−} {e+} l hu h hv k w =
-        let hi : e+ ≡ insert x e = hv ∙ rw (lt-ltb x signalCount l) in
-        w (resume base p m (remove x e)) (resume base p m (insert x e)) (rw hu at h) (rw hi at k)
+    module _ (a x : ℕ) (small : x < signalCount) {e− : ℕ} (less : e− ≡ remove x e) (u-is : u ≡ reactionOf (resumeTree base p m e−)) where
+      pub signal-step : {v : Reaction} {e+ : ℕ} → e+ ≡ insertBelow signalCount x e → v ≡ reactionOf (resumeTree base p m e+)
+          → FromTwo (signalTree local a x) u v r → r ≡ reactionOf (resumeTree base (signal local a x p) m e)
+      unfolding expandBy
+      signal-step = fresh.signal-step e a x (expandBy base p m) small less u-is
 
--- ---- a suspend
+      pub signal-once-step : member x (u .asked) ≡ false → ((b : ℕ) → FromOne (signalOnce local b x) u r)
+          → r ≡ reactionOf (resumeTree base (signal local a x p) m e)
+      unfolding expandBy
+      signal-once-step = fresh.signal-once-step e a x (expandBy base p m) small less u-is
+
+-- ---- a suspend, which notes its signal
+only-one : (s : ℕ) → only s ≡ insert s sets.none
+unfolding only insert join
+only-one s = sym (join-none-l (only s))
+
 module _ (base m e s : ℕ) (p : Statement) {r : Reaction} where
-  -- it keeps the labels K
-  pub suspend-stopped : {K : ℕ} → member s e ≡ true → K ≡ labelsBy base p m → r ≡ reactionOf (alone (gives sets.none waiting K nothing))
-      → r ≡ reactionOf (resume base (suspend s p) m e)
-  unfolding resume
-  suspend-stopped i k h = rw i (h ∙ ap (λ (z : ℕ). reactionOf (alone (gives sets.none waiting z nothing))) k)
+  -- it is held, with the labels of its active pauses
+  as-held : (c : Bool) → member s e ≡ c
+      → r ≡ reactionOf (cond c (stoppedTree s (labelsBy base p m) (expandBy base p m)) (heldTree s (resumeTree base p m e)))
+      → r ≡ reactionOf (resumeTree base (suspend s p) m e)
+  unfolding expandBy
+  as-held c i h =
+      h ∙ ap reactionOf (sym (start-tree-held s (labelsBy base p m) (expandBy base p m) e
+      ∙ ap (λ (x : Bool). cond x (stoppedTree s (labelsBy base p m) (expandBy base p m)) (heldTree s (resumeTree base p m e))) i))
 
-  pub suspend-resumed : {u : Reaction} → member s e ≡ false → u ≡ reactionOf (resume base p m e) → FromOne presentInstant u r
-      → r ≡ reactionOf (resume base (suspend s p) m e)
-  unfolding resume
-  suspend-resumed i h k = rw i (k (resume base p m e) h ∙ suspend-reaction s (resume base p m e))
+  module _ (small : s < signalCount) {b : ℕ} (noted : b ≡ onlyBelow signalCount s) where
+    -- it keeps the labels K
+    pub suspend-stopped : {K : ℕ} → member s e ≡ true → K ≡ labelsBy base p m → r ≡ reactionOf (alone (gives sets.none waiting K nothing) b)
+        → r ≡ reactionOf (resumeTree base (suspend s p) m e)
+    suspend-stopped i k h = as-held true i (h ∙ rw (k, noted, lt-ltb s signalCount small, only-one s))
+
+    pub suspend-resumed : {u : Reaction} → member s e ≡ false → u ≡ reactionOf (resumeTree base p m e) → FromOne (countedAround b) u r
+        → r ≡ reactionOf (resumeTree base (suspend s p) m e)
+    suspend-resumed i h k =
+        let z : b ≡ only s = noted ∙ rw (lt-ltb s signalCount small) in
+        as-held false i
+        (k (resumeTree base p m e) h ∙ ap (λ (x : ℕ). reactionOf (countedAround x (resumeTree base p m e))) z
+        ∙ held-reaction s (resumeTree base p m e))
 
 -- ---- a side of a parallel
 module _ (base m e : ℕ) (p : Statement) {r : Reaction} where
-  pub side-ended : empty m ≡ true → r ≡ reactionOf idle → r ≡ reactionOf (cond (empty m) idle (resume base p m e))
+  pub side-ended : empty m ≡ true → r ≡ reactionOf (startTree nothing e)
+      → r ≡ reactionOf (startTree (sideBy base p m) e)
   side-ended z h = rw z h
 
-  pub side-active : empty m ≡ false → r ≡ reactionOf (resume base p m e) → r ≡ reactionOf (cond (empty m) idle (resume base p m e))
+  pub side-active : empty m ≡ false → r ≡ reactionOf (resumeTree base p m e)
+      → r ≡ reactionOf (startTree (sideBy base p m) e)
   side-active z h = rw z h
-
-pub idle-is : {r : Reaction} → r ≡ reactionOf (alone (gives 0 ended sets.none nothing)) → r ≡ reactionOf idle
-unfolding sets.none
-idle-is h = h
 
 -- ---- a command without parts
 -- b is none of the n bytes from `low` on
@@ -112,11 +146,11 @@ Without b low zero = Unit {0}
 Without b low (suc n) = Without b low n × (b ≡ low + n → ⊥)
 
 pub leaf-step : (t : List ℕ) (d base a : ℕ) (bs : List ℕ) (p : Statement) (m e : ℕ) {r : Reaction} → Lies t d base a bs p → Without (getD bs 0 0) 4 6 × (getD bs 0 0 ≡ 11 → ⊥)
-    → r ≡ reactionOf idle → r ≡ reactionOf (resume base p m e)
-unfolding resume
+    → r ≡ reactionOf (startTree nothing e) → r ≡ reactionOf (resumeTree base p m e)
+unfolding expandBy
 leaf-step t d base a bs p m e {r} l w h = go (commandOf (getD bs 0 0)) refl (opened t d base a bs p l .1 .form)
   where
-    go : (o : Option Command) → commandOf (getD bs 0 0) ≡ o → Form (Lies t (d - 1)) t base a bs p o → r ≡ reactionOf (resume base p m e)
+    go : (o : Option Command) → commandOf (getD bs 0 0) ≡ o → Form (Lies t (d - 1)) t base a bs p o → r ≡ reactionOf (resumeTree base p m e)
     go none q f = absurd f
     go (some Command.nothing) q f = rw (f .parts) h
     go (some Command.pause) q f = rw (f .parts) h

@@ -153,7 +153,7 @@ fn present_parts(
     part(s, 2, at + 2, depth - 1, input, first, second)
 }
 
-// The body resumes twice, without the signal and with it.
+// The body resumes without the signal, and with it where that run asked for the signal; else the second run would repeat the first.
 fn signal_rule(
     s: &[u8],
     at: usize,
@@ -167,10 +167,14 @@ fn signal_rule(
 {
     let x = s[1];
     let without = signals::without(input, x);
-    let p = part(s, 2, at + 2, depth - 1, without, active, second);
     let with = signals::with(input, x);
-    let q = part(s, 2, at + 2, depth - 1, with, active, second);
-    declarations::in_signal(at as u16, x, p, q)
+    let p = part(s, 2, at + 2, depth - 1, without, active, second);
+    if signals::member(p.asked, x) {
+        let q = part(s, 2, at + 2, depth - 1, with, active, second);
+        declarations::in_signal(at as u16, x, p, q)
+    } else {
+        declarations::in_signal_once(x, p)
+    }
 }
 
 // The signal is tested first. Where it is present nothing inside reacts, and the active labels inside are kept.
@@ -185,10 +189,15 @@ fn suspend_part(
     requires { ⌜ Ready (now second) depth at (now s) × (getD (now s) 0 0 ≡ 11) ⌝ }
     ensures { λ r. ⌜ Resumed (now (second .entry)) depth at (now (s .entry)) (labelSet active) input r ⌝ }
 {
-    if signals::member(input, s[1]) {
-        reaction::waiting(active::of_part(s, 2, at + 2, depth - 1, active, second))
+    let x = s[1];
+    let tested = signals::single(x);
+    if signals::member(input, x) {
+        reaction::waiting(
+            active::of_part(s, 2, at + 2, depth - 1, active, second),
+            tested,
+        )
     } else {
-        reaction::around(part(s, 2, at + 2, depth - 1, input, active, second))
+        reaction::around(part(s, 2, at + 2, depth - 1, input, active, second), tested)
     }
 }
 

@@ -1,10 +1,11 @@
-use mathlib.Core.Path.{sym, _∙_}
+use mathlib.Core.Path.{refl, sym, _∙_}
 use native.Mathlib.Omega.{arith}
 use borrow.Author.Needs.{needs}
 use borrow.Author.Tests.{ltb-true}
-use Rattle.esterel.specs.Statement.{local, seq, par, loop, present, signal, try, suspend}
+use Rattle.esterel.specs.Statement.{local, nothing, seq, par, loop, present, signal, try, suspend}
 use Rattle.sequence.specs.Commands.{Command}
 use Rattle.layout.proofs.Laid.{ready, whole, whole-lies, taken, begins}
+use Rattle.react.proofs.Steps.{nothing-step}
 use Rattle.resume.proofs.Steps.{
   here,
   seq-first,
@@ -15,11 +16,11 @@ use Rattle.resume.proofs.Steps.{
   loop-step,
   try-step,
   signal-step,
+  signal-once-step,
   suspend-stopped,
   suspend-resumed,
   side-ended,
   side-active,
-  idle-is,
   leaf-step,
 }
 use Prim.Native.Nat.{ℕ, _+_, _*_, _-_, _<_}
@@ -59,6 +60,7 @@ use Rattle.react.proofs.react.after.Reads as after-reads
 use Rattle.reaction.proofs.ending.Reads as ending-reads
 use Rattle.rules.proofs.in_parallel.Reads as in-parallel-reads
 use Rattle.declarations.proofs.in_signal.Reads as in-signal-reads
+use Rattle.declarations.proofs.in_signal_once.Reads as in-signal-once-reads
 use Rattle.rules.proofs.in_try.Reads as in-try-reads
 use Rattle.reaction.proofs.around.Reads as around-reads
 use Rattle.reaction.proofs.waiting.Reads as waiting-reads
@@ -67,6 +69,7 @@ use Rattle.labels.proofs.below.Reads as below-reads
 use Rattle.labels.proofs.from.Reads as from-reads
 use Rattle.labels.proofs.is_empty.Reads as is-empty-reads
 use Rattle.signals.proofs.member.Reads as member-reads
+use Rattle.signals.proofs.single.Reads as single-reads
 use Rattle.signals.proofs.with.Reads as with-reads
 use Rattle.signals.proofs.without.Reads as without-reads
 use Rattle.resume.proofs.resume.+loop_part+par_parts+part+present_parts+resume+seq_parts+side+signal_rule+suspend_part+try_part.{
@@ -201,10 +204,10 @@ abbrev side-claims : ℕ → side-lts.Claims
 side-claims t = (is-empty-reads.Asked, is-empty-reads.Learnt, ending-reads.Asked, ending-reads.Learnt, part-below t, part.Post)
 
 abbrev signal-rule-claims : ℕ → signal-rule-lts.Claims
-signal-rule-claims t = (without-reads.Asked, without-reads.Learnt, part-below t, part.Post, with-reads.Asked, with-reads.Learnt, in-signal-reads.Asked, in-signal-reads.Learnt)
+signal-rule-claims t = (without-reads.Asked, without-reads.Learnt, with-reads.Asked, with-reads.Learnt, part-below t, part.Post, member-reads.Asked, member-reads.Learnt, in-signal-reads.Asked, in-signal-reads.Learnt, in-signal-once-reads.Asked, in-signal-once-reads.Learnt)
 
 abbrev suspend-part-claims : ℕ → suspend-part-lts.Claims
-suspend-part-claims t = (member-reads.Asked, member-reads.Learnt, of-part-reads.Asked, of-part-reads.Learnt, waiting-reads.Asked, waiting-reads.Learnt, part-below t, part.Post, around-reads.Asked, around-reads.Learnt)
+suspend-part-claims t = (single-reads.Asked, single-reads.Learnt, member-reads.Asked, member-reads.Learnt, of-part-reads.Asked, of-part-reads.Learnt, waiting-reads.Asked, waiting-reads.Learnt, part-below t, part.Post, around-reads.Asked, around-reads.Learnt)
 
 abbrev try-part-claims : ℕ → try-part-lts.Claims
 try-part-claims t = (part-below t, part.Post, in-try-reads.Asked, in-try-reads.Learnt)
@@ -324,7 +327,7 @@ resume-returns-7 : (t : ℕ) → resume-lts.Need-returns-7 (resume-claims t) (re
 resume-returns-7 t c base p l = c .suspend-part .ensures base p l
 
 resume-returns-8 : (t : ℕ) → resume-lts.Need-returns-8 (resume-claims t) (resume-at t) resume.Post
-resume-returns-8 t c base p l = leaf-step _ _ base _ _ p _ _ l (c .before .match .rest) (idle-is (c .ending .ensures))
+resume-returns-8 t c base p l = leaf-step _ _ base _ _ p _ _ l (c .before .match .rest) (nothing-step nothing _ _ refl (c .ending .ensures))
 
 seq-parts-element-copy-out-entry : (t : ℕ) → seq-parts-lts.Need-element-copy-out-entry (seq-parts-claims t) (seq-parts-at t) seq-parts.Post
 seq-parts-element-copy-out-entry t c = omega (arith, c .before .pre .1 .0 .long, c .before .pre .1 .0 .fits, c .before .pre .1 .0 .bytes)
@@ -357,7 +360,7 @@ seq-parts-returns-2 t c base p l =
     (seq-first base _ _ (y .0) (y .1) _ _ (y .2 .1 .before) (c .before .before .before .before .below .ensures) (sym (c .before .before .before .is-empty .ensures) ∙ c .before .before .if1 .left) (c .before .part2 .ensures base (y .0) (y .2 .1 .first)) (λ i h. c .after .ensures _ (y .1) i (y .2 .1 .second) h))
 
 side-returns : (t : ℕ) → side-lts.Need-returns (side-claims t) (side-at t) side.Post
-side-returns t c base p l = side-ended base _ _ p (sym (c .before .before .is-empty .ensures) ∙ c .before .if1 .taken) (idle-is (c .ending .ensures))
+side-returns t c base p l = side-ended base _ _ p (sym (c .before .before .is-empty .ensures) ∙ c .before .if1 .taken) (nothing-step nothing _ _ refl (c .ending .ensures))
 
 side-part-requires : (t : ℕ) → side-lts.Need-part-requires (side-claims t) (side-at t) side.Post
 side-part-requires t c κs = (search needs, (c .before .before .before .pre .1 .0, c .before .before .before .pre .1 .1))
@@ -369,41 +372,71 @@ signal-rule-shared-slice-read-x : (t : ℕ) → signal-rule-lts.Need-shared-slic
 signal-rule-shared-slice-read-x t c = begins (c .before .before .pre .1 .0) Command.signal (c .before .before .pre .1 .1) .there
 
 signal-rule-part-requires : (t : ℕ) → signal-rule-lts.Need-part-requires (signal-rule-claims t) (signal-rule-at t) signal-rule.Post
-signal-rule-part-requires t c κs = let y = begins (c .before .before .before .pre .1 .0) Command.signal (c .before .before .before .pre .1 .1) in (search needs, (y .there, ready _ (y .parts .0) (c .before .before .before .pre .1 .0 .long) (y .parts .1 .1)))
+signal-rule-part-requires t c κs =
+    let f = c .before .before .before .before .pre .1 in
+    let y = begins (f .0) Command.signal (f .1) in
+    (search needs, (y .there, ready _ (y .parts .0) (f .0 .long) (y .parts .1 .1)))
 
 signal-rule-part-requires-2 : (t : ℕ) → signal-rule-lts.Need-part-requires-2 (signal-rule-claims t) (signal-rule-at t) signal-rule.Post
-signal-rule-part-requires-2 t c κs = let y = begins (c .before .before .before .before .before .pre .1 .0) Command.signal (c .before .before .before .before .before .pre .1 .1) in (search needs, (y .there, ready _ (y .parts .0) (c .before .before .before .before .before .pre .1 .0 .long) (y .parts .1 .1)))
+signal-rule-part-requires-2 t c κs =
+    let f = c .before .before .before .before .before .before .before .pre .1 in
+    let y = begins (f .0) Command.signal (f .1) in
+    (search needs, (y .there, ready _ (y .parts .0) (f .0 .long) (y .parts .1 .1)))
 
 signal-rule-returns : (t : ℕ) → signal-rule-lts.Need-returns (signal-rule-claims t) (signal-rule-at t) signal-rule.Post
 signal-rule-returns t c base p l =
-    let y = taken (c .before .before .before .before .before .before .before .pre .1 .0) base p l Command.signal (c .before .before .before .before .before .before .before .pre .1 .1) in
+    let f = c .before .before .before .before .before .before .before .before .before .pre .1 in
+    let d = c .before .before .before .before in
+    let y = taken (f .0) base p l Command.signal (f .1) in
     let q = y .parts .0 in
     here base _ _ (signal local _ _ q) p (y .parts .1 .0)
-    (signal-step base _ _ q _ _ (ltb-true _ _ (y .ranged)) (c .before .before .before .before .without .ensures) (c .before .before .before .part .ensures base q (y .parts .1 .1)) (c .before .before .with .ensures)
-    (c .before .part2 .ensures base q (y .parts .1 .1)) (c .in-signal .ensures))
+    (signal-step base _ _ q _ _ (ltb-true _ _ (y .ranged)) (d .before .before .without .ensures) (d .part .ensures base q (y .parts .1 .1))
+    (d .before .with .ensures) (c .before .part2 .ensures base q (y .parts .1 .1)) (c .in-signal .ensures))
 
-suspend-part-shared-slice-read-member : (t : ℕ) → suspend-part-lts.Need-shared-slice-read-member (suspend-part-claims t) (suspend-part-at t) suspend-part.Post
-suspend-part-shared-slice-read-member t c = begins (c .before .before .pre .1 .0) Command.suspend (c .before .before .pre .1 .1) .there
+signal-rule-returns-2 : (t : ℕ) → signal-rule-lts.Need-returns-2 (signal-rule-claims t) (signal-rule-at t) signal-rule.Post
+signal-rule-returns-2 t c base p l =
+    let f = c .before .before .before .before .before .before .before .before .pre .1 in
+    let d = c .before .before .before in
+    let y = taken (f .0) base p l Command.signal (f .1) in
+    let q = y .parts .0 in
+    here base _ _ (signal local _ _ q) p (y .parts .1 .0)
+    (signal-once-step base _ _ q _ _ (ltb-true _ _ (y .ranged)) (d .before .before .without .ensures) (d .part .ensures base q (y .parts .1 .1))
+    (sym (c .before .before .member .ensures) ∙ c .before .if1 .left) (c .in-signal-once .ensures))
+
+suspend-part-shared-slice-read-x : (t : ℕ) → suspend-part-lts.Need-shared-slice-read-x (suspend-part-claims t) (suspend-part-at t) suspend-part.Post
+suspend-part-shared-slice-read-x t c = begins (c .before .before .pre .1 .0) Command.suspend (c .before .before .pre .1 .1) .there
 
 suspend-part-of-part-requires : (t : ℕ) → suspend-part-lts.Need-of-part-requires (suspend-part-claims t) (suspend-part-at t) suspend-part.Post
-suspend-part-of-part-requires t c κs = let y = begins (c .before .before .before .before .pre .1 .0) Command.suspend (c .before .before .before .before .pre .1 .1) in (y .there, ready _ (y .parts .0) (c .before .before .before .before .pre .1 .0 .long) (y .parts .1 .1))
+suspend-part-of-part-requires t c κs =
+    let f = c .before .before .before .before .before .pre .1 in
+    let y = begins (f .0) Command.suspend (f .1) in
+    (y .there, ready _ (y .parts .0) (f .0 .long) (y .parts .1 .1))
 
 suspend-part-part-requires : (t : ℕ) → suspend-part-lts.Need-part-requires (suspend-part-claims t) (suspend-part-at t) suspend-part.Post
-suspend-part-part-requires t c κs = let y = begins (c .before .before .before .before .pre .1 .0) Command.suspend (c .before .before .before .before .pre .1 .1) in (search needs, (y .there, ready _ (y .parts .0) (c .before .before .before .before .pre .1 .0 .long) (y .parts .1 .1)))
+suspend-part-part-requires t c κs =
+    let f = c .before .before .before .before .before .pre .1 in
+    let y = begins (f .0) Command.suspend (f .1) in
+    (search needs, (y .there, ready _ (y .parts .0) (f .0 .long) (y .parts .1 .1)))
 
 suspend-part-returns : (t : ℕ) → suspend-part-lts.Need-returns (suspend-part-claims t) (suspend-part-at t) suspend-part.Post
 suspend-part-returns t c base p l =
-    let y = taken (c .before .before .before .before .before .before .pre .1 .0) base p l Command.suspend (c .before .before .before .before .before .before .pre .1 .1) .parts in
-    here base _ _ (suspend _ (y .0)) p (y .1 .0)
-    (suspend-stopped base _ _ _ (y .0) (sym (c .before .before .before .member .ensures) ∙ c .before .before .if1 .taken) (c .before .of-part .ensures base (y .0) (y .1 .1)) (c .waiting .ensures))
+    let f = c .before .before .before .before .before .before .before .pre .1 in
+    let d = c .before .before .before in
+    let y = taken (f .0) base p l Command.suspend (f .1) in
+    let q = y .parts .0 in
+    here base _ _ (suspend _ q) p (y .parts .1 .0)
+    (suspend-stopped base _ _ _ q (ltb-true _ _ (y .ranged)) (d .before .single .ensures) (sym (d .member .ensures) ∙ c .before .before .if1 .taken)
+    (c .before .of-part .ensures base q (y .parts .1 .1)) (c .waiting .ensures))
 
 suspend-part-returns-2 : (t : ℕ) → suspend-part-lts.Need-returns-2 (suspend-part-claims t) (suspend-part-at t) suspend-part.Post
 suspend-part-returns-2 t c base p l =
-    let f = c .before .before .before .before .before .before .pre .1 in
-    let y = taken (f .0) base p l Command.suspend (f .1) .parts in
-    here base _ _ (suspend _ (y .0)) p (y .1 .0)
-    (suspend-resumed base _ _ _ (y .0) (sym (c .before .before .before .member .ensures) ∙ c .before .before .if1 .left)
-    (c .before .part .ensures base (y .0) (y .1 .1)) (c .around .ensures))
+    let f = c .before .before .before .before .before .before .before .pre .1 in
+    let d = c .before .before .before in
+    let y = taken (f .0) base p l Command.suspend (f .1) in
+    let q = y .parts .0 in
+    here base _ _ (suspend _ q) p (y .parts .1 .0)
+    (suspend-resumed base _ _ _ q (ltb-true _ _ (y .ranged)) (d .before .single .ensures) (sym (d .member .ensures) ∙ c .before .before .if1 .left)
+    (c .before .part .ensures base q (y .parts .1 .1)) (c .around .ensures))
 
 try-part-part-requires : (t : ℕ) → try-part-lts.Need-part-requires (try-part-claims t) (try-part-at t) try-part.Post
 try-part-part-requires t c κs = let y = begins (c .before .pre .1 .0) Command.try (c .before .pre .1 .1) in (search needs, (y .there, ready _ (y .parts .0) (c .before .pre .1 .0 .long) (y .parts .1 .1)))
@@ -507,16 +540,17 @@ pub +loop-part+par-parts+part+present-parts+resume+seq-parts+side+signal-rule+su
     (λ t. signal-rule-lts.spec (signal-rule-claims t) (signal-rule-at t)
     signal-rule.Post
     (signal-rule-shared-slice-read-x t)
-    (λ c κs. search needs) (λ c. search needs) (λ c. search needs)
+    (λ c κs. search needs) (λ c κs. search needs) (λ c. search needs) (λ c. search needs)
     (signal-rule-part-requires t)
     (λ c κs. search needs) (λ c. search needs) (λ c. search needs)
     (signal-rule-part-requires-2 t)
-    (λ c. search needs) (λ c κs. search needs)
-    (signal-rule-returns t))
+    (λ c. search needs) (λ c κs. search needs) (λ c κs. search needs)
+    (signal-rule-returns t)
+    (signal-rule-returns-2 t))
     (λ t. suspend-part-lts.spec (suspend-part-claims t) (suspend-part-at t)
     suspend-part.Post
-    (suspend-part-shared-slice-read-member t)
-    (λ c κs. search needs) (λ c. search needs) (λ c. search needs)
+    (suspend-part-shared-slice-read-x t)
+    (λ c κs. search needs) (λ c κs. search needs) (λ c. search needs) (λ c. search needs)
     (suspend-part-of-part-requires t)
     (λ c κs. search needs) (λ c. search needs) (λ c. search needs)
     (suspend-part-part-requires t)
