@@ -1,4 +1,4 @@
--- The instant under the read-back declarations, one declaration at a time.
+-- The tree under the read-back declarations, one declaration at a time.
 use Prim.Native.Nat.{ℕ, _^_, _<_}
 use native.Mathlib.Omega.{arith}
 use native.Mathlib.Decide.{decLt}
@@ -9,27 +9,26 @@ use lib.Dec.{eqb}
 use borrow.Author.Tests.{eqb-true, eqb-false, lt-ltb}
 use Rattle.limits.specs.Limits.{signalCount, readBackPlace}
 use Rattle.sets.specs.Sets.{insertBelow, Lowest}
-use Rattle.esterel.specs.Sets.{member, none, empty, insert, remove}
-use Rattle.esterel.specs.Statement.{reported}
-use Rattle.esterel.specs.Resume.{Instant, signalInstant}
-use Rattle.esterel.specs.ReadBack.{membersFrom, declaredInstant}
+use Rattle.esterel.specs.Sets.{member, none, empty, remove}
+use Rattle.esterel.specs.Statement.{Statement, reported, signal}
+use Rattle.esterel.specs.Resume.{startTree, signalTree, signalOnce}
+use Rattle.esterel.specs.ReadBack.{membersFrom, declared}
 use Rattle.theory.proofs.Booleans.{clash}
 use Rattle.theory.proofs.Sets.{member-high}
 use Rattle.theory.proofs.ReadBack.{members-none, members-lowest}
-use Rattle.sequence.specs.Program.{readBackSignals}
+use Rattle.sequence.specs.Program.{readBackSignals, program}
 use Rattle.reaction.specs.declared.Reaction.{Reaction}
-use Rattle.reaction.specs.Reactions.{reactionOf, FromTwo}
+use Rattle.reaction.specs.Reactions.{reactionOf, FromOne, FromTwo}
+use Rattle.react.proofs.Steps.{here, signal-step, signal-once-step}
 
--- the instant of f under the declarations of a read-back set
-abbrev pub under : (readBack : ℕ) → (ℕ → Instant) → ℕ → Instant
-under readBack f e = declaredInstant readBackPlace (readBackSignals readBack) f e
+none-declared : (readBack : ℕ) (t : Statement) → empty readBack ≡ true → program readBack t ≡ t
+unfolding declared
+none-declared readBack t z =
+    ap (λ (ss : List ℕ). declared readBackPlace ss t) (ap (membersFrom signalCount 0) (eqb-true readBack none z) ∙ members-none signalCount 0)
 
-pub none-left : (readBack : ℕ) (f : ℕ → Instant) (e : ℕ) {r : Reaction} → empty readBack ≡ true → r ≡ reactionOf (f e)
-    → r ≡ reactionOf (under readBack f e)
-unfolding declaredInstant
-none-left readBack f e z h =
-    h ∙ ap (λ (ss : List ℕ). reactionOf (declaredInstant readBackPlace ss f e))
-    (sym (ap (membersFrom signalCount 0) (eqb-true readBack none z) ∙ members-none signalCount 0))
+pub none-left : (readBack : ℕ) (t : Statement) (e : ℕ) {r : Reaction} → empty readBack ≡ true → r ≡ reactionOf (startTree t e)
+    → r ≡ reactionOf (startTree (program readBack t) e)
+none-left readBack t e z = here t (program readBack t) e (none-declared readBack t z)
 
 module _ (readBack x : ℕ) (fits : readBack < 2 ^ signalCount) (some : empty readBack ≡ false) (low : Lowest signalCount readBack x) where
   pub found : member x readBack ≡ true
@@ -45,12 +44,22 @@ module _ (readBack x : ℕ) (fits : readBack < 2 ^ signalCount) (some : empty re
   first : readBackSignals readBack ≡ x ∷ readBackSignals (remove x readBack)
   first = members-lowest signalCount 0 readBack x (omega arith) (omega (arith, small)) found (low .least)
 
-  pub one-more : (f : ℕ → Instant) (e : ℕ) {o e− e+ : ℕ} {p q r : Reaction}
-      → o ≡ remove x readBack → e− ≡ remove x e → e+ ≡ insertBelow signalCount x e
-      → p ≡ reactionOf (under o f e−) → q ≡ reactionOf (under o f e+) → FromTwo (signalInstant reported readBackPlace x) p q r
-      → r ≡ reactionOf (under readBack f e)
-  unfolding declaredInstant
-  one-more f e {o} {e−} {e+} ho h− h+ hp hq k =
-      let h : e+ ≡ insert x e = h+ ∙ rw (lt-ltb x signalCount small) in
-      k (under (remove x readBack) f (remove x e)) (under (remove x readBack) f (insert x e)) (rw (ho, h−) at hp) (rw (ho, h) at hq)
-      ∙ ap (λ (ss : List ℕ). reactionOf (declaredInstant readBackPlace ss f e)) (sym first)
+  declared-first : (t : Statement) → program readBack t ≡ signal reported readBackPlace x (program (remove x readBack) t)
+  unfolding declared
+  declared-first t = ap (λ (ss : List ℕ). declared readBackPlace ss t) first
+
+  module _ (t : Statement) (e : ℕ) {o e− : ℕ} {p r : Reaction} (ho : o ≡ remove x readBack) (less : e− ≡ remove x e)
+      (p-is : p ≡ reactionOf (startTree (program o t) e−)) where
+    pub one-more : {q : Reaction} {e+ : ℕ} → e+ ≡ insertBelow signalCount x e → q ≡ reactionOf (startTree (program o t) e+)
+        → FromTwo (signalTree reported readBackPlace x) p q r → r ≡ reactionOf (startTree (program readBack t) e)
+    one-more more q-is k =
+        let u = program (remove x readBack) t in
+        here (signal reported readBackPlace x u) (program readBack t) e (declared-first t)
+        (signal-step e reported readBackPlace x u small less (rw ho at p-is) more (rw ho at q-is) k)
+
+    pub one-more-once : member x (p .asked) ≡ false → FromOne (signalOnce reported readBackPlace x) p r
+        → r ≡ reactionOf (startTree (program readBack t) e)
+    one-more-once n k =
+        let u = program (remove x readBack) t in
+        here (signal reported readBackPlace x u) (program readBack t) e (declared-first t)
+        (signal-once-step e reported readBackPlace x u small less (rw ho at p-is) n k)

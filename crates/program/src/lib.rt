@@ -32,7 +32,8 @@ fn inside(s: &[u8], position: Position, input: u32, second: &Seconds) -> Reactio
     }
 }
 
-// The sequence under a declaration of each read-back signal.
+// The sequence under a declaration of each read-back signal, which is a signal's: it reacts with the signal where the run without it
+// asked.
 pub fn react(s: &[u8], position: Position, input: u32, read_back: u32, second: &Seconds) -> Reaction
     requires { ⌜ Ready (now second) maxDepth 0 (now s) ⌝ }
     ensures { λ r. ⌜ Reacted (now (second .entry)) (now (s .entry)) position input «read_back» r ⌝ }
@@ -43,8 +44,12 @@ pub fn react(s: &[u8], position: Position, input: u32, read_back: u32, second: &
     let x = signals::lowest(read_back);
     let others = signals::without(read_back, x);
     let without = signals::without(input, x);
-    let p = react(s, position, without, others, second);
     let with = signals::with(input, x);
-    let q = react(s, position, with, others, second);
-    declarations::in_read_back(x, p, q)
+    let p = react(s, position, without, others, second);
+    if signals::member(p.asked, x) {
+        let q = react(s, position, with, others, second);
+        declarations::in_read_back(x, p, q)
+    } else {
+        declarations::in_read_back_once(p)
+    }
 }

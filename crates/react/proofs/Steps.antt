@@ -5,7 +5,7 @@ use mathlib.Core.Bool.{Bool, true, false, cond}
 use borrow.Author.Tests.{lt-ltb}
 use Rattle.sets.specs.Sets.{signalCount, labelCount, onlyBelow, insertBelow}
 use Rattle.esterel.specs.Sets.{member, none, only, insert, remove}
-use Rattle.esterel.specs.Statement.{local, Statement, nothing, pause, emit, exit, seq, par, loop, present, signal, try, setpause, suspend}
+use Rattle.esterel.specs.Statement.{Scope, Statement, nothing, pause, emit, exit, seq, par, loop, present, signal, try, setpause, suspend}
 use Rattle.esterel.specs.Reaction.{ended, waiting, leaving, gives, reactBy}
 use Rattle.esterel.specs.Errors.{errorsBy}
 use Rattle.esterel.specs.Reactions.{reactionsBy}
@@ -68,20 +68,19 @@ module _ (e : ℕ) {p r : Reaction} where
   suspend-step s t h k = k (startTree t e) h ∙ suspend-reaction s (startTree t e) ∙ ap reactionOf (sym (start-tree-suspend s t e))
 
   -- ---- a signal x at place a, whose run without it is p
-  module _ (a x : ℕ) (t : Statement) (small : x < signalCount) {e− : ℕ} (less : e− ≡ remove x e) (p-is : p ≡ reactionOf (startTree t e−)) where
+  module _ (sc : Scope) (a x : ℕ) (t : Statement) (small : x < signalCount) {e− : ℕ} (less : e− ≡ remove x e) (p-is : p ≡ reactionOf (startTree t e−)) where
     pub signal-step : {q : Reaction} {e+ : ℕ} → e+ ≡ insertBelow signalCount x e → q ≡ reactionOf (startTree t e+)
-        → FromTwo (signalTree local a x) p q r → r ≡ reactionOf (startTree (signal local a x t) e)
+        → FromTwo (signalTree sc a x) p q r → r ≡ reactionOf (startTree (signal sc a x t) e)
     signal-step {q} {e+} more m k =
         let more′ : e+ ≡ insert x e = more ∙ rw (lt-ltb x signalCount small) in
         k (startTree t (remove x e)) (startTree t (insert x e)) (rw less at p-is) (rw more′ at m)
-        ∙ ap reactionOf (sym (start-tree-signal local a x t e))
+        ∙ ap reactionOf (sym (start-tree-signal sc a x t e))
 
     -- it was not asked for
-    pub signal-once-step : member x (p .asked) ≡ false → ((b : ℕ) → FromOne (signalOnce local b x) p r)
-        → r ≡ reactionOf (startTree (signal local a x t) e)
+    pub signal-once-step : member x (p .asked) ≡ false → FromOne (signalOnce sc a x) p r → r ≡ reactionOf (startTree (signal sc a x t) e)
     signal-once-step n k =
         let h : p ≡ reactionOf (startTree t (remove x e)) = rw less at p-is in
-        k a (startTree t (remove x e)) h ∙ ap reactionOf (sym (one-run-signal x t e (rw h at n) local a))
+        k (startTree t (remove x e)) h ∙ ap reactionOf (sym (one-run-signal x t e (rw h at n) sc a))
 
   -- ---- a test of x, which notes it
   module _ (x : ℕ) (t u : Statement) (small : x < signalCount) {b : ℕ} (noted : b ≡ onlyBelow signalCount x) where

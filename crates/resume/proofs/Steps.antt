@@ -93,12 +93,12 @@ module _ (base m e : ℕ) {r : Reaction} where
       pub signal-step : {v : Reaction} {e+ : ℕ} → e+ ≡ insertBelow signalCount x e → v ≡ reactionOf (resumeTree base p m e+)
           → FromTwo (signalTree local a x) u v r → r ≡ reactionOf (resumeTree base (signal local a x p) m e)
       unfolding expandBy
-      signal-step = fresh.signal-step e a x (expandBy base p m) small less u-is
+      signal-step = fresh.signal-step e local a x (expandBy base p m) small less u-is
 
-      pub signal-once-step : member x (u .asked) ≡ false → ((b : ℕ) → FromOne (signalOnce local b x) u r)
+      pub signal-once-step : member x (u .asked) ≡ false → FromOne (signalOnce local a x) u r
           → r ≡ reactionOf (resumeTree base (signal local a x p) m e)
       unfolding expandBy
-      signal-once-step = fresh.signal-once-step e a x (expandBy base p m) small less u-is
+      signal-once-step = fresh.signal-once-step e local a x (expandBy base p m) small less u-is
 
 -- ---- a suspend, which notes its signal
 only-one : (s : ℕ) → only s ≡ insert s sets.none

@@ -5,15 +5,17 @@ use borrow.Author.Needs.{needs}
 use borrow.Fn.Kinds.{In}
 use borrow.Fn.PlainCycle.{Measures, is, falls, and}
 use Rattle.sets.proofs.Lowest.{remove-less}
-use Rattle.program.specs.Program.{instantAt}
-use Rattle.program.proofs.Steps.{none-left, found, one-more}
+use Rattle.program.specs.Program.{termAt}
+use Rattle.program.proofs.Steps.{none-left, found, one-more, one-more-once}
 use Rattle.program.proofs.react.Reads as react
 use Rattle.program.proofs.react.Kinds as react-kinds
 use Rattle.program.proofs.+react.Lts-react as react-lts
 use Rattle.program.proofs.inside.Reads as inside-reads
 use Rattle.declarations.proofs.in_read_back.Reads as in-read-back-reads
+use Rattle.declarations.proofs.in_read_back_once.Reads as in-read-back-once-reads
 use Rattle.signals.proofs.is_empty.Reads as is-empty-reads
 use Rattle.signals.proofs.lowest.Reads as lowest-reads
+use Rattle.signals.proofs.member.Reads as member-reads
 use Rattle.signals.proofs.with.Reads as with-reads
 use Rattle.signals.proofs.without.Reads as without-reads
 use Rattle.program.proofs.+react.{statement}
@@ -39,12 +41,16 @@ claims t = (
   lowest-reads.Learnt,
   without-reads.Asked,
   without-reads.Learnt,
-  react-below t,
-  react.Post,
   with-reads.Asked,
   with-reads.Learnt,
+  react-below t,
+  react.Post,
+  member-reads.Asked,
+  member-reads.Learnt,
   in-read-back-reads.Asked,
   in-read-back-reads.Learnt,
+  in-read-back-once-reads.Asked,
+  in-read-back-once-reads.Learnt,
 )
 
 react-is-empty-requires : (t : ℕ) → react-lts.Need-is-empty-requires (claims t) (react-at t) react.Post
@@ -56,7 +62,7 @@ react-inside-requires t c κs = search needs
 react-returns : (t : ℕ) → react-lts.Need-returns (claims t) (react-at t) react.Post
 react-returns t c p l =
     let a = c .before .before .before .before .args in
-    none-left (a .read-back) (instantAt (a .position) p) (a .input) (sym (c .before .before .is-empty .ensures) ∙ c .before .if1 .taken) (c .inside .ensures p l)
+    none-left (a .read-back) (termAt (a .position) p) (a .input) (sym (c .before .before .is-empty .ensures) ∙ c .before .if1 .taken) (c .inside .ensures p l)
 
 react-lowest-requires : (t : ℕ) → react-lts.Need-lowest-requires (claims t) (react-at t) react.Post
 react-lowest-requires t c κs = search needs
@@ -67,37 +73,51 @@ react-without-requires t c κs = search needs
 react-without-requires-2 : (t : ℕ) → react-lts.Need-without-requires-2 (claims t) (react-at t) react.Post
 react-without-requires-2 t c κs = search needs
 
-react-react-requires : (t : ℕ) → react-lts.Need-react-requires (claims t) (react-at t) react.Post
-react-react-requires t c κs =
-    let i = c .before .before .before .before .before .before in
-    let less = remove-less _ (i .args .read-back)
-    (found (i .args .read-back) _ (search needs) (sym (c .before .before .before .before .is-empty .ensures) ∙ c .before .before .before .if1 .left)
-    (c .before .before .lowest .ensures)) in
-    (omega (arith, less, i .pre .0, c .before .without .ensures), i .pre .1)
-
 react-with-requires : (t : ℕ) → react-lts.Need-with-requires (claims t) (react-at t) react.Post
 react-with-requires t c κs = search needs
 
+react-react-requires : (t : ℕ) → react-lts.Need-react-requires (claims t) (react-at t) react.Post
+react-react-requires t c κs =
+    let w = c .before .before .before in
+    let i = w .before .before .before .before in
+    let less = remove-less _ (i .args .read-back)
+    (found (i .args .read-back) _ (search needs) (sym (w .before .before .is-empty .ensures) ∙ w .before .if1 .left) (w .lowest .ensures)) in
+    (omega (arith, less, i .pre .0, c .before .before .without .ensures), i .pre .1)
+
+react-member-requires : (t : ℕ) → react-lts.Need-member-requires (claims t) (react-at t) react.Post
+react-member-requires t c κs = search needs
+
 react-react-requires-2 : (t : ℕ) → react-lts.Need-react-requires-2 (claims t) (react-at t) react.Post
 react-react-requires-2 t c κs =
-    let i = c .before .before .before .before .before .before .before .before in
+    let w = c .before .before .before .before .before .before in
+    let i = w .before .before .before .before in
     let less = remove-less _ (i .args .read-back)
-    (found (i .args .read-back) _ (search needs)
-    (sym (c .before .before .before .before .before .before .is-empty .ensures) ∙ c .before .before .before .before .before .if1 .left)
-    (c .before .before .before .before .lowest .ensures)) in
-    (omega (arith, less, i .pre .0, c .before .before .before .without .ensures), i .pre .1)
+    (found (i .args .read-back) _ (search needs) (sym (w .before .before .is-empty .ensures) ∙ w .before .if1 .left) (w .lowest .ensures)) in
+    (omega (arith, less, i .pre .0, c .before .before .before .before .before .without .ensures), i .pre .1)
 
 react-in-read-back-requires : (t : ℕ) → react-lts.Need-in-read-back-requires (claims t) (react-at t) react.Post
 react-in-read-back-requires t c κs = search needs
 
+react-in-read-back-once-requires : (t : ℕ) → react-lts.Need-in-read-back-once-requires (claims t) (react-at t) react.Post
+react-in-read-back-once-requires t c κs = search needs
+
 react-returns-2 : (t : ℕ) → react-lts.Need-returns-2 (claims t) (react-at t) react.Post
 react-returns-2 t c p l =
-    let w = c .before .before .before .before .before .before in
+    let d = c .before .before .before .before in
+    let w = d .before .before .before .before in
     let a = w .before .before .before .before .args in
-    one-more (a .read-back) _ (search needs) (sym (w .before .before .is-empty .ensures) ∙ w .before .if1 .left) (w .lowest .ensures) (instantAt (a .position) p) (a .input)
-    (c .before .before .before .before .before .without .ensures) (c .before .before .before .before .without2 .ensures)
-    (c .before .before .with .ensures) (c .before .before .before .react .ensures p l) (c .before .react2 .ensures p l)
-    (c .in-read-back .ensures)
+    one-more (a .read-back) _ (search needs) (sym (w .before .before .is-empty .ensures) ∙ w .before .if1 .left) (w .lowest .ensures)
+    (termAt (a .position) p) (a .input) (d .before .before .before .without .ensures) (d .before .before .without2 .ensures) (d .react .ensures p l)
+    (d .before .with .ensures) (c .before .react2 .ensures p l) (c .in-read-back .ensures)
+
+react-returns-3 : (t : ℕ) → react-lts.Need-returns-3 (claims t) (react-at t) react.Post
+react-returns-3 t c p l =
+    let d = c .before .before .before in
+    let w = d .before .before .before .before in
+    let a = w .before .before .before .before .args in
+    one-more-once (a .read-back) _ (search needs) (sym (w .before .before .is-empty .ensures) ∙ w .before .if1 .left) (w .lowest .ensures)
+    (termAt (a .position) p) (a .input) (d .before .before .before .without .ensures) (d .before .before .without2 .ensures) (d .react .ensures p l)
+    (sym (c .before .before .member .ensures) ∙ c .before .if2 .left) (c .in-read-back-once .ensures _)
 
 pub +react-spec : {M : Type 1} → statement M
 +react-spec = close μ-react λ t. react-lts.spec (claims t)
@@ -109,8 +129,11 @@ pub +react-spec : {M : Type 1} → statement M
     (react-lowest-requires t)
     (react-without-requires t)
     (react-without-requires-2 t)
-    (react-react-requires t)
     (react-with-requires t)
+    (react-react-requires t)
+    (react-member-requires t)
     (react-react-requires-2 t)
     (react-in-read-back-requires t)
+    (react-in-read-back-once-requires t)
     (react-returns-2 t)
+    (react-returns-3 t)

@@ -416,7 +416,7 @@ signal-rule-returns t c base p l =
     let y = taken (f .0) base p l Command.signal (f .1) in
     let q = y .parts .0 in
     here (signal local _ _ q) p _ (y .parts .1 .0)
-    (signal-step _ _ _ q (ltb-true _ _ (y .ranged)) (d .before .before .without .ensures) (d .part .ensures base q (y .parts .1 .1))
+    (signal-step _ local _ _ q (ltb-true _ _ (y .ranged)) (d .before .before .without .ensures) (d .part .ensures base q (y .parts .1 .1))
     (d .before .with .ensures) (c .before .part2 .ensures base q (y .parts .1 .1)) (c .in-signal .ensures))
 
 signal-rule-returns-2 : (t : ℕ) → signal-rule-lts.Need-returns-2 (signal-rule-claims t) (signal-rule-at t) signal-rule.Post
@@ -426,8 +426,8 @@ signal-rule-returns-2 t c base p l =
     let y = taken (f .0) base p l Command.signal (f .1) in
     let q = y .parts .0 in
     here (signal local _ _ q) p _ (y .parts .1 .0)
-    (signal-once-step _ _ _ q (ltb-true _ _ (y .ranged)) (d .before .before .without .ensures) (d .part .ensures base q (y .parts .1 .1))
-    (sym (c .before .before .member .ensures) ∙ c .before .if1 .left) (c .in-signal-once .ensures))
+    (signal-once-step _ local _ _ q (ltb-true _ _ (y .ranged)) (d .before .before .without .ensures) (d .part .ensures base q (y .parts .1 .1))
+    (sym (c .before .before .member .ensures) ∙ c .before .if1 .left) (c .in-signal-once .ensures _))
 
 try-part-part-requires : (t : ℕ) → try-part-lts.Need-part-requires (try-part-claims t) (try-part-at t) try-part.Post
 try-part-part-requires t c κs = let y = begins (c .before .pre .1 .0) Command.try (c .before .pre .1 .1) in (search needs, (y .there, ready _ (y .parts .0) (c .before .pre .1 .0 .long) (y .parts .1 .1)))

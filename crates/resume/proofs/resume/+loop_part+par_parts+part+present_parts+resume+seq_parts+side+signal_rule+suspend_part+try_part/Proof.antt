@@ -401,7 +401,7 @@ signal-rule-returns-2 t c base p l =
     let q = y .parts .0 in
     here base _ _ (signal local _ _ q) p (y .parts .1 .0)
     (signal-once-step base _ _ q _ _ (ltb-true _ _ (y .ranged)) (d .before .before .without .ensures) (d .part .ensures base q (y .parts .1 .1))
-    (sym (c .before .before .member .ensures) ∙ c .before .if1 .left) (c .in-signal-once .ensures))
+    (sym (c .before .before .member .ensures) ∙ c .before .if1 .left) (c .in-signal-once .ensures _))
 
 suspend-part-shared-slice-read-x : (t : ℕ) → suspend-part-lts.Need-shared-slice-read-x (suspend-part-claims t) (suspend-part-at t) suspend-part.Post
 suspend-part-shared-slice-read-x t c = begins (c .before .before .pre .1 .0) Command.suspend (c .before .before .pre .1 .1) .there
