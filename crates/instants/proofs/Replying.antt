@@ -12,14 +12,13 @@ use Rattle.esterel.specs.Errors.{Error, firstError}
 use Rattle.esterel.specs.Ranks.{mask}
 use Rattle.esterel.specs.Expansion.{expand}
 use Rattle.esterel.specs.Resume as Esterel
-use Rattle.esterel.specs.Resume.{start, resume}
+use Rattle.esterel.specs.Resume.{tree, instantOf, startTree, expandBy}
 use Rattle.esterel.specs.Machines.{State}
 use Rattle.theory.proofs.LabelTests.{valid-is}
 use Rattle.theory.proofs.Figure5.{valid-active}
-use Rattle.theory.proofs.Resume.{resumes}
+use Rattle.theory.proofs.Resume.{expand-by}
 use Rattle.esterel.specs.States.{Valid}
-use Rattle.esterel.specs.ReadBack.{declaredInstant}
-use Rattle.theory.proofs.ReadBack.{expand-declared, start-declared}
+use Rattle.theory.proofs.ReadBack.{expand-declared}
 use Rattle.sequence.specs.Program.{readBackSignals, program}
 use Rattle.labels.specs.Labels.{labelSet}
 use Rattle.labels.proofs.LabelValues.{labelSet-of}
@@ -44,13 +43,13 @@ use Rattle.instants.specs.Replies.{Decodes, Replies}
 use Rattle.demands.proofs.Sequence.{accepted}
 use Rattle.demands.proofs.Bounds.{Bounded, Exits, ranged-bounded, bounded-expand, bounded-declared, code-exits}
 
--- WRITTEN: the code's instant writes what esterel's does
-pub written-from : (j : Esterel.Instant) → writtenFrom (reactionOf j) ≡ written j
+-- WRITTEN: the code's tree writes what esterel's instant does; the signals asked for are not told
+pub written-from : (j : Esterel.Tree) → writtenFrom (reactionOf j) ≡ written (instantOf j)
 unfolding encodeState encodeAnswer none
-written-from (Esterel.instant (gives o ended l t) x n) = rw (le-low takenBytes n)
-written-from (Esterel.instant (gives o waiting l t) x n) = rw (labelSet-of, le-low takenBytes n)
-written-from (Esterel.instant (gives o (leaving m) l t) x n) = rw (le-low takenBytes n)
-written-from (Esterel.instant (gives o wrong l t) x n) = rw (le-low takenBytes n)
+written-from (tree (Esterel.instant (gives o ended l t) x n) a) = rw (le-low takenBytes n)
+written-from (tree (Esterel.instant (gives o waiting l t) x n) a) = rw (labelSet-of, le-low takenBytes n)
+written-from (tree (Esterel.instant (gives o (leaving m) l t) x n) a) = rw (le-low takenBytes n)
+written-from (tree (Esterel.instant (gives o wrong l t) x n) a) = rw (le-low takenBytes n)
 
 -- ---- instants fit the answer record
 writable-code : (k : Code) (x : Option Error) → Exits k → WritableCode (completionOf k x)
@@ -59,7 +58,7 @@ writable-code waiting x f = tt
 writable-code (leaving n) x f = omega arith
 writable-code wrong x f = tt
 
-writable : (t : Statement) (e : ℕ) → Bounded t → (i : Reaction) → i ≡ reactionOf (start t e) → Writable i
+writable : (t : Statement) (e : ℕ) → Bounded t → (i : Reaction) → i ≡ reactionOf (startTree t e) → Writable i
 writable t e r i w = subst Writable (sym w) (writable-code (code (react t e)) (firstError t e) (code-exits inheritanceFirst t e r))
 
 -- ---- what is known of a sequence that the check has passed
@@ -115,8 +114,8 @@ module _ (sequence state : List ℕ) (e readBack : ℕ) where
         sym (ap (λ (c : Checked). byCheck inheritanceFirst readBack c state e answer) s
         ∙ ap (λ (x : Decoded). byState inheritanceFirst q x state e answer) w)
 
-    reacts : (t : Statement) (i : Reaction) → Bounded t → i ≡ reactionOf (start t e)
-        → ((answer : List ℕ) → Gives (writtenFrom (reactionOf (start t e))) answer) → Replies sequence state e readBack (Reacted i)
+    reacts : (t : Statement) (i : Reaction) → Bounded t → i ≡ reactionOf (startTree t e)
+        → ((answer : List ℕ) → Gives (writtenFrom (reactionOf (startTree t e))) answer) → Replies sequence state e readBack (Reacted i)
     reacts t i r h k = record { writable = writable t e r i h; is = λ answer. ap writtenFrom h ∙ k answer }
 
     pub malformed-reply : Decodes p state stands.Malformed → Replies sequence state e readBack (Refused 11)
@@ -125,25 +124,19 @@ module _ (sequence state : List ℕ) (e readBack : ℕ) where
     pub over-reply : Decodes p state stands.Over → Replies sequence state e readBack (Refused 12)
     over-reply d = record { writable = tt; is = by-record (holds State.over) d }
 
-    pub fresh-reply : (i : Reaction) → Decodes p state stands.Fresh
-        → i ≡ reactionOf (declaredInstant readBackPlace (readBackSignals readBack) (start p) e) → Replies sequence state e readBack (Reacted i)
-    fresh-reply i d h =
-        reacts q i bounded (h ∙ ap reactionOf (start-declared readBackPlace (readBackSignals readBack) p (start p) (λ x. refl) e))
-        (λ answer. written-from (start q e) ∙ by-record (holds State.fresh) d answer)
+    pub fresh-reply : (i : Reaction) → Decodes p state stands.Fresh → i ≡ reactionOf (startTree q e) → Replies sequence state e readBack (Reacted i)
+    fresh-reply i d h = reacts q i bounded h (λ answer. written-from (startTree q e) ∙ by-record (holds State.fresh) d answer)
 
-    -- resuming by ranks, under the declarations, is the expansion of the program
-    resumed : (m L : ℕ) → Valid p L → m ≡ mask 0 p L
-        → declaredInstant readBackPlace (readBackSignals readBack) (resume 0 p m) e ≡ start (expand q L) e
-    resumed m L v h =
-        start-declared readBackPlace (readBackSignals readBack) (expand p L) (resume 0 p m)
-        (λ x. ap (λ (k : ℕ). resume 0 p k x) h ∙ resumes 0 p L x (valid-active p L v)) e
-        ∙ ap (λ (t : Statement). start t e) (sym (expand-declared readBackPlace (readBackSignals readBack) p L))
+    -- the expansion by ranks, under the declarations, is the expansion of the program
+    expanded : (m L : ℕ) → Valid p L → m ≡ mask 0 p L → program readBack (expandBy 0 p m) ≡ expand q L
+    expanded m L v h =
+        ap (program readBack) (ap (expandBy 0 p) h ∙ expand-by 0 p L (valid-active p L v))
+        ∙ sym (expand-declared readBackPlace (readBackSignals readBack) p L)
 
     pub waiting-reply : (i : Reaction) (m : Labels) → Decodes p state (stands.Waiting m)
-        → i ≡ reactionOf (declaredInstant readBackPlace (readBackSignals readBack) (resume 0 p (labelSet m)) e)
-        → Replies sequence state e readBack (Reacted i)
+        → i ≡ reactionOf (startTree (program readBack (expandBy 0 p (labelSet m))) e) → Replies sequence state e readBack (Reacted i)
     waiting-reply i m d h =
         let L = labelsIn state in
         reacts (expand q L) i (bounded-expand q L bounded)
-        (h ∙ ap reactionOf (resumed (labelSet m) L (valid-is p L .0 (d .1)) (d .2)))
-        (λ answer. written-from (start (expand q L) e) ∙ by-record (holds (State.waits L)) (d .0) answer)
+        (h ∙ ap (λ (t : Statement). reactionOf (startTree t e)) (expanded (labelSet m) L (valid-is p L .0 (d .1)) (d .2)))
+        (λ answer. written-from (startTree (expand q L) e) ∙ by-record (holds (State.waits L)) (d .0) answer)
