@@ -25,9 +25,22 @@ static inline void enclose(struct builder *b, unsigned signals, unsigned loops)
     }
 }
 
-/* A balanced statement of n commands of one byte each. */
-static inline void commands(struct builder *b, size_t n, uint8_t join)
+/*
+ * A balanced statement of n bytes. A command reacts in each, but that so many signals from 0 on are tested once: the run
+ * with a signal is left out where the run without it does not ask for it.
+ */
+static inline void commands(struct builder *b, size_t n, uint8_t join, unsigned *tests)
 {
+    if (*tests > 0 && n >= 4 && n <= 7) {
+        if (n > 4)
+            put(b, n == 5 ? 0x09 : join);
+        const uint8_t test[] = {0x07, --*tests, 0x00, 0x00};
+        for (size_t i = 0; i < sizeof test; i++)
+            put(b, test[i]);
+        if (n > 5)
+            commands(b, n - 5, join, tests);
+        return;
+    }
     if (n <= 2) {
         if (n == 2)
             put(b, 0x09);
@@ -36,8 +49,8 @@ static inline void commands(struct builder *b, size_t n, uint8_t join)
     }
     put(b, join);
     size_t first = (n - 1) / 2 | 1;
-    commands(b, first, join);
-    commands(b, n - 1 - first, join);
+    commands(b, first, join, tests);
+    commands(b, n - 1 - first, join, tests);
 }
 
 /* The set of the signals from 0 on, so many. */
@@ -46,7 +59,7 @@ static inline uint32_t first_signals(unsigned count)
     return (UINT32_C(1) << count) - 1;
 }
 
-/* So many signals and loops begun again, which leave room for a body in whose every byte a command reacts. */
+/* So many signals and loops begun again, which leave room for a body that tests the six signals. */
 static inline struct builder dearest(uint8_t join, unsigned loops, unsigned signals, size_t length)
 {
     size_t body = length - 2 * signals - 8 * loops;
@@ -54,7 +67,8 @@ static inline struct builder dearest(uint8_t join, unsigned loops, unsigned sign
     do {
         b = (struct builder){.length = 0};
         enclose(&b, signals, loops);
-        commands(&b, body--, join);
+        unsigned tests = SIGNALS;
+        commands(&b, body--, join, &tests);
     } while (b.length > length || plain_check(b.bytes, b.length, first_signals(SIGNALS - signals)) != 0);
     return b;
 }

@@ -225,7 +225,7 @@ int main(void)
     printf("a resumed tick with one active pause, ns:\n%6s %8s %8s %8s\n", "bytes", "tick", "check", "beyond");
     for (unsigned j = 0; j < sizeof lengths / sizeof *lengths; j++)
         growth_row(lengths[j]);
-    printf("the dearest instants, six signals around the loops, declared or read back:\n");
+    printf("the dearest instants, six signals around the loops, declared or read back, and each tested:\n");
     for (uint8_t join = 0x04; join <= 0x05; join++) {
         for (unsigned loops = 15; loops <= 17; loops++)
             most = fmax(most, dearest_row(join, loops, SIGNALS));

@@ -165,19 +165,19 @@ module _ (sc : Scope) (b s : ℕ) (t u : Esterel.Tree) (p q : Reaction) (p-is : 
   chosen d h =
       sym (ap reactionOf (as-fits sc b s t u ∙ ap (λ (c : Case). inCase c sc b s t u) (rw (p-is, q-is) at (fit-is d h))))
 
-  pub signal-both : v ≡ Both → (o : ℕ) → o ≡ outside sc s (q .emitted)
-      → _≡_ {A = Reaction} (record { emitted = o; labels = q .labels; completion = q .completion; taken = m; asked = a })
-      (reactionOf (signalTree sc b s t u))
-  signal-both h o e =
+  pub signal-both : v ≡ Both → {o : ℕ} {r : Reaction} → o ≡ outside sc s (q .emitted)
+      → r ≡ record { emitted = o; labels = q .labels; completion = q .completion; taken = m; asked = a }
+      → r ≡ reactionOf (signalTree sc b s t u)
+  signal-both h {o} e k =
       let law : InBoth sc b s t u p q = rw (p-is, q-is) (in-both sc b s t u) in
-      law o m a (ap isInherited (fit-is both h)) e counted noted ∙ chosen both h
+      k ∙ law o m a (ap isInherited (fit-is both h)) e counted noted ∙ chosen both h
 
-  pub signal-neither : v ≡ Neither
-      → _≡_ {A = Reaction} (record { emitted = p .emitted; labels = p .labels; completion = p .completion; taken = m; asked = a })
-      (reactionOf (signalTree sc b s t u))
-  signal-neither h =
+  pub signal-neither : v ≡ Neither → {r : Reaction}
+      → r ≡ record { emitted = p .emitted; labels = p .labels; completion = p .completion; taken = m; asked = a }
+      → r ≡ reactionOf (signalTree sc b s t u)
+  signal-neither h k =
       let law : InNeither sc b s t u p q = rw (p-is, q-is) (in-neither sc b s t u) in
-      law m a (ap isInherited (fit-is neither h)) counted noted ∙ chosen neither h
+      k ∙ law m a (ap isInherited (fit-is neither h)) counted noted ∙ chosen neither h
 
   pub signal-inherits : v ≡ Inherited → (l : Labels) (c : Completion) → Stands l none → c ≡ greaterOf (p .completion) (q .completion)
       → _≡_ {A = Reaction} (record { emitted = none; labels = l; completion = c; taken = m; asked = a }) (reactionOf (signalTree sc b s t u))
@@ -210,17 +210,15 @@ module _ (sc : Scope) (b s : ℕ) where
       → _≡_ {A = Reaction} (record { emitted = o; labels = p .labels; completion = p .completion; taken = m; asked = p .asked })
       (reactionOf (signalOnce sc b s t))
 
-  pub once-right : (t : Esterel.Tree) (p : Reaction) → p ≡ reactionOf t → OnceRight t p
-  once-right t p p-is = rw p-is (go t)
-    where
-      by-member : (c : Bool) (o₁ : ℕ) (k : Code) (l : ℕ) (t₁ : Statement) (x : Option Error) (n a : ℕ) → member s o₁ ≡ c
-          → isWrong k ≡ false → OnceRight (tree (instant (gives o₁ k l t₁) x n) a) (reactionOf (tree (instant (gives o₁ k l t₁) x n) a))
-      by-member true o₁ k l t₁ x n a i r o m h e w = rw (i, r, e, w, word-two n n, unmoved k x Option.none r)
-      by-member false o₁ k l t₁ x n a i r o m h e w = rw (i, r, e, absent-outside sc s o₁ i, w, word-two n n, unmoved k x Option.none r)
+  right-by-member : (c : Bool) (o₁ : ℕ) (k : Code) (l : ℕ) (t₁ : Statement) (x : Option Error) (n a : ℕ) → member s o₁ ≡ c
+      → isWrong k ≡ false → OnceRight (tree (instant (gives o₁ k l t₁) x n) a) (reactionOf (tree (instant (gives o₁ k l t₁) x n) a))
+  right-by-member true o₁ k l t₁ x n a i r o m h e w = rw (i, r, e, w, word-two n n, unmoved k x Option.none r)
+  right-by-member false o₁ k l t₁ x n a i r o m h e w =
+      rw (i, r, e, absent-outside sc s o₁ i, w, word-two n n, unmoved k x Option.none r)
 
-      go : (t : Esterel.Tree) → OnceRight t (reactionOf t)
-      go (tree (instant (gives o₁ k l t₁) x n) a) o m h =
-          by-member (member s o₁) o₁ k l t₁ x n a refl (rw (code-of k x) at h) o m h
+  right-run : (t : Esterel.Tree) → OnceRight t (reactionOf t)
+  right-run (tree (instant (gives o₁ k l t₁) x n) a) o m h =
+      right-by-member (member s o₁) o₁ k l t₁ x n a refl (rw (code-of k x) at h) o m h
 
   abbrev OnceWrong : Esterel.Tree → Reaction → Type 0
   OnceWrong t p =
@@ -228,11 +226,19 @@ module _ (sc : Scope) (b s : ℕ) where
       → _≡_ {A = Reaction} (record { emitted = none; labels = l; completion = p .completion; taken = m; asked = p .asked })
       (reactionOf (signalOnce sc b s t))
 
-  pub once-wrong : (t : Esterel.Tree) (p : Reaction) → p ≡ reactionOf t → OnceWrong t p
-  once-wrong t p p-is = rw p-is (go t)
-    where
-      go : (t : Esterel.Tree) → OnceWrong t (reactionOf t)
-      go (tree (instant (gives o₁ ended l₁ t₁) x n) a) l m h e w = absurd (false≢true h)
-      go (tree (instant (gives o₁ waiting l₁ t₁) x n) a) l m h e w = absurd (false≢true h)
-      go (tree (instant (gives o₁ (leaving k) l₁ t₁) x n) a) l m h e w = absurd (false≢true h)
-      go (tree (instant (gives o₁ wrong l₁ t₁) x n) a) l m h e w = made wrong x (1 + n + n) a refl e refl (w ∙ word-two n n) refl
+  wrong-run : (t : Esterel.Tree) → OnceWrong t (reactionOf t)
+  wrong-run (tree (instant (gives o₁ ended l₁ t₁) x n) a) l m h e w = absurd (false≢true h)
+  wrong-run (tree (instant (gives o₁ waiting l₁ t₁) x n) a) l m h e w = absurd (false≢true h)
+  wrong-run (tree (instant (gives o₁ (leaving k) l₁ t₁) x n) a) l m h e w = absurd (false≢true h)
+  wrong-run (tree (instant (gives o₁ wrong l₁ t₁) x n) a) l m h e w = made wrong x (1 + n + n) a refl e refl (w ∙ word-two n n) refl
+
+  module _ (t : Esterel.Tree) (p : Reaction) (p-is : p ≡ reactionOf t) {m : ℕ} (counted : Counted p p m) {r : Reaction} where
+    pub once-right : isWrong (codeOf (p .completion)) ≡ false → {o : ℕ} → o ≡ outside sc s (p .emitted)
+        → r ≡ record { emitted = o; labels = p .labels; completion = p .completion; taken = m; asked = p .asked }
+        → r ≡ reactionOf (signalOnce sc b s t)
+    once-right h {o} e k = let law : OnceRight t p = rw p-is (right-run t) in k ∙ law o m h e counted
+
+    pub once-wrong : isWrong (codeOf (p .completion)) ≡ true → {l : Labels} → labelSet l ≡ none
+        → r ≡ record { emitted = none; labels = l; completion = p .completion; taken = m; asked = p .asked }
+        → r ≡ reactionOf (signalOnce sc b s t)
+    once-wrong h {l} e k = let law : OnceWrong t p = rw p-is (wrong-run t) in k ∙ law l m h e counted

@@ -192,10 +192,8 @@ fn suspend_part(
     let x = s[1];
     let tested = signals::single(x);
     if signals::member(input, x) {
-        reaction::waiting(
-            active::of_part(s, 2, at + 2, depth - 1, active, second),
-            tested,
-        )
+        let labels = active::of_part(s, 2, at + 2, depth - 1, active, second);
+        reaction::waiting(labels, tested)
     } else {
         reaction::around(part(s, 2, at + 2, depth - 1, input, active, second), tested)
     }

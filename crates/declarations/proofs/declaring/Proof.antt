@@ -53,12 +53,13 @@ greater-of-requires c κs = search needs
 returns : tie.Need-returns
 returns c sc w t u a b =
     let d = c .before .before .before in
-    c .made .ensures ∙ signal-both sc _ _ t u _ _ a b _ (d .choose .ensures) _ _ (d .before .before .before .over-two .ensures) (d .before .without .ensures ∙ ap (remove _) (d .before .before .union .ensures)) (c .before .enum-told .given .1) _ w
+    signal-both sc _ _ t u _ _ a b _ (d .choose .ensures) _ _ (d .before .before .before .over-two .ensures) (d .before .without .ensures ∙ ap (remove _) (d .before .before .union .ensures)) (c .before .enum-told .given .1) w (c .made .ensures)
 
 returns-2 : tie.Need-returns-2
 returns-2 c sc w t u a b =
     let d = c .before .before .before in
-    c .made2 .ensures ∙ signal-neither sc _ _ t u _ _ a b _ (d .choose .ensures) _ _ (d .before .before .before .over-two .ensures) (d .before .without .ensures ∙ ap (remove _) (d .before .before .union .ensures)) (c .before .enum-told2 .given .1)
+    signal-neither sc _ _ t u _ _ a b _ (d .choose .ensures) _ _ (d .before .before .before .over-two .ensures) (d .before .without .ensures ∙ ap (remove _) (d .before .before .union .ensures)) (c .before .enum-told2 .given .1)
+    (c .made2 .ensures)
 
 returns-3 : tie.Need-returns-3
 returns-3 c sc w t u a b =

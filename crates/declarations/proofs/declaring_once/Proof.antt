@@ -24,13 +24,13 @@ returns : tie.Need-returns
 unfolding none
 returns c sc a s w t h =
     let d = c .before .before .before in
-    c .made .ensures
-    ∙ once-wrong sc a s t _ h _ _ (sym (d .is-wrong .ensures) ∙ c .before .before .if1 .taken) (search needs, c .before .empty .ensures) (d .before .over-two .ensures)
+    once-wrong sc a s t _ h (d .before .over-two .ensures) (sym (d .is-wrong .ensures) ∙ c .before .before .if1 .taken) (search needs, c .before .empty .ensures)
+    (c .made .ensures)
 
 returns-2 : tie.Need-returns-2
 returns-2 c sc a s w t h =
     let d = c .before .before in
-    c .made2 .ensures ∙ once-right sc a s t _ h _ _ (sym (d .is-wrong .ensures) ∙ c .before .if1 .left) w (d .before .over-two .ensures)
+    once-right sc a s t _ h (d .before .over-two .ensures) (sym (d .is-wrong .ensures) ∙ c .before .if1 .left) w (c .made2 .ensures)
 
 pub declaring-once-spec : {M : Type 1} → statement M
 declaring-once-spec =
