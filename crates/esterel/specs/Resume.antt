@@ -6,7 +6,7 @@ use mathlib.Core.Bool.{cond}
 use mathlib.Core.Option.{Option, some}
 use Rattle.esterel.specs.Sets.{member, none, only, join, insert, remove, empty, below, from}
 use Rattle.esterel.specs.Statement.{Scope, local, Statement, nothing, pause, emit, exit, seq, par, loop, present, signal, try, setpause, suspend, held}
-use Rattle.esterel.specs.Reaction.{Code, isWrong, Reaction, code, quiet, inSeq, inPar, inLoop, inTry, inSuspend, stopped, Case, both, neither, only−, only+, inherited, Order, inheritanceFirst, caseOf, inSignal, reactBy}
+use Rattle.esterel.specs.Reaction.{Code, isWrong, Reaction, code, inSeq, inPar, inLoop, inTry, inSuspend, stopped, Case, both, neither, only−, only+, inherited, Order, inheritanceFirst, caseOf, inSignal, reactBy}
 use Rattle.esterel.specs.Errors.{Error, instantaneous, notReactive, notDeterministic, ifEnded, errorsBy, firstErrorBy}
 use Rattle.esterel.specs.Reactions.{reactionsBy}
 use Rattle.esterel.specs.Asked.{askedBy, asked, tests}
@@ -27,9 +27,6 @@ abbrev pub ifWrong : Code → (x y : Option Error) → Option Error
 ifWrong k x y = cond (isWrong k) x y
 
 -- ---- what a command makes of the instants of its parts
-abbrev pub idle : Instant
-idle = instant quiet Option.none 1
-
 abbrev pub seqInstant : Statement → Instant → Instant → Instant
 seqInstant q (instant r x n) (instant r₂ x₂ n₂) = instant (inSeq q r r₂) (ifEnded (code r) x₂ x) (1 + n + ifEnded (code r) n₂ 0)
 
@@ -83,9 +80,6 @@ abbrev pub codeIn : Instant → Code
 codeIn (instant r x n) = code r
 
 -- what a command makes of the trees of its parts
-abbrev pub idleTree : Tree
-idleTree = tree idle none
-
 abbrev pub seqTree : Statement → Tree → Tree → Tree
 seqTree q (tree i a) (tree j b) = tree (seqInstant q i j) (join a (ifEnded (codeIn i) b none))
 

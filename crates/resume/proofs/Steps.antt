@@ -9,7 +9,7 @@ use borrow.Author.Tests.{lt-ltb}
 use Rattle.sets.specs.Sets.{signalCount, onlyBelow, insertBelow}
 use Rattle.esterel.specs.Sets.{member, only, join, insert, remove, empty, below, from}
 use Rattle.esterel.specs.Sets as sets
-use Rattle.esterel.specs.Statement.{local, Statement, nothing, seq, par, loop, present, signal, try, suspend, held}
+use Rattle.esterel.specs.Statement.{local, Statement, nothing, seq, par, loop, present, signal, try, suspend}
 use Rattle.esterel.specs.Reaction.{waiting, gives}
 use Rattle.esterel.specs.Ranks.{middle, labelsBy}
 use Rattle.esterel.specs.Resume as Esterel
