@@ -238,7 +238,7 @@ module _ (sc : Scope) (b s : ℕ) where
         → r ≡ reactionOf (signalOnce sc b s t)
     once-right h {o} e k = let law : OnceRight t p = rw p-is (right-run t) in k ∙ law o m h e counted
 
-    pub once-wrong : isWrong (codeOf (p .completion)) ≡ true → {l : Labels} → labelSet l ≡ none
+    pub once-wrong : isWrong (codeOf (p .completion)) ≡ true → {l : Labels} → Stands l none
         → r ≡ record { emitted = none; labels = l; completion = p .completion; taken = m; asked = p .asked }
         → r ≡ reactionOf (signalOnce sc b s t)
     once-wrong h {l} e k = let law : OnceWrong t p = rw p-is (wrong-run t) in k ∙ law l m h e counted
