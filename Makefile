@@ -3,6 +3,9 @@
 INTAKE_ARCHIVE ?= target/staticlib/libintake.a
 RUN_PROGRAM ?= target/bin/run
 BAY ?= examples/intake.bin
+
+# The bays whose runs the benchmark times.
+BAYS = $(addprefix examples/, intake.bin rinse.bin hatch.bin grading.bin valve.bin topping-mended.bin overflow-mended.bin)
 export INTAKE_ARCHIVE
 WARNED = gcc -std=c11 -Wall -Wextra -Werror -pedantic
 SANITIZED = $(WARNED) -O1 -g -fsanitize=address,undefined -fno-sanitize-recover
@@ -73,7 +76,7 @@ bench-check: $(INTAKE_ARCHIVE) # times the check
 bench-tick: $(INTAKE_ARCHIVE) # times the tick, and the dearest instant
 	@mkdir -p target/bench
 	$(TIMED) -Iinclude bench/tick.c bench/plain.c $(INTAKE_ARCHIVE) -lm -o target/bench/tick
-	@target/bench/tick
+	@target/bench/tick $(BAYS)
 
 bench-run: $(RUN_PROGRAM) # times the run program on its greatest input, for some minutes
 	@mkdir -p target/bench

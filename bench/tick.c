@@ -1,9 +1,11 @@
 /*
  * Times intake_tick against plain_tick on the same instants, in turn within each round. Every call ticks the same
  * record again: caches and branch predictors are warm. The reactions of an instant are those that its answer tells.
+ * The run files that are named are run whole.
  */
 #include "timing.h"
 
+#include "bays.h"
 #include "dearest.h"
 #include "intake.h"
 #include "plain.h"
@@ -55,8 +57,6 @@ struct instant {
     uint32_t reactions;
     unsigned calls;
 };
-
-typedef uint8_t ticks(const uint8_t *, size_t, uint8_t *, size_t, uint32_t, uint32_t, uint8_t *, size_t);
 
 static uint8_t once(ticks *tick, const struct instant *t, uint8_t *state, uint8_t *answer)
 {
@@ -206,7 +206,7 @@ static void growth_row(size_t length)
     printf("%6zu %8.0f %8.0f %8.0f\n", length, tick, check, tick - check);
 }
 
-int main(void)
+int main(int count, char **paths)
 {
     static const size_t lengths[] = {14, 64, 256, 712, 1024};
     double logarithms = 0, most = 0;
@@ -222,6 +222,7 @@ int main(void)
                 rows++;
             }
     printf("geometric mean of the ratios %.2f\n", exp(logarithms / rows));
+    bay_rows(count - 1, paths + 1);
     printf("a resumed tick with one active pause, ns:\n%6s %8s %8s %8s\n", "bytes", "tick", "check", "beyond");
     for (unsigned j = 0; j < sizeof lengths / sizeof *lengths; j++)
         growth_row(lengths[j]);
