@@ -4,6 +4,7 @@
 //! and the names of the orders.
 use crate::statement::{Declaration, Order, Statement, Term};
 use common::reference::Labels;
+use std::mem::take;
 use std::rc::Rc;
 
 /// 002, figure 5: the expansion of a statement with an active pause. None if it has none. What a suspend becomes chooses, in
@@ -97,6 +98,13 @@ pub struct Tree {
     pub stopping: u32,
     /// Signal commands that hide a read-back signal and are emitted.
     pub hiding: u64,
+    /// The signals that tests and kept suspends asked for, but those declared around the question.
+    pub asked: u32,
+    /// Signals for which the run without them did not ask, so that the run with them is the same: all, those whose runs are
+    /// wrong, those that both runs emit, read-back ones, those whose runs stop a suspend.
+    pub unasked: [u64; 5],
+    /// Signals whose run with them asks for another one, for which the run without them does not ask.
+    pub asked_with: u64,
     /// The signals that commands around the reaction declare, and those that the read-back set does.
     pub declared: u32,
     pub read_back: u32,
@@ -130,23 +138,27 @@ impl Tree {
                     body => body,
                 }
             }
-            Statement::Present(s, p, _) if present & 1 << s != 0 => {
-                self.found |= 1 << s & !self.declared;
-                self.react(p, present)
+            Statement::Present(s, p, q) => {
+                self.asked |= 1 << s;
+                let here = present & 1 << s;
+                self.found |= here & !self.declared;
+                self.react(if here != 0 { p } else { q }, present)
             }
-            Statement::Present(_, _, q) => self.react(q, present),
             Statement::Signal(declaration, p) => self.signal(*declaration, p, present),
             Statement::Try(p) => caught(self.react(p, present)),
             Statement::Suspend(s, p) => {
                 self.begun_present += (present >> s & 1) as u64;
                 self.react(p, present)
             }
-            Statement::Kept(s, labels, _) if present & 1 << s != 0 => {
+            Statement::Kept(s, labels, p) => {
+                self.asked |= 1 << s;
+                if present & 1 << s == 0 {
+                    return self.react(p, present);
+                }
                 self.stopped += 1;
                 self.stopping |= 1 << s & !self.declared;
                 Answer { code: 1, labels: *labels, ..quiet }
             }
-            Statement::Kept(_, _, p) => self.react(p, present),
             Statement::Held(..) => unreachable!("the paper's"),
         }
     }
@@ -174,19 +186,30 @@ impl Tree {
         Answer { emitted: p.emitted | q.emitted, code, labels: if code == 1 { labels } else { 0 } }
     }
 
-    fn signal(&mut self, Declaration { place, signal, reported }: Declaration, p: &Term, present: u32) -> Answer {
+    /// The runs without the signal and with it, and what they asked for.
+    fn runs(&mut self, Declaration { signal, reported, .. }: Declaration, p: &Term, present: u32) -> [Answer; 2] {
         let only = 1u32 << signal;
-        let before = self.stopped;
-        let around = self.declared;
+        let (before, around, outside) = (self.stopped, self.declared, take(&mut self.asked));
         match reported {
             true => self.read_back |= only,
             false => self.declared |= only,
         }
         let minus = self.react(p, present - (present & only));
-        let between = self.stopped;
+        let (between, asked) = (self.stopped, take(&mut self.asked));
         let plus = self.react(p, present | only);
         self.stopped_once += (between - before != self.stopped - between) as u64;
         self.declared = around;
+        self.asked_with += (self.asked & !asked & !only != 0) as u64;
+        let kinds = [true, minus.code == WRONG, minus.emitted & only != 0, reported, between > before];
+        (0..kinds.len()).for_each(|i| self.unasked[i] += (kinds[i] && asked & only == 0) as u64);
+        self.asked = outside | (asked | self.asked) & !only;
+        [minus, plus]
+    }
+
+    fn signal(&mut self, declaration: Declaration, p: &Term, present: u32) -> Answer {
+        let Declaration { place, signal, reported } = declaration;
+        let only = 1u32 << signal;
+        let [minus, plus] = self.runs(declaration, p, present);
         let (in_minus, in_plus) = (minus.emitted & only != 0, plus.emitted & only != 0);
         let (minus_wrong, plus_wrong) = (minus.code == WRONG, plus.code == WRONG);
         let fits = [

@@ -13,7 +13,7 @@ use common::table::hex;
 pub const GREATEST: usize = 12;
 
 /// Names of what a tree of reactions may hold, beside the cases of a signal.
-const EVENTS: [&str; 22] = [
+const EVENTS: [&str; 28] = [
     "resumed",
     "the same, labels on both sides of 64",
     "waits at labels on both sides of 64",
@@ -36,6 +36,12 @@ const EVENTS: [&str; 22] = [
     "the same, resumed in a loop",
     "without loops, as many as can be",
     "the same, inside signals",
+    "signal not asked for without it",
+    "the same, wrong",
+    "the same, emitted",
+    "the same, read back",
+    "the same, a suspend stopped",
+    "asked for in the run with a signal alone",
 ];
 
 /// What is counted of the ticks that are compared with the paper.
@@ -225,6 +231,12 @@ impl Tally {
             reached && state[0] == 1 && ceiling.loops > 0,
             most_without_loops,
             most_without_loops && ceiling.signals > 0,
+            tree.unasked[0] > 0,
+            tree.unasked[1] > 0,
+            tree.unasked[2] > 0,
+            tree.unasked[3] > 0,
+            tree.unasked[4] > 0,
+            tree.asked_with > 0,
         ];
         (0..EVENTS.len()).for_each(|i| self.events[i] += events[i] as u64);
         self.most_reactions = self.most_reactions.max(tree.reactions);
