@@ -10,7 +10,8 @@ use borrow.Author.Tests.{eqb-true, lt-ltb}
 use Rattle.esterel.specs.Sets.{member, none, join, empty, below, from}
 use Rattle.esterel.specs.Statement.{local, Statement, pause, seq, par, loop, present, signal, try, suspend}
 use Rattle.esterel.specs.Ranks.{middle, labelsBy}
-use Rattle.theory.proofs.Sets.{member-join, join-none-l, join-none-r, ext}
+use Rattle.theory.proofs.Sets.{join-none-l, join-none-r}
+use Rattle.theory.proofs.SetAlgebra.{join-assoc}
 use Rattle.theory.proofs.Ranks.{labels-by-none}
 use Rattle.limits.specs.Limits.{wordLabels}
 use Rattle.sets.specs.Sets.{labelCount, twoWords, onlyBelow}
@@ -39,23 +40,12 @@ same-labels {u = u} {v = v} e a = subst (λ (x : ℕ). Adds x u v) e a
 none-added : (u : List ℕ) → Adds none u u
 none-added u = record { adds = λ l. (l, sym (join-none-r (setIn u))) }
 
-or-either : (x y z : Bool) → ((x || y) || z) ≡ (x || (y || z))
-or-either true y z = refl
-or-either false y z = refl
-
-join-assoc : (r s t : ℕ) → join (join r s) t ≡ join r (join s t)
-join-assoc r s t =
-    ext (join (join r s) t) (join r (join s t))
-    (λ i. member-join i (join r s) t ∙ ap (λ (b : Bool). b || member i t) (member-join i r s)
-    ∙ or-either (member i r) (member i s) (member i t)
-    ∙ sym (member-join i r (join s t) ∙ ap (λ (b : Bool). member i r || b) (member-join i s t)))
-
 both-added : {s t : ℕ} {u v w : List ℕ} → Adds s u v → Adds t v w → Adds (join s t) u w
 both-added {s} {t} {u} a b =
     record {
       adds = λ l. let x = a .adds l in
           let y = b .adds (x .0) in
-          (y .0, y .1 ∙ ap (λ (z : ℕ). join z t) (x .1) ∙ join-assoc (setIn u) s t);
+          (y .0, y .1 ∙ ap (λ (z : ℕ). join z t) (x .1) ∙ sym (join-assoc (setIn u) s t));
     }
 
 -- the words of a set stored, which has the labels there and those of s
