@@ -13,8 +13,9 @@ use Rattle.esterel.specs.States.{active}
 use Rattle.esterel.specs.Expansion.{expand}
 use Rattle.sequence.specs.Commands.{commandOf}
 use Rattle.sequence.specs.Reader.{front, read}
-use Rattle.records.specs.Bytes.{leBytes, leNumber}
-use Rattle.records.specs.Records.{answerLength, encodeState, decodeState, encodeAnswer}
+use Rattle.numbers.specs.Bytes.{leBytes, leNumber}
+use Rattle.states.specs.StateRecord.{encodeState, decodeState}
+use Rattle.answers.specs.AnswerRecord.{answerLength, encodeAnswer}
 use Rattle.demands.specs.Tick.{Outcome, outcome, tickOf}
 use Rattle.demands.specs.Plain.{plainChecked, plainTick}
 use Rattle.demands.specs.Paper.{Call}

@@ -26,8 +26,9 @@ use Rattle.sequence.proofs.Rows.{Decides, decided}
 use Rattle.sequence.specs.Rows.{Spells}
 use Rattle.sequence.proofs.Writer.{reads-what-is-written}
 use Rattle.numbers.specs.Bytes.{leNumber}
-use Rattle.records.specs.Records.{answerLength, labelsIn, takenIn}
-use Rattle.records.proofs.RecordLaws.{taken-field}
+use Rattle.states.specs.StateRecord.{labelsIn}
+use Rattle.answers.specs.AnswerRecord.{answerLength, takenIn}
+use Rattle.answers.proofs.AnswerLaws.{taken-field}
 use Rattle.demands.specs.Tick.{written, tickOf}
 use Rattle.demands.specs.Demands.{number, answerAfterwards, cleared, StandsAt, at-start, at-labels, TickMeets}
 use Rattle.demands.specs.Dearest.{hundredBytes}

@@ -16,13 +16,14 @@ use Rattle.esterel.specs.Machines.{State, stateAfter}
 use Rattle.sequence.specs.Program.{program}
 use Rattle.sequence.specs.Check.{Checked, sound, bad, checked, checkOf}
 use Rattle.sequence.proofs.Rows.{check-by-rows}
-use Rattle.records.specs.Bytes.{leNumber}
-use Rattle.records.specs.Records.{stateLength, answerLength, Decoded, holds, malformed, encodeState, decodeState, phaseIn, labelsIn}
+use Rattle.numbers.specs.Bytes.{leNumber}
+use Rattle.states.specs.StateRecord.{stateLength, Decoded, holds, malformed, encodeState, decodeState, phaseIn, labelsIn}
+use Rattle.answers.specs.AnswerRecord.{answerLength}
 use Rattle.demands.specs.Tick.{Outcome, outcome, byState, byCheck, tickBy, tickOf}
 use Rattle.demands.specs.TickRows.{Malformed, phase-above, labels-fresh, labels-over, not-valid}
 use Rattle.demands.specs.Paper.{Call}
 use Rattle.demands.specs.Demands.{number, stateAfterwards, outcomes, Admitted, Demand1, cleared}
-use Rattle.records.proofs.RecordLaws.{Recorded, length-state, decode-encode}
+use Rattle.states.proofs.StateLaws.{Recorded, length-state, decode-encode}
 use Rattle.demands.proofs.TickRows.{Reading, reads-fresh, reads-waiting, reads-over, reads-malformed, reading, well-formed, tick-by-rows}
 use Rattle.demands.proofs.Sequence.{same-statement, Accepted, accepted, tick-at, tick-short, recorded-fresh, recorded-resumed}
 

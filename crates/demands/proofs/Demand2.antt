@@ -26,11 +26,12 @@ use Rattle.limits.specs.Limits.{signalCount, signalBytes, placeBytes, takenByte
 use Rattle.sequence.specs.Program.{program}
 use Rattle.sequence.specs.Check.{checkOf}
 use Rattle.sequence.proofs.Rows.{check-by-rows}
-use Rattle.records.specs.Records.{stateLength, answerLength, Decoded, holds, decodeState, encodeAnswer, codeByte, phaseIn, labelsIn, kindIn, placeIn, takenIn}
+use Rattle.states.specs.StateRecord.{stateLength, Decoded, holds, decodeState, phaseIn, labelsIn}
+use Rattle.answers.specs.AnswerRecord.{answerLength, encodeAnswer, codeByte, kindIn, placeIn, takenIn}
 use Rattle.demands.specs.Tick.{written, tickBy, tickOf}
 use Rattle.demands.specs.TickRows.{TickRow, row-1, row-2-to-10, row-11, row-12}
 use Rattle.demands.specs.Demands.{number, StandsAt, at-start, at-labels, Shows, Demand2}
-use Rattle.records.proofs.RecordLaws.{code-field, kind-field, place-field, emitted-field, taken-field, blameless, wrong-blame, answer-is, length-answer}
+use Rattle.answers.proofs.AnswerLaws.{code-field, kind-field, place-field, emitted-field, taken-field, blameless, wrong-blame, answer-is, length-answer}
 use Rattle.demands.proofs.Bounds.{Below, Bounded, emitted-below, Exits, code-exits}
 use Rattle.demands.proofs.ErrorPlaces.{PlacesBelow, place-fits}
 use Rattle.demands.proofs.Reports.{shown-below}

@@ -21,7 +21,8 @@ use Rattle.esterel.specs.Ceiling.{nesting}
 use Rattle.sequence.specs.Program.{readBackSignals, program}
 use Rattle.sequence.specs.Check.{Checked, sound, bad, afterRead, checked, checkOf, numberOf}
 use Rattle.sequence.proofs.Sound as reader
-use Rattle.records.specs.Records.{stateLength, answerLength, Decoded, holds, malformed, decodeState}
+use Rattle.states.specs.StateRecord.{stateLength, Decoded, holds, malformed, decodeState}
+use Rattle.answers.specs.AnswerRecord.{answerLength}
 use Rattle.demands.specs.Tick.{Outcome, outcome, written, byState, byCheck, tickBy, tickOf}
 use Rattle.demands.specs.Plain.{plainAfterRead, plainChecked, plainByCheck, plainTick}
 

@@ -20,8 +20,9 @@ use Rattle.esterel.specs.Ceiling.{nesting}
 use Rattle.sequence.specs.Check.{checkOf, checked}
 use Rattle.sequence.specs.Rows.{Spells}
 use Rattle.sequence.proofs.Writer.{reads-what-is-written}
-use Rattle.records.specs.Bytes.{leBytes, leNumber}
-use Rattle.records.specs.Records.{answerLength, labelsIn, encodeState, decodeState, encodeAnswer}
+use Rattle.numbers.specs.Bytes.{leBytes, leNumber}
+use Rattle.states.specs.StateRecord.{labelsIn, encodeState, decodeState}
+use Rattle.answers.specs.AnswerRecord.{answerLength, encodeAnswer}
 use Rattle.demands.specs.Tick.{outcome, tickBy, tickOf}
 use Rattle.demands.specs.Paper.{Call, Report, turnedDown, reacted, paper}
 use Rattle.demands.specs.Demands.{Tick, number, outcomes, Demand1, Demand2, Demand3, StandsAt, at-start, cleared}

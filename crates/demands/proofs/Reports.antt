@@ -10,8 +10,8 @@ use Rattle.esterel.specs.Errors.{Error, blame}
 use Rattle.esterel.specs.Resume.{instant}
 use Rattle.esterel.specs.Machines.{shown, phaseAfter, seen, stateAfter}
 use Rattle.limits.specs.Limits.{signalCount, placeBytes, takenBytes}
-use Rattle.records.specs.Records.{encodeState, phaseIn}
-use Rattle.records.proofs.RecordLaws.{code-field, kind-field, place-field, emitted-field, taken-field}
+use Rattle.states.specs.StateRecord.{encodeState, phaseIn}
+use Rattle.answers.proofs.AnswerLaws.{code-field, kind-field, place-field, emitted-field, taken-field}
 use Rattle.demands.specs.Tick.{written}
 use Rattle.demands.specs.Paper.{phaseNumber, reportOf}
 use Rattle.demands.specs.Demands.{report}

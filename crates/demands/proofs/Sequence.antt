@@ -29,11 +29,12 @@ use Rattle.sequence.proofs.Extents.{extent, few-signals}
 use Rattle.sequence.proofs.Writer.{reads-what-is-written}
 use Rattle.sequence.proofs.Source.{spells-source}
 use Rattle.sequence.proofs.Rows.{Decides, decided, row-range}
-use Rattle.records.specs.Records.{stateLength, answerLength, Decoded, decodeState}
+use Rattle.states.specs.StateRecord.{stateLength, Decoded, decodeState}
+use Rattle.answers.specs.AnswerRecord.{answerLength}
 use Rattle.demands.specs.Tick.{outcome, byState, byCheck, tickBy, tickOf}
 use Rattle.demands.proofs.Bounds.{Bounded, below-number, ranged-bounded, bounded-expand, bounded-declared, stop-below}
 use Rattle.demands.proofs.ErrorPlaces.{PlacesBelow, placed-below, places-expand, places-declared}
-use Rattle.records.proofs.RecordLaws.{Recorded}
+use Rattle.states.proofs.StateLaws.{Recorded}
 
 -- bytes spell at most one statement
 pub same-statement : (sequence : List ℕ) (p q : Statement) → Spells sequence p → Spells sequence q → p ≡ q

@@ -22,7 +22,8 @@ use Rattle.theory.proofs.Reactions.{reactions-unchanged, reactions-kept}
 use Rattle.numbers.specs.Bytes.{leBytes}
 use Rattle.sequence.specs.Program.{program}
 use Rattle.sequence.specs.Check.{Checked, sound, bad, checked, checkOf}
-use Rattle.records.specs.Records.{stateLength, answerLength, Decoded, holds, malformed, decodeState, encodeState, encodeAnswer, codeIn, codeByte}
+use Rattle.states.specs.StateRecord.{stateLength, Decoded, holds, malformed, decodeState, encodeState}
+use Rattle.answers.specs.AnswerRecord.{answerLength, encodeAnswer, codeIn, codeByte}
 use Rattle.demands.specs.Tick.{Outcome, outcome, written, byState, byCheck, tickBy, tickOf}
 use Rattle.demands.specs.Paper.{Call}
 use Rattle.demands.specs.Demands.{number, stateAfterwards, answerAfterwards, outcomes, StandsAt, uncounted}

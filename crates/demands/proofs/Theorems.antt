@@ -19,7 +19,7 @@ use Rattle.esterel.specs.Machines.{Rewriting, erase}
 use Rattle.sequence.specs.Program.{program}
 use Rattle.sequence.specs.Check.{numberOf, checked, checkOf}
 use Rattle.sequence.specs.Rows.{Spells}
-use Rattle.records.specs.Records.{answerLength, codeIn, takenIn}
+use Rattle.answers.specs.AnswerRecord.{answerLength, codeIn, takenIn}
 use Rattle.demands.specs.Tick.{Outcome, outcome, tickBy, tickOf}
 use Rattle.demands.specs.Paper.{Call, paper}
 use Rattle.demands.specs.Demands.{Tick, number, answerAfterwards, outcomes, cleared, report, Admitted, StandsAt, Shows, uncounted, Demand1, Demand2, Demand3, TickMeets, Chain}

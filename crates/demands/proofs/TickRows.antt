@@ -20,7 +20,8 @@ use Rattle.sequence.specs.Check.{Checked, sound, bad, checked}
 use Rattle.sequence.specs.Rows.{Spells, ByRows}
 use Rattle.sequence.proofs.ByRows.{refused-by, accepted-by}
 use Rattle.sequence.proofs.Rows.{Decides, decided, row-range}
-use Rattle.records.specs.Records.{stateLength, answerLength, Decoded, holds, malformed, decode, decodeState, phaseIn, labelsIn}
+use Rattle.states.specs.StateRecord.{stateLength, Decoded, holds, malformed, decode, decodeState, phaseIn, labelsIn}
+use Rattle.answers.specs.AnswerRecord.{answerLength}
 use Rattle.demands.specs.Tick.{outcome, byState, byCheck, tickBy, tickOf}
 use Rattle.demands.specs.TickRows.{Malformed, phase-above, labels-fresh, labels-over, not-valid, TickRow, row-1, row-2-to-10, row-11, row-12}
 use Rattle.demands.specs.Demands.{number}

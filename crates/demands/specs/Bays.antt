@@ -5,7 +5,8 @@ use mathlib.Core.Path.{_≡_}
 use mathlib.Core.List.{List, [], _∷_, map}
 use lib.ListN.{replicate}
 use Rattle.esterel.specs.Sets.{none}
-use Rattle.records.specs.Records.{labelsIn, codeIn, kindIn, placeIn, emittedIn}
+use Rattle.states.specs.StateRecord.{labelsIn}
+use Rattle.answers.specs.AnswerRecord.{codeIn, kindIn, placeIn, emittedIn}
 use Rattle.demands.specs.Tick.{Outcome}
 use Rattle.demands.specs.Demands.{Tick, number, stateAfterwards, answerAfterwards, outcomes, cleared}
 

@@ -17,7 +17,8 @@ use Rattle.esterel.specs.Expansion.{expand}
 use Rattle.esterel.specs.Machines.{shown, stateAfter, Rewriting}
 use Rattle.sequence.specs.Program.{program}
 use Rattle.sequence.specs.Rows.{Spells, Row, ByRows}
-use Rattle.records.specs.Records.{stateLength, takenAt, answerLength, phaseIn, labelsIn, encodeState, answerRecord, codeIn, kindIn, placeIn, emittedIn, takenIn, codeByte}
+use Rattle.states.specs.StateRecord.{stateLength, phaseIn, labelsIn, encodeState}
+use Rattle.answers.specs.AnswerRecord.{takenAt, answerLength, answerRecord, codeIn, kindIn, placeIn, emittedIn, takenIn, codeByte}
 use Rattle.demands.specs.Tick.{Outcome, outcome, tickOf}
 use Rattle.demands.specs.TickRows.{Malformed, TickRow}
 use Rattle.demands.specs.Paper.{Call, Report, turnedDown, reacted, paper}

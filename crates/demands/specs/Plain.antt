@@ -8,7 +8,8 @@ use Rattle.esterel.specs.Reaction.{inheritanceFirst}
 use Rattle.limits.specs.Limits.{maxBytes}
 use Rattle.sequence.specs.Reader.{Read, accepted, refused, readAll}
 use Rattle.sequence.specs.Check.{Checked, sound, bad, labelRules}
-use Rattle.records.specs.Records.{stateLength, answerLength, decodeState}
+use Rattle.states.specs.StateRecord.{stateLength, decodeState}
+use Rattle.answers.specs.AnswerRecord.{answerLength}
 use Rattle.demands.specs.Tick.{Outcome, outcome, byState}
 
 abbrev pub plainAfterRead : ℕ → Read → Checked

@@ -6,7 +6,8 @@ use lib.ListN.{take, drop, replicate}
 use lib.Dec.{eqb}
 use Rattle.esterel.specs.Machines.{State}
 use Rattle.limits.specs.Limits.{takenBytes}
-use Rattle.records.specs.Records.{takenAt, answerLength, labelsAt, encodeState, phaseIn}
+use Rattle.states.specs.StateRecord.{labelsAt, encodeState, phaseIn}
+use Rattle.answers.specs.AnswerRecord.{takenAt, answerLength}
 use Rattle.demands.specs.Tick.{Outcome, outcome, tickOf}
 use Rattle.demands.specs.Demands.{Check, Tick, cleared}
 

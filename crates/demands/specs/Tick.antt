@@ -11,7 +11,8 @@ use Rattle.esterel.specs.Resume.{Instant, instant, startBy}
 use Rattle.esterel.specs.Machines.{State, stateAfter}
 use Rattle.sequence.specs.Program.{program}
 use Rattle.sequence.specs.Check.{Checked, sound, bad, checked}
-use Rattle.records.specs.Records.{stateLength, answerLength, Decoded, holds, malformed, encodeState, decodeState, encodeAnswer}
+use Rattle.states.specs.StateRecord.{stateLength, Decoded, holds, malformed, encodeState, decodeState}
+use Rattle.answers.specs.AnswerRecord.{answerLength, encodeAnswer}
 
 pub data Outcome : Type 0 where
   outcome : (number : ℕ) (state answer : List ℕ) → Outcome

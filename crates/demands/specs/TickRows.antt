@@ -8,7 +8,8 @@ use Rattle.esterel.specs.Sets.{none}
 use Rattle.esterel.specs.Statement.{Statement}
 use Rattle.esterel.specs.States.{Valid}
 use Rattle.sequence.specs.Rows.{Spells, Row}
-use Rattle.records.specs.Records.{stateLength, answerLength, phaseIn, labelsIn}
+use Rattle.states.specs.StateRecord.{stateLength, phaseIn, labelsIn}
+use Rattle.answers.specs.AnswerRecord.{answerLength}
 
 -- row 11 for the statement p: phase above 2, labels with phase 0 or 2, or phase 1 with a set not valid
 pub data Malformed (p : Statement) (phase labels : ℕ) : Type 0 where

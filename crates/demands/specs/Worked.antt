@@ -3,7 +3,7 @@ use Prim.Native.Nat.{ℕ}
 use mathlib.Core.Path.{_≡_}
 use mathlib.Core.List.{List, map}
 use lib.ListN.{replicate}
-use Rattle.records.specs.Records.{answerLength}
+use Rattle.answers.specs.AnswerRecord.{answerLength}
 use Rattle.demands.specs.Demands.{Tick, outcomes, cleared}
 use Rattle.demands.specs.Bays.{Instant, shownBy}
 

@@ -10,7 +10,7 @@ use Rattle.esterel.specs.Sets.{none}
 use Rattle.esterel.specs.Statement.{Statement}
 use Rattle.esterel.specs.LabelTests.{valid}
 use Rattle.esterel.specs.Machines.{State}
-use Rattle.records.specs.Records.{phaseIn, labelsIn, holds, malformed, decodeState}
+use Rattle.states.specs.StateRecord.{phaseIn, labelsIn, holds, malformed, decodeState}
 use Rattle.instants.specs.declared.Standing.the-variants as stands
 use Rattle.instants.specs.Replies.{Decodes}
 use Rattle.labels.specs.declared.Labels.{Labels}

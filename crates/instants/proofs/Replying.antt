@@ -34,7 +34,8 @@ use Rattle.completions.specs.Completions.{completionOf}
 use Rattle.reaction.specs.Reactions.{reactionOf}
 use Rattle.reaction.specs.declared.Reaction.{Reaction}
 use Rattle.numbers.proofs.Bytes.{le-low}
-use Rattle.records.specs.Records.{labelsIn, encodeState, encodeAnswer, Decoded, holds, malformed, decodeState}
+use Rattle.states.specs.StateRecord.{labelsIn, encodeState, Decoded, holds, malformed, decodeState}
+use Rattle.answers.specs.AnswerRecord.{encodeAnswer}
 use Rattle.demands.specs.Tick.{Outcome, outcome, written, byState, byCheck}
 use Rattle.instants.specs.declared.Standing.the-variants as stands
 use Rattle.instants.specs.declared.Reply.the-variants.{Refused, Reacted}

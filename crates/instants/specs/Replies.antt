@@ -16,7 +16,7 @@ use Rattle.instants.specs.declared.Standing.the-variants as stands
 use Rattle.instants.specs.declared.Reply.{Reply}
 use Rattle.instants.specs.declared.Reply.the-variants.{Refused, Reacted}
 use Rattle.writing.specs.Written.{Writable, writtenFrom}
-use Rattle.records.specs.Records.{labelsIn, holds, malformed, decodeState}
+use Rattle.states.specs.StateRecord.{labelsIn, holds, malformed, decodeState}
 use Rattle.demands.specs.Tick.{Outcome, outcome, byCheck}
 
 -- what the record holds for p; of a waiting machine also the ranks of its active pauses

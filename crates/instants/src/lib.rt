@@ -22,8 +22,8 @@ fn decode(sequence: &[u8], second: &Seconds, notes: &Notes, state: &[u8]) -> Sta
     requires { ⌜ Sound (now second) (now notes) (now sequence) ⌝ }
     ensures { λ r. ⌜ DecodesRead (now (second .entry)) (now (notes .entry)) (now (sequence .entry)) (now (state .entry)) r ⌝ }
 {
-    let phase = records::state::phase(state);
-    let labels = records::state::labels(state);
+    let phase = states::phase(state);
+    let labels = states::labels(state);
     if phase == 1 {
         return match validity::activity::validity_of(sequence, second, notes, labels) {
             Validity::Valid(active) => Standing::Waiting(active),

@@ -5,7 +5,8 @@ use mathlib.Core.Logic.{_≢_}
 use mathlib.Core.List.{List}
 use lib.ListN.{length}
 use borrow.Author.Tests.{eq-eqb, ne-eqb}
-use Rattle.records.specs.Records.{stateLength, answerLength}
+use Rattle.states.specs.StateRecord.{stateLength}
+use Rattle.answers.specs.AnswerRecord.{answerLength}
 use Rattle.demands.specs.Tick.{outcome, tickBy, tickOf}
 use Rattle.instants.specs.declared.Reply.{Reply}
 use Rattle.instants.specs.Replies.{replied, Replies}

@@ -2,11 +2,11 @@
 ghost use mathlib.Core.Path.{_≡_};
 ghost use Rattle.sequence.specs.Check.{checkOf};
 ghost use Rattle.demands.specs.Demands.{TickMeets};
+use answers::ANSWER_LENGTH;
 use instants::Reply;
 use notes::Notes;
 use reading::reader::Seconds;
-use records::layout::ANSWER_LENGTH;
-use records::layout::STATE_LENGTH;
+use states::STATE_LENGTH;
 
 // The check of a sequence with a read-back set: 0, or the number of the row that turns it down.
 #[no_mangle]

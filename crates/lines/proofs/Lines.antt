@@ -4,7 +4,8 @@ use native.Mathlib.Omega.{arith}
 use mathlib.Core.Path.{_≡_, sym, ap, _∙_, subst}
 use mathlib.Core.List.{List, [], _∷_, _++_, append-nil, append-assoc}
 use lib.ListN.{length, drop, drop-of-length-le}
-use Rattle.records.specs.Records.{labelsIn, codeIn, kindIn, placeIn, emittedIn}
+use Rattle.states.specs.StateRecord.{labelsIn}
+use Rattle.answers.specs.AnswerRecord.{codeIn, kindIn, placeIn, emittedIn}
 use Rattle.limits.specs.Limits.{wordLabels}
 use Rattle.sets.specs.Sets.{twoWords}
 use Rattle.runs.specs.Text.{numeral, space, newline}

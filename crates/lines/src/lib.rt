@@ -24,13 +24,13 @@ pub struct Line {
 pub fn row(instant: u64, state: &[u8], answer: &[u8]) -> Line
     ensures { λ r. ⌜ Shows r (lineIn instant (now (state .entry)) (now (answer .entry))) ⌝ }
 {
-    let labels = records::state::labels(state);
+    let labels = states::labels(state);
     let low = labels::low_word(labels);
     let high = labels::high_word(labels);
-    let emitted = records::answer::emitted(answer) as u64;
-    let place = records::answer::place(answer) as u64;
-    let kind = records::answer::kind(answer) as u64;
-    let code = records::answer::code(answer) as u64;
+    let emitted = answers::emitted(answer) as u64;
+    let place = answers::place(answer) as u64;
+    let kind = answers::kind(answer) as u64;
+    let code = answers::code(answer) as u64;
     let mut bytes = [0u8; LINE_LENGTH];
     let at = crate::fields::put_sets(&mut bytes, emitted, low, high);
     let from = crate::fields::put_numbers(&mut bytes, at, instant, code, kind, place);

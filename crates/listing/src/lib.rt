@@ -15,12 +15,12 @@ ghost use Rattle.lines.specs.Shown.{Shows};
 ghost use Rattle.stages.specs.Answers.{stageIn};
 ghost use Rattle.listing.specs.Answers.{turnAt, Prints};
 use crate::file::Opened;
+use answers::ANSWER_LENGTH;
 use files::Input;
 use lines::Line;
-use records::layout::ANSWER_LENGTH;
-use records::layout::STATE_LENGTH;
 use stages::Run;
 use stages::Stage;
+use states::STATE_LENGTH;
 
 // A piece of a listing, and the run after it.
 pub struct Piece {
@@ -105,7 +105,7 @@ fn instant(file: &[u8], i: usize, e: u32, state: [u8; STATE_LENGTH]) -> Piece
     intake::intake_tick(files::sequence(file), &mut after, e, read_back, &mut answer);
     let line = lines::row(i as u64 + 1, &after, &answer);
     let run = Run {
-        stage: stages::following(records::state::phase(&after), i + 1),
+        stage: stages::following(states::phase(&after), i + 1),
         state: after,
     };
     Piece {

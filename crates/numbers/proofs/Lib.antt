@@ -1,3 +1,5 @@
 pub mod Bytes
 pub mod Reading
 pub mod Parts
+pub mod Writing
+pub mod Theorems

@@ -1,9 +1,9 @@
--- Numbers as bytes, lowest first, for any number of bytes.
+-- Numbers as bytes, lowest first, for any number of bytes, and a buffer that bytes are written to.
 use Prim.Native.Nat.{ℕ, zero, suc, _+_, _*_, _/_, _%_}
 use mathlib.Core.Bool.{cond}
 use mathlib.Core.List.{List, [], _∷_}
-use lib.ListN.{take, drop}
-use lib.Dec.{leb}
+use lib.ListN.{length, take, drop}
+use lib.Dec.{eqb, leb}
 
 -- the n lowest bytes of x
 unfoldable pub leBytes : (n x : ℕ) → List ℕ
@@ -21,3 +21,7 @@ atMost8 n = cond (leb n 8) n 8
 
 abbrev pub numberAt : (at n : ℕ) → List ℕ → ℕ
 numberAt at n bs = leNumber (take (atMost8 n) (drop at bs))
+
+-- a buffer that a record is written to; one of another length is left
+abbrev pub replaced : (buffer bytes : List ℕ) → List ℕ
+replaced buffer bytes = cond (eqb (length buffer) (length bytes)) bytes buffer

@@ -1,8 +1,9 @@
-// Numbers as bytes, lowest first (01): how they are read.
+// Numbers as bytes, lowest first (01): how they are read and written.
 ghost use mathlib.Core.Path.{_≡_};
 ghost use Prim.Native.Nat.{_+_, _^_, _≤_, _<_};
-ghost use lib.ListN.{length, take, drop};
-ghost use Rattle.numbers.specs.Bytes.{leNumber, atMost8, numberAt};
+ghost use lib.ListN.{length, getD, take, drop};
+ghost use lib.Seq.{sets};
+ghost use Rattle.numbers.specs.Bytes.{leBytes, leNumber, atMost8, numberAt};
 
 fn wide(x: u8) -> u64
     ensures { λ r. ⌜ r ≡ x ⌝ }
@@ -53,4 +54,27 @@ pub fn get_le(b: &[u8], at: usize, n: usize) -> u64
 {
     let bytes = part(b, at, at_most_8(n));
     read_le(bytes, 0, bytes.len())
+}
+
+// The byte at an index, or 0 behind the end.
+pub fn byte_at(b: &[u8], at: usize) -> u8
+    ensures { λ r. ⌜ r ≡ getD (now (b .entry)) at 0 ⌝ }
+{
+    if at < b.len() { b[at] } else { 0 }
+}
+
+// Writes the n lowest bytes of x from index at on.
+pub fn put_le(buf: &mut [u8], at: usize, n: usize, x: u64)
+    requires { ⌜ at + n ≤ length (now buf) ⌝ }
+    ensures { λ _. ⌜ now (buf .exit) ≡ sets (now (buf .entry)) at (leBytes n x) ⌝ }
+{
+    let mut i = at;
+    let mut left = n;
+    let mut rest = x;
+    while 0 < left {
+        buf[i] = (rest % 256) as u8;
+        rest = rest / 256;
+        i += 1;
+        left -= 1;
+    }
 }

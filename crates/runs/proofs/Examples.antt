@@ -12,7 +12,8 @@ use Rattle.sequence.specs.Reader.{front, read}
 use Rattle.esterel.specs.Ceiling.{nesting}
 use Rattle.sequence.specs.Check.{checked, checkOf}
 use Rattle.numbers.specs.Bytes.{leBytes, leNumber}
-use Rattle.records.specs.Records.{encodeState, decodeState, encodeAnswer}
+use Rattle.states.specs.StateRecord.{encodeState, decodeState}
+use Rattle.answers.specs.AnswerRecord.{encodeAnswer}
 use Rattle.demands.specs.Tick.{tickBy, tickOf}
 use Rattle.runs.specs.Text.{numeralIn, numeral}
 use Rattle.runs.specs.File.{sequenceIn, readBackIn, words, inputsIn, fileOf}

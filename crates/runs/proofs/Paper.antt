@@ -18,7 +18,8 @@ use Rattle.esterel.specs.Machines.{Seen, Rewriting, seen, termAfter, byRewritin
 use Rattle.sequence.specs.Program.{program}
 use Rattle.sequence.specs.Check.{checkOf}
 use Rattle.sequence.specs.Rows.{Spells}
-use Rattle.records.specs.Records.{answerLength, phaseIn, codeIn, kindIn, placeIn, emittedIn, codeByte}
+use Rattle.states.specs.StateRecord.{phaseIn}
+use Rattle.answers.specs.AnswerRecord.{answerLength, codeIn, kindIn, placeIn, emittedIn, codeByte}
 use Rattle.demands.specs.Tick.{Outcome, outcome, tickOf}
 use Rattle.demands.specs.Paper.{Call, Report, reacted, reportOf, paper}
 use Rattle.demands.specs.Demands.{stateAfterwards, cleared, report, outcomes}

@@ -5,7 +5,8 @@ use mathlib.Core.List.{List, [], _∷_, _++_}
 use lib.ListN.{replicate}
 use lib.Dec.{eqb}
 use Rattle.limits.specs.Limits.{signalBytes, labelBytes}
-use Rattle.records.specs.Records.{answerLength, phaseIn, labelsIn, codeIn, kindIn, placeIn, emittedIn}
+use Rattle.states.specs.StateRecord.{phaseIn, labelsIn}
+use Rattle.answers.specs.AnswerRecord.{answerLength, codeIn, kindIn, placeIn, emittedIn}
 use Rattle.demands.specs.Tick.{Outcome, tickOf}
 use Rattle.demands.specs.Demands.{stateAfterwards, answerAfterwards, cleared}
 use Rattle.runs.specs.Text.{numeral, space, newline, heading, ending, inputCut, refusal}

@@ -4,7 +4,7 @@ use Prim.Native.Nat.{ℕ, suc}
 use mathlib.Core.List.{List, [], _∷_}
 use Rattle.esterel.specs.Statement.{Statement}
 use Rattle.esterel.specs.Machines.{Seen, instant, refused, Rewriting, byRewriting, run}
-use Rattle.records.specs.Records.{codeByte}
+use Rattle.answers.specs.AnswerRecord.{codeByte}
 use Rattle.runs.specs.Listing.{Row}
 
 pub record Columns : Type 0 where

@@ -4,7 +4,7 @@ ghost use mathlib.Core.Path.{_≡_};
 ghost use mathlib.Core.List.{List};
 ghost use Rattle.runs.specs.Stages.{opening, isFinished};
 ghost use Rattle.stages.specs.Answers.{stageIn, stageAfter};
-use records::layout::STATE_LENGTH;
+use states::STATE_LENGTH;
 
 // Before the first line, before the instant that so many inputs precede, before `end`, or after it.
 pub enum Stage {

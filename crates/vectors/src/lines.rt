@@ -6,6 +6,7 @@ use crate::vector::Vector;
 use crate::vector::fresh;
 use crate::vector::malformed;
 use crate::vector::spelled;
+use answers::ANSWER_LENGTH;
 use notation::print;
 use notation::room::ROOM;
 use notation::room::append;
@@ -13,8 +14,7 @@ use notation::room::repeat;
 use notation::room::zeros;
 use notation::words::NONE;
 use notation::words::word;
-use records::layout::ANSWER_LENGTH;
-use records::layout::STATE_LENGTH;
+use states::STATE_LENGTH;
 
 // The read-back set that the line names, for the calls after it.
 fn declared(line: &[u8], from: usize, vector: Vector) -> Vector {

@@ -5,7 +5,8 @@ use Rattle.labels.specs.Labels.{labelSet}
 use Rattle.completions.specs.declared.Completion.{Completion}
 use Rattle.completions.specs.declared.Completion.the-variants.{Ended, Waiting, Leaving, Wrong}
 use Rattle.reaction.specs.declared.Reaction.{Reaction}
-use Rattle.records.specs.Records.{stateRecord, answerRecord}
+use Rattle.states.specs.StateRecord.{stateRecord}
+use Rattle.answers.specs.AnswerRecord.{answerRecord}
 use Rattle.demands.specs.Tick.{Outcome, outcome}
 
 -- the code of the instant fits a byte

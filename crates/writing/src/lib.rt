@@ -1,7 +1,8 @@
 // What an instant writes: both records, from its reaction.
 ghost use mathlib.Core.Path.{_≡_};
 ghost use lib.ListN.{length};
-ghost use Rattle.records.specs.Records.{stateLength, answerLength};
+ghost use Rattle.states.specs.StateRecord.{stateLength};
+ghost use Rattle.answers.specs.AnswerRecord.{answerLength};
 ghost use Rattle.demands.specs.Tick.{outcome};
 ghost use Rattle.writing.specs.Written.{Writable, writtenFrom};
 use completions::Completion;
@@ -15,20 +16,20 @@ pub fn finish(state: &mut [u8], answer: &mut [u8], r: Reaction) -> u8
     let k = r.completion;
     match k {
         Completion::Ended => {
-            records::state::write_state(state, 2, labels::empty());
-            records::answer::write_answer(answer, 0, 0, 0, r.emitted, r.taken);
+            states::write_state(state, 2, labels::empty());
+            answers::write_answer(answer, 0, 0, 0, r.emitted, r.taken);
         }
         Completion::Waiting => {
-            records::state::write_state(state, 1, r.labels);
-            records::answer::write_answer(answer, 1, 0, 0, r.emitted, r.taken);
+            states::write_state(state, 1, r.labels);
+            answers::write_answer(answer, 1, 0, 0, r.emitted, r.taken);
         }
         Completion::Leaving(n) => {
-            records::state::write_state(state, 2, labels::empty());
-            records::answer::write_answer(answer, n + 1, 0, 0, r.emitted, r.taken);
+            states::write_state(state, 2, labels::empty());
+            answers::write_answer(answer, n + 1, 0, 0, r.emitted, r.taken);
         }
         Completion::Wrong(kind, place) => {
-            records::state::write_state(state, 2, labels::empty());
-            records::answer::write_answer(answer, 255, kind, place, 0, r.taken);
+            states::write_state(state, 2, labels::empty());
+            answers::write_answer(answer, 255, kind, place, 0, r.taken);
         }
     }
     0

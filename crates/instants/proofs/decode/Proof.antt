@@ -7,8 +7,8 @@ use Rattle.instants.proofs.decode.Tie as tie
 use Rattle.instants.proofs.decode.Reads as reads
 use Rattle.instants.proofs.decode.Lts as lts
 use Rattle.validity.proofs.activity.validity_of.Reads as validity-of-reads
-use Rattle.records.proofs.state.labels.Reads as labels-reads
-use Rattle.records.proofs.state.phase.Reads as phase-reads
+use Rattle.states.proofs.labels.Reads as labels-reads
+use Rattle.states.proofs.phase.Reads as phase-reads
 use Rattle.labels.proofs.is_empty.Reads as is-empty-reads
 
 phase-requires : tie.Need-phase-requires

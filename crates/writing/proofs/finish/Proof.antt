@@ -4,14 +4,15 @@ use Rattle.completions.specs.declared.Completion.the-variants.{Ended, Waiting, 
 use Rattle.demands.specs.Tick.{outcome}
 use Rattle.writing.specs.Written.{WritableCode}
 use Rattle.writing.proofs.Arms.{arm}
-use Rattle.records.proofs.Stores.{state-written, answer-written}
+use Rattle.states.proofs.Stores.{state-written}
+use Rattle.answers.proofs.Stores.{answer-written}
 use borrow.Author.Needs.{needs}
 use Rattle.writing.proofs.finish.Statement.{statement}
 use Rattle.writing.proofs.finish.Tie as tie
 use Rattle.writing.proofs.finish.Reads as reads
 use Rattle.writing.proofs.finish.Lts as lts
-use Rattle.records.proofs.answer.write_answer.Reads as write-answer-reads
-use Rattle.records.proofs.state.write_state.Reads as write-state-reads
+use Rattle.answers.proofs.write_answer.Reads as write-answer-reads
+use Rattle.states.proofs.write_state.Reads as write-state-reads
 use Rattle.labels.proofs.empty.Reads as empty-reads
 
 enum-told : tie.Need-enum-told

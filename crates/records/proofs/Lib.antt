@@ -1,4 +1,0 @@
-pub mod Writing
-pub mod Stores
-pub mod RecordLaws
-pub mod Theorems

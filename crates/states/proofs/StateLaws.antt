@@ -1,0 +1,41 @@
+-- What a state record holds: a state that was written is read again.
+use Prim.Native.Nat.{ℕ, suc, _^_, _<_}
+use mathlib.Core.Path.{_≡_, refl, ap}
+use mathlib.Core.Bool.{cond}
+use lib.ListN.{length}
+use Rattle.esterel.specs.Sets.{none}
+use Rattle.esterel.specs.Statement.{Statement}
+use Rattle.esterel.specs.States.{Valid}
+use Rattle.esterel.specs.LabelTests.{valid}
+use Rattle.esterel.specs.Machines.{State}
+use Rattle.theory.proofs.LabelTests.{valid-is}
+use Rattle.limits.specs.Limits.{labelBytes}
+use Rattle.numbers.specs.Bytes.{leBytes, leNumber}
+use Rattle.numbers.proofs.Bytes.{length-leBytes, le-round-trip}
+use Rattle.states.specs.StateRecord.{stateLength, stateRecord, encodeState, holds, malformed, decodeState}
+
+-- ---- states: valid, with labels that fit the record
+abbrev pub Recorded : Statement → State → Type 0
+Recorded p State.fresh = Unit {0}
+Recorded p (State.waits L) = Valid p L × (L < 256 ^ labelBytes)
+Recorded p State.over = Unit {0}
+
+-- ---- lengths
+pub state-sized : (phase labels : ℕ) → length (stateRecord phase labels) ≡ stateLength
+state-sized phase labels = ap suc (length-leBytes labelBytes labels)
+
+pub length-state : (s : State) → length (encodeState s) ≡ stateLength
+unfolding encodeState
+length-state State.fresh = state-sized 0 none
+length-state (State.waits L) = state-sized 1 L
+length-state State.over = state-sized 2 none
+
+-- STATE ROUND TRIP
+pub decode-encode : (p : Statement) (s : State) → Recorded p s → decodeState p (encodeState s) ≡ holds s
+unfolding decodeState encodeState leBytes leNumber none
+decode-encode p State.fresh h = refl
+decode-encode p (State.waits L) h = go (leNumber (leBytes labelBytes L)) (le-round-trip labelBytes L (h .1))
+  where
+    go : (M : ℕ) → M ≡ L → cond (valid p M) (holds (State.waits M)) malformed ≡ holds (State.waits L)
+    go M e = rw (e, valid-is p L .1 (h .0))
+decode-encode p State.over h = refl

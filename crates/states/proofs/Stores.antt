@@ -1,0 +1,37 @@
+-- Runs of stores over a whole buffer give the state record.
+use Prim.Native.Nat.{ℕ, _+_, _/_, _%_, _^_}
+use native.Mathlib.Omega.{arith}
+use mathlib.Core.Path.{_≡_, sym, ap, _∙_}
+use mathlib.Core.List.{List, _∷_}
+use lib.ListN.{length}
+use lib.Seq.{sets}
+use Rattle.limits.specs.Limits.{wordLabels, wordBytes, labelBytes}
+use Rattle.numbers.specs.Bytes.{leBytes, replaced}
+use Rattle.numbers.proofs.Bytes.{length-leBytes, le-low, le-append}
+use Rattle.numbers.proofs.Writing.{sets-whole, sets-append, replaced-by}
+use Rattle.states.specs.StateRecord.{labelsAt, stateLength, stateRecord}
+use Rattle.states.proofs.StateLaws.{state-sized}
+
+state-replaced : (b : List ℕ) (phase labels : ℕ) → length b ≡ stateLength
+    → replaced b (stateRecord phase labels) ≡ stateRecord phase labels
+state-replaced b phase labels = replaced-by stateLength b (stateRecord phase labels) (state-sized phase labels)
+
+-- what the writer leaves, c, in a buffer b of the right length
+pub state-written : (b : List ℕ) (phase labels : ℕ) → length b ≡ stateLength → {c : List ℕ} → c ≡ replaced b (stateRecord phase labels)
+    → {l : ℕ} → labels ≡ l → c ≡ stateRecord phase l
+state-written b phase labels s h e = h ∙ state-replaced b phase labels s ∙ ap (stateRecord phase) e
+
+pub state-stored : (phase labels : ℕ) (b : List ℕ) → length b ≡ stateLength
+    → sets (sets b 0 (phase ∷ leBytes wordBytes (labels % 2 ^ wordLabels))) (labelsAt + wordBytes) (leBytes wordBytes (labels / 2 ^ wordLabels))
+    ≡ replaced b (stateRecord phase labels)
+state-stored phase labels b e =
+    let low = leBytes wordBytes labels in
+    let high = leBytes wordBytes (labels / 2 ^ wordLabels) in
+    let sized : length low ≡ wordBytes = length-leBytes wordBytes labels in
+    let behind : labelsAt + wordBytes ≡ length (phase ∷ low) + 0 = omega arith in
+    ap (λ (l : List ℕ). sets (sets b 0 (phase ∷ l)) (labelsAt + wordBytes) high) (le-low wordBytes labels)
+    ∙ ap (λ (k : ℕ). sets (sets b 0 (phase ∷ low)) k high) behind
+    ∙ sets-append b 0 (phase ∷ low) high
+    ∙ ap (λ (l : List ℕ). sets b 0 (phase ∷ l)) (sym (le-append wordBytes wordBytes labels))
+    ∙ sets-whole b (phase ∷ leBytes labelBytes labels) (omega (arith, length-leBytes labelBytes labels))
+    ∙ sym (state-replaced b phase labels e)

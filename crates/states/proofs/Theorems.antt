@@ -1,0 +1,15 @@
+-- The theorems of this crate: a state that was written is what is read, and the length of its record.
+use mathlib.Core.Path.{_≡_}
+use lib.ListN.{length}
+use Rattle.esterel.specs.Statement.{Statement}
+use Rattle.esterel.specs.Machines.{State}
+use Rattle.states.specs.StateRecord.{stateLength, encodeState, holds, decodeState}
+use Rattle.states.proofs.StateLaws.{Recorded}
+use Rattle.states.proofs.StateLaws as laws
+
+-- a valid state whose labels fit
+pub decode-encode : (p : Statement) (s : State) → Recorded p s → decodeState p (encodeState s) ≡ holds s
+decode-encode = laws.decode-encode
+
+pub length-state : (s : State) → length (encodeState s) ≡ stateLength
+length-state = laws.length-state
