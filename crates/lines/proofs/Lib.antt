@@ -1,3 +1,1 @@
-pub mod Buffers
-pub mod Numerals
 pub mod Lines

@@ -1,10 +1,13 @@
--- A line and its text.
+-- A line, its buffer and its text.
 use Prim.Native.Nat.{ℕ, _≤_}
 use mathlib.Core.Path.{_≡_}
 use mathlib.Core.List.{List}
 use lib.ListN.{length, drop}
 use Rattle.lines.specs.declared.Line.{Line}
-use Rattle.lines.specs.Buffer.{lineLength}
+
+-- the bytes of a line's buffer
+abbrev pub lineLength : ℕ
+lineLength = 160
 
 -- the line has the text
 pub record Shows (line : Line) (text : List ℕ) : Type 0 where

@@ -1,15 +1,10 @@
 // The lines of a listing (01, 'Bays to run'), each at the end of a buffer of its own.
-mod fields;
-mod text;
-
 ghost use Prim.Native.Nat.{_≤_};
 ghost use mathlib.Core.List.{[]};
 ghost use lib.ListN.{length};
 ghost use Rattle.runs.specs.Text.{inputCut};
 ghost use Rattle.runs.specs.Text.{heading as Text·heading, ending as Text·ending, refusal as Text·refusal};
-ghost use Rattle.runs.specs.Listing.{lineIn};
-ghost use Rattle.lines.specs.Buffer.{lineLength};
-ghost use Rattle.lines.specs.Shown.{Shows};
+ghost use Rattle.lines.specs.Shown.{lineLength, Shows};
 
 // The bytes of a line's buffer.
 pub const LINE_LENGTH: usize = 160;
@@ -20,33 +15,13 @@ pub struct Line {
     pub from: usize,
 }
 
-// The line of an instant, from the records that its tick left.
-pub fn row(instant: u64, state: &[u8], answer: &[u8]) -> Line
-    ensures { λ r. ⌜ Shows r (lineIn instant (now (state .entry)) (now (answer .entry))) ⌝ }
-{
-    let labels = states::labels(state);
-    let low = labels::low_word(labels);
-    let high = labels::high_word(labels);
-    let emitted = answers::emitted(answer) as u64;
-    let place = answers::place(answer) as u64;
-    let kind = answers::kind(answer) as u64;
-    let code = answers::code(answer) as u64;
-    let mut bytes = [0u8; LINE_LENGTH];
-    let at = crate::fields::put_sets(&mut bytes, emitted, low, high);
-    let from = crate::fields::put_numbers(&mut bytes, at, instant, code, kind, place);
-    Line {
-        bytes: bytes,
-        from: from,
-    }
-}
-
 // The line for a sequence that the check turns down.
 pub fn refusal(number: u8) -> Line
     ensures { λ r. ⌜ Shows r (Text·refusal number) ⌝ }
 {
     let mut bytes = [0u8; LINE_LENGTH];
-    let at = crate::fields::put_field(&mut bytes, LINE_LENGTH, 10, 1, number as u64, b'\n');
-    let from = crate::text::put_text(&mut bytes, at, b"refused ");
+    let at = text::put_field(&mut bytes, LINE_LENGTH, 10, 1, number as u64, b'\n');
+    let from = text::put_text(&mut bytes, at, b"refused ");
     Line {
         bytes: bytes,
         from: from,
@@ -90,7 +65,7 @@ fn fixed(words: &[u8]) -> Line
     ensures { λ r. ⌜ Shows r (now (words .entry)) ⌝ }
 {
     let mut bytes = [0u8; LINE_LENGTH];
-    let from = crate::text::put_text(&mut bytes, LINE_LENGTH, words);
+    let from = text::put_text(&mut bytes, LINE_LENGTH, words);
     Line {
         bytes: bytes,
         from: from,

@@ -7,7 +7,7 @@ use Rattle.runs.specs.File.{File, cut, refused, runs, sequenceIn, readBackIn, i
 use Rattle.runs.specs.Stages as Listing
 use Rattle.stages.specs.declared.Stage.the-variants as stages
 use Rattle.stages.specs.Answers.{stageBy, stageIn}
-use Rattle.lines.specs.Buffer.{lineLength}
+use Rattle.lines.specs.Shown.{lineLength}
 use Rattle.listing.specs.declared.file.Opened.{Opened}
 use Rattle.listing.specs.declared.file.Opened.the-variants as opens
 use Rattle.listing.specs.declared.Piece.{Piece}

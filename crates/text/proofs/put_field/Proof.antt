@@ -2,14 +2,14 @@ use Prim.Native.Nat.{_≤_}
 use native.Mathlib.Omega.{arith}
 use lib.ListN.{length}
 use Rattle.runs.specs.Text.{numeral}
-use Rattle.lines.proofs.Numerals.{field-fits, field}
+use Rattle.text.proofs.Numerals.{field-fits, field}
 use borrow.Author.Needs.{needs}
-use Rattle.lines.proofs.fields.put_field.Statement.{statement}
-use Rattle.lines.proofs.fields.put_field.Tie as tie
-use Rattle.lines.proofs.fields.put_field.Reads as reads
-use Rattle.lines.proofs.fields.put_field.Lts as lts
-use Rattle.lines.proofs.text.put_byte.Reads as put-byte-reads
-use Rattle.lines.proofs.text.put_numeral.Reads as put-numeral-reads
+use Rattle.text.proofs.put_field.Statement.{statement}
+use Rattle.text.proofs.put_field.Tie as tie
+use Rattle.text.proofs.put_field.Reads as reads
+use Rattle.text.proofs.put_field.Lts as lts
+use Rattle.text.proofs.put_byte.Reads as put-byte-reads
+use Rattle.text.proofs.put_numeral.Reads as put-numeral-reads
 
 put-byte-requires : tie.Need-put-byte-requires
 put-byte-requires c κs = search needs

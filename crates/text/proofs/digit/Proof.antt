@@ -1,10 +1,10 @@
 use borrow.Author.Tests.{lt-ltb, le-ltb}
 use mathlib.Core.Path.{refl}
 use borrow.Author.Needs.{needs}
-use Rattle.lines.proofs.text.digit.Statement.{statement}
-use Rattle.lines.proofs.text.digit.Tie as tie
-use Rattle.lines.proofs.text.digit.Reads as reads
-use Rattle.lines.proofs.text.digit.Lts as lts
+use Rattle.text.proofs.digit.Statement.{statement}
+use Rattle.text.proofs.digit.Tie as tie
+use Rattle.text.proofs.digit.Reads as reads
+use Rattle.text.proofs.digit.Lts as lts
 
 cast-result : tie.Need-cast-result
 cast-result c = search needs

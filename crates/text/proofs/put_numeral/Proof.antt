@@ -7,14 +7,14 @@ use mathlib.Core.Logic.{⊎-elim}
 use mathlib.Core.Path.{_≡_, refl}
 use lib.ListN.{length, length-set}
 use Rattle.runs.specs.Text.{numeral}
-use Rattle.lines.proofs.Buffers.{Filling, begin, under}
-use Rattle.lines.proofs.Numerals.{measure-falls, numeral-room, numeral-again, numeral-end}
-use Rattle.lines.proofs.text.put_numeral.Statement.{statement}
-use Rattle.lines.proofs.text.put_numeral.Tie as tie
-use Rattle.lines.proofs.text.put_numeral.Reads as reads
-use Rattle.lines.proofs.text.put_numeral.Lts as lts
-use Rattle.lines.proofs.text.digit.Reads as digit-reads
-use Rattle.lines.proofs.text.one_less.Reads as one-less-reads
+use Rattle.text.proofs.Buffers.{Filling, begin, under}
+use Rattle.text.proofs.Numerals.{measure-falls, numeral-room, numeral-again, numeral-end}
+use Rattle.text.proofs.put_numeral.Statement.{statement}
+use Rattle.text.proofs.put_numeral.Tie as tie
+use Rattle.text.proofs.put_numeral.Reads as reads
+use Rattle.text.proofs.put_numeral.Lts as lts
+use Rattle.text.proofs.digit.Reads as digit-reads
+use Rattle.text.proofs.one_less.Reads as one-less-reads
 
 abbrev Inv-loop : tie.InvT-loop
 Inv-loop line₀ end base width x from₀ left₀ rest₀ line from left rest = (length line ≡ length line₀) × Filling line₀ end (numeral base width x) line from (numeral base left rest)

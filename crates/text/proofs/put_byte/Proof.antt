@@ -3,13 +3,13 @@ use native.Mathlib.Omega.{arith}
 use mathlib.Core.Path.{_≡_, subst}
 use mathlib.Core.List.{[], _∷_}
 use lib.ListN.{set}
-use Rattle.lines.specs.Buffer.{Prepended}
-use Rattle.lines.proofs.Buffers.{one}
+use Rattle.text.specs.Buffer.{Prepended}
+use Rattle.text.proofs.Buffers.{one}
 use borrow.Author.Needs.{needs}
-use Rattle.lines.proofs.text.put_byte.Statement.{statement}
-use Rattle.lines.proofs.text.put_byte.Tie as tie
-use Rattle.lines.proofs.text.put_byte.Reads as reads
-use Rattle.lines.proofs.text.put_byte.Lts as lts
+use Rattle.text.proofs.put_byte.Statement.{statement}
+use Rattle.text.proofs.put_byte.Tie as tie
+use Rattle.text.proofs.put_byte.Reads as reads
+use Rattle.text.proofs.put_byte.Lts as lts
 
 sub-from : tie.Need-sub-from
 sub-from c = search needs

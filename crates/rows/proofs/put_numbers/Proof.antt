@@ -1,10 +1,10 @@
-use Rattle.lines.proofs.Buffers.{before}
+use Rattle.text.proofs.Buffers.{before}
 use borrow.Author.Needs.{needs}
-use Rattle.lines.proofs.fields.put_numbers.Statement.{statement}
-use Rattle.lines.proofs.fields.put_numbers.Tie as tie
-use Rattle.lines.proofs.fields.put_numbers.Reads as reads
-use Rattle.lines.proofs.fields.put_numbers.Lts as lts
-use Rattle.lines.proofs.fields.put_field.Reads as put-field-reads
+use Rattle.rows.proofs.put_numbers.Statement.{statement}
+use Rattle.rows.proofs.put_numbers.Tie as tie
+use Rattle.rows.proofs.put_numbers.Reads as reads
+use Rattle.rows.proofs.put_numbers.Lts as lts
+use Rattle.text.proofs.put_field.Reads as put-field-reads
 
 put-field-requires : tie.Need-put-field-requires
 put-field-requires c κs = search needs

@@ -5,11 +5,11 @@ use mathlib.Core.Path.{_≡_, refl, sym, subst}
 use mathlib.Core.List.{List}
 use lib.ListN.{length, take, length-set}
 use lib.Seq.{take-length, length-take-le}
-use Rattle.lines.proofs.Buffers.{Filling, begin, room, under, text-again, end-filling}
-use Rattle.lines.proofs.text.put_text.Statement.{statement}
-use Rattle.lines.proofs.text.put_text.Tie as tie
-use Rattle.lines.proofs.text.put_text.Reads as reads
-use Rattle.lines.proofs.text.put_text.Lts as lts
+use Rattle.text.proofs.Buffers.{Filling, begin, room, under, text-again, end-filling}
+use Rattle.text.proofs.put_text.Statement.{statement}
+use Rattle.text.proofs.put_text.Tie as tie
+use Rattle.text.proofs.put_text.Reads as reads
+use Rattle.text.proofs.put_text.Lts as lts
 
 abbrev Inv-loop : tie.InvT-loop
 Inv-loop line₀ end text from₀ left₀ line from left = (left ≤ length text) × (length line ≡ length line₀) × Filling line₀ end text line from (take left text)

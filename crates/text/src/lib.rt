@@ -1,11 +1,11 @@
 // Text at the end of a buffer, put before the text that is there.
-ghost use Prim.Native.Nat.{_-_, _≤_, _<_};
+ghost use Prim.Native.Nat.{_+_, _-_, _≤_, _<_};
 ghost use mathlib.Core.Path.{_≡_};
-ghost use mathlib.Core.List.{[], _∷_};
+ghost use mathlib.Core.List.{[], _∷_, _++_};
 ghost use lib.ListN.{length};
 ghost use Rattle.runs.specs.Text.{numeral};
 ghost use Rattle.runs.specs.Text.{digit as Text·digit};
-ghost use Rattle.lines.specs.Buffer.{Prepended};
+ghost use Rattle.text.specs.Buffer.{Prepended};
 
 fn digit(d: u64) -> u8
     requires { ⌜ d < 16 ⌝ }
@@ -60,4 +60,14 @@ pub fn put_text(line: &mut [u8], end: usize, text: &[u8]) -> usize
         line[from] = text[left];
     }
     from
+}
+
+// Puts a numeral and the byte after it before `end`: at most 21 bytes.
+pub fn put_field(line: &mut [u8], end: usize, base: u64, width: usize, x: u64, after: u8) -> usize
+    requires { ⌜ (10 ≤ base) × (base ≤ 16) × (width ≤ 16) × (21 ≤ end) × (end ≤ length (now line)) ⌝ }
+    ensures { λ r. ⌜ Prepended (now (line .entry)) end (numeral base width x ++ after ∷ []) (now (line .exit)) r ⌝ }
+    ensures { λ r. ⌜ end ≤ r + 21 ⌝ }
+{
+    let at = put_byte(line, end, after);
+    put_numeral(line, at, base, width, x)
 }

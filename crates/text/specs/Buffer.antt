@@ -4,10 +4,6 @@ use mathlib.Core.Path.{_≡_}
 use mathlib.Core.List.{List, _++_}
 use lib.ListN.{length, take, drop}
 
--- the bytes of a line's buffer
-abbrev pub lineLength : ℕ
-lineLength = 160
-
 -- the text stands from `from` to `end`, and the other bytes are as before
 pub record Prepended (before : List ℕ) (end : ℕ) (text after : List ℕ) (from : ℕ) : Type 0 where
   pub fits : from + length text ≡ end

@@ -1,0 +1,55 @@
+-- Laws of a row: the fields that the records hold, each put before the next.
+use Prim.Native.Nat.{ℕ, _+_, _^_, _<_}
+use native.Mathlib.Omega.{arith}
+use mathlib.Core.Path.{_≡_, sym, ap, _∙_, subst}
+use mathlib.Core.List.{List, [], _∷_, _++_, append-assoc}
+use lib.ListN.{length}
+use Rattle.states.specs.StateRecord.{labelsIn}
+use Rattle.answers.specs.AnswerRecord.{codeIn, kindIn, placeIn, emittedIn}
+use Rattle.limits.specs.Limits.{wordLabels}
+use Rattle.sets.specs.Sets.{twoWords}
+use Rattle.runs.specs.Text.{numeral, space, newline}
+use Rattle.runs.specs.Listing.{numbersOf, setsOf, lineOf, rowIn}
+use Rattle.lines.specs.declared.Line.{Line}
+use Rattle.text.specs.Buffer.{Prepended}
+use Rattle.lines.specs.Shown.{lineLength, Shows}
+use Rattle.lines.proofs.Lines.{shown}
+use Rattle.text.proofs.Buffers.{before}
+use Rattle.text.proofs.Numerals.{numeral-split}
+
+-- the labels from 64 on stand before the others
+sets-text : (emitted low high : ℕ) → low < 2 ^ wordLabels
+    → (numeral 16 8 emitted ++ space ∷ []) ++ (numeral 16 16 high ++ (numeral 16 16 low ++ newline ∷ []))
+    ≡ setsOf emitted (twoWords wordLabels low high)
+unfolding twoWords
+sets-text emitted low high fits =
+    ap (λ (t : List ℕ). (numeral 16 8 emitted ++ space ∷ []) ++ t)
+    (sym (append-assoc (numeral 16 16 high) (numeral 16 16 low) (newline ∷ []))
+    ∙ ap (λ (t : List ℕ). t ++ newline ∷ []) (sym (numeral-split 16 16 16 high low (omega arith) fits)))
+
+pub sets-put : {a b c d : List ℕ} {end at high-at from : ℕ} (emitted low high : ℕ) → low < 2 ^ wordLabels
+    → Prepended a end (numeral 16 16 low ++ newline ∷ []) b at → Prepended b at (numeral 16 16 high) c high-at
+    → Prepended c high-at (numeral 16 8 emitted ++ space ∷ []) d from → Prepended a end (setsOf emitted (twoWords wordLabels low high)) d from
+sets-put {a} {d = d} {end} {from = from} emitted low high fits p q r =
+    subst (λ (t : List ℕ). Prepended a end t d from) (sets-text emitted low high fits) (before (before p q) r)
+
+-- what a row reads of the records
+pub record Fields (state answer : List ℕ) (labels emitted place kind code : ℕ) : Type 0 where
+  pub labels-are : labels ≡ labelsIn state
+  pub emitted-are : emitted ≡ emittedIn answer
+  pub place-is : place ≡ placeIn answer
+  pub kind-is : kind ≡ kindIn answer
+  pub code-is : code ≡ codeIn answer
+
+row-text : {state answer : List ℕ} {labels emitted place kind code : ℕ} (instant : ℕ) → Fields state answer labels emitted place kind code
+    → numbersOf instant code kind place ++ setsOf emitted labels ≡ lineOf (rowIn instant state answer)
+unfolding lineOf
+row-text instant f = rw (f .labels-are, f .emitted-are, f .place-is, f .kind-is, f .code-is)
+
+-- a row: its numbers before its sets
+pub shown-row : {l m state answer : List ℕ} {at labels emitted place kind code : ℕ} (instant : ℕ) → Fields state answer labels emitted place kind code
+    → (line : Line) → length l ≡ lineLength → length (line .bytes) ≡ length l
+    → Prepended l lineLength (setsOf emitted labels) m at → Prepended m at (numbersOf instant code kind place) (line .bytes) (line .from)
+    → Shows line (lineOf (rowIn instant state answer))
+shown-row {l} instant f line n k p q =
+    shown line n k (subst (λ (t : List ℕ). Prepended l lineLength t (line .bytes) (line .from)) (row-text instant f) (before p q))
