@@ -1,32 +1,21 @@
 // What the run program does, as a library over slices (01, 'Bays to run'): the listing of a file, piece by piece.
-mod file;
-
 ghost use Prim.Native.Nat.{ℕ};
-ghost use mathlib.Core.Path.{_≡_};
-ghost use mathlib.Core.Option.{some};
 ghost use mathlib.Core.List.{List};
-ghost use lib.ListN.{drop};
 ghost use Rattle.demands.specs.Demands.{cleared};
 ghost use Rattle.runs.specs.Text.{heading as Text·heading};
-ghost use Rattle.runs.specs.File.{fileOf, sequenceIn, readBackIn, inputsIn, first};
+ghost use Rattle.runs.specs.File.{fileOf, sequenceIn, readBackIn, inputsIn};
 ghost use Rattle.runs.specs.Stages.{running, finished, opened, turnOf};
 ghost use Rattle.runs.specs.Stages.{turn as Stages·turn};
 ghost use Rattle.lines.specs.Shown.{Shows};
 ghost use Rattle.stages.specs.Answers.{stageIn};
-ghost use Rattle.listing.specs.Answers.{turnAt, Prints};
-use crate::file::Opened;
-use answers::ANSWER_LENGTH;
+ghost use Rattle.pieces.specs.Answers.{turnAt, Prints};
 use files::Input;
 use lines::Line;
+use opening::Opened;
+use pieces::Piece;
 use stages::Run;
 use stages::Stage;
 use states::STATE_LENGTH;
-
-// A piece of a listing, and the run after it.
-pub struct Piece {
-    pub line: Line,
-    pub run: Run,
-}
 
 // The next piece of the listing of a file; after the last one all are empty.
 pub fn turn(file: &[u8], run: Run) -> Piece
@@ -62,7 +51,7 @@ fn last(line: Line) -> Piece
 fn open(file: &[u8]) -> Piece
     ensures { λ r. ⌜ Prints (now (file .entry)) (opened (fileOf (now (file .entry)))) r ⌝ }
 {
-    match crate::file::open(file) {
+    match opening::open(file) {
         Opened::Cut => last(lines::cut()),
         Opened::Refused(number) => last(lines::refusal(number)),
         Opened::Runs => heading(),
@@ -90,26 +79,6 @@ fn step(file: &[u8], i: usize, state: [u8; STATE_LENGTH]) -> Piece
 {
     match files::input_at(file, i) {
         Input::Nothing => last(lines::ending()),
-        Input::Word(e) => instant(file, i, e, state),
-    }
-}
-
-// The instant on the input e: a tick, and its line.
-fn instant(file: &[u8], i: usize, e: u32, state: [u8; STATE_LENGTH]) -> Piece
-    requires { ⌜ first (drop i (inputsIn (now file))) ≡ some e ⌝ }
-    ensures { λ r. ⌜ Prints (now (file .entry)) (turnAt (now (file .entry)) state i) r ⌝ }
-{
-    let mut after = state;
-    let mut answer = [0u8; ANSWER_LENGTH];
-    let read_back = files::read_back(file);
-    intake::intake_tick(files::sequence(file), &mut after, e, read_back, &mut answer);
-    let line = rows::row(i as u64 + 1, &after, &answer);
-    let run = Run {
-        stage: stages::following(states::phase(&after), i + 1),
-        state: after,
-    };
-    Piece {
-        line: line,
-        run: run,
+        Input::Word(e) => pieces::instant(file, i, e, state),
     }
 }

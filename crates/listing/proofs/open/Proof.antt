@@ -1,9 +1,9 @@
 use mathlib.Core.Path.{subst}
 use Rattle.runs.specs.Text.{inputCut, refusal}
 use Rattle.runs.specs.Stages as Listing
-use Rattle.listing.specs.Answers.{Prints}
-use Rattle.listing.specs.declared.file.Opened.the-variants as opens
-use Rattle.listing.proofs.Pieces.{opened-by}
+use Rattle.pieces.specs.Answers.{Prints}
+use Rattle.opening.specs.declared.Opened.the-variants as opens
+use Rattle.listing.proofs.Turns.{opened-by}
 use borrow.Author.Needs.{needs}
 use Rattle.listing.proofs.open.Statement.{statement}
 use Rattle.listing.proofs.open.Tie as tie

@@ -3,8 +3,8 @@ use mathlib.Core.List.{[]}
 use Rattle.runs.specs.Text.{ending}
 use Rattle.runs.specs.Stages as Listing
 use Rattle.stages.specs.declared.Stage.the-variants as stages
-use Rattle.listing.specs.Answers.{Prints}
-use Rattle.listing.proofs.Pieces.{turn-by, turn-opening, turn-closing, turn-finished}
+use Rattle.pieces.specs.Answers.{Prints}
+use Rattle.listing.proofs.Turns.{turn-by, turn-opening, turn-closing, turn-finished}
 use borrow.Author.Needs.{needs}
 use Rattle.listing.proofs.turn.Statement.{statement}
 use Rattle.listing.proofs.turn.Tie as tie

@@ -8,12 +8,12 @@ use Rattle.runs.specs.Stages as Listing
 use Rattle.runs.proofs.Files.{input-within}
 use Rattle.stages.specs.declared.Stage.{Stage}
 use Rattle.stages.specs.Answers.{stageBy, stageAfter}
-use Rattle.listing.specs.declared.Piece.{Piece}
-use Rattle.listing.specs.Answers.{Prints}
-use Rattle.listing.proofs.Pieces.{printed, ticked-at, instant-turn}
+use Rattle.pieces.specs.declared.Piece.{Piece}
+use Rattle.pieces.specs.Answers.{Prints}
+use Rattle.pieces.proofs.Pieces.{printed, ticked-at, instant-turn}
 use borrow.Author.Needs.{needs}
-use Rattle.listing.proofs.instant.Statement.{statement}
-use Rattle.listing.proofs.instant.Tie as tie
+use Rattle.pieces.proofs.instant.Statement.{statement}
+use Rattle.pieces.proofs.instant.Tie as tie
 
 read-back-requires : tie.Need-read-back-requires
 read-back-requires c κs = search needs

@@ -1,7 +1,7 @@
 // What a file comes to: a run, or why there is none.
 ghost use mathlib.Core.Path.{_≡_};
 ghost use Rattle.runs.specs.File.{fileOf};
-ghost use Rattle.listing.specs.Answers.{fileBy};
+ghost use Rattle.opening.specs.Answers.{fileBy};
 
 pub enum Opened {
     Cut,

@@ -1,21 +1,13 @@
--- What the code's answers stand for: a file, a turn.
+-- What the code's answer stands for: a turn.
 use Prim.Native.Nat.{ℕ, _≤_}
 use mathlib.Core.Path.{_≡_}
 use mathlib.Core.List.{List}
 use lib.ListN.{length, drop}
-use Rattle.runs.specs.File.{File, cut, refused, runs, sequenceIn, readBackIn, inputsIn}
 use Rattle.runs.specs.Stages as Listing
 use Rattle.stages.specs.declared.Stage.the-variants as stages
 use Rattle.stages.specs.Answers.{stageBy, stageIn}
 use Rattle.lines.specs.Shown.{lineLength}
-use Rattle.listing.specs.declared.file.Opened.{Opened}
-use Rattle.listing.specs.declared.file.Opened.the-variants as opens
-use Rattle.listing.specs.declared.Piece.{Piece}
-
-abbrev pub fileBy : List ℕ → Opened → File
-fileBy file opens.Cut = cut
-fileBy file (opens.Refused number) = refused number
-fileBy file opens.Runs = runs (sequenceIn file) (readBackIn file) (inputsIn file)
+use Rattle.pieces.specs.declared.Piece.{Piece}
 
 -- the turn of a run before the instant that i inputs precede
 abbrev pub turnAt : (file state : List ℕ) (i : ℕ) → Listing.Turn

@@ -1,28 +1,23 @@
--- Laws of the pieces: the turn that each stage takes.
+-- Laws of the pieces: what a piece prints, and the turn of an instant.
 use Prim.Native.Nat.{ℕ, suc, _+_}
 use native.Mathlib.Numerals.{add-one}
-use native.Mathlib.Omega.{arith}
 use mathlib.Core.Bool.{Bool, true, false, cond}
-use mathlib.Core.Option.{none, some}
+use mathlib.Core.Option.{some}
 use mathlib.Core.Path.{_≡_, refl, sym, ap, ap₂, _∙_}
-use mathlib.Core.List.{List, [], _∷_}
+use mathlib.Core.List.{List, _∷_}
 use lib.ListN.{getD, drop}
 use lib.Dec.{eqb}
 use Rattle.demands.specs.Tick.{Outcome, outcome}
 use Rattle.demands.specs.Demands.{stateAfterwards}
-use Rattle.runs.specs.Text.{ending}
-use Rattle.runs.specs.File.{fileOf, sequenceIn, readBackIn, inputsIn, first}
+use Rattle.runs.specs.File.{sequenceIn, readBackIn, inputsIn, first}
 use Rattle.runs.specs.Listing.{lineOf, rowIn, rowOf, ticked, isOver}
 use Rattle.runs.specs.Stages as Listing
 use Rattle.runs.proofs.Files.{input-next}
-use Rattle.listing.specs.declared.file.Opened.{Opened}
-use Rattle.stages.specs.declared.Stage.{Stage}
 use Rattle.stages.specs.declared.Stage.the-variants as stages
-use Rattle.stages.specs.declared.Run.{Run}
 use Rattle.stages.specs.Answers.{stageBy, stageIn, stageAfter}
-use Rattle.listing.specs.declared.Piece.{Piece}
+use Rattle.pieces.specs.declared.Piece.{Piece}
 use Rattle.lines.specs.Shown.{Shows}
-use Rattle.listing.specs.Answers.{fileBy, Prints}
+use Rattle.pieces.specs.Answers.{Prints}
 
 -- a line with the text, and a run at the next stage
 pub printed : {text : List ℕ} (file : List ℕ) (piece : Piece) (next : Listing.Stage) → Shows (piece .line) text → stageIn file (piece .run) ≡ next
@@ -62,30 +57,3 @@ instant-turn file state after answer i e n h o =
     ∙ sym
     (ap (λ (es : List ℕ). Listing.turnOf (Listing.running (sequenceIn file) (readBackIn file) state (suc i) es)) (input-next i e (inputsIn file) h)
     ∙ turn-on (sequenceIn file) (readBackIn file) state (suc i) e (drop (suc i) (inputsIn file)) (outcome n after answer) o)
-
-pub no-turn : (s : List ℕ) (b : ℕ) (state : List ℕ) (j : ℕ) (es : List ℕ) → first es ≡ none
-    → Listing.turn ending Listing.finished ≡ Listing.turnOf (Listing.running s b state j es)
-unfolding Listing.turnOf
-no-turn s b state j [] h = refl
-no-turn s b state j (e ∷ es) h = absurd (let z : _≡_ {A = ℕ} 0 1 = cc in omega arith)
-
--- ---- the arms of a match
-pub opened-by : (file : List ℕ) (r r′ : Opened) → fileBy file r ≡ fileOf file → r ≡ r′
-    → Listing.opened (fileBy file r′) ≡ Listing.opened (fileOf file)
-opened-by file r r′ h e = ap Listing.opened (sym (ap (fileBy file) e) ∙ h)
-
-pub turn-by : (file : List ℕ) (run : Run) (g : Stage) → run .stage ≡ g
-    → Listing.turnOf (stageBy file g (run .state)) ≡ Listing.turnOf (stageIn file run)
-turn-by file run g e = ap (λ (h : Stage). Listing.turnOf (stageBy file h (run .state))) (sym e)
-
-pub turn-opening : (file : List ℕ) → Listing.opened (fileOf file) ≡ Listing.turnOf (Listing.opening file)
-unfolding Listing.turnOf
-turn-opening file = refl
-
-pub turn-closing : Listing.turn ending Listing.finished ≡ Listing.turnOf Listing.closing
-unfolding Listing.turnOf
-turn-closing = refl
-
-pub turn-finished : Listing.turn [] Listing.finished ≡ Listing.turnOf Listing.finished
-unfolding Listing.turnOf
-turn-finished = refl
