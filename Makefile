@@ -16,8 +16,16 @@ CARGO_WORDS = --release --offline --quiet --target-dir target/cargo --manifest-p
 CARGO = cargo run $(CARGO_WORDS)
 SOURCES := crates.txt $(shell find crates -name '*.rt' -o -name '*.antt')
 
-.PHONY: help run show test host host-rust host-c host-tick-rust host-tick-c host-example host-stack host-archive host-plain \
-	show-test bench bench-check bench-tick bench-run
+# `make install` puts the files below $(DESTDIR)$(PREFIX), and the pkg-config file names $(PREFIX).
+PREFIX ?= /usr/local
+VERSION = $(shell sed -n 's/^\#define INTAKE_VERSION_[A-Z]* \([0-9]*\)$$/\1/p' include/intake.h | paste -sd .)
+
+HOST_TESTS = host-rust host-c host-tick-rust host-tick-c host-example host-stack host-archive host-freestanding host-header \
+	host-install host-again figures
+
+# The two programs are built anew for whatever archive is named.
+.PHONY: help run show test lib install certificate host $(HOST_TESTS) host-plain show-test certificate-test \
+	bench bench-check bench-tick bench-run target/host/stack target/host/dearest
 
 help: # lists the targets
 	@sed -n 's/^\([a-z-]*\):[^#]*# /\1: /p' Makefile
@@ -31,7 +39,21 @@ show: $(RUN_PROGRAM) # shows the commands and the run of a shipped example; BAY 
 test: # proves everything and runs all tests: the gate
 	.ci/run
 
-host: host-rust host-c host-tick-rust host-tick-c host-example host-stack host-archive # runs all host tests against the archive
+lib: target/lib/SHA256SUMS # writes the archive, the header and a pkg-config file to target/lib, with their sha256
+
+install: lib # installs them below PREFIX; DESTDIR=folder goes before it
+	install -d '$(DESTDIR)$(PREFIX)/lib/pkgconfig' '$(DESTDIR)$(PREFIX)/include'
+	install -m 644 target/lib/libintake.a '$(DESTDIR)$(PREFIX)/lib/libintake.a'
+	install -m 644 target/lib/intake.h '$(DESTDIR)$(PREFIX)/include/intake.h'
+	sed 's|@PREFIX@|$(PREFIX)|; s|@LIBDIR@|$${prefix}/lib|; s|@INCLUDEDIR@|$${prefix}/include|; s|@VERSION@|$(VERSION)|' \
+		include/intake.pc.in > target/lib/installed.pc
+	install -m 644 target/lib/installed.pc '$(DESTDIR)$(PREFIX)/lib/pkgconfig/intake.pc'
+	@rm -f target/lib/installed.pc
+
+certificate: # writes docs/CERTIFICATE.md from the last run of the gate
+	tools/certificate
+
+host: $(HOST_TESTS) # runs all host tests against the archive
 
 host-rust: $(INTAKE_ARCHIVE) # compares the archive with the check on an explicit tree
 	$(CARGO) host/check/Cargo.toml
@@ -53,9 +75,36 @@ host-example: $(INTAKE_ARCHIVE) $(RUN_PROGRAM) # compares the example host with 
 	$(SANITIZED) -Iinclude host/example.c $(INTAKE_ARCHIVE) -o target/host/example-sanitized
 	host/example_test.py $(RUN_PROGRAM) target/host/example target/host/example-sanitized
 
-host-stack: $(INTAKE_ARCHIVE) # measures the stack of a call at the greatest depth, by painting
+host-stack: target/host/stack # measures the stack of a call at the greatest depth, by painting
+	target/host/stack
+
+target/host/stack: $(INTAKE_ARCHIVE)
 	@mkdir -p target/host
-	$(WARNED) -D_DEFAULT_SOURCE -O2 -Iinclude host/stack.c $(INTAKE_ARCHIVE) -o target/host/stack && target/host/stack
+	$(WARNED) -D_DEFAULT_SOURCE -O2 -Iinclude host/stack.c $(INTAKE_ARCHIVE) -pthread -o $@
+
+target/host/dearest: $(INTAKE_ARCHIVE)
+	@mkdir -p target/host
+	$(WARNED) -O2 -Iinclude -Ibench host/dearest.c bench/plain.c $(INTAKE_ARCHIVE) -lm -o $@
+
+figures: target/host/stack target/host/dearest # holds what README and the header say that the archive requires to what it takes
+	host/figures.py $(INTAKE_ARCHIVE) target/host/stack target/host/dearest
+
+host-freestanding: $(INTAKE_ARCHIVE) # links and runs a host without any library
+	@mkdir -p target/host
+	$(WARNED) -O2 -ffreestanding -fno-stack-protector -nostdlib -static -Iinclude host/freestanding.c $(INTAKE_ARCHIVE) \
+		-o target/host/freestanding && target/host/freestanding
+
+host-header: $(INTAKE_ARCHIVE) # compiles the header and README's host as every C and C++
+	host/header_test.py $(INTAKE_ARCHIVE)
+
+host-install: lib # installs into a temporary folder, and builds and runs the example host from there
+	host/install_test.py
+
+host-again: target/staticlib/libintake.a # builds the archive once more, in another folder, and compares the bytes
+	host/again_test.py
+
+certificate-test: # tests tools/certificate
+	tools/test_certificate.py
 
 host-archive: $(INTAKE_ARCHIVE) # shows the read-only data of the archive: jump tables and no constant array
 	host/archive_test.py $(INTAKE_ARCHIVE)
@@ -87,6 +136,14 @@ bench-run: $(RUN_PROGRAM) # times the run program on its greatest input, for som
 
 target/staticlib/libintake.a: $(SOURCES)
 	rt staticlib intake
+
+# In this folder the pkg-config file finds the others beside itself, wherever the folder goes.
+target/lib/SHA256SUMS: target/staticlib/libintake.a include/intake.h include/intake.pc.in Makefile
+	@rm -rf target/lib && mkdir -p target/lib
+	cp target/staticlib/libintake.a include/intake.h target/lib
+	sed 's|@PREFIX@|$${pcfiledir}|; s|@LIBDIR@|$${prefix}|; s|@INCLUDEDIR@|$${prefix}|; s|@VERSION@|$(VERSION)|' \
+		include/intake.pc.in > target/lib/intake.pc
+	cd target/lib && sha256sum libintake.a intake.h intake.pc > SHA256SUMS
 
 target/plain/libintake.a: bench/plain.c bench/plain.h
 	@mkdir -p target/plain

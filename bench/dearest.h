@@ -73,4 +73,16 @@ static inline struct builder dearest(uint8_t join, unsigned loops, unsigned sign
     return b;
 }
 
+/* The shapes among which the dearest instant is sought. Read-back signals leave six levels more. */
+struct shape_of_dearest {
+    uint8_t join;
+    unsigned loops, signals;
+};
+
+static const struct shape_of_dearest dearest_shapes[] = {
+    {0x04, 15, SIGNALS}, {0x04, 16, SIGNALS}, {0x04, 17, SIGNALS}, {0x04, 17, 0}, {0x04, 18, 0}, {0x04, 19, 0},
+    {0x05, 15, SIGNALS}, {0x05, 16, SIGNALS}, {0x05, 17, SIGNALS}, {0x05, 17, 0}, {0x05, 18, 0}, {0x05, 19, 0},
+};
+enum { DEAREST_SHAPES = sizeof dearest_shapes / sizeof *dearest_shapes };
+
 #endif

@@ -227,11 +227,7 @@ int main(int count, char **paths)
     for (unsigned j = 0; j < sizeof lengths / sizeof *lengths; j++)
         growth_row(lengths[j]);
     printf("the dearest instants, six signals around the loops, declared or read back, and each tested:\n");
-    for (uint8_t join = 0x04; join <= 0x05; join++) {
-        for (unsigned loops = 15; loops <= 17; loops++)
-            most = fmax(most, dearest_row(join, loops, SIGNALS));
-        for (unsigned loops = 17; loops <= 19; loops++) /* read-back signals leave six levels more */
-            most = fmax(most, dearest_row(join, loops, 0));
-    }
+    for (unsigned i = 0; i < DEAREST_SHAPES; i++)
+        most = fmax(most, dearest_row(dearest_shapes[i].join, dearest_shapes[i].loops, dearest_shapes[i].signals));
     printf("the dearest takes %.2f ms\n", most / 1e6);
 }

@@ -1,22 +1,29 @@
 /*
  * The stack that a call takes, by painting: the call runs on a stack of its own that is filled with one byte before, and
  * the lowest byte that changed tells. What the same call of an empty function takes is left out. Every sequence has depth
- * 64, the greatest: one command with parts 63 times, inside it a leaf, and its other parts leaves beside. Six signals stand
- * around it in the sequence, or outside by the read-back set, which takes no level of the depth.
+ * 64, the greatest: commands with parts 63 times, inside them a leaf, and their other parts leaves beside. Six signals stand
+ * around it in the sequence, or outside by the read-back set, which takes no level of the depth. The most of the check and
+ * of the tick is held to what include/intake.h promises, and a thread of the size that it names runs the deepest calls.
  */
 #include "intake.h"
 
+#include <pthread.h>
 #include <stdio.h>
+#include <stdlib.h>
 #include <string.h>
+#include <sys/wait.h>
 #include <ucontext.h>
+#include <unistd.h>
 
-enum { STACK = 65536, PAINT = 0xA5, LEVELS = 63, HATCH = 31, MOST = 24576 };
+enum { STACK = 65536, PAINT = 0xA5, DEPTH = 64, HATCH = 31, SIGNALS = 6, MIXES = 2000, FAR = 1024 };
 
 static uint8_t stack[STACK], sequence[1024], state[INTAKE_STATE_LENGTH], answer[INTAKE_ANSWER_LENGTH];
 static size_t length;
 static uint32_t input, read_back;
 static uint8_t number;
 static ucontext_t here, there;
+static unsigned passed, failed;
+static size_t empty, most_check, most_tick;
 
 static void nothing(void) { number = INTAKE_ACCEPTED; }
 static void check(void) { number = intake_check(sequence, length, read_back); }
@@ -41,103 +48,217 @@ static size_t taken(void (*call)(void))
     return sizeof stack - low;
 }
 
+/* Bytes with their number. */
+struct bytes {
+    const char *at;
+    size_t count;
+};
+
+#define BYTES(text) {text, sizeof text - 1}
+
 /* A command with parts, as it stands around the next level. */
 struct nest {
-    const char *name, *before, *after;
-    size_t before_length, after_length;
+    const char *name;
+    struct bytes before, after;
 };
-
-#define NEST(name, before, after) {name, before, after, sizeof before - 1, sizeof after - 1}
 
 static const struct nest nests[] = {
-    NEST("sequences, in the first part", "\x04", "\x00"),
-    NEST("sequences, in the second part", "\x04\x00", ""),
-    NEST("parallels, in the first part", "\x05", "\x00"),
-    NEST("parallels, in the second part", "\x05\x00", ""),
-    NEST("loops", "\x06", ""),
-    NEST("presents, in the first part", "\x07\x00", "\x00"),
-    NEST("presents, in the second part", "\x07\x00\x00", ""),
-    NEST("try blocks", "\x09", ""),
-    NEST("suspends", "\x0B\x00", ""),
+    {"sequences, in the first part", BYTES("\x04"), BYTES("\x00")},
+    {"sequences, in the second part", BYTES("\x04\x00"), BYTES("")},
+    {"parallels, in the first part", BYTES("\x05"), BYTES("\x00")},
+    {"parallels, in the second part", BYTES("\x05\x00"), BYTES("")},
+    {"loops", BYTES("\x06"), BYTES("")},
+    {"presents, in the first part", BYTES("\x07\x00"), BYTES("\x00")},
+    {"presents, in the second part", BYTES("\x07\x00\x00"), BYTES("")},
+    {"try blocks", BYTES("\x09"), BYTES("")},
+    {"suspends", BYTES("\x0B\x00"), BYTES("")},
+};
+enum { NESTS = sizeof nests / sizeof *nests };
+static const struct nest signal_nest = {"signals", BYTES("\x08\x00"), BYTES("")};
+static const struct nest hatch = {"a suspend by a signal that no other command names", BYTES("\x0B\x1F"), BYTES("")};
+
+/* The innermost statement, and its own depth. */
+struct leaf {
+    struct bytes bytes;
+    unsigned depth;
 };
 
-/*
- * The innermost statement is a pause, or a pause and a setpause of its label, for which row 10 walks once more. The
- * outermost may be a suspend, by a signal that no other command names.
- */
-static void build(const struct nest *nest, unsigned signals, int setpause, int suspend)
+static const struct leaf pause_0 = {BYTES("\x01\x00"), 1};
+static const struct leaf set = {BYTES("\x05\x01\x00\x0A\x00"), 2};       /* for which row 10 walks once more */
+static const struct leaf exclusive = {BYTES("\x04\x01\x00\x01\x01"), 2}; /* pauses 0 and 1 are no valid set */
+static const struct leaf ill_formed = {BYTES("\x04\x01\x01\x04\x05\x0A\x02\x01\x03\x01\x02"), 4};
+
+static void append(struct bytes bytes)
 {
-    unsigned levels = LEVELS - (setpause ? 1 : 0) - (suspend ? 1 : 0);
-    const char *leaf = setpause ? "\x05\x01\x00\x0A\x00" : "\x01\x00";
-    size_t leaf_length = setpause ? 5 : 2;
-    length = 0;
-    if (suspend) {
-        sequence[length++] = 0x0B;
-        sequence[length++] = HATCH;
-    }
-    for (unsigned s = 0; s < signals; s++) {
-        sequence[length++] = 0x08;
-        sequence[length++] = (uint8_t)s;
-    }
-    for (unsigned i = signals; i < levels; i++, length += nest->before_length)
-        memcpy(sequence + length, nest->before, nest->before_length);
-    memcpy(sequence + length, leaf, leaf_length);
-    length += leaf_length;
-    for (unsigned i = signals; i < levels; i++, length += nest->after_length)
-        memcpy(sequence + length, nest->after, nest->after_length);
+    memcpy(sequence + length, bytes.at, bytes.count);
+    length += bytes.count;
 }
 
-/* One call, counted beyond the empty one; it must be accepted. */
-static size_t used(void (*call)(void), size_t empty, int *failed)
+/* Levels from the outermost on, `depth` in all with those of the leaf. */
+static void build(const struct nest *const *levels, const struct leaf *leaf, unsigned depth)
 {
-    size_t bytes = taken(call) - empty;
-    *failed |= number != INTAKE_ACCEPTED;
+    unsigned count = depth - leaf->depth;
+    length = 0;
+    for (unsigned i = 0; i < count; i++)
+        append(levels[i]->before);
+    append(leaf->bytes);
+    for (unsigned i = count; i-- > 0;)
+        append(levels[i]->after);
+}
+
+/* One nest on all levels but the outermost: a suspend by the hatch, and signals. */
+static void build_one(const struct nest *nest, unsigned signals, int suspended, const struct leaf *leaf, unsigned depth)
+{
+    const struct nest *levels[DEPTH + 1];
+    for (unsigned i = 0; i <= DEPTH; i++)
+        levels[i] = suspended && i == 0 ? &hatch : i < signals + (suspended ? 1 : 0) ? &signal_nest : nest;
+    build(levels, leaf, depth);
+}
+
+/* One call, counted beyond the empty one; it must give the number. */
+static size_t used(void (*call)(void), uint8_t expected, const char *what)
+{
+    size_t bytes = taken(call) - empty, *most = call == check ? &most_check : &most_tick;
+    *most = bytes > *most ? bytes : *most;
+    if (number == expected) {
+        passed++;
+    } else {
+        failed++;
+        printf("FAILED %s: the number is %u and not %u\n", what, (unsigned)number, (unsigned)expected);
+    }
     return bytes;
 }
 
-/* A machine that waits at label 0. */
-static void wait_at_0(void)
+/* A machine in a phase, with the labels 0 to 7 in a byte. */
+static void stand(uint8_t phase, uint8_t labels)
 {
     memset(state, 0, sizeof state);
-    state[0] = 1;
-    state[1] = 1;
+    state[INTAKE_STATE_PHASE] = phase;
+    state[INTAKE_STATE_LABELS] = labels;
+}
+
+static size_t larger(size_t a, size_t b) { return a > b ? a : b; }
+
+/* The greatest of the calls that rows 6, 10, 11 and 12 turn down. */
+static size_t refused(const struct nest *nest, unsigned signals)
+{
+    size_t bytes;
+    stand(INTAKE_PHASE_WAITING, 1);
+    build_one(nest, signals, 0, &pause_0, DEPTH + 1);
+    bytes = larger(used(check, INTAKE_TOO_DEEP, nest->name), used(tick, INTAKE_TOO_DEEP, nest->name));
+    build_one(nest, signals, 0, &ill_formed, DEPTH);
+    bytes = larger(bytes, used(check, INTAKE_NOT_WELL_FORMED, nest->name));
+    bytes = larger(bytes, used(tick, INTAKE_NOT_WELL_FORMED, nest->name));
+    build_one(nest, signals, 0, &exclusive, DEPTH);
+    stand(INTAKE_PHASE_WAITING, 3);
+    bytes = larger(bytes, used(tick, INTAKE_INVALID_STATE, nest->name));
+    stand(INTAKE_PHASE_OVER, 0);
+    return larger(bytes, used(tick, INTAKE_OVER, nest->name));
+}
+
+static void row(const struct nest *nest, unsigned signals, const char *around)
+{
+    build_one(nest, signals, 0, &set, DEPTH);
+    size_t triggers = used(check, INTAKE_ACCEPTED, nest->name);
+    build_one(nest, signals, 0, &pause_0, DEPTH);
+    input = 0;
+    size_t checked = used(check, INTAKE_ACCEPTED, nest->name);
+    stand(INTAKE_PHASE_FRESH, 0);
+    size_t fresh = used(tick, INTAKE_ACCEPTED, nest->name);
+    stand(INTAKE_PHASE_WAITING, 1);
+    size_t resumed = used(tick, INTAKE_ACCEPTED, nest->name);
+    build_one(nest, signals, 1, &pause_0, DEPTH);
+    input = UINT32_C(1) << HATCH;
+    stand(INTAKE_PHASE_WAITING, 1);
+    size_t stopped = used(tick, INTAKE_ACCEPTED, nest->name);
+    printf("%-32s %7zu %7zu %7zu %7zu %7zu %7zu%s\n", nest->name, triggers, checked, fresh, resumed, stopped,
+           refused(nest, signals), around);
+}
+
+/* Levels of several nests and signals at random, from a fixed seed: fresh, and resumed from the pause. */
+static void mixed(void)
+{
+    unsigned of = 1 + (unsigned)rand() % 4, signals = (unsigned)rand() % (SIGNALS + 1);
+    unsigned pool[4];
+    const struct nest *levels[DEPTH + 1];
+    for (unsigned i = 0; i < of; i++)
+        pool[i] = (unsigned)rand() % NESTS;
+    for (unsigned i = 0; i <= DEPTH; i++)
+        levels[i] = &nests[pool[(unsigned)rand() % of]];
+    for (unsigned i = 0; i < signals; i++)
+        levels[(unsigned)rand() % DEPTH] = &signal_nest;
+    read_back = (UINT32_C(1) << (SIGNALS - signals)) - 1;
+    input = (uint32_t)rand();
+    build(levels, rand() % 2 ? &set : &pause_0, DEPTH);
+    used(check, INTAKE_ACCEPTED, "a mixed sequence");
+    stand(INTAKE_PHASE_FRESH, 0);
+    used(tick, INTAKE_ACCEPTED, "a mixed sequence");
+    stand(INTAKE_PHASE_WAITING, 1);
+    used(tick, INTAKE_ACCEPTED, "a mixed sequence");
+}
+
+/* Runs the deepest calls on the thread's own stack. */
+static void *deepest(void *unused)
+{
+    (void)unused;
+    read_back = (UINT32_C(1) << SIGNALS) - 1;
+    for (unsigned i = 0; i < NESTS; i++) {
+        build_one(&nests[i], 0, 0, &pause_0, DEPTH);
+        check();
+        stand(INTAKE_PHASE_WAITING, 1);
+        tick();
+    }
+    return NULL;
+}
+
+/* Whether a thread with so much stack, in a process of its own, comes through the deepest calls. */
+static int thread_lives(size_t size)
+{
+    pid_t child = fork();
+    if (child == 0) {
+        pthread_attr_t attributes;
+        pthread_t thread;
+        pthread_attr_init(&attributes);
+        _exit(pthread_attr_setstacksize(&attributes, size) != 0 || pthread_create(&thread, &attributes, deepest, NULL) != 0 ||
+              pthread_join(thread, NULL) != 0 || number != INTAKE_ACCEPTED);
+    }
+    int status = 0;
+    return child > 0 && waitpid(child, &status, 0) == child && WIFEXITED(status) && WEXITSTATUS(status) == 0;
+}
+
+/* Holds what was measured to what the header promises. */
+static void hold(const char *what, size_t most, size_t promised)
+{
+    int within = most <= promised;
+    passed += within;
+    failed += !within;
+    printf("%s: the most is %zu bytes, promised at most %zu%s\n", what, most, promised,
+           !within ? ": FAILED" : most + FAR < promised ? ": far below what is promised" : "");
 }
 
 int main(void)
 {
-    int failed = 0;
-    size_t most = 0, empty = taken(nothing);
-    printf("%-32s %7s %7s %7s %7s %7s\n", "bytes of stack at depth 64", "row 10", "check", "fresh", "resumed", "stopped");
     static const struct { unsigned signals; uint32_t read_back; const char *name; } around[] = {
-        {0, 0, ""}, {6, 0, "  inside six signals"}, {0, 0x3F, "  with six read back"},
+        {0, 0, ""}, {SIGNALS, 0, "  inside six signals"}, {0, 0x3F, "  with six read back"},
     };
+    empty = taken(nothing);
+    printf("%-32s %7s %7s %7s %7s %7s %7s\n", "bytes of stack at depth 64", "row 10", "check", "fresh", "resumed", "stopped",
+           "refused");
     for (size_t a = 0; a < sizeof around / sizeof *around; a++)
-        for (size_t i = 0; i < sizeof nests / sizeof *nests; i++) {
-            unsigned signals = around[a].signals;
+        for (size_t i = 0; i < NESTS; i++) {
             read_back = around[a].read_back;
-            build(&nests[i], signals, 1, 0);
-            size_t triggers = used(check, empty, &failed);
-            build(&nests[i], signals, 0, 0);
-            input = 0;
-            size_t checked = used(check, empty, &failed);
-            memset(state, 0, sizeof state);
-            size_t fresh = used(tick, empty, &failed);
-            wait_at_0();
-            size_t resumed = used(tick, empty, &failed);
-            build(&nests[i], signals, 0, 1);
-            input = UINT32_C(1) << HATCH;
-            wait_at_0();
-            size_t stopped = used(tick, empty, &failed);
-            size_t row[] = {triggers, checked, fresh, resumed, stopped};
-            printf("%-32s", nests[i].name);
-            for (size_t j = 0; j < sizeof row / sizeof *row; j++) {
-                printf(" %7zu", row[j]);
-                most = row[j] > most ? row[j] : most;
-            }
-            printf("%s\n", around[a].name);
+            row(&nests[i], around[a].signals, around[a].name);
         }
-    failed |= most > MOST;
-    printf("the most is %zu, of at most %d\n", most, MOST);
-    printf("%d passed, %d failed\n", !failed, failed);
-    return failed;
+    srand(1);
+    for (unsigned i = 0; i < MIXES; i++)
+        mixed();
+    hold("intake_check", most_check, INTAKE_STACK_CHECK);
+    hold("intake_tick", most_tick, INTAKE_STACK_TICK);
+    int lives = thread_lives(INTAKE_STACK_THREAD);
+    passed += lives;
+    failed += !lives;
+    printf("a thread of %d bytes %s; one of %d %s\n", INTAKE_STACK_THREAD, lives ? "ticks" : "FAILED",
+           INTAKE_STACK_THREAD / 2, thread_lives(INTAKE_STACK_THREAD / 2) ? "ticks too" : "does not");
+    printf("%u passed, %u failed\n", passed, failed);
+    return failed != 0;
 }

@@ -1,9 +1,45 @@
-/* The intake sequencer for hosts in C and C++. Link libintake.a (rt staticlib intake); nothing else is needed. */
+/*
+ * The intake sequencer for hosts in C (C90 or later) and C++ (C++98 or later). Link libintake.a.
+ *
+ * What the archive requires, each line tested by `make figures` and the host tests:
+ *
+ * - Target: x86-64, System V calling convention, ELF; instructions of the base set, which has SSE2. There is no other today.
+ * - Functions of C: memset
+ * - Stack: INTAKE_STACK_CHECK and INTAKE_STACK_TICK bytes at most below the caller's frame, whatever the arguments.
+ * - Code and jump tables: INTAKE_CODE_LENGTH bytes at most. No heap, no variable outside the stack, no other file.
+ * - Dearest instant found: 4.8 ms, 1,075,519 reactions (Intel Xeon, family 6 model 207, 2.3 GHz; make bench-tick)
+ */
 #ifndef INTAKE_H
 #define INTAKE_H
 
 #include <stddef.h>
 #include <stdint.h>
+
+/* The version of this interface. The first number moves when a host must change. */
+#define INTAKE_VERSION_MAJOR 1
+#define INTAKE_VERSION_MINOR 0
+#define INTAKE_VERSION_PATCH 0
+#define INTAKE_VERSION (INTAKE_VERSION_MAJOR * 10000 + INTAKE_VERSION_MINOR * 100 + INTAKE_VERSION_PATCH)
+
+/*
+ * Bytes of stack that a call takes at most, measured at depth 64 by painting and rounded up, and what to give a thread of
+ * Linux that only ticks: as much again for the thread's own data. A host adds what its own functions take.
+ */
+#define INTAKE_STACK_CHECK 15360
+#define INTAKE_STACK_TICK 18432
+#define INTAKE_STACK_THREAD 32768
+
+/* Bytes of code and jump tables in the archive, rounded up. */
+#define INTAKE_CODE_LENGTH 8192
+
+/* A function of this header that needs nothing of the archive. */
+#if defined(__cplusplus) || (defined(__STDC_VERSION__) && __STDC_VERSION__ >= 199901L)
+#define INTAKE_INLINE static inline
+#elif defined(__GNUC__)
+#define INTAKE_INLINE static __inline__
+#else
+#define INTAKE_INLINE static
+#endif
 
 #ifdef __cplusplus
 extern "C" {
@@ -152,6 +188,104 @@ uint8_t intake_check(const uint8_t *sequence, size_t length, uint32_t read_back)
  */
 uint8_t intake_tick(const uint8_t *sequence, size_t sequence_length, uint8_t *state, size_t state_length,
                     uint32_t input, uint32_t read_back, uint8_t *answer, size_t answer_length);
+
+/* The number in `count` bytes, at most 4, lowest first. */
+INTAKE_INLINE uint32_t intake_number_in(const uint8_t *bytes, size_t count)
+{
+    uint32_t number = 0;
+    while (count > 0)
+        number = number << 8 | bytes[--count];
+    return number;
+}
+
+/* Whether bit `member` of a set of `length` bytes is there. A member beyond the set is not. */
+INTAKE_INLINE int intake_has(const uint8_t *set, size_t length, unsigned member)
+{
+    return member / 8 < length && (set[member / 8] >> member % 8 & 1) != 0;
+}
+
+/* The fields of the answer record. */
+INTAKE_INLINE uint8_t intake_answer_code(const uint8_t *answer)
+{
+    return answer[INTAKE_ANSWER_CODE];
+}
+
+INTAKE_INLINE uint8_t intake_answer_kind(const uint8_t *answer)
+{
+    return answer[INTAKE_ANSWER_KIND];
+}
+
+INTAKE_INLINE uint16_t intake_answer_place(const uint8_t *answer)
+{
+    return (uint16_t)intake_number_in(answer + INTAKE_ANSWER_PLACE, INTAKE_ANSWER_PLACE_LENGTH);
+}
+
+/* Bit s is signal s. */
+INTAKE_INLINE uint32_t intake_answer_emitted(const uint8_t *answer)
+{
+    return intake_number_in(answer + INTAKE_ANSWER_EMITTED, INTAKE_ANSWER_EMITTED_LENGTH);
+}
+
+INTAKE_INLINE uint32_t intake_answer_reactions(const uint8_t *answer)
+{
+    return intake_number_in(answer + INTAKE_ANSWER_REACTIONS, INTAKE_ANSWER_REACTIONS_LENGTH);
+}
+
+/* Whether the instant emits the signal. */
+INTAKE_INLINE int intake_emits(const uint8_t *answer, unsigned signal)
+{
+    return intake_has(answer + INTAKE_ANSWER_EMITTED, INTAKE_ANSWER_EMITTED_LENGTH, signal);
+}
+
+/* The fields of the state record. The label set has INTAKE_STATE_LABELS_LENGTH bytes. */
+INTAKE_INLINE uint8_t intake_state_phase(const uint8_t *state)
+{
+    return state[INTAKE_STATE_PHASE];
+}
+
+INTAKE_INLINE const uint8_t *intake_state_labels(const uint8_t *state)
+{
+    return state + INTAKE_STATE_LABELS;
+}
+
+/* Whether the machine waits at the pause with the label. */
+INTAKE_INLINE int intake_waits_at(const uint8_t *state, unsigned label)
+{
+    return intake_has(state + INTAKE_STATE_LABELS, INTAKE_STATE_LABELS_LENGTH, label);
+}
+
+/* What the number of a call means, in words. */
+INTAKE_INLINE const char *intake_text(unsigned number)
+{
+    switch (number) {
+    case INTAKE_ACCEPTED: return "accepted";
+    case INTAKE_BUFFER_LENGTH: return "the state buffer or the answer buffer has another length";
+    case INTAKE_SEQUENCE_LENGTH: return "the sequence has no bytes, or more than 1,024";
+    case INTAKE_UNKNOWN_COMMAND: return "unknown command";
+    case INTAKE_CUT_SHORT: return "the sequence ends within a command";
+    case INTAKE_OPERAND_RANGE: return "an operand is outside its range";
+    case INTAKE_TOO_DEEP: return "commands nested more than 64 deep, or signals more than six deep";
+    case INTAKE_BYTES_AFTER: return "bytes after the statement";
+    case INTAKE_PAUSE_TWICE: return "two pauses have one label";
+    case INTAKE_SETPAUSE_WITHOUT_PAUSE: return "a setpause has a label that no pause has";
+    case INTAKE_NOT_WELL_FORMED: return "pauses that exclude each other can be set together";
+    case INTAKE_INVALID_STATE: return "the state record is not one of this sequence";
+    case INTAKE_OVER: return "the machine is over";
+    default: return "no number of a call";
+    }
+}
+
+/* What the kind of an error means, in words. */
+INTAKE_INLINE const char *intake_kind_text(unsigned kind)
+{
+    switch (kind) {
+    case INTAKE_NO_ERROR: return "no error";
+    case INTAKE_INSTANTANEOUS_LOOP: return "a loop whose body ends in the instant in which it began";
+    case INTAKE_NOT_REACTIVE: return "a signal that is emitted only if absent";
+    case INTAKE_NOT_STRONGLY_DETERMINISTIC: return "a signal that is emitted only if present";
+    default: return "no kind of an error";
+    }
+}
 
 #ifdef __cplusplus
 }

@@ -1,0 +1,150 @@
+#!/usr/bin/env python3
+"""Holds what include/intake.h and README.md say that the archive requires to what is measured.
+
+  host/figures.py ARCHIVE STACK-PROGRAM DEAREST-PROGRAM    compares, and prints both
+  host/figures.py --write                                  writes README's table from the header
+
+The figures stand in the header alone. The programs are those of host/stack.c and host/dearest.c. A control object shows
+that a further function, a variable or a later instruction would be noticed. The last line is 'N passed, M failed'.
+"""
+import re
+import subprocess
+import sys
+import tempfile
+from pathlib import Path
+
+ROOT = Path(__file__).resolve().parent.parent
+HEADER, README = ROOT / "include/intake.h", ROOT / "README.md"
+EXPORTED = ["intake_check", "intake_tick"]
+# instructions that name no vector register and are not in the base set of x86-64; objdump's tzcnt is bsf with a prefix
+# that an older processor passes over, and LLVM emits it for all
+LATER = "andn bextr blsi blsmsk blsr bzhi crc32 lzcnt movbe mulx pdep pext popcnt rorx sarx shlx shrx adcx adox".split()
+VECTOR = set("""movaps movups movapd movupd movdqa movdqu movd movq movss movsd xorps andps orps pxor por pand pandn paddb paddw
+    paddd paddq psubb psubw psubd psubq pcmpeqb pcmpeqw pcmpeqd pcmpgtb pcmpgtw pcmpgtd pslldq psrldq psllq psllw pslld psrlq
+    psrlw psrld pshufd pshufhw pshuflw punpcklbw punpcklwd punpckldq punpcklqdq punpckhbw punpckhwd punpckhdq punpckhqdq
+    pmovmskb movmskps movhlps movlhps shufps shufpd unpcklps unpcklpd""".split())
+CONTROL = """
+#include <stdlib.h>
+int kept;
+void *control(unsigned long n) { kept++; return malloc((unsigned long)__builtin_popcountl(n)); }
+"""
+
+passed = failed = 0
+
+
+def expect(holds, what, stated, measured):
+    global passed, failed
+    passed += bool(holds)
+    failed += not holds
+    print(f"{what:32} {stated!s:>40} {measured!s:>40}{'' if holds else '  FAILED'}")
+
+
+def printed(*words):
+    return subprocess.run(words, check=True, capture_output=True, text=True).stdout
+
+
+def stated():
+    """What the header states."""
+    text = HEADER.read_text(encoding="utf-8")
+    figures = {name: int(value) for name, value in re.findall(r"^#define INTAKE_(\w+) (\d+)$", text, re.M)}
+    for name, what in ("functions", "Functions of C"), ("dearest", "Dearest instant found"):
+        figures[name] = re.search(rf"^ \* - {what}: (.*)$", text, re.M)[1]
+    return figures
+
+
+def table(figures):
+    """README's table of these figures."""
+    functions = ", ".join(f"`{name}`" for name in figures["functions"].split(", "))
+    return f"""\
+| | |
+|---|---|
+| target | x86-64, System V calling convention, ELF; base instructions, so SSE2 and nothing later; there is no other target today |
+| functions of C | {functions}, and nothing else |
+| stack of `intake_check` | at most {figures["STACK_CHECK"]:,} bytes |
+| stack of `intake_tick` | at most {figures["STACK_TICK"]:,} bytes |
+| a thread that only ticks | give it {figures["STACK_THREAD"]:,} bytes |
+| code and jump tables | at most {figures["CODE_LENGTH"]:,} bytes |
+| heap, variables outside the stack, files | none |
+| the dearest instant found | {figures["dearest"].replace("make bench-tick", "`make bench-tick`")} |
+"""
+
+
+def undefined(path):
+    return sorted(set(re.findall(r"^ +U (\S+)$", printed("nm", "-u", path), re.M)))
+
+
+def defined(path):
+    return sorted(set(re.findall(r"^[0-9a-f]+ [A-Z] (\S+)$", printed("nm", "-g", "--defined-only", path), re.M)))
+
+
+def sizes(path):
+    """Bytes of code with read-only data, of data, and of data that begins at 0."""
+    rows = re.findall(r"^ +(\d+)\t +(\d+)\t +(\d+)\t", printed("size", path), re.M)
+    return tuple(sum(int(row[i]) for row in rows) for i in range(3))
+
+
+def later(path):
+    """The instructions that a processor with no more than SSE2 may not have."""
+    found = set()
+    for line in printed("objdump", "-d", "--no-show-raw-insn", path).splitlines():
+        word = re.match(r" +[0-9a-f]+:\t(?:rep[a-z]* |lock |data16 )*([a-z0-9]+) *([^<#]*)", line)
+        if word and (word[1].rstrip("lqw") in LATER or word[1] in LATER or re.search(r"%[yz]mm|%k\d", word[2])
+                     or "%xmm" in word[2] and word[1] not in VECTOR):
+            found.add(word[1])
+    return sorted(found)
+
+
+def control_noticed():
+    with tempfile.TemporaryDirectory() as folder:
+        source, control = f"{folder}/control.c", f"{folder}/control.o"
+        Path(source).write_text(CONTROL, encoding="ascii")
+        subprocess.run(["gcc", "-O2", "-mpopcnt", "-c", source, "-o", control], check=True)
+        return undefined(control) == ["malloc"] and sum(sizes(control)[1:]) == 4 and later(control) == ["popcnt"]
+
+
+def compare(archive, stack, dearest):
+    figures = stated()
+    print(f"{'':32} {'stated':>40} {'measured':>40}")
+    needed = ", ".join(undefined(archive))
+    expect(needed == figures["functions"], "functions of C", figures["functions"], needed)
+    names = defined(archive)
+    expect(names == EXPORTED, "functions that it defines", ", ".join(EXPORTED), ", ".join(names))
+    code, data, zeros = sizes(archive)
+    expect(0 < code <= figures["CODE_LENGTH"], "code and jump tables", figures["CODE_LENGTH"], code)
+    expect(data + zeros == 0, "variables outside the stack", 0, data + zeros)
+    expect(not later(archive), "instructions later than SSE2", "none", ", ".join(later(archive)) or "none")
+    shown = printed(stack)
+    for name in "check", "tick":
+        most = int(re.search(rf"^intake_{name}: the most is (\d+) bytes", shown, re.M)[1])
+        promise = figures[f"STACK_{name.upper()}"]
+        expect(most <= promise, f"stack of intake_{name}", promise, most)
+        if promise - most >= 1024:
+            print(f"{'':32} the promise is far above: {-(-most // 1024) * 1024} would do")
+    time, reactions = re.search(r"^dearest instant: (\S+ ms), (\d+) reactions$", printed(dearest), re.M).groups()
+    expect(f"{int(reactions):,} reactions" in figures["dearest"], "dearest instant", figures["dearest"].split(" (")[0],
+           f"{time}, {int(reactions):,} reactions")
+    expect(table(figures) in README.read_text(encoding="utf-8"), "README's table", "as the header has it",
+           "--write makes it so")
+    expect(control_noticed(), "a control object is noticed", "", "")
+    print(f"{passed} passed, {failed} failed")
+    return failed != 0
+
+
+def write():
+    """Puts the table in the place of the one that stands in README's section."""
+    text = README.read_text(encoding="utf-8")
+    mended, count = re.subn(r"(?<=\n)\| \| \|\n\|---\|---\|\n\| target \|.*\n(?:\|.*\n)*", lambda _: table(stated()), text)
+    if count != 1:
+        print("README.md has no table of the figures, or several", file=sys.stderr)
+        return 1
+    README.write_text(mended, encoding="utf-8")
+    return 0
+
+
+if __name__ == "__main__":
+    if sys.argv[1:] == ["--write"]:
+        sys.exit(write())
+    if len(sys.argv) != 4:
+        print("usage: figures.py ARCHIVE STACK-PROGRAM DEAREST-PROGRAM, or figures.py --write", file=sys.stderr)
+        sys.exit(2)
+    sys.exit(compare(*sys.argv[1:]))

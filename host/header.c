@@ -1,0 +1,96 @@
+/*
+ * The functions of include/intake.h that need nothing of the archive, on records made by hand. Compiled as every C from C90
+ * on and as C++, so it says what both say.
+ */
+#include "intake.h"
+
+#include <stdio.h>
+#include <string.h>
+
+enum { SIGNALS = 8 * INTAKE_ANSWER_EMITTED_LENGTH, LABELS = 8 * INTAKE_STATE_LABELS_LENGTH };
+
+static unsigned passed, failed;
+
+static void expect(int holds, const char *what, unsigned member)
+{
+    if (holds) {
+        passed++;
+    } else {
+        failed++;
+        printf("FAILED %s, %u\n", what, member);
+    }
+}
+
+/* Each field has bytes that no other field has. */
+static void answers(void)
+{
+    uint8_t answer[INTAKE_ANSWER_LENGTH];
+    unsigned i, signal;
+    for (i = 0; i < INTAKE_ANSWER_LENGTH; i++)
+        answer[i] = (uint8_t)(0xF0 + i);
+    expect(intake_answer_code(answer) == 0xF0, "code", 0);
+    expect(intake_answer_kind(answer) == 0xF1, "kind", 0);
+    expect(intake_answer_place(answer) == 0xF3F2, "place", 0);
+    expect(intake_answer_emitted(answer) == 0xF7F6F5F4u, "emitted set", 0);
+    expect(intake_answer_reactions(answer) == 0xFBFAF9F8u, "reactions", 0);
+    for (signal = 0; signal < SIGNALS; signal++) {
+        uint32_t set = (uint32_t)1 << signal;
+        memset(answer, 0, sizeof answer);
+        for (i = 0; i < INTAKE_ANSWER_EMITTED_LENGTH; i++)
+            answer[INTAKE_ANSWER_EMITTED + i] = (uint8_t)(set >> 8 * i & 0xFF);
+        expect(intake_answer_emitted(answer) == set, "emitted set of one signal", signal);
+        for (i = 0; i < SIGNALS + 16; i++)
+            expect(intake_emits(answer, i) == (i == signal), "emits", i);
+    }
+    memset(answer, 0xFF, sizeof answer);
+    expect(intake_answer_place(answer) == INTAKE_PLACE_READ_BACK, "place of a read-back signal", 0);
+}
+
+static void states(void)
+{
+    uint8_t state[INTAKE_STATE_LENGTH];
+    unsigned label, other;
+    for (label = 0; label < LABELS; label++) {
+        memset(state, 0, sizeof state);
+        state[INTAKE_STATE_PHASE] = INTAKE_PHASE_WAITING;
+        state[INTAKE_STATE_LABELS + label / 8] = (uint8_t)(1 << label % 8);
+        expect(intake_state_phase(state) == INTAKE_PHASE_WAITING, "phase", label);
+        expect(intake_state_labels(state)[label / 8] == 1 << label % 8, "labels", label);
+        for (other = 0; other < LABELS + 16; other++)
+            expect(intake_waits_at(state, other) == (other == label), "waits at", other);
+    }
+    expect(!intake_waits_at(state, (unsigned)-1), "waits at a member beyond all", label);
+}
+
+/* Every number, kind and two beyond have words of their own; the two beyond share theirs. */
+static void texts(void)
+{
+    unsigned i, j;
+    for (i = 0; i <= INTAKE_OVER + 2; i++)
+        for (j = 0; j < i; j++)
+            expect((strcmp(intake_text(i), intake_text(j)) == 0) == (j > INTAKE_OVER), "text of a number", i);
+    for (i = 0; i <= INTAKE_NOT_STRONGLY_DETERMINISTIC + 2; i++)
+        for (j = 0; j < i; j++)
+            expect((strcmp(intake_kind_text(i), intake_kind_text(j)) == 0) == (j > INTAKE_NOT_STRONGLY_DETERMINISTIC),
+                   "text of a kind", i);
+    expect(strcmp(intake_text(INTAKE_OVER), "the machine is over") == 0, "text", INTAKE_OVER);
+    expect(strcmp(intake_text(255), "no number of a call") == 0, "text", 255);
+}
+
+static void lengths(void)
+{
+    expect(INTAKE_STATE_LABELS + INTAKE_STATE_LABELS_LENGTH == INTAKE_STATE_LENGTH, "length of the state record", 0);
+    expect(INTAKE_ANSWER_REACTIONS + INTAKE_ANSWER_REACTIONS_LENGTH == INTAKE_ANSWER_LENGTH, "length of the answer", 0);
+    expect(INTAKE_STACK_THREAD >= INTAKE_STACK_TICK && INTAKE_STACK_TICK >= INTAKE_STACK_CHECK, "stack", 0);
+    expect(INTAKE_VERSION / 10000 == INTAKE_VERSION_MAJOR && INTAKE_VERSION % 100 == INTAKE_VERSION_PATCH, "version", 0);
+}
+
+int main(void)
+{
+    answers();
+    states();
+    texts();
+    lengths();
+    printf("%u passed, %u failed\n", passed, failed);
+    return failed != 0;
+}

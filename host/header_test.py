@@ -1,0 +1,106 @@
+#!/usr/bin/env python3
+"""Compiles include/intake.h as every C and C++ and runs host/header.c, and README's host in C with the archive.
+
+  host/header_test.py ARCHIVE
+
+The last line is 'N passed, M failed'.
+"""
+import re
+import subprocess
+import sys
+import tempfile
+from pathlib import Path
+
+ROOT = Path(__file__).resolve().parent.parent
+WARNED = ["-Wall", "-Wextra", "-Werror", "-pedantic", f"-I{ROOT / 'include'}"]
+STANDARDS = [("gcc", "c", name) for name in ("c90", "c99", "c11", "c17", "c2x")] + [
+    ("g++", "c++", name) for name in ("c++98", "c++11", "c++14", "c++17", "c++20")]
+OTHER = '#include "intake.h"\nextern int other(void);\nint other(void) { return INTAKE_VERSION; }\n'
+# Around README's host: it waits an instant, then signal 0 is emitted only if absent; then the same cut short.
+SURROUNDINGS = """
+#include "intake.h"
+#include <stdio.h>
+
+static unsigned acted, stopped;
+static uint32_t inputs(void) {{ return 0; }}
+static void act_on(uint32_t emitted) {{ acted += emitted == 2; }}
+static void stop(const char *what, unsigned place) {{ stopped++; printf("%s, place %u\\n", what, place); }}
+static void report(const char *what) {{ puts(what); }}
+
+static void host(const uint8_t *sequence, size_t length)
+{{
+{0}
+}}
+
+int main(void)
+{{
+    static const uint8_t sequence[] = {{0x04, 0x02, 0x01, 0x04, 0x01, 0x00, 0x08, 0x00, 0x07, 0x00, 0x00, 0x02, 0x00}};
+    host(sequence, sizeof sequence);
+    host(sequence, sizeof sequence - 1);
+    printf("acted %u, stopped %u\\n", acted, stopped);
+    return 0;
+}}
+"""
+SAID = """\
+a signal that is emitted only if absent, place 6
+the machine is over
+the sequence ends within a command
+acted 1, stopped 1
+"""
+
+passed = failed = 0
+
+
+def add(more_passed, more_failed, what, said=""):
+    global passed, failed
+    passed += more_passed
+    failed += more_failed
+    if more_failed:
+        print(f"FAILED {what}\n{said}")
+
+
+def run(*words):
+    """What a command says, and whether its status is 0."""
+    done = subprocess.run(words, capture_output=True, text=True, check=False)
+    return done.returncode == 0, done.stdout + done.stderr
+
+
+def standard(folder, compiler, language, name):
+    """The header in two files of one program, under one standard."""
+    program, other = f"{folder}/header", Path(folder) / "other.c"
+    other.write_text(OTHER, encoding="ascii")
+    built, said = run(compiler, f"-std={name}", *WARNED, "-x", language, ROOT / "host/header.c", other, "-o", program)
+    if not built:
+        return add(0, 1, f"{compiler} -std={name}", said)
+    _, said = run(program)
+    tally = re.search(r"^(\d+) passed, (\d+) failed$", said, re.M)
+    return add(int(tally[1]), int(tally[2]), name, said) if tally else add(0, 1, name, said)
+
+
+def readme(folder, archive):
+    """README's host, compiled as it stands there, and what it does in a wrong instant."""
+    text = (ROOT / "README.md").read_text(encoding="utf-8")
+    block = re.search(r"```c\n#include \"intake.h\"\n(.*?)```", text, re.S)[1]
+    source, program = Path(folder) / "readme.c", f"{folder}/readme"
+    source.write_text(SURROUNDINGS.format(block), encoding="utf-8")
+    for compiler, language, name in ("gcc", "c", "c11"), ("g++", "c++", "c++17"):
+        built, said = run(compiler, f"-std={name}", *WARNED, "-x", language, source, "-x", "none", archive, "-o", program)
+        if built:
+            _, said = run(program)
+        add(said == SAID, said != SAID, f"README's host as {name}", said)
+
+
+def main(archive):
+    with tempfile.TemporaryDirectory() as folder:
+        for compiler, language, name in STANDARDS:
+            standard(folder, compiler, language, name)
+        readme(folder, archive)
+    print(f"{passed} passed, {failed} failed")
+    return failed != 0
+
+
+if __name__ == "__main__":
+    if len(sys.argv) != 2:
+        print("usage: header_test.py ARCHIVE", file=sys.stderr)
+        sys.exit(2)
+    sys.exit(main(sys.argv[1]))
