@@ -63,12 +63,12 @@ LINES = """\
 | date of the run | 2026-11-16 |
 | functions proved | 8 in 3 crates |
 | axioms that the archive rests on | 0 |
-| crates that rest on an axiom | 1 |
+| programs that rest on axioms | run |
 | must-fail edits refused | 3 |
 | comparisons of the tests | 1,240 |
 | last line of the gate | `1246 passed, 0 failed` |
-| esterel | 0 | 0 | 2 |
-| numbers | 5 | 0 | 1 |
+| esterel | 0 | none of its own | 2 |
+| numbers | 5 | none of its own | 1 |
 | run | 3 | 2: libc::read, libc::write | 0 |
 | `rt` | crates proved from nothing, and must-fail edits refused | 6 |
 | `host-rust` | compares the archive with the check | 1,200 |
@@ -91,6 +91,7 @@ DAMAGED = [  # what is put in the place of what, and a word that the refusal mus
     ("logic=proved functions=5", "logic=not-proved functions=5", "no verdict of numbers"),
     (f"files=1371 sum={LOGIC}\nlibrary", "files=1371 sum=" + "0" * 64 + "\nlibrary", "more than one sum of the logic"),
     ("functions=5 sum=097e4c862dff5811 native=nat", "functions=5 sum=097e4c862dff5811 native=", "more than one list"),
+    ("functions=5 sum", "functions=5 foreign=getpid sum", "numbers declares functions of C"),
     ("rt: target/staticlib/libintake.a has", "rt: another has", "no verdict of the archive"),
     ("{archive}  target", "0" * 64 + "  target", "not the file of that run"),
     ("{header}  include", "0" * 64 + "  include", "not the file of that run"),
