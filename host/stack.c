@@ -236,6 +236,15 @@ static void hold(const char *what, size_t most, size_t promised)
            !within ? ": FAILED" : most + FAR < promised ? ": far below what is promised" : "");
 }
 
+/* Holds a thread with so much stack to what README says of it. */
+static void hold_thread(size_t size, int expected)
+{
+    int lives = thread_lives(size), holds = lives == expected;
+    passed += holds;
+    failed += !holds;
+    printf("a thread of %zu bytes %s%s\n", size, lives ? "ticks" : "crashes", holds ? "" : ": FAILED");
+}
+
 int main(void)
 {
     static const struct { unsigned signals; uint32_t read_back; const char *name; } around[] = {
@@ -254,11 +263,8 @@ int main(void)
         mixed();
     hold("intake_check", most_check, INTAKE_STACK_CHECK);
     hold("intake_tick", most_tick, INTAKE_STACK_TICK);
-    int lives = thread_lives(INTAKE_STACK_THREAD);
-    passed += lives;
-    failed += !lives;
-    printf("a thread of %d bytes %s; one of %d %s\n", INTAKE_STACK_THREAD, lives ? "ticks" : "FAILED",
-           INTAKE_STACK_THREAD / 2, thread_lives(INTAKE_STACK_THREAD / 2) ? "ticks too" : "does not");
+    hold_thread(INTAKE_STACK_THREAD, 1);
+    hold_thread(INTAKE_STACK_THREAD / 2, 0); /* a thread with too little is noticed */
     printf("%u passed, %u failed\n", passed, failed);
     return failed != 0;
 }
