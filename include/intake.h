@@ -1,11 +1,11 @@
 /*
- * The intake sequencer for hosts in C (C90 or later) and C++ (C++98 or later). Link libintake.a.
+ * The intake sequencer for hosts in C (C90 or later, with stdint.h) and C++ (C++98 or later). Link libintake.a.
  *
  * What the archive requires, each line tested by `make figures` and the host tests:
  *
  * - Target: x86-64, System V calling convention, ELF; instructions of the base set, which has SSE2. There is no other today.
  * - Functions of C: memset
- * - Stack: INTAKE_STACK_CHECK and INTAKE_STACK_TICK bytes at most below the caller's frame, whatever the arguments.
+ * - Stack: INTAKE_STACK_CHECK and INTAKE_STACK_TICK bytes below the caller's frame at the greatest depth, as measured.
  * - Code and jump tables: INTAKE_CODE_LENGTH bytes at most. No heap, no variable outside the stack, no other file.
  * - Dearest instant found: 4.8 ms, 1,075,519 reactions (Intel Xeon, family 6 model 207, 2.3 GHz; make bench-tick)
  */
@@ -22,8 +22,8 @@
 #define INTAKE_VERSION (INTAKE_VERSION_MAJOR * 10000 + INTAKE_VERSION_MINOR * 100 + INTAKE_VERSION_PATCH)
 
 /*
- * Bytes of stack that a call takes at most, measured at depth 64 by painting and rounded up, and what to give a thread of
- * Linux that only ticks: as much again for the thread's own data. A host adds what its own functions take.
+ * Bytes of stack that a call takes at most, measured at depth 64 by painting and rounded up; and what to give a thread of
+ * Linux that only ticks, with room for the system's own data there. A host adds what its own functions take.
  */
 #define INTAKE_STACK_CHECK 15360
 #define INTAKE_STACK_TICK 18432
