@@ -158,4 +158,8 @@ if __name__ == "__main__":
     if len(sys.argv) != 4:
         print("usage: figures.py ARCHIVE STACK-PROGRAM DEAREST-PROGRAM, or figures.py --write", file=sys.stderr)
         sys.exit(2)
-    sys.exit(compare(*sys.argv[1:]))
+    try:
+        sys.exit(compare(*sys.argv[1:]))
+    except (OSError, subprocess.CalledProcessError) as error:
+        print(f"figures.py: {error}", file=sys.stderr)
+        sys.exit(2)
