@@ -24,7 +24,7 @@ HOST_TESTS = host-rust host-c host-tick-rust host-tick-c host-example host-stack
 	host-install host-again figures
 
 # The two programs are built anew for whatever archive is named.
-.PHONY: help run show test lib install certificate host $(HOST_TESTS) host-plain show-test certificate-test \
+.PHONY: help run show test lib install certificate host $(HOST_TESTS) host-plain show-test format-test certificate-test \
 	bench bench-check bench-tick bench-run target/host/stack target/host/dearest
 
 help: # lists the targets
@@ -114,6 +114,9 @@ host-plain: target/plain/libintake.a # runs the host tests against plain C, with
 
 show-test: # tests tools/show
 	tools/test_show.py
+
+format-test: # holds the tables of docs/FORMAT.md, and what CONTRIBUTING.md quotes, to what they repeat
+	tools/test_format.py
 
 bench: bench-check bench-tick # times the check and the tick against plain C
 

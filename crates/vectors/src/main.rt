@@ -1,6 +1,6 @@
 // Runs the vectors on standard input through the tick: the bays of 01 that are not marked, the worked reactions of 003 and
-// 002, and calls that 01 turns down. A vector prints its title, then a line for each call. The file stdout was written by
-// hand from the papers.
+// 002, statements of 000, 001 and 004, and calls that 01 turns down. A vector prints its title, then a line for each call.
+// The file stdout was written by hand from the papers.
 //
 // A line of the input is empty, a comment (#), a title, or an indented line of the vector below its title: bytes of the
 // sequence, its read-back set, or the inputs of a machine. The file stdin shows each form at its top. A malformed line ends the

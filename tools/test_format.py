@@ -1,0 +1,313 @@
+#!/usr/bin/env python3
+"""Holds the tables of docs/FORMAT.md to what they repeat: the definitions, the header, tools/show and the hosts' tables;
+and what CONTRIBUTING.md quotes to the repository: an edit, a vector, targets, crates and links.
+
+Each check is a function of the page's text that gives its faults. The page itself must have none, and a page with one cell
+or quotation changed must have some: each that is checked is changed once. The last line is 'N passed, M failed'.
+"""
+import functools
+import importlib.machinery
+import importlib.util
+import re
+import sys
+from pathlib import Path
+
+ROOT = Path(__file__).resolve().parent.parent
+PAGE = "docs/FORMAT.md"
+OPERANDS = {"label l": "l", "signal s": "s", "exit n": "n", "–": ""}
+
+passed = failed = 0
+
+
+def expect(holds, what):
+    global passed, failed
+    passed += bool(holds)
+    failed += not holds
+    if not holds:
+        print(f"FAILED {what}")
+
+
+@functools.cache
+def text_of(path):
+    return (ROOT / path).read_text(encoding="utf-8")
+
+
+@functools.cache
+def load(path):
+    loader = importlib.machinery.SourceFileLoader(Path(path).stem, str(ROOT / path))
+    module = importlib.util.module_from_spec(importlib.util.spec_from_loader(loader.name, loader))
+    loader.exec_module(module)
+    return module
+
+
+# The page
+
+
+def rows(page, first):
+    """The rows of the table whose first heading this is, each a list of cells."""
+    found = re.search(rf"^\| {re.escape(first)} \|.*\n\|[-|]+\n((?:\|.*\n)+)", page, re.M)
+    return [[cell.strip() for cell in line.strip("|").split("|")] for line in found[1].splitlines()] if found else []
+
+
+def number(cell):
+    return int(cell.replace(",", ""))
+
+
+# What the page repeats
+
+
+def limits():
+    """The numbers of crates/limits/specs/Limits, by name."""
+    return {name: int(value) for name, value in re.findall(r"^(\w+) = (\d+)$", text_of("crates/limits/specs/Limits.antt"), re.M)}
+
+
+def printed():
+    """The letters of each command byte, as commands/specs/Printed has them: operands, then parts."""
+    found = re.findall(r"row 0x([0-9A-F]{2}) (?:\[\]|\(([lsnpq ∷]*)\[\]\))", text_of("crates/commands/specs/Printed.antt"))
+    return {byte: letters.replace("∷", "").split() for byte, letters in found}
+
+
+def header(enum):
+    """The enumerators of an enum of include/intake.h: their values, and the comments behind them."""
+    body = re.search(rf"enum intake_{enum} \{{\n(.*?)\}};", text_of("include/intake.h"), re.S)[1]
+    found = re.findall(r"^ *INTAKE_(\w+) = (\d+),? *(?:/\* (.*?) \*/)?$", body, re.M)
+    return {name: (int(value), comment) for name, value, comment in found}
+
+
+def values(enum):
+    return {name: value for name, (value, _) in header(enum).items()}
+
+
+@functools.cache
+def worked():
+    """01's example as the test of the example host has it: the run file and its listing."""
+    tested = {what: rest for what, *rest in load("host/example_test.py").edges()}
+    return tested["the worked example of 01"]
+
+
+# Checks: each gives what is wrong with the page
+
+
+def commands(page):
+    table = rows(page, "Byte")
+    given = {row[0]: [*OPERANDS.get(row[1], "?"), *re.findall(r"\w+", row[2])] for row in table}
+    if given != printed() or [row[0] for row in table] != sorted(given):
+        yield "the commands, their operands and parts"
+    names = re.search(r"^ +some Command\.nothing.*?\[\]$", text_of("crates/sequence/specs/Commands.antt"), re.M | re.S)[0]
+    short = {"p; then q": "seq", "p in parallel with q": "par"}
+    if [short.get(row[3], row[3].split()[0]) for row in table] != re.findall(r"Command\.(\w+)", names):
+        yield "the names of the commands"
+
+
+def ranges(page):
+    known, show = limits(), load("tools/show")
+    most = {"label": (0, known["labelCount"] - 1), "signal": (0, known["signalCount"] - 1), "exit": (1, known["maxExit"]),
+            "bytes of a sequence": (1, known["maxBytes"]), "depth, the outermost command being 1": (1, known["maxDepth"]),
+            "signal commands around a command, read-back signals counted": (0, known["maxSignals"])}
+    given = {row[0]: (number(row[1]), number(row[2])) for row in rows(page, "Limit")}
+    if given != most:
+        yield f"the limits: {given}, not {most}"
+    spans = {"l": given.get("label"), "s": given.get("signal"), "n": given.get("exit"), "": None}
+    for row, (_, span, parts) in zip(rows(page, "Byte"), show.COMMANDS):
+        if spans[OPERANDS.get(row[1], "")] != span or len(row[2].replace("–", "").split()) != parts:
+            yield f"command {row[0]}, as tools/show has it"
+
+
+def record(page, first, enum):
+    """A record's fields against the enumerators of its enum."""
+    known, given = values(enum), {}
+    for name, at, size, *_ in rows(page, first):
+        field = f"{enum}_{name}".upper()
+        if name != "length":
+            given[field] = number(at)
+        if name == "length":
+            given[field] = number(size)
+        elif size != "1":
+            given[field + "_LENGTH"] = number(size)
+    if given != known:
+        yield f"{first}: {given}, not {known}"
+
+
+def records(page):
+    yield from record(page, "State record", "state")
+    yield from record(page, "Answer record", "answer")
+    phases = values("phase")
+    words = "{PHASE_FRESH} fresh, {PHASE_WAITING} waiting, {PHASE_OVER} over".format(**phases)
+    if rows(page, "State record")[0][3] != words:
+        yield "the phases"
+    place = values("place")["PLACE_READ_BACK"]
+    if not any(f" {place} for a read-back signal" in row[3] for row in rows(page, "Answer record")):
+        yield "the place of a read-back signal"
+
+
+def codes(page):
+    known, phase = values("code"), values("phase")
+    most = limits()["maxExit"] + 1  # an exit n that no try catches has the code n + 1
+    given = [[row[0], row[1].split()[0], number(row[2])] for row in rows(page, "Code")]
+    over, waiting = phase["PHASE_OVER"], phase["PHASE_WAITING"]
+    if given != [[str(known["ENDED"]), "ended", over], [str(known["WAITING"]), "waiting", waiting],
+                 [f"2 to {most}", "left", over], [str(known["WRONG"]), "wrong", over]]:
+        yield f"the codes: {given}"
+
+
+def kinds(page):
+    known, show = values("kind"), load("tools/show")
+    at = {show.LOOP: "loop", show.SIGNAL: "signal"}
+    words = {known["INSTANTANEOUS_LOOP"]: "ended", known["NOT_REACTIVE"]: "absent",
+             known["NOT_STRONGLY_DETERMINISTIC"]: "present"}
+    table = rows(page, "Kind")
+    if {number(row[0]): row[1] for row in table} != {kind: at[byte] for kind, (byte, _) in show.KINDS.items()}:
+        yield "the kinds, as tools/show has them"
+    if {number(row[0]) for row in table} != set(words) or any(words.get(number(row[0]), "?") not in row[2] for row in table):
+        yield "the kinds, as the header has them"
+
+
+def numbers(page):
+    known = {str(value): [f"INTAKE_{name}", comment] for name, (value, comment) in header("number").items()}
+    given = {row[0]: row[1:3] for row in rows(page, "No.")}
+    if given != known or list(given) != [str(n) for n in range(len(given))]:
+        yield f"the numbers: {[row for row in given.items() if row not in known.items()]}"
+    examples = text_of("host/examples.txt").splitlines()
+    for row in rows(page, "No."):
+        if row[3] and f"{row[0]}: {row[3].strip('`')}" not in examples:
+            yield f"the example of number {row[0]} in host/examples.txt"
+        if not row[3] and row[0] not in ("1", "11", "12"):  # what these need is no sequence
+            yield f"number {row[0]} has no example"
+
+
+def run_file(page):
+    show, known = load("tools/show"), limits()
+    given = [row[1] for row in rows(page, "Part")]
+    if given != [str(show.LENGTH_BYTES), "as many", str(show.READ_BACK_BYTES), str(show.INPUT_BYTES)]:
+        yield f"the run file: {given}"
+    most = int(re.search(r"^maxFile = (\d+)$", text_of("crates/runs/specs/File.antt"), re.M)[1])
+    if f"at most {most:,} bytes" not in page or most != show.MAX_FILE:
+        yield "the length of a run file"
+    fields = rows(page, "Field")
+    if " ".join(row[0] for row in fields) != show.HEADER:
+        yield "the heading of a listing"
+    digits = {"emitted": 2 * known["signalBytes"], "labels": 2 * known["labelBytes"]}
+    if any(row[1] != (f"{digits[row[0]]} digits" if row[0] in digits else "decimal") for row in fields):
+        yield f"the digits of a listing: {digits}"
+
+
+def example(page):
+    """01's example: its bytes and its listing are those that the test of the example host holds the run program to."""
+    data, listing = worked()
+    blocks = re.findall(r"```text\n(.*?)```", page, re.S)
+    if blocks != [data.hex(" ").upper() + "\n", listing]:
+        yield "the example"
+
+
+def glossary(page):
+    """Each definition that is named: a file of esterel/specs that declares it."""
+    table = rows(page, "Term")
+    for row in table:
+        for name in re.findall(r"`(\w+\.\w+)`", row[3]):
+            file, _, declared = name.partition(".")
+            path = f"crates/esterel/specs/{file}.antt"
+            line = rf"^(abbrev |unfoldable )?pub (data |record )?{declared}\b"
+            if not (ROOT / path).exists() or not re.search(line, text_of(path), re.M):
+                yield f"{name} of the glossary"
+    if sum(bool(row[3]) for row in table) < 20 or any(not row[2] for row in table):
+        yield "a glossary with places"
+
+
+def quotations(page):
+    """What CONTRIBUTING quotes: a must-fail edit and a vector, and targets and crates by name."""
+    blocks = re.findall(r"```text\n(.*?)```", page, re.S)
+    edits = [path.read_text("utf-8") for path in (ROOT / "crates").glob("*/must-fail/*.edit")]
+    if len(blocks) != 2 or blocks[0] not in edits:
+        yield "the must-fail edit"
+    if not blocks or blocks[-1].split("\n", 1)[1] not in text_of("crates/vectors/stdin"):
+        yield "the vector"
+    targets = re.findall(r"^([a-z-]+):", text_of("Makefile"), re.M)
+    crates = re.findall(r"^(\w+):", text_of("crates.txt"), re.M)
+    named = re.findall(r"`rt (?:dev|check|must-fail) ([a-z ]+)`", page)
+    yield from (f"make {target}" for target in re.findall(r"`make ([a-z-]+)`", page) if target not in targets)
+    yield from (f"crate {crate}" for words in named for crate in words.split() if crate not in crates)
+    yield from links("CONTRIBUTING.md", page)
+
+
+def links(path, page):
+    """The links of a page that lead nowhere."""
+    for link in re.findall(r"\]\(([^)#:]+)\)", page):
+        if not (ROOT / path).parent.joinpath(link).exists():
+            yield f"{path}: the link to {link}"
+
+
+def format_links(page):
+    yield from links(PAGE, page)
+
+
+CHECKS = [commands, ranges, records, codes, kinds, numbers, run_file, example, glossary, format_links]
+
+
+def faults(page):
+    return [fault for check in CHECKS for fault in check(page)]
+
+
+# Pages with one cell changed
+
+
+CHECKED = {"Byte": [0, 1, 2, 3], "Limit": [0, 1, 2], "State record": [0, 1, 2], "Answer record": [0, 1, 2], "Code": [0, 2],
+           "Kind": [0, 1], "No.": [0, 1, 2, 3], "Part": [1], "Field": [0, 1], "Term": [3]}
+
+
+def other(cell):
+    """Another cell than this one: its first letter or digit is another."""
+    return re.sub(r"\w", lambda found: "8" if found[0] == "7" else "7", cell, count=1) if re.search(r"\w", cell) else " p "
+
+
+def changed(page):
+    """Yields the page with one cell changed that is checked, or with one row left out, and the row."""
+    lines, heading = page.splitlines(True), None
+    for at, line in enumerate(lines):
+        cells = line.split("|")
+        if not line.startswith("|"):
+            heading = None
+        elif heading is None:
+            heading = cells[1].strip()
+        elif not line.startswith("|-"):
+            if heading != "Term":
+                yield "".join([*lines[:at], *lines[at + 1 :]]), f"left out: {line}"
+            for column in CHECKED[heading]:
+                if cells[column + 1].strip():
+                    row = "|".join([*cells[: column + 1], other(cells[column + 1]), *cells[column + 2 :]])
+                    yield "".join([*lines[:at], row, *lines[at + 1 :]]), row
+
+
+def misquoted(page):
+    """Yields CONTRIBUTING with one quotation changed, and the quotation."""
+    quoted = r"`make ([a-z-]+)`|`rt (?:dev|check|must-fail) ([a-z]+)|\]\(([^)]+)\)|^(?:file|old|new|  bytes|  run)(.*)$"
+    for found in re.finditer(quoted, page, re.M):
+        at = found.end(found.lastindex) - 1
+        yield page[:at] + ("x" if page[at] != "x" else "y") + page[at + 1 :], found[0]
+
+
+def noticed(page):
+    try:
+        return bool(faults(page))
+    except (ValueError, KeyError, IndexError):  # a cell that is no number, or a row that is not there
+        return True
+
+
+def main():
+    page = text_of(PAGE)
+    for check in CHECKS:
+        found = list(check(page))
+        expect(not found, f"{PAGE}: {found}")
+    for damaged, row in changed(page):
+        expect(noticed(damaged), f"not noticed: {row.strip()}")
+    guide = text_of("CONTRIBUTING.md")
+    found = list(quotations(guide))
+    expect(not found, f"CONTRIBUTING.md: {found}")
+    for damaged, quotation in misquoted(guide):
+        expect(list(quotations(damaged)), f"not noticed: {quotation}")
+    print(f"{passed} passed, {failed} failed")
+    return failed != 0
+
+
+if __name__ == "__main__":
+    sys.dont_write_bytecode = True
+    sys.exit(main())
