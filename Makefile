@@ -1,8 +1,9 @@
 # INTAKE_ARCHIVE and RUN_PROGRAM name another archive or run program to test or time than the proved one, from the root
-# of the repository. BAY names the run file of `make run` and `make show`.
+# of the repository. BAY names the run file of `make run`, `make show` and `make paper`, NAMES a file of names for the last two.
 INTAKE_ARCHIVE ?= target/staticlib/libintake.a
 RUN_PROGRAM ?= target/bin/run
 BAY ?= examples/intake.bin
+NAMED = $(if $(NAMES),--names '$(NAMES)')
 
 # The bays whose runs the benchmark times.
 BAYS = $(addprefix examples/, intake.bin rinse.bin hatch.bin grading.bin valve.bin topping-mended.bin overflow-mended.bin)
@@ -24,7 +25,7 @@ HOST_TESTS = host-rust host-c host-tick-rust host-tick-c host-example host-stack
 	host-install host-again figures
 
 # The two programs are built anew for whatever archive is named.
-.PHONY: help run show test lib install certificate host $(HOST_TESTS) host-plain show-test format-test certificate-test \
+.PHONY: help run show paper test lib install certificate host $(HOST_TESTS) host-plain show-test format-test certificate-test \
 	bench bench-check bench-tick bench-run target/host/stack target/host/dearest
 
 help: # lists the targets
@@ -34,7 +35,10 @@ run: $(RUN_PROGRAM) # lists a run of a shipped example; BAY=examples/rinse.bin f
 	@$(RUN_PROGRAM) < '$(BAY)'
 
 show: $(RUN_PROGRAM) # shows the commands and the run of a shipped example; BAY as above
-	@$(RUN_PROGRAM) < '$(BAY)' | tools/show --listing - '$(BAY)'
+	@$(RUN_PROGRAM) < '$(BAY)' | tools/show $(NAMED) --listing - '$(BAY)'
+
+paper: $(RUN_PROGRAM) # shows that run on paper, by rewriting, and compares it with the listing; BAY as above
+	@$(RUN_PROGRAM) < '$(BAY)' | tools/show --paper $(NAMED) --listing - '$(BAY)'
 
 test: # proves everything and runs all tests: the gate
 	.ci/run
@@ -112,7 +116,7 @@ host-archive: $(INTAKE_ARCHIVE) # shows the read-only data of the archive: jump 
 host-plain: target/plain/libintake.a # runs the host tests against plain C, with which the benchmarks compare
 	$(MAKE) host-rust host-c host-tick-rust host-tick-c INTAKE_ARCHIVE=target/plain/libintake.a
 
-show-test: # tests tools/show
+show-test: # tests tools/show and tools/runfile
 	tools/test_show.py
 
 format-test: # holds the tables of docs/FORMAT.md, and what CONTRIBUTING.md quotes, to what they repeat

@@ -1,0 +1,105 @@
+"""The fitters' paper of a run: after each instant the term that remains, and what was struck out, held to the listing.
+
+Both are tables as that of the sequence, whose indentation and places they have. What rewriting made (a nothing for a pause
+or for a side that ended, a sequence that begins a loop again) has no bytes, and the place of the command for which it was
+made; it is not told when it goes. A statement that stands as in the sequence takes one line, with its first and last place.
+"""
+from showing.damage import Damaged, counted
+from showing.listings import WAITING, WRONG, Instant, code_in_words, error_in_words
+from showing.sequences import COMMANDS, READ_BACK_PLACE, SUSPEND, line_of, members_of, words_of
+from showing.terms import HELD, react, struck_out, term_of
+
+
+def words_and_bytes(term, names):
+    kind = SUSPEND if term.kind == HELD else term.kind
+    own = bytes([kind] if COMMANDS[kind][1] is None else [kind, term.operand])
+    words = words_of(own, names)
+    return f"held {words}" if term.kind == HELD else words, b"" if term.made else own
+
+
+class Paper:
+    """The term that is left, and the lines to which each instant adds what is told of it; whole folds no statement."""
+
+    def __init__(self, commands, read_back, names, whole, out):
+        self.term, self.commands, self.names = term_of(commands, read_back), commands, names
+        self.whole, self.lines = whole, out
+
+    def add_term(self, term, depth, mark):
+        """Adds a term; of one that is struck out, and so has a mark, only the commands of the sequence."""
+        words, own = words_and_bytes(term, self.names)
+        folded = not self.whole and term.last is not None and len(term.parts) > 0
+        if own or not mark:
+            line = line_of(term.place, own, depth, words) + (f"  ({term.place} to {term.last})" if folded else "")
+            self.lines.append(mark + line[len(mark) :])
+        if not folded:
+            for part in term.parts:
+                self.add_term(part, depth + 1, mark)
+
+    def add_struck(self, term, reaction):
+        before = len(self.lines)
+        for depth, gone, whole in struck_out(term, reaction, 1):
+            if whole:
+                self.add_term(gone, depth, "-")
+            elif not gone.made:
+                words, own = words_and_bytes(gone, self.names)
+                self.lines.append("-" + line_of(gone.place, own, depth, words)[1:])
+        self.lines.insert(before, "struck out" if len(self.lines) > before else "nothing is struck out")
+
+    def react(self, number, inputs):
+        """One instant: adds what is told of it, and gives it as a listing has it, without labels."""
+        reaction = react(self.term, inputs, {})
+        kind, place = reaction.error if reaction.code == WRONG else (0, 0)
+        instant = Instant(number, reaction.code, kind, place, 0 if reaction.code == WRONG else reaction.emitted, None)
+        self.lines += ["", told(instant, inputs, self.commands, self.names)]
+        if reaction.code == WAITING:
+            self.add_rest(reaction)
+        else:
+            self.lines.append("nothing remains")
+        self.term = reaction.residual
+        return instant
+
+    def add_rest(self, reaction):
+        """Adds both tables; the read-back declarations, which are never struck out, stand at the head of the page alone."""
+        term = self.term
+        while term.place == READ_BACK_PLACE:
+            term, reaction = term.parts[0], reaction.premises[0]
+        self.add_struck(term, reaction)
+        self.lines.append("remains")
+        self.add_term(reaction.residual, 1, "")
+
+
+def told(instant, inputs, commands, names):
+    """An instant in a line."""
+    given, emitted = (names.all_of("signal", members_of(signals)) or "none" for signals in (inputs, instant.emitted))
+    if instant.code == WRONG:
+        return f"instant {instant.number}: input {given}; wrong, {error_in_words(instant, commands, names)}"
+    return f"instant {instant.number}: input {given}; emitted {emitted}; code {instant.code}, {code_in_words(instant.code)}"
+
+
+def compare(instant, listed):
+    """Raises where paper and listing part in an instant."""
+    pairs = [(field, getattr(instant, field), getattr(listed, field)) for field in ("code", "kind", "place", "emitted")]
+    apart = [(field, *(f"{value:08x}" if field == "emitted" else value for value in values))
+             for field, *values in pairs if values[0] != values[1]]
+    if apart:
+        each = "; ".join(f"{field} {ours} on paper, {theirs} in the listing" for field, ours, theirs in apart)
+        raise Damaged(f"instant {instant.number}: paper and listing part: {each}")
+
+
+def add_paper(paper, inputs, instants):
+    """Adds the paper of a run, up to where it parts from the listing; None for the instants of a listing compares nothing."""
+    number = 0
+    for number, given in enumerate(inputs, 1):
+        instant = paper.react(number, given)
+        if instants is not None:
+            if number > len(instants):
+                raise Damaged(f"instant {number}: paper and listing part: the listing ends before it")
+            compare(instant, instants[number - 1])
+        if paper.term is None:
+            break
+    if instants is not None and len(instants) > number:
+        raise Damaged(f"instant {number + 1}: paper and listing part: on paper there is none")
+    unused = len(inputs) - number
+    paper.lines += [""] + [f"inputs not used: {unused}"] * (unused > 0)
+    if instants is not None:
+        paper.lines.append(f"paper and listing agree: {counted(number, 'instant')}")

@@ -1,0 +1,46 @@
+"""A run as a picture of text: a row for each signal and label that occurs, a column for each instant."""
+from collections import namedtuple
+
+from showing.sequences import LABELS, SIGNALS
+
+PICTURE_WIDTH = 100
+
+Row = namedtuple("Row", "kind number marks")  # marks: for each column whether it has one
+
+
+def rows_of(inputs, instants):
+    """A row for each signal and each label that occurs; with no listing the inputs alone."""
+    sets = [("input", SIGNALS, inputs if instants is None else inputs[: len(instants)])]
+    if instants is not None:
+        sets.append(("emitted", SIGNALS, [instant.emitted for instant in instants]))
+        sets.append(("label", LABELS, [instant.labels for instant in instants]))
+    rows = [Row(kind, number, [members >> number & 1 for members in columns])
+            for kind, width, columns in sets for number in range(width)]
+    return [row for row in rows if any(row.marks)]
+
+
+def name_of(row, names):
+    """The name of a row's signal or label, empty where it has none."""
+    return (names.label if row.kind == "label" else names.signal).get(row.number, "")
+
+
+def heads_of(rows, names):
+    """What stands left of each row, all of one width."""
+    digits = max([2, *(len(str(row.number)) for row in rows)])
+    heads = [f"{row.kind:8}{row.number:{digits}} {name_of(row, names)}".rstrip() for row in rows]
+    width = max([10, *map(len, heads)])
+    return [f"{head:{width}}" for head in heads], width
+
+
+def add_picture(rows, codes, columns, names, out):
+    """Adds the picture, in blocks that are narrow enough."""
+    heads, width = heads_of(rows, names)
+    cell = 1 + len(str(max([columns, *codes])))
+    block = (PICTURE_WIDTH - width) // cell
+    for start in range(0, columns, block):
+        part = range(start, min(start + block, columns))
+        out += ["", f"{'instant':{width}}" + "".join(f"{column + 1:{cell}}" for column in part)]
+        for head, row in zip(heads, rows):
+            out.append(head + "".join(f"{'.#'[row.marks[column]]:>{cell}}" for column in part))
+        if codes:
+            out.append(f"{'code':{width}}" + "".join(f"{codes[column]:{cell}}" for column in part))

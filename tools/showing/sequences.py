@@ -1,0 +1,118 @@
+"""Sequences: their commands by place (rows 2 to 7), and the ceiling of an instant's reactions (02, item 6)."""
+from collections import namedtuple
+
+from showing.damage import Damaged, counted
+
+LABELS = 128  # labels are 0 to one less; a listing has a digit for four of them
+SIGNALS = 32
+
+# Document 01, 'Commands', and 02, item 1: the words of each command, with … for a part; what its operand is; how many
+# parts follow.
+COMMANDS = [
+    ("nothing", None, 0),
+    ("pause, label {}", "label", 0),
+    ("emit {}", "signal", 0),
+    ("exit {}", "exit", 0),
+    ("…; then …", None, 2),
+    ("… in parallel with …", None, 2),
+    ("loop …", None, 1),
+    ("present {} then … else …", "signal", 2),
+    ("signal {} in …", "signal", 1),
+    ("try …", None, 1),
+    ("setpause {}", "label", 0),
+    ("suspend … when {}", "signal", 1),
+]
+NOTHING, PAUSE, EMIT, EXIT, SEQUENCE, PARALLEL, LOOP, PRESENT, SIGNAL, TRY, SETPAUSE, SUSPEND = range(len(COMMANDS))
+OPERANDS = {"label": (0, LABELS - 1), "signal": (0, SIGNALS - 1), "exit": (1, 15)}  # their ranges
+MAX_SEQUENCE, MAX_DEPTH, MAX_SIGNALS = 1024, 64, 6
+READ_BACK_PLACE = 65535  # of an error of a read-back signal, which no command declares
+
+Command = namedtuple("Command", "place depth bytes loops signals")  # so many loops and signals around it
+
+
+def damaged(row, place, why):
+    return Damaged(f"place {place}: {why} (row {row})")
+
+
+def own_bytes(sequence, place):
+    """The command byte at a place and its operand, once they are right (rows 3 to 5)."""
+    byte = sequence[place]
+    if byte >= len(COMMANDS):
+        raise damaged(3, place, f"no command has the byte {byte:02X}")
+    operand = COMMANDS[byte][1]
+    if operand is None:
+        return sequence[place : place + 1]
+    if place + 1 == len(sequence):
+        raise damaged(4, place, "the operand is missing at the end")
+    least, most = OPERANDS[operand]
+    if not least <= sequence[place + 1] <= most:
+        raise damaged(5, place, f"operand {sequence[place + 1]} is outside {least} to {most}")
+    return sequence[place : place + 2]
+
+
+def members_of(signals):
+    return [signal for signal in range(SIGNALS) if signals >> signal & 1]
+
+
+def commands_of(sequence, read_back):
+    """Yields the commands from the left, up to the first fault (rows 2 to 7), which may be that of the read-back set."""
+    if not 1 <= len(sequence) <= MAX_SEQUENCE:
+        raise damaged(2, 0, f"a sequence has 1 to 1,024 bytes, this one {'more' if sequence else 'none'}")
+    place = nesting = 0
+    awaited = [(1, 0, 0)]  # for each statement still to come: its depth, and the loops and signals around it
+    while awaited:
+        depth, loops, signals = awaited.pop()
+        if place == len(sequence):
+            raise damaged(4, place, "a statement is missing at the end")
+        own = own_bytes(sequence, place)
+        if depth > MAX_DEPTH:
+            raise damaged(6, place, f"depth {depth} is over {MAX_DEPTH}")
+        if own[0] == SIGNAL and signals == MAX_SIGNALS:
+            raise damaged(6, place, "a seventh signal inside six")
+        nesting = max(nesting, signals)
+        yield Command(place, depth, own, loops, signals)
+        inside = depth + 1, loops + (own[0] == LOOP), signals + (own[0] == SIGNAL)
+        awaited += [inside] * COMMANDS[own[0]][2]
+        place += len(own)
+    count = len(members_of(read_back))
+    if count + nesting > MAX_SIGNALS:
+        raise Damaged(f"read-back: {counted(count, 'signal')} and {nesting} inside each other are over {MAX_SIGNALS} (row 6)")
+    if place < len(sequence):
+        raise damaged(7, place, f"{counted(len(sequence) - place, 'byte')} after the statement")
+
+
+def words_of(own, names):
+    """A command in words, from its own bytes."""
+    text, operand, _ = COMMANDS[own[0]]
+    return text.format(names.of(operand, own[1])) if operand else text
+
+
+def ceiling(commands, read_back):
+    """What an instant takes at most, read-back declarations counted as commands and as signals."""
+    declared = len(members_of(read_back))
+    count = len(commands) + declared
+    loops = max(command.loops for command in commands)
+    signals = max(command.signals for command in commands) + declared
+    most = count * (1 + loops) * 2**signals
+    return (f"ceiling: {count:,} × {1 + loops} × {2**signals} = {counted(most, 'reaction')} "
+            f"({counted(count, 'command')}; around one: {counted(loops, 'loop')}, {counted(signals, 'signal')})")
+
+
+def line_of(place, own, depth, words):
+    """A line of the table; what rewriting made has no bytes of its own."""
+    return f"{place:5}  {own.hex(' ').upper():5}  {'  ' * (depth - 1)}{words}"
+
+
+def add_commands(sequence, read_back, names, out):
+    """Adds the table as far as the sequence is right, below its read-back signals, then the ceiling of one that rows 2 to 7
+    pass; returns the commands."""
+    commands = []
+    if read_back:
+        out.append(f"reads back {names.all_of('signal', members_of(read_back))}")
+    for command in commands_of(sequence, read_back):
+        if not commands:
+            out.append("place  bytes  command")
+        out.append(line_of(command.place, command.bytes, command.depth, words_of(command.bytes, names)))
+        commands.append(command)
+    out += ["", ceiling(commands, read_back)]
+    return commands

@@ -1,0 +1,158 @@
+"""Terms and how they react by rewriting: 01, 'One reaction' and 'The fitters' paper', with 02's suspend (item 1), first
+error (3), order of the signal rules (4) and read-back declarations (5). No rule reads or gives labels.
+"""
+from collections import namedtuple
+
+from showing.damage import Damaged
+from showing.listings import ENDED, WAITING, WRONG
+from showing.sequences import (COMMANDS, EMIT, EXIT, LOOP, NOTHING, PARALLEL, PAUSE, PRESENT, READ_BACK_PLACE, SEQUENCE, SETPAUSE,
+                               SIGNAL, SUSPEND, TRY, members_of)
+
+HELD = 0x100  # what remains of a suspend; no byte stands for it
+
+# Codes are those of a listing, so that the greater of two is their maximum. The residual is what remains after code 1, else
+# None; error the first one's kind and place, or None. Premises are the reactions of the parts, None for a part that did not
+# react; of a signal that of the run that was chosen.
+Reaction = namedtuple("Reaction", "emitted code residual error premises")
+
+
+class Term:
+    """A command with its parts. Last is the place of its last command where all of it stands as in the sequence, else None; a
+    term that is made, and no command of the sequence, has the place of that for which it was made."""
+
+    __slots__ = ("kind", "operand", "place", "parts", "made", "last", "tested")
+
+    def __init__(self, kind, operand, place, parts=(), made=False, last=None):
+        self.kind, self.operand, self.place, self.parts, self.made, self.last = kind, operand, place, parts, made, last
+        self.tested = 1 << operand if kind in (PRESENT, SUSPEND, HELD) else 0  # the signals on which a reaction depends
+        for part in parts:
+            self.tested |= part.tested
+        if kind == SIGNAL:
+            self.tested &= ~(1 << operand)
+
+
+def term_of(commands, read_back):
+    """The term of an accepted sequence, in the declarations of its read-back signals, the lowest outermost."""
+    commands = iter(commands)
+
+    def build():
+        command = next(commands)
+        kind, operand = command.bytes[0], command.bytes[1] if len(command.bytes) > 1 else None
+        if kind == SETPAUSE:
+            raise Damaged(f"place {command.place}: setpause {operand}: rewriting has no rule for a jump to another pause, so "
+                          "there is no paper of this sequence")
+        parts = tuple(build() for _ in range(COMMANDS[kind][2]))
+        return Term(kind, operand, command.place, parts, last=parts[-1].last if parts else command.place)
+
+    term = build()
+    for signal in reversed(members_of(read_back)):
+        term = Term(SIGNAL, signal, READ_BACK_PLACE, (term,), made=True)
+    return term
+
+
+def nothing_for(term):
+    return Term(NOTHING, None, term.place, made=True)
+
+
+def rewritten(term, parts):
+    """The same command around other parts."""
+    return Term(term.kind, term.operand, term.place, parts, term.made)
+
+
+def react(term, present, known):
+    """The reaction of a term with these signals present; what is known of an instant's parts is not found again."""
+    key = id(term), present & term.tested
+    if key not in known:
+        known[key] = RULES[term.kind](term, present, known)
+    return known[key]
+
+
+def leaf(term, present, known):
+    """nothing, pause, emit and exit"""
+    if term.kind == PAUSE:
+        return Reaction(0, WAITING, nothing_for(term), None, ())
+    emitted = 1 << term.operand if term.kind == EMIT else 0
+    return Reaction(emitted, term.operand + 1 if term.kind == EXIT else ENDED, None, None, ())
+
+
+def sequence(term, present, known):
+    first = react(term.parts[0], present, known)
+    if first.code != ENDED:
+        residual = rewritten(term, (first.residual, term.parts[1])) if first.code == WAITING else None
+        return Reaction(first.emitted, first.code, residual, first.error, (first, None))
+    second = react(term.parts[1], present, known)
+    return Reaction(first.emitted | second.emitted, second.code, second.residual, first.error or second.error, (first, second))
+
+
+def parallel(term, present, known):
+    first, second = sides = [react(part, present, known) for part in term.parts]
+    code = max(first.code, second.code)
+    rest = [side.residual or nothing_for(part) for side, part in zip(sides, term.parts)]
+    residual = rewritten(term, tuple(rest)) if code == WAITING else None
+    return Reaction(first.emitted | second.emitted, code, residual, first.error or second.error, tuple(sides))
+
+
+def loop(term, present, known):
+    body = react(term.parts[0], present, known)
+    if body.code == ENDED:
+        return Reaction(0, WRONG, None, body.error or (1, term.place), (body,))
+    residual = Term(SEQUENCE, None, term.place, (body.residual, term), made=True) if body.code == WAITING else None
+    return Reaction(body.emitted, body.code, residual, body.error, (body,))
+
+
+def present_rule(term, present, known):
+    there = present >> term.operand & 1
+    branch = react(term.parts[0 if there else 1], present, known)
+    return branch._replace(premises=(branch, None) if there else (None, branch))
+
+
+def signal(term, present, known):
+    """Both runs; a wrong one is inherited before the other four rules are tried (02, item 4)."""
+    bit = 1 << term.operand
+    without, with_it = (react(term.parts[0], status, known) for status in (present & ~bit, present | bit))
+    error = without.error or with_it.error
+    if WRONG in (without.code, with_it.code):
+        return Reaction(0, WRONG, None, error, ())
+    emits = without.emitted & bit, with_it.emitted & bit
+    if bool(emits[0]) != bool(emits[1]):
+        return Reaction(0, WRONG, None, error or (2 if emits[0] else 3, term.place), ())
+    chosen = with_it if emits[0] else without
+    emitted = chosen.emitted if term.place == READ_BACK_PLACE else chosen.emitted & ~bit
+    residual = rewritten(term, (chosen.residual,)) if chosen.code == WAITING else None
+    return Reaction(emitted, chosen.code, residual, error, (chosen,))
+
+
+def try_rule(term, present, known):
+    body = react(term.parts[0], present, known)
+    code = {ENDED: ENDED, WAITING: WAITING, 2: ENDED, WRONG: WRONG}.get(body.code, body.code - 1)
+    residual = rewritten(term, (body.residual,)) if code == WAITING else None
+    return Reaction(body.emitted, code, residual, body.error, (body,))
+
+
+def suspend(term, present, known):
+    """A suspend begins as its part does; a held one tests its signal first, and with it stays as it is."""
+    if term.kind == HELD and present >> term.operand & 1:
+        return Reaction(0, WAITING, term, None, (None,))
+    body = react(term.parts[0], present, known)
+    residual = Term(HELD, term.operand, term.place, (body.residual,)) if body.code == WAITING else None
+    return Reaction(body.emitted, body.code, residual, body.error, (body,))
+
+
+RULES = {NOTHING: leaf, PAUSE: leaf, EMIT: leaf, EXIT: leaf, SEQUENCE: sequence, PARALLEL: parallel, LOOP: loop,
+         PRESENT: present_rule, SIGNAL: signal, TRY: try_rule, SUSPEND: suspend, HELD: suspend}
+
+
+def struck_out(term, reaction, depth):
+    """Yields what of a term is gone from its residual after code 1: the depth of a command, its term, and whether all its
+    parts are gone too."""
+    if reaction is None or reaction.code == ENDED:
+        yield depth, term, True
+    elif term.kind == PAUSE:
+        yield depth, term, False
+    elif reaction.residual is not term:
+        gone = term.kind == PRESENT or term.kind == SEQUENCE and reaction.premises[1] is not None
+        if gone:
+            yield depth, term, False
+        for part, premise in zip(term.parts, reaction.premises):
+            if premise is not None or term.kind == PRESENT:
+                yield from struck_out(part, premise, depth + 1)
