@@ -21,7 +21,7 @@ EXPORTED = ["intake_check", "intake_tick"]
 LATER = "andn bextr blsi blsmsk blsr bzhi crc32 lzcnt movbe mulx pdep pext popcnt rorx sarx shlx shrx adcx adox".split()
 VECTOR = set("""movaps movups movapd movupd movdqa movdqu movd movq movss movsd xorps andps orps pxor por pand pandn paddb paddw
     paddd paddq psubb psubw psubd psubq pcmpeqb pcmpeqw pcmpeqd pcmpgtb pcmpgtw pcmpgtd pslldq psrldq psllq psllw pslld psrlq
-    psrlw psrld pshufd pshufhw pshuflw punpcklbw punpcklwd punpckldq punpcklqdq punpckhbw punpckhwd punpckhdq punpckhqdq
+    psrlw psrld psraw psrad pshufd pshufhw pshuflw punpcklbw punpcklwd punpckldq punpcklqdq punpckhbw punpckhwd punpckhdq punpckhqdq
     pmovmskb movmskps movhlps movlhps shufps shufpd unpcklps unpcklpd""".split())
 STEP = 1024  # a promise is the next multiple above what is measured
 CONTROL = """
