@@ -12,6 +12,10 @@ import re
 import sys
 from pathlib import Path
 
+sys.dont_write_bytecode = True
+
+from showing import files, listings, sequences
+
 ROOT = Path(__file__).resolve().parent.parent
 PAGE = "docs/FORMAT.md"
 OPERANDS = {"label l": "l", "signal s": "s", "exit n": "n", "–": ""}
@@ -100,7 +104,7 @@ def commands(page):
 
 
 def ranges(page):
-    known, show = limits(), load("tools/show")
+    known = limits()
     most = {"label": (0, known["labelCount"] - 1), "signal": (0, known["signalCount"] - 1), "exit": (1, known["maxExit"]),
             "bytes of a sequence": (1, known["maxBytes"]), "depth, the outermost command being 1": (1, known["maxDepth"]),
             "signal commands around a command, read-back signals counted": (0, known["maxSignals"])}
@@ -108,8 +112,8 @@ def ranges(page):
     if given != most:
         yield f"the limits: {given}, not {most}"
     spans = {"l": given.get("label"), "s": given.get("signal"), "n": given.get("exit"), "": None}
-    for row, (_, span, parts) in zip(rows(page, "Byte"), show.COMMANDS):
-        if spans[OPERANDS.get(row[1], "")] != span or len(row[2].replace("–", "").split()) != parts:
+    for row, (_, operand, parts) in zip(rows(page, "Byte"), sequences.COMMANDS):
+        if spans[OPERANDS.get(row[1], "")] != sequences.OPERANDS.get(operand) or len(row[2].replace("–", "").split()) != parts:
             yield f"command {row[0]}, as tools/show has it"
 
 
@@ -151,12 +155,12 @@ def codes(page):
 
 
 def kinds(page):
-    known, show = values("kind"), load("tools/show")
-    at = {show.LOOP: "loop", show.SIGNAL: "signal"}
+    known = values("kind")
+    at = {sequences.LOOP: "loop", sequences.SIGNAL: "signal"}
     words = {known["INSTANTANEOUS_LOOP"]: "ended", known["NOT_REACTIVE"]: "absent",
              known["NOT_STRONGLY_DETERMINISTIC"]: "present"}
     table = rows(page, "Kind")
-    if {number(row[0]): row[1] for row in table} != {kind: at[byte] for kind, (byte, _) in show.KINDS.items()}:
+    if {number(row[0]): row[1] for row in table} != {kind: at[byte] for kind, (byte, _) in listings.KINDS.items()}:
         yield "the kinds, as tools/show has them"
     if {number(row[0]) for row in table} != set(words) or any(words.get(number(row[0]), "?") not in row[2] for row in table):
         yield "the kinds, as the header has them"
@@ -176,15 +180,15 @@ def numbers(page):
 
 
 def run_file(page):
-    show, known = load("tools/show"), limits()
+    known = limits()
     given = [row[1] for row in rows(page, "Part")]
-    if given != [str(show.LENGTH_BYTES), "as many", str(show.READ_BACK_BYTES), str(show.INPUT_BYTES)]:
+    if given != [str(files.LENGTH_BYTES), "as many", str(files.READ_BACK_BYTES), str(files.INPUT_BYTES)]:
         yield f"the run file: {given}"
     most = int(re.search(r"^maxFile = (\d+)$", text_of("crates/runs/specs/File.antt"), re.M)[1])
-    if f"at most {most:,} bytes" not in page or most != show.MAX_FILE:
+    if f"at most {most:,} bytes" not in page or most != files.MAX_FILE:
         yield "the length of a run file"
     fields = rows(page, "Field")
-    if " ".join(row[0] for row in fields) != show.HEADER:
+    if " ".join(row[0] for row in fields) != listings.HEADER:
         yield "the heading of a listing"
     digits = {"emitted": 2 * known["signalBytes"], "labels": 2 * known["labelBytes"]}
     if any(row[1] != (f"{digits[row[0]]} digits" if row[0] in digits else "decimal") for row in fields):
@@ -309,5 +313,4 @@ def main():
 
 
 if __name__ == "__main__":
-    sys.dont_write_bytecode = True
     sys.exit(main())

@@ -1,6 +1,6 @@
 """The labels of a sequence whose commands are right: rows 8 to 10, each with its labels and places."""
 from showing.damage import Damaged
-from showing.sequences import COMMANDS, LABELS, PARALLEL, PAUSE, PRESENT, SEQUENCE, SETPAUSE
+from showing.sequences import COMMANDS, LABELS, PARALLEL, PAUSE, PRESENT, SEQUENCE, SETPAUSE, members_of
 
 
 def labelled(commands, byte):
@@ -27,26 +27,22 @@ def masks_of(commands):
         done.append(inside)
 
 
-def members(labels):
-    return [label for label in range(LABELS) if labels >> label & 1]
-
-
 def clash_of(commands):
     """Two labels whose pauses are exclusive, while a setpause of the first is compatible with a setpause or the pause of the
     second: the lowest such, or None."""
     exclusive, compatible = [0] * LABELS, [0] * LABELS
     for kind, ((pauses, setpauses), (pauses2, setpauses2)) in masks_of(commands):
         if kind in (SEQUENCE, PRESENT):
-            for label in members(pauses):
+            for label in members_of(pauses):
                 exclusive[label] |= pauses2
-            for label in members(pauses2):
+            for label in members_of(pauses2):
                 exclusive[label] |= pauses
         elif kind == PARALLEL:
-            for label in members(setpauses):
+            for label in members_of(setpauses):
                 compatible[label] |= pauses2 | setpauses2
-            for label in members(setpauses2):
+            for label in members_of(setpauses2):
                 compatible[label] |= pauses | setpauses
-    both = [(label, members(exclusive[label] & compatible[label])) for label in range(LABELS)]
+    both = [(label, members_of(exclusive[label] & compatible[label])) for label in range(LABELS)]
     return next(((label, others[0]) for label, others in both if others), None)
 
 

@@ -27,7 +27,7 @@ from showing.files import MAX_FILE, inputs_in, read_back_in, read_bytes, run_fil
 from showing.names import MAX_NAMES_FILE, NO_NAMES, names_in
 from showing.sequences import SIGNALS, members_of
 
-MAX_TEXT = 8 * 1024 * 1024  # some hundred bytes for each instant of the longest run
+MAX_TEXT = 64 * 1024 * 1024  # more than the longest run has with all signals in each instant and the longest names
 LINE_BYTES = 16
 
 
@@ -54,7 +54,7 @@ def signals_in(text, names):
 def bytes_in(text):
     if not re.fullmatch(r"([0-9A-Fa-f]{2}\s*)*", text):
         raise Damaged("a sequence is bytes of two hexadecimal digits each")
-    return bytes.fromhex(text)
+    return bytes.fromhex("".join(text.split()))  # fromhex alone takes the white space of ASCII only
 
 
 class Reader:

@@ -50,8 +50,9 @@ def own_bytes(sequence, place):
     return sequence[place : place + 2]
 
 
-def members_of(signals):
-    return [signal for signal in range(SIGNALS) if signals >> signal & 1]
+def members_of(members):
+    """The signals or labels of a set, the lowest first."""
+    return [number for number in range(members.bit_length()) if members >> number & 1]
 
 
 def commands_of(sequence, read_back):

@@ -9,8 +9,7 @@ from tests.runs import WORKED, WORKED_LISTING, WORKED_SHOWN
 
 
 def test_calls():
-    (folder / "worked.bin").write_bytes(WORKED)
-    worked = str(folder / "worked.bin")
+    worked = written("worked.bin", WORKED)
     status, shown, _ = call("--help")
     expect(status == 0 and "--sequence" in shown, "--help")
     for words in ([], ["--nonsense"], ["--sequence", "--svg", "-", worked], ["--sequence", "--listing", "-", worked],
@@ -46,7 +45,7 @@ def test_run_program():
     copy = shutil.copy(SHOW, folder / "house" / "tools")
     shutil.copytree(SHOW.parent / "showing", folder / "house" / "tools" / "showing")
     data = WORKED[:-4] + b"\x01\x00\x00\x80"
-    (folder / "data").write_bytes(data)
+    written("data", data)
     status, shown, _ = call(str(folder / "data"), program=copy)
     expect(status == 0 and shown.endswith("no listing: target/bin/run is not built\n"), f"no run program: {shown}")
     expect(picture_of(shown) == ({("input", 0): {2}, ("input", 31): {2}}, [], 2), f"inputs alone: {shown}")

@@ -20,6 +20,7 @@ PARTS = {4: 2, 5: 2, 6: 1, 7: 2, 8: 1, 9: 1, 11: 1}
 rng = random.Random(1)
 scratch = tempfile.TemporaryDirectory()  # gone when the tests end
 folder = Path(scratch.name)
+contents = {}  # of the files there, by name
 passed = failed = 0
 
 
@@ -46,8 +47,11 @@ def run_file(sequence, inputs=(), read_back=0):
 
 
 def written(name, data):
-    """A file with these bytes or this text."""
-    (folder / name).write_bytes(data if isinstance(data, bytes) else data.encode())
+    """A file with these bytes or this text, which no one else writes."""
+    data = data if isinstance(data, bytes) else data.encode()
+    if contents.get(name) != data:
+        contents[name] = data
+        (folder / name).write_bytes(data)
     return str(folder / name)
 
 

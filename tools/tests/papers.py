@@ -6,7 +6,7 @@ from tests.common import ROOT, examples, expand as bytes_of_text, expect, expect
 from tests.generate import accepted_sequence, bytes_of, lines_of, waiting_sequence, without_setpauses
 from tests.machine import expand, run, table_of, tree_of
 
-PAPERS = 700
+PAPERS = 400
 LINE = re.compile(r"[ -][ \d]{3}\d  (?:[0-9A-F]{2}| {2}) (?:[0-9A-F]{2}| {2})  .*")
 
 
@@ -46,7 +46,7 @@ def placed(table):
 def expect_paper(lines, read_back, instants, shown, what):
     """What remains is the expansion of the next state; what is struck out was there, or in a loop that began again."""
     tree, before = tree_of(lines, read_back), Counter(place for place, _, _ in lines)
-    looped = {place for place in before if any(kind == 6 for kind in around(lines, place))}
+    looped = places_in_loops(lines)
     pages = instants_on(shown)
     expect(len(pages) == len(instants), f"{what}: instants on paper: {shown}")
     for (_, struck, remains), (code, *_, labels) in zip(pages, instants):
@@ -62,15 +62,14 @@ def expect_paper(lines, read_back, instants, shown, what):
         before = after
 
 
-def around(lines, place):
-    """The bytes of the commands around a place."""
-    path = []
-    for at, depth, own in lines:
+def places_in_loops(lines):
+    path, places = [], set()
+    for place, depth, own in lines:
         del path[depth - 1 :]
-        if at == place:
-            return path
+        if 6 in path:
+            places.add(place)
         path.append(own[0])
-    return None
+    return places
 
 
 def test_examples_on_paper():
@@ -154,7 +153,7 @@ def test_random_papers():
         expect_parted(data, instants, what)
     for what in [("code", 0), ("code", 1), ("code", 2), ("code", 255), ("kind", 1), ("kind", 2), ("kind", 3), ("outside", True),
                  "stopped", "held", "read back"]:
-        expect(met[what] >= 5, f"met {what} {met[what]} times")
+        expect(met[what] >= 3, f"met {what} {met[what]} times")
 
 
 def expect_parted(data, instants, what):

@@ -1,7 +1,7 @@
 """Readers of what is drawn: each gives of a picture the marked instants of each row, the codes and the number of instants."""
 import re
 import xml.etree.ElementTree
-from bisect import bisect
+from bisect import bisect, bisect_left
 
 from tests.common import LABELS
 
@@ -51,21 +51,24 @@ def read_svg(root):
     assert numbers == list(range(1, len(numbers) + 1))
     codes = [cells[y][x] for y in sorted(names) if names[y] == ["code"] for x in sorted(cells[y])]
     rows, lines = {}, [*sorted(names), height]
+    columns = {y: sorted(cells[y]) for y in heads}
     for path in root.iter(SPACE + "path"):
         if path.get("class") != "grid":
-            read_marks(path, names, lines, heads, cells, width, rows)
+            read_marks(path, names, lines, columns, cells, width, rows)
     return rows, codes, len(numbers)
 
 
-def read_marks(path, names, lines, heads, cells, width, rows):
+def read_marks(path, names, lines, columns, cells, width, rows):
     """Each step of a path is a rectangle over the numbers of its instants, beside the name of its row."""
     steps = re.findall(r"M(\d+) (\d+)h(\d+)v(\d+)h-(\d+)z", path.get("d"))
     assert path.get("d") == "".join(f"M{x} {y}h{w}v{h}h-{back}z" for x, y, w, h, back in steps)
+    heads = sorted(columns)
     for x, y, wide, high, back in (map(int, step) for step in steps):
         name_y, after = lines[bisect(lines, y) : bisect(lines, y) + 2]
         assert y < name_y <= y + high < after
         name, head = names[name_y], heads[bisect(heads, y) - 1]
-        instants = {number for at, number in cells[head].items() if x < at < x + wide}
+        beside = columns[head]
+        instants = {cells[head][at] for at in beside[bisect(beside, x) : bisect_left(beside, x + wide)]}
         assert wide == back and x + wide < width and path.get("class") == name[0]
         marked = rows.setdefault((name[0], int(name[1])), set())
         assert instants and not instants & marked

@@ -1,10 +1,11 @@
 """tools/runfile: texts by hand, both ways on the examples and on random run files, and damaged texts and files."""
 import re
+import sys
 
 from showing import runfile
 from tests.common import ROOT, RUNFILE, call, expect, folder, make_runfile, rng, run_file, written
 
-RUNS, DAMAGED = 200, 600
+RUNS, DAMAGED = 80, 300
 NAMES = "signal 0 start\nsignal 3 air\nsignal 8 valve\nsignal 31 inputs\nlabel 2 start\n"
 TEXT = """\
 # a bay
@@ -52,13 +53,24 @@ def test_texts():
         expect(answer == (0, made, ""), f"the text {text!r}: {answer}")
 
 
+def test_white_space():
+    """Whatever is white space to Python may stand between bytes and signals, such as 1C; between two digits none may."""
+    blanks = [chr(code) for code in range(sys.maxunicode + 1) if chr(code).isspace() and chr(code) != "\n"]
+    expect("\x1c" in blanks and "\xa0" in blanks, f"white space: {blanks}")
+    for blank in blanks:
+        text = "sequence_06_04\n0208_0100_\nreads back_24_,_8\ninputs\n_-_\n0_,_3\n31,0".replace("_", blank)
+        answer = make_runfile(written("text", text))
+        expect(answer == (0, MADE, ""), f"white space {ord(blank):04X}: {answer}")
+        expect_refused(make_runfile(written("text", f"sequence 0{blank}6")), "line 1: ", f"{ord(blank):04X} between digits")
+
+
 def test_there_and_back():
     """Every example, and random bytes: a run file is that of its text, whatever its sequence is."""
     files = [path.read_bytes() for path in sorted((ROOT / "examples").glob("*.bin"))]
     for _ in range(RUNS):
         inputs = [rng.getrandbits(32) & rng.getrandbits(32) for _ in range(rng.choice([0, 1, 30]))]
         files.append(run_file(rng.randbytes(rng.choice([0, 1, 16, 17, 300, 1100])), inputs, rng.choice([0, rng.getrandbits(32)])))
-    files += [run_file(b"\0", [0xFFFFFFFF] * 16382), run_file(bytes(65530))]
+    files += [run_file(b"\0", [0xFFFFFFFF] * 99 + [1 << 31] * 16283), run_file(bytes(65530))]
     for data in files:
         for names in [], ["--names", written("names", NAMES)]:
             status, text, message = make_runfile("--back", *names, written("run", data))
@@ -85,9 +97,14 @@ def test_damaged_texts():
         ("sequence 00\ninputs\ninputs", "line 3: "), ("sequence 00\ninputs\n0x1", "line 3: "), ("emit 8", "line 1: "),
         ("sequence\nnothing", "line 2: "), ("sequence\n" + "00 " * 65531, "at most 65,536 bytes, and this one would have 65,537"),
         ("sequence 00\ninputs\n" + "0\n" * 16383, "at most 65,536 bytes"), (b"sequence \xff", "byte 9: not UTF-8"),
-        ("#" * (8 * 1024 * 1024 + 1), "longer than the text of any run file"),
     ]:
         expect_refused(make_runfile(written("text", text)), said, f"the text {text[:60]!r}")
+    with open(folder / "long", "wb") as file:
+        file.truncate(runfile.MAX_TEXT + 1)
+    expect_refused(make_runfile(folder / "long"), "longer than the text of any run file", "a long text")
+    longest = [f"signal {number} {chr(0x10400 + number) * 24}" for number in range(32)]
+    line = ", ".join(name.split()[2] for name in longest)
+    expect(len(f"{line}\n".encode()) * 16382 < runfile.MAX_TEXT, "the longest text of a run file is shorter")
     for data in b"", b"\1", MADE[:5], MADE[:10], MADE[:-1], bytes(65537):
         expect_refused(make_runfile("--back", written("run", data)), "(input cut)", f"the run file {data[:20].hex()}")
     expect_refused(make_runfile("--names", written("names", "x"), written("text", TEXT)), "names: line 1: ", "bad names")
