@@ -5,7 +5,7 @@ import subprocess
 import xml.etree.ElementTree
 
 from tests.common import LABELS, ROOT, examples, expect, expect_damage, folder, listed, rng, run_file, show
-from tests.readers import SPACE, picture_of_svg, picture_of_vcd, sets_of, values_of_vcd
+from tests.readers import SPACE, picture_of, picture_of_svg, picture_of_vcd, sets_of, values_of_vcd
 from tests.runs import VALVE, VALVE_LISTING, WORKED, WORKED_LISTING, expect_pictures
 
 NAMES = """\
@@ -122,9 +122,10 @@ def test_longest_run():
     expect(status == 0 and len(drawn) < 6e6 and picture_of_svg(drawn) == sets_of(data, listing), f"all signals: {len(drawn)}")
     expect(int(root.get("width")) < 32768 and int(root.get("height")) < 32768, f"{root.get('viewBox')}")
     few = run_file(bytes.fromhex("0100"), [column >> 3 & 1 for column in range(16382)])
-    expect_pictures(few, listing, "16,382 instants")
-    drawn = show("--svg", "-", data=few, listing=listing)[1]
-    expect(len(drawn) < 2e6, f"few signals: {len(drawn)}")
+    sets = sets_of(few, listing)
+    for words, reader in (["--svg", "-"], picture_of_svg), (["--vcd", "-"], picture_of_vcd), ([], picture_of):
+        status, drawn, _ = show(*words, data=few, listing=listing)
+        expect(status == 0 and len(drawn) < 2e6 and reader(drawn) == sets, f"few signals, {words}: {len(drawn)}")
     short = run_file(bytes.fromhex("0100"), [0] * 100)
     root = xml.etree.ElementTree.fromstring(show("--svg", "-", data=short, listing=listed(*[(1, 0, 1)] * 100))[1])
     blocks = [text for text in root.iter(SPACE + "text") if text.text == "code"]

@@ -6,7 +6,7 @@ from tests.common import ROOT, examples, expand as bytes_of_text, expect, expect
 from tests.generate import accepted_sequence, bytes_of, lines_of, waiting_sequence, without_setpauses
 from tests.machine import expand, run, table_of, tree_of
 
-PAPERS = 400
+PAPERS = 300
 LINE = re.compile(r"[ -][ \d]{3}\d  (?:[0-9A-F]{2}| {2}) (?:[0-9A-F]{2}| {2})  .*")
 
 
@@ -153,7 +153,7 @@ def test_random_papers():
         expect_parted(data, instants, what)
     for what in [("code", 0), ("code", 1), ("code", 2), ("code", 255), ("kind", 1), ("kind", 2), ("kind", 3), ("outside", True),
                  "stopped", "held", "read back"]:
-        expect(met[what] >= 3, f"met {what} {met[what]} times")
+        expect(met[what] >= 2, f"met {what} {met[what]} times")
 
 
 def expect_parted(data, instants, what):
