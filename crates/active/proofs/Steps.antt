@@ -1,26 +1,25 @@
 -- The labels of the active pauses at each command, from what the code finds of its parts.
 use Prim.Native.Nat.{ℕ, _/_, _%_, _^_, _<_}
 use mathlib.Core.Path.{_≡_, refl, sym, ap, ap₂, _∙_, subst}
-use mathlib.Core.Bool.{Bool, true, false, _||_}
+use mathlib.Core.Bool.{Bool, true, false}
 use mathlib.Core.List.{List}
 use native.Mathlib.Omega.{arith}
 use lib.ListN.{length-set, getD, set, replicate}
-use lib.Seq.{getD-set-same, getD-set-other}
 use borrow.Author.Tests.{eqb-true, lt-ltb}
-use Rattle.esterel.specs.Sets.{member, none, join, empty, below, from}
+use Rattle.esterel.specs.Sets.{none, join, empty, below, from}
 use Rattle.esterel.specs.Statement.{local, Statement, pause, seq, par, loop, present, signal, try, suspend}
 use Rattle.esterel.specs.Ranks.{middle, labelsBy}
 use Rattle.theory.proofs.Sets.{join-none-l, join-none-r}
 use Rattle.theory.proofs.SetAlgebra.{join-assoc}
 use Rattle.theory.proofs.Ranks.{labels-by-none}
 use Rattle.limits.specs.Limits.{wordLabels}
-use Rattle.sets.specs.Sets.{labelCount, twoWords, onlyBelow}
-use Rattle.sets.proofs.Words.{words-of, words-none}
+use Rattle.sets.specs.Sets.{labelCount, twoWords, setAt, onlyBelow}
+use Rattle.sets.proofs.Words.{words-of, words-none, stored-here}
 use Rattle.sequence.specs.Commands.{Command}
 use Rattle.sequence.proofs.Table.{byteOf}
 use Rattle.layout.specs.Layout.{Lies, Ready}
 use Rattle.layout.proofs.Laid.{taken, command}
-use Rattle.active.specs.Labelled.{setIn, Adds}
+use Rattle.active.specs.Labelled.{Adds}
 
 -- ---- a mask m, the set a that the code makes of its words, and the words of a part of it
 pub tested : {a m : ℕ} {r x : Bool} → a ≡ m → r ≡ empty a → r ≡ x → empty m ≡ x
@@ -38,31 +37,23 @@ same-labels : {s t : ℕ} {u v : List ℕ} → s ≡ t → Adds s u v → Adds t
 same-labels {u = u} {v = v} e a = subst (λ (x : ℕ). Adds x u v) e a
 
 none-added : (u : List ℕ) → Adds none u u
-none-added u = record { adds = λ l. (l, sym (join-none-r (setIn u))) }
+none-added u = record { adds = λ l. (l, sym (join-none-r (setAt 0 u))) }
 
 both-added : {s t : ℕ} {u v w : List ℕ} → Adds s u v → Adds t v w → Adds (join s t) u w
 both-added {s} {t} {u} a b =
     record {
       adds = λ l. let x = a .adds l in
           let y = b .adds (x .0) in
-          (y .0, y .1 ∙ ap (λ (z : ℕ). join z t) (x .1) ∙ sym (join-assoc (setIn u) s t));
+          (y .0, y .1 ∙ ap (λ (z : ℕ). join z t) (x .1) ∙ sym (join-assoc (setAt 0 u) s t));
     }
 
 -- the words of a set stored, which has the labels there and those of s
-pub words-stored : (u : List ℕ) {a b f s : ℕ} → a ≡ f % 2 ^ wordLabels → b ≡ f / 2 ^ wordLabels → f ≡ join (setIn u) s
+pub words-stored : (u : List ℕ) {a b f s : ℕ} → a ≡ f % 2 ^ wordLabels → b ≡ f / 2 ^ wordLabels → f ≡ join (setAt 0 u) s
     → Adds s u (set (set u 0 a) 1 b)
-words-stored u {a} {b} l h e =
-    record {
-      adds = λ n. (
-        simp length-set n,
-        ap₂ (twoWords wordLabels)
-            (getD-set-other (set u 0 a) 1 0 b 0 (λ z. omega arith) ∙ getD-set-same u 0 a 0 (omega arith))
-            (getD-set-same (set u 0 a) 1 b 0 (simp length-set (omega arith))) ∙ words-mask l h ∙ e,
-      );
-    }
+words-stored u {f = f} l h e = rw (l, h) (record { adds = λ n. (simp length-set n, stored-here 0 f u (omega arith) ∙ e) })
 
 -- labels added to none
-pub from-none : {s : ℕ} {v : List ℕ} → Adds s (replicate 2 0) v → setIn v ≡ s
+pub from-none : {s : ℕ} {v : List ℕ} → Adds s (replicate 2 0) v → setAt 0 v ≡ s
 from-none {s} a = a .adds refl .1 ∙ ap (λ (x : ℕ). join x s) (words-none wordLabels) ∙ join-none-l s
 
 -- ---- any command

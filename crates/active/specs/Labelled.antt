@@ -2,19 +2,15 @@
 use Prim.Native.Nat.{ℕ}
 use mathlib.Core.Path.{_≡_}
 use mathlib.Core.List.{List}
-use lib.ListN.{length, getD}
+use lib.ListN.{length}
 use Rattle.esterel.specs.Sets.{join, below, from}
 use Rattle.esterel.specs.Statement.{Statement}
 use Rattle.esterel.specs.Ranks.{middle, labelsBy}
 use Rattle.limits.specs.Limits.{wordLabels}
-use Rattle.sets.specs.Sets.{twoWords}
+use Rattle.sets.specs.Sets.{twoWords, setAt}
 use Rattle.labels.specs.declared.Labels.{Labels}
 use Rattle.labels.specs.Labels.{labelSet}
 use Rattle.layout.specs.Layout.{Two, Lies}
-
--- the set held in the two words of an array
-abbrev pub setIn : List ℕ → ℕ
-setIn words = twoWords wordLabels (getD words 0 0) (getD words 1 0)
 
 -- r has the labels of the pauses of the mask m in the statement that lies there
 abbrev pub Labelled : (t : List ℕ) (d a : ℕ) (bs : List ℕ) (m : ℕ) (r : Labels) → Type 0
@@ -22,7 +18,7 @@ Labelled t d a bs m r = (base : ℕ) (p : Statement) → Lies t d base a bs p �
 
 -- the labels of s are put among those in an array of two words
 pub record Adds (s : ℕ) (before after : List ℕ) : Type 0 where
-  pub adds : length before ≡ 2 → (length after ≡ 2) × (setIn after ≡ join (setIn before) s)
+  pub adds : length before ≡ 2 → (length after ≡ 2) × (setAt 0 after ≡ join (setAt 0 before) s)
 
 -- the labels of the pauses of a mask of two words are put there
 abbrev pub Found : (t : List ℕ) (d a : ℕ) (bs : List ℕ) (low high : ℕ) (before after : List ℕ) → Type 0

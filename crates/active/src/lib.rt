@@ -82,42 +82,28 @@ fn parts(
     let active = labels::from_words(low, high);
     let first = labels::below(active, entry / 2048);
     let others = labels::from(active, entry / 2048);
+    let low_others = labels::low_word(others);
+    let high_others = labels::high_word(others);
     if labels::is_empty(first) {
-        part(
-            s,
-            n,
-            m,
-            depth - 1,
-            labels::low_word(others),
-            labels::high_word(others),
-            second,
-            found,
-        );
+        part(s, n, m, depth - 1, low_others, high_others, second, found);
         return;
     }
+    let low_first = labels::low_word(first);
+    let high_first = labels::high_word(first);
     part(
         s,
         w,
         at + w,
         depth - 1,
-        labels::low_word(first),
-        labels::high_word(first),
+        low_first,
+        high_first,
         second,
         found,
     );
     if labels::is_empty(others) {
         return;
     }
-    part(
-        s,
-        n,
-        m,
-        depth - 1,
-        labels::low_word(others),
-        labels::high_word(others),
-        second,
-        found,
-    );
+    part(s, n, m, depth - 1, low_others, high_others, second, found);
 }
 
 // The labels of the part from s[n] on, which stands at the offset `at`.

@@ -1,10 +1,8 @@
 -- The signal rules on the values of the code are esterel's: one law for each case.
 use Prim.Native.Nat.{ℕ, _+_}
 use mathlib.Core.Path.{_≡_, refl, sym, ap, _∙_}
-use mathlib.Core.Bool.{Bool, true, false, not, _&&_, _||_, cond, false≢true, true≢false}
+use mathlib.Core.Bool.{Bool, true, false, not, _||_, cond, false≢true, true≢false}
 use mathlib.Core.Option.{Option, some}
-use lib.Dec.{eqb}
-use borrow.Author.Tests.{eqb-true}
 use Rattle.labels.specs.declared.Labels.{Labels}
 use Rattle.labels.specs.Labels.{Stands}
 use Rattle.labels.proofs.LabelValues.{stands-of}
@@ -15,8 +13,7 @@ use Rattle.esterel.specs.Reaction as rules
 use Rattle.esterel.specs.Errors.{Error, notReactive, notDeterministic}
 use Rattle.esterel.specs.Resume as Esterel
 use Rattle.esterel.specs.Resume.{instant, ifWrong, signalNames, tree, signalTree, signalOnce}
-use Rattle.theory.proofs.Sets.{member-remove, ext}
-use Rattle.theory.proofs.Booleans.{and-true, Tested, tested}
+use Rattle.theory.proofs.Sets.{remove-absent}
 use Rattle.theory.proofs.Rules.{either-wrong}
 use Rattle.completions.specs.declared.Completion.{Completion}
 use Rattle.reaction.specs.declared.Reaction.{Reaction}
@@ -24,9 +21,9 @@ use Rattle.declarations.specs.declared.Choice.{Choice}
 use Rattle.declarations.specs.declared.Choice.the-variants.{Both, Neither, OnlyMinus, OnlyPlus, Inherited}
 use Rattle.completions.specs.Completions.{completionOf, codeOf, greaterOf}
 use Rattle.completions.proofs.Completions.{code-of, greater-of}
-use Rattle.reaction.specs.Reactions.{word, reactionOf, failedWith}
+use Rattle.reaction.specs.Reactions.{keptOf, reactionOf, failedWith}
 use Rattle.declarations.specs.Choices.{choiceOf, caseIn}
-use Rattle.reaction.proofs.Values.{word-two, made}
+use Rattle.reaction.proofs.Values.{kept-two, made}
 
 abbrev caseOf : Choice → Case
 caseOf Both = both
@@ -101,7 +98,7 @@ Runs s p q b = isInherited (caseIn s p q) ≡ b
 
 -- both runs count, and what they ask for is asked outside but s
 abbrev Counted : (p q : Reaction) (m : ℕ) → Type 0
-Counted p q m = m ≡ word (1 + p .taken + q .taken)
+Counted p q m = m ≡ keptOf (1 + p .taken + q .taken)
 
 abbrev Noted : (s : ℕ) (p q : Reaction) (a : ℕ) → Type 0
 Noted s p q a = a ≡ remove s (join (p .asked) (q .asked))
@@ -117,7 +114,7 @@ in-both sc b s (tree (instant (gives o− k− l− t−) x− n−) a−) (tree
     made k+ Option.none (1 + n− + n+) (remove s (join a− a+)) e (stands-of l+)
     (unmoved k+ x+ Option.none
     (right-runs (member s o−) (member s o+) (isWrong k−) (isWrong k+) (rw (code-of k− x−, code-of k+ x+) at h) .1))
-    (w ∙ word-two n− n+) f
+    (w ∙ kept-two n− n+) f
 
 abbrev InNeither : (sc : Scope) (b s : ℕ) (t u : Esterel.Tree) (p q : Reaction) → Type 0
 InNeither sc b s t u p q =
@@ -130,7 +127,7 @@ in-neither sc b s (tree (instant (gives o− k− l− t−) x− n−) a−) (t
     made k− Option.none (1 + n− + n+) (remove s (join a− a+)) refl (stands-of l−)
     (unmoved k− x− Option.none
     (right-runs (member s o−) (member s o+) (isWrong k−) (isWrong k+) (rw (code-of k− x−, code-of k+ x+) at h) .0))
-    (w ∙ word-two n− n+) f
+    (w ∙ kept-two n− n+) f
 
 abbrev InInherited : (sc : Scope) (b s : ℕ) (t u : Esterel.Tree) (p q : Reaction) → Type 0
 InInherited sc b s t u p q =
@@ -144,7 +141,7 @@ in-inherited sc b s (tree (instant (gives o− k− l− t−) x− n−) a−) 
     let v = wrong-runs (member s o−) (member s o+) (isWrong k−) (isWrong k+) (rw (code-of k− x−, code-of k+ x+) at h) in
     made wrong (ifWrong k− x− x+) (1 + n− + n+) (remove s (join a− a+)) refl e
     (g ∙ greater-of k− k+ x− x+ ∙ ap (λ (k : Code). completionOf k (ifWrong k− x− x+)) (either-wrong k− k+ v))
-    (w ∙ word-two n− n+) f
+    (w ∙ kept-two n− n+) f
 
 -- a case of the signal's own error
 abbrev InFailed : (d : Case) (sc : Scope) (b s : ℕ) (t u : Esterel.Tree) (p q : Reaction) → Type 0
@@ -154,7 +151,7 @@ InFailed d sc b s t u p q =
 
 in-failed : (d : Case) (sc : Scope) (b s : ℕ) (t u : Esterel.Tree) → InFailed d sc b s t u (reactionOf t) (reactionOf u)
 in-failed d sc b s (tree (instant (gives o− k− l− t−) x− n−) a−) (tree (instant r+ x+ n+) a+) x m a h n w f =
-    rw (h (gives o− k− l− t−) r+, n (ifWrong k− x− x+), w, word-two n− n+, f)
+    rw (h (gives o− k− l− t−) r+, n (ifWrong k− x− x+), w, kept-two n− n+, f)
 
 module _ (sc : Scope) (b s : ℕ) (t u : Esterel.Tree) (p q : Reaction) (p-is : p ≡ reactionOf t) (q-is : q ≡ reactionOf u)
     (v : Choice) (fits : v ≡ choiceOf (caseIn s p q)) (m a : ℕ) (counted : Counted p q m) (noted : Noted s p q a) where
@@ -196,11 +193,7 @@ module _ (sc : Scope) (b s : ℕ) (t u : Esterel.Tree) (p q : Reaction) (p-is : 
 
 -- ---- one run that stands for both: s is emitted by both or by neither, and a wrong run is inherited
 absent-outside : (sc : Scope) (s o : ℕ) → member s o ≡ false → outside sc s o ≡ o
-absent-outside local s o h = ext (remove s o) o (λ i. member-remove s o i ∙ go i (tested (eqb s i)))
-  where
-    go : (i : ℕ) → Tested (eqb s i) → (member i o && not (eqb s i)) ≡ member i o
-    go i (Tested.yes x) = rw (x, ← eqb-true s i x, h)
-    go i (Tested.no x) = rw x (and-true (member i o))
+absent-outside local s o h = remove-absent s o h
 absent-outside reported s o h = refl
 
 module _ (sc : Scope) (b s : ℕ) where
@@ -212,9 +205,9 @@ module _ (sc : Scope) (b s : ℕ) where
 
   right-by-member : (c : Bool) (o₁ : ℕ) (k : Code) (l : ℕ) (t₁ : Statement) (x : Option Error) (n a : ℕ) → member s o₁ ≡ c
       → isWrong k ≡ false → OnceRight (tree (instant (gives o₁ k l t₁) x n) a) (reactionOf (tree (instant (gives o₁ k l t₁) x n) a))
-  right-by-member true o₁ k l t₁ x n a i r o m h e w = rw (i, r, e, w, word-two n n, unmoved k x Option.none r)
+  right-by-member true o₁ k l t₁ x n a i r o m h e w = rw (i, r, e, w, kept-two n n, unmoved k x Option.none r)
   right-by-member false o₁ k l t₁ x n a i r o m h e w =
-      rw (i, r, e, absent-outside sc s o₁ i, w, word-two n n, unmoved k x Option.none r)
+      rw (i, r, e, absent-outside sc s o₁ i, w, kept-two n n, unmoved k x Option.none r)
 
   right-run : (t : Esterel.Tree) → OnceRight t (reactionOf t)
   right-run (tree (instant (gives o₁ k l t₁) x n) a) o m h =
@@ -230,7 +223,7 @@ module _ (sc : Scope) (b s : ℕ) where
   wrong-run (tree (instant (gives o₁ ended l₁ t₁) x n) a) l m h e w = absurd (false≢true h)
   wrong-run (tree (instant (gives o₁ waiting l₁ t₁) x n) a) l m h e w = absurd (false≢true h)
   wrong-run (tree (instant (gives o₁ (leaving k) l₁ t₁) x n) a) l m h e w = absurd (false≢true h)
-  wrong-run (tree (instant (gives o₁ wrong l₁ t₁) x n) a) l m h e w = made wrong x (1 + n + n) a refl e refl (w ∙ word-two n n) refl
+  wrong-run (tree (instant (gives o₁ wrong l₁ t₁) x n) a) l m h e w = made wrong x (1 + n + n) a refl e refl (w ∙ kept-two n n) refl
 
   module _ (t : Esterel.Tree) (p : Reaction) (p-is : p ≡ reactionOf t) {m : ℕ} (counted : Counted p p m) {r : Reaction} where
     pub once-right : isWrong (codeOf (p .completion)) ≡ false → {o : ℕ} → o ≡ outside sc s (p .emitted)

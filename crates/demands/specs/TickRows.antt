@@ -19,7 +19,7 @@ pub data Malformed (p : Statement) (phase labels : ℕ) : Type 0 where
   not-valid : phase ≡ 1 → ¬ Valid p labels → Malformed p phase labels
 
 pub data TickRow (sequence : List ℕ) (readBack : ℕ) (state answer : List ℕ) : (number : ℕ) → Type 0 where
-  -- state buffer not 9 bytes, or answer buffer not 12 (02, item 6)
+  -- state buffer not 17 bytes (02, item 7), or answer buffer not 12 (02, item 6)
   row-1 : (length state ≢ stateLength) ⊎ (length answer ≢ answerLength) → TickRow sequence readBack state answer 1
   row-2-to-10 : {number : ℕ} → Row sequence readBack number → TickRow sequence readBack state answer number
   row-11 : {p : Statement} → Spells sequence p → Malformed p (phaseIn state) (labelsIn state) → TickRow sequence readBack state answer 11

@@ -1,6 +1,5 @@
--- The signals whose status the tree of an instant asks for (01, 'One reaction'; 02, item 1): a present and a held suspend ask,
--- both runs of a signal are asked, and a declaration hides its own signal. A status that nobody asks for changes nothing of the
--- tree (theory/proofs/Asked), so a run with a signal is needed only where the run without it asked.
+-- The signals whose status the tree of an instant asks for (01, 'One reaction'; 02, item 1): a present and a held suspend ask, in
+-- both runs of a signal, which hides its own. A status that nobody asks for changes nothing of the tree (theory/proofs/Asked).
 use Prim.Native.Nat.{ℕ}
 use mathlib.Core.Path.{_≡_, refl}
 use mathlib.Core.Bool.{cond}
@@ -28,7 +27,7 @@ askedBy ord (held s K p) e = insert s (cond (member s e) none (askedBy ord p e))
 abbrev pub asked : Statement → ℕ → ℕ
 asked = askedBy inheritanceFirst
 
--- ---- the same on derivations: the signals of the membership tests in the rules used
+-- ---- the same on derivations: the signals whose status the rules used test, but those that a declaration hides
 unfoldable pub asks : {p : Statement} {e : ℕ} {r : Reaction} → Reacts p e r → ℕ
 asks Reacts.nothing = none
 asks Reacts.pause = none

@@ -113,8 +113,7 @@ abbrev pub stoppedTree : (s K : ℕ) → Statement → Tree
 stoppedTree s K p = tree (stoppedInstant s K p) (insert s none)
 
 -- ---- the expansion of p, whose first pause has rank base, by the ranks m of its active pauses; m is not empty
--- Of a parallel, a side without an active pause has ended; what a suspend holds are the labels of its ranks. A sequence whose
--- second part is active, and a present, are gone.
+-- A side without an active pause has ended; a sequence whose second part is active, and a present, are gone.
 unfoldable pub expandBy : (base : ℕ) → Statement → (m : ℕ) → Statement
 expandBy base nothing m = nothing
 expandBy base (pause l) m = nothing

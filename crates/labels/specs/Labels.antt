@@ -11,9 +11,10 @@ labelSet s = twoWords wordLabels (s .low) (s .high)
 unfoldable pub labelsWith : ℕ → Labels
 labelsWith n = record { low = n % 2 ^ wordLabels; high = n / 2 ^ wordLabels }
 
--- a value of the code, which holds no more in its first word than that has room for, stands for n
+-- the first word holds no more than it has room for, as in every value of the code
 abbrev pub Held : Labels → Type 0
 Held s = s .low < 2 ^ wordLabels
 
+-- s is a value of the code that stands for n
 abbrev pub Stands : Labels → ℕ → Type 0
 Stands s n = Held s × (labelSet s ≡ n)

@@ -1,5 +1,5 @@
-// Sets of labels 0 to 127, in two words. Only this crate knows how a set is held. Every function is defined for every index; one
-// outside the width is no member.
+// Sets of labels 0 to 127, in two words; other crates see them by `from_words`, `low_word` and `high_word` alone. Every function is
+// defined for every index; one outside the width is no member.
 ghost use mathlib.Core.Path.{_≡_};
 ghost use mathlib.Core.Bool.{true};
 ghost use mathlib.Core.Logic.{_↔_};

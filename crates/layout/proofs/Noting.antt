@@ -20,10 +20,10 @@ use Rattle.theory.proofs.Sets.{member-only, join-none-l, join-none-r}
 use Rattle.theory.proofs.LabelSets.{in-none, in-l, in-r, in-join, disjoint-is}
 use Rattle.theory.proofs.SetAlgebra.{join-assoc, empty-join, disjoint-none, none-disjoint, once-both}
 use Rattle.limits.specs.Limits.{labelCount, wordLabels}
-use Rattle.sets.specs.Sets.{twoWords}
+use Rattle.sets.specs.Sets.{twoWords, setAt}
 use Rattle.sets.proofs.Words.{words-none, one-low, one-high, common-low, common-high}
 use Rattle.sequence.specs.Writer.{bytesOf, size, Ranged}
-use Rattle.layout.specs.Notes.{pausesIn, setpausesIn, twiceIn, countIn, rankIn, noteCount, noNotes, wordAt, digitOf, notePause, noteSetpause, note, Noted}
+use Rattle.layout.specs.Notes.{pausesIn, setpausesIn, twiceIn, countIn, rankIn, noteCount, noNotes, wordAt, inWord, notePause, noteSetpause, note, Noted}
 
 -- the words of both sets hold what they have room for
 pub record Held (m : List ℕ) : Type 0 where
@@ -62,10 +62,6 @@ silent m =
     }
 
 -- ---- a word of a set
--- the set that begins at `at`
-abbrev setAt : ℕ → List ℕ → ℕ
-setAt at m = twoWords wordLabels (getD m at 0) (getD m (at + 1) 0)
-
 -- a word stored among those of the sets, and a number stored behind them
 held-set : (i v : ℕ) (m : List ℕ) → i < length m → v < 2 ^ wordLabels → Held m → Held (set m i v)
 held-set i v m k f fit = record { fits = λ j g. go j g (tested (eqb i j)) }
@@ -81,14 +77,14 @@ held-above : (i v : ℕ) (m : List ℕ) → 4 ≤ i → Held m → Held (set m i
 held-above i v m k fit =
     record { fits = λ j g. subst (λ (x : ℕ). x < 2 ^ wordLabels) (sym (getD-set-other m i j v 0 (λ z. omega arith))) (fit .fits j g) }
 
-digit-fits : (l : ℕ) → digitOf l < 2 ^ wordLabels
+digit-fits : (l : ℕ) → inWord l < 2 ^ wordLabels
 unfolding only
 digit-fits l = let h : l % wordLabels < wordLabels = omega arith in pow-lt h
 
 module _ (at l : ℕ) (m : List ℕ) (h : l < labelCount) (long : at + 1 < length m) (fits : getD m at 0 < 2 ^ wordLabels) where
   -- the notes with l in the set
   abbrev with-digit : List ℕ
-  with-digit = set m (at + l / wordLabels) (join (wordAt at l m) (digitOf l))
+  with-digit = set m (at + l / wordLabels) (join (wordAt at l m) (inWord l))
 
   in-low : l < wordLabels → (at + l / wordLabels ≡ at) × (l % wordLabels ≡ l)
   in-low k = (omega arith, omega arith)
@@ -96,9 +92,9 @@ module _ (at l : ℕ) (m : List ℕ) (h : l < labelCount) (long : at + 1 < lengt
   in-high : wordLabels ≤ l → (at + l / wordLabels ≡ at + 1) × (l % wordLabels ≡ l - wordLabels)
   in-high k = (omega arith, omega arith)
 
-  joined-fits : wordAt at l m < 2 ^ wordLabels → join (wordAt at l m) (digitOf l) < 2 ^ wordLabels
+  joined-fits : wordAt at l m < 2 ^ wordLabels → join (wordAt at l m) (inWord l) < 2 ^ wordLabels
   unfolding join
-  joined-fits k = or-lt wordLabels (wordAt at l m) (digitOf l) k (digit-fits l)
+  joined-fits k = or-lt wordLabels (wordAt at l m) (inWord l) k (digit-fits l)
 
   set-joins : setAt at with-digit ≡ join (setAt at m) (only l)
   set-joins = go (tested (ltb l wordLabels))
@@ -117,11 +113,11 @@ module _ (at l : ℕ) (m : List ℕ) (h : l < labelCount) (long : at + 1 < lengt
           (getD-set-same m (at + 1) (join (getD m (at + 1) 0) (only (l - wordLabels))) 0 (omega arith))
           ∙ one-high wordLabels (getD m at 0) (getD m (at + 1) 0) l fits (ltb-false l wordLabels k))
 
-  digit-common : empty (bitAnd (wordAt at l m) (digitOf l)) ≡ disjoint (setAt at m) (only l)
+  digit-common : empty (bitAnd (wordAt at l m) (inWord l)) ≡ disjoint (setAt at m) (only l)
   unfolding disjoint none
   digit-common = go (tested (ltb l wordLabels))
     where
-      go : Tested (ltb l wordLabels) → eqb (bitAnd (wordAt at l m) (digitOf l)) 0 ≡ eqb (bitAnd (setAt at m) (only l)) 0
+      go : Tested (ltb l wordLabels) → eqb (bitAnd (wordAt at l m) (inWord l)) 0 ≡ eqb (bitAnd (setAt at m) (only l)) 0
       go (Tested.yes k) =
           let q = in-low (ltb-true l wordLabels k) in
           rw (q .0, q .1) (common-low wordLabels (getD m at 0) (getD m (at + 1) 0) l fits (ltb-true l wordLabels k))
@@ -133,10 +129,10 @@ module _ (at l : ℕ) (m : List ℕ) (h : l < labelCount) (long : at + 1 < lengt
 module _ (l : ℕ) (m : List ℕ) (h : l < labelCount) (long : length m ≡ noteCount) where
   -- notePause: what it stores first, and the notes with the first store, and with the second
   abbrev twice : ℕ
-  twice = join (twiceIn m) (bitAnd (wordAt 0 l m) (digitOf l))
+  twice = join (twiceIn m) (bitAnd (wordAt 0 l m) (inWord l))
 
   abbrev paused : ℕ
-  paused = join (wordAt 0 l m) (digitOf l)
+  paused = join (wordAt 0 l m) (inWord l)
 
   abbrev one : List ℕ
   one = set m 4 twice
@@ -181,13 +177,13 @@ module _ (l : ℕ) (m : List ℕ) (h : l < labelCount) (long : length m ≡ note
   pause-joins : Held m → pausesIn (notePause l m) ≡ join (pausesIn m) (only l)
   pause-joins fit =
       ap₂ (twoWords wordLabels) (at-two 0 (λ e. omega arith) (λ e. omega arith)) (at-two 1 (λ e. omega arith) (λ e. omega arith))
-      ∙ ap (λ (v : ℕ). setAt 0 (set one (0 + l / wordLabels) (join v (digitOf l)))) (sym (same-words (0 + l / wordLabels) (omega arith)))
+      ∙ ap (λ (v : ℕ). setAt 0 (set one (0 + l / wordLabels) (join v (inWord l)))) (sym (same-words (0 + l / wordLabels) (omega arith)))
       ∙ set-joins 0 l one h (simp length-set (omega arith)) (omega (arith, same-words 0 (omega arith), fit .fits 0 (omega arith)))
       ∙ ap₂ (λ (a b : ℕ). join (twoWords wordLabels a b) (only l)) (same-words 0 (omega arith)) (same-words 1 (omega arith))
 
   pause-twice : Held m → empty (twiceIn (notePause l m)) ≡ (empty (twiceIn m) && (disjoint (pausesIn m) (only l) && true))
   pause-twice fit =
-      ap empty at-twice ∙ empty-join (twiceIn m) (bitAnd (wordAt 0 l m) (digitOf l))
+      ap empty at-twice ∙ empty-join (twiceIn m) (bitAnd (wordAt 0 l m) (inWord l))
       ∙ ap (λ (b : Bool). empty (twiceIn m) && b)
       (digit-common 0 l m h (omega arith) (fit .fits 0 (omega arith)) ∙ sym (and-true (disjoint (pausesIn m) (only l))))
 
@@ -223,14 +219,14 @@ module _ (l : ℕ) (m : List ℕ) (h : l < labelCount) (long : length m ≡ note
 
   setpause-other : (j : ℕ) → (j ≡ 2 + l / wordLabels → ⊥) → getD (noteSetpause l m) j 0 ≡ getD m j 0
   unfolding noteSetpause
-  setpause-other j f = getD-set-other m (2 + l / wordLabels) j (join (wordAt 2 l m) (digitOf l)) 0 f
+  setpause-other j f = getD-set-other m (2 + l / wordLabels) j (join (wordAt 2 l m) (inWord l)) 0 f
 
   setpause-adds : Added none (only l) 0 true (λ base k. base) m (noteSetpause l m)
   setpause-adds =
       record {
-        long = unfold noteSetpause in length-set m (2 + l / wordLabels) (join (wordAt 2 l m) (digitOf l));
+        long = unfold noteSetpause in length-set m (2 + l / wordLabels) (join (wordAt 2 l m) (inWord l));
         held = λ fit. unfold noteSetpause in
-            held-set (2 + l / wordLabels) (join (wordAt 2 l m) (digitOf l)) m (omega arith)
+            held-set (2 + l / wordLabels) (join (wordAt 2 l m) (inWord l)) m (omega arith)
             (joined-fits 2 l m h (omega arith) (fit .fits 2 (omega arith)) (fit .fits (2 + l / wordLabels) (omega arith))) fit;
         pauses-in = λ fit.
             ap₂ (twoWords wordLabels) (setpause-other 0 (λ e. omega arith)) (setpause-other 1 (λ e. omega arith))

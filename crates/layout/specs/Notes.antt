@@ -11,14 +11,14 @@ use Rattle.esterel.specs.Statement.{Statement, nothing, pause, emit, exit, seq,
 use Rattle.esterel.specs.LabelTests.{pauses, setpauses, distinct}
 use Rattle.esterel.specs.Ranks.{rank}
 use Rattle.limits.specs.Limits.{labelCount, wordLabels}
-use Rattle.sets.specs.Sets.{twoWords}
+use Rattle.sets.specs.Sets.{setAt}
 
 -- ---- the fields
 abbrev pub pausesIn : List ℕ → ℕ
-pausesIn notes = twoWords wordLabels (getD notes 0 0) (getD notes 1 0)
+pausesIn notes = setAt 0 notes
 
 abbrev pub setpausesIn : List ℕ → ℕ
-setpausesIn notes = twoWords wordLabels (getD notes 2 0) (getD notes 3 0)
+setpausesIn notes = setAt 2 notes
 
 -- empty if no label of a pause came twice
 abbrev pub twiceIn : List ℕ → ℕ
@@ -38,20 +38,20 @@ abbrev pub noNotes : List ℕ
 noNotes = replicate noteCount 0
 
 -- ---- what a pause and a setpause add
--- the word that has label l, of a set that begins at `at`, and l in it
+-- the word that has label l, of the set at `at`, and l in that word
 abbrev pub wordAt : (at l : ℕ) → List ℕ → ℕ
 wordAt at l notes = getD notes (at + l / wordLabels) 0
 
-abbrev pub digitOf : ℕ → ℕ
-digitOf l = only (l % wordLabels)
+abbrev pub inWord : ℕ → ℕ
+inWord l = only (l % wordLabels)
 
 unfoldable pub notePause : (l : ℕ) → List ℕ → List ℕ
 notePause l notes =
-    set (set (set (set notes 4 (join (twiceIn notes) (bitAnd (wordAt 0 l notes) (digitOf l))))
-    (0 + l / wordLabels) (join (wordAt 0 l notes) (digitOf l))) (6 + l) (countIn notes)) 5 (countIn notes + 1)
+    set (set (set (set notes 4 (join (twiceIn notes) (bitAnd (wordAt 0 l notes) (inWord l))))
+    (0 + l / wordLabels) (join (wordAt 0 l notes) (inWord l))) (6 + l) (countIn notes)) 5 (countIn notes + 1)
 
 unfoldable pub noteSetpause : (l : ℕ) → List ℕ → List ℕ
-noteSetpause l notes = set notes (2 + l / wordLabels) (join (wordAt 2 l notes) (digitOf l))
+noteSetpause l notes = set notes (2 + l / wordLabels) (join (wordAt 2 l notes) (inWord l))
 
 -- what reading a statement makes of the notes, from the left
 unfoldable pub note : Statement → List ℕ → List ℕ

@@ -34,7 +34,8 @@ maxBytes = 1024
 abbrev pub readBackPlace : ℕ
 readBackPlace = 65535
 
--- ---- 01, 'States and resuming', and 02, items 6 and 7: the bytes of a word of labels, of a label set, of a place, of a signal set and of a number of reactions
+-- ---- 01, 'States and resuming', and 02, items 6 and 7: the bytes of a word of labels, of a label set, of a place, of a signal
+-- set and of a number of reactions
 abbrev pub wordBytes : ℕ
 wordBytes = 8
 
@@ -51,5 +52,5 @@ abbrev pub takenBytes : ℕ
 takenBytes = 4
 
 -- how many numbers those hold
-abbrev pub wordCount : ℕ
-wordCount = 256 ^ takenBytes
+abbrev pub takenCount : ℕ
+takenCount = 256 ^ takenBytes

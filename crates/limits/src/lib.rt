@@ -24,7 +24,8 @@ pub const MAX_BYTES: usize = 1024;
 // The place of an error of a read-back declaration (02, item 5).
 pub const READ_BACK_PLACE: u16 = 65535;
 
-// The bytes of a word of labels, of a label set, of a place, of a signal set and of a number of reactions, and how many numbers the last can hold.
+// The bytes of a word of labels, of a label set, of a place, of a signal set and of a number of reactions, and how many numbers
+// the last can hold.
 pub const WORD_BYTES: usize = 8;
 
 pub const LABEL_BYTES: usize = 16;
@@ -35,4 +36,4 @@ pub const SIGNAL_BYTES: usize = 4;
 
 pub const TAKEN_BYTES: usize = 4;
 
-pub const WORD: u64 = 4294967296;
+pub const TAKEN_COUNT: u64 = 4294967296;

@@ -1,18 +1,17 @@
 -- Rows of label sets as they are held, two words for each label.
-use Prim.Native.Nat.{ℕ, _+_, _*_}
+use Prim.Native.Nat.{ℕ, _*_}
 use mathlib.Core.Path.{_≡_}
 use mathlib.Core.List.{List}
 use mathlib.Core.Bool.{cond}
-use lib.ListN.{length, getD}
+use lib.ListN.{length}
 use lib.Dec.{ltb}
 use Rattle.esterel.specs.Sets.{none}
 use Rattle.esterel.specs.LabelRows.{addRow}
-use Rattle.limits.specs.Limits.{wordLabels}
-use Rattle.sets.specs.Sets.{labelCount, twoWords}
+use Rattle.sets.specs.Sets.{labelCount, setAt}
 
 -- the row of k, for labels below w: no other label has one
 unfoldable pub rowBelow : (w : ℕ) → List ℕ → ℕ → ℕ
-rowBelow w rows k = cond (ltb k w) (twoWords wordLabels (getD rows (2 * k) 0) (getD rows (2 * k + 1) 0)) none
+rowBelow w rows k = cond (ltb k w) (setAt (2 * k) rows) none
 
 abbrev pub addRowBelow : (w k s : ℕ) → (ℕ → ℕ) → ℕ → ℕ
 addRowBelow w k s rows = cond (ltb k w) (addRow k s rows) rows

@@ -1,4 +1,4 @@
--- A value of the code is that of an instant.
+-- A value of the code is that of a tree.
 use Prim.Native.Nat.{ℕ, _+_}
 use mathlib.Core.Path.{_≡_, refl}
 use mathlib.Core.Option.{Option, some}
@@ -16,18 +16,18 @@ use Rattle.theory.proofs.Sets.{join-none-r}
 use Rattle.completions.specs.declared.Completion.{Completion}
 use Rattle.completions.specs.Completions.{completionOf}
 use Rattle.reaction.specs.declared.Reaction.{Reaction}
-use Rattle.reaction.specs.Reactions.{word, reactionOf, failedWith, countedAround}
+use Rattle.reaction.specs.Reactions.{keptOf, reactionOf, failedWith, countedAround}
 
 -- what is kept of a sum is that of what was kept of its parts
-pub word-two : (n m : ℕ) → word (1 + word n + word m) ≡ word (1 + n + m)
-word-two n m = omega arith
+pub kept-two : (n m : ℕ) → keptOf (1 + keptOf n + keptOf m) ≡ keptOf (1 + n + m)
+kept-two n m = omega arith
 
-pub word-one : (n : ℕ) → word (1 + word n) ≡ word (1 + n)
-word-one n = omega arith
+pub kept-one : (n : ℕ) → keptOf (1 + keptOf n) ≡ keptOf (1 + n)
+kept-one n = omega arith
 
 -- a reaction is that of its five values
 module _ (k : Code) (x : Option Error) (n a : ℕ) {o o′ : ℕ} {l : Labels} {l′ : ℕ} {c : Completion} {m b : ℕ} where
-  pub made : o ≡ o′ → Stands l l′ → c ≡ completionOf k x → m ≡ word n → b ≡ a
+  pub made : o ≡ o′ → Stands l l′ → c ≡ completionOf k x → m ≡ keptOf n → b ≡ a
       → _≡_ {A = Reaction} (record { emitted = o; labels = l; completion = c; taken = m; asked = b })
       (reactionOf (tree (instant (gives o′ k l′ nothing) x n) a))
   made h b d e f = rw (← h, ← labels-of l b, ← d, ← e, ← f)
@@ -38,10 +38,10 @@ pub failed-made : (x : Error) (m a : ℕ) (l : Labels) → Stands l none
 failed-made x m a l b = rw (← labels-of l b)
 
 -- ---- a command that only counts, and asks for the signals b
-pub around-reaction : (t : Esterel.Tree) (p : Reaction) (m a b : ℕ) → p ≡ reactionOf t → m ≡ word (1 + p .taken) → a ≡ join (p .asked) b
+pub around-reaction : (t : Esterel.Tree) (p : Reaction) (m a b : ℕ) → p ≡ reactionOf t → m ≡ keptOf (1 + p .taken) → a ≡ join (p .asked) b
     → _≡_ {A = Reaction} (record { emitted = p .emitted; labels = p .labels; completion = p .completion; taken = m; asked = a })
     (reactionOf (countedAround b t))
-around-reaction (tree (instant (gives o k l t) x n) a₁) p m a b h e f = rw (e, f, h, word-one n)
+around-reaction (tree (instant (gives o k l t) x n) a₁) p m a b h e f = rw (e, f, h, kept-one n)
 
 -- around an instant whose tree asks for a; where it asks for none itself, nothing is added
 pub counts-only : (i : Esterel.Instant) (a : ℕ) → reactionOf (countedAround none (tree i a)) ≡ reactionOf (tree (presentInstant i) a)

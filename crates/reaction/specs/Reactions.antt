@@ -3,7 +3,7 @@
 use Prim.Native.Nat.{ℕ, _%_}
 use mathlib.Core.Path.{_≡_}
 use mathlib.Core.Option.{none, some}
-use Rattle.limits.specs.Limits.{wordCount}
+use Rattle.limits.specs.Limits.{takenCount}
 use Rattle.labels.specs.Labels.{labelsWith}
 use Rattle.esterel.specs.Sets.{join}
 use Rattle.esterel.specs.Reaction.{emitted, code, labels, failed}
@@ -14,12 +14,12 @@ use Rattle.completions.specs.Completions.{completionOf}
 use Rattle.reaction.specs.declared.Reaction.{Reaction}
 
 -- what 32 bits keep of a number: no accepted program takes more reactions (demands, Shows.counted)
-abbrev pub word : ℕ → ℕ
-word n = n % wordCount
+abbrev pub keptOf : ℕ → ℕ
+keptOf n = n % takenCount
 
 abbrev pub reactionOf : Esterel.Tree → Reaction
 reactionOf (Esterel.tree (Esterel.instant r x n) a) =
-    record { emitted = emitted r; labels = labelsWith (labels r); completion = completionOf (code r) x; taken = word n; asked = a }
+    record { emitted = emitted r; labels = labelsWith (labels r); completion = completionOf (code r) x; taken = keptOf n; asked = a }
 
 -- the reaction of a command without parts, which asks for the signals a
 abbrev pub alone : rules.Reaction → (a : ℕ) → Esterel.Tree
@@ -36,7 +36,7 @@ failedWith x n a =
       asked = a;
     }
 
--- what a command makes of its part if it only counts, and asks for the signals b itself
+-- a command that changes nothing of its part but the number of reactions, and the signals asked for by b
 abbrev pub countedAround : (b : ℕ) → Esterel.Tree → Esterel.Tree
 countedAround b (Esterel.tree i a) = Esterel.tree (Esterel.presentInstant i) (join a b)
 

@@ -8,7 +8,7 @@ ghost use Rattle.sets.specs.Sets.{labelCount, onlyBelow};
 ghost use Rattle.esterel.specs.Sets.{none};
 ghost use Rattle.esterel.specs.Statement.{nothing};
 ghost use Rattle.esterel.specs.Reaction.{ended, waiting, leaving, gives};
-ghost use Rattle.reaction.specs.Reactions.{word, alone, reactionOf, failedWith, countedAround, FromOne};
+ghost use Rattle.reaction.specs.Reactions.{keptOf, alone, reactionOf, failedWith, countedAround, FromOne};
 use completions::Completion;
 use labels::Labels;
 
@@ -25,14 +25,14 @@ pub struct Reaction {
 // The reactions of a command over two parts. The sum is in range whatever they are, and keeps 32 bits, as the answer does; that
 // no accepted program takes more is part of demand 2 (demands, Shows.counted).
 pub fn over_two(n: u32, m: u32) -> u32
-    ensures { λ r. ⌜ r ≡ word (1 + n + m) ⌝ }
+    ensures { λ r. ⌜ r ≡ keptOf (1 + n + m) ⌝ }
 {
-    ((1 + n as u64 + m as u64) % limits::WORD) as u32
+    ((1 + n as u64 + m as u64) % limits::TAKEN_COUNT) as u32
 }
 
 // The reactions of a command over one part.
 pub fn over_one(n: u32) -> u32
-    ensures { λ r. ⌜ r ≡ word (1 + n) ⌝ }
+    ensures { λ r. ⌜ r ≡ keptOf (1 + n) ⌝ }
 {
     over_two(n, 0)
 }

@@ -18,13 +18,13 @@ use Rattle.completions.specs.declared.Completion.{Completion}
 use Rattle.reaction.specs.declared.Reaction.{Reaction}
 use Rattle.completions.specs.Completions.{completionOf, codeOf, greaterOf, isEnded, caught}
 use Rattle.completions.proofs.Completions.{code-of, greater-of}
-use Rattle.reaction.specs.Reactions.{word, reactionOf, failedWith, countedAround}
-use Rattle.reaction.proofs.Values.{word-two, word-one, made, counts-only}
+use Rattle.reaction.specs.Reactions.{keptOf, reactionOf, failedWith, countedAround}
+use Rattle.reaction.proofs.Values.{kept-two, kept-one, made, counts-only}
 
 -- ---- p; q
 abbrev SeqGoesOn : Statement → (t v : Esterel.Tree) (p q : Reaction) → Type 0
 SeqGoesOn u t v p q =
-    (o m a : ℕ) → isEnded (p .completion) ≡ true → o ≡ join (p .emitted) (q .emitted) → m ≡ word (1 + p .taken + q .taken)
+    (o m a : ℕ) → isEnded (p .completion) ≡ true → o ≡ join (p .emitted) (q .emitted) → m ≡ keptOf (1 + p .taken + q .taken)
     → a ≡ join (p .asked) (q .asked)
     → _≡_ {A = Reaction} (record { emitted = o; labels = q .labels; completion = q .completion; taken = m; asked = a })
     (reactionOf (seqTree u t v))
@@ -38,7 +38,7 @@ module _ (u : Statement) (t v : Esterel.Tree) (p q : Reaction) (p-is : p ≡ rea
     where
       go : (t v : Esterel.Tree) → SeqGoesOn u t v (reactionOf t) (reactionOf v)
       go (tree (instant (gives o₁ ended l₁ t₁) x n) a₁) (tree (instant (gives o₂ k l₂ t₂) y n₂) a₂) o m a h e w f =
-          made k y (1 + n + n₂) (join a₁ a₂) e (stands-of l₂) refl (w ∙ word-two n n₂) f
+          made k y (1 + n + n₂) (join a₁ a₂) e (stands-of l₂) refl (w ∙ kept-two n n₂) f
       go (tree (instant (gives o₁ waiting l₁ t₁) x n) a₁) v o m a h e w f = absurd (false≢true h)
       go (tree (instant (gives o₁ (leaving k) l₁ t₁) x n) a₁) v o m a h e w f = absurd (false≢true h)
       go (tree (instant (gives o₁ wrong l₁ t₁) x n) a₁) v o m a h e w f = absurd (false≢true h)
@@ -57,7 +57,7 @@ module _ (u : Statement) (t v : Esterel.Tree) (p q : Reaction) (p-is : p ≡ rea
 abbrev ParJoins : (t v : Esterel.Tree) (p q : Reaction) → Type 0
 ParJoins t v p q =
     (o m a : ℕ) (l u : Labels) (c : Completion)
-    → o ≡ join (p .emitted) (q .emitted) → c ≡ greaterOf (p .completion) (q .completion) → m ≡ word (1 + p .taken + q .taken)
+    → o ≡ join (p .emitted) (q .emitted) → c ≡ greaterOf (p .completion) (q .completion) → m ≡ keptOf (1 + p .taken + q .taken)
     → a ≡ join (p .asked) (q .asked)
     → labelSet u ≡ join (labelSet (p .labels)) (labelSet (q .labels)) → Stands l (ifWaiting (codeOf c) (labelSet u))
     → _≡_ {A = Reaction} (record { emitted = o; labels = l; completion = c; taken = m; asked = a }) (reactionOf (parTree t v))
@@ -71,17 +71,17 @@ par-joins t v p q p-is q-is = rw (p-is, q-is) (go t v)
         let z′ : codeOf c ≡ greater k₁ k₂ = ap codeOf z ∙ code-of (greater k₁ k₂) (ifWrong k₁ x y) in
         let d′ : labelSet u ≡ join l₁ l₂ = d ∙ ap (λ (h : ℕ). join h (labelSet (labelsWith l₂))) (labelSet-of l₁) ∙ ap (join l₁) (labelSet-of l₂) in
         made (greater k₁ k₂) (ifWrong k₁ x y) (1 + n + n₂) (join a₁ a₂) e
-        (w .0, w .1 ∙ ap (λ (h : Code). ifWaiting h (labelSet u)) z′ ∙ ap (ifWaiting (greater k₁ k₂)) d′) z (s ∙ word-two n n₂) f
+        (w .0, w .1 ∙ ap (λ (h : Code). ifWaiting h (labelSet u)) z′ ∙ ap (ifWaiting (greater k₁ k₂)) d′) z (s ∙ kept-two n n₂) f
 
 -- ---- loop p at the offset b
 module _ (b : ℕ) (u : Statement) (t : Esterel.Tree) (p : Reaction) (p-is : p ≡ reactionOf t) {r : Reaction} where
-  pub loop-fails : (m : ℕ) → isEnded (p .completion) ≡ true → r ≡ failedWith (instantaneous b) m (p .asked) → m ≡ word (1 + p .taken)
+  pub loop-fails : (m : ℕ) → isEnded (p .completion) ≡ true → r ≡ failedWith (instantaneous b) m (p .asked) → m ≡ keptOf (1 + p .taken)
       → r ≡ reactionOf (loopTree b u t)
   loop-fails m h w e = (rw p-is at w) ∙ go t (rw p-is at h) (rw p-is at e)
     where
-      go : (t : Esterel.Tree) → isEnded (reactionOf t .completion) ≡ true → m ≡ word (1 + reactionOf t .taken)
+      go : (t : Esterel.Tree) → isEnded (reactionOf t .completion) ≡ true → m ≡ keptOf (1 + reactionOf t .taken)
           → failedWith (instantaneous b) m (reactionOf t .asked) ≡ reactionOf (loopTree b u t)
-      go (tree (instant (gives o ended l t₁) x n) a) h e = rw (e, word-one n)
+      go (tree (instant (gives o ended l t₁) x n) a) h e = rw (e, kept-one n)
       go (tree (instant (gives o waiting l t₁) x n) a) h e = absurd (false≢true h)
       go (tree (instant (gives o (leaving k) l t₁) x n) a) h e = absurd (false≢true h)
       go (tree (instant (gives o wrong l t₁) x n) a) h e = absurd (false≢true h)
@@ -98,7 +98,7 @@ module _ (b : ℕ) (u : Statement) (t : Esterel.Tree) (p : Reaction) (p-is : p �
 -- ---- try p
 abbrev TryCatches : Esterel.Tree → Reaction → Type 0
 TryCatches t p =
-    (c : Completion) (m : ℕ) → c ≡ caught (p .completion) → m ≡ word (1 + p .taken)
+    (c : Completion) (m : ℕ) → c ≡ caught (p .completion) → m ≡ keptOf (1 + p .taken)
     → _≡_ {A = Reaction} (record { emitted = p .emitted; labels = p .labels; completion = c; taken = m; asked = p .asked })
     (reactionOf (tryTree t))
 
@@ -106,14 +106,14 @@ pub try-catches : (t : Esterel.Tree) (p : Reaction) → p ≡ reactionOf t → T
 try-catches t p p-is = rw p-is (go t)
   where
     leaves : (b : Bool) (o l n : ℕ) (t : Statement) (x : Option Error) (n₁ a : ℕ) (c : Completion) (m : ℕ)
-        → c ≡ cond b (completionOf ended x) (completionOf (leaving (n - 1)) x) → m ≡ word (1 + n₁)
+        → c ≡ cond b (completionOf ended x) (completionOf (leaving (n - 1)) x) → m ≡ keptOf (1 + n₁)
         → _≡_ {A = Reaction} (record { emitted = o; labels = labelsWith l; completion = c; taken = m; asked = a })
         (reactionOf (tree (instant (cond b (gives o ended l nothing) (gives o (leaving (n - 1)) l (try t))) x (1 + n₁)) a))
     leaves true o l n t x n₁ a c m h e = rw (h, e)
     leaves false o l n t x n₁ a c m h e = rw (h, e)
 
     go : (t : Esterel.Tree) → TryCatches t (reactionOf t)
-    go (tree (instant (gives o ended l t₁) x n) a) c m h e = rw (h, e, word-one n)
-    go (tree (instant (gives o waiting l t₁) x n) a) c m h e = rw (h, e, word-one n)
-    go (tree (instant (gives o (leaving k) l t₁) x n) a) c m h e = leaves (eqb k 1) o l k t₁ x n a c m h (e ∙ word-one n)
-    go (tree (instant (gives o wrong l t₁) x n) a) c m h e = rw (h, e, word-one n)
+    go (tree (instant (gives o ended l t₁) x n) a) c m h e = rw (h, e, kept-one n)
+    go (tree (instant (gives o waiting l t₁) x n) a) c m h e = rw (h, e, kept-one n)
+    go (tree (instant (gives o (leaving k) l t₁) x n) a) c m h e = leaves (eqb k 1) o l k t₁ x n a c m h (e ∙ kept-one n)
+    go (tree (instant (gives o wrong l t₁) x n) a) c m h e = rw (h, e, kept-one n)

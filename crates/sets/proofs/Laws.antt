@@ -1,7 +1,7 @@
 -- What the code computes with bits, once for every width w.
 use mathlib.Core.Path.{_≡_, refl, sym, ap, _∙_}
 use mathlib.Core.Logic.{_↔_}
-use mathlib.Core.Bool.{Bool, true, false, not, _&&_, cond, and-true, false≢true}
+use mathlib.Core.Bool.{Bool, true, false, _&&_, cond, false≢true}
 use Prim.Native.Nat.{ℕ, _*_, _-_, _%_, _^_, _≤_, _<_}
 use native.Mathlib.Nat.{lt-of-lt-of-le, one-mul}
 use native.Mathlib.Omega.{arith}
@@ -10,7 +10,7 @@ use lib.Pow.{pow-mono, shl-exact}
 use lib.Bits.{bitAnd, bitXor, and-zero-r, xor-zero-r}
 use borrow.Author.Tests.{eqb-true, eq-eqb, lt-ltb, le-ltb, ltb-false}
 use Rattle.esterel.specs.Sets.{member, none, only, join, insert, remove, below}
-use Rattle.theory.proofs.Sets.{member-and, member-none, member-remove, member-high, join-none-r, ext}
+use Rattle.theory.proofs.Sets.{member-and, member-none, member-high, join-none-r, remove-absent, ext}
 use Rattle.theory.proofs.SplitSets.{below-and, below-all}
 use Rattle.sets.specs.Sets.{onlyBelow, insertBelow, Subset, Disjoint}
 
@@ -31,17 +31,6 @@ join-only w i s = go (ltb i w)
     go : (b : Bool) → join s (cond b (only i) none) ≡ cond b (insert i s) s
     go true = unfold join only insert in refl
     go false = join-none-r s
-
--- an index from the width on is no member, and taking it out changes nothing
-remove-absent : (i s : ℕ) → member i s ≡ false → remove i s ≡ s
-remove-absent i s h = ext (remove i s) s (λ j. member-remove i s j ∙ go j (eqb i j) refl)
-  where
-    go : (j : ℕ) (b : Bool) → eqb i j ≡ b → (member j s && not b) ≡ member j s
-    go j true e = ap (λ (x : Bool). x && false) gone ∙ sym gone
-      where
-        gone : member j s ≡ false
-        gone = ap (λ (k : ℕ). member k s) (sym (eqb-true i j e)) ∙ h
-    go j false e = and-true (member j s)
 
 pub difference-only : (w i s : ℕ) → s < 2 ^ w → bitXor s (bitAnd s (onlyBelow w i)) ≡ remove i s
 unfolding remove only none

@@ -1,14 +1,12 @@
 -- The number of members of a set of numbers below a width is the number of its set digits.
 use Prim.Native.Nat.{ℕ, zero, suc, _+_, _*_, _/_, _%_, _^_, _<_}
 use mathlib.Core.Path.{_≡_, refl, sym, ap, _∙_}
-use mathlib.Core.Bool.{Bool, true, false}
 use mathlib.Core.List.{List}
 use native.Mathlib.Nat.{pow-suc, div-div-eq-div-mul}
 use native.Mathlib.Omega.{arith}
 use lib.Dec.{eqb}
 use lib.ListN.{length}
 use lib.Count.{ones, ones-step}
-use borrow.Author.Tests.{eq-eqb, ne-eqb}
 use Rattle.esterel.specs.Sets.{member}
 use Rattle.esterel.specs.ReadBack.{keepIf, membersFrom}
 

@@ -4,15 +4,19 @@ use mathlib.Core.Path.{_≡_, refl, sym, ap, ap₂, _∙_, subst}
 use mathlib.Core.Logic.{_↔_}
 use mathlib.Core.Bool.{Bool, true, false}
 use native.Mathlib.Omega.{arith}
-use native.Mathlib.Nat.{mod-lt, div-lt-iff-lt-mul, mul-comm}
+use native.Mathlib.Nat.{mod-lt, div-lt-iff-lt-mul}
+use mathlib.Core.List.{List}
 use lib.Dec.{eqb, ltb}
+use lib.ListN.{length, getD, set, length-set}
+use lib.Seq.{getD-set-same, getD-set-other}
 use lib.Bits.{bitAnd, bitXor, and-block, or-block, xor-block, and-lt, and-zero-r}
 use lib.Pow.{pow-pos, pow-lt, pow-add, shr-shr, split, high, low, field, mod-mod-pow, mod-pow-add}
 use borrow.Author.Tests.{eq-eqb, eqb-true, ne-eqb, eqb-false, ltb-true, ltb-false, lt-ltb}
+use Rattle.limits.specs.Limits.{wordLabels}
 use Rattle.esterel.specs.Sets.{member, none, only, join, below}
 use Rattle.theory.proofs.Booleans.{clash}
 use Rattle.theory.proofs.Sets.{member-none, member-high, join-none-r}
-use Rattle.sets.specs.Sets.{onlyBelow, twoWords, Subset, Disjoint, Lowest}
+use Rattle.sets.specs.Sets.{onlyBelow, twoWords, setAt, Subset, Disjoint, Lowest}
 use Rattle.sets.proofs.Laws.{shifted-only, subset-test, disjoint-test}
 
 -- ---- a number and the two words that hold it
@@ -40,6 +44,25 @@ module _ (w a b : ℕ) (fits : a < 2 ^ w) where
   words-lt v h =
       subst (λ (x : ℕ). twoWords w a b < x) (sym (pow-add 2 v w))
       (div-lt-iff-lt-mul (pow-pos w) .0 (subst (λ (x : ℕ). x < 2 ^ v) (sym high-word) h))
+
+-- ---- both words of a set stored in a list, and those of another
+abbrev pub stored : (at v : ℕ) → List ℕ → List ℕ
+stored at v m = set (set m at (v % 2 ^ wordLabels)) (at + 1) (v / 2 ^ wordLabels)
+
+pub stored-here : (at v : ℕ) (m : List ℕ) → at + 1 < length m → setAt at (stored at v m) ≡ v
+stored-here at v m h =
+    let one = set m at (v % 2 ^ wordLabels) in
+    ap₂ (twoWords wordLabels)
+    (getD-set-other one (at + 1) at (v / 2 ^ wordLabels) 0 (λ e. omega arith) ∙ getD-set-same m at (v % 2 ^ wordLabels) 0 (omega arith))
+    (getD-set-same one (at + 1) (v / 2 ^ wordLabels) 0 (simp length-set (omega arith)))
+    ∙ words-of wordLabels v
+
+pub stored-elsewhere : (at v i : ℕ) (m : List ℕ) → (i ≡ at → ⊥) → (i ≡ at + 1 → ⊥) → (i + 1 ≡ at → ⊥) → setAt i (stored at v m) ≡ setAt i m
+stored-elsewhere at v i m f g h = ap₂ (twoWords wordLabels) (other i f g) (other (i + 1) h (λ e. f (omega arith)))
+  where
+    other : (j : ℕ) → (j ≡ at → ⊥) → (j ≡ at + 1 → ⊥) → getD (stored at v m) j 0 ≡ getD m j 0
+    other j f g =
+        getD-set-other (set m at (v % 2 ^ wordLabels)) (at + 1) j (v / 2 ^ wordLabels) 0 g ∙ getD-set-other m at j (v % 2 ^ wordLabels) 0 f
 
 -- ---- members
 -- below w those of the first word

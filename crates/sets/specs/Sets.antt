@@ -2,7 +2,10 @@
 use Prim.Native.Nat.{ℕ, _+_, _*_, _^_, _<_}
 use mathlib.Core.Path.{_≡_}
 use mathlib.Core.Bool.{true, false, cond}
+use mathlib.Core.List.{List}
+use lib.ListN.{getD}
 use lib.Dec.{ltb}
+use Rattle.limits.specs.Limits.{wordLabels}
 pub use Rattle.limits.specs.Limits.{labelCount, signalCount}
 use Rattle.esterel.specs.Sets.{member, none, only, insert}
 
@@ -13,9 +16,13 @@ onlyBelow w i = cond (ltb i w) (only i) none
 abbrev pub insertBelow : (w i s : ℕ) → ℕ
 insertBelow w i s = cond (ltb i w) (insert i s) s
 
--- the set held in two words: the members below w, and those from w on moved down by w
+-- the set held in two words: the members below w, in a first word below 2 ^ w, and those from w on moved down by w
 unfoldable pub twoWords : (w low high : ℕ) → ℕ
 twoWords w low high = high * 2 ^ w + low
+
+-- the set in the two words of a list that begin at `at`
+abbrev pub setAt : (at : ℕ) → List ℕ → ℕ
+setAt at words = twoWords wordLabels (getD words at 0) (getD words (at + 1) 0)
 
 abbrev pub Subset : ℕ → ℕ → Type 0
 Subset s t = (i : ℕ) → member i s ≡ true → member i t ≡ true

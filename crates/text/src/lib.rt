@@ -21,7 +21,7 @@ fn one_less(n: usize) -> usize
 }
 
 // Puts one byte before `end`, and answers where it stands.
-pub fn put_byte(line: &mut [u8], end: usize, b: u8) -> usize
+fn put_byte(line: &mut [u8], end: usize, b: u8) -> usize
     requires { ⌜ (0 < end) × (end ≤ length (now line)) ⌝ }
     ensures { λ r. ⌜ Prepended (now (line .entry)) end (b ∷ []) (now (line .exit)) r ⌝ }
 {

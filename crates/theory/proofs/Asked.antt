@@ -15,7 +15,7 @@ use Rattle.esterel.specs.Reactions.{reactionsBy}
 use Rattle.esterel.specs.Asked.{askedBy, asked, asks}
 use Rattle.esterel.specs.Resume.{signalInstant, Tree, tree, askedOf, startTree, signalTree, signalOnce}
 use Rattle.theory.proofs.Booleans.{or-l, or-true, or-false, and-true, and-false, clash, Tested, tested}
-use Rattle.theory.proofs.Sets.{member-join, member-insert, member-remove, join-none-r, ext}
+use Rattle.theory.proofs.Sets.{member-insert, member-remove, join-none-r, join-self, remove-absent}
 use Rattle.theory.proofs.LabelSets.{in-l, in-r}
 use Rattle.theory.proofs.Rules.{sound}
 use Rattle.theory.proofs.Reactions.{stays}
@@ -156,14 +156,7 @@ one-run s p e h = unasked-tree p (remove s e) (insert s e) (agree-runs s (asked 
 
 -- two equal runs that do not ask for s ask for the same outside its declaration
 twice : (s a : ℕ) → member s a ≡ false → remove s (join a a) ≡ a
-twice s a h =
-    ext (remove s (join a a)) a (λ i. member-remove s (join a a) i ∙ rw (member-join i a a) (go i (tested (eqb s i)) (tested (member i a))))
-  where
-    go : (i : ℕ) → Tested (eqb s i) → Tested (member i a) → ((member i a || member i a) && not (eqb s i)) ≡ member i a
-    go i (Tested.yes x) (Tested.yes m) = clash (member s a) (ap (λ (j : ℕ). member j a) (eqb-true s i x) ∙ m) h
-    go i (Tested.yes x) (Tested.no m) = rw (x, m)
-    go i (Tested.no x) (Tested.yes m) = rw (x, m)
-    go i (Tested.no x) (Tested.no m) = rw (x, m)
+twice s a h = ap (remove s) (join-self a) ∙ remove-absent s a h
 
 pub once-is : (sc : Scope) (a s : ℕ) (t : Tree) → member s (askedOf t) ≡ false → signalTree sc a s t t ≡ signalOnce sc a s t
 once-is sc a s (tree i b) h = ap (tree (signalInstant sc a s i i)) (twice s b h)

@@ -3,9 +3,9 @@
 use Prim.Native.Nat.{ℕ, _+_, _%_, _^_, _<_, _≤_}
 use mathlib.Core.Path.{_≡_, refl, sym, ap, ap₂, _∙_, subst}
 use mathlib.Core.Logic.{⊎-elim, _↔_}
-use mathlib.Core.Bool.{Bool, true, false, not, _||_, cond, false≢true}
+use mathlib.Core.Bool.{Bool, true, false, not, _||_, cond}
 use native.Mathlib.Omega.{arith}
-use lib.Bits.{bitOr, or-self, or-zero-l, or-lt, or-mod, or-add-and, and-le-l, and-le-r}
+use lib.Bits.{bitOr, or-zero-l, or-lt, or-mod, or-add-and, and-le-l, and-le-r}
 use lib.Pow.{pow-pos, pow-mono, mod-mod-pow}
 use borrow.Author.Tests.{eqb-true, eqb-false, eq-eqb, ne-eqb, not-true}
 use Rattle.esterel.specs.Sets.{member, none, only, join, empty, below, from}
@@ -15,7 +15,7 @@ use Rattle.esterel.specs.States.{active, Distinct}
 use Rattle.esterel.specs.LabelTests.{Joint, labelsOf, pauses, activeLabels}
 use Rattle.esterel.specs.Ranks.{pauseCount, middle, mask, rank, labelsBy}
 use Rattle.theory.proofs.Booleans.{clash, never, Tested, tested}
-use Rattle.theory.proofs.Sets.{member-join, member-only, join-none-l, join-none-r, ext}
+use Rattle.theory.proofs.Sets.{member-join, member-only, join-none-l, join-none-r, join-self, ext}
 use Rattle.theory.proofs.SplitSets.{none-lt, only-lt, none-over, only-over, below-join, from-join}
 use Rattle.theory.proofs.Places.{distinct-part, disjoint-parts}
 use Rattle.theory.proofs.Activity.{active-is, activeLabels-none, activeLabels-pause, activeLabels-two}
@@ -208,10 +208,6 @@ four a b c d =
     go false true true t = refl
     go false true false t = refl
     go false false z t = refl
-
-join-self : (s : ℕ) → join s s ≡ s
-unfolding join
-join-self s = or-self s
 
 pub mask-join : (base : ℕ) (p : Statement) (L M : ℕ) → mask base p (join L M) ≡ join (mask base p L) (mask base p M)
 unfolding mask

@@ -1,13 +1,14 @@
 -- Laws of sets of small numbers: what the members of each set are, and that two sets with the same members are one.
 use mathlib.Core.Path.{_≡_, refl, sym, ap, _∙_}
-use mathlib.Core.Bool.{Bool, true, false, not, _&&_, _||_, false≢true, true≢false}
+use mathlib.Core.Bool.{Bool, true, false, not, _&&_, _||_, and-true, false≢true, true≢false}
 use Prim.Native.Nat.{ℕ, zero, suc, _+_, _*_, _/_, _%_, _^_, _<_, _≤_, min, max}
 use native.Mathlib.Nat.{pow-suc, mul-div-cancel, div-eq-of-lt, lt-of-lt-of-le}
 use native.Mathlib.Omega.{arith}
 use lib.Dec.{eqb, eqb·zero-suc, eqb·suc-zero, eqb·suc-suc}
-use lib.Bits.{bitOr, bitAnd, bitXor, differ, or-step, and-step, xor-step, or-zero-l, or-zero-r, or-shr, and-shr, xor-shr}
+use lib.Bits.{bitOr, bitAnd, bitXor, differ, or-step, and-step, xor-step, or-self, or-zero-l, or-zero-r, or-shr, and-shr, xor-shr}
 use lib.Pow.{pow-mono, shr-shr}
 use lib.Arith.{digits-mod, bin-ind}
+use borrow.Author.Tests.{eqb-true}
 use Rattle.esterel.specs.Sets.{member, none, only, join, remove, insert}
 
 -- ---- one law for the three operations on digits
@@ -171,3 +172,18 @@ ext a = bin-ind (λ (n : ℕ). (b : ℕ) → Same n b → n ≡ b) base step a
         let x : n / 2 ≡ b / 2 = ih (b / 2) (same-half n b h) in
         let y : n % 2 ≡ b % 2 = low-same n b (h 0) in
         omega arith
+
+-- taking out what is no member changes nothing
+pub remove-absent : (i s : ℕ) → member i s ≡ false → remove i s ≡ s
+remove-absent i s h = ext (remove i s) s (λ j. member-remove i s j ∙ go j (eqb i j) refl)
+  where
+    go : (j : ℕ) (b : Bool) → eqb i j ≡ b → (member j s && not b) ≡ member j s
+    go j true e = ap (λ (x : Bool). x && false) gone ∙ sym gone
+      where
+        gone : member j s ≡ false
+        gone = ap (λ (k : ℕ). member k s) (sym (eqb-true i j e)) ∙ h
+    go j false e = and-true (member j s)
+
+pub join-self : (s : ℕ) → join s s ≡ s
+unfolding join
+join-self s = or-self s

@@ -219,19 +219,21 @@ pub not-asked : (p : Statement) (e e′ : ℕ) → ((s : ℕ) → member s (aske
     → (react p e′ ≡ react p e) × (errors p e′ ≡ errors p e) × (reactions p e′ ≡ reactions p e) × (asked p e′ ≡ asked p e)
 not-asked = unasked inheritanceFirst
 
--- So where the run of a signal's body without the signal does not ask for it, that run is the run with it, and the signal asks for
--- what that run asks for; of a statement,
+-- So where the run of a signal's body without the signal does not ask for it, that run is the run with it, and stands for both: of a
+-- statement,
 pub one-run-for-both : (sc : Scope) (a s : ℕ) (p : Statement) (e : ℕ) → member s (asked p (remove s e)) ≡ false
-    → (startTree p (insert s e) ≡ startTree p (remove s e)) × (asked (signal sc a s p) e ≡ asked p (remove s e))
-one-run-for-both sc a s p e h = (one-run s p e h, ap askedOf (one-run-signal s p e h sc a))
+    → (startTree p (insert s e) ≡ startTree p (remove s e)) × (startTree (signal sc a s p) e ≡ signalOnce sc a s (startTree p (remove s e)))
+one-run-for-both sc a s p e h = (one-run s p e h, one-run-signal s p e h sc a)
 
 -- of one that resumes by any ranks, and under read-back declarations
 pub one-run-resumed : (sc : Scope) (a s base : ℕ) (p : Statement) (m e : ℕ) → member s (askedOf (resumeTree base p m (remove s e))) ≡ false
-    → resumeTree base (signal sc a s p) m e ≡ signalOnce sc a s (resumeTree base p m (remove s e))
+    → (resumeTree base p m (insert s e) ≡ resumeTree base p m (remove s e))
+    × (resumeTree base (signal sc a s p) m e ≡ signalOnce sc a s (resumeTree base p m (remove s e)))
 unfolding expandBy
-one-run-resumed sc a s base p m e h = one-run-signal s (expandBy base p m) e h sc a
+one-run-resumed sc a s base p m e h = one-run-for-both sc a s (expandBy base p m) e h
 
 pub one-run-declared : (a s : ℕ) (ss : List ℕ) (p : Statement) (e : ℕ) → member s (asked (declared a ss p) (remove s e)) ≡ false
-    → startTree (declared a (s ∷ ss) p) e ≡ signalOnce reported a s (startTree (declared a ss p) (remove s e))
+    → (startTree (declared a ss p) (insert s e) ≡ startTree (declared a ss p) (remove s e))
+    × (startTree (declared a (s ∷ ss) p) e ≡ signalOnce reported a s (startTree (declared a ss p) (remove s e)))
 unfolding declared
-one-run-declared a s ss p e h = one-run-signal s (declared a ss p) e h reported a
+one-run-declared a s ss p e h = one-run-for-both reported a s (declared a ss p) e h

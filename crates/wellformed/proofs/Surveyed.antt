@@ -5,7 +5,7 @@ use mathlib.Core.Path.{_≡_, refl, ap, ap₂, _∙_, subst}
 use mathlib.Core.Bool.{Bool, true, false, cond}
 use mathlib.Core.List.{List}
 use lib.Dec.{ltb}
-use lib.ListN.{getD, replicate, getD-replicate, length-replicate}
+use lib.ListN.{replicate, getD-replicate, length-replicate}
 use borrow.Author.Tests.{ltb-true}
 use Rattle.esterel.specs.Sets.{member, none, join}
 use Rattle.esterel.specs.Statement.{Statement}
@@ -15,7 +15,7 @@ use Rattle.theory.proofs.Sets.{join-none-l}
 use Rattle.theory.proofs.Booleans.{Tested, tested}
 use Rattle.theory.proofs.LabelRows.{fill-is}
 use Rattle.limits.specs.Limits.{wordLabels}
-use Rattle.sets.specs.Sets.{labelCount, twoWords}
+use Rattle.sets.specs.Sets.{labelCount, twoWords, setAt}
 use Rattle.sets.proofs.Words.{words-none}
 use Rattle.matrix.specs.Rows.{rowBelow, rowOf, Updates}
 
@@ -26,10 +26,7 @@ no-rows : (w k : ℕ) → rowBelow w (replicate (2 * w) 0) k ≡ none
 unfolding rowBelow
 no-rows w k = go (tested (ltb k w))
   where
-    words : ℕ
-    words = twoWords wordLabels (getD (replicate (2 * w) 0) (2 * k) 0) (getD (replicate (2 * w) 0) (2 * k + 1) 0)
-
-    go : Tested (ltb k w) → cond (ltb k w) words none ≡ none
+    go : Tested (ltb k w) → cond (ltb k w) (setAt (2 * k) (replicate (2 * w) 0)) none ≡ none
     go (Tested.yes h) =
         let l = ltb-true k w h in
         rw h

@@ -80,7 +80,7 @@ abbrev part-claims : ℕ → part-lts.Claims
 part-claims t = (inside-below t, inside.Post)
 
 abbrev parts-claims : ℕ → parts-lts.Claims
-parts-claims t = (from-words-reads.Asked, from-words-reads.Learnt, below-reads.Asked, below-reads.Learnt, from-reads.Asked, from-reads.Learnt, is-empty-reads.Asked, is-empty-reads.Learnt, low-word-reads.Asked, low-word-reads.Learnt, high-word-reads.Asked, high-word-reads.Learnt, part-below t, part.Post)
+parts-claims t = (from-words-reads.Asked, from-words-reads.Learnt, below-reads.Asked, below-reads.Learnt, from-reads.Asked, from-reads.Learnt, low-word-reads.Asked, low-word-reads.Learnt, high-word-reads.Asked, high-word-reads.Learnt, is-empty-reads.Asked, is-empty-reads.Learnt, part-below t, part.Post)
 
 inside-returns : (t : ℕ) → inside-lts.Need-returns (inside-claims t) (inside-at t) inside.Post
 inside-returns t c base p l = empty-step base _ p (tested (c .before .before .from-words .ensures) (c .before .is-empty .ensures) (c .if1 .taken))
@@ -165,40 +165,45 @@ parts-sub-n : (t : ℕ) → parts-lts.Need-sub-n (parts-claims t) (parts-at t) p
 parts-sub-n t c = omega (arith, c .before .before .pre .1 .two .place)
 
 parts-sub-part : (t : ℕ) → parts-lts.Need-sub-part (parts-claims t) (parts-at t) parts.Post
-parts-sub-part t c = omega (arith, first-ready (c .before .before .before .before .before .before .before .pre .1) .levels)
+parts-sub-part t c = omega (arith, first-ready (c .before .before .before .before .before .before .before .before .before .pre .1) .levels)
 
 parts-part-requires : (t : ℕ) → parts-lts.Need-part-requires (parts-claims t) (parts-at t) parts.Post
 parts-part-requires t c κs = (omega (arith, first-ready (c .before .before .before .before .before .before .before .before .before .before .pre .1) .levels), (c .before .before .before .before .before .before .before .before .before .before .pre .1 .two .within, second-ready (c .before .before .before .before .before .before .before .before .before .before .pre .1)))
 
+parts-returns : (t : ℕ) → parts-lts.Need-returns (parts-claims t) (parts-at t) parts.Post
+parts-returns t c base p q l =
+    let f = c .before .before .before .before .before .before in
+    parts-step base _ p q _ (l .before) (f .before .below .ensures ∙ ap (below _) (f .before .before .from-words .ensures))
+    (part-mask (from _) (f .before .before .from-words .ensures) (f .from .ensures) (c .before .before .before .before .before .low-word .ensures) (c .before .before .before .before .high-word .ensures))
+    (empty-step base _ p (sym (c .before .before .before .is-empty .ensures) ∙ c .before .before .if1 .taken)) (c .part .ensures _ q (l .second))
+
 parts-sub-part-2 : (t : ℕ) → parts-lts.Need-sub-part-2 (parts-claims t) (parts-at t) parts.Post
-parts-sub-part-2 t c = omega (arith, first-ready (c .before .before .before .before .before .before .before .pre .1) .levels)
+parts-sub-part-2 t c = omega (arith, first-ready (c .before .before .before .before .before .before .before .before .before .before .before .pre .1) .levels)
 
 parts-part-requires-2 : (t : ℕ) → parts-lts.Need-part-requires-2 (parts-claims t) (parts-at t) parts.Post
-parts-part-requires-2 t c κs = (omega (arith, first-ready (c .before .before .before .before .before .before .before .before .before .before .pre .1) .levels), (c .before .before .before .before .before .before .before .before .before .before .pre .1 .there, first-ready (c .before .before .before .before .before .before .before .before .before .before .pre .1)))
+parts-part-requires-2 t c κs = (omega (arith, first-ready (c .before .before .before .before .before .before .before .before .before .before .before .before .pre .1) .levels), (c .before .before .before .before .before .before .before .before .before .before .before .before .pre .1 .there, first-ready (c .before .before .before .before .before .before .before .before .before .before .before .before .pre .1)))
+
+parts-returns-2 : (t : ℕ) → parts-lts.Need-returns-2 (parts-claims t) (parts-at t) parts.Post
+parts-returns-2 t c base p q l =
+    let f = c .before .before .before .before .before .before .before .before .before .before in
+    parts-step base _ p q _ (l .before)
+    (part-mask (below _) (f .before .before .from-words .ensures) (f .before .below .ensures) (c .before .before .before .before .before .low-word2 .ensures) (c .before .before .before .before .high-word2 .ensures))
+    (f .from .ensures ∙ ap (from _) (f .before .before .from-words .ensures)) (c .before .before .part2 .ensures base p (l .first))
+    (empty-step _ _ q (sym (c .before .is-empty2 .ensures) ∙ c .if2 .taken))
 
 parts-sub-part-3 : (t : ℕ) → parts-lts.Need-sub-part-3 (parts-claims t) (parts-at t) parts.Post
-parts-sub-part-3 t c = omega (arith, first-ready (c .before .before .before .before .before .before .before .before .before .before .before .before .before .pre .1) .levels)
+parts-sub-part-3 t c = omega (arith, first-ready (c .before .before .before .before .before .before .before .before .before .before .before .before .before .before .before .pre .1) .levels)
 
 parts-part-requires-3 : (t : ℕ) → parts-lts.Need-part-requires-3 (parts-claims t) (parts-at t) parts.Post
 parts-part-requires-3 t c κs = (omega (arith, first-ready (c .before .before .before .before .before .before .before .before .before .before .before .before .before .before .before .before .pre .1) .levels), (c .before .before .before .before .before .before .before .before .before .before .before .before .before .before .before .before .pre .1 .two .within, second-ready (c .before .before .before .before .before .before .before .before .before .before .before .before .before .before .before .before .pre .1)))
 
-parts-returns : (t : ℕ) → parts-lts.Need-returns (parts-claims t) (parts-at t) parts.Post
-parts-returns t c base p q l =
-    parts-step base _ p q _ (l .before) (c .before .before .before .before .before .before .before .below .ensures ∙ ap (below _) (c .before .before .before .before .before .before .before .before .from-words .ensures))
-    (part-mask (from _) (c .before .before .before .before .before .before .before .before .from-words .ensures) (c .before .before .before .before .before .before .from .ensures) (c .before .before .before .low-word .ensures) (c .before .before .high-word .ensures))
-    (empty-step base _ p (sym (c .before .before .before .before .before .is-empty .ensures) ∙ c .before .before .before .before .if1 .taken)) (c .part .ensures _ q (l .second))
-
-parts-returns-2 : (t : ℕ) → parts-lts.Need-returns-2 (parts-claims t) (parts-at t) parts.Post
-parts-returns-2 t c base p q l =
-    parts-step base _ p q _ (l .before) (part-mask (below _) (c .before .before .before .before .before .before .before .before .before .before .from-words .ensures) (c .before .before .before .before .before .before .before .before .before .below .ensures) (c .before .before .before .before .before .low-word2 .ensures) (c .before .before .before .before .high-word2 .ensures))
-    (c .before .before .before .before .before .before .before .before .from .ensures ∙ ap (from _) (c .before .before .before .before .before .before .before .before .before .before .from-words .ensures)) (c .before .before .part2 .ensures base p (l .first))
-    (empty-step _ _ q (sym (c .before .is-empty2 .ensures) ∙ c .if2 .taken))
-
 parts-returns-3 : (t : ℕ) → parts-lts.Need-returns-3 (parts-claims t) (parts-at t) parts.Post
 parts-returns-3 t c base p q l =
-    parts-step base _ p q _ (l .before) (part-mask (below _) (c .before .before .before .before .before .before .before .before .before .before .before .before .before .before .from-words .ensures) (c .before .before .before .before .before .before .before .before .before .before .before .before .before .below .ensures) (c .before .before .before .before .before .before .before .before .before .low-word2 .ensures) (c .before .before .before .before .before .before .before .before .high-word2 .ensures))
-    (part-mask (from _) (c .before .before .before .before .before .before .before .before .before .before .before .before .before .before .from-words .ensures) (c .before .before .before .before .before .before .before .before .before .before .before .before .from .ensures) (c .before .before .before .low-word3 .ensures) (c .before .before .high-word3 .ensures))
-    (c .before .before .before .before .before .before .part2 .ensures base p (l .first)) (c .part3 .ensures _ q (l .second))
+    let f = c .before .before .before .before .before .before .before .before .before .before .before .before in
+    parts-step base _ p q _ (l .before)
+    (part-mask (below _) (f .before .before .from-words .ensures) (f .before .below .ensures) (c .before .before .before .before .before .before .before .low-word2 .ensures) (c .before .before .before .before .before .before .high-word2 .ensures))
+    (part-mask (from _) (f .before .before .from-words .ensures) (f .from .ensures) (c .before .before .before .before .before .before .before .before .before .before .before .low-word .ensures) (c .before .before .before .before .before .before .before .before .before .before .high-word .ensures))
+    (c .before .before .before .before .part2 .ensures base p (l .first)) (c .part3 .ensures _ q (l .second))
 
 pub +inside+part+parts-spec : {M : Type 1} → statement M
 +inside+part+parts-spec =
@@ -247,24 +252,17 @@ pub +inside+part+parts-spec : {M : Type 1} → statement M
     (parts-element-copy-out-entry t)
     (λ c. search needs)
     (parts-sub-n t)
-    (λ c κs. search needs)
-    (λ c κs. search needs)
-    (λ c κs. search needs)
-    (λ c κs. search needs)
+    (λ c κs. search needs) (λ c κs. search needs) (λ c κs. search needs)
+    (λ c κs. search needs) (λ c κs. search needs) (λ c κs. search needs)
     (parts-sub-part t)
-    (λ c κs. search needs)
-    (λ c κs. search needs)
     (parts-part-requires t)
     (parts-returns t)
+    (λ c κs. search needs) (λ c κs. search needs)
     (λ c. search needs)
     (parts-sub-part-2 t)
-    (λ c κs. search needs)
-    (λ c κs. search needs)
     (parts-part-requires-2 t)
     (λ c κs. search needs)
     (parts-returns-2 t)
     (parts-sub-part-3 t)
-    (λ c κs. search needs)
-    (λ c κs. search needs)
     (parts-part-requires-3 t)
     (parts-returns-3 t)

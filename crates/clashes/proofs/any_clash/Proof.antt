@@ -1,3 +1,4 @@
+use Rattle.sets.specs.Sets.{labelCount}
 use mathlib.Core.Path.{refl}
 use Rattle.theory.proofs.Booleans as Booleans
 use Rattle.labels.specs.Labels.{labelSet}
@@ -23,7 +24,7 @@ returns c g h = (λ _. (c .before .before .lowest .result, c .before .clash .ens
 
 loop-less : tie.Need-loop-less Inv-loop μ-loop
 loop-less c =
-    seek-less _ _ _ (c .before .before .before .before .before .before .loop .inv) 128 _ (c .before .before .before .lowest .ensures)
+    seek-less _ _ _ (c .before .before .before .before .before .before .loop .inv) labelCount _ (c .before .before .before .lowest .ensures)
     (some-left (c .before .before .before .before .before .is-empty .ensures) (c .before .before .before .before .if1 .taken)) _ (c .without .ensures)
 
 loop-again : tie.Need-loop-again Inv-loop μ-loop

@@ -1,3 +1,4 @@
+use Rattle.sets.specs.Sets.{labelCount}
 use mathlib.Core.Path.{_≡_, refl, sym, ap, _∙_}
 use mathlib.Core.Bool.{false}
 use Rattle.esterel.specs.Sets.{member}
@@ -34,7 +35,7 @@ returns : tie.Need-returns Inv-loop μ-loop
 returns c = (
   λ _. (
     c .before .before .before .lowest .result,
-    seek-hit _ _ _ (c .before .before .before .before .before .before .loop .inv) 128 _ (c .before .before .before .lowest .ensures) (some-left (c .before .before .before .before .before .is-empty .ensures) (c .before .before .before .before .if1 .taken)),
+    seek-hit _ _ _ (c .before .before .before .before .before .before .loop .inv) labelCount _ (c .before .before .before .lowest .ensures) (some-left (c .before .before .before .before .before .is-empty .ensures) (c .before .before .before .before .if1 .taken)),
     ap (member _) (sym (c .before .before .row .ensures)) ∙ sym (c .before .member .ensures) ∙ c .if2 .taken,
   ),
   λ _. refl,
@@ -45,7 +46,7 @@ without-requires c κs = search needs
 
 loop-less : tie.Need-loop-less Inv-loop μ-loop
 loop-less c =
-    seek-less _ _ _ (c .before .before .before .before .before .before .before .loop .inv) 128 _ (c .before .before .before .before .lowest .ensures) (some-left (c .before .before .before .before .before .before .is-empty .ensures) (c .before .before .before .before .before .if1 .taken)) _ (c .without .ensures)
+    seek-less _ _ _ (c .before .before .before .before .before .before .before .loop .inv) labelCount _ (c .before .before .before .before .lowest .ensures) (some-left (c .before .before .before .before .before .before .is-empty .ensures) (c .before .before .before .before .before .if1 .taken)) _ (c .without .ensures)
 
 loop-again : tie.Need-loop-again Inv-loop μ-loop
 loop-again c =

@@ -1,3 +1,4 @@
+use Rattle.sets.specs.Sets.{labelCount}
 use Rattle.labels.specs.Labels.{labelSet}
 use Rattle.matrix.specs.Rows.{rowOf}
 use Rattle.sets.proofs.Members.{some-left, none-left, Seeking, seek, seek-less}
@@ -17,7 +18,7 @@ loop-holds c = seek _ _
 
 loop-less : tie.Need-loop-less Inv-loop μ-loop
 loop-less c =
-    seek-less _ _ _ (c .before .before .before .before .before .before .loop .inv) 128 _ (c .before .before .before .lowest .ensures)
+    seek-less _ _ _ (c .before .before .before .before .before .before .loop .inv) labelCount _ (c .before .before .before .lowest .ensures)
     (some-left (c .before .before .before .before .before .is-empty .ensures) (c .before .before .before .before .if1 .taken)) _ (c .without .ensures)
 
 loop-again : tie.Need-loop-again Inv-loop μ-loop

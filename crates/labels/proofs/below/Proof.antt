@@ -1,3 +1,4 @@
+use Rattle.limits.specs.Limits.{labelCount, wordLabels}
 use Prim.Native.Nat.{ℕ, _-_}
 use mathlib.Core.Path.{ap, _∙_}
 use native.Mathlib.Omega.{arith}
@@ -17,14 +18,14 @@ shl-t6 : tie.Need-shl-t6
 shl-t6 c = search needs
 
 sub-t7 : tie.Need-sub-t7
-sub-t7 c = let k = c .before .args .k in omega (arith, shifted 64 k (search needs), pow-pos k)
+sub-t7 c = let k = c .before .args .k in omega (arith, shifted wordLabels k (search needs), pow-pos k)
 
 returns : tie.Need-returns
 unfolding labelSet
 returns c =
     let a = c .before .before .args in
-    ap (λ (x : ℕ). twoWords 64 x 0) (masked 64 (a .k) (a .s .low) (c .before .if1 .taken))
-    ∙ below-low 64 (a .s .low) (a .s .high) (search needs) (a .k) (omega arith)
+    ap (λ (x : ℕ). twoWords wordLabels x 0) (masked wordLabels (a .k) (a .s .low) (c .before .if1 .taken))
+    ∙ below-low wordLabels (a .s .low) (a .s .high) (search needs) (a .k) (omega arith)
 
 cast-if2 : tie.Need-cast-if2
 cast-if2 c = search needs
@@ -42,18 +43,18 @@ shl-t13 : tie.Need-shl-t13
 shl-t13 c = search needs
 
 sub-t14 : tie.Need-sub-t14
-sub-t14 c = let k = c .before .before .args .k - 64 in omega (arith, shifted 64 k (search needs), pow-pos k)
+sub-t14 c = let k = c .before .before .args .k - wordLabels in omega (arith, shifted wordLabels k (search needs), pow-pos k)
 
 returns-2 : tie.Need-returns-2
 unfolding labelSet
 returns-2 c =
     let a = c .before .before .before .args in
-    ap (twoWords 64 (a .s .low)) (masked 64 (a .k - 64) (a .s .high) (omega arith))
-    ∙ below-high 64 (a .s .low) (a .s .high) (search needs) (a .k) (c .before .before .if1 .left)
+    ap (twoWords wordLabels (a .s .low)) (masked wordLabels (a .k - wordLabels) (a .s .high) (omega arith))
+    ∙ below-high wordLabels (a .s .low) (a .s .high) (search needs) (a .k) (c .before .before .if1 .left)
 
 returns-3 : tie.Need-returns-3
 unfolding labelSet
-returns-3 c = all-below 128 _ _ (words-lt 64 _ _ (search needs) 64 (search needs)) (c .if2 .left)
+returns-3 c = all-below labelCount _ _ (words-lt wordLabels _ _ (search needs) wordLabels (search needs)) (c .if2 .left)
 
 pub below-spec : {M : Type 1} → statement M
 below-spec = tie.close (tie.spec cast-if1 shl-t6 sub-t7 returns cast-if2 cast-t10 sub-t11 cast-t12 shl-t13 sub-t14 returns-2 returns-3)

@@ -1,3 +1,4 @@
+use Rattle.limits.specs.Limits.{wordLabels}
 use Rattle.labels.specs.Labels.{labelSet}
 use Rattle.sets.proofs.Words.{disjoint-words, no-disjoint}
 use borrow.Author.Needs.{needs}
@@ -6,11 +7,11 @@ use Rattle.labels.proofs.disjoint.Tie as tie
 
 returns : tie.Need-returns
 unfolding labelSet
-returns c = disjoint-words 64 _ _ _ _ (search needs) (search needs) (c .before .before .if1 .taken)
+returns c = disjoint-words wordLabels _ _ _ _ (search needs) (search needs) (c .before .before .if1 .taken)
 
 returns-2 : tie.Need-returns-2
 unfolding labelSet
-returns-2 c = no-disjoint 64 _ _ _ _ (search needs) (search needs) (c .if1 .left)
+returns-2 c = no-disjoint wordLabels _ _ _ _ (search needs) (search needs) (c .if1 .left)
 
 pub disjoint-spec : {M : Type 1} → statement M
 disjoint-spec = tie.close (tie.spec returns returns-2)

@@ -1,3 +1,4 @@
+use Rattle.limits.specs.Limits.{wordLabels}
 use Rattle.labels.specs.Labels.{labelSet}
 use Rattle.sets.proofs.Words.{words-none}
 use Rattle.labels.proofs.empty.Statement.{statement}
@@ -5,7 +6,7 @@ use Rattle.labels.proofs.empty.Tie as tie
 
 returns : tie.Need-returns
 unfolding labelSet
-returns c = words-none 64
+returns c = words-none wordLabels
 
 pub empty-spec : {M : Type 1} → statement M
 empty-spec = tie.close (tie.spec returns)

@@ -1,3 +1,4 @@
+use Rattle.limits.specs.Limits.{wordLabels}
 use mathlib.Core.Path.{ap, _∙_}
 use lib.Bits.{bitXor}
 use Rattle.esterel.specs.Sets.{from}
@@ -15,8 +16,8 @@ returns : tie.Need-returns
 unfolding labelSet from
 returns c =
     let s = c .before .before .before .before .before .args .s in
-    words-xor 64 (s .low) (s .high) _ _ (search needs) (search needs)
-    ∙ ap (bitXor (twoWords 64 (s .low) (s .high))) (c .before .before .before .before .below .ensures)
+    words-xor wordLabels (s .low) (s .high) _ _ (search needs) (search needs)
+    ∙ ap (bitXor (twoWords wordLabels (s .low) (s .high))) (c .before .before .before .before .below .ensures)
 
 pub from-spec : {M : Type 1} → statement M
 from-spec = tie.close (tie.spec below-requires returns)

@@ -1,3 +1,4 @@
+use Rattle.limits.specs.Limits.{wordLabels}
 use mathlib.Core.Path.{sym}
 use Rattle.labels.specs.Labels.{labelSet}
 use Rattle.sets.proofs.Words.{high-word as word}
@@ -7,7 +8,7 @@ use Rattle.labels.proofs.high_word.Tie as tie
 
 returns : tie.Need-returns
 unfolding labelSet
-returns c = sym (word 64 _ _ (search needs))
+returns c = sym (word wordLabels _ _ (search needs))
 
 pub high-word-spec : {M : Type 1} → statement M
 high-word-spec = tie.close (tie.spec returns)

@@ -1,3 +1,4 @@
+use Rattle.limits.specs.Limits.{wordLabels}
 use mathlib.Core.Path.{ap, _∙_}
 use lib.Dec.{eqb}
 use lib.Pow.{pow-pos}
@@ -13,15 +14,15 @@ returns : tie.Need-returns
 unfolding labelSet
 returns c =
     let s = c .before .before .before .args .s in
-    words-same 64 (s .low) (s .high) 0 0 (search needs) (pow-pos 64) (c .before .if1 .taken)
-    ∙ ap (eqb (twoWords 64 (s .low) (s .high))) (words-none 64)
+    words-same wordLabels (s .low) (s .high) 0 0 (search needs) (pow-pos wordLabels) (c .before .if1 .taken)
+    ∙ ap (eqb (twoWords wordLabels (s .low) (s .high))) (words-none wordLabels)
 
 returns-2 : tie.Need-returns-2
 unfolding labelSet
 returns-2 c =
     let s = c .before .before .args .s in
-    words-differ 64 (s .low) (s .high) 0 0 (search needs) (pow-pos 64) (c .if1 .left)
-    ∙ ap (eqb (twoWords 64 (s .low) (s .high))) (words-none 64)
+    words-differ wordLabels (s .low) (s .high) 0 0 (search needs) (pow-pos wordLabels) (c .if1 .left)
+    ∙ ap (eqb (twoWords wordLabels (s .low) (s .high))) (words-none wordLabels)
 
 pub is-empty-spec : {M : Type 1} → statement M
 is-empty-spec = tie.close (tie.spec returns returns-2)

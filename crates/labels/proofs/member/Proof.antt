@@ -1,3 +1,4 @@
+use Rattle.limits.specs.Limits.{labelCount, wordLabels}
 use mathlib.Core.Path.{sym}
 use Rattle.labels.specs.Labels.{labelSet}
 use Rattle.esterel.specs.Sets.{member}
@@ -12,7 +13,7 @@ shr-result c = search needs
 
 returns : tie.Need-returns
 unfolding labelSet member
-returns c = member-low 64 _ _ (search needs) _ (c .before .if1 .taken)
+returns c = member-low wordLabels _ _ (search needs) _ (c .before .if1 .taken)
 
 cast-result : tie.Need-cast-result
 cast-result c = search needs
@@ -22,11 +23,11 @@ shr-result-2 c = search needs
 
 returns-2 : tie.Need-returns-2
 unfolding labelSet member
-returns-2 c = member-from 64 _ _ (search needs) _ (c .before .before .if1 .left)
+returns-2 c = member-from wordLabels _ _ (search needs) _ (c .before .before .if1 .left)
 
 returns-3 : tie.Need-returns-3
 unfolding labelSet
-returns-3 c = sym (member-high {w = 128} _ (words-lt 64 _ _ (search needs) 64 (search needs)) (c .if2 .left))
+returns-3 c = sym (member-high {w = labelCount} _ (words-lt wordLabels _ _ (search needs) wordLabels (search needs)) (c .if2 .left))
 
 pub member-spec : {M : Type 1} → statement M
 member-spec = tie.close (tie.spec shr-result returns cast-result shr-result-2 returns-2 returns-3)

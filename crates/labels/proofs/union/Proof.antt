@@ -1,3 +1,4 @@
+use Rattle.limits.specs.Limits.{wordLabels}
 use Rattle.labels.specs.Labels.{labelSet}
 use Rattle.esterel.specs.Sets.{join}
 use Rattle.sets.proofs.Words.{words-join}
@@ -7,7 +8,7 @@ use Rattle.labels.proofs.union.Tie as tie
 
 returns : tie.Need-returns
 unfolding labelSet join
-returns c = words-join 64 _ _ _ _ (search needs) (search needs)
+returns c = words-join wordLabels _ _ _ _ (search needs) (search needs)
 
 pub union-spec : {M : Type 1} → statement M
 union-spec = tie.close (tie.spec returns)

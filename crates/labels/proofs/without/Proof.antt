@@ -1,3 +1,4 @@
+use Rattle.limits.specs.Limits.{labelCount, wordLabels}
 use mathlib.Core.Path.{ap, _∙_}
 use Prim.Native.Nat.{ℕ}
 use lib.Bits.{bitAnd, bitXor}
@@ -16,10 +17,10 @@ returns : tie.Need-returns
 unfolding labelSet
 returns c =
     let a = c .before .before .before .before .before .before .before .args in
-    let s = twoWords 64 (a .s .low) (a .s .high) in
-    words-difference 64 (a .s .low) (a .s .high) _ _ (search needs) (search needs)
+    let s = twoWords wordLabels (a .s .low) (a .s .high) in
+    words-difference wordLabels (a .s .low) (a .s .high) _ _ (search needs) (search needs)
     ∙ ap (λ (x : ℕ). bitXor s (bitAnd s x)) (c .before .before .before .before .before .before .single .ensures)
-    ∙ difference-only 128 (a .i) s (words-lt 64 (a .s .low) (a .s .high) (search needs) 64 (search needs))
+    ∙ difference-only labelCount (a .i) s (words-lt wordLabels (a .s .low) (a .s .high) (search needs) wordLabels (search needs))
 
 pub without-spec : {M : Type 1} → statement M
 without-spec = tie.close (tie.spec single-requires returns)

@@ -1,3 +1,4 @@
+use Rattle.limits.specs.Limits.{labelCount}
 use Prim.Native.Nat.{ℕ}
 use mathlib.Core.Path.{ap, _∙_}
 use Rattle.esterel.specs.Sets.{join}
@@ -55,12 +56,12 @@ element-write-rows-2 c = search needs
 returns : tie.Need-returns
 returns c =
     let a = c .before .before .before .before .before .before .before .args in
-    added 128 (a .k) _ _ (a .rows .now) (c .before .before .before .before .before .before .if1 .taken)
+    added labelCount (a .k) _ _ (a .rows .now) (c .before .before .before .before .before .before .if1 .taken)
     (c .before .before .union .ensures ∙ ap (λ (x : ℕ). join x (labelSet (a .s))) (c .before .before .before .from-words .ensures))
     (c .before .low-word .ensures) (c .high-word .ensures)
 
 returns-2 : tie.Need-returns-2
-returns-2 c = kept 128 _ _ _ (c .if1 .left)
+returns-2 c = kept labelCount _ _ _ (c .if1 .left)
 
 pub add-row-spec : {M : Type 1} → statement M
 add-row-spec =

@@ -1,3 +1,4 @@
+use Rattle.limits.specs.Limits.{labelCount}
 use mathlib.Core.Path.{_∙_}
 use Rattle.matrix.proofs.Rows.{row-here, no-row}
 use borrow.Author.Needs.{needs}
@@ -29,10 +30,10 @@ empty-requires : tie.Need-empty-requires
 empty-requires c κs = search needs
 
 returns : tie.Need-returns
-returns c = c .from-words .ensures ∙ row-here 128 _ _ (c .before .before .before .if1 .taken)
+returns c = c .from-words .ensures ∙ row-here labelCount _ _ (c .before .before .before .if1 .taken)
 
 returns-2 : tie.Need-returns-2
-returns-2 c = c .empty .ensures ∙ no-row 128 _ _ (c .before .if1 .left)
+returns-2 c = c .empty .ensures ∙ no-row labelCount _ _ (c .before .if1 .left)
 
 pub row-spec : {M : Type 1} → statement M
 row-spec =

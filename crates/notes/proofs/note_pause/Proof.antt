@@ -1,3 +1,4 @@
+use Rattle.limits.specs.Limits.{wordLabels}
 use Prim.Native.Nat.{_%_, _<_}
 use native.Mathlib.Omega.{arith}
 use Rattle.esterel.specs.Sets.{join, only}
@@ -57,7 +58,7 @@ element-write-notes-4 c = search needs
 
 returns : tie.Need-returns
 unfolding notePause join only
-returns c = let h : (c .before .before .before .args .l) % 64 < 64 = omega arith in rw (shifted 64 ((c .before .before .before .args .l) % 64) h)
+returns c = let h : (c .before .before .before .args .l) % wordLabels < wordLabels = omega arith in rw (shifted wordLabels ((c .before .before .before .args .l) % wordLabels) h)
 
 pub note-pause-spec : {M : Type 1} → statement M
 note-pause-spec =

@@ -1,3 +1,4 @@
+use Rattle.limits.specs.Limits.{wordLabels}
 use Prim.Native.Nat.{_%_, _<_}
 use native.Mathlib.Omega.{arith}
 use Rattle.esterel.specs.Sets.{join, only}
@@ -33,7 +34,7 @@ element-write-notes c = search needs
 
 returns : tie.Need-returns
 unfolding noteSetpause join only
-returns c = let h : (c .before .args .l) % 64 < 64 = omega arith in rw (shifted 64 ((c .before .args .l) % 64) h)
+returns c = let h : (c .before .args .l) % wordLabels < wordLabels = omega arith in rw (shifted wordLabels ((c .before .args .l) % wordLabels) h)
 
 pub note-setpause-spec : {M : Type 1} → statement M
 note-setpause-spec =

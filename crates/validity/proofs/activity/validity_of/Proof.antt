@@ -1,3 +1,4 @@
+use Rattle.limits.specs.Limits.{wordLabels}
 use mathlib.Core.Path.{_∙_}
 use borrow.Author.Tests.{not-true, not-false}
 use Rattle.labels.specs.Labels.{labelSet}
@@ -25,7 +26,7 @@ returns-2 : tie.Need-returns-2
 returns-2 c p k = outside-invalid p _ (c .before .before .before .before .is-empty .ensures) (c .before .before .before .if1 .left) _ (c .before .before .pauses .ensures ∙ k .noted .paused) (c .before .subset .ensures) (not-true _ (c .if2 .taken))
 
 ranks-requires : tie.Need-ranks-requires
-ranks-requires c κs = ranked (c .before .before .before .before .before .before .pre .p) _ _ _ (c .before .before .before .before .before .before .pre .known .noted) (c .before .before .pauses .ensures) (c .before .subset .ensures .0 (not-false _ (c .if2 .left))) (c .before .before .before .before .before .before .pre .known .once) (unfold labelSet in words-lt 64 _ _ (search needs) 64 (search needs))
+ranks-requires c κs = ranked (c .before .before .before .before .before .before .pre .p) _ _ _ (c .before .before .before .before .before .before .pre .known .noted) (c .before .before .pauses .ensures) (c .before .subset .ensures .0 (not-false _ (c .if2 .left))) (c .before .before .before .before .before .before .pre .known .once) (unfold labelSet in words-lt wordLabels _ _ (search needs) wordLabels (search needs))
 
 sub-compatible : tie.Need-sub-compatible
 sub-compatible c = search needs
