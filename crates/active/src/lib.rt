@@ -7,7 +7,7 @@ ghost use Rattle.labels.specs.Labels.{labelSet};
 ghost use Rattle.layout.specs.Layout.{rest, Ready, Pair};
 ghost use Rattle.active.specs.Labelled.{Adds, Labelled, Found, FoundTwo};
 use labels::Labels;
-use reading::reader::Seconds;
+use layout::Seconds;
 
 // The two words of a set of labels.
 type Words = [u64; 2];
@@ -77,11 +77,11 @@ fn parts(
     ensures { λ _. ⌜ FoundTwo (now (second .entry)) (depth - 1) at w (now (s .entry)) low high (now (found .entry)) (now (found .exit)) ⌝ }
 {
     let entry = second[at];
-    let m = (entry % 2048) as usize;
+    let m = (entry % layout::BEFORE_UNIT) as usize;
     let n = m - at;
     let active = labels::from_words(low, high);
-    let first = labels::below(active, entry / 2048);
-    let others = labels::from(active, entry / 2048);
+    let first = labels::below(active, entry / layout::BEFORE_UNIT);
+    let others = labels::from(active, entry / layout::BEFORE_UNIT);
     let low_others = labels::low_word(others);
     let high_others = labels::high_word(others);
     if labels::is_empty(first) {

@@ -5,8 +5,8 @@ ghost use Rattle.sequence.specs.Check.{checked};
 ghost use Rattle.sequence.specs.Ceilings.{ceilingOf};
 ghost use Rattle.ceilings.specs.Ceilings.{Plannable, Passed};
 use extents::Numbers;
+use layout::Seconds;
 use notes::Notes;
-use reading::reader::Seconds;
 
 // The ceiling of a statement with these numbers under k declarations: each is a command and a signal around one.
 fn under(n: Numbers, k: u32) -> u32

@@ -5,9 +5,9 @@ ghost use lib.ListN.{length};
 ghost use Rattle.limits.specs.Limits.{maxBytes};
 ghost use Rattle.layout.specs.Notes.{noNotes};
 ghost use Rattle.checks.specs.Verdict.{Judged};
+use layout::Seconds;
 use notes::Notes;
 use reading::reader::Reading;
-use reading::reader::Seconds;
 
 // The row that turns the sequence down, or 0.
 pub fn check(s: &[u8], read_back: u32, second: &mut Seconds, notes: &mut Notes) -> u8

@@ -5,7 +5,7 @@ ghost use Rattle.labels.specs.Labels.{labelSet};
 ghost use Rattle.layout.specs.Layout.{rest, Ready, Pair};
 ghost use Rattle.compatibility.specs.Compatibility.{TellsCompatible, TellsCompatibleTwo};
 use labels::Labels;
-use reading::reader::Seconds;
+use layout::Seconds;
 
 // Are the active pauses pairwise compatible? The statement at the front of s stands at the offset `at`.
 pub fn compatible(s: &[u8], at: usize, depth: u8, second: &Seconds, active: Labels) -> bool
@@ -55,10 +55,10 @@ fn compatible_parts(
     ensures { λ r. ⌜ TellsCompatibleTwo (now (second .entry)) (depth - 1) at w (now (s .entry)) parallel (labelSet active) r ⌝ }
 {
     let entry = second[at];
-    let m = (entry % 2048) as usize;
+    let m = (entry % layout::BEFORE_UNIT) as usize;
     let n = m - at;
-    let p = labels::below(active, entry / 2048);
-    let q = labels::from(active, entry / 2048);
+    let p = labels::below(active, entry / layout::BEFORE_UNIT);
+    let q = labels::from(active, entry / layout::BEFORE_UNIT);
     if labels::is_empty(p) {
         return compatible_part(s, n, m, depth - 1, second, q);
     }

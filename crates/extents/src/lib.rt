@@ -4,7 +4,7 @@ ghost use Prim.Native.Nat.{_-_, _≤_, max};
 ghost use lib.ListN.{length};
 ghost use Rattle.layout.specs.Layout.{rest, Ready, Pair};
 ghost use Rattle.extents.specs.Extents.{Around, AroundTwo, Numbered, NumberedTwo, Few};
-use reading::reader::Seconds;
+use layout::Seconds;
 
 // Of a statement: its commands, and the greatest numbers of loops and of signals around one.
 pub struct Numbers {
@@ -86,7 +86,7 @@ fn of_parts(s: &[u8], at: usize, w: usize, depth: u8, second: &Seconds) -> Numbe
     requires { ⌜ Pair (now second) (depth - 1) at w (now s) ⌝ }
     ensures { λ r. ⌜ NumberedTwo (now (second .entry)) (depth - 1) at w (now (s .entry)) r ⌝ }
 {
-    let m = (second[at] % 2048) as usize;
+    let m = (second[at] % layout::BEFORE_UNIT) as usize;
     let p = of_part(s, w, at + w, depth - 1, second);
     let q = of_part(s, m - at, m, depth - 1, second);
     around_two(p, q)

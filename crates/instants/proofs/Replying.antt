@@ -40,7 +40,7 @@ use Rattle.demands.specs.Tick.{Outcome, outcome, written, byState, byCheck}
 use Rattle.instants.specs.declared.Standing.the-variants as stands
 use Rattle.instants.specs.declared.Reply.the-variants.{Refused, Reacted}
 use Rattle.writing.specs.Written.{WritableCode, Writable, writtenFrom}
-use Rattle.instants.specs.Replies.{Decodes, Replies}
+use Rattle.instants.specs.Replies.{Decodes, Replies, Passed}
 use Rattle.demands.proofs.Sequence.{accepted}
 use Rattle.demands.proofs.Bounds.{Bounded, Exits, ranged-bounded, bounded-expand, bounded-declared, code-exits}
 
@@ -61,13 +61,6 @@ writable-code wrong x f = tt
 
 writable : (t : Statement) (e : ℕ) → Bounded t → (i : Reaction) → i ≡ reactionOf (startTree t e) → Writable i
 writable t e r i w = subst Writable (sym w) (writable-code (code (react t e)) (firstError t e) (code-exits inheritanceFirst t e r))
-
--- ---- what is known of a sequence that the check has passed
-pub record Passed (second notes sequence : List ℕ) (readBack : ℕ) : Type 0 where
-  pub p : Statement
-  pub is : checked sequence readBack ≡ sound p
-  pub ranged : Ranged p
-  pub known : Known second notes sequence p
 
 pub passed : (sequence : List ℕ) (readBack : ℕ) (second notes : List ℕ) (n : ℕ) → Judged sequence readBack second notes n → n ≡ 0
     → Passed second notes sequence readBack

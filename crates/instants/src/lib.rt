@@ -1,12 +1,12 @@
 // The core of a tick: what a state record holds, and what a call comes to before anything is written. It answers by value and
 // writes nothing.
 ghost use Rattle.layout.specs.Known.{Sound};
-ghost use Rattle.instants.specs.Replies.{DecodesRead, Replies};
+ghost use Rattle.instants.specs.Replies.{DecodesRead, Replies, Passed};
 use labels::Labels;
+use layout::Seconds;
 use notes::Notes;
 use program::Position;
 use reaction::Reaction;
-use reading::reader::Seconds;
 use validity::activity::Validity;
 
 // What a state record holds for an accepted sequence. A waiting machine has the ranks of its active pauses.
@@ -47,7 +47,39 @@ pub enum Reply {
     Reacted(Reaction),
 }
 
-// The program in the state of a record: a fresh machine reacts, a waiting one resumes.
+// The program of a sequence that the check has passed, in the state of a record: a fresh machine reacts, a waiting one resumes.
+pub fn reply_of(
+    sequence: &[u8],
+    second: &Seconds,
+    notes: &Notes,
+    state: &[u8],
+    input: u32,
+    read_back: u32,
+) -> Reply
+    requires { ⌜ Passed (now second) (now notes) (now sequence) «read_back» ⌝ }
+    ensures { λ r. ⌜ Replies (now (sequence .entry)) (now (state .entry)) input «read_back» r ⌝ }
+{
+    match decode(sequence, second, notes, state) {
+        Standing::Malformed => Reply::Refused(11),
+        Standing::Over => Reply::Refused(12),
+        Standing::Fresh => Reply::Reacted(program::react(
+            sequence,
+            Position::Fresh,
+            input,
+            read_back,
+            second,
+        )),
+        Standing::Waiting(active) => Reply::Reacted(program::react(
+            sequence,
+            Position::Waiting(active),
+            input,
+            read_back,
+            second,
+        )),
+    }
+}
+
+// The same of any sequence: the check comes first.
 pub fn reply_to(sequence: &[u8], state: &[u8], input: u32, read_back: u32) -> Reply
     ensures { λ r. ⌜ Replies (now (sequence .entry)) (now (state .entry)) input «read_back» r ⌝ }
 {
@@ -57,22 +89,5 @@ pub fn reply_to(sequence: &[u8], state: &[u8], input: u32, read_back: u32) -> Re
     if number != 0 {
         return Reply::Refused(number);
     }
-    match decode(sequence, &second, &notes, state) {
-        Standing::Malformed => Reply::Refused(11),
-        Standing::Over => Reply::Refused(12),
-        Standing::Fresh => Reply::Reacted(program::react(
-            sequence,
-            Position::Fresh,
-            input,
-            read_back,
-            &second,
-        )),
-        Standing::Waiting(active) => Reply::Reacted(program::react(
-            sequence,
-            Position::Waiting(active),
-            input,
-            read_back,
-            &second,
-        )),
-    }
+    reply_of(sequence, &second, &notes, state, input, read_back)
 }

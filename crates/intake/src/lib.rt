@@ -4,8 +4,8 @@ ghost use Rattle.sequence.specs.Check.{checkOf};
 ghost use Rattle.demands.specs.Demands.{TickMeets};
 use answers::ANSWER_LENGTH;
 use instants::Reply;
+use layout::Seconds;
 use notes::Notes;
-use reading::reader::Seconds;
 use states::STATE_LENGTH;
 
 // The check of a sequence with a read-back set: 0, or the number of the row that turns it down.

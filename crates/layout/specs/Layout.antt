@@ -17,15 +17,18 @@ abbrev pub rest : ℕ → List ℕ → List ℕ
 rest n bs = take (length bs - n) (drop n bs)
 
 -- ---- the table of second parts: at the offset of a command of two parts, one number
--- where its second part begins, below 2048, and how many pauses stand before that, times 2048
+-- where its second part begins, below beforeUnit, and how many pauses stand before that, times beforeUnit
+abbrev pub beforeUnit : ℕ
+beforeUnit = 2048
+
 abbrev pub entry : (second before : ℕ) → ℕ
-entry second before = second + 2048 * before
+entry second before = second + beforeUnit * before
 
 abbrev pub secondAt : List ℕ → ℕ → ℕ
-secondAt t a = getD t a 0 % 2048
+secondAt t a = getD t a 0 % beforeUnit
 
 abbrev pub beforeAt : List ℕ → ℕ → ℕ
-beforeAt t a = getD t a 0 / 2048
+beforeAt t a = getD t a 0 / beforeUnit
 
 -- t has the entry of each command of two parts in p, which stands at offset a with `base` pauses before it
 abbrev pub Marked : (t : List ℕ) (base a : ℕ) → Statement → Type 0

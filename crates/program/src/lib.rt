@@ -5,8 +5,8 @@ ghost use Rattle.limits.specs.Limits.{maxDepth};
 ghost use Rattle.layout.specs.Layout.{Ready};
 ghost use Rattle.program.specs.Program.{Inside, Reacted};
 use labels::Labels;
+use layout::Seconds;
 use reaction::Reaction;
-use reading::reader::Seconds;
 
 // Where a sequence stands: at its beginning, or at its active pauses, by their ranks.
 pub enum Position {

@@ -4,8 +4,8 @@ ghost use Prim.Native.Nat.{_≤_};
 ghost use lib.ListN.{length, getD};
 ghost use Rattle.layout.specs.Layout.{rest, Ready};
 ghost use Rattle.react.specs.Started.{Started, StartedAfter};
+use layout::Seconds;
 use reaction::Reaction;
-use reading::reader::Seconds;
 
 // The reaction of the statement at the front of s, which stands at the offset `at`.
 pub fn react(s: &[u8], at: usize, depth: u8, input: u32, second: &Seconds) -> Reaction
@@ -65,7 +65,7 @@ fn seq_parts(s: &[u8], at: usize, depth: u8, input: u32, second: &Seconds) -> Re
     requires { ⌜ Ready (now second) depth at (now s) × (getD (now s) 0 0 ≡ 4) ⌝ }
     ensures { λ r. ⌜ Started (now (second .entry)) depth at (now (s .entry)) input r ⌝ }
 {
-    let m = (second[at] % 2048) as usize;
+    let m = (second[at] % layout::BEFORE_UNIT) as usize;
     let p = part(s, 1, at + 1, depth - 1, input, second);
     after(p, s, m - at, m, depth - 1, input, second)
 }
@@ -74,7 +74,7 @@ fn par_parts(s: &[u8], at: usize, depth: u8, input: u32, second: &Seconds) -> Re
     requires { ⌜ Ready (now second) depth at (now s) × (getD (now s) 0 0 ≡ 5) ⌝ }
     ensures { λ r. ⌜ Started (now (second .entry)) depth at (now (s .entry)) input r ⌝ }
 {
-    let m = (second[at] % 2048) as usize;
+    let m = (second[at] % layout::BEFORE_UNIT) as usize;
     let p = part(s, 1, at + 1, depth - 1, input, second);
     let q = part(s, m - at, m, depth - 1, input, second);
     rules::in_parallel(p, q)
@@ -97,7 +97,7 @@ fn present_parts(s: &[u8], at: usize, depth: u8, input: u32, second: &Seconds) -
     if signals::member(input, x) {
         reaction::around(part(s, 2, at + 2, depth - 1, input, second), tested)
     } else {
-        let m = (second[at] % 2048) as usize;
+        let m = (second[at] % layout::BEFORE_UNIT) as usize;
         reaction::around(part(s, m - at, m, depth - 1, input, second), tested)
     }
 }

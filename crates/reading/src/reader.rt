@@ -11,11 +11,8 @@ ghost use Rattle.layout.specs.Layout.{entry};
 ghost use Rattle.layout.specs.Notes.{noNotes};
 ghost use Rattle.layout.specs.Walk.{Both, pairRead, Readable, Done};
 ghost use Rattle.reading.specs.Reading.{Reads};
+use layout::Seconds;
 use notes::Notes;
-
-// The table of second parts: at the offset of a command of two parts, where its second part begins and how many pauses
-// stand before that.
-pub type Seconds = [u32; limits::MAX_BYTES];
 
 // A statement: the count of its bytes and how many more signals may stand around it, or the row that turns it down.
 pub enum Reading {
@@ -29,7 +26,7 @@ fn entry(m: usize, n: u64) -> u32
     requires { ⌜ n ≤ maxBytes ⌝ }
     ensures { λ r. ⌜ r ≡ entry m n ⌝ }
 {
-    (m as u32) + 2048 * (n as u32)
+    (m as u32) + layout::BEFORE_UNIT * (n as u32)
 }
 
 // The answer for two parts of which the first answered m and the second r: the fewer signals that either leaves.

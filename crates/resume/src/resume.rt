@@ -7,8 +7,8 @@ ghost use Rattle.labels.specs.Labels.{labelSet};
 ghost use Rattle.layout.specs.Layout.{rest, Ready};
 ghost use Rattle.resume.specs.Resumed.{Resumed, ResumedSide};
 use labels::Labels;
+use layout::Seconds;
 use reaction::Reaction;
-use reading::reader::Seconds;
 
 // The reaction of the statement at the front of s, which stands at the offset `at`, by the ranks of its active pauses.
 pub fn resume(
@@ -64,11 +64,11 @@ fn seq_parts(
     ensures { λ r. ⌜ Resumed (now (second .entry)) depth at (now (s .entry)) (labelSet active) input r ⌝ }
 {
     let entry = second[at];
-    let m = (entry % 2048) as usize;
-    let first = labels::below(active, entry / 2048);
+    let m = (entry % layout::BEFORE_UNIT) as usize;
+    let first = labels::below(active, entry / layout::BEFORE_UNIT);
     if labels::is_empty(first) {
         // the expansion is that of the second part
-        let others = labels::from(active, entry / 2048);
+        let others = labels::from(active, entry / layout::BEFORE_UNIT);
         return part(s, m - at, m, depth - 1, input, others, second);
     }
     let p = part(s, 1, at + 1, depth - 1, input, first, second);
@@ -107,10 +107,10 @@ fn par_parts(
     ensures { λ r. ⌜ Resumed (now (second .entry)) depth at (now (s .entry)) (labelSet active) input r ⌝ }
 {
     let entry = second[at];
-    let m = (entry % 2048) as usize;
-    let first = labels::below(active, entry / 2048);
+    let m = (entry % layout::BEFORE_UNIT) as usize;
+    let first = labels::below(active, entry / layout::BEFORE_UNIT);
     let p = side(s, 1, at + 1, depth - 1, input, first, second);
-    let others = labels::from(active, entry / 2048);
+    let others = labels::from(active, entry / layout::BEFORE_UNIT);
     let q = side(s, m - at, m, depth - 1, input, others, second);
     rules::in_parallel(p, q)
 }
@@ -144,10 +144,10 @@ fn present_parts(
     ensures { λ r. ⌜ Resumed (now (second .entry)) depth at (now (s .entry)) (labelSet active) input r ⌝ }
 {
     let entry = second[at];
-    let first = labels::below(active, entry / 2048);
+    let first = labels::below(active, entry / layout::BEFORE_UNIT);
     if labels::is_empty(first) {
-        let m = (entry % 2048) as usize;
-        let others = labels::from(active, entry / 2048);
+        let m = (entry % layout::BEFORE_UNIT) as usize;
+        let others = labels::from(active, entry / layout::BEFORE_UNIT);
         return part(s, m - at, m, depth - 1, input, others, second);
     }
     part(s, 2, at + 2, depth - 1, input, first, second)

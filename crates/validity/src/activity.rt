@@ -3,8 +3,8 @@ ghost use Rattle.labels.specs.Labels.{labelSet};
 ghost use Rattle.validity.specs.Activity.{Ranked, Masked, Judges};
 ghost use Rattle.layout.specs.Known.{Sound};
 use labels::Labels;
+use layout::Seconds;
 use notes::Notes;
-use reading::reader::Seconds;
 
 // The ranks of the pauses with these labels.
 fn ranks(labels: Labels, notes: &Notes) -> Labels

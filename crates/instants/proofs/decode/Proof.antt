@@ -4,12 +4,6 @@ use Rattle.validity.specs.Activity.{ValidityOf}
 use Rattle.instants.proofs.Decoding.{waiting-as, waiting-invalid, is-fresh, is-over, other-phase, stray-labels}
 use Rattle.instants.proofs.decode.Statement.{statement}
 use Rattle.instants.proofs.decode.Tie as tie
-use Rattle.instants.proofs.decode.Reads as reads
-use Rattle.instants.proofs.decode.Lts as lts
-use Rattle.validity.proofs.activity.validity_of.Reads as validity-of-reads
-use Rattle.states.proofs.labels.Reads as labels-reads
-use Rattle.states.proofs.phase.Reads as phase-reads
-use Rattle.labels.proofs.is_empty.Reads as is-empty-reads
 
 phase-requires : tie.Need-phase-requires
 phase-requires c κs = search needs
