@@ -24,7 +24,7 @@ use Rattle.sequence.specs.Check.{checkOf}
 use Rattle.numbers.specs.Bytes.{leBytes}
 use Rattle.states.specs.StateRecord.{holds, encodeState, phaseIn}
 use Rattle.answers.specs.AnswerRecord.{answerLength}
-use Rattle.demands.specs.Tick.{Outcome, outcome, byState, tickOf}
+use Rattle.demands.specs.Tick.{Outcome, outcome, byState, replied, tickOf}
 use Rattle.demands.specs.Paper.{Call, Report, turnedDown, phaseOf, reportOf, paperTick, paper}
 use Rattle.demands.specs.Demands.{stateAfterwards, outcomes, cleared, report, Demand3}
 use Rattle.states.proofs.StateLaws.{Recorded, length-state, decode-encode}
@@ -75,7 +75,7 @@ module _ (sequence : List ℕ) (readBack : ℕ) (a : Accepted sequence readBack)
       record { state = s; same = ap (turnedDown 1) (same-phase s w h); bytes = refl; term = h; recorded = r }
 
   tick-related : (s : State) (w : Rewriting) → TermOf q s w → Recorded p s → (e : ℕ) (buffer : List ℕ)
-      → Related (byState inheritanceFirst q (holds s) (encodeState s) e buffer) (reportOf (byRewriting w e .0), byRewriting w e .1)
+      → Related (replied (byState inheritanceFirst q (holds s) e) (encodeState s) buffer) (reportOf (byRewriting w e .0), byRewriting w e .1)
   tick-related State.fresh w h r e buffer =
       let t = same-step State.fresh w h e in
       record {

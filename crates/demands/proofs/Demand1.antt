@@ -12,14 +12,15 @@ use Rattle.esterel.specs.Sets.{none}
 use Rattle.esterel.specs.Statement.{Statement}
 use Rattle.esterel.specs.Reaction.{gives, react, inheritanceFirst}
 use Rattle.esterel.specs.Expansion.{expand}
+use Rattle.esterel.specs.Resume.{instant}
 use Rattle.esterel.specs.Machines.{State, stateAfter}
 use Rattle.sequence.specs.Program.{program}
-use Rattle.sequence.specs.Check.{Checked, sound, bad, checked, checkOf}
+use Rattle.sequence.specs.Check.{checkOf}
 use Rattle.sequence.proofs.Rows.{check-by-rows}
 use Rattle.numbers.specs.Bytes.{leNumber}
-use Rattle.states.specs.StateRecord.{stateLength, Decoded, holds, malformed, encodeState, decodeState, phaseIn, labelsIn}
+use Rattle.states.specs.StateRecord.{stateLength, Decoded, encodeState, decodeState, phaseIn, labelsIn}
 use Rattle.answers.specs.AnswerRecord.{answerLength}
-use Rattle.demands.specs.Tick.{Outcome, outcome, byState, byCheck, tickBy, tickOf}
+use Rattle.demands.specs.Tick.{Outcome, outcome, Reply, refused, reacts, byState, replyOf, replied, tickBy, tickOf}
 use Rattle.demands.specs.TickRows.{Malformed, phase-above, labels-fresh, labels-over, not-valid}
 use Rattle.demands.specs.Paper.{Call}
 use Rattle.demands.specs.Demands.{number, stateAfterwards, outcomes, Admitted, Demand1, cleared}
@@ -31,25 +32,17 @@ use Rattle.demands.proofs.Sequence.{same-statement, Accepted, accepted,
 abbrev Unwritten : Outcome → List ℕ → List ℕ → Type 0
 Unwritten o state answer = number o ≢ 0 → o ≡ outcome (number o) state answer
 
-state-unwritten : (p : Statement) (d : Decoded) (state : List ℕ) (e : ℕ) (answer : List ℕ) → Unwritten (byState inheritanceFirst p d state e answer) state answer
-state-unwritten p malformed state e answer h = refl
-state-unwritten p (holds State.fresh) state e answer h = absurd (h refl)
-state-unwritten p (holds (State.waits L)) state e answer h = absurd (h refl)
-state-unwritten p (holds State.over) state e answer h = refl
-
-check-unwritten : (readBack : ℕ) (c : Checked) (state : List ℕ) (e : ℕ) (answer : List ℕ)
-    → Unwritten (byCheck inheritanceFirst readBack c state e answer) state answer
-check-unwritten readBack (bad k) state e answer h = refl
-check-unwritten readBack (sound p) state e answer h = state-unwritten (program readBack p) (decodeState p state) state e answer h
+reply-unwritten : (r : Reply) (state answer : List ℕ) → Unwritten (replied r state answer) state answer
+reply-unwritten (refused k) state answer h = refl
+reply-unwritten (reacts (instant r x n)) state answer h = absurd (h refl)
 
 refusal-writes-nothing : (sequence state : List ℕ) (e readBack : ℕ) (answer : List ℕ)
     → Unwritten (tickOf sequence state e readBack answer) state answer
 unfolding tickBy
 refusal-writes-nothing sequence state e readBack answer = go (eqb (length state) stateLength && eqb (length answer) answerLength)
   where
-    go : (b : Bool)
-        → Unwritten (cond b (byCheck inheritanceFirst readBack (checked sequence readBack) state e answer) (outcome 1 state answer)) state answer
-    go true h = check-unwritten readBack (checked sequence readBack) state e answer h
+    go : (b : Bool) → Unwritten (cond b (replied (replyOf sequence state e readBack) state answer) (outcome 1 state answer)) state answer
+    go true h = reply-unwritten (replyOf sequence state e readBack) state answer h
     go false h = refl
 
 -- ---- row 11 is never met
@@ -72,7 +65,7 @@ module _ (sequence : List ℕ) (readBack : ℕ) (a : Accepted sequence readBack)
   Passes o = (number o ≢ 11) × Admitted sequence (stateAfterwards o)
 
   state-passes : (state : List ℕ) → Admitted sequence state → (e : ℕ) (answer : List ℕ) (d : Decoded)
-      → Reading p (phaseIn state) (labelsIn state) d → Passes (byState inheritanceFirst (program readBack p) d state e answer)
+      → Reading p (phaseIn state) (labelsIn state) d → Passes (replied (byState inheritanceFirst (program readBack p) d e) state answer)
   state-passes state h e answer d (reads-malformed x) = absurd (h .1 p (a .spelled) x)
   state-passes state h e answer d (reads-fresh x n) = (omega arith, admitted-state (stateAfter (react (program readBack p) e)) (recorded-fresh sequence readBack a e))
   state-passes state h e answer d (reads-waiting x v) = (

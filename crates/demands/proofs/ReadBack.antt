@@ -23,7 +23,7 @@ use Rattle.sequence.specs.Check.{Checked, sound, bad, afterRead, checked, check
 use Rattle.sequence.proofs.Sound as reader
 use Rattle.states.specs.StateRecord.{stateLength, Decoded, holds, malformed, decodeState}
 use Rattle.answers.specs.AnswerRecord.{answerLength}
-use Rattle.demands.specs.Tick.{Outcome, outcome, written, byState, byCheck, tickBy, tickOf}
+use Rattle.demands.specs.Tick.{outcome, Reply, reacts, byState, byCheck, replyOf, replied, tickBy, tickOf}
 use Rattle.demands.specs.Plain.{plainAfterRead, plainChecked, plainByCheck, plainTick}
 
 -- ---- an empty set
@@ -48,10 +48,10 @@ plain-check bs = ap numberOf (plain-checked bs)
 pub plain-tick : (sequence state : List ℕ) (e : ℕ) (answer : List ℕ) → tickOf sequence state e none answer ≡ plainTick sequence state e answer
 unfolding tickBy plainTick
 plain-tick sequence state e answer =
-    ap (λ (o : Outcome). cond (eqb (length state) stateLength && eqb (length answer) answerLength) o (outcome 1 state answer))
-    (ap (λ (c : Checked). byCheck inheritanceFirst none c state e answer) (plain-checked sequence) ∙ go (plainChecked sequence))
+    ap (λ (r : Reply). cond (eqb (length state) stateLength && eqb (length answer) answerLength) (replied r state answer) (outcome 1 state answer))
+    (ap (λ (c : Checked). byCheck inheritanceFirst none c state e) (plain-checked sequence) ∙ go (plainChecked sequence))
   where
-    go : (c : Checked) → byCheck inheritanceFirst none c state e answer ≡ plainByCheck c state e answer
+    go : (c : Checked) → byCheck inheritanceFirst none c state e ≡ plainByCheck c state e
     go (bad k) = refl
     go (sound p) = rw (none-declared p)
 
@@ -69,20 +69,24 @@ resumed-unread : (readBack : ℕ) (p : Statement) (L e e′ : ℕ) → SameOutsi
 resumed-unread readBack p L e e′ h =
     rw (expand-declared readBackPlace (readBackSignals readBack) p L) (start-unread readBack (expand p L) e e′ h)
 
-module _ (readBack : ℕ) (state : List ℕ) (e e′ : ℕ) (answer : List ℕ) (h : SameOutside readBack e e′) where
+module _ (readBack : ℕ) (state : List ℕ) (e e′ : ℕ) (h : SameOutside readBack e e′) where
   state-unread : (p : Statement) (d : Decoded)
-      → byState inheritanceFirst (program readBack p) d state e answer ≡ byState inheritanceFirst (program readBack p) d state e′ answer
+      → byState inheritanceFirst (program readBack p) d e ≡ byState inheritanceFirst (program readBack p) d e′
   state-unread p malformed = refl
-  state-unread p (holds State.fresh) = ap written (start-unread readBack p e e′ h)
-  state-unread p (holds (State.waits L)) = ap written (resumed-unread readBack p L e e′ h)
+  state-unread p (holds State.fresh) = ap reacts (start-unread readBack p e e′ h)
+  state-unread p (holds (State.waits L)) = ap reacts (resumed-unread readBack p L e e′ h)
   state-unread p (holds State.over) = refl
 
-  check-unread : (c : Checked) → byCheck inheritanceFirst readBack c state e answer ≡ byCheck inheritanceFirst readBack c state e′ answer
+  check-unread : (c : Checked) → byCheck inheritanceFirst readBack c state e ≡ byCheck inheritanceFirst readBack c state e′
   check-unread (bad k) = refl
   check-unread (sound p) = state-unread p (decodeState p state)
 
-  pub tick-unread : (sequence : List ℕ) → tickOf sequence state e readBack answer ≡ tickOf sequence state e′ readBack answer
-  unfolding tickBy
-  tick-unread sequence =
-      ap (λ (o : Outcome). cond (eqb (length state) stateLength && eqb (length answer) answerLength) o (outcome 1 state answer))
-      (check-unread (checked sequence readBack))
+  pub reply-unread : (sequence : List ℕ) → replyOf sequence state e readBack ≡ replyOf sequence state e′ readBack
+  reply-unread sequence = check-unread (checked sequence readBack)
+
+pub tick-unread : (readBack : ℕ) (state : List ℕ) (e e′ : ℕ) (answer : List ℕ) → SameOutside readBack e e′
+    → (sequence : List ℕ) → tickOf sequence state e readBack answer ≡ tickOf sequence state e′ readBack answer
+unfolding tickBy
+tick-unread readBack state e e′ answer h sequence =
+    ap (λ (r : Reply). cond (eqb (length state) stateLength && eqb (length answer) answerLength) (replied r state answer) (outcome 1 state answer))
+    (reply-unread readBack state e e′ h sequence)

@@ -31,7 +31,7 @@ use Rattle.sequence.proofs.Source.{spells-source}
 use Rattle.sequence.proofs.Rows.{Decides, decided, row-range}
 use Rattle.states.specs.StateRecord.{stateLength, Decoded, decodeState}
 use Rattle.answers.specs.AnswerRecord.{answerLength}
-use Rattle.demands.specs.Tick.{outcome, byState, byCheck, tickBy, tickOf}
+use Rattle.demands.specs.Tick.{outcome, byState, replyOf, replied, tickBy, tickOf}
 use Rattle.demands.proofs.Bounds.{Bounded, below-number, ranged-bounded, bounded-expand, bounded-declared, stop-below}
 use Rattle.demands.proofs.ErrorPlaces.{PlacesBelow, placed-below, places-expand, places-declared}
 use Rattle.states.proofs.StateLaws.{Recorded}
@@ -73,7 +73,7 @@ spells-one sequence readBack h =
 pub tick-at : (ord : Order) (sequence state : List ℕ) (e readBack : ℕ) (answer : List ℕ) (p : Statement) (d : Decoded)
     → checked sequence readBack ≡ sound p
     → length state ≡ stateLength → length answer ≡ answerLength → decodeState p state ≡ d
-    → tickBy ord sequence state e readBack answer ≡ byState ord (program readBack p) d state e answer
+    → tickBy ord sequence state e readBack answer ≡ replied (byState ord (program readBack p) d e) state answer
 unfolding tickBy
 tick-at ord sequence state e readBack answer p d c i j h = rw (eq-eqb (length state) stateLength i, eq-eqb (length answer) answerLength j, c, h)
 
@@ -83,7 +83,7 @@ pub tick-short : (sequence state : List ℕ) (e readBack : ℕ) (answer : List �
 unfolding tickBy
 tick-short sequence state e readBack answer h = rw (ne-eqb (length answer) answerLength h) (go (eqb (length state) stateLength))
   where
-    go : (b : Bool) → cond (b && false) (byCheck inheritanceFirst readBack (checked sequence readBack) state e answer) (outcome 1 state answer) ≡ outcome 1 state answer
+    go : (b : Bool) → cond (b && false) (replied (replyOf sequence state e readBack) state answer) (outcome 1 state answer) ≡ outcome 1 state answer
     go true = refl
     go false = refl
 

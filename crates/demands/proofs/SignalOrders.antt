@@ -24,7 +24,7 @@ use Rattle.sequence.specs.Program.{program}
 use Rattle.sequence.specs.Check.{Checked, sound, bad, checked, checkOf}
 use Rattle.states.specs.StateRecord.{stateLength, Decoded, holds, malformed, decodeState, encodeState}
 use Rattle.answers.specs.AnswerRecord.{answerLength, encodeAnswer, codeIn, codeByte}
-use Rattle.demands.specs.Tick.{Outcome, outcome, written, byState, byCheck, tickBy, tickOf}
+use Rattle.demands.specs.Tick.{Outcome, outcome, written, Reply, byState, byCheck, replyBy, replyOf, replied, tickBy, tickOf}
 use Rattle.demands.specs.Paper.{Call}
 use Rattle.demands.specs.Demands.{number, stateAfterwards, answerAfterwards, outcomes, StandsAt, uncounted}
 use Rattle.demands.proofs.Bounds.{Exits, code-exits}
@@ -78,15 +78,15 @@ module _ (t : Statement) (e : ℕ) where
 
 -- ---- one tick by both orders: a refusal is the same
 module _ (state : List ℕ) (e readBack : ℕ) (answer : List ℕ) where
-  state-refused : (p : Statement) (d : Decoded) → number (byState inheritanceFirst p d state e answer) ≢ 0
-      → byState printed p d state e answer ≡ byState inheritanceFirst p d state e answer
+  state-refused : (p : Statement) (d : Decoded) → number (replied (byState inheritanceFirst p d e) state answer) ≢ 0
+      → byState printed p d e ≡ byState inheritanceFirst p d e
   state-refused p malformed n = refl
   state-refused p (holds State.fresh) n = absurd (n refl)
   state-refused p (holds (State.waits L)) n = absurd (n refl)
   state-refused p (holds State.over) n = refl
 
-  check-refused : (c : Checked) → number (byCheck inheritanceFirst readBack c state e answer) ≢ 0
-      → byCheck printed readBack c state e answer ≡ byCheck inheritanceFirst readBack c state e answer
+  check-refused : (c : Checked) → number (replied (byCheck inheritanceFirst readBack c state e) state answer) ≢ 0
+      → byCheck printed readBack c state e ≡ byCheck inheritanceFirst readBack c state e
   check-refused (bad k) n = refl
   check-refused (sound p) n = state-refused (program readBack p) (decodeState p state) n
 
@@ -95,10 +95,10 @@ module _ (state : List ℕ) (e readBack : ℕ) (answer : List ℕ) where
   unfolding tickBy
   refused sequence = go (eqb (length state) stateLength && eqb (length answer) answerLength)
     where
-      go : (b : Bool) → number (cond b (byCheck inheritanceFirst readBack (checked sequence readBack) state e answer) (outcome 1 state answer)) ≢ 0
-          → cond b (byCheck printed readBack (checked sequence readBack) state e answer) (outcome 1 state answer)
-          ≡ cond b (byCheck inheritanceFirst readBack (checked sequence readBack) state e answer) (outcome 1 state answer)
-      go true n = check-refused (checked sequence readBack) n
+      go : (b : Bool) → number (cond b (replied (replyOf sequence state e readBack) state answer) (outcome 1 state answer)) ≢ 0
+          → cond b (replied (replyBy printed sequence state e readBack) state answer) (outcome 1 state answer)
+          ≡ cond b (replied (replyOf sequence state e readBack) state answer) (outcome 1 state answer)
+      go true n = ap (λ (r : Reply). replied r state answer) (check-refused (checked sequence readBack) n)
       go false n = refl
 
 -- an instant: the term at which the machine stands, and what both orders write

@@ -22,7 +22,7 @@ use Rattle.sequence.proofs.ByRows.{refused-by, accepted-by}
 use Rattle.sequence.proofs.Rows.{Decides, decided, row-range}
 use Rattle.states.specs.StateRecord.{stateLength, Decoded, holds, malformed, decode, decodeState, phaseIn, labelsIn}
 use Rattle.answers.specs.AnswerRecord.{answerLength}
-use Rattle.demands.specs.Tick.{outcome, byState, byCheck, tickBy, tickOf}
+use Rattle.demands.specs.Tick.{outcome, byState, byCheck, replyOf, replied, tickBy, tickOf}
 use Rattle.demands.specs.TickRows.{Malformed, phase-above, labels-fresh, labels-over, not-valid, TickRow, row-1, row-2-to-10, row-11, row-12}
 use Rattle.demands.specs.Demands.{number}
 use Rattle.demands.proofs.Sequence.{same-statement}
@@ -126,7 +126,8 @@ module _ (sequence : List ℕ) (readBack : ℕ) (state answer : List ℕ) where
     nowhere r n m (row-11 t y) = not-11 r t y
     nowhere r n m (row-12 y) = n y
 
-    by-state : (e : ℕ) (d : Decoded) → Reading p (phaseIn state) (labelsIn state) d → ByRows (number (byState inheritanceFirst (program readBack p) d state e answer)) Holds
+    by-state : (e : ℕ) (d : Decoded) → Reading p (phaseIn state) (labelsIn state) d
+        → ByRows (number (replied (byState inheritanceFirst (program readBack p) d e) state answer)) Holds
     by-state e d (reads-malformed x) =
         refused-by 11 Holds (λ r. omega (arith, row-positive 0 r)) (row-11 (c .1) x) below
       where
@@ -150,12 +151,12 @@ module _ (sequence : List ℕ) (readBack : ℕ) (state answer : List ℕ) where
   unfolding tickBy
   tick-by-rows e = go (eqb (length state) stateLength) (eqb (length answer) answerLength) refl refl
     where
-      checks : Sized → (c : Checked) → Decides sequence readBack c → ByRows (number (byCheck inheritanceFirst readBack c state e answer)) Holds
+      checks : Sized → (c : Checked) → Decides sequence readBack c → ByRows (number (replied (byCheck inheritanceFirst readBack c state e) state answer)) Holds
       checks z (bad k) d = by-check z k d
       checks z (sound p) d = by-state z p d e (decodeState p state) (reading p state)
 
       go : (b c : Bool) → eqb (length state) stateLength ≡ b → eqb (length answer) answerLength ≡ c
-          → ByRows (number (cond (b && c) (byCheck inheritanceFirst readBack (checked sequence readBack) state e answer) (outcome 1 state answer))) Holds
+          → ByRows (number (cond (b && c) (replied (replyOf sequence state e readBack) state answer) (outcome 1 state answer))) Holds
       go true true i j =
           checks (eqb-true (length state) stateLength i, eqb-true (length answer) answerLength j) (checked sequence readBack) (decided sequence readBack)
       go true false i j = by-1 (inr (eqb-false (length answer) answerLength j))

@@ -6,25 +6,26 @@ use lib.ListN.{length}
 use lib.Dec.{eqb, leb, ltb}
 use Rattle.esterel.specs.Reaction.{inheritanceFirst}
 use Rattle.limits.specs.Limits.{maxBytes}
-use Rattle.sequence.specs.Reader.{Read, accepted, refused, readAll}
+use Rattle.sequence.specs.Reader as Reader
+use Rattle.sequence.specs.Reader.{Read, accepted, readAll}
 use Rattle.sequence.specs.Check.{Checked, sound, bad, labelRules}
 use Rattle.states.specs.StateRecord.{stateLength, decodeState}
 use Rattle.answers.specs.AnswerRecord.{answerLength}
-use Rattle.demands.specs.Tick.{Outcome, outcome, byState}
+use Rattle.demands.specs.Tick.{Outcome, outcome, Reply, refused, byState, replied}
 
 abbrev pub plainAfterRead : ℕ → Read → Checked
-plainAfterRead n (refused number) = bad number
+plainAfterRead n (Reader.refused number) = bad number
 plainAfterRead n (accepted p count) = cond (ltb count n) (bad 7) (labelRules p)
 
 unfoldable pub plainChecked : List ℕ → Checked
 plainChecked bs = cond (leb 1 (length bs) && leb (length bs) maxBytes) (plainAfterRead (length bs) (readAll bs)) (bad 2)
 
 -- the sequence itself reacts
-abbrev pub plainByCheck : Checked → List ℕ → ℕ → List ℕ → Outcome
-plainByCheck (bad number) state e answer = outcome number state answer
-plainByCheck (sound p) state e answer = byState inheritanceFirst p (decodeState p state) state e answer
+abbrev pub plainByCheck : Checked → (state : List ℕ) → ℕ → Reply
+plainByCheck (bad number) state e = refused number
+plainByCheck (sound p) state e = byState inheritanceFirst p (decodeState p state) e
 
 unfoldable pub plainTick : (sequence state : List ℕ) (e : ℕ) (answer : List ℕ) → Outcome
 plainTick sequence state e answer =
-    cond (eqb (length state) stateLength && eqb (length answer) answerLength) (plainByCheck (plainChecked sequence) state e answer)
+    cond (eqb (length state) stateLength && eqb (length answer) answerLength) (replied (plainByCheck (plainChecked sequence) state e) state answer)
     (outcome 1 state answer)

@@ -1,4 +1,5 @@
--- One tick (01, 'Turned down' and 'States and resuming'): the number and both buffers after the call, for all arguments.
+-- One tick (01, 'Turned down' and 'States and resuming'): its reply by value, and the number and both buffers after the call, for all
+-- arguments.
 use Prim.Native.Nat.{ℕ}
 use mathlib.Core.Bool.{_&&_, cond}
 use mathlib.Core.List.{List}
@@ -21,25 +22,42 @@ pub data Outcome : Type 0 where
 abbrev pub written : Instant → Outcome
 written (instant r x n) = outcome 0 (encodeState (stateAfter r)) (encodeAnswer (instant r x n))
 
--- A fresh machine reacts with the whole program p, a waiting one with its expansion; a refusal writes nothing
-abbrev pub byState : Order → Statement → Decoded → List ℕ → ℕ → List ℕ → Outcome
-byState ord p malformed state e answer = outcome 11 state answer
-byState ord p (holds State.fresh) state e answer = written (startBy ord p e)
-byState ord p (holds (State.waits L)) state e answer = written (startBy ord (expand p L) e)
-byState ord p (holds State.over) state e answer = outcome 12 state answer
+-- ---- the reply: rows 2 to 12, and else the instant; nothing is written yet
+pub data Reply : Type 0 where
+  refused : (number : ℕ) → Reply
+  reacts : Instant → Reply
+
+-- a fresh machine reacts with the whole program p, a waiting one with its expansion
+abbrev pub byState : Order → Statement → Decoded → ℕ → Reply
+byState ord p malformed e = refused 11
+byState ord p (holds State.fresh) e = reacts (startBy ord p e)
+byState ord p (holds (State.waits L)) e = reacts (startBy ord (expand p L) e)
+byState ord p (holds State.over) e = refused 12
 
 -- the program is the sequence under its read-back declarations (02, item 5); the state is one of the sequence itself
-abbrev pub byCheck : Order → (readBack : ℕ) → Checked → List ℕ → ℕ → List ℕ → Outcome
-byCheck ord readBack (bad number) state e answer = outcome number state answer
-byCheck ord readBack (sound p) state e answer = byState ord (program readBack p) (decodeState p state) state e answer
+abbrev pub byCheck : Order → (readBack : ℕ) → Checked → (state : List ℕ) → ℕ → Reply
+byCheck ord readBack (bad number) state e = refused number
+byCheck ord readBack (sound p) state e = byState ord (program readBack p) (decodeState p state) e
 
--- the tick by either order of the signal rules
+-- by either order of the signal rules
+abbrev pub replyBy : Order → (sequence state : List ℕ) (e readBack : ℕ) → Reply
+replyBy ord sequence state e readBack = byCheck ord readBack (checked sequence readBack) state e
+
+-- by 02's order (item 4)
+abbrev pub replyOf : (sequence state : List ℕ) (e readBack : ℕ) → Reply
+replyOf = replyBy inheritanceFirst
+
+-- a refusal leaves both buffers
+abbrev pub replied : Reply → (state answer : List ℕ) → Outcome
+replied (refused number) state answer = outcome number state answer
+replied (reacts i) state answer = written i
+
+-- ---- the tick: row 1, and else the reply
 unfoldable pub tickBy : Order → (sequence state : List ℕ) (e readBack : ℕ) (answer : List ℕ) → Outcome
 tickBy ord sequence state e readBack answer =
     cond (eqb (length state) stateLength && eqb (length answer) answerLength)
-    (byCheck ord readBack (checked sequence readBack) state e answer)
+    (replied (replyBy ord sequence state e readBack) state answer)
     (outcome 1 state answer)
 
--- the tick: by 02's order (item 4)
 abbrev pub tickOf : (sequence state : List ℕ) (e readBack : ℕ) (answer : List ℕ) → Outcome
 tickOf = tickBy inheritanceFirst

@@ -12,7 +12,7 @@ use Rattle.esterel.specs.Errors.{Error, firstError}
 use Rattle.esterel.specs.Ranks.{mask}
 use Rattle.esterel.specs.Expansion.{expand}
 use Rattle.esterel.specs.Resume as Esterel
-use Rattle.esterel.specs.Resume.{tree, instantOf, startTree, expandBy}
+use Rattle.esterel.specs.Resume.{tree, instantOf, start, startTree, expandBy}
 use Rattle.esterel.specs.Machines.{State}
 use Rattle.theory.proofs.LabelTests.{valid-is}
 use Rattle.theory.proofs.Figure5.{valid-active}
@@ -36,11 +36,13 @@ use Rattle.reaction.specs.declared.Reaction.{Reaction}
 use Rattle.numbers.proofs.Bytes.{le-low}
 use Rattle.states.specs.StateRecord.{labelsIn, encodeState, Decoded, holds, malformed, decodeState}
 use Rattle.answers.specs.AnswerRecord.{encodeAnswer}
-use Rattle.demands.specs.Tick.{Outcome, outcome, written, byState, byCheck}
+use Rattle.demands.specs.Tick as tick
+use Rattle.demands.specs.Tick.{written, reacts, byState, byCheck, replyOf, replied}
 use Rattle.instants.specs.declared.Standing.the-variants as stands
+use Rattle.instants.specs.declared.Reply.{Reply}
 use Rattle.instants.specs.declared.Reply.the-variants.{Refused, Reacted}
 use Rattle.writing.specs.Written.{WritableCode, Writable, writtenFrom}
-use Rattle.instants.specs.Replies.{Decodes, Replies, Passed}
+use Rattle.instants.specs.Replies.{Decodes, StandsFor, repliedFrom, Replies, Passed}
 use Rattle.demands.proofs.Sequence.{accepted}
 use Rattle.demands.proofs.Bounds.{Bounded, Exits, ranged-bounded, bounded-expand, bounded-declared, code-exits}
 
@@ -51,6 +53,12 @@ written-from (tree (Esterel.instant (gives o ended l t) x n) a) = rw (le-low tak
 written-from (tree (Esterel.instant (gives o waiting l t) x n) a) = rw (labelSet-of, le-low takenBytes n)
 written-from (tree (Esterel.instant (gives o (leaving m) l t) x n) a) = rw (le-low takenBytes n)
 written-from (tree (Esterel.instant (gives o wrong l t) x n) a) = rw (le-low takenBytes n)
+
+-- so what is written from a reply is what its value writes
+pub replied-from : (r : Reply) (d : tick.Reply) → StandsFor r d → (state answer : List ℕ) → repliedFrom r state answer ≡ replied d state answer
+replied-from (Refused n) d h state answer = ap (λ (x : tick.Reply). replied x state answer) (sym h)
+replied-from (Reacted i) d (t, h, k) state answer =
+    ap writtenFrom h ∙ written-from t ∙ ap (λ (x : tick.Reply). replied x state answer) (sym k)
 
 -- ---- instants fit the answer record
 writable-code : (k : Code) (x : Option Error) → Exits k → WritableCode (completionOf k x)
@@ -80,19 +88,15 @@ module _ {sequence second notes : List ℕ} {readBack : ℕ} (h : Passed second 
   pub as-ready : Ready second maxDepth 0 sequence
   as-ready = ready 0 (h .p) (h .known .long) (h .known .lies)
 
--- ---- what a call comes to
+-- ---- the reply
 module _ (sequence state : List ℕ) (e readBack : ℕ) where
-  -- what the definition of the tick gives once the lengths are right
-  abbrev Gives : Outcome → List ℕ → Type 0
-  Gives o answer = o ≡ byCheck inheritanceFirst readBack (checked sequence readBack) state e answer
-
   pub refused : (n : ℕ) → n ≡ checkOf sequence readBack → n ≢ 0 → Replies sequence state e readBack (Refused n)
   unfolding checkOf
-  refused n h z = record { writable = tt; is = λ answer. go (checked sequence readBack) h answer }
+  refused n h z = record { writable = tt; is = go (checked sequence readBack) h }
     where
-      go : (c : Checked) → n ≡ numberOf c → (answer : List ℕ) → outcome n state answer ≡ byCheck inheritanceFirst readBack c state e answer
-      go (bad k) x answer = ap (λ (m : ℕ). outcome m state answer) x
-      go (sound p) x answer = absurd (z x)
+      go : (c : Checked) → n ≡ numberOf c → byCheck inheritanceFirst readBack c state e ≡ tick.refused n
+      go (bad k) x = ap tick.refused (sym x)
+      go (sound p) x = absurd (z x)
 
   module _ (p : Statement) (s : checked sequence readBack ≡ sound p) (ranged : Ranged p) where
     -- the term of the program
@@ -103,14 +107,14 @@ module _ (sequence state : List ℕ) (e readBack : ℕ) where
     bounded = bounded-declared readBackPlace (readBackSignals readBack) p (ranged-bounded p ranged)
 
     -- the record holds d
-    by-record : (d : Decoded) → decodeState p state ≡ d → (answer : List ℕ) → Gives (byState inheritanceFirst q d state e answer) answer
-    by-record d w answer =
-        sym (ap (λ (c : Checked). byCheck inheritanceFirst readBack c state e answer) s
-        ∙ ap (λ (x : Decoded). byState inheritanceFirst q x state e answer) w)
+    by-record : (d : Decoded) → decodeState p state ≡ d → replyOf sequence state e readBack ≡ byState inheritanceFirst q d e
+    by-record d w =
+        ap (λ (c : Checked). byCheck inheritanceFirst readBack c state e) s
+        ∙ ap (λ (x : Decoded). byState inheritanceFirst q x e) w
 
-    reacts : (t : Statement) (i : Reaction) → Bounded t → i ≡ reactionOf (startTree t e)
-        → ((answer : List ℕ) → Gives (writtenFrom (reactionOf (startTree t e))) answer) → Replies sequence state e readBack (Reacted i)
-    reacts t i r h k = record { writable = writable t e r i h; is = λ answer. ap writtenFrom h ∙ k answer }
+    reacted : (t : Statement) (i : Reaction) → Bounded t → i ≡ reactionOf (startTree t e)
+        → replyOf sequence state e readBack ≡ reacts (start t e) → Replies sequence state e readBack (Reacted i)
+    reacted t i r h k = record { writable = writable t e r i h; is = (startTree t e, h, k) }
 
     pub malformed-reply : Decodes p state stands.Malformed → Replies sequence state e readBack (Refused 11)
     malformed-reply d = record { writable = tt; is = by-record malformed d }
@@ -119,7 +123,7 @@ module _ (sequence state : List ℕ) (e readBack : ℕ) where
     over-reply d = record { writable = tt; is = by-record (holds State.over) d }
 
     pub fresh-reply : (i : Reaction) → Decodes p state stands.Fresh → i ≡ reactionOf (startTree q e) → Replies sequence state e readBack (Reacted i)
-    fresh-reply i d h = reacts q i bounded h (λ answer. written-from (startTree q e) ∙ by-record (holds State.fresh) d answer)
+    fresh-reply i d h = reacted q i bounded h (by-record (holds State.fresh) d)
 
     -- the expansion by ranks, under the declarations, is the expansion of the program
     expanded : (m L : ℕ) → Valid p L → m ≡ mask 0 p L → program readBack (expandBy 0 p m) ≡ expand q L
@@ -131,6 +135,6 @@ module _ (sequence state : List ℕ) (e readBack : ℕ) where
         → i ≡ reactionOf (startTree (program readBack (expandBy 0 p (labelSet m))) e) → Replies sequence state e readBack (Reacted i)
     waiting-reply i m d h =
         let L = labelsIn state in
-        reacts (expand q L) i (bounded-expand q L bounded)
+        reacted (expand q L) i (bounded-expand q L bounded)
         (h ∙ ap (λ (t : Statement). reactionOf (startTree t e)) (expanded (labelSet m) L (valid-is p L .0 (d .1)) (d .2)))
-        (λ answer. written-from (startTree (expand q L) e) ∙ by-record (holds (State.waits L)) (d .0) answer)
+        (by-record (holds (State.waits L)) (d .0))

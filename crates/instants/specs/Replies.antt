@@ -1,4 +1,4 @@
--- What the code's answers stand for: a state record's standing, and what a call comes to before anything is written.
+-- What the code's answers stand for: a state record's standing, and the reply to a call.
 use Prim.Native.Nat.{ℕ}
 use mathlib.Core.Path.{_≡_}
 use mathlib.Core.Bool.{true}
@@ -6,19 +6,21 @@ use mathlib.Core.List.{List}
 use Rattle.sequence.specs.Check.{sound, checked}
 use Rattle.sequence.specs.Writer.{Ranged}
 use Rattle.layout.specs.Known.{Known}
-use Rattle.esterel.specs.Reaction.{inheritanceFirst}
 use Rattle.esterel.specs.Statement.{Statement}
 use Rattle.esterel.specs.LabelTests.{valid}
 use Rattle.esterel.specs.Ranks.{mask}
+use Rattle.esterel.specs.Resume.{Tree, instantOf}
 use Rattle.esterel.specs.Machines.{State}
 use Rattle.labels.specs.Labels.{labelSet}
 use Rattle.instants.specs.declared.Standing.{Standing}
 use Rattle.instants.specs.declared.Standing.the-variants as stands
 use Rattle.instants.specs.declared.Reply.{Reply}
 use Rattle.instants.specs.declared.Reply.the-variants.{Refused, Reacted}
+use Rattle.reaction.specs.Reactions.{reactionOf}
 use Rattle.writing.specs.Written.{Writable, writtenFrom}
 use Rattle.states.specs.StateRecord.{labelsIn, holds, malformed, decodeState}
-use Rattle.demands.specs.Tick.{Outcome, outcome, byCheck}
+use Rattle.demands.specs.Tick as tick
+use Rattle.demands.specs.Tick.{Outcome, outcome, refused, reacts, replyOf}
 
 -- what the record holds for p; of a waiting machine also the ranks of its active pauses
 abbrev pub Decodes : Statement → List ℕ → Standing → Type 0
@@ -32,20 +34,24 @@ Decodes p state stands.Malformed = decodeState p state ≡ malformed
 abbrev pub DecodesRead : (t notes sequence state : List ℕ) → Standing → Type 0
 DecodesRead t notes sequence state r = (p : Statement) → Known t notes sequence p → Decodes p state r
 
--- ---- what a call comes to before anything is written
+-- ---- the reply by value: the code's instant is that of a tree, whose signals asked for are not told
+abbrev pub StandsFor : Reply → tick.Reply → Type 0
+StandsFor (Refused number) r = r ≡ refused number
+StandsFor (Reacted i) r = (t : Tree) × (i ≡ reactionOf t) × (r ≡ reacts (instantOf t))
+
 abbrev pub WritableReply : Reply → Type 0
 WritableReply (Refused number) = Unit {0}
 WritableReply (Reacted r) = Writable r
 
--- a refusal leaves both buffers
-abbrev pub replied : Reply → (state answer : List ℕ) → Outcome
-replied (Refused number) state answer = outcome number state answer
-replied (Reacted r) state answer = writtenFrom r
+-- what is written from it
+abbrev pub repliedFrom : Reply → (state answer : List ℕ) → Outcome
+repliedFrom (Refused number) state answer = outcome number state answer
+repliedFrom (Reacted r) state answer = writtenFrom r
 
--- r is what an accepted or refused sequence comes to in the state of the record, whatever the answer buffer
+-- r is the reply of the sequence in the state of the record
 pub record Replies (sequence state : List ℕ) (e readBack : ℕ) (r : Reply) : Type 0 where
   pub writable : WritableReply r
-  pub is : (answer : List ℕ) → replied r state answer ≡ byCheck inheritanceFirst readBack (checked sequence readBack) state e answer
+  pub is : StandsFor r (replyOf sequence state e readBack)
 
 -- ---- what is known of a sequence that the check has passed
 pub record Passed (second notes sequence : List ℕ) (readBack : ℕ) : Type 0 where

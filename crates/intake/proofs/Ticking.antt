@@ -7,9 +7,10 @@ use lib.ListN.{length}
 use borrow.Author.Tests.{eq-eqb, ne-eqb}
 use Rattle.states.specs.StateRecord.{stateLength}
 use Rattle.answers.specs.AnswerRecord.{answerLength}
-use Rattle.demands.specs.Tick.{outcome, tickBy, tickOf}
+use Rattle.demands.specs.Tick.{outcome, replyOf, tickBy, tickOf}
 use Rattle.instants.specs.declared.Reply.{Reply}
-use Rattle.instants.specs.Replies.{replied, Replies}
+use Rattle.instants.specs.Replies.{repliedFrom, Replies}
+use Rattle.instants.proofs.Replying.{replied-from}
 
 module _ (sequence state : List ℕ) (e readBack : ℕ) (answer : List ℕ) where
   pub other-state : length state ≢ stateLength → outcome 1 state answer ≡ tickOf sequence state e readBack answer
@@ -22,6 +23,8 @@ module _ (sequence state : List ℕ) (e readBack : ℕ) (answer : List ℕ) wher
     other-answer n = rw (eq-eqb (length state) stateLength i, ne-eqb (length answer) answerLength n)
 
     pub as-replied : length answer ≡ answerLength → (r : Reply) → Replies sequence state e readBack r
-        → replied r state answer ≡ tickOf sequence state e readBack answer
+        → repliedFrom r state answer ≡ tickOf sequence state e readBack answer
     unfolding tickBy
-    as-replied j r h = rw (eq-eqb (length state) stateLength i, eq-eqb (length answer) answerLength j) (h .is answer)
+    as-replied j r h =
+        rw (eq-eqb (length state) stateLength i, eq-eqb (length answer) answerLength j)
+        (replied-from r (replyOf sequence state e readBack) (h .is) state answer)
