@@ -13,14 +13,12 @@ use Rattle.limits.specs.Limits.{maxBytes, maxDepth, maxSignals, readBackPlace}
 use Rattle.sequence.specs.Program.{readBackSignals, program}
 use Rattle.sequence.specs.Check.{Checked, sound, bad, checked, numberOf, checkOf}
 use Rattle.sequence.proofs.Extents.{few-signals}
-use Rattle.sequence.proofs.Rows.{Decides, decided, row-range}
-use Rattle.layout.specs.Layout.{Ready}
-use Rattle.layout.proofs.Laid.{ready}
-use Rattle.checks.specs.Verdict.{Judged}
+use Rattle.checks.specs.Verdict.{Judged, Passed}
+use Rattle.checks.proofs.Passing.{as-ready}
 use Rattle.extents.specs.declared.Numbers.{Numbers}
 use Rattle.extents.specs.Extents.{Has}
 use Rattle.sequence.specs.Ceilings.{ceilingOf}
-use Rattle.ceilings.specs.Ceilings.{Plannable, Passed}
+use Rattle.ceilings.specs.Ceilings.{Plannable}
 use Rattle.extents.proofs.Sizes.{sized}
 
 -- ---- the product, and that it fits
@@ -44,33 +42,22 @@ module _ (x y : ℕ) (c : x ≤ maxBytes + maxSignals) (l : y ≤ maxDepth) wher
 
 -- ---- a sequence that the check has judged
 module _ (bs : List ℕ) (readBack : ℕ) where
-  module _ (t : List ℕ) (a : Passed bs readBack t) where
-    pub starts : Ready t maxDepth 0 bs
-    starts = ready 0 (a .p) (a .long) (a .lies)
-
+  module _ (t notes : List ℕ) (a : Passed bs readBack t notes) where
     -- the numbers n that the walk finds, with k signals read back
     module _ {n : Numbers} (h : Has (a .p) n) {k : ℕ} (e : k ≡ length (readBackSignals readBack)) where
       pub plannable : Plannable n k
       plannable =
-          let s = sized t maxDepth 0 0 bs (a .p) (a .lies) in
-          let r = starts in
+          let s = sized t maxDepth 0 0 bs (a .p) (a .known .lies) in
+          let r = as-ready a in
           let g = few-signals bs readBack (a .p) (a .is) in
           let f = nesting-declared readBackPlace (readBackSignals readBack) (a .p) in
           record { count = omega (arith, h, s, r .fits); loops = omega (arith, h, s); signals = omega (arith, h, e, g, f) }
 
-      pub planned : {r : ℕ} → r ≡ (k + n .commands) * (1 + n .loops) * 2 ^ (k + n .signals) → r ≡ ceilingOf readBack (checked bs readBack)
-      planned z =
+      pub by-numbers : {r : ℕ} → r ≡ (k + n .commands) * (1 + n .loops) * 2 ^ (k + n .signals) → r ≡ ceilingOf readBack (checked bs readBack)
+      by-numbers z =
           z ∙ rw (h .count, h .loops, h .signals) (sym (ceiling-is readBack k (a .p) e)) ∙ ap (ceilingOf readBack) (sym (a .is))
 
   module _ {t notes : List ℕ} {r : ℕ} (j : Judged bs readBack t notes r) where
-    pub passed : r ≡ 0 → Passed bs readBack t
-    unfolding checkOf
-    passed z = go (checked bs readBack) refl (decided bs readBack) (sym (j .number) ∙ z)
-      where
-        go : (c : Checked) → checked bs readBack ≡ c → Decides bs readBack c → numberOf c ≡ 0 → Passed bs readBack t
-        go (bad k) e d h = absurd (let i = row-range bs readBack k (d .0) in omega arith)
-        go (sound p) e d h = let k = j .known p e in record { p = p; is = e; lies = k .lies; long = k .long }
-
     pub turned-down : (r ≡ 0 → ⊥) → 0 ≡ ceilingOf readBack (checked bs readBack)
     unfolding checkOf
     turned-down z = go (checked bs readBack) refl

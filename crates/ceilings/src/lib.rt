@@ -1,9 +1,11 @@
 // The ceiling on the reactions of an instant (02, item 6), from the bytes of a sequence and a read-back set.
 ghost use mathlib.Core.Path.{_≡_};
-ghost use Prim.Native.Nat.{_+_, _*_, _^_};
+ghost use mathlib.Core.List.{List};
+ghost use Prim.Native.Nat.{ℕ, _+_, _*_, _^_};
 ghost use Rattle.sequence.specs.Check.{checked};
 ghost use Rattle.sequence.specs.Ceilings.{ceilingOf};
-ghost use Rattle.ceilings.specs.Ceilings.{Plannable, Passed};
+ghost use Rattle.checks.specs.Verdict.{Passed};
+ghost use Rattle.ceilings.specs.Ceilings.{Plannable};
 use extents::Numbers;
 use layout::Seconds;
 use notes::Notes;
@@ -18,7 +20,7 @@ fn under(n: Numbers, k: u32) -> u32
 
 // The ceiling of a sequence that the check has passed, with the table of second parts that it left.
 fn of_accepted(sequence: &[u8], read_back: u32, second: &Seconds) -> u32
-    requires { ⌜ Passed (now sequence) «read_back» (now second) ⌝ }
+    requires { ⌜ ((notes : List ℕ) × Passed (now sequence) «read_back» (now second) notes) ⌝ }
     ensures { λ r. ⌜ r ≡ ceilingOf «read_back» (checked (now (sequence .entry)) «read_back») ⌝ }
 {
     let n = extents::of_statement(sequence, 0, limits::MAX_DEPTH, second);

@@ -23,12 +23,8 @@ use Rattle.sequence.specs.Program.{readBackSignals, program}
 use Rattle.labels.specs.Labels.{labelSet}
 use Rattle.labels.proofs.LabelValues.{labelSet-of}
 use Rattle.labels.specs.declared.Labels.{Labels}
-use Rattle.limits.specs.Limits.{maxDepth, readBackPlace, takenBytes}
+use Rattle.limits.specs.Limits.{readBackPlace, takenBytes}
 use Rattle.sequence.specs.Writer.{Ranged}
-use Rattle.layout.specs.Layout.{Ready}
-use Rattle.layout.proofs.Laid.{ready}
-use Rattle.layout.specs.Known.{Known, Sound}
-use Rattle.checks.specs.Verdict.{Judged}
 use Rattle.sequence.specs.Check.{Checked, sound, bad, checked, numberOf, checkOf}
 use Rattle.completions.specs.Completions.{completionOf}
 use Rattle.reaction.specs.Reactions.{reactionOf}
@@ -42,8 +38,7 @@ use Rattle.instants.specs.declared.Standing.the-variants as stands
 use Rattle.instants.specs.declared.Reply.{Reply}
 use Rattle.instants.specs.declared.Reply.the-variants.{Refused, Reacted}
 use Rattle.writing.specs.Written.{WritableCode, Writable, writtenFrom}
-use Rattle.instants.specs.Replies.{Decodes, StandsFor, repliedFrom, Replies, Passed}
-use Rattle.demands.proofs.Sequence.{accepted}
+use Rattle.instants.specs.Replies.{Decodes, StandsFor, repliedFrom, Replies}
 use Rattle.demands.proofs.Bounds.{Bounded, Exits, ranged-bounded, bounded-expand, bounded-declared, code-exits}
 
 -- WRITTEN: the code's tree writes what esterel's instant does; the signals asked for are not told
@@ -69,24 +64,6 @@ writable-code wrong x f = tt
 
 writable : (t : Statement) (e : ℕ) → Bounded t → (i : Reaction) → i ≡ reactionOf (startTree t e) → Writable i
 writable t e r i w = subst Writable (sym w) (writable-code (code (react t e)) (firstError t e) (code-exits inheritanceFirst t e r))
-
-pub passed : (sequence : List ℕ) (readBack : ℕ) (second notes : List ℕ) (n : ℕ) → Judged sequence readBack second notes n → n ≡ 0
-    → Passed second notes sequence readBack
-passed sequence readBack second notes n j z =
-    let a = accepted sequence readBack (sym (j .number) ∙ z) in
-    record {
-      p = a .statement;
-      is = a .is-checked;
-      ranged = a .spelled .1 .ranged;
-      known = j .known (a .statement) (a .is-checked);
-    }
-
-module _ {sequence second notes : List ℕ} {readBack : ℕ} (h : Passed second notes sequence readBack) where
-  pub as-sound : Sound second notes sequence
-  as-sound = record { p = h .p; known = h .known }
-
-  pub as-ready : Ready second maxDepth 0 sequence
-  as-ready = ready 0 (h .p) (h .known .long) (h .known .lies)
 
 -- ---- the reply
 module _ (sequence state : List ℕ) (e readBack : ℕ) where

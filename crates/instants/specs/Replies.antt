@@ -3,8 +3,6 @@ use Prim.Native.Nat.{ℕ}
 use mathlib.Core.Path.{_≡_}
 use mathlib.Core.Bool.{true}
 use mathlib.Core.List.{List}
-use Rattle.sequence.specs.Check.{sound, checked}
-use Rattle.sequence.specs.Writer.{Ranged}
 use Rattle.layout.specs.Known.{Known}
 use Rattle.esterel.specs.Statement.{Statement}
 use Rattle.esterel.specs.LabelTests.{valid}
@@ -52,10 +50,3 @@ repliedFrom (Reacted r) state answer = writtenFrom r
 pub record Replies (sequence state : List ℕ) (e readBack : ℕ) (r : Reply) : Type 0 where
   pub writable : WritableReply r
   pub is : StandsFor r (replyOf sequence state e readBack)
-
--- ---- what is known of a sequence that the check has passed
-pub record Passed (second notes sequence : List ℕ) (readBack : ℕ) : Type 0 where
-  pub p : Statement
-  pub is : checked sequence readBack ≡ sound p
-  pub ranged : Ranged p
-  pub known : Known second notes sequence p

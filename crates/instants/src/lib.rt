@@ -1,7 +1,8 @@
 // The core of a tick: what a state record holds, and what a call comes to before anything is written. It answers by value and
 // writes nothing.
 ghost use Rattle.layout.specs.Known.{Sound};
-ghost use Rattle.instants.specs.Replies.{DecodesRead, Replies, Passed};
+ghost use Rattle.checks.specs.Verdict.{Passed};
+ghost use Rattle.instants.specs.Replies.{DecodesRead, Replies};
 use labels::Labels;
 use layout::Seconds;
 use notes::Notes;
@@ -56,7 +57,7 @@ pub fn reply_of(
     input: u32,
     read_back: u32,
 ) -> Reply
-    requires { ⌜ Passed (now second) (now notes) (now sequence) «read_back» ⌝ }
+    requires { ⌜ Passed (now sequence) «read_back» (now second) (now notes) ⌝ }
     ensures { λ r. ⌜ Replies (now (sequence .entry)) (now (state .entry)) input «read_back» r ⌝ }
 {
     match decode(sequence, second, notes, state) {

@@ -1,5 +1,6 @@
 use borrow.Author.Needs.{needs}
-use Rattle.ceilings.proofs.Planning.{passed, turned-down}
+use Rattle.checks.proofs.Passing.{passed}
+use Rattle.ceilings.proofs.Planning.{turned-down}
 use Rattle.ceilings.proofs.ceiling.Statement.{statement}
 use Rattle.ceilings.proofs.ceiling.Tie as tie
 
@@ -10,7 +11,7 @@ returns : tie.Need-returns
 returns c = turned-down _ _ (c .before .check .ensures) (c .if1 .taken)
 
 of-accepted-requires : tie.Need-of-accepted-requires
-of-accepted-requires c κs = passed _ _ (c .before .before .check .ensures) (c .before .if1 .left)
+of-accepted-requires c κs = (_, passed _ _ _ _ _ (c .before .before .check .ensures) (c .before .if1 .left))
 
 returns-2 : tie.Need-returns-2
 returns-2 c = search needs

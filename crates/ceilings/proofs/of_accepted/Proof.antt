@@ -1,10 +1,11 @@
 use borrow.Author.Needs.{needs}
-use Rattle.ceilings.proofs.Planning.{starts, plannable, planned}
+use Rattle.checks.proofs.Passing.{as-ready}
+use Rattle.ceilings.proofs.Planning.{plannable, by-numbers}
 use Rattle.ceilings.proofs.of_accepted.Statement.{statement}
 use Rattle.ceilings.proofs.of_accepted.Tie as tie
 
 of-statement-requires : tie.Need-of-statement-requires
-of-statement-requires c κs = starts _ _ _ (c .before .pre)
+of-statement-requires c κs = as-ready (c .before .pre .1)
 
 size-requires : tie.Need-size-requires
 size-requires c κs = search needs
@@ -14,12 +15,12 @@ cast-under c = search needs
 
 under-requires : tie.Need-under-requires
 under-requires c κs =
-    let a = c .before .before .before .pre in plannable _ _ _ a (c .before .of-statement .ensures 0 (a .p) (a .lies)) (c .size .ensures)
+    let a = c .before .before .before .pre .1 in plannable _ _ _ _ a (c .before .of-statement .ensures 0 (a .p) (a .known .lies)) (c .size .ensures)
 
 returns : tie.Need-returns
 returns c =
-    let a = c .before .before .before .before .pre in
-    planned _ _ _ a (c .before .before .of-statement .ensures 0 (a .p) (a .lies)) (c .before .size .ensures) (c .under .ensures)
+    let a = c .before .before .before .before .pre .1 in
+    by-numbers _ _ _ _ a (c .before .before .of-statement .ensures 0 (a .p) (a .known .lies)) (c .before .size .ensures) (c .under .ensures)
 
 pub of-accepted-spec : {M : Type 1} → statement M
 of-accepted-spec =

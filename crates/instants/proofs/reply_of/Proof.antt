@@ -1,7 +1,8 @@
 use mathlib.Core.Path.{subst}
 use borrow.Author.Needs.{needs}
 use Rattle.instants.specs.Replies.{Decodes}
-use Rattle.instants.proofs.Replying.{as-sound, as-ready, malformed-reply, over-reply, fresh-reply, waiting-reply}
+use Rattle.checks.proofs.Passing.{as-sound, as-ready}
+use Rattle.instants.proofs.Replying.{malformed-reply, over-reply, fresh-reply, waiting-reply}
 use Rattle.instants.proofs.reply_of.Statement.{statement}
 use Rattle.instants.proofs.reply_of.Tie as tie
 

@@ -1,5 +1,6 @@
 use borrow.Author.Needs.{needs}
-use Rattle.instants.proofs.Replying.{passed, refused}
+use Rattle.checks.proofs.Passing.{passed}
+use Rattle.instants.proofs.Replying.{refused}
 use Rattle.instants.proofs.reply_to.Statement.{statement}
 use Rattle.instants.proofs.reply_to.Tie as tie
 
