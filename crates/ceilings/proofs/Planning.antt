@@ -19,6 +19,9 @@ use Rattle.extents.specs.declared.Numbers.{Numbers}
 use Rattle.extents.specs.Extents.{Has}
 use Rattle.sequence.specs.Ceilings.{ceilingOf}
 use Rattle.ceilings.specs.Ceilings.{Plannable}
+use Rattle.ceilings.specs.declared.Plan.{Plan}
+use Rattle.ceilings.specs.declared.Plan.the-variants.{Refused, Takes}
+use Rattle.ceilings.specs.Plans.{planOf}
 use Rattle.extents.proofs.Sizes.{sized}
 
 -- ---- the product, and that it fits
@@ -57,11 +60,25 @@ module _ (bs : List ℕ) (readBack : ℕ) where
       by-numbers z =
           z ∙ rw (h .count, h .loops, h .signals) (sym (ceiling-is readBack k (a .p) e)) ∙ ap (ceilingOf readBack) (sym (a .is))
 
-  module _ {t notes : List ℕ} {r : ℕ} (j : Judged bs readBack t notes r) where
-    pub turned-down : (r ≡ 0 → ⊥) → 0 ≡ ceilingOf readBack (checked bs readBack)
-    unfolding checkOf
-    turned-down z = go (checked bs readBack) refl
-      where
-        go : (c : Checked) → checked bs readBack ≡ c → 0 ≡ ceilingOf readBack c
-        go (bad k) e = refl
-        go (sound p) e = absurd (z (j .number ∙ ap numberOf e))
+  -- ---- what an admission is told
+  pub plan-refused : {t notes : List ℕ} {r : ℕ} → Judged bs readBack t notes r → (r ≡ 0 → ⊥) → Refused r ≡ planOf readBack (checked bs readBack)
+  unfolding checkOf
+  plan-refused {r = r} j z = go (checked bs readBack) (j .number)
+    where
+      go : (c : Checked) → r ≡ numberOf c → Refused r ≡ planOf readBack c
+      go (bad k) e = ap Refused e
+      go (sound p) e = absurd (z e)
+
+  pub plan-takes : {t notes : List ℕ} → Passed bs readBack t notes → {r : ℕ} → r ≡ ceilingOf readBack (checked bs readBack)
+      → Takes r ≡ planOf readBack (checked bs readBack)
+  plan-takes a e = ap Takes (e ∙ ap (ceilingOf readBack) (a .is)) ∙ ap (planOf readBack) (sym (a .is))
+
+-- the ceiling by what an admission is told
+module _ (readBack : ℕ) {n : ℕ} where
+  pub no-ceiling : (c : Checked) → Refused n ≡ planOf readBack c → 0 ≡ ceilingOf readBack c
+  no-ceiling (bad k) e = refl
+  no-ceiling (sound p) e = absurd (let z : _≡_ {A = ℕ} 0 1 = cc in omega arith)
+
+  pub its-ceiling : (c : Checked) → Takes n ≡ planOf readBack c → n ≡ ceilingOf readBack c
+  its-ceiling (bad k) e = absurd (let z : _≡_ {A = ℕ} 0 1 = cc in omega arith)
+  its-ceiling (sound p) e = cc

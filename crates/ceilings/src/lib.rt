@@ -6,6 +6,7 @@ ghost use Rattle.sequence.specs.Check.{checked};
 ghost use Rattle.sequence.specs.Ceilings.{ceilingOf};
 ghost use Rattle.checks.specs.Verdict.{Passed};
 ghost use Rattle.ceilings.specs.Ceilings.{Plannable};
+ghost use Rattle.ceilings.specs.Plans.{planOf};
 use extents::Numbers;
 use layout::Seconds;
 use notes::Notes;
@@ -19,7 +20,7 @@ fn under(n: Numbers, k: u32) -> u32
 }
 
 // The ceiling of a sequence that the check has passed, with the table of second parts that it left.
-fn of_accepted(sequence: &[u8], read_back: u32, second: &Seconds) -> u32
+pub fn of_accepted(sequence: &[u8], read_back: u32, second: &Seconds) -> u32
     requires { ⌜ ((notes : List ℕ) × Passed (now sequence) «read_back» (now second) notes) ⌝ }
     ensures { λ r. ⌜ r ≡ ceilingOf «read_back» (checked (now (sequence .entry)) «read_back») ⌝ }
 {
@@ -27,14 +28,30 @@ fn of_accepted(sequence: &[u8], read_back: u32, second: &Seconds) -> u32
     under(n, signals::size(read_back) as u32)
 }
 
+// The row that turns a sequence down, or the ceiling of one that passes the check.
+pub enum Plan {
+    Refused(u8),
+    Takes(u32),
+}
+
+pub fn planned(sequence: &[u8], read_back: u32) -> Plan
+    ensures { λ r. ⌜ r ≡ planOf «read_back» (checked (now (sequence .entry)) «read_back») ⌝ }
+{
+    let mut second: Seconds = [0; limits::MAX_BYTES];
+    let mut notes: Notes = [0; notes::LENGTH];
+    let number = checks::verdict::check(sequence, read_back, &mut second, &mut notes);
+    if number != 0 {
+        return Plan::Refused(number);
+    }
+    Plan::Takes(of_accepted(sequence, read_back, &second))
+}
+
 // The ceiling of a sequence with a read-back set; of one that is turned down, 0.
 pub fn ceiling(sequence: &[u8], read_back: u32) -> u32
     ensures { λ r. ⌜ r ≡ ceilingOf «read_back» (checked (now (sequence .entry)) «read_back») ⌝ }
 {
-    let mut second: Seconds = [0; limits::MAX_BYTES];
-    let mut notes: Notes = [0; notes::LENGTH];
-    if checks::verdict::check(sequence, read_back, &mut second, &mut notes) != 0 {
-        return 0;
+    match planned(sequence, read_back) {
+        Plan::Refused(_) => 0,
+        Plan::Takes(n) => n,
     }
-    of_accepted(sequence, read_back, &second)
 }

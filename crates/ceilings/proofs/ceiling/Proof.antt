@@ -1,20 +1,28 @@
+use mathlib.Core.Path.{sym, _∙_}
 use borrow.Author.Needs.{needs}
-use Rattle.checks.proofs.Passing.{passed}
-use Rattle.ceilings.proofs.Planning.{turned-down}
+use Rattle.sequence.specs.Check.{checked}
+use Rattle.ceilings.proofs.Planning.{no-ceiling, its-ceiling}
 use Rattle.ceilings.proofs.ceiling.Statement.{statement}
 use Rattle.ceilings.proofs.ceiling.Tie as tie
 
-check-requires : tie.Need-check-requires
-check-requires c κs = search needs
+planned-requires : tie.Need-planned-requires
+planned-requires c κs = search needs
+
+enum-told : tie.Need-enum-told
+enum-told c = search needs
+
+enum-known-n : tie.Need-enum-known-n
+enum-known-n c = search needs
 
 returns : tie.Need-returns
-returns c = turned-down _ _ (c .before .check .ensures) (c .if1 .taken)
-
-of-accepted-requires : tie.Need-of-accepted-requires
-of-accepted-requires c κs = (_, passed _ _ _ _ _ (c .before .before .check .ensures) (c .before .if1 .left))
+returns c =
+    let a = c .before .before .before .before .args in
+    no-ceiling (a .read-back) (checked (a .sequence .now) (a .read-back)) (sym (c .enum-told .given .1) ∙ c .before .before .planned .ensures)
 
 returns-2 : tie.Need-returns-2
-returns-2 c = search needs
+returns-2 c =
+    let a = c .before .before .before .before .before .args in
+    its-ceiling (a .read-back) (checked (a .sequence .now) (a .read-back)) (sym (c .before .n .given .1) ∙ c .before .before .before .planned .ensures)
 
 pub ceiling-spec : {M : Type 1} → statement M
-ceiling-spec = tie.close (tie.spec check-requires returns of-accepted-requires returns-2)
+ceiling-spec = tie.close (tie.spec planned-requires enum-told enum-known-n returns returns-2)
