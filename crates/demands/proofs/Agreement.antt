@@ -1,5 +1,5 @@
--- DEMAND 3: over any list of ticks from a cleared record, the ticks of an accepted sequence without setpause report what the
--- paper machine reports.
+-- DEMAND 3: over any list of ticks from a cleared record, or from a valid label set, the ticks of an accepted sequence without
+-- setpause report what the paper machine reports.
 use Prim.Native.Nat.{ℕ, _^_}
 use native.Mathlib.Omega.{arith}
 use mathlib.Core.Path.{_≡_, refl, ap, ap₂, _∙_, subst}
@@ -13,7 +13,7 @@ use Rattle.esterel.specs.Statement.{Statement}
 use Rattle.esterel.specs.Reaction.{code, react, inheritanceFirst}
 use Rattle.esterel.specs.Errors.{firstError}
 use Rattle.esterel.specs.Reactions.{reactions}
-use Rattle.esterel.specs.States.{NoSetpause}
+use Rattle.esterel.specs.States.{NoSetpause, Valid}
 use Rattle.esterel.specs.Expansion.{expand}
 use Rattle.esterel.specs.Machines.{State, stateAfter, byLabels, Rewriting, byRewriting}
 use Rattle.theory.proofs.Agreement.{TermOf, step}
@@ -21,6 +21,7 @@ use Rattle.theory.proofs.ReadBack.{noSetpause-declared}
 use Rattle.limits.specs.Limits.{placeBytes, readBackPlace}
 use Rattle.sequence.specs.Program.{readBackSignals, program}
 use Rattle.sequence.specs.Check.{checkOf}
+use Rattle.sequence.specs.Rows.{Spells}
 use Rattle.numbers.specs.Bytes.{leBytes}
 use Rattle.states.specs.StateRecord.{holds, encodeState, phaseIn}
 use Rattle.answers.specs.AnswerRecord.{answerLength}
@@ -31,7 +32,7 @@ use Rattle.states.proofs.StateLaws.{Recorded, length-state, decode-encode}
 use Rattle.demands.proofs.Reports.{report-written}
 use Rattle.demands.proofs.Bounds.{emitted-below}
 use Rattle.demands.proofs.ErrorPlaces.{place-fits}
-use Rattle.demands.proofs.Sequence.{same-statement, Accepted, accepted, tick-at, tick-short, term-source, term-distinct, recorded-fresh, recorded-resumed, bounded-fresh, bounded-resumed, places-fresh, places-resumed, counted-fresh, counted-resumed}
+use Rattle.demands.proofs.Sequence.{same-statement, Accepted, accepted, tick-at, tick-short, valid-recorded, term-source, term-distinct, recorded-fresh, recorded-resumed, bounded-fresh, bounded-resumed, places-fresh, places-resumed, counted-fresh, counted-resumed}
 
 module _ (sequence : List ℕ) (readBack : ℕ) (a : Accepted sequence readBack) (plain : NoSetpause (a .statement)) where
   abbrev p : Statement
@@ -142,10 +143,22 @@ cleared-fresh : cleared ≡ encodeState State.fresh
 unfolding encodeState leBytes none
 cleared-fresh = refl
 
+-- the labels and the term of one machine, at any state that the record holds
+module _ (sequence : List ℕ) (readBack : ℕ) (h : checkOf sequence readBack ≡ 0) (p : Statement) (s : Spells sequence p) (plain : NoSetpause p) where
+  from-state : (st : State) (w : Rewriting) → TermOf (program readBack p) st w → Recorded p st → (calls : List Call)
+      → map report (outcomes tickOf sequence readBack (encodeState st) calls) ≡ paper w calls
+  from-state st w t r calls =
+      let a = accepted sequence readBack h in
+      let same : p ≡ a .statement = same-statement sequence p (a .statement) s (a .spelled) in
+      all-ticks sequence readBack a (subst NoSetpause same plain) calls st w
+      (subst (λ (q : Statement). TermOf (program readBack q) st w) same t) (subst (λ (q : Statement). Recorded q st) same r)
+
+  pub from-labels : (L : ℕ) → Valid p L → (calls : List Call)
+      → map report (outcomes tickOf sequence readBack (encodeState (State.waits L)) calls) ≡ paper (Rewriting.waits (expand (program readBack p) L)) calls
+  from-labels L v calls =
+      from-state (State.waits L) (Rewriting.waits (expand (program readBack p) L)) refl (valid-recorded p (s .1 .ranged) L v) calls
+
 -- DEMAND 3
 pub demand-3 : Demand3 checkOf tickOf
 demand-3 sequence readBack h p s plain calls =
-    let a = accepted sequence readBack h in
-    let same : p ≡ a .statement = same-statement sequence p (a .statement) s (a .spelled) in
-    rw (cleared-fresh, same)
-    (all-ticks sequence readBack a (subst NoSetpause same plain) calls State.fresh (Rewriting.fresh (program readBack (a .statement))) refl tt)
+    rw cleared-fresh (from-state sequence readBack h p s plain State.fresh (Rewriting.fresh (program readBack p)) refl tt calls)

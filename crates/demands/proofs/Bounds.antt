@@ -11,12 +11,11 @@ use borrow.Author.Tests.{eqb-true}
 use Rattle.esterel.specs.Sets.{member, none, only, join, insert, remove}
 use Rattle.esterel.specs.Statement.{Scope, local, reported, Statement, nothing, pause, emit, exit, seq, par, loop, present, signal, try, setpause, suspend, held}
 use Rattle.esterel.specs.Reaction.{ended, waiting, leaving, wrong, Reaction, gives, emitted, inSeq, inPar, inLoop, inTry, inSuspend, stopped, Case, both, neither, only−, only+, inherited, caseOf, answer, react, Code, code, greater, inheritanceFirst, reactBy, Order}
-use Rattle.esterel.specs.States.{active}
+use Rattle.esterel.specs.States.{active, Valid}
 use Rattle.esterel.specs.LabelTests.{activeLabels}
 use Rattle.esterel.specs.Expansion.{expand}
 use Rattle.theory.proofs.Booleans.{or-cases}
 use Rattle.theory.proofs.Sets.{member-none, member-only, member-join, member-remove, member-step, ext}
-use Rattle.theory.proofs.Stability.{Stops}
 use Rattle.esterel.specs.ReadBack.{declared}
 use Rattle.limits.specs.Limits.{labelCount, signalCount, maxExit}
 use Rattle.sequence.specs.Writer.{Ranged}
@@ -184,8 +183,8 @@ bounded-declared a [] p h = h
 bounded-declared a (s ∷ ss) p h = bounded-declared a ss p h
 
 -- ---- labels
-pub stop-below : (p : Statement) → Ranged p → (l : ℕ) → Stops p l → l < labelCount
-stop-below p h l s = ⊎-elim (λ u. ranged-at u h) (λ u. ranged-at u h) (s .1)
+pub valid-below : (p : Statement) → Ranged p → (L : ℕ) → Valid p L → Below labelCount L
+valid-below p h L v l m = ranged-at (v .paused l m .1) h
 
 -- ---- exits: a code leaves at most as many try blocks as an exit may
 abbrev pub Exits : Code → Type 0

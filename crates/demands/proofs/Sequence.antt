@@ -15,13 +15,14 @@ use Rattle.esterel.specs.States.{Valid, Distinct, Targeted, Source, WellFormed}
 use Rattle.esterel.specs.Expansion.{expand}
 use Rattle.esterel.specs.Reactions.{reactions}
 use Rattle.esterel.specs.Ceiling.{commands, loopNesting, ceiling}
-use Rattle.esterel.specs.Machines.{stateAfter}
-use Rattle.theory.proofs.Theorems.{ReactionOf, of-statement, of-expansion, FromValid, stable, labels-of-stops}
+use Rattle.esterel.specs.Machines.{State, stateAfter}
+use Rattle.theory.proofs.Theorems.{ReactionOf, of-statement, of-expansion, FromValid, stable}
 use Rattle.limits.specs.Limits.{labelCount, maxBytes, maxDepth, maxSignals, placeBytes, takenBytes, readBackPlace}
-use Rattle.theory.proofs.ReadBack.{source-declared, distinct-declared, targeted-declared, wellFormed-declared, valid-declared, stops-declared}
+use Rattle.theory.proofs.ReadBack.{source-declared, distinct-declared, targeted-declared, wellFormed-declared, valid-declared}
 use Rattle.theory.proofs.Ceiling.{fresh-below, resumed-below, ceiling-within, commands-declared, loops-declared, nesting-declared}
 use Rattle.theory.proofs.LabelTests.{distinct-is, targeted-is, wellFormed-is, valid-is}
 use Rattle.sequence.specs.Reader as Reader
+use Rattle.sequence.specs.Writer.{Ranged}
 use Rattle.sequence.specs.Program.{readBackSignals, program}
 use Rattle.sequence.specs.Check.{Checked, sound, bad, checked, numberOf, checkOf}
 use Rattle.sequence.specs.Rows.{Spells, Row, row-2}
@@ -32,7 +33,7 @@ use Rattle.sequence.proofs.Rows.{Decides, decided, row-range}
 use Rattle.states.specs.StateRecord.{stateLength, Decoded, decodeState}
 use Rattle.answers.specs.AnswerRecord.{answerLength}
 use Rattle.demands.specs.Tick.{outcome, byState, replyOf, replied, tickBy, tickOf}
-use Rattle.demands.proofs.Bounds.{Bounded, below-number, ranged-bounded, bounded-expand, bounded-declared, stop-below}
+use Rattle.demands.proofs.Bounds.{Bounded, below-number, ranged-bounded, bounded-expand, bounded-declared, valid-below}
 use Rattle.demands.proofs.ErrorPlaces.{PlacesBelow, placed-below, places-expand, places-declared}
 use Rattle.states.proofs.StateLaws.{Recorded}
 
@@ -87,6 +88,10 @@ tick-short sequence state e readBack answer h = rw (ne-eqb (length answer) answe
     go true = refl
     go false = refl
 
+-- labels that are valid fit the record
+pub valid-recorded : (p : Statement) → Ranged p → (L : ℕ) → Valid p L → Recorded p (State.waits L)
+valid-recorded p r L v = (v, below-number labelCount L (valid-below p r L v))
+
 -- ---- reactions of an accepted program keep to valid states and to the widths
 module _ (sequence : List ℕ) (readBack : ℕ) (a : Accepted sequence readBack) where
   abbrev p : Statement
@@ -118,12 +123,8 @@ module _ (sequence : List ℕ) (readBack : ℕ) (a : Accepted sequence readBack)
 
   recorded-after : (e : ℕ) (r : Reaction) (x : ReactionOf term e r) → FromValid term e x → Recorded p (stateAfter r)
   recorded-after e (gives o ended L t) x v = tt
-  recorded-after e (gives o waiting L t) x v = (
-    term-valid L .1 (stable term term-source term-distinct term-targeted term-formed e o L t x v),
-    below-number labelCount L
-        (λ l m. stop-below p (a .spelled .1 .ranged) l
-        (stops-declared readBackPlace (readBackSignals readBack) p l (labels-of-stops term term-source e o L t x .1 l m))),
-  )
+  recorded-after e (gives o waiting L t) x v =
+      valid-recorded p (a .spelled .1 .ranged) L (term-valid L .1 (stable term term-source term-distinct term-targeted term-formed e o L t x v))
   recorded-after e (gives o (leaving n) L t) x v = tt
   recorded-after e (gives o wrong L t) x v = tt
 

@@ -14,11 +14,13 @@ use Rattle.esterel.specs.SignalOrders.{overlap}
 use Rattle.esterel.specs.Rules.{Reacts}
 use Rattle.esterel.specs.Ceiling.{commands, LoopFree, hundred}
 use Rattle.sequence.specs.Ceilings.{ceilingOf}
-use Rattle.esterel.specs.States.{NoSetpause}
-use Rattle.esterel.specs.Machines.{Rewriting, erase}
+use Rattle.esterel.specs.States.{NoSetpause, Valid}
+use Rattle.esterel.specs.Expansion.{expand}
+use Rattle.esterel.specs.Machines.{State, Rewriting, erase}
 use Rattle.sequence.specs.Program.{program}
 use Rattle.sequence.specs.Check.{numberOf, checked, checkOf}
 use Rattle.sequence.specs.Rows.{Spells}
+use Rattle.states.specs.StateRecord.{encodeState}
 use Rattle.answers.specs.AnswerRecord.{answerLength, codeIn, takenIn}
 use Rattle.demands.specs.Tick.{Outcome, outcome, tickBy, tickOf}
 use Rattle.demands.specs.Paper.{Call, paper}
@@ -61,6 +63,12 @@ demand-2 = two.demand-2
 
 pub demand-3 : Demand3 checkOf tickOf
 demand-3 = three.demand-3
+
+-- demand 3 from any valid label set on (02, item 9): the paper begins with the expansion
+pub demand-3-from : (sequence : List ℕ) (readBack : ℕ) → checkOf sequence readBack ≡ 0 → (p : Statement) → Spells sequence p → NoSetpause p
+    → (L : ℕ) → Valid p L → (calls : List Call)
+    → map report (outcomes tickOf sequence readBack (encodeState (State.waits L)) calls) ≡ paper (Rewriting.waits (expand (program readBack p) L)) calls
+demand-3-from = three.from-labels
 
 -- ---- calls that meet the tick's contract
 pub demand-1-calls : (sequence : List ℕ) (readBack : ℕ) (state : List ℕ) → checkOf sequence readBack ≡ 0 → Admitted sequence state
