@@ -21,17 +21,20 @@ pub state-written : (b : List ℕ) (phase labels : ℕ) → length b ≡ stateLe
     → {l : ℕ} → labels ≡ l → c ≡ stateRecord phase l
 state-written b phase labels s h e = h ∙ state-replaced b phase labels s ∙ ap (stateRecord phase) e
 
-pub state-stored : (phase labels : ℕ) (b : List ℕ) → length b ≡ stateLength
-    → sets (sets b 0 (phase ∷ leBytes wordBytes (labels % 2 ^ wordLabels))) (labelsAt + wordBytes) (leBytes wordBytes (labels / 2 ^ wordLabels))
-    ≡ replaced b (stateRecord phase labels)
-state-stored phase labels b e =
+-- two words, one behind the other, are the label set
+pub words-stored : (b : List ℕ) (at labels : ℕ)
+    → sets (sets b at (leBytes wordBytes (labels % 2 ^ wordLabels))) (at + wordBytes) (leBytes wordBytes (labels / 2 ^ wordLabels))
+    ≡ sets b at (leBytes labelBytes labels)
+words-stored b at labels =
     let low = leBytes wordBytes labels in
     let high = leBytes wordBytes (labels / 2 ^ wordLabels) in
-    let sized : length low ≡ wordBytes = length-leBytes wordBytes labels in
-    let behind : labelsAt + wordBytes ≡ length (phase ∷ low) + 0 = omega arith in
-    ap (λ (l : List ℕ). sets (sets b 0 (phase ∷ l)) (labelsAt + wordBytes) high) (le-low wordBytes labels)
-    ∙ ap (λ (k : ℕ). sets (sets b 0 (phase ∷ low)) k high) behind
-    ∙ sets-append b 0 (phase ∷ low) high
-    ∙ ap (λ (l : List ℕ). sets b 0 (phase ∷ l)) (sym (le-append wordBytes wordBytes labels))
-    ∙ sets-whole b (phase ∷ leBytes labelBytes labels) (omega (arith, length-leBytes labelBytes labels))
-    ∙ sym (state-replaced b phase labels e)
+    let behind : at + wordBytes ≡ length low + at = omega (arith, length-leBytes wordBytes labels) in
+    ap (λ (l : List ℕ). sets (sets b at l) (at + wordBytes) high) (le-low wordBytes labels)
+    ∙ ap (λ (k : ℕ). sets (sets b at low) k high) behind
+    ∙ sets-append b at low high
+    ∙ ap (sets b at) (sym (le-append wordBytes wordBytes labels))
+
+pub state-stored : (phase labels : ℕ) (b : List ℕ) → length b ≡ stateLength
+    → sets b 0 (stateRecord phase labels) ≡ replaced b (stateRecord phase labels)
+state-stored phase labels b e =
+    sets-whole b (stateRecord phase labels) (state-sized phase labels ∙ sym e) ∙ sym (state-replaced b phase labels e)

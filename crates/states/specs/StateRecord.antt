@@ -24,8 +24,12 @@ stateRecord phase labels = phase ∷ leBytes labelBytes labels
 abbrev pub phaseIn : List ℕ → ℕ
 phaseIn state = getD state 0 0
 
+-- the label set that the bytes from `at` on hold, as far as they are there
+abbrev pub labelsFrom : (at : ℕ) → List ℕ → ℕ
+labelsFrom at bs = leNumber (take labelBytes (drop at bs))
+
 abbrev pub labelsIn : List ℕ → ℕ
-labelsIn state = leNumber (take labelBytes (drop labelsAt state))
+labelsIn = labelsFrom labelsAt
 
 unfoldable pub encodeState : State → List ℕ
 encodeState State.fresh = stateRecord 0 none

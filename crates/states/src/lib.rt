@@ -1,16 +1,18 @@
-// The state record that a host lends: phase, then the label set.
+// The state record that a host lends: phase, then the label set; and a label set at any offset of a buffer.
 ghost use mathlib.Core.Path.{_≡_};
+ghost use Prim.Native.Nat.{_+_, _≤_};
+ghost use lib.ListN.{length};
+ghost use lib.Seq.{sets};
+ghost use Rattle.limits.specs.Limits.{labelBytes};
 ghost use Rattle.labels.specs.Labels.{labelSet};
-ghost use Rattle.numbers.specs.Bytes.{replaced};
-ghost use Rattle.states.specs.StateRecord.{phaseIn, labelsIn, stateRecord};
+ghost use Rattle.numbers.specs.Bytes.{leBytes, replaced};
+ghost use Rattle.states.specs.StateRecord.{phaseIn, labelsFrom, labelsIn, stateRecord};
 use labels::Labels;
 use limits::LABEL_BYTES;
 use limits::WORD_BYTES;
 
-// Where the label set begins, and its word of the labels from 64 on.
+// Where the label set begins.
 pub const LABELS_AT: usize = 1;
-
-pub const HIGH_AT: usize = LABELS_AT + WORD_BYTES;
 
 pub const STATE_LENGTH: usize = LABELS_AT + LABEL_BYTES;
 
@@ -20,12 +22,30 @@ pub fn phase(state: &[u8]) -> u8
     numbers::byte_at(state, 0)
 }
 
+// The label set at any offset of a buffer, of the bytes that are there.
+pub fn labels_at(buffer: &[u8], at: usize) -> Labels
+    ensures { λ r. ⌜ labelSet r ≡ labelsFrom at (now (buffer .entry)) ⌝ }
+{
+    let bytes = numbers::part(buffer, at, LABEL_BYTES);
+    let low = numbers::get_le(bytes, 0, WORD_BYTES);
+    let high = numbers::get_le(bytes, WORD_BYTES, WORD_BYTES);
+    labels::from_words(low, high)
+}
+
 pub fn labels(state: &[u8]) -> Labels
     ensures { λ r. ⌜ labelSet r ≡ labelsIn (now (state .entry)) ⌝ }
 {
-    let low = numbers::get_le(state, LABELS_AT, WORD_BYTES);
-    let high = numbers::get_le(state, HIGH_AT, WORD_BYTES);
-    labels::from_words(low, high)
+    labels_at(state, LABELS_AT)
+}
+
+// Writes a label set at any offset of a buffer that has room for it.
+pub fn put_labels(buffer: &mut [u8], at: usize, labels: Labels)
+    requires { ⌜ at + labelBytes ≤ length (now buffer) ⌝ }
+    ensures { λ _. ⌜ now (buffer .exit) ≡ sets (now (buffer .entry)) at (leBytes labelBytes (labelSet labels)) ⌝ }
+{
+    numbers::put_le(buffer, at, WORD_BYTES, labels::low_word(labels));
+    let high_at = at + WORD_BYTES;
+    numbers::put_le(buffer, high_at, WORD_BYTES, labels::high_word(labels));
 }
 
 // A buffer of another length is left as it is.
@@ -36,6 +56,5 @@ pub fn write_state(state: &mut [u8], phase: u8, labels: Labels)
         return;
     }
     state[0] = phase;
-    numbers::put_le(state, LABELS_AT, WORD_BYTES, labels::low_word(labels));
-    numbers::put_le(state, HIGH_AT, WORD_BYTES, labels::high_word(labels));
+    put_labels(state, LABELS_AT, labels);
 }

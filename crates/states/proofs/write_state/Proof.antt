@@ -1,11 +1,7 @@
-use Prim.Native.Nat.{ℕ, _/_, _%_, _^_}
 use native.Mathlib.Omega.{arith}
-use mathlib.Core.Path.{ap, ap₂, _∙_}
-use mathlib.Core.List.{List}
-use lib.ListN.{set, length-set}
-use lib.Seq.{sets}
+use mathlib.Core.Path.{_∙_}
+use lib.ListN.{length-set}
 use Rattle.labels.specs.Labels.{labelSet}
-use Rattle.numbers.specs.Bytes.{leBytes}
 use Rattle.states.specs.StateRecord.{stateLength, stateRecord}
 use Rattle.numbers.proofs.Writing.{left-alone}
 use Rattle.states.proofs.Stores.{state-stored}
@@ -22,35 +18,18 @@ returns c =
 slice-write-state : tie.Need-slice-write-state
 slice-write-state c = search needs
 
-low-word-requires : tie.Need-low-word-requires
-low-word-requires c κs = search needs
-
-put-le-requires : tie.Need-put-le-requires
-put-le-requires c κs = simp length-set (omega arith)
-
-high-word-requires : tie.Need-high-word-requires
-high-word-requires c κs = search needs
-
-put-le-requires-2 : tie.Need-put-le-requires-2
-put-le-requires-2 c κs = omega (arith, simp length-set at (c .before .before .before .before .put-le .kept .0))
+put-labels-requires : tie.Need-put-labels-requires
+put-labels-requires c κs = simp length-set (omega arith)
 
 same-length : tie.Need-same-length
-same-length c =
-    let d = c .before .before in
-    d .put-le2 .kept .0 ∙ d .before .before .before .before .before .put-le .kept .0 ∙ simp length-set
+same-length c = c .before .before .put-labels .kept .0 ∙ simp length-set
 
 returns-2 : tie.Need-returns-2
 returns-2 c =
     let d = c .before .before in
-    let e = d .before .before .before .before .before in
-    let s = e .before .before .before .before .before .args in
-    d .put-le2 .ensures
-    ∙ ap₂ (λ (l : List ℕ) (x : ℕ). sets l 9 (leBytes 8 x))
-    (e .put-le .ensures ∙ ap (λ (x : ℕ). sets (set (s .state .now) 0 (s .phase)) 1 (leBytes 8 x)) (e .before .low-word .ensures))
-    (d .before .high-word .ensures)
-    ∙ state-stored (s .phase) (labelSet (s .labels)) (s .state .now) (e .before .before .before .if1 .left)
+    let a = d .before .before .before .before .args in
+    d .put-labels .ensures ∙ state-stored (a .phase) (labelSet (a .labels)) (a .state .now) (d .before .before .if1 .left)
 
 pub write-state-spec : {M : Type 1} → statement M
 write-state-spec =
-    tie.close
-    (tie.spec returns slice-write-state low-word-requires put-le-requires high-word-requires put-le-requires-2 same-length returns-2)
+    tie.close (tie.spec returns slice-write-state put-labels-requires same-length returns-2)
