@@ -2,7 +2,7 @@
 -- of labels is said of the statement inside, and the host's status of a declared signal is never read.
 use Prim.Native.Nat.{ℕ, zero, suc, _+_, _≤_, _<_}
 use mathlib.Core.Path.{_≡_, refl, sym, ap, ap₂, _∙_}
-use mathlib.Core.Logic.{_≢_, inl, inr, ⊎-elim}
+use mathlib.Core.Logic.{_≢_, ⊎-elim}
 use mathlib.Core.Bool.{Bool, true, false, not, _&&_, false≢true}
 use mathlib.Core.List.{List, [], _∷_, List·Memᴰ, List·Memᴰ·cases-cons, List·Memᴰ·not-nil}
 use lib.Dec.{eqb}
@@ -10,7 +10,7 @@ use native.Mathlib.Omega.{arith}
 use native.Mathlib.Decide.{ℕ-discrete}
 use borrow.Author.Tests.{eqb-false, eq-eqb, ne-eqb}
 use Rattle.esterel.specs.Sets.{member, none, join, insert, remove}
-use Rattle.esterel.specs.Statement.{reported, Statement, pause, signal, setpause, held}
+use Rattle.esterel.specs.Statement.{reported, Statement, signal, setpause, held}
 use Rattle.esterel.specs.Reaction.{waiting, Reaction, code, residual, Case, both, neither, only−, only+, inherited, inheritanceFirst, caseOf, answer, reactBy, react}
 use Rattle.esterel.specs.Places.{Place, signal₁, At}
 use Rattle.esterel.specs.States.{Holds, NoSetpause, Source}
@@ -22,7 +22,6 @@ use Rattle.esterel.specs.ReadBack.{keepIf, membersFrom, declared}
 use Rattle.theory.proofs.Booleans.{and-true, and-false}
 use Rattle.theory.proofs.Sets.{member-none, member-remove}
 use Rattle.theory.proofs.LabelSets.{in-join}
-use Rattle.theory.proofs.Stability.{Stops}
 use Rattle.theory.proofs.Asked.{unasked-tree}
 
 -- ---- an empty set has no members
@@ -159,9 +158,3 @@ noSetpause-declared a ss p n l h =
 pub source-declared : (a : ℕ) (ss : List ℕ) (p : Statement) → Source p → Source (declared a ss p)
 source-declared a ss p n t K q h =
     n t K q (holds-inside a ss p (held t K q) (λ b s u e. let z : _≡_ {A = ℕ} 0 1 = cc in omega arith) h)
-
-pub stops-declared : (a : ℕ) (ss : List ℕ) (p : Statement) (k : ℕ) → Stops (declared a ss p) k → Stops p k
-stops-declared a ss p k (pl, inl h) =
-    let x = holds-inside a ss p (pause k) (λ b s q e. let z : _≡_ {A = ℕ} 0 1 = cc in omega arith) (pl, h) in (x .0, inl (x .1))
-stops-declared a ss p k (pl, inr h) =
-    let x = holds-inside a ss p (setpause k) (λ b s q e. let z : _≡_ {A = ℕ} 0 1 = cc in omega arith) (pl, h) in (x .0, inr (x .1))
