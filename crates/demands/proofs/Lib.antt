@@ -9,6 +9,7 @@ pub mod SignalOrders
 pub mod Agreement
 pub mod NoLabels
 pub mod Calls
+pub mod Decided
 pub mod Replacements
 pub mod ReadBack
 pub mod Bays

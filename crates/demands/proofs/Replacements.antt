@@ -1,9 +1,10 @@
--- Each replacement of 01's checklist breaks the demand that 01 names, and a longer answer breaks demand 2.
+-- Every check or tick of a kind on 01's checklist breaks the demand that 01 names, and a longer answer breaks demand 2.
 use Prim.Native.Nat.{ℕ, zero, suc}
 use native.Mathlib.Omega.{arith}
-use mathlib.Core.Path.{_≡_, refl, ap}
+use mathlib.Core.Path.{_≡_, refl, sym, ap, _∙_}
 use mathlib.Core.List.{List, [], _∷_, _++_}
 use lib.ListN.{getD, replicate}
+use borrow.Author.Tests.{eq-eqb}
 use Rattle.esterel.specs.Sets.{none, only, member, join}
 use Rattle.esterel.specs.Statement.{nothing, pause, emit, seq, setpause}
 use Rattle.esterel.specs.Reaction.{ended, waiting, reactBy}
@@ -19,22 +20,34 @@ use Rattle.sequence.specs.Reader.{front, read}
 use Rattle.esterel.specs.Ceiling.{nesting}
 use Rattle.sequence.specs.Check.{checkOf, checked}
 use Rattle.sequence.specs.Rows.{Spells}
+use Rattle.sequence.specs.Program.{program}
+use Rattle.sequence.proofs.Rows.{row-range}
+use Rattle.esterel.specs.Machines.{Rewriting}
 use Rattle.sequence.proofs.Writer.{reads-what-is-written}
 use Rattle.numbers.specs.Bytes.{leBytes, leNumber}
-use Rattle.states.specs.StateRecord.{labelsIn, encodeState, decodeState}
-use Rattle.answers.specs.AnswerRecord.{answerLength, encodeAnswer}
-use Rattle.demands.specs.Tick.{outcome, tickBy, tickOf}
+use Rattle.states.specs.StateRecord.{phaseIn, labelsIn, encodeState, decodeState}
+use Rattle.answers.specs.AnswerRecord.{answerLength, encodeAnswer, codeIn}
+use Rattle.demands.specs.Tick.{Outcome, outcome, tickBy, tickOf}
+use Rattle.demands.specs.TickRows.{TickRow, row-1, row-2-to-10, row-11, row-12}
 use Rattle.demands.specs.Paper.{Call, Report, turnedDown, reacted, paper}
-use Rattle.demands.specs.Demands.{Tick, number, outcomes, Demand1, Demand2, Demand3, StandsAt, at-start, cleared}
-use Rattle.demands.specs.Replacements.{everyWrong, turnsDown, alwaysEnds, leavesLabels, repeatsFirst, saysOver, appendsZero, countsNone}
+use Rattle.demands.specs.Demands.{Check, Tick, number, stateAfterwards, answerAfterwards, outcomes, report, Demand1, Demand2, Demand3, StandsAt, at-start, Shows, cleared}
+use Rattle.demands.specs.Replacements.{AllWrong, AllTurnedDown, AllEnded, LabelsLeft, FirstRepeated, OverToFresh, instead, everyWrong, turnsDown, alwaysEnds, leavesLabels, repeatsFirst, saysOver, appendsZero, countsNone}
 use Rattle.demands.proofs.Demand1.{demand-1}
+use Rattle.demands.proofs.Decided.{then-demand-3}
 
--- the code of report i
-abbrev codeAt : ℕ → List Report → ℕ
-codeAt i [] = 255
-codeAt zero (turnedDown n ph ∷ rs) = 255
-codeAt zero (reacted c k a o n ph ∷ rs) = c
-codeAt (suc i) (r ∷ rs) = codeAt i rs
+-- report i, and the code and the phase that it tells
+abbrev reportAt : ℕ → List Report → Report
+reportAt i [] = turnedDown 1 0
+reportAt zero (r ∷ rs) = r
+reportAt (suc i) (r ∷ rs) = reportAt i rs
+
+abbrev codeTold : Report → ℕ
+codeTold (turnedDown n ph) = 255
+codeTold (reacted c k a o n ph) = c
+
+abbrev phaseTold : Report → ℕ
+phaseTold (turnedDown n ph) = ph
+phaseTold (reacted c k a o n ph) = ph
 
 -- 00, 01 00, and 04 01 00 02 00
 abbrev ends : List ℕ
@@ -66,6 +79,11 @@ all-accepted : (checkOf ends none ≡ 0) × (checkOf waits none ≡ 0) × (check
 unfolding checkOf checked read front commandOf nesting declared membersFrom distinct wellFormed everyLabel before labelsOf subset disjoint member none only join
 all-accepted = (refl, refl, refl)
 
+-- a check that goes by the rows accepts what checkOf accepts
+accepts : (check : Check) (tick : Tick) → Demand1 check tick → (sequence : List ℕ) → checkOf sequence none ≡ 0 → check sequence none ≡ 0
+accepts check tick d sequence h =
+    d .check-by-rows sequence none .acceptance .1 (demand-1 .check-by-rows sequence none .acceptance .0 h)
+
 cleared-labels : labelsIn cleared ≡ none
 unfolding leNumber none
 cleared-labels = refl
@@ -83,53 +101,52 @@ stands-waits : StandsAt waits none cleared (pause 0)
 unfolding declared membersFrom member none
 stands-waits = at-start spells-waits refl cleared-labels
 
--- ---- demand 2
-pub not-everyWrong : ¬ Demand2 checkOf everyWrong
-not-everyWrong d =
-    let x = d .shows ends cleared 0 none buffer (all-accepted .0) refl refl nothing stands-ends none ended none nothing Reacts.nothing in
-    let y = rw (first-ticks .0) at (x .code) in
+-- ---- demand 1, of every check or tick of the kind
+pub not-all-turned-down : (check : Check) (tick : Tick) → AllTurnedDown check → ¬ Demand1 check tick
+not-all-turned-down check tick k d = k ends none (accepts check tick d ends (all-accepted .0))
+
+-- row 12 is of phase 2
+pub not-over-to-fresh : (check : Check) (tick : Tick) → OverToFresh tick → ¬ Demand1 check tick
+not-over-to-fresh check tick (sequence, state, e, readBack, answer, x, n) d =
+    go 12 refl (d .tick-by-rows sequence state e readBack answer .refusal 12 (omega arith) .0 n .0)
+  where
+    go : (m : ℕ) → m ≡ 12 → TickRow sequence readBack state answer m → ⊥
+    go m z (row-1 h) = omega arith
+    go m z (row-2-to-10 h) = omega (arith, row-range sequence readBack m h)
+    go m z (row-11 h i) = omega arith
+    go m z (row-12 y) = omega (arith, x, y)
+
+-- ---- demand 2, of every tick of the kind, where the check accepts one sequence
+ended-shown : (check : Check) (tick : Tick) → check ends none ≡ 0 → Demand2 check tick
+    → Shows nothing 0 none ended none nothing (tick ends cleared 0 none buffer)
+ended-shown check tick h d =
+    d .shows ends cleared 0 none buffer h refl refl nothing stands-ends none ended none nothing Reacts.nothing
+
+waiting-shown : (check : Check) (tick : Tick) → check waits none ≡ 0 → Demand2 check tick
+    → Shows (pause 0) 0 none waiting (only 0) nothing (tick waits cleared 0 none buffer)
+waiting-shown check tick h d =
+    d .shows waits cleared 0 none buffer h refl refl (pause 0) stands-waits none waiting (only 0) nothing Reacts.pause
+
+not-all-wrong : (check : Check) (tick : Tick) → check ends none ≡ 0 → AllWrong tick → ¬ Demand2 check tick
+not-all-wrong check tick h k d =
+    let x = ended-shown check tick h d in
+    let y = k ends cleared 0 none buffer (x .an-instant) in
+    omega (arith, x .code, y)
+
+not-all-ended : (check : Check) (tick : Tick) → check waits none ≡ 0 → AllEnded tick → ¬ Demand2 check tick
+not-all-ended check tick h k d =
+    let x = waiting-shown check tick h d in
+    let y = k waits cleared 0 none buffer (x .an-instant) in
+    omega (arith, x .code, y)
+
+not-labels-left : (check : Check) (tick : Tick) → check waits none ≡ 0 → LabelsLeft tick → ¬ Demand2 check tick
+unfolding encodeState leBytes leNumber only none
+not-labels-left check tick h k d =
+    let x = waiting-shown check tick h d in
+    let y : _≡_ {A = ℕ} 1 0 = ap labelsIn (sym (x .moved)) ∙ k waits cleared 0 none buffer (x .an-instant) in
     omega arith
 
-pub not-alwaysEnds : ¬ Demand2 checkOf alwaysEnds
-not-alwaysEnds d =
-    let x = d .shows waits cleared 0 none buffer (all-accepted .1) refl refl (pause 0) stands-waits none waiting (only 0) nothing Reacts.pause in
-    let y = rw (first-ticks .1) at (x .code) in
-    omega arith
-
-pub not-leavesLabels : ¬ Demand2 checkOf leavesLabels
-unfolding encodeState leBytes only
-not-leavesLabels d =
-    let x = d .shows waits cleared 0 none buffer (all-accepted .1) refl refl (pause 0) stands-waits none waiting (only 0) nothing Reacts.pause in
-    let y = rw (first-ticks .1) at (x .moved) in
-    let z : _≡_ {A = ℕ} 0 1 = ap (λ (l : List ℕ). getD l 1 0) y in
-    omega arith
-
-pub not-appendsZero : ¬ Demand2 checkOf appendsZero
-not-appendsZero d =
-    let x = d .shows ends cleared 0 none buffer (all-accepted .0) refl refl nothing stands-ends none ended none nothing Reacts.nothing in
-    let y = rw (first-ticks .0) at (x .sized) in
-    omega arith
-
-pub not-countsNone : ¬ Demand2 checkOf countsNone
-unfolding leNumber reactionsBy
-not-countsNone d =
-    let x = d .shows ends cleared 0 none buffer (all-accepted .0) refl refl nothing stands-ends none ended none nothing Reacts.nothing in
-    let y = rw (first-ticks .0) at (x .counted) in
-    omega arith
-
--- ---- demand 1
-pub not-turnsDown : (tick : Tick) → ¬ Demand1 turnsDown tick
-not-turnsDown tick d =
-    let r = d .check-by-rows ends none .refusal 3 (omega arith) .0 refl in
-    demand-1 .check-by-rows ends none .acceptance .0 (all-accepted .0) 3 (r .0)
-
-pub not-saysOver : ¬ Demand1 checkOf saysOver
-not-saysOver d =
-    let n : number (saysOver ends cleared 0 none buffer) ≡ 12 = rw (first-ticks .0) in
-    let r = d .tick-by-rows ends cleared 0 none buffer .refusal 12 (omega arith) .0 n in
-    demand-1 .tick-by-rows ends cleared 0 none buffer .acceptance .0 (ap number (first-ticks .0)) 12 (r .0)
-
--- ---- demand 3
+-- ---- demand 3, of every tick that repeats its first instant
 no-setpause : NoSetpause (seq (pause 0) (emit 0))
 no-setpause l h = go (h .0) (h .1)
   where
@@ -140,9 +157,89 @@ no-setpause l h = go (h .0) (h .1)
 two-calls : List Call
 two-calls = record { input = 0; buffer = buffer } ∷ record { input = 0; buffer = buffer } ∷ []
 
-pub not-repeatsFirst : ¬ Demand3 checkOf repeatsFirst
-unfolding two-calls outcomes paper tickBy checked read front commandOf nesting declared membersFrom distinct wellFormed everyLabel before labelsOf subset disjoint decodeState encodeState encodeAnswer leNumber leBytes reactBy errorsBy reactionsBy member none only join
-not-repeatsFirst d =
-    let x = d later none (all-accepted .2) (seq (pause 0) (emit 0)) spells-later no-setpause two-calls in
-    let z : _≡_ {A = ℕ} 1 0 = ap (λ (l : List Report). codeAt 1 l) x in
+-- waits, then ends
+on-paper : (codeTold (reportAt 0 (paper (Rewriting.fresh (program none (seq (pause 0) (emit 0)))) two-calls)) ≡ 1)
+    × (phaseTold (reportAt 0 (paper (Rewriting.fresh (program none (seq (pause 0) (emit 0)))) two-calls)) ≡ 1)
+    × (codeTold (reportAt 1 (paper (Rewriting.fresh (program none (seq (pause 0) (emit 0)))) two-calls)) ≡ 0)
+unfolding two-calls paper declared membersFrom reactBy errorsBy reactionsBy member none only join
+on-paper = (refl, refl, refl)
+
+phase-told : (o : Outcome) → phaseTold (report o) ≡ phaseIn (stateAfterwards o)
+phase-told (outcome zero state answer) = refl
+phase-told (outcome (suc n) state answer) = refl
+
+not-first-repeated : (check : Check) (tick : Tick) → check later none ≡ 0 → FirstRepeated tick → ¬ Demand3 check tick
+unfolding outcomes two-calls
+not-first-repeated check tick h k d =
+    let x = d later none h (seq (pause 0) (emit 0)) spells-later no-setpause two-calls in
+    let first : Outcome = tick later cleared 0 none buffer in
+    let c : codeTold (report first) ≡ 1 = ap (λ (l : List Report). codeTold (reportAt 0 l)) x ∙ on-paper .0 in
+    let w : phaseIn (stateAfterwards first) ≡ 1 = sym (phase-told first) ∙ ap (λ (l : List Report). phaseTold (reportAt 0 l)) x ∙ on-paper .1 in
+    let z : codeTold (report (tick later (stateAfterwards first) 0 none buffer)) ≡ 0 =
+    ap (λ (l : List Report). codeTold (reportAt 1 l)) x ∙ on-paper .2 in
+    let same : tick later (stateAfterwards first) 0 none buffer ≡ first = k later (stateAfterwards first) 0 none buffer w in
+    let y : _≡_ {A = ℕ} 1 0 = sym c ∙ sym (ap (λ (o : Outcome). codeTold (report o)) same) ∙ z in
     omega arith
+
+-- ---- by demand 1 the check accepts those sequences
+module _ (check : Check) (tick : Tick) where
+  pub no-all-wrong : AllWrong tick → ¬ (Demand1 check tick × Demand2 check tick)
+  no-all-wrong k d = not-all-wrong check tick (accepts check tick (d .0) ends (all-accepted .0)) k (d .1)
+
+  pub no-all-ended : AllEnded tick → ¬ (Demand1 check tick × Demand2 check tick)
+  no-all-ended k d = not-all-ended check tick (accepts check tick (d .0) waits (all-accepted .1)) k (d .1)
+
+  pub no-labels-left : LabelsLeft tick → ¬ (Demand1 check tick × Demand2 check tick)
+  no-labels-left k d = not-labels-left check tick (accepts check tick (d .0) waits (all-accepted .1)) k (d .1)
+
+  pub no-first-repeated : FirstRepeated tick → ¬ (Demand1 check tick × Demand3 check tick)
+  no-first-repeated k d = not-first-repeated check tick (accepts check tick (d .0) later (all-accepted .2)) k (d .1)
+
+  -- by the rules of 2
+  pub no-first-repeated-2 : FirstRepeated tick → ¬ (Demand1 check tick × Demand2 check tick)
+  no-first-repeated-2 k d = no-first-repeated k (d .0, then-demand-3 check tick (d .0) (d .1))
+
+-- ---- one of each kind
+instead-holds : (Holds : Outcome → Type 0) (f : List ℕ → List ℕ → Outcome) → ((state answer : List ℕ) → Holds (f state answer))
+    → (o : Outcome) → number (instead f o) ≡ 0 → Holds (instead f o)
+instead-holds Holds f h (outcome zero state answer) z = h state answer
+instead-holds Holds f h (outcome (suc n) state answer) z = absurd (omega (arith, z))
+
+pub not-everyWrong : ¬ Demand2 checkOf everyWrong
+not-everyWrong =
+    not-all-wrong checkOf everyWrong (all-accepted .0)
+    (λ sequence state e readBack answer. instead-holds (λ (o : Outcome). codeIn (answerAfterwards o) ≡ 255) _ (λ s a. refl) (tickOf sequence state e readBack answer))
+
+pub not-alwaysEnds : ¬ Demand2 checkOf alwaysEnds
+not-alwaysEnds =
+    not-all-ended checkOf alwaysEnds (all-accepted .1)
+    (λ sequence state e readBack answer. instead-holds (λ (o : Outcome). codeIn (answerAfterwards o) ≡ 0) _ (λ s a. refl) (tickOf sequence state e readBack answer))
+
+pub not-leavesLabels : ¬ Demand2 checkOf leavesLabels
+unfolding encodeState leBytes only
+not-leavesLabels d =
+    let y = rw (first-ticks .1) at (waiting-shown checkOf leavesLabels (all-accepted .1) d .moved) in
+    let z : _≡_ {A = ℕ} 0 1 = ap (λ (l : List ℕ). getD l 1 0) y in
+    omega arith
+
+pub not-appendsZero : ¬ Demand2 checkOf appendsZero
+not-appendsZero d =
+    let y = rw (first-ticks .0) at (ended-shown checkOf appendsZero (all-accepted .0) d .sized) in
+    omega arith
+
+pub not-countsNone : ¬ Demand2 checkOf countsNone
+unfolding leNumber reactionsBy
+not-countsNone d =
+    let y = rw (first-ticks .0) at (ended-shown checkOf countsNone (all-accepted .0) d .counted) in
+    omega arith
+
+pub not-turnsDown : (tick : Tick) → ¬ Demand1 turnsDown tick
+not-turnsDown tick = not-all-turned-down turnsDown tick (λ sequence readBack z. omega (arith, z))
+
+pub not-saysOver : ¬ Demand1 checkOf saysOver
+not-saysOver =
+    let n : number (saysOver ends cleared 0 none buffer) ≡ 12 = rw (first-ticks .0) in
+    not-over-to-fresh checkOf saysOver (ends, cleared, 0, none, buffer, refl, n)
+
+pub not-repeatsFirst : ¬ Demand3 checkOf repeatsFirst
+not-repeatsFirst = not-first-repeated checkOf repeatsFirst (all-accepted .2) (λ sequence state e readBack answer w. rw (eq-eqb (phaseIn state) 1 w))

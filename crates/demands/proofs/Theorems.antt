@@ -24,7 +24,7 @@ use Rattle.states.specs.StateRecord.{encodeState}
 use Rattle.answers.specs.AnswerRecord.{answerLength, codeIn, takenIn}
 use Rattle.demands.specs.Tick.{Outcome, outcome, tickBy, tickOf}
 use Rattle.demands.specs.Paper.{Call, paper}
-use Rattle.demands.specs.Demands.{Tick, number, answerAfterwards, outcomes, cleared, report, Admitted, StandsAt, Shows, uncounted, Demand1, Demand2, Demand3, TickMeets, Chain}
+use Rattle.demands.specs.Demands.{Check, Tick, number, answerAfterwards, outcomes, cleared, report, Admitted, StandsAt, Shows, uncounted, Demand1, Demand2, Demand3, TickMeets, Chain}
 use Rattle.demands.specs.Replacements as wrong
 use Rattle.demands.specs.Bays.{Bay, table, ShowsBay}
 use Rattle.demands.specs.Worked.{ShowsRuns}
@@ -40,6 +40,7 @@ use Rattle.demands.proofs.SignalOrders as orders
 use Rattle.demands.proofs.Agreement as three
 use Rattle.demands.proofs.NoLabels as paper-labels
 use Rattle.demands.proofs.Calls as calls
+use Rattle.demands.proofs.Decided as decided
 use Rattle.demands.proofs.Replacements as refuted
 use Rattle.demands.proofs.Bays as bays
 use Rattle.demands.proofs.Suspended as suspends
@@ -179,6 +180,40 @@ pub first-errors : ShowsRuns firstErrorRuns tickOf
 first-errors = firsts.first-errors
 
 -- ---- what the demands refuse
+-- 01's checklist: a check and a tick that meet demands 1 and 2 are checkOf and tickOf, for all arguments, and so meet demand 3
+pub check-decided : (check : Check) (tick : Tick) → Demand1 check tick → Demand2 check tick
+    → (sequence : List ℕ) (readBack : ℕ) → check sequence readBack ≡ checkOf sequence readBack
+check-decided = decided.check-is
+
+pub tick-decided : (check : Check) (tick : Tick) → Demand1 check tick → Demand2 check tick
+    → (sequence state : List ℕ) (e readBack : ℕ) (answer : List ℕ)
+    → tick sequence state e readBack answer ≡ tickOf sequence state e readBack answer
+tick-decided = decided.tick-is
+
+pub demand-3-decided : (check : Check) (tick : Tick) → Demand1 check tick → Demand2 check tick → Demand3 check tick
+demand-3-decided = decided.then-demand-3
+
+-- every check and tick of a kind on 01's checklist
+pub refused-all-wrong : (check : Check) (tick : Tick) → wrong.AllWrong tick → ¬ (Demand1 check tick × Demand2 check tick)
+refused-all-wrong = refuted.no-all-wrong
+
+pub refused-all-turned-down : (check : Check) (tick : Tick) → wrong.AllTurnedDown check → ¬ Demand1 check tick
+refused-all-turned-down = refuted.not-all-turned-down
+
+pub refused-all-ended : (check : Check) (tick : Tick) → wrong.AllEnded tick → ¬ (Demand1 check tick × Demand2 check tick)
+refused-all-ended = refuted.no-all-ended
+
+pub refused-labels-left : (check : Check) (tick : Tick) → wrong.LabelsLeft tick → ¬ (Demand1 check tick × Demand2 check tick)
+refused-labels-left = refuted.no-labels-left
+
+pub refused-first-repeated : (check : Check) (tick : Tick) → wrong.FirstRepeated tick
+    → (¬ (Demand1 check tick × Demand3 check tick)) × (¬ (Demand1 check tick × Demand2 check tick))
+refused-first-repeated check tick k = (refuted.no-first-repeated check tick k, refuted.no-first-repeated-2 check tick k)
+
+pub refused-over-to-fresh : (check : Check) (tick : Tick) → wrong.OverToFresh tick → ¬ Demand1 check tick
+refused-over-to-fresh = refuted.not-over-to-fresh
+
+-- one of each kind, and two more
 pub refused-1 : ((tick : Tick) → ¬ Demand1 wrong.turnsDown tick) × (¬ Demand1 checkOf wrong.saysOver)
 refused-1 = (refuted.not-turnsDown, refuted.not-saysOver)
 

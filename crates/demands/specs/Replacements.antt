@@ -1,16 +1,55 @@
--- The six replacements of 01's checklist and two more, each a wrong check or tick. proofs/Replacements refutes a demand for each.
+-- The replacements of 01's checklist: the six kinds of a wrong check or tick, then one of each kind and two more. proofs/Replacements
+-- refutes a demand for each.
 use Prim.Native.Nat.{ℕ, zero, suc}
+use mathlib.Core.Path.{_≡_}
+use mathlib.Core.Logic.{_≢_}
 use mathlib.Core.Bool.{cond}
 use mathlib.Core.List.{List, [], _∷_, _++_}
 use lib.ListN.{take, drop, replicate}
 use lib.Dec.{eqb}
 use Rattle.esterel.specs.Machines.{State}
 use Rattle.limits.specs.Limits.{takenBytes}
-use Rattle.states.specs.StateRecord.{labelsAt, encodeState, phaseIn}
-use Rattle.answers.specs.AnswerRecord.{takenAt, answerLength}
+use Rattle.states.specs.StateRecord.{labelsAt, encodeState, phaseIn, labelsIn}
+use Rattle.answers.specs.AnswerRecord.{takenAt, answerLength, codeIn}
 use Rattle.demands.specs.Tick.{Outcome, outcome, tickOf}
-use Rattle.demands.specs.Demands.{Check, Tick, cleared}
+use Rattle.demands.specs.Demands.{Check, Tick, number, stateAfterwards, answerAfterwards, cleared}
 
+-- ---- the kinds
+-- in every instant, from the state before it
+abbrev pub EveryInstant : (List ℕ → Outcome → Type 0) → Tick → Type 0
+EveryInstant Holds tick =
+    (sequence state : List ℕ) (e readBack : ℕ) (answer : List ℕ) → number (tick sequence state e readBack answer) ≡ 0
+    → Holds state (tick sequence state e readBack answer)
+
+-- calls every instant wrong
+abbrev pub AllWrong : Tick → Type 0
+AllWrong = EveryInstant (λ state o. codeIn (answerAfterwards o) ≡ 255)
+
+-- turns every sequence down
+abbrev pub AllTurnedDown : Check → Type 0
+AllTurnedDown check = (sequence : List ℕ) (readBack : ℕ) → check sequence readBack ≢ 0
+
+-- always ends with code 0
+abbrev pub AllEnded : Tick → Type 0
+AllEnded = EveryInstant (λ state o. codeIn (answerAfterwards o) ≡ 0)
+
+-- leaves the labels where they were
+abbrev pub LabelsLeft : Tick → Type 0
+LabelsLeft = EveryInstant (λ state o. labelsIn (stateAfterwards o) ≡ labelsIn state)
+
+-- repeats the first instant later, whatever that is
+abbrev pub FirstRepeated : Tick → Type 0
+FirstRepeated tick =
+    (sequence state : List ℕ) (e readBack : ℕ) (answer : List ℕ) → phaseIn state ≡ 1
+    → tick sequence state e readBack answer ≡ tick sequence cleared e readBack answer
+
+-- says "over" to a fresh machine, even once
+abbrev pub OverToFresh : Tick → Type 0
+OverToFresh tick =
+    (sequence : List ℕ) × (state : List ℕ) × (e : ℕ) × (readBack : ℕ) × (answer : List ℕ)
+    × (phaseIn state ≡ 0) × (number (tick sequence state e readBack answer) ≡ 12)
+
+-- ---- one of each kind
 -- another result for an instant; a refusal stays
 abbrev pub instead : (List ℕ → List ℕ → Outcome) → Outcome → Outcome
 instead f (outcome zero state answer) = f state answer
