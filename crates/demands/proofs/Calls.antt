@@ -13,7 +13,7 @@ use Rattle.sequence.specs.Check.{checkOf}
 use Rattle.sequence.specs.Rows.{Spells}
 use Rattle.demands.specs.Tick.{Outcome, outcome, tickOf}
 use Rattle.demands.specs.Paper.{Call, paper}
-use Rattle.demands.specs.Demands.{number, outcomes, Admitted, StandsAt, Shows, TickMeets, Chain, done, call, report, cleared}
+use Rattle.demands.specs.Demands.{number, outcomes, Admitted, StandsAt, Derived, Shows, TickMeets, Chain, done, call, report, cleared}
 use Rattle.demands.proofs.Agreement.{demand-3}
 use Rattle.demands.proofs.Demand1.{demand-1}
 use Rattle.demands.proofs.Demand2.{demand-2, passed-check, state-sized, answer-sized}
@@ -34,13 +34,14 @@ never-11-calls sequence readBack state h m calls results r o x =
 -- DEMAND 2, of every call that meets the tick's contract
 pub demand-2-call : {n : ℕ} {state′ answer′ : List ℕ} (sequence state : List ℕ) (e readBack : ℕ) (answer : List ℕ)
     → TickMeets n state′ answer′ sequence state e readBack answer → n ≡ 0
-    → (t : Statement) × StandsAt sequence readBack state t
+    → (t : Statement) × StandsAt sequence readBack state t × Derived t e
     × ((o : ℕ) (k : Code) (l : ℕ) (t′ : Statement) → Reacts t e (gives o k l t′) → Shows t e o k l t′ (outcome n state′ answer′))
 demand-2-call sequence state e readBack answer m z =
     let y : number (tickOf sequence state e readBack answer) ≡ 0 = sym (ap number m) ∙ z in
     let s = demand-2 .stands sequence state e readBack answer y in (
       s .0,
       s .1,
+      s .2,
       λ o k l t′ d. subst (Shows (s .0) e o k l t′) (sym m)
           (demand-2 .shows sequence state e readBack answer (passed-check sequence state e readBack answer y) (state-sized sequence state e readBack answer y)
           (answer-sized sequence state e readBack answer y) (s .0) (s .1) o k l t′ d),

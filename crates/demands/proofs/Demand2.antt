@@ -30,7 +30,7 @@ use Rattle.states.specs.StateRecord.{stateLength, Decoded, holds, decodeState, 
 use Rattle.answers.specs.AnswerRecord.{answerLength, encodeAnswer, codeByte, kindIn, placeIn, takenIn}
 use Rattle.demands.specs.Tick.{written, tickBy, tickOf}
 use Rattle.demands.specs.TickRows.{TickRow, row-1, row-2-to-10, row-11, row-12}
-use Rattle.demands.specs.Demands.{number, StandsAt, at-start, at-labels, Shows, Demand2}
+use Rattle.demands.specs.Demands.{number, StandsAt, at-start, at-labels, Derived, Shows, Demand2}
 use Rattle.answers.proofs.AnswerLaws.{code-field, kind-field, place-field, emitted-field, taken-field, blameless, wrong-blame, answer-is, length-answer}
 use Rattle.demands.proofs.Bounds.{Below, Bounded, emitted-below, Exits, code-exits}
 use Rattle.demands.proofs.ErrorPlaces.{PlacesBelow, place-fits}
@@ -183,5 +183,15 @@ shows-standing sequence state e readBack answer h i j t s o k l t′ d =
     let r : gives o k l t′ ≡ react t e = reacts-is t e (gives o k l t′) .0 d in
     rw (w .0, ← r) (shows t e (w .1) o k l t′ r)
 
+-- the rules give every term an instant
+derived : (t : Statement) (e : ℕ) (r : Reaction) → r ≡ react t e → Derived t e
+derived t e (gives o k l t′) h = (o, k, l, t′, reacts-is t e (gives o k l t′) .1 h)
+
+stands-derived : (sequence state : List ℕ) (e readBack : ℕ) (answer : List ℕ) → number (tickOf sequence state e readBack answer) ≡ 0
+    → (t : Statement) × StandsAt sequence readBack state t × Derived t e
+stands-derived sequence state e readBack answer z =
+    let s = stands sequence state e readBack answer z in
+    (s .0, s .1, derived (s .0) e (react (s .0) e) refl)
+
 pub demand-2 : Demand2 checkOf tickOf
-demand-2 = record { stands = stands; shows = shows-standing }
+demand-2 = record { stands = stands-derived; shows = shows-standing }

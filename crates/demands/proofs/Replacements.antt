@@ -181,6 +181,9 @@ not-first-repeated check tick h k d =
     let y : _≡_ {A = ℕ} 1 0 = sym c ∙ sym (ap (λ (o : Outcome). codeTold (report o)) same) ∙ z in
     omega arith
 
+pub not-first-repeated-3 : (tick : Tick) → FirstRepeated tick → ¬ Demand3 checkOf tick
+not-first-repeated-3 tick = not-first-repeated checkOf tick (all-accepted .2)
+
 -- ---- by demand 1 the check accepts those sequences
 module _ (check : Check) (tick : Tick) where
   pub no-all-wrong : AllWrong tick → ¬ (Demand1 check tick × Demand2 check tick)
@@ -242,4 +245,4 @@ not-saysOver =
     not-over-to-fresh checkOf saysOver (ends, cleared, 0, none, buffer, refl, n)
 
 pub not-repeatsFirst : ¬ Demand3 checkOf repeatsFirst
-not-repeatsFirst = not-first-repeated checkOf repeatsFirst (all-accepted .2) (λ sequence state e readBack answer w. rw (eq-eqb (phaseIn state) 1 w))
+not-repeatsFirst = not-first-repeated-3 repeatsFirst (λ sequence state e readBack answer w. rw (eq-eqb (phaseIn state) 1 w))

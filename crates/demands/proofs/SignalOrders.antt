@@ -166,6 +166,14 @@ module _ (sequence state : List ℕ) (e readBack : ℕ) (answer : List ℕ) wher
             (c .term, c .at, o),
           )
 
+  -- an instant that uses such a signal
+  pub overlap-called-wrong : checkOf sequence readBack ≡ 0 → length state ≡ stateLength → length answer ≡ answerLength
+      → (t : Statement) → StandsAt sequence readBack state t → overlap t e ≡ true
+      → (number (tickOf sequence state e readBack answer) ≡ 0) × (codeShown (tickOf sequence state e readBack answer) ≡ 255)
+  overlap-called-wrong h i j t s o =
+      let w = stands-written sequence readBack (accepted sequence readBack h) inheritanceFirst state e answer i j s .0 in
+      (ap number w, ap codeShown w ∙ shown-wrong t e (orders.overlap-wrong t e o))
+
   -- (c) wrong by the printed order: the same records, kind and place included, but for the number of reactions
   pub tick-stays : codeShown (tickBy printed sequence state e readBack answer) ≡ 255
       → uncounted (tickBy printed sequence state e readBack answer) ≡ uncounted (tickOf sequence state e readBack answer)

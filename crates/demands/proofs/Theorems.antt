@@ -20,11 +20,11 @@ use Rattle.esterel.specs.Machines.{State, Rewriting, erase}
 use Rattle.sequence.specs.Program.{program}
 use Rattle.sequence.specs.Check.{numberOf, checked, checkOf}
 use Rattle.sequence.specs.Rows.{Spells}
-use Rattle.states.specs.StateRecord.{encodeState}
+use Rattle.states.specs.StateRecord.{stateLength, encodeState}
 use Rattle.answers.specs.AnswerRecord.{answerLength, codeIn, takenIn}
 use Rattle.demands.specs.Tick.{Outcome, outcome, tickBy, tickOf}
 use Rattle.demands.specs.Paper.{Call, paper}
-use Rattle.demands.specs.Demands.{Check, Tick, number, answerAfterwards, outcomes, cleared, report, Admitted, StandsAt, Shows, uncounted, Demand1, Demand2, Demand3, TickMeets, Chain}
+use Rattle.demands.specs.Demands.{Check, Tick, number, answerAfterwards, outcomes, cleared, report, Admitted, StandsAt, Derived, Shows, uncounted, Demand1, Demand2, Demand3, TickMeets, Chain}
 use Rattle.demands.specs.Replacements as wrong
 use Rattle.demands.specs.Bays.{Bay, table, ShowsBay}
 use Rattle.demands.specs.Worked.{ShowsRuns}
@@ -79,7 +79,7 @@ demand-1-calls = calls.never-11-calls
 
 pub demand-2-call : {n : ℕ} {state′ answer′ : List ℕ} (sequence state : List ℕ) (e readBack : ℕ) (answer : List ℕ)
     → TickMeets n state′ answer′ sequence state e readBack answer → n ≡ 0
-    → (t : Statement) × StandsAt sequence readBack state t
+    → (t : Statement) × StandsAt sequence readBack state t × Derived t e
     × ((o : ℕ) (k : Code) (l : ℕ) (t′ : Statement) → Reacts t e (gives o k l t′) → Shows t e o k l t′ (outcome n state′ answer′))
 demand-2-call = calls.demand-2-call
 
@@ -112,6 +112,12 @@ pub wrong-stays : (sequence state : List ℕ) (e readBack : ℕ) (answer : List 
     → codeIn (answerAfterwards (tickBy printed sequence state e readBack answer)) ≡ 255
     → uncounted (tickBy printed sequence state e readBack answer) ≡ uncounted (tickOf sequence state e readBack answer)
 wrong-stays = orders.tick-stays
+
+-- and every instant that uses such a signal is wrong now
+pub overlap-is-wrong : (sequence state : List ℕ) (e readBack : ℕ) (answer : List ℕ) → checkOf sequence readBack ≡ 0
+    → length state ≡ stateLength → length answer ≡ answerLength → (t : Statement) → StandsAt sequence readBack state t → overlap t e ≡ true
+    → (number (tickOf sequence state e readBack answer) ≡ 0) × (codeIn (answerAfterwards (tickOf sequence state e readBack answer)) ≡ 255)
+overlap-is-wrong = orders.overlap-called-wrong
 
 -- so lists of ticks are the same up to the first that is wrong
 pub not-wrong-kept-list : (sequence : List ℕ) (readBack : ℕ) (state : List ℕ) (cs : List Call)
@@ -207,8 +213,9 @@ pub refused-labels-left : (check : Check) (tick : Tick) → wrong.LabelsLeft tic
 refused-labels-left = refuted.no-labels-left
 
 pub refused-first-repeated : (check : Check) (tick : Tick) → wrong.FirstRepeated tick
-    → (¬ (Demand1 check tick × Demand3 check tick)) × (¬ (Demand1 check tick × Demand2 check tick))
-refused-first-repeated check tick k = (refuted.no-first-repeated check tick k, refuted.no-first-repeated-2 check tick k)
+    → (¬ Demand3 checkOf tick) × (¬ (Demand1 check tick × Demand3 check tick)) × (¬ (Demand1 check tick × Demand2 check tick))
+refused-first-repeated check tick k =
+    (refuted.not-first-repeated-3 tick k, refuted.no-first-repeated check tick k, refuted.no-first-repeated-2 check tick k)
 
 pub refused-over-to-fresh : (check : Check) (tick : Tick) → wrong.OverToFresh tick → ¬ Demand1 check tick
 refused-over-to-fresh = refuted.not-over-to-fresh

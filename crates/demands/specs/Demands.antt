@@ -81,6 +81,10 @@ pub data StandsAt (sequence : List ℕ) (readBack : ℕ) (state : List ℕ) : St
   at-labels : {p : Statement} → Spells sequence p → phaseIn state ≡ 1 → Valid p (labelsIn state)
       → StandsAt sequence readBack state (expand (program readBack p) (labelsIn state))
 
+-- the rules give t an instant with the input e (003, corollary 11)
+abbrev pub Derived : Statement → (e : ℕ) → Type 0
+Derived t e = (o : ℕ) × (k : Code) × (l : ℕ) × (t′ : Statement) × Reacts t e (gives o k l t′)
+
 -- what the rules give for t is what the records show: both records whole, then the answer by its fields
 pub record Shows (t : Statement) (e o : ℕ) (k : Code) (l : ℕ) (t′ : Statement) (result : Outcome) : Type 0 where
   pub an-instant : number result ≡ 0
@@ -102,9 +106,9 @@ pub record Shows (t : Statement) (e o : ℕ) (k : Code) (l : ℕ) (t′ : Statem
   pub counted-rules : (d : Reacts t e (gives o k l t′)) → takenIn (answerAfterwards result) ≡ rulesUsed d
 
 pub record Demand2 (check : Check) (tick : Tick) : Type 0 where
-  -- where the tick gives 0, the machine stands at a term
+  -- where the tick gives 0, the machine stands at a term, and the rules give that term an instant
   pub stands : (sequence state : List ℕ) (e readBack : ℕ) (answer : List ℕ) → number (tick sequence state e readBack answer) ≡ 0
-      → (t : Statement) × StandsAt sequence readBack state t
+      → (t : Statement) × StandsAt sequence readBack state t × Derived t e
   pub shows : (sequence state : List ℕ) (e readBack : ℕ) (answer : List ℕ) → check sequence readBack ≡ 0
       → length state ≡ stateLength → length answer ≡ answerLength → (t : Statement) → StandsAt sequence readBack state t
       → (o : ℕ) (k : Code) (l : ℕ) (t′ : Statement) → Reacts t e (gives o k l t′)
