@@ -1,10 +1,12 @@
 pub mod Bounds
 pub mod ErrorPlaces
+pub mod Offsets
 pub mod Reports
 pub mod Sequence
 pub mod TickRows
 pub mod Demand1
 pub mod Demand2
+pub mod PlaceNamed
 pub mod SignalOrders
 pub mod Agreement
 pub mod NoLabels

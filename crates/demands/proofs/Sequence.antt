@@ -13,6 +13,7 @@ use Rattle.esterel.specs.Statement.{Statement}
 use Rattle.esterel.specs.Reaction.{Reaction, gives, ended, waiting, leaving, wrong, react, inheritanceFirst, Order}
 use Rattle.esterel.specs.States.{Valid, Distinct, Targeted, Source, WellFormed}
 use Rattle.esterel.specs.Expansion.{expand}
+use Rattle.esterel.specs.Errors.{Error}
 use Rattle.esterel.specs.Reactions.{reactions}
 use Rattle.esterel.specs.Ceiling.{commands, loopNesting, ceiling}
 use Rattle.esterel.specs.Machines.{State, stateAfter}
@@ -33,8 +34,10 @@ use Rattle.sequence.proofs.Rows.{Decides, decided, row-range}
 use Rattle.states.specs.StateRecord.{stateLength, Decoded, decodeState}
 use Rattle.answers.specs.AnswerRecord.{answerLength}
 use Rattle.demands.specs.Tick.{outcome, byState, replyOf, replied, tickBy, tickOf}
+use Rattle.demands.specs.PlaceNamed.{PlaceNamed, of-loop, of-signal, of-declaration}
 use Rattle.demands.proofs.Bounds.{Bounded, below-number, ranged-bounded, bounded-expand, bounded-declared, valid-below}
-use Rattle.demands.proofs.ErrorPlaces.{PlacesBelow, placed-below, places-expand, places-declared}
+use Rattle.demands.proofs.ErrorPlaces.{PlacesBelow, errors-expand}
+use Rattle.demands.proofs.Offsets.{program-errors}
 use Rattle.states.proofs.StateLaws.{Recorded}
 
 -- bytes spell at most one statement
@@ -147,14 +150,18 @@ module _ (sequence : List ℕ) (readBack : ℕ) (a : Accepted sequence readBack)
         | no i ↦ omega arith
       ]
 
-  -- the places are offsets of the sequence, also those of what expansion copies, or that of the declarations
+  -- an offset of the sequence, or the place of the declarations
+  place-below : (kind place : ℕ) → PlaceNamed sequence readBack kind place → place < 256 ^ placeBytes
+  place-below kind place (of-loop k s u m y) = omega (arith, m, not-long)
+  place-below kind place (of-signal k s u m y) = omega (arith, m, not-long)
+  place-below kind place (of-declaration k n i) = omega (arith, i)
+
   pub places-fresh : PlacesBelow (256 ^ placeBytes) term
   places-fresh =
-      places-declared (256 ^ placeBytes) readBackPlace (readBackSignals readBack) p (omega arith)
-      (placed-below (256 ^ placeBytes) 0 p (a .spelled .1 .ranged) (a .spelled .2) (omega (arith, not-long, ap length (a .spelled .0))))
+      program-errors (λ (x : Error). x .place < 256 ^ placeBytes) sequence readBack p (a .spelled) (λ x. place-below (x .kind) (x .place))
 
   pub places-resumed : (L : ℕ) → PlacesBelow (256 ^ placeBytes) (expand term L)
-  places-resumed L = places-expand (256 ^ placeBytes) term L places-fresh
+  places-resumed L = errors-expand (λ (x : Error). x .place < 256 ^ placeBytes) term L places-fresh
 
   -- 1,024 commands and six declarations, 63 loops around one and six signals: 1,030 × 64 × 64
   pub term-ceiling : ceiling term ≤ 4218880

@@ -1,6 +1,6 @@
 -- The theorems of this crate: the three demands for the definitions of the check and the tick, then for calls that meet the
--- tick's contract; that the paper knows no labels; what 02, items 4 and 5, changed; the ceiling on the number of reactions (item 6);
--- the starred bays, bays with suspend and first errors; and what the demands refuse.
+-- tick's contract; the place that a wrong instant names; that the paper knows no labels; what 02, items 4 and 5, changed; the ceiling
+-- on the number of reactions (item 6); the starred bays, bays with suspend and first errors; and what the demands refuse.
 use Prim.Native.Nat.{ℕ, _≤_}
 use mathlib.Core.Path.{_≡_}
 use mathlib.Core.Logic.{_≢_}
@@ -21,10 +21,11 @@ use Rattle.sequence.specs.Program.{program}
 use Rattle.sequence.specs.Check.{numberOf, checked, checkOf}
 use Rattle.sequence.specs.Rows.{Spells}
 use Rattle.states.specs.StateRecord.{stateLength, encodeState}
-use Rattle.answers.specs.AnswerRecord.{answerLength, codeIn, takenIn}
+use Rattle.answers.specs.AnswerRecord.{answerLength, codeIn, kindIn, placeIn, takenIn}
 use Rattle.demands.specs.Tick.{Outcome, outcome, tickBy, tickOf}
 use Rattle.demands.specs.Paper.{Call, paper}
 use Rattle.demands.specs.Demands.{Check, Tick, number, answerAfterwards, outcomes, cleared, report, Admitted, StandsAt, Derived, Shows, uncounted, Demand1, Demand2, Demand3, TickMeets, Chain}
+use Rattle.demands.specs.PlaceNamed.{PlaceNamed}
 use Rattle.demands.specs.Replacements as wrong
 use Rattle.demands.specs.Bays.{Bay, table, ShowsBay}
 use Rattle.demands.specs.Worked.{ShowsRuns}
@@ -36,6 +37,7 @@ use Rattle.demands.specs.Dearest.{hundredBytes}
 use Rattle.demands.proofs.Sequence as sequence
 use Rattle.demands.proofs.Demand1 as one
 use Rattle.demands.proofs.Demand2 as two
+use Rattle.demands.proofs.PlaceNamed as places
 use Rattle.demands.proofs.SignalOrders as orders
 use Rattle.demands.proofs.Agreement as three
 use Rattle.demands.proofs.NoLabels as paper-labels
@@ -87,6 +89,18 @@ pub demand-3-calls : (sequence : List ℕ) (readBack : ℕ) → checkOf sequence
     → (cs : List Call) (results : List Outcome) → Chain sequence readBack cleared cs results
     → map report results ≡ paper (Rewriting.fresh (program readBack p)) cs
 demand-3-calls = calls.demand-3-calls
+
+-- ---- the place that a wrong instant names: the offset of a command byte 06 or 08, or 65535 for a read-back declaration
+pub place-named : (sequence state : List ℕ) (e readBack : ℕ) (answer : List ℕ) → number (tickOf sequence state e readBack answer) ≡ 0
+    → codeIn (answerAfterwards (tickOf sequence state e readBack answer)) ≡ 255
+    → PlaceNamed sequence readBack (kindIn (answerAfterwards (tickOf sequence state e readBack answer)))
+    (placeIn (answerAfterwards (tickOf sequence state e readBack answer)))
+place-named = places.place-named
+
+pub place-named-call : {n : ℕ} {state′ answer′ : List ℕ} (sequence state : List ℕ) (e readBack : ℕ) (answer : List ℕ)
+    → TickMeets n state′ answer′ sequence state e readBack answer → n ≡ 0 → codeIn answer′ ≡ 255
+    → PlaceNamed sequence readBack (kindIn answer′) (placeIn answer′)
+place-named-call = places.place-named-call
 
 -- ---- the paper knows no labels: its terms carry them in held suspends, and what it reports never depends on them
 pub paper-knows-no-labels : (t u : Statement) → erase t ≡ erase u → (cs : List Call)

@@ -3,6 +3,7 @@ pub mod Plain
 pub mod TickRows
 pub mod Paper
 pub mod Demands
+pub mod PlaceNamed
 pub mod Replacements
 pub mod Bays
 pub mod Worked
