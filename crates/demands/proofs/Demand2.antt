@@ -195,3 +195,15 @@ stands-derived sequence state e readBack answer z =
 
 pub demand-2 : Demand2 checkOf tickOf
 demand-2 = record { stands = stands-derived; shows = shows-standing }
+
+-- the instant of a tick that gives 0
+pub instant-shown : (sequence state : List ℕ) (e readBack : ℕ) (answer : List ℕ) → number (tickOf sequence state e readBack answer) ≡ 0
+    → (t : Statement) × StandsAt sequence readBack state t
+    × ((o : ℕ) × (k : Code) × (l : ℕ) × (t′ : Statement) × Shows t e o k l t′ (tickOf sequence state e readBack answer))
+instant-shown sequence state e readBack answer z =
+    let s = stands-derived sequence state e readBack answer z in
+    let d = s .2 in
+    let h =
+    shows-standing sequence state e readBack answer (passed-check sequence state e readBack answer z)
+    (state-sized sequence state e readBack answer z) (answer-sized sequence state e readBack answer z) (s .0) (s .1) (d .0) (d .1) (d .2) (d .3) (d .4) in
+    (s .0, s .1, (d .0, d .1, d .2, d .3, h))

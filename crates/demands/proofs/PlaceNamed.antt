@@ -12,7 +12,7 @@ use Rattle.demands.specs.Demands.{number, answerAfterwards, StandsAt, at
 use Rattle.demands.specs.PlaceNamed.{PlaceNamed}
 use Rattle.demands.proofs.ErrorPlaces.{AllErrors, errors-expand, first-holds}
 use Rattle.demands.proofs.Offsets.{program-errors}
-use Rattle.demands.proofs.Demand2.{demand-2, passed-check, state-sized, answer-sized}
+use Rattle.demands.proofs.Demand2.{instant-shown}
 
 abbrev Named : (sequence : List ℕ) (readBack : ℕ) → Error → Type 0
 Named sequence readBack x = PlaceNamed sequence readBack (x .kind) (x .place)
@@ -31,11 +31,8 @@ pub place-named : (sequence state : List ℕ) (e readBack : ℕ) (answer : List 
     → PlaceNamed sequence readBack (kindIn (answerAfterwards (tickOf sequence state e readBack answer)))
     (placeIn (answerAfterwards (tickOf sequence state e readBack answer)))
 place-named sequence state e readBack answer z w =
-    let s = demand-2 .stands sequence state e readBack answer z in
-    let d = s .2 in
-    let h = demand-2 .shows sequence state e readBack answer (passed-check sequence state e readBack answer z)
-    (state-sized sequence state e readBack answer z) (answer-sized sequence state e readBack answer z) (s .0) (s .1)
-    (d .0) (d .1) (d .2) (d .3) (d .4) in
+    let s = instant-shown sequence state e readBack answer z in
+    let h = s .2 .4 in
     let m = h .named (h .called-wrong .0 w) in
     let x = first-holds (Named sequence readBack) (s .0) e (m .0) (standing-errors sequence readBack state (s .1)) (m .1) in
     rw (m .3, m .4) x

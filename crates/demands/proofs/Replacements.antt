@@ -3,11 +3,11 @@ use Prim.Native.Nat.{ℕ, zero, suc}
 use native.Mathlib.Omega.{arith}
 use mathlib.Core.Path.{_≡_, refl, sym, ap, _∙_}
 use mathlib.Core.List.{List, [], _∷_, _++_}
-use lib.ListN.{getD, replicate}
+use lib.ListN.{length, take, drop, replicate}
 use borrow.Author.Tests.{eq-eqb}
 use Rattle.esterel.specs.Sets.{none, only, member, join}
 use Rattle.esterel.specs.Statement.{nothing, pause, emit, seq, setpause}
-use Rattle.esterel.specs.Reaction.{ended, waiting, reactBy}
+use Rattle.esterel.specs.Reaction.{ended, waiting, gives, reactBy}
 use Rattle.esterel.specs.Rules.{Reacts}
 use Rattle.esterel.specs.Errors.{errorsBy}
 use Rattle.esterel.specs.Reactions.{reactionsBy}
@@ -22,10 +22,11 @@ use Rattle.sequence.specs.Check.{checkOf, checked}
 use Rattle.sequence.specs.Rows.{Spells}
 use Rattle.sequence.specs.Program.{program}
 use Rattle.sequence.proofs.Rows.{row-range}
-use Rattle.esterel.specs.Machines.{Rewriting}
+use Rattle.esterel.specs.Machines.{stateAfter, Rewriting}
 use Rattle.sequence.proofs.Writer.{reads-what-is-written}
 use Rattle.numbers.specs.Bytes.{leBytes, leNumber}
-use Rattle.states.specs.StateRecord.{phaseIn, labelsIn, encodeState, decodeState}
+use Rattle.states.proofs.StateLaws.{length-state}
+use Rattle.states.specs.StateRecord.{stateLength, labelsAt, phaseIn, labelsIn, encodeState, decodeState}
 use Rattle.answers.specs.AnswerRecord.{answerLength, encodeAnswer, codeIn}
 use Rattle.demands.specs.Tick.{Outcome, outcome, tickBy, tickOf}
 use Rattle.demands.specs.TickRows.{TickRow, row-1, row-2-to-10, row-11, row-12}
@@ -33,6 +34,7 @@ use Rattle.demands.specs.Paper.{Call, Report, turnedDown, reacted, paper
 use Rattle.demands.specs.Demands.{Check, Tick, number, stateAfterwards, answerAfterwards, outcomes, report, Demand1, Demand2, Demand3, StandsAt, at-start, Shows, cleared}
 use Rattle.demands.specs.Replacements.{AllWrong, AllTurnedDown, AllEnded, LabelsLeft, FirstRepeated, OverToFresh, instead, everyWrong, turnsDown, alwaysEnds, leavesLabels, repeatsFirst, saysOver, appendsZero, countsNone}
 use Rattle.demands.proofs.Demand1.{demand-1}
+use Rattle.demands.proofs.Demand2.{instant-shown}
 use Rattle.demands.proofs.Decided.{then-demand-3}
 
 -- report i, and the code and the phase that it tells
@@ -88,10 +90,9 @@ cleared-labels : labelsIn cleared ≡ none
 unfolding leNumber none
 cleared-labels = refl
 
-first-ticks : (tickOf ends cleared 0 none buffer ≡ outcome 0 (2 ∷ replicate 16 0) (replicate 8 0 ++ 1 ∷ replicate 3 0))
-    × (tickOf waits cleared 0 none buffer ≡ outcome 0 (1 ∷ 1 ∷ replicate 15 0) (1 ∷ replicate 7 0 ++ 1 ∷ replicate 3 0))
+first-tick : tickOf ends cleared 0 none buffer ≡ outcome 0 (2 ∷ replicate 16 0) (replicate 8 0 ++ 1 ∷ replicate 3 0)
 unfolding tickBy checked read front commandOf nesting declared membersFrom distinct wellFormed everyLabel before labelsOf subset disjoint decodeState encodeState encodeAnswer leNumber leBytes reactBy errorsBy reactionsBy member none only join
-first-ticks = (refl, refl)
+first-tick = refl
 
 stands-ends : StandsAt ends none cleared nothing
 unfolding declared membersFrom member none
@@ -203,37 +204,50 @@ module _ (check : Check) (tick : Tick) where
   no-first-repeated-2 k d = no-first-repeated k (d .0, then-demand-3 check tick (d .0) (d .1))
 
 -- ---- one of each kind
-instead-holds : (Holds : Outcome → Type 0) (f : List ℕ → List ℕ → Outcome) → ((state answer : List ℕ) → Holds (f state answer))
-    → (o : Outcome) → number (instead f o) ≡ 0 → Holds (instead f o)
-instead-holds Holds f h (outcome zero state answer) z = h state answer
-instead-holds Holds f h (outcome (suc n) state answer) z = absurd (omega (arith, z))
+instead-holds : (Holds : Outcome → Type 0) (f : List ℕ → List ℕ → Outcome) (o : Outcome)
+    → ((state answer : List ℕ) → o ≡ outcome 0 state answer → Holds (f state answer)) → number (instead f o) ≡ 0 → Holds (instead f o)
+instead-holds Holds f (outcome zero state answer) h z = h state answer refl
+instead-holds Holds f (outcome (suc n) state answer) h z = absurd (omega (arith, z))
 
 pub not-everyWrong : ¬ Demand2 checkOf everyWrong
 not-everyWrong =
     not-all-wrong checkOf everyWrong (all-accepted .0)
-    (λ sequence state e readBack answer. instead-holds (λ (o : Outcome). codeIn (answerAfterwards o) ≡ 255) _ (λ s a. refl) (tickOf sequence state e readBack answer))
+    (λ sequence state e readBack answer.
+    instead-holds (λ (o : Outcome). codeIn (answerAfterwards o) ≡ 255) _ (tickOf sequence state e readBack answer) (λ s a q. refl))
 
 pub not-alwaysEnds : ¬ Demand2 checkOf alwaysEnds
 not-alwaysEnds =
     not-all-ended checkOf alwaysEnds (all-accepted .1)
-    (λ sequence state e readBack answer. instead-holds (λ (o : Outcome). codeIn (answerAfterwards o) ≡ 0) _ (λ s a. refl) (tickOf sequence state e readBack answer))
+    (λ sequence state e readBack answer.
+    instead-holds (λ (o : Outcome). codeIn (answerAfterwards o) ≡ 0) _ (tickOf sequence state e readBack answer) (λ s a q. refl))
+
+-- the state of an instant is a whole record, so that its first byte is there
+after-sized : (sequence state : List ℕ) (e readBack : ℕ) (answer : List ℕ) → number (tickOf sequence state e readBack answer) ≡ 0
+    → length (stateAfterwards (tickOf sequence state e readBack answer)) ≡ stateLength
+after-sized sequence state e readBack answer z =
+    let i = instant-shown sequence state e readBack answer z .2 in
+    ap length (i .4 .moved) ∙ length-state (stateAfter (gives (i .0) (i .1) (i .2) (i .3)))
+
+labels-of : (state state′ : List ℕ) → length state′ ≡ stateLength → labelsIn (take labelsAt state′ ++ drop labelsAt state) ≡ labelsIn state
+labels-of state [] h = absurd (omega (arith, h))
+labels-of state (x ∷ xs) h = refl
 
 pub not-leavesLabels : ¬ Demand2 checkOf leavesLabels
-unfolding encodeState leBytes only
-not-leavesLabels d =
-    let y = rw (first-ticks .1) at (waiting-shown checkOf leavesLabels (all-accepted .1) d .moved) in
-    let z : _≡_ {A = ℕ} 0 1 = ap (λ (l : List ℕ). getD l 1 0) y in
-    omega arith
+not-leavesLabels =
+    not-labels-left checkOf leavesLabels (all-accepted .1)
+    (λ sequence state e readBack answer.
+    instead-holds (λ (o : Outcome). labelsIn (stateAfterwards o) ≡ labelsIn state) _ (tickOf sequence state e readBack answer)
+    (λ s a q. labels-of state s (ap (λ (o : Outcome). length (stateAfterwards o)) (sym q) ∙ after-sized sequence state e readBack answer (ap number q))))
 
 pub not-appendsZero : ¬ Demand2 checkOf appendsZero
 not-appendsZero d =
-    let y = rw (first-ticks .0) at (ended-shown checkOf appendsZero (all-accepted .0) d .sized) in
+    let y = rw first-tick at (ended-shown checkOf appendsZero (all-accepted .0) d .sized) in
     omega arith
 
 pub not-countsNone : ¬ Demand2 checkOf countsNone
 unfolding leNumber reactionsBy
 not-countsNone d =
-    let y = rw (first-ticks .0) at (ended-shown checkOf countsNone (all-accepted .0) d .counted) in
+    let y = rw first-tick at (ended-shown checkOf countsNone (all-accepted .0) d .counted) in
     omega arith
 
 pub not-turnsDown : (tick : Tick) → ¬ Demand1 turnsDown tick
@@ -241,7 +255,7 @@ not-turnsDown tick = not-all-turned-down turnsDown tick (λ sequence readBack z.
 
 pub not-saysOver : ¬ Demand1 checkOf saysOver
 not-saysOver =
-    let n : number (saysOver ends cleared 0 none buffer) ≡ 12 = rw (first-ticks .0) in
+    let n : number (saysOver ends cleared 0 none buffer) ≡ 12 = rw first-tick in
     not-over-to-fresh checkOf saysOver (ends, cleared, 0, none, buffer, refl, n)
 
 pub not-repeatsFirst : ¬ Demand3 checkOf repeatsFirst
