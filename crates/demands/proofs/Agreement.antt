@@ -23,12 +23,12 @@ use Rattle.sequence.specs.Program.{readBackSignals, program}
 use Rattle.sequence.specs.Check.{checkOf}
 use Rattle.sequence.specs.Rows.{Spells}
 use Rattle.numbers.specs.Bytes.{leBytes}
-use Rattle.states.specs.StateRecord.{holds, encodeState, phaseIn}
+use Rattle.states.specs.StateRecord.{holds, encodeState, phaseIn, Recorded}
 use Rattle.answers.specs.AnswerRecord.{answerLength}
 use Rattle.demands.specs.Tick.{Outcome, outcome, byState, replied, tickOf}
 use Rattle.demands.specs.Paper.{Call, Report, turnedDown, phaseOf, reportOf, paperTick, paper}
 use Rattle.demands.specs.Demands.{stateAfterwards, outcomes, cleared, report, Demand3}
-use Rattle.states.proofs.StateLaws.{Recorded, length-state, decode-encode}
+use Rattle.states.proofs.StateLaws.{length-state, decode-encode}
 use Rattle.demands.proofs.Reports.{report-written}
 use Rattle.demands.proofs.Bounds.{emitted-below}
 use Rattle.demands.proofs.ErrorPlaces.{place-fits}

@@ -18,13 +18,13 @@ use Rattle.sequence.specs.Program.{program}
 use Rattle.sequence.specs.Check.{checkOf}
 use Rattle.sequence.proofs.Rows.{check-by-rows}
 use Rattle.numbers.specs.Bytes.{leNumber}
-use Rattle.states.specs.StateRecord.{stateLength, Decoded, encodeState, decodeState, phaseIn, labelsIn}
+use Rattle.states.specs.StateRecord.{stateLength, Decoded, encodeState, decodeState, phaseIn, labelsIn, Recorded}
 use Rattle.answers.specs.AnswerRecord.{answerLength}
 use Rattle.demands.specs.Tick.{Outcome, outcome, Reply, refused, reacts, byState, replyOf, replied, tickBy, tickOf}
 use Rattle.demands.specs.TickRows.{Malformed, phase-above, labels-fresh, labels-over, not-valid}
 use Rattle.demands.specs.Paper.{Call}
 use Rattle.demands.specs.Demands.{number, stateAfterwards, outcomes, Admitted, Demand1, cleared}
-use Rattle.states.proofs.StateLaws.{Recorded, length-state, decode-encode}
+use Rattle.states.proofs.StateLaws.{length-state, decode-encode}
 use Rattle.demands.proofs.TickRows.{Reading, reads-fresh, reads-waiting, reads-over, reads-malformed, reading, well-formed, tick-by-rows}
 use Rattle.demands.proofs.Sequence.{same-statement, Accepted, accepted, tick-at, tick-short, recorded-fresh, recorded-resumed}
 

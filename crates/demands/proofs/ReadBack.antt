@@ -14,7 +14,7 @@ use Rattle.esterel.specs.Expansion.{expand}
 use Rattle.esterel.specs.Resume.{start}
 use Rattle.esterel.specs.Machines.{State}
 use Rattle.esterel.specs.ReadBack.{membersFrom, declared}
-use Rattle.theory.proofs.ReadBack.{members-none, expand-declared, AgreeOutside, declared-unread}
+use Rattle.theory.proofs.ReadBack.{members-none, expand-declared, declared-unread}
 use Rattle.limits.specs.Limits.{maxBytes, maxDepth, maxSignals, signalCount, readBackPlace}
 use Rattle.sequence.specs.Reader.{Read, accepted, refused, read}
 use Rattle.esterel.specs.Ceiling.{nesting}
@@ -24,7 +24,7 @@ use Rattle.sequence.proofs.Sound as reader
 use Rattle.states.specs.StateRecord.{stateLength, Decoded, holds, malformed, decodeState}
 use Rattle.answers.specs.AnswerRecord.{answerLength}
 use Rattle.demands.specs.Tick.{outcome, Reply, reacts, byState, byCheck, replyOf, replied, tickBy, tickOf}
-use Rattle.demands.specs.Plain.{plainAfterRead, plainChecked, plainByCheck, plainTick}
+use Rattle.demands.specs.Plain.{plainAfterRead, plainChecked, plainByCheck, plainTick, SameOutside}
 
 -- ---- an empty set
 pub none-declared : (p : Statement) → program none p ≡ p
@@ -56,10 +56,6 @@ plain-tick sequence state e answer =
     go (sound p) = rw (none-declared p)
 
 -- ---- the host's status of a read-back signal
--- two inputs that agree on every signal that is not read back
-abbrev pub SameOutside : (readBack e e′ : ℕ) → Type 0
-SameOutside readBack e e′ = AgreeOutside (readBackSignals readBack) e e′
-
 start-unread : (readBack : ℕ) (p : Statement) (e e′ : ℕ) → SameOutside readBack e e′
     → start (program readBack p) e ≡ start (program readBack p) e′
 start-unread readBack p = declared-unread readBackPlace (readBackSignals readBack) p

@@ -16,8 +16,8 @@ use Rattle.esterel.specs.Expansion.{expand}
 use Rattle.esterel.specs.Errors.{Error}
 use Rattle.esterel.specs.Reactions.{reactions}
 use Rattle.esterel.specs.Ceiling.{commands, loopNesting, ceiling}
-use Rattle.esterel.specs.Machines.{State, stateAfter}
-use Rattle.theory.proofs.Theorems.{ReactionOf, of-statement, of-expansion, FromValid, stable}
+use Rattle.esterel.specs.Machines.{State, stateAfter, ReactionOf, of-statement, of-expansion, FromValid}
+use Rattle.theory.proofs.Theorems.{stable}
 use Rattle.limits.specs.Limits.{labelCount, maxBytes, maxDepth, maxSignals, placeBytes, takenBytes, readBackPlace}
 use Rattle.theory.proofs.ReadBack.{source-declared, distinct-declared, targeted-declared, wellFormed-declared, valid-declared}
 use Rattle.theory.proofs.Ceiling.{fresh-below, resumed-below, ceiling-within, commands-declared, loops-declared, nesting-declared}
@@ -31,14 +31,13 @@ use Rattle.sequence.proofs.Extents.{extent, few-signals}
 use Rattle.sequence.proofs.Writer.{reads-what-is-written}
 use Rattle.sequence.proofs.Source.{spells-source}
 use Rattle.sequence.proofs.Rows.{Decides, decided, row-range}
-use Rattle.states.specs.StateRecord.{stateLength, Decoded, decodeState}
+use Rattle.states.specs.StateRecord.{stateLength, Decoded, decodeState, Recorded}
 use Rattle.answers.specs.AnswerRecord.{answerLength}
 use Rattle.demands.specs.Tick.{outcome, byState, replyOf, replied, tickBy, tickOf}
 use Rattle.demands.specs.PlaceNamed.{PlaceNamed, of-loop, of-signal, of-declaration}
 use Rattle.demands.proofs.Bounds.{Bounded, below-number, ranged-bounded, bounded-expand, bounded-declared, valid-below}
 use Rattle.demands.proofs.ErrorPlaces.{PlacesBelow, errors-expand}
 use Rattle.demands.proofs.Offsets.{program-errors}
-use Rattle.states.proofs.StateLaws.{Recorded}
 
 -- bytes spell at most one statement
 pub same-statement : (sequence : List ℕ) (p q : Statement) → Spells sequence p → Spells sequence q → p ≡ q

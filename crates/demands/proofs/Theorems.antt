@@ -31,7 +31,7 @@ use Rattle.demands.specs.Bays.{Bay, table, ShowsBay}
 use Rattle.demands.specs.Worked.{ShowsRuns}
 use Rattle.demands.specs.Suspended.{suspendRuns}
 use Rattle.demands.specs.FirstErrors.{firstErrorRuns}
-use Rattle.demands.specs.Plain.{plainChecked, plainTick}
+use Rattle.demands.specs.Plain.{plainChecked, plainTick, SameOutside}
 use Rattle.demands.specs.ReadBack.{readBackRuns}
 use Rattle.demands.specs.Dearest.{hundredBytes}
 use Rattle.demands.proofs.Sequence as sequence
@@ -48,7 +48,6 @@ use Rattle.demands.proofs.Bays as bays
 use Rattle.demands.proofs.Suspended as suspends
 use Rattle.demands.proofs.FirstErrors as firsts
 use Rattle.demands.proofs.ReadBack as reads
-use Rattle.demands.proofs.ReadBack.{SameOutside}
 use Rattle.demands.proofs.ReadBackRuns as read-back-runs
 use Rattle.demands.proofs.Ceiling as ceilings
 

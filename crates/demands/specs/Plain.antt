@@ -1,13 +1,16 @@
--- The check and the tick as they were before there were read-back sets (02, item 4), to compare with: an empty set gives them.
+-- What a read-back set is compared with: the check and the tick as they were before there was one (02, item 4), which an empty set
+-- gives, and inputs that differ in read-back signals only (item 5).
 use Prim.Native.Nat.{ℕ}
 use mathlib.Core.Bool.{_&&_, cond}
 use mathlib.Core.List.{List}
 use lib.ListN.{length}
 use lib.Dec.{eqb, leb, ltb}
 use Rattle.esterel.specs.Reaction.{inheritanceFirst}
+use Rattle.esterel.specs.ReadBack.{AgreeOutside}
 use Rattle.limits.specs.Limits.{maxBytes}
 use Rattle.sequence.specs.Reader as Reader
 use Rattle.sequence.specs.Reader.{Read, accepted, readAll}
+use Rattle.sequence.specs.Program.{readBackSignals}
 use Rattle.sequence.specs.Check.{Checked, sound, bad, labelRules}
 use Rattle.states.specs.StateRecord.{stateLength, decodeState}
 use Rattle.answers.specs.AnswerRecord.{answerLength}
@@ -29,3 +32,7 @@ unfoldable pub plainTick : (sequence state : List ℕ) (e : ℕ) (answer : List 
 plainTick sequence state e answer =
     cond (eqb (length state) stateLength && eqb (length answer) answerLength) (replied (plainByCheck (plainChecked sequence) state e) state answer)
     (outcome 1 state answer)
+
+-- two inputs that agree on every signal that is not read back
+abbrev pub SameOutside : (readBack e e′ : ℕ) → Type 0
+SameOutside readBack e e′ = AgreeOutside (readBackSignals readBack) e e′

@@ -8,6 +8,7 @@ use Rattle.esterel.specs.Statement.{Statement, nothing, pause, emit, exi
 use Rattle.esterel.specs.Reaction.{Code, ended, waiting, leaving, wrong, Reaction, gives, react}
 use Rattle.esterel.specs.Errors.{Error, firstError, blame}
 use Rattle.esterel.specs.Reactions.{reactions}
+use Rattle.esterel.specs.States.{Valid}
 use Rattle.esterel.specs.Expansion.{expand}
 
 -- 01: code 1 gives phase 1 (waiting), every other code phase 2 (over)
@@ -67,6 +68,22 @@ byLabels p State.fresh e = (seen (react p e) (firstError p e) (reactions p e), s
 byLabels p (State.waits L) e =
     (seen (react (expand p L) e) (firstError (expand p L) e) (reactions (expand p L) e), stateAfter (react (expand p L) e))
 byLabels p State.over e = (refused, State.over)
+
+-- fresh, over, or waiting at a valid set
+abbrev pub ValidState : Statement → State → Type 0
+ValidState p State.fresh = Unit {0}
+ValidState p (State.waits L) = Valid p L
+ValidState p State.over = Unit {0}
+
+-- A reaction of p itself, or of an expansion of p.
+pub data ReactionOf (p : Statement) (e : ℕ) : Reaction → Type 0 where
+  of-statement : ReactionOf p e (react p e)
+  of-expansion : (L : ℕ) → ReactionOf p e (react (expand p L) e)
+
+-- if anything was resumed, a valid set
+abbrev pub FromValid : (p : Statement) (e : ℕ) {r : Reaction} → ReactionOf p e r → Type 0
+FromValid p e of-statement = Unit {0}
+FromValid p e (of-expansion L) = Valid p L
 
 -- ---- by rewriting
 pub data Rewriting : Type 0 where

@@ -3,10 +3,10 @@
 use Prim.Native.Nat.{ℕ, zero, suc}
 use mathlib.Core.Path.{_≡_, refl}
 use mathlib.Core.Bool.{Bool, true, false}
-use mathlib.Core.List.{List, [], _∷_}
+use mathlib.Core.List.{List, [], _∷_, List·Memᴰ}
 use Rattle.esterel.specs.Sets.{member, none, only, join, insert, remove}
 use Rattle.esterel.specs.Statement.{reported, Statement, nothing, emit, seq, present, signal}
-use Rattle.esterel.specs.Reaction.{ended, gives, failed, reactBy, react}
+use Rattle.esterel.specs.Reaction.{ended, waiting, gives, code, residual, failed, reactBy, react}
 use Rattle.esterel.specs.Errors.{errorsBy, errors, notReactive, notDeterministic}
 use Rattle.esterel.specs.Reactions.{reactionsBy}
 use Rattle.esterel.specs.Asked.{askedBy}
@@ -25,6 +25,15 @@ membersFrom (suc n) i s = keepIf (member i s) i (membersFrom n (suc i) s)
 unfoldable pub declared : (a : ℕ) → List ℕ → Statement → Statement
 declared a [] p = p
 declared a (s ∷ ss) p = signal reported a s (declared a ss p)
+
+-- two present sets that agree on every signal that is not in the list
+abbrev pub AgreeOutside : List ℕ → (e e′ : ℕ) → Type 0
+AgreeOutside ss e e′ = (i : ℕ) → ¬ List·Memᴰ i ss → member i e ≡ member i e′
+
+-- t is what remains of p after code 1, under the same declarations
+abbrev pub RemainsUnder : (a : ℕ) → List ℕ → Statement → Statement → Type 0
+RemainsUnder a ss p t =
+    (e : ℕ) × (code (react p e) ≡ waiting) × (t ≡ declared a ss (residual (react p e)))
 
 -- ---- by computation
 -- emit 0; present 0 then emit 1: both are reported, and the test sees what was emitted

@@ -1,6 +1,7 @@
 -- Label sets as states of a statement (01, 'States and resuming'; 002, sections 3.4 and 4.1), and 01's rules on labels.
 use Prim.Native.Nat.{ℕ}
 use mathlib.Core.Path.{_≡_}
+use mathlib.Core.Logic.{_⊎_}
 use mathlib.Core.Bool.{Bool, true, false, _||_}
 use Rattle.esterel.specs.Sets.{member}
 use Rattle.esterel.specs.Statement.{Statement, nothing, pause, emit, exit, seq, par, loop, present, signal, try, setpause, suspend, held}
@@ -25,6 +26,17 @@ active (try p) L = active p L
 active (setpause l) L = false
 active (suspend s p) L = active p L
 active (held s K p) L = false
+
+-- active in 01's words: a pause whose label is in the set
+abbrev pub Awake : Statement → ℕ → Type 0
+Awake p L = (l : ℕ) × (member l L ≡ true) × Holds p (pause l)
+
+-- a pause or a setpause with label l at the place a
+abbrev pub Stop : Statement → ℕ → Place → Type 0
+Stop p l a = At (pause l) a p ⊎ At (setpause l) a p
+
+abbrev pub Stops : Statement → ℕ → Type 0
+Stops p l = (a : Place) × Stop p l a
 
 -- 01: not empty, each label has a pause, and those pauses are pairwise compatible
 pub record Valid (p : Statement) (L : ℕ) : Type 0 where

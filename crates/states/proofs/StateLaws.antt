@@ -1,24 +1,17 @@
 -- What a state record holds: a state that was written is read again.
-use Prim.Native.Nat.{ℕ, suc, _^_, _<_}
+use Prim.Native.Nat.{ℕ, suc}
 use mathlib.Core.Path.{_≡_, refl, ap}
 use mathlib.Core.Bool.{cond}
 use lib.ListN.{length}
 use Rattle.esterel.specs.Sets.{none}
 use Rattle.esterel.specs.Statement.{Statement}
-use Rattle.esterel.specs.States.{Valid}
 use Rattle.esterel.specs.LabelTests.{valid}
 use Rattle.esterel.specs.Machines.{State}
 use Rattle.theory.proofs.LabelTests.{valid-is}
 use Rattle.limits.specs.Limits.{labelBytes}
 use Rattle.numbers.specs.Bytes.{leBytes, leNumber}
 use Rattle.numbers.proofs.Bytes.{length-leBytes, le-round-trip}
-use Rattle.states.specs.StateRecord.{stateLength, stateRecord, encodeState, holds, malformed, decodeState}
-
--- ---- states: valid, with labels that fit the record
-abbrev pub Recorded : Statement → State → Type 0
-Recorded p State.fresh = Unit {0}
-Recorded p (State.waits L) = Valid p L × (L < 256 ^ labelBytes)
-Recorded p State.over = Unit {0}
+use Rattle.states.specs.StateRecord.{stateLength, stateRecord, encodeState, holds, malformed, decodeState, Recorded}
 
 -- ---- lengths
 pub state-sized : (phase labels : ℕ) → length (stateRecord phase labels) ≡ stateLength

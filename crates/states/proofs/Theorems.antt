@@ -3,8 +3,7 @@ use mathlib.Core.Path.{_≡_}
 use lib.ListN.{length}
 use Rattle.esterel.specs.Statement.{Statement}
 use Rattle.esterel.specs.Machines.{State}
-use Rattle.states.specs.StateRecord.{stateLength, encodeState, holds, decodeState}
-use Rattle.states.proofs.StateLaws.{Recorded}
+use Rattle.states.specs.StateRecord.{stateLength, encodeState, holds, decodeState, Recorded}
 use Rattle.states.proofs.StateLaws as laws
 
 -- a valid state whose labels fit

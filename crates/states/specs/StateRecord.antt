@@ -1,11 +1,12 @@
 -- The state record as bytes (01, 'States and resuming'; 02, item 7): phase (0 fresh, 1 waiting, 2 over), then the label set.
-use Prim.Native.Nat.{ℕ, _+_}
+use Prim.Native.Nat.{ℕ, _+_, _^_, _<_}
 use mathlib.Core.Bool.{_&&_, cond}
 use mathlib.Core.List.{List, _∷_}
 use lib.ListN.{getD, take, drop}
 use lib.Dec.{eqb}
 use Rattle.esterel.specs.Sets.{none}
 use Rattle.esterel.specs.Statement.{Statement}
+use Rattle.esterel.specs.States.{Valid}
 use Rattle.esterel.specs.LabelTests.{valid}
 use Rattle.esterel.specs.Machines.{State}
 use Rattle.limits.specs.Limits.{labelBytes}
@@ -50,3 +51,9 @@ decode p phase labels =
 
 unfoldable pub decodeState : Statement → List ℕ → Decoded
 decodeState p state = decode p (phaseIn state) (labelsIn state)
+
+-- a valid state, with labels that fit the record
+abbrev pub Recorded : Statement → State → Type 0
+Recorded p State.fresh = Unit {0}
+Recorded p (State.waits L) = Valid p L × (L < 256 ^ labelBytes)
+Recorded p State.over = Unit {0}

@@ -8,7 +8,7 @@ use borrow.Author.Tests.{eqb-true}
 use Rattle.esterel.specs.Sets.{member, none, only, join}
 use Rattle.esterel.specs.Statement.{Statement, nothing, pause, emit, exit, seq, par, loop, present, signal, try, setpause, suspend, held}
 use Rattle.esterel.specs.Places.{Part, PartOf, seq₁, seq₂, par₁, par₂, loop₁, present₁, present₂, signal₁, try₁, suspend₁, Place, At}
-use Rattle.esterel.specs.States.{Holds, active}
+use Rattle.esterel.specs.States.{Holds, active, Awake}
 use Rattle.esterel.specs.Expansion.{expand}
 use Rattle.esterel.specs.LabelTests.{Joint, labelsOf, pauses, activeLabels}
 use Rattle.theory.proofs.Booleans.{or-l, or-r, or-cases, never, clash}
@@ -19,10 +19,7 @@ use Rattle.theory.proofs.LabelSets.{in-none, same-test, same-set}
 use Rattle.theory.proofs.SetAlgebra.{and-join}
 use Rattle.theory.proofs.LabelTests.{pauses-is}
 
--- ---- active in 01's words: a pause whose label is in the set
-abbrev pub Awake : Statement → ℕ → Type 0
-Awake p L = (l : ℕ) × (member l L ≡ true) × Holds p (pause l)
-
+-- ---- active in 01's words
 awake-in : {d : Part} {c p : Statement} (L : ℕ) → PartOf d c p → Awake c L → Awake p L
 awake-in L i w = (w .0, w .1, holds-in (pause (w .0)) i (w .2))
 

@@ -6,9 +6,9 @@ use mathlib.Core.List.{List, [], _∷_}
 use Rattle.esterel.specs.Sets.{none}
 use Rattle.esterel.specs.Statement.{Statement}
 use Rattle.esterel.specs.Reaction.{ended, waiting, leaving, wrong, Reaction, gives, react}
-use Rattle.esterel.specs.States.{Valid, Distinct, Targeted, NoSetpause, Source, WellFormed}
+use Rattle.esterel.specs.States.{Distinct, Targeted, NoSetpause, Source, WellFormed}
 use Rattle.esterel.specs.Expansion.{expand}
-use Rattle.esterel.specs.Machines.{Seen, Machine, run, reached, State, stateAfter, byLabels, Rewriting, termAfter, byRewriting}
+use Rattle.esterel.specs.Machines.{Seen, Machine, run, reached, State, stateAfter, byLabels, ValidState, Rewriting, termAfter, byRewriting}
 use Rattle.theory.proofs.Invariant.{Fits}
 use Rattle.theory.proofs.Residual.{Remains, residual-fresh, residual-resumed}
 use Rattle.theory.proofs.Stability.{SoundLabels, labels-fresh, labels-resumed, together-none, sound-valid}
@@ -64,11 +64,6 @@ module _ (p : Statement) (source : Source p) (distinct : Distinct p) (plain : No
   agree = simulation (byLabels p) byRewriting (TermOf p) step
 
 -- ---- a machine by labels is fresh, over, or waits at a valid set
-abbrev pub ValidState : Statement → State → Type 0
-ValidState p State.fresh = Unit {0}
-ValidState p (State.waits L) = Valid p L
-ValidState p State.over = Unit {0}
-
 module _ (p : Statement) (source : Source p) (distinct : Distinct p) (targeted : Targeted p) (formed : WellFormed p) where
   state-after : (S : ℕ) → Together p S → (r : Reaction) → Fits (SoundLabels S) p r → ValidState p (stateAfter r)
   state-after S w (gives o ended L t) h = tt

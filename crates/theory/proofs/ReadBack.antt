@@ -13,12 +13,12 @@ use Rattle.esterel.specs.Sets.{member, none, join, insert, remove}
 use Rattle.esterel.specs.Statement.{reported, Statement, signal, setpause, held}
 use Rattle.esterel.specs.Reaction.{waiting, Reaction, code, residual, Case, both, neither, only−, only+, inherited, inheritanceFirst, caseOf, answer, reactBy, react}
 use Rattle.esterel.specs.Places.{Place, signal₁, At}
-use Rattle.esterel.specs.States.{Holds, NoSetpause, Source}
+use Rattle.esterel.specs.States.{Holds, Stops, NoSetpause, Source}
 use Rattle.esterel.specs.Expansion.{expand}
 use Rattle.esterel.specs.LabelTests.{labelsOf, everyLabel, before, distinct, targeted, wellFormed, valid}
 use Rattle.esterel.specs.Asked.{askedBy, asked}
 use Rattle.esterel.specs.Resume.{start, instantOf}
-use Rattle.esterel.specs.ReadBack.{keepIf, membersFrom, declared}
+use Rattle.esterel.specs.ReadBack.{keepIf, membersFrom, declared, AgreeOutside, RemainsUnder}
 use Rattle.theory.proofs.Booleans.{and-true, and-false}
 use Rattle.theory.proofs.Sets.{member-none, member-remove}
 use Rattle.theory.proofs.LabelSets.{in-join}
@@ -62,10 +62,6 @@ expand-declared a [] p L = refl
 expand-declared a (s ∷ ss) p L = ap (signal reported a s) (expand-declared a ss p L)
 
 -- ---- REWRITING: what remains after code 1 is under the same declarations
-abbrev pub RemainsUnder : (a : ℕ) → List ℕ → Statement → Statement → Type 0
-RemainsUnder a ss p t =
-    (e : ℕ) × (code (react p e) ≡ waiting) × (t ≡ declared a ss (residual (react p e)))
-
 remains-in : (a s : ℕ) (ss : List ℕ) (p : Statement) (c : Case) (r− r+ : Reaction)
     → (code r− ≡ waiting → RemainsUnder a ss p (residual r−)) → (code r+ ≡ waiting → RemainsUnder a ss p (residual r+))
     → code (answer c reported a s r− r+) ≡ waiting → RemainsUnder a (s ∷ ss) p (residual (answer c reported a s r− r+))
@@ -87,10 +83,6 @@ remains-declared a (s ∷ ss) p e h =
     (remains-declared a ss p (remove s e)) (remains-declared a ss p (insert s e)) h
 
 -- ---- the host's status of a declared signal is not read
--- two present sets that agree on every other signal
-abbrev pub AgreeOutside : List ℕ → (e e′ : ℕ) → Type 0
-AgreeOutside ss e e′ = (i : ℕ) → ¬ List·Memᴰ i ss → member i e ≡ member i e′
-
 -- whoever asks inside a declaration of s for s asks for the declared one
 asked-other : (s i b : ℕ) → member i (remove s b) ≡ true → (member i b ≡ true) × (eqb s i ≡ false)
 asked-other s i b h = go (member i b) (eqb s i) (sym (member-remove s b i) ∙ h)

@@ -11,7 +11,7 @@ use Rattle.esterel.specs.Sets.{member, none, only, join}
 use Rattle.esterel.specs.Statement.{Statement, pause, setpause, par}
 use Rattle.esterel.specs.Reaction.{react}
 use Rattle.esterel.specs.Places.{Part, first, second, PartOf, seq₁, seq₂, par₁, par₂, loop₁, present₁, present₂, signal₁, try₁, suspend₁, Place, At, Exclusive, Compatible}
-use Rattle.esterel.specs.States.{Holds, active, Valid, Distinct, Targeted, Source, WellFormed}
+use Rattle.esterel.specs.States.{Holds, active, Stop, Stops, Valid, Distinct, Targeted, Source, WellFormed}
 use Rattle.esterel.specs.Expansion.{expand}
 use Rattle.esterel.specs.LabelTests.{activeLabels}
 use Rattle.theory.proofs.Booleans.{or-l, or-cases}
@@ -19,13 +19,6 @@ use Rattle.theory.proofs.Sets.{member-join, member-none, member-only}
 use Rattle.theory.proofs.Places.{compatible-part, compatible-sides, compatible-sides′, source-part, Together, together-part}
 use Rattle.theory.proofs.Activity.{active-is, activeLabels-is, activeLabels-inside}
 use Rattle.theory.proofs.Invariant.{Kept, Stopped, Fits, fresh-fits, resumed-fits}
-
--- a pause or a setpause with label l at the place a
-abbrev pub Stop : Statement → ℕ → Place → Type 0
-Stop p l a = At (pause l) a p ⊎ At (setpause l) a p
-
-abbrev pub Stops : Statement → ℕ → Type 0
-Stops p l = (a : Place) × Stop p l a
 
 -- stops with labels k and l at compatible places
 abbrev pub Meet : Statement → ℕ → ℕ → Type 0

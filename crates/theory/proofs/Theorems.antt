@@ -15,38 +15,33 @@ use Rattle.esterel.specs.Asked.{asked, asks}
 use Rattle.esterel.specs.SignalOrders.{overlap}
 use Rattle.esterel.specs.Rules.{Reacts}
 use Rattle.esterel.specs.Ceiling.{commands, nesting, ceiling, LoopFree, dearest}
-use Rattle.esterel.specs.States.{Holds, active, Valid, Distinct, Targeted, NoSetpause, Source, WellFormed}
+use Rattle.esterel.specs.States.{Holds, active, Awake, Stops, Valid, Distinct, Targeted, NoSetpause, Source, WellFormed}
 use Rattle.esterel.specs.Expansion.{expand}
 use Rattle.esterel.specs.LabelTests.{activeLabels}
 use Rattle.esterel.specs.Ranks.{mask, labelsBy}
 use Rattle.esterel.specs.Resume.{instant, start, suspendInstant, askedOf, startTree, signalOnce, expandBy, resume, resumeTree}
-use Rattle.esterel.specs.ReadBack.{declared}
-use Rattle.esterel.specs.Machines.{run, reached, State, byLabels, Rewriting, byRewriting, erase}
+use Rattle.esterel.specs.ReadBack.{declared, AgreeOutside, RemainsUnder}
+use Rattle.esterel.specs.Machines.{run, reached, State, byLabels, ValidState, ReactionOf, of-statement, of-expansion, FromValid, Rewriting, byRewriting, erase}
 use Rattle.theory.proofs.Booleans.{never, clash, Tested, tested}
 use Rattle.theory.proofs.Rules.{wrong-is}
 use Rattle.theory.proofs.SignalOrders.{kept, wrong-iff-error, same-first, unchanged, overlap-wrong}
 use Rattle.theory.proofs.Reactions.{rules-used, reactions-kept}
 use Rattle.theory.proofs.Ceiling as ceilings
 use Rattle.theory.proofs.Dearest as dearests
-use Rattle.theory.proofs.Activity.{Awake, active-is, activeLabels-is, expand-suspend}
+use Rattle.theory.proofs.Activity.{active-is, activeLabels-is, expand-suspend}
 use Rattle.theory.proofs.Invariant.{Fits}
 use Rattle.theory.proofs.Residual.{Remains, residual-fresh, residual-resumed}
 use Rattle.theory.proofs.Places.{Together}
-use Rattle.theory.proofs.Stability.{Stops, SoundLabels, labels-fresh, labels-resumed, together-none, sound-valid}
+use Rattle.theory.proofs.Stability.{SoundLabels, labels-fresh, labels-resumed, together-none, sound-valid}
 use Rattle.theory.proofs.Ranks.{none-is, labels-by}
 use Rattle.theory.proofs.Trees.{start-held}
 use Rattle.theory.proofs.Resume.{expand-by}
-use Rattle.theory.proofs.ReadBack.{expand-declared, RemainsUnder, remains-declared, AgreeOutside, declared-unread}
+use Rattle.theory.proofs.ReadBack.{expand-declared, remains-declared, declared-unread}
 use Rattle.theory.proofs.Asked.{unasked, one-run, one-run-signal, asks-is}
-use Rattle.theory.proofs.Agreement.{ValidState, agree, valid-reached}
+use Rattle.theory.proofs.Agreement.{agree, valid-reached}
 use Rattle.theory.proofs.Erasure.{erased-reaction, erased-errors, erased-reactions, erased-run}
 
--- A reaction of p itself, or of an expansion of p.
-pub data ReactionOf (p : Statement) (e : ℕ) : Reaction → Type 0 where
-  of-statement : ReactionOf p e (react p e)
-  of-expansion : (L : ℕ) → ReactionOf p e (react (expand p L) e)
-
--- what one induction shows of both
+-- what one induction shows of a reaction of p and of one of an expansion
 both-fit : (K : Statement → ℕ → Statement → Type 0) (p : Statement) (e : ℕ) {r : Reaction}
     → Fits K p (react p e) → ((L : ℕ) → Fits K p (react (expand p L) e)) → ReactionOf p e r → Fits K p r
 both-fit K p e f g of-statement = f
@@ -60,11 +55,6 @@ resumedFrom p e (of-expansion L) = L
 sound-labels : (p : Statement) (e : ℕ) {r : Reaction} (x : ReactionOf p e r) → Fits (SoundLabels (resumedFrom p e x)) p r
 sound-labels p e of-statement = labels-fresh none p e
 sound-labels p e (of-expansion L) = labels-resumed p L e
-
--- if anything was resumed, a valid set
-abbrev pub FromValid : (p : Statement) (e : ℕ) {r : Reaction} → ReactionOf p e r → Type 0
-FromValid p e of-statement = Unit {0}
-FromValid p e (of-expansion L) = Valid p L
 
 were-together : (p : Statement) (e : ℕ) {r : Reaction} (x : ReactionOf p e r) → FromValid p e x → Together p (resumedFrom p e x)
 were-together p e of-statement v = together-none p
