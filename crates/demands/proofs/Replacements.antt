@@ -8,7 +8,7 @@ use borrow.Author.Tests.{eq-eqb}
 use Rattle.esterel.specs.Sets.{none, only, member, join}
 use Rattle.esterel.specs.Statement.{nothing, pause, emit, seq, setpause}
 use Rattle.esterel.specs.Reaction.{ended, waiting, gives, reactBy}
-use Rattle.esterel.specs.Rules.{Reacts}
+use Rattle.esterel.specs.Rules.{Reacts, ReactsBy}
 use Rattle.esterel.specs.Errors.{errorsBy}
 use Rattle.esterel.specs.Reactions.{reactionsBy}
 use Rattle.esterel.specs.Places.{seq₁, seq₂, Place, At}
@@ -121,12 +121,12 @@ not-over-to-fresh check tick (sequence, state, e, readBack, answer, x, n) d =
 ended-shown : (check : Check) (tick : Tick) → check ends none ≡ 0 → Demand2 check tick
     → Shows nothing 0 none ended none nothing (tick ends cleared 0 none buffer)
 ended-shown check tick h d =
-    d .shows ends cleared 0 none buffer h refl refl nothing stands-ends none ended none nothing Reacts.nothing
+    d .shows ends cleared 0 none buffer h refl refl nothing stands-ends none ended none nothing ReactsBy.nothing
 
 waiting-shown : (check : Check) (tick : Tick) → check waits none ≡ 0 → Demand2 check tick
     → Shows (pause 0) 0 none waiting (only 0) nothing (tick waits cleared 0 none buffer)
 waiting-shown check tick h d =
-    d .shows waits cleared 0 none buffer h refl refl (pause 0) stands-waits none waiting (only 0) nothing Reacts.pause
+    d .shows waits cleared 0 none buffer h refl refl (pause 0) stands-waits none waiting (only 0) nothing ReactsBy.pause
 
 not-all-wrong : (check : Check) (tick : Tick) → check ends none ≡ 0 → AllWrong tick → ¬ Demand2 check tick
 not-all-wrong check tick h k d =

@@ -6,7 +6,7 @@ use mathlib.Core.Bool.{cond}
 use Rattle.esterel.specs.Sets.{member, none, only, join, insert, remove}
 use Rattle.esterel.specs.Statement.{local, reported, Statement, nothing, pause, emit, exit, seq, par, loop, present, signal, try, setpause, suspend, held}
 use Rattle.esterel.specs.Reaction.{Reaction, code, Order, inheritanceFirst, reactBy}
-use Rattle.esterel.specs.Rules.{Reacts}
+use Rattle.esterel.specs.Rules.{ReactsBy}
 use Rattle.esterel.specs.Errors.{ifEnded}
 
 unfoldable pub askedBy : Order → Statement → ℕ → ℕ
@@ -28,29 +28,29 @@ abbrev pub asked : Statement → ℕ → ℕ
 asked = askedBy inheritanceFirst
 
 -- ---- the same on derivations: the signals whose status the rules used test, but those that a declaration hides
-unfoldable pub asks : {p : Statement} {e : ℕ} {r : Reaction} → Reacts p e r → ℕ
-asks Reacts.nothing = none
-asks Reacts.pause = none
-asks Reacts.exit = none
-asks Reacts.emit = none
-asks (Reacts.loop d n) = asks d
-asks (Reacts.loop-error d z) = asks d
-asks (Reacts.parallel d d₂) = join (asks d) (asks d₂)
-asks (Reacts.present+ {s = s} i d) = insert s (asks d)
-asks (Reacts.present− {s = s} i d) = insert s (asks d)
-asks (Reacts.try-catch d) = asks d
-asks (Reacts.try-through d n) = asks d
-asks (Reacts.sequence-p d n) = asks d
-asks (Reacts.sequence-q d d₂) = join (asks d) (asks d₂)
-asks (Reacts.signal++ {s = s} d− i− d+ i+ n) = remove s (join (asks d−) (asks d+))
-asks (Reacts.signal−− {s = s} d− i− d+ i+ n) = remove s (join (asks d−) (asks d+))
-asks (Reacts.signal+− {s = s} d− i− d+ i+ n) = remove s (join (asks d−) (asks d+))
-asks (Reacts.signal−+ {s = s} d− i− d+ i+ n) = remove s (join (asks d−) (asks d+))
-asks (Reacts.signal∞ {s = s} d− d+ w) = remove s (join (asks d−) (asks d+))
-asks Reacts.setpause = none
-asks (Reacts.suspend d) = asks d
-asks (Reacts.held+ {s = s} i) = insert s none
-asks (Reacts.held− {s = s} i d) = insert s (asks d)
+unfoldable pub asks : {ord : Order} {p : Statement} {e : ℕ} {r : Reaction} → ReactsBy ord p e r → ℕ
+asks ReactsBy.nothing = none
+asks ReactsBy.pause = none
+asks ReactsBy.exit = none
+asks ReactsBy.emit = none
+asks (ReactsBy.loop d n) = asks d
+asks (ReactsBy.loop-error d z) = asks d
+asks (ReactsBy.parallel d d₂) = join (asks d) (asks d₂)
+asks (ReactsBy.present+ {s = s} i d) = insert s (asks d)
+asks (ReactsBy.present− {s = s} i d) = insert s (asks d)
+asks (ReactsBy.try-catch d) = asks d
+asks (ReactsBy.try-through d n) = asks d
+asks (ReactsBy.sequence-p d n) = asks d
+asks (ReactsBy.sequence-q d d₂) = join (asks d) (asks d₂)
+asks (ReactsBy.signal++ {s = s} d− i− d+ i+ n) = remove s (join (asks d−) (asks d+))
+asks (ReactsBy.signal−− {s = s} d− i− d+ i+ n) = remove s (join (asks d−) (asks d+))
+asks (ReactsBy.signal+− {s = s} d− i− d+ i+ n) = remove s (join (asks d−) (asks d+))
+asks (ReactsBy.signal−+ {s = s} d− i− d+ i+ n) = remove s (join (asks d−) (asks d+))
+asks (ReactsBy.signal∞ {s = s} d− d+ w) = remove s (join (asks d−) (asks d+))
+asks ReactsBy.setpause = none
+asks (ReactsBy.suspend d) = asks d
+asks (ReactsBy.held+ {s = s} i) = insert s none
+asks (ReactsBy.held− {s = s} i d) = insert s (asks d)
 
 -- ---- by computation
 -- a test of signal s, and nothing more

@@ -7,7 +7,7 @@ use mathlib.Core.List.{List, [], _∷_, _++_, head?}
 use Rattle.esterel.specs.Sets.{member, insert, remove}
 use Rattle.esterel.specs.Statement.{Statement, nothing, pause, emit, exit, seq, par, loop, present, signal, try, setpause, suspend, held}
 use Rattle.esterel.specs.Reaction.{Code, ended, waiting, leaving, wrong, Reaction, code, Case, both, neither, only−, only+, inherited, Order, inheritanceFirst, caseOf, reactBy}
-use Rattle.esterel.specs.Rules.{Reacts}
+use Rattle.esterel.specs.Rules.{ReactsBy}
 
 pub record Error : Type 0 where
   pub kind : ℕ
@@ -80,26 +80,26 @@ blame wrong (some x) = x
 blame wrong Option.none = noError
 
 -- ---- the same on derivations: one error for each use of loop-error, signal+− and signal−+, in the same order
-unfoldable pub uses : {p : Statement} {e : ℕ} {r : Reaction} → Reacts p e r → List Error
-uses Reacts.nothing = []
-uses Reacts.pause = []
-uses Reacts.exit = []
-uses Reacts.emit = []
-uses (Reacts.loop d n) = uses d
-uses (Reacts.loop-error {a = a} d z) = uses d ++ (instantaneous a ∷ [])
-uses (Reacts.parallel d d₂) = uses d ++ uses d₂
-uses (Reacts.present+ i d) = uses d
-uses (Reacts.present− i d) = uses d
-uses (Reacts.try-catch d) = uses d
-uses (Reacts.try-through d n) = uses d
-uses (Reacts.sequence-p d n) = uses d
-uses (Reacts.sequence-q d d₂) = uses d ++ uses d₂
-uses (Reacts.signal++ d− i− d+ i+ n) = uses d− ++ uses d+
-uses (Reacts.signal−− d− i− d+ i+ n) = uses d− ++ uses d+
-uses (Reacts.signal+− {a = a} d− i− d+ i+ n) = uses d− ++ uses d+ ++ (notReactive a ∷ [])
-uses (Reacts.signal−+ {a = a} d− i− d+ i+ n) = uses d− ++ uses d+ ++ (notDeterministic a ∷ [])
-uses (Reacts.signal∞ d− d+ w) = uses d− ++ uses d+
-uses Reacts.setpause = []
-uses (Reacts.suspend d) = uses d
-uses (Reacts.held+ i) = []
-uses (Reacts.held− i d) = uses d
+unfoldable pub uses : {ord : Order} {p : Statement} {e : ℕ} {r : Reaction} → ReactsBy ord p e r → List Error
+uses ReactsBy.nothing = []
+uses ReactsBy.pause = []
+uses ReactsBy.exit = []
+uses ReactsBy.emit = []
+uses (ReactsBy.loop d n) = uses d
+uses (ReactsBy.loop-error {a = a} d z) = uses d ++ (instantaneous a ∷ [])
+uses (ReactsBy.parallel d d₂) = uses d ++ uses d₂
+uses (ReactsBy.present+ i d) = uses d
+uses (ReactsBy.present− i d) = uses d
+uses (ReactsBy.try-catch d) = uses d
+uses (ReactsBy.try-through d n) = uses d
+uses (ReactsBy.sequence-p d n) = uses d
+uses (ReactsBy.sequence-q d d₂) = uses d ++ uses d₂
+uses (ReactsBy.signal++ d− i− d+ i+ n) = uses d− ++ uses d+
+uses (ReactsBy.signal−− d− i− d+ i+ n) = uses d− ++ uses d+
+uses (ReactsBy.signal+− {a = a} d− i− d+ i+ n) = uses d− ++ uses d+ ++ (notReactive a ∷ [])
+uses (ReactsBy.signal−+ {a = a} d− i− d+ i+ n) = uses d− ++ uses d+ ++ (notDeterministic a ∷ [])
+uses (ReactsBy.signal∞ d− d+ w) = uses d− ++ uses d+
+uses ReactsBy.setpause = []
+uses (ReactsBy.suspend d) = uses d
+uses (ReactsBy.held+ i) = []
+uses (ReactsBy.held− i d) = uses d

@@ -6,7 +6,7 @@ use mathlib.Core.Bool.{cond}
 use Rattle.esterel.specs.Sets.{member, none, only, join, insert, remove}
 use Rattle.esterel.specs.Statement.{local, Statement, nothing, pause, emit, exit, seq, par, loop, present, signal, try, setpause, suspend, held}
 use Rattle.esterel.specs.Reaction.{Reaction, code, Order, inheritanceFirst, reactBy}
-use Rattle.esterel.specs.Rules.{Reacts}
+use Rattle.esterel.specs.Rules.{ReactsBy}
 use Rattle.esterel.specs.Errors.{ifEnded}
 use Rattle.esterel.specs.States.{active}
 use Rattle.esterel.specs.LabelTests.{labelsOf, activeLabels}
@@ -31,29 +31,29 @@ abbrev pub reactions : Statement → ℕ → ℕ
 reactions = reactionsBy inheritanceFirst
 
 -- ---- the same on derivations: one for each use of a rule
-unfoldable pub rulesUsed : {p : Statement} {e : ℕ} {r : Reaction} → Reacts p e r → ℕ
-rulesUsed Reacts.nothing = 1
-rulesUsed Reacts.pause = 1
-rulesUsed Reacts.exit = 1
-rulesUsed Reacts.emit = 1
-rulesUsed (Reacts.loop d n) = 1 + rulesUsed d
-rulesUsed (Reacts.loop-error d z) = 1 + rulesUsed d
-rulesUsed (Reacts.parallel d d₂) = 1 + rulesUsed d + rulesUsed d₂
-rulesUsed (Reacts.present+ i d) = 1 + rulesUsed d
-rulesUsed (Reacts.present− i d) = 1 + rulesUsed d
-rulesUsed (Reacts.try-catch d) = 1 + rulesUsed d
-rulesUsed (Reacts.try-through d n) = 1 + rulesUsed d
-rulesUsed (Reacts.sequence-p d n) = 1 + rulesUsed d
-rulesUsed (Reacts.sequence-q d d₂) = 1 + rulesUsed d + rulesUsed d₂
-rulesUsed (Reacts.signal++ d− i− d+ i+ n) = 1 + rulesUsed d− + rulesUsed d+
-rulesUsed (Reacts.signal−− d− i− d+ i+ n) = 1 + rulesUsed d− + rulesUsed d+
-rulesUsed (Reacts.signal+− d− i− d+ i+ n) = 1 + rulesUsed d− + rulesUsed d+
-rulesUsed (Reacts.signal−+ d− i− d+ i+ n) = 1 + rulesUsed d− + rulesUsed d+
-rulesUsed (Reacts.signal∞ d− d+ w) = 1 + rulesUsed d− + rulesUsed d+
-rulesUsed Reacts.setpause = 1
-rulesUsed (Reacts.suspend d) = 1 + rulesUsed d
-rulesUsed (Reacts.held+ i) = 1
-rulesUsed (Reacts.held− i d) = 1 + rulesUsed d
+unfoldable pub rulesUsed : {ord : Order} {p : Statement} {e : ℕ} {r : Reaction} → ReactsBy ord p e r → ℕ
+rulesUsed ReactsBy.nothing = 1
+rulesUsed ReactsBy.pause = 1
+rulesUsed ReactsBy.exit = 1
+rulesUsed ReactsBy.emit = 1
+rulesUsed (ReactsBy.loop d n) = 1 + rulesUsed d
+rulesUsed (ReactsBy.loop-error d z) = 1 + rulesUsed d
+rulesUsed (ReactsBy.parallel d d₂) = 1 + rulesUsed d + rulesUsed d₂
+rulesUsed (ReactsBy.present+ i d) = 1 + rulesUsed d
+rulesUsed (ReactsBy.present− i d) = 1 + rulesUsed d
+rulesUsed (ReactsBy.try-catch d) = 1 + rulesUsed d
+rulesUsed (ReactsBy.try-through d n) = 1 + rulesUsed d
+rulesUsed (ReactsBy.sequence-p d n) = 1 + rulesUsed d
+rulesUsed (ReactsBy.sequence-q d d₂) = 1 + rulesUsed d + rulesUsed d₂
+rulesUsed (ReactsBy.signal++ d− i− d+ i+ n) = 1 + rulesUsed d− + rulesUsed d+
+rulesUsed (ReactsBy.signal−− d− i− d+ i+ n) = 1 + rulesUsed d− + rulesUsed d+
+rulesUsed (ReactsBy.signal+− d− i− d+ i+ n) = 1 + rulesUsed d− + rulesUsed d+
+rulesUsed (ReactsBy.signal−+ d− i− d+ i+ n) = 1 + rulesUsed d− + rulesUsed d+
+rulesUsed (ReactsBy.signal∞ d− d+ w) = 1 + rulesUsed d− + rulesUsed d+
+rulesUsed ReactsBy.setpause = 1
+rulesUsed (ReactsBy.suspend d) = 1 + rulesUsed d
+rulesUsed (ReactsBy.held+ i) = 1
+rulesUsed (ReactsBy.held− i d) = 1 + rulesUsed d
 
 -- ---- by computation
 -- 06 01 00 and 06 0B 00 01 00, resumed: the made sequence, what had waited, and the loop begun again; stopped, the last takes 2

@@ -1,11 +1,12 @@
 -- The two orders of the signal cases compared (02, item 4): where two of the printed cases fit.
 use Prim.Native.Nat.{ℕ}
-use mathlib.Core.Path.{_≡_, refl}
-use mathlib.Core.Bool.{Bool, true, false, _&&_, _||_, cond}
+use mathlib.Core.Path.{_≡_, refl, ap}
+use mathlib.Core.Bool.{Bool, true, false, _&&_, _||_, cond, false≢true}
 use mathlib.Core.List.{[], _∷_}
 use Rattle.esterel.specs.Sets.{member, none, only, join, insert, remove}
 use Rattle.esterel.specs.Statement.{local, Statement, nothing, pause, emit, exit, seq, par, loop, present, signal, try, setpause, suspend, held}
 use Rattle.esterel.specs.Reaction.{ended, wrong, isWrong, Reaction, gives, emitted, code, failed, printed, reactBy, react}
+use Rattle.esterel.specs.Rules.{ReactsBy, Reacts}
 use Rattle.esterel.specs.Errors.{ifEnded, errorsBy, errors, instantaneous, notReactive}
 
 -- 02: 'a signal whose body emitted in both runs with at least one run wrong'
@@ -43,6 +44,18 @@ two-fit : (code (reactBy printed twofold 0) ≡ ended)
 unfolding reactBy errorsBy overlap member none only join insert remove
 two-fit = (refl, refl, refl, refl, refl)
 
+-- derived with code 0 by the printed rules, whose signal++ does not ask for the codes; wrong by 02's
+twofold-derived : ReactsBy printed twofold 0 (gives 0 ended 0 (signal local 0 0 nothing)) × Reacts twofold 0 failed
+unfolding member none only join insert remove
+twofold-derived = (
+  ReactsBy.signal++ {o− = 1} {o+ = 1}
+      (ReactsBy.sequence-q ReactsBy.emit (ReactsBy.present− refl (ReactsBy.loop-error ReactsBy.nothing refl))) refl
+      (ReactsBy.sequence-q ReactsBy.emit (ReactsBy.present+ refl ReactsBy.nothing)) refl tt,
+  ReactsBy.signal∞ {o− = 1} {o+ = 1}
+      (ReactsBy.sequence-q ReactsBy.emit (ReactsBy.present− refl (ReactsBy.loop-error ReactsBy.nothing refl)))
+      (ReactsBy.sequence-q ReactsBy.emit (ReactsBy.present+ refl ReactsBy.nothing)) refl,
+)
+
 -- an overlap in an instant that was wrong before: only what is emitted beside the error differs, and is not shown
 abbrev stillWrong : Statement
 stillWrong = signal local 0 0 (seq (emit 0) (seq (emit 1) (loop 8 nothing)))
@@ -63,6 +76,15 @@ one-more : (reactBy printed oneMore 0 ≡ react oneMore 0)
     × (overlap oneMore 0 ≡ false)
 unfolding reactBy errorsBy overlap member none only join insert remove
 one-more = (refl, refl, refl, refl)
+
+-- so it is by the printed rules: signal+− asks that the run with the signal is not wrong
+one-more-derived : ReactsBy printed oneMore 0 failed
+unfolding member none only join insert remove
+one-more-derived =
+    ReactsBy.signal+− {o− = 1} {o+ = 0}
+    (ReactsBy.parallel (ReactsBy.present− refl ReactsBy.emit) (ReactsBy.present− refl (ReactsBy.loop-error ReactsBy.nothing refl))) refl
+    (ReactsBy.parallel (ReactsBy.present+ refl ReactsBy.nothing) (ReactsBy.present+ refl ReactsBy.nothing)) refl
+    (λ h. false≢true (ap isWrong h))
 
 -- by the printed order a body may end though an error is in its tree: a loop around it errs after it
 errs-after : errorsBy printed (loop 0 (signal local 1 0 (seq (emit 0) (present 0 nothing (loop 9 nothing))))) 0

@@ -8,8 +8,8 @@ use lib.Dec.{eqb}
 use borrow.Author.Tests.{eqb-true, eq-eqb}
 use Rattle.esterel.specs.Sets.{member, none, join, insert, remove}
 use Rattle.esterel.specs.Statement.{Scope, Statement, nothing, pause, emit, exit, seq, par, loop, present, signal, try, setpause, suspend, held}
-use Rattle.esterel.specs.Reaction.{ended, waiting, leaving, wrong, Reaction, gives, code, inSeq, inSuspend, stopped, Order, inheritanceFirst, reactBy, react}
-use Rattle.esterel.specs.Rules.{Reacts}
+use Rattle.esterel.specs.Reaction.{ended, waiting, leaving, wrong, Reaction, gives, code, inSeq, inSuspend, stopped, Order, inheritanceFirst, reactBy}
+use Rattle.esterel.specs.Rules.{ReactsBy}
 use Rattle.esterel.specs.Errors.{ifEnded, errorsBy}
 use Rattle.esterel.specs.Reactions.{reactionsBy}
 use Rattle.esterel.specs.Asked.{askedBy, asked, asks}
@@ -168,29 +168,29 @@ one-run-signal s p e h sc a =
     ∙ once-is sc a s (startTree p (remove s e)) h
 
 -- ---- DERIVATIONS: what is asked for is what the rules used test
-pub asks-is : {p : Statement} {e : ℕ} {r : Reaction} (d : Reacts p e r) → asks d ≡ asked p e
+pub asks-is : {ord : Order} {p : Statement} {e : ℕ} {r : Reaction} (d : ReactsBy ord p e r) → asks d ≡ askedBy ord p e
 unfolding asks askedBy
-asks-is Reacts.nothing = refl
-asks-is Reacts.pause = refl
-asks-is Reacts.exit = refl
-asks-is Reacts.emit = refl
-asks-is (Reacts.loop d n) = asks-is d
-asks-is (Reacts.loop-error d z) = asks-is d
-asks-is (Reacts.parallel d d₂) = rw (asks-is d, asks-is d₂)
-asks-is (Reacts.present+ i d) = rw (i, asks-is d)
-asks-is (Reacts.present− i d) = rw (i, asks-is d)
-asks-is (Reacts.try-catch d) = asks-is d
-asks-is (Reacts.try-through d n) = asks-is d
-asks-is {e = e} (Reacts.sequence-p {k = k} {p = p} {q = q} d n) =
-    let j : ifEnded (code (react p e)) (asked q e) none ≡ none = rw (← sound d) (stays k (asked q e) none n) in
-    rw (j, asks-is d) (sym (join-none-r (asked p e)))
-asks-is (Reacts.sequence-q d d₂) = rw (asks-is d, asks-is d₂, ← sound d)
-asks-is (Reacts.signal++ d− i− d+ i+ n) = rw (asks-is d−, asks-is d+)
-asks-is (Reacts.signal−− d− i− d+ i+ n) = rw (asks-is d−, asks-is d+)
-asks-is (Reacts.signal+− d− i− d+ i+ n) = rw (asks-is d−, asks-is d+)
-asks-is (Reacts.signal−+ d− i− d+ i+ n) = rw (asks-is d−, asks-is d+)
-asks-is (Reacts.signal∞ d− d+ w) = rw (asks-is d−, asks-is d+)
-asks-is Reacts.setpause = refl
-asks-is (Reacts.suspend d) = asks-is d
-asks-is (Reacts.held+ i) = rw i
-asks-is (Reacts.held− i d) = rw (i, asks-is d)
+asks-is ReactsBy.nothing = refl
+asks-is ReactsBy.pause = refl
+asks-is ReactsBy.exit = refl
+asks-is ReactsBy.emit = refl
+asks-is (ReactsBy.loop d n) = asks-is d
+asks-is (ReactsBy.loop-error d z) = asks-is d
+asks-is (ReactsBy.parallel d d₂) = rw (asks-is d, asks-is d₂)
+asks-is (ReactsBy.present+ i d) = rw (i, asks-is d)
+asks-is (ReactsBy.present− i d) = rw (i, asks-is d)
+asks-is (ReactsBy.try-catch d) = asks-is d
+asks-is (ReactsBy.try-through d n) = asks-is d
+asks-is {ord} {e = e} (ReactsBy.sequence-p {k = k} {p = p} {q = q} d n) =
+    let j : ifEnded (code (reactBy ord p e)) (askedBy ord q e) none ≡ none = rw (← sound d) (stays k (askedBy ord q e) none n) in
+    rw (j, asks-is d) (sym (join-none-r (askedBy ord p e)))
+asks-is (ReactsBy.sequence-q d d₂) = rw (asks-is d, asks-is d₂, ← sound d)
+asks-is (ReactsBy.signal++ d− i− d+ i+ n) = rw (asks-is d−, asks-is d+)
+asks-is (ReactsBy.signal−− d− i− d+ i+ n) = rw (asks-is d−, asks-is d+)
+asks-is (ReactsBy.signal+− d− i− d+ i+ n) = rw (asks-is d−, asks-is d+)
+asks-is (ReactsBy.signal−+ d− i− d+ i+ n) = rw (asks-is d−, asks-is d+)
+asks-is (ReactsBy.signal∞ d− d+ w) = rw (asks-is d−, asks-is d+)
+asks-is ReactsBy.setpause = refl
+asks-is (ReactsBy.suspend d) = asks-is d
+asks-is (ReactsBy.held+ i) = rw i
+asks-is (ReactsBy.held− i d) = rw (i, asks-is d)

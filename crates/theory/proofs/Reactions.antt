@@ -8,8 +8,8 @@ use native.Mathlib.Nat.{le-refl}
 use native.Mathlib.Omega.{arith}
 use Rattle.esterel.specs.Sets.{member, insert, remove}
 use Rattle.esterel.specs.Statement.{Statement, nothing, pause, emit, exit, seq, par, loop, present, signal, try, setpause, suspend, held}
-use Rattle.esterel.specs.Reaction.{Code, ended, waiting, leaving, wrong, isWrong, Reaction, code, printed, reactBy, react}
-use Rattle.esterel.specs.Rules.{Reacts}
+use Rattle.esterel.specs.Reaction.{Code, ended, waiting, leaving, wrong, isWrong, Reaction, code, Order, printed, reactBy, react}
+use Rattle.esterel.specs.Rules.{ReactsBy}
 use Rattle.esterel.specs.Errors.{ifEnded}
 use Rattle.esterel.specs.Reactions.{reactionsBy, reactions, rulesUsed}
 use Rattle.esterel.specs.SignalOrders.{overlaps, overlap}
@@ -69,33 +69,33 @@ stays (leaving m) x y n = refl
 stays wrong x y n = refl
 
 -- TREE: one reaction for each use of a rule
-pub rules-used : {p : Statement} {e : ℕ} {r : Reaction} (d : Reacts p e r) → rulesUsed d ≡ reactions p e
+pub rules-used : {ord : Order} {p : Statement} {e : ℕ} {r : Reaction} (d : ReactsBy ord p e r) → rulesUsed d ≡ reactionsBy ord p e
 unfolding rulesUsed reactionsBy
-rules-used Reacts.nothing = refl
-rules-used Reacts.pause = refl
-rules-used Reacts.exit = refl
-rules-used Reacts.emit = refl
-rules-used (Reacts.loop d n) = rw (rules-used d)
-rules-used (Reacts.loop-error d z) = rw (rules-used d)
-rules-used (Reacts.parallel d d₂) = rw (rules-used d, rules-used d₂)
-rules-used (Reacts.present+ i d) = rw (i, rules-used d)
-rules-used (Reacts.present− i d) = rw (i, rules-used d)
-rules-used (Reacts.try-catch d) = rw (rules-used d)
-rules-used (Reacts.try-through d n) = rw (rules-used d)
-rules-used {e = e} (Reacts.sequence-p {k = k} {p = p} {q = q} d n) =
+rules-used ReactsBy.nothing = refl
+rules-used ReactsBy.pause = refl
+rules-used ReactsBy.exit = refl
+rules-used ReactsBy.emit = refl
+rules-used (ReactsBy.loop d n) = rw (rules-used d)
+rules-used (ReactsBy.loop-error d z) = rw (rules-used d)
+rules-used (ReactsBy.parallel d d₂) = rw (rules-used d, rules-used d₂)
+rules-used (ReactsBy.present+ i d) = rw (i, rules-used d)
+rules-used (ReactsBy.present− i d) = rw (i, rules-used d)
+rules-used (ReactsBy.try-catch d) = rw (rules-used d)
+rules-used (ReactsBy.try-through d n) = rw (rules-used d)
+rules-used {ord} {e = e} (ReactsBy.sequence-p {k = k} {p = p} {q = q} d n) =
     let i = rules-used d in
-    let j : ifEnded (code (react p e)) (reactions q e) 0 ≡ 0 = rw (← sound d) (stays k (reactions q e) 0 n) in
+    let j : ifEnded (code (reactBy ord p e)) (reactionsBy ord q e) 0 ≡ 0 = rw (← sound d) (stays k (reactionsBy ord q e) 0 n) in
     omega arith
-rules-used (Reacts.sequence-q d d₂) = rw (rules-used d, rules-used d₂, ← sound d)
-rules-used (Reacts.signal++ d− i− d+ i+ n) = rw (rules-used d−, rules-used d+)
-rules-used (Reacts.signal−− d− i− d+ i+ n) = rw (rules-used d−, rules-used d+)
-rules-used (Reacts.signal+− d− i− d+ i+ n) = rw (rules-used d−, rules-used d+)
-rules-used (Reacts.signal−+ d− i− d+ i+ n) = rw (rules-used d−, rules-used d+)
-rules-used (Reacts.signal∞ d− d+ w) = rw (rules-used d−, rules-used d+)
-rules-used Reacts.setpause = refl
-rules-used (Reacts.suspend d) = rw (rules-used d)
-rules-used (Reacts.held+ i) = rw i
-rules-used (Reacts.held− i d) = rw (i, rules-used d)
+rules-used (ReactsBy.sequence-q d d₂) = rw (rules-used d, rules-used d₂, ← sound d)
+rules-used (ReactsBy.signal++ d− i− d+ i+ n) = rw (rules-used d−, rules-used d+)
+rules-used (ReactsBy.signal−− d− i− d+ i+ n) = rw (rules-used d−, rules-used d+)
+rules-used (ReactsBy.signal+− d− i− d+ i+ n) = rw (rules-used d−, rules-used d+)
+rules-used (ReactsBy.signal−+ d− i− d+ i+ n) = rw (rules-used d−, rules-used d+)
+rules-used (ReactsBy.signal∞ d− d+ w) = rw (rules-used d−, rules-used d+)
+rules-used ReactsBy.setpause = refl
+rules-used (ReactsBy.suspend d) = rw (rules-used d)
+rules-used (ReactsBy.held+ i) = rw i
+rules-used (ReactsBy.held− i d) = rw (i, rules-used d)
 
 -- ---- orders of the signal rules
 same-on : (k : Code) (x : Bool) {n m : ℕ} → (x ≡ false → n ≡ m) → ifEnded k x false ≡ false → ifEnded k n 0 ≡ ifEnded k m 0

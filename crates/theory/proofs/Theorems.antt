@@ -1,29 +1,31 @@
--- The theorems of this crate in the words of the papers, each a line or two over the files beside it. Others stand
--- where they are proved: `reacts-is` of Rules (003, corollary 11), `uses-is` and `first-use` of Derivations, `figure-5` of Figure5.
+-- The theorems of this crate in the words of the papers, each a line or two over the files beside it.
 use Prim.Native.Nat.{ℕ, _+_, _-_, _*_, _^_, _≤_, min}
 use mathlib.Core.Path.{_≡_, refl, ap, _∙_}
 use mathlib.Core.Logic.{_↔_, _≢_}
 use mathlib.Core.Bool.{true, false}
 use mathlib.Core.Option.{Option}
-use mathlib.Core.List.{List, [], _∷_}
+use mathlib.Core.List.{List, [], _∷_, head?}
 use Rattle.esterel.specs.Sets.{member, none, insert, remove}
 use Rattle.esterel.specs.Statement.{Scope, reported, Statement, pause, signal, suspend}
-use Rattle.esterel.specs.Reaction.{ended, waiting, leaving, wrong, Reaction, gives, emitted, code, labels, residual, isWrong, printed, inheritanceFirst, reactBy, react}
-use Rattle.esterel.specs.Errors.{errorsBy, errors, firstErrorBy, firstError}
+use Rattle.esterel.specs.Reaction.{ended, waiting, leaving, wrong, Reaction, gives, emitted, code, labels, residual, isWrong, Order, printed, inheritanceFirst, reactBy, react}
+use Rattle.esterel.specs.Errors.{errorsBy, errors, firstErrorBy, firstError, uses}
 use Rattle.esterel.specs.Reactions.{reactionsBy, reactions, rulesUsed}
-use Rattle.esterel.specs.Asked.{asked, asks}
+use Rattle.esterel.specs.Asked.{askedBy, asked, asks}
 use Rattle.esterel.specs.SignalOrders.{overlap}
-use Rattle.esterel.specs.Rules.{Reacts}
+use Rattle.esterel.specs.Rules.{ReactsBy, Reacts}
 use Rattle.esterel.specs.Ceiling.{commands, nesting, ceiling, LoopFree, dearest}
 use Rattle.esterel.specs.States.{Holds, active, Awake, Stops, Valid, Distinct, Targeted, NoSetpause, Source, WellFormed}
-use Rattle.esterel.specs.Expansion.{expand}
+use Rattle.esterel.specs.Expansion.{expand, Expands, clause}
 use Rattle.esterel.specs.LabelTests.{activeLabels}
 use Rattle.esterel.specs.Ranks.{mask, labelsBy}
 use Rattle.esterel.specs.Resume.{instant, start, suspendInstant, askedOf, startTree, signalOnce, expandBy, resume, resumeTree}
 use Rattle.esterel.specs.ReadBack.{declared, AgreeOutside, RemainsUnder}
 use Rattle.esterel.specs.Machines.{run, reached, State, byLabels, ValidState, ReactionOf, of-statement, of-expansion, FromValid, Rewriting, byRewriting, erase}
 use Rattle.theory.proofs.Booleans.{never, clash, Tested, tested}
+use Rattle.theory.proofs.Rules as rules
 use Rattle.theory.proofs.Rules.{wrong-is}
+use Rattle.theory.proofs.Derivations as derivations
+use Rattle.theory.proofs.Figure5 as figure
 use Rattle.theory.proofs.SignalOrders.{kept, wrong-iff-error, same-first, unchanged, overlap-wrong}
 use Rattle.theory.proofs.Reactions.{rules-used, reactions-kept}
 use Rattle.theory.proofs.Ceiling as ceilings
@@ -59,6 +61,28 @@ sound-labels p e (of-expansion L) = labels-resumed p L e
 were-together : (p : Statement) (e : ℕ) {r : Reaction} (x : ReactionOf p e r) → FromValid p e x → Together p (resumedFrom p e x)
 were-together p e of-statement v = together-none p
 were-together p e (of-expansion L) v = v .together
+
+-- 0. RULES (003, corollary 11): the relation is the function, so that there is a derivation, and of one answer; and by 01's printed
+-- order of the signal rules
+pub reacts-is : (p : Statement) (e : ℕ) (r : Reaction) → Reacts p e r ↔ (r ≡ react p e)
+reacts-is = rules.reacts-is
+
+pub printed-is : (p : Statement) (e : ℕ) (r : Reaction) → ReactsBy printed p e r ↔ (r ≡ reactBy printed p e)
+printed-is = rules.reacts-by-is printed
+
+-- by either order, the errors are the uses of kinds 1, 2 and 3 in any derivation, and the first error is the first use
+pub uses-is : {ord : Order} {p : Statement} {e : ℕ} {r : Reaction} (d : ReactsBy ord p e r) → uses d ≡ errorsBy ord p e
+uses-is = derivations.uses-is
+
+pub first-use : {ord : Order} {p : Statement} {e : ℕ} {r : Reaction} (d : ReactsBy ord p e r) → head? (uses d) ≡ firstErrorBy ord p e
+first-use = derivations.first-use
+
+-- 002, figure 5: of a valid set it gives the expansion and nothing else, by one clause at each command
+pub figure-5 : (p : Statement) (L : ℕ) → Valid p L → (t : Statement) → Expands L p t ↔ (t ≡ expand p L)
+figure-5 = figure.figure-5
+
+pub figure-5-clause : {L : ℕ} {p t u : Statement} (d : Expands L p t) (d₂ : Expands L p u) → clause d ≡ clause d₂
+figure-5-clause = figure.figure-5-clause
 
 -- 1. RESIDUAL IS EXPANSION (002, theorem 6)
 pub residual-is-expansion : (p : Statement) → Source p → Distinct p → NoSetpause p → (e o l : ℕ) (t : Statement)
@@ -185,7 +209,7 @@ pub declared-not-read : (a : ℕ) (ss : List ℕ) (p : Statement) (e e′ : ℕ)
 declared-not-read = declared-unread
 
 -- 10. THE NUMBER OF REACTIONS (02, item 6) is that of the rules used in any derivation
-pub number-of-rules : {p : Statement} {e : ℕ} {r : Reaction} (d : Reacts p e r) → rulesUsed d ≡ reactions p e
+pub number-of-rules : {ord : Order} {p : Statement} {e : ℕ} {r : Reaction} (d : ReactsBy ord p e r) → rulesUsed d ≡ reactionsBy ord p e
 number-of-rules = rules-used
 
 -- it never exceeds the ceiling, fresh or resumed with any label set
@@ -201,7 +225,7 @@ pub dearest-product : (g n : ℕ) → let k = min g (n - 1) in dearest g n ≡ 2
 dearest-product = dearests.dearest-is
 
 -- 11. THE SIGNALS ASKED FOR are those that the rules used in any derivation test, a declaration hiding its own
-pub asked-is-tested : {p : Statement} {e : ℕ} {r : Reaction} (d : Reacts p e r) → asks d ≡ asked p e
+pub asked-is-tested : {ord : Order} {p : Statement} {e : ℕ} {r : Reaction} (d : ReactsBy ord p e r) → asks d ≡ askedBy ord p e
 asked-is-tested = asks-is
 
 -- two present sets that agree on them give the same reaction, errors, number of reactions and signals asked for
