@@ -3,7 +3,7 @@ use mathlib.Core.Path.{_≡_, refl}
 use mathlib.Core.List.{List, [], _∷_, map}
 use Prim.Native.Nat.{ℕ}
 use Rattle.esterel.specs.Sets.{member, none, only, join}
-use Rattle.esterel.specs.ReadBack.{membersFrom, declared}
+use Rattle.esterel.specs.ReadBack.{membersFrom, declaredBy}
 use Rattle.esterel.specs.LabelTests.{subset, disjoint, labelsOf, everyLabel, distinct, before, wellFormed}
 use Rattle.esterel.specs.Ceiling.{commands, loopNesting, nesting, ceiling}
 use Rattle.sequence.specs.Commands.{commandOf}
@@ -22,5 +22,5 @@ table =
     ∷ []
 
 examples : map (λ (x : List ℕ × ℕ × ℕ). ceilingOf (x .1) (checked (x .0) (x .1))) table ≡ map (λ (x : List ℕ × ℕ × ℕ). x .2) table
-unfolding checked read front commandOf ceiling commands loopNesting nesting declared membersFrom distinct wellFormed everyLabel before labelsOf subset disjoint member none only join
+unfolding checked read front commandOf ceiling commands loopNesting nesting declaredBy membersFrom distinct wellFormed everyLabel before labelsOf subset disjoint member none only join
 examples = refl

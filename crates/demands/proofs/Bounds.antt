@@ -16,7 +16,7 @@ use Rattle.esterel.specs.LabelTests.{activeLabels}
 use Rattle.esterel.specs.Expansion.{expand}
 use Rattle.theory.proofs.Booleans.{or-cases}
 use Rattle.theory.proofs.Sets.{member-none, member-only, member-join, member-remove, member-step, ext}
-use Rattle.esterel.specs.ReadBack.{declared}
+use Rattle.esterel.specs.ReadBack.{declaredBy, declared}
 use Rattle.limits.specs.Limits.{labelCount, signalCount, maxExit}
 use Rattle.sequence.specs.Writer.{Ranged}
 use Rattle.sequence.proofs.Source.{ranged-at}
@@ -178,7 +178,7 @@ emitted-below (held s K p) e h =
 
 -- ---- read-back declarations
 pub bounded-declared : (a : ℕ) (ss : List ℕ) (p : Statement) → Bounded p → Bounded (declared a ss p)
-unfolding declared
+unfolding declaredBy
 bounded-declared a [] p h = h
 bounded-declared a (s ∷ ss) p h = bounded-declared a ss p h
 

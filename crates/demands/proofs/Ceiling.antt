@@ -12,7 +12,7 @@ use Rattle.esterel.specs.Errors.{Error, firstError}
 use Rattle.esterel.specs.Reactions.{reactions}
 use Rattle.esterel.specs.Ceiling.{commands, nesting, ceiling, LoopFree, tries, triesButOne, hundred, hundred-takes}
 use Rattle.esterel.specs.LabelTests.{subset, disjoint, labelsOf, everyLabel, distinct, before, wellFormed}
-use Rattle.esterel.specs.ReadBack.{membersFrom, declared}
+use Rattle.esterel.specs.ReadBack.{membersFrom, declaredBy}
 use Rattle.esterel.specs.Resume.{instant}
 use Rattle.theory.proofs.Ceiling.{fresh-below, resumed-below}
 use Rattle.theory.proofs.Dearest.{hundred-fresh, hundred-resumed, hundred-free}
@@ -100,7 +100,7 @@ unfolding read front commandOf hundredBytes hundred tries triesButOne
 hundred-spelled = (reads-what-is-written hundredBytes hundred .0 refl, hundred-free, hundred-takes .0)
 
 hundred-accepted : checkOf hundredBytes none ≡ 0
-unfolding checkOf checked read front commandOf hundredBytes nesting declared membersFrom distinct wellFormed everyLabel before labelsOf subset disjoint member none only join
+unfolding checkOf checked read front commandOf hundredBytes nesting declaredBy membersFrom distinct wellFormed everyLabel before labelsOf subset disjoint member none only join
 hundred-accepted = refl
 
 cleared-labels : labelsIn cleared ≡ none

@@ -15,7 +15,7 @@ use Rattle.esterel.specs.Errors.{Error, instantaneous, notReactive, notDetermin
 use Rattle.esterel.specs.States.{active}
 use Rattle.esterel.specs.LabelTests.{activeLabels}
 use Rattle.esterel.specs.Expansion.{expand}
-use Rattle.esterel.specs.ReadBack.{declared}
+use Rattle.esterel.specs.ReadBack.{declaredBy, declared}
 use Rattle.limits.specs.Limits.{placeBytes}
 
 -- P holds of each error that a loop or a signal of p may make
@@ -68,7 +68,7 @@ module _ (P : Error → Type 0) where
   -- ---- under declarations at place a, if there are any
   pub errors-declared : (a : ℕ) (ss : List ℕ) (p : Statement) → (ss ≢ [] → P (notReactive a) × P (notDeterministic a))
       → AllErrors P p → AllErrors P (declared a ss p)
-  unfolding declared
+  unfolding declaredBy
   errors-declared a [] p f h = h
   errors-declared a (s ∷ ss) p f h =
       let g = f (λ z. absurd (omega (arith, ap length z))) in

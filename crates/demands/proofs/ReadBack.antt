@@ -13,7 +13,7 @@ use Rattle.esterel.specs.Reaction.{Order, inheritanceFirst}
 use Rattle.esterel.specs.Expansion.{expand}
 use Rattle.esterel.specs.Resume.{start}
 use Rattle.esterel.specs.Machines.{State}
-use Rattle.esterel.specs.ReadBack.{membersFrom, declared}
+use Rattle.esterel.specs.ReadBack.{membersFrom, declaredBy, declared}
 use Rattle.theory.proofs.ReadBack.{members-none, expand-declared, declared-unread}
 use Rattle.limits.specs.Limits.{maxBytes, maxDepth, maxSignals, signalCount, readBackPlace}
 use Rattle.sequence.specs.Reader.{Read, accepted, refused, read}
@@ -28,7 +28,7 @@ use Rattle.demands.specs.Plain.{plainAfterRead, plainChecked, plainByChe
 
 -- ---- an empty set
 pub none-declared : (p : Statement) → program none p ≡ p
-unfolding declared
+unfolding declaredBy
 none-declared p = ap (λ (ss : List ℕ). declared readBackPlace ss p) (members-none signalCount 0)
 
 plain-read : (bs : List ℕ) (r : Read) → read maxDepth maxSignals 0 bs ≡ r → afterRead none (length bs) r ≡ plainAfterRead (length bs) r

@@ -15,7 +15,7 @@ use Rattle.esterel.specs.Places.{seq₁, seq₂, Place, At}
 use Rattle.esterel.specs.States.{NoSetpause}
 use Rattle.esterel.specs.LabelTests.{subset, disjoint, labelsOf, everyLabel, distinct, before, wellFormed}
 use Rattle.sequence.specs.Commands.{commandOf}
-use Rattle.esterel.specs.ReadBack.{membersFrom, declared}
+use Rattle.esterel.specs.ReadBack.{membersFrom, declaredBy}
 use Rattle.sequence.specs.Reader.{front, read}
 use Rattle.esterel.specs.Ceiling.{nesting}
 use Rattle.sequence.specs.Check.{checkOf, checked}
@@ -78,7 +78,7 @@ unfolding read front commandOf
 spells-later = reads-what-is-written later (seq (pause 0) (emit 0)) .0 refl
 
 all-accepted : (checkOf ends none ≡ 0) × (checkOf waits none ≡ 0) × (checkOf later none ≡ 0)
-unfolding checkOf checked read front commandOf nesting declared membersFrom distinct wellFormed everyLabel before labelsOf subset disjoint member none only join
+unfolding checkOf checked read front commandOf nesting declaredBy membersFrom distinct wellFormed everyLabel before labelsOf subset disjoint member none only join
 all-accepted = (refl, refl, refl)
 
 -- a check that goes by the rows accepts what checkOf accepts
@@ -91,15 +91,15 @@ unfolding leNumber none
 cleared-labels = refl
 
 first-tick : tickOf ends cleared 0 none buffer ≡ outcome 0 (2 ∷ replicate 16 0) (replicate 8 0 ++ 1 ∷ replicate 3 0)
-unfolding tickBy checked read front commandOf nesting declared membersFrom distinct wellFormed everyLabel before labelsOf subset disjoint decodeState encodeState encodeAnswer leNumber leBytes reactBy errorsBy reactionsBy member none only join
+unfolding tickBy checked read front commandOf nesting declaredBy membersFrom distinct wellFormed everyLabel before labelsOf subset disjoint decodeState encodeState encodeAnswer leNumber leBytes reactBy errorsBy reactionsBy member none only join
 first-tick = refl
 
 stands-ends : StandsAt ends none cleared nothing
-unfolding declared membersFrom member none
+unfolding declaredBy membersFrom member none
 stands-ends = at-start spells-ends refl cleared-labels
 
 stands-waits : StandsAt waits none cleared (pause 0)
-unfolding declared membersFrom member none
+unfolding declaredBy membersFrom member none
 stands-waits = at-start spells-waits refl cleared-labels
 
 -- ---- demand 1, of every check or tick of the kind
@@ -162,7 +162,7 @@ two-calls = record { input = 0; buffer = buffer } ∷ record { input = 0; buffer
 on-paper : (codeTold (reportAt 0 (paper (Rewriting.fresh (program none (seq (pause 0) (emit 0)))) two-calls)) ≡ 1)
     × (phaseTold (reportAt 0 (paper (Rewriting.fresh (program none (seq (pause 0) (emit 0)))) two-calls)) ≡ 1)
     × (codeTold (reportAt 1 (paper (Rewriting.fresh (program none (seq (pause 0) (emit 0)))) two-calls)) ≡ 0)
-unfolding two-calls paper declared membersFrom reactBy errorsBy reactionsBy member none only join
+unfolding two-calls paper declaredBy membersFrom reactBy errorsBy reactionsBy member none only join
 on-paper = (refl, refl, refl)
 
 phase-told : (o : Outcome) → phaseTold (report o) ≡ phaseIn (stateAfterwards o)

@@ -6,7 +6,7 @@ use Rattle.esterel.specs.Sets.{member, none, only, join, insert, remove}
 use Rattle.esterel.specs.Statement.{local, Statement, nothing, pause, emit, exit, seq, par, loop, present, signal, try, setpause, suspend, held}
 use Rattle.esterel.specs.Reaction.{reactBy}
 use Rattle.esterel.specs.Reactions.{reactionsBy, reactions}
-use Rattle.esterel.specs.ReadBack.{declared}
+use Rattle.esterel.specs.ReadBack.{declaredBy, declared}
 
 -- the number of commands
 unfoldable pub commands : Statement → ℕ
@@ -106,5 +106,5 @@ hundred-takes = (refl, refl, refl, λ e. refl, refl)
 -- 06 01 00, whose resumed instant takes 4 (specs/Reactions); and read-back declarations count as commands and as signals
 ceilings-reached : (ceiling (loop 0 (pause 0)) ≡ 4) × (ceiling (loop 0 (suspend 0 (pause 0))) ≡ 6)
     × (ceiling (declared 65535 (0 ∷ 1 ∷ []) (loop 0 (loop 1 (pause 0)))) ≡ 60)
-unfolding ceiling commands loopNesting nesting declared
+unfolding ceiling commands loopNesting nesting declaredBy
 ceilings-reached = (refl, refl, refl)

@@ -10,6 +10,7 @@ use Rattle.esterel.specs.Errors.{Error, firstError, blame}
 use Rattle.esterel.specs.Reactions.{reactions}
 use Rattle.esterel.specs.States.{Valid}
 use Rattle.esterel.specs.Expansion.{expand}
+use Rattle.esterel.specs.ReadBack.{without}
 
 -- 01: code 1 gives phase 1 (waiting), every other code phase 2 (over)
 pub data Phase : Type 0 where
@@ -37,6 +38,11 @@ pub data Seen : Type 0 where
 -- from a reaction, the first error of its tree and the number of reactions in it
 abbrev pub seen : Reaction → Option Error → ℕ → Seen
 seen (gives o k l p′) x n = instant k (blame k x) (shown k o) n (phaseAfter k)
+
+-- the same with a set that lacks the signals of the list
+abbrev pub seenWithout : List ℕ → Seen → Seen
+seenWithout ss (instant k names shows taken after) = instant k names (without ss shows) taken after
+seenWithout ss refused = refused
 
 -- A machine: from its state and the input, what is seen and the next state.
 abbrev pub Machine : Type 0 → Type 0

@@ -5,8 +5,8 @@ use mathlib.Core.Path.{_≡_, refl}
 use mathlib.Core.Bool.{Bool, true, false}
 use mathlib.Core.List.{List, [], _∷_, List·Memᴰ}
 use Rattle.esterel.specs.Sets.{member, none, only, join, insert, remove}
-use Rattle.esterel.specs.Statement.{reported, Statement, nothing, emit, seq, present, signal}
-use Rattle.esterel.specs.Reaction.{ended, waiting, gives, code, residual, failed, reactBy, react}
+use Rattle.esterel.specs.Statement.{Scope, local, reported, Statement, nothing, emit, seq, present, signal}
+use Rattle.esterel.specs.Reaction.{ended, waiting, gives, emitted, code, residual, failed, reactBy, react}
 use Rattle.esterel.specs.Errors.{errorsBy, errors, notReactive, notDeterministic}
 use Rattle.esterel.specs.Reactions.{reactionsBy}
 use Rattle.esterel.specs.Asked.{askedBy}
@@ -21,10 +21,18 @@ unfoldable pub membersFrom : (n i s : ℕ) → List ℕ
 membersFrom zero i s = []
 membersFrom (suc n) i s = keepIf (member i s) i (membersFrom n (suc i) s)
 
--- p under a declaration at place a for each signal of the list, the first outermost
-unfoldable pub declared : (a : ℕ) → List ℕ → Statement → Statement
-declared a [] p = p
-declared a (s ∷ ss) p = signal reported a s (declared a ss p)
+-- p under a declaration at place a for each signal of the list, the first outermost; a read-back set's are reported
+unfoldable pub declaredBy : Scope → (a : ℕ) → List ℕ → Statement → Statement
+declaredBy sc a [] p = p
+declaredBy sc a (s ∷ ss) p = signal sc a s (declaredBy sc a ss p)
+
+abbrev pub declared : (a : ℕ) → List ℕ → Statement → Statement
+declared = declaredBy reported
+
+-- a set without the signals of the list
+unfoldable pub without : List ℕ → ℕ → ℕ
+without [] o = o
+without (s ∷ ss) o = remove s (without ss o)
 
 -- two present sets that agree on every signal that is not in the list
 abbrev pub AgreeOutside : List ℕ → (e e′ : ℕ) → Type 0
@@ -42,25 +50,36 @@ unfolding membersFrom member
 lowest-first = refl
 
 seen-and-reported : react (declared 9 (0 ∷ []) (seq (emit 0) (present 0 (emit 1) nothing))) 0 ≡ gives 3 ended 0 (signal reported 9 0 nothing)
-unfolding declared reactBy member none only join insert remove
+unfolding declaredBy reactBy member none only join insert remove
 seen-and-reported = refl
 
 -- the declarations err as every signal does, at their place
 emitted-if-absent : (react (declared 9 (0 ∷ []) (present 0 nothing (emit 0))) 0 ≡ failed)
     × (errors (declared 9 (0 ∷ []) (present 0 nothing (emit 0))) 0 ≡ notReactive 9 ∷ [])
     × (errors (declared 9 (0 ∷ []) (present 0 (emit 0) nothing)) 0 ≡ notDeterministic 9 ∷ [])
-unfolding declared reactBy errorsBy member none only join insert remove
+unfolding declaredBy reactBy errorsBy member none only join insert remove
 emitted-if-absent = (refl, refl, refl)
 
 -- 003, section 6.4: the order of two declarations matters
 order-matters : (react (declared 9 (0 ∷ 1 ∷ []) (present 0 (present 1 (emit 0) nothing) nothing)) 0
     ≡ gives 0 ended 0 (signal reported 9 0 (signal reported 9 1 nothing)))
     × (errors (declared 9 (0 ∷ 1 ∷ []) (present 1 (present 0 (emit 1) nothing) nothing)) 0 ≡ notDeterministic 9 ∷ [])
-unfolding declared reactBy errorsBy member none only join insert remove
+unfolding declaredBy reactBy errorsBy member none only join insert remove
 order-matters = (refl, refl)
 
 -- the host says that 0 is present: the test does not see it
 not-believed : startTree (declared 9 (0 ∷ []) (present 0 (emit 1) nothing)) 1
     ≡ startTree (declared 9 (0 ∷ []) (present 0 (emit 1) nothing)) 0
-unfolding declared reactBy errorsBy reactionsBy askedBy member none only join insert remove
+unfolding declaredBy reactBy errorsBy reactionsBy askedBy member none only join insert remove
 not-believed = refl
+
+-- The same declarations with scope `local`: the same tree but for what is emitted outside, one signal declared twice included.
+reported-and-local : (react (declared 9 (0 ∷ 1 ∷ []) (seq (emit 0) (seq (emit 2) (emit 1)))) 0
+    ≡ gives 7 ended 0 (signal reported 9 0 (signal reported 9 1 nothing)))
+    × (react (declaredBy local 9 (0 ∷ 1 ∷ []) (seq (emit 0) (seq (emit 2) (emit 1)))) 0
+    ≡ gives 4 ended 0 (signal local 9 0 (signal local 9 1 nothing)))
+    × (without (0 ∷ 1 ∷ []) 7 ≡ 4)
+    × (emitted (react (declared 9 (0 ∷ 0 ∷ []) (seq (emit 0) (emit 2))) 0) ≡ 5)
+    × (emitted (react (declaredBy local 9 (0 ∷ 0 ∷ []) (seq (emit 0) (emit 2))) 0) ≡ 4)
+unfolding declaredBy without reactBy member none only join insert remove
+reported-and-local = (refl, refl, refl, refl, refl)

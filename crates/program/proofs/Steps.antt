@@ -11,7 +11,7 @@ use Rattle.sets.specs.Sets.{insertBelow, Lowest}
 use Rattle.esterel.specs.Sets.{member, none, empty, remove}
 use Rattle.esterel.specs.Statement.{Statement, reported, signal}
 use Rattle.esterel.specs.Resume.{startTree, signalTree, signalOnce}
-use Rattle.esterel.specs.ReadBack.{membersFrom, declared}
+use Rattle.esterel.specs.ReadBack.{membersFrom, declaredBy, declared}
 use Rattle.theory.proofs.Booleans.{clash}
 use Rattle.theory.proofs.Sets.{member-high}
 use Rattle.theory.proofs.ReadBack.{members-none, members-lowest}
@@ -21,7 +21,7 @@ use Rattle.reaction.specs.Reactions.{reactionOf, FromOne, FromTwo}
 use Rattle.react.proofs.Steps.{here, signal-step, signal-once-step}
 
 none-declared : (readBack : ℕ) (t : Statement) → empty readBack ≡ true → program readBack t ≡ t
-unfolding declared
+unfolding declaredBy
 none-declared readBack t z =
     ap (λ (ss : List ℕ). declared readBackPlace ss t) (ap (membersFrom signalCount 0) (eqb-true readBack none z) ∙ members-none signalCount 0)
 
@@ -44,7 +44,7 @@ module _ (readBack x : ℕ) (fits : readBack < 2 ^ signalCount) (some : empty re
   first = members-lowest signalCount 0 readBack x (omega arith) (omega (arith, small)) found (low .least)
 
   declared-first : (t : Statement) → program readBack t ≡ signal reported readBackPlace x (program (remove x readBack) t)
-  unfolding declared
+  unfolding declaredBy
   declared-first t = ap (λ (ss : List ℕ). declared readBackPlace ss t) first
 
   module _ (t : Statement) (e : ℕ) {o e− : ℕ} {p r : Reaction} (ho : o ≡ remove x readBack) (less : e− ≡ remove x e)

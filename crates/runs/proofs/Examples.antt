@@ -6,7 +6,7 @@ use Rattle.esterel.specs.Errors.{errorsBy}
 use Rattle.esterel.specs.LabelTests.{subset, disjoint, labelsOf, everyLabel, distinct, before, wellFormed, valid}
 use Rattle.esterel.specs.States.{active}
 use Rattle.esterel.specs.Expansion.{expand}
-use Rattle.esterel.specs.ReadBack.{membersFrom, declared}
+use Rattle.esterel.specs.ReadBack.{membersFrom, declaredBy}
 use Rattle.sequence.specs.Commands.{commandOf}
 use Rattle.sequence.specs.Reader.{front, read}
 use Rattle.esterel.specs.Ceiling.{nesting}
@@ -21,9 +21,9 @@ use Rattle.runs.specs.Listing.{lineOf, rows, lines, listingOf}
 use Rattle.runs.specs.Examples.{exampleFile, exampleListing, readBackFile, readBackListing}
 
 pub example : listingOf exampleFile ≡ exampleListing
-unfolding listingOf fileOf sequenceIn readBackIn words inputsIn rows lines lineOf numeral numeralIn tickBy checkOf checked read front commandOf nesting declared membersFrom distinct wellFormed everyLabel before labelsOf subset disjoint valid active expand decodeState encodeState encodeAnswer leNumber leBytes reactBy errorsBy member none only join insert remove
+unfolding listingOf fileOf sequenceIn readBackIn words inputsIn rows lines lineOf numeral numeralIn tickBy checkOf checked read front commandOf nesting declaredBy membersFrom distinct wellFormed everyLabel before labelsOf subset disjoint valid active expand decodeState encodeState encodeAnswer leNumber leBytes reactBy errorsBy member none only join insert remove
 example = refl
 
 pub read-back : listingOf readBackFile ≡ readBackListing
-unfolding listingOf fileOf sequenceIn readBackIn words inputsIn rows lines lineOf numeral numeralIn tickBy checkOf checked read front commandOf nesting declared membersFrom distinct wellFormed everyLabel before labelsOf subset disjoint valid active expand decodeState encodeState encodeAnswer leNumber leBytes reactBy errorsBy member none only join insert remove
+unfolding listingOf fileOf sequenceIn readBackIn words inputsIn rows lines lineOf numeral numeralIn tickBy checkOf checked read front commandOf nesting declaredBy membersFrom distinct wellFormed everyLabel before labelsOf subset disjoint valid active expand decodeState encodeState encodeAnswer leNumber leBytes reactBy errorsBy member none only join insert remove
 read-back = refl

@@ -5,7 +5,7 @@ use mathlib.Core.List.{List, [], _∷_, _++_, map, flatten}
 use Prim.Native.Nat.{ℕ}
 use lib.ListN.{replicate}
 use Rattle.esterel.specs.Sets.{member, none, only, join}
-use Rattle.esterel.specs.ReadBack.{membersFrom, declared}
+use Rattle.esterel.specs.ReadBack.{membersFrom, declaredBy}
 use Rattle.esterel.specs.LabelTests.{subset, disjoint, labelsOf, everyLabel, distinct, before, wellFormed}
 use Rattle.sequence.specs.Commands.{commandOf}
 use Rattle.sequence.specs.Reader.{front, read}
@@ -102,5 +102,5 @@ readBackTable =
 -- THE TABLES
 pub examples : (map (λ (x : List ℕ × ℕ). checkOf (x .0) none) table ≡ map (λ (x : List ℕ × ℕ). x .1) table)
     × (map (λ (x : List ℕ × ℕ × ℕ). checkOf (x .0) (x .1)) readBackTable ≡ map (λ (x : List ℕ × ℕ × ℕ). x .2) readBackTable)
-unfolding checkOf checked read front commandOf nesting declared membersFrom flatten distinct wellFormed everyLabel before labelsOf subset disjoint member none only join
+unfolding checkOf checked read front commandOf nesting declaredBy membersFrom flatten distinct wellFormed everyLabel before labelsOf subset disjoint member none only join
 examples = (refl, refl)

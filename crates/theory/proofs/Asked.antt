@@ -143,7 +143,7 @@ pub unasked-tree : (p : Statement) (e e′ : ℕ) → Agree (asked p e) e e′ �
 unasked-tree p e e′ h = let f = unasked inheritanceFirst p e e′ h in rw (f .0, f .1, f .2, f .3) refl
 
 -- ---- ONE RUN: the two runs of a signal s differ in s only
-agree-runs : (s a e : ℕ) → member s a ≡ false → Agree a (remove s e) (insert s e)
+pub agree-runs : (s a e : ℕ) → member s a ≡ false → Agree a (remove s e) (insert s e)
 agree-runs s a e h i m = rw (member-remove s e i, member-insert s e i) (go (tested (eqb s i)))
   where
     go : Tested (eqb s i) → (member i e && not (eqb s i)) ≡ (member i e || eqb s i)

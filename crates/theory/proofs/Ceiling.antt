@@ -14,7 +14,7 @@ use Rattle.esterel.specs.LabelTests.{activeLabels}
 use Rattle.esterel.specs.Expansion.{expand, ifActive}
 use Rattle.esterel.specs.Reactions.{reactionsBy, reactions}
 use Rattle.esterel.specs.Ceiling.{commands, loopNesting, nesting, ceiling}
-use Rattle.esterel.specs.ReadBack.{declared}
+use Rattle.esterel.specs.ReadBack.{declaredBy, declared}
 use Rattle.theory.proofs.Reactions.{if-ended, either, some-reaction}
 
 -- ---- a bound from those of the parts
@@ -138,16 +138,16 @@ ceiling-within p n m g h i j = mul-le-mul (mul-le-mul h (add-le-add (le-refl 1) 
 
 -- under read-back declarations
 pub commands-declared : (a : ℕ) (ss : List ℕ) (p : Statement) → commands (declared a ss p) ≡ length ss + commands p
-unfolding commands declared
+unfolding commands declaredBy
 commands-declared a [] p = omega arith
 commands-declared a (s ∷ ss) p = let h = commands-declared a ss p in omega arith
 
 pub loops-declared : (a : ℕ) (ss : List ℕ) (p : Statement) → loopNesting (declared a ss p) ≡ loopNesting p
-unfolding loopNesting declared
+unfolding loopNesting declaredBy
 loops-declared a [] p = omega arith
 loops-declared a (s ∷ ss) p = loops-declared a ss p
 
 pub nesting-declared : (a : ℕ) (ss : List ℕ) (p : Statement) → nesting (declared a ss p) ≡ length ss + nesting p
-unfolding nesting declared
+unfolding nesting declaredBy
 nesting-declared a [] p = omega arith
 nesting-declared a (s ∷ ss) p = let h = nesting-declared a ss p in omega arith

@@ -10,7 +10,7 @@ use native.Mathlib.Omega.{arith}
 use native.Mathlib.Decide.{ℕ-discrete}
 use borrow.Author.Tests.{eqb-false, eq-eqb, ne-eqb}
 use Rattle.esterel.specs.Sets.{member, none, join, insert, remove}
-use Rattle.esterel.specs.Statement.{reported, Statement, signal, setpause, held}
+use Rattle.esterel.specs.Statement.{Scope, reported, Statement, signal, setpause, held}
 use Rattle.esterel.specs.Reaction.{waiting, Reaction, code, residual, Case, both, neither, only−, only+, inherited, inheritanceFirst, caseOf, answer, reactBy, react}
 use Rattle.esterel.specs.Places.{Place, signal₁, At}
 use Rattle.esterel.specs.States.{Holds, Stops, NoSetpause, Source}
@@ -18,7 +18,7 @@ use Rattle.esterel.specs.Expansion.{expand}
 use Rattle.esterel.specs.LabelTests.{labelsOf, everyLabel, before, distinct, targeted, wellFormed, valid}
 use Rattle.esterel.specs.Asked.{askedBy, asked}
 use Rattle.esterel.specs.Resume.{start, instantOf}
-use Rattle.esterel.specs.ReadBack.{keepIf, membersFrom, declared, AgreeOutside, RemainsUnder}
+use Rattle.esterel.specs.ReadBack.{keepIf, membersFrom, declaredBy, declared, AgreeOutside, RemainsUnder}
 use Rattle.theory.proofs.Booleans.{and-true, and-false}
 use Rattle.theory.proofs.Sets.{member-none, member-remove}
 use Rattle.theory.proofs.LabelSets.{in-join}
@@ -56,16 +56,20 @@ members-lowest (suc n) j s i l m h f =
         (ap (λ (is : List ℕ). i ∷ is) (members-same n (suc i) s (remove i s) kept))
 
 -- ---- EXPANSION
+pub expand-declaredBy : (sc : Scope) (a : ℕ) (ss : List ℕ) (p : Statement) (L : ℕ)
+    → expand (declaredBy sc a ss p) L ≡ declaredBy sc a ss (expand p L)
+unfolding declaredBy expand
+expand-declaredBy sc a [] p L = refl
+expand-declaredBy sc a (s ∷ ss) p L = ap (signal sc a s) (expand-declaredBy sc a ss p L)
+
 pub expand-declared : (a : ℕ) (ss : List ℕ) (p : Statement) (L : ℕ) → expand (declared a ss p) L ≡ declared a ss (expand p L)
-unfolding declared expand
-expand-declared a [] p L = refl
-expand-declared a (s ∷ ss) p L = ap (signal reported a s) (expand-declared a ss p L)
+expand-declared = expand-declaredBy reported
 
 -- ---- REWRITING: what remains after code 1 is under the same declarations
 remains-in : (a s : ℕ) (ss : List ℕ) (p : Statement) (c : Case) (r− r+ : Reaction)
     → (code r− ≡ waiting → RemainsUnder a ss p (residual r−)) → (code r+ ≡ waiting → RemainsUnder a ss p (residual r+))
     → code (answer c reported a s r− r+) ≡ waiting → RemainsUnder a (s ∷ ss) p (residual (answer c reported a s r− r+))
-unfolding declared
+unfolding declaredBy
 remains-in a s ss p both r− r+ f g h = let x = g h in (x .0, x .1, ap (signal reported a s) (x .2))
 remains-in a s ss p neither r− r+ f g h = let x = f h in (x .0, x .1, ap (signal reported a s) (x .2))
 remains-in a s ss p only− r− r+ f g h = absurd (let z : _≡_ {A = ℕ} 0 1 = cc in omega arith)
@@ -74,7 +78,7 @@ remains-in a s ss p inherited r− r+ f g h = absurd (let z : _≡_ {A = ℕ} 0 
 
 pub remains-declared : (a : ℕ) (ss : List ℕ) (p : Statement) (e : ℕ) → code (react (declared a ss p) e) ≡ waiting
     → RemainsUnder a ss p (residual (react (declared a ss p) e))
-unfolding declared reactBy
+unfolding declaredBy reactBy
 remains-declared a [] p e h = (e, h, refl)
 remains-declared a (s ∷ ss) p e h =
     let r− = react (declared a ss p) (remove s e) in
@@ -92,42 +96,43 @@ asked-other s i b h = go (member i b) (eqb s i) (sym (member-remove s b i) ∙ h
     go true false k = (refl, refl)
     go false x k = absurd (false≢true k)
 
-declared-unasked : (a : ℕ) (ss : List ℕ) (p : Statement) (e i : ℕ) → member i (asked (declared a ss p) e) ≡ true → ¬ List·Memᴰ i ss
-unfolding declared askedBy
-declared-unasked a [] p e i h m = List·Memᴰ·not-nil m
-declared-unasked a (s ∷ ss) p e i h m =
-    let b− = asked (declared a ss p) (remove s e) in
-    let b+ = asked (declared a ss p) (insert s e) in
+pub declared-unasked : (sc : Scope) (a : ℕ) (ss : List ℕ) (p : Statement) (e i : ℕ) → member i (asked (declaredBy sc a ss p) e) ≡ true
+    → ¬ List·Memᴰ i ss
+unfolding declaredBy askedBy
+declared-unasked sc a [] p e i h m = List·Memᴰ·not-nil m
+declared-unasked sc a (s ∷ ss) p e i h m =
+    let b− = asked (declaredBy sc a ss p) (remove s e) in
+    let b+ = asked (declaredBy sc a ss p) (insert s e) in
     let x = asked-other s i (join b− b+) h in
     ⊎-elim (λ k. eqb-false s i (x .1) (sym k))
-    (λ k. ⊎-elim (λ y. declared-unasked a ss p (remove s e) i y k) (λ y. declared-unasked a ss p (insert s e) i y k)
+    (λ k. ⊎-elim (λ y. declared-unasked sc a ss p (remove s e) i y k) (λ y. declared-unasked sc a ss p (insert s e) i y k)
     (in-join i b− b+ (x .0)))
     (List·Memᴰ·cases-cons m)
 
 pub declared-unread : (a : ℕ) (ss : List ℕ) (p : Statement) (e e′ : ℕ) → AgreeOutside ss e e′
     → start (declared a ss p) e ≡ start (declared a ss p) e′
 declared-unread a ss p e e′ h =
-    ap instantOf (sym (unasked-tree (declared a ss p) e e′ (λ i m. h i (declared-unasked a ss p e i m))))
+    ap instantOf (sym (unasked-tree (declared a ss p) e e′ (λ i m. h i (declared-unasked reported a ss p e i m))))
 
 -- ---- labels: the declarations have none
 module _ (a : ℕ) where
   pub distinct-declared : (ss : List ℕ) (p : Statement) → distinct (declared a ss p) ≡ distinct p
-  unfolding declared distinct
+  unfolding declaredBy distinct
   distinct-declared [] p = refl
   distinct-declared (s ∷ ss) p = distinct-declared ss p
 
   pub targeted-declared : (ss : List ℕ) (p : Statement) → targeted (declared a ss p) ≡ targeted p
-  unfolding declared labelsOf
+  unfolding declaredBy labelsOf
   targeted-declared [] p = refl
   targeted-declared (s ∷ ss) p = targeted-declared ss p
 
   pub wellFormed-declared : (ss : List ℕ) (p : Statement) → wellFormed (declared a ss p) ≡ wellFormed p
-  unfolding declared wellFormed everyLabel before
+  unfolding declaredBy wellFormed everyLabel before
   wellFormed-declared [] p = refl
   wellFormed-declared (s ∷ ss) p = wellFormed-declared ss p
 
   pub valid-declared : (ss : List ℕ) (p : Statement) (L : ℕ) → valid (declared a ss p) L ≡ valid p L
-  unfolding declared valid everyLabel before labelsOf
+  unfolding declaredBy valid everyLabel before labelsOf
   valid-declared [] p L = refl
   valid-declared (s ∷ ss) p L = valid-declared ss p L
 
@@ -139,7 +144,7 @@ entered n pl (At.inside signal₁ i) = (_, i)
 
 pub holds-inside : (a : ℕ) (ss : List ℕ) (p x : Statement) → ((b s : ℕ) (q : Statement) → signal reported b s q ≢ x)
     → Holds (declared a ss p) x → Holds p x
-unfolding declared
+unfolding declaredBy
 holds-inside a [] p x n h = h
 holds-inside a (s ∷ ss) p x n h = holds-inside a ss p x n (entered n (h .0) (h .1))
 

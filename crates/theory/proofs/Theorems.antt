@@ -4,9 +4,9 @@ use mathlib.Core.Path.{_≡_, refl, ap, _∙_}
 use mathlib.Core.Logic.{_↔_, _≢_}
 use mathlib.Core.Bool.{true, false}
 use mathlib.Core.Option.{Option}
-use mathlib.Core.List.{List, [], _∷_, head?}
+use mathlib.Core.List.{List, [], _∷_, map, head?}
 use Rattle.esterel.specs.Sets.{member, none, insert, remove}
-use Rattle.esterel.specs.Statement.{Scope, reported, Statement, pause, signal, suspend}
+use Rattle.esterel.specs.Statement.{Scope, local, reported, Statement, pause, signal, suspend}
 use Rattle.esterel.specs.Reaction.{ended, waiting, leaving, wrong, Reaction, gives, emitted, code, labels, residual, isWrong, Order, printed, inheritanceFirst, reactBy, react}
 use Rattle.esterel.specs.Errors.{errorsBy, errors, firstErrorBy, firstError, uses}
 use Rattle.esterel.specs.Reactions.{reactionsBy, reactions, rulesUsed}
@@ -19,8 +19,8 @@ use Rattle.esterel.specs.Expansion.{expand, Expands, clause}
 use Rattle.esterel.specs.LabelTests.{activeLabels}
 use Rattle.esterel.specs.Ranks.{mask, labelsBy}
 use Rattle.esterel.specs.Resume.{instant, start, suspendInstant, askedOf, startTree, signalOnce, expandBy, resume, resumeTree}
-use Rattle.esterel.specs.ReadBack.{declared, AgreeOutside, RemainsUnder}
-use Rattle.esterel.specs.Machines.{run, reached, State, byLabels, ValidState, ReactionOf, of-statement, of-expansion, FromValid, Rewriting, byRewriting, erase}
+use Rattle.esterel.specs.ReadBack.{declaredBy, declared, without, AgreeOutside, RemainsUnder}
+use Rattle.esterel.specs.Machines.{seenWithout, run, reached, State, byLabels, ValidState, ReactionOf, of-statement, of-expansion, FromValid, Rewriting, byRewriting, erase}
 use Rattle.theory.proofs.Booleans.{never, clash, Tested, tested}
 use Rattle.theory.proofs.Rules as rules
 use Rattle.theory.proofs.Rules.{wrong-is}
@@ -38,7 +38,8 @@ use Rattle.theory.proofs.Stability.{SoundLabels, labels-fresh, labels-r
 use Rattle.theory.proofs.Ranks.{none-is, labels-by}
 use Rattle.theory.proofs.Trees.{start-held}
 use Rattle.theory.proofs.Resume.{expand-by}
-use Rattle.theory.proofs.ReadBack.{expand-declared, remains-declared, declared-unread}
+use Rattle.theory.proofs.ReadBack.{expand-declaredBy, remains-declared, declared-unread}
+use Rattle.theory.proofs.Scopes.{hides-is, reported-local, run-hides}
 use Rattle.theory.proofs.Asked.{unasked, one-run, one-run-signal, asks-is}
 use Rattle.theory.proofs.Agreement.{agree, valid-reached}
 use Rattle.theory.proofs.Erasure.{erased-reaction, erased-errors, erased-reactions, erased-run}
@@ -196,8 +197,9 @@ overlap-is-wrong = overlap-wrong
 
 -- 9. READ-BACK declarations (02, item 5) stay in place: expansion goes on inside them, and what remains by rewriting after code 1
 -- is a residual of the statement inside, under the same declarations
-pub expansion-inside : (a : ℕ) (ss : List ℕ) (p : Statement) (L : ℕ) → expand (declared a ss p) L ≡ declared a ss (expand p L)
-expansion-inside = expand-declared
+pub expansion-inside : (sc : Scope) (a : ℕ) (ss : List ℕ) (p : Statement) (L : ℕ)
+    → expand (declaredBy sc a ss p) L ≡ declaredBy sc a ss (expand p L)
+expansion-inside = expand-declaredBy
 
 pub rewriting-inside : (a : ℕ) (ss : List ℕ) (p : Statement) (e : ℕ) → code (react (declared a ss p) e) ≡ waiting
     → RemainsUnder a ss p (residual (react (declared a ss p) e))
@@ -207,6 +209,20 @@ rewriting-inside = remains-declared
 pub declared-not-read : (a : ℕ) (ss : List ℕ) (p : Statement) (e e′ : ℕ) → AgreeOutside ss e e′
     → start (declared a ss p) e ≡ start (declared a ss p) e′
 declared-not-read = declared-unread
+
+-- 'as if each were declared around it .. except that an emitted one is still reported': the same declarations with scope `local`
+-- emit the same without the declared signals, and all else of the instant is the same; so over any list of inputs, by labels
+pub reported-against-local : (a : ℕ) (ss : List ℕ) (p : Statement) (e : ℕ) → let r = declared a ss p in let l = declaredBy local a ss p in
+    (code (react l e) ≡ code (react r e)) × (labels (react l e) ≡ labels (react r e))
+    × (emitted (react l e) ≡ without ss (emitted (react r e)))
+    × (errors l e ≡ errors r e) × (firstError l e ≡ firstError r e) × (reactions l e ≡ reactions r e) × (asked l e ≡ asked r e)
+reported-against-local a ss p e =
+    let x = reported-local a ss p e in let h = hides-is (x .0) in (h .0, h .1, h .2, x .1, ap head? (x .1), x .2, x .3)
+
+pub reported-against-local-run : (a : ℕ) (ss : List ℕ) (p : Statement) (s : State) (es : List ℕ)
+    → (run (byLabels (declaredBy local a ss p)) s es ≡ map (seenWithout ss) (run (byLabels (declared a ss p)) s es))
+    × (reached (byLabels (declaredBy local a ss p)) s es ≡ reached (byLabels (declared a ss p)) s es)
+reported-against-local-run = run-hides
 
 -- 10. THE NUMBER OF REACTIONS (02, item 6) is that of the rules used in any derivation
 pub number-of-rules : {ord : Order} {p : Statement} {e : ℕ} {r : Reaction} (d : ReactsBy ord p e r) → rulesUsed d ≡ reactionsBy ord p e
@@ -249,5 +265,5 @@ one-run-resumed sc a s base p m e h = one-run-for-both sc a s (expandBy base p m
 pub one-run-declared : (a s : ℕ) (ss : List ℕ) (p : Statement) (e : ℕ) → member s (asked (declared a ss p) (remove s e)) ≡ false
     → (startTree (declared a ss p) (insert s e) ≡ startTree (declared a ss p) (remove s e))
     × (startTree (declared a (s ∷ ss) p) e ≡ signalOnce reported a s (startTree (declared a ss p) (remove s e)))
-unfolding declared
+unfolding declaredBy
 one-run-declared a s ss p e h = one-run-for-both reported a s (declared a ss p) e h
