@@ -1,10 +1,11 @@
 -- Sets below a width, and two relations between sets, over the sets of esterel.
-use Prim.Native.Nat.{ℕ, _+_, _*_, _^_, _<_}
+use Prim.Native.Nat.{ℕ, _+_, _*_, _-_, _^_, _<_}
 use mathlib.Core.Path.{_≡_}
 use mathlib.Core.Bool.{true, false, cond}
 use mathlib.Core.List.{List}
 use lib.ListN.{getD}
 use lib.Dec.{ltb}
+use lib.Bits.{bitAnd, bitXor}
 use Rattle.limits.specs.Limits.{wordLabels}
 pub use Rattle.limits.specs.Limits.{labelCount, signalCount}
 use Rattle.esterel.specs.Sets.{member, none, only, insert}
@@ -35,3 +36,16 @@ pub record Lowest (w s i : ℕ) : Type 0 where
   pub found : (s ≡ none → ⊥) → member i s ≡ true
   pub least : (j : ℕ) → j < i → member j s ≡ false
   pub absent : s ≡ none → i ≡ w
+
+-- ---- what two sets have in common, what the first has alone, all numbers below w, and those of them that a set has not
+unfoldable pub common : ℕ → ℕ → ℕ
+common s t = bitAnd s t
+
+unfoldable pub difference : ℕ → ℕ → ℕ
+difference s t = bitXor s (bitAnd s t)
+
+unfoldable pub allBelow : (w : ℕ) → ℕ
+allBelow w = 2 ^ w - 1
+
+abbrev pub complement : (w s : ℕ) → ℕ
+complement w s = difference (allBelow w) s

@@ -4,7 +4,8 @@ ghost use mathlib.Core.Path.{_≡_};
 ghost use lib.ListN.{length};
 ghost use Rattle.esterel.specs.Sets.{member, join, remove, empty};
 ghost use Rattle.esterel.specs.ReadBack.{membersFrom};
-ghost use Rattle.sets.specs.Sets.{signalCount, onlyBelow, insertBelow, Lowest};
+ghost use Rattle.sets.specs.Sets.{signalCount, onlyBelow, insertBelow, Lowest, common, difference, complement};
+ghost use Rattle.sets.specs.Subsets.{nextSubset};
 
 pub fn member(s: u32, i: u8) -> bool
     ensures { λ r. ⌜ r ≡ member i s ⌝ }
@@ -58,4 +59,35 @@ pub fn size(s: u32) -> u8
     ensures { λ r. ⌜ r ≡ length (membersFrom signalCount 0 s) ⌝ }
 {
     u32::count_ones(s) as u8
+}
+
+// What both sets have.
+pub fn common(s: u32, t: u32) -> u32
+    ensures { λ r. ⌜ r ≡ common s t ⌝ }
+{
+    s & t
+}
+
+// What s has and t has not.
+pub fn difference(s: u32, t: u32) -> u32
+    ensures { λ r. ⌜ r ≡ difference s t ⌝ }
+{
+    s ^ (s & t)
+}
+
+// The signals that s has not.
+pub fn complement(s: u32) -> u32
+    ensures { λ r. ⌜ r ≡ complement signalCount s ⌝ }
+{
+    difference(0xFFFFFFFF, s)
+}
+
+// The greatest subset of u below f, as numbers; of none, none.
+pub fn next_subset(f: u32, u: u32) -> u32
+    ensures { λ r. ⌜ r ≡ nextSubset f u ⌝ }
+{
+    if f == 0 {
+        return common(0, u);
+    }
+    common(f - 1, u)
 }

@@ -123,11 +123,14 @@ without true false = refl
 without false true = refl
 without false false = refl
 
+-- the members of s that t has not
+pub member-difference : (i s t : ℕ) → member i (bitXor s (bitAnd s t)) ≡ (member i s && not (member i t))
+member-difference i s t =
+    member-xor i s (bitAnd s t) ∙ ap (λ (b : Bool). xor (member i s) b) (member-and i s t) ∙ without (member i s) (member i t)
+
 pub member-remove : (i s j : ℕ) → member j (remove i s) ≡ (member j s && not (eqb i j))
 unfolding remove only
-member-remove i s j =
-    member-xor j s (bitAnd s (2 ^ i)) ∙ ap (λ (b : Bool). xor (member j s) b) (member-and j s (2 ^ i))
-    ∙ without (member j s) (member j (2 ^ i)) ∙ ap (λ (b : Bool). member j s && not b) (member-only i j)
+member-remove i s j = member-difference j s (only i) ∙ ap (λ (b : Bool). member j s && not b) (member-only i j)
 
 pub join-none-l : (s : ℕ) → join none s ≡ s
 unfolding join none
