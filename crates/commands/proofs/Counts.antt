@@ -2,14 +2,15 @@
 use Prim.Native.Nat.{ℕ, zero, suc, _<_}
 use mathlib.Core.Path.{_≡_, refl, sym, ap, _∙_}
 use mathlib.Core.Bool.{Bool, true, false, _&&_, and-eq-true-iff, false≢true}
+use mathlib.Core.List.{[], _∷_}
 use mathlib.Core.Option.{Option, none, some}
 use native.Mathlib.Decide.{decLt}
 use native.Mathlib.Omega.{arith}
 use lib.Dec.{eqb}
-use borrow.Author.Tests.{eqb-true}
-use Rattle.sequence.specs.Commands.{Command, commandOf}
+use borrow.Author.Tests.{eqb-true, eq-eqb}
+use Rattle.sequence.specs.Commands.{Command, commandOf, operandCount, inRange}
 use Rattle.commands.specs.declared.Count.the-variants.{NoCommand, Of}
-use Rattle.commands.specs.Counts.{counted, operandsAt, partsAt, countOf}
+use Rattle.commands.specs.Counts.{counted, operandsAt, partsAt, countOf, orZero, operandInRange}
 use Rattle.commands.specs.Printed.{operandsPrinted, partsPrinted}
 
 -- ---- what a count says
@@ -20,6 +21,21 @@ of-command f (some c) n e = (c, (refl, cc))
 pub of-none : (f : Command → ℕ) (o : Option Command) → NoCommand ≡ countOf (counted f o) → o ≡ none
 of-none f none e = refl
 of-none f (some c) e = absurd (let x : _≡_ {A = ℕ} 0 1 = cc in omega arith)
+
+pub count-of : (o : Option ℕ) (n : ℕ) → Of n ≡ countOf o → n ≡ orZero o
+count-of none n e = absurd (let x : _≡_ {A = ℕ} 0 1 = cc in omega arith)
+count-of (some m) n e = cc
+
+pub no-count : (o : Option ℕ) → NoCommand ≡ countOf o → 0 ≡ orZero o
+no-count none e = refl
+no-count (some m) e = absurd (let x : _≡_ {A = ℕ} 0 1 = cc in omega arith)
+
+-- ---- what is said of every byte, of one that has a command
+pub at-command : (f : Command → ℕ) {o : Option Command} (c : Command) → o ≡ some c → orZero (counted f o) ≡ f c
+at-command f c e = rw e
+
+pub operand-of : {o : Option Command} (c : Command) (x : ℕ) → o ≡ some c → operandCount c ≡ 1 → operandInRange o x ≡ inRange c (x ∷ [])
+operand-of c x e n = rw (e, eq-eqb (operandCount c) 1 n)
 
 -- ---- all bytes
 abbrev same : Option ℕ → Option ℕ → Bool

@@ -1,7 +1,12 @@
--- The operand bytes and the parts of a byte's command, counted; a byte without a command has neither.
+-- The operand bytes, the parts and the declared signals of a byte's command, counted, and the range of its operand; a byte without a
+-- command has none of them.
 use Prim.Native.Nat.{ℕ}
+use mathlib.Core.Bool.{Bool, cond}
+use mathlib.Core.List.{[], _∷_}
 use mathlib.Core.Option.{Option, none, some}
-use Rattle.sequence.specs.Commands.{Command, commandOf, operandCount, partCount}
+use lib.Dec.{eqb, ltb}
+use Rattle.limits.specs.Limits.{signalCount}
+use Rattle.sequence.specs.Commands.{Command, commandOf, operandCount, partCount, inRange, declares}
 use Rattle.commands.specs.declared.Count.{Count}
 use Rattle.commands.specs.declared.Count.the-variants.{NoCommand, Of}
 
@@ -14,6 +19,19 @@ operandsAt b = counted operandCount (commandOf b)
 
 abbrev pub partsAt : ℕ → Option ℕ
 partsAt b = counted partCount (commandOf b)
+
+abbrev pub declaredAt : ℕ → Option ℕ
+declaredAt b = counted declares (commandOf b)
+
+-- 0 where there is no command
+abbrev pub orZero : Option ℕ → ℕ
+orZero none = 0
+orZero (some n) = n
+
+-- is x, the one operand byte of a command, in its range? Where there is no operand, it is asked as of a signal
+abbrev pub operandInRange : Option Command → ℕ → Bool
+operandInRange none x = ltb x signalCount
+operandInRange (some c) x = cond (eqb (operandCount c) 1) (inRange c (x ∷ [])) (ltb x signalCount)
 
 -- as the code says it
 abbrev pub countOf : Option ℕ → Count

@@ -1,10 +1,8 @@
 // The table of commands (01, 'Commands'; 02, items 1 and 2) by cases on the command byte, with no constant array. Comparisons in
 // this order cost less than a table: where the next command stands does not wait for a look into memory.
 ghost use mathlib.Core.Path.{_≡_};
-ghost use mathlib.Core.Option.{some};
-ghost use mathlib.Core.List.{[], _∷_};
-ghost use Rattle.sequence.specs.Commands.{Command, commandOf, operandCount, inRange, declares};
-ghost use Rattle.commands.specs.Counts.{countOf, operandsAt, partsAt};
+ghost use Rattle.sequence.specs.Commands.{commandOf};
+ghost use Rattle.commands.specs.Counts.{countOf, operandsAt, partsAt, declaredAt, orZero, operandInRange};
 
 // A count, or that the byte has no command.
 pub enum Count {
@@ -56,9 +54,9 @@ pub fn part_count(b: u8) -> Count
     Count::Of(1)
 }
 
-// Is x, the one operand byte of the command b, in its range?
+// Is x, the one operand byte of the command b, in its range? Without an operand, that of signals.
 pub fn in_range(b: u8, x: u8) -> bool
-    ensures { λ r. ⌜ ((c : Command) → commandOf b ≡ some c → operandCount c ≡ 1 → r ≡ inRange c (x ∷ [])) ⌝ }
+    ensures { λ r. ⌜ r ≡ operandInRange (commandOf b) x ⌝ }
 {
     if b == 3 {
         if x == 0 {
@@ -75,9 +73,9 @@ pub fn in_range(b: u8, x: u8) -> bool
     x < limits::SIGNALS
 }
 
-// The signals that the command b declares around its part.
+// The signals that the command b declares around its part; 0 without a command.
 pub fn declared(b: u8) -> u8
-    ensures { λ r. ⌜ ((c : Command) → commandOf b ≡ some c → r ≡ declares c) ⌝ }
+    ensures { λ r. ⌜ r ≡ orZero (declaredAt b) ⌝ }
 {
     if b == 8 { 1 } else { 0 }
 }

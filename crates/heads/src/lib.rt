@@ -1,9 +1,8 @@
 // The head of a command (01, 'Commands' and rows 3 to 5): its own bytes, and how many parts follow it.
 ghost use mathlib.Core.Path.{_≡_};
-ghost use mathlib.Core.Option.{some};
-ghost use Rattle.sequence.specs.Commands.{Command, commandOf, partCount};
 ghost use Rattle.sequence.specs.Reader.{front};
 ghost use Rattle.layout.specs.Walk.{headOf};
+ghost use Rattle.commands.specs.Counts.{partsAt, orZero};
 use commands::Count;
 
 // The command at the front of s: its own bytes, or so many units for the row that turns it down.
@@ -32,9 +31,9 @@ pub fn front(s: &[u8]) -> usize
     }
 }
 
-// The parts of the command b, which is known to be one.
+// The parts of the command b; 0 without a command.
 pub fn parts(b: u8) -> u8
-    ensures { λ r. ⌜ ((c : Command) → commandOf b ≡ some c → r ≡ partCount c) ⌝ }
+    ensures { λ r. ⌜ r ≡ orZero (partsAt b) ⌝ }
 {
     match commands::part_count(b) {
         Count::NoCommand => 0,

@@ -1,47 +1,54 @@
-use mathlib.Core.Path.{_≡_, refl, _∙_}
-use mathlib.Core.List.{[], _∷_}
+use Prim.Native.Nat.{ℕ}
+use mathlib.Core.Path.{_≡_, refl, sym, ap, _∙_}
+use mathlib.Core.Option.{Option, none, some}
 use lib.Dec.{ltb}
 use native.Mathlib.Omega.{arith}
-use Prim.Native.Nat.{ℕ}
 use borrow.Author.Tests.{le-leb}
 use Rattle.limits.specs.Limits.{signalCount}
-use Rattle.sequence.specs.Commands.{Command, operandCount, inRange}
-use Rattle.sequence.proofs.Table.{byteOf, byte-is, command-at}
+use Rattle.sequence.specs.Commands.{Command, commandOf}
+use Rattle.sequence.proofs.Table.{byteOf, byte-is, command-of-byte}
+use Rattle.commands.specs.Counts.{operandInRange}
 use Rattle.commands.proofs.in_range.Statement.{statement}
 use Rattle.commands.proofs.in_range.Tie as tie
 
+at : {b : ℕ} (c : Command) → b ≡ byteOf c → commandOf b ≡ some c
+at c e = ap commandOf e ∙ command-of-byte c
+
 -- an operand that is neither an exit nor a label is a signal
-signals : (x : ℕ) (d : Command) → operandCount d ≡ 1 → (byteOf d ≡ 3 → ⊥) → (byteOf d ≡ 1 → ⊥) → (byteOf d ≡ 10 → ⊥)
-    → ltb x signalCount ≡ inRange d (x ∷ [])
-signals x Command.nothing o n3 n1 n10 = absurd (omega arith)
-signals x Command.pause o n3 n1 n10 = absurd (n1 refl)
-signals x Command.emit o n3 n1 n10 = refl
-signals x Command.exit o n3 n1 n10 = absurd (n3 refl)
-signals x Command.seq o n3 n1 n10 = absurd (omega arith)
-signals x Command.par o n3 n1 n10 = absurd (omega arith)
-signals x Command.loop o n3 n1 n10 = absurd (omega arith)
-signals x Command.present o n3 n1 n10 = refl
-signals x Command.signal o n3 n1 n10 = refl
-signals x Command.try o n3 n1 n10 = absurd (omega arith)
-signals x Command.setpause o n3 n1 n10 = absurd (n10 refl)
-signals x Command.suspend o n3 n1 n10 = refl
+signals : (x : ℕ) (c : Command) → (byteOf c ≡ 3 → ⊥) → (byteOf c ≡ 1 → ⊥) → (byteOf c ≡ 10 → ⊥) → ltb x signalCount ≡ operandInRange (some c) x
+signals x Command.nothing n3 n1 n10 = refl
+signals x Command.pause n3 n1 n10 = absurd (n1 refl)
+signals x Command.emit n3 n1 n10 = refl
+signals x Command.exit n3 n1 n10 = absurd (n3 refl)
+signals x Command.seq n3 n1 n10 = refl
+signals x Command.par n3 n1 n10 = refl
+signals x Command.loop n3 n1 n10 = refl
+signals x Command.present n3 n1 n10 = refl
+signals x Command.signal n3 n1 n10 = refl
+signals x Command.try n3 n1 n10 = refl
+signals x Command.setpause n3 n1 n10 = absurd (n10 refl)
+signals x Command.suspend n3 n1 n10 = refl
+
+others : (b x : ℕ) (o : Option Command) → commandOf b ≡ o → (b ≡ 3 → ⊥) → (b ≡ 1 → ⊥) → (b ≡ 10 → ⊥) → ltb x signalCount ≡ operandInRange o x
+others b x none e n3 n1 n10 = refl
+others b x (some c) e n3 n1 n10 =
+    let z = byte-is b c e in
+    signals x c (λ h. n3 (z ∙ h)) (λ h. n1 (z ∙ h)) (λ h. n10 (z ∙ h))
 
 returns : tie.Need-returns
-returns c d e o = rw (command-at _ d Command.exit e (c .before .if1 .taken), c .if2 .taken)
+returns c = rw (at Command.exit (c .before .if1 .taken), c .if2 .taken)
 
 returns-2 : tie.Need-returns-2
-returns-2 c d e o = rw (command-at _ d Command.exit e (c .before .if1 .taken), le-leb 1 (c .before .before .args .x) (omega (arith, c .if2 .left)))
+returns-2 c = rw (at Command.exit (c .before .if1 .taken), le-leb 1 (c .before .before .args .x) (omega (arith, c .if2 .left)))
 
 returns-3 : tie.Need-returns-3
-returns-3 c d e o = rw (command-at _ d Command.pause e (c .if3 .taken))
+returns-3 c = rw (at Command.pause (c .if3 .taken))
 
 returns-4 : tie.Need-returns-4
-returns-4 c d e o = rw (command-at _ d Command.setpause e (c .if4 .taken))
+returns-4 c = rw (at Command.setpause (c .if4 .taken))
 
 returns-5 : tie.Need-returns-5
-returns-5 c d e o =
-    let z = byte-is _ d e in
-    signals _ d o (λ h. c .before .before .if1 .left (z ∙ h)) (λ h. c .before .if3 .left (z ∙ h)) (λ h. c .if4 .left (z ∙ h))
+returns-5 c = others _ _ _ refl (c .before .before .if1 .left) (c .before .if3 .left) (c .if4 .left)
 
 pub in-range-spec : {M : Type 1} → statement M
 in-range-spec = tie.close (tie.spec returns returns-2 returns-3 returns-4 returns-5)

@@ -10,7 +10,7 @@ use Rattle.sequence.specs.Reader.{Front, front}
 use Rattle.layout.specs.Walk.{headOf}
 use Rattle.sequence.proofs.Table.{unnamed, at-most-one, free}
 use Rattle.sequence.proofs.Front.{Fronts, front-is}
-use Rattle.commands.proofs.Counts.{of-command, of-none}
+use Rattle.commands.proofs.Counts.{of-command, of-none, operand-of}
 use Rattle.heads.proofs.front.Statement.{statement}
 use Rattle.heads.proofs.front.Tie as tie
 
@@ -91,7 +91,7 @@ returns-5 c =
       byte = g .1 .0;
       long = omega (arith, w, c .before .before .before .if3 .left);
       operands = refl;
-      ranged = range (g .0) _ (g .1 .1) some _ _ (c .before .in-range .ensures (g .0) (g .1 .0) w) ∙ c .if4 .taken;
+      ranged = range (g .0) _ (g .1 .1) some _ _ (c .before .in-range .ensures ∙ operand-of (g .0) _ (g .1 .0) w) ∙ c .if4 .taken;
     }))
 
 returns-6 : tie.Need-returns-6
@@ -101,7 +101,7 @@ returns-6 c =
     let w = operand (g .0) _ (g .1 .1) some in
     heads _ _
     (Fronts.outside (g .0) (g .1 .0) (omega (arith, w, c .before .before .before .if3 .left))
-    (range (g .0) _ (g .1 .1) some _ _ (c .before .in-range .ensures (g .0) (g .1 .0) w) ∙ c .if4 .left))
+    (range (g .0) _ (g .1 .1) some _ _ (c .before .in-range .ensures ∙ operand-of (g .0) _ (g .1 .0) w) ∙ c .if4 .left))
 
 pub front-spec : {M : Type 1} → statement M
 front-spec =

@@ -6,11 +6,12 @@ use native.Mathlib.Omega.{arith}
 use borrow.Author.Needs.{needs}
 use borrow.Fn.Kinds.{In}
 use borrow.Fn.PlainCycle.{Measures, is, falls, and}
-use Rattle.sequence.specs.Commands.{partCount}
+use Rattle.sequence.specs.Commands.{partCount, declares}
 use Rattle.sequence.specs.Reader.{front, read as reads}
 use Rattle.layout.specs.Layout.{entry}
 use Rattle.layout.specs.Walk.{leftUnit, headOf, Done}
 use Rattle.sequence.proofs.Table.{at-most-two}
+use Rattle.commands.proofs.Counts.{at-command}
 use Rattle.layout.proofs.Parts.{rest-is}
 use Rattle.layout.proofs.Walk.{Heading, heading, byte, head-fits, onward, forward, again, done-bad, done-deep, done-signals, done-leaf, done-one, done-pair, Firsts, firsts, first-refused, both}
 use Rattle.reading.proofs.reader.read.Reads as read
@@ -94,7 +95,7 @@ head-of : (t : ℕ) (q : read-lts.After-parts (read-claims t) (read-at t) read.P
 head-of t q = head t (q .before .before .before)
 
 parted : (t : ℕ) (q : read-lts.After-parts (read-claims t) (read-at t) read.Post) → q .parts .result ≡ partCount (head-of t q .of)
-parted t q = q .parts .ensures _ (byte (head-of t q))
+parted t q = q .parts .ensures ∙ at-command partCount _ (byte (head-of t q))
 
 leaf : (t : ℕ) (q : read-lts.After-parts (read-claims t) (read-at t) read.Post) → (q .parts .result ≡ 2 → ⊥) → (q .parts .result ≡ 1 → ⊥)
     → partCount (head-of t q .of) ≡ 0
@@ -161,7 +162,7 @@ read-returns-4 : (t : ℕ) → read-lts.Need-returns-4 (read-claims t) (read-at 
 read-returns-4 t c =
     let q = c .before .before .before .before in
     let h = head-of t q in
-    done-signals h _ _ _ (q .before .before .if2 .left) _ _ _ _ _ (c .before .declared .ensures _ (byte h)) (c .if5 .taken)
+    done-signals h _ _ _ (q .before .before .if2 .left) _ _ _ _ _ (c .before .declared .ensures ∙ at-command declares _ (byte h)) (c .if5 .taken)
 
 read-sub-read : (t : ℕ) → read-lts.Need-sub-read (read-claims t) (read-at t) read.Post
 read-sub-read t c = omega (arith, head-fits (head t (c .before .before .before .before .before .before .before)))
@@ -188,7 +189,7 @@ read-returns-5 : (t : ℕ) → read-lts.Need-returns-5 (read-claims t) (read-at 
 read-returns-5 t c =
     let q = c .before .before .before .before .before .before .before .before in
     let h = head-of t q in
-    done-one h _ _ _ (q .before .before .if2 .left) _ (c .before .before .before .before .before .declared .ensures _ (byte h)) (c .before .before .before .before .if5 .left) (sym (parted t q) ∙ c .before .before .before .before .before .before .if4 .taken) _
+    done-one h _ _ _ (q .before .before .if2 .left) _ (c .before .before .before .before .before .declared .ensures ∙ at-command declares _ (byte h)) (c .before .before .before .before .if5 .left) (sym (parted t q) ∙ c .before .before .before .before .before .before .if4 .taken) _
     (rest-is (width-of t q) (bytes-of t q)) _ _ _ _ _ (c .read .ensures)
 
 read-sub-label : (t : ℕ) → read-lts.Need-sub-label (read-claims t) (read-at t) read.Post
