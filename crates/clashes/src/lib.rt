@@ -4,7 +4,8 @@ ghost use mathlib.Core.Bool.{true};
 ghost use mathlib.Core.Logic.{_↔_};
 ghost use Rattle.labels.specs.Labels.{labelSet};
 ghost use Rattle.matrix.specs.Rows.{rowOf};
-ghost use Rattle.clashes.specs.Clashes.{InRowOf, RowsWithin, CoversRows, Clash, Clashes};
+ghost use Rattle.esterel.specs.Sets.{member};
+ghost use Rattle.clashes.specs.Clashes.{InRowOf, RowsOf, ClashIf, Clashes};
 use labels::Labels;
 use matrix::Rows;
 
@@ -25,7 +26,7 @@ fn in_row_of(rows: &Rows, s: Labels, k: u8) -> bool
 
 // The labels that stand in the rows of the labels of s.
 fn union_of_rows(rows: &Rows, s: Labels) -> Labels
-    ensures { λ r. ⌜ (RowsWithin (rowOf (now (rows .entry))) (labelSet s) → CoversRows (rowOf (now (rows .entry))) (labelSet r)) ⌝ }
+    ensures { λ r. ⌜ RowsOf (rowOf (now (rows .entry))) (labelSet s) (labelSet r) ⌝ }
 {
     let mut all = labels::empty();
     let mut left = s;
@@ -37,10 +38,10 @@ fn union_of_rows(rows: &Rows, s: Labels) -> Labels
     all
 }
 
-// Has a label concurrent with k a pause exclusive with that of k? The labels of all rows of `exclusive` are in `all`.
+// Has a label concurrent with k a pause exclusive with that of k? Only a label of `all` is looked for in other rows.
 fn clash(exclusive: &Rows, concurrent: &Rows, all: Labels, k: u8) -> bool
-    ensures { λ r. ⌜ (CoversRows (rowOf (now (exclusive .entry))) (labelSet all)
-        → (r ≡ true) ↔ Clash (rowOf (now (exclusive .entry))) (rowOf (now (concurrent .entry))) k) ⌝ }
+    ensures { λ r. ⌜ (r ≡ true) ↔ ClashIf (rowOf (now (exclusive .entry))) (rowOf (now (concurrent .entry)))
+        (member k (labelSet all) ≡ true) k ⌝ }
 {
     let beside = matrix::row(concurrent, k);
     if labels::disjoint(beside, matrix::row(exclusive, k)) {
@@ -54,7 +55,7 @@ fn clash(exclusive: &Rows, concurrent: &Rows, all: Labels, k: u8) -> bool
     }
 }
 
-// Does a label clash? Only those of `pauses` have a row.
+// Does a label of `pauses` clash? If only those have a row, does any (`clashes-of-all`)?
 pub fn any_clash(exclusive: &Rows, concurrent: &Rows, pauses: Labels) -> bool
     ensures { λ r. ⌜ Clashes (rowOf (now (exclusive .entry))) (rowOf (now (concurrent .entry))) (labelSet pauses) r ⌝ }
 {

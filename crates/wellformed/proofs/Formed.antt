@@ -12,6 +12,7 @@ use Rattle.theory.proofs.Booleans.{never}
 use Rattle.theory.proofs.LabelTests.{rivals-paused, aside-paused, unmixed-is}
 use Rattle.matrix.specs.Rows.{rowOf}
 use Rattle.clashes.specs.Clashes.{RowsWithin, Clash, Clashes}
+use Rattle.clashes.proofs.Clashes.{clashes-of-all}
 
 module _ (p : Statement) (exclusive concurrent : List ℕ) (er : (k : ℕ) → rowOf exclusive k ≡ rivals p k) (es : (k : ℕ) → rowOf concurrent k ≡ aside p k) where
   pair-is : (k l : ℕ) → (member l (rowOf exclusive k) || member k (rowOf exclusive l)) ≡ Esterel.exclusive p k l
@@ -34,4 +35,4 @@ module _ (p : Statement) (exclusive concurrent : List ℕ) (er : (k : ℕ) → r
         sym (unmixed-is p .1 (λ k l a x. true≢false (sym (f .1 (k, (l, ap (member l) (es k) ∙ a, pair-is k l ∙ x))))))
 
     pub formed-is : (m : Bool) → Clashes (rowOf exclusive) (rowOf concurrent) s m → not m ≡ wellFormed p
-    formed-is m f = by-clashes m (f rivals-within asides-within)
+    formed-is m f = by-clashes m (clashes-of-all (rowOf exclusive) (rowOf concurrent) s m rivals-within asides-within f)

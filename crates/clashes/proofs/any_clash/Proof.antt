@@ -1,17 +1,16 @@
 use Rattle.sets.specs.Sets.{labelCount}
-use mathlib.Core.Path.{refl}
 use Rattle.theory.proofs.Booleans as Booleans
 use Rattle.labels.specs.Labels.{labelSet}
 use Rattle.matrix.specs.Rows.{rowOf}
-use Rattle.sets.proofs.Members.{some-left, none-left, Seeking, seek, seek-on, seek-less}
-use Rattle.clashes.proofs.Clashes.{Clear, clear-end}
+use Rattle.sets.proofs.Members.{some-left, none-left, Seeking, seek, seek-on, seek-less, seek-hit}
+use Rattle.clashes.proofs.Clashes.{Clear, clash-found, clear-end}
 use borrow.Author.Needs.{needs}
 use Rattle.clashes.proofs.any_clash.Statement.{statement}
 use Rattle.clashes.proofs.any_clash.Tie as tie
 
 abbrev Inv-loop : tie.InvT-loop
 Inv-loop exclusive concurrent all left₀ left =
-    Seeking (Clear (rowOf exclusive) (rowOf concurrent) (labelSet left₀)) (labelSet left₀) (labelSet left)
+    Seeking (Clear (rowOf exclusive) (rowOf concurrent) (labelSet all)) (labelSet left₀) (labelSet left)
 
 abbrev μ-loop : tie.MeasureT-loop
 μ-loop exclusive concurrent all left₀ left = labelSet left
@@ -20,7 +19,11 @@ loop-holds : tie.Need-loop-holds Inv-loop μ-loop
 loop-holds c = seek _ _
 
 returns : tie.Need-returns Inv-loop μ-loop
-returns c g h = (λ _. (c .before .before .lowest .result, c .before .clash .ensures (c .before .before .before .before .before .before .union-of-rows .ensures g) .0 (c .if2 .taken)), λ _. refl)
+returns c =
+    clash-found _ _ _ _ (c .before .before .before .before .before .before .union-of-rows .ensures) (c .before .before .lowest .result)
+    (seek-hit _ _ _ (c .before .before .before .before .before .loop .inv) labelCount _ (c .before .before .lowest .ensures)
+    (some-left (c .before .before .before .before .is-empty .ensures) (c .before .before .before .if1 .taken)))
+    (c .before .clash .ensures .0 (c .if2 .taken))
 
 loop-less : tie.Need-loop-less Inv-loop μ-loop
 loop-less c =
@@ -30,10 +33,10 @@ loop-less c =
 loop-again : tie.Need-loop-again Inv-loop μ-loop
 loop-again c =
     seek-on _ _ _ (c .before .before .before .before .before .before .loop .inv) _ _ (c .without .ensures)
-    (λ g x. Booleans.clash _ (c .before .before .clash .ensures (c .before .before .before .before .before .before .before .union-of-rows .ensures g) .1 x) (c .before .if2 .left))
+    (λ x. Booleans.clash _ (c .before .before .clash .ensures .1 x) (c .before .if2 .left))
 
 returns-2 : tie.Need-returns-2 Inv-loop μ-loop
-returns-2 c = clear-end _ _ _ _ (c .before .before .loop .inv) (none-left (c .before .is-empty .ensures) (c .if1 .left))
+returns-2 c = clear-end _ _ _ _ (c .before .before .before .union-of-rows .ensures) _ (c .before .before .loop .inv) (none-left (c .before .is-empty .ensures) (c .if1 .left))
 
 pub any-clash-spec : {M : Type 1} → statement M
 any-clash-spec =

@@ -1,6 +1,7 @@
 use mathlib.Core.Path.{sym, _∙_}
+use Rattle.theory.proofs.Booleans as Booleans
 use Rattle.matrix.specs.Rows.{rowOf}
-use Rattle.clashes.proofs.Clashes.{clash-by, clash-at, in-row-never}
+use Rattle.clashes.proofs.Clashes.{clash-by, no-clash, clash-at}
 use borrow.Author.Needs.{needs}
 use Rattle.clashes.proofs.clash.Statement.{statement}
 use Rattle.clashes.proofs.clash.Tie as tie
@@ -21,15 +22,26 @@ in-row-of-requires : tie.Need-in-row-of-requires
 in-row-of-requires c κs = search needs
 
 returns : tie.Need-returns
-returns c h = clash-by (rowOf (c .before .before .before .before .before .before .before .args .exclusive .now)) (rowOf (c .before .before .before .before .before .before .before .args .concurrent .now)) _ (c .before .before .before .before .before .before .before .args .k) _ _ (c .before .before .before .before .before .before .row .ensures) (c .before .before .before .before .before .row2 .ensures) (c .before .before .before .before .disjoint .ensures .0 (c .before .before .before .if1 .taken)) (c .in-row-of .ensures)
+returns c =
+    let a = c .before .before .before .before .before .before .before .args in
+    clash-by (rowOf (a .exclusive .now)) (rowOf (a .concurrent .now)) _ _ (a .k) _
+    (c .before .before .before .before .before .before .row .ensures) (c .before .before .before .before .before .row2 .ensures) _
+    (c .before .before .before .before .disjoint .ensures .0 (c .before .before .before .if1 .taken))
+    (sym (c .before .before .member .ensures) ∙ c .before .if2 .taken) (c .in-row-of .ensures)
 
 returns-2 : tie.Need-returns-2
-returns-2 c h =
-    clash-by (rowOf (c .before .before .before .before .before .before .args .exclusive .now)) (rowOf (c .before .before .before .before .before .before .args .concurrent .now)) _ (c .before .before .before .before .before .before .args .k) _ _ (c .before .before .before .before .before .row .ensures) (c .before .before .before .before .row2 .ensures) (c .before .before .before .disjoint .ensures .0 (c .before .before .if1 .taken))
-    (in-row-never _ _ _ _ h (sym (c .before .member .ensures) ∙ c .if2 .left))
+returns-2 c =
+    let a = c .before .before .before .before .before .before .args in
+    no-clash (rowOf (a .exclusive .now)) (rowOf (a .concurrent .now)) _ _ (a .k) _
+    (c .before .before .before .before .before .row .ensures) (c .before .before .before .before .row2 .ensures)
+    (c .before .before .before .disjoint .ensures .0 (c .before .before .if1 .taken))
+    (λ p. Booleans.clash _ p (sym (c .before .member .ensures) ∙ c .if2 .left))
 
 returns-3 : tie.Need-returns-3
-returns-3 c h = clash-at (rowOf (c .before .before .before .before .args .exclusive .now)) (rowOf (c .before .before .before .before .args .concurrent .now)) _ (c .before .before .before .before .args .k) _ _ (c .before .before .before .row .ensures) (c .before .before .row2 .ensures) (c .before .disjoint .ensures) (c .if1 .left)
+returns-3 c =
+    let a = c .before .before .before .before .args in
+    clash-at (rowOf (a .exclusive .now)) (rowOf (a .concurrent .now)) _ _ (a .k) _ _
+    (c .before .before .before .row .ensures) (c .before .before .row2 .ensures) (c .before .disjoint .ensures) (c .if1 .left)
 
 pub clash-spec : {M : Type 1} → statement M
 clash-spec =
