@@ -25,7 +25,7 @@ HOST_TESTS = host-rust host-c host-tick-rust host-tick-c host-example host-stack
 	host-install host-again figures
 
 # The two programs are built anew for whatever archive is named.
-.PHONY: help run show paper test lib install certificate host $(HOST_TESTS) host-plain show-test format-test certificate-test \
+.PHONY: help run show paper vectors-diff test lib install certificate host $(HOST_TESTS) host-plain show-test format-test certificate-test \
 	bench bench-check bench-tick bench-run target/host/stack target/host/dearest
 
 help: # lists the targets
@@ -39,6 +39,9 @@ show: $(RUN_PROGRAM) # shows the commands and the run of a shipped example; BAY 
 
 paper: $(RUN_PROGRAM) # shows that run on paper, by rewriting, and compares it with the listing; BAY as above
 	@$(RUN_PROGRAM) < '$(BAY)' | tools/show --paper $(NAMED) --listing - '$(BAY)'
+
+vectors-diff: # shows each line that the vectors, as built last, print otherwise than crates/vectors/stdout has it
+	@target/bin/vectors < crates/vectors/stdin | diff -U 1 -F '^[^ ]' --label expected --label printed crates/vectors/stdout -
 
 test: # proves everything and runs all tests: the gate
 	.ci/run

@@ -9,13 +9,21 @@ mod lines;
 mod ticks;
 mod vector;
 
+ghost use mathlib.Core.Path.{_≡_};
+ghost use lib.ListN.{length};
 use libc::STDIN_FILENO;
 
 // One byte more than the file may have, so that a longer one is seen.
-const ROOM: usize = 65536;
+const ROOM: usize = 262144;
+
+fn room() -> [u8; ROOM]
+    ensures { λ r. ⌜ 262144 ≡ length r ⌝ }
+{
+    [0; ROOM]
+}
 
 fn main() {
-    let mut space = io::large_buffer();
+    let mut space = room();
     let count = io::read_full(STDIN_FILENO, &mut space);
     if count == ROOM {
         notation::print::text(b"file too long\n");
