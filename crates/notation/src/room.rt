@@ -1,4 +1,6 @@
 // The bytes that lines of the file give.
+ghost use mathlib.Core.Path.{_≡_};
+ghost use Rattle.notation.specs.Room.{holds, zeroed, pushed, appended, repeated};
 use crate::digits::number;
 use crate::words::word;
 
@@ -14,7 +16,9 @@ pub struct Bytes {
     pub count: usize,
 }
 
-pub fn zeros(count: usize) -> Bytes {
+pub fn zeros(count: usize) -> Bytes
+    ensures { λ r. ⌜ holds r ≡ zeroed count ⌝ }
+{
     Bytes {
         room: [0; ROOM],
         count: count,
@@ -22,7 +26,9 @@ pub fn zeros(count: usize) -> Bytes {
 }
 
 // One byte more.
-fn push(mut bytes: Bytes, value: u64) -> Bytes {
+fn push(mut bytes: Bytes, value: u64) -> Bytes
+    ensures { λ r. ⌜ holds r ≡ pushed (holds bytes) value ⌝ }
+{
     let count = bytes.count;
     if 256 <= value {
         return zeros(MALFORMED);
@@ -36,7 +42,9 @@ fn push(mut bytes: Bytes, value: u64) -> Bytes {
 }
 
 // The bytes before, and those that the line names from `from` on.
-pub fn append(line: &[u8], from: usize, before: Bytes) -> Bytes {
+pub fn append(line: &[u8], from: usize, before: Bytes) -> Bytes
+    ensures { λ r. ⌜ holds r ≡ appended (now (line .entry)) from (holds before) ⌝ }
+{
     let mut after = before;
     let mut at = from;
     while at < line.len() {
@@ -48,7 +56,9 @@ pub fn append(line: &[u8], from: usize, before: Bytes) -> Bytes {
 }
 
 // The bytes before, and as often as the line says at `from`, those that it names behind that number.
-pub fn repeat(line: &[u8], from: usize, before: Bytes) -> Bytes {
+pub fn repeat(line: &[u8], from: usize, before: Bytes) -> Bytes
+    ensures { λ r. ⌜ holds r ≡ repeated (now (line .entry)) from (holds before) ⌝ }
+{
     if line.len() <= from {
         return zeros(MALFORMED);
     }

@@ -1,6 +1,8 @@
 // The words on a line: each is a number with a space before it.
 ghost use Prim.Native.Nat.{min, _+_, _≤_};
+ghost use mathlib.Core.Path.{_≡_};
 ghost use lib.ListN.{length};
+ghost use Rattle.notation.specs.Words.{wordValue, wordEnd};
 use crate::digits::number;
 
 // More than any number that a line may name: what stands there is no number.
@@ -14,6 +16,7 @@ pub struct Found {
 
 // The number to the base 16 whose word begins at `at`.
 pub fn word(line: &[u8], at: usize) -> Found
+    ensures { λ r. ⌜ (r .value ≡ wordValue (now (line .entry)) at) × (r .end ≡ wordEnd (now (line .entry)) at) ⌝ }
     ensures { λ r. ⌜ (min (at + 1) (length (now (line .entry))) ≤ r .end) × (r .end ≤ length (now (line .entry))) ⌝ }
 {
     if line.len() <= at {

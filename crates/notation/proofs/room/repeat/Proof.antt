@@ -1,9 +1,12 @@
 use borrow.Author.Needs.{needs}
+use mathlib.Core.Path.{_≡_, refl, _∙_}
+use Rattle.notation.specs.Room.{holds, again}
+use Rattle.notation.proofs.Rooms.{again-on, again-end, repeat-none, repeat-many, repeat-is}
 use Rattle.notation.proofs.room.repeat.Statement.{statement}
 use Rattle.notation.proofs.room.repeat.Tie as tie
 
 abbrev Inv-loop : tie.InvT-loop
-Inv-loop line from end times₀ after₀ times after = Unit {0}
+Inv-loop line from end times₀ after₀ times after = again times line end (holds after) ≡ again times₀ line end (holds after₀)
 
 abbrev μ-loop : tie.MeasureT-loop
 μ-loop line from end times₀ after₀ times after = times
@@ -12,7 +15,7 @@ zeros-requires : tie.Need-zeros-requires Inv-loop μ-loop
 zeros-requires c κs = search needs
 
 returns : tie.Need-returns Inv-loop μ-loop
-returns c = search needs
+returns c = c .zeros .ensures ∙ repeat-none _ _ _ (c .before .if1 .taken)
 
 add-find : tie.Need-add-find Inv-loop μ-loop
 add-find c = search needs
@@ -27,10 +30,12 @@ zeros-requires-2 : tie.Need-zeros-requires-2 Inv-loop μ-loop
 zeros-requires-2 c κs = search needs
 
 returns-2 : tie.Need-returns-2 Inv-loop μ-loop
-returns-2 c = search needs
+returns-2 c =
+    c .zeros2 .ensures
+    ∙ repeat-many _ _ _ _ _ (c .before .before .before .before .if1 .left) (c .before .before .before .find .ensures .0) (c .before .before .number .ensures) (c .before .if2 .taken)
 
 loop-holds : tie.Need-loop-holds Inv-loop μ-loop
-loop-holds c = search needs
+loop-holds c = refl
 
 append-requires : tie.Need-append-requires Inv-loop μ-loop
 append-requires c κs = search needs
@@ -42,10 +47,12 @@ loop-less : tie.Need-loop-less Inv-loop μ-loop
 loop-less c = search needs
 
 loop-again : tie.Need-loop-again Inv-loop μ-loop
-loop-again c = search needs
+loop-again c = again-on _ _ _ _ _ _ (c .before .loop-test .taken) (c .append .ensures) (c .before .before .loop .inv)
 
 returns-3 : tie.Need-returns-3 Inv-loop μ-loop
-returns-3 c = search needs
+returns-3 c =
+    again-end _ _ _ _ _ (c .loop-test .left) (c .before .loop .inv)
+    ∙ repeat-is _ _ _ _ _ (c .before .before .before .before .before .if1 .left) (c .before .before .before .before .find .ensures .0) (c .before .before .before .number .ensures) (c .before .before .if2 .left)
 
 pub repeat-spec : {M : Type 1} → statement M
 repeat-spec =
