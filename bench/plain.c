@@ -1,7 +1,8 @@
 /*
  * The check and the tick of document 01, with items 1 and 3 to 7 of 02, as one would write them in C. The check is one
- * recursive walk that reads and fills two bit matrices. The tick is a recursion over the read-back set, and inside it over
- * the bytes: it skips a part that does not react, and looks through a part for an active pause before it resumes it.
+ * recursive walk; the first setpause begins it anew, and it fills two bit matrices then, which row 10 alone asks for. The
+ * tick is a recursion over the read-back set, and inside it over the bytes: it skips a part that does not react, and looks
+ * through a part for an active pause before it resumes it.
  */
 #include "plain.h"
 
@@ -17,115 +18,103 @@ static const struct { uint8_t parts, operands, low, high; } commands[] = {
     [SETPAUSE] = {0, 1, 0, LABELS - 1}, [SUSPEND] = {1, 1, 0, 31},
 };
 
-/* A set of labels: 0 to 63, and 64 to 127. */
-struct set {
-    uint64_t low, high;
-};
+/* Not inlined, so that a command without parts saves no registers for those with two. */
+#define APART __attribute__((noinline))
 
-static struct set only(uint8_t label)
+/* A set of labels, one bit each. */
+__extension__ typedef unsigned __int128 label_set;
+
+static label_set only(uint8_t label)
 {
-    uint64_t bit = UINT64_C(1) << label % 64;
-    return label < 64 ? (struct set){bit, 0} : (struct set){0, bit};
+    return (label_set)1 << label;
 }
 
-static bool has(struct set a, uint8_t label)
+static bool has(label_set a, uint8_t label)
 {
-    return (label < 64 ? a.low : a.high) >> label % 64 & 1;
+    return (label < 64 ? (uint64_t)a : (uint64_t)(a >> 64)) >> label % 64 & 1;
 }
-
-static struct set join(struct set a, struct set b)
-{
-    return (struct set){a.low | b.low, a.high | b.high};
-}
-
-static bool empty(struct set a)
-{
-    return (a.low | a.high) == 0;
-}
-
-/* Do they share a label? */
-static bool meet(struct set a, struct set b)
-{
-    return ((a.low & b.low) | (a.high & b.high)) != 0;
-}
-
-static bool within(struct set a, struct set b)
-{
-    return ((a.low & ~b.low) | (a.high & ~b.high)) == 0;
-}
-
-/* Takes the lowest label out of a set that is not empty. */
-static unsigned take(struct set *a)
-{
-    uint64_t *word = a->low != 0 ? &a->low : &a->high;
-    unsigned label = (unsigned)__builtin_ctzll(*word) + (a->low != 0 ? 0 : 64);
-    *word &= *word - 1;
-    return label;
-}
-
-/* The labels in a statement; its triggers are its pauses and its setpauses. */
-struct labels {
-    struct set pauses, triggers;
-};
 
 struct check {
     const uint8_t *next, *end;
-    uint8_t number;                /* row 3 to 6 if one holds */
-    bool twice;                    /* row 8 */
-    unsigned nested;               /* the most signals around a command */
-    struct set pauses, triggers;   /* those read so far; a row of the matrices is cleared with its first trigger */
-    struct set exclusive[LABELS];  /* l in row k, and k in row l: the pauses k and l are exclusive */
-    struct set compatible[LABELS]; /* l in row k: a trigger k is compatible with a later trigger l */
+    uint8_t number;               /* row 3 to 6 if one holds, or AGAIN */
+    bool twice;                   /* row 8 */
+    bool clash;                   /* two exclusive pauses are active (row 11) */
+    bool matrices;                /* are they filled? */
+    unsigned nested;              /* the most signals around a command */
+    unsigned count;               /* the active pauses read so far */
+    label_set active;             /* the labels of the state; none if there is no state */
+    label_set pauses, setpauses;  /* those read so far; a row of the matrices is cleared with its first one */
+    label_set exclusive[LABELS];  /* l in row k, and k in row l: the pauses k and l are exclusive */
+    label_set compatible[LABELS]; /* l in row k: a setpause k is compatible with a later setpause l, or with a pause l */
 };
 
-static const struct set no_labels;
-static const struct labels neither;
+/* There is a setpause, and the matrices are not filled. */
+enum { AGAIN = 255 };
 
-static struct labels refuse(struct check *c, uint8_t number)
+static label_set refuse(struct check *c, uint8_t number)
 {
     c->number = number;
-    return neither;
+    return 0;
 }
 
-static void add(struct set *matrix, struct set rows, struct set columns)
+static void add(label_set *matrix, label_set rows, label_set columns)
 {
-    if (empty(columns))
+    if (columns == 0)
         return;
-    while (!empty(rows)) {
-        unsigned row = take(&rows);
-        matrix[row] = join(matrix[row], columns);
-    }
+    for (uint64_t low = (uint64_t)rows; low != 0; low &= low - 1)
+        matrix[__builtin_ctzll(low)] |= columns;
+    for (uint64_t high = (uint64_t)(rows >> 64); high != 0; high &= high - 1)
+        matrix[64 + __builtin_ctzll(high)] |= columns;
 }
 
-/* A trigger is read: gives its label alone. */
-static struct set trigger(struct check *c, uint8_t label)
+/* The rows of a label that is read for the first time. */
+static void clear(struct check *c, uint8_t label)
 {
-    struct set own = only(label);
-    if (!has(c->triggers, label))
-        c->exclusive[label] = c->compatible[label] = no_labels;
-    c->triggers = join(c->triggers, own);
-    return own;
+    if (!has(c->pauses | c->setpauses, label))
+        c->exclusive[label] = c->compatible[label] = 0;
 }
 
-static struct labels statement(struct check *c, unsigned depth, unsigned signals);
+static label_set statement(struct check *c, unsigned depth, unsigned signals);
 
-static struct labels both(struct check *c, uint8_t byte, unsigned depth, unsigned signals)
+static APART label_set both(struct check *c, uint8_t byte, unsigned depth, unsigned signals)
 {
-    struct labels p = statement(c, depth, signals);
+    unsigned before = c->count;
+    statement(c, depth, signals);
     if (c->number != 0)
-        return p;
-    struct labels q = statement(c, depth, signals);
-    if (byte == PARALLEL) {
-        add(c->compatible, p.triggers, q.triggers);
-    } else {
-        add(c->exclusive, p.pauses, q.pauses);
-        add(c->exclusive, q.pauses, p.pauses);
-    }
-    return (struct labels){join(p.pauses, q.pauses), join(p.triggers, q.triggers)};
+        return 0;
+    unsigned middle = c->count;
+    statement(c, depth, signals);
+    if (byte != PARALLEL && before != middle && middle != c->count)
+        c->clash = true;
+    return 0;
 }
 
-/* Reads the statement that begins at c->next, whose command stands at this depth inside so many signals. */
-static struct labels statement(struct check *c, unsigned depth, unsigned signals)
+/* The same with matrices. */
+static APART label_set both_filled(struct check *c, uint8_t byte, unsigned depth, unsigned signals)
+{
+    label_set before = c->pauses;
+    label_set first = statement(c, depth, signals);
+    if (c->number != 0)
+        return 0;
+    label_set p = c->pauses & ~before;
+    label_set second = statement(c, depth, signals);
+    label_set q = c->pauses & ~before & ~p;
+    if (byte == PARALLEL) {
+        add(c->compatible, first, q | second);
+        add(c->compatible, second, p);
+    } else {
+        add(c->exclusive, p, q);
+        add(c->exclusive, q, p);
+        c->clash |= (p & c->active) != 0 && (q & c->active) != 0;
+    }
+    return first | second;
+}
+
+/*
+ * Reads the statement that begins at c->next, whose command stands at this depth inside so many signals. Gives its
+ * setpauses.
+ */
+static label_set statement(struct check *c, unsigned depth, unsigned signals)
 {
     if (c->next == c->end)
         return refuse(c, 4);
@@ -142,19 +131,23 @@ static struct labels statement(struct check *c, unsigned depth, unsigned signals
     if (depth > MAX_DEPTH || (byte == SIGNAL && signals == MAX_SIGNALS))
         return refuse(c, 6);
 
-    struct set label;
     switch (byte) {
     case PAUSE:
-        label = trigger(c, operand);
+        clear(c, operand);
         c->twice |= has(c->pauses, operand);
-        c->pauses = join(c->pauses, label);
-        return (struct labels){label, label};
+        c->pauses |= only(operand);
+        c->count += has(c->active, operand);
+        return 0;
     case SETPAUSE:
-        return (struct labels){no_labels, trigger(c, operand)};
+        if (!c->matrices)
+            return refuse(c, AGAIN);
+        clear(c, operand);
+        c->setpauses |= only(operand);
+        return only(operand);
     case SEQUENCE:
     case PARALLEL:
     case PRESENT:
-        return both(c, byte, depth + 1, signals);
+        return c->matrices ? both_filled(c, byte, depth + 1, signals) : both(c, byte, depth + 1, signals);
     case LOOP:
     case TRY:
     case SUSPEND:
@@ -164,22 +157,39 @@ static struct labels statement(struct check *c, unsigned depth, unsigned signals
             c->nested = signals + 1;
         return statement(c, depth + 1, signals + 1);
     default:
-        return neither;
+        return 0;
     }
 }
 
-/* Rows 2 to 10, and what row 11 needs to know: all pauses and which of them are exclusive. */
-static uint8_t check(struct check *c, const uint8_t *sequence, size_t length, uint32_t read_back)
+static void walk(struct check *c, const uint8_t *sequence, size_t length, bool matrices)
 {
-    if (length == 0 || length > MAX_BYTES)
-        return 2;
     c->next = sequence;
     c->end = sequence + length;
     c->number = 0;
-    c->twice = false;
-    c->nested = 0;
-    c->pauses = c->triggers = no_labels;
+    c->twice = c->clash = false;
+    c->matrices = matrices;
+    c->nested = c->count = 0;
+    c->pauses = c->setpauses = 0;
     statement(c, 1, 0);
+}
+
+/* Takes the lowest label out of a set that is not empty. */
+static unsigned take(label_set *a)
+{
+    uint64_t low = (uint64_t)*a, high = (uint64_t)(*a >> 64);
+    *a &= *a - 1;
+    return (unsigned)(low != 0 ? __builtin_ctzll(low) : 64 + __builtin_ctzll(high));
+}
+
+/* Rows 2 to 10, and what row 11 needs to know: all pauses, and whether two active ones are exclusive. */
+static uint8_t check(struct check *c, const uint8_t *sequence, size_t length, uint32_t read_back, label_set active)
+{
+    if (length == 0 || length > MAX_BYTES)
+        return 2;
+    c->active = active;
+    walk(c, sequence, length, false);
+    if (c->number == AGAIN)
+        walk(c, sequence, length, true);
     if (c->number != 0)
         return c->number;
     if ((unsigned)__builtin_popcount(read_back) + c->nested > MAX_SIGNALS)
@@ -188,11 +198,11 @@ static uint8_t check(struct check *c, const uint8_t *sequence, size_t length, ui
         return 7;
     if (c->twice)
         return 8;
-    if (!within(c->triggers, c->pauses))
+    if ((c->setpauses & ~c->pauses) != 0)
         return 9;
-    for (struct set rest = c->pauses; !empty(rest);) {
-        unsigned row = take(&rest);
-        if (meet(c->exclusive[row], c->compatible[row]))
+    for (label_set rest = c->setpauses; rest != 0;) {
+        unsigned label = take(&rest);
+        if ((c->exclusive[label] & c->compatible[label]) != 0)
             return 10;
     }
     return 0;
@@ -201,15 +211,15 @@ static uint8_t check(struct check *c, const uint8_t *sequence, size_t length, ui
 uint8_t plain_check(const uint8_t *sequence, size_t length, uint32_t read_back)
 {
     struct check c;
-    return check(&c, sequence, length, read_back);
+    return check(&c, sequence, length, read_back, 0);
 }
 
 enum { STATE_BYTES = 17, ANSWER_BYTES = 12 };
 enum { FRESH, WAITS, OVER };
 enum { ENDED = 0, WAITING = 1, CAUGHT = 2, WRONG = 255 };
 
+/* Its labels are those that it added to the instant's. */
 struct reaction {
-    struct set labels;
     uint32_t emitted;
     uint8_t code;
 };
@@ -217,7 +227,8 @@ struct reaction {
 struct instant {
     const uint8_t *sequence;
     const uint8_t *next; /* the statement to react */
-    struct set active;   /* the labels of the state */
+    label_set active;    /* the labels of the state */
+    label_set labels;    /* those of the reactions so far, for the next state */
     uint32_t reactions;  /* those so far, both runs of each signal */
     uint16_t place;      /* the first error; there is one exactly if the instant is wrong */
     uint8_t kind;
@@ -250,31 +261,44 @@ static bool skip(struct instant *t)
     return found;
 }
 
-static bool active(const struct instant *t)
+static bool active(struct instant *t)
 {
-    struct instant look = *t;
-    return skip(&look);
+    const uint8_t *start = t->next;
+    bool found = skip(t);
+    t->next = start;
+    return found;
 }
 
-/* Moves past a stopped statement; which of its labels are active? A skip that told this would slow down every instant. */
-static struct set kept(struct instant *t)
+static struct reaction waiting(struct instant *t, uint8_t label)
 {
-    struct set labels = no_labels;
+    t->labels |= only(label);
+    return (struct reaction){0, WAITING};
+}
+
+/* Moves past a stopped statement, whose active labels stay. A skip that kept them would slow down every instant. */
+static struct reaction stopped(struct instant *t)
+{
+    label_set labels = 0;
     for (unsigned missing = 1; missing > 0; missing--) {
         uint8_t byte = *t->next++;
-        if (byte == PAUSE && has(t->active, *t->next))
-            labels = join(labels, only(*t->next));
+        if (byte == PAUSE)
+            labels |= only(*t->next);
         t->next += commands[byte].operands;
         missing += commands[byte].parts;
     }
-    return labels;
+    t->labels |= t->active & labels;
+    return (struct reaction){0, WAITING};
 }
 
-static struct reaction parallel(struct reaction p, struct reaction q)
+/* Both sides run; their labels are dropped if one of them exits or is wrong. */
+static struct reaction parallel(struct instant *t, run *side, uint32_t present)
 {
+    label_set before = t->labels;
+    struct reaction p = side(t, present), q = side(t, present);
     uint8_t code = p.code > q.code ? p.code : q.code;
-    struct set labels = code == WAITING ? join(p.labels, q.labels) : no_labels;
-    return (struct reaction){labels, p.emitted | q.emitted, code};
+    if (code > WAITING)
+        t->labels = before;
+    return (struct reaction){p.emitted | q.emitted, code};
 }
 
 static struct reaction caught(struct reaction p)
@@ -286,15 +310,19 @@ static struct reaction caught(struct reaction p)
     return p;
 }
 
-/* The signal s by both runs of its body: inheritance of a wrong one, then the other cases. */
-static struct reaction choose(struct instant *t, struct reaction minus, struct reaction plus, uint32_t s, ptrdiff_t place)
+/* The signal s by both runs of its body, the one with s last: inheritance of a wrong one, then the other cases. */
+static struct reaction choose(struct instant *t, struct reaction minus, label_set labels_of_minus, struct reaction plus,
+                              uint32_t s, ptrdiff_t place)
 {
     if (minus.code == WRONG || plus.code == WRONG)
         return (struct reaction){.code = WRONG};
     bool in_minus = (minus.emitted & s) != 0, in_plus = (plus.emitted & s) != 0;
     if (in_minus != in_plus)
         return wrong(t, in_minus ? 2 : 3, place);
-    return in_plus ? plus : minus;
+    if (in_plus)
+        return plus;
+    t->labels = labels_of_minus;
+    return minus;
 }
 
 /* The signal whose body is at t->next. */
@@ -302,10 +330,13 @@ static struct reaction local(struct instant *t, run *body, uint32_t present)
 {
     const uint8_t *start = t->next;
     uint32_t s = UINT32_C(1) << start[-1];
+    label_set before = t->labels;
     struct reaction minus = body(t, present & ~s);
+    label_set labels_of_minus = t->labels;
     t->next = start;
+    t->labels = before;
     struct reaction plus = body(t, present | s);
-    struct reaction all = choose(t, minus, plus, s, start - 2 - t->sequence);
+    struct reaction all = choose(t, minus, labels_of_minus, plus, s, start - 2 - t->sequence);
     all.emitted &= ~s;
     return all;
 }
@@ -315,13 +346,15 @@ static struct reaction declared(struct instant *t, run *body, uint32_t set, uint
 {
     if (set == 0) {
         t->next = t->sequence;
+        t->labels = 0;
         return body(t, present);
     }
     t->reactions++;
     uint32_t s = set & -set;
     struct reaction minus = declared(t, body, set ^ s, present & ~s);
+    label_set labels_of_minus = t->labels;
     struct reaction plus = declared(t, body, set ^ s, present | s);
-    return choose(t, minus, plus, s, READ_BACK);
+    return choose(t, minus, labels_of_minus, plus, s, READ_BACK);
 }
 
 static struct reaction react(struct instant *t, uint32_t present);
@@ -361,7 +394,7 @@ static struct reaction react(struct instant *t, uint32_t present)
     switch (*command) {
     case PAUSE:
     case SETPAUSE:
-        return (struct reaction){only(operand), 0, WAITING};
+        return waiting(t, operand);
     case EMIT:
         return (struct reaction){.emitted = UINT32_C(1) << operand, .code = ENDED};
     case EXIT:
@@ -369,8 +402,7 @@ static struct reaction react(struct instant *t, uint32_t present)
     case SEQUENCE:
         return then(t, react(t, present), present);
     case PARALLEL:
-        p = react(t, present);
-        return parallel(p, react(t, present));
+        return parallel(t, react, present);
     case LOOP:
         p = react(t, present);
         return p.code == ENDED ? wrong(t, 1, command - t->sequence) : p;
@@ -411,8 +443,7 @@ static struct reaction resume(struct instant *t, uint32_t present)
         return then(t, resume(t, present), present);
     case PARALLEL:
         t->reactions++;
-        p = side(t, present);
-        return parallel(p, side(t, present));
+        return parallel(t, side, present);
     case LOOP:
         t->reactions++;
         p = resume(t, present);
@@ -430,7 +461,7 @@ static struct reaction resume(struct instant *t, uint32_t present)
         return caught(resume(t, present));
     case SUSPEND:
         t->reactions++;
-        return present >> command[1] & 1 ? (struct reaction){kept(t), 0, WAITING} : resume(t, present);
+        return present >> command[1] & 1 ? stopped(t) : resume(t, present);
     default: /* an active pause */
         t->reactions++;
         return ended;
@@ -452,13 +483,10 @@ static void put(uint8_t *bytes, unsigned count, uint64_t value)
 }
 
 /* Rows 11 and 12. */
-static uint8_t check_state(const struct check *c, uint8_t phase, struct set labels)
+static uint8_t check_state(const struct check *c, uint8_t phase)
 {
-    if (phase > OVER || empty(labels) != (phase != WAITS) || !within(labels, c->pauses))
+    if (phase > OVER || (c->active == 0) != (phase != WAITS) || (c->active & ~c->pauses) != 0 || c->clash)
         return 11;
-    for (struct set rest = labels; !empty(rest);)
-        if (meet(c->exclusive[take(&rest)], labels))
-            return 11;
     return phase == OVER ? 12 : 0;
 }
 
@@ -467,19 +495,20 @@ uint8_t plain_tick(const uint8_t *sequence, size_t sequence_length, uint8_t *sta
 {
     if (state_length != STATE_BYTES || answer_length != ANSWER_BYTES)
         return 1;
+    label_set active = (label_set)get(state + 9, 8) << 64 | get(state + 1, 8);
     struct check c;
-    uint8_t number = check(&c, sequence, sequence_length, read_back);
-    if (number != 0)
-        return number;
-    struct instant t = {.sequence = sequence, .active = {get(state + 1, 8), get(state + 9, 8)}};
-    number = check_state(&c, state[0], t.active);
+    uint8_t number = check(&c, sequence, sequence_length, read_back, active);
+    if (number == 0)
+        number = check_state(&c, state[0]);
     if (number != 0)
         return number;
 
+    struct instant t = {.sequence = sequence, .active = active};
     struct reaction r = declared(&t, state[0] == FRESH ? react : resume, read_back, input);
     state[0] = r.code == WAITING ? WAITS : OVER;
-    put(state + 1, 8, r.labels.low);
-    put(state + 9, 8, r.labels.high);
+    label_set labels = r.code == WAITING ? t.labels : 0;
+    put(state + 1, 8, (uint64_t)labels);
+    put(state + 9, 8, (uint64_t)(labels >> 64));
     answer[0] = r.code;
     answer[1] = t.kind;
     put(answer + 2, 2, t.place);
