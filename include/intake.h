@@ -90,11 +90,12 @@ enum intake_phase {
  * place is the byte offset of the erring command in the sequence, lowest byte first, or INTAKE_PLACE_READ_BACK. Byte 0 of
  * the emitted set holds the signals 0 to 7, signal 0 in the lowest bit; the set is empty if the code is INTAKE_WRONG.
  *
- * The number of reactions, lowest byte first, is the work of the instant, a wrong one too: each command of the statement
- * that reacts counts each time it reacts, in both runs of every signal around it, read-back ones included. That statement is
- * the sequence, or its expansion when it is resumed. The number never exceeds commands * (1 + loops) * 2^signals, where
- * loops and signals are the greatest numbers of them around a command, and a read-back signal counts as a command and as a
- * signal. docs/CEILING.md has more.
+ * The number of reactions, lowest byte first, is that of the instant's tree, of a wrong one too: each command of the
+ * statement that reacts counts each time it reacts, in both runs of every signal around it, read-back ones included. A run
+ * that the engine leaves out, since it would repeat the other, is counted: the number does not tell what the engine does.
+ * That statement is the sequence, or its expansion when it is resumed. The number never exceeds
+ * commands * (1 + loops) * 2^signals, where loops and signals are the greatest numbers of them around a command, and a
+ * read-back signal counts as a command and as a signal. docs/CEILING.md has more.
  */
 enum intake_answer {
     INTAKE_ANSWER_CODE = 0,
@@ -124,8 +125,8 @@ enum intake_code {
  * Kind and place are those of the first error of a wrong instant. Errors come in this order: of two parts those of the
  * first before those of the second; of a signal's two runs those of the run without the signal before those of the run
  * with it; the error of a loop or a signal itself after all errors inside it. A signal is tried without and with, and an
- * error in either run makes the instant wrong; once the first error is mended, the next one is shown. A loop's next
- * round has the places of its commands. The same sequence, state, input and read-back set always show the same error.
+ * error in either run makes the instant wrong. One error is shown, and there may be others behind it. A loop's next round
+ * has the places of its commands. The same sequence, state, input and read-back set always show the same error.
  */
 enum intake_kind {
     INTAKE_NO_ERROR = 0,
@@ -142,8 +143,8 @@ enum intake_kind {
  * any other output.
  *
  * - Put into the set the outputs that the sequence tests, and no others: each takes one of the six signals that may stand
- *   around a command, and doubles the work of an instant. A signal that the host gives does not belong there: the host's
- *   status of a read-back signal is ignored.
+ *   around a command, and lets the sequence react in two runs, so that the ceiling of reactions more than doubles. A signal
+ *   that the host gives does not belong there: the host's status of a read-back signal is ignored.
  * - Pass the same set to the check and to every tick of one machine. The tick takes any set and does not remember the last
  *   one, so a set that changes half way gives each instant the answers of another program.
  * - An empty set, 0, gives what the calls give without read-back: every test of an interface signal reads the input.
@@ -172,9 +173,10 @@ uint8_t intake_check(const uint8_t *sequence, size_t length, uint32_t read_back)
 /*
  * Runs one instant of the machine whose sequence and state record these are, and answers INTAKE_ACCEPTED, or the number
  * of the row that turns the call down. An accepted call writes the whole answer record and the whole state record, which
- * is then ready for the next call. A call turned down writes neither, not even bytes of the same value. The sequence and
- * the read-back set stay the same through all instants of a machine. A wrong instant is accepted: its code is
- * INTAKE_WRONG.
+ * is then ready for the next call. A call turned down writes neither: that the bytes of both are unchanged afterwards is
+ * proved, and that not even bytes of the same value are stored is tested, with records in read-only memory (host/tick.c).
+ * The sequence and the read-back set stay the same through all instants of a machine. A wrong instant is accepted: its code
+ * is INTAKE_WRONG.
  *
  * Bit s of `input` says that the host gives signal s, and bit s of `read_back` that the sequence reads s back; every value
  * of both is allowed. A test of a signal that neither a signal command around it nor `read_back` declares reads `input`
