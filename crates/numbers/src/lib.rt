@@ -5,6 +5,8 @@ ghost use lib.ListN.{length, getD, take, drop};
 ghost use lib.Seq.{sets};
 ghost use Rattle.numbers.specs.Bytes.{leBytes, leNumber, atMost8, numberAt};
 
+pub mod copying;
+
 fn wide(x: u8) -> u64
     ensures { λ r. ⌜ r ≡ x ⌝ }
 {

@@ -1,0 +1,1 @@
+// Bytes at an offset, and bytes put in their place: specs/ and proofs/, no code.
