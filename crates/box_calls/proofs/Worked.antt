@@ -1,0 +1,27 @@
+-- The box worked by hand, by computation.
+use mathlib.Core.Path.{_≡_, refl}
+use Rattle.esterel.specs.Sets.{none, only, member, join, insert, remove}
+use Rattle.esterel.specs.Reaction.{reactBy}
+use Rattle.esterel.specs.Errors.{errorsBy}
+use Rattle.esterel.specs.Reactions.{reactionsBy}
+use Rattle.esterel.specs.LabelTests.{subset, disjoint, labelsOf, activeLabels, everyLabel, distinct, before, wellFormed, valid}
+use Rattle.esterel.specs.States.{active}
+use Rattle.esterel.specs.Expansion.{expand}
+use Rattle.esterel.specs.ReadBack.{membersFrom, declared}
+use Rattle.esterel.specs.Ceiling.{commands, loopNesting, nesting, ceiling}
+use Rattle.sequence.specs.Commands.{commandOf}
+use Rattle.sequence.specs.Reader.{front, read}
+use Rattle.sequence.specs.Check.{checked}
+use Rattle.numbers.specs.Bytes.{leBytes, leNumber}
+use Rattle.states.specs.StateRecord.{encodeState, decodeState}
+use Rattle.answers.specs.AnswerRecord.{encodeAnswer}
+use Rattle.parts.specs.Parts.{put, zeros}
+use Rattle.demands.specs.Tick.{tickBy, tickOf}
+use Rattle.box_calls.specs.Stretch.{partOf, vacated, filled}
+use Rattle.box_calls.specs.BayCalls.{bayTickOf, bayReleaseOf, bayAdmitOf}
+use Rattle.box_calls.specs.Box.{emptyBox, present, callOf}
+use Rattle.box_calls.specs.Worked.{requests, expected, shows}
+
+pub worked : shows callOf emptyBox requests ≡ expected
+unfolding shows callOf emptyBox present partOf vacated filled bayTickOf bayReleaseOf bayAdmitOf put zeros leBytes leNumber tickBy checked read front commandOf distinct wellFormed before everyLabel labelsOf subset disjoint valid active activeLabels membersFrom declared commands loopNesting nesting ceiling encodeState decodeState encodeAnswer expand reactBy errorsBy reactionsBy none only member join insert remove
+worked = refl

@@ -1,0 +1,38 @@
+-- The calls of a bay on its stretch (02, item 8): the number, the stretch after the call and the lent buffers after it.
+use Prim.Native.Nat.{ℕ, _+_}
+use mathlib.Core.Bool.{cond}
+use mathlib.Core.List.{List, [], _∷_}
+use lib.Dec.{leb}
+use Rattle.esterel.specs.Ceiling.{ceiling}
+use Rattle.sequence.specs.Program.{program}
+use Rattle.sequence.specs.Check.{Checked, sound, bad, checked}
+use Rattle.parts.specs.Parts.{put}
+use Rattle.states.specs.StateRecord.{stateLength}
+use Rattle.demands.specs.Tick.{Outcome, outcome, tickOf}
+use Rattle.box_calls.specs.Called.{Called, called}
+use Rattle.box_calls.specs.Stretch.{stateAt, sequenceIn, readBackIn, stateIn, vacated, Terms, filled}
+
+-- 02, item 8: 'a shared ceiling of 65,536 reactions an instant'
+abbrev pub sharedCeiling : ℕ
+sharedCeiling = 65536
+
+-- what a tick makes of the state record, put where the stretch has it
+abbrev pub stateKept : List ℕ → Outcome → Called
+stateKept s (outcome number state answer) = called number (put stateAt stateLength state s) (answer ∷ [])
+
+-- the tick on the sequence, the state and the read-back set that the bay holds
+unfoldable pub bayTickOf : (s : List ℕ) (e : ℕ) (answer : List ℕ) → Called
+bayTickOf s e answer = stateKept s (tickOf (sequenceIn s) (stateIn s) e (readBackIn s) answer)
+
+unfoldable pub bayReleaseOf : (s : List ℕ) → Called
+bayReleaseOf s = called 0 (vacated s) []
+
+-- an admission: 'if Item 6's ceilings of those present and its own sum to no more'; `present` is what those present have
+abbrev pub byCheck : (present : ℕ) (s : List ℕ) → Terms → Checked → Called
+byCheck present s t (bad number) = called number s []
+byCheck present s t (sound p) =
+    cond (leb (present + ceiling (program (t .readBack) p)) sharedCeiling) (called 0 (filled t (ceiling (program (t .readBack) p)) s) [])
+    (called 14 s [])
+
+unfoldable pub bayAdmitOf : (present : ℕ) (s : List ℕ) → Terms → Called
+bayAdmitOf present s t = byCheck present s t (checked (t .sequence) (t .readBack))

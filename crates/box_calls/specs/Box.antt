@@ -1,0 +1,66 @@
+-- The box (02, item 8): eight stretches, one a bay, and a call to one of them: the number, the box after the call and the lent
+-- buffers after it, for all arguments.
+use Prim.Native.Nat.{ℕ, zero, suc, _+_, _*_}
+use mathlib.Core.Bool.{Bool, not, cond}
+use mathlib.Core.List.{List, [], _∷_}
+use lib.ListN.{length}
+use lib.Dec.{eqb, ltb}
+use Rattle.parts.specs.Parts.{slot, put, zeros}
+use Rattle.box_calls.specs.Called.{Called, called}
+use Rattle.box_calls.specs.Stretch.{stretchLength, isEmpty, partOf, Terms}
+use Rattle.box_calls.specs.BayCalls.{bayTickOf, bayReleaseOf, bayAdmitOf}
+
+abbrev pub bayCount : ℕ
+bayCount = 8
+
+abbrev pub boxLength : ℕ
+boxLength = bayCount * stretchLength
+
+-- the box that a host begins with
+unfoldable pub emptyBox : List ℕ
+emptyBox = zeros boxLength
+
+abbrev pub stretchOf : (bay : ℕ) → List ℕ → List ℕ
+stretchOf bay box = slot (bay * stretchLength) stretchLength box
+
+-- what the first n bays have of the shared ceiling
+unfoldable pub present : (n : ℕ) → List ℕ → ℕ
+present zero box = 0
+present (suc n) box = present n box + partOf (stretchOf n box)
+
+-- ---- the calls
+pub data Call : Type 0 where
+  admit : Terms → Call
+  release : Call
+  tick : (input : ℕ) (answer : List ℕ) → Call
+
+-- the buffers that a call is lent for writing beside the box
+abbrev pub buffers : Call → List (List ℕ)
+buffers (admit t) = []
+buffers release = []
+buffers (tick e answer) = answer ∷ []
+
+-- the call on the bay's stretch; what those present have of the shared ceiling concerns an admission alone
+abbrev pub bayCall : (present : ℕ) → Call → List ℕ → Called
+bayCall present (admit t) s = bayAdmitOf present s t
+bayCall present release s = bayReleaseOf s
+bayCall present (tick e answer) s = bayTickOf s e answer
+
+-- a bay is there for the call: an empty one for an admission, a filled one for every other
+abbrev pub isFor : Call → List ℕ → Bool
+isFor (admit t) s = isEmpty s
+isFor release s = not (isEmpty s)
+isFor (tick e answer) s = not (isEmpty s)
+
+-- what a call makes of the bay's stretch, put where the box has it
+abbrev pub inBox : (bay : ℕ) → List ℕ → Called → Called
+inBox bay box (called number s lent) = called number (put (bay * stretchLength) stretchLength s box) lent
+
+-- 13 for a bay number above 7, then 1 for a box of another length, then 13 for a bay that is not there for the call, then the call
+unfoldable pub callOf : (box : List ℕ) (bay : ℕ) → Call → Called
+callOf box bay c =
+    cond (ltb bay bayCount)
+    (cond (eqb (length box) boxLength)
+    (cond (isFor c (stretchOf bay box)) (inBox bay box (bayCall (present bayCount box) c (stretchOf bay box))) (called 13 box (buffers c)))
+    (called 1 box (buffers c)))
+    (called 13 box (buffers c))

@@ -1,0 +1,10 @@
+pub mod Stretch
+pub mod Called
+pub mod BayCalls
+pub mod Box
+pub mod Lists
+pub mod Shares
+pub mod BayRuns
+pub mod Worked
+pub mod Claims
+pub mod WrongBoxes

@@ -1,0 +1,43 @@
+-- The shared ceiling (02, item 8) over lists of calls: which arguments a host can pass, and the reactions of one tick of each bay.
+use Prim.Native.Nat.{ℕ, _+_, _^_, _<_}
+use mathlib.Core.Path.{_≡_}
+use mathlib.Core.Bool.{Bool, true, false, cond}
+use mathlib.Core.List.{List, [], _∷_}
+use lib.Dec.{eqb}
+use Rattle.limits.specs.Limits.{signalBytes}
+use Rattle.answers.specs.AnswerRecord.{takenIn}
+use Rattle.box_calls.specs.Called.{Called, number, lentAfter, first}
+use Rattle.box_calls.specs.Stretch.{Terms}
+use Rattle.box_calls.specs.Box.{Call, admit, release, tick}
+use Rattle.box_calls.specs.Lists.{Calling, Request, afterCall}
+
+-- a read-back set is one of 32 signals, as the type of the argument has it
+abbrev pub Sendable : Call → Type 0
+Sendable (admit t) = t .readBack < 256 ^ signalBytes
+Sendable release = Unit {0}
+Sendable (tick e answer) = Unit {0}
+
+pub data AllSendable : List Request → Type 0 where
+  none : AllSendable []
+  each : {x : Request} {xs : List Request} → Sendable (x .call) → AllSendable xs → AllSendable (x ∷ xs)
+
+-- the reactions of a tick; none of one that is turned down
+abbrev pub reactionsOf : Called → ℕ
+reactionsOf o = cond (eqb (number o) 0) (takenIn (first (lentAfter o))) 0
+
+-- the reactions of a list of calls in all
+unfoldable pub reactionsIn : Calling → List ℕ → List Request → ℕ
+reactionsIn call box [] = 0
+reactionsIn call box (x ∷ xs) = reactionsOf (call box (x .bay) (x .call)) + reactionsIn call (afterCall call box x) xs
+
+-- a round: ticks alone, in any order, at most one of each bay that is left
+abbrev pub without : ℕ → (ℕ → Bool) → ℕ → Bool
+without bay left i = cond (eqb i bay) false (left i)
+
+pub data Round : (left : ℕ → Bool) → List Request → Type 0 where
+  done : {left : ℕ → Bool} → Round left []
+  more : {left : ℕ → Bool} {bay e : ℕ} {answer : List ℕ} {xs : List Request} → left bay ≡ true → Round (without bay left) xs
+      → Round left (record { bay = bay; call = tick e answer } ∷ xs)
+
+abbrev pub OneTickEach : List Request → Type 0
+OneTickEach = Round (λ bay. true)

@@ -1,0 +1,89 @@
+-- The stretch of a bay as bytes (02, item 8): what its admission fixes, what its calls move, and behind both what outlives its
+-- release. A box is eight of them, so its length stays the same when a later item of 02 uses its room here.
+use Prim.Native.Nat.{ℕ, _+_, _*_}
+use mathlib.Core.Bool.{Bool, cond}
+use mathlib.Core.List.{List}
+use lib.ListN.{length}
+use lib.Dec.{eqb}
+use Rattle.limits.specs.Limits.{maxBytes, signalBytes, takenBytes}
+use Rattle.numbers.specs.Bytes.{leBytes, leNumber}
+use Rattle.parts.specs.Parts.{slot, put, zeros}
+use Rattle.states.specs.StateRecord.{stateLength}
+
+-- ---- where the fields begin
+-- fixed by the admission: the length of the sequence (0: the bay is empty), the sequence, its read-back set and its ceiling
+abbrev pub lengthBytes : ℕ
+lengthBytes = 2
+
+abbrev pub sequenceAt : ℕ
+sequenceAt = lengthBytes
+
+abbrev pub readBackAt : ℕ
+readBackAt = sequenceAt + maxBytes
+
+abbrev pub ceilingAt : ℕ
+ceilingAt = readBackAt + signalBytes
+
+-- room for item 10's service-only set
+abbrev pub serviceAt : ℕ
+serviceAt = ceilingAt + takenBytes
+
+-- moved by calls: the state record
+abbrev pub stateAt : ℕ
+stateAt = serviceAt + signalBytes
+
+-- room for item 10's number of the last instant and for item 9's sixteen positions, each a name and a state record
+abbrev pub countAt : ℕ
+countAt = stateAt + stateLength
+
+abbrev pub positionsAt : ℕ
+positionsAt = countAt + 4
+
+-- what a release clears ends here, and room for item 12's ledger begins: 32 totals of 4 bytes
+abbrev pub bayLength : ℕ
+bayLength = positionsAt + 16 * (4 + stateLength)
+
+abbrev pub stretchLength : ℕ
+stretchLength = bayLength + 32 * 4
+
+-- ---- the fields
+abbrev pub lengthIn : List ℕ → ℕ
+lengthIn s = leNumber (slot 0 lengthBytes s)
+
+abbrev pub isEmpty : List ℕ → Bool
+isEmpty s = eqb (lengthIn s) 0
+
+abbrev pub sequenceIn : List ℕ → List ℕ
+sequenceIn s = slot sequenceAt (lengthIn s) s
+
+abbrev pub readBackIn : List ℕ → ℕ
+readBackIn s = leNumber (slot readBackAt signalBytes s)
+
+abbrev pub ceilingIn : List ℕ → ℕ
+ceilingIn s = leNumber (slot ceilingAt takenBytes s)
+
+abbrev pub stateIn : List ℕ → List ℕ
+stateIn s = slot stateAt stateLength s
+
+-- the part of the shared ceiling that the bay has
+unfoldable pub partOf : List ℕ → ℕ
+partOf s = cond (isEmpty s) 0 (ceilingIn s)
+
+-- ---- a stretch that is written
+-- a bay taken out
+unfoldable pub vacated : List ℕ → List ℕ
+vacated s = put 0 bayLength (zeros bayLength) s
+
+-- what an admission fixes
+pub record Terms : Type 0 where
+  pub sequence : List ℕ
+  pub readBack : ℕ
+
+-- a bay admitted: all that a release clears is cleared, and so the machine is fresh
+unfoldable pub filled : Terms → (ceiling : ℕ) → List ℕ → List ℕ
+filled t ceiling s =
+    put ceilingAt takenBytes (leBytes takenBytes ceiling)
+    (put readBackAt signalBytes (leBytes signalBytes (t .readBack))
+    (put sequenceAt (length (t .sequence)) (t .sequence)
+    (put 0 lengthBytes (leBytes lengthBytes (length (t .sequence)))
+    (vacated s))))

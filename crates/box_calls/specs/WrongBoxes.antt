@@ -1,0 +1,51 @@
+-- Boxes that break a claim of 02, item 8, each with one slip. proofs/WrongBoxes refutes the claim for each.
+use Prim.Native.Nat.{ℕ, zero, suc, _+_, _%_}
+use mathlib.Core.Bool.{cond}
+use mathlib.Core.List.{List, [], _∷_}
+use lib.Dec.{eqb}
+use Rattle.parts.specs.Parts.{put, zeros}
+use Rattle.demands.specs.Tick.{tickOf}
+use Rattle.box_calls.specs.Called.{Called, called, number}
+use Rattle.box_calls.specs.Stretch.{lengthBytes, sequenceIn, readBackIn, ceilingIn, stateIn, Terms}
+use Rattle.box_calls.specs.BayCalls.{stateKept, bayAdmitOf}
+use Rattle.box_calls.specs.Box.{bayCount, stretchOf, present, Call, admit, release, tick, inBox, callOf}
+use Rattle.box_calls.specs.Lists.{Calling}
+
+-- another result for a call that is answered with this number
+abbrev instead : ℕ → Called → Called → Called
+instead n other o = cond (eqb (number o) n) other o
+
+-- a tick that reads the neighbour's state
+abbrev pub readsNeighbour : Calling
+readsNeighbour box bay (admit t) = callOf box bay (admit t)
+readsNeighbour box bay release = callOf box bay release
+readsNeighbour box bay (tick e answer) =
+    cond (eqb (number (callOf box bay (tick e answer))) 13) (called 13 box (answer ∷ []))
+    (inBox bay box
+    (stateKept (stretchOf bay box)
+    (tickOf (sequenceIn (stretchOf bay box)) (stateIn (stretchOf (suc bay % bayCount) box)) e (readBackIn (stretchOf bay box)) answer)))
+
+-- an admission that forgets the last bay in the sum
+abbrev pub forgetsBay : Calling
+forgetsBay box bay (admit t) = instead 14 (inBox bay box (bayAdmitOf (present 7 box) (stretchOf bay box) t)) (callOf box bay (admit t))
+forgetsBay box bay release = callOf box bay release
+forgetsBay box bay (tick e answer) = callOf box bay (tick e answer)
+
+-- a release that leaves the ceiling, and an admission that counts the ceilings of bays that were taken out too
+unfoldable pub storedIn : (n : ℕ) → List ℕ → ℕ
+storedIn zero box = 0
+storedIn (suc n) box = storedIn n box + ceilingIn (stretchOf n box)
+
+abbrev pub keepsPart : Calling
+keepsPart box bay (admit t) = instead 0 (inBox bay box (bayAdmitOf (storedIn bayCount box) (stretchOf bay box) t)) (callOf box bay (admit t))
+keepsPart box bay release =
+    instead 0 (inBox bay box (called 0 (put 0 lengthBytes (zeros lengthBytes) (stretchOf bay box)) [])) (callOf box bay release)
+keepsPart box bay (tick e answer) = callOf box bay (tick e answer)
+
+-- a call turned down that clears the first byte of the box
+abbrev clearing : Called → Called
+clearing (called zero memory lent) = called 0 memory lent
+clearing (called (suc n) memory lent) = called (suc n) (put 0 1 (zeros 1) memory) lent
+
+abbrev pub refusalWrites : Calling
+refusalWrites box bay c = clearing (callOf box bay c)
