@@ -1,0 +1,131 @@
+-- What the fields of a stretch hold after each thing that is written to it.
+use Prim.Native.Nat.{ℕ, zero, suc, _+_, _-_, _^_, _≤_, _<_}
+use native.Mathlib.Omega.{arith}
+use mathlib.Core.Path.{_≡_, refl, sym, ap, _∙_}
+use mathlib.Core.List.{List, [], _∷_, _++_}
+use lib.ListN.{length, take, drop}
+use Rattle.limits.specs.Limits.{maxBytes, signalBytes, takenBytes}
+use Rattle.numbers.specs.Bytes.{leBytes, leNumber}
+use Rattle.numbers.proofs.Bytes.{length-leBytes, le-round-trip}
+use Rattle.states.specs.StateRecord.{stateLength}
+use Rattle.demands.specs.Demands.{cleared}
+use Rattle.parts.specs.Parts.{slot, put, zeros}
+use Rattle.box_calls.specs.Stretch.{lengthBytes, sequenceAt, readBackAt, ceilingAt, stateAt, bayLength, stretchLength, lengthIn, readBackIn, ceilingIn, stateIn, vacated, Terms, filled}
+use Rattle.parts.proofs.Zeros.{length-zeros, slot-zeros, zeros-number}
+use Rattle.parts.proofs.Parts.{slot-front, length-put, slot-put, put-before, put-behind}
+
+-- ---- zeros
+zeros-state : zeros stateLength ≡ cleared
+unfolding zeros leBytes
+zeros-state = refl
+
+-- ---- a bay taken out
+pub length-vacated : (s : List ℕ) → length s ≡ stretchLength → length (vacated s) ≡ stretchLength
+unfolding vacated
+length-vacated s h = length-put 0 bayLength (zeros bayLength) s (omega arith) (length-zeros bayLength) ∙ h
+
+slot-vacated : (i m : ℕ) (s : List ℕ) → i + m ≤ bayLength → slot i m (vacated s) ≡ zeros m
+unfolding vacated put
+slot-vacated i m s h =
+    slot-front i m (zeros bayLength) (drop bayLength s) (omega (arith, length-zeros bayLength)) ∙ slot-zeros i m bayLength h
+
+pub vacated-empty : (s : List ℕ) → lengthIn (vacated s) ≡ 0
+vacated-empty s = ap leNumber (slot-vacated 0 2 s (omega arith)) ∙ zeros-number 2
+
+-- ---- a bay that holds what an admission fixed
+pub record Holds (t : Terms) (ceiling : ℕ) (s : List ℕ) : Type 0 where
+  pub sized : length s ≡ stretchLength
+  pub long : lengthIn s ≡ length (t .sequence)
+  pub bytes : slot sequenceAt (length (t .sequence)) s ≡ t .sequence
+  pub set : readBackIn s ≡ t .readBack
+  pub part : ceilingIn s ≡ ceiling
+
+-- it holds the same after anything is written at the state or behind it
+module _ (t : Terms) (ceiling : ℕ) (fits : length (t .sequence) ≤ maxBytes) (s : List ℕ) (h : Holds t ceiling s) where
+  pub behind-holds : (at n : ℕ) (bytes : List ℕ) → stateAt ≤ at → at + n ≤ stretchLength → length bytes ≡ n → Holds t ceiling (put at n bytes s)
+  behind-holds at n bytes low high sized =
+      let z = h .sized in
+      let before = put-before at n bytes s (omega arith) sized in
+      record {
+        sized = length-put at n bytes s (omega arith) sized ∙ z;
+        long = ap leNumber (before 0 lengthBytes (omega arith)) ∙ h .long;
+        bytes = before sequenceAt (length (t .sequence)) (omega arith) ∙ h .bytes;
+        set = ap leNumber (before readBackAt signalBytes (omega arith)) ∙ h .set;
+        part = ap leNumber (before ceilingAt takenBytes (omega arith)) ∙ h .part;
+      }
+
+  -- the state is written
+  module _ (state : List ℕ) (sized : length state ≡ stateLength) where
+    pub moved-holds : Holds t ceiling (put stateAt stateLength state s)
+    moved-holds = behind-holds stateAt stateLength state (omega arith) (omega arith) sized
+
+    pub moved-state : stateIn (put stateAt stateLength state s) ≡ state
+    moved-state = let z = h .sized in slot-put stateAt stateLength state s (omega arith) sized
+
+-- ---- a bay admitted, store by store
+module _ (t : Terms) (ceiling : ℕ) (s : List ℕ) (z : length s ≡ stretchLength) (fits : length (t .sequence) ≤ maxBytes) where
+  abbrev pub s0 : List ℕ
+  s0 = vacated s
+
+  abbrev pub s1 : List ℕ
+  s1 = put 0 lengthBytes (leBytes lengthBytes (length (t .sequence))) s0
+
+  abbrev pub s2 : List ℕ
+  s2 = put sequenceAt (length (t .sequence)) (t .sequence) s1
+
+  abbrev pub s3 : List ℕ
+  s3 = put readBackAt signalBytes (leBytes signalBytes (t .readBack)) s2
+
+  pub l0 : length s0 ≡ stretchLength
+  l0 = length-vacated s z
+
+  pub l1 : length s1 ≡ stretchLength
+  l1 = length-put 0 lengthBytes (leBytes lengthBytes (length (t .sequence))) s0 (omega (arith, l0)) (length-leBytes lengthBytes (length (t .sequence))) ∙ l0
+
+  pub l2 : length s2 ≡ stretchLength
+  l2 = length-put sequenceAt (length (t .sequence)) (t .sequence) s1 (omega (arith, l1)) refl ∙ l1
+
+  pub l3 : length s3 ≡ stretchLength
+  l3 = length-put readBackAt signalBytes (leBytes signalBytes (t .readBack)) s2 (omega (arith, l2)) (length-leBytes signalBytes (t .readBack)) ∙ l2
+
+  pub length-filled : length (filled t ceiling s) ≡ stretchLength
+  unfolding filled
+  length-filled = length-put ceilingAt takenBytes (leBytes takenBytes ceiling) s3 (omega (arith, l3)) (length-leBytes takenBytes ceiling) ∙ l3
+
+  before1 : (i m : ℕ) → lengthBytes ≤ i → slot i m s1 ≡ slot i m s0
+  before1 = put-behind 0 lengthBytes (leBytes lengthBytes (length (t .sequence))) s0 (omega (arith, l0)) (length-leBytes lengthBytes (length (t .sequence)))
+
+  module _ (small : t .readBack < 256 ^ signalBytes) (low : ceiling < 256 ^ takenBytes) where
+    pub filled-holds : Holds t ceiling (filled t ceiling s)
+    unfolding filled
+    filled-holds =
+        let before2 = put-before sequenceAt (length (t .sequence)) (t .sequence) s1 (omega (arith, l1)) refl in
+        let before3 = put-before readBackAt signalBytes (leBytes signalBytes (t .readBack)) s2 (omega (arith, l2)) (length-leBytes signalBytes (t .readBack)) in
+        let before4 = put-before ceilingAt takenBytes (leBytes takenBytes ceiling) s3 (omega (arith, l3)) (length-leBytes takenBytes ceiling) in
+        let few : length (t .sequence) < 256 ^ lengthBytes = omega arith in
+        record {
+          sized = length-filled;
+          long = ap leNumber (before4 0 lengthBytes (omega arith) ∙ before3 0 lengthBytes (omega arith) ∙ before2 0 lengthBytes (omega arith)
+              ∙ slot-put 0 lengthBytes (leBytes lengthBytes (length (t .sequence))) s0 (omega (arith, l0)) (length-leBytes lengthBytes (length (t .sequence))))
+              ∙ le-round-trip lengthBytes (length (t .sequence)) few;
+          bytes = before4 sequenceAt (length (t .sequence)) (omega arith) ∙ before3 sequenceAt (length (t .sequence)) (omega arith)
+              ∙ slot-put sequenceAt (length (t .sequence)) (t .sequence) s1 (omega (arith, l1)) refl;
+          set = ap leNumber (before4 readBackAt signalBytes (omega arith)
+              ∙ slot-put readBackAt signalBytes (leBytes signalBytes (t .readBack)) s2 (omega (arith, l2)) (length-leBytes signalBytes (t .readBack)))
+              ∙ le-round-trip signalBytes (t .readBack) small;
+          part = ap leNumber (slot-put ceilingAt takenBytes (leBytes takenBytes ceiling) s3 (omega (arith, l3)) (length-leBytes takenBytes ceiling))
+              ∙ le-round-trip takenBytes ceiling low;
+        }
+
+  -- what lies behind the ceiling is cleared
+  pub filled-zeros : (i m : ℕ) → ceilingAt + takenBytes ≤ i → i + m ≤ bayLength → slot i m (filled t ceiling s) ≡ zeros m
+  unfolding filled
+  filled-zeros i m low high =
+      put-behind ceilingAt takenBytes (leBytes takenBytes ceiling) s3 (omega (arith, l3)) (length-leBytes takenBytes ceiling) i m (omega arith)
+      ∙ put-behind readBackAt signalBytes (leBytes signalBytes (t .readBack)) s2 (omega (arith, l2)) (length-leBytes signalBytes (t .readBack)) i m (omega arith)
+      ∙ put-behind sequenceAt (length (t .sequence)) (t .sequence) s1 (omega (arith, l1)) refl i m (omega arith)
+      ∙ before1 i m (omega arith)
+      ∙ slot-vacated i m s high
+
+  pub filled-fresh : stateIn (filled t ceiling s) ≡ cleared
+  filled-fresh = filled-zeros stateAt stateLength (omega arith) (omega arith) ∙ zeros-state
