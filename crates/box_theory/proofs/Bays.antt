@@ -1,0 +1,197 @@
+-- Laws of a call on a bay's stretch: a refusal leaves the stretch, each call keeps its length, and an admission goes by its number.
+use Prim.Native.Nat.{ℕ, _+_, _≤_}
+use native.Mathlib.Omega.{arith}
+use native.Mathlib.Decide.{decLt}
+use mathlib.Core.Path.{_≡_, refl, sym, ap, _∙_}
+use mathlib.Core.Logic.{_≢_, inl, inr}
+use mathlib.Core.Bool.{Bool, true, false, _&&_, cond}
+use mathlib.Core.List.{List, [], _∷_}
+use lib.ListN.{length, drop, length-drop}
+use lib.Seq.{length-take-le}
+use lib.Dec.{eqb, leb}
+use borrow.Author.Tests.{ne-eqb, leb-true}
+use Rattle.limits.specs.Limits.{maxBytes}
+use Rattle.esterel.specs.Statement.{Statement}
+use Rattle.esterel.specs.Reaction.{inheritanceFirst}
+use Rattle.esterel.specs.Machines.{State}
+use Rattle.sequence.specs.Program.{program}
+use Rattle.sequence.specs.Check.{Checked, sound, bad, checked, checkOf}
+use Rattle.sequence.specs.Ceilings.{ceilingOf}
+use Rattle.sequence.specs.Rows.{row-2}
+use Rattle.sequence.proofs.Rows.{Decides, decided, row-range}
+use Rattle.states.specs.StateRecord.{stateLength, Decoded, holds, malformed, decodeState}
+use Rattle.states.proofs.StateLaws.{length-state}
+use Rattle.answers.specs.AnswerRecord.{answerLength}
+use Rattle.parts.specs.Parts.{put}
+use Rattle.parts.proofs.Parts.{put-slot, length-put}
+use Rattle.demands.specs.Tick as Tick
+use Rattle.demands.specs.Tick.{Outcome, outcome, byState, tickBy, tickOf}
+use Rattle.demands.specs.Demands as demands
+use Rattle.demands.specs.Demands.{stateAfterwards}
+use Rattle.demands.proofs.Sequence.{Accepted, accepted}
+use Rattle.demands.proofs.Demand1.{demand-1}
+use Rattle.box_calls.specs.Called.{Called, called, number, memoryAfter}
+use Rattle.box_calls.specs.Stretch.{stateAt, stretchLength, sequenceIn, readBackIn, stateIn, Terms, filled}
+use Rattle.box_calls.specs.BayCalls.{sharedCeiling, stateKept, bayTickOf, bayReleaseOf, bayAdmitOf}
+use Rattle.box_calls.specs.Box.{Call, admit, release, tick, buffers, bayCall, isFor}
+use Rattle.box_calls.proofs.Fields.{length-vacated, length-filled}
+
+abbrev pub ceilingFor : Terms → ℕ
+ceilingFor t = ceilingOf (t .readBack) (checked (t .sequence) (t .readBack))
+
+-- the bytes of a sequence that passes the check
+pub bounds : (t : Terms) → Accepted (t .sequence) (t .readBack) → (1 ≤ length (t .sequence)) × (length (t .sequence) ≤ maxBytes)
+bounds t a = (
+  elim (decLt 0 (length (t .sequence))) [ yes l ↦ l | no l ↦ absurd (a .no-row 2 (row-2 (inl (omega arith)))) ],
+  elim (decLt maxBytes (length (t .sequence))) [ yes l ↦ absurd (a .no-row 2 (row-2 (inr l))) | no l ↦ omega arith ],
+)
+
+pub passed : (t : Terms) → Accepted (t .sequence) (t .readBack) → checkOf (t .sequence) (t .readBack) ≡ 0
+unfolding checkOf
+passed t a = rw (a .is-checked)
+
+-- ---- the tick
+pub state-sized : (s : List ℕ) → length s ≡ stretchLength → length (stateIn s) ≡ stateLength
+state-sized s z = length-take-le stateLength (drop stateAt s) (omega (arith, length-drop stateAt s))
+
+pub kept-after : (s : List ℕ) (o : Outcome) → memoryAfter (stateKept s o) ≡ put stateAt stateLength (stateAfterwards o) s
+kept-after s (outcome n state answer) = refl
+
+pub kept-number : (s : List ℕ) (o : Outcome) → number (stateKept s o) ≡ demands.number o
+kept-number s (outcome n state answer) = refl
+
+state-kept : (p : Statement) (d : Decoded) (state : List ℕ) (e : ℕ) (answer : List ℕ) → length state ≡ stateLength
+    → length (stateAfterwards (byState inheritanceFirst p d state e answer)) ≡ stateLength
+state-kept p malformed state e answer h = h
+state-kept p (holds State.fresh) state e answer h = length-state _
+state-kept p (holds (State.waits L)) state e answer h = length-state _
+state-kept p (holds State.over) state e answer h = h
+
+pub tick-sized : (sequence state : List ℕ) (e readBack : ℕ) (answer : List ℕ) → length state ≡ stateLength
+    → length (stateAfterwards (tickOf sequence state e readBack answer)) ≡ stateLength
+unfolding tickBy
+tick-sized sequence state e readBack answer h =
+    go (eqb (length state) stateLength && eqb (length answer) answerLength) (checked sequence readBack)
+  where
+    go : (b : Bool) (c : Checked)
+        → length (stateAfterwards (cond b (Tick.byCheck inheritanceFirst readBack c state e answer) (outcome 1 state answer))) ≡ stateLength
+    go false c = h
+    go true (bad k) = h
+    go true (sound p) = state-kept (program readBack p) (decodeState p state) state e answer h
+
+module _ (s : List ℕ) (e : ℕ) (answer : List ℕ) where
+  abbrev inner : Outcome
+  inner = tickOf (sequenceIn s) (stateIn s) e (readBackIn s) answer
+
+  tick-keeps-length : length s ≡ stretchLength → length (memoryAfter (bayTickOf s e answer)) ≡ stretchLength
+  unfolding bayTickOf
+  tick-keeps-length z =
+      ap length (kept-after s inner)
+      ∙ length-put stateAt stateLength (stateAfterwards inner) s (omega arith)
+      (tick-sized (sequenceIn s) (stateIn s) e (readBackIn s) answer (state-sized s z))
+      ∙ z
+
+  tick-refused : number (bayTickOf s e answer) ≢ 0 → bayTickOf s e answer ≡ called (number (bayTickOf s e answer)) s (answer ∷ [])
+  unfolding bayTickOf
+  tick-refused n =
+      let k = demand-1 .refusal-writes-nothing (sequenceIn s) (stateIn s) e (readBackIn s) answer (λ y. n (kept-number s inner ∙ y)) in
+      ap (stateKept s) k
+      ∙ ap (λ (r : List ℕ). called (demands.number inner) r (answer ∷ [])) (put-slot stateAt stateLength s)
+      ∙ ap (λ (m : ℕ). called m s (answer ∷ [])) (sym (kept-number s inner))
+
+-- ---- the admission: turned down, or taken
+pub data Admission (present : ℕ) (s : List ℕ) (t : Terms) (o : Called) : Type 0 where
+  turned-down : (n : ℕ) → n ≢ 0 → o ≡ called n s [] → Admission present s t o
+  taken : checkOf (t .sequence) (t .readBack) ≡ 0 → present + ceilingFor t ≤ sharedCeiling
+      → o ≡ called 0 (filled t (ceilingFor t) s) [] → Admission present s t o
+
+module _ (present : ℕ) (s : List ℕ) (t : Terms) where
+  abbrev byRoom : Bool → Called
+  byRoom b = cond b (called 0 (filled t (ceilingFor t) s) []) (called 14 s [])
+
+  -- an accepted sequence goes by the sum
+  pub admit-by-sum : Accepted (t .sequence) (t .readBack) → bayAdmitOf present s t ≡ byRoom (leb (present + ceilingFor t) sharedCeiling)
+  unfolding bayAdmitOf
+  admit-by-sum a = rw (a .is-checked)
+
+  admit-bad : (k : ℕ) → checked (t .sequence) (t .readBack) ≡ bad k → bayAdmitOf present s t ≡ called k s []
+  unfolding bayAdmitOf
+  admit-bad k e = rw e
+
+  pub admission : Admission present s t (bayAdmitOf present s t)
+  unfolding checkOf
+  admission = go (checked (t .sequence) (t .readBack)) refl (decided (t .sequence) (t .readBack))
+    where
+      room : checkOf (t .sequence) (t .readBack) ≡ 0 → (b : Bool) → leb (present + ceilingFor t) sharedCeiling ≡ b
+          → bayAdmitOf present s t ≡ byRoom b → Admission present s t (bayAdmitOf present s t)
+      room h false l e = turned-down 14 (λ z. omega arith) e
+      room h true l e = taken h (leb-true (present + ceilingFor t) sharedCeiling l) e
+
+      go : (c : Checked) → checked (t .sequence) (t .readBack) ≡ c → Decides (t .sequence) (t .readBack) c
+          → Admission present s t (bayAdmitOf present s t)
+      go (bad k) e d = turned-down k (λ z. omega (arith, row-range (t .sequence) (t .readBack) k (d .0))) (admit-bad k e)
+      go (sound p) e d =
+          let h : checkOf (t .sequence) (t .readBack) ≡ 0 = rw e in
+          room h (leb (present + ceilingFor t) sharedCeiling) refl (admit-by-sum (accepted (t .sequence) (t .readBack) h))
+
+-- ---- a call on the bay's stretch, with the test that the bay is there for it
+abbrev pub onStretch : (present : ℕ) → Call → List ℕ → Called
+onStretch k c s = cond (isFor c s) (bayCall k c s) (called 13 s (buffers c))
+
+module _ (k : ℕ) (s : List ℕ) where
+  abbrev Leaves : Call → Called → Type 0
+  Leaves c o = number o ≢ 0 → o ≡ called (number o) s (buffers c)
+
+  bay-refused : (c : Call) → Leaves c (bayCall k c s)
+  unfolding bayReleaseOf
+  bay-refused (admit t) h = go (admission k s t)
+    where
+      go : Admission k s t (bayAdmitOf k s t) → bayAdmitOf k s t ≡ called (number (bayAdmitOf k s t)) s []
+      go (turned-down n z e) = e ∙ ap (λ (m : ℕ). called m s []) (sym (ap number e))
+      go (taken c r e) = absurd (h (ap number e))
+  bay-refused release h = absurd (h refl)
+  bay-refused (tick e answer) h = tick-refused s e answer h
+
+  pub stretch-refused : (c : Call) → Leaves c (onStretch k c s)
+  stretch-refused c = go (isFor c s)
+    where
+      go : (b : Bool) → Leaves c (cond b (bayCall k c s) (called 13 s (buffers c)))
+      go true h = bay-refused c h
+      go false h = refl
+
+  bay-sized : (c : Call) → length s ≡ stretchLength → length (memoryAfter (bayCall k c s)) ≡ stretchLength
+  unfolding bayReleaseOf
+  bay-sized (admit t) z = go (admission k s t)
+    where
+      go : Admission k s t (bayAdmitOf k s t) → length (memoryAfter (bayAdmitOf k s t)) ≡ stretchLength
+      go (turned-down n x e) = ap (λ (o : Called). length (memoryAfter o)) e ∙ z
+      go (taken c r e) =
+          ap (λ (o : Called). length (memoryAfter o)) e
+          ∙ length-filled t (ceilingFor t) s z (bounds t (accepted (t .sequence) (t .readBack) c) .1)
+  bay-sized release z = length-vacated s z
+  bay-sized (tick e answer) z = tick-keeps-length s e answer z
+
+  pub sized-after : (c : Call) → length s ≡ stretchLength → length (memoryAfter (onStretch k c s)) ≡ stretchLength
+  sized-after c z = go (isFor c s)
+    where
+      go : (b : Bool) → length (memoryAfter (cond b (bayCall k c s) (called 13 s (buffers c)))) ≡ stretchLength
+      go true = bay-sized c z
+      go false = z
+
+-- what an admission with this number makes of the stretch
+abbrev pub admittedAs : (s : List ℕ) → Terms → (number : ℕ) → Called
+admittedAs s t n = called n (cond (eqb n 0) (filled t (ceilingFor t) s) s) []
+
+pub admission-by-number : (k : ℕ) (s : List ℕ) (t : Terms) → onStretch k (admit t) s ≡ admittedAs s t (number (onStretch k (admit t) s))
+admission-by-number k s t = go (isFor (admit t) s)
+  where
+    by-number : (n : ℕ) {o : Called} → o ≡ admittedAs s t n → n ≡ number o → o ≡ admittedAs s t (number o)
+    by-number n e m = e ∙ ap (admittedAs s t) m
+
+    of-bay : Admission k s t (bayAdmitOf k s t) → bayAdmitOf k s t ≡ admittedAs s t (number (bayAdmitOf k s t))
+    of-bay (turned-down n z e) = by-number n (e ∙ rw (ne-eqb n 0 z)) (sym (ap number e))
+    of-bay (taken c r e) = by-number 0 e (sym (ap number e))
+
+    go : (b : Bool) → cond b (bayAdmitOf k s t) (called 13 s []) ≡ admittedAs s t (number (cond b (bayAdmitOf k s t) (called 13 s [])))
+    go true = of-bay (admission k s t)
+    go false = refl
