@@ -5,4 +5,5 @@ pub mod Stretches
 pub mod Isolation
 pub mod Reached
 pub mod Rounds
+pub mod BayRuns
 pub mod Theorems
