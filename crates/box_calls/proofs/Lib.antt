@@ -1,2 +1,3 @@
 pub mod Worked
 pub mod Fields
+pub mod WrongBoxes

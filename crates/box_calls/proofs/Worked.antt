@@ -16,7 +16,7 @@ use Rattle.numbers.specs.Bytes.{leBytes, leNumber}
 use Rattle.states.specs.StateRecord.{encodeState, decodeState}
 use Rattle.answers.specs.AnswerRecord.{encodeAnswer}
 use Rattle.parts.specs.Parts.{put, zeros}
-use Rattle.demands.specs.Tick.{tickBy, tickOf}
+use Rattle.demands.specs.Tick.{tickBy}
 use Rattle.box_calls.specs.Stretch.{partOf, vacated, filled}
 use Rattle.box_calls.specs.BayCalls.{bayTickOf, bayReleaseOf, bayAdmitOf}
 use Rattle.box_calls.specs.Box.{emptyBox, present, callOf}

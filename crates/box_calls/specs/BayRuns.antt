@@ -8,7 +8,7 @@ use lib.Dec.{eqb}
 use Rattle.demands.specs.Tick.{Outcome, outcome}
 use Rattle.demands.specs.Paper as Paper
 use Rattle.box_calls.specs.Called.{Called, number, memoryAfter, lentAfter, first}
-use Rattle.box_calls.specs.Stretch.{Terms, stateIn}
+use Rattle.box_calls.specs.Stretch.{stateIn}
 use Rattle.box_calls.specs.Box.{stretchOf, Call, admit, release, tick, callOf}
 use Rattle.box_calls.specs.Lists.{Request, afterCall}
 

@@ -7,7 +7,6 @@ use lib.Dec.{eqb}
 use Rattle.limits.specs.Limits.{signalBytes}
 use Rattle.answers.specs.AnswerRecord.{takenIn}
 use Rattle.box_calls.specs.Called.{Called, number, lentAfter, first}
-use Rattle.box_calls.specs.Stretch.{Terms}
 use Rattle.box_calls.specs.Box.{Call, admit, release, tick}
 use Rattle.box_calls.specs.Lists.{Calling, Request, afterCall}
 

@@ -1,11 +1,10 @@
 -- A box worked by hand (02, item 8): calls from the empty box on, and of each its number and its answer's code.
 use Prim.Native.Nat.{ℕ}
 use mathlib.Core.List.{List, [], _∷_, _++_}
-use lib.ListN.{replicate, getD}
+use lib.ListN.{replicate}
 use Rattle.answers.specs.AnswerRecord.{answerLength, codeIn}
 use Rattle.box_calls.specs.Called.{Called, number, lentAfter, first}
-use Rattle.box_calls.specs.Stretch.{Terms}
-use Rattle.box_calls.specs.Box.{Call, admit, release, tick}
+use Rattle.box_calls.specs.Box.{admit, release, tick}
 use Rattle.box_calls.specs.Lists.{Calling, Request, afterCall}
 
 -- ---- sequences
@@ -26,14 +25,14 @@ half =
     ++ replicate 26 0x00
 
 -- ---- calls
-abbrev admitted : (bay : ℕ) (sequence : List ℕ) → Request
+abbrev pub admitted : (bay : ℕ) (sequence : List ℕ) → Request
 admitted bay sequence = record { bay = bay; call = admit (record { sequence = sequence; readBack = 0 }) }
 
-abbrev released : (bay : ℕ) → Request
+abbrev pub released : (bay : ℕ) → Request
 released bay = record { bay = bay; call = release }
 
 -- with an answer buffer of another byte everywhere
-abbrev ticked : (bay : ℕ) → Request
+abbrev pub ticked : (bay : ℕ) → Request
 ticked bay = record { bay = bay; call = tick 0 (replicate answerLength 77) }
 
 abbrev pub requests : List Request

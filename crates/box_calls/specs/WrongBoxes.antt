@@ -6,9 +6,9 @@ use lib.Dec.{eqb}
 use Rattle.parts.specs.Parts.{put, zeros}
 use Rattle.demands.specs.Tick.{tickOf}
 use Rattle.box_calls.specs.Called.{Called, called, number}
-use Rattle.box_calls.specs.Stretch.{lengthBytes, sequenceIn, readBackIn, ceilingIn, stateIn, Terms}
+use Rattle.box_calls.specs.Stretch.{lengthBytes, sequenceIn, readBackIn, ceilingIn, stateIn}
 use Rattle.box_calls.specs.BayCalls.{stateKept, bayAdmitOf}
-use Rattle.box_calls.specs.Box.{bayCount, stretchOf, present, Call, admit, release, tick, inBox, callOf}
+use Rattle.box_calls.specs.Box.{bayCount, stretchOf, present, admit, release, tick, inBox, callOf}
 use Rattle.box_calls.specs.Lists.{Calling}
 
 -- another result for a call that is answered with this number

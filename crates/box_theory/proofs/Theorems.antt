@@ -27,6 +27,8 @@ use Rattle.box_calls.specs.Lists.{Request, boxAfter, asked, answers}
 use Rattle.box_calls.specs.Shares.{Sendable, AllSendable}
 use Rattle.box_calls.specs.BayRuns.{ticksTo, outcomeOf, tickOutcomes, Onwards}
 use Rattle.box_calls.specs.Claims.{RefusalsLeave, OthersStay, Isolated, BySum, InBoxes, CeilingsStored, WithinCeiling, RoundsWithin, AdmitsBySum, GivesBack, BoxDemands}
+use Rattle.box_calls.specs.WrongBoxes as wrong
+use Rattle.box_calls.proofs.WrongBoxes as refuted
 use Rattle.box_theory.proofs.Stretches as stretches
 use Rattle.box_theory.proofs.Isolation as apart
 use Rattle.box_theory.proofs.Reached as reached
@@ -153,3 +155,9 @@ module _ (box : List ℕ) (bay : ℕ) (t : Terms) (small : Sendable (admit t)) (
         rw same
         (runs.agrees-from bay b t from (begun .here) xs k (subst NoSetpause same plain) w
         (subst (λ (st : State). TermOf (program (t .readBack) (a .statement)) st w) (sym (begun .from-fresh)) refl))
+
+-- ---- what the claims refuse: a tick that reads the neighbour's state, a sum without the last bay, a part that is not given back, and
+-- a refusal that writes
+pub refused-boxes : (¬ Isolated wrong.readsNeighbour) × (¬ InBoxes wrong.forgetsBay WithinCeiling)
+    × (¬ InBoxes wrong.keepsPart (AdmitsBySum wrong.keepsPart)) × (¬ RefusalsLeave wrong.refusalWrites)
+refused-boxes = (refuted.not-readsNeighbour, refuted.not-forgetsBay, refuted.not-keepsPart, refuted.not-refusalWrites)

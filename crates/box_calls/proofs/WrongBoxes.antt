@@ -1,0 +1,78 @@
+-- Each box of specs/WrongBoxes breaks a claim of specs/Claims, by computation.
+use Prim.Native.Nat.{ℕ, zero, suc, _≤_}
+use native.Mathlib.Omega.{arith}
+use mathlib.Core.Path.{_≡_, refl, ap}
+use mathlib.Core.List.{List, [], _∷_}
+use lib.ListN.{getD}
+use Rattle.esterel.specs.Sets as Sets
+use Rattle.esterel.specs.Sets.{only, member, join, insert, remove}
+use Rattle.esterel.specs.Reaction.{reactBy}
+use Rattle.esterel.specs.Errors.{errorsBy}
+use Rattle.esterel.specs.Reactions.{reactionsBy}
+use Rattle.esterel.specs.LabelTests.{subset, disjoint, labelsOf, activeLabels, everyLabel, distinct, before, wellFormed, valid}
+use Rattle.esterel.specs.States.{active}
+use Rattle.esterel.specs.Expansion.{expand}
+use Rattle.esterel.specs.ReadBack.{membersFrom, declared}
+use Rattle.esterel.specs.Ceiling.{commands, loopNesting, nesting, ceiling}
+use Rattle.sequence.specs.Commands.{commandOf}
+use Rattle.sequence.specs.Reader.{front, read}
+use Rattle.sequence.specs.Check.{checked, checkOf}
+use Rattle.numbers.specs.Bytes.{leBytes, leNumber}
+use Rattle.states.specs.StateRecord.{encodeState, decodeState}
+use Rattle.answers.specs.AnswerRecord.{encodeAnswer}
+use Rattle.parts.specs.Parts.{put, zeros}
+use Rattle.demands.specs.Tick.{tickBy}
+use Rattle.box_calls.specs.Called.{Called, memoryAfter}
+use Rattle.box_calls.specs.Stretch.{partOf, vacated, filled}
+use Rattle.box_calls.specs.BayCalls.{bayTickOf, bayReleaseOf, bayAdmitOf}
+use Rattle.box_calls.specs.Box.{emptyBox, present, release, callOf}
+use Rattle.box_calls.specs.Lists.{Request, boxAfter, asked, Answer, answered, answers}
+use Rattle.box_calls.specs.Shares.{none, each}
+use Rattle.box_calls.specs.Claims.{RefusalsLeave, Isolated, InBoxes, WithinCeiling, AdmitsBySum}
+use Rattle.box_calls.specs.Worked.{waitsOnce, ends, half, admitted, released, ticked}
+use Rattle.box_calls.specs.WrongBoxes.{readsNeighbour, forgetsBay, storedIn, keepsPart, refusalWrites}
+
+-- the number of answer i
+abbrev numberAt : ℕ → List Answer → ℕ
+numberAt i [] = 255
+numberAt zero (answered n lent ∷ rest) = n
+numberAt (suc i) (a ∷ rest) = numberAt i rest
+
+-- ---- bay 0 by itself, and beside a neighbour that is over
+abbrev byItself : List Request
+byItself = admitted 0 waitsOnce ∷ ticked 0 ∷ []
+
+abbrev besideOver : List Request
+besideOver = admitted 1 ends ∷ ticked 1 ∷ byItself
+
+pub not-readsNeighbour : ¬ Isolated readsNeighbour
+unfolding asked answers boxAfter callOf emptyBox present partOf vacated filled bayTickOf bayReleaseOf bayAdmitOf put zeros leBytes leNumber tickBy checked read front commandOf distinct wellFormed before everyLabel labelsOf subset disjoint valid active activeLabels membersFrom declared commands loopNesting nesting ceiling encodeState decodeState encodeAnswer expand reactBy errorsBy reactionsBy Sets.none only member join insert remove
+not-readsNeighbour h =
+    let e : _≡_ {A = ℕ} 0 12 = ap (numberAt 1) (h 0 (omega arith) byItself besideOver refl .0) in omega arith
+
+-- ---- 32,768 in the last bay, and too much with it
+abbrev overfilled : List Request
+overfilled = admitted 7 half ∷ admitted 0 half ∷ admitted 1 ends ∷ []
+
+pub not-forgetsBay : ¬ InBoxes forgetsBay WithinCeiling
+unfolding boxAfter callOf emptyBox present partOf vacated filled bayAdmitOf put zeros leBytes leNumber checked read front commandOf distinct wellFormed before everyLabel labelsOf subset disjoint membersFrom declared commands loopNesting nesting ceiling Sets.none only member join insert remove
+not-forgetsBay h =
+    let e : 65537 ≤ 65536 = h overfilled (each (omega arith) (each (omega arith) (each (omega arith) none))) in omega arith
+
+-- ---- two bays of 32,768, and one of them taken out
+abbrev onesOut : List Request
+onesOut = admitted 0 half ∷ admitted 1 half ∷ released 0 ∷ []
+
+pub not-keepsPart : ¬ InBoxes keepsPart (AdmitsBySum keepsPart)
+unfolding boxAfter callOf emptyBox present storedIn partOf vacated filled bayReleaseOf bayAdmitOf put zeros leBytes leNumber checkOf checked read front commandOf distinct wellFormed before everyLabel labelsOf subset disjoint membersFrom declared commands loopNesting nesting ceiling Sets.none only member join insert remove
+not-keepsPart h =
+    let e : _≡_ {A = ℕ} 14 0 =
+    h onesOut (each (omega arith) (each (omega arith) (each tt none))) 2 (omega arith) refl (record { sequence = half; readBack = 0 }) refl .1
+    (let l : 65536 ≤ 65536 = omega arith in l) in
+    omega arith
+
+-- ---- a box of one byte, which is of another length
+pub not-refusalWrites : ¬ RefusalsLeave refusalWrites
+unfolding callOf put zeros leBytes
+not-refusalWrites h =
+    let e : _≡_ {A = ℕ} 0 1 = ap (λ (o : Called). getD (memoryAfter o) 0 0) (h (1 ∷ []) 0 release (λ z. omega arith)) in omega arith
