@@ -1,5 +1,6 @@
 -- The box worked by hand, by computation.
 use mathlib.Core.Path.{_≡_, refl}
+use mathlib.Core.List.{[]}
 use Rattle.esterel.specs.Sets.{none, only, member, join, insert, remove}
 use Rattle.esterel.specs.Reaction.{reactBy}
 use Rattle.esterel.specs.Errors.{errorsBy}
@@ -20,8 +21,12 @@ use Rattle.demands.specs.Tick.{tickBy}
 use Rattle.box_calls.specs.Stretch.{partOf, vacated, filled}
 use Rattle.box_calls.specs.BayCalls.{bayTickOf, bayReleaseOf, bayAdmitOf}
 use Rattle.box_calls.specs.Box.{emptyBox, present, callOf}
-use Rattle.box_calls.specs.Worked.{requests, expected, shows}
+use Rattle.box_calls.specs.Worked.{requests, expected, elsewhere, expectedElsewhere, shows}
 
 pub worked : shows callOf emptyBox requests ≡ expected
 unfolding shows callOf emptyBox present partOf vacated filled bayTickOf bayReleaseOf bayAdmitOf put zeros leBytes leNumber tickBy checked read front commandOf distinct wellFormed before everyLabel labelsOf subset disjoint valid active activeLabels membersFrom declared commands loopNesting nesting ceiling encodeState decodeState encodeAnswer expand reactBy errorsBy reactionsBy none only member join insert remove
 worked = refl
+
+pub worked-elsewhere : shows callOf [] elsewhere ≡ expectedElsewhere
+unfolding shows callOf
+worked-elsewhere = refl
