@@ -79,6 +79,9 @@ pub record Terms : Type 0 where
   pub sequence : List ℕ
   pub readBack : ℕ
 
+abbrev pub terms : (sequence : List ℕ) (readBack : ℕ) → Terms
+terms sequence readBack = record { sequence = sequence; readBack = readBack }
+
 -- a bay admitted: all that a release clears is cleared, and so the machine is fresh
 unfoldable pub filled : Terms → (ceiling : ℕ) → List ℕ → List ℕ
 filled t ceiling s =

@@ -1,0 +1,3 @@
+pub mod Storing
+pub mod Ticking
+pub mod Admitting

@@ -1,0 +1,38 @@
+-- Runs of stores that clear and fill a stretch.
+use Prim.Native.Nat.{ℕ, _+_, _≤_}
+use native.Mathlib.Omega.{arith}
+use mathlib.Core.Path.{_≡_, refl, ap, _∙_}
+use mathlib.Core.List.{List}
+use lib.ListN.{length}
+use lib.Seq.{sets}
+use Rattle.limits.specs.Limits.{maxBytes, signalBytes, takenBytes}
+use Rattle.numbers.specs.Bytes.{leBytes}
+use Rattle.numbers.proofs.Bytes.{length-leBytes}
+use Rattle.parts.specs.Parts.{put, zeros}
+use Rattle.parts.proofs.Parts.{stored}
+use Rattle.box_calls.specs.Stretch.{lengthBytes, sequenceAt, readBackAt, ceilingAt, bayLength, stretchLength, vacated, Terms, filled}
+use Rattle.box_calls.proofs.Fields.{s1, s2, s3, l0, l1, l2, l3}
+
+pub cleared-out : (s : List ℕ) → length s ≡ stretchLength → sets s 0 (leBytes bayLength 0) ≡ vacated s
+unfolding vacated zeros
+cleared-out s z = stored 0 bayLength (leBytes bayLength 0) s (omega arith) (length-leBytes bayLength 0)
+
+module _ (t : Terms) (ceiling : ℕ) (s : List ℕ) (z : length s ≡ stretchLength) (fits : length (t .sequence) ≤ maxBytes) where
+  -- a store, on what was stored before it
+  next : (at n : ℕ) (bytes r r′ : List ℕ) → r ≡ r′ → (length r′ ≡ stretchLength) → at + n ≤ stretchLength → length bytes ≡ n
+      → {v : List ℕ} → v ≡ sets r at bytes → v ≡ put at n bytes r′
+  next at n bytes r r′ e l room sized h =
+      h ∙ ap (λ (x : List ℕ). sets x at bytes) e ∙ stored at n bytes r′ (omega (arith, l)) sized
+
+  pub filled-by : {v a b c d : List ℕ} → v ≡ vacated s → a ≡ sets v 0 (leBytes lengthBytes (length (t .sequence)))
+      → b ≡ sets a sequenceAt (t .sequence) → c ≡ sets b readBackAt (leBytes signalBytes (t .readBack))
+      → d ≡ sets c ceilingAt (leBytes takenBytes ceiling) → d ≡ filled t ceiling s
+  unfolding filled
+  filled-by {v} {a} {b} {c} {d} ev ea eb ec ed =
+      let n = length (t .sequence) in
+      let wa = next 0 lengthBytes (leBytes lengthBytes n) v (vacated s) ev (l0 t ceiling s z fits) (omega arith) (length-leBytes lengthBytes n) ea in
+      let wb = next sequenceAt n (t .sequence) a (s1 t ceiling s z fits) wa (l1 t ceiling s z fits) (omega arith) refl eb in
+      let wc = next readBackAt signalBytes (leBytes signalBytes (t .readBack)) b (s2 t ceiling s z fits) wb (l2 t ceiling s z fits) (omega arith)
+      (length-leBytes signalBytes (t .readBack)) ec in
+      next ceilingAt takenBytes (leBytes takenBytes ceiling) c (s3 t ceiling s z fits) wc (l3 t ceiling s z fits) (omega arith)
+      (length-leBytes takenBytes ceiling) ed

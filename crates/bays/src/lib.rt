@@ -1,0 +1,148 @@
+// The stretch of a bay (02, item 8): its fields, and the calls on it.
+ghost use mathlib.Core.Path.{_≡_};
+ghost use Prim.Native.Nat.{_^_, _≤_};
+ghost use mathlib.Core.List.{[], _∷_};
+ghost use lib.ListN.{length};
+ghost use Rattle.limits.specs.Limits.{maxBytes};
+ghost use Rattle.instants.specs.Replies.{Replies};
+ghost use Rattle.box_calls.specs.Called.{called};
+ghost use Rattle.box_calls.specs.Stretch.{stretchLength, isEmpty, sequenceIn, readBackIn, stateIn, partOf, vacated, terms, filled};
+ghost use Rattle.box_calls.specs.BayCalls.{bayTickOf, bayReleaseOf, bayAdmitOf};
+use answers::ANSWER_LENGTH;
+use ceilings::Plan;
+use instants::Reply;
+use limits::MAX_BYTES;
+use limits::SIGNAL_BYTES;
+use limits::TAKEN_BYTES;
+use states::STATE_LENGTH;
+
+// Where the fields begin. Fixed by the admission:
+const LENGTH_BYTES: usize = 2;
+
+const SEQUENCE_AT: usize = LENGTH_BYTES;
+
+const READ_BACK_AT: usize = SEQUENCE_AT + MAX_BYTES;
+
+const CEILING_AT: usize = READ_BACK_AT + SIGNAL_BYTES;
+
+const SERVICE_AT: usize = CEILING_AT + TAKEN_BYTES;
+
+// Moved by calls:
+const STATE_AT: usize = SERVICE_AT + SIGNAL_BYTES;
+
+const COUNT_AT: usize = STATE_AT + STATE_LENGTH;
+
+const POSITIONS_AT: usize = COUNT_AT + 4;
+
+// What a release clears ends here.
+const BAY_LENGTH: usize = POSITIONS_AT + 16 * (4 + STATE_LENGTH);
+
+pub const STRETCH_LENGTH: usize = BAY_LENGTH + 32 * 4;
+
+// The reactions of an instant that the bays share.
+const SHARED_CEILING: u64 = 65536;
+
+pub fn is_empty(stretch: &[u8]) -> bool
+    ensures { λ r. ⌜ r ≡ isEmpty (now (stretch .entry)) ⌝ }
+{
+    numbers::get_le(stretch, 0, LENGTH_BYTES) == 0
+}
+
+fn sequence(stretch: &[u8]) -> &[u8]
+    ensures { λ r. ⌜ now r ≡ sequenceIn (now (stretch .entry)) ⌝ }
+{
+    let length = numbers::get_le(stretch, 0, LENGTH_BYTES) as usize;
+    numbers::part(stretch, SEQUENCE_AT, length)
+}
+
+fn read_back(stretch: &[u8]) -> u32
+    ensures { λ r. ⌜ r ≡ readBackIn (now (stretch .entry)) ⌝ }
+{
+    numbers::get_le(stretch, READ_BACK_AT, SIGNAL_BYTES) as u32
+}
+
+fn state(stretch: &[u8]) -> &[u8]
+    ensures { λ r. ⌜ now r ≡ stateIn (now (stretch .entry)) ⌝ }
+{
+    numbers::part(stretch, STATE_AT, STATE_LENGTH)
+}
+
+// The part of the shared ceiling that the bay has.
+pub fn part(stretch: &[u8]) -> u32
+    ensures { λ r. ⌜ r ≡ partOf (now (stretch .entry)) ⌝ }
+{
+    if is_empty(stretch) {
+        return 0;
+    }
+    numbers::get_le(stretch, CEILING_AT, TAKEN_BYTES) as u32
+}
+
+// What a tick on what the bay holds comes to before anything is written.
+pub fn reply_to(stretch: &[u8], input: u32) -> Reply
+    ensures { λ r. ⌜ Replies (sequenceIn (now (stretch .entry))) (stateIn (now (stretch .entry))) input (readBackIn (now (stretch .entry))) r ⌝ }
+{
+    instants::reply_to(sequence(stretch), state(stretch), input, read_back(stretch))
+}
+
+// The tick on what the bay holds.
+pub fn tick(stretch: &mut [u8], input: u32, answer: &mut [u8]) -> u8
+    requires { ⌜ length (now stretch) ≡ stretchLength ⌝ }
+    ensures { λ r. ⌜ called r (now (stretch .exit)) (now (answer .exit) ∷ []) ≡ bayTickOf (now (stretch .entry)) input (now (answer .entry)) ⌝ }
+{
+    if answer.len() != ANSWER_LENGTH {
+        return 1;
+    }
+    match reply_to(stretch, input) {
+        Reply::Refused(number) => number,
+        Reply::Reacted(reaction) => writing::finish(
+            &mut stretch[STATE_AT..COUNT_AT],
+            answer,
+            reaction,
+        ),
+    }
+}
+
+// Clears all that does not outlive a release.
+fn vacate(stretch: &mut [u8])
+    requires { ⌜ length (now stretch) ≡ stretchLength ⌝ }
+    ensures { λ _. ⌜ now (stretch .exit) ≡ vacated (now (stretch .entry)) ⌝ }
+{
+    numbers::put_le(stretch, 0, BAY_LENGTH, 0);
+}
+
+pub fn release(stretch: &mut [u8]) -> u8
+    requires { ⌜ length (now stretch) ≡ stretchLength ⌝ }
+    ensures { λ r. ⌜ called r (now (stretch .exit)) [] ≡ bayReleaseOf (now (stretch .entry)) ⌝ }
+{
+    vacate(stretch);
+    0
+}
+
+// A fresh machine of this sequence.
+fn fill(stretch: &mut [u8], sequence: &[u8], read_back: u32, ceiling: u32)
+    requires { ⌜ (length (now stretch) ≡ stretchLength) × (length (now sequence) ≤ maxBytes) ⌝ }
+    ensures { λ _. ⌜ now (stretch .exit) ≡ filled (terms (now (sequence .entry)) «read_back») ceiling (now (stretch .entry)) ⌝ }
+{
+    vacate(stretch);
+    numbers::put_le(stretch, 0, LENGTH_BYTES, sequence.len() as u64);
+    numbers::copying::put_bytes(stretch, SEQUENCE_AT, sequence);
+    numbers::put_le(stretch, READ_BACK_AT, SIGNAL_BYTES, read_back as u64);
+    numbers::put_le(stretch, CEILING_AT, TAKEN_BYTES, ceiling as u64);
+}
+
+// `present` is what the bays present have of the shared ceiling.
+pub fn admit(stretch: &mut [u8], present: u64, sequence: &[u8], read_back: u32) -> u8
+    requires { ⌜ (length (now stretch) ≡ stretchLength) × (present ≤ 2 ^ 40) ⌝ }
+    ensures { λ r. ⌜ called r (now (stretch .exit)) [] ≡ bayAdmitOf present (now (stretch .entry)) (terms (now (sequence .entry)) «read_back») ⌝ }
+{
+    match ceilings::planned(sequence, read_back) {
+        Plan::Refused(number) => number,
+        Plan::Takes(ceiling) => {
+            if SHARED_CEILING < present + ceiling as u64 {
+                return 14;
+            }
+            fill(stretch, sequence, read_back, ceiling);
+            0
+        }
+    }
+}

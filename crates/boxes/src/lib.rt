@@ -1,0 +1,90 @@
+// Eight bays in one box (02, item 8).
+ghost use mathlib.Core.Path.{_≡_};
+ghost use mathlib.Core.List.{[], _∷_};
+ghost use Prim.Native.Nat.{_*_, _^_, _≤_};
+ghost use lib.ListN.{length};
+ghost use Rattle.box_calls.specs.Called.{called};
+ghost use Rattle.box_calls.specs.Stretch.{terms};
+ghost use Rattle.box_calls.specs.Box.{bayCount, boxLength, present, release, tick, admit, callOf};
+ghost use Rattle.boxes.specs.Entries.{entryOf};
+use bays::STRETCH_LENGTH;
+
+const BAY_COUNT: usize = 8;
+
+const BOX_LENGTH: usize = BAY_COUNT * STRETCH_LENGTH;
+
+// The number that turns a call down before its bay is touched, or 0: `vacant` says whether the call wants an empty bay.
+fn entry(memory: &[u8], bay: u32, vacant: bool) -> u8
+    ensures { λ r. ⌜ r ≡ entryOf (now (memory .entry)) bay vacant ⌝ }
+{
+    let at = bay as usize;
+    if BAY_COUNT <= at {
+        return 13;
+    }
+    if memory.len() != BOX_LENGTH {
+        return 1;
+    }
+    let empty = bays::is_empty(numbers::part(memory, at * STRETCH_LENGTH, STRETCH_LENGTH));
+    if vacant {
+        if empty {
+            return 0;
+        }
+        return 13;
+    }
+    if empty {
+        return 13;
+    }
+    0
+}
+
+pub fn tick(memory: &mut [u8], bay: u32, input: u32, answer: &mut [u8]) -> u8
+    ensures { λ r. ⌜ called r (now (memory .exit)) (now (answer .exit) ∷ []) ≡ callOf (now (memory .entry)) bay (tick input (now (answer .entry))) ⌝ }
+{
+    let number = entry(memory, bay, false);
+    if number != 0 {
+        return number;
+    }
+    let from = bay as usize * STRETCH_LENGTH;
+    let end = from + STRETCH_LENGTH;
+    bays::tick(&mut memory[from..end], input, answer)
+}
+
+pub fn release(memory: &mut [u8], bay: u32) -> u8
+    ensures { λ r. ⌜ called r (now (memory .exit)) [] ≡ callOf (now (memory .entry)) bay release ⌝ }
+{
+    let number = entry(memory, bay, false);
+    if number != 0 {
+        return number;
+    }
+    let from = bay as usize * STRETCH_LENGTH;
+    let end = from + STRETCH_LENGTH;
+    bays::release(&mut memory[from..end])
+}
+
+// What the bays present have of the shared ceiling.
+fn present_in(memory: &[u8]) -> u64
+    requires { ⌜ length (now memory) ≡ boxLength ⌝ }
+    ensures { λ r. ⌜ (r ≡ present bayCount (now (memory .entry))) × (r ≤ bayCount * 2 ^ 32) ⌝ }
+{
+    let mut sum: u64 = 0;
+    let mut i = 0;
+    while i < BAY_COUNT {
+        let from = i * STRETCH_LENGTH;
+        sum += bays::part(numbers::part(memory, from, STRETCH_LENGTH)) as u64;
+        i += 1;
+    }
+    sum
+}
+
+pub fn admit(memory: &mut [u8], bay: u32, sequence: &[u8], read_back: u32) -> u8
+    ensures { λ r. ⌜ called r (now (memory .exit)) [] ≡ callOf (now (memory .entry)) bay (admit (terms (now (sequence .entry)) «read_back»)) ⌝ }
+{
+    let number = entry(memory, bay, true);
+    if number != 0 {
+        return number;
+    }
+    let present = present_in(memory);
+    let from = bay as usize * STRETCH_LENGTH;
+    let end = from + STRETCH_LENGTH;
+    bays::admit(&mut memory[from..end], present, sequence, read_back)
+}
