@@ -8,11 +8,10 @@ use lib.Dec.{eqb, ltb}
 use Rattle.box_calls.specs.Stretch.{isEmpty}
 use Rattle.box_calls.specs.Box.{bayCount, boxLength, stretchOf}
 
--- does the call want an empty bay?
-abbrev pub entryOf : (box : List ℕ) (bay : ℕ) (vacant : Bool) → ℕ
+-- is the bay as the call wants it, empty or filled?
+abbrev pub fits : (vacant : Bool) → List ℕ → Bool
+fits vacant s = cond vacant (isEmpty s) (not (isEmpty s))
+
+unfoldable pub entryOf : (box : List ℕ) (bay : ℕ) (vacant : Bool) → ℕ
 entryOf box bay vacant =
-    cond (ltb bay bayCount)
-    (cond (eqb (length box) boxLength)
-    (cond (cond vacant (isEmpty (stretchOf bay box)) (not (isEmpty (stretchOf bay box)))) 0 13)
-    1)
-    13
+    cond (ltb bay bayCount) (cond (eqb (length box) boxLength) (cond (fits vacant (stretchOf bay box)) 0 13) 1) 13

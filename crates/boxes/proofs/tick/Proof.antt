@@ -1,0 +1,65 @@
+use mathlib.Core.Path.{refl}
+use mathlib.Core.Bool.{false}
+use Rattle.box_calls.specs.Box.{tick}
+use Rattle.boxes.proofs.Entering.{entered, turned-down, lent-call}
+use borrow.Author.Needs.{needs}
+use Rattle.boxes.proofs.tick.Statement.{statement}
+use Rattle.boxes.proofs.tick.Tie as tie
+
+entry-requires : tie.Need-entry-requires
+entry-requires c κs = search needs
+
+same-length : tie.Need-same-length
+same-length c = search needs
+
+returns : tie.Need-returns
+returns c = turned-down _ _ false (tick _ _) (λ s. refl) (c .before .entry .ensures) (c .if1 .taken)
+
+mul-from : tie.Need-mul-from
+mul-from c = search needs
+
+add-end : tie.Need-add-end
+add-end c = search needs
+
+sub-tick : tie.Need-sub-tick
+sub-tick c = search needs
+
+part-tick-start : tie.Need-part-tick-start
+part-tick-start c = search needs
+
+part-tick-end : tie.Need-part-tick-end
+part-tick-end c = 
+    let x = entered _ _ _ (c .before .entry .ensures) (c .if1 .left) in
+    let l = x .there in
+    let z = x .sized in
+    search needs
+
+tick-requires : tie.Need-tick-requires
+tick-requires c κs = search needs
+
+same-length-2 : tie.Need-same-length-2
+same-length-2 c = search needs
+
+same-length-3 : tie.Need-same-length-3
+same-length-3 c = search needs
+
+returns-2 : tie.Need-returns-2
+returns-2 c = 
+    lent-call _ _ false (tick _ _) (λ s. refl) (c .before .before .before .before .before .before .before .before .entry .ensures) (c .before .before .before .before .before .before .before .if1 .left) _ _ _ (c .before .before .before .before .tick .ensures)
+
+pub tick-spec : {M : Type 1} → statement M
+tick-spec =
+    tie.close
+    (tie.spec
+    entry-requires
+    same-length
+    returns
+    mul-from
+    add-end
+    sub-tick
+    part-tick-start
+    part-tick-end
+    tick-requires
+    same-length-2
+    same-length-3
+    returns-2)
