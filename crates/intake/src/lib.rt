@@ -1,7 +1,11 @@
-// The check and the tick, exported for hosts in C.
+// What hosts in C call: the check, the tick, and the calls of a box of bays (02, item 8).
 ghost use mathlib.Core.Path.{_≡_};
+ghost use mathlib.Core.List.{[], _∷_};
 ghost use Rattle.sequence.specs.Check.{checkOf};
 ghost use Rattle.demands.specs.Demands.{TickMeets};
+ghost use Rattle.box_calls.specs.Called.{called};
+ghost use Rattle.box_calls.specs.Stretch.{terms};
+ghost use Rattle.box_calls.specs.Box.{admit, release, tick, callOf};
 use answers::ANSWER_LENGTH;
 use instants::Reply;
 use layout::Seconds;
@@ -40,4 +44,35 @@ pub extern "C" fn intake_tick(
         Reply::Refused(number) => number,
         Reply::Reacted(reaction) => writing::finish(state, answer, reaction),
     }
+}
+
+// A bay is admitted, fresh: 0, or the number that turns the call down.
+#[no_mangle]
+pub extern "C" fn intake_box_admit(
+    memory: &mut [u8],
+    bay: u32,
+    sequence: &[u8],
+    read_back: u32,
+) -> u8
+    ensures { λ r. ⌜ called r (now (memory .exit)) []
+        ≡ callOf (now (memory .entry)) bay (admit (terms (now (sequence .entry)) «read_back»)) ⌝ }
+{
+    boxes::admit(memory, bay, sequence, read_back)
+}
+
+// A bay is taken out.
+#[no_mangle]
+pub extern "C" fn intake_box_release(memory: &mut [u8], bay: u32) -> u8
+    ensures { λ r. ⌜ called r (now (memory .exit)) [] ≡ callOf (now (memory .entry)) bay release ⌝ }
+{
+    boxes::release(memory, bay)
+}
+
+// The tick of a bay.
+#[no_mangle]
+pub extern "C" fn intake_box_tick(memory: &mut [u8], bay: u32, input: u32, answer: &mut [u8]) -> u8
+    ensures { λ r. ⌜ called r (now (memory .exit)) (now (answer .exit) ∷ [])
+        ≡ callOf (now (memory .entry)) bay (tick input (now (answer .entry))) ⌝ }
+{
+    boxes::tick(memory, bay, input, answer)
 }

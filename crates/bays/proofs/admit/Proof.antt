@@ -32,7 +32,7 @@ same-length : tie.Need-same-length
 same-length c = search needs
 
 returns-3 : tie.Need-returns-3
-returns-3 c = 
+returns-3 c =
     admitted _ _ _ _ (sym (c .before .before .before .before .before .before .ceiling .given .1) ∙ c .before .before .before .before .before .before .before .before .planned .ensures) (c .before .before .before .before .if1 .left) (c .before .before .fill .ensures)
 
 pub admit-spec : {M : Type 1} → statement M

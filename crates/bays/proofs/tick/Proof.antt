@@ -37,7 +37,7 @@ same-length : tie.Need-same-length
 same-length c = search needs
 
 returns-2 : tie.Need-returns-2
-returns-2 c = 
+returns-2 c =
     refused-tick _ _ _ (c .before .before .before .before .before .before .before .before .pre) (c .before .before .before .before .before .if1 .left) _
     (subst (Replies _ _ _ _) (c .before .number .given .1) (c .before .before .before .reply-to .ensures))
 
@@ -48,7 +48,7 @@ same-length-3 : tie.Need-same-length-3
 same-length-3 c = search needs
 
 returns-3 : tie.Need-returns-3
-returns-3 c = 
+returns-3 c =
     reacted-tick _ _ _ (c .before .before .before .before .before .before .before .before .before .before .before .before .before .before .before .pre) (c .before .before .before .before .before .before .before .before .before .before .before .before .if1 .left) _
     (subst (Replies _ _ _ _) (c .before .before .before .before .before .before .before .before .reaction .given .1) (c .before .before .before .before .before .before .before .before .before .before .reply-to .ensures))
     _ _ _ (c .before .before .before .before .finish .ensures)

@@ -31,7 +31,7 @@ part-admit-start : tie.Need-part-admit-start
 part-admit-start c = search needs
 
 part-admit-end : tie.Need-part-admit-end
-part-admit-end c = 
+part-admit-end c =
     let x = entered _ _ _ (c .before .before .before .entry .ensures) (c .before .before .if1 .left) in
     let l = x .there in
     let z = x .sized in
@@ -44,7 +44,7 @@ same-length-2 : tie.Need-same-length-2
 same-length-2 c = search needs
 
 returns-2 : tie.Need-returns-2
-returns-2 c = 
+returns-2 c =
     admit-call _ _ _ (c .before .before .before .before .before .before .before .entry .ensures) (c .before .before .before .before .before .before .if1 .left) (c .before .before .before .before .present-in .ensures .0) _ _ (c .before .before .admit .ensures)
 
 pub admit-spec : {M : Type 1} → statement M

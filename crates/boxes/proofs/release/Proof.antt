@@ -28,7 +28,7 @@ part-release-start : tie.Need-part-release-start
 part-release-start c = search needs
 
 part-release-end : tie.Need-part-release-end
-part-release-end c = 
+part-release-end c =
     let x = entered _ _ _ (c .before .entry .ensures) (c .if1 .left) in
     let l = x .there in
     let z = x .sized in
@@ -41,7 +41,7 @@ same-length-2 : tie.Need-same-length-2
 same-length-2 c = search needs
 
 returns-2 : tie.Need-returns-2
-returns-2 c = 
+returns-2 c =
     lent-call _ _ false release (λ s. refl) (c .before .before .before .before .before .entry .ensures) (c .before .before .before .before .if1 .left) _ _ _ (c .before .before .release .ensures)
 
 pub release-spec : {M : Type 1} → statement M

@@ -28,7 +28,7 @@ part-tick-start : tie.Need-part-tick-start
 part-tick-start c = search needs
 
 part-tick-end : tie.Need-part-tick-end
-part-tick-end c = 
+part-tick-end c =
     let x = entered _ _ _ (c .before .entry .ensures) (c .if1 .left) in
     let l = x .there in
     let z = x .sized in
@@ -44,7 +44,7 @@ same-length-3 : tie.Need-same-length-3
 same-length-3 c = search needs
 
 returns-2 : tie.Need-returns-2
-returns-2 c = 
+returns-2 c =
     lent-call _ _ false (tick _ _) (λ s. refl) (c .before .before .before .before .before .before .before .before .entry .ensures) (c .before .before .before .before .before .before .before .if1 .left) _ _ _ (c .before .before .before .before .tick .ensures)
 
 pub tick-spec : {M : Type 1} → statement M
