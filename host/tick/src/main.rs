@@ -4,27 +4,11 @@
 //! implementations by both orders of the signal rules (orders.rs). The reactions of each instant are held to the ceiling of
 //! its sequence (ceiling.rs).
 //! An argument replaces the seed. The last line is 'N passed, M failed'.
-mod archive;
-mod ceiling;
-mod examples;
-mod expansion;
-mod kernel;
-mod labels;
-mod orders;
-mod readback;
-mod reference;
-mod rewriting;
-mod runs;
-mod small;
-mod statement;
-mod tally;
-mod ticks;
-mod vectors;
-
 use common::{generate::Random, table};
-use reference::Sequence;
 use std::{env, process::ExitCode};
-use tally::{Tally, GREATEST};
+use tick::reference::{self, Sequence};
+use tick::tally::{Tally, GREATEST};
+use tick::{ceiling, examples, labels, orders, runs, small, ticks, vectors};
 
 /// The lines of host/ticks.txt: what is written there by hand is what the reference gives, and the archive too.
 fn by_hand(tally: &mut Tally) {
