@@ -66,9 +66,9 @@ static void states(void)
 static void texts(void)
 {
     unsigned i, j;
-    for (i = 0; i <= INTAKE_OVER + 2; i++)
+    for (i = 0; i <= INTAKE_ABOVE_CEILING + 2; i++)
         for (j = 0; j < i; j++)
-            expect((strcmp(intake_text(i), intake_text(j)) == 0) == (j > INTAKE_OVER), "text of a number", i);
+            expect((strcmp(intake_text(i), intake_text(j)) == 0) == (j > INTAKE_ABOVE_CEILING), "text of a number", i);
     for (i = 0; i <= INTAKE_NOT_STRONGLY_DETERMINISTIC + 2; i++)
         for (j = 0; j < i; j++)
             expect((strcmp(intake_kind_text(i), intake_kind_text(j)) == 0) == (j > INTAKE_NOT_STRONGLY_DETERMINISTIC),
@@ -81,7 +81,9 @@ static void lengths(void)
 {
     expect(INTAKE_STATE_LABELS + INTAKE_STATE_LABELS_LENGTH == INTAKE_STATE_LENGTH, "length of the state record", 0);
     expect(INTAKE_ANSWER_REACTIONS + INTAKE_ANSWER_REACTIONS_LENGTH == INTAKE_ANSWER_LENGTH, "length of the answer", 0);
+    expect(INTAKE_BOX_LENGTH % INTAKE_BAY_COUNT == 0, "length of a box", 0);
     expect(INTAKE_STACK_THREAD >= INTAKE_STACK_TICK && INTAKE_STACK_TICK >= INTAKE_STACK_CHECK, "stack", 0);
+    expect(INTAKE_STACK_THREAD >= INTAKE_STACK_BOX, "stack of a box", 0);
     expect(INTAKE_VERSION / 10000 == INTAKE_VERSION_MAJOR && INTAKE_VERSION % 100 == INTAKE_VERSION_PATCH, "version", 0);
 }
 

@@ -5,7 +5,8 @@
  *
  * - Target: x86-64, System V calling convention, ELF; instructions of the base set, which has SSE2. There is no other today.
  * - Functions of C: memset
- * - Stack: INTAKE_STACK_CHECK and INTAKE_STACK_TICK bytes below the caller's frame at the greatest depth, as measured.
+ * - Stack: INTAKE_STACK_CHECK, INTAKE_STACK_TICK and INTAKE_STACK_BOX bytes below the caller's frame at the greatest depth,
+ *   as measured.
  * - Code and jump tables: INTAKE_CODE_LENGTH bytes at most. No heap, no variable outside the stack, no other file.
  * - Dearest instant found: 5.5 ms, 1,061,695 reactions (Intel Xeon, family 6 model 207, 2.3 GHz; make bench-tick)
  */
@@ -22,11 +23,13 @@
 #define INTAKE_VERSION (INTAKE_VERSION_MAJOR * 10000 + INTAKE_VERSION_MINOR * 100 + INTAKE_VERSION_PATCH)
 
 /*
- * Bytes of stack that a call takes at most, measured at depth 64 by painting and rounded up; and what to give a thread of
- * Linux that only ticks, with room for the system's own data there. A host adds what its own functions take.
+ * Bytes of stack that a call takes at most, the last one each call on a box, measured at depth 64 by painting and rounded
+ * up; and what to give a thread of Linux that only ticks, with room for the system's own data there. A host adds what its
+ * own functions take.
  */
 #define INTAKE_STACK_CHECK 24576
 #define INTAKE_STACK_TICK 24576
+#define INTAKE_STACK_BOX 24576
 #define INTAKE_STACK_THREAD 32768
 
 /* Bytes of code and jump tables in the archive, rounded up. */
@@ -48,11 +51,12 @@ extern "C" {
 /*
  * What a call answers: 0, or the row of document 01, 'Turned down', that turns it down. The check gives 2 to 10, the
  * tick 1 to 12; of several rows that hold, the lowest, but rows 3 to 6 go command by command from the left. Row 6 by the
- * read-back set comes after them, once the whole statement was read, and before row 7.
+ * read-back set comes after them, once the whole statement was read, and before row 7. The calls on a box give 13 and 14
+ * too: 13 before all others, 14 after row 10.
  */
 enum intake_number {
     INTAKE_ACCEPTED = 0,                /* accepted */
-    INTAKE_BUFFER_LENGTH = 1,           /* state buffer not 17 bytes, or answer buffer not 12 */
+    INTAKE_BUFFER_LENGTH = 1,           /* state buffer not 17 bytes, answer buffer not 12, or box not 12,184 */
     INTAKE_SEQUENCE_LENGTH = 2,         /* sequence of no bytes or over 1,024 */
     INTAKE_UNKNOWN_COMMAND = 3,         /* command byte above 0B */
     INTAKE_CUT_SHORT = 4,               /* operand or statement missing at the end */
@@ -63,7 +67,9 @@ enum intake_number {
     INTAKE_SETPAUSE_WITHOUT_PAUSE = 9,  /* setpause whose label has no pause */
     INTAKE_NOT_WELL_FORMED = 10,        /* triggers of exclusive pauses that are not exclusive */
     INTAKE_INVALID_STATE = 11,          /* phase above 2, labels with phase 0 or 2, or phase 1 with a set not valid */
-    INTAKE_OVER = 12                    /* phase 2: the machine is over */
+    INTAKE_OVER = 12,                   /* phase 2: the machine is over */
+    INTAKE_NO_SUCH_BAY = 13,            /* bay number above 7, filled bay on admission, empty bay otherwise */
+    INTAKE_ABOVE_CEILING = 14           /* the ceilings of the bays present and its own sum to more than 65,536 */
 };
 
 /*
@@ -191,6 +197,52 @@ uint8_t intake_check(const uint8_t *sequence, size_t length, uint32_t read_back)
 uint8_t intake_tick(const uint8_t *sequence, size_t sequence_length, uint8_t *state, size_t state_length,
                     uint32_t input, uint32_t read_back, uint8_t *answer, size_t answer_length);
 
+/*
+ * A box holds the machines of up to INTAKE_BAY_COUNT bays, numbered from 0, each with its own sequence, read-back set and
+ * state. It is lent memory of INTAKE_BOX_LENGTH bytes, all of them 00 at first and from then on written by the calls below
+ * and by nobody else; docs/FORMAT.md has the layout.
+ *
+ * The bays share a ceiling: what the instants of all bays present can take, one of each, sums to INTAKE_SHARED_CEILING
+ * reactions at most. The part of a bay is fixed on admission: commands * (1 + loops) * 2^signals of its sequence, as above
+ * at the number of reactions. A release gives it back.
+ *
+ * Nothing that is done with one bay changes what another one answers or holds; only the number of an admission depends on
+ * the other bays, by their parts of the ceiling.
+ *
+ * The numbers come in this order: INTAKE_NO_SUCH_BAY for a number above 7, then INTAKE_BUFFER_LENGTH for a box of another
+ * length, then INTAKE_NO_SUCH_BAY for a bay that is filled on admission or empty otherwise, then those that each call adds.
+ * A call turned down writes nothing, not even bytes of the same value.
+ *
+ * The caller must see to it that the buffers of a call have the lengths given and share no byte, that the box, and a tick's
+ * answer, are readable and writable and the sequence readable, and that nobody else uses them during the call: two threads
+ * do not use one box at the same time. A buffer of length 0 may be a null pointer. Every value of the bytes, every length
+ * and every bay number is allowed, also a box that no call has written: the calls read and write no byte outside the
+ * buffers and always return. No address needs to be aligned.
+ */
+#define INTAKE_BAY_COUNT 8
+#define INTAKE_BOX_LENGTH 12184
+#define INTAKE_SHARED_CEILING 65536
+
+/*
+ * Admits a sequence with its read-back set to an empty bay: its machine is fresh. After the numbers of every call on a box
+ * come those of intake_check, 2 to 10, and then INTAKE_ABOVE_CEILING if the bay's part and the parts of the bays present
+ * sum to more than the shared ceiling, in an empty box too. The sequence is copied: the caller's is not needed afterwards.
+ */
+uint8_t intake_box_admit(uint8_t *box, size_t box_length, uint32_t bay, const uint8_t *sequence, size_t sequence_length,
+                         uint32_t read_back);
+
+/* Takes the machine out of a filled bay, which is empty then, whatever the machine was doing. */
+uint8_t intake_box_release(uint8_t *box, size_t box_length, uint32_t bay);
+
+/*
+ * Runs one instant of a filled bay: intake_tick on its sequence, state record and read-back set. After the numbers of every
+ * call on a box come INTAKE_BUFFER_LENGTH for an answer of another length and then those of intake_tick. In a box that these
+ * calls alone have written they are INTAKE_ACCEPTED and INTAKE_OVER. A machine that is over stays in its bay, and keeps its
+ * part of the ceiling, until it is released.
+ */
+uint8_t intake_box_tick(uint8_t *box, size_t box_length, uint32_t bay, uint32_t input, uint8_t *answer,
+                        size_t answer_length);
+
 /* The number in `count` bytes, at most 4, lowest first. */
 INTAKE_INLINE uint32_t intake_number_in(const uint8_t *bytes, size_t count)
 {
@@ -261,7 +313,7 @@ INTAKE_INLINE const char *intake_text(unsigned number)
 {
     switch (number) {
     case INTAKE_ACCEPTED: return "accepted";
-    case INTAKE_BUFFER_LENGTH: return "the state buffer or the answer buffer has another length";
+    case INTAKE_BUFFER_LENGTH: return "the state buffer, the answer buffer or the box has another length";
     case INTAKE_SEQUENCE_LENGTH: return "the sequence has no bytes, or more than 1,024";
     case INTAKE_UNKNOWN_COMMAND: return "unknown command";
     case INTAKE_CUT_SHORT: return "the sequence ends within a command";
@@ -273,6 +325,8 @@ INTAKE_INLINE const char *intake_text(unsigned number)
     case INTAKE_NOT_WELL_FORMED: return "pauses that exclude each other can be set together";
     case INTAKE_INVALID_STATE: return "the state record is not one of this sequence";
     case INTAKE_OVER: return "the machine is over";
+    case INTAKE_NO_SUCH_BAY: return "no bay has this number, or it is filled on admission or empty otherwise";
+    case INTAKE_ABOVE_CEILING: return "the bays together could take more than 65,536 reactions in an instant";
     default: return "no number of a call";
     }
 }

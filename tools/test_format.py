@@ -175,8 +175,49 @@ def numbers(page):
     for row in rows(page, "No."):
         if row[3] and f"{row[0]}: {row[3].strip('`')}" not in examples:
             yield f"the example of number {row[0]} in host/examples.txt"
-        if not row[3] and row[0] not in ("1", "11", "12"):  # what these need is no sequence
+        if not row[3] and row[0] not in ("1", "11", "12", "13", "14"):  # what these need is no sequence, or more than one
             yield f"number {row[0]} has no example"
+
+
+def defines():
+    """The numbers that include/intake.h defines, by name."""
+    return {name: int(value) for name, value in re.findall(r"^#define INTAKE_(\w+) (\d+)$", text_of("include/intake.h"), re.M)}
+
+
+def box(page):
+    """A stretch's fields follow each other, and begin where the test of a box has them."""
+    table, at, given = rows(page, "Stretch"), 0, {}
+    for name, begins, size, *_ in table[:-1]:
+        if number(begins) != at:
+            yield f"{name} of a stretch begins at {at}"
+        if name != "reserved":
+            given[name.upper().replace("-", "_")] = at
+        at += number(size)
+    given["STRETCH"] = at
+    if table[-1][0] != "whole" or number(table[-1][2]) != at:
+        yield f"a stretch has {at} bytes"
+    tested = re.findall(r"^(?:pub )?const (\w+): usize = (\d+);$", text_of("host/box/src/layout.rs"), re.M)
+    if given != {name: int(value) for name, value in tested}:
+        yield f"the fields of a stretch: {given}"
+    known, sizes = limits(), {row[0]: number(row[2]) for row in table}
+    fields = {"sequence": known["maxBytes"], "read-back": known["signalBytes"], "state": values("state")["STATE_LENGTH"]}
+    if any(sizes.get(name) != size for name, size in fields.items()):
+        yield f"the bytes of a stretch: {sizes}"
+
+
+def calls(page):
+    """The calls on a box, and the lengths and the ceiling that the page and the header's comments name."""
+    declared = re.findall(r"^uint8_t (intake_box_\w+)\(", text_of("include/intake.h"), re.M)
+    if [row[0].strip("`") for row in rows(page, "Call")] != declared:
+        yield f"the calls on a box: {declared}"
+    known, told = defines(), header("number")
+    count, length = known["BAY_COUNT"], known["BOX_LENGTH"]
+    if length != count * number(rows(page, "Stretch")[-1][2]) or f"up to {count} bays in {length:,} bytes" not in page:
+        yield "the length of a box"
+    if not told["BUFFER_LENGTH"][1].endswith(f"box not {length:,}") or f"above {count - 1}," not in told["NO_SUCH_BAY"][1]:
+        yield "the length and the bays of a box in the header's comments"
+    if not told["ABOVE_CEILING"][1].endswith(f"more than {known['SHARED_CEILING']:,}"):
+        yield "the shared ceiling in the header's comment"
 
 
 def run_file(page):
@@ -244,7 +285,7 @@ def format_links(page):
     yield from links(PAGE, page)
 
 
-CHECKS = [commands, ranges, records, codes, kinds, numbers, run_file, example, glossary, format_links]
+CHECKS = [commands, ranges, records, codes, kinds, numbers, box, calls, run_file, example, glossary, format_links]
 
 
 def faults(page):
@@ -255,7 +296,7 @@ def faults(page):
 
 
 CHECKED = {"Byte": [0, 1, 2, 3], "Limit": [0, 1, 2], "State record": [0, 1, 2], "Answer record": [0, 1, 2], "Code": [0, 2],
-           "Kind": [0, 1], "No.": [0, 1, 2, 3], "Part": [1], "Field": [0, 1], "Term": [3]}
+           "Kind": [0, 1], "No.": [0, 1, 2, 3], "Stretch": [0, 1, 2], "Call": [0], "Part": [1], "Field": [0, 1], "Term": [3]}
 
 
 def other(cell):

@@ -1,0 +1,147 @@
+//! Random calls to a box: mostly such as a host makes, sequences whose ceilings meet or pass what is left, and mistakes.
+use crate::archive::Call;
+use crate::model::{Bay, Model, BAYS, SHARED};
+use common::generate::{self, Random, Style};
+use common::table;
+use std::sync::OnceLock;
+use tick::archive::ANSWER_LENGTH;
+use tick::runs;
+
+/// A call with its bay, and the length of its box if that is another.
+#[derive(Clone)]
+pub struct Request {
+    pub bay: u32,
+    pub length: Option<usize>,
+    pub call: Call,
+}
+
+/// A statement of so many commands, one at least, with a pause that it reaches first and in which it waits.
+fn commands(count: u64, label: u8, bytes: &mut Vec<u8>) {
+    match count {
+        1 => bytes.extend([0x01, label]),
+        2 => bytes.extend([0x09, 0x01, label]),
+        _ => {
+            bytes.extend([0x04, 0x01, label]);
+            plain(count - 2, bytes);
+        }
+    }
+}
+
+/// A balanced statement of so many commands that waits for nothing.
+fn plain(count: u64, bytes: &mut Vec<u8>) {
+    match count {
+        1 => bytes.push(0x00),
+        even if even % 2 == 0 => {
+            bytes.push(0x09);
+            plain(count - 1, bytes);
+        }
+        _ => {
+            let first = (count - 1) / 2;
+            bytes.push(0x04);
+            plain(first, bytes);
+            plain(count - 1 - first, bytes);
+        }
+    }
+}
+
+/// An accepted sequence with a read-back set and this ceiling, if one of few loops is found: the signals around it are
+/// declared or read back.
+pub fn of_ceiling(random: &mut Random, ceiling: u64) -> Option<(Vec<u8>, u32)> {
+    let fits = |&(loops, signals): &(u64, u32)| {
+        let factor = (1 + loops) << signals;
+        let count = ceiling / factor;
+        ceiling % factor == 0 && count > loops + signals as u64 && count < 900
+    };
+    let shapes: Vec<(u64, u32)> = (0..40).flat_map(|l| (0..=6).map(move |s| (l, s))).filter(fits).collect();
+    if shapes.is_empty() {
+        return None;
+    }
+    let (loops, signals) = random.pick(&shapes);
+    let declared = random.below(signals as usize + 1) as u32;
+    let mut bytes: Vec<u8> = (0..declared as u8).flat_map(|signal| [0x08, signal]).collect();
+    bytes.extend((0..loops).map(|_| 0x06));
+    let count = ceiling / ((1 + loops) << signals) - loops - signals as u64;
+    commands(count, random.below(128) as u8, &mut bytes);
+    Some((bytes, generate::set_of(random, (signals - declared) as usize)))
+}
+
+/// A sequence with its read-back set that the check may turn down: a line of host/examples.txt, or a damaged one.
+pub fn doubtful(random: &mut Random, longest: usize) -> (Vec<u8>, u32) {
+    static EXAMPLES: OnceLock<Vec<(Vec<u8>, u32)>> = OnceLock::new();
+    let read = || table::lines(include_str!("../../examples.txt")).map(|(_, text)| table::program(text)).collect();
+    let examples = EXAMPLES.get_or_init(read);
+    if random.chance(40) {
+        return examples[random.below(examples.len())].clone();
+    }
+    let (style, length) = (Style::any(random), random.below(longest));
+    let sequence = generate::sequence(random, style, length);
+    let bytes = generate::damaged(random, &sequence);
+    let few = generate::read_back(random, &bytes, 8);
+    let any = random.below(1 << 32) as u32;
+    (bytes, random.pick(&[0, 0, few, any]))
+}
+
+/// A sequence with its read-back set for an admission where so much is left of the shared ceiling.
+fn admitted(random: &mut Random, left: u64) -> (Vec<u8>, u32) {
+    match random.below(20) {
+        0..=2 => {
+            let longest = random.pick(&[16, 64, 256, 1031]);
+            doubtful(random, longest)
+        }
+        3..=5 => {
+            let over = random.pick(&[0, 0, 1, 2, 64]);
+            let dear = random.below(SHARED as usize) as u64;
+            let ceiling = random.pick(&[left, left + over, (left + 1).saturating_sub(over), left / 2, left / 4, dear]);
+            of_ceiling(random, ceiling).unwrap_or((vec![0x01, 0x00], 0))
+        }
+        _ => {
+            let sequence = runs::sequence(random);
+            (sequence.bytes, sequence.read_back)
+        }
+    }
+}
+
+/// Numbers above 7, and such as a narrow counter would take for one of a bay.
+const NO_BAYS: [u32; 9] = [8, 9, 255, 256, 257, 65_536, 1 << 31, (1 << 31) + 7, u32::MAX];
+
+fn over(bay: &Bay) -> bool {
+    bay.state[0] == 2
+}
+
+/// Mostly a bay that suits the call: an empty one to admit to, one that is over to release, one that is not to tick.
+fn bay(random: &mut Random, model: &Model, call: &Call) -> u32 {
+    let suits = |bay: &Option<Bay>| match call {
+        Call::Admit { .. } => bay.is_none(),
+        Call::Release => bay.as_ref().is_some_and(over),
+        Call::Tick { .. } => bay.as_ref().is_some_and(|bay| !over(bay)),
+    };
+    let such: Vec<u32> = (0..BAYS as u32).filter(|&bay| suits(&model.bays[bay as usize])).collect();
+    match such.is_empty() || random.chance(15) {
+        true => random.below(BAYS) as u32,
+        false => random.pick(&such),
+    }
+}
+
+/// A call as the model's bays suggest it; `ticks` is how many in a hundred are ticks.
+pub fn request(random: &mut Random, model: &Model, ticks: usize) -> Request {
+    let idle = model.bays.iter().flatten().all(over);
+    let kind = if idle && random.chance(80) { 99 } else { random.below(100) };
+    let call = if kind < ticks {
+        let answer_length = match random.chance(96) {
+            true => ANSWER_LENGTH,
+            false => random.pick(&[0, 1, 8, 11, 13, 17, 268, 1024]),
+        };
+        Call::Tick { input: runs::input(random), answer_length }
+    } else if kind < ticks + (100 - ticks) / 3 {
+        Call::Release
+    } else {
+        let (sequence, read_back) = admitted(random, SHARED - model.taken());
+        Call::Admit { sequence, read_back }
+    };
+    let bay = if random.chance(3) { random.pick(&NO_BAYS) } else { bay(random, model, &call) };
+    let length = random.chance(3).then(|| {
+        let right = model.length;
+        random.pick(&[0, 1, right / BAYS, right - 1, right + 1, right - 256, right + 256, 2 * right, right + 65_536])
+    });
+    Request { bay, length, call }
+}

@@ -1,0 +1,138 @@
+//! Boxes that no call has written: every call returns, a refusal changes nothing, no call leaves its bay's stretch, and a
+//! tick is intake_tick on what the bay holds.
+use crate::archive::{Archive, Call, Given};
+use crate::draw::{doubtful, request};
+use crate::layout::{self, held, put, put_length, put_sequence, put_state, LEDGER, STRETCH};
+use crate::lists::Run;
+use crate::memory::Memory;
+use crate::model::{Bay, BAYS, SHARED};
+use crate::tally::Tally;
+use common::generate::Random;
+use common::reference::STATE_LENGTH;
+use tick::archive::{self, ANSWER_LENGTH};
+use tick::runs;
+
+/// A stretch that holds a sequence, accepted or nearly so, with any state record and any ceiling.
+fn invented(random: &mut Random, stretch: &mut [u8]) {
+    let sequence = runs::sequence(random);
+    let mut state = runs::state(random, &sequence);
+    state.resize(STATE_LENGTH, 0);
+    if let Ok(bay) = Bay::new(&sequence.bytes, sequence.read_back) {
+        put(stretch, Some(&bay));
+        put_state(stretch, &state);
+    }
+    if random.chance(50) {
+        let (mut bytes, read_back) = doubtful(random, 60);
+        bytes.truncate(1024);
+        put_sequence(stretch, &bytes, read_back);
+    }
+}
+
+/// Bytes of a box that no call has written.
+fn foreign(random: &mut Random, real: &[u8]) -> Vec<u8> {
+    let mut bytes = real.to_vec();
+    match random.below(4) {
+        0 => bytes.fill_with(|| random.below(256) as u8),
+        1 => (0..1 + random.below(40)).for_each(|_| bytes[random.below(real.len())] ^= 1 << random.below(8)),
+        _ => {
+            for bay in 0..BAYS {
+                let stretch = &mut bytes[layout::stretch(bay)];
+                if random.chance(30) {
+                    stretch.fill_with(|| random.below(256) as u8);
+                }
+                match random.below(6) {
+                    0 => put_length(stretch, 0),
+                    1 => put_length(stretch, random.pick(&[1024, 1025, STRETCH as u16, 32_768, 65_535])),
+                    _ => invented(random, stretch),
+                }
+            }
+        }
+    }
+    bytes
+}
+
+/// The number and the answer of a call to these bytes, and what becomes of them; an admission's part of the shared ceiling
+/// is not looked at.
+fn expected(bytes: &[u8], bay: u32, call: &Call) -> (Result<Vec<u8>, u8>, Vec<u8>) {
+    let mut after = bytes.to_vec();
+    if bay as usize >= BAYS {
+        return (Err(13), after);
+    }
+    let stretch = &mut after[layout::stretch(bay as usize)];
+    let here = held(&bytes[layout::stretch(bay as usize)]);
+    let empty = here.length == 0;
+    let given = match call {
+        Call::Admit { .. } if !empty => Err(13),
+        Call::Release | Call::Tick { .. } if empty => Err(13),
+        Call::Admit { sequence, read_back } => Bay::new(sequence, *read_back).map(|bay| {
+            put(stretch, Some(&bay));
+            vec![]
+        }),
+        Call::Release => {
+            put(stretch, None);
+            Ok(vec![])
+        }
+        Call::Tick { answer_length, .. } if *answer_length != ANSWER_LENGTH => Err(1),
+        Call::Tick { input, .. } => here.sequence.ok_or(2).and_then(|sequence| {
+            let lent = archive::Call { state: here.state, input: *input, answer_length: ANSWER_LENGTH, fill: 0 };
+            let outcome = archive::tick((sequence, here.read_back), lent);
+            if outcome.number != 0 {
+                return Err(outcome.number);
+            }
+            put_state(stretch, &outcome.state.expect("guards"));
+            Ok(outcome.answer.expect("guards"))
+        }),
+    };
+    (given, after)
+}
+
+/// Whether an admission to an empty bay may, and whether it must, be given 14: a bay without a sequence may count or not.
+fn above(bytes: &[u8], ceiling: u64) -> (bool, bool) {
+    let stretches = || (0..BAYS).map(|bay| held(&bytes[layout::stretch(bay)]));
+    let all: u64 = stretches().map(|here| here.ceiling as u64).sum();
+    let filled: u64 = stretches().filter(|here| here.length > 0).map(|here| here.ceiling as u64).sum();
+    (all + ceiling > SHARED, filled + ceiling > SHARED)
+}
+
+fn compare(tally: &mut Tally, bytes: &[u8], bay: u32, call: &Call, given: &Given, memory: &mut Memory) {
+    let (mut result, mut after) = expected(bytes, bay, call);
+    if let (Call::Admit { sequence, read_back }, Ok(_)) = (call, &result) {
+        let ceiling = Bay::new(sequence, *read_back).map_or(0, |bay| bay.ceiling);
+        let (may, must) = above(bytes, ceiling);
+        if must || may && given.number == 14 {
+            result = Err(14);
+            after = bytes.to_vec();
+        }
+    }
+    let same = memory.holds(&after);
+    tally.counts.expect(same && given.is(&result), || {
+        let number = result.err().unwrap_or(0);
+        format!("foreign: {} and not {number}, box as it should be: {same}, {}", given.number, call.text(bay))
+    });
+}
+
+/// Some calls to each of so many boxes.
+pub fn boxes(tally: &mut Tally, random: &mut Random, count: usize) {
+    let (mut run, mut archive) = (Run::new(), Archive::new());
+    let mut memory = Memory::new(run.model.length);
+    assert!(LEDGER < STRETCH && BAYS * STRETCH == run.model.length, "the layout is not of the header's box");
+    for i in 0..count {
+        if i % 32 == 0 {
+            run.clear(random);
+        }
+        (0..4).for_each(|_| {
+            let request = request(random, &run.model, 50);
+            run.step(tally, &request);
+        });
+        let bytes = foreign(random, run.bytes());
+        memory.place(&bytes, random.chance(50), 0xC3);
+        for _ in 0..12 {
+            let request = request(random, &run.model, 60);
+            let bay = if random.chance(98) { random.below(BAYS) as u32 } else { request.bay };
+            let before = memory.bytes().to_vec();
+            let given = archive.call(&mut memory, bay, &request.call, false);
+            tally.count(&request.call, given.number);
+            compare(tally, &before, bay, &request.call, &given, &mut memory);
+        }
+    }
+}

@@ -1,0 +1,158 @@
+//! Random lists of calls from an empty box: every number and every byte after every call, and a bay's own calls beside
+//! other traffic.
+use crate::archive::{Archive, Call};
+use crate::draw::{request, Request};
+use crate::layout::{self, LEDGER};
+use crate::memory::Memory;
+use crate::model::{Model, BAYS, SHARED};
+use crate::tally::Tally;
+use common::generate::Random;
+
+/// The longest box of another length is so much longer than a right one, or twice as long.
+const LONGER: usize = 65_536;
+
+/// A box of the archive beside the model of it.
+pub struct Run {
+    archive: Archive,
+    lent: Memory,
+    /// Memory for boxes of another length.
+    other: Memory,
+    pub model: Model,
+    /// A box without machines: what the calls leave alone.
+    ledgers: Vec<u8>,
+    /// Calls that are to be turned down find memory that can't be written.
+    pub sealed: bool,
+}
+
+/// What a call gave and left: the number, the answer if there is one, and the bay's stretch.
+#[derive(PartialEq)]
+pub struct Seen {
+    number: u8,
+    answer: Option<Vec<u8>>,
+    stretch: Vec<u8>,
+}
+
+impl Run {
+    pub fn new() -> Self {
+        let length = layout::box_length();
+        let (archive, lent, other) = (Archive::new(), Memory::new(length), Memory::new(length + LONGER));
+        Run { archive, lent, other, model: Model::new(length), ledgers: vec![0; length], sealed: false }
+    }
+
+    /// An empty box, whose ledgers hold any bytes or none.
+    pub fn clear(&mut self, random: &mut Random) {
+        self.model = Model::new(self.model.length);
+        self.ledgers.fill(0);
+        if random.chance(25) {
+            for bay in 0..BAYS {
+                self.ledgers[layout::stretch(bay)][LEDGER..].fill_with(|| random.below(256) as u8);
+            }
+        }
+        self.lent.place(&self.ledgers, random.chance(50), random.below(256) as u8);
+        self.sealed = random.chance(25);
+    }
+
+    pub fn bytes(&mut self) -> &[u8] {
+        self.lent.bytes()
+    }
+
+    /// Makes a call, and compares the number and every byte with the model.
+    pub fn step(&mut self, tally: &mut Tally, request: &Request) -> Seen {
+        let Request { bay, length, call } = request;
+        let right = self.model.length;
+        let length = length.filter(|&length| length != right);
+        let expected = match call {
+            Call::Admit { sequence, read_back } => {
+                self.model.admit(length.unwrap_or(right), *bay, sequence, *read_back).map(|()| vec![])
+            }
+            Call::Release => self.model.release(length.unwrap_or(right), *bay).map(|()| vec![]),
+            Call::Tick { input, answer_length } => {
+                self.model.tick(length.unwrap_or(right), *bay, *input, *answer_length)
+            }
+        };
+        let sealed = self.sealed && expected.is_err();
+        let given = match length {
+            None => self.archive.call(&mut self.lent, *bay, call, sealed),
+            Some(length) => {
+                let content: Vec<u8> = self.lent.bytes().iter().copied().cycle().take(length).collect();
+                self.other.place(&content, length % 2 == 0, 0xA5);
+                let given = self.archive.call(&mut self.other, *bay, call, sealed);
+                tally.counts.expect(self.other.holds(&content), || format!("box of {length}: {}", call.text(*bay)));
+                given
+            }
+        };
+        let image = layout::image(&self.model, &self.ledgers);
+        let same = self.lent.holds(&image);
+        tally.count(call, given.number);
+        tally.counts.expect(same && given.is(&expected), || {
+            let number = expected.as_ref().err().unwrap_or(&0);
+            let text = call.text(*bay);
+            format!("{} and not {number}, box as it should be: {same}, length {length:?}, {text}", given.number)
+        });
+        let own = layout::stretch((*bay as usize).min(BAYS - 1));
+        let answer = (given.number == 0).then_some(given.answer);
+        Seen { number: given.number, answer, stretch: self.lent.bytes()[own].to_vec() }
+    }
+}
+
+/// Lists of 20 to 200 calls.
+pub fn lists(tally: &mut Tally, random: &mut Random, count: usize) {
+    let mut run = Run::new();
+    let (mut full, mut exact) = (0, 0);
+    for _ in 0..count {
+        run.clear(random);
+        let (calls, ticks) = (20 + random.below(181), random.pick(&[20, 60, 80, 90]));
+        for _ in 0..calls {
+            let request = request(random, &run.model, ticks);
+            run.step(tally, &request);
+            full += run.model.bays.iter().all(Option::is_some) as u64;
+            exact += (run.model.taken() == SHARED) as u64;
+        }
+    }
+    println!("{count} lists; after {full} calls all bays were filled, after {exact} the whole ceiling was taken");
+    tally.counts.expect(full > 0 && exact > 0, || "no full box, or none with the whole ceiling taken".into());
+}
+
+/// 02, item 8: two lists with the same calls to one bay, and its admissions answered alike, give it the same answers and
+/// the same bytes. The second list has other calls to the other bays.
+pub fn isolation(tally: &mut Tally, random: &mut Random, count: usize) {
+    let (mut one, mut two) = (Run::new(), Run::new());
+    let (mut compared, mut parted) = (0, 0);
+    for _ in 0..count {
+        one.clear(random);
+        two.clear(random);
+        two.ledgers.copy_from_slice(&one.ledgers);
+        two.lent.place(&one.ledgers, random.chance(50), 0x5A);
+        let (own, ticks) = (random.below(BAYS) as u32, random.pick(&[40, 70, 90]));
+        for _ in 0..20 + random.below(100) {
+            let mut call = request(random, &one.model, ticks);
+            if random.chance(60) {
+                call.bay = own;
+            }
+            let seen = one.step(tally, &call);
+            if call.bay != own {
+                continue;
+            }
+            traffic(tally, random, &mut two, own);
+            let beside = two.step(tally, &call);
+            if matches!(call.call, Call::Admit { .. }) && seen.number != beside.number {
+                parted += 1;
+                break;
+            }
+            compared += 1;
+            tally.counts.expect(seen == beside, || format!("beside other calls: {}", call.call.text(own)));
+        }
+    }
+    println!("{count} pairs of lists, {compared} calls compared; {parted} pairs had an admission answered otherwise");
+    tally.counts.expect(parted > 0 && compared > 10 * count, || "too few calls to one bay".into());
+}
+
+/// Up to six calls to other bays.
+fn traffic(tally: &mut Tally, random: &mut Random, run: &mut Run, own: u32) {
+    for _ in 0..random.below(7) {
+        let request = request(random, &run.model, 50);
+        if request.bay != own {
+            run.step(tally, &request);
+        }
+    }
+}

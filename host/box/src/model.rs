@@ -1,0 +1,97 @@
+//! A box as 02, item 8, words it: eight bays, each empty or with a machine of its own. It knows no bytes of a box.
+use common::reference;
+use common::reference::STATE_LENGTH;
+use tick::archive::ANSWER_LENGTH;
+use tick::ceiling::Ceiling;
+use tick::reference::instant;
+use tick::statement::{term, wrap, Order, Term};
+
+pub const BAYS: usize = 8;
+
+/// What the ceilings of the bays present may sum to.
+pub const SHARED: u64 = 65_536;
+
+/// A machine: what it was admitted with, what an instant of it takes at most, and its state record.
+pub struct Bay {
+    pub sequence: Vec<u8>,
+    pub read_back: u32,
+    pub ceiling: u64,
+    pub state: Vec<u8>,
+    tree: reference::Tree,
+    term: Term,
+}
+
+impl Bay {
+    /// A fresh machine, or the number of the check.
+    pub fn new(sequence: &[u8], read_back: u32) -> Result<Bay, u8> {
+        let tree = reference::check(sequence, read_back)?;
+        Ok(Bay {
+            sequence: sequence.to_vec(),
+            read_back,
+            ceiling: Ceiling::of(&tree, read_back).most(),
+            state: vec![0; STATE_LENGTH],
+            term: wrap(read_back, &term(&tree)),
+            tree,
+        })
+    }
+
+    /// The answer of an instant, or number 11 or 12.
+    pub fn tick(&mut self, input: u32) -> Result<Vec<u8>, u8> {
+        let instant = instant(Order::InheritanceFirst, &self.tree, &self.term, &self.state, input)?;
+        self.state = instant.state;
+        Ok(instant.answer)
+    }
+}
+
+#[derive(Default)]
+pub struct Model {
+    pub bays: [Option<Bay>; BAYS],
+    /// The length of a box that number 1 lets pass.
+    pub length: usize,
+}
+
+impl Model {
+    pub fn new(length: usize) -> Self {
+        Model { length, ..Model::default() }
+    }
+
+    /// What the ceilings of those present sum to.
+    pub fn taken(&self) -> u64 {
+        self.bays.iter().flatten().map(|bay| bay.ceiling).sum()
+    }
+
+    /// The bay that a call means, empty on admission and filled otherwise; or number 13, or 1 for the box.
+    fn bay(&mut self, length: usize, bay: u32, filled: bool) -> Result<&mut Option<Bay>, u8> {
+        let right = length == self.length;
+        let bay = self.bays.get_mut(bay as usize).ok_or(13)?;
+        match (right, bay.is_some() == filled) {
+            (false, _) => Err(1),
+            (true, false) => Err(13),
+            (true, true) => Ok(bay),
+        }
+    }
+
+    pub fn admit(&mut self, length: usize, bay: u32, sequence: &[u8], read_back: u32) -> Result<(), u8> {
+        let taken = self.taken();
+        let place = self.bay(length, bay, false)?;
+        let admitted = Bay::new(sequence, read_back)?;
+        if taken + admitted.ceiling > SHARED {
+            return Err(14);
+        }
+        *place = Some(admitted);
+        Ok(())
+    }
+
+    pub fn release(&mut self, length: usize, bay: u32) -> Result<(), u8> {
+        *self.bay(length, bay, true)? = None;
+        Ok(())
+    }
+
+    pub fn tick(&mut self, length: usize, bay: u32, input: u32, answer_length: usize) -> Result<Vec<u8>, u8> {
+        let bay = self.bay(length, bay, true)?.as_mut().expect("a filled bay");
+        if answer_length != ANSWER_LENGTH {
+            return Err(1);
+        }
+        bay.tick(input)
+    }
+}
