@@ -21,8 +21,8 @@ SOURCES := crates.txt $(shell find crates -name '*.rt' -o -name '*.antt')
 PREFIX ?= /usr/local
 VERSION = $(shell sed -n 's/^\#define INTAKE_VERSION_[A-Z]* \([0-9]*\)$$/\1/p' include/intake.h | paste -sd .)
 
-HOST_TESTS = host-rust host-c host-tick-rust host-tick-c host-example host-stack host-archive host-freestanding host-header \
-	host-install host-again figures
+HOST_TESTS = host-rust host-c host-tick-rust host-tick-c host-box-rust host-box-c host-example host-stack host-archive \
+	host-freestanding host-header host-install host-again figures
 
 # The two programs are built anew for whatever archive is named.
 .PHONY: help run show paper vectors-diff test lib install certificate host $(HOST_TESTS) host-plain show-test format-test certificate-test \
@@ -75,6 +75,13 @@ host-tick-rust: $(INTAKE_ARCHIVE) # compares the archive with the tick by expans
 host-tick-c: $(INTAKE_ARCHIVE) # runs the bays and more ticks through include/intake.h under sanitizers
 	@mkdir -p target/host
 	$(SANITIZED) -Iinclude host/tick.c $(INTAKE_ARCHIVE) -o target/host/tick && target/host/tick host/ticks.txt
+
+host-box-rust: $(INTAKE_ARCHIVE) # compares the archive's calls on a box with a model of eight bays
+	$(CARGO) host/box/Cargo.toml
+
+host-box-c: $(INTAKE_ARCHIVE) # runs calls on a box through include/intake.h under sanitizers
+	@mkdir -p target/host
+	$(SANITIZED) -Iinclude host/box.c $(INTAKE_ARCHIVE) -o target/host/box && target/host/box host/examples.txt
 
 host-example: $(INTAKE_ARCHIVE) $(RUN_PROGRAM) # compares the example host with the run program
 	@mkdir -p target/host

@@ -91,19 +91,31 @@ static inline void each_line(const char *path, void (*run)(const char *line))
     fclose(table);
 }
 
-/* A page between two unreadable ones. The archive has no sanitizer in it: this stops it at the first byte outside. */
+/* Pages between unreadable ones. The archive has no sanitizer in it: this stops it at the first byte outside. */
 struct page {
     uint8_t *start;
     size_t size;
 };
 
-static inline struct page new_page(void)
+/* Pages of at least so many bytes. */
+static inline struct page new_pages(size_t least)
 {
-    size_t size = (size_t)sysconf(_SC_PAGESIZE);
+    size_t page = (size_t)sysconf(_SC_PAGESIZE), size = (least + page - 1) / page * page;
     uint8_t *pages = mmap(NULL, 3 * size, PROT_NONE, MAP_PRIVATE | MAP_ANONYMOUS, -1, 0);
     if (pages == MAP_FAILED)
-        die("no memory", "a page");
+        die("no memory", "pages");
     return (struct page){pages + size, size};
+}
+
+static inline struct page new_page(void)
+{
+    return new_pages(1);
+}
+
+/* Says whether the bytes of a page may be written from now on. */
+static inline void protect(struct page page, bool writable)
+{
+    mprotect(page.start, page.size, writable ? PROT_READ | PROT_WRITE : PROT_READ);
 }
 
 /* Puts bytes at the start or at the end of the page, and says whether they may be written from now on. */
@@ -112,9 +124,9 @@ static inline uint8_t *place(struct page page, bool at_end, const struct bytes *
     if (bytes->count > page.size)
         die("no room", "a page");
     uint8_t *at = at_end ? page.start + page.size - bytes->count : page.start;
-    mprotect(page.start, page.size, PROT_READ | PROT_WRITE);
+    protect(page, true);
     memcpy(at, bytes->at, bytes->count);
-    mprotect(page.start, page.size, writable ? PROT_READ | PROT_WRITE : PROT_READ);
+    protect(page, writable);
     return at;
 }
 

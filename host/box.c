@@ -1,0 +1,304 @@
+/*
+ * The calls on a box through include/intake.h, built with sanitizers: vectors by hand, and every line of the table that is
+ * the argument (host/examples.txt) as an admission. The box, the sequence and the answer stand between unreadable pages,
+ * and are read-only during a call that is turned down. The last line is 'N passed, M failed'.
+ */
+#include "testing.h"
+
+#include "intake.h"
+
+/* Statements of 3, 15, 31, 63 and 255 commands, all of them sequences of nothing. */
+#define T3 "04 2(00) "
+#define T15 "04 2(04 2(" T3 ")) "
+#define T31 "04 2(" T15 ") "
+#define T63 "04 2(" T31 ") "
+#define T255 "04 2(04 2(" T63 ")) "
+
+#define SIX "08 00 08 01 08 02 08 03 08 04 08 05 "
+
+/* Ceilings, commands * (1 + loops) * 2^signals. One above 65,536 is a prime number, so that no sequence has that one. */
+#define WHOLE SIX "15(06) 21(04) 22(00)" /* 6 + 15 + 21 + 22 = 64 commands: 64 * 16 * 64 = 65,536 */
+#define HALF SIX "15(06) 5(04) 6(00)"    /* 6 + 15 + 5 + 6 = 32 commands: 32 * 16 * 64 = 32,768 */
+#define EIGHTH SIX "06 28(04) 29(00)"    /* 6 + 1 + 28 + 29 = 64 commands: 64 * 2 * 64 = 8,192 */
+/* 42 + 1 + 255 + 1 + 63 + 1 + 15 + 3 = 381 commands: 381 * 43 = 16,383 */
+#define ODD "42(06) 04 " T255 "04 " T63 "04 " T15 T3
+#define HALF_READ_BACK "15(06) 5(04) 6(00) & 0000003F"             /* 26 + 6 = 32 commands: 32,768 */
+#define WHOLE_READ_BACK "25(09) 31(04 " T31 ") 00 & 0000003F"      /* 25 + 31 * 32 + 1 + 6 = 1,024: 1,024 * 64 = 65,536 */
+#define JUST_ABOVE "26(09) 31(04 " T31 ") 00 & 0000003F"           /* one command more: 1,025 * 64 = 65,600 */
+#define MUCH_ABOVE SIX "47(06) 9(04) 10(00)"                       /* 6 + 47 + 19 = 72 commands: 72 * 48 * 64 = 221,184 */
+#define ONE "00"                                                   /* 1 */
+#define TWO "09 00"                                                /* 2 */
+
+/* Emits 1 and waits at label 5, again and again; waits once, then emits 2; wrong in its first instant. */
+#define ENDLESS "06 04 02 01 01 05"
+#define ONCE "04 01 07 02 02"
+#define WRONG_AT_ONCE "06 00"
+
+static struct page box_page, sequence_page, answer_page;
+static uint8_t *box;
+static uint8_t was[INTAKE_BOX_LENGTH];
+
+/* An empty box, at the start or at the end of its pages. */
+static void begin(bool at_end)
+{
+    protect(box_page, true);
+    memset(box_page.start, 0, box_page.size);
+    box = at_end ? box_page.start + box_page.size - INTAKE_BOX_LENGTH : box_page.start;
+}
+
+/* Before a call that is to give the number: if that turns it down, the box can't be written. */
+static void before(uint8_t number)
+{
+    memcpy(was, box, sizeof was);
+    protect(box_page, number == INTAKE_ACCEPTED);
+}
+
+static void after(uint8_t number, uint8_t given, const char *where, const char *line)
+{
+    protect(box_page, true);
+    expect(given == number && (number == INTAKE_ACCEPTED || memcmp(box, was, sizeof was) == 0), given, where, line);
+}
+
+/* Admits the sequence of a text, and expects the number; the line ends a message. */
+static void admit_line(uint8_t number, uint32_t bay, const char *line)
+{
+    struct bytes sequence = {.count = 0};
+    uint32_t read_back;
+    program(line, &sequence, &read_back);
+    const uint8_t *bytes = place(sequence_page, bay % 2 == 0, &sequence, false);
+    before(number);
+    after(number, intake_box_admit(box, INTAKE_BOX_LENGTH, bay, bytes, sequence.count, read_back), "admit", line);
+}
+
+static void admit(uint8_t number, uint32_t bay, const char *text)
+{
+    char line[256];
+    snprintf(line, sizeof line, "%s\n", text);
+    admit_line(number, bay, line);
+}
+
+static void release(uint8_t number, uint32_t bay)
+{
+    before(number);
+    after(number, intake_box_release(box, INTAKE_BOX_LENGTH, bay), "release", "\n");
+}
+
+/* Ticks, and gives the answer record, or null if the call was turned down; then it must not have been written. */
+static const uint8_t *tick(uint8_t number, uint32_t bay, uint32_t input)
+{
+    struct bytes blank = {.count = INTAKE_ANSWER_LENGTH};
+    memset(blank.at, 0xA5, blank.count);
+    uint8_t *answer = place(answer_page, bay % 2 == 0, &blank, number == INTAKE_ACCEPTED);
+    before(number);
+    uint8_t given = intake_box_tick(box, INTAKE_BOX_LENGTH, bay, input, answer, INTAKE_ANSWER_LENGTH);
+    after(number, given, "tick", "\n");
+    return given == INTAKE_ACCEPTED ? answer : NULL;
+}
+
+/* Ticks, and expects the code and the emitted set. */
+static void answers(uint32_t bay, uint32_t input, uint8_t code, uint32_t emitted, const char *where)
+{
+    const uint8_t *answer = tick(INTAKE_ACCEPTED, bay, input);
+    bool same = answer != NULL && intake_answer_code(answer) == code && intake_answer_emitted(answer) == emitted;
+    expect(same, answer != NULL ? intake_answer_code(answer) : 0, where, "\n");
+}
+
+/* 13 for a number above 7 comes before all others, then 1 for the box, then 13 for the bay, then the rest. */
+static void order(void)
+{
+    static const uint32_t none[] = {8, 255, 256, 257, 65536, UINT32_C(1) << 31, UINT32_MAX - 7, UINT32_MAX};
+    static const size_t lengths[] = {0, 1, INTAKE_BOX_LENGTH / INTAKE_BAY_COUNT, INTAKE_BOX_LENGTH - 1};
+    uint8_t answer[INTAKE_ANSWER_LENGTH + 1] = {0};
+    const uint8_t bad[] = {0xFF};
+    admit(INTAKE_ACCEPTED, 3, ENDLESS);
+    for (size_t i = 0; i < sizeof none / sizeof *none; i++) {
+        release(INTAKE_NO_SUCH_BAY, none[i]);
+        admit(INTAKE_NO_SUCH_BAY, none[i], ENDLESS);
+        tick(INTAKE_NO_SUCH_BAY, none[i], 0);
+        expect(intake_box_admit(NULL, 0, none[i], bad, 0, UINT32_MAX) == 13, 13, "a bad box and sequence", "13\n");
+        expect(intake_box_release(NULL, 0, none[i]) == 13, 13, "a bad box", "13\n");
+        expect(intake_box_tick(NULL, 0, none[i], 0, NULL, 0) == 13, 13, "a bad box and answer", "13\n");
+    }
+    protect(box_page, false);
+    for (size_t i = 0; i < sizeof lengths / sizeof *lengths; i++)
+        for (uint32_t bay = 3; bay < 5; bay++) { /* one that is filled, and one that is empty */
+            expect(intake_box_admit(box, lengths[i], bay, bad, 1, 0) == 1, 1, "a short box, admission", "1\n");
+            expect(intake_box_release(box, lengths[i], bay) == 1, 1, "a short box, release", "1\n");
+            expect(intake_box_tick(box, lengths[i], bay, 0, answer, 12) == 1, 1, "a short box, tick", "1\n");
+        }
+    expect(intake_box_tick(box, INTAKE_BOX_LENGTH, 4, 0, answer, 11) == 13, 13, "an empty bay, a bad answer", "13\n");
+    expect(intake_box_tick(box, INTAKE_BOX_LENGTH, 3, 0, answer, 11) == 1, 1, "a short answer", "1\n");
+    expect(intake_box_tick(box, INTAKE_BOX_LENGTH, 3, 0, answer, 13) == 1, 1, "a long answer", "1\n");
+    expect(intake_box_tick(box, INTAKE_BOX_LENGTH, 3, 0, NULL, 0) == 1, 1, "no answer", "1\n");
+    expect(intake_box_admit(box, INTAKE_BOX_LENGTH, 4, NULL, 0, UINT32_MAX) == 2, 2, "no sequence", "2\n");
+    protect(box_page, true);
+    admit(INTAKE_NO_SUCH_BAY, 3, "FF");
+    admit(INTAKE_NO_SUCH_BAY, 3, MUCH_ABOVE);
+    admit(INTAKE_UNKNOWN_COMMAND, 4, "FF");
+    release(INTAKE_NO_SUCH_BAY, 4);
+    tick(INTAKE_NO_SUCH_BAY, 4, 0);
+    release(INTAKE_ACCEPTED, 3);
+    release(INTAKE_NO_SUCH_BAY, 3);
+}
+
+/* A longer box has a page of its own. */
+static void long_box(void)
+{
+    static uint8_t longer[INTAKE_BOX_LENGTH + 256], copy[sizeof longer];
+    const uint8_t one[] = {0x00};
+    uint8_t answer[INTAKE_ANSWER_LENGTH];
+    for (size_t more = 1; more <= 256; more += 255) {
+        uint8_t given = intake_box_admit(longer, INTAKE_BOX_LENGTH + more, 0, one, sizeof one, 0);
+        expect(given == INTAKE_BUFFER_LENGTH, given, "a long box, admission", "1\n");
+        given = intake_box_tick(longer, INTAKE_BOX_LENGTH + more, 0, 0, answer, sizeof answer);
+        expect(given == INTAKE_BUFFER_LENGTH, given, "a long box, tick", "1\n");
+        given = intake_box_release(longer, INTAKE_BOX_LENGTH + more, 0);
+        expect(given == INTAKE_BUFFER_LENGTH && memcmp(longer, copy, sizeof copy) == 0, given, "a long box", "1\n");
+    }
+}
+
+/* Ceilings that sum to exactly 65,536, and to one more; a release gives its part back. */
+static void ceilings(void)
+{
+    admit(INTAKE_ABOVE_CEILING, 0, JUST_ABOVE);
+    admit(INTAKE_ABOVE_CEILING, 7, MUCH_ABOVE);
+    admit(INTAKE_ACCEPTED, 7, WHOLE);
+    admit(INTAKE_ABOVE_CEILING, 0, ONE); /* 65,537 */
+    release(INTAKE_ACCEPTED, 7);
+    admit(INTAKE_ACCEPTED, 0, WHOLE_READ_BACK);
+    admit(INTAKE_ABOVE_CEILING, 1, ONE);
+    admit(INTAKE_CUT_SHORT, 1, "06"); /* the sequence's own check comes first */
+    release(INTAKE_ACCEPTED, 0);
+    admit(INTAKE_ACCEPTED, 1, HALF);
+    admit(INTAKE_ACCEPTED, 2, ONE);
+    admit(INTAKE_ABOVE_CEILING, 6, HALF_READ_BACK); /* 32,768 + 1 + 32,768 */
+    release(INTAKE_ACCEPTED, 2);
+    admit(INTAKE_ACCEPTED, 6, HALF_READ_BACK);
+    admit(INTAKE_ABOVE_CEILING, 2, ONE);
+    release(INTAKE_ACCEPTED, 1);
+    admit(INTAKE_ACCEPTED, 2, HALF);
+    release(INTAKE_ACCEPTED, 2);
+    release(INTAKE_ACCEPTED, 6);
+    for (uint32_t bay = 0; bay < INTAKE_BAY_COUNT; bay++) /* 8 * 8,192 = 65,536, with no bay left */
+        admit(INTAKE_ACCEPTED, bay, EIGHTH);
+    for (uint32_t bay = 0; bay < INTAKE_BAY_COUNT; bay++)
+        admit(INTAKE_NO_SUCH_BAY, bay, ONE);
+    release(INTAKE_ACCEPTED, 4);
+    release(INTAKE_ACCEPTED, 5);
+    admit(INTAKE_ACCEPTED, 5, ODD); /* 6 * 8,192 + 16,383 = 65,535 */
+    admit(INTAKE_ABOVE_CEILING, 4, TWO);
+    admit(INTAKE_ACCEPTED, 4, ONE);
+    for (uint32_t bay = 0; bay < INTAKE_BAY_COUNT; bay++)
+        release(INTAKE_ACCEPTED, bay);
+}
+
+/* A machine that is over keeps its part, and one that is admitted anew is fresh. */
+static void again(void)
+{
+    admit(INTAKE_ACCEPTED, 0, ONCE);
+    answers(0, 0, INTAKE_WAITING, 0, "first instant");
+    release(INTAKE_ACCEPTED, 0);
+    admit(INTAKE_ACCEPTED, 0, ONCE);
+    answers(0, 0, INTAKE_WAITING, 0, "first instant again");
+    answers(0, 0, INTAKE_ENDED, 1 << 2, "second instant");
+    tick(INTAKE_OVER, 0, 0);
+    admit(INTAKE_NO_SUCH_BAY, 0, ONCE);
+    release(INTAKE_ACCEPTED, 0);
+    admit(INTAKE_ACCEPTED, 0, WHOLE);
+    answers(0, 0, INTAKE_WRONG, 0, "a loop whose body ends at once");
+    tick(INTAKE_OVER, 0, 0);
+    admit(INTAKE_ABOVE_CEILING, 1, ONE);
+    release(INTAKE_ACCEPTED, 0);
+    admit(INTAKE_ACCEPTED, 1, "04 02 08 07 08 02 09 00 & 00000100"); /* a valve that the sequence opens and reads back */
+    answers(1, 0, INTAKE_ENDED, 3 << 8, "read back");
+    release(INTAKE_ACCEPTED, 1);
+    admit(INTAKE_ACCEPTED, 1, "04 02 08 07 08 02 09 00"); /* the set of before is gone */
+    answers(1, 0, INTAKE_ENDED, 1 << 8, "not read back");
+    release(INTAKE_ACCEPTED, 1);
+    memset(was, 0, sizeof was);
+    expect(memcmp(box, was, sizeof was) == 0, 0, "a box with nothing in it", "\n");
+}
+
+/* Calls that are turned down leave a running bay, which goes on as it would have. */
+static void running(void)
+{
+    admit(INTAKE_ACCEPTED, 2, ONCE);
+    answers(2, 0, INTAKE_WAITING, 0, "before the refusals");
+    admit(INTAKE_NO_SUCH_BAY, 2, ENDLESS);
+    admit(INTAKE_SETPAUSE_WITHOUT_PAUSE, 1, "0A 00");
+    admit(INTAKE_ABOVE_CEILING, 1, WHOLE);
+    admit(INTAKE_TOO_DEEP, 1, "00 & 0000007F");
+    release(INTAKE_NO_SUCH_BAY, 1);
+    answers(2, 0, INTAKE_ENDED, 1 << 2, "after the refusals");
+    release(INTAKE_ACCEPTED, 2);
+}
+
+/* Two bays in turn, each beside a machine of its own whose record the host keeps. */
+static void side_by_side(void)
+{
+    static const struct {
+        uint8_t bytes[14];
+        size_t length;
+        uint32_t read_back;
+    } sequences[] = {
+        {{0x06, 0x04, 0x0B, 0x00, 0x04, 0x01, 0x05, 0x02, 0x01, 0x01, 0x06}, 11, 2},
+        {{0x04, 0x01, 0x05, 0x04, 0x07, 0x03, 0x02, 0x04, 0x00, 0x04, 0x01, 0x06, 0x03, 0x02}, 14, 0},
+    };
+    uint8_t states[2][INTAKE_STATE_LENGTH] = {{0}}, answer[INTAKE_ANSWER_LENGTH];
+    for (uint32_t bay = 0; bay < 2; bay++) {
+        uint8_t number = intake_box_admit(box, INTAKE_BOX_LENGTH, bay, sequences[bay].bytes, sequences[bay].length,
+                                          sequences[bay].read_back);
+        expect(number == INTAKE_ACCEPTED, number, "side by side", "admit\n");
+    }
+    for (uint32_t i = 0; i < 16; i++) {
+        uint32_t bay = i % 3 == 0, input = i * UINT32_C(0x9E3779B9);
+        uint8_t number = intake_tick(sequences[bay].bytes, sequences[bay].length, states[bay], sizeof *states, input,
+                                     sequences[bay].read_back, answer, sizeof answer);
+        const uint8_t *given = tick(number, bay, input);
+        expect(given == NULL ? number != 0 : memcmp(given, answer, sizeof answer) == 0, number, "side by side", "tick\n");
+    }
+    release(INTAKE_ACCEPTED, 0);
+    tick(INTAKE_OVER, 1, 0);
+    release(INTAKE_ACCEPTED, 1);
+}
+
+/* Lines whose ceilings are above 65,536: (64 + 6) * 64 * 64 = 286,720, and 64 * 58 * 64 = 237,568. */
+static const char *const dear[] = {"0: 63(06) 00 & 0000003F\n", "0: 6(08 00) 57(06) 00\n"};
+
+/* Every line of the table is an admission with the number of the check, to a bay of an empty box. */
+static void run(const char *line)
+{
+    char *text;
+    uint8_t number = (uint8_t)strtoul(line, &text, 10);
+    if (*text != ':')
+        die("no line of a table", line);
+    for (size_t i = 0; i < sizeof dear / sizeof *dear; i++)
+        if (strcmp(line, dear[i]) == 0)
+            number = INTAKE_ABOVE_CEILING;
+    for (uint32_t bay = 0; bay < INTAKE_BAY_COUNT; bay++) {
+        admit_line(number, bay, text + 1);
+        if (number == INTAKE_ACCEPTED)
+            release(INTAKE_ACCEPTED, bay);
+    }
+}
+
+int main(int argc, char **argv)
+{
+    box_page = new_pages(INTAKE_BOX_LENGTH);
+    sequence_page = new_page();
+    answer_page = new_page();
+    for (int at_end = 0; at_end < 2; at_end++) {
+        begin(at_end);
+        order();
+        ceilings();
+        again();
+        running();
+        side_by_side();
+        admit(INTAKE_ACCEPTED, 0, WRONG_AT_ONCE);
+        answers(0, 0, INTAKE_WRONG, 0, "wrong");
+        release(INTAKE_ACCEPTED, 0);
+        each_line(argc == 2 ? argv[1] : NULL, run);
+    }
+    long_box();
+    return verdict();
+}
