@@ -124,7 +124,7 @@ host-archive: $(INTAKE_ARCHIVE) # shows the read-only data of the archive: jump 
 	host/archive_test.py $(INTAKE_ARCHIVE)
 
 host-plain: target/plain/libintake.a # runs the host tests against plain C, with which the benchmarks compare
-	$(MAKE) host-rust host-c host-tick-rust host-tick-c INTAKE_ARCHIVE=target/plain/libintake.a
+	$(MAKE) host-rust host-c host-tick-rust host-tick-c host-box-rust host-box-c INTAKE_ARCHIVE=target/plain/libintake.a
 
 show-test: # tests tools/show and tools/runfile
 	tools/test_show.py
@@ -162,10 +162,13 @@ target/lib/SHA256SUMS: target/staticlib/libintake.a include/intake.h include/int
 		include/intake.pc.in > target/lib/intake.pc
 	cd target/lib && sha256sum libintake.a intake.h intake.pc > SHA256SUMS
 
-target/plain/libintake.a: bench/plain.c bench/plain.h
-	@mkdir -p target/plain
-	$(OPTIMIZED) -Dplain_check=intake_check -Dplain_tick=intake_tick -c bench/plain.c -o target/plain/plain.o
-	ar rcs $@ target/plain/plain.o
+PLAIN_NAMES = $(foreach call, check tick box_admit box_release box_tick, -Dplain_$(call)=intake_$(call))
+
+target/plain/libintake.a: bench/plain.c bench/plain.h bench/plain_box.c bench/plain_box.h
+	@mkdir -p target/plain && rm -f $@
+	$(OPTIMIZED) $(PLAIN_NAMES) -c bench/plain.c -o target/plain/plain.o
+	$(OPTIMIZED) $(PLAIN_NAMES) -c bench/plain_box.c -o target/plain/plain_box.o
+	ar rcs $@ target/plain/plain.o target/plain/plain_box.o
 
 # A crate that is proved already is not built again, so the program may keep its time.
 target/bin/run: $(SOURCES)

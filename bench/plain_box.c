@@ -1,0 +1,136 @@
+/*
+ * Eight bays in one box (02, item 8) as one would write them in C, over the check and the tick of plain.c. The ceiling of a
+ * sequence is found by one recursive walk over the bytes that the check has accepted.
+ */
+#include "plain_box.h"
+
+#include "plain.h"
+
+#include <stdbool.h>
+#include <string.h>
+
+enum { SEQUENCE = 0x04, PARALLEL, LOOP, PRESENT, SIGNAL, TRY, SUSPEND = 0x0B };
+enum { BAYS = 8, MAX_BYTES = 1024, STATE_BYTES = 17, ANSWER_BYTES = 12, SHARED_CEILING = 65536 };
+
+/* A bay's stretch of the box. */
+enum {
+    AT_LENGTH = 0,
+    AT_SEQUENCE = 2,
+    AT_READ_BACK = AT_SEQUENCE + MAX_BYTES,
+    AT_CEILING = AT_READ_BACK + 4,
+    AT_STATE = AT_CEILING + 4 + 4,
+    AT_LEDGER = AT_STATE + STATE_BYTES + 4 + 336,
+    STRETCH = AT_LEDGER + 128
+};
+
+static uint32_t get(const uint8_t *bytes, unsigned count)
+{
+    uint32_t value = 0;
+    while (count-- > 0)
+        value = value << 8 | bytes[count];
+    return value;
+}
+
+static void put(uint8_t *bytes, unsigned count, uint32_t value)
+{
+    for (unsigned i = 0; i < count; i++)
+        bytes[i] = (uint8_t)(value >> 8 * i);
+}
+
+/* The commands of a sequence, and the most loops and signals around one. */
+struct size {
+    uint32_t commands;
+    unsigned loops, signals;
+};
+
+/* Measures the statement at `next`, inside so many loops and signals, and returns its end. */
+static const uint8_t *measure(struct size *size, const uint8_t *next, unsigned loops, unsigned signals)
+{
+    size->commands++;
+    if (loops > size->loops)
+        size->loops = loops;
+    if (signals > size->signals)
+        size->signals = signals;
+    switch (*next) {
+    case 0x00:
+        return next + 1;
+    case SEQUENCE:
+    case PARALLEL:
+        return measure(size, measure(size, next + 1, loops, signals), loops, signals);
+    case PRESENT:
+        return measure(size, measure(size, next + 2, loops, signals), loops, signals);
+    case LOOP:
+        return measure(size, next + 1, loops + 1, signals);
+    case SIGNAL:
+        return measure(size, next + 2, loops, signals + 1);
+    case TRY:
+        return measure(size, next + 1, loops, signals);
+    case SUSPEND:
+        return measure(size, next + 2, loops, signals);
+    default:
+        return next + 2;
+    }
+}
+
+/* The most reactions of an instant of an accepted sequence (02, item 6). */
+static uint32_t ceiling(const uint8_t *sequence, uint32_t read_back)
+{
+    struct size size = {0, 0, 0};
+    unsigned declared = (unsigned)__builtin_popcount(read_back);
+    measure(&size, sequence, 0, 0);
+    return (size.commands + declared) * (1 + size.loops) << (size.signals + declared);
+}
+
+/* The stretch of a bay that is filled, or empty, as is wanted; else null, and the number. */
+static uint8_t *find(uint8_t *box, size_t box_length, uint32_t bay, bool filled, uint8_t *number)
+{
+    uint8_t *stretch = NULL;
+    *number = 13;
+    if (bay < BAYS && box_length != BAYS * STRETCH)
+        *number = 1;
+    else if (bay < BAYS && (get(box + bay * STRETCH, 2) != 0) == filled)
+        stretch = box + bay * STRETCH;
+    return stretch;
+}
+
+uint8_t plain_box_admit(uint8_t *box, size_t box_length, uint32_t bay, const uint8_t *sequence, size_t sequence_length,
+                        uint32_t read_back)
+{
+    uint8_t number, *stretch = find(box, box_length, bay, false, &number);
+    if (stretch == NULL)
+        return number;
+    number = plain_check(sequence, sequence_length, read_back);
+    if (number != 0)
+        return number;
+    uint32_t own = ceiling(sequence, read_back);
+    uint64_t sum = own;
+    for (const uint8_t *other = box; other < box + BAYS * STRETCH; other += STRETCH)
+        sum += get(other, 2) != 0 ? get(other + AT_CEILING, 4) : 0;
+    if (sum > SHARED_CEILING)
+        return 14;
+    memset(stretch, 0, AT_LEDGER);
+    put(stretch + AT_LENGTH, 2, (uint32_t)sequence_length);
+    memcpy(stretch + AT_SEQUENCE, sequence, sequence_length);
+    put(stretch + AT_READ_BACK, 4, read_back);
+    put(stretch + AT_CEILING, 4, own);
+    return 0;
+}
+
+uint8_t plain_box_release(uint8_t *box, size_t box_length, uint32_t bay)
+{
+    uint8_t number, *stretch = find(box, box_length, bay, true, &number);
+    if (stretch == NULL)
+        return number;
+    memset(stretch, 0, AT_LEDGER);
+    return 0;
+}
+
+uint8_t plain_box_tick(uint8_t *box, size_t box_length, uint32_t bay, uint32_t input, uint8_t *answer,
+                       size_t answer_length)
+{
+    uint8_t number, *stretch = find(box, box_length, bay, true, &number);
+    if (stretch == NULL)
+        return number;
+    return plain_tick(stretch + AT_SEQUENCE, get(stretch, 2), stretch + AT_STATE, STATE_BYTES, input,
+                      get(stretch + AT_READ_BACK, 4), answer, answer_length);
+}
