@@ -25,8 +25,8 @@ HOST_TESTS = host-rust host-c host-tick-rust host-tick-c host-box-rust host-box-
 	host-freestanding host-header host-install host-again figures
 
 # The two programs are built anew for whatever archive is named.
-.PHONY: help run show paper vectors-diff test lib install certificate host $(HOST_TESTS) host-plain show-test format-test certificate-test \
-	bench bench-check bench-tick bench-run target/host/stack target/host/dearest
+.PHONY: help run show paper vectors-diff test lib install certificate host $(HOST_TESTS) host-plain show-test format-test \
+	certificate-test bench bench-check bench-tick bench-box bench-run target/host/stack target/host/dearest
 
 help: # lists the targets
 	@sed -n 's/^\([a-z-]*\):[^#]*# /\1: /p' Makefile
@@ -132,7 +132,7 @@ show-test: # tests tools/show and tools/runfile
 format-test: # holds the tables of docs/FORMAT.md, and what CONTRIBUTING.md quotes, to what they repeat
 	tools/test_format.py
 
-bench: bench-check bench-tick # times the check and the tick against plain C
+bench: bench-check bench-tick bench-box # times the check, the tick and the calls on a box against plain C
 
 bench-check: $(INTAKE_ARCHIVE) # times the check
 	@mkdir -p target/bench
@@ -143,6 +143,11 @@ bench-tick: $(INTAKE_ARCHIVE) # times the tick, and the dearest instant
 	@mkdir -p target/bench
 	$(TIMED) -Iinclude bench/tick.c bench/plain.c $(INTAKE_ARCHIVE) -lm -o target/bench/tick
 	@target/bench/tick $(BAYS)
+
+bench-box: $(INTAKE_ARCHIVE) # times the tick of a bay against intake_tick, and admission against plain C
+	@mkdir -p target/bench
+	$(TIMED) -Iinclude bench/box.c bench/plain.c bench/plain_box.c $(INTAKE_ARCHIVE) -lm -o target/bench/box
+	@target/bench/box $(BAYS)
 
 bench-run: $(RUN_PROGRAM) # times the run program on its greatest input, for some minutes
 	@mkdir -p target/bench

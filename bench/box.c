@@ -1,0 +1,154 @@
+/*
+ * Times the tick of a bay against intake_tick on the same sequence, record and inputs, and admission to a box against plain
+ * C that does the same: in turn within each round, caches and branch predictors warm. The other seven bays are filled. The
+ * run files that are named are run whole; the sequences made by rule run an instant that begins and one that resumes.
+ */
+#include "timing.h"
+
+#include "bays.h"
+#include "intake.h"
+#include "plain_box.h"
+#include "shapes.h"
+
+enum { BAY = 5, STRETCH = INTAKE_BOX_LENGTH / INTAKE_BAY_COUNT, SAMPLE = 20000 /* nanoseconds */ };
+
+/* Where a stretch has the length of the sequence and the state record (docs/FORMAT.md, 'Box'). */
+enum { AT_LENGTH = BAY * STRETCH, LENGTH_BYTES = 2, AT_STATE = BAY * STRETCH + 1038 };
+
+static const struct shape shapes[] = {
+    {"emits in sequence", "\x04", "", "\x02", "\x02", 12, false, false, 32},
+    {"pauses in parallel", "\x05", "", "\x02", "\x01", 2, false, false, 32},
+    {"presents with pauses", "\x07", "", "\x01", "\x01", 2, false, false, 32},
+    {"nested loops and tries", "\x04\x05", "\x06\x09", "\x01\x02\x03", "\x01\x02\x03", 4, false, false, 32},
+};
+
+typedef uint8_t admits(uint8_t *, size_t, uint32_t, const uint8_t *, size_t, uint32_t);
+
+/* The box that is timed, and that of plain C. */
+static uint8_t boxes[2][INTAKE_BOX_LENGTH];
+
+static uint32_t read_back_of(const struct bay *bay)
+{
+    return word_at(bay->file + 2 + bay->length);
+}
+
+static uint8_t admit(admits *call, uint8_t *box, const struct bay *bay)
+{
+    memset(box + AT_LENGTH, 0, LENGTH_BYTES); /* the bay is empty */
+    return call(box, INTAKE_BOX_LENGTH, BAY, bay->file + 2, bay->length, read_back_of(bay));
+}
+
+/* As run_bay, in the box: ticks a fresh machine until the inputs or the machine end, and tells how many instants it took. */
+static unsigned run_in_box(const struct bay *bay, uint8_t *answer)
+{
+    const uint8_t *inputs = bay->file + 2 + bay->length + 4;
+    uint8_t *state = boxes[0] + AT_STATE;
+    unsigned instants = 0;
+    memset(state, 0, INTAKE_STATE_LENGTH);
+    for (; inputs + 4 <= bay->file + bay->size && state[0] != 2; inputs += 4, instants++)
+        if (intake_box_tick(boxes[0], INTAKE_BOX_LENGTH, BAY, word_at(inputs), answer, INTAKE_ANSWER_LENGTH) != 0)
+            return 0;
+    return instants;
+}
+
+/* Processor nanoseconds of an instant, in the box or of intake_tick, in the mean of the runs of one sample. */
+static double sample_tick(const void *what, int alone)
+{
+    const struct bay *bay = what;
+    uint8_t answer[INTAKE_ANSWER_LENGTH];
+    double start = nanoseconds();
+    for (unsigned i = 0; i < bay->runs; i++)
+        alone ? run_bay(intake_tick, bay, answer) : run_in_box(bay, answer);
+    return (nanoseconds() - start) / bay->runs / bay->instants;
+}
+
+/* Processor nanoseconds of an admission. */
+static double sample_admission(const void *what, int plain)
+{
+    static volatile uint8_t sink;
+    const struct bay *bay = what;
+    double start = nanoseconds();
+    for (unsigned i = 0; i < bay->runs; i++)
+        sink = admit(plain ? plain_box_admit : intake_box_admit, boxes[plain], bay);
+    (void)sink;
+    return (nanoseconds() - start) / bay->runs;
+}
+
+static void give_up(const char *name, const char *what)
+{
+    fprintf(stderr, "%s: %s\n", name, what);
+    exit(1);
+}
+
+/* Admits the bay to both boxes, which must be the same then, and runs it alone and in the box with the same answers. */
+static void prepare(struct bay *bay, const char *name)
+{
+    uint8_t answers[2][INTAKE_ANSWER_LENGTH];
+    if (admit(intake_box_admit, boxes[0], bay) != 0 || admit(plain_box_admit, boxes[1], bay) != 0 ||
+        memcmp(boxes[0], boxes[1], sizeof *boxes) != 0)
+        give_up(name, "not admitted by both, or not the same box");
+    bay->instants = run_bay(intake_tick, bay, answers[0]);
+    if (bay->instants == 0 || run_in_box(bay, answers[1]) != bay->instants ||
+        memcmp(answers[0], answers[1], sizeof *answers) != 0)
+        give_up(name, "not the same run");
+    bay->runs = 1;
+    double once = fmax(sample_tick(bay, 1) * bay->instants, 1);
+    bay->runs = once > SAMPLE ? 1 : (unsigned)(SAMPLE / once);
+}
+
+/* Prints the row of a bay; adds the logarithms of the ratios of tick, for bays of 50 bytes and more, and admission. */
+static void row(struct bay *bay, const char *name, double *logarithms, unsigned *rows)
+{
+    prepare(bay, name);
+    struct comparison tick = compare(sample_tick, bay, ROUNDS), admission = compare(sample_admission, bay, ROUNDS);
+    printf("%-30s %5zu %8.0f %8.0f %6.2f %9.0f %8.0f %6.2f\n", name, bay->length, tick.intake, tick.plain, tick.ratio,
+           admission.intake, admission.plain, admission.ratio);
+    fflush(stdout);
+    if (bay->length >= 50) {
+        logarithms[0] += log(tick.ratio);
+        rows[0]++;
+    }
+    logarithms[1] += log(admission.ratio);
+    rows[1]++;
+}
+
+/* A run file of a sequence made by rule: two instants without inputs. */
+static void build(struct bay *bay, const struct shape *shape, size_t length)
+{
+    struct builder b = {.shape = shape, .wanted = length};
+    statement(&b, length, 0);
+    memset(bay, 0, sizeof *bay);
+    bay->length = b.length;
+    bay->size = 2 + b.length + 3 * 4;
+    bay->file[0] = (uint8_t)b.length;
+    bay->file[1] = (uint8_t)(b.length >> 8);
+    memcpy(bay->file + 2, b.bytes, b.length);
+}
+
+int main(int count, char **paths)
+{
+    static const size_t lengths[] = {14, 64, 256, 1024};
+    static const uint8_t small[] = {0x06, 0x01, 0x00};
+    static struct bay bay;
+    double logarithms[2] = {0, 0};
+    unsigned rows[2] = {0, 0};
+    for (uint32_t other = 0; other < INTAKE_BAY_COUNT; other++)
+        for (int plain = 0; plain < 2 && other != BAY; plain++)
+            if ((plain ? plain_box_admit : intake_box_admit)(boxes[plain], sizeof *boxes, other, small, sizeof small, 0) != 0)
+                give_up("a small bay", "not admitted");
+    printf("ns, medians of %d rounds in turn; plain C by " BUILT_BY "\n", ROUNDS);
+    printf("%-30s %5s %8s %8s %6s %9s %8s %6s\n", "", "", "an in-", "stant", "", "an ad-", "mission", "");
+    printf("%-30s %5s %8s %8s %6s %9s %8s %6s\n", "bay", "bytes", "in a box", "alone", "ratio", "intake", "plain", "ratio");
+    for (unsigned i = 0; i < sizeof shapes / sizeof *shapes; i++)
+        for (unsigned j = 0; j < sizeof lengths / sizeof *lengths; j++) {
+            build(&bay, &shapes[i], lengths[j]);
+            row(&bay, shapes[i].name, logarithms, rows);
+        }
+    for (int i = 1; i < count; i++) {
+        if (!read_bay(&bay, paths[i]))
+            give_up(paths[i], "not a run that both accept, or not the same");
+        row(&bay, paths[i], logarithms, rows);
+    }
+    printf("geometric means of the ratios: tick, 50 bytes and more, %.2f; admission %.2f\n", exp(logarithms[0] / rows[0]),
+           exp(logarithms[1] / rows[1]));
+}
