@@ -1,7 +1,7 @@
 /*
- * Times the tick of a bay against intake_tick on the same sequence, record and inputs, and admission to a box against plain
- * C that does the same: in turn within each round, caches and branch predictors warm. The other seven bays are filled. The
- * run files that are named are run whole; the sequences made by rule run an instant that begins and one that resumes.
+ * Times the tick of a bay against intake_tick on the same sequence, record and inputs, and admission to a box against
+ * plain C that does the same: in turn within each round, caches and branch predictors warm. The other seven bays are
+ * filled. The run files that are named are run whole, the sequences made by rule for up to two instants.
  */
 #include "timing.h"
 
@@ -38,7 +38,7 @@ static uint8_t admit(admits *call, uint8_t *box, const struct bay *bay)
     return call(box, INTAKE_BOX_LENGTH, BAY, bay->file + 2, bay->length, read_back_of(bay));
 }
 
-/* As run_bay, in the box: ticks a fresh machine until the inputs or the machine end, and tells how many instants it took. */
+/* As run_bay, in the box: ticks a fresh machine until the inputs or the machine end, and tells how many instants. */
 static unsigned run_in_box(const struct bay *bay, uint8_t *answer)
 {
     const uint8_t *inputs = bay->file + 2 + bay->length + 4;
@@ -133,9 +133,9 @@ int main(int count, char **paths)
     double logarithms[2] = {0, 0};
     unsigned rows[2] = {0, 0};
     for (uint32_t other = 0; other < INTAKE_BAY_COUNT; other++)
-        for (int plain = 0; plain < 2 && other != BAY; plain++)
-            if ((plain ? plain_box_admit : intake_box_admit)(boxes[plain], sizeof *boxes, other, small, sizeof small, 0) != 0)
-                give_up("a small bay", "not admitted");
+        if (other != BAY && (intake_box_admit(boxes[0], sizeof *boxes, other, small, sizeof small, 0) != 0 ||
+                             plain_box_admit(boxes[1], sizeof *boxes, other, small, sizeof small, 0) != 0))
+            give_up("a small bay", "not admitted");
     printf("ns, medians of %d rounds in turn; plain C by " BUILT_BY "\n", ROUNDS);
     printf("%-30s %5s %8s %8s %6s %9s %8s %6s\n", "", "", "an in-", "stant", "", "an ad-", "mission", "");
     printf("%-30s %5s %8s %8s %6s %9s %8s %6s\n", "bay", "bytes", "in a box", "alone", "ratio", "intake", "plain", "ratio");

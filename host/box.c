@@ -284,6 +284,7 @@ static void run(const char *line)
 
 int main(int argc, char **argv)
 {
+    setvbuf(stdout, NULL, _IOLBF, BUFSIZ); /* a write to read-only memory ends the program */
     box_page = new_pages(INTAKE_BOX_LENGTH);
     sequence_page = new_page();
     answer_page = new_page();

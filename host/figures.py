@@ -15,7 +15,7 @@ from pathlib import Path
 
 ROOT = Path(__file__).resolve().parent.parent
 HEADER, README = ROOT / "include/intake.h", ROOT / "README.md"
-EXPORTED = ["intake_check", "intake_tick"]
+EXPORTED = [f"intake_{call}" for call in ("box_admit", "box_release", "box_tick", "check", "tick")]
 # instructions that name no vector register and are not in the base set of x86-64; objdump's tzcnt is bsf with a prefix
 # that an older processor passes over, and LLVM emits it for all
 LATER = "andn bextr blsi blsmsk blsr bzhi crc32 lzcnt movbe mulx pdep pext popcnt rorx sarx shlx shrx adcx adox".split()
@@ -77,6 +77,8 @@ def table(figures):
 | functions of C | {functions}, and nothing else |
 | stack of `intake_check` | at most {figures["STACK_CHECK"]:,} bytes |
 | stack of `intake_tick` | at most {figures["STACK_TICK"]:,} bytes |
+| stack of a call on a box | at most {figures["STACK_BOX"]:,} bytes |
+| a box, lent by the host | {figures["BOX_LENGTH"]:,} bytes |
 | a thread that only ticks | give it {figures["STACK_THREAD"]:,} bytes; with {figures["STACK_THREAD"] // 2:,} it crashes |
 | code and jump tables | at most {figures["CODE_LENGTH"]:,} bytes |
 | heap, variables outside the stack, files | none |
@@ -128,9 +130,10 @@ def compare(archive, stack, dearest):
     promised("code and jump tables", "CODE_LENGTH", figures, code)
     expect(data + zeros == 0, "variables outside the stack", 0, data + zeros)
     expect(not later(archive), "instructions later than SSE2", "none", ", ".join(later(archive)) or "none")
-    most = measured(stack, r"^intake_check: the most is (\d+) bytes.*^intake_tick: the most is (\d+) bytes")
-    for place, name in enumerate(("check", "tick"), 1):
-        promised(f"stack of intake_{name}", f"STACK_{name.upper()}", figures, int(most[place]) if most else 0)
+    promises = {"intake_check": "STACK_CHECK", "intake_tick": "STACK_TICK", "a call on a box": "STACK_BOX"}
+    most = measured(stack, ".*".join(rf"^{what}: the most is (\d+) bytes" for what in promises))
+    for place, (what, name) in enumerate(promises.items(), 1):
+        promised(f"stack of {what}", name, figures, int(most[place]) if most else 0)
     cost = measured(dearest, r"^dearest instant: (\S+ ms), (\d+) reactions$.*^(\d+) passed, 0 failed$")
     said = f"{cost[1]}, {int(cost[2]):,} reactions" if cost else "over 100 ms"
     expect(cost and said.split(", ", 1)[1] in figures["dearest"], "dearest instant", figures["dearest"].split(" (")[0], said)

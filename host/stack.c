@@ -2,8 +2,9 @@
  * The stack that a call takes, by painting: the call runs on a stack of its own that is filled with one byte before, and
  * the lowest byte that changed tells. What the same call of an empty function takes is left out. Every sequence has depth
  * 64, the greatest: commands with parts 63 times, inside them a leaf, and their other parts leaves beside. Six signals stand
- * around it in the sequence, or outside by the read-back set, which takes no level of the depth. The most of the check and
- * of the tick is held to what include/intake.h promises, and a thread of the size that it names runs the deepest calls.
+ * around it in the sequence, or outside by the read-back set, which takes no level of the depth. Each is admitted to a box
+ * too, ticked twice there and released. The most of the check, of the tick and of the calls on a box is held to what
+ * include/intake.h promises, and a thread of the size that it names runs the deepest calls.
  */
 #include "intake.h"
 
@@ -15,15 +16,16 @@
 #include <ucontext.h>
 #include <unistd.h>
 
-enum { STACK = 65536, PAINT = 0xA5, DEPTH = 64, HATCH = 31, SIGNALS = 6, MIXES = 2000, FAR = 1024 };
+enum { STACK = 65536, PAINT = 0xA5, DEPTH = 64, HATCH = 31, SIGNALS = 6, MIXES = 2000, FAR = 1024, BAY = 7 };
 
 static uint8_t stack[STACK], sequence[1024], state[INTAKE_STATE_LENGTH], answer[INTAKE_ANSWER_LENGTH];
+static uint8_t box[INTAKE_BOX_LENGTH];
 static size_t length;
 static uint32_t input, read_back;
 static uint8_t number;
 static ucontext_t here, there;
 static unsigned passed, failed;
-static size_t empty, most_check, most_tick;
+static size_t empty, most_check, most_tick, most_box;
 
 static void nothing(void) { number = INTAKE_ACCEPTED; }
 static void check(void) { number = intake_check(sequence, length, read_back); }
@@ -31,6 +33,10 @@ static void tick(void)
 {
     number = intake_tick(sequence, length, state, sizeof state, input, read_back, answer, sizeof answer);
 }
+
+static void box_admit(void) { number = intake_box_admit(box, sizeof box, BAY, sequence, length, read_back); }
+static void box_tick(void) { number = intake_box_tick(box, sizeof box, BAY, input, answer, sizeof answer); }
+static void box_release(void) { number = intake_box_release(box, sizeof box, BAY); }
 
 /* The bytes of stack below its top that a function writes. */
 static size_t taken(void (*call)(void))
@@ -118,7 +124,7 @@ static void build_one(const struct nest *nest, unsigned signals, int suspended, 
 /* One call, counted beyond the empty one; it must give the number. */
 static size_t used(void (*call)(void), uint8_t expected, const char *what)
 {
-    size_t bytes = taken(call) - empty, *most = call == check ? &most_check : &most_tick;
+    size_t bytes = taken(call) - empty, *most = call == check ? &most_check : call == tick ? &most_tick : &most_box;
     *most = bytes > *most ? bytes : *most;
     if (number == expected) {
         passed++;
@@ -139,6 +145,37 @@ static void stand(uint8_t phase, uint8_t labels)
 
 static size_t larger(size_t a, size_t b) { return a > b ? a : b; }
 
+/* The number of admission: the signals and loops of a sequence all stand around its leaf (02, item 6). */
+static uint8_t admission(void)
+{
+    uint32_t signals = (uint32_t)__builtin_popcount(read_back), commands = signals, loops = 0;
+    for (size_t i = 0; i < length; i++) {
+        uint8_t byte = sequence[i];
+        commands++;
+        loops += byte == 0x06;
+        signals += byte == 0x08;
+        i += byte != 0x00 && byte != 0x04 && byte != 0x05 && byte != 0x06 && byte != 0x09; /* an operand */
+    }
+    return commands * (1 + loops) << signals > INTAKE_SHARED_CEILING ? INTAKE_ABOVE_CEILING : INTAKE_ACCEPTED;
+}
+
+/* The greatest of the calls on a box; if the sequence is admitted, two instants of it, without signal 0 and with it. */
+static size_t in_box(uint8_t admitted, const char *what)
+{
+    size_t bytes = 0;
+    for (input = 0; input < 2; input++) {
+        memset(box, 0, sizeof box);
+        bytes = larger(bytes, used(box_admit, admitted, what));
+        if (admitted != INTAKE_ACCEPTED)
+            continue;
+        bytes = larger(bytes, used(box_tick, INTAKE_ACCEPTED, what));
+        uint8_t next = answer[INTAKE_ANSWER_CODE] == INTAKE_WAITING ? INTAKE_ACCEPTED : INTAKE_OVER;
+        bytes = larger(bytes, used(box_tick, next, what));
+        bytes = larger(bytes, used(box_release, INTAKE_ACCEPTED, what));
+    }
+    return bytes;
+}
+
 /* The greatest of the calls that rows 6, 10, 11 and 12 turn down. */
 static size_t refused(const struct nest *nest, unsigned signals)
 {
@@ -158,9 +195,13 @@ static size_t refused(const struct nest *nest, unsigned signals)
 
 static void row(const struct nest *nest, unsigned signals, const char *around)
 {
+    build_one(nest, signals, 0, &ill_formed, DEPTH);
+    size_t boxed = in_box(INTAKE_NOT_WELL_FORMED, nest->name);
     build_one(nest, signals, 0, &set, DEPTH);
+    boxed = larger(boxed, in_box(admission(), nest->name));
     size_t triggers = used(check, INTAKE_ACCEPTED, nest->name);
     build_one(nest, signals, 0, &pause_0, DEPTH);
+    boxed = larger(boxed, in_box(admission(), nest->name));
     input = 0;
     size_t checked = used(check, INTAKE_ACCEPTED, nest->name);
     stand(INTAKE_PHASE_FRESH, 0);
@@ -171,8 +212,8 @@ static void row(const struct nest *nest, unsigned signals, const char *around)
     input = UINT32_C(1) << HATCH;
     stand(INTAKE_PHASE_WAITING, 1);
     size_t stopped = used(tick, INTAKE_ACCEPTED, nest->name);
-    printf("%-32s %7zu %7zu %7zu %7zu %7zu %7zu%s\n", nest->name, triggers, checked, fresh, resumed, stopped,
-           refused(nest, signals), around);
+    printf("%-32s %7zu %7zu %7zu %7zu %7zu %7zu %7zu%s\n", nest->name, triggers, checked, fresh, resumed, stopped,
+           refused(nest, signals), boxed, around);
 }
 
 /* Levels of several nests and signals at random, from a fixed seed: fresh, and resumed from the pause. */
@@ -195,6 +236,7 @@ static void mixed(void)
     used(tick, INTAKE_ACCEPTED, "a mixed sequence");
     stand(INTAKE_PHASE_WAITING, 1);
     used(tick, INTAKE_ACCEPTED, "a mixed sequence");
+    in_box(admission(), "a mixed sequence");
 }
 
 /* Runs the deepest calls on the thread's own stack. */
@@ -251,8 +293,8 @@ int main(void)
         {0, 0, ""}, {SIGNALS, 0, "  inside six signals"}, {0, 0x3F, "  with six read back"},
     };
     empty = taken(nothing);
-    printf("%-32s %7s %7s %7s %7s %7s %7s\n", "bytes of stack at depth 64", "row 10", "check", "fresh", "resumed", "stopped",
-           "refused");
+    printf("%-32s %7s %7s %7s %7s %7s %7s %7s\n", "bytes of stack at depth 64", "row 10", "check", "fresh", "resumed",
+           "stopped", "refused", "box");
     for (size_t a = 0; a < sizeof around / sizeof *around; a++)
         for (size_t i = 0; i < NESTS; i++) {
             read_back = around[a].read_back;
@@ -263,6 +305,7 @@ int main(void)
         mixed();
     hold("intake_check", most_check, INTAKE_STACK_CHECK);
     hold("intake_tick", most_tick, INTAKE_STACK_TICK);
+    hold("a call on a box", most_box, INTAKE_STACK_BOX);
     hold_thread(INTAKE_STACK_THREAD, 1);
     hold_thread(INTAKE_STACK_THREAD / 2, 0); /* a thread with too little is noticed */
     printf("%u passed, %u failed\n", passed, failed);
