@@ -1,5 +1,5 @@
 #!/usr/bin/env python3
-"""Compiles include/intake.h as every C and C++ and runs host/header.c, and README's host in C with the archive.
+"""Compiles include/intake.h as every C and C++ and runs host/header.c, and README's hosts in C with the archive.
 
   host/header_test.py ARCHIVE
 
@@ -47,6 +47,45 @@ the machine is over
 the sequence ends within a command
 acted 1, stopped 1
 """
+# Around README's host with a box: a bay that waits, then is wrong, beside one that ends; then each is over.
+BOX_SURROUNDINGS = """
+#include "intake.h"
+#include <stdio.h>
+
+static uint32_t inputs(uint32_t bay) {{ return bay; }}
+static void act_on(uint32_t bay, uint32_t emitted) {{ printf("%u: emitted %u\\n", (unsigned)bay, (unsigned)emitted); }}
+static void stop(uint32_t bay, const char *what, unsigned place) {{ printf("%u: %s, place %u\\n", (unsigned)bay, what, place); }}
+static void report(uint32_t bay, const char *what) {{ printf("%u: %s\\n", (unsigned)bay, what); }}
+
+{0}
+
+int main(void)
+{{
+    static const uint8_t wrong[] = {{0x04, 0x02, 0x01, 0x04, 0x01, 0x00, 0x08, 0x00, 0x07, 0x00, 0x00, 0x02, 0x00}};
+    static const uint8_t ends[] = {{0x04, 0x01, 0x00, 0x02, 0x03}};
+    unsigned i;
+    begin(0, wrong, sizeof wrong, 0);
+    begin(1, ends, sizeof ends, 0);
+    begin(1, ends, sizeof ends, 0);
+    for (i = 0; i < 3; i++) {{
+        instant(0);
+        instant(1);
+    }}
+    begin(0, wrong, sizeof wrong - 1, 0);
+    begin(1, ends, sizeof ends, 0);
+    instant(1);
+    return 0;
+}}
+"""
+BOX_SAID = """\
+1: no bay has this number, or it is filled on admission or empty otherwise
+0: emitted 2
+1: emitted 0
+0: a signal that is emitted only if absent, place 6
+1: emitted 8
+0: the sequence ends within a command
+1: emitted 0
+"""
 
 passed = failed = 0
 
@@ -78,16 +117,17 @@ def standard(folder, compiler, language, name):
 
 
 def readme(folder, archive):
-    """README's host, compiled as it stands there, and what it does in a wrong instant."""
+    """README's hosts, compiled as they stand there, and what they do in a wrong instant."""
     text = (ROOT / "README.md").read_text(encoding="utf-8")
-    block = re.search(r"```c\n#include \"intake.h\"\n(.*?)```", text, re.S)[1]
+    blocks = [block.replace('#include "intake.h"\n', "") for block in re.findall(r"```c\n(.*?)```", text, re.S)]
     source, program = Path(folder) / "readme.c", f"{folder}/readme"
-    source.write_text(SURROUNDINGS.format(block), encoding="utf-8")
-    for compiler, language, name in ("gcc", "c", "c11"), ("g++", "c++", "c++17"):
-        built, said = run(compiler, f"-std={name}", *WARNED, "-x", language, source, "-x", "none", archive, "-o", program)
-        if built:
-            _, said = run(program)
-        add(said == SAID, said != SAID, f"README's host as {name}", said)
+    for block, around, expected in zip(blocks, (SURROUNDINGS, BOX_SURROUNDINGS), (SAID, BOX_SAID), strict=True):
+        source.write_text(around.format(block), encoding="utf-8")
+        for compiler, language, name in ("gcc", "c", "c11"), ("g++", "c++", "c++17"):
+            built, said = run(compiler, f"-std={name}", *WARNED, "-x", language, source, "-x", "none", archive, "-o", program)
+            if built:
+                _, said = run(program)
+            add(said == expected, said != expected, f"README's host as {name}", said)
 
 
 def main(archive):
