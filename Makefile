@@ -21,8 +21,8 @@ SOURCES := crates.txt $(shell find crates -name '*.rt' -o -name '*.antt')
 PREFIX ?= /usr/local
 VERSION = $(shell sed -n 's/^\#define INTAKE_VERSION_[A-Z]* \([0-9]*\)$$/\1/p' include/intake.h | paste -sd .)
 
-HOST_TESTS = host-rust host-c host-tick-rust host-tick-c host-box-rust host-box-c host-example host-stack host-archive \
-	host-freestanding host-header host-install host-again figures
+HOST_TESTS = host-rust host-c host-tick-rust host-tick-c host-box-rust host-box-c host-example host-example-box host-stack \
+	host-archive host-freestanding host-header host-install host-again figures
 
 # The two programs are built anew for whatever archive is named.
 .PHONY: help run show paper vectors-diff test lib install certificate host $(HOST_TESTS) host-plain show-test format-test \
@@ -88,6 +88,12 @@ host-example: $(INTAKE_ARCHIVE) $(RUN_PROGRAM) # compares the example host with 
 	$(WARNED) -O2 -Iinclude host/example.c $(INTAKE_ARCHIVE) -o target/host/example
 	$(SANITIZED) -Iinclude host/example.c $(INTAKE_ARCHIVE) -o target/host/example-sanitized
 	host/example_test.py $(RUN_PROGRAM) target/host/example target/host/example-sanitized
+
+host-example-box: $(INTAKE_ARCHIVE) # runs the examples side by side in a box by the example host with several bays
+	@mkdir -p target/host
+	$(WARNED) -O2 -Iinclude host/example_box.c $(INTAKE_ARCHIVE) -o target/host/example-box
+	$(SANITIZED) -Iinclude host/example_box.c $(INTAKE_ARCHIVE) -o target/host/example-box-sanitized
+	host/example_box_test.py target/host/example-box target/host/example-box-sanitized
 
 host-stack: target/host/stack # measures the stack of a call at the greatest depth, by painting
 	target/host/stack

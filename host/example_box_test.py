@@ -1,0 +1,74 @@
+#!/usr/bin/env python3
+"""Runs the examples side by side in a box, and compares each bay's lines with the listing that its page shows.
+
+  host/example_box_test.py HOST...
+
+The last line is 'N passed, M failed'.
+"""
+import random
+import subprocess
+import sys
+import tempfile
+from pathlib import Path
+
+sys.dont_write_bytecode = True
+import example_test as examples  # pylint: disable=wrong-import-position
+
+ROOT = Path(__file__).resolve().parent.parent
+BAYS, LISTS = 8, 40
+
+
+def lines(listing):
+    """The lines of a bay by the listing of its run: the heading and the labels left out."""
+    return [" ".join(line.split()[:5]) for line in listing.splitlines()[1:]]
+
+
+def run(host, files, *more):
+    return subprocess.run([host, *(ROOT / "examples" / name for name, *_ in files), *more], capture_output=True, text=True,
+                          check=False)
+
+
+def compare(host, files):
+    """The lines of each bay, in their order, and the bays in turn."""
+    done = run(host, files)
+    given = [line.split(" ", 1) for line in done.stdout.splitlines()]
+    expected = [lines(listing) for _, _, listing in files]
+    names = [name for name, *_ in files]
+    examples.expect(done.returncode == 0 and len(given) == sum(map(len, expected)), f"{names}: {done.stderr}")
+    for bay, listing in enumerate(expected):
+        examples.expect([line for number, line in given if number == str(bay)] == listing, f"bay {bay} of {names}")
+    turns = [str(bay) for turn in range(max(map(len, expected))) for bay, listing in enumerate(expected) if turn < len(listing)]
+    examples.expect([number for number, _ in given] == turns, f"the turns of {names}")
+
+
+def refused(host, files):
+    """A sequence that is turned down leaves the others, and so does one above the shared ceiling."""
+    name, _, listing = files[0]
+    for sequence, number in (b"\x0c", 3), (bytes.fromhex("080008010802080308040805") + 57 * b"\x06" + b"\0", 14):
+        with tempfile.NamedTemporaryFile() as bad:
+            bad.write(examples.run_file(sequence, 2))
+            bad.flush()
+            done = run(host, files[:1], bad.name)
+            first, *rest = done.stdout.splitlines()
+            examples.expect(first.startswith(f"1 refused {number}: "), f"{name} beside number {number}: {first}")
+            examples.expect(rest == [f"0 {line}" for line in lines(listing)], f"{name} beside number {number}")
+    for words in [], [ROOT / "examples" / name] * (BAYS + 1), [ROOT / "examples"]:
+        examples.expect(run(host, [], *words).returncode == 1, f"{len(words)} words")
+
+
+def main(hosts):
+    files = examples.documented()
+    for host in hosts:
+        rng = random.Random(1)
+        for _ in range(LISTS):
+            compare(host, [rng.choice(files) for _ in range(rng.randrange(1, BAYS + 1))])
+        refused(host, files)
+    print(f"{examples.passed} passed, {examples.failed} failed")
+    return examples.failed != 0
+
+
+if __name__ == "__main__":
+    if len(sys.argv) < 2:
+        print("usage: example_box_test.py HOST...", file=sys.stderr)
+        sys.exit(2)
+    sys.exit(main(sys.argv[1:]))
