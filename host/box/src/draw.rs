@@ -50,7 +50,7 @@ pub fn of_ceiling(random: &mut Random, ceiling: u64) -> Option<(Vec<u8>, u32)> {
     let fits = |&(loops, signals): &(u64, u32)| {
         let factor = (1 + loops) << signals;
         let count = ceiling / factor;
-        ceiling % factor == 0 && count > loops + signals as u64 && count < 900
+        ceiling == count * factor && count > loops + signals as u64 && count < 900
     };
     let shapes: Vec<(u64, u32)> = (0..40).flat_map(|l| (0..=6).map(move |s| (l, s))).filter(fits).collect();
     if shapes.is_empty() {

@@ -2,7 +2,7 @@
 //! tick is intake_tick on what the bay holds.
 use crate::archive::{Archive, Call, Given};
 use crate::draw::{doubtful, request};
-use crate::layout::{self, held, put, put_length, put_sequence, put_state, LEDGER, STRETCH};
+use crate::layout::{self, held, put, put_length, put_sequence, put_state, STRETCH};
 use crate::lists::Run;
 use crate::memory::Memory;
 use crate::model::{Bay, BAYS, SHARED};
@@ -115,7 +115,6 @@ fn compare(tally: &mut Tally, bytes: &[u8], bay: u32, call: &Call, given: &Given
 pub fn boxes(tally: &mut Tally, random: &mut Random, count: usize) {
     let (mut run, mut archive) = (Run::new(), Archive::new());
     let mut memory = Memory::new(run.model.length);
-    assert!(LEDGER < STRETCH && BAYS * STRETCH == run.model.length, "the layout is not of the header's box");
     for i in 0..count {
         if i % 32 == 0 {
             run.clear(random);

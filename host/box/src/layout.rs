@@ -17,7 +17,9 @@ pub const STRETCH: usize = 1523;
 pub fn box_length() -> usize {
     let header = include_str!("../../../include/intake.h");
     let line = header.lines().find_map(|line| line.strip_prefix("#define INTAKE_BOX_LENGTH "));
-    line.and_then(|length| length.trim().parse().ok()).expect("INTAKE_BOX_LENGTH of the header")
+    let length = line.and_then(|length| length.trim().parse().ok()).expect("INTAKE_BOX_LENGTH of the header");
+    assert!(length == BAYS * STRETCH, "a box of {length} bytes is not eight stretches of {STRETCH}");
+    length
 }
 
 /// Where a bay's stretch stands in a box.
