@@ -20,7 +20,7 @@ use Rattle.sequence.specs.Rows.{ByRows}
 use Rattle.demands.specs.Tick.{Outcome, outcome, tickOf}
 use Rattle.demands.specs.TickRows.{TickRow}
 use Rattle.demands.specs.Demands as demands
-use Rattle.demands.specs.Demands.{stateAfterwards, answerAfterwards, outcomes, cleared, report, StandsAt, Shows}
+use Rattle.demands.specs.Demands.{stateAfterwards, answerAfterwards, outcomes, cleared, report, StandsAt, Derived, Shows}
 use Rattle.demands.specs.Paper as Paper
 use Rattle.demands.specs.Paper.{paper}
 use Rattle.demands.proofs.Sequence.{accepted}
@@ -100,7 +100,7 @@ module _ (bay : ℕ) (b : bay < bayCount) (t : Terms) where
 
       -- demand 2 of this tick
       pub shows-rules : number (callOf box bay (tick e answer)) ≡ 0
-          → (p : Statement) × StandsAt (t .sequence) (t .readBack) (stateIn s) p
+          → (p : Statement) × StandsAt (t .sequence) (t .readBack) (stateIn s) p × Derived p e
           × ((o : ℕ) (k : Code) (l : ℕ) (p′ : Statement) → Reacts p e (gives o k l p′)
           → Shows p e o k l p′ (outcomeOf bay (callOf box bay (tick e answer))))
       shows-rules z = demand-2-call (t .sequence) (stateIn s) e (t .readBack) answer as-told z

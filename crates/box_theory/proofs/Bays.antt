@@ -25,7 +25,7 @@ use Rattle.answers.specs.AnswerRecord.{answerLength}
 use Rattle.parts.specs.Parts.{put}
 use Rattle.parts.proofs.Parts.{put-slot, length-put}
 use Rattle.demands.specs.Tick as Tick
-use Rattle.demands.specs.Tick.{Outcome, outcome, byState, tickBy, tickOf}
+use Rattle.demands.specs.Tick.{Outcome, outcome, byState, replied, tickBy, tickOf}
 use Rattle.demands.specs.Demands as demands
 use Rattle.demands.specs.Demands.{stateAfterwards}
 use Rattle.demands.proofs.Sequence.{Accepted, accepted}
@@ -61,7 +61,7 @@ pub kept-number : (s : List ℕ) (o : Outcome) → number (stateKept s o) ≡ de
 kept-number s (outcome n state answer) = refl
 
 state-kept : (p : Statement) (d : Decoded) (state : List ℕ) (e : ℕ) (answer : List ℕ) → length state ≡ stateLength
-    → length (stateAfterwards (byState inheritanceFirst p d state e answer)) ≡ stateLength
+    → length (stateAfterwards (replied (byState inheritanceFirst p d e) state answer)) ≡ stateLength
 state-kept p malformed state e answer h = h
 state-kept p (holds State.fresh) state e answer h = length-state _
 state-kept p (holds (State.waits L)) state e answer h = length-state _
@@ -74,7 +74,7 @@ tick-sized sequence state e readBack answer h =
     go (eqb (length state) stateLength && eqb (length answer) answerLength) (checked sequence readBack)
   where
     go : (b : Bool) (c : Checked)
-        → length (stateAfterwards (cond b (Tick.byCheck inheritanceFirst readBack c state e answer) (outcome 1 state answer))) ≡ stateLength
+        → length (stateAfterwards (cond b (replied (Tick.byCheck inheritanceFirst readBack c state e) state answer) (outcome 1 state answer))) ≡ stateLength
     go false c = h
     go true (bad k) = h
     go true (sound p) = state-kept (program readBack p) (decodeState p state) state e answer h

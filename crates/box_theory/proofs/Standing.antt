@@ -15,8 +15,8 @@ use Rattle.esterel.specs.Expansion.{expand}
 use Rattle.esterel.specs.Machines.{State, stateAfter}
 use Rattle.sequence.specs.Program.{program}
 use Rattle.numbers.specs.Bytes.{leBytes}
-use Rattle.states.specs.StateRecord.{stateLength, encodeState, holds}
-use Rattle.states.proofs.StateLaws.{Recorded, length-state, decode-encode}
+use Rattle.states.specs.StateRecord.{stateLength, encodeState, holds, Recorded}
+use Rattle.states.proofs.StateLaws.{length-state, decode-encode}
 use Rattle.answers.specs.AnswerRecord.{answerLength}
 use Rattle.parts.specs.Parts.{slot, put}
 use Rattle.demands.specs.Tick as Tick
@@ -59,7 +59,7 @@ module _ (t : Terms) (a : Accepted (t .sequence) (t .readBack)) where
       ]
     where
       by : (st : State) → Recorded (a .statement) st
-          → Told (Tick.byState inheritanceFirst (program (t .readBack) (a .statement)) (holds st) (encodeState st) e answer)
+          → Told (Tick.replied (Tick.byState inheritanceFirst (program (t .readBack) (a .statement)) (holds st) e) (encodeState st) answer)
       by State.fresh r =
           record {
             state = stateAfter (react (program (t .readBack) (a .statement)) e);

@@ -17,7 +17,7 @@ use Rattle.sequence.specs.Rows.{Spells, ByRows}
 use Rattle.demands.specs.Tick.{Outcome, tickOf}
 use Rattle.demands.specs.TickRows.{TickRow}
 use Rattle.demands.specs.Demands as demands
-use Rattle.demands.specs.Demands.{outcomes, cleared, report, StandsAt, Shows}
+use Rattle.demands.specs.Demands.{outcomes, cleared, report, StandsAt, Derived, Shows}
 use Rattle.demands.specs.Paper.{paper}
 use Rattle.demands.proofs.Sequence.{same-statement}
 use Rattle.box_calls.specs.Called.{number, memoryAfter}
@@ -139,7 +139,7 @@ module _ (box : List ℕ) (bay : ℕ) (t : Terms) (small : Sendable (admit t)) (
 
     -- demand 2, of the next tick
     pub demand-2-in-bay : (e : ℕ) (answer : List ℕ) → number (callOf now bay (tick e answer)) ≡ 0
-        → (p : Statement) × StandsAt (t .sequence) (t .readBack) (stateIn (stretchOf bay now)) p
+        → (p : Statement) × StandsAt (t .sequence) (t .readBack) (stateIn (stretchOf bay now)) p × Derived p e
         × ((o : ℕ) (c : Code) (l : ℕ) (p′ : Statement) → Reacts p e (gives o c l p′)
         → Shows p e o c l p′ (outcomeOf bay (callOf now bay (tick e answer))))
     demand-2-in-bay = runs.shows-rules bay b t now (run .stands)
