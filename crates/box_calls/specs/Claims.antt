@@ -85,6 +85,33 @@ GivesBack call box =
     → (number (call box bay release) ≡ 0)
     × (present bayCount (memoryAfter (call box bay release)) + partOf (stretchOf bay box) ≡ present bayCount box)
 
+-- ---- 'Errors', in every box, whatever its bytes
+-- '13, before all others, for a bay number above 7, one already filled on admission, or an empty one otherwise'
+abbrev pub NotThere : Call → List ℕ → Type 0
+NotThere (admit t) s = lengthIn s ≢ 0
+NotThere release s = lengthIn s ≡ 0
+NotThere (tick e answer) s = lengthIn s ≡ 0
+
+abbrev pub Thirteen : Calling → Type 0
+Thirteen call =
+    (box : List ℕ) → length box ≡ boxLength → (bay : ℕ) (c : Call)
+    → (number (call box bay c) ≡ 13) ↔ (bay < bayCount → NotThere c (stretchOf bay box))
+
+-- bytes that are no box, by their length, have bay numbers and no bays
+abbrev pub NoBox : Calling → Type 0
+NoBox call =
+    (box : List ℕ) → length box ≢ boxLength → (bay : ℕ) (c : Call)
+    → (bayCount ≤ bay → number (call box bay c) ≡ 13) × (bay < bayCount → number (call box bay c) ≡ 1)
+
+-- '14 for the sum, after the sequence's own check'
+abbrev pub Fourteen : Calling → Type 0
+Fourteen call =
+    (box : List ℕ) → length box ≡ boxLength → (bay : ℕ) → bay < bayCount → lengthIn (stretchOf bay box) ≡ 0
+    → (t : Terms) → (checkOf (t .sequence) (t .readBack) ≢ 0 → number (call box bay (admit t)) ≡ checkOf (t .sequence) (t .readBack))
+    × (checkOf (t .sequence) (t .readBack) ≡ 0
+    → (number (call box bay (admit t)) ≡ 14)
+    ↔ (sharedCeiling < present bayCount box + ceilingOf (t .readBack) (checked (t .sequence) (t .readBack))))
+
 pub record BoxDemands (call : Calling) : Type 0 where
   pub refusals-leave : RefusalsLeave call
   pub others-stay : OthersStay call
@@ -95,3 +122,6 @@ pub record BoxDemands (call : Calling) : Type 0 where
   pub rounds-within : InBoxes call (RoundsWithin call)
   pub admits-by-sum : InBoxes call (AdmitsBySum call)
   pub gives-back : InBoxes call (GivesBack call)
+  pub thirteen : Thirteen call
+  pub no-box : NoBox call
+  pub fourteen : Fourteen call

@@ -80,7 +80,7 @@ tick-sized sequence state e readBack answer h =
     go true (sound p) = state-kept (program readBack p) (decodeState p state) state e answer h
 
 module _ (s : List ℕ) (e : ℕ) (answer : List ℕ) where
-  abbrev inner : Outcome
+  abbrev pub inner : Outcome
   inner = tickOf (sequenceIn s) (stateIn s) e (readBackIn s) answer
 
   tick-keeps-length : length s ≡ stretchLength → length (memoryAfter (bayTickOf s e answer)) ≡ stretchLength

@@ -2,6 +2,7 @@ pub mod Sums
 pub mod Bays
 pub mod Standing
 pub mod Stretches
+pub mod Numbers
 pub mod Isolation
 pub mod Reached
 pub mod Rounds

@@ -4,12 +4,11 @@ use Prim.Native.Nat.{ℕ, zero, suc, _+_, _*_, _^_, _≤_, _<_}
 use native.Mathlib.Omega.{arith}
 use native.Mathlib.Decide.{ℕ-discrete}
 use mathlib.Core.Path.{_≡_, refl, sym, ap, _∙_, subst}
-use mathlib.Core.Logic.{_≢_, _↔_}
+use mathlib.Core.Logic.{_≢_}
 use mathlib.Core.Bool.{Bool, true, false, cond, true≢false}
 use mathlib.Core.List.{List, [], _∷_}
 use lib.ListN.{length}
-use lib.Dec.{leb}
-use borrow.Author.Tests.{eq-eqb, ne-eqb, le-leb, leb-true}
+use borrow.Author.Tests.{eq-eqb, ne-eqb}
 use Rattle.limits.specs.Limits.{signalBytes}
 use Rattle.numbers.specs.Bytes.{leNumber}
 use Rattle.sequence.specs.Check.{checkOf}
@@ -25,7 +24,7 @@ use Rattle.box_calls.specs.Shares.{Sendable, AllSendable, none, each}
 use Rattle.box_calls.specs.Claims.{ceilingHeld}
 use Rattle.box_calls.proofs.Fields.{length-vacated, vacated-empty}
 use Rattle.box_theory.proofs.Sums.{sumOf, one-changed}
-use Rattle.box_theory.proofs.Bays.{ceilingFor, passed, Admission, turned-down, taken, admission, admit-by-sum, onStretch, kept-number}
+use Rattle.box_theory.proofs.Bays.{ceilingFor, passed, Admission, turned-down, taken, admission, onStretch, kept-number}
 use Rattle.box_theory.proofs.Standing.{Standing, not-empty, sequence-held, inner, bay-tick, tick-told, tick-stands, filled-stands}
 use Rattle.box_theory.proofs.Stretches.{Case, aside, inside, cases, own, own-stretch, same-length, others-stay}
 
@@ -171,31 +170,6 @@ kept = kept-list emptyBox kept-empty
 module _ (box : List ℕ) (h : Kept box) (bay : ℕ) (b : bay < bayCount) where
   abbrev s : List ℕ
   s = stretchOf bay box
-
-  -- an empty bay is admitted by the sum
-  pub admits-by-sum : lengthIn s ≡ 0 → (t : Terms) → checkOf (t .sequence) (t .readBack) ≡ 0
-      → (number (callOf box bay (admit t)) ≡ 0) ↔ (present bayCount box + ceilingFor t ≤ sharedCeiling)
-  admits-by-sum i t c = (
-    λ n. leb-true sum sharedCeiling (admitted (leb sum sharedCeiling) (sym by ∙ n)),
-    λ l. by ∙ rw (le-leb sum sharedCeiling l),
-  )
-    where
-      sum : ℕ
-      sum = present bayCount box + ceilingFor t
-
-      byRoom : Bool → ℕ
-      byRoom r = number (cond r (called 0 (filled t (ceilingFor t) s) []) (called 14 s []))
-
-      here : number (onStretch (present bayCount box) (admit t) s) ≡ number (bayAdmitOf (present bayCount box) s t)
-      here = rw (eq-eqb (lengthIn s) 0 i)
-
-      by : number (callOf box bay (admit t)) ≡ byRoom (leb sum sharedCeiling)
-      by = ap number (own box bay (admit t) b (h .sized-box)) ∙ here
-          ∙ ap number (admit-by-sum (present bayCount box) s t (accepted (t .sequence) (t .readBack) c))
-
-      admitted : (r : Bool) → byRoom r ≡ 0 → r ≡ true
-      admitted true n = refl
-      admitted false n = absurd (omega arith)
 
   -- a filled bay taken out gives its part back
   pub gives-back : lengthIn s ≢ 0

@@ -35,7 +35,7 @@ module _ (box : List ℕ) (bay : ℕ) (c : Call) where
   unfolding callOf
   no-bay h = rw (le-ltb bay bayCount h)
 
-  other-box : bay < bayCount → length box ≢ boxLength → callOf box bay c ≡ called 1 box (buffers c)
+  pub other-box : bay < bayCount → length box ≢ boxLength → callOf box bay c ≡ called 1 box (buffers c)
   unfolding callOf
   other-box b n = rw (lt-ltb bay bayCount b, ne-eqb (length box) boxLength n)
 

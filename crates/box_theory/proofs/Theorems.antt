@@ -26,10 +26,11 @@ use Rattle.box_calls.specs.Box.{bayCount, boxLength, emptyBox, stretchOf, admit
 use Rattle.box_calls.specs.Lists.{Request, boxAfter, asked, answers}
 use Rattle.box_calls.specs.Shares.{Sendable, AllSendable}
 use Rattle.box_calls.specs.BayRuns.{ticksTo, outcomeOf, tickOutcomes, Onwards}
-use Rattle.box_calls.specs.Claims.{RefusalsLeave, OthersStay, Isolated, BySum, InBoxes, CeilingsStored, WithinCeiling, RoundsWithin, AdmitsBySum, GivesBack, BoxDemands}
+use Rattle.box_calls.specs.Claims.{RefusalsLeave, OthersStay, Isolated, BySum, InBoxes, CeilingsStored, WithinCeiling, RoundsWithin, AdmitsBySum, GivesBack, Thirteen, NoBox, Fourteen, BoxDemands}
 use Rattle.box_calls.specs.WrongBoxes as wrong
 use Rattle.box_calls.proofs.WrongBoxes as refuted
 use Rattle.box_theory.proofs.Stretches as stretches
+use Rattle.box_theory.proofs.Numbers as numbers
 use Rattle.box_theory.proofs.Isolation as apart
 use Rattle.box_theory.proofs.Reached as reached
 use Rattle.box_theory.proofs.Rounds as rounds
@@ -76,11 +77,24 @@ rounds-within xs k = rounds.rounds-within (boxAfter callOf emptyBox xs) (reached
 
 -- 'A bay is admitted .. if Item 6's ceilings of those present and its own sum to no more'
 pub admits-by-sum : InBoxes callOf (AdmitsBySum callOf)
-admits-by-sum xs k = reached.admits-by-sum (boxAfter callOf emptyBox xs) (reached.kept xs k)
+admits-by-sum xs k bay b i t h = numbers.admitted-iff (boxAfter callOf emptyBox xs) (reached.kept xs k .sized-box) bay b i t h
 
 -- 'A bay taken out gives its part back'
 pub gives-back : InBoxes callOf (GivesBack callOf)
 gives-back xs k = reached.gives-back (boxAfter callOf emptyBox xs) (reached.kept xs k)
+
+-- ---- 'Errors', in every box, whatever its bytes
+-- '13, before all others, for a bay number above 7, one already filled on admission, or an empty one otherwise'
+pub thirteen : Thirteen callOf
+thirteen = numbers.thirteen
+
+-- bytes of another length than a box: 13 for a bay number above 7, and then 1
+pub no-box : NoBox callOf
+no-box = numbers.no-box
+
+-- '14 for the sum, after the sequence's own check'
+pub fourteen : Fourteen callOf
+fourteen box z bay b i t = (numbers.by-its-row box z bay b i t, numbers.fourteen-iff box z bay b i t)
 
 -- ITEM 8
 pub box-demands : BoxDemands callOf
@@ -95,6 +109,9 @@ box-demands =
       rounds-within = rounds-within;
       admits-by-sum = admits-by-sum;
       gives-back = gives-back;
+      thirteen = thirteen;
+      no-box = no-box;
+      fourteen = fourteen;
     }
 
 -- demand 1: no tick gives 11, whatever calls came before

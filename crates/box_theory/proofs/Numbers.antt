@@ -1,0 +1,147 @@
+-- The numbers of item 8: 13 where the bay is not there for the call, 14 for the sum, after the sequence's own check.
+use Prim.Native.Nat.{ℕ, _+_, _≤_, _<_}
+use native.Mathlib.Omega.{arith}
+use native.Mathlib.Decide.{ℕ-discrete, decLt}
+use mathlib.Core.Path.{_≡_, refl, sym, ap, _∙_}
+use mathlib.Core.Logic.{_≢_, _↔_}
+use mathlib.Core.Bool.{Bool, true, false, not, cond, true≢false}
+use mathlib.Core.List.{List, []}
+use lib.ListN.{length}
+use lib.Dec.{leb}
+use borrow.Author.Tests.{eq-eqb, ne-eqb, eqb-true, eqb-false, le-leb, lt-leb, leb-true, leb-false}
+use Rattle.sequence.specs.Check.{Checked, sound, bad, checked, numberOf, checkOf}
+use Rattle.sequence.proofs.Rows.{check-by-rows, row-range}
+use Rattle.demands.specs.TickRows.{TickRow, row-1, row-2-to-10, row-11, row-12}
+use Rattle.demands.proofs.Sequence.{accepted}
+use Rattle.demands.proofs.Demand1.{demand-1}
+use Rattle.box_calls.specs.Called.{called, number}
+use Rattle.box_calls.specs.Stretch.{lengthIn, isEmpty, sequenceIn, readBackIn, stateIn, Terms, filled}
+use Rattle.box_calls.specs.BayCalls.{sharedCeiling, byCheck, bayTickOf, bayReleaseOf, bayAdmitOf}
+use Rattle.box_calls.specs.Box.{bayCount, boxLength, stretchOf, present, Call, admit, release, tick, buffers, bayCall, isFor, callOf}
+use Rattle.box_calls.specs.Claims.{NotThere, Thirteen, NoBox}
+use Rattle.box_theory.proofs.Bays.{ceilingFor, kept-number, inner, admit-by-sum, onStretch}
+use Rattle.box_theory.proofs.Stretches.{no-bay, other-box, own}
+
+-- ---- the numbers of a call on a stretch
+tick-range : {sequence : List ℕ} {readBack : ℕ} {state answer : List ℕ} (k : ℕ) → TickRow sequence readBack state answer k → k ≤ 12
+tick-range k (row-1 x) = omega arith
+tick-range {sequence} {readBack} k (row-2-to-10 r) = omega (arith, row-range sequence readBack k r)
+tick-range k (row-11 s m) = omega arith
+tick-range k (row-12 e) = omega arith
+
+-- a sequence that is turned down, by its row
+bad-number : (k : ℕ) (s : List ℕ) (t : Terms) → checkOf (t .sequence) (t .readBack) ≢ 0
+    → number (bayAdmitOf k s t) ≡ checkOf (t .sequence) (t .readBack)
+unfolding bayAdmitOf checkOf
+bad-number k s t = go (checked (t .sequence) (t .readBack))
+  where
+    go : (c : Checked) → numberOf c ≢ 0 → number (byCheck k s t c) ≡ numberOf c
+    go (bad n) h = refl
+    go (sound p) h = absurd (h refl)
+
+-- an accepted one, by whether the sum fits
+abbrev byRoom : Bool → ℕ
+byRoom b = cond b 0 14
+
+sum-number : (k : ℕ) (s : List ℕ) (t : Terms) → checkOf (t .sequence) (t .readBack) ≡ 0
+    → number (bayAdmitOf k s t) ≡ byRoom (leb (k + ceilingFor t) sharedCeiling)
+sum-number k s t h =
+    ap number (admit-by-sum k s t (accepted (t .sequence) (t .readBack) h)) ∙ go (leb (k + ceilingFor t) sharedCeiling)
+  where
+    go : (b : Bool) → number (cond b (called 0 (filled t (ceilingFor t) s) []) (called 14 s [])) ≡ byRoom b
+    go true = refl
+    go false = refl
+
+bay-not-13 : (k : ℕ) (c : Call) (s : List ℕ) → number (bayCall k c s) ≢ 13
+unfolding bayTickOf bayReleaseOf
+bay-not-13 k (admit t) s n =
+    elim (ℕ-discrete (checkOf (t .sequence) (t .readBack)) 0) [
+      | yes h ↦ go (leb (k + ceilingFor t) sharedCeiling) (sym (sum-number k s t h) ∙ n)
+      | no h ↦
+          let e = sym (bad-number k s t h) ∙ n in
+          let r = check-by-rows (t .sequence) (t .readBack) .refusal 13 (λ z. omega arith) .0 e .0 in
+          omega (arith, row-range (t .sequence) (t .readBack) 13 r)
+    ]
+  where
+    go : (b : Bool) → byRoom b ≡ 13 → ⊥
+    go true h = omega arith
+    go false h = omega arith
+bay-not-13 k release s n = omega arith
+bay-not-13 k (tick e answer) s n =
+    let rows = demand-1 .tick-by-rows (sequenceIn s) (stateIn s) e (readBackIn s) answer in
+    let r = rows .refusal 13 (λ z. omega arith) .0 (sym (kept-number s (inner s e answer)) ∙ n) .0 in
+    omega (arith, tick-range 13 r)
+
+-- ---- a bay that is not there for a call
+not-true : (b : Bool) → not b ≡ false → b ≡ true
+not-true true h = refl
+not-true false h = absurd (true≢false h)
+
+is-empty : (s : List ℕ) → (not (isEmpty s) ≡ false) ↔ (lengthIn s ≡ 0)
+is-empty s = (λ h. eqb-true (lengthIn s) 0 (not-true (isEmpty s) h), λ h. rw (eq-eqb (lengthIn s) 0 h))
+
+not-there : (c : Call) (s : List ℕ) → (isFor c s ≡ false) ↔ NotThere c s
+not-there (admit t) s = (eqb-false (lengthIn s) 0, ne-eqb (lengthIn s) 0)
+not-there release s = is-empty s
+not-there (tick e answer) s = is-empty s
+
+pub thirteen : Thirteen callOf
+thirteen box z bay c =
+    elim (decLt bay bayCount) [
+      | yes b ↦ (
+        λ n l. not-there c s .0 (go (isFor c s) (sym (ap number (own box bay c b z)) ∙ n)),
+        λ h. ap number (own box bay c b z) ∙ aside (not-there c s .1 (h b)),
+      )
+      | no b ↦ (λ n l. absurd (b l), λ h. ap number (no-bay box bay c (omega arith)))
+    ]
+  where
+    s : List ℕ
+    s = stretchOf bay box
+
+    k : ℕ
+    k = present bayCount box
+
+    go : (f : Bool) → number (cond f (bayCall k c s) (called 13 s (buffers c))) ≡ 13 → f ≡ false
+    go true n = absurd (bay-not-13 k c s n)
+    go false n = refl
+
+    aside : isFor c s ≡ false → number (onStretch k c s) ≡ 13
+    aside h = rw h
+
+pub no-box : NoBox callOf
+no-box box n bay c = (λ h. ap number (no-bay box bay c h), λ b. ap number (other-box box bay c b n))
+
+-- ---- an admission to an empty bay
+module _ (box : List ℕ) (z : length box ≡ boxLength) (bay : ℕ) (b : bay < bayCount) (i : lengthIn (stretchOf bay box) ≡ 0) (t : Terms) where
+  abbrev sum : ℕ
+  sum = present bayCount box + ceilingFor t
+
+  admit-is : number (callOf box bay (admit t)) ≡ number (bayAdmitOf (present bayCount box) (stretchOf bay box) t)
+  admit-is = ap number (own box bay (admit t) b z) ∙ rw (eq-eqb (lengthIn (stretchOf bay box)) 0 i)
+
+  pub by-its-row : checkOf (t .sequence) (t .readBack) ≢ 0 → number (callOf box bay (admit t)) ≡ checkOf (t .sequence) (t .readBack)
+  by-its-row h = admit-is ∙ bad-number (present bayCount box) (stretchOf bay box) t h
+
+  module _ (h : checkOf (t .sequence) (t .readBack) ≡ 0) where
+    by-its-sum : number (callOf box bay (admit t)) ≡ byRoom (leb sum sharedCeiling)
+    by-its-sum = admit-is ∙ sum-number (present bayCount box) (stretchOf bay box) t h
+
+    pub admitted-iff : (number (callOf box bay (admit t)) ≡ 0) ↔ (sum ≤ sharedCeiling)
+    admitted-iff = (
+      λ n. leb-true sum sharedCeiling (go (leb sum sharedCeiling) (sym by-its-sum ∙ n)),
+      λ l. by-its-sum ∙ rw (le-leb sum sharedCeiling l),
+    )
+      where
+        go : (r : Bool) → byRoom r ≡ 0 → r ≡ true
+        go true n = refl
+        go false n = absurd (omega arith)
+
+    pub fourteen-iff : (number (callOf box bay (admit t)) ≡ 14) ↔ (sharedCeiling < sum)
+    fourteen-iff = (
+      λ n. leb-false sum sharedCeiling (go (leb sum sharedCeiling) (sym by-its-sum ∙ n)),
+      λ l. by-its-sum ∙ rw (lt-leb sum sharedCeiling l),
+    )
+      where
+        go : (r : Bool) → byRoom r ≡ 14 → r ≡ false
+        go true n = absurd (omega arith)
+        go false n = refl
