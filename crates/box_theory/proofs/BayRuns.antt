@@ -16,14 +16,14 @@ use Rattle.esterel.specs.States.{NoSetpause}
 use Rattle.esterel.specs.Machines.{State, Rewriting}
 use Rattle.theory.proofs.Agreement.{TermOf}
 use Rattle.sequence.specs.Program.{program}
-use Rattle.sequence.specs.Rows.{ByRows}
+use Rattle.sequence.specs.Rows.{Spells, ByRows}
 use Rattle.demands.specs.Tick.{Outcome, outcome, tickOf}
 use Rattle.demands.specs.TickRows.{TickRow}
 use Rattle.demands.specs.Demands as demands
 use Rattle.demands.specs.Demands.{stateAfterwards, answerAfterwards, outcomes, cleared, report, StandsAt, Derived, Shows}
 use Rattle.demands.specs.Paper as Paper
 use Rattle.demands.specs.Paper.{paper}
-use Rattle.demands.proofs.Sequence.{accepted}
+use Rattle.demands.proofs.Sequence.{accepted, same-statement}
 use Rattle.demands.proofs.Agreement.{all-ticks}
 use Rattle.demands.proofs.Demand1.{demand-1}
 use Rattle.demands.proofs.Calls.{demand-2-call}
@@ -233,3 +233,20 @@ module _ (box : List ℕ) (bay : ℕ) (t : Terms) (small : Sendable (admit t)) (
           → number (cond i (bayAdmitOf k s t) (called 13 s [])) ≡ 0 → Begun
       go true w h = of-bay (admission k s t) w h
       go false w h = absurd (omega arith)
+
+  module _ (xs : List Request) (k : Onwards bay begins xs) where
+    pub run : Run bay is-bay t begins xs
+    run = runs bay is-bay t begins (begun .here) xs k
+
+    pub bay-ticks : tickOutcomes bay begins xs ≡ outcomes tickOf (t .sequence) (t .readBack) cleared (ticksTo bay xs)
+    bay-ticks = run .ticks ∙ ap (λ (state : List ℕ). outcomes tickOf (t .sequence) (t .readBack) state (ticksTo bay xs)) (begun .fresh)
+
+    pub agrees : (p : Statement) → Spells (t .sequence) p → NoSetpause p
+        → map report (tickOutcomes bay begins xs) ≡ paper (Rewriting.fresh (program (t .readBack) p)) (ticksTo bay xs)
+    agrees p h plain =
+        let a = begun .here .1 .accepted in
+        let same : p ≡ a .statement = same-statement (t .sequence) p (a .statement) h (a .spelled) in
+        let w = Rewriting.fresh (program (t .readBack) (a .statement)) in
+        rw same
+        (agrees-from bay is-bay t begins (begun .here) xs k (subst NoSetpause same plain) w
+        (subst (λ (st : State). TermOf (program (t .readBack) (a .statement)) st w) (sym (begun .from-fresh)) refl))

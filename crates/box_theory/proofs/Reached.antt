@@ -2,7 +2,7 @@
 -- ceilings sum to no more than the shared one.
 use Prim.Native.Nat.{ℕ, zero, suc, _+_, _*_, _^_, _≤_, _<_}
 use native.Mathlib.Omega.{arith}
-use native.Mathlib.Decide.{ℕ-discrete}
+use native.Mathlib.Decide.{ℕ-discrete, decLt}
 use mathlib.Core.Path.{_≡_, refl, sym, ap, _∙_, subst}
 use mathlib.Core.Logic.{_≢_}
 use mathlib.Core.Bool.{Bool, true, false, cond, true≢false}
@@ -26,7 +26,7 @@ use Rattle.box_calls.proofs.Fields.{length-vacated, vacated-empty}
 use Rattle.box_theory.proofs.Sums.{sumOf, one-changed}
 use Rattle.box_theory.proofs.Bays.{ceilingFor, passed, Admission, turned-down, taken, admission, onStretch, kept-number}
 use Rattle.box_theory.proofs.Standing.{Standing, not-empty, sequence-held, inner, bay-tick, tick-told, tick-stands, filled-stands}
-use Rattle.box_theory.proofs.Stretches.{Case, aside, inside, cases, own, own-stretch, same-length, others-stay}
+use Rattle.box_theory.proofs.Stretches.{Case, aside, inside, cases, no-bay, own, own-stretch, same-length, others-stay}
 
 -- ---- a stretch that calls have written
 pub data Sound (s : List ℕ) : Type 0 where
@@ -189,14 +189,21 @@ module _ (box : List ℕ) (h : Kept box) (bay : ℕ) (b : bay < bayCount) where
       out : onStretch (present bayCount box) release s ≡ called 0 (vacated s) []
       out = rw (ne-eqb (lengthIn s) 0 n)
 
-  -- no tick gives 11
-  pub no-11 : (e : ℕ) (answer : List ℕ) → number (callOf box bay (tick e answer)) ≢ 11
-  no-11 e answer n = go (isFor (tick e answer) s) refl (sym (ap number (own box bay (tick e answer) b (h .sized-box))) ∙ n)
-    where
-      go : (f : Bool) → isFor (tick e answer) s ≡ f
-          → number (cond f (bayCall (present bayCount box) (tick e answer) s) (called 13 s (answer ∷ []))) ≡ 11 → ⊥
-      go false i m = omega arith
-      go true i m =
-          let f = filled-bay s (h .sound bay b) i in
-          tick-told (f .0) s (f .1) e answer .not-11
-          (sym (kept-number s (inner (f .0) s (f .1) e answer)) ∙ sym (ap number (bay-tick (f .0) s (f .1) e answer)) ∙ m)
+-- no tick gives 11
+pub no-11 : (box : List ℕ) → Kept box → (bay e : ℕ) (answer : List ℕ) → number (callOf box bay (tick e answer)) ≢ 11
+no-11 box h bay e answer n =
+    elim (decLt bay bayCount) [
+      | yes b ↦ go b (isFor (tick e answer) s) refl (sym (ap number (own box bay (tick e answer) b (h .sized-box))) ∙ n)
+      | no b ↦ omega (arith, ap number (no-bay box bay (tick e answer) (omega arith)))
+    ]
+  where
+    s : List ℕ
+    s = stretchOf bay box
+
+    go : bay < bayCount → (f : Bool) → isFor (tick e answer) s ≡ f
+        → number (cond f (bayCall (present bayCount box) (tick e answer) s) (called 13 s (answer ∷ []))) ≡ 11 → ⊥
+    go b false i m = omega arith
+    go b true i m =
+        let f = filled-bay s (h .sound bay b) i in
+        tick-told (f .0) s (f .1) e answer .not-11
+        (sym (kept-number s (inner (f .0) s (f .1) e answer)) ∙ sym (ap number (bay-tick (f .0) s (f .1) e answer)) ∙ m)

@@ -1,8 +1,6 @@
 -- The theorems about a box (02, item 8): of the definitions of the calls, which the code meets for all arguments.
 use Prim.Native.Nat.{ℕ, _<_}
-use native.Mathlib.Omega.{arith}
-use native.Mathlib.Decide.{decLt}
-use mathlib.Core.Path.{_≡_, refl, sym, ap, _∙_, subst}
+use mathlib.Core.Path.{_≡_, refl}
 use mathlib.Core.Logic.{_≢_}
 use mathlib.Core.List.{List, map, List·Memᴰ}
 use lib.ListN.{length}
@@ -10,8 +8,7 @@ use Rattle.esterel.specs.Statement.{Statement}
 use Rattle.esterel.specs.Reaction.{Code, gives}
 use Rattle.esterel.specs.Rules.{Reacts}
 use Rattle.esterel.specs.States.{NoSetpause}
-use Rattle.esterel.specs.Machines.{State, Rewriting}
-use Rattle.theory.proofs.Agreement.{TermOf}
+use Rattle.esterel.specs.Machines.{Rewriting}
 use Rattle.sequence.specs.Program.{program}
 use Rattle.sequence.specs.Rows.{Spells, ByRows}
 use Rattle.demands.specs.Tick.{Outcome, tickOf}
@@ -19,7 +16,6 @@ use Rattle.demands.specs.TickRows.{TickRow}
 use Rattle.demands.specs.Demands as demands
 use Rattle.demands.specs.Demands.{outcomes, cleared, report, StandsAt, Derived, Shows}
 use Rattle.demands.specs.Paper.{paper}
-use Rattle.demands.proofs.Sequence.{same-statement}
 use Rattle.box_calls.specs.Called.{number, memoryAfter}
 use Rattle.box_calls.specs.Stretch.{stateIn, Terms}
 use Rattle.box_calls.specs.Box.{bayCount, boxLength, emptyBox, stretchOf, admit, tick, callOf}
@@ -117,12 +113,7 @@ box-demands =
 -- demand 1: no tick gives 11, whatever calls came before
 pub never-11-in-box : (xs : List Request) → AllSendable xs → (bay e : ℕ) (answer : List ℕ)
     → number (callOf (boxAfter callOf emptyBox xs) bay (tick e answer)) ≢ 11
-never-11-in-box xs k bay e answer n =
-    let box = boxAfter callOf emptyBox xs in
-    elim (decLt bay bayCount) [
-      | yes b ↦ reached.no-11 box (reached.kept xs k) bay b e answer n
-      | no b ↦ omega (arith, ap number (stretches.no-bay box bay (tick e answer) (omega arith)))
-    ]
+never-11-in-box xs k = reached.no-11 (boxAfter callOf emptyBox xs) (reached.kept xs k)
 
 -- ---- a bay from its admission on, in any box, as long as it is not taken out: whatever other calls come in between, and calls of
 -- its own that are turned down, its ticks are those on its sequence
@@ -135,43 +126,28 @@ module _ (box : List ℕ) (bay : ℕ) (t : Terms) (small : Sendable (admit t)) (
     abbrev now : List ℕ
     now = boxAfter callOf from xs
 
-    abbrev b : bay < bayCount
-    b = runs.is-bay box bay t small admitted
-
-    run : runs.Run bay b t from xs
-    run = runs.runs bay b t from (runs.begun box bay t small admitted .here) xs k
-
     pub bay-ticks : tickOutcomes bay from xs ≡ outcomes tickOf (t .sequence) (t .readBack) cleared (ticksTo bay xs)
-    bay-ticks =
-        let same = runs.begun box bay t small admitted .fresh in
-        run .ticks ∙ ap (λ (state : List ℕ). outcomes tickOf (t .sequence) (t .readBack) state (ticksTo bay xs)) same
+    bay-ticks = runs.bay-ticks box bay t small admitted xs k
 
     -- demand 1: no tick of the list gives 11, and the number of the next is by the rows
     pub demand-1-in-bay : (o : Outcome) → List·Memᴰ o (tickOutcomes bay from xs) → demands.number o ≢ 11
-    demand-1-in-bay = run .never-11
+    demand-1-in-bay = runs.run box bay t small admitted xs k .never-11
 
     pub rows-in-bay : (e : ℕ) (answer : List ℕ)
         → ByRows (number (callOf now bay (tick e answer))) (TickRow (t .sequence) (t .readBack) (stateIn (stretchOf bay now)) answer)
-    rows-in-bay = runs.by-rows bay b t now (run .stands)
+    rows-in-bay = runs.by-rows bay (runs.is-bay box bay t small admitted) t now (runs.run box bay t small admitted xs k .stands)
 
     -- demand 2, of the next tick
     pub demand-2-in-bay : (e : ℕ) (answer : List ℕ) → number (callOf now bay (tick e answer)) ≡ 0
         → (p : Statement) × StandsAt (t .sequence) (t .readBack) (stateIn (stretchOf bay now)) p × Derived p e
         × ((o : ℕ) (c : Code) (l : ℕ) (p′ : Statement) → Reacts p e (gives o c l p′)
         → Shows p e o c l p′ (outcomeOf bay (callOf now bay (tick e answer))))
-    demand-2-in-bay = runs.shows-rules bay b t now (run .stands)
+    demand-2-in-bay = runs.shows-rules bay (runs.is-bay box bay t small admitted) t now (runs.run box bay t small admitted xs k .stands)
 
     -- demand 3
     pub demand-3-in-bay : (p : Statement) → Spells (t .sequence) p → NoSetpause p
         → map report (tickOutcomes bay from xs) ≡ paper (Rewriting.fresh (program (t .readBack) p)) (ticksTo bay xs)
-    demand-3-in-bay p s plain =
-        let begun = runs.begun box bay t small admitted in
-        let a = begun .here .1 .accepted in
-        let same : p ≡ a .statement = same-statement (t .sequence) p (a .statement) s (a .spelled) in
-        let w = Rewriting.fresh (program (t .readBack) (a .statement)) in
-        rw same
-        (runs.agrees-from bay b t from (begun .here) xs k (subst NoSetpause same plain) w
-        (subst (λ (st : State). TermOf (program (t .readBack) (a .statement)) st w) (sym (begun .from-fresh)) refl))
+    demand-3-in-bay = runs.agrees box bay t small admitted xs k
 
 -- ---- what the claims refuse: a tick that reads the neighbour's state, a sum without the last bay, a part that is not given back, and
 -- a refusal that writes
