@@ -42,7 +42,8 @@ pub record Holds (t : Terms) (ceiling : ℕ) (s : List ℕ) : Type 0 where
 
 -- it holds the same after anything is written at the state or behind it
 module _ (t : Terms) (ceiling : ℕ) (fits : length (t .sequence) ≤ maxBytes) (s : List ℕ) (h : Holds t ceiling s) where
-  pub behind-holds : (at n : ℕ) (bytes : List ℕ) → stateAt ≤ at → at + n ≤ stretchLength → length bytes ≡ n → Holds t ceiling (put at n bytes s)
+  pub behind-holds : (at n : ℕ) (bytes : List ℕ) → stateAt ≤ at → at + n ≤ stretchLength → length bytes ≡ n
+      → Holds t ceiling (put at n bytes s)
   behind-holds at n bytes low high sized =
       let z = h .sized in
       let before = put-before at n bytes s (omega arith) sized in

@@ -1,4 +1,4 @@
--- The box worked by hand, by computation.
+-- The boxes worked by hand, by computation.
 use mathlib.Core.Path.{_≡_, refl}
 use mathlib.Core.List.{[]}
 use Rattle.esterel.specs.Sets.{none, only, member, join, insert, remove}
@@ -21,12 +21,20 @@ use Rattle.demands.specs.Tick.{tickBy}
 use Rattle.box_calls.specs.Stretch.{partOf, vacated, filled}
 use Rattle.box_calls.specs.BayCalls.{bayTickOf, bayReleaseOf, bayAdmitOf}
 use Rattle.box_calls.specs.Box.{emptyBox, present, callOf}
-use Rattle.box_calls.specs.Worked.{requests, expected, elsewhere, expectedElsewhere, shows}
+use Rattle.box_calls.specs.Worked.{otherwise, bays, shares, admissions, elsewhere}
 
-pub worked : shows callOf emptyBox requests ≡ expected
-unfolding shows callOf emptyBox present partOf vacated filled bayTickOf bayReleaseOf bayAdmitOf put zeros leBytes leNumber tickBy checked read front commandOf distinct wellFormed before everyLabel labelsOf subset disjoint valid active activeLabels membersFrom declaredBy commands loopNesting nesting ceiling encodeState decodeState encodeAnswer expand reactBy errorsBy reactionsBy none only member join insert remove
-worked = refl
+pub bays-worked : otherwise callOf emptyBox bays ≡ 0
+unfolding otherwise callOf emptyBox present partOf vacated filled bayTickOf bayReleaseOf bayAdmitOf put zeros leBytes leNumber tickBy checked read front commandOf distinct wellFormed before everyLabel labelsOf subset disjoint valid active activeLabels membersFrom declaredBy commands loopNesting nesting ceiling encodeState decodeState encodeAnswer expand reactBy errorsBy reactionsBy none only member join insert remove
+bays-worked = refl
 
-pub worked-elsewhere : shows callOf [] elsewhere ≡ expectedElsewhere
-unfolding shows callOf
-worked-elsewhere = refl
+pub shares-worked : otherwise callOf emptyBox shares ≡ 0
+unfolding otherwise callOf emptyBox present partOf vacated filled bayReleaseOf bayAdmitOf put zeros leBytes leNumber checked read front commandOf distinct wellFormed before everyLabel labelsOf subset disjoint membersFrom declaredBy commands loopNesting nesting ceiling none only member join insert remove
+shares-worked = refl
+
+pub admissions-worked : otherwise callOf emptyBox admissions ≡ 0
+unfolding otherwise callOf emptyBox present partOf vacated filled bayTickOf bayReleaseOf bayAdmitOf put zeros leBytes leNumber tickBy checked read front commandOf distinct wellFormed before everyLabel labelsOf subset disjoint valid active activeLabels membersFrom declaredBy commands loopNesting nesting ceiling encodeState decodeState encodeAnswer expand reactBy errorsBy reactionsBy none only member join insert remove
+admissions-worked = refl
+
+pub elsewhere-worked : otherwise callOf [] elsewhere ≡ 0
+unfolding otherwise callOf
+elsewhere-worked = refl

@@ -67,7 +67,8 @@ pub not-keepsPart : ¬ InBoxes keepsPart (AdmitsBySum keepsPart)
 unfolding boxAfter callOf emptyBox present storedIn partOf vacated filled bayReleaseOf bayAdmitOf put zeros leBytes leNumber checkOf checked read front commandOf distinct wellFormed before everyLabel labelsOf subset disjoint membersFrom declaredBy commands loopNesting nesting ceiling Sets.none only member join insert remove
 not-keepsPart h =
     let e : _≡_ {A = ℕ} 14 0 =
-    h onesOut (each (omega arith) (each (omega arith) (each tt none))) 2 (omega arith) refl (record { sequence = half; readBack = 0 }) refl .1
+    h onesOut (each (omega arith) (each (omega arith) (each tt none))) 2 (omega arith) refl
+    (record { sequence = half; readBack = 0 }) refl .1
     (let l : 65536 ≤ 65536 = omega arith in l) in
     omega arith
 

@@ -1,7 +1,9 @@
--- A box worked by hand (02, item 8): calls from the empty box on, and of each its number and its answer's code.
-use Prim.Native.Nat.{ℕ, zero, suc, _-_}
+-- Boxes worked by hand (02, item 8): calls, and of each its number and its answer's code.
+use Prim.Native.Nat.{ℕ, zero, suc, _+_, _-_}
+use mathlib.Core.Bool.{Bool, _&&_, cond}
 use mathlib.Core.List.{List, [], _∷_, _++_}
 use lib.ListN.{replicate}
+use lib.Dec.{eqb}
 use Rattle.answers.specs.AnswerRecord.{answerLength, codeIn}
 use Rattle.box_calls.specs.Called.{Called, number, lentAfter, first}
 use Rattle.box_calls.specs.Box.{admit, release, tick}
@@ -24,13 +26,13 @@ dear loops n =
     ++ replicate (n - 1) 0x04
     ++ replicate n 0x00
 
--- ceiling (7 + 6 + 51) * (1 + 7) * 2 ^ 6 = 32,768
+-- ceiling (15 + 6 + 11) * (1 + 15) * 2 ^ 6 = 32,768
 abbrev pub half : List ℕ
-half = dear 7 26
+half = dear 15 6
 
--- ceiling (16 + 6 + 43) * (1 + 16) * 2 ^ 6 = 70,720
+-- ceiling (30 + 6 + 1) * (1 + 30) * 2 ^ 6 = 73,408
 abbrev tooDear : List ℕ
-tooDear = dear 16 22
+tooDear = dear 30 1
 
 -- signal 0 emitted 2 ^ n times, two and two in a row: 3 * 2 ^ n - 1 bytes, ceiling 2 * 2 ^ n - 1
 abbrev twos : (n : ℕ) → List ℕ
@@ -59,102 +61,80 @@ ticked bay = record { bay = bay; call = tick 0 (replicate answerLength 77) }
 abbrev tickedShort : (bay : ℕ) → Request
 tickedShort bay = record { bay = bay; call = tick 0 [] }
 
-abbrev pub requests : List Request
-requests =
-    -- no bay above 7 and no tick of an empty bay, whatever its buffer; too much for the whole box
-    admitted 8 waitsOnce
-    ∷ ticked 0
-    ∷ tickedShort 0
-    ∷ admitted 0 tooDear
-    -- a bay that waits, and its neighbour that is over
-    ∷ admitted 0 waitsOnce
-    ∷ admitted 1 ends
-    ∷ ticked 1
-    ∷ tickedShort 0
-    ∷ ticked 0
-    ∷ ticked 1
-    -- a filled bay is not admitted again, whatever the sequence; a bad sequence is turned down by its row
-    ∷ admitted 0 []
-    ∷ admitted 2 []
-    -- 3 and 1 and 32,768; with another 32,768 too many; without the neighbour still too many, without both 65,536
-    ∷ admitted 7 half
-    ∷ admitted 2 half
-    ∷ released 1
-    ∷ admitted 2 half
-    ∷ ticked 0
-    ∷ released 0
-    ∷ admitted 2 half
-    -- now a ceiling of 1 is too much; a bad sequence is still turned down by its row
-    ∷ admitted 0 ends
-    ∷ admitted 0 []
-    -- a bay taken out and admitted again is fresh
-    ∷ released 7
-    ∷ released 7
-    ∷ admitted 1 waitsOnce
-    ∷ ticked 1
-    -- 383 bytes
-    ∷ admitted 3 (twos 7)
-    ∷ ticked 3
-    -- the same sequence with and without its signal read back
-    ∷ admittedWith 4 waitsIfRead 1
-    ∷ ticked 4
-    ∷ admitted 5 waitsIfRead
-    ∷ ticked 5
-    ∷ []
-
--- a box of another length: no bay above 7 before its length, and its length before the bay
-abbrev pub elsewhere : List Request
-elsewhere = admitted 8 waitsOnce ∷ admitted 0 waitsOnce ∷ ticked 0 ∷ []
-
--- number and code of each call; a call with no answer buffer has code 0, and one that is turned down leaves the buffer
-pub record Shown : Type 0 where
+-- ---- what each call gives
+-- a call, its number and its answer's code; a call with no answer buffer has code 0, and one that is turned down leaves the buffer
+pub record Line : Type 0 where
+  pub request : Request
   pub number : ℕ
   pub code : ℕ
 
-abbrev shown : ℕ → ℕ → Shown
-shown n k = record { number = n; code = k }
+abbrev line : Request → (number code : ℕ) → Line
+line x n k = record { request = x; number = n; code = k }
 
-abbrev pub expected : List Shown
-expected =
-    shown 13 0
-    ∷ shown 13 77
-    ∷ shown 13 0
-    ∷ shown 14 0
-    ∷ shown 0 0
-    ∷ shown 0 0
-    ∷ shown 0 0
-    ∷ shown 1 0
-    ∷ shown 0 1
-    ∷ shown 12 77
-    ∷ shown 13 0
-    ∷ shown 2 0
-    ∷ shown 0 0
-    ∷ shown 14 0
-    ∷ shown 0 0
-    ∷ shown 14 0
-    ∷ shown 0 0
-    ∷ shown 0 0
-    ∷ shown 0 0
-    ∷ shown 14 0
-    ∷ shown 2 0
-    ∷ shown 0 0
-    ∷ shown 13 0
-    ∷ shown 0 0
-    ∷ shown 0 1
-    ∷ shown 0 0
-    ∷ shown 0 0
-    ∷ shown 0 0
-    ∷ shown 0 1
-    ∷ shown 0 0
-    ∷ shown 0 0
+abbrev pub isGiven : Line → Called → Bool
+isGiven x o = eqb (number o) (x .number) && eqb (codeIn (first (lentAfter o))) (x .code)
+
+-- how many of the lines are otherwise, the calls made one after the other
+unfoldable pub otherwise : Calling → List ℕ → List Line → ℕ
+otherwise call box [] = 0
+otherwise call box (x ∷ xs) =
+    cond (isGiven x (call box (x .request .bay) (x .request .call))) 0 1 + otherwise call (afterCall call box (x .request)) xs
+
+abbrev pub bays : List Line
+bays =
+    -- no bay above 7 and no tick of an empty bay, whatever its buffer
+    line (admitted 8 waitsOnce) 13 0
+    ∷ line (ticked 0) 13 77
+    ∷ line (tickedShort 0) 13 0
+    -- a bay that waits, and its neighbour that is over
+    ∷ line (admitted 0 waitsOnce) 0 0
+    ∷ line (admitted 1 ends) 0 0
+    ∷ line (ticked 1) 0 0
+    ∷ line (tickedShort 0) 1 0
+    ∷ line (ticked 0) 0 1
+    ∷ line (ticked 1) 12 77
+    -- a filled bay is not admitted again, whatever the sequence; a bad sequence is turned down by its row
+    ∷ line (admitted 0 []) 13 0
+    ∷ line (admitted 2 []) 2 0
+    -- a bay taken out and admitted again is fresh
+    ∷ line (released 1) 0 0
+    ∷ line (released 1) 13 0
+    ∷ line (admitted 1 waitsOnce) 0 0
+    ∷ line (ticked 1) 0 1
     ∷ []
 
-abbrev pub expectedElsewhere : List Shown
-expectedElsewhere = shown 13 0 ∷ shown 1 0 ∷ shown 1 77 ∷ []
+abbrev pub shares : List Line
+shares =
+    -- too much for the whole box
+    line (admitted 0 tooDear) 14 0
+    -- 3 and 1 and 32,768; with another 32,768 too many; without the neighbour still too many, without both 65,536
+    ∷ line (admitted 0 waitsOnce) 0 0
+    ∷ line (admitted 1 ends) 0 0
+    ∷ line (admitted 7 half) 0 0
+    ∷ line (admitted 2 half) 14 0
+    ∷ line (released 1) 0 0
+    ∷ line (admitted 2 half) 14 0
+    ∷ line (released 0) 0 0
+    ∷ line (admitted 2 half) 0 0
+    -- now a ceiling of 1 is too much; a bad sequence is still turned down by its row
+    ∷ line (admitted 0 ends) 14 0
+    ∷ line (admitted 0 []) 2 0
+    ∷ line (released 7) 0 0
+    ∷ line (admitted 0 ends) 0 0
+    ∷ []
 
-abbrev pub shownBy : Called → Shown
-shownBy o = record { number = number o; code = codeIn (first (lentAfter o)) }
+abbrev pub admissions : List Line
+admissions =
+    -- 383 bytes
+    line (admitted 3 (twos 7)) 0 0
+    ∷ line (ticked 3) 0 0
+    -- the same sequence with its signal read back and without
+    ∷ line (admittedWith 4 waitsIfRead 1) 0 0
+    ∷ line (ticked 4) 0 1
+    ∷ line (admitted 5 waitsIfRead) 0 0
+    ∷ line (ticked 5) 0 0
+    ∷ []
 
-unfoldable pub shows : Calling → List ℕ → List Request → List Shown
-shows call box [] = []
-shows call box (x ∷ xs) = shownBy (call box (x .bay) (x .call)) ∷ shows call (afterCall call box x) xs
+-- bytes of another length than a box: no bay above 7 before their length, and their length before the bay
+abbrev pub elsewhere : List Line
+elsewhere = line (admitted 8 waitsOnce) 13 0 ∷ line (admitted 0 waitsOnce) 1 0 ∷ line (ticked 0) 1 77 ∷ []

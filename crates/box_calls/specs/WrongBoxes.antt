@@ -37,7 +37,8 @@ storedIn zero box = 0
 storedIn (suc n) box = storedIn n box + ceilingIn (stretchOf n box)
 
 abbrev pub keepsPart : Calling
-keepsPart box bay (admit t) = instead 0 (inBox bay box (bayAdmitOf (storedIn bayCount box) (stretchOf bay box) t)) (callOf box bay (admit t))
+keepsPart box bay (admit t) =
+    instead 0 (inBox bay box (bayAdmitOf (storedIn bayCount box) (stretchOf bay box) t)) (callOf box bay (admit t))
 keepsPart box bay release =
     instead 0 (inBox bay box (called 0 (put 0 lengthBytes (zeros lengthBytes) (stretchOf bay box)) [])) (callOf box bay release)
 keepsPart box bay (tick e answer) = callOf box bay (tick e answer)
