@@ -2,7 +2,8 @@
 """The archive holds no constant array (02, item 2): its read-only data is jump tables and nothing else.
 
 An entry of a jump table has four bytes, which a relocation against the code fills; a constant array has bytes that no
-relocation fills. A control object with such an array must be turned down. Usage: archive_test.py ARCHIVE
+relocation fills. Operands of vector instructions, which the compiler puts into sections .rodata.cst16 and no index reaches, are
+not arrays: they are counted apart, and few. A control object with an array must be turned down. Usage: archive_test.py ARCHIVE
 """
 import re
 import subprocess
@@ -14,6 +15,7 @@ static const unsigned char counts[12] = {0, 1, 1, 1, 0, 0, 0, 1, 1, 0, 1, 1};
 unsigned char count(unsigned char b) { return b < 12 ? counts[b] : 255; }
 """
 ENTRY = 4  # bytes of an entry: R_X86_64_PC32
+OPERANDS = 64  # bytes of operands that the archive may have
 
 
 def printed(*words):
@@ -44,10 +46,11 @@ def constant_bytes(path, show):
     for name, size in sections(path):
         if not re.match(r"\.(rodata|data|bss|tbss|tdata)", name) or size == 0:
             continue
+        operands = size if name == ".rodata.cst16" and size <= OPERANDS else 0
         needed = ENTRY * tables.get(name, 0) if name.startswith(".rodata") else 0
-        over += size - needed
+        over += size - needed - operands
         if show:
-            print(f"{name:44} {size:4} bytes, {needed:4} of jump tables")
+            print(f"{name:44} {size:4} bytes, {needed:4} of jump tables, {operands:4} of operands")
     return over
 
 
