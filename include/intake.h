@@ -18,7 +18,7 @@
 
 /* The version of this interface. The first number moves when a host must change. */
 #define INTAKE_VERSION_MAJOR 1
-#define INTAKE_VERSION_MINOR 0
+#define INTAKE_VERSION_MINOR 1
 #define INTAKE_VERSION_PATCH 0
 #define INTAKE_VERSION (INTAKE_VERSION_MAJOR * 10000 + INTAKE_VERSION_MINOR * 100 + INTAKE_VERSION_PATCH)
 
