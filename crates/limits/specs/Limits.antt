@@ -54,3 +54,10 @@ takenBytes = 4
 -- how many numbers those hold
 abbrev pub takenCount : ℕ
 takenCount = 256 ^ takenBytes
+
+-- ---- 02, item 9: how many positions a bay keeps, and the bytes of a position's name
+abbrev pub maxPositions : ℕ
+maxPositions = 16
+
+abbrev pub nameBytes : ℕ
+nameBytes = 4
