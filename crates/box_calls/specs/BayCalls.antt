@@ -1,16 +1,18 @@
--- The calls of a bay on its stretch (02, item 8): the number, the stretch after the call and the lent buffers after it.
+-- The calls of a bay on its stretch (02, items 8 and 9): the number, the stretch after the call and the lent buffers after it.
 use Prim.Native.Nat.{ℕ, _+_}
 use mathlib.Core.Bool.{cond}
 use mathlib.Core.List.{List, [], _∷_}
-use lib.Dec.{leb}
+use mathlib.Core.Option.{Option, some, none}
+use lib.Dec.{eqb, leb}
 use Rattle.esterel.specs.Ceiling.{ceiling}
 use Rattle.sequence.specs.Program.{program}
 use Rattle.sequence.specs.Check.{Checked, sound, bad, checked}
 use Rattle.parts.specs.Parts.{put}
-use Rattle.states.specs.StateRecord.{stateLength}
+use Rattle.states.specs.StateRecord.{stateLength, stateRecord, phaseIn, labelsIn}
+use Rattle.positions.specs.Table.{tableLength, lookup, Kept, kept, saveOf, forgetOf}
 use Rattle.demands.specs.Tick.{Outcome, outcome, tickOf}
 use Rattle.box_calls.specs.Called.{Called, called}
-use Rattle.box_calls.specs.Stretch.{stateAt, sequenceIn, readBackIn, stateIn, vacated, Terms, filled}
+use Rattle.box_calls.specs.Stretch.{stateAt, positionsAt, sequenceIn, readBackIn, stateIn, positionsIn, vacated, Terms, filled}
 
 -- 02, item 8: 'a shared ceiling of 65,536 reactions an instant'
 abbrev pub sharedCeiling : ℕ
@@ -36,3 +38,24 @@ byCheck present s t (sound p) =
 
 unfoldable pub bayAdmitOf : (present : ℕ) (s : List ℕ) → Terms → Called
 bayAdmitOf present s t = byCheck present s t (checked (t .sequence) (t .readBack))
+
+-- ---- positions (02, item 9)
+-- what a call makes of the table, put where the stretch has it
+abbrev pub positionsKept : List ℕ → Kept → Called
+positionsKept s (kept number t) = called number (put positionsAt tableLength t s) []
+
+-- 'the label set of a waiting machine': 15 for one that is not waiting, then 16 for a seventeenth name
+unfoldable pub baySaveOf : (s : List ℕ) (name : ℕ) → Called
+baySaveOf s name =
+    cond (eqb (phaseIn (stateIn s)) 1) (positionsKept s (saveOf name (labelsIn (stateIn s)) (positionsIn s))) (called 15 s [])
+
+unfoldable pub bayForgetOf : (s : List ℕ) (name : ℕ) → Called
+bayForgetOf s name = positionsKept s (forgetOf name (positionsIn s))
+
+-- 'Coming back sets phase and labels', whatever the state was
+abbrev pub restored : List ℕ → Option ℕ → Called
+restored s none = called 15 s []
+restored s (some labels) = called 0 (put stateAt stateLength (stateRecord 1 labels) s) []
+
+unfoldable pub bayRestoreOf : (s : List ℕ) (name : ℕ) → Called
+bayRestoreOf s name = restored s (lookup name (positionsIn s))

@@ -1,4 +1,5 @@
--- The ticks of one bay in a list of calls to a box, in the words of the three demands, up to the bay's release.
+-- The ticks of one bay in a list of calls to a box, in the words of the three demands, up to the next coming back to a position or the
+-- taking out of the bay.
 use Prim.Native.Nat.{ℕ}
 use mathlib.Core.Path.{_≡_}
 use mathlib.Core.Logic.{_≢_}
@@ -9,7 +10,7 @@ use Rattle.demands.specs.Tick.{Outcome, outcome}
 use Rattle.demands.specs.Paper as Paper
 use Rattle.box_calls.specs.Called.{Called, number, memoryAfter, lentAfter, first}
 use Rattle.box_calls.specs.Stretch.{stateIn}
-use Rattle.box_calls.specs.Box.{stretchOf, Call, admit, release, tick, callOf}
+use Rattle.box_calls.specs.Box.{stretchOf, Call, admit, release, tick, save, restore, forget, callOf}
 use Rattle.box_calls.specs.Lists.{Request, afterCall}
 
 -- the ticks to a bay: input and answer buffer of each
@@ -17,6 +18,9 @@ abbrev pub withTick : Call → List Paper.Call → List Paper.Call
 withTick (admit t) cs = cs
 withTick release cs = cs
 withTick (tick e answer) cs = record { input = e; buffer = answer } ∷ cs
+withTick (save name) cs = cs
+withTick (restore name) cs = cs
+withTick (forget name) cs = cs
 
 unfoldable pub ticksTo : (bay : ℕ) → List Request → List Paper.Call
 ticksTo bay [] = []
@@ -30,6 +34,9 @@ abbrev pub withOutcome : (bay : ℕ) → Call → Called → List Outcome → Li
 withOutcome bay (admit t) o os = os
 withOutcome bay release o os = os
 withOutcome bay (tick e answer) o os = outcomeOf bay o ∷ os
+withOutcome bay (save name) o os = os
+withOutcome bay (restore name) o os = os
+withOutcome bay (forget name) o os = os
 
 unfoldable pub tickOutcomes : (bay : ℕ) → List ℕ → List Request → List Outcome
 tickOutcomes bay box [] = []
@@ -38,11 +45,14 @@ tickOutcomes bay box (x ∷ xs) =
     (withOutcome bay (x .call) (callOf box bay (x .call)) (tickOutcomes bay (afterCall callOf box x) xs))
     (tickOutcomes bay (afterCall callOf box x) xs)
 
--- a call that does not take the bay out; one that is turned down does not
+-- a call that neither takes the bay out nor comes back to a position; one that is turned down does neither
 abbrev pub Onward : Call → Called → Type 0
 Onward (admit t) o = Unit {0}
 Onward release o = number o ≢ 0
 Onward (tick e answer) o = Unit {0}
+Onward (save name) o = Unit {0}
+Onward (restore name) o = number o ≢ 0
+Onward (forget name) o = Unit {0}
 
 -- every call of the list to this bay is
 pub data Onwards (bay : ℕ) : List ℕ → List Request → Type 0 where

@@ -6,7 +6,7 @@ use mathlib.Core.List.{List, [], _∷_}
 use lib.Dec.{eqb}
 use Rattle.box_calls.specs.Called.{Called, number, memoryAfter, lentAfter}
 use Rattle.box_calls.specs.Stretch.{Terms}
-use Rattle.box_calls.specs.Box.{Call, admit, release, tick}
+use Rattle.box_calls.specs.Box.{Call, admit, release, tick, save, restore, forget}
 
 -- box, bay, call
 abbrev pub Calling : Type 0
@@ -35,6 +35,9 @@ abbrev pub askedBy : Call → Called → Asked
 askedBy (admit t) o = admission t (number o)
 askedBy release o = other release
 askedBy (tick e answer) o = other (tick e answer)
+askedBy (save name) o = other (save name)
+askedBy (restore name) o = other (restore name)
+askedBy (forget name) o = other (forget name)
 
 unfoldable pub asked : Calling → (bay : ℕ) → List ℕ → List Request → List Asked
 asked call bay box [] = []

@@ -4,17 +4,20 @@ use mathlib.Core.Path.{_≡_}
 use mathlib.Core.Bool.{Bool, true, false, cond}
 use mathlib.Core.List.{List, [], _∷_}
 use lib.Dec.{eqb}
-use Rattle.limits.specs.Limits.{signalBytes}
+use Rattle.limits.specs.Limits.{signalBytes, nameBytes}
 use Rattle.answers.specs.AnswerRecord.{takenIn}
 use Rattle.box_calls.specs.Called.{Called, number, lentAfter, first}
-use Rattle.box_calls.specs.Box.{Call, admit, release, tick}
+use Rattle.box_calls.specs.Box.{Call, admit, release, tick, save, restore, forget}
 use Rattle.box_calls.specs.Lists.{Calling, Request, afterCall}
 
--- a read-back set is one of 32 signals, as the type of the argument has it
+-- a read-back set is one of 32 signals and a name has 32 bits, as the types of the arguments have it
 abbrev pub Sendable : Call → Type 0
 Sendable (admit t) = t .readBack < 256 ^ signalBytes
 Sendable release = Unit {0}
 Sendable (tick e answer) = Unit {0}
+Sendable (save name) = name < 256 ^ nameBytes
+Sendable (restore name) = Unit {0}
+Sendable (forget name) = Unit {0}
 
 pub data AllSendable : List Request → Type 0 where
   none : AllSendable []

@@ -9,6 +9,7 @@ use Rattle.limits.specs.Limits.{maxBytes, signalBytes, takenBytes}
 use Rattle.numbers.specs.Bytes.{leBytes, leNumber}
 use Rattle.parts.specs.Parts.{slot, put, zeros}
 use Rattle.states.specs.StateRecord.{stateLength}
+use Rattle.positions.specs.Table.{tableLength}
 
 -- ---- where the fields begin
 -- fixed by the admission: the length of the sequence (0: the bay is empty), the sequence, its read-back set and its ceiling
@@ -32,16 +33,17 @@ serviceAt = ceilingAt + takenBytes
 abbrev pub stateAt : ℕ
 stateAt = serviceAt + signalBytes
 
--- room for item 10's number of the last instant and for item 9's sixteen positions, each a name and a state record
+-- room for item 10's number of the last instant
 abbrev pub countAt : ℕ
 countAt = stateAt + stateLength
 
+-- moved by calls: the positions (02, item 9)
 abbrev pub positionsAt : ℕ
 positionsAt = countAt + 4
 
 -- what a release clears ends here, and room for item 12's ledger begins: 32 totals of 4 bytes
 abbrev pub bayLength : ℕ
-bayLength = positionsAt + 16 * (4 + stateLength)
+bayLength = positionsAt + tableLength
 
 abbrev pub stretchLength : ℕ
 stretchLength = bayLength + 32 * 4
@@ -64,6 +66,9 @@ ceilingIn s = leNumber (slot ceilingAt takenBytes s)
 
 abbrev pub stateIn : List ℕ → List ℕ
 stateIn s = slot stateAt stateLength s
+
+abbrev pub positionsIn : List ℕ → List ℕ
+positionsIn s = slot positionsAt tableLength s
 
 -- the part of the shared ceiling that the bay has
 unfoldable pub partOf : List ℕ → ℕ
