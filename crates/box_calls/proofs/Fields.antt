@@ -24,7 +24,7 @@ pub length-vacated : (s : List ℕ) → length s ≡ stretchLength → length (v
 unfolding vacated
 length-vacated s h = length-put 0 bayLength (zeros bayLength) s (omega arith) (length-zeros bayLength) ∙ h
 
-slot-vacated : (i m : ℕ) (s : List ℕ) → i + m ≤ bayLength → slot i m (vacated s) ≡ zeros m
+pub slot-vacated : (i m : ℕ) (s : List ℕ) → i + m ≤ bayLength → slot i m (vacated s) ≡ zeros m
 unfolding vacated put
 slot-vacated i m s h =
     slot-front i m (zeros bayLength) (drop bayLength s) (omega (arith, length-zeros bayLength)) ∙ slot-zeros i m bayLength h

@@ -28,15 +28,16 @@ use Rattle.demands.proofs.Agreement.{all-ticks}
 use Rattle.demands.proofs.Demand1.{demand-1}
 use Rattle.demands.proofs.Calls.{demand-2-call}
 use Rattle.box_calls.specs.Called.{Called, called, number, memoryAfter, lentAfter, first}
-use Rattle.box_calls.specs.Stretch.{stretchLength, isEmpty, stateIn, Terms}
+use Rattle.box_calls.specs.Stretch.{positionsAt, stretchLength, isEmpty, stateIn, Terms}
 use Rattle.box_calls.specs.BayCalls.{stateKept, bayTickOf, bayAdmitOf}
-use Rattle.box_calls.specs.Box.{bayCount, boxLength, stretchOf, present, Call, admit, release, tick, callOf}
+use Rattle.box_calls.specs.Box.{bayCount, boxLength, stretchOf, present, Call, admit, release, tick, save, restore, forget, callOf}
 use Rattle.box_calls.specs.Lists.{Request, afterCall, boxAfter}
 use Rattle.box_calls.specs.Shares.{Sendable}
 use Rattle.box_calls.specs.BayRuns.{ticksTo, outcomeOf, tickOutcomes, Onward, Onwards, done, more}
 use Rattle.box_calls.proofs.Fields.{Holds}
+use Rattle.box_theory.proofs.Moves.{Moved, save-moved, forget-moved}
 use Rattle.box_theory.proofs.Bays.{ceilingFor, kept-number, Admission, turned-down, taken, admission}
-use Rattle.box_theory.proofs.Standing.{Standing, not-empty, bay-tick, tick-told, tick-state, tick-stands, fresh-state, filled-stands, cleared-fresh}
+use Rattle.box_theory.proofs.Standing.{Standing, not-empty, behind-stands, bay-tick, tick-told, tick-state, tick-stands, fresh-state, filled-stands, cleared-fresh}
 use Rattle.box_theory.proofs.Stretches.{result, answered-inside, refused-leaves, stretch-sized, own, own-stretch, same-length, others-stay}
 
 eta : (o : Outcome) → outcome (demands.number o) (stateAfterwards o) (answerAfterwards o) ≡ o
@@ -114,18 +115,35 @@ module _ (bay : ℕ) (b : bay < bayCount) (t : Terms) where
   abbrev From : List ℕ → List Paper.Call → List Outcome
   From state = outcomes tickOf (t .sequence) (t .readBack) state
 
-  -- a call that leaves the stretch and is no tick of the bay
-  stays-run : (box : List ℕ) → Here box → (x : Request) (xs : List Request) → stretchOf bay (afterCall callOf box x) ≡ stretchOf bay box
+  -- a call that leaves the state record and is no tick of the bay
+  steady-run : (box : List ℕ) → Here box → (x : Request) (xs : List Request) → Standing t (stretchOf bay (afterCall callOf box x))
+      → stateIn (stretchOf bay (afterCall callOf box x)) ≡ stateIn (stretchOf bay box)
       → tickOutcomes bay box (x ∷ xs) ≡ tickOutcomes bay (afterCall callOf box x) xs → ticksTo bay (x ∷ xs) ≡ ticksTo bay xs
       → (Here (afterCall callOf box x) → Run (afterCall callOf box x) xs) → Run box (x ∷ xs)
   unfolding boxAfter
-  stays-run box h x xs e o c r =
-      let k = r (same-length box (x .bay) (x .call) ∙ h .0, subst (Standing t) (sym e) (h .1)) in
+  steady-run box h x xs v e o c r =
+      let k = r (same-length box (x .bay) (x .call) ∙ h .0, v) in
       record {
-        ticks = o ∙ k .ticks ∙ ap₂ From (ap stateIn e) (sym c);
+        ticks = o ∙ k .ticks ∙ ap₂ From e (sym c);
         never-11 = λ y m. k .never-11 y (subst (List·Memᴰ y) o m);
         stands = k .stands;
       }
+
+  -- one that leaves the stretch
+  stays-run : (box : List ℕ) → Here box → (x : Request) (xs : List Request) → stretchOf bay (afterCall callOf box x) ≡ stretchOf bay box
+      → tickOutcomes bay box (x ∷ xs) ≡ tickOutcomes bay (afterCall callOf box x) xs → ticksTo bay (x ∷ xs) ≡ ticksTo bay xs
+      → (Here (afterCall callOf box x) → Run (afterCall callOf box x) xs) → Run box (x ∷ xs)
+  stays-run box h x xs e = steady-run box h x xs (subst (Standing t) (sym e) (h .1)) (ap stateIn e)
+
+  -- one to the bay that writes behind the state
+  behind-run : (box : List ℕ) → Here box → (c : Call) (xs : List Request) → Moved positionsAt (stretchOf bay box) (result box bay c)
+      → tickOutcomes bay box (record { bay = bay; call = c } ∷ xs) ≡ tickOutcomes bay (memoryAfter (callOf box bay c)) xs
+      → ticksTo bay (record { bay = bay; call = c } ∷ xs) ≡ ticksTo bay xs
+      → (Here (memoryAfter (callOf box bay c)) → Run (memoryAfter (callOf box bay c)) xs) → Run box (record { bay = bay; call = c } ∷ xs)
+  behind-run box h c xs m =
+      let own = own-stretch box bay c b (h .0) in
+      let k = behind-stands t (stretchOf bay box) (h .1) m in
+      steady-run box h (record { bay = bay; call = c }) xs (subst (Standing t) (sym own) (k .0)) (ap stateIn own ∙ k .1)
 
   tick-run : (box : List ℕ) → Here box → (e : ℕ) (answer : List ℕ) (xs : List Request)
       → (Here (memoryAfter (callOf box bay (tick e answer))) → Run (memoryAfter (callOf box bay (tick e answer))) xs)
@@ -156,6 +174,15 @@ module _ (bay : ℕ) (b : bay < bayCount) (t : Terms) where
       stays-run box h (record { bay = bay; call = release }) xs (left-alone box h release n)
       (rw (eq-eqb bay bay refl)) (rw (eq-eqb bay bay refl)) r
   own-run box h (tick e answer) xs n r = tick-run box h e answer xs r
+  own-run box h (save name) xs n r =
+      behind-run box h (save name) xs (rw (not-empty t (stretchOf bay box) (h .1)) (save-moved (stretchOf bay box) name))
+      (rw (eq-eqb bay bay refl)) (rw (eq-eqb bay bay refl)) r
+  own-run box h (restore name) xs n r =
+      stays-run box h (record { bay = bay; call = restore name }) xs (left-alone box h (restore name) n)
+      (rw (eq-eqb bay bay refl)) (rw (eq-eqb bay bay refl)) r
+  own-run box h (forget name) xs n r =
+      behind-run box h (forget name) xs (rw (not-empty t (stretchOf bay box) (h .1)) (forget-moved (stretchOf bay box) name))
+      (rw (eq-eqb bay bay refl)) (rw (eq-eqb bay bay refl)) r
 
   pub runs : (box : List ℕ) → Here box → (xs : List Request) → Onwards bay box xs → Run box xs
   unfolding tickOutcomes ticksTo outcomes boxAfter

@@ -33,8 +33,9 @@ use Rattle.demands.proofs.Demand1.{demand-1}
 use Rattle.box_calls.specs.Called.{Called, called, number, memoryAfter}
 use Rattle.box_calls.specs.Stretch.{stateAt, stretchLength, sequenceIn, readBackIn, stateIn, Terms, filled}
 use Rattle.box_calls.specs.BayCalls.{sharedCeiling, stateKept, bayTickOf, bayReleaseOf, bayAdmitOf}
-use Rattle.box_calls.specs.Box.{Call, admit, release, tick, buffers, bayCall, isFor}
+use Rattle.box_calls.specs.Box.{Call, admit, release, tick, save, restore, forget, buffers, bayCall, isFor}
 use Rattle.box_calls.proofs.Fields.{length-vacated, length-filled}
+use Rattle.box_theory.proofs.Moves.{moved-refused, moved-length, save-moved, forget-moved, restore-moved}
 
 abbrev pub ceilingFor : Terms → ℕ
 ceilingFor t = ceilingOf (t .readBack) (checked (t .sequence) (t .readBack))
@@ -142,7 +143,7 @@ module _ (k : ℕ) (s : List ℕ) where
   abbrev Leaves : Call → Called → Type 0
   Leaves c o = number o ≢ 0 → o ≡ called (number o) s (buffers c)
 
-  bay-refused : (c : Call) → Leaves c (bayCall k c s)
+  pub bay-refused : (c : Call) → Leaves c (bayCall k c s)
   unfolding bayReleaseOf
   bay-refused (admit t) h = go (admission k s t)
     where
@@ -151,6 +152,9 @@ module _ (k : ℕ) (s : List ℕ) where
       go (taken c r e) = absurd (h (ap number e))
   bay-refused release h = absurd (h refl)
   bay-refused (tick e answer) h = tick-refused s e answer h
+  bay-refused (save name) h = moved-refused (save-moved s name) h
+  bay-refused (restore name) h = moved-refused (restore-moved s name) h
+  bay-refused (forget name) h = moved-refused (forget-moved s name) h
 
   pub stretch-refused : (c : Call) → Leaves c (onStretch k c s)
   stretch-refused c = go (isFor c s)
@@ -170,6 +174,9 @@ module _ (k : ℕ) (s : List ℕ) where
           ∙ length-filled t (ceilingFor t) s z (bounds t (accepted (t .sequence) (t .readBack) c) .1)
   bay-sized release z = length-vacated s z
   bay-sized (tick e answer) z = tick-keeps-length s e answer z
+  bay-sized (save name) z = moved-length (save-moved s name) z
+  bay-sized (restore name) z = moved-length (restore-moved s name) z
+  bay-sized (forget name) z = moved-length (forget-moved s name) z
 
   pub sized-after : (c : Call) → length s ≡ stretchLength → length (memoryAfter (onStretch k c s)) ≡ stretchLength
   sized-after c z = go (isFor c s)

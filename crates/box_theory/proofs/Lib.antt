@@ -1,6 +1,8 @@
 pub mod Sums
+pub mod Moves
 pub mod Bays
 pub mod Standing
+pub mod Positions
 pub mod Stretches
 pub mod Numbers
 pub mod Isolation

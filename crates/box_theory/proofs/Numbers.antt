@@ -17,8 +17,9 @@ use Rattle.demands.proofs.Demand1.{demand-1}
 use Rattle.box_calls.specs.Called.{called, number}
 use Rattle.box_calls.specs.Stretch.{lengthIn, isEmpty, sequenceIn, readBackIn, stateIn, Terms, filled}
 use Rattle.box_calls.specs.BayCalls.{sharedCeiling, byCheck, bayTickOf, bayReleaseOf, bayAdmitOf}
-use Rattle.box_calls.specs.Box.{bayCount, boxLength, stretchOf, present, Call, admit, release, tick, buffers, bayCall, isFor, callOf}
+use Rattle.box_calls.specs.Box.{bayCount, boxLength, stretchOf, present, Call, admit, release, tick, save, restore, forget, buffers, bayCall, isFor, callOf}
 use Rattle.box_calls.specs.Claims.{NotThere, Thirteen, NoBox}
+use Rattle.box_theory.proofs.Moves.{moved-not-13, save-moved, forget-moved, restore-moved}
 use Rattle.box_theory.proofs.Bays.{ceilingFor, kept-number, inner, admit-by-sum, onStretch}
 use Rattle.box_theory.proofs.Stretches.{no-bay, other-box, own}
 
@@ -71,6 +72,9 @@ bay-not-13 k (tick e answer) s n =
     let rows = demand-1 .tick-by-rows (sequenceIn s) (stateIn s) e (readBackIn s) answer in
     let r = rows .refusal 13 (λ z. omega arith) .0 (sym (kept-number s (inner s e answer)) ∙ n) .0 in
     omega (arith, tick-range 13 r)
+bay-not-13 k (save name) s n = moved-not-13 (save-moved s name) n
+bay-not-13 k (restore name) s n = moved-not-13 (restore-moved s name) n
+bay-not-13 k (forget name) s n = moved-not-13 (forget-moved s name) n
 
 -- ---- a bay that is not there for a call
 not-true : (b : Bool) → not b ≡ false → b ≡ true
@@ -84,6 +88,9 @@ not-there : (c : Call) (s : List ℕ) → (isFor c s ≡ false) ↔ NotThere c s
 not-there (admit t) s = (eqb-false (lengthIn s) 0, ne-eqb (lengthIn s) 0)
 not-there release s = is-empty s
 not-there (tick e answer) s = is-empty s
+not-there (save name) s = is-empty s
+not-there (restore name) s = is-empty s
+not-there (forget name) s = is-empty s
 
 pub thirteen : Thirteen callOf
 thirteen box z bay c =

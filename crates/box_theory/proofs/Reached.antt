@@ -14,24 +14,27 @@ use Rattle.numbers.specs.Bytes.{leNumber}
 use Rattle.sequence.specs.Check.{checkOf}
 use Rattle.parts.specs.Parts.{zeros}
 use Rattle.parts.proofs.Zeros.{length-zeros, slot-zeros, zeros-number}
+use Rattle.positions.specs.Table.{tableLength}
 use Rattle.demands.proofs.Sequence.{accepted}
 use Rattle.box_calls.specs.Called.{called, number, memoryAfter}
-use Rattle.box_calls.specs.Stretch.{stretchLength, lengthIn, sequenceIn, readBackIn, ceilingIn, partOf, vacated, Terms, filled}
+use Rattle.box_calls.specs.Stretch.{positionsAt, stretchLength, lengthIn, sequenceIn, readBackIn, ceilingIn, positionsIn, partOf, vacated, Terms, filled}
 use Rattle.box_calls.specs.BayCalls.{sharedCeiling, bayReleaseOf, bayAdmitOf}
-use Rattle.box_calls.specs.Box.{bayCount, boxLength, emptyBox, stretchOf, present, Call, admit, release, tick, buffers, bayCall, isFor, callOf}
+use Rattle.box_calls.specs.Box.{bayCount, boxLength, emptyBox, stretchOf, present, Call, admit, release, tick, save, restore, forget, buffers, bayCall, isFor, callOf}
 use Rattle.box_calls.specs.Lists.{Request, boxAfter}
 use Rattle.box_calls.specs.Shares.{Sendable, AllSendable, none, each}
 use Rattle.box_calls.specs.Claims.{ceilingHeld}
-use Rattle.box_calls.proofs.Fields.{length-vacated, vacated-empty}
+use Rattle.box_calls.proofs.Fields.{length-vacated, slot-vacated, vacated-empty, filled-zeros}
 use Rattle.box_theory.proofs.Sums.{sumOf, one-changed}
-use Rattle.box_theory.proofs.Bays.{ceilingFor, passed, Admission, turned-down, taken, admission, onStretch, kept-number}
-use Rattle.box_theory.proofs.Standing.{Standing, not-empty, sequence-held, inner, bay-tick, tick-told, tick-stands, filled-stands}
+use Rattle.box_theory.proofs.Moves.{save-moved, forget-moved}
+use Rattle.box_theory.proofs.Bays.{ceilingFor, bounds, passed, Admission, turned-down, taken, admission, onStretch, kept-number}
+use Rattle.box_theory.proofs.Standing.{Standing, not-empty, sequence-held, behind-stands, inner, bay-tick, tick-told, tick-stands, filled-stands}
+use Rattle.box_theory.proofs.Positions.{Positioned, positioned-zeros, positioned-after, restore-stands}
 use Rattle.box_theory.proofs.Stretches.{Case, aside, inside, cases, no-bay, own, own-stretch, same-length, others-stay}
 
 -- ---- a stretch that calls have written
 pub data Sound (s : List ℕ) : Type 0 where
-  vacant : length s ≡ stretchLength → lengthIn s ≡ 0 → Sound s
-  held : (t : Terms) → Standing t s → Sound s
+  vacant : length s ≡ stretchLength → lengthIn s ≡ 0 → positionsIn s ≡ zeros tableLength → Sound s
+  held : (t : Terms) → Standing t s → Positioned t (positionsIn s) → Sound s
 
 part-vacant : (s : List ℕ) → lengthIn s ≡ 0 → partOf s ≡ 0
 unfolding partOf
@@ -42,17 +45,17 @@ unfolding partOf
 part-held t s h = rw (not-empty t s h) (h .holds .part)
 
 sized : (s : List ℕ) → Sound s → length s ≡ stretchLength
-sized s (vacant z e) = z
-sized s (held t h) = h .holds .sized
+sized s (vacant z e c) = z
+sized s (held t h v) = h .holds .sized
 
 -- a filled bay holds what it stands at
-pub filled-bay : (s : List ℕ) → Sound s → isFor release s ≡ true → (t : Terms) × Standing t s
-filled-bay s (vacant z e) h = absurd (true≢false (sym (rw (eq-eqb (lengthIn s) 0 e) at h)))
-filled-bay s (held t k) h = (t, k)
+pub filled-bay : (s : List ℕ) → Sound s → isFor release s ≡ true → (t : Terms) × Standing t s × Positioned t (positionsIn s)
+filled-bay s (vacant z e c) h = absurd (true≢false (sym (rw (eq-eqb (lengthIn s) 0 e) at h)))
+filled-bay s (held t k v) h = (t, k, v)
 
 pub stored : (s : List ℕ) → Sound s → lengthIn s ≢ 0 → (checkOf (sequenceIn s) (readBackIn s) ≡ 0) × (ceilingIn s ≡ ceilingHeld s)
-stored s (vacant z e) n = absurd (n e)
-stored s (held t h) n = rw (sequence-held t s h, h .holds .set) (passed t (h .accepted), h .holds .part)
+stored s (vacant z e c) n = absurd (n e)
+stored s (held t h v) n = rw (sequence-held t s h, h .holds .set) (passed t (h .accepted), h .holds .part)
 
 -- ---- a call keeps it so, and the sum within the shared ceiling
 record Step (k : ℕ) (s s′ : List ℕ) : Type 0 where
@@ -69,21 +72,38 @@ module _ (k : ℕ) (s : List ℕ) (u : k ≤ sharedCeiling) (v : Sound s) where
       go : Admission k s t (bayAdmitOf k s t) → Step k s (memoryAfter (bayAdmitOf k s t))
       go (turned-down n z e) = subst (Step k s) (sym (ap memoryAfter e)) stays
       go (taken c room e) =
-          let f = filled-stands t (accepted (t .sequence) (t .readBack) c) s (sized s v) r in
+          let a = accepted (t .sequence) (t .readBack) c in
+          let f = filled-stands t a s (sized s v) r in
+          let empty = filled-zeros t (ceilingFor t) s (sized s v) (bounds t a .1) positionsAt tableLength (omega arith) (omega arith) in
           subst (Step k s) (sym (ap memoryAfter e))
-          (record { sound = held t f; share = omega (arith, part-held t (filled t (ceilingFor t) s) f) })
+          (record { sound = held t f (subst (Positioned t) (sym empty) (positioned-zeros t)); share = omega (arith, part-held t (filled t (ceilingFor t) s) f) })
+
+  -- a call to a filled bay that stays filled
+  filled-step : (c : Call) → Sendable c → isFor release s ≡ true
+      → ((t : Terms) → Standing t s → Positioned t (positionsIn s) → Standing t (memoryAfter (bayCall k c s)))
+      → Step k s (memoryAfter (bayCall k c s))
+  filled-step c r i stands =
+      let f = filled-bay s v i in
+      let t = f .0 in
+      let g = stands t (f .1) (f .2) in
+      let after = memoryAfter (bayCall k c s) in
+      record {
+        sound = held t g (positioned-after t s (f .1) (f .2) k c r);
+        share = omega (arith, part-held t s (f .1), part-held t after g);
+      }
 
   bay-step : (c : Call) → Sendable c → isFor c s ≡ true → Step k s (memoryAfter (bayCall k c s))
   unfolding bayReleaseOf
   bay-step (admit t) r i = admit-step t r
   bay-step release r i =
       let e = vacated-empty s in
-      record { sound = vacant (length-vacated s (sized s v)) e; share = omega (arith, part-vacant (vacated s) e) }
+      let none = slot-vacated positionsAt tableLength s (omega arith) in
+      record { sound = vacant (length-vacated s (sized s v)) e none; share = omega (arith, part-vacant (vacated s) e) }
   bay-step (tick e answer) r i =
-      let f = filled-bay s v i in
-      let g = tick-stands (f .0) s (f .1) e answer in
-      let after = memoryAfter (bayCall k (tick e answer) s) in
-      record { sound = held (f .0) g; share = omega (arith, part-held (f .0) s (f .1), part-held (f .0) after g) }
+      filled-step (tick e answer) r i (λ t h q. tick-stands t s h e answer)
+  bay-step (save name) r i = filled-step (save name) r i (λ t h q. behind-stands t s h (save-moved s name) .0)
+  bay-step (restore name) r i = filled-step (restore name) r i (λ t h q. restore-stands t s h q name)
+  bay-step (forget name) r i = filled-step (forget name) r i (λ t h q. behind-stands t s h (forget-moved s name) .0)
 
   call-step : (c : Call) → Sendable c → Step k s (memoryAfter (onStretch k c s))
   call-step c r = go (isFor c s) refl
@@ -126,6 +146,9 @@ empty-stretch bay b = slot-zeros (bay * stretchLength) stretchLength boxLength (
 zeros-empty : lengthIn (zeros stretchLength) ≡ 0
 zeros-empty = ap leNumber (slot-zeros 0 2 stretchLength (omega arith)) ∙ zeros-number 2
 
+zeros-positions : positionsIn (zeros stretchLength) ≡ zeros tableLength
+zeros-positions = slot-zeros positionsAt tableLength stretchLength (omega arith)
+
 nothing-present : (n : ℕ) → n ≤ bayCount → present n emptyBox ≡ 0
 unfolding present
 nothing-present zero l = refl
@@ -136,7 +159,7 @@ pub kept-empty : Kept emptyBox
 unfolding emptyBox
 kept-empty = record {
   sized-box = length-zeros boxLength;
-  sound = λ bay b. subst Sound (sym (empty-stretch bay b)) (vacant (length-zeros stretchLength) zeros-empty);
+  sound = λ bay b. subst Sound (sym (empty-stretch bay b)) (vacant (length-zeros stretchLength) zeros-empty zeros-positions);
   under = omega (arith, nothing-present bayCount (omega arith));
 }
 

@@ -25,10 +25,13 @@ use Rattle.demands.specs.Demands as demands
 use Rattle.demands.specs.Demands.{stateAfterwards, cleared}
 use Rattle.demands.proofs.Sequence.{Accepted, tick-at, tick-short, recorded-fresh, recorded-resumed}
 use Rattle.demands.proofs.Ceiling.{most}
-use Rattle.box_calls.specs.Called.{memoryAfter}
-use Rattle.box_calls.specs.Stretch.{sequenceAt, stateAt, stretchLength, lengthIn, isEmpty, sequenceIn, stateIn, Terms, filled}
+use Rattle.parts.proofs.Parts.{put-before}
+use Rattle.box_calls.specs.Called.{Called, memoryAfter}
+use Rattle.box_calls.specs.Stretch.{sequenceAt, stateAt, positionsAt, stretchLength, lengthIn, isEmpty, sequenceIn, stateIn, Terms, filled}
 use Rattle.box_calls.specs.BayCalls.{stateKept, bayTickOf}
-use Rattle.box_calls.proofs.Fields.{Holds, moved-holds, moved-state, filled-holds, filled-fresh}
+use Rattle.box_calls.proofs.Fields.{Holds, behind-holds, moved-holds, moved-state, filled-holds, filled-fresh}
+use Rattle.box_theory.proofs.Moves as Moves
+use Rattle.box_theory.proofs.Moves.{Moved, refused}
 use Rattle.box_theory.proofs.Bays.{ceilingFor, bounds, kept-after}
 
 pub record Standing (t : Terms) (s : List ℕ) : Type 0 where
@@ -84,6 +87,40 @@ module _ (t : Terms) (s : List ℕ) (h : Standing t s) where
   pub sequence-held : sequenceIn s ≡ t .sequence
   sequence-held = ap (λ (n : ℕ). slot sequenceAt n s) (h .holds .long) ∙ h .holds .bytes
 
+  -- a state of its sequence is written
+  pub put-stands : (st : State) → Recorded (h .accepted .statement) st → (bytes : List ℕ) → bytes ≡ encodeState st
+      → Standing t (put stateAt stateLength bytes s)
+  put-stands st r bytes e =
+      let fits = bounds t (h .accepted) .1 in
+      let sized = ap length e ∙ length-state st in
+      record {
+        accepted = h .accepted;
+        holds = moved-holds t (ceilingFor t) fits s (h .holds) bytes sized;
+        state = st;
+        bytes = moved-state t (ceilingFor t) fits s (h .holds) bytes sized ∙ e;
+        recorded = r;
+      }
+
+  -- a call that writes behind the state
+  pub behind-stands : {o : Called} → Moved positionsAt s o → Standing t (memoryAfter o) × (stateIn (memoryAfter o) ≡ stateIn s)
+  behind-stands {o} m = go m
+    where
+      go : Moved positionsAt s o → Standing t (memoryAfter o) × (stateIn (memoryAfter o) ≡ stateIn s)
+      go (refused n d e) = subst (λ (o : Called). Standing t (memoryAfter o) × (stateIn (memoryAfter o) ≡ stateIn s)) (sym e) (h, refl)
+      go (Moves.moved at n bytes low high sized e) =
+          let z = h .holds .sized in
+          let same : stateIn (put at n bytes s) ≡ stateIn s = put-before at n bytes s (omega arith) (sized z) stateAt stateLength (omega arith) in
+          subst (λ (o : Called). Standing t (memoryAfter o) × (stateIn (memoryAfter o) ≡ stateIn s)) (sym e) (
+            record {
+              accepted = h .accepted;
+              holds = behind-holds t (ceilingFor t) (bounds t (h .accepted) .1) s (h .holds) at n bytes (omega arith) (omega arith) (sized z);
+              state = h .state;
+              bytes = same ∙ h .bytes;
+              recorded = h .recorded;
+            },
+            same,
+          )
+
   module _ (e : ℕ) (answer : List ℕ) where
     -- the tick on its sequence
     abbrev pub inner : Outcome
@@ -109,14 +146,7 @@ module _ (t : Terms) (s : List ℕ) (h : Standing t s) where
 
     pub tick-stands : Standing t (memoryAfter (bayTickOf s e answer))
     tick-stands =
-        record {
-          accepted = h .accepted;
-          holds = subst (Holds t (ceilingFor t)) (sym moved)
-              (moved-holds t (ceilingFor t) (bounds t (h .accepted) .1) s (h .holds) (stateAfterwards inner) inner-sized);
-          state = tick-told .state;
-          bytes = tick-state ∙ tick-told .bytes;
-          recorded = tick-told .recorded;
-        }
+        subst (Standing t) (sym moved) (put-stands (tick-told .state) (tick-told .recorded) (stateAfterwards inner) (tick-told .bytes))
 
 -- ---- a bay admitted
 pub cleared-fresh : cleared ≡ encodeState State.fresh
