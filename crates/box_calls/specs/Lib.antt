@@ -7,4 +7,5 @@ pub mod Shares
 pub mod BayRuns
 pub mod Worked
 pub mod Claims
+pub mod Positions
 pub mod WrongBoxes

@@ -7,6 +7,8 @@ pub mod Stretches
 pub mod Numbers
 pub mod Isolation
 pub mod Reached
+pub mod Named
 pub mod Rounds
 pub mod BayRuns
+pub mod Returns
 pub mod Theorems

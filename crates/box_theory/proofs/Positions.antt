@@ -9,7 +9,7 @@ use mathlib.Core.Option.{Option, some, none}
 use mathlib.Core.List.{List, []}
 use lib.ListN.{length}
 use lib.Dec.{eqb}
-use borrow.Author.Tests.{eq-eqb, ne-eqb, eqb-true}
+use borrow.Author.Tests.{eq-eqb, ne-eqb}
 use Rattle.limits.specs.Limits.{labelBytes, nameBytes}
 use Rattle.esterel.specs.Sets as Sets
 use Rattle.esterel.specs.Statement.{Statement}

@@ -139,14 +139,14 @@ pub record Kept (box : List ℕ) : Type 0 where
   pub sound : (bay : ℕ) → bay < bayCount → Sound (stretchOf bay box)
   pub under : present bayCount box ≤ sharedCeiling
 
-empty-stretch : (bay : ℕ) → bay < bayCount → stretchOf bay emptyBox ≡ zeros stretchLength
+pub empty-stretch : (bay : ℕ) → bay < bayCount → stretchOf bay emptyBox ≡ zeros stretchLength
 unfolding emptyBox
 empty-stretch bay b = slot-zeros (bay * stretchLength) stretchLength boxLength (omega arith)
 
 zeros-empty : lengthIn (zeros stretchLength) ≡ 0
 zeros-empty = ap leNumber (slot-zeros 0 2 stretchLength (omega arith)) ∙ zeros-number 2
 
-zeros-positions : positionsIn (zeros stretchLength) ≡ zeros tableLength
+pub zeros-positions : positionsIn (zeros stretchLength) ≡ zeros tableLength
 zeros-positions = slot-zeros positionsAt tableLength stretchLength (omega arith)
 
 nothing-present : (n : ℕ) → n ≤ bayCount → present n emptyBox ≡ 0

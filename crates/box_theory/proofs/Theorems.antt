@@ -1,13 +1,15 @@
--- The theorems about a box (02, item 8): of the definitions of the calls, which the code meets for all arguments.
+-- The theorems about a box (02, items 8 and 9): of the definitions of the calls, which the code meets for all arguments.
 use Prim.Native.Nat.{ℕ, _<_}
-use mathlib.Core.Path.{_≡_, refl}
+use mathlib.Core.Path.{_≡_, refl, sym, _∙_}
 use mathlib.Core.Logic.{_≢_}
-use mathlib.Core.List.{List, map, List·Memᴰ}
+use mathlib.Core.Option.{some}
+use mathlib.Core.List.{List, [], map, List·Memᴰ}
 use lib.ListN.{length}
 use Rattle.esterel.specs.Statement.{Statement}
 use Rattle.esterel.specs.Reaction.{Code, gives}
 use Rattle.esterel.specs.Rules.{Reacts}
 use Rattle.esterel.specs.States.{NoSetpause}
+use Rattle.esterel.specs.Expansion.{expand}
 use Rattle.esterel.specs.Machines.{Rewriting}
 use Rattle.sequence.specs.Program.{program}
 use Rattle.sequence.specs.Rows.{Spells, ByRows}
@@ -16,13 +18,16 @@ use Rattle.demands.specs.TickRows.{TickRow}
 use Rattle.demands.specs.Demands as demands
 use Rattle.demands.specs.Demands.{outcomes, cleared, report, StandsAt, Derived, Shows}
 use Rattle.demands.specs.Paper.{paper}
+use Rattle.positions.specs.Names.{find}
+use Rattle.positions.specs.Table.{lookup}
 use Rattle.box_calls.specs.Called.{number, memoryAfter}
-use Rattle.box_calls.specs.Stretch.{stateIn, Terms}
-use Rattle.box_calls.specs.Box.{bayCount, boxLength, emptyBox, stretchOf, admit, tick, callOf}
+use Rattle.box_calls.specs.Stretch.{sequenceIn, readBackIn, stateIn, positionsIn, Terms, terms}
+use Rattle.box_calls.specs.Box.{bayCount, boxLength, emptyBox, stretchOf, admit, release, tick, restore, forget, callOf}
 use Rattle.box_calls.specs.Lists.{Request, boxAfter, asked, answers}
 use Rattle.box_calls.specs.Shares.{Sendable, AllSendable}
 use Rattle.box_calls.specs.BayRuns.{ticksTo, outcomeOf, tickOutcomes, Onwards}
 use Rattle.box_calls.specs.Claims.{RefusalsLeave, OthersStay, Isolated, BySum, InBoxes, CeilingsStored, WithinCeiling, RoundsWithin, AdmitsBySum, GivesBack, Thirteen, NoBox, Fourteen, BoxDemands}
+use Rattle.box_calls.specs.Positions.{savedIn, PositionsSaved, PositionsValid, SaveNumbers, KnownOnly, ComesBack, LosesPositions, PositionDemands}
 use Rattle.box_calls.specs.WrongBoxes as wrong
 use Rattle.box_calls.proofs.WrongBoxes as refuted
 use Rattle.box_theory.proofs.Stretches as stretches
@@ -31,6 +36,8 @@ use Rattle.box_theory.proofs.Isolation as apart
 use Rattle.box_theory.proofs.Reached as reached
 use Rattle.box_theory.proofs.Rounds as rounds
 use Rattle.box_theory.proofs.BayRuns as runs
+use Rattle.box_theory.proofs.Named as named
+use Rattle.box_theory.proofs.Returns as returns
 
 -- ---- every box, whatever its bytes
 -- 'A refused call changes nothing in the box', nor in the buffers that it was lent
@@ -148,6 +155,99 @@ module _ (box : List ℕ) (bay : ℕ) (t : Terms) (small : Sendable (admit t)) (
     pub demand-3-in-bay : (p : Statement) → Spells (t .sequence) p → NoSetpause p
         → map report (tickOutcomes bay from xs) ≡ paper (Rewriting.fresh (program (t .readBack) p)) (ticksTo bay xs)
     demand-3-in-bay = runs.agrees box bay t small admitted xs k
+
+-- ---- positions (02, item 9)
+-- 'each a 32-bit name and the label set of a waiting machine. Saving under a known name replaces it; forgetting one frees its place for
+-- another': over every list of calls, those turned down and those to other bays included, each position held is the label set that the
+-- machine had when it was last saved under that name
+pub positions-are-saved : PositionsSaved callOf
+positions-are-saved xs k bay b name = named.positions-named bay b xs k .alike name
+
+-- and valid for the sequence
+pub positions-valid : InBoxes callOf PositionsValid
+positions-valid xs k bay b =
+    let box = boxAfter callOf emptyBox xs in named.positions-valid (stretchOf bay box) (reached.kept xs k .sound bay b)
+
+-- '15 to save a machine that isn't waiting .. then 16 for a seventeenth name'
+pub save-numbers : InBoxes callOf (SaveNumbers callOf)
+save-numbers xs k bay b f name = named.save-numbers (boxAfter callOf emptyBox xs) (reached.kept xs k) bay b f name
+
+-- '15 .. for an unknown name to come back to or forget'
+pub restore-numbers : InBoxes callOf (KnownOnly callOf restore)
+restore-numbers xs k bay b f name = named.restore-numbers (boxAfter callOf emptyBox xs) (reached.kept xs k) bay b f name
+
+pub forget-numbers : InBoxes callOf (KnownOnly callOf forget)
+forget-numbers xs k bay b f name = named.forget-numbers (boxAfter callOf emptyBox xs) (reached.kept xs k) bay b f name
+
+-- 'Coming back sets phase and labels', and nothing else
+pub comes-back : ComesBack callOf
+comes-back = named.comes-back
+
+-- 'A bay taken out loses its positions'
+pub loses-positions : LosesPositions callOf
+loses-positions box bay = (named.none-known box bay release refl, λ t. named.none-known box bay (admit t) refl)
+
+-- ITEM 9, of the calls
+pub position-demands : PositionDemands callOf
+position-demands =
+    record {
+      positions-saved = positions-are-saved;
+      positions-valid = positions-valid;
+      save-numbers = save-numbers;
+      restore-numbers = restore-numbers;
+      forget-numbers = forget-numbers;
+      comes-back = comes-back;
+      loses-positions = loses-positions;
+    }
+
+-- ---- a bay from a coming back on, in every box that calls reach from an empty one, up to the next coming back or the taking out
+module _ (zs : List Request) (sent : AllSendable zs) (bay name : ℕ)
+    (back : number (callOf (boxAfter callOf emptyBox zs) bay (restore name)) ≡ 0) where
+  abbrev there : List ℕ
+  there = boxAfter callOf emptyBox zs
+
+  abbrev again : List ℕ
+  again = memoryAfter (callOf there bay (restore name))
+
+  -- what the bay holds
+  abbrev held : Terms
+  held = terms (sequenceIn (stretchOf bay there)) (readBackIn (stretchOf bay there))
+
+  abbrev is-bay : bay < bayCount
+  is-bay = returns.is-bay there (reached.kept zs sent) bay name back
+
+  from-there : (xs : List Request) → Onwards bay again xs → runs.Run bay is-bay held again xs
+  from-there = returns.run there (reached.kept zs sent) bay name back
+
+  -- 'Without setpause, the answers from there up to the next coming back or the taking out equal rewriting started from the expansion
+  -- of that set': number, code, kind, place, emitted set, reactions and phase
+  pub agrees-from-position : (labels : ℕ) × (lookup name (positionsIn (stretchOf bay there)) ≡ some labels)
+      × (find name (savedIn callOf bay emptyBox [] zs) ≡ some labels)
+      × ((p : Statement) → Spells (held .sequence) p → NoSetpause p → (xs : List Request) → Onwards bay again xs
+      → map report (tickOutcomes bay again xs) ≡ paper (Rewriting.waits (expand (program (held .readBack) p) labels)) (ticksTo bay xs))
+  agrees-from-position =
+      let r = returns.returned there (reached.kept zs sent) bay name back in
+      let saved = positions-are-saved zs sent bay is-bay name in
+      (r .labels, r .found, sym saved ∙ r .found, returns.agrees there (reached.kept zs sent) bay name back)
+
+  module _ (xs : List Request) (k : Onwards bay again xs) where
+    abbrev then : List ℕ
+    then = boxAfter callOf again xs
+
+    -- demand 1
+    pub demand-1-from-position : (o : Outcome) → List·Memᴰ o (tickOutcomes bay again xs) → demands.number o ≢ 11
+    demand-1-from-position = from-there xs k .never-11
+
+    pub rows-from-position : (e : ℕ) (answer : List ℕ)
+        → ByRows (number (callOf then bay (tick e answer))) (TickRow (held .sequence) (held .readBack) (stateIn (stretchOf bay then)) answer)
+    rows-from-position = runs.by-rows bay is-bay held then (from-there xs k .stands)
+
+    -- demand 2, of the next tick
+    pub demand-2-from-position : (e : ℕ) (answer : List ℕ) → number (callOf then bay (tick e answer)) ≡ 0
+        → (p : Statement) × StandsAt (held .sequence) (held .readBack) (stateIn (stretchOf bay then)) p × Derived p e
+        × ((o : ℕ) (c : Code) (l : ℕ) (p′ : Statement) → Reacts p e (gives o c l p′)
+        → Shows p e o c l p′ (outcomeOf bay (callOf then bay (tick e answer))))
+    demand-2-from-position = runs.shows-rules bay is-bay held then (from-there xs k .stands)
 
 -- ---- what the claims refuse: a tick that reads the neighbour's state, a sum without the last bay, a part that is not given back, and
 -- a refusal that writes

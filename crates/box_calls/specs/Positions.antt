@@ -1,0 +1,100 @@
+-- The positions of a bay over a list of calls (02, item 9), by name and with no table in them, and what 02 says of them: each sentence
+-- a predicate of any function in the place of `callOf`, which box_theory has of `callOf`.
+use Prim.Native.Nat.{ℕ, _<_}
+use mathlib.Core.Path.{_≡_}
+use mathlib.Core.Logic.{_≢_, _↔_}
+use mathlib.Core.Bool.{_&&_, cond}
+use mathlib.Core.Option.{some, none}
+use mathlib.Core.List.{List, [], _∷_}
+use lib.Dec.{eqb}
+use Rattle.esterel.specs.Statement.{Statement}
+use Rattle.esterel.specs.States.{Valid}
+use Rattle.esterel.specs.Machines.{State}
+use Rattle.sequence.specs.Rows.{Spells}
+use Rattle.states.specs.StateRecord.{stateLength, phaseIn, labelsIn, encodeState}
+use Rattle.parts.specs.Parts.{put}
+use Rattle.positions.specs.Names.{Position, find, saveNamed, forgetNamed, positionsAfter}
+use Rattle.positions.specs.Table.{lookup, SixteenKnown}
+use Rattle.box_calls.specs.Called.{number, memoryAfter}
+use Rattle.box_calls.specs.Stretch.{stateAt, lengthIn, sequenceIn, stateIn, positionsIn, Terms}
+use Rattle.box_calls.specs.Box.{bayCount, emptyBox, stretchOf, Call, admit, release, tick, save, restore, forget}
+use Rattle.box_calls.specs.Lists.{Calling, Request, afterCall, boxAfter}
+use Rattle.box_calls.specs.Shares.{AllSendable}
+use Rattle.box_calls.specs.Claims.{InBoxes}
+
+-- ---- by name
+-- what a call answered 0 makes of them, the machine having these labels
+abbrev pub changedBy : Call → (labels : ℕ) → List Position → List Position
+changedBy (admit t) labels ps = ps
+changedBy release labels ps = []
+changedBy (tick e answer) labels ps = ps
+changedBy (save name) labels ps = positionsAfter (saveNamed name labels ps)
+changedBy (restore name) labels ps = ps
+changedBy (forget name) labels ps = positionsAfter (forgetNamed name ps)
+
+-- a call that is turned down leaves them, and so does one to another bay
+unfoldable pub savedIn : Calling → (bay : ℕ) → List ℕ → List Position → List Request → List Position
+savedIn call bay box ps [] = ps
+savedIn call bay box ps (x ∷ xs) =
+    savedIn call bay (afterCall call box x)
+    (cond (eqb (x .bay) bay && eqb (number (call box bay (x .call))) 0)
+    (changedBy (x .call) (labelsIn (stateIn (stretchOf bay box))) ps)
+    ps)
+    xs
+
+-- each position held is the label set that the machine had when it was last saved under that name
+abbrev pub PositionsSaved : Calling → Type 0
+PositionsSaved call =
+    (xs : List Request) → AllSendable xs → (bay : ℕ) → bay < bayCount → (name : ℕ)
+    → lookup name (positionsIn (stretchOf bay (boxAfter call emptyBox xs))) ≡ find name (savedIn call bay emptyBox [] xs)
+
+-- 'the label set of a waiting machine': it is valid for the sequence that the bay holds
+abbrev pub PositionsValid : List ℕ → Type 0
+PositionsValid box =
+    (bay : ℕ) → bay < bayCount → (p : Statement) → Spells (sequenceIn (stretchOf bay box)) p
+    → (name labels : ℕ) → lookup name (positionsIn (stretchOf bay box)) ≡ some labels → Valid p labels
+
+-- ---- 'Errors', of a filled bay
+-- '15 to save a machine that isn't waiting .. then 16 for a seventeenth name'
+abbrev pub SaveNumbers : Calling → List ℕ → Type 0
+SaveNumbers call box =
+    (bay : ℕ) → bay < bayCount → lengthIn (stretchOf bay box) ≢ 0 → (name : ℕ)
+    → ((number (call box bay (save name)) ≡ 15) ↔ (phaseIn (stateIn (stretchOf bay box)) ≢ 1))
+    × ((number (call box bay (save name)) ≡ 16)
+    ↔ ((phaseIn (stateIn (stretchOf bay box)) ≡ 1) × (lookup name (positionsIn (stretchOf bay box)) ≡ none)
+    × SixteenKnown (positionsIn (stretchOf bay box))))
+    × (number (call box bay (save name)) ≢ 15 → number (call box bay (save name)) ≢ 16 → number (call box bay (save name)) ≡ 0)
+
+-- '15 .. for an unknown name to come back to or forget'
+abbrev pub KnownOnly : Calling → ((name : ℕ) → Call) → List ℕ → Type 0
+KnownOnly call c box =
+    (bay : ℕ) → bay < bayCount → lengthIn (stretchOf bay box) ≢ 0 → (name : ℕ)
+    → ((number (call box bay (c name)) ≡ 15) ↔ (lookup name (positionsIn (stretchOf bay box)) ≡ none))
+    × (number (call box bay (c name)) ≢ 15 → number (call box bay (c name)) ≡ 0)
+
+-- ---- every box, whatever its bytes
+-- 'Coming back sets phase and labels', and nothing else of the bay
+abbrev pub ComesBack : Calling → Type 0
+ComesBack call =
+    (box : List ℕ) (bay name : ℕ) → number (call box bay (restore name)) ≡ 0
+    → (labels : ℕ) × (lookup name (positionsIn (stretchOf bay box)) ≡ some labels)
+    × (stretchOf bay (memoryAfter (call box bay (restore name)))
+    ≡ put stateAt stateLength (encodeState (State.waits labels)) (stretchOf bay box))
+
+-- 'A bay taken out loses its positions', and one admitted knows none
+abbrev pub NoneKnown : (bay : ℕ) → List ℕ → Type 0
+NoneKnown bay box = (name : ℕ) → lookup name (positionsIn (stretchOf bay box)) ≡ none
+
+abbrev pub LosesPositions : Calling → Type 0
+LosesPositions call =
+    (box : List ℕ) (bay : ℕ) → (number (call box bay release) ≡ 0 → NoneKnown bay (memoryAfter (call box bay release)))
+    × ((t : Terms) → number (call box bay (admit t)) ≡ 0 → NoneKnown bay (memoryAfter (call box bay (admit t))))
+
+pub record PositionDemands (call : Calling) : Type 0 where
+  pub positions-saved : PositionsSaved call
+  pub positions-valid : InBoxes call PositionsValid
+  pub save-numbers : InBoxes call (SaveNumbers call)
+  pub restore-numbers : InBoxes call (KnownOnly call restore)
+  pub forget-numbers : InBoxes call (KnownOnly call forget)
+  pub comes-back : ComesBack call
+  pub loses-positions : LosesPositions call
