@@ -6,6 +6,7 @@ pub mod Lists
 pub mod Shares
 pub mod BayRuns
 pub mod Worked
+pub mod WorkedPositions
 pub mod Claims
 pub mod Positions
 pub mod WrongBoxes

@@ -68,7 +68,7 @@ pub record Line : Type 0 where
   pub number : ℕ
   pub code : ℕ
 
-abbrev line : Request → (number code : ℕ) → Line
+abbrev pub line : Request → (number code : ℕ) → Line
 line x n k = record { request = x; number = n; code = k }
 
 abbrev pub isGiven : Line → Called → Bool
