@@ -10,3 +10,4 @@ pub mod WorkedPositions
 pub mod Claims
 pub mod Positions
 pub mod WrongBoxes
+pub mod WrongPositions

@@ -6,10 +6,10 @@ use Rattle.box_calls.specs.Lists.{Request}
 use Rattle.box_calls.specs.Worked.{admitted, released, ticked, Line, line}
 
 -- pause 0, then pause 1, then nothing: from label 0 a tick has code 1, from label 1 code 0
-abbrev twoStages : List ℕ
+abbrev pub twoStages : List ℕ
 twoStages = 0x04 ∷ 0x01 ∷ 0x00 ∷ 0x04 ∷ 0x01 ∷ 0x01 ∷ 0x00 ∷ []
 
-abbrev saved : (bay name : ℕ) → Request
+abbrev pub saved : (bay name : ℕ) → Request
 saved bay name = record { bay = bay; call = save name }
 
 abbrev restored : (bay name : ℕ) → Request

@@ -12,7 +12,7 @@ use Rattle.box_calls.specs.Box.{bayCount, stretchOf, present, admit, rel
 use Rattle.box_calls.specs.Lists.{Calling}
 
 -- another result for a call that is answered with this number
-abbrev instead : ℕ → Called → Called → Called
+abbrev pub instead : ℕ → Called → Called → Called
 instead n other o = cond (eqb (number o) n) other o
 
 -- a tick that reads the neighbour's state

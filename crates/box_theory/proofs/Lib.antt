@@ -11,4 +11,5 @@ pub mod Named
 pub mod Rounds
 pub mod BayRuns
 pub mod Returns
+pub mod WrongPositions
 pub mod Theorems

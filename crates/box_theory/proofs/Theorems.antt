@@ -30,6 +30,8 @@ use Rattle.box_calls.specs.Claims.{RefusalsLeave, OthersStay, Isolated, BySum, 
 use Rattle.box_calls.specs.Positions.{savedIn, PositionsSaved, PositionsValid, SaveNumbers, KnownOnly, ComesBack, LosesPositions, PositionDemands}
 use Rattle.box_calls.specs.WrongBoxes as wrong
 use Rattle.box_calls.proofs.WrongBoxes as refuted
+use Rattle.box_calls.specs.WrongPositions as slips
+use Rattle.box_theory.proofs.WrongPositions as refutes
 use Rattle.box_theory.proofs.Stretches as stretches
 use Rattle.box_theory.proofs.Numbers as numbers
 use Rattle.box_theory.proofs.Isolation as apart
@@ -254,3 +256,8 @@ module _ (zs : List Request) (sent : AllSendable zs) (bay name : ℕ)
 pub refused-boxes : (¬ Isolated wrong.readsNeighbour) × (¬ InBoxes wrong.forgetsBay WithinCeiling)
     × (¬ InBoxes wrong.keepsPart (AdmitsBySum wrong.keepsPart)) × (¬ RefusalsLeave wrong.refusalWrites)
 refused-boxes = (refuted.not-readsNeighbour, refuted.not-forgetsBay, refuted.not-keepsPart, refuted.not-refusalWrites)
+
+-- positions that a release leaves, a save that leaves what was saved first, 16 before 15, and a restore that leaves the phase
+pub refused-positions : (¬ LosesPositions slips.keepsPositions) × (¬ PositionsSaved slips.keepsFirst)
+    × (¬ InBoxes slips.fullFirst (SaveNumbers slips.fullFirst)) × (¬ ComesBack slips.leavesPhase)
+refused-positions = (refutes.not-keepsPositions, refutes.not-keepsFirst, refutes.not-fullFirst, refutes.not-leavesPhase)

@@ -1,0 +1,55 @@
+-- Boxes with one slip each in the calls of positions (02, item 9), which break a claim of Positions.
+use Prim.Native.Nat.{ℕ}
+use mathlib.Core.Bool.{cond}
+use mathlib.Core.List.{[]}
+use lib.ListN.{length}
+use lib.Dec.{leb}
+use Rattle.limits.specs.Limits.{maxPositions}
+use Rattle.states.specs.StateRecord.{labelsAt}
+use Rattle.parts.specs.Parts.{slot, put}
+use Rattle.positions.specs.Names.{isKnown}
+use Rattle.positions.specs.Table.{tableLength, lookup, names}
+use Rattle.box_calls.specs.Called.{Called, called, memoryAfter}
+use Rattle.box_calls.specs.Stretch.{stateAt, positionsAt, positionsIn, vacated}
+use Rattle.box_calls.specs.Box.{stretchOf, Call, admit, release, tick, save, restore, forget, inBox, callOf}
+use Rattle.box_calls.specs.Lists.{Calling}
+use Rattle.box_calls.specs.WrongBoxes.{instead}
+
+-- what a call comes to, with another one for a release, for a save or for a restore
+abbrev altered : (released : Called → Called) (saved : ℕ → Called → Called) (restored : Called → Called) → Call → Called → Called
+altered released saved restored (admit t) o = o
+altered released saved restored release o = released o
+altered released saved restored (tick e answer) o = o
+altered released saved restored (save name) o = saved name o
+altered released saved restored (restore name) o = restored o
+altered released saved restored (forget name) o = o
+
+-- a release that leaves the positions
+abbrev pub keepsPositions : Calling
+keepsPositions box bay c =
+    altered
+    (instead 0 (inBox bay box (called 0 (put positionsAt tableLength (positionsIn (stretchOf bay box)) (vacated (stretchOf bay box))) [])))
+    (λ name o. o) (λ o. o) c (callOf box bay c)
+
+-- a save under a known name that leaves what was saved first
+abbrev pub keepsFirst : Calling
+keepsFirst box bay c =
+    altered (λ o. o)
+    (λ name o. cond (isKnown (lookup name (positionsIn (stretchOf bay box)))) (instead 0 (called 0 box []) o) o)
+    (λ o. o) c (callOf box bay c)
+
+-- 16 where 16 names are known, before 15 for a machine that is not waiting
+abbrev pub fullFirst : Calling
+fullFirst box bay c =
+    altered (λ o. o)
+    (λ name. instead 15 (called (cond (leb maxPositions (length (names (positionsIn (stretchOf bay box))))) 16 15) box []))
+    (λ o. o) c (callOf box bay c)
+
+-- a restore that leaves the phase
+abbrev pub leavesPhase : Calling
+leavesPhase box bay c =
+    altered (λ o. o) (λ name o. o)
+    (instead 0
+    (inBox bay box
+    (called 0 (put stateAt labelsAt (slot stateAt labelsAt (stretchOf bay box)) (stretchOf bay (memoryAfter (callOf box bay c)))) [])))
+    c (callOf box bay c)
