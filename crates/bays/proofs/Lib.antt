@@ -1,3 +1,4 @@
 pub mod Storing
 pub mod Ticking
 pub mod Admitting
+pub mod Positioning

@@ -1,4 +1,4 @@
-// The stretch of a bay (02, item 8): its fields, and the calls on it.
+// The stretch of a bay (02, items 8 and 9): its fields, and the calls on it.
 ghost use mathlib.Core.Path.{_≡_};
 ghost use Prim.Native.Nat.{_^_, _≤_};
 ghost use mathlib.Core.List.{[], _∷_};
@@ -6,14 +6,17 @@ ghost use lib.ListN.{length};
 ghost use Rattle.limits.specs.Limits.{maxBytes};
 ghost use Rattle.instants.specs.Replies.{Replies};
 ghost use Rattle.box_calls.specs.Called.{called};
-ghost use Rattle.box_calls.specs.Stretch.{stretchLength, isEmpty, sequenceIn, readBackIn, stateIn, partOf, vacated, terms, filled};
-ghost use Rattle.box_calls.specs.BayCalls.{bayTickOf, bayReleaseOf, bayAdmitOf};
+ghost use Rattle.box_calls.specs.Stretch.{stretchLength, isEmpty, sequenceIn, readBackIn, stateIn, positionsIn, partOf};
+ghost use Rattle.box_calls.specs.Stretch.{vacated, terms, filled};
+ghost use Rattle.box_calls.specs.BayCalls.{bayTickOf, bayReleaseOf, bayAdmitOf, baySaveOf, bayRestoreOf, bayForgetOf};
 use answers::ANSWER_LENGTH;
 use ceilings::Plan;
 use instants::Reply;
 use limits::MAX_BYTES;
+use limits::MAX_POSITIONS;
 use limits::SIGNAL_BYTES;
 use limits::TAKEN_BYTES;
+use positions::TABLE_LENGTH;
 use states::STATE_LENGTH;
 
 // Where the fields begin. Fixed by the admission:
@@ -35,7 +38,7 @@ const COUNT_AT: usize = STATE_AT + STATE_LENGTH;
 const POSITIONS_AT: usize = COUNT_AT + 4;
 
 // What a release clears ends here.
-const BAY_LENGTH: usize = POSITIONS_AT + 16 * (4 + STATE_LENGTH);
+const BAY_LENGTH: usize = POSITIONS_AT + TABLE_LENGTH;
 
 pub const STRETCH_LENGTH: usize = BAY_LENGTH + 32 * 4;
 
@@ -65,6 +68,12 @@ fn state(stretch: &[u8]) -> &[u8]
     ensures { λ r. ⌜ now r ≡ stateIn (now (stretch .entry)) ⌝ }
 {
     numbers::part(stretch, STATE_AT, STATE_LENGTH)
+}
+
+fn table(stretch: &[u8]) -> &[u8]
+    ensures { λ r. ⌜ now r ≡ positionsIn (now (stretch .entry)) ⌝ }
+{
+    numbers::part(stretch, POSITIONS_AT, TABLE_LENGTH)
 }
 
 // The part of the shared ceiling that the bay has.
@@ -145,4 +154,40 @@ pub fn admit(stretch: &mut [u8], present: u64, sequence: &[u8], read_back: u32) 
             0
         }
     }
+}
+
+// The labels of a waiting machine, saved under a name.
+pub fn save(stretch: &mut [u8], name: u32) -> u8
+    requires { ⌜ length (now stretch) ≡ stretchLength ⌝ }
+    ensures { λ r. ⌜ called r (now (stretch .exit)) [] ≡ baySaveOf (now (stretch .entry)) name ⌝ }
+{
+    let held = state(stretch);
+    if states::phase(held) != 1 {
+        return 15;
+    }
+    let labels = states::labels(held);
+    positions::save(&mut stretch[POSITIONS_AT..BAY_LENGTH], name, labels)
+}
+
+// The machine waits at the labels saved under a name.
+pub fn restore(stretch: &mut [u8], name: u32) -> u8
+    requires { ⌜ length (now stretch) ≡ stretchLength ⌝ }
+    ensures { λ r. ⌜ called r (now (stretch .exit)) [] ≡ bayRestoreOf (now (stretch .entry)) name ⌝ }
+{
+    let saved = table(stretch);
+    let i = positions::place_of(saved, name);
+    if MAX_POSITIONS <= i {
+        return 15;
+    }
+    let labels = positions::saved_labels(saved, i);
+    states::write_state(&mut stretch[STATE_AT..COUNT_AT], 1, labels);
+    0
+}
+
+// A saved name is given up.
+pub fn forget(stretch: &mut [u8], name: u32) -> u8
+    requires { ⌜ length (now stretch) ≡ stretchLength ⌝ }
+    ensures { λ r. ⌜ called r (now (stretch .exit)) [] ≡ bayForgetOf (now (stretch .entry)) name ⌝ }
+{
+    positions::forget(&mut stretch[POSITIONS_AT..BAY_LENGTH], name)
 }

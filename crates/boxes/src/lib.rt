@@ -1,11 +1,11 @@
-// Eight bays in one box (02, item 8).
+// Eight bays in one box (02, items 8 and 9).
 ghost use mathlib.Core.Path.{_≡_};
 ghost use mathlib.Core.List.{[], _∷_};
 ghost use Prim.Native.Nat.{_*_, _^_, _≤_};
 ghost use lib.ListN.{length};
 ghost use Rattle.box_calls.specs.Called.{called};
 ghost use Rattle.box_calls.specs.Stretch.{terms};
-ghost use Rattle.box_calls.specs.Box.{bayCount, boxLength, present, release, tick, admit, callOf};
+ghost use Rattle.box_calls.specs.Box.{bayCount, boxLength, present, release, tick, admit, save, restore, forget, callOf};
 ghost use Rattle.boxes.specs.Entries.{entryOf};
 use bays::STRETCH_LENGTH;
 
@@ -87,4 +87,40 @@ pub fn admit(memory: &mut [u8], bay: u32, sequence: &[u8], read_back: u32) -> u8
     let from = bay as usize * STRETCH_LENGTH;
     let end = from + STRETCH_LENGTH;
     bays::admit(&mut memory[from..end], present, sequence, read_back)
+}
+
+pub fn save(memory: &mut [u8], bay: u32, name: u32) -> u8
+    ensures { λ r. ⌜ called r (now (memory .exit)) [] ≡ callOf (now (memory .entry)) bay (save name) ⌝ }
+{
+    let number = entry(memory, bay, false);
+    if number != 0 {
+        return number;
+    }
+    let from = bay as usize * STRETCH_LENGTH;
+    let end = from + STRETCH_LENGTH;
+    bays::save(&mut memory[from..end], name)
+}
+
+pub fn restore(memory: &mut [u8], bay: u32, name: u32) -> u8
+    ensures { λ r. ⌜ called r (now (memory .exit)) [] ≡ callOf (now (memory .entry)) bay (restore name) ⌝ }
+{
+    let number = entry(memory, bay, false);
+    if number != 0 {
+        return number;
+    }
+    let from = bay as usize * STRETCH_LENGTH;
+    let end = from + STRETCH_LENGTH;
+    bays::restore(&mut memory[from..end], name)
+}
+
+pub fn forget(memory: &mut [u8], bay: u32, name: u32) -> u8
+    ensures { λ r. ⌜ called r (now (memory .exit)) [] ≡ callOf (now (memory .entry)) bay (forget name) ⌝ }
+{
+    let number = entry(memory, bay, false);
+    if number != 0 {
+        return number;
+    }
+    let from = bay as usize * STRETCH_LENGTH;
+    let end = from + STRETCH_LENGTH;
+    bays::forget(&mut memory[from..end], name)
 }

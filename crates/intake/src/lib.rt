@@ -1,11 +1,11 @@
-// What hosts in C call: the check, the tick, and the calls of a box of bays (02, item 8).
+// What hosts in C call: the check, the tick, and the calls of a box of bays (02, items 8 and 9).
 ghost use mathlib.Core.Path.{_≡_};
 ghost use mathlib.Core.List.{[], _∷_};
 ghost use Rattle.sequence.specs.Check.{checkOf};
 ghost use Rattle.demands.specs.Demands.{TickMeets};
 ghost use Rattle.box_calls.specs.Called.{called};
 ghost use Rattle.box_calls.specs.Stretch.{terms};
-ghost use Rattle.box_calls.specs.Box.{admit, release, tick, callOf};
+ghost use Rattle.box_calls.specs.Box.{admit, release, tick, save, restore, forget, callOf};
 use answers::ANSWER_LENGTH;
 use instants::Reply;
 use layout::Seconds;
@@ -75,4 +75,28 @@ pub extern "C" fn intake_box_tick(memory: &mut [u8], bay: u32, input: u32, answe
         ≡ callOf (now (memory .entry)) bay (tick input (now (answer .entry))) ⌝ }
 {
     boxes::tick(memory, bay, input, answer)
+}
+
+// The labels of a waiting bay are saved under a name (02, item 9).
+#[no_mangle]
+pub extern "C" fn intake_box_save(memory: &mut [u8], bay: u32, name: u32) -> u8
+    ensures { λ r. ⌜ called r (now (memory .exit)) [] ≡ callOf (now (memory .entry)) bay (save name) ⌝ }
+{
+    boxes::save(memory, bay, name)
+}
+
+// A bay comes back to what was saved under a name.
+#[no_mangle]
+pub extern "C" fn intake_box_restore(memory: &mut [u8], bay: u32, name: u32) -> u8
+    ensures { λ r. ⌜ called r (now (memory .exit)) [] ≡ callOf (now (memory .entry)) bay (restore name) ⌝ }
+{
+    boxes::restore(memory, bay, name)
+}
+
+// A saved name is given up.
+#[no_mangle]
+pub extern "C" fn intake_box_forget(memory: &mut [u8], bay: u32, name: u32) -> u8
+    ensures { λ r. ⌜ called r (now (memory .exit)) [] ≡ callOf (now (memory .entry)) bay (forget name) ⌝ }
+{
+    boxes::forget(memory, bay, name)
 }
