@@ -1,5 +1,5 @@
 /*
- * Eight bays in one box (02, item 8) as one would write them in C, over the check and the tick of plain.c. The ceiling of a
+ * Eight bays in one box (02, items 8 and 9) as one would write them in C, over the check and the tick of plain.c. The ceiling of a
  * sequence is found by one recursive walk over the bytes that the check has accepted.
  */
 #include "plain_box.h"
@@ -11,6 +11,7 @@
 
 enum { SEQUENCE = 0x04, PARALLEL, LOOP, PRESENT, SIGNAL, TRY, SUSPEND = 0x0B };
 enum { BAYS = 8, MAX_BYTES = 1024, STATE_BYTES = 17, ANSWER_BYTES = 12, SHARED_CEILING = 65536 };
+enum { POSITIONS = 16, NAME_BYTES = 4, ENTRY = NAME_BYTES + STATE_BYTES, WAITING = 1 };
 
 /* A bay's stretch of the box. */
 enum {
@@ -19,7 +20,8 @@ enum {
     AT_READ_BACK = AT_SEQUENCE + MAX_BYTES,
     AT_CEILING = AT_READ_BACK + 4,
     AT_STATE = AT_CEILING + 4 + 4,
-    AT_LEDGER = AT_STATE + STATE_BYTES + 4 + 336,
+    AT_POSITIONS = AT_STATE + STATE_BYTES + 4,
+    AT_LEDGER = AT_POSITIONS + POSITIONS * ENTRY,
     STRETCH = AT_LEDGER + 128
 };
 
@@ -133,4 +135,54 @@ uint8_t plain_box_tick(uint8_t *box, size_t box_length, uint32_t bay, uint32_t i
         return number;
     return plain_tick(stretch + AT_SEQUENCE, get(stretch, 2), stretch + AT_STATE, STATE_BYTES, input,
                       get(stretch + AT_READ_BACK, 4), answer, answer_length);
+}
+
+/* The entry of a position: one in use with this name, or, with no name, a free one; null if there is none. */
+static uint8_t *entry(uint8_t *stretch, const uint32_t *name)
+{
+    for (uint8_t *at = stretch + AT_POSITIONS; at < stretch + AT_LEDGER; at += ENTRY)
+        if (name == NULL ? at[NAME_BYTES] == 0 : at[NAME_BYTES] == WAITING && get(at, NAME_BYTES) == *name)
+            return at;
+    return NULL;
+}
+
+uint8_t plain_box_save(uint8_t *box, size_t box_length, uint32_t bay, uint32_t name)
+{
+    uint8_t number, *stretch = find(box, box_length, bay, true, &number);
+    if (stretch == NULL)
+        return number;
+    if (stretch[AT_STATE] != WAITING)
+        return 15;
+    uint8_t *at = entry(stretch, &name);
+    if (at == NULL)
+        at = entry(stretch, NULL);
+    if (at == NULL)
+        return 16;
+    put(at, NAME_BYTES, name);
+    memcpy(at + NAME_BYTES, stretch + AT_STATE, STATE_BYTES);
+    return 0;
+}
+
+uint8_t plain_box_restore(uint8_t *box, size_t box_length, uint32_t bay, uint32_t name)
+{
+    uint8_t number, *stretch = find(box, box_length, bay, true, &number);
+    if (stretch == NULL)
+        return number;
+    const uint8_t *at = entry(stretch, &name);
+    if (at == NULL)
+        return 15;
+    memcpy(stretch + AT_STATE, at + NAME_BYTES, STATE_BYTES);
+    return 0;
+}
+
+uint8_t plain_box_forget(uint8_t *box, size_t box_length, uint32_t bay, uint32_t name)
+{
+    uint8_t number, *stretch = find(box, box_length, bay, true, &number);
+    if (stretch == NULL)
+        return number;
+    uint8_t *at = entry(stretch, &name);
+    if (at == NULL)
+        return 15;
+    memset(at, 0, ENTRY);
+    return 0;
 }

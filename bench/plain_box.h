@@ -10,5 +10,8 @@ uint8_t plain_box_admit(uint8_t *box, size_t box_length, uint32_t bay, const uin
 uint8_t plain_box_release(uint8_t *box, size_t box_length, uint32_t bay);
 uint8_t plain_box_tick(uint8_t *box, size_t box_length, uint32_t bay, uint32_t input, uint8_t *answer,
                        size_t answer_length);
+uint8_t plain_box_save(uint8_t *box, size_t box_length, uint32_t bay, uint32_t name);
+uint8_t plain_box_restore(uint8_t *box, size_t box_length, uint32_t bay, uint32_t name);
+uint8_t plain_box_forget(uint8_t *box, size_t box_length, uint32_t bay, uint32_t name);
 
 #endif

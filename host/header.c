@@ -66,9 +66,9 @@ static void states(void)
 static void texts(void)
 {
     unsigned i, j;
-    for (i = 0; i <= INTAKE_ABOVE_CEILING + 2; i++)
+    for (i = 0; i <= INTAKE_POSITIONS_FULL + 2; i++)
         for (j = 0; j < i; j++)
-            expect((strcmp(intake_text(i), intake_text(j)) == 0) == (j > INTAKE_ABOVE_CEILING), "text of a number", i);
+            expect((strcmp(intake_text(i), intake_text(j)) == 0) == (j > INTAKE_POSITIONS_FULL), "text of a number", i);
     for (i = 0; i <= INTAKE_NOT_STRONGLY_DETERMINISTIC + 2; i++)
         for (j = 0; j < i; j++)
             expect((strcmp(intake_kind_text(i), intake_kind_text(j)) == 0) == (j > INTAKE_NOT_STRONGLY_DETERMINISTIC),

@@ -51,8 +51,8 @@ extern "C" {
 /*
  * What a call answers: 0, or the row of document 01, 'Turned down', that turns it down. The check gives 2 to 10, the
  * tick 1 to 12; of several rows that hold, the lowest, but rows 3 to 6 go command by command from the left. Row 6 by the
- * read-back set comes after them, once the whole statement was read, and before row 7. The calls on a box give 13 and 14
- * too: 13 before all others, 14 after row 10.
+ * read-back set comes after them, once the whole statement was read, and before row 7. The calls on a box give 13 to 16
+ * too: 13 before all others, 14 after row 10, and 15 before 16.
  */
 enum intake_number {
     INTAKE_ACCEPTED = 0,                /* accepted */
@@ -69,7 +69,9 @@ enum intake_number {
     INTAKE_INVALID_STATE = 11,          /* phase above 2, labels with phase 0 or 2, or phase 1 with a set not valid */
     INTAKE_OVER = 12,                   /* phase 2: the machine is over */
     INTAKE_NO_SUCH_BAY = 13,            /* bay number above 7, filled bay on admission, empty bay otherwise */
-    INTAKE_ABOVE_CEILING = 14           /* the ceilings of the bays present and its own sum to more than 65,536 */
+    INTAKE_ABOVE_CEILING = 14,          /* the ceilings of the bays present and its own sum to more than 65,536 */
+    INTAKE_NO_POSITION = 15,            /* machine that is not waiting on saving, unknown name otherwise */
+    INTAKE_POSITIONS_FULL = 16          /* seventeenth name of a position */
 };
 
 /*
@@ -198,8 +200,8 @@ uint8_t intake_tick(const uint8_t *sequence, size_t sequence_length, uint8_t *st
                     uint32_t input, uint32_t read_back, uint8_t *answer, size_t answer_length);
 
 /*
- * A box holds the machines of up to INTAKE_BAY_COUNT bays, numbered from 0, each with its own sequence, read-back set and
- * state. It is lent memory of INTAKE_BOX_LENGTH bytes, all of them 00 at first and from then on written by the calls below
+ * A box holds the machines of up to INTAKE_BAY_COUNT bays, numbered from 0, each with its own sequence, read-back set, state
+ * and positions. It is lent memory of INTAKE_BOX_LENGTH bytes, all of them 00 at first and from then on written by the calls below
  * and by nobody else; docs/FORMAT.md has the layout.
  *
  * The bays share a ceiling: what the instants of all bays present can take, one of each, sums to INTAKE_SHARED_CEILING
@@ -231,7 +233,7 @@ uint8_t intake_tick(const uint8_t *sequence, size_t sequence_length, uint8_t *st
 uint8_t intake_box_admit(uint8_t *box, size_t box_length, uint32_t bay, const uint8_t *sequence, size_t sequence_length,
                          uint32_t read_back);
 
-/* Takes the machine out of a filled bay, which is empty then, whatever the machine was doing. */
+/* Takes the machine out of a filled bay, which is empty then, whatever the machine was doing; its positions are lost. */
 uint8_t intake_box_release(uint8_t *box, size_t box_length, uint32_t bay);
 
 /*
@@ -242,6 +244,33 @@ uint8_t intake_box_release(uint8_t *box, size_t box_length, uint32_t bay);
  */
 uint8_t intake_box_tick(uint8_t *box, size_t box_length, uint32_t bay, uint32_t input, uint8_t *answer,
                         size_t answer_length);
+
+/*
+ * Positions. A cleaning crew that leaves a sequence half way may want to come back to 'rinse done'. A filled bay keeps up to
+ * INTAKE_POSITION_COUNT positions of its machine, each with a name; every number of 32 bits is a name, 0 too. A position is
+ * the label set of a waiting machine and nothing of its past: neither inputs nor what was emitted come back. In a box that
+ * these calls alone have written, every instant from there on is as if the machine had just come to it.
+ */
+#define INTAKE_POSITION_COUNT 16
+
+/*
+ * Saves where the machine of a filled bay waits. A name that is known is replaced, also where INTAKE_POSITION_COUNT are kept.
+ * After the numbers of every call on a box come INTAKE_NO_POSITION for a machine that is fresh or over and then
+ * INTAKE_POSITIONS_FULL for a further name where INTAKE_POSITION_COUNT are kept. The machine stays as it is.
+ */
+uint8_t intake_box_save(uint8_t *box, size_t box_length, uint32_t bay, uint32_t name);
+
+/*
+ * Brings the machine of a filled bay back to a position, whatever it is doing, over too: it waits there, and the next tick
+ * resumes it. The position is kept. After the numbers of every call on a box comes INTAKE_NO_POSITION for an unknown name.
+ */
+uint8_t intake_box_restore(uint8_t *box, size_t box_length, uint32_t bay, uint32_t name);
+
+/*
+ * Forgets a position of a filled bay, whose place is free for another; the machine stays as it is. After the numbers of
+ * every call on a box comes INTAKE_NO_POSITION for an unknown name.
+ */
+uint8_t intake_box_forget(uint8_t *box, size_t box_length, uint32_t bay, uint32_t name);
 
 /* The number in `count` bytes, at most 4, lowest first. */
 INTAKE_INLINE uint32_t intake_number_in(const uint8_t *bytes, size_t count)
@@ -327,6 +356,8 @@ INTAKE_INLINE const char *intake_text(unsigned number)
     case INTAKE_OVER: return "the machine is over";
     case INTAKE_NO_SUCH_BAY: return "no bay has this number, or it is filled on admission or empty otherwise";
     case INTAKE_ABOVE_CEILING: return "the bays together could take more than 65,536 reactions in an instant";
+    case INTAKE_NO_POSITION: return "the machine is not waiting and has no position to save, or no position has this name";
+    case INTAKE_POSITIONS_FULL: return "the bay keeps 16 positions, and none of them has this name";
     default: return "no number of a call";
     }
 }

@@ -175,7 +175,7 @@ def numbers(page):
     for row in rows(page, "No."):
         if row[3] and f"{row[0]}: {row[3].strip('`')}" not in examples:
             yield f"the example of number {row[0]} in host/examples.txt"
-        if not row[3] and row[0] not in ("1", "11", "12", "13", "14"):  # what these need is no sequence, or more than one
+        if not row[3] and row[0] not in ("1", "11", "12", "13", "14", "15", "16"):  # what these need is no sequence, or more than one
             yield f"number {row[0]} has no example"
 
 
@@ -203,6 +203,17 @@ def box(page):
     fields = {"sequence": known["maxBytes"], "read-back": known["signalBytes"], "state": values("state")["STATE_LENGTH"]}
     if any(sizes.get(name) != size for name, size in fields.items()):
         yield f"the bytes of a stretch: {sizes}"
+    yield from positions(page, sizes.get("positions"))
+
+
+def positions(page, room):
+    """The entry of a position, which the table has as often as the header says."""
+    count, name, state = limits()["maxPositions"], limits()["nameBytes"], values("state")["STATE_LENGTH"]
+    given = [[row[0], number(row[1] or "0"), number(row[2])] for row in rows(page, "Entry")]
+    if given != [["name", 0, name], ["state", name, state], ["whole", 0, name + state]]:
+        yield f"an entry of a position: {given}"
+    if room != count * (name + state) or count != defines()["POSITION_COUNT"]:
+        yield f"the room of {count} positions: {room}"
 
 
 def calls(page):
@@ -296,7 +307,8 @@ def faults(page):
 
 
 CHECKED = {"Byte": [0, 1, 2, 3], "Limit": [0, 1, 2], "State record": [0, 1, 2], "Answer record": [0, 1, 2], "Code": [0, 2],
-           "Kind": [0, 1], "No.": [0, 1, 2, 3], "Stretch": [0, 1, 2], "Call": [0], "Part": [1], "Field": [0, 1], "Term": [3]}
+           "Kind": [0, 1], "No.": [0, 1, 2, 3], "Stretch": [0, 1, 2], "Entry": [0, 1, 2], "Call": [0],
+           "Part": [1], "Field": [0, 1], "Term": [3]}
 
 
 def other(cell):

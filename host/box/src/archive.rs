@@ -20,6 +20,9 @@ extern "C" {
         answer: *mut u8,
         answer_length: usize,
     ) -> u8;
+    fn intake_box_save(the_box: *mut u8, box_length: usize, bay: u32, name: u32) -> u8;
+    fn intake_box_restore(the_box: *mut u8, box_length: usize, bay: u32, name: u32) -> u8;
+    fn intake_box_forget(the_box: *mut u8, box_length: usize, bay: u32, name: u32) -> u8;
 }
 
 /// What is asked of a bay.
@@ -28,9 +31,12 @@ pub enum Call {
     Admit { sequence: Vec<u8>, read_back: u32 },
     Release,
     Tick { input: u32, answer_length: usize },
+    Save { name: u32 },
+    Restore { name: u32 },
+    Forget { name: u32 },
 }
 
-pub const CALLS: [&str; 3] = ["admit", "release", "tick"];
+pub const CALLS: [&str; 6] = ["admit", "release", "tick", "save", "restore", "forget"];
 
 impl Call {
     /// Its place among the calls.
@@ -39,6 +45,9 @@ impl Call {
             Call::Admit { .. } => 0,
             Call::Release => 1,
             Call::Tick { .. } => 2,
+            Call::Save { .. } => 3,
+            Call::Restore { .. } => 4,
+            Call::Forget { .. } => 5,
         }
     }
 
@@ -48,6 +57,9 @@ impl Call {
             Call::Admit { sequence, read_back } => format!("admit {bay}: {} & {read_back:08X}", hex(sequence)),
             Call::Release => format!("release {bay}"),
             Call::Tick { input, answer_length } => format!("tick {bay}: {input:08X} | {answer_length}"),
+            Call::Save { name } | Call::Restore { name } | Call::Forget { name } => {
+                format!("{} {bay}: name {name:08X}", CALLS[self.index()])
+            }
         }
     }
 }
@@ -74,8 +86,8 @@ impl Archive {
         let (at_end, fill) = (self.turn & 1 == 0, self.turn);
         let (sequence, answer_length) = match call {
             Call::Admit { sequence, .. } => (&sequence[..], 0),
-            Call::Release => (&[][..], 0),
             Call::Tick { answer_length, .. } => (&[][..], *answer_length),
+            _ => (&[][..], 0),
         };
         let before = vec![fill; answer_length];
         self.sequence.place(sequence, at_end, fill);
@@ -106,6 +118,9 @@ impl Archive {
                 }
                 Call::Release => intake_box_release(the_box, box_length, bay),
                 Call::Tick { input, .. } => intake_box_tick(the_box, box_length, bay, *input, answer, answer_length),
+                Call::Save { name } => intake_box_save(the_box, box_length, bay, *name),
+                Call::Restore { name } => intake_box_restore(the_box, box_length, bay, *name),
+                Call::Forget { name } => intake_box_forget(the_box, box_length, bay, *name),
             }
         }
     }

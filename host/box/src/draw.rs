@@ -1,6 +1,6 @@
 //! Random calls to a box: mostly such as a host makes, sequences whose ceilings meet or pass what is left, and mistakes.
 use crate::archive::Call;
-use crate::model::{Bay, Model, BAYS, SHARED};
+use crate::model::{Bay, Model, BAYS, SHARED, WAITING};
 use common::generate::{self, Random, Style};
 use common::table;
 use std::sync::OnceLock;
@@ -108,25 +108,62 @@ fn over(bay: &Bay) -> bool {
     bay.state[0] == 2
 }
 
-/// Mostly a bay that suits the call: an empty one to admit to, one that is over to release, one that is not to tick.
+/// A name: one of those that the bay knows in so many of a hundred, one that differs from it in a byte, or any.
+fn name(random: &mut Random, bay: Option<&Bay>, share: usize) -> u32 {
+    let known: Vec<u32> = bay.iter().flat_map(|bay| bay.positions.keys().copied()).collect();
+    if !known.is_empty() && random.chance(share) {
+        return random.pick(&known);
+    }
+    let (few, any) = (random.below(20) as u32, random.below(1 << 32) as u32);
+    let near = known.first().copied().unwrap_or(1) ^ (1 + random.below(255) as u32) << (8 * random.below(4));
+    random.pick(&[few, few, near, any, 0, u32::MAX])
+}
+
+/// Gives a call on a position a name that suits its bay.
+pub fn rename(random: &mut Random, model: &Model, request: &mut Request) {
+    let bay = model.bays.get(request.bay as usize).and_then(Option::as_ref);
+    match &mut request.call {
+        Call::Save { name: own } => *own = name(random, bay, 15),
+        Call::Restore { name: own } | Call::Forget { name: own } => *own = name(random, bay, 85),
+        _ => {}
+    }
+}
+
+/// Mostly a bay that suits the call: an empty one to admit to, one that is over to release, one that is not to tick, one
+/// that waits to save, one with positions to come back or to forget.
 fn bay(random: &mut Random, model: &Model, call: &Call) -> u32 {
     let suits = |bay: &Option<Bay>| match call {
         Call::Admit { .. } => bay.is_none(),
         Call::Release => bay.as_ref().is_some_and(over),
         Call::Tick { .. } => bay.as_ref().is_some_and(|bay| !over(bay)),
+        Call::Save { .. } => bay.as_ref().is_some_and(|bay| bay.state[0] == WAITING),
+        Call::Restore { .. } | Call::Forget { .. } => bay.as_ref().is_some_and(|bay| !bay.positions.is_empty()),
     };
     let such: Vec<u32> = (0..BAYS as u32).filter(|&bay| suits(&model.bays[bay as usize])).collect();
-    match such.is_empty() || random.chance(15) {
-        true => random.below(BAYS) as u32,
-        false => random.pick(&such),
+    if such.is_empty() || random.chance(15) {
+        return random.below(BAYS) as u32;
+    }
+    let most = such.iter().max_by_key(|&&bay| model.bays[bay as usize].as_ref().map_or(0, |bay| bay.positions.len()));
+    let any = random.pick(&such);
+    match call {
+        Call::Save { .. } if random.chance(70) => *most.unwrap_or(&any),
+        _ => any,
     }
 }
 
-/// A call as the model's bays suggest it; `ticks` is how many in a hundred are ticks.
-pub fn request(random: &mut Random, model: &Model, ticks: usize) -> Request {
+/// A call as the model's bays suggest it; `positions` is how many in a hundred are on positions, and `ticks` how many of
+/// the others are ticks.
+pub fn request(random: &mut Random, model: &Model, positions: usize, ticks: usize) -> Request {
     let idle = model.bays.iter().flatten().all(over);
     let kind = if idle && random.chance(80) { 99 } else { random.below(100) };
-    let call = if kind < ticks {
+    let call = if random.chance(positions) {
+        let (save, restore, forget) = (Call::Save { name: 0 }, Call::Restore { name: 0 }, Call::Forget { name: 0 });
+        match random.below(20) {
+            0..=11 => save,
+            12..=16 => restore,
+            _ => forget,
+        }
+    } else if kind < ticks {
         let answer_length = match random.chance(96) {
             true => ANSWER_LENGTH,
             false => random.pick(&[0, 1, 8, 11, 13, 17, 268, 1024]),
@@ -143,5 +180,7 @@ pub fn request(random: &mut Random, model: &Model, ticks: usize) -> Request {
         let right = model.length;
         random.pick(&[0, 1, right / BAYS, right - 1, right + 1, right - 256, right + 256, 2 * right, right + 65_536])
     });
-    Request { bay, length, call }
+    let mut request = Request { bay, length, call };
+    rename(random, model, &mut request);
+    request
 }

@@ -1,16 +1,36 @@
 //! Boxes that no call has written: every call returns, a refusal changes nothing, no call leaves its bay's stretch, and a
-//! tick is intake_tick on what the bay holds.
+//! tick is intake_tick on what the bay holds. Positions that calls could have left are kept as by name; of other bytes in
+//! their place a name that is there with phase 1 is known, and a call writes what is its own to write.
 use crate::archive::{Archive, Call, Given};
 use crate::draw::{doubtful, request};
-use crate::layout::{self, held, put, put_length, put_sequence, put_state, STRETCH};
+use crate::layout::{
+    self, entries, held, put, put_entries, put_length, put_positions, put_sequence, put_state, table, STRETCH,
+};
 use crate::lists::Run;
 use crate::memory::Memory;
-use crate::model::{Bay, BAYS, SHARED};
+use crate::model::{Bay, BAYS, POSITIONS, SHARED, WAITING};
 use crate::tally::Tally;
 use common::generate::Random;
 use common::reference::STATE_LENGTH;
 use tick::archive::{self, ANSWER_LENGTH};
+use tick::reference::Sequence;
 use tick::runs;
+
+/// Up to 16 positions: state records of the sequence, or of any labels; some are in another phase, or have one name.
+fn positions(random: &mut Random, stretch: &mut [u8], sequence: &Sequence) {
+    let (full, damaged) = (random.pick(&[0, 30, 100]), random.chance(30));
+    let all: Vec<Option<(u32, Vec<u8>)>> = (0..POSITIONS as u32)
+        .map(|at| {
+            let mut state = runs::state(random, sequence);
+            state.resize(STATE_LENGTH, random.below(256) as u8);
+            let other = damaged && random.chance(20);
+            state[0] = if other { random.below(4) as u8 } else { WAITING };
+            let name = if damaged && random.chance(30) { random.below(4) as u32 } else { at };
+            random.chance(full).then_some((name, state))
+        })
+        .collect();
+    put_entries(stretch, all.into_iter());
+}
 
 /// A stretch that holds a sequence, accepted or nearly so, with any state record and any ceiling.
 fn invented(random: &mut Random, stretch: &mut [u8]) {
@@ -20,6 +40,7 @@ fn invented(random: &mut Random, stretch: &mut [u8]) {
     if let Ok(bay) = Bay::new(&sequence.bytes, sequence.read_back) {
         put(stretch, Some(&bay));
         put_state(stretch, &state);
+        positions(random, stretch, &sequence);
     }
     if random.chance(50) {
         let (mut bytes, read_back) = doubtful(random, 60);
@@ -51,19 +72,74 @@ fn foreign(random: &mut Random, real: &[u8]) -> Vec<u8> {
     bytes
 }
 
-/// The number and the answer of a call to these bytes, and what becomes of them; an admission's part of the shared ceiling
-/// is not looked at.
-fn expected(bytes: &[u8], bay: u32, call: &Call) -> (Result<Vec<u8>, u8>, Vec<u8>) {
+/// Whether a name is there, in use.
+fn known(stretch: &[u8], name: u32) -> bool {
+    entries(stretch).any(|(own, state)| own == name && state[0] == WAITING)
+}
+
+/// Lets the positions be what the call has made of them, if it has changed one entry at most.
+fn take_table(stretch: &mut [u8], given: &[u8]) {
+    if entries(stretch).zip(entries(given)).filter(|(one, two)| one != two).count() <= 1 {
+        stretch[table()].copy_from_slice(&given[table()]);
+    }
+}
+
+fn saved(stretch: &mut [u8], given: &[u8], name: u32, state: &[u8]) -> Result<(), u8> {
+    match layout::positions(stretch) {
+        Some(mut positions) => {
+            if !positions.contains_key(&name) && positions.len() == POSITIONS {
+                return Err(16);
+            }
+            positions.insert(name, state.to_vec());
+            put_positions(stretch, &positions);
+            layout::arrange(stretch, given);
+        }
+        None if entries(given).any(|(own, kept)| own == name && kept == state) => take_table(stretch, given),
+        None if known(stretch, name) => {} // and it is not kept
+        None => return Err(16),
+    }
+    Ok(())
+}
+
+fn restored(stretch: &mut [u8], given: &[u8], name: u32) -> Result<(), u8> {
+    let given = held(given).state;
+    let such: Vec<Vec<u8>> = entries(stretch)
+        .filter(|(own, state)| *own == name && state[0] == WAITING)
+        .map(|(_, state)| state.to_vec())
+        .collect();
+    let state = such.iter().find(|state| *state == given).or(such.first()).ok_or(15)?;
+    put_state(stretch, state);
+    Ok(())
+}
+
+fn forgotten(stretch: &mut [u8], given: &[u8], name: u32) -> Result<(), u8> {
+    if !known(stretch, name) {
+        return Err(15);
+    }
+    match layout::positions(stretch) {
+        Some(mut positions) => {
+            positions.remove(&name);
+            put_positions(stretch, &positions);
+            layout::arrange(stretch, given);
+        }
+        None => take_table(stretch, given),
+    }
+    Ok(())
+}
+
+/// The number and the answer of a call to these bytes, and what becomes of them, which are `given` after the call; an
+/// admission's part of the shared ceiling is not looked at.
+fn expected(bytes: &[u8], given: &[u8], bay: u32, call: &Call) -> (Result<Vec<u8>, u8>, Vec<u8>) {
     let mut after = bytes.to_vec();
     if bay as usize >= BAYS {
         return (Err(13), after);
     }
     let stretch = &mut after[layout::stretch(bay as usize)];
-    let here = held(&bytes[layout::stretch(bay as usize)]);
+    let (here, given) = (held(&bytes[layout::stretch(bay as usize)]), &given[layout::stretch(bay as usize)]);
     let empty = here.length == 0;
     let given = match call {
         Call::Admit { .. } if !empty => Err(13),
-        Call::Release | Call::Tick { .. } if empty => Err(13),
+        _ if empty && !matches!(call, Call::Admit { .. }) => Err(13),
         Call::Admit { sequence, read_back } => Bay::new(sequence, *read_back).map(|bay| {
             put(stretch, Some(&bay));
             vec![]
@@ -82,6 +158,10 @@ fn expected(bytes: &[u8], bay: u32, call: &Call) -> (Result<Vec<u8>, u8>, Vec<u8
             put_state(stretch, &outcome.state.expect("guards"));
             Ok(outcome.answer.expect("guards"))
         }),
+        Call::Save { .. } if here.state[0] != WAITING => Err(15),
+        Call::Save { name } => saved(stretch, given, *name, here.state).map(|()| vec![]),
+        Call::Restore { name } => restored(stretch, given, *name).map(|()| vec![]),
+        Call::Forget { name } => forgotten(stretch, given, *name).map(|()| vec![]),
     };
     (given, after)
 }
@@ -95,7 +175,7 @@ fn above(bytes: &[u8], ceiling: u64) -> (bool, bool) {
 }
 
 fn compare(tally: &mut Tally, bytes: &[u8], bay: u32, call: &Call, given: &Given, memory: &mut Memory) {
-    let (mut result, mut after) = expected(bytes, bay, call);
+    let (mut result, mut after) = expected(bytes, memory.bytes(), bay, call);
     if let (Call::Admit { sequence, read_back }, Ok(_)) = (call, &result) {
         let ceiling = Bay::new(sequence, *read_back).map_or(0, |bay| bay.ceiling);
         let (may, must) = above(bytes, ceiling);
@@ -120,13 +200,13 @@ pub fn boxes(tally: &mut Tally, random: &mut Random, count: usize) {
             run.clear(random);
         }
         (0..4).for_each(|_| {
-            let request = request(random, &run.model, 50);
+            let request = request(random, &run.model, 20, 50);
             run.step(tally, &request);
         });
         let bytes = foreign(random, run.bytes());
         memory.place(&bytes, random.chance(50), 0xC3);
         for _ in 0..12 {
-            let request = request(random, &run.model, 60);
+            let request = request(random, &run.model, 40, 60);
             let bay = if random.chance(98) { random.below(BAYS) as u32 } else { request.bay };
             let before = memory.bytes().to_vec();
             let given = archive.call(&mut memory, bay, &request.call, false);

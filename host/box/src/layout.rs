@@ -1,6 +1,7 @@
 //! The bytes of a box (docs/FORMAT.md, 'Box'): eight stretches of one length. Only comparisons with the archive look here.
-use crate::model::{Bay, Model, BAYS};
+use crate::model::{Bay, Model, BAYS, WAITING};
 use common::reference::STATE_LENGTH;
+use std::collections::BTreeMap;
 use std::ops::Range;
 
 /// Where the fields of a stretch begin.
@@ -9,9 +10,14 @@ const SEQUENCE: usize = 2;
 const READ_BACK: usize = 1026;
 const CEILING: usize = 1030;
 const STATE: usize = 1038;
+const POSITIONS: usize = 1059;
 /// What a release clears ends here: the ledger, of the bay's number and not of its machine, begins.
 pub const LEDGER: usize = 1395;
 pub const STRETCH: usize = 1523;
+
+/// An entry of a position: the name, then a state record.
+const NAME_BYTES: usize = std::mem::size_of::<u32>();
+const ENTRY: usize = NAME_BYTES + STATE_LENGTH;
 
 /// The length of a box, which the header names.
 pub fn box_length() -> usize {
@@ -34,6 +40,7 @@ pub fn put(stretch: &mut [u8], bay: Option<&Bay>) {
     put_sequence(stretch, &bay.sequence, bay.read_back);
     field(stretch, CEILING, &(bay.ceiling as u32).to_le_bytes());
     put_state(stretch, &bay.state);
+    put_positions(stretch, &bay.positions);
 }
 
 fn field(stretch: &mut [u8], at: usize, bytes: &[u8]) {
@@ -55,10 +62,62 @@ pub fn put_state(stretch: &mut [u8], state: &[u8]) {
     field(stretch, STATE, state);
 }
 
-/// Every byte of a box as the model and these ledgers say.
-pub fn image(model: &Model, ledgers: &[u8]) -> Vec<u8> {
+/// Where a stretch has its positions.
+pub fn table() -> Range<usize> {
+    POSITIONS..LEDGER
+}
+
+/// Puts entries into a stretch, free where there is none.
+pub fn put_entries(stretch: &mut [u8], mut entries: impl Iterator<Item = Option<(u32, Vec<u8>)>>) {
+    for bytes in stretch[table()].chunks_exact_mut(ENTRY) {
+        bytes.fill(0);
+        if let Some(Some((name, state))) = entries.next() {
+            bytes[..NAME_BYTES].copy_from_slice(&name.to_le_bytes());
+            bytes[NAME_BYTES..].copy_from_slice(&state);
+        }
+    }
+}
+
+pub fn put_positions(stretch: &mut [u8], positions: &BTreeMap<u32, Vec<u8>>) {
+    put_entries(stretch, positions.iter().map(|(&name, state)| Some((name, state.clone()))));
+}
+
+/// The entries of a stretch: name and state record.
+pub fn entries(stretch: &[u8]) -> impl Iterator<Item = (u32, &[u8])> {
+    stretch[table()].chunks_exact(ENTRY).map(|entry| {
+        let (name, state) = entry.split_at(NAME_BYTES);
+        (u32::from_le_bytes(name.try_into().expect("four bytes")), state)
+    })
+}
+
+/// The positions of a stretch, if they could be what calls have left: an entry is free or in use, and a name is there once.
+pub fn positions(stretch: &[u8]) -> Option<BTreeMap<u32, Vec<u8>>> {
+    let mut positions = BTreeMap::new();
+    let free = |name: u32, state: &[u8]| name == 0 && state.iter().all(|&byte| byte == 0);
+    for (name, state) in entries(stretch).filter(|&(name, state)| !free(name, state)) {
+        if state[0] != WAITING || positions.insert(name, state.to_vec()).is_some() {
+            return None;
+        }
+    }
+    Some(positions)
+}
+
+/// Lets a stretch have its positions in the entries that `given` has for them: which ones is not promised. Of two stretches
+/// with other positions the first stays.
+pub fn arrange(stretch: &mut [u8], given: &[u8]) {
+    if positions(stretch).is_some() && positions(stretch) == positions(given) {
+        stretch[table()].copy_from_slice(&given[table()]);
+    }
+}
+
+/// Every byte of a box as the model and these ledgers say, but for the places of the positions, which `given` tells.
+pub fn image(model: &Model, ledgers: &[u8], given: &[u8]) -> Vec<u8> {
     let mut bytes = ledgers.to_vec();
-    (0..BAYS).for_each(|bay| put(&mut bytes[stretch(bay)], model.bays[bay].as_ref()));
+    for bay in 0..BAYS {
+        let own = &mut bytes[stretch(bay)];
+        put(own, model.bays[bay].as_ref());
+        arrange(own, &given[stretch(bay)]);
+    }
     bytes
 }
 

@@ -1,10 +1,10 @@
 //! Random lists of calls from an empty box: every number and every byte after every call, and a bay's own calls beside
 //! other traffic.
 use crate::archive::{Archive, Call};
-use crate::draw::{request, Request};
+use crate::draw::{rename, request, Request};
 use crate::layout::{self, LEDGER};
 use crate::memory::Memory;
-use crate::model::{Model, BAYS, SHARED};
+use crate::model::{Model, BAYS, POSITIONS, SHARED};
 use crate::tally::Tally;
 use common::generate::Random;
 
@@ -61,14 +61,14 @@ impl Run {
         let Request { bay, length, call } = request;
         let right = self.model.length;
         let length = length.filter(|&length| length != right);
+        let lent = length.unwrap_or(right);
         let expected = match call {
-            Call::Admit { sequence, read_back } => {
-                self.model.admit(length.unwrap_or(right), *bay, sequence, *read_back).map(|()| vec![])
-            }
-            Call::Release => self.model.release(length.unwrap_or(right), *bay).map(|()| vec![]),
-            Call::Tick { input, answer_length } => {
-                self.model.tick(length.unwrap_or(right), *bay, *input, *answer_length)
-            }
+            Call::Admit { sequence, read_back } => self.model.admit(lent, *bay, sequence, *read_back).map(|()| vec![]),
+            Call::Release => self.model.release(lent, *bay).map(|()| vec![]),
+            Call::Tick { input, answer_length } => self.model.tick(lent, *bay, *input, *answer_length),
+            Call::Save { name } => self.model.save(lent, *bay, *name).map(|()| vec![]),
+            Call::Restore { name } => self.model.restore(lent, *bay, *name).map(|()| vec![]),
+            Call::Forget { name } => self.model.forget(lent, *bay, *name).map(|()| vec![]),
         };
         let sealed = self.sealed && expected.is_err();
         let given = match length {
@@ -81,7 +81,7 @@ impl Run {
                 given
             }
         };
-        let image = layout::image(&self.model, &self.ledgers);
+        let image = layout::image(&self.model, &self.ledgers, self.lent.bytes());
         let same = self.lent.holds(&image);
         tally.count(call, given.number);
         tally.counts.expect(same && given.is(&expected), || {
@@ -98,22 +98,26 @@ impl Run {
 /// Lists of 20 to 200 calls.
 pub fn lists(tally: &mut Tally, random: &mut Random, count: usize) {
     let mut run = Run::new();
-    let (mut full, mut exact) = (0, 0);
+    let (mut full, mut exact, mut sixteen) = (0, 0, 0);
     for _ in 0..count {
         run.clear(random);
         let (calls, ticks) = (20 + random.below(181), random.pick(&[20, 60, 80, 90]));
+        let positions = random.pick(&[0, 10, 40, 70]);
         for _ in 0..calls {
-            let request = request(random, &run.model, ticks);
+            let request = request(random, &run.model, positions, ticks);
             run.step(tally, &request);
             full += run.model.bays.iter().all(Option::is_some) as u64;
             exact += (run.model.taken() == SHARED) as u64;
+            sixteen += run.model.bays.iter().flatten().any(|bay| bay.positions.len() == POSITIONS) as u64;
         }
     }
     println!("{count} lists; after {full} calls all bays were filled, after {exact} the whole ceiling was taken");
-    tally.counts.expect(full > 0 && exact > 0, || "no full box, or none with the whole ceiling taken".into());
+    println!("after {sixteen} calls a bay kept {POSITIONS} positions");
+    let all = full > 0 && exact > 0 && sixteen > 0;
+    tally.counts.expect(all, || "no full box, none with the whole ceiling taken, or no bay with all positions".into());
 }
 
-/// 02, item 8: two lists with the same calls to one bay, and its admissions answered alike, give it the same answers and
+/// 02, items 8 and 9: two lists with the same calls to one bay, and its admissions answered alike, give it the same answers and
 /// the same bytes. The second list has other calls to the other bays.
 pub fn isolation(tally: &mut Tally, random: &mut Random, count: usize) {
     let (mut one, mut two) = (Run::new(), Run::new());
@@ -124,10 +128,12 @@ pub fn isolation(tally: &mut Tally, random: &mut Random, count: usize) {
         two.ledgers.copy_from_slice(&one.ledgers);
         two.lent.place(&one.ledgers, random.chance(50), 0x5A);
         let (own, ticks) = (random.below(BAYS) as u32, random.pick(&[40, 70, 90]));
+        let positions = random.pick(&[0, 20, 50]);
         for _ in 0..20 + random.below(100) {
-            let mut call = request(random, &one.model, ticks);
+            let mut call = request(random, &one.model, positions, ticks);
             if random.chance(60) {
                 call.bay = own;
+                rename(random, &one.model, &mut call);
             }
             let seen = one.step(tally, &call);
             if call.bay != own {
@@ -150,7 +156,7 @@ pub fn isolation(tally: &mut Tally, random: &mut Random, count: usize) {
 /// Up to six calls to other bays.
 fn traffic(tally: &mut Tally, random: &mut Random, run: &mut Run, own: u32) {
     for _ in 0..random.below(7) {
-        let request = request(random, &run.model, 50);
+        let request = request(random, &run.model, 20, 50);
         if request.bay != own {
             run.step(tally, &request);
         }

@@ -1,6 +1,8 @@
-//! A box as 02, item 8, words it: eight bays, each empty or with a machine of its own. It knows no bytes of a box.
+//! A box as 02, items 8 and 9, word it: eight bays, each empty or with a machine of its own and the positions that were
+//! saved of it. It knows no bytes of a box.
 use common::reference;
 use common::reference::STATE_LENGTH;
+use std::collections::BTreeMap;
 use tick::archive::ANSWER_LENGTH;
 use tick::ceiling::Ceiling;
 use tick::reference::instant;
@@ -11,12 +13,20 @@ pub const BAYS: usize = 8;
 /// What the ceilings of the bays present may sum to.
 pub const SHARED: u64 = 65_536;
 
-/// A machine: what it was admitted with, what an instant of it takes at most, and its state record.
+/// How many positions a bay keeps.
+pub const POSITIONS: usize = 16;
+
+/// The phase of a machine that waits.
+pub const WAITING: u8 = 1;
+
+/// A machine: what it was admitted with, what an instant of it takes at most, its state record, and the state records that
+/// were saved, by name.
 pub struct Bay {
     pub sequence: Vec<u8>,
     pub read_back: u32,
     pub ceiling: u64,
     pub state: Vec<u8>,
+    pub positions: BTreeMap<u32, Vec<u8>>,
     tree: reference::Tree,
     term: Term,
 }
@@ -30,6 +40,7 @@ impl Bay {
             read_back,
             ceiling: Ceiling::of(&tree, read_back).most(),
             state: vec![0; STATE_LENGTH],
+            positions: BTreeMap::new(),
             term: wrap(read_back, &term(&tree)),
             tree,
         })
@@ -40,6 +51,18 @@ impl Bay {
         let instant = instant(Order::InheritanceFirst, &self.tree, &self.term, &self.state, input)?;
         self.state = instant.state;
         Ok(instant.answer)
+    }
+
+    /// Number 15 unless the machine waits, then 16 for a seventeenth name.
+    fn save(&mut self, name: u32) -> Result<(), u8> {
+        if self.state[0] != WAITING {
+            return Err(15);
+        }
+        if !self.positions.contains_key(&name) && self.positions.len() == POSITIONS {
+            return Err(16);
+        }
+        self.positions.insert(name, self.state.clone());
+        Ok(())
     }
 }
 
@@ -88,10 +111,28 @@ impl Model {
     }
 
     pub fn tick(&mut self, length: usize, bay: u32, input: u32, answer_length: usize) -> Result<Vec<u8>, u8> {
-        let bay = self.bay(length, bay, true)?.as_mut().expect("a filled bay");
+        let bay = self.filled(length, bay)?;
         if answer_length != ANSWER_LENGTH {
             return Err(1);
         }
         bay.tick(input)
+    }
+
+    fn filled(&mut self, length: usize, bay: u32) -> Result<&mut Bay, u8> {
+        Ok(self.bay(length, bay, true)?.as_mut().expect("a filled bay"))
+    }
+
+    pub fn save(&mut self, length: usize, bay: u32, name: u32) -> Result<(), u8> {
+        self.filled(length, bay)?.save(name)
+    }
+
+    pub fn restore(&mut self, length: usize, bay: u32, name: u32) -> Result<(), u8> {
+        let bay = self.filled(length, bay)?;
+        bay.state = bay.positions.get(&name).ok_or(15)?.clone();
+        Ok(())
+    }
+
+    pub fn forget(&mut self, length: usize, bay: u32, name: u32) -> Result<(), u8> {
+        self.filled(length, bay)?.positions.remove(&name).map(|_| ()).ok_or(15)
     }
 }
