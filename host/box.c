@@ -83,6 +83,27 @@ static void release(uint8_t number, uint32_t bay)
     after(number, intake_box_release(box, INTAKE_BOX_LENGTH, bay), "release", "\n");
 }
 
+typedef uint8_t position_call(uint8_t *, size_t, uint32_t, uint32_t);
+
+static const struct {
+    const char *name;
+    position_call *call;
+} position_calls[] = {{"save", intake_box_save}, {"restore", intake_box_restore}, {"forget", intake_box_forget}};
+
+enum { SAVE, RESTORE, FORGET, POSITION_CALLS };
+
+static void position(int what, uint8_t number, uint32_t bay, uint32_t name)
+{
+    char line[16];
+    snprintf(line, sizeof line, "%08lX\n", (unsigned long)name);
+    before(number);
+    after(number, position_calls[what].call(box, INTAKE_BOX_LENGTH, bay, name), position_calls[what].name, line);
+}
+
+static void save(uint8_t number, uint32_t bay, uint32_t name) { position(SAVE, number, bay, name); }
+static void restore(uint8_t number, uint32_t bay, uint32_t name) { position(RESTORE, number, bay, name); }
+static void forget(uint8_t number, uint32_t bay, uint32_t name) { position(FORGET, number, bay, name); }
+
 /* Ticks, and gives the answer record, or null if the call was turned down; then it must not have been written. */
 static const uint8_t *tick(uint8_t number, uint32_t bay, uint32_t input)
 {
@@ -115,6 +136,10 @@ static void order(void)
         release(INTAKE_NO_SUCH_BAY, none[i]);
         admit(INTAKE_NO_SUCH_BAY, none[i], ENDLESS);
         tick(INTAKE_NO_SUCH_BAY, none[i], 0);
+        for (int what = 0; what < POSITION_CALLS; what++) {
+            position(what, INTAKE_NO_SUCH_BAY, none[i], 0);
+            expect(position_calls[what].call(NULL, 0, none[i], 0) == 13, 13, "a bad box", "13\n");
+        }
         expect(intake_box_admit(NULL, 0, none[i], bad, 0, UINT32_MAX) == 13, 13, "a bad box and sequence", "13\n");
         expect(intake_box_release(NULL, 0, none[i]) == 13, 13, "a bad box", "13\n");
         expect(intake_box_tick(NULL, 0, none[i], 0, NULL, 0) == 13, 13, "a bad box and answer", "13\n");
@@ -125,6 +150,8 @@ static void order(void)
             expect(intake_box_admit(box, lengths[i], bay, bad, 1, 0) == 1, 1, "a short box, admission", "1\n");
             expect(intake_box_release(box, lengths[i], bay) == 1, 1, "a short box, release", "1\n");
             expect(intake_box_tick(box, lengths[i], bay, 0, answer, 12) == 1, 1, "a short box, tick", "1\n");
+            for (int what = 0; what < POSITION_CALLS; what++)
+                expect(position_calls[what].call(box, lengths[i], bay, 0) == 1, 1, "a short box, position", "1\n");
         }
     expect(intake_box_tick(box, INTAKE_BOX_LENGTH, 4, 0, answer, 11) == 13, 13, "an empty bay, a bad answer", "13\n");
     expect(intake_box_tick(box, INTAKE_BOX_LENGTH, 3, 0, answer, 11) == 1, 1, "a short answer", "1\n");
@@ -137,6 +164,10 @@ static void order(void)
     admit(INTAKE_UNKNOWN_COMMAND, 4, "FF");
     release(INTAKE_NO_SUCH_BAY, 4);
     tick(INTAKE_NO_SUCH_BAY, 4, 0);
+    for (int what = 0; what < POSITION_CALLS; what++) {
+        position(what, INTAKE_NO_SUCH_BAY, 4, 0);
+        position(what, INTAKE_NO_POSITION, 3, 0); /* the machine is fresh, and no name is known */
+    }
     release(INTAKE_ACCEPTED, 3);
     release(INTAKE_NO_SUCH_BAY, 3);
 }
@@ -152,6 +183,10 @@ static void long_box(void)
         expect(given == INTAKE_BUFFER_LENGTH, given, "a long box, admission", "1\n");
         given = intake_box_tick(longer, INTAKE_BOX_LENGTH + more, 0, 0, answer, sizeof answer);
         expect(given == INTAKE_BUFFER_LENGTH, given, "a long box, tick", "1\n");
+        for (int what = 0; what < POSITION_CALLS; what++) {
+            given = position_calls[what].call(longer, INTAKE_BOX_LENGTH + more, 0, 0);
+            expect(given == INTAKE_BUFFER_LENGTH, given, "a long box, position", "1\n");
+        }
         given = intake_box_release(longer, INTAKE_BOX_LENGTH + more, 0);
         expect(given == INTAKE_BUFFER_LENGTH && memcmp(longer, copy, sizeof copy) == 0, given, "a long box", "1\n");
     }
@@ -262,6 +297,98 @@ static void side_by_side(void)
     release(INTAKE_ACCEPTED, 1);
 }
 
+/* Waits at labels 1, 2 and 3 in turn, and emits the number of the label that it leaves; with signal 0 present it ends. */
+#define STEPS "09 06 04 01 01 04 02 01 04 01 02 04 02 02 04 01 03 04 02 03 07 00 03 01 00"
+
+/* 02, item 9: coming back goes on from where the machine waited, from every phase, and the position stays. */
+static void coming_back(void)
+{
+    admit(INTAKE_ACCEPTED, 0, STEPS);
+    save(INTAKE_NO_POSITION, 0, 7); /* fresh */
+    answers(0, 0, INTAKE_WAITING, 0, "waits at 1");
+    save(INTAKE_ACCEPTED, 0, 7);
+    answers(0, 0, INTAKE_WAITING, 1 << 1, "waits at 2");
+    save(INTAKE_ACCEPTED, 0, 0); /* 0 is a name */
+    answers(0, 0, INTAKE_WAITING, 1 << 2, "waits at 3");
+    restore(INTAKE_NO_POSITION, 0, 1);
+    restore(INTAKE_ACCEPTED, 0, 7);
+    answers(0, 0, INTAKE_WAITING, 1 << 1, "from 1, waiting");
+    answers(0, 0, INTAKE_WAITING, 1 << 2, "from 2, waiting");
+    answers(0, 1, INTAKE_ENDED, 1 << 3, "over");
+    tick(INTAKE_OVER, 0, 0);
+    save(INTAKE_NO_POSITION, 0, 7); /* over; what the name had is kept */
+    save(INTAKE_NO_POSITION, 0, 8);
+    restore(INTAKE_ACCEPTED, 0, 7);
+    restore(INTAKE_ACCEPTED, 0, 7); /* twice in a row */
+    answers(0, 0, INTAKE_WAITING, 1 << 1, "from 1, over before");
+    restore(INTAKE_ACCEPTED, 0, 0);
+    restore(INTAKE_ACCEPTED, 0, 7);
+    restore(INTAKE_ACCEPTED, 0, 0);
+    answers(0, 0, INTAKE_WAITING, 1 << 2, "from 2, the last that was asked for");
+    save(INTAKE_ACCEPTED, 0, 7); /* replaces the first */
+    answers(0, 1, INTAKE_ENDED, 1 << 3, "over again");
+    restore(INTAKE_ACCEPTED, 0, 7);
+    answers(0, 0, INTAKE_WAITING, 1 << 3, "from 3, replaced");
+    forget(INTAKE_ACCEPTED, 0, 7);
+    forget(INTAKE_NO_POSITION, 0, 7);
+    restore(INTAKE_NO_POSITION, 0, 7);
+    answers(0, 0, INTAKE_WAITING, 1 << 1, "from 1, after what was turned down");
+    restore(INTAKE_ACCEPTED, 0, 0);
+    answers(0, 0, INTAKE_WAITING, 1 << 2, "from 2, another name than the one forgotten");
+    release(INTAKE_ACCEPTED, 0);
+    admit(INTAKE_ACCEPTED, 0, STEPS);
+    answers(0, 0, INTAKE_WAITING, 0, "admitted anew");
+    restore(INTAKE_NO_POSITION, 0, 0); /* the positions of before are gone */
+    forget(INTAKE_NO_POSITION, 0, 0);
+    answers(0, 0, INTAKE_WAITING, 1 << 1, "admitted anew, second instant");
+    release(INTAKE_ACCEPTED, 0);
+}
+
+/* Sixteen names that differ in one byte, and a seventeenth. */
+static void sixteen(void)
+{
+    uint32_t names[INTAKE_POSITION_COUNT], more = 0x11223355;
+    for (uint32_t i = 0; i < INTAKE_POSITION_COUNT; i++)
+        names[i] = UINT32_C(0x11223344) ^ (i + 1) << 8 * (i % 4);
+    admit(INTAKE_ACCEPTED, 3, STEPS);
+    admit(INTAKE_ACCEPTED, 4, STEPS);
+    answers(3, 0, INTAKE_WAITING, 0, "waits at 1");
+    answers(4, 0, INTAKE_WAITING, 0, "waits at 1, another bay");
+    for (uint32_t i = 0; i < INTAKE_POSITION_COUNT; i++) { /* an odd place has the second label, an even one the first */
+        if (i % 2 == 1)
+            answers(3, 0, INTAKE_WAITING, 1 << 1, "waits at 2");
+        save(INTAKE_ACCEPTED, 3, names[i]);
+        restore(INTAKE_ACCEPTED, 3, names[0]);
+    }
+    save(INTAKE_POSITIONS_FULL, 3, more);
+    save(INTAKE_POSITIONS_FULL, 3, 0);
+    save(INTAKE_ACCEPTED, 4, more); /* each bay has its own */
+    restore(INTAKE_NO_POSITION, 3, more);
+    forget(INTAKE_NO_POSITION, 3, more);
+    for (uint32_t i = 0; i < INTAKE_POSITION_COUNT; i++) {
+        restore(INTAKE_ACCEPTED, 3, names[i]);
+        answers(3, 0, INTAKE_WAITING, i % 2 == 1 ? 1 << 2 : 1 << 1, "one of sixteen");
+        save(INTAKE_ACCEPTED, 3, names[i]); /* replaced while 16 are kept: one label further */
+        restore(INTAKE_NO_POSITION, 4, names[i]);
+    }
+    restore(INTAKE_ACCEPTED, 3, names[1]);
+    answers(3, 1, INTAKE_ENDED, 1 << 3, "one of sixteen, replaced");
+    save(INTAKE_NO_POSITION, 3, more); /* over: 15 before 16 */
+    restore(INTAKE_ACCEPTED, 3, names[0]);
+    forget(INTAKE_ACCEPTED, 3, names[9]);
+    save(INTAKE_ACCEPTED, 3, more); /* in the place of the one forgotten */
+    save(INTAKE_POSITIONS_FULL, 3, names[9]);
+    restore(INTAKE_NO_POSITION, 3, names[9]);
+    restore(INTAKE_ACCEPTED, 3, more);
+    answers(3, 0, INTAKE_WAITING, 1 << 2, "from 2, the new name");
+    release(INTAKE_ACCEPTED, 3);
+    restore(INTAKE_ACCEPTED, 4, more);
+    answers(4, 0, INTAKE_WAITING, 1 << 1, "the other bay's");
+    release(INTAKE_ACCEPTED, 4);
+    memset(was, 0, sizeof was);
+    expect(memcmp(box, was, sizeof was) == 0, 0, "a box with nothing in it, after positions", "\n");
+}
+
 /* Lines whose ceilings are above 65,536: (64 + 6) * 64 * 64 = 286,720, and 64 * 58 * 64 = 237,568. */
 static const char *const dear[] = {"0: 63(06) 00 & 0000003F\n", "0: 6(08 00) 57(06) 00\n"};
 
@@ -295,6 +422,8 @@ int main(int argc, char **argv)
         again();
         running();
         side_by_side();
+        coming_back();
+        sixteen();
         admit(INTAKE_ACCEPTED, 0, WRONG_AT_ONCE);
         answers(0, 0, INTAKE_WRONG, 0, "wrong");
         release(INTAKE_ACCEPTED, 0);
