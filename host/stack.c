@@ -3,7 +3,7 @@
  * the lowest byte that changed tells. What the same call of an empty function takes is left out. Every sequence has depth
  * 64, the greatest: commands with parts 63 times, inside them a leaf, and their other parts leaves beside. Six signals stand
  * around it in the sequence, or outside by the read-back set, which takes no level of the depth. Each is admitted to a box
- * too, ticked twice there and released. The most of the check, of the tick and of the calls on a box is held to what
+ * too, ticked twice there, saved sixteen times and once more, restored, forgotten and released. The most of the check, of the tick and of the calls on a box is held to what
  * include/intake.h promises, and a thread of the size that it names runs the deepest calls.
  */
 #include "intake.h"
@@ -21,7 +21,7 @@ enum { STACK = 65536, PAINT = 0xA5, DEPTH = 64, HATCH = 31, SIGNALS = 6, MIXES =
 static uint8_t stack[STACK], sequence[1024], state[INTAKE_STATE_LENGTH], answer[INTAKE_ANSWER_LENGTH];
 static uint8_t box[INTAKE_BOX_LENGTH];
 static size_t length;
-static uint32_t input, read_back;
+static uint32_t input, read_back, name;
 static uint8_t number;
 static ucontext_t here, there;
 static unsigned passed, failed;
@@ -37,6 +37,9 @@ static void tick(void)
 static void box_admit(void) { number = intake_box_admit(box, sizeof box, BAY, sequence, length, read_back); }
 static void box_tick(void) { number = intake_box_tick(box, sizeof box, BAY, input, answer, sizeof answer); }
 static void box_release(void) { number = intake_box_release(box, sizeof box, BAY); }
+static void box_save(void) { number = intake_box_save(box, sizeof box, BAY, name); }
+static void box_restore(void) { number = intake_box_restore(box, sizeof box, BAY, name); }
+static void box_forget(void) { number = intake_box_forget(box, sizeof box, BAY, name); }
 
 /* The bytes of stack below its top that a function writes. */
 static size_t taken(void (*call)(void))
@@ -159,6 +162,22 @@ static uint8_t admission(void)
     return commands * (1 + loops) << signals > INTAKE_SHARED_CEILING ? INTAKE_ABOVE_CEILING : INTAKE_ACCEPTED;
 }
 
+/* The greatest of the calls on positions: up to sixteen of a machine that waits, and a seventeenth. */
+static size_t positions(int waits, const char *what)
+{
+    size_t bytes = 0;
+    for (name = 0; name <= INTAKE_POSITION_COUNT; name++) {
+        uint8_t kept = name < INTAKE_POSITION_COUNT ? INTAKE_ACCEPTED : INTAKE_POSITIONS_FULL;
+        bytes = larger(bytes, used(box_save, waits ? kept : INTAKE_NO_POSITION, what));
+    }
+    for (name = INTAKE_POSITION_COUNT + 1; name-- > 0;) {
+        uint8_t known = waits && name < INTAKE_POSITION_COUNT ? INTAKE_ACCEPTED : INTAKE_NO_POSITION;
+        bytes = larger(bytes, used(box_restore, known, what));
+        bytes = larger(bytes, used(box_forget, known, what));
+    }
+    return bytes;
+}
+
 /* The greatest of the calls on a box; if the sequence is admitted, two instants of it, without signal 0 and with it. */
 static size_t in_box(uint8_t admitted, const char *what)
 {
@@ -169,7 +188,9 @@ static size_t in_box(uint8_t admitted, const char *what)
         if (admitted != INTAKE_ACCEPTED)
             continue;
         bytes = larger(bytes, used(box_tick, INTAKE_ACCEPTED, what));
-        uint8_t next = answer[INTAKE_ANSWER_CODE] == INTAKE_WAITING ? INTAKE_ACCEPTED : INTAKE_OVER;
+        int waits = answer[INTAKE_ANSWER_CODE] == INTAKE_WAITING;
+        bytes = larger(bytes, positions(waits, what));
+        uint8_t next = waits ? INTAKE_ACCEPTED : INTAKE_OVER;
         bytes = larger(bytes, used(box_tick, next, what));
         bytes = larger(bytes, used(box_release, INTAKE_ACCEPTED, what));
     }
