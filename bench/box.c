@@ -1,7 +1,8 @@
 /*
  * Times the tick of a bay against intake_tick on the same sequence, record and inputs, and admission to a box against
  * plain C that does the same: in turn within each round, caches and branch predictors warm. The other seven bays are
- * filled. The run files that are named are run whole, the sequences made by rule for up to two instants.
+ * filled. The run files that are named are run whole, the sequences made by rule for up to two instants. Then the calls on
+ * positions, of a bay that keeps sixteen, against plain C.
  */
 #include "timing.h"
 
@@ -12,8 +13,9 @@
 
 enum { BAY = 5, STRETCH = INTAKE_BOX_LENGTH / INTAKE_BAY_COUNT, SAMPLE = 20000 /* nanoseconds */ };
 
-/* Where a stretch has the length of the sequence and the state record (docs/FORMAT.md, 'Box'). */
+/* Where a stretch has the length of the sequence, the state record and the positions (docs/FORMAT.md, 'Box'). */
 enum { AT_LENGTH = BAY * STRETCH, LENGTH_BYTES = 2, AT_STATE = BAY * STRETCH + 1038 };
+enum { AT_POSITIONS = BAY * STRETCH + 1059, POSITIONS_LENGTH = 336, NAMED = 500 /* calls of a sample */ };
 
 static const struct shape shapes[] = {
     {"emits in sequence", "\x04", "", "\x02", "\x02", 12, false, false, 32},
@@ -125,6 +127,64 @@ static void build(struct bay *bay, const struct shape *shape, size_t length)
     memcpy(bay->file + 2, b.bytes, b.length);
 }
 
+typedef uint8_t position_call(uint8_t *, size_t, uint32_t, uint32_t);
+
+/* A call on positions, of the archive and of plain C, and the first of the sixteen names that it is given in turn. */
+struct positions {
+    const char *name;
+    position_call *calls[2];
+    uint32_t first;
+    uint8_t number;
+};
+
+/* Processor nanoseconds of a call on positions, and of putting back what it may have changed. */
+static double sample_positions(const void *what, int plain)
+{
+    static volatile uint8_t sink;
+    const struct positions *row = what;
+    uint8_t kept[POSITIONS_LENGTH], *table = boxes[plain] + AT_POSITIONS;
+    memcpy(kept, table, sizeof kept);
+    double start = nanoseconds();
+    for (uint32_t i = 0; i < NAMED; i++) {
+        sink = row->calls[plain](boxes[plain], INTAKE_BOX_LENGTH, BAY, row->first + i % INTAKE_POSITION_COUNT);
+        memcpy(table, kept, sizeof kept);
+    }
+    (void)sink;
+    return (nanoseconds() - start) / NAMED;
+}
+
+/* The calls on the positions of a bay that waits and keeps sixteen. */
+static void positions(const uint8_t *sequence, size_t length)
+{
+    enum { NAME = 0x10000 };
+    static const struct positions rows[] = {
+        {"save, a known name", {intake_box_save, plain_box_save}, NAME, INTAKE_ACCEPTED},
+        {"save, a seventeenth", {intake_box_save, plain_box_save}, NAME + INTAKE_POSITION_COUNT, INTAKE_POSITIONS_FULL},
+        {"restore", {intake_box_restore, plain_box_restore}, NAME, INTAKE_ACCEPTED},
+        {"forget", {intake_box_forget, plain_box_forget}, NAME, INTAKE_ACCEPTED},
+    };
+    uint8_t answer[INTAKE_ANSWER_LENGTH], kept[INTAKE_BOX_LENGTH];
+    for (int plain = 0; plain < 2; plain++) {
+        memset(boxes[plain] + BAY * STRETCH, 0, STRETCH);
+        if (plain_box_admit(boxes[plain], sizeof *boxes, BAY, sequence, length, 0) != 0 ||
+            plain_box_tick(boxes[plain], sizeof *boxes, BAY, 0, answer, sizeof answer) != 0)
+            give_up("a small bay", "not admitted");
+        for (uint32_t i = 0; i < INTAKE_POSITION_COUNT; i++)
+            if (rows[0].calls[plain](boxes[plain], sizeof *boxes, BAY, NAME + i) != INTAKE_ACCEPTED)
+                give_up("a position", "not saved");
+    }
+    printf("%-30s %8s %8s %6s\n", "ns a call at sixteen positions", "intake", "plain", "ratio");
+    for (size_t i = 0; i < sizeof rows / sizeof *rows; i++) {
+        for (int plain = 0; plain < 2; plain++) {
+            memcpy(kept, boxes[plain], sizeof kept);
+            if (rows[i].calls[plain](kept, sizeof kept, BAY, rows[i].first) != rows[i].number)
+                give_up(rows[i].name, "another number");
+        }
+        struct comparison row = compare(sample_positions, &rows[i], ROUNDS);
+        printf("%-30s %8.0f %8.0f %6.2f\n", rows[i].name, row.intake, row.plain, row.ratio);
+    }
+}
+
 int main(int count, char **paths)
 {
     static const size_t lengths[] = {14, 64, 256, 1024};
@@ -151,4 +211,5 @@ int main(int count, char **paths)
     }
     printf("geometric means of the ratios: tick, 50 bytes and more, %.2f; admission %.2f\n", exp(logarithms[0] / rows[0]),
            exp(logarithms[1] / rows[1]));
+    positions(small, sizeof small);
 }
