@@ -1,9 +1,11 @@
 /*
  * A small host with several bays: runs the bays of up to eight run files side by side in one box, an instant of each in
- * turn, and prints a line for each instant.
+ * turn, and prints a line for each instant. A word such as 0:4:save:1 asks for a call on a position: before instant 4 of bay
+ * 0 save it under the name 1; restore comes back to it, and forget forgets it.
  *
  *     gcc -Iinclude host/example_box.c target/staticlib/libintake.a -o example_box
  *     ./example_box examples/intake.bin examples/rinse.bin
+ *     ./example_box examples/clean.bin 0:4:save:1 0:7:restore:1
  */
 #include "intake.h"
 
@@ -11,6 +13,7 @@
 #include <stdbool.h>
 #include <stdio.h>
 #include <stdlib.h>
+#include <string.h>
 
 /* The run file: the length of the sequence, the sequence, its read-back set, then an input for each instant. */
 enum { MAX_FILE = 65536, LENGTH_BYTES = 2, READ_BACK_BYTES = 4, INPUT_BYTES = 4 };
@@ -24,8 +27,25 @@ struct bay {
     bool present;
 };
 
+/* A call on a position of a bay, before one of its instants. */
+struct request {
+    uint32_t bay;
+    size_t instant;
+    char call[8];
+    uint32_t name;
+};
+
+static const struct {
+    const char *name;
+    uint8_t (*call)(uint8_t *box, size_t box_length, uint32_t bay, uint32_t name);
+} calls[] = {{"save", intake_box_save}, {"restore", intake_box_restore}, {"forget", intake_box_forget}};
+
+enum { MAX_REQUESTS = 256 };
+
 static uint8_t box[INTAKE_BOX_LENGTH]; /* all bytes 00: eight empty bays */
 static struct bay bays[INTAKE_BAY_COUNT];
+static struct request requests[MAX_REQUESTS];
+static size_t request_count;
 
 static bool read_file(struct bay *bay, const char *path)
 {
@@ -50,11 +70,27 @@ static void admit(uint32_t number_of_bay)
         printf("%" PRIu32 " refused %u: %s\n", number_of_bay, (unsigned)number, intake_text(number));
 }
 
+/* Makes the calls that are asked for before the bay's next instant. */
+static void positions(uint32_t number_of_bay)
+{
+    for (const struct request *asked = requests; asked < requests + request_count; asked++)
+        for (size_t i = 0; i < sizeof calls / sizeof *calls; i++)
+            if (asked->bay == number_of_bay && asked->instant == bays[number_of_bay].instant + 1 &&
+                strcmp(asked->call, calls[i].name) == 0) {
+                uint8_t number = calls[i].call(box, sizeof box, number_of_bay, asked->name);
+                printf("%" PRIu32 " %s %" PRIu32, number_of_bay, asked->call, asked->name);
+                if (number != INTAKE_ACCEPTED)
+                    printf(" refused %u: %s", (unsigned)number, intake_text(number));
+                putchar('\n');
+            }
+}
+
 /* One instant; a bay whose machine is over, or whose inputs are used up, is taken out. */
 static void instant(uint32_t number_of_bay)
 {
     struct bay *bay = &bays[number_of_bay];
     uint8_t answer[INTAKE_ANSWER_LENGTH];
+    positions(number_of_bay);
     if (bay->count - bay->next < INPUT_BYTES ||
         intake_box_tick(box, sizeof box, number_of_bay, intake_number_in(bay->file + bay->next, INPUT_BYTES), answer,
                         sizeof answer) != INTAKE_ACCEPTED) {
@@ -69,19 +105,32 @@ static void instant(uint32_t number_of_bay)
            (unsigned)intake_answer_kind(answer), (unsigned)intake_answer_place(answer), intake_answer_emitted(answer));
 }
 
+/* Whether a word asks for a call, which is then kept. */
+static bool asks(const char *word)
+{
+    struct request asked;
+    if (request_count == MAX_REQUESTS || sscanf(word, "%" SCNu32 ":%zu:%7[a-z]:%" SCNu32, &asked.bay, &asked.instant,
+                                                asked.call, &asked.name) != 4)
+        return false;
+    requests[request_count++] = asked;
+    return true;
+}
+
 int main(int argc, char **argv)
 {
-    uint32_t count = (uint32_t)argc - 1;
-    if (argc < 2 || count > INTAKE_BAY_COUNT) {
-        fprintf(stderr, "usage: example_box RUN-FILE..., at most %d\n", INTAKE_BAY_COUNT);
-        return EXIT_FAILURE;
-    }
-    for (uint32_t i = 0; i < count; i++) {
-        if (!read_file(&bays[i], argv[i + 1])) {
-            fprintf(stderr, "%s: no run file\n", argv[i + 1]);
+    uint32_t count = 0;
+    for (int i = 1; i < argc; i++) {
+        if (asks(argv[i]))
+            continue;
+        if (count == INTAKE_BAY_COUNT || !read_file(&bays[count], argv[i])) {
+            fprintf(stderr, "%s: no run file, or more than %d\n", argv[i], INTAKE_BAY_COUNT);
             return EXIT_FAILURE;
         }
-        admit(i);
+        admit(count++);
+    }
+    if (count == 0) {
+        fprintf(stderr, "usage: example_box RUN-FILE... [BAY:INSTANT:CALL:NAME...], at most %d files\n", INTAKE_BAY_COUNT);
+        return EXIT_FAILURE;
     }
     for (bool any = true; any;) {
         any = false;

@@ -1,11 +1,13 @@
 #!/usr/bin/env python3
-"""Runs the examples side by side in a box, and compares each bay's lines with the listing that its page shows.
+"""Runs the examples side by side in a box, and compares each bay's lines with the listing that its page shows; and what the
+pages show of the host itself.
 
   host/example_box_test.py HOST...
 
 The last line is 'N passed, M failed'.
 """
 import random
+import re
 import subprocess
 import sys
 import tempfile
@@ -56,13 +58,38 @@ def refused(host, files):
         examples.expect(run(host, [], *words).returncode == 1, f"{len(words)} words")
 
 
+def shown():
+    """The commands of the pages that run the host, their words, with what the page shows below each."""
+    found = []
+    for page in sorted((ROOT / "examples").glob("*.md")):
+        text = page.read_text(encoding="utf-8")
+        found += re.findall(r"^    target/host/example-box (.*)\n\n```text\n(.*?)```", text, re.M | re.S)
+    return [(words.split(), expected) for words, expected in found]
+
+
+def positions(host, commands):
+    """The commands of the pages, as they stand there; and beside another bay, which they leave as it is."""
+    for words, expected in commands:
+        done = subprocess.run([host, *words], capture_output=True, text=True, check=False, cwd=ROOT)
+        examples.expect(done.returncode == 0 and done.stdout == expected, f"{words}: {done.stdout}{done.stderr}")
+        beside = subprocess.run([host, *words, words[0]], capture_output=True, text=True, check=False, cwd=ROOT)
+        own = [line for line in beside.stdout.splitlines() if line.startswith("0 ")]
+        other = [line[2:] for line in beside.stdout.splitlines() if line.startswith("1 ")]
+        alone = subprocess.run([host, words[0]], capture_output=True, text=True, check=False, cwd=ROOT).stdout
+        examples.expect(own == expected.splitlines(), f"{words} beside another bay: {own}")
+        examples.expect(other == [line[2:] for line in alone.splitlines()], f"a bay beside {words}: {other}")
+
+
 def main(hosts):
     files = examples.documented()
+    commands = shown()
+    examples.expect(len(commands) == 1, f"{len(commands)} commands of pages")
     for host in hosts:
         rng = random.Random(1)
         for _ in range(LISTS):
             compare(host, [rng.choice(files) for _ in range(rng.randrange(1, BAYS + 1))])
         refused(host, files)
+        positions(host, commands)
     print(f"{examples.passed} passed, {examples.failed} failed")
     return examples.failed != 0
 
