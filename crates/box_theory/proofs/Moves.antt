@@ -22,7 +22,7 @@ use Rattle.box_calls.specs.BayCalls.{positionsKept, restored, baySaveOf, bayFor
 
 pub data Moved (from : ℕ) (s : List ℕ) (o : Called) : Type 0 where
   refused : (n : ℕ) → 15 ≤ n → o ≡ called n s [] → Moved from s o
-  moved : (at n : ℕ) (bytes : List ℕ) → from ≤ at → at + n ≤ stretchLength → (length s ≡ stretchLength → length bytes ≡ n)
+  stored : (at n : ℕ) (bytes : List ℕ) → from ≤ at → at + n ≤ stretchLength → (length s ≡ stretchLength → length bytes ≡ n)
       → o ≡ called 0 (put at n bytes s) [] → Moved from s o
 
 module _ {from : ℕ} {s : List ℕ} {o : Called} (m : Moved from s o) where
@@ -31,14 +31,14 @@ module _ {from : ℕ} {s : List ℕ} {o : Called} (m : Moved from s o) where
     where
       go : Moved from s o → o ≡ called (number o) s []
       go (refused n d e) = e ∙ ap (λ (k : ℕ). called k s []) (sym (ap number e))
-      go (moved at n bytes low high z e) = absurd (h (ap number e))
+      go (stored at n bytes low high z e) = absurd (h (ap number e))
 
   pub moved-length : length s ≡ stretchLength → length (memoryAfter o) ≡ stretchLength
   moved-length y = go m
     where
       go : Moved from s o → length (memoryAfter o) ≡ stretchLength
       go (refused n d e) = ap (λ (r : Called). length (memoryAfter r)) e ∙ y
-      go (moved at n bytes low high z e) =
+      go (stored at n bytes low high z e) =
           ap (λ (r : Called). length (memoryAfter r)) e ∙ length-put at n bytes s (omega arith) (z y) ∙ y
 
   pub moved-not-13 : number o ≢ 13
@@ -46,7 +46,7 @@ module _ {from : ℕ} {s : List ℕ} {o : Called} (m : Moved from s o) where
     where
       go : Moved from s o → ⊥
       go (refused n d e) = omega (arith, ap number e)
-      go (moved at n bytes low high z e) = omega (arith, ap number e)
+      go (stored at n bytes low high z e) = omega (arith, ap number e)
 
 pub positions-sized : (s : List ℕ) → length s ≡ stretchLength → length (positionsIn s) ≡ tableLength
 positions-sized s z = length-take-le tableLength (drop positionsAt s) (omega (arith, length-drop positionsAt s))
@@ -56,7 +56,7 @@ module _ (s : List ℕ) (name : ℕ) where
       → (length (positionsIn s) ≡ tableLength → length (tableKept o) ≡ tableLength) → Moved positionsAt s (positionsKept s o)
   table-moved (kept n t) c same sized =
       ⊎-elim
-      (λ e. moved positionsAt tableLength t (omega arith) (omega arith) (λ z. sized (positions-sized s z))
+      (λ e. stored positionsAt tableLength t (omega arith) (omega arith) (λ z. sized (positions-sized s z))
       (ap (λ (k : ℕ). called k (put positionsAt tableLength t s) []) e))
       (λ d. refused n d (ap (λ (r : List ℕ). called n (put positionsAt tableLength r s) []) (same (λ e. omega arith))
       ∙ ap (λ (r : List ℕ). called n r []) (put-slot positionsAt tableLength s)))
@@ -90,4 +90,4 @@ module _ (s : List ℕ) (name : ℕ) where
       go : (l : Option ℕ) → Moved stateAt s (restored s l)
       go none = refused 15 (omega arith) refl
       go (some labels) =
-          moved stateAt stateLength (stateRecord 1 labels) (omega arith) (omega arith) (λ z. state-sized 1 labels) refl
+          stored stateAt stateLength (stateRecord 1 labels) (omega arith) (omega arith) (λ z. state-sized 1 labels) refl

@@ -21,7 +21,6 @@ use Rattle.positions.proofs.Theorems as table
 use Rattle.positions.proofs.Theorems.{cleared-agrees, save-agrees, forget-agrees, lookup-zeros}
 use Rattle.box_calls.specs.Called.{Called, called, number, memoryAfter}
 use Rattle.box_calls.specs.Stretch.{stateAt, lengthIn, isEmpty, sequenceIn, stateIn, positionsIn}
-use Rattle.box_calls.specs.BayCalls.{baySaveOf, bayRestoreOf}
 use Rattle.box_calls.specs.Box.{bayCount, boxLength, emptyBox, stretchOf, present, Call, admit, release, tick, save, restore, forget, buffers, bayCall, isFor, callOf}
 use Rattle.box_calls.specs.Lists.{Request, afterCall, boxAfter}
 use Rattle.box_calls.specs.Shares.{Sendable, AllSendable, none, each}
@@ -164,8 +163,8 @@ module _ (box : List ℕ) (h : Kept box) (bay : ℕ) (b : bay < bayCount) (f : l
   there : isFor release r ≡ true
   there = rw (ne-eqb (lengthIn r) 0 f)
 
-  save-is : number (callOf box bay (save name)) ≡ number (baySaveOf r name)
-  save-is = ap number (own box bay (save name) b (h .sized-box)) ∙ rw (ne-eqb (lengthIn r) 0 f)
+  on-bay : (c : Call) → isFor c r ≡ true → number (callOf box bay c) ≡ number (bayCall (present bayCount box) c r)
+  on-bay c i = ap number (own box bay c b (h .sized-box)) ∙ rw i
 
   pub save-numbers : ((number (callOf box bay (save name)) ≡ 15) ↔ (phaseIn (stateIn r) ≢ 1))
       × ((number (callOf box bay (save name)) ≡ 16)
@@ -177,22 +176,19 @@ module _ (box : List ℕ) (h : Kept box) (bay : ℕ) (b : bay < bayCount) (f : l
       let full = table.sixteen-others name l (positionsIn r) (v .formed) in
       elim (ℕ-discrete (phaseIn (stateIn r)) 1) [
         | yes w ↦
-            let e : number (callOf box bay (save name)) ≡ numberKept (saveOf name l (positionsIn r)) = save-is ∙ save-waiting r name w in
+            let e : number (callOf box bay (save name)) ≡ numberKept (saveOf name l (positionsIn r)) = on-bay (save name) there ∙ save-waiting r name w in
             let two = table.save-number name l (positionsIn r) in (
               (λ n. absurd (⊎-elim (λ x. omega arith) (λ x. omega arith) two), λ n. absurd (n w)),
               (λ n. let x = full .0 (sym e ∙ n) in (w, x .0, x .1), λ x. e ∙ full .1 (x .1, x .2)),
               λ n m. ⊎-elim (λ x. e ∙ x) (λ x. absurd (m (e ∙ x))) two,
             )
         | no w ↦
-            let e : number (callOf box bay (save name)) ≡ 15 = save-is ∙ save-otherwise r name w in (
+            let e : number (callOf box bay (save name)) ≡ 15 = on-bay (save name) there ∙ save-otherwise r name w in (
               (λ n. w, λ n. e),
               (λ n. absurd (omega arith), λ x. absurd (w (x .0))),
               λ n m. absurd (n e),
             )
       ]
-
-  restore-is : number (callOf box bay (restore name)) ≡ number (bayRestoreOf r name)
-  restore-is = ap number (own box bay (restore name) b (h .sized-box)) ∙ rw (ne-eqb (lengthIn r) 0 f)
 
   pub restore-numbers : ((number (callOf box bay (restore name)) ≡ 15) ↔ (lookup name (positionsIn r) ≡ none))
       × (number (callOf box bay (restore name)) ≢ 15 → number (callOf box bay (restore name)) ≡ 0)
@@ -201,17 +197,17 @@ module _ (box : List ℕ) (h : Kept box) (bay : ℕ) (b : bay < bayCount) (f : l
       go : Known r name → ((number (callOf box bay (restore name)) ≡ 15) ↔ (lookup name (positionsIn r) ≡ none))
           × (number (callOf box bay (restore name)) ≢ 15 → number (callOf box bay (restore name)) ≡ 0)
       go (unknown e) =
-          let n : number (callOf box bay (restore name)) ≡ 15 = restore-is ∙ ap number (restore-unknown r name e) in
+          let n : number (callOf box bay (restore name)) ≡ 15 = on-bay (restore name) there ∙ ap number (restore-unknown r name e) in
           ((λ x. e, λ x. n), λ m. absurd (m n))
       go (known labels e) =
-          let n : number (callOf box bay (restore name)) ≡ 0 = restore-is ∙ ap number (restore-known r name labels e) in
+          let n : number (callOf box bay (restore name)) ≡ 0 = on-bay (restore name) there ∙ ap number (restore-known r name labels e) in
           ((λ x. absurd (omega arith), λ x. absurd (none-some (sym x ∙ e))), λ m. n)
 
   pub forget-numbers : ((number (callOf box bay (forget name)) ≡ 15) ↔ (lookup name (positionsIn r) ≡ none))
       × (number (callOf box bay (forget name)) ≢ 15 → number (callOf box bay (forget name)) ≡ 0)
   forget-numbers =
       let e : number (callOf box bay (forget name)) ≡ numberKept (forgetOf name (positionsIn r)) =
-      ap number (own box bay (forget name) b (h .sized-box)) ∙ rw (ne-eqb (lengthIn r) 0 f) (forget-number r name) in
+      on-bay (forget name) there ∙ forget-number r name in
       let u = table.unknown-forgotten name (positionsIn r) in (
         (λ n. u .0 (sym e ∙ n), λ x. e ∙ u .1 x),
         λ n. ⊎-elim (λ x. e ∙ x) (λ x. absurd (n (e ∙ x))) (table.forget-number name (positionsIn r)),

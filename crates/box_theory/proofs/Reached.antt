@@ -1,5 +1,5 @@
--- The boxes that calls reach from the empty one: a filled bay stands in a state of its sequence and has its ceiling, and the
--- ceilings sum to no more than the shared one.
+-- The boxes that calls reach from the empty one: a filled bay stands in a state of its sequence, so does each of its positions, and it
+-- has its ceiling; the ceilings sum to no more than the shared one.
 use Prim.Native.Nat.{ℕ, zero, suc, _+_, _*_, _^_, _≤_, _<_}
 use native.Mathlib.Omega.{arith}
 use native.Mathlib.Decide.{ℕ-discrete, decLt}
@@ -76,7 +76,10 @@ module _ (k : ℕ) (s : List ℕ) (u : k ≤ sharedCeiling) (v : Sound s) where
           let f = filled-stands t a s (sized s v) r in
           let empty = filled-zeros t (ceilingFor t) s (sized s v) (bounds t a .1) positionsAt tableLength (omega arith) (omega arith) in
           subst (Step k s) (sym (ap memoryAfter e))
-          (record { sound = held t f (subst (Positioned t) (sym empty) (positioned-zeros t)); share = omega (arith, part-held t (filled t (ceilingFor t) s) f) })
+          (record {
+            sound = held t f (subst (Positioned t) (sym empty) (positioned-zeros t));
+            share = omega (arith, part-held t (filled t (ceilingFor t) s) f);
+          })
 
   -- a call to a filled bay that stays filled
   filled-step : (c : Call) → Sendable c → isFor release s ≡ true
@@ -99,8 +102,7 @@ module _ (k : ℕ) (s : List ℕ) (u : k ≤ sharedCeiling) (v : Sound s) where
       let e = vacated-empty s in
       let none = slot-vacated positionsAt tableLength s (omega arith) in
       record { sound = vacant (length-vacated s (sized s v)) e none; share = omega (arith, part-vacant (vacated s) e) }
-  bay-step (tick e answer) r i =
-      filled-step (tick e answer) r i (λ t h q. tick-stands t s h e answer)
+  bay-step (tick e answer) r i = filled-step (tick e answer) r i (λ t h q. tick-stands t s h e answer)
   bay-step (save name) r i = filled-step (save name) r i (λ t h q. behind-stands t s h (save-moved s name) .0)
   bay-step (restore name) r i = filled-step (restore name) r i (λ t h q. restore-stands t s h q name)
   bay-step (forget name) r i = filled-step (forget name) r i (λ t h q. behind-stands t s h (forget-moved s name) .0)

@@ -30,8 +30,7 @@ use Rattle.box_calls.specs.Called.{Called, memoryAfter}
 use Rattle.box_calls.specs.Stretch.{sequenceAt, stateAt, positionsAt, stretchLength, lengthIn, isEmpty, sequenceIn, stateIn, Terms, filled}
 use Rattle.box_calls.specs.BayCalls.{stateKept, bayTickOf}
 use Rattle.box_calls.proofs.Fields.{Holds, behind-holds, moved-holds, moved-state, filled-holds, filled-fresh}
-use Rattle.box_theory.proofs.Moves as Moves
-use Rattle.box_theory.proofs.Moves.{Moved, refused}
+use Rattle.box_theory.proofs.Moves.{Moved, refused, stored}
 use Rattle.box_theory.proofs.Bays.{ceilingFor, bounds, kept-after}
 
 pub record Standing (t : Terms) (s : List ℕ) : Type 0 where
@@ -102,15 +101,18 @@ module _ (t : Terms) (s : List ℕ) (h : Standing t s) where
       }
 
   -- a call that writes behind the state
-  pub behind-stands : {o : Called} → Moved positionsAt s o → Standing t (memoryAfter o) × (stateIn (memoryAfter o) ≡ stateIn s)
+  abbrev Steady : Called → Type 0
+  Steady o = Standing t (memoryAfter o) × (stateIn (memoryAfter o) ≡ stateIn s)
+
+  pub behind-stands : {o : Called} → Moved positionsAt s o → Steady o
   behind-stands {o} m = go m
     where
-      go : Moved positionsAt s o → Standing t (memoryAfter o) × (stateIn (memoryAfter o) ≡ stateIn s)
-      go (refused n d e) = subst (λ (o : Called). Standing t (memoryAfter o) × (stateIn (memoryAfter o) ≡ stateIn s)) (sym e) (h, refl)
-      go (Moves.moved at n bytes low high sized e) =
+      go : Moved positionsAt s o → Steady o
+      go (refused n d e) = subst Steady (sym e) (h, refl)
+      go (stored at n bytes low high sized e) =
           let z = h .holds .sized in
           let same : stateIn (put at n bytes s) ≡ stateIn s = put-before at n bytes s (omega arith) (sized z) stateAt stateLength (omega arith) in
-          subst (λ (o : Called). Standing t (memoryAfter o) × (stateIn (memoryAfter o) ≡ stateIn s)) (sym e) (
+          subst Steady (sym e) (
             record {
               accepted = h .accepted;
               holds = behind-holds t (ceilingFor t) (bounds t (h .accepted) .1) s (h .holds) at n bytes (omega arith) (omega arith) (sized z);
