@@ -200,9 +200,9 @@ uint8_t intake_tick(const uint8_t *sequence, size_t sequence_length, uint8_t *st
                     uint32_t input, uint32_t read_back, uint8_t *answer, size_t answer_length);
 
 /*
- * A box holds the machines of up to INTAKE_BAY_COUNT bays, numbered from 0, each with its own sequence, read-back set, state
- * and positions. It is lent memory of INTAKE_BOX_LENGTH bytes, all of them 00 at first and from then on written by the calls below
- * and by nobody else; docs/FORMAT.md has the layout.
+ * A box holds the machines of up to INTAKE_BAY_COUNT bays, numbered from 0, each with its own sequence, read-back set,
+ * state and positions. It is lent memory of INTAKE_BOX_LENGTH bytes, all of them 00 at first and from then on written by the
+ * calls below and by nobody else; docs/FORMAT.md has the layout.
  *
  * The bays share a ceiling: what the instants of all bays present can take, one of each, sums to INTAKE_SHARED_CEILING
  * reactions at most. The part of a bay is fixed on admission: commands * (1 + loops) * 2^signals of its sequence, as above
@@ -246,17 +246,17 @@ uint8_t intake_box_tick(uint8_t *box, size_t box_length, uint32_t bay, uint32_t 
                         size_t answer_length);
 
 /*
- * Positions. A cleaning crew that leaves a sequence half way may want to come back to 'rinse done'. A filled bay keeps up to
- * INTAKE_POSITION_COUNT positions of its machine, each with a name; every number of 32 bits is a name, 0 too. A position is
- * the label set of a waiting machine and nothing of its past: neither inputs nor what was emitted come back. In a box that
- * these calls alone have written, every instant from there on is as if the machine had just come to it.
+ * Positions. A cleaning crew that leaves a sequence half way may want to come back to 'rinse done'. A filled bay keeps
+ * up to INTAKE_POSITION_COUNT positions of its machine, each with a name; every number of 32 bits is a name, 0 too. A
+ * position is the label set of a waiting machine and nothing of its past: from there on the machine answers as it would
+ * have when it was saved, and what was emitted since is not undone.
  */
 #define INTAKE_POSITION_COUNT 16
 
 /*
- * Saves where the machine of a filled bay waits. A name that is known is replaced, also where INTAKE_POSITION_COUNT are kept.
- * After the numbers of every call on a box come INTAKE_NO_POSITION for a machine that is fresh or over and then
- * INTAKE_POSITIONS_FULL for a further name where INTAKE_POSITION_COUNT are kept. The machine stays as it is.
+ * Saves where the machine of a filled bay waits, which stays as it is. A name that is known is replaced, also where
+ * INTAKE_POSITION_COUNT are kept. After the numbers of every call on a box come INTAKE_NO_POSITION for a machine that is
+ * fresh or over and then INTAKE_POSITIONS_FULL for a further name where INTAKE_POSITION_COUNT are kept.
  */
 uint8_t intake_box_save(uint8_t *box, size_t box_length, uint32_t bay, uint32_t name);
 
