@@ -1,5 +1,5 @@
 -- The widths and limits of 01 and 02, each named once for the definitions; src/lib.rt names them for the code.
-use Prim.Native.Nat.{ℕ, _^_}
+use Prim.Native.Nat.{ℕ, _-_, _^_}
 
 -- ---- 01, 'Commands', and 02, item 7: labels are 0 to 127, signals 0 to 31, exits 1 to 15
 abbrev pub labelCount : ℕ
@@ -61,3 +61,10 @@ maxPositions = 16
 
 abbrev pub nameBytes : ℕ
 nameBytes = 4
+
+-- ---- 02, item 10: the bytes of the number of an instant, and the greatest one
+abbrev pub numberBytes : ℕ
+numberBytes = 4
+
+abbrev pub lastNumber : ℕ
+lastNumber = 256 ^ numberBytes - 1

@@ -42,3 +42,8 @@ pub const TAKEN_COUNT: u64 = 4294967296;
 pub const MAX_POSITIONS: usize = 16;
 
 pub const NAME_BYTES: usize = 4;
+
+// The bytes of the number of an instant, and the greatest one (02, item 10).
+pub const NUMBER_BYTES: usize = 4;
+
+pub const LAST_NUMBER: u32 = 4294967295;
