@@ -10,7 +10,7 @@ use Rattle.numbers.proofs.Bytes.{length-leBytes, le-round-trip}
 use Rattle.states.specs.StateRecord.{stateLength}
 use Rattle.demands.specs.Demands.{cleared}
 use Rattle.parts.specs.Parts.{slot, put, zeros}
-use Rattle.box_calls.specs.Stretch.{lengthBytes, sequenceAt, readBackAt, ceilingAt, stateAt, bayLength, stretchLength, lengthIn, readBackIn, ceilingIn, stateIn, vacated, Terms, filled}
+use Rattle.box_calls.specs.Stretch.{lengthBytes, sequenceAt, readBackAt, ceilingAt, serviceAt, stateAt, bayLength, stretchLength, lengthIn, readBackIn, ceilingIn, serviceOnlyIn, stateIn, vacated, Terms, filled}
 use Rattle.parts.proofs.Zeros.{length-zeros, slot-zeros, zeros-number}
 use Rattle.parts.proofs.Parts.{slot-front, length-put, slot-put, put-before, put-behind}
 
@@ -39,6 +39,7 @@ pub record Holds (t : Terms) (ceiling : ℕ) (s : List ℕ) : Type 0 where
   pub bytes : slot sequenceAt (length (t .sequence)) s ≡ t .sequence
   pub set : readBackIn s ≡ t .readBack
   pub part : ceilingIn s ≡ ceiling
+  pub service : serviceOnlyIn s ≡ t .serviceOnly
 
 -- it holds the same after anything is written at the state or behind it
 module _ (t : Terms) (ceiling : ℕ) (fits : length (t .sequence) ≤ maxBytes) (s : List ℕ) (h : Holds t ceiling s) where
@@ -53,6 +54,7 @@ module _ (t : Terms) (ceiling : ℕ) (fits : length (t .sequence) ≤ maxBytes) 
         bytes = before sequenceAt (length (t .sequence)) (omega arith) ∙ h .bytes;
         set = ap leNumber (before readBackAt signalBytes (omega arith)) ∙ h .set;
         part = ap leNumber (before ceilingAt takenBytes (omega arith)) ∙ h .part;
+        service = ap leNumber (before serviceAt signalBytes (omega arith)) ∙ h .service;
       }
 
   -- the state is written
@@ -89,40 +91,53 @@ module _ (t : Terms) (ceiling : ℕ) (s : List ℕ) (z : length s ≡ stretchLen
   pub l3 : length s3 ≡ stretchLength
   l3 = length-put readBackAt signalBytes (leBytes signalBytes (t .readBack)) s2 (omega (arith, l2)) (length-leBytes signalBytes (t .readBack)) ∙ l2
 
+  abbrev pub s4 : List ℕ
+  s4 = put ceilingAt takenBytes (leBytes takenBytes ceiling) s3
+
+  pub l4 : length s4 ≡ stretchLength
+  l4 = length-put ceilingAt takenBytes (leBytes takenBytes ceiling) s3 (omega (arith, l3)) (length-leBytes takenBytes ceiling) ∙ l3
+
   pub length-filled : length (filled t ceiling s) ≡ stretchLength
   unfolding filled
-  length-filled = length-put ceilingAt takenBytes (leBytes takenBytes ceiling) s3 (omega (arith, l3)) (length-leBytes takenBytes ceiling) ∙ l3
+  length-filled =
+      length-put serviceAt signalBytes (leBytes signalBytes (t .serviceOnly)) s4 (omega (arith, l4)) (length-leBytes signalBytes (t .serviceOnly)) ∙ l4
 
   before1 : (i m : ℕ) → lengthBytes ≤ i → slot i m s1 ≡ slot i m s0
   before1 = put-behind 0 lengthBytes (leBytes lengthBytes (length (t .sequence))) s0 (omega (arith, l0)) (length-leBytes lengthBytes (length (t .sequence)))
 
-  module _ (small : t .readBack < 256 ^ signalBytes) (low : ceiling < 256 ^ takenBytes) where
+  module _ (small : t .readBack < 256 ^ signalBytes) (hidden : t .serviceOnly < 256 ^ signalBytes) (low : ceiling < 256 ^ takenBytes) where
     pub filled-holds : Holds t ceiling (filled t ceiling s)
     unfolding filled
     filled-holds =
         let before2 = put-before sequenceAt (length (t .sequence)) (t .sequence) s1 (omega (arith, l1)) refl in
         let before3 = put-before readBackAt signalBytes (leBytes signalBytes (t .readBack)) s2 (omega (arith, l2)) (length-leBytes signalBytes (t .readBack)) in
         let before4 = put-before ceilingAt takenBytes (leBytes takenBytes ceiling) s3 (omega (arith, l3)) (length-leBytes takenBytes ceiling) in
+        let before5 = put-before serviceAt signalBytes (leBytes signalBytes (t .serviceOnly)) s4 (omega (arith, l4)) (length-leBytes signalBytes (t .serviceOnly)) in
         let few : length (t .sequence) < 256 ^ lengthBytes = omega arith in
         record {
           sized = length-filled;
-          long = ap leNumber (before4 0 lengthBytes (omega arith) ∙ before3 0 lengthBytes (omega arith) ∙ before2 0 lengthBytes (omega arith)
+          long = ap leNumber (before5 0 lengthBytes (omega arith) ∙ before4 0 lengthBytes (omega arith) ∙ before3 0 lengthBytes (omega arith) ∙ before2 0 lengthBytes (omega arith)
               ∙ slot-put 0 lengthBytes (leBytes lengthBytes (length (t .sequence))) s0 (omega (arith, l0)) (length-leBytes lengthBytes (length (t .sequence))))
               ∙ le-round-trip lengthBytes (length (t .sequence)) few;
-          bytes = before4 sequenceAt (length (t .sequence)) (omega arith) ∙ before3 sequenceAt (length (t .sequence)) (omega arith)
+          bytes = before5 sequenceAt (length (t .sequence)) (omega arith) ∙ before4 sequenceAt (length (t .sequence)) (omega arith) ∙ before3 sequenceAt (length (t .sequence)) (omega arith)
               ∙ slot-put sequenceAt (length (t .sequence)) (t .sequence) s1 (omega (arith, l1)) refl;
-          set = ap leNumber (before4 readBackAt signalBytes (omega arith)
+          set = ap leNumber (before5 readBackAt signalBytes (omega arith) ∙ before4 readBackAt signalBytes (omega arith)
               ∙ slot-put readBackAt signalBytes (leBytes signalBytes (t .readBack)) s2 (omega (arith, l2)) (length-leBytes signalBytes (t .readBack)))
               ∙ le-round-trip signalBytes (t .readBack) small;
-          part = ap leNumber (slot-put ceilingAt takenBytes (leBytes takenBytes ceiling) s3 (omega (arith, l3)) (length-leBytes takenBytes ceiling))
+          part = ap leNumber (before5 ceilingAt takenBytes (omega arith)
+              ∙ slot-put ceilingAt takenBytes (leBytes takenBytes ceiling) s3 (omega (arith, l3)) (length-leBytes takenBytes ceiling))
               ∙ le-round-trip takenBytes ceiling low;
+          service = ap leNumber
+              (slot-put serviceAt signalBytes (leBytes signalBytes (t .serviceOnly)) s4 (omega (arith, l4)) (length-leBytes signalBytes (t .serviceOnly)))
+              ∙ le-round-trip signalBytes (t .serviceOnly) hidden;
         }
 
-  -- what lies behind the ceiling is cleared
-  pub filled-zeros : (i m : ℕ) → ceilingAt + takenBytes ≤ i → i + m ≤ bayLength → slot i m (filled t ceiling s) ≡ zeros m
+  -- what lies behind the service-only set is cleared
+  pub filled-zeros : (i m : ℕ) → stateAt ≤ i → i + m ≤ bayLength → slot i m (filled t ceiling s) ≡ zeros m
   unfolding filled
   filled-zeros i m low high =
-      put-behind ceilingAt takenBytes (leBytes takenBytes ceiling) s3 (omega (arith, l3)) (length-leBytes takenBytes ceiling) i m (omega arith)
+      put-behind serviceAt signalBytes (leBytes signalBytes (t .serviceOnly)) s4 (omega (arith, l4)) (length-leBytes signalBytes (t .serviceOnly)) i m (omega arith)
+      ∙ put-behind ceilingAt takenBytes (leBytes takenBytes ceiling) s3 (omega (arith, l3)) (length-leBytes takenBytes ceiling) i m (omega arith)
       ∙ put-behind readBackAt signalBytes (leBytes signalBytes (t .readBack)) s2 (omega (arith, l2)) (length-leBytes signalBytes (t .readBack)) i m (omega arith)
       ∙ put-behind sequenceAt (length (t .sequence)) (t .sequence) s1 (omega (arith, l1)) refl i m (omega arith)
       ∙ before1 i m (omega arith)

@@ -18,15 +18,16 @@ use Rattle.states.specs.StateRecord.{encodeState, decodeState}
 use Rattle.answers.specs.AnswerRecord.{encodeAnswer}
 use Rattle.parts.specs.Parts.{put, zeros}
 use Rattle.demands.specs.Tick.{tickBy}
+use Rattle.recordings.specs.Recording.{following}
 use Rattle.box_calls.specs.Stretch.{partOf, vacated, filled}
 use Rattle.positions.specs.Table.{place, lookup, saveOf, forgetOf}
-use Rattle.box_calls.specs.BayCalls.{bayTickOf, bayReleaseOf, bayAdmitOf, baySaveOf, bayForgetOf, bayRestoreOf}
+use Rattle.box_calls.specs.BayCalls.{bayStepOf, bayTickOf, bayReleaseOf, bayAdmitOf, baySaveOf, bayForgetOf, bayRestoreOf}
 use Rattle.box_calls.specs.Box.{emptyBox, present, callOf}
 use Rattle.box_calls.specs.Worked.{otherwise, bays, shares, admissions, elsewhere}
 use Rattle.box_calls.specs.WorkedPositions.{positions}
 
 pub bays-worked : otherwise callOf emptyBox bays ≡ 0
-unfolding otherwise callOf emptyBox present partOf vacated filled bayTickOf bayReleaseOf bayAdmitOf put zeros leBytes leNumber tickBy checked read front commandOf distinct wellFormed before everyLabel labelsOf subset disjoint valid active activeLabels membersFrom declaredBy commands loopNesting nesting ceiling encodeState decodeState encodeAnswer expand reactBy errorsBy reactionsBy none only member join insert remove
+unfolding otherwise callOf emptyBox present partOf vacated filled bayStepOf bayTickOf following bayReleaseOf bayAdmitOf put zeros leBytes leNumber tickBy checked read front commandOf distinct wellFormed before everyLabel labelsOf subset disjoint valid active activeLabels membersFrom declaredBy commands loopNesting nesting ceiling encodeState decodeState encodeAnswer expand reactBy errorsBy reactionsBy none only member join insert remove
 bays-worked = refl
 
 pub shares-worked : otherwise callOf emptyBox shares ≡ 0
@@ -34,7 +35,7 @@ unfolding otherwise callOf emptyBox present partOf vacated filled bayReleaseOf b
 shares-worked = refl
 
 pub admissions-worked : otherwise callOf emptyBox admissions ≡ 0
-unfolding otherwise callOf emptyBox present partOf vacated filled bayTickOf bayReleaseOf bayAdmitOf put zeros leBytes leNumber tickBy checked read front commandOf distinct wellFormed before everyLabel labelsOf subset disjoint valid active activeLabels membersFrom declaredBy commands loopNesting nesting ceiling encodeState decodeState encodeAnswer expand reactBy errorsBy reactionsBy none only member join insert remove
+unfolding otherwise callOf emptyBox present partOf vacated filled bayStepOf bayTickOf following bayReleaseOf bayAdmitOf put zeros leBytes leNumber tickBy checked read front commandOf distinct wellFormed before everyLabel labelsOf subset disjoint valid active activeLabels membersFrom declaredBy commands loopNesting nesting ceiling encodeState decodeState encodeAnswer expand reactBy errorsBy reactionsBy none only member join insert remove
 admissions-worked = refl
 
 pub elsewhere-worked : otherwise callOf [] elsewhere ≡ 0
@@ -42,5 +43,5 @@ unfolding otherwise callOf
 elsewhere-worked = refl
 
 pub positions-worked : otherwise callOf emptyBox positions ≡ 0
-unfolding otherwise callOf emptyBox present partOf vacated filled bayTickOf bayReleaseOf bayAdmitOf baySaveOf bayForgetOf bayRestoreOf saveOf forgetOf lookup place put zeros leBytes leNumber tickBy checked read front commandOf distinct wellFormed before everyLabel labelsOf subset disjoint valid active activeLabels membersFrom declaredBy commands loopNesting nesting ceiling encodeState decodeState encodeAnswer expand reactBy errorsBy reactionsBy none only member join insert remove
+unfolding otherwise callOf emptyBox present partOf vacated filled bayStepOf bayTickOf following bayReleaseOf bayAdmitOf baySaveOf bayForgetOf bayRestoreOf saveOf forgetOf lookup place put zeros leBytes leNumber tickBy checked read front commandOf distinct wellFormed before everyLabel labelsOf subset disjoint valid active activeLabels membersFrom declaredBy commands loopNesting nesting ceiling encodeState decodeState encodeAnswer expand reactBy errorsBy reactionsBy none only member join insert remove
 positions-worked = refl

@@ -23,8 +23,9 @@ use Rattle.answers.specs.AnswerRecord.{encodeAnswer}
 use Rattle.parts.specs.Parts.{put, zeros}
 use Rattle.demands.specs.Tick.{tickBy}
 use Rattle.box_calls.specs.Called.{Called, memoryAfter}
+use Rattle.recordings.specs.Recording.{following}
 use Rattle.box_calls.specs.Stretch.{partOf, vacated, filled}
-use Rattle.box_calls.specs.BayCalls.{bayTickOf, bayReleaseOf, bayAdmitOf}
+use Rattle.box_calls.specs.BayCalls.{bayStepOf, bayTickOf, bayReleaseOf, bayAdmitOf}
 use Rattle.box_calls.specs.Box.{emptyBox, present, release, callOf}
 use Rattle.box_calls.specs.Lists.{Request, boxAfter, asked, Answer, answered, answers}
 use Rattle.box_calls.specs.Shares.{none, each}
@@ -46,7 +47,7 @@ abbrev besideOver : List Request
 besideOver = admitted 1 ends ∷ ticked 1 ∷ byItself
 
 pub not-readsNeighbour : ¬ Isolated readsNeighbour
-unfolding asked answers boxAfter callOf emptyBox present partOf vacated filled bayTickOf bayReleaseOf bayAdmitOf put zeros leBytes leNumber tickBy checked read front commandOf distinct wellFormed before everyLabel labelsOf subset disjoint valid active activeLabels membersFrom declaredBy commands loopNesting nesting ceiling encodeState decodeState encodeAnswer expand reactBy errorsBy reactionsBy Sets.none only member join insert remove
+unfolding asked answers boxAfter callOf emptyBox present partOf vacated filled bayStepOf bayTickOf following bayReleaseOf bayAdmitOf put zeros leBytes leNumber tickBy checked read front commandOf distinct wellFormed before everyLabel labelsOf subset disjoint valid active activeLabels membersFrom declaredBy commands loopNesting nesting ceiling encodeState decodeState encodeAnswer expand reactBy errorsBy reactionsBy Sets.none only member join insert remove
 not-readsNeighbour h =
     let e : _≡_ {A = ℕ} 0 12 = ap (numberAt 1) (h 0 (omega arith) byItself besideOver refl .0) in omega arith
 
@@ -68,7 +69,7 @@ unfolding boxAfter callOf emptyBox present storedIn partOf vacated filled bayRel
 not-keepsPart h =
     let e : _≡_ {A = ℕ} 14 0 =
     h onesOut (each (omega arith) (each (omega arith) (each tt none))) 2 (omega arith) refl
-    (record { sequence = half; readBack = 0 }) refl .1
+    (record { sequence = half; readBack = 0; serviceOnly = 0 }) refl .1
     (let l : 65536 ≤ 65536 = omega arith in l) in
     omega arith
 

@@ -1,6 +1,6 @@
--- The calls of a bay on its stretch (02, items 8 and 9): the number, the stretch after the call and the lent buffers after it.
-use Prim.Native.Nat.{ℕ, _+_}
-use mathlib.Core.Bool.{cond}
+-- The calls of a bay on its stretch (02, items 8 to 10): the number, the stretch after the call and the lent buffers after it.
+use Prim.Native.Nat.{ℕ, zero, suc, _+_}
+use mathlib.Core.Bool.{_&&_, cond}
 use mathlib.Core.List.{List, [], _∷_}
 use mathlib.Core.Option.{Option, some, none}
 use lib.Dec.{eqb, leb}
@@ -10,9 +10,14 @@ use Rattle.sequence.specs.Check.{Checked, sound, bad, checked}
 use Rattle.parts.specs.Parts.{put}
 use Rattle.states.specs.StateRecord.{stateLength, stateRecord, phaseIn, labelsIn}
 use Rattle.positions.specs.Table.{tableLength, lookup, Kept, kept, saveOf, forgetOf}
+use Rattle.numbers.specs.Bytes.{leBytes}
+use Rattle.limits.specs.Limits.{numberBytes}
+use Rattle.recordings.specs.Record.{recordLength, recordOf, panelLength, panelOf}
+use Rattle.recordings.specs.Recording.{following}
+use lib.ListN.{length}
 use Rattle.demands.specs.Tick.{Outcome, outcome, tickOf}
-use Rattle.box_calls.specs.Called.{Called, called}
-use Rattle.box_calls.specs.Stretch.{stateAt, positionsAt, sequenceIn, readBackIn, stateIn, positionsIn, vacated, Terms, filled}
+use Rattle.box_calls.specs.Called.{Called, called, first}
+use Rattle.box_calls.specs.Stretch.{stateAt, countAt, positionsAt, sequenceIn, readBackIn, serviceOnlyIn, stateIn, countIn, positionsIn, vacated, Terms, filled}
 
 -- 02, item 8: 'a shared ceiling of 65,536 reactions an instant'
 abbrev pub sharedCeiling : ℕ
@@ -22,9 +27,22 @@ sharedCeiling = 65536
 abbrev pub stateKept : List ℕ → Outcome → Called
 stateKept s (outcome number state answer) = called number (put stateAt stateLength state s) (answer ∷ [])
 
--- the tick on the sequence, the state and the read-back set that the bay holds
-unfoldable pub bayTickOf : (s : List ℕ) (e : ℕ) (answer : List ℕ) → Called
-bayTickOf s e answer = stateKept s (tickOf (sequenceIn s) (stateIn s) e (readBackIn s) answer)
+-- the tick on the sequence, the state and the read-back set that the bay holds, without its record
+unfoldable pub bayStepOf : (s : List ℕ) (e : ℕ) (answer : List ℕ) → Called
+bayStepOf s e answer = stateKept s (tickOf (sequenceIn s) (stateIn s) e (readBackIn s) answer)
+
+-- 02, item 10: an instant is counted, and leaves its number, input, answer and next state in the buffer `trace`; a call turned down
+-- leaves no record
+abbrev pub counted : List ℕ → List ℕ
+counted s = put countAt numberBytes (leBytes numberBytes (following (countIn s))) s
+
+abbrev pub recorded : (e : ℕ) (trace : List ℕ) → Called → Called
+recorded e trace (called zero s lent) = called 0 (counted s) (first lent ∷ recordOf (following (countIn s)) e (first lent) (stateIn s) ∷ [])
+recorded e trace (called (suc n) s lent) = called (suc n) s (first lent ∷ trace ∷ [])
+
+unfoldable pub bayTickOf : (s : List ℕ) (e : ℕ) (answer trace : List ℕ) → Called
+bayTickOf s e answer trace =
+    cond (eqb (length trace) recordLength) (recorded e trace (bayStepOf s e answer)) (called 1 s (answer ∷ trace ∷ []))
 
 unfoldable pub bayReleaseOf : (s : List ℕ) → Called
 bayReleaseOf s = called 0 (vacated s) []
@@ -59,3 +77,16 @@ restored s (some labels) = called 0 (put stateAt stateLength (stateRecord 1 labe
 
 unfoldable pub bayRestoreOf : (s : List ℕ) (name : ℕ) → Called
 bayRestoreOf s name = restored s (lookup name (positionsIn s))
+
+-- ---- the readers of a record (02, item 10): any record of 37 bytes; they leave the stretch
+abbrev pub showing : (s : List ℕ) (shown : List ℕ) (viewLength : ℕ) (trace view : List ℕ) → Called
+showing s shown viewLength trace view =
+    cond (eqb (length trace) recordLength && eqb (length view) viewLength) (called 0 s (shown ∷ [])) (called 1 s (view ∷ []))
+
+-- 'The bay's service reader shows the record whole'
+unfoldable pub bayServiceOf : (s trace view : List ℕ) → Called
+bayServiceOf s trace view = showing s trace recordLength trace view
+
+-- 'The bay's panel reader shows .. number, code, inputs and emitted set, with service-only signals cleared in both sets'
+unfoldable pub bayPanelOf : (s trace view : List ℕ) → Called
+bayPanelOf s trace view = showing s (panelOf (serviceOnlyIn s) trace) panelLength trace view

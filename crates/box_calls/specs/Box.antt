@@ -1,4 +1,4 @@
--- The box (02, items 8 and 9): eight stretches, one a bay, and a call to one of them: the number, the box after the call and the lent
+-- The box (02, items 8 to 10): eight stretches, one a bay, and a call to one of them: the number, the box after the call and the lent
 -- buffers after it, for all arguments.
 use Prim.Native.Nat.{ℕ, zero, suc, _+_, _*_}
 use mathlib.Core.Bool.{Bool, not, cond}
@@ -8,7 +8,7 @@ use lib.Dec.{eqb, ltb}
 use Rattle.parts.specs.Parts.{slot, put, zeros}
 use Rattle.box_calls.specs.Called.{Called, called}
 use Rattle.box_calls.specs.Stretch.{stretchLength, isEmpty, partOf, Terms}
-use Rattle.box_calls.specs.BayCalls.{bayTickOf, bayReleaseOf, bayAdmitOf, baySaveOf, bayForgetOf, bayRestoreOf}
+use Rattle.box_calls.specs.BayCalls.{bayTickOf, bayReleaseOf, bayAdmitOf, baySaveOf, bayForgetOf, bayRestoreOf, bayServiceOf, bayPanelOf}
 
 abbrev pub bayCount : ℕ
 bayCount = 8
@@ -32,37 +32,45 @@ present (suc n) box = present n box + partOf (stretchOf n box)
 pub data Call : Type 0 where
   admit : Terms → Call
   release : Call
-  tick : (input : ℕ) (answer : List ℕ) → Call
+  tick : (input : ℕ) (answer trace : List ℕ) → Call
   save : (name : ℕ) → Call
   restore : (name : ℕ) → Call
   forget : (name : ℕ) → Call
+  service : (trace view : List ℕ) → Call
+  panel : (trace view : List ℕ) → Call
 
 -- the buffers that a call is lent for writing beside the box
 abbrev pub buffers : Call → List (List ℕ)
 buffers (admit t) = []
 buffers release = []
-buffers (tick e answer) = answer ∷ []
+buffers (tick e answer trace) = answer ∷ trace ∷ []
 buffers (save name) = []
 buffers (restore name) = []
 buffers (forget name) = []
+buffers (service trace view) = view ∷ []
+buffers (panel trace view) = view ∷ []
 
 -- the call on the bay's stretch; what those present have of the shared ceiling concerns an admission alone
 abbrev pub bayCall : (present : ℕ) → Call → List ℕ → Called
 bayCall present (admit t) s = bayAdmitOf present s t
 bayCall present release s = bayReleaseOf s
-bayCall present (tick e answer) s = bayTickOf s e answer
+bayCall present (tick e answer trace) s = bayTickOf s e answer trace
 bayCall present (save name) s = baySaveOf s name
 bayCall present (restore name) s = bayRestoreOf s name
 bayCall present (forget name) s = bayForgetOf s name
+bayCall present (service trace view) s = bayServiceOf s trace view
+bayCall present (panel trace view) s = bayPanelOf s trace view
 
 -- a bay is there for the call: an empty one for an admission, a filled one for every other
 abbrev pub isFor : Call → List ℕ → Bool
 isFor (admit t) s = isEmpty s
 isFor release s = not (isEmpty s)
-isFor (tick e answer) s = not (isEmpty s)
+isFor (tick e answer trace) s = not (isEmpty s)
 isFor (save name) s = not (isEmpty s)
 isFor (restore name) s = not (isEmpty s)
 isFor (forget name) s = not (isEmpty s)
+isFor (service trace view) s = not (isEmpty s)
+isFor (panel trace view) s = not (isEmpty s)
 
 -- what a call makes of the bay's stretch, put where the box has it
 abbrev pub inBox : (bay : ℕ) → List ℕ → Called → Called

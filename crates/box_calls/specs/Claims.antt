@@ -10,7 +10,7 @@ use Rattle.sequence.specs.Ceilings.{ceilingOf}
 use Rattle.box_calls.specs.Called.{called, number, memoryAfter}
 use Rattle.box_calls.specs.Stretch.{lengthIn, sequenceIn, readBackIn, ceilingIn, partOf, Terms}
 use Rattle.box_calls.specs.BayCalls.{sharedCeiling}
-use Rattle.box_calls.specs.Box.{bayCount, boxLength, emptyBox, stretchOf, present, Call, admit, release, tick, save, restore, forget, buffers}
+use Rattle.box_calls.specs.Box.{bayCount, boxLength, emptyBox, stretchOf, present, Call, admit, release, tick, save, restore, forget, service, panel, buffers}
 use Rattle.box_calls.specs.Lists.{Calling, Request, boxAfter, asked, answers, answerOf}
 use Rattle.box_calls.specs.Shares.{AllSendable, reactionsIn, OneTickEach}
 
@@ -38,10 +38,12 @@ Isolated call =
 abbrev pub SumAlike : Call → (box box′ : List ℕ) → Type 0
 SumAlike (admit t) box box′ = present bayCount box ≡ present bayCount box′
 SumAlike release box box′ = Unit {0}
-SumAlike (tick e answer) box box′ = Unit {0}
+SumAlike (tick e answer trace) box box′ = Unit {0}
 SumAlike (save name) box box′ = Unit {0}
 SumAlike (restore name) box box′ = Unit {0}
 SumAlike (forget name) box box′ = Unit {0}
+SumAlike (service trace view) box box′ = Unit {0}
+SumAlike (panel trace view) box box′ = Unit {0}
 
 abbrev pub BySum : Calling → Type 0
 BySum call =
@@ -93,10 +95,12 @@ GivesBack call box =
 abbrev pub NotThere : Call → List ℕ → Type 0
 NotThere (admit t) s = lengthIn s ≢ 0
 NotThere release s = lengthIn s ≡ 0
-NotThere (tick e answer) s = lengthIn s ≡ 0
+NotThere (tick e answer trace) s = lengthIn s ≡ 0
 NotThere (save name) s = lengthIn s ≡ 0
 NotThere (restore name) s = lengthIn s ≡ 0
 NotThere (forget name) s = lengthIn s ≡ 0
+NotThere (service trace view) s = lengthIn s ≡ 0
+NotThere (panel trace view) s = lengthIn s ≡ 0
 
 abbrev pub Thirteen : Calling → Type 0
 Thirteen call =

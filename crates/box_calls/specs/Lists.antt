@@ -6,7 +6,7 @@ use mathlib.Core.List.{List, [], _∷_}
 use lib.Dec.{eqb}
 use Rattle.box_calls.specs.Called.{Called, number, memoryAfter, lentAfter}
 use Rattle.box_calls.specs.Stretch.{Terms}
-use Rattle.box_calls.specs.Box.{Call, admit, release, tick, save, restore, forget}
+use Rattle.box_calls.specs.Box.{Call, admit, release, tick, save, restore, forget, service, panel}
 
 -- box, bay, call
 abbrev pub Calling : Type 0
@@ -34,10 +34,12 @@ pub data Asked : Type 0 where
 abbrev pub askedBy : Call → Called → Asked
 askedBy (admit t) o = admission t (number o)
 askedBy release o = other release
-askedBy (tick e answer) o = other (tick e answer)
+askedBy (tick e answer trace) o = other (tick e answer trace)
 askedBy (save name) o = other (save name)
 askedBy (restore name) o = other (restore name)
 askedBy (forget name) o = other (forget name)
+askedBy (service trace view) o = other (service trace view)
+askedBy (panel trace view) o = other (panel trace view)
 
 unfoldable pub asked : Calling → (bay : ℕ) → List ℕ → List Request → List Asked
 asked call bay box [] = []

@@ -7,17 +7,19 @@ use lib.Dec.{eqb}
 use Rattle.limits.specs.Limits.{signalBytes, nameBytes}
 use Rattle.answers.specs.AnswerRecord.{takenIn}
 use Rattle.box_calls.specs.Called.{Called, number, lentAfter, first}
-use Rattle.box_calls.specs.Box.{Call, admit, release, tick, save, restore, forget}
+use Rattle.box_calls.specs.Box.{Call, admit, release, tick, save, restore, forget, service, panel}
 use Rattle.box_calls.specs.Lists.{Calling, Request, afterCall}
 
--- a read-back set is one of 32 signals and a name has 32 bits, as the types of the arguments have it
+-- sets are of 32 signals and a name has 32 bits, as the types of the arguments have it
 abbrev pub Sendable : Call → Type 0
-Sendable (admit t) = t .readBack < 256 ^ signalBytes
+Sendable (admit t) = (t .readBack < 256 ^ signalBytes) × (t .serviceOnly < 256 ^ signalBytes)
 Sendable release = Unit {0}
-Sendable (tick e answer) = Unit {0}
+Sendable (tick e answer trace) = Unit {0}
 Sendable (save name) = name < 256 ^ nameBytes
 Sendable (restore name) = Unit {0}
 Sendable (forget name) = Unit {0}
+Sendable (service trace view) = Unit {0}
+Sendable (panel trace view) = Unit {0}
 
 pub data AllSendable : List Request → Type 0 where
   none : AllSendable []
@@ -38,8 +40,8 @@ without bay left i = cond (eqb i bay) false (left i)
 
 pub data Round : (left : ℕ → Bool) → List Request → Type 0 where
   done : {left : ℕ → Bool} → Round left []
-  more : {left : ℕ → Bool} {bay e : ℕ} {answer : List ℕ} {xs : List Request} → left bay ≡ true → Round (without bay left) xs
-      → Round left (record { bay = bay; call = tick e answer } ∷ xs)
+  more : {left : ℕ → Bool} {bay e : ℕ} {answer trace : List ℕ} {xs : List Request} → left bay ≡ true → Round (without bay left) xs
+      → Round left (record { bay = bay; call = tick e answer trace } ∷ xs)
 
 abbrev pub OneTickEach : List Request → Type 0
 OneTickEach = Round (λ bay. true)

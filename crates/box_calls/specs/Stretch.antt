@@ -5,14 +5,15 @@ use mathlib.Core.Bool.{Bool, cond}
 use mathlib.Core.List.{List}
 use lib.ListN.{length}
 use lib.Dec.{eqb}
-use Rattle.limits.specs.Limits.{maxBytes, signalBytes, takenBytes}
+use Rattle.limits.specs.Limits.{maxBytes, signalBytes, takenBytes, numberBytes}
 use Rattle.numbers.specs.Bytes.{leBytes, leNumber}
 use Rattle.parts.specs.Parts.{slot, put, zeros}
 use Rattle.states.specs.StateRecord.{stateLength}
 use Rattle.positions.specs.Table.{tableLength}
 
 -- ---- where the fields begin
--- fixed by the admission: the length of the sequence (0: the bay is empty), the sequence, its read-back set and its ceiling
+-- fixed by the admission: the length of the sequence (0: the bay is empty), the sequence, its read-back set, its ceiling and the
+-- service-only set (02, item 10)
 abbrev pub lengthBytes : ℕ
 lengthBytes = 2
 
@@ -25,21 +26,18 @@ readBackAt = sequenceAt + maxBytes
 abbrev pub ceilingAt : ℕ
 ceilingAt = readBackAt + signalBytes
 
--- room for item 10's service-only set
 abbrev pub serviceAt : ℕ
 serviceAt = ceilingAt + takenBytes
 
--- moved by calls: the state record
+-- moved by calls: the state record, the number of the last instant (02, item 10) and the positions (02, item 9)
 abbrev pub stateAt : ℕ
 stateAt = serviceAt + signalBytes
 
--- room for item 10's number of the last instant
 abbrev pub countAt : ℕ
 countAt = stateAt + stateLength
 
--- moved by calls: the positions (02, item 9)
 abbrev pub positionsAt : ℕ
-positionsAt = countAt + 4
+positionsAt = countAt + numberBytes
 
 -- what a release clears ends here, and room for item 12's ledger begins: 32 totals of 4 bytes
 abbrev pub bayLength : ℕ
@@ -64,8 +62,15 @@ readBackIn s = leNumber (slot readBackAt signalBytes s)
 abbrev pub ceilingIn : List ℕ → ℕ
 ceilingIn s = leNumber (slot ceilingAt takenBytes s)
 
+abbrev pub serviceOnlyIn : List ℕ → ℕ
+serviceOnlyIn s = leNumber (slot serviceAt signalBytes s)
+
 abbrev pub stateIn : List ℕ → List ℕ
 stateIn s = slot stateAt stateLength s
+
+-- the number of the last instant; 0 before the first
+abbrev pub countIn : List ℕ → ℕ
+countIn s = leNumber (slot countAt numberBytes s)
 
 abbrev pub positionsIn : List ℕ → List ℕ
 positionsIn s = slot positionsAt tableLength s
@@ -83,15 +88,17 @@ vacated s = put 0 bayLength (zeros bayLength) s
 pub record Terms : Type 0 where
   pub sequence : List ℕ
   pub readBack : ℕ
+  pub serviceOnly : ℕ
 
-abbrev pub terms : (sequence : List ℕ) (readBack : ℕ) → Terms
-terms sequence readBack = record { sequence = sequence; readBack = readBack }
+abbrev pub terms : (sequence : List ℕ) (readBack serviceOnly : ℕ) → Terms
+terms sequence readBack serviceOnly = record { sequence = sequence; readBack = readBack; serviceOnly = serviceOnly }
 
 -- a bay admitted: all that a release clears is cleared, and so the machine is fresh
 unfoldable pub filled : Terms → (ceiling : ℕ) → List ℕ → List ℕ
 filled t ceiling s =
-    put ceilingAt takenBytes (leBytes takenBytes ceiling)
+    put serviceAt signalBytes (leBytes signalBytes (t .serviceOnly))
+    (put ceilingAt takenBytes (leBytes takenBytes ceiling)
     (put readBackAt signalBytes (leBytes signalBytes (t .readBack))
     (put sequenceAt (length (t .sequence)) (t .sequence)
     (put 0 lengthBytes (leBytes lengthBytes (length (t .sequence)))
-    (vacated s))))
+    (vacated s)))))

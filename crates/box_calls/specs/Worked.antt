@@ -5,6 +5,7 @@ use mathlib.Core.List.{List, [], _∷_, _++_}
 use lib.ListN.{replicate}
 use lib.Dec.{eqb}
 use Rattle.answers.specs.AnswerRecord.{answerLength, codeIn}
+use Rattle.recordings.specs.Record.{recordLength}
 use Rattle.box_calls.specs.Called.{Called, number, lentAfter, first}
 use Rattle.box_calls.specs.Box.{admit, release, tick}
 use Rattle.box_calls.specs.Lists.{Calling, Request, afterCall}
@@ -45,7 +46,7 @@ waitsIfRead = 0x05 ∷ 0x02 ∷ 0x00 ∷ 0x07 ∷ 0x00 ∷ 0x01 ∷ 0x00 ∷ 0x0
 
 -- ---- calls
 abbrev admittedWith : (bay : ℕ) (sequence : List ℕ) (readBack : ℕ) → Request
-admittedWith bay sequence readBack = record { bay = bay; call = admit (record { sequence = sequence; readBack = readBack }) }
+admittedWith bay sequence readBack = record { bay = bay; call = admit (record { sequence = sequence; readBack = readBack; serviceOnly = 0 }) }
 
 abbrev pub admitted : (bay : ℕ) (sequence : List ℕ) → Request
 admitted bay sequence = admittedWith bay sequence 0
@@ -55,11 +56,11 @@ released bay = record { bay = bay; call = release }
 
 -- with an answer buffer of another byte everywhere
 abbrev pub ticked : (bay : ℕ) → Request
-ticked bay = record { bay = bay; call = tick 0 (replicate answerLength 77) }
+ticked bay = record { bay = bay; call = tick 0 (replicate answerLength 77) (replicate recordLength 77) }
 
 -- with one of another length
 abbrev tickedShort : (bay : ℕ) → Request
-tickedShort bay = record { bay = bay; call = tick 0 [] }
+tickedShort bay = record { bay = bay; call = tick 0 [] (replicate recordLength 77) }
 
 -- ---- what each call gives
 -- a call, its number and its answer's code; a call with no answer buffer has code 0, and one that is turned down leaves the buffer

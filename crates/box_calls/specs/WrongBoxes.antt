@@ -7,8 +7,8 @@ use Rattle.parts.specs.Parts.{put, zeros}
 use Rattle.demands.specs.Tick.{tickOf}
 use Rattle.box_calls.specs.Called.{Called, called, number}
 use Rattle.box_calls.specs.Stretch.{lengthBytes, sequenceIn, readBackIn, ceilingIn, stateIn}
-use Rattle.box_calls.specs.BayCalls.{stateKept, bayAdmitOf}
-use Rattle.box_calls.specs.Box.{bayCount, stretchOf, present, admit, release, tick, save, restore, forget, inBox, callOf}
+use Rattle.box_calls.specs.BayCalls.{stateKept, recorded, bayAdmitOf}
+use Rattle.box_calls.specs.Box.{bayCount, stretchOf, present, admit, release, tick, save, restore, forget, service, panel, inBox, callOf}
 use Rattle.box_calls.specs.Lists.{Calling}
 
 -- another result for a call that is answered with this number
@@ -22,20 +22,25 @@ readsNeighbour box bay release = callOf box bay release
 readsNeighbour box bay (save name) = callOf box bay (save name)
 readsNeighbour box bay (restore name) = callOf box bay (restore name)
 readsNeighbour box bay (forget name) = callOf box bay (forget name)
-readsNeighbour box bay (tick e answer) =
-    cond (eqb (number (callOf box bay (tick e answer))) 13) (called 13 box (answer ∷ []))
+readsNeighbour box bay (service trace view) = callOf box bay (service trace view)
+readsNeighbour box bay (panel trace view) = callOf box bay (panel trace view)
+readsNeighbour box bay (tick e answer trace) =
+    cond (eqb (number (callOf box bay (tick e answer trace))) 13) (called 13 box (answer ∷ trace ∷ []))
     (inBox bay box
+    (recorded e trace
     (stateKept (stretchOf bay box)
-    (tickOf (sequenceIn (stretchOf bay box)) (stateIn (stretchOf (suc bay % bayCount) box)) e (readBackIn (stretchOf bay box)) answer)))
+    (tickOf (sequenceIn (stretchOf bay box)) (stateIn (stretchOf (suc bay % bayCount) box)) e (readBackIn (stretchOf bay box)) answer))))
 
 -- an admission that forgets the last bay in the sum
 abbrev pub forgetsBay : Calling
 forgetsBay box bay (admit t) = instead 14 (inBox bay box (bayAdmitOf (present 7 box) (stretchOf bay box) t)) (callOf box bay (admit t))
 forgetsBay box bay release = callOf box bay release
-forgetsBay box bay (tick e answer) = callOf box bay (tick e answer)
+forgetsBay box bay (tick e answer trace) = callOf box bay (tick e answer trace)
 forgetsBay box bay (save name) = callOf box bay (save name)
 forgetsBay box bay (restore name) = callOf box bay (restore name)
 forgetsBay box bay (forget name) = callOf box bay (forget name)
+forgetsBay box bay (service trace view) = callOf box bay (service trace view)
+forgetsBay box bay (panel trace view) = callOf box bay (panel trace view)
 
 -- a release that leaves the ceiling, and an admission that counts the ceilings of bays that were taken out too
 unfoldable pub storedIn : (n : ℕ) → List ℕ → ℕ
@@ -47,10 +52,12 @@ keepsPart box bay (admit t) =
     instead 0 (inBox bay box (bayAdmitOf (storedIn bayCount box) (stretchOf bay box) t)) (callOf box bay (admit t))
 keepsPart box bay release =
     instead 0 (inBox bay box (called 0 (put 0 lengthBytes (zeros lengthBytes) (stretchOf bay box)) [])) (callOf box bay release)
-keepsPart box bay (tick e answer) = callOf box bay (tick e answer)
+keepsPart box bay (tick e answer trace) = callOf box bay (tick e answer trace)
 keepsPart box bay (save name) = callOf box bay (save name)
 keepsPart box bay (restore name) = callOf box bay (restore name)
 keepsPart box bay (forget name) = callOf box bay (forget name)
+keepsPart box bay (service trace view) = callOf box bay (service trace view)
+keepsPart box bay (panel trace view) = callOf box bay (panel trace view)
 
 -- a call turned down that clears the first byte of the box
 abbrev clearing : Called → Called

@@ -11,7 +11,7 @@ use Rattle.positions.specs.Names.{isKnown}
 use Rattle.positions.specs.Table.{tableLength, lookup, names}
 use Rattle.box_calls.specs.Called.{Called, called, memoryAfter}
 use Rattle.box_calls.specs.Stretch.{stateAt, positionsAt, positionsIn, vacated}
-use Rattle.box_calls.specs.Box.{stretchOf, Call, admit, release, tick, save, restore, forget, inBox, callOf}
+use Rattle.box_calls.specs.Box.{stretchOf, Call, admit, release, tick, save, restore, forget, service, panel, inBox, callOf}
 use Rattle.box_calls.specs.Lists.{Calling}
 use Rattle.box_calls.specs.WrongBoxes.{instead}
 
@@ -19,10 +19,12 @@ use Rattle.box_calls.specs.WrongBoxes.{instead}
 abbrev altered : (released : Called → Called) (saved : ℕ → Called → Called) (restored : Called → Called) → Call → Called → Called
 altered released saved restored (admit t) o = o
 altered released saved restored release o = released o
-altered released saved restored (tick e answer) o = o
+altered released saved restored (tick e answer trace) o = o
 altered released saved restored (save name) o = saved name o
 altered released saved restored (restore name) o = restored o
 altered released saved restored (forget name) o = o
+altered released saved restored (service trace view) o = o
+altered released saved restored (panel trace view) o = o
 
 -- a release that leaves the positions
 abbrev pub keepsPositions : Calling
