@@ -2,7 +2,7 @@
  * Times the tick of a bay against intake_tick on the same sequence, record and inputs, and admission to a box against
  * plain C that does the same: in turn within each round, caches and branch predictors warm. The other seven bays are
  * filled. The run files that are named are run whole, the sequences made by rule for up to two instants. Then the calls on
- * positions, of a bay that keeps sixteen, against plain C.
+ * positions, of a bay that keeps sixteen, and the readers of a record, against plain C.
  */
 #include "timing.h"
 
@@ -24,7 +24,7 @@ static const struct shape shapes[] = {
     {"nested loops and tries", "\x04\x05", "\x06\x09", "\x01\x02\x03", "\x01\x02\x03", 4, false, false, 32},
 };
 
-typedef uint8_t admits(uint8_t *, size_t, uint32_t, const uint8_t *, size_t, uint32_t);
+typedef uint8_t admits(uint8_t *, size_t, uint32_t, const uint8_t *, size_t, uint32_t, uint32_t);
 
 /* The box that is timed, and that of plain C. */
 static uint8_t boxes[2][INTAKE_BOX_LENGTH];
@@ -37,18 +37,19 @@ static uint32_t read_back_of(const struct bay *bay)
 static uint8_t admit(admits *call, uint8_t *box, const struct bay *bay)
 {
     memset(box + AT_LENGTH, 0, LENGTH_BYTES); /* the bay is empty */
-    return call(box, INTAKE_BOX_LENGTH, BAY, bay->file + 2, bay->length, read_back_of(bay));
+    return call(box, INTAKE_BOX_LENGTH, BAY, bay->file + 2, bay->length, read_back_of(bay), 0);
 }
 
 /* As run_bay, in the box: ticks a fresh machine until the inputs or the machine end, and tells how many instants. */
 static unsigned run_in_box(const struct bay *bay, uint8_t *answer)
 {
     const uint8_t *inputs = bay->file + 2 + bay->length + 4;
-    uint8_t *state = boxes[0] + AT_STATE;
+    uint8_t *state = boxes[0] + AT_STATE, record[INTAKE_RECORD_LENGTH];
     unsigned instants = 0;
     memset(state, 0, INTAKE_STATE_LENGTH);
     for (; inputs + 4 <= bay->file + bay->size && state[0] != 2; inputs += 4, instants++)
-        if (intake_box_tick(boxes[0], INTAKE_BOX_LENGTH, BAY, word_at(inputs), answer, INTAKE_ANSWER_LENGTH) != 0)
+        if (intake_box_tick(boxes[0], INTAKE_BOX_LENGTH, BAY, word_at(inputs), answer, INTAKE_ANSWER_LENGTH, record,
+                            sizeof record) != 0)
             return 0;
     return instants;
 }
@@ -163,11 +164,11 @@ static void positions(const uint8_t *sequence, size_t length)
         {"restore", {intake_box_restore, plain_box_restore}, NAME, INTAKE_ACCEPTED},
         {"forget", {intake_box_forget, plain_box_forget}, NAME, INTAKE_ACCEPTED},
     };
-    uint8_t answer[INTAKE_ANSWER_LENGTH], kept[INTAKE_BOX_LENGTH];
+    uint8_t answer[INTAKE_ANSWER_LENGTH], record[INTAKE_RECORD_LENGTH], kept[INTAKE_BOX_LENGTH];
     for (int plain = 0; plain < 2; plain++) {
         memset(boxes[plain] + BAY * STRETCH, 0, STRETCH);
-        if (plain_box_admit(boxes[plain], sizeof *boxes, BAY, sequence, length, 0) != 0 ||
-            plain_box_tick(boxes[plain], sizeof *boxes, BAY, 0, answer, sizeof answer) != 0)
+        if (plain_box_admit(boxes[plain], sizeof *boxes, BAY, sequence, length, 0, 0) != 0 ||
+            plain_box_tick(boxes[plain], sizeof *boxes, BAY, 0, answer, sizeof answer, record, sizeof record) != 0)
             give_up("a small bay", "not admitted");
         for (uint32_t i = 0; i < INTAKE_POSITION_COUNT; i++)
             if (rows[0].calls[plain](boxes[plain], sizeof *boxes, BAY, NAME + i) != INTAKE_ACCEPTED)
@@ -185,6 +186,47 @@ static void positions(const uint8_t *sequence, size_t length)
     }
 }
 
+typedef uint8_t reader(const uint8_t *, size_t, uint32_t, const uint8_t *, size_t, uint8_t *, size_t);
+
+/* A reader, of the archive and of plain C, and the length of its view. */
+struct reading {
+    const char *name;
+    reader *readers[2];
+    size_t length;
+};
+
+/* Processor nanoseconds of showing a record. */
+static double sample_reading(const void *what, int plain)
+{
+    static volatile uint8_t sink;
+    const struct reading *row = what;
+    uint8_t record[INTAKE_RECORD_LENGTH] = {0}, view[INTAKE_RECORD_LENGTH];
+    double start = nanoseconds();
+    for (uint32_t i = 0; i < NAMED; i++) {
+        record[i % sizeof record]++;
+        sink = row->readers[plain](boxes[plain], INTAKE_BOX_LENGTH, BAY, record, sizeof record, view, row->length);
+    }
+    (void)sink;
+    return (nanoseconds() - start) / NAMED;
+}
+
+static void readings(void)
+{
+    static const struct reading rows[] = {
+        {"service", {intake_box_service, plain_box_service}, INTAKE_RECORD_LENGTH},
+        {"panel", {intake_box_panel, plain_box_panel}, INTAKE_PANEL_LENGTH},
+    };
+    uint8_t record[INTAKE_RECORD_LENGTH] = {0}, view[INTAKE_RECORD_LENGTH];
+    printf("%-30s %8s %8s %6s\n", "ns to show a record", "intake", "plain", "ratio");
+    for (size_t i = 0; i < sizeof rows / sizeof *rows; i++) {
+        for (int plain = 0; plain < 2; plain++)
+            if (rows[i].readers[plain](boxes[plain], sizeof *boxes, BAY, record, sizeof record, view, rows[i].length) != 0)
+                give_up(rows[i].name, "another number");
+        struct comparison row = compare(sample_reading, &rows[i], ROUNDS);
+        printf("%-30s %8.0f %8.0f %6.2f\n", rows[i].name, row.intake, row.plain, row.ratio);
+    }
+}
+
 int main(int count, char **paths)
 {
     static const size_t lengths[] = {14, 64, 256, 1024};
@@ -193,8 +235,8 @@ int main(int count, char **paths)
     double logarithms[2] = {0, 0};
     unsigned rows[2] = {0, 0};
     for (uint32_t other = 0; other < INTAKE_BAY_COUNT; other++)
-        if (other != BAY && (intake_box_admit(boxes[0], sizeof *boxes, other, small, sizeof small, 0) != 0 ||
-                             plain_box_admit(boxes[1], sizeof *boxes, other, small, sizeof small, 0) != 0))
+        if (other != BAY && (intake_box_admit(boxes[0], sizeof *boxes, other, small, sizeof small, 0, 0) != 0 ||
+                             plain_box_admit(boxes[1], sizeof *boxes, other, small, sizeof small, 0, 0) != 0))
             give_up("a small bay", "not admitted");
     printf("ns, medians of %d rounds in turn; plain C by " BUILT_BY "\n", ROUNDS);
     printf("%-30s %5s %8s %8s %6s %9s %8s %6s\n", "", "", "an in-", "stant", "", "an ad-", "mission", "");
@@ -212,4 +254,5 @@ int main(int count, char **paths)
     printf("geometric means of the ratios: tick, 50 bytes and more, %.2f; admission %.2f\n", exp(logarithms[0] / rows[0]),
            exp(logarithms[1] / rows[1]));
     positions(small, sizeof small);
+    readings();
 }

@@ -1,6 +1,6 @@
 /*
- * Eight bays in one box (02, items 8 and 9) as one would write them in C, over the check and the tick of plain.c. The ceiling of a
- * sequence is found by one recursive walk over the bytes that the check has accepted.
+ * Eight bays in one box (02, items 8 to 10) as one would write them in C, over the check and the tick of plain.c. The
+ * ceiling of a sequence is found by one recursive walk over the bytes that the check has accepted.
  */
 #include "plain_box.h"
 
@@ -13,14 +13,20 @@ enum { SEQUENCE = 0x04, PARALLEL, LOOP, PRESENT, SIGNAL, TRY, SUSPEND = 0x0B };
 enum { BAYS = 8, MAX_BYTES = 1024, STATE_BYTES = 17, ANSWER_BYTES = 12, SHARED_CEILING = 65536 };
 enum { POSITIONS = 16, NAME_BYTES = 4, ENTRY = NAME_BYTES + STATE_BYTES, WAITING = 1 };
 
+/* The record of an instant, and what the panel shows of it. */
+enum { IN_INPUTS = 4, IN_ANSWER = 8, IN_EMITTED = IN_ANSWER + 4, IN_STATE = IN_ANSWER + ANSWER_BYTES };
+enum { RECORD_BYTES = IN_STATE + STATE_BYTES, PANEL_BYTES = 13 };
+
 /* A bay's stretch of the box. */
 enum {
     AT_LENGTH = 0,
     AT_SEQUENCE = 2,
     AT_READ_BACK = AT_SEQUENCE + MAX_BYTES,
     AT_CEILING = AT_READ_BACK + 4,
-    AT_STATE = AT_CEILING + 4 + 4,
-    AT_POSITIONS = AT_STATE + STATE_BYTES + 4,
+    AT_SERVICE_ONLY = AT_CEILING + 4,
+    AT_STATE = AT_SERVICE_ONLY + 4,
+    AT_NUMBER = AT_STATE + STATE_BYTES,
+    AT_POSITIONS = AT_NUMBER + 4,
     AT_LEDGER = AT_POSITIONS + POSITIONS * ENTRY,
     STRETCH = AT_LEDGER + 128
 };
@@ -96,7 +102,7 @@ static uint8_t *find(uint8_t *box, size_t box_length, uint32_t bay, bool filled,
 }
 
 uint8_t plain_box_admit(uint8_t *box, size_t box_length, uint32_t bay, const uint8_t *sequence, size_t sequence_length,
-                        uint32_t read_back)
+                        uint32_t read_back, uint32_t service_only)
 {
     uint8_t number, *stretch = find(box, box_length, bay, false, &number);
     if (stretch == NULL)
@@ -115,6 +121,7 @@ uint8_t plain_box_admit(uint8_t *box, size_t box_length, uint32_t bay, const uin
     memcpy(stretch + AT_SEQUENCE, sequence, sequence_length);
     put(stretch + AT_READ_BACK, 4, read_back);
     put(stretch + AT_CEILING, 4, own);
+    put(stretch + AT_SERVICE_ONLY, 4, service_only);
     return 0;
 }
 
@@ -128,13 +135,53 @@ uint8_t plain_box_release(uint8_t *box, size_t box_length, uint32_t bay)
 }
 
 uint8_t plain_box_tick(uint8_t *box, size_t box_length, uint32_t bay, uint32_t input, uint8_t *answer,
-                       size_t answer_length)
+                       size_t answer_length, uint8_t *record, size_t record_length)
 {
     uint8_t number, *stretch = find(box, box_length, bay, true, &number);
     if (stretch == NULL)
         return number;
-    return plain_tick(stretch + AT_SEQUENCE, get(stretch, 2), stretch + AT_STATE, STATE_BYTES, input,
-                      get(stretch + AT_READ_BACK, 4), answer, answer_length);
+    if (answer_length != ANSWER_BYTES || record_length != RECORD_BYTES)
+        return 1;
+    number = plain_tick(stretch + AT_SEQUENCE, get(stretch, 2), stretch + AT_STATE, STATE_BYTES, input,
+                        get(stretch + AT_READ_BACK, 4), answer, answer_length);
+    if (number != 0)
+        return number;
+    uint32_t last = get(stretch + AT_NUMBER, 4), instant = last == UINT32_MAX ? last : last + 1;
+    put(stretch + AT_NUMBER, 4, instant);
+    put(record, 4, instant);
+    put(record + IN_INPUTS, 4, input);
+    memcpy(record + IN_ANSWER, answer, ANSWER_BYTES);
+    memcpy(record + IN_STATE, stretch + AT_STATE, STATE_BYTES);
+    return 0;
+}
+
+uint8_t plain_box_service(const uint8_t *box, size_t box_length, uint32_t bay, const uint8_t *record, size_t record_length,
+                          uint8_t *view, size_t view_length)
+{
+    uint8_t number;
+    if (find((uint8_t *)box, box_length, bay, true, &number) == NULL)
+        return number;
+    if (record_length != RECORD_BYTES || view_length != RECORD_BYTES)
+        return 1;
+    memcpy(view, record, RECORD_BYTES);
+    return 0;
+}
+
+uint8_t plain_box_panel(const uint8_t *box, size_t box_length, uint32_t bay, const uint8_t *record, size_t record_length,
+                        uint8_t *view, size_t view_length)
+{
+    uint8_t number;
+    const uint8_t *stretch = find((uint8_t *)box, box_length, bay, true, &number);
+    if (stretch == NULL)
+        return number;
+    if (record_length != RECORD_BYTES || view_length != PANEL_BYTES)
+        return 1;
+    uint32_t shown = ~get(stretch + AT_SERVICE_ONLY, 4);
+    memcpy(view, record, IN_INPUTS);
+    view[4] = record[IN_ANSWER];
+    put(view + 5, 4, get(record + IN_INPUTS, 4) & shown);
+    put(view + 9, 4, get(record + IN_EMITTED, 4) & shown);
+    return 0;
 }
 
 /* The entry of a position: one in use with this name, or, with no name, a free one; null if there is none. */

@@ -6,12 +6,16 @@
 #include <stdint.h>
 
 uint8_t plain_box_admit(uint8_t *box, size_t box_length, uint32_t bay, const uint8_t *sequence, size_t sequence_length,
-                        uint32_t read_back);
+                        uint32_t read_back, uint32_t service_only);
 uint8_t plain_box_release(uint8_t *box, size_t box_length, uint32_t bay);
 uint8_t plain_box_tick(uint8_t *box, size_t box_length, uint32_t bay, uint32_t input, uint8_t *answer,
-                       size_t answer_length);
+                       size_t answer_length, uint8_t *record, size_t record_length);
 uint8_t plain_box_save(uint8_t *box, size_t box_length, uint32_t bay, uint32_t name);
 uint8_t plain_box_restore(uint8_t *box, size_t box_length, uint32_t bay, uint32_t name);
 uint8_t plain_box_forget(uint8_t *box, size_t box_length, uint32_t bay, uint32_t name);
+uint8_t plain_box_service(const uint8_t *box, size_t box_length, uint32_t bay, const uint8_t *record, size_t record_length,
+                          uint8_t *view, size_t view_length);
+uint8_t plain_box_panel(const uint8_t *box, size_t box_length, uint32_t bay, const uint8_t *record, size_t record_length,
+                        uint8_t *view, size_t view_length);
 
 #endif

@@ -1,7 +1,8 @@
 /*
  * The calls on a box through include/intake.h, built with sanitizers: vectors by hand, and every line of the table that is
- * the argument (host/examples.txt) as an admission. The box, the sequence and the answer stand between unreadable pages,
- * and are read-only during a call that is turned down. The last line is 'N passed, M failed'.
+ * the argument (host/examples.txt) as an admission. The box, the sequence and what is written beside the box stand between
+ * unreadable pages, and are read-only during a call that is turned down; a reader's box and record always are. The last line
+ * is 'N passed, M failed'.
  */
 #include "testing.h"
 
@@ -34,9 +35,15 @@
 #define ONCE "04 01 07 02 02"
 #define WRONG_AT_ONCE "06 00"
 
-static struct page box_page, sequence_page, answer_page;
+/* Where a stretch has the state record and the number of the last instant (docs/FORMAT.md, 'Box'). */
+enum { STRETCH = INTAKE_BOX_LENGTH / INTAKE_BAY_COUNT, AT_STATE = 1038, AT_NUMBER = 1055 };
+
+static struct page box_page, sequence_page, answer_page, record_page, view_page;
 static uint8_t *box;
 static uint8_t was[INTAKE_BOX_LENGTH];
+static uint32_t service_only;                /* of the next admission */
+static uint32_t instants[INTAKE_BAY_COUNT];  /* the number of each bay's last one */
+static uint8_t last[INTAKE_RECORD_LENGTH];   /* the record of the last instant of any bay */
 
 /* An empty box, at the start or at the end of its pages. */
 static void begin(bool at_end)
@@ -67,7 +74,10 @@ static void admit_line(uint8_t number, uint32_t bay, const char *line)
     program(line, &sequence, &read_back);
     const uint8_t *bytes = place(sequence_page, bay % 2 == 0, &sequence, false);
     before(number);
-    after(number, intake_box_admit(box, INTAKE_BOX_LENGTH, bay, bytes, sequence.count, read_back), "admit", line);
+    uint8_t given = intake_box_admit(box, INTAKE_BOX_LENGTH, bay, bytes, sequence.count, read_back, service_only);
+    after(number, given, "admit", line);
+    if (given == INTAKE_ACCEPTED)
+        instants[bay] = 0;
 }
 
 static void admit(uint8_t number, uint32_t bay, const char *text)
@@ -104,15 +114,32 @@ static void save(uint8_t number, uint32_t bay, uint32_t name) { position(SAVE, n
 static void restore(uint8_t number, uint32_t bay, uint32_t name) { position(RESTORE, number, bay, name); }
 static void forget(uint8_t number, uint32_t bay, uint32_t name) { position(FORGET, number, bay, name); }
 
-/* Ticks, and gives the answer record, or null if the call was turned down; then it must not have been written. */
+/* The record is that of the instant: number, input as given, answer, and the state that the box holds now. */
+static void recorded(uint32_t bay, uint32_t input, const uint8_t *answer, const uint8_t *record)
+{
+    const uint8_t *state = box + bay * STRETCH + AT_STATE;
+    instants[bay] += instants[bay] != UINT32_MAX;
+    expect(intake_record_number(record) == instants[bay], intake_record_number(record) & 0xFF, "number of a record", "\n");
+    expect(intake_record_inputs(record) == input, 0, "inputs of a record", "\n");
+    expect(memcmp(intake_record_answer(record), answer, INTAKE_ANSWER_LENGTH) == 0, 0, "answer of a record", "\n");
+    expect(memcmp(intake_record_state(record), state, INTAKE_STATE_LENGTH) == 0, 0, "state of a record", "\n");
+    memcpy(last, record, sizeof last);
+}
+
+/* Ticks, and gives the answer record, or null if the call was turned down; then nothing must have been written. */
 static const uint8_t *tick(uint8_t number, uint32_t bay, uint32_t input)
 {
-    struct bytes blank = {.count = INTAKE_ANSWER_LENGTH};
+    struct bytes blank = {.count = INTAKE_ANSWER_LENGTH}, blank_record = {.count = INTAKE_RECORD_LENGTH};
     memset(blank.at, 0xA5, blank.count);
+    memset(blank_record.at, 0x5A, blank_record.count);
     uint8_t *answer = place(answer_page, bay % 2 == 0, &blank, number == INTAKE_ACCEPTED);
+    uint8_t *record = place(record_page, bay % 2 == 0, &blank_record, number == INTAKE_ACCEPTED);
     before(number);
-    uint8_t given = intake_box_tick(box, INTAKE_BOX_LENGTH, bay, input, answer, INTAKE_ANSWER_LENGTH);
+    uint8_t given = intake_box_tick(box, INTAKE_BOX_LENGTH, bay, input, answer, INTAKE_ANSWER_LENGTH, record,
+                                    INTAKE_RECORD_LENGTH);
     after(number, given, "tick", "\n");
+    if (given == INTAKE_ACCEPTED)
+        recorded(bay, input, answer, record);
     return given == INTAKE_ACCEPTED ? answer : NULL;
 }
 
@@ -129,7 +156,7 @@ static void order(void)
 {
     static const uint32_t none[] = {8, 255, 256, 257, 65536, UINT32_C(1) << 31, UINT32_MAX - 7, UINT32_MAX};
     static const size_t lengths[] = {0, 1, INTAKE_BOX_LENGTH / INTAKE_BAY_COUNT, INTAKE_BOX_LENGTH - 1};
-    uint8_t answer[INTAKE_ANSWER_LENGTH + 1] = {0};
+    uint8_t answer[INTAKE_RECORD_LENGTH + 1] = {0}, record[INTAKE_RECORD_LENGTH + 1] = {0}, view[sizeof record] = {0};
     const uint8_t bad[] = {0xFF};
     admit(INTAKE_ACCEPTED, 3, ENDLESS);
     for (size_t i = 0; i < sizeof none / sizeof *none; i++) {
@@ -140,24 +167,45 @@ static void order(void)
             position(what, INTAKE_NO_SUCH_BAY, none[i], 0);
             expect(position_calls[what].call(NULL, 0, none[i], 0) == 13, 13, "a bad box", "13\n");
         }
-        expect(intake_box_admit(NULL, 0, none[i], bad, 0, UINT32_MAX) == 13, 13, "a bad box and sequence", "13\n");
+        expect(intake_box_admit(NULL, 0, none[i], bad, 0, UINT32_MAX, 0) == 13, 13, "a bad box and sequence", "13\n");
         expect(intake_box_release(NULL, 0, none[i]) == 13, 13, "a bad box", "13\n");
-        expect(intake_box_tick(NULL, 0, none[i], 0, NULL, 0) == 13, 13, "a bad box and answer", "13\n");
+        expect(intake_box_service(NULL, 0, none[i], NULL, 0, NULL, 0) == 13, 13, "a bad box, service", "13\n");
+        expect(intake_box_panel(NULL, 0, none[i], NULL, 0, NULL, 0) == 13, 13, "a bad box, panel", "13\n");
+        expect(intake_box_tick(NULL, 0, none[i], 0, NULL, 0, NULL, 0) == 13, 13, "a bad box and answer", "13\n");
     }
     protect(box_page, false);
     for (size_t i = 0; i < sizeof lengths / sizeof *lengths; i++)
         for (uint32_t bay = 3; bay < 5; bay++) { /* one that is filled, and one that is empty */
-            expect(intake_box_admit(box, lengths[i], bay, bad, 1, 0) == 1, 1, "a short box, admission", "1\n");
+            expect(intake_box_admit(box, lengths[i], bay, bad, 1, 0, 0) == 1, 1, "a short box, admission", "1\n");
             expect(intake_box_release(box, lengths[i], bay) == 1, 1, "a short box, release", "1\n");
-            expect(intake_box_tick(box, lengths[i], bay, 0, answer, 12) == 1, 1, "a short box, tick", "1\n");
+            expect(intake_box_tick(box, lengths[i], bay, 0, answer, 12, record, 37) == 1, 1, "a short box, tick", "1\n");
+            expect(intake_box_service(box, lengths[i], bay, record, 37, view, 37) == 1, 1, "a short box, service", "1\n");
+            expect(intake_box_panel(box, lengths[i], bay, record, 37, view, 13) == 1, 1, "a short box, panel", "1\n");
             for (int what = 0; what < POSITION_CALLS; what++)
                 expect(position_calls[what].call(box, lengths[i], bay, 0) == 1, 1, "a short box, position", "1\n");
         }
-    expect(intake_box_tick(box, INTAKE_BOX_LENGTH, 4, 0, answer, 11) == 13, 13, "an empty bay, a bad answer", "13\n");
-    expect(intake_box_tick(box, INTAKE_BOX_LENGTH, 3, 0, answer, 11) == 1, 1, "a short answer", "1\n");
-    expect(intake_box_tick(box, INTAKE_BOX_LENGTH, 3, 0, answer, 13) == 1, 1, "a long answer", "1\n");
-    expect(intake_box_tick(box, INTAKE_BOX_LENGTH, 3, 0, NULL, 0) == 1, 1, "no answer", "1\n");
-    expect(intake_box_admit(box, INTAKE_BOX_LENGTH, 4, NULL, 0, UINT32_MAX) == 2, 2, "no sequence", "2\n");
+    static const size_t ticks[][2] = {{11, 37}, {13, 37}, {0, 37}, {12, 36}, {12, 38}, {12, 0}, {37, 12}, {0, 0}};
+    for (size_t i = 0; i < sizeof ticks / sizeof *ticks; i++)
+        for (uint32_t bay = 3; bay < 5; bay++) {
+            uint8_t given = intake_box_tick(box, INTAKE_BOX_LENGTH, bay, 0, answer, ticks[i][0], record, ticks[i][1]);
+            expect(given == (bay == 3 ? 1 : 13), given, "another length of a tick", "1 or 13\n");
+        }
+    static const size_t reads[][2] = {{36, 37}, {38, 37}, {37, 36}, {37, 38}, {0, 37},
+                                      {37, 0},  {36, 13}, {38, 13}, {37, 12}, {37, 14}};
+    for (size_t i = 0; i < sizeof reads / sizeof *reads; i++)
+        for (uint32_t bay = 3; bay < 5; bay++) {
+            uint8_t given = intake_box_service(box, INTAKE_BOX_LENGTH, bay, record, reads[i][0], view, reads[i][1]);
+            expect(given == (bay == 3 ? 1 : 13), given, "another length of the service", "1 or 13\n");
+            given = intake_box_panel(box, INTAKE_BOX_LENGTH, bay, record, reads[i][0], view, reads[i][1]);
+            expect(given == (bay == 3 ? 1 : 13), given, "another length of the panel", "1 or 13\n");
+        }
+    expect(intake_box_service(box, INTAKE_BOX_LENGTH, 4, record, 37, view, 37) == 13, 13, "an empty bay, service", "13\n");
+    expect(intake_box_panel(box, INTAKE_BOX_LENGTH, 4, record, 37, view, 13) == 13, 13, "an empty bay, panel", "13\n");
+    expect(intake_box_service(box, INTAKE_BOX_LENGTH, 3, record, 37, view, 13) == 1, 1, "service in a panel's view", "1\n");
+    expect(intake_box_panel(box, INTAKE_BOX_LENGTH, 3, record, 37, view, 37) == 1, 1, "panel in a service view", "1\n");
+    expect(intake_box_admit(box, INTAKE_BOX_LENGTH, 4, NULL, 0, UINT32_MAX, 0) == 2, 2, "no sequence", "2\n");
+    for (size_t i = 0; i < sizeof record; i++)
+        expect(answer[i] == 0 && record[i] == 0 && view[i] == 0, 0, "buffers of refused calls", "\n");
     protect(box_page, true);
     admit(INTAKE_NO_SUCH_BAY, 3, "FF");
     admit(INTAKE_NO_SUCH_BAY, 3, MUCH_ABOVE);
@@ -177,11 +225,11 @@ static void long_box(void)
 {
     static uint8_t longer[INTAKE_BOX_LENGTH + 256], copy[sizeof longer];
     const uint8_t one[] = {0x00};
-    uint8_t answer[INTAKE_ANSWER_LENGTH];
+    uint8_t answer[INTAKE_ANSWER_LENGTH], record[INTAKE_RECORD_LENGTH];
     for (size_t more = 1; more <= 256; more += 255) {
-        uint8_t given = intake_box_admit(longer, INTAKE_BOX_LENGTH + more, 0, one, sizeof one, 0);
+        uint8_t given = intake_box_admit(longer, INTAKE_BOX_LENGTH + more, 0, one, sizeof one, 0, 0);
         expect(given == INTAKE_BUFFER_LENGTH, given, "a long box, admission", "1\n");
-        given = intake_box_tick(longer, INTAKE_BOX_LENGTH + more, 0, 0, answer, sizeof answer);
+        given = intake_box_tick(longer, INTAKE_BOX_LENGTH + more, 0, 0, answer, sizeof answer, record, sizeof record);
         expect(given == INTAKE_BUFFER_LENGTH, given, "a long box, tick", "1\n");
         for (int what = 0; what < POSITION_CALLS; what++) {
             given = position_calls[what].call(longer, INTAKE_BOX_LENGTH + more, 0, 0);
@@ -282,8 +330,9 @@ static void side_by_side(void)
     uint8_t states[2][INTAKE_STATE_LENGTH] = {{0}}, answer[INTAKE_ANSWER_LENGTH];
     for (uint32_t bay = 0; bay < 2; bay++) {
         uint8_t number = intake_box_admit(box, INTAKE_BOX_LENGTH, bay, sequences[bay].bytes, sequences[bay].length,
-                                          sequences[bay].read_back);
+                                          sequences[bay].read_back, 0);
         expect(number == INTAKE_ACCEPTED, number, "side by side", "admit\n");
+        instants[bay] = 0;
     }
     for (uint32_t i = 0; i < 16; i++) {
         uint32_t bay = i % 3 == 0, input = i * UINT32_C(0x9E3779B9);
@@ -389,6 +438,119 @@ static void sixteen(void)
     expect(memcmp(box, was, sizeof was) == 0, 0, "a box with nothing in it, after positions", "\n");
 }
 
+/* Shows a record to a reader of a bay and gives the view; the box and the record can't be written. */
+typedef uint8_t reader(const uint8_t *, size_t, uint32_t, const uint8_t *, size_t, uint8_t *, size_t);
+
+static const uint8_t *view_of(reader *read, size_t length, uint32_t bay, const uint8_t *record)
+{
+    struct bytes shown = {.count = INTAKE_RECORD_LENGTH}, blank = {.count = length};
+    memcpy(shown.at, record, INTAKE_RECORD_LENGTH);
+    memset(blank.at, 0xA5, length);
+    const uint8_t *bytes = place(sequence_page, bay % 2 == 0, &shown, false);
+    uint8_t *view = place(view_page, bay % 2 == 1, &blank, true);
+    protect(box_page, false);
+    uint8_t given = read(box, INTAKE_BOX_LENGTH, bay, bytes, INTAKE_RECORD_LENGTH, view, length);
+    protect(box_page, true);
+    expect(given == INTAKE_ACCEPTED, given, "a reader", "\n");
+    return view;
+}
+
+/* What the panel shows of a record; the service sees all of it. */
+static void shows(uint32_t bay, const uint8_t *record, uint32_t number, uint8_t code, uint32_t inputs, uint32_t emitted,
+                  const char *where)
+{
+    const uint8_t *whole = view_of(intake_box_service, INTAKE_RECORD_LENGTH, bay, record);
+    expect(memcmp(whole, record, INTAKE_RECORD_LENGTH) == 0, 0, where, "service\n");
+    const uint8_t *view = view_of(intake_box_panel, INTAKE_PANEL_LENGTH, bay, record);
+    bool same = intake_panel_number(view) == number && intake_panel_code(view) == code;
+    expect(same && intake_panel_inputs(view) == inputs && intake_panel_emitted(view) == emitted, code, where, "panel\n");
+}
+
+/* Emits 1, 9 and 31 in each instant, and 8 if 0 is given. */
+#define EMITS "06 04 02 01 04 02 09 04 02 1F 04 07 00 02 08 00 01 05"
+#define EMITTED UINT32_C(0x80000302)
+
+/* 02, item 10: signals that are for the service only, in the inputs, in the emitted set, in both, none and all. */
+static void views(void)
+{
+    static const uint32_t sets[] = {0, 1 << 4, 1 << 9, 1 << 1, UINT32_C(1) << 31, 0xFFFF0000, UINT32_MAX};
+    for (size_t i = 0; i < sizeof sets / sizeof *sets; i++) {
+        service_only = sets[i];
+        admit(INTAKE_ACCEPTED, 6, EMITS);
+        admit(INTAKE_ACCEPTED, 5, WRONG_AT_ONCE);
+        service_only = ~sets[i];
+        admit(INTAKE_ACCEPTED, 4, ENDLESS);
+        answers(6, 0x80000013, INTAKE_WAITING, EMITTED, "emits");
+        shows(6, last, 1, INTAKE_WAITING, 0x80000013 & ~sets[i], EMITTED & ~sets[i], "service-only signals");
+        shows(4, last, 1, INTAKE_WAITING, 0x80000013 & sets[i], EMITTED & sets[i], "another bay's panel"); /* any record */
+        answers(5, 0x80000013, INTAKE_WRONG, 0, "wrong");
+        shows(5, last, 1, INTAKE_WRONG, 0x80000013 & ~sets[i], 0, "a wrong instant");
+        for (uint32_t bay = 4; bay < 7; bay++)
+            release(INTAKE_ACCEPTED, bay);
+        service_only = 0;
+        admit(INTAKE_ACCEPTED, 6, EMITS); /* the set of before is gone */
+        shows(6, last, 1, INTAKE_WRONG, 0x80000013, 0, "a new admission");
+        release(INTAKE_ACCEPTED, 6);
+    }
+}
+
+/* Records that no tick wrote: of two that differ in a bit, the panel shows the same exactly if the bit is hidden. */
+static void bits(void)
+{
+    uint8_t record[INTAKE_RECORD_LENGTH], first[INTAKE_PANEL_LENGTH];
+    uint32_t hidden = 0x40C30A51;
+    service_only = hidden;
+    admit(INTAKE_ACCEPTED, 2, ONE);
+    service_only = 0;
+    for (unsigned i = 0; i < sizeof record; i++)
+        record[i] = (uint8_t)(i * 37 + 11);
+    memcpy(first, view_of(intake_box_panel, sizeof first, 2, record), sizeof first);
+    for (unsigned bit = 0; bit < 8 * sizeof record; bit++) {
+        unsigned byte = bit / 8, inputs = 8 * INTAKE_RECORD_INPUTS, code = INTAKE_RECORD_ANSWER + INTAKE_ANSWER_CODE;
+        unsigned emitted = 8 * (INTAKE_RECORD_ANSWER + INTAKE_ANSWER_EMITTED);
+        bool shown = byte < INTAKE_RECORD_INPUTS || byte == code ||
+                     (bit >= inputs && bit < inputs + 32 && (hidden >> (bit - inputs) & 1) == 0) ||
+                     (bit >= emitted && bit < emitted + 32 && (hidden >> (bit - emitted) & 1) == 0);
+        record[byte] ^= (uint8_t)(1 << bit % 8);
+        bool same = memcmp(view_of(intake_box_panel, sizeof first, 2, record), first, sizeof first) == 0;
+        expect(same != shown, bit, "a bit of a record", "panel\n");
+        expect(memcmp(view_of(intake_box_service, sizeof record, 2, record), record, sizeof record) == 0, bit,
+               "a bit of a record", "service\n");
+        record[byte] ^= (uint8_t)(1 << bit % 8);
+    }
+    release(INTAKE_ACCEPTED, 2);
+}
+
+/* The number goes on after coming back, begins anew with an admission, and stays at the greatest. */
+static void numbers(void)
+{
+    admit(INTAKE_ACCEPTED, 1, STEPS);
+    answers(1, 0, INTAKE_WAITING, 0, "number 1");
+    save(INTAKE_ACCEPTED, 1, 1);
+    answers(1, 0, INTAKE_WAITING, 1 << 1, "number 2");
+    answers(1, 0, INTAKE_WAITING, 1 << 2, "number 3");
+    answers(1, 1, INTAKE_ENDED, 1 << 3, "number 4");
+    tick(INTAKE_OVER, 1, 0); /* no instant, no record, no number */
+    restore(INTAKE_ACCEPTED, 1, 1);
+    answers(1, 0, INTAKE_WAITING, 1 << 1, "number 5");
+    expect(intake_record_number(last) == 5, last[0], "after coming back", "5\n");
+    release(INTAKE_ACCEPTED, 1);
+    admit(INTAKE_ACCEPTED, 1, ENDLESS);
+    answers(1, 0, INTAKE_WAITING, 1 << 1, "number 1 again");
+    expect(intake_record_number(last) == 1, last[0], "after a new admission", "1\n");
+    memcpy(box + STRETCH + AT_NUMBER, "\xFE\xFF\xFF\xFF", 4);
+    instants[1] = UINT32_MAX - 1;
+    for (int i = 0; i < 3; i++) {
+        answers(1, 0, INTAKE_WAITING, 1 << 1, "the greatest number");
+        expect(intake_record_number(last) == UINT32_MAX, last[0], "the greatest number", "\n");
+        shows(1, last, UINT32_MAX, INTAKE_WAITING, 0, 1 << 1, "the greatest number");
+    }
+    memcpy(box + STRETCH + AT_NUMBER, "\xFF\x00\xFF\xFF", 4);
+    instants[1] = 0xFFFF00FF;
+    answers(1, 0, INTAKE_WAITING, 1 << 1, "a carry");
+    release(INTAKE_ACCEPTED, 1);
+}
+
 /* Lines whose ceilings are above 65,536: (64 + 6) * 64 * 64 = 286,720, and 64 * 58 * 64 = 237,568. */
 static const char *const dear[] = {"0: 63(06) 00 & 0000003F\n", "0: 6(08 00) 57(06) 00\n"};
 
@@ -415,6 +577,8 @@ int main(int argc, char **argv)
     box_page = new_pages(INTAKE_BOX_LENGTH);
     sequence_page = new_page();
     answer_page = new_page();
+    record_page = new_page();
+    view_page = new_page();
     for (int at_end = 0; at_end < 2; at_end++) {
         begin(at_end);
         order();
@@ -424,6 +588,9 @@ int main(int argc, char **argv)
         side_by_side();
         coming_back();
         sixteen();
+        views();
+        bits();
+        numbers();
         admit(INTAKE_ACCEPTED, 0, WRONG_AT_ONCE);
         answers(0, 0, INTAKE_WRONG, 0, "wrong");
         release(INTAKE_ACCEPTED, 0);

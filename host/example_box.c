@@ -1,11 +1,12 @@
 /*
  * A small host with several bays: runs the bays of up to eight run files side by side in one box, an instant of each in
  * turn, and prints a line for each instant. A word such as 0:4:save:1 asks for a call on a position: before instant 4 of bay
- * 0 save it under the name 1; restore comes back to it, and forget forgets it.
+ * 0 save it under the name 1; restore comes back to it, and forget forgets it. A word such as 0:record:FILE keeps the records
+ * of bay 0 in a file, for tools/show --recording.
  *
  *     gcc -Iinclude host/example_box.c target/staticlib/libintake.a -o example_box
  *     ./example_box examples/intake.bin examples/rinse.bin
- *     ./example_box examples/clean.bin 0:4:save:1 0:7:restore:1
+ *     ./example_box examples/clean.bin 0:4:save:1 0:7:restore:1 0:record:clean.rec
  */
 #include "intake.h"
 
@@ -18,13 +19,14 @@
 /* The run file: the length of the sequence, the sequence, its read-back set, then an input for each instant. */
 enum { MAX_FILE = 65536, LENGTH_BYTES = 2, READ_BACK_BYTES = 4, INPUT_BYTES = 4 };
 
-/* What the box does not hold of a bay: its inputs. */
+/* What the box does not hold of a bay: its inputs, and where its records go, if anywhere. */
 struct bay {
     uint8_t file[MAX_FILE];
     size_t count;
     size_t next; /* where the input of the next instant stands */
     size_t instant;
     bool present;
+    FILE *recording;
 };
 
 /* A call on a position of a bay, before one of its instants. */
@@ -64,7 +66,7 @@ static void admit(uint32_t number_of_bay)
     struct bay *bay = &bays[number_of_bay];
     size_t length = intake_number_in(bay->file, LENGTH_BYTES);
     uint32_t read_back = intake_number_in(bay->file + bay->next - READ_BACK_BYTES, READ_BACK_BYTES);
-    uint8_t number = intake_box_admit(box, sizeof box, number_of_bay, bay->file + LENGTH_BYTES, length, read_back);
+    uint8_t number = intake_box_admit(box, sizeof box, number_of_bay, bay->file + LENGTH_BYTES, length, read_back, 0);
     bay->present = number == INTAKE_ACCEPTED;
     if (!bay->present)
         printf("%" PRIu32 " refused %u: %s\n", number_of_bay, (unsigned)number, intake_text(number));
@@ -89,16 +91,18 @@ static void positions(uint32_t number_of_bay)
 static void instant(uint32_t number_of_bay)
 {
     struct bay *bay = &bays[number_of_bay];
-    uint8_t answer[INTAKE_ANSWER_LENGTH];
+    uint8_t answer[INTAKE_ANSWER_LENGTH], record[INTAKE_RECORD_LENGTH];
     positions(number_of_bay);
     if (bay->count - bay->next < INPUT_BYTES ||
         intake_box_tick(box, sizeof box, number_of_bay, intake_number_in(bay->file + bay->next, INPUT_BYTES), answer,
-                        sizeof answer) != INTAKE_ACCEPTED) {
+                        sizeof answer, record, sizeof record) != INTAKE_ACCEPTED) {
         intake_box_release(box, sizeof box, number_of_bay);
         bay->present = false;
         printf("%" PRIu32 " end\n", number_of_bay);
         return;
     }
+    if (bay->recording != NULL)
+        fwrite(record, 1, sizeof record, bay->recording);
     bay->next += INPUT_BYTES;
     bay->instant++;
     printf("%" PRIu32 " %zu %u %u %u %08" PRIx32 "\n", number_of_bay, bay->instant, (unsigned)intake_answer_code(answer),
@@ -116,11 +120,35 @@ static bool asks(const char *word)
     return true;
 }
 
+/* Whether a word asks for a recording, whose file is then there. */
+static bool records(const char *word)
+{
+    uint32_t bay;
+    int end = 0;
+    if (sscanf(word, "%" SCNu32 ":record:%n", &bay, &end) != 1 || end == 0 || bay >= INTAKE_BAY_COUNT ||
+        bays[bay].recording != NULL)
+        return false;
+    bays[bay].recording = fopen(word + end, "wb");
+    return bays[bay].recording != NULL;
+}
+
+/* Whether all that was written is where it should be. */
+static bool closed(void)
+{
+    bool all = fflush(stdout) == 0 && !ferror(stdout);
+    for (size_t i = 0; i < INTAKE_BAY_COUNT; i++)
+        if (bays[i].recording != NULL) {
+            bool written = !ferror(bays[i].recording);
+            all = fclose(bays[i].recording) == 0 && written && all;
+        }
+    return all;
+}
+
 int main(int argc, char **argv)
 {
     uint32_t count = 0;
     for (int i = 1; i < argc; i++) {
-        if (asks(argv[i]))
+        if (asks(argv[i]) || records(argv[i]))
             continue;
         if (count == INTAKE_BAY_COUNT || !read_file(&bays[count], argv[i])) {
             fprintf(stderr, "%s: no run file, or more than %d\n", argv[i], INTAKE_BAY_COUNT);
@@ -129,7 +157,7 @@ int main(int argc, char **argv)
         admit(count++);
     }
     if (count == 0) {
-        fprintf(stderr, "usage: example_box RUN-FILE... [BAY:INSTANT:CALL:NAME...], at most %d files\n", INTAKE_BAY_COUNT);
+        fprintf(stderr, "usage: example_box RUN-FILE... [BAY:INSTANT:CALL:NAME...] [BAY:record:FILE...]\n");
         return EXIT_FAILURE;
     }
     for (bool any = true; any;) {
@@ -140,5 +168,5 @@ int main(int argc, char **argv)
                 any = true;
             }
     }
-    return fflush(stdout) == 0 ? EXIT_SUCCESS : EXIT_FAILURE;
+    return closed() ? EXIT_SUCCESS : EXIT_FAILURE;
 }

@@ -62,6 +62,27 @@ static void states(void)
     expect(!intake_waits_at(state, (unsigned)-1), "waits at a member beyond all", label);
 }
 
+static void recordings(void)
+{
+    uint8_t record[INTAKE_RECORD_LENGTH], view[INTAKE_PANEL_LENGTH];
+    unsigned i;
+    for (i = 0; i < INTAKE_RECORD_LENGTH; i++)
+        record[i] = (uint8_t)(0xA0 + i);
+    for (i = 0; i < INTAKE_PANEL_LENGTH; i++)
+        view[i] = (uint8_t)(0xE0 + i);
+    expect(intake_record_number(record) == 0xA3A2A1A0u, "number", 0);
+    expect(intake_record_inputs(record) == 0xA7A6A5A4u, "inputs", 0);
+    expect(intake_answer_code(intake_record_answer(record)) == 0xA8, "code of a record", 0);
+    expect(intake_answer_emitted(intake_record_answer(record)) == 0xAFAEADACu, "emitted set of a record", 0);
+    expect(intake_answer_reactions(intake_record_answer(record)) == 0xB3B2B1B0u, "reactions of a record", 0);
+    expect(intake_state_phase(intake_record_state(record)) == 0xB4, "phase of a record", 0);
+    expect(intake_state_labels(intake_record_state(record))[15] == 0xC4, "labels of a record", 0);
+    expect(intake_panel_number(view) == 0xE3E2E1E0u, "number of a panel", 0);
+    expect(intake_panel_code(view) == 0xE4, "code of a panel", 0);
+    expect(intake_panel_inputs(view) == 0xE8E7E6E5u, "inputs of a panel", 0);
+    expect(intake_panel_emitted(view) == 0xECEBEAE9u, "emitted set of a panel", 0);
+}
+
 /* Every number, kind and two beyond have words of their own; the two beyond share theirs. */
 static void texts(void)
 {
@@ -81,6 +102,9 @@ static void lengths(void)
 {
     expect(INTAKE_STATE_LABELS + INTAKE_STATE_LABELS_LENGTH == INTAKE_STATE_LENGTH, "length of the state record", 0);
     expect(INTAKE_ANSWER_REACTIONS + INTAKE_ANSWER_REACTIONS_LENGTH == INTAKE_ANSWER_LENGTH, "length of the answer", 0);
+    expect(INTAKE_RECORD_ANSWER + (int)INTAKE_ANSWER_LENGTH == INTAKE_RECORD_STATE, "answer of a record", 0);
+    expect(INTAKE_RECORD_STATE + (int)INTAKE_STATE_LENGTH == INTAKE_RECORD_LENGTH, "length of a record", 0);
+    expect(INTAKE_PANEL_EMITTED + INTAKE_PANEL_EMITTED_LENGTH == INTAKE_PANEL_LENGTH, "length of a panel", 0);
     expect(INTAKE_BOX_LENGTH % INTAKE_BAY_COUNT == 0, "length of a box", 0);
     expect(INTAKE_STACK_THREAD >= INTAKE_STACK_TICK && INTAKE_STACK_TICK >= INTAKE_STACK_CHECK, "stack", 0);
     expect(INTAKE_STACK_THREAD >= INTAKE_STACK_BOX, "stack of a box", 0);
@@ -91,6 +115,7 @@ int main(void)
 {
     answers();
     states();
+    recordings();
     texts();
     lengths();
     printf("%u passed, %u failed\n", passed, failed);

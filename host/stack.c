@@ -3,8 +3,9 @@
  * the lowest byte that changed tells. What the same call of an empty function takes is left out. Every sequence has depth
  * 64, the greatest: commands with parts 63 times, inside them a leaf, and their other parts leaves beside. Six signals stand
  * around it in the sequence, or outside by the read-back set, which takes no level of the depth. Each is admitted to a box
- * too, ticked twice there, saved sixteen times and once more, restored, forgotten and released. The most of the check, of the tick and of the calls on a box is held to what
- * include/intake.h promises, and a thread of the size that it names runs the deepest calls.
+ * too, ticked twice there, its record read, saved sixteen times and once more, restored, forgotten and released. The most of
+ * the check, of the tick and of the calls on a box is held to what include/intake.h promises, and a thread of the size that
+ * it names runs the deepest calls.
  */
 #include "intake.h"
 
@@ -19,7 +20,7 @@
 enum { STACK = 65536, PAINT = 0xA5, DEPTH = 64, HATCH = 31, SIGNALS = 6, MIXES = 2000, FAR = 1024, BAY = 7 };
 
 static uint8_t stack[STACK], sequence[1024], state[INTAKE_STATE_LENGTH], answer[INTAKE_ANSWER_LENGTH];
-static uint8_t box[INTAKE_BOX_LENGTH];
+static uint8_t box[INTAKE_BOX_LENGTH], record[INTAKE_RECORD_LENGTH], view[INTAKE_RECORD_LENGTH];
 static size_t length;
 static uint32_t input, read_back, name;
 static uint8_t number;
@@ -34,8 +35,22 @@ static void tick(void)
     number = intake_tick(sequence, length, state, sizeof state, input, read_back, answer, sizeof answer);
 }
 
-static void box_admit(void) { number = intake_box_admit(box, sizeof box, BAY, sequence, length, read_back); }
-static void box_tick(void) { number = intake_box_tick(box, sizeof box, BAY, input, answer, sizeof answer); }
+static void box_admit(void) { number = intake_box_admit(box, sizeof box, BAY, sequence, length, read_back, 0x0F); }
+static void box_tick(void)
+{
+    number = intake_box_tick(box, sizeof box, BAY, input, answer, sizeof answer, record, sizeof record);
+}
+
+static void box_service(void)
+{
+    number = intake_box_service(box, sizeof box, BAY, record, sizeof record, view, INTAKE_RECORD_LENGTH);
+}
+
+static void box_panel(void)
+{
+    number = intake_box_panel(box, sizeof box, BAY, record, sizeof record, view, INTAKE_PANEL_LENGTH);
+}
+
 static void box_release(void) { number = intake_box_release(box, sizeof box, BAY); }
 static void box_save(void) { number = intake_box_save(box, sizeof box, BAY, name); }
 static void box_restore(void) { number = intake_box_restore(box, sizeof box, BAY, name); }
@@ -190,6 +205,8 @@ static size_t in_box(uint8_t admitted, const char *what)
         bytes = larger(bytes, used(box_tick, INTAKE_ACCEPTED, what));
         int waits = answer[INTAKE_ANSWER_CODE] == INTAKE_WAITING;
         bytes = larger(bytes, positions(waits, what));
+        bytes = larger(bytes, used(box_service, INTAKE_ACCEPTED, what));
+        bytes = larger(bytes, used(box_panel, INTAKE_ACCEPTED, what));
         uint8_t next = waits ? INTAKE_ACCEPTED : INTAKE_OVER;
         bytes = larger(bytes, used(box_tick, next, what));
         bytes = larger(bytes, used(box_release, INTAKE_ACCEPTED, what));

@@ -56,7 +56,7 @@ extern "C" {
  */
 enum intake_number {
     INTAKE_ACCEPTED = 0,                /* accepted */
-    INTAKE_BUFFER_LENGTH = 1,           /* state buffer not 17 bytes, answer buffer not 12, or box not 12,184 */
+    INTAKE_BUFFER_LENGTH = 1,           /* buffer not of its length: state 17, answer 12, record 37, panel 13, box 12,184 */
     INTAKE_SEQUENCE_LENGTH = 2,         /* sequence of no bytes or over 1,024 */
     INTAKE_UNKNOWN_COMMAND = 3,         /* command byte above 0B */
     INTAKE_CUT_SHORT = 4,               /* operand or statement missing at the end */
@@ -115,6 +115,36 @@ enum intake_answer {
     INTAKE_ANSWER_REACTIONS = 8,
     INTAKE_ANSWER_REACTIONS_LENGTH = 4,
     INTAKE_ANSWER_LENGTH = 12
+};
+
+/*
+ * The record of an instant of a bay: where its fields begin, and their bytes. The number, lowest byte first, is 1 in
+ * the first instant after an admission and goes up by one with each instant, coming back to a position or not, up to
+ * 4,294,967,295, where it stays. The inputs are those that the tick was given, bits of read-back signals too; the
+ * answer record and the state record are those after the instant.
+ */
+enum intake_record {
+    INTAKE_RECORD_NUMBER = 0,
+    INTAKE_RECORD_NUMBER_LENGTH = 4,
+    INTAKE_RECORD_INPUTS = 4,
+    INTAKE_RECORD_INPUTS_LENGTH = 4,
+    INTAKE_RECORD_ANSWER = 8,
+    INTAKE_RECORD_ANSWER_LENGTH = 12,
+    INTAKE_RECORD_STATE = 20,
+    INTAKE_RECORD_STATE_LENGTH = 17,
+    INTAKE_RECORD_LENGTH = 37
+};
+
+/* What a panel shows of a record; the signals that are for the service only are in neither set. */
+enum intake_panel {
+    INTAKE_PANEL_NUMBER = 0,
+    INTAKE_PANEL_NUMBER_LENGTH = 4,
+    INTAKE_PANEL_CODE = 4,
+    INTAKE_PANEL_INPUTS = 5,
+    INTAKE_PANEL_INPUTS_LENGTH = 4,
+    INTAKE_PANEL_EMITTED = 9,
+    INTAKE_PANEL_EMITTED_LENGTH = 4,
+    INTAKE_PANEL_LENGTH = 13
 };
 
 /* The place of an error of a read-back signal, which no command of the sequence declares. */
@@ -201,8 +231,9 @@ uint8_t intake_tick(const uint8_t *sequence, size_t sequence_length, uint8_t *st
 
 /*
  * A box holds the machines of up to INTAKE_BAY_COUNT bays, numbered from 0, each with its own sequence, read-back set,
- * state and positions. It is lent memory of INTAKE_BOX_LENGTH bytes, all of them 00 at first and from then on written by the
- * calls below and by nobody else; docs/FORMAT.md has the layout.
+ * set of service-only signals, state, positions and number of instants. It is lent memory of INTAKE_BOX_LENGTH bytes,
+ * all of them 00 at first and from then on written by the calls below and by nobody else; docs/FORMAT.md has the
+ * layout.
  *
  * The bays share a ceiling: what the instants of all bays present can take, one of each, sums to INTAKE_SHARED_CEILING
  * reactions at most. The part of a bay is fixed on admission: commands * (1 + loops) * 2^signals of its sequence, as above
@@ -215,35 +246,39 @@ uint8_t intake_tick(const uint8_t *sequence, size_t sequence_length, uint8_t *st
  * length, then INTAKE_NO_SUCH_BAY for a bay that is filled on admission or empty otherwise, then those that each call adds.
  * A call turned down writes nothing, not even bytes of the same value.
  *
- * The caller must see to it that the buffers of a call have the lengths given and share no byte, that the box, and a tick's
- * answer, are readable and writable and the sequence readable, and that nobody else uses them during the call: two threads
- * do not use one box at the same time. A buffer of length 0 may be a null pointer. Every value of the bytes, every length
- * and every bay number is allowed, also a box that no call has written: the calls read and write no byte outside the
- * buffers and always return. No address needs to be aligned.
+ * The caller must see to it that the buffers of a call have the lengths given and share no byte, that what is not const
+ * is readable and writable and the rest readable, and that nobody else uses them during the call: two threads do not
+ * use one box at the same time, unless both only read it (intake_box_service, intake_box_panel). A buffer of length 0
+ * may be a null pointer. Every value of the bytes, every length and every bay number is allowed, also a box that no
+ * call has written: the calls read and write no byte outside the buffers and always return. No address needs to be
+ * aligned.
  */
 #define INTAKE_BAY_COUNT 8
 #define INTAKE_BOX_LENGTH 12184
 #define INTAKE_SHARED_CEILING 65536
 
 /*
- * Admits a sequence with its read-back set to an empty bay: its machine is fresh. After the numbers of every call on a box
- * come those of intake_check, 2 to 10, and then INTAKE_ABOVE_CEILING if the bay's part and the parts of the bays present
- * sum to more than the shared ceiling, in an empty box too. The sequence is copied: the caller's is not needed afterwards.
+ * Admits a sequence with its read-back set to an empty bay: its machine is fresh. The bay's panel never shows a signal
+ * of `service_only`; bit s is signal s, every set is allowed, and no answer depends on it. After the numbers of every
+ * call on a box come those of intake_check, 2 to 10, and then INTAKE_ABOVE_CEILING if the bay's part and the parts of
+ * the bays present sum to more than the shared ceiling, in an empty box too. The sequence is copied: the caller's is
+ * not needed afterwards.
  */
 uint8_t intake_box_admit(uint8_t *box, size_t box_length, uint32_t bay, const uint8_t *sequence, size_t sequence_length,
-                         uint32_t read_back);
+                         uint32_t read_back, uint32_t service_only);
 
 /* Takes the machine out of a filled bay, which is empty then, whatever the machine was doing; its positions are lost. */
 uint8_t intake_box_release(uint8_t *box, size_t box_length, uint32_t bay);
 
 /*
- * Runs one instant of a filled bay: intake_tick on its sequence, state record and read-back set. After the numbers of every
- * call on a box come INTAKE_BUFFER_LENGTH for an answer of another length and then those of intake_tick. In a box that these
- * calls alone have written they are INTAKE_ACCEPTED and INTAKE_OVER. A machine that is over stays in its bay, and keeps its
- * part of the ceiling, until it is released.
+ * Runs one instant of a filled bay: intake_tick on its sequence, state record and read-back set, which leaves a record
+ * too: the host that keeps the records of a bay has a recording of it. After the numbers of every call on a box come
+ * INTAKE_BUFFER_LENGTH for an answer or a record of another length and then those of intake_tick. In a box that these
+ * calls alone have written they are INTAKE_ACCEPTED and INTAKE_OVER. A machine that is over stays in its bay, and keeps
+ * its part of the ceiling, until it is released.
  */
 uint8_t intake_box_tick(uint8_t *box, size_t box_length, uint32_t bay, uint32_t input, uint8_t *answer,
-                        size_t answer_length);
+                        size_t answer_length, uint8_t *record, size_t record_length);
 
 /*
  * Positions. A cleaning crew that leaves a sequence half way may want to come back to 'rinse done'. A filled bay keeps
@@ -271,6 +306,19 @@ uint8_t intake_box_restore(uint8_t *box, size_t box_length, uint32_t bay, uint32
  * every call on a box comes INTAKE_NO_POSITION for an unknown name.
  */
 uint8_t intake_box_forget(uint8_t *box, size_t box_length, uint32_t bay, uint32_t name);
+
+/*
+ * The two readers of a record, for a filled bay: the service sees the record whole, in a view of INTAKE_RECORD_LENGTH
+ * bytes; the panel sees number, code, inputs and emitted set, in a view of INTAKE_PANEL_LENGTH, with the bay's
+ * service-only signals cleared in both sets. Two records give one bay's panel the same bytes exactly if they agree in
+ * number, code and, service-only signals aside, inputs and emitted set. Any bytes are taken for a record: that it is
+ * the bay's own is not asked. After the numbers of every call on a box comes INTAKE_BUFFER_LENGTH for a record or a
+ * view of another length. The box is not written.
+ */
+uint8_t intake_box_service(const uint8_t *box, size_t box_length, uint32_t bay, const uint8_t *record, size_t record_length,
+                           uint8_t *view, size_t view_length);
+uint8_t intake_box_panel(const uint8_t *box, size_t box_length, uint32_t bay, const uint8_t *record, size_t record_length,
+                         uint8_t *view, size_t view_length);
 
 /* The number in `count` bytes, at most 4, lowest first. */
 INTAKE_INLINE uint32_t intake_number_in(const uint8_t *bytes, size_t count)
@@ -337,12 +385,54 @@ INTAKE_INLINE int intake_waits_at(const uint8_t *state, unsigned label)
     return intake_has(state + INTAKE_STATE_LABELS, INTAKE_STATE_LABELS_LENGTH, label);
 }
 
+/* The fields of a record. Answer and state are records of their own. */
+INTAKE_INLINE uint32_t intake_record_number(const uint8_t *record)
+{
+    return intake_number_in(record + INTAKE_RECORD_NUMBER, INTAKE_RECORD_NUMBER_LENGTH);
+}
+
+INTAKE_INLINE uint32_t intake_record_inputs(const uint8_t *record)
+{
+    return intake_number_in(record + INTAKE_RECORD_INPUTS, INTAKE_RECORD_INPUTS_LENGTH);
+}
+
+INTAKE_INLINE const uint8_t *intake_record_answer(const uint8_t *record)
+{
+    return record + INTAKE_RECORD_ANSWER;
+}
+
+INTAKE_INLINE const uint8_t *intake_record_state(const uint8_t *record)
+{
+    return record + INTAKE_RECORD_STATE;
+}
+
+/* The fields of a panel's view. */
+INTAKE_INLINE uint32_t intake_panel_number(const uint8_t *view)
+{
+    return intake_number_in(view + INTAKE_PANEL_NUMBER, INTAKE_PANEL_NUMBER_LENGTH);
+}
+
+INTAKE_INLINE uint8_t intake_panel_code(const uint8_t *view)
+{
+    return view[INTAKE_PANEL_CODE];
+}
+
+INTAKE_INLINE uint32_t intake_panel_inputs(const uint8_t *view)
+{
+    return intake_number_in(view + INTAKE_PANEL_INPUTS, INTAKE_PANEL_INPUTS_LENGTH);
+}
+
+INTAKE_INLINE uint32_t intake_panel_emitted(const uint8_t *view)
+{
+    return intake_number_in(view + INTAKE_PANEL_EMITTED, INTAKE_PANEL_EMITTED_LENGTH);
+}
+
 /* What the number of a call means, in words. */
 INTAKE_INLINE const char *intake_text(unsigned number)
 {
     switch (number) {
     case INTAKE_ACCEPTED: return "accepted";
-    case INTAKE_BUFFER_LENGTH: return "the state buffer, the answer buffer or the box has another length";
+    case INTAKE_BUFFER_LENGTH: return "a buffer or the box has another length";
     case INTAKE_SEQUENCE_LENGTH: return "the sequence has no bytes, or more than 1,024";
     case INTAKE_UNKNOWN_COMMAND: return "unknown command";
     case INTAKE_CUT_SHORT: return "the sequence ends within a command";

@@ -135,6 +135,8 @@ def record(page, first, enum):
 def records(page):
     yield from record(page, "State record", "state")
     yield from record(page, "Answer record", "answer")
+    yield from record(page, "Record", "record")
+    yield from record(page, "Panel", "panel")
     phases = values("phase")
     words = "{PHASE_FRESH} fresh, {PHASE_WAITING} waiting, {PHASE_OVER} over".format(**phases)
     if rows(page, "State record")[0][3] != words:
@@ -190,8 +192,7 @@ def box(page):
     for name, begins, size, *_ in table[:-1]:
         if number(begins) != at:
             yield f"{name} of a stretch begins at {at}"
-        if name != "reserved":
-            given[name.upper().replace("-", "_")] = at
+        given[name.upper().replace("-", "_")] = at
         at += number(size)
     given["STRETCH"] = at
     if table[-1][0] != "whole" or number(table[-1][2]) != at:
@@ -225,7 +226,8 @@ def calls(page):
     count, length = known["BAY_COUNT"], known["BOX_LENGTH"]
     if length != count * number(rows(page, "Stretch")[-1][2]) or f"up to {count} bays in {length:,} bytes" not in page:
         yield "the length of a box"
-    if not told["BUFFER_LENGTH"][1].endswith(f"box not {length:,}") or f"above {count - 1}," not in told["NO_SUCH_BAY"][1]:
+    lengths = ", ".join(f"{name} {values(name)[f'{name}_LENGTH'.upper()]}" for name in ("state", "answer", "record", "panel"))
+    if told["BUFFER_LENGTH"][1] != f"buffer not of its length: {lengths}, box {length:,}" or f"above {count - 1}," not in told["NO_SUCH_BAY"][1]:
         yield "the length and the bays of a box in the header's comments"
     if not told["ABOVE_CEILING"][1].endswith(f"more than {known['SHARED_CEILING']:,}"):
         yield "the shared ceiling in the header's comment"
@@ -306,7 +308,8 @@ def faults(page):
 # Pages with one cell changed
 
 
-CHECKED = {"Byte": [0, 1, 2, 3], "Limit": [0, 1, 2], "State record": [0, 1, 2], "Answer record": [0, 1, 2], "Code": [0, 2],
+CHECKED = {"Byte": [0, 1, 2, 3], "Limit": [0, 1, 2], "State record": [0, 1, 2], "Answer record": [0, 1, 2],
+           "Record": [0, 1, 2], "Panel": [0, 1, 2], "Code": [0, 2],
            "Kind": [0, 1], "No.": [0, 1, 2, 3], "Stretch": [0, 1, 2], "Entry": [0, 1, 2], "Call": [0],
            "Part": [1], "Field": [0, 1], "Term": [3]}
 

@@ -10,6 +10,7 @@ extern "C" {
         sequence: *const u8,
         sequence_length: usize,
         read_back: u32,
+        service_only: u32,
     ) -> u8;
     fn intake_box_release(the_box: *mut u8, box_length: usize, bay: u32) -> u8;
     fn intake_box_tick(
@@ -19,24 +20,49 @@ extern "C" {
         input: u32,
         answer: *mut u8,
         answer_length: usize,
+        record: *mut u8,
+        record_length: usize,
     ) -> u8;
     fn intake_box_save(the_box: *mut u8, box_length: usize, bay: u32, name: u32) -> u8;
     fn intake_box_restore(the_box: *mut u8, box_length: usize, bay: u32, name: u32) -> u8;
     fn intake_box_forget(the_box: *mut u8, box_length: usize, bay: u32, name: u32) -> u8;
+    fn intake_box_service(
+        the_box: *const u8,
+        box_length: usize,
+        bay: u32,
+        record: *const u8,
+        record_length: usize,
+        view: *mut u8,
+        view_length: usize,
+    ) -> u8;
+    fn intake_box_panel(
+        the_box: *const u8,
+        box_length: usize,
+        bay: u32,
+        record: *const u8,
+        record_length: usize,
+        view: *mut u8,
+        view_length: usize,
+    ) -> u8;
 }
 
 /// What is asked of a bay.
 #[derive(Clone)]
 pub enum Call {
-    Admit { sequence: Vec<u8>, read_back: u32 },
+    Admit { sequence: Vec<u8>, read_back: u32, service_only: u32 },
     Release,
-    Tick { input: u32, answer_length: usize },
+    Tick { input: u32, answer_length: usize, record_length: usize },
     Save { name: u32 },
     Restore { name: u32 },
     Forget { name: u32 },
+    Service { record: Vec<u8>, view_length: usize },
+    Panel { record: Vec<u8>, view_length: usize },
 }
 
-pub const CALLS: [&str; 6] = ["admit", "release", "tick", "save", "restore", "forget"];
+pub const CALLS: [&str; 8] = ["admit", "release", "tick", "save", "restore", "forget", "service", "panel"];
+
+/// What a call writes to what it is lent beside the box: the answer and the record of a tick, or the view of a reader.
+pub type Written = [Vec<u8>; 2];
 
 impl Call {
     /// Its place among the calls.
@@ -48,99 +74,124 @@ impl Call {
             Call::Save { .. } => 3,
             Call::Restore { .. } => 4,
             Call::Forget { .. } => 5,
+            Call::Service { .. } => 6,
+            Call::Panel { .. } => 7,
         }
     }
 
     /// The call with its bay, for a message.
     pub fn text(&self, bay: u32) -> String {
         match self {
-            Call::Admit { sequence, read_back } => format!("admit {bay}: {} & {read_back:08X}", hex(sequence)),
+            Call::Admit { sequence, read_back, service_only } => {
+                format!("admit {bay}: {} & {read_back:08X}, service only {service_only:08X}", hex(sequence))
+            }
             Call::Release => format!("release {bay}"),
-            Call::Tick { input, answer_length } => format!("tick {bay}: {input:08X} | {answer_length}"),
+            Call::Tick { input, answer_length, record_length } => {
+                format!("tick {bay}: {input:08X} | {answer_length} | {record_length}")
+            }
             Call::Save { name } | Call::Restore { name } | Call::Forget { name } => {
                 format!("{} {bay}: name {name:08X}", CALLS[self.index()])
+            }
+            Call::Service { record, view_length } | Call::Panel { record, view_length } => {
+                format!("{} {bay}: {} | {view_length}", CALLS[self.index()], hex(record))
             }
         }
     }
 }
 
-/// The longest sequence and answer that a test passes.
+/// The longest buffer beside the box that a test passes.
 const MOST: usize = 4096;
 
 /// The memory for what a call is lent beside its box.
 pub struct Archive {
-    sequence: Memory,
-    answer: Memory,
+    /// A sequence, or the record that is shown.
+    read: Memory,
+    written: [Memory; 2],
     /// Turns with every call: where in its pages a buffer stands, and what stands around it.
     turn: u8,
 }
 
 impl Archive {
     pub fn new() -> Self {
-        Archive { sequence: Memory::new(MOST), answer: Memory::new(MOST), turn: 0 }
+        Archive { read: Memory::new(MOST), written: [Memory::new(MOST), Memory::new(MOST)], turn: 0 }
     }
 
-    /// Makes a call to a bay of the box that is lent. With `sealed` neither it nor the answer can be written during the call.
+    /// Makes a call to a bay of the box that is lent. With `sealed` neither it nor what is lent beside it can be written
+    /// during the call. A reader's box never can.
     pub fn call(&mut self, lent: &mut Memory, bay: u32, call: &Call, sealed: bool) -> Given {
         self.turn = self.turn.wrapping_add(1);
         let (at_end, fill) = (self.turn & 1 == 0, self.turn);
-        let (sequence, answer_length) = match call {
-            Call::Admit { sequence, .. } => (&sequence[..], 0),
-            Call::Tick { answer_length, .. } => (&[][..], *answer_length),
-            _ => (&[][..], 0),
+        let (read, lengths) = match call {
+            Call::Admit { sequence, .. } => (&sequence[..], [0, 0]),
+            Call::Tick { answer_length, record_length, .. } => (&[][..], [*answer_length, *record_length]),
+            Call::Service { record, view_length } | Call::Panel { record, view_length } => {
+                (&record[..], [*view_length, 0])
+            }
+            _ => (&[][..], [0, 0]),
         };
-        let before = vec![fill; answer_length];
-        self.sequence.place(sequence, at_end, fill);
-        self.answer.place(&before, at_end, !fill);
-        self.sequence.writable(false);
-        if sealed {
-            lent.writable(false);
-            self.answer.writable(false);
+        let before = lengths.map(|length| vec![fill; length]);
+        self.read.place(read, at_end, fill);
+        self.read.writable(false);
+        for (memory, content) in self.written.iter_mut().zip(&before) {
+            memory.place(content, at_end, !fill);
+            memory.writable(!sealed);
         }
+        lent.writable(!sealed && !matches!(call, Call::Service { .. } | Call::Panel { .. }));
         let number = self.made(lent, bay, call);
         lent.writable(true);
-        self.answer.writable(true);
-        self.sequence.writable(true);
-        let answer = self.answer.bytes().to_vec();
-        let kept = self.answer.holds(&answer) && self.sequence.holds(sequence);
-        Given { number, before, answer, kept }
+        self.read.writable(true);
+        let mut kept = self.read.holds(read);
+        let written = std::array::from_fn(|i| {
+            let memory = &mut self.written[i];
+            memory.writable(true);
+            let bytes = memory.bytes().to_vec();
+            kept &= memory.holds(&bytes);
+            bytes
+        });
+        Given { number, before, written, kept }
     }
 
     fn made(&mut self, lent: &mut Memory, bay: u32, call: &Call) -> u8 {
-        let (the_box, box_length) = lent.lent();
-        let (sequence, sequence_length) = self.sequence.lent();
-        let (answer, answer_length) = self.answer.lent();
+        let (the_box, length) = lent.lent();
+        let (read, read_length) = self.read.lent();
+        let [(first, first_length), (second, second_length)] = self.written.each_mut().map(Memory::lent);
         // Safe: buffers that share no byte, each with its own pointer and length.
         unsafe {
             match call {
-                Call::Admit { read_back, .. } => {
-                    intake_box_admit(the_box, box_length, bay, sequence, sequence_length, *read_back)
+                Call::Admit { read_back, service_only, .. } => {
+                    intake_box_admit(the_box, length, bay, read, read_length, *read_back, *service_only)
                 }
-                Call::Release => intake_box_release(the_box, box_length, bay),
-                Call::Tick { input, .. } => intake_box_tick(the_box, box_length, bay, *input, answer, answer_length),
-                Call::Save { name } => intake_box_save(the_box, box_length, bay, *name),
-                Call::Restore { name } => intake_box_restore(the_box, box_length, bay, *name),
-                Call::Forget { name } => intake_box_forget(the_box, box_length, bay, *name),
+                Call::Release => intake_box_release(the_box, length, bay),
+                Call::Tick { input, .. } => {
+                    intake_box_tick(the_box, length, bay, *input, first, first_length, second, second_length)
+                }
+                Call::Save { name } => intake_box_save(the_box, length, bay, *name),
+                Call::Restore { name } => intake_box_restore(the_box, length, bay, *name),
+                Call::Forget { name } => intake_box_forget(the_box, length, bay, *name),
+                Call::Service { .. } => {
+                    intake_box_service(the_box, length, bay, read, read_length, first, first_length)
+                }
+                Call::Panel { .. } => intake_box_panel(the_box, length, bay, read, read_length, first, first_length),
             }
         }
     }
 }
 
-/// The number of a call, the answer buffer before and after it, and whether nothing beside the buffers changed.
+/// The number of a call, what it may write before and after it, and whether nothing beside the buffers changed.
 pub struct Given {
     pub number: u8,
-    pub before: Vec<u8>,
-    pub answer: Vec<u8>,
+    pub before: Written,
+    pub written: Written,
     kept: bool,
 }
 
 impl Given {
-    /// Whether the call gave this: a number, or acceptance with what it wrote to the answer buffer.
-    pub fn is(&self, expected: &Result<Vec<u8>, u8>) -> bool {
-        let (number, answer) = match expected {
-            Ok(answer) => (0, answer),
+    /// Whether the call gave this: a number, or acceptance with what it wrote beside the box.
+    pub fn is(&self, expected: &Result<Written, u8>) -> bool {
+        let (number, written) = match expected {
+            Ok(written) => (0, written),
             Err(number) => (*number, &self.before),
         };
-        self.kept && self.number == number && self.answer == *answer
+        self.kept && self.number == number && self.written == *written
     }
 }

@@ -1,6 +1,7 @@
 //! Random calls to a box: mostly such as a host makes, sequences whose ceilings meet or pass what is left, and mistakes.
 use crate::archive::Call;
 use crate::model::{Bay, Model, BAYS, SHARED, WAITING};
+use crate::records::{PANEL_LENGTH, RECORD_LENGTH};
 use common::generate::{self, Random, Style};
 use common::table;
 use std::sync::OnceLock;
@@ -130,7 +131,7 @@ pub fn rename(random: &mut Random, model: &Model, request: &mut Request) {
 }
 
 /// Mostly a bay that suits the call: an empty one to admit to, one that is over to release, one that is not to tick, one
-/// that waits to save, one with positions to come back or to forget.
+/// that waits to save, one with positions to come back or to forget, a filled one to read.
 fn bay(random: &mut Random, model: &Model, call: &Call) -> u32 {
     let suits = |bay: &Option<Bay>| match call {
         Call::Admit { .. } => bay.is_none(),
@@ -138,6 +139,7 @@ fn bay(random: &mut Random, model: &Model, call: &Call) -> u32 {
         Call::Tick { .. } => bay.as_ref().is_some_and(|bay| !over(bay)),
         Call::Save { .. } => bay.as_ref().is_some_and(|bay| bay.state[0] == WAITING),
         Call::Restore { .. } | Call::Forget { .. } => bay.as_ref().is_some_and(|bay| !bay.positions.is_empty()),
+        Call::Service { .. } | Call::Panel { .. } => bay.is_some(),
     };
     let such: Vec<u32> = (0..BAYS as u32).filter(|&bay| suits(&model.bays[bay as usize])).collect();
     if such.is_empty() || random.chance(15) {
@@ -151,8 +153,34 @@ fn bay(random: &mut Random, model: &Model, call: &Call) -> u32 {
     }
 }
 
+/// The length of a buffer, sometimes another.
+fn length(random: &mut Random, right: usize) -> usize {
+    match random.chance(98) {
+        true => right,
+        false => {
+            random.pick(&[0, 1, right - 1, right + 1, ANSWER_LENGTH, PANEL_LENGTH, RECORD_LENGTH, right + 256, 1024])
+        }
+    }
+}
+
+/// A reader with the last record, one that differs from it in a bit, or any bytes.
+fn reading(random: &mut Random, model: &Model) -> Call {
+    let mut record = model.last.clone();
+    record.resize(RECORD_LENGTH, 0);
+    match random.below(3) {
+        0 => record.fill_with(|| random.below(256) as u8),
+        1 => record[random.below(RECORD_LENGTH)] ^= 1 << random.below(8),
+        _ => {}
+    }
+    record.resize(length(random, RECORD_LENGTH), 0);
+    match random.chance(30) {
+        true => Call::Service { record, view_length: length(random, RECORD_LENGTH) },
+        false => Call::Panel { record, view_length: length(random, PANEL_LENGTH) },
+    }
+}
+
 /// A call as the model's bays suggest it; `positions` is how many in a hundred are on positions, and `ticks` how many of
-/// the others are ticks.
+/// the others, but for some that read a record, are ticks.
 pub fn request(random: &mut Random, model: &Model, positions: usize, ticks: usize) -> Request {
     let idle = model.bays.iter().flatten().all(over);
     let kind = if idle && random.chance(80) { 99 } else { random.below(100) };
@@ -163,17 +191,18 @@ pub fn request(random: &mut Random, model: &Model, positions: usize, ticks: usiz
             12..=16 => restore,
             _ => forget,
         }
+    } else if random.chance(15) {
+        reading(random, model)
     } else if kind < ticks {
-        let answer_length = match random.chance(96) {
-            true => ANSWER_LENGTH,
-            false => random.pick(&[0, 1, 8, 11, 13, 17, 268, 1024]),
-        };
-        Call::Tick { input: runs::input(random), answer_length }
+        let (answer_length, record_length) = (length(random, ANSWER_LENGTH), length(random, RECORD_LENGTH));
+        Call::Tick { input: runs::input(random), answer_length, record_length }
     } else if kind < ticks + (100 - ticks) / 3 {
         Call::Release
     } else {
         let (sequence, read_back) = admitted(random, SHARED - model.taken());
-        Call::Admit { sequence, read_back }
+        let any = random.below(1 << 32) as u32;
+        let service_only = random.pick(&[0, any & 0xFF, any, any, u32::MAX]);
+        Call::Admit { sequence, read_back, service_only }
     };
     let bay = if random.chance(3) { random.pick(&NO_BAYS) } else { bay(random, model, &call) };
     let length = random.chance(3).then(|| {

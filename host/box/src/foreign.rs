@@ -1,14 +1,16 @@
 //! Boxes that no call has written: every call returns, a refusal changes nothing, no call leaves its bay's stretch, and a
 //! tick is intake_tick on what the bay holds. Positions that calls could have left are kept as by name; of other bytes in
 //! their place a name that is there with phase 1 is known, and a call writes what is its own to write.
-use crate::archive::{Archive, Call, Given};
+use crate::archive::{Archive, Call, Given, Written};
 use crate::draw::{doubtful, request};
 use crate::layout::{
-    self, entries, held, put, put_entries, put_length, put_positions, put_sequence, put_state, table, STRETCH,
+    self, entries, held, put, put_entries, put_length, put_number, put_positions, put_sequence, put_state, table,
+    STRETCH,
 };
-use crate::lists::Run;
+use crate::lists::{nothing, Run};
 use crate::memory::Memory;
 use crate::model::{Bay, BAYS, POSITIONS, SHARED, WAITING};
+use crate::records::{panel, record, PANEL_LENGTH, RECORD_LENGTH};
 use crate::tally::Tally;
 use common::generate::Random;
 use common::reference::STATE_LENGTH;
@@ -37,7 +39,9 @@ fn invented(random: &mut Random, stretch: &mut [u8]) {
     let sequence = runs::sequence(random);
     let mut state = runs::state(random, &sequence);
     state.resize(STATE_LENGTH, 0);
-    if let Ok(bay) = Bay::new(&sequence.bytes, sequence.read_back) {
+    let service_only = random.below(1 << 32) as u32;
+    if let Ok(mut bay) = Bay::new(&sequence.bytes, sequence.read_back, service_only) {
+        bay.number = random.pick(&[0, u32::MAX - 1, u32::MAX, service_only]);
         put(stretch, Some(&bay));
         put_state(stretch, &state);
         positions(random, stretch, &sequence);
@@ -129,7 +133,7 @@ fn forgotten(stretch: &mut [u8], given: &[u8], name: u32) -> Result<(), u8> {
 
 /// The number and the answer of a call to these bytes, and what becomes of them, which are `given` after the call; an
 /// admission's part of the shared ceiling is not looked at.
-fn expected(bytes: &[u8], given: &[u8], bay: u32, call: &Call) -> (Result<Vec<u8>, u8>, Vec<u8>) {
+fn expected(bytes: &[u8], given: &[u8], bay: u32, call: &Call) -> (Result<Written, u8>, Vec<u8>) {
     let mut after = bytes.to_vec();
     if bay as usize >= BAYS {
         return (Err(13), after);
@@ -140,28 +144,44 @@ fn expected(bytes: &[u8], given: &[u8], bay: u32, call: &Call) -> (Result<Vec<u8
     let given = match call {
         Call::Admit { .. } if !empty => Err(13),
         _ if empty && !matches!(call, Call::Admit { .. }) => Err(13),
-        Call::Admit { sequence, read_back } => Bay::new(sequence, *read_back).map(|bay| {
+        Call::Admit { sequence, read_back, service_only } => Bay::new(sequence, *read_back, *service_only).map(|bay| {
             put(stretch, Some(&bay));
-            vec![]
+            Written::default()
         }),
         Call::Release => {
             put(stretch, None);
-            Ok(vec![])
+            Ok(Written::default())
         }
-        Call::Tick { answer_length, .. } if *answer_length != ANSWER_LENGTH => Err(1),
+        Call::Tick { answer_length, record_length, .. }
+            if [*answer_length, *record_length] != [ANSWER_LENGTH, RECORD_LENGTH] =>
+        {
+            Err(1)
+        }
         Call::Tick { input, .. } => here.sequence.ok_or(2).and_then(|sequence| {
             let lent = archive::Call { state: here.state, input: *input, answer_length: ANSWER_LENGTH, fill: 0 };
             let outcome = archive::tick((sequence, here.read_back), lent);
             if outcome.number != 0 {
                 return Err(outcome.number);
             }
-            put_state(stretch, &outcome.state.expect("guards"));
-            Ok(outcome.answer.expect("guards"))
+            let (answer, state) = (outcome.answer.expect("guards"), outcome.state.expect("guards"));
+            let number = here.number.saturating_add(1);
+            put_state(stretch, &state);
+            put_number(stretch, number);
+            let record = record(number, *input, &answer, &state);
+            Ok([answer, record])
         }),
         Call::Save { .. } if here.state[0] != WAITING => Err(15),
-        Call::Save { name } => saved(stretch, given, *name, here.state).map(|()| vec![]),
-        Call::Restore { name } => restored(stretch, given, *name).map(|()| vec![]),
-        Call::Forget { name } => forgotten(stretch, given, *name).map(|()| vec![]),
+        Call::Save { name } => saved(stretch, given, *name, here.state).map(nothing),
+        Call::Restore { name } => restored(stretch, given, *name).map(nothing),
+        Call::Forget { name } => forgotten(stretch, given, *name).map(nothing),
+        Call::Service { record, view_length } => match (record.len(), *view_length) {
+            (RECORD_LENGTH, RECORD_LENGTH) => Ok([record.clone(), vec![]]),
+            _ => Err(1),
+        },
+        Call::Panel { record, view_length } => match (record.len(), *view_length) {
+            (RECORD_LENGTH, PANEL_LENGTH) => Ok([panel(record, here.service_only), vec![]]),
+            _ => Err(1),
+        },
     };
     (given, after)
 }
@@ -176,8 +196,8 @@ fn above(bytes: &[u8], ceiling: u64) -> (bool, bool) {
 
 fn compare(tally: &mut Tally, bytes: &[u8], bay: u32, call: &Call, given: &Given, memory: &mut Memory) {
     let (mut result, mut after) = expected(bytes, memory.bytes(), bay, call);
-    if let (Call::Admit { sequence, read_back }, Ok(_)) = (call, &result) {
-        let ceiling = Bay::new(sequence, *read_back).map_or(0, |bay| bay.ceiling);
+    if let (Call::Admit { sequence, read_back, .. }, Ok(_)) = (call, &result) {
+        let ceiling = Bay::new(sequence, *read_back, 0).map_or(0, |bay| bay.ceiling);
         let (may, must) = above(bytes, ceiling);
         if must || may && given.number == 14 {
             result = Err(14);

@@ -9,7 +9,9 @@ const LENGTH: usize = 0;
 const SEQUENCE: usize = 2;
 const READ_BACK: usize = 1026;
 const CEILING: usize = 1030;
+const SERVICE_ONLY: usize = 1034;
 const STATE: usize = 1038;
+const NUMBER: usize = 1055;
 const POSITIONS: usize = 1059;
 /// What a release clears ends here: the ledger, of the bay's number and not of its machine, begins.
 pub const LEDGER: usize = 1395;
@@ -39,6 +41,8 @@ pub fn put(stretch: &mut [u8], bay: Option<&Bay>) {
     let Some(bay) = bay else { return };
     put_sequence(stretch, &bay.sequence, bay.read_back);
     field(stretch, CEILING, &(bay.ceiling as u32).to_le_bytes());
+    field(stretch, SERVICE_ONLY, &bay.service_only.to_le_bytes());
+    put_number(stretch, bay.number);
     put_state(stretch, &bay.state);
     put_positions(stretch, &bay.positions);
 }
@@ -56,6 +60,11 @@ pub fn put_sequence(stretch: &mut [u8], sequence: &[u8], read_back: u32) {
     put_length(stretch, sequence.len() as u16);
     field(stretch, SEQUENCE, sequence);
     field(stretch, READ_BACK, &read_back.to_le_bytes());
+}
+
+/// Puts the number of the last instant.
+pub fn put_number(stretch: &mut [u8], number: u32) {
+    field(stretch, NUMBER, &number.to_le_bytes());
 }
 
 pub fn put_state(stretch: &mut [u8], state: &[u8]) {
@@ -128,7 +137,9 @@ pub struct Held<'a> {
     pub sequence: Option<&'a [u8]>,
     pub read_back: u32,
     pub ceiling: u32,
+    pub service_only: u32,
     pub state: &'a [u8],
+    pub number: u32,
 }
 
 pub fn held(stretch: &[u8]) -> Held<'_> {
@@ -139,6 +150,8 @@ pub fn held(stretch: &[u8]) -> Held<'_> {
         sequence: (length <= READ_BACK - SEQUENCE).then(|| &stretch[SEQUENCE..SEQUENCE + length]),
         read_back: word(READ_BACK),
         ceiling: word(CEILING),
+        service_only: word(SERVICE_ONLY),
         state: &stretch[STATE..STATE + STATE_LENGTH],
+        number: word(NUMBER),
     }
 }

@@ -1,6 +1,6 @@
 //! Random lists of calls from an empty box: every number and every byte after every call, and a bay's own calls beside
 //! other traffic.
-use crate::archive::{Archive, Call};
+use crate::archive::{Archive, Call, Written};
 use crate::draw::{rename, request, Request};
 use crate::layout::{self, LEDGER};
 use crate::memory::Memory;
@@ -24,11 +24,11 @@ pub struct Run {
     pub sealed: bool,
 }
 
-/// What a call gave and left: the number, the answer if there is one, and the bay's stretch.
+/// What a call gave and left: the number, what it wrote beside the box, and the bay's stretch.
 #[derive(PartialEq)]
 pub struct Seen {
     number: u8,
-    answer: Option<Vec<u8>>,
+    written: Option<Written>,
     stretch: Vec<u8>,
 }
 
@@ -63,12 +63,22 @@ impl Run {
         let length = length.filter(|&length| length != right);
         let lent = length.unwrap_or(right);
         let expected = match call {
-            Call::Admit { sequence, read_back } => self.model.admit(lent, *bay, sequence, *read_back).map(|()| vec![]),
-            Call::Release => self.model.release(lent, *bay).map(|()| vec![]),
-            Call::Tick { input, answer_length } => self.model.tick(lent, *bay, *input, *answer_length),
-            Call::Save { name } => self.model.save(lent, *bay, *name).map(|()| vec![]),
-            Call::Restore { name } => self.model.restore(lent, *bay, *name).map(|()| vec![]),
-            Call::Forget { name } => self.model.forget(lent, *bay, *name).map(|()| vec![]),
+            Call::Admit { sequence, read_back, service_only } => {
+                self.model.admit(lent, *bay, sequence, [*read_back, *service_only]).map(nothing)
+            }
+            Call::Release => self.model.release(lent, *bay).map(nothing),
+            Call::Tick { input, answer_length, record_length } => {
+                self.model.tick(lent, *bay, *input, [*answer_length, *record_length])
+            }
+            Call::Save { name } => self.model.save(lent, *bay, *name).map(nothing),
+            Call::Restore { name } => self.model.restore(lent, *bay, *name).map(nothing),
+            Call::Forget { name } => self.model.forget(lent, *bay, *name).map(nothing),
+            Call::Service { record, view_length } => {
+                self.model.service(lent, *bay, record, *view_length).map(|view| [view, vec![]])
+            }
+            Call::Panel { record, view_length } => {
+                self.model.panel(lent, *bay, record, *view_length).map(|view| [view, vec![]])
+            }
         };
         let sealed = self.sealed && expected.is_err();
         let given = match length {
@@ -90,34 +100,55 @@ impl Run {
             format!("{} and not {number}, box as it should be: {same}, length {length:?}, {text}", given.number)
         });
         let own = layout::stretch((*bay as usize).min(BAYS - 1));
-        let answer = (given.number == 0).then_some(given.answer);
-        Seen { number: given.number, answer, stretch: self.lent.bytes()[own].to_vec() }
+        let written = (given.number == 0).then_some(given.written);
+        Seen { number: given.number, written, stretch: self.lent.bytes()[own].to_vec() }
     }
+
+    /// Lets the instants of a filled bay be close to the greatest number, by the layout alone.
+    fn near_the_last_number(&mut self, random: &mut Random) {
+        let bay = random.below(BAYS);
+        if let Some(own) = &mut self.model.bays[bay] {
+            own.number = u32::MAX - random.below(4) as u32;
+            layout::put_number(&mut self.lent.bytes()[layout::stretch(bay)], own.number);
+        }
+    }
+}
+
+/// What a call writes beside the box that is lent nothing else.
+pub fn nothing((): ()) -> Written {
+    Written::default()
 }
 
 /// Lists of 20 to 200 calls.
 pub fn lists(tally: &mut Tally, random: &mut Random, count: usize) {
     let mut run = Run::new();
-    let (mut full, mut exact, mut sixteen) = (0, 0, 0);
+    let (mut full, mut exact, mut sixteen, mut last) = (0, 0, 0, 0);
     for _ in 0..count {
         run.clear(random);
         let (calls, ticks) = (20 + random.below(181), random.pick(&[20, 60, 80, 90]));
         let positions = random.pick(&[0, 10, 40, 70]);
         for _ in 0..calls {
+            if random.chance(1) {
+                run.near_the_last_number(random);
+            }
             let request = request(random, &run.model, positions, ticks);
-            run.step(tally, &request);
+            let seen = run.step(tally, &request);
+            let number = seen.written.as_ref().and_then(|[_, record]| record.get(..4).map(<[u8]>::to_vec));
+            last += (number == Some(u32::MAX.to_le_bytes().to_vec())) as u64;
             full += run.model.bays.iter().all(Option::is_some) as u64;
             exact += (run.model.taken() == SHARED) as u64;
             sixteen += run.model.bays.iter().flatten().any(|bay| bay.positions.len() == POSITIONS) as u64;
         }
     }
     println!("{count} lists; after {full} calls all bays were filled, after {exact} the whole ceiling was taken");
-    println!("after {sixteen} calls a bay kept {POSITIONS} positions");
-    let all = full > 0 && exact > 0 && sixteen > 0;
-    tally.counts.expect(all, || "no full box, none with the whole ceiling taken, or no bay with all positions".into());
+    println!("after {sixteen} calls a bay kept {POSITIONS} positions, and {last} instants had the greatest number");
+    let all = full > 0 && exact > 0 && sixteen > 0 && last > 0;
+    tally
+        .counts
+        .expect(all, || "a full box, the whole ceiling, all positions or the greatest number was not met".into());
 }
 
-/// 02, items 8 and 9: two lists with the same calls to one bay, and its admissions answered alike, give it the same answers and
+/// 02, items 8 to 10: two lists with the same calls to one bay, and its admissions answered alike, give it the same answers and
 /// the same bytes. The second list has other calls to the other bays.
 pub fn isolation(tally: &mut Tally, random: &mut Random, count: usize) {
     let (mut one, mut two) = (Run::new(), Run::new());

@@ -1,4 +1,4 @@
-//! The host test of a box (02, items 8 and 9): the archive's calls against a model of eight bays (model.rs), whose check, tick and
+//! The host test of a box (02, items 8 to 10): the archive's calls against a model of eight bays (model.rs), whose check, tick and
 //! ceiling are those of the other host tests, and every byte against the layout (layout.rs); random lists of calls and a
 //! bay beside other traffic (lists.rs); boxes that no call has written (foreign.rs). All buffers stand between guard pages.
 //! An argument replaces the seed. The last line is 'N passed, M failed'.
@@ -9,6 +9,7 @@ mod layout;
 mod lists;
 mod memory;
 mod model;
+mod records;
 mod tally;
 
 use common::generate::Random;
@@ -26,7 +27,7 @@ fn main() -> ExitCode {
     tally.reached(&given, 0, &[0, 1, 2, 3, 4, 5, 6, 7, 8, 9, 10, 13, 14]);
     tally.reached(&given, 1, &[0, 1, 13]);
     tally.reached(&given, 2, &[0, 1, 12, 13]); // a box that its calls alone have written never gives 11
-    positions(&mut tally, &given);
+    others(&mut tally, &given);
     lists::isolation(&mut tally, &mut random, 1_500);
     tally.close("isolation");
     foreign::boxes(&mut tally, &mut random, 8_000);
@@ -34,13 +35,15 @@ fn main() -> ExitCode {
     tally.reached(&given, 0, &[0, 1, 2, 3, 4, 5, 6, 7, 8, 9, 10, 13, 14]);
     tally.reached(&given, 1, &[0, 1, 13]);
     tally.reached(&given, 2, &[0, 1, 2, 3, 4, 5, 6, 7, 8, 9, 10, 11, 12, 13]);
-    positions(&mut tally, &given);
+    others(&mut tally, &given);
     tally.counts.finish()
 }
 
-/// The calls on positions gave each of their numbers.
-fn positions(tally: &mut Tally, given: &Numbers) {
+/// The calls on positions, and the readers, gave each of their numbers.
+fn others(tally: &mut Tally, given: &Numbers) {
     tally.reached(given, 3, &[0, 1, 13, 15, 16]);
     tally.reached(given, 4, &[0, 1, 13, 15]);
     tally.reached(given, 5, &[0, 1, 13, 15]);
+    tally.reached(given, 6, &[0, 1, 13]);
+    tally.reached(given, 7, &[0, 1, 13]);
 }

@@ -1,5 +1,7 @@
-//! A box as 02, items 8 and 9, word it: eight bays, each empty or with a machine of its own and the positions that were
-//! saved of it. It knows no bytes of a box.
+//! A box as 02, items 8 to 10, word it: eight bays, each empty or with a machine of its own, the positions that were saved
+//! of it and the number of its last instant. It knows no bytes of a box.
+use crate::archive::Written;
+use crate::records::{panel, record, PANEL_LENGTH, RECORD_LENGTH};
 use common::reference;
 use common::reference::STATE_LENGTH;
 use std::collections::BTreeMap;
@@ -19,38 +21,44 @@ pub const POSITIONS: usize = 16;
 /// The phase of a machine that waits.
 pub const WAITING: u8 = 1;
 
-/// A machine: what it was admitted with, what an instant of it takes at most, its state record, and the state records that
-/// were saved, by name.
+/// A machine: what it was admitted with, what an instant of it takes at most, its state record, the state records that were
+/// saved, by name, and the number of its last instant.
 pub struct Bay {
     pub sequence: Vec<u8>,
     pub read_back: u32,
+    pub service_only: u32,
     pub ceiling: u64,
     pub state: Vec<u8>,
     pub positions: BTreeMap<u32, Vec<u8>>,
+    pub number: u32,
     tree: reference::Tree,
     term: Term,
 }
 
 impl Bay {
     /// A fresh machine, or the number of the check.
-    pub fn new(sequence: &[u8], read_back: u32) -> Result<Bay, u8> {
+    pub fn new(sequence: &[u8], read_back: u32, service_only: u32) -> Result<Bay, u8> {
         let tree = reference::check(sequence, read_back)?;
         Ok(Bay {
             sequence: sequence.to_vec(),
             read_back,
+            service_only,
             ceiling: Ceiling::of(&tree, read_back).most(),
             state: vec![0; STATE_LENGTH],
             positions: BTreeMap::new(),
+            number: 0,
             term: wrap(read_back, &term(&tree)),
             tree,
         })
     }
 
-    /// The answer of an instant, or number 11 or 12.
-    pub fn tick(&mut self, input: u32) -> Result<Vec<u8>, u8> {
+    /// The answer and the record of an instant, or number 11 or 12.
+    fn tick(&mut self, input: u32) -> Result<Written, u8> {
         let instant = instant(Order::InheritanceFirst, &self.tree, &self.term, &self.state, input)?;
         self.state = instant.state;
-        Ok(instant.answer)
+        self.number = self.number.saturating_add(1);
+        let record = record(self.number, input, &instant.answer, &self.state);
+        Ok([instant.answer, record])
     }
 
     /// Number 15 unless the machine waits, then 16 for a seventeenth name.
@@ -71,6 +79,8 @@ pub struct Model {
     pub bays: [Option<Bay>; BAYS],
     /// The length of a box that number 1 lets pass.
     pub length: usize,
+    /// The last record that a tick has left.
+    pub last: Vec<u8>,
 }
 
 impl Model {
@@ -94,10 +104,11 @@ impl Model {
         }
     }
 
-    pub fn admit(&mut self, length: usize, bay: u32, sequence: &[u8], read_back: u32) -> Result<(), u8> {
+    pub fn admit(&mut self, length: usize, bay: u32, sequence: &[u8], sets: [u32; 2]) -> Result<(), u8> {
         let taken = self.taken();
         let place = self.bay(length, bay, false)?;
-        let admitted = Bay::new(sequence, read_back)?;
+        let [read_back, service_only] = sets;
+        let admitted = Bay::new(sequence, read_back, service_only)?;
         if taken + admitted.ceiling > SHARED {
             return Err(14);
         }
@@ -110,12 +121,14 @@ impl Model {
         Ok(())
     }
 
-    pub fn tick(&mut self, length: usize, bay: u32, input: u32, answer_length: usize) -> Result<Vec<u8>, u8> {
+    pub fn tick(&mut self, length: usize, bay: u32, input: u32, lengths: [usize; 2]) -> Result<Written, u8> {
         let bay = self.filled(length, bay)?;
-        if answer_length != ANSWER_LENGTH {
+        if lengths != [ANSWER_LENGTH, RECORD_LENGTH] {
             return Err(1);
         }
-        bay.tick(input)
+        let written = bay.tick(input)?;
+        self.last.clone_from(&written[1]);
+        Ok(written)
     }
 
     fn filled(&mut self, length: usize, bay: u32) -> Result<&mut Bay, u8> {
@@ -134,5 +147,21 @@ impl Model {
 
     pub fn forget(&mut self, length: usize, bay: u32, name: u32) -> Result<(), u8> {
         self.filled(length, bay)?.positions.remove(&name).map(|_| ()).ok_or(15)
+    }
+
+    pub fn service(&mut self, length: usize, bay: u32, record: &[u8], view_length: usize) -> Result<Vec<u8>, u8> {
+        self.filled(length, bay)?;
+        if record.len() != RECORD_LENGTH || view_length != RECORD_LENGTH {
+            return Err(1);
+        }
+        Ok(record.to_vec())
+    }
+
+    pub fn panel(&mut self, length: usize, bay: u32, record: &[u8], view_length: usize) -> Result<Vec<u8>, u8> {
+        let service_only = self.filled(length, bay)?.service_only;
+        if record.len() != RECORD_LENGTH || view_length != PANEL_LENGTH {
+            return Err(1);
+        }
+        Ok(panel(record, service_only))
     }
 }
