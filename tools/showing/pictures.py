@@ -13,7 +13,7 @@ def rows_of(inputs, instants):
     sets = [("input", SIGNALS, inputs if instants is None else inputs[: len(instants)])]
     if instants is not None:
         sets.append(("emitted", SIGNALS, [instant.emitted for instant in instants]))
-        sets.append(("label", LABELS, [instant.labels for instant in instants]))
+        sets.append(("label", LABELS, [getattr(instant, "labels", 0) for instant in instants]))  # a panel sees none
     rows = [Row(kind, number, [members >> number & 1 for members in columns])
             for kind, width, columns in sets for number in range(width)]
     return [row for row in rows if any(row.marks)]
@@ -32,14 +32,14 @@ def heads_of(rows, names):
     return [f"{head:{width}}" for head in heads], width
 
 
-def add_picture(rows, codes, columns, names, out):
-    """Adds the picture, in blocks that are narrow enough."""
+def add_picture(rows, codes, numbers, names, out):
+    """Adds the picture, in blocks that are narrow enough; the numbers are those of the instants."""
     heads, width = heads_of(rows, names)
-    cell = 1 + len(str(max([columns, *codes])))
+    columns, cell = len(numbers), 1 + len(str(max([0, *numbers, *codes])))
     block = (PICTURE_WIDTH - width) // cell
     for start in range(0, columns, block):
         part = range(start, min(start + block, columns))
-        out += ["", f"{'instant':{width}}" + "".join(f"{column + 1:{cell}}" for column in part)]
+        out += ["", f"{'instant':{width}}" + "".join(f"{numbers[column]:{cell}}" for column in part)]
         for head, row in zip(heads, rows):
             out.append(head + "".join(f"{'.#'[row.marks[column]]:>{cell}}" for column in part))
         if codes:

@@ -5,6 +5,7 @@
   tools/show --svg PICTURE FILE   the picture alone, as SVG
   tools/show --vcd DUMP FILE      the run alone, as a value change dump for GTKWave, 100 ms an instant
   tools/show --sequence FILE      the bytes of a sequence alone: its commands
+  tools/show --recording FILE     the records of a bay (02, item 10): a picture of what it did, --svg and --vcd as above
 
 FILE - is standard input. Above the commands stand the read-back signals of a run file, where it has any: they are declared
 around the sequence. Below them stands the ceiling of an instant's reactions (02, item 6), with its three factors: the
@@ -21,6 +22,10 @@ the listing; where they part, or where there is no listing, exit status 1 says s
 --names gives signals and labels their names: a text file with lines such as 'signal 9 pump' and 'label 0 ready', and # for
 comments. A name is one word of at most 24 letters, digits, - and _, and begins with a letter.
 
+A recording has no sequence beside it: its picture has what the records hold, the numbers of the instants above it. With
+--service-only it is what the bay's panel sees: number, code, inputs and emitted set, without those signals, which are
+numbers or names parted by commas, or - for none.
+
 Damaged input is shown up to the damage, which is named on standard error, with exit status 1; 'row' is a row of document 01,
 'Turned down', and rows 2 to 10 are checked.
 """
@@ -34,6 +39,8 @@ from showing.listings import check_instants, instants_in, listing_of, outcome
 from showing.names import MAX_NAMES_FILE, NO_NAMES, names_in
 from showing.paper import Paper, add_paper
 from showing.pictures import add_picture, rows_of
+from showing.recordings import MAX_RECORDING, outcome_of, panel_of, records_in
+from showing.runfile import signals_in
 from showing.sequences import MAX_SEQUENCE, add_commands
 from showing.svg import Drawing, add_svg
 from showing.vcd import add_vcd
@@ -43,6 +50,19 @@ NO_LISTING = "no listing: target/bin/run is not built"
 
 def add_sequence(options, names, out):
     check_labels(add_commands(read_bytes(options.file, MAX_SEQUENCE), 0, names, out), names)
+
+
+def add_recording(options, names, out):
+    """Adds what is shown of a recording, up to the damage where there is any."""
+    service_only = None if options.service_only is None else signals_in(options.service_only, names)
+    data, records = read_bytes(options.file, MAX_RECORDING), []
+    try:
+        records_in(data, records)
+    finally:
+        if service_only is not None:
+            records[:] = [panel_of(record, service_only) for record in records]
+        add_shown(options, names, [record.inputs for record in records], records, [outcome_of(records)], out)
+        del out[: 1 if options.to is None and out[:1] == [""] else 0]  # the picture stands alone
 
 
 def add_run(options, names, out):
@@ -69,13 +89,13 @@ def add_run(options, names, out):
 
 def add_shown(options, names, inputs, instants, told, out):
     rows, codes = rows_of(inputs, instants), [instant.code for instant in instants or []]
-    columns = len(inputs if instants is None else instants)
+    numbers = range(1, len(inputs) + 1) if instants is None else [instant.number for instant in instants]
     if options.svg is not None:
-        add_svg(Drawing(rows, codes, columns, names), told, out)
+        add_svg(Drawing(rows, codes, numbers, names), told, out)
     elif options.vcd is not None:
-        add_vcd(rows, instants, columns, names, out)
+        add_vcd(rows, instants, numbers, names, out)
     else:
-        add_picture(rows, codes, columns, names, out)
+        add_picture(rows, codes, numbers, names, out)
         out += ["", *told]
 
 
@@ -84,6 +104,8 @@ def parser_of():
                                      formatter_class=argparse.RawDescriptionHelpFormatter)
     parser.add_argument("file", metavar="FILE", help="a run file (document 01, 'Bays to run'); - is standard input")
     parser.add_argument("--sequence", action="store_true", help="FILE has the bytes of a sequence alone")
+    parser.add_argument("--recording", action="store_true", help="FILE has the records of a bay")
+    parser.add_argument("--service-only", metavar="SET", help="show a recording as the panel sees it, without these signals")
     parser.add_argument("--listing", metavar="LISTING", help="the listing of this run; - is standard input")
     parser.add_argument("--names", metavar="NAMES", help="names of signals and labels")
     parser.add_argument("--paper", action="store_true", help="show the run on paper and hold it to the listing")
@@ -99,6 +121,10 @@ def options_of(arguments):
     shown = [options.sequence, options.paper, options.svg is not None, options.vcd is not None]
     if options.sequence and (sum(shown) > 1 or options.listing is not None):
         parser.error("a sequence alone has no run")
+    if options.recording and (options.sequence or options.paper or options.listing is not None):
+        parser.error("a recording has no sequence and no listing")
+    if options.service_only is not None and not options.recording:
+        parser.error("--service-only is for --recording")
     if sum(shown) > 1:
         parser.error("one of --paper, --svg and --vcd")
     if options.whole and not options.paper:
@@ -114,7 +140,8 @@ def main(arguments=None):
     name, damage, out = options.file, None, []
     try:
         names = NO_NAMES if options.names is None else names_in(read_bytes(options.names, MAX_NAMES_FILE))
-        (add_sequence if options.sequence else add_run)(options, names, out)
+        add = add_sequence if options.sequence else add_recording if options.recording else add_run
+        add(options, names, out)
     except Damaged as error:
         damage = str(error)
     except OSError as error:

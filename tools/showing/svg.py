@@ -29,13 +29,13 @@ def runs_of(marks):
 class Drawing:
     """The lines of a picture, and the sizes that are the same throughout."""
 
-    def __init__(self, rows, codes, columns, names):
-        self.rows, self.codes, self.columns, self.lines = rows, codes, columns, []
+    def __init__(self, rows, codes, numbers, names):
+        self.rows, self.codes, self.numbers, self.columns, self.lines = rows, codes, numbers, len(numbers), []
         self.heads = [" ".join(filter(None, [row.kind, str(row.number), name_of(row, names)])) for row in rows]
         self.left = max([90, *(2 * MARGIN + CHARACTER * len(head) for head in self.heads)])
-        self.cell = max(CELL, 3 + CHARACTER * len(str(columns)))
+        self.cell = max(CELL, 3 + CHARACTER * len(str(max([0, *numbers]))))
         blocks = max(1, MAX_HEIGHT // self.block_height())
-        self.block = max(BLOCK_WIDTH // self.cell, -(-columns // blocks))
+        self.block = max(BLOCK_WIDTH // self.cell, -(-self.columns // blocks))
 
     def block_height(self):
         return LINE * (len(self.rows) + 3)
@@ -51,9 +51,10 @@ class Drawing:
             self.text(self.left + self.cell * index + self.cell // 2, y, contents[column], wrong)
 
     def add_fault(self, top, part):
-        """A background of its own for a wrong instant, which is the last of a run."""
-        if self.codes and self.codes[part[-1]] == WRONG:
-            x, height = self.left + self.cell * (len(part) - 1), LINE * (len(self.rows) + 2)
+        """A background of its own for a wrong instant: the last of a run, or any of a recording."""
+        height = LINE * (len(self.rows) + 2)
+        for index in [index for index, column in enumerate(part) if self.codes and self.codes[column] == WRONG]:
+            x = self.left + self.cell * index
             self.lines.append(f'<rect class="fault" x="{x}" y="{top + MARGIN}" width="{self.cell}" height="{height}"/>')
 
     def add_grid(self, top, part):
@@ -66,7 +67,7 @@ class Drawing:
     def add_block(self, top, part):
         """Some columns: the numbers of the instants, the rows with their marks, the codes."""
         self.add_fault(top, part)
-        self.cells(top + LINE, "instant", part, range(1, self.columns + 1))
+        self.cells(top + LINE, "instant", part, self.numbers)
         for index, (row, head) in enumerate(zip(self.rows, self.heads), 1):
             self.text(MARGIN, top + LINE * (index + 1), head, "name")
             y = top + LINE * index + 7
@@ -87,7 +88,7 @@ def add_svg(drawing, told, out):
         top += drawing.block_height()
     top = max(top, LINE) + MARGIN
     for index, line in enumerate(told):
-        drawing.text(MARGIN, top, line, "name wrong" if index == 0 and WRONG in drawing.codes else "name")
+        drawing.text(MARGIN, top, line, "name wrong" if index == 0 and drawing.codes[-1:] == [WRONG] else "name")
         top += LINE
     columns = min(drawing.block, drawing.columns)
     width = max([drawing.left + drawing.cell * columns + 10, *(2 * MARGIN + CHARACTER * len(line) for line in told)])

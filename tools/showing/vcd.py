@@ -15,12 +15,13 @@ def code_of(index):
     return chr(FIRST + index % CODES) + (code_of(index // CODES - 1) if index >= CODES else "")
 
 
-def wires_of(rows, instants, columns, names):
-    """Each wire: its scope, its name, its bits and its values by column."""
-    wires = [("run", "instant", 16, list(range(1, columns + 1)))]
+def wires_of(rows, instants, numbers, names):
+    """Each wire: its scope, its name, its bits and its values by column. A panel sees a code with no kind and place."""
+    wires = [("run", "instant", 16 if max([0, *numbers]) < 1 << 16 else 32, list(numbers))]
     if instants is not None:
         wires += [("run", name, bits, [getattr(instant, name) for instant in instants])
-                  for name, bits in (("code", 8), ("kind", 2), ("place", 16))]
+                  for name, bits in (("code", 8), ("kind", 2), ("place", 16))
+                  if all(hasattr(instant, name) for instant in instants)]
     for row in rows:
         name = name_of(row, names) or ("label" if row.kind == "label" else "signal")
         wires.append((row.kind, f"{name}_{row.number}", 1, row.marks))
@@ -41,9 +42,9 @@ def change(bits, value, code):
     return f"{value}{code}" if bits == 1 else f"b{value:b} {code}"
 
 
-def add_vcd(rows, instants, columns, names, out):
+def add_vcd(rows, instants, numbers, names, out):
     """Adds the dump: in each instant what is not as in the one before."""
-    wires = wires_of(rows, instants, columns, names)
+    wires, columns = wires_of(rows, instants, numbers, names), len(numbers)
     out += ["$version tools/show $end", "$timescale 1 ms $end"]
     add_declarations(wires, out)
     for column in range(columns):
