@@ -18,6 +18,8 @@ import example_test as examples  # pylint: disable=wrong-import-position
 
 ROOT = Path(__file__).resolve().parent.parent
 BAYS, LISTS = 8, 40
+RECORD = 37  # bytes; number, code, kind, place and emitted set of it stand here
+FIELDS = (0, 4), (8, 9), (9, 10), (10, 12), (12, 16)
 
 
 def lines(listing):
@@ -54,7 +56,8 @@ def refused(host, files):
             first, *rest = done.stdout.splitlines()
             examples.expect(first.startswith(f"1 refused {number}: "), f"{name} beside number {number}: {first}")
             examples.expect(rest == [f"0 {line}" for line in lines(listing)], f"{name} beside number {number}")
-    for words in [], [ROOT / "examples" / name] * (BAYS + 1), [ROOT / "examples"]:
+    ours = ROOT / "examples" / name
+    for words in [], [ours] * (BAYS + 1), [ROOT / "examples"], [ours, "8:record:x"], [ours, "0:record:/dev/full"]:
         examples.expect(run(host, [], *words).returncode == 1, f"{len(words)} words")
 
 
@@ -63,15 +66,38 @@ def shown():
     found = []
     for page in sorted((ROOT / "examples").glob("*.md")):
         text = page.read_text(encoding="utf-8")
-        found += re.findall(r"^    target/host/example-box (.*)\n\n```text\n(.*?)```", text, re.M | re.S)
+        found += re.findall(r"^    target/host/example-box ([^\n]*)\n\n```text\n(.*?)```", text, re.M | re.S)
     return [(words.split(), expected) for words, expected in found]
 
 
+def recorded(recording, expected):
+    """The records are those of the lines that the host printed: number, code, kind, place and emitted set."""
+    lines = [line.split()[1:] for line in expected.splitlines() if line.count(" ") == 5]
+    records = [recording[at : at + RECORD] for at in range(0, len(recording), RECORD)]
+    fields = [[int.from_bytes(record[start:end], "little") for start, end in FIELDS] for record in records]
+    given = [[str(number), str(code), str(kind), str(place), f"{emitted:08x}"] for number, code, kind, place, emitted in fields]
+    examples.expect(bool(lines) and given == lines, f"the recording of {expected}: {given}")
+
+
+def drawn():
+    """What the pages show of a recording by tools/show."""
+    for page in sorted((ROOT / "examples").glob("*.md")):
+        text = page.read_text(encoding="utf-8")
+        for words, expected in re.findall(r"^    (tools/show [^\n]*--recording [^\n]*)\n\n```text\n(.*?)```", text, re.M | re.S):
+            done = subprocess.run(words.split(), capture_output=True, text=True, check=False, cwd=ROOT)
+            examples.expect(done.returncode == 0 and done.stdout == expected, f"{words}: {done.stdout}{done.stderr}")
+            yield words
+
+
 def positions(host, commands):
-    """The commands of the pages, as they stand there; and beside another bay, which they leave as it is."""
+    """The commands of the pages, as they stand there, and their recording; and beside another bay, which they leave as it is."""
     for words, expected in commands:
+        file = ROOT / words[-1].partition(":record:")[2]
+        file.unlink(missing_ok=True)
         done = subprocess.run([host, *words], capture_output=True, text=True, check=False, cwd=ROOT)
         examples.expect(done.returncode == 0 and done.stdout == expected, f"{words}: {done.stdout}{done.stderr}")
+        recorded(file.read_bytes(), expected)
+        examples.expect(len(list(drawn())) == 2, "what the pages show of a recording")
         beside = subprocess.run([host, *words, words[0]], capture_output=True, text=True, check=False, cwd=ROOT)
         own = [line for line in beside.stdout.splitlines() if line.startswith("0 ")]
         other = [line[2:] for line in beside.stdout.splitlines() if line.startswith("1 ")]
