@@ -244,7 +244,8 @@ uint8_t intake_tick(const uint8_t *sequence, size_t sequence_length, uint8_t *st
  *
  * The numbers come in this order: INTAKE_NO_SUCH_BAY for a number above 7, then INTAKE_BUFFER_LENGTH for a box of another
  * length, then INTAKE_NO_SUCH_BAY for a bay that is filled on admission or empty otherwise, then those that each call adds.
- * A call turned down writes nothing, not even bytes of the same value.
+ * After a call turned down the bytes of every buffer are unchanged, which is proved; that nothing is stored, not even bytes
+ * of the same value, is tested (host/box.c).
  *
  * The caller must see to it that the buffers of a call have the lengths given and share no byte, that what is not const
  * is readable and writable and the rest readable, and that nobody else uses them during the call: two threads do not
