@@ -1,4 +1,5 @@
 pub mod Storing
 pub mod Ticking
+pub mod Recording
 pub mod Admitting
 pub mod Positioning

@@ -10,8 +10,8 @@ use Rattle.numbers.specs.Bytes.{leBytes}
 use Rattle.numbers.proofs.Bytes.{length-leBytes}
 use Rattle.parts.specs.Parts.{put, zeros}
 use Rattle.parts.proofs.Parts.{stored}
-use Rattle.box_calls.specs.Stretch.{lengthBytes, sequenceAt, readBackAt, ceilingAt, bayLength, stretchLength, vacated, Terms, filled}
-use Rattle.box_calls.proofs.Fields.{s1, s2, s3, l0, l1, l2, l3}
+use Rattle.box_calls.specs.Stretch.{lengthBytes, sequenceAt, readBackAt, ceilingAt, serviceAt, bayLength, stretchLength, vacated, Terms, filled}
+use Rattle.box_calls.proofs.Fields.{s1, s2, s3, s4, l0, l1, l2, l3, l4}
 
 pub cleared-out : (s : List ℕ) → length s ≡ stretchLength → sets s 0 (leBytes bayLength 0) ≡ vacated s
 unfolding vacated zeros
@@ -24,15 +24,17 @@ module _ (t : Terms) (ceiling : ℕ) (s : List ℕ) (z : length s ≡ stretchLen
   next at n bytes r r′ e l room sized h =
       h ∙ ap (λ (x : List ℕ). sets x at bytes) e ∙ stored at n bytes r′ (omega (arith, l)) sized
 
-  pub filled-by : {v a b c d : List ℕ} → v ≡ vacated s → a ≡ sets v 0 (leBytes lengthBytes (length (t .sequence)))
+  pub filled-by : {v a b c d e : List ℕ} → v ≡ vacated s → a ≡ sets v 0 (leBytes lengthBytes (length (t .sequence)))
       → b ≡ sets a sequenceAt (t .sequence) → c ≡ sets b readBackAt (leBytes signalBytes (t .readBack))
-      → d ≡ sets c ceilingAt (leBytes takenBytes ceiling) → d ≡ filled t ceiling s
+      → d ≡ sets c ceilingAt (leBytes takenBytes ceiling) → e ≡ sets d serviceAt (leBytes signalBytes (t .serviceOnly)) → e ≡ filled t ceiling s
   unfolding filled
-  filled-by {v} {a} {b} {c} {d} ev ea eb ec ed =
+  filled-by {v} {a} {b} {c} {d} {e} ev ea eb ec ed ee =
       let n = length (t .sequence) in
       let wa = next 0 lengthBytes (leBytes lengthBytes n) v (vacated s) ev (l0 t ceiling s z fits) (omega arith) (length-leBytes lengthBytes n) ea in
       let wb = next sequenceAt n (t .sequence) a (s1 t ceiling s z fits) wa (l1 t ceiling s z fits) (omega arith) refl eb in
       let wc = next readBackAt signalBytes (leBytes signalBytes (t .readBack)) b (s2 t ceiling s z fits) wb (l2 t ceiling s z fits) (omega arith)
       (length-leBytes signalBytes (t .readBack)) ec in
-      next ceilingAt takenBytes (leBytes takenBytes ceiling) c (s3 t ceiling s z fits) wc (l3 t ceiling s z fits) (omega arith)
-      (length-leBytes takenBytes ceiling) ed
+      let wd = next ceilingAt takenBytes (leBytes takenBytes ceiling) c (s3 t ceiling s z fits) wc (l3 t ceiling s z fits) (omega arith)
+      (length-leBytes takenBytes ceiling) ed in
+      next serviceAt signalBytes (leBytes signalBytes (t .serviceOnly)) d (s4 t ceiling s z fits) wd (l4 t ceiling s z fits) (omega arith)
+      (length-leBytes signalBytes (t .serviceOnly)) ee

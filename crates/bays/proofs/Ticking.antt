@@ -1,12 +1,14 @@
--- One law for each return of the code of a bay's tick, over plain lists.
+-- One law for each return of the code of a bay's step, over plain lists.
 use Prim.Native.Nat.{ℕ, _-_}
 use native.Mathlib.Omega.{arith}
-use mathlib.Core.Path.{_≡_, sym, ap, _∙_}
+use mathlib.Core.Path.{_≡_, refl, sym, ap, _∙_}
 use mathlib.Core.Logic.{_≢_}
+use mathlib.Core.Bool.{Bool, true, false}
 use mathlib.Core.List.{List, [], _∷_, _++_}
 use lib.ListN.{length, take, drop, length-drop}
 use lib.Seq.{length-take-le}
-use borrow.Author.Tests.{eq-eqb}
+use lib.Dec.{eqb}
+use borrow.Author.Tests.{eq-eqb, eqb-true, eqb-false}
 use Rattle.states.specs.StateRecord.{stateLength}
 use Rattle.answers.specs.AnswerRecord.{answerLength}
 use Rattle.demands.specs.Tick.{Outcome, outcome, tickBy, tickOf, replyOf}
@@ -19,9 +21,9 @@ use Rattle.instants.specs.Replies.{repliedFrom, Replies}
 use Rattle.instants.proofs.Replying.{replied-from}
 use Rattle.parts.specs.Parts.{put}
 use Rattle.parts.proofs.Parts.{put-slot}
-use Rattle.box_calls.specs.Called.{called}
+use Rattle.box_calls.specs.Called.{called, number}
 use Rattle.box_calls.specs.Stretch.{stateAt, countAt, stretchLength, sequenceIn, readBackIn, stateIn}
-use Rattle.box_calls.specs.BayCalls.{stateKept, bayTickOf}
+use Rattle.box_calls.specs.BayCalls.{stateKept, bayStepOf}
 
 pub state-sized : (s : List ℕ) → length s ≡ stretchLength → length (stateIn s) ≡ stateLength
 state-sized s z = length-take-le stateLength (drop stateAt s) (omega (arith, length-drop stateAt s))
@@ -38,26 +40,36 @@ module _ (s : List ℕ) (e : ℕ) (answer : List ℕ) where
   abbrev inner : Outcome
   inner = tickOf (sequenceIn s) (stateIn s) e (readBackIn s) answer
 
-  kept : (o : Outcome) → o ≡ inner → stateKept s o ≡ bayTickOf s e answer
-  unfolding bayTickOf
+  kept : (o : Outcome) → o ≡ inner → stateKept s o ≡ bayStepOf s e answer
+  unfolding bayStepOf
   kept o h = ap (stateKept s) h
 
-  pub short-tick : length answer ≢ answerLength → called 1 s (answer ∷ []) ≡ bayTickOf s e answer
-  short-tick n = unmoved 1 ∙ kept (outcome 1 (stateIn s) answer) (sym (tick-short (sequenceIn s) (stateIn s) e (readBackIn s) answer n))
+  pub short-step : length answer ≢ answerLength → called 1 s (answer ∷ []) ≡ bayStepOf s e answer
+  short-step n = unmoved 1 ∙ kept (outcome 1 (stateIn s) answer) (sym (tick-short (sequenceIn s) (stateIn s) e (readBackIn s) answer n))
+
+  -- a step that is not turned down was lent an answer of its length
+  pub lent-answer : {n : ℕ} {s′ : List ℕ} {lent : List (List ℕ)} → called n s′ lent ≡ bayStepOf s e answer → n ≡ 0 → length answer ≡ answerLength
+  lent-answer {n} w z = go (eqb (length answer) answerLength) refl
+    where
+      go : (b : Bool) → eqb (length answer) answerLength ≡ b → length answer ≡ answerLength
+      go true p = eqb-true (length answer) answerLength p
+      go false p =
+          let x : 1 ≡ n = ap number (short-step (eqb-false (length answer) answerLength p) ∙ sym w) in
+          absurd (omega arith)
 
   module _ (z : length s ≡ stretchLength) (j : length answer ≡ answerLength) where
-    replied-tick : (r : Reply) → Replies (sequenceIn s) (stateIn s) e (readBackIn s) r → repliedFrom r (stateIn s) answer ≡ inner
+    replied-step : (r : Reply) → Replies (sequenceIn s) (stateIn s) e (readBackIn s) r → repliedFrom r (stateIn s) answer ≡ inner
     unfolding tickBy
-    replied-tick r h =
+    replied-step r h =
         rw (eq-eqb (length (stateIn s)) stateLength (state-sized s z), eq-eqb (length answer) answerLength j)
         (replied-from r (replyOf (sequenceIn s) (stateIn s) e (readBackIn s)) (h .is) (stateIn s) answer)
 
-    pub refused-tick : (n : ℕ) → Replies (sequenceIn s) (stateIn s) e (readBackIn s) (Refused n) → called n s (answer ∷ []) ≡ bayTickOf s e answer
-    refused-tick n h = unmoved n ∙ kept (outcome n (stateIn s) answer) (replied-tick (Refused n) h)
+    pub refused-step : (n : ℕ) → Replies (sequenceIn s) (stateIn s) e (readBackIn s) (Refused n) → called n s (answer ∷ []) ≡ bayStepOf s e answer
+    refused-step n h = unmoved n ∙ kept (outcome n (stateIn s) answer) (replied-step (Refused n) h)
 
     -- the state record lies in the stretch, and is written there
-    pub reacted-tick : (r : Reaction) → Replies (sequenceIn s) (stateIn s) e (readBackIn s) (Reacted r)
+    pub reacted-step : (r : Reaction) → Replies (sequenceIn s) (stateIn s) e (readBackIn s) (Reacted r)
         → (n : ℕ) (state′ answer′ : List ℕ) → outcome n state′ answer′ ≡ writtenFrom r
-        → called n (take stateAt s ++ (state′ ++ drop (countAt - stateAt) (drop stateAt s))) (answer′ ∷ []) ≡ bayTickOf s e answer
+        → called n (take stateAt s ++ (state′ ++ drop (countAt - stateAt) (drop stateAt s))) (answer′ ∷ []) ≡ bayStepOf s e answer
     unfolding put
-    reacted-tick r h n state′ answer′ w = kept (outcome n state′ answer′) (w ∙ replied-tick (Reacted r) h)
+    reacted-step r h n state′ answer′ w = kept (outcome n state′ answer′) (w ∙ replied-step (Reacted r) h)

@@ -1,22 +1,28 @@
-// The stretch of a bay (02, items 8 and 9): its fields, and the calls on it.
+// The stretch of a bay (02, items 8 to 10): its fields, and the calls on it.
 ghost use mathlib.Core.Path.{_≡_};
 ghost use Prim.Native.Nat.{_^_, _≤_};
 ghost use mathlib.Core.List.{[], _∷_};
 ghost use lib.ListN.{length};
 ghost use Rattle.limits.specs.Limits.{maxBytes};
+ghost use Rattle.answers.specs.AnswerRecord.{answerLength};
+ghost use Rattle.recordings.specs.Record.{recordLength};
 ghost use Rattle.instants.specs.Replies.{Replies};
 ghost use Rattle.box_calls.specs.Called.{called};
-ghost use Rattle.box_calls.specs.Stretch.{stretchLength, isEmpty, sequenceIn, readBackIn, stateIn, positionsIn, partOf};
-ghost use Rattle.box_calls.specs.Stretch.{vacated, terms, filled};
-ghost use Rattle.box_calls.specs.BayCalls.{bayTickOf, bayReleaseOf, bayAdmitOf, baySaveOf, bayRestoreOf, bayForgetOf};
+ghost use Rattle.box_calls.specs.Stretch.{stretchLength, isEmpty, sequenceIn, readBackIn, serviceOnlyIn, stateIn, countIn, positionsIn};
+ghost use Rattle.box_calls.specs.Stretch.{partOf, vacated, terms, filled};
+ghost use Rattle.box_calls.specs.BayCalls.{bayStepOf, recorded, bayTickOf, bayReleaseOf, bayAdmitOf, baySaveOf, bayRestoreOf};
+ghost use Rattle.box_calls.specs.BayCalls.{bayForgetOf, bayServiceOf, bayPanelOf};
 use answers::ANSWER_LENGTH;
 use ceilings::Plan;
 use instants::Reply;
 use limits::MAX_BYTES;
 use limits::MAX_POSITIONS;
+use limits::NUMBER_BYTES;
 use limits::SIGNAL_BYTES;
 use limits::TAKEN_BYTES;
 use positions::TABLE_LENGTH;
+use recordings::PANEL_LENGTH;
+use recordings::RECORD_LENGTH;
 use states::STATE_LENGTH;
 
 // Where the fields begin. Fixed by the admission:
@@ -35,7 +41,7 @@ const STATE_AT: usize = SERVICE_AT + SIGNAL_BYTES;
 
 const COUNT_AT: usize = STATE_AT + STATE_LENGTH;
 
-const POSITIONS_AT: usize = COUNT_AT + 4;
+const POSITIONS_AT: usize = COUNT_AT + NUMBER_BYTES;
 
 // What a release clears ends here.
 const BAY_LENGTH: usize = POSITIONS_AT + TABLE_LENGTH;
@@ -64,10 +70,22 @@ fn read_back(stretch: &[u8]) -> u32
     numbers::get_le(stretch, READ_BACK_AT, SIGNAL_BYTES) as u32
 }
 
+fn service_only(stretch: &[u8]) -> u32
+    ensures { λ r. ⌜ r ≡ serviceOnlyIn (now (stretch .entry)) ⌝ }
+{
+    numbers::get_le(stretch, SERVICE_AT, SIGNAL_BYTES) as u32
+}
+
 fn state(stretch: &[u8]) -> &[u8]
     ensures { λ r. ⌜ now r ≡ stateIn (now (stretch .entry)) ⌝ }
 {
     numbers::part(stretch, STATE_AT, STATE_LENGTH)
+}
+
+fn count(stretch: &[u8]) -> u32
+    ensures { λ r. ⌜ r ≡ countIn (now (stretch .entry)) ⌝ }
+{
+    numbers::get_le(stretch, COUNT_AT, NUMBER_BYTES) as u32
 }
 
 fn table(stretch: &[u8]) -> &[u8]
@@ -93,10 +111,11 @@ pub fn reply_to(stretch: &[u8], input: u32) -> Reply
     instants::reply_to(sequence(stretch), state(stretch), input, read_back(stretch))
 }
 
-// The tick on what the bay holds.
-pub fn tick(stretch: &mut [u8], input: u32, answer: &mut [u8]) -> u8
+// The tick on what the bay holds, without its record.
+fn step(stretch: &mut [u8], input: u32, answer: &mut [u8]) -> u8
     requires { ⌜ length (now stretch) ≡ stretchLength ⌝ }
-    ensures { λ r. ⌜ called r (now (stretch .exit)) (now (answer .exit) ∷ []) ≡ bayTickOf (now (stretch .entry)) input (now (answer .entry)) ⌝ }
+    ensures { λ r. ⌜ called r (now (stretch .exit)) (now (answer .exit) ∷ [])
+        ≡ bayStepOf (now (stretch .entry)) input (now (answer .entry)) ⌝ }
 {
     if answer.len() != ANSWER_LENGTH {
         return 1;
@@ -109,6 +128,33 @@ pub fn tick(stretch: &mut [u8], input: u32, answer: &mut [u8]) -> u8
             reaction,
         ),
     }
+}
+
+// Counts an instant, and writes its record.
+fn note(stretch: &mut [u8], input: u32, answer: &[u8], trace: &mut [u8])
+    requires { ⌜ (length (now stretch) ≡ stretchLength) × (length (now answer) ≡ answerLength) × (length (now trace) ≡ recordLength) ⌝ }
+    ensures { λ _. ⌜ called 0 (now (stretch .exit)) (now (answer .entry) ∷ now (trace .exit) ∷ [])
+        ≡ recorded input (now (trace .entry)) (called 0 (now (stretch .entry)) (now (answer .entry) ∷ [])) ⌝ }
+{
+    let number = recordings::following(count(stretch));
+    recordings::write_record(trace, number, input, answer, state(stretch));
+    numbers::put_le(stretch, COUNT_AT, NUMBER_BYTES, number as u64);
+}
+
+// The tick on what the bay holds: an instant leaves its record in `trace`.
+pub fn tick(stretch: &mut [u8], input: u32, answer: &mut [u8], trace: &mut [u8]) -> u8
+    requires { ⌜ length (now stretch) ≡ stretchLength ⌝ }
+    ensures { λ r. ⌜ called r (now (stretch .exit)) (now (answer .exit) ∷ now (trace .exit) ∷ [])
+        ≡ bayTickOf (now (stretch .entry)) input (now (answer .entry)) (now (trace .entry)) ⌝ }
+{
+    if trace.len() != RECORD_LENGTH {
+        return 1;
+    }
+    let number = step(stretch, input, answer);
+    if number == 0 {
+        note(stretch, input, answer, trace);
+    }
+    number
 }
 
 // Clears all that does not outlive a release.
@@ -128,21 +174,30 @@ pub fn release(stretch: &mut [u8]) -> u8
 }
 
 // A fresh machine of this sequence.
-fn fill(stretch: &mut [u8], sequence: &[u8], read_back: u32, ceiling: u32)
+fn fill(stretch: &mut [u8], sequence: &[u8], read_back: u32, service_only: u32, ceiling: u32)
     requires { ⌜ (length (now stretch) ≡ stretchLength) × (length (now sequence) ≤ maxBytes) ⌝ }
-    ensures { λ _. ⌜ now (stretch .exit) ≡ filled (terms (now (sequence .entry)) «read_back») ceiling (now (stretch .entry)) ⌝ }
+    ensures { λ _. ⌜ now (stretch .exit)
+        ≡ filled (terms (now (sequence .entry)) «read_back» «service_only») ceiling (now (stretch .entry)) ⌝ }
 {
     vacate(stretch);
     numbers::put_le(stretch, 0, LENGTH_BYTES, sequence.len() as u64);
     numbers::copying::put_bytes(stretch, SEQUENCE_AT, sequence);
     numbers::put_le(stretch, READ_BACK_AT, SIGNAL_BYTES, read_back as u64);
     numbers::put_le(stretch, CEILING_AT, TAKEN_BYTES, ceiling as u64);
+    numbers::put_le(stretch, SERVICE_AT, SIGNAL_BYTES, service_only as u64);
 }
 
 // `present` is what the bays present have of the shared ceiling.
-pub fn admit(stretch: &mut [u8], present: u64, sequence: &[u8], read_back: u32) -> u8
+pub fn admit(
+    stretch: &mut [u8],
+    present: u64,
+    sequence: &[u8],
+    read_back: u32,
+    service_only: u32,
+) -> u8
     requires { ⌜ (length (now stretch) ≡ stretchLength) × (present ≤ 2 ^ 40) ⌝ }
-    ensures { λ r. ⌜ called r (now (stretch .exit)) [] ≡ bayAdmitOf present (now (stretch .entry)) (terms (now (sequence .entry)) «read_back») ⌝ }
+    ensures { λ r. ⌜ called r (now (stretch .exit)) []
+        ≡ bayAdmitOf present (now (stretch .entry)) (terms (now (sequence .entry)) «read_back» «service_only») ⌝ }
 {
     match ceilings::planned(sequence, read_back) {
         Plan::Refused(number) => number,
@@ -150,7 +205,7 @@ pub fn admit(stretch: &mut [u8], present: u64, sequence: &[u8], read_back: u32) 
             if SHARED_CEILING < present + ceiling as u64 {
                 return 14;
             }
-            fill(stretch, sequence, read_back, ceiling);
+            fill(stretch, sequence, read_back, service_only, ceiling);
             0
         }
     }
@@ -190,4 +245,34 @@ pub fn forget(stretch: &mut [u8], name: u32) -> u8
     ensures { λ r. ⌜ called r (now (stretch .exit)) [] ≡ bayForgetOf (now (stretch .entry)) name ⌝ }
 {
     positions::forget(&mut stretch[POSITIONS_AT..BAY_LENGTH], name)
+}
+
+// A record whole, for service.
+pub fn service(stretch: &[u8], trace: &[u8], view: &mut [u8]) -> u8
+    ensures { λ r. ⌜ called r (now (stretch .entry)) (now (view .exit) ∷ [])
+        ≡ bayServiceOf (now (stretch .entry)) (now (trace .entry)) (now (view .entry)) ⌝ }
+{
+    if trace.len() != RECORD_LENGTH {
+        return 1;
+    }
+    if view.len() != RECORD_LENGTH {
+        return 1;
+    }
+    recordings::write_service(view, trace);
+    0
+}
+
+// What a panel shows of a record.
+pub fn panel(stretch: &[u8], trace: &[u8], view: &mut [u8]) -> u8
+    ensures { λ r. ⌜ called r (now (stretch .entry)) (now (view .exit) ∷ [])
+        ≡ bayPanelOf (now (stretch .entry)) (now (trace .entry)) (now (view .entry)) ⌝ }
+{
+    if trace.len() != RECORD_LENGTH {
+        return 1;
+    }
+    if view.len() != PANEL_LENGTH {
+        return 1;
+    }
+    recordings::write_panel(view, trace, service_only(stretch));
+    0
 }

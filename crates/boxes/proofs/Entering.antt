@@ -10,6 +10,7 @@ use lib.Dec.{eqb, ltb}
 use lib.Seq.{length-take-le}
 use borrow.Author.Tests.{lt-ltb, le-ltb, eq-eqb, ne-eqb, ltb-true, eqb-true}
 use Rattle.parts.specs.Parts.{slot, put}
+use Rattle.parts.proofs.Parts.{put-slot}
 use Rattle.box_calls.specs.Called.{called}
 use Rattle.box_calls.specs.Stretch.{stretchLength, isEmpty, Terms}
 use Rattle.box_calls.specs.BayCalls.{bayAdmitOf}
@@ -91,6 +92,17 @@ module _ (box : List ℕ) (bay : ℕ) (vacant : Bool) (c : Call) (wants : (s : L
       let x = entered box bay vacant d w in
       ap (λ (i : ℕ). called n (take (bay * stretchLength) box ++ (s′ ++ drop i (drop (bay * stretchLength) box))) lent) (whole bay)
       ∙ ap (inBox bay box) (h ∙ ap (λ (i : ℕ). bayCall (present bayCount box) c (slot (bay * stretchLength) i box)) (whole bay))
+      ∙ rw (lt-ltb bay bayCount (x .there), eq-eqb (length box) boxLength (x .sized), wants (stretchOf bay box), x .fit)
+
+  -- a reader of the stretch leaves the box
+  pub read-call : {m : ℕ} → m ≡ entryOf box bay vacant → m ≡ 0 → (n : ℕ) {s : List ℕ} (lent : List (List ℕ)) → s ≡ stretchOf bay box
+      → called n s lent ≡ bayCall (present bayCount box) c s → called n box lent ≡ callOf box bay c
+  unfolding callOf
+  read-call d w n {s} lent e h =
+      let x = entered box bay vacant d w in
+      ap (λ (r : List ℕ). called n r lent) (sym (put-slot (bay * stretchLength) stretchLength box))
+      ∙ ap (λ (r : List ℕ). inBox bay box (called n r lent)) (sym e)
+      ∙ ap (inBox bay box) (h ∙ ap (bayCall (present bayCount box) c) e)
       ∙ rw (lt-ltb bay bayCount (x .there), eq-eqb (length box) boxLength (x .sized), wants (stretchOf bay box), x .fit)
 
 -- an admission, by the sum that the code found

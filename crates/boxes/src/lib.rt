@@ -1,11 +1,12 @@
-// Eight bays in one box (02, items 8 and 9).
+// Eight bays in one box (02, items 8 to 10).
 ghost use mathlib.Core.Path.{_≡_};
 ghost use mathlib.Core.List.{[], _∷_};
 ghost use Prim.Native.Nat.{_*_, _^_, _≤_};
 ghost use lib.ListN.{length};
 ghost use Rattle.box_calls.specs.Called.{called};
 ghost use Rattle.box_calls.specs.Stretch.{terms};
-ghost use Rattle.box_calls.specs.Box.{bayCount, boxLength, present, release, tick, admit, save, restore, forget, callOf};
+ghost use Rattle.box_calls.specs.Box.{bayCount, boxLength, present, callOf};
+ghost use Rattle.box_calls.specs.Box.{release, tick, admit, save, restore, forget, service, panel};
 ghost use Rattle.boxes.specs.Entries.{entryOf};
 use bays::STRETCH_LENGTH;
 
@@ -37,8 +38,9 @@ fn entry(memory: &[u8], bay: u32, vacant: bool) -> u8
     0
 }
 
-pub fn tick(memory: &mut [u8], bay: u32, input: u32, answer: &mut [u8]) -> u8
-    ensures { λ r. ⌜ called r (now (memory .exit)) (now (answer .exit) ∷ []) ≡ callOf (now (memory .entry)) bay (tick input (now (answer .entry))) ⌝ }
+pub fn tick(memory: &mut [u8], bay: u32, input: u32, answer: &mut [u8], trace: &mut [u8]) -> u8
+    ensures { λ r. ⌜ called r (now (memory .exit)) (now (answer .exit) ∷ now (trace .exit) ∷ [])
+        ≡ callOf (now (memory .entry)) bay (tick input (now (answer .entry)) (now (trace .entry))) ⌝ }
 {
     let number = entry(memory, bay, false);
     if number != 0 {
@@ -46,7 +48,7 @@ pub fn tick(memory: &mut [u8], bay: u32, input: u32, answer: &mut [u8]) -> u8
     }
     let from = bay as usize * STRETCH_LENGTH;
     let end = from + STRETCH_LENGTH;
-    bays::tick(&mut memory[from..end], input, answer)
+    bays::tick(&mut memory[from..end], input, answer, trace)
 }
 
 pub fn release(memory: &mut [u8], bay: u32) -> u8
@@ -76,8 +78,9 @@ fn present_in(memory: &[u8]) -> u64
     sum
 }
 
-pub fn admit(memory: &mut [u8], bay: u32, sequence: &[u8], read_back: u32) -> u8
-    ensures { λ r. ⌜ called r (now (memory .exit)) [] ≡ callOf (now (memory .entry)) bay (admit (terms (now (sequence .entry)) «read_back»)) ⌝ }
+pub fn admit(memory: &mut [u8], bay: u32, sequence: &[u8], read_back: u32, service_only: u32) -> u8
+    ensures { λ r. ⌜ called r (now (memory .exit)) []
+        ≡ callOf (now (memory .entry)) bay (admit (terms (now (sequence .entry)) «read_back» «service_only»)) ⌝ }
 {
     let number = entry(memory, bay, true);
     if number != 0 {
@@ -86,7 +89,13 @@ pub fn admit(memory: &mut [u8], bay: u32, sequence: &[u8], read_back: u32) -> u8
     let present = present_in(memory);
     let from = bay as usize * STRETCH_LENGTH;
     let end = from + STRETCH_LENGTH;
-    bays::admit(&mut memory[from..end], present, sequence, read_back)
+    bays::admit(
+        &mut memory[from..end],
+        present,
+        sequence,
+        read_back,
+        service_only,
+    )
 }
 
 pub fn save(memory: &mut [u8], bay: u32, name: u32) -> u8
@@ -123,4 +132,28 @@ pub fn forget(memory: &mut [u8], bay: u32, name: u32) -> u8
     let from = bay as usize * STRETCH_LENGTH;
     let end = from + STRETCH_LENGTH;
     bays::forget(&mut memory[from..end], name)
+}
+
+pub fn service(memory: &[u8], bay: u32, trace: &[u8], view: &mut [u8]) -> u8
+    ensures { λ r. ⌜ called r (now (memory .entry)) (now (view .exit) ∷ [])
+        ≡ callOf (now (memory .entry)) bay (service (now (trace .entry)) (now (view .entry))) ⌝ }
+{
+    let number = entry(memory, bay, false);
+    if number != 0 {
+        return number;
+    }
+    let from = bay as usize * STRETCH_LENGTH;
+    bays::service(numbers::part(memory, from, STRETCH_LENGTH), trace, view)
+}
+
+pub fn panel(memory: &[u8], bay: u32, trace: &[u8], view: &mut [u8]) -> u8
+    ensures { λ r. ⌜ called r (now (memory .entry)) (now (view .exit) ∷ [])
+        ≡ callOf (now (memory .entry)) bay (panel (now (trace .entry)) (now (view .entry))) ⌝ }
+{
+    let number = entry(memory, bay, false);
+    if number != 0 {
+        return number;
+    }
+    let from = bay as usize * STRETCH_LENGTH;
+    bays::panel(numbers::part(memory, from, STRETCH_LENGTH), trace, view)
 }

@@ -1,11 +1,11 @@
-// What hosts in C call: the check, the tick, and the calls of a box of bays (02, items 8 and 9).
+// What hosts in C call: the check, the tick, and the calls of a box of bays (02, items 8 to 10).
 ghost use mathlib.Core.Path.{_≡_};
 ghost use mathlib.Core.List.{[], _∷_};
 ghost use Rattle.sequence.specs.Check.{checkOf};
 ghost use Rattle.demands.specs.Demands.{TickMeets};
 ghost use Rattle.box_calls.specs.Called.{called};
 ghost use Rattle.box_calls.specs.Stretch.{terms};
-ghost use Rattle.box_calls.specs.Box.{admit, release, tick, save, restore, forget, callOf};
+ghost use Rattle.box_calls.specs.Box.{admit, release, tick, save, restore, forget, service, panel, callOf};
 use answers::ANSWER_LENGTH;
 use instants::Reply;
 use layout::Seconds;
@@ -53,11 +53,12 @@ pub extern "C" fn intake_box_admit(
     bay: u32,
     sequence: &[u8],
     read_back: u32,
+    service_only: u32,
 ) -> u8
     ensures { λ r. ⌜ called r (now (memory .exit)) []
-        ≡ callOf (now (memory .entry)) bay (admit (terms (now (sequence .entry)) «read_back»)) ⌝ }
+        ≡ callOf (now (memory .entry)) bay (admit (terms (now (sequence .entry)) «read_back» «service_only»)) ⌝ }
 {
-    boxes::admit(memory, bay, sequence, read_back)
+    boxes::admit(memory, bay, sequence, read_back, service_only)
 }
 
 // A bay is taken out.
@@ -68,13 +69,19 @@ pub extern "C" fn intake_box_release(memory: &mut [u8], bay: u32) -> u8
     boxes::release(memory, bay)
 }
 
-// The tick of a bay.
+// The tick of a bay: an instant leaves its record in `trace` (02, item 10).
 #[no_mangle]
-pub extern "C" fn intake_box_tick(memory: &mut [u8], bay: u32, input: u32, answer: &mut [u8]) -> u8
-    ensures { λ r. ⌜ called r (now (memory .exit)) (now (answer .exit) ∷ [])
-        ≡ callOf (now (memory .entry)) bay (tick input (now (answer .entry))) ⌝ }
+pub extern "C" fn intake_box_tick(
+    memory: &mut [u8],
+    bay: u32,
+    input: u32,
+    answer: &mut [u8],
+    trace: &mut [u8],
+) -> u8
+    ensures { λ r. ⌜ called r (now (memory .exit)) (now (answer .exit) ∷ now (trace .exit) ∷ [])
+        ≡ callOf (now (memory .entry)) bay (tick input (now (answer .entry)) (now (trace .entry))) ⌝ }
 {
-    boxes::tick(memory, bay, input, answer)
+    boxes::tick(memory, bay, input, answer, trace)
 }
 
 // The labels of a waiting bay are saved under a name (02, item 9).
@@ -99,4 +106,22 @@ pub extern "C" fn intake_box_forget(memory: &mut [u8], bay: u32, name: u32) -> u
     ensures { λ r. ⌜ called r (now (memory .exit)) [] ≡ callOf (now (memory .entry)) bay (forget name) ⌝ }
 {
     boxes::forget(memory, bay, name)
+}
+
+// The record `trace` whole, for service (02, item 10).
+#[no_mangle]
+pub extern "C" fn intake_box_service(memory: &[u8], bay: u32, trace: &[u8], view: &mut [u8]) -> u8
+    ensures { λ r. ⌜ called r (now (memory .entry)) (now (view .exit) ∷ [])
+        ≡ callOf (now (memory .entry)) bay (service (now (trace .entry)) (now (view .entry))) ⌝ }
+{
+    boxes::service(memory, bay, trace, view)
+}
+
+// What a panel shows of the record `trace`: without service-only signals.
+#[no_mangle]
+pub extern "C" fn intake_box_panel(memory: &[u8], bay: u32, trace: &[u8], view: &mut [u8]) -> u8
+    ensures { λ r. ⌜ called r (now (memory .entry)) (now (view .exit) ∷ [])
+        ≡ callOf (now (memory .entry)) bay (panel (now (trace .entry)) (now (view .entry))) ⌝ }
+{
+    boxes::panel(memory, bay, trace, view)
 }

@@ -13,7 +13,7 @@ same-length : tie.Need-same-length
 same-length c = search needs
 
 returns : tie.Need-returns
-returns c = turned-down _ _ false (tick _ _) (λ s. refl) (c .before .entry .ensures) (c .if1 .taken)
+returns c = turned-down _ _ false (tick _ _ _) (λ s. refl) (c .before .entry .ensures) (c .if1 .taken)
 
 mul-from : tie.Need-mul-from
 mul-from c = search needs
@@ -43,9 +43,14 @@ same-length-2 c = search needs
 same-length-3 : tie.Need-same-length-3
 same-length-3 c = search needs
 
+same-length-4 : tie.Need-same-length-4
+same-length-4 c = search needs
+
 returns-2 : tie.Need-returns-2
 returns-2 c =
-    lent-call _ _ false (tick _ _) (λ s. refl) (c .before .before .before .before .before .before .before .before .entry .ensures) (c .before .before .before .before .before .before .before .if1 .left) _ _ _ (c .before .before .before .before .tick .ensures)
+    let lent = c .before .before .before .before .before .before in
+    let tested = lent .before .before .before .before in
+    lent-call _ _ false (tick _ _ _) (λ s. refl) (tested .before .entry .ensures) (tested .if1 .left) _ _ _ (lent .tick .ensures)
 
 pub tick-spec : {M : Type 1} → statement M
 tick-spec =
@@ -62,4 +67,5 @@ tick-spec =
     tick-requires
     same-length-2
     same-length-3
+    same-length-4
     returns-2)
