@@ -29,25 +29,21 @@ use Rattle.demands.proofs.Demand1.{demand-1}
 use Rattle.demands.proofs.Calls.{demand-2-call}
 use Rattle.box_calls.specs.Called.{Called, called, number, memoryAfter, lentAfter, first}
 use Rattle.box_calls.specs.Stretch.{positionsAt, stretchLength, isEmpty, stateIn, Terms}
-use Rattle.box_calls.specs.BayCalls.{stateKept, bayTickOf, bayAdmitOf}
-use Rattle.box_calls.specs.Box.{bayCount, boxLength, stretchOf, present, Call, admit, release, tick, save, restore, forget, callOf}
+use Rattle.box_calls.specs.BayCalls.{bayTickOf, bayAdmitOf}
+use Rattle.box_calls.specs.Box.{bayCount, boxLength, stretchOf, present, Call, admit, release, tick, save, restore, forget, service, panel, callOf}
 use Rattle.box_calls.specs.Lists.{Request, afterCall, boxAfter}
 use Rattle.box_calls.specs.Shares.{Sendable}
-use Rattle.box_calls.specs.BayRuns.{ticksTo, outcomeOf, tickOutcomes, Onward, Onwards, done, more}
+use Rattle.box_calls.specs.BayRuns.{paperBuffer, ticksTo, outcomeOf, tickOutcomes, Onward, Onwards, done, more}
 use Rattle.box_calls.proofs.Fields.{Holds}
+use Rattle.box_theory.proofs.Ticks.{tick-number, tick-answer}
+use Rattle.box_theory.proofs.Readers.{service-reads, panel-reads}
 use Rattle.box_theory.proofs.Moves.{Moved, save-moved, forget-moved}
-use Rattle.box_theory.proofs.Bays.{ceilingFor, kept-number, Admission, turned-down, taken, admission}
-use Rattle.box_theory.proofs.Standing.{Standing, not-empty, behind-stands, bay-tick, tick-told, tick-state, tick-stands, fresh-state, filled-stands, cleared-fresh}
+use Rattle.box_theory.proofs.Bays.{ceilingFor, Admission, turned-down, taken, admission}
+use Rattle.box_theory.proofs.Standing.{Standing, not-empty, behind-stands, inner, inner-is, tick-told, tick-stands, fresh-state, filled-stands, cleared-fresh}
 use Rattle.box_theory.proofs.Stretches.{result, answered-inside, refused-leaves, stretch-sized, own, own-stretch, same-length, others-stay}
 
 eta : (o : Outcome) → outcome (demands.number o) (stateAfterwards o) (answerAfterwards o) ≡ o
 eta (outcome n state answer) = refl
-
-abbrev answerIn : Called → List ℕ
-answerIn o = first (lentAfter o)
-
-kept-answer : (s : List ℕ) (o : Outcome) → answerIn (stateKept s o) ≡ answerAfterwards o
-kept-answer s (outcome n state answer) = refl
 
 module _ (bay : ℕ) (b : bay < bayCount) (t : Terms) where
   -- the bay of the box stands in a state of the sequence
@@ -68,43 +64,55 @@ module _ (bay : ℕ) (b : bay < bayCount) (t : Terms) where
         let x : result box bay (admit t′) ≡ called 13 s [] = rw (not-empty t s (h .1)) in
         omega (arith, ap number (own box bay (admit t′) b (h .0)), ap number x)
 
-    module _ (e : ℕ) (answer : List ℕ) where
+    module _ (e : ℕ) (answer trace : List ℕ) where
       abbrev pub told : Outcome
-      told = tickOf (t .sequence) (stateIn s) e (t .readBack) answer
+      told = inner t s (h .1) e answer trace
 
-      result-is : result box bay (tick e answer) ≡ bayTickOf s e answer
+      result-is : result box bay (tick e answer trace) ≡ bayTickOf s e answer trace
       result-is = rw (not-empty t s (h .1))
 
-      own-is : stretchOf bay (memoryAfter (callOf box bay (tick e answer))) ≡ memoryAfter (bayTickOf s e answer)
-      own-is = own-stretch box bay (tick e answer) b (h .0) ∙ ap memoryAfter result-is
+      own-is : stretchOf bay (memoryAfter (callOf box bay (tick e answer trace))) ≡ memoryAfter (bayTickOf s e answer trace)
+      own-is = own-stretch box bay (tick e answer trace) b (h .0) ∙ ap memoryAfter result-is
 
-      kept-is : result box bay (tick e answer) ≡ stateKept s told
-      kept-is = result-is ∙ bay-tick t s (h .1) e answer
+      number-is : number (callOf box bay (tick e answer trace)) ≡ demands.number told
+      number-is =
+          ap number (own box bay (tick e answer trace) b (h .0)) ∙ ap number result-is
+          ∙ tick-number s (h .1 .holds .sized) e answer trace ∙ ap demands.number (inner-is t s (h .1) e answer trace)
 
-      number-is : number (callOf box bay (tick e answer)) ≡ demands.number told
-      number-is = ap number (own box bay (tick e answer) b (h .0)) ∙ ap number kept-is ∙ kept-number s told
+      answer-is : paperBuffer trace (first (lentAfter (callOf box bay (tick e answer trace)))) ≡ answerAfterwards told
+      answer-is =
+          ap (λ (o : Called). paperBuffer trace (first (lentAfter o))) (own box bay (tick e answer trace) b (h .0))
+          ∙ ap (λ (o : Called). paperBuffer trace (first (lentAfter o))) result-is
+          ∙ tick-answer s (h .1 .holds .sized) e answer trace ∙ ap answerAfterwards (inner-is t s (h .1) e answer trace)
 
-      answer-is : answerIn (callOf box bay (tick e answer)) ≡ answerAfterwards told
-      answer-is = ap answerIn (own box bay (tick e answer) b (h .0)) ∙ ap answerIn kept-is ∙ kept-answer s told
+      state-is : stateIn (stretchOf bay (memoryAfter (callOf box bay (tick e answer trace)))) ≡ stateAfterwards told
+      state-is = ap stateIn own-is ∙ tick-stands t s (h .1) e answer trace .1
 
-      pub as-told : outcomeOf bay (callOf box bay (tick e answer)) ≡ told
-      as-told = rw (number-is, ap stateIn own-is ∙ tick-state t s (h .1) e answer, answer-is) (eta told)
+      pub as-told : outcomeOf bay trace (callOf box bay (tick e answer trace)) ≡ told
+      as-told =
+          ap₂ (λ (n : ℕ) (state : List ℕ). outcome n state (paperBuffer trace (first (lentAfter (callOf box bay (tick e answer trace))))))
+          number-is state-is
+          ∙ ap (outcome (demands.number told) (stateAfterwards told)) answer-is
+          ∙ eta told
 
-      tick-here : Here (memoryAfter (callOf box bay (tick e answer)))
-      tick-here = (same-length box bay (tick e answer) ∙ h .0, subst (Standing t) (sym own-is) (tick-stands t s (h .1) e answer))
+      tick-here : Here (memoryAfter (callOf box bay (tick e answer trace)))
+      tick-here = (
+        same-length box bay (tick e answer trace) ∙ h .0,
+        subst (Standing t) (sym own-is) (tick-stands t s (h .1) e answer trace .0),
+      )
 
       -- demand 1 of this tick: its number is by the rows, and not 11
-      pub by-rows : ByRows (number (callOf box bay (tick e answer))) (TickRow (t .sequence) (t .readBack) (stateIn s) answer)
+      pub by-rows : ByRows (number (callOf box bay (tick e answer trace))) (TickRow (t .sequence) (t .readBack) (stateIn s) (paperBuffer trace answer))
       by-rows =
-          subst (λ (n : ℕ). ByRows n (TickRow (t .sequence) (t .readBack) (stateIn s) answer)) (sym number-is)
-          (demand-1 .tick-by-rows (t .sequence) (stateIn s) e (t .readBack) answer)
+          subst (λ (n : ℕ). ByRows n (TickRow (t .sequence) (t .readBack) (stateIn s) (paperBuffer trace answer))) (sym number-is)
+          (demand-1 .tick-by-rows (t .sequence) (stateIn s) e (t .readBack) (paperBuffer trace answer))
 
       -- demand 2 of this tick
-      pub shows-rules : number (callOf box bay (tick e answer)) ≡ 0
+      pub shows-rules : number (callOf box bay (tick e answer trace)) ≡ 0
           → (p : Statement) × StandsAt (t .sequence) (t .readBack) (stateIn s) p × Derived p e
           × ((o : ℕ) (k : Code) (l : ℕ) (p′ : Statement) → Reacts p e (gives o k l p′)
-          → Shows p e o k l p′ (outcomeOf bay (callOf box bay (tick e answer))))
-      shows-rules z = demand-2-call (t .sequence) (stateIn s) e (t .readBack) answer as-told z
+          → Shows p e o k l p′ (outcomeOf bay trace (callOf box bay (tick e answer trace))))
+      shows-rules z = demand-2-call (t .sequence) (stateIn s) e (t .readBack) (paperBuffer trace answer) as-told z
 
   -- ---- a list of calls that does not take it out
   pub record Run (box : List ℕ) (xs : List Request) : Type 0 where
@@ -145,20 +153,20 @@ module _ (bay : ℕ) (b : bay < bayCount) (t : Terms) where
       let k = behind-stands t (stretchOf bay box) (h .1) m in
       steady-run box h (record { bay = bay; call = c }) xs (subst (Standing t) (sym own) (k .0)) (ap stateIn own ∙ k .1)
 
-  tick-run : (box : List ℕ) → Here box → (e : ℕ) (answer : List ℕ) (xs : List Request)
-      → (Here (memoryAfter (callOf box bay (tick e answer))) → Run (memoryAfter (callOf box bay (tick e answer))) xs)
-      → Run box (record { bay = bay; call = tick e answer } ∷ xs)
+  tick-run : (box : List ℕ) → Here box → (e : ℕ) (answer trace : List ℕ) (xs : List Request)
+      → (Here (memoryAfter (callOf box bay (tick e answer trace))) → Run (memoryAfter (callOf box bay (tick e answer trace))) xs)
+      → Run box (record { bay = bay; call = tick e answer trace } ∷ xs)
   unfolding boxAfter tickOutcomes ticksTo outcomes
-  tick-run box h e answer xs r =
-      let k = r (tick-here box h e answer) in
-      let first = as-told box h e answer in
+  tick-run box h e answer trace xs r =
+      let k = r (tick-here box h e answer trace) in
+      let first = as-told box h e answer trace in
       let same = eq-eqb bay bay refl in
       record {
         ticks = rw same (ap₂ (λ (y : Outcome) (ys : List Outcome). y ∷ ys) first
             (k .ticks ∙ ap (λ (state : List ℕ). From state (ticksTo bay xs)) (ap stateAfterwards first)));
         never-11 = rw same (λ y m. ⊎-elim
             (λ i. subst (λ (w : Outcome). demands.number w ≢ 11) (sym (i ∙ first))
-            (tick-told t (stretchOf bay box) (h .1) e answer .not-11))
+            (tick-told t (stretchOf bay box) (h .1) e answer trace .not-11))
             (λ i. k .never-11 y i)
             (List·Memᴰ·cases-cons m));
         stands = k .stands;
@@ -173,7 +181,7 @@ module _ (bay : ℕ) (b : bay < bayCount) (t : Terms) where
   own-run box h release xs n r =
       stays-run box h (record { bay = bay; call = release }) xs (left-alone box h release n)
       (rw (eq-eqb bay bay refl)) (rw (eq-eqb bay bay refl)) r
-  own-run box h (tick e answer) xs n r = tick-run box h e answer xs r
+  own-run box h (tick e answer trace) xs n r = tick-run box h e answer trace xs r
   own-run box h (save name) xs n r =
       behind-run box h (save name) xs (rw (not-empty t (stretchOf bay box) (h .1)) (save-moved (stretchOf bay box) name))
       (rw (eq-eqb bay bay refl)) (rw (eq-eqb bay bay refl)) r
@@ -182,6 +190,16 @@ module _ (bay : ℕ) (b : bay < bayCount) (t : Terms) where
       (rw (eq-eqb bay bay refl)) (rw (eq-eqb bay bay refl)) r
   own-run box h (forget name) xs n r =
       behind-run box h (forget name) xs (rw (not-empty t (stretchOf bay box) (h .1)) (forget-moved (stretchOf bay box) name))
+      (rw (eq-eqb bay bay refl)) (rw (eq-eqb bay bay refl)) r
+  own-run box h (service trace view) xs n r =
+      stays-run box h (record { bay = bay; call = service trace view }) xs
+      (own-stretch box bay (service trace view) b (h .0)
+      ∙ rw (not-empty t (stretchOf bay box) (h .1)) (service-reads (stretchOf bay box) trace view .left))
+      (rw (eq-eqb bay bay refl)) (rw (eq-eqb bay bay refl)) r
+  own-run box h (panel trace view) xs n r =
+      stays-run box h (record { bay = bay; call = panel trace view }) xs
+      (own-stretch box bay (panel trace view) b (h .0)
+      ∙ rw (not-empty t (stretchOf bay box) (h .1)) (panel-reads (stretchOf bay box) trace view .left))
       (rw (eq-eqb bay bay refl)) (rw (eq-eqb bay bay refl)) r
 
   pub runs : (box : List ℕ) → Here box → (xs : List Request) → Onwards bay box xs → Run box xs

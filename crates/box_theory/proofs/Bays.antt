@@ -4,37 +4,24 @@ use native.Mathlib.Omega.{arith}
 use native.Mathlib.Decide.{decLt}
 use mathlib.Core.Path.{_≡_, refl, sym, ap, _∙_}
 use mathlib.Core.Logic.{_≢_, inl, inr}
-use mathlib.Core.Bool.{Bool, true, false, _&&_, cond}
-use mathlib.Core.List.{List, [], _∷_}
-use lib.ListN.{length, drop, length-drop}
-use lib.Seq.{length-take-le}
+use mathlib.Core.Bool.{Bool, true, false, cond}
+use mathlib.Core.List.{List, []}
+use lib.ListN.{length}
 use lib.Dec.{eqb, leb}
 use borrow.Author.Tests.{ne-eqb, leb-true}
 use Rattle.limits.specs.Limits.{maxBytes}
-use Rattle.esterel.specs.Statement.{Statement}
-use Rattle.esterel.specs.Reaction.{inheritanceFirst}
-use Rattle.esterel.specs.Machines.{State}
-use Rattle.sequence.specs.Program.{program}
 use Rattle.sequence.specs.Check.{Checked, sound, bad, checked, checkOf}
 use Rattle.sequence.specs.Ceilings.{ceilingOf}
 use Rattle.sequence.specs.Rows.{row-2}
 use Rattle.sequence.proofs.Rows.{Decides, decided, row-range}
-use Rattle.states.specs.StateRecord.{stateLength, Decoded, holds, malformed, decodeState}
-use Rattle.states.proofs.StateLaws.{length-state}
-use Rattle.answers.specs.AnswerRecord.{answerLength}
-use Rattle.parts.specs.Parts.{put}
-use Rattle.parts.proofs.Parts.{put-slot, length-put}
-use Rattle.demands.specs.Tick as Tick
-use Rattle.demands.specs.Tick.{Outcome, outcome, byState, replied, tickBy, tickOf}
-use Rattle.demands.specs.Demands as demands
-use Rattle.demands.specs.Demands.{stateAfterwards}
 use Rattle.demands.proofs.Sequence.{Accepted, accepted}
-use Rattle.demands.proofs.Demand1.{demand-1}
 use Rattle.box_calls.specs.Called.{Called, called, number, memoryAfter}
-use Rattle.box_calls.specs.Stretch.{stateAt, stretchLength, sequenceIn, readBackIn, stateIn, Terms, filled}
-use Rattle.box_calls.specs.BayCalls.{sharedCeiling, stateKept, bayTickOf, bayReleaseOf, bayAdmitOf}
-use Rattle.box_calls.specs.Box.{Call, admit, release, tick, save, restore, forget, buffers, bayCall, isFor}
+use Rattle.box_calls.specs.Stretch.{stretchLength, Terms, filled}
+use Rattle.box_calls.specs.BayCalls.{sharedCeiling, bayReleaseOf, bayAdmitOf}
+use Rattle.box_calls.specs.Box.{Call, admit, release, tick, save, restore, forget, service, panel, buffers, bayCall, isFor}
 use Rattle.box_calls.proofs.Fields.{length-vacated, length-filled}
+use Rattle.box_theory.proofs.Ticks.{tick-refused, tick-keeps-length}
+use Rattle.box_theory.proofs.Readers.{service-reads, panel-reads}
 use Rattle.box_theory.proofs.Moves.{moved-refused, moved-length, save-moved, forget-moved, restore-moved}
 
 abbrev pub ceilingFor : Terms → ℕ
@@ -50,55 +37,6 @@ bounds t a = (
 pub passed : (t : Terms) → Accepted (t .sequence) (t .readBack) → checkOf (t .sequence) (t .readBack) ≡ 0
 unfolding checkOf
 passed t a = rw (a .is-checked)
-
--- ---- the tick
-pub state-sized : (s : List ℕ) → length s ≡ stretchLength → length (stateIn s) ≡ stateLength
-state-sized s z = length-take-le stateLength (drop stateAt s) (omega (arith, length-drop stateAt s))
-
-pub kept-after : (s : List ℕ) (o : Outcome) → memoryAfter (stateKept s o) ≡ put stateAt stateLength (stateAfterwards o) s
-kept-after s (outcome n state answer) = refl
-
-pub kept-number : (s : List ℕ) (o : Outcome) → number (stateKept s o) ≡ demands.number o
-kept-number s (outcome n state answer) = refl
-
-state-kept : (p : Statement) (d : Decoded) (state : List ℕ) (e : ℕ) (answer : List ℕ) → length state ≡ stateLength
-    → length (stateAfterwards (replied (byState inheritanceFirst p d e) state answer)) ≡ stateLength
-state-kept p malformed state e answer h = h
-state-kept p (holds State.fresh) state e answer h = length-state _
-state-kept p (holds (State.waits L)) state e answer h = length-state _
-state-kept p (holds State.over) state e answer h = h
-
-pub tick-sized : (sequence state : List ℕ) (e readBack : ℕ) (answer : List ℕ) → length state ≡ stateLength
-    → length (stateAfterwards (tickOf sequence state e readBack answer)) ≡ stateLength
-unfolding tickBy
-tick-sized sequence state e readBack answer h =
-    go (eqb (length state) stateLength && eqb (length answer) answerLength) (checked sequence readBack)
-  where
-    go : (b : Bool) (c : Checked)
-        → length (stateAfterwards (cond b (replied (Tick.byCheck inheritanceFirst readBack c state e) state answer) (outcome 1 state answer))) ≡ stateLength
-    go false c = h
-    go true (bad k) = h
-    go true (sound p) = state-kept (program readBack p) (decodeState p state) state e answer h
-
-module _ (s : List ℕ) (e : ℕ) (answer : List ℕ) where
-  abbrev pub inner : Outcome
-  inner = tickOf (sequenceIn s) (stateIn s) e (readBackIn s) answer
-
-  tick-keeps-length : length s ≡ stretchLength → length (memoryAfter (bayTickOf s e answer)) ≡ stretchLength
-  unfolding bayTickOf
-  tick-keeps-length z =
-      ap length (kept-after s inner)
-      ∙ length-put stateAt stateLength (stateAfterwards inner) s (omega arith)
-      (tick-sized (sequenceIn s) (stateIn s) e (readBackIn s) answer (state-sized s z))
-      ∙ z
-
-  tick-refused : number (bayTickOf s e answer) ≢ 0 → bayTickOf s e answer ≡ called (number (bayTickOf s e answer)) s (answer ∷ [])
-  unfolding bayTickOf
-  tick-refused n =
-      let k = demand-1 .refusal-writes-nothing (sequenceIn s) (stateIn s) e (readBackIn s) answer (λ y. n (kept-number s inner ∙ y)) in
-      ap (stateKept s) k
-      ∙ ap (λ (r : List ℕ). called (demands.number inner) r (answer ∷ [])) (put-slot stateAt stateLength s)
-      ∙ ap (λ (m : ℕ). called m s (answer ∷ [])) (sym (kept-number s inner))
 
 -- ---- the admission: turned down, or taken
 pub data Admission (present : ℕ) (s : List ℕ) (t : Terms) (o : Called) : Type 0 where
@@ -139,7 +77,7 @@ module _ (present : ℕ) (s : List ℕ) (t : Terms) where
 abbrev pub onStretch : (present : ℕ) → Call → List ℕ → Called
 onStretch k c s = cond (isFor c s) (bayCall k c s) (called 13 s (buffers c))
 
-module _ (k : ℕ) (s : List ℕ) where
+module _ (k : ℕ) (s : List ℕ) (z : length s ≡ stretchLength) where
   abbrev Leaves : Call → Called → Type 0
   Leaves c o = number o ≢ 0 → o ≡ called (number o) s (buffers c)
 
@@ -148,13 +86,15 @@ module _ (k : ℕ) (s : List ℕ) where
   bay-refused (admit t) h = go (admission k s t)
     where
       go : Admission k s t (bayAdmitOf k s t) → bayAdmitOf k s t ≡ called (number (bayAdmitOf k s t)) s []
-      go (turned-down n z e) = e ∙ ap (λ (m : ℕ). called m s []) (sym (ap number e))
+      go (turned-down n y e) = e ∙ ap (λ (m : ℕ). called m s []) (sym (ap number e))
       go (taken c r e) = absurd (h (ap number e))
   bay-refused release h = absurd (h refl)
-  bay-refused (tick e answer) h = tick-refused s e answer h
+  bay-refused (tick e answer trace) h = tick-refused s z e answer trace h
   bay-refused (save name) h = moved-refused (save-moved s name) h
   bay-refused (restore name) h = moved-refused (restore-moved s name) h
   bay-refused (forget name) h = moved-refused (forget-moved s name) h
+  bay-refused (service trace view) h = service-reads s trace view .refused h
+  bay-refused (panel trace view) h = panel-reads s trace view .refused h
 
   pub stretch-refused : (c : Call) → Leaves c (onStretch k c s)
   stretch-refused c = go (isFor c s)
@@ -163,26 +103,28 @@ module _ (k : ℕ) (s : List ℕ) where
       go true h = bay-refused c h
       go false h = refl
 
-  bay-sized : (c : Call) → length s ≡ stretchLength → length (memoryAfter (bayCall k c s)) ≡ stretchLength
+  bay-sized : (c : Call) → length (memoryAfter (bayCall k c s)) ≡ stretchLength
   unfolding bayReleaseOf
-  bay-sized (admit t) z = go (admission k s t)
+  bay-sized (admit t) = go (admission k s t)
     where
       go : Admission k s t (bayAdmitOf k s t) → length (memoryAfter (bayAdmitOf k s t)) ≡ stretchLength
       go (turned-down n x e) = ap (λ (o : Called). length (memoryAfter o)) e ∙ z
       go (taken c r e) =
           ap (λ (o : Called). length (memoryAfter o)) e
           ∙ length-filled t (ceilingFor t) s z (bounds t (accepted (t .sequence) (t .readBack) c) .1)
-  bay-sized release z = length-vacated s z
-  bay-sized (tick e answer) z = tick-keeps-length s e answer z
-  bay-sized (save name) z = moved-length (save-moved s name) z
-  bay-sized (restore name) z = moved-length (restore-moved s name) z
-  bay-sized (forget name) z = moved-length (forget-moved s name) z
+  bay-sized release = length-vacated s z
+  bay-sized (tick e answer trace) = tick-keeps-length s z e answer trace
+  bay-sized (save name) = moved-length (save-moved s name) z
+  bay-sized (restore name) = moved-length (restore-moved s name) z
+  bay-sized (forget name) = moved-length (forget-moved s name) z
+  bay-sized (service trace view) = ap length (service-reads s trace view .left) ∙ z
+  bay-sized (panel trace view) = ap length (panel-reads s trace view .left) ∙ z
 
-  pub sized-after : (c : Call) → length s ≡ stretchLength → length (memoryAfter (onStretch k c s)) ≡ stretchLength
-  sized-after c z = go (isFor c s)
+  pub sized-after : (c : Call) → length (memoryAfter (onStretch k c s)) ≡ stretchLength
+  sized-after c = go (isFor c s)
     where
       go : (b : Bool) → length (memoryAfter (cond b (bayCall k c s) (called 13 s (buffers c)))) ≡ stretchLength
-      go true = bay-sized c z
+      go true = bay-sized c
       go false = z
 
 -- what an admission with this number makes of the stretch

@@ -9,7 +9,7 @@ use lib.ListN.{length}
 use lib.Dec.{eqb}
 use borrow.Author.Tests.{eq-eqb, ne-eqb}
 use Rattle.box_calls.specs.Called.{Called, number, memoryAfter}
-use Rattle.box_calls.specs.Box.{bayCount, boxLength, stretchOf, present, Call, admit, release, tick, save, restore, forget, callOf}
+use Rattle.box_calls.specs.Box.{bayCount, boxLength, stretchOf, present, Call, admit, release, tick, save, restore, forget, service, panel, callOf}
 use Rattle.box_calls.specs.Lists.{Request, afterCall, boxAfter, Asked, admission, other, askedBy, asked, Answer, answerOf, answers}
 use Rattle.box_calls.specs.Claims.{SumAlike}
 use Rattle.box_theory.proofs.Bays.{onStretch, admittedAs, admission-by-number}
@@ -31,10 +31,12 @@ stretchAlone s (a ∷ xs) = stretchAlone (memoryAfter (alone s a)) xs
 by-itself : (k : ℕ) (s : List ℕ) (c : Call) (o : Called) → number o ≡ number (onStretch k c s) → onStretch k c s ≡ alone s (askedBy c o)
 by-itself k s (admit t) o h = admission-by-number k s t ∙ ap (admittedAs s t) (sym h)
 by-itself k s release o h = refl
-by-itself k s (tick e answer) o h = refl
+by-itself k s (tick e answer trace) o h = refl
 by-itself k s (save name) o h = refl
 by-itself k s (restore name) o h = refl
 by-itself k s (forget name) o h = refl
+by-itself k s (service trace view) o h = refl
+by-itself k s (panel trace view) o h = refl
 
 module _ (bay : ℕ) (b : bay < bayCount) where
   record View (box : List ℕ) (xs : List Request) : Type 0 where
@@ -94,10 +96,12 @@ module _ (bay : ℕ) (b : bay < bayCount) where
     same-result : (c : Call) → SumAlike c box box′ → result box bay c ≡ result box′ bay c
     same-result (admit t) h = ap₂ (λ (k : ℕ) (s : List ℕ). onStretch k (admit t) s) h e
     same-result release h = ap (onStretch 0 release) e
-    same-result (tick i answer) h = ap (onStretch 0 (tick i answer)) e
+    same-result (tick i answer trace) h = ap (onStretch 0 (tick i answer trace)) e
     same-result (save name) h = ap (onStretch 0 (save name)) e
     same-result (restore name) h = ap (onStretch 0 (restore name)) e
     same-result (forget name) h = ap (onStretch 0 (forget name)) e
+    same-result (service trace view) h = ap (onStretch 0 (service trace view)) e
+    same-result (panel trace view) h = ap (onStretch 0 (panel trace view)) e
 
     pub by-sum : (c : Call) → SumAlike c box box′
         → (answerOf (callOf box bay c) ≡ answerOf (callOf box′ bay c))

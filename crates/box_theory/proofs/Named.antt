@@ -21,7 +21,7 @@ use Rattle.positions.proofs.Theorems as table
 use Rattle.positions.proofs.Theorems.{cleared-agrees, save-agrees, forget-agrees, lookup-zeros}
 use Rattle.box_calls.specs.Called.{Called, called, number, memoryAfter}
 use Rattle.box_calls.specs.Stretch.{stateAt, lengthIn, isEmpty, sequenceIn, stateIn, positionsIn}
-use Rattle.box_calls.specs.Box.{bayCount, boxLength, emptyBox, stretchOf, present, Call, admit, release, tick, save, restore, forget, buffers, bayCall, isFor, callOf}
+use Rattle.box_calls.specs.Box.{bayCount, boxLength, emptyBox, stretchOf, present, Call, admit, release, tick, save, restore, forget, service, panel, buffers, bayCall, isFor, callOf}
 use Rattle.box_calls.specs.Lists.{Request, afterCall, boxAfter}
 use Rattle.box_calls.specs.Shares.{Sendable, AllSendable, none, each}
 use Rattle.box_calls.specs.Positions.{changedBy, savedIn, NoneKnown}
@@ -93,7 +93,7 @@ agrees-by : (k : ℕ) (s : List ℕ) → Sound s → (c : Call) → Sendable c �
     → (ps : List Position) → Agrees (positionsIn s) ps → Agrees (tableBy c s) (changedBy c (labelsIn (stateIn s)) ps)
 agrees-by k s v (admit t) r i n ps a = agrees-empty s v i ps a
 agrees-by k s v release r i n ps a = cleared-agrees
-agrees-by k s v (tick e answer) r i n ps a = a
+agrees-by k s v (tick e answer trace) r i n ps a = a
 agrees-by k s v (save name) r i n ps a =
     let f = filled-bay s v i in
     let w = f .1 .accepted in
@@ -101,6 +101,8 @@ agrees-by k s v (save name) r i n ps a =
     save-agrees (positionsIn s) ps a name (labelsIn (stateIn s)) r (l .1) .1
 agrees-by k s v (restore name) r i n ps a = a
 agrees-by k s v (forget name) r i n ps a = forget-agrees (positionsIn s) ps a name .1
+agrees-by k s v (service trace view) r i n ps a = a
+agrees-by k s v (panel trace view) r i n ps a = a
 
 module _ (bay : ℕ) (b : bay < bayCount) where
   abbrev Same : List ℕ → List Position → Type 0

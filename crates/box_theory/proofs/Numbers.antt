@@ -15,13 +15,16 @@ use Rattle.demands.specs.TickRows.{TickRow, row-1, row-2-to-10, row-11, row-12}
 use Rattle.demands.proofs.Sequence.{accepted}
 use Rattle.demands.proofs.Demand1.{demand-1}
 use Rattle.box_calls.specs.Called.{called, number}
-use Rattle.box_calls.specs.Stretch.{lengthIn, isEmpty, sequenceIn, readBackIn, stateIn, Terms, filled}
-use Rattle.box_calls.specs.BayCalls.{sharedCeiling, byCheck, bayTickOf, bayReleaseOf, bayAdmitOf}
-use Rattle.box_calls.specs.Box.{bayCount, boxLength, stretchOf, present, Call, admit, release, tick, save, restore, forget, buffers, bayCall, isFor, callOf}
+use Rattle.box_calls.specs.Stretch.{stretchLength, lengthIn, isEmpty, sequenceIn, readBackIn, stateIn, Terms, filled}
+use Rattle.box_calls.specs.BayCalls.{sharedCeiling, byCheck, bayReleaseOf, bayAdmitOf}
+use Rattle.box_calls.specs.Box.{bayCount, boxLength, stretchOf, present, Call, admit, release, tick, save, restore, forget, service, panel, buffers, bayCall, isFor, callOf}
 use Rattle.box_calls.specs.Claims.{NotThere, Thirteen, NoBox}
 use Rattle.box_theory.proofs.Moves.{moved-not-13, save-moved, forget-moved, restore-moved}
-use Rattle.box_theory.proofs.Bays.{ceilingFor, kept-number, inner, admit-by-sum, onStretch}
-use Rattle.box_theory.proofs.Stretches.{no-bay, other-box, own}
+use Rattle.box_theory.proofs.Bays.{ceilingFor, admit-by-sum, onStretch}
+use Rattle.box_theory.proofs.Ticks.{tick-number}
+use Rattle.box_theory.proofs.Readers.{service-reads, panel-reads}
+use Rattle.box_calls.specs.BayRuns.{paperBuffer}
+use Rattle.box_theory.proofs.Stretches.{no-bay, other-box, stretch-sized, own}
 
 -- ---- the numbers of a call on a stretch
 tick-range : {sequence : List ℕ} {readBack : ℕ} {state answer : List ℕ} (k : ℕ) → TickRow sequence readBack state answer k → k ≤ 12
@@ -53,9 +56,9 @@ sum-number k s t h =
     go true = refl
     go false = refl
 
-bay-not-13 : (k : ℕ) (c : Call) (s : List ℕ) → number (bayCall k c s) ≢ 13
-unfolding bayTickOf bayReleaseOf
-bay-not-13 k (admit t) s n =
+bay-not-13 : (k : ℕ) (c : Call) (s : List ℕ) → length s ≡ stretchLength → number (bayCall k c s) ≢ 13
+unfolding bayReleaseOf
+bay-not-13 k (admit t) s l n =
     elim (ℕ-discrete (checkOf (t .sequence) (t .readBack)) 0) [
       | yes h ↦ go (leb (k + ceilingFor t) sharedCeiling) (sym (sum-number k s t h) ∙ n)
       | no h ↦
@@ -67,14 +70,16 @@ bay-not-13 k (admit t) s n =
     go : (b : Bool) → byRoom b ≡ 13 → ⊥
     go true h = omega arith
     go false h = omega arith
-bay-not-13 k release s n = omega arith
-bay-not-13 k (tick e answer) s n =
-    let rows = demand-1 .tick-by-rows (sequenceIn s) (stateIn s) e (readBackIn s) answer in
-    let r = rows .refusal 13 (λ z. omega arith) .0 (sym (kept-number s (inner s e answer)) ∙ n) .0 in
+bay-not-13 k release s l n = omega arith
+bay-not-13 k (tick e answer trace) s l n =
+    let rows = demand-1 .tick-by-rows (sequenceIn s) (stateIn s) e (readBackIn s) (paperBuffer trace answer) in
+    let r = rows .refusal 13 (λ z. omega arith) .0 (sym (tick-number s l e answer trace) ∙ n) .0 in
     omega (arith, tick-range 13 r)
-bay-not-13 k (save name) s n = moved-not-13 (save-moved s name) n
-bay-not-13 k (restore name) s n = moved-not-13 (restore-moved s name) n
-bay-not-13 k (forget name) s n = moved-not-13 (forget-moved s name) n
+bay-not-13 k (save name) s l n = moved-not-13 (save-moved s name) n
+bay-not-13 k (restore name) s l n = moved-not-13 (restore-moved s name) n
+bay-not-13 k (forget name) s l n = moved-not-13 (forget-moved s name) n
+bay-not-13 k (service trace view) s l n = omega (arith, service-reads s trace view .low)
+bay-not-13 k (panel trace view) s l n = omega (arith, panel-reads s trace view .low)
 
 -- ---- a bay that is not there for a call
 not-true : (b : Bool) → not b ≡ false → b ≡ true
@@ -87,16 +92,18 @@ is-empty s = (λ h. eqb-true (lengthIn s) 0 (not-true (isEmpty s) h), λ h. rw (
 not-there : (c : Call) (s : List ℕ) → (isFor c s ≡ false) ↔ NotThere c s
 not-there (admit t) s = (eqb-false (lengthIn s) 0, ne-eqb (lengthIn s) 0)
 not-there release s = is-empty s
-not-there (tick e answer) s = is-empty s
+not-there (tick e answer trace) s = is-empty s
 not-there (save name) s = is-empty s
 not-there (restore name) s = is-empty s
 not-there (forget name) s = is-empty s
+not-there (service trace view) s = is-empty s
+not-there (panel trace view) s = is-empty s
 
 pub thirteen : Thirteen callOf
 thirteen box z bay c =
     elim (decLt bay bayCount) [
       | yes b ↦ (
-        λ n l. not-there c s .0 (go (isFor c s) (sym (ap number (own box bay c b z)) ∙ n)),
+        λ n l. not-there c s .0 (go b (isFor c s) (sym (ap number (own box bay c b z)) ∙ n)),
         λ h. ap number (own box bay c b z) ∙ aside (not-there c s .1 (h b)),
       )
       | no b ↦ (λ n l. absurd (b l), λ h. ap number (no-bay box bay c (omega arith)))
@@ -108,9 +115,9 @@ thirteen box z bay c =
     k : ℕ
     k = present bayCount box
 
-    go : (f : Bool) → number (cond f (bayCall k c s) (called 13 s (buffers c))) ≡ 13 → f ≡ false
-    go true n = absurd (bay-not-13 k c s n)
-    go false n = refl
+    go : bay < bayCount → (f : Bool) → number (cond f (bayCall k c s) (called 13 s (buffers c))) ≡ 13 → f ≡ false
+    go b true n = absurd (bay-not-13 k c s (stretch-sized box bay c b z) n)
+    go b false n = refl
 
     aside : isFor c s ≡ false → number (onStretch k c s) ≡ 13
     aside h = rw h

@@ -10,13 +10,13 @@ use mathlib.Core.List.{List, []}
 use lib.ListN.{length}
 use lib.Dec.{eqb}
 use borrow.Author.Tests.{eq-eqb, ne-eqb}
-use Rattle.limits.specs.Limits.{labelBytes, nameBytes}
+use Rattle.limits.specs.Limits.{labelBytes, nameBytes, numberBytes}
 use Rattle.esterel.specs.Sets as Sets
 use Rattle.esterel.specs.Statement.{Statement}
 use Rattle.esterel.specs.Machines.{State}
 use Rattle.sequence.specs.Rows.{Spells}
 use Rattle.numbers.specs.Bytes.{leBytes}
-use Rattle.numbers.proofs.Bytes.{le-round-trip}
+use Rattle.numbers.proofs.Bytes.{length-leBytes, le-round-trip}
 use Rattle.states.specs.StateRecord.{stateLength, stateRecord, phaseIn, labelsIn, encodeState, Recorded}
 use Rattle.states.proofs.StateLaws.{state-sized}
 use Rattle.parts.specs.Parts.{put, zeros}
@@ -24,27 +24,29 @@ use Rattle.parts.proofs.Parts.{slot-put, put-behind}
 use Rattle.positions.specs.Table.{tableLength, lookup, Kept, kept, numberKept, tableKept, saveOf, forgetOf, Formed}
 use Rattle.positions.proofs.Theorems.{lookup-saved, lookup-others-saved, lookup-forgotten, lookup-others-forgotten, lookup-zeros, formed-zeros, formed-saved, formed-forgotten, save-refused}
 use Rattle.positions.proofs.TableLaws.{save-sized, forget-sized}
-use Rattle.demands.specs.Demands.{stateAfterwards}
 use Rattle.demands.proofs.Sequence.{accepted, same-statement}
 use Rattle.box_calls.specs.Called.{Called, called, number, memoryAfter}
-use Rattle.box_calls.specs.Stretch.{stateAt, positionsAt, stretchLength, sequenceIn, readBackIn, stateIn, positionsIn, Terms}
+use Rattle.box_calls.specs.Stretch.{stateAt, countAt, positionsAt, stretchLength, stateIn, positionsIn, Terms}
 use Rattle.box_calls.specs.BayCalls.{positionsKept, restored, bayTickOf, bayReleaseOf, bayAdmitOf, baySaveOf, bayForgetOf, bayRestoreOf}
-use Rattle.box_calls.specs.Box.{Call, admit, release, tick, save, restore, forget, bayCall}
+use Rattle.box_calls.specs.Box.{Call, admit, release, tick, save, restore, forget, service, panel, bayCall}
 use Rattle.box_calls.specs.Shares.{Sendable}
 use Rattle.box_calls.proofs.Fields.{slot-vacated, filled-zeros}
 use Rattle.box_theory.proofs.Moves as moves
-use Rattle.box_theory.proofs.Bays as bays
-use Rattle.box_theory.proofs.Bays.{ceilingFor, bounds, kept-after, tick-sized, Admission, turned-down, taken, admission, bay-refused}
+use Rattle.box_theory.proofs.Ticks.{next, length-stepped, Ticked, down, instant, ticked}
+use Rattle.box_theory.proofs.Readers.{service-reads, panel-reads}
+use Rattle.box_theory.proofs.Bays.{ceilingFor, bounds, Admission, turned-down, taken, admission, bay-refused}
 use Rattle.box_theory.proofs.Standing.{Standing, put-stands}
 
 -- ---- what a call answered 0 makes of the table
 abbrev pub tableBy : Call → List ℕ → List ℕ
 tableBy (admit t) s = zeros tableLength
 tableBy release s = zeros tableLength
-tableBy (tick e answer) s = positionsIn s
+tableBy (tick e answer trace) s = positionsIn s
 tableBy (save name) s = tableKept (saveOf name (labelsIn (stateIn s)) (positionsIn s))
 tableBy (restore name) s = positionsIn s
 tableBy (forget name) s = tableKept (forgetOf name (positionsIn s))
+tableBy (service trace view) s = positionsIn s
+tableBy (panel trace view) s = positionsIn s
 
 module _ (k : ℕ) (s : List ℕ) (z : length s ≡ stretchLength) where
   kept-table : (o : Kept) → length (tableKept o) ≡ tableLength → positionsIn (memoryAfter (positionsKept s o)) ≡ tableKept o
@@ -55,7 +57,7 @@ module _ (k : ℕ) (s : List ℕ) (z : length s ≡ stretchLength) where
   moved-table bytes sized = put-behind stateAt stateLength bytes s (omega arith) sized positionsAt tableLength (omega arith)
 
   pub table-after : (c : Call) → number (bayCall k c s) ≡ 0 → positionsIn (memoryAfter (bayCall k c s)) ≡ tableBy c s
-  unfolding bayReleaseOf bayTickOf baySaveOf bayRestoreOf bayForgetOf
+  unfolding bayReleaseOf baySaveOf bayRestoreOf bayForgetOf
   table-after (admit t) n = go (admission k s t)
     where
       go : Admission k s t (bayAdmitOf k s t) → positionsIn (memoryAfter (bayAdmitOf k s t)) ≡ zeros tableLength
@@ -64,10 +66,17 @@ module _ (k : ℕ) (s : List ℕ) (z : length s ≡ stretchLength) where
           ap positionsIn (ap memoryAfter e)
           ∙ filled-zeros t (ceilingFor t) s z (bounds t (accepted (t .sequence) (t .readBack) c) .1) positionsAt tableLength (omega arith) (omega arith)
   table-after release n = slot-vacated positionsAt tableLength s (omega arith)
-  table-after (tick e answer) n =
-      ap positionsIn (kept-after s (bays.inner s e answer))
-      ∙ moved-table (stateAfterwards (bays.inner s e answer))
-      (tick-sized (sequenceIn s) (stateIn s) e (readBackIn s) answer (bays.state-sized s z))
+  table-after (tick e answer trace) n = go (ticked s z e answer trace)
+    where
+      go : Ticked s z e answer trace (bayTickOf s e answer trace) → positionsIn (memoryAfter (bayTickOf s e answer trace)) ≡ positionsIn s
+      go (down m y q w) = ap (λ (o : Called). positionsIn (memoryAfter o)) w
+      go (instant state left l j q w) =
+          let k = length-stepped s z e answer trace state l in
+          let count = leBytes numberBytes (next s z e answer trace) in
+          ap (λ (o : Called). positionsIn (memoryAfter o)) w
+          ∙ put-behind countAt numberBytes count (put stateAt stateLength state s) (omega arith) (length-leBytes numberBytes (next s z e answer trace))
+          positionsAt tableLength (omega arith)
+          ∙ moved-table state l
   table-after (save name) n = go (eqb (phaseIn (stateIn s)) 1) n
     where
       o : Kept
@@ -85,6 +94,8 @@ module _ (k : ℕ) (s : List ℕ) (z : length s ≡ stretchLength) where
       go (some labels) m = moved-table (stateRecord 1 labels) (state-sized 1 labels)
   table-after (forget name) n =
       kept-table (forgetOf name (positionsIn s)) (forget-sized name (positionsIn s) (moves.positions-sized s z))
+  table-after (service trace view) n = ap positionsIn (service-reads s trace view .left)
+  table-after (panel trace view) n = ap positionsIn (panel-reads s trace view .left)
 
 -- ---- the numbers of the three calls
 module _ (s : List ℕ) (name : ℕ) where
@@ -194,17 +205,19 @@ module _ (t : Terms) (s : List ℕ) (h : Standing t s) where
     pub positioned-by : (k : ℕ) (c : Call) → Sendable c → number (bayCall k c s) ≡ 0 → Positioned t (tableBy c s)
     positioned-by k (admit t′) r n = positioned-zeros t
     positioned-by k release r n = positioned-zeros t
-    positioned-by k (tick e answer) r n = v
+    positioned-by k (tick e answer trace) r n = v
     positioned-by k (save name) r n = positioned-saved name r (save-waits s name n)
     positioned-by k (restore name) r n = v
     positioned-by k (forget name) r n = positioned-forgotten name
+    positioned-by k (service trace view) r n = v
+    positioned-by k (panel trace view) r n = v
 
     -- over a call, turned down or not
     pub positioned-after : (k : ℕ) (c : Call) → Sendable c → Positioned t (positionsIn (memoryAfter (bayCall k c s)))
     positioned-after k c r =
         elim (ℕ-discrete (number (bayCall k c s)) 0) [
           | yes n ↦ subst (Positioned t) (sym (table-after k s (h .holds .sized) c n)) (positioned-by k c r n)
-          | no n ↦ subst (Positioned t) (sym (ap (λ (o : Called). positionsIn (memoryAfter o)) (bay-refused k s c n))) v
+          | no n ↦ subst (Positioned t) (sym (ap (λ (o : Called). positionsIn (memoryAfter o)) (bay-refused k s (h .holds .sized) c n))) v
         ]
 
     -- coming back to a position leads to a state of the sequence

@@ -1,6 +1,6 @@
 -- The boxes that calls reach from the empty one: a filled bay stands in a state of its sequence, so does each of its positions, and it
 -- has its ceiling; the ceilings sum to no more than the shared one.
-use Prim.Native.Nat.{ℕ, zero, suc, _+_, _*_, _^_, _≤_, _<_}
+use Prim.Native.Nat.{ℕ, zero, suc, _+_, _*_, _≤_, _<_}
 use native.Mathlib.Omega.{arith}
 use native.Mathlib.Decide.{ℕ-discrete, decLt}
 use mathlib.Core.Path.{_≡_, refl, sym, ap, _∙_, subst}
@@ -9,25 +9,27 @@ use mathlib.Core.Bool.{Bool, true, false, cond, true≢false}
 use mathlib.Core.List.{List, [], _∷_}
 use lib.ListN.{length}
 use borrow.Author.Tests.{eq-eqb, ne-eqb}
-use Rattle.limits.specs.Limits.{signalBytes}
 use Rattle.numbers.specs.Bytes.{leNumber}
 use Rattle.sequence.specs.Check.{checkOf}
 use Rattle.parts.specs.Parts.{zeros}
 use Rattle.parts.proofs.Zeros.{length-zeros, slot-zeros, zeros-number}
 use Rattle.positions.specs.Table.{tableLength}
+use Rattle.demands.specs.Demands as demands
 use Rattle.demands.proofs.Sequence.{accepted}
 use Rattle.box_calls.specs.Called.{called, number, memoryAfter}
 use Rattle.box_calls.specs.Stretch.{positionsAt, stretchLength, lengthIn, sequenceIn, readBackIn, ceilingIn, positionsIn, partOf, vacated, Terms, filled}
 use Rattle.box_calls.specs.BayCalls.{sharedCeiling, bayReleaseOf, bayAdmitOf}
-use Rattle.box_calls.specs.Box.{bayCount, boxLength, emptyBox, stretchOf, present, Call, admit, release, tick, save, restore, forget, buffers, bayCall, isFor, callOf}
+use Rattle.box_calls.specs.Box.{bayCount, boxLength, emptyBox, stretchOf, present, Call, admit, release, tick, save, restore, forget, service, panel, buffers, bayCall, isFor, callOf}
 use Rattle.box_calls.specs.Lists.{Request, boxAfter}
 use Rattle.box_calls.specs.Shares.{Sendable, AllSendable, none, each}
 use Rattle.box_calls.specs.Claims.{ceilingHeld}
 use Rattle.box_calls.proofs.Fields.{length-vacated, slot-vacated, vacated-empty, filled-zeros}
 use Rattle.box_theory.proofs.Sums.{sumOf, one-changed}
 use Rattle.box_theory.proofs.Moves.{save-moved, forget-moved}
-use Rattle.box_theory.proofs.Bays.{ceilingFor, bounds, passed, Admission, turned-down, taken, admission, onStretch, kept-number}
-use Rattle.box_theory.proofs.Standing.{Standing, not-empty, sequence-held, behind-stands, inner, bay-tick, tick-told, tick-stands, filled-stands}
+use Rattle.box_theory.proofs.Bays.{ceilingFor, bounds, passed, Admission, turned-down, taken, admission, onStretch}
+use Rattle.box_theory.proofs.Ticks.{tick-number}
+use Rattle.box_theory.proofs.Readers.{service-reads, panel-reads}
+use Rattle.box_theory.proofs.Standing.{Standing, not-empty, sequence-held, behind-stands, inner-is, tick-told, tick-stands, filled-stands}
 use Rattle.box_theory.proofs.Positions.{Positioned, positioned-zeros, positioned-after, restore-stands}
 use Rattle.box_theory.proofs.Stretches.{Case, aside, inside, cases, no-bay, own, own-stretch, same-length, others-stay}
 
@@ -66,7 +68,7 @@ module _ (k : ℕ) (s : List ℕ) (u : k ≤ sharedCeiling) (v : Sound s) where
   stays : Step k s s
   stays = record { sound = v; share = omega arith }
 
-  admit-step : (t : Terms) → t .readBack < 256 ^ signalBytes → Step k s (memoryAfter (bayAdmitOf k s t))
+  admit-step : (t : Terms) → Sendable (admit t) → Step k s (memoryAfter (bayAdmitOf k s t))
   admit-step t r = go (admission k s t)
     where
       go : Admission k s t (bayAdmitOf k s t) → Step k s (memoryAfter (bayAdmitOf k s t))
@@ -102,10 +104,12 @@ module _ (k : ℕ) (s : List ℕ) (u : k ≤ sharedCeiling) (v : Sound s) where
       let e = vacated-empty s in
       let none = slot-vacated positionsAt tableLength s (omega arith) in
       record { sound = vacant (length-vacated s (sized s v)) e none; share = omega (arith, part-vacant (vacated s) e) }
-  bay-step (tick e answer) r i = filled-step (tick e answer) r i (λ t h q. tick-stands t s h e answer)
+  bay-step (tick e answer trace) r i = filled-step (tick e answer trace) r i (λ t h q. tick-stands t s h e answer trace .0)
   bay-step (save name) r i = filled-step (save name) r i (λ t h q. behind-stands t s h (save-moved s name) .0)
   bay-step (restore name) r i = filled-step (restore name) r i (λ t h q. restore-stands t s h q name)
   bay-step (forget name) r i = filled-step (forget name) r i (λ t h q. behind-stands t s h (forget-moved s name) .0)
+  bay-step (service trace view) r i = filled-step (service trace view) r i (λ t h q. subst (Standing t) (sym (service-reads s trace view .left)) h)
+  bay-step (panel trace view) r i = filled-step (panel trace view) r i (λ t h q. subst (Standing t) (sym (panel-reads s trace view .left)) h)
 
   call-step : (c : Call) → Sendable c → Step k s (memoryAfter (onStretch k c s))
   call-step c r = go (isFor c s) refl
@@ -215,20 +219,20 @@ module _ (box : List ℕ) (h : Kept box) (bay : ℕ) (b : bay < bayCount) where
       out = rw (ne-eqb (lengthIn s) 0 n)
 
 -- no tick gives 11
-pub no-11 : (box : List ℕ) → Kept box → (bay e : ℕ) (answer : List ℕ) → number (callOf box bay (tick e answer)) ≢ 11
-no-11 box h bay e answer n =
+pub no-11 : (box : List ℕ) → Kept box → (bay e : ℕ) (answer trace : List ℕ) → number (callOf box bay (tick e answer trace)) ≢ 11
+no-11 box h bay e answer trace n =
     elim (decLt bay bayCount) [
-      | yes b ↦ go b (isFor (tick e answer) s) refl (sym (ap number (own box bay (tick e answer) b (h .sized-box))) ∙ n)
-      | no b ↦ omega (arith, ap number (no-bay box bay (tick e answer) (omega arith)))
+      | yes b ↦ go b (isFor (tick e answer trace) s) refl (sym (ap number (own box bay (tick e answer trace) b (h .sized-box))) ∙ n)
+      | no b ↦ omega (arith, ap number (no-bay box bay (tick e answer trace) (omega arith)))
     ]
   where
     s : List ℕ
     s = stretchOf bay box
 
-    go : bay < bayCount → (f : Bool) → isFor (tick e answer) s ≡ f
-        → number (cond f (bayCall (present bayCount box) (tick e answer) s) (called 13 s (answer ∷ []))) ≡ 11 → ⊥
+    go : bay < bayCount → (f : Bool) → isFor (tick e answer trace) s ≡ f
+        → number (cond f (bayCall (present bayCount box) (tick e answer trace) s) (called 13 s (answer ∷ trace ∷ []))) ≡ 11 → ⊥
     go b false i m = omega arith
     go b true i m =
         let f = filled-bay s (h .sound bay b) i in
-        tick-told (f .0) s (f .1) e answer .not-11
-        (sym (kept-number s (inner (f .0) s (f .1) e answer)) ∙ sym (ap number (bay-tick (f .0) s (f .1) e answer)) ∙ m)
+        tick-told (f .0) s (f .1) e answer trace .not-11
+        (sym (ap demands.number (inner-is (f .0) s (f .1) e answer trace)) ∙ sym (tick-number s (f .1 .holds .sized) e answer trace) ∙ m)

@@ -17,7 +17,7 @@ use Rattle.demands.specs.Paper.{paper}
 use Rattle.demands.proofs.Sequence.{same-statement}
 use Rattle.positions.specs.Table.{lookup}
 use Rattle.box_calls.specs.Called.{number, memoryAfter}
-use Rattle.box_calls.specs.Stretch.{sequenceIn, readBackIn, stateIn, positionsIn, Terms, terms}
+use Rattle.box_calls.specs.Stretch.{sequenceIn, readBackIn, serviceOnlyIn, stateIn, positionsIn, Terms, terms}
 use Rattle.box_calls.specs.Box.{bayCount, stretchOf, restore, callOf}
 use Rattle.box_calls.specs.Lists.{Request}
 use Rattle.box_calls.specs.BayRuns.{ticksTo, tickOutcomes, Onwards}
@@ -32,11 +32,14 @@ use Rattle.box_theory.proofs.BayRuns.{Here, Run, runs, agrees-from}
 
 -- what a stretch holds, as an admission fixes it
 abbrev pub termsIn : List ℕ → Terms
-termsIn s = terms (sequenceIn s) (readBackIn s)
+termsIn s = terms (sequenceIn s) (readBackIn s) (serviceOnlyIn s)
 
 as-held : (t : Terms) (s : List ℕ) → Standing t s → Positioned t (positionsIn s) → Standing (termsIn s) s × Positioned (termsIn s) (positionsIn s)
 as-held t s h v =
-    subst (λ (t : Terms). Standing t s × Positioned t (positionsIn s)) (ap₂ terms (sym (sequence-held t s h)) (sym (h .holds .set))) (h, v)
+    subst (λ (t : Terms). Standing t s × Positioned t (positionsIn s))
+    (ap₂ (λ (sequence : List ℕ) (readBack : ℕ). terms sequence readBack (t .serviceOnly)) (sym (sequence-held t s h)) (sym (h .holds .set))
+    ∙ ap (terms (sequenceIn s) (readBackIn s)) (sym (h .holds .service)))
+    (h, v)
 
 module _ (box : List ℕ) (h : Kept box) (bay name : ℕ) (back : number (callOf box bay (restore name)) ≡ 0) where
   abbrev s : List ℕ

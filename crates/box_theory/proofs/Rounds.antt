@@ -2,28 +2,31 @@
 use Prim.Native.Nat.{ℕ, _+_, _≤_, _<_}
 use native.Mathlib.Omega.{arith}
 use native.Mathlib.Decide.{decLt}
-use mathlib.Core.Path.{_≡_, refl, ap}
+use mathlib.Core.Path.{_≡_, refl, sym, ap, _∙_}
 use mathlib.Core.Logic.{_≢_}
 use mathlib.Core.Bool.{Bool, true, false, cond}
 use mathlib.Core.List.{List, [], _∷_}
+use lib.ListN.{length}
 use lib.Dec.{eqb}
 use borrow.Author.Tests.{eq-eqb, ne-eqb, eqb-true}
 use Rattle.sequence.specs.Check.{checked}
 use Rattle.sequence.specs.Ceilings.{ceilingOf}
 use Rattle.answers.specs.AnswerRecord.{takenIn}
-use Rattle.demands.specs.Tick.{Outcome, outcome, tickOf}
+use Rattle.demands.specs.Tick.{Outcome, tickOf}
 use Rattle.demands.specs.Demands as demands
 use Rattle.demands.specs.Demands.{answerAfterwards}
 use Rattle.demands.proofs.Ceiling.{never-above}
 use Rattle.box_calls.specs.Called.{called, memoryAfter}
-use Rattle.box_calls.specs.Stretch.{stateIn, partOf}
-use Rattle.box_calls.specs.BayCalls.{sharedCeiling, stateKept}
+use Rattle.box_calls.specs.Stretch.{stretchLength, stateIn, partOf}
+use Rattle.box_calls.specs.BayCalls.{sharedCeiling, bayTickOf}
+use Rattle.box_calls.specs.BayRuns.{paperBuffer}
 use Rattle.box_calls.specs.Box.{bayCount, stretchOf, present, tick, bayCall, isFor, callOf}
 use Rattle.box_calls.specs.Lists.{Request}
 use Rattle.box_calls.specs.Shares.{reactionsOf, reactionsIn, without, Round, done, more, OneTickEach}
 use Rattle.box_theory.proofs.Sums.{sumOf, same-sum, one-changed}
 use Rattle.box_theory.proofs.Bays.{onStretch}
-use Rattle.box_theory.proofs.Standing.{inner, bay-tick}
+use Rattle.box_theory.proofs.Standing.{inner-is}
+use Rattle.box_theory.proofs.Ticks as ticks
 use Rattle.box_theory.proofs.Stretches.{no-bay, own, others-stay}
 use Rattle.box_theory.proofs.Reached.{Sound, filled-bay, part-held, partIn, present-sum, Kept, kept-call}
 
@@ -32,8 +35,16 @@ use Rattle.box_theory.proofs.Reached.{Sound, filled-bay, part-held, par
 abbrev takenBy : Outcome → ℕ
 takenBy o = cond (eqb (demands.number o) 0) (takenIn (answerAfterwards o)) 0
 
-kept-taken : (s : List ℕ) (o : Outcome) → reactionsOf (stateKept s o) ≡ takenBy o
-kept-taken s (outcome n state answer) = refl
+tick-taken : (s : List ℕ) (z : length s ≡ stretchLength) (e : ℕ) (answer trace : List ℕ)
+    → reactionsOf (bayTickOf s e answer trace) ≡ takenBy (ticks.inner s z e answer trace)
+tick-taken s z e answer trace = go (ticks.ticked s z e answer trace)
+  where
+    go : ticks.Ticked s z e answer trace (bayTickOf s e answer trace)
+        → reactionsOf (bayTickOf s e answer trace) ≡ takenBy (ticks.inner s z e answer trace)
+    go (ticks.down n y q w) =
+        let none : (x : ℕ) → cond (eqb n 0) x 0 ≡ 0 = λ x. rw (ne-eqb n 0 y) in
+        ap reactionsOf w ∙ none (takenIn answer) ∙ sym (ap takenBy q ∙ none (takenIn (paperBuffer trace answer)))
+    go (ticks.instant state left l j q w) = ap reactionsOf w ∙ sym (ap takenBy q)
 
 taken-below : (sequence state : List ℕ) (e readBack : ℕ) (answer : List ℕ)
     → takenBy (tickOf sequence state e readBack answer) ≤ ceilingOf readBack (checked sequence readBack)
@@ -47,43 +58,43 @@ taken-below sequence state e readBack answer = go (eqb (demands.number o) 0) ref
     go true h = never-above sequence state e readBack answer (eqb-true (demands.number o) 0 h)
     go false h = omega arith
 
-bay-below : (k : ℕ) (s : List ℕ) → Sound s → (e : ℕ) (answer : List ℕ) → reactionsOf (onStretch k (tick e answer) s) ≤ partOf s
-bay-below k s v e answer = go (isFor (tick e answer) s) refl
+bay-below : (k : ℕ) (s : List ℕ) → Sound s → (e : ℕ) (answer trace : List ℕ) → reactionsOf (onStretch k (tick e answer trace) s) ≤ partOf s
+bay-below k s v e answer trace = go (isFor (tick e answer trace) s) refl
   where
-    go : (f : Bool) → isFor (tick e answer) s ≡ f
-        → reactionsOf (cond f (bayCall k (tick e answer) s) (called 13 s (answer ∷ []))) ≤ partOf s
+    go : (f : Bool) → isFor (tick e answer trace) s ≡ f
+        → reactionsOf (cond f (bayCall k (tick e answer trace) s) (called 13 s (answer ∷ trace ∷ []))) ≤ partOf s
     go false i = omega arith
     go true i =
         let f = filled-bay s v i in
         let t = f .0 in
         omega (
           arith,
-          ap reactionsOf (bay-tick t s (f .1) e answer),
-          kept-taken s (inner t s (f .1) e answer),
-          taken-below (t .sequence) (stateIn s) e (t .readBack) answer,
+          tick-taken s (f .1 .holds .sized) e answer trace,
+          ap takenBy (inner-is t s (f .1) e answer trace),
+          taken-below (t .sequence) (stateIn s) e (t .readBack) (paperBuffer trace answer),
           part-held t s (f .1),
         )
 
-box-below : (box : List ℕ) → Kept box → (bay : ℕ) → bay < bayCount → (e : ℕ) (answer : List ℕ)
-    → reactionsOf (callOf box bay (tick e answer)) ≤ partIn box bay
-box-below box h bay b e answer =
-    let o = onStretch (present bayCount box) (tick e answer) (stretchOf bay box) in
-    let x : reactionsOf (callOf box bay (tick e answer)) ≡ reactionsOf o = ap reactionsOf (own box bay (tick e answer) b (h .sized-box)) in
-    omega (arith, x, bay-below (present bayCount box) (stretchOf bay box) (h .sound bay b) e answer)
+box-below : (box : List ℕ) → Kept box → (bay : ℕ) → bay < bayCount → (e : ℕ) (answer trace : List ℕ)
+    → reactionsOf (callOf box bay (tick e answer trace)) ≤ partIn box bay
+box-below box h bay b e answer trace =
+    let o = onStretch (present bayCount box) (tick e answer trace) (stretchOf bay box) in
+    let x : reactionsOf (callOf box bay (tick e answer trace)) ≡ reactionsOf o = ap reactionsOf (own box bay (tick e answer trace) b (h .sized-box)) in
+    omega (arith, x, bay-below (present bayCount box) (stretchOf bay box) (h .sound bay b) e answer trace)
 
 -- ---- a round
 -- what a bay that is left has
 abbrev partLeft : (left : ℕ → Bool) → List ℕ → ℕ → ℕ
 partLeft left box bay = cond (left bay) (partIn box bay) 0
 
-module _ (left : ℕ → Bool) (box : List ℕ) (h : Kept box) (bay e : ℕ) (answer : List ℕ) (l : left bay ≡ true) where
+module _ (left : ℕ → Bool) (box : List ℕ) (h : Kept box) (bay e : ℕ) (answer trace : List ℕ) (l : left bay ≡ true) where
   abbrev after : List ℕ
-  after = memoryAfter (callOf box bay (tick e answer))
+  after = memoryAfter (callOf box bay (tick e answer trace))
 
   others-left : (j : ℕ) → j ≢ bay → j < bayCount → partLeft left box j ≡ partLeft (without bay left) after j
-  others-left j d m = rw (ne-eqb j bay d, others-stay box bay (tick e answer) j d m)
+  others-left j d m = rw (ne-eqb j bay d, others-stay box bay (tick e answer trace) j d m)
 
-  one-tick : reactionsOf (callOf box bay (tick e answer)) + sumOf (partLeft (without bay left) after) bayCount
+  one-tick : reactionsOf (callOf box bay (tick e answer trace)) + sumOf (partLeft (without bay left) after) bayCount
       ≤ sumOf (partLeft left box) bayCount
   one-tick =
       elim (decLt bay bayCount) [
@@ -94,12 +105,12 @@ module _ (left : ℕ → Bool) (box : List ℕ) (h : Kept box) (bay e : ℕ) (an
               arith,
               before,
               behind,
-              box-below box h bay b e answer,
+              box-below box h bay b e answer trace,
               one-changed (partLeft left box) (partLeft (without bay left) after) bay bayCount b others-left,
             )
         | no b ↦ omega (
           arith,
-          ap reactionsOf (no-bay box bay (tick e answer) (omega arith)),
+          ap reactionsOf (no-bay box bay (tick e answer trace) (omega arith)),
           same-sum (partLeft left box) (partLeft (without bay left) after) bayCount (λ j m. others-left j (λ q. omega arith) m),
         )
       ]
@@ -108,11 +119,11 @@ round-below : {left : ℕ → Bool} {xs : List Request} → Round left xs → (b
     → reactionsIn callOf box xs ≤ sumOf (partLeft left box) bayCount
 unfolding reactionsIn
 round-below done box h = omega arith
-round-below (more {left} {bay} {e} {answer} {xs} l r) box h =
+round-below (more {left} {bay} {e} {answer} {trace} {xs} l r) box h =
     omega (
       arith,
-      one-tick left box h bay e answer l,
-      round-below r (memoryAfter (callOf box bay (tick e answer))) (kept-call box h bay (tick e answer) tt),
+      one-tick left box h bay e answer trace l,
+      round-below r (memoryAfter (callOf box bay (tick e answer trace))) (kept-call box h bay (tick e answer trace) tt),
     )
 
 pub rounds-within : (box : List ℕ) → Kept box → (ticks : List Request) → OneTickEach ticks → reactionsIn callOf box ticks ≤ sharedCeiling

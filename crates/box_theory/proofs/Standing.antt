@@ -1,5 +1,5 @@
 -- A filled bay that calls have written: its sequence is accepted, and its machine stands in a state of that sequence.
-use Prim.Native.Nat.{ℕ, _^_, _<_}
+use Prim.Native.Nat.{ℕ, _+_, _≤_}
 use native.Mathlib.Omega.{arith}
 use native.Mathlib.Decide.{ℕ-discrete}
 use mathlib.Core.Path.{_≡_, refl, sym, ap, _∙_, subst}
@@ -8,13 +8,14 @@ use mathlib.Core.Bool.{false}
 use mathlib.Core.List.{List}
 use lib.ListN.{length}
 use borrow.Author.Tests.{ne-eqb}
-use Rattle.limits.specs.Limits.{signalBytes}
+use Rattle.limits.specs.Limits.{numberBytes}
 use Rattle.esterel.specs.Sets as Sets
 use Rattle.esterel.specs.Reaction.{react, inheritanceFirst}
 use Rattle.esterel.specs.Expansion.{expand}
 use Rattle.esterel.specs.Machines.{State, stateAfter}
 use Rattle.sequence.specs.Program.{program}
 use Rattle.numbers.specs.Bytes.{leBytes}
+use Rattle.numbers.proofs.Bytes.{length-leBytes}
 use Rattle.states.specs.StateRecord.{stateLength, encodeState, holds, Recorded}
 use Rattle.states.proofs.StateLaws.{length-state, decode-encode}
 use Rattle.answers.specs.AnswerRecord.{answerLength}
@@ -27,11 +28,15 @@ use Rattle.demands.proofs.Sequence.{Accepted, tick-at, tick-short, recorded-fre
 use Rattle.demands.proofs.Ceiling.{most}
 use Rattle.parts.proofs.Parts.{put-before}
 use Rattle.box_calls.specs.Called.{Called, memoryAfter}
-use Rattle.box_calls.specs.Stretch.{sequenceAt, stateAt, positionsAt, stretchLength, lengthIn, isEmpty, sequenceIn, stateIn, Terms, filled}
-use Rattle.box_calls.specs.BayCalls.{stateKept, bayTickOf}
+use Rattle.box_calls.specs.Stretch.{sequenceAt, stateAt, countAt, positionsAt, stretchLength, lengthIn, isEmpty, sequenceIn, stateIn, Terms, filled}
+use Rattle.box_calls.specs.BayCalls.{bayTickOf}
+use Rattle.box_calls.specs.Box.{admit}
+use Rattle.box_calls.specs.Shares.{Sendable}
+use Rattle.box_calls.specs.BayRuns.{paperBuffer}
 use Rattle.box_calls.proofs.Fields.{Holds, behind-holds, moved-holds, moved-state, filled-holds, filled-fresh}
 use Rattle.box_theory.proofs.Moves.{Moved, refused, stored}
-use Rattle.box_theory.proofs.Bays.{ceilingFor, bounds, kept-after}
+use Rattle.box_theory.proofs.Ticks as ticks
+use Rattle.box_theory.proofs.Bays.{ceilingFor, bounds}
 
 pub record Standing (t : Terms) (s : List ℕ) : Type 0 where
   pub accepted : Accepted (t .sequence) (t .readBack)
@@ -100,55 +105,67 @@ module _ (t : Terms) (s : List ℕ) (h : Standing t s) where
         recorded = r;
       }
 
-  -- a call that writes behind the state
-  abbrev Steady : Called → Type 0
-  Steady o = Standing t (memoryAfter o) × (stateIn (memoryAfter o) ≡ stateIn s)
+  -- something is written behind the state
+  abbrev Steady : List ℕ → Type 0
+  Steady after = Standing t after × (stateIn after ≡ stateIn s)
 
-  pub behind-stands : {o : Called} → Moved positionsAt s o → Steady o
+  pub put-behind-state : (at n : ℕ) (bytes : List ℕ) → countAt ≤ at → at + n ≤ stretchLength → length bytes ≡ n → Steady (put at n bytes s)
+  put-behind-state at n bytes low high sized =
+      let z = h .holds .sized in
+      let same : stateIn (put at n bytes s) ≡ stateIn s = put-before at n bytes s (omega arith) sized stateAt stateLength (omega arith) in (
+        record {
+          accepted = h .accepted;
+          holds = behind-holds t (ceilingFor t) (bounds t (h .accepted) .1) s (h .holds) at n bytes (omega arith) (omega arith) sized;
+          state = h .state;
+          bytes = same ∙ h .bytes;
+          recorded = h .recorded;
+        },
+        same,
+      )
+
+  pub behind-stands : {o : Called} → Moved positionsAt s o → Steady (memoryAfter o)
   behind-stands {o} m = go m
     where
-      go : Moved positionsAt s o → Steady o
-      go (refused n d e) = subst Steady (sym e) (h, refl)
+      go : Moved positionsAt s o → Steady (memoryAfter o)
+      go (refused n d e) = subst Steady (sym (ap memoryAfter e)) (h, refl)
       go (stored at n bytes low high sized e) =
-          let z = h .holds .sized in
-          let same : stateIn (put at n bytes s) ≡ stateIn s = put-before at n bytes s (omega arith) (sized z) stateAt stateLength (omega arith) in
-          subst Steady (sym e) (
-            record {
-              accepted = h .accepted;
-              holds = behind-holds t (ceilingFor t) (bounds t (h .accepted) .1) s (h .holds) at n bytes (omega arith) (omega arith) (sized z);
-              state = h .state;
-              bytes = same ∙ h .bytes;
-              recorded = h .recorded;
-            },
-            same,
-          )
+          subst Steady (sym (ap memoryAfter e)) (put-behind-state at n bytes (omega arith) high (sized (h .holds .sized)))
 
-  module _ (e : ℕ) (answer : List ℕ) where
-    -- the tick on its sequence
+  module _ (e : ℕ) (answer trace : List ℕ) where
+    -- the tick on its sequence, with the buffer that the paper sees
     abbrev pub inner : Outcome
-    inner = tickOf (t .sequence) (stateIn s) e (t .readBack) answer
+    inner = tickOf (t .sequence) (stateIn s) e (t .readBack) (paperBuffer trace answer)
 
-    pub bay-tick : bayTickOf s e answer ≡ stateKept s inner
-    unfolding bayTickOf
-    bay-tick = rw (sequence-held, h .holds .set)
+    pub inner-is : ticks.inner s (h .holds .sized) e answer trace ≡ inner
+    inner-is = rw (sequence-held, h .holds .set)
 
     pub tick-told : Told t (h .accepted) inner
-    tick-told = rw (h .bytes) (told t (h .accepted) (h .state) (h .recorded) e answer)
+    tick-told = rw (h .bytes) (told t (h .accepted) (h .state) (h .recorded) e (paperBuffer trace answer))
 
-    inner-sized : length (stateAfterwards inner) ≡ stateLength
-    inner-sized = ap length (tick-told .bytes) ∙ length-state (tick-told .state)
+-- ---- the tick of a bay that stands
+module _ (t : Terms) (s : List ℕ) (h : Standing t s) (e : ℕ) (answer trace : List ℕ) where
+  abbrev Ticks : Called → Type 0
+  Ticks o = Standing t (memoryAfter o) × (stateIn (memoryAfter o) ≡ stateAfterwards (inner t s h e answer trace))
 
-    moved : memoryAfter (bayTickOf s e answer) ≡ put stateAt stateLength (stateAfterwards inner) s
-    moved = ap memoryAfter bay-tick ∙ kept-after s inner
+  pub tick-stands : Ticks (bayTickOf s e answer trace)
+  tick-stands = go (ticks.ticked s (h .holds .sized) e answer trace)
+    where
+      z : length s ≡ stretchLength
+      z = h .holds .sized
 
-    pub tick-state : stateIn (memoryAfter (bayTickOf s e answer)) ≡ stateAfterwards inner
-    tick-state =
-        ap stateIn moved
-        ∙ moved-state t (ceilingFor t) (bounds t (h .accepted) .1) s (h .holds) (stateAfterwards inner) inner-sized
-
-    pub tick-stands : Standing t (memoryAfter (bayTickOf s e answer))
-    tick-stands =
-        subst (Standing t) (sym moved) (put-stands (tick-told .state) (tick-told .recorded) (stateAfterwards inner) (tick-told .bytes))
+      go : ticks.Ticked s (h .holds .sized) e answer trace (bayTickOf s e answer trace) → Ticks (bayTickOf s e answer trace)
+      go (ticks.down n y q w) =
+          subst Ticks (sym w) (h, sym (ap stateAfterwards q) ∙ ap stateAfterwards (inner-is t s h e answer trace))
+      go (ticks.instant state left l j q w) =
+          let a : state ≡ stateAfterwards (inner t s h e answer trace) =
+          sym (ap stateAfterwards q) ∙ ap stateAfterwards (inner-is t s h e answer trace) in
+          let b = tick-told t s h e answer trace in
+          let n : ℕ = ticks.next s z e answer trace in
+          let p : Standing t (put stateAt stateLength state s) = put-stands t s h (b .state) (b .recorded) state (a ∙ b .bytes) in
+          let k = put-behind-state t (put stateAt stateLength state s) p countAt numberBytes (leBytes numberBytes n) (omega arith) (omega arith)
+          (length-leBytes numberBytes n) in
+          subst Ticks (sym w)
+          (k .0, k .1 ∙ moved-state t (ceilingFor t) (bounds t (h .accepted) .1) s (h .holds) state l ∙ a)
 
 -- ---- a bay admitted
 pub cleared-fresh : cleared ≡ encodeState State.fresh
@@ -159,11 +176,11 @@ module _ (t : Terms) (a : Accepted (t .sequence) (t .readBack)) (s : List ℕ) (
   pub fresh-state : stateIn (filled t (ceilingFor t) s) ≡ cleared
   fresh-state = filled-fresh t (ceilingFor t) s z (bounds t a .1)
 
-  pub filled-stands : t .readBack < 256 ^ signalBytes → Standing t (filled t (ceilingFor t) s)
+  pub filled-stands : Sendable (admit t) → Standing t (filled t (ceilingFor t) s)
   filled-stands small =
       record {
         accepted = a;
-        holds = filled-holds t (ceilingFor t) s z (bounds t a .1) small (omega (arith, most (t .sequence) (t .readBack)));
+        holds = filled-holds t (ceilingFor t) s z (bounds t a .1) (small .0) (small .1) (omega (arith, most (t .sequence) (t .readBack)));
         state = State.fresh;
         bytes = fresh-state ∙ cleared-fresh;
         recorded = tt;

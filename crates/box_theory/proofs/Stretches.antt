@@ -70,18 +70,6 @@ module _ (box : List ℕ) (bay : ℕ) (c : Call) where
       go (aside n z e) = absurd (z (sym (ap number e) ∙ h))
       go (inside b z e) = (b, z)
 
-  pub refused-leaves : number (callOf box bay c) ≢ 0 → callOf box bay c ≡ called (number (callOf box bay c)) box (buffers c)
-  refused-leaves h = go cases
-    where
-      go : Case → callOf box bay c ≡ called (number (callOf box bay c)) box (buffers c)
-      go (aside n z e) = e ∙ ap (λ (m : ℕ). called m box (buffers c)) (sym (ap number e))
-      go (inside b z e) =
-          let k = stretch-refused (present bayCount box) s c (λ y. h (ap number e ∙ y)) in
-          e
-          ∙ ap (λ (o : Called). called (number result) (put (bay * stretchLength) stretchLength (memoryAfter o) box) (lentAfter o)) k
-          ∙ ap (λ (r : List ℕ). called (number result) r (buffers c)) (put-slot (bay * stretchLength) stretchLength box)
-          ∙ ap (λ (m : ℕ). called m box (buffers c)) (sym (ap number e))
-
   -- ---- where the stretch lies in the box
   module _ (b : bay < bayCount) (z : length box ≡ boxLength) where
     fits : bay * stretchLength + stretchLength ≤ length box
@@ -91,7 +79,7 @@ module _ (box : List ℕ) (bay : ℕ) (c : Call) where
     stretch-sized = length-take-le stretchLength (drop (bay * stretchLength) box) (omega (arith, length-drop (bay * stretchLength) box))
 
     result-sized : length (memoryAfter result) ≡ stretchLength
-    result-sized = sized-after (present bayCount box) s c stretch-sized
+    result-sized = sized-after (present bayCount box) s stretch-sized c
 
     -- the bay's own stretch, and what it is answered
     pub own : InPlace
@@ -101,6 +89,18 @@ module _ (box : List ℕ) (bay : ℕ) (c : Call) where
     own-stretch =
         ap (λ (o : Called). stretchOf bay (memoryAfter o)) own
         ∙ slot-put (bay * stretchLength) stretchLength (memoryAfter result) box fits result-sized
+
+  pub refused-leaves : number (callOf box bay c) ≢ 0 → callOf box bay c ≡ called (number (callOf box bay c)) box (buffers c)
+  refused-leaves h = go cases
+    where
+      go : Case → callOf box bay c ≡ called (number (callOf box bay c)) box (buffers c)
+      go (aside n z e) = e ∙ ap (λ (m : ℕ). called m box (buffers c)) (sym (ap number e))
+      go (inside b z e) =
+          let k = stretch-refused (present bayCount box) s (stretch-sized b z) c (λ y. h (ap number e ∙ y)) in
+          e
+          ∙ ap (λ (o : Called). called (number result) (put (bay * stretchLength) stretchLength (memoryAfter o) box) (lentAfter o)) k
+          ∙ ap (λ (r : List ℕ). called (number result) r (buffers c)) (put-slot (bay * stretchLength) stretchLength box)
+          ∙ ap (λ (m : ℕ). called m box (buffers c)) (sym (ap number e))
 
   pub same-length : length (memoryAfter (callOf box bay c)) ≡ length box
   same-length = go cases

@@ -21,11 +21,11 @@ use Rattle.demands.specs.Paper.{paper}
 use Rattle.positions.specs.Names.{find}
 use Rattle.positions.specs.Table.{lookup}
 use Rattle.box_calls.specs.Called.{number, memoryAfter}
-use Rattle.box_calls.specs.Stretch.{sequenceIn, readBackIn, stateIn, positionsIn, Terms, terms}
+use Rattle.box_calls.specs.Stretch.{sequenceIn, readBackIn, serviceOnlyIn, stateIn, positionsIn, Terms, terms}
 use Rattle.box_calls.specs.Box.{bayCount, boxLength, emptyBox, stretchOf, admit, release, tick, restore, forget, callOf}
 use Rattle.box_calls.specs.Lists.{Request, boxAfter, asked, answers}
 use Rattle.box_calls.specs.Shares.{Sendable, AllSendable}
-use Rattle.box_calls.specs.BayRuns.{ticksTo, outcomeOf, tickOutcomes, Onwards}
+use Rattle.box_calls.specs.BayRuns.{paperBuffer, ticksTo, outcomeOf, tickOutcomes, Onwards}
 use Rattle.box_calls.specs.Claims.{RefusalsLeave, OthersStay, Isolated, BySum, InBoxes, CeilingsStored, WithinCeiling, RoundsWithin, AdmitsBySum, GivesBack, Thirteen, NoBox, Fourteen, BoxDemands}
 use Rattle.box_calls.specs.Positions.{savedIn, PositionsSaved, PositionsValid, SaveNumbers, KnownOnly, ComesBack, LosesPositions, PositionDemands}
 use Rattle.box_calls.specs.WrongBoxes as wrong
@@ -120,8 +120,8 @@ box-demands =
     }
 
 -- demand 1: no tick gives 11, whatever calls came before
-pub never-11-in-box : (xs : List Request) → AllSendable xs → (bay e : ℕ) (answer : List ℕ)
-    → number (callOf (boxAfter callOf emptyBox xs) bay (tick e answer)) ≢ 11
+pub never-11-in-box : (xs : List Request) → AllSendable xs → (bay e : ℕ) (answer trace : List ℕ)
+    → number (callOf (boxAfter callOf emptyBox xs) bay (tick e answer trace)) ≢ 11
 never-11-in-box xs k = reached.no-11 (boxAfter callOf emptyBox xs) (reached.kept xs k)
 
 -- ---- a bay from its admission on, in any box, as long as it is not taken out: whatever other calls come in between, and calls of
@@ -142,15 +142,15 @@ module _ (box : List ℕ) (bay : ℕ) (t : Terms) (small : Sendable (admit t)) (
     pub demand-1-in-bay : (o : Outcome) → List·Memᴰ o (tickOutcomes bay from xs) → demands.number o ≢ 11
     demand-1-in-bay = runs.run box bay t small admitted xs k .never-11
 
-    pub rows-in-bay : (e : ℕ) (answer : List ℕ)
-        → ByRows (number (callOf now bay (tick e answer))) (TickRow (t .sequence) (t .readBack) (stateIn (stretchOf bay now)) answer)
+    pub rows-in-bay : (e : ℕ) (answer trace : List ℕ)
+        → ByRows (number (callOf now bay (tick e answer trace))) (TickRow (t .sequence) (t .readBack) (stateIn (stretchOf bay now)) (paperBuffer trace answer))
     rows-in-bay = runs.by-rows bay (runs.is-bay box bay t small admitted) t now (runs.run box bay t small admitted xs k .stands)
 
     -- demand 2, of the next tick
-    pub demand-2-in-bay : (e : ℕ) (answer : List ℕ) → number (callOf now bay (tick e answer)) ≡ 0
+    pub demand-2-in-bay : (e : ℕ) (answer trace : List ℕ) → number (callOf now bay (tick e answer trace)) ≡ 0
         → (p : Statement) × StandsAt (t .sequence) (t .readBack) (stateIn (stretchOf bay now)) p × Derived p e
         × ((o : ℕ) (c : Code) (l : ℕ) (p′ : Statement) → Reacts p e (gives o c l p′)
-        → Shows p e o c l p′ (outcomeOf bay (callOf now bay (tick e answer))))
+        → Shows p e o c l p′ (outcomeOf bay trace (callOf now bay (tick e answer trace))))
     demand-2-in-bay = runs.shows-rules bay (runs.is-bay box bay t small admitted) t now (runs.run box bay t small admitted xs k .stands)
 
     -- demand 3
@@ -213,7 +213,7 @@ module _ (zs : List Request) (sent : AllSendable zs) (bay name : ℕ)
 
   -- what the bay holds
   abbrev held : Terms
-  held = terms (sequenceIn (stretchOf bay there)) (readBackIn (stretchOf bay there))
+  held = terms (sequenceIn (stretchOf bay there)) (readBackIn (stretchOf bay there)) (serviceOnlyIn (stretchOf bay there))
 
   abbrev is-bay : bay < bayCount
   is-bay = returns.is-bay there (reached.kept zs sent) bay name back
@@ -240,15 +240,15 @@ module _ (zs : List Request) (sent : AllSendable zs) (bay name : ℕ)
     pub demand-1-from-position : (o : Outcome) → List·Memᴰ o (tickOutcomes bay again xs) → demands.number o ≢ 11
     demand-1-from-position = from-there xs k .never-11
 
-    pub rows-from-position : (e : ℕ) (answer : List ℕ)
-        → ByRows (number (callOf then bay (tick e answer))) (TickRow (held .sequence) (held .readBack) (stateIn (stretchOf bay then)) answer)
+    pub rows-from-position : (e : ℕ) (answer trace : List ℕ)
+        → ByRows (number (callOf then bay (tick e answer trace))) (TickRow (held .sequence) (held .readBack) (stateIn (stretchOf bay then)) (paperBuffer trace answer))
     rows-from-position = runs.by-rows bay is-bay held then (from-there xs k .stands)
 
     -- demand 2, of the next tick
-    pub demand-2-from-position : (e : ℕ) (answer : List ℕ) → number (callOf then bay (tick e answer)) ≡ 0
+    pub demand-2-from-position : (e : ℕ) (answer trace : List ℕ) → number (callOf then bay (tick e answer trace)) ≡ 0
         → (p : Statement) × StandsAt (held .sequence) (held .readBack) (stateIn (stretchOf bay then)) p × Derived p e
         × ((o : ℕ) (c : Code) (l : ℕ) (p′ : Statement) → Reacts p e (gives o c l p′)
-        → Shows p e o c l p′ (outcomeOf bay (callOf then bay (tick e answer))))
+        → Shows p e o c l p′ (outcomeOf bay trace (callOf then bay (tick e answer trace))))
     demand-2-from-position = runs.shows-rules bay is-bay held then (from-there xs k .stands)
 
 -- ---- what the claims refuse: a tick that reads the neighbour's state, a sum without the last bay, a part that is not given back, and

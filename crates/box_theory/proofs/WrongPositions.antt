@@ -25,8 +25,9 @@ use Rattle.positions.specs.Names as Names
 use Rattle.positions.specs.Names.{find, saveNamed}
 use Rattle.positions.specs.Table.{place, lookup, saveOf, forgetOf, namesBelow}
 use Rattle.demands.specs.Tick.{tickBy}
+use Rattle.recordings.specs.Recording.{following}
 use Rattle.box_calls.specs.Stretch.{stateIn, partOf, vacated, filled}
-use Rattle.box_calls.specs.BayCalls.{bayTickOf, bayReleaseOf, bayAdmitOf, baySaveOf, bayForgetOf, bayRestoreOf}
+use Rattle.box_calls.specs.BayCalls.{bayStepOf, bayTickOf, bayReleaseOf, bayAdmitOf, baySaveOf, bayForgetOf, bayRestoreOf}
 use Rattle.box_calls.specs.Box.{emptyBox, present, callOf}
 use Rattle.box_calls.specs.Lists.{Request, boxAfter}
 use Rattle.box_calls.specs.Shares as Shares
@@ -47,7 +48,7 @@ abbrev one : List Request
 one = admitted 0 twoStages ∷ ticked 0 ∷ saved 0 1 ∷ []
 
 pub not-keepsPositions : ¬ LosesPositions keepsPositions
-unfolding boxAfter callOf emptyBox present partOf vacated filled bayTickOf bayReleaseOf bayAdmitOf baySaveOf bayForgetOf bayRestoreOf saveOf forgetOf lookup place put zeros leBytes leNumber tickBy checked read front commandOf distinct wellFormed before everyLabel labelsOf subset disjoint valid active activeLabels membersFrom declaredBy commands loopNesting nesting ceiling encodeState decodeState encodeAnswer expand reactBy errorsBy reactionsBy Sets.none only member join insert remove
+unfolding boxAfter callOf emptyBox present partOf vacated filled bayStepOf bayTickOf following bayReleaseOf bayAdmitOf baySaveOf bayForgetOf bayRestoreOf saveOf forgetOf lookup place put zeros leBytes leNumber tickBy checked read front commandOf distinct wellFormed before everyLabel labelsOf subset disjoint valid active activeLabels membersFrom declaredBy commands loopNesting nesting ceiling encodeState decodeState encodeAnswer expand reactBy errorsBy reactionsBy Sets.none only member join insert remove
 not-keepsPositions h =
     let e : _≡_ {A = ℕ} 1 0 = ap labelsOrNone (h (boxAfter callOf emptyBox one) 0 .0 refl 1) in omega arith
 
@@ -56,11 +57,11 @@ abbrev replaced : List Request
 replaced = admitted 0 twoStages ∷ ticked 0 ∷ saved 0 1 ∷ ticked 0 ∷ saved 0 1 ∷ []
 
 pub not-keepsFirst : ¬ PositionsSaved keepsFirst
-unfolding savedIn saveNamed find Names.without boxAfter callOf emptyBox present partOf vacated filled bayTickOf bayReleaseOf bayAdmitOf baySaveOf bayForgetOf bayRestoreOf saveOf forgetOf lookup place put zeros leBytes leNumber tickBy checked read front commandOf distinct wellFormed before everyLabel labelsOf subset disjoint valid active activeLabels membersFrom declaredBy commands loopNesting nesting ceiling encodeState decodeState encodeAnswer expand reactBy errorsBy reactionsBy Sets.none only member join insert remove
+unfolding savedIn saveNamed find Names.without boxAfter callOf emptyBox present partOf vacated filled bayStepOf bayTickOf following bayReleaseOf bayAdmitOf baySaveOf bayForgetOf bayRestoreOf saveOf forgetOf lookup place put zeros leBytes leNumber tickBy checked read front commandOf distinct wellFormed before everyLabel labelsOf subset disjoint valid active activeLabels membersFrom declaredBy commands loopNesting nesting ceiling encodeState decodeState encodeAnswer expand reactBy errorsBy reactionsBy Sets.none only member join insert remove
 not-keepsFirst h =
     let a : 0 < 4294967296 = omega arith in
     let b : 1 < 4294967296 = omega arith in
-    let e : _≡_ {A = ℕ} 1 2 = ap labelsOrNone (h replaced (each a (each tt (each b (each tt (each b Shares.none))))) 0 (omega arith) 1) in
+    let e : _≡_ {A = ℕ} 1 2 = ap labelsOrNone (h replaced (each (a, a) (each tt (each b (each tt (each b Shares.none))))) 0 (omega arith) 1) in
     omega arith
 
 -- ---- a machine that is over, with one position
@@ -68,7 +69,7 @@ abbrev over : List Request
 over = one ++ (ticked 0 ∷ ticked 0 ∷ [])
 
 pub not-leavesPhase : ¬ ComesBack leavesPhase
-unfolding boxAfter callOf emptyBox present partOf vacated filled bayTickOf bayReleaseOf bayAdmitOf baySaveOf bayForgetOf bayRestoreOf saveOf forgetOf lookup place put zeros leBytes leNumber tickBy checked read front commandOf distinct wellFormed before everyLabel labelsOf subset disjoint valid active activeLabels membersFrom declaredBy commands loopNesting nesting ceiling encodeState decodeState encodeAnswer expand reactBy errorsBy reactionsBy Sets.none only member join insert remove
+unfolding boxAfter callOf emptyBox present partOf vacated filled bayStepOf bayTickOf following bayReleaseOf bayAdmitOf baySaveOf bayForgetOf bayRestoreOf saveOf forgetOf lookup place put zeros leBytes leNumber tickBy checked read front commandOf distinct wellFormed before everyLabel labelsOf subset disjoint valid active activeLabels membersFrom declaredBy commands loopNesting nesting ceiling encodeState decodeState encodeAnswer expand reactBy errorsBy reactionsBy Sets.none only member join insert remove
 not-leavesPhase h =
     let e : _≡_ {A = ℕ} 2 1 = ap (λ (s : List ℕ). phaseIn (stateIn s)) (h (boxAfter callOf emptyBox over) 0 1 refl .2) in omega arith
 
@@ -85,9 +86,11 @@ abbrev fullAndOver : List Request
 fullAndOver = admitted 0 twoStages ∷ ticked 0 ∷ saves 16 (ticked 0 ∷ ticked 0 ∷ [])
 
 pub not-fullFirst : ¬ InBoxes fullFirst (SaveNumbers fullFirst)
-unfolding boxAfter callOf emptyBox present partOf vacated filled bayTickOf bayReleaseOf bayAdmitOf baySaveOf bayForgetOf bayRestoreOf saveOf forgetOf lookup place namesBelow put zeros leBytes leNumber tickBy checked read front commandOf distinct wellFormed before everyLabel labelsOf subset disjoint valid active activeLabels membersFrom declaredBy commands loopNesting nesting ceiling encodeState decodeState encodeAnswer expand reactBy errorsBy reactionsBy Sets.none only member join insert remove
+unfolding boxAfter callOf emptyBox present partOf vacated filled bayStepOf bayTickOf following bayReleaseOf bayAdmitOf baySaveOf bayForgetOf bayRestoreOf saveOf forgetOf lookup place namesBelow put zeros leBytes leNumber tickBy checked read front commandOf distinct wellFormed before everyLabel labelsOf subset disjoint valid active activeLabels membersFrom declaredBy commands loopNesting nesting ceiling encodeState decodeState encodeAnswer expand reactBy errorsBy reactionsBy Sets.none only member join insert remove
 not-fullFirst h =
+    let k : 0 < 4294967296 = omega arith in
+    let sets : (0 < 4294967296) × (0 < 4294967296) = (k, k) in
     let s : AllSendable fullAndOver =
-    each (let k : 0 < 4294967296 = omega arith in k)
+    each sets
     (each tt (saves-sendable 16 (omega arith) (ticked 0 ∷ ticked 0 ∷ []) (each tt (each tt Shares.none)))) in
     let e : _≡_ {A = ℕ} 16 15 = h fullAndOver s 0 (omega arith) (λ z. omega arith) 16 .0 .1 (λ z. omega arith) in omega arith
