@@ -9,5 +9,6 @@ pub mod Worked
 pub mod WorkedPositions
 pub mod Claims
 pub mod Positions
+pub mod Instants
 pub mod WrongBoxes
 pub mod WrongPositions

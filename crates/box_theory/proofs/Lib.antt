@@ -12,6 +12,7 @@ pub mod Reached
 pub mod Named
 pub mod Rounds
 pub mod BayRuns
+pub mod Instants
 pub mod Returns
 pub mod WrongPositions
 pub mod Theorems

@@ -1,4 +1,4 @@
--- The theorems about a box (02, items 8 and 9): of the definitions of the calls, which the code meets for all arguments.
+-- The theorems about a box (02, items 8 to 10): of the definitions of the calls, which the code meets for all arguments.
 use Prim.Native.Nat.{ℕ, _<_}
 use mathlib.Core.Path.{_≡_, refl, sym, _∙_}
 use mathlib.Core.Logic.{_≢_}
@@ -18,6 +18,7 @@ use Rattle.demands.specs.TickRows.{TickRow}
 use Rattle.demands.specs.Demands as demands
 use Rattle.demands.specs.Demands.{outcomes, cleared, report, StandsAt, Derived, Shows}
 use Rattle.demands.specs.Paper.{paper}
+use Rattle.recordings.specs.Recording.{recordingOf}
 use Rattle.positions.specs.Names.{find}
 use Rattle.positions.specs.Table.{lookup}
 use Rattle.box_calls.specs.Called.{number, memoryAfter}
@@ -28,6 +29,7 @@ use Rattle.box_calls.specs.Shares.{Sendable, AllSendable}
 use Rattle.box_calls.specs.BayRuns.{paperBuffer, ticksTo, outcomeOf, tickOutcomes, Onwards}
 use Rattle.box_calls.specs.Claims.{RefusalsLeave, OthersStay, Isolated, BySum, InBoxes, CeilingsStored, WithinCeiling, RoundsWithin, AdmitsBySum, GivesBack, Thirteen, NoBox, Fourteen, BoxDemands}
 use Rattle.box_calls.specs.Positions.{savedIn, PositionsSaved, PositionsValid, SaveNumbers, KnownOnly, ComesBack, LosesPositions, PositionDemands}
+use Rattle.box_calls.specs.Instants.{recordsIn, inputsIn, RecordIs, NumberedFromOne, ServiceOnlyFixed, ServiceShows, PanelShows, PanelsAlike, RecordDemands}
 use Rattle.box_calls.specs.WrongBoxes as wrong
 use Rattle.box_calls.proofs.WrongBoxes as refuted
 use Rattle.box_calls.specs.WrongPositions as slips
@@ -40,6 +42,7 @@ use Rattle.box_theory.proofs.Rounds as rounds
 use Rattle.box_theory.proofs.BayRuns as runs
 use Rattle.box_theory.proofs.Named as named
 use Rattle.box_theory.proofs.Returns as returns
+use Rattle.box_theory.proofs.Instants as instants
 
 -- ---- every box, whatever its bytes
 -- 'A refused call changes nothing in the box', nor in the buffers that it was lent
@@ -250,6 +253,53 @@ module _ (zs : List Request) (sent : AllSendable zs) (bay name : ℕ)
         × ((o : ℕ) (c : Code) (l : ℕ) (p′ : Statement) → Reacts p e (gives o c l p′)
         → Shows p e o c l p′ (outcomeOf bay trace (callOf then bay (tick e answer trace))))
     demand-2-from-position = runs.shows-rules bay is-bay held then (from-there xs k .stands)
+
+-- ---- records (02, item 10)
+-- 'Each instant of a bay leaves in lent memory a record': the number that follows the bay's, the inputs, the answer and the next state;
+-- 'A call turned down leaves no record' is refusals-leave
+pub record-is : RecordIs callOf
+record-is = instants.record-is
+
+-- 'from 1 at admission, going on after coming back to a position, staying at the greatest'
+pub numbered-from-one : NumberedFromOne callOf
+numbered-from-one = instants.numbered-from-one
+
+-- 'a set of service-only signals, fixed on admission'
+pub service-only-fixed : ServiceOnlyFixed callOf
+service-only-fixed = instants.service-only-fixed
+
+-- 'The bay's service reader shows the record whole'
+pub service-shows : ServiceShows callOf
+service-shows = instants.service-shows
+
+-- 'The bay's panel reader shows .. number, code, inputs and emitted set, with service-only signals cleared in both sets'
+pub panel-shows : PanelShows callOf
+panel-shows = instants.panel-shows
+
+-- 'Two records give one bay's panel the same bytes exactly if they agree in number, code and, service-only signals aside, inputs and
+-- emitted set'
+pub panels-alike : PanelsAlike callOf
+panels-alike = instants.panels-alike
+
+-- ITEM 10, of the calls
+pub record-demands : RecordDemands callOf
+record-demands =
+    record {
+      record-is = record-is;
+      numbered-from-one = numbered-from-one;
+      service-only-fixed = service-only-fixed;
+      service-shows = service-shows;
+      panel-shows = panel-shows;
+      panels-alike = panels-alike;
+    }
+
+-- from an admission up to the first coming back to a position or the taking out, the records are the recording of the sequence on the
+-- inputs of the instants: what item 14 checks
+pub records-in-bay : (box : List ℕ) (bay : ℕ) (t : Terms) → Sendable (admit t) → number (callOf box bay (admit t)) ≡ 0
+    → (xs : List Request) → Onwards bay (memoryAfter (callOf box bay (admit t))) xs
+    → recordsIn callOf bay (memoryAfter (callOf box bay (admit t))) xs
+    ≡ recordingOf (t .sequence) (t .readBack) (inputsIn callOf bay (memoryAfter (callOf box bay (admit t))) xs)
+records-in-bay = instants.records-are
 
 -- ---- what the claims refuse: a tick that reads the neighbour's state, a sum without the last bay, a part that is not given back, and
 -- a refusal that writes

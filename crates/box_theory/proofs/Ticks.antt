@@ -86,7 +86,7 @@ module _ (s : List ℕ) (z : length s ≡ stretchLength) (e : ℕ) (answer trace
   unfolding bayTickOf
   unlike-tick n = rw (ne-eqb (length trace) recordLength n)
 
-  like-buffer : length trace ≡ recordLength → (b : List ℕ) → paperBuffer trace b ≡ b
+  pub like-buffer : length trace ≡ recordLength → (b : List ℕ) → paperBuffer trace b ≡ b
   like-buffer j b = rw (eq-eqb (length trace) recordLength j)
 
   unlike-inner : length trace ≢ recordLength → inner ≡ outcome 1 (stateIn s) (paperBuffer trace answer)
