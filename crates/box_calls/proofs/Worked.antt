@@ -18,13 +18,20 @@ use Rattle.states.specs.StateRecord.{encodeState, decodeState}
 use Rattle.answers.specs.AnswerRecord.{encodeAnswer}
 use Rattle.parts.specs.Parts.{put, zeros}
 use Rattle.demands.specs.Tick.{tickBy}
+use Rattle.sets.specs.Sets.{difference}
+use Rattle.recordings.specs.Record.{recordLength, panelOf}
 use Rattle.recordings.specs.Recording.{following}
 use Rattle.box_calls.specs.Stretch.{partOf, vacated, filled}
 use Rattle.positions.specs.Table.{place, lookup, saveOf, forgetOf}
-use Rattle.box_calls.specs.BayCalls.{bayStepOf, bayTickOf, bayReleaseOf, bayAdmitOf, baySaveOf, bayForgetOf, bayRestoreOf}
+use Rattle.box_calls.specs.BayCalls.{bayStepOf, bayTickOf, bayReleaseOf, bayAdmitOf, baySaveOf, bayForgetOf, bayRestoreOf, bayServiceOf, bayPanelOf}
 use Rattle.box_calls.specs.Box.{emptyBox, present, callOf}
 use Rattle.box_calls.specs.Worked.{otherwise, bays, shares, admissions, elsewhere}
 use Rattle.box_calls.specs.WorkedPositions.{positions}
+use Rattle.box_calls.specs.Lists.{boxAfter}
+use Rattle.box_calls.specs.Instants.{recordsIn}
+use Rattle.box_calls.specs.WorkedRecords.{numbers, leftByRefusal, lengths, shownOnPanel}
+use mathlib.Core.List.{[], _∷_}
+use lib.ListN.{replicate}
 
 pub bays-worked : otherwise callOf emptyBox bays ≡ 0
 unfolding otherwise callOf emptyBox present partOf vacated filled bayStepOf bayTickOf following bayReleaseOf bayAdmitOf put zeros leBytes leNumber tickBy checked read front commandOf distinct wellFormed before everyLabel labelsOf subset disjoint valid active activeLabels membersFrom declaredBy commands loopNesting nesting ceiling encodeState decodeState encodeAnswer expand reactBy errorsBy reactionsBy none only member join insert remove
@@ -45,3 +52,20 @@ elsewhere-worked = refl
 pub positions-worked : otherwise callOf emptyBox positions ≡ 0
 unfolding otherwise callOf emptyBox present partOf vacated filled bayStepOf bayTickOf following bayReleaseOf bayAdmitOf baySaveOf bayForgetOf bayRestoreOf saveOf forgetOf lookup place put zeros leBytes leNumber tickBy checked read front commandOf distinct wellFormed before everyLabel labelsOf subset disjoint valid active activeLabels membersFrom declaredBy commands loopNesting nesting ceiling encodeState decodeState encodeAnswer expand reactBy errorsBy reactionsBy none only member join insert remove
 positions-worked = refl
+
+-- ---- records
+pub numbers-worked : numbers callOf ≡ 1 ∷ 2 ∷ 3 ∷ 1 ∷ []
+unfolding recordsIn callOf emptyBox present partOf vacated filled bayStepOf bayTickOf following bayReleaseOf bayAdmitOf baySaveOf bayForgetOf bayRestoreOf saveOf forgetOf lookup place put zeros leBytes leNumber tickBy checked read front commandOf distinct wellFormed before everyLabel labelsOf subset disjoint valid active activeLabels membersFrom declaredBy commands loopNesting nesting ceiling encodeState decodeState encodeAnswer expand reactBy errorsBy reactionsBy none only member join insert remove
+numbers-worked = refl
+
+pub refusal-worked : leftByRefusal callOf ≡ replicate recordLength 77
+unfolding boxAfter callOf emptyBox present partOf vacated filled bayStepOf bayTickOf following bayReleaseOf bayAdmitOf baySaveOf bayForgetOf bayRestoreOf saveOf forgetOf lookup place put zeros leBytes leNumber tickBy checked read front commandOf distinct wellFormed before everyLabel labelsOf subset disjoint valid active activeLabels membersFrom declaredBy commands loopNesting nesting ceiling encodeState decodeState encodeAnswer expand reactBy errorsBy reactionsBy none only member join insert remove
+refusal-worked = refl
+
+pub lengths-worked : otherwise callOf emptyBox lengths ≡ 0
+unfolding bayServiceOf bayPanelOf panelOf difference otherwise callOf emptyBox present partOf vacated filled bayStepOf bayTickOf following bayReleaseOf bayAdmitOf baySaveOf bayForgetOf bayRestoreOf saveOf forgetOf lookup place put zeros leBytes leNumber tickBy checked read front commandOf distinct wellFormed before everyLabel labelsOf subset disjoint valid active activeLabels membersFrom declaredBy commands loopNesting nesting ceiling encodeState decodeState encodeAnswer expand reactBy errorsBy reactionsBy none only member join insert remove
+lengths-worked = refl
+
+pub panel-worked : shownOnPanel callOf ≡ 2 ∷ 1 ∷ 0 ∷ 0 ∷ 1 ∷ 1 ∷ 0 ∷ 0 ∷ 0 ∷ 2 ∷ 0 ∷ 0 ∷ 0 ∷ []
+unfolding boxAfter bayPanelOf panelOf difference callOf emptyBox present partOf vacated filled bayStepOf bayTickOf following bayReleaseOf bayAdmitOf baySaveOf bayForgetOf bayRestoreOf saveOf forgetOf lookup place put zeros leBytes leNumber tickBy checked read front commandOf distinct wellFormed before everyLabel labelsOf subset disjoint valid active activeLabels membersFrom declaredBy commands loopNesting nesting ceiling encodeState decodeState encodeAnswer expand reactBy errorsBy reactionsBy none only member join insert remove
+panel-worked = refl

@@ -1,19 +1,19 @@
 -- The instants of a bay over a list of calls (02, item 10): the records that they leave, and what 02 says of them, each sentence a
 -- predicate of any function in the place of `callOf`, which box_theory has of `callOf`.
-use Prim.Native.Nat.{ℕ, suc, _+_, _≤_, min}
+use Prim.Native.Nat.{ℕ, _+_, _≤_, _<_, min}
 use mathlib.Core.Path.{_≡_}
 use mathlib.Core.Logic.{_≢_, _↔_}
 use mathlib.Core.Bool.{cond}
 use mathlib.Core.Option.{some}
 use mathlib.Core.List.{List, [], _∷_}
-use lib.ListN.{getElem?}
+use lib.ListN.{length, getElem?}
 use lib.Dec.{eqb}
 use Rattle.limits.specs.Limits.{lastNumber}
-use Rattle.recordings.specs.Record.{recordOf, numberIn, panelOf, Bytes, Agree}
+use Rattle.recordings.specs.Record.{recordLength, recordOf, numberIn, panelLength, panelOf, Bytes, Agree}
 use Rattle.recordings.specs.Recording.{following}
 use Rattle.box_calls.specs.Called.{Called, called, number, memoryAfter, lentAfter, first}
-use Rattle.box_calls.specs.Stretch.{stateIn, countIn, serviceOnlyIn, Terms}
-use Rattle.box_calls.specs.Box.{stretchOf, Call, admit, release, tick, save, restore, forget, service, panel}
+use Rattle.box_calls.specs.Stretch.{lengthIn, stateIn, countIn, serviceOnlyIn, Terms}
+use Rattle.box_calls.specs.Box.{bayCount, boxLength, stretchOf, Call, admit, release, tick, save, restore, forget, service, panel}
 use Rattle.box_calls.specs.Lists.{Calling, Request, afterCall, boxAfter}
 use Rattle.box_calls.specs.Shares.{Sendable}
 
@@ -118,6 +118,18 @@ PanelsAlike call =
     → (lentAfter (call box bay (panel r view)) ≡ lentAfter (call box bay (panel s view′)))
     ↔ Agree (serviceOnlyIn (stretchOf bay box)) r s
 
+-- 'number 1 for a record or service bytes not of 37, or panel bytes not 13', of a filled bay
+abbrev pub ReaderNumbers : Calling → ((trace view : List ℕ) → Call) → (viewLength : ℕ) → Type 0
+ReaderNumbers call reader viewLength =
+    (box : List ℕ) → length box ≡ boxLength → (bay : ℕ) → bay < bayCount → lengthIn (stretchOf bay box) ≢ 0 → (trace view : List ℕ)
+    → ((number (call box bay (reader trace view)) ≡ 0) ↔ ((length trace ≡ recordLength) × (length view ≡ viewLength)))
+    × (number (call box bay (reader trace view)) ≢ 0 → number (call box bay (reader trace view)) ≡ 1)
+
+abbrev pub RecordLength : Calling → Type 0
+RecordLength call =
+    (box : List ℕ) → length box ≡ boxLength → (bay : ℕ) → bay < bayCount → lengthIn (stretchOf bay box) ≢ 0
+    → (e : ℕ) (answer trace : List ℕ) → length trace ≢ recordLength → number (call box bay (tick e answer trace)) ≡ 1
+
 pub record RecordDemands (call : Calling) : Type 0 where
   pub record-is : RecordIs call
   pub numbered-from-one : NumberedFromOne call
@@ -125,3 +137,6 @@ pub record RecordDemands (call : Calling) : Type 0 where
   pub service-shows : ServiceShows call
   pub panel-shows : PanelShows call
   pub panels-alike : PanelsAlike call
+  pub service-numbers : ReaderNumbers call service recordLength
+  pub panel-numbers : ReaderNumbers call panel panelLength
+  pub record-length : RecordLength call

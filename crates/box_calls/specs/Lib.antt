@@ -10,5 +10,6 @@ pub mod WorkedPositions
 pub mod Claims
 pub mod Positions
 pub mod Instants
+pub mod WorkedRecords
 pub mod WrongBoxes
 pub mod WrongPositions

@@ -12,7 +12,7 @@ twoStages = 0x04 ∷ 0x01 ∷ 0x00 ∷ 0x04 ∷ 0x01 ∷ 0x01 ∷ 0x00 ∷ []
 abbrev pub saved : (bay name : ℕ) → Request
 saved bay name = record { bay = bay; call = save name }
 
-abbrev restored : (bay name : ℕ) → Request
+abbrev pub restored : (bay name : ℕ) → Request
 restored bay name = record { bay = bay; call = restore name }
 
 abbrev forgotten : (bay name : ℕ) → Request

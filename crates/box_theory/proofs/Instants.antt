@@ -19,7 +19,7 @@ use Rattle.numbers.specs.Bytes.{leBytes, leNumber}
 use Rattle.numbers.proofs.Bytes.{length-leBytes, le-round-trip}
 use Rattle.states.specs.StateRecord.{stateLength, encodeState, Decoded, holds, malformed, decodeState}
 use Rattle.states.proofs.StateLaws.{length-state}
-use Rattle.recordings.specs.Record.{recordOf, numberIn, panelOf}
+use Rattle.recordings.specs.Record.{recordLength, recordOf, numberIn, panelLength, panelOf}
 use Rattle.recordings.specs.Recording.{following, blank, tickOn, recordFrom, recordsFrom, recordingOf}
 use Rattle.recordings.proofs.Records.{number-field}
 use Rattle.recordings.proofs.Theorems.{following-is, panel-alike}
@@ -36,15 +36,15 @@ use Rattle.box_calls.specs.Stretch.{sequenceAt, stateAt, countAt, positionsAt, 
 use Rattle.box_calls.specs.BayCalls.{bayTickOf, bayAdmitOf, bayRestoreOf}
 use Rattle.box_calls.specs.BayRuns.{Onward, Onwards}
 use Rattle.box_calls.specs.BayRuns as Runs
-use Rattle.box_calls.specs.Box.{bayCount, boxLength, stretchOf, present, Call, admit, release, tick, save, restore, forget, service, panel, bayCall, callOf}
+use Rattle.box_calls.specs.Box.{bayCount, boxLength, stretchOf, present, Call, admit, release, tick, save, restore, forget, service, panel, bayCall, isFor, callOf}
 use Rattle.box_calls.specs.Lists.{Request, afterCall, boxAfter}
-use Rattle.box_calls.specs.Instants.{second, recordsIn, inputsIn, Stays, NotTakenOut, done, more, RecordIs, ServiceShows, PanelShows, PanelsAlike}
+use Rattle.box_calls.specs.Instants.{second, recordsIn, inputsIn, Stays, NotTakenOut, done, more, RecordIs, ServiceShows, PanelShows, PanelsAlike, ReaderNumbers, RecordLength}
 use Rattle.box_calls.specs.Shares.{Sendable}
 use Rattle.box_calls.proofs.Fields.{Holds, behind-holds, moved-holds, filled-zeros}
 use Rattle.box_theory.proofs.Moves as moves
 use Rattle.box_theory.proofs.Moves.{Moved, save-moved, forget-moved}
-use Rattle.box_theory.proofs.Ticks.{written, length-stepped, like-buffer, Ticked, down, instant, ticked}
-use Rattle.box_theory.proofs.Readers.{service-reads, panel-reads}
+use Rattle.box_theory.proofs.Ticks.{written, length-stepped, like-buffer, unlike-tick, Ticked, down, instant, ticked}
+use Rattle.box_theory.proofs.Readers.{service-reads, panel-reads, service-lengths, panel-lengths}
 use Rattle.box_theory.proofs.Bays as Bays
 use Rattle.box_theory.proofs.Bays.{ceilingFor, bounds, Admission, admission}
 use Rattle.box_theory.proofs.Positions.{Known, unknown, known, is-known, restore-known, restore-unknown}
@@ -467,3 +467,25 @@ panels-alike box bay r s view view′ i j n m =
       λ h. k .0 (ap first (sym x ∙ h ∙ y)),
       λ h. x ∙ ap (λ (b : List ℕ). b ∷ []) (k .1 h) ∙ sym y,
     )
+
+-- ---- the numbers by the lengths
+filled-number : (box : List ℕ) → length box ≡ boxLength → (bay : ℕ) → bay < bayCount → (c : Call) → isFor c (stretchOf bay box) ≡ true
+    → number (callOf box bay c) ≡ number (bayCall (present bayCount box) c (stretchOf bay box))
+filled-number box z bay b c i = ap number (own box bay c b z) ∙ rw i
+
+pub service-numbers : ReaderNumbers callOf service recordLength
+service-numbers box z bay b f trace view =
+    let e = filled-number box z bay b (service trace view) (rw (ne-eqb (lengthIn (stretchOf bay box)) 0 f)) in
+    let k = service-lengths (stretchOf bay box) trace view in
+    ((λ n. k .0 .0 (sym e ∙ n), λ n. e ∙ k .0 .1 n), λ n. e ∙ k .1 (λ y. n (e ∙ y)))
+
+pub panel-numbers : ReaderNumbers callOf panel panelLength
+panel-numbers box z bay b f trace view =
+    let e = filled-number box z bay b (panel trace view) (rw (ne-eqb (lengthIn (stretchOf bay box)) 0 f)) in
+    let k = panel-lengths (stretchOf bay box) trace view in
+    ((λ n. k .0 .0 (sym e ∙ n), λ n. e ∙ k .0 .1 n), λ n. e ∙ k .1 (λ y. n (e ∙ y)))
+
+pub record-length : RecordLength callOf
+record-length box z bay b f e answer trace n =
+    filled-number box z bay b (tick e answer trace) (rw (ne-eqb (lengthIn (stretchOf bay box)) 0 f))
+    ∙ ap number (unlike-tick (stretchOf bay box) (stretch-sized box bay (tick e answer trace) b z) e answer trace n)

@@ -1,12 +1,14 @@
 -- The readers of a record on a bay's stretch: they leave it, and show what they show or leave the view.
 use Prim.Native.Nat.{ℕ, _≤_}
 use native.Mathlib.Omega.{arith}
+use native.Mathlib.Decide.{ℕ-discrete}
 use mathlib.Core.Path.{_≡_, refl}
-use mathlib.Core.Logic.{_≢_}
+use mathlib.Core.Logic.{_≢_, _↔_}
 use mathlib.Core.Bool.{Bool, true, false, _&&_, cond}
 use mathlib.Core.List.{List, [], _∷_}
 use lib.ListN.{length}
 use lib.Dec.{eqb}
+use borrow.Author.Tests.{eq-eqb, ne-eqb}
 use Rattle.recordings.specs.Record.{recordLength, panelLength, panelOf}
 use Rattle.box_calls.specs.Called.{Called, called, number, memoryAfter}
 use Rattle.box_calls.specs.Stretch.{serviceOnlyIn}
@@ -24,6 +26,30 @@ reads s shown viewLength trace view = go (eqb (length trace) recordLength && eqb
     go : (b : Bool) → Reads s shown view (cond b (called 0 s (shown ∷ [])) (called 1 s (view ∷ [])))
     go true = record { left = refl; shows = λ n. refl; refused = λ n. absurd (n refl); low = omega arith }
     go false = record { left = refl; shows = λ n. absurd (omega arith); refused = λ n. refl; low = omega arith }
+
+-- the numbers, by the two lengths
+abbrev ByLengths : (viewLength : ℕ) (trace view : List ℕ) → Called → Type 0
+ByLengths viewLength trace view o =
+    ((number o ≡ 0) ↔ ((length trace ≡ recordLength) × (length view ≡ viewLength))) × (number o ≢ 0 → number o ≡ 1)
+
+by-lengths : (s shown : List ℕ) (viewLength : ℕ) (trace view : List ℕ) → ByLengths viewLength trace view (showing s shown viewLength trace view)
+by-lengths s shown viewLength trace view =
+    elim (ℕ-discrete (length trace) recordLength) [
+      | yes i ↦ elim (ℕ-discrete (length view) viewLength) [
+        | yes j ↦ rw (eq-eqb (length trace) recordLength i, eq-eqb (length view) viewLength j) ((λ n. (i, j), λ n. refl), λ n. absurd (n refl))
+        | no j ↦ rw (eq-eqb (length trace) recordLength i, ne-eqb (length view) viewLength j)
+            ((λ n. absurd (omega arith), λ n. absurd (j (n .1))), λ n. refl)
+      ]
+      | no i ↦ rw (ne-eqb (length trace) recordLength i) ((λ n. absurd (omega arith), λ n. absurd (i (n .0))), λ n. refl)
+    ]
+
+pub service-lengths : (s trace view : List ℕ) → ByLengths recordLength trace view (bayServiceOf s trace view)
+unfolding bayServiceOf
+service-lengths s trace view = by-lengths s trace recordLength trace view
+
+pub panel-lengths : (s trace view : List ℕ) → ByLengths panelLength trace view (bayPanelOf s trace view)
+unfolding bayPanelOf
+panel-lengths s trace view = by-lengths s (panelOf (serviceOnlyIn s) trace) panelLength trace view
 
 pub service-reads : (s trace view : List ℕ) → Reads s trace view (bayServiceOf s trace view)
 unfolding bayServiceOf

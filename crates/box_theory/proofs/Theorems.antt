@@ -18,18 +18,19 @@ use Rattle.demands.specs.TickRows.{TickRow}
 use Rattle.demands.specs.Demands as demands
 use Rattle.demands.specs.Demands.{outcomes, cleared, report, StandsAt, Derived, Shows}
 use Rattle.demands.specs.Paper.{paper}
+use Rattle.recordings.specs.Record.{recordLength, panelLength}
 use Rattle.recordings.specs.Recording.{recordingOf}
 use Rattle.positions.specs.Names.{find}
 use Rattle.positions.specs.Table.{lookup}
 use Rattle.box_calls.specs.Called.{number, memoryAfter}
 use Rattle.box_calls.specs.Stretch.{sequenceIn, readBackIn, serviceOnlyIn, stateIn, positionsIn, Terms, terms}
-use Rattle.box_calls.specs.Box.{bayCount, boxLength, emptyBox, stretchOf, admit, release, tick, restore, forget, callOf}
+use Rattle.box_calls.specs.Box.{bayCount, boxLength, emptyBox, stretchOf, admit, release, tick, restore, forget, service, panel, callOf}
 use Rattle.box_calls.specs.Lists.{Request, boxAfter, asked, answers}
 use Rattle.box_calls.specs.Shares.{Sendable, AllSendable}
 use Rattle.box_calls.specs.BayRuns.{paperBuffer, ticksTo, outcomeOf, tickOutcomes, Onwards}
 use Rattle.box_calls.specs.Claims.{RefusalsLeave, OthersStay, Isolated, BySum, InBoxes, CeilingsStored, WithinCeiling, RoundsWithin, AdmitsBySum, GivesBack, Thirteen, NoBox, Fourteen, BoxDemands}
 use Rattle.box_calls.specs.Positions.{savedIn, PositionsSaved, PositionsValid, SaveNumbers, KnownOnly, ComesBack, LosesPositions, PositionDemands}
-use Rattle.box_calls.specs.Instants.{recordsIn, inputsIn, RecordIs, NumberedFromOne, ServiceOnlyFixed, ServiceShows, PanelShows, PanelsAlike, RecordDemands}
+use Rattle.box_calls.specs.Instants.{recordsIn, inputsIn, RecordIs, NumberedFromOne, ServiceOnlyFixed, ServiceShows, PanelShows, PanelsAlike, ReaderNumbers, RecordLength, RecordDemands}
 use Rattle.box_calls.specs.WrongBoxes as wrong
 use Rattle.box_calls.proofs.WrongBoxes as refuted
 use Rattle.box_calls.specs.WrongPositions as slips
@@ -281,6 +282,16 @@ panel-shows = instants.panel-shows
 pub panels-alike : PanelsAlike callOf
 panels-alike = instants.panels-alike
 
+-- 'number 1 for a record or service bytes not of 37, or panel bytes not 13'
+pub service-numbers : ReaderNumbers callOf service recordLength
+service-numbers = instants.service-numbers
+
+pub panel-numbers : ReaderNumbers callOf panel panelLength
+panel-numbers = instants.panel-numbers
+
+pub record-length : RecordLength callOf
+record-length = instants.record-length
+
 -- ITEM 10, of the calls
 pub record-demands : RecordDemands callOf
 record-demands =
@@ -291,6 +302,9 @@ record-demands =
       service-shows = service-shows;
       panel-shows = panel-shows;
       panels-alike = panels-alike;
+      service-numbers = service-numbers;
+      panel-numbers = panel-numbers;
+      record-length = record-length;
     }
 
 -- from an admission up to the first coming back to a position or the taking out, the records are the recording of the sequence on the

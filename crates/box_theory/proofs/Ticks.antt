@@ -82,7 +82,7 @@ module _ (s : List ℕ) (z : length s ≡ stretchLength) (e : ℕ) (answer trace
   unfolding bayTickOf bayStepOf
   like-tick j = rw (eq-eqb (length trace) recordLength j)
 
-  unlike-tick : length trace ≢ recordLength → bayTickOf s e answer trace ≡ called 1 s (answer ∷ trace ∷ [])
+  pub unlike-tick : length trace ≢ recordLength → bayTickOf s e answer trace ≡ called 1 s (answer ∷ trace ∷ [])
   unfolding bayTickOf
   unlike-tick n = rw (ne-eqb (length trace) recordLength n)
 
