@@ -1,6 +1,7 @@
 -- The boxes worked by hand, by computation.
 use mathlib.Core.Path.{_≡_, refl}
-use mathlib.Core.List.{[]}
+use mathlib.Core.List.{[], _∷_}
+use lib.ListN.{replicate}
 use Rattle.esterel.specs.Sets.{none, only, member, join, insert, remove}
 use Rattle.esterel.specs.Reaction.{reactBy}
 use Rattle.esterel.specs.Errors.{errorsBy}
@@ -10,6 +11,7 @@ use Rattle.esterel.specs.States.{active}
 use Rattle.esterel.specs.Expansion.{expand}
 use Rattle.esterel.specs.ReadBack.{membersFrom, declaredBy}
 use Rattle.esterel.specs.Ceiling.{commands, loopNesting, nesting, ceiling}
+use Rattle.sets.specs.Sets.{difference}
 use Rattle.sequence.specs.Commands.{commandOf}
 use Rattle.sequence.specs.Reader.{front, read}
 use Rattle.sequence.specs.Check.{checked}
@@ -18,20 +20,17 @@ use Rattle.states.specs.StateRecord.{encodeState, decodeState}
 use Rattle.answers.specs.AnswerRecord.{encodeAnswer}
 use Rattle.parts.specs.Parts.{put, zeros}
 use Rattle.demands.specs.Tick.{tickBy}
-use Rattle.sets.specs.Sets.{difference}
 use Rattle.recordings.specs.Record.{recordLength, panelOf}
 use Rattle.recordings.specs.Recording.{following}
 use Rattle.box_calls.specs.Stretch.{partOf, vacated, filled}
 use Rattle.positions.specs.Table.{place, lookup, saveOf, forgetOf}
 use Rattle.box_calls.specs.BayCalls.{bayStepOf, bayTickOf, bayReleaseOf, bayAdmitOf, baySaveOf, bayForgetOf, bayRestoreOf, bayServiceOf, bayPanelOf}
 use Rattle.box_calls.specs.Box.{emptyBox, present, callOf}
-use Rattle.box_calls.specs.Worked.{otherwise, bays, shares, admissions, elsewhere}
-use Rattle.box_calls.specs.WorkedPositions.{positions}
 use Rattle.box_calls.specs.Lists.{boxAfter}
 use Rattle.box_calls.specs.Instants.{recordsIn}
+use Rattle.box_calls.specs.Worked.{otherwise, bays, shares, admissions, elsewhere}
+use Rattle.box_calls.specs.WorkedPositions.{positions}
 use Rattle.box_calls.specs.WorkedRecords.{numbers, leftByRefusal, lengths, shownOnPanel}
-use mathlib.Core.List.{[], _∷_}
-use lib.ListN.{replicate}
 
 pub bays-worked : otherwise callOf emptyBox bays ≡ 0
 unfolding otherwise callOf emptyBox present partOf vacated filled bayStepOf bayTickOf following bayReleaseOf bayAdmitOf put zeros leBytes leNumber tickBy checked read front commandOf distinct wellFormed before everyLabel labelsOf subset disjoint valid active activeLabels membersFrom declaredBy commands loopNesting nesting ceiling encodeState decodeState encodeAnswer expand reactBy errorsBy reactionsBy none only member join insert remove

@@ -4,7 +4,7 @@ use mathlib.Core.List.{List, [], _∷_, map}
 use lib.ListN.{replicate}
 use Rattle.states.specs.StateRecord.{stateRecord}
 use Rattle.answers.specs.AnswerRecord.{answerLength, answerRecord}
-use Rattle.recordings.specs.Record.{recordLength, recordOf, numberIn, panelLength}
+use Rattle.recordings.specs.Record.{recordOf, numberIn, panelLength}
 use Rattle.box_calls.specs.Called.{lentAfter, first}
 use Rattle.box_calls.specs.Box.{emptyBox, admit, tick, service, panel}
 use Rattle.box_calls.specs.Lists.{Calling, Request, boxAfter}

@@ -4,7 +4,7 @@ use native.Mathlib.Omega.{arith}
 use native.Mathlib.Decide.{ℕ-discrete}
 use mathlib.Core.Path.{_≡_, refl, sym, ap, ap₂, _∙_, subst}
 use mathlib.Core.Logic.{_≢_}
-use mathlib.Core.Bool.{Bool, true, false, cond}
+use mathlib.Core.Bool.{true, false, cond}
 use mathlib.Core.Option.{some, Option·none-ne-some}
 use mathlib.Core.List.{List, [], _∷_}
 use lib.ListN.{length, getElem?}
@@ -87,7 +87,7 @@ module _ (box : List ℕ) (bay e : ℕ) (answer trace : List ℕ) (n : number (c
             state = state;
             answered = answered;
             sized = l;
-            told = ap (λ (r : List ℕ). tickOf (sequenceIn stretch) (stateIn stretch) e (readBackIn stretch) r) (sym (like-buffer stretch z e answer trace j answer)) ∙ q;
+            told = ap (tickOf (sequenceIn stretch) (stateIn stretch) e (readBackIn stretch)) (sym (like-buffer stretch z e answer trace j answer)) ∙ q;
             lent = ap lentAfter (own box bay c b sized-box) ∙ ap lentAfter (answered-there box bay c n .1) ∙ ap lentAfter w;
             after = stretch-after box bay c n ∙ ap memoryAfter w;
           }
@@ -107,7 +107,8 @@ module _ (box : List ℕ) (bay e : ℕ) (answer trace : List ℕ) (n : number (c
     pub written-count : countIn stretch ≤ lastNumber → countIn (written stretch z e answer trace state) ≡ following (countIn stretch)
     written-count h =
         let k = length-stepped stretch z e answer trace state l in
-        ap leNumber (slot-put countAt numberBytes count (put stateAt stateLength state stretch) (omega arith) (length-leBytes numberBytes (following (countIn stretch))))
+        ap leNumber (slot-put countAt numberBytes count (put stateAt stateLength state stretch) (omega arith)
+        (length-leBytes numberBytes (following (countIn stretch))))
         ∙ le-round-trip numberBytes (following (countIn stretch)) (omega (arith, following-is (countIn stretch) h))
 
 -- a tick answered 0 comes to the same with every buffer of its length
@@ -398,7 +399,8 @@ module _ (box : List ℕ) (bay : ℕ) (t : Terms) (small : Sendable (admit t)) (
       go (Bays.turned-down n y e) = absurd (y (sym (ap number e) ∙ bay-answered box bay (admit t) admitted))
       go (Bays.taken c room e) =
           ap (λ (o : Called). countIn (memoryAfter o)) e
-          ∙ ap leNumber (filled-zeros t (ceilingFor t) r sized (bounds t (accepted (t .sequence) (t .readBack) c) .1) countAt numberBytes (omega arith) (omega arith))
+          ∙ ap leNumber (filled-zeros t (ceilingFor t) r sized (bounds t (accepted (t .sequence) (t .readBack) c) .1) countAt numberBytes
+          (omega arith) (omega arith))
           ∙ zeros-number numberBytes
 
   pub here : Here bay (runs.is-bay box bay t small admitted) t (runs.begun box bay t small admitted .here .1 .accepted) from

@@ -18,12 +18,12 @@ use Rattle.box_calls.specs.Called.{called, number}
 use Rattle.box_calls.specs.Stretch.{stretchLength, lengthIn, isEmpty, sequenceIn, readBackIn, stateIn, Terms, filled}
 use Rattle.box_calls.specs.BayCalls.{sharedCeiling, byCheck, bayReleaseOf, bayAdmitOf}
 use Rattle.box_calls.specs.Box.{bayCount, boxLength, stretchOf, present, Call, admit, release, tick, save, restore, forget, service, panel, buffers, bayCall, isFor, callOf}
+use Rattle.box_calls.specs.BayRuns.{paperBuffer}
 use Rattle.box_calls.specs.Claims.{NotThere, Thirteen, NoBox}
 use Rattle.box_theory.proofs.Moves.{moved-not-13, save-moved, forget-moved, restore-moved}
 use Rattle.box_theory.proofs.Bays.{ceilingFor, admit-by-sum, onStretch}
 use Rattle.box_theory.proofs.Ticks.{tick-number}
 use Rattle.box_theory.proofs.Readers.{service-reads, panel-reads}
-use Rattle.box_calls.specs.BayRuns.{paperBuffer}
 use Rattle.box_theory.proofs.Stretches.{no-bay, other-box, stretch-sized, own}
 
 -- ---- the numbers of a call on a stretch

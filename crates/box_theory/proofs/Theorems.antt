@@ -245,7 +245,8 @@ module _ (zs : List Request) (sent : AllSendable zs) (bay name : ℕ)
     demand-1-from-position = from-there xs k .never-11
 
     pub rows-from-position : (e : ℕ) (answer trace : List ℕ)
-        → ByRows (number (callOf then bay (tick e answer trace))) (TickRow (held .sequence) (held .readBack) (stateIn (stretchOf bay then)) (paperBuffer trace answer))
+        → ByRows (number (callOf then bay (tick e answer trace)))
+        (TickRow (held .sequence) (held .readBack) (stateIn (stretchOf bay then)) (paperBuffer trace answer))
     rows-from-position = runs.by-rows bay is-bay held then (from-there xs k .stands)
 
     -- demand 2, of the next tick
