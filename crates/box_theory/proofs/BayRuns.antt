@@ -40,7 +40,7 @@ use Rattle.box_theory.proofs.Readers.{service-reads, panel-reads}
 use Rattle.box_theory.proofs.Moves.{Moved, save-moved, forget-moved}
 use Rattle.box_theory.proofs.Bays.{ceilingFor, Admission, turned-down, taken, admission}
 use Rattle.box_theory.proofs.Standing.{Standing, not-empty, behind-stands, inner, inner-is, tick-told, tick-stands, fresh-state, filled-stands, cleared-fresh}
-use Rattle.box_theory.proofs.Stretches.{result, answered-inside, refused-leaves, stretch-sized, own, own-stretch, same-length, others-stay}
+use Rattle.box_theory.proofs.Stretches.{result, answered-inside, refused-stretch, filled-already, stretch-sized, own, own-stretch, same-length, others-stay}
 
 eta : (o : Outcome) → outcome (demands.number o) (stateAfterwards o) (answerAfterwards o) ≡ o
 eta (outcome n state answer) = refl
@@ -54,15 +54,6 @@ module _ (bay : ℕ) (b : bay < bayCount) (t : Terms) where
   module _ (box : List ℕ) (h : Here box) where
     abbrev s : List ℕ
     s = stretchOf bay box
-
-    -- a call that is turned down
-    left-alone : (c : Call) → number (callOf box bay c) ≢ 0 → stretchOf bay (memoryAfter (callOf box bay c)) ≡ s
-    left-alone c n = ap (λ (o : Called). stretchOf bay (memoryAfter o)) (refused-leaves box bay c n)
-
-    filled-already : (t′ : Terms) → number (callOf box bay (admit t′)) ≢ 0
-    filled-already t′ n =
-        let x : result box bay (admit t′) ≡ called 13 s [] = rw (not-empty t s (h .1)) in
-        omega (arith, ap number (own box bay (admit t′) b (h .0)), ap number x)
 
     module _ (e : ℕ) (answer trace : List ℕ) where
       abbrev pub told : Outcome
@@ -176,17 +167,17 @@ module _ (bay : ℕ) (b : bay < bayCount) (t : Terms) where
       → (Here (memoryAfter (callOf box bay c)) → Run (memoryAfter (callOf box bay c)) xs) → Run box (record { bay = bay; call = c } ∷ xs)
   unfolding tickOutcomes ticksTo
   own-run box h (admit t′) xs n r =
-      stays-run box h (record { bay = bay; call = admit t′ }) xs (left-alone box h (admit t′) (filled-already box h t′))
+      stays-run box h (record { bay = bay; call = admit t′ }) xs (refused-stretch box bay (admit t′) (filled-already box bay b (h .0) (not-empty t (stretchOf bay box) (h .1)) t′))
       (rw (eq-eqb bay bay refl)) (rw (eq-eqb bay bay refl)) r
   own-run box h release xs n r =
-      stays-run box h (record { bay = bay; call = release }) xs (left-alone box h release n)
+      stays-run box h (record { bay = bay; call = release }) xs (refused-stretch box bay release n)
       (rw (eq-eqb bay bay refl)) (rw (eq-eqb bay bay refl)) r
   own-run box h (tick e answer trace) xs n r = tick-run box h e answer trace xs r
   own-run box h (save name) xs n r =
       behind-run box h (save name) xs (rw (not-empty t (stretchOf bay box) (h .1)) (save-moved (stretchOf bay box) name))
       (rw (eq-eqb bay bay refl)) (rw (eq-eqb bay bay refl)) r
   own-run box h (restore name) xs n r =
-      stays-run box h (record { bay = bay; call = restore name }) xs (left-alone box h (restore name) n)
+      stays-run box h (record { bay = bay; call = restore name }) xs (refused-stretch box bay (restore name) n)
       (rw (eq-eqb bay bay refl)) (rw (eq-eqb bay bay refl)) r
   own-run box h (forget name) xs n r =
       behind-run box h (forget name) xs (rw (not-empty t (stretchOf bay box) (h .1)) (forget-moved (stretchOf bay box) name))

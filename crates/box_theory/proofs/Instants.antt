@@ -4,7 +4,7 @@ use native.Mathlib.Omega.{arith}
 use native.Mathlib.Decide.{ℕ-discrete}
 use mathlib.Core.Path.{_≡_, refl, sym, ap, ap₂, _∙_, subst}
 use mathlib.Core.Logic.{_≢_}
-use mathlib.Core.Bool.{true, false, cond}
+use mathlib.Core.Bool.{false, cond}
 use mathlib.Core.Option.{some, Option·none-ne-some}
 use mathlib.Core.List.{List, [], _∷_}
 use lib.ListN.{length, getElem?}
@@ -36,7 +36,7 @@ use Rattle.box_calls.specs.Stretch.{sequenceAt, stateAt, countAt, positionsAt, 
 use Rattle.box_calls.specs.BayCalls.{bayTickOf, bayAdmitOf, bayRestoreOf}
 use Rattle.box_calls.specs.BayRuns.{Onward, Onwards}
 use Rattle.box_calls.specs.BayRuns as Runs
-use Rattle.box_calls.specs.Box.{bayCount, boxLength, stretchOf, present, Call, admit, release, tick, save, restore, forget, service, panel, bayCall, isFor, callOf}
+use Rattle.box_calls.specs.Box.{bayCount, boxLength, stretchOf, present, Call, admit, release, tick, save, restore, forget, service, panel, bayCall, callOf}
 use Rattle.box_calls.specs.Lists.{Request, afterCall, boxAfter}
 use Rattle.box_calls.specs.Instants.{second, recordsIn, inputsIn, Stays, NotTakenOut, done, more, RecordIs, ServiceShows, PanelShows, PanelsAlike, ReaderNumbers, RecordLength}
 use Rattle.box_calls.specs.Shares.{Sendable}
@@ -48,7 +48,7 @@ use Rattle.box_theory.proofs.Readers.{service-reads, panel-reads, servi
 use Rattle.box_theory.proofs.Bays as Bays
 use Rattle.box_theory.proofs.Bays.{ceilingFor, bounds, Admission, admission}
 use Rattle.box_theory.proofs.Positions.{Known, unknown, known, is-known, restore-known, restore-unknown}
-use Rattle.box_theory.proofs.Stretches.{result, answered-inside, refused-leaves, stretch-sized, own, own-stretch, same-length, others-stay}
+use Rattle.box_theory.proofs.Stretches.{result, answered-inside, refused-stretch, number-there, filled-already, stretch-sized, own, own-stretch, same-length, others-stay}
 use Rattle.box_theory.proofs.BayRuns as runs
 use Rattle.box_theory.proofs.Named.{answered-there, bay-answered, stretch-after}
 
@@ -210,14 +210,6 @@ module _ (bay : ℕ) (b : bay < bayCount) (t : Terms) (a : Accepted (t .sequence
     same Goes e =
         record { holds = subst (Holds t (ceilingFor t)) (sym e) (h .holds); count = ap countIn e; state = λ g. ap stateIn e }
 
-    turned-down : (c : Call) → number (callOf box bay c) ≢ 0 → stretchOf bay (memoryAfter (callOf box bay c)) ≡ s
-    turned-down c n = ap (λ (o : Called). stretchOf bay (memoryAfter o)) (refused-leaves box bay c n)
-
-    filled-already : (t′ : Terms) → number (callOf box bay (admit t′)) ≢ 0
-    filled-already t′ n =
-        let x : result box bay (admit t′) ≡ called 13 s [] = rw there in
-        omega (arith, ap number (own box bay (admit t′) b (h .sized-box)), ap number x)
-
     -- the positions are written
     behind : {o : Called} → Moved positionsAt s o → (Goes : Type 0) → Quiet s (memoryAfter o) Goes
     behind {o} m Goes = go m
@@ -304,16 +296,16 @@ module _ (bay : ℕ) (b : bay < bayCount) (t : Terms) (a : Accepted (t .sequence
         → (Here (memoryAfter (callOf box bay c)) → Over (memoryAfter (callOf box bay c)) xs) → Over box (record { bay = bay; call = c } ∷ xs)
     unfolding recordsIn inputsIn
     own-over (admit t′) xs n f =
-        quiet-over box h (record { bay = bay; call = admit t′ }) xs (Unit {0}) (same (Unit {0}) (turned-down (admit t′) (filled-already t′))) (λ g. tt)
+        quiet-over box h (record { bay = bay; call = admit t′ }) xs (Unit {0}) (same (Unit {0}) (refused-stretch box bay (admit t′) (filled-already box bay b (h .sized-box) there t′))) (λ g. tt)
         (rw (eq-eqb bay bay refl)) (rw (eq-eqb bay bay refl)) f
     own-over release xs n f =
-        quiet-over box h (record { bay = bay; call = release }) xs (Unit {0}) (same (Unit {0}) (turned-down release n)) (λ g. tt)
+        quiet-over box h (record { bay = bay; call = release }) xs (Unit {0}) (same (Unit {0}) (refused-stretch box bay release n)) (λ g. tt)
         (rw (eq-eqb bay bay refl)) (rw (eq-eqb bay bay refl)) f
     own-over (tick e answer trace) xs n f =
         elim (ℕ-discrete (number (callOf box bay (tick e answer trace))) 0) [
           | yes y ↦ instant-over e answer trace y xs f
           | no y ↦ quiet-over box h (record { bay = bay; call = tick e answer trace }) xs (Unit {0})
-              (same (Unit {0}) (turned-down (tick e answer trace) y)) (λ g. tt)
+              (same (Unit {0}) (refused-stretch box bay (tick e answer trace) y)) (λ g. tt)
               (rw (eq-eqb bay bay refl, ne-eqb (number (callOf box bay (tick e answer trace))) 0 y))
               (rw (eq-eqb bay bay refl, ne-eqb (number (callOf box bay (tick e answer trace))) 0 y)) f
         ]
@@ -471,23 +463,19 @@ panels-alike box bay r s view view′ i j n m =
     )
 
 -- ---- the numbers by the lengths
-filled-number : (box : List ℕ) → length box ≡ boxLength → (bay : ℕ) → bay < bayCount → (c : Call) → isFor c (stretchOf bay box) ≡ true
-    → number (callOf box bay c) ≡ number (bayCall (present bayCount box) c (stretchOf bay box))
-filled-number box z bay b c i = ap number (own box bay c b z) ∙ rw i
-
 pub service-numbers : ReaderNumbers callOf service recordLength
 service-numbers box z bay b f trace view =
-    let e = filled-number box z bay b (service trace view) (rw (ne-eqb (lengthIn (stretchOf bay box)) 0 f)) in
+    let e = number-there box bay (service trace view) b z (rw (ne-eqb (lengthIn (stretchOf bay box)) 0 f)) in
     let k = service-lengths (stretchOf bay box) trace view in
     ((λ n. k .0 .0 (sym e ∙ n), λ n. e ∙ k .0 .1 n), λ n. e ∙ k .1 (λ y. n (e ∙ y)))
 
 pub panel-numbers : ReaderNumbers callOf panel panelLength
 panel-numbers box z bay b f trace view =
-    let e = filled-number box z bay b (panel trace view) (rw (ne-eqb (lengthIn (stretchOf bay box)) 0 f)) in
+    let e = number-there box bay (panel trace view) b z (rw (ne-eqb (lengthIn (stretchOf bay box)) 0 f)) in
     let k = panel-lengths (stretchOf bay box) trace view in
     ((λ n. k .0 .0 (sym e ∙ n), λ n. e ∙ k .0 .1 n), λ n. e ∙ k .1 (λ y. n (e ∙ y)))
 
 pub record-length : RecordLength callOf
 record-length box z bay b f e answer trace n =
-    filled-number box z bay b (tick e answer trace) (rw (ne-eqb (lengthIn (stretchOf bay box)) 0 f))
+    number-there box bay (tick e answer trace) b z (rw (ne-eqb (lengthIn (stretchOf bay box)) 0 f))
     ∙ ap number (unlike-tick (stretchOf bay box) (stretch-sized box bay (tick e answer trace) b z) e answer trace n)

@@ -19,7 +19,7 @@ use Rattle.positions.specs.Names.{Position}
 use Rattle.positions.specs.Table.{tableLength, lookup, numberKept, saveOf, forgetOf, SixteenKnown, Agrees}
 use Rattle.positions.proofs.Theorems as table
 use Rattle.positions.proofs.Theorems.{cleared-agrees, save-agrees, forget-agrees, lookup-zeros}
-use Rattle.box_calls.specs.Called.{Called, called, number, memoryAfter}
+use Rattle.box_calls.specs.Called.{called, number, memoryAfter}
 use Rattle.box_calls.specs.Stretch.{stateAt, lengthIn, isEmpty, sequenceIn, stateIn, positionsIn}
 use Rattle.box_calls.specs.Box.{bayCount, boxLength, emptyBox, stretchOf, present, Call, admit, release, tick, save, restore, forget, service, panel, buffers, bayCall, isFor, callOf}
 use Rattle.box_calls.specs.Lists.{Request, afterCall, boxAfter}
@@ -27,7 +27,7 @@ use Rattle.box_calls.specs.Shares.{Sendable, AllSendable, none, each}
 use Rattle.box_calls.specs.Positions.{changedBy, savedIn, NoneKnown}
 use Rattle.box_theory.proofs.Standing.{not-empty, sequence-held}
 use Rattle.box_theory.proofs.Positions.{tableBy, table-after, save-waiting, save-otherwise, save-waits, forget-number, restore-known, restore-unknown, Known, unknown, known, is-known, none-some, labels-recorded}
-use Rattle.box_theory.proofs.Stretches.{result, answered-inside, refused-leaves, stretch-sized, own, own-stretch, others-stay}
+use Rattle.box_theory.proofs.Stretches.{result, answered-inside, refused-stretch, number-there, stretch-sized, own, own-stretch, others-stay}
 use Rattle.box_theory.proofs.Reached.{Sound, vacant, held, filled-bay, Kept, zeros-positions, empty-stretch, kept-empty, kept-call}
 
 -- ---- a call answered 0
@@ -128,7 +128,7 @@ module _ (bay : ℕ) (b : bay < bayCount) where
             (bay-answered box bay c n) ps a)))
         | no n ↦ rw (eq-eqb bay bay refl, ne-eqb (number (callOf box bay c)) 0 n)
             (f ps (same-after box (memoryAfter (callOf box bay c)) ps
-            (ap (λ (o : Called). stretchOf bay (memoryAfter o)) (refused-leaves box bay c n)) a))
+            (refused-stretch box bay c n) a))
       ]
 
   by-name : (box : List ℕ) → Kept box → (ps : List Position) → Same box ps → (xs : List Request) → AllSendable xs → Over box ps xs
@@ -165,9 +165,6 @@ module _ (box : List ℕ) (h : Kept box) (bay : ℕ) (b : bay < bayCount) (f : l
   there : isFor release r ≡ true
   there = rw (ne-eqb (lengthIn r) 0 f)
 
-  on-bay : (c : Call) → isFor c r ≡ true → number (callOf box bay c) ≡ number (bayCall (present bayCount box) c r)
-  on-bay c i = ap number (own box bay c b (h .sized-box)) ∙ rw i
-
   pub save-numbers : ((number (callOf box bay (save name)) ≡ 15) ↔ (phaseIn (stateIn r) ≢ 1))
       × ((number (callOf box bay (save name)) ≡ 16)
       ↔ ((phaseIn (stateIn r) ≡ 1) × (lookup name (positionsIn r) ≡ none) × SixteenKnown (positionsIn r)))
@@ -178,14 +175,14 @@ module _ (box : List ℕ) (h : Kept box) (bay : ℕ) (b : bay < bayCount) (f : l
       let full = table.sixteen-others name l (positionsIn r) (v .formed) in
       elim (ℕ-discrete (phaseIn (stateIn r)) 1) [
         | yes w ↦
-            let e : number (callOf box bay (save name)) ≡ numberKept (saveOf name l (positionsIn r)) = on-bay (save name) there ∙ save-waiting r name w in
+            let e : number (callOf box bay (save name)) ≡ numberKept (saveOf name l (positionsIn r)) = number-there box bay (save name) b (h .sized-box) there ∙ save-waiting r name w in
             let two = table.save-number name l (positionsIn r) in (
               (λ n. absurd (⊎-elim (λ x. omega arith) (λ x. omega arith) two), λ n. absurd (n w)),
               (λ n. let x = full .0 (sym e ∙ n) in (w, x .0, x .1), λ x. e ∙ full .1 (x .1, x .2)),
               λ n m. ⊎-elim (λ x. e ∙ x) (λ x. absurd (m (e ∙ x))) two,
             )
         | no w ↦
-            let e : number (callOf box bay (save name)) ≡ 15 = on-bay (save name) there ∙ save-otherwise r name w in (
+            let e : number (callOf box bay (save name)) ≡ 15 = number-there box bay (save name) b (h .sized-box) there ∙ save-otherwise r name w in (
               (λ n. w, λ n. e),
               (λ n. absurd (omega arith), λ x. absurd (w (x .0))),
               λ n m. absurd (n e),
@@ -199,17 +196,17 @@ module _ (box : List ℕ) (h : Kept box) (bay : ℕ) (b : bay < bayCount) (f : l
       go : Known r name → ((number (callOf box bay (restore name)) ≡ 15) ↔ (lookup name (positionsIn r) ≡ none))
           × (number (callOf box bay (restore name)) ≢ 15 → number (callOf box bay (restore name)) ≡ 0)
       go (unknown e) =
-          let n : number (callOf box bay (restore name)) ≡ 15 = on-bay (restore name) there ∙ ap number (restore-unknown r name e) in
+          let n : number (callOf box bay (restore name)) ≡ 15 = number-there box bay (restore name) b (h .sized-box) there ∙ ap number (restore-unknown r name e) in
           ((λ x. e, λ x. n), λ m. absurd (m n))
       go (known labels e) =
-          let n : number (callOf box bay (restore name)) ≡ 0 = on-bay (restore name) there ∙ ap number (restore-known r name labels e) in
+          let n : number (callOf box bay (restore name)) ≡ 0 = number-there box bay (restore name) b (h .sized-box) there ∙ ap number (restore-known r name labels e) in
           ((λ x. absurd (omega arith), λ x. absurd (none-some (sym x ∙ e))), λ m. n)
 
   pub forget-numbers : ((number (callOf box bay (forget name)) ≡ 15) ↔ (lookup name (positionsIn r) ≡ none))
       × (number (callOf box bay (forget name)) ≢ 15 → number (callOf box bay (forget name)) ≡ 0)
   forget-numbers =
       let e : number (callOf box bay (forget name)) ≡ numberKept (forgetOf name (positionsIn r)) =
-      on-bay (forget name) there ∙ forget-number r name in
+      number-there box bay (forget name) b (h .sized-box) there ∙ forget-number r name in
       let u = table.unknown-forgotten name (positionsIn r) in (
         (λ n. u .0 (sym e ∙ n), λ x. e ∙ u .1 x),
         λ n. ⊎-elim (λ x. e ∙ x) (λ x. absurd (n (e ∙ x))) (table.forget-number name (positionsIn r)),

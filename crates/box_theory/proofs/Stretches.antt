@@ -5,15 +5,15 @@ use native.Mathlib.Decide.{decLt, ℕ-discrete}
 use mathlib.Core.Path.{_≡_, refl, sym, ap, _∙_}
 use mathlib.Core.Logic.{_≢_}
 use mathlib.Core.Bool.{Bool, true, false, cond}
-use mathlib.Core.List.{List}
+use mathlib.Core.List.{List, []}
 use lib.ListN.{length, drop, length-drop}
 use lib.Seq.{length-take-le}
 use borrow.Author.Tests.{lt-ltb, le-ltb, eq-eqb, ne-eqb}
 use Rattle.parts.specs.Parts.{put}
 use Rattle.parts.proofs.Parts.{put-slot, length-put, slot-put, put-before, put-behind}
 use Rattle.box_calls.specs.Called.{Called, called, number, memoryAfter, lentAfter}
-use Rattle.box_calls.specs.Stretch.{stretchLength}
-use Rattle.box_calls.specs.Box.{bayCount, boxLength, stretchOf, present, Call, buffers, bayCall, isFor, inBox, callOf}
+use Rattle.box_calls.specs.Stretch.{stretchLength, isEmpty, Terms}
+use Rattle.box_calls.specs.Box.{bayCount, boxLength, stretchOf, present, Call, admit, buffers, bayCall, isFor, inBox, callOf}
 use Rattle.box_theory.proofs.Bays.{onStretch, stretch-refused, sized-after}
 
 in-box : (bay : ℕ) (box : List ℕ) (o : Called)
@@ -102,6 +102,14 @@ module _ (box : List ℕ) (bay : ℕ) (c : Call) where
           ∙ ap (λ (r : List ℕ). called (number result) r (buffers c)) (put-slot (bay * stretchLength) stretchLength box)
           ∙ ap (λ (m : ℕ). called m box (buffers c)) (sym (ap number e))
 
+  pub refused-stretch : number (callOf box bay c) ≢ 0 → stretchOf bay (memoryAfter (callOf box bay c)) ≡ s
+  refused-stretch n = ap (λ (o : Called). stretchOf bay (memoryAfter o)) (refused-leaves n)
+
+  -- where the bay is there for the call
+  pub number-there : bay < bayCount → length box ≡ boxLength → isFor c s ≡ true
+      → number (callOf box bay c) ≡ number (bayCall (present bayCount box) c s)
+  number-there b z i = ap number (own b z) ∙ rw i
+
   pub same-length : length (memoryAfter (callOf box bay c)) ≡ length box
   same-length = go cases
     where
@@ -125,3 +133,10 @@ module _ (box : List ℕ) (bay : ℕ) (c : Call) where
                 (other * stretchLength) stretchLength
                 (let h : bay < other = elim (decLt bay other) [ yes k ↦ k | no k ↦ absurd (d (omega arith)) ] in omega arith)
           ]
+
+-- a filled bay is not admitted again
+pub filled-already : (box : List ℕ) (bay : ℕ) → bay < bayCount → length box ≡ boxLength → isEmpty (stretchOf bay box) ≡ false
+    → (t : Terms) → number (callOf box bay (admit t)) ≢ 0
+filled-already box bay b z f t n =
+    let x : result box bay (admit t) ≡ called 13 (stretchOf bay box) [] = rw f in
+    omega (arith, ap number (own box bay (admit t) b z), ap number x)
