@@ -1,3 +1,2 @@
 pub mod Worked
 pub mod Fields
-pub mod WrongBoxes

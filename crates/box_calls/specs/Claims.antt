@@ -1,5 +1,5 @@
 -- What 02, item 8, says of a box, each sentence a predicate of any function in the place of `callOf`: box_theory has them of
--- `callOf`, and proofs/WrongBoxes refutes them for boxes that break them.
+-- `callOf`, and refutes them for boxes that break them (WrongBoxes).
 use Prim.Native.Nat.{ℕ, _+_, _≤_, _<_}
 use mathlib.Core.Path.{_≡_}
 use mathlib.Core.Logic.{_≢_, _↔_}

@@ -14,5 +14,6 @@ pub mod Rounds
 pub mod BayRuns
 pub mod Instants
 pub mod Returns
+pub mod WrongBoxes
 pub mod WrongPositions
 pub mod Theorems

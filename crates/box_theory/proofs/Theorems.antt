@@ -32,7 +32,7 @@ use Rattle.box_calls.specs.Claims.{RefusalsLeave, OthersStay, Isolated, BySum, 
 use Rattle.box_calls.specs.Positions.{savedIn, PositionsSaved, PositionsValid, SaveNumbers, KnownOnly, ComesBack, LosesPositions, PositionDemands}
 use Rattle.box_calls.specs.Instants.{recordsIn, inputsIn, RecordIs, NumberedFromOne, ServiceOnlyFixed, ServiceShows, PanelShows, PanelsAlike, ReaderNumbers, RecordLength, RecordDemands}
 use Rattle.box_calls.specs.WrongBoxes as wrong
-use Rattle.box_calls.proofs.WrongBoxes as refuted
+use Rattle.box_theory.proofs.WrongBoxes as refuted
 use Rattle.box_calls.specs.WrongPositions as slips
 use Rattle.box_theory.proofs.WrongPositions as refutes
 use Rattle.box_theory.proofs.Stretches as stretches
