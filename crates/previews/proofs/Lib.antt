@@ -1,0 +1,5 @@
+pub mod Gathering
+pub mod Alike
+pub mod Groups
+pub mod Numbers
+pub mod Theorems
