@@ -11,7 +11,7 @@ use reaction::Reaction;
 use validity::activity::Validity;
 
 // What a state record holds for an accepted sequence. A waiting machine has the ranks of its active pauses.
-enum Standing {
+pub enum Standing {
     Fresh,
     Waiting(Labels),
     Over,
@@ -19,7 +19,7 @@ enum Standing {
 }
 
 // The standing of a record, by what reading the sequence noted.
-fn decode(sequence: &[u8], second: &Seconds, notes: &Notes, state: &[u8]) -> Standing
+pub fn decode(sequence: &[u8], second: &Seconds, notes: &Notes, state: &[u8]) -> Standing
     requires { ⌜ Sound (now second) (now notes) (now sequence) ⌝ }
     ensures { λ r. ⌜ DecodesRead (now (second .entry)) (now (notes .entry)) (now (sequence .entry)) (now (state .entry)) r ⌝ }
 {

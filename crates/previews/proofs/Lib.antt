@@ -3,3 +3,5 @@ pub mod Alike
 pub mod Groups
 pub mod Numbers
 pub mod Theorems
+pub mod Steps
+pub mod Calls

@@ -149,16 +149,16 @@ module _ (sequence state : List ℕ) (readBack : ℕ) where
         by-kind s (runs i h) = by-size s i h (leb (length (membersFrom signalCount 0 unknown)) maxUnknown) refl
 
 -- ---- the tick
+written-number : (i : Instant) → demands.number (written i) ≡ 0
+written-number (instant r x n) = refl
+
+pub written-answer : (i : Instant) → answerAfterwards (written i) ≡ encodeAnswer i
+written-answer (instant r x n) = refl
+
 module _ (sequence state : List ℕ) (readBack : ℕ) (answer : List ℕ) (long : length state ≡ stateLength) (a : length answer ≡ answerLength) where
   pub tick-replied : (e : ℕ) → tickOf sequence state e readBack answer ≡ replied (replyOf sequence state e readBack) state answer
   unfolding tickBy
   tick-replied e = rw (eq-eqb (length state) stateLength long, eq-eqb (length answer) answerLength a)
-
-  written-number : (i : Instant) → demands.number (written i) ≡ 0
-  written-number (instant r x n) = refl
-
-  written-answer : (i : Instant) → answerAfterwards (written i) ≡ encodeAnswer i
-  written-answer (instant r x n) = refl
 
   module _ (e : ℕ) (i : Instant) (h : replyOf sequence state e readBack ≡ reacts i) where
     tick-written : tickOf sequence state e readBack answer ≡ written i
