@@ -17,19 +17,19 @@ use Rattle.sets.specs.Subsets.{nextSubset, subsetsBelow, subsetsOf, Fall
 use Rattle.sets.proofs.Laws.{subset-test}
 
 -- ---- a subset, by its digits
-abbrev Within : (f u : ℕ) → Type 0
+abbrev pub Within : (f u : ℕ) → Type 0
 Within f u = bitAnd f u ≡ f
 
-to-within : (f u : ℕ) → Subset f u → Within f u
+pub to-within : (f u : ℕ) → Subset f u → Within f u
 to-within f u h = eqb-true (bitAnd f u) f (subset-test f u .1 h)
 
 from-within : (f u : ℕ) → Within f u → Subset f u
 from-within f u h = subset-test f u .0 (eq-eqb (bitAnd f u) f h)
 
-half-within : (f u : ℕ) → Within f u → Within (f / 2) (u / 2)
+pub half-within : (f u : ℕ) → Within f u → Within (f / 2) (u / 2)
 half-within f u h = omega (arith, and-step f u)
 
-low-within : (g u : ℕ) → Within g u → g % 2 ≤ u % 2
+pub low-within : (g u : ℕ) → Within g u → g % 2 ≤ u % 2
 low-within g u h = omega (arith, and-step g u)
 
 -- the next one is the greatest below f
