@@ -1,5 +1,4 @@
 -- The previews worked by hand, by computation.
-use Prim.Native.Nat.{ℕ}
 use mathlib.Core.Path.{_≡_, refl}
 use mathlib.Core.List.{map}
 use Rattle.esterel.specs.Sets.{none, only, member, join, insert, remove}
@@ -17,7 +16,7 @@ use Rattle.sequence.specs.Check.{checked}
 use Rattle.numbers.specs.Bytes.{leBytes, leNumber}
 use Rattle.states.specs.StateRecord.{decodeState}
 use Rattle.answers.specs.AnswerRecord.{encodeAnswer}
-use Rattle.fillings.specs.Preview.{Previewed, both, gathered, findings, previewOf}
+use Rattle.fillings.specs.Preview.{both, gathered, findings, previewOf}
 use Rattle.fillings.specs.Worked.{Case, cases}
 
 -- WORKED: each row of the table

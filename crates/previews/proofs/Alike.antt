@@ -3,17 +3,12 @@ use Prim.Native.Nat.{ℕ}
 use native.Mathlib.Decide.{ℕ-discrete}
 use mathlib.Core.Path.{_≡_, refl, sym, ap, ap₂, _∙_, subst}
 use mathlib.Core.Bool.{Bool, true, false, not, _&&_, _||_}
-use mathlib.Core.List.{List, List·Memᴰ}
-use Rattle.limits.specs.Limits.{signalCount}
-use Rattle.esterel.specs.Sets.{member, join}
-use Rattle.theory.proofs.Sets.{member-join, ext}
-use Rattle.theory.proofs.Booleans.{and-true}
-use Rattle.sets.specs.Sets.{Subset, common, difference, complement}
-use Rattle.sets.proofs.Differences.{member-common, member-difference}
-use Rattle.sequence.specs.Program.{readBackSignals}
-use Rattle.numbers.specs.Bytes.{leBytes}
+use mathlib.Core.List.{List}
+use Rattle.esterel.specs.Sets.{member}
+use Rattle.theory.proofs.Sets.{ext}
+use Rattle.sets.specs.Sets.{Subset, common}
+use Rattle.sets.proofs.Differences.{member-common}
 use Rattle.demands.specs.Plain.{SameOutside}
-use Rattle.demands.specs.Tick.{Reply, replyOf}
 use Rattle.demands.proofs.ReadBack.{reply-unread}
 use Rattle.fillings.specs.declared.Findings.{Findings}
 use Rattle.fillings.specs.Preview.{filled, openCode, foundIn, findings, previewBytes, answerIn, answersOf}

@@ -8,7 +8,7 @@ use lib.ListN.{length}
 use borrow.Author.Tests.{le-leb, lt-leb}
 use Rattle.limits.specs.Limits.{signalCount}
 use Rattle.esterel.specs.ReadBack.{membersFrom}
-use Rattle.esterel.specs.Resume.{start, startTree, instantOf}
+use Rattle.esterel.specs.Resume.{startTree, instantOf}
 use Rattle.sets.specs.Sets.{difference}
 use Rattle.sequence.specs.Program.{program}
 use Rattle.sequence.specs.Check.{checkOf}
@@ -20,7 +20,7 @@ use Rattle.program.specs.declared.Position.the-variants.{Fresh, Waiting}
 use Rattle.program.specs.Program.{termAt}
 use Rattle.reaction.specs.Reactions.{reactionOf}
 use Rattle.writing.specs.Written.{writtenFrom}
-use Rattle.demands.specs.Tick.{reacts, replyOf}
+use Rattle.demands.specs.Tick.{reacts}
 use Rattle.demands.specs.Demands.{answerAfterwards}
 use Rattle.instants.specs.declared.Standing.the-variants as stands
 use Rattle.instants.specs.declared.Reply.the-variants.{Refused, Reacted}
@@ -29,8 +29,8 @@ use Rattle.instants.proofs.Replying.{written-from, refused, malformed-reply, ov
 use Rattle.fillings.specs.declared.Findings.{Findings}
 use Rattle.fillings.specs.Preview.{findings, maxUnknown, previewLength, previewBytes, shownBy, Previewed, previewed, answerIn, answersOf, previewOf}
 use Rattle.previews.specs.Standing.{answersAt, Stands}
-use Rattle.previews.proofs.Numbers as numbers
-use Rattle.previews.proofs.Numbers.{written-answer, refused-preview}
+use Rattle.fillings.proofs.Numbers as numbers
+use Rattle.fillings.proofs.Numbers.{written-answer, refused-preview}
 
 -- ---- from a position
 module _ (answers : ℕ → List ℕ) (input unknown : ℕ) (buffer : List ℕ) (n : ℕ) (h : n ≡ length (membersFrom signalCount 0 unknown)) where

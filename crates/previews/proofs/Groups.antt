@@ -12,7 +12,7 @@ use Rattle.limits.specs.Limits.{signalCount, signalBytes}
 use Rattle.esterel.specs.Sets.{member}
 use Rattle.theory.proofs.Sets.{member-high}
 use Rattle.theory.proofs.Booleans.{clash}
-use Rattle.sets.specs.Sets.{Subset, difference, allBelow, complement}
+use Rattle.sets.specs.Sets.{Subset, allBelow, complement}
 use Rattle.sets.proofs.Words.{words-of, low-fits, member-low}
 use Rattle.sets.proofs.Differences.{all-lt, difference-lt, member-complement}
 use Rattle.numbers.specs.Bytes.{leBytes, leNumber}

@@ -1,7 +1,6 @@
 pub mod Gathering
 pub mod Alike
 pub mod Groups
-pub mod Numbers
 pub mod Theorems
 pub mod Steps
 pub mod Calls

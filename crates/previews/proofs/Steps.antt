@@ -1,7 +1,7 @@
 -- Laws for the code: what one filling comes to, and the loop over the fillings.
-use Prim.Native.Nat.{ℕ, _+_, _-_, _^_, _≤_, _<_}
+use Prim.Native.Nat.{ℕ, _+_, _^_, _≤_, _<_}
 use native.Mathlib.Omega.{arith}
-use mathlib.Core.Path.{_≡_, refl, sym, ap, ap₂, _∙_, subst}
+use mathlib.Core.Path.{_≡_, sym, ap, ap₂, _∙_, subst}
 use mathlib.Core.List.{List}
 use Rattle.limits.specs.Limits.{signalBytes}
 use Rattle.esterel.specs.Sets.{join}
@@ -27,7 +27,7 @@ use Rattle.instants.proofs.Replying.{written-from}
 use Rattle.fillings.specs.declared.Findings.{Findings}
 use Rattle.fillings.specs.Preview.{filled, alone, foundIn, both, gathered, findings}
 use Rattle.previews.specs.Standing.{answersAt}
-use Rattle.previews.proofs.Numbers.{written-answer}
+use Rattle.fillings.proofs.Numbers.{written-answer}
 
 -- ---- one filling
 alone-in : (k kind place o m : ℕ) → o < 256 ^ signalBytes → alone o k ≡ foundIn (answerRecord k kind place o m)

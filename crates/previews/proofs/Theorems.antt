@@ -1,31 +1,43 @@
 -- The theorems about a preview (02, item 11), of the definition previewOf (fillings, specs/Preview).
-use Prim.Native.Nat.{ℕ, _≤_, _<_}
+use Prim.Native.Nat.{ℕ, _^_, _≤_, _<_}
 use native.Mathlib.Omega.{arith}
 use mathlib.Core.Path.{_≡_, refl, sym, ap, _∙_, subst}
 use mathlib.Core.Logic.{_≢_, _↔_}
 use mathlib.Core.Bool.{Bool, true, false, cond}
-use mathlib.Core.List.{List, List·Memᴰ}
+use mathlib.Core.List.{List}
 use lib.ListN.{length}
+use lib.Pow.{pow-mono}
+use lib.Count.{ones}
 use borrow.Author.Tests.{le-leb, lt-leb}
 use Rattle.limits.specs.Limits.{signalCount}
 use Rattle.esterel.specs.Sets.{member, none, insert, remove}
 use Rattle.esterel.specs.Resume.{Instant}
 use Rattle.esterel.specs.ReadBack.{membersFrom}
 use Rattle.sets.specs.Sets.{Subset, Disjoint, common, difference}
+use Rattle.sets.specs.Subsets.{subsetsOf}
 use Rattle.sets.proofs.Differences.{differences-same}
+use Rattle.sets.proofs.Sizes.{size-is}
+use Rattle.sets.proofs.Counting.{subsets-few}
 use Rattle.states.specs.StateRecord.{stateLength}
 use Rattle.answers.specs.AnswerRecord.{answerLength, codeIn, emittedIn}
 use Rattle.demands.specs.Tick.{Outcome, refused, reacts, replyOf, tickOf}
 use Rattle.demands.specs.Demands as demands
 use Rattle.demands.specs.Demands.{answerAfterwards}
 use Rattle.demands.specs.Plain.{SameOutside}
-use Rattle.fillings.specs.declared.Findings.{Findings}
 use Rattle.fillings.specs.Preview.{filled, openCode, foundIn, findings, maxUnknown, previewLength, previewBytes, everyIn, neverIn, wrongIn, sharedIn, Previewed, previewed, number, bufferAfter, shownBy, answersOf, previewOf, Learned}
-use Rattle.previews.proofs.Gathering.{learned, learned-one, findings-alike, findings-none, as-filled, within, every-filling, emits, misses, right, shares}
+use Rattle.previews.proofs.Gathering.{learned, learned-one, findings-alike, findings-none, as-filled, within, every-filling, emits, misses, shares}
 use Rattle.previews.proofs.Alike.{read-back-bytes}
 use Rattle.previews.proofs.Groups as groups
-use Rattle.previews.proofs.Numbers as numbers
-use Rattle.previews.proofs.Numbers.{reacting, refused-preview, shown-preview, members-fewer, Given, given, tick-number, tick-answer, tick-turned-down}
+use Rattle.fillings.proofs.Numbers as numbers
+use Rattle.fillings.proofs.Numbers.{reacting, refused-preview, shown-preview, members-fewer, Given, given, tick-number, tick-answer, tick-turned-down}
+
+-- SIX UNKNOWN: at most 64 fillings
+pub sixty-four : (unknown : ℕ) → unknown < 2 ^ signalCount → length (membersFrom signalCount 0 unknown) ≤ maxUnknown
+    → length (subsetsOf unknown) ≤ 64
+sixty-four unknown h l =
+    let n : ones unknown ≤ maxUnknown = omega (arith, size-is signalCount unknown h) in
+    let p : 2 ^ ones unknown ≤ 2 ^ maxUnknown = pow-mono n in
+    omega (arith, subsets-few signalCount unknown h)
 
 -- ---- the numbers, in order: 1 for another length than 10, those of the reply, 17 for a seventh unknown; the lent bytes are left
 module _ (sequence state : List ℕ) (readBack : ℕ) where
@@ -34,6 +46,10 @@ module _ (sequence state : List ℕ) (readBack : ℕ) where
 
   pub other-buffer : (input unknown : ℕ) (buffer : List ℕ) → length buffer ≢ previewLength → preview input unknown buffer ≡ previewed 1 buffer
   other-buffer = numbers.other-buffer sequence state readBack
+
+  pub lent-left : (input unknown : ℕ) (buffer : List ℕ) → number (preview input unknown buffer) ≢ 0
+      → preview input unknown buffer ≡ previewed (number (preview input unknown buffer)) buffer
+  lent-left = numbers.lent-left sequence state readBack
 
   -- the reply's number depends on no input
   pub one-number : (e e′ n : ℕ) → replyOf sequence state e readBack ≡ refused n → replyOf sequence state e′ readBack ≡ refused n
