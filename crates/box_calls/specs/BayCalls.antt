@@ -1,4 +1,4 @@
--- The calls of a bay on its stretch (02, items 8 to 10): the number, the stretch after the call and the lent buffers after it.
+-- The calls of a bay on its stretch (02, items 8 to 11): the number, the stretch after the call and the lent buffers after it.
 use Prim.Native.Nat.{ℕ, zero, suc, _+_}
 use mathlib.Core.Bool.{_&&_, cond}
 use mathlib.Core.List.{List, [], _∷_}
@@ -15,6 +15,7 @@ use Rattle.limits.specs.Limits.{numberBytes}
 use Rattle.recordings.specs.Record.{recordLength, recordOf, panelLength, panelOf}
 use Rattle.recordings.specs.Recording.{following}
 use lib.ListN.{length}
+use Rattle.fillings.specs.Preview.{Previewed, previewed, previewOf}
 use Rattle.demands.specs.Tick.{Outcome, outcome, tickOf}
 use Rattle.box_calls.specs.Called.{Called, called, first}
 use Rattle.box_calls.specs.Stretch.{stateAt, countAt, positionsAt, sequenceIn, readBackIn, serviceOnlyIn, stateIn, countIn, positionsIn, vacated, Terms, filled}
@@ -90,3 +91,10 @@ bayServiceOf s trace view = showing s trace recordLength trace view
 -- 'The bay's panel reader shows .. number, code, inputs and emitted set, with service-only signals cleared in both sets'
 unfoldable pub bayPanelOf : (s trace view : List ℕ) → Called
 bayPanelOf s trace view = showing s (panelOf (serviceOnlyIn s) trace) panelLength trace view
+
+-- ---- a preview (02, item 11): 'The machine stays', and with it the stretch
+abbrev pub stretchKept : List ℕ → Previewed → Called
+stretchKept s (previewed number buffer) = called number s (buffer ∷ [])
+
+unfoldable pub bayPreviewOf : (s : List ℕ) (e unknown : ℕ) (buffer : List ℕ) → Called
+bayPreviewOf s e unknown buffer = stretchKept s (previewOf (sequenceIn s) (stateIn s) e unknown (readBackIn s) buffer)

@@ -12,7 +12,7 @@ use Rattle.demands.specs.Tick.{Outcome, outcome}
 use Rattle.demands.specs.Paper as Paper
 use Rattle.box_calls.specs.Called.{Called, number, memoryAfter, lentAfter, first}
 use Rattle.box_calls.specs.Stretch.{stateIn}
-use Rattle.box_calls.specs.Box.{stretchOf, Call, admit, release, tick, save, restore, forget, service, panel, callOf}
+use Rattle.box_calls.specs.Box.{stretchOf, Call, admit, release, tick, save, restore, forget, service, panel, preview, callOf}
 use Rattle.box_calls.specs.Lists.{Request, afterCall}
 
 -- the paper knows no record: a record's buffer of another length is to it an answer buffer of another length
@@ -29,6 +29,7 @@ withTick (restore name) cs = cs
 withTick (forget name) cs = cs
 withTick (service trace view) cs = cs
 withTick (panel trace view) cs = cs
+withTick (preview e unknown buffer) cs = cs
 
 unfoldable pub ticksTo : (bay : ℕ) → List Request → List Paper.Call
 ticksTo bay [] = []
@@ -47,6 +48,7 @@ withOutcome bay (restore name) o os = os
 withOutcome bay (forget name) o os = os
 withOutcome bay (service trace view) o os = os
 withOutcome bay (panel trace view) o os = os
+withOutcome bay (preview e unknown buffer) o os = os
 
 unfoldable pub tickOutcomes : (bay : ℕ) → List ℕ → List Request → List Outcome
 tickOutcomes bay box [] = []
@@ -65,6 +67,7 @@ Onward (restore name) o = number o ≢ 0
 Onward (forget name) o = Unit {0}
 Onward (service trace view) o = Unit {0}
 Onward (panel trace view) o = Unit {0}
+Onward (preview e unknown buffer) o = Unit {0}
 
 -- every call of the list to this bay is
 pub data Onwards (bay : ℕ) : List ℕ → List Request → Type 0 where

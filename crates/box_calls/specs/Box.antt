@@ -1,4 +1,4 @@
--- The box (02, items 8 to 10): eight stretches, one a bay, and a call to one of them: the number, the box after the call and the lent
+-- The box (02, items 8 to 11): eight stretches, one a bay, and a call to one of them: the number, the box after the call and the lent
 -- buffers after it, for all arguments.
 use Prim.Native.Nat.{ℕ, zero, suc, _+_, _*_}
 use mathlib.Core.Bool.{Bool, not, cond}
@@ -8,7 +8,7 @@ use lib.Dec.{eqb, ltb}
 use Rattle.parts.specs.Parts.{slot, put, zeros}
 use Rattle.box_calls.specs.Called.{Called, called}
 use Rattle.box_calls.specs.Stretch.{stretchLength, isEmpty, partOf, Terms}
-use Rattle.box_calls.specs.BayCalls.{bayTickOf, bayReleaseOf, bayAdmitOf, baySaveOf, bayForgetOf, bayRestoreOf, bayServiceOf, bayPanelOf}
+use Rattle.box_calls.specs.BayCalls.{bayTickOf, bayReleaseOf, bayAdmitOf, baySaveOf, bayForgetOf, bayRestoreOf, bayServiceOf, bayPanelOf, bayPreviewOf}
 
 abbrev pub bayCount : ℕ
 bayCount = 8
@@ -38,6 +38,7 @@ pub data Call : Type 0 where
   forget : (name : ℕ) → Call
   service : (trace view : List ℕ) → Call
   panel : (trace view : List ℕ) → Call
+  preview : (input unknown : ℕ) (buffer : List ℕ) → Call
 
 -- the buffers that a call is lent for writing beside the box
 abbrev pub buffers : Call → List (List ℕ)
@@ -49,6 +50,7 @@ buffers (restore name) = []
 buffers (forget name) = []
 buffers (service trace view) = view ∷ []
 buffers (panel trace view) = view ∷ []
+buffers (preview e unknown buffer) = buffer ∷ []
 
 -- the call on the bay's stretch; what those present have of the shared ceiling concerns an admission alone
 abbrev pub bayCall : (present : ℕ) → Call → List ℕ → Called
@@ -60,6 +62,7 @@ bayCall present (restore name) s = bayRestoreOf s name
 bayCall present (forget name) s = bayForgetOf s name
 bayCall present (service trace view) s = bayServiceOf s trace view
 bayCall present (panel trace view) s = bayPanelOf s trace view
+bayCall present (preview e unknown buffer) s = bayPreviewOf s e unknown buffer
 
 -- a bay is there for the call: an empty one for an admission, a filled one for every other
 abbrev pub isFor : Call → List ℕ → Bool
@@ -71,6 +74,7 @@ isFor (restore name) s = not (isEmpty s)
 isFor (forget name) s = not (isEmpty s)
 isFor (service trace view) s = not (isEmpty s)
 isFor (panel trace view) s = not (isEmpty s)
+isFor (preview e unknown buffer) s = not (isEmpty s)
 
 -- what a call makes of the bay's stretch, put where the box has it
 abbrev pub inBox : (bay : ℕ) → List ℕ → Called → Called

@@ -10,7 +10,7 @@ use Rattle.sequence.specs.Ceilings.{ceilingOf}
 use Rattle.box_calls.specs.Called.{called, number, memoryAfter}
 use Rattle.box_calls.specs.Stretch.{lengthIn, sequenceIn, readBackIn, ceilingIn, partOf, Terms}
 use Rattle.box_calls.specs.BayCalls.{sharedCeiling}
-use Rattle.box_calls.specs.Box.{bayCount, boxLength, emptyBox, stretchOf, present, Call, admit, release, tick, save, restore, forget, service, panel, buffers}
+use Rattle.box_calls.specs.Box.{bayCount, boxLength, emptyBox, stretchOf, present, Call, admit, release, tick, save, restore, forget, service, panel, preview, buffers}
 use Rattle.box_calls.specs.Lists.{Calling, Request, boxAfter, asked, answers, answerOf}
 use Rattle.box_calls.specs.Shares.{AllSendable, reactionsIn, OneTickEach}
 
@@ -44,6 +44,7 @@ SumAlike (restore name) box box′ = Unit {0}
 SumAlike (forget name) box box′ = Unit {0}
 SumAlike (service trace view) box box′ = Unit {0}
 SumAlike (panel trace view) box box′ = Unit {0}
+SumAlike (preview e unknown buffer) box box′ = Unit {0}
 
 abbrev pub BySum : Calling → Type 0
 BySum call =
@@ -101,6 +102,7 @@ NotThere (restore name) s = lengthIn s ≡ 0
 NotThere (forget name) s = lengthIn s ≡ 0
 NotThere (service trace view) s = lengthIn s ≡ 0
 NotThere (panel trace view) s = lengthIn s ≡ 0
+NotThere (preview e unknown buffer) s = lengthIn s ≡ 0
 
 abbrev pub Thirteen : Calling → Type 0
 Thirteen call =

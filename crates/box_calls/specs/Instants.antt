@@ -13,7 +13,7 @@ use Rattle.recordings.specs.Record.{recordLength, recordOf, numberIn, panelLeng
 use Rattle.recordings.specs.Recording.{following}
 use Rattle.box_calls.specs.Called.{Called, called, number, memoryAfter, lentAfter, first}
 use Rattle.box_calls.specs.Stretch.{lengthIn, stateIn, countIn, serviceOnlyIn, Terms}
-use Rattle.box_calls.specs.Box.{bayCount, boxLength, stretchOf, Call, admit, release, tick, save, restore, forget, service, panel}
+use Rattle.box_calls.specs.Box.{bayCount, boxLength, stretchOf, Call, admit, release, tick, save, restore, forget, service, panel, preview}
 use Rattle.box_calls.specs.Lists.{Calling, Request, afterCall, boxAfter}
 use Rattle.box_calls.specs.Shares.{Sendable}
 
@@ -32,6 +32,7 @@ withRecord (restore name) o rs = rs
 withRecord (forget name) o rs = rs
 withRecord (service trace view) o rs = rs
 withRecord (panel trace view) o rs = rs
+withRecord (preview e unknown buffer) o rs = rs
 
 unfoldable pub recordsIn : Calling → (bay : ℕ) → List ℕ → List Request → List (List ℕ)
 recordsIn call bay box [] = []
@@ -48,6 +49,7 @@ withInput (restore name) o es = es
 withInput (forget name) o es = es
 withInput (service trace view) o es = es
 withInput (panel trace view) o es = es
+withInput (preview e unknown buffer) o es = es
 
 unfoldable pub inputsIn : Calling → (bay : ℕ) → List ℕ → List Request → List ℕ
 inputsIn call bay box [] = []
@@ -65,6 +67,7 @@ Stays (restore name) o = Unit {0}
 Stays (forget name) o = Unit {0}
 Stays (service trace view) o = Unit {0}
 Stays (panel trace view) o = Unit {0}
+Stays (preview e unknown buffer) o = Unit {0}
 
 pub data NotTakenOut (call : Calling) (bay : ℕ) : List ℕ → List Request → Type 0 where
   done : {box : List ℕ} → NotTakenOut call bay box []

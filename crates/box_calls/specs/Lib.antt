@@ -10,6 +10,7 @@ pub mod WorkedPositions
 pub mod Claims
 pub mod Positions
 pub mod Instants
+pub mod Previews
 pub mod WorkedRecords
 pub mod WrongBoxes
 pub mod WrongPositions

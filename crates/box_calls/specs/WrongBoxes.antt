@@ -8,7 +8,7 @@ use Rattle.demands.specs.Tick.{tickOf}
 use Rattle.box_calls.specs.Called.{Called, called, number}
 use Rattle.box_calls.specs.Stretch.{lengthBytes, sequenceIn, readBackIn, ceilingIn, stateIn}
 use Rattle.box_calls.specs.BayCalls.{stateKept, recorded, bayAdmitOf}
-use Rattle.box_calls.specs.Box.{bayCount, stretchOf, present, admit, release, tick, save, restore, forget, service, panel, inBox, callOf}
+use Rattle.box_calls.specs.Box.{bayCount, stretchOf, present, admit, release, tick, save, restore, forget, service, panel, preview, inBox, callOf}
 use Rattle.box_calls.specs.Lists.{Calling}
 
 -- another result for a call that is answered with this number
@@ -24,6 +24,7 @@ readsNeighbour box bay (restore name) = callOf box bay (restore name)
 readsNeighbour box bay (forget name) = callOf box bay (forget name)
 readsNeighbour box bay (service trace view) = callOf box bay (service trace view)
 readsNeighbour box bay (panel trace view) = callOf box bay (panel trace view)
+readsNeighbour box bay (preview e unknown buffer) = callOf box bay (preview e unknown buffer)
 readsNeighbour box bay (tick e answer trace) =
     cond (eqb (number (callOf box bay (tick e answer trace))) 13) (called 13 box (answer ∷ trace ∷ []))
     (inBox bay box
@@ -41,6 +42,7 @@ forgetsBay box bay (restore name) = callOf box bay (restore name)
 forgetsBay box bay (forget name) = callOf box bay (forget name)
 forgetsBay box bay (service trace view) = callOf box bay (service trace view)
 forgetsBay box bay (panel trace view) = callOf box bay (panel trace view)
+forgetsBay box bay (preview e unknown buffer) = callOf box bay (preview e unknown buffer)
 
 -- a release that leaves the ceiling, and an admission that counts the ceilings of bays that were taken out too
 unfoldable pub storedIn : (n : ℕ) → List ℕ → ℕ
@@ -58,6 +60,7 @@ keepsPart box bay (restore name) = callOf box bay (restore name)
 keepsPart box bay (forget name) = callOf box bay (forget name)
 keepsPart box bay (service trace view) = callOf box bay (service trace view)
 keepsPart box bay (panel trace view) = callOf box bay (panel trace view)
+keepsPart box bay (preview e unknown buffer) = callOf box bay (preview e unknown buffer)
 
 -- a call turned down that clears the first byte of the box
 abbrev clearing : Called → Called

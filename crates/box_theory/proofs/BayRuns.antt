@@ -30,13 +30,14 @@ use Rattle.demands.proofs.Calls.{demand-2-call}
 use Rattle.box_calls.specs.Called.{Called, called, number, memoryAfter, lentAfter, first}
 use Rattle.box_calls.specs.Stretch.{positionsAt, stretchLength, isEmpty, stateIn, Terms}
 use Rattle.box_calls.specs.BayCalls.{bayTickOf, bayAdmitOf}
-use Rattle.box_calls.specs.Box.{bayCount, boxLength, stretchOf, present, Call, admit, release, tick, save, restore, forget, service, panel, callOf}
+use Rattle.box_calls.specs.Box.{bayCount, boxLength, stretchOf, present, Call, admit, release, tick, save, restore, forget, service, panel, preview, callOf}
 use Rattle.box_calls.specs.Lists.{Request, afterCall, boxAfter}
 use Rattle.box_calls.specs.Shares.{Sendable}
 use Rattle.box_calls.specs.BayRuns.{paperBuffer, ticksTo, outcomeOf, tickOutcomes, Onward, Onwards, done, more}
 use Rattle.box_calls.proofs.Fields.{Holds}
 use Rattle.box_theory.proofs.Ticks.{tick-number, tick-answer}
 use Rattle.box_theory.proofs.Readers.{service-reads, panel-reads}
+use Rattle.box_theory.proofs.Previews.{preview-stays}
 use Rattle.box_theory.proofs.Moves.{Moved, save-moved, forget-moved}
 use Rattle.box_theory.proofs.Bays.{ceilingFor, Admission, turned-down, taken, admission}
 use Rattle.box_theory.proofs.Standing.{Standing, not-empty, behind-stands, inner, inner-is, tick-told, tick-stands, fresh-state, filled-stands, cleared-fresh}
@@ -191,6 +192,11 @@ module _ (bay : ℕ) (b : bay < bayCount) (t : Terms) where
       stays-run box h (record { bay = bay; call = panel trace view }) xs
       (own-stretch box bay (panel trace view) b (h .0)
       ∙ rw (not-empty t (stretchOf bay box) (h .1)) (panel-reads (stretchOf bay box) trace view .left))
+      (rw (eq-eqb bay bay refl)) (rw (eq-eqb bay bay refl)) r
+  own-run box h (preview e u buffer) xs n r =
+      stays-run box h (record { bay = bay; call = preview e u buffer }) xs
+      (own-stretch box bay (preview e u buffer) b (h .0)
+      ∙ rw (not-empty t (stretchOf bay box) (h .1)) (preview-stays (stretchOf bay box) e u buffer))
       (rw (eq-eqb bay bay refl)) (rw (eq-eqb bay bay refl)) r
 
   pub runs : (box : List ℕ) → Here box → (xs : List Request) → Onwards bay box xs → Run box xs

@@ -18,10 +18,11 @@ use Rattle.demands.proofs.Sequence.{Accepted, accepted}
 use Rattle.box_calls.specs.Called.{Called, called, number, memoryAfter}
 use Rattle.box_calls.specs.Stretch.{stretchLength, Terms, filled}
 use Rattle.box_calls.specs.BayCalls.{sharedCeiling, bayReleaseOf, bayAdmitOf}
-use Rattle.box_calls.specs.Box.{Call, admit, release, tick, save, restore, forget, service, panel, buffers, bayCall, isFor}
+use Rattle.box_calls.specs.Box.{Call, admit, release, tick, save, restore, forget, service, panel, preview, buffers, bayCall, isFor}
 use Rattle.box_calls.proofs.Fields.{length-vacated, length-filled}
 use Rattle.box_theory.proofs.Ticks.{tick-refused, tick-keeps-length}
 use Rattle.box_theory.proofs.Readers.{service-reads, panel-reads}
+use Rattle.box_theory.proofs.Previews.{preview-stays, preview-refused}
 use Rattle.box_theory.proofs.Moves.{moved-refused, moved-length, save-moved, forget-moved, restore-moved}
 
 abbrev pub ceilingFor : Terms → ℕ
@@ -95,6 +96,7 @@ module _ (k : ℕ) (s : List ℕ) (z : length s ≡ stretchLength) where
   bay-refused (forget name) h = moved-refused (forget-moved s name) h
   bay-refused (service trace view) h = service-reads s trace view .refused h
   bay-refused (panel trace view) h = panel-reads s trace view .refused h
+  bay-refused (preview e u buffer) h = preview-refused s e u buffer h
 
   pub stretch-refused : (c : Call) → Leaves c (onStretch k c s)
   stretch-refused c = go (isFor c s)
@@ -119,6 +121,7 @@ module _ (k : ℕ) (s : List ℕ) (z : length s ≡ stretchLength) where
   bay-sized (forget name) = moved-length (forget-moved s name) z
   bay-sized (service trace view) = ap length (service-reads s trace view .left) ∙ z
   bay-sized (panel trace view) = ap length (panel-reads s trace view .left) ∙ z
+  bay-sized (preview e u buffer) = ap length (preview-stays s e u buffer) ∙ z
 
   pub sized-after : (c : Call) → length (memoryAfter (onStretch k c s)) ≡ stretchLength
   sized-after c = go (isFor c s)

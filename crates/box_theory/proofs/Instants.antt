@@ -36,7 +36,7 @@ use Rattle.box_calls.specs.Stretch.{sequenceAt, stateAt, countAt, positionsAt, 
 use Rattle.box_calls.specs.BayCalls.{bayTickOf, bayAdmitOf, bayRestoreOf}
 use Rattle.box_calls.specs.BayRuns.{Onward, Onwards}
 use Rattle.box_calls.specs.BayRuns as Runs
-use Rattle.box_calls.specs.Box.{bayCount, boxLength, stretchOf, present, Call, admit, release, tick, save, restore, forget, service, panel, bayCall, callOf}
+use Rattle.box_calls.specs.Box.{bayCount, boxLength, stretchOf, present, Call, admit, release, tick, save, restore, forget, service, panel, preview, bayCall, callOf}
 use Rattle.box_calls.specs.Lists.{Request, afterCall, boxAfter}
 use Rattle.box_calls.specs.Instants.{second, recordsIn, inputsIn, Stays, NotTakenOut, done, more, RecordIs, ServiceShows, PanelShows, PanelsAlike, ReaderNumbers, RecordLength}
 use Rattle.box_calls.specs.Shares.{Sendable}
@@ -45,6 +45,9 @@ use Rattle.box_theory.proofs.Moves as moves
 use Rattle.box_theory.proofs.Moves.{Moved, save-moved, forget-moved}
 use Rattle.box_theory.proofs.Ticks.{written, length-stepped, like-buffer, unlike-tick, Ticked, down, instant, ticked}
 use Rattle.box_theory.proofs.Readers.{service-reads, panel-reads, service-lengths, panel-lengths}
+use Rattle.fillings.specs.Preview.{bufferAfter}
+use Rattle.box_calls.specs.Previews.{previewIn, PreviewShows, PreviewNumbers}
+use Rattle.box_theory.proofs.Previews.{preview-stays, preview-number, preview-shown}
 use Rattle.box_theory.proofs.Bays as Bays
 use Rattle.box_theory.proofs.Bays.{ceilingFor, bounds, Admission, admission}
 use Rattle.box_theory.proofs.Positions.{Known, unknown, known, is-known, restore-known, restore-unknown}
@@ -335,6 +338,10 @@ module _ (bay : ℕ) (b : bay < bayCount) (t : Terms) (a : Accepted (t .sequence
         quiet-over box h (record { bay = bay; call = panel trace view }) xs (Unit {0})
         (same (Unit {0}) (own-stretch box bay (panel trace view) b (h .sized-box) ∙ rw there (panel-reads s trace view .left))) (λ g. tt)
         (rw (eq-eqb bay bay refl)) (rw (eq-eqb bay bay refl)) f
+    own-over (preview e u buffer) xs n f =
+        quiet-over box h (record { bay = bay; call = preview e u buffer }) xs (Unit {0})
+        (same (Unit {0}) (own-stretch box bay (preview e u buffer) b (h .sized-box) ∙ rw there (preview-stays s e u buffer))) (λ g. tt)
+        (rw (eq-eqb bay bay refl)) (rw (eq-eqb bay bay refl)) f
 
   pub over : (box : List ℕ) → Here box → (xs : List Request) → NotTakenOut callOf bay box xs → Over box xs
   unfolding recordsIn inputsIn recordsFrom boxAfter
@@ -360,6 +367,7 @@ module _ (bay : ℕ) (b : bay < bayCount) (t : Terms) (a : Accepted (t .sequence
   stays (forget name) o n = tt
   stays (service trace view) o n = tt
   stays (panel trace view) o n = tt
+  stays (preview e u buffer) o n = tt
 
   pub not-taken : (box : List ℕ) (xs : List Request) → Onwards bay box xs → NotTakenOut callOf bay box xs
   not-taken box [] Runs.done = done
@@ -479,3 +487,14 @@ pub record-length : RecordLength callOf
 record-length box z bay b f e answer trace n =
     number-there box bay (tick e answer trace) b z (rw (ne-eqb (lengthIn (stretchOf bay box)) 0 f))
     ∙ ap number (unlike-tick (stretchOf bay box) (stretch-sized box bay (tick e answer trace) b z) e answer trace n)
+
+-- ---- a preview
+pub preview-shows : PreviewShows callOf
+preview-shows box bay e u buffer n =
+    shown-in box bay (preview e u buffer) (bufferAfter (previewIn (stretchOf bay box) e u buffer)) n
+    (preview-shown (stretchOf bay box) e u buffer)
+
+pub preview-numbers : PreviewNumbers callOf
+preview-numbers box z bay b f e u buffer =
+    number-there box bay (preview e u buffer) b z (rw (ne-eqb (lengthIn (stretchOf bay box)) 0 f))
+    ∙ preview-number (stretchOf bay box) e u buffer

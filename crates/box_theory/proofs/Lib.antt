@@ -2,6 +2,7 @@ pub mod Sums
 pub mod Moves
 pub mod Ticks
 pub mod Readers
+pub mod Previews
 pub mod Bays
 pub mod Standing
 pub mod Positions

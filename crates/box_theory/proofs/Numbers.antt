@@ -17,13 +17,14 @@ use Rattle.demands.proofs.Demand1.{demand-1}
 use Rattle.box_calls.specs.Called.{called, number}
 use Rattle.box_calls.specs.Stretch.{stretchLength, lengthIn, isEmpty, sequenceIn, readBackIn, stateIn, Terms, filled}
 use Rattle.box_calls.specs.BayCalls.{sharedCeiling, byCheck, bayReleaseOf, bayAdmitOf}
-use Rattle.box_calls.specs.Box.{bayCount, boxLength, stretchOf, present, Call, admit, release, tick, save, restore, forget, service, panel, buffers, bayCall, isFor, callOf}
+use Rattle.box_calls.specs.Box.{bayCount, boxLength, stretchOf, present, Call, admit, release, tick, save, restore, forget, service, panel, preview, buffers, bayCall, isFor, callOf}
 use Rattle.box_calls.specs.BayRuns.{paperBuffer}
 use Rattle.box_calls.specs.Claims.{NotThere, Thirteen, NoBox}
 use Rattle.box_theory.proofs.Moves.{moved-not-13, save-moved, forget-moved, restore-moved}
 use Rattle.box_theory.proofs.Bays.{ceilingFor, admit-by-sum, onStretch}
 use Rattle.box_theory.proofs.Ticks.{tick-number}
 use Rattle.box_theory.proofs.Readers.{service-reads, panel-reads}
+use Rattle.box_theory.proofs.Previews.{preview-not-13}
 use Rattle.box_theory.proofs.Stretches.{no-bay, other-box, stretch-sized, own}
 
 -- ---- the numbers of a call on a stretch
@@ -80,6 +81,7 @@ bay-not-13 k (restore name) s l n = moved-not-13 (restore-moved s name) n
 bay-not-13 k (forget name) s l n = moved-not-13 (forget-moved s name) n
 bay-not-13 k (service trace view) s l n = omega (arith, service-reads s trace view .low)
 bay-not-13 k (panel trace view) s l n = omega (arith, panel-reads s trace view .low)
+bay-not-13 k (preview e u buffer) s l n = preview-not-13 s e u buffer n
 
 -- ---- a bay that is not there for a call
 not-true : (b : Bool) → not b ≡ false → b ≡ true
@@ -98,6 +100,7 @@ not-there (restore name) s = is-empty s
 not-there (forget name) s = is-empty s
 not-there (service trace view) s = is-empty s
 not-there (panel trace view) s = is-empty s
+not-there (preview e u buffer) s = is-empty s
 
 pub thirteen : Thirteen callOf
 thirteen box z bay c =

@@ -28,12 +28,13 @@ use Rattle.demands.proofs.Sequence.{accepted, same-statement}
 use Rattle.box_calls.specs.Called.{Called, called, number, memoryAfter}
 use Rattle.box_calls.specs.Stretch.{stateAt, countAt, positionsAt, stretchLength, stateIn, positionsIn, Terms}
 use Rattle.box_calls.specs.BayCalls.{positionsKept, restored, bayTickOf, bayReleaseOf, bayAdmitOf, baySaveOf, bayForgetOf, bayRestoreOf}
-use Rattle.box_calls.specs.Box.{Call, admit, release, tick, save, restore, forget, service, panel, bayCall}
+use Rattle.box_calls.specs.Box.{Call, admit, release, tick, save, restore, forget, service, panel, preview, bayCall}
 use Rattle.box_calls.specs.Shares.{Sendable}
 use Rattle.box_calls.proofs.Fields.{slot-vacated, filled-zeros}
 use Rattle.box_theory.proofs.Moves as moves
 use Rattle.box_theory.proofs.Ticks.{next, length-stepped, Ticked, down, instant, ticked}
 use Rattle.box_theory.proofs.Readers.{service-reads, panel-reads}
+use Rattle.box_theory.proofs.Previews.{preview-stays}
 use Rattle.box_theory.proofs.Bays.{ceilingFor, bounds, Admission, turned-down, taken, admission, bay-refused}
 use Rattle.box_theory.proofs.Standing.{Standing, put-stands}
 
@@ -47,6 +48,7 @@ tableBy (restore name) s = positionsIn s
 tableBy (forget name) s = tableKept (forgetOf name (positionsIn s))
 tableBy (service trace view) s = positionsIn s
 tableBy (panel trace view) s = positionsIn s
+tableBy (preview e u buffer) s = positionsIn s
 
 module _ (k : ℕ) (s : List ℕ) (z : length s ≡ stretchLength) where
   kept-table : (o : Kept) → length (tableKept o) ≡ tableLength → positionsIn (memoryAfter (positionsKept s o)) ≡ tableKept o
@@ -96,6 +98,7 @@ module _ (k : ℕ) (s : List ℕ) (z : length s ≡ stretchLength) where
       kept-table (forgetOf name (positionsIn s)) (forget-sized name (positionsIn s) (moves.positions-sized s z))
   table-after (service trace view) n = ap positionsIn (service-reads s trace view .left)
   table-after (panel trace view) n = ap positionsIn (panel-reads s trace view .left)
+  table-after (preview e u buffer) n = ap positionsIn (preview-stays s e u buffer)
 
 -- ---- the numbers of the three calls
 module _ (s : List ℕ) (name : ℕ) where
@@ -211,6 +214,7 @@ module _ (t : Terms) (s : List ℕ) (h : Standing t s) where
     positioned-by k (forget name) r n = positioned-forgotten name
     positioned-by k (service trace view) r n = v
     positioned-by k (panel trace view) r n = v
+    positioned-by k (preview e u buffer) r n = v
 
     -- over a call, turned down or not
     pub positioned-after : (k : ℕ) (c : Call) → Sendable c → Positioned t (positionsIn (memoryAfter (bayCall k c s)))

@@ -19,7 +19,7 @@ use Rattle.demands.proofs.Sequence.{accepted}
 use Rattle.box_calls.specs.Called.{called, number, memoryAfter}
 use Rattle.box_calls.specs.Stretch.{positionsAt, stretchLength, lengthIn, sequenceIn, readBackIn, ceilingIn, positionsIn, partOf, vacated, Terms, filled}
 use Rattle.box_calls.specs.BayCalls.{sharedCeiling, bayReleaseOf, bayAdmitOf}
-use Rattle.box_calls.specs.Box.{bayCount, boxLength, emptyBox, stretchOf, present, Call, admit, release, tick, save, restore, forget, service, panel, buffers, bayCall, isFor, callOf}
+use Rattle.box_calls.specs.Box.{bayCount, boxLength, emptyBox, stretchOf, present, Call, admit, release, tick, save, restore, forget, service, panel, preview, buffers, bayCall, isFor, callOf}
 use Rattle.box_calls.specs.Lists.{Request, boxAfter}
 use Rattle.box_calls.specs.Shares.{Sendable, AllSendable, none, each}
 use Rattle.box_calls.specs.Claims.{ceilingHeld}
@@ -29,6 +29,7 @@ use Rattle.box_theory.proofs.Moves.{save-moved, forget-moved}
 use Rattle.box_theory.proofs.Bays.{ceilingFor, bounds, passed, Admission, turned-down, taken, admission, onStretch}
 use Rattle.box_theory.proofs.Ticks.{tick-number}
 use Rattle.box_theory.proofs.Readers.{service-reads, panel-reads}
+use Rattle.box_theory.proofs.Previews.{preview-stays}
 use Rattle.box_theory.proofs.Standing.{Standing, not-empty, sequence-held, behind-stands, inner-is, tick-told, tick-stands, filled-stands}
 use Rattle.box_theory.proofs.Positions.{Positioned, positioned-zeros, positioned-after, restore-stands}
 use Rattle.box_theory.proofs.Stretches.{Case, aside, inside, cases, no-bay, own, own-stretch, same-length, others-stay}
@@ -110,6 +111,7 @@ module _ (k : ℕ) (s : List ℕ) (u : k ≤ sharedCeiling) (v : Sound s) where
   bay-step (forget name) r i = filled-step (forget name) r i (λ t h q. behind-stands t s h (forget-moved s name) .0)
   bay-step (service trace view) r i = filled-step (service trace view) r i (λ t h q. subst (Standing t) (sym (service-reads s trace view .left)) h)
   bay-step (panel trace view) r i = filled-step (panel trace view) r i (λ t h q. subst (Standing t) (sym (panel-reads s trace view .left)) h)
+  bay-step (preview e u buffer) r i = filled-step (preview e u buffer) r i (λ t h q. subst (Standing t) (sym (preview-stays s e u buffer)) h)
 
   call-step : (c : Call) → Sendable c → Step k s (memoryAfter (onStretch k c s))
   call-step c r = go (isFor c s) refl

@@ -31,6 +31,7 @@ use Rattle.box_calls.specs.BayRuns.{paperBuffer, ticksTo, outcomeOf, tickOutcom
 use Rattle.box_calls.specs.Claims.{RefusalsLeave, OthersStay, Isolated, BySum, InBoxes, CeilingsStored, WithinCeiling, RoundsWithin, AdmitsBySum, GivesBack, Thirteen, NoBox, Fourteen, BoxDemands}
 use Rattle.box_calls.specs.Positions.{savedIn, PositionsSaved, PositionsValid, SaveNumbers, KnownOnly, ComesBack, LosesPositions, PositionDemands}
 use Rattle.box_calls.specs.Instants.{recordsIn, inputsIn, RecordIs, NumberedFromOne, ServiceOnlyFixed, ServiceShows, PanelShows, PanelsAlike, ReaderNumbers, RecordLength, RecordDemands}
+use Rattle.box_calls.specs.Previews.{PreviewShows, PreviewNumbers}
 use Rattle.box_calls.specs.WrongBoxes as wrong
 use Rattle.box_theory.proofs.WrongBoxes as refuted
 use Rattle.box_calls.specs.WrongPositions as slips
@@ -292,6 +293,15 @@ panel-numbers = instants.panel-numbers
 
 pub record-length : RecordLength callOf
 record-length = instants.record-length
+
+-- ---- 02, item 11: what a preview shows of every filling against the tick is previews'
+-- 'It writes 10 lent bytes .. The machine stays', and the box with it
+pub preview-shows : PreviewShows callOf
+preview-shows = instants.preview-shows
+
+-- the numbers of a filled bay: 1, then 2 to 12 of the tick, then 17
+pub preview-numbers : PreviewNumbers callOf
+preview-numbers = instants.preview-numbers
 
 -- ITEM 10, of the calls
 pub record-demands : RecordDemands callOf
