@@ -3,3 +3,4 @@ pub mod Ticking
 pub mod Recording
 pub mod Admitting
 pub mod Positioning
+pub mod Previewing

@@ -11,7 +11,7 @@ ghost use Rattle.box_calls.specs.Called.{called};
 ghost use Rattle.box_calls.specs.Stretch.{stretchLength, isEmpty, sequenceIn, readBackIn, serviceOnlyIn, stateIn, countIn, positionsIn};
 ghost use Rattle.box_calls.specs.Stretch.{partOf, vacated, terms, filled};
 ghost use Rattle.box_calls.specs.BayCalls.{bayStepOf, recorded, bayTickOf, bayReleaseOf, bayAdmitOf, baySaveOf, bayRestoreOf};
-ghost use Rattle.box_calls.specs.BayCalls.{bayForgetOf, bayServiceOf, bayPanelOf};
+ghost use Rattle.box_calls.specs.BayCalls.{bayForgetOf, bayServiceOf, bayPanelOf, bayPreviewOf};
 use answers::ANSWER_LENGTH;
 use ceilings::Plan;
 use instants::Reply;
@@ -275,4 +275,19 @@ pub fn panel(stretch: &[u8], trace: &[u8], view: &mut [u8]) -> u8
     }
     recordings::write_panel(view, trace, service_only(stretch));
     0
+}
+
+// Shows what the next instant comes to while some inputs are of unknown status (02, item 11).
+pub fn preview(stretch: &[u8], input: u32, unknown: u32, buffer: &mut [u8]) -> u8
+    ensures { λ r. ⌜ called r (now (stretch .entry)) (now (buffer .exit) ∷ [])
+        ≡ bayPreviewOf (now (stretch .entry)) input unknown (now (buffer .entry)) ⌝ }
+{
+    previews::preview(
+        sequence(stretch),
+        state(stretch),
+        input,
+        unknown,
+        read_back(stretch),
+        buffer,
+    )
 }

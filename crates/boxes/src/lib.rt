@@ -6,7 +6,7 @@ ghost use lib.ListN.{length};
 ghost use Rattle.box_calls.specs.Called.{called};
 ghost use Rattle.box_calls.specs.Stretch.{terms};
 ghost use Rattle.box_calls.specs.Box.{bayCount, boxLength, present, callOf};
-ghost use Rattle.box_calls.specs.Box.{release, tick, admit, save, restore, forget, service, panel};
+ghost use Rattle.box_calls.specs.Box.{release, tick, admit, save, restore, forget, service, panel, preview};
 ghost use Rattle.boxes.specs.Entries.{entryOf};
 use bays::STRETCH_LENGTH;
 
@@ -156,4 +156,21 @@ pub fn panel(memory: &[u8], bay: u32, trace: &[u8], view: &mut [u8]) -> u8
     }
     let from = bay as usize * STRETCH_LENGTH;
     bays::panel(numbers::part(memory, from, STRETCH_LENGTH), trace, view)
+}
+
+pub fn preview(memory: &[u8], bay: u32, input: u32, unknown: u32, buffer: &mut [u8]) -> u8
+    ensures { λ r. ⌜ called r (now (memory .entry)) (now (buffer .exit) ∷ [])
+        ≡ callOf (now (memory .entry)) bay (preview input unknown (now (buffer .entry))) ⌝ }
+{
+    let number = entry(memory, bay, false);
+    if number != 0 {
+        return number;
+    }
+    let from = bay as usize * STRETCH_LENGTH;
+    bays::preview(
+        numbers::part(memory, from, STRETCH_LENGTH),
+        input,
+        unknown,
+        buffer,
+    )
 }

@@ -5,7 +5,7 @@ ghost use Rattle.sequence.specs.Check.{checkOf};
 ghost use Rattle.demands.specs.Demands.{TickMeets};
 ghost use Rattle.box_calls.specs.Called.{called};
 ghost use Rattle.box_calls.specs.Stretch.{terms};
-ghost use Rattle.box_calls.specs.Box.{admit, release, tick, save, restore, forget, service, panel, callOf};
+ghost use Rattle.box_calls.specs.Box.{admit, release, tick, save, restore, forget, service, panel, preview, callOf};
 use answers::ANSWER_LENGTH;
 use instants::Reply;
 use layout::Seconds;
@@ -124,4 +124,19 @@ pub extern "C" fn intake_box_panel(memory: &[u8], bay: u32, trace: &[u8], view: 
         ≡ callOf (now (memory .entry)) bay (panel (now (trace .entry)) (now (view .entry))) ⌝ }
 {
     boxes::panel(memory, bay, trace, view)
+}
+
+// What the next instant of a bay comes to while some inputs are of unknown status.
+#[no_mangle]
+pub extern "C" fn intake_box_preview(
+    memory: &[u8],
+    bay: u32,
+    input: u32,
+    unknown: u32,
+    buffer: &mut [u8],
+) -> u8
+    ensures { λ r. ⌜ called r (now (memory .entry)) (now (buffer .exit) ∷ [])
+        ≡ callOf (now (memory .entry)) bay (preview input unknown (now (buffer .entry))) ⌝ }
+{
+    boxes::preview(memory, bay, input, unknown, buffer)
 }
