@@ -1,5 +1,5 @@
 /*
- * Eight bays in one box (02, items 8 to 10) as one would write them in C, over the check and the tick of plain.c. The
+ * Eight bays in one box (02, items 8 to 11) as one would write them in C, over the check and the tick of plain.c. The
  * ceiling of a sequence is found by one recursive walk over the bytes that the check has accepted.
  */
 #include "plain_box.h"
@@ -16,6 +16,9 @@ enum { POSITIONS = 16, NAME_BYTES = 4, ENTRY = NAME_BYTES + STATE_BYTES, WAITING
 /* The record of an instant, and what the panel shows of it. */
 enum { IN_INPUTS = 4, IN_ANSWER = 8, IN_EMITTED = IN_ANSWER + 4, IN_STATE = IN_ANSWER + ANSWER_BYTES };
 enum { RECORD_BYTES = IN_STATE + STATE_BYTES, PANEL_BYTES = 13 };
+
+/* A preview: signals emitted for every filling and for none, whether one is wrong, and the code. */
+enum { IN_NEVER = 4, IN_WRONG = 8, IN_CODE, PREVIEW_BYTES, UNKNOWNS = 6, OPEN = 254, WRONG };
 
 /* A bay's stretch of the box. */
 enum {
@@ -231,5 +234,45 @@ uint8_t plain_box_forget(uint8_t *box, size_t box_length, uint32_t bay, uint32_t
     if (at == NULL)
         return 15;
     memset(at, 0, ENTRY);
+    return 0;
+}
+
+/* An instant of the bay, of which the box is not told. */
+static uint8_t try_instant(const uint8_t *stretch, uint32_t input, uint8_t *answer)
+{
+    uint8_t state[STATE_BYTES];
+    memcpy(state, stretch + AT_STATE, STATE_BYTES);
+    return plain_tick(stretch + AT_SEQUENCE, get(stretch, 2), state, STATE_BYTES, input, get(stretch + AT_READ_BACK, 4),
+                      answer, ANSWER_BYTES);
+}
+
+uint8_t plain_box_preview(const uint8_t *box, size_t box_length, uint32_t bay, uint32_t input, uint32_t unknown,
+                          uint8_t *preview, size_t preview_length)
+{
+    uint8_t number, answer[ANSWER_BYTES];
+    const uint8_t *stretch = find((uint8_t *)box, box_length, bay, true, &number);
+    if (stretch == NULL)
+        return number;
+    if (preview_length != PREVIEW_BYTES)
+        return 1;
+    number = try_instant(stretch, input & ~unknown, answer);
+    if (number != 0)
+        return number;
+    if (__builtin_popcount(unknown) > UNKNOWNS)
+        return 17;
+    uint32_t emitted = get(answer + 4, 4), always = emitted, some = emitted;
+    uint8_t code = answer[0], wrong = code == WRONG;
+    for (uint32_t filling = unknown; filling != 0; filling = (filling - 1) & unknown) {
+        try_instant(stretch, (input & ~unknown) | filling, answer);
+        emitted = get(answer + 4, 4);
+        always &= emitted;
+        some |= emitted;
+        wrong |= answer[0] == WRONG;
+        code = answer[0] == code ? code : OPEN;
+    }
+    put(preview, 4, always);
+    put(preview + IN_NEVER, 4, ~some);
+    preview[IN_WRONG] = wrong;
+    preview[IN_CODE] = code;
     return 0;
 }

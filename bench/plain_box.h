@@ -17,5 +17,7 @@ uint8_t plain_box_service(const uint8_t *box, size_t box_length, uint32_t bay, c
                           uint8_t *view, size_t view_length);
 uint8_t plain_box_panel(const uint8_t *box, size_t box_length, uint32_t bay, const uint8_t *record, size_t record_length,
                         uint8_t *view, size_t view_length);
+uint8_t plain_box_preview(const uint8_t *box, size_t box_length, uint32_t bay, uint32_t input, uint32_t unknown,
+                          uint8_t *preview, size_t preview_length);
 
 #endif

@@ -1,8 +1,8 @@
 /*
  * The calls on a box through include/intake.h, built with sanitizers: vectors by hand, and every line of the table that is
  * the argument (host/examples.txt) as an admission. The box, the sequence and what is written beside the box stand between
- * unreadable pages, and are read-only during a call that is turned down; a reader's box and record always are. The last line
- * is 'N passed, M failed'.
+ * unreadable pages, and are read-only during a call that is turned down; a reader's box and record, and the box of a
+ * preview, always are. The last line is 'N passed, M failed'.
  */
 #include "testing.h"
 
@@ -151,6 +151,31 @@ static void answers(uint32_t bay, uint32_t input, uint8_t code, uint32_t emitted
     expect(same, answer != NULL ? intake_answer_code(answer) : 0, where, "\n");
 }
 
+/* Previews, and gives the ten bytes, or null if the call was turned down; then nothing must have been written. */
+static const uint8_t *preview(uint8_t number, uint32_t bay, uint32_t input, uint32_t unknown)
+{
+    struct bytes blank = {.count = INTAKE_PREVIEW_LENGTH};
+    char line[32];
+    memset(blank.at, 0xA5, blank.count);
+    uint8_t *bytes = place(view_page, bay % 2 == 0, &blank, number == INTAKE_ACCEPTED);
+    before(number);
+    protect(box_page, false);
+    uint8_t given = intake_box_preview(box, INTAKE_BOX_LENGTH, bay, input, unknown, bytes, INTAKE_PREVIEW_LENGTH);
+    snprintf(line, sizeof line, "%08lX, unknown %08lX\n", (unsigned long)input, (unsigned long)unknown);
+    after(number, given, "preview", line);
+    return given == INTAKE_ACCEPTED ? bytes : NULL;
+}
+
+/* Previews, and expects the signals that are emitted for every filling and for some, whether one is wrong, and the code. */
+static void foresees(uint32_t bay, uint32_t input, uint32_t unknown, uint32_t always, uint32_t some, uint8_t wrong,
+                     uint8_t code, const char *where)
+{
+    const uint8_t *bytes = preview(INTAKE_ACCEPTED, bay, input, unknown);
+    bool same = bytes != NULL && intake_preview_always(bytes) == always && intake_preview_never(bytes) == ~some;
+    same = same && bytes[INTAKE_PREVIEW_WRONG] == wrong && intake_preview_code(bytes) == code;
+    expect(same, bytes != NULL ? intake_preview_code(bytes) : 0, where, "\n");
+}
+
 /* 13 for a number above 7 comes before all others, then 1 for the box, then 13 for the bay, then the rest. */
 static void order(void)
 {
@@ -172,6 +197,8 @@ static void order(void)
         expect(intake_box_service(NULL, 0, none[i], NULL, 0, NULL, 0) == 13, 13, "a bad box, service", "13\n");
         expect(intake_box_panel(NULL, 0, none[i], NULL, 0, NULL, 0) == 13, 13, "a bad box, panel", "13\n");
         expect(intake_box_tick(NULL, 0, none[i], 0, NULL, 0, NULL, 0) == 13, 13, "a bad box and answer", "13\n");
+        preview(INTAKE_NO_SUCH_BAY, none[i], 0, UINT32_MAX);
+        expect(intake_box_preview(NULL, 0, none[i], 0, UINT32_MAX, NULL, 0) == 13, 13, "a bad box and preview", "13\n");
     }
     protect(box_page, false);
     for (size_t i = 0; i < sizeof lengths / sizeof *lengths; i++)
@@ -181,6 +208,7 @@ static void order(void)
             expect(intake_box_tick(box, lengths[i], bay, 0, answer, 12, record, 37) == 1, 1, "a short box, tick", "1\n");
             expect(intake_box_service(box, lengths[i], bay, record, 37, view, 37) == 1, 1, "a short box, service", "1\n");
             expect(intake_box_panel(box, lengths[i], bay, record, 37, view, 13) == 1, 1, "a short box, panel", "1\n");
+            expect(intake_box_preview(box, lengths[i], bay, 0, 0, view, 10) == 1, 1, "a short box, preview", "1\n");
             for (int what = 0; what < POSITION_CALLS; what++)
                 expect(position_calls[what].call(box, lengths[i], bay, 0) == 1, 1, "a short box, position", "1\n");
         }
@@ -199,6 +227,12 @@ static void order(void)
             given = intake_box_panel(box, INTAKE_BOX_LENGTH, bay, record, reads[i][0], view, reads[i][1]);
             expect(given == (bay == 3 ? 1 : 13), given, "another length of the panel", "1 or 13\n");
         }
+    static const size_t previews[] = {0, 1, 4, 9, 11, 12, 13, 37};
+    for (size_t i = 0; i < sizeof previews / sizeof *previews; i++)
+        for (uint32_t bay = 3; bay < 5; bay++) {
+            uint8_t given = intake_box_preview(box, INTAKE_BOX_LENGTH, bay, 0, i % 2 ? 0 : UINT32_MAX, view, previews[i]);
+            expect(given == (bay == 3 ? 1 : 13), given, "another length of a preview", "1 or 13\n");
+        }
     expect(intake_box_service(box, INTAKE_BOX_LENGTH, 4, record, 37, view, 37) == 13, 13, "an empty bay, service", "13\n");
     expect(intake_box_panel(box, INTAKE_BOX_LENGTH, 4, record, 37, view, 13) == 13, 13, "an empty bay, panel", "13\n");
     expect(intake_box_service(box, INTAKE_BOX_LENGTH, 3, record, 37, view, 13) == 1, 1, "service in a panel's view", "1\n");
@@ -212,6 +246,7 @@ static void order(void)
     admit(INTAKE_UNKNOWN_COMMAND, 4, "FF");
     release(INTAKE_NO_SUCH_BAY, 4);
     tick(INTAKE_NO_SUCH_BAY, 4, 0);
+    preview(INTAKE_NO_SUCH_BAY, 4, 0, UINT32_MAX);
     for (int what = 0; what < POSITION_CALLS; what++) {
         position(what, INTAKE_NO_SUCH_BAY, 4, 0);
         position(what, INTAKE_NO_POSITION, 3, 0); /* the machine is fresh, and no name is known */
@@ -231,6 +266,8 @@ static void long_box(void)
         expect(given == INTAKE_BUFFER_LENGTH, given, "a long box, admission", "1\n");
         given = intake_box_tick(longer, INTAKE_BOX_LENGTH + more, 0, 0, answer, sizeof answer, record, sizeof record);
         expect(given == INTAKE_BUFFER_LENGTH, given, "a long box, tick", "1\n");
+        given = intake_box_preview(longer, INTAKE_BOX_LENGTH + more, 0, 0, 0, answer, INTAKE_PREVIEW_LENGTH);
+        expect(given == INTAKE_BUFFER_LENGTH, given, "a long box, preview", "1\n");
         for (int what = 0; what < POSITION_CALLS; what++) {
             given = position_calls[what].call(longer, INTAKE_BOX_LENGTH + more, 0, 0);
             expect(given == INTAKE_BUFFER_LENGTH, given, "a long box, position", "1\n");
@@ -551,6 +588,203 @@ static void numbers(void)
     release(INTAKE_ACCEPTED, 1);
 }
 
+/* Emits 1 if 0 is present, else a loop ends at once; emits 3 and ends if 0 is present, else waits once. */
+#define OR_WRONG "07 00 02 01 06 00"
+#define OR_WAITS "04 02 03 07 00 00 01 05"
+
+/* For each s below 6 emits 8 + s if s is present; and statements that ask whether all six are, or whether any is. */
+#define EACH "04 07 00 02 08 00 04 07 01 02 09 00 04 07 02 02 0A 00 04 07 03 02 0B 00 04 07 04 02 0C 00 07 05 02 0D 00"
+#define IF_ALL(p, q) "07 00 07 01 07 02 07 03 07 04 07 05 " p " 6(" q ")"
+#define IF_NONE(p, q) "07 00 " q " 07 01 " q " 07 02 " q " 07 03 " q " 07 04 " q " 07 05 " q " " p
+
+/* Emits 8, and 9 if 8 is present. */
+#define VALVE "04 02 08 07 08 02 09 00"
+
+#define SIX_UNKNOWN 0x3F
+
+/* 02, item 11: what is emitted for every filling and for none, wrong fillings, and a code that they share or not. */
+static void previews(void)
+{
+    admit(INTAKE_ACCEPTED, 0, OR_WRONG);
+    for (uint32_t input = 0; input < 2; input++) /* the status given for an unknown input does not matter */
+        foresees(0, input, 1, 0, 1 << 1, 1, INTAKE_OPEN, "wrong for one filling");
+    foresees(0, 0, 0, 0, 0, 1, INTAKE_WRONG, "nothing unknown, wrong");
+    foresees(0, 1, 0, 1 << 1, 1 << 1, 0, INTAKE_ENDED, "nothing unknown, ended");
+    foresees(0, 1, 0xFC, 1 << 1, 1 << 1, 0, INTAKE_ENDED, "unknown inputs that are not tested");
+    answers(0, 1, INTAKE_ENDED, 1 << 1, "the instant after its previews");
+    admit(INTAKE_ACCEPTED, 1, WRONG_AT_ONCE);
+    foresees(1, 0, SIX_UNKNOWN, 0, 0, 1, INTAKE_WRONG, "all fillings wrong");
+    admit(INTAKE_ACCEPTED, 2, OR_WAITS);
+    foresees(2, 0, 1, 1 << 3, 1 << 3, 0, INTAKE_OPEN, "codes 0 and 1");
+    foresees(2, 0, 0, 1 << 3, 1 << 3, 0, INTAKE_WAITING, "code 1");
+    foresees(2, 1, 0, 1 << 3, 1 << 3, 0, INTAKE_ENDED, "code 0");
+    answers(2, 0, INTAKE_WAITING, 1 << 3, "a fresh machine after its previews");
+    foresees(2, 0, 1, 0, 0, 0, INTAKE_ENDED, "a machine that waits");
+    foresees(2, 0, 1, 0, 0, 0, INTAKE_ENDED, "a machine that still waits");
+    preview(INTAKE_SEVENTH_UNKNOWN, 2, 0, 0x7F);
+    answers(2, 0, INTAKE_ENDED, 0, "a machine that waited, after its previews");
+    for (uint32_t unknown = 0x7F; unknown != 0; unknown >>= 1) /* over: 12 before 17 */
+        preview(INTAKE_OVER, 2, 0, unknown);
+    preview(INTAKE_OVER, 2, 0, 0);
+    preview(INTAKE_OVER, 2, 0, UINT32_MAX);
+    admit(INTAKE_ACCEPTED, 3, ENDLESS);
+    box[3 * STRETCH + AT_STATE] = 3; /* no phase: 11 before 17 */
+    preview(INTAKE_INVALID_STATE, 3, 0, 1);
+    preview(INTAKE_INVALID_STATE, 3, 0, UINT32_MAX);
+    for (uint32_t bay = 0; bay < 4; bay++)
+        release(INTAKE_ACCEPTED, bay);
+}
+
+/* Six unknown inputs that all matter, a seventh, all of them; and a read-back signal among them. */
+static void unknown_inputs(void)
+{
+    static const uint32_t seven[] = {0x7F, 0x8000003F, 0xFE000000, 0x01111111, UINT32_MAX};
+    static const uint32_t six[] = {0xFC000000, 0x10101111, 0x80000F80};
+    admit(INTAKE_ACCEPTED, 0, EACH);
+    foresees(0, 0, SIX_UNKNOWN, 0, 0x3F00, 0, INTAKE_ENDED, "six unknown");
+    foresees(0, UINT32_MAX, SIX_UNKNOWN, 0, 0x3F00, 0, INTAKE_ENDED, "six unknown, all given");
+    for (uint32_t s = 0; s < INTAKE_UNKNOWN_COUNT; s++) { /* one of the six is learnt */
+        uint32_t one = UINT32_C(1) << s, others = SIX_UNKNOWN & ~one;
+        foresees(0, one, others, one << 8, 0x3F00, 0, INTAKE_ENDED, "five unknown, the sixth given");
+        foresees(0, ~one, others, 0, others << 8, 0, INTAKE_ENDED, "five unknown, the sixth absent");
+    }
+    for (size_t i = 0; i < sizeof seven / sizeof *seven; i++)
+        preview(INTAKE_SEVENTH_UNKNOWN, 0, 0x15, seven[i]);
+    for (size_t i = 0; i < sizeof six / sizeof *six; i++) {
+        uint32_t given = 0x15 & ~six[i] & SIX_UNKNOWN, may = given | (six[i] & SIX_UNKNOWN);
+        foresees(0, 0x15, six[i], given << 8, may << 8, 0, INTAKE_ENDED, "six unknown, few of them tested");
+    }
+    admit(INTAKE_ACCEPTED, 1, IF_ALL("02 1F", "00"));
+    foresees(1, 0, SIX_UNKNOWN, 0, UINT32_C(1) << 31, 0, INTAKE_ENDED, "emitted for one filling, the last");
+    admit(INTAKE_ACCEPTED, 2, IF_ALL("00", "02 1F"));
+    foresees(2, 0, SIX_UNKNOWN, 0, UINT32_C(1) << 31, 0, INTAKE_ENDED, "emitted for all but one, the last");
+    admit(INTAKE_ACCEPTED, 3, IF_NONE("02 1F", "00"));
+    foresees(3, 0x3F, SIX_UNKNOWN, 0, UINT32_C(1) << 31, 0, INTAKE_ENDED, "emitted for one filling, the first");
+    admit(INTAKE_ACCEPTED, 4, IF_ALL("06 00", "02 00"));
+    foresees(4, 0, SIX_UNKNOWN, 0, 1, 1, INTAKE_OPEN, "wrong for one filling, the last");
+    foresees(4, 0, SIX_UNKNOWN - 1, 1, 1, 0, INTAKE_ENDED, "wrong for none that is left");
+    admit(INTAKE_ACCEPTED, 5, IF_NONE("06 00", "02 00"));
+    foresees(5, 0x3F, SIX_UNKNOWN, 0, 1, 1, INTAKE_OPEN, "wrong for one filling, the first");
+    admit(INTAKE_ACCEPTED, 6, VALVE " & 00000100");
+    foresees(6, 0, 1 << 8, 0x300, 0x300, 0, INTAKE_ENDED, "a read-back signal");
+    foresees(6, 0, 0x11F, 0x300, 0x300, 0, INTAKE_ENDED, "a read-back signal as the sixth");
+    preview(INTAKE_SEVENTH_UNKNOWN, 6, 0, 0x13F);
+    admit(INTAKE_ACCEPTED, 7, VALVE);
+    foresees(7, 0, 1 << 8, 0x100, 0x300, 0, INTAKE_ENDED, "not read back");
+    for (uint32_t bay = 0; bay < INTAKE_BAY_COUNT; bay++)
+        release(INTAKE_ACCEPTED, bay);
+}
+
+static uint32_t seed;
+
+static uint32_t draw(uint32_t below)
+{
+    seed = seed * UINT32_C(1664525) + UINT32_C(1013904223);
+    return (seed >> 8) % below;
+}
+
+/* Appends any statement of so many levels at most that the check accepts; each pause has a label of its own. */
+static void any_statement(struct bytes *s, unsigned levels, uint8_t *label)
+{
+    static const struct {
+        uint8_t command, operands, parts;
+    } kinds[] = {{0x00, 0, 0}, {0x01, 1, 0}, {0x01, 1, 0}, {0x02, 1, 0}, {0x02, 1, 0}, {0x03, 1, 0},
+                 {0x04, 0, 2}, {0x04, 0, 2}, {0x05, 0, 2}, {0x05, 0, 2}, {0x06, 0, 1}, {0x07, 1, 2},
+                 {0x07, 1, 2}, {0x08, 1, 1}, {0x09, 0, 1}, {0x0B, 1, 1}};
+    enum { LEAVES = 6, KINDS = sizeof kinds / sizeof *kinds };
+    uint32_t kind = levels == 1 ? draw(LEAVES) : levels > 4 ? LEAVES + draw(KINDS - LEAVES) : draw(KINDS);
+    uint8_t command = kinds[kind].command;
+    s->at[s->count++] = command;
+    if (kinds[kind].operands != 0)
+        s->at[s->count++] = command == 0x01 ? (*label)++ : command == 0x03 ? (uint8_t)(1 + draw(3)) : (uint8_t)draw(8);
+    for (unsigned part = 0; part < kinds[kind].parts; part++)
+        any_statement(s, levels - 1, label);
+}
+
+/* The preview of a bay by its definition, from ticks on copies of its state record: one for each filling. */
+static void by_ticks(const struct bytes *sequence, uint32_t bay, uint32_t read_back, uint32_t input, uint32_t unknown,
+                     uint8_t *expected)
+{
+    uint32_t count = UINT32_C(1) << __builtin_popcount(unknown), always = UINT32_MAX, some = 0;
+    uint8_t state[INTAKE_STATE_LENGTH], answer[INTAKE_ANSWER_LENGTH], wrong = 0, code = 0;
+    for (uint32_t i = 0; i < count; i++) {
+        uint32_t filled = input, place = 0;
+        for (uint32_t s = 0; s < 32; s++) /* the unknown inputs in turn have the bits of i */
+            if ((unknown >> s & 1) != 0)
+                filled = (filled & ~(UINT32_C(1) << s)) | (i >> place++ & 1) << s;
+        memcpy(state, box + bay * STRETCH + AT_STATE, sizeof state);
+        uint8_t given = intake_tick(sequence->at, sequence->count, state, sizeof state, filled, read_back, answer,
+                                    sizeof answer);
+        expect(given == INTAKE_ACCEPTED, given, "a tick of a filling", "\n");
+        always &= intake_answer_emitted(answer);
+        some |= intake_answer_emitted(answer);
+        wrong |= intake_answer_code(answer) == INTAKE_WRONG;
+        code = i == 0 || code == intake_answer_code(answer) ? intake_answer_code(answer) : INTAKE_OPEN;
+    }
+    for (unsigned i = 0; i < 4; i++) {
+        expected[i] = (uint8_t)(always >> 8 * i);
+        expected[4 + i] = (uint8_t)(~some >> 8 * i);
+    }
+    expected[8] = wrong;
+    expected[9] = code;
+}
+
+/* Whether a preview says at least as much as one with an unknown input more. */
+static bool says_more(const uint8_t *more, const uint8_t *less)
+{
+    return (intake_preview_always(less) & ~intake_preview_always(more)) == 0 &&
+           (intake_preview_never(less) & ~intake_preview_never(more)) == 0 &&
+           (intake_preview_code(less) == INTAKE_OPEN || intake_preview_code(less) == intake_preview_code(more)) &&
+           (intake_preview_wrong(less) || !intake_preview_wrong(more));
+}
+
+/* One instant of a random run: its preview by ticks, the statuses learnt one by one, and the instant that then comes. */
+static uint8_t foreseen(const struct bytes *sequence, uint32_t bay, uint32_t read_back)
+{
+    uint32_t unknown = 0, input = draw(256);
+    uint8_t expected[INTAKE_PREVIEW_LENGTH], less[INTAKE_PREVIEW_LENGTH] = {[8] = 1, [9] = INTAKE_OPEN};
+    for (uint32_t count = draw(INTAKE_UNKNOWN_COUNT + 1); count > 0; count--)
+        unknown |= UINT32_C(1) << draw(draw(20) == 0 ? 32 : 8);
+    for (;; unknown &= unknown - 1) {
+        by_ticks(sequence, bay, read_back, input, unknown, expected);
+        const uint8_t *given = preview(INTAKE_ACCEPTED, bay, input, unknown);
+        expect(given != NULL && memcmp(given, expected, sizeof expected) == 0, expected[9], "a preview by ticks", "\n");
+        expect(given != NULL && says_more(given, less), expected[9], "a status more", "\n");
+        memcpy(less, expected, sizeof less);
+        if (unknown == 0)
+            break;
+    }
+    const uint8_t *answer = tick(INTAKE_ACCEPTED, bay, input);
+    expect(answer != NULL && intake_answer_emitted(answer) == intake_preview_always(less) &&
+               intake_answer_emitted(answer) == ~intake_preview_never(less) &&
+               intake_answer_code(answer) == intake_preview_code(less), less[9], "the instant that was previewed", "\n");
+    return less[9];
+}
+
+/* Random sequences, each run for some instants, all of them previewed before. */
+static void random_previews(void)
+{
+    enum { RUNS = 1000, INSTANTS = 8 };
+    unsigned codes[4] = {0};
+    seed = 11;
+    for (uint32_t i = 0; i < RUNS; i++) {
+        struct bytes sequence = {.count = 0};
+        uint8_t label = 0, code = INTAKE_WAITING;
+        uint32_t bay = i % INTAKE_BAY_COUNT, read_back = draw(4) == 0 ? UINT32_C(1) << draw(8) : 0;
+        any_statement(&sequence, 6, &label);
+        uint8_t number = intake_box_admit(box, INTAKE_BOX_LENGTH, bay, sequence.at, sequence.count, read_back, 0);
+        expect(number == INTAKE_ACCEPTED, number, "a random sequence", "admit\n");
+        instants[bay] = 0;
+        for (unsigned instant = 0; instant < INSTANTS && code == INTAKE_WAITING; instant++) {
+            code = foreseen(&sequence, bay, read_back);
+            codes[code < 2 ? code : code == INTAKE_WRONG ? 3 : 2]++;
+        }
+        release(INTAKE_ACCEPTED, bay);
+    }
+    for (unsigned i = 0; i < 4; i++)
+        expect(codes[i] > 20, i, "instants of random sequences with each code", "\n");
+}
+
 /* Lines whose ceilings are above 65,536: (64 + 6) * 64 * 64 = 286,720, and 64 * 58 * 64 = 237,568. */
 static const char *const dear[] = {"0: 63(06) 00 & 0000003F\n", "0: 6(08 00) 57(06) 00\n"};
 
@@ -591,6 +825,9 @@ int main(int argc, char **argv)
         views();
         bits();
         numbers();
+        previews();
+        unknown_inputs();
+        random_previews();
         admit(INTAKE_ACCEPTED, 0, WRONG_AT_ONCE);
         answers(0, 0, INTAKE_WRONG, 0, "wrong");
         release(INTAKE_ACCEPTED, 0);

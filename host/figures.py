@@ -15,8 +15,8 @@ from pathlib import Path
 
 ROOT = Path(__file__).resolve().parent.parent
 HEADER, README = ROOT / "include/intake.h", ROOT / "README.md"
-EXPORTED = [f"intake_{call}" for call in ("box_admit", "box_forget", "box_panel", "box_release", "box_restore",
-                                        "box_save", "box_service", "box_tick", "check", "tick")]
+EXPORTED = [f"intake_{call}" for call in ("box_admit", "box_forget", "box_panel", "box_preview", "box_release",
+                                        "box_restore", "box_save", "box_service", "box_tick", "check", "tick")]
 # instructions that name no vector register and are not in the base set of x86-64; objdump's tzcnt is bsf with a prefix
 # that an older processor passes over, and LLVM emits it for all
 LATER = "andn bextr blsi blsmsk blsr bzhi crc32 lzcnt movbe mulx pdep pext popcnt rorx sarx shlx shrx adcx adox".split()

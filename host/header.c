@@ -83,13 +83,29 @@ static void recordings(void)
     expect(intake_panel_emitted(view) == 0xECEBEAE9u, "emitted set of a panel", 0);
 }
 
+static void previews(void)
+{
+    uint8_t preview[INTAKE_PREVIEW_LENGTH];
+    unsigned i;
+    for (i = 0; i < INTAKE_PREVIEW_LENGTH; i++)
+        preview[i] = (uint8_t)(0xD0 + i);
+    expect(intake_preview_always(preview) == 0xD3D2D1D0u, "signals for every filling", 0);
+    expect(intake_preview_never(preview) == 0xD7D6D5D4u, "signals for no filling", 0);
+    expect(intake_preview_code(preview) == 0xD9, "code of a preview", 0);
+    for (i = 0; i < 2; i++) {
+        memset(preview, i == 0 ? 0xFF : 0, sizeof preview);
+        preview[INTAKE_PREVIEW_WRONG] = (uint8_t)i;
+        expect(intake_preview_wrong(preview) == (int)i, "wrong filling of a preview", i);
+    }
+}
+
 /* Every number, kind and two beyond have words of their own; the two beyond share theirs. */
 static void texts(void)
 {
     unsigned i, j;
-    for (i = 0; i <= INTAKE_POSITIONS_FULL + 2; i++)
+    for (i = 0; i <= INTAKE_SEVENTH_UNKNOWN + 2; i++)
         for (j = 0; j < i; j++)
-            expect((strcmp(intake_text(i), intake_text(j)) == 0) == (j > INTAKE_POSITIONS_FULL), "text of a number", i);
+            expect((strcmp(intake_text(i), intake_text(j)) == 0) == (j > INTAKE_SEVENTH_UNKNOWN), "text of a number", i);
     for (i = 0; i <= INTAKE_NOT_STRONGLY_DETERMINISTIC + 2; i++)
         for (j = 0; j < i; j++)
             expect((strcmp(intake_kind_text(i), intake_kind_text(j)) == 0) == (j > INTAKE_NOT_STRONGLY_DETERMINISTIC),
@@ -105,6 +121,8 @@ static void lengths(void)
     expect(INTAKE_RECORD_ANSWER + (int)INTAKE_ANSWER_LENGTH == INTAKE_RECORD_STATE, "answer of a record", 0);
     expect(INTAKE_RECORD_STATE + (int)INTAKE_STATE_LENGTH == INTAKE_RECORD_LENGTH, "length of a record", 0);
     expect(INTAKE_PANEL_EMITTED + INTAKE_PANEL_EMITTED_LENGTH == INTAKE_PANEL_LENGTH, "length of a panel", 0);
+    expect(INTAKE_PREVIEW_NEVER + INTAKE_PREVIEW_NEVER_LENGTH == INTAKE_PREVIEW_WRONG, "sets of a preview", 0);
+    expect(INTAKE_PREVIEW_CODE + 1 == INTAKE_PREVIEW_LENGTH, "length of a preview", 0);
     expect(INTAKE_BOX_LENGTH % INTAKE_BAY_COUNT == 0, "length of a box", 0);
     expect(INTAKE_STACK_THREAD >= INTAKE_STACK_TICK && INTAKE_STACK_TICK >= INTAKE_STACK_CHECK, "stack", 0);
     expect(INTAKE_STACK_THREAD >= INTAKE_STACK_BOX, "stack of a box", 0);
@@ -116,6 +134,7 @@ int main(void)
     answers();
     states();
     recordings();
+    previews();
     texts();
     lengths();
     printf("%u passed, %u failed\n", passed, failed);

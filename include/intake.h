@@ -51,12 +51,12 @@ extern "C" {
 /*
  * What a call answers: 0, or the row of document 01, 'Turned down', that turns it down. The check gives 2 to 10, the
  * tick 1 to 12; of several rows that hold, the lowest, but rows 3 to 6 go command by command from the left. Row 6 by the
- * read-back set comes after them, once the whole statement was read, and before row 7. The calls on a box give 13 to 16
- * too: 13 before all others, 14 after row 10, and 15 before 16.
+ * read-back set comes after them, once the whole statement was read, and before row 7. The calls on a box give 13 to 17
+ * too: 13 before all others, 14 after row 10, 15 before 16, and 17 after row 12.
  */
 enum intake_number {
     INTAKE_ACCEPTED = 0,                /* accepted */
-    INTAKE_BUFFER_LENGTH = 1,           /* buffer not of its length: state 17, answer 12, record 37, panel 13, box 12,184 */
+    INTAKE_BUFFER_LENGTH = 1,           /* buffer not of its length: state 17, answer 12, record 37, panel 13, preview 10, box 12,184 */
     INTAKE_SEQUENCE_LENGTH = 2,         /* sequence of no bytes or over 1,024 */
     INTAKE_UNKNOWN_COMMAND = 3,         /* command byte above 0B */
     INTAKE_CUT_SHORT = 4,               /* operand or statement missing at the end */
@@ -71,7 +71,8 @@ enum intake_number {
     INTAKE_NO_SUCH_BAY = 13,            /* bay number above 7, filled bay on admission, empty bay otherwise */
     INTAKE_ABOVE_CEILING = 14,          /* the ceilings of the bays present and its own sum to more than 65,536 */
     INTAKE_NO_POSITION = 15,            /* machine that is not waiting on saving, unknown name otherwise */
-    INTAKE_POSITIONS_FULL = 16          /* seventeenth name of a position */
+    INTAKE_POSITIONS_FULL = 16,         /* seventeenth name of a position */
+    INTAKE_SEVENTH_UNKNOWN = 17         /* seventh input of unknown status in a preview */
 };
 
 /*
@@ -147,6 +148,22 @@ enum intake_panel {
     INTAKE_PANEL_LENGTH = 13
 };
 
+/*
+ * A preview of a bay's next instant over all fillings of the unknown inputs: the signals that are emitted for every
+ * filling, those that are emitted for none, each bit s being signal s, 1 if some filling is wrong and else 0, and the code
+ * that all fillings share or else INTAKE_OPEN. A wrong filling emits nothing, so with one no signal is emitted for every
+ * filling. A signal in neither set is emitted for some fillings and not for others; none is in both.
+ */
+enum intake_preview {
+    INTAKE_PREVIEW_ALWAYS = 0,
+    INTAKE_PREVIEW_ALWAYS_LENGTH = 4,
+    INTAKE_PREVIEW_NEVER = 4,
+    INTAKE_PREVIEW_NEVER_LENGTH = 4,
+    INTAKE_PREVIEW_WRONG = 8,
+    INTAKE_PREVIEW_CODE = 9,
+    INTAKE_PREVIEW_LENGTH = 10
+};
+
 /* The place of an error of a read-back signal, which no command of the sequence declares. */
 enum intake_place {
     INTAKE_PLACE_READ_BACK = 65535
@@ -156,6 +173,7 @@ enum intake_place {
 enum intake_code {
     INTAKE_ENDED = 0,
     INTAKE_WAITING = 1, /* the machine waits; after every other code it is over */
+    INTAKE_OPEN = 254,  /* of a preview and of no instant: the fillings do not share a code */
     INTAKE_WRONG = 255
 };
 
@@ -237,7 +255,8 @@ uint8_t intake_tick(const uint8_t *sequence, size_t sequence_length, uint8_t *st
  *
  * The bays share a ceiling: what the instants of all bays present can take, one of each, sums to INTAKE_SHARED_CEILING
  * reactions at most. The part of a bay is fixed on admission: commands * (1 + loops) * 2^signals of its sequence, as above
- * at the number of reactions. A release gives it back.
+ * at the number of reactions. A release gives it back. The ceiling speaks of instants: a preview, which is none, reacts up
+ * to 64 times and may take up to 64 times the bay's part.
  *
  * Nothing that is done with one bay changes what another one answers or holds; only the number of an admission depends on
  * the other bays, by their parts of the ceiling.
@@ -249,10 +268,10 @@ uint8_t intake_tick(const uint8_t *sequence, size_t sequence_length, uint8_t *st
  *
  * The caller must see to it that the buffers of a call have the lengths given and share no byte, that what is not const
  * is readable and writable and the rest readable, and that nobody else uses them during the call: two threads do not
- * use one box at the same time, unless both only read it (intake_box_service, intake_box_panel). A buffer of length 0
- * may be a null pointer. Every value of the bytes, every length and every bay number is allowed, also a box that no
- * call has written: the calls read and write no byte outside the buffers and always return. No address needs to be
- * aligned.
+ * use one box at the same time, unless both only read it (intake_box_service, intake_box_panel, intake_box_preview). A
+ * buffer of length 0 may be a null pointer. Every value of the bytes, every length and every bay number is allowed, also a
+ * box that no call has written: the calls read and write no byte outside the buffers and always return. No address needs to
+ * be aligned.
  */
 #define INTAKE_BAY_COUNT 8
 #define INTAKE_BOX_LENGTH 12184
@@ -320,6 +339,34 @@ uint8_t intake_box_service(const uint8_t *box, size_t box_length, uint32_t bay, 
                            uint8_t *view, size_t view_length);
 uint8_t intake_box_panel(const uint8_t *box, size_t box_length, uint32_t bay, const uint8_t *record, size_t record_length,
                          uint8_t *view, size_t view_length);
+
+/*
+ * Previews. A float switch is out for calibration, and nobody knows what it would say: does the pump run in the next
+ * instant all the same?
+ *
+ *     uint8_t preview[INTAKE_PREVIEW_LENGTH];
+ *     uint8_t number = intake_box_preview(box, sizeof box, bay, inputs, 1 << FLOAT_SWITCH, preview, sizeof preview);
+ *     if (number == INTAKE_ACCEPTED && (intake_preview_always(preview) >> PUMP & 1) != 0)
+ *         the pump runs, wherever the float stands
+ *     else if (number == INTAKE_ACCEPTED && (intake_preview_never(preview) >> PUMP & 1) != 0)
+ *         the pump stands still, wherever the float stands
+ *
+ * Bit s of `unknown` says that the status of signal s is not known, and bit s of `input` does not matter then. A filling
+ * gives each unknown input a status; for every one of them the preview has what an intake_box_tick with those inputs would
+ * answer now. Learning one more status keeps every signal that is in one of the two sets where it is, and a shared code
+ * too. With no unknown input the preview has the emitted set, the set of all others and the code of the next answer. A
+ * read-back signal among the unknown ones has no effect, since its status is never the host's, but counts as one of them.
+ *
+ * The box is not written: a preview is no instant and leaves no record. After the numbers of every call on a box come
+ * INTAKE_BUFFER_LENGTH for a preview of another length, then those of intake_tick on the bay's sequence, state record and
+ * read-back set, and then INTAKE_SEVENTH_UNKNOWN for more than INTAKE_UNKNOWN_COUNT unknown inputs. In a box that these
+ * calls alone have written those of intake_tick are INTAKE_ACCEPTED and INTAKE_OVER. A preview of k unknown inputs may take
+ * as long as 2^k ticks of the bay.
+ */
+#define INTAKE_UNKNOWN_COUNT 6
+
+uint8_t intake_box_preview(const uint8_t *box, size_t box_length, uint32_t bay, uint32_t input, uint32_t unknown,
+                           uint8_t *preview, size_t preview_length);
 
 /* The number in `count` bytes, at most 4, lowest first. */
 INTAKE_INLINE uint32_t intake_number_in(const uint8_t *bytes, size_t count)
@@ -428,6 +475,28 @@ INTAKE_INLINE uint32_t intake_panel_emitted(const uint8_t *view)
     return intake_number_in(view + INTAKE_PANEL_EMITTED, INTAKE_PANEL_EMITTED_LENGTH);
 }
 
+/* The fields of a preview. */
+INTAKE_INLINE uint32_t intake_preview_always(const uint8_t *preview)
+{
+    return intake_number_in(preview + INTAKE_PREVIEW_ALWAYS, INTAKE_PREVIEW_ALWAYS_LENGTH);
+}
+
+INTAKE_INLINE uint32_t intake_preview_never(const uint8_t *preview)
+{
+    return intake_number_in(preview + INTAKE_PREVIEW_NEVER, INTAKE_PREVIEW_NEVER_LENGTH);
+}
+
+/* Whether some filling is wrong. */
+INTAKE_INLINE int intake_preview_wrong(const uint8_t *preview)
+{
+    return preview[INTAKE_PREVIEW_WRONG] != 0;
+}
+
+INTAKE_INLINE uint8_t intake_preview_code(const uint8_t *preview)
+{
+    return preview[INTAKE_PREVIEW_CODE];
+}
+
 /* What the number of a call means, in words. */
 INTAKE_INLINE const char *intake_text(unsigned number)
 {
@@ -449,6 +518,7 @@ INTAKE_INLINE const char *intake_text(unsigned number)
     case INTAKE_ABOVE_CEILING: return "the bays together could take more than 65,536 reactions in an instant";
     case INTAKE_NO_POSITION: return "the machine is not waiting and has no position to save, or no position has this name";
     case INTAKE_POSITIONS_FULL: return "the bay keeps 16 positions, and none of them has this name";
+    case INTAKE_SEVENTH_UNKNOWN: return "a preview takes at most six inputs of unknown status";
     default: return "no number of a call";
     }
 }

@@ -137,6 +137,9 @@ def records(page):
     yield from record(page, "Answer record", "answer")
     yield from record(page, "Record", "record")
     yield from record(page, "Panel", "panel")
+    yield from record(page, "Preview", "preview")
+    if not any(row[3].endswith(f", else {values('code')['OPEN']}") for row in rows(page, "Preview")):
+        yield "the code of a preview whose fillings differ"
     phases = values("phase")
     words = "{PHASE_FRESH} fresh, {PHASE_WAITING} waiting, {PHASE_OVER} over".format(**phases)
     if rows(page, "State record")[0][3] != words:
@@ -177,7 +180,7 @@ def numbers(page):
     for row in rows(page, "No."):
         if row[3] and f"{row[0]}: {row[3].strip('`')}" not in examples:
             yield f"the example of number {row[0]} in host/examples.txt"
-        if not row[3] and row[0] not in ("1", "11", "12", "13", "14", "15", "16"):  # what these need is no sequence, or more than one
+        if not row[3] and row[0] not in ("1", "11", "12", "13", "14", "15", "16", "17"):  # what these need is no sequence, or more than one
             yield f"number {row[0]} has no example"
 
 
@@ -226,7 +229,7 @@ def calls(page):
     count, length = known["BAY_COUNT"], known["BOX_LENGTH"]
     if length != count * number(rows(page, "Stretch")[-1][2]) or f"up to {count} bays in {length:,} bytes" not in page:
         yield "the length of a box"
-    lengths = ", ".join(f"{name} {values(name)[f'{name}_LENGTH'.upper()]}" for name in ("state", "answer", "record", "panel"))
+    lengths = ", ".join(f"{name} {values(name)[f'{name}_LENGTH'.upper()]}" for name in ("state", "answer", "record", "panel", "preview"))
     if told["BUFFER_LENGTH"][1] != f"buffer not of its length: {lengths}, box {length:,}" or f"above {count - 1}," not in told["NO_SUCH_BAY"][1]:
         yield "the length and the bays of a box in the header's comments"
     if not told["ABOVE_CEILING"][1].endswith(f"more than {known['SHARED_CEILING']:,}"):
@@ -309,7 +312,7 @@ def faults(page):
 
 
 CHECKED = {"Byte": [0, 1, 2, 3], "Limit": [0, 1, 2], "State record": [0, 1, 2], "Answer record": [0, 1, 2],
-           "Record": [0, 1, 2], "Panel": [0, 1, 2], "Code": [0, 2],
+           "Record": [0, 1, 2], "Panel": [0, 1, 2], "Preview": [0, 1, 2], "Code": [0, 2],
            "Kind": [0, 1], "No.": [0, 1, 2, 3], "Stretch": [0, 1, 2], "Entry": [0, 1, 2], "Call": [0],
            "Part": [1], "Field": [0, 1], "Term": [3]}
 

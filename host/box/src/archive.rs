@@ -44,6 +44,15 @@ extern "C" {
         view: *mut u8,
         view_length: usize,
     ) -> u8;
+    fn intake_box_preview(
+        the_box: *const u8,
+        box_length: usize,
+        bay: u32,
+        input: u32,
+        unknown: u32,
+        preview: *mut u8,
+        preview_length: usize,
+    ) -> u8;
 }
 
 /// What is asked of a bay.
@@ -57,11 +66,13 @@ pub enum Call {
     Forget { name: u32 },
     Service { record: Vec<u8>, view_length: usize },
     Panel { record: Vec<u8>, view_length: usize },
+    Preview { input: u32, unknown: u32, preview_length: usize },
 }
 
-pub const CALLS: [&str; 8] = ["admit", "release", "tick", "save", "restore", "forget", "service", "panel"];
+pub const CALLS: [&str; 9] = ["admit", "release", "tick", "save", "restore", "forget", "service", "panel", "preview"];
 
-/// What a call writes to what it is lent beside the box: the answer and the record of a tick, or the view of a reader.
+/// What a call writes to what it is lent beside the box: the answer and the record of a tick, the view of a reader, or a
+/// preview.
 pub type Written = [Vec<u8>; 2];
 
 impl Call {
@@ -76,7 +87,13 @@ impl Call {
             Call::Forget { .. } => 5,
             Call::Service { .. } => 6,
             Call::Panel { .. } => 7,
+            Call::Preview { .. } => 8,
         }
+    }
+
+    /// Whether its box is only read.
+    pub fn reads(&self) -> bool {
+        matches!(self, Call::Service { .. } | Call::Panel { .. } | Call::Preview { .. })
     }
 
     /// The call with its bay, for a message.
@@ -94,6 +111,9 @@ impl Call {
             }
             Call::Service { record, view_length } | Call::Panel { record, view_length } => {
                 format!("{} {bay}: {} | {view_length}", CALLS[self.index()], hex(record))
+            }
+            Call::Preview { input, unknown, preview_length } => {
+                format!("preview {bay}: {input:08X}, unknown {unknown:08X} | {preview_length}")
             }
         }
     }
@@ -117,7 +137,7 @@ impl Archive {
     }
 
     /// Makes a call to a bay of the box that is lent. With `sealed` neither it nor what is lent beside it can be written
-    /// during the call. A reader's box never can.
+    /// during the call. A box that is only read never can.
     pub fn call(&mut self, lent: &mut Memory, bay: u32, call: &Call, sealed: bool) -> Given {
         self.turn = self.turn.wrapping_add(1);
         let (at_end, fill) = (self.turn & 1 == 0, self.turn);
@@ -127,6 +147,7 @@ impl Archive {
             Call::Service { record, view_length } | Call::Panel { record, view_length } => {
                 (&record[..], [*view_length, 0])
             }
+            Call::Preview { preview_length, .. } => (&[][..], [*preview_length, 0]),
             _ => (&[][..], [0, 0]),
         };
         let before = lengths.map(|length| vec![fill; length]);
@@ -136,7 +157,7 @@ impl Archive {
             memory.place(content, at_end, !fill);
             memory.writable(!sealed);
         }
-        lent.writable(!sealed && !matches!(call, Call::Service { .. } | Call::Panel { .. }));
+        lent.writable(!sealed && !call.reads());
         let number = self.made(lent, bay, call);
         lent.writable(true);
         self.read.writable(true);
@@ -172,6 +193,9 @@ impl Archive {
                     intake_box_service(the_box, length, bay, read, read_length, first, first_length)
                 }
                 Call::Panel { .. } => intake_box_panel(the_box, length, bay, read, read_length, first, first_length),
+                Call::Preview { input, unknown, .. } => {
+                    intake_box_preview(the_box, length, bay, *input, *unknown, first, first_length)
+                }
             }
         }
     }

@@ -1,6 +1,7 @@
 //! Random calls to a box: mostly such as a host makes, sequences whose ceilings meet or pass what is left, and mistakes.
 use crate::archive::Call;
 use crate::model::{Bay, Model, BAYS, SHARED, WAITING};
+use crate::previews::{PREVIEW_LENGTH, UNKNOWN};
 use crate::records::{PANEL_LENGTH, RECORD_LENGTH};
 use common::generate::{self, Random, Style};
 use common::table;
@@ -120,18 +121,23 @@ fn name(random: &mut Random, bay: Option<&Bay>, share: usize) -> u32 {
     random.pick(&[few, few, near, any, 0, u32::MAX])
 }
 
-/// Gives a call on a position a name that suits its bay.
-pub fn rename(random: &mut Random, model: &Model, request: &mut Request) {
+/// Gives a call on a position a name that suits its bay, and a preview mostly unknown inputs that its bay's sequence names.
+pub fn suit(random: &mut Random, model: &Model, request: &mut Request) {
     let bay = model.bays.get(request.bay as usize).and_then(Option::as_ref);
     match &mut request.call {
         Call::Save { name: own } => *own = name(random, bay, 15),
         Call::Restore { name: own } | Call::Forget { name: own } => *own = name(random, bay, 85),
+        Call::Preview { unknown, .. } if random.chance(60) => {
+            let sequence = bay.map_or(&[][..], |bay| &bay.sequence);
+            *unknown = generate::read_back(random, sequence, UNKNOWN);
+        }
         _ => {}
     }
 }
 
 /// Mostly a bay that suits the call: an empty one to admit to, one that is over to release, one that is not to tick, one
-/// that waits to save, one with positions to come back or to forget, a filled one to read.
+/// that waits to save, one with positions to come back or to forget, a filled one to read;
+/// to preview one that is not over.
 fn bay(random: &mut Random, model: &Model, call: &Call) -> u32 {
     let suits = |bay: &Option<Bay>| match call {
         Call::Admit { .. } => bay.is_none(),
@@ -140,6 +146,7 @@ fn bay(random: &mut Random, model: &Model, call: &Call) -> u32 {
         Call::Save { .. } => bay.as_ref().is_some_and(|bay| bay.state[0] == WAITING),
         Call::Restore { .. } | Call::Forget { .. } => bay.as_ref().is_some_and(|bay| !bay.positions.is_empty()),
         Call::Service { .. } | Call::Panel { .. } => bay.is_some(),
+        Call::Preview { .. } => bay.as_ref().is_some_and(|bay| !over(bay)),
     };
     let such: Vec<u32> = (0..BAYS as u32).filter(|&bay| suits(&model.bays[bay as usize])).collect();
     if such.is_empty() || random.chance(15) {
@@ -158,7 +165,8 @@ fn length(random: &mut Random, right: usize) -> usize {
     match random.chance(98) {
         true => right,
         false => {
-            random.pick(&[0, 1, right - 1, right + 1, ANSWER_LENGTH, PANEL_LENGTH, RECORD_LENGTH, right + 256, 1024])
+            let other = random.pick(&[ANSWER_LENGTH, PANEL_LENGTH, RECORD_LENGTH, PREVIEW_LENGTH]);
+            random.pick(&[0, 1, right - 1, right + 1, other, other, right + 256, 1024])
         }
     }
 }
@@ -179,8 +187,15 @@ fn reading(random: &mut Random, model: &Model) -> Call {
     }
 }
 
+/// A preview, mostly with few unknown inputs.
+fn previewing(random: &mut Random) -> Call {
+    let count = random.pick(&[0, 1, 1, 2, 2, 3, UNKNOWN - 1, UNKNOWN, UNKNOWN + 1, 32]);
+    let unknown = generate::set_of(random, count);
+    Call::Preview { input: runs::input(random), unknown, preview_length: length(random, PREVIEW_LENGTH) }
+}
+
 /// A call as the model's bays suggest it; `positions` is how many in a hundred are on positions, and `ticks` how many of
-/// the others, but for some that read a record, are ticks.
+/// the others, but for some that read a record and some previews, are ticks.
 pub fn request(random: &mut Random, model: &Model, positions: usize, ticks: usize) -> Request {
     let idle = model.bays.iter().flatten().all(over);
     let kind = if idle && random.chance(80) { 99 } else { random.below(100) };
@@ -193,6 +208,8 @@ pub fn request(random: &mut Random, model: &Model, positions: usize, ticks: usiz
         }
     } else if random.chance(15) {
         reading(random, model)
+    } else if random.chance(15) {
+        previewing(random)
     } else if kind < ticks {
         let (answer_length, record_length) = (length(random, ANSWER_LENGTH), length(random, RECORD_LENGTH));
         Call::Tick { input: runs::input(random), answer_length, record_length }
@@ -210,6 +227,6 @@ pub fn request(random: &mut Random, model: &Model, positions: usize, ticks: usiz
         random.pick(&[0, 1, right / BAYS, right - 1, right + 1, right - 256, right + 256, 2 * right, right + 65_536])
     });
     let mut request = Request { bay, length, call };
-    rename(random, model, &mut request);
+    suit(random, model, &mut request);
     request
 }

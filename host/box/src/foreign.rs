@@ -1,15 +1,17 @@
-//! Boxes that no call has written: every call returns, a refusal changes nothing, no call leaves its bay's stretch, and a
-//! tick is intake_tick on what the bay holds. Positions that calls could have left are kept as by name; of other bytes in
-//! their place a name that is there with phase 1 is known, and a call writes what is its own to write.
+//! Boxes that no call has written: every call returns, a refusal changes nothing, no call leaves its bay's stretch, a tick
+//! is intake_tick on what the bay holds, and a preview is one of those for each filling. Positions that calls could have
+//! left are kept as by name; of other bytes in their place a name that is there with phase 1 is known, and a call writes
+//! what is its own to write.
 use crate::archive::{Archive, Call, Given, Written};
 use crate::draw::{doubtful, request};
 use crate::layout::{
-    self, entries, held, put, put_entries, put_length, put_number, put_positions, put_sequence, put_state, table,
+    self, entries, held, put, put_entries, put_length, put_number, put_positions, put_sequence, put_state, table, Held,
     STRETCH,
 };
 use crate::lists::{nothing, Run};
 use crate::memory::Memory;
 use crate::model::{Bay, BAYS, POSITIONS, SHARED, WAITING};
+use crate::previews::{preview, PREVIEW_LENGTH};
 use crate::records::{panel, record, PANEL_LENGTH, RECORD_LENGTH};
 use crate::tally::Tally;
 use common::generate::Random;
@@ -131,6 +133,16 @@ fn forgotten(stretch: &mut [u8], given: &[u8], name: u32) -> Result<(), u8> {
     Ok(())
 }
 
+/// The answer and the next state of intake_tick on copies of what a bay holds, or its number.
+fn instant(here: &Held, input: u32) -> Result<[Vec<u8>; 2], u8> {
+    let lent = archive::Call { state: here.state, input, answer_length: ANSWER_LENGTH, fill: 0 };
+    let outcome = archive::tick((here.sequence.ok_or(2)?, here.read_back), lent);
+    match outcome.number {
+        0 => Ok([outcome.answer, outcome.state].map(|bytes| bytes.expect("guards"))),
+        number => Err(number),
+    }
+}
+
 /// The number and the answer of a call to these bytes, and what becomes of them, which are `given` after the call; an
 /// admission's part of the shared ceiling is not looked at.
 fn expected(bytes: &[u8], given: &[u8], bay: u32, call: &Call) -> (Result<Written, u8>, Vec<u8>) {
@@ -157,18 +169,12 @@ fn expected(bytes: &[u8], given: &[u8], bay: u32, call: &Call) -> (Result<Writte
         {
             Err(1)
         }
-        Call::Tick { input, .. } => here.sequence.ok_or(2).and_then(|sequence| {
-            let lent = archive::Call { state: here.state, input: *input, answer_length: ANSWER_LENGTH, fill: 0 };
-            let outcome = archive::tick((sequence, here.read_back), lent);
-            if outcome.number != 0 {
-                return Err(outcome.number);
-            }
-            let (answer, state) = (outcome.answer.expect("guards"), outcome.state.expect("guards"));
+        Call::Tick { input, .. } => instant(&here, *input).map(|[answer, state]| {
             let number = here.number.saturating_add(1);
             put_state(stretch, &state);
             put_number(stretch, number);
             let record = record(number, *input, &answer, &state);
-            Ok([answer, record])
+            [answer, record]
         }),
         Call::Save { .. } if here.state[0] != WAITING => Err(15),
         Call::Save { name } => saved(stretch, given, *name, here.state).map(nothing),
@@ -182,6 +188,11 @@ fn expected(bytes: &[u8], given: &[u8], bay: u32, call: &Call) -> (Result<Writte
             (RECORD_LENGTH, PANEL_LENGTH) => Ok([panel(record, here.service_only), vec![]]),
             _ => Err(1),
         },
+        Call::Preview { preview_length, .. } if *preview_length != PREVIEW_LENGTH => Err(1),
+        Call::Preview { input, unknown, .. } => {
+            preview(*input, *unknown, |input| instant(&here, input).map(|[answer, _]| answer))
+                .map(|preview| [preview, vec![]])
+        }
     };
     (given, after)
 }

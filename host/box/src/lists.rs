@@ -1,10 +1,11 @@
 //! Random lists of calls from an empty box: every number and every byte after every call, and a bay's own calls beside
 //! other traffic.
 use crate::archive::{Archive, Call, Written};
-use crate::draw::{rename, request, Request};
+use crate::draw::{request, suit, Request};
 use crate::layout::{self, LEDGER};
 use crate::memory::Memory;
 use crate::model::{Model, BAYS, POSITIONS, SHARED};
+use crate::previews::Previews;
 use crate::tally::Tally;
 use common::generate::Random;
 
@@ -79,6 +80,9 @@ impl Run {
             Call::Panel { record, view_length } => {
                 self.model.panel(lent, *bay, record, *view_length).map(|view| [view, vec![]])
             }
+            Call::Preview { input, unknown, preview_length } => {
+                self.model.preview(lent, *bay, [*input, *unknown], *preview_length).map(|preview| [preview, vec![]])
+            }
         };
         let sealed = self.sealed && expected.is_err();
         let given = match length {
@@ -123,6 +127,7 @@ pub fn nothing((): ()) -> Written {
 pub fn lists(tally: &mut Tally, random: &mut Random, count: usize) {
     let mut run = Run::new();
     let (mut full, mut exact, mut sixteen, mut last) = (0, 0, 0, 0);
+    let mut previews = Previews::default();
     for _ in 0..count {
         run.clear(random);
         let (calls, ticks) = (20 + random.below(181), random.pick(&[20, 60, 80, 90]));
@@ -135,6 +140,9 @@ pub fn lists(tally: &mut Tally, random: &mut Random, count: usize) {
             let seen = run.step(tally, &request);
             let number = seen.written.as_ref().and_then(|[_, record]| record.get(..4).map(<[u8]>::to_vec));
             last += (number == Some(u32::MAX.to_le_bytes().to_vec())) as u64;
+            if let (Call::Preview { .. }, Some([preview, _])) = (&request.call, &seen.written) {
+                previews.add(preview);
+            }
             full += run.model.bays.iter().all(Option::is_some) as u64;
             exact += (run.model.taken() == SHARED) as u64;
             sixteen += run.model.bays.iter().flatten().any(|bay| bay.positions.len() == POSITIONS) as u64;
@@ -142,14 +150,16 @@ pub fn lists(tally: &mut Tally, random: &mut Random, count: usize) {
     }
     println!("{count} lists; after {full} calls all bays were filled, after {exact} the whole ceiling was taken");
     println!("after {sixteen} calls a bay kept {POSITIONS} positions, and {last} instants had the greatest number");
+    println!("previews: {previews:?}");
+    tally.counts.expect(previews.all(), || format!("too few previews of a kind: {previews:?}"));
     let all = full > 0 && exact > 0 && sixteen > 0 && last > 0;
     tally
         .counts
         .expect(all, || "a full box, the whole ceiling, all positions or the greatest number was not met".into());
 }
 
-/// 02, items 8 to 10: two lists with the same calls to one bay, and its admissions answered alike, give it the same answers and
-/// the same bytes. The second list has other calls to the other bays.
+/// 02, items 8 to 11: two lists with the same calls to one bay, and its admissions answered alike, give it the same
+/// answers and the same bytes. The second list has other calls to the other bays.
 pub fn isolation(tally: &mut Tally, random: &mut Random, count: usize) {
     let (mut one, mut two) = (Run::new(), Run::new());
     let (mut compared, mut parted) = (0, 0);
@@ -164,7 +174,7 @@ pub fn isolation(tally: &mut Tally, random: &mut Random, count: usize) {
             let mut call = request(random, &one.model, positions, ticks);
             if random.chance(60) {
                 call.bay = own;
-                rename(random, &one.model, &mut call);
+                suit(random, &one.model, &mut call);
             }
             let seen = one.step(tally, &call);
             if call.bay != own {

@@ -1,7 +1,7 @@
-//! The host test of a box (02, items 8 to 10): the archive's calls against a model of eight bays (model.rs), whose check, tick and
-//! ceiling are those of the other host tests, and every byte against the layout (layout.rs); random lists of calls and a
-//! bay beside other traffic (lists.rs); boxes that no call has written (foreign.rs). All buffers stand between guard pages.
-//! An argument replaces the seed. The last line is 'N passed, M failed'.
+//! The host test of a box (02, items 8 to 11): the archive's calls against a model of eight bays (model.rs), whose check,
+//! tick and ceiling are those of the other host tests, and every byte against the layout (layout.rs); random lists of calls
+//! and a bay beside other traffic (lists.rs); boxes that no call has written (foreign.rs). All buffers stand between guard
+//! pages. An argument replaces the seed. The last line is 'N passed, M failed'.
 mod archive;
 mod draw;
 mod foreign;
@@ -9,6 +9,7 @@ mod layout;
 mod lists;
 mod memory;
 mod model;
+mod previews;
 mod records;
 mod tally;
 
@@ -27,6 +28,7 @@ fn main() -> ExitCode {
     tally.reached(&given, 0, &[0, 1, 2, 3, 4, 5, 6, 7, 8, 9, 10, 13, 14]);
     tally.reached(&given, 1, &[0, 1, 13]);
     tally.reached(&given, 2, &[0, 1, 12, 13]); // a box that its calls alone have written never gives 11
+    tally.reached(&given, 8, &[0, 1, 12, 13, 17]);
     others(&mut tally, &given);
     lists::isolation(&mut tally, &mut random, 1_500);
     tally.close("isolation");
@@ -35,6 +37,7 @@ fn main() -> ExitCode {
     tally.reached(&given, 0, &[0, 1, 2, 3, 4, 5, 6, 7, 8, 9, 10, 13, 14]);
     tally.reached(&given, 1, &[0, 1, 13]);
     tally.reached(&given, 2, &[0, 1, 2, 3, 4, 5, 6, 7, 8, 9, 10, 11, 12, 13]);
+    tally.reached(&given, 8, &[0, 1, 2, 3, 4, 5, 6, 7, 8, 9, 10, 11, 12, 13, 17]);
     others(&mut tally, &given);
     tally.counts.finish()
 }

@@ -1,6 +1,7 @@
-//! A box as 02, items 8 to 10, word it: eight bays, each empty or with a machine of its own, the positions that were saved
+//! A box as 02, items 8 to 11, word it: eight bays, each empty or with a machine of its own, the positions that were saved
 //! of it and the number of its last instant. It knows no bytes of a box.
 use crate::archive::Written;
+use crate::previews::{preview, PREVIEW_LENGTH};
 use crate::records::{panel, record, PANEL_LENGTH, RECORD_LENGTH};
 use common::reference;
 use common::reference::STATE_LENGTH;
@@ -59,6 +60,12 @@ impl Bay {
         self.number = self.number.saturating_add(1);
         let record = record(self.number, input, &instant.answer, &self.state);
         Ok([instant.answer, record])
+    }
+
+    /// The preview of the next instant, or number 11, 12 or 17.
+    fn preview(&self, input: u32, unknown: u32) -> Result<Vec<u8>, u8> {
+        let next = |input| instant(Order::InheritanceFirst, &self.tree, &self.term, &self.state, input);
+        preview(input, unknown, |input| next(input).map(|instant| instant.answer))
     }
 
     /// Number 15 unless the machine waits, then 16 for a seventeenth name.
@@ -163,5 +170,13 @@ impl Model {
             return Err(1);
         }
         Ok(panel(record, service_only))
+    }
+
+    pub fn preview(&mut self, length: usize, bay: u32, inputs: [u32; 2], preview_length: usize) -> Result<Vec<u8>, u8> {
+        let bay = self.filled(length, bay)?;
+        if preview_length != PREVIEW_LENGTH {
+            return Err(1);
+        }
+        bay.preview(inputs[0], inputs[1])
     }
 }
