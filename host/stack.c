@@ -3,9 +3,9 @@
  * the lowest byte that changed tells. What the same call of an empty function takes is left out. Every sequence has depth
  * 64, the greatest: commands with parts 63 times, inside them a leaf, and their other parts leaves beside. Six signals stand
  * around it in the sequence, or outside by the read-back set, which takes no level of the depth. Each is admitted to a box
- * too, ticked twice there, its record read, saved sixteen times and once more, restored, forgotten and released. The most of
- * the check, of the tick and of the calls on a box is held to what include/intake.h promises, and a thread of the size that
- * it names runs the deepest calls.
+ * too, previewed and ticked twice there, its record read, saved sixteen times and once more, restored, forgotten and
+ * released. The most of the check, of the tick and of the calls on a box is held to what include/intake.h promises, and a
+ * thread of the size that it names runs the deepest calls.
  */
 #include "intake.h"
 
@@ -22,7 +22,7 @@ enum { STACK = 65536, PAINT = 0xA5, DEPTH = 64, HATCH = 31, SIGNALS = 6, MIXES =
 static uint8_t stack[STACK], sequence[1024], state[INTAKE_STATE_LENGTH], answer[INTAKE_ANSWER_LENGTH];
 static uint8_t box[INTAKE_BOX_LENGTH], record[INTAKE_RECORD_LENGTH], view[INTAKE_RECORD_LENGTH];
 static size_t length;
-static uint32_t input, read_back, name;
+static uint32_t input, read_back, name, unknown = 0x3F; /* six unknown inputs of a preview */
 static uint8_t number;
 static ucontext_t here, there;
 static unsigned passed, failed;
@@ -49,6 +49,11 @@ static void box_service(void)
 static void box_panel(void)
 {
     number = intake_box_panel(box, sizeof box, BAY, record, sizeof record, view, INTAKE_PANEL_LENGTH);
+}
+
+static void box_preview(void)
+{
+    number = intake_box_preview(box, sizeof box, BAY, input, unknown, view, INTAKE_PREVIEW_LENGTH);
 }
 
 static void box_release(void) { number = intake_box_release(box, sizeof box, BAY); }
@@ -202,12 +207,14 @@ static size_t in_box(uint8_t admitted, const char *what)
         bytes = larger(bytes, used(box_admit, admitted, what));
         if (admitted != INTAKE_ACCEPTED)
             continue;
+        bytes = larger(bytes, used(box_preview, INTAKE_ACCEPTED, what));
         bytes = larger(bytes, used(box_tick, INTAKE_ACCEPTED, what));
         int waits = answer[INTAKE_ANSWER_CODE] == INTAKE_WAITING;
         bytes = larger(bytes, positions(waits, what));
         bytes = larger(bytes, used(box_service, INTAKE_ACCEPTED, what));
         bytes = larger(bytes, used(box_panel, INTAKE_ACCEPTED, what));
         uint8_t next = waits ? INTAKE_ACCEPTED : INTAKE_OVER;
+        bytes = larger(bytes, used(box_preview, next, what));
         bytes = larger(bytes, used(box_tick, next, what));
         bytes = larger(bytes, used(box_release, INTAKE_ACCEPTED, what));
     }
@@ -339,6 +346,7 @@ int main(void)
             row(&nests[i], around[a].signals, around[a].name);
         }
     srand(1);
+    unknown = 1; /* so that the many previews take less time */
     for (unsigned i = 0; i < MIXES; i++)
         mixed();
     hold("intake_check", most_check, INTAKE_STACK_CHECK);
