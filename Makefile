@@ -150,7 +150,7 @@ bench-tick: $(INTAKE_ARCHIVE) # times the tick, and the dearest instant
 	$(TIMED) -Iinclude bench/tick.c bench/plain.c $(INTAKE_ARCHIVE) -lm -o target/bench/tick
 	@target/bench/tick $(BAYS)
 
-bench-box: $(INTAKE_ARCHIVE) # times the tick of a bay against intake_tick, and admission against plain C
+bench-box: $(INTAKE_ARCHIVE) # times the tick of a bay against intake_tick, and admission and previews against plain C
 	@mkdir -p target/bench
 	$(TIMED) -Iinclude bench/box.c bench/plain.c bench/plain_box.c $(INTAKE_ARCHIVE) -lm -o target/bench/box
 	@target/bench/box $(BAYS)

@@ -2,7 +2,8 @@
  * Times the tick of a bay against intake_tick on the same sequence, record and inputs, and admission to a box against
  * plain C that does the same: in turn within each round, caches and branch predictors warm. The other seven bays are
  * filled. The run files that are named are run whole, the sequences made by rule for up to two instants. Then the calls on
- * positions, of a bay that keeps sixteen, and the readers of a record, against plain C.
+ * positions, of a bay that keeps sixteen, and the readers of a record, against plain C; and previews of the next instant
+ * against as many ticks of plain C as there are fillings.
  */
 #include "timing.h"
 
@@ -227,6 +228,87 @@ static void readings(void)
     }
 }
 
+enum { UNKNOWN_COUNTS = 3 };
+
+typedef uint8_t previews_bay(const uint8_t *, size_t, uint32_t, uint32_t, uint32_t, uint8_t *, size_t);
+
+/* A preview of a bay, and how many of them a sample has. */
+struct previewing {
+    uint32_t unknown;
+    unsigned previews;
+};
+
+/* Processor nanoseconds of a preview; that of plain C is a tick for each filling. */
+static double sample_preview(const void *what, int plain)
+{
+    static volatile uint8_t sink;
+    static previews_bay *const calls[2] = {intake_box_preview, plain_box_preview};
+    const struct previewing *row = what;
+    uint8_t preview[INTAKE_PREVIEW_LENGTH];
+    double start = nanoseconds();
+    for (unsigned i = 0; i < row->previews; i++)
+        sink = calls[plain](boxes[plain], INTAKE_BOX_LENGTH, BAY, 0, row->unknown, preview, sizeof preview);
+    (void)sink;
+    return (nanoseconds() - start) / row->previews;
+}
+
+/* Admits the bay to both boxes, and lets it wait where its first instant does. */
+static void prepare_preview(const struct bay *bay, const char *name)
+{
+    uint8_t answer[INTAKE_ANSWER_LENGTH], record[INTAKE_RECORD_LENGTH];
+    for (int plain = 0; plain < 2; plain++) {
+        if (admit(plain_box_admit, boxes[plain], bay) != 0 ||
+            plain_box_tick(boxes[plain], sizeof *boxes, BAY, word_at(bay->file + 2 + bay->length + 4), answer, sizeof answer,
+                           record, sizeof record) != 0)
+            give_up(name, "not admitted");
+        if (answer[0] != INTAKE_WAITING)
+            memset(boxes[plain] + AT_STATE, 0, INTAKE_STATE_LENGTH);
+    }
+}
+
+/* Prints the row of a bay's previews with 0, 3 and 6 unknown inputs, and adds the logarithms of their ratios. */
+static void preview_row(const struct bay *bay, const char *name, double *logarithms)
+{
+    static const uint32_t unknown[UNKNOWN_COUNTS] = {0, 0x07, 0x3F};
+    uint8_t previews[2][INTAKE_PREVIEW_LENGTH];
+    prepare_preview(bay, name);
+    printf("%-30s %5zu", name, bay->length);
+    for (unsigned i = 0; i < UNKNOWN_COUNTS; i++) {
+        struct previewing row = {unknown[i], 1};
+        if (intake_box_preview(boxes[0], sizeof *boxes, BAY, 0, unknown[i], previews[0], sizeof *previews) != 0 ||
+            plain_box_preview(boxes[1], sizeof *boxes, BAY, 0, unknown[i], previews[1], sizeof *previews) != 0 ||
+            memcmp(previews[0], previews[1], sizeof *previews) != 0)
+            give_up(name, "not the same preview");
+        double once = fmax(sample_preview(&row, 1), 1);
+        row.previews = once > SAMPLE ? 1 : (unsigned)(SAMPLE / once);
+        struct comparison preview = compare(sample_preview, &row, ROUNDS);
+        printf(" %9.0f %9.0f %6.2f", preview.intake, preview.plain, preview.ratio);
+        logarithms[i] += log(preview.ratio);
+    }
+    printf("\n");
+    fflush(stdout);
+}
+
+static void previews(size_t length, int count, char **paths)
+{
+    static struct bay bay;
+    double logarithms[UNKNOWN_COUNTS] = {0};
+    unsigned rows = 0;
+    printf("%-36s %-26s %-26s %-26s\n", "ns a preview, against plain ticks", "   0 unknown, 1 tick", "   3 unknown, 8 ticks",
+           "   6 unknown, 64 ticks");
+    for (unsigned i = 0; i < sizeof shapes / sizeof *shapes; i++, rows++) {
+        build(&bay, &shapes[i], length);
+        preview_row(&bay, shapes[i].name, logarithms);
+    }
+    for (int i = 1; i < count; i++, rows++) {
+        if (!read_bay(&bay, paths[i]))
+            give_up(paths[i], "not a run that both accept, or not the same");
+        preview_row(&bay, paths[i], logarithms);
+    }
+    printf("geometric means of the ratios: %.2f, %.2f and %.2f\n", exp(logarithms[0] / rows), exp(logarithms[1] / rows),
+           exp(logarithms[2] / rows));
+}
+
 int main(int count, char **paths)
 {
     static const size_t lengths[] = {14, 64, 256, 1024};
@@ -255,4 +337,5 @@ int main(int count, char **paths)
            exp(logarithms[1] / rows[1]));
     positions(small, sizeof small);
     readings();
+    previews(256, count, paths);
 }
