@@ -1,8 +1,9 @@
 /*
  * A small host with several bays: runs the bays of up to eight run files side by side in one box, an instant of each in
  * turn, and prints a line for each instant. A word such as 0:4:save:1 asks for a call on a position: before instant 4 of bay
- * 0 save it under the name 1; restore comes back to it, and forget forgets it. A word such as 0:record:FILE keeps the records
- * of bay 0 in a file, for tools/show --recording.
+ * 0 save it under the name 1; restore comes back to it, and forget forgets it. A word such as 0:6:preview:4 asks for a
+ * preview of instant 6 of bay 0 in which the status of signal 2, the set 4, is not known. A word such as 0:record:FILE keeps
+ * the records of bay 0 in a file, for tools/show --recording.
  *
  *     gcc -Iinclude host/example_box.c target/staticlib/libintake.a -o example_box
  *     ./example_box examples/intake.bin examples/rinse.bin
@@ -29,7 +30,7 @@ struct bay {
     FILE *recording;
 };
 
-/* A call on a position of a bay, before one of its instants. */
+/* A call on a position of a bay, or a preview, before one of its instants; a preview has a set in the place of a name. */
 struct request {
     uint32_t bay;
     size_t instant;
@@ -37,17 +38,13 @@ struct request {
     uint32_t name;
 };
 
-static const struct {
-    const char *name;
-    uint8_t (*call)(uint8_t *box, size_t box_length, uint32_t bay, uint32_t name);
-} calls[] = {{"save", intake_box_save}, {"restore", intake_box_restore}, {"forget", intake_box_forget}};
-
 enum { MAX_REQUESTS = 256 };
 
 static uint8_t box[INTAKE_BOX_LENGTH]; /* all bytes 00: eight empty bays */
 static struct bay bays[INTAKE_BAY_COUNT];
 static struct request requests[MAX_REQUESTS];
 static size_t request_count;
+static uint8_t foreseen[INTAKE_PREVIEW_LENGTH]; /* by the last preview */
 
 static bool read_file(struct bay *bay, const char *path)
 {
@@ -72,8 +69,23 @@ static void admit(uint32_t number_of_bay)
         printf("%" PRIu32 " refused %u: %s\n", number_of_bay, (unsigned)number, intake_text(number));
 }
 
+/* What the next instant of a bay does for every status of the unknown inputs. */
+static uint8_t preview(uint8_t *whole, size_t length, uint32_t bay, uint32_t unknown)
+{
+    bool given = bays[bay].count - bays[bay].next >= INPUT_BYTES;
+    uint32_t input = given ? intake_number_in(bays[bay].file + bays[bay].next, INPUT_BYTES) : 0;
+    return intake_box_preview(whole, length, bay, input, unknown, foreseen, sizeof foreseen);
+}
+
+static const struct {
+    const char *name;
+    uint8_t (*call)(uint8_t *box, size_t box_length, uint32_t bay, uint32_t name);
+} calls[] = {
+    {"save", intake_box_save}, {"restore", intake_box_restore}, {"forget", intake_box_forget}, {"preview", preview},
+};
+
 /* Makes the calls that are asked for before the bay's next instant. */
-static void positions(uint32_t number_of_bay)
+static void asked_calls(uint32_t number_of_bay)
 {
     for (const struct request *asked = requests; asked < requests + request_count; asked++)
         for (size_t i = 0; i < sizeof calls / sizeof *calls; i++)
@@ -83,6 +95,10 @@ static void positions(uint32_t number_of_bay)
                 printf("%" PRIu32 " %s %" PRIu32, number_of_bay, asked->call, asked->name);
                 if (number != INTAKE_ACCEPTED)
                     printf(" refused %u: %s", (unsigned)number, intake_text(number));
+                else if (calls[i].call == preview)
+                    printf(" always %08" PRIx32 " never %08" PRIx32 " wrong %d code %u", intake_preview_always(foreseen),
+                           intake_preview_never(foreseen), intake_preview_wrong(foreseen),
+                           (unsigned)intake_preview_code(foreseen));
                 putchar('\n');
             }
 }
@@ -92,7 +108,7 @@ static void instant(uint32_t number_of_bay)
 {
     struct bay *bay = &bays[number_of_bay];
     uint8_t answer[INTAKE_ANSWER_LENGTH], record[INTAKE_RECORD_LENGTH];
-    positions(number_of_bay);
+    asked_calls(number_of_bay);
     if (bay->count - bay->next < INPUT_BYTES ||
         intake_box_tick(box, sizeof box, number_of_bay, intake_number_in(bay->file + bay->next, INPUT_BYTES), answer,
                         sizeof answer, record, sizeof record) != INTAKE_ACCEPTED) {

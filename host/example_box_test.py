@@ -92,12 +92,14 @@ def drawn():
 def positions(host, commands):
     """The commands of the pages, as they stand there, and their recording; and beside another bay, which they leave as it is."""
     for words, expected in commands:
-        file = ROOT / words[-1].partition(":record:")[2]
-        file.unlink(missing_ok=True)
+        kept = [ROOT / word.partition(":record:")[2] for word in words if ":record:" in word]
+        for file in kept:
+            file.unlink(missing_ok=True)
         done = subprocess.run([host, *words], capture_output=True, text=True, check=False, cwd=ROOT)
         examples.expect(done.returncode == 0 and done.stdout == expected, f"{words}: {done.stdout}{done.stderr}")
-        recorded(file.read_bytes(), expected)
-        examples.expect(len(list(drawn())) == 2, "what the pages show of a recording")
+        for file in kept:
+            recorded(file.read_bytes(), expected)
+            examples.expect(len(list(drawn())) == 2, "what the pages show of a recording")
         beside = subprocess.run([host, *words, words[0]], capture_output=True, text=True, check=False, cwd=ROOT)
         own = [line for line in beside.stdout.splitlines() if line.startswith("0 ")]
         other = [line[2:] for line in beside.stdout.splitlines() if line.startswith("1 ")]
@@ -109,7 +111,7 @@ def positions(host, commands):
 def main(hosts):
     files = examples.documented()
     commands = shown()
-    examples.expect(len(commands) == 1, f"{len(commands)} commands of pages")
+    examples.expect(len(commands) == 2, f"{len(commands)} commands of pages")
     for host in hosts:
         rng = random.Random(1)
         for _ in range(LISTS):
