@@ -10,7 +10,8 @@ use lib.ListN.{length}
 use lib.Dec.{leb}
 use borrow.Author.Tests.{eq-eqb, ne-eqb, eqb-true, eqb-false, le-leb, lt-leb, leb-true, leb-false}
 use Rattle.sequence.specs.Check.{Checked, sound, bad, checked, numberOf, checkOf}
-use Rattle.sequence.proofs.Rows.{check-by-rows, row-range}
+use Rattle.sequence.specs.Rows.{rank}
+use Rattle.sequence.proofs.Rows.{check-by-rows, row-rank}
 use Rattle.demands.specs.TickRows.{TickRow, row-1, row-2-to-10, row-11, row-12}
 use Rattle.demands.proofs.Sequence.{accepted}
 use Rattle.demands.proofs.Demand1.{demand-1}
@@ -28,9 +29,9 @@ use Rattle.box_theory.proofs.Previews.{preview-not-13}
 use Rattle.box_theory.proofs.Stretches.{no-bay, other-box, stretch-sized, own}
 
 -- ---- the numbers of a call on a stretch
-tick-range : {sequence : List ℕ} {readBack : ℕ} {state answer : List ℕ} (k : ℕ) → TickRow sequence readBack state answer k → k ≤ 12
+tick-range : {sequence : List ℕ} {readBack : ℕ} {state answer : List ℕ} (k : ℕ) → TickRow sequence readBack state answer k → rank k ≤ rank 12
 tick-range k (row-1 x) = omega arith
-tick-range {sequence} {readBack} k (row-2-to-10 r) = omega (arith, row-range sequence readBack k r)
+tick-range {sequence} {readBack} k (row-2-to-10 r) = omega (arith, row-rank sequence readBack k r)
 tick-range k (row-11 s m) = omega arith
 tick-range k (row-12 e) = omega arith
 
@@ -65,7 +66,7 @@ bay-not-13 k (admit t) s l n =
       | no h ↦
           let e = sym (bad-number k s t h) ∙ n in
           let r = check-by-rows (t .sequence) (t .readBack) .refusal 13 (λ z. omega arith) .0 e .0 in
-          omega (arith, row-range (t .sequence) (t .readBack) 13 r)
+          omega (arith, row-rank (t .sequence) (t .readBack) 13 r)
     ]
   where
     go : (b : Bool) → byRoom b ≡ 13 → ⊥

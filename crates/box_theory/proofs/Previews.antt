@@ -6,6 +6,7 @@ use mathlib.Core.Logic.{_≢_, ⊎-elim}
 use mathlib.Core.List.{List, [], _∷_}
 use Rattle.fillings.specs.Preview as fillings
 use Rattle.fillings.specs.Preview.{Previewed, previewed, previewOf}
+use Rattle.sequence.specs.Rows.{rank}
 use Rattle.fillings.proofs.Numbers.{lent-left, preview-range}
 use Rattle.box_calls.specs.Called.{Called, called, number, memoryAfter}
 use Rattle.box_calls.specs.Stretch.{sequenceIn, readBackIn, stateIn}
@@ -41,7 +42,7 @@ module _ (s : List ℕ) (e unknown : ℕ) (buffer : List ℕ) where
 
   pub preview-not-13 : number (bayPreviewOf s e unknown buffer) ≢ 13
   preview-not-13 h =
-      ⊎-elim (λ l. omega (arith, preview-number)) (λ l. omega (arith, preview-number))
+      ⊎-elim (λ l. omega (arith, l, ap rank (sym preview-number ∙ h))) (λ l. omega (arith, preview-number))
       (preview-range (sequenceIn s) (stateIn s) (readBackIn s) e unknown buffer)
 
   pub preview-shown : number (bayPreviewOf s e unknown buffer) ≡ 0

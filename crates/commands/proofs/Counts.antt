@@ -1,13 +1,13 @@
 -- What a count says of its byte, and the counts of all bytes against the printed table.
-use Prim.Native.Nat.{ℕ, zero, suc, _<_}
+use Prim.Native.Nat.{ℕ, zero, suc, _≤_, _<_}
 use mathlib.Core.Path.{_≡_, refl, sym, ap, _∙_}
 use mathlib.Core.Bool.{Bool, true, false, _&&_, and-eq-true-iff, false≢true}
-use mathlib.Core.List.{[], _∷_}
+use mathlib.Core.List.{List, [], _∷_}
 use mathlib.Core.Option.{Option, none, some}
 use native.Mathlib.Decide.{decLt}
 use native.Mathlib.Omega.{arith}
 use lib.Dec.{eqb}
-use borrow.Author.Tests.{eqb-true, eq-eqb}
+use borrow.Author.Tests.{eqb-true, ne-eqb}
 use Rattle.sequence.specs.Commands.{Command, commandOf, operandCount, inRange}
 use Rattle.commands.specs.declared.Count.the-variants.{NoCommand, Of}
 use Rattle.commands.specs.Counts.{counted, operandsAt, partsAt, countOf, orZero, operandInRange}
@@ -34,8 +34,25 @@ no-count (some m) e = absurd (let x : _≡_ {A = ℕ} 0 1 = cc in omega arith)
 pub at-command : (f : Command → ℕ) {o : Option Command} (c : Command) → o ≡ some c → orZero (counted f o) ≡ f c
 at-command f c e = rw e
 
-pub operand-of : {o : Option Command} (c : Command) (x : ℕ) → o ≡ some c → operandCount c ≡ 1 → operandInRange o x ≡ inRange c (x ∷ [])
-operand-of c x e n = rw (e, eq-eqb (operandCount c) 1 n)
+-- the range looks at the first operand alone
+first-alone : (c : Command) (x : ℕ) (xs : List ℕ) → inRange c (x ∷ []) ≡ inRange c (x ∷ xs)
+first-alone Command.nothing x xs = refl
+first-alone Command.pause x xs = refl
+first-alone Command.emit x xs = refl
+first-alone Command.exit x xs = refl
+first-alone Command.seq x xs = refl
+first-alone Command.par x xs = refl
+first-alone Command.loop x xs = refl
+first-alone Command.present x xs = refl
+first-alone Command.signal x xs = refl
+first-alone Command.try x xs = refl
+first-alone Command.setpause x xs = refl
+first-alone Command.suspend x xs = refl
+first-alone Command.deliver x xs = refl
+
+pub operand-of : {o : Option Command} (c : Command) (x : ℕ) → o ≡ some c → 1 ≤ operandCount c → (xs : List ℕ)
+    → operandInRange o x ≡ inRange c (x ∷ xs)
+operand-of c x e n xs = rw (e, ne-eqb (operandCount c) 0 (λ z. absurd (omega (arith, n, z)))) (first-alone c x xs)
 
 -- ---- all bytes
 abbrev same : Option ℕ → Option ℕ → Bool

@@ -28,10 +28,10 @@ abbrev pub orZero : Option ℕ → ℕ
 orZero none = 0
 orZero (some n) = n
 
--- is x, the one operand byte of a command, in its range? Where there is no operand, it is asked as of a signal
+-- is x, the first operand byte of a command, in its range? Where there is no operand, it is asked as of a signal
 abbrev pub operandInRange : Option Command → ℕ → Bool
 operandInRange none x = ltb x signalCount
-operandInRange (some c) x = cond (eqb (operandCount c) 1) (inRange c (x ∷ [])) (ltb x signalCount)
+operandInRange (some c) x = cond (eqb (operandCount c) 0) (ltb x signalCount) (inRange c (x ∷ []))
 
 -- as the code says it
 abbrev pub countOf : Option ℕ → Count

@@ -1,13 +1,13 @@
--- 01's table of commands as it is printed, with the row of 02, item 1: a byte, then a letter for each operand and each part.
+-- 01's table of commands as it is printed, with the rows of 02, items 1 and 12: a byte, then a letter for each operand and each part.
 use Prim.Native.Nat.{ℕ, _+_}
 use mathlib.Core.Bool.{Bool, true, false, not, cond}
 use mathlib.Core.Option.{Option, none, some}
 use mathlib.Core.List.{List, [], _∷_}
 use lib.Dec.{eqb}
 
--- l is a label, s a signal, n the number of an exit; p and q are parts
+-- l is a label, s a signal, n the number of an exit, v litres; p and q are parts
 pub data Letter : Type 0 where
-  l s n p q : Letter
+  l s n v p q : Letter
 
 pub data Row : Type 0 where
   row : (byte : ℕ) (letters : List Letter) → Row
@@ -26,19 +26,30 @@ printed =
     ∷ row 0x09 (p ∷ [])
     ∷ row 0x0A (l ∷ [])
     ∷ row 0x0B (s ∷ p ∷ [])
+    ∷ row 0x0C (s ∷ v ∷ [])
     ∷ []
 
 abbrev pub isPart : Letter → Bool
 isPart l = false
 isPart s = false
 isPart n = false
+isPart v = false
 isPart p = true
 isPart q = true
 
--- the letters of which f says true, counted
+-- 01: 'operands take one byte each'; 02: litres 'in 4 bytes'
+abbrev pub bytes : Letter → ℕ
+bytes l = 1
+bytes s = 1
+bytes n = 1
+bytes v = 4
+bytes p = 1
+bytes q = 1
+
+-- the letters of which f says true, counted, an operand by its bytes
 abbrev pub count : (Letter → Bool) → List Letter → ℕ
 count f [] = 0
-count f (x ∷ xs) = cond (f x) (1 + count f xs) (count f xs)
+count f (x ∷ xs) = cond (f x) (bytes x + count f xs) (count f xs)
 
 -- the count in the row of a byte, if the table has one
 abbrev pub countIn : (Letter → Bool) → ℕ → List Row → Option ℕ

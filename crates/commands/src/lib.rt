@@ -26,8 +26,11 @@ pub fn operand_count(b: u8) -> Count
     if b == 9 {
         return Count::Of(0);
     }
-    if b <= limits::LAST_COMMAND {
+    if b < limits::LAST_COMMAND {
         return Count::Of(1);
+    }
+    if b == limits::LAST_COMMAND {
+        return Count::Of(5);
     }
     Count::NoCommand
 }
@@ -48,13 +51,16 @@ pub fn part_count(b: u8) -> Count
     if b == 10 {
         return Count::Of(0);
     }
+    if b == limits::LAST_COMMAND {
+        return Count::Of(0);
+    }
     if limits::LAST_COMMAND < b {
         return Count::NoCommand;
     }
     Count::Of(1)
 }
 
-// Is x, the one operand byte of the command b, in its range? Without an operand, that of signals.
+// Is x, the first operand byte of the command b, in its range? Without an operand, that of signals.
 pub fn in_range(b: u8, x: u8) -> bool
     ensures { λ r. ⌜ r ≡ operandInRange (commandOf b) x ⌝ }
 {

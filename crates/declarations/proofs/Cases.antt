@@ -11,17 +11,20 @@ use Rattle.esterel.specs.Statement.{Scope, local, reported, Statement}
 use Rattle.esterel.specs.Reaction.{Code, ended, waiting, leaving, wrong, isWrong, gives, failed, outside, Case, both, neither, only−, only+, inherited, inheritanceFirst, firstFit, answer}
 use Rattle.esterel.specs.Reaction as rules
 use Rattle.esterel.specs.Errors.{Error, notReactive, notDeterministic}
+use Rattle.esterel.specs.Litres as litres
+use Rattle.esterel.specs.Litres.{passing}
 use Rattle.esterel.specs.Resume as Esterel
 use Rattle.esterel.specs.Resume.{instant, ifWrong, signalNames, tree, signalTree, signalOnce}
 use Rattle.theory.proofs.Sets.{remove-absent}
 use Rattle.theory.proofs.Rules.{either-wrong}
+use Rattle.theory.proofs.Litres.{passing-none}
 use Rattle.completions.specs.declared.Completion.{Completion}
 use Rattle.reaction.specs.declared.Reaction.{Reaction}
 use Rattle.declarations.specs.declared.Choice.{Choice}
 use Rattle.declarations.specs.declared.Choice.the-variants.{Both, Neither, OnlyMinus, OnlyPlus, Inherited}
 use Rattle.completions.specs.Completions.{completionOf, codeOf, greaterOf}
 use Rattle.completions.proofs.Completions.{code-of, greater-of}
-use Rattle.reaction.specs.Reactions.{keptOf, reactionOf, failedWith}
+use Rattle.reaction.specs.Reactions.{keptOf, cappedOf, reactionOf, failedWith}
 use Rattle.declarations.specs.Choices.{choiceOf, caseIn}
 use Rattle.reaction.proofs.Values.{kept-two, made}
 
@@ -40,13 +43,14 @@ same-case only+ = refl
 same-case inherited = refl
 
 -- the tree of a case
-abbrev inCase : Case → Scope → (b s : ℕ) → Esterel.Tree → Esterel.Tree → Esterel.Tree
-inCase d sc b s (tree (instant (gives o− k− l− t−) x− n−) a−) (tree (instant r+ x+ n+) a+) =
+abbrev inCase : Case → (f : ℕ) → Scope → (b s : ℕ) → Esterel.Tree → Esterel.Tree → Esterel.Tree
+inCase d f sc b s (tree (instant (gives o− k− l− t−) x− n−) a− y−) (tree (instant r+ x+ n+) a+ y+) =
     tree (instant (answer d sc b s (gives o− k− l− t−) r+) (signalNames d b (ifWrong k− x− x+)) (1 + n− + n+)) (remove s (join a− a+))
+    (passing sc f s (litres.chosen d y− y+))
 
-as-fits : (sc : Scope) (b s : ℕ) (t u : Esterel.Tree)
-    → signalTree sc b s t u ≡ inCase (caseIn s (reactionOf t) (reactionOf u)) sc b s t u
-as-fits sc b s (tree (instant (gives o− k− l− t−) x− n−) a−) (tree (instant (gives o+ k+ l+ t+) x+ n+) a+) =
+as-fits : (f : ℕ) (sc : Scope) (b s : ℕ) (t u : Esterel.Tree)
+    → signalTree f sc b s t u ≡ inCase (caseIn s (reactionOf t) (reactionOf u)) f sc b s t u
+as-fits f sc b s (tree (instant (gives o− k− l− t−) x− n−) a− y−) (tree (instant (gives o+ k+ l+ t+) x+ n+) a+ y+) =
     rw (code-of k− x−, code-of k+ x+)
 
 -- the two runs of a case: not wrong, or one of them wrong
@@ -103,135 +107,153 @@ Counted p q m = m ≡ keptOf (1 + p .taken + q .taken)
 abbrev Noted : (s : ℕ) (p q : Reaction) (a : ℕ) → Type 0
 Noted s p q a = a ≡ remove s (join (p .asked) (q .asked))
 
-abbrev InBoth : (sc : Scope) (b s : ℕ) (t u : Esterel.Tree) (p q : Reaction) → Type 0
-InBoth sc b s t u p q =
-    (o m a : ℕ) → Runs s p q false → o ≡ outside sc s (q .emitted) → Counted p q m → Noted s p q a
-    → _≡_ {A = Reaction} (record { emitted = o; labels = q .labels; completion = q .completion; taken = m; asked = a })
-    (reactionOf (inCase both sc b s t u))
+-- what passes of the litres of a run
+abbrev Passes : (f : ℕ) → Scope → (s : ℕ) → Bool → Type 0
+Passes f sc s b = (x : ℕ) → passing sc f s x ≡ cond b 0 x
 
-in-both : (sc : Scope) (b s : ℕ) (t u : Esterel.Tree) → InBoth sc b s t u (reactionOf t) (reactionOf u)
-in-both sc b s (tree (instant (gives o− k− l− t−) x− n−) a−) (tree (instant (gives o+ k+ l+ t+) x+ n+) a+) o m a h e w f =
-    made k+ Option.none (1 + n− + n+) (remove s (join a− a+)) e (stands-of l+)
+passed : (f : ℕ) (sc : Scope) (s : ℕ) (b : Bool) (x : ℕ) → Passes f sc s b → cond b 0 (cappedOf x) ≡ cappedOf (passing sc f s x)
+passed f sc s b x h = go b ∙ ap cappedOf (sym (h x))
+  where
+    go : (c : Bool) → cond c 0 (cappedOf x) ≡ cappedOf (cond c 0 x)
+    go true = refl
+    go false = refl
+
+none-passed : (f : ℕ) (sc : Scope) (s : ℕ) → 0 ≡ cappedOf (passing sc f s 0)
+none-passed f sc s = ap cappedOf (sym (passing-none sc f s))
+
+abbrev InBoth : (f : ℕ) (sc : Scope) (b s : ℕ) (t u : Esterel.Tree) (p q : Reaction) → Type 0
+InBoth f sc b s t u p q =
+    (o m a : ℕ) (g : Bool) → Runs s p q false → o ≡ outside sc s (q .emitted) → Counted p q m → Noted s p q a → Passes f sc s g
+    → _≡_ {A = Reaction} (record { emitted = o; labels = q .labels; completion = q .completion; taken = m; asked = a; delivered = cond g 0 (q .delivered) })
+    (reactionOf (inCase both f sc b s t u))
+
+in-both : (f : ℕ) (sc : Scope) (b s : ℕ) (t u : Esterel.Tree) → InBoth f sc b s t u (reactionOf t) (reactionOf u)
+in-both f sc b s (tree (instant (gives o− k− l− t−) x− n−) a− y−) (tree (instant (gives o+ k+ l+ t+) x+ n+) a+ y+) o m a g h e w i d =
+    made k+ Option.none (1 + n− + n+) (remove s (join a− a+)) (passing sc f s y+) e (stands-of l+)
     (unmoved k+ x+ Option.none
     (right-runs (member s o−) (member s o+) (isWrong k−) (isWrong k+) (rw (code-of k− x−, code-of k+ x+) at h) .1))
-    (w ∙ kept-two n− n+) f
+    (w ∙ kept-two n− n+) i (passed f sc s g y+ d)
 
-abbrev InNeither : (sc : Scope) (b s : ℕ) (t u : Esterel.Tree) (p q : Reaction) → Type 0
-InNeither sc b s t u p q =
-    (m a : ℕ) → Runs s p q false → Counted p q m → Noted s p q a
-    → _≡_ {A = Reaction} (record { emitted = p .emitted; labels = p .labels; completion = p .completion; taken = m; asked = a })
-    (reactionOf (inCase neither sc b s t u))
+abbrev InNeither : (f : ℕ) (sc : Scope) (b s : ℕ) (t u : Esterel.Tree) (p q : Reaction) → Type 0
+InNeither f sc b s t u p q =
+    (m a : ℕ) (g : Bool) → Runs s p q false → Counted p q m → Noted s p q a → Passes f sc s g
+    → _≡_ {A = Reaction}
+    (record { emitted = p .emitted; labels = p .labels; completion = p .completion; taken = m; asked = a; delivered = cond g 0 (p .delivered) })
+    (reactionOf (inCase neither f sc b s t u))
 
-in-neither : (sc : Scope) (b s : ℕ) (t u : Esterel.Tree) → InNeither sc b s t u (reactionOf t) (reactionOf u)
-in-neither sc b s (tree (instant (gives o− k− l− t−) x− n−) a−) (tree (instant (gives o+ k+ l+ t+) x+ n+) a+) m a h w f =
-    made k− Option.none (1 + n− + n+) (remove s (join a− a+)) refl (stands-of l−)
+in-neither : (f : ℕ) (sc : Scope) (b s : ℕ) (t u : Esterel.Tree) → InNeither f sc b s t u (reactionOf t) (reactionOf u)
+in-neither f sc b s (tree (instant (gives o− k− l− t−) x− n−) a− y−) (tree (instant (gives o+ k+ l+ t+) x+ n+) a+ y+) m a g h w i d =
+    made k− Option.none (1 + n− + n+) (remove s (join a− a+)) (passing sc f s y−) refl (stands-of l−)
     (unmoved k− x− Option.none
     (right-runs (member s o−) (member s o+) (isWrong k−) (isWrong k+) (rw (code-of k− x−, code-of k+ x+) at h) .0))
-    (w ∙ kept-two n− n+) f
+    (w ∙ kept-two n− n+) i (passed f sc s g y− d)
 
-abbrev InInherited : (sc : Scope) (b s : ℕ) (t u : Esterel.Tree) (p q : Reaction) → Type 0
-InInherited sc b s t u p q =
+abbrev InInherited : (f : ℕ) (sc : Scope) (b s : ℕ) (t u : Esterel.Tree) (p q : Reaction) → Type 0
+InInherited f sc b s t u p q =
     (l : Labels) (c : Completion) (m a : ℕ) → Runs s p q true → Stands l none → c ≡ greaterOf (p .completion) (q .completion)
     → Counted p q m → Noted s p q a
-    → _≡_ {A = Reaction} (record { emitted = none; labels = l; completion = c; taken = m; asked = a })
-    (reactionOf (inCase inherited sc b s t u))
+    → _≡_ {A = Reaction} (record { emitted = none; labels = l; completion = c; taken = m; asked = a; delivered = 0 })
+    (reactionOf (inCase inherited f sc b s t u))
 
-in-inherited : (sc : Scope) (b s : ℕ) (t u : Esterel.Tree) → InInherited sc b s t u (reactionOf t) (reactionOf u)
-in-inherited sc b s (tree (instant (gives o− k− l− t−) x− n−) a−) (tree (instant (gives o+ k+ l+ t+) x+ n+) a+) l c m a h e g w f =
+in-inherited : (f : ℕ) (sc : Scope) (b s : ℕ) (t u : Esterel.Tree) → InInherited f sc b s t u (reactionOf t) (reactionOf u)
+in-inherited f sc b s (tree (instant (gives o− k− l− t−) x− n−) a− y−) (tree (instant (gives o+ k+ l+ t+) x+ n+) a+ y+) l c m a h e g w i =
     let v = wrong-runs (member s o−) (member s o+) (isWrong k−) (isWrong k+) (rw (code-of k− x−, code-of k+ x+) at h) in
-    made wrong (ifWrong k− x− x+) (1 + n− + n+) (remove s (join a− a+)) refl e
+    made wrong (ifWrong k− x− x+) (1 + n− + n+) (remove s (join a− a+)) (passing sc f s 0) refl e
     (g ∙ greater-of k− k+ x− x+ ∙ ap (λ (k : Code). completionOf k (ifWrong k− x− x+)) (either-wrong k− k+ v))
-    (w ∙ kept-two n− n+) f
+    (w ∙ kept-two n− n+) i (none-passed f sc s)
 
 -- a case of the signal's own error
-abbrev InFailed : (d : Case) (sc : Scope) (b s : ℕ) (t u : Esterel.Tree) (p q : Reaction) → Type 0
-InFailed d sc b s t u p q =
+abbrev InFailed : (d : Case) (f : ℕ) (sc : Scope) (b s : ℕ) (t u : Esterel.Tree) (p q : Reaction) → Type 0
+InFailed d f sc b s t u p q =
     (x : Error) (m a : ℕ) → ((r− r+ : rules.Reaction) → answer d sc b s r− r+ ≡ failed) → ((y : Option Error) → signalNames d b y ≡ some x)
-    → Counted p q m → Noted s p q a → failedWith x m a ≡ reactionOf (inCase d sc b s t u)
+    → ((y− y+ : ℕ) → litres.chosen d y− y+ ≡ 0) → Counted p q m → Noted s p q a → failedWith x m a ≡ reactionOf (inCase d f sc b s t u)
 
-in-failed : (d : Case) (sc : Scope) (b s : ℕ) (t u : Esterel.Tree) → InFailed d sc b s t u (reactionOf t) (reactionOf u)
-in-failed d sc b s (tree (instant (gives o− k− l− t−) x− n−) a−) (tree (instant r+ x+ n+) a+) x m a h n w f =
-    rw (h (gives o− k− l− t−) r+, n (ifWrong k− x− x+), w, kept-two n− n+, f)
+in-failed : (d : Case) (f : ℕ) (sc : Scope) (b s : ℕ) (t u : Esterel.Tree) → InFailed d f sc b s t u (reactionOf t) (reactionOf u)
+in-failed d f sc b s (tree (instant (gives o− k− l− t−) x− n−) a− y−) (tree (instant r+ x+ n+) a+ y+) x m a h n z w i =
+    rw (h (gives o− k− l− t−) r+, n (ifWrong k− x− x+), z y− y+, passing-none sc f s, w, kept-two n− n+, i)
 
-module _ (sc : Scope) (b s : ℕ) (t u : Esterel.Tree) (p q : Reaction) (p-is : p ≡ reactionOf t) (q-is : q ≡ reactionOf u)
+module _ (f : ℕ) (sc : Scope) (b s : ℕ) (t u : Esterel.Tree) (p q : Reaction) (p-is : p ≡ reactionOf t) (q-is : q ≡ reactionOf u)
     (v : Choice) (fits : v ≡ choiceOf (caseIn s p q)) (m a : ℕ) (counted : Counted p q m) (noted : Noted s p q a) where
   fit-is : (d : Case) → v ≡ choiceOf d → caseIn s p q ≡ d
   fit-is d h = sym (same-case (caseIn s p q)) ∙ ap caseOf (sym fits ∙ h) ∙ same-case d
 
-  chosen : (d : Case) → v ≡ choiceOf d → reactionOf (inCase d sc b s t u) ≡ reactionOf (signalTree sc b s t u)
+  chosen : (d : Case) → v ≡ choiceOf d → reactionOf (inCase d f sc b s t u) ≡ reactionOf (signalTree f sc b s t u)
   chosen d h =
-      sym (ap reactionOf (as-fits sc b s t u ∙ ap (λ (c : Case). inCase c sc b s t u) (rw (p-is, q-is) at (fit-is d h))))
+      sym (ap reactionOf (as-fits f sc b s t u ∙ ap (λ (c : Case). inCase c f sc b s t u) (rw (p-is, q-is) at (fit-is d h))))
 
-  pub signal-both : v ≡ Both → {o : ℕ} {r : Reaction} → o ≡ outside sc s (q .emitted)
-      → r ≡ record { emitted = o; labels = q .labels; completion = q .completion; taken = m; asked = a }
-      → r ≡ reactionOf (signalTree sc b s t u)
-  signal-both h {o} e k =
-      let law : InBoth sc b s t u p q = rw (p-is, q-is) (in-both sc b s t u) in
-      k ∙ law o m a (ap isInherited (fit-is both h)) e counted noted ∙ chosen both h
+  pub signal-both : v ≡ Both → (g : Bool) {o d : ℕ} {r : Reaction} → o ≡ outside sc s (q .emitted) → Passes f sc s g → d ≡ cond g 0 (q .delivered)
+      → r ≡ record { emitted = o; labels = q .labels; completion = q .completion; taken = m; asked = a; delivered = d }
+      → r ≡ reactionOf (signalTree f sc b s t u)
+  signal-both h g {o} e i j k =
+      let law : InBoth f sc b s t u p q = rw (p-is, q-is) (in-both f sc b s t u) in
+      rw j at k ∙ law o m a g (ap isInherited (fit-is both h)) e counted noted i ∙ chosen both h
 
-  pub signal-neither : v ≡ Neither → {r : Reaction}
-      → r ≡ record { emitted = p .emitted; labels = p .labels; completion = p .completion; taken = m; asked = a }
-      → r ≡ reactionOf (signalTree sc b s t u)
-  signal-neither h k =
-      let law : InNeither sc b s t u p q = rw (p-is, q-is) (in-neither sc b s t u) in
-      k ∙ law m a (ap isInherited (fit-is neither h)) counted noted ∙ chosen neither h
+  pub signal-neither : v ≡ Neither → (g : Bool) {d : ℕ} {r : Reaction} → Passes f sc s g → d ≡ cond g 0 (p .delivered)
+      → r ≡ record { emitted = p .emitted; labels = p .labels; completion = p .completion; taken = m; asked = a; delivered = d }
+      → r ≡ reactionOf (signalTree f sc b s t u)
+  signal-neither h g i j k =
+      let law : InNeither f sc b s t u p q = rw (p-is, q-is) (in-neither f sc b s t u) in
+      rw j at k ∙ law m a g (ap isInherited (fit-is neither h)) counted noted i ∙ chosen neither h
 
   pub signal-inherits : v ≡ Inherited → (l : Labels) (c : Completion) → Stands l none → c ≡ greaterOf (p .completion) (q .completion)
-      → _≡_ {A = Reaction} (record { emitted = none; labels = l; completion = c; taken = m; asked = a }) (reactionOf (signalTree sc b s t u))
+      → _≡_ {A = Reaction} (record { emitted = none; labels = l; completion = c; taken = m; asked = a; delivered = 0 }) (reactionOf (signalTree f sc b s t u))
   signal-inherits h l c e g =
-      let law : InInherited sc b s t u p q = rw (p-is, q-is) (in-inherited sc b s t u) in
+      let law : InInherited f sc b s t u p q = rw (p-is, q-is) (in-inherited f sc b s t u) in
       law l c m a (ap isInherited (fit-is inherited h)) e g counted noted ∙ chosen inherited h
 
-  failed-as : (d : Case) → InFailed d sc b s t u p q
-  failed-as d = rw (p-is, q-is) (in-failed d sc b s t u)
+  failed-as : (d : Case) → InFailed d f sc b s t u p q
+  failed-as d = rw (p-is, q-is) (in-failed d f sc b s t u)
 
-  pub signal-unreactive : v ≡ OnlyMinus → failedWith (notReactive b) m a ≡ reactionOf (signalTree sc b s t u)
-  signal-unreactive h = failed-as only− (notReactive b) m a (λ r− r+. refl) (λ y. refl) counted noted ∙ chosen only− h
+  pub signal-unreactive : v ≡ OnlyMinus → failedWith (notReactive b) m a ≡ reactionOf (signalTree f sc b s t u)
+  signal-unreactive h = failed-as only− (notReactive b) m a (λ r− r+. refl) (λ y. refl) (λ y− y+. refl) counted noted ∙ chosen only− h
 
-  pub signal-undetermined : v ≡ OnlyPlus → failedWith (notDeterministic b) m a ≡ reactionOf (signalTree sc b s t u)
-  signal-undetermined h = failed-as only+ (notDeterministic b) m a (λ r− r+. refl) (λ y. refl) counted noted ∙ chosen only+ h
+  pub signal-undetermined : v ≡ OnlyPlus → failedWith (notDeterministic b) m a ≡ reactionOf (signalTree f sc b s t u)
+  signal-undetermined h = failed-as only+ (notDeterministic b) m a (λ r− r+. refl) (λ y. refl) (λ y− y+. refl) counted noted ∙ chosen only+ h
 
 -- ---- one run that stands for both: s is emitted by both or by neither, and a wrong run is inherited
 absent-outside : (sc : Scope) (s o : ℕ) → member s o ≡ false → outside sc s o ≡ o
 absent-outside local s o h = remove-absent s o h
 absent-outside reported s o h = refl
 
-module _ (sc : Scope) (b s : ℕ) where
+module _ (f : ℕ) (sc : Scope) (b s : ℕ) where
   abbrev OnceRight : Esterel.Tree → Reaction → Type 0
   OnceRight t p =
-      (o m : ℕ) → isWrong (codeOf (p .completion)) ≡ false → o ≡ outside sc s (p .emitted) → Counted p p m
-      → _≡_ {A = Reaction} (record { emitted = o; labels = p .labels; completion = p .completion; taken = m; asked = p .asked })
-      (reactionOf (signalOnce sc b s t))
+      (o m : ℕ) (g : Bool) → isWrong (codeOf (p .completion)) ≡ false → o ≡ outside sc s (p .emitted) → Counted p p m → Passes f sc s g
+      → _≡_ {A = Reaction}
+      (record { emitted = o; labels = p .labels; completion = p .completion; taken = m; asked = p .asked; delivered = cond g 0 (p .delivered) })
+      (reactionOf (signalOnce f sc b s t))
 
-  right-by-member : (c : Bool) (o₁ : ℕ) (k : Code) (l : ℕ) (t₁ : Statement) (x : Option Error) (n a : ℕ) → member s o₁ ≡ c
-      → isWrong k ≡ false → OnceRight (tree (instant (gives o₁ k l t₁) x n) a) (reactionOf (tree (instant (gives o₁ k l t₁) x n) a))
-  right-by-member true o₁ k l t₁ x n a i r o m h e w = rw (i, r, e, w, kept-two n n, unmoved k x Option.none r)
-  right-by-member false o₁ k l t₁ x n a i r o m h e w =
-      rw (i, r, e, absent-outside sc s o₁ i, w, kept-two n n, unmoved k x Option.none r)
+  right-by-member : (c : Bool) (o₁ : ℕ) (k : Code) (l : ℕ) (t₁ : Statement) (x : Option Error) (n a y : ℕ) → member s o₁ ≡ c
+      → isWrong k ≡ false → OnceRight (tree (instant (gives o₁ k l t₁) x n) a y) (reactionOf (tree (instant (gives o₁ k l t₁) x n) a y))
+  right-by-member true o₁ k l t₁ x n a y i r o m g h e w d =
+      rw (i, r, e, w, kept-two n n, unmoved k x Option.none r, passed f sc s g y d)
+  right-by-member false o₁ k l t₁ x n a y i r o m g h e w d =
+      rw (i, r, e, absent-outside sc s o₁ i, w, kept-two n n, unmoved k x Option.none r, passed f sc s g y d)
 
   right-run : (t : Esterel.Tree) → OnceRight t (reactionOf t)
-  right-run (tree (instant (gives o₁ k l t₁) x n) a) o m h =
-      right-by-member (member s o₁) o₁ k l t₁ x n a refl (rw (code-of k x) at h) o m h
+  right-run (tree (instant (gives o₁ k l t₁) x n) a y) o m g h =
+      right-by-member (member s o₁) o₁ k l t₁ x n a y refl (rw (code-of k x) at h) o m g h
 
   abbrev OnceWrong : Esterel.Tree → Reaction → Type 0
   OnceWrong t p =
       (l : Labels) (m : ℕ) → isWrong (codeOf (p .completion)) ≡ true → Stands l none → Counted p p m
-      → _≡_ {A = Reaction} (record { emitted = none; labels = l; completion = p .completion; taken = m; asked = p .asked })
-      (reactionOf (signalOnce sc b s t))
+      → _≡_ {A = Reaction} (record { emitted = none; labels = l; completion = p .completion; taken = m; asked = p .asked; delivered = 0 })
+      (reactionOf (signalOnce f sc b s t))
 
   wrong-run : (t : Esterel.Tree) → OnceWrong t (reactionOf t)
-  wrong-run (tree (instant (gives o₁ ended l₁ t₁) x n) a) l m h e w = absurd (false≢true h)
-  wrong-run (tree (instant (gives o₁ waiting l₁ t₁) x n) a) l m h e w = absurd (false≢true h)
-  wrong-run (tree (instant (gives o₁ (leaving k) l₁ t₁) x n) a) l m h e w = absurd (false≢true h)
-  wrong-run (tree (instant (gives o₁ wrong l₁ t₁) x n) a) l m h e w = made wrong x (1 + n + n) a refl e refl (w ∙ kept-two n n) refl
+  wrong-run (tree (instant (gives o₁ ended l₁ t₁) x n) a y) l m h e w = absurd (false≢true h)
+  wrong-run (tree (instant (gives o₁ waiting l₁ t₁) x n) a y) l m h e w = absurd (false≢true h)
+  wrong-run (tree (instant (gives o₁ (leaving k) l₁ t₁) x n) a y) l m h e w = absurd (false≢true h)
+  wrong-run (tree (instant (gives o₁ wrong l₁ t₁) x n) a y) l m h e w = made wrong x (1 + n + n) a (passing sc f s 0) refl e refl (w ∙ kept-two n n) refl (none-passed f sc s)
 
   module _ (t : Esterel.Tree) (p : Reaction) (p-is : p ≡ reactionOf t) {m : ℕ} (counted : Counted p p m) {r : Reaction} where
-    pub once-right : isWrong (codeOf (p .completion)) ≡ false → {o : ℕ} → o ≡ outside sc s (p .emitted)
-        → r ≡ record { emitted = o; labels = p .labels; completion = p .completion; taken = m; asked = p .asked }
-        → r ≡ reactionOf (signalOnce sc b s t)
-    once-right h {o} e k = let law : OnceRight t p = rw p-is (right-run t) in k ∙ law o m h e counted
+    pub once-right : isWrong (codeOf (p .completion)) ≡ false → (g : Bool) {o d : ℕ} → o ≡ outside sc s (p .emitted)
+        → Passes f sc s g → d ≡ cond g 0 (p .delivered)
+        → r ≡ record { emitted = o; labels = p .labels; completion = p .completion; taken = m; asked = p .asked; delivered = d }
+        → r ≡ reactionOf (signalOnce f sc b s t)
+    once-right h g {o} e i j k = let law : OnceRight t p = rw p-is (right-run t) in rw j at k ∙ law o m g h e counted i
 
     pub once-wrong : isWrong (codeOf (p .completion)) ≡ true → {l : Labels} → Stands l none
-        → r ≡ record { emitted = none; labels = l; completion = p .completion; taken = m; asked = p .asked }
-        → r ≡ reactionOf (signalOnce sc b s t)
+        → r ≡ record { emitted = none; labels = l; completion = p .completion; taken = m; asked = p .asked; delivered = 0 }
+        → r ≡ reactionOf (signalOnce f sc b s t)
     once-wrong h {l} e k = let law : OnceWrong t p = rw p-is (wrong-run t) in k ∙ law l m h e counted

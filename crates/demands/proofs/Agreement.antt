@@ -2,10 +2,10 @@
 -- setpause report what the paper machine reports.
 use Prim.Native.Nat.{ℕ, _^_}
 use native.Mathlib.Omega.{arith}
-use mathlib.Core.Path.{_≡_, refl, ap, ap₂, _∙_, subst}
-use mathlib.Core.Bool.{Bool, true, false, cond}
+use mathlib.Core.Path.{_≡_, refl, sym, ap, ap₂, _∙_, subst}
+use mathlib.Core.Bool.{Bool, true, false, _&&_, cond}
 use mathlib.Core.List.{List, [], _∷_, map}
-use lib.ListN.{length}
+use lib.ListN.{length, getD}
 use lib.Dec.{eqb}
 use borrow.Author.Tests.{eqb-true, eqb-false}
 use Rattle.esterel.specs.Sets.{none}
@@ -15,19 +15,21 @@ use Rattle.esterel.specs.Errors.{firstError}
 use Rattle.esterel.specs.Reactions.{reactions}
 use Rattle.esterel.specs.States.{NoSetpause, Valid}
 use Rattle.esterel.specs.Expansion.{expand}
-use Rattle.esterel.specs.Machines.{State, stateAfter, byLabels, Rewriting, byRewriting}
+use Rattle.esterel.specs.Machines.{State, stateAfter, byLabels, addsByLabels, Rewriting, byRewriting, addsByRewriting, added}
 use Rattle.theory.proofs.Agreement.{TermOf, step}
 use Rattle.theory.proofs.ReadBack.{noSetpause-declared}
+use Rattle.theory.proofs.Litres.{agree-added}
 use Rattle.limits.specs.Limits.{placeBytes, readBackPlace}
 use Rattle.sequence.specs.Program.{readBackSignals, program}
-use Rattle.sequence.specs.Check.{checkOf}
+use Rattle.sequence.specs.Check.{Checked, checkOf}
 use Rattle.sequence.specs.Rows.{Spells}
 use Rattle.numbers.specs.Bytes.{leBytes}
-use Rattle.states.specs.StateRecord.{holds, encodeState, phaseIn, Recorded}
+use Rattle.states.specs.StateRecord.{stateLength, Decoded, holds, encodeState, phaseIn, Recorded}
 use Rattle.answers.specs.AnswerRecord.{answerLength}
 use Rattle.demands.specs.Tick.{Outcome, outcome, byState, replied, tickOf}
 use Rattle.demands.specs.Paper.{Call, Report, turnedDown, phaseOf, reportOf, paperTick, paper}
 use Rattle.demands.specs.Demands.{stateAfterwards, outcomes, cleared, report, Demand3}
+use Rattle.demands.specs.Deliveries.{deliveredBy, deliveredIf, deliveries, callDelivers, delivered, paperDelivered}
 use Rattle.states.proofs.StateLaws.{length-state, decode-encode}
 use Rattle.demands.proofs.Reports.{report-written}
 use Rattle.demands.proofs.Bounds.{emitted-below}
@@ -130,6 +132,30 @@ module _ (sequence : List ℕ) (readBack : ℕ) (a : Accepted sequence readBack)
           rw (tick-short sequence (encodeState s) (c .input) readBack (c .buffer) (eqb-false (length (c .buffer)) answerLength i))
           (short-related s w h r (c .buffer))
 
+  -- ---- litres
+  same-adds : (f : ℕ) (s : State) (w : Rewriting) → TermOf q s w → (e : ℕ) → addsByLabels f q s e ≡ addsByRewriting f w e
+  unfolding added
+  same-adds f s w h e =
+      ap (λ (l : List ℕ). getD l 0 0)
+      (agree-added f q (term-source sequence readBack a) (term-distinct sequence readBack a) plain-term s w h (e ∷ []))
+
+  one-delivery : (f : ℕ) (s : State) (w : Rewriting) → TermOf q s w → Recorded p s → (c : Call)
+      → callDelivers sequence readBack (encodeState s) c f ≡ cond (eqb (length (c .buffer)) answerLength) (addsByRewriting f w (c .input)) 0
+  one-delivery f s w h r c =
+      ap (λ (n : ℕ). cond (eqb n stateLength && eqb (length (c .buffer)) answerLength) (deliveries sequence readBack (encodeState s) (c .input) f) 0) (length-state s)
+      ∙ ap (λ (n : ℕ). cond (eqb (length (c .buffer)) answerLength) n 0)
+      (ap (λ (k : Checked). deliveredIf readBack k (encodeState s) (c .input) f) (a .is-checked)
+      ∙ ap (λ (d : Decoded). deliveredBy q d (c .input) f) (decode-encode p s r) ∙ same-adds f s w h (c .input))
+
+  pub all-deliveries : (f : ℕ) (calls : List Call) (s : State) (w : Rewriting) → TermOf q s w → Recorded p s
+      → delivered sequence readBack f (encodeState s) calls ≡ paperDelivered f w calls
+  unfolding delivered paperDelivered
+  all-deliveries f [] s w h r = refl
+  all-deliveries f (c ∷ calls) s w h r =
+      let x = one-tick s w h r c in
+      ap₂ {B = List ℕ} {C = List ℕ} _∷_ (one-delivery f s w h r c)
+      (rw (x .bytes) (all-deliveries f calls (x .state) (paperTick w (c .input) (length (c .buffer)) .1) (x .term) (x .recorded)))
+
   pub all-ticks : (calls : List Call) (s : State) (w : Rewriting) → TermOf q s w → Recorded p s
       → map report (outcomes tickOf sequence readBack (encodeState s) calls) ≡ paper w calls
   unfolding outcomes paper
@@ -145,18 +171,44 @@ cleared-fresh = refl
 
 -- the labels and the term of one machine, at any state that the record holds
 module _ (sequence : List ℕ) (readBack : ℕ) (h : checkOf sequence readBack ≡ 0) (p : Statement) (s : Spells sequence p) (plain : NoSetpause p) where
+  -- what holds of the statement that the check has read holds of p
+  with-read : (P : Statement → Type 0) → ((a : Accepted sequence readBack) → NoSetpause (a .statement) → P (a .statement)) → P p
+  with-read P f =
+      let a = accepted sequence readBack h in
+      let same : p ≡ a .statement = same-statement sequence p (a .statement) s (a .spelled) in
+      subst P (sym same) (f a (subst NoSetpause same plain))
+
   from-state : (st : State) (w : Rewriting) → TermOf (program readBack p) st w → Recorded p st → (calls : List Call)
       → map report (outcomes tickOf sequence readBack (encodeState st) calls) ≡ paper w calls
   from-state st w t r calls =
-      let a = accepted sequence readBack h in
-      let same : p ≡ a .statement = same-statement sequence p (a .statement) s (a .spelled) in
-      all-ticks sequence readBack a (subst NoSetpause same plain) calls st w
-      (subst (λ (q : Statement). TermOf (program readBack q) st w) same t) (subst (λ (q : Statement). Recorded q st) same r)
+      with-read
+      (λ (q : Statement). TermOf (program readBack q) st w → Recorded q st
+      → map report (outcomes tickOf sequence readBack (encodeState st) calls) ≡ paper w calls)
+      (λ a n. all-ticks sequence readBack a n calls st w) t r
 
   pub from-labels : (L : ℕ) → Valid p L → (calls : List Call)
       → map report (outcomes tickOf sequence readBack (encodeState (State.waits L)) calls) ≡ paper (Rewriting.waits (expand (program readBack p) L)) calls
   from-labels L v calls =
       from-state (State.waits L) (Rewriting.waits (expand (program readBack p) L)) refl (valid-recorded p (s .1 .ranged) L v) calls
+
+  -- LITRES (02, item 12): 'Rewriting gives the same litres', to each farm in each of the ticks
+  deliveries-from : (st : State) (w : Rewriting) → TermOf (program readBack p) st w → Recorded p st → (farm : ℕ) (calls : List Call)
+      → delivered sequence readBack farm (encodeState st) calls ≡ paperDelivered farm w calls
+  deliveries-from st w t r farm calls =
+      with-read
+      (λ (q : Statement). TermOf (program readBack q) st w → Recorded q st
+      → delivered sequence readBack farm (encodeState st) calls ≡ paperDelivered farm w calls)
+      (λ a n. all-deliveries sequence readBack a n farm calls st w) t r
+
+  pub same-deliveries : (farm : ℕ) (calls : List Call)
+      → delivered sequence readBack farm cleared calls ≡ paperDelivered farm (Rewriting.fresh (program readBack p)) calls
+  same-deliveries farm calls = rw cleared-fresh (deliveries-from State.fresh (Rewriting.fresh (program readBack p)) refl tt farm calls)
+
+  pub deliveries-from-labels : (L : ℕ) → Valid p L → (farm : ℕ) (calls : List Call)
+      → delivered sequence readBack farm (encodeState (State.waits L)) calls
+      ≡ paperDelivered farm (Rewriting.waits (expand (program readBack p) L)) calls
+  deliveries-from-labels L v farm calls =
+      deliveries-from (State.waits L) (Rewriting.waits (expand (program readBack p) L)) refl (valid-recorded p (s .1 .ranged) L v) farm calls
 
 -- DEMAND 3
 pub demand-3 : Demand3 checkOf tickOf

@@ -59,7 +59,7 @@ below-remove n j s f i m = f i (go (member i s) (not (eqb j i)) (sym (member-rem
 abbrev pub Bounded : Statement → Type 0
 Bounded nothing = Unit {0}
 Bounded (pause l) = Unit {0}
-Bounded (emit s) = s < signalCount
+Bounded (emit s v) = s < signalCount
 Bounded (exit n) = n ≤ maxExit
 Bounded (seq p q) = Bounded p × Bounded q
 Bounded (par p q) = Bounded p × Bounded q
@@ -74,7 +74,7 @@ Bounded (held s K p) = Bounded p
 pub ranged-bounded : (p : Statement) → Ranged p → Bounded p
 ranged-bounded nothing h = tt
 ranged-bounded (pause l) h = tt
-ranged-bounded (emit s) h = h
+ranged-bounded (emit s v) h = h .0
 ranged-bounded (exit n) h = h .1
 ranged-bounded (seq p q) h = (ranged-bounded p (h .0), ranged-bounded q (h .1))
 ranged-bounded (par p q) h = (ranged-bounded p (h .0), ranged-bounded q (h .1))
@@ -94,7 +94,7 @@ pub bounded-expand : (p : Statement) (L : ℕ) → Bounded p → Bounded (expand
 unfolding expand
 bounded-expand nothing L h = tt
 bounded-expand (pause l) L h = tt
-bounded-expand (emit s) L h = tt
+bounded-expand (emit s v) L h = tt
 bounded-expand (exit n) L h = tt
 bounded-expand (seq p q) L h =
     cond-bounded (active p L) (seq (expand p L) q) (expand q L) (bounded-expand p L (h .0), h .1) (bounded-expand q L (h .1))
@@ -160,7 +160,7 @@ pub emitted-below : (p : Statement) (e : ℕ) → Bounded p → Below signalCoun
 unfolding reactBy
 emitted-below nothing e h = below-none signalCount
 emitted-below (pause l) e h = below-none signalCount
-emitted-below (emit s) e h = below-only signalCount s h
+emitted-below (emit s v) e h = below-only signalCount s h
 emitted-below (exit n) e h = below-none signalCount
 emitted-below (seq p q) e h = seq-emits q (react p e) (react q e) (emitted-below p e (h .0)) (emitted-below q e (h .1))
 emitted-below (par p q) e h = par-emits (react p e) (react q e) (emitted-below p e (h .0)) (emitted-below q e (h .1))
@@ -248,7 +248,7 @@ pub code-exits : (ord : Order) (p : Statement) (e : ℕ) → Bounded p → Exits
 unfolding reactBy
 code-exits ord nothing e h = tt
 code-exits ord (pause l) e h = tt
-code-exits ord (emit s) e h = tt
+code-exits ord (emit s v) e h = tt
 code-exits ord (exit n) e h = h
 code-exits ord (seq p q) e h = seq-exits q (reactBy ord p e) (reactBy ord q e) (code-exits ord p e (h .0)) (code-exits ord q e (h .1))
 code-exits ord (par p q) e h = par-exits (reactBy ord p e) (reactBy ord q e) (code-exits ord p e (h .0)) (code-exits ord q e (h .1))

@@ -22,7 +22,7 @@ use Rattle.limits.specs.Limits.{placeBytes}
 abbrev pub AllErrors : (Error → Type 0) → Statement → Type 0
 AllErrors P nothing = Unit {0}
 AllErrors P (pause l) = Unit {0}
-AllErrors P (emit s) = Unit {0}
+AllErrors P (emit s v) = Unit {0}
 AllErrors P (exit k) = Unit {0}
 AllErrors P (seq p q) = AllErrors P p × AllErrors P q
 AllErrors P (par p q) = AllErrors P p × AllErrors P q
@@ -47,7 +47,7 @@ module _ (P : Error → Type 0) where
   unfolding expand
   errors-expand nothing L h = tt
   errors-expand (pause l) L h = tt
-  errors-expand (emit s) L h = tt
+  errors-expand (emit s v) L h = tt
   errors-expand (exit k) L h = tt
   errors-expand (seq p q) L h =
       cond-errors (active p L) (seq (expand p L) q) (expand q L) (errors-expand p L (h .0), h .1) (errors-expand q L (h .1))
@@ -108,7 +108,7 @@ module _ (P : Error → Type 0) where
   unfolding errorsBy
   errors-hold nothing e h = every-nil
   errors-hold (pause l) e h = every-nil
-  errors-hold (emit s) e h = every-nil
+  errors-hold (emit s v) e h = every-nil
   errors-hold (exit k) e h = every-nil
   errors-hold (seq p q) e h =
       every-append (errors p e) (ifEnded (code (react p e)) (errors q e) []) (errors-hold p e (h .0))

@@ -84,7 +84,7 @@ module _ (P : Error → Type 0) (sequence : List ℕ) (readBack : ℕ) (w : Stat
   unfolding bytesOf
   placed-errors a nothing u r h l = tt
   placed-errors a (pause n) u r h l = tt
-  placed-errors a (emit s) u r h l = tt
+  placed-errors a (emit s v) u r h l = tt
   placed-errors a (exit n) u r h l = tt
   placed-errors a (seq p q) u r h l =
       let k = tail-lies sequence a 4 (bytesOf p ++ bytesOf q) l in (

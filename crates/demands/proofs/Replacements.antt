@@ -6,7 +6,7 @@ use mathlib.Core.List.{List, [], _∷_, _++_}
 use lib.ListN.{length, take, drop, replicate}
 use borrow.Author.Tests.{eq-eqb}
 use Rattle.esterel.specs.Sets.{none, only, member, join}
-use Rattle.esterel.specs.Statement.{nothing, pause, emit, seq, setpause}
+use Rattle.esterel.specs.Statement.{pure, nothing, pause, emit, seq, setpause}
 use Rattle.esterel.specs.Reaction.{ended, waiting, gives, reactBy}
 use Rattle.esterel.specs.Rules.{Reacts, ReactsBy}
 use Rattle.esterel.specs.Errors.{errorsBy}
@@ -19,9 +19,9 @@ use Rattle.esterel.specs.ReadBack.{membersFrom, declaredBy}
 use Rattle.sequence.specs.Reader.{front, read}
 use Rattle.esterel.specs.Ceiling.{nesting}
 use Rattle.sequence.specs.Check.{checkOf, checked}
-use Rattle.sequence.specs.Rows.{Spells}
+use Rattle.sequence.specs.Rows.{Spells, rank}
 use Rattle.sequence.specs.Program.{program}
-use Rattle.sequence.proofs.Rows.{row-range}
+use Rattle.sequence.proofs.Rows.{row-rank}
 use Rattle.esterel.specs.Machines.{stateAfter, Rewriting}
 use Rattle.sequence.proofs.Writer.{reads-what-is-written}
 use Rattle.numbers.specs.Bytes.{leBytes, leNumber}
@@ -73,9 +73,9 @@ spells-waits : Spells waits (pause 0)
 unfolding read front commandOf
 spells-waits = reads-what-is-written waits (pause 0) .0 refl
 
-spells-later : Spells later (seq (pause 0) (emit 0))
+spells-later : Spells later (seq (pause 0) (emit 0 pure))
 unfolding read front commandOf
-spells-later = reads-what-is-written later (seq (pause 0) (emit 0)) .0 refl
+spells-later = reads-what-is-written later (seq (pause 0) (emit 0 pure)) .0 refl
 
 all-accepted : (checkOf ends none ≡ 0) × (checkOf waits none ≡ 0) × (checkOf later none ≡ 0)
 unfolding checkOf checked read front commandOf nesting declaredBy membersFrom distinct wellFormed everyLabel before labelsOf subset disjoint member none only join
@@ -113,7 +113,7 @@ not-over-to-fresh check tick (sequence, state, e, readBack, answer, x, n) d =
   where
     go : (m : ℕ) → m ≡ 12 → TickRow sequence readBack state answer m → ⊥
     go m z (row-1 h) = omega arith
-    go m z (row-2-to-10 h) = omega (arith, row-range sequence readBack m h)
+    go m z (row-2-to-10 h) = omega (arith, row-rank sequence readBack m h, ap rank z)
     go m z (row-11 h i) = omega arith
     go m z (row-12 y) = omega (arith, x, y)
 
@@ -148,10 +148,10 @@ not-labels-left check tick h k d =
     omega arith
 
 -- ---- demand 3, of every tick that repeats its first instant
-no-setpause : NoSetpause (seq (pause 0) (emit 0))
+no-setpause : NoSetpause (seq (pause 0) (emit 0 pure))
 no-setpause l h = go (h .0) (h .1)
   where
-    go : (a : Place) → At (setpause l) a (seq (pause 0) (emit 0)) → ⊥
+    go : (a : Place) → At (setpause l) a (seq (pause 0) (emit 0 pure)) → ⊥
     go a (At.inside seq₁ (At.inside i u)) = elim i [ ]
     go a (At.inside seq₂ (At.inside i u)) = elim i [ ]
 
@@ -159,9 +159,9 @@ two-calls : List Call
 two-calls = record { input = 0; buffer = buffer } ∷ record { input = 0; buffer = buffer } ∷ []
 
 -- waits, then ends
-on-paper : (codeTold (reportAt 0 (paper (Rewriting.fresh (program none (seq (pause 0) (emit 0)))) two-calls)) ≡ 1)
-    × (phaseTold (reportAt 0 (paper (Rewriting.fresh (program none (seq (pause 0) (emit 0)))) two-calls)) ≡ 1)
-    × (codeTold (reportAt 1 (paper (Rewriting.fresh (program none (seq (pause 0) (emit 0)))) two-calls)) ≡ 0)
+on-paper : (codeTold (reportAt 0 (paper (Rewriting.fresh (program none (seq (pause 0) (emit 0 pure)))) two-calls)) ≡ 1)
+    × (phaseTold (reportAt 0 (paper (Rewriting.fresh (program none (seq (pause 0) (emit 0 pure)))) two-calls)) ≡ 1)
+    × (codeTold (reportAt 1 (paper (Rewriting.fresh (program none (seq (pause 0) (emit 0 pure)))) two-calls)) ≡ 0)
 unfolding two-calls paper declaredBy membersFrom reactBy errorsBy reactionsBy member none only join
 on-paper = (refl, refl, refl)
 
@@ -172,7 +172,7 @@ phase-told (outcome (suc n) state answer) = refl
 not-first-repeated : (check : Check) (tick : Tick) → check later none ≡ 0 → FirstRepeated tick → ¬ Demand3 check tick
 unfolding outcomes two-calls
 not-first-repeated check tick h k d =
-    let x = d later none h (seq (pause 0) (emit 0)) spells-later no-setpause two-calls in
+    let x = d later none h (seq (pause 0) (emit 0 pure)) spells-later no-setpause two-calls in
     let first : Outcome = tick later cleared 0 none buffer in
     let c : codeTold (report first) ≡ 1 = ap (λ (l : List Report). codeTold (reportAt 0 l)) x ∙ on-paper .0 in
     let w : phaseIn (stateAfterwards first) ≡ 1 = sym (phase-told first) ∙ ap (λ (l : List Report). phaseTold (reportAt 0 l)) x ∙ on-paper .1 in

@@ -23,6 +23,7 @@ use Rattle.sequence.specs.Rows.{Spells}
 use Rattle.states.specs.StateRecord.{stateLength, encodeState}
 use Rattle.answers.specs.AnswerRecord.{answerLength, codeIn, kindIn, placeIn, takenIn}
 use Rattle.demands.specs.Tick.{Outcome, outcome, tickBy, tickOf}
+use Rattle.demands.specs.Deliveries.{delivered, paperDelivered}
 use Rattle.demands.specs.Paper.{Call, paper}
 use Rattle.demands.specs.Demands.{Check, Tick, number, answerAfterwards, outcomes, cleared, report, Admitted, StandsAt, Derived, Shows, uncounted, Demand1, Demand2, Demand3, TickMeets, Chain}
 use Rattle.demands.specs.PlaceNamed.{PlaceNamed}
@@ -71,6 +72,19 @@ pub demand-3-from : (sequence : List ℕ) (readBack : ℕ) → checkOf sequence 
     → (L : ℕ) → Valid p L → (calls : List Call)
     → map report (outcomes tickOf sequence readBack (encodeState (State.waits L)) calls) ≡ paper (Rewriting.waits (expand (program readBack p) L)) calls
 demand-3-from = three.from-labels
+
+-- 02, item 12: run and rewriting deliver the same litres to each farm, in each of a list of ticks
+pub same-deliveries : (sequence : List ℕ) (readBack : ℕ) → checkOf sequence readBack ≡ 0 → (p : Statement) → Spells sequence p → NoSetpause p
+    → (farm : ℕ) (cs : List Call)
+    → delivered sequence readBack farm cleared cs ≡ paperDelivered farm (Rewriting.fresh (program readBack p)) cs
+same-deliveries = three.same-deliveries
+
+-- and from any valid label set on
+pub same-deliveries-from : (sequence : List ℕ) (readBack : ℕ) → checkOf sequence readBack ≡ 0 → (p : Statement) → Spells sequence p → NoSetpause p
+    → (L : ℕ) → Valid p L → (farm : ℕ) (cs : List Call)
+    → delivered sequence readBack farm (encodeState (State.waits L)) cs
+    ≡ paperDelivered farm (Rewriting.waits (expand (program readBack p) L)) cs
+same-deliveries-from = three.deliveries-from-labels
 
 -- ---- calls that meet the tick's contract
 pub demand-1-calls : (sequence : List ℕ) (readBack : ℕ) (state : List ℕ) → checkOf sequence readBack ≡ 0 → Admitted sequence state

@@ -17,9 +17,9 @@ use Rattle.esterel.specs.Machines.{State}
 use Rattle.theory.proofs.LabelTests.{valid-is}
 use Rattle.sequence.specs.Program.{program}
 use Rattle.sequence.specs.Check.{Checked, sound, bad, checked}
-use Rattle.sequence.specs.Rows.{Spells, ByRows}
-use Rattle.sequence.proofs.ByRows.{refused-by, accepted-by}
-use Rattle.sequence.proofs.Rows.{Decides, decided, row-range}
+use Rattle.sequence.specs.Rows.{Spells, rank, ByRows}
+use Rattle.sequence.proofs.ByRows.{rank-least, refused-by, accepted-by}
+use Rattle.sequence.proofs.Rows.{Decides, decided, row-range, row-rank}
 use Rattle.states.specs.StateRecord.{stateLength, Decoded, holds, malformed, decode, decodeState, phaseIn, labelsIn}
 use Rattle.answers.specs.AnswerRecord.{answerLength}
 use Rattle.demands.specs.Tick.{outcome, byState, byCheck, replyOf, replied, tickBy, tickOf}
@@ -101,17 +101,17 @@ module _ (sequence : List ℕ) (readBack : ℕ) (state answer : List ℕ) where
   not-1 z (inr x) = x (z .1)
 
   by-1 : (length state ≢ stateLength) ⊎ (length answer ≢ answerLength) → ByRows 1 Holds
-  by-1 x = refused-by 1 Holds (λ r. omega (arith, row-positive 0 r)) (row-1 x) (λ k l r. omega (arith, row-positive k r))
+  by-1 x = refused-by 1 Holds (λ r. omega (arith, row-positive 0 r)) (row-1 x) (λ k l r. omega (arith, l, rank-least 1 k (row-positive k r) (omega arith)))
 
   by-check : Sized → (k : ℕ) → Decides sequence readBack (bad k) → ByRows k Holds
   by-check z k d =
       refused-by k Holds (λ r. omega (arith, row-positive 0 r)) (row-2-to-10 (d .0)) below
     where
-      below : (m : ℕ) → m < k → ¬ Holds m
+      below : (m : ℕ) → rank m < rank k → ¬ Holds m
       below m l (row-1 x) = not-1 z x
       below m l (row-2-to-10 r) = d .1 m l r
-      below m l (row-11 s x) = omega (arith, row-range sequence readBack k (d .0))
-      below m l (row-12 x) = omega (arith, row-range sequence readBack k (d .0))
+      below m l (row-11 s x) = omega (arith, l, row-rank sequence readBack k (d .0))
+      below m l (row-12 x) = omega (arith, l, row-rank sequence readBack k (d .0))
 
   module _ (z : Sized) (p : Statement) (c : Decides sequence readBack (sound p)) where
     not-11 : {s : State} {q : Statement} → Reading p (phaseIn state) (labelsIn state) (holds s) → Spells sequence q
@@ -131,7 +131,7 @@ module _ (sequence : List ℕ) (readBack : ℕ) (state answer : List ℕ) where
     by-state e d (reads-malformed x) =
         refused-by 11 Holds (λ r. omega (arith, row-positive 0 r)) (row-11 (c .1) x) below
       where
-        below : (m : ℕ) → m < 11 → ¬ Holds m
+        below : (m : ℕ) → rank m < rank 11 → ¬ Holds m
         below m l (row-1 y) = not-1 z y
         below m l (row-2-to-10 r) = c .0 m r
         below m l (row-11 t y) = omega arith
@@ -139,7 +139,7 @@ module _ (sequence : List ℕ) (readBack : ℕ) (state answer : List ℕ) where
     by-state e d (reads-over x n) =
         refused-by 12 Holds (λ r. omega (arith, row-positive 0 r)) (row-12 x) below
       where
-        below : (m : ℕ) → m < 12 → ¬ Holds m
+        below : (m : ℕ) → rank m < rank 12 → ¬ Holds m
         below m l (row-1 y) = not-1 z y
         below m l (row-2-to-10 r) = c .0 m r
         below m l (row-11 t y) = not-11 (reads-over x n) t y

@@ -11,3 +11,4 @@ pub mod Suspended
 pub mod FirstErrors
 pub mod ReadBack
 pub mod Dearest
+pub mod Deliveries

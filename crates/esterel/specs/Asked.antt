@@ -4,7 +4,7 @@ use Prim.Native.Nat.{ℕ}
 use mathlib.Core.Path.{_≡_, refl}
 use mathlib.Core.Bool.{cond}
 use Rattle.esterel.specs.Sets.{member, none, only, join, insert, remove}
-use Rattle.esterel.specs.Statement.{local, reported, Statement, nothing, pause, emit, exit, seq, par, loop, present, signal, try, setpause, suspend, held}
+use Rattle.esterel.specs.Statement.{local, reported, pure, Statement, nothing, pause, emit, exit, seq, par, loop, present, signal, try, setpause, suspend, held}
 use Rattle.esterel.specs.Reaction.{Reaction, code, Order, inheritanceFirst, reactBy}
 use Rattle.esterel.specs.Rules.{ReactsBy}
 use Rattle.esterel.specs.Errors.{ifEnded}
@@ -12,7 +12,7 @@ use Rattle.esterel.specs.Errors.{ifEnded}
 unfoldable pub askedBy : Order → Statement → ℕ → ℕ
 askedBy ord nothing e = none
 askedBy ord (pause l) e = none
-askedBy ord (emit s) e = none
+askedBy ord (emit s v) e = none
 askedBy ord (exit n) e = none
 askedBy ord (seq p q) e = join (askedBy ord p e) (ifEnded (code (reactBy ord p e)) (askedBy ord q e) none)
 askedBy ord (par p q) e = join (askedBy ord p e) (askedBy ord q e)
@@ -58,8 +58,8 @@ abbrev pub tests : ℕ → Statement
 tests s = present s nothing nothing
 
 -- A test is asked, and what the branch taken asks; what is emitted is not.
-tested : (asked (present 3 (tests 0) (emit 1)) 0 ≡ 8)
-    × (asked (present 3 (tests 0) (emit 1)) 8 ≡ 9)
+tested : (asked (present 3 (tests 0) (emit 1 pure)) 0 ≡ 8)
+    × (asked (present 3 (tests 0) (emit 1 pure)) 8 ≡ 9)
     × (asked (par (tests 0) (loop 4 (try (tests 2)))) 0 ≡ 5)
 unfolding askedBy reactBy member none only join insert remove
 tested = (refl, refl, refl)

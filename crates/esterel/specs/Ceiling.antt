@@ -12,7 +12,7 @@ use Rattle.esterel.specs.ReadBack.{declaredBy, declared}
 unfoldable pub commands : Statement → ℕ
 commands nothing = 1
 commands (pause l) = 1
-commands (emit s) = 1
+commands (emit s v) = 1
 commands (exit n) = 1
 commands (seq p q) = 1 + commands p + commands q
 commands (par p q) = 1 + commands p + commands q
@@ -28,7 +28,7 @@ commands (held s K p) = 1 + commands p
 unfoldable pub loopNesting : Statement → ℕ
 loopNesting nothing = 0
 loopNesting (pause l) = 0
-loopNesting (emit s) = 0
+loopNesting (emit s v) = 0
 loopNesting (exit n) = 0
 loopNesting (seq p q) = max (loopNesting p) (loopNesting q)
 loopNesting (par p q) = max (loopNesting p) (loopNesting q)
@@ -44,7 +44,7 @@ loopNesting (held s K p) = loopNesting p
 unfoldable pub nesting : Statement → ℕ
 nesting nothing = 0
 nesting (pause l) = 0
-nesting (emit s) = 0
+nesting (emit s v) = 0
 nesting (exit n) = 0
 nesting (seq p q) = max (nesting p) (nesting q)
 nesting (par p q) = max (nesting p) (nesting q)
@@ -65,7 +65,7 @@ ceiling p = commands p * (1 + loopNesting p) * 2 ^ nesting p
 unfoldable pub LoopFree : Statement → Type 0
 LoopFree nothing = Unit {0}
 LoopFree (pause l) = Unit {0}
-LoopFree (emit s) = Unit {0}
+LoopFree (emit s v) = Unit {0}
 LoopFree (exit n) = Unit {0}
 LoopFree (seq p q) = LoopFree p × LoopFree q
 LoopFree (par p q) = LoopFree p × LoopFree q

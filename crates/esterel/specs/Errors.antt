@@ -44,7 +44,7 @@ signalErrors a inherited = []
 unfoldable pub errorsBy : Order → Statement → ℕ → List Error
 errorsBy ord nothing e = []
 errorsBy ord (pause l) e = []
-errorsBy ord (emit s) e = []
+errorsBy ord (emit s v) e = []
 errorsBy ord (exit n) e = []
 errorsBy ord (seq p q) e = errorsBy ord p e ++ ifEnded (code (reactBy ord p e)) (errorsBy ord q e) []
 errorsBy ord (par p q) e = errorsBy ord p e ++ errorsBy ord q e

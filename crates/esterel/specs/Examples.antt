@@ -5,7 +5,7 @@ use mathlib.Core.Bool.{true, false}
 use mathlib.Core.Option.{Option, some}
 use mathlib.Core.List.{List, [], _∷_, map}
 use Rattle.esterel.specs.Sets.{member, none, only, join, insert, remove, below, from}
-use Rattle.esterel.specs.Statement.{local, Statement, nothing, pause, emit, exit, seq, par, loop, present, signal, try, setpause, suspend, held}
+use Rattle.esterel.specs.Statement.{local, pure, Statement, nothing, pause, emit, exit, seq, par, loop, present, signal, try, setpause, suspend, held}
 use Rattle.esterel.specs.Reaction.{Code, ended, waiting, leaving, wrong, gives, code, emitted, labels, residual, reactBy, react}
 use Rattle.esterel.specs.Errors.{Error, noError, errorsBy, errors, firstError, instantaneous, notReactive, notDeterministic}
 use Rattle.esterel.specs.Reactions.{reactionsBy}
@@ -27,22 +27,22 @@ row p = (code (react p 0), emitted (react p 0), labels (react p 0), errors p 0)
 
 -- 06 08 00 04 07 00 02 01 00 04 01 00 02 00, and 002's figure 6: the next round does not see the last one's signal
 abbrev reincarnated : Statement
-reincarnated = loop 0 (signal local 1 0 (seq (present 0 (emit 1) nothing) (seq (pause 0) (emit 0))))
+reincarnated = loop 0 (signal local 1 0 (seq (present 0 (emit 1 pure) nothing) (seq (pause 0) (emit 0 pure))))
 
 -- 08 00 04 02 00 07 00 00 06 00, at place a: the body emits its signal in both runs, and one run is wrong (02, item 4)
 abbrev inheritsAt : ℕ → Statement
-inheritsAt a = signal local a 0 (seq (emit 0) (present 0 nothing (loop (a + 8) nothing)))
+inheritsAt a = signal local a 0 (seq (emit 0 pure) (present 0 nothing (loop (a + 8) nothing)))
 
 abbrev inherits : Statement
 inherits = inheritsAt 0
 
 -- 08 01 08 00 04 02 00 04 02 01 07 01 00 06 00: what is emitted beside an error decides nothing
 abbrev beside : Statement
-beside = signal local 0 1 (signal local 2 0 (seq (emit 0) (seq (emit 1) (present 1 nothing (loop 13 nothing)))))
+beside = signal local 0 1 (signal local 2 0 (seq (emit 0 pure) (seq (emit 1 pure) (present 1 nothing (loop 13 nothing)))))
 
 -- 04 01 01 04 0A 02 04 02 00 01 02
 abbrev jump : Statement
-jump = seq (pause 1) (seq (setpause 2) (seq (emit 0) (pause 2)))
+jump = seq (pause 1) (seq (setpause 2) (seq (emit 0 pure) (pause 2)))
 
 -- 002, section 4: not well-formed
 abbrev split : Statement
@@ -60,17 +60,17 @@ table =
     ∷ (par (exit 3) (exit 5), (leaving 5, 0, 0, []))
     ∷ (loop 0 nothing, (wrong, 0, 0, instantaneous 0 ∷ []))
     ∷ (loop 0 (pause 0), (waiting, 0, 1, []))
-    ∷ (signal local 0 0 (emit 0), (ended, 0, 0, []))
-    ∷ (signal local 0 0 (present 0 nothing (emit 0)), (wrong, 0, 0, notReactive 0 ∷ []))
-    ∷ (signal local 0 0 (present 0 (emit 0) nothing), (wrong, 0, 0, notDeterministic 0 ∷ []))
+    ∷ (signal local 0 0 (emit 0 pure), (ended, 0, 0, []))
+    ∷ (signal local 0 0 (present 0 nothing (emit 0 pure)), (wrong, 0, 0, notReactive 0 ∷ []))
+    ∷ (signal local 0 0 (present 0 (emit 0 pure) nothing), (wrong, 0, 0, notDeterministic 0 ∷ []))
     ∷ (try (par (pause 0) (exit 1)), (ended, 0, 0, []))
     ∷ (reincarnated, (waiting, 0, 1, []))
-    ∷ (seq (emit 0) (present 0 (emit 1) nothing), (ended, 1, 0, []))
+    ∷ (seq (emit 0 pure) (present 0 (emit 1 pure) nothing), (ended, 1, 0, []))
     ∷ (inherits, (wrong, 0, 0, instantaneous 8 ∷ []))
     ∷ (beside, (wrong, 0, 0, instantaneous 13 ∷ instantaneous 13 ∷ []))
     -- the body emits its signal in both runs, and the run with it is wrong
-    ∷ (signal local 0 0 (seq (emit 0) (seq (emit 1) (present 0 (loop 10 nothing) nothing))), (wrong, 0, 0, instantaneous 10 ∷ []))
-    ∷ (par (emit 1) (loop 3 nothing), (wrong, 2, 0, instantaneous 3 ∷ []))
+    ∷ (signal local 0 0 (seq (emit 0 pure) (seq (emit 1 pure) (present 0 (loop 10 nothing) nothing))), (wrong, 0, 0, instantaneous 10 ∷ []))
+    ∷ (par (emit 1 pure) (loop 3 nothing), (wrong, 2, 0, instantaneous 3 ∷ []))
     -- the order of 02, item 3: an error in the run without the signal, in the run with it, in both
     ∷ (signal local 0 0 (present 0 nothing (loop 5 nothing)), (wrong, 0, 0, instantaneous 5 ∷ []))
     ∷ (signal local 0 0 (present 0 (loop 4 nothing) nothing), (wrong, 0, 0, instantaneous 4 ∷ []))
@@ -81,12 +81,12 @@ table =
     -- a loop and a signal do not err beside a wrong body
     ∷ (loop 0 (inheritsAt 1), (wrong, 0, 0, instantaneous 9 ∷ []))
     ∷ (
-      signal local 0 1 (seq (inheritsAt 3) (present 1 nothing (emit 1))),
+      signal local 0 1 (seq (inheritsAt 3) (present 1 nothing (emit 1 pure))),
       (wrong, 0, 0, instantaneous 11 ∷ instantaneous 11 ∷ []),
     )
     -- two errors of one command, in the two runs of another
     ∷ (
-      signal local 0 1 (signal local 2 0 (present 1 (present 0 nothing (emit 0)) (present 0 (emit 0) nothing))),
+      signal local 0 1 (signal local 2 0 (present 1 (present 0 nothing (emit 0 pure)) (present 0 (emit 0 pure) nothing))),
       (wrong, 0, 0, notDeterministic 2 ∷ notReactive 2 ∷ []),
     )
     ∷ []
@@ -114,7 +114,7 @@ runs : (run (byLabels reincarnated) State.fresh (0 ∷ 0 ∷ 0 ∷ []) ≡ waits
     × (run byRewriting (Rewriting.fresh reincarnated) (0 ∷ 0 ∷ []) ≡ waitsIn 12 ∷ waitsIn 20 ∷ [])
     × (run (byLabels jump) State.fresh (0 ∷ 0 ∷ 0 ∷ []) ≡ waitsIn 2 ∷ waitsIn 4 ∷ endsIn 1 ∷ [])
     × (run (byLabels nothing) State.fresh (0 ∷ 0 ∷ []) ≡ endsIn 1 ∷ refused ∷ [])
-    × (run (byLabels (par (emit 1) (loop 3 nothing))) State.fresh (0 ∷ []) ≡ instant wrong (instantaneous 3) 0 4 over ∷ [])
+    × (run (byLabels (par (emit 1 pure) (loop 3 nothing))) State.fresh (0 ∷ []) ≡ instant wrong (instantaneous 3) 0 4 over ∷ [])
 unfolding run active expand reactBy errorsBy reactionsBy member none only join insert remove
 runs = (refl, refl, refl, refl, refl)
 
@@ -156,9 +156,9 @@ resumed : (resume 0 three 4 0 ≡ Instant.instant (gives 0 ended 0 (par nothing 
     × (resume 0 three 2 0 ≡ Instant.instant (gives 0 waiting 8 (par (seq nothing (loop 3 (pause 3))) nothing)) Option.none 6)
     × (resume 0 three 6 0 ≡ resume 0 three 2 0)
     × (resume 0 three 1 0 ≡ Instant.instant (gives 0 waiting 24 (par (seq nothing (loop 3 (pause 3))) nothing)) Option.none 6)
-    × (resume 0 (seq three (emit 1)) 2 0
-    ≡ Instant.instant (gives 0 waiting 8 (seq (par (seq nothing (loop 3 (pause 3))) nothing) (emit 1))) Option.none 7)
-    × (resume 0 (seq three (emit 1)) 4 0 ≡ Instant.instant (gives 2 ended 0 nothing) Option.none 5)
+    × (resume 0 (seq three (emit 1 pure)) 2 0
+    ≡ Instant.instant (gives 0 waiting 8 (seq (par (seq nothing (loop 3 (pause 3))) nothing) (emit 1 pure))) Option.none 7)
+    × (resume 0 (seq three (emit 1 pure)) 4 0 ≡ Instant.instant (gives 2 ended 0 nothing) Option.none 5)
 unfolding expandBy pauseCount below from reactBy errorsBy reactionsBy member none only join insert remove
 resumed = (refl, refl, refl, refl, refl, refl)
 
@@ -197,11 +197,11 @@ frozen = par (suspend 0 (seq (pause 0) (pause 1))) (seq (pause 2) (pause 3))
 
 -- a local signal that the other side emits in the second instant
 abbrev inner : Statement
-inner = signal local 0 0 (par (suspend 0 (seq (pause 0) (emit 1))) (seq (pause 1) (seq (emit 0) (pause 2))))
+inner = signal local 0 0 (par (suspend 0 (seq (pause 0) (emit 1 pure))) (seq (pause 1) (seq (emit 0 pure) (pause 2))))
 
 -- a setpause from outside into the suspend
 abbrev enters : Statement
-enters = seq (setpause 0) (suspend 0 (seq (pause 0) (emit 1)))
+enters = seq (setpause 0) (suspend 0 (seq (pause 0) (emit 1 pure)))
 
 abbrev Traced : Type 0
 Traced = Statement × List ℕ × List Step
@@ -211,19 +211,19 @@ suspended : List Traced
 suspended =
     -- 0B 00 04 02 01 04 01 05 02 02
     (
-      suspend 0 (seq (emit 1) (seq (pause 5) (emit 2))),
+      suspend 0 (seq (emit 1 pure) (seq (pause 5) (emit 2 pure))),
       1 ∷ 1 ∷ 1 ∷ 0 ∷ [],
       (waiting, 2, 32) ∷ (waiting, 0, 32) ∷ (waiting, 0, 32) ∷ (ended, 4, 0) ∷ [],
     )
     -- 06 0B 00 04 02 01 01 00: the next round is fresh, in the instant in which the last one was resumed
     ∷ (
-      loop 0 (suspend 0 (seq (emit 1) (pause 0))),
+      loop 0 (suspend 0 (seq (emit 1 pure) (pause 0))),
       1 ∷ 1 ∷ 0 ∷ 1 ∷ [],
       (waiting, 2, 1) ∷ (waiting, 0, 1) ∷ (waiting, 2, 1) ∷ (waiting, 0, 1) ∷ [],
     )
     -- in the second round too it starts fresh, its signal being present, and is stopped after that
     ∷ (
-      loop 0 (seq (pause 1) (suspend 0 (seq (emit 1) (pause 0)))),
+      loop 0 (seq (pause 1) (suspend 0 (seq (emit 1 pure) (pause 0)))),
       0 ∷ 0 ∷ 0 ∷ 1 ∷ 1 ∷ 0 ∷ [],
       (waiting, 0, 2) ∷ (waiting, 2, 1) ∷ (waiting, 0, 2) ∷ (waiting, 2, 1) ∷ (waiting, 0, 1) ∷ (waiting, 0, 2) ∷ [],
     )
@@ -236,18 +236,18 @@ suspended =
       (waiting, 0, 3) ∷ (ended, 0, 0) ∷ [],
     )
     -- 08 00 0B 00 04 01 00 02 00: the suspend emits what stops it
-    ∷ (signal local 0 0 (suspend 0 (seq (pause 0) (emit 0))), 0 ∷ 0 ∷ [], (waiting, 0, 1) ∷ (wrong, 0, 0) ∷ [])
+    ∷ (signal local 0 0 (suspend 0 (seq (pause 0) (emit 0 pure))), 0 ∷ 0 ∷ [], (waiting, 0, 1) ∷ (wrong, 0, 0) ∷ [])
     -- stopped in the run with the signal, which gives the answer
     ∷ (inner, 0 ∷ 0 ∷ 0 ∷ [], (waiting, 0, 3) ∷ (waiting, 0, 5) ∷ (ended, 2, 0) ∷ [])
     -- two signals: the outer stops both, the inner only its own part
     ∷ (
-      suspend 0 (par (suspend 1 (pause 0)) (seq (pause 1) (seq (pause 2) (emit 3)))),
+      suspend 0 (par (suspend 1 (pause 0)) (seq (pause 1) (seq (pause 2) (emit 3 pure)))),
       0 ∷ 1 ∷ 2 ∷ 3 ∷ 2 ∷ 0 ∷ [],
       (waiting, 0, 3) ∷ (waiting, 0, 3) ∷ (waiting, 0, 5) ∷ (waiting, 0, 5) ∷ (waiting, 8, 1) ∷ (ended, 0, 0) ∷ [],
     )
     -- one side of the parallel inside has ended
     ∷ (
-      suspend 0 (par (seq (pause 0) (emit 1)) (seq (pause 1) (seq (pause 2) (emit 2)))),
+      suspend 0 (par (seq (pause 0) (emit 1 pure)) (seq (pause 1) (seq (pause 2) (emit 2 pure)))),
       0 ∷ 0 ∷ 1 ∷ 0 ∷ [],
       (waiting, 0, 3) ∷ (waiting, 2, 4) ∷ (waiting, 0, 4) ∷ (ended, 4, 0) ∷ [],
     )
@@ -264,7 +264,7 @@ traces = (refl, refl, refl)
 
 -- Nothing inside a stopped suspend errs, and after any other code than 1 nothing remains of it. Of a set that is not valid
 -- a stopped suspend keeps one that is not.
-kept : (errors (expand (signal local 0 0 (suspend 0 (seq (pause 0) (emit 0)))) 1) 0 ≡ notReactive 0 ∷ [])
+kept : (errors (expand (signal local 0 0 (suspend 0 (seq (pause 0) (emit 0 pure)))) 1) 0 ≡ notReactive 0 ∷ [])
     × (errors (expand (suspend 0 (loop 2 (seq (pause 0) (loop 6 nothing)))) 1) 0 ≡ instantaneous 6 ∷ [])
     × (errors (expand (suspend 0 (loop 2 (seq (pause 0) (loop 6 nothing)))) 1) 1 ≡ [])
     × (residual (react (suspend 0 (try nothing)) 0) ≡ nothing)
@@ -303,9 +303,9 @@ kept-by-ranks = (refl, refl, refl, refl, refl)
 
 -- A present whose branch is resumed asks for nothing; the round that begins after it does. A resumed suspend asks first, and what
 -- is inside it only where it is not stopped.
-asked-by-ranks : (askedOf (resumeTree 0 (present 0 (pause 0) nothing) 1 0) ≡ 0)
-    × (askedOf (resumeTree 0 errsLater 1 0) ≡ 1)
-    × (askedOf (resumeTree 0 (suspend 3 errsLater) 1 8) ≡ 8)
-    × (askedOf (resumeTree 0 (suspend 3 errsLater) 1 0) ≡ 9)
+asked-by-ranks : (askedOf (resumeTree 32 0 (present 0 (pause 0) nothing) 1 0) ≡ 0)
+    × (askedOf (resumeTree 32 0 errsLater 1 0) ≡ 1)
+    × (askedOf (resumeTree 32 0 (suspend 3 errsLater) 1 8) ≡ 8)
+    × (askedOf (resumeTree 32 0 (suspend 3 errsLater) 1 0) ≡ 9)
 unfolding expandBy askedBy pauseCount below from labelsBy reactBy errorsBy reactionsBy member none only join insert remove
 asked-by-ranks = (refl, refl, refl, refl)

@@ -16,7 +16,7 @@ ifActive b t = cond b t Statement.nothing
 unfoldable pub expand : Statement → ℕ → Statement
 expand Statement.nothing L = Statement.nothing
 expand (Statement.pause l) L = Statement.nothing
-expand (Statement.emit s) L = Statement.nothing
+expand (Statement.emit s v) L = Statement.nothing
 expand (Statement.exit n) L = Statement.nothing
 expand (Statement.seq p q) L = cond (active p L) (Statement.seq (expand p L) q) (expand q L)
 expand (Statement.par p q) L = Statement.par (ifActive (active p L) (expand p L)) (ifActive (active q L) (expand q L))

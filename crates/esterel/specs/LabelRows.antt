@@ -22,7 +22,7 @@ further parallel parallel known s = join known s
 unfoldable pub fill : (x y : Bool) → Joint → Statement → ℕ → (ℕ → ℕ) → ℕ → ℕ
 fill x y j nothing known rows = rows
 fill x y j (pause l) known rows = cond x (addRow l known rows) rows
-fill x y j (emit s) known rows = rows
+fill x y j (emit s v) known rows = rows
 fill x y j (exit n) known rows = rows
 fill x y j (seq p q) known rows = fill x y j q (further j alternative known (labelsOf x y p)) (fill x y j p known rows)
 fill x y j (par p q) known rows = fill x y j q (further j parallel known (labelsOf x y p)) (fill x y j p known rows)

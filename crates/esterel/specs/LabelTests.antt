@@ -17,7 +17,7 @@ subset s t = eqb (bitAnd s t) s
 unfoldable pub labelsOf : (x y : Bool) → Statement → ℕ
 labelsOf x y nothing = none
 labelsOf x y (pause l) = cond x (only l) none
-labelsOf x y (emit s) = none
+labelsOf x y (emit s v) = none
 labelsOf x y (exit n) = none
 labelsOf x y (seq p q) = join (labelsOf x y p) (labelsOf x y q)
 labelsOf x y (par p q) = join (labelsOf x y p) (labelsOf x y q)
@@ -46,7 +46,7 @@ activeLabels p L = bitAnd L (pauses p)
 unfoldable pub everyLabel : Statement → (ℕ → Bool) → Bool
 everyLabel nothing f = true
 everyLabel (pause l) f = f l
-everyLabel (emit s) f = true
+everyLabel (emit s v) f = true
 everyLabel (exit n) f = true
 everyLabel (seq p q) f = everyLabel p f && everyLabel q f
 everyLabel (par p q) f = everyLabel p f && everyLabel q f
@@ -62,7 +62,7 @@ everyLabel (held s K p) f = true
 unfoldable pub distinct : Statement → Bool
 distinct nothing = true
 distinct (pause l) = true
-distinct (emit s) = true
+distinct (emit s v) = true
 distinct (exit n) = true
 distinct (seq p q) = disjoint (pauses p) (pauses q) && (distinct p && distinct q)
 distinct (par p q) = disjoint (pauses p) (pauses q) && (distinct p && distinct q)
@@ -98,7 +98,7 @@ ifMember k t s = cond (member k t) s none
 unfoldable pub before : (x y : Bool) → Joint → Statement → ℕ → ℕ
 before x y j nothing k = none
 before x y j (pause l) k = none
-before x y j (emit s) k = none
+before x y j (emit s v) k = none
 before x y j (exit n) k = none
 before x y j (seq p q) k =
     join (atJoint j alternative (ifMember k (labelsOf x y q) (labelsOf x y p))) (join (before x y j p k) (before x y j q k))

@@ -5,6 +5,7 @@ pub mod Rules
 pub mod Errors
 pub mod Reactions
 pub mod Asked
+pub mod Litres
 pub mod Ceiling
 pub mod SignalOrders
 pub mod Places

@@ -1,14 +1,16 @@
 -- Two machines over the instants of one statement: by labels (01, 'States and resuming'), which keeps the label set and
 -- expands, and by rewriting (01, 'The fitters' paper'), which keeps the residual and knows neither labels nor expansion.
 use Prim.Native.Nat.{ℕ}
+use mathlib.Core.Bool.{cond}
 use mathlib.Core.Option.{Option}
 use mathlib.Core.List.{List, [], _∷_}
 use Rattle.esterel.specs.Sets.{none}
 use Rattle.esterel.specs.Statement.{Statement, nothing, pause, emit, exit, seq, par, loop, present, signal, try, setpause, suspend, held}
-use Rattle.esterel.specs.Reaction.{Code, ended, waiting, leaving, wrong, Reaction, gives, react}
+use Rattle.esterel.specs.Reaction.{Code, ended, waiting, leaving, wrong, isWrong, Reaction, gives, code, react}
 use Rattle.esterel.specs.Errors.{Error, firstError, blame}
 use Rattle.esterel.specs.Reactions.{reactions}
 use Rattle.esterel.specs.States.{Valid}
+use Rattle.esterel.specs.Litres.{delivered}
 use Rattle.esterel.specs.Expansion.{expand}
 use Rattle.esterel.specs.ReadBack.{without}
 
@@ -107,11 +109,30 @@ byRewriting (Rewriting.fresh t) e = (seen (react t e) (firstError t e) (reaction
 byRewriting (Rewriting.waits t) e = (seen (react t e) (firstError t e) (reactions t e), termAfter (react t e))
 byRewriting Rewriting.over e = (refused, Rewriting.over)
 
+-- ---- litres (02, item 12): 'an instant not wrong adds its litres'
+abbrev pub adds : (farm : ℕ) → Statement → ℕ → ℕ
+adds f t e = cond (isWrong (code (react t e))) 0 (delivered f t e)
+
+abbrev pub addsByLabels : (farm : ℕ) → Statement → State → ℕ → ℕ
+addsByLabels f p State.fresh e = adds f p e
+addsByLabels f p (State.waits L) e = adds f (expand p L) e
+addsByLabels f p State.over e = 0
+
+abbrev pub addsByRewriting : (farm : ℕ) → Rewriting → ℕ → ℕ
+addsByRewriting f (Rewriting.fresh t) e = adds f t e
+addsByRewriting f (Rewriting.waits t) e = adds f t e
+addsByRewriting f Rewriting.over e = 0
+
+-- what the instants of a machine add, one after the other, each by the state that it begins in
+unfoldable pub added : {S : Type 0} → Machine S → (S → ℕ → ℕ) → S → List ℕ → List ℕ
+added m f s [] = []
+added m f s (e ∷ es) = f s e ∷ added m f (m s e .1) es
+
 -- The term with no labels in its held suspends, as the paper, which knows no labels, would have it.
 unfoldable pub erase : Statement → Statement
 erase nothing = nothing
 erase (pause l) = pause l
-erase (emit s) = emit s
+erase (emit s v) = emit s v
 erase (exit n) = exit n
 erase (seq p q) = seq (erase p) (erase q)
 erase (par p q) = par (erase p) (erase q)

@@ -11,7 +11,7 @@ use Rattle.esterel.specs.LabelTests.{pauses, Joint, alternative, paralle
 unfoldable pub pauseCount : Statement → ℕ
 pauseCount nothing = 0
 pauseCount (pause l) = 1
-pauseCount (emit s) = 0
+pauseCount (emit s v) = 0
 pauseCount (exit n) = 0
 pauseCount (seq p q) = pauseCount p + pauseCount q
 pauseCount (par p q) = pauseCount p + pauseCount q
@@ -31,7 +31,7 @@ middle base p = base + pauseCount p
 unfoldable pub mask : (base : ℕ) → Statement → (L : ℕ) → ℕ
 mask base nothing L = none
 mask base (pause l) L = cond (member l L) (only base) none
-mask base (emit s) L = none
+mask base (emit s v) L = none
 mask base (exit n) L = none
 mask base (seq p q) L = join (mask base p L) (mask (middle base p) q L)
 mask base (par p q) L = join (mask base p L) (mask (middle base p) q L)
@@ -47,7 +47,7 @@ mask base (held s K p) L = none
 unfoldable pub rank : (base : ℕ) → Statement → (l : ℕ) → ℕ
 rank base nothing l = base
 rank base (pause k) l = base
-rank base (emit s) l = base
+rank base (emit s v) l = base
 rank base (exit n) l = base
 rank base (seq p q) l = cond (member l (pauses p)) (rank base p l) (rank (middle base p) q l)
 rank base (par p q) l = cond (member l (pauses p)) (rank base p l) (rank (middle base p) q l)
@@ -63,7 +63,7 @@ rank base (held s K p) l = base
 unfoldable pub labelsBy : (base : ℕ) → Statement → (m : ℕ) → ℕ
 labelsBy base nothing m = none
 labelsBy base (pause l) m = cond (empty m) none (only l)
-labelsBy base (emit s) m = none
+labelsBy base (emit s v) m = none
 labelsBy base (exit n) m = none
 labelsBy base (seq p q) m = join (labelsBy base p (below (middle base p) m)) (labelsBy (middle base p) q (from (middle base p) m))
 labelsBy base (par p q) m = join (labelsBy base p (below (middle base p) m)) (labelsBy (middle base p) q (from (middle base p) m))
@@ -87,7 +87,7 @@ ofParts parallel false false first second = first && second
 unfoldable pub compatible : (base : ℕ) → Statement → (m : ℕ) → Bool
 compatible base nothing m = true
 compatible base (pause l) m = true
-compatible base (emit s) m = true
+compatible base (emit s v) m = true
 compatible base (exit n) m = true
 compatible base (seq p q) m =
     ofParts alternative (empty (below (middle base p) m)) (empty (from (middle base p) m))

@@ -160,7 +160,7 @@ inSignal ord sc a s r− r+ = answer (caseOf ord s r− r+) sc a s r− r+
 unfoldable pub reactBy : Order → Statement → ℕ → Reaction
 reactBy ord nothing e = quiet
 reactBy ord (pause l) e = gives none waiting (only l) nothing
-reactBy ord (emit s) e = gives (only s) ended none nothing
+reactBy ord (emit s v) e = gives (only s) ended none nothing
 reactBy ord (exit n) e = gives none (leaving n) none nothing
 reactBy ord (seq p q) e = inSeq q (reactBy ord p e) (reactBy ord q e)
 reactBy ord (par p q) e = inPar (reactBy ord p e) (reactBy ord q e)

@@ -4,7 +4,7 @@ use Prim.Native.Nat.{ℕ, _+_}
 use mathlib.Core.Path.{_≡_, refl}
 use mathlib.Core.Bool.{cond}
 use Rattle.esterel.specs.Sets.{member, none, only, join, insert, remove}
-use Rattle.esterel.specs.Statement.{local, Statement, nothing, pause, emit, exit, seq, par, loop, present, signal, try, setpause, suspend, held}
+use Rattle.esterel.specs.Statement.{local, pure, Statement, nothing, pause, emit, exit, seq, par, loop, present, signal, try, setpause, suspend, held}
 use Rattle.esterel.specs.Reaction.{Reaction, code, Order, inheritanceFirst, reactBy}
 use Rattle.esterel.specs.Rules.{ReactsBy}
 use Rattle.esterel.specs.Errors.{ifEnded}
@@ -15,7 +15,7 @@ use Rattle.esterel.specs.Expansion.{expand}
 unfoldable pub reactionsBy : Order → Statement → ℕ → ℕ
 reactionsBy ord nothing e = 1
 reactionsBy ord (pause l) e = 1
-reactionsBy ord (emit s) e = 1
+reactionsBy ord (emit s v) e = 1
 reactionsBy ord (exit n) e = 1
 reactionsBy ord (seq p q) e = 1 + reactionsBy ord p e + ifEnded (code (reactBy ord p e)) (reactionsBy ord q e) 0
 reactionsBy ord (par p q) e = 1 + reactionsBy ord p e + reactionsBy ord q e
@@ -69,13 +69,13 @@ resumed-parts : (reactions (present 0 (pause 0) nothing) 1 ≡ 2)
     × (reactions (expand (present 0 (pause 0) nothing) 1) 1 ≡ 1)
     × (reactions (expand (seq (pause 0) (pause 1)) 1) 0 ≡ 3)
     × (reactions (expand (seq (pause 0) (pause 1)) 2) 0 ≡ 1)
-    × (reactions (expand (par (seq (pause 0) (emit 0)) (seq (pause 1) (emit 1))) 2) 0 ≡ 5)
+    × (reactions (expand (par (seq (pause 0) (emit 0 pure)) (seq (pause 1) (emit 1 pure))) 2) 0 ≡ 5)
 unfolding reactionsBy reactBy active expand member none only join insert remove
 resumed-parts = (refl, refl, refl, refl, refl)
 
 -- Both runs of a signal count, and what reacts in a wrong instant; the second part of a sequence only where the first ended.
-trees : (reactions (signal local 0 0 (present 0 (emit 1) (seq nothing nothing))) 0 ≡ 7)
-    × (reactions (par (loop 1 nothing) (seq (exit 1) (emit 0))) 0 ≡ 5)
+trees : (reactions (signal local 0 0 (present 0 (emit 1 pure) (seq nothing nothing))) 0 ≡ 7)
+    × (reactions (par (loop 1 nothing) (seq (exit 1) (emit 0 pure))) 0 ≡ 5)
     × (reactions (suspend 0 (try (pause 0))) 1 ≡ 3)
 unfolding reactionsBy reactBy member none only join insert remove
 trees = (refl, refl, refl)

@@ -5,11 +5,12 @@ use mathlib.Core.Path.{_≡_, refl}
 use mathlib.Core.Bool.{Bool, true, false}
 use mathlib.Core.List.{List, [], _∷_, List·Memᴰ}
 use Rattle.esterel.specs.Sets.{member, none, only, join, insert, remove}
-use Rattle.esterel.specs.Statement.{Scope, local, reported, Statement, nothing, emit, seq, present, signal}
+use Rattle.esterel.specs.Statement.{Scope, local, reported, pure, litres, Statement, nothing, emit, seq, present, signal}
 use Rattle.esterel.specs.Reaction.{ended, waiting, gives, emitted, code, residual, failed, reactBy, react}
 use Rattle.esterel.specs.Errors.{errorsBy, errors, notReactive, notDeterministic}
 use Rattle.esterel.specs.Reactions.{reactionsBy}
 use Rattle.esterel.specs.Asked.{askedBy}
+use Rattle.esterel.specs.Litres.{deliveredBy}
 use Rattle.esterel.specs.Resume.{startTree}
 
 abbrev pub keepIf : Bool → ℕ → List ℕ → List ℕ
@@ -49,37 +50,37 @@ lowest-first : membersFrom 32 0 37 ≡ 0 ∷ 2 ∷ 5 ∷ []
 unfolding membersFrom member
 lowest-first = refl
 
-seen-and-reported : react (declared 9 (0 ∷ []) (seq (emit 0) (present 0 (emit 1) nothing))) 0 ≡ gives 3 ended 0 (signal reported 9 0 nothing)
+seen-and-reported : react (declared 9 (0 ∷ []) (seq (emit 0 pure) (present 0 (emit 1 pure) nothing))) 0 ≡ gives 3 ended 0 (signal reported 9 0 nothing)
 unfolding declaredBy reactBy member none only join insert remove
 seen-and-reported = refl
 
 -- the declarations err as every signal does, at their place
-emitted-if-absent : (react (declared 9 (0 ∷ []) (present 0 nothing (emit 0))) 0 ≡ failed)
-    × (errors (declared 9 (0 ∷ []) (present 0 nothing (emit 0))) 0 ≡ notReactive 9 ∷ [])
-    × (errors (declared 9 (0 ∷ []) (present 0 (emit 0) nothing)) 0 ≡ notDeterministic 9 ∷ [])
+emitted-if-absent : (react (declared 9 (0 ∷ []) (present 0 nothing (emit 0 pure))) 0 ≡ failed)
+    × (errors (declared 9 (0 ∷ []) (present 0 nothing (emit 0 pure))) 0 ≡ notReactive 9 ∷ [])
+    × (errors (declared 9 (0 ∷ []) (present 0 (emit 0 pure) nothing)) 0 ≡ notDeterministic 9 ∷ [])
 unfolding declaredBy reactBy errorsBy member none only join insert remove
 emitted-if-absent = (refl, refl, refl)
 
 -- 003, section 6.4: the order of two declarations matters
-order-matters : (react (declared 9 (0 ∷ 1 ∷ []) (present 0 (present 1 (emit 0) nothing) nothing)) 0
+order-matters : (react (declared 9 (0 ∷ 1 ∷ []) (present 0 (present 1 (emit 0 pure) nothing) nothing)) 0
     ≡ gives 0 ended 0 (signal reported 9 0 (signal reported 9 1 nothing)))
-    × (errors (declared 9 (0 ∷ 1 ∷ []) (present 1 (present 0 (emit 1) nothing) nothing)) 0 ≡ notDeterministic 9 ∷ [])
+    × (errors (declared 9 (0 ∷ 1 ∷ []) (present 1 (present 0 (emit 1 pure) nothing) nothing)) 0 ≡ notDeterministic 9 ∷ [])
 unfolding declaredBy reactBy errorsBy member none only join insert remove
 order-matters = (refl, refl)
 
 -- the host says that 0 is present: the test does not see it
-not-believed : startTree (declared 9 (0 ∷ []) (present 0 (emit 1) nothing)) 1
-    ≡ startTree (declared 9 (0 ∷ []) (present 0 (emit 1) nothing)) 0
-unfolding declaredBy reactBy errorsBy reactionsBy askedBy member none only join insert remove
+not-believed : startTree 1 (declared 9 (0 ∷ []) (present 0 (emit 1 (litres 5)) nothing)) 1
+    ≡ startTree 1 (declared 9 (0 ∷ []) (present 0 (emit 1 (litres 5)) nothing)) 0
+unfolding declaredBy reactBy errorsBy reactionsBy askedBy deliveredBy member none only join insert remove
 not-believed = refl
 
 -- The same declarations with scope `local`: the same tree but for what is emitted outside, one signal declared twice included.
-reported-and-local : (react (declared 9 (0 ∷ 1 ∷ []) (seq (emit 0) (seq (emit 2) (emit 1)))) 0
+reported-and-local : (react (declared 9 (0 ∷ 1 ∷ []) (seq (emit 0 pure) (seq (emit 2 pure) (emit 1 pure)))) 0
     ≡ gives 7 ended 0 (signal reported 9 0 (signal reported 9 1 nothing)))
-    × (react (declaredBy local 9 (0 ∷ 1 ∷ []) (seq (emit 0) (seq (emit 2) (emit 1)))) 0
+    × (react (declaredBy local 9 (0 ∷ 1 ∷ []) (seq (emit 0 pure) (seq (emit 2 pure) (emit 1 pure)))) 0
     ≡ gives 4 ended 0 (signal local 9 0 (signal local 9 1 nothing)))
     × (without (0 ∷ 1 ∷ []) 7 ≡ 4)
-    × (emitted (react (declared 9 (0 ∷ 0 ∷ []) (seq (emit 0) (emit 2))) 0) ≡ 5)
-    × (emitted (react (declaredBy local 9 (0 ∷ 0 ∷ []) (seq (emit 0) (emit 2))) 0) ≡ 4)
+    × (emitted (react (declared 9 (0 ∷ 0 ∷ []) (seq (emit 0 pure) (emit 2 pure))) 0) ≡ 5)
+    × (emitted (react (declaredBy local 9 (0 ∷ 0 ∷ []) (seq (emit 0 pure) (emit 2 pure))) 0) ≡ 4)
 unfolding declaredBy without reactBy member none only join insert remove
 reported-and-local = (refl, refl, refl, refl, refl)

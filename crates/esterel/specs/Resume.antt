@@ -5,11 +5,12 @@ use mathlib.Core.Path.{_≡_, refl}
 use mathlib.Core.Bool.{cond}
 use mathlib.Core.Option.{Option, some}
 use Rattle.esterel.specs.Sets.{member, none, only, join, insert, remove, empty, below, from}
-use Rattle.esterel.specs.Statement.{Scope, local, Statement, nothing, pause, emit, exit, seq, par, loop, present, signal, try, setpause, suspend, held}
+use Rattle.esterel.specs.Statement.{Scope, local, pure, litres, Statement, nothing, pause, emit, exit, seq, par, loop, present, signal, try, setpause, suspend, held}
 use Rattle.esterel.specs.Reaction.{Code, isWrong, Reaction, code, inSeq, inPar, inLoop, inTry, inSuspend, stopped, Case, both, neither, only−, only+, inherited, Order, inheritanceFirst, caseOf, inSignal, reactBy}
 use Rattle.esterel.specs.Errors.{Error, instantaneous, notReactive, notDeterministic, ifEnded, errorsBy, firstErrorBy}
 use Rattle.esterel.specs.Reactions.{reactionsBy}
 use Rattle.esterel.specs.Asked.{askedBy, asked, tests}
+use Rattle.esterel.specs.Litres.{chosen, passing, deliveredBy, delivered}
 use Rattle.esterel.specs.Ranks.{middle, labelsBy}
 
 -- a reaction with the first error of its tree, where it is wrong, and the number of reactions in it
@@ -63,61 +64,72 @@ suspendInstant s (instant r x n) = instant (inSuspend s r) x (1 + n)
 abbrev pub stoppedInstant : (s K : ℕ) → Statement → Instant
 stoppedInstant s K p = instant (stopped s K p) Option.none 1
 
--- ---- an instant with the signals that its tree asks for; these are not told, but say where one run of a signal stands for both
+-- ---- an instant with the signals that its tree asks for, which are not told but say where one run of a signal stands for both, and
+-- with the litres of the one farm that the caller asks for
 pub data Tree : Type 0 where
-  tree : (i : Instant) (asked : ℕ) → Tree
+  tree : (i : Instant) (asked delivered : ℕ) → Tree
 
 abbrev pub instantOf : Tree → Instant
-instantOf (tree i a) = i
+instantOf (tree i a x) = i
 
 abbrev pub askedOf : Tree → ℕ
-askedOf (tree i a) = a
+askedOf (tree i a x) = a
 
-abbrev pub startTree : Statement → ℕ → Tree
-startTree p e = tree (start p e) (asked p e)
+abbrev pub deliveredOf : Tree → ℕ
+deliveredOf (tree i a x) = x
+
+abbrev pub startTree : (farm : ℕ) → Statement → ℕ → Tree
+startTree f p e = tree (start p e) (asked p e) (delivered f p e)
+
+abbrev pub reactionIn : Instant → Reaction
+reactionIn (instant r x n) = r
 
 abbrev pub codeIn : Instant → Code
 codeIn (instant r x n) = code r
 
+abbrev pub caseOfRuns : ℕ → Instant → Instant → Case
+caseOfRuns s i− i+ = caseOf inheritanceFirst s (reactionIn i−) (reactionIn i+)
+
 -- what a command makes of the trees of its parts
 abbrev pub seqTree : Statement → Tree → Tree → Tree
-seqTree q (tree i a) (tree j b) = tree (seqInstant q i j) (join a (ifEnded (codeIn i) b none))
+seqTree q (tree i a x) (tree j b y) = tree (seqInstant q i j) (join a (ifEnded (codeIn i) b none)) (x + ifEnded (codeIn i) y 0)
 
 abbrev pub parTree : Tree → Tree → Tree
-parTree (tree i a) (tree j b) = tree (parInstant i j) (join a b)
+parTree (tree i a x) (tree j b y) = tree (parInstant i j) (join a b) (x + y)
 
 abbrev pub loopTree : ℕ → Statement → Tree → Tree
-loopTree a p (tree i b) = tree (loopInstant a p i) b
+loopTree a p (tree i b x) = tree (loopInstant a p i) b (ifEnded (codeIn i) 0 x)
 
 abbrev pub presentTree : ℕ → Tree → Tree
-presentTree s (tree i a) = tree (presentInstant i) (insert s a)
+presentTree s (tree i a x) = tree (presentInstant i) (insert s a) x
 
 abbrev pub tryTree : Tree → Tree
-tryTree (tree i a) = tree (tryInstant i) a
+tryTree (tree i a x) = tree (tryInstant i) a x
 
-abbrev pub signalTree : Scope → ℕ → ℕ → Tree → Tree → Tree
-signalTree sc a s (tree i− a−) (tree i+ a+) = tree (signalInstant sc a s i− i+) (remove s (join a− a+))
+abbrev pub signalTree : (farm : ℕ) → Scope → ℕ → ℕ → Tree → Tree → Tree
+signalTree f sc a s (tree i− a− x−) (tree i+ a+ x+) =
+    tree (signalInstant sc a s i− i+) (remove s (join a− a+)) (passing sc f s (chosen (caseOfRuns s i− i+) x− x+))
 
 -- the same from one run that stands for both, and does not ask for s
-abbrev pub signalOnce : Scope → ℕ → ℕ → Tree → Tree
-signalOnce sc a s (tree i b) = tree (signalInstant sc a s i i) b
+abbrev pub signalOnce : (farm : ℕ) → Scope → ℕ → ℕ → Tree → Tree
+signalOnce f sc a s (tree i b x) = tree (signalInstant sc a s i i) b (passing sc f s (chosen (caseOfRuns s i i) x x))
 
 -- a fresh suspend, and a held one whose signal is absent, or present
 abbrev pub suspendTree : ℕ → Tree → Tree
-suspendTree s (tree i a) = tree (suspendInstant s i) a
+suspendTree s (tree i a x) = tree (suspendInstant s i) a x
 
 abbrev pub heldTree : ℕ → Tree → Tree
-heldTree s (tree i a) = tree (suspendInstant s i) (insert s a)
+heldTree s (tree i a x) = tree (suspendInstant s i) (insert s a) x
 
 abbrev pub stoppedTree : (s K : ℕ) → Statement → Tree
-stoppedTree s K p = tree (stoppedInstant s K p) (insert s none)
+stoppedTree s K p = tree (stoppedInstant s K p) (insert s none) 0
 
 -- ---- the expansion of p, whose first pause has rank base, by the ranks m of its active pauses; m is not empty
 -- A side without an active pause has ended; a sequence whose second part is active, and a present, are gone.
 unfoldable pub expandBy : (base : ℕ) → Statement → (m : ℕ) → Statement
 expandBy base nothing m = nothing
 expandBy base (pause l) m = nothing
-expandBy base (emit s) m = nothing
+expandBy base (emit s v) m = nothing
 expandBy base (exit n) m = nothing
 expandBy base (seq p q) m =
     cond (empty (below (middle base p) m)) (expandBy (middle base p) q (from (middle base p) m))
@@ -139,27 +151,27 @@ expandBy base (held s K p) m = nothing
 abbrev pub resume : (base : ℕ) → Statement → (m : ℕ) → (e : ℕ) → Instant
 resume base p m e = start (expandBy base p m) e
 
-abbrev pub resumeTree : (base : ℕ) → Statement → (m : ℕ) → (e : ℕ) → Tree
-resumeTree base p m e = startTree (expandBy base p m) e
+abbrev pub resumeTree : (farm base : ℕ) → Statement → (m : ℕ) → (e : ℕ) → Tree
+resumeTree f base p m e = startTree f (expandBy base p m) e
 
 -- ---- by computation: a tree is what its command makes of the trees of the parts (theory/proofs/Trees)
-from-parts : (startTree (seq (tests 1) (tests 0)) 0 ≡ seqTree (tests 0) (startTree (tests 1) 0) (startTree (tests 0) 0))
-    × (startTree (seq (pause 0) (tests 0)) 0 ≡ seqTree (tests 0) (startTree (pause 0) 0) (startTree (tests 0) 0))
-    × (startTree (par (loop 1 (tests 0)) (loop 5 (tests 1))) 0 ≡ parTree (startTree (loop 1 (tests 0)) 0) (startTree (loop 5 (tests 1)) 0))
-    × (startTree (loop 1 (tests 0)) 0 ≡ loopTree 1 (tests 0) (startTree (tests 0) 0))
-    × (startTree (present 2 (tests 0) nothing) 4 ≡ presentTree 2 (startTree (tests 0) 4))
-    × (startTree (try (par (tests 0) (exit 1))) 0 ≡ tryTree (startTree (par (tests 0) (exit 1)) 0))
-    × (startTree (suspend 2 (tests 0)) 4 ≡ suspendTree 2 (startTree (tests 0) 4))
-    × (startTree (held 2 1 (tests 0)) 4 ≡ stoppedTree 2 1 (tests 0))
-    × (startTree (held 2 1 (tests 0)) 0 ≡ heldTree 2 (startTree (tests 0) 0))
-unfolding reactBy errorsBy reactionsBy askedBy member none only join insert remove
+from-parts : (startTree 2 (seq (tests 1) (tests 0)) 0 ≡ seqTree (tests 0) (startTree 2 (tests 1) 0) (startTree 2 (tests 0) 0))
+    × (startTree 2 (seq (pause 0) (tests 0)) 0 ≡ seqTree (tests 0) (startTree 2 (pause 0) 0) (startTree 2 (tests 0) 0))
+    × (startTree 2 (par (loop 1 (tests 0)) (loop 5 (tests 1))) 0 ≡ parTree (startTree 2 (loop 1 (tests 0)) 0) (startTree 2 (loop 5 (tests 1)) 0))
+    × (startTree 2 (loop 1 (tests 0)) 0 ≡ loopTree 1 (tests 0) (startTree 2 (tests 0) 0))
+    × (startTree 2 (present 2 (tests 0) nothing) 4 ≡ presentTree 2 (startTree 2 (tests 0) 4))
+    × (startTree 2 (try (par (tests 0) (exit 1))) 0 ≡ tryTree (startTree 2 (par (tests 0) (exit 1)) 0))
+    × (startTree 2 (suspend 2 (tests 0)) 4 ≡ suspendTree 2 (startTree 2 (tests 0) 4))
+    × (startTree 2 (held 2 1 (tests 0)) 4 ≡ stoppedTree 2 1 (tests 0))
+    × (startTree 2 (held 2 1 (tests 0)) 0 ≡ heldTree 2 (startTree 2 (tests 0) 0))
+unfolding reactBy errorsBy reactionsBy askedBy deliveredBy member none only join insert remove
 from-parts = (refl, refl, refl, refl, refl, refl, refl, refl, refl)
 
 -- both runs of a signal, and one for both where the first does not ask for it
-from-runs : (startTree (signal local 4 3 (present 3 (tests 1) (emit 2))) 0
-    ≡ signalTree local 4 3 (startTree (present 3 (tests 1) (emit 2)) 0) (startTree (present 3 (tests 1) (emit 2)) 8))
-    × (startTree (signal local 4 3 (present 3 nothing (emit 3))) 0
-    ≡ signalTree local 4 3 (startTree (present 3 nothing (emit 3)) 0) (startTree (present 3 nothing (emit 3)) 8))
-    × (startTree (signal local 4 3 (tests 1)) 0 ≡ signalOnce local 4 3 (startTree (tests 1) 0))
-unfolding reactBy errorsBy reactionsBy askedBy member none only join insert remove
+from-runs : (startTree 2 (signal local 4 3 (present 3 (tests 1) (emit 2 (litres 5)))) 0
+    ≡ signalTree 2 local 4 3 (startTree 2 (present 3 (tests 1) (emit 2 (litres 5))) 0) (startTree 2 (present 3 (tests 1) (emit 2 (litres 5))) 8))
+    × (startTree 2 (signal local 4 3 (present 3 nothing (emit 3 pure))) 0
+    ≡ signalTree 2 local 4 3 (startTree 2 (present 3 nothing (emit 3 pure)) 0) (startTree 2 (present 3 nothing (emit 3 pure)) 8))
+    × (startTree 2 (signal local 4 3 (tests 1)) 0 ≡ signalOnce 2 local 4 3 (startTree 2 (tests 1) 0))
+unfolding reactBy errorsBy reactionsBy askedBy deliveredBy member none only join insert remove
 from-runs = (refl, refl, refl)

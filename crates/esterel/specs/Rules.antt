@@ -7,7 +7,7 @@ use mathlib.Core.Path.{_≡_}
 use mathlib.Core.Logic.{_≢_}
 use mathlib.Core.Bool.{Bool, true, false}
 use Rattle.esterel.specs.Sets.{member, none, only, join, insert, remove}
-use Rattle.esterel.specs.Statement.{Scope, Statement}
+use Rattle.esterel.specs.Statement.{Scope, Value, Statement}
 use Rattle.esterel.specs.Reaction.{Code, ended, waiting, leaving, wrong, greater, down, ifWaiting, side, outside, remains, Reaction, gives, Order, printed, inheritanceFirst}
 
 -- ---- what the signal rules ask of the codes of the runs − and + (without s, with s), by the order of the rules
@@ -29,7 +29,8 @@ pub data ReactsBy (ord : Order) : Statement → ℕ → Reaction → Type 0 wher
   -- labels: 002, rule 2
   pause : {e l : ℕ} → ReactsBy ord (Statement.pause l) e (gives none waiting (only l) Statement.nothing)
   exit : {e n : ℕ} → ReactsBy ord (Statement.exit n) e (gives none (leaving n) none Statement.nothing)
-  emit : {e s : ℕ} → ReactsBy ord (Statement.emit s) e (gives (only s) ended none Statement.nothing)
+  -- its value is no part of E, O, k or L (02, item 12)
+  emit : {e s : ℕ} {v : Value} → ReactsBy ord (Statement.emit s v) e (gives (only s) ended none Statement.nothing)
   loop : {e a o l : ℕ} {k : Code} {p p′ : Statement}
       → ReactsBy ord p e (gives o k l p′)
       → k ≢ ended

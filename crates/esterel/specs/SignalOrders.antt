@@ -4,7 +4,7 @@ use mathlib.Core.Path.{_≡_, refl, ap}
 use mathlib.Core.Bool.{Bool, true, false, _&&_, _||_, cond, false≢true}
 use mathlib.Core.List.{[], _∷_}
 use Rattle.esterel.specs.Sets.{member, none, only, join, insert, remove}
-use Rattle.esterel.specs.Statement.{local, Statement, nothing, pause, emit, exit, seq, par, loop, present, signal, try, setpause, suspend, held}
+use Rattle.esterel.specs.Statement.{local, pure, Statement, nothing, pause, emit, exit, seq, par, loop, present, signal, try, setpause, suspend, held}
 use Rattle.esterel.specs.Reaction.{ended, wrong, isWrong, Reaction, gives, emitted, code, failed, printed, reactBy, react}
 use Rattle.esterel.specs.Rules.{ReactsBy, Reacts}
 use Rattle.esterel.specs.Errors.{ifEnded, errorsBy, errors, instantaneous, notReactive}
@@ -17,7 +17,7 @@ overlaps s r− r+ = member s (emitted r−) && member s (emitted r+) && (isWron
 unfoldable pub overlap : Statement → ℕ → Bool
 overlap nothing e = false
 overlap (pause l) e = false
-overlap (emit s) e = false
+overlap (emit s v) e = false
 overlap (exit n) e = false
 overlap (seq p q) e = overlap p e || ifEnded (code (reactBy printed p e)) (overlap q e) false
 overlap (par p q) e = overlap p e || overlap q e
@@ -34,7 +34,7 @@ overlap (held s K p) e = cond (member s e) false (overlap p e)
 -- ---- by computation
 -- 02: 08 00 04 02 00 07 00 00 06 00
 abbrev twofold : Statement
-twofold = signal local 0 0 (seq (emit 0) (present 0 nothing (loop 8 nothing)))
+twofold = signal local 0 0 (seq (emit 0 pure) (present 0 nothing (loop 8 nothing)))
 
 two-fit : (code (reactBy printed twofold 0) ≡ ended)
     × (react twofold 0 ≡ failed)
@@ -58,7 +58,7 @@ twofold-derived = (
 
 -- an overlap in an instant that was wrong before: only what is emitted beside the error differs, and is not shown
 abbrev stillWrong : Statement
-stillWrong = signal local 0 0 (seq (emit 0) (seq (emit 1) (loop 8 nothing)))
+stillWrong = signal local 0 0 (seq (emit 0 pure) (seq (emit 1 pure) (loop 8 nothing)))
 
 still-wrong : (reactBy printed stillWrong 0 ≡ gives 2 wrong 0 (signal local 0 0 nothing))
     × (react stillWrong 0 ≡ failed)
@@ -68,7 +68,7 @@ still-wrong = (refl, refl, refl)
 
 -- no overlap: the reactions are equal, but the printed order has an error more, never the first
 abbrev oneMore : Statement
-oneMore = signal local 0 0 (par (present 0 nothing (emit 0)) (present 0 nothing (loop 10 nothing)))
+oneMore = signal local 0 0 (par (present 0 nothing (emit 0 pure)) (present 0 nothing (loop 10 nothing)))
 
 one-more : (reactBy printed oneMore 0 ≡ react oneMore 0)
     × (errorsBy printed oneMore 0 ≡ instantaneous 10 ∷ notReactive 0 ∷ [])
@@ -87,7 +87,7 @@ one-more-derived =
     (λ h. false≢true (ap isWrong h))
 
 -- by the printed order a body may end though an error is in its tree: a loop around it errs after it
-errs-after : errorsBy printed (loop 0 (signal local 1 0 (seq (emit 0) (present 0 nothing (loop 9 nothing))))) 0
+errs-after : errorsBy printed (loop 0 (signal local 1 0 (seq (emit 0 pure) (present 0 nothing (loop 9 nothing))))) 0
     ≡ instantaneous 9 ∷ instantaneous 0 ∷ []
 unfolding reactBy errorsBy member none only join insert remove
 errs-after = refl

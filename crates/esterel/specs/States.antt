@@ -15,7 +15,7 @@ Holds p x = (a : Place) × At x a p
 unfoldable pub active : Statement → ℕ → Bool
 active nothing L = false
 active (pause l) L = member l L
-active (emit s) L = false
+active (emit s v) L = false
 active (exit n) L = false
 active (seq p q) L = active p L || active q L
 active (par p q) L = active p L || active q L

@@ -8,6 +8,7 @@ use lib.ListN.{length, getD, length-drop, length-append}
 use Rattle.esterel.specs.Statement.{Statement, nothing, pause, emit, exit, seq, par, loop, present, signal, try, setpause, suspend, held}
 use Rattle.esterel.specs.Ceiling.{commands, loopNesting, nesting}
 use Rattle.sequence.specs.Commands.{Command, commandOf, operandsOf, partCount, width, build}
+use Rattle.numbers.specs.Bytes.{leBytes}
 use Rattle.sequence.specs.Writer.{bytesOf, size}
 use Rattle.sequence.proofs.Table.{leaves, ones, twos, at-most-two}
 use Rattle.layout.specs.Layout.{rest, Parts, Form, Lies, Ready}
@@ -34,10 +35,10 @@ Two w p q r =
 
 module _ (a : ℕ) (xs : List ℕ) where
   leaf-shape : (c : Command) → partCount c ≡ 0 → Leaf (width c) (build c a xs nothing nothing)
-  unfolding bytesOf commands loopNesting
+  unfolding bytesOf leBytes commands loopNesting
   leaf-shape =
       leaves (λ (c : Command). Leaf (width c) (build c a xs nothing nothing))
-      (refl, refl, refl) (refl, refl, refl) (refl, refl, refl) (refl, refl, refl) (refl, refl, refl)
+      (refl, refl, refl) (refl, refl, refl) (refl, refl, refl) (refl, refl, refl) (refl, refl, refl) (refl, refl, refl)
 
   one-shape : (c : Command) → partCount c ≡ 1 → (q : Statement) → One (width c) (build c a xs q nothing) q
   unfolding bytesOf commands loopNesting
@@ -92,7 +93,7 @@ pub nested : (p : Statement) → (loopNesting p < commands p) × (nesting p < co
 unfolding commands loopNesting nesting
 nested nothing = omega arith
 nested (pause l) = omega arith
-nested (emit s) = omega arith
+nested (emit s v) = omega arith
 nested (exit n) = omega arith
 nested (seq p q) = omega (arith, nested p, nested q)
 nested (par p q) = omega (arith, nested p, nested q)

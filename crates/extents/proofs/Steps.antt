@@ -79,7 +79,7 @@ leaf-step {bs = bs} r base p l z {n} h = go (command r .0) (command r .1)
     go : (c : Command) → getD bs 0 0 ≡ byteOf c → Has p n
     go Command.nothing b = here nothing (taken r base p l Command.nothing b .parts) (record { count = h .0; loops = h .1; signals = h .2 })
     go Command.pause b = here (pause _) (taken r base p l Command.pause b .parts) (record { count = h .0; loops = h .1; signals = h .2 })
-    go Command.emit b = here (emit _) (taken r base p l Command.emit b .parts) (record { count = h .0; loops = h .1; signals = h .2 })
+    go Command.emit b = here (emit _ _) (taken r base p l Command.emit b .parts) (record { count = h .0; loops = h .1; signals = h .2 })
     go Command.exit b = here (exit _) (taken r base p l Command.exit b .parts) (record { count = h .0; loops = h .1; signals = h .2 })
     go Command.seq b = absurd (z .0 .0 .0 .0 .0 .0 .1 b)
     go Command.par b = absurd (z .0 .0 .0 .0 .0 .1 b)
@@ -90,3 +90,4 @@ leaf-step {bs = bs} r base p l z {n} h = go (command r .0) (command r .1)
     go Command.setpause b =
         here (setpause _) (taken r base p l Command.setpause b .parts) (record { count = h .0; loops = h .1; signals = h .2 })
     go Command.suspend b = absurd (z .1 b)
+    go Command.deliver b = here (emit _ _) (taken r base p l Command.deliver b .parts) (record { count = h .0; loops = h .1; signals = h .2 })

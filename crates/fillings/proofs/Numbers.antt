@@ -20,7 +20,8 @@ use Rattle.esterel.specs.Machines.{State}
 use Rattle.sets.specs.Sets.{Subset, difference}
 use Rattle.sequence.specs.Program.{program}
 use Rattle.sequence.specs.Check.{Checked, sound, bad, checked}
-use Rattle.sequence.proofs.Rows.{Decides, decided, row-range}
+use Rattle.sequence.specs.Rows.{rank}
+use Rattle.sequence.proofs.Rows.{Decides, decided, row-range, row-rank}
 use Rattle.states.specs.StateRecord.{stateLength, Decoded, holds, malformed, decodeState}
 use Rattle.answers.specs.AnswerRecord.{answerLength, encodeAnswer}
 use Rattle.demands.specs.Tick.{Reply, refused, reacts, written, byState, byCheck, replyOf, replied, tickBy, tickOf}
@@ -44,7 +45,7 @@ members-fewer (suc n) i s t h = go (member i s) (member i t) (h i) (members-fewe
 module _ (sequence state : List ℕ) (readBack : ℕ) where
   -- ---- one number for every input, or an instant for each
   pub data Replying : Type 0 where
-    turns-down : (n : ℕ) → (2 ≤ n) × (n ≤ 12) → ((e : ℕ) → replyOf sequence state e readBack ≡ refused n) → Replying
+    turns-down : (n : ℕ) → (2 ≤ n) × (rank n ≤ rank 12) → ((e : ℕ) → replyOf sequence state e readBack ≡ refused n) → Replying
     runs : (i : ℕ → Instant) → ((e : ℕ) → replyOf sequence state e readBack ≡ reacts (i e)) → Replying
 
   by-decoded : (p : Statement) → checked sequence readBack ≡ sound p → (d : Decoded) → decodeState p state ≡ d → Replying
@@ -61,7 +62,7 @@ module _ (sequence state : List ℕ) (readBack : ℕ) where
     where
       go : (c : Checked) → checked sequence readBack ≡ c → Decides sequence readBack c → Replying
       go (bad k) c d =
-          turns-down k (let r = row-range sequence readBack k (d .0) in (r .0, omega arith))
+          turns-down k (row-range sequence readBack k (d .0) .0, let r = row-rank sequence readBack k (d .0) in omega arith)
           (λ e. ap (λ (x : Checked). byCheck inheritanceFirst readBack x state e) c)
       go (sound p) c d = by-decoded p c (decodeState p state) refl
 
@@ -130,20 +131,20 @@ module _ (sequence state : List ℕ) (readBack : ℕ) where
         go true (reacts i) false bs h = refl
         go false r c bs h = refl
 
-    -- its numbers are 0, 1, the reply's and 17
-    pub preview-range : (number o ≤ 12) ⊎ (number o ≡ 17)
+    -- its numbers are 0, 1, the reply's, which come up to 12 in the order of the rows, and 17
+    pub preview-range : (rank (number o) ≤ rank 12) ⊎ (number o ≡ 17)
     unfolding previewOf
     preview-range = go (eqb (length buffer) previewLength) replying (leb (length (membersFrom signalCount 0 unknown)) maxUnknown)
       where
         bs : List ℕ
         bs = previewBytes (findings (answersOf sequence state readBack) input unknown)
 
-        shown : (c : Bool) → (number (cond c (previewed 0 bs) (previewed 17 buffer)) ≤ 12) ⊎ (number (cond c (previewed 0 bs) (previewed 17 buffer)) ≡ 17)
+        shown : (c : Bool) → (rank (number (cond c (previewed 0 bs) (previewed 17 buffer))) ≤ rank 12) ⊎ (number (cond c (previewed 0 bs) (previewed 17 buffer)) ≡ 17)
         shown true = inl (omega arith)
         shown false = inr refl
 
         go : (a : Bool) → Replying → (c : Bool)
-            → (number (cond a (byReply (replyOf sequence state (difference input unknown) readBack) (cond c (previewed 0 bs) (previewed 17 buffer)) buffer) (previewed 1 buffer)) ≤ 12)
+            → (rank (number (cond a (byReply (replyOf sequence state (difference input unknown) readBack) (cond c (previewed 0 bs) (previewed 17 buffer)) buffer) (previewed 1 buffer))) ≤ rank 12)
             ⊎ (number (cond a (byReply (replyOf sequence state (difference input unknown) readBack) (cond c (previewed 0 bs) (previewed 17 buffer)) buffer) (previewed 1 buffer)) ≡ 17)
         go true (turns-down n k h) c = rw (h (difference input unknown)) (inl (k .1))
         go true (runs i h) c = rw (h (difference input unknown)) (shown c)

@@ -1,4 +1,4 @@
-// The head of a command (01, 'Commands' and rows 3 to 5): its own bytes, and how many parts follow it.
+// The head of a command (01, 'Commands' and rows 3 to 5; 02, item 12, row 18): its own bytes, and how many parts follow it.
 ghost use mathlib.Core.Path.{_≡_};
 ghost use Rattle.sequence.specs.Reader.{front};
 ghost use Rattle.layout.specs.Walk.{headOf};
@@ -19,11 +19,18 @@ pub fn front(s: &[u8]) -> usize
             if n == 0 {
                 return 1;
             }
-            if s.len() <= 1 {
+            if s.len() <= n as usize {
                 return 4 * layout::ROW_UNIT;
             }
             if commands::in_range(b, s[1]) {
-                2
+                if n == 1 {
+                    return 2;
+                }
+                if litres::is_whole(numbers::get_le(s, 2, 4) as u32) {
+                    6
+                } else {
+                    18 * layout::ROW_UNIT
+                }
             } else {
                 5 * layout::ROW_UNIT
             }

@@ -41,13 +41,13 @@ use Rattle.writing.specs.Written.{WritableCode, Writable, writtenFrom}
 use Rattle.instants.specs.Replies.{Decodes, StandsFor, repliedFrom, Replies}
 use Rattle.demands.proofs.Bounds.{Bounded, Exits, ranged-bounded, bounded-expand, bounded-declared, code-exits}
 
--- WRITTEN: the code's tree writes what esterel's instant does; the signals asked for are not told
+-- WRITTEN: the code's tree writes what esterel's instant does; the signals asked for and the litres are not told
 pub written-from : (j : Esterel.Tree) → writtenFrom (reactionOf j) ≡ written (instantOf j)
 unfolding encodeState encodeAnswer none
-written-from (tree (Esterel.instant (gives o ended l t) x n) a) = rw (le-low takenBytes n)
-written-from (tree (Esterel.instant (gives o waiting l t) x n) a) = rw (labelSet-of, le-low takenBytes n)
-written-from (tree (Esterel.instant (gives o (leaving m) l t) x n) a) = rw (le-low takenBytes n)
-written-from (tree (Esterel.instant (gives o wrong l t) x n) a) = rw (le-low takenBytes n)
+written-from (tree (Esterel.instant (gives o ended l t) x n) a y) = rw (le-low takenBytes n)
+written-from (tree (Esterel.instant (gives o waiting l t) x n) a y) = rw (labelSet-of, le-low takenBytes n)
+written-from (tree (Esterel.instant (gives o (leaving m) l t) x n) a y) = rw (le-low takenBytes n)
+written-from (tree (Esterel.instant (gives o wrong l t) x n) a y) = rw (le-low takenBytes n)
 
 -- so what is written from a reply is what its value writes
 pub replied-from : (r : Reply) (d : tick.Reply) → StandsFor r d → (state answer : List ℕ) → repliedFrom r state answer ≡ replied d state answer
@@ -62,8 +62,8 @@ writable-code waiting x f = tt
 writable-code (leaving n) x f = omega arith
 writable-code wrong x f = tt
 
-writable : (t : Statement) (e : ℕ) → Bounded t → (i : Reaction) → i ≡ reactionOf (startTree t e) → Writable i
-writable t e r i w = subst Writable (sym w) (writable-code (code (react t e)) (firstError t e) (code-exits inheritanceFirst t e r))
+writable : (f : ℕ) (t : Statement) (e : ℕ) → Bounded t → (i : Reaction) → i ≡ reactionOf (startTree f t e) → Writable i
+writable f t e r i w = subst Writable (sym w) (writable-code (code (react t e)) (firstError t e) (code-exits inheritanceFirst t e r))
 
 -- ---- the reply
 module _ (sequence state : List ℕ) (e readBack : ℕ) where
@@ -89,9 +89,9 @@ module _ (sequence state : List ℕ) (e readBack : ℕ) where
         ap (λ (c : Checked). byCheck inheritanceFirst readBack c state e) s
         ∙ ap (λ (x : Decoded). byState inheritanceFirst q x e) w
 
-    reacted : (t : Statement) (i : Reaction) → Bounded t → i ≡ reactionOf (startTree t e)
+    reacted : (f : ℕ) (t : Statement) (i : Reaction) → Bounded t → i ≡ reactionOf (startTree f t e)
         → replyOf sequence state e readBack ≡ reacts (start t e) → Replies sequence state e readBack (Reacted i)
-    reacted t i r h k = record { writable = writable t e r i h; is = (startTree t e, h, k) }
+    reacted f t i r h k = record { writable = writable f t e r i h; is = (startTree f t e, h, k) }
 
     pub malformed-reply : Decodes p state stands.Malformed → Replies sequence state e readBack (Refused 11)
     malformed-reply d = record { writable = tt; is = by-record malformed d }
@@ -99,19 +99,19 @@ module _ (sequence state : List ℕ) (e readBack : ℕ) where
     pub over-reply : Decodes p state stands.Over → Replies sequence state e readBack (Refused 12)
     over-reply d = record { writable = tt; is = by-record (holds State.over) d }
 
-    pub fresh-reply : (i : Reaction) → Decodes p state stands.Fresh → i ≡ reactionOf (startTree q e) → Replies sequence state e readBack (Reacted i)
-    fresh-reply i d h = reacted q i bounded h (by-record (holds State.fresh) d)
+    pub fresh-reply : (f : ℕ) (i : Reaction) → Decodes p state stands.Fresh → i ≡ reactionOf (startTree f q e) → Replies sequence state e readBack (Reacted i)
+    fresh-reply f i d h = reacted f q i bounded h (by-record (holds State.fresh) d)
 
     -- the expansion by ranks, under the declarations, is the expansion of the program
-    expanded : (m L : ℕ) → Valid p L → m ≡ mask 0 p L → program readBack (expandBy 0 p m) ≡ expand q L
+    pub expanded : (m L : ℕ) → Valid p L → m ≡ mask 0 p L → program readBack (expandBy 0 p m) ≡ expand q L
     expanded m L v h =
         ap (program readBack) (ap (expandBy 0 p) h ∙ expand-by 0 p L (valid-active p L v))
         ∙ sym (expand-declared readBackPlace (readBackSignals readBack) p L)
 
-    pub waiting-reply : (i : Reaction) (m : Labels) → Decodes p state (stands.Waiting m)
-        → i ≡ reactionOf (startTree (program readBack (expandBy 0 p (labelSet m))) e) → Replies sequence state e readBack (Reacted i)
-    waiting-reply i m d h =
+    pub waiting-reply : (f : ℕ) (i : Reaction) (m : Labels) → Decodes p state (stands.Waiting m)
+        → i ≡ reactionOf (startTree f (program readBack (expandBy 0 p (labelSet m))) e) → Replies sequence state e readBack (Reacted i)
+    waiting-reply f i m d h =
         let L = labelsIn state in
-        reacted (expand q L) i (bounded-expand q L bounded)
-        (h ∙ ap (λ (t : Statement). reactionOf (startTree t e)) (expanded (labelSet m) L (valid-is p L .0 (d .1)) (d .2)))
+        reacted f (expand q L) i (bounded-expand q L bounded)
+        (h ∙ ap (λ (t : Statement). reactionOf (startTree f t e)) (expanded (labelSet m) L (valid-is p L .0 (d .1)) (d .2)))
         (by-record (holds (State.waits L)) (d .0))

@@ -68,6 +68,7 @@ pub fn reply_of(
             Position::Fresh,
             input,
             read_back,
+            limits::NO_FARM,
             second,
         )),
         Standing::Waiting(active) => Reply::Reacted(program::react(
@@ -75,6 +76,7 @@ pub fn reply_of(
             Position::Waiting(active),
             input,
             read_back,
+            limits::NO_FARM,
             second,
         )),
     }

@@ -9,7 +9,7 @@ use native.Mathlib.Numerals.{sub-one}
 use lib.ListN.{length, drop, getD, length-drop}
 use Rattle.esterel.specs.Statement.{Statement, nothing}
 use Rattle.esterel.specs.Ranks.{middle}
-use Rattle.sequence.specs.Commands.{Command, commandOf, partCount, inRange, width, declares, build}
+use Rattle.sequence.specs.Commands.{Command, commandOf, partCount, inRange, litresFit, width, declares, build}
 use Rattle.limits.specs.Limits.{lastCommand, maxBytes}
 use Rattle.sequence.specs.Reader.{accepted, read}
 use Rattle.sequence.specs.Writer.{size}
@@ -35,7 +35,12 @@ module _ (t : List ℕ) (d : ℕ)
     front-of : (c : Command) (xs : List ℕ) (p : Statement) → Fronted bs c xs → Parts (Lies t d) t base a bs p c (partCount c) → Lies t (suc d) base a bs p
     unfolding Lies
     front-of c xs p f y =
-        let b : Begins (Lies t d) t base a bs p c = record { there = f .long; ranged = ap (inRange c) (sym (f .operands)) ∙ f .ranged; parts = y } in
+        let b : Begins (Lies t d) t base a bs p c = record {
+          there = f .long;
+          ranged = ap (inRange c) (sym (f .operands)) ∙ f .ranged;
+          fit = ap (litresFit c) (sym (f .operands)) ∙ f .fit;
+          parts = y;
+        } in
         record { fits = fits; bytes = omega (arith, f .long); form = subst (λ (o : Option Command). Form (Lies t d) t base a bs p o) (sym (f .byte)) b }
 
     laid : (g : ℕ) (p : Statement) (n : ℕ) → Meets (read d) g a bs (accepted p n) → Marked t base a p → Lies t (suc d) base a bs p
@@ -132,11 +137,14 @@ beyond b (suc n) h = let l : n ≤ b = beyond b n (h .0) in let z : b ≡ n → 
 byte-small : (c : Command) → byteOf c ≤ lastCommand
 byte-small c = last-byte (byteOf c) c (command-of-byte c)
 
--- the last command but one, by the bytes that it is not
-pub last-but-one : {t : List ℕ} {d a : ℕ} {bs : List ℕ} → Ready t d a bs → Beyond (getD bs 0 0) 10 × (getD bs 0 0 ≡ lastCommand → ⊥) → getD bs 0 0 ≡ 10
-last-but-one {bs = bs} r h =
+-- the last command, by the bytes that it is not
+pub last-one : {t : List ℕ} {d a : ℕ} {bs : List ℕ} → Ready t d a bs → Beyond (getD bs 0 0) lastCommand → getD bs 0 0 ≡ lastCommand
+last-one {bs = bs} r h =
     let c = command r in
-    let z : getD bs 0 0 ≡ lastCommand → ⊥ = h .1 in omega (arith, beyond (getD bs 0 0) 10 (h .0), c .1, byte-small (c .0))
+    let l = beyond (getD bs 0 0) lastCommand h in
+    let m = byte-small (c .0) in
+    let e = c .1 in
+    omega (arith, l, m, e)
 
 -- ---- the two parts of a command of w bytes
 module _ {t : List ℕ} {d a w : ℕ} {bs : List ℕ} (r : Pair t d a w bs) where

@@ -18,7 +18,7 @@ silent : (a : ℕ) (xs m : List ℕ) (c : Command) → partCount c ≡ 0 → (by
 unfolding note
 silent a xs m =
     leaves (λ (c : Command). (byteOf c ≡ 1 → ⊥) → (byteOf c ≡ 10 → ⊥) → m ≡ note (build c a xs nothing nothing) m)
-    (λ n1 n10. refl) (λ n1 n10. absurd (n1 refl)) (λ n1 n10. refl) (λ n1 n10. refl) (λ n1 n10. absurd (n10 refl))
+    (λ n1 n10. refl) (λ n1 n10. absurd (n1 refl)) (λ n1 n10. refl) (λ n1 n10. refl) (λ n1 n10. absurd (n10 refl)) (λ n1 n10. refl)
 
 module _ {s : List ℕ} {c : Command} {xs : List ℕ} (f : Fronted s c xs) where
   -- a command d of a label: the label is in its range, and its byte is there

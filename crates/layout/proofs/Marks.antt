@@ -23,7 +23,7 @@ pub local : (t u : List ℕ) (base a : ℕ) (p : Statement) → Agrees t u a (a 
 unfolding bytesOf
 local t u base a nothing h m = tt
 local t u base a (pause l) h m = tt
-local t u base a (emit s) h m = tt
+local t u base a (emit s v) h m = tt
 local t u base a (exit n) h m = tt
 local t u base a (seq p q) h m =
     let l = length-append (bytesOf p) (bytesOf q) in (
@@ -53,7 +53,7 @@ local t u base a (held s K p) h m = tt
 -- ---- the command c at offset a, by its parts
 module _ (t : List ℕ) (base a : ℕ) (xs : List ℕ) where
   marked-leaf : (c : Command) → partCount c ≡ 0 → Marked t base a (build c a xs nothing nothing)
-  marked-leaf = leaves (λ (c : Command). Marked t base a (build c a xs nothing nothing)) tt tt tt tt tt
+  marked-leaf = leaves (λ (c : Command). Marked t base a (build c a xs nothing nothing)) tt tt tt tt tt tt
 
   pub marked-one : (c : Command) → partCount c ≡ 1 → (p : Statement) → Marked t base (a + width c) p ↔ Marked t base a (build c a xs p nothing)
   marked-one =

@@ -279,7 +279,7 @@ pub noting : (p : Statement) (m : List ℕ) → length m ≡ noteCount → Range
 unfolding note labelsOf pauseCount distinct rank
 noting nothing m h r = silent m
 noting (pause l) m h r = pause-adds l m r h
-noting (emit s) m h r = silent m
+noting (emit s v) m h r = silent m
 noting (exit n) m h r = silent m
 noting (seq p q) m h r = let a = noting p m h (r .0) in two-adds a (noting q (note p m) (a .long ∙ h) (r .1))
 noting (par p q) m h r = let a = noting p m h (r .0) in two-adds a (noting q (note p m) (a .long ∙ h) (r .1))
@@ -311,7 +311,7 @@ pub count-size : (p : Statement) → pauseCount p + pauseCount p ≤ size p
 unfolding pauseCount bytesOf
 count-size nothing = omega arith
 count-size (pause l) = omega arith
-count-size (emit s) = omega arith
+count-size (emit s v) = omega arith
 count-size (exit n) = omega arith
 count-size (seq p q) = let a = count-size p in let b = count-size q in omega (arith, length-append (bytesOf p) (bytesOf q))
 count-size (par p q) = let a = count-size p in let b = count-size q in omega (arith, length-append (bytesOf p) (bytesOf q))

@@ -77,7 +77,7 @@ module _ (a : ℕ) (xs m : List ℕ) where
 module _ (a : ℕ) (xs : List ℕ) where
   nesting-leaf : (c : Command) → partCount c ≡ 0 → nesting (build c a xs nothing nothing) ≡ 0
   unfolding nesting
-  nesting-leaf = leaves (λ (c : Command). nesting (build c a xs nothing nothing) ≡ 0) refl refl refl refl refl
+  nesting-leaf = leaves (λ (c : Command). nesting (build c a xs nothing nothing) ≡ 0) refl refl refl refl refl refl
 
   nesting-one : (c : Command) → partCount c ≡ 1 → (p : Statement) → nesting (build c a xs p nothing) ≡ declares c + nesting p
   unfolding nesting

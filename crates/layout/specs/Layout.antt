@@ -9,7 +9,7 @@ use lib.ListN.{getD, length, take, drop}
 use Rattle.esterel.specs.Statement.{Statement, nothing, pause, emit, exit, seq, par, loop, present, signal, try, setpause, suspend, held}
 use Rattle.esterel.specs.Ranks.{middle}
 use Rattle.limits.specs.Limits.{maxBytes}
-use Rattle.sequence.specs.Commands.{Command, commandOf, operandsOf, partCount, inRange, width, build}
+use Rattle.sequence.specs.Commands.{Command, commandOf, operandsOf, partCount, inRange, litresFit, width, build}
 use Rattle.sequence.specs.Writer.{size}
 
 -- the bytes from n on, as a part of a slice
@@ -34,7 +34,7 @@ beforeAt t a = getD t a 0 / beforeUnit
 abbrev pub Marked : (t : List ℕ) (base a : ℕ) → Statement → Type 0
 Marked t base a nothing = Unit {0}
 Marked t base a (pause l) = Unit {0}
-Marked t base a (emit s) = Unit {0}
+Marked t base a (emit s v) = Unit {0}
 Marked t base a (exit n) = Unit {0}
 Marked t base a (seq p q) =
     (getD t a 0 ≡ entry (a + (1 + size p)) (middle base p)) × Marked t base (a + 1) p × Marked t (middle base p) (a + (1 + size p)) q
@@ -70,6 +70,7 @@ Parts L t base a bs p c (suc (suc n)) =
 pub record Begins (L : (base a : ℕ) → List ℕ → Statement → Type 0) (t : List ℕ) (base a : ℕ) (bs : List ℕ) (p : Statement) (c : Command) : Type 0 where
   pub there : width c ≤ length bs
   pub ranged : inRange c (operandsOf c bs) ≡ true
+  pub fit : litresFit c (operandsOf c bs) ≡ true
   pub parts : Parts L t base a bs p c (partCount c)
 
 abbrev pub Form : (L : (base a : ℕ) → List ℕ → Statement → Type 0) → (t : List ℕ) (base a : ℕ) → List ℕ → Statement → Option Command → Type 0

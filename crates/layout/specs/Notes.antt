@@ -57,7 +57,7 @@ noteSetpause l notes = set notes (2 + l / wordLabels) (join (wordAt 2 l notes) (
 unfoldable pub note : Statement → List ℕ → List ℕ
 note nothing notes = notes
 note (pause l) notes = notePause l notes
-note (emit s) notes = notes
+note (emit s v) notes = notes
 note (exit n) notes = notes
 note (seq p q) notes = note q (note p notes)
 note (par p q) notes = note q (note p notes)

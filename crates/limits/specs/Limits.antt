@@ -15,9 +15,9 @@ signalCount = 32
 abbrev pub maxExit : ℕ
 maxExit = 15
 
--- the greatest command byte (02, item 1): row 3 begins above it
+-- the greatest command byte (02, items 1 and 12): row 3 begins above it
 abbrev pub lastCommand : ℕ
-lastCommand = 11
+lastCommand = 12
 
 -- the outermost command has depth 1
 abbrev pub maxDepth : ℕ
@@ -33,6 +33,14 @@ maxBytes = 1024
 -- the place of an error of a read-back declaration (02, item 5)
 abbrev pub readBackPlace : ℕ
 readBackPlace = 65535
+
+-- the greatest number of litres that an emission carries or a farm's total holds (02, item 12)
+abbrev pub litresLimit : ℕ
+litresLimit = 16777216
+
+-- no farm: the number of none of the signals
+abbrev pub noFarm : ℕ
+noFarm = 32
 
 -- ---- 01, 'States and resuming', and 02, items 6 and 7: the bytes of a word of labels, of a label set, of a place, of a signal
 -- set and of a number of reactions

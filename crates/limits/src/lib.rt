@@ -12,7 +12,7 @@ pub const SIGNALS: u8 = 32;
 pub const MAX_EXIT: u8 = 15;
 
 // The greatest command byte: row 3 begins above it.
-pub const LAST_COMMAND: u8 = 11;
+pub const LAST_COMMAND: u8 = 12;
 
 // The outermost command has depth 1; at most so many signal commands stand around a command.
 pub const MAX_DEPTH: u8 = 64;
@@ -23,6 +23,14 @@ pub const MAX_BYTES: usize = 1024;
 
 // The place of an error of a read-back declaration (02, item 5).
 pub const READ_BACK_PLACE: u16 = 65535;
+
+// The greatest number of litres that an emission carries or a farm's total holds (02, item 12); one more stands for all above it.
+pub const LITRES_LIMIT: u32 = 16777216;
+
+pub const LITRES_OVER: u64 = 16777217;
+
+// No farm: the number of none of the signals 0 to 31.
+pub const NO_FARM: u8 = 32;
 
 // The bytes of a word of labels, of a label set, of a place, of a signal set and of a number of reactions, and how many numbers
 // the last can hold.

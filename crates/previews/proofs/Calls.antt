@@ -6,7 +6,7 @@ use mathlib.Core.Logic.{_≢_}
 use mathlib.Core.List.{List}
 use lib.ListN.{length}
 use borrow.Author.Tests.{le-leb, lt-leb}
-use Rattle.limits.specs.Limits.{signalCount}
+use Rattle.limits.specs.Limits.{signalCount, noFarm}
 use Rattle.esterel.specs.ReadBack.{membersFrom}
 use Rattle.esterel.specs.Resume.{startTree, instantOf}
 use Rattle.sets.specs.Sets.{difference}
@@ -45,13 +45,13 @@ module _ (answers : ℕ → List ℕ) (input unknown : ℕ) (buffer : List ℕ) 
 -- ---- from a position, whatever the input, the machine reacts
 module _ (sequence state : List ℕ) (readBack : ℕ) {second notes : List ℕ} (a : Passed sequence readBack second notes) where
   abbrev pub Reacts : Position → Type 0
-  Reacts position = (e : ℕ) → Replies sequence state e readBack (Reacted (reactionOf (startTree (program readBack (termAt position (a .p))) e)))
+  Reacts position = (e : ℕ) → Replies sequence state e readBack (Reacted (reactionOf (startTree noFarm (program readBack (termAt position (a .p))) e)))
 
   pub from-fresh : Decodes (a .p) state stands.Fresh → Reacts Fresh
-  from-fresh d e = fresh-reply sequence state e readBack (a .p) (a .is) (a .ranged) _ d refl
+  from-fresh d e = fresh-reply sequence state e readBack (a .p) (a .is) (a .ranged) noFarm _ d refl
 
   pub from-waiting : (m : Labels) → Decodes (a .p) state (stands.Waiting m) → Reacts (Waiting m)
-  from-waiting m d e = waiting-reply sequence state e readBack (a .p) (a .is) (a .ranged) _ m d refl
+  from-waiting m d e = waiting-reply sequence state e readBack (a .p) (a .is) (a .ranged) noFarm _ m d refl
 
   pub stands-at : (position : Position) → Reacts position → Stands second sequence position readBack
   stands-at position r = record { p = a .p; lies = a .known .lies; ready = as-ready a; writable = λ e. r e .writable }
@@ -60,7 +60,7 @@ module _ (sequence state : List ℕ) (readBack : ℕ) {second notes : List ℕ} 
     -- what is written from the code's instant and from the reply's is one record
     answers-from : answersAt position (a .p) readBack e ≡ answersOf sequence state readBack e
     answers-from =
-        let t = startTree (program readBack (termAt position (a .p))) e in
+        let t = startTree noFarm (program readBack (termAt position (a .p))) e in
         let (t′, h, k) = r e .is in
         sym (written-answer (instantOf t)) ∙ ap answerAfterwards (sym (written-from t) ∙ ap writtenFrom h ∙ written-from t′)
         ∙ written-answer (instantOf t′) ∙ sym (ap answerIn k)

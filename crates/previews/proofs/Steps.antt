@@ -3,7 +3,7 @@ use Prim.Native.Nat.{ℕ, _+_, _^_, _≤_, _<_}
 use native.Mathlib.Omega.{arith}
 use mathlib.Core.Path.{_≡_, sym, ap, ap₂, _∙_, subst}
 use mathlib.Core.List.{List}
-use Rattle.limits.specs.Limits.{signalBytes}
+use Rattle.limits.specs.Limits.{signalBytes, noFarm}
 use Rattle.esterel.specs.Sets.{join}
 use Rattle.esterel.specs.Statement.{Statement}
 use Rattle.esterel.specs.Resume.{startTree, start}
@@ -52,12 +52,12 @@ module _ (o L m : ℕ) (h : o < 256 ^ signalBytes) where
 
 -- a reaction of the program from a position
 pub tried-is : (position : Position) (p : Statement) (readBack e : ℕ) (r : Reaction) (x : Findings)
-    → r ≡ reactionOf (startTree (program readBack (termAt position p)) e) → x ≡ foundIn (answerAfterwards (writtenFrom r))
+    → r ≡ reactionOf (startTree noFarm (program readBack (termAt position p)) e) → x ≡ foundIn (answerAfterwards (writtenFrom r))
     → x ≡ foundIn (answersAt position p readBack e)
 tried-is position p readBack e r x h q =
     let t = program readBack (termAt position p) in
     q ∙ ap (λ (w : Reaction). foundIn (answerAfterwards (writtenFrom w))) h
-    ∙ ap (λ (o : Outcome). foundIn (answerAfterwards o)) (written-from (startTree t e))
+    ∙ ap (λ (o : Outcome). foundIn (answerAfterwards o)) (written-from (startTree noFarm t e))
     ∙ ap foundIn (written-answer (start t e))
 
 -- ---- the loop

@@ -1,7 +1,7 @@
 -- A preview from a position of the statement that lies in the bytes (program, specs/Program): the form for the code.
 use Prim.Native.Nat.{ℕ}
 use mathlib.Core.List.{List}
-use Rattle.limits.specs.Limits.{maxDepth}
+use Rattle.limits.specs.Limits.{maxDepth, noFarm}
 use Rattle.esterel.specs.Statement.{Statement}
 use Rattle.esterel.specs.Resume.{start, startTree}
 use Rattle.sequence.specs.Program.{program}
@@ -20,7 +20,7 @@ pub record Stands (t bs : List ℕ) (position : Position) (readBack : ℕ) : Typ
   pub p : Statement
   pub lies : Lies t maxDepth 0 0 bs p
   pub ready : Ready t maxDepth 0 bs
-  pub writable : (e : ℕ) → Writable (reactionOf (startTree (program readBack (termAt position p)) e))
+  pub writable : (e : ℕ) → Writable (reactionOf (startTree noFarm (program readBack (termAt position p)) e))
 
 -- something of every statement that lies there
 abbrev pub OfEach : (t bs : List ℕ) → (Statement → Type 0) → Type 0

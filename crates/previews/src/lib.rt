@@ -34,7 +34,7 @@ fn tried(sequence: &[u8], second: &Seconds, position: Position, e: u32, read_bac
     requires { ⌜ Stands (now second) (now sequence) position «read_back» ⌝ }
     ensures { λ r. ⌜ OfEach (now (second .entry)) (now (sequence .entry)) (λ p. r ≡ foundIn (answersAt position p «read_back» e)) ⌝ }
 {
-    found(program::react(sequence, position, e, read_back, second))
+    found(program::react(sequence, position, e, read_back, limits::NO_FARM, second))
 }
 
 // Every filling, from the greatest down.

@@ -25,9 +25,9 @@ unfolding declaredBy
 none-declared readBack t z =
     ap (λ (ss : List ℕ). declared readBackPlace ss t) (ap (membersFrom signalCount 0) (eqb-true readBack none z) ∙ members-none signalCount 0)
 
-pub none-left : (readBack : ℕ) (t : Statement) (e : ℕ) {r : Reaction} → empty readBack ≡ true → r ≡ reactionOf (startTree t e)
-    → r ≡ reactionOf (startTree (program readBack t) e)
-none-left readBack t e z = here t (program readBack t) e (none-declared readBack t z)
+pub none-left : (f readBack : ℕ) (t : Statement) (e : ℕ) {r : Reaction} → empty readBack ≡ true → r ≡ reactionOf (startTree f t e)
+    → r ≡ reactionOf (startTree f (program readBack t) e)
+none-left f readBack t e z = here f t (program readBack t) e (none-declared readBack t z)
 
 module _ (readBack x : ℕ) (fits : readBack < 2 ^ signalCount) (some : empty readBack ≡ false) (low : Lowest signalCount readBack x) where
   pub found : member x readBack ≡ true
@@ -47,18 +47,18 @@ module _ (readBack x : ℕ) (fits : readBack < 2 ^ signalCount) (some : empty re
   unfolding declaredBy
   declared-first t = ap (λ (ss : List ℕ). declared readBackPlace ss t) first
 
-  module _ (t : Statement) (e : ℕ) {o e− : ℕ} {p r : Reaction} (ho : o ≡ remove x readBack) (less : e− ≡ remove x e)
-      (p-is : p ≡ reactionOf (startTree (program o t) e−)) where
-    pub one-more : {q : Reaction} {e+ : ℕ} → e+ ≡ insertBelow signalCount x e → q ≡ reactionOf (startTree (program o t) e+)
-        → FromTwo (signalTree reported readBackPlace x) p q r → r ≡ reactionOf (startTree (program readBack t) e)
+  module _ (f : ℕ) (t : Statement) (e : ℕ) {o e− : ℕ} {p r : Reaction} (ho : o ≡ remove x readBack) (less : e− ≡ remove x e)
+      (p-is : p ≡ reactionOf (startTree f (program o t) e−)) where
+    pub one-more : {q : Reaction} {e+ : ℕ} → e+ ≡ insertBelow signalCount x e → q ≡ reactionOf (startTree f (program o t) e+)
+        → FromTwo (signalTree f reported readBackPlace x) p q r → r ≡ reactionOf (startTree f (program readBack t) e)
     one-more more q-is k =
         let u = program (remove x readBack) t in
-        here (signal reported readBackPlace x u) (program readBack t) e (declared-first t)
-        (signal-step e reported readBackPlace x u small less (rw ho at p-is) more (rw ho at q-is) k)
+        here f (signal reported readBackPlace x u) (program readBack t) e (declared-first t)
+        (signal-step f e reported readBackPlace x u small less (rw ho at p-is) more (rw ho at q-is) k)
 
-    pub one-more-once : member x (p .asked) ≡ false → FromOne (signalOnce reported readBackPlace x) p r
-        → r ≡ reactionOf (startTree (program readBack t) e)
+    pub one-more-once : member x (p .asked) ≡ false → FromOne (signalOnce f reported readBackPlace x) p r
+        → r ≡ reactionOf (startTree f (program readBack t) e)
     one-more-once n k =
         let u = program (remove x readBack) t in
-        here (signal reported readBackPlace x u) (program readBack t) e (declared-first t)
-        (signal-once-step e reported readBackPlace x u small less (rw ho at p-is) n k)
+        here f (signal reported readBackPlace x u) (program readBack t) e (declared-first t)
+        (signal-once-step f e reported readBackPlace x u small less (rw ho at p-is) n k)

@@ -18,10 +18,11 @@ abbrev pub termAt : Position → Statement → Statement
 termAt Fresh p = p
 termAt (Waiting m) p = expandBy 0 p (labelSet m)
 
-abbrev pub Inside : (t bs : List ℕ) (position : Position) (e : ℕ) (r : Reaction) → Type 0
-Inside t bs position e r = (p : Statement) → Lies t maxDepth 0 0 bs p → r ≡ reactionOf (startTree (termAt position p) e)
+-- with the litres of the farm f
+abbrev pub Inside : (t bs : List ℕ) (position : Position) (e f : ℕ) (r : Reaction) → Type 0
+Inside t bs position e f r = (p : Statement) → Lies t maxDepth 0 0 bs p → r ≡ reactionOf (startTree f (termAt position p) e)
 
 -- and under the declarations
-abbrev pub Reacted : (t bs : List ℕ) (position : Position) (e readBack : ℕ) (r : Reaction) → Type 0
-Reacted t bs position e readBack r =
-    (p : Statement) → Lies t maxDepth 0 0 bs p → r ≡ reactionOf (startTree (program readBack (termAt position p)) e)
+abbrev pub Reacted : (t bs : List ℕ) (position : Position) (e readBack f : ℕ) (r : Reaction) → Type 0
+Reacted t bs position e readBack f r =
+    (p : Statement) → Lies t maxDepth 0 0 bs p → r ≡ reactionOf (startTree f (program readBack (termAt position p)) e)

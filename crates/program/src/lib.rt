@@ -15,17 +15,18 @@ pub enum Position {
 }
 
 // The sequence itself, with no declaration left around it.
-fn inside(s: &[u8], position: Position, input: u32, second: &Seconds) -> Reaction
+fn inside(s: &[u8], position: Position, input: u32, farm: u8, second: &Seconds) -> Reaction
     requires { ⌜ Ready (now second) maxDepth 0 (now s) ⌝ }
-    ensures { λ r. ⌜ Inside (now (second .entry)) (now (s .entry)) position input r ⌝ }
+    ensures { λ r. ⌜ Inside (now (second .entry)) (now (s .entry)) position input farm r ⌝ }
 {
     match position {
-        Position::Fresh => react::react::react(s, 0, limits::MAX_DEPTH, input, second),
+        Position::Fresh => react::react::react(s, 0, limits::MAX_DEPTH, input, farm, second),
         Position::Waiting(active) => resume::resume::resume(
             s,
             0,
             limits::MAX_DEPTH,
             input,
+            farm,
             active,
             second,
         ),
@@ -34,20 +35,27 @@ fn inside(s: &[u8], position: Position, input: u32, second: &Seconds) -> Reactio
 
 // The sequence under a declaration of each read-back signal, which is a signal's: it reacts with the signal where the run without it
 // asked.
-pub fn react(s: &[u8], position: Position, input: u32, read_back: u32, second: &Seconds) -> Reaction
+pub fn react(
+    s: &[u8],
+    position: Position,
+    input: u32,
+    read_back: u32,
+    farm: u8,
+    second: &Seconds,
+) -> Reaction
     requires { ⌜ Ready (now second) maxDepth 0 (now s) ⌝ }
-    ensures { λ r. ⌜ Reacted (now (second .entry)) (now (s .entry)) position input «read_back» r ⌝ }
+    ensures { λ r. ⌜ Reacted (now (second .entry)) (now (s .entry)) position input «read_back» farm r ⌝ }
 {
     if signals::is_empty(read_back) {
-        return inside(s, position, input, second);
+        return inside(s, position, input, farm, second);
     }
     let x = signals::lowest(read_back);
     let others = signals::without(read_back, x);
     let without = signals::without(input, x);
     let with = signals::with(input, x);
-    let p = react(s, position, without, others, second);
+    let p = react(s, position, without, others, farm, second);
     if signals::member(p.asked, x) {
-        let q = react(s, position, with, others, second);
+        let q = react(s, position, with, others, farm, second);
         declarations::in_read_back(x, p, q)
     } else {
         declarations::in_read_back_once(p)

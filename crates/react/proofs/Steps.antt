@@ -1,15 +1,16 @@
 -- The tree of each command from those of its parts, as the code finds them.
 use Prim.Native.Nat.{ℕ, _<_}
-use mathlib.Core.Path.{_≡_, sym, ap, _∙_}
+use mathlib.Core.Path.{_≡_, refl, sym, ap, _∙_}
 use mathlib.Core.Bool.{Bool, true, false, cond}
 use borrow.Author.Tests.{lt-ltb}
 use Rattle.sets.specs.Sets.{signalCount, labelCount, onlyBelow, insertBelow}
 use Rattle.esterel.specs.Sets.{member, none, only, insert, remove}
-use Rattle.esterel.specs.Statement.{Scope, Statement, nothing, pause, emit, exit, seq, par, loop, present, signal, try, setpause, suspend}
+use Rattle.esterel.specs.Statement.{Scope, Value, Statement, nothing, pause, emit, exit, seq, par, loop, present, signal, try, setpause, suspend}
 use Rattle.esterel.specs.Reaction.{ended, waiting, leaving, gives, reactBy}
 use Rattle.esterel.specs.Errors.{errorsBy}
 use Rattle.esterel.specs.Reactions.{reactionsBy}
 use Rattle.esterel.specs.Asked.{askedBy}
+use Rattle.esterel.specs.Litres.{brought, deliveredBy}
 use Rattle.esterel.specs.Resume as Esterel
 use Rattle.esterel.specs.Resume.{startTree, seqTree, parTree, loopTree, presentTree, tryTree, signalTree, signalOnce}
 use Rattle.theory.proofs.Trees.{start-tree-seq, start-tree-par, start-tree-loop, start-tree-present, start-tree-signal, start-tree-try, start-tree-suspend}
@@ -19,83 +20,83 @@ use Rattle.reaction.specs.Reactions.{alone, reactionOf, countedAround, FromOne,
 use Rattle.reaction.proofs.Values.{suspend-reaction, present-reaction}
 
 -- ---- commands without parts, once they are known
-module _ (p : Statement) (e : ℕ) (r : Reaction) where
-  pub nothing-step : p ≡ nothing → r ≡ reactionOf (alone (gives 0 ended none nothing) none) → r ≡ reactionOf (startTree p e)
-  unfolding reactBy errorsBy reactionsBy askedBy none
+module _ (f : ℕ) (p : Statement) (e : ℕ) (r : Reaction) where
+  pub nothing-step : p ≡ nothing → r ≡ reactionOf (alone (gives 0 ended none nothing) none 0) → r ≡ reactionOf (startTree f p e)
+  unfolding reactBy errorsBy reactionsBy askedBy deliveredBy none
   nothing-step h k = rw h k
 
-  pub emit-step : (x s : ℕ) → p ≡ emit s → s < signalCount → x ≡ onlyBelow signalCount s
-      → r ≡ reactionOf (alone (gives x ended none nothing) none) → r ≡ reactionOf (startTree p e)
-  unfolding reactBy errorsBy reactionsBy askedBy
-  emit-step x s h l k i = rw h (i ∙ rw (k, lt-ltb s signalCount l))
+  pub emit-step : (s : ℕ) (v : Value) → p ≡ emit s v → s < signalCount
+      → r ≡ reactionOf (alone (gives (onlyBelow signalCount s) ended none nothing) none (brought f s v)) → r ≡ reactionOf (startTree f p e)
+  unfolding reactBy errorsBy reactionsBy askedBy deliveredBy
+  emit-step s v h l i = rw h (i ∙ rw (lt-ltb s signalCount l))
 
-  pub exit-step : (n : ℕ) → p ≡ exit n → r ≡ reactionOf (alone (gives none (leaving n) none nothing) none) → r ≡ reactionOf (startTree p e)
-  unfolding reactBy errorsBy reactionsBy askedBy
+  pub exit-step : (n : ℕ) → p ≡ exit n → r ≡ reactionOf (alone (gives none (leaving n) none nothing) none 0) → r ≡ reactionOf (startTree f p e)
+  unfolding reactBy errorsBy reactionsBy askedBy deliveredBy
   exit-step n h k = rw h k
 
-  module _ (l : ℕ) (small : l < labelCount) (h : r ≡ reactionOf (alone (gives none waiting (onlyBelow labelCount l) nothing) none)) where
-    pub pause-step : p ≡ pause l → r ≡ reactionOf (startTree p e)
-    unfolding reactBy errorsBy reactionsBy askedBy
+  module _ (l : ℕ) (small : l < labelCount) (h : r ≡ reactionOf (alone (gives none waiting (onlyBelow labelCount l) nothing) none 0)) where
+    pub pause-step : p ≡ pause l → r ≡ reactionOf (startTree f p e)
+    unfolding reactBy errorsBy reactionsBy askedBy deliveredBy
     pause-step k = rw k (h ∙ rw (lt-ltb l labelCount small))
 
-    pub setpause-step : p ≡ setpause l → r ≡ reactionOf (startTree p e)
-    unfolding reactBy errorsBy reactionsBy askedBy
+    pub setpause-step : p ≡ setpause l → r ≡ reactionOf (startTree f p e)
+    unfolding reactBy errorsBy reactionsBy askedBy deliveredBy
     setpause-step k = rw k (h ∙ rw (lt-ltb l labelCount small))
 
 -- what is said of a command is said of the statement that it is
-pub here : (t : Statement) (p : Statement) (e : ℕ) {r : Reaction} → p ≡ t → r ≡ reactionOf (startTree t e) → r ≡ reactionOf (startTree p e)
-here t p e h m = m ∙ ap (λ (z : Statement). reactionOf (startTree z e)) (sym h)
+pub here : (f : ℕ) (t : Statement) (p : Statement) (e : ℕ) {r : Reaction} → p ≡ t → r ≡ reactionOf (startTree f t e) → r ≡ reactionOf (startTree f p e)
+here f t p e h m = m ∙ ap (λ (z : Statement). reactionOf (startTree f z e)) (sym h)
 
-module _ (e : ℕ) {p r : Reaction} where
-  pub loop-step : (a : ℕ) (t : Statement) → p ≡ reactionOf (startTree t e) → ((u : Statement) → FromOne (loopTree a u) p r)
-      → r ≡ reactionOf (startTree (loop a t) e)
-  loop-step a t h k = k t (startTree t e) h ∙ ap reactionOf (sym (start-tree-loop a t e))
+module _ (f e : ℕ) {p r : Reaction} where
+  pub loop-step : (a : ℕ) (t : Statement) → p ≡ reactionOf (startTree f t e) → ((u : Statement) → FromOne (loopTree a u) p r)
+      → r ≡ reactionOf (startTree f (loop a t) e)
+  loop-step a t h k = k t (startTree f t e) h ∙ ap reactionOf (sym (start-tree-loop f a t e))
 
-  pub try-step : (t : Statement) → p ≡ reactionOf (startTree t e) → FromOne tryTree p r → r ≡ reactionOf (startTree (try t) e)
-  try-step t h k = k (startTree t e) h ∙ ap reactionOf (sym (start-tree-try t e))
+  pub try-step : (t : Statement) → p ≡ reactionOf (startTree f t e) → FromOne tryTree p r → r ≡ reactionOf (startTree f (try t) e)
+  try-step t h k = k (startTree f t e) h ∙ ap reactionOf (sym (start-tree-try f t e))
 
-  pub seq-step : (t u : Statement) → p ≡ reactionOf (startTree t e) → FromOne (λ (z : Esterel.Tree). seqTree u z (startTree u e)) p r
-      → r ≡ reactionOf (startTree (seq t u) e)
-  seq-step t u h k = k (startTree t e) h ∙ ap reactionOf (sym (start-tree-seq t u e))
+  pub seq-step : (t u : Statement) → p ≡ reactionOf (startTree f t e) → FromOne (λ (z : Esterel.Tree). seqTree u z (startTree f u e)) p r
+      → r ≡ reactionOf (startTree f (seq t u) e)
+  seq-step t u h k = k (startTree f t e) h ∙ ap reactionOf (sym (start-tree-seq f t u e))
 
-  pub par-step : (t u : Statement) {q : Reaction} → p ≡ reactionOf (startTree t e) → q ≡ reactionOf (startTree u e) → FromTwo parTree p q r
-      → r ≡ reactionOf (startTree (par t u) e)
-  par-step t u h m k = k (startTree t e) (startTree u e) h m ∙ ap reactionOf (sym (start-tree-par t u e))
+  pub par-step : (t u : Statement) {q : Reaction} → p ≡ reactionOf (startTree f t e) → q ≡ reactionOf (startTree f u e) → FromTwo parTree p q r
+      → r ≡ reactionOf (startTree f (par t u) e)
+  par-step t u h m k = k (startTree f t e) (startTree f u e) h m ∙ ap reactionOf (sym (start-tree-par f t u e))
 
   -- a fresh suspend only counts
-  pub suspend-step : (s : ℕ) (t : Statement) → p ≡ reactionOf (startTree t e) → FromOne (countedAround none) p r
-      → r ≡ reactionOf (startTree (suspend s t) e)
-  suspend-step s t h k = k (startTree t e) h ∙ suspend-reaction s (startTree t e) ∙ ap reactionOf (sym (start-tree-suspend s t e))
+  pub suspend-step : (s : ℕ) (t : Statement) → p ≡ reactionOf (startTree f t e) → FromOne (countedAround none) p r
+      → r ≡ reactionOf (startTree f (suspend s t) e)
+  suspend-step s t h k = k (startTree f t e) h ∙ suspend-reaction s (startTree f t e) ∙ ap reactionOf (sym (start-tree-suspend f s t e))
 
   -- ---- a signal x at place a, whose run without it is p
-  module _ (sc : Scope) (a x : ℕ) (t : Statement) (small : x < signalCount) {e− : ℕ} (less : e− ≡ remove x e) (p-is : p ≡ reactionOf (startTree t e−)) where
-    pub signal-step : {q : Reaction} {e+ : ℕ} → e+ ≡ insertBelow signalCount x e → q ≡ reactionOf (startTree t e+)
-        → FromTwo (signalTree sc a x) p q r → r ≡ reactionOf (startTree (signal sc a x t) e)
+  module _ (sc : Scope) (a x : ℕ) (t : Statement) (small : x < signalCount) {e− : ℕ} (less : e− ≡ remove x e) (p-is : p ≡ reactionOf (startTree f t e−)) where
+    pub signal-step : {q : Reaction} {e+ : ℕ} → e+ ≡ insertBelow signalCount x e → q ≡ reactionOf (startTree f t e+)
+        → FromTwo (signalTree f sc a x) p q r → r ≡ reactionOf (startTree f (signal sc a x t) e)
     signal-step {q} {e+} more m k =
         let more′ : e+ ≡ insert x e = more ∙ rw (lt-ltb x signalCount small) in
-        k (startTree t (remove x e)) (startTree t (insert x e)) (rw less at p-is) (rw more′ at m)
-        ∙ ap reactionOf (sym (start-tree-signal sc a x t e))
+        k (startTree f t (remove x e)) (startTree f t (insert x e)) (rw less at p-is) (rw more′ at m)
+        ∙ ap reactionOf (sym (start-tree-signal f sc a x t e))
 
     -- it was not asked for
-    pub signal-once-step : member x (p .asked) ≡ false → FromOne (signalOnce sc a x) p r → r ≡ reactionOf (startTree (signal sc a x t) e)
+    pub signal-once-step : member x (p .asked) ≡ false → FromOne (signalOnce f sc a x) p r → r ≡ reactionOf (startTree f (signal sc a x t) e)
     signal-once-step n k =
-        let h : p ≡ reactionOf (startTree t (remove x e)) = rw less at p-is in
-        k (startTree t (remove x e)) h ∙ ap reactionOf (sym (one-run-signal x t e (rw h at n) sc a))
+        let h : p ≡ reactionOf (startTree f t (remove x e)) = rw less at p-is in
+        k (startTree f t (remove x e)) h ∙ ap reactionOf (sym (one-run-signal f x t e (rw h at n) sc a))
 
   -- ---- a test of x, which notes it
   module _ (x : ℕ) (t u : Statement) (small : x < signalCount) {b : ℕ} (noted : b ≡ onlyBelow signalCount x) where
-    tested : (c : Bool) → member x e ≡ c → p ≡ reactionOf (cond c (startTree t e) (startTree u e)) → FromOne (countedAround b) p r
-        → r ≡ reactionOf (startTree (present x t u) e)
+    tested : (c : Bool) → member x e ≡ c → p ≡ reactionOf (cond c (startTree f t e) (startTree f u e)) → FromOne (countedAround b) p r
+        → r ≡ reactionOf (startTree f (present x t u) e)
     tested c i h k =
         let z : b ≡ only x = noted ∙ rw (lt-ltb x signalCount small) in
-        let v : Esterel.Tree = cond c (startTree t e) (startTree u e) in
+        let v : Esterel.Tree = cond c (startTree f t e) (startTree f u e) in
         k v h ∙ ap (λ (s : ℕ). reactionOf (countedAround s v)) z ∙ present-reaction x v
-        ∙ ap reactionOf (sym (start-tree-present x t u e ∙ ap (λ (y : Bool). presentTree x (cond y (startTree t e) (startTree u e))) i))
+        ∙ ap reactionOf (sym (start-tree-present f x t u e ∙ ap (λ (y : Bool). presentTree x (cond y (startTree f t e) (startTree f u e))) i))
 
-    pub present-step : member x e ≡ true → p ≡ reactionOf (startTree t e) → FromOne (countedAround b) p r
-        → r ≡ reactionOf (startTree (present x t u) e)
+    pub present-step : member x e ≡ true → p ≡ reactionOf (startTree f t e) → FromOne (countedAround b) p r
+        → r ≡ reactionOf (startTree f (present x t u) e)
     present-step = tested true
 
-    pub absent-step : member x e ≡ false → p ≡ reactionOf (startTree u e) → FromOne (countedAround b) p r
-        → r ≡ reactionOf (startTree (present x t u) e)
+    pub absent-step : member x e ≡ false → p ≡ reactionOf (startTree f u e) → FromOne (countedAround b) p r
+        → r ≡ reactionOf (startTree f (present x t u) e)
     absent-step = tested false

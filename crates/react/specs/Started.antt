@@ -9,11 +9,11 @@ use Rattle.layout.specs.Layout.{Lies}
 use Rattle.reaction.specs.declared.Reaction.{Reaction}
 use Rattle.reaction.specs.Reactions.{reactionOf}
 
--- r is the tree of the statement that lies there
-abbrev pub Started : (t : List ℕ) (d a : ℕ) (bs : List ℕ) (e : ℕ) (r : Reaction) → Type 0
-Started t d a bs e r = (base : ℕ) (p : Statement) → Lies t d base a bs p → r ≡ reactionOf (startTree p e)
+-- r is the tree of the statement that lies there, with the litres of the farm f
+abbrev pub Started : (t : List ℕ) (d a : ℕ) (bs : List ℕ) (e f : ℕ) (r : Reaction) → Type 0
+Started t d a bs e f r = (base : ℕ) (p : Statement) → Lies t d base a bs p → r ≡ reactionOf (startTree f p e)
 
 -- r is what comes of a tree u and then the statement that lies there, started where u has ended
-abbrev pub StartedAfter : (t : List ℕ) (d a : ℕ) (bs : List ℕ) (e : ℕ) (p r : Reaction) → Type 0
-StartedAfter t d a bs e p r =
-    (base : ℕ) (q : Statement) (u : Esterel.Tree) → Lies t d base a bs q → p ≡ reactionOf u → r ≡ reactionOf (seqTree q u (startTree q e))
+abbrev pub StartedAfter : (t : List ℕ) (d a : ℕ) (bs : List ℕ) (e f : ℕ) (p r : Reaction) → Type 0
+StartedAfter t d a bs e f p r =
+    (base : ℕ) (q : Statement) (u : Esterel.Tree) → Lies t d base a bs q → p ≡ reactionOf u → r ≡ reactionOf (seqTree q u (startTree f q e))

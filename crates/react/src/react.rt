@@ -8,35 +8,44 @@ use layout::Seconds;
 use reaction::Reaction;
 
 // The reaction of the statement at the front of s, which stands at the offset `at`.
-pub fn react(s: &[u8], at: usize, depth: u8, input: u32, second: &Seconds) -> Reaction
+pub fn react(s: &[u8], at: usize, depth: u8, input: u32, farm: u8, second: &Seconds) -> Reaction
     requires { ⌜ Ready (now second) depth at (now s) ⌝ }
-    ensures { λ r. ⌜ Started (now (second .entry)) depth at (now (s .entry)) input r ⌝ }
+    ensures { λ r. ⌜ Started (now (second .entry)) depth at (now (s .entry)) input farm r ⌝ }
 {
     let command = s[0];
     match command {
-        0 => reaction::ending(0),
+        0 => reaction::ending(0, 0),
         1 => reaction::pausing(s[1]),
-        2 => reaction::ending(signals::single(s[1])),
+        2 => emissions::emitting(s, farm),
         3 => reaction::leaving(s[1]),
-        4 => seq_parts(s, at, depth, input, second),
-        5 => par_parts(s, at, depth, input, second),
-        6 => loop_part(s, at, depth, input, second),
-        7 => present_parts(s, at, depth, input, second),
-        8 => signal_rule(s, at, depth, input, second),
-        9 => try_part(s, at, depth, input, second),
+        4 => seq_parts(s, at, depth, input, farm, second),
+        5 => par_parts(s, at, depth, input, farm, second),
+        6 => loop_part(s, at, depth, input, farm, second),
+        7 => present_parts(s, at, depth, input, farm, second),
+        8 => signal_rule(s, at, depth, input, farm, second),
+        9 => try_part(s, at, depth, input, farm, second),
+        10 => reaction::pausing(s[1]),
         // a fresh suspend reacts as its part
-        11 => reaction::around(part(s, 2, at + 2, depth - 1, input, second), 0),
-        _ => reaction::pausing(s[1]),
+        11 => reaction::around(part(s, 2, at + 2, depth - 1, input, farm, second), 0),
+        _ => emissions::emitting(s, farm),
     }
 }
 
 // The part that begins at index n of s, at the offset `at`.
-fn part(s: &[u8], n: usize, at: usize, depth: u8, input: u32, second: &Seconds) -> Reaction
+fn part(
+    s: &[u8],
+    n: usize,
+    at: usize,
+    depth: u8,
+    input: u32,
+    farm: u8,
+    second: &Seconds,
+) -> Reaction
     requires { ⌜ n ≤ length (now s) ⌝ }
     requires { ⌜ Ready (now second) depth at (rest n (now s)) ⌝ }
-    ensures { λ r. ⌜ Started (now (second .entry)) depth at (rest n (now (s .entry))) input r ⌝ }
+    ensures { λ r. ⌜ Started (now (second .entry)) depth at (rest n (now (s .entry))) input farm r ⌝ }
 {
-    react(&s[n..], at, depth, input, second)
+    react(&s[n..], at, depth, input, farm, second)
 }
 
 // What comes of p, which reacted, and then the part that begins at index n of s, which starts where p has ended.
@@ -47,82 +56,83 @@ pub fn after(
     at: usize,
     depth: u8,
     input: u32,
+    farm: u8,
     second: &Seconds,
 ) -> Reaction
     requires { ⌜ n ≤ length (now s) ⌝ }
     requires { ⌜ Ready (now second) depth at (rest n (now s)) ⌝ }
-    ensures { λ r. ⌜ StartedAfter (now (second .entry)) depth at (rest n (now (s .entry))) input p r ⌝ }
+    ensures { λ r. ⌜ StartedAfter (now (second .entry)) depth at (rest n (now (s .entry))) input farm p r ⌝ }
 {
     let k = p.completion;
     if completions::is_ended(k) {
-        rules::in_sequence(p, part(s, n, at, depth, input, second))
+        rules::in_sequence(p, part(s, n, at, depth, input, farm, second))
     } else {
         reaction::around(p, 0)
     }
 }
 
-fn seq_parts(s: &[u8], at: usize, depth: u8, input: u32, second: &Seconds) -> Reaction
+fn seq_parts(s: &[u8], at: usize, depth: u8, input: u32, farm: u8, second: &Seconds) -> Reaction
     requires { ⌜ Ready (now second) depth at (now s) × (getD (now s) 0 0 ≡ 4) ⌝ }
-    ensures { λ r. ⌜ Started (now (second .entry)) depth at (now (s .entry)) input r ⌝ }
+    ensures { λ r. ⌜ Started (now (second .entry)) depth at (now (s .entry)) input farm r ⌝ }
 {
     let m = (second[at] % layout::BEFORE_UNIT) as usize;
-    let p = part(s, 1, at + 1, depth - 1, input, second);
-    after(p, s, m - at, m, depth - 1, input, second)
+    let p = part(s, 1, at + 1, depth - 1, input, farm, second);
+    after(p, s, m - at, m, depth - 1, input, farm, second)
 }
 
-fn par_parts(s: &[u8], at: usize, depth: u8, input: u32, second: &Seconds) -> Reaction
+fn par_parts(s: &[u8], at: usize, depth: u8, input: u32, farm: u8, second: &Seconds) -> Reaction
     requires { ⌜ Ready (now second) depth at (now s) × (getD (now s) 0 0 ≡ 5) ⌝ }
-    ensures { λ r. ⌜ Started (now (second .entry)) depth at (now (s .entry)) input r ⌝ }
+    ensures { λ r. ⌜ Started (now (second .entry)) depth at (now (s .entry)) input farm r ⌝ }
 {
     let m = (second[at] % layout::BEFORE_UNIT) as usize;
-    let p = part(s, 1, at + 1, depth - 1, input, second);
-    let q = part(s, m - at, m, depth - 1, input, second);
+    let p = part(s, 1, at + 1, depth - 1, input, farm, second);
+    let q = part(s, m - at, m, depth - 1, input, farm, second);
     rules::in_parallel(p, q)
 }
 
-fn loop_part(s: &[u8], at: usize, depth: u8, input: u32, second: &Seconds) -> Reaction
+fn loop_part(s: &[u8], at: usize, depth: u8, input: u32, farm: u8, second: &Seconds) -> Reaction
     requires { ⌜ Ready (now second) depth at (now s) × (getD (now s) 0 0 ≡ 6) ⌝ }
-    ensures { λ r. ⌜ Started (now (second .entry)) depth at (now (s .entry)) input r ⌝ }
+    ensures { λ r. ⌜ Started (now (second .entry)) depth at (now (s .entry)) input farm r ⌝ }
 {
-    let p = part(s, 1, at + 1, depth - 1, input, second);
+    let p = part(s, 1, at + 1, depth - 1, input, farm, second);
     rules::in_loop(at as u16, p)
 }
 
-fn present_parts(s: &[u8], at: usize, depth: u8, input: u32, second: &Seconds) -> Reaction
+fn present_parts(s: &[u8], at: usize, depth: u8, input: u32, farm: u8, second: &Seconds) -> Reaction
     requires { ⌜ Ready (now second) depth at (now s) × (getD (now s) 0 0 ≡ 7) ⌝ }
-    ensures { λ r. ⌜ Started (now (second .entry)) depth at (now (s .entry)) input r ⌝ }
+    ensures { λ r. ⌜ Started (now (second .entry)) depth at (now (s .entry)) input farm r ⌝ }
 {
     let x = s[1];
     let tested = signals::single(x);
     if signals::member(input, x) {
-        reaction::around(part(s, 2, at + 2, depth - 1, input, second), tested)
+        reaction::around(part(s, 2, at + 2, depth - 1, input, farm, second), tested)
     } else {
         let m = (second[at] % layout::BEFORE_UNIT) as usize;
-        reaction::around(part(s, m - at, m, depth - 1, input, second), tested)
+        reaction::around(part(s, m - at, m, depth - 1, input, farm, second), tested)
     }
 }
 
 // The body reacts without the signal, and with it where that run asked for the signal; else the second run would repeat the first.
-fn signal_rule(s: &[u8], at: usize, depth: u8, input: u32, second: &Seconds) -> Reaction
+fn signal_rule(s: &[u8], at: usize, depth: u8, input: u32, farm: u8, second: &Seconds) -> Reaction
     requires { ⌜ Ready (now second) depth at (now s) × (getD (now s) 0 0 ≡ 8) ⌝ }
-    ensures { λ r. ⌜ Started (now (second .entry)) depth at (now (s .entry)) input r ⌝ }
+    ensures { λ r. ⌜ Started (now (second .entry)) depth at (now (s .entry)) input farm r ⌝ }
 {
     let x = s[1];
     let without = signals::without(input, x);
     let with = signals::with(input, x);
-    let p = part(s, 2, at + 2, depth - 1, without, second);
+    let p = part(s, 2, at + 2, depth - 1, without, farm, second);
     if signals::member(p.asked, x) {
-        let q = part(s, 2, at + 2, depth - 1, with, second);
-        declarations::in_signal(at as u16, x, p, q)
+        let q = part(s, 2, at + 2, depth - 1, with, farm, second);
+        declarations::in_signal(at as u16, x, farm, p, q)
     } else {
-        declarations::in_signal_once(x, p)
+        declarations::in_signal_once(x, farm, p)
     }
 }
 
-fn try_part(s: &[u8], at: usize, depth: u8, input: u32, second: &Seconds) -> Reaction
+fn try_part(s: &[u8], at: usize, depth: u8, input: u32, farm: u8, second: &Seconds) -> Reaction
     requires { ⌜ Ready (now second) depth at (now s) × (getD (now s) 0 0 ≡ 9) ⌝ }
-    ensures { λ r. ⌜ Started (now (second .entry)) depth at (now (s .entry)) input r ⌝ }
+    ensures { λ r. ⌜ Started (now (second .entry)) depth at (now (s .entry)) input farm r ⌝ }
 {
-    let p = part(s, 1, at + 1, depth - 1, input, second);
+    let p = part(s, 1, at + 1, depth - 1, input, farm, second);
     rules::in_try(p)
 }

@@ -16,7 +16,7 @@ use Rattle.theory.proofs.Sets.{join-none-r}
 use Rattle.completions.specs.declared.Completion.{Completion}
 use Rattle.completions.specs.Completions.{completionOf}
 use Rattle.reaction.specs.declared.Reaction.{Reaction}
-use Rattle.reaction.specs.Reactions.{keptOf, reactionOf, failedWith, countedAround}
+use Rattle.reaction.specs.Reactions.{keptOf, cappedOf, reactionOf, failedWith, countedAround}
 
 -- what is kept of a sum is that of what was kept of its parts
 pub kept-two : (n m : ℕ) → keptOf (1 + keptOf n + keptOf m) ≡ keptOf (1 + n + m)
@@ -25,37 +25,42 @@ kept-two n m = omega arith
 pub kept-one : (n : ℕ) → keptOf (1 + keptOf n) ≡ keptOf (1 + n)
 kept-one n = omega arith
 
--- a reaction is that of its five values
-module _ (k : Code) (x : Option Error) (n a : ℕ) {o o′ : ℕ} {l : Labels} {l′ : ℕ} {c : Completion} {m b : ℕ} where
-  pub made : o ≡ o′ → Stands l l′ → c ≡ completionOf k x → m ≡ keptOf n → b ≡ a
-      → _≡_ {A = Reaction} (record { emitted = o; labels = l; completion = c; taken = m; asked = b })
-      (reactionOf (tree (instant (gives o′ k l′ nothing) x n) a))
-  made h b d e f = rw (← h, ← labels-of l b, ← d, ← e, ← f)
+-- what is held of a sum of litres is that of what was held of its parts
+pub capped-two : (n m : ℕ) → cappedOf (cappedOf n + cappedOf m) ≡ cappedOf (n + m)
+capped-two n m = omega arith
+
+-- a reaction is that of its six values
+module _ (k : Code) (x : Option Error) (n a y : ℕ) {o o′ : ℕ} {l : Labels} {l′ : ℕ} {c : Completion} {m b z : ℕ} where
+  pub made : o ≡ o′ → Stands l l′ → c ≡ completionOf k x → m ≡ keptOf n → b ≡ a → z ≡ cappedOf y
+      → _≡_ {A = Reaction} (record { emitted = o; labels = l; completion = c; taken = m; asked = b; delivered = z })
+      (reactionOf (tree (instant (gives o′ k l′ nothing) x n) a y))
+  made h b d e f g = rw (← h, ← labels-of l b, ← d, ← e, ← f, ← g)
 
 -- one that fails, whatever was taken and asked for
 pub failed-made : (x : Error) (m a : ℕ) (l : Labels) → Stands l none
-    → _≡_ {A = Reaction} (record { emitted = none; labels = l; completion = completionOf wrong (some x); taken = m; asked = a }) (failedWith x m a)
+    → _≡_ {A = Reaction} (record { emitted = none; labels = l; completion = completionOf wrong (some x); taken = m; asked = a; delivered = 0 })
+    (failedWith x m a)
 failed-made x m a l b = rw (← labels-of l b)
 
 -- ---- a command that only counts, and asks for the signals b
 pub around-reaction : (t : Esterel.Tree) (p : Reaction) (m a b : ℕ) → p ≡ reactionOf t → m ≡ keptOf (1 + p .taken) → a ≡ join (p .asked) b
-    → _≡_ {A = Reaction} (record { emitted = p .emitted; labels = p .labels; completion = p .completion; taken = m; asked = a })
+    → _≡_ {A = Reaction} (record { emitted = p .emitted; labels = p .labels; completion = p .completion; taken = m; asked = a; delivered = p .delivered })
     (reactionOf (countedAround b t))
-around-reaction (tree (instant (gives o k l t) x n) a₁) p m a b h e f = rw (e, f, h, kept-one n)
+around-reaction (tree (instant (gives o k l t) x n) a₁ y) p m a b h e f = rw (e, f, h, kept-one n)
 
 -- around an instant whose tree asks for a; where it asks for none itself, nothing is added
-pub counts-only : (i : Esterel.Instant) (a : ℕ) → reactionOf (countedAround none (tree i a)) ≡ reactionOf (tree (presentInstant i) a)
-counts-only i a = rw (join-none-r a)
+pub counts-only : (i : Esterel.Instant) (a y : ℕ) → reactionOf (countedAround none (tree i a y)) ≡ reactionOf (tree (presentInstant i) a y)
+counts-only i a y = rw (join-none-r a)
 
 -- a suspend changes only what remains
 pub suspend-reaction : (s : ℕ) (t : Esterel.Tree) → reactionOf (countedAround none t) ≡ reactionOf (suspendTree s t)
-suspend-reaction s (tree (instant (gives o k l t) x n) a) = rw (join-none-r a)
+suspend-reaction s (tree (instant (gives o k l t) x n) a y) = rw (join-none-r a)
 
 -- a test and a held suspend ask for their signal
 pub present-reaction : (s : ℕ) (t : Esterel.Tree) → reactionOf (countedAround (only s) t) ≡ reactionOf (presentTree s t)
 unfolding join only insert
-present-reaction s (tree (instant (gives o k l t) x n) a) = refl
+present-reaction s (tree (instant (gives o k l t) x n) a y) = refl
 
 pub held-reaction : (s : ℕ) (t : Esterel.Tree) → reactionOf (countedAround (only s) t) ≡ reactionOf (heldTree s t)
 unfolding join only insert
-held-reaction s (tree (instant (gives o k l t) x n) a) = refl
+held-reaction s (tree (instant (gives o k l t) x n) a y) = refl

@@ -1,9 +1,9 @@
 -- The values by which the code answers, case by case, from the terms of esterel. The residual is forgotten, and so is an error
 -- beside a code that is not wrong: there is none (theory, wrong-is-error).
-use Prim.Native.Nat.{ℕ, _%_}
+use Prim.Native.Nat.{ℕ, _+_, _%_, min}
 use mathlib.Core.Path.{_≡_}
 use mathlib.Core.Option.{none, some}
-use Rattle.limits.specs.Limits.{takenCount}
+use Rattle.limits.specs.Limits.{takenCount, litresLimit}
 use Rattle.labels.specs.Labels.{labelsWith}
 use Rattle.esterel.specs.Sets.{join}
 use Rattle.esterel.specs.Reaction.{emitted, code, labels, failed}
@@ -17,13 +17,24 @@ use Rattle.reaction.specs.declared.Reaction.{Reaction}
 abbrev pub keptOf : ℕ → ℕ
 keptOf n = n % takenCount
 
-abbrev pub reactionOf : Esterel.Tree → Reaction
-reactionOf (Esterel.tree (Esterel.instant r x n) a) =
-    record { emitted = emitted r; labels = labelsWith (labels r); completion = completionOf (code r) x; taken = keptOf n; asked = a }
+-- litres up to the limit, and one more for all above it
+abbrev pub cappedOf : ℕ → ℕ
+cappedOf n = min n (litresLimit + 1)
 
--- the reaction of a command without parts, which asks for the signals a
-abbrev pub alone : rules.Reaction → (a : ℕ) → Esterel.Tree
-alone r a = Esterel.tree (Esterel.instant r none 1) a
+abbrev pub reactionOf : Esterel.Tree → Reaction
+reactionOf (Esterel.tree (Esterel.instant r x n) a y) =
+    record {
+      emitted = emitted r;
+      labels = labelsWith (labels r);
+      completion = completionOf (code r) x;
+      taken = keptOf n;
+      asked = a;
+      delivered = cappedOf y;
+    }
+
+-- the reaction of a command without parts, which asks for the signals a and delivers y litres
+abbrev pub alone : rules.Reaction → (a y : ℕ) → Esterel.Tree
+alone r a y = Esterel.tree (Esterel.instant r none 1) a y
 
 -- the reaction of a command that fails, with its error
 abbrev pub failedWith : Error → (taken asked : ℕ) → Reaction
@@ -34,11 +45,12 @@ failedWith x n a =
       completion = completionOf (code failed) (some x);
       taken = n;
       asked = a;
+      delivered = 0;
     }
 
 -- a command that changes nothing of its part but the number of reactions, and the signals asked for by b
 abbrev pub countedAround : (b : ℕ) → Esterel.Tree → Esterel.Tree
-countedAround b (Esterel.tree i a) = Esterel.tree (Esterel.presentInstant i) (join a b)
+countedAround b (Esterel.tree i a y) = Esterel.tree (Esterel.presentInstant i) (join a b) y
 
 -- r is f of whatever trees the values stand for
 abbrev pub FromOne : (f : Esterel.Tree → Esterel.Tree) (p r : Reaction) → Type 0

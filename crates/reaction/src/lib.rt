@@ -1,25 +1,27 @@
 // What one reaction gives (01, 'One reaction'), the reactions of commands without parts, the number of reactions of a tree
-// from those of its parts (02, item 6), and the signals that a tree asks for.
+// from those of its parts (02, item 6), the signals that a tree asks for, and the litres of the farm that is asked for (02, item 12).
 ghost use mathlib.Core.Path.{_≡_};
 ghost use mathlib.Core.Option.{some};
-ghost use Prim.Native.Nat.{_+_};
+ghost use Prim.Native.Nat.{ℕ, _+_};
 ghost use Rattle.labels.specs.Labels.{labelSet};
 ghost use Rattle.sets.specs.Sets.{labelCount, onlyBelow};
 ghost use Rattle.esterel.specs.Sets.{none};
 ghost use Rattle.esterel.specs.Statement.{nothing};
 ghost use Rattle.esterel.specs.Reaction.{ended, waiting, leaving, gives};
-ghost use Rattle.reaction.specs.Reactions.{keptOf, alone, reactionOf, failedWith, countedAround, FromOne};
+ghost use Rattle.reaction.specs.Reactions.{keptOf, cappedOf, alone, reactionOf, failedWith, countedAround, FromOne};
 use completions::Completion;
 use labels::Labels;
 
 // The greatest field first, so that no room is lost between two. `asked` are the signals whose status its tree asked for: where
-// a run of a signal's body did not ask for it, the other run is the same.
+// a run of a signal's body did not ask for it, the other run is the same. `delivered` are the litres of the one farm that the caller
+// asked for; all numbers above the limit are held as the one behind it.
 pub struct Reaction {
     pub labels: Labels,
     pub emitted: u32,
     pub completion: Completion,
     pub taken: u32,
     pub asked: u32,
+    pub delivered: u32,
 }
 
 // The reactions of a command over two parts. The sum is in range whatever they are, and keeps 32 bits, as the answer does; that
@@ -37,6 +39,18 @@ pub fn over_one(n: u32) -> u32
     over_two(n, 0)
 }
 
+// The litres of two parts together. The sum is in range whatever they are.
+pub fn together(n: u32, m: u32) -> u32
+    ensures { λ r. ⌜ r ≡ cappedOf (n + m) ⌝ }
+{
+    let sum = n as u64 + m as u64;
+    if sum < limits::LITRES_OVER {
+        sum as u32
+    } else {
+        limits::LITRES_OVER as u32
+    }
+}
+
 // A reaction from its values. The completion comes in one register: stored in pieces, it could not be read back whole before they
 // have all reached memory.
 pub fn made(
@@ -45,8 +59,9 @@ pub fn made(
     completion: Completion,
     taken: u32,
     asked: u32,
+    delivered: u32,
 ) -> Reaction
-    ensures { λ r. ⌜ r ≡ record { emitted = emitted; labels = labels; completion = completion; taken = taken; asked = asked } ⌝ }
+    ensures { λ r. ⌜ r ≡ record { emitted = emitted; labels = labels; completion = completion; taken = taken; asked = asked; delivered = delivered } ⌝ }
 {
     Reaction {
         emitted,
@@ -54,34 +69,35 @@ pub fn made(
         completion,
         taken,
         asked,
+        delivered,
     }
 }
 
 // A command that ends at once.
-pub fn ending(emitted: u32) -> Reaction
-    ensures { λ r. ⌜ r ≡ reactionOf (alone (gives emitted ended none nothing) none) ⌝ }
+pub fn ending(emitted: u32, delivered: u32) -> Reaction
+    ensures { λ r. ⌜ ((x : ℕ) → delivered ≡ cappedOf x → r ≡ reactionOf (alone (gives emitted ended none nothing) none x)) ⌝ }
 {
-    made(emitted, labels::empty(), Completion::Ended, 1, 0)
+    made(emitted, labels::empty(), Completion::Ended, 1, 0, delivered)
 }
 
 // A command that waits: a pause with its label, a stopped suspend with the active labels inside it. A stopped suspend asked for
 // its signal.
 pub fn waiting(labels: Labels, asked: u32) -> Reaction
-    ensures { λ r. ⌜ r ≡ reactionOf (alone (gives none waiting (labelSet labels) nothing) asked) ⌝ }
+    ensures { λ r. ⌜ r ≡ reactionOf (alone (gives none waiting (labelSet labels) nothing) asked 0) ⌝ }
 {
-    made(0, labels, Completion::Waiting, 1, asked)
+    made(0, labels, Completion::Waiting, 1, asked, 0)
 }
 
 pub fn pausing(l: u8) -> Reaction
-    ensures { λ r. ⌜ r ≡ reactionOf (alone (gives none waiting (onlyBelow labelCount l) nothing) none) ⌝ }
+    ensures { λ r. ⌜ r ≡ reactionOf (alone (gives none waiting (onlyBelow labelCount l) nothing) none 0) ⌝ }
 {
     waiting(labels::single(l), 0)
 }
 
 pub fn leaving(n: u8) -> Reaction
-    ensures { λ r. ⌜ r ≡ reactionOf (alone (gives none (leaving n) none nothing) none) ⌝ }
+    ensures { λ r. ⌜ r ≡ reactionOf (alone (gives none (leaving n) none nothing) none 0) ⌝ }
 {
-    made(0, labels::empty(), Completion::Leaving(n), 1, 0)
+    made(0, labels::empty(), Completion::Leaving(n), 1, 0, 0)
 }
 
 // Wrong, with nothing emitted.
@@ -94,6 +110,7 @@ pub fn failing(kind: u8, place: u16, taken: u32, asked: u32) -> Reaction
         Completion::Wrong(kind, place),
         taken,
         asked,
+        0,
     )
 }
 
@@ -110,5 +127,6 @@ pub fn around(p: Reaction, asked: u32) -> Reaction
         k,
         over_one(p.taken),
         signals::union(p.asked, asked),
+        p.delivered,
     )
 }

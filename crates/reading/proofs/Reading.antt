@@ -26,11 +26,11 @@ beginning s t m l long e =
 module _ (s t u m n : List ℕ) (r : ℕ) (short : length s ≤ maxBytes) (long : length t ≡ maxBytes) (none : m ≡ noNotes)
     (h : Done maxSignals 0 t u m n (read maxDepth maxSignals 0 s) r) where
   -- the row of a refusal
-  pub row : rowUnit ≤ r → (k : ℕ) × ((read maxDepth maxSignals 0 s ≡ refused k) × (r ≡ k * rowUnit) × (k ≤ 6))
+  pub row : rowUnit ≤ r → (k : ℕ) × ((read maxDepth maxSignals 0 s ≡ refused k) × (r ≡ k * rowUnit) × (k ≤ 18))
   row large = go (read maxDepth maxSignals 0 s) refl (rowed maxDepth maxSignals 0 s) h
     where
       go : (y : Read) → read maxDepth maxSignals 0 s ≡ y → Rowed (read maxDepth maxSignals 0 s) → Done maxSignals 0 t u m n y r
-          → (k : ℕ) × ((read maxDepth maxSignals 0 s ≡ refused k) × (r ≡ k * rowUnit) × (k ≤ 6))
+          → (k : ℕ) × ((read maxDepth maxSignals 0 s ≡ refused k) × (r ≡ k * rowUnit) × (k ≤ 18))
       go (accepted p k) q z i = absurd (omega (arith, count-within maxDepth maxSignals 0 s p k q, i .0))
       go (refused k) q z i = let o : Small k = rw q at z in (k, (q, i .0, o .1))
 

@@ -11,13 +11,13 @@ use Rattle.layout.specs.Layout.{Lies}
 use Rattle.reaction.specs.declared.Reaction.{Reaction}
 use Rattle.reaction.specs.Reactions.{reactionOf}
 
--- r is the tree of the statement that lies there
-abbrev pub Resumed : (t : List ℕ) (d a : ℕ) (bs : List ℕ) (m e : ℕ) (r : Reaction) → Type 0
-Resumed t d a bs m e r = (base : ℕ) (p : Statement) → Lies t d base a bs p → r ≡ reactionOf (resumeTree base p m e)
+-- r is the tree of the statement that lies there, with the litres of the farm f
+abbrev pub Resumed : (t : List ℕ) (d a : ℕ) (bs : List ℕ) (m e f : ℕ) (r : Reaction) → Type 0
+Resumed t d a bs m e f r = (base : ℕ) (p : Statement) → Lies t d base a bs p → r ≡ reactionOf (resumeTree f base p m e)
 
 -- the expansion of a side of a parallel: it has ended where none of its pauses is active
 abbrev pub sideBy : (base : ℕ) → Statement → (m : ℕ) → Statement
 sideBy base p m = cond (empty m) nothing (expandBy base p m)
 
-abbrev pub ResumedSide : (t : List ℕ) (d a : ℕ) (bs : List ℕ) (m e : ℕ) (r : Reaction) → Type 0
-ResumedSide t d a bs m e r = (base : ℕ) (p : Statement) → Lies t d base a bs p → r ≡ reactionOf (startTree (sideBy base p m) e)
+abbrev pub ResumedSide : (t : List ℕ) (d a : ℕ) (bs : List ℕ) (m e f : ℕ) (r : Reaction) → Type 0
+ResumedSide t d a bs m e f r = (base : ℕ) (p : Statement) → Lies t d base a bs p → r ≡ reactionOf (startTree f (sideBy base p m) e)

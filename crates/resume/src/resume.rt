@@ -16,22 +16,23 @@ pub fn resume(
     at: usize,
     depth: u8,
     input: u32,
+    farm: u8,
     active: Labels,
     second: &Seconds,
 ) -> Reaction
     requires { ⌜ Ready (now second) depth at (now s) ⌝ }
-    ensures { λ r. ⌜ Resumed (now (second .entry)) depth at (now (s .entry)) (labelSet active) input r ⌝ }
+    ensures { λ r. ⌜ Resumed (now (second .entry)) depth at (now (s .entry)) (labelSet active) input farm r ⌝ }
 {
     let command = s[0];
     match command {
-        4 => seq_parts(s, at, depth, input, active, second),
-        5 => par_parts(s, at, depth, input, active, second),
-        6 => loop_part(s, at, depth, input, active, second),
-        7 => present_parts(s, at, depth, input, active, second),
-        8 => signal_rule(s, at, depth, input, active, second),
-        9 => try_part(s, at, depth, input, active, second),
-        11 => suspend_part(s, at, depth, input, active, second),
-        _ => reaction::ending(0),
+        4 => seq_parts(s, at, depth, input, farm, active, second),
+        5 => par_parts(s, at, depth, input, farm, active, second),
+        6 => loop_part(s, at, depth, input, farm, active, second),
+        7 => present_parts(s, at, depth, input, farm, active, second),
+        8 => signal_rule(s, at, depth, input, farm, active, second),
+        9 => try_part(s, at, depth, input, farm, active, second),
+        11 => suspend_part(s, at, depth, input, farm, active, second),
+        _ => reaction::ending(0, 0),
     }
 }
 
@@ -42,14 +43,15 @@ fn part(
     at: usize,
     depth: u8,
     input: u32,
+    farm: u8,
     active: Labels,
     second: &Seconds,
 ) -> Reaction
     requires { ⌜ n ≤ length (now s) ⌝ }
     requires { ⌜ Ready (now second) depth at (rest n (now s)) ⌝ }
-    ensures { λ r. ⌜ Resumed (now (second .entry)) depth at (rest n (now (s .entry))) (labelSet active) input r ⌝ }
+    ensures { λ r. ⌜ Resumed (now (second .entry)) depth at (rest n (now (s .entry))) (labelSet active) input farm r ⌝ }
 {
-    resume(&s[n..], at, depth, input, active, second)
+    resume(&s[n..], at, depth, input, farm, active, second)
 }
 
 fn seq_parts(
@@ -57,11 +59,12 @@ fn seq_parts(
     at: usize,
     depth: u8,
     input: u32,
+    farm: u8,
     active: Labels,
     second: &Seconds,
 ) -> Reaction
     requires { ⌜ Ready (now second) depth at (now s) × (getD (now s) 0 0 ≡ 4) ⌝ }
-    ensures { λ r. ⌜ Resumed (now (second .entry)) depth at (now (s .entry)) (labelSet active) input r ⌝ }
+    ensures { λ r. ⌜ Resumed (now (second .entry)) depth at (now (s .entry)) (labelSet active) input farm r ⌝ }
 {
     let entry = second[at];
     let m = (entry % layout::BEFORE_UNIT) as usize;
@@ -69,10 +72,10 @@ fn seq_parts(
     if labels::is_empty(first) {
         // the expansion is that of the second part
         let others = labels::from(active, entry / layout::BEFORE_UNIT);
-        return part(s, m - at, m, depth - 1, input, others, second);
+        return part(s, m - at, m, depth - 1, input, farm, others, second);
     }
-    let p = part(s, 1, at + 1, depth - 1, input, first, second);
-    react::react::after(p, s, m - at, m, depth - 1, input, second)
+    let p = part(s, 1, at + 1, depth - 1, input, farm, first, second);
+    react::react::after(p, s, m - at, m, depth - 1, input, farm, second)
 }
 
 // A side of a parallel, which begins at index n of s: it has ended where none of its pauses is active.
@@ -82,17 +85,18 @@ fn side(
     at: usize,
     depth: u8,
     input: u32,
+    farm: u8,
     active: Labels,
     second: &Seconds,
 ) -> Reaction
     requires { ⌜ n ≤ length (now s) ⌝ }
     requires { ⌜ Ready (now second) depth at (rest n (now s)) ⌝ }
-    ensures { λ r. ⌜ ResumedSide (now (second .entry)) depth at (rest n (now (s .entry))) (labelSet active) input r ⌝ }
+    ensures { λ r. ⌜ ResumedSide (now (second .entry)) depth at (rest n (now (s .entry))) (labelSet active) input farm r ⌝ }
 {
     if labels::is_empty(active) {
-        return reaction::ending(0);
+        return reaction::ending(0, 0);
     }
-    part(s, n, at, depth, input, active, second)
+    part(s, n, at, depth, input, farm, active, second)
 }
 
 fn par_parts(
@@ -100,18 +104,19 @@ fn par_parts(
     at: usize,
     depth: u8,
     input: u32,
+    farm: u8,
     active: Labels,
     second: &Seconds,
 ) -> Reaction
     requires { ⌜ Ready (now second) depth at (now s) × (getD (now s) 0 0 ≡ 5) ⌝ }
-    ensures { λ r. ⌜ Resumed (now (second .entry)) depth at (now (s .entry)) (labelSet active) input r ⌝ }
+    ensures { λ r. ⌜ Resumed (now (second .entry)) depth at (now (s .entry)) (labelSet active) input farm r ⌝ }
 {
     let entry = second[at];
     let m = (entry % layout::BEFORE_UNIT) as usize;
     let first = labels::below(active, entry / layout::BEFORE_UNIT);
-    let p = side(s, 1, at + 1, depth - 1, input, first, second);
+    let p = side(s, 1, at + 1, depth - 1, input, farm, first, second);
     let others = labels::from(active, entry / layout::BEFORE_UNIT);
-    let q = side(s, m - at, m, depth - 1, input, others, second);
+    let q = side(s, m - at, m, depth - 1, input, farm, others, second);
     rules::in_parallel(p, q)
 }
 
@@ -121,14 +126,15 @@ fn loop_part(
     at: usize,
     depth: u8,
     input: u32,
+    farm: u8,
     active: Labels,
     second: &Seconds,
 ) -> Reaction
     requires { ⌜ Ready (now second) depth at (now s) × (getD (now s) 0 0 ≡ 6) ⌝ }
-    ensures { λ r. ⌜ Resumed (now (second .entry)) depth at (now (s .entry)) (labelSet active) input r ⌝ }
+    ensures { λ r. ⌜ Resumed (now (second .entry)) depth at (now (s .entry)) (labelSet active) input farm r ⌝ }
 {
-    let p = part(s, 1, at + 1, depth - 1, input, active, second);
-    react::react::after(p, s, 0, at, depth, input, second)
+    let p = part(s, 1, at + 1, depth - 1, input, farm, active, second);
+    react::react::after(p, s, 0, at, depth, input, farm, second)
 }
 
 // Of a test the active branch goes on, whatever its signal is now.
@@ -137,20 +143,21 @@ fn present_parts(
     at: usize,
     depth: u8,
     input: u32,
+    farm: u8,
     active: Labels,
     second: &Seconds,
 ) -> Reaction
     requires { ⌜ Ready (now second) depth at (now s) × (getD (now s) 0 0 ≡ 7) ⌝ }
-    ensures { λ r. ⌜ Resumed (now (second .entry)) depth at (now (s .entry)) (labelSet active) input r ⌝ }
+    ensures { λ r. ⌜ Resumed (now (second .entry)) depth at (now (s .entry)) (labelSet active) input farm r ⌝ }
 {
     let entry = second[at];
     let first = labels::below(active, entry / layout::BEFORE_UNIT);
     if labels::is_empty(first) {
         let m = (entry % layout::BEFORE_UNIT) as usize;
         let others = labels::from(active, entry / layout::BEFORE_UNIT);
-        return part(s, m - at, m, depth - 1, input, others, second);
+        return part(s, m - at, m, depth - 1, input, farm, others, second);
     }
-    part(s, 2, at + 2, depth - 1, input, first, second)
+    part(s, 2, at + 2, depth - 1, input, farm, first, second)
 }
 
 // The body resumes without the signal, and with it where that run asked for the signal; else the second run would repeat the first.
@@ -159,21 +166,22 @@ fn signal_rule(
     at: usize,
     depth: u8,
     input: u32,
+    farm: u8,
     active: Labels,
     second: &Seconds,
 ) -> Reaction
     requires { ⌜ Ready (now second) depth at (now s) × (getD (now s) 0 0 ≡ 8) ⌝ }
-    ensures { λ r. ⌜ Resumed (now (second .entry)) depth at (now (s .entry)) (labelSet active) input r ⌝ }
+    ensures { λ r. ⌜ Resumed (now (second .entry)) depth at (now (s .entry)) (labelSet active) input farm r ⌝ }
 {
     let x = s[1];
     let without = signals::without(input, x);
     let with = signals::with(input, x);
-    let p = part(s, 2, at + 2, depth - 1, without, active, second);
+    let p = part(s, 2, at + 2, depth - 1, without, farm, active, second);
     if signals::member(p.asked, x) {
-        let q = part(s, 2, at + 2, depth - 1, with, active, second);
-        declarations::in_signal(at as u16, x, p, q)
+        let q = part(s, 2, at + 2, depth - 1, with, farm, active, second);
+        declarations::in_signal(at as u16, x, farm, p, q)
     } else {
-        declarations::in_signal_once(x, p)
+        declarations::in_signal_once(x, farm, p)
     }
 }
 
@@ -183,11 +191,12 @@ fn suspend_part(
     at: usize,
     depth: u8,
     input: u32,
+    farm: u8,
     active: Labels,
     second: &Seconds,
 ) -> Reaction
     requires { ⌜ Ready (now second) depth at (now s) × (getD (now s) 0 0 ≡ 11) ⌝ }
-    ensures { λ r. ⌜ Resumed (now (second .entry)) depth at (now (s .entry)) (labelSet active) input r ⌝ }
+    ensures { λ r. ⌜ Resumed (now (second .entry)) depth at (now (s .entry)) (labelSet active) input farm r ⌝ }
 {
     let x = s[1];
     let tested = signals::single(x);
@@ -195,7 +204,10 @@ fn suspend_part(
         let labels = active::of_part(s, 2, at + 2, depth - 1, active, second);
         reaction::waiting(labels, tested)
     } else {
-        reaction::around(part(s, 2, at + 2, depth - 1, input, active, second), tested)
+        reaction::around(
+            part(s, 2, at + 2, depth - 1, input, farm, active, second),
+            tested,
+        )
     }
 }
 
@@ -204,12 +216,13 @@ fn try_part(
     at: usize,
     depth: u8,
     input: u32,
+    farm: u8,
     active: Labels,
     second: &Seconds,
 ) -> Reaction
     requires { ⌜ Ready (now second) depth at (now s) × (getD (now s) 0 0 ≡ 9) ⌝ }
-    ensures { λ r. ⌜ Resumed (now (second .entry)) depth at (now (s .entry)) (labelSet active) input r ⌝ }
+    ensures { λ r. ⌜ Resumed (now (second .entry)) depth at (now (s .entry)) (labelSet active) input farm r ⌝ }
 {
-    let p = part(s, 1, at + 1, depth - 1, input, active, second);
+    let p = part(s, 1, at + 1, depth - 1, input, farm, active, second);
     rules::in_try(p)
 }

@@ -36,6 +36,7 @@ pub fn in_sequence(p: Reaction, q: Reaction) -> Reaction
             completion: l,
             taken: reaction::over_two(p.taken, q.taken),
             asked: signals::union(p.asked, q.asked),
+            delivered: reaction::together(p.delivered, q.delivered),
         }
     } else {
         reaction::around(p, 0)
@@ -55,6 +56,7 @@ pub fn in_parallel(p: Reaction, q: Reaction) -> Reaction
         completion: code,
         taken: reaction::over_two(p.taken, q.taken),
         asked: signals::union(p.asked, q.asked),
+        delivered: reaction::together(p.delivered, q.delivered),
     }
 }
 
@@ -82,5 +84,6 @@ pub fn in_try(p: Reaction) -> Reaction
         completion: completions::caught(k),
         taken: reaction::over_one(p.taken),
         asked: p.asked,
+        delivered: p.delivered,
     }
 }

@@ -4,6 +4,8 @@ use mathlib.Core.Path.{_≡_, refl}
 use mathlib.Core.List.{List, [], _∷_, _++_, map, flatten}
 use Prim.Native.Nat.{ℕ}
 use lib.ListN.{replicate}
+use lib.Ieee.{ofBits, ofFields, odd, inUnsigned, whole}
+use Rattle.numbers.specs.Bytes.{leNumber}
 use Rattle.esterel.specs.Sets.{member, none, only, join}
 use Rattle.esterel.specs.ReadBack.{membersFrom, declaredBy}
 use Rattle.esterel.specs.LabelTests.{subset, disjoint, labelsOf, everyLabel, distinct, before, wellFormed}
@@ -31,7 +33,7 @@ abbrev table : List (List ℕ × ℕ)
 table =
     -- the examples of the rows
     ([], 2)
-    ∷ (0x0C ∷ [], 3)
+    ∷ (0x0D ∷ [], 3)
     ∷ (0x02 ∷ [], 4)
     ∷ (0x02 ∷ 0x20 ∷ [], 5)
     ∷ (loops 64 (0x00 ∷ []), 6)
@@ -64,16 +66,32 @@ table =
     ∷ (loops 64 [], 4)
     ∷ (loops 65 [], 6)
     -- 3 to 6 in that order at one command
-    ∷ (loops 64 (0x0C ∷ []), 3)
+    ∷ (loops 64 (0x0D ∷ []), 3)
     ∷ (loops 64 (0x01 ∷ []), 4)
     ∷ (loops 64 (0x01 ∷ 0x80 ∷ []), 5)
     ∷ (loops 64 (0x01 ∷ 0x00 ∷ []), 6)
     ∷ (signals 7 [], 6)
     ∷ (0x07 ∷ 0x20 ∷ [], 5)
+    -- litres: 1, and 16,777,216 on the greatest signal
+    ∷ (0x0C ∷ 0x00 ∷ 0x00 ∷ 0x00 ∷ 0x80 ∷ 0x3F ∷ [], 0)
+    ∷ (0x0C ∷ 0x1F ∷ 0x00 ∷ 0x00 ∷ 0x80 ∷ 0x4B ∷ [], 0)
+    -- minus zero, 1.5, minus 1, 16,777,218, infinity, a NaN, the least of all
+    ∷ (0x0C ∷ 0x00 ∷ 0x00 ∷ 0x00 ∷ 0x00 ∷ 0x80 ∷ [], 18)
+    ∷ (0x0C ∷ 0x00 ∷ 0x00 ∷ 0x00 ∷ 0xC0 ∷ 0x3F ∷ [], 18)
+    ∷ (0x0C ∷ 0x00 ∷ 0x00 ∷ 0x00 ∷ 0x80 ∷ 0xBF ∷ [], 18)
+    ∷ (0x0C ∷ 0x00 ∷ 0x01 ∷ 0x00 ∷ 0x80 ∷ 0x4B ∷ [], 18)
+    ∷ (0x0C ∷ 0x00 ∷ 0x00 ∷ 0x00 ∷ 0x80 ∷ 0x7F ∷ [], 18)
+    ∷ (0x0C ∷ 0x00 ∷ 0x00 ∷ 0x00 ∷ 0xC0 ∷ 0x7F ∷ [], 18)
+    ∷ (0x0C ∷ 0x00 ∷ 0x01 ∷ 0x00 ∷ 0x00 ∷ 0x00 ∷ [], 18)
+    -- 4, 5, 18 and 6 in that order at one command
+    ∷ (0x0C ∷ 0x20 ∷ 0x00 ∷ 0x00 ∷ 0x00 ∷ [], 4)
+    ∷ (0x0C ∷ 0x20 ∷ 0x00 ∷ 0x00 ∷ 0x00 ∷ 0x80 ∷ [], 5)
+    ∷ (loops 64 (0x0C ∷ 0x00 ∷ 0x00 ∷ 0x00 ∷ 0x00 ∷ 0x80 ∷ []), 18)
+    ∷ (loops 64 (0x0C ∷ 0x00 ∷ 0x00 ∷ 0x00 ∷ 0x80 ∷ 0x3F ∷ []), 6)
     -- command by command from the left; what follows the statement is not read as commands; 2 before all
-    ∷ (0x04 ∷ 0x0C ∷ [], 3)
-    ∷ (0x00 ∷ 0x0C ∷ [], 7)
-    ∷ (replicate 1025 0x0C, 2)
+    ∷ (0x04 ∷ 0x0D ∷ [], 3)
+    ∷ (0x00 ∷ 0x0D ∷ [], 7)
+    ∷ (replicate 1025 0x0D, 2)
     ∷ []
 
 -- 02, item 5: with a read-back set. More than six signals, around nothing and around one; then the order of the checks: 3, 4 and 5
@@ -90,7 +108,7 @@ readBackTable =
     ∷ (0x05 ∷ signals 1 (0x00 ∷ []) ++ signals 2 (0x00 ∷ []), 0x0F, 0)
     ∷ (0x05 ∷ signals 1 (0x00 ∷ []) ++ signals 2 (0x00 ∷ []), 0x1F, 6)
     ∷ (loops 63 (0x00 ∷ []), 0x3F, 0)
-    ∷ (signals 1 (0x0C ∷ []), 0x3F, 3)
+    ∷ (signals 1 (0x0D ∷ []), 0x3F, 3)
     ∷ (signals 1 (0x02 ∷ []), 0x3F, 4)
     ∷ (signals 1 (0x02 ∷ 0x20 ∷ []), 0x3F, 5)
     ∷ (signals 7 [], 0x7F, 6)
@@ -102,5 +120,5 @@ readBackTable =
 -- THE TABLES
 pub examples : (map (λ (x : List ℕ × ℕ). checkOf (x .0) none) table ≡ map (λ (x : List ℕ × ℕ). x .1) table)
     × (map (λ (x : List ℕ × ℕ × ℕ). checkOf (x .0) (x .1)) readBackTable ≡ map (λ (x : List ℕ × ℕ × ℕ). x .2) readBackTable)
-unfolding checkOf checked read front commandOf nesting declaredBy membersFrom flatten distinct wellFormed everyLabel before labelsOf subset disjoint member none only join
+unfolding ofBits ofFields odd inUnsigned whole leNumber checkOf checked read front commandOf nesting declaredBy membersFrom flatten distinct wellFormed everyLabel before labelsOf subset disjoint member none only join
 examples = (refl, refl)

@@ -6,7 +6,7 @@ use native.Mathlib.Decide.{decLt}
 use mathlib.Core.Path.{_≡_, refl, sym, _∙_, subst}
 use mathlib.Core.List.{List, [], append-nil}
 use lib.ListN.{length-append}
-use Rattle.esterel.specs.Statement.{Statement, nothing, pause, emit, exit, seq, par, loop, present, signal, try, setpause, suspend, held}
+use Rattle.esterel.specs.Statement.{pure, litres, Statement, nothing, pause, emit, exit, seq, par, loop, present, signal, try, setpause, suspend, held}
 use Rattle.esterel.specs.Ceiling.{commands, loopNesting, nesting}
 use Rattle.limits.specs.Limits.{maxDepth, maxSignals}
 use Rattle.sequence.specs.Program.{program}
@@ -19,7 +19,8 @@ pub extent : (p : Statement) → Ranged p → (commands p ≤ size p) × (loopNe
 unfolding commands loopNesting bytesOf depthOf
 extent nothing h = (omega arith, omega arith)
 extent (pause l) h = (omega arith, omega arith)
-extent (emit s) h = (omega arith, omega arith)
+extent (emit s pure) h = (omega arith, omega arith)
+extent (emit s (litres n)) h = (omega arith, omega arith)
 extent (exit n) h = (omega arith, omega arith)
 extent (seq p q) h =
     let x = extent p (h .0) in

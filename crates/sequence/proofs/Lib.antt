@@ -1,3 +1,4 @@
+pub mod Amounts
 pub mod Table
 pub mod Front
 pub mod Inversion

@@ -8,7 +8,7 @@ use Rattle.sequence.proofs.Front.{Fronts, fronts}
 use Rattle.sequence.proofs.Inversion.{Stops, stops, Meets, meets}
 
 abbrev pub Small : ℕ → Type 0
-Small k = (1 ≤ k) × (k ≤ 6)
+Small k = (1 ≤ k) × (k ≤ 18)
 
 abbrev pub Rowed : Read → Type 0
 Rowed (accepted p n) = Unit {0}
@@ -19,6 +19,7 @@ small bs k (Fronts.empty e) = (omega arith, omega arith)
 small bs k (Fronts.unknown l h) = (omega arith, omega arith)
 small bs k (Fronts.short c l e h) = (omega arith, omega arith)
 small bs k (Fronts.outside c e l r) = (omega arith, omega arith)
+small bs k (Fronts.unfit c e l r i) = (omega arith, omega arith)
 
 pub front-small : (bs : List ℕ) (k : ℕ) → front bs ≡ bad k → Small k
 front-small bs k e = small bs k (fronts bs (bad k) e)

@@ -21,19 +21,33 @@ use Rattle.esterel.specs.Ceiling.{nesting}
 use Rattle.sequence.specs.Program.{program}
 use Rattle.sequence.specs.Writer.{Written}
 use Rattle.sequence.specs.Check.{Checked, sound, bad, labelRules, afterRead, checked, numberOf, checkOf}
-use Rattle.sequence.specs.Rows.{Slot, slot, Position, at, Fault, unknown, no-statement, no-operand, out-of-range, too-deep, too-many-signals, enter, next, walk, Spells, Row, row-2, row-3-to-6, row-6, row-7, row-8, row-9, row-10, ByRows}
+use Rattle.sequence.specs.Rows.{Slot, slot, Position, at, Fault, unknown, no-statement, no-operand, out-of-range, no-litres, too-deep, too-many-signals, enter, next, walk, Spells, Row, row-2, row-3-to-6, row-6, row-7, row-8, row-9, row-10, rank, ByRows}
 use Rattle.sequence.proofs.Walk.{faultOf, fault-is, Faulty, Comes, comes}
 use Rattle.sequence.proofs.Sound.{count-within}
 use Rattle.sequence.proofs.Writer.{reader-writer, reads-what-is-written}
-use Rattle.sequence.proofs.ByRows.{refused-by, accepted-by}
+use Rattle.sequence.proofs.ByRows.{rank-least, refused-by, accepted-by}
 
-fault-range : {bs : List ℕ} {s : Slot} {k : ℕ} → Fault bs s k → (3 ≤ k) × (k ≤ 6)
+fault-range : {bs : List ℕ} {s : Slot} {k : ℕ} → Fault bs s k → (3 ≤ k) × (k ≤ 18)
 fault-range (unknown h) = omega arith
 fault-range no-statement = omega arith
 fault-range (no-operand i o) = omega arith
 fault-range (out-of-range i o r) = omega arith
+fault-range (no-litres i o r f) = omega arith
 fault-range (too-deep f h) = omega arith
 fault-range (too-many-signals f h) = omega arith
+
+fault-rank : {bs : List ℕ} {s : Slot} {k : ℕ} → Fault bs s k → rank k ≤ 20
+fault-rank (unknown h) = omega arith
+fault-rank no-statement = omega arith
+fault-rank (no-operand i o) = omega arith
+fault-rank (out-of-range i o r) = omega arith
+fault-rank (no-litres i o r f) = omega arith
+fault-rank (too-deep f h) = omega arith
+fault-rank (too-many-signals f h) = omega arith
+
+-- row k is not before j
+late : (m k j : ℕ) → rank m < rank j → m ≡ k → rank j ≤ rank k → ⊥
+late m k j l e h = let z : rank m ≡ rank k = ap rank e in omega (arith, l, z, h)
 
 module _ (bs : List ℕ) where
   -- ---- reading from the left ends once
@@ -118,11 +132,21 @@ module _ (bs : List ℕ) where
       let f : accepted q m ≡ accepted p n = sym (reader-writer maxDepth maxSignals 0 bs q m .1 w) ∙ e in
       cc
 
+  -- bytes that begin with a statement have no fault: each of rows 6 (by read-back) to 10 asks for one
+  no-fault : (p : Statement) (m k : ℕ) → read maxDepth maxSignals 0 bs ≡ accepted p m → Faulty bs k → ⊥
+  unfolding walk
+  no-fault p m k e x =
+      let c : Comes bs 0 [] (accepted p m) = subst (Comes bs 0 []) e (comes bs maxDepth 0 maxSignals 0 0 0 [] refl refl refl) in
+      fault-or-end (x .commands) (c .0) (x .offset) (0 + m) k (x .awaiting) (x .awaited) (x .met) (x .fault) (c .1)
+
+  unspelled : (p : Statement) (k : ℕ) → Spells bs p → Faulty bs k → ⊥
+  unspelled p k s = no-fault p (length bs) k (reads-what-is-written bs p .1 s)
+
 module _ (bs : List ℕ) (readBack : ℕ) where
   -- ---- which rows the reader's answer leaves
-  -- n is given: its row holds, and no row of a smaller number
+  -- n is given: its row holds, and no row before it
   abbrev pub Given : ℕ → Type 0
-  Given n = Row bs readBack n × ((m : ℕ) → m < n → ¬ Row bs readBack m)
+  Given n = Row bs readBack n × ((m : ℕ) → rank m < rank n → ¬ Row bs readBack m)
 
   abbrev pub Sized : Type 0
   Sized = (1 ≤ length bs) × (length bs ≤ maxBytes)
@@ -135,9 +159,9 @@ module _ (bs : List ℕ) (readBack : ℕ) where
       go (yes x) (no y) = absurd (h (x, omega arith))
       go (no x) y = inl (omega arith)
 
-      none-below : (m : ℕ) → m < 2 → ¬ Row bs readBack m
+      none-below : (m : ℕ) → rank m < rank 2 → ¬ Row bs readBack m
       none-below m l (row-2 x) = omega arith
-      none-below m l (row-3-to-6 n h f) = omega (arith, fault-range f)
+      none-below m l (row-3-to-6 n h f) = omega (arith, rank-least 3 m (fault-range f .0) (omega arith))
       none-below m l (row-6 w x) = omega arith
       none-below m l (row-7 n h x) = omega arith
       none-below m l (row-8 s x) = omega arith
@@ -151,15 +175,17 @@ module _ (bs : List ℕ) (readBack : ℕ) where
   given-fault : Sized → (k : ℕ) → Faulty bs k → Given k
   given-fault z k x = (row-3-to-6 (x .commands) (x .met) (x .fault), none-below)
     where
-      none-below : (m : ℕ) → m < k → ¬ Row bs readBack m
+      none-below : (m : ℕ) → rank m < rank k → ¬ Row bs readBack m
       none-below m l (row-2 y) = not-2 z y
       none-below m l (row-3-to-6 n {a = a} {s = s} {awaited = w} h f) =
-          omega (arith, one-fault bs n (x .commands) a (x .offset) m k s (x .awaiting) w (x .awaited) h f (x .met) (x .fault))
-      none-below m l (row-6 w y) = omega (arith, fault-range (x .fault))
-      none-below m l (row-7 n h y) = omega (arith, fault-range (x .fault))
-      none-below m l (row-8 s y) = omega (arith, fault-range (x .fault))
-      none-below m l (row-9 s y) = omega (arith, fault-range (x .fault))
-      none-below m l (row-10 s y) = omega (arith, fault-range (x .fault))
+          let e : rank m ≡ rank k = ap rank (one-fault bs n (x .commands) a (x .offset) m k s (x .awaiting) w (x .awaited) h f (x .met) (x .fault)) in
+          omega (arith, e, l)
+      none-below m l (row-6 {p = p} {n = j} w y) = no-fault bs p j k (reader-writer maxDepth maxSignals 0 bs p j .1 w) x
+      none-below m l (row-7 n {a = a} h y) =
+          fault-or-end bs (x .commands) n (x .offset) a k (x .awaiting) (x .awaited) (x .met) (x .fault) h
+      none-below m l (row-8 {p = p} s y) = unspelled bs p k s x
+      none-below m l (row-9 {p = p} s y) = unspelled bs p k s x
+      none-below m l (row-10 {p = p} s y) = unspelled bs p k s x
 
   -- the declarations make the nesting of signals exceed six
   abbrev Crowded : Statement → Type 0
@@ -168,7 +194,7 @@ module _ (bs : List ℕ) (readBack : ℕ) where
   given-6 : Sized → (p : Statement) (m n a : ℕ) → read maxDepth maxSignals 0 bs ≡ accepted p m → walk n bs ≡ some (at a []) → Crowded p → Given 6
   given-6 z p j n a e h c = (row-6 (reader-writer maxDepth maxSignals 0 bs p j .0 e) c, none-below)
     where
-      none-below : (m : ℕ) → m < 6 → ¬ Row bs readBack m
+      none-below : (m : ℕ) → rank m < rank 6 → ¬ Row bs readBack m
       none-below m l (row-2 y) = not-2 z y
       none-below m l (row-3-to-6 k {a = b} {s = s} {awaited = w} i f) = fault-or-end bs k n b a m s w i f h
       none-below m l (row-6 w y) = omega arith
@@ -181,7 +207,7 @@ module _ (bs : List ℕ) (readBack : ℕ) where
       → walk n bs ≡ some (at a []) → a < length bs → Given 7
   given-7 z p j n a e c h i = (row-7 n h i, none-below)
     where
-      none-below : (m : ℕ) → m < 7 → ¬ Row bs readBack m
+      none-below : (m : ℕ) → rank m < rank 7 → ¬ Row bs readBack m
       none-below m l (row-2 y) = not-2 z y
       none-below m l (row-3-to-6 k {a = b} {s = s} {awaited = w} g f) = fault-or-end bs k n b a m s w g f h
       none-below m l (row-6 {p = q} w y) = c (subst Crowded (one-statement bs p q j _ e w) y)
@@ -214,26 +240,26 @@ module _ (bs : List ℕ) (readBack : ℕ) where
     given-8 : ¬ Distinct p → Given 8
     given-8 x = (row-8 spelled x, λ m l r. go m l (remaining m r))
       where
-        go : (m : ℕ) → m < 8 → ((m ≡ 8) × ¬ Distinct p) ⊎ (((m ≡ 9) × ¬ Targeted p) ⊎ ((m ≡ 10) × ¬ WellFormed p)) → ⊥
-        go m l (inl e) = omega arith
-        go m l (inr (inl e)) = omega arith
-        go m l (inr (inr e)) = omega arith
+        go : (m : ℕ) → rank m < rank 8 → ((m ≡ 8) × ¬ Distinct p) ⊎ (((m ≡ 9) × ¬ Targeted p) ⊎ ((m ≡ 10) × ¬ WellFormed p)) → ⊥
+        go m l (inl e) = late m 8 8 l (e .0) (omega arith)
+        go m l (inr (inl e)) = late m 9 8 l (e .0) (omega arith)
+        go m l (inr (inr e)) = late m 10 8 l (e .0) (omega arith)
 
     given-9 : Distinct p → ¬ Targeted p → Given 9
     given-9 d x = (row-9 spelled x, λ m l r. go m l (remaining m r))
       where
-        go : (m : ℕ) → m < 9 → ((m ≡ 8) × ¬ Distinct p) ⊎ (((m ≡ 9) × ¬ Targeted p) ⊎ ((m ≡ 10) × ¬ WellFormed p)) → ⊥
+        go : (m : ℕ) → rank m < rank 9 → ((m ≡ 8) × ¬ Distinct p) ⊎ (((m ≡ 9) × ¬ Targeted p) ⊎ ((m ≡ 10) × ¬ WellFormed p)) → ⊥
         go m l (inl e) = e .1 d
-        go m l (inr (inl e)) = omega arith
-        go m l (inr (inr e)) = omega arith
+        go m l (inr (inl e)) = late m 9 9 l (e .0) (omega arith)
+        go m l (inr (inr e)) = late m 10 9 l (e .0) (omega arith)
 
     given-10 : Distinct p → Targeted p → ¬ WellFormed p → Given 10
     given-10 d t x = (row-10 spelled x, λ m l r. go m l (remaining m r))
       where
-        go : (m : ℕ) → m < 10 → ((m ≡ 8) × ¬ Distinct p) ⊎ (((m ≡ 9) × ¬ Targeted p) ⊎ ((m ≡ 10) × ¬ WellFormed p)) → ⊥
+        go : (m : ℕ) → rank m < rank 10 → ((m ≡ 8) × ¬ Distinct p) ⊎ (((m ≡ 9) × ¬ Targeted p) ⊎ ((m ≡ 10) × ¬ WellFormed p)) → ⊥
         go m l (inl e) = e .1 d
         go m l (inr (inl e)) = e .1 t
-        go m l (inr (inr e)) = omega arith
+        go m l (inr (inr e)) = late m 10 10 l (e .0) (omega arith)
 
     given-none : Distinct p → Targeted p → WellFormed p → (m : ℕ) → ¬ Row bs readBack m
     given-none d t f m r = go (remaining m r)
@@ -297,7 +323,7 @@ module _ (bs : List ℕ) (readBack : ℕ) where
       go true false i j = given-2 (λ z. true≢false (sym (le-leb (length bs) maxBytes (z .1)) ∙ j))
       go false c i j = given-2 (λ z. true≢false (sym (le-leb 1 (length bs) (z .0)) ∙ i))
 
-  pub row-range : (k : ℕ) → Row bs readBack k → (2 ≤ k) × (k ≤ 10)
+  pub row-range : (k : ℕ) → Row bs readBack k → (2 ≤ k) × (k ≤ 18)
   row-range k (row-2 x) = omega arith
   row-range k (row-3-to-6 n h f) = omega (arith, fault-range f)
   row-range k (row-6 w x) = omega arith
@@ -305,6 +331,16 @@ module _ (bs : List ℕ) (readBack : ℕ) where
   row-range k (row-8 s x) = omega arith
   row-range k (row-9 s x) = omega arith
   row-range k (row-10 s x) = omega arith
+
+  -- before rows 11 and 12
+  pub row-rank : (k : ℕ) → Row bs readBack k → rank k ≤ 20
+  row-rank k (row-2 x) = omega arith
+  row-rank k (row-3-to-6 n h f) = fault-rank f
+  row-rank k (row-6 w x) = omega arith
+  row-rank k (row-7 n h x) = omega arith
+  row-rank k (row-8 s x) = omega arith
+  row-rank k (row-9 s x) = omega arith
+  row-rank k (row-10 s x) = omega arith
 
   -- CHECK: the number goes by rows 2 to 10
   pub check-by-rows : ByRows (checkOf bs readBack) (Row bs readBack)

@@ -8,12 +8,14 @@ use lib.ListN.{length, getD, drop, length-append}
 use lib.Seq.{drop-at, drop-drop}
 use lib.Dec.{leb}
 use borrow.Author.Tests.{ltb-true, leb-true}
-use Rattle.esterel.specs.Statement.{local, Statement, nothing, pause, emit, exit, seq, par, loop, present, signal, try, setpause, suspend}
+use Rattle.esterel.specs.Statement.{local, pure, litres, Statement, nothing, pause, emit, exit, seq, par, loop, present, signal, try, setpause, suspend}
 use Rattle.limits.specs.Limits.{labelCount, signalCount, maxExit}
-use Rattle.sequence.specs.Commands.{Command, partCount, operandsOf, inRange, width, declares, build}
+use Rattle.sequence.specs.Commands.{Command, partCount, bytesAt, operandsOf, inRange, litresFit, width, declares, build}
 use Rattle.sequence.specs.Reader.{accepted, read}
 use Rattle.esterel.specs.Ceiling.{nesting}
 use Rattle.sequence.specs.Writer.{bytesOf, depthOf, Ranged, PlacedAt, Written}
+use Rattle.sequence.specs.Amounts.{amountIn}
+use Rattle.sequence.proofs.Amounts.{amount-read}
 use Rattle.sequence.proofs.Table.{byteOf, leaves, ones, twos}
 use Rattle.sequence.proofs.Front.{Fronted, own-bytes}
 use Rattle.sequence.proofs.Inversion.{Meets, met, no-level}
@@ -71,10 +73,10 @@ module _ (d g a : ℕ) (h bs : List ℕ) (are : bs ≡ h ++ drop (length h) bs) 
 module _ (d g a : ℕ) (bs : List ℕ) where
   -- the command c stands at the front of the bytes
   abbrev Stands : Command → Type 0
-  Stands c = (inRange c (operandsOf c bs) ≡ true) × (bs ≡ byteOf c ∷ operandsOf c bs ++ drop (width c) bs)
+  Stands c = (inRange c (operandsOf c bs) ≡ true) × (litresFit c (operandsOf c bs) ≡ true) × (bs ≡ byteOf c ∷ operandsOf c bs ++ drop (width c) bs)
 
   stands : (c : Command) (xs : List ℕ) → Fronted bs c xs → Stands c
-  stands c xs f = (ap (inRange c) (sym (f .operands)) ∙ f .ranged, own-bytes bs c xs f)
+  stands c xs f = (ap (inRange c) (sym (f .operands)) ∙ f .ranged, ap (litresFit c) (sym (f .operands)) ∙ f .fit, own-bytes bs c xs f)
 
   abbrev x : ℕ
   x = getD bs 1 0
@@ -97,27 +99,31 @@ module _ (d g a : ℕ) (bs : List ℕ) where
   unfolding bytesOf depthOf nesting
   sound-leaf =
       leaves LeafSound
-      (λ s. leaf-sound d g a (0 ∷ []) bs (s .1) nothing refl refl refl tt tt)
-      (λ s. leaf-sound d g a (1 ∷ x ∷ []) bs (s .1) (pause x) refl refl refl (ltb-true x labelCount (s .0)) tt)
-      (λ s. leaf-sound d g a (2 ∷ x ∷ []) bs (s .1) (emit x) refl refl refl (ltb-true x signalCount (s .0)) tt)
+      (λ s. leaf-sound d g a (0 ∷ []) bs (s .2) nothing refl refl refl tt tt)
+      (λ s. leaf-sound d g a (1 ∷ x ∷ []) bs (s .2) (pause x) refl refl refl (ltb-true x labelCount (s .0)) tt)
+      (λ s. leaf-sound d g a (2 ∷ x ∷ []) bs (s .2) (emit x pure) refl refl refl (ltb-true x signalCount (s .0), omega arith) tt)
       (λ s. let r = and-eq-true-iff (leb 1 x) (leb x maxExit) .0 (s .0) in
-      leaf-sound d g a (3 ∷ x ∷ []) bs (s .1) (exit x) refl refl refl (leb-true 1 x (r .0), leb-true x maxExit (r .1)) tt)
-      (λ s. leaf-sound d g a (10 ∷ x ∷ []) bs (s .1) (setpause x) refl refl refl (ltb-true x labelCount (s .0)) tt)
+      leaf-sound d g a (3 ∷ x ∷ []) bs (s .2) (exit x) refl refl refl (leb-true 1 x (r .0), leb-true x maxExit (r .1)) tt)
+      (λ s. leaf-sound d g a (10 ∷ x ∷ []) bs (s .2) (setpause x) refl refl refl (ltb-true x labelCount (s .0)) tt)
+      (λ s. let xs : List ℕ = bytesAt 2 4 bs in
+      let r = amount-read xs refl (s .1) in
+      leaf-sound d g a (12 ∷ x ∷ xs) bs (s .2) (emit x (litres (amountIn xs))) (ap (λ (l : List ℕ). 12 ∷ x ∷ l) (r .1)) refl refl
+      (ltb-true x signalCount (s .0), r .0) tt)
 
   sound-one : (c : Command) → partCount c ≡ 1 → OneSound c
   sound-one =
       ones OneSound
-      (λ s l. one-sound d g a (6 ∷ []) bs (s .1) 0 (loop a) (loop-shape a) l)
-      (λ s l. one-sound d g a (8 ∷ x ∷ []) bs (s .1) 1 (signal local a x) (signal-shape a x (ltb-true x signalCount (s .0))) l)
-      (λ s l. one-sound d g a (9 ∷ []) bs (s .1) 0 try (try-shape a) l)
-      (λ s l. one-sound d g a (11 ∷ x ∷ []) bs (s .1) 0 (suspend x) (suspend-shape a x (ltb-true x signalCount (s .0))) l)
+      (λ s l. one-sound d g a (6 ∷ []) bs (s .2) 0 (loop a) (loop-shape a) l)
+      (λ s l. one-sound d g a (8 ∷ x ∷ []) bs (s .2) 1 (signal local a x) (signal-shape a x (ltb-true x signalCount (s .0))) l)
+      (λ s l. one-sound d g a (9 ∷ []) bs (s .2) 0 try (try-shape a) l)
+      (λ s l. one-sound d g a (11 ∷ x ∷ []) bs (s .2) 0 (suspend x) (suspend-shape a x (ltb-true x signalCount (s .0))) l)
 
   sound-two : (c : Command) → partCount c ≡ 2 → TwoSound c
   sound-two =
       twos TwoSound
-      (λ s. two-sound d g a (4 ∷ []) bs (s .1) seq (seq-shape a))
-      (λ s. two-sound d g a (5 ∷ []) bs (s .1) par (par-shape a))
-      (λ s. two-sound d g a (7 ∷ x ∷ []) bs (s .1) (present x) (present-shape a x (ltb-true x signalCount (s .0))))
+      (λ s. two-sound d g a (4 ∷ []) bs (s .2) seq (seq-shape a))
+      (λ s. two-sound d g a (5 ∷ []) bs (s .2) par (par-shape a))
+      (λ s. two-sound d g a (7 ∷ x ∷ []) bs (s .2) (present x) (present-shape a x (ltb-true x signalCount (s .0))))
 
 -- ---- accepted, so written
 module _ (d : ℕ) (ih : (g a : ℕ) (bs : List ℕ) (p : Statement) (n : ℕ) → read d g a bs ≡ accepted p n → Written d g a bs p n) where

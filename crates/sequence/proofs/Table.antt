@@ -8,7 +8,7 @@ use lib.ListN.{List·getD-eq-default}
 use native.Mathlib.Decide.{decLt}
 use native.Mathlib.Omega.{arith}
 use Rattle.limits.specs.Limits.{lastCommand}
-use Rattle.sequence.specs.Commands.{Command, table, commandOf, operandCount, partCount, inRange, declares}
+use Rattle.sequence.specs.Commands.{Command, table, commandOf, operandCount, partCount, inRange, litresFit, declares}
 
 -- P holds of the n numbers from k on
 abbrev pub All : (ℕ → Type 0) → (k n : ℕ) → Type 0
@@ -32,7 +32,7 @@ above b h = List·getD-eq-default table none {n = b} (omega arith)
 pub named : (b : ℕ) → b ≤ lastCommand → (c : Command) × (commandOf b ≡ some c)
 unfolding commandOf
 named b l =
-    between (λ (b : ℕ). (c : Command) × (commandOf b ≡ some c)) 0 12 (
+    between (λ (b : ℕ). (c : Command) × (commandOf b ≡ some c)) 0 13 (
       (Command.nothing, refl),
       (
         (Command.pause, refl),
@@ -44,7 +44,7 @@ named b l =
               (Command.seq, refl),
               (
                 (Command.par, refl),
-                ((Command.loop, refl), ((Command.present, refl), ((Command.signal, refl), ((Command.try, refl), ((Command.setpause, refl), ((Command.suspend, refl), tt)))))),
+                ((Command.loop, refl), ((Command.present, refl), ((Command.signal, refl), ((Command.try, refl), ((Command.setpause, refl), ((Command.suspend, refl), ((Command.deliver, refl), tt))))))),
               ),
             ),
           ),
@@ -73,6 +73,7 @@ byteOf Command.signal = 8
 byteOf Command.try = 9
 byteOf Command.setpause = 10
 byteOf Command.suspend = 11
+byteOf Command.deliver = 12
 
 pub command-of-byte : (c : Command) → commandOf (byteOf c) ≡ some c
 unfolding commandOf
@@ -88,6 +89,7 @@ command-of-byte Command.signal = refl
 command-of-byte Command.try = refl
 command-of-byte Command.setpause = refl
 command-of-byte Command.suspend = refl
+command-of-byte Command.deliver = refl
 
 -- f at the command that a byte names
 pub valued : (f : Command → ℕ) {k : Command} (c : Command) → some k ≡ some c → f k ≡ f c
@@ -108,8 +110,8 @@ by-bytes P k n a b c e l h = between (λ (b : ℕ). (c : Command) → commandOf 
 pub byte-is : (b : ℕ) (c : Command) → commandOf b ≡ some c → b ≡ byteOf c
 unfolding commandOf
 byte-is b c e =
-    by-bytes (λ (b : ℕ) (c : Command). b ≡ byteOf c) 0 12
-    (is, (is, (is, (is, (is, (is, (is, (is, (is, (is, (is, (is, tt))))))))))))
+    by-bytes (λ (b : ℕ) (c : Command). b ≡ byteOf c) 0 13
+    (is, (is, (is, (is, (is, (is, (is, (is, (is, (is, (is, (is, (is, tt)))))))))))))
     b c e (omega arith) (omega (arith, last-byte b c e))
   where
     is : {k : Command} (c : Command) → some k ≡ some c → byteOf k ≡ byteOf c
@@ -121,19 +123,20 @@ command-at b c d e z = let h : some c ≡ some d = sym e ∙ ap commandOf z ∙ 
 
 -- ---- what is shown of the commands without parts, with one and with two
 module _ (P : Command → Type 0) where
-  pub leaves : P Command.nothing → P Command.pause → P Command.emit → P Command.exit → P Command.setpause → (c : Command) → partCount c ≡ 0 → P c
-  leaves n p e x s Command.nothing z = n
-  leaves n p e x s Command.pause z = p
-  leaves n p e x s Command.emit z = e
-  leaves n p e x s Command.exit z = x
-  leaves n p e x s Command.seq z = absurd (omega arith)
-  leaves n p e x s Command.par z = absurd (omega arith)
-  leaves n p e x s Command.loop z = absurd (omega arith)
-  leaves n p e x s Command.present z = absurd (omega arith)
-  leaves n p e x s Command.signal z = absurd (omega arith)
-  leaves n p e x s Command.try z = absurd (omega arith)
-  leaves n p e x s Command.setpause z = s
-  leaves n p e x s Command.suspend z = absurd (omega arith)
+  pub leaves : P Command.nothing → P Command.pause → P Command.emit → P Command.exit → P Command.setpause → P Command.deliver → (c : Command) → partCount c ≡ 0 → P c
+  leaves n p e x s v Command.nothing z = n
+  leaves n p e x s v Command.pause z = p
+  leaves n p e x s v Command.emit z = e
+  leaves n p e x s v Command.exit z = x
+  leaves n p e x s v Command.seq z = absurd (omega arith)
+  leaves n p e x s v Command.par z = absurd (omega arith)
+  leaves n p e x s v Command.loop z = absurd (omega arith)
+  leaves n p e x s v Command.present z = absurd (omega arith)
+  leaves n p e x s v Command.signal z = absurd (omega arith)
+  leaves n p e x s v Command.try z = absurd (omega arith)
+  leaves n p e x s v Command.setpause z = s
+  leaves n p e x s v Command.suspend z = absurd (omega arith)
+  leaves n p e x s v Command.deliver z = v
 
   pub ones : P Command.loop → P Command.signal → P Command.try → P Command.suspend → (c : Command) → partCount c ≡ 1 → P c
   ones l s t f Command.nothing z = absurd (omega arith)
@@ -148,6 +151,7 @@ module _ (P : Command → Type 0) where
   ones l s t f Command.try z = t
   ones l s t f Command.setpause z = absurd (omega arith)
   ones l s t f Command.suspend z = f
+  ones l s t f Command.deliver z = absurd (omega arith)
 
   pub twos : P Command.seq → P Command.par → P Command.present → (c : Command) → partCount c ≡ 2 → P c
   twos s p t Command.nothing z = absurd (omega arith)
@@ -162,9 +166,10 @@ module _ (P : Command → Type 0) where
   twos s p t Command.try z = absurd (omega arith)
   twos s p t Command.setpause z = absurd (omega arith)
   twos s p t Command.suspend z = absurd (omega arith)
+  twos s p t Command.deliver z = absurd (omega arith)
 
 -- ---- the counts of operand bytes and parts
-counts : (c : Command) → (operandCount c ≤ 1) × (partCount c ≤ 2)
+counts : (c : Command) → (operandCount c ≤ 5) × (partCount c ≤ 2)
 counts Command.nothing = omega arith
 counts Command.pause = omega arith
 counts Command.emit = omega arith
@@ -177,9 +182,10 @@ counts Command.signal = omega arith
 counts Command.try = omega arith
 counts Command.setpause = omega arith
 counts Command.suspend = omega arith
+counts Command.deliver = omega arith
 
-pub at-most-one : (c : Command) → operandCount c ≤ 1
-at-most-one c = counts c .0
+pub at-most-five : (c : Command) → operandCount c ≤ 5
+at-most-five c = counts c .0
 
 pub at-most-two : (c : Command) → partCount c ≤ 2
 at-most-two c = counts c .1
@@ -198,6 +204,23 @@ free Command.signal xs e = absurd (omega arith)
 free Command.try xs e = refl
 free Command.setpause xs e = absurd (omega arith)
 free Command.suspend xs e = absurd (omega arith)
+free Command.deliver xs e = absurd (omega arith)
+
+-- a command of at most one operand byte has no litres
+pub no-amount : (c : Command) (xs : List ℕ) → operandCount c ≤ 1 → litresFit c xs ≡ true
+no-amount Command.nothing xs e = refl
+no-amount Command.pause xs e = refl
+no-amount Command.emit xs e = refl
+no-amount Command.exit xs e = refl
+no-amount Command.seq xs e = refl
+no-amount Command.par xs e = refl
+no-amount Command.loop xs e = refl
+no-amount Command.present xs e = refl
+no-amount Command.signal xs e = refl
+no-amount Command.try xs e = refl
+no-amount Command.setpause xs e = refl
+no-amount Command.suspend xs e = refl
+no-amount Command.deliver xs e = absurd (omega arith)
 
 -- a signal alone declares one
 pub undeclared : (c : Command) → (byteOf c ≡ 8 → ⊥) → declares c ≡ 0
@@ -213,3 +236,20 @@ undeclared Command.signal n = absurd (n refl)
 undeclared Command.try n = refl
 undeclared Command.setpause n = refl
 undeclared Command.suspend n = refl
+undeclared Command.deliver n = refl
+
+-- only 0C has more than one operand byte
+pub many : (c : Command) → 2 ≤ operandCount c → c ≡ Command.deliver
+many Command.nothing h = absurd (omega arith)
+many Command.pause h = absurd (omega arith)
+many Command.emit h = absurd (omega arith)
+many Command.exit h = absurd (omega arith)
+many Command.seq h = absurd (omega arith)
+many Command.par h = absurd (omega arith)
+many Command.loop h = absurd (omega arith)
+many Command.present h = absurd (omega arith)
+many Command.signal h = absurd (omega arith)
+many Command.try h = absurd (omega arith)
+many Command.setpause h = absurd (omega arith)
+many Command.suspend h = absurd (omega arith)
+many Command.deliver h = refl

@@ -14,7 +14,7 @@ use Rattle.esterel.specs.Statement.{Statement}
 use Rattle.limits.specs.Limits.{maxDepth, maxSignals}
 use Rattle.sequence.specs.Commands.{Command, partCount, width, declares}
 use Rattle.sequence.specs.Reader.{Read, accepted, refused, Front, command, bad, front, read}
-use Rattle.sequence.specs.Rows.{Slot, slot, at, Fault, unknown, no-statement, no-operand, out-of-range, too-deep, too-many-signals, walk}
+use Rattle.sequence.specs.Rows.{Slot, slot, at, Fault, unknown, no-statement, no-operand, out-of-range, no-litres, too-deep, too-many-signals, walk}
 use Rattle.sequence.proofs.Front.{Fronts, fronts, front-is}
 use Rattle.sequence.proofs.Inversion.{Stops, stops, Allowed, Meets, meets}
 
@@ -29,10 +29,12 @@ fronts-fault s [] k (Fronts.empty e) = no-statement
 fronts-fault s [] k (Fronts.unknown l h) = absurd (omega arith)
 fronts-fault s [] k (Fronts.short c l e h) = absurd (omega arith)
 fronts-fault s [] k (Fronts.outside c e l r) = absurd (omega arith)
+fronts-fault s [] k (Fronts.unfit c e l r i) = absurd (omega arith)
 fronts-fault s (b ∷ bs) k (Fronts.empty e) = absurd (omega arith)
 fronts-fault s (b ∷ bs) k (Fronts.unknown l h) = unknown h
 fronts-fault s (b ∷ bs) k (Fronts.short c l e h) = no-operand {bs = bs} e (omega arith)
 fronts-fault s (b ∷ bs) k (Fronts.outside c e l r) = out-of-range {bs = bs} e (omega arith) r
+fronts-fault s (b ∷ bs) k (Fronts.unfit c e l r i) = no-litres {bs = bs} e (omega arith) r i
 
 front-fault : (s : Slot) (bs : List ℕ) (k : ℕ) → front bs ≡ bad k → Fault bs s k
 front-fault s bs k e = fronts-fault s bs k (fronts bs (bad k) e)
@@ -63,6 +65,8 @@ fault-to {s = slot d g} {bs = bs} (no-operand {c = c} e l) =
     ap (faultOf (slot d g)) (front-is bs _ (Fronts.short c (omega arith) e (omega arith)))
 fault-to {s = slot d g} {bs = bs} (out-of-range {c = c} e l r) =
     ap (faultOf (slot d g)) (front-is bs _ (Fronts.outside c e (omega arith) r))
+fault-to {s = slot d g} {bs = bs} (no-litres {c = c} e l r i) =
+    ap (faultOf (slot d g)) (front-is bs _ (Fronts.unfit c e (omega arith) r i))
 fault-to (too-deep {d = d} f h) = rw (f, le-ltb d maxDepth h)
 fault-to (too-many-signals {d = d} {g = g} {c = c} f h) = rw (f, lt-leb (g + declares c) maxSignals h) (go (ltb d maxDepth))
   where

@@ -3,15 +3,16 @@ use Prim.Native.Nat.{ℕ, zero, suc, _+_}
 use mathlib.Core.Bool.{Bool, true, _&&_}
 use mathlib.Core.Option.{Option, none, some}
 use mathlib.Core.List.{List, [], _∷_}
-use lib.ListN.{getD}
+use lib.ListN.{getD, drop}
 use lib.Dec.{leb, ltb}
-use Rattle.esterel.specs.Statement.{local, Statement}
+use Rattle.esterel.specs.Statement.{local, pure, litres, Statement}
 use Rattle.limits.specs.Limits.{labelCount, signalCount, maxExit}
+use Rattle.sequence.specs.Amounts.{amountSize, isAmount, amountIn}
 
 pub data Command : Type 0 where
-  nothing pause emit exit seq par loop present signal try setpause suspend : Command
+  nothing pause emit exit seq par loop present signal try setpause suspend deliver : Command
 
--- the commands of the bytes 00 to 0A, in the order of 01's table, and 02's 0B
+-- the commands of the bytes 00 to 0A, in the order of 01's table, and 02's 0B and 0C
 abbrev pub table : List (Option Command)
 table =
     some Command.nothing
@@ -26,6 +27,7 @@ table =
     ∷ some Command.try
     ∷ some Command.setpause
     ∷ some Command.suspend
+    ∷ some Command.deliver
     ∷ []
 
 -- no command above
@@ -46,6 +48,7 @@ operandCount signal = 1
 operandCount try = 0
 operandCount setpause = 1
 operandCount suspend = 1
+operandCount deliver = 1 + amountSize
 
 abbrev pub partCount : Command → ℕ
 partCount nothing = 0
@@ -60,6 +63,7 @@ partCount signal = 1
 partCount try = 1
 partCount setpause = 0
 partCount suspend = 1
+partCount deliver = 0
 
 -- the n bytes at offset i
 abbrev pub bytesAt : (i n : ℕ) → List ℕ → List ℕ
@@ -88,6 +92,23 @@ inRange signal xs = ltb (firstOperand xs) signalCount
 inRange try xs = true
 inRange setpause xs = ltb (firstOperand xs) labelCount
 inRange suspend xs = ltb (firstOperand xs) signalCount
+inRange deliver xs = ltb (firstOperand xs) signalCount
+
+-- 02, item 12: do the operand bytes behind the signal hold litres that an emission can carry?
+abbrev pub litresFit : Command → List ℕ → Bool
+litresFit nothing xs = true
+litresFit pause xs = true
+litresFit emit xs = true
+litresFit exit xs = true
+litresFit seq xs = true
+litresFit par xs = true
+litresFit loop xs = true
+litresFit present xs = true
+litresFit signal xs = true
+litresFit try xs = true
+litresFit setpause xs = true
+litresFit suspend xs = true
+litresFit deliver xs = isAmount (drop 1 xs)
 
 -- the command byte and its operand bytes
 abbrev pub width : Command → ℕ
@@ -107,12 +128,13 @@ declares signal = 1
 declares try = 0
 declares setpause = 0
 declares suspend = 0
+declares deliver = 0
 
 -- the statement of a command at offset a with operand bytes xs and parts p and q; what it does not have is left out
 abbrev pub build : Command → (a : ℕ) (xs : List ℕ) (p q : Statement) → Statement
 build nothing a xs p q = Statement.nothing
 build pause a xs p q = Statement.pause (firstOperand xs)
-build emit a xs p q = Statement.emit (firstOperand xs)
+build emit a xs p q = Statement.emit (firstOperand xs) pure
 build exit a xs p q = Statement.exit (firstOperand xs)
 build seq a xs p q = Statement.seq p q
 build par a xs p q = Statement.par p q
@@ -122,3 +144,4 @@ build signal a xs p q = Statement.signal local a (firstOperand xs) p
 build try a xs p q = Statement.try p
 build setpause a xs p q = Statement.setpause (firstOperand xs)
 build suspend a xs p q = Statement.suspend (firstOperand xs) p
+build deliver a xs p q = Statement.emit (firstOperand xs) (litres (amountIn (drop 1 xs)))

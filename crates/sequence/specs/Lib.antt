@@ -1,3 +1,4 @@
+pub mod Amounts
 pub mod Commands
 pub mod Reader
 pub mod Writer

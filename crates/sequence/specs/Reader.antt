@@ -1,4 +1,4 @@
--- The reader (01, 'Commands' and rows 3 to 6 of 'Turned down'): from bytes to the statement at their front with the
+-- The reader (01, 'Commands' and rows 3 to 6 of 'Turned down'; 02, item 12, row 18): from bytes to the statement at their front with the
 -- count of its bytes, or the number of the first row that holds, command by command from the left.
 use Prim.Native.Nat.{ℕ, zero, suc, _+_, _-_}
 use mathlib.Core.Bool.{cond}
@@ -8,13 +8,13 @@ use lib.ListN.{drop}
 use lib.Dec.{ltb}
 use Rattle.esterel.specs.Statement.{Statement, nothing}
 use Rattle.limits.specs.Limits.{maxDepth, maxSignals}
-use Rattle.sequence.specs.Commands.{Command, commandOf, operandCount, partCount, inRange, width, declares, build}
+use Rattle.sequence.specs.Commands.{Command, commandOf, operandCount, partCount, inRange, litresFit, width, declares, build}
 
 pub data Read : Type 0 where
   accepted : (p : Statement) (count : ℕ) → Read
   refused : (number : ℕ) → Read
 
--- The command at the front of the bytes with its operand bytes, or row 3, 4 or 5.
+-- The command at the front of the bytes with its operand bytes, or row 3, 4, 5 or 18.
 pub data Front : Type 0 where
   command : (c : Command) (operands : List ℕ) → Front
   bad : (number : ℕ) → Front
@@ -31,7 +31,7 @@ firstBytes (suc n) (x ∷ bs) = after x (firstBytes n bs)
 
 abbrev pub withOperands : Command → Option (List ℕ) → Front
 withOperands c none = bad 4
-withOperands c (some xs) = cond (inRange c xs) (command c xs) (bad 5)
+withOperands c (some xs) = cond (inRange c xs) (cond (litresFit c xs) (command c xs) (bad 18)) (bad 5)
 
 abbrev pub withCommand : Option Command → List ℕ → Front
 withCommand none bs = bad 3

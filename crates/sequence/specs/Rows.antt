@@ -1,16 +1,16 @@
 -- Rows 2 to 10 of 01's 'Turned down', each as a proposition about the bytes. Commands are met one by one from the left.
-use Prim.Native.Nat.{ℕ, zero, suc, _+_, _≤_, _<_}
+use Prim.Native.Nat.{ℕ, zero, suc, _+_, _*_, _≤_, _<_}
 use mathlib.Core.Path.{_≡_}
 use mathlib.Core.Logic.{_⊎_, _≢_, _↔_}
-use mathlib.Core.Bool.{false, _&&_, cond}
+use mathlib.Core.Bool.{true, false, _&&_, cond}
 use mathlib.Core.Option.{Option, none, some}
 use mathlib.Core.List.{List, [], _∷_, _++_}
 use lib.ListN.{length, drop, replicate}
-use lib.Dec.{leb, ltb}
+use lib.Dec.{leb, ltb, eqb}
 use Rattle.esterel.specs.Statement.{Statement}
 use Rattle.esterel.specs.States.{Distinct, Targeted, WellFormed}
 use Rattle.limits.specs.Limits.{lastCommand, maxBytes, maxDepth, maxSignals}
-use Rattle.sequence.specs.Commands.{Command, commandOf, operandCount, operandsOf, partCount, inRange, width, declares}
+use Rattle.sequence.specs.Commands.{Command, commandOf, operandCount, operandsOf, partCount, inRange, litresFit, width, declares}
 use Rattle.sequence.specs.Reader.{Front, command, bad, front}
 use Rattle.esterel.specs.Ceiling.{nesting}
 use Rattle.sequence.specs.Program.{program}
@@ -26,7 +26,7 @@ pub data Position : Type 0 where
 
 -- ---- rows 3 to 6 at one command: what is wrong where a statement is awaited and these bytes are left
 pub data Fault : List ℕ → Slot → (number : ℕ) → Type 0 where
-  -- command byte above 0B
+  -- command byte above 0C
   unknown : {s : Slot} {b : ℕ} {bs : List ℕ} → lastCommand < b → Fault (b ∷ bs) s 3
   -- operand or statement missing at the end
   no-statement : {s : Slot} → Fault [] s 4
@@ -34,7 +34,10 @@ pub data Fault : List ℕ → Slot → (number : ℕ) → Type 0 where
   -- operand outside its range
   out-of-range : {s : Slot} {b : ℕ} {bs : List ℕ} {c : Command} → commandOf b ≡ some c → operandCount c ≤ length bs
       → inRange c (operandsOf c (b ∷ bs)) ≡ false → Fault (b ∷ bs) s 5
-  -- depth over 64, or a seventh signal inside six; the command has passed 3, 4 and 5
+  -- 02, item 12: at its command right after 5
+  no-litres : {s : Slot} {b : ℕ} {bs : List ℕ} {c : Command} → commandOf b ≡ some c → operandCount c ≤ length bs
+      → inRange c (operandsOf c (b ∷ bs)) ≡ true → litresFit c (operandsOf c (b ∷ bs)) ≡ false → Fault (b ∷ bs) s 18
+  -- depth over 64, or a seventh signal inside six; the command has passed 3, 4, 5 and 18
   too-deep : {d g : ℕ} {bs xs : List ℕ} {c : Command} → front bs ≡ command c xs → maxDepth ≤ d → Fault bs (slot d g) 6
   too-many-signals : {d g : ℕ} {bs xs : List ℕ} {c : Command} → front bs ≡ command c xs → maxSignals < g + declares c
       → Fault bs (slot d g) 6
@@ -79,7 +82,11 @@ pub data Row (bs : List ℕ) (readBack : ℕ) : (number : ℕ) → Type 0 where
   row-9 : {p : Statement} → Spells bs p → ¬ Targeted p → Row bs readBack 9
   row-10 : {p : Statement} → Spells bs p → ¬ WellFormed p → Row bs readBack 10
 
--- A number goes by rows: n is given exactly if row n holds and no row of a smaller number does, 0 exactly if none holds.
+-- The place of a number in the order of the rows: by its size, but 18 right after 5 (02, item 12).
+abbrev pub rank : ℕ → ℕ
+rank n = cond (eqb n 18) 11 (2 * n)
+
+-- A number goes by rows: n is given exactly if row n holds and no row before it does, 0 exactly if none holds.
 pub record ByRows (n : ℕ) (Holds : ℕ → Type 0) : Type 0 where
-  pub refusal : (m : ℕ) → m ≢ 0 → (n ≡ m) ↔ (Holds m × ((k : ℕ) → k < m → ¬ Holds k))
+  pub refusal : (m : ℕ) → m ≢ 0 → (n ≡ m) ↔ (Holds m × ((k : ℕ) → rank k < rank m → ¬ Holds k))
   pub acceptance : (n ≡ 0) ↔ ((m : ℕ) → ¬ Holds m)

@@ -3,15 +3,18 @@ use Prim.Native.Nat.{ℕ, _+_, _≤_, _<_, max}
 use mathlib.Core.Path.{_≡_}
 use mathlib.Core.List.{List, [], _∷_, _++_}
 use lib.ListN.{length}
-use Rattle.esterel.specs.Statement.{local, Statement, nothing, pause, emit, exit, seq, par, loop, present, signal, try, setpause, suspend, held}
-use Rattle.limits.specs.Limits.{labelCount, signalCount, maxExit}
+use Rattle.esterel.specs.Statement.{local, pure, litres, Statement, nothing, pause, emit, exit, seq, par, loop, present, signal, try, setpause, suspend, held}
+use Rattle.limits.specs.Limits.{labelCount, signalCount, maxExit, litresLimit}
+use Rattle.esterel.specs.Litres.{amount}
+use Rattle.sequence.specs.Amounts.{amountBytes}
 use Rattle.esterel.specs.Ceiling.{nesting}
 
 -- no bytes spell a held suspend (02)
 unfoldable pub bytesOf : Statement → List ℕ
 bytesOf nothing = 0 ∷ []
 bytesOf (pause l) = 1 ∷ l ∷ []
-bytesOf (emit s) = 2 ∷ s ∷ []
+bytesOf (emit s pure) = 2 ∷ s ∷ []
+bytesOf (emit s (litres n)) = 12 ∷ s ∷ amountBytes n
 bytesOf (exit n) = 3 ∷ n ∷ []
 bytesOf (seq p q) = 4 ∷ bytesOf p ++ bytesOf q
 bytesOf (par p q) = 5 ∷ bytesOf p ++ bytesOf q
@@ -31,7 +34,7 @@ size p = length (bytesOf p)
 unfoldable pub depthOf : Statement → ℕ
 depthOf nothing = 1
 depthOf (pause l) = 1
-depthOf (emit s) = 1
+depthOf (emit s v) = 1
 depthOf (exit n) = 1
 depthOf (seq p q) = 1 + max (depthOf p) (depthOf q)
 depthOf (par p q) = 1 + max (depthOf p) (depthOf q)
@@ -43,11 +46,11 @@ depthOf (setpause l) = 1
 depthOf (suspend s p) = 1 + depthOf p
 depthOf (held s K p) = 1
 
--- signals are 0 to 31, labels 0 to 127, exits 1 to 15; no held suspend, and no signal that is reported
+-- signals are 0 to 31, labels 0 to 127, exits 1 to 15, litres 0 to 16,777,216; no held suspend, and no signal that is reported
 abbrev pub Ranged : Statement → Type 0
 Ranged nothing = Unit {0}
 Ranged (pause l) = l < labelCount
-Ranged (emit s) = s < signalCount
+Ranged (emit s v) = (s < signalCount) × (amount v ≤ litresLimit)
 Ranged (exit n) = (1 ≤ n) × (n ≤ maxExit)
 Ranged (seq p q) = Ranged p × Ranged q
 Ranged (par p q) = Ranged p × Ranged q
@@ -68,7 +71,7 @@ pub record Within (depth signals : ℕ) (p : Statement) : Type 0 where
 abbrev pub PlacedAt : ℕ → Statement → Type 0
 PlacedAt a nothing = Unit {0}
 PlacedAt a (pause l) = Unit {0}
-PlacedAt a (emit s) = Unit {0}
+PlacedAt a (emit s v) = Unit {0}
 PlacedAt a (exit n) = Unit {0}
 PlacedAt a (seq p q) = PlacedAt (a + 1) p × PlacedAt (a + (1 + size p)) q
 PlacedAt a (par p q) = PlacedAt (a + 1) p × PlacedAt (a + (1 + size p)) q

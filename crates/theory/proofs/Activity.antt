@@ -27,7 +27,7 @@ active-awake : (p : Statement) (L : ℕ) → active p L ≡ true → Awake p L
 unfolding active
 active-awake nothing L h = absurd (false≢true h)
 active-awake (pause l) L h = (l, h, ([], At.here))
-active-awake (emit s) L h = absurd (false≢true h)
+active-awake (emit s v) L h = absurd (false≢true h)
 active-awake (exit n) L h = absurd (false≢true h)
 active-awake (seq p q) L h =
     ⊎-elim (λ x. awake-in L seq₁ (active-awake p L x)) (λ x. awake-in L seq₂ (active-awake q L x)) (or-cases (active p L) (active q L) h)
@@ -76,7 +76,7 @@ pub active-same : (p : Statement) (L M : ℕ) → Same p L M → active p L ≡ 
 unfolding active
 active-same nothing L M h = refl
 active-same (pause l) L M h = h l ([], At.here)
-active-same (emit s) L M h = refl
+active-same (emit s v) L M h = refl
 active-same (exit n) L M h = refl
 active-same (seq p q) L M h = ap₂ _||_ (active-same p L M (same-part L M seq₁ h)) (active-same q L M (same-part L M seq₂ h))
 active-same (par p q) L M h = ap₂ _||_ (active-same p L M (same-part L M par₁ h)) (active-same q L M (same-part L M par₂ h))
@@ -143,7 +143,7 @@ pub expand-same : (p : Statement) (L M : ℕ) → Same p L M → expand p L ≡ 
 unfolding expand
 expand-same nothing L M h = refl
 expand-same (pause l) L M h = refl
-expand-same (emit s) L M h = refl
+expand-same (emit s v) L M h = refl
 expand-same (exit n) L M h = refl
 expand-same (seq p q) L M h =
     rw (

@@ -13,7 +13,8 @@ use Rattle.esterel.specs.Rules.{ReactsBy}
 use Rattle.esterel.specs.Errors.{ifEnded, errorsBy}
 use Rattle.esterel.specs.Reactions.{reactionsBy}
 use Rattle.esterel.specs.Asked.{askedBy, asked, asks}
-use Rattle.esterel.specs.Resume.{signalInstant, Tree, tree, askedOf, startTree, signalTree, signalOnce}
+use Rattle.esterel.specs.Litres.{chosen, passing, deliveredBy}
+use Rattle.esterel.specs.Resume.{signalInstant, Tree, tree, askedOf, caseOfRuns, startTree, signalTree, signalOnce}
 use Rattle.theory.proofs.Booleans.{or-l, or-true, or-false, and-true, and-false, clash, Tested, tested}
 use Rattle.theory.proofs.Sets.{member-insert, member-remove, join-none-r, join-self, remove-absent}
 use Rattle.theory.proofs.LabelSets.{in-l, in-r}
@@ -59,20 +60,20 @@ module _ (s a e e′ : ℕ) (h : Agree (remove s a) e e′) where
       go (Tested.no x) = ap (λ (b : Bool). b || eqb s i) (other i x m)
 
 -- ---- UNASKED, by either order of the signal rules
-module _ (ord : Order) where
+module _ (ord : Order) (f : ℕ) where
   abbrev pub SameTree : (p : Statement) (e e′ : ℕ) → Type 0
   SameTree p e e′ =
       (reactBy ord p e′ ≡ reactBy ord p e) × (errorsBy ord p e′ ≡ errorsBy ord p e) × (reactionsBy ord p e′ ≡ reactionsBy ord p e)
-      × (askedBy ord p e′ ≡ askedBy ord p e)
+      × (askedBy ord p e′ ≡ askedBy ord p e) × (deliveredBy ord f p e′ ≡ deliveredBy ord f p e)
 
   -- where the statuses that are asked for agree
   abbrev Unasked : (p : Statement) (e e′ : ℕ) → Type 0
   Unasked p e e′ = Agree (askedBy ord p e) e e′ → SameTree p e e′
 
   seq-unasked : (p q : Statement) (e e′ : ℕ) → SameTree p e e′ → Unasked q e e′ → Unasked (seq p q) e e′
-  unfolding reactBy errorsBy reactionsBy askedBy
-  seq-unasked p q e e′ f g h =
-      rw (f .0, f .1, f .2, f .3)
+  unfolding reactBy errorsBy reactionsBy askedBy deliveredBy
+  seq-unasked p q e e′ x y h =
+      rw (x .0, x .1, x .2, x .3, x .4)
       (go (reactBy ord p e) (agree-r (askedBy ord p e) (ifEnded (code (reactBy ord p e)) (askedBy ord q e) none) e e′ h))
     where
       go : (r : Reaction) → Agree (ifEnded (code r) (askedBy ord q e) none) e e′
@@ -82,14 +83,15 @@ module _ (ord : Order) where
           ≡ 1 + reactionsBy ord p e + ifEnded (code r) (reactionsBy ord q e) 0)
           × (join (askedBy ord p e) (ifEnded (code r) (askedBy ord q e′) none)
           ≡ join (askedBy ord p e) (ifEnded (code r) (askedBy ord q e) none))
-      go (gives o ended l t) k = rw (g k .0, g k .1, g k .2, g k .3) (refl, refl, refl, refl)
-      go (gives o waiting l t) k = (refl, refl, refl, refl)
-      go (gives o (leaving n) l t) k = (refl, refl, refl, refl)
-      go (gives o wrong l t) k = (refl, refl, refl, refl)
+          × (deliveredBy ord f p e + ifEnded (code r) (deliveredBy ord f q e′) 0 ≡ deliveredBy ord f p e + ifEnded (code r) (deliveredBy ord f q e) 0)
+      go (gives o ended l t) k = rw (y k .0, y k .1, y k .2, y k .3, y k .4) (refl, refl, refl, refl, refl)
+      go (gives o waiting l t) k = (refl, refl, refl, refl, refl)
+      go (gives o (leaving n) l t) k = (refl, refl, refl, refl, refl)
+      go (gives o wrong l t) k = (refl, refl, refl, refl, refl)
 
   present-unasked : (s : ℕ) (p q : Statement) (e e′ : ℕ) → Unasked p e e′ → Unasked q e e′ → Unasked (present s p q) e e′
-  unfolding reactBy errorsBy reactionsBy askedBy
-  present-unasked s p q e e′ f g h =
+  unfolding reactBy errorsBy reactionsBy askedBy deliveredBy
+  present-unasked s p q e e′ x y h =
       rw (agree-tested s _ e e′ h) (go (member s e) (agree-taken s _ e e′ h))
     where
       go : (b : Bool) → Agree (cond b (askedBy ord p e) (askedBy ord q e)) e e′
@@ -97,12 +99,13 @@ module _ (ord : Order) where
           × (cond b (errorsBy ord p e′) (errorsBy ord q e′) ≡ cond b (errorsBy ord p e) (errorsBy ord q e))
           × (1 + cond b (reactionsBy ord p e′) (reactionsBy ord q e′) ≡ 1 + cond b (reactionsBy ord p e) (reactionsBy ord q e))
           × (insert s (cond b (askedBy ord p e′) (askedBy ord q e′)) ≡ insert s (cond b (askedBy ord p e) (askedBy ord q e)))
-      go true k = rw (f k .0, f k .1, f k .2, f k .3) (refl, refl, refl, refl)
-      go false k = rw (g k .0, g k .1, g k .2, g k .3) (refl, refl, refl, refl)
+          × (cond b (deliveredBy ord f p e′) (deliveredBy ord f q e′) ≡ cond b (deliveredBy ord f p e) (deliveredBy ord f q e))
+      go true k = rw (x k .0, x k .1, x k .2, x k .3, x k .4) (refl, refl, refl, refl, refl)
+      go false k = rw (y k .0, y k .1, y k .2, y k .3, y k .4) (refl, refl, refl, refl, refl)
 
   held-unasked : (s K : ℕ) (p : Statement) (e e′ : ℕ) → Unasked p e e′ → Unasked (held s K p) e e′
-  unfolding reactBy errorsBy reactionsBy askedBy
-  held-unasked s K p e e′ f h =
+  unfolding reactBy errorsBy reactionsBy askedBy deliveredBy
+  held-unasked s K p e e′ x h =
       rw (agree-tested s _ e e′ h) (go (member s e) (agree-taken s _ e e′ h))
     where
       go : (b : Bool) → Agree (cond b none (askedBy ord p e)) e e′
@@ -110,37 +113,38 @@ module _ (ord : Order) where
           × (cond b [] (errorsBy ord p e′) ≡ cond b [] (errorsBy ord p e))
           × (1 + cond b 0 (reactionsBy ord p e′) ≡ 1 + cond b 0 (reactionsBy ord p e))
           × (insert s (cond b none (askedBy ord p e′)) ≡ insert s (cond b none (askedBy ord p e)))
-      go true k = (refl, refl, refl, refl)
-      go false k = rw (f k .0, f k .1, f k .2, f k .3) (refl, refl, refl, refl)
+          × (cond b 0 (deliveredBy ord f p e′) ≡ cond b 0 (deliveredBy ord f p e))
+      go true k = (refl, refl, refl, refl, refl)
+      go false k = rw (x k .0, x k .1, x k .2, x k .3, x k .4) (refl, refl, refl, refl, refl)
 
   pub unasked : (p : Statement) (e e′ : ℕ) → Agree (askedBy ord p e) e e′ → SameTree p e e′
-  unfolding reactBy errorsBy reactionsBy askedBy
-  unasked nothing e e′ h = (refl, refl, refl, refl)
-  unasked (pause l) e e′ h = (refl, refl, refl, refl)
-  unasked (emit s) e e′ h = (refl, refl, refl, refl)
-  unasked (exit n) e e′ h = (refl, refl, refl, refl)
+  unfolding reactBy errorsBy reactionsBy askedBy deliveredBy
+  unasked nothing e e′ h = (refl, refl, refl, refl, refl)
+  unasked (pause l) e e′ h = (refl, refl, refl, refl, refl)
+  unasked (emit s v) e e′ h = (refl, refl, refl, refl, refl)
+  unasked (exit n) e e′ h = (refl, refl, refl, refl, refl)
   unasked (seq p q) e e′ h =
       seq-unasked p q e e′
       (unasked p e e′ (agree-l (askedBy ord p e) (ifEnded (code (reactBy ord p e)) (askedBy ord q e) none) e e′ h)) (unasked q e e′) h
   unasked (par p q) e e′ h =
-      let f = unasked p e e′ (agree-l (askedBy ord p e) (askedBy ord q e) e e′ h) in
-      let g = unasked q e e′ (agree-r (askedBy ord p e) (askedBy ord q e) e e′ h) in
-      rw (f .0, f .1, f .2, f .3, g .0, g .1, g .2, g .3) (refl, refl, refl, refl)
-  unasked (loop a p) e e′ h = let f = unasked p e e′ h in rw (f .0, f .1, f .2, f .3) (refl, refl, refl, refl)
+      let x = unasked p e e′ (agree-l (askedBy ord p e) (askedBy ord q e) e e′ h) in
+      let y = unasked q e e′ (agree-r (askedBy ord p e) (askedBy ord q e) e e′ h) in
+      rw (x .0, x .1, x .2, x .3, x .4, y .0, y .1, y .2, y .3, y .4) (refl, refl, refl, refl, refl)
+  unasked (loop a p) e e′ h = let x = unasked p e e′ h in rw (x .0, x .1, x .2, x .3, x .4) (refl, refl, refl, refl, refl)
   unasked (present s p q) e e′ h = present-unasked s p q e e′ (unasked p e e′) (unasked q e e′) h
   unasked (signal sc a s p) e e′ h =
       let a− = askedBy ord p (remove s e) in
       let a+ = askedBy ord p (insert s e) in
-      let f = unasked p (remove s e) (remove s e′) (agree-l a− a+ (remove s e) (remove s e′) (agree-without s (join a− a+) e e′ h)) in
-      let g = unasked p (insert s e) (insert s e′) (agree-r a− a+ (insert s e) (insert s e′) (agree-with s (join a− a+) e e′ h)) in
-      rw (f .0, f .1, f .2, f .3, g .0, g .1, g .2, g .3) (refl, refl, refl, refl)
-  unasked (try p) e e′ h = let f = unasked p e e′ h in rw (f .0, f .1, f .2, f .3) (refl, refl, refl, refl)
-  unasked (setpause l) e e′ h = (refl, refl, refl, refl)
-  unasked (suspend s p) e e′ h = let f = unasked p e e′ h in rw (f .0, f .1, f .2, f .3) (refl, refl, refl, refl)
+      let x = unasked p (remove s e) (remove s e′) (agree-l a− a+ (remove s e) (remove s e′) (agree-without s (join a− a+) e e′ h)) in
+      let y = unasked p (insert s e) (insert s e′) (agree-r a− a+ (insert s e) (insert s e′) (agree-with s (join a− a+) e e′ h)) in
+      rw (x .0, x .1, x .2, x .3, x .4, y .0, y .1, y .2, y .3, y .4) (refl, refl, refl, refl, refl)
+  unasked (try p) e e′ h = let x = unasked p e e′ h in rw (x .0, x .1, x .2, x .3, x .4) (refl, refl, refl, refl, refl)
+  unasked (setpause l) e e′ h = (refl, refl, refl, refl, refl)
+  unasked (suspend s p) e e′ h = let x = unasked p e e′ h in rw (x .0, x .1, x .2, x .3, x .4) (refl, refl, refl, refl, refl)
   unasked (held s K p) e e′ h = held-unasked s K p e e′ (unasked p e e′) h
 
-pub unasked-tree : (p : Statement) (e e′ : ℕ) → Agree (asked p e) e e′ → startTree p e′ ≡ startTree p e
-unasked-tree p e e′ h = let f = unasked inheritanceFirst p e e′ h in rw (f .0, f .1, f .2, f .3) refl
+pub unasked-tree : (f : ℕ) (p : Statement) (e e′ : ℕ) → Agree (asked p e) e e′ → startTree f p e′ ≡ startTree f p e
+unasked-tree f p e e′ h = let x = unasked inheritanceFirst f p e e′ h in rw (x .0, x .1, x .2, x .3, x .4) refl
 
 -- ---- ONE RUN: the two runs of a signal s differ in s only
 pub agree-runs : (s a e : ℕ) → member s a ≡ false → Agree a (remove s e) (insert s e)
@@ -150,22 +154,23 @@ agree-runs s a e h i m = rw (member-remove s e i, member-insert s e i) (go (test
     go (Tested.yes x) = clash (member s a) (ap (λ (j : ℕ). member j a) (eqb-true s i x) ∙ m) h
     go (Tested.no x) = rw x (and-true (member i e) ∙ sym (or-false (member i e)))
 
-pub one-run : (s : ℕ) (p : Statement) (e : ℕ) → member s (asked p (remove s e)) ≡ false
-    → startTree p (insert s e) ≡ startTree p (remove s e)
-one-run s p e h = unasked-tree p (remove s e) (insert s e) (agree-runs s (asked p (remove s e)) e h)
+pub one-run : (f s : ℕ) (p : Statement) (e : ℕ) → member s (asked p (remove s e)) ≡ false
+    → startTree f p (insert s e) ≡ startTree f p (remove s e)
+one-run f s p e h = unasked-tree f p (remove s e) (insert s e) (agree-runs s (asked p (remove s e)) e h)
 
 -- two equal runs that do not ask for s ask for the same outside its declaration
 twice : (s a : ℕ) → member s a ≡ false → remove s (join a a) ≡ a
 twice s a h = ap (remove s) (join-self a) ∙ remove-absent s a h
 
-pub once-is : (sc : Scope) (a s : ℕ) (t : Tree) → member s (askedOf t) ≡ false → signalTree sc a s t t ≡ signalOnce sc a s t
-once-is sc a s (tree i b) h = ap (tree (signalInstant sc a s i i)) (twice s b h)
+pub once-is : (f : ℕ) (sc : Scope) (a s : ℕ) (t : Tree) → member s (askedOf t) ≡ false → signalTree f sc a s t t ≡ signalOnce f sc a s t
+once-is f sc a s (tree i b x) h =
+    ap (λ (y : ℕ). tree (signalInstant sc a s i i) y (passing sc f s (chosen (caseOfRuns s i i) x x))) (twice s b h)
 
-pub one-run-signal : (s : ℕ) (p : Statement) (e : ℕ) → member s (asked p (remove s e)) ≡ false → (sc : Scope) (a : ℕ)
-    → startTree (signal sc a s p) e ≡ signalOnce sc a s (startTree p (remove s e))
-one-run-signal s p e h sc a =
-    start-tree-signal sc a s p e ∙ ap (signalTree sc a s (startTree p (remove s e))) (one-run s p e h)
-    ∙ once-is sc a s (startTree p (remove s e)) h
+pub one-run-signal : (f s : ℕ) (p : Statement) (e : ℕ) → member s (asked p (remove s e)) ≡ false → (sc : Scope) (a : ℕ)
+    → startTree f (signal sc a s p) e ≡ signalOnce f sc a s (startTree f p (remove s e))
+one-run-signal f s p e h sc a =
+    start-tree-signal f sc a s p e ∙ ap (signalTree f sc a s (startTree f p (remove s e))) (one-run f s p e h)
+    ∙ once-is f sc a s (startTree f p (remove s e)) h
 
 -- ---- DERIVATIONS: what is asked for is what the rules used test
 pub asks-is : {ord : Order} {p : Statement} {e : ℕ} {r : Reaction} (d : ReactsBy ord p e r) → asks d ≡ askedBy ord p e

@@ -50,7 +50,7 @@ fresh-within : (p : Statement) (e m g : ℕ) → nesting p ≤ g → reactions p
 unfolding reactionsBy commands nesting
 fresh-within nothing e m g h = one m g 0
 fresh-within (pause l) e m g h = one m g 0
-fresh-within (emit s) e m g h = one m g 0
+fresh-within (emit s v) e m g h = one m g 0
 fresh-within (exit n) e m g h = one m g 0
 fresh-within (seq p q) e m g h =
     let i = if-ended (code (react p e)) (reactions q e) in
@@ -93,7 +93,7 @@ resumed-within : (p : Statement) (L e m g : ℕ) → loopNesting p ≤ m → nes
 unfolding reactionsBy expand commands loopNesting nesting
 resumed-within nothing L e m g h i = one m g 0
 resumed-within (pause l) L e m g h i = one m g 0
-resumed-within (emit s) L e m g h i = one m g 0
+resumed-within (emit s v) L e m g h i = one m g 0
 resumed-within (exit n) L e m g h i = one m g 0
 resumed-within (seq p q) L e m g h i =
     let x = resumed-within p L e m g (omega arith) (omega arith) in

@@ -127,7 +127,7 @@ compatible-to : (base : ℕ) (p : Statement) (L : ℕ) → Tests base p L → To
 unfolding compatible mask
 compatible-to base nothing L h = together-single L (λ x. elim x [ ]) (λ d c i. elim i [ ])
 compatible-to base (pause l) L h = together-single L (λ x. elim x [ ]) (λ d c i. elim i [ ])
-compatible-to base (emit s) L h = together-single L (λ x. elim x [ ]) (λ d c i. elim i [ ])
+compatible-to base (emit s v) L h = together-single L (λ x. elim x [ ]) (λ d c i. elim i [ ])
 compatible-to base (exit n) L h = together-single L (λ x. elim x [ ]) (λ d c i. elim i [ ])
 compatible-to base (seq p q) L h = two-to base L sequence (compatible-to base p L) (compatible-to (middle base p) q L) h
 compatible-to base (par p q) L h = two-to base L sides (compatible-to base p L) (compatible-to (middle base p) q L) h
@@ -155,7 +155,7 @@ compatible-from : (base : ℕ) (p : Statement) (L : ℕ) → Together p L → Te
 unfolding compatible mask
 compatible-from base nothing L f = refl
 compatible-from base (pause l) L f = refl
-compatible-from base (emit s) L f = refl
+compatible-from base (emit s v) L f = refl
 compatible-from base (exit n) L f = refl
 compatible-from base (seq p q) L f = two-from base L sequence (compatible-from base p L) (compatible-from (middle base p) q L) f
 compatible-from base (par p q) L f = two-from base L sides (compatible-from base p L) (compatible-from (middle base p) q L) f

@@ -90,7 +90,7 @@ counted : (w : ℕ) (p : Statement) → Counted w p
 unfolding labelsOf pauseCount
 counted w nothing d u = card-none w
 counted w (pause l) d u = card-only w l (u l (member-only l l ∙ eq-eqb l l refl))
-counted w (emit s) d u = card-none w
+counted w (emit s v) d u = card-none w
 counted w (exit n) d u = card-none w
 counted w (seq p q) d u = counted-two w sequence (counted w p) (counted w q) d u
 counted w (par p q) d u = counted-two w sides (counted w p) (counted w q) d u

@@ -100,7 +100,7 @@ pub fresh-dearest : (g : ℕ) (p : Statement) (e : ℕ) → nesting p ≤ g → 
 unfolding reactionsBy commands nesting
 fresh-dearest g nothing e h = alone g
 fresh-dearest g (pause l) e h = alone g
-fresh-dearest g (emit s) e h = alone g
+fresh-dearest g (emit s v) e h = alone g
 fresh-dearest g (exit n) e h = alone g
 fresh-dearest g (seq p q) e h =
     let i = if-ended (code (react p e)) (reactions q e) in
@@ -141,7 +141,7 @@ module _ (L : ℕ) where
   unfolding LoopFree expand commands
   expand-commands nothing h = omega arith
   expand-commands (pause l) h = omega arith
-  expand-commands (emit s) h = omega arith
+  expand-commands (emit s v) h = omega arith
   expand-commands (exit n) h = omega arith
   expand-commands (seq p q) h =
       let i = expand-commands p (h .0) in
@@ -169,7 +169,7 @@ module _ (L : ℕ) where
   unfolding expand nesting
   expand-nesting nothing = omega arith
   expand-nesting (pause l) = omega arith
-  expand-nesting (emit s) = omega arith
+  expand-nesting (emit s v) = omega arith
   expand-nesting (exit n) = omega arith
   expand-nesting (seq p q) =
       let i = expand-nesting p in

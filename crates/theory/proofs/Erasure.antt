@@ -1,5 +1,5 @@
 -- The labels of held suspends never matter: statements that differ only in them react with one code, one emitted set and
--- one list of errors, and what remains of them differs only in them.
+-- one list of errors and the same litres, and what remains of them differs only in them.
 use Prim.Native.Nat.{ℕ, _-_}
 use mathlib.Core.Path.{_≡_, refl, sym, ap, ap₂, _∙_, subst}
 use mathlib.Core.Bool.{Bool, true, false, cond}
@@ -8,17 +8,19 @@ use mathlib.Core.List.{List, head?}
 use lib.Dec.{eqb}
 use Rattle.esterel.specs.Sets.{member, none, insert, remove}
 use Rattle.esterel.specs.Statement.{Scope, Statement, nothing, pause, emit, exit, seq, par, loop, present, signal, try, setpause, suspend, held}
-use Rattle.esterel.specs.Reaction.{Code, ended, waiting, leaving, wrong, Reaction, gives, code, emitted, residual, side, inSeq, inPar, inLoop, inTry, inSignal, inSuspend, stopped, Case, both, neither, only−, only+, inherited, inheritanceFirst, caseOf, answer, reactBy, react}
+use Rattle.esterel.specs.Reaction.{Code, ended, waiting, leaving, wrong, isWrong, Reaction, gives, code, emitted, residual, side, inSeq, inPar, inLoop, inTry, inSignal, inSuspend, stopped, Case, both, neither, only−, only+, inherited, inheritanceFirst, caseOf, answer, reactBy, react}
 use Rattle.esterel.specs.Reactions.{reactionsBy, reactions}
+use Rattle.esterel.specs.Litres.{deliveredBy, delivered}
 use Rattle.esterel.specs.Errors.{Error, errorsBy, errors, firstError}
-use Rattle.esterel.specs.Machines.{erase, seen, run, Rewriting, termAfter, byRewriting}
+use Rattle.esterel.specs.Machines.{erase, seen, run, Rewriting, termAfter, byRewriting, adds, addsByRewriting, added}
 use Rattle.theory.proofs.Agreement.{simulation}
+use Rattle.theory.proofs.Litres.{same-added}
 
 erase-erase : (p : Statement) → erase (erase p) ≡ erase p
 unfolding erase
 erase-erase nothing = refl
 erase-erase (pause l) = refl
-erase-erase (emit s) = refl
+erase-erase (emit s v) = refl
 erase-erase (exit n) = refl
 erase-erase (seq p q) = rw (erase-erase p, erase-erase q)
 erase-erase (par p q) = rw (erase-erase p, erase-erase q)
@@ -106,7 +108,7 @@ erase-alike : (p : Statement) (e : ℕ) → Alike (react (erase p) e) (react p e
 unfolding erase reactBy
 erase-alike nothing e = alike refl
 erase-alike (pause l) e = alike refl
-erase-alike (emit s) e = alike refl
+erase-alike (emit s v) e = alike refl
 erase-alike (exit n) e = alike refl
 erase-alike (seq p q) e = seq-alike q (erase-alike p e) (erase-alike q e)
 erase-alike (par p q) e = par-alike (erase-alike p e) (erase-alike q e)
@@ -126,7 +128,7 @@ erase-errors : (p : Statement) (e : ℕ) → errors (erase p) e ≡ errors p e
 unfolding erase errorsBy
 erase-errors nothing e = refl
 erase-errors (pause l) e = refl
-erase-errors (emit s) e = refl
+erase-errors (emit s v) e = refl
 erase-errors (exit n) e = refl
 erase-errors (seq p q) e = rw (erase-errors p e, erase-errors q e, code-alike (erase-alike p e))
 erase-errors (par p q) e = rw (erase-errors p e, erase-errors q e)
@@ -147,7 +149,7 @@ erase-reactions : (p : Statement) (e : ℕ) → reactions (erase p) e ≡ reacti
 unfolding erase reactionsBy
 erase-reactions nothing e = refl
 erase-reactions (pause l) e = refl
-erase-reactions (emit s) e = refl
+erase-reactions (emit s v) e = refl
 erase-reactions (exit n) e = refl
 erase-reactions (seq p q) e = rw (erase-reactions p e, erase-reactions q e, code-alike (erase-alike p e))
 erase-reactions (par p q) e = rw (erase-reactions p e, erase-reactions q e)
@@ -158,6 +160,27 @@ erase-reactions (try p) e = rw (erase-reactions p e)
 erase-reactions (setpause l) e = refl
 erase-reactions (suspend s p) e = rw (erase-reactions p e)
 erase-reactions (held s K p) e = rw (erase-reactions p e)
+
+erase-delivered : (f : ℕ) (p : Statement) (e : ℕ) → delivered f (erase p) e ≡ delivered f p e
+unfolding erase deliveredBy
+erase-delivered f nothing e = refl
+erase-delivered f (pause l) e = refl
+erase-delivered f (emit s v) e = refl
+erase-delivered f (exit n) e = refl
+erase-delivered f (seq p q) e = rw (erase-delivered f p e, erase-delivered f q e, code-alike (erase-alike p e))
+erase-delivered f (par p q) e = rw (erase-delivered f p e, erase-delivered f q e)
+erase-delivered f (loop a p) e = rw (erase-delivered f p e, code-alike (erase-alike p e))
+erase-delivered f (present s p q) e = rw (erase-delivered f p e, erase-delivered f q e)
+erase-delivered f (signal sc a s p) e =
+    rw (
+      erase-delivered f p (remove s e),
+      erase-delivered f p (insert s e),
+      case-alike s (erase-alike p (remove s e)) (erase-alike p (insert s e)),
+    )
+erase-delivered f (try p) e = erase-delivered f p e
+erase-delivered f (setpause l) e = refl
+erase-delivered f (suspend s p) e = erase-delivered f p e
+erase-delivered f (held s K p) e = rw (erase-delivered f p e)
 
 -- ---- statements that differ only in the labels of held suspends
 flip-alike : {r r′ : Reaction} → Alike r r′ → Alike r′ r
@@ -188,6 +211,10 @@ erased-errors t u e h = sym (erase-errors t e) ∙ ap (λ (x : Statement). error
 -- NUMBER OF REACTIONS
 pub erased-reactions : (t u : Statement) (e : ℕ) → erase t ≡ erase u → reactions t e ≡ reactions u e
 erased-reactions t u e h = sym (erase-reactions t e) ∙ ap (λ (x : Statement). reactions x e) h ∙ erase-reactions u e
+
+-- LITRES
+pub erased-delivered : (f : ℕ) (t u : Statement) (e : ℕ) → erase t ≡ erase u → delivered f t e ≡ delivered f u e
+erased-delivered f t u e h = sym (erase-delivered f t e) ∙ ap (λ (x : Statement). delivered f x e) h ∙ erase-delivered f u e
 
 -- ---- rewriting
 abbrev SameTerm : Rewriting → Rewriting → Type 0
@@ -227,3 +254,24 @@ step Rewriting.over Rewriting.over h e = (refl, tt)
 pub erased-run : (t u : Statement) → erase t ≡ erase u → (es : List ℕ)
     → run byRewriting (Rewriting.waits t) es ≡ run byRewriting (Rewriting.waits u) es
 erased-run t u h = simulation byRewriting byRewriting SameTerm step (Rewriting.waits t) (Rewriting.waits u) h
+
+adds-alike : (f : ℕ) (t u : Statement) (e : ℕ) → erase t ≡ erase u → adds f t e ≡ adds f u e
+adds-alike f t u e h =
+    ap₂ (λ (k : Code) (x : ℕ). cond (isWrong k) 0 x) (erased-reaction t u e h .0) (erased-delivered f t u e h)
+
+step-added : (f : ℕ) (v w : Rewriting) → SameTerm v w → (e : ℕ) → addsByRewriting f v e ≡ addsByRewriting f w e
+step-added f (Rewriting.fresh t) (Rewriting.fresh u) h e = adds-alike f t u e h
+step-added f (Rewriting.fresh t) (Rewriting.waits u) h e = absurd h
+step-added f (Rewriting.fresh t) Rewriting.over h e = absurd h
+step-added f (Rewriting.waits t) (Rewriting.fresh u) h e = absurd h
+step-added f (Rewriting.waits t) (Rewriting.waits u) h e = adds-alike f t u e h
+step-added f (Rewriting.waits t) Rewriting.over h e = absurd h
+step-added f Rewriting.over (Rewriting.fresh u) h e = absurd h
+step-added f Rewriting.over (Rewriting.waits u) h e = absurd h
+step-added f Rewriting.over Rewriting.over h e = refl
+
+pub erased-added : (f : ℕ) (t u : Statement) → erase t ≡ erase u → (es : List ℕ)
+    → added byRewriting (addsByRewriting f) (Rewriting.waits t) es ≡ added byRewriting (addsByRewriting f) (Rewriting.waits u) es
+erased-added f t u h =
+    same-added byRewriting byRewriting SameTerm (addsByRewriting f) (addsByRewriting f) (λ v w r e. step v w r e .1) (step-added f)
+    (Rewriting.waits t) (Rewriting.waits u) h

@@ -92,7 +92,7 @@ module _ (L : ℕ) where
   unfolding active expand
   expands nothing h t = absurd (false≢true h)
   expands (pause l) h t = Expands.pause h
-  expands (emit s) h t = absurd (false≢true h)
+  expands (emit s v) h t = absurd (false≢true h)
   expands (exit n) h t = absurd (false≢true h)
   expands (seq p q) h t = go (tested (active p L)) (λ x. expands p x (together-part L seq₁ t)) (λ x. expands q x (together-part L seq₂ t))
     where

@@ -129,7 +129,7 @@ module _ (K : Relation) (kept : Kept K) where
   unfolding reactBy
   fresh-fits nothing e = refl
   fresh-fits (pause l) e = kept .at-pause l
-  fresh-fits (emit s) e = refl
+  fresh-fits (emit s v) e = refl
   fresh-fits (exit n) e = refl
   fresh-fits (seq p q) e =
       seq-fits p q (seq p q) q (kept .seq-first p q) (kept .seq-second p q) (react p e) (react q e) (fresh-fits p e) (fresh-fits q e)
@@ -156,7 +156,7 @@ module _ (K : Relation) (kept : Kept K) where
   unfolding reactBy expand
   resumed-fits nothing L e z = refl
   resumed-fits (pause l) L e z = refl
-  resumed-fits (emit s) L e z = refl
+  resumed-fits (emit s v) L e z = refl
   resumed-fits (exit n) L e z = refl
   resumed-fits (seq p q) L e z = go (active p L) (resumed-fits p L e z) (resumed-fits q L e z)
     where

@@ -118,7 +118,7 @@ module _ (x y : Bool) (j : Joint) where
   unfolding fill labelsOf before
   fill-is nothing known rows k = bare nothing known rows k refl refl
   fill-is (pause l) known rows k = single (pause l) x l known rows k refl refl
-  fill-is (emit s) known rows k = bare (emit s) known rows k refl refl
+  fill-is (emit s v) known rows k = bare (emit s v) known rows k refl refl
   fill-is (exit n) known rows k = bare (exit n) known rows k refl refl
   fill-is (seq p q) known rows k =
       fill-is q (further j alternative known (labelsOf x y p)) (fill x y j p known rows) k

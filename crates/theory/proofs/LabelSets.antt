@@ -166,7 +166,7 @@ module _ (x y : Bool) (l : ℕ) where
   unfolding labelsOf
   labels-from nothing h = in-none l h
   labels-from (pause k) h = here-pause k (from-leaf x k h)
-  labels-from (emit s) h = in-none l h
+  labels-from (emit s v) h = in-none l h
   labels-from (exit n) h = in-none l h
   labels-from (seq p q) h = in-two sequence (labels-from p) (labels-from q) h
   labels-from (par p q) h = in-two sides (labels-from p) (labels-from q) h
@@ -277,7 +277,7 @@ module _ (x y : Bool) (j : Joint) (k l : ℕ) where
   unfolding before
   pair-from nothing h = in-none l h
   pair-from (pause m) h = in-none l h
-  pair-from (emit s) h = in-none l h
+  pair-from (emit s v) h = in-none l h
   pair-from (exit n) h = in-none l h
   pair-from (seq p q) h = pair-two sequence (pair-from p) (pair-from q) h
   pair-from (par p q) h = pair-two sides (pair-from p) (pair-from q) h
@@ -363,7 +363,7 @@ module _ (f : ℕ → Bool) where
   unfolding everyLabel
   every-from nothing e = refl
   every-from (pause l) e = e l (labels-at true true l (as-pause refl) At.here)
-  every-from (emit s) e = refl
+  every-from (emit s v) e = refl
   every-from (exit n) e = refl
   every-from (seq p q) e = every-two sequence (every-from p) (every-from q) e
   every-from (par p q) e = every-two sides (every-from p) (every-from q) e

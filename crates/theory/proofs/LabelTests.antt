@@ -119,7 +119,7 @@ from-distinct : (p : Statement) → Distinct p → distinct p ≡ true
 unfolding distinct
 from-distinct nothing d = refl
 from-distinct (pause l) d = refl
-from-distinct (emit s) d = refl
+from-distinct (emit s v) d = refl
 from-distinct (exit n) d = refl
 from-distinct (seq p q) d = distinct-two sequence (from-distinct p) (from-distinct q) d
 from-distinct (par p q) d = distinct-two sides (from-distinct p) (from-distinct q) d

@@ -39,7 +39,7 @@ mask-lt base (pause l) L = go (member l L)
     go : (b : Bool) → cond b (only base) none < 2 ^ (base + 1)
     go true = only-lt base
     go false = none-lt (base + 1)
-mask-lt base (emit s) L = none-lt (base + 0)
+mask-lt base (emit s v) L = none-lt (base + 0)
 mask-lt base (exit n) L = none-lt (base + 0)
 mask-lt base (seq p q) L =
     lt-two base (pauseCount p) (pauseCount q) _ _ (mask-lt base p L) (mask-lt (middle base p) q L)
@@ -69,7 +69,7 @@ mask-over base (pause l) L = go (member l L)
     go : (b : Bool) → cond b (only base) none % 2 ^ base ≡ 0
     go true = only-over base
     go false = none-over base
-mask-over base (emit s) L = none-over base
+mask-over base (emit s v) L = none-over base
 mask-over base (exit n) L = none-over base
 mask-over base (seq p q) L =
     over-two base (pauseCount p) _ _ (mask-over base p L) (mask-over (middle base p) q L)
@@ -124,7 +124,7 @@ empty-is base (pause l) L = go (member l L)
     go : (b : Bool) → empty (cond b (only base) none) ≡ not b
     go true = only-some base
     go false = eq-eqb none none refl
-empty-is base (emit s) L = eq-eqb none none refl
+empty-is base (emit s v) L = eq-eqb none none refl
 empty-is base (exit n) L = eq-eqb none none refl
 empty-is base (seq p q) L =
     empty-two _ _ (active p L) (active q L) (empty-is base p L) (empty-is (middle base p) q L)
@@ -178,7 +178,7 @@ module _ (L : ℕ) where
   unfolding labelsBy activeLabels labelsOf mask active
   labels-by base nothing = sym (activeLabels-none nothing L refl)
   labels-by base (pause l) = pause-labels base l (tested (member l L))
-  labels-by base (emit s) = sym (activeLabels-none (emit s) L refl)
+  labels-by base (emit s v) = sym (activeLabels-none (emit s v) L refl)
   labels-by base (exit n) = sym (activeLabels-none (exit n) L refl)
   labels-by base (seq p q) = two-labels {q = q} base sequence (labels-by base p) (labels-by (middle base p) q)
   labels-by base (par p q) = two-labels {q = q} base sides (labels-by base p) (labels-by (middle base p) q)
@@ -219,7 +219,7 @@ mask-join base (pause l) L M = ap (λ (b : Bool). cond b (only base) none) (memb
     go true false = sym (join-none-r (only base))
     go false true = sym (join-none-l (only base))
     go false false = sym (join-none-l none)
-mask-join base (emit s) L M = sym (join-none-l none)
+mask-join base (emit s v) L M = sym (join-none-l none)
 mask-join base (exit n) L M = sym (join-none-l none)
 mask-join base (seq p q) L M =
     ap₂ join (mask-join base p L M) (mask-join (middle base p) q L M)
@@ -279,7 +279,7 @@ pub mask-only : (base : ℕ) (p : Statement) (l : ℕ) → Distinct p → member
 unfolding mask rank labelsOf active
 mask-only base nothing l d h = in-none l h
 mask-only base (pause k) l d h = ap (λ (b : Bool). cond b (only base) none) (active-only (pause k) l ∙ h)
-mask-only base (emit s) l d h = in-none l h
+mask-only base (emit s v) l d h = in-none l h
 mask-only base (exit n) l d h = in-none l h
 mask-only base (seq p q) l d h = rank-two base l sequence d (mask-only base p l) (mask-only (middle base p) q l) h
 mask-only base (par p q) l d h = rank-two base l sides d (mask-only base p l) (mask-only (middle base p) q l) h
@@ -301,7 +301,7 @@ pub rank-lt : (base : ℕ) (p : Statement) (l : ℕ) → member l (pauses p) ≡
 unfolding rank pauseCount labelsOf
 rank-lt base nothing l h = in-none l h
 rank-lt base (pause k) l h = omega arith
-rank-lt base (emit s) l h = in-none l h
+rank-lt base (emit s v) l h = in-none l h
 rank-lt base (exit n) l h = in-none l h
 rank-lt base (seq p q) l h =
     lt-parts base (pauseCount p) (pauseCount q) _ _ (member l (pauses p)) (member l (pauses q))

@@ -33,7 +33,7 @@ pub some-reaction : (p : Statement) (e : ℕ) → 1 ≤ reactions p e
 unfolding reactionsBy
 some-reaction nothing e = omega arith
 some-reaction (pause l) e = omega arith
-some-reaction (emit s) e = omega arith
+some-reaction (emit s v) e = omega arith
 some-reaction (exit n) e = omega arith
 some-reaction (seq p q) e = omega arith
 some-reaction (par p q) e = omega arith
@@ -49,7 +49,7 @@ pub some-command : (p : Statement) → 1 ≤ commands p
 unfolding commands
 some-command nothing = omega arith
 some-command (pause l) = omega arith
-some-command (emit s) = omega arith
+some-command (emit s v) = omega arith
 some-command (exit n) = omega arith
 some-command (seq p q) = omega arith
 some-command (par p q) = omega arith
@@ -113,7 +113,7 @@ pub reactions-unchanged : (p : Statement) (e : ℕ) → overlap p e ≡ false �
 unfolding overlap reactionsBy
 reactions-unchanged nothing e h = refl
 reactions-unchanged (pause l) e h = refl
-reactions-unchanged (emit s) e h = refl
+reactions-unchanged (emit s v) e h = refl
 reactions-unchanged (exit n) e h = refl
 reactions-unchanged (seq p q) e h =
     let k = code (reactBy printed p e) in

@@ -26,7 +26,7 @@ pub expand-by : (base : ℕ) (p : Statement) (L : ℕ) → active p L ≡ true �
 unfolding expandBy mask active expand
 expand-by base nothing L h = absurd (false≢true h)
 expand-by base (pause l) L h = refl
-expand-by base (emit s) L h = absurd (false≢true h)
+expand-by base (emit s v) L h = absurd (false≢true h)
 expand-by base (exit n) L h = absurd (false≢true h)
 expand-by base (seq p q) L h =
     let t : Joined alternative p q (seq p q) = sequence in

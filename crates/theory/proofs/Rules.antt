@@ -262,7 +262,7 @@ derive : (ord : Order) (p : Statement) (e : ℕ) → ReactsBy ord p e (reactBy o
 unfolding reactBy
 derive ord nothing e = ReactsBy.nothing
 derive ord (pause l) e = ReactsBy.pause
-derive ord (emit s) e = ReactsBy.emit
+derive ord (emit s v) e = ReactsBy.emit
 derive ord (exit n) e = ReactsBy.exit
 derive ord (seq p q) e = seq-derives (reactBy ord p e) (reactBy ord q e) (derive ord p e) (derive ord q e)
 derive ord (par p q) e = par-derives (reactBy ord p e) (reactBy ord q e) (derive ord p e) (derive ord q e)

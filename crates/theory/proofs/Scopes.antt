@@ -119,7 +119,7 @@ module _ (a s : ℕ) (ss : List ℕ) where
   same-runs sc p e m =
       let q = declaredBy sc a ss p in
       let n = never (member s (asked q (remove s e))) (λ h. declared-unasked sc a ss p (remove s e) s h m) in
-      sym (unasked inheritanceFirst q (remove s e) (insert s e) (agree-runs s (asked q (remove s e)) e n) .0)
+      sym (unasked inheritanceFirst 0 q (remove s e) (insert s e) (agree-runs s (asked q (remove s e)) e n) .0)
 
   declares : (p : Statement) (e : ℕ)
       → Hides ss (react (declared a ss p) (remove s e)) (react (declaredBy local a ss p) (remove s e))

@@ -168,7 +168,7 @@ pub tied : (p : Statement) (e : ℕ)
 unfolding reactBy errorsBy overlap
 tied nothing e = Tied.same none ended none nothing refl
 tied (pause l) e = Tied.same none waiting (only l) nothing refl
-tied (emit s) e = Tied.same (only s) ended none nothing refl
+tied (emit s v) e = Tied.same (only s) ended none nothing refl
 tied (exit n) e = Tied.same none (leaving n) none nothing refl
 tied (seq p q) e = seq-tied q (tied p e) (tied q e)
 tied (par p q) e = par-tied (tied p e) (tied q e)

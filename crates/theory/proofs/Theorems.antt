@@ -5,12 +5,14 @@ use mathlib.Core.Logic.{_↔_, _≢_}
 use mathlib.Core.Bool.{true, false}
 use mathlib.Core.Option.{Option}
 use mathlib.Core.List.{List, [], _∷_, map, head?}
+use native.Mathlib.Omega.{arith}
 use Rattle.esterel.specs.Sets.{member, none, insert, remove}
 use Rattle.esterel.specs.Statement.{Scope, local, reported, Statement, pause, signal, suspend}
 use Rattle.esterel.specs.Reaction.{ended, waiting, leaving, wrong, Reaction, gives, emitted, code, labels, residual, isWrong, Order, printed, inheritanceFirst, reactBy, react}
 use Rattle.esterel.specs.Errors.{errorsBy, errors, firstErrorBy, firstError, uses}
 use Rattle.esterel.specs.Reactions.{reactionsBy, reactions, rulesUsed}
 use Rattle.esterel.specs.Asked.{askedBy, asked, asks}
+use Rattle.esterel.specs.Litres.{AtMost, deliveredBy, delivered, delivers}
 use Rattle.esterel.specs.SignalOrders.{overlap}
 use Rattle.esterel.specs.Rules.{ReactsBy, Reacts}
 use Rattle.esterel.specs.Ceiling.{commands, nesting, ceiling, LoopFree, dearest}
@@ -20,7 +22,7 @@ use Rattle.esterel.specs.LabelTests.{activeLabels}
 use Rattle.esterel.specs.Ranks.{mask, labelsBy}
 use Rattle.esterel.specs.Resume.{instant, start, suspendInstant, askedOf, startTree, signalOnce, expandBy, resume, resumeTree}
 use Rattle.esterel.specs.ReadBack.{declaredBy, declared, without, AgreeOutside, RemainsUnder}
-use Rattle.esterel.specs.Machines.{seenWithout, run, reached, State, byLabels, ValidState, ReactionOf, of-statement, of-expansion, FromValid, Rewriting, byRewriting, erase}
+use Rattle.esterel.specs.Machines.{seenWithout, run, reached, State, byLabels, ValidState, ReactionOf, of-statement, of-expansion, FromValid, Rewriting, byRewriting, addsByLabels, addsByRewriting, added, erase}
 use Rattle.theory.proofs.Booleans.{never, clash, Tested, tested}
 use Rattle.theory.proofs.Rules as rules
 use Rattle.theory.proofs.Rules.{wrong-is}
@@ -42,7 +44,8 @@ use Rattle.theory.proofs.ReadBack.{expand-declaredBy, remains-declared,
 use Rattle.theory.proofs.Scopes.{hides-is, reported-local, run-hides}
 use Rattle.theory.proofs.Asked.{unasked, one-run, one-run-signal, asks-is}
 use Rattle.theory.proofs.Agreement.{agree, valid-reached}
-use Rattle.theory.proofs.Erasure.{erased-reaction, erased-errors, erased-reactions, erased-run}
+use Rattle.theory.proofs.Erasure.{erased-reaction, erased-errors, erased-reactions, erased-delivered, erased-run}
+use Rattle.theory.proofs.Litres.{delivers-is, not-emitted, delivered-most, expand-most, agree-added}
 
 -- what one induction shows of a reaction of p and of one of an expansion
 both-fit : (K : Statement → ℕ → Statement → Type 0) (p : Statement) (e : ℕ) {r : Reaction}
@@ -157,12 +160,15 @@ pub suspend-resumes : (s : ℕ) (p : Statement) (L e : ℕ) → Awake p L → me
 suspend-resumes s p L e w i =
     rw (expand-suspend s p L (active-is p L .1 w)) (start-held s (activeLabels p L) (expand p L) e ∙ rw i)
 
--- 7. HELD LABELS never matter: statements that differ only in them have one code, one emitted set, one list of errors and one
--- number of reactions, what remains of them differs only in them, and so by rewriting they show the same for ever
+-- 7. HELD LABELS never matter: statements that differ only in them have one code, one emitted set, one list of errors, one
+-- number of reactions and for each farm the same litres, what remains of them differs only in them, and so by rewriting they show the same for ever
 pub held-labels-unseen : (t u : Statement) (e : ℕ) → erase t ≡ erase u
     → (code (react t e) ≡ code (react u e)) × (emitted (react t e) ≡ emitted (react u e)) × (errors t e ≡ errors u e)
     × (reactions t e ≡ reactions u e) × (erase (residual (react t e)) ≡ erase (residual (react u e)))
 held-labels-unseen t u e h = let r = erased-reaction t u e h in (r .0, r .1, erased-errors t u e h, erased-reactions t u e h, r .2)
+
+pub held-labels-undelivered : (f : ℕ) (t u : Statement) (e : ℕ) → erase t ≡ erase u → delivered f t e ≡ delivered f u e
+held-labels-undelivered = erased-delivered
 
 pub held-labels-unseen-run : (t u : Statement) → erase t ≡ erase u → (es : List ℕ)
     → run byRewriting (Rewriting.waits t) es ≡ run byRewriting (Rewriting.waits u) es
@@ -244,26 +250,57 @@ dearest-product = dearests.dearest-is
 pub asked-is-tested : {ord : Order} {p : Statement} {e : ℕ} {r : Reaction} (d : ReactsBy ord p e r) → asks d ≡ askedBy ord p e
 asked-is-tested = asks-is
 
--- two present sets that agree on them give the same reaction, errors, number of reactions and signals asked for
-pub not-asked : (p : Statement) (e e′ : ℕ) → ((s : ℕ) → member s (asked p e) ≡ true → member s e ≡ member s e′)
+-- two present sets that agree on them give the same reaction, errors, number of reactions, signals asked for and litres of any farm
+pub not-asked : (f : ℕ) (p : Statement) (e e′ : ℕ) → ((s : ℕ) → member s (asked p e) ≡ true → member s e ≡ member s e′)
     → (react p e′ ≡ react p e) × (errors p e′ ≡ errors p e) × (reactions p e′ ≡ reactions p e) × (asked p e′ ≡ asked p e)
+    × (delivered f p e′ ≡ delivered f p e)
 not-asked = unasked inheritanceFirst
 
 -- So where the run of a signal's body without the signal does not ask for it, that run is the run with it, and stands for both: of a
 -- statement,
-pub one-run-for-both : (sc : Scope) (a s : ℕ) (p : Statement) (e : ℕ) → member s (asked p (remove s e)) ≡ false
-    → (startTree p (insert s e) ≡ startTree p (remove s e)) × (startTree (signal sc a s p) e ≡ signalOnce sc a s (startTree p (remove s e)))
-one-run-for-both sc a s p e h = (one-run s p e h, one-run-signal s p e h sc a)
+pub one-run-for-both : (f : ℕ) (sc : Scope) (a s : ℕ) (p : Statement) (e : ℕ) → member s (asked p (remove s e)) ≡ false
+    → (startTree f p (insert s e) ≡ startTree f p (remove s e)) × (startTree f (signal sc a s p) e ≡ signalOnce f sc a s (startTree f p (remove s e)))
+one-run-for-both f sc a s p e h = (one-run f s p e h, one-run-signal f s p e h sc a)
 
 -- of one that resumes by any ranks, and under read-back declarations
-pub one-run-resumed : (sc : Scope) (a s base : ℕ) (p : Statement) (m e : ℕ) → member s (askedOf (resumeTree base p m (remove s e))) ≡ false
-    → (resumeTree base p m (insert s e) ≡ resumeTree base p m (remove s e))
-    × (resumeTree base (signal sc a s p) m e ≡ signalOnce sc a s (resumeTree base p m (remove s e)))
+pub one-run-resumed : (f : ℕ) (sc : Scope) (a s base : ℕ) (p : Statement) (m e : ℕ) → member s (askedOf (resumeTree f base p m (remove s e))) ≡ false
+    → (resumeTree f base p m (insert s e) ≡ resumeTree f base p m (remove s e))
+    × (resumeTree f base (signal sc a s p) m e ≡ signalOnce f sc a s (resumeTree f base p m (remove s e)))
 unfolding expandBy
-one-run-resumed sc a s base p m e h = one-run-for-both sc a s (expandBy base p m) e h
+one-run-resumed f sc a s base p m e h = one-run-for-both f sc a s (expandBy base p m) e h
 
-pub one-run-declared : (a s : ℕ) (ss : List ℕ) (p : Statement) (e : ℕ) → member s (asked (declared a ss p) (remove s e)) ≡ false
-    → (startTree (declared a ss p) (insert s e) ≡ startTree (declared a ss p) (remove s e))
-    × (startTree (declared a (s ∷ ss) p) e ≡ signalOnce reported a s (startTree (declared a ss p) (remove s e)))
+pub one-run-declared : (f a s : ℕ) (ss : List ℕ) (p : Statement) (e : ℕ) → member s (asked (declared a ss p) (remove s e)) ≡ false
+    → (startTree f (declared a ss p) (insert s e) ≡ startTree f (declared a ss p) (remove s e))
+    × (startTree f (declared a (s ∷ ss) p) e ≡ signalOnce f reported a s (startTree f (declared a ss p) (remove s e)))
 unfolding declaredBy
-one-run-declared a s ss p e h = one-run-for-both reported a s (declared a ss p) e h
+one-run-declared f a s ss p e h = one-run-for-both f reported a s (declared a ss p) e h
+
+-- 12. LITRES (02, item 12). Those of a farm are what the emissions of any derivation bring, a run not chosen left out, and what a
+-- declaration drops
+pub litres-of-rules : (f : ℕ) {ord : Order} {p : Statement} {e : ℕ} {r : Reaction} (d : ReactsBy ord p e r)
+    → delivers f d ≡ deliveredBy ord f p e
+litres-of-rules = delivers-is
+
+-- rewriting gives the same litres, instant by instant: from fresh, and from any set of labels against its expansion
+pub same-litres : (f : ℕ) (p : Statement) → Source p → Distinct p → NoSetpause p → (es : List ℕ)
+    → added (byLabels p) (addsByLabels f p) State.fresh es ≡ added byRewriting (addsByRewriting f) (Rewriting.fresh p) es
+same-litres f p c d n es = agree-added f p c d n State.fresh (Rewriting.fresh p) refl es
+
+pub same-litres-from : (f : ℕ) (p : Statement) → Source p → Distinct p → NoSetpause p → (L : ℕ) (es : List ℕ)
+    → added (byLabels p) (addsByLabels f p) (State.waits L) es ≡ added byRewriting (addsByRewriting f) (Rewriting.waits (expand p L)) es
+same-litres-from f p c d n L es = agree-added f p c d n (State.waits L) (Rewriting.waits (expand p L)) refl es
+
+-- a farm whose signal is not emitted has none, so the ledger asks for emitted farms only
+pub no-litres : (f : ℕ) (p : Statement) (e : ℕ) → member f (emitted (react p e)) ≡ false → delivered f p e ≡ 0
+no-litres = not-emitted
+
+-- where no emission brings the farm more than c, an instant brings no more than c for each of its reactions, fresh or resumed
+pub litres-bounded : (f c : ℕ) (p : Statement) (e : ℕ) → AtMost f c p
+    → (delivered f p e ≤ c * reactions p e) × ((L : ℕ) → delivered f (expand p L) e ≤ c * reactions (expand p L) e)
+litres-bounded f c p e h = (delivered-most f c p e h, λ L. delivered-most f c (expand p L) e (expand-most f c p L h))
+
+-- so a farm that no emission with litres names has none, fresh or resumed, and the ledger asks for named farms only
+pub unnamed-no-litres : (f : ℕ) (p : Statement) (e : ℕ) → AtMost f 0 p → (delivered f p e ≡ 0) × ((L : ℕ) → delivered f (expand p L) e ≡ 0)
+unnamed-no-litres f p e h =
+    let b = litres-bounded f 0 p e h in
+    (omega (arith, b .0), λ L. let x = b .1 L in omega arith)

@@ -10,6 +10,7 @@ use Rattle.esterel.specs.Reaction.{Code, ended, waiting, leaving, wrong, isWron
 use Rattle.esterel.specs.Errors.{Error, instantaneous, ifEnded, signalErrors, errorsBy, errors}
 use Rattle.esterel.specs.Reactions.{reactionsBy, reactions}
 use Rattle.esterel.specs.Asked.{askedBy, asked}
+use Rattle.esterel.specs.Litres.{deliveredBy, delivered}
 use Rattle.esterel.specs.Resume.{Instant, instant, start, seqInstant, parInstant, loopInstant, presentInstant, tryInstant, signalNames, signalInstant, suspendInstant, stoppedInstant, tree, startTree, seqTree, parTree, loopTree, presentTree, tryTree, signalTree, suspendTree, heldTree, stoppedTree}
 use Rattle.theory.proofs.SignalOrders.{Blamed, blamed}
 
@@ -94,50 +95,51 @@ start-held s K p e = go (member s e)
     go true = refl
     go false = refl
 
--- ---- a tree from the trees of the parts
-pub start-tree-seq : (p q : Statement) (e : ℕ) → startTree (seq p q) e ≡ seqTree q (startTree p e) (startTree q e)
-unfolding askedBy
-start-tree-seq p q e = ap (λ (i : Instant). tree i (asked (seq p q) e)) (start-seq p q e)
+-- ---- a tree from the trees of the parts, with the litres of a farm
+module _ (f : ℕ) where
+  pub start-tree-seq : (p q : Statement) (e : ℕ) → startTree f (seq p q) e ≡ seqTree q (startTree f p e) (startTree f q e)
+  unfolding askedBy deliveredBy
+  start-tree-seq p q e = ap (λ (i : Instant). tree i (asked (seq p q) e) (delivered f (seq p q) e)) (start-seq p q e)
 
-pub start-tree-par : (p q : Statement) (e : ℕ) → startTree (par p q) e ≡ parTree (startTree p e) (startTree q e)
-unfolding askedBy
-start-tree-par p q e = ap (λ (i : Instant). tree i (asked (par p q) e)) (start-par p q e)
+  pub start-tree-par : (p q : Statement) (e : ℕ) → startTree f (par p q) e ≡ parTree (startTree f p e) (startTree f q e)
+  unfolding askedBy deliveredBy
+  start-tree-par p q e = ap (λ (i : Instant). tree i (asked (par p q) e) (delivered f (par p q) e)) (start-par p q e)
 
-pub start-tree-loop : (a : ℕ) (p : Statement) (e : ℕ) → startTree (loop a p) e ≡ loopTree a p (startTree p e)
-unfolding askedBy
-start-tree-loop a p e = ap (λ (i : Instant). tree i (asked p e)) (start-loop a p e)
+  pub start-tree-loop : (a : ℕ) (p : Statement) (e : ℕ) → startTree f (loop a p) e ≡ loopTree a p (startTree f p e)
+  unfolding askedBy deliveredBy
+  start-tree-loop a p e = ap (λ (i : Instant). tree i (asked p e) (delivered f (loop a p) e)) (start-loop a p e)
 
-pub start-tree-present : (s : ℕ) (p q : Statement) (e : ℕ)
-    → startTree (present s p q) e ≡ presentTree s (cond (member s e) (startTree p e) (startTree q e))
-unfolding askedBy
-start-tree-present s p q e = ap (λ (i : Instant). tree i (asked (present s p q) e)) (start-present s p q e) ∙ go (member s e)
-  where
-    go : (b : Bool)
-        → tree (presentInstant (cond b (start p e) (start q e))) (insert s (cond b (asked p e) (asked q e)))
-        ≡ presentTree s (cond b (startTree p e) (startTree q e))
-    go true = refl
-    go false = refl
+  pub start-tree-present : (s : ℕ) (p q : Statement) (e : ℕ)
+      → startTree f (present s p q) e ≡ presentTree s (cond (member s e) (startTree f p e) (startTree f q e))
+  unfolding askedBy deliveredBy
+  start-tree-present s p q e = ap (λ (i : Instant). tree i (asked (present s p q) e) (delivered f (present s p q) e)) (start-present s p q e) ∙ go (member s e)
+    where
+      go : (b : Bool)
+          → tree (presentInstant (cond b (start p e) (start q e))) (insert s (cond b (asked p e) (asked q e))) (cond b (delivered f p e) (delivered f q e))
+          ≡ presentTree s (cond b (startTree f p e) (startTree f q e))
+      go true = refl
+      go false = refl
 
-pub start-tree-signal : (sc : Scope) (a s : ℕ) (p : Statement) (e : ℕ)
-    → startTree (signal sc a s p) e ≡ signalTree sc a s (startTree p (remove s e)) (startTree p (insert s e))
-unfolding askedBy
-start-tree-signal sc a s p e = ap (λ (i : Instant). tree i (asked (signal sc a s p) e)) (start-signal sc a s p e)
+  pub start-tree-signal : (sc : Scope) (a s : ℕ) (p : Statement) (e : ℕ)
+      → startTree f (signal sc a s p) e ≡ signalTree f sc a s (startTree f p (remove s e)) (startTree f p (insert s e))
+  unfolding askedBy deliveredBy
+  start-tree-signal sc a s p e = ap (λ (i : Instant). tree i (asked (signal sc a s p) e) (delivered f (signal sc a s p) e)) (start-signal sc a s p e)
 
-pub start-tree-try : (p : Statement) (e : ℕ) → startTree (try p) e ≡ tryTree (startTree p e)
-unfolding askedBy
-start-tree-try p e = ap (λ (i : Instant). tree i (asked p e)) (start-try p e)
+  pub start-tree-try : (p : Statement) (e : ℕ) → startTree f (try p) e ≡ tryTree (startTree f p e)
+  unfolding askedBy deliveredBy
+  start-tree-try p e = ap (λ (i : Instant). tree i (asked p e) (delivered f p e)) (start-try p e)
 
-pub start-tree-suspend : (s : ℕ) (p : Statement) (e : ℕ) → startTree (suspend s p) e ≡ suspendTree s (startTree p e)
-unfolding askedBy
-start-tree-suspend s p e = ap (λ (i : Instant). tree i (asked p e)) (start-suspend s p e)
+  pub start-tree-suspend : (s : ℕ) (p : Statement) (e : ℕ) → startTree f (suspend s p) e ≡ suspendTree s (startTree f p e)
+  unfolding askedBy deliveredBy
+  start-tree-suspend s p e = ap (λ (i : Instant). tree i (asked p e) (delivered f p e)) (start-suspend s p e)
 
-pub start-tree-held : (s K : ℕ) (p : Statement) (e : ℕ)
-    → startTree (held s K p) e ≡ cond (member s e) (stoppedTree s K p) (heldTree s (startTree p e))
-unfolding askedBy
-start-tree-held s K p e = ap (λ (i : Instant). tree i (asked (held s K p) e)) (start-held s K p e) ∙ go (member s e)
-  where
-    go : (b : Bool)
-        → tree (cond b (stoppedInstant s K p) (suspendInstant s (start p e))) (insert s (cond b none (asked p e)))
-        ≡ cond b (stoppedTree s K p) (heldTree s (startTree p e))
-    go true = refl
-    go false = refl
+  pub start-tree-held : (s K : ℕ) (p : Statement) (e : ℕ)
+      → startTree f (held s K p) e ≡ cond (member s e) (stoppedTree s K p) (heldTree s (startTree f p e))
+  unfolding askedBy deliveredBy
+  start-tree-held s K p e = ap (λ (i : Instant). tree i (asked (held s K p) e) (delivered f (held s K p) e)) (start-held s K p e) ∙ go (member s e)
+    where
+      go : (b : Bool)
+          → tree (cond b (stoppedInstant s K p) (suspendInstant s (start p e))) (insert s (cond b none (asked p e))) (cond b 0 (delivered f p e))
+          ≡ cond b (stoppedTree s K p) (heldTree s (startTree f p e))
+      go true = refl
+      go false = refl

@@ -7,13 +7,14 @@ use native.Mathlib.Omega.{arith}
 use lib.ListN.{length, getD, length-append}
 use borrow.Author.Tests.{lt-ltb}
 use Rattle.esterel.specs.Sets.{none, only, join}
-use Rattle.esterel.specs.Statement.{local, Statement, nothing, pause, emit, exit, seq, par, loop, present, signal, try, setpause, suspend}
+use Rattle.esterel.specs.Statement.{pure, litres, local, Statement, nothing, pause, emit, exit, seq, par, loop, present, signal, try, setpause, suspend}
 use Rattle.esterel.specs.LabelTests.{labelsOf, alternative, parallel}
 use Rattle.esterel.specs.LabelRows.{addRow, further, fill}
 use Rattle.esterel.specs.Ranks.{middle}
 use Rattle.sets.specs.Sets.{labelCount, onlyBelow}
 use Rattle.labels.specs.Labels.{labelSet}
 use Rattle.matrix.specs.Rows.{rowOf, addRowBelow, Updates}
+use Rattle.numbers.specs.Bytes.{leBytes}
 use Rattle.sequence.specs.Writer.{bytesOf, size}
 use Rattle.sequence.specs.Commands.{Command}
 use Rattle.layout.specs.Layout.{rest, secondAt, Two, Lies, Ready}
@@ -58,13 +59,17 @@ module _ (a : ℕ) (v : Before) (r : Passed) (m n : List ℕ) where
   nothing-step h = record { labels = h; excludes = unchanged; sides = unchanged }
 
   module _ (h : Labelled r (a + 2) none none) where
-    pub emit-step : (s : ℕ) → Past (emit s) a v r m m n n
+    pub emit-step : (s : ℕ) → Past (emit s pure) a v r m m n n
     unfolding labelsOf bytesOf fill
     emit-step s = record { labels = h; excludes = unchanged; sides = unchanged }
 
     pub exit-step : (k : ℕ) → Past (exit k) a v r m m n n
     unfolding labelsOf bytesOf fill
     exit-step k = record { labels = h; excludes = unchanged; sides = unchanged }
+
+  pub deliver-step : Labelled r (a + 6) none none → (s x : ℕ) → Past (emit s (litres x)) a v r m m n n
+  unfolding labelsOf bytesOf leBytes fill
+  deliver-step h s x = record { labels = h; excludes = unchanged; sides = unchanged }
 
   -- a label below the width
   module _ (l : ℕ) (small : l < labelCount) (n′ : List ℕ) (w : Updates (addRowBelow labelCount l (labelSet (v .concurrent))) n n′) where
@@ -85,28 +90,29 @@ module _ (a : ℕ) (v : Before) (r : Passed) (m n : List ℕ) where
       sides = row-of-label l (labelSet (v .concurrent)) small w;
     }
 
--- the command is none of those with labels or parts, nor nothing
+-- the command is none of those with labels, parts or litres, nor nothing
 abbrev pub Other : ℕ → Type 0
 Other b =
-    (((((((((Unit {0} × (b ≡ 0 → ⊥)) × (b ≡ 1 → ⊥)) × (b ≡ 4 → ⊥)) × (b ≡ 5 → ⊥)) × (b ≡ 6 → ⊥)) × (b ≡ 7 → ⊥)) × (b ≡ 8 → ⊥)) × (b ≡ 9 → ⊥)) × (b ≡ 10 → ⊥)) × (b ≡ 11 → ⊥)
+    ((((((((((Unit {0} × (b ≡ 0 → ⊥)) × (b ≡ 1 → ⊥)) × (b ≡ 4 → ⊥)) × (b ≡ 5 → ⊥)) × (b ≡ 6 → ⊥)) × (b ≡ 7 → ⊥)) × (b ≡ 8 → ⊥)) × (b ≡ 9 → ⊥)) × (b ≡ 10 → ⊥)) × (b ≡ 11 → ⊥)) × (b ≡ 12 → ⊥)
 
 pub other-step : {u : List ℕ} {d a : ℕ} {bs : List ℕ} (i : Ready u d a bs) (v : Before) (r : Passed) (m n : List ℕ) → Labelled r (a + 2) none none
     → Other (getD bs 0 0) → (t : List ℕ) (base : ℕ) (p : Statement) → Lies t d base a bs p → Past p a v r m m n n
 other-step {d = d} {a = a} {bs = bs} i v r m n h o t base p l = go (command i .0) (command i .1)
   where
     go : (c : Command) → getD bs 0 0 ≡ byteOf c → Past p a v r m m n n
-    go Command.nothing b = absurd (o .0 .0 .0 .0 .0 .0 .0 .0 .0 .1 b)
-    go Command.pause b = absurd (o .0 .0 .0 .0 .0 .0 .0 .0 .1 b)
-    go Command.emit b = here a v r m m n n p (emit (getD bs 1 0)) (by-command t d base a bs p l Command.emit b .parts) (emit-step a v r m n h (getD bs 1 0))
+    go Command.nothing b = absurd (o .0 .0 .0 .0 .0 .0 .0 .0 .0 .0 .1 b)
+    go Command.pause b = absurd (o .0 .0 .0 .0 .0 .0 .0 .0 .0 .1 b)
+    go Command.emit b = here a v r m m n n p (emit (getD bs 1 0) pure) (by-command t d base a bs p l Command.emit b .parts) (emit-step a v r m n h (getD bs 1 0))
     go Command.exit b = here a v r m m n n p (exit (getD bs 1 0)) (by-command t d base a bs p l Command.exit b .parts) (exit-step a v r m n h (getD bs 1 0))
-    go Command.seq b = absurd (o .0 .0 .0 .0 .0 .0 .0 .1 b)
-    go Command.par b = absurd (o .0 .0 .0 .0 .0 .0 .1 b)
-    go Command.loop b = absurd (o .0 .0 .0 .0 .0 .1 b)
-    go Command.present b = absurd (o .0 .0 .0 .0 .1 b)
-    go Command.signal b = absurd (o .0 .0 .0 .1 b)
-    go Command.try b = absurd (o .0 .0 .1 b)
-    go Command.setpause b = absurd (o .0 .1 b)
-    go Command.suspend b = absurd (o .1 b)
+    go Command.seq b = absurd (o .0 .0 .0 .0 .0 .0 .0 .0 .1 b)
+    go Command.par b = absurd (o .0 .0 .0 .0 .0 .0 .0 .1 b)
+    go Command.loop b = absurd (o .0 .0 .0 .0 .0 .0 .1 b)
+    go Command.present b = absurd (o .0 .0 .0 .0 .0 .1 b)
+    go Command.signal b = absurd (o .0 .0 .0 .0 .1 b)
+    go Command.try b = absurd (o .0 .0 .0 .1 b)
+    go Command.setpause b = absurd (o .0 .0 .1 b)
+    go Command.suspend b = absurd (o .0 .1 b)
+    go Command.deliver b = absurd (o .1 b)
 
 -- ---- commands of one part
 module _ (a : ℕ) (v : Before) (r : Passed) (m m′ n n′ : List ℕ) (p : Statement) where

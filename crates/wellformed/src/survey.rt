@@ -34,6 +34,7 @@ fn pass(
         9 => pass_part(s, 1, at + 1, depth - 1, before, exclusive, concurrent),
         10 => exclusion::at_setpause(s[1], at + 2, before, concurrent),
         11 => pass_part(s, 2, at + 2, depth - 1, before, exclusive, concurrent),
+        12 => exclusion::at_other(at + 6),
         _ => exclusion::at_other(at + 2),
     }
 }

@@ -28,6 +28,7 @@ signals x Command.signal n3 n1 n10 = refl
 signals x Command.try n3 n1 n10 = refl
 signals x Command.setpause n3 n1 n10 = absurd (n10 refl)
 signals x Command.suspend n3 n1 n10 = refl
+signals x Command.deliver n3 n1 n10 = refl
 
 others : (b x : ℕ) (o : Option Command) → commandOf b ≡ o → (b ≡ 3 → ⊥) → (b ≡ 1 → ⊥) → (b ≡ 10 → ⊥) → ltb x signalCount ≡ operandInRange o x
 others b x none e n3 n1 n10 = refl

@@ -35,7 +35,14 @@ returns-5 c =
     ((λ n. refl), ((λ n. refl), ((λ n. absurd (n refl)), ((λ n. refl), ((λ n. refl), tt))))) (c .before .before .before .before .before .args .b) (omega arith) (omega arith) (c .before .if4 .left)
 
 returns-6 : tie.Need-returns-6
-returns-6 c = ap (λ (o : Option Command). countOf (counted operandCount o)) (sym (above (c .before .before .before .before .before .args .b) (omega (arith, c .if5 .left))))
+unfolding commandOf
+returns-6 c = between (Counts 5) 12 1 (refl, tt) (c .before .before .before .before .before .before .args .b) (omega arith) (omega (arith, c .if6 .taken))
+
+returns-7 : tie.Need-returns-7
+returns-7 c =
+    let z = c .if6 .left in
+    let y = c .before .if5 .left in
+    ap (λ (o : Option Command). countOf (counted operandCount o)) (sym (above (c .before .before .before .before .before .before .args .b) (omega (arith, y, z))))
 
 pub operand-count-spec : {M : Type 1} → statement M
-operand-count-spec = tie.close (tie.spec returns returns-2 returns-3 returns-4 returns-5 returns-6)
+operand-count-spec = tie.close (tie.spec returns returns-2 returns-3 returns-4 returns-5 returns-6 returns-7)

@@ -29,13 +29,18 @@ unfolding commandOf
 returns-4 c = between (Counts 0) 10 1 (refl, tt) (c .before .before .before .before .args .b) (omega arith) (omega arith)
 
 returns-5 : tie.Need-returns-5
-returns-5 c = ap (λ (o : Option Command). countOf (counted partCount o)) (sym (above (c .before .before .before .before .before .args .b) (c .if5 .taken)))
+unfolding commandOf
+returns-5 c = between (Counts 0) 12 1 (refl, tt) (c .before .before .before .before .before .args .b) (omega arith) (omega (arith, c .if5 .taken))
 
 returns-6 : tie.Need-returns-6
+returns-6 c = ap (λ (o : Option Command). countOf (counted partCount o)) (sym (above (c .before .before .before .before .before .before .args .b) (c .if6 .taken)))
+
+returns-7 : tie.Need-returns-7
 unfolding commandOf
-returns-6 c =
-    between (λ (b : ℕ). (b ≡ 7 → ⊥) → (b ≡ 10 → ⊥) → Counts 1 b) 6 6
-    ((λ n m. refl), ((λ n m. absurd (n refl)), ((λ n m. refl), ((λ n m. refl), ((λ n m. absurd (m refl)), ((λ n m. refl), tt)))))) (c .before .before .before .before .before .args .b) (omega arith) (omega arith) (c .before .before .if3 .left) (c .before .if4 .left)
+returns-7 c =
+    between (λ (b : ℕ). (b ≡ 7 → ⊥) → (b ≡ 10 → ⊥) → (b ≡ 12 → ⊥) → Counts 1 b) 6 7
+    ((λ n m k. refl), ((λ n m k. absurd (n refl)), ((λ n m k. refl), ((λ n m k. refl), ((λ n m k. absurd (m refl)), ((λ n m k. refl), ((λ n m k. absurd (k refl)), tt)))))))
+    (c .before .before .before .before .before .before .args .b) (omega arith) (omega arith) (c .before .before .before .if3 .left) (c .before .before .if4 .left) (c .before .if5 .left)
 
 pub part-count-spec : {M : Type 1} → statement M
-part-count-spec = tie.close (tie.spec returns returns-2 returns-3 returns-4 returns-5 returns-6)
+part-count-spec = tie.close (tie.spec returns returns-2 returns-3 returns-4 returns-5 returns-6 returns-7)

@@ -1,3 +1,4 @@
+use mathlib.Core.Path.{refl}
 use Rattle.esterel.specs.Statement.{local}
 use borrow.Author.Needs.{needs}
 use Rattle.declarations.proofs.in_signal.Statement.{statement}
@@ -10,7 +11,7 @@ declaring-requires : tie.Need-declaring-requires
 declaring-requires c κs = search needs
 
 returns : tie.Need-returns
-returns c = c .declaring .ensures local (c .before .without .ensures)
+returns c = c .declaring .ensures (c .before .before .args .farm) local (c .before .without .ensures) (λ x. refl)
 
 pub in-signal-spec : {M : Type 1} → statement M
 in-signal-spec = tie.close (tie.spec without-requires declaring-requires returns)

@@ -1,35 +1,22 @@
-use mathlib.Core.Path.{_≡_, refl, sym, ap, _∙_}
-use mathlib.Core.Bool.{Bool}
-use mathlib.Core.List.{List, [], _∷_}
-use Prim.Native.Nat.{ℕ}
+use mathlib.Core.Path.{sym, _∙_}
+use Prim.Native.Nat.{_≤_}
 use native.Mathlib.Omega.{arith}
-use lib.ListN.{getD}
-use borrow.Author.Needs.{needs}
-use Rattle.sequence.specs.Commands.{Command, commandOf, operandCount, operandsOf, bytesAt, inRange, width}
-use Rattle.sequence.specs.Reader.{Front, front}
-use Rattle.layout.specs.Walk.{headOf}
-use Rattle.sequence.proofs.Table.{unnamed, at-most-one, free}
-use Rattle.sequence.proofs.Front.{Fronts, front-is}
+use lib.ListN.{getD, length}
+use Rattle.sequence.specs.Commands.{commandOf, operandCount, width}
+use Rattle.sequence.proofs.Table.{unnamed}
+use Rattle.sequence.proofs.Front.{Fronts}
 use Rattle.commands.proofs.Counts.{of-command, of-none, operand-of}
+use Rattle.heads.proofs.Fronting.{heads, short, bare, outside, one, five, unfit}
+use borrow.Author.Needs.{needs}
 use Rattle.heads.proofs.front.Statement.{statement}
 use Rattle.heads.proofs.front.Tie as tie
-
-heads : (s : List ℕ) (f : Front) → Fronts s f → headOf f ≡ headOf (front s)
-heads s f v = ap headOf (sym (front-is s f v))
-
--- a command with operands has one
-module _ (c : Command) (n : ℕ) (counts : n ≡ operandCount c) (some : n ≡ 0 → ⊥) where
-  operand : operandCount c ≡ 1
-  operand = let z : operandCount c ≡ 0 → ⊥ = λ e. some (counts ∙ e) in omega (arith, at-most-one c)
-
-  range : (s : List ℕ) (r : Bool) → r ≡ inRange c (getD s 1 0 ∷ []) → inRange c (operandsOf c s) ≡ r
-  range s r e = ap (λ (n : ℕ). inRange c (bytesAt 1 n s)) operand ∙ sym e
 
 mul-result : tie.Need-mul-result
 mul-result c = search needs
 
 returns : tie.Need-returns
-returns c = heads _ _ (Fronts.empty (c .if1 .taken))
+returns c =
+    heads _ _ (Fronts.empty (c .if1 .taken))
 
 shared-slice-read-b : tie.Need-shared-slice-read-b
 shared-slice-read-b c = search needs
@@ -48,23 +35,25 @@ enum-known-n c = search needs
 
 returns-2 : tie.Need-returns-2
 returns-2 c =
-    let g = of-command operandCount (commandOf (getD (c .before .before .before .before .before .before .before .before .args .s .now) 0 0)) (c .before .before .n .given .0 .0) (sym (c .before .before .n .given .1) ∙ c .before .before .before .before .operand-count .ensures) in
-    let w : 1 ≡ width (g .0) = omega (arith, g .1 .1, c .if2 .taken) in
-    w ∙ heads _ _ (Fronts.whole (g .0) _ (record {
-      byte = g .1 .0;
-      long = omega (arith, w, c .before .before .before .before .before .before .if1 .left);
-      operands = refl;
-      ranged = free (g .0) _ (omega (arith, w));
-    }))
+    let s = c .before .before .before .before .before .before .before .before .args .s .now in
+    let g = of-command operandCount (commandOf (getD s 0 0)) (c .before .before .n .given .0 .0) (sym (c .before .before .n .given .1) ∙ c .before .before .before .before .operand-count .ensures) in
+    let l = c .before .before .before .before .before .before .if1 .left in
+    bare s (g .0) (g .1 .0) (sym (g .1 .1) ∙ c .if2 .taken) (omega (arith, l))
+
+cast-if3 : tie.Need-cast-if3
+cast-if3 c = search needs
 
 mul-result-3 : tie.Need-mul-result-3
 mul-result-3 c = search needs
 
 returns-3 : tie.Need-returns-3
 returns-3 c =
-    let g = of-command operandCount (commandOf (getD (c .before .before .before .before .before .before .before .before .before .args .s .now) 0 0)) (c .before .before .before .n .given .0 .0) (sym (c .before .before .before .n .given .1) ∙ c .before .before .before .before .before .operand-count .ensures) in
-    let w = operand (g .0) _ (g .1 .1) (c .before .if2 .left) in
-    heads _ _ (Fronts.short (g .0) (omega (arith, c .before .before .before .before .before .before .before .if1 .left)) (g .1 .0) (omega (arith, w, c .if3 .taken)))
+    let s = c .before .before .before .before .before .before .before .before .before .args .s .now in
+    let g = of-command operandCount (commandOf (getD s 0 0)) (c .before .before .before .n .given .0 .0) (sym (c .before .before .before .n .given .1) ∙ c .before .before .before .before .before .operand-count .ensures) in
+    let l = c .before .before .before .before .before .before .before .if1 .left in
+    let e = g .1 .1 in
+    let t = c .if3 .taken in
+    short s (g .0) (g .1 .0) (omega (arith, l)) (omega (arith, e, t))
 
 shared-slice-read-in-range : tie.Need-shared-slice-read-in-range
 shared-slice-read-in-range c = search needs
@@ -72,36 +61,74 @@ shared-slice-read-in-range c = search needs
 in-range-requires : tie.Need-in-range-requires
 in-range-requires c κs = search needs
 
+returns-4 : tie.Need-returns-4
+returns-4 c =
+    let s = c .before .before .before .before .before .before .before .before .before .before .before .before .before .args .s .now in
+    let g = of-command operandCount (commandOf (getD s 0 0)) (c .before .before .before .before .before .before .before .n .given .0 .0) (sym (c .before .before .before .before .before .before .before .n .given .1) ∙ c .before .before .before .before .before .before .before .before .before .operand-count .ensures) in
+    let e = g .1 .1 in
+    let z = c .before .before .before .before .before .if2 .left in
+    let m = c .before .before .before .before .if3 .left in
+    let some : 1 ≤ operandCount (g .0) = omega (arith, e, z) in
+    let long : width (g .0) ≤ length s = omega (arith, e, m) in
+    one s (g .0) (g .1 .0) some long (λ xs. c .before .before .in-range .ensures ∙ operand-of (g .0) _ (g .1 .0) some xs) (sym (g .1 .1) ∙ c .if5 .taken) (c .before .if4 .taken)
+
+get-le-requires : tie.Need-get-le-requires
+get-le-requires c κs = search needs
+
+cast-is-whole : tie.Need-cast-is-whole
+cast-is-whole c = search needs
+
+is-whole-requires : tie.Need-is-whole-requires
+is-whole-requires c κs = search needs
+
 mul-result-4 : tie.Need-mul-result-4
 mul-result-4 c = search needs
 
-returns-4 : tie.Need-returns-4
-returns-4 c =
+mul-result-5 : tie.Need-mul-result-5
+mul-result-5 c = search needs
+
+returns-5 : tie.Need-returns-5
+returns-5 c =
     heads _ _
     (Fronts.unknown (omega (arith, c .before .before .before .before .if1 .left))
     (unnamed _ (of-none operandCount (commandOf (getD (c .before .before .before .before .before .before .args .s .now) 0 0)) (sym (c .enum-told .given .1) ∙ c .before .before .operand-count .ensures))))
 
-returns-5 : tie.Need-returns-5
-returns-5 c =
-    let g = of-command operandCount (commandOf (getD (c .before .before .before .before .before .before .before .before .before .before .before .before .args .s .now) 0 0)) (c .before .before .before .before .before .before .n .given .0 .0) (sym (c .before .before .before .before .before .before .n .given .1) ∙ c .before .before .before .before .before .before .before .before .operand-count .ensures) in
-    let some = c .before .before .before .before .if2 .left in
-    let w = operand (g .0) _ (g .1 .1) some in
-    let two : 2 ≡ width (g .0) = omega (arith, w) in
-    two ∙ heads _ _ (Fronts.whole (g .0) _ (record {
-      byte = g .1 .0;
-      long = omega (arith, w, c .before .before .before .if3 .left);
-      operands = refl;
-      ranged = range (g .0) _ (g .1 .1) some _ _ (c .before .in-range .ensures ∙ operand-of (g .0) _ (g .1 .0) w) ∙ c .if4 .taken;
-    }))
-
 returns-6 : tie.Need-returns-6
 returns-6 c =
-    let g = of-command operandCount (commandOf (getD (c .before .before .before .before .before .before .before .before .before .before .before .before .args .s .now) 0 0)) (c .before .before .before .before .before .before .n .given .0 .0) (sym (c .before .before .before .before .before .before .n .given .1) ∙ c .before .before .before .before .before .before .before .before .operand-count .ensures) in
-    let some = c .before .before .before .before .if2 .left in
-    let w = operand (g .0) _ (g .1 .1) some in
-    heads _ _
-    (Fronts.outside (g .0) (g .1 .0) (omega (arith, w, c .before .before .before .if3 .left))
-    (range (g .0) _ (g .1 .1) some _ _ (c .before .in-range .ensures ∙ operand-of (g .0) _ (g .1 .0) w) ∙ c .if4 .left))
+    let s = c .before .before .before .before .before .before .before .before .before .before .before .before .before .before .before .before .args .s .now in
+    let g = of-command operandCount (commandOf (getD s 0 0)) (c .before .before .before .before .before .before .before .before .before .before .n .given .0 .0) (sym (c .before .before .before .before .before .before .before .before .before .before .n .given .1) ∙ c .before .before .before .before .before .before .before .before .before .before .before .before .operand-count .ensures) in
+    let e = g .1 .1 in
+    let z = c .before .before .before .before .before .before .before .before .if2 .left in
+    let m = c .before .before .before .before .before .before .before .if3 .left in
+    let some : 1 ≤ operandCount (g .0) = omega (arith, e, z) in
+    let long : width (g .0) ≤ length s = omega (arith, e, m) in
+    let o = c .before .before .before .if5 .left in
+    five s (g .0) (g .1 .0) some long (λ xs. c .before .before .before .before .before .in-range .ensures ∙ operand-of (g .0) _ (g .1 .0) some xs) (omega (arith, e, z, o)) (λ k. let b = c .before .before .before .before .before .before .shared-slice-known3 .given k in omega (arith, b))
+    (c .before .before .get-le .ensures .0) (c .before .is-whole .ensures) (c .before .before .before .before .if4 .taken) (c .if6 .taken)
+
+returns-7 : tie.Need-returns-7
+returns-7 c =
+    let s = c .before .before .before .before .before .before .before .before .before .before .before .before .before .before .before .before .args .s .now in
+    let g = of-command operandCount (commandOf (getD s 0 0)) (c .before .before .before .before .before .before .before .before .before .before .n .given .0 .0) (sym (c .before .before .before .before .before .before .before .before .before .before .n .given .1) ∙ c .before .before .before .before .before .before .before .before .before .before .before .before .operand-count .ensures) in
+    let e = g .1 .1 in
+    let z = c .before .before .before .before .before .before .before .before .if2 .left in
+    let m = c .before .before .before .before .before .before .before .if3 .left in
+    let some : 1 ≤ operandCount (g .0) = omega (arith, e, z) in
+    let long : width (g .0) ≤ length s = omega (arith, e, m) in
+    let o = c .before .before .before .if5 .left in
+    unfit s (g .0) (g .1 .0) some long (λ xs. c .before .before .before .before .before .in-range .ensures ∙ operand-of (g .0) _ (g .1 .0) some xs) (omega (arith, e, z, o)) (λ k. let b = c .before .before .before .before .before .before .shared-slice-known3 .given k in omega (arith, b))
+    (c .before .before .get-le .ensures .0) (c .before .is-whole .ensures) (c .before .before .before .before .if4 .taken) (c .if6 .left)
+
+returns-8 : tie.Need-returns-8
+returns-8 c =
+    let s = c .before .before .before .before .before .before .before .before .before .before .before .before .args .s .now in
+    let g = of-command operandCount (commandOf (getD s 0 0)) (c .before .before .before .before .before .before .n .given .0 .0) (sym (c .before .before .before .before .before .before .n .given .1) ∙ c .before .before .before .before .before .before .before .before .operand-count .ensures) in
+    let e = g .1 .1 in
+    let z = c .before .before .before .before .if2 .left in
+    let m = c .before .before .before .if3 .left in
+    let some : 1 ≤ operandCount (g .0) = omega (arith, e, z) in
+    let long : width (g .0) ≤ length s = omega (arith, e, m) in
+    outside s (g .0) (g .1 .0) some long (λ xs. c .before .in-range .ensures ∙ operand-of (g .0) _ (g .1 .0) some xs) (c .if4 .left)
 
 pub front-spec : {M : Type 1} → statement M
 front-spec =
@@ -115,11 +142,18 @@ front-spec =
     mul-result-2
     enum-known-n
     returns-2
+    cast-if3
     mul-result-3
     returns-3
     shared-slice-read-in-range
     in-range-requires
-    mul-result-4
     returns-4
+    get-le-requires
+    cast-is-whole
+    is-whole-requires
+    mul-result-4
+    mul-result-5
     returns-5
-    returns-6)
+    returns-6
+    returns-7
+    returns-8)

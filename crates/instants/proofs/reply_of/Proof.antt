@@ -1,5 +1,6 @@
 use mathlib.Core.Path.{subst}
 use borrow.Author.Needs.{needs}
+use Rattle.limits.specs.Limits.{noFarm}
 use Rattle.instants.specs.Replies.{Decodes}
 use Rattle.checks.proofs.Passing.{as-sound, as-ready}
 use Rattle.instants.proofs.Replying.{malformed-reply, over-reply, fresh-reply, waiting-reply}
@@ -50,13 +51,13 @@ returns-2 c =
 returns-3 : tie.Need-returns-3
 returns-3 c =
     let h = c .before .before .before .before .before .before .pre in
-    fresh-reply _ _ _ _ (h .p) (h .is) (h .ranged) _ (subst (Decodes (h .p) _) (c .before .enum-told3 .given .1) (c .before .before .before .decode .ensures (h .p) (h .known))) (c .react .ensures (h .p) (h .known .lies))
+    fresh-reply _ _ _ _ (h .p) (h .is) (h .ranged) noFarm _ (subst (Decodes (h .p) _) (c .before .enum-told3 .given .1) (c .before .before .before .decode .ensures (h .p) (h .known))) (c .react .ensures (h .p) (h .known .lies))
 
 -- src/lib.rt:51:1
 returns-4 : tie.Need-returns-4
 returns-4 c =
     let h = c .before .before .before .before .before .before .before .pre in
-    waiting-reply _ _ _ _ (h .p) (h .is) (h .ranged) _ _ (subst (Decodes (h .p) _) (c .before .before .active .given .1) (c .before .before .before .before .decode .ensures (h .p) (h .known))) (c .react2 .ensures (h .p) (h .known .lies))
+    waiting-reply _ _ _ _ (h .p) (h .is) (h .ranged) noFarm _ _ (subst (Decodes (h .p) _) (c .before .before .active .given .1) (c .before .before .before .before .decode .ensures (h .p) (h .known))) (c .react2 .ensures (h .p) (h .known .lies))
 
 pub reply-of-spec : {M : Type 1} → statement M
 reply-of-spec =

@@ -16,7 +16,7 @@ waiting-requires c κs = search needs
 
 returns : tie.Need-returns
 unfolding none
-returns c = c .waiting .ensures ∙ ap (λ (l : ℕ). reactionOf (alone (gives none waiting l nothing) none)) (c .before .single .ensures)
+returns c = c .waiting .ensures ∙ ap (λ (l : ℕ). reactionOf (alone (gives none waiting l nothing) none 0)) (c .before .single .ensures)
 
 pub pausing-spec : {M : Type 1} → statement M
 pausing-spec = tie.close (tie.spec single-requires waiting-requires returns)

@@ -17,14 +17,17 @@ over-two-requires c κs = search needs
 union-requires-2 : tie.Need-union-requires-2
 union-requires-2 c κs = search needs
 
+together-requires : tie.Need-together-requires
+together-requires c κs = search needs
+
 around-requires : tie.Need-around-requires
 around-requires c κs = search needs
 
 returns : tie.Need-returns
 returns c u t v a b =
-    let d = c .before .before .before .before in
-    seq-goes-on u t v _ _ a b _ _ _ (sym (d .before .is-ended .ensures) ∙ d .if1 .taken) (c .before .before .union .ensures) (c .before .over-two .ensures)
-    (c .union2 .ensures)
+    let d = c .before .before .before .before .before in
+    seq-goes-on u t v _ _ a b _ _ _ _ (sym (d .before .is-ended .ensures) ∙ d .if1 .taken) (c .before .before .before .union .ensures)
+    (c .before .before .over-two .ensures) (c .before .union2 .ensures) (c .together .ensures)
 
 returns-2 : tie.Need-returns-2
 unfolding none
@@ -32,4 +35,4 @@ returns-2 c u t v a b =
     seq-stops u t v _ (c .before .before .before .args .q) a (sym (c .before .before .is-ended .ensures) ∙ c .before .if1 .left) (c .around .ensures t a)
 
 pub in-sequence-spec : {M : Type 1} → statement M
-in-sequence-spec = tie.close (tie.spec is-ended-requires union-requires over-two-requires union-requires-2 around-requires returns returns-2)
+in-sequence-spec = tie.close (tie.spec is-ended-requires union-requires over-two-requires union-requires-2 together-requires around-requires returns returns-2)

@@ -1,4 +1,4 @@
-use mathlib.Core.Path.{sym, _∙_}
+use mathlib.Core.Path.{refl, sym, _∙_}
 use native.Mathlib.Omega.{arith}
 use borrow.Author.Needs.{needs}
 use borrow.Author.Tests.{ltb-true}
@@ -6,8 +6,9 @@ use Rattle.esterel.specs.Statement.{local, seq, par, loop, present, signal, try
 use Rattle.esterel.specs.Sets.{none}
 use Rattle.esterel.specs.Resume.{startTree}
 use Rattle.sequence.specs.Commands.{Command}
-use Rattle.layout.proofs.Laid.{ready, taken, begins, last-but-one}
+use Rattle.layout.proofs.Laid.{ready, taken, begins, last-one}
 use Rattle.rules.proofs.Combining.{seq-stops}
+use Rattle.emissions.proofs.Values.{pure-emission, litres-emission}
 use Rattle.react.proofs.Steps.{
   nothing-step,
   emit-step,
@@ -57,6 +58,7 @@ use Rattle.react.proofs.react.try_part.Kinds as try-part-kinds
 use Rattle.react.proofs.react.+after+loop_part+par_parts+part+present_parts+react+seq_parts+signal_rule+try_part.Lts-try_part as try-part-lts
 use Rattle.reaction.proofs.around.Reads as around-reads
 use Rattle.reaction.proofs.ending.Reads as ending-reads
+use Rattle.emissions.proofs.emitting.Reads as emitting-reads
 use Rattle.rules.proofs.in_loop.Reads as in-loop-reads
 use Rattle.rules.proofs.in_parallel.Reads as in-parallel-reads
 use Rattle.rules.proofs.in_sequence.Reads as in-sequence-reads
@@ -186,7 +188,7 @@ abbrev present-parts-claims : ℕ → present-parts-lts.Claims
 present-parts-claims t = (single-reads.Asked, single-reads.Learnt, member-reads.Asked, member-reads.Learnt, part-below t, part.Post, around-reads.Asked, around-reads.Learnt)
 
 abbrev react-claims : ℕ → react-lts.Claims
-react-claims t = (ending-reads.Asked, ending-reads.Learnt, pausing-reads.Asked, pausing-reads.Learnt, single-reads.Asked, single-reads.Learnt, leaving-reads.Asked, leaving-reads.Learnt, seq-parts-below t, seq-parts.Post, par-parts-below t, par-parts.Post, loop-part-below t, loop-part.Post, present-parts-below t, present-parts.Post, signal-rule-below t, signal-rule.Post, try-part-below t, try-part.Post, part-below t, part.Post, around-reads.Asked, around-reads.Learnt)
+react-claims t = (ending-reads.Asked, ending-reads.Learnt, pausing-reads.Asked, pausing-reads.Learnt, emitting-reads.Asked, emitting-reads.Learnt, leaving-reads.Asked, leaving-reads.Learnt, seq-parts-below t, seq-parts.Post, par-parts-below t, par-parts.Post, loop-part-below t, loop-part.Post, present-parts-below t, present-parts.Post, signal-rule-below t, signal-rule.Post, try-part-below t, try-part.Post, part-below t, part.Post, around-reads.Asked, around-reads.Learnt)
 
 abbrev seq-parts-claims : ℕ → seq-parts-lts.Claims
 seq-parts-claims t = (part-below t, part.Post, after-below t, after.Post)
@@ -201,12 +203,12 @@ after-part-requires : (t : ℕ) → after-lts.Need-part-requires (after-claims t
 after-part-requires t c κs = (search needs, (c .before .before .before .pre .1 .0, c .before .before .before .pre .1 .1))
 
 after-returns : (t : ℕ) → after-lts.Need-returns (after-claims t) (after-at t) after.Post
-after-returns t c base u i l h = c .in-sequence .ensures u i (startTree u _) h (c .before .part .ensures base u l)
+after-returns t c base u i l h = c .in-sequence .ensures u i (startTree _ u _) h (c .before .part .ensures base u l)
 
 after-returns-2 : (t : ℕ) → after-lts.Need-returns-2 (after-claims t) (after-at t) after.Post
 unfolding none
 after-returns-2 t c base u i l h =
-    seq-stops u i (startTree u _) _ (c .before .before .before .before .args .p) h (sym (c .before .before .is-ended .ensures) ∙ c .before .if1 .left) (c .around .ensures i h)
+    seq-stops u i (startTree _ u _) _ (c .before .before .before .before .args .p) h (sym (c .before .before .is-ended .ensures) ∙ c .before .if1 .left) (c .around .ensures i h)
 
 loop-part-part-requires : (t : ℕ) → loop-part-lts.Need-part-requires (loop-part-claims t) (loop-part-at t) loop-part.Post
 loop-part-part-requires t c κs = let y = begins (c .before .pre .1 .0) Command.loop (c .before .pre .1 .1) in (search needs, (y .there, ready _ (y .parts .0) (c .before .pre .1 .0 .long) (y .parts .1 .1)))
@@ -214,7 +216,7 @@ loop-part-part-requires t c κs = let y = begins (c .before .pre .1 .0) Command.
 loop-part-returns : (t : ℕ) → loop-part-lts.Need-returns (loop-part-claims t) (loop-part-at t) loop-part.Post
 loop-part-returns t c base p l =
     let y = taken (c .before .before .before .pre .1 .0) base p l Command.loop (c .before .before .before .pre .1 .1) .parts in
-    here (loop _ (y .0)) p _ (y .1 .0) (loop-step _ _ (y .0) (c .before .part .ensures base (y .0) (y .1 .1)) (c .in-loop .ensures))
+    here _ (loop _ (y .0)) p _ (y .1 .0) (loop-step _ _ _ (y .0) (c .before .part .ensures base (y .0) (y .1 .1)) (c .in-loop .ensures))
 
 par-parts-element-copy-out-m : (t : ℕ) → par-parts-lts.Need-element-copy-out-m (par-parts-claims t) (par-parts-at t) par-parts.Post
 par-parts-element-copy-out-m t c = omega (arith, c .before .pre .1 .0 .long, c .before .pre .1 .0 .fits, c .before .pre .1 .0 .bytes)
@@ -231,8 +233,8 @@ par-parts-part-requires-2 t c κs = let y = begins (c .before .before .before .p
 par-parts-returns : (t : ℕ) → par-parts-lts.Need-returns (par-parts-claims t) (par-parts-at t) par-parts.Post
 par-parts-returns t c base p l =
     let y = taken (c .before .before .before .before .before .pre .1 .0) base p l Command.par (c .before .before .before .before .before .pre .1 .1) .parts in
-    here (par (y .0) (y .1)) p _ (y .2 .0)
-    (par-step _ (y .0) (y .1) (c .before .before .part .ensures base (y .0) (y .2 .1 .first)) (c .before .part2 .ensures _ (y .1) (y .2 .1 .second)) (c .in-parallel .ensures))
+    here _ (par (y .0) (y .1)) p _ (y .2 .0)
+    (par-step _ _ (y .0) (y .1) (c .before .before .part .ensures base (y .0) (y .2 .1 .first)) (c .before .part2 .ensures _ (y .1) (y .2 .1 .second)) (c .in-parallel .ensures))
 
 part-sub-react :
     (t : ℕ) → part-lts.Need-sub-react (react-below t, react.Post) (part-at t) part.Post
@@ -284,8 +286,8 @@ present-parts-returns t c base p l =
     let d = c .before .before .before in
     let y = taken (f .0) base p l Command.present (f .1) in
     let z = y .parts in
-    here (present _ (z .0) (z .1)) p _ (z .2 .0)
-    (present-step _ _ (z .0) (z .1) (ltb-true _ _ (y .ranged)) (d .before .single .ensures) (sym (d .member .ensures) ∙ c .before .before .if1 .taken)
+    here _ (present _ (z .0) (z .1)) p _ (z .2 .0)
+    (present-step _ _ _ (z .0) (z .1) (ltb-true _ _ (y .ranged)) (d .before .single .ensures) (sym (d .member .ensures) ∙ c .before .before .if1 .taken)
     (c .before .part .ensures base (z .0) (z .2 .1 .first)) (c .around .ensures))
 
 present-parts-returns-2 : (t : ℕ) → present-parts-lts.Need-returns-2 (present-parts-claims t) (present-parts-at t) present-parts.Post
@@ -294,15 +296,15 @@ present-parts-returns-2 t c base p l =
     let d = c .before .before .before .before in
     let y = taken (f .0) base p l Command.present (f .1) in
     let z = y .parts in
-    here (present _ (z .0) (z .1)) p _ (z .2 .0)
-    (absent-step _ _ (z .0) (z .1) (ltb-true _ _ (y .ranged)) (d .before .single .ensures) (sym (d .member .ensures) ∙ c .before .before .before .if1 .left)
+    here _ (present _ (z .0) (z .1)) p _ (z .2 .0)
+    (absent-step _ _ _ (z .0) (z .1) (ltb-true _ _ (y .ranged)) (d .before .single .ensures) (sym (d .member .ensures) ∙ c .before .before .before .if1 .left)
     (c .before .part2 .ensures _ (z .1) (z .2 .1 .second)) (c .around2 .ensures))
 
 react-shared-slice-read-pausing : (t : ℕ) → react-lts.Need-shared-slice-read-pausing (react-claims t) (react-at t) react.Post
 react-shared-slice-read-pausing t c = begins (c .before .before .before .before .pre .1) Command.pause (c .before .match .keys2) .there
 
-react-shared-slice-read-single : (t : ℕ) → react-lts.Need-shared-slice-read-single (react-claims t) (react-at t) react.Post
-react-shared-slice-read-single t c = begins (c .before .before .before .before .pre .1) Command.emit (c .before .match .keys3) .there
+react-emitting-requires : (t : ℕ) → react-lts.Need-emitting-requires (react-claims t) (react-at t) react.Post
+react-emitting-requires t c κs = pure-emission (c .match .keys3) (begins (c .before .before .before .pre .1) Command.emit (c .match .keys3)) .0
 
 react-shared-slice-read-leaving : (t : ℕ) → react-lts.Need-shared-slice-read-leaving (react-claims t) (react-at t) react.Post
 react-shared-slice-read-leaving t c = begins (c .before .before .before .before .pre .1) Command.exit (c .before .match .keys4) .there
@@ -326,26 +328,31 @@ react-try-part-requires : (t : ℕ) → react-lts.Need-try-part-requires (react-
 react-try-part-requires t c κs = (search needs, ((c .before .before .before .pre .1), c .match .keys10))
 
 react-shared-slice-read-pausing-2 : (t : ℕ) → react-lts.Need-shared-slice-read-pausing-2 (react-claims t) (react-at t) react.Post
-react-shared-slice-read-pausing-2 t c = begins (c .before .before .before .before .pre .1) Command.setpause (last-but-one (c .before .before .before .before .pre .1) (c .before .match .rest)) .there
+react-shared-slice-read-pausing-2 t c = begins (c .before .before .before .before .pre .1) Command.setpause (c .before .match .keys11) .there
+
+react-emitting-requires-2 : (t : ℕ) → react-lts.Need-emitting-requires-2 (react-claims t) (react-at t) react.Post
+react-emitting-requires-2 t c κs =
+    let e = last-one (c .before .before .before .pre .1) (c .match .rest) in
+    litres-emission e (begins (c .before .before .before .pre .1) Command.deliver e) .0
 
 react-part-requires : (t : ℕ) → react-lts.Need-part-requires (react-claims t) (react-at t) react.Post
-react-part-requires t c κs = let y = begins (c .before .before .before .pre .1) Command.suspend (c .match .keys11) in (search needs, (y .there, ready _ (y .parts .0) (c .before .before .before .pre .1 .long) (y .parts .1 .1)))
+react-part-requires t c κs = let y = begins (c .before .before .before .pre .1) Command.suspend (c .match .keys12) in (search needs, (y .there, ready _ (y .parts .0) (c .before .before .before .pre .1 .long) (y .parts .1 .1)))
 
 react-returns : (t : ℕ) → react-lts.Need-returns (react-claims t) (react-at t) react.Post
-react-returns t c base p l = nothing-step p _ _ (taken (c .before .before .before .before .pre .1) base p l Command.nothing (c .before .match .keys1) .parts) (c .ending .ensures)
+react-returns t c base p l = nothing-step _ p _ _ (taken (c .before .before .before .before .pre .1) base p l Command.nothing (c .before .match .keys1) .parts) (c .ending .ensures 0 refl)
 
 react-returns-2 : (t : ℕ) → react-lts.Need-returns-2 (react-claims t) (react-at t) react.Post
 react-returns-2 t c base p l =
     let y = taken (c .before .before .before .before .before .pre .1) base p l Command.pause (c .before .before .match .keys2) in
-    pause-step p _ _ _ (ltb-true _ _ (y .ranged)) (c .pausing .ensures) (y .parts)
+    pause-step _ p _ _ _ (ltb-true _ _ (y .ranged)) (c .pausing .ensures) (y .parts)
 
 react-returns-3 : (t : ℕ) → react-lts.Need-returns-3 (react-claims t) (react-at t) react.Post
 react-returns-3 t c base p l =
-    let y = taken (c .before .before .before .before .before .before .pre .1) base p l Command.emit (c .before .before .before .match .keys3) in
-    emit-step p _ _ _ _ (y .parts) (ltb-true _ _ (y .ranged)) (c .before .single .ensures) (c .ending2 .ensures)
+    let y = taken (c .before .before .before .before .pre .1) base p l Command.emit (c .before .match .keys3) in
+    emit-step _ p _ _ _ _ (pure-emission (c .before .match .keys3) y .1) (ltb-true _ _ (y .ranged)) (c .emitting .ensures)
 
 react-returns-4 : (t : ℕ) → react-lts.Need-returns-4 (react-claims t) (react-at t) react.Post
-react-returns-4 t c base p l = exit-step p _ _ _ (taken (c .before .before .before .before .before .pre .1) base p l Command.exit (c .before .before .match .keys4) .parts) (c .leaving .ensures)
+react-returns-4 t c base p l = exit-step _ p _ _ _ (taken (c .before .before .before .before .before .pre .1) base p l Command.exit (c .before .before .match .keys4) .parts) (c .leaving .ensures)
 
 react-returns-5 : (t : ℕ) → react-lts.Need-returns-5 (react-claims t) (react-at t) react.Post
 react-returns-5 t c base p l = c .seq-parts .ensures base p l
@@ -366,15 +373,21 @@ react-returns-10 : (t : ℕ) → react-lts.Need-returns-10 (react-claims t) (rea
 react-returns-10 t c base p l = c .try-part .ensures base p l
 
 react-returns-11 : (t : ℕ) → react-lts.Need-returns-11 (react-claims t) (react-at t) react.Post
-unfolding none
 react-returns-11 t c base p l =
-    let y = taken (c .before .before .before .before .before .pre .1) base p l Command.suspend (c .before .before .match .keys11) .parts in
-    here (suspend _ (y .0)) p _ (y .1 .0) (suspend-step _ _ (y .0) (c .before .part .ensures base (y .0) (y .1 .1)) (c .around .ensures))
+    let y = taken (c .before .before .before .before .before .pre .1) base p l Command.setpause (c .before .before .match .keys11) in
+    setpause-step _ p _ _ _ (ltb-true _ _ (y .ranged)) (c .pausing2 .ensures) (y .parts)
 
 react-returns-12 : (t : ℕ) → react-lts.Need-returns-12 (react-claims t) (react-at t) react.Post
+unfolding none
 react-returns-12 t c base p l =
-    let y = taken (c .before .before .before .before .before .pre .1) base p l Command.setpause (last-but-one (c .before .before .before .before .before .pre .1) (c .before .before .match .rest)) in
-    setpause-step p _ _ _ (ltb-true _ _ (y .ranged)) (c .pausing2 .ensures) (y .parts)
+    let y = taken (c .before .before .before .before .before .pre .1) base p l Command.suspend (c .before .before .match .keys12) .parts in
+    here _ (suspend _ (y .0)) p _ (y .1 .0) (suspend-step _ _ _ (y .0) (c .before .part .ensures base (y .0) (y .1 .1)) (c .around .ensures))
+
+react-returns-13 : (t : ℕ) → react-lts.Need-returns-13 (react-claims t) (react-at t) react.Post
+react-returns-13 t c base p l =
+    let e = last-one (c .before .before .before .before .pre .1) (c .before .match .rest) in
+    let y = taken (c .before .before .before .before .pre .1) base p l Command.deliver e in
+    emit-step _ p _ _ _ _ (litres-emission e y .1) (ltb-true _ _ (y .ranged)) (c .emitting2 .ensures)
 
 seq-parts-element-copy-out-m : (t : ℕ) → seq-parts-lts.Need-element-copy-out-m (seq-parts-claims t) (seq-parts-at t) seq-parts.Post
 seq-parts-element-copy-out-m t c = omega (arith, c .before .pre .1 .0 .long, c .before .pre .1 .0 .fits, c .before .pre .1 .0 .bytes)
@@ -391,8 +404,8 @@ seq-parts-after-requires t c κs = let y = begins (c .before .before .before .pr
 seq-parts-returns : (t : ℕ) → seq-parts-lts.Need-returns (seq-parts-claims t) (seq-parts-at t) seq-parts.Post
 seq-parts-returns t c base p l =
     let y = taken (c .before .before .before .before .pre .1 .0) base p l Command.seq (c .before .before .before .before .pre .1 .1) .parts in
-    here (seq (y .0) (y .1)) p _ (y .2 .0)
-    (seq-step _ (y .0) (y .1) (c .before .part .ensures base (y .0) (y .2 .1 .first)) (λ i h. c .after .ensures _ (y .1) i (y .2 .1 .second) h))
+    here _ (seq (y .0) (y .1)) p _ (y .2 .0)
+    (seq-step _ _ (y .0) (y .1) (c .before .part .ensures base (y .0) (y .2 .1 .first)) (λ i h. c .after .ensures _ (y .1) i (y .2 .1 .second) h))
 
 signal-rule-shared-slice-read-x : (t : ℕ) → signal-rule-lts.Need-shared-slice-read-x (signal-rule-claims t) (signal-rule-at t) signal-rule.Post
 signal-rule-shared-slice-read-x t c = begins (c .before .before .pre .1 .0) Command.signal (c .before .before .pre .1 .1) .there
@@ -409,14 +422,19 @@ signal-rule-part-requires-2 t c κs =
     let y = begins (f .0) Command.signal (f .1) in
     (search needs, (y .there, ready _ (y .parts .0) (f .0 .long) (y .parts .1 .1)))
 
+signal-rule-cast-in-signal : (t : ℕ) → signal-rule-lts.Need-cast-in-signal (signal-rule-claims t) (signal-rule-at t) signal-rule.Post
+signal-rule-cast-in-signal t c =
+    let f = c .before .before .before .before .before .before .before .before .pre .1 .0 in
+    omega (arith, f .long, f .fits, f .bytes)
+
 signal-rule-returns : (t : ℕ) → signal-rule-lts.Need-returns (signal-rule-claims t) (signal-rule-at t) signal-rule.Post
 signal-rule-returns t c base p l =
     let f = c .before .before .before .before .before .before .before .before .before .pre .1 in
     let d = c .before .before .before .before in
     let y = taken (f .0) base p l Command.signal (f .1) in
     let q = y .parts .0 in
-    here (signal local _ _ q) p _ (y .parts .1 .0)
-    (signal-step _ local _ _ q (ltb-true _ _ (y .ranged)) (d .before .before .without .ensures) (d .part .ensures base q (y .parts .1 .1))
+    here _ (signal local _ _ q) p _ (y .parts .1 .0)
+    (signal-step _ _ local _ _ q (ltb-true _ _ (y .ranged)) (d .before .before .without .ensures) (d .part .ensures base q (y .parts .1 .1))
     (d .before .with .ensures) (c .before .part2 .ensures base q (y .parts .1 .1)) (c .in-signal .ensures))
 
 signal-rule-returns-2 : (t : ℕ) → signal-rule-lts.Need-returns-2 (signal-rule-claims t) (signal-rule-at t) signal-rule.Post
@@ -425,8 +443,8 @@ signal-rule-returns-2 t c base p l =
     let d = c .before .before .before in
     let y = taken (f .0) base p l Command.signal (f .1) in
     let q = y .parts .0 in
-    here (signal local _ _ q) p _ (y .parts .1 .0)
-    (signal-once-step _ local _ _ q (ltb-true _ _ (y .ranged)) (d .before .before .without .ensures) (d .part .ensures base q (y .parts .1 .1))
+    here _ (signal local _ _ q) p _ (y .parts .1 .0)
+    (signal-once-step _ _ local _ _ q (ltb-true _ _ (y .ranged)) (d .before .before .without .ensures) (d .part .ensures base q (y .parts .1 .1))
     (sym (c .before .before .member .ensures) ∙ c .before .if1 .left) (c .in-signal-once .ensures _))
 
 try-part-part-requires : (t : ℕ) → try-part-lts.Need-part-requires (try-part-claims t) (try-part-at t) try-part.Post
@@ -435,7 +453,7 @@ try-part-part-requires t c κs = let y = begins (c .before .pre .1 .0) Command.t
 try-part-returns : (t : ℕ) → try-part-lts.Need-returns (try-part-claims t) (try-part-at t) try-part.Post
 try-part-returns t c base p l =
     let y = taken (c .before .before .before .pre .1 .0) base p l Command.try (c .before .before .before .pre .1 .1) .parts in
-    here (try (y .0)) p _ (y .1 .0) (try-step _ (y .0) (c .before .part .ensures base (y .0) (y .1 .1)) (c .in-try .ensures))
+    here _ (try (y .0)) p _ (y .1 .0) (try-step _ _ (y .0) (c .before .part .ensures base (y .0) (y .1 .1)) (c .in-try .ensures))
 
 pub +after+loop-part+par-parts+part+present-parts+react+seq-parts+signal-rule+try-part-spec :
     {M : Type 1} → statement M
@@ -500,8 +518,7 @@ pub +after+loop-part+par-parts+part+present-parts+react+seq-parts+signal-rule+tr
     (λ c. search needs) (λ c κs. search needs)
     (react-shared-slice-read-pausing t)
     (λ c κs. search needs)
-    (react-shared-slice-read-single t)
-    (λ c κs. search needs) (λ c κs. search needs)
+    (react-emitting-requires t)
     (react-shared-slice-read-leaving t)
     (λ c κs. search needs)
     (react-seq-parts-requires t)
@@ -510,11 +527,12 @@ pub +after+loop-part+par-parts+part+present-parts+react+seq-parts+signal-rule+tr
     (react-present-parts-requires t)
     (react-signal-rule-requires t)
     (react-try-part-requires t)
+    (react-shared-slice-read-pausing-2 t)
+    (λ c κs. search needs)
     (λ c. search needs) (λ c. search needs)
     (react-part-requires t)
     (λ c κs. search needs)
-    (react-shared-slice-read-pausing-2 t)
-    (λ c κs. search needs)
+    (react-emitting-requires-2 t)
     (react-returns t)
     (react-returns-2 t)
     (react-returns-3 t)
@@ -526,7 +544,8 @@ pub +after+loop-part+par-parts+part+present-parts+react+seq-parts+signal-rule+tr
     (react-returns-9 t)
     (react-returns-10 t)
     (react-returns-11 t)
-    (react-returns-12 t))
+    (react-returns-12 t)
+    (react-returns-13 t))
     (λ t. seq-parts-lts.spec (seq-parts-claims t) (seq-parts-at t)
     seq-parts.Post
     (λ c. search needs)
@@ -544,7 +563,8 @@ pub +after+loop-part+par-parts+part+present-parts+react+seq-parts+signal-rule+tr
     (signal-rule-part-requires t)
     (λ c κs. search needs) (λ c. search needs) (λ c. search needs)
     (signal-rule-part-requires-2 t)
-    (λ c. search needs) (λ c κs. search needs) (λ c κs. search needs)
+    (signal-rule-cast-in-signal t)
+    (λ c κs. search needs) (λ c κs. search needs)
     (signal-rule-returns t)
     (signal-rule-returns-2 t))
     λ t. try-part-lts.spec (try-part-claims t) (try-part-at t)

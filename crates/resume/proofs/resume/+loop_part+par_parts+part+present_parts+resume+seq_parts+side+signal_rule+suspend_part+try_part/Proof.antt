@@ -221,7 +221,7 @@ loop-part-after-requires t c κs = (search needs, whole (c .before .before .pre 
 loop-part-returns : (t : ℕ) → loop-part-lts.Need-returns (loop-part-claims t) (loop-part-at t) loop-part.Post
 loop-part-returns t c base p l =
     let y = taken (c .before .before .before .pre .1 .0) base p l Command.loop (c .before .before .before .pre .1 .1) .parts in
-    loop-step base _ _ (y .0) _ p (y .1 .0) (c .before .part .ensures base (y .0) (y .1 .1)) (λ i h. c .after .ensures base p i (whole-lies _ _ _ _ _ p l) h)
+    loop-step _ base _ _ (y .0) _ p (y .1 .0) (c .before .part .ensures base (y .0) (y .1 .1)) (λ i h. c .after .ensures base p i (whole-lies _ _ _ _ _ p l) h)
 
 par-parts-element-copy-out-entry : (t : ℕ) → par-parts-lts.Need-element-copy-out-entry (par-parts-claims t) (par-parts-at t) par-parts.Post
 par-parts-element-copy-out-entry t c = omega (arith, c .before .pre .1 .0 .long, c .before .pre .1 .0 .fits, c .before .pre .1 .0 .bytes)
@@ -238,8 +238,8 @@ par-parts-side-requires-2 t c κs = let y = begins (c .before .before .before .b
 par-parts-returns : (t : ℕ) → par-parts-lts.Need-returns (par-parts-claims t) (par-parts-at t) par-parts.Post
 par-parts-returns t c base p l =
     let y = taken (c .before .before .before .before .before .before .before .pre .1 .0) base p l Command.par (c .before .before .before .before .before .before .before .pre .1 .1) .parts in
-    here base _ _ (par (y .0) (y .1)) p (y .2 .0)
-    (par-step base _ _ (y .0) (y .1) _ _ (y .2 .1 .before) (c .before .before .before .before .below .ensures) _ (c .before .before .from .ensures) (c .before .before .before .side .ensures base (y .0) (y .2 .1 .first)) (c .before .side2 .ensures _ (y .1) (y .2 .1 .second)) (c .in-parallel .ensures))
+    here _ base _ _ (par (y .0) (y .1)) p (y .2 .0)
+    (par-step _ base _ _ (y .0) (y .1) _ _ (y .2 .1 .before) (c .before .before .before .before .below .ensures) _ (c .before .before .from .ensures) (c .before .before .before .side .ensures base (y .0) (y .2 .1 .first)) (c .before .side2 .ensures _ (y .1) (y .2 .1 .second)) (c .in-parallel .ensures))
 
 part-sub-resume :
     (t : ℕ) → part-lts.Need-sub-resume (resume-below t, resume.Post) (part-at t) part.Post
@@ -272,8 +272,8 @@ present-parts-part-requires t c κs = let y = begins (c .before .before .before 
 present-parts-returns : (t : ℕ) → present-parts-lts.Need-returns (present-parts-claims t) (present-parts-at t) present-parts.Post
 present-parts-returns t c base p l =
     let y = taken (c .before .before .before .before .before .before .before .pre .1 .0) base p l Command.present (c .before .before .before .before .before .before .before .pre .1 .1) .parts in
-    here base _ _ (present _ (y .0) (y .1)) p (y .2 .0)
-    (present-second base _ _ (y .0) (y .1) _ _ (y .2 .1 .before) (c .before .before .before .before .below .ensures) _ (c .before .from .ensures) _ (sym (c .before .before .before .is-empty .ensures) ∙ c .before .before .if1 .taken) (c .part .ensures _ (y .1) (y .2 .1 .second)))
+    here _ base _ _ (present _ (y .0) (y .1)) p (y .2 .0)
+    (present-second _ base _ _ (y .0) (y .1) _ _ (y .2 .1 .before) (c .before .before .before .before .below .ensures) _ (c .before .from .ensures) _ (sym (c .before .before .before .is-empty .ensures) ∙ c .before .before .if1 .taken) (c .part .ensures _ (y .1) (y .2 .1 .second)))
 
 present-parts-part-requires-2 : (t : ℕ) → present-parts-lts.Need-part-requires-2 (present-parts-claims t) (present-parts-at t) present-parts.Post
 present-parts-part-requires-2 t c κs = let y = begins (c .before .before .before .before .before .pre .1 .0) Command.present (c .before .before .before .before .before .pre .1 .1) in (search needs, (y .there, ready _ (y .parts .0) (c .before .before .before .before .before .pre .1 .0 .long) (y .parts .2 .1 .first)))
@@ -281,8 +281,8 @@ present-parts-part-requires-2 t c κs = let y = begins (c .before .before .befor
 present-parts-returns-2 : (t : ℕ) → present-parts-lts.Need-returns-2 (present-parts-claims t) (present-parts-at t) present-parts.Post
 present-parts-returns-2 t c base p l =
     let y = taken (c .before .before .before .before .before .before .pre .1 .0) base p l Command.present (c .before .before .before .before .before .before .pre .1 .1) .parts in
-    here base _ _ (present _ (y .0) (y .1)) p (y .2 .0)
-    (present-first base _ _ (y .0) (y .1) _ _ (y .2 .1 .before) (c .before .before .before .below .ensures) _ (sym (c .before .before .is-empty .ensures) ∙ c .before .if1 .left) (c .part2 .ensures base (y .0) (y .2 .1 .first)))
+    here _ base _ _ (present _ (y .0) (y .1)) p (y .2 .0)
+    (present-first _ base _ _ (y .0) (y .1) _ _ (y .2 .1 .before) (c .before .before .before .below .ensures) _ (sym (c .before .before .is-empty .ensures) ∙ c .before .if1 .left) (c .part2 .ensures base (y .0) (y .2 .1 .first)))
 
 resume-seq-parts-requires : (t : ℕ) → resume-lts.Need-seq-parts-requires (resume-claims t) (resume-at t) resume.Post
 resume-seq-parts-requires t c κs = (search needs, ((c .before .before .before .pre .1), c .match .keys1))
@@ -327,7 +327,7 @@ resume-returns-7 : (t : ℕ) → resume-lts.Need-returns-7 (resume-claims t) (re
 resume-returns-7 t c base p l = c .suspend-part .ensures base p l
 
 resume-returns-8 : (t : ℕ) → resume-lts.Need-returns-8 (resume-claims t) (resume-at t) resume.Post
-resume-returns-8 t c base p l = leaf-step _ _ base _ _ p _ _ l (c .before .match .rest) (nothing-step nothing _ _ refl (c .ending .ensures))
+resume-returns-8 t c base p l = leaf-step _ _ base _ _ p _ _ _ l (c .before .match .rest) (nothing-step _ nothing _ _ refl (c .ending .ensures 0 refl))
 
 seq-parts-element-copy-out-entry : (t : ℕ) → seq-parts-lts.Need-element-copy-out-entry (seq-parts-claims t) (seq-parts-at t) seq-parts.Post
 seq-parts-element-copy-out-entry t c = omega (arith, c .before .pre .1 .0 .long, c .before .pre .1 .0 .fits, c .before .pre .1 .0 .bytes)
@@ -341,8 +341,8 @@ seq-parts-part-requires t c κs = let y = begins (c .before .before .before .bef
 seq-parts-returns : (t : ℕ) → seq-parts-lts.Need-returns (seq-parts-claims t) (seq-parts-at t) seq-parts.Post
 seq-parts-returns t c base p l =
     let y = taken (c .before .before .before .before .before .before .before .pre .1 .0) base p l Command.seq (c .before .before .before .before .before .before .before .pre .1 .1) .parts in
-    here base _ _ (seq (y .0) (y .1)) p (y .2 .0)
-    (seq-second base _ _ (y .0) (y .1) _ _ (y .2 .1 .before) (c .before .before .before .before .below .ensures) _ (c .before .from .ensures) (sym (c .before .before .before .is-empty .ensures) ∙ c .before .before .if1 .taken) (c .part .ensures _ (y .1) (y .2 .1 .second)))
+    here _ base _ _ (seq (y .0) (y .1)) p (y .2 .0)
+    (seq-second _ base _ _ (y .0) (y .1) _ _ (y .2 .1 .before) (c .before .before .before .before .below .ensures) _ (c .before .from .ensures) (sym (c .before .before .before .is-empty .ensures) ∙ c .before .before .if1 .taken) (c .part .ensures _ (y .1) (y .2 .1 .second)))
 
 seq-parts-part-requires-2 : (t : ℕ) → seq-parts-lts.Need-part-requires-2 (seq-parts-claims t) (seq-parts-at t) seq-parts.Post
 seq-parts-part-requires-2 t c κs = let y = begins (c .before .before .before .before .before .pre .1 .0) Command.seq (c .before .before .before .before .before .pre .1 .1) in (search needs, (y .there, ready _ (y .parts .0) (c .before .before .before .before .before .pre .1 .0 .long) (y .parts .2 .1 .first)))
@@ -356,17 +356,17 @@ seq-parts-after-requires t c κs = let y = begins (c .before .before .before .be
 seq-parts-returns-2 : (t : ℕ) → seq-parts-lts.Need-returns-2 (seq-parts-claims t) (seq-parts-at t) seq-parts.Post
 seq-parts-returns-2 t c base p l =
     let y = taken (c .before .before .before .before .before .before .before .pre .1 .0) base p l Command.seq (c .before .before .before .before .before .before .before .pre .1 .1) .parts in
-    here base _ _ (seq (y .0) (y .1)) p (y .2 .0)
-    (seq-first base _ _ (y .0) (y .1) _ _ (y .2 .1 .before) (c .before .before .before .before .below .ensures) (sym (c .before .before .before .is-empty .ensures) ∙ c .before .before .if1 .left) (c .before .part2 .ensures base (y .0) (y .2 .1 .first)) (λ i h. c .after .ensures _ (y .1) i (y .2 .1 .second) h))
+    here _ base _ _ (seq (y .0) (y .1)) p (y .2 .0)
+    (seq-first _ base _ _ (y .0) (y .1) _ _ (y .2 .1 .before) (c .before .before .before .before .below .ensures) (sym (c .before .before .before .is-empty .ensures) ∙ c .before .before .if1 .left) (c .before .part2 .ensures base (y .0) (y .2 .1 .first)) (λ i h. c .after .ensures _ (y .1) i (y .2 .1 .second) h))
 
 side-returns : (t : ℕ) → side-lts.Need-returns (side-claims t) (side-at t) side.Post
-side-returns t c base p l = side-ended base _ _ p (sym (c .before .before .is-empty .ensures) ∙ c .before .if1 .taken) (nothing-step nothing _ _ refl (c .ending .ensures))
+side-returns t c base p l = side-ended _ base _ _ p (sym (c .before .before .is-empty .ensures) ∙ c .before .if1 .taken) (nothing-step _ nothing _ _ refl (c .ending .ensures 0 refl))
 
 side-part-requires : (t : ℕ) → side-lts.Need-part-requires (side-claims t) (side-at t) side.Post
 side-part-requires t c κs = (search needs, (c .before .before .before .pre .1 .0, c .before .before .before .pre .1 .1))
 
 side-returns-2 : (t : ℕ) → side-lts.Need-returns-2 (side-claims t) (side-at t) side.Post
-side-returns-2 t c base p l = side-active base _ _ p (sym (c .before .before .is-empty .ensures) ∙ c .before .if1 .left) (c .part .ensures base p l)
+side-returns-2 t c base p l = side-active _ base _ _ p (sym (c .before .before .is-empty .ensures) ∙ c .before .if1 .left) (c .part .ensures base p l)
 
 signal-rule-shared-slice-read-x : (t : ℕ) → signal-rule-lts.Need-shared-slice-read-x (signal-rule-claims t) (signal-rule-at t) signal-rule.Post
 signal-rule-shared-slice-read-x t c = begins (c .before .before .pre .1 .0) Command.signal (c .before .before .pre .1 .1) .there
@@ -383,14 +383,19 @@ signal-rule-part-requires-2 t c κs =
     let y = begins (f .0) Command.signal (f .1) in
     (search needs, (y .there, ready _ (y .parts .0) (f .0 .long) (y .parts .1 .1)))
 
+signal-rule-cast-in-signal : (t : ℕ) → signal-rule-lts.Need-cast-in-signal (signal-rule-claims t) (signal-rule-at t) signal-rule.Post
+signal-rule-cast-in-signal t c =
+    let f = c .before .before .before .before .before .before .before .before .pre .1 .0 in
+    omega (arith, f .long, f .fits, f .bytes)
+
 signal-rule-returns : (t : ℕ) → signal-rule-lts.Need-returns (signal-rule-claims t) (signal-rule-at t) signal-rule.Post
 signal-rule-returns t c base p l =
     let f = c .before .before .before .before .before .before .before .before .before .pre .1 in
     let d = c .before .before .before .before in
     let y = taken (f .0) base p l Command.signal (f .1) in
     let q = y .parts .0 in
-    here base _ _ (signal local _ _ q) p (y .parts .1 .0)
-    (signal-step base _ _ q _ _ (ltb-true _ _ (y .ranged)) (d .before .before .without .ensures) (d .part .ensures base q (y .parts .1 .1))
+    here _ base _ _ (signal local _ _ q) p (y .parts .1 .0)
+    (signal-step _ base _ _ q _ _ (ltb-true _ _ (y .ranged)) (d .before .before .without .ensures) (d .part .ensures base q (y .parts .1 .1))
     (d .before .with .ensures) (c .before .part2 .ensures base q (y .parts .1 .1)) (c .in-signal .ensures))
 
 signal-rule-returns-2 : (t : ℕ) → signal-rule-lts.Need-returns-2 (signal-rule-claims t) (signal-rule-at t) signal-rule.Post
@@ -399,8 +404,8 @@ signal-rule-returns-2 t c base p l =
     let d = c .before .before .before in
     let y = taken (f .0) base p l Command.signal (f .1) in
     let q = y .parts .0 in
-    here base _ _ (signal local _ _ q) p (y .parts .1 .0)
-    (signal-once-step base _ _ q _ _ (ltb-true _ _ (y .ranged)) (d .before .before .without .ensures) (d .part .ensures base q (y .parts .1 .1))
+    here _ base _ _ (signal local _ _ q) p (y .parts .1 .0)
+    (signal-once-step _ base _ _ q _ _ (ltb-true _ _ (y .ranged)) (d .before .before .without .ensures) (d .part .ensures base q (y .parts .1 .1))
     (sym (c .before .before .member .ensures) ∙ c .before .if1 .left) (c .in-signal-once .ensures _))
 
 suspend-part-shared-slice-read-x : (t : ℕ) → suspend-part-lts.Need-shared-slice-read-x (suspend-part-claims t) (suspend-part-at t) suspend-part.Post
@@ -424,8 +429,8 @@ suspend-part-returns t c base p l =
     let d = c .before .before .before in
     let y = taken (f .0) base p l Command.suspend (f .1) in
     let q = y .parts .0 in
-    here base _ _ (suspend _ q) p (y .parts .1 .0)
-    (suspend-stopped base _ _ _ q (ltb-true _ _ (y .ranged)) (d .before .single .ensures) (sym (d .member .ensures) ∙ c .before .before .if1 .taken)
+    here _ base _ _ (suspend _ q) p (y .parts .1 .0)
+    (suspend-stopped _ base _ _ _ q (ltb-true _ _ (y .ranged)) (d .before .single .ensures) (sym (d .member .ensures) ∙ c .before .before .if1 .taken)
     (c .before .of-part .ensures base q (y .parts .1 .1)) (c .waiting .ensures))
 
 suspend-part-returns-2 : (t : ℕ) → suspend-part-lts.Need-returns-2 (suspend-part-claims t) (suspend-part-at t) suspend-part.Post
@@ -434,8 +439,8 @@ suspend-part-returns-2 t c base p l =
     let d = c .before .before .before in
     let y = taken (f .0) base p l Command.suspend (f .1) in
     let q = y .parts .0 in
-    here base _ _ (suspend _ q) p (y .parts .1 .0)
-    (suspend-resumed base _ _ _ q (ltb-true _ _ (y .ranged)) (d .before .single .ensures) (sym (d .member .ensures) ∙ c .before .before .if1 .left)
+    here _ base _ _ (suspend _ q) p (y .parts .1 .0)
+    (suspend-resumed _ base _ _ _ q (ltb-true _ _ (y .ranged)) (d .before .single .ensures) (sym (d .member .ensures) ∙ c .before .before .if1 .left)
     (c .before .part .ensures base q (y .parts .1 .1)) (c .around .ensures))
 
 try-part-part-requires : (t : ℕ) → try-part-lts.Need-part-requires (try-part-claims t) (try-part-at t) try-part.Post
@@ -444,7 +449,7 @@ try-part-part-requires t c κs = let y = begins (c .before .pre .1 .0) Command.t
 try-part-returns : (t : ℕ) → try-part-lts.Need-returns (try-part-claims t) (try-part-at t) try-part.Post
 try-part-returns t c base p l =
     let y = taken (c .before .before .before .pre .1 .0) base p l Command.try (c .before .before .before .pre .1 .1) .parts in
-    here base _ _ (try (y .0)) p (y .1 .0) (try-step base _ _ (y .0) (c .before .part .ensures base (y .0) (y .1 .1)) (c .in-try .ensures))
+    here _ base _ _ (try (y .0)) p (y .1 .0) (try-step _ base _ _ (y .0) (c .before .part .ensures base (y .0) (y .1 .1)) (c .in-try .ensures))
 
 pub +loop-part+par-parts+part+present-parts+resume+seq-parts+side+signal-rule+suspend-part+try-part-spec :
     {M : Type 1} → statement M
@@ -544,7 +549,8 @@ pub +loop-part+par-parts+part+present-parts+resume+seq-parts+side+signal-rule+su
     (signal-rule-part-requires t)
     (λ c κs. search needs) (λ c. search needs) (λ c. search needs)
     (signal-rule-part-requires-2 t)
-    (λ c. search needs) (λ c κs. search needs) (λ c κs. search needs)
+    (signal-rule-cast-in-signal t)
+    (λ c κs. search needs) (λ c κs. search needs)
     (signal-rule-returns t)
     (signal-rule-returns-2 t))
     (λ t. suspend-part-lts.spec (suspend-part-claims t) (suspend-part-at t)

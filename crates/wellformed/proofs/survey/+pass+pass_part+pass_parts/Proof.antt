@@ -1,7 +1,7 @@
 use native.Mathlib.Omega.{arith}
 use borrow.Author.Needs.{needs}
 use borrow.Author.Tests.{ltb-true}
-use Rattle.esterel.specs.Statement.{local, nothing, pause, seq, par, loop, present, signal, try, setpause, suspend}
+use Rattle.esterel.specs.Statement.{litres, local, nothing, pause, emit, seq, par, loop, present, signal, try, setpause, suspend}
 use Rattle.sequence.specs.Commands.{Command}
 use Rattle.layout.proofs.Laid.{ready, begins, by-command}
 use Rattle.wellformed.proofs.Passing.{
@@ -9,6 +9,7 @@ use Rattle.wellformed.proofs.Passing.{
   nothing-step,
   pause-step,
   setpause-step,
+  deliver-step,
   other-step,
   loop-step,
   signal-step,
@@ -183,7 +184,12 @@ pass-returns-10 t c u base p l =
     here _ _ _ _ _ _ _ p (suspend _ (y .0)) (y .1 .0) (suspend-step _ _ _ _ _ _ _ (y .0) _ (c .pass-part4 .ensures u base (y .0) (y .1 .1)))
 
 pass-returns-11 : (t : ℕ) → pass-lts.Need-returns-11 (pass-claims t) (pass-at t) pass.Post
-pass-returns-11 t c = other-step (c .before .before .before .before .pre .1 .ready) _ _ _ _ (c .at-other2 .ensures) (c .before .match .rest)
+pass-returns-11 t c u base p l =
+    let y = by-command u _ base _ _ p l Command.deliver (c .before .match .keys11) .parts in
+    here _ _ _ _ _ _ _ p (emit _ (litres _)) (y) (deliver-step _ _ _ _ _ (c .at-other2 .ensures) _ _)
+
+pass-returns-12 : (t : ℕ) → pass-lts.Need-returns-12 (pass-claims t) (pass-at t) pass.Post
+pass-returns-12 t c = other-step (c .before .before .before .before .pre .1 .ready) _ _ _ _ (c .at-other3 .ensures) (c .before .match .rest)
 
 pass-part-pass-requires : (t : ℕ) →
     pass-part-lts.Need-pass-requires (pass-part-claims t) (pass-part-at t) pass-part.Post
@@ -239,6 +245,7 @@ pub +pass+pass-part+pass-parts-spec : {M : Type 1} → statement M
     (λ c. search needs) (λ c. search needs)
     (pass-pass-part-requires-4 t)
     (λ c. search needs) (λ c κs. search needs)
+    (λ c. search needs) (λ c κs. search needs)
     (pass-returns t)
     (pass-returns-2 t)
     (pass-returns-3 t)
@@ -249,7 +256,8 @@ pub +pass+pass-part+pass-parts-spec : {M : Type 1} → statement M
     (pass-returns-8 t)
     (pass-returns-9 t)
     (pass-returns-10 t)
-    (pass-returns-11 t))
+    (pass-returns-11 t)
+    (pass-returns-12 t))
     (λ t. pass-part-lts.spec (pass-part-claims t) (pass-part-at t)
     pass-part.Post
     (λ c. search needs) (λ c. search needs) (λ c. search needs)

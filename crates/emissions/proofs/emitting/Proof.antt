@@ -1,0 +1,82 @@
+use Prim.Native.Nat.{ℕ}
+use mathlib.Core.Path.{ap, _∙_}
+use lib.ListN.{getD}
+use Rattle.esterel.specs.Sets.{none}
+use Rattle.esterel.specs.Litres.{brought}
+use Rattle.emissions.specs.Emissions.{valueIn, meant}
+use Rattle.esterel.specs.Statement.{nothing}
+use Rattle.esterel.specs.Reaction.{ended, gives}
+use Rattle.reaction.specs.Reactions.{alone, reactionOf}
+use Rattle.emissions.proofs.Values.{to-farm, to-other}
+use borrow.Author.Needs.{needs}
+use Rattle.emissions.proofs.emitting.Statement.{statement}
+use Rattle.emissions.proofs.emitting.Tie as tie
+use Rattle.emissions.proofs.emitting.Reads as reads
+use Rattle.emissions.proofs.emitting.Lts as lts
+use Rattle.emissions.proofs.amount.Reads as amount-reads
+use Rattle.emissions.proofs.carried.Reads as carried-reads
+use Rattle.reaction.proofs.ending.Reads as ending-reads
+use Rattle.signals.proofs.single.Reads as single-reads
+
+-- src/lib.rt:48:13
+shared-slice-read-x : tie.Need-shared-slice-read-x
+shared-slice-read-x c = search needs
+
+-- src/lib.rt:50:26
+single-requires : tie.Need-single-requires
+single-requires c κs = search needs
+
+-- src/lib.rt:50:53
+carried-requires : tie.Need-carried-requires
+carried-requires c κs = search needs
+
+-- src/lib.rt:50:46
+amount-requires : tie.Need-amount-requires
+amount-requires c κs = search needs
+
+-- src/lib.rt:50:9
+ending-requires : tie.Need-ending-requires
+ending-requires c κs = search needs
+
+-- src/lib.rt:52:26
+single-requires-2 : tie.Need-single-requires-2
+single-requires-2 c κs = search needs
+
+-- src/lib.rt:52:9
+ending-requires-2 : tie.Need-ending-requires-2
+ending-requires-2 c κs = search needs
+
+-- src/lib.rt:43:1
+returns : tie.Need-returns
+returns c =
+    let a = c .before .before .before .before .before .before .before .args in
+    let v = valueIn (a .s .now) in
+    let x = getD (a .s .now) 1 0 in
+    let y = brought (a .farm) x (meant v) in
+    c .ending .ensures y
+    (to-farm (a .farm) x v (c .before .before .before .before .if1 .taken) (c .before .before .carried .ensures .0) (c .before .before .carried .ensures .1) (c .before .amount .ensures))
+    ∙ ap (λ (o : ℕ). reactionOf (alone (gives o ended none nothing) none y)) (c .before .before .before .single .ensures)
+
+-- src/lib.rt:43:1
+returns-2 : tie.Need-returns-2
+returns-2 c =
+    let a = c .before .before .before .before .before .args in
+    let v = valueIn (a .s .now) in
+    let x = getD (a .s .now) 1 0 in
+    let y = brought (a .farm) x (meant v) in
+    c .ending2 .ensures y (to-other (a .farm) x v (c .before .before .if1 .left))
+    ∙ ap (λ (o : ℕ). reactionOf (alone (gives o ended none nothing) none y)) (c .before .single2 .ensures)
+
+pub emitting-spec : {M : Type 1} → statement M
+emitting-spec =
+    tie.close
+    (tie.spec
+    shared-slice-read-x
+    single-requires
+    carried-requires
+    amount-requires
+    ending-requires
+    single-requires-2
+    ending-requires-2
+    returns
+    returns-2)
