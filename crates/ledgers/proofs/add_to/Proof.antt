@@ -1,0 +1,79 @@
+use Prim.Native.Nat.{ℕ, _+_, _*_}
+use mathlib.Core.Path.{sym, ap, _∙_}
+use mathlib.Core.Bool.{Bool, cond}
+use native.Mathlib.Omega.{arith}
+use lib.Seq.{sets}
+use borrow.Author.Tests.{eq-eqb, ne-eqb}
+use Rattle.numbers.specs.Bytes.{leBytes}
+use Rattle.sequence.specs.Amounts.{amountBytes}
+use Rattle.ledgers.specs.Ledgers.{totalIn}
+use Rattle.ledgers.proofs.Totals.{float-in, sum-no-nan, sum-bits, sum-bits-small}
+use borrow.Author.Needs.{needs}
+use Rattle.ledgers.proofs.add_to.Statement.{statement}
+use Rattle.ledgers.proofs.add_to.Tie as tie
+use Rattle.ledgers.proofs.add_to.Reads as reads
+use Rattle.ledgers.proofs.add_to.Lts as lts
+use Rattle.ledgers.proofs.total.Reads as total-reads
+use Rattle.numbers.proofs.put_le.Reads as put-le-reads
+
+-- src/lib.rt:64:9
+returns : tie.Need-returns
+returns c =
+    let a = c .before .before .args in
+    ap (λ (b : Bool). cond b (a .ledger .now) (sets (a .ledger .now) (a .farm * 4) (amountBytes (totalIn (a .farm) (a .ledger .now) + a .more)))) (sym (eq-eqb (a .more) 0 (c .if1 .taken)))
+
+-- src/lib.rt:66:15
+total-requires : tie.Need-total-requires
+total-requires c κs = search needs
+
+-- src/lib.rt:66:37
+int-to-float-sum : tie.Need-int-to-float-sum
+int-to-float-sum c = let p = c .before .before .before .before .before .pre .2 in float-in _ (omega (arith, p))
+
+-- src/lib.rt:67:29
+mul-put-le : tie.Need-mul-put-le
+mul-put-le c = search needs
+
+-- src/lib.rt:67:42
+float-to-bits-put-le : tie.Need-float-to-bits-put-le
+float-to-bits-put-le c =
+    let a = c .before .before .before .before .before .before .args in
+    sum-no-nan (a .farm) (a .ledger .now) (a .more) (c .before .before .before .before .before .before .pre .2) (c .before .before .total .ensures)
+
+-- src/lib.rt:67:42
+cast-put-le : tie.Need-cast-put-le
+cast-put-le c =
+    let a = c .before .before .before .before .before .before .args in
+    let l = sum-bits-small (a .farm) (a .ledger .now) (a .more) (c .before .before .before .before .before .before .pre .2) (c .before .before .total .ensures) in
+    omega (arith, l)
+
+-- src/lib.rt:67:5
+put-le-requires : tie.Need-put-le-requires
+put-le-requires c κs = search needs
+
+-- src/lib.rt:59:1
+same-length : tie.Need-same-length
+same-length c = search needs
+
+-- src/lib.rt:59:1
+returns-2 : tie.Need-returns-2
+returns-2 c =
+    let k = c .before .before .before .before .before .before .before .before .before in
+    let a = k .args in
+    c .before .before .put-le .ensures
+    ∙ ap (λ (n : ℕ). sets (a .ledger .now) (a .farm * 4) (leBytes 4 n)) (sum-bits (a .farm) (a .ledger .now) (a .more) (k .pre .2) (c .before .before .before .before .before .total .ensures))
+    ∙ ap (λ (b : Bool). cond b (a .ledger .now) (sets (a .ledger .now) (a .farm * 4) (amountBytes (totalIn (a .farm) (a .ledger .now) + a .more)))) (sym (ne-eqb (a .more) 0 (c .before .before .before .before .before .before .before .if1 .left)))
+
+pub add-to-spec : {M : Type 1} → statement M
+add-to-spec =
+    tie.close
+    (tie.spec
+    returns
+    total-requires
+    int-to-float-sum
+    mul-put-le
+    float-to-bits-put-le
+    cast-put-le
+    put-le-requires
+    same-length
+    returns-2)
