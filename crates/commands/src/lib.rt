@@ -29,7 +29,7 @@ pub fn operand_count(b: u8) -> Count
     if b < limits::LAST_COMMAND {
         return Count::Of(1);
     }
-    if b == limits::LAST_COMMAND {
+    if b == 12 {
         return Count::Of(5);
     }
     Count::NoCommand
@@ -51,7 +51,7 @@ pub fn part_count(b: u8) -> Count
     if b == 10 {
         return Count::Of(0);
     }
-    if b == limits::LAST_COMMAND {
+    if b == 12 {
         return Count::Of(0);
     }
     if limits::LAST_COMMAND < b {

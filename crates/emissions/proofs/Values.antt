@@ -8,7 +8,6 @@ use lib.ListN.{getD, length}
 use lib.Dec.{T, eqb}
 use lib.Ieee.{Float, binary32, ofBits, inUnsigned}
 use borrow.Author.Tests.{eq-eqb, ne-eqb}
-use Rattle.limits.specs.Limits.{lastCommand}
 use Rattle.numbers.specs.Bytes.{leNumber, numberAt}
 use Rattle.litres.specs.Litres.{whole, litres}
 use Rattle.litres.proofs.Sums.{value-of}
@@ -25,11 +24,11 @@ use Rattle.emissions.specs.declared.Value.the-variants.{Pure, Litres}
 use Rattle.emissions.specs.Emissions.{valueIn, amountOf, meant, Whole, Emission}
 
 -- ---- the value by the first byte
-pub with-litres : (bs : List ℕ) {n : ℕ} → n ≡ numberAt 2 4 bs → getD bs 0 0 ≡ lastCommand → Litres (ofBits binary32 n) ≡ valueIn bs
-with-litres bs h e = ap (λ (x : ℕ). Litres (ofBits binary32 x)) h ∙ rw (eq-eqb (getD bs 0 0) lastCommand e)
+pub with-litres : (bs : List ℕ) {n : ℕ} → n ≡ numberAt 2 4 bs → getD bs 0 0 ≡ 12 → Litres (ofBits binary32 n) ≡ valueIn bs
+with-litres bs h e = ap (λ (x : ℕ). Litres (ofBits binary32 x)) h ∙ rw (eq-eqb (getD bs 0 0) 12 e)
 
-pub without : (bs : List ℕ) → (getD bs 0 0 ≡ lastCommand → ⊥) → Pure ≡ valueIn bs
-without bs n = rw (ne-eqb (getD bs 0 0) lastCommand n)
+pub without : (bs : List ℕ) → (getD bs 0 0 ≡ 12 → ⊥) → Pure ≡ valueIn bs
+without bs n = rw (ne-eqb (getD bs 0 0) 12 n)
 
 -- ---- what it brings a farm
 most : (v : Value) → Whole v → amountOf v ≡ cappedOf (amount (meant v))
@@ -53,7 +52,7 @@ module _ {L : (base a : ℕ) → List ℕ → Esterel.Statement → Type 0} {t :
   pub pure-emission : getD bs 0 0 ≡ byteOf Command.emit → Begins L t base a bs p Command.emit
       → Emission bs × (p ≡ Esterel.emit (getD bs 1 0) (meant (valueIn bs)))
   pure-emission e b =
-      let n : getD bs 0 0 ≡ lastCommand → ⊥ = λ h. absurd (let z : _≡_ {A = ℕ} 2 12 = sym e ∙ h in omega arith) in
+      let n : getD bs 0 0 ≡ 12 → ⊥ = λ h. absurd (let z : _≡_ {A = ℕ} 2 12 = sym e ∙ h in omega arith) in
       (record { there = b .there; fit = λ h. absurd (n h) }, b .parts ∙ ap (λ (v : Value). Esterel.emit (getD bs 1 0) (meant v)) (without bs n))
 
   -- 0C

@@ -6,16 +6,16 @@ use mathlib.Core.List.{List}
 use lib.ListN.{getD, length}
 use lib.Dec.{T, eqb}
 use lib.Ieee.{binary32, ofBits}
-use Rattle.limits.specs.Limits.{lastCommand, litresLimit}
+use Rattle.limits.specs.Limits.{litresLimit}
 use Rattle.numbers.specs.Bytes.{numberAt}
 use Rattle.litres.specs.Litres.{whole, litres}
 use Rattle.esterel.specs.Statement as Esterel
 use Rattle.emissions.specs.declared.Value.{Value}
 use Rattle.emissions.specs.declared.Value.the-variants.{Pure, Litres}
 
--- 02: 'An emission by 02 carries no litres'; 0C is the last command
+-- 02: 'An emission by 02 carries no litres'; 0C does
 abbrev pub valueIn : List ℕ → Value
-valueIn bs = cond (eqb (getD bs 0 0) lastCommand) (Litres (ofBits binary32 (numberAt 2 4 bs))) Pure
+valueIn bs = cond (eqb (getD bs 0 0) 12) (Litres (ofBits binary32 (numberAt 2 4 bs))) Pure
 
 abbrev pub amountOf : Value → ℕ
 amountOf Pure = 0
@@ -34,4 +34,4 @@ Whole (Litres x) = T (whole x)
 -- an emission's bytes: its signal is there, and so are the litres of a 0C, which are such a number
 pub record Emission (bs : List ℕ) : Type 0 where
   pub there : 2 ≤ length bs
-  pub fit : getD bs 0 0 ≡ lastCommand → T (whole (ofBits binary32 (numberAt 2 4 bs)))
+  pub fit : getD bs 0 0 ≡ 12 → T (whole (ofBits binary32 (numberAt 2 4 bs)))

@@ -21,7 +21,7 @@ pub fn carried(s: &[u8]) -> Value
     requires { ⌜ Emission (now s) ⌝ }
     ensures { λ r. ⌜ (r ≡ valueIn (now (s .entry))) × Whole r ⌝ }
 {
-    if s[0] == limits::LAST_COMMAND {
+    if s[0] == 12 {
         Value::Litres(f32::from_bits(numbers::get_le(s, 2, 4) as u32))
     } else {
         Value::Pure

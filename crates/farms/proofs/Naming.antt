@@ -10,7 +10,7 @@ use lib.Dec.{eqb, ltb}
 use borrow.Author.Tests.{lt-ltb, eq-eqb, eqb-false}
 use Rattle.esterel.specs.Sets.{member, insert}
 use Rattle.theory.proofs.Sets.{member-insert}
-use Rattle.limits.specs.Limits.{lastCommand, signalCount}
+use Rattle.limits.specs.Limits.{signalCount}
 use Rattle.sets.specs.Sets.{insertBelow}
 use Rattle.farms.specs.Farms.{NamesBelow}
 
@@ -30,7 +30,7 @@ kept x y s m = go (ltb x signalCount)
 
 module _ (bs : List ℕ) (i s : ℕ) (h : NamesBelow i bs s) where
   -- no 0C stands before the index
-  pub names-skip : (getD bs (i - 1) 0 ≡ lastCommand → ⊥) → NamesBelow (i + 1) bs s
+  pub names-skip : (getD bs (i - 1) 0 ≡ 12 → ⊥) → NamesBelow (i + 1) bs s
   names-skip n j l b f =
       elim (ℕ-discrete (suc j) i) [
         | yes e ↦ absurd (n (let k : i - 1 ≡ j = omega arith in ap (λ (m : ℕ). getD bs m 0) k ∙ b))
@@ -54,12 +54,12 @@ module _ (bs : List ℕ) (i s : ℕ) (h : NamesBelow i bs s) where
       earlier : member (getD bs (suc j) 0) s ≡ true → member (getD bs (suc j) 0) r ≡ true
       earlier m = ap (member (getD bs (suc j) 0)) w ∙ kept (getD bs i 0) (getD bs (suc j) 0) s m
 
-  pub names-next : {r : ℕ} → r ≡ cond (eqb (getD bs (i - 1) 0) lastCommand) (insertBelow signalCount (getD bs i 0) s) s → NamesBelow (i + 1) bs r
-  names-next {r} w = go (eqb (getD bs (i - 1) 0) lastCommand) refl w
+  pub names-next : {r : ℕ} → r ≡ cond (eqb (getD bs (i - 1) 0) 12) (insertBelow signalCount (getD bs i 0) s) s → NamesBelow (i + 1) bs r
+  names-next {r} w = go (eqb (getD bs (i - 1) 0) 12) refl w
     where
-      go : (b : Bool) → eqb (getD bs (i - 1) 0) lastCommand ≡ b → r ≡ cond b (insertBelow signalCount (getD bs i 0) s) s → NamesBelow (i + 1) bs r
+      go : (b : Bool) → eqb (getD bs (i - 1) 0) 12 ≡ b → r ≡ cond b (insertBelow signalCount (getD bs i 0) s) s → NamesBelow (i + 1) bs r
       go true e h = names-more h
-      go false e h = subst (NamesBelow (i + 1) bs) (sym h) (names-skip (eqb-false (getD bs (i - 1) 0) lastCommand e))
+      go false e h = subst (NamesBelow (i + 1) bs) (sym h) (names-skip (eqb-false (getD bs (i - 1) 0) 12 e))
 
 pub names-start : (bs : List ℕ) → NamesBelow 1 bs 0
 names-start bs j l b f = absurd (omega arith)

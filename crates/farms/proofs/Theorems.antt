@@ -7,7 +7,7 @@ use native.Mathlib.Omega.{arith}
 use lib.ListN.{length, getD}
 use lib.Dec.{eqb}
 use borrow.Author.Tests.{ne-eqb, eqb-true}
-use Rattle.limits.specs.Limits.{lastCommand, signalCount}
+use Rattle.limits.specs.Limits.{signalCount}
 use Rattle.esterel.specs.Sets.{member}
 use Rattle.esterel.specs.Statement.{pure, litres, Statement, nothing, pause, emit, exit, seq, par, loop, present, signal, try, setpause, suspend, held}
 use Rattle.esterel.specs.Litres.{brought, AtMost}
@@ -18,7 +18,7 @@ use Rattle.farms.specs.Farms.{NamesAll}
 Free : ℕ → List ℕ → Type 0
 Free f [] = Unit {0}
 Free f (a ∷ []) = Unit {0}
-Free f (a ∷ b ∷ bs) = (a ≡ lastCommand → b ≡ f → ⊥) × Free f (b ∷ bs)
+Free f (a ∷ b ∷ bs) = (a ≡ 12 → b ≡ f → ⊥) × Free f (b ∷ bs)
 
 tail-free : (f a : ℕ) (bs : List ℕ) → Free f (a ∷ bs) → Free f bs
 unfolding Free
@@ -35,7 +35,7 @@ right-free : (f : ℕ) (xs ys : List ℕ) → Free f (xs ++ ys) → Free f ys
 right-free f [] ys h = h
 right-free f (a ∷ xs) ys h = right-free f xs ys (tail-free f a (xs ++ ys) h)
 
-by-places : (f : ℕ) (bs : List ℕ) → ((j : ℕ) → suc j < length bs → getD bs j 0 ≡ lastCommand → getD bs (suc j) 0 ≡ f → ⊥) → Free f bs
+by-places : (f : ℕ) (bs : List ℕ) → ((j : ℕ) → suc j < length bs → getD bs j 0 ≡ 12 → getD bs (suc j) 0 ≡ f → ⊥) → Free f bs
 unfolding Free
 by-places f [] h = tt
 by-places f (a ∷ []) h = tt
@@ -73,5 +73,5 @@ pub unnamed-none : (bs : List ℕ) (p : Statement) (s f : ℕ) → bs ≡ bytesO
 unnamed-none bs p s f e r h small n =
     free-none f p r (subst (Free f) e (by-places f bs apart))
   where
-    apart : (j : ℕ) → suc j < length bs → getD bs j 0 ≡ lastCommand → getD bs (suc j) 0 ≡ f → ⊥
+    apart : (j : ℕ) → suc j < length bs → getD bs j 0 ≡ 12 → getD bs (suc j) 0 ≡ f → ⊥
     apart j l b i = true≢false (sym (h j l b (subst (λ (k : ℕ). k < signalCount) (sym i) small)) ∙ ap (λ (k : ℕ). member k s) i ∙ n)

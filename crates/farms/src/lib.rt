@@ -2,15 +2,15 @@
 ghost use mathlib.Core.Path.{_≡_};
 ghost use mathlib.Core.Bool.{cond};
 ghost use lib.Dec.{eqb};
-ghost use Rattle.limits.specs.Limits.{lastCommand, signalCount};
+ghost use Rattle.limits.specs.Limits.{signalCount};
 ghost use Rattle.sets.specs.Sets.{insertBelow};
 ghost use Rattle.farms.specs.Farms.{NamesAll};
 
 // The farms found, and x where a byte 0C stands before it.
 fn behind(found: u32, command: u8, x: u8) -> u32
-    ensures { λ r. ⌜ r ≡ cond (eqb command lastCommand) (insertBelow signalCount x found) found ⌝ }
+    ensures { λ r. ⌜ r ≡ cond (eqb command 12) (insertBelow signalCount x found) found ⌝ }
 {
-    if command == limits::LAST_COMMAND {
+    if command == 12 {
         signals::with(found, x)
     } else {
         found

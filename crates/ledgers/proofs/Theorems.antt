@@ -11,6 +11,8 @@ use lib.Seq.{take-at, drop-at}
 use lib.Dec.{T, lit<}
 use lib.IntN.{pos}
 use lib.Ieee.{Float, binary32, ofBits, toBits, ofInt, inUnsigned}
+use Rattle.esterel.specs.Sets.{member, none}
+use Rattle.theory.proofs.Sets.{member-none}
 use Rattle.limits.specs.Limits.{litresLimit}
 use Rattle.numbers.specs.Bytes.{leBytes, leNumber, numberAt}
 use Rattle.numbers.proofs.Bytes.{length-leBytes}
@@ -18,7 +20,7 @@ use Rattle.sequence.specs.Amounts.{amountSize, amountBytes, areBytes, floatIn}
 use Rattle.sequence.proofs.Amounts.{amount-written}
 use Rattle.litres.specs.Litres.{whole, litres, ordered, within}
 use Rattle.litres.proofs.Sums.{Added, added-first, added-next, added-all}
-use Rattle.ledgers.specs.Ledgers.{farmCount, ledgerLength, fieldIn, totalIn, totalFloat, Exact, totalsBytes, cleared, wouldPass, passes, addedBelow, added, exactTotal, shownTotal, readingOf}
+use Rattle.ledgers.specs.Ledgers.{farmCount, ledgerLength, fieldIn, totalIn, totalFloat, Exact, totalsBytes, cleared, NoneOutside, wouldPass, passes, addedBelow, added, exactTotal, shownTotal, readingOf}
 use Rattle.ledgers.proofs.Totals as totals
 use Rattle.ledgers.proofs.Fields as fields
 
@@ -120,3 +122,8 @@ module _ (x : ℕ → ℕ) (bs : List ℕ) (none : (f : ℕ) → f < farmCount �
       below : (n : ℕ) → n ≤ farmCount → addedBelow n x bs ≡ bs
       below zero l = sym (fields.added-start x bs)
       below (suc n) l = fields.added-skip x bs n (none n (omega arith)) ∙ below n (omega arith)
+
+-- no farm is in the empty set
+pub none-at-all : (x : ℕ → ℕ) {farms : ℕ} → farms ≡ 0 → NoneOutside farms x → (f : ℕ) → f < farmCount → x f ≡ 0
+unfolding none
+none-at-all x e h f l = h f l (ap (member f) e ∙ member-none f)

@@ -8,6 +8,7 @@ use lib.Seq.{sets}
 use lib.IntN.{pos}
 use lib.Dec.{eqb, ltb}
 use lib.Ieee.{Float, binary32, ofBits, toBits, ofInt}
+use Rattle.esterel.specs.Sets.{member}
 use Rattle.limits.specs.Limits.{signalCount, litresLimit}
 use Rattle.numbers.specs.Bytes.{leBytes, numberAt}
 use Rattle.litres.specs.Litres.{whole, litres, ordered}
@@ -58,6 +59,10 @@ wouldPass (suc n) t x = wouldPass n t x || ltb litresLimit (t n + x n)
 
 abbrev pub passes : List ℕ → (x : ℕ → ℕ) → Bool
 passes bs x = wouldPass farmCount (λ f. totalIn f bs) x
+
+-- only farms of a set have litres
+abbrev pub NoneOutside : (farms : ℕ) → (x : ℕ → ℕ) → Type 0
+NoneOutside farms x = (f : ℕ) → f < farmCount → member f farms ≡ false → x f ≡ 0
 
 -- one farm's; a farm without litres keeps its bytes
 abbrev pub addedTo : (farm more : ℕ) → List ℕ → List ℕ

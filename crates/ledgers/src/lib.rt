@@ -8,7 +8,7 @@ ghost use lib.Seq.{sets};
 ghost use Rattle.limits.specs.Limits.{litresLimit};
 ghost use Rattle.litres.specs.Litres.{within};
 ghost use Rattle.sequence.specs.Amounts.{amountBytes};
-ghost use Rattle.ledgers.specs.Ledgers.{farmCount, ledgerLength, readingLength, totalIn, totalFloat, cleared, passes, addedTo, added, exactTotal, shownTotal, readingOf};
+ghost use Rattle.ledgers.specs.Ledgers.{farmCount, ledgerLength, readingLength, totalIn, totalFloat, cleared, NoneOutside, passes, addedTo, added, exactTotal, shownTotal, readingOf};
 
 pub const FARMS: usize = 32;
 
@@ -37,14 +37,21 @@ fn passes_at(ledger: &[u8], farm: usize, more: u32) -> bool
     requires { ⌜ farm < farmCount ⌝ }
     ensures { λ r. ⌜ r ≡ ltb litresLimit (totalIn farm (now (ledger .entry)) + more) ⌝ }
 {
+    if more == 0 {
+        return false;
+    }
     let held = total(ledger, farm) as u32;
     (limits::LITRES_LIMIT as u64) < held as u64 + more as u64
 }
 
-// Would a farm's total with its litres?
-pub fn would_pass(ledger: &[u8], litres: &Deliveries) -> bool
+// Would a farm's total with its litres? Only the farms of a set have any.
+pub fn would_pass(ledger: &[u8], litres: &Deliveries, farms: u32) -> bool
+    requires { ⌜ NoneOutside farms (λ f. getD (now litres) f 0) ⌝ }
     ensures { λ r. ⌜ r ≡ passes (now (ledger .entry)) (λ f. getD (now (litres .entry)) f 0) ⌝ }
 {
+    if farms == 0 {
+        return false;
+    }
     let mut farm: usize = 0;
     while farm < FARMS {
         if passes_at(ledger, farm, litres[farm]) {
@@ -67,12 +74,16 @@ fn add_to(ledger: &mut [u8], farm: usize, more: u32)
     numbers::put_le(ledger, farm * 4, 4, f32::to_bits(sum) as u64);
 }
 
-// The litres of an instant that pass no limit.
-pub fn add(ledger: &mut [u8], litres: &Deliveries)
+// The litres of an instant that pass no limit; only the farms of a set have any.
+pub fn add(ledger: &mut [u8], litres: &Deliveries, farms: u32)
     requires { ⌜ length (now ledger) ≡ ledgerLength ⌝ }
     requires { ⌜ passes (now ledger) (λ f. getD (now litres) f 0) ≡ false ⌝ }
+    requires { ⌜ NoneOutside farms (λ f. getD (now litres) f 0) ⌝ }
     ensures { λ _. ⌜ now (ledger .exit) ≡ added (λ f. getD (now (litres .entry)) f 0) (now (ledger .entry)) ⌝ }
 {
+    if farms == 0 {
+        return;
+    }
     let mut farm: usize = 0;
     while farm < FARMS {
         add_to(ledger, farm, litres[farm]);

@@ -3,26 +3,19 @@ use Rattle.emissions.specs.Emissions.{amountOf, Whole}
 use borrow.Author.Needs.{needs}
 use Rattle.emissions.proofs.amount.Statement.{statement}
 use Rattle.emissions.proofs.amount.Tie as tie
-use Rattle.emissions.proofs.amount.Reads as reads
-use Rattle.emissions.proofs.amount.Lts as lts
 
--- src/lib.rt:37:24
 enum-told : tie.Need-enum-told
 enum-told c = search needs
 
--- src/lib.rt:38:23
 enum-known-v : tie.Need-enum-known-v
 enum-known-v c = search needs
 
--- src/lib.rt:38:29
 float-to-int-result : tie.Need-float-to-int-result
 float-to-int-result c = subst Whole (c .before .before .v .given .1) (c .before .before .before .before .pre)
 
--- src/lib.rt:32:1
 returns : tie.Need-returns
 returns c = search needs
 
--- src/lib.rt:32:1
 returns-2 : tie.Need-returns-2
 returns-2 c = ap amountOf (sym (c .before .before .v .given .1))
 

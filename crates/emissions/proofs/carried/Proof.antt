@@ -8,34 +8,25 @@ use Rattle.emissions.proofs.Values.{with-litres, without}
 use borrow.Author.Needs.{needs}
 use Rattle.emissions.proofs.carried.Statement.{statement}
 use Rattle.emissions.proofs.carried.Tie as tie
-use Rattle.emissions.proofs.carried.Reads as reads
-use Rattle.emissions.proofs.carried.Lts as lts
-use Rattle.numbers.proofs.get_le.Reads as get-le-reads
 
--- src/lib.rt:24:8
 shared-slice-read-if1 : tie.Need-shared-slice-read-if1
 shared-slice-read-if1 c = search needs
 
--- src/lib.rt:25:38
 get-le-requires : tie.Need-get-le-requires
 get-le-requires c κs = search needs
 
--- src/lib.rt:25:38
 cast-t7 : tie.Need-cast-t7
 cast-t7 c = search needs
 
--- src/lib.rt:25:23
 float-from-bits-t8 : tie.Need-float-from-bits-t8
 float-from-bits-t8 c = whole-pattern _ (subst (λ (x : ℕ). T (whole (ofBits binary32 x))) (sym (c .get-le .ensures .0)) (c .before .before .before .before .pre .fit (c .before .if1 .taken)))
 
--- src/lib.rt:20:1
 returns : tie.Need-returns
 returns c = (
   with-litres (c .before .before .before .before .args .s .now) (c .get-le .ensures .0) (c .before .if1 .taken),
   subst (λ (x : ℕ). T (whole (ofBits binary32 x))) (sym (c .get-le .ensures .0)) (c .before .before .before .before .pre .fit (c .before .if1 .taken)),
 )
 
--- src/lib.rt:20:1
 returns-2 : tie.Need-returns-2
 returns-2 c = (without (c .before .before .before .args .s .now) (c .if1 .left), tt)
 

@@ -11,42 +11,28 @@ use Rattle.emissions.proofs.Values.{to-farm, to-other}
 use borrow.Author.Needs.{needs}
 use Rattle.emissions.proofs.emitting.Statement.{statement}
 use Rattle.emissions.proofs.emitting.Tie as tie
-use Rattle.emissions.proofs.emitting.Reads as reads
-use Rattle.emissions.proofs.emitting.Lts as lts
-use Rattle.emissions.proofs.amount.Reads as amount-reads
-use Rattle.emissions.proofs.carried.Reads as carried-reads
-use Rattle.reaction.proofs.ending.Reads as ending-reads
-use Rattle.signals.proofs.single.Reads as single-reads
 
--- src/lib.rt:48:13
 shared-slice-read-x : tie.Need-shared-slice-read-x
 shared-slice-read-x c = search needs
 
--- src/lib.rt:50:26
 single-requires : tie.Need-single-requires
 single-requires c κs = search needs
 
--- src/lib.rt:50:53
 carried-requires : tie.Need-carried-requires
 carried-requires c κs = search needs
 
--- src/lib.rt:50:46
 amount-requires : tie.Need-amount-requires
 amount-requires c κs = search needs
 
--- src/lib.rt:50:9
 ending-requires : tie.Need-ending-requires
 ending-requires c κs = search needs
 
--- src/lib.rt:52:26
 single-requires-2 : tie.Need-single-requires-2
 single-requires-2 c κs = search needs
 
--- src/lib.rt:52:9
 ending-requires-2 : tie.Need-ending-requires-2
 ending-requires-2 c κs = search needs
 
--- src/lib.rt:43:1
 returns : tie.Need-returns
 returns c =
     let a = c .before .before .before .before .before .before .before .args in
@@ -57,7 +43,6 @@ returns c =
     (to-farm (a .farm) x v (c .before .before .before .before .if1 .taken) (c .before .before .carried .ensures .0) (c .before .before .carried .ensures .1) (c .before .amount .ensures))
     ∙ ap (λ (o : ℕ). reactionOf (alone (gives o ended none nothing) none y)) (c .before .before .before .single .ensures)
 
--- src/lib.rt:43:1
 returns-2 : tie.Need-returns-2
 returns-2 c =
     let a = c .before .before .before .before .before .args in

@@ -3,9 +3,6 @@ use borrow.Author.Tests.{eq-eqb, ne-eqb}
 use borrow.Author.Needs.{needs}
 use Rattle.farms.proofs.behind.Statement.{statement}
 use Rattle.farms.proofs.behind.Tie as tie
-use Rattle.farms.proofs.behind.Reads as reads
-use Rattle.farms.proofs.behind.Lts as lts
-use Rattle.signals.proofs.with.Reads as with-reads
 
 with-requires : tie.Need-with-requires
 with-requires c κs = search needs

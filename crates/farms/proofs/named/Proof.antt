@@ -6,9 +6,6 @@ use Rattle.farms.specs.Farms.{NamesBelow}
 use Rattle.farms.proofs.Naming.{names-start, names-next, names-all}
 use Rattle.farms.proofs.named.Statement.{statement}
 use Rattle.farms.proofs.named.Tie as tie
-use Rattle.farms.proofs.named.Reads as reads
-use Rattle.farms.proofs.named.Lts as lts
-use Rattle.farms.proofs.behind.Reads as behind-reads
 
 abbrev Inv-loop : tie.InvT-loop
 Inv-loop s found₀ i₀ found i = (1 ≤ i) × NamesBelow i s found

@@ -4,21 +4,22 @@ use native.Mathlib.Omega.{arith}
 use lib.ListN.{getD, length}
 use borrow.Author.Needs.{needs}
 use Rattle.ledgers.specs.Ledgers.{ledgerLength, totalIn, addedBelow}
+use Rattle.ledgers.proofs.Theorems.{nothing-added, none-at-all}
 use Rattle.ledgers.proofs.Fields.{added-start, added-next, next-most}
 use Rattle.ledgers.proofs.add.Statement.{statement}
 use Rattle.ledgers.proofs.add.Tie as tie
-use Rattle.ledgers.proofs.add.Reads as reads
-use Rattle.ledgers.proofs.add.Lts as lts
-use Rattle.ledgers.proofs.add_to.Reads as add-to-reads
 
 abbrev Inv-loop : tie.InvT-loop
-Inv-loop ledger₀ litres farm₀ ledger farm = (farm ≤ 32) × (length ledger ≡ ledgerLength) × (ledger ≡ addedBelow farm (λ f. getD litres f 0) ledger₀)
+Inv-loop ledger₀ litres farms farm₀ ledger farm = (farm ≤ 32) × (length ledger ≡ ledgerLength) × (ledger ≡ addedBelow farm (λ f. getD litres f 0) ledger₀)
 
 abbrev μ-loop : tie.MeasureT-loop
-μ-loop ledger₀ litres farm₀ ledger farm = 32 - farm
+μ-loop ledger₀ litres farms farm₀ ledger farm = 32 - farm
+
+returns : tie.Need-returns Inv-loop μ-loop
+returns c = sym (nothing-added _ _ (none-at-all _ (c .if1 .taken) (c .before .before .pre .1 .1)))
 
 loop-holds : tie.Need-loop-holds Inv-loop μ-loop
-loop-holds c = (omega arith, c .before .pre .0, added-start _ _)
+loop-holds c = (omega arith, c .before .before .pre .0, added-start _ _)
 
 mul-add-to : tie.Need-mul-add-to Inv-loop μ-loop
 mul-add-to c = search needs
@@ -28,9 +29,9 @@ element-copy-out-add-to c = search needs
 
 add-to-requires : tie.Need-add-to-requires Inv-loop μ-loop
 add-to-requires c κs =
-    let k = c .before .before .before .before .before in
+    let k = c .before .before .before .before .before .before in
     let l = c .before .before .before .loop in
-    (l .inv .1, c .before .before .loop-test .taken, next-most (λ f. getD (k .args .litres .now) f 0) (k .args .ledger .now) (l .ledger) (l .farm) (k .pre .0) (k .pre .1) (l .inv .2) (c .before .before .loop-test .taken))
+    (l .inv .1, c .before .before .loop-test .taken, next-most (λ f. getD (k .args .litres .now) f 0) (k .args .ledger .now) (l .ledger) (l .farm) (k .pre .0) (k .pre .1 .0) (l .inv .2) (c .before .before .loop-test .taken))
 
 add-farm : tie.Need-add-farm Inv-loop μ-loop
 add-farm c = search needs
@@ -40,17 +41,17 @@ loop-less c = search needs
 
 loop-again : tie.Need-loop-again Inv-loop μ-loop
 loop-again c =
-    let k = c .before .before .before .before .before .before .before .before in
+    let k = c .before .before .before .before .before .before .before .before .before in
     let l = c .before .before .before .before .before .before .loop in
     let w = added-next (λ f. getD (k .args .litres .now) f 0) (k .args .ledger .now) (l .ledger) _ (l .farm) (l .inv .1) (l .inv .2) (c .before .before .add-to .ensures) in
     (search needs, w .0, w .1)
 
 same-length : tie.Need-same-length Inv-loop μ-loop
-same-length c = c .before .loop .inv .1 ∙ sym (c .before .before .before .pre .0)
+same-length c = c .before .loop .inv .1 ∙ sym (c .before .before .before .before .pre .0)
 
-returns : tie.Need-returns Inv-loop μ-loop
-returns c =
-    let a = c .before .before .before .args in
+returns-2 : tie.Need-returns-2 Inv-loop μ-loop
+returns-2 c =
+    let a = c .before .before .before .before .args in
     let l = c .before .loop in
     let e : l .farm ≡ 32 = let t = c .loop-test .left in let i = l .inv .0 in omega (arith, t, i) in
     l .inv .2 ∙ ap (λ (n : ℕ). addedBelow n (λ f. getD (a .litres .now) f 0) (a .ledger .now)) e
@@ -61,6 +62,7 @@ add-spec =
     (tie.spec
     Inv-loop
     μ-loop
+    returns
     loop-holds
     mul-add-to
     element-copy-out-add-to
@@ -69,4 +71,4 @@ add-spec =
     loop-less
     loop-again
     same-length
-    returns)
+    returns-2)

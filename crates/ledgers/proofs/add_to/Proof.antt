@@ -11,51 +11,38 @@ use Rattle.ledgers.proofs.Totals.{float-in, sum-no-nan, sum-bits, sum-b
 use borrow.Author.Needs.{needs}
 use Rattle.ledgers.proofs.add_to.Statement.{statement}
 use Rattle.ledgers.proofs.add_to.Tie as tie
-use Rattle.ledgers.proofs.add_to.Reads as reads
-use Rattle.ledgers.proofs.add_to.Lts as lts
-use Rattle.ledgers.proofs.total.Reads as total-reads
-use Rattle.numbers.proofs.put_le.Reads as put-le-reads
 
--- src/lib.rt:64:9
 returns : tie.Need-returns
 returns c =
     let a = c .before .before .args in
     ap (λ (b : Bool). cond b (a .ledger .now) (sets (a .ledger .now) (a .farm * 4) (amountBytes (totalIn (a .farm) (a .ledger .now) + a .more)))) (sym (eq-eqb (a .more) 0 (c .if1 .taken)))
 
--- src/lib.rt:66:15
 total-requires : tie.Need-total-requires
 total-requires c κs = search needs
 
--- src/lib.rt:66:37
 int-to-float-sum : tie.Need-int-to-float-sum
 int-to-float-sum c = let p = c .before .before .before .before .before .pre .2 in float-in _ (omega (arith, p))
 
--- src/lib.rt:67:29
 mul-put-le : tie.Need-mul-put-le
 mul-put-le c = search needs
 
--- src/lib.rt:67:42
 float-to-bits-put-le : tie.Need-float-to-bits-put-le
 float-to-bits-put-le c =
     let a = c .before .before .before .before .before .before .args in
     sum-no-nan (a .farm) (a .ledger .now) (a .more) (c .before .before .before .before .before .before .pre .2) (c .before .before .total .ensures)
 
--- src/lib.rt:67:42
 cast-put-le : tie.Need-cast-put-le
 cast-put-le c =
     let a = c .before .before .before .before .before .before .args in
     let l = sum-bits-small (a .farm) (a .ledger .now) (a .more) (c .before .before .before .before .before .before .pre .2) (c .before .before .total .ensures) in
     omega (arith, l)
 
--- src/lib.rt:67:5
 put-le-requires : tie.Need-put-le-requires
 put-le-requires c κs = search needs
 
--- src/lib.rt:59:1
 same-length : tie.Need-same-length
 same-length c = search needs
 
--- src/lib.rt:59:1
 returns-2 : tie.Need-returns-2
 returns-2 c =
     let k = c .before .before .before .before .before .before .before .before .before in

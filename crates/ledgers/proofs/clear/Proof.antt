@@ -9,9 +9,6 @@ use Rattle.ledgers.specs.Ledgers.{ledgerLength, totalsBytes}
 use Rattle.ledgers.proofs.Totals.{totals-none, totals-all, written-next, zero-bytes}
 use Rattle.ledgers.proofs.clear.Statement.{statement}
 use Rattle.ledgers.proofs.clear.Tie as tie
-use Rattle.ledgers.proofs.clear.Reads as reads
-use Rattle.ledgers.proofs.clear.Lts as lts
-use Rattle.numbers.proofs.put_le.Reads as put-le-reads
 
 abbrev Inv-loop : tie.InvT-loop
 Inv-loop ledger₀ farm₀ ledger farm = (farm ≤ 32) × (length ledger ≡ ledgerLength) × (ledger ≡ sets ledger₀ 0 (totalsBytes farm (λ f. 0)))

@@ -14,11 +14,6 @@ use Rattle.ledgers.specs.Ledgers.{readingLength, totalIn, totalsBytes, s
 use Rattle.ledgers.proofs.Totals.{totals-none, written-next, written-all, shown-bits, near-no-nan}
 use Rattle.ledgers.proofs.read.Statement.{statement}
 use Rattle.ledgers.proofs.read.Tie as tie
-use Rattle.ledgers.proofs.read.Reads as reads
-use Rattle.ledgers.proofs.read.Lts as lts
-use Rattle.ledgers.proofs.show.Reads as show-reads
-use Rattle.ledgers.proofs.sum.Reads as sum-reads
-use Rattle.numbers.proofs.put_le.Reads as put-le-reads
 
 abbrev Inv-loop : tie.InvT-loop
 Inv-loop ledger reading₀ farm₀ reading farm = (farm ≤ 32) × (length reading ≡ readingLength) × (reading ≡ sets reading₀ 0 (totalsBytes farm (λ f. totalIn f ledger)))

@@ -10,39 +10,28 @@ use Rattle.ledgers.proofs.Totals.{total-most, int-no-nan, int-bits}
 use borrow.Author.Needs.{needs}
 use Rattle.ledgers.proofs.show.Statement.{statement}
 use Rattle.ledgers.proofs.show.Tie as tie
-use Rattle.ledgers.proofs.show.Reads as reads
-use Rattle.ledgers.proofs.show.Lts as lts
-use Rattle.ledgers.proofs.total.Reads as total-reads
-use Rattle.numbers.proofs.put_le.Reads as put-le-reads
 
--- src/lib.rt:114:9
 total-requires : tie.Need-total-requires
 total-requires c κs = search needs
 
--- src/lib.rt:115:30
 mul-put-le : tie.Need-mul-put-le
 mul-put-le c = search needs
 
--- src/lib.rt:115:43
 float-to-bits-put-le : tie.Need-float-to-bits-put-le
 float-to-bits-put-le c =
     subst (λ (x : Float). T (not (isNan x))) (sym (c .before .total .ensures)) (int-no-nan _ (total-most _ _))
 
--- src/lib.rt:115:43
 cast-put-le : tie.Need-cast-put-le
 cast-put-le c =
     let l = subst (λ (x : Float). toBits binary32 x < 4294967296) (sym (c .before .total .ensures)) (int-bits _) in
     omega (arith, l)
 
--- src/lib.rt:115:5
 put-le-requires : tie.Need-put-le-requires
 put-le-requires c κs = search needs
 
--- src/lib.rt:110:1
 same-length : tie.Need-same-length
 same-length c = search needs
 
--- src/lib.rt:110:1
 returns : tie.Need-returns
 returns c =
     let a = c .before .before .before .before .before .before .before .args in

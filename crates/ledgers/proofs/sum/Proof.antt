@@ -10,9 +10,6 @@ use Rattle.ledgers.specs.Ledgers.{farmCount, totalFloat}
 use Rattle.ledgers.proofs.Totals.{totals-whole, exact-is}
 use Rattle.ledgers.proofs.sum.Statement.{statement}
 use Rattle.ledgers.proofs.sum.Tie as tie
-use Rattle.ledgers.proofs.sum.Reads as reads
-use Rattle.ledgers.proofs.sum.Lts as lts
-use Rattle.ledgers.proofs.total.Reads as total-reads
 
 abbrev Inv-loop : tie.InvT-loop
 Inv-loop ledger t₀ farm₀ t farm = Added (λ f. totalFloat f ledger) t farm

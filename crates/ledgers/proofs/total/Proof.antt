@@ -6,10 +6,6 @@ use Rattle.ledgers.proofs.Totals.{holds, zero-whole, read-whole, read-o
 use borrow.Author.Needs.{needs}
 use Rattle.ledgers.proofs.total.Statement.{statement}
 use Rattle.ledgers.proofs.total.Tie as tie
-use Rattle.ledgers.proofs.total.Reads as reads
-use Rattle.ledgers.proofs.total.Lts as lts
-use Rattle.litres.proofs.is_whole.Reads as is-whole-reads
-use Rattle.numbers.proofs.get_le.Reads as get-le-reads
 
 mul-get-le : tie.Need-mul-get-le
 mul-get-le c = search needs

@@ -5,31 +5,24 @@ use borrow.Author.Needs.{needs}
 use Rattle.litres.proofs.is_whole.Statement.{statement}
 use Rattle.litres.proofs.is_whole.Tie as tie
 
--- src/lib.rt:20:9
 returns : tie.Need-returns
 returns c = large (c .before .args .v) (c .if1 .taken)
 
--- src/lib.rt:23:9
 returns-2 : tie.Need-returns-2
 returns-2 c = small (c .before .before .args .v) (c .if2 .taken)
 
--- src/lib.rt:25:27
 sub-unit : tie.Need-sub-unit
 sub-unit c = search needs
 
--- src/lib.rt:25:21
 shl-unit : tie.Need-shl-unit
 shl-unit c = search needs
 
--- src/lib.rt:26:6
 add-result : tie.Need-add-result
 add-result c = search needs
 
--- src/lib.rt:26:5
 rem-result : tie.Need-rem-result
 rem-result c = unit-pos (c .before .before .args .v) (c .if2 .left)
 
--- src/lib.rt:16:1
 returns-3 : tie.Need-returns-3
 returns-3 c = middle-code (c .before .before .args .v) (c .if2 .left) (c .before .if1 .left)
 
