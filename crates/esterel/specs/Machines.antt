@@ -1,16 +1,17 @@
 -- Two machines over the instants of one statement: by labels (01, 'States and resuming'), which keeps the label set and
 -- expands, and by rewriting (01, 'The fitters' paper'), which keeps the residual and knows neither labels nor expansion.
 use Prim.Native.Nat.{ℕ}
+use mathlib.Core.Path.{_≡_, refl}
 use mathlib.Core.Bool.{cond}
 use mathlib.Core.Option.{Option}
 use mathlib.Core.List.{List, [], _∷_}
-use Rattle.esterel.specs.Sets.{none}
-use Rattle.esterel.specs.Statement.{Statement, nothing, pause, emit, exit, seq, par, loop, present, signal, try, setpause, suspend, held}
-use Rattle.esterel.specs.Reaction.{Code, ended, waiting, leaving, wrong, isWrong, Reaction, gives, code, react}
-use Rattle.esterel.specs.Errors.{Error, firstError, blame}
-use Rattle.esterel.specs.Reactions.{reactions}
-use Rattle.esterel.specs.States.{Valid}
-use Rattle.esterel.specs.Litres.{delivered}
+use Rattle.esterel.specs.Sets.{member, none, only, join}
+use Rattle.esterel.specs.Statement.{litres, Statement, nothing, pause, emit, exit, seq, par, loop, present, signal, try, setpause, suspend, held}
+use Rattle.esterel.specs.Reaction.{Code, ended, waiting, leaving, wrong, isWrong, Reaction, gives, code, reactBy, react}
+use Rattle.esterel.specs.Errors.{Error, errorsBy, firstError, blame}
+use Rattle.esterel.specs.Reactions.{reactionsBy, reactions}
+use Rattle.esterel.specs.States.{active, Valid}
+use Rattle.esterel.specs.Litres.{deliveredBy, delivered}
 use Rattle.esterel.specs.Expansion.{expand}
 use Rattle.esterel.specs.ReadBack.{without}
 
@@ -127,6 +128,21 @@ addsByRewriting f Rewriting.over e = 0
 unfoldable pub added : {S : Type 0} → Machine S → (S → ℕ → ℕ) → S → List ℕ → List ℕ
 added m f s [] = []
 added m f s (e ∷ es) = f s e ∷ added m f (m s e .1) es
+
+-- By computation: 5 litres beside an error are not added, and without it they are. A loop that waits after its delivery adds 5, then 7
+-- and 5 of the round that begins, by labels and by rewriting; nothing is added after the end.
+wrong-adds-none : (adds 2 (par (emit 2 (litres 5)) (loop 7 nothing)) 0 ≡ 0) × (adds 2 (par (emit 2 (litres 5)) nothing) 0 ≡ 5)
+unfolding deliveredBy reactBy none only join
+wrong-adds-none = (refl, refl)
+
+abbrev deliversTwice : Statement
+deliversTwice = loop 0 (seq (emit 2 (litres 5)) (seq (pause 0) (emit 2 (litres 7))))
+
+added-twice : (added (byLabels deliversTwice) (addsByLabels 2 deliversTwice) State.fresh (0 ∷ 0 ∷ []) ≡ 5 ∷ 12 ∷ [])
+    × (added byRewriting (addsByRewriting 2) (Rewriting.fresh deliversTwice) (0 ∷ 0 ∷ []) ≡ 5 ∷ 12 ∷ [])
+    × (added byRewriting (addsByRewriting 2) (Rewriting.fresh (emit 2 (litres 5))) (0 ∷ 0 ∷ []) ≡ 5 ∷ 0 ∷ [])
+unfolding added deliveredBy reactBy errorsBy reactionsBy expand active member none only join
+added-twice = (refl, refl, refl)
 
 -- The term with no labels in its held suspends, as the paper, which knows no labels, would have it.
 unfoldable pub erase : Statement → Statement
