@@ -1,6 +1,7 @@
 -- A whole number of litres up to the limit and its 4 bytes: each is read from the other.
 use Prim.Native.Nat.{ℕ, zero, suc, _+_, _*_, _/_, _%_, _^_, _≤_, _<_}
 use mathlib.Core.Path.{_≡_, refl, sym, ap, _∙_, subst}
+use mathlib.Core.Logic.{_↔_}
 use mathlib.Core.Bool.{Bool, true, false, not, _&&_, and-eq-true-iff}
 use mathlib.Core.List.{List, [], _∷_}
 use native.Mathlib.Nat.{pow-suc}
@@ -26,7 +27,7 @@ holds false h = absurd (let z : _≡_ {A = ℕ} 0 1 = cc in omega arith)
 pattern : (n : ℕ) → leNumber (amountBytes n) ≡ toBits binary32 (ofInt binary32 (pos n))
 pattern n = le-round-trip 4 (toBits binary32 (ofInt binary32 (pos n))) (toBits-lt binary32 (ofInt binary32 (pos n)) (ofInt-fits binary32 (pos n)))
 
-float-written : (n : ℕ) → floatIn (amountBytes n) ≡ ofInt binary32 (pos n)
+pub float-written : (n : ℕ) → floatIn (amountBytes n) ≡ ofInt binary32 (pos n)
 float-written n = ap (ofBits binary32) (pattern n) ∙ ofBits-toBits binary32 (ofInt binary32 (pos n)) (ofInt-fits binary32 (pos n))
 
 in-float : (n : ℕ) → n ≤ litresLimit → T (inFloat binary32 (pos n))
@@ -86,3 +87,14 @@ amount-read xs n h =
   where
     most : (k : ℕ) → T (inFloat binary32 (pos k)) → k ≤ litresLimit
     most k t = unfold inFloat in leb-true k 16777216 (is-true (leb k 16777216) t)
+
+-- TAKEN: the bytes that 18 does not turn down are those of the whole numbers up to the limit
+pub litres-taken : (xs : List ℕ) → length xs ≡ amountSize
+    → (isAmount xs ≡ true) ↔ ((n : ℕ) × ((n ≤ litresLimit) × (xs ≡ amountBytes n) × (floatIn xs ≡ ofInt binary32 (pos n))))
+litres-taken xs l = (λ h. from h, λ q. ap isAmount (q .1 .1) ∙ amount-written (q .0) (q .1 .0) .0)
+  where
+    from : isAmount xs ≡ true → (n : ℕ) × ((n ≤ litresLimit) × (xs ≡ amountBytes n) × (floatIn xs ≡ ofInt binary32 (pos n)))
+    from h =
+        let r = amount-read xs l h in
+        let n = amountIn xs in
+        (n, (r .0, sym (r .1), ap floatIn (sym (r .1)) ∙ float-written n))

@@ -1,21 +1,26 @@
--- The theorems of this crate: the check finds the first row that holds, the reader accepts what the writer writes, and no bytes
--- spell a held suspend.
-use Prim.Native.Nat.{ℕ}
+-- The theorems of this crate: the check finds the first row that holds, the reader accepts what the writer writes, no bytes
+-- spell a held suspend, and litres are the whole numbers up to the limit.
+use Prim.Native.Nat.{ℕ, _≤_}
 use mathlib.Core.Path.{_≡_}
 use mathlib.Core.Logic.{_↔_}
+use mathlib.Core.Bool.{true}
 use mathlib.Core.List.{List}
 use lib.ListN.{length}
+use lib.IntN.{pos}
+use lib.Ieee.{binary32, ofInt}
 use Rattle.esterel.specs.Statement.{Statement}
 use Rattle.esterel.specs.States.{Source}
-use Rattle.limits.specs.Limits.{maxDepth, maxSignals}
+use Rattle.limits.specs.Limits.{maxDepth, maxSignals, litresLimit}
+use Rattle.sequence.specs.Amounts.{amountSize, isAmount, floatIn, amountBytes}
 use Rattle.sequence.specs.Reader.{accepted, read}
 use Rattle.sequence.specs.Check.{checkOf}
 use Rattle.sequence.specs.Rows.{Spells, Row, ByRows}
 use Rattle.sequence.proofs.Writer as writer
 use Rattle.sequence.proofs.Rows as rows
 use Rattle.sequence.proofs.Source as source
+use Rattle.sequence.proofs.Amounts as amounts
 
--- 0 if no row of 'Turned down' holds, else the smallest number whose row does, for every read-back set
+-- 0 if no row of 'Turned down' holds, else the first number in the order of the rows whose row does, for every read-back set
 pub check-by-rows : (bs : List ℕ) (readBack : ℕ) → ByRows (checkOf bs readBack) (Row bs readBack)
 check-by-rows = rows.check-by-rows
 
@@ -26,3 +31,8 @@ reads-what-is-written = writer.reads-what-is-written
 -- what bytes spell is source: a held suspend is only what remains of a suspend
 pub spells-source : (bs : List ℕ) (p : Statement) → Spells bs p → Source p
 spells-source = source.spells-source
+
+-- 02, item 12, row 18: four bytes are litres exactly if they are the single-precision number of a whole number from 0 to 16,777,216
+pub litres-taken : (xs : List ℕ) → length xs ≡ amountSize
+    → (isAmount xs ≡ true) ↔ ((n : ℕ) × ((n ≤ litresLimit) × (xs ≡ amountBytes n) × (floatIn xs ≡ ofInt binary32 (pos n))))
+litres-taken = amounts.litres-taken
