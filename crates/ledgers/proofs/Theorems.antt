@@ -10,17 +10,19 @@ use lib.ListN.{length, take, drop, replicate}
 use lib.Seq.{take-at, drop-at}
 use lib.Dec.{T, lit<}
 use lib.IntN.{pos}
-use lib.Ieee.{Float, binary32, ofBits, toBits, ofInt, inUnsigned}
+use lib.Ieee.{Float, binary32, ofBits, toBits, ofInt, inUnsigned, fits}
+use lib.Ieee.Bits.{ofBits-toBits, toBits-lt}
+use lib.Ieee.Fits.{add-fits}
 use Rattle.esterel.specs.Sets.{member, none}
 use Rattle.theory.proofs.Sets.{member-none}
 use Rattle.limits.specs.Limits.{litresLimit}
 use Rattle.numbers.specs.Bytes.{leBytes, leNumber, numberAt}
-use Rattle.numbers.proofs.Bytes.{length-leBytes}
+use Rattle.numbers.proofs.Bytes.{length-leBytes, le-round-trip}
 use Rattle.sequence.specs.Amounts.{amountSize, amountBytes, areBytes, floatIn}
 use Rattle.sequence.proofs.Amounts.{amount-written}
 use Rattle.litres.specs.Litres.{whole, litres, ordered, within}
 use Rattle.litres.proofs.Sums.{Added, added-first, added-next, added-all}
-use Rattle.ledgers.specs.Ledgers.{farmCount, ledgerLength, fieldIn, totalIn, totalFloat, Exact, totalsBytes, cleared, NoneOutside, wouldPass, passes, addedBelow, added, exactTotal, shownTotal, readingOf}
+use Rattle.ledgers.specs.Ledgers.{farmCount, ledgerLength, fieldIn, totalIn, totalFloat, Exact, totalsBytes, cleared, NoneOutside, wouldPass, passes, addedBelow, added, exactTotal, shownTotal, readingOf, totalRead}
 use Rattle.ledgers.proofs.Totals as totals
 use Rattle.ledgers.proofs.Fields as fields
 
@@ -87,6 +89,23 @@ module _ (t : ℕ → ℕ) (r : List ℕ) (f : ℕ) (small : f < farmCount) (mos
 -- what is read of a farm is its total
 pub reading-total : (bs : List ℕ) (f : ℕ) → f < farmCount → totalIn f (readingOf bs) ≡ totalIn f bs
 reading-total bs f h = written-total (λ f. totalIn f bs) (leBytes amountSize (toBits binary32 (shownTotal bs))) f h (total-most f bs)
+
+-- and so is the ledger's total: its bytes are those of the sum in single precision, and lie as near to the exact one
+pub reading-shows : (bs : List ℕ) → totalRead (readingOf bs) ≡ shownTotal bs
+unfolding ordered
+reading-shows bs =
+    let x = shownTotal bs in
+    let xs = leBytes 4 (toBits binary32 x) in
+    let ts = totalsBytes farmCount (λ f. totalIn f bs) in
+    let fit : T (fits binary32 x) = add-fits binary32 (ordered 30 (λ f. totalFloat f bs)) (totalFloat 31 bs) in
+    let at : take 4 (drop 128 (ts ++ xs)) ≡ xs =
+    ap (take 4) (drop-at ts xs 128 (totals.length-totals farmCount (λ f. totalIn f bs)) ∙ sym (append-nil xs))
+    ∙ take-at xs [] 4 (length-leBytes 4 (toBits binary32 x)) in
+    ap (λ (l : List ℕ). ofBits binary32 (leNumber l)) at
+    ∙ ap (ofBits binary32) (le-round-trip 4 (toBits binary32 x) (toBits-lt binary32 x fit)) ∙ ofBits-toBits binary32 x fit
+
+pub reading-within : (bs : List ℕ) → T (within 496 (totalRead (readingOf bs)) (exactTotal farmCount bs))
+reading-within bs = subst (λ (x : Float). T (within 496 x (exactTotal farmCount bs))) (sym (reading-shows bs)) (shown-within bs)
 
 -- ---- the new year
 pub cleared-total : (f : ℕ) → f < farmCount → totalIn f cleared ≡ 0

@@ -89,3 +89,7 @@ shownTotal bs = ordered 31 (λ f. totalFloat f bs)
 -- 02: 'the 32 totals, then the ledger's total'
 abbrev pub readingOf : List ℕ → List ℕ
 readingOf bs = totalsBytes farmCount (λ f. totalIn f bs) ++ leBytes amountSize (toBits binary32 (shownTotal bs))
+
+-- the ledger's total in a reading
+abbrev pub totalRead : List ℕ → Float
+totalRead reading = ofBits binary32 (numberAt ledgerLength amountSize reading)
