@@ -28,43 +28,61 @@ use Rattle.box_calls.specs.BayCalls.{bayStepOf, bayTickOf, bayReleaseOf,
 use Rattle.box_calls.specs.Box.{emptyBox, present, callOf}
 use Rattle.box_calls.specs.Lists.{boxAfter}
 use Rattle.box_calls.specs.Instants.{recordsIn}
-use Rattle.box_calls.specs.Worked.{otherwise, bays, shares, admissions, elsewhere}
+use Rattle.box_calls.specs.Worked.{otherwise, alone, emptyStretch, bay, admissions, reached, passed, full, overmuch, bays, elsewhere}
 use Rattle.box_calls.specs.WorkedPositions.{positions}
 use Rattle.box_calls.specs.WorkedRecords.{numbers, leftByRefusal, lengths, shownOnPanel}
 
+pub bay-worked : otherwise (alone 0) emptyStretch bay ≡ 0
+unfolding otherwise emptyStretch partOf vacated filled bayStepOf bayTickOf following bayReleaseOf bayAdmitOf put zeros leBytes leNumber tickBy checked read front commandOf distinct wellFormed before everyLabel labelsOf subset disjoint valid active activeLabels membersFrom declaredBy commands loopNesting nesting ceiling encodeState decodeState encodeAnswer expand reactBy errorsBy reactionsBy none only member join insert remove
+bay-worked = refl
+
+pub admissions-worked : otherwise (alone 0) emptyStretch admissions ≡ 0
+unfolding otherwise emptyStretch partOf vacated filled bayStepOf bayTickOf following bayReleaseOf bayAdmitOf put zeros leBytes leNumber tickBy checked read front commandOf distinct wellFormed before everyLabel labelsOf subset disjoint valid active activeLabels membersFrom declaredBy commands loopNesting nesting ceiling encodeState decodeState encodeAnswer expand reactBy errorsBy reactionsBy none only member join insert remove
+admissions-worked = refl
+
+-- ---- the shared ceiling
+pub reached-worked : otherwise (alone 32768) emptyStretch reached ≡ 0
+unfolding otherwise emptyStretch vacated filled bayAdmitOf put zeros leBytes leNumber checked read front commandOf distinct wellFormed before everyLabel labelsOf subset disjoint membersFrom declaredBy commands loopNesting nesting ceiling none only member join insert remove
+reached-worked = refl
+
+pub passed-worked : otherwise (alone 32769) emptyStretch passed ≡ 0
+unfolding otherwise emptyStretch vacated filled bayAdmitOf put zeros leBytes leNumber checked read front commandOf distinct wellFormed before everyLabel labelsOf subset disjoint membersFrom declaredBy commands loopNesting nesting ceiling none only member join insert remove
+passed-worked = refl
+
+pub full-worked : otherwise (alone 65536) emptyStretch full ≡ 0
+unfolding otherwise emptyStretch vacated filled bayAdmitOf put zeros leBytes leNumber checked read front commandOf distinct wellFormed before everyLabel labelsOf subset disjoint membersFrom declaredBy commands loopNesting nesting ceiling none only member join insert remove
+full-worked = refl
+
+pub overmuch-worked : otherwise (alone 0) emptyStretch overmuch ≡ 0
+unfolding otherwise emptyStretch vacated filled bayAdmitOf put zeros leBytes leNumber checked read front commandOf distinct wellFormed before everyLabel labelsOf subset disjoint membersFrom declaredBy commands loopNesting nesting ceiling none only member join insert remove
+overmuch-worked = refl
+
+-- ---- a box
 pub bays-worked : otherwise callOf emptyBox bays ≡ 0
 unfolding otherwise callOf emptyBox present partOf vacated filled bayStepOf bayTickOf following bayReleaseOf bayAdmitOf put zeros leBytes leNumber tickBy checked read front commandOf distinct wellFormed before everyLabel labelsOf subset disjoint valid active activeLabels membersFrom declaredBy commands loopNesting nesting ceiling encodeState decodeState encodeAnswer expand reactBy errorsBy reactionsBy none only member join insert remove
 bays-worked = refl
-
-pub shares-worked : otherwise callOf emptyBox shares ≡ 0
-unfolding otherwise callOf emptyBox present partOf vacated filled bayReleaseOf bayAdmitOf put zeros leBytes leNumber checked read front commandOf distinct wellFormed before everyLabel labelsOf subset disjoint membersFrom declaredBy commands loopNesting nesting ceiling none only member join insert remove
-shares-worked = refl
-
-pub admissions-worked : otherwise callOf emptyBox admissions ≡ 0
-unfolding otherwise callOf emptyBox present partOf vacated filled bayStepOf bayTickOf following bayReleaseOf bayAdmitOf put zeros leBytes leNumber tickBy checked read front commandOf distinct wellFormed before everyLabel labelsOf subset disjoint valid active activeLabels membersFrom declaredBy commands loopNesting nesting ceiling encodeState decodeState encodeAnswer expand reactBy errorsBy reactionsBy none only member join insert remove
-admissions-worked = refl
 
 pub elsewhere-worked : otherwise callOf [] elsewhere ≡ 0
 unfolding otherwise callOf
 elsewhere-worked = refl
 
-pub positions-worked : otherwise callOf emptyBox positions ≡ 0
-unfolding otherwise callOf emptyBox present partOf vacated filled bayStepOf bayTickOf following bayReleaseOf bayAdmitOf baySaveOf bayForgetOf bayRestoreOf saveOf forgetOf lookup place put zeros leBytes leNumber tickBy checked read front commandOf distinct wellFormed before everyLabel labelsOf subset disjoint valid active activeLabels membersFrom declaredBy commands loopNesting nesting ceiling encodeState decodeState encodeAnswer expand reactBy errorsBy reactionsBy none only member join insert remove
+pub positions-worked : otherwise (alone 0) emptyStretch positions ≡ 0
+unfolding otherwise emptyStretch partOf vacated filled bayStepOf bayTickOf following bayReleaseOf bayAdmitOf baySaveOf bayForgetOf bayRestoreOf saveOf forgetOf lookup place put zeros leBytes leNumber tickBy checked read front commandOf distinct wellFormed before everyLabel labelsOf subset disjoint valid active activeLabels membersFrom declaredBy commands loopNesting nesting ceiling encodeState decodeState encodeAnswer expand reactBy errorsBy reactionsBy none only member join insert remove
 positions-worked = refl
 
 -- ---- records
-pub numbers-worked : numbers callOf ≡ 1 ∷ 2 ∷ 3 ∷ 1 ∷ []
-unfolding recordsIn callOf emptyBox present partOf vacated filled bayStepOf bayTickOf following bayReleaseOf bayAdmitOf baySaveOf bayForgetOf bayRestoreOf saveOf forgetOf lookup place put zeros leBytes leNumber tickBy checked read front commandOf distinct wellFormed before everyLabel labelsOf subset disjoint valid active activeLabels membersFrom declaredBy commands loopNesting nesting ceiling encodeState decodeState encodeAnswer expand reactBy errorsBy reactionsBy none only member join insert remove
+pub numbers-worked : numbers ≡ 1 ∷ 2 ∷ 3 ∷ 1 ∷ []
+unfolding recordsIn emptyStretch partOf vacated filled bayStepOf bayTickOf following bayReleaseOf bayAdmitOf baySaveOf bayForgetOf bayRestoreOf saveOf forgetOf lookup place put zeros leBytes leNumber tickBy checked read front commandOf distinct wellFormed before everyLabel labelsOf subset disjoint valid active activeLabels membersFrom declaredBy commands loopNesting nesting ceiling encodeState decodeState encodeAnswer expand reactBy errorsBy reactionsBy none only member join insert remove
 numbers-worked = refl
 
-pub refusal-worked : leftByRefusal callOf ≡ replicate recordLength 77
-unfolding boxAfter callOf emptyBox present partOf vacated filled bayStepOf bayTickOf following bayReleaseOf bayAdmitOf baySaveOf bayForgetOf bayRestoreOf saveOf forgetOf lookup place put zeros leBytes leNumber tickBy checked read front commandOf distinct wellFormed before everyLabel labelsOf subset disjoint valid active activeLabels membersFrom declaredBy commands loopNesting nesting ceiling encodeState decodeState encodeAnswer expand reactBy errorsBy reactionsBy none only member join insert remove
+pub refusal-worked : leftByRefusal ≡ replicate recordLength 77
+unfolding boxAfter emptyStretch partOf vacated filled bayStepOf bayTickOf following bayReleaseOf bayAdmitOf baySaveOf bayForgetOf bayRestoreOf saveOf forgetOf lookup place put zeros leBytes leNumber tickBy checked read front commandOf distinct wellFormed before everyLabel labelsOf subset disjoint valid active activeLabels membersFrom declaredBy commands loopNesting nesting ceiling encodeState decodeState encodeAnswer expand reactBy errorsBy reactionsBy none only member join insert remove
 refusal-worked = refl
 
-pub lengths-worked : otherwise callOf emptyBox lengths ≡ 0
-unfolding bayServiceOf bayPanelOf panelOf difference otherwise callOf emptyBox present partOf vacated filled bayStepOf bayTickOf following bayReleaseOf bayAdmitOf baySaveOf bayForgetOf bayRestoreOf saveOf forgetOf lookup place put zeros leBytes leNumber tickBy checked read front commandOf distinct wellFormed before everyLabel labelsOf subset disjoint valid active activeLabels membersFrom declaredBy commands loopNesting nesting ceiling encodeState decodeState encodeAnswer expand reactBy errorsBy reactionsBy none only member join insert remove
+pub lengths-worked : otherwise (alone 0) emptyStretch lengths ≡ 0
+unfolding bayServiceOf bayPanelOf panelOf difference otherwise emptyStretch partOf vacated filled bayStepOf bayTickOf following bayReleaseOf bayAdmitOf baySaveOf bayForgetOf bayRestoreOf saveOf forgetOf lookup place put zeros leBytes leNumber tickBy checked read front commandOf distinct wellFormed before everyLabel labelsOf subset disjoint valid active activeLabels membersFrom declaredBy commands loopNesting nesting ceiling encodeState decodeState encodeAnswer expand reactBy errorsBy reactionsBy none only member join insert remove
 lengths-worked = refl
 
-pub panel-worked : shownOnPanel callOf ≡ 2 ∷ 1 ∷ 0 ∷ 0 ∷ 1 ∷ 1 ∷ 0 ∷ 0 ∷ 0 ∷ 2 ∷ 0 ∷ 0 ∷ 0 ∷ []
-unfolding boxAfter bayPanelOf panelOf difference callOf emptyBox present partOf vacated filled bayStepOf bayTickOf following bayReleaseOf bayAdmitOf baySaveOf bayForgetOf bayRestoreOf saveOf forgetOf lookup place put zeros leBytes leNumber tickBy checked read front commandOf distinct wellFormed before everyLabel labelsOf subset disjoint valid active activeLabels membersFrom declaredBy commands loopNesting nesting ceiling encodeState decodeState encodeAnswer expand reactBy errorsBy reactionsBy none only member join insert remove
+pub panel-worked : shownOnPanel ≡ 2 ∷ 1 ∷ 0 ∷ 0 ∷ 1 ∷ 1 ∷ 0 ∷ 0 ∷ 0 ∷ 2 ∷ 0 ∷ 0 ∷ 0 ∷ []
+unfolding boxAfter bayPanelOf panelOf difference emptyStretch partOf vacated filled bayStepOf bayTickOf following bayReleaseOf bayAdmitOf baySaveOf bayForgetOf bayRestoreOf saveOf forgetOf lookup place put zeros leBytes leNumber tickBy checked read front commandOf distinct wellFormed before everyLabel labelsOf subset disjoint valid active activeLabels membersFrom declaredBy commands loopNesting nesting ceiling encodeState decodeState encodeAnswer expand reactBy errorsBy reactionsBy none only member join insert remove
 panel-worked = refl

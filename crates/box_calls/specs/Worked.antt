@@ -1,4 +1,5 @@
--- Boxes worked by hand (02, item 8): calls, and of each its number and its answer's code.
+-- Bays and boxes worked by hand (02, item 8): calls, and of each its number and its answer's code. What concerns one bay is worked on
+-- its stretch alone, an eighth of a box, so that it is computed in a moment and a slip is found as fast.
 use Prim.Native.Nat.{ℕ, zero, suc, _+_, _-_}
 use mathlib.Core.Bool.{Bool, _&&_, cond}
 use mathlib.Core.List.{List, [], _∷_, _++_}
@@ -6,8 +7,10 @@ use lib.ListN.{replicate}
 use lib.Dec.{eqb}
 use Rattle.answers.specs.AnswerRecord.{answerLength, codeIn}
 use Rattle.recordings.specs.Record.{recordLength}
-use Rattle.box_calls.specs.Called.{Called, number, lentAfter, first}
-use Rattle.box_calls.specs.Box.{admit, release, tick}
+use Rattle.parts.specs.Parts.{zeros}
+use Rattle.box_calls.specs.Called.{Called, called, number, lentAfter, first}
+use Rattle.box_calls.specs.Stretch.{stretchLength}
+use Rattle.box_calls.specs.Box.{admit, release, tick, buffers, bayCall, isFor}
 use Rattle.box_calls.specs.Lists.{Calling, Request, afterCall}
 
 -- ---- sequences
@@ -30,6 +33,10 @@ dear loops n =
 -- ceiling (15 + 6 + 11) * (1 + 15) * 2 ^ 6 = 32,768
 abbrev pub half : List ℕ
 half = dear 15 6
+
+-- ceiling (16 + 6 + 11) * (1 + 16) * 2 ^ 6 = 35,904
+abbrev overHalf : List ℕ
+overHalf = dear 16 6
 
 -- ceiling (30 + 6 + 1) * (1 + 30) * 2 ^ 6 = 73,408
 abbrev tooDear : List ℕ
@@ -81,60 +88,66 @@ otherwise call box [] = 0
 otherwise call box (x ∷ xs) =
     cond (isGiven x (call box (x .request .bay) (x .request .call))) 0 1 + otherwise call (afterCall call box (x .request)) xs
 
-abbrev pub bays : List Line
-bays =
-    -- no bay above 7 and no tick of an empty bay, whatever its buffer
-    line (admitted 8 waitsOnce) 13 0
-    ∷ line (ticked 0) 13 77
+-- ---- a bay by itself: the call on its stretch, 13 where it is not there for the call; those present in the other bays have this
+-- much of the shared ceiling
+abbrev pub alone : (present : ℕ) → Calling
+alone present s bay c = cond (isFor c s) (bayCall present c s) (called 13 s (buffers c))
+
+unfoldable pub emptyStretch : List ℕ
+emptyStretch = zeros stretchLength
+
+abbrev pub bay : List Line
+bay =
+    -- no tick of an empty bay, whatever its buffer; a bad sequence is turned down by its row
+    line (ticked 0) 13 77
     ∷ line (tickedShort 0) 13 0
-    -- a bay that waits, and its neighbour that is over
+    ∷ line (admitted 0 []) 2 0
+    -- a bay that waits, then is over; a filled one is not admitted again, whatever the sequence
     ∷ line (admitted 0 waitsOnce) 0 0
-    ∷ line (admitted 1 ends) 0 0
-    ∷ line (ticked 1) 0 0
     ∷ line (tickedShort 0) 1 0
     ∷ line (ticked 0) 0 1
-    ∷ line (ticked 1) 12 77
-    -- a filled bay is not admitted again, whatever the sequence; a bad sequence is turned down by its row
     ∷ line (admitted 0 []) 13 0
-    ∷ line (admitted 2 []) 2 0
-    -- a bay taken out and admitted again is fresh
-    ∷ line (released 1) 0 0
-    ∷ line (released 1) 13 0
-    ∷ line (admitted 1 waitsOnce) 0 0
-    ∷ line (ticked 1) 0 1
-    ∷ []
-
-abbrev pub shares : List Line
-shares =
-    -- too much for the whole box
-    line (admitted 0 tooDear) 14 0
-    -- 3 and 1 and 32,768; with another 32,768 too many; without the neighbour still too many, without both 65,536
-    ∷ line (admitted 0 waitsOnce) 0 0
-    ∷ line (admitted 1 ends) 0 0
-    ∷ line (admitted 7 half) 0 0
-    ∷ line (admitted 2 half) 14 0
-    ∷ line (released 1) 0 0
-    ∷ line (admitted 2 half) 14 0
+    ∷ line (ticked 0) 0 0
+    ∷ line (ticked 0) 12 77
+    -- taken out and admitted again it is fresh
     ∷ line (released 0) 0 0
-    ∷ line (admitted 2 half) 0 0
-    -- now a ceiling of 1 is too much; a bad sequence is still turned down by its row
-    ∷ line (admitted 0 ends) 14 0
-    ∷ line (admitted 0 []) 2 0
-    ∷ line (released 7) 0 0
-    ∷ line (admitted 0 ends) 0 0
+    ∷ line (released 0) 13 0
+    ∷ line (admitted 0 waitsOnce) 0 0
+    ∷ line (ticked 0) 0 1
     ∷ []
 
 abbrev pub admissions : List Line
 admissions =
     -- 383 bytes
-    line (admitted 3 (twos 7)) 0 0
-    ∷ line (ticked 3) 0 0
+    line (admitted 0 (twos 7)) 0 0
+    ∷ line (ticked 0) 0 0
+    ∷ line (released 0) 0 0
     -- the same sequence with its signal read back and without
-    ∷ line (admittedWith 4 waitsIfRead 1) 0 0
-    ∷ line (ticked 4) 0 1
-    ∷ line (admitted 5 waitsIfRead) 0 0
-    ∷ line (ticked 5) 0 0
+    ∷ line (admittedWith 0 waitsIfRead 1) 0 0
+    ∷ line (ticked 0) 0 1
+    ∷ line (released 0) 0 0
+    ∷ line (admitted 0 waitsIfRead) 0 0
+    ∷ line (ticked 0) 0 0
     ∷ []
+
+-- ---- the shared ceiling: 32,768 where the others have 32,768, and where they have one more
+abbrev pub reached : List Line
+reached = line (admitted 0 half) 0 0 ∷ []
+
+abbrev pub passed : List Line
+passed = line (admitted 0 half) 14 0 ∷ []
+
+-- where the others have all of it a ceiling of 1 is too much, and a bad sequence is still turned down by its row
+abbrev pub full : List Line
+full = line (admitted 0 ends) 14 0 ∷ line (admitted 0 []) 2 0 ∷ []
+
+-- more than there is
+abbrev pub overmuch : List Line
+overmuch = line (admitted 0 tooDear) 14 0 ∷ []
+
+-- ---- a box: no bay above 7; with the 32,768 of bay 7 another 35,904 are too many, and bay 7 is the one to take out
+abbrev pub bays : List Line
+bays = line (admitted 8 ends) 13 0 ∷ line (admitted 7 half) 0 0 ∷ line (admitted 0 overHalf) 14 0 ∷ line (released 7) 0 0 ∷ []
 
 -- bytes of another length than a box: no bay above 7 before their length, and their length before the bay
 abbrev pub elsewhere : List Line

@@ -1,4 +1,4 @@
--- The positions of a bay worked by hand (02, item 9): calls from the empty box on, and of each its number and its answer's code.
+-- The positions of a bay worked by hand (02, item 9): calls to a bay by itself, and of each its number and its answer's code.
 use Prim.Native.Nat.{ℕ}
 use mathlib.Core.List.{List, [], _∷_, _++_, map}
 use Rattle.box_calls.specs.Box.{save, restore, forget}
@@ -21,9 +21,9 @@ forgotten bay name = record { bay = bay; call = forget name }
 abbrev plain : Request → (number : ℕ) → Line
 plain x n = line x n 0
 
--- no bay above 7, and none that is empty
+-- no bay that is empty
 abbrev notThere : List Line
-notThere = plain (saved 8 1) 13 ∷ plain (saved 0 1) 13 ∷ plain (restored 0 1) 13 ∷ plain (forgotten 0 1) 13 ∷ []
+notThere = plain (saved 0 1) 13 ∷ plain (restored 0 1) 13 ∷ plain (forgotten 0 1) 13 ∷ []
 
 -- fresh: nothing to save, and no name known; then labels 0 and 1 saved, and nothing more when over
 abbrev saves : List Line
@@ -58,54 +58,27 @@ returns =
     ∷ line (ticked 0) 0 1
     ∷ []
 
--- names that differ from 1 in one byte, with label 1; the least and the greatest name
-abbrev otherNames : List Line
-otherNames =
-    plain (restored 0 257) 15
-    ∷ plain (saved 0 257) 0
-    ∷ plain (saved 0 65537) 0
-    ∷ plain (saved 0 16777217) 0
-    ∷ plain (restored 0 1) 0
-    ∷ line (ticked 0) 0 1
-    ∷ plain (restored 0 16777217) 0
-    ∷ plain (saved 0 0) 0
-    ∷ plain (saved 0 4294967295) 0
-    ∷ line (ticked 0) 0 0
-    ∷ plain (restored 0 0) 0
-    ∷ line (ticked 0) 0 0
-    ∷ plain (restored 0 4294967295) 0
-    ∷ plain (restored 0 16777215) 15
-    ∷ []
-
--- seven are known; with nine more a seventeenth is refused, when over because it is over; a known one is replaced, and a place
--- that is freed goes to another
+-- with fourteen more a seventeenth is refused, when over because it is over; a known one is replaced, and a place that is freed goes
+-- to another
 abbrev sixteen : List Line
 sixteen =
-    map (λ (name : ℕ). plain (saved 0 name) 0) (3 ∷ 4 ∷ 5 ∷ 6 ∷ 7 ∷ 8 ∷ 9 ∷ 10 ∷ 11 ∷ [])
-    ++ (plain (saved 0 12) 16
+    map (λ (name : ℕ). plain (saved 0 name) 0) (3 ∷ 4 ∷ 5 ∷ 6 ∷ 7 ∷ 8 ∷ 9 ∷ 10 ∷ 11 ∷ 12 ∷ 13 ∷ 14 ∷ 15 ∷ 4294967295 ∷ [])
+    ++ (plain (saved 0 0) 16
     ∷ line (ticked 0) 0 0
-    ∷ plain (saved 0 12) 15
+    ∷ plain (saved 0 0) 15
     ∷ plain (saved 0 5) 15
     ∷ plain (restored 0 1) 0
     ∷ plain (saved 0 5) 0
-    ∷ line (ticked 0) 0 1
-    ∷ plain (restored 0 5) 0
-    ∷ line (ticked 0) 0 1
-    ∷ plain (forgotten 0 5) 0
-    ∷ plain (forgotten 0 5) 15
-    ∷ plain (saved 0 12) 0
-    ∷ plain (saved 0 5) 16
-    ∷ plain (restored 0 5) 15
-    ∷ plain (restored 0 12) 0
-    ∷ line (ticked 0) 0 0
+    ∷ plain (forgotten 0 6) 0
+    ∷ plain (forgotten 0 6) 15
+    ∷ plain (saved 0 0) 0
+    ∷ plain (saved 0 6) 16
     ∷ [])
 
--- a neighbour has names of its own; a bay that was taken out and admitted again knows none
+-- a bay that was taken out and admitted again knows none
 abbrev takenOut : List Line
 takenOut =
-    plain (admitted 1 twoStages) 0
-    ∷ plain (restored 1 1) 15
-    ∷ plain (released 0) 0
+    plain (released 0) 0
     ∷ plain (restored 0 1) 13
     ∷ plain (admitted 0 twoStages) 0
     ∷ plain (restored 0 1) 15
@@ -116,4 +89,4 @@ takenOut =
     ∷ []
 
 abbrev pub positions : List Line
-positions = notThere ++ saves ++ returns ++ otherNames ++ sixteen ++ takenOut
+positions = notThere ++ saves ++ returns ++ sixteen ++ takenOut

@@ -1,4 +1,4 @@
--- The records of a bay worked by hand (02, item 10).
+-- The records of a bay by itself, worked by hand (02, item 10).
 use Prim.Native.Nat.{ℕ}
 use mathlib.Core.List.{List, [], _∷_, map}
 use lib.ListN.{replicate}
@@ -6,10 +6,10 @@ use Rattle.states.specs.StateRecord.{stateRecord}
 use Rattle.answers.specs.AnswerRecord.{answerLength, answerRecord}
 use Rattle.recordings.specs.Record.{recordOf, numberIn, panelLength}
 use Rattle.box_calls.specs.Called.{lentAfter, first}
-use Rattle.box_calls.specs.Box.{emptyBox, admit, tick, service, panel}
-use Rattle.box_calls.specs.Lists.{Calling, Request, boxAfter}
+use Rattle.box_calls.specs.Box.{admit, tick, service, panel}
+use Rattle.box_calls.specs.Lists.{Request, boxAfter}
 use Rattle.box_calls.specs.Instants.{second, recordsIn}
-use Rattle.box_calls.specs.Worked.{ends, admitted, released, ticked, Line, line}
+use Rattle.box_calls.specs.Worked.{ends, admitted, released, ticked, Line, line, alone, emptyStretch}
 use Rattle.box_calls.specs.WorkedPositions.{twoStages, saved, restored}
 
 -- a tick with a record's buffer of this length
@@ -31,12 +31,13 @@ instants =
     ∷ ticked 0
     ∷ []
 
-abbrev pub numbers : Calling → List ℕ
-numbers call = map numberIn (recordsIn call 0 emptyBox instants)
+abbrev pub numbers : List ℕ
+numbers = map numberIn (recordsIn (alone 0) 0 emptyStretch instants)
 
 -- ---- the record's buffer of a machine that is over
-abbrev pub leftByRefusal : Calling → List ℕ
-leftByRefusal call = second (lentAfter (call (boxAfter call emptyBox (admitted 0 ends ∷ ticked 0 ∷ [])) 0 (ticked 0 .call)))
+abbrev pub leftByRefusal : List ℕ
+leftByRefusal =
+    second (lentAfter (alone 0 (boxAfter (alone 0) emptyStretch (admitted 0 ends ∷ ticked 0 ∷ [])) 0 (ticked 0 .call)))
 
 -- ---- the readers: a record of this length that begins with 5, and a view of this length
 abbrev serviceInto : (length view : ℕ) → Request
@@ -68,7 +69,7 @@ lengths =
 abbrev hiding : Request
 hiding = record { bay = 0; call = admit (record { sequence = twoStages; readBack = 0; serviceOnly = 0x0C }) }
 
-abbrev pub shownOnPanel : Calling → List ℕ
-shownOnPanel call =
-    first (lentAfter (call (boxAfter call emptyBox (hiding ∷ [])) 0
+abbrev pub shownOnPanel : List ℕ
+shownOnPanel =
+    first (lentAfter (alone 0 (boxAfter (alone 0) emptyStretch (hiding ∷ [])) 0
     (panel (recordOf 258 0x05 (answerRecord 1 0 0 0x0A 4) (stateRecord 1 2)) (replicate panelLength 77))))

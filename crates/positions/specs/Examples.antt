@@ -44,3 +44,15 @@ other-unknown = refl
 zero-forgotten : lookup 0 (tableKept (forgetOf 0 two)) ≡ none
 unfolding two saveOf forgetOf lookup place put zeros leBytes leNumber
 zero-forgotten = refl
+
+-- names that differ from another in one byte
+apart : List ℕ
+apart = tableKept (saveOf 16777217 5 (tableKept (saveOf 65537 4 (tableKept (saveOf 257 3 (zeros tableLength))))))
+
+one-unknown : lookup 1 apart ≡ none
+unfolding apart saveOf lookup place put zeros leBytes leNumber
+one-unknown = refl
+
+each-found : lookup 65537 apart ≡ some 4
+unfolding apart saveOf lookup place put zeros leBytes leNumber
+each-found = refl
