@@ -34,7 +34,7 @@ use Rattle.box_calls.specs.Box.{bayCount, boxLength, stretchOf, present, Call, 
 use Rattle.box_calls.specs.Lists.{Request, afterCall, boxAfter}
 use Rattle.box_calls.specs.Shares.{Sendable}
 use Rattle.box_calls.specs.BayRuns.{paperBuffer, ticksTo, outcomeOf, tickOutcomes, Onward, Onwards, done, more}
-use Rattle.box_calls.proofs.Fields.{Holds}
+use Rattle.box_fields.proofs.Fields.{Holds}
 use Rattle.box_theory.proofs.Ticks.{tick-number, tick-answer}
 use Rattle.box_theory.proofs.Readers.{service-reads, panel-reads}
 use Rattle.box_theory.proofs.Previews.{preview-stays}

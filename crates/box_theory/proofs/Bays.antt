@@ -19,7 +19,7 @@ use Rattle.box_calls.specs.Called.{Called, called, number, memoryAfter}
 use Rattle.box_calls.specs.Stretch.{stretchLength, Terms, filled}
 use Rattle.box_calls.specs.BayCalls.{sharedCeiling, bayReleaseOf, bayAdmitOf}
 use Rattle.box_calls.specs.Box.{Call, admit, release, tick, save, restore, forget, service, panel, preview, buffers, bayCall, isFor}
-use Rattle.box_calls.proofs.Fields.{length-vacated, length-filled}
+use Rattle.box_fields.proofs.Fields.{length-vacated, length-filled}
 use Rattle.box_theory.proofs.Ticks.{tick-refused, tick-keeps-length}
 use Rattle.box_theory.proofs.Readers.{service-reads, panel-reads}
 use Rattle.box_theory.proofs.Previews.{preview-stays, preview-refused}

@@ -40,7 +40,7 @@ use Rattle.box_calls.specs.Box.{bayCount, boxLength, stretchOf, present, Call, 
 use Rattle.box_calls.specs.Lists.{Request, afterCall, boxAfter}
 use Rattle.box_calls.specs.Instants.{second, recordsIn, inputsIn, Stays, NotTakenOut, done, more, RecordIs, ServiceShows, PanelShows, PanelsAlike, ReaderNumbers, RecordLength}
 use Rattle.box_calls.specs.Shares.{Sendable}
-use Rattle.box_calls.proofs.Fields.{Holds, behind-holds, moved-holds, filled-zeros}
+use Rattle.box_fields.proofs.Fields.{Holds, behind-holds, moved-holds, filled-zeros}
 use Rattle.box_theory.proofs.Moves as moves
 use Rattle.box_theory.proofs.Moves.{Moved, save-moved, forget-moved}
 use Rattle.box_theory.proofs.Ticks.{written, length-stepped, like-buffer, unlike-tick, Ticked, down, instant, ticked}

@@ -30,7 +30,7 @@ use Rattle.box_calls.specs.Stretch.{stateAt, countAt, positionsAt, stretchLengt
 use Rattle.box_calls.specs.BayCalls.{positionsKept, restored, bayTickOf, bayReleaseOf, bayAdmitOf, baySaveOf, bayForgetOf, bayRestoreOf}
 use Rattle.box_calls.specs.Box.{Call, admit, release, tick, save, restore, forget, service, panel, preview, bayCall}
 use Rattle.box_calls.specs.Shares.{Sendable}
-use Rattle.box_calls.proofs.Fields.{slot-vacated, filled-zeros}
+use Rattle.box_fields.proofs.Fields.{slot-vacated, filled-zeros}
 use Rattle.box_theory.proofs.Moves as moves
 use Rattle.box_theory.proofs.Ticks.{next, length-stepped, Ticked, down, instant, ticked}
 use Rattle.box_theory.proofs.Readers.{service-reads, panel-reads}

@@ -23,7 +23,7 @@ use Rattle.box_calls.specs.Box.{bayCount, boxLength, emptyBox, stretchOf, prese
 use Rattle.box_calls.specs.Lists.{Request, boxAfter}
 use Rattle.box_calls.specs.Shares.{Sendable, AllSendable, none, each}
 use Rattle.box_calls.specs.Claims.{ceilingHeld}
-use Rattle.box_calls.proofs.Fields.{length-vacated, slot-vacated, vacated-empty, filled-zeros}
+use Rattle.box_fields.proofs.Fields.{length-vacated, slot-vacated, vacated-empty, filled-zeros}
 use Rattle.box_theory.proofs.Sums.{sumOf, one-changed}
 use Rattle.box_theory.proofs.Moves.{save-moved, forget-moved}
 use Rattle.box_theory.proofs.Bays.{ceilingFor, bounds, passed, Admission, turned-down, taken, admission, onStretch}

@@ -21,7 +21,7 @@ use Rattle.box_calls.specs.Stretch.{sequenceIn, readBackIn, serviceOnlyIn, stat
 use Rattle.box_calls.specs.Box.{bayCount, stretchOf, restore, callOf}
 use Rattle.box_calls.specs.Lists.{Request}
 use Rattle.box_calls.specs.BayRuns.{ticksTo, tickOutcomes, Onwards}
-use Rattle.box_calls.proofs.Fields.{Holds, moved-state}
+use Rattle.box_fields.proofs.Fields.{Holds, moved-state}
 use Rattle.box_theory.proofs.Bays.{ceilingFor, bounds}
 use Rattle.box_theory.proofs.Standing.{Standing, sequence-held, put-stands}
 use Rattle.box_theory.proofs.Positions.{Positioned}

@@ -33,7 +33,7 @@ use Rattle.box_calls.specs.BayCalls.{bayTickOf}
 use Rattle.box_calls.specs.Box.{admit}
 use Rattle.box_calls.specs.Shares.{Sendable}
 use Rattle.box_calls.specs.BayRuns.{paperBuffer}
-use Rattle.box_calls.proofs.Fields.{Holds, behind-holds, moved-holds, moved-state, filled-holds, filled-fresh}
+use Rattle.box_fields.proofs.Fields.{Holds, behind-holds, moved-holds, moved-state, filled-holds, filled-fresh}
 use Rattle.box_theory.proofs.Moves.{Moved, refused, stored}
 use Rattle.box_theory.proofs.Ticks as ticks
 use Rattle.box_theory.proofs.Bays.{ceilingFor, bounds}
