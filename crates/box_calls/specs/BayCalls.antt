@@ -1,4 +1,4 @@
--- The calls of a bay on its stretch (02, items 8 to 11): the number, the stretch after the call and the lent buffers after it.
+-- The calls of a bay on its stretch (02, items 8 to 12): the number, the stretch after the call and the lent buffers after it.
 use Prim.Native.Nat.{ℕ, zero, suc, _+_}
 use mathlib.Core.Bool.{_&&_, cond}
 use mathlib.Core.List.{List, [], _∷_}
@@ -17,8 +17,11 @@ use Rattle.recordings.specs.Recording.{following}
 use lib.ListN.{length}
 use Rattle.fillings.specs.Preview.{Previewed, previewed, previewOf}
 use Rattle.demands.specs.Tick.{Outcome, outcome, tickOf}
+use Rattle.demands.specs.Deliveries.{deliveries}
+use Rattle.ledgers.specs.Ledgers as Ledgers
+use Rattle.ledgers.specs.Ledgers.{readingLength, passes, added, readingOf}
 use Rattle.box_calls.specs.Called.{Called, called, first}
-use Rattle.box_calls.specs.Stretch.{stateAt, countAt, positionsAt, sequenceIn, readBackIn, serviceOnlyIn, stateIn, countIn, positionsIn, vacated, Terms, filled}
+use Rattle.box_calls.specs.Stretch.{stateAt, countAt, positionsAt, sequenceIn, readBackIn, serviceOnlyIn, stateIn, countIn, positionsIn, ledgerIn, vacated, withLedger, Terms, filled}
 
 -- 02, item 8: 'a shared ceiling of 65,536 reactions an instant'
 abbrev pub sharedCeiling : ℕ
@@ -28,9 +31,23 @@ sharedCeiling = 65536
 abbrev pub stateKept : List ℕ → Outcome → Called
 stateKept s (outcome number state answer) = called number (put stateAt stateLength state s) (answer ∷ [])
 
--- the tick on the sequence, the state and the read-back set that the bay holds, without its record
+-- the tick on the sequence, the state and the read-back set that the bay holds, without ledger and record
 unfoldable pub bayStepOf : (s : List ℕ) (e : ℕ) (answer : List ℕ) → Called
 bayStepOf s e answer = stateKept s (tickOf (sequenceIn s) (stateIn s) e (readBackIn s) answer)
+
+-- 02, item 12: what it delivers to a farm; nothing where it is turned down, and nothing in a wrong instant
+abbrev pub delivering : (s : List ℕ) (e farm : ℕ) → ℕ
+delivering s e = deliveries (sequenceIn s) (readBackIn s) (stateIn s) e
+
+-- an instant adds these litres to the ledger of the bay number; '19, last of all and writing nothing', if 'the exact sum of a farm's
+-- total and its litres would pass 16,777,216'
+abbrev pub charged : (s : List ℕ) (litres : ℕ → ℕ) (answer : List ℕ) → Called → Called
+charged s litres answer (called zero after lent) =
+    cond (passes (ledgerIn s) litres) (called 19 s (answer ∷ [])) (called 0 (withLedger (added litres (ledgerIn s)) after) lent)
+charged s litres answer (called (suc n) after lent) = called (suc n) after lent
+
+unfoldable pub bayChargedOf : (s : List ℕ) (e : ℕ) (answer : List ℕ) → Called
+bayChargedOf s e answer = charged s (delivering s e) answer (bayStepOf s e answer)
 
 -- 02, item 10: an instant is counted, and leaves its number, input, answer and next state in the buffer `trace`; a call turned down
 -- leaves no record
@@ -43,7 +60,7 @@ recorded e trace (called (suc n) s lent) = called (suc n) s (first lent ∷ trac
 
 unfoldable pub bayTickOf : (s : List ℕ) (e : ℕ) (answer trace : List ℕ) → Called
 bayTickOf s e answer trace =
-    cond (eqb (length trace) recordLength) (recorded e trace (bayStepOf s e answer)) (called 1 s (answer ∷ trace ∷ []))
+    cond (eqb (length trace) recordLength) (recorded e trace (bayChargedOf s e answer)) (called 1 s (answer ∷ trace ∷ []))
 
 unfoldable pub bayReleaseOf : (s : List ℕ) → Called
 bayReleaseOf s = called 0 (vacated s) []
@@ -98,3 +115,12 @@ stretchKept s (previewed number buffer) = called number s (buffer ∷ [])
 
 unfoldable pub bayPreviewOf : (s : List ℕ) (e unknown : ℕ) (buffer : List ℕ) → Called
 bayPreviewOf s e unknown buffer = stretchKept s (previewOf (sequenceIn s) (stateIn s) e unknown (readBackIn s) buffer)
+
+-- ---- the ledger of the bay number (02, item 12)
+-- 'Reading it writes the 32 totals, then the ledger's total .. into 132 lent bytes'; the stretch stays
+unfoldable pub bayLedgerOf : (s totals : List ℕ) → Called
+bayLedgerOf s totals = cond (eqb (length totals) readingLength) (called 0 s (readingOf (ledgerIn s) ∷ [])) (called 1 s (totals ∷ []))
+
+-- 'cleared only by a call for the new year'
+unfoldable pub bayNewYearOf : (s : List ℕ) → Called
+bayNewYearOf s = called 0 (withLedger Ledgers.cleared s) []

@@ -12,28 +12,38 @@ use Rattle.demands.specs.Tick.{Outcome, outcome}
 use Rattle.demands.specs.Paper as Paper
 use Rattle.box_calls.specs.Called.{Called, number, memoryAfter, lentAfter, first}
 use Rattle.box_calls.specs.Stretch.{stateIn}
-use Rattle.box_calls.specs.Box.{stretchOf, Call, admit, release, tick, save, restore, forget, service, panel, preview, callOf}
+use Rattle.box_calls.specs.BayCalls.{delivering}
+use Rattle.box_calls.specs.Box.{stretchOf, Call, admit, release, tick, save, restore, forget, service, panel, preview, ledger, newYear, callOf}
 use Rattle.box_calls.specs.Lists.{Request, afterCall}
 
 -- the paper knows no record: a record's buffer of another length is to it an answer buffer of another length
 abbrev pub paperBuffer : (trace answer : List ℕ) → List ℕ
 paperBuffer trace answer = cond (eqb (length trace) recordLength) answer []
 
--- the ticks to a bay: input and answer buffer of each
-abbrev pub withTick : Call → List Paper.Call → List Paper.Call
-withTick (admit t) cs = cs
-withTick release cs = cs
-withTick (tick e answer trace) cs = record { input = e; buffer = paperBuffer trace answer } ∷ cs
-withTick (save name) cs = cs
-withTick (restore name) cs = cs
-withTick (forget name) cs = cs
-withTick (service trace view) cs = cs
-withTick (panel trace view) cs = cs
-withTick (preview e unknown buffer) cs = cs
+-- what a tick comes to, by whether it is one: 'In a bay a call answered 19 is no instant', and leaves all as it was
+abbrev pub ifTick : {A : Type 0} → Called → List A → A → List A
+ifTick o xs x = cond (eqb (number o) 19) xs (x ∷ xs)
 
-unfoldable pub ticksTo : (bay : ℕ) → List Request → List Paper.Call
-ticksTo bay [] = []
-ticksTo bay (x ∷ xs) = cond (eqb (x .bay) bay) (withTick (x .call) (ticksTo bay xs)) (ticksTo bay xs)
+-- the ticks to a bay: input and answer buffer of each
+abbrev pub withTick : Call → Called → List Paper.Call → List Paper.Call
+withTick (admit t) o cs = cs
+withTick release o cs = cs
+withTick (tick e answer trace) o cs = ifTick o cs (record { input = e; buffer = paperBuffer trace answer })
+withTick (save name) o cs = cs
+withTick (restore name) o cs = cs
+withTick (forget name) o cs = cs
+withTick (service trace view) o cs = cs
+withTick (panel trace view) o cs = cs
+withTick (preview e unknown buffer) o cs = cs
+withTick (ledger totals) o cs = cs
+withTick newYear o cs = cs
+
+unfoldable pub ticksTo : (bay : ℕ) → List ℕ → List Request → List Paper.Call
+ticksTo bay box [] = []
+ticksTo bay box (x ∷ xs) =
+    cond (eqb (x .bay) bay)
+    (withTick (x .call) (callOf box bay (x .call)) (ticksTo bay (afterCall callOf box x) xs))
+    (ticksTo bay (afterCall callOf box x) xs)
 
 -- what a tick comes to: number, the state record that the bay then holds, and answer
 abbrev pub outcomeOf : (bay : ℕ) (trace : List ℕ) → Called → Outcome
@@ -42,13 +52,15 @@ outcomeOf bay trace o = outcome (number o) (stateIn (stretchOf bay (memoryAfter 
 abbrev pub withOutcome : (bay : ℕ) → Call → Called → List Outcome → List Outcome
 withOutcome bay (admit t) o os = os
 withOutcome bay release o os = os
-withOutcome bay (tick e answer trace) o os = outcomeOf bay trace o ∷ os
+withOutcome bay (tick e answer trace) o os = ifTick o os (outcomeOf bay trace o)
 withOutcome bay (save name) o os = os
 withOutcome bay (restore name) o os = os
 withOutcome bay (forget name) o os = os
 withOutcome bay (service trace view) o os = os
 withOutcome bay (panel trace view) o os = os
 withOutcome bay (preview e unknown buffer) o os = os
+withOutcome bay (ledger totals) o os = os
+withOutcome bay newYear o os = os
 
 unfoldable pub tickOutcomes : (bay : ℕ) → List ℕ → List Request → List Outcome
 tickOutcomes bay box [] = []
@@ -56,6 +68,27 @@ tickOutcomes bay box (x ∷ xs) =
     cond (eqb (x .bay) bay)
     (withOutcome bay (x .call) (callOf box bay (x .call)) (tickOutcomes bay (afterCall callOf box x) xs))
     (tickOutcomes bay (afterCall callOf box x) xs)
+
+-- the litres of each to a farm (02, item 12); none of one that is turned down
+abbrev pub withLitres : (farm : ℕ) (s : List ℕ) → Call → Called → List ℕ → List ℕ
+withLitres f s (admit t) o ls = ls
+withLitres f s release o ls = ls
+withLitres f s (tick e answer trace) o ls = ifTick o ls (cond (eqb (number o) 0) (delivering s e f) 0)
+withLitres f s (save name) o ls = ls
+withLitres f s (restore name) o ls = ls
+withLitres f s (forget name) o ls = ls
+withLitres f s (service trace view) o ls = ls
+withLitres f s (panel trace view) o ls = ls
+withLitres f s (preview e unknown buffer) o ls = ls
+withLitres f s (ledger totals) o ls = ls
+withLitres f s newYear o ls = ls
+
+unfoldable pub tickLitres : (bay farm : ℕ) → List ℕ → List Request → List ℕ
+tickLitres bay f box [] = []
+tickLitres bay f box (x ∷ xs) =
+    cond (eqb (x .bay) bay)
+    (withLitres f (stretchOf bay box) (x .call) (callOf box bay (x .call)) (tickLitres bay f (afterCall callOf box x) xs))
+    (tickLitres bay f (afterCall callOf box x) xs)
 
 -- a call that neither takes the bay out nor comes back to a position; one that is turned down does neither
 abbrev pub Onward : Call → Called → Type 0
@@ -68,6 +101,8 @@ Onward (forget name) o = Unit {0}
 Onward (service trace view) o = Unit {0}
 Onward (panel trace view) o = Unit {0}
 Onward (preview e unknown buffer) o = Unit {0}
+Onward (ledger totals) o = Unit {0}
+Onward newYear o = Unit {0}
 
 -- every call of the list to this bay is
 pub data Onwards (bay : ℕ) : List ℕ → List Request → Type 0 where

@@ -1,14 +1,14 @@
--- The box (02, items 8 to 11): eight stretches, one a bay, and a call to one of them: the number, the box after the call and the lent
+-- The box (02, items 8 to 12): eight stretches, one a bay, and a call to one of them: the number, the box after the call and the lent
 -- buffers after it, for all arguments.
 use Prim.Native.Nat.{ℕ, zero, suc, _+_, _*_}
-use mathlib.Core.Bool.{Bool, not, cond}
+use mathlib.Core.Bool.{Bool, true, not, cond}
 use mathlib.Core.List.{List, [], _∷_}
 use lib.ListN.{length}
 use lib.Dec.{eqb, ltb}
 use Rattle.parts.specs.Parts.{slot, put, zeros}
 use Rattle.box_calls.specs.Called.{Called, called}
 use Rattle.box_calls.specs.Stretch.{stretchLength, isEmpty, partOf, Terms}
-use Rattle.box_calls.specs.BayCalls.{bayTickOf, bayReleaseOf, bayAdmitOf, baySaveOf, bayForgetOf, bayRestoreOf, bayServiceOf, bayPanelOf, bayPreviewOf}
+use Rattle.box_calls.specs.BayCalls.{bayTickOf, bayReleaseOf, bayAdmitOf, baySaveOf, bayForgetOf, bayRestoreOf, bayServiceOf, bayPanelOf, bayPreviewOf, bayLedgerOf, bayNewYearOf}
 
 abbrev pub bayCount : ℕ
 bayCount = 8
@@ -39,6 +39,8 @@ pub data Call : Type 0 where
   service : (trace view : List ℕ) → Call
   panel : (trace view : List ℕ) → Call
   preview : (input unknown : ℕ) (buffer : List ℕ) → Call
+  ledger : (totals : List ℕ) → Call
+  newYear : Call
 
 -- the buffers that a call is lent for writing beside the box
 abbrev pub buffers : Call → List (List ℕ)
@@ -51,6 +53,8 @@ buffers (forget name) = []
 buffers (service trace view) = view ∷ []
 buffers (panel trace view) = view ∷ []
 buffers (preview e unknown buffer) = buffer ∷ []
+buffers (ledger totals) = totals ∷ []
+buffers newYear = []
 
 -- the call on the bay's stretch; what those present have of the shared ceiling concerns an admission alone
 abbrev pub bayCall : (present : ℕ) → Call → List ℕ → Called
@@ -63,8 +67,10 @@ bayCall present (forget name) s = bayForgetOf s name
 bayCall present (service trace view) s = bayServiceOf s trace view
 bayCall present (panel trace view) s = bayPanelOf s trace view
 bayCall present (preview e unknown buffer) s = bayPreviewOf s e unknown buffer
+bayCall present (ledger totals) s = bayLedgerOf s totals
+bayCall present newYear s = bayNewYearOf s
 
--- a bay is there for the call: an empty one for an admission, a filled one for every other
+-- a bay is there for the call: an empty one for an admission, a filled one for every other; 'The ledger's calls take an empty bay too'
 abbrev pub isFor : Call → List ℕ → Bool
 isFor (admit t) s = isEmpty s
 isFor release s = not (isEmpty s)
@@ -75,6 +81,8 @@ isFor (forget name) s = not (isEmpty s)
 isFor (service trace view) s = not (isEmpty s)
 isFor (panel trace view) s = not (isEmpty s)
 isFor (preview e unknown buffer) s = not (isEmpty s)
+isFor (ledger totals) s = true
+isFor newYear s = true
 
 -- what a call makes of the bay's stretch, put where the box has it
 abbrev pub inBox : (bay : ℕ) → List ℕ → Called → Called

@@ -10,7 +10,7 @@ use Rattle.sequence.specs.Ceilings.{ceilingOf}
 use Rattle.box_calls.specs.Called.{called, number, memoryAfter}
 use Rattle.box_calls.specs.Stretch.{lengthIn, sequenceIn, readBackIn, ceilingIn, partOf, Terms}
 use Rattle.box_calls.specs.BayCalls.{sharedCeiling}
-use Rattle.box_calls.specs.Box.{bayCount, boxLength, emptyBox, stretchOf, present, Call, admit, release, tick, save, restore, forget, service, panel, preview, buffers}
+use Rattle.box_calls.specs.Box.{bayCount, boxLength, emptyBox, stretchOf, present, Call, admit, release, tick, save, restore, forget, service, panel, preview, ledger, newYear, buffers}
 use Rattle.box_calls.specs.Lists.{Calling, Request, boxAfter, asked, answers, answerOf}
 use Rattle.box_calls.specs.Shares.{AllSendable, reactionsIn, OneTickEach}
 
@@ -45,6 +45,8 @@ SumAlike (forget name) box box′ = Unit {0}
 SumAlike (service trace view) box box′ = Unit {0}
 SumAlike (panel trace view) box box′ = Unit {0}
 SumAlike (preview e unknown buffer) box box′ = Unit {0}
+SumAlike (ledger totals) box box′ = Unit {0}
+SumAlike newYear box box′ = Unit {0}
 
 abbrev pub BySum : Calling → Type 0
 BySum call =
@@ -92,7 +94,8 @@ GivesBack call box =
     × (present bayCount (memoryAfter (call box bay release)) + partOf (stretchOf bay box) ≡ present bayCount box)
 
 -- ---- 'Errors', in every box, whatever its bytes
--- '13, before all others, for a bay number above 7, one already filled on admission, or an empty one otherwise'
+-- '13, before all others, for a bay number above 7, one already filled on admission, or an empty one otherwise'; 'The ledger's calls take an
+-- empty bay too'
 abbrev pub NotThere : Call → List ℕ → Type 0
 NotThere (admit t) s = lengthIn s ≢ 0
 NotThere release s = lengthIn s ≡ 0
@@ -103,6 +106,8 @@ NotThere (forget name) s = lengthIn s ≡ 0
 NotThere (service trace view) s = lengthIn s ≡ 0
 NotThere (panel trace view) s = lengthIn s ≡ 0
 NotThere (preview e unknown buffer) s = lengthIn s ≡ 0
+NotThere (ledger totals) s = ⊥
+NotThere newYear s = ⊥
 
 abbrev pub Thirteen : Calling → Type 0
 Thirteen call =

@@ -11,11 +11,13 @@ use lib.Dec.{eqb}
 use Rattle.limits.specs.Limits.{lastNumber}
 use Rattle.recordings.specs.Record.{recordLength, recordOf, numberIn, panelLength, panelOf, Bytes, Agree}
 use Rattle.recordings.specs.Recording.{following}
+use Rattle.demands.specs.Tick.{Outcome}
 use Rattle.box_calls.specs.Called.{Called, called, number, memoryAfter, lentAfter, first}
 use Rattle.box_calls.specs.Stretch.{lengthIn, stateIn, countIn, serviceOnlyIn, Terms}
-use Rattle.box_calls.specs.Box.{bayCount, boxLength, stretchOf, Call, admit, release, tick, save, restore, forget, service, panel, preview}
+use Rattle.box_calls.specs.Box.{bayCount, boxLength, stretchOf, Call, admit, release, tick, save, restore, forget, service, panel, preview, ledger, newYear}
 use Rattle.box_calls.specs.Lists.{Calling, Request, afterCall, boxAfter}
 use Rattle.box_calls.specs.Shares.{Sendable}
+use Rattle.box_calls.specs.BayRuns.{outcomeOf}
 
 -- the second of the buffers: the record's
 abbrev pub second : List (List ℕ) → List ℕ
@@ -33,6 +35,8 @@ withRecord (forget name) o rs = rs
 withRecord (service trace view) o rs = rs
 withRecord (panel trace view) o rs = rs
 withRecord (preview e unknown buffer) o rs = rs
+withRecord (ledger totals) o rs = rs
+withRecord newYear o rs = rs
 
 unfoldable pub recordsIn : Calling → (bay : ℕ) → List ℕ → List Request → List (List ℕ)
 recordsIn call bay box [] = []
@@ -50,12 +54,34 @@ withInput (forget name) o es = es
 withInput (service trace view) o es = es
 withInput (panel trace view) o es = es
 withInput (preview e unknown buffer) o es = es
+withInput (ledger totals) o es = es
+withInput newYear o es = es
 
 unfoldable pub inputsIn : Calling → (bay : ℕ) → List ℕ → List Request → List ℕ
 inputsIn call bay box [] = []
 inputsIn call bay box (x ∷ xs) =
     cond (eqb (x .bay) bay) (withInput (x .call) (call box bay (x .call)) (inputsIn call bay (afterCall call box x) xs))
     (inputsIn call bay (afterCall call box x) xs)
+
+-- what each instant comes to
+abbrev pub withInstant : (bay : ℕ) → Call → Called → List Outcome → List Outcome
+withInstant bay (admit t) o os = os
+withInstant bay release o os = os
+withInstant bay (tick e answer trace) o os = cond (eqb (number o) 0) (outcomeOf bay trace o ∷ os) os
+withInstant bay (save name) o os = os
+withInstant bay (restore name) o os = os
+withInstant bay (forget name) o os = os
+withInstant bay (service trace view) o os = os
+withInstant bay (panel trace view) o os = os
+withInstant bay (preview e unknown buffer) o os = os
+withInstant bay (ledger totals) o os = os
+withInstant bay newYear o os = os
+
+unfoldable pub instantsIn : Calling → (bay : ℕ) → List ℕ → List Request → List Outcome
+instantsIn call bay box [] = []
+instantsIn call bay box (x ∷ xs) =
+    cond (eqb (x .bay) bay) (withInstant bay (x .call) (call box bay (x .call)) (instantsIn call bay (afterCall call box x) xs))
+    (instantsIn call bay (afterCall call box x) xs)
 
 -- ---- a list of calls that does not take the bay out
 abbrev pub Stays : Call → Called → Type 0
@@ -68,6 +94,8 @@ Stays (forget name) o = Unit {0}
 Stays (service trace view) o = Unit {0}
 Stays (panel trace view) o = Unit {0}
 Stays (preview e unknown buffer) o = Unit {0}
+Stays (ledger totals) o = Unit {0}
+Stays newYear o = Unit {0}
 
 pub data NotTakenOut (call : Calling) (bay : ℕ) : List ℕ → List Request → Type 0 where
   done : {box : List ℕ} → NotTakenOut call bay box []

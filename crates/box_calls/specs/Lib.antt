@@ -11,6 +11,7 @@ pub mod Claims
 pub mod Positions
 pub mod Instants
 pub mod Previews
+pub mod Years
 pub mod WorkedRecords
 pub mod WrongBoxes
 pub mod WrongPositions

@@ -6,7 +6,7 @@ use mathlib.Core.List.{List, [], _∷_}
 use lib.Dec.{eqb}
 use Rattle.box_calls.specs.Called.{Called, number, memoryAfter, lentAfter}
 use Rattle.box_calls.specs.Stretch.{Terms}
-use Rattle.box_calls.specs.Box.{Call, admit, release, tick, save, restore, forget, service, panel, preview}
+use Rattle.box_calls.specs.Box.{Call, admit, release, tick, save, restore, forget, service, panel, preview, ledger, newYear}
 
 -- box, bay, call
 abbrev pub Calling : Type 0
@@ -41,6 +41,8 @@ askedBy (forget name) o = other (forget name)
 askedBy (service trace view) o = other (service trace view)
 askedBy (panel trace view) o = other (panel trace view)
 askedBy (preview e unknown buffer) o = other (preview e unknown buffer)
+askedBy (ledger totals) o = other (ledger totals)
+askedBy newYear o = other newYear
 
 unfoldable pub asked : Calling → (bay : ℕ) → List ℕ → List Request → List Asked
 asked call bay box [] = []

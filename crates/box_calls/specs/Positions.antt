@@ -17,7 +17,7 @@ use Rattle.positions.specs.Names.{Position, find, saveNamed, forgetNamed, posit
 use Rattle.positions.specs.Table.{lookup, SixteenKnown}
 use Rattle.box_calls.specs.Called.{number, memoryAfter}
 use Rattle.box_calls.specs.Stretch.{stateAt, lengthIn, sequenceIn, stateIn, positionsIn, Terms}
-use Rattle.box_calls.specs.Box.{bayCount, emptyBox, stretchOf, Call, admit, release, tick, save, restore, forget, service, panel, preview}
+use Rattle.box_calls.specs.Box.{bayCount, emptyBox, stretchOf, Call, admit, release, tick, save, restore, forget, service, panel, preview, ledger, newYear}
 use Rattle.box_calls.specs.Lists.{Calling, Request, afterCall, boxAfter}
 use Rattle.box_calls.specs.Shares.{AllSendable}
 use Rattle.box_calls.specs.Claims.{InBoxes}
@@ -34,6 +34,8 @@ changedBy (forget name) labels ps = positionsAfter (forgetNamed name ps)
 changedBy (service trace view) labels ps = ps
 changedBy (panel trace view) labels ps = ps
 changedBy (preview e unknown buffer) labels ps = ps
+changedBy (ledger totals) labels ps = ps
+changedBy newYear labels ps = ps
 
 -- a call that is turned down leaves them, and so does one to another bay
 unfoldable pub savedIn : Calling → (bay : ℕ) → List ℕ → List Position → List Request → List Position

@@ -7,7 +7,7 @@ use lib.Dec.{eqb}
 use Rattle.limits.specs.Limits.{signalBytes, nameBytes}
 use Rattle.answers.specs.AnswerRecord.{takenIn}
 use Rattle.box_calls.specs.Called.{Called, number, lentAfter, first}
-use Rattle.box_calls.specs.Box.{Call, admit, release, tick, save, restore, forget, service, panel, preview}
+use Rattle.box_calls.specs.Box.{Call, admit, release, tick, save, restore, forget, service, panel, preview, ledger, newYear}
 use Rattle.box_calls.specs.Lists.{Calling, Request, afterCall}
 
 -- sets are of 32 signals and a name has 32 bits, as the types of the arguments have it
@@ -21,6 +21,8 @@ Sendable (forget name) = Unit {0}
 Sendable (service trace view) = Unit {0}
 Sendable (panel trace view) = Unit {0}
 Sendable (preview e unknown buffer) = Unit {0}
+Sendable (ledger totals) = Unit {0}
+Sendable newYear = Unit {0}
 
 pub data AllSendable : List Request → Type 0 where
   none : AllSendable []

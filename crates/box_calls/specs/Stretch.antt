@@ -1,6 +1,6 @@
 -- The stretch of a bay as bytes (02, item 8): what its admission fixes, what its calls move, and behind both what outlives its
--- release. A box is eight of them, so its length stays the same when a later item of 02 uses its room here.
-use Prim.Native.Nat.{ℕ, _+_, _*_}
+-- release, the ledger of the bay number. A box is eight of them.
+use Prim.Native.Nat.{ℕ, _+_}
 use mathlib.Core.Bool.{Bool, cond}
 use mathlib.Core.List.{List}
 use lib.ListN.{length}
@@ -10,6 +10,7 @@ use Rattle.numbers.specs.Bytes.{leBytes, leNumber}
 use Rattle.parts.specs.Parts.{slot, put, zeros}
 use Rattle.states.specs.StateRecord.{stateLength}
 use Rattle.positions.specs.Table.{tableLength}
+use Rattle.ledgers.specs.Ledgers.{ledgerLength}
 
 -- ---- where the fields begin
 -- fixed by the admission: the length of the sequence (0: the bay is empty), the sequence, its read-back set, its ceiling and the
@@ -39,12 +40,12 @@ countAt = stateAt + stateLength
 abbrev pub positionsAt : ℕ
 positionsAt = countAt + numberBytes
 
--- what a release clears ends here, and room for item 12's ledger begins: 32 totals of 4 bytes
+-- what a release clears ends here, and the ledger of the bay number begins (02, item 12)
 abbrev pub bayLength : ℕ
 bayLength = positionsAt + tableLength
 
 abbrev pub stretchLength : ℕ
-stretchLength = bayLength + 32 * 4
+stretchLength = bayLength + ledgerLength
 
 -- ---- the fields
 abbrev pub lengthIn : List ℕ → ℕ
@@ -75,6 +76,9 @@ countIn s = leNumber (slot countAt numberBytes s)
 abbrev pub positionsIn : List ℕ → List ℕ
 positionsIn s = slot positionsAt tableLength s
 
+abbrev pub ledgerIn : List ℕ → List ℕ
+ledgerIn s = slot bayLength ledgerLength s
+
 -- the part of the shared ceiling that the bay has
 unfoldable pub partOf : List ℕ → ℕ
 partOf s = cond (isEmpty s) 0 (ceilingIn s)
@@ -83,6 +87,10 @@ partOf s = cond (isEmpty s) 0 (ceilingIn s)
 -- a bay taken out
 unfoldable pub vacated : List ℕ → List ℕ
 vacated s = put 0 bayLength (zeros bayLength) s
+
+-- the ledger written
+abbrev pub withLedger : (ledger : List ℕ) → List ℕ → List ℕ
+withLedger ledger s = put bayLength ledgerLength ledger s
 
 -- what an admission fixes
 pub record Terms : Type 0 where

@@ -7,8 +7,8 @@ use Rattle.parts.specs.Parts.{put, zeros}
 use Rattle.demands.specs.Tick.{tickOf}
 use Rattle.box_calls.specs.Called.{Called, called, number}
 use Rattle.box_calls.specs.Stretch.{lengthBytes, sequenceIn, readBackIn, ceilingIn, stateIn}
-use Rattle.box_calls.specs.BayCalls.{stateKept, recorded, bayAdmitOf}
-use Rattle.box_calls.specs.Box.{bayCount, stretchOf, present, admit, release, tick, save, restore, forget, service, panel, preview, inBox, callOf}
+use Rattle.box_calls.specs.BayCalls.{stateKept, delivering, charged, recorded, bayAdmitOf}
+use Rattle.box_calls.specs.Box.{bayCount, stretchOf, present, admit, release, tick, save, restore, forget, service, panel, preview, ledger, newYear, inBox, callOf}
 use Rattle.box_calls.specs.Lists.{Calling}
 
 -- another result for a call that is answered with this number
@@ -25,12 +25,15 @@ readsNeighbour box bay (forget name) = callOf box bay (forget name)
 readsNeighbour box bay (service trace view) = callOf box bay (service trace view)
 readsNeighbour box bay (panel trace view) = callOf box bay (panel trace view)
 readsNeighbour box bay (preview e unknown buffer) = callOf box bay (preview e unknown buffer)
+readsNeighbour box bay (ledger totals) = callOf box bay (ledger totals)
+readsNeighbour box bay newYear = callOf box bay newYear
 readsNeighbour box bay (tick e answer trace) =
     cond (eqb (number (callOf box bay (tick e answer trace))) 13) (called 13 box (answer ∷ trace ∷ []))
     (inBox bay box
     (recorded e trace
+    (charged (stretchOf bay box) (delivering (stretchOf bay box) e) answer
     (stateKept (stretchOf bay box)
-    (tickOf (sequenceIn (stretchOf bay box)) (stateIn (stretchOf (suc bay % bayCount) box)) e (readBackIn (stretchOf bay box)) answer))))
+    (tickOf (sequenceIn (stretchOf bay box)) (stateIn (stretchOf (suc bay % bayCount) box)) e (readBackIn (stretchOf bay box)) answer)))))
 
 -- an admission that forgets the last bay in the sum
 abbrev pub forgetsBay : Calling
@@ -43,6 +46,8 @@ forgetsBay box bay (forget name) = callOf box bay (forget name)
 forgetsBay box bay (service trace view) = callOf box bay (service trace view)
 forgetsBay box bay (panel trace view) = callOf box bay (panel trace view)
 forgetsBay box bay (preview e unknown buffer) = callOf box bay (preview e unknown buffer)
+forgetsBay box bay (ledger totals) = callOf box bay (ledger totals)
+forgetsBay box bay newYear = callOf box bay newYear
 
 -- a release that leaves the ceiling, and an admission that counts the ceilings of bays that were taken out too
 unfoldable pub storedIn : (n : ℕ) → List ℕ → ℕ
@@ -61,6 +66,8 @@ keepsPart box bay (forget name) = callOf box bay (forget name)
 keepsPart box bay (service trace view) = callOf box bay (service trace view)
 keepsPart box bay (panel trace view) = callOf box bay (panel trace view)
 keepsPart box bay (preview e unknown buffer) = callOf box bay (preview e unknown buffer)
+keepsPart box bay (ledger totals) = callOf box bay (ledger totals)
+keepsPart box bay newYear = callOf box bay newYear
 
 -- a call turned down that clears the first byte of the box
 abbrev clearing : Called → Called

@@ -11,7 +11,7 @@ use Rattle.positions.specs.Names.{isKnown}
 use Rattle.positions.specs.Table.{tableLength, lookup, names}
 use Rattle.box_calls.specs.Called.{Called, called, memoryAfter}
 use Rattle.box_calls.specs.Stretch.{stateAt, positionsAt, positionsIn, vacated}
-use Rattle.box_calls.specs.Box.{stretchOf, Call, admit, release, tick, save, restore, forget, service, panel, preview, inBox, callOf}
+use Rattle.box_calls.specs.Box.{stretchOf, Call, admit, release, tick, save, restore, forget, service, panel, preview, ledger, newYear, inBox, callOf}
 use Rattle.box_calls.specs.Lists.{Calling}
 use Rattle.box_calls.specs.WrongBoxes.{instead}
 
@@ -26,6 +26,8 @@ altered released saved restored (forget name) o = o
 altered released saved restored (service trace view) o = o
 altered released saved restored (panel trace view) o = o
 altered released saved restored (preview e unknown buffer) o = o
+altered released saved restored (ledger totals) o = o
+altered released saved restored newYear o = o
 
 -- a release that leaves the positions
 abbrev pub keepsPositions : Calling

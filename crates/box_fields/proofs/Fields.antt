@@ -3,16 +3,21 @@ use Prim.Native.Nat.{ℕ, _+_, _-_, _^_, _≤_, _<_}
 use native.Mathlib.Omega.{arith}
 use mathlib.Core.Path.{_≡_, refl, ap, _∙_}
 use mathlib.Core.List.{List}
-use lib.ListN.{length, drop}
+use lib.ListN.{length, drop, length-drop}
+use lib.Seq.{length-take-le}
 use Rattle.limits.specs.Limits.{maxBytes, signalBytes, takenBytes}
 use Rattle.numbers.specs.Bytes.{leBytes, leNumber}
 use Rattle.numbers.proofs.Bytes.{length-leBytes, le-round-trip}
 use Rattle.states.specs.StateRecord.{stateLength}
 use Rattle.demands.specs.Demands.{cleared}
 use Rattle.parts.specs.Parts.{slot, put, zeros}
-use Rattle.box_calls.specs.Stretch.{lengthBytes, sequenceAt, readBackAt, ceilingAt, serviceAt, stateAt, bayLength, stretchLength, lengthIn, readBackIn, ceilingIn, serviceOnlyIn, stateIn, vacated, Terms, filled}
+use Rattle.ledgers.specs.Ledgers.{ledgerLength}
+use Rattle.box_calls.specs.Stretch.{lengthBytes, sequenceAt, readBackAt, ceilingAt, serviceAt, stateAt, bayLength, stretchLength, lengthIn, readBackIn, ceilingIn, serviceOnlyIn, stateIn, ledgerIn, vacated, Terms, filled}
 use Rattle.parts.proofs.Zeros.{length-zeros, slot-zeros, zeros-number}
 use Rattle.parts.proofs.Parts.{slot-front, length-put, slot-put, put-before, put-behind}
+
+pub ledger-sized : (s : List ℕ) → length s ≡ stretchLength → length (ledgerIn s) ≡ ledgerLength
+ledger-sized s z = length-take-le ledgerLength (drop bayLength s) (omega (arith, length-drop bayLength s))
 
 -- ---- zeros
 zeros-state : zeros stateLength ≡ cleared
@@ -31,6 +36,11 @@ slot-vacated i m s h =
 
 pub vacated-empty : (s : List ℕ) → lengthIn (vacated s) ≡ 0
 vacated-empty s = ap leNumber (slot-vacated 0 2 s (omega arith)) ∙ zeros-number 2
+
+-- what outlives a release
+pub vacated-behind : (i m : ℕ) (s : List ℕ) → length s ≡ stretchLength → bayLength ≤ i → slot i m (vacated s) ≡ slot i m s
+unfolding vacated
+vacated-behind i m s h l = put-behind 0 bayLength (zeros bayLength) s (omega arith) (length-zeros bayLength) i m l
 
 -- ---- a bay that holds what an admission fixed
 pub record Holds (t : Terms) (ceiling : ℕ) (s : List ℕ) : Type 0 where
@@ -132,16 +142,21 @@ module _ (t : Terms) (ceiling : ℕ) (s : List ℕ) (z : length s ≡ stretchLen
               ∙ le-round-trip signalBytes (t .serviceOnly) hidden;
         }
 
-  -- what lies behind the service-only set is cleared
-  pub filled-zeros : (i m : ℕ) → stateAt ≤ i → i + m ≤ bayLength → slot i m (filled t ceiling s) ≡ zeros m
+  -- what lies behind the service-only set is cleared, and behind that left
+  behind-fixed : (i m : ℕ) → stateAt ≤ i → slot i m (filled t ceiling s) ≡ slot i m (vacated s)
   unfolding filled
-  filled-zeros i m low high =
+  behind-fixed i m low =
       put-behind serviceAt signalBytes (leBytes signalBytes (t .serviceOnly)) s4 (omega (arith, l4)) (length-leBytes signalBytes (t .serviceOnly)) i m (omega arith)
       ∙ put-behind ceilingAt takenBytes (leBytes takenBytes ceiling) s3 (omega (arith, l3)) (length-leBytes takenBytes ceiling) i m (omega arith)
       ∙ put-behind readBackAt signalBytes (leBytes signalBytes (t .readBack)) s2 (omega (arith, l2)) (length-leBytes signalBytes (t .readBack)) i m (omega arith)
       ∙ put-behind sequenceAt (length (t .sequence)) (t .sequence) s1 (omega (arith, l1)) refl i m (omega arith)
       ∙ before1 i m (omega arith)
-      ∙ slot-vacated i m s high
+
+  pub filled-zeros : (i m : ℕ) → stateAt ≤ i → i + m ≤ bayLength → slot i m (filled t ceiling s) ≡ zeros m
+  filled-zeros i m low high = behind-fixed i m low ∙ slot-vacated i m s high
+
+  pub filled-behind : (i m : ℕ) → bayLength ≤ i → slot i m (filled t ceiling s) ≡ slot i m s
+  filled-behind i m low = behind-fixed i m (omega arith) ∙ vacated-behind i m s z low
 
   pub filled-fresh : stateIn (filled t ceiling s) ≡ cleared
   filled-fresh = filled-zeros stateAt stateLength (omega arith) (omega arith) ∙ zeros-state

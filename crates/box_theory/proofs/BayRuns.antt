@@ -5,46 +5,97 @@ use native.Mathlib.Omega.{arith}
 use native.Mathlib.Decide.{ℕ-discrete}
 use mathlib.Core.Path.{_≡_, refl, sym, ap, ap₂, _∙_, subst}
 use mathlib.Core.Logic.{_≢_, ⊎-elim}
-use mathlib.Core.Bool.{Bool, true, false, cond}
+use mathlib.Core.Bool.{Bool, true, false, _&&_, cond}
 use mathlib.Core.List.{List, [], _∷_, map, List·Memᴰ, List·Memᴰ·not-nil, List·Memᴰ·cases-cons}
 use lib.ListN.{length}
+use lib.Dec.{eqb}
 use borrow.Author.Tests.{eq-eqb, ne-eqb}
 use Rattle.esterel.specs.Statement.{Statement}
-use Rattle.esterel.specs.Reaction.{Code, gives}
+use Rattle.esterel.specs.Reaction.{Code, gives, inheritanceFirst}
 use Rattle.esterel.specs.Rules.{Reacts}
 use Rattle.esterel.specs.States.{NoSetpause}
 use Rattle.esterel.specs.Machines.{State, Rewriting}
 use Rattle.theory.proofs.Agreement.{TermOf}
 use Rattle.sequence.specs.Program.{program}
 use Rattle.sequence.specs.Rows.{Spells, ByRows}
-use Rattle.demands.specs.Tick.{Outcome, outcome, tickOf}
+use Rattle.sequence.specs.Check.{Checked, sound, bad, checked}
+use Rattle.states.specs.StateRecord.{stateLength, Decoded, holds, malformed, decodeState}
+use Rattle.answers.specs.AnswerRecord.{answerLength}
+use Rattle.recordings.specs.Recording.{blank, tickOn, callOn}
+use Rattle.demands.specs.Tick as Tick
+use Rattle.demands.specs.Tick.{Outcome, outcome, tickBy, tickOf}
+use Rattle.demands.specs.Deliveries as Deliveries
+use Rattle.demands.specs.Deliveries.{deliveredIf, deliveries, callDelivers, delivered, paperDelivered}
 use Rattle.demands.specs.TickRows.{TickRow}
 use Rattle.demands.specs.Demands as demands
 use Rattle.demands.specs.Demands.{stateAfterwards, answerAfterwards, outcomes, cleared, report, StandsAt, Derived, Shows}
 use Rattle.demands.specs.Paper as Paper
 use Rattle.demands.specs.Paper.{paper}
-use Rattle.demands.proofs.Sequence.{accepted, same-statement}
-use Rattle.demands.proofs.Agreement.{all-ticks}
+use Rattle.demands.proofs.Sequence.{Accepted, accepted, same-statement, tick-at}
+use Rattle.demands.proofs.Agreement.{all-ticks, all-deliveries}
+use Rattle.demands.proofs.Demand2.{passed-check, state-sized, answer-sized}
 use Rattle.demands.proofs.Demand1.{demand-1}
 use Rattle.demands.proofs.Calls.{demand-2-call}
 use Rattle.box_calls.specs.Called.{Called, called, number, memoryAfter, lentAfter, first}
 use Rattle.box_calls.specs.Stretch.{positionsAt, stretchLength, isEmpty, stateIn, Terms}
-use Rattle.box_calls.specs.BayCalls.{bayTickOf, bayAdmitOf}
-use Rattle.box_calls.specs.Box.{bayCount, boxLength, stretchOf, present, Call, admit, release, tick, save, restore, forget, service, panel, preview, callOf}
+use Rattle.box_calls.specs.BayCalls.{delivering, bayTickOf, bayAdmitOf}
+use Rattle.box_calls.specs.Box.{bayCount, boxLength, stretchOf, present, Call, admit, release, tick, save, restore, forget, service, panel, preview, ledger, newYear, callOf}
 use Rattle.box_calls.specs.Lists.{Request, afterCall, boxAfter}
 use Rattle.box_calls.specs.Shares.{Sendable}
-use Rattle.box_calls.specs.BayRuns.{paperBuffer, ticksTo, outcomeOf, tickOutcomes, Onward, Onwards, done, more}
+use Rattle.box_calls.specs.BayRuns.{paperBuffer, withTick, ticksTo, outcomeOf, withOutcome, tickOutcomes, withLitres, tickLitres, Onward, Onwards, done, more}
+use Rattle.box_calls.specs.Instants.{withInput, inputsIn, withInstant, instantsIn}
 use Rattle.box_fields.proofs.Fields.{Holds}
 use Rattle.box_theory.proofs.Ticks.{tick-number, tick-answer}
-use Rattle.box_theory.proofs.Readers.{service-reads, panel-reads}
+use Rattle.box_theory.proofs.Readers.{service-reads, panel-reads, ledger-reads}
 use Rattle.box_theory.proofs.Previews.{preview-stays}
-use Rattle.box_theory.proofs.Moves.{Moved, save-moved, forget-moved}
+use Rattle.box_theory.proofs.Moves.{Moved, save-moved, forget-moved, year-moved, further}
 use Rattle.box_theory.proofs.Bays.{ceilingFor, Admission, turned-down, taken, admission}
-use Rattle.box_theory.proofs.Standing.{Standing, not-empty, behind-stands, inner, inner-is, tick-told, tick-stands, fresh-state, filled-stands, cleared-fresh}
+use Rattle.box_theory.proofs.Standing.{Standing, not-empty, sequence-held, behind-stands, inner, inner-is, tick-told, tick-stands, fresh-state, filled-stands, cleared-fresh}
 use Rattle.box_theory.proofs.Stretches.{result, answered-inside, refused-stretch, filled-already, stretch-sized, own, own-stretch, same-length, others-stay}
 
 eta : (o : Outcome) → outcome (demands.number o) (stateAfterwards o) (answerAfterwards o) ≡ o
 eta (outcome n state answer) = refl
+
+-- ---- the tick on its own
+-- one that is turned down delivers nothing
+none-delivered : (sequence state : List ℕ) (e readBack : ℕ) (answer : List ℕ) → demands.number (tickOf sequence state e readBack answer) ≢ 0
+    → (f : ℕ) → callDelivers sequence readBack state (record { input = e; buffer = answer }) f ≡ 0
+unfolding tickBy
+none-delivered sequence state e readBack answer n f =
+    go (eqb (length state) stateLength && eqb (length answer) answerLength) (checked sequence readBack) n
+  where
+    held : (p : Statement) (d : Decoded) → demands.number (Tick.replied (Tick.byState inheritanceFirst p d e) state answer) ≢ 0
+        → Deliveries.deliveredBy p d e f ≡ 0
+    held p malformed m = refl
+    held p (holds State.fresh) m = absurd (m refl)
+    held p (holds (State.waits L)) m = absurd (m refl)
+    held p (holds State.over) m = refl
+
+    go : (b : Bool) (c : Checked)
+        → demands.number (cond b (Tick.replied (Tick.byCheck inheritanceFirst readBack c state e) state answer) (outcome 1 state answer)) ≢ 0
+        → cond b (deliveredIf readBack c state e f) 0 ≡ 0
+    go false c m = refl
+    go true (bad k) m = refl
+    go true (sound p) m = held (program readBack p) (decodeState p state) m
+
+-- one answered 0 comes to the same with every buffer of its length
+pub blank-alike : (sequence st : List ℕ) (e readBack : ℕ) (answer : List ℕ) → demands.number (tickOf sequence st e readBack answer) ≡ 0
+    → tickOn sequence readBack st e ≡ tickOf sequence st e readBack answer
+blank-alike sequence st e readBack answer n =
+    let a = accepted sequence readBack (passed-check sequence st e readBack answer n) in
+    let p = a .statement in
+    let l = state-sized sequence st e readBack answer n in
+    let w = tick-at inheritanceFirst sequence st e readBack answer p (decodeState p st) (a .is-checked) l (answer-sized sequence st e readBack answer n) refl in
+    tick-at inheritanceFirst sequence st e readBack blank p (decodeState p st) (a .is-checked) l refl refl
+    ∙ go (program readBack p) (decodeState p st) (sym (ap demands.number w) ∙ n)
+    ∙ sym w
+  where
+    go : (p : Statement) (d : Decoded) → demands.number (Tick.replied (Tick.byState inheritanceFirst p d e) st answer) ≡ 0
+        → Tick.replied (Tick.byState inheritanceFirst p d e) st blank ≡ Tick.replied (Tick.byState inheritanceFirst p d e) st answer
+    go p malformed m = absurd (omega arith)
+    go p (holds State.fresh) m = refl
+    go p (holds (State.waits L)) m = refl
+    go p (holds State.over) m = absurd (omega arith)
 
 module _ (bay : ℕ) (b : bay < bayCount) (t : Terms) where
   -- the bay of the box stands in a state of the sequence
@@ -66,26 +117,8 @@ module _ (bay : ℕ) (b : bay < bayCount) (t : Terms) where
       own-is : stretchOf bay (memoryAfter (callOf box bay (tick e answer trace))) ≡ memoryAfter (bayTickOf s e answer trace)
       own-is = own-stretch box bay (tick e answer trace) b (h .0) ∙ ap memoryAfter result-is
 
-      number-is : number (callOf box bay (tick e answer trace)) ≡ demands.number told
-      number-is =
-          ap number (own box bay (tick e answer trace) b (h .0)) ∙ ap number result-is
-          ∙ tick-number s (h .1 .holds .sized) e answer trace ∙ ap demands.number (inner-is t s (h .1) e answer trace)
-
-      answer-is : paperBuffer trace (first (lentAfter (callOf box bay (tick e answer trace)))) ≡ answerAfterwards told
-      answer-is =
-          ap (λ (o : Called). paperBuffer trace (first (lentAfter o))) (own box bay (tick e answer trace) b (h .0))
-          ∙ ap (λ (o : Called). paperBuffer trace (first (lentAfter o))) result-is
-          ∙ tick-answer s (h .1 .holds .sized) e answer trace ∙ ap answerAfterwards (inner-is t s (h .1) e answer trace)
-
-      state-is : stateIn (stretchOf bay (memoryAfter (callOf box bay (tick e answer trace)))) ≡ stateAfterwards told
-      state-is = ap stateIn own-is ∙ tick-stands t s (h .1) e answer trace .1
-
-      pub as-told : outcomeOf bay trace (callOf box bay (tick e answer trace)) ≡ told
-      as-told =
-          ap₂ (λ (n : ℕ) (state : List ℕ). outcome n state (paperBuffer trace (first (lentAfter (callOf box bay (tick e answer trace))))))
-          number-is state-is
-          ∙ ap (outcome (demands.number told) (stateAfterwards told)) answer-is
-          ∙ eta told
+      number-of : number (callOf box bay (tick e answer trace)) ≡ number (bayTickOf s e answer trace)
+      number-of = ap number (own box bay (tick e answer trace) b (h .0)) ∙ ap number result-is
 
       tick-here : Here (memoryAfter (callOf box bay (tick e answer trace)))
       tick-here = (
@@ -93,115 +126,249 @@ module _ (bay : ℕ) (b : bay < bayCount) (t : Terms) where
         subst (Standing t) (sym own-is) (tick-stands t s (h .1) e answer trace .0),
       )
 
-      -- demand 1 of this tick: its number is by the rows, and not 11
-      pub by-rows : ByRows (number (callOf box bay (tick e answer trace))) (TickRow (t .sequence) (t .readBack) (stateIn s) (paperBuffer trace answer))
-      by-rows =
-          subst (λ (n : ℕ). ByRows n (TickRow (t .sequence) (t .readBack) (stateIn s) (paperBuffer trace answer))) (sym number-is)
-          (demand-1 .tick-by-rows (t .sequence) (stateIn s) e (t .readBack) (paperBuffer trace answer))
+      -- unless the ledger is full
+      module _ (d : number (callOf box bay (tick e answer trace)) ≢ 19) where
+        not-full : number (bayTickOf s e answer trace) ≢ 19
+        not-full y = d (number-of ∙ y)
 
-      -- demand 2 of this tick
-      pub shows-rules : number (callOf box bay (tick e answer trace)) ≡ 0
-          → (p : Statement) × StandsAt (t .sequence) (t .readBack) (stateIn s) p × Derived p e
-          × ((o : ℕ) (k : Code) (l : ℕ) (p′ : Statement) → Reacts p e (gives o k l p′)
-          → Shows p e o k l p′ (outcomeOf bay trace (callOf box bay (tick e answer trace))))
-      shows-rules z = demand-2-call (t .sequence) (stateIn s) e (t .readBack) (paperBuffer trace answer) as-told z
+        pub number-is : number (callOf box bay (tick e answer trace)) ≡ demands.number told
+        number-is = number-of ∙ tick-number s (h .1 .holds .sized) e answer trace not-full ∙ ap demands.number (inner-is t s (h .1) e answer trace)
 
-  -- ---- a list of calls that does not take it out
+        answer-is : paperBuffer trace (first (lentAfter (callOf box bay (tick e answer trace)))) ≡ answerAfterwards told
+        answer-is =
+            ap (λ (o : Called). paperBuffer trace (first (lentAfter o))) (own box bay (tick e answer trace) b (h .0))
+            ∙ ap (λ (o : Called). paperBuffer trace (first (lentAfter o))) result-is
+            ∙ tick-answer s (h .1 .holds .sized) e answer trace not-full ∙ ap answerAfterwards (inner-is t s (h .1) e answer trace)
+
+        state-is : stateIn (stretchOf bay (memoryAfter (callOf box bay (tick e answer trace)))) ≡ stateAfterwards told
+        state-is = ap stateIn own-is ∙ tick-stands t s (h .1) e answer trace .1 not-full
+
+        pub as-told : outcomeOf bay trace (callOf box bay (tick e answer trace)) ≡ told
+        as-told =
+            ap₂ (λ (n : ℕ) (state : List ℕ). outcome n state (paperBuffer trace (first (lentAfter (callOf box bay (tick e answer trace))))))
+            number-is state-is
+            ∙ ap (outcome (demands.number told) (stateAfterwards told)) answer-is
+            ∙ eta told
+
+        -- demand 1 of this tick: its number is by the rows
+        pub by-rows : ByRows (number (callOf box bay (tick e answer trace))) (TickRow (t .sequence) (t .readBack) (stateIn s) (paperBuffer trace answer))
+        by-rows =
+            subst (λ (n : ℕ). ByRows n (TickRow (t .sequence) (t .readBack) (stateIn s) (paperBuffer trace answer))) (sym number-is)
+            (demand-1 .tick-by-rows (t .sequence) (stateIn s) e (t .readBack) (paperBuffer trace answer))
+
+        -- its litres
+        pub litres-are : (f : ℕ) → cond (eqb (number (callOf box bay (tick e answer trace))) 0) (delivering s e f) 0
+            ≡ callDelivers (t .sequence) (t .readBack) (stateIn s) (record { input = e; buffer = paperBuffer trace answer }) f
+        litres-are f =
+            elim (ℕ-discrete (number (callOf box bay (tick e answer trace))) 0) [
+              | yes n ↦
+                  let m = sym number-is ∙ n in
+                  let l = state-sized (t .sequence) (stateIn s) e (t .readBack) (paperBuffer trace answer) m in
+                  let k = answer-sized (t .sequence) (stateIn s) e (t .readBack) (paperBuffer trace answer) m in
+                  rw (
+                    eq-eqb (number (callOf box bay (tick e answer trace))) 0 n,
+                    eq-eqb (length (stateIn s)) stateLength l,
+                    eq-eqb (length (paperBuffer trace answer)) answerLength k,
+                  )
+                  (ap₂ (λ (q : List ℕ) (r : ℕ). deliveries q r (stateIn s) e f) (sequence-held t s (h .1)) (h .1 .holds .set))
+              | no n ↦ rw (ne-eqb (number (callOf box bay (tick e answer trace))) 0 n)
+                  (sym (none-delivered (t .sequence) (stateIn s) e (t .readBack) (paperBuffer trace answer) (λ m. n (number-is ∙ m)) f))
+            ]
+
+      -- an instant
+      module _ (n : number (callOf box bay (tick e answer trace)) ≡ 0) where
+        pub moves : number (callOf box bay (tick e answer trace)) ≢ 19
+        moves y = omega arith
+
+        -- demand 2
+        pub shows-rules : (p : Statement) × StandsAt (t .sequence) (t .readBack) (stateIn s) p × Derived p e
+            × ((o : ℕ) (k : Code) (l : ℕ) (p′ : Statement) → Reacts p e (gives o k l p′)
+            → Shows p e o k l p′ (outcomeOf bay trace (callOf box bay (tick e answer trace))))
+        shows-rules = demand-2-call (t .sequence) (stateIn s) e (t .readBack) (paperBuffer trace answer) (as-told moves) n
+
+        pub on-input : outcomeOf bay trace (callOf box bay (tick e answer trace)) ≡ tickOn (t .sequence) (t .readBack) (stateIn s) e
+        on-input =
+            as-told moves
+            ∙ sym (blank-alike (t .sequence) (stateIn s) e (t .readBack) (paperBuffer trace answer) (sym (number-is moves) ∙ n))
+
+  -- ---- a list of calls that neither takes it out nor comes back to a position
   pub record Run (box : List ℕ) (xs : List Request) : Type 0 where
-    pub ticks : tickOutcomes bay box xs ≡ outcomes tickOf (t .sequence) (t .readBack) (stateIn (stretchOf bay box)) (ticksTo bay xs)
+    pub ticks : tickOutcomes bay box xs ≡ outcomes tickOf (t .sequence) (t .readBack) (stateIn (stretchOf bay box)) (ticksTo bay box xs)
+    pub litres : (f : ℕ) → tickLitres bay f box xs ≡ delivered (t .sequence) (t .readBack) f (stateIn (stretchOf bay box)) (ticksTo bay box xs)
+    pub instants : instantsIn callOf bay box xs
+        ≡ outcomes tickOf (t .sequence) (t .readBack) (stateIn (stretchOf bay box)) (map callOn (inputsIn callOf bay box xs))
     pub never-11 : (o : Outcome) → List·Memᴰ o (tickOutcomes bay box xs) → demands.number o ≢ 11
     pub stands : Here (boxAfter callOf box xs)
 
   abbrev From : List ℕ → List Paper.Call → List Outcome
   From state = outcomes tickOf (t .sequence) (t .readBack) state
 
-  -- a call that leaves the state record and is no tick of the bay
+  abbrev Brings : ℕ → List ℕ → List Paper.Call → List ℕ
+  Brings f state = delivered (t .sequence) (t .readBack) f state
+
+  -- a call that is no tick of the bay: none of the lists has it
+  record Aside (box : List ℕ) (x : Request) (xs : List Request) : Type 0 where
+    pub outcome : tickOutcomes bay box (x ∷ xs) ≡ tickOutcomes bay (afterCall callOf box x) xs
+    pub tick : ticksTo bay box (x ∷ xs) ≡ ticksTo bay (afterCall callOf box x) xs
+    pub litres : (f : ℕ) → tickLitres bay f box (x ∷ xs) ≡ tickLitres bay f (afterCall callOf box x) xs
+    pub instant : instantsIn callOf bay box (x ∷ xs) ≡ instantsIn callOf bay (afterCall callOf box x) xs
+    pub input : inputsIn callOf bay box (x ∷ xs) ≡ inputsIn callOf bay (afterCall callOf box x) xs
+
+  other-aside : (box : List ℕ) (x : Request) (xs : List Request) → x .bay ≢ bay → Aside box x xs
+  unfolding tickOutcomes ticksTo tickLitres instantsIn inputsIn
+  other-aside box x xs q =
+      let e = ne-eqb (x .bay) bay q in record { outcome = rw e; tick = rw e; litres = λ f. rw e; instant = rw e; input = rw e }
+
+  -- what a call to the bay puts on each of them: nothing
+  abbrev Quiet : (box : List ℕ) → Call → Type 0
+  Quiet box c =
+      ((os : List Outcome) → withOutcome bay c (callOf box bay c) os ≡ os) × ((cs : List Paper.Call) → withTick c (callOf box bay c) cs ≡ cs)
+      × ((f : ℕ) (ls : List ℕ) → withLitres f (stretchOf bay box) c (callOf box bay c) ls ≡ ls)
+      × ((os : List Outcome) → withInstant bay c (callOf box bay c) os ≡ os) × ((es : List ℕ) → withInput c (callOf box bay c) es ≡ es)
+
+  own-aside : (box : List ℕ) (c : Call) (xs : List Request) → Quiet box c → Aside box (record { bay = bay; call = c }) xs
+  unfolding tickOutcomes ticksTo tickLitres instantsIn inputsIn
+  own-aside box c xs q =
+      let e = eq-eqb bay bay refl in
+      let after = memoryAfter (callOf box bay c) in
+      record {
+        outcome = rw e (q .0 (tickOutcomes bay after xs));
+        tick = rw e (q .1 (ticksTo bay after xs));
+        litres = λ f. rw e (q .2 f (tickLitres bay f after xs));
+        instant = rw e (q .3 (instantsIn callOf bay after xs));
+        input = rw e (q .4 (inputsIn callOf bay after xs));
+      }
+
+  full-quiet : (box : List ℕ) (e : ℕ) (answer trace : List ℕ) → number (callOf box bay (tick e answer trace)) ≡ 19 → Quiet box (tick e answer trace)
+  full-quiet box e answer trace n =
+      let full = eq-eqb (number (callOf box bay (tick e answer trace))) 19 n in
+      let none = ne-eqb (number (callOf box bay (tick e answer trace))) 0 (λ y. omega arith) in
+      (λ os. rw full, λ cs. rw full, λ f ls. rw full, λ os. rw none, λ es. rw none)
+
+  -- one that leaves the state record
   steady-run : (box : List ℕ) → Here box → (x : Request) (xs : List Request) → Standing t (stretchOf bay (afterCall callOf box x))
-      → stateIn (stretchOf bay (afterCall callOf box x)) ≡ stateIn (stretchOf bay box)
-      → tickOutcomes bay box (x ∷ xs) ≡ tickOutcomes bay (afterCall callOf box x) xs → ticksTo bay (x ∷ xs) ≡ ticksTo bay xs
+      → stateIn (stretchOf bay (afterCall callOf box x)) ≡ stateIn (stretchOf bay box) → Aside box x xs
       → (Here (afterCall callOf box x) → Run (afterCall callOf box x) xs) → Run box (x ∷ xs)
   unfolding boxAfter
-  steady-run box h x xs v e o c r =
+  steady-run box h x xs v e a r =
       let k = r (same-length box (x .bay) (x .call) ∙ h .0, v) in
       record {
-        ticks = o ∙ k .ticks ∙ ap₂ From e (sym c);
-        never-11 = λ y m. k .never-11 y (subst (List·Memᴰ y) o m);
+        ticks = a .outcome ∙ k .ticks ∙ ap₂ From e (sym (a .tick));
+        litres = λ f. a .litres f ∙ k .litres f ∙ ap₂ (Brings f) e (sym (a .tick));
+        instants = a .instant ∙ k .instants ∙ ap₂ (λ (state es : List ℕ). From state (map callOn es)) e (sym (a .input));
+        never-11 = λ y m. k .never-11 y (subst (List·Memᴰ y) (a .outcome) m);
         stands = k .stands;
       }
 
   -- one that leaves the stretch
   stays-run : (box : List ℕ) → Here box → (x : Request) (xs : List Request) → stretchOf bay (afterCall callOf box x) ≡ stretchOf bay box
-      → tickOutcomes bay box (x ∷ xs) ≡ tickOutcomes bay (afterCall callOf box x) xs → ticksTo bay (x ∷ xs) ≡ ticksTo bay xs
-      → (Here (afterCall callOf box x) → Run (afterCall callOf box x) xs) → Run box (x ∷ xs)
+      → Aside box x xs → (Here (afterCall callOf box x) → Run (afterCall callOf box x) xs) → Run box (x ∷ xs)
   stays-run box h x xs e = steady-run box h x xs (subst (Standing t) (sym e) (h .1)) (ap stateIn e)
 
   -- one to the bay that writes behind the state
   behind-run : (box : List ℕ) → Here box → (c : Call) (xs : List Request) → Moved positionsAt (stretchOf bay box) (result box bay c)
-      → tickOutcomes bay box (record { bay = bay; call = c } ∷ xs) ≡ tickOutcomes bay (memoryAfter (callOf box bay c)) xs
-      → ticksTo bay (record { bay = bay; call = c } ∷ xs) ≡ ticksTo bay xs
+      → Quiet box c
       → (Here (memoryAfter (callOf box bay c)) → Run (memoryAfter (callOf box bay c)) xs) → Run box (record { bay = bay; call = c } ∷ xs)
-  behind-run box h c xs m =
+  behind-run box h c xs m q =
       let own = own-stretch box bay c b (h .0) in
       let k = behind-stands t (stretchOf bay box) (h .1) m in
-      steady-run box h (record { bay = bay; call = c }) xs (subst (Standing t) (sym own) (k .0)) (ap stateIn own ∙ k .1)
+      steady-run box h (record { bay = bay; call = c }) xs (subst (Standing t) (sym own) (k .0)) (ap stateIn own ∙ k .1) (own-aside box c xs q)
 
-  tick-run : (box : List ℕ) → Here box → (e : ℕ) (answer trace : List ℕ) (xs : List Request)
-      → (Here (memoryAfter (callOf box bay (tick e answer trace))) → Run (memoryAfter (callOf box bay (tick e answer trace))) xs)
-      → Run box (record { bay = bay; call = tick e answer trace } ∷ xs)
-  unfolding boxAfter tickOutcomes ticksTo outcomes
-  tick-run box h e answer trace xs r =
-      let k = r (tick-here box h e answer trace) in
-      let first = as-told box h e answer trace in
-      let same = eq-eqb bay bay refl in
-      record {
-        ticks = rw same (ap₂ (λ (y : Outcome) (ys : List Outcome). y ∷ ys) first
-            (k .ticks ∙ ap (λ (state : List ℕ). From state (ticksTo bay xs)) (ap stateAfterwards first)));
-        never-11 = rw same (λ y m. ⊎-elim
-            (λ i. subst (λ (w : Outcome). demands.number w ≢ 11) (sym (i ∙ first))
-            (tick-told t (stretchOf bay box) (h .1) e answer trace .not-11))
-            (λ i. k .never-11 y i)
-            (List·Memᴰ·cases-cons m));
-        stands = k .stands;
-      }
+  -- ---- a tick that the ledger does not turn down
+  module _ (box : List ℕ) (h : Here box) (e : ℕ) (answer trace : List ℕ) (xs : List Request) (d : number (callOf box bay (tick e answer trace)) ≢ 19) where
+    abbrev c : Request
+    c = record { bay = bay; call = tick e answer trace }
+
+    abbrev after : List ℕ
+    after = memoryAfter (callOf box bay (tick e answer trace))
+
+    -- its instant, if it is one, and those behind it
+    instants-from : Run after xs
+        → instantsIn callOf bay box (c ∷ xs) ≡ From (stateIn (stretchOf bay box)) (map callOn (inputsIn callOf bay box (c ∷ xs)))
+    unfolding instantsIn inputsIn outcomes
+    instants-from k =
+        elim (ℕ-discrete (number (callOf box bay (tick e answer trace))) 0) [
+          | yes n ↦
+              let first = on-input box h e answer trace n in
+              rw (eq-eqb bay bay refl, eq-eqb (number (callOf box bay (tick e answer trace))) 0 n)
+              (ap₂ (λ (y : Outcome) (ys : List Outcome). y ∷ ys) first
+              (k .instants ∙ ap (λ (state : List ℕ). From state (map callOn (inputsIn callOf bay after xs))) (ap stateAfterwards first)))
+          | no n ↦ rw (eq-eqb bay bay refl, ne-eqb (number (callOf box bay (tick e answer trace))) 0 n)
+              (k .instants ∙ ap (λ (s : List ℕ). From (stateIn s) (map callOn (inputsIn callOf bay after xs)))
+              (refused-stretch box bay (tick e answer trace) n))
+        ]
+
+    tick-run : (Here after → Run after xs) → Run box (c ∷ xs)
+    unfolding boxAfter tickOutcomes ticksTo tickLitres outcomes delivered
+    tick-run r =
+        let k = r (tick-here box h e answer trace) in
+        let first = as-told box h e answer trace d in
+        let same = eq-eqb bay bay refl in
+        let told = ne-eqb (number (callOf box bay (tick e answer trace))) 19 d in
+        record {
+          ticks = rw (same, told) (ap₂ (λ (y : Outcome) (ys : List Outcome). y ∷ ys) first
+              (k .ticks ∙ ap (λ (state : List ℕ). From state (ticksTo bay after xs)) (ap stateAfterwards first)));
+          litres = λ f. rw (same, told) (ap₂ (λ (y : ℕ) (ys : List ℕ). y ∷ ys) (litres-are box h e answer trace d f)
+              (k .litres f ∙ ap (λ (state : List ℕ). Brings f state (ticksTo bay after xs)) (ap stateAfterwards first)));
+          instants = instants-from k;
+          never-11 = rw (same, told) (λ y m. ⊎-elim
+              (λ i. subst (λ (w : Outcome). demands.number w ≢ 11) (sym (i ∙ first))
+              (tick-told t (stretchOf bay box) (h .1) e answer trace .not-11))
+              (λ i. k .never-11 y i)
+              (List·Memᴰ·cases-cons m));
+          stands = k .stands;
+        }
 
   own-run : (box : List ℕ) → Here box → (c : Call) (xs : List Request) → Onward c (callOf box bay c)
       → (Here (memoryAfter (callOf box bay c)) → Run (memoryAfter (callOf box bay c)) xs) → Run box (record { bay = bay; call = c } ∷ xs)
-  unfolding tickOutcomes ticksTo
   own-run box h (admit t′) xs n r =
       stays-run box h (record { bay = bay; call = admit t′ }) xs (refused-stretch box bay (admit t′) (filled-already box bay b (h .0) (not-empty t (stretchOf bay box) (h .1)) t′))
-      (rw (eq-eqb bay bay refl)) (rw (eq-eqb bay bay refl)) r
+      (own-aside box (admit t′) xs (λ os. refl, λ cs. refl, λ f ls. refl, λ os. refl, λ es. refl)) r
   own-run box h release xs n r =
       stays-run box h (record { bay = bay; call = release }) xs (refused-stretch box bay release n)
-      (rw (eq-eqb bay bay refl)) (rw (eq-eqb bay bay refl)) r
-  own-run box h (tick e answer trace) xs n r = tick-run box h e answer trace xs r
+      (own-aside box release xs (λ os. refl, λ cs. refl, λ f ls. refl, λ os. refl, λ es. refl)) r
+  own-run box h (tick e answer trace) xs n r =
+      elim (ℕ-discrete (number (callOf box bay (tick e answer trace))) 19) [
+        | yes y ↦ stays-run box h (record { bay = bay; call = tick e answer trace }) xs
+            (refused-stretch box bay (tick e answer trace) (λ z. omega arith)) (own-aside box (tick e answer trace) xs (full-quiet box e answer trace y)) r
+        | no y ↦ tick-run box h e answer trace xs y r
+      ]
   own-run box h (save name) xs n r =
       behind-run box h (save name) xs (rw (not-empty t (stretchOf bay box) (h .1)) (save-moved (stretchOf bay box) name))
-      (rw (eq-eqb bay bay refl)) (rw (eq-eqb bay bay refl)) r
+      (λ os. refl, λ cs. refl, λ f ls. refl, λ os. refl, λ es. refl) r
   own-run box h (restore name) xs n r =
       stays-run box h (record { bay = bay; call = restore name }) xs (refused-stretch box bay (restore name) n)
-      (rw (eq-eqb bay bay refl)) (rw (eq-eqb bay bay refl)) r
+      (own-aside box (restore name) xs (λ os. refl, λ cs. refl, λ f ls. refl, λ os. refl, λ es. refl)) r
   own-run box h (forget name) xs n r =
       behind-run box h (forget name) xs (rw (not-empty t (stretchOf bay box) (h .1)) (forget-moved (stretchOf bay box) name))
-      (rw (eq-eqb bay bay refl)) (rw (eq-eqb bay bay refl)) r
+      (λ os. refl, λ cs. refl, λ f ls. refl, λ os. refl, λ es. refl) r
   own-run box h (service trace view) xs n r =
       stays-run box h (record { bay = bay; call = service trace view }) xs
       (own-stretch box bay (service trace view) b (h .0)
       ∙ rw (not-empty t (stretchOf bay box) (h .1)) (service-reads (stretchOf bay box) trace view .left))
-      (rw (eq-eqb bay bay refl)) (rw (eq-eqb bay bay refl)) r
+      (own-aside box (service trace view) xs (λ os. refl, λ cs. refl, λ f ls. refl, λ os. refl, λ es. refl)) r
   own-run box h (panel trace view) xs n r =
       stays-run box h (record { bay = bay; call = panel trace view }) xs
       (own-stretch box bay (panel trace view) b (h .0)
       ∙ rw (not-empty t (stretchOf bay box) (h .1)) (panel-reads (stretchOf bay box) trace view .left))
-      (rw (eq-eqb bay bay refl)) (rw (eq-eqb bay bay refl)) r
+      (own-aside box (panel trace view) xs (λ os. refl, λ cs. refl, λ f ls. refl, λ os. refl, λ es. refl)) r
   own-run box h (preview e u buffer) xs n r =
       stays-run box h (record { bay = bay; call = preview e u buffer }) xs
       (own-stretch box bay (preview e u buffer) b (h .0)
       ∙ rw (not-empty t (stretchOf bay box) (h .1)) (preview-stays (stretchOf bay box) e u buffer))
-      (rw (eq-eqb bay bay refl)) (rw (eq-eqb bay bay refl)) r
+      (own-aside box (preview e u buffer) xs (λ os. refl, λ cs. refl, λ f ls. refl, λ os. refl, λ es. refl)) r
+  own-run box h (ledger totals) xs n r =
+      stays-run box h (record { bay = bay; call = ledger totals }) xs
+      (own-stretch box bay (ledger totals) b (h .0) ∙ ledger-reads (stretchOf bay box) totals .left)
+      (own-aside box (ledger totals) xs (λ os. refl, λ cs. refl, λ f ls. refl, λ os. refl, λ es. refl)) r
+  own-run box h newYear xs n r =
+      behind-run box h newYear xs (further (omega arith) (year-moved (stretchOf bay box)))
+      (λ os. refl, λ cs. refl, λ f ls. refl, λ os. refl, λ es. refl) r
 
   pub runs : (box : List ℕ) → Here box → (xs : List Request) → Onwards bay box xs → Run box xs
-  unfolding tickOutcomes ticksTo outcomes boxAfter
-  runs box h [] done = record { ticks = refl; never-11 = λ o m. absurd (List·Memᴰ·not-nil m); stands = h }
+  unfolding tickOutcomes ticksTo tickLitres instantsIn inputsIn outcomes delivered boxAfter
+  runs box h [] done =
+      record { ticks = refl; litres = λ f. refl; instants = refl; never-11 = λ o m. absurd (List·Memᴰ·not-nil m); stands = h }
   runs box h (x ∷ xs) (more n k) =
       elim (ℕ-discrete (x .bay) bay) [
         | yes q ↦ subst (λ (j : ℕ). Run box (record { bay = j; call = x .call } ∷ xs)) (sym q)
@@ -209,16 +376,29 @@ module _ (bay : ℕ) (b : bay < bayCount) (t : Terms) where
             (λ i. runs (memoryAfter (callOf box bay (x .call))) i xs
             (subst (λ (j : ℕ). Onwards bay (memoryAfter (callOf box j (x .call))) xs) q k)))
         | no q ↦ stays-run box h x xs (others-stay box (x .bay) (x .call) bay (λ y. q (sym y)) b)
-            (rw (ne-eqb (x .bay) bay q)) (rw (ne-eqb (x .bay) bay q)) (λ i. runs (afterCall callOf box x) i xs k)
+            (other-aside box x xs q) (λ i. runs (afterCall callOf box x) i xs k)
       ]
 
-  -- demand 3 from any state: what the paper reports that starts with the term of the state
-  pub agrees-from : (box : List ℕ) (h : Here box) (xs : List Request) → Onwards bay box xs → NoSetpause (h .1 .accepted .statement)
-      → (w : Rewriting) → TermOf (program (t .readBack) (h .1 .accepted .statement)) (h .1 .state) w
-      → map report (tickOutcomes bay box xs) ≡ paper w (ticksTo bay xs)
-  agrees-from box h xs k plain w i =
-      ap (map report) (runs box h xs k .ticks ∙ ap (λ (state : List ℕ). From state (ticksTo bay xs)) (h .1 .bytes))
-      ∙ all-ticks (t .sequence) (t .readBack) (h .1 .accepted) plain (ticksTo bay xs) (h .1 .state) w i (h .1 .recorded)
+  -- ---- demand 3 from any state: the paper that starts with the term of the state
+  module _ (box : List ℕ) (h : Here box) (xs : List Request) (k : Onwards bay box xs) (plain : NoSetpause (h .1 .accepted .statement))
+      (w : Rewriting) (i : TermOf (program (t .readBack) (h .1 .accepted .statement)) (h .1 .state) w) where
+    reports : (calls : List Paper.Call) → map report (From (stateIn (stretchOf bay box)) calls) ≡ paper w calls
+    reports calls =
+        ap (λ (state : List ℕ). map report (From state calls)) (h .1 .bytes)
+        ∙ all-ticks (t .sequence) (t .readBack) (h .1 .accepted) plain calls (h .1 .state) w i (h .1 .recorded)
+
+    -- what it reports of the ticks, and of the inputs of the instants
+    pub agrees-from : map report (tickOutcomes bay box xs) ≡ paper w (ticksTo bay box xs)
+    agrees-from = ap (map report) (runs box h xs k .ticks) ∙ reports (ticksTo bay box xs)
+
+    pub instants-agree : map report (instantsIn callOf bay box xs) ≡ paper w (map callOn (inputsIn callOf bay box xs))
+    instants-agree = ap (map report) (runs box h xs k .instants) ∙ reports (map callOn (inputsIn callOf bay box xs))
+
+    -- and what it delivers
+    pub litres-agree : (f : ℕ) → tickLitres bay f box xs ≡ paperDelivered f w (ticksTo bay box xs)
+    litres-agree f =
+        runs box h xs k .litres f ∙ ap (λ (state : List ℕ). Brings f state (ticksTo bay box xs)) (h .1 .bytes)
+        ∙ all-deliveries (t .sequence) (t .readBack) (h .1 .accepted) plain f (ticksTo bay box xs) (h .1 .state) w i (h .1 .recorded)
 
 -- ---- from an admission on
 module _ (box : List ℕ) (bay : ℕ) (t : Terms) (small : Sendable (admit t)) (admitted : number (callOf box bay (admit t)) ≡ 0) where
@@ -276,19 +456,42 @@ module _ (box : List ℕ) (bay : ℕ) (t : Terms) (small : Sendable (admit t)) (
       go true w h = of-bay (admission k s t) w h
       go false w h = absurd (omega arith)
 
+  -- the paper that starts with the program of the sequence
+  module _ (p : Statement) (q : Spells (t .sequence) p) (plain : NoSetpause p) where
+    abbrev a : Accepted (t .sequence) (t .readBack)
+    a = begun .here .1 .accepted
+
+    same : p ≡ begun .here .1 .accepted .statement
+    same = same-statement (t .sequence) p (a .statement) q (a .spelled)
+
+    abbrev w : Rewriting
+    w = Rewriting.fresh (program (t .readBack) p)
+
+    starts : TermOf (program (t .readBack) (begun .here .1 .accepted .statement)) (begun .here .1 .state) (Rewriting.fresh (program (t .readBack) p))
+    starts =
+        subst (λ (st : State). TermOf (program (t .readBack) (a .statement)) st w) (sym (begun .from-fresh))
+        (ap (program (t .readBack)) same)
+
   module _ (xs : List Request) (k : Onwards bay begins xs) where
     pub run : Run bay is-bay t begins xs
     run = runs bay is-bay t begins (begun .here) xs k
 
-    pub bay-ticks : tickOutcomes bay begins xs ≡ outcomes tickOf (t .sequence) (t .readBack) cleared (ticksTo bay xs)
-    bay-ticks = run .ticks ∙ ap (λ (state : List ℕ). outcomes tickOf (t .sequence) (t .readBack) state (ticksTo bay xs)) (begun .fresh)
+    pub bay-ticks : tickOutcomes bay begins xs ≡ outcomes tickOf (t .sequence) (t .readBack) cleared (ticksTo bay begins xs)
+    bay-ticks = run .ticks ∙ ap (λ (state : List ℕ). outcomes tickOf (t .sequence) (t .readBack) state (ticksTo bay begins xs)) (begun .fresh)
 
-    pub agrees : (p : Statement) → Spells (t .sequence) p → NoSetpause p
-        → map report (tickOutcomes bay begins xs) ≡ paper (Rewriting.fresh (program (t .readBack) p)) (ticksTo bay xs)
-    agrees p h plain =
-        let a = begun .here .1 .accepted in
-        let same : p ≡ a .statement = same-statement (t .sequence) p (a .statement) h (a .spelled) in
-        let w = Rewriting.fresh (program (t .readBack) (a .statement)) in
-        rw same
-        (agrees-from bay is-bay t begins (begun .here) xs k (subst NoSetpause same plain) w
-        (subst (λ (st : State). TermOf (program (t .readBack) (a .statement)) st w) (sym (begun .from-fresh)) refl))
+    pub bay-instants : instantsIn callOf bay begins xs
+        ≡ outcomes tickOf (t .sequence) (t .readBack) cleared (map callOn (inputsIn callOf bay begins xs))
+    bay-instants =
+        run .instants
+        ∙ ap (λ (state : List ℕ). outcomes tickOf (t .sequence) (t .readBack) state (map callOn (inputsIn callOf bay begins xs))) (begun .fresh)
+
+    module _ (p : Statement) (q : Spells (t .sequence) p) (plain : NoSetpause p) where
+      pub agrees : map report (tickOutcomes bay begins xs) ≡ paper (Rewriting.fresh (program (t .readBack) p)) (ticksTo bay begins xs)
+      agrees = agrees-from bay is-bay t begins (begun .here) xs k (subst NoSetpause (same p q plain) plain) (w p q plain) (starts p q plain)
+
+      pub instants-agreeing : map report (instantsIn callOf bay begins xs)
+          ≡ paper (Rewriting.fresh (program (t .readBack) p)) (map callOn (inputsIn callOf bay begins xs))
+      instants-agreeing = instants-agree bay is-bay t begins (begun .here) xs k (subst NoSetpause (same p q plain) plain) (w p q plain) (starts p q plain)
+
+      pub litres-agreeing : (f : ℕ) → tickLitres bay f begins xs ≡ paperDelivered f (Rewriting.fresh (program (t .readBack) p)) (ticksTo bay begins xs)
+      litres-agreeing = litres-agree bay is-bay t begins (begun .here) xs k (subst NoSetpause (same p q plain) plain) (w p q plain) (starts p q plain)

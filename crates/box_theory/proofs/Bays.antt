@@ -18,12 +18,12 @@ use Rattle.demands.proofs.Sequence.{Accepted, accepted}
 use Rattle.box_calls.specs.Called.{Called, called, number, memoryAfter}
 use Rattle.box_calls.specs.Stretch.{stretchLength, Terms, filled}
 use Rattle.box_calls.specs.BayCalls.{sharedCeiling, bayReleaseOf, bayAdmitOf}
-use Rattle.box_calls.specs.Box.{Call, admit, release, tick, save, restore, forget, service, panel, preview, buffers, bayCall, isFor}
+use Rattle.box_calls.specs.Box.{Call, admit, release, tick, save, restore, forget, service, panel, preview, ledger, newYear, buffers, bayCall, isFor}
 use Rattle.box_fields.proofs.Fields.{length-vacated, length-filled}
 use Rattle.box_theory.proofs.Ticks.{tick-refused, tick-keeps-length}
-use Rattle.box_theory.proofs.Readers.{service-reads, panel-reads}
+use Rattle.box_theory.proofs.Readers.{service-reads, panel-reads, ledger-reads}
 use Rattle.box_theory.proofs.Previews.{preview-stays, preview-refused}
-use Rattle.box_theory.proofs.Moves.{moved-refused, moved-length, save-moved, forget-moved, restore-moved}
+use Rattle.box_theory.proofs.Moves.{moved-refused, moved-length, save-moved, forget-moved, restore-moved, year-moved}
 
 abbrev pub ceilingFor : Terms → ℕ
 ceilingFor t = ceilingOf (t .readBack) (checked (t .sequence) (t .readBack))
@@ -97,6 +97,8 @@ module _ (k : ℕ) (s : List ℕ) (z : length s ≡ stretchLength) where
   bay-refused (service trace view) h = service-reads s trace view .refused h
   bay-refused (panel trace view) h = panel-reads s trace view .refused h
   bay-refused (preview e u buffer) h = preview-refused s e u buffer h
+  bay-refused (ledger totals) h = ledger-reads s totals .refused h
+  bay-refused newYear h = moved-refused (year-moved s) h
 
   pub stretch-refused : (c : Call) → Leaves c (onStretch k c s)
   stretch-refused c = go (isFor c s)
@@ -122,6 +124,8 @@ module _ (k : ℕ) (s : List ℕ) (z : length s ≡ stretchLength) where
   bay-sized (service trace view) = ap length (service-reads s trace view .left) ∙ z
   bay-sized (panel trace view) = ap length (panel-reads s trace view .left) ∙ z
   bay-sized (preview e u buffer) = ap length (preview-stays s e u buffer) ∙ z
+  bay-sized (ledger totals) = ap length (ledger-reads s totals .left) ∙ z
+  bay-sized newYear = moved-length (year-moved s) z
 
   pub sized-after : (c : Call) → length (memoryAfter (onStretch k c s)) ≡ stretchLength
   sized-after c = go (isFor c s)

@@ -11,40 +11,37 @@ use lib.ListN.{length, getElem?}
 use lib.Dec.{eqb}
 use borrow.Author.Tests.{eq-eqb, ne-eqb}
 use Rattle.limits.specs.Limits.{numberBytes, lastNumber}
-use Rattle.esterel.specs.Statement.{Statement}
-use Rattle.esterel.specs.Reaction.{inheritanceFirst}
 use Rattle.esterel.specs.Machines.{State}
-use Rattle.sequence.specs.Program.{program}
 use Rattle.numbers.specs.Bytes.{leBytes, leNumber}
 use Rattle.numbers.proofs.Bytes.{length-leBytes, le-round-trip}
-use Rattle.states.specs.StateRecord.{stateLength, encodeState, Decoded, holds, malformed, decodeState}
+use Rattle.states.specs.StateRecord.{stateLength, encodeState}
 use Rattle.states.proofs.StateLaws.{length-state}
 use Rattle.recordings.specs.Record.{recordLength, recordOf, numberIn, panelLength, panelOf}
-use Rattle.recordings.specs.Recording.{following, blank, tickOn, recordFrom, recordsFrom, recordingOf}
+use Rattle.recordings.specs.Recording.{following, tickOn, recordFrom, recordsFrom, recordingOf}
 use Rattle.recordings.proofs.Records.{number-field}
 use Rattle.recordings.proofs.Theorems.{following-is, panel-alike}
 use Rattle.parts.specs.Parts.{slot, put}
 use Rattle.parts.proofs.Parts.{put-slot, slot-put, put-before, put-behind}
 use Rattle.parts.proofs.Zeros.{zeros-number}
-use Rattle.demands.specs.Tick.{Outcome, outcome, byState, replied, tickOf}
+use Rattle.ledgers.specs.Ledgers.{ledgerLength, passes, added}
+use Rattle.demands.specs.Tick.{Outcome, outcome, tickOf}
 use Rattle.demands.specs.Demands as demands
 use Rattle.demands.specs.Demands.{stateAfterwards}
-use Rattle.demands.proofs.Sequence.{Accepted, accepted, tick-at}
-use Rattle.demands.proofs.Demand2.{passed-check, state-sized, answer-sized}
+use Rattle.demands.proofs.Sequence.{Accepted, accepted}
 use Rattle.box_calls.specs.Called.{Called, called, number, memoryAfter, lentAfter, first}
-use Rattle.box_calls.specs.Stretch.{sequenceAt, stateAt, countAt, positionsAt, stretchLength, lengthIn, isEmpty, sequenceIn, readBackIn, serviceOnlyIn, stateIn, countIn, Terms}
-use Rattle.box_calls.specs.BayCalls.{bayTickOf, bayAdmitOf, bayRestoreOf}
+use Rattle.box_calls.specs.Stretch.{sequenceAt, stateAt, countAt, positionsAt, bayLength, stretchLength, lengthIn, isEmpty, sequenceIn, readBackIn, serviceOnlyIn, stateIn, countIn, ledgerIn, Terms}
+use Rattle.box_calls.specs.BayCalls.{delivering, bayTickOf, bayAdmitOf, bayRestoreOf}
 use Rattle.box_calls.specs.BayRuns.{Onward, Onwards}
 use Rattle.box_calls.specs.BayRuns as Runs
-use Rattle.box_calls.specs.Box.{bayCount, boxLength, stretchOf, present, Call, admit, release, tick, save, restore, forget, service, panel, preview, bayCall, callOf}
+use Rattle.box_calls.specs.Box.{bayCount, boxLength, stretchOf, present, Call, admit, release, tick, save, restore, forget, service, panel, preview, ledger, newYear, bayCall, callOf}
 use Rattle.box_calls.specs.Lists.{Request, afterCall, boxAfter}
 use Rattle.box_calls.specs.Instants.{second, recordsIn, inputsIn, Stays, NotTakenOut, done, more, RecordIs, ServiceShows, PanelShows, PanelsAlike, ReaderNumbers, RecordLength}
 use Rattle.box_calls.specs.Shares.{Sendable}
 use Rattle.box_fields.proofs.Fields.{Holds, behind-holds, moved-holds, filled-zeros}
 use Rattle.box_theory.proofs.Moves as moves
-use Rattle.box_theory.proofs.Moves.{Moved, save-moved, forget-moved}
-use Rattle.box_theory.proofs.Ticks.{written, length-stepped, like-buffer, unlike-tick, Ticked, down, instant, ticked}
-use Rattle.box_theory.proofs.Readers.{service-reads, panel-reads, service-lengths, panel-lengths}
+use Rattle.box_theory.proofs.Moves.{Moved, save-moved, forget-moved, year-moved, further}
+use Rattle.box_theory.proofs.Ticks.{entered, written, new-sized, length-entered, before-ledger, like-buffer, unlike-tick, Ticked, down, full, instant, ticked}
+use Rattle.box_theory.proofs.Readers.{service-reads, panel-reads, ledger-reads, service-lengths, panel-lengths}
 use Rattle.fillings.specs.Preview.{bufferAfter}
 use Rattle.box_calls.specs.Previews.{previewIn, PreviewShows, PreviewNumbers}
 use Rattle.box_theory.proofs.Previews.{preview-stays, preview-number, preview-shown}
@@ -76,6 +73,7 @@ module _ (box : List ℕ) (bay e : ℕ) (answer trace : List ℕ) (n : number (c
     pub state : List ℕ
     pub answered : List ℕ
     pub sized : length state ≡ stateLength
+    pub below : passes (ledgerIn stretch) (delivering stretch e) ≡ false
     pub told : tickOf (sequenceIn stretch) (stateIn stretch) e (readBackIn stretch) answer ≡ outcome 0 state answered
     pub lent : lentAfter (callOf box bay c) ≡ answered ∷ recordOf (following (countIn stretch)) e answered state ∷ []
     pub after : stretchOf bay (memoryAfter (callOf box bay c)) ≡ written stretch z e answer trace state
@@ -84,55 +82,39 @@ module _ (box : List ℕ) (bay e : ℕ) (answer trace : List ℕ) (n : number (c
   instant-of = go (ticked stretch z e answer trace)
     where
       go : Ticked stretch z e answer trace (bayTickOf stretch e answer trace) → Instant
-      go (down m y q w) = absurd (y (sym (ap number w) ∙ bay-answered box bay c n))
-      go (instant state answered l j q w) =
+      go (down m y d q w) = absurd (y (sym (ap number w) ∙ bay-answered box bay c n))
+      go (full q p w) = absurd (omega (arith, ap number w, bay-answered box bay c n))
+      go (instant state answered l j p q w) =
           record {
             state = state;
             answered = answered;
             sized = l;
+            below = p;
             told = ap (tickOf (sequenceIn stretch) (stateIn stretch) e (readBackIn stretch)) (sym (like-buffer stretch z e answer trace j answer)) ∙ q;
             lent = ap lentAfter (own box bay c b sized-box) ∙ ap lentAfter (answered-there box bay c n .1) ∙ ap lentAfter w;
             after = stretch-after box bay c n ∙ ap memoryAfter w;
           }
 
   -- the state and the number that it leaves
-  module _ (state : List ℕ) (l : length state ≡ stateLength) where
+  module _ (state : List ℕ) (l : length state ≡ stateLength) (p : passes (ledgerIn stretch) (delivering stretch e) ≡ false) where
     abbrev count : List ℕ
     count = leBytes numberBytes (following (countIn stretch))
 
+    abbrev held : List ℕ
+    held = entered stretch z e answer trace state
+
     pub written-state : stateIn (written stretch z e answer trace state) ≡ state
     written-state =
-        let k = length-stepped stretch z e answer trace state l in
-        put-before countAt numberBytes count (put stateAt stateLength state stretch) (omega arith) (length-leBytes numberBytes (following (countIn stretch)))
-        stateAt stateLength (omega arith)
+        let k = length-entered stretch z e answer trace p state l in
+        put-before countAt numberBytes count held (omega arith) (length-leBytes numberBytes (following (countIn stretch))) stateAt stateLength (omega arith)
+        ∙ before-ledger stretch z e answer trace p state l stateAt stateLength (omega arith)
         ∙ slot-put stateAt stateLength state stretch (omega (arith, z)) l
 
     pub written-count : countIn stretch ≤ lastNumber → countIn (written stretch z e answer trace state) ≡ following (countIn stretch)
     written-count h =
-        let k = length-stepped stretch z e answer trace state l in
-        ap leNumber (slot-put countAt numberBytes count (put stateAt stateLength state stretch) (omega arith)
-        (length-leBytes numberBytes (following (countIn stretch))))
+        let k = length-entered stretch z e answer trace p state l in
+        ap leNumber (slot-put countAt numberBytes count held (omega arith) (length-leBytes numberBytes (following (countIn stretch))))
         ∙ le-round-trip numberBytes (following (countIn stretch)) (omega (arith, following-is (countIn stretch) h))
-
--- a tick answered 0 comes to the same with every buffer of its length
-blank-alike : (sequence st : List ℕ) (e readBack : ℕ) (answer state left : List ℕ) → tickOf sequence st e readBack answer ≡ outcome 0 state left
-    → tickOn sequence readBack st e ≡ outcome 0 state left
-blank-alike sequence st e readBack answer state left q =
-    let n : demands.number (tickOf sequence st e readBack answer) ≡ 0 = ap demands.number q in
-    let a = accepted sequence readBack (passed-check sequence st e readBack answer n) in
-    let p = a .statement in
-    let l = state-sized sequence st e readBack answer n in
-    tick-at inheritanceFirst sequence st e readBack blank p (decodeState p st) (a .is-checked) l refl refl
-    ∙ go (program readBack p) (decodeState p st)
-    (sym (tick-at inheritanceFirst sequence st e readBack answer p (decodeState p st) (a .is-checked) l (answer-sized sequence st e readBack answer n) refl)
-    ∙ q)
-  where
-    go : (p : Statement) (d : Decoded) → replied (byState inheritanceFirst p d e) st answer ≡ outcome 0 state left
-        → replied (byState inheritanceFirst p d e) st blank ≡ outcome 0 state left
-    go p malformed w = absurd (omega (arith, ap demands.number w))
-    go p (holds State.fresh) w = w
-    go p (holds (State.waits L)) w = w
-    go p (holds State.over) w = absurd (omega (arith, ap demands.number w))
 
 from-tick : (sequence : List ℕ) (readBack n : ℕ) (st : List ℕ) (e : ℕ) (es : List ℕ) (state left : List ℕ)
     → tickOn sequence readBack st e ≡ outcome 0 state left
@@ -260,15 +242,17 @@ module _ (bay : ℕ) (b : bay < bayCount) (t : Terms) (a : Accepted (t .sequence
         let l : length (leBytes numberBytes (following (countIn s))) ≡ numberBytes = length-leBytes numberBytes (following (countIn s)) in
         let after : List ℕ = memoryAfter (callOf box bay (tick e answer trace)) in
         let c : countIn (stretchOf bay after) ≡ following (countIn s) =
-        ap countIn (i .after) ∙ written-count box bay e answer trace n (i .state) (i .sized) (h .fits) in
+        ap countIn (i .after) ∙ written-count box bay e answer trace n (i .state) (i .sized) (i .below) (h .fits) in
         let st : stateIn (stretchOf bay after) ≡ i .state =
-        ap stateIn (i .after) ∙ written-state box bay e answer trace n (i .state) (i .sized) in
+        ap stateIn (i .after) ∙ written-state box bay e answer trace n (i .state) (i .sized) (i .below) in
         let p = moved-holds t (ceilingFor t) (bounds t a .1) s (h .holds) (i .state) (i .sized) in
+        let p′ = behind-holds t (ceilingFor t) (bounds t a .1) (put stateAt stateLength (i .state) s) p bayLength ledgerLength
+        (added (delivering s e) (ledgerIn s)) (omega arith) (omega arith) (new-sized s (h .holds .sized) e answer trace (i .below) (i .state) (i .sized)) in
         let up = following-is (countIn s) (h .fits) in
         let k = f (record {
           sized-box = same-length box bay (tick e answer trace) ∙ h .sized-box;
           holds = subst (Holds t (ceilingFor t)) (sym (i .after))
-              (behind-holds t (ceilingFor t) (bounds t a .1) (put stateAt stateLength (i .state) s) p countAt numberBytes
+              (behind-holds t (ceilingFor t) (bounds t a .1) (entered s (h .holds .sized) e answer trace (i .state)) p′ countAt numberBytes
               (leBytes numberBytes (following (countIn s))) (omega arith) (omega arith) l);
           fits = omega (arith, c, up);
         }) in
@@ -290,7 +274,7 @@ module _ (bay : ℕ) (b : bay < bayCount) (t : Terms) (a : Accepted (t .sequence
               (k .recorded (onward-tail o .1)
               ∙ ap₂ (λ (m : ℕ) (r : List ℕ). recordsFrom (t .sequence) (t .readBack) (following m) r (inputsIn callOf bay after xs)) c st)
               ∙ sym (from-tick (t .sequence) (t .readBack) (following (countIn s)) (stateIn s) e (inputsIn callOf bay after xs) (i .state) (i .answered)
-              (blank-alike (t .sequence) (stateIn s) e (t .readBack) answer (i .state) (i .answered) told))
+              (runs.blank-alike (t .sequence) (stateIn s) e (t .readBack) answer (ap demands.number told) ∙ told))
               ∙ ap (recordsFrom (t .sequence) (t .readBack) (following (countIn s)) (stateIn s)) (sym es);
           held = k .held;
         }
@@ -342,6 +326,15 @@ module _ (bay : ℕ) (b : bay < bayCount) (t : Terms) (a : Accepted (t .sequence
         quiet-over box h (record { bay = bay; call = preview e u buffer }) xs (Unit {0})
         (same (Unit {0}) (own-stretch box bay (preview e u buffer) b (h .sized-box) ∙ rw there (preview-stays s e u buffer))) (λ g. tt)
         (rw (eq-eqb bay bay refl)) (rw (eq-eqb bay bay refl)) f
+    own-over (ledger totals) xs n f =
+        quiet-over box h (record { bay = bay; call = ledger totals }) xs (Unit {0})
+        (same (Unit {0}) (own-stretch box bay (ledger totals) b (h .sized-box) ∙ ledger-reads s totals .left)) (λ g. tt)
+        (rw (eq-eqb bay bay refl)) (rw (eq-eqb bay bay refl)) f
+    own-over newYear xs n f =
+        quiet-over box h (record { bay = bay; call = newYear }) xs (Unit {0})
+        (subst (λ (r : List ℕ). Quiet s r (Unit {0})) (sym (own-stretch box bay newYear b (h .sized-box)))
+        (behind (further (omega arith) (year-moved s)) (Unit {0}))) (λ g. tt)
+        (rw (eq-eqb bay bay refl)) (rw (eq-eqb bay bay refl)) f
 
   pub over : (box : List ℕ) → Here box → (xs : List Request) → NotTakenOut callOf bay box xs → Over box xs
   unfolding recordsIn inputsIn recordsFrom boxAfter
@@ -368,6 +361,8 @@ module _ (bay : ℕ) (b : bay < bayCount) (t : Terms) (a : Accepted (t .sequence
   stays (service trace view) o n = tt
   stays (panel trace view) o n = tt
   stays (preview e u buffer) o n = tt
+  stays (ledger totals) o n = tt
+  stays newYear o n = tt
 
   pub not-taken : (box : List ℕ) (xs : List Request) → Onwards bay box xs → NotTakenOut callOf bay box xs
   not-taken box [] Runs.done = done
@@ -433,14 +428,14 @@ module _ (box : List ℕ) (bay : ℕ) (t : Terms) (small : Sendable (admit t)) (
 pub record-is : RecordIs callOf
 record-is box bay e answer trace n =
     let i = instant-of box bay e answer trace n in
-    let st = ap stateIn (i .after) ∙ written-state box bay e answer trace n (i .state) (i .sized) in (
+    let st = ap stateIn (i .after) ∙ written-state box bay e answer trace n (i .state) (i .sized) (i .below) in (
       ap second (i .lent)
           ∙ ap₂ (recordOf (following (countIn (stretchOf bay box))) e) (sym (ap first (i .lent))) (sym st),
-      λ h. ap countIn (i .after) ∙ written-count box bay e answer trace n (i .state) (i .sized) h,
+      λ h. ap countIn (i .after) ∙ written-count box bay e answer trace n (i .state) (i .sized) (i .below) h,
     )
 
 -- ---- the readers
-shown-in : (box : List ℕ) (bay : ℕ) (c : Call) (shown : List ℕ) → number (callOf box bay c) ≡ 0
+pub shown-in : (box : List ℕ) (bay : ℕ) (c : Call) (shown : List ℕ) → number (callOf box bay c) ≡ 0
     → (number (bayCall (present bayCount box) c (stretchOf bay box)) ≡ 0
     → bayCall (present bayCount box) c (stretchOf bay box) ≡ called 0 (stretchOf bay box) (shown ∷ []))
     → callOf box bay c ≡ called 0 box (shown ∷ [])

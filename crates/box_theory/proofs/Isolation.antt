@@ -9,7 +9,7 @@ use lib.ListN.{length}
 use lib.Dec.{eqb}
 use borrow.Author.Tests.{eq-eqb, ne-eqb}
 use Rattle.box_calls.specs.Called.{Called, number, memoryAfter}
-use Rattle.box_calls.specs.Box.{bayCount, boxLength, stretchOf, present, Call, admit, release, tick, save, restore, forget, service, panel, preview, callOf}
+use Rattle.box_calls.specs.Box.{bayCount, boxLength, stretchOf, present, Call, admit, release, tick, save, restore, forget, service, panel, preview, ledger, newYear, callOf}
 use Rattle.box_calls.specs.Lists.{Request, afterCall, boxAfter, Asked, admission, other, askedBy, asked, Answer, answerOf, answers}
 use Rattle.box_calls.specs.Claims.{SumAlike}
 use Rattle.box_theory.proofs.Bays.{onStretch, admittedAs, admission-by-number}
@@ -38,6 +38,8 @@ by-itself k s (forget name) o h = refl
 by-itself k s (service trace view) o h = refl
 by-itself k s (panel trace view) o h = refl
 by-itself k s (preview e u buffer) o h = refl
+by-itself k s (ledger totals) o h = refl
+by-itself k s newYear o h = refl
 
 module _ (bay : ℕ) (b : bay < bayCount) where
   record View (box : List ℕ) (xs : List Request) : Type 0 where
@@ -104,6 +106,8 @@ module _ (bay : ℕ) (b : bay < bayCount) where
     same-result (service trace view) h = ap (onStretch 0 (service trace view)) e
     same-result (panel trace view) h = ap (onStretch 0 (panel trace view)) e
     same-result (preview i u buffer) h = ap (onStretch 0 (preview i u buffer)) e
+    same-result (ledger totals) h = ap (onStretch 0 (ledger totals)) e
+    same-result newYear h = ap (onStretch 0 newYear) e
 
     pub by-sum : (c : Call) → SumAlike c box box′
         → (answerOf (callOf box bay c) ≡ answerOf (callOf box′ bay c))

@@ -15,6 +15,7 @@ pub mod Rounds
 pub mod BayRuns
 pub mod Instants
 pub mod Returns
+pub mod Years
 pub mod WrongBoxes
 pub mod WrongPositions
 pub mod Theorems

@@ -1,4 +1,4 @@
--- Save, forget and restore on a bay's stretch: turned down, or something behind a field is written there.
+-- Save, forget, restore and the new year on a bay's stretch: turned down, or something behind a field is written there.
 use Prim.Native.Nat.{ℕ, _+_, _≤_}
 use native.Mathlib.Omega.{arith}
 use mathlib.Core.Path.{_≡_, refl, sym, ap, _∙_}
@@ -16,9 +16,11 @@ use Rattle.parts.proofs.Parts.{put-slot, length-put}
 use Rattle.positions.specs.Table.{tableLength, lookup, Kept, kept, numberKept, tableKept, saveOf, forgetOf}
 use Rattle.positions.proofs.Theorems.{save-number, forget-number, save-refused, forget-refused}
 use Rattle.positions.proofs.TableLaws.{save-sized, forget-sized}
+use Rattle.ledgers.specs.Ledgers.{ledgerLength, cleared}
+use Rattle.ledgers.proofs.Theorems.{cleared-sized}
 use Rattle.box_calls.specs.Called.{Called, called, number, memoryAfter}
-use Rattle.box_calls.specs.Stretch.{stateAt, positionsAt, stretchLength, stateIn, positionsIn}
-use Rattle.box_calls.specs.BayCalls.{positionsKept, restored, baySaveOf, bayForgetOf, bayRestoreOf}
+use Rattle.box_calls.specs.Stretch.{stateAt, positionsAt, bayLength, stretchLength, stateIn, positionsIn}
+use Rattle.box_calls.specs.BayCalls.{positionsKept, restored, baySaveOf, bayForgetOf, bayRestoreOf, bayNewYearOf}
 
 pub data Moved (from : ℕ) (s : List ℕ) (o : Called) : Type 0 where
   refused : (n : ℕ) → 15 ≤ n → o ≡ called n s [] → Moved from s o
@@ -91,3 +93,13 @@ module _ (s : List ℕ) (name : ℕ) where
       go none = refused 15 (omega arith) refl
       go (some labels) =
           stored stateAt stateLength (stateRecord 1 labels) (omega arith) (omega arith) (λ z. state-sized 1 labels) refl
+
+-- the ledger is behind what a release clears
+pub year-moved : (s : List ℕ) → Moved bayLength s (bayNewYearOf s)
+unfolding bayNewYearOf
+year-moved s = stored bayLength ledgerLength cleared (omega arith) (omega arith) (λ z. cleared-sized) refl
+
+-- what is behind the one is behind the other
+pub further : {from less : ℕ} {s : List ℕ} {o : Called} → less ≤ from → Moved from s o → Moved less s o
+further l (refused n d e) = refused n d e
+further l (stored at n bytes low high z e) = stored at n bytes (omega arith) high z e

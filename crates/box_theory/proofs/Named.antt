@@ -21,7 +21,7 @@ use Rattle.positions.proofs.Theorems as table
 use Rattle.positions.proofs.Theorems.{cleared-agrees, save-agrees, forget-agrees, lookup-zeros}
 use Rattle.box_calls.specs.Called.{called, number, memoryAfter}
 use Rattle.box_calls.specs.Stretch.{stateAt, lengthIn, isEmpty, sequenceIn, stateIn, positionsIn}
-use Rattle.box_calls.specs.Box.{bayCount, boxLength, emptyBox, stretchOf, present, Call, admit, release, tick, save, restore, forget, service, panel, preview, buffers, bayCall, isFor, callOf}
+use Rattle.box_calls.specs.Box.{bayCount, boxLength, emptyBox, stretchOf, present, Call, admit, release, tick, save, restore, forget, service, panel, preview, ledger, newYear, buffers, bayCall, isFor, callOf}
 use Rattle.box_calls.specs.Lists.{Request, afterCall, boxAfter}
 use Rattle.box_calls.specs.Shares.{Sendable, AllSendable, none, each}
 use Rattle.box_calls.specs.Positions.{changedBy, savedIn, NoneKnown}
@@ -104,6 +104,8 @@ agrees-by k s v (forget name) r i n ps a = forget-agrees (positionsIn s) ps a na
 agrees-by k s v (service trace view) r i n ps a = a
 agrees-by k s v (panel trace view) r i n ps a = a
 agrees-by k s v (preview e u buffer) r i n ps a = a
+agrees-by k s v (ledger totals) r i n ps a = a
+agrees-by k s v newYear r i n ps a = a
 
 module _ (bay : ℕ) (b : bay < bayCount) where
   abbrev Same : List ℕ → List Position → Type 0

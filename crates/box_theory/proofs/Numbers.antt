@@ -10,31 +10,22 @@ use lib.ListN.{length}
 use lib.Dec.{leb}
 use borrow.Author.Tests.{eq-eqb, ne-eqb, eqb-true, eqb-false, le-leb, lt-leb, leb-true, leb-false}
 use Rattle.sequence.specs.Check.{Checked, sound, bad, checked, numberOf, checkOf}
-use Rattle.sequence.specs.Rows.{rank}
 use Rattle.sequence.proofs.Rows.{check-by-rows, row-rank}
-use Rattle.demands.specs.TickRows.{TickRow, row-1, row-2-to-10, row-11, row-12}
 use Rattle.demands.proofs.Sequence.{accepted}
-use Rattle.demands.proofs.Demand1.{demand-1}
 use Rattle.box_calls.specs.Called.{called, number}
 use Rattle.box_calls.specs.Stretch.{stretchLength, lengthIn, isEmpty, sequenceIn, readBackIn, stateIn, Terms, filled}
 use Rattle.box_calls.specs.BayCalls.{sharedCeiling, byCheck, bayReleaseOf, bayAdmitOf}
-use Rattle.box_calls.specs.Box.{bayCount, boxLength, stretchOf, present, Call, admit, release, tick, save, restore, forget, service, panel, preview, buffers, bayCall, isFor, callOf}
+use Rattle.box_calls.specs.Box.{bayCount, boxLength, stretchOf, present, Call, admit, release, tick, save, restore, forget, service, panel, preview, ledger, newYear, buffers, bayCall, isFor, callOf}
 use Rattle.box_calls.specs.BayRuns.{paperBuffer}
 use Rattle.box_calls.specs.Claims.{NotThere, Thirteen, NoBox}
-use Rattle.box_theory.proofs.Moves.{moved-not-13, save-moved, forget-moved, restore-moved}
+use Rattle.box_theory.proofs.Moves.{moved-not-13, save-moved, forget-moved, restore-moved, year-moved}
 use Rattle.box_theory.proofs.Bays.{ceilingFor, admit-by-sum, onStretch}
-use Rattle.box_theory.proofs.Ticks.{tick-number}
-use Rattle.box_theory.proofs.Readers.{service-reads, panel-reads}
-use Rattle.box_theory.proofs.Previews.{preview-not-13}
+use Rattle.box_theory.proofs.Ticks.{own-below, tick-number}
+use Rattle.box_theory.proofs.Readers.{service-reads, panel-reads, ledger-reads}
+use Rattle.box_theory.proofs.Previews.{preview-not}
 use Rattle.box_theory.proofs.Stretches.{no-bay, other-box, stretch-sized, own}
 
 -- ---- the numbers of a call on a stretch
-tick-range : {sequence : List ℕ} {readBack : ℕ} {state answer : List ℕ} (k : ℕ) → TickRow sequence readBack state answer k → rank k ≤ rank 12
-tick-range k (row-1 x) = omega arith
-tick-range {sequence} {readBack} k (row-2-to-10 r) = omega (arith, row-rank sequence readBack k r)
-tick-range k (row-11 s m) = omega arith
-tick-range k (row-12 e) = omega arith
-
 -- a sequence that is turned down, by its row
 bad-number : (k : ℕ) (s : List ℕ) (t : Terms) → checkOf (t .sequence) (t .readBack) ≢ 0
     → number (bayAdmitOf k s t) ≡ checkOf (t .sequence) (t .readBack)
@@ -74,15 +65,16 @@ bay-not-13 k (admit t) s l n =
     go false h = omega arith
 bay-not-13 k release s l n = omega arith
 bay-not-13 k (tick e answer trace) s l n =
-    let rows = demand-1 .tick-by-rows (sequenceIn s) (stateIn s) e (readBackIn s) (paperBuffer trace answer) in
-    let r = rows .refusal 13 (λ z. omega arith) .0 (sym (tick-number s l e answer trace) ∙ n) .0 in
-    omega (arith, tick-range 13 r)
+    own-below (sequenceIn s) (stateIn s) e (readBackIn s) (paperBuffer trace answer) 13 (λ z. omega arith) (omega arith)
+    (sym (tick-number s l e answer trace (λ y. omega arith)) ∙ n)
 bay-not-13 k (save name) s l n = moved-not-13 (save-moved s name) n
 bay-not-13 k (restore name) s l n = moved-not-13 (restore-moved s name) n
 bay-not-13 k (forget name) s l n = moved-not-13 (forget-moved s name) n
 bay-not-13 k (service trace view) s l n = omega (arith, service-reads s trace view .low)
 bay-not-13 k (panel trace view) s l n = omega (arith, panel-reads s trace view .low)
-bay-not-13 k (preview e u buffer) s l n = preview-not-13 s e u buffer n
+bay-not-13 k (preview e u buffer) s l n = preview-not s e u buffer 13 (omega arith) (λ y. omega arith) n
+bay-not-13 k (ledger totals) s l n = omega (arith, ledger-reads s totals .low)
+bay-not-13 k newYear s l n = moved-not-13 (year-moved s) n
 
 -- ---- a bay that is not there for a call
 not-true : (b : Bool) → not b ≡ false → b ≡ true
@@ -102,6 +94,8 @@ not-there (forget name) s = is-empty s
 not-there (service trace view) s = is-empty s
 not-there (panel trace view) s = is-empty s
 not-there (preview e u buffer) s = is-empty s
+not-there (ledger totals) s = (true≢false, λ h. absurd h)
+not-there newYear s = (true≢false, λ h. absurd h)
 
 pub thirteen : Thirteen callOf
 thirteen box z bay c =

@@ -20,20 +20,23 @@ use Rattle.numbers.proofs.Bytes.{length-leBytes, le-round-trip}
 use Rattle.states.specs.StateRecord.{stateLength, stateRecord, phaseIn, labelsIn, encodeState, Recorded}
 use Rattle.states.proofs.StateLaws.{state-sized}
 use Rattle.parts.specs.Parts.{put, zeros}
-use Rattle.parts.proofs.Parts.{slot-put, put-behind}
+use Rattle.parts.proofs.Parts.{slot-put, put-before, put-behind}
+use Rattle.ledgers.specs.Ledgers as Ledgers
+use Rattle.ledgers.specs.Ledgers.{ledgerLength}
+use Rattle.ledgers.proofs.Theorems.{cleared-sized}
 use Rattle.positions.specs.Table.{tableLength, lookup, Kept, kept, numberKept, tableKept, saveOf, forgetOf, Formed}
 use Rattle.positions.proofs.Theorems.{lookup-saved, lookup-others-saved, lookup-forgotten, lookup-others-forgotten, lookup-zeros, formed-zeros, formed-saved, formed-forgotten, save-refused}
 use Rattle.positions.proofs.TableLaws.{save-sized, forget-sized}
 use Rattle.demands.proofs.Sequence.{accepted, same-statement}
 use Rattle.box_calls.specs.Called.{Called, called, number, memoryAfter}
-use Rattle.box_calls.specs.Stretch.{stateAt, countAt, positionsAt, stretchLength, stateIn, positionsIn, Terms}
-use Rattle.box_calls.specs.BayCalls.{positionsKept, restored, bayTickOf, bayReleaseOf, bayAdmitOf, baySaveOf, bayForgetOf, bayRestoreOf}
-use Rattle.box_calls.specs.Box.{Call, admit, release, tick, save, restore, forget, service, panel, preview, bayCall}
+use Rattle.box_calls.specs.Stretch.{stateAt, countAt, positionsAt, bayLength, stretchLength, stateIn, positionsIn, Terms}
+use Rattle.box_calls.specs.BayCalls.{positionsKept, restored, bayTickOf, bayReleaseOf, bayAdmitOf, baySaveOf, bayForgetOf, bayRestoreOf, bayNewYearOf}
+use Rattle.box_calls.specs.Box.{Call, admit, release, tick, save, restore, forget, service, panel, preview, ledger, newYear, bayCall}
 use Rattle.box_calls.specs.Shares.{Sendable}
 use Rattle.box_fields.proofs.Fields.{slot-vacated, filled-zeros}
 use Rattle.box_theory.proofs.Moves as moves
-use Rattle.box_theory.proofs.Ticks.{next, length-stepped, Ticked, down, instant, ticked}
-use Rattle.box_theory.proofs.Readers.{service-reads, panel-reads}
+use Rattle.box_theory.proofs.Ticks.{next, entered, length-entered, before-ledger, Ticked, down, full, instant, ticked}
+use Rattle.box_theory.proofs.Readers.{service-reads, panel-reads, ledger-reads}
 use Rattle.box_theory.proofs.Previews.{preview-stays}
 use Rattle.box_theory.proofs.Bays.{ceilingFor, bounds, Admission, turned-down, taken, admission, bay-refused}
 use Rattle.box_theory.proofs.Standing.{Standing, put-stands}
@@ -49,6 +52,8 @@ tableBy (forget name) s = tableKept (forgetOf name (positionsIn s))
 tableBy (service trace view) s = positionsIn s
 tableBy (panel trace view) s = positionsIn s
 tableBy (preview e u buffer) s = positionsIn s
+tableBy (ledger totals) s = positionsIn s
+tableBy newYear s = positionsIn s
 
 module _ (k : ℕ) (s : List ℕ) (z : length s ≡ stretchLength) where
   kept-table : (o : Kept) → length (tableKept o) ≡ tableLength → positionsIn (memoryAfter (positionsKept s o)) ≡ tableKept o
@@ -59,7 +64,7 @@ module _ (k : ℕ) (s : List ℕ) (z : length s ≡ stretchLength) where
   moved-table bytes sized = put-behind stateAt stateLength bytes s (omega arith) sized positionsAt tableLength (omega arith)
 
   pub table-after : (c : Call) → number (bayCall k c s) ≡ 0 → positionsIn (memoryAfter (bayCall k c s)) ≡ tableBy c s
-  unfolding bayReleaseOf baySaveOf bayRestoreOf bayForgetOf
+  unfolding bayReleaseOf baySaveOf bayRestoreOf bayForgetOf bayNewYearOf
   table-after (admit t) n = go (admission k s t)
     where
       go : Admission k s t (bayAdmitOf k s t) → positionsIn (memoryAfter (bayAdmitOf k s t)) ≡ zeros tableLength
@@ -71,13 +76,15 @@ module _ (k : ℕ) (s : List ℕ) (z : length s ≡ stretchLength) where
   table-after (tick e answer trace) n = go (ticked s z e answer trace)
     where
       go : Ticked s z e answer trace (bayTickOf s e answer trace) → positionsIn (memoryAfter (bayTickOf s e answer trace)) ≡ positionsIn s
-      go (down m y q w) = ap (λ (o : Called). positionsIn (memoryAfter o)) w
-      go (instant state left l j q w) =
-          let k = length-stepped s z e answer trace state l in
+      go (down m y d q w) = ap (λ (o : Called). positionsIn (memoryAfter o)) w
+      go (full q p w) = ap (λ (o : Called). positionsIn (memoryAfter o)) w
+      go (instant state left l j p q w) =
+          let k = length-entered s z e answer trace p state l in
           let count = leBytes numberBytes (next s z e answer trace) in
           ap (λ (o : Called). positionsIn (memoryAfter o)) w
-          ∙ put-behind countAt numberBytes count (put stateAt stateLength state s) (omega arith) (length-leBytes numberBytes (next s z e answer trace))
+          ∙ put-behind countAt numberBytes count (entered s z e answer trace state) (omega arith) (length-leBytes numberBytes (next s z e answer trace))
           positionsAt tableLength (omega arith)
+          ∙ before-ledger s z e answer trace p state l positionsAt tableLength (omega arith)
           ∙ moved-table state l
   table-after (save name) n = go (eqb (phaseIn (stateIn s)) 1) n
     where
@@ -99,6 +106,8 @@ module _ (k : ℕ) (s : List ℕ) (z : length s ≡ stretchLength) where
   table-after (service trace view) n = ap positionsIn (service-reads s trace view .left)
   table-after (panel trace view) n = ap positionsIn (panel-reads s trace view .left)
   table-after (preview e u buffer) n = ap positionsIn (preview-stays s e u buffer)
+  table-after (ledger totals) n = ap positionsIn (ledger-reads s totals .left)
+  table-after newYear n = put-before bayLength ledgerLength Ledgers.cleared s (omega arith) cleared-sized positionsAt tableLength (omega arith)
 
 -- ---- the numbers of the three calls
 module _ (s : List ℕ) (name : ℕ) where
@@ -215,6 +224,8 @@ module _ (t : Terms) (s : List ℕ) (h : Standing t s) where
     positioned-by k (service trace view) r n = v
     positioned-by k (panel trace view) r n = v
     positioned-by k (preview e u buffer) r n = v
+    positioned-by k (ledger totals) r n = v
+    positioned-by k newYear r n = v
 
     -- over a call, turned down or not
     pub positioned-after : (k : ℕ) (c : Call) → Sendable c → Positioned t (positionsIn (memoryAfter (bayCall k c s)))

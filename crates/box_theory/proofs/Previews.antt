@@ -1,5 +1,5 @@
 -- A preview of a bay: the stretch stays, and so do the lent bytes where it is turned down.
-use Prim.Native.Nat.{ℕ, _≤_}
+use Prim.Native.Nat.{ℕ, _≤_, _<_}
 use native.Mathlib.Omega.{arith}
 use mathlib.Core.Path.{_≡_, refl, sym, ap, _∙_}
 use mathlib.Core.Logic.{_≢_, ⊎-elim}
@@ -40,9 +40,9 @@ module _ (s : List ℕ) (e unknown : ℕ) (buffer : List ℕ) where
       ap (stretchKept s) (lent-left (sequenceIn s) (stateIn s) (readBackIn s) e unknown buffer (λ z. h (kept-number s o ∙ z)))
       ∙ ap (λ (n : ℕ). called n s (buffer ∷ [])) (sym (kept-number s o))
 
-  pub preview-not-13 : number (bayPreviewOf s e unknown buffer) ≢ 13
-  preview-not-13 h =
-      ⊎-elim (λ l. omega (arith, l, ap rank (sym preview-number ∙ h))) (λ l. omega (arith, preview-number))
+  pub preview-not : (k : ℕ) → rank 12 < rank k → k ≢ 17 → number (bayPreviewOf s e unknown buffer) ≢ k
+  preview-not k l n h =
+      ⊎-elim (λ r. omega (arith, r, ap rank (sym preview-number ∙ h))) (λ r. n (sym h ∙ preview-number ∙ r))
       (preview-range (sequenceIn s) (stateIn s) (readBackIn s) e unknown buffer)
 
   pub preview-shown : number (bayPreviewOf s e unknown buffer) ≡ 0

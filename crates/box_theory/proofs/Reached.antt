@@ -11,15 +11,19 @@ use lib.ListN.{length}
 use borrow.Author.Tests.{eq-eqb, ne-eqb}
 use Rattle.numbers.specs.Bytes.{leNumber}
 use Rattle.sequence.specs.Check.{checkOf}
-use Rattle.parts.specs.Parts.{zeros}
+use Rattle.parts.specs.Parts.{slot, zeros}
+use Rattle.parts.proofs.Parts.{length-put, put-before}
+use Rattle.ledgers.specs.Ledgers as Ledgers
+use Rattle.ledgers.specs.Ledgers.{ledgerLength}
+use Rattle.ledgers.proofs.Theorems.{cleared-sized}
 use Rattle.parts.proofs.Zeros.{length-zeros, slot-zeros, zeros-number}
 use Rattle.positions.specs.Table.{tableLength}
 use Rattle.demands.specs.Demands as demands
 use Rattle.demands.proofs.Sequence.{accepted}
 use Rattle.box_calls.specs.Called.{called, number, memoryAfter}
-use Rattle.box_calls.specs.Stretch.{positionsAt, stretchLength, lengthIn, sequenceIn, readBackIn, ceilingIn, positionsIn, partOf, vacated, Terms, filled}
-use Rattle.box_calls.specs.BayCalls.{sharedCeiling, bayReleaseOf, bayAdmitOf}
-use Rattle.box_calls.specs.Box.{bayCount, boxLength, emptyBox, stretchOf, present, Call, admit, release, tick, save, restore, forget, service, panel, preview, buffers, bayCall, isFor, callOf}
+use Rattle.box_calls.specs.Stretch.{lengthBytes, positionsAt, bayLength, stretchLength, lengthIn, sequenceIn, readBackIn, ceilingIn, positionsIn, partOf, vacated, withLedger, Terms, filled}
+use Rattle.box_calls.specs.BayCalls.{sharedCeiling, bayReleaseOf, bayAdmitOf, bayNewYearOf}
+use Rattle.box_calls.specs.Box.{bayCount, boxLength, emptyBox, stretchOf, present, Call, admit, release, tick, save, restore, forget, service, panel, preview, ledger, newYear, buffers, bayCall, isFor, callOf}
 use Rattle.box_calls.specs.Lists.{Request, boxAfter}
 use Rattle.box_calls.specs.Shares.{Sendable, AllSendable, none, each}
 use Rattle.box_calls.specs.Claims.{ceilingHeld}
@@ -28,9 +32,9 @@ use Rattle.box_theory.proofs.Sums.{sumOf, one-changed}
 use Rattle.box_theory.proofs.Moves.{save-moved, forget-moved}
 use Rattle.box_theory.proofs.Bays.{ceilingFor, bounds, passed, Admission, turned-down, taken, admission, onStretch}
 use Rattle.box_theory.proofs.Ticks.{tick-number}
-use Rattle.box_theory.proofs.Readers.{service-reads, panel-reads}
+use Rattle.box_theory.proofs.Readers.{service-reads, panel-reads, ledger-reads}
 use Rattle.box_theory.proofs.Previews.{preview-stays}
-use Rattle.box_theory.proofs.Standing.{Standing, not-empty, sequence-held, behind-stands, inner-is, tick-told, tick-stands, filled-stands}
+use Rattle.box_theory.proofs.Standing.{Standing, not-empty, sequence-held, put-behind-state, behind-stands, inner-is, tick-told, tick-stands, filled-stands}
 use Rattle.box_theory.proofs.Positions.{Positioned, positioned-zeros, positioned-after, restore-stands}
 use Rattle.box_theory.proofs.Stretches.{Case, aside, inside, cases, no-bay, own, own-stretch, same-length, others-stay}
 
@@ -98,6 +102,29 @@ module _ (k : ℕ) (s : List ℕ) (u : k ≤ sharedCeiling) (v : Sound s) where
         share = omega (arith, part-held t s (f .1), part-held t after g);
       }
 
+  -- the ledger's calls take an empty bay too
+  year-step : Step k s (memoryAfter (bayNewYearOf s))
+  unfolding bayNewYearOf
+  year-step = go v
+    where
+      before : (i m : ℕ) → i + m ≤ bayLength → slot i m (withLedger Ledgers.cleared s) ≡ slot i m s
+      before i m l = let z = sized s v in put-before bayLength ledgerLength Ledgers.cleared s (omega arith) cleared-sized i m l
+
+      go : Sound s → Step k s (withLedger Ledgers.cleared s)
+      go (vacant z e c) =
+          let e′ : lengthIn (withLedger Ledgers.cleared s) ≡ 0 = ap leNumber (before 0 lengthBytes (omega arith)) ∙ e in
+          record {
+            sound = vacant (length-put bayLength ledgerLength Ledgers.cleared s (omega arith) cleared-sized ∙ z) e′
+                (before positionsAt tableLength (omega arith) ∙ c);
+            share = omega (arith, part-vacant (withLedger Ledgers.cleared s) e′);
+          }
+      go (held t h q) =
+          let g = put-behind-state t s h bayLength ledgerLength Ledgers.cleared (omega arith) (omega arith) cleared-sized .0 in
+          record {
+            sound = held t g (subst (Positioned t) (sym (before positionsAt tableLength (omega arith))) q);
+            share = omega (arith, part-held t s h, part-held t (withLedger Ledgers.cleared s) g);
+          }
+
   bay-step : (c : Call) → Sendable c → isFor c s ≡ true → Step k s (memoryAfter (bayCall k c s))
   unfolding bayReleaseOf
   bay-step (admit t) r i = admit-step t r
@@ -112,6 +139,8 @@ module _ (k : ℕ) (s : List ℕ) (u : k ≤ sharedCeiling) (v : Sound s) where
   bay-step (service trace view) r i = filled-step (service trace view) r i (λ t h q. subst (Standing t) (sym (service-reads s trace view .left)) h)
   bay-step (panel trace view) r i = filled-step (panel trace view) r i (λ t h q. subst (Standing t) (sym (panel-reads s trace view .left)) h)
   bay-step (preview e u buffer) r i = filled-step (preview e u buffer) r i (λ t h q. subst (Standing t) (sym (preview-stays s e u buffer)) h)
+  bay-step (ledger totals) r i = subst (Step k s) (sym (ledger-reads s totals .left)) stays
+  bay-step newYear r i = year-step
 
   call-step : (c : Call) → Sendable c → Step k s (memoryAfter (onStretch k c s))
   call-step c r = go (isFor c s) refl
@@ -237,4 +266,4 @@ no-11 box h bay e answer trace n =
     go b true i m =
         let f = filled-bay s (h .sound bay b) i in
         tick-told (f .0) s (f .1) e answer trace .not-11
-        (sym (ap demands.number (inner-is (f .0) s (f .1) e answer trace)) ∙ sym (tick-number s (f .1 .holds .sized) e answer trace) ∙ m)
+        (sym (ap demands.number (inner-is (f .0) s (f .1) e answer trace)) ∙ sym (tick-number s (f .1 .holds .sized) e answer trace (λ y. omega arith)) ∙ m)

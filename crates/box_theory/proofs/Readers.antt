@@ -1,4 +1,4 @@
--- The readers of a record on a bay's stretch: they leave it, and show what they show or leave the view.
+-- The readers of a record and of the ledger on a bay's stretch: they leave it, and show what they show or leave the view.
 use Prim.Native.Nat.{ℕ, _≤_}
 use native.Mathlib.Omega.{arith}
 use native.Mathlib.Decide.{ℕ-discrete}
@@ -11,8 +11,9 @@ use lib.Dec.{eqb}
 use borrow.Author.Tests.{eq-eqb, ne-eqb}
 use Rattle.recordings.specs.Record.{recordLength, panelLength, panelOf}
 use Rattle.box_calls.specs.Called.{Called, called, number, memoryAfter}
-use Rattle.box_calls.specs.Stretch.{serviceOnlyIn}
-use Rattle.box_calls.specs.BayCalls.{showing, bayServiceOf, bayPanelOf}
+use Rattle.ledgers.specs.Ledgers.{readingLength, readingOf}
+use Rattle.box_calls.specs.Stretch.{serviceOnlyIn, ledgerIn}
+use Rattle.box_calls.specs.BayCalls.{showing, bayServiceOf, bayPanelOf, bayLedgerOf}
 
 pub record Reads (s shown view : List ℕ) (o : Called) : Type 0 where
   pub left : memoryAfter o ≡ s
@@ -20,12 +21,12 @@ pub record Reads (s shown view : List ℕ) (o : Called) : Type 0 where
   pub refused : number o ≢ 0 → o ≡ called (number o) s (view ∷ [])
   pub low : number o ≤ 1
 
+reads-if : (s shown view : List ℕ) (b : Bool) → Reads s shown view (cond b (called 0 s (shown ∷ [])) (called 1 s (view ∷ [])))
+reads-if s shown view true = record { left = refl; shows = λ n. refl; refused = λ n. absurd (n refl); low = omega arith }
+reads-if s shown view false = record { left = refl; shows = λ n. absurd (omega arith); refused = λ n. refl; low = omega arith }
+
 reads : (s shown : List ℕ) (viewLength : ℕ) (trace view : List ℕ) → Reads s shown view (showing s shown viewLength trace view)
-reads s shown viewLength trace view = go (eqb (length trace) recordLength && eqb (length view) viewLength)
-  where
-    go : (b : Bool) → Reads s shown view (cond b (called 0 s (shown ∷ [])) (called 1 s (view ∷ [])))
-    go true = record { left = refl; shows = λ n. refl; refused = λ n. absurd (n refl); low = omega arith }
-    go false = record { left = refl; shows = λ n. absurd (omega arith); refused = λ n. refl; low = omega arith }
+reads s shown viewLength trace view = reads-if s shown view (eqb (length trace) recordLength && eqb (length view) viewLength)
 
 -- the numbers, by the two lengths
 abbrev ByLengths : (viewLength : ℕ) (trace view : List ℕ) → Called → Type 0
@@ -58,3 +59,17 @@ service-reads s trace view = reads s trace recordLength trace view
 pub panel-reads : (s trace view : List ℕ) → Reads s (panelOf (serviceOnlyIn s) trace) view (bayPanelOf s trace view)
 unfolding bayPanelOf
 panel-reads s trace view = reads s (panelOf (serviceOnlyIn s) trace) panelLength trace view
+
+-- ---- the ledger
+pub ledger-reads : (s totals : List ℕ) → Reads s (readingOf (ledgerIn s)) totals (bayLedgerOf s totals)
+unfolding bayLedgerOf
+ledger-reads s totals = reads-if s (readingOf (ledgerIn s)) totals (eqb (length totals) readingLength)
+
+pub ledger-lengths : (s totals : List ℕ)
+    → ((number (bayLedgerOf s totals) ≡ 0) ↔ (length totals ≡ readingLength)) × (number (bayLedgerOf s totals) ≢ 0 → number (bayLedgerOf s totals) ≡ 1)
+unfolding bayLedgerOf
+ledger-lengths s totals =
+    elim (ℕ-discrete (length totals) readingLength) [
+      | yes i ↦ rw (eq-eqb (length totals) readingLength i) ((λ n. i, λ n. refl), λ n. absurd (n refl))
+      | no i ↦ rw (ne-eqb (length totals) readingLength i) ((λ n. absurd (omega arith), λ n. absurd (i n)), λ n. refl)
+    ]

@@ -14,13 +14,16 @@ use Rattle.states.specs.StateRecord.{encodeState}
 use Rattle.states.proofs.StateLaws.{length-state}
 use Rattle.demands.specs.Demands.{report}
 use Rattle.demands.specs.Paper.{paper}
-use Rattle.demands.proofs.Sequence.{same-statement}
+use Rattle.demands.specs.Deliveries.{paperDelivered}
+use Rattle.recordings.specs.Recording.{callOn}
+use Rattle.demands.proofs.Sequence.{Accepted, same-statement}
 use Rattle.positions.specs.Table.{lookup}
 use Rattle.box_calls.specs.Called.{number, memoryAfter}
 use Rattle.box_calls.specs.Stretch.{sequenceIn, readBackIn, serviceOnlyIn, stateIn, positionsIn, Terms, terms}
 use Rattle.box_calls.specs.Box.{bayCount, stretchOf, restore, callOf}
 use Rattle.box_calls.specs.Lists.{Request}
-use Rattle.box_calls.specs.BayRuns.{ticksTo, tickOutcomes, Onwards}
+use Rattle.box_calls.specs.BayRuns.{ticksTo, tickOutcomes, tickLitres, Onwards}
+use Rattle.box_calls.specs.Instants.{inputsIn, instantsIn}
 use Rattle.box_fields.proofs.Fields.{Holds, moved-state}
 use Rattle.box_theory.proofs.Bays.{ceilingFor, bounds}
 use Rattle.box_theory.proofs.Standing.{Standing, sequence-held, put-stands}
@@ -28,7 +31,7 @@ use Rattle.box_theory.proofs.Positions.{Positioned}
 use Rattle.box_theory.proofs.Stretches.{answered-inside, same-length}
 use Rattle.box_theory.proofs.Reached.{filled-bay, Kept}
 use Rattle.box_theory.proofs.Named.{answered-there, comes-back}
-use Rattle.box_theory.proofs.BayRuns.{Here, Run, runs, agrees-from}
+use Rattle.box_theory.proofs.BayRuns.{Here, Run, runs, agrees-from, instants-agree, litres-agree}
 
 -- what a stretch holds, as an admission fixes it
 abbrev pub termsIn : List ℕ → Terms
@@ -83,15 +86,33 @@ module _ (box : List ℕ) (h : Kept box) (bay name : ℕ) (back : number (callOf
         at-labels = refl;
       }
 
-  pub agrees : (p : Statement) → Spells (sequenceIn s) p → NoSetpause p → (xs : List Request) → Onwards bay again xs
-      → map report (tickOutcomes bay again xs) ≡ paper (Rewriting.waits (expand (program (readBackIn s) p) (returned .labels))) (ticksTo bay xs)
-  agrees p q plain xs k =
-      let a = returned .here .1 .accepted in
-      let same : p ≡ a .statement = same-statement (sequenceIn s) p (a .statement) q (a .spelled) in
-      let w = Rewriting.waits (expand (program (readBackIn s) (a .statement)) (returned .labels)) in
-      rw same
-      (agrees-from bay is-bay (termsIn s) again (returned .here) xs k (subst NoSetpause same plain) w
-      (subst (λ (st : State). TermOf (program (readBackIn s) (a .statement)) st w) (sym (returned .at-labels)) refl))
+  -- the paper that starts with the expansion of the labels
+  module _ (p : Statement) (q : Spells (sequenceIn s) p) (plain : NoSetpause p) (xs : List Request) (k : Onwards bay again xs) where
+    abbrev a : Accepted (sequenceIn s) (readBackIn s)
+    a = returned .here .1 .accepted
+
+    same : p ≡ returned .here .1 .accepted .statement
+    same = same-statement (sequenceIn s) p (a .statement) q (a .spelled)
+
+    abbrev w : Rewriting
+    w = Rewriting.waits (expand (program (readBackIn s) p) (returned .labels))
+
+    starts : TermOf (program (readBackIn s) (returned .here .1 .accepted .statement)) (returned .here .1 .state)
+        (Rewriting.waits (expand (program (readBackIn s) p) (returned .labels)))
+    starts =
+        subst (λ (st : State). TermOf (program (readBackIn s) (a .statement)) st w) (sym (returned .at-labels))
+        (ap (λ (r : Statement). expand (program (readBackIn s) r) (returned .labels)) same)
+
+    pub agrees : (map report (tickOutcomes bay again xs) ≡ paper (Rewriting.waits (expand (program (readBackIn s) p) (returned .labels))) (ticksTo bay again xs))
+        × (map report (instantsIn callOf bay again xs)
+        ≡ paper (Rewriting.waits (expand (program (readBackIn s) p) (returned .labels))) (map callOn (inputsIn callOf bay again xs)))
+        × ((f : ℕ) → tickLitres bay f again xs ≡ paperDelivered f (Rewriting.waits (expand (program (readBackIn s) p) (returned .labels))) (ticksTo bay again xs))
+    agrees =
+        let plain′ = subst NoSetpause same plain in (
+          agrees-from bay is-bay (termsIn s) again (returned .here) xs k plain′ w starts,
+          instants-agree bay is-bay (termsIn s) again (returned .here) xs k plain′ w starts,
+          litres-agree bay is-bay (termsIn s) again (returned .here) xs k plain′ w starts,
+        )
 
   pub run : (xs : List Request) → Onwards bay again xs → Run bay is-bay (termsIn s) again xs
   run = runs bay is-bay (termsIn s) again (returned .here)

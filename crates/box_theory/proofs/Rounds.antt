@@ -36,15 +36,15 @@ abbrev takenBy : Outcome → ℕ
 takenBy o = cond (eqb (demands.number o) 0) (takenIn (answerAfterwards o)) 0
 
 tick-taken : (s : List ℕ) (z : length s ≡ stretchLength) (e : ℕ) (answer trace : List ℕ)
-    → reactionsOf (bayTickOf s e answer trace) ≡ takenBy (ticks.inner s z e answer trace)
+    → reactionsOf (bayTickOf s e answer trace) ≤ takenBy (ticks.inner s z e answer trace)
 tick-taken s z e answer trace = go (ticks.ticked s z e answer trace)
   where
     go : ticks.Ticked s z e answer trace (bayTickOf s e answer trace)
-        → reactionsOf (bayTickOf s e answer trace) ≡ takenBy (ticks.inner s z e answer trace)
-    go (ticks.down n y q w) =
-        let none : (x : ℕ) → cond (eqb n 0) x 0 ≡ 0 = λ x. rw (ne-eqb n 0 y) in
-        ap reactionsOf w ∙ none (takenIn answer) ∙ sym (ap takenBy q ∙ none (takenIn (paperBuffer trace answer)))
-    go (ticks.instant state left l j q w) = ap reactionsOf w ∙ sym (ap takenBy q)
+        → reactionsOf (bayTickOf s e answer trace) ≤ takenBy (ticks.inner s z e answer trace)
+    go (ticks.down n y d q w) =
+        let none : (x : ℕ) → cond (eqb n 0) x 0 ≡ 0 = λ x. rw (ne-eqb n 0 y) in omega (arith, ap reactionsOf w, none (takenIn answer))
+    go (ticks.full q p w) = omega (arith, ap reactionsOf w)
+    go (ticks.instant state left l j p q w) = omega (arith, ap reactionsOf w, ap takenBy q)
 
 taken-below : (sequence state : List ℕ) (e readBack : ℕ) (answer : List ℕ)
     → takenBy (tickOf sequence state e readBack answer) ≤ ceilingOf readBack (checked sequence readBack)

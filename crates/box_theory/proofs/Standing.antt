@@ -27,9 +27,10 @@ use Rattle.demands.specs.Demands.{stateAfterwards, cleared}
 use Rattle.demands.proofs.Sequence.{Accepted, tick-at, tick-short, recorded-fresh, recorded-resumed}
 use Rattle.demands.proofs.Ceiling.{most}
 use Rattle.parts.proofs.Parts.{put-before}
-use Rattle.box_calls.specs.Called.{Called, memoryAfter}
-use Rattle.box_calls.specs.Stretch.{sequenceAt, stateAt, countAt, positionsAt, stretchLength, lengthIn, isEmpty, sequenceIn, stateIn, Terms, filled}
-use Rattle.box_calls.specs.BayCalls.{bayTickOf}
+use Rattle.ledgers.specs.Ledgers.{ledgerLength, added}
+use Rattle.box_calls.specs.Called.{Called, number, memoryAfter}
+use Rattle.box_calls.specs.Stretch.{sequenceAt, stateAt, countAt, positionsAt, bayLength, stretchLength, lengthIn, isEmpty, sequenceIn, stateIn, ledgerIn, Terms, filled}
+use Rattle.box_calls.specs.BayCalls.{delivering, bayTickOf}
 use Rattle.box_calls.specs.Box.{admit}
 use Rattle.box_calls.specs.Shares.{Sendable}
 use Rattle.box_calls.specs.BayRuns.{paperBuffer}
@@ -145,7 +146,7 @@ module _ (t : Terms) (s : List ℕ) (h : Standing t s) where
 -- ---- the tick of a bay that stands
 module _ (t : Terms) (s : List ℕ) (h : Standing t s) (e : ℕ) (answer trace : List ℕ) where
   abbrev Ticks : Called → Type 0
-  Ticks o = Standing t (memoryAfter o) × (stateIn (memoryAfter o) ≡ stateAfterwards (inner t s h e answer trace))
+  Ticks o = Standing t (memoryAfter o) × (number o ≢ 19 → stateIn (memoryAfter o) ≡ stateAfterwards (inner t s h e answer trace))
 
   pub tick-stands : Ticks (bayTickOf s e answer trace)
   tick-stands = go (ticks.ticked s (h .holds .sized) e answer trace)
@@ -154,18 +155,21 @@ module _ (t : Terms) (s : List ℕ) (h : Standing t s) (e : ℕ) (answer trace :
       z = h .holds .sized
 
       go : ticks.Ticked s (h .holds .sized) e answer trace (bayTickOf s e answer trace) → Ticks (bayTickOf s e answer trace)
-      go (ticks.down n y q w) =
-          subst Ticks (sym w) (h, sym (ap stateAfterwards q) ∙ ap stateAfterwards (inner-is t s h e answer trace))
-      go (ticks.instant state left l j q w) =
+      go (ticks.down n y d q w) =
+          subst Ticks (sym w) (h, λ m. sym (ap stateAfterwards q) ∙ ap stateAfterwards (inner-is t s h e answer trace))
+      go (ticks.full q p w) = subst Ticks (sym w) (h, λ m. absurd (m refl))
+      go (ticks.instant state left l j p q w) =
           let a : state ≡ stateAfterwards (inner t s h e answer trace) =
           sym (ap stateAfterwards q) ∙ ap stateAfterwards (inner-is t s h e answer trace) in
           let b = tick-told t s h e answer trace in
           let n : ℕ = ticks.next s z e answer trace in
-          let p : Standing t (put stateAt stateLength state s) = put-stands t s h (b .state) (b .recorded) state (a ∙ b .bytes) in
-          let k = put-behind-state t (put stateAt stateLength state s) p countAt numberBytes (leBytes numberBytes n) (omega arith) (omega arith)
-          (length-leBytes numberBytes n) in
+          let moved : Standing t (put stateAt stateLength state s) = put-stands t s h (b .state) (b .recorded) state (a ∙ b .bytes) in
+          let entered = put-behind-state t (put stateAt stateLength state s) moved bayLength ledgerLength (added (delivering s e) (ledgerIn s))
+          (omega arith) (omega arith) (ticks.new-sized s z e answer trace p state l) in
+          let k = put-behind-state t (ticks.entered s z e answer trace state) (entered .0) countAt numberBytes (leBytes numberBytes n)
+          (omega arith) (omega arith) (length-leBytes numberBytes n) in
           subst Ticks (sym w)
-          (k .0, k .1 ∙ moved-state t (ceilingFor t) (bounds t (h .accepted) .1) s (h .holds) state l ∙ a)
+          (k .0, λ m. k .1 ∙ entered .1 ∙ moved-state t (ceilingFor t) (bounds t (h .accepted) .1) s (h .holds) state l ∙ a)
 
 -- ---- a bay admitted
 pub cleared-fresh : cleared ≡ encodeState State.fresh

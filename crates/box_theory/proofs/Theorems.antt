@@ -1,9 +1,9 @@
--- The theorems about a box (02, items 8 to 10): of the definitions of the calls, which the code meets for all arguments.
+-- The theorems about a box (02, items 8 to 12): of the definitions of the calls, which the code meets for all arguments.
 use Prim.Native.Nat.{ℕ, _<_}
-use mathlib.Core.Path.{_≡_, refl, sym, _∙_}
+use mathlib.Core.Path.{_≡_, refl, sym, ap, _∙_}
 use mathlib.Core.Logic.{_≢_}
 use mathlib.Core.Option.{some}
-use mathlib.Core.List.{List, [], map, List·Memᴰ}
+use mathlib.Core.List.{List, [], _∷_, map, List·Memᴰ}
 use lib.ListN.{length}
 use Rattle.esterel.specs.Statement.{Statement}
 use Rattle.esterel.specs.Reaction.{Code, gives}
@@ -18,20 +18,23 @@ use Rattle.demands.specs.TickRows.{TickRow}
 use Rattle.demands.specs.Demands as demands
 use Rattle.demands.specs.Demands.{outcomes, cleared, report, StandsAt, Derived, Shows}
 use Rattle.demands.specs.Paper.{paper}
+use Rattle.demands.specs.Deliveries.{paperDelivered}
 use Rattle.recordings.specs.Record.{recordLength, panelLength}
-use Rattle.recordings.specs.Recording.{recordingOf}
+use Rattle.recordings.specs.Recording.{callOn, recordingOf}
 use Rattle.positions.specs.Names.{find}
 use Rattle.positions.specs.Table.{lookup}
-use Rattle.box_calls.specs.Called.{number, memoryAfter}
-use Rattle.box_calls.specs.Stretch.{sequenceIn, readBackIn, serviceOnlyIn, stateIn, positionsIn, Terms, terms}
-use Rattle.box_calls.specs.Box.{bayCount, boxLength, emptyBox, stretchOf, admit, release, tick, restore, forget, service, panel, callOf}
+use Rattle.ledgers.specs.Ledgers.{farmCount, readingLength, totalIn}
+use Rattle.box_calls.specs.Called.{called, number, memoryAfter}
+use Rattle.box_calls.specs.Stretch.{sequenceIn, readBackIn, serviceOnlyIn, stateIn, positionsIn, ledgerIn, Terms, terms}
+use Rattle.box_calls.specs.Box.{bayCount, boxLength, emptyBox, stretchOf, admit, release, tick, restore, forget, service, panel, ledger, callOf}
 use Rattle.box_calls.specs.Lists.{Request, boxAfter, asked, answers}
 use Rattle.box_calls.specs.Shares.{Sendable, AllSendable}
-use Rattle.box_calls.specs.BayRuns.{paperBuffer, ticksTo, outcomeOf, tickOutcomes, Onwards}
+use Rattle.box_calls.specs.BayRuns.{paperBuffer, ticksTo, outcomeOf, tickOutcomes, tickLitres, Onwards}
 use Rattle.box_calls.specs.Claims.{RefusalsLeave, OthersStay, Isolated, BySum, InBoxes, CeilingsStored, WithinCeiling, RoundsWithin, AdmitsBySum, GivesBack, Thirteen, NoBox, Fourteen, BoxDemands}
 use Rattle.box_calls.specs.Positions.{savedIn, PositionsSaved, PositionsValid, SaveNumbers, KnownOnly, ComesBack, LosesPositions, PositionDemands}
-use Rattle.box_calls.specs.Instants.{recordsIn, inputsIn, RecordIs, NumberedFromOne, ServiceOnlyFixed, ServiceShows, PanelShows, PanelsAlike, ReaderNumbers, RecordLength, RecordDemands}
+use Rattle.box_calls.specs.Instants.{recordsIn, inputsIn, instantsIn, RecordIs, NumberedFromOne, ServiceOnlyFixed, ServiceShows, PanelShows, PanelsAlike, ReaderNumbers, RecordLength, RecordDemands}
 use Rattle.box_calls.specs.Previews.{PreviewShows, PreviewNumbers}
+use Rattle.box_calls.specs.Years.{deliveredSince, TotalsExact, LedgerShows, YearBegins, LedgerNumbers, Nineteen, PreviewsNeverNineteen, LedgerDemands}
 use Rattle.box_calls.specs.WrongBoxes as wrong
 use Rattle.box_theory.proofs.WrongBoxes as refuted
 use Rattle.box_calls.specs.WrongPositions as slips
@@ -45,6 +48,7 @@ use Rattle.box_theory.proofs.BayRuns as runs
 use Rattle.box_theory.proofs.Named as named
 use Rattle.box_theory.proofs.Returns as returns
 use Rattle.box_theory.proofs.Instants as instants
+use Rattle.box_theory.proofs.Years as years
 
 -- ---- every box, whatever its bytes
 -- 'A refused call changes nothing in the box', nor in the buffers that it was lent
@@ -140,14 +144,21 @@ module _ (box : List ℕ) (bay : ℕ) (t : Terms) (small : Sendable (admit t)) (
     abbrev now : List ℕ
     now = boxAfter callOf from xs
 
-    pub bay-ticks : tickOutcomes bay from xs ≡ outcomes tickOf (t .sequence) (t .readBack) cleared (ticksTo bay xs)
+    -- 'In a bay a call answered 19 is no instant': the ticks are those of the list that the ledger does not turn down
+    pub bay-ticks : tickOutcomes bay from xs ≡ outcomes tickOf (t .sequence) (t .readBack) cleared (ticksTo bay from xs)
     bay-ticks = runs.bay-ticks box bay t small admitted xs k
 
-    -- demand 1: no tick of the list gives 11, and the number of the next is by the rows
+    -- '2 is there over the inputs of the ticks not turned down, in their order': the instants of the bay are those that the tick on its
+    -- own gives on these inputs, one after the other, and demand 2 is about each of them
+    pub instants-in-bay : instantsIn callOf bay from xs
+        ≡ outcomes tickOf (t .sequence) (t .readBack) cleared (map callOn (inputsIn callOf bay from xs))
+    instants-in-bay = runs.bay-instants box bay t small admitted xs k
+
+    -- demand 1: no tick of the list gives 11, and the number of the next, unless it is 19, is by the rows
     pub demand-1-in-bay : (o : Outcome) → List·Memᴰ o (tickOutcomes bay from xs) → demands.number o ≢ 11
     demand-1-in-bay = runs.run box bay t small admitted xs k .never-11
 
-    pub rows-in-bay : (e : ℕ) (answer trace : List ℕ)
+    pub rows-in-bay : (e : ℕ) (answer trace : List ℕ) → number (callOf now bay (tick e answer trace)) ≢ 19
         → ByRows (number (callOf now bay (tick e answer trace))) (TickRow (t .sequence) (t .readBack) (stateIn (stretchOf bay now)) (paperBuffer trace answer))
     rows-in-bay = runs.by-rows bay (runs.is-bay box bay t small admitted) t now (runs.run box bay t small admitted xs k .stands)
 
@@ -158,10 +169,21 @@ module _ (box : List ℕ) (bay : ℕ) (t : Terms) (small : Sendable (admit t)) (
         → Shows p e o c l p′ (outcomeOf bay trace (callOf now bay (tick e answer trace))))
     demand-2-in-bay = runs.shows-rules bay (runs.is-bay box bay t small admitted) t now (runs.run box bay t small admitted xs k .stands)
 
-    -- demand 3
+    -- demand 3, 'from an admission up to the first coming back to a position or the taking out': over the ticks, those turned down by
+    -- their row included, and over the inputs of the instants
     pub demand-3-in-bay : (p : Statement) → Spells (t .sequence) p → NoSetpause p
-        → map report (tickOutcomes bay from xs) ≡ paper (Rewriting.fresh (program (t .readBack) p)) (ticksTo bay xs)
+        → map report (tickOutcomes bay from xs) ≡ paper (Rewriting.fresh (program (t .readBack) p)) (ticksTo bay from xs)
     demand-3-in-bay = runs.agrees box bay t small admitted xs k
+
+    pub demand-3-on-inputs : (p : Statement) → Spells (t .sequence) p → NoSetpause p
+        → map report (instantsIn callOf bay from xs)
+        ≡ paper (Rewriting.fresh (program (t .readBack) p)) (map callOn (inputsIn callOf bay from xs))
+    demand-3-on-inputs = runs.instants-agreeing box bay t small admitted xs k
+
+    -- 'Rewriting gives the same litres': what each tick brings a farm is what the paper does
+    pub litres-in-bay : (p : Statement) → Spells (t .sequence) p → NoSetpause p → (farm : ℕ)
+        → tickLitres bay farm from xs ≡ paperDelivered farm (Rewriting.fresh (program (t .readBack) p)) (ticksTo bay from xs)
+    litres-in-bay = runs.litres-agreeing box bay t small admitted xs k
 
 -- ---- positions (02, item 9)
 -- 'each a 32-bit name and the label set of a waiting machine. Saving under a known name replaces it; forgetting one frees its place for
@@ -227,11 +249,15 @@ module _ (zs : List Request) (sent : AllSendable zs) (bay name : ℕ)
   from-there = returns.run there (reached.kept zs sent) bay name back
 
   -- 'Without setpause, the answers from there up to the next coming back or the taking out equal rewriting started from the expansion
-  -- of that set': number, code, kind, place, emitted set, reactions and phase
+  -- of that set': number, code, kind, place, emitted set, reactions and phase, over the ticks and over the inputs of the instants; and
+  -- the litres to each farm (02, item 12)
   pub agrees-from-position : (labels : ℕ) × (lookup name (positionsIn (stretchOf bay there)) ≡ some labels)
       × (find name (savedIn callOf bay emptyBox [] zs) ≡ some labels)
       × ((p : Statement) → Spells (held .sequence) p → NoSetpause p → (xs : List Request) → Onwards bay again xs
-      → map report (tickOutcomes bay again xs) ≡ paper (Rewriting.waits (expand (program (held .readBack) p) labels)) (ticksTo bay xs))
+      → (map report (tickOutcomes bay again xs) ≡ paper (Rewriting.waits (expand (program (held .readBack) p) labels)) (ticksTo bay again xs))
+      × (map report (instantsIn callOf bay again xs)
+      ≡ paper (Rewriting.waits (expand (program (held .readBack) p) labels)) (map callOn (inputsIn callOf bay again xs)))
+      × ((farm : ℕ) → tickLitres bay farm again xs ≡ paperDelivered farm (Rewriting.waits (expand (program (held .readBack) p) labels)) (ticksTo bay again xs)))
   agrees-from-position =
       let r = returns.returned there (reached.kept zs sent) bay name back in
       let saved = positions-are-saved zs sent bay is-bay name in
@@ -245,7 +271,7 @@ module _ (zs : List Request) (sent : AllSendable zs) (bay name : ℕ)
     pub demand-1-from-position : (o : Outcome) → List·Memᴰ o (tickOutcomes bay again xs) → demands.number o ≢ 11
     demand-1-from-position = from-there xs k .never-11
 
-    pub rows-from-position : (e : ℕ) (answer trace : List ℕ)
+    pub rows-from-position : (e : ℕ) (answer trace : List ℕ) → number (callOf then bay (tick e answer trace)) ≢ 19
         → ByRows (number (callOf then bay (tick e answer trace)))
         (TickRow (held .sequence) (held .readBack) (stateIn (stretchOf bay then)) (paperBuffer trace answer))
     rows-from-position = runs.by-rows bay is-bay held then (from-there xs k .stands)
@@ -302,6 +328,61 @@ preview-shows = instants.preview-shows
 -- the numbers of a filled bay: 1, then 2 to 12 of the tick, then 17
 pub preview-numbers : PreviewNumbers callOf
 preview-numbers = instants.preview-numbers
+
+-- ---- the year's ledgers (02, item 12)
+-- 'Farm totals stay exact whole numbers equal to the sum of that farm's deliveries since the last clearing', across admissions, comings
+-- back and takings out, over every list of calls, those turned down and those to other bays included
+pub totals-exact : TotalsExact callOf
+totals-exact = years.totals-exact
+
+-- 'Reading it writes the 32 totals, then the ledger's total', which 'lies within 496 litres of the exact sum', of every box
+pub ledger-shows : LedgerShows callOf
+ledger-shows = years.ledger-shows
+
+-- so a reading after a list of calls has the deliveries of each farm, whether the bay is filled or empty
+pub year-read : (xs : List Request) (bay : ℕ) → bay < bayCount → (totals : List ℕ) → length totals ≡ readingLength
+    → (reading : List ℕ) × (callOf (boxAfter callOf emptyBox xs) bay (ledger totals) ≡ called 0 (boxAfter callOf emptyBox xs) (reading ∷ []))
+    × ((farm : ℕ) → farm < farmCount → totalIn farm reading ≡ deliveredSince callOf bay farm emptyBox 0 xs)
+year-read xs bay b totals sized =
+    let box = boxAfter callOf emptyBox xs in
+    let r = years.ledger-shows box bay totals (years.ledger-numbers box (years.sized-after xs) bay b .1 totals .0 .1 sized) in
+    (r .0, r .1, λ farm l. r .2 .each farm l ∙ years.totals-exact xs bay b farm l .is-sum)
+
+-- two runs with the same calls to a bay number, its admissions answered alike, deliver the same to each farm (the totals, like the
+-- answers, are isolated's)
+pub deliveries-isolated : (bay : ℕ) → bay < bayCount → (xs ys : List Request) → asked callOf bay emptyBox xs ≡ asked callOf bay emptyBox ys
+    → (farm : ℕ) → farm < farmCount → deliveredSince callOf bay farm emptyBox 0 xs ≡ deliveredSince callOf bay farm emptyBox 0 ys
+deliveries-isolated bay b xs ys e farm l =
+    sym (totals-exact xs bay b farm l .is-sum)
+    ∙ ap (λ (s : List ℕ). totalIn farm (ledgerIn s)) (isolated bay b xs ys e .1)
+    ∙ totals-exact ys bay b farm l .is-sum
+
+-- 'cleared only by a call for the new year'; 'The ledger's calls take an empty bay too'
+pub year-begins : YearBegins callOf
+year-begins = years.year-begins
+
+pub ledger-numbers : LedgerNumbers callOf
+ledger-numbers = years.ledger-numbers
+
+-- '19, last of all and writing nothing': that it writes nothing is refusals-leave
+pub nineteen : Nineteen callOf
+nineteen = years.nineteen
+
+-- 'Previews add nothing and never give 19': that they add nothing is preview-shows
+pub previews-never-nineteen : PreviewsNeverNineteen callOf
+previews-never-nineteen = years.previews-never-nineteen
+
+-- ITEM 12, of the calls
+pub ledger-demands : LedgerDemands callOf
+ledger-demands =
+    record {
+      totals-exact = totals-exact;
+      ledger-shows = ledger-shows;
+      year-begins = year-begins;
+      ledger-numbers = ledger-numbers;
+      nineteen = nineteen;
+      previews-never-nineteen = previews-never-nineteen;
+    }
 
 -- ITEM 10, of the calls
 pub record-demands : RecordDemands callOf

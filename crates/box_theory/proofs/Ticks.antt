@@ -1,5 +1,6 @@
--- A tick on a bay's stretch: turned down, with nothing written, or an instant that is counted and leaves its record.
-use Prim.Native.Nat.{ℕ, zero, suc}
+-- A tick on a bay's stretch: turned down, by its row or by the ledger, with nothing written, or an instant that enters its litres, is
+-- counted and leaves its record.
+use Prim.Native.Nat.{ℕ, zero, suc, _+_, _≤_, _<_}
 use native.Mathlib.Omega.{arith}
 use native.Mathlib.Decide.{ℕ-discrete}
 use mathlib.Core.Path.{_≡_, refl, sym, ap, ap₂, _∙_}
@@ -15,7 +16,9 @@ use Rattle.esterel.specs.Statement.{Statement}
 use Rattle.esterel.specs.Reaction.{inheritanceFirst}
 use Rattle.esterel.specs.Machines.{State}
 use Rattle.sequence.specs.Program.{program}
+use Rattle.sequence.specs.Rows.{rank}
 use Rattle.sequence.specs.Check.{Checked, sound, bad, checked}
+use Rattle.sequence.proofs.Rows.{row-rank}
 use Rattle.numbers.specs.Bytes.{leBytes, leNumber}
 use Rattle.numbers.proofs.Bytes.{length-leBytes}
 use Rattle.states.specs.StateRecord.{stateLength, Decoded, holds, malformed, decodeState}
@@ -23,21 +26,37 @@ use Rattle.states.proofs.StateLaws.{length-state}
 use Rattle.answers.specs.AnswerRecord.{answerLength}
 use Rattle.recordings.specs.Record.{recordLength, recordOf}
 use Rattle.recordings.specs.Recording.{following}
-use Rattle.parts.specs.Parts.{put}
-use Rattle.parts.proofs.Parts.{put-slot, length-put, slot-put, put-behind}
+use Rattle.parts.specs.Parts.{slot, put}
+use Rattle.parts.proofs.Parts.{put-slot, length-put, slot-put, put-before, put-behind}
+use Rattle.ledgers.specs.Ledgers.{ledgerLength, passes, added}
+use Rattle.ledgers.proofs.Theorems.{added-sized}
 use Rattle.demands.specs.Tick as Tick
 use Rattle.demands.specs.Tick.{Outcome, outcome, byState, replied, tickBy, tickOf}
+use Rattle.demands.specs.TickRows.{TickRow, row-1, row-2-to-10, row-11, row-12}
 use Rattle.demands.specs.Demands as demands
 use Rattle.demands.specs.Demands.{stateAfterwards, answerAfterwards}
 use Rattle.demands.proofs.Sequence.{tick-short}
 use Rattle.demands.proofs.Demand1.{demand-1}
 use Rattle.box_calls.specs.Called.{Called, called, number, memoryAfter, lentAfter, first}
-use Rattle.box_calls.specs.Stretch.{stateAt, countAt, stretchLength, sequenceIn, readBackIn, stateIn, countIn}
-use Rattle.box_calls.specs.BayCalls.{stateKept, recorded, bayStepOf, bayTickOf}
+use Rattle.box_calls.specs.Stretch.{stateAt, countAt, bayLength, stretchLength, sequenceIn, readBackIn, stateIn, countIn, ledgerIn, withLedger}
+use Rattle.box_calls.specs.BayCalls.{stateKept, delivering, charged, recorded, bayStepOf, bayChargedOf, bayTickOf}
 use Rattle.box_calls.specs.BayRuns.{paperBuffer}
+use Rattle.box_fields.proofs.Fields.{ledger-sized}
 
 pub state-sized : (s : List ℕ) → length s ≡ stretchLength → length (stateIn s) ≡ stateLength
 state-sized s z = length-take-le stateLength (drop stateAt s) (omega (arith, length-drop stateAt s))
+
+-- ---- the rows of a tick come before 13 and 19
+pub tick-range : {sequence : List ℕ} {readBack : ℕ} {state answer : List ℕ} (k : ℕ) → TickRow sequence readBack state answer k → rank k ≤ rank 12
+tick-range k (row-1 x) = omega arith
+tick-range {sequence} {readBack} k (row-2-to-10 r) = omega (arith, row-rank sequence readBack k r)
+tick-range k (row-11 s m) = omega arith
+tick-range k (row-12 e) = omega arith
+
+pub own-below : (sequence state : List ℕ) (e readBack : ℕ) (answer : List ℕ) (k : ℕ) → k ≢ 0 → rank 12 < rank k
+    → demands.number (tickOf sequence state e readBack answer) ≢ k
+own-below sequence state e readBack answer k n l h =
+    let r = demand-1 .tick-by-rows sequence state e readBack answer .refusal k n .0 h .0 in omega (arith, tick-range k r)
 
 state-kept : (p : Statement) (d : Decoded) (state : List ℕ) (e : ℕ) (answer : List ℕ) → length state ≡ stateLength
     → length (stateAfterwards (replied (byState inheritanceFirst p d e) state answer)) ≡ stateLength
@@ -63,23 +82,30 @@ module _ (s : List ℕ) (z : length s ≡ stretchLength) (e : ℕ) (answer trace
   abbrev pub inner : Outcome
   inner = tickOf (sequenceIn s) (stateIn s) e (readBackIn s) (paperBuffer trace answer)
 
-  -- the stretch after an instant that leaves this state
+  abbrev x : ℕ → ℕ
+  x = delivering s e
+
+  -- the stretch after an instant that leaves this state: the state, the litres in the ledger, the number
   abbrev stepped : List ℕ → List ℕ
   stepped state = put stateAt stateLength state s
+
+  abbrev pub entered : List ℕ → List ℕ
+  entered state = withLedger (added (delivering s e) (ledgerIn s)) (stepped state)
 
   abbrev pub next : ℕ
   next = following (countIn s)
 
   abbrev pub written : List ℕ → List ℕ
-  written state = put countAt numberBytes (leBytes numberBytes next) (stepped state)
+  written state = put countAt numberBytes (leBytes numberBytes next) (entered state)
 
   pub data Ticked (o : Called) : Type 0 where
-    down : (n : ℕ) → n ≢ 0 → inner ≡ outcome n (stateIn s) (paperBuffer trace answer) → o ≡ called n s (answer ∷ trace ∷ []) → Ticked o
-    instant : (state left : List ℕ) → length state ≡ stateLength → length trace ≡ recordLength → inner ≡ outcome 0 state left
-        → o ≡ called 0 (written state) (left ∷ recordOf next e left state ∷ []) → Ticked o
+    down : (n : ℕ) → n ≢ 0 → n ≢ 19 → inner ≡ outcome n (stateIn s) (paperBuffer trace answer) → o ≡ called n s (answer ∷ trace ∷ []) → Ticked o
+    full : demands.number inner ≡ 0 → passes (ledgerIn s) (delivering s e) ≡ true → o ≡ called 19 s (answer ∷ trace ∷ []) → Ticked o
+    instant : (state left : List ℕ) → length state ≡ stateLength → length trace ≡ recordLength → passes (ledgerIn s) (delivering s e) ≡ false
+        → inner ≡ outcome 0 state left → o ≡ called 0 (written state) (left ∷ recordOf next e left state ∷ []) → Ticked o
 
-  like-tick : length trace ≡ recordLength → bayTickOf s e answer trace ≡ recorded e trace (stateKept s inner)
-  unfolding bayTickOf bayStepOf
+  like-tick : length trace ≡ recordLength → bayTickOf s e answer trace ≡ recorded e trace (charged s x answer (stateKept s inner))
+  unfolding bayTickOf bayChargedOf bayStepOf
   like-tick j = rw (eq-eqb (length trace) recordLength j)
 
   pub unlike-tick : length trace ≢ recordLength → bayTickOf s e answer trace ≡ called 1 s (answer ∷ trace ∷ [])
@@ -94,70 +120,100 @@ module _ (s : List ℕ) (z : length s ≡ stretchLength) (e : ℕ) (answer trace
       let short : length (paperBuffer trace answer) ≡ 0 = rw (ne-eqb (length trace) recordLength n) in
       tick-short (sequenceIn s) (stateIn s) e (readBackIn s) (paperBuffer trace answer) (λ l. omega arith)
 
-  noted : (state left : List ℕ) → length state ≡ stateLength
-      → recorded e trace (stateKept s (outcome 0 state left)) ≡ called 0 (written state) (left ∷ recordOf next e left state ∷ [])
-  noted state left l =
-      ap₂ (λ (c : ℕ) (r : List ℕ).
-      called 0 (put countAt numberBytes (leBytes numberBytes (following c)) (stepped state)) (left ∷ recordOf (following c) e left r ∷ []))
-      (ap leNumber (put-behind stateAt stateLength state s (omega arith) l countAt numberBytes (omega arith)))
-      (slot-put stateAt stateLength state s (omega arith) l)
+  -- ---- an instant whose litres pass no limit
+  pub length-stepped : (state : List ℕ) → length state ≡ stateLength → length (stepped state) ≡ stretchLength
+  length-stepped state l = length-put stateAt stateLength state s (omega arith) l ∙ z
+
+  module _ (below : passes (ledgerIn s) (delivering s e) ≡ false) (state : List ℕ) (l : length state ≡ stateLength) where
+    pub new-sized : length (added (delivering s e) (ledgerIn s)) ≡ ledgerLength
+    new-sized = added-sized x (ledgerIn s) (ledger-sized s z) below
+
+    pub length-entered : length (entered state) ≡ stretchLength
+    length-entered =
+        let k = length-stepped state l in length-put bayLength ledgerLength (added x (ledgerIn s)) (stepped state) (omega arith) new-sized ∙ k
+
+    -- what stands before the ledger
+    pub before-ledger : (i m : ℕ) → i + m ≤ bayLength → slot i m (entered state) ≡ slot i m (stepped state)
+    before-ledger i m h =
+        let k = length-stepped state l in put-before bayLength ledgerLength (added x (ledgerIn s)) (stepped state) (omega arith) new-sized i m h
+
+    noted : (left : List ℕ) → recorded e trace (called 0 (entered state) (left ∷ [])) ≡ called 0 (written state) (left ∷ recordOf next e left state ∷ [])
+    noted left =
+        ap₂ (λ (c : ℕ) (r : List ℕ).
+        called 0 (put countAt numberBytes (leBytes numberBytes (following c)) (entered state)) (left ∷ recordOf (following c) e left r ∷ []))
+        (ap leNumber (before-ledger countAt numberBytes (omega arith)
+        ∙ put-behind stateAt stateLength state s (omega arith) l countAt numberBytes (omega arith)))
+        (before-ledger stateAt stateLength (omega arith) ∙ slot-put stateAt stateLength state s (omega arith) l)
 
   pub ticked : Ticked (bayTickOf s e answer trace)
   ticked = elim (ℕ-discrete (length trace) recordLength) [
     | yes j ↦ go inner refl j
-    | no j ↦ down 1 (λ y. omega arith) (unlike-inner j) (unlike-tick j)
+    | no j ↦ down 1 (λ y. omega arith) (λ y. omega arith) (unlike-inner j) (unlike-tick j)
   ]
     where
       sized : length (stateAfterwards inner) ≡ stateLength
       sized = tick-sized (sequenceIn s) (stateIn s) e (readBackIn s) (paperBuffer trace answer) (state-sized s z)
 
-      go : (o : Outcome) → inner ≡ o → length trace ≡ recordLength → Ticked (bayTickOf s e answer trace)
-      go (outcome zero state left) q j =
+      entering : (state left : List ℕ) → inner ≡ outcome 0 state left → length trace ≡ recordLength
+          → (b : Bool) → passes (ledgerIn s) (delivering s e) ≡ b → Ticked (bayTickOf s e answer trace)
+      entering state left q j true h =
+          full (ap demands.number q) h
+          (like-tick j ∙ ap (λ (o : Outcome). recorded e trace (charged s x answer (stateKept s o))) q
+          ∙ ap (λ (c : Bool). recorded e trace (cond c (called 19 s (answer ∷ [])) (called 0 (entered state) (left ∷ [])))) h)
+      entering state left q j false h =
           let l : length state ≡ stateLength = sym (ap (λ (o : Outcome). length (stateAfterwards o)) q) ∙ sized in
-          instant state left l j q (like-tick j ∙ ap (λ (o : Outcome). recorded e trace (stateKept s o)) q ∙ noted state left l)
+          instant state left l j h q
+          (like-tick j ∙ ap (λ (o : Outcome). recorded e trace (charged s x answer (stateKept s o))) q
+          ∙ ap (λ (c : Bool). recorded e trace (cond c (called 19 s (answer ∷ [])) (called 0 (entered state) (left ∷ [])))) h
+          ∙ noted h state l left)
+
+      go : (o : Outcome) → inner ≡ o → length trace ≡ recordLength → Ticked (bayTickOf s e answer trace)
+      go (outcome zero state left) q j = entering state left q j (passes (ledgerIn s) (delivering s e)) refl
       go (outcome (suc n) state left) q j =
           let m : demands.number inner ≡ suc n = ap demands.number q in
           let k = demand-1 .refusal-writes-nothing (sequenceIn s) (stateIn s) e (readBackIn s) (paperBuffer trace answer) (λ y. omega arith) in
           let w : inner ≡ outcome (suc n) (stateIn s) (paperBuffer trace answer) =
           k ∙ ap (λ (i : ℕ). outcome i (stateIn s) (paperBuffer trace answer)) m in
-          down (suc n) (λ y. omega arith) w
-          (like-tick j ∙ ap (λ (o : Outcome). recorded e trace (stateKept s o)) w
+          down (suc n) (λ y. omega arith)
+          (λ y. own-below (sequenceIn s) (stateIn s) e (readBackIn s) (paperBuffer trace answer) 19 (λ u. omega arith) (omega arith) (m ∙ y)) w
+          (like-tick j ∙ ap (λ (o : Outcome). recorded e trace (charged s x answer (stateKept s o))) w
           ∙ ap₂ (λ (r b : List ℕ). called (suc n) r (b ∷ trace ∷ [])) (put-slot stateAt stateLength s) (like-buffer j answer))
 
-  -- ---- what the record leaves of the tick: number, answer, refusals and length
-  pub tick-number : number (bayTickOf s e answer trace) ≡ demands.number inner
-  tick-number = go ticked
+  -- ---- what ledger and record leave of the tick: number and answer, unless the ledger is full; refusals and length
+  pub tick-number : number (bayTickOf s e answer trace) ≢ 19 → number (bayTickOf s e answer trace) ≡ demands.number inner
+  tick-number d = go ticked
     where
       go : Ticked (bayTickOf s e answer trace) → number (bayTickOf s e answer trace) ≡ demands.number inner
-      go (down n y q w) = ap number w ∙ sym (ap demands.number q)
-      go (instant state left l j q w) = ap number w ∙ sym (ap demands.number q)
+      go (down n y m q w) = ap number w ∙ sym (ap demands.number q)
+      go (full q h w) = absurd (d (ap number w))
+      go (instant state left l j h q w) = ap number w ∙ sym (ap demands.number q)
 
-  pub tick-answer : paperBuffer trace (first (lentAfter (bayTickOf s e answer trace))) ≡ answerAfterwards inner
-  tick-answer = go ticked
+  pub tick-answer : number (bayTickOf s e answer trace) ≢ 19 → paperBuffer trace (first (lentAfter (bayTickOf s e answer trace))) ≡ answerAfterwards inner
+  tick-answer d = go ticked
     where
       go : Ticked (bayTickOf s e answer trace) → paperBuffer trace (first (lentAfter (bayTickOf s e answer trace))) ≡ answerAfterwards inner
-      go (down n y q w) = ap (λ (o : Called). paperBuffer trace (first (lentAfter o))) w ∙ sym (ap answerAfterwards q)
-      go (instant state left l j q w) =
+      go (down n y m q w) = ap (λ (o : Called). paperBuffer trace (first (lentAfter o))) w ∙ sym (ap answerAfterwards q)
+      go (full q h w) = absurd (d (ap number w))
+      go (instant state left l j h q w) =
           ap (λ (o : Called). paperBuffer trace (first (lentAfter o))) w ∙ like-buffer j left ∙ sym (ap answerAfterwards q)
 
   pub tick-refused : number (bayTickOf s e answer trace) ≢ 0
       → bayTickOf s e answer trace ≡ called (number (bayTickOf s e answer trace)) s (answer ∷ trace ∷ [])
-  tick-refused h = go ticked
+  tick-refused d = go ticked
     where
       go : Ticked (bayTickOf s e answer trace) → bayTickOf s e answer trace ≡ called (number (bayTickOf s e answer trace)) s (answer ∷ trace ∷ [])
-      go (down n y q w) = w ∙ ap (λ (m : ℕ). called m s (answer ∷ trace ∷ [])) (sym (ap number w))
-      go (instant state left l j q w) = absurd (h (ap number w))
-
-  pub length-stepped : (state : List ℕ) → length state ≡ stateLength → length (stepped state) ≡ stretchLength
-  length-stepped state l = length-put stateAt stateLength state s (omega arith) l ∙ z
+      go (down n y m q w) = w ∙ ap (λ (m : ℕ). called m s (answer ∷ trace ∷ [])) (sym (ap number w))
+      go (full q h w) = w ∙ ap (λ (m : ℕ). called m s (answer ∷ trace ∷ [])) (sym (ap number w))
+      go (instant state left l j h q w) = absurd (d (ap number w))
 
   pub tick-keeps-length : length (memoryAfter (bayTickOf s e answer trace)) ≡ stretchLength
   tick-keeps-length = go ticked
     where
       go : Ticked (bayTickOf s e answer trace) → length (memoryAfter (bayTickOf s e answer trace)) ≡ stretchLength
-      go (down n y q w) = ap (λ (o : Called). length (memoryAfter o)) w ∙ z
-      go (instant state left l j q w) =
-          let k = length-stepped state l in
+      go (down n y m q w) = ap (λ (o : Called). length (memoryAfter o)) w ∙ z
+      go (full q h w) = ap (λ (o : Called). length (memoryAfter o)) w ∙ z
+      go (instant state left l j h q w) =
+          let k = length-entered h state l in
           ap (λ (o : Called). length (memoryAfter o)) w
-          ∙ length-put countAt numberBytes (leBytes numberBytes next) (stepped state) (omega arith) (length-leBytes numberBytes next)
+          ∙ length-put countAt numberBytes (leBytes numberBytes next) (entered state) (omega arith) (length-leBytes numberBytes next)
           ∙ k

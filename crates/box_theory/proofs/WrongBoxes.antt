@@ -4,11 +4,13 @@ use native.Mathlib.Omega.{arith}
 use mathlib.Core.Path.{_≡_, refl, ap}
 use mathlib.Core.List.{List, [], _∷_}
 use lib.ListN.{getD}
+use lib.Ieee.{ofBits, whole, inUnsigned, toUnsigned}
 use Rattle.esterel.specs.Sets as Sets
 use Rattle.esterel.specs.Sets.{only, member, join, insert, remove}
 use Rattle.esterel.specs.Reaction.{reactBy}
 use Rattle.esterel.specs.Errors.{errorsBy}
 use Rattle.esterel.specs.Reactions.{reactionsBy}
+use Rattle.esterel.specs.Litres.{deliveredBy}
 use Rattle.esterel.specs.LabelTests.{subset, disjoint, labelsOf, activeLabels, everyLabel, distinct, before, wellFormed, valid}
 use Rattle.esterel.specs.States.{active}
 use Rattle.esterel.specs.Expansion.{expand}
@@ -21,11 +23,12 @@ use Rattle.numbers.specs.Bytes.{leBytes, leNumber}
 use Rattle.states.specs.StateRecord.{encodeState, decodeState}
 use Rattle.answers.specs.AnswerRecord.{encodeAnswer}
 use Rattle.parts.specs.Parts.{put, zeros}
+use Rattle.ledgers.specs.Ledgers.{totalIn, wouldPass, addedBelow}
 use Rattle.demands.specs.Tick.{tickBy}
 use Rattle.box_calls.specs.Called.{Called, memoryAfter}
 use Rattle.recordings.specs.Recording.{following}
 use Rattle.box_calls.specs.Stretch.{partOf, vacated, filled}
-use Rattle.box_calls.specs.BayCalls.{bayStepOf, bayTickOf, bayReleaseOf, bayAdmitOf}
+use Rattle.box_calls.specs.BayCalls.{bayStepOf, bayChargedOf, bayTickOf, bayReleaseOf, bayAdmitOf}
 use Rattle.box_calls.specs.Box.{emptyBox, present, release, callOf}
 use Rattle.box_calls.specs.Lists.{Request, boxAfter, asked, Answer, answered, answers}
 use Rattle.box_calls.specs.Shares.{none, each}
@@ -47,7 +50,7 @@ abbrev besideOver : List Request
 besideOver = admitted 1 ends ∷ ticked 1 ∷ byItself
 
 pub not-readsNeighbour : ¬ Isolated readsNeighbour
-unfolding asked answers boxAfter callOf emptyBox present partOf vacated filled bayStepOf bayTickOf following bayReleaseOf bayAdmitOf put zeros leBytes leNumber tickBy checked read front commandOf distinct wellFormed before everyLabel labelsOf subset disjoint valid active activeLabels membersFrom declaredBy commands loopNesting nesting ceiling encodeState decodeState encodeAnswer expand reactBy errorsBy reactionsBy Sets.none only member join insert remove
+unfolding asked answers boxAfter callOf emptyBox present partOf vacated filled bayStepOf bayChargedOf wouldPass totalIn addedBelow deliveredBy ofBits whole inUnsigned toUnsigned bayTickOf following bayReleaseOf bayAdmitOf put zeros leBytes leNumber tickBy checked read front commandOf distinct wellFormed before everyLabel labelsOf subset disjoint valid active activeLabels membersFrom declaredBy commands loopNesting nesting ceiling encodeState decodeState encodeAnswer expand reactBy errorsBy reactionsBy Sets.none only member join insert remove
 not-readsNeighbour h =
     let e : _≡_ {A = ℕ} 0 12 = ap (numberAt 1) (h 0 (omega arith) byItself besideOver refl .0) in omega arith
 

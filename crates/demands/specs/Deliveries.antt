@@ -25,7 +25,7 @@ deliveredIf readBack (sound p) state e f = deliveredBy (program readBack p) (dec
 
 -- to a farm, from a sequence and its read-back set, a state and an input
 abbrev pub deliveries : (sequence : List ℕ) (readBack : ℕ) (state : List ℕ) (e farm : ℕ) → ℕ
-deliveries sequence readBack state e f = deliveredIf readBack (checked sequence readBack) state e f
+deliveries sequence readBack state e = deliveredIf readBack (checked sequence readBack) state e
 
 -- ---- over a list of ticks, each on the state that the last one left; number 1 delivers nothing
 abbrev pub callDelivers : (sequence : List ℕ) (readBack : ℕ) (state : List ℕ) → Call → (farm : ℕ) → ℕ
