@@ -1,5 +1,6 @@
 pub mod Storing
 pub mod Ticking
+pub mod Charging
 pub mod Recording
 pub mod Admitting
 pub mod Positioning

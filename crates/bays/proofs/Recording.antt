@@ -19,7 +19,7 @@ use Rattle.recordings.proofs.Panels.{length-panel}
 use Rattle.parts.proofs.Parts.{stored}
 use Rattle.box_calls.specs.Called.{called}
 use Rattle.box_calls.specs.Stretch.{countAt, stretchLength, stateIn, countIn, serviceOnlyIn}
-use Rattle.box_calls.specs.BayCalls.{counted, recorded, showing, bayStepOf, bayTickOf, bayServiceOf, bayPanelOf}
+use Rattle.box_calls.specs.BayCalls.{counted, recorded, showing, bayChargedOf, bayTickOf, bayServiceOf, bayPanelOf}
 use Rattle.bays.proofs.Ticking.{state-sized}
 
 -- ---- an instant is counted, and its record is written
@@ -46,11 +46,11 @@ module _ (s : List ℕ) (e : ℕ) (answer trace : List ℕ) where
   other-record n = rw (ne-eqb (length trace) recordLength n)
 
   module _ (j : length trace ≡ recordLength) where
-    as-recorded : recorded e trace (bayStepOf s e answer) ≡ bayTickOf s e answer trace
+    as-recorded : recorded e trace (bayChargedOf s e answer) ≡ bayTickOf s e answer trace
     unfolding bayTickOf
     as-recorded = rw (eq-eqb (length trace) recordLength j)
 
-    module _ (n : ℕ) (s′ answer′ : List ℕ) (w : called n s′ (answer′ ∷ []) ≡ bayStepOf s e answer) where
+    module _ (n : ℕ) (s′ answer′ : List ℕ) (w : called n s′ (answer′ ∷ []) ≡ bayChargedOf s e answer) where
       pub recorded-tick : n ≡ 0 → {s″ trace′ : List ℕ}
           → called 0 s″ (answer′ ∷ trace′ ∷ []) ≡ recorded e trace (called 0 s′ (answer′ ∷ []))
           → called n s″ (answer′ ∷ trace′ ∷ []) ≡ bayTickOf s e answer trace

@@ -1,5 +1,5 @@
 -- One law for each return of the code of a bay's step, over plain lists.
-use Prim.Native.Nat.{ℕ, _-_}
+use Prim.Native.Nat.{ℕ}
 use native.Mathlib.Omega.{arith}
 use mathlib.Core.Path.{_≡_, refl, sym, ap, _∙_}
 use mathlib.Core.Logic.{_≢_}
@@ -47,16 +47,6 @@ module _ (s : List ℕ) (e : ℕ) (answer : List ℕ) where
   pub short-step : length answer ≢ answerLength → called 1 s (answer ∷ []) ≡ bayStepOf s e answer
   short-step n = unmoved 1 ∙ kept (outcome 1 (stateIn s) answer) (sym (tick-short (sequenceIn s) (stateIn s) e (readBackIn s) answer n))
 
-  -- a step that is not turned down was lent an answer of its length
-  pub lent-answer : {n : ℕ} {s′ : List ℕ} {lent : List (List ℕ)} → called n s′ lent ≡ bayStepOf s e answer → n ≡ 0 → length answer ≡ answerLength
-  lent-answer {n} w z = go (eqb (length answer) answerLength) refl
-    where
-      go : (b : Bool) → eqb (length answer) answerLength ≡ b → length answer ≡ answerLength
-      go true p = eqb-true (length answer) answerLength p
-      go false p =
-          let x : 1 ≡ n = ap number (short-step (eqb-false (length answer) answerLength p) ∙ sym w) in
-          absurd (omega arith)
-
   module _ (z : length s ≡ stretchLength) (j : length answer ≡ answerLength) where
     replied-step : (r : Reply) → Replies (sequenceIn s) (stateIn s) e (readBackIn s) r → repliedFrom r (stateIn s) answer ≡ inner
     unfolding tickBy
@@ -67,9 +57,6 @@ module _ (s : List ℕ) (e : ℕ) (answer : List ℕ) where
     pub refused-step : (n : ℕ) → Replies (sequenceIn s) (stateIn s) e (readBackIn s) (Refused n) → called n s (answer ∷ []) ≡ bayStepOf s e answer
     refused-step n h = unmoved n ∙ kept (outcome n (stateIn s) answer) (replied-step (Refused n) h)
 
-    -- the state record lies in the stretch, and is written there
-    pub reacted-step : (r : Reaction) → Replies (sequenceIn s) (stateIn s) e (readBackIn s) (Reacted r)
-        → (n : ℕ) (state′ answer′ : List ℕ) → outcome n state′ answer′ ≡ writtenFrom r
-        → called n (take stateAt s ++ (state′ ++ drop (countAt - stateAt) (drop stateAt s))) (answer′ ∷ []) ≡ bayStepOf s e answer
-    unfolding put
-    reacted-step r h n state′ answer′ w = kept (outcome n state′ answer′) (w ∙ replied-step (Reacted r) h)
+    pub kept-written : (r : Reaction) → Replies (sequenceIn s) (stateIn s) e (readBackIn s) (Reacted r)
+        → stateKept s (writtenFrom r) ≡ bayStepOf s e answer
+    kept-written r h = kept (writtenFrom r) (replied-step (Reacted r) h)

@@ -1,26 +1,32 @@
-// The stretch of a bay (02, items 8 to 10): its fields, and the calls on it.
+// The stretch of a bay (02, items 8 to 12): its fields, and the calls on it.
 ghost use mathlib.Core.Path.{_≡_};
 ghost use Prim.Native.Nat.{_^_, _≤_};
 ghost use mathlib.Core.List.{[], _∷_};
-ghost use lib.ListN.{length};
+ghost use lib.ListN.{length, replicate, getD};
 ghost use Rattle.limits.specs.Limits.{maxBytes};
 ghost use Rattle.answers.specs.AnswerRecord.{answerLength};
 ghost use Rattle.recordings.specs.Record.{recordLength};
+ghost use Rattle.writing.specs.Written.{Writable, writtenFrom};
 ghost use Rattle.instants.specs.Replies.{Replies};
+ghost use Rattle.farms.specs.Farms.{NamesAll};
+ghost use Rattle.ledgers.specs.Ledgers.{farmCount, NoneOutside};
+ghost use Rattle.deliveries.specs.Delivering.{Delivers};
 ghost use Rattle.box_calls.specs.Called.{called};
 ghost use Rattle.box_calls.specs.Stretch.{stretchLength, isEmpty, sequenceIn, readBackIn, serviceOnlyIn, stateIn, countIn, positionsIn};
-ghost use Rattle.box_calls.specs.Stretch.{partOf, vacated, terms, filled};
-ghost use Rattle.box_calls.specs.BayCalls.{bayStepOf, recorded, bayTickOf, bayReleaseOf, bayAdmitOf, baySaveOf, bayRestoreOf};
-ghost use Rattle.box_calls.specs.BayCalls.{bayForgetOf, bayServiceOf, bayPanelOf, bayPreviewOf};
+ghost use Rattle.box_calls.specs.Stretch.{ledgerIn, partOf, vacated, terms, filled};
+ghost use Rattle.box_calls.specs.BayCalls.{stateKept, charged, bayChargedOf, recorded, bayTickOf, bayReleaseOf, bayAdmitOf, baySaveOf};
+ghost use Rattle.box_calls.specs.BayCalls.{bayRestoreOf, bayForgetOf, bayServiceOf, bayPanelOf, bayPreviewOf, bayLedgerOf, bayNewYearOf};
 use answers::ANSWER_LENGTH;
 use ceilings::Plan;
 use instants::Reply;
+use ledgers::Deliveries;
 use limits::MAX_BYTES;
 use limits::MAX_POSITIONS;
 use limits::NUMBER_BYTES;
 use limits::SIGNAL_BYTES;
 use limits::TAKEN_BYTES;
 use positions::TABLE_LENGTH;
+use reaction::Reaction;
 use recordings::PANEL_LENGTH;
 use recordings::RECORD_LENGTH;
 use states::STATE_LENGTH;
@@ -43,10 +49,10 @@ const COUNT_AT: usize = STATE_AT + STATE_LENGTH;
 
 const POSITIONS_AT: usize = COUNT_AT + NUMBER_BYTES;
 
-// What a release clears ends here.
+// What a release clears ends here, and the ledger of the bay number begins.
 const BAY_LENGTH: usize = POSITIONS_AT + TABLE_LENGTH;
 
-pub const STRETCH_LENGTH: usize = BAY_LENGTH + 32 * 4;
+pub const STRETCH_LENGTH: usize = BAY_LENGTH + ledgers::LENGTH;
 
 // The reactions of an instant that the bays share.
 const SHARED_CEILING: u64 = 65536;
@@ -94,6 +100,12 @@ fn table(stretch: &[u8]) -> &[u8]
     numbers::part(stretch, POSITIONS_AT, TABLE_LENGTH)
 }
 
+fn ledger(stretch: &[u8]) -> &[u8]
+    ensures { λ r. ⌜ now r ≡ ledgerIn (now (stretch .entry)) ⌝ }
+{
+    numbers::part(stretch, BAY_LENGTH, ledgers::LENGTH)
+}
+
 // The part of the shared ceiling that the bay has.
 pub fn part(stretch: &[u8]) -> u32
     ensures { λ r. ⌜ r ≡ partOf (now (stretch .entry)) ⌝ }
@@ -104,29 +116,60 @@ pub fn part(stretch: &[u8]) -> u32
     numbers::get_le(stretch, CEILING_AT, TAKEN_BYTES) as u32
 }
 
-// What a tick on what the bay holds comes to before anything is written.
-pub fn reply_to(stretch: &[u8], input: u32) -> Reply
+// What a tick on what the bay holds comes to before anything is written, with the litres of the farms that its sequence names.
+fn reply_with(stretch: &[u8], input: u32, named: u32, litres: &mut Deliveries) -> Reply
+    requires { ⌜ NamesAll (sequenceIn (now stretch)) named ⌝ }
+    requires { ⌜ now litres ≡ replicate farmCount 0 ⌝ }
     ensures { λ r. ⌜ Replies (sequenceIn (now (stretch .entry))) (stateIn (now (stretch .entry))) input (readBackIn (now (stretch .entry))) r ⌝ }
+    ensures { λ _. ⌜ Delivers (sequenceIn (now (stretch .entry))) (stateIn (now (stretch .entry))) input
+        (readBackIn (now (stretch .entry))) named (now (litres .exit)) ⌝ }
 {
-    instants::reply_to(sequence(stretch), state(stretch), input, read_back(stretch))
+    deliveries::reply_with(
+        sequence(stretch),
+        state(stretch),
+        input,
+        read_back(stretch),
+        named,
+        litres,
+    )
 }
 
-// The tick on what the bay holds, without its record.
+// Writes an instant and enters its litres, those of some farms; or gives 19 and writes nothing.
+fn settle(
+    stretch: &mut [u8],
+    answer: &mut [u8],
+    reaction: Reaction,
+    farms: u32,
+    litres: &Deliveries,
+) -> u8
+    requires { ⌜ (length (now stretch) ≡ stretchLength) × (length (now answer) ≡ answerLength) × Writable reaction ⌝ }
+    requires { ⌜ NoneOutside farms (λ f. getD (now litres) f 0) ⌝ }
+    ensures { λ r. ⌜ called r (now (stretch .exit)) (now (answer .exit) ∷ [])
+        ≡ charged (now (stretch .entry)) (λ f. getD (now (litres .entry)) f 0) (now (answer .entry))
+        (stateKept (now (stretch .entry)) (writtenFrom reaction)) ⌝ }
+{
+    if ledgers::would_pass(ledger(stretch), litres, farms) {
+        return 19;
+    }
+    let number = writing::finish(&mut stretch[STATE_AT..COUNT_AT], answer, reaction);
+    ledgers::add(&mut stretch[BAY_LENGTH..STRETCH_LENGTH], litres, farms);
+    number
+}
+
+// The tick on what the bay holds with its litres, without its record.
 fn step(stretch: &mut [u8], input: u32, answer: &mut [u8]) -> u8
     requires { ⌜ length (now stretch) ≡ stretchLength ⌝ }
     ensures { λ r. ⌜ called r (now (stretch .exit)) (now (answer .exit) ∷ [])
-        ≡ bayStepOf (now (stretch .entry)) input (now (answer .entry)) ⌝ }
+        ≡ bayChargedOf (now (stretch .entry)) input (now (answer .entry)) ⌝ }
 {
     if answer.len() != ANSWER_LENGTH {
         return 1;
     }
-    match reply_to(stretch, input) {
+    let named = farms::named(sequence(stretch));
+    let mut litres: Deliveries = [0; ledgers::FARMS];
+    match reply_with(stretch, input, named, &mut litres) {
         Reply::Refused(number) => number,
-        Reply::Reacted(reaction) => writing::finish(
-            &mut stretch[STATE_AT..COUNT_AT],
-            answer,
-            reaction,
-        ),
+        Reply::Reacted(reaction) => settle(stretch, answer, reaction, named, &litres),
     }
 }
 
@@ -290,4 +333,25 @@ pub fn preview(stretch: &[u8], input: u32, unknown: u32, buffer: &mut [u8]) -> u
         read_back(stretch),
         buffer,
     )
+}
+
+// The 32 totals of the bay number's ledger and the ledger's total (02, item 12).
+pub fn read_ledger(stretch: &[u8], totals: &mut [u8]) -> u8
+    ensures { λ r. ⌜ called r (now (stretch .entry)) (now (totals .exit) ∷ [])
+        ≡ bayLedgerOf (now (stretch .entry)) (now (totals .entry)) ⌝ }
+{
+    if totals.len() != ledgers::READING_LENGTH {
+        return 1;
+    }
+    ledgers::read(ledger(stretch), totals);
+    0
+}
+
+// The new year: every total of the bay number's ledger is 0.
+pub fn new_year(stretch: &mut [u8]) -> u8
+    requires { ⌜ length (now stretch) ≡ stretchLength ⌝ }
+    ensures { λ r. ⌜ called r (now (stretch .exit)) [] ≡ bayNewYearOf (now (stretch .entry)) ⌝ }
+{
+    ledgers::clear(&mut stretch[BAY_LENGTH..STRETCH_LENGTH]);
+    0
 }

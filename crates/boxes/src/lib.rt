@@ -1,4 +1,4 @@
-// Eight bays in one box (02, items 8 to 10).
+// Eight bays in one box (02, items 8 to 12).
 ghost use mathlib.Core.Path.{_≡_};
 ghost use mathlib.Core.List.{[], _∷_};
 ghost use Prim.Native.Nat.{_*_, _^_, _≤_};
@@ -6,17 +6,17 @@ ghost use lib.ListN.{length};
 ghost use Rattle.box_calls.specs.Called.{called};
 ghost use Rattle.box_calls.specs.Stretch.{terms};
 ghost use Rattle.box_calls.specs.Box.{bayCount, boxLength, present, callOf};
-ghost use Rattle.box_calls.specs.Box.{release, tick, admit, save, restore, forget, service, panel, preview};
-ghost use Rattle.boxes.specs.Entries.{entryOf};
+ghost use Rattle.box_calls.specs.Box.{release, tick, admit, save, restore, forget, service, panel, preview, ledger, newYear};
+ghost use Rattle.boxes.specs.Entries.{fits, either, entryOf};
 use bays::STRETCH_LENGTH;
 
 const BAY_COUNT: usize = 8;
 
 const BOX_LENGTH: usize = BAY_COUNT * STRETCH_LENGTH;
 
-// The number that turns a call down before its bay is touched, or 0: `vacant` says whether the call wants an empty bay.
-fn entry(memory: &[u8], bay: u32, vacant: bool) -> u8
-    ensures { λ r. ⌜ r ≡ entryOf (now (memory .entry)) bay vacant ⌝ }
+// The number that turns a call down before any bay is looked at, or 0.
+fn reach(memory: &[u8], bay: u32) -> u8
+    ensures { λ r. ⌜ r ≡ entryOf (now (memory .entry)) bay either ⌝ }
 {
     let at = bay as usize;
     if BAY_COUNT <= at {
@@ -25,7 +25,19 @@ fn entry(memory: &[u8], bay: u32, vacant: bool) -> u8
     if memory.len() != BOX_LENGTH {
         return 1;
     }
-    let empty = bays::is_empty(numbers::part(memory, at * STRETCH_LENGTH, STRETCH_LENGTH));
+    0
+}
+
+// The number that turns a call down before its bay is touched, or 0: `vacant` says whether the call wants an empty bay.
+fn entry(memory: &[u8], bay: u32, vacant: bool) -> u8
+    ensures { λ r. ⌜ r ≡ entryOf (now (memory .entry)) bay (fits vacant) ⌝ }
+{
+    let number = reach(memory, bay);
+    if number != 0 {
+        return number;
+    }
+    let from = bay as usize * STRETCH_LENGTH;
+    let empty = bays::is_empty(numbers::part(memory, from, STRETCH_LENGTH));
     if vacant {
         if empty {
             return 0;
@@ -173,4 +185,29 @@ pub fn preview(memory: &[u8], bay: u32, input: u32, unknown: u32, buffer: &mut [
         unknown,
         buffer,
     )
+}
+
+// The ledger of a bay number, whether its bay is filled or empty (02, item 12).
+pub fn read_ledger(memory: &[u8], bay: u32, totals: &mut [u8]) -> u8
+    ensures { λ r. ⌜ called r (now (memory .entry)) (now (totals .exit) ∷ [])
+        ≡ callOf (now (memory .entry)) bay (ledger (now (totals .entry))) ⌝ }
+{
+    let number = reach(memory, bay);
+    if number != 0 {
+        return number;
+    }
+    let from = bay as usize * STRETCH_LENGTH;
+    bays::read_ledger(numbers::part(memory, from, STRETCH_LENGTH), totals)
+}
+
+pub fn new_year(memory: &mut [u8], bay: u32) -> u8
+    ensures { λ r. ⌜ called r (now (memory .exit)) [] ≡ callOf (now (memory .entry)) bay newYear ⌝ }
+{
+    let number = reach(memory, bay);
+    if number != 0 {
+        return number;
+    }
+    let from = bay as usize * STRETCH_LENGTH;
+    let end = from + STRETCH_LENGTH;
+    bays::new_year(&mut memory[from..end])
 }

@@ -5,7 +5,7 @@ ghost use Rattle.sequence.specs.Check.{checkOf};
 ghost use Rattle.demands.specs.Demands.{TickMeets};
 ghost use Rattle.box_calls.specs.Called.{called};
 ghost use Rattle.box_calls.specs.Stretch.{terms};
-ghost use Rattle.box_calls.specs.Box.{admit, release, tick, save, restore, forget, service, panel, preview, callOf};
+ghost use Rattle.box_calls.specs.Box.{admit, release, tick, save, restore, forget, service, panel, preview, ledger, newYear, callOf};
 use answers::ANSWER_LENGTH;
 use instants::Reply;
 use layout::Seconds;
@@ -139,4 +139,21 @@ pub extern "C" fn intake_box_preview(
         ≡ callOf (now (memory .entry)) bay (preview input unknown (now (buffer .entry))) ⌝ }
 {
     boxes::preview(memory, bay, input, unknown, buffer)
+}
+
+// The 32 totals of a bay number's ledger, then the ledger's total (02, item 12).
+#[no_mangle]
+pub extern "C" fn intake_box_ledger(memory: &[u8], bay: u32, totals: &mut [u8]) -> u8
+    ensures { λ r. ⌜ called r (now (memory .entry)) (now (totals .exit) ∷ [])
+        ≡ callOf (now (memory .entry)) bay (ledger (now (totals .entry))) ⌝ }
+{
+    boxes::read_ledger(memory, bay, totals)
+}
+
+// The new year of a bay number: its totals are 0.
+#[no_mangle]
+pub extern "C" fn intake_box_new_year(memory: &mut [u8], bay: u32) -> u8
+    ensures { λ r. ⌜ called r (now (memory .exit)) [] ≡ callOf (now (memory .entry)) bay newYear ⌝ }
+{
+    boxes::new_year(memory, bay)
 }

@@ -1,5 +1,5 @@
 use borrow.Author.Needs.{needs}
-use Rattle.bays.proofs.Ticking.{lent-answer}
+use Rattle.bays.proofs.Charging.{lent-answer}
 use Rattle.bays.proofs.Recording.{other-record, recorded-tick, refused-tick}
 use Rattle.bays.proofs.tick.Statement.{statement}
 use Rattle.bays.proofs.tick.Tie as tie

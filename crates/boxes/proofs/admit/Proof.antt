@@ -1,6 +1,7 @@
 use mathlib.Core.Path.{refl}
 use mathlib.Core.Bool.{true}
 use Rattle.box_calls.specs.Box.{admit}
+use Rattle.boxes.specs.Entries.{fits}
 use Rattle.boxes.proofs.Entering.{entered, turned-down, admit-call}
 use borrow.Author.Needs.{needs}
 use Rattle.boxes.proofs.admit.Statement.{statement}
@@ -13,7 +14,7 @@ same-length : tie.Need-same-length
 same-length c = search needs
 
 returns : tie.Need-returns
-returns c = turned-down _ _ true (admit _) (λ s. refl) (c .before .entry .ensures) (c .if1 .taken)
+returns c = turned-down _ _ (fits true) (admit _) (λ s. refl) (c .before .entry .ensures) (c .if1 .taken)
 
 present-in-requires : tie.Need-present-in-requires
 present-in-requires c κs = entered _ _ _ (c .before .before .entry .ensures) (c .before .if1 .left) .sized

@@ -1,6 +1,7 @@
 use mathlib.Core.Path.{refl}
 use mathlib.Core.Bool.{false}
 use Rattle.box_calls.specs.Box.{preview}
+use Rattle.boxes.specs.Entries.{fits}
 use Rattle.boxes.proofs.Entering.{turned-down, read-call}
 use borrow.Author.Needs.{needs}
 use Rattle.boxes.proofs.preview.Statement.{statement}
@@ -10,7 +11,7 @@ entry-requires : tie.Need-entry-requires
 entry-requires c κs = search needs
 
 returns : tie.Need-returns
-returns c = turned-down _ _ false (preview _ _ _) (λ s. refl) (c .before .entry .ensures) (c .if1 .taken)
+returns c = turned-down _ _ (fits false) (preview _ _ _) (λ s. refl) (c .before .entry .ensures) (c .if1 .taken)
 
 mul-from : tie.Need-mul-from
 mul-from c = search needs
@@ -27,7 +28,7 @@ same-length c = search needs
 returns-2 : tie.Need-returns-2
 returns-2 c =
     let cut = c .before .before .before .before in
-    read-call _ _ false (preview _ _ _) (λ s. refl) (cut .before .before .entry .ensures) (cut .before .if1 .left) _ _ (cut .part .ensures) (c .before .before .preview .ensures)
+    read-call _ _ (fits false) (preview _ _ _) (λ s. refl) (cut .before .before .entry .ensures) (cut .before .if1 .left) _ _ (cut .part .ensures) (c .before .before .preview .ensures)
 
 pub preview-spec : {M : Type 1} → statement M
 preview-spec = tie.close (tie.spec entry-requires returns mul-from part-requires preview-requires same-length returns-2)

@@ -1,6 +1,7 @@
 use mathlib.Core.Path.{refl}
 use mathlib.Core.Bool.{false}
 use Rattle.box_calls.specs.Box.{release}
+use Rattle.boxes.specs.Entries.{fits}
 use Rattle.boxes.proofs.Entering.{entered, turned-down, lent-call}
 use borrow.Author.Needs.{needs}
 use Rattle.boxes.proofs.release.Statement.{statement}
@@ -13,7 +14,7 @@ same-length : tie.Need-same-length
 same-length c = search needs
 
 returns : tie.Need-returns
-returns c = turned-down _ _ false release (λ s. refl) (c .before .entry .ensures) (c .if1 .taken)
+returns c = turned-down _ _ (fits false) release (λ s. refl) (c .before .entry .ensures) (c .if1 .taken)
 
 mul-from : tie.Need-mul-from
 mul-from c = search needs
@@ -42,7 +43,7 @@ same-length-2 c = search needs
 
 returns-2 : tie.Need-returns-2
 returns-2 c =
-    lent-call _ _ false release (λ s. refl) (c .before .before .before .before .before .entry .ensures) (c .before .before .before .before .if1 .left) _ _ _ (c .before .before .release .ensures)
+    lent-call _ _ (fits false) release (λ s. refl) (c .before .before .before .before .before .entry .ensures) (c .before .before .before .before .if1 .left) _ _ _ (c .before .before .release .ensures)
 
 pub release-spec : {M : Type 1} → statement M
 release-spec =

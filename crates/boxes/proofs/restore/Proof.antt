@@ -1,6 +1,7 @@
 use mathlib.Core.Path.{refl}
 use mathlib.Core.Bool.{false}
 use Rattle.box_calls.specs.Box.{restore}
+use Rattle.boxes.specs.Entries.{fits}
 use Rattle.boxes.proofs.Entering.{entered, turned-down, lent-call}
 use borrow.Author.Needs.{needs}
 use Rattle.boxes.proofs.restore.Statement.{statement}
@@ -13,7 +14,7 @@ same-length : tie.Need-same-length
 same-length c = search needs
 
 returns : tie.Need-returns
-returns c = turned-down _ _ false (restore _) (λ s. refl) (c .before .entry .ensures) (c .if1 .taken)
+returns c = turned-down _ _ (fits false) (restore _) (λ s. refl) (c .before .entry .ensures) (c .if1 .taken)
 
 mul-from : tie.Need-mul-from
 mul-from c = search needs
@@ -44,7 +45,7 @@ returns-2 : tie.Need-returns-2
 returns-2 c =
     let lent = c .before .before in
     let tested = lent .before .before in
-    lent-call _ _ false (restore _) (λ s. refl) (tested .before .entry .ensures) (tested .if1 .left) _ _ _ (lent .restore .ensures)
+    lent-call _ _ (fits false) (restore _) (λ s. refl) (tested .before .entry .ensures) (tested .if1 .left) _ _ _ (lent .restore .ensures)
 
 pub restore-spec : {M : Type 1} → statement M
 restore-spec =

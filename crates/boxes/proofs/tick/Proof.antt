@@ -1,6 +1,7 @@
 use mathlib.Core.Path.{refl}
 use mathlib.Core.Bool.{false}
 use Rattle.box_calls.specs.Box.{tick}
+use Rattle.boxes.specs.Entries.{fits}
 use Rattle.boxes.proofs.Entering.{entered, turned-down, lent-call}
 use borrow.Author.Needs.{needs}
 use Rattle.boxes.proofs.tick.Statement.{statement}
@@ -13,7 +14,7 @@ same-length : tie.Need-same-length
 same-length c = search needs
 
 returns : tie.Need-returns
-returns c = turned-down _ _ false (tick _ _ _) (λ s. refl) (c .before .entry .ensures) (c .if1 .taken)
+returns c = turned-down _ _ (fits false) (tick _ _ _) (λ s. refl) (c .before .entry .ensures) (c .if1 .taken)
 
 mul-from : tie.Need-mul-from
 mul-from c = search needs
@@ -50,7 +51,7 @@ returns-2 : tie.Need-returns-2
 returns-2 c =
     let lent = c .before .before .before .before .before .before in
     let tested = lent .before .before .before .before in
-    lent-call _ _ false (tick _ _ _) (λ s. refl) (tested .before .entry .ensures) (tested .if1 .left) _ _ _ (lent .tick .ensures)
+    lent-call _ _ (fits false) (tick _ _ _) (λ s. refl) (tested .before .entry .ensures) (tested .if1 .left) _ _ _ (lent .tick .ensures)
 
 pub tick-spec : {M : Type 1} → statement M
 tick-spec =
