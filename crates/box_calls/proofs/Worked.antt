@@ -2,7 +2,7 @@
 use mathlib.Core.Path.{_≡_, refl}
 use mathlib.Core.List.{[], _∷_}
 use lib.ListN.{replicate}
-use lib.Ieee.{ofBits, whole, inUnsigned, toUnsigned}
+use lib.Ieee.{ofBits, toBits, ofInt, whole, inUnsigned, toUnsigned}
 use Rattle.esterel.specs.Sets.{none, only, member, join, insert, remove}
 use Rattle.esterel.specs.Reaction.{reactBy}
 use Rattle.esterel.specs.Errors.{errorsBy}
@@ -21,18 +21,19 @@ use Rattle.numbers.specs.Bytes.{leBytes, leNumber}
 use Rattle.states.specs.StateRecord.{encodeState, decodeState}
 use Rattle.answers.specs.AnswerRecord.{encodeAnswer}
 use Rattle.parts.specs.Parts.{put, zeros}
-use Rattle.ledgers.specs.Ledgers.{totalIn, wouldPass, addedBelow}
+use Rattle.ledgers.specs.Ledgers.{totalIn, totalsBytes, wouldPass, addedBelow}
 use Rattle.demands.specs.Tick.{tickBy}
 use Rattle.recordings.specs.Record.{recordLength, panelOf}
 use Rattle.recordings.specs.Recording.{following}
 use Rattle.box_calls.specs.Stretch.{partOf, vacated, filled}
 use Rattle.positions.specs.Table.{place, lookup, saveOf, forgetOf}
-use Rattle.box_calls.specs.BayCalls.{bayStepOf, bayChargedOf, bayTickOf, bayReleaseOf, bayAdmitOf, baySaveOf, bayForgetOf, bayRestoreOf, bayServiceOf, bayPanelOf}
+use Rattle.box_calls.specs.BayCalls.{bayStepOf, bayChargedOf, bayTickOf, bayReleaseOf, bayAdmitOf, baySaveOf, bayForgetOf, bayRestoreOf, bayServiceOf, bayPanelOf, bayLedgerOf, bayNewYearOf}
 use Rattle.box_calls.specs.Box.{emptyBox, present, callOf}
 use Rattle.box_calls.specs.Lists.{boxAfter}
 use Rattle.box_calls.specs.Instants.{recordsIn}
 use Rattle.box_calls.specs.Worked.{otherwise, alone, emptyStretch, bay, admissions, reached, passed, full, overmuch, bays, elsewhere}
 use Rattle.box_calls.specs.WorkedPositions.{positions}
+use Rattle.box_calls.specs.WorkedLedgers.{ledgersCalls, turnedDown, totalAfter, filledUp, overfull, twice, chosenRun, inVain}
 use Rattle.box_calls.specs.WorkedRecords.{numbers, leftByRefusal, lengths, shownOnPanel}
 
 pub bay-worked : otherwise (alone 0) emptyStretch bay ≡ 0
@@ -89,3 +90,32 @@ lengths-worked = refl
 pub panel-worked : shownOnPanel ≡ 2 ∷ 1 ∷ 0 ∷ 0 ∷ 1 ∷ 1 ∷ 0 ∷ 0 ∷ 0 ∷ 2 ∷ 0 ∷ 0 ∷ 0 ∷ []
 unfolding boxAfter bayPanelOf panelOf difference emptyStretch partOf vacated filled bayStepOf bayChargedOf wouldPass totalIn addedBelow deliveredBy ofBits whole inUnsigned toUnsigned bayTickOf following bayReleaseOf bayAdmitOf baySaveOf bayForgetOf bayRestoreOf saveOf forgetOf lookup place put zeros leBytes leNumber tickBy checked read front commandOf distinct wellFormed before everyLabel labelsOf subset disjoint valid active activeLabels membersFrom declaredBy commands loopNesting nesting ceiling encodeState decodeState encodeAnswer expand reactBy errorsBy reactionsBy none only member join insert remove
 panel-worked = refl
+
+-- ---- the ledger
+pub ledger-worked : otherwise (alone 0) emptyStretch ledgersCalls ≡ 0
+unfolding otherwise emptyStretch partOf vacated filled bayStepOf bayChargedOf wouldPass totalIn addedBelow deliveredBy ofBits whole inUnsigned toUnsigned bayTickOf following bayReleaseOf bayAdmitOf baySaveOf bayForgetOf bayRestoreOf saveOf forgetOf lookup place put zeros leBytes leNumber tickBy checked read front commandOf distinct wellFormed before everyLabel labelsOf subset disjoint valid active activeLabels membersFrom declaredBy commands loopNesting nesting ceiling encodeState decodeState encodeAnswer expand reactBy errorsBy reactionsBy none only member join insert remove bayLedgerOf bayNewYearOf totalsBytes toBits ofInt
+ledger-worked = refl
+
+pub nineteen-worked : otherwise (alone 0) emptyStretch turnedDown ≡ 0
+unfolding otherwise emptyStretch partOf vacated filled bayStepOf bayChargedOf wouldPass totalIn addedBelow deliveredBy ofBits whole inUnsigned toUnsigned bayTickOf following bayReleaseOf bayAdmitOf baySaveOf bayForgetOf bayRestoreOf saveOf forgetOf lookup place put zeros leBytes leNumber tickBy checked read front commandOf distinct wellFormed before everyLabel labelsOf subset disjoint valid active activeLabels membersFrom declaredBy commands loopNesting nesting ceiling encodeState decodeState encodeAnswer expand reactBy errorsBy reactionsBy none only member join insert remove bayLedgerOf bayNewYearOf totalsBytes toBits ofInt
+nineteen-worked = refl
+
+pub filled-up-worked : totalAfter filledUp ≡ 16777216
+unfolding boxAfter emptyStretch partOf vacated filled bayStepOf bayChargedOf wouldPass totalIn addedBelow deliveredBy ofBits whole inUnsigned toUnsigned bayTickOf following bayReleaseOf bayAdmitOf baySaveOf bayForgetOf bayRestoreOf saveOf forgetOf lookup place put zeros leBytes leNumber tickBy checked read front commandOf distinct wellFormed before everyLabel labelsOf subset disjoint valid active activeLabels membersFrom declaredBy commands loopNesting nesting ceiling encodeState decodeState encodeAnswer expand reactBy errorsBy reactionsBy none only member join insert remove bayLedgerOf bayNewYearOf totalsBytes toBits ofInt
+filled-up-worked = refl
+
+pub overfull-worked : totalAfter overfull ≡ 16777215
+unfolding boxAfter emptyStretch partOf vacated filled bayStepOf bayChargedOf wouldPass totalIn addedBelow deliveredBy ofBits whole inUnsigned toUnsigned bayTickOf following bayReleaseOf bayAdmitOf baySaveOf bayForgetOf bayRestoreOf saveOf forgetOf lookup place put zeros leBytes leNumber tickBy checked read front commandOf distinct wellFormed before everyLabel labelsOf subset disjoint valid active activeLabels membersFrom declaredBy commands loopNesting nesting ceiling encodeState decodeState encodeAnswer expand reactBy errorsBy reactionsBy none only member join insert remove bayLedgerOf bayNewYearOf totalsBytes toBits ofInt
+overfull-worked = refl
+
+pub twice-worked : totalAfter twice ≡ 10
+unfolding boxAfter emptyStretch partOf vacated filled bayStepOf bayChargedOf wouldPass totalIn addedBelow deliveredBy ofBits whole inUnsigned toUnsigned bayTickOf following bayReleaseOf bayAdmitOf baySaveOf bayForgetOf bayRestoreOf saveOf forgetOf lookup place put zeros leBytes leNumber tickBy checked read front commandOf distinct wellFormed before everyLabel labelsOf subset disjoint valid active activeLabels membersFrom declaredBy commands loopNesting nesting ceiling encodeState decodeState encodeAnswer expand reactBy errorsBy reactionsBy none only member join insert remove bayLedgerOf bayNewYearOf totalsBytes toBits ofInt
+twice-worked = refl
+
+pub chosen-run-worked : totalAfter chosenRun ≡ 7
+unfolding boxAfter emptyStretch partOf vacated filled bayStepOf bayChargedOf wouldPass totalIn addedBelow deliveredBy ofBits whole inUnsigned toUnsigned bayTickOf following bayReleaseOf bayAdmitOf baySaveOf bayForgetOf bayRestoreOf saveOf forgetOf lookup place put zeros leBytes leNumber tickBy checked read front commandOf distinct wellFormed before everyLabel labelsOf subset disjoint valid active activeLabels membersFrom declaredBy commands loopNesting nesting ceiling encodeState decodeState encodeAnswer expand reactBy errorsBy reactionsBy none only member join insert remove bayLedgerOf bayNewYearOf totalsBytes toBits ofInt
+chosen-run-worked = refl
+
+pub in-vain-worked : totalAfter inVain ≡ 0
+unfolding boxAfter emptyStretch partOf vacated filled bayStepOf bayChargedOf wouldPass totalIn addedBelow deliveredBy ofBits whole inUnsigned toUnsigned bayTickOf following bayReleaseOf bayAdmitOf baySaveOf bayForgetOf bayRestoreOf saveOf forgetOf lookup place put zeros leBytes leNumber tickBy checked read front commandOf distinct wellFormed before everyLabel labelsOf subset disjoint valid active activeLabels membersFrom declaredBy commands loopNesting nesting ceiling encodeState decodeState encodeAnswer expand reactBy errorsBy reactionsBy none only member join insert remove bayLedgerOf bayNewYearOf totalsBytes toBits ofInt
+in-vain-worked = refl

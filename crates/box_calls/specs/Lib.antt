@@ -13,5 +13,7 @@ pub mod Instants
 pub mod Previews
 pub mod Years
 pub mod WorkedRecords
+pub mod WorkedLedgers
 pub mod WrongBoxes
 pub mod WrongPositions
+pub mod WrongLedgers

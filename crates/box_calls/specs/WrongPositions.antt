@@ -16,7 +16,7 @@ use Rattle.box_calls.specs.Lists.{Calling}
 use Rattle.box_calls.specs.WrongBoxes.{instead}
 
 -- what a call comes to, with another one for a release, for a save or for a restore
-abbrev altered : (released : Called → Called) (saved : ℕ → Called → Called) (restored : Called → Called) → Call → Called → Called
+abbrev pub altered : (released : Called → Called) (saved : ℕ → Called → Called) (restored : Called → Called) → Call → Called → Called
 altered released saved restored (admit t) o = o
 altered released saved restored release o = released o
 altered released saved restored (tick e answer trace) o = o

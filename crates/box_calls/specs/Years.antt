@@ -10,7 +10,7 @@ use lib.Dec.{T, eqb}
 use Rattle.limits.specs.Limits.{litresLimit}
 use Rattle.litres.specs.Litres.{whole, within}
 use Rattle.ledgers.specs.Ledgers as Ledgers
-use Rattle.ledgers.specs.Ledgers.{farmCount, readingLength, fieldIn, totalIn, exactTotal, shownTotal, readingOf}
+use Rattle.ledgers.specs.Ledgers.{farmCount, readingLength, fieldIn, totalIn, exactTotal, readingOf, totalRead}
 use Rattle.recordings.specs.Record.{recordLength}
 use Rattle.demands.specs.Tick.{tickOf}
 use Rattle.demands.specs.Demands as demands
@@ -45,6 +45,28 @@ deliveredSince call bay f box sum (x ∷ xs) =
     (cond (eqb (x .bay) bay && eqb (number (call box bay (x .call))) 0) (deliveredAfter f (x .call) (stretchOf bay box) sum) sum)
     xs
 
+-- a list of calls without a new year of the bay number
+abbrev pub InYear : Call → Type 0
+InYear (admit t) = Unit {0}
+InYear release = Unit {0}
+InYear (tick e answer trace) = Unit {0}
+InYear (save name) = Unit {0}
+InYear (restore name) = Unit {0}
+InYear (forget name) = Unit {0}
+InYear (service trace view) = Unit {0}
+InYear (panel trace view) = Unit {0}
+InYear (preview e unknown buffer) = Unit {0}
+InYear (ledger totals) = Unit {0}
+InYear newYear = ⊥
+
+pub data SameYear (bay : ℕ) : List Request → Type 0 where
+  done : SameYear bay []
+  more : {x : Request} {xs : List Request} → (x .bay ≡ bay → InYear (x .call)) → SameYear bay xs → SameYear bay (x ∷ xs)
+
+unfoldable pub sumOf : List ℕ → ℕ
+sumOf [] = 0
+sumOf (n ∷ ns) = n + sumOf ns
+
 -- ---- 'Farm totals stay exact whole numbers equal to the sum of that farm's deliveries since the last clearing'
 pub record TotalIs (farm : ℕ) (held : List ℕ) (sum : ℕ) : Type 0 where
   pub a-whole-number : whole (fieldIn farm held) ≡ true
@@ -59,11 +81,11 @@ TotalsExact call =
 
 -- ---- every box, whatever its bytes
 -- 'Reading it writes the 32 totals, then the ledger's total', and leaves the box; each total read is the farm's, and the ledger's lies
--- 'within 496 litres of the exact sum' of the 32
+-- 'within 496 litres of the exact sum' of the 32 that are read
 pub record ReadingIs (held reading : List ℕ) : Type 0 where
   pub bytes : reading ≡ readingOf held
   pub each : (farm : ℕ) → farm < farmCount → totalIn farm reading ≡ totalIn farm held
-  pub near : T (within 496 (shownTotal held) (exactTotal farmCount held))
+  pub near : T (within 496 (totalRead reading) (exactTotal farmCount reading))
 
 abbrev pub LedgerShows : Calling → Type 0
 LedgerShows call =

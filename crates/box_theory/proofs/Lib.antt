@@ -18,4 +18,5 @@ pub mod Returns
 pub mod Years
 pub mod WrongBoxes
 pub mod WrongPositions
+pub mod WrongLedgers
 pub mod Theorems

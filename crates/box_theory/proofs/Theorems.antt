@@ -1,5 +1,5 @@
 -- The theorems about a box (02, items 8 to 12): of the definitions of the calls, which the code meets for all arguments.
-use Prim.Native.Nat.{ℕ, _<_}
+use Prim.Native.Nat.{ℕ, _+_, _<_}
 use mathlib.Core.Path.{_≡_, refl, sym, ap, _∙_}
 use mathlib.Core.Logic.{_≢_}
 use mathlib.Core.Option.{some}
@@ -34,11 +34,13 @@ use Rattle.box_calls.specs.Claims.{RefusalsLeave, OthersStay, Isolated, BySum, 
 use Rattle.box_calls.specs.Positions.{savedIn, PositionsSaved, PositionsValid, SaveNumbers, KnownOnly, ComesBack, LosesPositions, PositionDemands}
 use Rattle.box_calls.specs.Instants.{recordsIn, inputsIn, instantsIn, RecordIs, NumberedFromOne, ServiceOnlyFixed, ServiceShows, PanelShows, PanelsAlike, ReaderNumbers, RecordLength, RecordDemands}
 use Rattle.box_calls.specs.Previews.{PreviewShows, PreviewNumbers}
-use Rattle.box_calls.specs.Years.{deliveredSince, TotalsExact, LedgerShows, YearBegins, LedgerNumbers, Nineteen, PreviewsNeverNineteen, LedgerDemands}
+use Rattle.box_calls.specs.Years.{deliveredSince, SameYear, sumOf, TotalsExact, LedgerShows, YearBegins, LedgerNumbers, Nineteen, PreviewsNeverNineteen, LedgerDemands}
 use Rattle.box_calls.specs.WrongBoxes as wrong
 use Rattle.box_theory.proofs.WrongBoxes as refuted
 use Rattle.box_calls.specs.WrongPositions as slips
 use Rattle.box_theory.proofs.WrongPositions as refutes
+use Rattle.box_calls.specs.WrongLedgers as ledgers
+use Rattle.box_theory.proofs.WrongLedgers as wrongs
 use Rattle.box_theory.proofs.Stretches as stretches
 use Rattle.box_theory.proofs.Numbers as numbers
 use Rattle.box_theory.proofs.Isolation as apart
@@ -184,6 +186,17 @@ module _ (box : List ℕ) (bay : ℕ) (t : Terms) (small : Sendable (admit t)) (
     pub litres-in-bay : (p : Statement) → Spells (t .sequence) p → NoSetpause p → (farm : ℕ)
         → tickLitres bay farm from xs ≡ paperDelivered farm (Rewriting.fresh (program (t .readBack) p)) (ticksTo bay from xs)
     litres-in-bay = runs.litres-agreeing box bay t small admitted xs k
+
+    -- and the ledger has grown by what the paper delivers, tick by tick, if no new year came in between
+    pub ledger-by-paper : SameYear bay xs → (p : Statement) → Spells (t .sequence) p → NoSetpause p → (farm : ℕ) → farm < farmCount
+        → totalIn farm (ledgerIn (stretchOf bay now))
+        ≡ totalIn farm (ledgerIn (stretchOf bay from)) + sumOf (paperDelivered farm (Rewriting.fresh (program (t .readBack) p)) (ticksTo bay from xs))
+    ledger-by-paper y p q plain farm l =
+        let b = runs.is-bay box bay t small admitted in
+        let before = totalIn farm (ledgerIn (stretchOf bay from)) in
+        years.total-since bay b farm l from (runs.begun box bay t small admitted .here .0) before refl xs
+        ∙ years.year-sums bay farm from xs y before
+        ∙ ap (λ (ls : List ℕ). before + sumOf ls) (litres-in-bay p q plain farm)
 
 -- ---- positions (02, item 9)
 -- 'each a 32-bit name and the label set of a waiting machine. Saving under a known name replaces it; forgetting one frees its place for
@@ -417,3 +430,8 @@ refused-boxes = (refuted.not-readsNeighbour, refuted.not-forgetsBay, refuted.not
 pub refused-positions : (¬ LosesPositions slips.keepsPositions) × (¬ PositionsSaved slips.keepsFirst)
     × (¬ InBoxes slips.fullFirst (SaveNumbers slips.fullFirst)) × (¬ ComesBack slips.leavesPhase)
 refused-positions = (refutes.not-keepsPositions, refutes.not-keepsFirst, refutes.not-fullFirst, refutes.not-leavesPhase)
+
+-- a ledger that a restore takes back, litres of a wrong instant, litres of the run not chosen, and 19 tested in single precision
+pub refused-ledgers : (¬ TotalsExact ledgers.rewinds) × (¬ TotalsExact ledgers.entersWrong) × (¬ TotalsExact ledgers.entersBoth)
+    × (¬ Nineteen ledgers.testsInSingles)
+refused-ledgers = (wrongs.not-rewinds, wrongs.not-entersWrong, wrongs.not-entersBoth, wrongs.not-testsInSingles)

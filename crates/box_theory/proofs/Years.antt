@@ -9,7 +9,7 @@ use mathlib.Core.Bool.{Bool, true, false, _||_, cond, true≢false}
 use mathlib.Core.Option.{Option, some, none}
 use mathlib.Core.List.{List, [], _∷_}
 use lib.ListN.{length}
-use lib.Dec.{eqb, ltb}
+use lib.Dec.{T, eqb, ltb}
 use borrow.Author.Tests.{eq-eqb, ne-eqb, ltb-true}
 use Rattle.limits.specs.Limits.{numberBytes, litresLimit}
 use Rattle.numbers.specs.Bytes.{leBytes}
@@ -21,9 +21,10 @@ use Rattle.parts.proofs.Parts.{slot-put, put-behind}
 use Rattle.parts.proofs.Zeros.{slot-zeros}
 use Rattle.positions.specs.Table.{tableLength, lookup, Kept, kept, tableKept, saveOf, forgetOf}
 use Rattle.positions.proofs.TableLaws.{save-sized, forget-sized}
-use Rattle.ledgers.specs.Ledgers.{farmCount, ledgerLength, readingOf, totalIn, Exact, cleared, wouldPass, passes, added}
+use Rattle.litres.specs.Litres.{within}
+use Rattle.ledgers.specs.Ledgers.{farmCount, ledgerLength, exactTotal, readingOf, totalRead, totalIn, Exact, cleared, wouldPass, passes, added}
 use Rattle.ledgers.proofs.Totals.{passes-not}
-use Rattle.ledgers.proofs.Theorems.{added-total, added-stays-exact, total-most, shown-within, reading-total, cleared-total, cleared-exact, cleared-sized, cleared-is}
+use Rattle.ledgers.proofs.Theorems.{added-total, added-stays-exact, total-most, reading-total, reading-within, cleared-total, cleared-exact, cleared-sized, cleared-is}
 use Rattle.demands.specs.Demands as demands
 use Rattle.demands.proofs.Sequence.{accepted}
 use Rattle.box_calls.specs.Called.{Called, called, number, memoryAfter}
@@ -31,7 +32,8 @@ use Rattle.box_calls.specs.Stretch.{stateAt, countAt, positionsAt, bayLength, s
 use Rattle.box_calls.specs.BayCalls.{positionsKept, restored, delivering, bayTickOf, bayReleaseOf, bayAdmitOf, baySaveOf, bayForgetOf, bayRestoreOf, bayNewYearOf}
 use Rattle.box_calls.specs.Box.{bayCount, boxLength, emptyBox, stretchOf, present, Call, admit, release, tick, save, restore, forget, service, panel, preview, ledger, newYear, bayCall, isFor, callOf}
 use Rattle.box_calls.specs.Lists.{Request, afterCall, boxAfter}
-use Rattle.box_calls.specs.Years.{deliveredAfter, deliveredSince, TotalsExact, LedgerShows, YearBegins, LedgerNumbers, ownNumber, WouldPass, Nineteen, PreviewsNeverNineteen}
+use Rattle.box_calls.specs.BayRuns.{withLitres, tickLitres}
+use Rattle.box_calls.specs.Years.{deliveredAfter, deliveredSince, InYear, SameYear, done, more, sumOf, TotalsExact, LedgerShows, YearBegins, LedgerNumbers, ownNumber, WouldPass, Nineteen, PreviewsNeverNineteen}
 use Rattle.box_fields.proofs.Fields.{ledger-sized, vacated-behind, filled-behind}
 use Rattle.box_theory.proofs.Moves.{positions-sized}
 use Rattle.box_theory.proofs.Ticks.{next, entered, length-stepped, length-entered, new-sized, Ticked, down, full, instant, ticked, tick-number}
@@ -237,13 +239,82 @@ totals-exact xs bay b f l =
       is-sum = total-since bay b f l emptyBox z 0 (ap (totalIn f) first ∙ cleared-total f l) xs;
     }
 
+-- ---- within a year: what was there, and the litres of the ticks
+module _ (bay f : ℕ) where
+  abbrev Sums : (box : List ℕ) (xs : List Request) → Type 0
+  Sums box xs = (sum : ℕ) → deliveredSince callOf bay f box sum xs ≡ sum + sumOf (tickLitres bay f box xs)
+
+  tick-sums : (box : List ℕ) (e : ℕ) (answer trace : List ℕ) (xs : List Request) → Sums (memoryAfter (callOf box bay (tick e answer trace))) xs
+      → Sums box (record { bay = bay; call = tick e answer trace } ∷ xs)
+  unfolding deliveredSince tickLitres sumOf
+  tick-sums box e answer trace xs r sum =
+      let n = number (callOf box bay (tick e answer trace)) in
+      let x = delivering (stretchOf bay box) e f in
+      let same = eq-eqb bay bay refl in
+      elim (ℕ-discrete n 0) [
+        | yes i ↦ rw (same, eq-eqb n 0 i, ne-eqb n 19 (λ y. omega arith)) (let k = r (sum + x) in omega arith)
+        | no i ↦ elim (ℕ-discrete n 19) [
+          | yes j ↦ rw (same, ne-eqb n 0 i, eq-eqb n 19 j) (r sum)
+          | no j ↦ rw (same, ne-eqb n 0 i, ne-eqb n 19 j) (let k = r sum in omega arith)
+        ]
+      ]
+
+  -- another call to the bay number
+  other-sums : (box : List ℕ) (c : Call) (xs : List Request) → ((s : List ℕ) (sum : ℕ) → deliveredAfter f c s sum ≡ sum)
+      → ((s : List ℕ) (o : Called) (ls : List ℕ) → withLitres f s c o ls ≡ ls) → Sums (memoryAfter (callOf box bay c)) xs
+      → Sums box (record { bay = bay; call = c } ∷ xs)
+  unfolding deliveredSince tickLitres
+  other-sums box c xs d l r sum =
+      let after = memoryAfter (callOf box bay c) in
+      rw (eq-eqb bay bay refl)
+      (ap (λ (k : ℕ). deliveredSince callOf bay f after k xs) (by (eqb (number (callOf box bay c)) 0)) ∙ r sum
+      ∙ ap (λ (ls : List ℕ). sum + sumOf ls) (sym (l (stretchOf bay box) (callOf box bay c) (tickLitres bay f after xs))))
+    where
+      by : (b : Bool) → cond b (deliveredAfter f c (stretchOf bay box) sum) sum ≡ sum
+      by true = d (stretchOf bay box) sum
+      by false = refl
+
+  own-sums : (box : List ℕ) (c : Call) (xs : List Request) → InYear c → Sums (memoryAfter (callOf box bay c)) xs
+      → Sums box (record { bay = bay; call = c } ∷ xs)
+  own-sums box (admit t) xs y r = other-sums box (admit t) xs (λ s sum. refl) (λ s o ls. refl) r
+  own-sums box release xs y r = other-sums box release xs (λ s sum. refl) (λ s o ls. refl) r
+  own-sums box (tick e answer trace) xs y r = tick-sums box e answer trace xs r
+  own-sums box (save name) xs y r = other-sums box (save name) xs (λ s sum. refl) (λ s o ls. refl) r
+  own-sums box (restore name) xs y r = other-sums box (restore name) xs (λ s sum. refl) (λ s o ls. refl) r
+  own-sums box (forget name) xs y r = other-sums box (forget name) xs (λ s sum. refl) (λ s o ls. refl) r
+  own-sums box (service trace view) xs y r = other-sums box (service trace view) xs (λ s sum. refl) (λ s o ls. refl) r
+  own-sums box (panel trace view) xs y r = other-sums box (panel trace view) xs (λ s sum. refl) (λ s o ls. refl) r
+  own-sums box (preview e u buffer) xs y r = other-sums box (preview e u buffer) xs (λ s sum. refl) (λ s o ls. refl) r
+  own-sums box (ledger totals) xs y r = other-sums box (ledger totals) xs (λ s sum. refl) (λ s o ls. refl) r
+  own-sums box newYear xs y r = absurd y
+
+  pub year-sums : (box : List ℕ) (xs : List Request) → SameYear bay xs → Sums box xs
+  unfolding deliveredSince tickLitres sumOf
+  year-sums box [] done = λ sum. omega arith
+  year-sums box (x ∷ xs) (more y k) =
+      elim (ℕ-discrete (x .bay) bay) [
+        | yes q ↦ subst (λ (j : ℕ). Sums box (record { bay = j; call = x .call } ∷ xs)) (sym q)
+            (own-sums box (x .call) xs (y q) (year-sums (memoryAfter (callOf box bay (x .call))) xs k))
+        | no q ↦ λ sum. rw (ne-eqb (x .bay) bay q) (year-sums (afterCall callOf box x) xs k sum)
+      ]
+
 -- ---- the ledger's calls, in any box
+-- the totals that are read have the exact sum of the farms'
+same-exact : (held : List ℕ) (n : ℕ) → n ≤ farmCount → exactTotal n (readingOf held) ≡ exactTotal n held
+unfolding exactTotal
+same-exact held zero l = refl
+same-exact held (suc n) l = omega (arith, same-exact held n (omega arith), reading-total held n (omega arith))
+
 pub ledger-shows : LedgerShows callOf
 ledger-shows box bay totals n =
     let held = ledgerIn (stretchOf bay box) in (
       readingOf held,
       shown-in box bay (ledger totals) (readingOf held) n (ledger-reads (stretchOf bay box) totals .shows),
-      record { bytes = refl; each = reading-total held; near = shown-within held },
+      record {
+        bytes = refl;
+        each = reading-total held;
+        near = subst (λ (n : ℕ). T (within 496 (totalRead (readingOf held)) n)) (sym (same-exact held farmCount (omega arith))) (reading-within held);
+      },
     )
 
 pub year-begins : YearBegins callOf

@@ -1,0 +1,71 @@
+-- Each box of box_calls/specs/WrongLedgers breaks a claim of box_calls/specs/Years, by computation.
+use Prim.Native.Nat.{ℕ, _<_}
+use native.Mathlib.Omega.{arith}
+use mathlib.Core.Path.{_≡_, refl}
+use mathlib.Core.List.{List, [], _∷_}
+use lib.ListN.{replicate}
+use lib.Ieee.{ofBits, toBits, ofInt, add, whole, inUnsigned, toUnsigned}
+use Rattle.limits.specs.Limits.{litresLimit}
+use Rattle.esterel.specs.Sets as Sets
+use Rattle.esterel.specs.Sets.{only, member, join, insert, remove}
+use Rattle.esterel.specs.Reaction.{reactBy}
+use Rattle.esterel.specs.Errors.{errorsBy}
+use Rattle.esterel.specs.Reactions.{reactionsBy}
+use Rattle.esterel.specs.Litres.{deliveredBy}
+use Rattle.esterel.specs.LabelTests.{subset, disjoint, labelsOf, activeLabels, everyLabel, distinct, before, wellFormed, valid}
+use Rattle.esterel.specs.States.{active}
+use Rattle.esterel.specs.Expansion.{expand}
+use Rattle.esterel.specs.ReadBack.{membersFrom, declaredBy}
+use Rattle.esterel.specs.Ceiling.{commands, loopNesting, nesting, ceiling}
+use Rattle.sequence.specs.Commands.{commandOf}
+use Rattle.sequence.specs.Reader.{front, read}
+use Rattle.sequence.specs.Check.{checked}
+use Rattle.numbers.specs.Bytes.{leBytes, leNumber}
+use Rattle.states.specs.StateRecord.{encodeState, decodeState}
+use Rattle.answers.specs.AnswerRecord.{encodeAnswer, answerLength}
+use Rattle.parts.specs.Parts.{put, zeros}
+use Rattle.positions.specs.Table.{place, lookup, saveOf, forgetOf}
+use Rattle.ledgers.specs.Ledgers.{totalIn, totalsBytes, wouldPass, addedBelow}
+use Rattle.demands.specs.Tick.{tickBy}
+use Rattle.recordings.specs.Record.{recordLength}
+use Rattle.recordings.specs.Recording.{following}
+use Rattle.box_calls.specs.Stretch.{partOf, vacated, filled}
+use Rattle.box_calls.specs.BayCalls.{bayStepOf, bayChargedOf, bayTickOf, bayReleaseOf, bayAdmitOf, baySaveOf, bayForgetOf, bayRestoreOf}
+use Rattle.box_calls.specs.Box.{emptyBox, present, callOf}
+use Rattle.box_calls.specs.Lists.{Request, boxAfter}
+use Rattle.box_calls.specs.Years.{deliveredSince, TotalsExact, Nineteen}
+use Rattle.box_calls.specs.Worked.{admitted, ticked}
+use Rattle.box_calls.specs.WorkedPositions.{saved, restored}
+use Rattle.box_calls.specs.WorkedLedgers.{fiveOnce, oneTooMany, inVain, chosenRun}
+use Rattle.box_calls.specs.WrongLedgers.{rewinds, entersWrong, entersBoth, passesInSingles, testsInSingles}
+
+-- ---- 5 litres, and back to the position after them
+abbrev back : List Request
+back = admitted 0 fiveOnce ∷ ticked 0 ∷ saved 0 1 ∷ restored 0 1 ∷ []
+
+pub not-rewinds : ¬ TotalsExact rewinds
+unfolding boxAfter deliveredSince callOf emptyBox present partOf vacated filled bayStepOf bayChargedOf wouldPass totalIn addedBelow deliveredBy ofBits whole inUnsigned toUnsigned bayTickOf following bayReleaseOf bayAdmitOf baySaveOf bayForgetOf bayRestoreOf saveOf forgetOf lookup place put zeros leBytes leNumber tickBy checked read front commandOf distinct wellFormed before everyLabel labelsOf subset disjoint valid active activeLabels membersFrom declaredBy commands loopNesting nesting ceiling encodeState decodeState encodeAnswer expand reactBy errorsBy reactionsBy Sets.none only member join insert remove totalsBytes toBits ofInt
+not-rewinds h = let e : _≡_ {A = ℕ} 0 5 = h back 0 (omega arith) 2 (omega arith) .is-sum in omega arith
+
+-- ---- 5 litres in a wrong instant
+pub not-entersWrong : ¬ TotalsExact entersWrong
+unfolding boxAfter deliveredSince callOf emptyBox present partOf vacated filled bayStepOf bayChargedOf wouldPass totalIn addedBelow deliveredBy ofBits whole inUnsigned toUnsigned bayTickOf following bayReleaseOf bayAdmitOf baySaveOf bayForgetOf bayRestoreOf saveOf forgetOf lookup place put zeros leBytes leNumber tickBy checked read front commandOf distinct wellFormed before everyLabel labelsOf subset disjoint valid active activeLabels membersFrom declaredBy commands loopNesting nesting ceiling encodeState decodeState encodeAnswer expand reactBy errorsBy reactionsBy Sets.none only member join insert remove totalsBytes toBits ofInt
+not-entersWrong h = let e : _≡_ {A = ℕ} 5 0 = h inVain 0 (omega arith) 2 (omega arith) .is-sum in omega arith
+
+-- ---- 5 litres in the one run, 7 in the one that answers
+pub not-entersBoth : ¬ TotalsExact entersBoth
+unfolding boxAfter deliveredSince callOf emptyBox present partOf vacated filled bayStepOf bayChargedOf wouldPass totalIn addedBelow deliveredBy ofBits whole inUnsigned toUnsigned bayTickOf following bayReleaseOf bayAdmitOf baySaveOf bayForgetOf bayRestoreOf saveOf forgetOf lookup place put zeros leBytes leNumber tickBy checked read front commandOf distinct wellFormed before everyLabel labelsOf subset disjoint valid active activeLabels membersFrom declaredBy commands loopNesting nesting ceiling encodeState decodeState encodeAnswer expand reactBy errorsBy reactionsBy Sets.none only member join insert remove totalsBytes toBits ofInt
+not-entersBoth h = let e : _≡_ {A = ℕ} 12 7 = h chosenRun 0 (omega arith) 2 (omega arith) .is-sum in omega arith
+
+-- ---- 16,777,216 litres, and one more
+abbrev full : List Request
+full = admitted 0 oneTooMany ∷ ticked 0 ∷ []
+
+pub not-testsInSingles : ¬ Nineteen testsInSingles
+unfolding boxAfter deliveredSince callOf emptyBox present partOf vacated filled bayStepOf bayChargedOf wouldPass totalIn addedBelow deliveredBy ofBits whole inUnsigned toUnsigned bayTickOf following bayReleaseOf bayAdmitOf baySaveOf bayForgetOf bayRestoreOf saveOf forgetOf lookup place put zeros leBytes leNumber tickBy checked read front commandOf distinct wellFormed before everyLabel labelsOf subset disjoint valid active activeLabels membersFrom declaredBy commands loopNesting nesting ceiling encodeState decodeState encodeAnswer expand reactBy errorsBy reactionsBy Sets.none only member join insert remove totalsBytes toBits ofInt passesInSingles add
+not-testsInSingles h =
+    let box : List ℕ = boxAfter callOf emptyBox full in
+    let past : 16777216 < 16777217 = omega arith in
+    let e : _≡_ {A = ℕ} 0 19 =
+    h box refl 0 (omega arith) (λ z. omega arith) 0 (replicate answerLength 77) (replicate recordLength 77) .0 .1 (refl, (2, omega arith, past)) in
+    omega arith
