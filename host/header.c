@@ -99,13 +99,44 @@ static void previews(void)
     }
 }
 
+/* Totals by their bits, with the exponent of each; each farm has bytes that no other has; and bits that no ledger shows. */
+static void ledgers(void)
+{
+    static const struct { uint32_t bits, litres; } totals[] = {
+        {0x00000000, 0},        {0x3F800000, 1},        {0x40000000, 2},        {0x40400000, 3},
+        {0x41200000, 10},       {0x49742400, 1000000},  {0x4B7FFFFF, 16777215}, {0x4B800000, 16777216},
+        {0x4B800001, 16777218}, {0x4E000000, 536870912}, {0x4F7FFFFF, 4294967040u},
+    };
+    static const uint32_t none[] = {0x80000000, 0xBF800000, 0x00000001, 0x3F7FFFFF,
+                                    0x4F800000, 0x7F800000, 0x7FC00000, 0xFFFFFFFF};
+    uint8_t ledger[INTAKE_LEDGER_LENGTH];
+    unsigned i, farm, other;
+    for (farm = 0; farm <= INTAKE_FARM_COUNT; farm++)
+        for (i = 0; i < sizeof totals / sizeof *totals; i++) {
+            uint32_t litres = totals[i].litres;
+            int own = farm == INTAKE_FARM_COUNT; /* the ledger's own total */
+            memset(ledger, 0, sizeof ledger);
+            for (other = 0; other < 4; other++)
+                ledger[4 * farm + other] = (uint8_t)(totals[i].bits >> 8 * other & 0xFF);
+            for (other = 0; other < INTAKE_FARM_COUNT + 2; other++)
+                expect(intake_ledger_farm(ledger, other) == (other == farm && !own ? litres : 0), "total of a farm", other);
+            expect(intake_ledger_total(ledger) == (own ? litres : 0), "total of a ledger", farm);
+        }
+    for (i = 0; i < sizeof none / sizeof *none; i++) {
+        memset(ledger, 0, sizeof ledger);
+        for (other = 0; other < 4; other++)
+            ledger[other] = (uint8_t)(none[i] >> 8 * other & 0xFF);
+        expect(intake_ledger_farm(ledger, 0) == 0, "bits that no ledger shows", i);
+    }
+}
+
 /* Every number, kind and two beyond have words of their own; the two beyond share theirs. */
 static void texts(void)
 {
     unsigned i, j;
-    for (i = 0; i <= INTAKE_SEVENTH_UNKNOWN + 2; i++)
+    for (i = 0; i <= INTAKE_ABOVE_FARM_LIMIT + 2; i++)
         for (j = 0; j < i; j++)
-            expect((strcmp(intake_text(i), intake_text(j)) == 0) == (j > INTAKE_SEVENTH_UNKNOWN), "text of a number", i);
+            expect((strcmp(intake_text(i), intake_text(j)) == 0) == (j > INTAKE_ABOVE_FARM_LIMIT), "text of a number", i);
     for (i = 0; i <= INTAKE_NOT_STRONGLY_DETERMINISTIC + 2; i++)
         for (j = 0; j < i; j++)
             expect((strcmp(intake_kind_text(i), intake_kind_text(j)) == 0) == (j > INTAKE_NOT_STRONGLY_DETERMINISTIC),
@@ -123,6 +154,9 @@ static void lengths(void)
     expect(INTAKE_PANEL_EMITTED + INTAKE_PANEL_EMITTED_LENGTH == INTAKE_PANEL_LENGTH, "length of a panel", 0);
     expect(INTAKE_PREVIEW_NEVER + INTAKE_PREVIEW_NEVER_LENGTH == INTAKE_PREVIEW_WRONG, "sets of a preview", 0);
     expect(INTAKE_PREVIEW_CODE + 1 == INTAKE_PREVIEW_LENGTH, "length of a preview", 0);
+    expect(INTAKE_LEDGER_FARMS + INTAKE_LEDGER_FARMS_LENGTH == INTAKE_LEDGER_TOTAL, "farms of a ledger", 0);
+    expect(INTAKE_LEDGER_TOTAL + INTAKE_LEDGER_TOTAL_LENGTH == INTAKE_LEDGER_LENGTH, "length of a ledger", 0);
+    expect(INTAKE_LEDGER_FARMS_LENGTH == 4 * INTAKE_FARM_COUNT, "totals of a ledger", 0);
     expect(INTAKE_BOX_LENGTH % INTAKE_BAY_COUNT == 0, "length of a box", 0);
     expect(INTAKE_STACK_THREAD >= INTAKE_STACK_TICK && INTAKE_STACK_TICK >= INTAKE_STACK_CHECK, "stack", 0);
     expect(INTAKE_STACK_THREAD >= INTAKE_STACK_BOX, "stack of a box", 0);
@@ -135,6 +169,7 @@ int main(void)
     states();
     recordings();
     previews();
+    ledgers();
     texts();
     lengths();
     printf("%u passed, %u failed\n", passed, failed);

@@ -18,7 +18,7 @@
 
 /* The version of this interface. The first number moves when a host must change. */
 #define INTAKE_VERSION_MAJOR 2
-#define INTAKE_VERSION_MINOR 1
+#define INTAKE_VERSION_MINOR 2
 #define INTAKE_VERSION_PATCH 0
 #define INTAKE_VERSION (INTAKE_VERSION_MAJOR * 10000 + INTAKE_VERSION_MINOR * 100 + INTAKE_VERSION_PATCH)
 
@@ -49,16 +49,17 @@ extern "C" {
 #endif
 
 /*
- * What a call answers: 0, or the row of document 01, 'Turned down', that turns it down. The check gives 2 to 10, the
- * tick 1 to 12; of several rows that hold, the lowest, but rows 3 to 6 go command by command from the left. Row 6 by the
- * read-back set comes after them, once the whole statement was read, and before row 7. The calls on a box give 13 to 17
- * too: 13 before all others, 14 after row 10, 15 before 16, and 17 after row 12.
+ * What a call answers: 0, or the row of document 01, 'Turned down', that turns it down. The check gives 2 to 10 and 18, the
+ * tick 1 to 12 and 18; of several rows that hold, the lowest, but rows 3, 4, 5, 18 and 6 go command by command from the
+ * left, and at one command in this order. Row 6 by the read-back set comes after them, once the whole statement was read,
+ * and before row 7. The calls on a box give 13 to 17 and 19 too: 13 before all others, 14 after row 10, 15 before 16, 17
+ * after row 12, and 19 last of all.
  */
 enum intake_number {
     INTAKE_ACCEPTED = 0,                /* accepted */
-    INTAKE_BUFFER_LENGTH = 1,           /* buffer not of its length: state 17, answer 12, record 37, panel 13, preview 10, box 12,184 */
+    INTAKE_BUFFER_LENGTH = 1,           /* buffer not of its length: state 17, answer 12, record 37, panel 13, preview 10, ledger 132, box 12,184 */
     INTAKE_SEQUENCE_LENGTH = 2,         /* sequence of no bytes or over 1,024 */
-    INTAKE_UNKNOWN_COMMAND = 3,         /* command byte above 0B */
+    INTAKE_UNKNOWN_COMMAND = 3,         /* command byte above 0C */
     INTAKE_CUT_SHORT = 4,               /* operand or statement missing at the end */
     INTAKE_OPERAND_RANGE = 5,           /* operand outside its range: from label 128, signal 32, exit 16 on; exit 0 */
     INTAKE_TOO_DEEP = 6,                /* depth over 64, or a seventh signal inside six, read-back ones counted */
@@ -72,7 +73,9 @@ enum intake_number {
     INTAKE_ABOVE_CEILING = 14,          /* the ceilings of the bays present and its own sum to more than 65,536 */
     INTAKE_NO_POSITION = 15,            /* machine that is not waiting on saving, unknown name otherwise */
     INTAKE_POSITIONS_FULL = 16,         /* seventeenth name of a position */
-    INTAKE_SEVENTH_UNKNOWN = 17         /* seventh input of unknown status in a preview */
+    INTAKE_SEVENTH_UNKNOWN = 17,        /* seventh input of unknown status in a preview */
+    INTAKE_BAD_LITRES = 18,             /* litres not whole, below 0, minus zero or above 16,777,216 */
+    INTAKE_ABOVE_FARM_LIMIT = 19        /* the total of a farm and its litres would pass 16,777,216 */
 };
 
 /*
@@ -164,6 +167,19 @@ enum intake_preview {
     INTAKE_PREVIEW_LENGTH = 10
 };
 
+/*
+ * What is read of a ledger: a total for each of the farms 0 to 31, four bytes each, and then the ledger's own total,
+ * their sum. Each is a single-precision number, lowest byte first, and a whole one; intake_ledger_farm and
+ * intake_ledger_total give them as integers.
+ */
+enum intake_ledger {
+    INTAKE_LEDGER_FARMS = 0,
+    INTAKE_LEDGER_FARMS_LENGTH = 128,
+    INTAKE_LEDGER_TOTAL = 128,
+    INTAKE_LEDGER_TOTAL_LENGTH = 4,
+    INTAKE_LEDGER_LENGTH = 132
+};
+
 /* The place of an error of a read-back signal, which no command of the sequence declares. */
 enum intake_place {
     INTAKE_PLACE_READ_BACK = 65535
@@ -249,9 +265,9 @@ uint8_t intake_tick(const uint8_t *sequence, size_t sequence_length, uint8_t *st
 
 /*
  * A box holds the machines of up to INTAKE_BAY_COUNT bays, numbered from 0, each with its own sequence, read-back set,
- * set of service-only signals, state, positions and number of instants. It is lent memory of INTAKE_BOX_LENGTH bytes,
- * all of them 00 at first and from then on written by the calls below and by nobody else; docs/FORMAT.md has the
- * layout.
+ * set of service-only signals, state, positions and number of instants; and for each bay number, filled or empty, a ledger.
+ * It is lent memory of INTAKE_BOX_LENGTH bytes, all of them 00 at first and from then on written by the calls below and by
+ * nobody else; docs/FORMAT.md has the layout.
  *
  * The bays share a ceiling: what the instants of all bays present can take, one of each, sums to INTAKE_SHARED_CEILING
  * reactions at most. The part of a bay is fixed on admission: commands * (1 + loops) * 2^signals of its sequence, as above
@@ -262,16 +278,16 @@ uint8_t intake_tick(const uint8_t *sequence, size_t sequence_length, uint8_t *st
  * the other bays, by their parts of the ceiling.
  *
  * The numbers come in this order: INTAKE_NO_SUCH_BAY for a number above 7, then INTAKE_BUFFER_LENGTH for a box of another
- * length, then INTAKE_NO_SUCH_BAY for a bay that is filled on admission or empty otherwise, then those that each call adds.
- * After a call turned down the bytes of every buffer are unchanged, which is proved; that nothing is stored, not even bytes
- * of the same value, is tested (host/box.c).
+ * length, then INTAKE_NO_SUCH_BAY for a bay that is filled on admission or empty otherwise, which the two calls on a ledger
+ * leave out, then those that each call adds. After a call turned down the bytes of every buffer are unchanged, which is
+ * proved; that nothing is stored, not even bytes of the same value, is tested (host/box.c).
  *
  * The caller must see to it that the buffers of a call have the lengths given and share no byte, that what is not const
  * is readable and writable and the rest readable, and that nobody else uses them during the call: two threads do not
- * use one box at the same time, unless both only read it (intake_box_service, intake_box_panel, intake_box_preview). A
- * buffer of length 0 may be a null pointer. Every value of the bytes, every length and every bay number is allowed, also a
- * box that no call has written: the calls read and write no byte outside the buffers and always return. No address needs to
- * be aligned.
+ * use one box at the same time, unless both only read it (intake_box_service, intake_box_panel, intake_box_preview,
+ * intake_box_ledger). A buffer of length 0 may be a null pointer. Every value of the bytes, every length and every bay
+ * number is allowed, also a box that no call has written: the calls read and write no byte outside the buffers and always
+ * return. No address needs to be aligned.
  */
 #define INTAKE_BAY_COUNT 8
 #define INTAKE_BOX_LENGTH 12184
@@ -280,22 +296,27 @@ uint8_t intake_tick(const uint8_t *sequence, size_t sequence_length, uint8_t *st
 /*
  * Admits a sequence with its read-back set to an empty bay: its machine is fresh. The bay's panel never shows a signal
  * of `service_only`; bit s is signal s, every set is allowed, and no answer depends on it. After the numbers of every
- * call on a box come those of intake_check, 2 to 10, and then INTAKE_ABOVE_CEILING if the bay's part and the parts of
+ * call on a box come those of intake_check, 2 to 10 and 18, and then INTAKE_ABOVE_CEILING if the bay's part and the parts of
  * the bays present sum to more than the shared ceiling, in an empty box too. The sequence is copied: the caller's is
  * not needed afterwards.
  */
 uint8_t intake_box_admit(uint8_t *box, size_t box_length, uint32_t bay, const uint8_t *sequence, size_t sequence_length,
                          uint32_t read_back, uint32_t service_only);
 
-/* Takes the machine out of a filled bay, which is empty then, whatever the machine was doing; its positions are lost. */
+/*
+ * Takes the machine out of a filled bay, which is empty then, whatever the machine was doing; its positions are lost, and
+ * the ledger stays.
+ */
 uint8_t intake_box_release(uint8_t *box, size_t box_length, uint32_t bay);
 
 /*
  * Runs one instant of a filled bay: intake_tick on its sequence, state record and read-back set, which leaves a record
- * too: the host that keeps the records of a bay has a recording of it. After the numbers of every call on a box come
- * INTAKE_BUFFER_LENGTH for an answer or a record of another length and then those of intake_tick. In a box that these
- * calls alone have written they are INTAKE_ACCEPTED and INTAKE_OVER. A machine that is over stays in its bay, and keeps
- * its part of the ceiling, until it is released.
+ * too: the host that keeps the records of a bay has a recording of it. The litres of an instant that is not wrong go into
+ * the ledger of the bay number. After the numbers of every call on a box come INTAKE_BUFFER_LENGTH for an answer or a
+ * record of another length, then those of intake_tick, and last of all INTAKE_ABOVE_FARM_LIMIT if the instant would not be
+ * wrong and the total of some farm and its litres would pass INTAKE_FARM_LIMIT. In a box that these calls alone have
+ * written those of intake_tick are INTAKE_ACCEPTED and INTAKE_OVER. A machine that is over stays in its bay, and keeps its
+ * part of the ceiling, until it is released.
  */
 uint8_t intake_box_tick(uint8_t *box, size_t box_length, uint32_t bay, uint32_t input, uint8_t *answer,
                         size_t answer_length, uint8_t *record, size_t record_length);
@@ -357,7 +378,8 @@ uint8_t intake_box_panel(const uint8_t *box, size_t box_length, uint32_t bay, co
  * too. With no unknown input the preview has the emitted set, the set of all others and the code of the next answer. A
  * read-back signal among the unknown ones has no effect, since its status is never the host's, but counts as one of them.
  *
- * The box is not written: a preview is no instant and leaves no record. After the numbers of every call on a box come
+ * The box is not written: a preview is no instant, leaves no record, adds no litres and never gives
+ * INTAKE_ABOVE_FARM_LIMIT, where the tick may. After the numbers of every call on a box come
  * INTAKE_BUFFER_LENGTH for a preview of another length, then those of intake_tick on the bay's sequence, state record and
  * read-back set, and then INTAKE_SEVENTH_UNKNOWN for more than INTAKE_UNKNOWN_COUNT unknown inputs. In a box that these
  * calls alone have written those of intake_tick are INTAKE_ACCEPTED and INTAKE_OVER. A preview of k unknown inputs may take
@@ -367,6 +389,42 @@ uint8_t intake_box_panel(const uint8_t *box, size_t box_length, uint32_t bay, co
 
 uint8_t intake_box_preview(const uint8_t *box, size_t box_length, uint32_t bay, uint32_t input, uint32_t unknown,
                            uint8_t *preview, size_t preview_length);
+
+/*
+ * The year's ledger. Command 0C s v emits signal s with litres v, a single-precision number in four bytes, lowest first,
+ * that is whole, from 0 to INTAKE_FARM_LIMIT and not minus zero. The signal's number is the farm's. The litres of a farm in
+ * an instant are summed exactly over the run that is chosen, as often as a command delivers in it: those of a signal that a
+ * signal command declares are dropped, those of a read-back signal are kept. A wrong instant has none. An emission by 02
+ * carries no litres.
+ *
+ * Each bay number has a ledger of its own with a year total for each farm, 0 at first: an instant of the bay that is not
+ * wrong adds its litres there. Admission, release and coming back to a position leave it as it is, and only
+ * intake_box_new_year clears it. A farm's total is always the exact sum of its deliveries since the last clearing, a whole
+ * number of at most INTAKE_FARM_LIMIT litres. A tick that would let the total of a farm pass that gives
+ * INTAKE_ABOVE_FARM_LIMIT: it is no instant, and nothing is written, neither the state nor any farm's total. The host may
+ * tick again with other inputs, or after a new year. A farm whose litres in one instant are more than INTAKE_FARM_LIMIT by
+ * themselves gives it for ever, new year or not: mend the sequence.
+ *
+ *     uint8_t ledger[INTAKE_LEDGER_LENGTH];
+ *     if (intake_box_ledger(box, sizeof box, bay, ledger, sizeof ledger) == INTAKE_ACCEPTED)
+ *         pay(farm, intake_ledger_farm(ledger, farm))
+ *
+ * The ledger's total is added in single precision, over the farms 0 to 31 in that order, and lies within 496 litres of the
+ * exact sum of the 32. A host that wants that one adds the integers of intake_ledger_farm. intake_tick, which has no box,
+ * knows no ledger and never gives INTAKE_ABOVE_FARM_LIMIT. In a box that no call has written, a farm's total that is no
+ * whole number from 0 to INTAKE_FARM_LIMIT counts as 0.
+ *
+ * Both calls take an empty bay too: after INTAKE_NO_SUCH_BAY for a number above 7 and INTAKE_BUFFER_LENGTH for a box of
+ * another length comes, for reading, INTAKE_BUFFER_LENGTH for `totals` not of INTAKE_LEDGER_LENGTH bytes. Reading does not
+ * write the box.
+ */
+#define INTAKE_FARM_COUNT 32
+#define INTAKE_FARM_LIMIT 16777216
+
+uint8_t intake_box_ledger(const uint8_t *box, size_t box_length, uint32_t bay, uint8_t *totals, size_t totals_length);
+
+/* Clears the ledger of a bay number, filled or empty: every total is 0. */
+uint8_t intake_box_new_year(uint8_t *box, size_t box_length, uint32_t bay);
 
 /* The number in `count` bytes, at most 4, lowest first. */
 INTAKE_INLINE uint32_t intake_number_in(const uint8_t *bytes, size_t count)
@@ -497,6 +555,26 @@ INTAKE_INLINE uint8_t intake_preview_code(const uint8_t *preview)
     return preview[INTAKE_PREVIEW_CODE];
 }
 
+/* The integer of a single-precision number, in four bytes, that is whole, at least 0 and below 2^32; of others any. */
+INTAKE_INLINE uint32_t intake_litres_in(const uint8_t *bytes)
+{
+    uint32_t bits = intake_number_in(bytes, 4), exponent = bits >> 23, digits = (bits & 0x7FFFFF) | 0x800000;
+    if (exponent < 127 || exponent > 158)
+        return 0;
+    return exponent < 150 ? digits >> (150 - exponent) : digits << (exponent - 150);
+}
+
+/* The fields of what is read of a ledger, in litres. A farm beyond the last one has none. */
+INTAKE_INLINE uint32_t intake_ledger_farm(const uint8_t *totals, unsigned farm)
+{
+    return farm < INTAKE_FARM_COUNT ? intake_litres_in(totals + INTAKE_LEDGER_FARMS + 4 * farm) : 0;
+}
+
+INTAKE_INLINE uint32_t intake_ledger_total(const uint8_t *totals)
+{
+    return intake_litres_in(totals + INTAKE_LEDGER_TOTAL);
+}
+
 /* What the number of a call means, in words. */
 INTAKE_INLINE const char *intake_text(unsigned number)
 {
@@ -519,6 +597,8 @@ INTAKE_INLINE const char *intake_text(unsigned number)
     case INTAKE_NO_POSITION: return "the machine is not waiting and has no position to save, or no position has this name";
     case INTAKE_POSITIONS_FULL: return "the bay keeps 16 positions, and none of them has this name";
     case INTAKE_SEVENTH_UNKNOWN: return "a preview takes at most six inputs of unknown status";
+    case INTAKE_BAD_LITRES: return "litres that are not a whole number from 0 to 16,777,216";
+    case INTAKE_ABOVE_FARM_LIMIT: return "the year total of a farm would pass 16,777,216 litres";
     default: return "no number of a call";
     }
 }
