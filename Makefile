@@ -173,7 +173,8 @@ target/lib/SHA256SUMS: target/staticlib/libintake.a include/intake.h include/int
 		include/intake.pc.in > target/lib/intake.pc
 	cd target/lib && sha256sum libintake.a intake.h intake.pc > SHA256SUMS
 
-PLAIN_CALLS = check tick $(addprefix box_, admit release tick save restore forget service panel preview)
+PLAIN_CALLS = check tick $(addprefix box_, admit release tick save restore forget service panel preview ledger \
+	new_year)
 PLAIN_NAMES = $(foreach call, $(PLAIN_CALLS), -Dplain_$(call)=intake_$(call))
 
 target/plain/libintake.a: bench/plain.c bench/plain.h bench/plain_box.c bench/plain_box.h

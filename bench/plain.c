@@ -1,21 +1,24 @@
 /*
- * The check and the tick of document 01, with items 1 and 3 to 7 of 02, as one would write them in C. The check is one
+ * The check and the tick of document 01, with items 1, 3 to 7 and 12 of 02, as one would write them in C. The check is one
  * recursive walk; the first setpause begins it anew, and it fills two bit matrices then, which row 10 alone asks for. The
  * tick is a recursion over the read-back set, and inside it over the bytes: it skips a part that does not react, and looks
- * through a part for an active pause before it resumes it.
+ * through a part for an active pause before it resumes it. The litres of all farms are summed on the way, where they are
+ * asked for; a signal keeps them aside, as it does the labels, until its run is chosen.
  */
 #include "plain.h"
 
 #include <stdbool.h>
+#include <string.h>
 
-enum { NOTHING, PAUSE, EMIT, EXIT, SEQUENCE, PARALLEL, LOOP, PRESENT, SIGNAL, TRY, SETPAUSE, SUSPEND };
-enum { MAX_BYTES = 1024, MAX_DEPTH = 64, MAX_SIGNALS = 6, LABELS = 128, READ_BACK = 65535 };
+enum { NOTHING, PAUSE, EMIT, EXIT, SEQUENCE, PARALLEL, LOOP, PRESENT, SIGNAL, TRY, SETPAUSE, SUSPEND, DELIVER };
+enum { MAX_BYTES = 1024, MAX_DEPTH = 64, MAX_SIGNALS = 6, LABELS = 128, READ_BACK = 65535, MAX_LITRES = 1 << 24 };
 
+/* Operands are counted in bytes; the range is that of the first. */
 static const struct { uint8_t parts, operands, low, high; } commands[] = {
     [PAUSE] = {0, 1, 0, LABELS - 1},    [EMIT] = {0, 1, 0, 31},    [EXIT] = {0, 1, 1, 15},
     [SEQUENCE] = {2, 0, 0, 0},          [PARALLEL] = {2, 0, 0, 0}, [LOOP] = {1, 0, 0, 0},
     [PRESENT] = {2, 1, 0, 31},          [SIGNAL] = {1, 1, 0, 31},  [TRY] = {1, 0, 0, 0},
-    [SETPAUSE] = {0, 1, 0, LABELS - 1}, [SUSPEND] = {1, 1, 0, 31},
+    [SETPAUSE] = {0, 1, 0, LABELS - 1}, [SUSPEND] = {1, 1, 0, 31}, [DELIVER] = {0, 5, 0, 31},
 };
 
 /* Not inlined, so that a command without parts saves no registers for those with two. */
@@ -36,10 +39,11 @@ static bool has(label_set a, uint8_t label)
 
 struct check {
     const uint8_t *next, *end;
-    uint8_t number;               /* row 3 to 6 if one holds, or AGAIN */
+    uint8_t number;               /* row 3 to 6 or 18 if one holds, or AGAIN */
     bool twice;                   /* row 8 */
     bool clash;                   /* two exclusive pauses are active (row 11) */
     bool matrices;                /* are they filled? */
+    bool delivers;                /* is there an emission with litres? */
     unsigned nested;              /* the most signals around a command */
     unsigned count;               /* the active pauses read so far */
     label_set active;             /* the labels of the state; none if there is no state */
@@ -110,6 +114,22 @@ static APART label_set both_filled(struct check *c, uint8_t byte, unsigned depth
     return first | second;
 }
 
+/* The single-precision number in four bytes. */
+static float number_in(const uint8_t *bytes)
+{
+    uint32_t bits = (uint32_t)bytes[3] << 24 | (uint32_t)bytes[2] << 16 | (uint32_t)bytes[1] << 8 | bytes[0];
+    float number;
+    memcpy(&number, &bits, sizeof number);
+    return number;
+}
+
+/* Row 18: the number has its sign in the highest bit, which minus zero has too. No comparison holds of a NaN. */
+static bool are_litres(const uint8_t *bytes)
+{
+    float litres = number_in(bytes);
+    return (bytes[3] & 0x80) == 0 && litres <= MAX_LITRES && litres == (float)(uint32_t)litres;
+}
+
 /*
  * Reads the statement that begins at c->next, whose command stands at this depth inside so many signals. Gives its
  * setpauses.
@@ -119,14 +139,17 @@ static label_set statement(struct check *c, unsigned depth, unsigned signals)
     if (c->next == c->end)
         return refuse(c, 4);
     uint8_t byte = *c->next++, operand = 0;
-    if (byte > SUSPEND)
+    if (byte > DELIVER)
         return refuse(c, 3);
     if (commands[byte].operands != 0) {
-        if (c->next == c->end)
+        if (c->end - c->next < commands[byte].operands)
             return refuse(c, 4);
-        operand = *c->next++;
+        operand = *c->next;
         if (operand < commands[byte].low || operand > commands[byte].high)
             return refuse(c, 5);
+        if (byte == DELIVER && !are_litres(c->next + 1))
+            return refuse(c, 18);
+        c->next += commands[byte].operands;
     }
     if (depth > MAX_DEPTH || (byte == SIGNAL && signals == MAX_SIGNALS))
         return refuse(c, 6);
@@ -156,6 +179,9 @@ static label_set statement(struct check *c, unsigned depth, unsigned signals)
         if (c->nested <= signals)
             c->nested = signals + 1;
         return statement(c, depth + 1, signals + 1);
+    case DELIVER:
+        c->delivers = true;
+        return 0;
     default:
         return 0;
     }
@@ -166,7 +192,7 @@ static void walk(struct check *c, const uint8_t *sequence, size_t length, bool m
     c->next = sequence;
     c->end = sequence + length;
     c->number = 0;
-    c->twice = c->clash = false;
+    c->twice = c->clash = c->delivers = false;
     c->matrices = matrices;
     c->nested = c->count = 0;
     c->pauses = c->setpauses = 0;
@@ -181,7 +207,7 @@ static unsigned take(label_set *a)
     return (unsigned)(low != 0 ? __builtin_ctzll(low) : 64 + __builtin_ctzll(high));
 }
 
-/* Rows 2 to 10, and what row 11 needs to know: all pauses, and whether two active ones are exclusive. */
+/* Rows 2 to 10 and 18, and what row 11 needs to know: all pauses, and whether two active ones are exclusive. */
 static uint8_t check(struct check *c, const uint8_t *sequence, size_t length, uint32_t read_back, label_set active)
 {
     if (length == 0 || length > MAX_BYTES)
@@ -232,6 +258,7 @@ struct instant {
     uint32_t reactions;  /* those so far, both runs of each signal */
     uint16_t place;      /* the first error; there is one exactly if the instant is wrong */
     uint8_t kind;
+    uint64_t *litres;    /* of each farm, those of the reactions so far; null if they are not asked for */
 };
 
 typedef struct reaction run(struct instant *t, uint32_t present);
@@ -325,35 +352,66 @@ static struct reaction choose(struct instant *t, struct reaction minus, label_se
     return minus;
 }
 
-/* The signal whose body is at t->next. */
+/* Keeps the litres so far aside, and brings them back, where they are asked for. */
+static void keep_litres(const struct instant *t, uint64_t *aside)
+{
+    if (t->litres != NULL)
+        memcpy(aside, t->litres, PLAIN_FARMS * sizeof *aside);
+}
+
+static void bring_litres(struct instant *t, const uint64_t *aside)
+{
+    if (t->litres != NULL)
+        memcpy(t->litres, aside, PLAIN_FARMS * sizeof *aside);
+}
+
+/* The signal whose body is at t->next. Its litres are dropped. */
 static struct reaction local(struct instant *t, run *body, uint32_t present)
 {
     const uint8_t *start = t->next;
-    uint32_t s = UINT32_C(1) << start[-1];
+    uint8_t farm = start[-1];
+    uint32_t s = UINT32_C(1) << farm;
     label_set before = t->labels;
+    uint64_t litres_before[PLAIN_FARMS], litres_of_minus[PLAIN_FARMS];
+    keep_litres(t, litres_before);
     struct reaction minus = body(t, present & ~s);
     label_set labels_of_minus = t->labels;
+    keep_litres(t, litres_of_minus);
+    bring_litres(t, litres_before);
     t->next = start;
     t->labels = before;
     struct reaction plus = body(t, present | s);
     struct reaction all = choose(t, minus, labels_of_minus, plus, s, start - 2 - t->sequence);
+    if ((plus.emitted & s) == 0)
+        bring_litres(t, litres_of_minus);
+    if (t->litres != NULL)
+        t->litres[farm] = litres_before[farm];
     all.emitted &= ~s;
     return all;
 }
 
-/* The whole sequence inside the read-back signals of a set, the lowest outermost. What it emits of them is reported. */
+/*
+ * The whole sequence inside the read-back signals of a set, the lowest outermost. What it emits of them is reported, and
+ * their litres are kept.
+ */
 static struct reaction declared(struct instant *t, run *body, uint32_t set, uint32_t present)
 {
     if (set == 0) {
         t->next = t->sequence;
         t->labels = 0;
+        if (t->litres != NULL)
+            memset(t->litres, 0, PLAIN_FARMS * sizeof *t->litres);
         return body(t, present);
     }
     t->reactions++;
     uint32_t s = set & -set;
+    uint64_t litres_of_minus[PLAIN_FARMS];
     struct reaction minus = declared(t, body, set ^ s, present & ~s);
     label_set labels_of_minus = t->labels;
+    keep_litres(t, litres_of_minus);
     struct reaction plus = declared(t, body, set ^ s, present | s);
+    if ((plus.emitted & s) == 0)
+        bring_litres(t, litres_of_minus);
     return choose(t, minus, labels_of_minus, plus, s, READ_BACK);
 }
 
@@ -389,12 +447,17 @@ static struct reaction react(struct instant *t, uint32_t present)
 {
     t->reactions++;
     const uint8_t *command = t->next++;
-    uint8_t operand = commands[*command].operands != 0 ? *t->next++ : 0;
+    uint8_t operand = commands[*command].operands != 0 ? *t->next : 0;
+    t->next += commands[*command].operands;
     struct reaction p;
     switch (*command) {
     case PAUSE:
     case SETPAUSE:
         return waiting(t, operand);
+    case DELIVER:
+        if (t->litres != NULL)
+            t->litres[operand] += (uint32_t)number_in(command + 2);
+        return (struct reaction){.emitted = UINT32_C(1) << operand, .code = ENDED};
     case EMIT:
         return (struct reaction){.emitted = UINT32_C(1) << operand, .code = ENDED};
     case EXIT:
@@ -490,8 +553,8 @@ static uint8_t check_state(const struct check *c, uint8_t phase)
     return phase == OVER ? 12 : 0;
 }
 
-uint8_t plain_tick(const uint8_t *sequence, size_t sequence_length, uint8_t *state, size_t state_length, uint32_t input,
-                   uint32_t read_back, uint8_t *answer, size_t answer_length)
+uint8_t plain_deliver(const uint8_t *sequence, size_t sequence_length, uint8_t *state, size_t state_length, uint32_t input,
+                      uint32_t read_back, uint8_t *answer, size_t answer_length, uint64_t *litres)
 {
     if (state_length != STATE_BYTES || answer_length != ANSWER_BYTES)
         return 1;
@@ -503,8 +566,10 @@ uint8_t plain_tick(const uint8_t *sequence, size_t sequence_length, uint8_t *sta
     if (number != 0)
         return number;
 
-    struct instant t = {.sequence = sequence, .active = active};
+    struct instant t = {.sequence = sequence, .active = active, .litres = c.delivers ? litres : NULL};
     struct reaction r = declared(&t, state[0] == FRESH ? react : resume, read_back, input);
+    if (litres != NULL && (r.code == WRONG || !c.delivers))
+        memset(litres, 0, PLAIN_FARMS * sizeof *litres);
     state[0] = r.code == WAITING ? WAITS : OVER;
     label_set labels = r.code == WAITING ? t.labels : 0;
     put(state + 1, 8, (uint64_t)labels);
@@ -515,4 +580,10 @@ uint8_t plain_tick(const uint8_t *sequence, size_t sequence_length, uint8_t *sta
     put(answer + 4, 4, r.code == WRONG ? 0 : r.emitted);
     put(answer + 8, 4, t.reactions);
     return 0;
+}
+
+uint8_t plain_tick(const uint8_t *sequence, size_t sequence_length, uint8_t *state, size_t state_length, uint32_t input,
+                   uint32_t read_back, uint8_t *answer, size_t answer_length)
+{
+    return plain_deliver(sequence, sequence_length, state, state_length, input, read_back, answer, answer_length, NULL);
 }

@@ -9,4 +9,13 @@ uint8_t plain_check(const uint8_t *sequence, size_t length, uint32_t read_back);
 uint8_t plain_tick(const uint8_t *sequence, size_t sequence_length, uint8_t *state, size_t state_length, uint32_t input,
                    uint32_t read_back, uint8_t *answer, size_t answer_length);
 
+enum { PLAIN_FARMS = 32 };
+
+/*
+ * The tick, which also tells the litres of each farm in the instant, 02, item 12: none if it is wrong. They are not written
+ * where the call is turned down, and not asked for with a null pointer.
+ */
+uint8_t plain_deliver(const uint8_t *sequence, size_t sequence_length, uint8_t *state, size_t state_length, uint32_t input,
+                      uint32_t read_back, uint8_t *answer, size_t answer_length, uint64_t *litres);
+
 #endif

@@ -1,5 +1,5 @@
 /*
- * Eight bays in one box (02, items 8 to 11) as one would write them in C, over the check and the tick of plain.c. The
+ * Eight bays in one box (02, items 8 to 12) as one would write them in C, over the check and the tick of plain.c. The
  * ceiling of a sequence is found by one recursive walk over the bytes that the check has accepted.
  */
 #include "plain_box.h"
@@ -9,7 +9,7 @@
 #include <stdbool.h>
 #include <string.h>
 
-enum { SEQUENCE = 0x04, PARALLEL, LOOP, PRESENT, SIGNAL, TRY, SUSPEND = 0x0B };
+enum { SEQUENCE = 0x04, PARALLEL, LOOP, PRESENT, SIGNAL, TRY, SUSPEND = 0x0B, DELIVER };
 enum { BAYS = 8, MAX_BYTES = 1024, STATE_BYTES = 17, ANSWER_BYTES = 12, SHARED_CEILING = 65536 };
 enum { POSITIONS = 16, NAME_BYTES = 4, ENTRY = NAME_BYTES + STATE_BYTES, WAITING = 1 };
 
@@ -19,6 +19,9 @@ enum { RECORD_BYTES = IN_STATE + STATE_BYTES, PANEL_BYTES = 13 };
 
 /* A preview: signals emitted for every filling and for none, whether one is wrong, and the code. */
 enum { IN_NEVER = 4, IN_WRONG = 8, IN_CODE, PREVIEW_BYTES, UNKNOWNS = 6, OPEN = 254, WRONG };
+
+/* A farm's total, the greatest one, and what is read of a ledger: the totals and their sum. */
+enum { TOTAL_BYTES = 4, MAX_TOTAL = 1 << 24, READING_BYTES = (PLAIN_FARMS + 1) * TOTAL_BYTES };
 
 /* A bay's stretch of the box. */
 enum {
@@ -31,7 +34,7 @@ enum {
     AT_NUMBER = AT_STATE + STATE_BYTES,
     AT_POSITIONS = AT_NUMBER + 4,
     AT_LEDGER = AT_POSITIONS + POSITIONS * ENTRY,
-    STRETCH = AT_LEDGER + 128
+    STRETCH = AT_LEDGER + PLAIN_FARMS * TOTAL_BYTES
 };
 
 static uint32_t get(const uint8_t *bytes, unsigned count)
@@ -78,6 +81,8 @@ static const uint8_t *measure(struct size *size, const uint8_t *next, unsigned l
         return measure(size, next + 1, loops, signals);
     case SUSPEND:
         return measure(size, next + 2, loops, signals);
+    case DELIVER:
+        return next + 6;
     default:
         return next + 2;
     }
@@ -137,6 +142,38 @@ uint8_t plain_box_release(uint8_t *box, size_t box_length, uint32_t bay)
     return 0;
 }
 
+/* The total of a farm; bits that no call writes are none. */
+static float total(const uint8_t *ledger, unsigned farm)
+{
+    uint32_t bits = get(ledger + farm * TOTAL_BYTES, TOTAL_BYTES);
+    float number;
+    memcpy(&number, &bits, sizeof number);
+    return bits >> 31 == 0 && number <= MAX_TOTAL && number == (float)(uint32_t)number ? number : 0;
+}
+
+static void put_total(uint8_t *bytes, float number)
+{
+    uint32_t bits;
+    memcpy(&bits, &number, sizeof bits);
+    put(bytes, TOTAL_BYTES, bits);
+}
+
+/* Whether no farm's total would pass the limit. */
+static bool has_room(const uint8_t *ledger, const uint64_t *litres)
+{
+    for (unsigned farm = 0; farm < PLAIN_FARMS; farm++)
+        if (litres[farm] != 0 && (uint64_t)total(ledger, farm) + litres[farm] > MAX_TOTAL)
+            return false;
+    return true;
+}
+
+static void enter(uint8_t *ledger, const uint64_t *litres)
+{
+    for (unsigned farm = 0; farm < PLAIN_FARMS; farm++)
+        if (litres[farm] != 0)
+            put_total(ledger + farm * TOTAL_BYTES, total(ledger, farm) + (float)litres[farm]);
+}
+
 uint8_t plain_box_tick(uint8_t *box, size_t box_length, uint32_t bay, uint32_t input, uint8_t *answer,
                        size_t answer_length, uint8_t *record, size_t record_length)
 {
@@ -145,16 +182,24 @@ uint8_t plain_box_tick(uint8_t *box, size_t box_length, uint32_t bay, uint32_t i
         return number;
     if (answer_length != ANSWER_BYTES || record_length != RECORD_BYTES)
         return 1;
-    number = plain_tick(stretch + AT_SEQUENCE, get(stretch, 2), stretch + AT_STATE, STATE_BYTES, input,
-                        get(stretch + AT_READ_BACK, 4), answer, answer_length);
+    uint8_t state[STATE_BYTES], given[ANSWER_BYTES];
+    uint64_t litres[PLAIN_FARMS];
+    memcpy(state, stretch + AT_STATE, STATE_BYTES);
+    number = plain_deliver(stretch + AT_SEQUENCE, get(stretch, 2), state, STATE_BYTES, input,
+                           get(stretch + AT_READ_BACK, 4), given, ANSWER_BYTES, litres);
     if (number != 0)
         return number;
+    if (!has_room(stretch + AT_LEDGER, litres))
+        return 19;
+    enter(stretch + AT_LEDGER, litres);
     uint32_t last = get(stretch + AT_NUMBER, 4), instant = last == UINT32_MAX ? last : last + 1;
+    memcpy(stretch + AT_STATE, state, STATE_BYTES);
     put(stretch + AT_NUMBER, 4, instant);
+    memcpy(answer, given, ANSWER_BYTES);
     put(record, 4, instant);
     put(record + IN_INPUTS, 4, input);
-    memcpy(record + IN_ANSWER, answer, ANSWER_BYTES);
-    memcpy(record + IN_STATE, stretch + AT_STATE, STATE_BYTES);
+    memcpy(record + IN_ANSWER, given, ANSWER_BYTES);
+    memcpy(record + IN_STATE, state, STATE_BYTES);
     return 0;
 }
 
@@ -274,5 +319,38 @@ uint8_t plain_box_preview(const uint8_t *box, size_t box_length, uint32_t bay, u
     put(preview + IN_NEVER, 4, ~some);
     preview[IN_WRONG] = wrong;
     preview[IN_CODE] = code;
+    return 0;
+}
+
+/* The ledger of a bay number, filled or empty; else null, and the number. */
+static uint8_t *find_ledger(uint8_t *box, size_t box_length, uint32_t bay, uint8_t *number)
+{
+    *number = bay < BAYS ? 1 : 13;
+    return bay < BAYS && box_length == BAYS * STRETCH ? box + bay * STRETCH + AT_LEDGER : NULL;
+}
+
+uint8_t plain_box_ledger(const uint8_t *box, size_t box_length, uint32_t bay, uint8_t *totals, size_t totals_length)
+{
+    uint8_t number;
+    const uint8_t *ledger = find_ledger((uint8_t *)box, box_length, bay, &number);
+    if (ledger == NULL)
+        return number;
+    if (totals_length != READING_BYTES)
+        return 1;
+    float sum = 0;
+    for (unsigned farm = 0; farm < PLAIN_FARMS; farm++) {
+        put_total(totals + farm * TOTAL_BYTES, total(ledger, farm));
+        sum += total(ledger, farm);
+    }
+    put_total(totals + PLAIN_FARMS * TOTAL_BYTES, sum);
+    return 0;
+}
+
+uint8_t plain_box_new_year(uint8_t *box, size_t box_length, uint32_t bay)
+{
+    uint8_t number, *ledger = find_ledger(box, box_length, bay, &number);
+    if (ledger == NULL)
+        return number;
+    memset(ledger, 0, PLAIN_FARMS * TOTAL_BYTES);
     return 0;
 }

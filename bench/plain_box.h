@@ -19,5 +19,7 @@ uint8_t plain_box_panel(const uint8_t *box, size_t box_length, uint32_t bay, con
                         uint8_t *view, size_t view_length);
 uint8_t plain_box_preview(const uint8_t *box, size_t box_length, uint32_t bay, uint32_t input, uint32_t unknown,
                           uint8_t *preview, size_t preview_length);
+uint8_t plain_box_ledger(const uint8_t *box, size_t box_length, uint32_t bay, uint8_t *totals, size_t totals_length);
+uint8_t plain_box_new_year(uint8_t *box, size_t box_length, uint32_t bay);
 
 #endif
