@@ -4,7 +4,7 @@ use common::table::bytes;
 
 /// All byte strings up to 4 bytes over the command bytes, one above them, and edges of operands.
 pub fn byte_strings(mut run: impl FnMut(&[u8])) {
-    const VALUES: [u8; 17] = [0, 1, 2, 3, 4, 5, 6, 7, 8, 9, 0x0A, 0x0B, 0x0C, 0x10, 0x20, 0x80, 0xFF];
+    const VALUES: [u8; 18] = [0, 1, 2, 3, 4, 5, 6, 7, 8, 9, 0x0A, 0x0B, 0x0C, 0x0D, 0x10, 0x20, 0x80, 0xFF];
     let mut strings = vec![Vec::new()];
     for _ in 0..=4 {
         strings.iter().for_each(|s: &Vec<u8>| run(s));
@@ -28,23 +28,57 @@ const PARTS: [(&str, &str); 11] = [
 ];
 
 /// What stands at the limits of depth and signals: nothing, and what is and what is not a statement.
-const INSIDE: [&str; 15] = [
-    "", "00", "0C", "01", "01 00", "01 80", "04 00", "06 00", "08", "08 20 00", "08 00 00", "0A", "0B", "0B 20 00",
+const INSIDE: [&str; 22] = [
+    "",
+    "00",
+    "0D",
+    "01",
+    "01 00",
+    "01 80",
+    "04 00",
+    "06 00",
+    "08",
+    "08 20 00",
+    "08 00 00",
+    "0A",
+    "0B",
+    "0B 20 00",
     "0B 00 00",
+    "0C",
+    "0C 1F 00 00 00",
+    "0C 20 00 00 00",
+    "0C 20 00 00 00 80",
+    "0C 1F 00 00 00 80",
+    "0C 1F 00 00 80 4B",
+    "0C 1F 01 00 80 4B",
 ];
+
+/// Row 18: numbers of both signs and every exponent, with no digit, each digit alone, all below one, and all above one; each
+/// as an emission of farms 31 and 32, alone, at the end of its depth and one deeper, and with its last byte missing.
+pub fn litres(mut run: impl FnMut(&[u8])) {
+    let digits = (0..23).flat_map(|n| [1 << n, (1 << n) - 1, (1 << 23) - (1 << n)]);
+    let numbers = digits.flat_map(|digits: u32| (0..512u32).map(move |above| above << 23 | digits));
+    for bits in numbers {
+        for (levels, farm) in [(0, 31), (0, 32), (63, 31), (64, 31), (64, 32)] {
+            let bytes = [&vec![0x06; levels][..], &[0x0C, farm], &bits.to_le_bytes()].concat();
+            run(&bytes);
+            run(&bytes[..bytes.len() - 1]);
+        }
+    }
+}
 
 /// The edges of rows 2 to 7.
 pub fn reading(mut run: impl FnMut(&[u8])) {
     // Row 2: every length around the limit, and lengths that a narrow counter would take for short ones.
     for length in (0..=1030).chain([2048, 65_535, 65_536, 65_537, 66_560]) {
-        [0x00, 0x06, 0x0B, 0x0C].iter().for_each(|&byte| run(&vec![byte; length]));
+        [0x00, 0x06, 0x0B, 0x0C, 0x0D].iter().for_each(|&byte| run(&vec![byte; length]));
     }
     for (before, after) in PARTS {
         // Rows 3 to 5 and 7: every command byte and operand in every part, with too few, enough and too many parts.
         for tail in ["", "00", "00 00", "00 00 00"] {
             let (before, after) = (bytes(before), bytes(&format!("{tail} {after}")));
-            (0x0D..=0xFF).for_each(|first| run(&[&before[..], &[first], &after].concat()));
-            for (first, second) in (0..=0x0C).flat_map(|x| (0..=0xFF).map(move |y| (x, y))) {
+            (0x0E..=0xFF).for_each(|first| run(&[&before[..], &[first], &after].concat()));
+            for (first, second) in (0..=0x0D).flat_map(|x| (0..=0xFF).map(move |y| (x, y))) {
                 run(&[&before[..], &[first, second], &after].concat());
             }
         }

@@ -16,7 +16,9 @@ fn archive(bytes: &[u8], read_back: u32) -> u8 {
     unsafe { intake_check(bytes.as_ptr(), bytes.len(), read_back) }
 }
 
-const GREATEST: usize = 10;
+/// What the check answers.
+const NUMBERS: [usize; 11] = [0, 2, 3, 4, 5, 6, 7, 8, 9, 10, 18];
+const GREATEST: usize = 18;
 
 /// What is counted of the checks with a read-back set.
 const SETS: [&str; 10] = [
@@ -29,7 +31,7 @@ const SETS: [&str; 10] = [
     "6 by the set, all 32 signals",
     "6 by the set before 7",
     "6 by the set before 8 to 10",
-    "2 to 5 before 6 by the set",
+    "2 to 5 and 18 before 6 by the set",
 ];
 
 /// The comparisons so far.
@@ -38,8 +40,9 @@ struct Tally {
     counts: Counts,
     /// How often each number was the answer, in the group that runs.
     numbers: [u64; GREATEST + 1],
-    /// The most pauses, setpauses, suspends, levels and signals around a command in an accepted sequence of the group.
-    most: [usize; 5],
+    /// The most pauses, setpauses, suspends, deliveries, levels and signals around a command in an accepted sequence of the
+    /// group.
+    most: [usize; 6],
     /// Of all groups.
     sets: [u64; SETS.len()],
 }
@@ -54,8 +57,10 @@ impl Tally {
             self.count_set(bytes, read_back, &tree);
         }
         if let Ok(tree) = tree {
-            let suspends = tree.0.iter().filter(|c| c.byte == reference::SUSPEND).count();
-            let reached = [tree.pauses().len(), tree.setpauses().len(), suspends, levels(&tree), tree.nesting()];
+            let [suspends, deliveries] =
+                [reference::SUSPEND, reference::DELIVER].map(|byte| tree.0.iter().filter(|c| c.byte == byte).count());
+            let (pauses, setpauses) = (tree.pauses().len(), tree.setpauses().len());
+            let reached = [pauses, setpauses, suspends, deliveries, levels(&tree), tree.nesting()];
             self.most = std::array::from_fn(|i| self.most[i].max(reached[i]));
         }
         let answer = archive(bytes, read_back);
@@ -90,14 +95,14 @@ impl Tally {
                 ]);
                 kinds
             }
-            Err(number) => std::array::from_fn(|i| i == 9 && size > 6 && *number < 6),
+            Err(number) => std::array::from_fn(|i| i == 9 && size > 6 && (*number < 6 || *number == 18)),
         };
         (0..SETS.len()).for_each(|i| self.sets[i] += kinds[i] as u64);
     }
 
     /// Prints what the group `name` answered and begins the next one.
     fn close(&mut self, name: &str) {
-        let numbers: String = self.numbers.iter().map(|n| format!("{n:>9}")).collect();
+        let numbers: String = NUMBERS.iter().map(|n| format!("{:>9}", self.numbers[*n])).collect();
         println!("{name:<16}{numbers}{:>9}", self.counts.close());
         *self = Tally { counts: self.counts, sets: self.sets, ..Tally::default() };
     }
@@ -144,15 +149,15 @@ fn random_sequences(tally: &mut Tally, random: &mut Random) {
         }
     }
     // A generator that does not get there would test nothing.
-    for number in (0..=GREATEST).filter(|n| *n != 1) {
+    for number in NUMBERS {
         let count = tally.numbers[number];
         tally.counts.expect(count >= 100, || format!("the number {number} occurred only {count} times"));
     }
-    let [pauses, setpauses, suspends, levels, signals] = tally.most;
-    print!("accepted: up to {pauses} pauses, {setpauses} setpauses, {suspends} suspends, ");
+    let [pauses, setpauses, suspends, deliveries, levels, signals] = tally.most;
+    print!("accepted: up to {pauses} pauses, {setpauses} setpauses, {suspends} suspends, {deliveries} deliveries, ");
     println!("depth {levels}, {signals} signals");
     let far = pauses < reference::LABELS || setpauses <= 100 || suspends <= 100 || levels < 64 || signals < 6;
-    tally.counts.expect(!far, || "too far from the limits".into());
+    tally.counts.expect(!far && deliveries > 20, || "too far from the limits".into());
 }
 
 /// Sets of no signal to seven, from the lowest on, and all.
@@ -171,7 +176,7 @@ fn edge(turn: usize) -> u32 {
 fn main() -> ExitCode {
     let seed = env::args().nth(1).map_or(20_251_115, |s| s.parse().expect("the seed is a number"));
     println!("seed {seed}");
-    let numbers: String = (0..=GREATEST).map(|n| format!("{n:>9}")).collect();
+    let numbers: String = NUMBERS.iter().map(|n| format!("{n:>9}")).collect();
     println!("{:<16}{numbers}   failed", "answers");
     let mut tally = Tally::default();
     for (number, text) in table::lines(include_str!("../../examples.txt")) {
@@ -192,6 +197,8 @@ fn main() -> ExitCode {
     };
     edges::reading(|bytes| with_sets(&mut tally, bytes, 1));
     tally.close("edges, 2 to 7");
+    edges::litres(|bytes| with_sets(&mut tally, bytes, 16));
+    tally.close("edges, 18");
     edges::nested(&EDGES, |bytes, set| tally.compare(bytes, set, None));
     tally.close("edges, 6 by set");
     edges::labels(|bytes| with_sets(&mut tally, bytes, 2));

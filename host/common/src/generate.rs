@@ -1,5 +1,5 @@
 //! Random sequences of an exact length, most of them accepted or nearly so, damaged copies of them, and read-back sets.
-use crate::reference::LABELS;
+use crate::reference::{LABELS, MOST_LITRES};
 
 pub struct Random(pub u64);
 
@@ -27,8 +27,11 @@ pub struct Sequence {
     commands: Vec<usize>,
 }
 
-/// The number of commands: their bytes are 00 to 0B.
-pub const COMMANDS: usize = 0x0C;
+/// The number of commands: their bytes are 00 to 0C.
+pub const COMMANDS: usize = 0x0D;
+
+/// A byte that is no command.
+const NONE: u8 = COMMANDS as u8;
 
 /// The label of a setpause whose pauses are not all read yet.
 const UNSET: u8 = 0xFF;
@@ -96,8 +99,9 @@ const LOOPS: [Frame; 4] = [
 const SUSPENDS: [Frame; 3] = [(&[0x04, 0x01, HOLE], 1), (&[0x04, HOLE, 0x01], 1), (&[0x05, 0x01, HOLE], 1)];
 
 /// Bodies that emit the signal before, after or beside the statement, one that emits it in the second instant, two of
-/// which one run is wrong, without the signal or with it, and one whose statement reacts in the run without it alone.
-const SIGNALS: [Frame; 7] = [
+/// which one run is wrong, without the signal or with it, one whose statement reacts in the run without it alone, and two
+/// that emit it with litres, one of which waits for it.
+const SIGNALS: [Frame; 9] = [
     (&[0x04, 0x02, HOLE], 1),
     (&[0x04, HOLE, 0x02], 1),
     (&[0x05, HOLE, 0x02], 1),
@@ -105,6 +109,8 @@ const SIGNALS: [Frame; 7] = [
     (&[0x05, 0x02, 0x07, HOLE, 0x06, 0x00], 2),
     (&[0x05, 0x02, 0x07, 0x06, 0x00, HOLE], 2),
     (&[0x05, 0x02, 0x07, 0x00, HOLE], 2),
+    (&[0x04, 0x0C, HOLE], 1),
+    (&[0x05, 0x0C, 0x07, HOLE, 0x00], 2),
 ];
 
 struct Generator<'a> {
@@ -168,6 +174,7 @@ impl Generator<'_> {
             0x07 => length >= 4,
             0x08 => length >= 3 && length - 2 <= part && signals > 0,
             0x0B => length >= 3 && length - 2 <= part,
+            0x0C => length == 6,
             _ => length == 2 && (g.style.loose || !parallels),
         });
         let rest = length - self.command(byte);
@@ -192,7 +199,12 @@ impl Generator<'_> {
     /// Appends the body of a loop, a suspend or a signal: a statement, or one inside a frame, of exactly `length` bytes.
     fn body(&mut self, frames: &[Frame], length: usize, levels: usize, signals: usize, parallels: bool) {
         let (frame, depth) = self.random.pick(frames);
-        let operands = frame.iter().filter(|byte| [0x01, 0x02, 0x03, 0x07].contains(byte)).count();
+        let count = |byte: &u8| match byte {
+            0x01 | 0x02 | 0x03 | 0x07 => 1,
+            0x0C => 5,
+            _ => 0,
+        };
+        let operands: usize = frame.iter().map(count).sum();
         let bytes = frame.len() - 1 + operands;
         let fits = levels > depth + 1 && length > bytes && length - bytes <= capacity(levels - depth);
         let fits = fits && (parallels || !frame.contains(&0x05));
@@ -206,16 +218,17 @@ impl Generator<'_> {
             }
             // the statement may have taken the last label
             let byte = if byte == 0x01 && self.labels.is_empty() { 0x02 } else { byte };
+            let at = self.bytes.len() + 1;
             self.command(byte);
-            match (byte, self.bytes.last_mut(), self.declared.last()) {
-                (0x02 | 0x07, Some(operand), Some(&s)) => *operand = s,
-                (0x03, Some(operand), _) => *operand = 1,
+            match (byte, self.declared.last()) {
+                (0x02 | 0x07 | 0x0C, Some(&s)) => self.bytes[at] = s,
+                (0x03, _) => self.bytes[at] = 1,
                 _ => {}
             }
         }
     }
 
-    /// Appends a command with its operand, if it has one, and returns the count of bytes.
+    /// Appends a command with its operands, if it has any, and returns the count of bytes.
     fn command(&mut self, byte: u8) -> usize {
         self.commands.push(self.bytes.len());
         self.bytes.push(byte);
@@ -236,7 +249,7 @@ impl Generator<'_> {
         candidates[0]
     }
 
-    /// Appends the operand of a command, if it has one, and returns their count.
+    /// Appends the operands of a command, if it has any, and returns the count of their bytes.
     fn operand(&mut self, byte: u8) -> usize {
         let at = self.bytes.len();
         match byte {
@@ -249,11 +262,14 @@ impl Generator<'_> {
                 self.bytes.push(UNSET);
             }
             0x03 => self.bytes.push(1 + self.random.below(self.style.exits) as u8),
-            0x02 | 0x07 | 0x0B if !self.declared.is_empty() && self.random.chance(self.style.framed) => {
+            0x02 | 0x07 | 0x0B | 0x0C if !self.declared.is_empty() && self.random.chance(self.style.framed) => {
                 self.bytes.push(self.random.pick(&self.declared));
             }
-            0x02 | 0x07 | 0x08 | 0x0B => self.bytes.push(self.random.below(self.style.names) as u8),
+            0x02 | 0x07 | 0x08 | 0x0B | 0x0C => self.bytes.push(self.random.below(self.style.names) as u8),
             _ => {}
+        }
+        if byte == 0x0C {
+            self.bytes.extend(litres(self.random).to_le_bytes());
         }
         self.bytes.len() - at
     }
@@ -300,9 +316,23 @@ impl Generator<'_> {
     }
 }
 
+/// The bits of a whole number of litres: few, any, a power of two, or close to the most.
+pub fn litres(random: &mut Random) -> u32 {
+    let (most, few) = (MOST_LITRES as usize, random.below(10));
+    let any = random.below(most + 1);
+    let litres = match random.below(8) {
+        0 | 1 => few,
+        2 | 3 => any,
+        4 => 1 << random.below(25),
+        5 => any % 100_000,
+        _ => most - random.pick(&[0, 0, 1, few, any / 2]),
+    };
+    (litres as f32).to_bits()
+}
+
 /// A read-back set of up to `most` signals, mostly such as the sequence names: emitted, tested, declared, or a suspend's.
 pub fn read_back(random: &mut Random, sequence: &[u8], most: usize) -> u32 {
-    let naming = |pair: &&[u8]| [0x02, 0x07, 0x08, 0x0B].contains(&pair[0]) && pair[1] < 32;
+    let naming = |pair: &&[u8]| [0x02, 0x07, 0x08, 0x0B, 0x0C].contains(&pair[0]) && pair[1] < 32;
     let named: Vec<u8> = sequence.windows(2).filter(naming).map(|pair| pair[1]).collect();
     (0..random.below(most + 1)).fold(0, |set, _| match named.is_empty() || random.chance(10) {
         true => set | 1 << random.below(32),
@@ -327,7 +357,8 @@ fn alike(byte: u8) -> &'static [u8] {
         0x06 | 0x09 => &[0x06, 0x09],
         0x08 | 0x0B => &[0x08, 0x0B],
         0x00 => &[0x00],
-        _ => &[0x0C],
+        0x0C => &[0x0C],
+        _ => &[NONE],
     }
 }
 
@@ -340,20 +371,30 @@ pub fn damaged(random: &mut Random, sequence: &Sequence) -> Vec<u8> {
     for _ in 0..random.pick(&[1, 1, 1, 2, 3]) {
         let at = random.below(bytes.len() + 1);
         let command = if sequence.commands.is_empty() { 0 } else { random.pick(&sequence.commands) };
-        match random.below(12) {
+        match random.below(13) {
             0 => bytes.truncate(at),
             1 => bytes.insert(at, random.below(COMMANDS + 1) as u8),
-            2 => bytes.extend((0..=random.below(3)).map(|i| [0, 1, 0x0C][i])),
+            2 => bytes.extend((0..=random.below(3)).map(|i| [0, 1, NONE][i])),
             3 => drop(bytes.get(at).is_some().then(|| bytes.remove(at))),
             4 => set(&mut bytes, at, |_| random.below(256) as u8),
             5 => set(&mut bytes, at, |_| random.below(COMMANDS + 1) as u8),
             6 => set(&mut bytes, command + 1, |x| x.wrapping_add(1)),
             7 => set(&mut bytes, command + 1, |x| x.wrapping_sub(1)),
             8 => set(&mut bytes, command + 1, |_| random.pick(&EDGES)),
+            9 => damage_litres(random, &mut bytes, &sequence.commands),
             _ => set(&mut bytes, command, |x| random.pick(alike(x))),
         }
     }
     bytes
+}
+
+/// Changes a bit of the litres of a command that has any, mostly to such as row 18 turns down.
+fn damage_litres(random: &mut Random, bytes: &mut [u8], commands: &[usize]) {
+    let such: Vec<usize> = commands.iter().copied().filter(|&at| bytes.get(at) == Some(&0x0C)).collect();
+    if !such.is_empty() {
+        let (at, bit) = (random.pick(&such) + 2 + random.below(4), random.below(8));
+        set(bytes, at, |byte| byte ^ 1 << bit);
+    }
 }
 
 fn set(bytes: &mut [u8], at: usize, change: impl FnOnce(u8) -> u8) {

@@ -1,6 +1,7 @@
-//! The check as document 01 words it, with the suspend, the read-back set and the labels of 02, items 1, 5 and 7, on an
-//! explicit tree. It shares no idea with the archive: commands are read in a loop and not by recursion, the nesting of signals is found on
-//! the tree when all of it is there, and the rows on labels look at all pairs of places and not at sets.
+//! The check as document 01 words it, with the suspend, the read-back set, the labels and the litres of 02, items 1, 5, 7
+//! and 12, on an explicit tree. It shares no idea with the archive: commands are read in a loop and not by recursion, the
+//! nesting of signals is found on the tree when all of it is there, the rows on labels look at all pairs of places and not
+//! at sets, and litres are worked out as a fraction of integers.
 use std::ops::RangeInclusive;
 
 pub const PAUSE: u8 = 0x01;
@@ -10,6 +11,10 @@ const PRESENT: u8 = 0x07;
 pub const SIGNAL: u8 = 0x08;
 const SETPAUSE: u8 = 0x0A;
 pub const SUSPEND: u8 = 0x0B;
+pub const DELIVER: u8 = 0x0C;
+
+/// The most litres of a command, and of a farm in a year (02, item 12).
+pub const MOST_LITRES: u64 = 16_777_216;
 
 /// Labels are below it (02, item 7).
 pub const LABELS: usize = 128;
@@ -25,6 +30,8 @@ pub struct Command {
     pub at: usize,
     pub byte: u8,
     pub operand: u8,
+    /// Of an emission by 0C; none of any other command.
+    pub litres: u32,
     /// The commands around this one from the outermost inwards, by their index, each with the part that holds this one.
     pub place: Vec<(usize, u8)>,
 }
@@ -32,12 +39,12 @@ pub struct Command {
 /// The commands of a statement in prefix order.
 pub struct Tree(pub Vec<Command>);
 
-/// 01, 'Commands', and 02, item 1: the range of the operand, if there is one, and the number of parts.
+/// 01, 'Commands', and 02, items 1 and 12: the range of the first operand, if there is one, and the number of parts.
 fn shape(byte: u8) -> Option<(Option<RangeInclusive<u8>>, u8)> {
     match byte {
         0x00 => Some((None, 0)),
         PAUSE | SETPAUSE => Some((Some(0..=LABELS as u8 - 1), 0)),
-        0x02 => Some((Some(0..=31), 0)),
+        0x02 | DELIVER => Some((Some(0..=31), 0)),
         0x03 => Some((Some(1..=15), 0)),
         SEQUENCE | 0x05 => Some((None, 2)),
         LOOP | 0x09 => Some((None, 1)),
@@ -47,7 +54,40 @@ fn shape(byte: u8) -> Option<(Option<RangeInclusive<u8>>, u8)> {
     }
 }
 
-/// The statement at the front of the bytes and the count of its bytes, or row 3 to 6, command by command from the left.
+/// The litres of a single-precision number: the exact value of its 32 bits, or None for row 18. That value is
+/// `digits` * 2^`power`, without its sign.
+pub fn litres(bits: u32) -> Option<u32> {
+    let (minus, exponent, fraction) = (bits >= 1 << 31, bits / (1 << 23) % 256, u128::from(bits % (1 << 23)));
+    let (digits, power) = match exponent {
+        255 => return None, // an infinity, or no number
+        0 => (fraction, -149),
+        _ => (fraction + (1 << 23), exponent as i32 - 150),
+    };
+    let value = match (digits, power) {
+        (0, _) => 0,
+        (_, 0..) => digits << power, // below 2^128, the greatest power being 104
+        (_, -23..=-1) if digits % (1 << -power) == 0 => digits >> -power,
+        _ => return None, // digits are below 2^24, and 2^24 divides none but 0
+    };
+    (!minus && value <= u128::from(MOST_LITRES)).then_some(value as u32)
+}
+
+/// The first operand of a command, its litres, and the count of their bytes, which are the first of these; or row 4, 5 or 18.
+fn operands(byte: u8, range: Option<RangeInclusive<u8>>, bytes: &[u8]) -> Result<(u8, u32, usize), u8> {
+    let Some(range) = range else { return Ok((0, 0, 0)) };
+    let own = bytes.get(..if byte == DELIVER { 5 } else { 1 }).ok_or(4)?;
+    if !range.contains(&own[0]) {
+        return Err(5);
+    }
+    let carried = match *own {
+        [_, a, b, c, d] => litres(u32::from_le_bytes([a, b, c, d])).ok_or(18)?,
+        _ => 0,
+    };
+    Ok((own[0], carried, own.len()))
+}
+
+/// The statement at the front of the bytes and the count of its bytes, or row 3, 4, 5, 18 or 6, command by command from the
+/// left.
 fn read(bytes: &[u8]) -> Result<(Tree, usize), u8> {
     let mut tree = Tree(Vec::new());
     let mut at = 0;
@@ -57,21 +97,15 @@ fn read(bytes: &[u8]) -> Result<(Tree, usize), u8> {
         let byte = *bytes.get(at).ok_or(4)?;
         let (range, parts) = shape(byte).ok_or(3)?;
         at += 1;
-        let mut operand = 0;
-        if let Some(range) = range {
-            operand = *bytes.get(at).ok_or(4)?;
-            if !range.contains(&operand) {
-                return Err(5);
-            }
-            at += 1;
-        }
+        let (operand, litres, count) = operands(byte, range, &bytes[at..])?;
+        at += count;
         if place.len() + 1 > 64 || byte == SIGNAL && tree.around(&place, SIGNAL) + 1 > 6 {
             return Err(6);
         }
         for part in (0..parts).rev() {
             missing.push([&place[..], &[(tree.0.len(), part)]].concat());
         }
-        tree.0.push(Command { at: start, byte, operand, place });
+        tree.0.push(Command { at: start, byte, operand, litres, place });
     }
     Ok((tree, at))
 }
@@ -130,8 +164,8 @@ impl Tree {
     }
 }
 
-/// 01, 'Turned down', rows 2 to 10, with 02, item 5: the tree of a sequence that is accepted with these read-back signals,
-/// or the number. The tree has no commands for them: they are declared around it and count to nothing but row 6.
+/// 01, 'Turned down', rows 2 to 10, with 02, items 5 and 12: the tree of a sequence that is accepted with these read-back
+/// signals, or the number. The tree has no commands for them: they are declared around it and count to nothing but row 6.
 pub fn check(bytes: &[u8], read_back: u32) -> Result<Tree, u8> {
     if bytes.is_empty() || bytes.len() > 1024 {
         return Err(2);

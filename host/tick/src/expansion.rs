@@ -1,7 +1,7 @@
 //! The instants of document 01 by labels, with the suspend of 02, item 1: a waiting machine reacts with its expansion.
 //! The rules of a signal are tried in either order (02, item 4); the declarations of read-back signals (item 5) stay
-//! around the expansion. Reactions (item 6) are counted as they happen. It shares nothing with rewriting.rs but the terms
-//! and the names of the orders.
+//! around the expansion. Reactions (item 6) are counted as they happen, and deliveries (item 12) are listed one by one. It
+//! shares nothing with rewriting.rs but the terms and the names of the orders.
 use crate::statement::{Declaration, Order, Statement, Term};
 use common::reference::Labels;
 use std::mem::take;
@@ -55,11 +55,13 @@ fn nothing() -> Term {
 /// 003: the code that is greater than all.
 pub const WRONG: u32 = u32::MAX;
 
-#[derive(Clone, Copy)]
+#[derive(Default)]
 pub struct Answer {
     pub emitted: u32,
     pub code: u32,
     pub labels: Labels,
+    /// Farm and litres of each emission in the run that is chosen, but those of local signals.
+    pub deliveries: Vec<(u8, u32)>,
 }
 
 /// Kind and place.
@@ -105,9 +107,19 @@ pub struct Tree {
     pub unasked: [u64; 5],
     /// Signals whose run with them asks for another one, for which the run without them does not ask.
     pub asked_with: u64,
+    /// Emissions with litres in both runs of all signals, those of a local signal that were dropped, and signals whose
+    /// runs deliver otherwise.
+    pub delivered: u64,
+    pub dropped: u64,
+    pub other_litres: u64,
     /// The signals that commands around the reaction declare, and those that the read-back set does.
     pub declared: u32,
     pub read_back: u32,
+}
+
+fn joined(mut first: Vec<(u8, u32)>, second: Vec<(u8, u32)>) -> Vec<(u8, u32)> {
+    first.extend(second);
+    first
 }
 
 fn caught(body: Answer) -> Answer {
@@ -123,11 +135,15 @@ impl Tree {
     /// 01, 'One reaction'.
     pub fn react(&mut self, term: &Term, present: u32) -> Answer {
         self.reactions += 1;
-        let quiet = Answer { emitted: 0, code: 0, labels: 0 };
+        let quiet = Answer::default();
         match &**term {
             Statement::Nothing => quiet,
             Statement::Pause(l) | Statement::Setpause(l) => Answer { code: 1, labels: 1 << l, ..quiet },
-            Statement::Emit(s) => Answer { emitted: 1 << s, ..quiet },
+            Statement::Emit(s, 0) => Answer { emitted: 1 << s, ..quiet },
+            Statement::Emit(s, litres) => {
+                self.delivered += 1;
+                Answer { emitted: 1 << s, deliveries: vec![(*s, *litres)], ..quiet }
+            }
             Statement::Exit(n) => Answer { code: *n as u32 + 1, ..quiet },
             Statement::Seq(p, q) => self.sequence(p, q, present),
             Statement::Par(p, q) => self.parallel(p, q, present),
@@ -169,12 +185,13 @@ impl Tree {
             return first;
         }
         let second = self.react(q, present);
-        Answer { emitted: first.emitted | second.emitted, ..second }
+        let deliveries = joined(first.deliveries, second.deliveries);
+        Answer { emitted: first.emitted | second.emitted, deliveries, ..second }
     }
 
     fn wrong(&mut self, kind: u8, place: usize) -> Answer {
         self.errors.push((kind, place));
-        Answer { emitted: 0, code: WRONG, labels: 0 }
+        Answer { code: WRONG, ..Answer::default() }
     }
 
     fn parallel(&mut self, p: &Term, q: &Term, present: u32) -> Answer {
@@ -183,7 +200,8 @@ impl Tree {
         let labels = p.labels | q.labels;
         self.lost += (code > 1 && labels != 0) as u64;
         self.emitted_beside += (code == WRONG && p.emitted | q.emitted != 0) as u64;
-        Answer { emitted: p.emitted | q.emitted, code, labels: if code == 1 { labels } else { 0 } }
+        let (emitted, deliveries) = (p.emitted | q.emitted, joined(p.deliveries, q.deliveries));
+        Answer { emitted, code, labels: if code == 1 { labels } else { 0 }, deliveries }
     }
 
     /// The runs without the signal and with it, and what they asked for.
@@ -225,16 +243,21 @@ impl Tree {
         };
         let case = tried.into_iter().find(|&case| fits[case]).expect("one of the five fits");
         self.cases[case] += 1;
+        self.other_litres += (minus.deliveries != plus.deliveries) as u64;
         self.hiding += (case == 0 && !reported && self.read_back & only != 0) as u64;
         if fits[0] && fits[4] {
             self.two_fit[minus_wrong as usize + 2 * plus_wrong as usize - 1] += 1;
         }
         match case {
             0 if reported => plus,
-            0 => Answer { emitted: plus.emitted - only, ..plus },
+            0 => {
+                let (own, kept): (Vec<_>, Vec<_>) = plus.deliveries.iter().partition(|delivery| delivery.0 == signal);
+                self.dropped += own.len() as u64;
+                Answer { emitted: plus.emitted - only, deliveries: kept, ..plus }
+            }
             1 => minus,
             2 | 3 => self.wrong(case as u8, place),
-            _ => Answer { emitted: 0, code: WRONG, labels: 0 },
+            _ => Answer { code: WRONG, ..Answer::default() },
         }
     }
 }

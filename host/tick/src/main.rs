@@ -7,7 +7,7 @@
 use common::{generate::Random, table};
 use std::{env, process::ExitCode};
 use tick::reference::{self, Sequence};
-use tick::tally::{Tally, GREATEST};
+use tick::tally::{Tally, NUMBERS};
 use tick::{ceiling, examples, labels, orders, runs, small, ticks, vectors};
 
 /// The lines of host/ticks.txt: what is written there by hand is what the reference gives, and the archive too.
@@ -24,7 +24,7 @@ fn by_hand(tally: &mut Tally) {
 /// Row 1: buffers of all lengths around the right ones, and such as a narrow counter would take for them.
 fn lengths(tally: &mut Tally) {
     let lengths = || (0..=20).chain([255, 256, 265, 268, 273, 65_548, 65_553]);
-    for bytes in ["", "0C", "00", "01 00", "00 00", "1025(00)"].map(table::bytes) {
+    for bytes in ["", "0D", "00", "01 00", "00 00", "1025(00)"].map(table::bytes) {
         let sequence = Sequence::new(bytes, 0);
         for (state, answer) in lengths().flat_map(|s| lengths().map(move |a| (s, a))) {
             (0..3).for_each(|phase| {
@@ -39,7 +39,7 @@ fn lengths(tally: &mut Tally) {
 fn main() -> ExitCode {
     let seed = env::args().nth(1).map_or(20_251_115, |s| s.parse().expect("the seed is a number"));
     println!("seed {seed}");
-    let numbers: String = (0..=GREATEST).map(|n| format!("{n:>8}")).collect();
+    let numbers: String = NUMBERS.iter().map(|n| format!("{n:>8}")).collect();
     println!("{:<16}{numbers}  failed", "numbers");
     let (mut tally, mut random) = (Tally::default(), Random(seed));
     by_hand(&mut tally);
@@ -62,6 +62,8 @@ fn main() -> ExitCode {
     tally.close("small, runs");
     small::every_run_with_sets(&mut tally);
     tally.close("runs, read back");
+    small::every_delivery(&mut tally);
+    tally.close("small, litres");
     runs::runs(&mut tally, &mut random, 200_000);
     tally.close("runs");
     runs::states(&mut tally, &mut random, 60_000);

@@ -1,8 +1,8 @@
 //! Both orders of the signal rules (02, item 4), by the references alone: one instant from the same record on the same
 //! input, as printed and with inheritance first. What is expected:
 //!
-//! - An instant that is not wrong by the new order has the records that it had by the printed one, and the same
-//!   residual, and neither tree has an error.
+//! - An instant that is not wrong by the new order has the records that it had by the printed one, the same litres and the
+//!   same residual, and neither tree has an error.
 //! - An instant whose answer record or next state changes uses, as printed, a signal that both runs emit while a run is
 //!   wrong. An instant that uses such a signal is wrong by the new order. Said of the record as item 4 found it, without
 //!   the number of reactions; where this alone changes, such a signal is used too.
@@ -132,7 +132,7 @@ impl Orders {
         let (more, fewer) = (new.tree.reactions > old.tree.reactions, new.tree.reactions < old.tree.reactions);
         let two_fit = old.tree.two_fit != [0; 3];
         let claims = [
-            (wrong || !changed && old.answer == new.answer, "not wrong, and changed"),
+            (wrong || !changed && old.answer == new.answer && old.litres() == new.litres(), "not wrong, and changed"),
             (wrong || old_errors.is_empty() && new_errors.is_empty(), "not wrong, and an error"),
             (!changed && !fewer || two_fit, "changed, and no two rules that fit"),
             (!more, "more reactions by the new order"),
@@ -148,8 +148,10 @@ impl Orders {
         if let Some(paper) = paper {
             let mut other = paper.clone();
             let agrees = |paper: &mut Paper, order, instant: &Instant| {
-                let seen = paper.tick(order, input, ANSWER_LENGTH);
-                Seen::of(&instant.answer) == Some(seen) && paper.phase() == instant.state[0]
+                let (seen, litres) = paper.tick(order, input, ANSWER_LENGTH);
+                Seen::of(&instant.answer) == Some(seen)
+                    && paper.phase() == instant.state[0]
+                    && litres == instant.litres()
             };
             let agree = agrees(&mut other, Order::InheritanceFirst, &new) && agrees(paper, Order::Printed, &old);
             let holds = agree && (wrong || other == *paper);

@@ -3,7 +3,8 @@
 //!
 //! - With the host's status of every read-back signal turned: the same number and records.
 //! - After an instant that is not wrong, without a set, on the input in which each read-back signal has the status that
-//!   the answer reports: the same number and records but for the reactions. The chosen run is that one, for each signal.
+//!   the answer reports: the same number and records but for the reactions. The chosen run is that one, for each signal, and
+//!   by the reference it delivers the same (item 12).
 //! - The sequence with a signal command for each signal of the set in front of it, the lowest first, without a set, where
 //!   length and depth leave room: the same number and state, the same answer but for the read-back signals in the emitted
 //!   set, its places moved, those of the commands in front being 65535 with the set.
@@ -17,7 +18,7 @@ use common::counts::Counts;
 use common::reference::{check, SIGNAL};
 use common::table::hex;
 
-const COUNTED: [&str; 21] = [
+const COUNTED: [&str; 22] = [
     "with a read-back set",
     "the same, resumed",
     "the same, resumed, with setpauses",
@@ -39,6 +40,7 @@ const COUNTED: [&str; 21] = [
     "compared with the sequence written out",
     "the sequence written out is too long or deep",
     "number 6 by the set",
+    "litres of a read-back signal",
 ];
 
 #[derive(Default)]
@@ -165,20 +167,23 @@ impl ReadBack {
         }
         match expected {
             Ok(instant) => {
+                let chosen = chosen(sequence, state, input, instant);
                 if instant.answer[0] != 255 {
                     let own = call((bytes, 0), input & !set | emitted(&instant.answer) & set);
                     expect(shows_the_same(outcome, &own), "without a set, on what is reported,", &own);
+                    let same = chosen.as_ref().is_some_and(|chosen| chosen.deliveries == instant.deliveries);
+                    expect(same, "other litres without a set, on what is reported,", &own);
                 }
                 let all = in_all_runs(set, |present| call((bytes, 0), input & !set | present));
                 expect(all.is_some() && all == reactions(outcome), &format!("reactions of all runs {all:?},"), outcome);
-                self.count(sequence, state, input, instant);
+                self.count(sequence, state, input, instant, chosen);
             }
             Err(6) => self.counted[20] += (check(bytes, 0).err() != Some(6)) as u64,
             Err(_) => {}
         }
     }
 
-    fn count(&mut self, sequence: &Sequence, state: &[u8], input: u32, whole: &Instant) {
+    fn count(&mut self, sequence: &Sequence, state: &[u8], input: u32, whole: &Instant, chosen: Option<Instant>) {
         let Ok(read) = &sequence.read else { return };
         let set = sequence.read_back;
         let (code, kind, tree) = (whole.answer[0], whole.answer[1], &whole.tree);
@@ -186,7 +191,6 @@ impl ReadBack {
         let reported = emitted(&whole.answer) & set;
         let outside = wrong && whole.answer[2..4] == [0xFF, 0xFF];
         let bare = |input| instant(Order::InheritanceFirst, &read.tree, &read.bare, state, input).ok();
-        let chosen = bare(input & !set | reported).filter(|_| !wrong);
         let found = chosen.as_ref().map_or(0, |chosen| chosen.tree.found & reported);
         let stopping = chosen.as_ref().map_or(0, |chosen| chosen.tree.stopping & reported);
         let other = bare(input).is_some_and(|bare| bare.answer[..8] != whole.answer[..8] || bare.state != whole.state);
@@ -213,6 +217,7 @@ impl ReadBack {
             written,
             !written,
             false,
+            whole.deliveries.iter().any(|delivery| set >> delivery.0 & 1 == 1),
         ];
         (0..COUNTED.len()).for_each(|i| self.counted[i] += kinds[i] as u64);
     }
@@ -226,8 +231,15 @@ impl ReadBack {
     }
 }
 
+/// The instant without a set on what a whole one that is not wrong reports, by the reference.
+fn chosen(sequence: &Sequence, state: &[u8], input: u32, whole: &Instant) -> Option<Instant> {
+    let (read, set) = (sequence.read.as_ref().ok().filter(|_| whole.answer[0] != 255)?, sequence.read_back);
+    let reported = input & !set | emitted(&whole.answer) & set;
+    instant(Order::InheritanceFirst, &read.tree, &read.bare, state, reported).ok()
+}
+
 /// Does a command name a signal of the set? Of a sequence that is turned down this is not asked.
 fn names(sequence: &Sequence, set: u32) -> bool {
     let Ok(read) = &sequence.read else { return true };
-    read.tree.0.iter().any(|c| [0x02, 0x07, 0x08, 0x0B].contains(&c.byte) && set >> c.operand & 1 == 1)
+    read.tree.0.iter().any(|c| [0x02, 0x07, 0x08, 0x0B, 0x0C].contains(&c.byte) && set >> c.operand & 1 == 1)
 }

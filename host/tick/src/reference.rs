@@ -4,7 +4,7 @@ use crate::ceiling::Ceiling;
 use crate::expansion::{expand, Tree, WRONG};
 use crate::kernel::Kernel;
 use crate::readback::Written;
-use crate::rewriting::Paper;
+use crate::rewriting::{Litres, Paper};
 use crate::statement::{term, wrap, Order, Term};
 use common::reference::{self, Labels, LABELS, STATE_LENGTH};
 use common::table::hex;
@@ -63,10 +63,21 @@ impl Sequence {
 pub struct Instant {
     pub state: Vec<u8>,
     pub answer: Vec<u8>,
+    /// Of the chosen run, but of local signals; none of a wrong instant.
+    pub deliveries: Vec<(u8, u32)>,
     pub tree: Tree,
 }
 
 impl Instant {
+    /// What the deliveries of each farm sum to, where that is not 0.
+    pub fn litres(&self) -> Litres {
+        let farms = (0..32).map(|farm| {
+            let own = self.deliveries.iter().filter(|delivery| delivery.0 == farm);
+            (farm, own.map(|delivery| u64::from(delivery.1)).sum())
+        });
+        farms.filter(|(_, sum): &(u8, u64)| *sum > 0).collect()
+    }
+
     /// The line of a listing (01, 'Bays to run').
     pub fn line(&self, number: usize) -> String {
         let value = |bytes: &[u8]| bytes.iter().rev().fold(0u128, |n, byte| n << 8 | *byte as u128);
@@ -116,5 +127,6 @@ pub fn instant(order: Order, commands: &reference::Tree, term: &Term, state: &[u
     answer.extend((0..4).map(|i| if wrong { 0 } else { (reaction.emitted >> (8 * i)) as u8 }));
     answer.extend((0..4).map(|i| (tree.reactions >> (8 * i)) as u8));
     let labels = (0..LABELS / 8).map(|i| (reaction.labels >> (8 * i)) as u8);
-    Ok(Instant { state: [phase].into_iter().chain(labels).collect(), answer, tree })
+    let deliveries = if wrong { vec![] } else { reaction.deliveries };
+    Ok(Instant { state: [phase].into_iter().chain(labels).collect(), answer, deliveries, tree })
 }

@@ -2,8 +2,10 @@
 //! either order of the signal rules (02, item 4), inside the declarations of its read-back signals (item 5). It knows no
 //! labels or states, and shares nothing with expansion.rs but the terms and the names of the orders. The first error (02,
 //! item 3) is found in the term that it holds, where a copy of a loop or a signal keeps the place of its command. The
-//! number of reactions (item 6) is that of its derivation: one for each rule used, summed over its premises.
+//! number of reactions (item 6) is that of its derivation: one for each rule used, summed over its premises. So are the
+//! litres of each farm (item 12), over the premises that the conclusion is made of.
 use crate::statement::{Declaration, Order, Statement, Term};
+use std::collections::BTreeMap;
 use std::rc::Rc;
 
 /// In the order of 01, so that the greater of two is their maximum.
@@ -27,16 +29,21 @@ struct Tree {
     reactions: u64,
 }
 
+/// The litres of each farm that has any.
+pub type Litres = BTreeMap<u8, u64>;
+
 struct Reaction {
     emitted: u32,
     code: Code,
     residual: Term,
     tree: Tree,
+    litres: Litres,
 }
 
 /// By a rule without premises, or as `by` is to complete it.
 fn gives(emitted: u32, code: Code, residual: Statement) -> Reaction {
-    Reaction { emitted, code, residual: Rc::new(residual), tree: Tree { first: None, reactions: 1 } }
+    let (residual, tree) = (Rc::new(residual), Tree { first: None, reactions: 1 });
+    Reaction { emitted, code, residual, tree, litres: Litres::new() }
 }
 
 impl Reaction {
@@ -46,6 +53,19 @@ impl Reaction {
         let reactions = 1 + premises.iter().map(|tree| tree.reactions).sum::<u64>();
         Reaction { tree: Tree { first, reactions }, ..self }
     }
+
+    /// With these litres.
+    fn of(self, litres: Litres) -> Reaction {
+        Reaction { litres, ..self }
+    }
+}
+
+/// The litres of two premises, farm by farm.
+fn sum(p: Litres, q: Litres) -> Litres {
+    q.into_iter().fold(p, |mut sum, (farm, litres)| {
+        *sum.entry(farm).or_default() += litres;
+        sum
+    })
 }
 
 /// (loop-error), (signal+-), (signal-+)
@@ -60,7 +80,10 @@ fn react(order: Order, term: &Term, present: u32) -> Reaction {
     match &**term {
         Statement::Nothing => gives(0, Ended, Statement::Nothing),
         Statement::Pause(_) => gives(0, Waiting, Statement::Nothing),
-        Statement::Emit(s) => gives(1 << s, Ended, Statement::Nothing),
+        Statement::Emit(s, litres) => {
+            let own = (*litres > 0).then(|| (*s, u64::from(*litres)));
+            gives(1 << s, Ended, Statement::Nothing).of(own.into_iter().collect())
+        }
         Statement::Exit(n) => gives(0, Leaving(*n), Statement::Nothing),
         Statement::Seq(p, q) => sequence(order, react(p, present), q, present),
         Statement::Par(p, q) => parallel(react(p, present), react(q, present)),
@@ -87,25 +110,28 @@ fn react(order: Order, term: &Term, present: u32) -> Reaction {
 /// (sequence-p), (sequence-q)
 fn sequence(order: Order, p: Reaction, q: &Term, present: u32) -> Reaction {
     if p.code != Ended {
-        return gives(p.emitted, p.code, Statement::Seq(p.residual, q.clone())).by([p.tree]);
+        return gives(p.emitted, p.code, Statement::Seq(p.residual, q.clone())).of(p.litres).by([p.tree]);
     }
     let q = react(order, q, present);
     let trees = [p.tree, q.tree];
-    Reaction { emitted: p.emitted | q.emitted, ..q }.by(trees)
+    let (emitted, litres) = (p.emitted | q.emitted, sum(p.litres, q.litres));
+    Reaction { emitted, litres, ..q }.by(trees)
 }
 
 /// (parallel)
 fn parallel(p: Reaction, q: Reaction) -> Reaction {
     let side = |r: Reaction| if r.code == Ended { Rc::new(Statement::Nothing) } else { r.residual };
     let trees = [p.tree, q.tree];
-    gives(p.emitted | q.emitted, p.code.max(q.code), Statement::Par(side(p), side(q))).by(trees)
+    let (p_litres, q_litres) = (p.litres.clone(), q.litres.clone());
+    let all = gives(p.emitted | q.emitted, p.code.max(q.code), Statement::Par(side(p), side(q)));
+    all.of(sum(p_litres, q_litres)).by(trees)
 }
 
 /// (loop), (loop-error)
 fn repeat(place: usize, p: Reaction, whole: &Term) -> Reaction {
     let all = match p.code {
         Ended => errs(1, place),
-        _ => gives(p.emitted, p.code, Statement::Seq(p.residual, whole.clone())),
+        _ => gives(p.emitted, p.code, Statement::Seq(p.residual, whole.clone())).of(p.litres),
     };
     all.by([p.tree])
 }
@@ -117,26 +143,30 @@ fn catch(p: Reaction) -> Reaction {
         Leaving(n) => gives(p.emitted, Leaving(n - 1), Statement::Try(p.residual)),
         Ended | Waiting | Wrong => gives(p.emitted, p.code, Statement::Try(p.residual)),
     };
-    all.by([p.tree])
+    all.of(p.litres).by([p.tree])
 }
 
 /// 02, item 1: after code 1 a held suspend remains around the residual, after any other code nothing
 fn hold(s: u8, p: Reaction) -> Reaction {
     let residual = if p.code == Waiting { Statement::Held(s, p.residual) } else { Statement::Nothing };
-    gives(p.emitted, p.code, residual).by([p.tree])
+    gives(p.emitted, p.code, residual).of(p.litres).by([p.tree])
 }
 
 /// (signal++), (signal--), (signal+-), (signal-+), (signal∞): the first that fits, or, if so ordered, (signal∞) before
-/// the other four. What is emitted of a read-back signal is not taken out.
+/// the other four. What is emitted of a read-back signal is not taken out, nor are its litres.
 fn signal(order: Order, declared: Declaration, minus: Reaction, plus: Reaction) -> Reaction {
     let emits = |r: &Reaction| r.emitted >> declared.signal & 1 == 1;
     let kept = if declared.reported { u32::MAX } else { !(1 << declared.signal) };
     let greater = minus.code.max(plus.code);
     let all = match (emits(&minus), emits(&plus)) {
         _ if order == Order::InheritanceFirst && greater == Wrong => gives(0, Wrong, Statement::Nothing),
-        (true, true) => gives(plus.emitted & kept, plus.code, Statement::Signal(declared, plus.residual)),
+        (true, true) => {
+            let mut litres = plus.litres;
+            litres.retain(|farm, _| kept >> farm & 1 == 1);
+            gives(plus.emitted & kept, plus.code, Statement::Signal(declared, plus.residual)).of(litres)
+        }
         (false, false) if greater < Wrong => {
-            gives(minus.emitted, minus.code, Statement::Signal(declared, minus.residual))
+            gives(minus.emitted, minus.code, Statement::Signal(declared, minus.residual)).of(minus.litres)
         }
         (true, false) if plus.code < Wrong => errs(2, declared.place),
         (false, true) if minus.code < Wrong => errs(3, declared.place),
@@ -177,21 +207,22 @@ impl Paper {
         }
     }
 
-    pub fn tick(&mut self, order: Order, input: u32, answer_length: usize) -> Seen {
+    /// What is seen of the tick, and the litres of its instant: none of one that is wrong.
+    pub fn tick(&mut self, order: Order, input: u32, answer_length: usize) -> (Seen, Litres) {
         if answer_length != 12 {
-            return Seen::TurnedDown(1);
+            return (Seen::TurnedDown(1), Litres::new());
         }
-        let (Paper::Fresh(term) | Paper::Waiting(term)) = self else { return Seen::TurnedDown(12) };
-        let Reaction { emitted, code, residual, tree: Tree { first, reactions } } = react(order, term, input);
+        let (Paper::Fresh(term) | Paper::Waiting(term)) = self else { return (Seen::TurnedDown(12), Litres::new()) };
+        let Reaction { emitted, code, residual, tree: Tree { first, reactions }, litres } = react(order, term, input);
         *self = if code == Waiting { Paper::Waiting(residual) } else { Paper::Over };
-        let right = |code| Seen::Instant { code, kind: 0, place: 0, emitted, reactions };
+        let right = |code| (Seen::Instant { code, kind: 0, place: 0, emitted, reactions }, litres);
         match code {
             Ended => right(0),
             Waiting => right(1),
             Leaving(n) => right(n + 1),
             Wrong => {
                 let (kind, place) = first.expect("a wrong instant has an error");
-                Seen::Instant { code: 255, kind, place, emitted: 0, reactions }
+                (Seen::Instant { code: 255, kind, place, emitted: 0, reactions }, Litres::new())
             }
         }
     }

@@ -36,11 +36,17 @@ fn fitting(mut set: u32, nesting: usize) -> u32 {
 /// An accepted sequence; most are short. Half of them have no read-back set, a quarter one that their tests and emissions
 /// go by, a quarter one of names that they use, declared ones too.
 pub fn sequence(random: &mut Random) -> Sequence {
+    sequence_of(random, |_, _| {})
+}
+
+/// Such a sequence, after its style was changed.
+pub fn sequence_of(random: &mut Random, change: impl Fn(&mut Random, &mut Style)) -> Sequence {
     loop {
         let longest = random.pick(&[12, 24, 24, 48, 48, 48, 96, 96, 200]);
         let longest = if random.chance(1) { 1024 } else { longest };
         let length = 1 + random.below(longest);
         let (mut style, kind, most) = (style(random), random.below(4), random.pick(&[1, 1, 2, 3, 6]));
+        change(random, &mut style);
         if kind == 0 {
             style.read_back = (0..most).fold(0, |set, _| set | 1 << random.below(style.names));
         }

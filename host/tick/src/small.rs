@@ -1,6 +1,6 @@
 //! All statements of one to five commands over two signals, two labels, 63 and 64, and two exits, with every read-back set of them up
-//! to four commands and with one in turn of five; and, for the two orders of the signal rules, of one to seven commands
-//! over one signal and one exit.
+//! to four commands and with one in turn of five; such with litres, of two farms; and, for the two orders of the signal
+//! rules, of one to seven commands over one signal and one exit.
 use crate::archive::ANSWER_LENGTH;
 use crate::reference::Sequence;
 use crate::rewriting::Paper;
@@ -23,6 +23,13 @@ const OF_FIVE: Commands = Commands {
     leaves: &["00", "01 3F", "01 40", "02 00", "02 01", "03 01", "03 02", "0A 3F", "0A 40"],
     wraps: &["06", "08 00", "08 01", "09", "0B 00", "0B 01"],
     joins: &["04", "05", "07 00", "07 01"],
+};
+
+/// Emissions with 1 litre of farm 0 and 16,777,216 of farm 1.
+const WITH_LITRES: Commands = Commands {
+    leaves: &["00", "01 3F", "02 00", "03 01", "0C 00 00 00 80 3F", "0C 01 00 00 80 4B"],
+    wraps: &["06", "08 00", "09", "0B 00"],
+    joins: &["04", "05", "07 00"],
 };
 
 /// The pauses are numbered afterwards.
@@ -124,6 +131,17 @@ pub fn every_run_with_sets(tally: &mut Tally) {
             continue_run(tally, sequence, &paper, &record(0, 0), 3);
         }
     });
+}
+
+/// Every statement with litres against the paper, over every list of three inputs of two bits, with each read-back set.
+pub fn every_delivery(tally: &mut Tally) {
+    let statements = statements(5, &WITH_LITRES).into_iter().flatten().filter(|bytes| bytes.contains(&0x0C));
+    for (bytes, set) in statements.flat_map(|bytes| (0..4).map(move |set| (bytes.clone(), set))) {
+        let sequence = Sequence::new(bytes, set);
+        if let Some(paper) = sequence.paper() {
+            continue_run(tally, &sequence, &paper, &record(0, 0), 3);
+        }
+    }
 }
 
 /// The inputs of two bits without those of a read-back set, which each comparison turns by itself.

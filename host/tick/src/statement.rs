@@ -27,7 +27,8 @@ pub struct Declaration {
 pub enum Statement {
     Nothing,
     Pause(u8),
-    Emit(u8),
+    /// With its litres, none for an emission by 02 (item 12).
+    Emit(u8, u32),
     Exit(u8),
     Seq(Term, Term),
     Par(Term, Term),
@@ -55,7 +56,7 @@ fn build<'a>(commands: &mut impl Iterator<Item = &'a Command>) -> Term {
     Rc::new(match command.byte {
         0x00 => Statement::Nothing,
         0x01 => Statement::Pause(operand),
-        0x02 => Statement::Emit(operand),
+        0x02 | 0x0C => Statement::Emit(operand, command.litres),
         0x03 => Statement::Exit(operand),
         0x04 => Statement::Seq(part(), part()),
         0x05 => Statement::Par(part(), part()),

@@ -5,12 +5,15 @@ use crate::expansion::CASES;
 use crate::kernel::Kernel;
 use crate::readback::ReadBack;
 use crate::reference::{tick, Instant, Sequence};
-use crate::rewriting::{Paper, Seen};
+use crate::rewriting::{Litres, Paper, Seen};
 use crate::statement::Order;
 use common::counts::Counts;
+use common::reference::MOST_LITRES;
 use common::table::hex;
 
-pub const GREATEST: usize = 12;
+/// What a tick answers.
+pub const NUMBERS: [usize; 14] = [0, 1, 2, 3, 4, 5, 6, 7, 8, 9, 10, 11, 12, 18];
+const GREATEST: usize = 18;
 
 /// Names of what a tree of reactions may hold, beside the cases of a signal.
 const EVENTS: [&str; 28] = [
@@ -42,6 +45,18 @@ const EVENTS: [&str; 28] = [
     "the same, read back",
     "the same, a suspend stopped",
     "asked for in the run with a signal alone",
+];
+
+/// What is counted of the litres of an instant.
+const LITRES: [&str; 8] = [
+    "delivers litres",
+    "the same, resumed",
+    "the same, of two farms",
+    "the same, twice of one farm",
+    "litres above the limit in one instant",
+    "litres of a local signal dropped",
+    "other litres in the run not chosen",
+    "wrong beside an emission with litres",
 ];
 
 /// What is counted of the ticks that are compared with the paper.
@@ -76,6 +91,7 @@ pub struct Tally {
     kinds: [u64; 4],
     cases: [u64; CASES.len()],
     events: [u64; EVENTS.len()],
+    litres: [u64; LITRES.len()],
     papers: [u64; PAPERS.len()],
     kernels: [u64; KERNELS.len()],
     read_back: ReadBack,
@@ -107,6 +123,7 @@ impl Tally {
         self.numbers[number as usize] += 1;
         if let (Ok(instant), Ok(read)) = (&expected, &sequence.read) {
             self.count(state, instant, read.ceiling);
+            self.count_litres(state, instant);
             let taken = instant.tree.reactions;
             let within = read.ceiling.allows(state[0] == 0, taken);
             self.counts.expect(within, || format!("{taken} reactions: {} | {}", sequence.text(), hex(state)));
@@ -120,7 +137,8 @@ impl Tally {
         self.counts.expect(holds, told);
         if let Some(paper) = paper {
             self.count_paper(sequence, state, expected.as_ref().ok());
-            self.compare_paper(paper, input, &outcome, answer_length, told);
+            let litres = expected.as_ref().map_or(Litres::new(), Instant::litres);
+            self.compare_paper(paper, input, &outcome, litres, answer_length, told);
         }
         if let Some(kernel) = &sequence.kernel {
             self.count_kernel(sequence, kernel, expected.as_ref().ok());
@@ -133,16 +151,17 @@ impl Tally {
     }
 
     /// 01, 'The fitters' paper', and 02, items 3 and 6: number, code, kind, place, emitted set, number of reactions and,
-    /// after each tick, the phase.
+    /// after each tick, the phase. The litres (item 12), which a tick does not tell, are compared with the expansion's.
     fn compare_paper(
         &mut self,
         paper: &mut Paper,
         input: u32,
         outcome: &archive::Outcome,
+        by_expansion: Litres,
         answer_length: usize,
         told: impl Fn() -> String,
     ) {
-        let seen = paper.tick(Order::InheritanceFirst, input, answer_length);
+        let (seen, litres) = paper.tick(Order::InheritanceFirst, input, answer_length);
         let shown = match outcome.number {
             0 => outcome.answer.as_deref().and_then(Seen::of),
             number => Some(Seen::TurnedDown(number)),
@@ -150,6 +169,8 @@ impl Tally {
         let phase = outcome.state.as_ref().and_then(|state| state.first().copied());
         let holds = shown.as_ref() == Some(&seen) && phase == Some(paper.phase());
         self.counts.expect(holds, || format!("paper {seen:?}, phase {}: {}", paper.phase(), told()));
+        let same = litres == by_expansion;
+        self.counts.expect(same, || format!("paper {litres:?}, expansion {by_expansion:?}: {}", told()));
     }
 
     fn count_paper(&mut self, sequence: &Sequence, state: &[u8], instant: Option<&Instant>) {
@@ -242,9 +263,25 @@ impl Tally {
         self.most_reactions = self.most_reactions.max(tree.reactions);
     }
 
+    fn count_litres(&mut self, state: &[u8], instant: &Instant) {
+        let (wrong, tree, litres) = (instant.answer[0] == 255, &instant.tree, instant.litres());
+        let delivers = !litres.is_empty();
+        let kinds = [
+            delivers,
+            delivers && state[0] == 1,
+            litres.len() > 1,
+            delivers && instant.deliveries.len() > litres.len(),
+            litres.values().any(|sum| *sum > MOST_LITRES),
+            tree.dropped > 0,
+            tree.other_litres > 0 && !wrong,
+            tree.delivered > 0 && wrong,
+        ];
+        (0..LITRES.len()).for_each(|i| self.litres[i] += kinds[i] as u64);
+    }
+
     /// Prints what the group `name` answered and begins the next one.
     pub fn close(&mut self, name: &str) {
-        let numbers: String = self.numbers.iter().map(|n| format!("{n:>8}")).collect();
+        let numbers: String = NUMBERS.iter().map(|n| format!("{:>8}", self.numbers[*n])).collect();
         println!("{name:<16}{numbers}{:>8}", self.counts.close());
         (0..=GREATEST).for_each(|n| self.all_numbers[n] += self.numbers[n]);
         self.numbers = [0; GREATEST + 1];
@@ -254,13 +291,14 @@ impl Tally {
     pub fn reached(&mut self) {
         let codes = (0..=17).map(|i| (format!("code {}", if i == 17 { 255 } else { i }), self.codes[i]));
         let kinds = (1..=3).map(|kind| (format!("kind {kind}"), self.kinds[kind]));
-        let numbers = (0..=GREATEST).map(|n| (format!("number {n}"), self.all_numbers[n]));
+        let numbers = NUMBERS.iter().map(|n| (format!("number {n}"), self.all_numbers[*n]));
         let cases = (0..CASES.len()).map(|i| (format!("signal {}", CASES[i]), self.cases[i]));
         let events = (0..EVENTS.len()).map(|i| (EVENTS[i].to_string(), self.events[i]));
+        let litres = (0..LITRES.len()).map(|i| (LITRES[i].to_string(), self.litres[i]));
         let papers = (0..PAPERS.len()).map(|i| (PAPERS[i].to_string(), self.papers[i]));
         let kernels = (0..KERNELS.len()).map(|i| (KERNELS[i].to_string(), self.kernels[i]));
         let answers = numbers.chain(codes).chain(kinds);
-        let all: Vec<_> = answers.chain(cases).chain(events).chain(papers).chain(kernels).collect();
+        let all: Vec<_> = answers.chain(cases).chain(events).chain(litres).chain(papers).chain(kernels).collect();
         for (name, count) in all {
             println!("{name:<40}{count:>10}");
             self.counts.expect(count >= 100, || format!("{name} occurred only {count} times"));
