@@ -53,6 +53,8 @@ extern "C" {
         preview: *mut u8,
         preview_length: usize,
     ) -> u8;
+    fn intake_box_ledger(the_box: *const u8, box_length: usize, bay: u32, totals: *mut u8, totals_length: usize) -> u8;
+    fn intake_box_new_year(the_box: *mut u8, box_length: usize, bay: u32) -> u8;
 }
 
 /// What is asked of a bay.
@@ -67,12 +69,15 @@ pub enum Call {
     Service { record: Vec<u8>, view_length: usize },
     Panel { record: Vec<u8>, view_length: usize },
     Preview { input: u32, unknown: u32, preview_length: usize },
+    Ledger { totals_length: usize },
+    NewYear,
 }
 
-pub const CALLS: [&str; 9] = ["admit", "release", "tick", "save", "restore", "forget", "service", "panel", "preview"];
+pub const CALLS: [&str; 11] =
+    ["admit", "release", "tick", "save", "restore", "forget", "service", "panel", "preview", "ledger", "new year"];
 
-/// What a call writes to what it is lent beside the box: the answer and the record of a tick, the view of a reader, or a
-/// preview.
+/// What a call writes to what it is lent beside the box: the answer and the record of a tick, the view of a reader, a
+/// preview, or what is read of a ledger.
 pub type Written = [Vec<u8>; 2];
 
 impl Call {
@@ -88,12 +93,14 @@ impl Call {
             Call::Service { .. } => 6,
             Call::Panel { .. } => 7,
             Call::Preview { .. } => 8,
+            Call::Ledger { .. } => 9,
+            Call::NewYear => 10,
         }
     }
 
     /// Whether its box is only read.
     pub fn reads(&self) -> bool {
-        matches!(self, Call::Service { .. } | Call::Panel { .. } | Call::Preview { .. })
+        matches!(self, Call::Service { .. } | Call::Panel { .. } | Call::Preview { .. } | Call::Ledger { .. })
     }
 
     /// The call with its bay, for a message.
@@ -102,7 +109,8 @@ impl Call {
             Call::Admit { sequence, read_back, service_only } => {
                 format!("admit {bay}: {} & {read_back:08X}, service only {service_only:08X}", hex(sequence))
             }
-            Call::Release => format!("release {bay}"),
+            Call::Release | Call::NewYear => format!("{} {bay}", CALLS[self.index()]),
+            Call::Ledger { totals_length } => format!("ledger {bay}: {totals_length}"),
             Call::Tick { input, answer_length, record_length } => {
                 format!("tick {bay}: {input:08X} | {answer_length} | {record_length}")
             }
@@ -148,6 +156,7 @@ impl Archive {
                 (&record[..], [*view_length, 0])
             }
             Call::Preview { preview_length, .. } => (&[][..], [*preview_length, 0]),
+            Call::Ledger { totals_length } => (&[][..], [*totals_length, 0]),
             _ => (&[][..], [0, 0]),
         };
         let before = lengths.map(|length| vec![fill; length]);
@@ -196,6 +205,8 @@ impl Archive {
                 Call::Preview { input, unknown, .. } => {
                     intake_box_preview(the_box, length, bay, *input, *unknown, first, first_length)
                 }
+                Call::Ledger { .. } => intake_box_ledger(the_box, length, bay, first, first_length),
+                Call::NewYear => intake_box_new_year(the_box, length, bay),
             }
         }
     }

@@ -1,5 +1,6 @@
 //! Random calls to a box: mostly such as a host makes, sequences whose ceilings meet or pass what is left, and mistakes.
 use crate::archive::Call;
+use crate::ledgers::READING_LENGTH;
 use crate::model::{Bay, Model, BAYS, SHARED, WAITING};
 use crate::previews::{PREVIEW_LENGTH, UNKNOWN};
 use crate::records::{PANEL_LENGTH, RECORD_LENGTH};
@@ -83,6 +84,40 @@ pub fn doubtful(random: &mut Random, longest: usize) -> (Vec<u8>, u32) {
     (bytes, random.pick(&[0, 0, few, any]))
 }
 
+/// A sequence that delivers again and again, mostly of few farms, with signals around some of it.
+fn delivering(random: &mut Random) -> (Vec<u8>, u32) {
+    let sequence = runs::sequence_of(random, |random, style| {
+        style.weights = std::array::from_fn(|byte| match byte {
+            0x0C => 16,
+            0x01 | 0x04 | 0x05 => 4,
+            0x00 | 0x02 | 0x07 | 0x08 => random.pick(&[0, 1, 2]),
+            _ => random.pick(&[0, 0, 1]),
+        });
+        style.endless = true;
+        style.framed = 95;
+    });
+    (sequence.bytes, sequence.read_back)
+}
+
+/// A sequence that delivers of some farms in each instant, by an input either much or little, so that a tick may find room
+/// where the one before it found none.
+fn choosing(random: &mut Random) -> Vec<u8> {
+    let farms = 1 + random.below(3);
+    let mut bytes = vec![0x06, 0x04];
+    bytes.extend((1..farms).map(|_| random.pick(&[0x04, 0x05])));
+    for _ in 0..farms {
+        let farm = random.below(32) as u8;
+        let little = random.pick(&[0.0f32, 1.0, 2.0, 1000.0]).to_bits();
+        bytes.extend([0x07, random.below(3) as u8]);
+        for bits in [generate::litres(random), little] {
+            bytes.extend([0x0C, farm]);
+            bytes.extend(bits.to_le_bytes());
+        }
+    }
+    bytes.extend([0x01, random.below(128) as u8]);
+    bytes
+}
+
 /// A sequence with its read-back set for an admission where so much is left of the shared ceiling.
 fn admitted(random: &mut Random, left: u64) -> (Vec<u8>, u32) {
     match random.below(20) {
@@ -96,6 +131,8 @@ fn admitted(random: &mut Random, left: u64) -> (Vec<u8>, u32) {
             let ceiling = random.pick(&[left, left + over, (left + 1).saturating_sub(over), left / 2, left / 4, dear]);
             of_ceiling(random, ceiling).unwrap_or((vec![0x01, 0x00], 0))
         }
+        6..=9 => delivering(random),
+        10..=12 => (choosing(random), 0),
         _ => {
             let sequence = runs::sequence(random);
             (sequence.bytes, sequence.read_back)
@@ -147,6 +184,7 @@ fn bay(random: &mut Random, model: &Model, call: &Call) -> u32 {
         Call::Restore { .. } | Call::Forget { .. } => bay.as_ref().is_some_and(|bay| !bay.positions.is_empty()),
         Call::Service { .. } | Call::Panel { .. } => bay.is_some(),
         Call::Preview { .. } => bay.as_ref().is_some_and(|bay| !over(bay)),
+        Call::Ledger { .. } | Call::NewYear => true,
     };
     let such: Vec<u32> = (0..BAYS as u32).filter(|&bay| suits(&model.bays[bay as usize])).collect();
     if such.is_empty() || random.chance(15) {
@@ -165,7 +203,7 @@ fn length(random: &mut Random, right: usize) -> usize {
     match random.chance(98) {
         true => right,
         false => {
-            let other = random.pick(&[ANSWER_LENGTH, PANEL_LENGTH, RECORD_LENGTH, PREVIEW_LENGTH]);
+            let other = random.pick(&[ANSWER_LENGTH, PANEL_LENGTH, RECORD_LENGTH, PREVIEW_LENGTH, READING_LENGTH]);
             random.pick(&[0, 1, right - 1, right + 1, other, other, right + 256, 1024])
         }
     }
@@ -195,7 +233,7 @@ fn previewing(random: &mut Random) -> Call {
 }
 
 /// A call as the model's bays suggest it; `positions` is how many in a hundred are on positions, and `ticks` how many of
-/// the others, but for some that read a record and some previews, are ticks.
+/// the others, but for some that read a record, some previews and some on a ledger, are ticks.
 pub fn request(random: &mut Random, model: &Model, positions: usize, ticks: usize) -> Request {
     let idle = model.bays.iter().flatten().all(over);
     let kind = if idle && random.chance(80) { 99 } else { random.below(100) };
@@ -210,6 +248,11 @@ pub fn request(random: &mut Random, model: &Model, positions: usize, ticks: usiz
         reading(random, model)
     } else if random.chance(15) {
         previewing(random)
+    } else if random.chance(8) {
+        match random.chance(80) {
+            true => Call::Ledger { totals_length: length(random, READING_LENGTH) },
+            false => Call::NewYear,
+        }
     } else if kind < ticks {
         let (answer_length, record_length) = (length(random, ANSWER_LENGTH), length(random, RECORD_LENGTH));
         Call::Tick { input: runs::input(random), answer_length, record_length }

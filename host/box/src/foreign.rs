@@ -1,13 +1,14 @@
 //! Boxes that no call has written: every call returns, a refusal changes nothing, no call leaves its bay's stretch, a tick
-//! is intake_tick on what the bay holds, and a preview is one of those for each filling. Positions that calls could have
-//! left are kept as by name; of other bytes in their place a name that is there with phase 1 is known, and a call writes
-//! what is its own to write.
+//! is intake_tick on what the bay holds, and a preview is one of those for each filling. A farm's total that no call writes
+//! counts as 0, and its bytes stay until the farm delivers. Positions that calls could have left are kept as by name; of
+//! other bytes in their place a name that is there with phase 1 is known, and a call writes what is its own to write.
 use crate::archive::{Archive, Call, Given, Written};
 use crate::draw::{doubtful, request};
 use crate::layout::{
-    self, entries, held, put, put_entries, put_length, put_number, put_positions, put_sequence, put_state, table, Held,
-    STRETCH,
+    self, entries, held, put, put_changed, put_entries, put_length, put_number, put_positions, put_sequence, put_state,
+    table, totals, Held, LEDGER, STRETCH,
 };
+use crate::ledgers::{added, close, reading, READING_LENGTH};
 use crate::lists::{nothing, Run};
 use crate::memory::Memory;
 use crate::model::{Bay, BAYS, POSITIONS, SHARED, WAITING};
@@ -18,6 +19,7 @@ use common::generate::Random;
 use common::reference::STATE_LENGTH;
 use tick::archive::{self, ANSWER_LENGTH};
 use tick::reference::Sequence;
+use tick::rewriting::Litres;
 use tick::runs;
 
 /// Up to 16 positions: state records of the sequence, or of any labels; some are in another phase, or have one name.
@@ -133,6 +135,15 @@ fn forgotten(stretch: &mut [u8], given: &[u8], name: u32) -> Result<(), u8> {
     Ok(())
 }
 
+/// What the reference delivers in an instant of what a bay holds.
+fn litres(here: &Held, input: u32) -> Litres {
+    let bay = here.sequence.and_then(|sequence| Bay::new(sequence, here.read_back, 0).ok());
+    bay.map_or(Litres::new(), |mut bay| {
+        bay.state = here.state.to_vec();
+        bay.litres(input)
+    })
+}
+
 /// The answer and the next state of intake_tick on copies of what a bay holds, or its number.
 fn instant(here: &Held, input: u32) -> Result<[Vec<u8>; 2], u8> {
     let lent = archive::Call { state: here.state, input, answer_length: ANSWER_LENGTH, fill: 0 };
@@ -154,6 +165,14 @@ fn expected(bytes: &[u8], given: &[u8], bay: u32, call: &Call) -> (Result<Writte
     let (here, given) = (held(&bytes[layout::stretch(bay as usize)]), &given[layout::stretch(bay as usize)]);
     let empty = here.length == 0;
     let given = match call {
+        Call::Ledger { totals_length } => match *totals_length {
+            READING_LENGTH => Ok([reading(&totals(stretch)), vec![]]),
+            _ => Err(1),
+        },
+        Call::NewYear => {
+            stretch[LEDGER..].fill(0);
+            Ok(Written::default())
+        }
         Call::Admit { .. } if !empty => Err(13),
         _ if empty && !matches!(call, Call::Admit { .. }) => Err(13),
         Call::Admit { sequence, read_back, service_only } => Bay::new(sequence, *read_back, *service_only).map(|bay| {
@@ -169,12 +188,13 @@ fn expected(bytes: &[u8], given: &[u8], bay: u32, call: &Call) -> (Result<Writte
         {
             Err(1)
         }
-        Call::Tick { input, .. } => instant(&here, *input).map(|[answer, state]| {
-            let number = here.number.saturating_add(1);
+        Call::Tick { input, .. } => instant(&here, *input).and_then(|[answer, state]| {
+            let (number, before) = (here.number.saturating_add(1), totals(stretch));
+            put_changed(stretch, &before, &added(&before, &litres(&here, *input))?);
             put_state(stretch, &state);
             put_number(stretch, number);
             let record = record(number, *input, &answer, &state);
-            [answer, record]
+            Ok([answer, record])
         }),
         Call::Save { .. } if here.state[0] != WAITING => Err(15),
         Call::Save { name } => saved(stretch, given, *name, here.state).map(nothing),
@@ -214,6 +234,10 @@ fn compare(tally: &mut Tally, bytes: &[u8], bay: u32, call: &Call, given: &Given
             result = Err(14);
             after = bytes.to_vec();
         }
+    }
+    if let (Call::Ledger { .. }, 0) = (call, given.number) {
+        let near = close(&given.written[0], &totals(&bytes[layout::stretch(bay as usize)]));
+        tally.counts.expect(near, || format!("foreign: {} is not close to the exact sum", call.text(bay)));
     }
     let same = memory.holds(&after);
     tally.counts.expect(same && given.is(&result), || {

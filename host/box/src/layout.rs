@@ -1,4 +1,5 @@
 //! The bytes of a box (docs/FORMAT.md, 'Box'): eight stretches of one length. Only comparisons with the archive look here.
+use crate::ledgers::{self, Totals, FARMS};
 use crate::model::{Bay, Model, BAYS, WAITING};
 use common::reference::STATE_LENGTH;
 use std::collections::BTreeMap;
@@ -119,7 +120,20 @@ pub fn arrange(stretch: &mut [u8], given: &[u8]) {
     }
 }
 
-/// Every byte of a box as the model and these ledgers say, but for the places of the positions, which `given` tells.
+/// What the ledger of a stretch says.
+pub fn totals(stretch: &[u8]) -> Totals {
+    std::array::from_fn(|farm| ledgers::total(&stretch[LEDGER + 4 * farm..LEDGER + 4 * farm + 4]))
+}
+
+/// Puts the totals that are others than before; the bytes of all others stay.
+pub fn put_changed(stretch: &mut [u8], before: &Totals, after: &Totals) {
+    for farm in (0..FARMS).filter(|&farm| before[farm] != after[farm]) {
+        field(stretch, LEDGER + 4 * farm, &ledgers::bytes(after[farm]));
+    }
+}
+
+/// Every byte of a box as the model says, but for the ledgers, which are those of `ledgers`, and for the places of the
+/// positions, which `given` tells.
 pub fn image(model: &Model, ledgers: &[u8], given: &[u8]) -> Vec<u8> {
     let mut bytes = ledgers.to_vec();
     for bay in 0..BAYS {

@@ -1,6 +1,7 @@
-//! A box as 02, items 8 to 11, word it: eight bays, each empty or with a machine of its own, the positions that were saved
-//! of it and the number of its last instant. It knows no bytes of a box.
+//! A box as 02, items 8 to 12, word it: eight bays, each empty or with a machine of its own, the positions that were saved
+//! of it and the number of its last instant; and a ledger for each bay number. It knows no bytes of a box.
 use crate::archive::Written;
+use crate::ledgers::{added, reading, Totals, READING_LENGTH};
 use crate::previews::{preview, PREVIEW_LENGTH};
 use crate::records::{panel, record, PANEL_LENGTH, RECORD_LENGTH};
 use common::reference;
@@ -8,7 +9,8 @@ use common::reference::STATE_LENGTH;
 use std::collections::BTreeMap;
 use tick::archive::ANSWER_LENGTH;
 use tick::ceiling::Ceiling;
-use tick::reference::instant;
+use tick::reference::{instant, Instant};
+use tick::rewriting::Litres;
 use tick::statement::{term, wrap, Order, Term};
 
 pub const BAYS: usize = 8;
@@ -53,9 +55,20 @@ impl Bay {
         })
     }
 
-    /// The answer and the record of an instant, or number 11 or 12.
-    fn tick(&mut self, input: u32) -> Result<Written, u8> {
-        let instant = instant(Order::InheritanceFirst, &self.tree, &self.term, &self.state, input)?;
+    /// The next instant, or number 11 or 12.
+    fn next(&self, input: u32) -> Result<Instant, u8> {
+        instant(Order::InheritanceFirst, &self.tree, &self.term, &self.state, input)
+    }
+
+    /// What the next instant delivers; nothing if there is none.
+    pub fn litres(&self, input: u32) -> Litres {
+        self.next(input).map_or(Litres::new(), |instant| instant.litres())
+    }
+
+    /// The answer and the record of an instant, which goes into the ledger; or number 11, 12 or 19.
+    fn tick(&mut self, input: u32, totals: &mut Totals) -> Result<Written, u8> {
+        let instant = self.next(input)?;
+        *totals = added(totals, &instant.litres())?;
         self.state = instant.state;
         self.number = self.number.saturating_add(1);
         let record = record(self.number, input, &instant.answer, &self.state);
@@ -64,8 +77,7 @@ impl Bay {
 
     /// The preview of the next instant, or number 11, 12 or 17.
     fn preview(&self, input: u32, unknown: u32) -> Result<Vec<u8>, u8> {
-        let next = |input| instant(Order::InheritanceFirst, &self.tree, &self.term, &self.state, input);
-        preview(input, unknown, |input| next(input).map(|instant| instant.answer))
+        preview(input, unknown, |input| self.next(input).map(|instant| instant.answer))
     }
 
     /// Number 15 unless the machine waits, then 16 for a seventeenth name.
@@ -84,6 +96,7 @@ impl Bay {
 #[derive(Default)]
 pub struct Model {
     pub bays: [Option<Bay>; BAYS],
+    pub ledgers: [Totals; BAYS],
     /// The length of a box that number 1 lets pass.
     pub length: usize,
     /// The last record that a tick has left.
@@ -129,13 +142,34 @@ impl Model {
     }
 
     pub fn tick(&mut self, length: usize, bay: u32, input: u32, lengths: [usize; 2]) -> Result<Written, u8> {
-        let bay = self.filled(length, bay)?;
+        self.filled(length, bay)?;
         if lengths != [ANSWER_LENGTH, RECORD_LENGTH] {
             return Err(1);
         }
-        let written = bay.tick(input)?;
+        let own = self.bays[bay as usize].as_mut().expect("a filled bay");
+        let written = own.tick(input, &mut self.ledgers[bay as usize])?;
         self.last.clone_from(&written[1]);
         Ok(written)
+    }
+
+    /// The ledger of a bay number, whether the bay is filled or not; or number 13, or 1 for the box.
+    fn ledger_of(&mut self, length: usize, bay: u32) -> Result<&mut Totals, u8> {
+        let right = length == self.length;
+        let ledger = self.ledgers.get_mut(bay as usize).ok_or(13)?;
+        right.then_some(ledger).ok_or(1)
+    }
+
+    pub fn ledger(&mut self, length: usize, bay: u32, totals_length: usize) -> Result<Vec<u8>, u8> {
+        let totals = self.ledger_of(length, bay)?;
+        match totals_length {
+            READING_LENGTH => Ok(reading(totals)),
+            _ => Err(1),
+        }
+    }
+
+    pub fn new_year(&mut self, length: usize, bay: u32) -> Result<(), u8> {
+        *self.ledger_of(length, bay)? = Totals::default();
+        Ok(())
     }
 
     fn filled(&mut self, length: usize, bay: u32) -> Result<&mut Bay, u8> {

@@ -2,7 +2,7 @@
 use crate::archive::{Call, CALLS};
 use common::counts::Counts;
 
-pub const GREATEST: usize = 17;
+pub const GREATEST: usize = 19;
 
 /// How often each call gave each number.
 pub type Numbers = [[u64; GREATEST + 1]; CALLS.len()];
