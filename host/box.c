@@ -2,7 +2,7 @@
  * The calls on a box through include/intake.h, built with sanitizers: vectors by hand, and every line of the table that is
  * the argument (host/examples.txt) as an admission. The box, the sequence and what is written beside the box stand between
  * unreadable pages, and are read-only during a call that is turned down; a reader's box and record, and the box of a
- * preview, always are. The last line is 'N passed, M failed'.
+ * preview and of a ledger that is read, always are. The last line is 'N passed, M failed'.
  */
 #include "testing.h"
 
@@ -27,6 +27,7 @@
 #define WHOLE_READ_BACK "25(09) 31(04 " T31 ") 00 & 0000003F"      /* 25 + 31 * 32 + 1 + 6 = 1,024: 1,024 * 64 = 65,536 */
 #define JUST_ABOVE "26(09) 31(04 " T31 ") 00 & 0000003F"           /* one command more: 1,025 * 64 = 65,600 */
 #define MUCH_ABOVE SIX "47(06) 9(04) 10(00)"                       /* 6 + 47 + 19 = 72 commands: 72 * 48 * 64 = 221,184 */
+#define WHOLE_LITRES SIX "15(06) 21(04) 22(0C 00 06 08 06 4B)"     /* 64 commands; the numbers are none: 65,536 */
 #define ONE "00"                                                   /* 1 */
 #define TWO "09 00"                                                /* 2 */
 
@@ -35,8 +36,8 @@
 #define ONCE "04 01 07 02 02"
 #define WRONG_AT_ONCE "06 00"
 
-/* Where a stretch has the state record and the number of the last instant (docs/FORMAT.md, 'Box'). */
-enum { STRETCH = INTAKE_BOX_LENGTH / INTAKE_BAY_COUNT, AT_STATE = 1038, AT_NUMBER = 1055 };
+/* Where a stretch has the state record, the number of the last instant and the ledger (docs/FORMAT.md, 'Box'). */
+enum { STRETCH = INTAKE_BOX_LENGTH / INTAKE_BAY_COUNT, AT_STATE = 1038, AT_NUMBER = 1055, AT_LEDGER = 1395 };
 
 static struct page box_page, sequence_page, answer_page, record_page, view_page;
 static uint8_t *box;
@@ -176,12 +177,52 @@ static void foresees(uint32_t bay, uint32_t input, uint32_t unknown, uint32_t al
     expect(same, bytes != NULL ? intake_preview_code(bytes) : 0, where, "\n");
 }
 
+/* Reads the ledger of a bay number, and gives its bytes, or null if the call was turned down. */
+static const uint8_t *ledger(uint8_t number, uint32_t bay)
+{
+    struct bytes blank = {.count = INTAKE_LEDGER_LENGTH};
+    memset(blank.at, 0xA5, blank.count);
+    uint8_t *totals = place(view_page, bay % 2 == 0, &blank, number == INTAKE_ACCEPTED);
+    before(number);
+    protect(box_page, false);
+    uint8_t given = intake_box_ledger(box, INTAKE_BOX_LENGTH, bay, totals, INTAKE_LEDGER_LENGTH);
+    after(number, given, "ledger", "\n");
+    return given == INTAKE_ACCEPTED ? totals : NULL;
+}
+
+static void new_year(uint8_t number, uint32_t bay)
+{
+    before(number);
+    after(number, intake_box_new_year(box, INTAKE_BOX_LENGTH, bay), "new year", "\n");
+}
+
+/* Reads a ledger in which one farm at most has a total, and expects it there and as the ledger's own. */
+static void has(uint32_t bay, unsigned farm, uint32_t litres, const char *where)
+{
+    const uint8_t *totals = ledger(INTAKE_ACCEPTED, bay);
+    for (unsigned other = 0; totals != NULL && other < INTAKE_FARM_COUNT; other++)
+        expect(intake_ledger_farm(totals, other) == (other == farm ? litres : 0), other, where, "a farm's total\n");
+    expect(totals != NULL && intake_ledger_total(totals) == litres, farm, where, "the ledger's total\n");
+}
+
+/* The same where two farms have one: their litres, and the ledger's total. */
+static void has_both(uint32_t bay, const unsigned *farms, const uint32_t *litres, const char *where)
+{
+    const uint8_t *totals = ledger(INTAKE_ACCEPTED, bay);
+    for (unsigned farm = 0; totals != NULL && farm < INTAKE_FARM_COUNT; farm++) {
+        uint32_t own = farm == farms[0] ? litres[0] : farm == farms[1] ? litres[1] : 0;
+        expect(intake_ledger_farm(totals, farm) == own, farm, where, "a farm's total\n");
+    }
+    expect(totals != NULL && intake_ledger_total(totals) == litres[2], 0, where, "the ledger's total\n");
+}
+
 /* 13 for a number above 7 comes before all others, then 1 for the box, then 13 for the bay, then the rest. */
 static void order(void)
 {
     static const uint32_t none[] = {8, 255, 256, 257, 65536, UINT32_C(1) << 31, UINT32_MAX - 7, UINT32_MAX};
     static const size_t lengths[] = {0, 1, INTAKE_BOX_LENGTH / INTAKE_BAY_COUNT, INTAKE_BOX_LENGTH - 1};
     uint8_t answer[INTAKE_RECORD_LENGTH + 1] = {0}, record[INTAKE_RECORD_LENGTH + 1] = {0}, view[sizeof record] = {0};
+    uint8_t totals[INTAKE_LEDGER_LENGTH + 4] = {0};
     const uint8_t bad[] = {0xFF};
     admit(INTAKE_ACCEPTED, 3, ENDLESS);
     for (size_t i = 0; i < sizeof none / sizeof *none; i++) {
@@ -199,6 +240,10 @@ static void order(void)
         expect(intake_box_tick(NULL, 0, none[i], 0, NULL, 0, NULL, 0) == 13, 13, "a bad box and answer", "13\n");
         preview(INTAKE_NO_SUCH_BAY, none[i], 0, UINT32_MAX);
         expect(intake_box_preview(NULL, 0, none[i], 0, UINT32_MAX, NULL, 0) == 13, 13, "a bad box and preview", "13\n");
+        ledger(INTAKE_NO_SUCH_BAY, none[i]);
+        new_year(INTAKE_NO_SUCH_BAY, none[i]);
+        expect(intake_box_ledger(NULL, 0, none[i], NULL, 0) == 13, 13, "a bad box and reading", "13\n");
+        expect(intake_box_new_year(NULL, 0, none[i]) == 13, 13, "a bad box, new year", "13\n");
     }
     protect(box_page, false);
     for (size_t i = 0; i < sizeof lengths / sizeof *lengths; i++)
@@ -209,6 +254,8 @@ static void order(void)
             expect(intake_box_service(box, lengths[i], bay, record, 37, view, 37) == 1, 1, "a short box, service", "1\n");
             expect(intake_box_panel(box, lengths[i], bay, record, 37, view, 13) == 1, 1, "a short box, panel", "1\n");
             expect(intake_box_preview(box, lengths[i], bay, 0, 0, view, 10) == 1, 1, "a short box, preview", "1\n");
+            expect(intake_box_ledger(box, lengths[i], bay, totals, 132) == 1, 1, "a short box, ledger", "1\n");
+            expect(intake_box_new_year(box, lengths[i], bay) == 1, 1, "a short box, new year", "1\n");
             for (int what = 0; what < POSITION_CALLS; what++)
                 expect(position_calls[what].call(box, lengths[i], bay, 0) == 1, 1, "a short box, position", "1\n");
         }
@@ -233,6 +280,12 @@ static void order(void)
             uint8_t given = intake_box_preview(box, INTAKE_BOX_LENGTH, bay, 0, i % 2 ? 0 : UINT32_MAX, view, previews[i]);
             expect(given == (bay == 3 ? 1 : 13), given, "another length of a preview", "1 or 13\n");
         }
+    static const size_t readings[] = {0, 1, 4, 12, 37, 128, 131, 133, 136};
+    for (size_t i = 0; i < sizeof readings / sizeof *readings; i++)
+        for (uint32_t bay = 3; bay < 5; bay++) {
+            uint8_t given = intake_box_ledger(box, INTAKE_BOX_LENGTH, bay, totals, readings[i]);
+            expect(given == 1, given, "another length of a reading", "1\n");
+        }
     expect(intake_box_service(box, INTAKE_BOX_LENGTH, 4, record, 37, view, 37) == 13, 13, "an empty bay, service", "13\n");
     expect(intake_box_panel(box, INTAKE_BOX_LENGTH, 4, record, 37, view, 13) == 13, 13, "an empty bay, panel", "13\n");
     expect(intake_box_service(box, INTAKE_BOX_LENGTH, 3, record, 37, view, 13) == 1, 1, "service in a panel's view", "1\n");
@@ -240,7 +293,13 @@ static void order(void)
     expect(intake_box_admit(box, INTAKE_BOX_LENGTH, 4, NULL, 0, UINT32_MAX, 0) == 2, 2, "no sequence", "2\n");
     for (size_t i = 0; i < sizeof record; i++)
         expect(answer[i] == 0 && record[i] == 0 && view[i] == 0, 0, "buffers of refused calls", "\n");
+    for (size_t i = 0; i < sizeof totals; i++)
+        expect(totals[i] == 0, 0, "a reading of refused calls", "\n");
     protect(box_page, true);
+    has(3, 0, 0, "the ledger of a filled bay");
+    has(4, 0, 0, "the ledger of an empty bay");
+    new_year(INTAKE_ACCEPTED, 3);
+    new_year(INTAKE_ACCEPTED, 4);
     admit(INTAKE_NO_SUCH_BAY, 3, "FF");
     admit(INTAKE_NO_SUCH_BAY, 3, MUCH_ABOVE);
     admit(INTAKE_UNKNOWN_COMMAND, 4, "FF");
@@ -260,7 +319,7 @@ static void long_box(void)
 {
     static uint8_t longer[INTAKE_BOX_LENGTH + 256], copy[sizeof longer];
     const uint8_t one[] = {0x00};
-    uint8_t answer[INTAKE_ANSWER_LENGTH], record[INTAKE_RECORD_LENGTH];
+    uint8_t answer[INTAKE_ANSWER_LENGTH], record[INTAKE_RECORD_LENGTH], totals[INTAKE_LEDGER_LENGTH];
     for (size_t more = 1; more <= 256; more += 255) {
         uint8_t given = intake_box_admit(longer, INTAKE_BOX_LENGTH + more, 0, one, sizeof one, 0, 0);
         expect(given == INTAKE_BUFFER_LENGTH, given, "a long box, admission", "1\n");
@@ -268,6 +327,10 @@ static void long_box(void)
         expect(given == INTAKE_BUFFER_LENGTH, given, "a long box, tick", "1\n");
         given = intake_box_preview(longer, INTAKE_BOX_LENGTH + more, 0, 0, 0, answer, INTAKE_PREVIEW_LENGTH);
         expect(given == INTAKE_BUFFER_LENGTH, given, "a long box, preview", "1\n");
+        given = intake_box_ledger(longer, INTAKE_BOX_LENGTH + more, 0, totals, sizeof totals);
+        expect(given == INTAKE_BUFFER_LENGTH, given, "a long box, ledger", "1\n");
+        given = intake_box_new_year(longer, INTAKE_BOX_LENGTH + more, 0);
+        expect(given == INTAKE_BUFFER_LENGTH, given, "a long box, new year", "1\n");
         for (int what = 0; what < POSITION_CALLS; what++) {
             given = position_calls[what].call(longer, INTAKE_BOX_LENGTH + more, 0, 0);
             expect(given == INTAKE_BUFFER_LENGTH, given, "a long box, position", "1\n");
@@ -285,6 +348,9 @@ static void ceilings(void)
     admit(INTAKE_ACCEPTED, 7, WHOLE);
     admit(INTAKE_ABOVE_CEILING, 0, ONE); /* 65,537 */
     release(INTAKE_ACCEPTED, 7);
+    admit(INTAKE_ACCEPTED, 6, WHOLE_LITRES);
+    admit(INTAKE_ABOVE_CEILING, 5, ONE);
+    release(INTAKE_ACCEPTED, 6);
     admit(INTAKE_ACCEPTED, 0, WHOLE_READ_BACK);
     admit(INTAKE_ABOVE_CEILING, 1, ONE);
     admit(INTAKE_CUT_SHORT, 1, "06"); /* the sequence's own check comes first */
@@ -688,15 +754,19 @@ static void any_statement(struct bytes *s, unsigned levels, uint8_t *label)
 {
     static const struct {
         uint8_t command, operands, parts;
-    } kinds[] = {{0x00, 0, 0}, {0x01, 1, 0}, {0x01, 1, 0}, {0x02, 1, 0}, {0x02, 1, 0}, {0x03, 1, 0},
-                 {0x04, 0, 2}, {0x04, 0, 2}, {0x05, 0, 2}, {0x05, 0, 2}, {0x06, 0, 1}, {0x07, 1, 2},
+    } kinds[] = {{0x00, 0, 0}, {0x01, 1, 0}, {0x01, 1, 0}, {0x02, 1, 0}, {0x0C, 1, 0}, {0x02, 1, 0},
+                 {0x03, 1, 0}, {0x04, 0, 2}, {0x04, 0, 2}, {0x05, 0, 2}, {0x05, 0, 2}, {0x06, 0, 1}, {0x07, 1, 2},
                  {0x07, 1, 2}, {0x08, 1, 1}, {0x09, 0, 1}, {0x0B, 1, 1}};
-    enum { LEAVES = 6, KINDS = sizeof kinds / sizeof *kinds };
+    enum { LEAVES = 7, KINDS = sizeof kinds / sizeof *kinds };
     uint32_t kind = levels == 1 ? draw(LEAVES) : levels > 4 ? LEAVES + draw(KINDS - LEAVES) : draw(KINDS);
     uint8_t command = kinds[kind].command;
     s->at[s->count++] = command;
     if (kinds[kind].operands != 0)
         s->at[s->count++] = command == 0x01 ? (*label)++ : command == 0x03 ? (uint8_t)(1 + draw(3)) : (uint8_t)draw(8);
+    if (command == 0x0C) { /* 1 litre: the ledger has room for all of these */
+        memcpy(s->at + s->count, "\x00\x00\x80\x3F", 4);
+        s->count += 4;
+    }
     for (unsigned part = 0; part < kinds[kind].parts; part++)
         any_statement(s, levels - 1, label);
 }
@@ -785,6 +855,282 @@ static void random_previews(void)
         expect(codes[i] > 20, i, "instants of random sequences with each code", "\n");
 }
 
+/* Litres as single-precision numbers: 0, 1, 2, 3, 7, 8,388,608 = 2^23, 16,777,215 and 16,777,216 = 2^24. */
+#define L0 "00 00 00 00 "
+#define L1 "00 00 80 3F "
+#define L2 "00 00 00 40 "
+#define L3 "00 00 40 40 "
+#define L7 "00 00 E0 40 "
+#define HALF_LIMIT "00 00 00 4B "
+#define BELOW_LIMIT "FF FF 7F 4B "
+#define LIMIT "00 00 80 4B "
+
+/* 128 deliveries of 2^24 of farm 0: 2^31 litres; and what lets its second instant begin its body anew. */
+#define D128 "04 2(04 2(04 2(04 2(04 2(04 2(04 2(0C 00 " LIMIT "))))))) "
+#define BEGUN_AGAIN(label) "06 09 05 04 01 " label " 03 01 "
+
+/* Delivers of farm 3 in each instant: 16,777,215 if 0 is given, else 1 if 1 is given, else 2. */
+#define MUCH_OR_LITTLE "06 04 07 00 0C 03 " BELOW_LIMIT "07 01 0C 03 " L1 "0C 03 " L2 "01 05"
+
+/* Ticks a machine that is turned down with 19, over and over: not an instant, and nothing is written. */
+static void no_room(uint32_t bay, uint32_t input, const char *where)
+{
+    expect(tick(INTAKE_ABOVE_FARM_LIMIT, bay, input) == NULL && tick(INTAKE_ABOVE_FARM_LIMIT, bay, input) == NULL, 19,
+           where, "no room\n");
+}
+
+/* A sequence of one instant in an empty bay with a cleared ledger: its code, and a farm's litres, the others' being 0. */
+static void delivers(const char *text, uint8_t code, uint32_t emitted, unsigned farm, uint32_t litres, const char *where)
+{
+    admit(INTAKE_ACCEPTED, 6, text);
+    answers(6, 0, code, emitted, where);
+    has(6, farm, litres, where);
+    release(INTAKE_ACCEPTED, 6);
+    has(6, farm, litres, where);
+    new_year(INTAKE_ACCEPTED, 6);
+}
+
+/* 02, item 12: 2^24 - 1 plus 1, plus 2, 2^24 plus 1; more than the limit in one instant; no sum of litres wraps. */
+static void limits(void)
+{
+    admit(INTAKE_ACCEPTED, 2, MUCH_OR_LITTLE);
+    answers(2, 1, INTAKE_WAITING, 1 << 3, "16,777,215");
+    has(2, 3, 16777215, "16,777,215");
+    no_room(2, 0, "2 more");
+    no_room(2, 3, "16,777,215 more");
+    has(2, 3, 16777215, "after 19");
+    answers(2, 2, INTAKE_WAITING, 1 << 3, "1 more, after 19");
+    expect(intake_record_number(last) == 2, last[0], "19 is no instant", "2\n");
+    has(2, 3, 16777216, "16,777,216");
+    no_room(2, 2, "1 above");
+    no_room(2, 0, "2 above");
+    new_year(INTAKE_ACCEPTED, 2);
+    has(2, 3, 0, "a new year");
+    answers(2, 0, INTAKE_WAITING, 1 << 3, "2 in a new year");
+    has(2, 3, 2, "2 in a new year");
+    no_room(2, 1, "16,777,215 more than 2");
+    release(INTAKE_ACCEPTED, 2);
+    new_year(INTAKE_ACCEPTED, 2);
+    static const char *const above[] = {
+        "04 0C 00 " LIMIT "0C 00 " LIMIT, "05 0C 00 " LIMIT "0C 00 " L1, "04 0C 00 " LIMIT "04 01 00 0C 00 " LIMIT, D128,
+        "04 " D128 "04 04 2(04 2(04 2(04 2(0C 00 " LIMIT ")))) 04 2(0C 00 " LIMIT ")", /* 146, all that 1,024 bytes hold */
+    };
+    for (size_t i = 0; i < sizeof above / sizeof *above; i++) {
+        admit(INTAKE_ACCEPTED, 5, above[i]);
+        if (i == 2) /* the limit in each of two instants */
+            answers(5, 0, INTAKE_WAITING, 1, "the limit");
+        no_room(5, 0, "above the limit");
+        if (i != 2) { /* in one instant: a new year does not help */
+            new_year(INTAKE_ACCEPTED, 5);
+            no_room(5, 0, "above the limit for ever");
+            has(5, 0, 0, "above the limit for ever");
+        }
+        release(INTAKE_ACCEPTED, 5);
+        new_year(INTAKE_ACCEPTED, 5);
+    }
+}
+
+/* A body that begins twice in an instant delivers twice; 2 * 128 * 2^24 = 2^32, which is 0 in 32 bits, is above the limit. */
+static void begun_twice(void)
+{
+    admit(INTAKE_ACCEPTED, 1, BEGUN_AGAIN("00") BEGUN_AGAIN("01") "07 00 0C 04 " L3 "00");
+    answers(1, 1, INTAKE_WAITING, 1 << 4, "begun");
+    has(1, 4, 3, "begun");
+    answers(1, 1, INTAKE_WAITING, 1 << 4, "begun twice");
+    has(1, 4, 9, "begun twice");
+    release(INTAKE_ACCEPTED, 1);
+    new_year(INTAKE_ACCEPTED, 1);
+    admit(INTAKE_ACCEPTED, 1, BEGUN_AGAIN("00") BEGUN_AGAIN("01") "07 00 " D128 "00");
+    answers(1, 0, INTAKE_WAITING, 0, "nothing delivered");
+    no_room(1, 1, "2^32");
+    answers(1, 0, INTAKE_WAITING, 0, "nothing delivered after 2^32");
+    has(1, 0, 0, "2^32");
+    release(INTAKE_ACCEPTED, 1);
+}
+
+/* Litres of the run that is chosen alone; dropped with a local signal, kept with one that is read back. */
+static void chosen_runs(void)
+{
+    begun_twice();
+    delivers("08 00 04 02 00 07 00 0C 05 " L1 "0C 05 " L7, INTAKE_ENDED, 1 << 5, 5, 1, "the run with a signal");
+    delivers("08 00 07 00 0C 05 " L1 "0C 05 " L7, INTAKE_ENDED, 1 << 5, 5, 7, "the run without a signal");
+    delivers("08 00 04 02 00 07 00 0C 05 " L1 "04 0C 05 " LIMIT "0C 05 " LIMIT, INTAKE_ENDED, 1 << 5, 5, 1,
+             "above the limit in the run not chosen");
+    delivers("08 00 07 00 04 0C 05 " LIMIT "0C 05 " LIMIT "0C 05 " L7, INTAKE_ENDED, 1 << 5, 5, 7,
+             "above the limit in the other run not chosen");
+    delivers("08 00 08 01 04 02 01 07 00 07 01 0C 05 " L1 "0C 05 " L2 "07 01 0C 05 " L3 "0C 05 " L7, INTAKE_ENDED, 1 << 5, 5,
+             3, "the run with one signal and without the other");
+    delivers("04 02 08 07 08 0C 05 " L1 "0C 05 " L7 "& 00000100", INTAKE_ENDED, 1 << 8 | 1 << 5, 5, 1, "a read-back one");
+    delivers("07 08 0C 05 " L1 "0C 05 " L7 "& 00000100", INTAKE_ENDED, 1 << 5, 5, 7, "a read-back one that is not emitted");
+    delivers("08 05 04 0C 05 " LIMIT "04 0C 05 " LIMIT "0C 06 " L3, INTAKE_ENDED, 1 << 6, 6, 3, "a local signal's");
+    delivers("04 0C 05 " L1 "08 05 0C 05 " L7, INTAKE_ENDED, 1 << 5, 5, 1, "before a local signal of the same name");
+    delivers("04 08 05 0C 05 " L7 "0C 05 " L1, INTAKE_ENDED, 1 << 5, 5, 1, "behind a local signal of the same name");
+    delivers("08 05 04 0C 05 " L1 "08 05 0C 05 " L7, INTAKE_ENDED, 0, 5, 0, "a local signal inside one of the same name");
+    delivers("08 05 05 0C 05 " L1 "07 05 0C 07 " L2 "00", INTAKE_ENDED, 1 << 7, 7, 2, "a local signal that is tested");
+    delivers("0C 08 " L3 "& 00000100", INTAKE_ENDED, 1 << 8, 8, 3, "a read-back signal's");
+    delivers("04 0C 08 " L3 "07 08 0C 08 " L7 "00 & 00000100", INTAKE_ENDED, 1 << 8, 8, 10, "a read-back signal's, tested");
+    delivers("04 0C 05 " L2 "08 05 0C 05 " L7 "& 00000020", INTAKE_ENDED, 1 << 5, 5, 2, "a read-back signal that is hidden");
+    delivers("08 1F 04 0C 1F " L2 "0C 00 " L7 "& 80000001", INTAKE_ENDED, 1, 0, 7, "read back beside a hidden one");
+    delivers("04 0C 01 " L3 "03 01", 2, 1 << 1, 1, 3, "an exit behind it");
+    delivers("04 03 01 0C 01 " L3, 2, 0, 1, 0, "an exit before it");
+    delivers("09 05 0C 01 " L3 "03 01", INTAKE_ENDED, 1 << 1, 1, 3, "an exit beside it");
+    delivers("05 0C 1F " BELOW_LIMIT "0C 1F " L1, INTAKE_ENDED, UINT32_C(1) << 31, 31, 16777216, "both sides of a parallel");
+    delivers("04 0C 00 " L1 "0C 00 " L0, INTAKE_ENDED, 1, 0, 1, "no litres behind one");
+    delivers("04 0C 00 " L1 "02 00", INTAKE_ENDED, 1, 0, 1, "an emission by 02 behind one");
+    delivers("0C 00 " L0, INTAKE_ENDED, 1, 0, 0, "no litres");
+    delivers("07 02 0C 01 " L3 "0C 01 " L7, INTAKE_ENDED, 1 << 1, 1, 7, "the branch that is taken");
+    delivers("0B 00 0C 01 " L3, INTAKE_ENDED, 1 << 1, 1, 3, "a suspend that begins");
+}
+
+/* A wrong instant adds nothing and never gives 19, with litres above the limit or a ledger that is full. */
+static void wrong_instants(void)
+{
+    static const char *const wrong[] = {
+        "06 0C 00 " LIMIT, "06 04 0C 00 " LIMIT "0C 00 " LIMIT, "05 06 00 04 0C 00 " LIMIT "0C 00 " LIMIT,
+        "05 0C 00 " L1 "08 01 07 01 00 02 01", "05 0C 00 " L1 "08 01 07 01 02 01 00", "08 01 04 0C 00 " L1 "07 01 06 00 00",
+        "04 0C 00 " L1 "07 08 00 02 08 & 00000100", "04 0C 00 " L1 "06 00", "07 00 00 0C 00 " L1 "& 00000001",
+    };
+    admit(INTAKE_ACCEPTED, 0, "0C 00 " LIMIT);
+    answers(0, 0, INTAKE_ENDED, 1, "a full ledger");
+    release(INTAKE_ACCEPTED, 0);
+    for (size_t i = 0; i < sizeof wrong / sizeof *wrong; i++) {
+        delivers(wrong[i], INTAKE_WRONG, 0, 0, 0, "a wrong instant");
+        admit(INTAKE_ACCEPTED, 0, wrong[i]);
+        answers(0, 0, INTAKE_WRONG, 0, "a wrong instant with a full ledger");
+        tick(INTAKE_OVER, 0, 0);
+        has(0, 0, 16777216, "a wrong instant with a full ledger");
+        release(INTAKE_ACCEPTED, 0);
+    }
+    new_year(INTAKE_ACCEPTED, 0);
+}
+
+/* Delivers 8,388,608 of farm 1 and 3 of farm 9 in each instant, and waits. */
+#define TWO_FARMS "06 04 04 0C 01 " HALF_LIMIT "0C 09 " L3 "01 05"
+
+/* A ledger is the bay number's: coming back, release, admission, previews and other bays leave it; 12 comes before 19. */
+static void ledgers_stay(void)
+{
+    static const unsigned farms[] = {1, 9};
+    static const uint32_t once[] = {8388608, 3, 8388611}, twice[] = {16777216, 6, 16777222};
+    static const uint32_t more[] = {16777216, 7, 16777224}; /* 16,777,223 has 25 binary digits */
+    admit(INTAKE_ACCEPTED, 2, TWO_FARMS);
+    foresees(2, 0, 3, 0x202, 0x202, 0, INTAKE_WAITING, "a preview of litres");
+    has(2, 1, 0, "a preview adds nothing");
+    answers(2, 0, INTAKE_WAITING, 0x202, "two farms");
+    has_both(2, farms, once, "two farms");
+    save(INTAKE_ACCEPTED, 2, 7);
+    answers(2, 0, INTAKE_WAITING, 0x202, "two farms again");
+    has_both(2, farms, twice, "two farms again");
+    no_room(2, 0, "one of two farms has no room");
+    has_both(2, farms, twice, "19 adds nothing of the other farm");
+    foresees(2, 0, 3, 0x202, 0x202, 0, INTAKE_WAITING, "a preview never gives 19");
+    restore(INTAKE_ACCEPTED, 2, 7);
+    has_both(2, farms, twice, "coming back rewinds nothing");
+    no_room(2, 0, "after coming back");
+    release(INTAKE_ACCEPTED, 2);
+    has_both(2, farms, twice, "a release");
+    admit(INTAKE_ACCEPTED, 2, "04 0C 09 " L1 "04 01 00 0C 01 " L1);
+    has_both(2, farms, twice, "an admission");
+    answers(2, 0, INTAKE_WAITING, 1 << 9, "the farm that has room");
+    has_both(2, farms, more, "the farm that has room");
+    no_room(2, 0, "the farm that has none");
+    new_year(INTAKE_ACCEPTED, 3);
+    has_both(2, farms, more, "another bay's new year");
+    new_year(INTAKE_ACCEPTED, 2);
+    answers(2, 0, INTAKE_ENDED, 1 << 1, "its last instant");
+    has(2, 1, 1, "its last instant");
+    tick(INTAKE_OVER, 2, 0);
+    release(INTAKE_ACCEPTED, 2);
+    for (uint32_t bay = 0; bay < INTAKE_BAY_COUNT; bay++)
+        has(bay, 1, bay == 2 ? 1 : 0, "a ledger for each bay");
+    new_year(INTAKE_ACCEPTED, 2);
+    memset(was, 0, sizeof was);
+    expect(memcmp(box, was, sizeof was) == 0, 0, "a box with nothing in it, after new years", "\n");
+}
+
+/* Appends a command that delivers so many litres of a farm. */
+static void put_delivery(struct bytes *s, unsigned farm, float litres)
+{
+    uint32_t bits;
+    memcpy(&bits, &litres, sizeof bits);
+    s->at[s->count++] = 0x0C;
+    s->at[s->count++] = (uint8_t)farm;
+    for (unsigned i = 0; i < 4; i++)
+        s->at[s->count++] = (uint8_t)(bits >> 8 * i);
+}
+
+/* One instant of all farms, farm f delivering 2^24 - below[f], and the ledger's total. */
+static void all_deliver(const uint32_t *below, uint32_t shown, uint64_t exact, const char *where)
+{
+    struct bytes sequence = {.count = 0};
+    uint64_t sum = 0;
+    for (unsigned i = 1; i < INTAKE_FARM_COUNT; i++)
+        sequence.at[sequence.count++] = 0x05;
+    for (unsigned farm = 0; farm < INTAKE_FARM_COUNT; farm++)
+        put_delivery(&sequence, farm, (float)(INTAKE_FARM_LIMIT - below[farm]));
+    uint8_t number = intake_box_admit(box, INTAKE_BOX_LENGTH, 4, sequence.at, sequence.count, 0, 0);
+    expect(number == INTAKE_ACCEPTED, number, where, "admit\n");
+    instants[4] = 0;
+    answers(4, 0, INTAKE_ENDED, UINT32_MAX, where);
+    const uint8_t *totals = ledger(INTAKE_ACCEPTED, 4);
+    for (unsigned farm = 0; totals != NULL && farm < INTAKE_FARM_COUNT; farm++) {
+        expect(intake_ledger_farm(totals, farm) == INTAKE_FARM_LIMIT - below[farm], farm, where, "a farm's total\n");
+        sum += intake_ledger_farm(totals, farm);
+    }
+    expect(totals != NULL && intake_ledger_total(totals) == shown && sum == exact, 0, where, "the ledger's total\n");
+    release(INTAKE_ACCEPTED, 4);
+    new_year(INTAKE_ACCEPTED, 4);
+}
+
+/*
+ * The ledger's total where every rounding on the way from farm 0 to farm 31 goes down as far as it can, and up: 341 below
+ * and above the exact sum, of which 496 are allowed. In the order from 31 to 0 the first would be 536,869,920 and the last
+ * 536,870,528.
+ */
+static void all_farms(void)
+{
+    static const uint32_t down[] = {0,  3,  2,  6,  12, 12, 12, 12, 8,  24, 24, 24, 24, 24, 24, 24,
+                                    48, 48, 48, 48, 48, 48, 48, 48, 48, 48, 48, 48, 48, 48, 48, 48};
+    static const uint32_t up[] = {0,  1,  2,  2,  4,  4,  4,  4,  8,  8,  8,  8,  8,  8,  8,  8,
+                                  16, 16, 16, 16, 16, 16, 16, 16, 16, 16, 16, 16, 16, 16, 16, 16};
+    uint32_t none[INTAKE_FARM_COUNT] = {0}, each[INTAKE_FARM_COUNT];
+    for (uint32_t farm = 0; farm < INTAKE_FARM_COUNT; farm++)
+        each[farm] = farm + 1;
+    all_deliver(none, 536870912, 536870912, "all farms full");
+    all_deliver(down, 536869568, 536869909, "rounded down");
+    all_deliver(up, 536870912, 536870571, "rounded up");
+    all_deliver(each, 536870240, 536870384, "one litre less from farm to farm");
+}
+
+/* Totals that no call writes count as 0, and keep their bytes until their farm delivers; a new year clears them. */
+static void foreign_totals(void)
+{
+    static const char *const bits[] = {
+        "\x00\x00\xC0\x3F", "\x00\x00\x00\x80", "\x01\x00\x80\x4B", "\x00\x00\x80\x7F", "\x00\x00\xC0\x7F",
+        "\x00\x00\x80\xBF", "\x01\x00\x00\x00", "\xFF\xFF\xFF\xFF", "\xFF\xFF\x7F\x7F", "\xFF\xFF\xFF\x4A",
+    };
+    static const unsigned farms[] = {6, 31};
+    static const uint32_t litres[] = {16777216, 16777216, 33554432};
+    for (size_t i = 0; i < sizeof bits / sizeof *bits; i++) {
+        uint8_t *own = box + 7 * STRETCH + AT_LEDGER;
+        memcpy(own + 4 * 5, bits[i], 4);
+        memcpy(own + 4 * 6, bits[i], 4);
+        memcpy(own + 4 * 31, "\x00\x00\x80\x4B", 4);
+        has(7, 31, 16777216, "totals that are none");
+        admit(INTAKE_ACCEPTED, 7, "04 04 0C 05 " L0 "0C 06 " LIMIT "04 01 00 0C 06 " L1);
+        answers(7, 0, INTAKE_WAITING, 3 << 5, "totals that are none");
+        expect(memcmp(own + 4 * 5, bits[i], 4) == 0, (unsigned)i, "bytes of a farm without litres", "\n");
+        expect(memcmp(own + 4 * 6, "\x00\x00\x80\x4B", 4) == 0, (unsigned)i, "bytes of a farm with litres", "\n");
+        has_both(7, farms, litres, "beside totals that are none");
+        no_room(7, 0, "where a total was none");
+        release(INTAKE_ACCEPTED, 7);
+        expect(memcmp(own + 4 * 5, bits[i], 4) == 0, (unsigned)i, "bytes after a release", "\n");
+        new_year(INTAKE_ACCEPTED, 7);
+        memset(was, 0, sizeof was);
+        expect(memcmp(box, was, sizeof was) == 0, (unsigned)i, "a new year", "\n");
+    }
+}
+
 /* Lines whose ceilings are above 65,536: (64 + 6) * 64 * 64 = 286,720, and 64 * 58 * 64 = 237,568. */
 static const char *const dear[] = {"0: 63(06) 00 & 0000003F\n", "0: 6(08 00) 57(06) 00\n"};
 
@@ -828,6 +1174,14 @@ int main(int argc, char **argv)
         previews();
         unknown_inputs();
         random_previews();
+        for (uint32_t bay = 0; bay < INTAKE_BAY_COUNT; bay++)
+            new_year(INTAKE_ACCEPTED, bay);
+        limits();
+        chosen_runs();
+        wrong_instants();
+        ledgers_stay();
+        all_farms();
+        foreign_totals();
         admit(INTAKE_ACCEPTED, 0, WRONG_AT_ONCE);
         answers(0, 0, INTAKE_WRONG, 0, "wrong");
         release(INTAKE_ACCEPTED, 0);

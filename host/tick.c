@@ -203,6 +203,39 @@ static void every_label(void)
     expect(number == INTAKE_OPERAND_RANGE, number, "label 128", "labels\n");
 }
 
+/* Whether the double of a single-precision number's digits is what 02, item 12, allows: a double holds all of them. */
+static bool are_litres(uint32_t bits)
+{
+    int exponent = (int)(bits >> 23 & 0xFF);
+    double value = (double)(bits & 0x7FFFFF) + (exponent == 0 ? 0 : 0x800000);
+    if (exponent == 255 || bits >> 31 != 0)
+        return false;
+    for (int power = exponent == 0 ? 1 : exponent; power != 150; power += power < 150 ? 1 : -1)
+        value = power < 150 ? value / 2 : value * 2;
+    return value <= 16777216 && (double)(uint32_t)value == value;
+}
+
+/* Litres of both signs and every exponent, with each digit alone, with all below it and with all above it. */
+static void every_exponent(void)
+{
+    unsigned accepted = 0;
+    for (uint32_t above = 0; above < 512; above++)
+        for (unsigned digit = 0; digit <= 23; digit++)
+            for (unsigned form = 0; form < 3; form++) {
+                uint32_t one = UINT32_C(1) << digit, below = one - 1;
+                uint32_t bits = above << 23 | ((form == 0 ? one : form == 1 ? below : ~below) & 0x7FFFFF);
+                const uint8_t sequence[] = {0x0C, 0x1F, (uint8_t)bits, (uint8_t)(bits >> 8), (uint8_t)(bits >> 16),
+                                            (uint8_t)(bits >> 24)};
+                uint8_t state[INTAKE_STATE_LENGTH] = {0}, answer[INTAKE_ANSWER_LENGTH] = {0};
+                uint8_t number = intake_check(sequence, sizeof sequence, 0), expected = are_litres(bits) ? 0 : 18;
+                uint8_t ticked = intake_tick(sequence, sizeof sequence, state, sizeof state, 0, 0, answer, sizeof answer);
+                bool emits = intake_answer_emitted(answer) == (expected == 0 ? UINT32_C(1) << 31 : 0);
+                expect(number == expected && ticked == expected && emits, number, "litres of every exponent", "18\n");
+                accepted += number == 0;
+            }
+    expect(accepted > 500, accepted & 0xFF, "litres that are accepted", "\n");
+}
+
 static void null_pointers(void)
 {
     uint8_t state[INTAKE_STATE_LENGTH] = {0}, answer[INTAKE_ANSWER_LENGTH];
@@ -223,6 +256,7 @@ int main(int argc, char **argv)
     listing();
     read_back();
     every_label();
+    every_exponent();
     null_pointers();
     return verdict();
 }
