@@ -18,7 +18,7 @@ from showing import files, listings, sequences
 
 ROOT = Path(__file__).resolve().parent.parent
 PAGE = "docs/FORMAT.md"
-OPERANDS = {"label l": "l", "signal s": "s", "exit n": "n", "–": ""}
+OPERANDS = {"label l": "l", "signal s": "s", "exit n": "n", "signal s, litres v": "sv", "–": ""}
 
 passed = failed = 0
 
@@ -67,7 +67,7 @@ def limits():
 
 def printed():
     """The letters of each command byte, as commands/specs/Printed has them: operands, then parts."""
-    found = re.findall(r"row 0x([0-9A-F]{2}) (?:\[\]|\(([lsnpq ∷]*)\[\]\))", text_of("crates/commands/specs/Printed.antt"))
+    found = re.findall(r"row 0x([0-9A-F]{2}) (?:\[\]|\(([lsnvpq ∷]*)\[\]\))", text_of("crates/commands/specs/Printed.antt"))
     return {byte: letters.replace("∷", "").split() for byte, letters in found}
 
 
@@ -98,7 +98,7 @@ def commands(page):
     if given != printed() or [row[0] for row in table] != sorted(given):
         yield "the commands, their operands and parts"
     names = re.search(r"^ +some Command\.nothing.*?\[\]$", text_of("crates/sequence/specs/Commands.antt"), re.M | re.S)[0]
-    short = {"p; then q": "seq", "p in parallel with q": "par"}
+    short = {"p; then q": "seq", "p in parallel with q": "par", "emit s with v litres": "deliver"}
     if [short.get(row[3], row[3].split()[0]) for row in table] != re.findall(r"Command\.(\w+)", names):
         yield "the names of the commands"
 
@@ -106,14 +106,16 @@ def commands(page):
 def ranges(page):
     known = limits()
     most = {"label": (0, known["labelCount"] - 1), "signal": (0, known["signalCount"] - 1), "exit": (1, known["maxExit"]),
-            "bytes of a sequence": (1, known["maxBytes"]), "depth, the outermost command being 1": (1, known["maxDepth"]),
+            "litres, a whole number": (0, known["litresLimit"]), "bytes of a sequence": (1, known["maxBytes"]),
+            "depth, the outermost command being 1": (1, known["maxDepth"]),
             "signal commands around a command, read-back signals counted": (0, known["maxSignals"])}
     given = {row[0]: (number(row[1]), number(row[2])) for row in rows(page, "Limit")}
     if given != most:
         yield f"the limits: {given}, not {most}"
-    spans = {"l": given.get("label"), "s": given.get("signal"), "n": given.get("exit"), "": None}
-    for row, (_, operand, parts) in zip(rows(page, "Byte"), sequences.COMMANDS):
-        if spans[OPERANDS.get(row[1], "")] != sequences.OPERANDS.get(operand) or len(row[2].replace("–", "").split()) != parts:
+    spans = {"l": given.get("label"), "s": given.get("signal"), "n": given.get("exit"), "v": given.get("litres, a whole number")}
+    for row, (_, operands, parts) in zip(rows(page, "Byte"), sequences.COMMANDS):
+        own = [spans[letter] for letter in OPERANDS.get(row[1], "")]
+        if own != [sequences.OPERANDS[operand] for operand in operands] or len(row[2].replace("–", "").split()) != parts:
             yield f"command {row[0]}, as tools/show has it"
 
 
@@ -138,6 +140,7 @@ def records(page):
     yield from record(page, "Record", "record")
     yield from record(page, "Panel", "panel")
     yield from record(page, "Preview", "preview")
+    yield from record(page, "Ledger", "ledger")
     if not any(row[3].endswith(f", else {values('code')['OPEN']}") for row in rows(page, "Preview")):
         yield "the code of a preview whose fillings differ"
     phases = values("phase")
@@ -180,7 +183,7 @@ def numbers(page):
     for row in rows(page, "No."):
         if row[3] and f"{row[0]}: {row[3].strip('`')}" not in examples:
             yield f"the example of number {row[0]} in host/examples.txt"
-        if not row[3] and row[0] not in ("1", "11", "12", "13", "14", "15", "16", "17"):  # what these need is no sequence, or more than one
+        if not row[3] and row[0] not in ("1", "11", "12", "13", "14", "15", "16", "17", "19"):  # what these need is no sequence, or more than one
             yield f"number {row[0]} has no example"
 
 
@@ -229,11 +232,17 @@ def calls(page):
     count, length = known["BAY_COUNT"], known["BOX_LENGTH"]
     if length != count * number(rows(page, "Stretch")[-1][2]) or f"up to {count} bays in {length:,} bytes" not in page:
         yield "the length of a box"
-    lengths = ", ".join(f"{name} {values(name)[f'{name}_LENGTH'.upper()]}" for name in ("state", "answer", "record", "panel", "preview"))
+    lengths = ", ".join(f"{name} {values(name)[f'{name}_LENGTH'.upper()]}" for name in ("state", "answer", "record", "panel", "preview", "ledger"))
     if told["BUFFER_LENGTH"][1] != f"buffer not of its length: {lengths}, box {length:,}" or f"above {count - 1}," not in told["NO_SUCH_BAY"][1]:
         yield "the length and the bays of a box in the header's comments"
     if not told["ABOVE_CEILING"][1].endswith(f"more than {known['SHARED_CEILING']:,}"):
         yield "the shared ceiling in the header's comment"
+    limit, ledger = known["FARM_LIMIT"], values("ledger")
+    if limit != limits()["litresLimit"] or any(not told[name][1].endswith(f" {limit:,}") for name in ("BAD_LITRES", "ABOVE_FARM_LIMIT")):
+        yield "the limit of litres in the header's comments"
+    room = {row[0]: row[2] for row in rows(page, "Stretch")}["ledger"]
+    if known["FARM_COUNT"] != limits()["signalCount"] or number(room) != ledger["LEDGER_FARMS_LENGTH"] != 4 * known["FARM_COUNT"]:
+        yield "the farms of a ledger"
 
 
 def run_file(page):
@@ -312,7 +321,7 @@ def faults(page):
 
 
 CHECKED = {"Byte": [0, 1, 2, 3], "Limit": [0, 1, 2], "State record": [0, 1, 2], "Answer record": [0, 1, 2],
-           "Record": [0, 1, 2], "Panel": [0, 1, 2], "Preview": [0, 1, 2], "Code": [0, 2],
+           "Record": [0, 1, 2], "Panel": [0, 1, 2], "Preview": [0, 1, 2], "Ledger": [0, 1, 2], "Code": [0, 2],
            "Kind": [0, 1], "No.": [0, 1, 2, 3], "Stretch": [0, 1, 2], "Entry": [0, 1, 2], "Call": [0],
            "Part": [1], "Field": [0, 1], "Term": [3]}
 

@@ -6,7 +6,7 @@ from pathlib import Path
 
 from showing.damage import Damaged
 from showing.files import INPUT_BYTES, MAX_FILE, read_bytes
-from showing.sequences import EMIT, LABELS, LOOP, PAUSE, READ_BACK_PLACE, SIGNAL, words_of
+from showing.sequences import DELIVER, EMIT, LABELS, LOOP, PAUSE, READ_BACK_PLACE, SIGNAL, words_of
 
 MAX_LISTING = 64 * (MAX_FILE // INPUT_BYTES)  # no line has 64 bytes
 HEADER = "instant code kind place emitted labels"
@@ -64,7 +64,7 @@ def could_be(commands, read_back):
     at = {command.place: command.bytes[0] for command in commands}
     emitted = labels = 0
     for command in commands:
-        emitted |= 1 << command.bytes[1] if command.bytes[0] == EMIT else 0
+        emitted |= 1 << command.bytes[1] if command.bytes[0] in (EMIT, DELIVER) else 0
         labels |= 1 << command.bytes[1] if command.bytes[0] == PAUSE else 0
     if emitted & read_back:
         at[READ_BACK_PLACE] = SIGNAL

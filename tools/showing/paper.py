@@ -6,15 +6,13 @@ made; it is not told when it goes. A statement that stands as in the sequence ta
 """
 from showing.damage import Damaged, counted
 from showing.listings import WAITING, WRONG, Instant, code_in_words, error_in_words
-from showing.sequences import COMMANDS, READ_BACK_PLACE, SUSPEND, line_of, members_of, words_of
+from showing.sequences import READ_BACK_PLACE, line_of, members_of, width_of, words_of
 from showing.terms import HELD, react, struck_out, term_of
 
 
 def words_and_bytes(term, names):
-    kind = SUSPEND if term.kind == HELD else term.kind
-    own = bytes([kind] if COMMANDS[kind][1] is None else [kind, term.operand])
-    words = words_of(own, names)
-    return f"held {words}" if term.kind == HELD else words, b"" if term.made else own
+    words = words_of(term.own, names)
+    return f"held {words}" if term.kind == HELD else words, b"" if term.made else term.own
 
 
 class Paper:
@@ -22,14 +20,14 @@ class Paper:
 
     def __init__(self, commands, read_back, names, whole, out):
         self.term, self.commands, self.names = term_of(commands, read_back), commands, names
-        self.whole, self.lines = whole, out
+        self.whole, self.width, self.lines = whole, width_of(commands), out
 
     def add_term(self, term, depth, mark):
         """Adds a term; of one that is struck out, and so has a mark, only the commands of the sequence."""
         words, own = words_and_bytes(term, self.names)
         folded = not self.whole and term.last is not None and len(term.parts) > 0
         if own or not mark:
-            line = line_of(term.place, own, depth, words) + (f"  ({term.place} to {term.last})" if folded else "")
+            line = line_of(term.place, own, self.width, depth, words) + (f"  ({term.place} to {term.last})" if folded else "")
             self.lines.append(mark + line[len(mark) :])
         if not folded:
             for part in term.parts:
@@ -42,7 +40,7 @@ class Paper:
                 self.add_term(gone, depth, "-")
             elif not gone.made:
                 words, own = words_and_bytes(gone, self.names)
-                self.lines.append("-" + line_of(gone.place, own, depth, words)[1:])
+                self.lines.append("-" + line_of(gone.place, own, self.width, depth, words)[1:])
         self.lines.insert(before, "struck out" if len(self.lines) > before else "nothing is struck out")
 
     def react(self, number, inputs):
@@ -50,7 +48,7 @@ class Paper:
         reaction = react(self.term, inputs, {})
         kind, place = reaction.error if reaction.code == WRONG else (0, 0)
         instant = Instant(number, reaction.code, kind, place, 0 if reaction.code == WRONG else reaction.emitted, None)
-        self.lines += ["", told(instant, inputs, self.commands, self.names)]
+        self.lines += ["", told(instant, reaction.deliveries, inputs, self.commands, self.names)]
         if reaction.code == WAITING:
             self.add_rest(reaction)
         else:
@@ -68,12 +66,21 @@ class Paper:
         self.add_term(reaction.residual, 1, "")
 
 
-def told(instant, inputs, commands, names):
-    """An instant in a line."""
+def told(instant, deliveries, inputs, commands, names):
+    """An instant in a line; a wrong one delivers nothing."""
     given, emitted = (names.all_of("signal", members_of(signals)) or "none" for signals in (inputs, instant.emitted))
     if instant.code == WRONG:
         return f"instant {instant.number}: input {given}; wrong, {error_in_words(instant, commands, names)}"
-    return f"instant {instant.number}: input {given}; emitted {emitted}; code {instant.code}, {code_in_words(instant.code)}"
+    return (f"instant {instant.number}: input {given}; emitted {emitted}{litres_in_words(deliveries, names)}; "
+            f"code {instant.code}, {code_in_words(instant.code)}")
+
+
+def litres_in_words(deliveries, names):
+    """The litres of each farm that delivers, the lowest first."""
+    sums = {}
+    for farm, litres in deliveries:
+        sums[farm] = sums.get(farm, 0) + litres
+    return "".join(f"; {counted(sums[farm], 'litre')} of {names.of('signal', farm)}" for farm in sorted(sums))
 
 
 def compare(instant, listed):

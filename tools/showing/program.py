@@ -16,8 +16,9 @@ target/bin/run where it is built, or the one named; with no listing the picture 
 
 --paper is the fitters' own check. It rewrites the sequence as a term, by the rules of 01 and 02 and without labels, and
 shows after each instant what was struck out and the term that remains. A statement that stands as in the sequence takes
-one line, with its first and last place, if --whole does not ask for all of it. Code, kind, place and emitted set are held to
-the listing; where they part, or where there is no listing, exit status 1 says so. A sequence with setpause has no paper.
+one line, with its first and last place, if --whole does not ask for all of it. An instant that delivers is told with the
+litres of each farm (02, item 12), which no listing has. Code, kind, place and emitted set are held to the listing; where
+they part, or where there is no listing, exit status 1 says so. A sequence with setpause has no paper.
 
 --names gives signals and labels their names: a text file with lines such as 'signal 9 pump' and 'label 0 ready', and # for
 comments. A name is one word of at most 24 letters, digits, - and _, and begins with a letter.
@@ -27,7 +28,7 @@ A recording has no sequence beside it: its picture has what the records hold, th
 numbers or names parted by commas, or - for none.
 
 Damaged input is shown up to the damage, which is named on standard error, with exit status 1; 'row' is a row of document 01,
-'Turned down', and rows 2 to 10 are checked.
+'Turned down', or of 02, and rows 2 to 10 and 18 are checked.
 """
 import argparse
 import sys

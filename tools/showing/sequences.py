@@ -1,4 +1,5 @@
-"""Sequences: their commands by place (rows 2 to 7), and the ceiling of an instant's reactions (02, item 6)."""
+"""Sequences: their commands by place (rows 2 to 7 and 18), and the ceiling of an instant's reactions (02, item 6)."""
+import struct
 from collections import namedtuple
 
 from showing.damage import Damaged, counted
@@ -6,24 +7,26 @@ from showing.damage import Damaged, counted
 LABELS = 128  # labels are 0 to one less; a listing has a digit for four of them
 SIGNALS = 32
 
-# Document 01, 'Commands', and 02, item 1: the words of each command, with … for a part; what its operand is; how many
-# parts follow.
+# Document 01, 'Commands', and 02, items 1 and 12: the words of each command, with … for a part; what its operands are; how
+# many parts follow.
 COMMANDS = [
-    ("nothing", None, 0),
-    ("pause, label {}", "label", 0),
-    ("emit {}", "signal", 0),
-    ("exit {}", "exit", 0),
-    ("…; then …", None, 2),
-    ("… in parallel with …", None, 2),
-    ("loop …", None, 1),
-    ("present {} then … else …", "signal", 2),
-    ("signal {} in …", "signal", 1),
-    ("try …", None, 1),
-    ("setpause {}", "label", 0),
-    ("suspend … when {}", "signal", 1),
+    ("nothing", (), 0),
+    ("pause, label {}", ("label",), 0),
+    ("emit {}", ("signal",), 0),
+    ("exit {}", ("exit",), 0),
+    ("…; then …", (), 2),
+    ("… in parallel with …", (), 2),
+    ("loop …", (), 1),
+    ("present {} then … else …", ("signal",), 2),
+    ("signal {} in …", ("signal",), 1),
+    ("try …", (), 1),
+    ("setpause {}", ("label",), 0),
+    ("suspend … when {}", ("signal",), 1),
+    ("emit {} with {}", ("signal", "litres"), 0),
 ]
-NOTHING, PAUSE, EMIT, EXIT, SEQUENCE, PARALLEL, LOOP, PRESENT, SIGNAL, TRY, SETPAUSE, SUSPEND = range(len(COMMANDS))
-OPERANDS = {"label": (0, LABELS - 1), "signal": (0, SIGNALS - 1), "exit": (1, 15)}  # their ranges
+NOTHING, PAUSE, EMIT, EXIT, SEQUENCE, PARALLEL, LOOP, PRESENT, SIGNAL, TRY, SETPAUSE, SUSPEND, DELIVER = range(len(COMMANDS))
+LITRES_BYTES, MAX_LITRES = 4, 16777216  # a single-precision number; an operand of another kind has one byte
+OPERANDS = {"label": (0, LABELS - 1), "signal": (0, SIGNALS - 1), "exit": (1, 15), "litres": (0, MAX_LITRES)}  # their ranges
 MAX_SEQUENCE, MAX_DEPTH, MAX_SIGNALS = 1024, 64, 6
 READ_BACK_PLACE = 65535  # of an error of a read-back signal, which no command declares
 
@@ -35,19 +38,31 @@ def damaged(row, place, why):
 
 
 def own_bytes(sequence, place):
-    """The command byte at a place and its operand, once they are right (rows 3 to 5)."""
+    """The command byte at a place and its operands, once they are right (rows 3 to 5 and 18)."""
     byte = sequence[place]
     if byte >= len(COMMANDS):
         raise damaged(3, place, f"no command has the byte {byte:02X}")
-    operand = COMMANDS[byte][1]
-    if operand is None:
-        return sequence[place : place + 1]
-    if place + 1 == len(sequence):
-        raise damaged(4, place, "the operand is missing at the end")
-    least, most = OPERANDS[operand]
-    if not least <= sequence[place + 1] <= most:
-        raise damaged(5, place, f"operand {sequence[place + 1]} is outside {least} to {most}")
-    return sequence[place : place + 2]
+    operands = COMMANDS[byte][1]
+    count = sum(LITRES_BYTES if operand == "litres" else 1 for operand in operands)
+    own = sequence[place : place + 1 + count]
+    if len(own) < 1 + count:
+        raise damaged(4, place, f"{'a byte of the operands' if count > 1 else 'the operand'} is missing at the end")
+    if operands:
+        least, most = OPERANDS[operands[0]]
+        if not least <= own[1] <= most:
+            raise damaged(5, place, f"operand {own[1]} is outside {least} to {most}")
+    if "litres" in operands and litres_in(own) is None:
+        number = struct.unpack("<f", own[2:])[0]
+        raise damaged(18, place, f"litres {number:.9g} are no whole number from 0 to {MAX_LITRES:,}")
+    return own
+
+
+def litres_in(own):
+    """The litres of a command with its own bytes: none of most commands; None for a number that is not allowed."""
+    if own[0] != DELIVER:
+        return 0
+    number = struct.unpack("<f", own[2:])[0]
+    return int(number) if own[5] < 0x80 and number <= MAX_LITRES and number == int(number) else None
 
 
 def members_of(members):
@@ -56,7 +71,7 @@ def members_of(members):
 
 
 def commands_of(sequence, read_back):
-    """Yields the commands from the left, up to the first fault (rows 2 to 7), which may be that of the read-back set."""
+    """Yields the commands from the left, up to the first fault (rows 2 to 7 and 18), which may be that of the read-back set."""
     if not 1 <= len(sequence) <= MAX_SEQUENCE:
         raise damaged(2, 0, f"a sequence has 1 to 1,024 bytes, this one {'more' if sequence else 'none'}")
     place = nesting = 0
@@ -84,8 +99,9 @@ def commands_of(sequence, read_back):
 
 def words_of(own, names):
     """A command in words, from its own bytes."""
-    text, operand, _ = COMMANDS[own[0]]
-    return text.format(names.of(operand, own[1])) if operand else text
+    text, operands, _ = COMMANDS[own[0]]
+    return text.format(*(counted(litres_in(own), "litre") if operand == "litres" else names.of(operand, own[1])
+                         for operand in operands))
 
 
 def ceiling(commands, read_back):
@@ -99,21 +115,29 @@ def ceiling(commands, read_back):
             f"({counted(count, 'command')}; around one: {counted(loops, 'loop')}, {counted(signals, 'signal')})")
 
 
-def line_of(place, own, depth, words):
+def width_of(commands):
+    """How wide the bytes of a command are: those of one with litres take six, and one operand is the most otherwise."""
+    return max([5, *(len(command.bytes.hex(" ")) for command in commands)])
+
+
+def line_of(place, own, width, depth, words):
     """A line of the table; what rewriting made has no bytes of its own."""
-    return f"{place:5}  {own.hex(' ').upper():5}  {'  ' * (depth - 1)}{words}"
+    return f"{place:5}  {own.hex(' ').upper():{width}}  {'  ' * (depth - 1)}{words}"
 
 
 def add_commands(sequence, read_back, names, out):
     """Adds the table as far as the sequence is right, below its read-back signals, then the ceiling of one that rows 2 to 7
-    pass; returns the commands."""
+    and 18 pass; returns the commands."""
     commands = []
     if read_back:
         out.append(f"reads back {names.all_of('signal', members_of(read_back))}")
-    for command in commands_of(sequence, read_back):
-        if not commands:
-            out.append("place  bytes  command")
-        out.append(line_of(command.place, command.bytes, command.depth, words_of(command.bytes, names)))
-        commands.append(command)
+    try:
+        for command in commands_of(sequence, read_back):
+            commands.append(command)
+    finally:
+        width = width_of(commands)
+        out += [f"place  {'bytes':{width}}  command"] * (len(commands) > 0)
+        out += [line_of(command.place, command.bytes, width, command.depth, words_of(command.bytes, names))
+                for command in commands]
     out += ["", ceiling(commands, read_back)]
     return commands

@@ -1,29 +1,31 @@
 """Terms and how they react by rewriting: 01, 'One reaction' and 'The fitters' paper', with 02's suspend (item 1), first
-error (3), order of the signal rules (4) and read-back declarations (5). No rule reads or gives labels.
+error (3), order of the signal rules (4), read-back declarations (5) and litres (12). No rule reads or gives labels.
 """
 from collections import namedtuple
 
 from showing.damage import Damaged
 from showing.listings import ENDED, WAITING, WRONG
-from showing.sequences import (COMMANDS, EMIT, EXIT, LOOP, NOTHING, PARALLEL, PAUSE, PRESENT, READ_BACK_PLACE, SEQUENCE, SETPAUSE,
-                               SIGNAL, SUSPEND, TRY, members_of)
+from showing.sequences import (COMMANDS, DELIVER, EMIT, EXIT, LOOP, NOTHING, PARALLEL, PAUSE, PRESENT, READ_BACK_PLACE, SEQUENCE,
+                               SETPAUSE, SIGNAL, SUSPEND, TRY, litres_in, members_of)
 
 HELD = 0x100  # what remains of a suspend; no byte stands for it
 
 # Codes are those of a listing, so that the greater of two is their maximum. The residual is what remains after code 1, else
 # None; error the first one's kind and place, or None. Premises are the reactions of the parts, None for a part that did not
-# react; of a signal that of the run that was chosen.
-Reaction = namedtuple("Reaction", "emitted code residual error premises")
+# react; of a signal that of the run that was chosen. Deliveries are pairs of a farm and its litres.
+Reaction = namedtuple("Reaction", "emitted code residual error premises deliveries", defaults=[()])
 
 
 class Term:
-    """A command with its parts. Last is the place of its last command where all of it stands as in the sequence, else None; a
-    term that is made, and no command of the sequence, has the place of that for which it was made."""
+    """A command with its parts, and its own bytes. Last is the place of its last command where all of it stands as in the
+    sequence, else None; a term that is made, and no command of the sequence, has the place of that for which it was made."""
 
-    __slots__ = ("kind", "operand", "place", "parts", "made", "last", "tested")
+    __slots__ = ("kind", "operand", "own", "place", "parts", "made", "last", "tested")
 
-    def __init__(self, kind, operand, place, parts=(), made=False, last=None):
-        self.kind, self.operand, self.place, self.parts, self.made, self.last = kind, operand, place, parts, made, last
+    def __init__(self, kind, own, place, parts=(), made=False, last=None):
+        operand = own[1] if len(own) > 1 else None
+        self.kind, self.operand, self.own, self.place, self.parts, self.made = kind, operand, own, place, parts, made
+        self.last = last
         self.tested = 1 << operand if kind in (PRESENT, SUSPEND, HELD) else 0  # the signals on which a reaction depends
         for part in parts:
             self.tested |= part.tested
@@ -37,26 +39,26 @@ def term_of(commands, read_back):
 
     def build():
         command = next(commands)
-        kind, operand = command.bytes[0], command.bytes[1] if len(command.bytes) > 1 else None
+        own, kind = command.bytes, command.bytes[0]
         if kind == SETPAUSE:
-            raise Damaged(f"place {command.place}: setpause {operand}: rewriting has no rule for a jump to another pause, so "
+            raise Damaged(f"place {command.place}: setpause {own[1]}: rewriting has no rule for a jump to another pause, so "
                           "there is no paper of this sequence")
         parts = tuple(build() for _ in range(COMMANDS[kind][2]))
-        return Term(kind, operand, command.place, parts, last=parts[-1].last if parts else command.place)
+        return Term(kind, own, command.place, parts, last=parts[-1].last if parts else command.place)
 
     term = build()
     for signal in reversed(members_of(read_back)):
-        term = Term(SIGNAL, signal, READ_BACK_PLACE, (term,), made=True)
+        term = Term(SIGNAL, bytes([SIGNAL, signal]), READ_BACK_PLACE, (term,), made=True)
     return term
 
 
 def nothing_for(term):
-    return Term(NOTHING, None, term.place, made=True)
+    return Term(NOTHING, bytes([NOTHING]), term.place, made=True)
 
 
 def rewritten(term, parts):
     """The same command around other parts."""
-    return Term(term.kind, term.operand, term.place, parts, term.made)
+    return Term(term.kind, term.own, term.place, parts, term.made)
 
 
 def react(term, present, known):
@@ -68,20 +70,22 @@ def react(term, present, known):
 
 
 def leaf(term, present, known):
-    """nothing, pause, emit and exit"""
+    """nothing, pause, exit, and emit with litres or without"""
     if term.kind == PAUSE:
         return Reaction(0, WAITING, nothing_for(term), None, ())
-    emitted = 1 << term.operand if term.kind == EMIT else 0
-    return Reaction(emitted, term.operand + 1 if term.kind == EXIT else ENDED, None, None, ())
+    emitted = 1 << term.operand if term.kind in (EMIT, DELIVER) else 0
+    deliveries = ((term.operand, litres_in(term.own)),) if term.kind == DELIVER else ()
+    return Reaction(emitted, term.operand + 1 if term.kind == EXIT else ENDED, None, None, (), deliveries)
 
 
 def sequence(term, present, known):
     first = react(term.parts[0], present, known)
     if first.code != ENDED:
         residual = rewritten(term, (first.residual, term.parts[1])) if first.code == WAITING else None
-        return Reaction(first.emitted, first.code, residual, first.error, (first, None))
+        return Reaction(first.emitted, first.code, residual, first.error, (first, None), first.deliveries)
     second = react(term.parts[1], present, known)
-    return Reaction(first.emitted | second.emitted, second.code, second.residual, first.error or second.error, (first, second))
+    return Reaction(first.emitted | second.emitted, second.code, second.residual, first.error or second.error, (first, second),
+                    first.deliveries + second.deliveries)
 
 
 def parallel(term, present, known):
@@ -89,15 +93,17 @@ def parallel(term, present, known):
     code = max(first.code, second.code)
     rest = [side.residual or nothing_for(part) for side, part in zip(sides, term.parts)]
     residual = rewritten(term, tuple(rest)) if code == WAITING else None
-    return Reaction(first.emitted | second.emitted, code, residual, first.error or second.error, tuple(sides))
+    return Reaction(first.emitted | second.emitted, code, residual, first.error or second.error, tuple(sides),
+                    first.deliveries + second.deliveries)
 
 
 def loop(term, present, known):
     body = react(term.parts[0], present, known)
     if body.code == ENDED:
         return Reaction(0, WRONG, None, body.error or (1, term.place), (body,))
-    residual = Term(SEQUENCE, None, term.place, (body.residual, term), made=True) if body.code == WAITING else None
-    return Reaction(body.emitted, body.code, residual, body.error, (body,))
+    again = bytes([SEQUENCE])
+    residual = Term(SEQUENCE, again, term.place, (body.residual, term), made=True) if body.code == WAITING else None
+    return Reaction(body.emitted, body.code, residual, body.error, (body,), body.deliveries)
 
 
 def present_rule(term, present, known):
@@ -117,16 +123,18 @@ def signal(term, present, known):
     if bool(emits[0]) != bool(emits[1]):
         return Reaction(0, WRONG, None, error or (2 if emits[0] else 3, term.place), ())
     chosen = with_it if emits[0] else without
-    emitted = chosen.emitted if term.place == READ_BACK_PLACE else chosen.emitted & ~bit
+    emitted, deliveries = chosen.emitted, chosen.deliveries
+    if term.place != READ_BACK_PLACE:
+        emitted, deliveries = emitted & ~bit, tuple(delivery for delivery in deliveries if delivery[0] != term.operand)
     residual = rewritten(term, (chosen.residual,)) if chosen.code == WAITING else None
-    return Reaction(emitted, chosen.code, residual, error, (chosen,))
+    return Reaction(emitted, chosen.code, residual, error, (chosen,), deliveries)
 
 
 def try_rule(term, present, known):
     body = react(term.parts[0], present, known)
     code = {ENDED: ENDED, WAITING: WAITING, 2: ENDED, WRONG: WRONG}.get(body.code, body.code - 1)
     residual = rewritten(term, (body.residual,)) if code == WAITING else None
-    return Reaction(body.emitted, code, residual, body.error, (body,))
+    return Reaction(body.emitted, code, residual, body.error, (body,), body.deliveries)
 
 
 def suspend(term, present, known):
@@ -134,11 +142,11 @@ def suspend(term, present, known):
     if term.kind == HELD and present >> term.operand & 1:
         return Reaction(0, WAITING, term, None, (None,))
     body = react(term.parts[0], present, known)
-    residual = Term(HELD, term.operand, term.place, (body.residual,)) if body.code == WAITING else None
-    return Reaction(body.emitted, body.code, residual, body.error, (body,))
+    residual = Term(HELD, term.own, term.place, (body.residual,)) if body.code == WAITING else None
+    return Reaction(body.emitted, body.code, residual, body.error, (body,), body.deliveries)
 
 
-RULES = {NOTHING: leaf, PAUSE: leaf, EMIT: leaf, EXIT: leaf, SEQUENCE: sequence, PARALLEL: parallel, LOOP: loop,
+RULES = {NOTHING: leaf, PAUSE: leaf, EMIT: leaf, DELIVER: leaf, EXIT: leaf, SEQUENCE: sequence, PARALLEL: parallel, LOOP: loop,
          PRESENT: present_rule, SIGNAL: signal, TRY: try_rule, SUSPEND: suspend, HELD: suspend}
 
 

@@ -30,8 +30,8 @@ def test_calls():
     expect(answer == (0, WORKED_SHOWN, ""), f"a run file on standard input: {answer}")
     answer = call("--sequence", "-", input=WORKED[2:12])
     expect(answer == (0, WORKED_SHOWN.partition("\n\ninstant")[0] + "\n", ""), f"a sequence on standard input: {answer}")
-    answer = call("--sequence", "-", input=b"\x0c")
-    expect(answer[0] == 1 and answer[2] == "show: -: place 0: no command has the byte 0C (row 3)\n", f"a bad one: {answer}")
+    answer = call("--sequence", "-", input=b"\x0d")
+    expect(answer[0] == 1 and answer[2] == "show: -: place 0: no command has the byte 0D (row 3)\n", f"a bad one: {answer}")
     with open("/dev/full", "wb") as full:
         done = subprocess.run([SHOW, worked], stdout=full, stderr=subprocess.PIPE, check=False)
     expect(done.returncode == 1 and done.stderr.startswith(b"show: standard output: "), f"no room: {done}")

@@ -14,7 +14,9 @@ from showing.sequences import LABELS
 ROOT = Path(__file__).resolve().parents[2]
 SHOW, RUNFILE = ROOT / "tools" / "show", ROOT / "tools" / "runfile"
 HEADER = "instant code kind place emitted labels\n"
-RANGES = {1: range(LABELS), 2: range(32), 3: range(1, 16), 7: range(32), 8: range(32), 10: range(LABELS), 11: range(32)}
+RANGES = {1: range(LABELS), 2: range(32), 3: range(1, 16), 7: range(32), 8: range(32), 10: range(LABELS), 11: range(32),
+          12: range(32)}  # of the first operand
+OPERANDS = {kind: 5 if kind == 12 else 1 for kind in RANGES}  # their bytes
 PARTS = {4: 2, 5: 2, 6: 1, 7: 2, 8: 1, 9: 1, 11: 1}
 
 rng = random.Random(1)

@@ -1,18 +1,43 @@
-"""Random sequences, and what rows 2 to 10 say of any bytes, by recursion and pair by pair."""
-from tests.common import LABELS, PARTS, RANGES, rng
+"""Random sequences, and what rows 2 to 10 and 18 say of any bytes, by recursion, pair by pair and by fractions."""
+from fractions import Fraction
+
+from tests.common import LABELS, OPERANDS, PARTS, RANGES, rng
 
 
 def generate(place, depth, signals, size):
     """A random statement: its bytes, and a line (place, depth, own bytes) for each command."""
     leaf = size <= 1 or depth == 64
-    kind = rng.choice([0, 1, 2, 3, 10] if leaf else [4, 4, 5, 5, 6, 7, 7, 8 if signals < 6 else 6, 9, 11])
+    kind = rng.choice([0, 1, 2, 3, 10, 12] if leaf else [4, 4, 5, 5, 6, 7, 7, 8 if signals < 6 else 6, 9, 11])
     own = bytes([kind] + ([rng.choice(RANGES[kind])] if kind in RANGES else []))
+    own += number_of(any_litres()) if kind == 12 else b""
     lines, data = [(place, depth, own)], own
     for part in range(PARTS.get(kind, 0)):
         share = size - 1 if PARTS[kind] == 1 else rng.randrange(1, size) if part == 0 else max(1, size - len(lines))
         inner, below = generate(place + len(data), depth + 1, signals + (kind == 8), share)
         data, lines = data + inner, lines + below
     return data, lines
+
+
+def any_litres():
+    return rng.choice([0, 1, 7, 16777215, 16777216, rng.randrange(100), rng.randrange(16777217), 1 << rng.randrange(25)])
+
+
+def number_of(litres):
+    """The four bytes of a whole number that has at most 24 binary digits."""
+    if litres == 0:
+        return bytes(4)
+    exponent = litres.bit_length() - 1
+    return (exponent + 127 << 23 | (litres << 23 >> exponent) - (1 << 23)).to_bytes(4, "little")
+
+
+def litres_of(own):
+    """The litres of a command's own bytes, as a fraction; None for what row 18 turns down."""
+    if own[0] != 12:
+        return 0
+    bits = int.from_bytes(own[2:6], "little")
+    exponent, digits = bits >> 23 & 255, bits & (1 << 23) - 1
+    value = Fraction(digits + (1 << 23) * (exponent > 0)) * Fraction(2) ** (max(exponent, 1) - 150)
+    return int(value) if bits >> 31 == 0 and exponent < 255 and value.denominator == 1 and value <= 1 << 24 else None
 
 
 def nesting(lines, kind=8):
@@ -32,20 +57,22 @@ def sequence():
 
 
 def verdict(data):
-    """The row of 2 to 7 that turns a sequence down and the place where it is found; row 0 if none does."""
+    """The row of 2 to 7 or 18 that turns a sequence down and the place where it is found; row 0 if none does."""
 
     def read(at, depth, signals):
         if at == len(data):
             raise LookupError(4, at)
         kind, end = data[at], at + 1
-        if kind > 11:
+        if kind > 12:
             raise LookupError(3, at)
         if kind in RANGES:
-            if end == len(data):
+            if end + OPERANDS[kind] > len(data):
                 raise LookupError(4, at)
             if data[end] not in RANGES[kind]:
                 raise LookupError(5, at)
-            end += 1
+            end += OPERANDS[kind]
+            if litres_of(data[at:end]) is None:
+                raise LookupError(18, at)
         if depth > 64 or (kind == 8 and signals == 6):
             raise LookupError(6, at)
         for _ in range(PARTS.get(kind, 0)):
@@ -90,11 +117,11 @@ def clashes(lines):
 
 
 def lines_of(data):
-    """The lines of bytes that rows 2 to 7 pass."""
+    """The lines of bytes that rows 2 to 7 and 18 pass."""
     lines = []
 
     def read(at, depth):
-        end = at + 1 + (data[at] in RANGES)
+        end = at + 1 + OPERANDS.get(data[at], 0)
         lines.append((at, depth, data[at:end]))
         for _ in range(PARTS.get(data[at], 0)):
             end = read(end, depth + 1)
@@ -149,7 +176,8 @@ def waiting_statement(size, tries, signals):
     """The bytes of a statement that mostly waits: few signals, which it tests and emits, and loops that pause."""
     if size <= 1:
         emit, leave = [2, rng.randrange(4)], [3, rng.randint(1, tries + 1)]
-        return bytes(rng.choice([[1, 0], [1, 0], [1, 0], emit, emit, [0], leave]))
+        deliver = [12, rng.randrange(4), *number_of(any_litres())]
+        return bytes(rng.choice([[1, 0], [1, 0], [1, 0], emit, deliver, [0], leave]))
     kind = rng.choice([4, 4, 4, 4, 5, 5, 5, 6, 6, 7, 7, 8 if signals < 3 else 4, 9, 11, 11])
     own = bytes([kind, rng.randrange(4)] if kind in (7, 8, 11) else [kind])
     inside = tries + (kind == 9), signals + (kind == 8)

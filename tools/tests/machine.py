@@ -1,13 +1,15 @@
-"""The machine by labels: 01, 'One reaction' and 'States and resuming', with 02's items 1, 3, 4 and 5.
+"""The machine by labels: 01, 'One reaction' and 'States and resuming', with 02's items 1, 3, 4, 5 and 12.
 
 It holds a set of labels and reacts with the expansion of its sequence, and so shares neither the state nor the residuals of
 the paper. Without setpause the expansion is the term that remains on paper, command by command.
 """
-from collections import namedtuple
+from collections import Counter, namedtuple
+
+from tests.generate import litres_of
 
 HELD = "held"
-Node = namedtuple("Node", "kind operand place parts made", defaults=[False])
-Answer = namedtuple("Answer", "emitted code labels errors")
+Node = namedtuple("Node", "kind operand place parts made own", defaults=[False, b""])
+Answer = namedtuple("Answer", "emitted code labels errors litres", defaults=[Counter()])  # the litres of each farm
 
 
 def tree_of(lines, read_back=0):
@@ -17,7 +19,7 @@ def tree_of(lines, read_back=0):
     def build():
         place, _, own = next(lines)
         count = {4: 2, 5: 2, 6: 1, 7: 2, 8: 1, 9: 1, 11: 1}.get(own[0], 0)
-        return Node(own[0], own[1] if len(own) > 1 else None, place, [build() for _ in range(count)])
+        return Node(own[0], own[1] if len(own) > 1 else None, place, [build() for _ in range(count)], own=own)
 
     tree = build()
     for signal in reversed([signal for signal in range(32) if read_back >> signal & 1]):
@@ -59,6 +61,8 @@ def react(node, present):
     kind, parts = node.kind, node.parts
     if kind in (1, 10):
         return Answer(0, 1, 1 << node.operand, [])
+    if kind == 12:
+        return Answer(1 << node.operand, 0, 0, [], Counter({node.operand: litres_of(node.own)}))
     if kind in (0, 2, 3):
         return Answer(1 << node.operand if kind == 2 else 0, node.operand + 1 if kind == 3 else 0, 0, [])
     if kind == 8:
@@ -77,7 +81,9 @@ def react(node, present):
     second = react(parts[1], present)
     code = second.code if kind == 4 else max(first.code, second.code)
     labels = (first.labels | second.labels) if code == 1 else 0
-    return Answer(first.emitted | second.emitted, code, labels, first.errors + second.errors)
+    litres = Counter(first.litres)
+    litres.update(second.litres)
+    return Answer(first.emitted | second.emitted, code, labels, first.errors + second.errors, litres)
 
 
 def declare(node, present):
@@ -90,21 +96,36 @@ def declare(node, present):
     if (absent.emitted ^ there.emitted) & bit:
         return Answer(0, 255, 0, errors + [(2 if absent.emitted & bit else 3, node.place)])
     chosen = there if there.emitted & bit else absent
-    return chosen._replace(emitted=chosen.emitted & ~(0 if node.place == 65535 else bit), errors=errors)
+    if node.place == 65535:
+        return chosen._replace(errors=errors)
+    litres = Counter({farm: chosen.litres[farm] for farm in chosen.litres if farm != node.operand})
+    return chosen._replace(emitted=chosen.emitted & ~bit, errors=errors, litres=litres)
+
+
+def answers(lines, read_back, inputs):
+    """The answers of a run."""
+    tree, labels = tree_of(lines, read_back), 0
+    for given in inputs:
+        answer = react(expand(tree, labels) if labels else tree, given)
+        yield answer
+        labels = answer.labels
+        if answer.code != 1:
+            break
 
 
 def run(lines, read_back, inputs):
     """The instants of a listing."""
-    tree, labels, instants = tree_of(lines, read_back), 0, []
-    for given in inputs:
-        answer = react(expand(tree, labels) if labels else tree, given)
+    instants = []
+    for answer in answers(lines, read_back, inputs):
         wrong = answer.code == 255
         kind, place = answer.errors[0] if wrong else (0, 0)
         instants.append((answer.code, kind, place, 0 if wrong else answer.emitted, answer.labels))
-        labels = answer.labels
-        if answer.code != 1:
-            break
     return instants
+
+
+def deliveries(lines, read_back, inputs):
+    """The litres of each farm in the instants of a run; a wrong one has none."""
+    return [{} if answer.code == 255 else dict(answer.litres) for answer in answers(lines, read_back, inputs)]
 
 
 def table_of(node, depth=1):
@@ -112,7 +133,7 @@ def table_of(node, depth=1):
     if node.place == 65535:
         return table_of(node.parts[0], depth)
     kind, operand = (11, node.operand[0]) if node.kind == HELD else (node.kind, node.operand)
-    own = b"" if node.made else bytes([kind] if operand is None else [kind, operand])
+    own = b"" if node.made else node.own or bytes([kind] if operand is None else [kind, operand])
     table = [(depth, node.place, own)]
     for part in node.parts:
         table += table_of(part, depth + 1)

@@ -4,25 +4,25 @@ from collections import Counter
 
 from tests.common import ROOT, examples, expand as bytes_of_text, expect, expect_damage, listed, rng, run_file, show
 from tests.generate import accepted_sequence, bytes_of, lines_of, waiting_sequence, without_setpauses
-from tests.machine import expand, run, table_of, tree_of
+from tests.machine import deliveries, expand, run, table_of, tree_of
 
 PAPERS = 300
-LINE = re.compile(r"[ -][ \d]{3}\d  (?:[0-9A-F]{2}| {2}) (?:[0-9A-F]{2}| {2})  .*")
+HEAD = re.compile(r"^place  (bytes *)  command$", re.M)
 
 
 def instants_on(shown):
     """Of each instant of a paper its first line, and what is struck out and what remains: lines of depth, place, bytes, the first
     and the last place of a folded statement, and the mark."""
-    pages = []
+    width, pages = len(HEAD.search(shown)[1]), []
+    table_line = re.compile(rf"([ -][ \d]{{3}}\d)  ([0-9A-F ]{{{width}}})  ( *)\S.*")
     for line in shown.splitlines():
         if line.startswith("instant "):
             pages.append((line, [], []))
             tables = iter(pages[-1][1:])
         elif line in ("struck out", "nothing is struck out", "remains"):
             table = next(tables)
-        elif pages and LINE.fullmatch(line):
-            own = bytes.fromhex(line[7:12])
-            depth = (len(line[14:]) - len(line[14:].lstrip())) // 2 + 1
+        elif pages and (found := table_line.fullmatch(line)):
+            own, depth = bytes.fromhex(found[2]), len(found[3]) // 2 + 1
             folded = re.search(r"  \((\d+) to (\d+)\)$", line)
             table.append((depth, int(line[1:5]), own, tuple(map(int, folded.groups())) if folded else None, line[0]))
     return pages
@@ -60,6 +60,13 @@ def expect_paper(lines, read_back, instants, shown, what):
         new = {place: after[place] + gone[place] - before[place] for place in before | after | gone}
         expect(all(count == 0 or count > 0 and place in looped for place, count in new.items()), f"{what}: struck out: {shown}")
         before = after
+
+
+def expect_litres(lines, read_back, inputs, shown, what):
+    """What is told of each instant's litres is what the machine by labels delivers."""
+    for (head, _, _), delivered in zip(instants_on(shown), deliveries(lines, read_back, inputs)):
+        told = {int(farm): int(litres.replace(",", "")) for litres, farm in re.findall(r"; ([\d,]+) litres? of (\d+)", head)}
+        expect(told == delivered, f"{what}: the litres of {head}, not {delivered}")
 
 
 def places_in_loops(lines):
@@ -124,6 +131,7 @@ def test_runs_by_hand():
         else:
             expect(status == 0 and message == "", f"{what}: {shown}{message}")
             expect_paper(lines, read_back, instants, shown, what)
+            expect_litres(lines, read_back, inputs, shown, what)
 
 
 def random_run():
@@ -133,26 +141,29 @@ def random_run():
         lines, read_back = without_setpauses(accepted_sequence()[1]), 0
         data = bytes_of(lines)
     inputs = [rng.randrange(16) for _ in range(rng.choice([1, 3, 8]))]
-    return run_file(data, inputs, read_back), lines, read_back, run(lines, read_back, inputs)
+    return run_file(data, inputs, read_back), lines, read_back, inputs
 
 
 def test_random_papers():
     met = Counter()
     for number in range(PAPERS):
-        data, lines, read_back, instants = random_run()
+        data, lines, read_back, inputs = random_run()
+        instants = run(lines, read_back, inputs)
         words = ["--whole"] * (number % 2)
         status, shown, message = show("--paper", *words, data=data, listing=listed(*instants))
         what = f"paper {number}, {data.hex()}"
         expect(status == 0 and message == "" and "agree" in shown, f"{what}: {shown}{message}")
         expect(not words or not re.search(r"\(\d+ to \d+\)\n", shown), f"{what}: whole: {shown}")
         expect_paper(lines, read_back, instants, shown, what)
+        expect_litres(lines, read_back, inputs, shown, what)
+        met["litres"] += len(re.findall(r"^instant .* litres? of ", shown, re.M))
         for code, kind, place, *_ in instants:
             met.update([("code", min(code, 2) if code < 255 else code), ("kind", kind), ("outside", place == 65535)])
         met.update({"stopped": shown.count("nothing is struck out"), "held": shown.count("held suspend")})
         met["read back"] += read_back > 0
         expect_parted(data, instants, what)
     for what in [("code", 0), ("code", 1), ("code", 2), ("code", 255), ("kind", 1), ("kind", 2), ("kind", 3), ("outside", True),
-                 "stopped", "held", "read back"]:
+                 "stopped", "held", "read back", "litres"]:
         expect(met[what] >= 2, f"met {what} {met[what]} times")
 
 
@@ -175,11 +186,14 @@ def expect_parted(data, instants, what):
 
 
 def test_paper_by_hand():
-    """Labels are not read; a page of a held suspend; no listing; no instants."""
+    """Labels are not read; a page of a held suspend and one of litres; no listing; no instants."""
     frozen = run_file(bytes.fromhex("0b0004 0100 0201"), [1, 1, 0])
     listing = listed((1, 0, 1), (1, 0, 1), (0, 2, 0))
     answer = show("--paper", data=frozen, listing=listing)
     expect(answer == (0, FROZEN, ""), f"by hand: {answer}")
+    delivering = run_file(bytes.fromhex("04 0c03 8096984a 04 0105 08 03 04 0c03 00008040 04 0c0b 0000803f 0c0b 00000040"), [0, 0])
+    answer = show("--paper", data=delivering, listing=listed((1, 8, 32), (0, 0x800, 0)), names="signal 3 north\n")
+    expect(answer == (0, DELIVERED, ""), f"litres by hand: {answer}")
     blind = listed((1, 0, 2), (1, 0, 4), (0, 2, 0))
     expect(show("--paper", data=frozen, listing=blind)[0] == 0, "the paper reads no labels")
     empty = show("--paper", data=run_file(b"\0"), listing=listed())
@@ -221,6 +235,38 @@ instant 3: input none; emitted 1; code 0, ended
 nothing remains
 
 paper and listing agree: 3 instants
+"""
+
+
+DELIVERED = """\
+place  bytes              command
+    0  04                 …; then …
+    1  0C 03 80 96 98 4A    emit 3 north with 5,000,000 litres
+    7  04                   …; then …
+    8  01 05                  pause, label 5
+   10  08 03                  signal 3 north in …
+   12  04                       …; then …
+   13  0C 03 00 00 80 40          emit 3 north with 4 litres
+   19  04                         …; then …
+   20  0C 0B 00 00 80 3F            emit 11 with 1 litre
+   26  0C 0B 00 00 00 40            emit 11 with 2 litres
+
+ceiling: 10 × 1 × 2 = 20 reactions (10 commands; around one: 0 loops, 1 signal)
+
+instant 1: input none; emitted 3 north; 5,000,000 litres of 3 north; code 1, waiting
+struck out
+-   0  04                 …; then …
+-   1  0C 03 80 96 98 4A    emit 3 north with 5,000,000 litres
+-   8  01 05                  pause, label 5
+remains
+    7  04                 …; then …
+    8                       nothing
+   10  08 03                signal 3 north in …  (10 to 26)
+
+instant 2: input none; emitted 11; 3 litres of 11; code 0, ended
+nothing remains
+
+paper and listing agree: 2 instants
 """
 
 

@@ -106,7 +106,7 @@ def random_run():
     """A run file and a listing that could be its own: only the rules of a reaction would tell."""
     while True:
         data, lines = accepted_sequence()
-        emits = {own[1] for _, _, own in lines if own[0] == 2}
+        emits = {own[1] for _, _, own in lines if own[0] in (2, 12)}
         pauses = sorted({own[1] for _, _, own in lines if own[0] == 1})
         erring = [(kind, place) for place, _, own in lines for kind in {6: [1], 8: [2, 3]}.get(own[0], [])]
         if pauses:
@@ -155,8 +155,8 @@ def test_damaged_runs():
         (WORKED[:12], cut.format(12)), (WORKED[:13], cut.format(13)), (WORKED[:15], cut.format(15)),
         (WORKED[:17], r"byte 16: 1 byte over.*\(input cut\)"), (WORKED + b"\0", cut.format(24)),
         (WORKED + b"\0\0\0", r"byte 24: 3 bytes over.*\(input cut\)"),
-        (b"\x02\0\x0c", cut.format(3)), (b"\x01\0\x0c", cut.format(3)), (b"\x01\0\x0c" + bytes(3), cut.format(6)),
-        (b"\x01\0\x0c" + bytes(4), r"place 0: .*\(row 3\)"), (b"\x01\0\x0c" + bytes(5), cut.format(7)),
+        (b"\x02\0\x0d", cut.format(3)), (b"\x01\0\x0d", cut.format(3)), (b"\x01\0\x0d" + bytes(3), cut.format(6)),
+        (b"\x01\0\x0d" + bytes(4), r"place 0: .*\(row 3\)"), (b"\x01\0\x0d" + bytes(5), cut.format(7)),
         (b"\x01\0\0\x7f\0\0", cut.format(6)), (b"\x01\0\0\x7f\0\0\0", r"read-back: 7 signals .*\(row 6\)"),
         (run_file(bytes.fromhex("0800" * 6 + "00"), (), 1), r"read-back: 1 signal and 6 .*\(row 6\)"),
         (run_file(b"\0\0"), r"place 1: 1 byte after .*\(row 7\)"), (run_file(bytes(3)), r"place 1: 2 bytes after .*\(row 7\)"),
