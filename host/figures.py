@@ -15,15 +15,16 @@ from pathlib import Path
 
 ROOT = Path(__file__).resolve().parent.parent
 HEADER, README = ROOT / "include/intake.h", ROOT / "README.md"
-EXPORTED = [f"intake_{call}" for call in ("box_admit", "box_forget", "box_panel", "box_preview", "box_release",
-                                        "box_restore", "box_save", "box_service", "box_tick", "check", "tick")]
+EXPORTED = [f"intake_{call}" for call in ("box_admit", "box_forget", "box_ledger", "box_new_year", "box_panel", "box_preview",
+                                        "box_release", "box_restore", "box_save", "box_service", "box_tick", "check", "tick")]
 # instructions that name no vector register and are not in the base set of x86-64; objdump's tzcnt is bsf with a prefix
 # that an older processor passes over, and LLVM emits it for all
 LATER = "andn bextr blsi blsmsk blsr bzhi crc32 lzcnt movbe mulx pdep pext popcnt rorx sarx shlx shrx adcx adox".split()
 VECTOR = set("""movaps movups movapd movupd movdqa movdqu movd movq movss movsd xorps andps orps pxor por pand pandn paddb paddw
     paddd paddq psubb psubw psubd psubq pcmpeqb pcmpeqw pcmpeqd pcmpgtb pcmpgtw pcmpgtd pslldq psrldq psllq psllw pslld psrlq
     psrlw psrld psraw psrad pshufd pshufhw pshuflw punpcklbw punpcklwd punpckldq punpcklqdq punpckhbw punpckhwd punpckhdq punpckhqdq
-    pmovmskb movmskps movhlps movlhps shufps shufpd unpcklps unpcklpd""".split())
+    pmovmskb movmskps movhlps movlhps shufps shufpd unpcklps unpcklpd addss addps subss mulss ucomiss comiss cmpss andnps cvttss2si
+    cvtsi2ss cvtsi2ssl cvtsi2ssq cvtdq2ps cvttps2dq""".split())
 STEP = 1024  # a promise is the next multiple above what is measured
 CONTROL = """
 #include <stdlib.h>

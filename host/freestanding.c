@@ -84,12 +84,31 @@ static void worked_example(void)
     expect(memset_calls > 0, "the archive calls this host's memset");
 }
 
+/* A box with one bay that delivers 5,000,000 litres of farm 3 in each instant, up to the limit; then a new year. */
+static void year(void)
+{
+    static const uint8_t sequence[] = {0x06, 0x04, 0x0C, 0x03, 0x80, 0x96, 0x98, 0x4A, 0x01, 0x00};
+    static uint8_t box[INTAKE_BOX_LENGTH];
+    uint8_t answer[INTAKE_ANSWER_LENGTH], record[INTAKE_RECORD_LENGTH], ledger[INTAKE_LEDGER_LENGTH];
+    expect(intake_box_admit(box, sizeof box, 2, sequence, sizeof sequence, 0, 0) == INTAKE_ACCEPTED, "admission");
+    for (unsigned instant = 1; instant <= 4; instant++) {
+        uint8_t number = intake_box_tick(box, sizeof box, 2, 0, answer, sizeof answer, record, sizeof record);
+        expect(number == (instant < 4 ? INTAKE_ACCEPTED : INTAKE_ABOVE_FARM_LIMIT), "a delivery");
+    }
+    expect(intake_box_ledger(box, sizeof box, 2, ledger, sizeof ledger) == INTAKE_ACCEPTED, "the ledger");
+    expect(intake_ledger_farm(ledger, 3) == 15000000 && intake_ledger_total(ledger) == 15000000, "its totals");
+    expect(intake_box_new_year(box, sizeof box, 2) == INTAKE_ACCEPTED, "a new year");
+    expect(intake_box_ledger(box, sizeof box, 2, ledger, sizeof ledger) == INTAKE_ACCEPTED, "the new ledger");
+    expect(intake_ledger_farm(ledger, 3) == 0 && intake_ledger_total(ledger) == 0, "its new totals");
+}
+
 /* The system starts a program with an aligned stack and no return address. */
 __asm__(".globl _start\n_start:\n\txor %ebp, %ebp\n\tcall start\n\thlt\n");
 
 void start(void)
 {
     worked_example();
+    year();
     print_number(passed);
     print(" passed, ");
     print_number(failed);

@@ -4,8 +4,9 @@
  * 64, the greatest: commands with parts 63 times, inside them a leaf, and their other parts leaves beside. Six signals stand
  * around it in the sequence, or outside by the read-back set, which takes no level of the depth. Each is admitted to a box
  * too, previewed and ticked twice there, its record read, saved sixteen times and once more, restored, forgotten and
- * released. The most of the check, of the tick and of the calls on a box is held to what include/intake.h promises, and a
- * thread of the size that it names runs the deepest calls.
+ * released; one that delivers is ticked also where its farm's total has no room. The most of the check, of the tick and of
+ * the calls on a box is held to what include/intake.h promises, and a thread of the size that it names runs the deepest
+ * calls.
  */
 #include "intake.h"
 
@@ -17,16 +18,20 @@
 #include <ucontext.h>
 #include <unistd.h>
 
-enum { STACK = 65536, PAINT = 0xA5, DEPTH = 64, HATCH = 31, SIGNALS = 6, MIXES = 2000, FAR = 1024, BAY = 7 };
+enum { STACK = 65536, PAINT = 0xA5, DEPTH = 64, HATCH = 31, FARM = 30, SIGNALS = 6, MIXES = 2000, FAR = 1024, BAY = 7 };
+
+/* Where the box has the total of the farm (docs/FORMAT.md, 'Box'). */
+enum { AT_TOTAL = BAY * (INTAKE_BOX_LENGTH / INTAKE_BAY_COUNT) + 1395 + 4 * FARM };
 
 static uint8_t stack[STACK], sequence[1024], state[INTAKE_STATE_LENGTH], answer[INTAKE_ANSWER_LENGTH];
-static uint8_t box[INTAKE_BOX_LENGTH], record[INTAKE_RECORD_LENGTH], view[INTAKE_RECORD_LENGTH];
+static uint8_t box[INTAKE_BOX_LENGTH], record[INTAKE_RECORD_LENGTH], view[INTAKE_RECORD_LENGTH], totals[INTAKE_LEDGER_LENGTH];
 static size_t length;
 static uint32_t input, read_back, name, unknown = 0x3F; /* six unknown inputs of a preview */
 static uint8_t number;
 static ucontext_t here, there;
 static unsigned passed, failed;
 static size_t empty, most_check, most_tick, most_box;
+static unsigned full_ledgers; /* ticks that found no room */
 
 static void nothing(void) { number = INTAKE_ACCEPTED; }
 static void check(void) { number = intake_check(sequence, length, read_back); }
@@ -56,6 +61,8 @@ static void box_preview(void)
     number = intake_box_preview(box, sizeof box, BAY, input, unknown, view, INTAKE_PREVIEW_LENGTH);
 }
 
+static void box_ledger(void) { number = intake_box_ledger(box, sizeof box, BAY, totals, sizeof totals); }
+static void box_new_year(void) { number = intake_box_new_year(box, sizeof box, BAY); }
 static void box_release(void) { number = intake_box_release(box, sizeof box, BAY); }
 static void box_save(void) { number = intake_box_save(box, sizeof box, BAY, name); }
 static void box_restore(void) { number = intake_box_restore(box, sizeof box, BAY, name); }
@@ -113,6 +120,8 @@ struct leaf {
 };
 
 static const struct leaf pause_0 = {BYTES("\x01\x00"), 1};
+/* 1 litre of FARM before pause 0, and one behind it. */
+static const struct leaf delivery = {BYTES("\x04\x0C\x1E\x00\x00\x80\x3F\x04\x01\x00\x0C\x1E\x00\x00\x80\x3F"), 3};
 static const struct leaf set = {BYTES("\x05\x01\x00\x0A\x00"), 2};       /* for which row 10 walks once more */
 static const struct leaf exclusive = {BYTES("\x04\x01\x00\x01\x01"), 2}; /* pauses 0 and 1 are no valid set */
 static const struct leaf ill_formed = {BYTES("\x04\x01\x01\x04\x05\x0A\x02\x01\x03\x01\x02"), 4};
@@ -177,7 +186,7 @@ static uint8_t admission(void)
         commands++;
         loops += byte == 0x06;
         signals += byte == 0x08;
-        i += byte != 0x00 && byte != 0x04 && byte != 0x05 && byte != 0x06 && byte != 0x09; /* an operand */
+        i += byte == 0x0C ? 5 : byte != 0x00 && byte != 0x04 && byte != 0x05 && byte != 0x06 && byte != 0x09; /* operands */
     }
     return commands * (1 + loops) << signals > INTAKE_SHARED_CEILING ? INTAKE_ABOVE_CEILING : INTAKE_ACCEPTED;
 }
@@ -198,6 +207,29 @@ static size_t positions(int waits, const char *what)
     return bytes;
 }
 
+/* Whether the next instant of the bay delivers, by one of a copy. */
+static int delivers_next(void)
+{
+    static uint8_t copy[INTAKE_BOX_LENGTH];
+    memcpy(copy, box, sizeof copy);
+    intake_box_new_year(copy, sizeof copy, BAY);
+    intake_box_tick(copy, sizeof copy, BAY, input, answer, sizeof answer, record, sizeof record);
+    intake_box_ledger(copy, sizeof copy, BAY, totals, sizeof totals);
+    return intake_ledger_farm(totals, FARM) != 0;
+}
+
+/* The greatest of the ledger's calls, and of a tick that finds no room, if it would deliver. */
+static size_t in_ledger(const char *what)
+{
+    size_t bytes = used(box_ledger, INTAKE_ACCEPTED, what);
+    if (delivers_next()) {
+        memcpy(box + AT_TOTAL, "\x00\x00\x80\x4B", 4); /* 16,777,216 */
+        bytes = larger(bytes, used(box_tick, INTAKE_ABOVE_FARM_LIMIT, what));
+        full_ledgers++;
+    }
+    return larger(bytes, used(box_new_year, INTAKE_ACCEPTED, what));
+}
+
 /* The greatest of the calls on a box; if the sequence is admitted, two instants of it, without signal 0 and with it. */
 static size_t in_box(uint8_t admitted, const char *what)
 {
@@ -214,6 +246,7 @@ static size_t in_box(uint8_t admitted, const char *what)
         bytes = larger(bytes, used(box_service, INTAKE_ACCEPTED, what));
         bytes = larger(bytes, used(box_panel, INTAKE_ACCEPTED, what));
         uint8_t next = waits ? INTAKE_ACCEPTED : INTAKE_OVER;
+        bytes = larger(bytes, in_ledger(what));
         bytes = larger(bytes, used(box_preview, next, what));
         bytes = larger(bytes, used(box_tick, next, what));
         bytes = larger(bytes, used(box_release, INTAKE_ACCEPTED, what));
@@ -247,6 +280,9 @@ static void row(const struct nest *nest, unsigned signals, const char *around)
     size_t triggers = used(check, INTAKE_ACCEPTED, nest->name);
     build_one(nest, signals, 0, &pause_0, DEPTH);
     boxed = larger(boxed, in_box(admission(), nest->name));
+    build_one(nest, signals, 0, &delivery, DEPTH);
+    boxed = larger(boxed, in_box(admission(), nest->name));
+    build_one(nest, signals, 0, &pause_0, DEPTH);
     input = 0;
     size_t checked = used(check, INTAKE_ACCEPTED, nest->name);
     stand(INTAKE_PHASE_FRESH, 0);
@@ -275,7 +311,8 @@ static void mixed(void)
         levels[(unsigned)rand() % DEPTH] = &signal_nest;
     read_back = (UINT32_C(1) << (SIGNALS - signals)) - 1;
     input = (uint32_t)rand();
-    build(levels, rand() % 2 ? &set : &pause_0, DEPTH);
+    static const struct leaf *const leaves[] = {&pause_0, &set, &delivery};
+    build(levels, leaves[rand() % 3], DEPTH);
     used(check, INTAKE_ACCEPTED, "a mixed sequence");
     stand(INTAKE_PHASE_FRESH, 0);
     used(tick, INTAKE_ACCEPTED, "a mixed sequence");
@@ -352,6 +389,9 @@ int main(void)
     hold("intake_check", most_check, INTAKE_STACK_CHECK);
     hold("intake_tick", most_tick, INTAKE_STACK_TICK);
     hold("a call on a box", most_box, INTAKE_STACK_BOX);
+    passed += full_ledgers > 100;
+    failed += full_ledgers <= 100;
+    printf("%u ticks found no room in a ledger%s\n", full_ledgers, full_ledgers > 100 ? "" : ": FAILED");
     hold_thread(INTAKE_STACK_THREAD, 1);
     hold_thread(INTAKE_STACK_THREAD / 2, 0); /* a thread with too little is noticed */
     printf("%u passed, %u failed\n", passed, failed);
