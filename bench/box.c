@@ -3,7 +3,8 @@
  * plain C that does the same: in turn within each round, caches and branch predictors warm. The other seven bays are
  * filled. The run files that are named are run whole, the sequences made by rule for up to two instants. Then the calls on
  * positions, of a bay that keeps sixteen, and the readers of a record, against plain C; and previews of the next instant
- * against as many ticks of plain C as there are fillings.
+ * against as many ticks of plain C as there are fillings. Last the litres: the tick of a bay in which one emission carries
+ * litres, and of one in which all do, against the same bay without, of the archive and of plain C; and the ledger's calls.
  */
 #include "timing.h"
 
@@ -14,9 +15,10 @@
 
 enum { BAY = 5, STRETCH = INTAKE_BOX_LENGTH / INTAKE_BAY_COUNT, SAMPLE = 20000 /* nanoseconds */ };
 
-/* Where a stretch has the length of the sequence, the state record and the positions (docs/FORMAT.md, 'Box'). */
+/* Where a stretch has the length of the sequence, the state record, the positions and the ledger (docs/FORMAT.md, 'Box'). */
 enum { AT_LENGTH = BAY * STRETCH, LENGTH_BYTES = 2, AT_STATE = BAY * STRETCH + 1038 };
 enum { AT_POSITIONS = BAY * STRETCH + 1059, POSITIONS_LENGTH = 336, NAMED = 500 /* calls of a sample */ };
+enum { AT_LEDGER = BAY * STRETCH + 1395 };
 
 static const struct shape shapes[] = {
     {"emits in sequence", "\x04", "", "\x02", "\x02", 12, false, false, 32},
@@ -41,18 +43,24 @@ static uint8_t admit(admits *call, uint8_t *box, const struct bay *bay)
     return call(box, INTAKE_BOX_LENGTH, BAY, bay->file + 2, bay->length, read_back_of(bay), 0);
 }
 
-/* As run_bay, in the box: ticks a fresh machine until the inputs or the machine end, and tells how many instants. */
-static unsigned run_in_box(const struct bay *bay, uint8_t *answer)
+typedef uint8_t ticks_bay(uint8_t *, size_t, uint32_t, uint32_t, uint8_t *, size_t, uint8_t *, size_t);
+
+/* As run_bay, in a box: ticks a fresh machine until the inputs or the machine end, and tells how many instants. */
+static unsigned run_in(ticks_bay *tick, uint8_t *box, const struct bay *bay, uint8_t *answer)
 {
     const uint8_t *inputs = bay->file + 2 + bay->length + 4;
-    uint8_t *state = boxes[0] + AT_STATE, record[INTAKE_RECORD_LENGTH];
+    uint8_t *state = box + AT_STATE, record[INTAKE_RECORD_LENGTH];
     unsigned instants = 0;
     memset(state, 0, INTAKE_STATE_LENGTH);
     for (; inputs + 4 <= bay->file + bay->size && state[0] != 2; inputs += 4, instants++)
-        if (intake_box_tick(boxes[0], INTAKE_BOX_LENGTH, BAY, word_at(inputs), answer, INTAKE_ANSWER_LENGTH, record,
-                            sizeof record) != 0)
+        if (tick(box, INTAKE_BOX_LENGTH, BAY, word_at(inputs), answer, INTAKE_ANSWER_LENGTH, record, sizeof record) != 0)
             return 0;
     return instants;
+}
+
+static unsigned run_in_box(const struct bay *bay, uint8_t *answer)
+{
+    return run_in(intake_box_tick, boxes[0], bay, answer);
 }
 
 /* Processor nanoseconds of an instant, in the box or of intake_tick, in the mean of the runs of one sample. */
@@ -309,6 +317,189 @@ static void previews(size_t length, int count, char **paths)
            exp(logarithms[2] / rows));
 }
 
+/* The bytes of a command with its operands. */
+static size_t bytes_of(uint8_t command)
+{
+    return command == 0x0C ? 6 : 1 + (strchr("\x01\x02\x03\x07\x08\x0A\x0B", command) != NULL && command != 0);
+}
+
+/* Whether a signal command declares the farm, whose litres are dropped then. */
+static bool declared(const struct bay *bay, uint8_t farm)
+{
+    const uint8_t *end = bay->file + 2 + bay->length;
+    for (const uint8_t *at = bay->file + 2; at < end; at += bytes_of(*at))
+        if (*at == 0x08 && at[1] == farm)
+            return true;
+    return false;
+}
+
+/* The bay with 1 litre on its first emissions that are told, so many of them at most; returns of how many farms. */
+static unsigned with_litres(const struct bay *bay, struct bay *litres, unsigned most)
+{
+    static const uint8_t one[] = {0x00, 0x00, 0x80, 0x3F};
+    const uint8_t *end = bay->file + 2 + bay->length;
+    uint8_t *to = litres->file + 2;
+    uint32_t farms = 0;
+    for (const uint8_t *at = bay->file + 2; at < end; at += bytes_of(*at)) {
+        memcpy(to, at, bytes_of(*at));
+        to += bytes_of(*at);
+        if (*at != 0x02 || most == 0 || declared(bay, at[1]) || (to - litres->file) + (end - at) > 1024)
+            continue;
+        to[-2] = 0x0C;
+        memcpy(to, one, sizeof one);
+        to += sizeof one;
+        most--;
+        farms |= UINT32_C(1) << at[1];
+    }
+    litres->length = (size_t)(to - litres->file) - 2;
+    litres->file[0] = (uint8_t)litres->length;
+    litres->file[1] = (uint8_t)(litres->length >> 8);
+    litres->size = 2 + litres->length + (bay->size - 2 - bay->length);
+    memcpy(to, end, bay->size - 2 - bay->length);
+    return (unsigned)__builtin_popcount(farms);
+}
+
+/* A bay with litres, the same without, and by which tick. */
+struct delivering {
+    const struct bay *bays[2];
+    ticks_bay *tick;
+    unsigned runs, instants;
+};
+
+/* Processor nanoseconds of an instant of the bay with litres, in the first box, or without, in the second. */
+static double sample_delivering(const void *what, int without)
+{
+    const struct delivering *row = what;
+    uint8_t answer[INTAKE_ANSWER_LENGTH];
+    plain_box_new_year(boxes[without], sizeof *boxes, BAY);
+    double start = nanoseconds();
+    for (unsigned i = 0; i < row->runs; i++)
+        run_in(row->tick, boxes[without], row->bays[without], answer);
+    return (nanoseconds() - start) / row->runs / row->instants;
+}
+
+/* Admits both bays, which must run alike. */
+static void prepare_delivering(struct delivering *row, const char *name)
+{
+    uint8_t answers[2][INTAKE_ANSWER_LENGTH];
+    for (int without = 0; without < 2; without++) {
+        if (admit(intake_box_admit, boxes[without], row->bays[without]) != 0)
+            give_up(name, "not admitted");
+        row->instants = run_in(row->tick, boxes[without], row->bays[without], answers[without]);
+    }
+    if (row->instants == 0 || memcmp(answers[0], answers[1], sizeof *answers) != 0)
+        give_up(name, "not the same run with litres and without");
+    row->runs = 1;
+    double once = fmax(sample_delivering(row, 1) * row->instants, 1);
+    row->runs = once > SAMPLE ? 1 : (unsigned)(SAMPLE / once);
+}
+
+/* Prints the row of a bay with litres on so many emissions at most, and adds the logarithm of the archive's ratio. */
+static void delivering_row(const struct bay *bay, const char *name, unsigned most, double *logarithm, unsigned *rows)
+{
+    static struct bay litres;
+    unsigned farms = with_litres(bay, &litres, most);
+    if (farms == 0 || (most > 1 && farms < 2))
+        return;
+    struct delivering row = {{&litres, bay}, plain_box_tick, 0, 0};
+    prepare_delivering(&row, name);
+    struct comparison plain = compare(sample_delivering, &row, ROUNDS);
+    row.tick = intake_box_tick;
+    prepare_delivering(&row, name);
+    struct comparison own = compare(sample_delivering, &row, ROUNDS);
+    printf("%-30s %5zu %5u %8.0f %8.0f %6.2f %9.0f %8.0f %6.2f\n", name, bay->length, farms, own.intake, own.plain, own.ratio,
+           plain.intake, plain.plain, plain.ratio);
+    fflush(stdout);
+    *logarithm += log(own.ratio);
+    (*rows)++;
+}
+
+/* A bay that emits each of so many signals in each instant, of two, and waits. */
+static void build_emitting(struct bay *bay, unsigned signals)
+{
+    memset(bay, 0, sizeof *bay);
+    uint8_t *to = bay->file + 2;
+    *to++ = 0x06;
+    *to++ = 0x04;
+    for (unsigned i = 1; i < signals; i++)
+        *to++ = 0x05;
+    for (unsigned i = 0; i < signals; i++) {
+        *to++ = 0x02;
+        *to++ = (uint8_t)i;
+    }
+    *to++ = 0x01;
+    to++;
+    bay->length = (size_t)(to - bay->file) - 2;
+    bay->file[0] = (uint8_t)bay->length;
+    bay->size = 2 + bay->length + 3 * 4;
+}
+
+static void deliveries(int count, char **paths)
+{
+    static struct bay bay;
+    static const unsigned signals[] = {1, 8, 32};
+    double logarithm;
+    unsigned rows;
+    printf("%-36s %5s %8s %8s %6s %9s %8s %6s\n", "ns an instant in a box", "", "archive", "", "", "plain C", "", "");
+    printf("%-30s %5s %5s %8s %8s %6s %9s %8s %6s\n", "bay", "bytes", "farms", "litres", "without", "ratio", "litres",
+           "without", "ratio");
+    for (unsigned most = 1; most <= 32; most += 31) {
+        logarithm = rows = 0;
+        for (unsigned i = 0; i < sizeof signals / sizeof *signals; i++) {
+            build_emitting(&bay, signals[i]);
+            delivering_row(&bay, "emits in parallel, a loop", most, &logarithm, &rows);
+        }
+        for (unsigned i = 0; i < sizeof shapes / sizeof *shapes; i++) {
+            build(&bay, &shapes[i], 256);
+            delivering_row(&bay, shapes[i].name, most, &logarithm, &rows);
+        }
+        for (int i = 1; i < count; i++) {
+            if (!read_bay(&bay, paths[i]))
+                give_up(paths[i], "not a run that both accept, or not the same");
+            delivering_row(&bay, paths[i], most, &logarithm, &rows);
+        }
+        printf("geometric mean of the archive's ratios, litres on %s: %.2f\n", most == 1 ? "one emission" : "all emissions",
+               exp(logarithm / rows));
+    }
+}
+
+/* Processor nanoseconds of reading a ledger in which every farm has a total, and of a new year. */
+static double sample_ledger(const void *what, int plain)
+{
+    static volatile uint8_t sink;
+    uint8_t totals[INTAKE_LEDGER_LENGTH];
+    uint8_t *box = boxes[plain];
+    bool reads = *(const bool *)what;
+    double start = nanoseconds();
+    for (unsigned i = 0; i < NAMED; i++) {
+        if (reads)
+            sink = (plain ? plain_box_ledger : intake_box_ledger)(box, sizeof *boxes, BAY, totals, sizeof totals);
+        else
+            sink = (plain ? plain_box_new_year : intake_box_new_year)(box, sizeof *boxes, BAY);
+    }
+    (void)sink;
+    return (nanoseconds() - start) / NAMED;
+}
+
+static void ledgers(void)
+{
+    static const bool kinds[] = {true, false};
+    static const uint8_t near_limit[] = {0xFE, 0xFF, 0x7F, 0x4B}; /* 16,777,214 */
+    uint8_t totals[2][INTAKE_LEDGER_LENGTH];
+    for (int plain = 0; plain < 2; plain++)
+        for (unsigned farm = 0; farm < INTAKE_FARM_COUNT; farm++)
+            memcpy(boxes[plain] + AT_LEDGER + 4 * farm, near_limit, sizeof near_limit);
+    if (intake_box_ledger(boxes[0], sizeof *boxes, BAY, totals[0], sizeof *totals) != 0 ||
+        plain_box_ledger(boxes[1], sizeof *boxes, BAY, totals[1], sizeof *totals) != 0 ||
+        memcmp(totals[0], totals[1], sizeof *totals) != 0)
+        give_up("a ledger", "not the same reading");
+    printf("%-30s %8s %8s %6s\n", "ns a call on a ledger", "intake", "plain", "ratio");
+    for (unsigned i = 0; i < 2; i++) {
+        struct comparison row = compare(sample_ledger, &kinds[i], ROUNDS);
+        printf("%-30s %8.0f %8.0f %6.2f\n", kinds[i] ? "ledger" : "new year", row.intake, row.plain, row.ratio);
+    }
+}
+
 int main(int count, char **paths)
 {
     static const size_t lengths[] = {14, 64, 256, 1024};
@@ -338,4 +529,6 @@ int main(int count, char **paths)
     positions(small, sizeof small);
     readings();
     previews(256, count, paths);
+    deliveries(count, paths);
+    ledgers();
 }
