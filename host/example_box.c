@@ -2,12 +2,14 @@
  * A small host with several bays: runs the bays of up to eight run files side by side in one box, an instant of each in
  * turn, and prints a line for each instant. A word such as 0:4:save:1 asks for a call on a position: before instant 4 of bay
  * 0 save it under the name 1; restore comes back to it, and forget forgets it. A word such as 0:6:preview:4 asks for a
- * preview of instant 6 of bay 0 in which the status of signal 2, the set 4, is not known. A word such as 0:record:FILE keeps
- * the records of bay 0 in a file, for tools/show --recording.
+ * preview of instant 6 of bay 0 in which the status of signal 2, the set 4, is not known. 0:6:newyear:0 asks for a new year
+ * of the ledger of bay 0 before its instant 6, and 0:ledger for that ledger after all runs, when the bays are empty. A word
+ * such as 0:record:FILE keeps the records of bay 0 in a file, for tools/show --recording.
  *
  *     gcc -Iinclude host/example_box.c target/staticlib/libintake.a -o example_box
  *     ./example_box examples/intake.bin examples/rinse.bin
  *     ./example_box examples/clean.bin 0:4:save:1 0:7:restore:1 0:record:clean.rec
+ *     ./example_box examples/tour.bin 0:ledger
  */
 #include "intake.h"
 
@@ -27,15 +29,20 @@ struct bay {
     size_t next; /* where the input of the next instant stands */
     size_t instant;
     bool present;
+    bool told; /* is its ledger asked for? */
     FILE *recording;
 };
 
-/* A call on a position of a bay, or a preview, before one of its instants; a preview has a set in the place of a name. */
+/*
+ * A call on a position of a bay, a preview or a new year, before one of its instants; a preview has a set in the place of a
+ * name, a new year any number.
+ */
 struct request {
     uint32_t bay;
     size_t instant;
     char call[8];
     uint32_t name;
+    bool made;
 };
 
 enum { MAX_REQUESTS = 256 };
@@ -77,20 +84,28 @@ static uint8_t preview(uint8_t *whole, size_t length, uint32_t bay, uint32_t unk
     return intake_box_preview(whole, length, bay, input, unknown, foreseen, sizeof foreseen);
 }
 
+static uint8_t new_year(uint8_t *whole, size_t length, uint32_t bay, uint32_t unused)
+{
+    (void)unused;
+    return intake_box_new_year(whole, length, bay);
+}
+
 static const struct {
     const char *name;
     uint8_t (*call)(uint8_t *box, size_t box_length, uint32_t bay, uint32_t name);
 } calls[] = {
     {"save", intake_box_save}, {"restore", intake_box_restore}, {"forget", intake_box_forget}, {"preview", preview},
+    {"newyear", new_year},
 };
 
 /* Makes the calls that are asked for before the bay's next instant. */
 static void asked_calls(uint32_t number_of_bay)
 {
-    for (const struct request *asked = requests; asked < requests + request_count; asked++)
+    for (struct request *asked = requests; asked < requests + request_count; asked++)
         for (size_t i = 0; i < sizeof calls / sizeof *calls; i++)
-            if (asked->bay == number_of_bay && asked->instant == bays[number_of_bay].instant + 1 &&
+            if (!asked->made && asked->bay == number_of_bay && asked->instant == bays[number_of_bay].instant + 1 &&
                 strcmp(asked->call, calls[i].name) == 0) {
+                asked->made = true;
                 uint8_t number = calls[i].call(box, sizeof box, number_of_bay, asked->name);
                 printf("%" PRIu32 " %s %" PRIu32, number_of_bay, asked->call, asked->name);
                 if (number != INTAKE_ACCEPTED)
@@ -103,15 +118,25 @@ static void asked_calls(uint32_t number_of_bay)
             }
 }
 
-/* One instant; a bay whose machine is over, or whose inputs are used up, is taken out. */
+/*
+ * One instant; a bay whose machine is over, or whose inputs are used up, is taken out. Where the ledger has no room for the
+ * litres there is no instant, and the machine goes on with the next inputs.
+ */
 static void instant(uint32_t number_of_bay)
 {
     struct bay *bay = &bays[number_of_bay];
-    uint8_t answer[INTAKE_ANSWER_LENGTH], record[INTAKE_RECORD_LENGTH];
+    uint8_t number = INTAKE_OVER, answer[INTAKE_ANSWER_LENGTH], record[INTAKE_RECORD_LENGTH];
     asked_calls(number_of_bay);
-    if (bay->count - bay->next < INPUT_BYTES ||
-        intake_box_tick(box, sizeof box, number_of_bay, intake_number_in(bay->file + bay->next, INPUT_BYTES), answer,
-                        sizeof answer, record, sizeof record) != INTAKE_ACCEPTED) {
+    if (bay->count - bay->next >= INPUT_BYTES) {
+        number = intake_box_tick(box, sizeof box, number_of_bay, intake_number_in(bay->file + bay->next, INPUT_BYTES), answer,
+                                 sizeof answer, record, sizeof record);
+        bay->next += INPUT_BYTES;
+    }
+    if (number == INTAKE_ABOVE_FARM_LIMIT) {
+        printf("%" PRIu32 " refused %u: %s\n", number_of_bay, (unsigned)number, intake_text(number));
+        return;
+    }
+    if (number != INTAKE_ACCEPTED) {
         intake_box_release(box, sizeof box, number_of_bay);
         bay->present = false;
         printf("%" PRIu32 " end\n", number_of_bay);
@@ -119,7 +144,6 @@ static void instant(uint32_t number_of_bay)
     }
     if (bay->recording != NULL)
         fwrite(record, 1, sizeof record, bay->recording);
-    bay->next += INPUT_BYTES;
     bay->instant++;
     printf("%" PRIu32 " %zu %u %u %u %08" PRIx32 "\n", number_of_bay, bay->instant, (unsigned)intake_answer_code(answer),
            (unsigned)intake_answer_kind(answer), (unsigned)intake_answer_place(answer), intake_answer_emitted(answer));
@@ -128,12 +152,35 @@ static void instant(uint32_t number_of_bay)
 /* Whether a word asks for a call, which is then kept. */
 static bool asks(const char *word)
 {
-    struct request asked;
+    struct request asked = {.made = false};
     if (request_count == MAX_REQUESTS || sscanf(word, "%" SCNu32 ":%zu:%7[a-z]:%" SCNu32, &asked.bay, &asked.instant,
                                                 asked.call, &asked.name) != 4)
         return false;
     requests[request_count++] = asked;
     return true;
+}
+
+/* Whether a word asks for a ledger. */
+static bool asks_ledger(const char *word)
+{
+    uint32_t bay;
+    int end = 0;
+    if (sscanf(word, "%" SCNu32 ":ledger%n", &bay, &end) != 1 || end == 0 || word[end] != '\0' || bay >= INTAKE_BAY_COUNT)
+        return false;
+    bays[bay].told = true;
+    return true;
+}
+
+/* Prints the year total of each farm that has one, and the ledger's. */
+static void tell_ledger(uint32_t bay)
+{
+    uint8_t ledger[INTAKE_LEDGER_LENGTH];
+    if (intake_box_ledger(box, sizeof box, bay, ledger, sizeof ledger) != INTAKE_ACCEPTED)
+        return;
+    for (unsigned farm = 0; farm < INTAKE_FARM_COUNT; farm++)
+        if (intake_ledger_farm(ledger, farm) != 0)
+            printf("%" PRIu32 " farm %u %" PRIu32 "\n", bay, farm, intake_ledger_farm(ledger, farm));
+    printf("%" PRIu32 " total %" PRIu32 "\n", bay, intake_ledger_total(ledger));
 }
 
 /* Whether a word asks for a recording, whose file is then there. */
@@ -164,7 +211,7 @@ int main(int argc, char **argv)
 {
     uint32_t count = 0;
     for (int i = 1; i < argc; i++) {
-        if (asks(argv[i]) || records(argv[i]))
+        if (asks(argv[i]) || asks_ledger(argv[i]) || records(argv[i]))
             continue;
         if (count == INTAKE_BAY_COUNT || !read_file(&bays[count], argv[i])) {
             fprintf(stderr, "%s: no run file, or more than %d\n", argv[i], INTAKE_BAY_COUNT);
@@ -173,7 +220,7 @@ int main(int argc, char **argv)
         admit(count++);
     }
     if (count == 0) {
-        fprintf(stderr, "usage: example_box RUN-FILE... [BAY:INSTANT:CALL:NAME...] [BAY:record:FILE...]\n");
+        fprintf(stderr, "usage: example_box RUN-FILE... [BAY:INSTANT:CALL:NAME...] [BAY:ledger...] [BAY:record:FILE...]\n");
         return EXIT_FAILURE;
     }
     for (bool any = true; any;) {
@@ -184,5 +231,8 @@ int main(int argc, char **argv)
                 any = true;
             }
     }
+    for (uint32_t bay = 0; bay < INTAKE_BAY_COUNT; bay++)
+        if (bays[bay].told)
+            tell_ledger(bay);
     return closed() ? EXIT_SUCCESS : EXIT_FAILURE;
 }

@@ -18,6 +18,7 @@ import example_test as examples  # pylint: disable=wrong-import-position
 
 ROOT = Path(__file__).resolve().parent.parent
 BAYS, LISTS = 8, 40
+NO_ROOM = "tour-slip.bin"  # a year has no room for its litres: its page shows it in a box
 RECORD = 37  # bytes; number, code, kind, place and emitted set of it stand here
 FIELDS = (0, 4), (8, 9), (9, 10), (10, 12), (12, 16)
 
@@ -48,7 +49,7 @@ def compare(host, files):
 def refused(host, files):
     """A sequence that is turned down leaves the others, and so does one above the shared ceiling."""
     name, _, listing = files[0]
-    for sequence, number in (b"\x0c", 3), (bytes.fromhex("080008010802080308040805") + 57 * b"\x06" + b"\0", 14):
+    for sequence, number in (b"\x0d", 3), (bytes.fromhex("080008010802080308040805") + 57 * b"\x06" + b"\0", 14):
         with tempfile.NamedTemporaryFile() as bad:
             bad.write(examples.run_file(sequence, 2))
             bad.flush()
@@ -57,7 +58,8 @@ def refused(host, files):
             examples.expect(first.startswith(f"1 refused {number}: "), f"{name} beside number {number}: {first}")
             examples.expect(rest == [f"0 {line}" for line in lines(listing)], f"{name} beside number {number}")
     ours = ROOT / "examples" / name
-    for words in [], [ours] * (BAYS + 1), [ROOT / "examples"], [ours, "8:record:x"], [ours, "0:record:/dev/full"]:
+    for words in ([], [ours] * (BAYS + 1), [ROOT / "examples"], [ours, "8:record:x"], [ours, "0:record:/dev/full"],
+                  [ours, "8:ledger"], [ours, "0:ledgers"]):
         examples.expect(run(host, [], *words).returncode == 1, f"{len(words)} words")
 
 
@@ -79,14 +81,18 @@ def recorded(recording, expected):
     examples.expect(bool(lines) and given == lines, f"the recording of {expected}: {given}")
 
 
-def drawn():
-    """What the pages show of a recording by tools/show."""
+def drawn(file):
+    """What the pages show of a recording by tools/show: how often."""
+    count = 0
     for page in sorted((ROOT / "examples").glob("*.md")):
         text = page.read_text(encoding="utf-8")
         for words, expected in re.findall(r"^    (tools/show [^\n]*--recording [^\n]*)\n\n```text\n(.*?)```", text, re.M | re.S):
+            if ROOT / words.split()[-1] != file:
+                continue
+            count += 1
             done = subprocess.run(words.split(), capture_output=True, text=True, check=False, cwd=ROOT)
             examples.expect(done.returncode == 0 and done.stdout == expected, f"{words}: {done.stdout}{done.stderr}")
-            yield words
+    return count
 
 
 def positions(host, commands):
@@ -99,7 +105,7 @@ def positions(host, commands):
         examples.expect(done.returncode == 0 and done.stdout == expected, f"{words}: {done.stdout}{done.stderr}")
         for file in kept:
             recorded(file.read_bytes(), expected)
-            examples.expect(len(list(drawn())) == 2, "what the pages show of a recording")
+            examples.expect(drawn(file) > 0, f"what the pages show of {file.name}")
         beside = subprocess.run([host, *words, words[0]], capture_output=True, text=True, check=False, cwd=ROOT)
         own = [line for line in beside.stdout.splitlines() if line.startswith("0 ")]
         other = [line[2:] for line in beside.stdout.splitlines() if line.startswith("1 ")]
@@ -109,9 +115,9 @@ def positions(host, commands):
 
 
 def main(hosts):
-    files = examples.documented()
+    files = [file for file in examples.documented() if file[0] != NO_ROOM]
     commands = shown()
-    examples.expect(len(commands) == 2, f"{len(commands)} commands of pages")
+    examples.expect(len(commands) == 5, f"{len(commands)} commands of pages")
     for host in hosts:
         rng = random.Random(1)
         for _ in range(LISTS):

@@ -77,9 +77,9 @@ def edges():
     yield "cut to 16 bytes", worked[:16], HEADER + "end\n"
     for over in range(1, 4):
         yield f"{over} bytes over", worked + bytes(over), CUT
-        yield f"{over} bytes over, and a bad sequence", run_file(b"\x0c") + bytes(over), CUT
-        yield f"{over} bytes of a set, and a bad sequence", run_file(b"\x0c")[: 3 + over], CUT
-    yield "no set, and a bad sequence", run_file(b"\x0c")[:3], CUT
+        yield f"{over} bytes over, and a bad sequence", run_file(b"\x0d") + bytes(over), CUT
+        yield f"{over} bytes of a set, and a bad sequence", run_file(b"\x0d")[: 3 + over], CUT
+    yield "no set, and a bad sequence", run_file(b"\x0d")[:3], CUT
     yield "no set, and no sequence", run_file(b"")[:2], CUT
     yield "one instant of two", worked[:-4], WORKED.replace(WORKED.splitlines(True)[2], "")
     yield "more instants than are used", worked + bytes(8), WORKED
@@ -101,13 +101,16 @@ def edges():
     yield "length 65,535", run_file(bytes(65530), length=65535), CUT
     yield "length over what is there", run_file(sustain, 0, 7), CUT
     yield "length over what is there, by the set", run_file(sustain, 0, 10), CUT
-    for number, sequence in enumerate(["0c", "02", "0220", "06" * 64 + "00", "0000", "0501000100", "0a00",
+    for number, sequence in enumerate(["0d", "02", "0220", "06" * 64 + "00", "0000", "0501000100", "0a00",
                                        "04010104050a0201030102"], 3):
         yield f"row {number}", run_file(bytes.fromhex(sequence), 1), f"refused {number}\n"
+    yield "row 18", run_file(bytes.fromhex("0c0000000080"), 1), "refused 18\n"
+    yield "16,777,216 litres twice in an instant", run_file(bytes.fromhex("04 0c1f0000804b 0c1f0000804b"), 1), (
+        HEADER + f"1 0 0 0 80000000 {NONE}\nend\n")
     yield "row 6 by the set", run_file(bytes.fromhex("080000"), 1, read_back=0x3F), "refused 6\n"
     yield "row 6 by the highest byte of the set", run_file(b"\0", 1, read_back=0xFE000000), "refused 6\n"
     yield "row 6 by the set before 7", run_file(b"\0\0", 1, read_back=0x7F), "refused 6\n"
-    yield "row 3 before row 6 by the set", run_file(b"\x0c", 1, read_back=0x7F), "refused 3\n"
+    yield "row 3 before row 6 by the set", run_file(b"\x0d", 1, read_back=0x7F), "refused 3\n"
     opens = bytes.fromhex("060402080407080209000100")  # loop (emit 8; (present 8 then emit 9 else nothing); pause 0)
     for set_of, emitted in (0x100, "00000300"), (0, "00000100"), (0x300, "00000300"), (1, "00000100"):
         yield f"valve open, reads {set_of:x}", run_file(opens, 2, read_back=set_of), (

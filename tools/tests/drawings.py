@@ -87,7 +87,7 @@ def names_of(page):
 def test_names_of_examples():
     """Those of the pages; with them the runs show what they show without."""
     files = sorted((ROOT / "examples").glob("*.names"))
-    expect([path.stem for path in files] == ["clean", "hatch", "intake", "valve"], f"files of names: {files}")
+    expect([path.stem for path in files] == ["clean", "hatch", "intake", "tour", "valve"], f"files of names: {files}")
     for name, data, _, listing in examples():
         path = ROOT / "examples" / f"{name.partition('.')[0].partition('-')[0]}.names"
         if path.exists():
