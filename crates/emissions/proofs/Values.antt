@@ -62,7 +62,7 @@ module _ {L : (base a : ℕ) → List ℕ → Esterel.Statement → Type 0} {t :
       let m : leNumber (bytesAt 2 4 bs) ≡ numberAt 2 4 bs = ap leNumber (bytes-taken 4 2 bs (omega (arith, b .there))) in
       let w : T (whole (floatIn (bytesAt 2 4 bs)))
       = holds (inUnsigned binary32 32 (floatIn (bytesAt 2 4 bs))) (and-eq-true-iff (areBytes (bytesAt 2 4 bs)) (inUnsigned binary32 32 (floatIn (bytesAt 2 4 bs))) .0 (b .fit) .1) in (
-        record { there = omega (arith, b .there); fit = λ h. subst (λ (x : ℕ). T (whole (ofBits binary32 x))) m w },
+        record { there = omega (arith, b .there); fit = λ h. (omega (arith, b .there), subst (λ (x : ℕ). T (whole (ofBits binary32 x))) m w) },
         b .parts ∙ ap (λ (x : ℕ). Esterel.emit (getD bs 1 0) (Esterel.litres (litres (ofBits binary32 x)))) m
             ∙ ap (λ (v : Value). Esterel.emit (getD bs 1 0) (meant v)) (with-litres bs refl e),
       )

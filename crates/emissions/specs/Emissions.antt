@@ -34,4 +34,4 @@ Whole (Litres x) = T (whole x)
 -- an emission's bytes: its signal is there, and so are the litres of a 0C, which are such a number
 pub record Emission (bs : List ℕ) : Type 0 where
   pub there : 2 ≤ length bs
-  pub fit : getD bs 0 0 ≡ 12 → T (whole (ofBits binary32 (numberAt 2 4 bs)))
+  pub fit : getD bs 0 0 ≡ 12 → (6 ≤ length bs) × T (whole (ofBits binary32 (numberAt 2 4 bs)))

@@ -22,7 +22,7 @@ pub fn carried(s: &[u8]) -> Value
     ensures { λ r. ⌜ (r ≡ valueIn (now (s .entry))) × Whole r ⌝ }
 {
     if s[0] == 12 {
-        Value::Litres(f32::from_bits(numbers::get_le(s, 2, 4) as u32))
+        Value::Litres(f32::from_bits(litres::bits(s, 2)))
     } else {
         Value::Pure
     }

@@ -27,6 +27,10 @@ are-bytes : (n i : ℕ) (s : List ℕ) → ((k : ℕ) → getD s k 0 < 256) → 
 are-bytes zero i s h = refl
 are-bytes (suc n) i s h = rw (lt-ltb (getD s i 0) 256 (h i), are-bytes n (suc i) s h)
 
+-- a command with more than one operand byte has litres behind its signal
+pub litres-there : (s : List ℕ) (c : Command) → 2 ≤ operandCount c → width c ≤ length s → 2 + 4 ≤ length s
+litres-there s c more long = subst (λ (d : Command). width d ≤ length s) (many c more) long
+
 module _ (s : List ℕ) (c : Command) (byte : commandOf (getD s 0 0) ≡ some c) where
   pub short : 0 < length s → length s < width c → 4 * rowUnit ≡ headOf (front s)
   short n l = heads s _ (Fronts.short c n byte l)

@@ -26,7 +26,7 @@ pub fn front(s: &[u8]) -> usize
                 if n == 1 {
                     return 2;
                 }
-                if litres::is_whole(numbers::get_le(s, 2, 4) as u32) {
+                if litres::is_whole(litres::bits(s, 2)) {
                     6
                 } else {
                     18 * layout::ROW_UNIT

@@ -1,5 +1,8 @@
 // Litres as single-precision numbers (02, item 12): a whole number up to 16,777,216 as its 32 bits.
 ghost use mathlib.Core.Path.{_≡_};
+ghost use Prim.Native.Nat.{_+_, _≤_};
+ghost use lib.ListN.{length};
+ghost use Rattle.numbers.specs.Bytes.{numberAt};
 ghost use lib.Dec.{T};
 ghost use lib.Ieee.{binary32, ofBits};
 ghost use Rattle.litres.specs.Litres.{whole, litres};
@@ -24,4 +27,13 @@ pub fn litres_of(v: u32) -> u32
     ensures { λ r. ⌜ r ≡ litres (ofBits binary32 v) ⌝ }
 {
     f32::from_bits(v) as u32
+}
+
+// The four bytes at an offset as a pattern, lowest first. Written out, so that it is one load.
+pub fn bits(s: &[u8], at: usize) -> u32
+    requires { ⌜ at + 4 ≤ length (now s) ⌝ }
+    ensures { λ r. ⌜ r ≡ numberAt at 4 (now (s .entry)) ⌝ }
+{
+    let low = s[at] as u32 + 256 * s[at + 1] as u32;
+    low + 65536 * s[at + 2] as u32 + 16777216 * s[at + 3] as u32
 }

@@ -12,19 +12,16 @@ use Rattle.emissions.proofs.carried.Tie as tie
 shared-slice-read-if1 : tie.Need-shared-slice-read-if1
 shared-slice-read-if1 c = search needs
 
-get-le-requires : tie.Need-get-le-requires
-get-le-requires c κs = search needs
+bits-requires : tie.Need-bits-requires
+bits-requires c κs = c .before .before .before .pre .fit (c .if1 .taken) .0
 
-cast-t7 : tie.Need-cast-t7
-cast-t7 c = search needs
-
-float-from-bits-t8 : tie.Need-float-from-bits-t8
-float-from-bits-t8 c = whole-pattern _ (subst (λ (x : ℕ). T (whole (ofBits binary32 x))) (sym (c .get-le .ensures .0)) (c .before .before .before .before .pre .fit (c .before .if1 .taken)))
+float-from-bits-t7 : tie.Need-float-from-bits-t7
+float-from-bits-t7 c = whole-pattern _ (subst (λ (x : ℕ). T (whole (ofBits binary32 x))) (sym (c .bits .ensures)) (c .before .before .before .before .pre .fit (c .before .if1 .taken) .1))
 
 returns : tie.Need-returns
 returns c = (
-  with-litres (c .before .before .before .before .args .s .now) (c .get-le .ensures .0) (c .before .if1 .taken),
-  subst (λ (x : ℕ). T (whole (ofBits binary32 x))) (sym (c .get-le .ensures .0)) (c .before .before .before .before .pre .fit (c .before .if1 .taken)),
+  with-litres (c .before .before .before .before .args .s .now) (c .bits .ensures) (c .before .if1 .taken),
+  subst (λ (x : ℕ). T (whole (ofBits binary32 x))) (sym (c .bits .ensures)) (c .before .before .before .before .pre .fit (c .before .if1 .taken) .1),
 )
 
 returns-2 : tie.Need-returns-2
@@ -33,4 +30,4 @@ returns-2 c = (without (c .before .before .before .args .s .now) (c .if1 .left),
 pub carried-spec : {M : Type 1} → statement M
 carried-spec =
     tie.close
-    (tie.spec shared-slice-read-if1 get-le-requires cast-t7 float-from-bits-t8 returns returns-2)
+    (tie.spec shared-slice-read-if1 bits-requires float-from-bits-t7 returns returns-2)

@@ -6,7 +6,7 @@ use Rattle.sequence.specs.Commands.{commandOf, operandCount, width}
 use Rattle.sequence.proofs.Table.{unnamed}
 use Rattle.sequence.proofs.Front.{Fronts}
 use Rattle.commands.proofs.Counts.{of-command, of-none, operand-of}
-use Rattle.heads.proofs.Fronting.{heads, short, bare, outside, one, five, unfit}
+use Rattle.heads.proofs.Fronting.{heads, litres-there, short, bare, outside, one, five, unfit}
 use borrow.Author.Needs.{needs}
 use Rattle.heads.proofs.front.Statement.{statement}
 use Rattle.heads.proofs.front.Tie as tie
@@ -72,11 +72,12 @@ returns-4 c =
     let long : width (g .0) ≤ length s = omega (arith, e, m) in
     one s (g .0) (g .1 .0) some long (λ xs. c .before .before .in-range .ensures ∙ operand-of (g .0) _ (g .1 .0) some xs) (sym (g .1 .1) ∙ c .if5 .taken) (c .before .if4 .taken)
 
-get-le-requires : tie.Need-get-le-requires
-get-le-requires c κs = search needs
-
-cast-is-whole : tie.Need-cast-is-whole
-cast-is-whole c = search needs
+bits-requires : tie.Need-bits-requires
+bits-requires c κs =
+    let s = c .before .before .before .before .before .before .before .before .before .before .before .before .before .args .s .now in
+    let g = of-command operandCount (commandOf (getD s 0 0)) (c .before .before .before .before .before .before .before .n .given .0 .0) (sym (c .before .before .before .before .before .before .before .n .given .1) ∙ c .before .before .before .before .before .before .before .before .before .operand-count .ensures) in
+    let e = g .1 .1 in
+    litres-there s (g .0) (omega (arith, e, c .before .before .before .before .before .if2 .left, c .if5 .left)) (omega (arith, e, c .before .before .before .before .if3 .left))
 
 is-whole-requires : tie.Need-is-whole-requires
 is-whole-requires c κs = search needs
@@ -104,7 +105,7 @@ returns-6 c =
     let long : width (g .0) ≤ length s = omega (arith, e, m) in
     let o = c .before .before .before .if5 .left in
     five s (g .0) (g .1 .0) some long (λ xs. c .before .before .before .before .before .in-range .ensures ∙ operand-of (g .0) _ (g .1 .0) some xs) (omega (arith, e, z, o)) (λ k. let b = c .before .before .before .before .before .before .shared-slice-known3 .given k in omega (arith, b))
-    (c .before .before .get-le .ensures .0) (c .before .is-whole .ensures) (c .before .before .before .before .if4 .taken) (c .if6 .taken)
+    (c .before .before .bits .ensures) (c .before .is-whole .ensures) (c .before .before .before .before .if4 .taken) (c .if6 .taken)
 
 returns-7 : tie.Need-returns-7
 returns-7 c =
@@ -117,7 +118,7 @@ returns-7 c =
     let long : width (g .0) ≤ length s = omega (arith, e, m) in
     let o = c .before .before .before .if5 .left in
     unfit s (g .0) (g .1 .0) some long (λ xs. c .before .before .before .before .before .in-range .ensures ∙ operand-of (g .0) _ (g .1 .0) some xs) (omega (arith, e, z, o)) (λ k. let b = c .before .before .before .before .before .before .shared-slice-known3 .given k in omega (arith, b))
-    (c .before .before .get-le .ensures .0) (c .before .is-whole .ensures) (c .before .before .before .before .if4 .taken) (c .if6 .left)
+    (c .before .before .bits .ensures) (c .before .is-whole .ensures) (c .before .before .before .before .if4 .taken) (c .if6 .left)
 
 returns-8 : tie.Need-returns-8
 returns-8 c =
@@ -148,8 +149,7 @@ front-spec =
     shared-slice-read-in-range
     in-range-requires
     returns-4
-    get-le-requires
-    cast-is-whole
+    bits-requires
     is-whole-requires
     mul-result-4
     mul-result-5
