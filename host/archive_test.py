@@ -15,7 +15,7 @@ static const unsigned char counts[12] = {0, 1, 1, 1, 0, 0, 0, 1, 1, 0, 1, 1};
 unsigned char count(unsigned char b) { return b < 12 ? counts[b] : 255; }
 """
 ENTRY = 4  # bytes of an entry: R_X86_64_PC32
-OPERANDS = 64  # bytes of operands that the archive may have
+OPERANDS = 256  # bytes of operands that the archive may have
 
 
 def printed(*words):
