@@ -46,14 +46,11 @@ abbrev returns : List Line
 returns =
     plain (restored 0 1) 0
     ∷ line (ticked 0) 0 1
-    ∷ line (ticked 0) 0 0
     ∷ plain (restored 0 1) 0
     ∷ plain (restored 0 2) 0
     ∷ line (ticked 0) 0 0
     ∷ plain (restored 0 1) 0
     ∷ plain (saved 0 2) 0
-    ∷ line (ticked 0) 0 1
-    ∷ line (ticked 0) 0 0
     ∷ plain (restored 0 2) 0
     ∷ line (ticked 0) 0 1
     ∷ []
