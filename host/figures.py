@@ -24,7 +24,7 @@ VECTOR = set("""movaps movups movapd movupd movdqa movdqu movd movq movss movsd 
     paddd paddq psubb psubw psubd psubq pcmpeqb pcmpeqw pcmpeqd pcmpgtb pcmpgtw pcmpgtd pslldq psrldq psllq psllw pslld psrlq
     psrlw psrld psraw psrad pshufd pshufhw pshuflw punpcklbw punpcklwd punpckldq punpcklqdq punpckhbw punpckhwd punpckhdq punpckhqdq
     pmovmskb movmskps movhlps movlhps shufps shufpd unpcklps unpcklpd addss addps subss mulss ucomiss comiss cmpss andnps cvttss2si
-    cvtsi2ss cvtsi2ssl cvtsi2ssq cvtdq2ps cvttps2dq pmaxub pminub pmaxsw pminsw""".split())
+    cvtsi2ss cvtsi2ssl cvtsi2ssq cvtdq2ps cvttps2dq pmaxub pminub pmaxsw pminsw pextrw pinsrw""".split())
 STEP = 1024  # a promise is the next multiple above what is measured
 CONTROL = """
 #include <stdlib.h>

@@ -28,12 +28,12 @@
  * own functions take.
  */
 #define INTAKE_STACK_CHECK 24576
-#define INTAKE_STACK_TICK 24576
-#define INTAKE_STACK_BOX 24576
+#define INTAKE_STACK_TICK 28672
+#define INTAKE_STACK_BOX 28672
 #define INTAKE_STACK_THREAD 32768
 
 /* Bytes of code and jump tables in the archive, rounded up. */
-#define INTAKE_CODE_LENGTH 18432
+#define INTAKE_CODE_LENGTH 28672
 
 /* A function of this header that needs nothing of the archive. */
 #if defined(__cplusplus) || (defined(__STDC_VERSION__) && __STDC_VERSION__ >= 199901L)
