@@ -1,0 +1,32 @@
+-- What is said of a call that gave 0 (02, item 13).
+use Prim.Native.Nat.{ℕ}
+use mathlib.Core.Path.{_≡_}
+use mathlib.Core.Bool.{false}
+use mathlib.Core.List.{List}
+use lib.ListN.{take, drop}
+use Rattle.esterel.specs.Statement.{Statement}
+use Rattle.esterel.specs.Machines.{State, byLabels}
+use Rattle.sequence.specs.Writer.{bytesOf, size}
+use Rattle.sequence.specs.Program.{program}
+use Rattle.sequence.specs.Check.{checkOf}
+use Rattle.sequence.specs.Rows.{Spells}
+use Rattle.demands.specs.Tick.{tickOf}
+use Rattle.unrolled.specs.Unrolled.{unrolled, resultOf}
+use Rattle.unrolled.specs.Runs.{SameUntilWrong, SameLitresUntilWrong, showsWrong}
+use Rattle.unrolled.specs.Entries.{Counting, OneRun, AtMostOnce}
+
+-- the result's length is n, and the buffer `out` afterwards
+pub record Written (sequence : List ℕ) (readBack : ℕ) (buffer : List ℕ) (n : ℕ) (out : List ℕ) : Type 0 where
+  -- the buffer begins with the bytes of p worked through, and the length is theirs
+  pub bytes : (p : Statement) → Spells sequence p → (take n out ≡ bytesOf (unrolled p)) × (n ≡ size (unrolled p))
+  -- 'those after it keep their values'
+  pub behind : drop n out ≡ drop n buffer
+  -- the result is accepted with the original's read-back set, and its places are its own offsets
+  pub accepted : checkOf (take n out) readBack ≡ 0
+  pub spelled : (p : Statement) → Spells sequence p → Spells (take n out) (resultOf p)
+  -- 'up to the last instant before its run is wrong, both .. emit the same and have the same codes and labels'
+  pub same : SameUntilWrong tickOf sequence (take n out) readBack
+  pub same-litres : SameLitresUntilWrong sequence (take n out) readBack
+  -- 'can't enter a body twice in an instant': from any state, in an instant that is not wrong
+  pub once : (q : Statement) → Spells (take n out) q → (c : Counting) → OneRun c → (s : State) (e : ℕ)
+      → showsWrong (byLabels (program readBack q) s e .0) ≡ false → AtMostOnce c (program readBack q) s e

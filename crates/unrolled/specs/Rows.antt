@@ -1,0 +1,27 @@
+-- The rows of the call as propositions, in 02's words (item 13).
+use Prim.Native.Nat.{ℕ, _≤_, _<_}
+use mathlib.Core.Logic.{_⊎_, _≢_}
+use mathlib.Core.List.{List}
+use lib.ListN.{length}
+use Rattle.esterel.specs.Statement.{Statement}
+use Rattle.esterel.specs.States.{NoSetpause}
+use Rattle.limits.specs.Limits.{maxBytes, maxDepth}
+use Rattle.sequence.specs.Writer.{size, depthOf}
+use Rattle.sequence.specs.Rows.{Spells, Row}
+use Rattle.unrolled.specs.Unrolled.{unrolled}
+
+pub data UnrollRow (sequence : List ℕ) (readBack : ℕ) (buffer : List ℕ) : (number : ℕ) → Type 0 where
+  -- 'another buffer length'
+  row-1 : length buffer ≢ maxBytes → UnrollRow sequence readBack buffer 1
+  -- 'the original's own check'
+  row-2-to-10 : {number : ℕ} → Row sequence readBack number → UnrollRow sequence readBack buffer number
+  -- 'it has a setpause'
+  row-20 : {p : Statement} → Spells sequence p → ¬ NoSetpause p → UnrollRow sequence readBack buffer 20
+  -- 'the result passes 1,024 bytes or depth 64'
+  row-21 : {p : Statement} → Spells sequence p → (maxBytes < size (unrolled p)) ⊎ (maxDepth < depthOf (unrolled p))
+      → UnrollRow sequence readBack buffer 21
+
+-- the result passes neither
+pub record Fits (p : Statement) : Type 0 where
+  pub short : size (unrolled p) ≤ maxBytes
+  pub shallow : depthOf (unrolled p) ≤ maxDepth
