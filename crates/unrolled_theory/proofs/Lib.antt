@@ -1,0 +1,13 @@
+pub mod Forms
+pub mod Alike
+pub mod Marked
+pub mod Once
+pub mod Resumed
+pub mod Labels
+pub mod Runs
+pub mod Spelled
+pub mod Ticks
+pub mod Printed
+pub mod Rows
+pub mod Results
+pub mod Theorems
