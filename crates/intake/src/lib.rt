@@ -1,4 +1,4 @@
-// What hosts in C call: the check, the tick, and the calls of a box of bays (02, items 8 to 10).
+// What hosts in C call: the check, the tick, the calls of a box of bays (02, items 8 to 12), and the writing out of loops (02, item 13).
 ghost use mathlib.Core.Path.{_≡_};
 ghost use mathlib.Core.List.{[], _∷_};
 ghost use Rattle.sequence.specs.Check.{checkOf};
@@ -6,6 +6,7 @@ ghost use Rattle.demands.specs.Demands.{TickMeets};
 ghost use Rattle.box_calls.specs.Called.{called};
 ghost use Rattle.box_calls.specs.Stretch.{terms};
 ghost use Rattle.box_calls.specs.Box.{admit, release, tick, save, restore, forget, service, panel, preview, ledger, newYear, callOf};
+ghost use Rattle.unrolled.specs.Call.{unrolling, unrollOf};
 use answers::ANSWER_LENGTH;
 use instants::Reply;
 use layout::Seconds;
@@ -156,4 +157,20 @@ pub extern "C" fn intake_box_new_year(memory: &mut [u8], bay: u32) -> u8
     ensures { λ r. ⌜ called r (now (memory .exit)) [] ≡ callOf (now (memory .entry)) bay newYear ⌝ }
 {
     boxes::new_year(memory, bay)
+}
+
+// The sequence with its loops written out: 0 and its length, or the number of the row that turns the call down and 0.
+#[no_mangle]
+pub extern "C" fn intake_unroll(
+    sequence: &[u8],
+    read_back: u32,
+    result: &mut [u8],
+    result_length: &mut usize,
+) -> u8
+    ensures { λ r. ⌜ unrolling r (now («result_length» .exit)) (now (result .exit))
+        ≡ unrollOf (now (sequence .entry)) «read_back» (now (result .entry)) ⌝ }
+{
+    let w = unrolling::unroll(sequence, read_back, result);
+    *result_length = w.count;
+    w.number
 }
