@@ -2,7 +2,7 @@
 ghost use Prim.Native.Nat.{_<_};
 ghost use mathlib.Core.Path.{_≡_};
 ghost use lib.ListN.{drop};
-ghost use Rattle.runs.specs.File.{sequenceLength, inputsAt, sequenceIn, readBackIn, inputsIn, first, whole};
+ghost use Rattle.runs.specs.File.{sequenceLength, readBackAt, inputsAt, sequenceIn, readBackIn, inputsIn, first, whole};
 ghost use Rattle.files.specs.Answers.{inputBy};
 use limits::SIGNAL_BYTES;
 
@@ -37,6 +37,14 @@ pub fn read_back(file: &[u8]) -> u32
 {
     let at = LENGTH_BYTES + sequence_length(file);
     numbers::get_le(file, at, SIGNAL_BYTES) as u32
+}
+
+// What stands behind the sequence: the read-back set and the inputs.
+pub fn behind_sequence(file: &[u8]) -> &[u8]
+    ensures { λ r. ⌜ now r ≡ drop (readBackAt (now (file .entry))) (now (file .entry)) ⌝ }
+{
+    let at = LENGTH_BYTES + sequence_length(file);
+    numbers::part(file, at, file.len())
 }
 
 // Where the inputs begin, behind the read-back set.
