@@ -5,8 +5,8 @@
  *
  * - Target: x86-64, System V calling convention, ELF; instructions of the base set, which has SSE2. There is no other today.
  * - Functions of C: memset
- * - Stack: INTAKE_STACK_CHECK, INTAKE_STACK_TICK and INTAKE_STACK_BOX bytes below the caller's frame at the greatest depth,
- *   as measured.
+ * - Stack: INTAKE_STACK_CHECK, INTAKE_STACK_TICK, INTAKE_STACK_BOX and INTAKE_STACK_UNROLL bytes below the caller's frame at
+ *   the greatest depth, as measured.
  * - Code and jump tables: INTAKE_CODE_LENGTH bytes at most. No heap, no variable outside the stack, no other file.
  * - Dearest instant found: 5.5 ms, 1,061,695 reactions (Intel Xeon, family 6 model 207, 2.3 GHz; make bench-tick)
  */
@@ -18,18 +18,19 @@
 
 /* The version of this interface. The first number moves when a host must change. */
 #define INTAKE_VERSION_MAJOR 2
-#define INTAKE_VERSION_MINOR 2
+#define INTAKE_VERSION_MINOR 3
 #define INTAKE_VERSION_PATCH 0
 #define INTAKE_VERSION (INTAKE_VERSION_MAJOR * 10000 + INTAKE_VERSION_MINOR * 100 + INTAKE_VERSION_PATCH)
 
 /*
- * Bytes of stack that a call takes at most, the last one each call on a box, measured at depth 64 by painting and rounded
+ * Bytes of stack that a call takes at most, the third one each call on a box, measured at depth 64 by painting and rounded
  * up; and what to give a thread of Linux that only ticks, with room for the system's own data there. A host adds what its
  * own functions take.
  */
 #define INTAKE_STACK_CHECK 24576
 #define INTAKE_STACK_TICK 28672
 #define INTAKE_STACK_BOX 28672
+#define INTAKE_STACK_UNROLL 24576
 #define INTAKE_STACK_THREAD 32768
 
 /* Bytes of code and jump tables in the archive, rounded up. */
@@ -53,11 +54,11 @@ extern "C" {
  * tick 1 to 12 and 18; of several rows that hold, the lowest, but rows 3, 4, 5, 18 and 6 go command by command from the
  * left, and at one command in this order. Row 6 by the read-back set comes after them, once the whole statement was read,
  * and before row 7. The calls on a box give 13 to 17 and 19 too: 13 before all others, 14 after row 10, 15 before 16, 17
- * after row 12, and 19 last of all.
+ * after row 12, and 19 last of all. intake_unroll gives 1, then those of the check, then 20, then 21.
  */
 enum intake_number {
     INTAKE_ACCEPTED = 0,                /* accepted */
-    INTAKE_BUFFER_LENGTH = 1,           /* buffer not of its length: state 17, answer 12, record 37, panel 13, preview 10, ledger 132, box 12,184 */
+    INTAKE_BUFFER_LENGTH = 1,           /* buffer not of its length: state 17, answer 12, record 37, panel 13, preview 10, ledger 132, result 1,024, box 12,184 */
     INTAKE_SEQUENCE_LENGTH = 2,         /* sequence of no bytes or over 1,024 */
     INTAKE_UNKNOWN_COMMAND = 3,         /* command byte above 0C */
     INTAKE_CUT_SHORT = 4,               /* operand or statement missing at the end */
@@ -75,7 +76,9 @@ enum intake_number {
     INTAKE_POSITIONS_FULL = 16,         /* seventeenth name of a position */
     INTAKE_SEVENTH_UNKNOWN = 17,        /* seventh input of unknown status in a preview */
     INTAKE_BAD_LITRES = 18,             /* litres not whole, below 0, minus zero or above 16,777,216 */
-    INTAKE_ABOVE_FARM_LIMIT = 19        /* the total of a farm and its litres would pass 16,777,216 */
+    INTAKE_ABOVE_FARM_LIMIT = 19,       /* the total of a farm and its litres would pass 16,777,216 */
+    INTAKE_HAS_SETPAUSE = 20,           /* original with a setpause, whose loops are not written out */
+    INTAKE_RESULT_TOO_LARGE = 21        /* result with its loops written out of over 1,024 bytes or depth 64 */
 };
 
 /*
@@ -262,6 +265,39 @@ uint8_t intake_check(const uint8_t *sequence, size_t length, uint32_t read_back)
  */
 uint8_t intake_tick(const uint8_t *sequence, size_t sequence_length, uint8_t *state, size_t state_length,
                     uint32_t input, uint32_t read_back, uint8_t *answer, size_t answer_length);
+
+/*
+ * Loops written out. A panel of logic cells cannot enter the body of a loop twice in one instant, as a loop does whose body
+ * ends and begins again. This call writes a sequence that never does: each loop p becomes a loop over a copy of p, followed
+ * by p itself with its own loops written out; in the copy pauses are setpauses and loops are their bodies, so that a round
+ * begins in the copy and is resumed in p.
+ *
+ *     uint8_t result[INTAKE_RESULT_LENGTH];
+ *     size_t result_length;
+ *     uint8_t number = intake_unroll(sequence, length, read_back, result, sizeof result, &result_length);
+ *     if (number == INTAKE_ACCEPTED)
+ *         result[0] to result[result_length - 1] is the sequence for the panel
+ *
+ * Up to the last instant before the original's run is wrong, both, started with a cleared state record on the same inputs
+ * and with the same read-back set, have the same numbers, codes, emitted sets and state records, and in a bay the same
+ * litres; the number of reactions differs. In an instant of the result that is not wrong no command reacts twice, of each
+ * signal one run counted. A wrong instant of the original need not be one of the result: an error of a loop inside a loop is
+ * not in the copy. The places of the result are its own offsets. The result is accepted with the same read-back set.
+ *
+ * The numbers are INTAKE_BUFFER_LENGTH for a buffer that has not INTAKE_RESULT_LENGTH bytes, then those of intake_check, then
+ * INTAKE_HAS_SETPAUSE, then INTAKE_RESULT_TOO_LARGE exactly if the result would be longer than INTAKE_RESULT_LENGTH bytes or
+ * deeper than 64. The length of the result is 0 after each of them, and then every byte of the buffer keeps its value; else
+ * the bytes behind the result do.
+ *
+ * The caller must see to it that sequence, buffer and length share no byte, that the sequence is readable and the other two
+ * readable and writable, and that nobody else uses them during the call. A buffer of length 0 may be a null pointer, the
+ * length may not. Every value of the bytes and every length is allowed. The call reads and writes no byte outside, keeps
+ * nothing and always returns.
+ */
+#define INTAKE_RESULT_LENGTH 1024
+
+uint8_t intake_unroll(const uint8_t *sequence, size_t sequence_length, uint32_t read_back, uint8_t *result,
+                      size_t buffer_length, size_t *result_length);
 
 /*
  * A box holds the machines of up to INTAKE_BAY_COUNT bays, numbered from 0, each with its own sequence, read-back set,
@@ -599,6 +635,8 @@ INTAKE_INLINE const char *intake_text(unsigned number)
     case INTAKE_SEVENTH_UNKNOWN: return "a preview takes at most six inputs of unknown status";
     case INTAKE_BAD_LITRES: return "litres that are not a whole number from 0 to 16,777,216";
     case INTAKE_ABOVE_FARM_LIMIT: return "the year total of a farm would pass 16,777,216 litres";
+    case INTAKE_HAS_SETPAUSE: return "the sequence has a setpause, so its loops are not written out";
+    case INTAKE_RESULT_TOO_LARGE: return "with its loops written out the sequence has over 1,024 bytes, or is over 64 deep";
     default: return "no number of a call";
     }
 }
