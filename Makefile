@@ -1,7 +1,9 @@
 # INTAKE_ARCHIVE and RUN_PROGRAM name another archive or run program to test or time than the proved one, from the root
-# of the repository. BAY names the run file of `make run`, `make show` and `make paper`, NAMES a file of names for the last two.
+# of the repository. BAY names the run file of `make run`, `make show`, `make paper` and `make unroll`, NAMES a file of names for
+# the last three.
 INTAKE_ARCHIVE ?= target/staticlib/libintake.a
 RUN_PROGRAM ?= target/bin/run
+UNROLL_PROGRAM ?= target/bin/unroll
 BAY ?= examples/intake.bin
 NAMED = $(if $(NAMES),--names '$(NAMES)')
 
@@ -21,12 +23,12 @@ SOURCES := crates.txt $(shell find crates -name '*.rt' -o -name '*.antt')
 PREFIX ?= /usr/local
 VERSION = $(shell sed -n 's/^\#define INTAKE_VERSION_[A-Z]* \([0-9]*\)$$/\1/p' include/intake.h | paste -sd .)
 
-HOST_TESTS = host-rust host-c host-tick-rust host-tick-c host-box-rust host-box-c host-example host-example-box host-stack \
-	host-archive host-freestanding host-header host-install host-again figures
+HOST_TESTS = host-rust host-c host-tick-rust host-tick-c host-box-rust host-box-c host-unroll-rust host-unroll-c host-example \
+	host-example-box host-stack host-archive host-freestanding host-header host-install host-again figures
 
 # The two programs are built anew for whatever archive is named.
-.PHONY: help run show paper vectors-diff test lib install certificate host $(HOST_TESTS) host-plain show-test format-test \
-	certificate-test bench bench-check bench-tick bench-box bench-run target/host/stack target/host/dearest
+.PHONY: help run show paper unroll vectors-diff test lib install certificate host $(HOST_TESTS) host-plain show-test format-test \
+	certificate-test bench bench-check bench-tick bench-box bench-unroll bench-run target/host/stack target/host/dearest
 
 help: # lists the targets
 	@sed -n 's/^\([a-z-]*\):[^#]*# /\1: /p' Makefile
@@ -39,6 +41,9 @@ show: $(RUN_PROGRAM) # shows the commands and the run of a shipped example; BAY 
 
 paper: $(RUN_PROGRAM) # shows that run on paper, by rewriting, and compares it with the listing; BAY as above
 	@$(RUN_PROGRAM) < '$(BAY)' | tools/show --paper $(NAMED) --listing - '$(BAY)'
+
+unroll: $(UNROLL_PROGRAM) # shows the commands of a shipped example, and those with its loops written out beside them; BAY as above
+	@$(UNROLL_PROGRAM) < '$(BAY)' | tools/show $(NAMED) --unrolled - '$(BAY)'
 
 vectors-diff: # shows each line that the vectors, as built last, print otherwise than crates/vectors/stdout has it
 	@target/bin/vectors < crates/vectors/stdin | diff -U 1 -F '^[^ ]' --label expected --label printed crates/vectors/stdout -
@@ -82,6 +87,13 @@ host-box-rust: $(INTAKE_ARCHIVE) # compares the archive's calls on a box with a 
 host-box-c: $(INTAKE_ARCHIVE) # runs calls on a box through include/intake.h under sanitizers
 	@mkdir -p target/host
 	$(SANITIZED) -Iinclude host/box.c $(INTAKE_ARCHIVE) -o target/host/box && target/host/box host/examples.txt
+
+host-unroll-rust: $(INTAKE_ARCHIVE) # compares the archive's loops written out with those on an explicit tree, and runs both
+	$(CARGO) host/unroll/Cargo.toml
+
+host-unroll-c: $(INTAKE_ARCHIVE) # writes loops out through include/intake.h under sanitizers
+	@mkdir -p target/host
+	$(SANITIZED) -Iinclude host/unroll.c $(INTAKE_ARCHIVE) -o target/host/unroll && target/host/unroll host/unrolls.txt
 
 host-example: $(INTAKE_ARCHIVE) $(RUN_PROGRAM) # compares the example host with the run program
 	@mkdir -p target/host
@@ -130,7 +142,8 @@ host-archive: $(INTAKE_ARCHIVE) # shows the read-only data of the archive: jump 
 	host/archive_test.py $(INTAKE_ARCHIVE)
 
 host-plain: target/plain/libintake.a # runs the host tests against plain C, with which the benchmarks compare
-	$(MAKE) host-rust host-c host-tick-rust host-tick-c host-box-rust host-box-c INTAKE_ARCHIVE=target/plain/libintake.a
+	$(MAKE) host-rust host-c host-tick-rust host-tick-c host-box-rust host-box-c host-unroll-rust host-unroll-c \
+		INTAKE_ARCHIVE=target/plain/libintake.a
 
 show-test: # tests tools/show and tools/runfile
 	tools/test_show.py
@@ -138,7 +151,7 @@ show-test: # tests tools/show and tools/runfile
 format-test: # holds the tables of docs/FORMAT.md, and what CONTRIBUTING.md quotes, to what they repeat
 	tools/test_format.py
 
-bench: bench-check bench-tick bench-box # times the check, the tick and the calls on a box against plain C
+bench: bench-check bench-tick bench-box bench-unroll # times all of it against plain C
 
 bench-check: $(INTAKE_ARCHIVE) # times the check
 	@mkdir -p target/bench
@@ -154,6 +167,12 @@ bench-box: $(INTAKE_ARCHIVE) # times the tick of a bay against intake_tick, and 
 	@mkdir -p target/bench
 	$(TIMED) -Iinclude bench/box.c bench/plain.c bench/plain_box.c $(INTAKE_ARCHIVE) -lm -o target/bench/box
 	@target/bench/box $(BAYS)
+
+# A sequence with setpause is turned down.
+bench-unroll: $(INTAKE_ARCHIVE) # times the writing out of loops
+	@mkdir -p target/bench
+	$(TIMED) -Iinclude bench/unroll.c bench/plain.c bench/plain_unroll.c $(INTAKE_ARCHIVE) -lm -o target/bench/unroll
+	@target/bench/unroll $(filter-out examples/grading.bin, $(BAYS))
 
 bench-run: $(RUN_PROGRAM) # times the run program on its greatest input, for some minutes
 	@mkdir -p target/bench
@@ -173,17 +192,18 @@ target/lib/SHA256SUMS: target/staticlib/libintake.a include/intake.h include/int
 		include/intake.pc.in > target/lib/intake.pc
 	cd target/lib && sha256sum libintake.a intake.h intake.pc > SHA256SUMS
 
-PLAIN_CALLS = check tick deliver $(addprefix box_, admit release tick save restore forget service panel preview ledger \
+PLAIN_CALLS = check tick deliver unroll $(addprefix box_, admit release tick save restore forget service panel preview ledger \
 	new_year)
 PLAIN_NAMES = $(foreach call, $(PLAIN_CALLS), -Dplain_$(call)=intake_$(call))
 
-target/plain/libintake.a: bench/plain.c bench/plain.h bench/plain_box.c bench/plain_box.h
+PLAIN_PARTS = plain plain_box plain_unroll
+
+target/plain/libintake.a: $(foreach part, $(PLAIN_PARTS), bench/$(part).c bench/$(part).h)
 	@mkdir -p target/plain && rm -f $@
-	$(OPTIMIZED) $(PLAIN_NAMES) -c bench/plain.c -o target/plain/plain.o
-	$(OPTIMIZED) $(PLAIN_NAMES) -c bench/plain_box.c -o target/plain/plain_box.o
-	ar rcs $@ target/plain/plain.o target/plain/plain_box.o
+	for part in $(PLAIN_PARTS); do $(OPTIMIZED) $(PLAIN_NAMES) -c bench/$$part.c -o target/plain/$$part.o || exit 1; done
+	ar rcs $@ $(PLAIN_PARTS:%=target/plain/%.o)
 
 # A crate that is proved already is not built again, so the program may keep its time.
-target/bin/run: $(SOURCES)
-	rt check run
+target/bin/run target/bin/unroll: target/bin/%: $(SOURCES)
+	rt check $*
 	@touch -c $@
