@@ -7,9 +7,9 @@ import sys
 
 sys.dont_write_bytecode = True
 
-from tests import calls, common, drawings, papers, recordings, runfiles, runs, sequences
+from tests import calls, common, drawings, papers, recordings, runfiles, runs, sequences, unrolled
 
-SUBJECTS = sequences, runs, papers, drawings, recordings, runfiles, calls
+SUBJECTS = sequences, runs, papers, drawings, recordings, runfiles, unrolled, calls
 
 
 def main():

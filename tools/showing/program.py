@@ -6,6 +6,7 @@
   tools/show --vcd DUMP FILE      the run alone, as a value change dump for GTKWave, 100 ms an instant
   tools/show --sequence FILE      the bytes of a sequence alone: its commands
   tools/show --recording FILE     the records of a bay (02, item 10): a picture of what it did, --svg and --vcd as above
+  tools/show --unrolled RESULT FILE   its commands, then those of its sequence with the loops written out, side by side
 
 FILE - is standard input. Above the commands stand the read-back signals of a run file, where it has any: they are declared
 around the sequence. Below them stands the ceiling of an instant's reactions (02, item 6), with its three factors: the
@@ -22,6 +23,10 @@ they part, or where there is no listing, exit status 1 says so. A sequence with 
 
 --names gives signals and labels their names: a text file with lines such as 'signal 9 pump' and 'label 0 ready', and # for
 comments. A name is one word of at most 24 letters, digits, - and _, and begins with a letter.
+
+--unrolled takes the run file that target/bin/unroll made of FILE (02, item 13), and shows beside each place of the result
+the place of the original that its command comes from, and 'copy' where it stands in the copy of a loop's body. A result that
+is not the sequence of FILE with its loops written out is told with exit status 1.
 
 A recording has no sequence beside it: its picture has what the records hold, the numbers of the instants above it. With
 --service-only it is what the bay's panel sees: number, code, inputs and emitted set, without those signals, which are
@@ -44,6 +49,7 @@ from showing.recordings import MAX_RECORDING, outcome_of, panel_of, records_in
 from showing.runfile import signals_in
 from showing.sequences import MAX_SEQUENCE, add_commands
 from showing.svg import Drawing, add_svg
+from showing.unrolled import add_unrolled
 from showing.vcd import add_vcd
 
 NO_LISTING = "no listing: target/bin/run is not built"
@@ -88,6 +94,20 @@ def add_run(options, names, out):
     add_shown(options, names, inputs, instants, told, out)
 
 
+def add_result(options, names, out):
+    """Adds the commands of a run file, and those of the result beside their places."""
+    data, result = read_bytes(options.file, MAX_FILE), read_bytes(options.unrolled, MAX_FILE)
+    sequence, read_back = sequence_in(data), read_back_in(data)
+    commands = add_commands(sequence, read_back, names, out)
+    inputs_in(data)
+    check_labels(commands, names)
+    if result.startswith(b"refused "):
+        raise Damaged(f"no result: {printable(result.decode(errors='replace').strip())}")
+    if inputs_in(result) != inputs_in(data) or read_back_in(result) != read_back:
+        raise Damaged("the result has another read-back set or other inputs")
+    add_unrolled(commands, sequence_in(result), read_back, names, out)
+
+
 def add_shown(options, names, inputs, instants, told, out):
     rows, codes = rows_of(inputs, instants), [instant.code for instant in instants or []]
     numbers = range(1, len(inputs) + 1) if instants is None else [instant.number for instant in instants]
@@ -111,6 +131,7 @@ def parser_of():
     parser.add_argument("--names", metavar="NAMES", help="names of signals and labels")
     parser.add_argument("--paper", action="store_true", help="show the run on paper and hold it to the listing")
     parser.add_argument("--whole", action="store_true", help="on paper, show each statement command by command")
+    parser.add_argument("--unrolled", metavar="RESULT", help="show the commands of this result beside FILE's; - is standard input")
     parser.add_argument("--svg", metavar="PICTURE", help="write the picture as SVG; - is standard output")
     parser.add_argument("--vcd", metavar="DUMP", help="write the run as a value change dump; - is standard output")
     return parser
@@ -120,6 +141,8 @@ def options_of(arguments):
     parser = parser_of()
     options = parser.parse_args(arguments)
     shown = [options.sequence, options.paper, options.svg is not None, options.vcd is not None]
+    if options.unrolled is not None and (any(shown) or options.recording or options.listing is not None):
+        parser.error("--unrolled shows commands and no run")
     if options.sequence and (sum(shown) > 1 or options.listing is not None):
         parser.error("a sequence alone has no run")
     if options.recording and (options.sequence or options.paper or options.listing is not None):
@@ -130,7 +153,7 @@ def options_of(arguments):
         parser.error("one of --paper, --svg and --vcd")
     if options.whole and not options.paper:
         parser.error("--whole is for --paper")
-    if [options.file, options.listing, options.names].count("-") > 1:
+    if [options.file, options.listing, options.names, options.unrolled].count("-") > 1:
         parser.error("standard input is one file")
     options.to = options.vcd if options.svg is None else options.svg  # None for standard output, and a table first
     return options
@@ -141,8 +164,8 @@ def main(arguments=None):
     name, damage, out = options.file, None, []
     try:
         names = NO_NAMES if options.names is None else names_in(read_bytes(options.names, MAX_NAMES_FILE))
-        add = add_sequence if options.sequence else add_recording if options.recording else add_run
-        add(options, names, out)
+        adds = [(options.sequence, add_sequence), (options.recording, add_recording), (options.unrolled is not None, add_result)]
+        next((add for asked, add in adds if asked), add_run)(options, names, out)
     except Damaged as error:
         damage = str(error)
     except OSError as error:

@@ -120,9 +120,14 @@ def width_of(commands):
     return max([5, *(len(command.bytes.hex(" ")) for command in commands)])
 
 
+def own_line(place, own, width, depth, words):
+    """A line of a table, with the text of its place."""
+    return f"{place}  {own.hex(' ').upper():{width}}  {'  ' * (depth - 1)}{words}"
+
+
 def line_of(place, own, width, depth, words):
     """A line of the table; what rewriting made has no bytes of its own."""
-    return f"{place:5}  {own.hex(' ').upper():{width}}  {'  ' * (depth - 1)}{words}"
+    return own_line(f"{place:5}", own, width, depth, words)
 
 
 def add_commands(sequence, read_back, names, out):
