@@ -179,10 +179,10 @@ def numbers(page):
     given = {row[0]: row[1:3] for row in rows(page, "No.")}
     if given != known or list(given) != [str(n) for n in range(len(given))]:
         yield f"the numbers: {[row for row in given.items() if row not in known.items()]}"
-    examples = text_of("host/examples.txt").splitlines()
+    examples = text_of("host/examples.txt").splitlines() + [line.partition(" |")[0] for line in text_of("host/unrolls.txt").splitlines()]
     for row in rows(page, "No."):
         if row[3] and f"{row[0]}: {row[3].strip('`')}" not in examples:
-            yield f"the example of number {row[0]} in host/examples.txt"
+            yield f"the example of number {row[0]} in host/examples.txt or host/unrolls.txt"
         if not row[3] and row[0] not in ("1", "11", "12", "13", "14", "15", "16", "17", "19"):  # what these need is no sequence, or more than one
             yield f"number {row[0]} has no example"
 
@@ -233,6 +233,7 @@ def calls(page):
     if length != count * number(rows(page, "Stretch")[-1][2]) or f"up to {count} bays in {length:,} bytes" not in page:
         yield "the length of a box"
     lengths = ", ".join(f"{name} {values(name)[f'{name}_LENGTH'.upper()]}" for name in ("state", "answer", "record", "panel", "preview", "ledger"))
+    lengths += f", result {known['RESULT_LENGTH']:,}"
     if told["BUFFER_LENGTH"][1] != f"buffer not of its length: {lengths}, box {length:,}" or f"above {count - 1}," not in told["NO_SUCH_BAY"][1]:
         yield "the length and the bays of a box in the header's comments"
     if not told["ABOVE_CEILING"][1].endswith(f"more than {known['SHARED_CEILING']:,}"):
@@ -243,6 +244,16 @@ def calls(page):
     room = {row[0]: row[2] for row in rows(page, "Stretch")}["ledger"]
     if known["FARM_COUNT"] != limits()["signalCount"] or number(room) != ledger["LEDGER_FARMS_LENGTH"] != 4 * known["FARM_COUNT"]:
         yield "the farms of a ledger"
+
+
+def unrolled(page):
+    """The examples of loops written out are those of the hosts' table, and a result may be as long as a sequence."""
+    own = text_of("host/unrolls.txt").partition("# the examples of docs/FORMAT.md")[2].partition("\n\n")[0]
+    given = [f"0: {original.strip('`')} | {result.strip('`')}" for original, result in rows(page, "Original")]
+    if given != [line for line in own.splitlines() if line.startswith("0: ")]:
+        yield f"the examples of loops written out: {given}"
+    if defines()["RESULT_LENGTH"] != limits()["maxBytes"] or f"lent buffer of {limits()['maxBytes']:,} bytes" not in page:
+        yield "the length of a result"
 
 
 def run_file(page):
@@ -310,7 +321,7 @@ def format_links(page):
     yield from links(PAGE, page)
 
 
-CHECKS = [commands, ranges, records, codes, kinds, numbers, box, calls, run_file, example, glossary, format_links]
+CHECKS = [commands, ranges, records, codes, kinds, numbers, box, calls, unrolled, run_file, example, glossary, format_links]
 
 
 def faults(page):
@@ -323,7 +334,7 @@ def faults(page):
 CHECKED = {"Byte": [0, 1, 2, 3], "Limit": [0, 1, 2], "State record": [0, 1, 2], "Answer record": [0, 1, 2],
            "Record": [0, 1, 2], "Panel": [0, 1, 2], "Preview": [0, 1, 2], "Ledger": [0, 1, 2], "Code": [0, 2],
            "Kind": [0, 1], "No.": [0, 1, 2, 3], "Stretch": [0, 1, 2], "Entry": [0, 1, 2], "Call": [0],
-           "Part": [1], "Field": [0, 1], "Term": [3]}
+           "Original": [0, 1], "Part": [1], "Field": [0, 1], "Term": [3]}
 
 
 def other(cell):
