@@ -4,9 +4,9 @@
  * 64, the greatest: commands with parts 63 times, inside them a leaf, and their other parts leaves beside. Six signals stand
  * around it in the sequence, or outside by the read-back set, which takes no level of the depth. Each is admitted to a box
  * too, previewed and ticked twice there, its record read, saved sixteen times and once more, restored, forgotten and
- * released; one that delivers is ticked also where its farm's total has no room. The most of the check, of the tick and of
- * the calls on a box is held to what include/intake.h promises, and a thread of the size that it names runs the deepest
- * calls.
+ * released; one that delivers is ticked also where its farm's total has no room. The loops of each are written out, too. The
+ * most of the check, of the tick, of the calls on a box and of the writing out is held to what include/intake.h promises, and
+ * a thread of the size that it names runs the deepest calls.
  */
 #include "intake.h"
 
@@ -25,12 +25,13 @@ enum { AT_TOTAL = BAY * (INTAKE_BOX_LENGTH / INTAKE_BAY_COUNT) + 1395 + 4 * FARM
 
 static uint8_t stack[STACK], sequence[1024], state[INTAKE_STATE_LENGTH], answer[INTAKE_ANSWER_LENGTH];
 static uint8_t box[INTAKE_BOX_LENGTH], record[INTAKE_RECORD_LENGTH], view[INTAKE_RECORD_LENGTH], totals[INTAKE_LEDGER_LENGTH];
-static size_t length;
+static uint8_t result[INTAKE_RESULT_LENGTH];
+static size_t length, result_length;
 static uint32_t input, read_back, name, unknown = 0x3F; /* six unknown inputs of a preview */
 static uint8_t number;
 static ucontext_t here, there;
 static unsigned passed, failed;
-static size_t empty, most_check, most_tick, most_box;
+static size_t empty, most_check, most_tick, most_box, most_unroll;
 static unsigned full_ledgers; /* ticks that found no room */
 
 static void nothing(void) { number = INTAKE_ACCEPTED; }
@@ -38,6 +39,11 @@ static void check(void) { number = intake_check(sequence, length, read_back); }
 static void tick(void)
 {
     number = intake_tick(sequence, length, state, sizeof state, input, read_back, answer, sizeof answer);
+}
+
+static void unroll(void)
+{
+    number = intake_unroll(sequence, length, read_back, result, sizeof result, &result_length);
 }
 
 static void box_admit(void) { number = intake_box_admit(box, sizeof box, BAY, sequence, length, read_back, 0x0F); }
@@ -156,7 +162,8 @@ static void build_one(const struct nest *nest, unsigned signals, int suspended, 
 /* One call, counted beyond the empty one; it must give the number. */
 static size_t used(void (*call)(void), uint8_t expected, const char *what)
 {
-    size_t bytes = taken(call) - empty, *most = call == check ? &most_check : call == tick ? &most_tick : &most_box;
+    size_t bytes = taken(call) - empty;
+    size_t *most = call == check ? &most_check : call == tick ? &most_tick : call == unroll ? &most_unroll : &most_box;
     *most = bytes > *most ? bytes : *most;
     if (number == expected) {
         passed++;
@@ -189,6 +196,17 @@ static uint8_t admission(void)
         i += byte == 0x0C ? 5 : byte != 0x00 && byte != 0x04 && byte != 0x05 && byte != 0x06 && byte != 0x09; /* operands */
     }
     return commands * (1 + loops) << signals > INTAKE_SHARED_CEILING ? INTAKE_ABOVE_CEILING : INTAKE_ACCEPTED;
+}
+
+/* The number of the writing out: each loop makes a sequence of the greatest depth deeper (02, item 13). */
+static uint8_t written_out(const struct leaf *leaf, const struct nest *const *levels)
+{
+    if (leaf == &set)
+        return INTAKE_HAS_SETPAUSE;
+    for (unsigned i = 0; i < DEPTH - leaf->depth; i++)
+        if (levels[i]->before.at[0] == 0x06)
+            return INTAKE_RESULT_TOO_LARGE;
+    return INTAKE_ACCEPTED;
 }
 
 /* The greatest of the calls on positions: up to sixteen of a machine that waits, and a seventeenth. */
@@ -289,12 +307,13 @@ static void row(const struct nest *nest, unsigned signals, const char *around)
     size_t fresh = used(tick, INTAKE_ACCEPTED, nest->name);
     stand(INTAKE_PHASE_WAITING, 1);
     size_t resumed = used(tick, INTAKE_ACCEPTED, nest->name);
+    size_t unrolled = used(unroll, nest->before.at[0] == 0x06 ? INTAKE_RESULT_TOO_LARGE : INTAKE_ACCEPTED, nest->name);
     build_one(nest, signals, 1, &pause_0, DEPTH);
     input = UINT32_C(1) << HATCH;
     stand(INTAKE_PHASE_WAITING, 1);
     size_t stopped = used(tick, INTAKE_ACCEPTED, nest->name);
-    printf("%-32s %7zu %7zu %7zu %7zu %7zu %7zu %7zu%s\n", nest->name, triggers, checked, fresh, resumed, stopped,
-           refused(nest, signals), boxed, around);
+    printf("%-32s %7zu %7zu %7zu %7zu %7zu %7zu %7zu %8zu%s\n", nest->name, triggers, checked, fresh, resumed, stopped,
+           refused(nest, signals), boxed, unrolled, around);
 }
 
 /* Levels of several nests and signals at random, from a fixed seed: fresh, and resumed from the pause. */
@@ -312,7 +331,9 @@ static void mixed(void)
     read_back = (UINT32_C(1) << (SIGNALS - signals)) - 1;
     input = (uint32_t)rand();
     static const struct leaf *const leaves[] = {&pause_0, &set, &delivery};
-    build(levels, leaves[rand() % 3], DEPTH);
+    const struct leaf *leaf = leaves[rand() % 3];
+    build(levels, leaf, DEPTH);
+    used(unroll, written_out(leaf, levels), "a mixed sequence");
     used(check, INTAKE_ACCEPTED, "a mixed sequence");
     stand(INTAKE_PHASE_FRESH, 0);
     used(tick, INTAKE_ACCEPTED, "a mixed sequence");
@@ -375,8 +396,8 @@ int main(void)
         {0, 0, ""}, {SIGNALS, 0, "  inside six signals"}, {0, 0x3F, "  with six read back"},
     };
     empty = taken(nothing);
-    printf("%-32s %7s %7s %7s %7s %7s %7s %7s\n", "bytes of stack at depth 64", "row 10", "check", "fresh", "resumed",
-           "stopped", "refused", "box");
+    printf("%-32s %7s %7s %7s %7s %7s %7s %7s %8s\n", "bytes of stack at depth 64", "row 10", "check", "fresh", "resumed",
+           "stopped", "refused", "box", "unrolled");
     for (size_t a = 0; a < sizeof around / sizeof *around; a++)
         for (size_t i = 0; i < NESTS; i++) {
             read_back = around[a].read_back;
@@ -389,6 +410,7 @@ int main(void)
     hold("intake_check", most_check, INTAKE_STACK_CHECK);
     hold("intake_tick", most_tick, INTAKE_STACK_TICK);
     hold("a call on a box", most_box, INTAKE_STACK_BOX);
+    hold("intake_unroll", most_unroll, INTAKE_STACK_UNROLL);
     passed += full_ledgers > 100;
     failed += full_ledgers <= 100;
     printf("%u ticks found no room in a ledger%s\n", full_ledgers, full_ledgers > 100 ? "" : ": FAILED");

@@ -34,7 +34,7 @@
 #define INTAKE_STACK_THREAD 32768
 
 /* Bytes of code and jump tables in the archive, rounded up. */
-#define INTAKE_CODE_LENGTH 28672
+#define INTAKE_CODE_LENGTH 29696
 
 /* A function of this header that needs nothing of the archive. */
 #if defined(__cplusplus) || (defined(__STDC_VERSION__) && __STDC_VERSION__ >= 199901L)
