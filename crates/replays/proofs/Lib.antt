@@ -1,0 +1,6 @@
+pub mod Differences
+pub mod Recordings
+pub mod Numbers
+pub mod Paper
+pub mod Worked
+pub mod Theorems

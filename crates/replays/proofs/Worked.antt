@@ -1,0 +1,26 @@
+-- The recordings worked by hand, by computation.
+use mathlib.Core.Path.{_≡_, refl}
+use mathlib.Core.List.{map}
+use Rattle.esterel.specs.Sets.{none, only, member, join, insert, remove}
+use Rattle.esterel.specs.Reaction.{reactBy}
+use Rattle.esterel.specs.Errors.{errorsBy}
+use Rattle.esterel.specs.Reactions.{reactionsBy}
+use Rattle.esterel.specs.LabelTests.{subset, disjoint, labelsOf, everyLabel, distinct, before, wellFormed, valid}
+use Rattle.esterel.specs.Expansion.{expand}
+use Rattle.esterel.specs.Ceiling.{nesting}
+use Rattle.esterel.specs.ReadBack.{membersFrom, declaredBy}
+use Rattle.sequence.specs.Commands.{commandOf}
+use Rattle.sequence.specs.Reader.{front, read}
+use Rattle.sequence.specs.Check.{checked, checkOf}
+use Rattle.numbers.specs.Bytes.{leBytes, leNumber}
+use Rattle.states.specs.StateRecord.{encodeState, decodeState}
+use Rattle.answers.specs.AnswerRecord.{encodeAnswer}
+use Rattle.demands.specs.Tick.{tickBy}
+use Rattle.recordings.specs.Recording.{following, recordsFrom}
+use Rattle.replays.specs.Replay.{firstRecords, same, firstDifference, placeOf, replayOf}
+use Rattle.replays.specs.Worked.{Case, cases}
+
+-- WORKED: each row of the table
+pub worked : map (λ (c : Case). replayOf (c .sequence) (c .readBack) (c .recording)) cases ≡ map (λ (c : Case). c .shows) cases
+unfolding cases replayOf placeOf firstDifference same firstRecords recordsFrom following tickBy checkOf checked read front commandOf nesting declaredBy membersFrom distinct wellFormed valid expand everyLabel before labelsOf subset disjoint encodeState decodeState encodeAnswer leNumber leBytes reactBy errorsBy reactionsBy member none only join insert remove
+worked = refl
