@@ -7,7 +7,7 @@ use layout::Seconds;
 use notes::Notes;
 
 // The ranks of the pauses with these labels.
-fn ranks(labels: Labels, notes: &Notes) -> Labels
+pub fn ranks(labels: Labels, notes: &Notes) -> Labels
     requires { ⌜ Ranked (now notes) (labelSet labels) ⌝ }
     ensures { λ r. ⌜ Masked (now (notes .entry)) (labelSet labels) (labelSet r) ⌝ }
 {

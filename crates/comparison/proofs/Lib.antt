@@ -1,0 +1,4 @@
+pub mod Bytes
+pub mod Standing
+pub mod Following
+pub mod Walking
