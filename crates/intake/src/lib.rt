@@ -1,8 +1,10 @@
-// What hosts in C call: the check, the tick, the calls of a box of bays (02, items 8 to 12), and the writing out of loops (02, item 13).
+// What hosts in C call: the check, the tick, the calls of a box of bays (02, items 8 to 12), the writing out of loops (02, item 13), and the
+// replay of a recording (02, item 14).
 ghost use mathlib.Core.Path.{_≡_};
 ghost use mathlib.Core.List.{[], _∷_};
 ghost use Rattle.sequence.specs.Check.{checkOf};
 ghost use Rattle.demands.specs.Demands.{TickMeets};
+ghost use Rattle.replays.specs.Replay.{replayed, replayOf};
 ghost use Rattle.box_calls.specs.Called.{called};
 ghost use Rattle.box_calls.specs.Stretch.{terms};
 ghost use Rattle.box_calls.specs.Box.{admit, release, tick, save, restore, forget, service, panel, preview, ledger, newYear, callOf};
@@ -45,6 +47,20 @@ pub extern "C" fn intake_tick(
         Reply::Refused(number) => number,
         Reply::Reacted(reaction) => writing::finish(state, answer, reaction),
     }
+}
+
+// A recording checked against a sequence (02, item 14): 0 and a place, 0 if the recording is accepted and else that of the first record
+// that differs, counted from 1; or the number of the row that turns it down, and place 0.
+#[no_mangle]
+pub extern "C" fn intake_replay(
+    sequence: &[u8],
+    read_back: u32,
+    recording: &[u8],
+    place: &mut usize,
+) -> u8
+    ensures { λ r. ⌜ replayed r (now (place .exit)) ≡ replayOf (now (sequence .entry)) «read_back» (now (recording .entry)) ⌝ }
+{
+    comparison::replay(sequence, read_back, recording, place)
 }
 
 // A bay is admitted, fresh: 0, or the number that turns the call down.
