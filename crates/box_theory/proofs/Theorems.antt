@@ -1,4 +1,4 @@
--- The theorems about a box (02, items 8 to 12): of the definitions of the calls, which the code meets for all arguments.
+-- The theorems about a box (02, items 8 to 12 and 14): of the definitions of the calls, which the code meets for all arguments.
 use Prim.Native.Nat.{ℕ, _+_, _<_}
 use mathlib.Core.Path.{_≡_, refl, sym, ap, _∙_}
 use mathlib.Core.Logic.{_≢_}
@@ -20,7 +20,9 @@ use Rattle.demands.specs.Demands.{outcomes, cleared, report, StandsAt, Derived,
 use Rattle.demands.specs.Paper.{paper}
 use Rattle.demands.specs.Deliveries.{paperDelivered}
 use Rattle.recordings.specs.Record.{recordLength, panelLength}
-use Rattle.recordings.specs.Recording.{callOn, recordingOf}
+use Rattle.recordings.specs.Recording.{callOn, recordingOf, joined, Inputs}
+use Rattle.replays.specs.Replay.{replayed, replayOf}
+use Rattle.replays.proofs.Theorems.{accepts-recordings}
 use Rattle.positions.specs.Names.{find}
 use Rattle.positions.specs.Table.{lookup}
 use Rattle.ledgers.specs.Ledgers.{farmCount, readingLength, totalIn}
@@ -46,6 +48,7 @@ use Rattle.box_theory.proofs.Numbers as numbers
 use Rattle.box_theory.proofs.Isolation as apart
 use Rattle.box_theory.proofs.Reached as reached
 use Rattle.box_theory.proofs.Rounds as rounds
+use Rattle.box_theory.proofs.Bays as bays
 use Rattle.box_theory.proofs.BayRuns as runs
 use Rattle.box_theory.proofs.Named as named
 use Rattle.box_theory.proofs.Returns as returns
@@ -419,6 +422,17 @@ pub records-in-bay : (box : List ℕ) (bay : ℕ) (t : Terms) → Sendable (admi
     → recordsIn callOf bay (memoryAfter (callOf box bay (admit t))) xs
     ≡ recordingOf (t .sequence) (t .readBack) (inputsIn callOf bay (memoryAfter (callOf box bay (admit t))) xs)
 records-in-bay = instants.records-are
+
+-- so the records that a bay leaves from an admission up to its first coming back to a position or its taking out, one after the other,
+-- are accepted by a replay (02, item 14), whatever calls come in between and are turned down; inputs are of 32 bits
+pub replays-in-bay : (box : List ℕ) (bay : ℕ) (t : Terms) → Sendable (admit t) → number (callOf box bay (admit t)) ≡ 0
+    → (xs : List Request) → Onwards bay (memoryAfter (callOf box bay (admit t))) xs
+    → Inputs (inputsIn callOf bay (memoryAfter (callOf box bay (admit t))) xs)
+    → replayOf (t .sequence) (t .readBack) (joined (recordsIn callOf bay (memoryAfter (callOf box bay (admit t))) xs)) ≡ replayed 0 0
+replays-in-bay box bay t small admitted xs k i =
+    ap (λ (rs : List (List ℕ)). replayOf (t .sequence) (t .readBack) (joined rs)) (records-in-bay box bay t small admitted xs k)
+    ∙ accepts-recordings (t .sequence) (t .readBack) (bays.passed t (runs.begun box bay t small admitted .here .1 .accepted))
+    (inputsIn callOf bay (memoryAfter (callOf box bay (admit t))) xs) i
 
 -- ---- what the claims refuse: a tick that reads the neighbour's state, a sum without the last bay, a part that is not given back, and
 -- a refusal that writes
