@@ -48,7 +48,7 @@ pub fn behind_sequence(file: &[u8]) -> &[u8]
 }
 
 // Where the inputs begin, behind the read-back set.
-fn inputs_begin(file: &[u8]) -> usize
+pub fn inputs_begin(file: &[u8]) -> usize
     ensures { λ r. ⌜ r ≡ inputsAt (now (file .entry)) ⌝ }
     ensures { λ r. ⌜ r < 65542 ⌝ }
 {

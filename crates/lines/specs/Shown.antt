@@ -9,6 +9,10 @@ use Rattle.lines.specs.declared.Line.{Line}
 abbrev pub lineLength : ℕ
 lineLength = 160
 
+-- the words before a number
+abbrev pub mostWords : ℕ
+mostWords = 139
+
 -- the line has the text
 pub record Shows (line : Line) (text : List ℕ) : Type 0 where
   pub told : drop (line .from) (line .bytes) ≡ text

@@ -1,10 +1,10 @@
 // The lines of a listing (01, 'Bays to run'), each at the end of a buffer of its own.
 ghost use Prim.Native.Nat.{_≤_};
-ghost use mathlib.Core.List.{[]};
+ghost use mathlib.Core.List.{[], _∷_, _++_};
 ghost use lib.ListN.{length};
-ghost use Rattle.runs.specs.Text.{inputCut};
+ghost use Rattle.runs.specs.Text.{numeral, newline, inputCut};
 ghost use Rattle.runs.specs.Text.{heading as Text·heading, ending as Text·ending, refusal as Text·refusal};
-ghost use Rattle.lines.specs.Shown.{lineLength, Shows};
+ghost use Rattle.lines.specs.Shown.{lineLength, mostWords, Shows};
 
 // The bytes of a line's buffer.
 pub const LINE_LENGTH: usize = 160;
@@ -15,17 +15,25 @@ pub struct Line {
     pub from: usize,
 }
 
-// The line for a sequence that the check turns down.
-pub fn refusal(number: u8) -> Line
-    ensures { λ r. ⌜ Shows r (Text·refusal number) ⌝ }
+// A line of some words and a decimal number.
+pub fn numbered(words: &[u8], number: u64) -> Line
+    requires { ⌜ length (now words) ≤ mostWords ⌝ }
+    ensures { λ r. ⌜ Shows r (now (words .entry) ++ (numeral 10 1 number ++ newline ∷ [])) ⌝ }
 {
     let mut bytes = [0u8; LINE_LENGTH];
-    let at = text::put_field(&mut bytes, LINE_LENGTH, 10, 1, number as u64, b'\n');
-    let from = text::put_text(&mut bytes, at, b"refused ");
+    let at = text::put_field(&mut bytes, LINE_LENGTH, 10, 1, number, b'\n');
+    let from = text::put_text(&mut bytes, at, words);
     Line {
         bytes: bytes,
         from: from,
     }
+}
+
+// The line for a sequence that the check turns down.
+pub fn refusal(number: u8) -> Line
+    ensures { λ r. ⌜ Shows r (Text·refusal number) ⌝ }
+{
+    numbered(b"refused ", number as u64)
 }
 
 // The line for a file that is not whole.
