@@ -134,9 +134,9 @@ static void ledgers(void)
 static void texts(void)
 {
     unsigned i, j;
-    for (i = 0; i <= INTAKE_RESULT_TOO_LARGE + 2; i++)
+    for (i = 0; i <= INTAKE_RECORDING_LENGTH + 2; i++)
         for (j = 0; j < i; j++)
-            expect((strcmp(intake_text(i), intake_text(j)) == 0) == (j > INTAKE_RESULT_TOO_LARGE), "text of a number", i);
+            expect((strcmp(intake_text(i), intake_text(j)) == 0) == (j > INTAKE_RECORDING_LENGTH), "text of a number", i);
     for (i = 0; i <= INTAKE_NOT_STRONGLY_DETERMINISTIC + 2; i++)
         for (j = 0; j < i; j++)
             expect((strcmp(intake_kind_text(i), intake_kind_text(j)) == 0) == (j > INTAKE_NOT_STRONGLY_DETERMINISTIC),
@@ -161,6 +161,7 @@ static void lengths(void)
     expect(INTAKE_STACK_THREAD >= INTAKE_STACK_TICK && INTAKE_STACK_TICK >= INTAKE_STACK_CHECK, "stack", 0);
     expect(INTAKE_STACK_THREAD >= INTAKE_STACK_BOX, "stack of a box", 0);
     expect(INTAKE_STACK_THREAD >= INTAKE_STACK_UNROLL, "stack of loops written out", 0);
+    expect(INTAKE_STACK_THREAD >= INTAKE_STACK_REPLAY, "stack of a replay", 0);
     expect(INTAKE_VERSION / 10000 == INTAKE_VERSION_MAJOR && INTAKE_VERSION % 100 == INTAKE_VERSION_PATCH, "version", 0);
 }
 

@@ -4,9 +4,9 @@
  * 64, the greatest: commands with parts 63 times, inside them a leaf, and their other parts leaves beside. Six signals stand
  * around it in the sequence, or outside by the read-back set, which takes no level of the depth. Each is admitted to a box
  * too, previewed and ticked twice there, its record read, saved sixteen times and once more, restored, forgotten and
- * released; one that delivers is ticked also where its farm's total has no room. The loops of each are written out, too. The
- * most of the check, of the tick, of the calls on a box and of the writing out is held to what include/intake.h promises, and
- * a thread of the size that it names runs the deepest calls.
+ * released; one that delivers is ticked also where its farm's total has no room; its records are replayed, and its loops
+ * written out. The most of the check, of the tick, of a replay, of the calls on a box and of the writing out is held to what
+ * include/intake.h promises, and a thread of the size that it names runs the deepest calls.
  */
 #include "intake.h"
 
@@ -25,13 +25,13 @@ enum { AT_TOTAL = BAY * (INTAKE_BOX_LENGTH / INTAKE_BAY_COUNT) + 1395 + 4 * FARM
 
 static uint8_t stack[STACK], sequence[1024], state[INTAKE_STATE_LENGTH], answer[INTAKE_ANSWER_LENGTH];
 static uint8_t box[INTAKE_BOX_LENGTH], record[INTAKE_RECORD_LENGTH], view[INTAKE_RECORD_LENGTH], totals[INTAKE_LEDGER_LENGTH];
-static uint8_t result[INTAKE_RESULT_LENGTH];
-static size_t length, result_length;
+static uint8_t result[INTAKE_RESULT_LENGTH], recording[2 * INTAKE_RECORD_LENGTH];
+static size_t length, result_length, recorded, place; /* the bytes of a recording, and what a replay says of them */
 static uint32_t input, read_back, name, unknown = 0x3F; /* six unknown inputs of a preview */
 static uint8_t number;
 static ucontext_t here, there;
 static unsigned passed, failed;
-static size_t empty, most_check, most_tick, most_box, most_unroll;
+static size_t empty, most_check, most_tick, most_replay, most_box, most_unroll;
 static unsigned full_ledgers; /* ticks that found no room */
 
 static void nothing(void) { number = INTAKE_ACCEPTED; }
@@ -45,6 +45,8 @@ static void unroll(void)
 {
     number = intake_unroll(sequence, length, read_back, result, sizeof result, &result_length);
 }
+
+static void replay(void) { number = intake_replay(sequence, length, read_back, recording, recorded, &place); }
 
 static void box_admit(void) { number = intake_box_admit(box, sizeof box, BAY, sequence, length, read_back, 0x0F); }
 static void box_tick(void)
@@ -162,8 +164,11 @@ static void build_one(const struct nest *nest, unsigned signals, int suspended, 
 /* One call, counted beyond the empty one; it must give the number. */
 static size_t used(void (*call)(void), uint8_t expected, const char *what)
 {
-    size_t bytes = taken(call) - empty;
-    size_t *most = call == check ? &most_check : call == tick ? &most_tick : call == unroll ? &most_unroll : &most_box;
+    size_t bytes = taken(call) - empty, *most = &most_box;
+    if (call == check || call == tick)
+        most = call == check ? &most_check : &most_tick;
+    else if (call == replay || call == unroll)
+        most = call == replay ? &most_replay : &most_unroll;
     *most = bytes > *most ? bytes : *most;
     if (number == expected) {
         passed++;
@@ -248,6 +253,13 @@ static size_t in_ledger(const char *what)
     return larger(bytes, used(box_new_year, INTAKE_ACCEPTED, what));
 }
 
+/* Keeps the record of an instant. */
+static void keep(void)
+{
+    memcpy(recording + recorded, record, sizeof record);
+    recorded += sizeof record;
+}
+
 /* The greatest of the calls on a box; if the sequence is admitted, two instants of it, without signal 0 and with it. */
 static size_t in_box(uint8_t admitted, const char *what)
 {
@@ -259,6 +271,8 @@ static size_t in_box(uint8_t admitted, const char *what)
             continue;
         bytes = larger(bytes, used(box_preview, INTAKE_ACCEPTED, what));
         bytes = larger(bytes, used(box_tick, INTAKE_ACCEPTED, what));
+        recorded = 0;
+        keep();
         int waits = answer[INTAKE_ANSWER_CODE] == INTAKE_WAITING;
         bytes = larger(bytes, positions(waits, what));
         bytes = larger(bytes, used(box_service, INTAKE_ACCEPTED, what));
@@ -267,6 +281,11 @@ static size_t in_box(uint8_t admitted, const char *what)
         bytes = larger(bytes, in_ledger(what));
         bytes = larger(bytes, used(box_preview, next, what));
         bytes = larger(bytes, used(box_tick, next, what));
+        if (waits)
+            keep();
+        used(replay, INTAKE_ACCEPTED, what);
+        passed += place == 0;
+        failed += place != 0;
         bytes = larger(bytes, used(box_release, INTAKE_ACCEPTED, what));
     }
     return bytes;
@@ -409,6 +428,7 @@ int main(void)
         mixed();
     hold("intake_check", most_check, INTAKE_STACK_CHECK);
     hold("intake_tick", most_tick, INTAKE_STACK_TICK);
+    hold("intake_replay", most_replay, INTAKE_STACK_REPLAY);
     hold("a call on a box", most_box, INTAKE_STACK_BOX);
     hold("intake_unroll", most_unroll, INTAKE_STACK_UNROLL);
     passed += full_ledgers > 100;

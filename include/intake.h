@@ -5,7 +5,7 @@
  *
  * - Target: x86-64, System V calling convention, ELF; instructions of the base set, which has SSE2. There is no other today.
  * - Functions of C: memset
- * - Stack: INTAKE_STACK_CHECK, INTAKE_STACK_TICK, INTAKE_STACK_BOX and INTAKE_STACK_UNROLL bytes below the caller's frame at
+ * - Stack: INTAKE_STACK_CHECK, INTAKE_STACK_TICK, INTAKE_STACK_REPLAY, INTAKE_STACK_BOX and INTAKE_STACK_UNROLL bytes below the caller's frame at
  *   the greatest depth, as measured.
  * - Code and jump tables: INTAKE_CODE_LENGTH bytes at most. No heap, no variable outside the stack, no other file.
  * - Dearest instant found: 5.5 ms, 1,061,695 reactions (Intel Xeon, family 6 model 207, 2.3 GHz; make bench-tick)
@@ -29,6 +29,7 @@
  */
 #define INTAKE_STACK_CHECK 24576
 #define INTAKE_STACK_TICK 28672
+#define INTAKE_STACK_REPLAY 28672
 #define INTAKE_STACK_BOX 28672
 #define INTAKE_STACK_UNROLL 24576
 #define INTAKE_STACK_THREAD 32768
@@ -54,7 +55,8 @@ extern "C" {
  * tick 1 to 12 and 18; of several rows that hold, the lowest, but rows 3, 4, 5, 18 and 6 go command by command from the
  * left, and at one command in this order. Row 6 by the read-back set comes after them, once the whole statement was read,
  * and before row 7. The calls on a box give 13 to 17 and 19 too: 13 before all others, 14 after row 10, 15 before 16, 17
- * after row 12, and 19 last of all. intake_unroll gives 1, then those of the check, then 20, then 21.
+ * after row 12, and 19 last of all. intake_unroll gives 1, then those of the check, then 20, then 21. A replay gives what
+ * the check gives, and then 22.
  */
 enum intake_number {
     INTAKE_ACCEPTED = 0,                /* accepted */
@@ -78,7 +80,8 @@ enum intake_number {
     INTAKE_BAD_LITRES = 18,             /* litres not whole, below 0, minus zero or above 16,777,216 */
     INTAKE_ABOVE_FARM_LIMIT = 19,       /* the total of a farm and its litres would pass 16,777,216 */
     INTAKE_HAS_SETPAUSE = 20,           /* original with a setpause, whose loops are not written out */
-    INTAKE_RESULT_TOO_LARGE = 21        /* result with its loops written out of over 1,024 bytes or depth 64 */
+    INTAKE_RESULT_TOO_LARGE = 21,       /* result with its loops written out of over 1,024 bytes or depth 64 */
+    INTAKE_RECORDING_LENGTH = 22        /* recording whose length is no multiple of 37 */
 };
 
 /*
@@ -298,6 +301,27 @@ uint8_t intake_tick(const uint8_t *sequence, size_t sequence_length, uint8_t *st
 
 uint8_t intake_unroll(const uint8_t *sequence, size_t sequence_length, uint32_t read_back, uint8_t *result,
                       size_t buffer_length, size_t *result_length);
+
+/*
+ * Replays a recording: records of INTAKE_RECORD_LENGTH bytes, one after the other, as a bay of a box leaves them or an
+ * editor's simulator writes them. Is it what the sequence does on the inputs recorded? Nothing else of it is believed: a
+ * fresh machine runs on the input of each record in turn, and the record must be the one that the instant leaves, byte for
+ * byte: number, counted from 1 and staying at the greatest, inputs, answer and next state. Litres are in no record, and a
+ * replay asks no ledger.
+ *
+ * Answers INTAKE_ACCEPTED and sets `*place` to 0 if every record is, and else to the place of the first that differs,
+ * counted from 1. A recording of no bytes is accepted, and a record after the machine is over differs. So does one of a
+ * bay that came back to a position, as a rule: a replay knows no calls but ticks. A call turned down sets `*place` to 0:
+ * its numbers are those of intake_check, and then INTAKE_RECORDING_LENGTH for a length that is no multiple of
+ * INTAKE_RECORD_LENGTH. Every value of the bytes, every set and every length is allowed.
+ *
+ * The caller must see to it that both buffers have the lengths given and are readable, that nobody writes them during the
+ * call, and that `place` is none of their bytes. A buffer of length 0 may be a null pointer. The call reads no byte outside,
+ * writes `*place` alone, keeps nothing and always returns. It takes the time of the check once and of an instant for each
+ * record, and no more memory for a longer recording.
+ */
+uint8_t intake_replay(const uint8_t *sequence, size_t sequence_length, uint32_t read_back, const uint8_t *recording,
+                      size_t recording_length, size_t *place);
 
 /*
  * A box holds the machines of up to INTAKE_BAY_COUNT bays, numbered from 0, each with its own sequence, read-back set,
@@ -637,6 +661,7 @@ INTAKE_INLINE const char *intake_text(unsigned number)
     case INTAKE_ABOVE_FARM_LIMIT: return "the year total of a farm would pass 16,777,216 litres";
     case INTAKE_HAS_SETPAUSE: return "the sequence has a setpause, so its loops are not written out";
     case INTAKE_RESULT_TOO_LARGE: return "with its loops written out the sequence has over 1,024 bytes, or is over 64 deep";
+    case INTAKE_RECORDING_LENGTH: return "the recording ends within a record";
     default: return "no number of a call";
     }
 }
