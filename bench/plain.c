@@ -545,6 +545,11 @@ static void put(uint8_t *bytes, unsigned count, uint64_t value)
         bytes[i] = (uint8_t)(value >> 8 * i);
 }
 
+static label_set labels_in(const uint8_t *state)
+{
+    return (label_set)get(state + 9, 8) << 64 | get(state + 1, 8);
+}
+
 /* Rows 11 and 12. */
 static uint8_t check_state(const struct check *c, uint8_t phase)
 {
@@ -553,12 +558,26 @@ static uint8_t check_state(const struct check *c, uint8_t phase)
     return phase == OVER ? 12 : 0;
 }
 
+/* Both records of an instant. */
+static void finish(const struct instant *t, struct reaction r, uint8_t *state, uint8_t *answer)
+{
+    state[0] = r.code == WAITING ? WAITS : OVER;
+    label_set labels = r.code == WAITING ? t->labels : 0;
+    put(state + 1, 8, (uint64_t)labels);
+    put(state + 9, 8, (uint64_t)(labels >> 64));
+    answer[0] = r.code;
+    answer[1] = t->kind;
+    put(answer + 2, 2, t->place);
+    put(answer + 4, 4, r.code == WRONG ? 0 : r.emitted);
+    put(answer + 8, 4, t->reactions);
+}
+
 uint8_t plain_deliver(const uint8_t *sequence, size_t sequence_length, uint8_t *state, size_t state_length, uint32_t input,
                       uint32_t read_back, uint8_t *answer, size_t answer_length, uint64_t *litres)
 {
     if (state_length != STATE_BYTES || answer_length != ANSWER_BYTES)
         return 1;
-    label_set active = (label_set)get(state + 9, 8) << 64 | get(state + 1, 8);
+    label_set active = labels_in(state);
     struct check c;
     uint8_t number = check(&c, sequence, sequence_length, read_back, active);
     if (number == 0)
@@ -570,15 +589,7 @@ uint8_t plain_deliver(const uint8_t *sequence, size_t sequence_length, uint8_t *
     struct reaction r = declared(&t, state[0] == FRESH ? react : resume, read_back, input);
     if (litres != NULL && (r.code == WRONG || !c.delivers))
         memset(litres, 0, PLAIN_FARMS * sizeof *litres);
-    state[0] = r.code == WAITING ? WAITS : OVER;
-    label_set labels = r.code == WAITING ? t.labels : 0;
-    put(state + 1, 8, (uint64_t)labels);
-    put(state + 9, 8, (uint64_t)(labels >> 64));
-    answer[0] = r.code;
-    answer[1] = t.kind;
-    put(answer + 2, 2, t.place);
-    put(answer + 4, 4, r.code == WRONG ? 0 : r.emitted);
-    put(answer + 8, 4, t.reactions);
+    finish(&t, r, state, answer);
     return 0;
 }
 
@@ -586,4 +597,37 @@ uint8_t plain_tick(const uint8_t *sequence, size_t sequence_length, uint8_t *sta
                    uint32_t read_back, uint8_t *answer, size_t answer_length)
 {
     return plain_deliver(sequence, sequence_length, state, state_length, input, read_back, answer, answer_length, NULL);
+}
+
+enum { INPUT_AT = 4, ANSWER_AT = 8, STATE_AT = ANSWER_AT + ANSWER_BYTES, RECORD_BYTES = STATE_AT + STATE_BYTES };
+
+uint8_t plain_replay(const uint8_t *sequence, size_t sequence_length, uint32_t read_back, const uint8_t *recording,
+                     size_t recording_length, size_t *place)
+{
+    *place = 0;
+    struct check c;
+    uint8_t number = check(&c, sequence, sequence_length, read_back, 0);
+    if (number != 0)
+        return number;
+    if (recording_length % RECORD_BYTES != 0)
+        return 22;
+
+    uint8_t record[RECORD_BYTES] = {0}, *state = record + STATE_AT;
+    for (size_t i = 0; i < recording_length / RECORD_BYTES; i++) {
+        const uint8_t *given = recording + i * RECORD_BYTES;
+        uint32_t input = (uint32_t)get(given + INPUT_AT, 4);
+        bool over = state[0] == OVER;
+        if (!over) {
+            struct instant t = {.sequence = sequence, .active = labels_in(state)};
+            struct reaction r = declared(&t, state[0] == FRESH ? react : resume, read_back, input);
+            finish(&t, r, state, record + ANSWER_AT);
+            put(record, 4, i < UINT32_MAX ? i + 1 : UINT32_MAX);
+            put(record + INPUT_AT, 4, input);
+        }
+        if (over || memcmp(record, given, RECORD_BYTES) != 0) {
+            *place = i + 1;
+            return 0;
+        }
+    }
+    return 0;
 }

@@ -1,4 +1,4 @@
-/* The check and the tick in plain C, for comparison with intake.h: the same arguments, numbers and bytes. */
+/* The check, the tick and the replay in plain C, for comparison with intake.h: the same arguments, numbers and bytes. */
 #ifndef PLAIN_H
 #define PLAIN_H
 
@@ -8,6 +8,8 @@
 uint8_t plain_check(const uint8_t *sequence, size_t length, uint32_t read_back);
 uint8_t plain_tick(const uint8_t *sequence, size_t sequence_length, uint8_t *state, size_t state_length, uint32_t input,
                    uint32_t read_back, uint8_t *answer, size_t answer_length);
+uint8_t plain_replay(const uint8_t *sequence, size_t sequence_length, uint32_t read_back, const uint8_t *recording,
+                     size_t recording_length, size_t *place);
 
 enum { PLAIN_FARMS = 32 };
 
