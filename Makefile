@@ -1,9 +1,10 @@
-# INTAKE_ARCHIVE and RUN_PROGRAM name another archive or run program to test or time than the proved one, from the root
-# of the repository. BAY names the run file of `make run`, `make show`, `make paper` and `make unroll`, NAMES a file of names for
+# INTAKE_ARCHIVE, RUN_PROGRAM, UNROLL_PROGRAM and REPLAY_PROGRAM name another archive or program to test or time than the proved one, from
+# the root of the repository. BAY names the run file of `make run`, `make show`, `make paper` and `make unroll`, NAMES a file of names for
 # the last three.
 INTAKE_ARCHIVE ?= target/staticlib/libintake.a
 RUN_PROGRAM ?= target/bin/run
 UNROLL_PROGRAM ?= target/bin/unroll
+REPLAY_PROGRAM ?= target/bin/replay
 BAY ?= examples/intake.bin
 NAMED = $(if $(NAMES),--names '$(NAMES)')
 
@@ -23,12 +24,14 @@ SOURCES := crates.txt $(shell find crates -name '*.rt' -o -name '*.antt')
 PREFIX ?= /usr/local
 VERSION = $(shell sed -n 's/^\#define INTAKE_VERSION_[A-Z]* \([0-9]*\)$$/\1/p' include/intake.h | paste -sd .)
 
-HOST_TESTS = host-rust host-c host-tick-rust host-tick-c host-box-rust host-box-c host-unroll-rust host-unroll-c host-example \
-	host-example-box host-stack host-archive host-freestanding host-header host-install host-again figures
+HOST_TESTS = host-rust host-c host-tick-rust host-tick-c host-box-rust host-box-c host-unroll-rust host-unroll-c host-replay-rust \
+	host-replay-c host-example host-example-box host-replay-program host-stack host-archive host-freestanding host-header \
+	host-install host-again figures
 
 # The two programs are built anew for whatever archive is named.
-.PHONY: help run show paper unroll vectors-diff test lib install certificate host $(HOST_TESTS) host-plain show-test format-test \
-	certificate-test bench bench-check bench-tick bench-box bench-unroll bench-run target/host/stack target/host/dearest
+.PHONY: help run show paper unroll replay vectors-diff test lib install certificate host $(HOST_TESTS) host-plain show-test \
+	format-test certificate-test bench bench-check bench-tick bench-box bench-unroll bench-replay bench-run target/host/stack \
+	target/host/dearest
 
 help: # lists the targets
 	@sed -n 's/^\([a-z-]*\):[^#]*# /\1: /p' Makefile
@@ -44,6 +47,9 @@ paper: $(RUN_PROGRAM) # shows that run on paper, by rewriting, and compares it w
 
 unroll: $(UNROLL_PROGRAM) # shows the commands of a shipped example, and those with its loops written out beside them; BAY as above
 	@$(UNROLL_PROGRAM) < '$(BAY)' | tools/show $(NAMED) --unrolled - '$(BAY)'
+
+replay: $(REPLAY_PROGRAM) # replays a recording of a shipped example; RECORDING=file, BAY as above
+	@head -c $$((6 + $$(od -An -tu2 -N2 '$(BAY)'))) '$(BAY)' | cat - '$(RECORDING)' | $(REPLAY_PROGRAM)
 
 vectors-diff: # shows each line that the vectors, as built last, print otherwise than crates/vectors/stdout has it
 	@target/bin/vectors < crates/vectors/stdin | diff -U 1 -F '^[^ ]' --label expected --label printed crates/vectors/stdout -
@@ -95,6 +101,13 @@ host-unroll-c: $(INTAKE_ARCHIVE) # writes loops out through include/intake.h und
 	@mkdir -p target/host
 	$(SANITIZED) -Iinclude host/unroll.c $(INTAKE_ARCHIVE) -o target/host/unroll && target/host/unroll host/unrolls.txt
 
+host-replay-rust: $(INTAKE_ARCHIVE) # compares the archive's replay of recordings with a model of it
+	$(CARGO) host/replay/Cargo.toml
+
+host-replay-c: $(INTAKE_ARCHIVE) # runs replays through include/intake.h under sanitizers
+	@mkdir -p target/host
+	$(SANITIZED) -Iinclude host/replay.c $(INTAKE_ARCHIVE) -o target/host/replay && target/host/replay host/examples.txt
+
 host-example: $(INTAKE_ARCHIVE) $(RUN_PROGRAM) # compares the example host with the run program
 	@mkdir -p target/host
 	$(WARNED) -O2 -Iinclude host/example.c $(INTAKE_ARCHIVE) -o target/host/example
@@ -106,6 +119,11 @@ host-example-box: $(INTAKE_ARCHIVE) # runs the examples side by side in a box by
 	$(WARNED) -O2 -Iinclude host/example_box.c $(INTAKE_ARCHIVE) -o target/host/example-box
 	$(SANITIZED) -Iinclude host/example_box.c $(INTAKE_ARCHIVE) -o target/host/example-box-sanitized
 	host/example_box_test.py target/host/example-box target/host/example-box-sanitized
+
+host-replay-program: $(INTAKE_ARCHIVE) $(REPLAY_PROGRAM) # replays what the example host records by the program for planners
+	@mkdir -p target/host
+	$(WARNED) -O2 -Iinclude host/example_box.c $(INTAKE_ARCHIVE) -o target/host/example-box-recording
+	host/replay_test.py $(REPLAY_PROGRAM) target/host/example-box-recording
 
 host-stack: target/host/stack # measures the stack of a call at the greatest depth, by painting
 	target/host/stack
@@ -143,6 +161,7 @@ host-archive: $(INTAKE_ARCHIVE) # shows the read-only data of the archive: jump 
 
 host-plain: target/plain/libintake.a # runs the host tests against plain C, with which the benchmarks compare
 	$(MAKE) host-rust host-c host-tick-rust host-tick-c host-box-rust host-box-c host-unroll-rust host-unroll-c \
+		host-replay-rust host-replay-c \
 		INTAKE_ARCHIVE=target/plain/libintake.a
 
 show-test: # tests tools/show and tools/runfile
@@ -151,7 +170,7 @@ show-test: # tests tools/show and tools/runfile
 format-test: # holds the tables of docs/FORMAT.md, and what CONTRIBUTING.md quotes, to what they repeat
 	tools/test_format.py
 
-bench: bench-check bench-tick bench-box bench-unroll # times all of it against plain C
+bench: bench-check bench-tick bench-box bench-unroll bench-replay # times all of it against plain C
 
 bench-check: $(INTAKE_ARCHIVE) # times the check
 	@mkdir -p target/bench
@@ -174,6 +193,11 @@ bench-unroll: $(INTAKE_ARCHIVE) # times the writing out of loops
 	$(TIMED) -Iinclude bench/unroll.c bench/plain.c bench/plain_unroll.c $(INTAKE_ARCHIVE) -lm -o target/bench/unroll
 	@target/bench/unroll $(filter-out examples/grading.bin, $(BAYS))
 
+bench-replay: $(INTAKE_ARCHIVE) # times the replay of a day's recording
+	@mkdir -p target/bench
+	$(TIMED) -Iinclude bench/replay.c bench/plain.c $(INTAKE_ARCHIVE) -lm -o target/bench/replay
+	@target/bench/replay $(BAYS)
+
 bench-run: $(RUN_PROGRAM) # times the run program on its greatest input, for some minutes
 	@mkdir -p target/bench
 	$(OPTIMIZED) bench/greatest.c bench/plain.c -o target/bench/greatest
@@ -192,8 +216,8 @@ target/lib/SHA256SUMS: target/staticlib/libintake.a include/intake.h include/int
 		include/intake.pc.in > target/lib/intake.pc
 	cd target/lib && sha256sum libintake.a intake.h intake.pc > SHA256SUMS
 
-PLAIN_CALLS = check tick deliver unroll $(addprefix box_, admit release tick save restore forget service panel preview ledger \
-	new_year)
+PLAIN_CALLS = check tick deliver unroll replay $(addprefix box_, admit release tick save restore forget service panel preview \
+	ledger new_year)
 PLAIN_NAMES = $(foreach call, $(PLAIN_CALLS), -Dplain_$(call)=intake_$(call))
 
 PLAIN_PARTS = plain plain_box plain_unroll
@@ -204,6 +228,6 @@ target/plain/libintake.a: $(foreach part, $(PLAIN_PARTS), bench/$(part).c bench/
 	ar rcs $@ $(PLAIN_PARTS:%=target/plain/%.o)
 
 # A crate that is proved already is not built again, so the program may keep its time.
-target/bin/run target/bin/unroll: target/bin/%: $(SOURCES)
+target/bin/run target/bin/unroll target/bin/replay: target/bin/%: $(SOURCES)
 	rt check $*
 	@touch -c $@
