@@ -183,7 +183,7 @@ def numbers(page):
     for row in rows(page, "No."):
         if row[3] and f"{row[0]}: {row[3].strip('`')}" not in examples:
             yield f"the example of number {row[0]} in host/examples.txt or host/unrolls.txt"
-        if not row[3] and row[0] not in ("1", "11", "12", "13", "14", "15", "16", "17", "19"):  # what these need is no sequence, or more than one
+        if not row[3] and row[0] not in ("1", "11", "12", "13", "14", "15", "16", "17", "19", "22"):  # what these need is no sequence, or more than one
             yield f"number {row[0]} has no example"
 
 
@@ -272,6 +272,21 @@ def run_file(page):
         yield f"the digits of a listing: {digits}"
 
 
+def recording(page):
+    """What the replay program prints, and how much it reads."""
+    words = {"accepted": "acceptance", "differs at": "difference", "refused": "refusal", "input cut": "inputCut"}
+    if [row[0].split("`")[1] for row in rows(page, "Line")] != list(words):
+        yield "the lines of the replay program"
+    spelled = text_of("crates/verdicts/specs/Verdict.antt") + text_of("crates/runs/specs/Text.antt")
+    for word, name in words.items():
+        spelling = re.search(rf"^{name}(?: \w+)? =\s+\(?((?:0x\w\w|space|[∷\s])+)", spelled, re.M)[1].replace("space", "0x20")
+        if bytes(int(byte, 16) for byte in re.findall(r"0x(\w\w)", spelling)).decode().rstrip() != word:
+            yield f"the spelling of {word}"
+    most = int(re.search(r"^maxFile = (\d+)$", text_of("crates/verdicts/specs/Verdict.antt"), re.M)[1])
+    if f"at most {most:,} bytes in all" not in page:
+        yield "the length of a file with a recording"
+
+
 def example(page):
     """01's example: its bytes and its listing are those that the test of the example host holds the run program to."""
     data, listing = worked()
@@ -321,7 +336,7 @@ def format_links(page):
     yield from links(PAGE, page)
 
 
-CHECKS = [commands, ranges, records, codes, kinds, numbers, box, calls, unrolled, run_file, example, glossary, format_links]
+CHECKS = [commands, ranges, records, codes, kinds, numbers, box, calls, unrolled, run_file, recording, example, glossary, format_links]
 
 
 def faults(page):
@@ -334,7 +349,7 @@ def faults(page):
 CHECKED = {"Byte": [0, 1, 2, 3], "Limit": [0, 1, 2], "State record": [0, 1, 2], "Answer record": [0, 1, 2],
            "Record": [0, 1, 2], "Panel": [0, 1, 2], "Preview": [0, 1, 2], "Ledger": [0, 1, 2], "Code": [0, 2],
            "Kind": [0, 1], "No.": [0, 1, 2, 3], "Stretch": [0, 1, 2], "Entry": [0, 1, 2], "Call": [0],
-           "Original": [0, 1], "Part": [1], "Field": [0, 1], "Term": [3]}
+           "Original": [0, 1], "Line": [0], "Part": [1], "Field": [0, 1], "Term": [3]}
 
 
 def other(cell):
