@@ -193,6 +193,26 @@ static void restored(void)
     intake_box_release(box, sizeof box, BAY);
 }
 
+/* Farm 0 delivers 16,777,216 litres in each instant. */
+static const uint8_t delivery[] = {0x06, 0x04, 0x0C, 0x00, 0x00, 0x00, 0x80, 0x4B, 0x01, 0x00};
+#define DELIVERY "06 04 0C 00 00 00 80 4B 01 00"
+
+/* A tick that a full ledger turns down leaves no record: what the bay records is accepted, and a replay asks no ledger. */
+static void full_ledger(void)
+{
+    uint8_t answer[INTAKE_ANSWER_LENGTH], record[RECORD];
+    size_t count = 0;
+    intake_box_admit(box, sizeof box, BAY, delivery, sizeof delivery, 0, 0);
+    while (count < 3) {
+        tick((uint32_t)count, &count);
+        uint8_t given = intake_box_tick(box, sizeof box, BAY, 7, answer, sizeof answer, record, RECORD);
+        expect(given == INTAKE_ABOVE_FARM_LIMIT, given, "a tick above the limit", "\n");
+        expect(intake_box_new_year(box, sizeof box, BAY) == INTAKE_ACCEPTED, 0, "a new year", "\n");
+    }
+    replay(0, 0, DELIVERY, recording, count);
+    intake_box_release(box, sizeof box, BAY);
+}
+
 int main(int argc, char **argv)
 {
     sequence_page = new_page();
@@ -202,6 +222,7 @@ int main(int argc, char **argv)
     each_line(argc == 2 ? argv[1] : NULL, run);
     of_a_bay();
     restored();
+    full_ledger();
     size_t place_given = 77;
     uint8_t given = intake_replay(NULL, 0, UINT32_MAX, NULL, 0, &place_given);
     expect(given == INTAKE_SEQUENCE_LENGTH && place_given == 0, given, "null pointers", "2:\n");
