@@ -18,7 +18,7 @@
 
 /* The version of this interface. The first number moves when a host must change. */
 #define INTAKE_VERSION_MAJOR 2
-#define INTAKE_VERSION_MINOR 3
+#define INTAKE_VERSION_MINOR 4
 #define INTAKE_VERSION_PATCH 0
 #define INTAKE_VERSION (INTAKE_VERSION_MAJOR * 10000 + INTAKE_VERSION_MINOR * 100 + INTAKE_VERSION_PATCH)
 
@@ -35,7 +35,7 @@
 #define INTAKE_STACK_THREAD 32768
 
 /* Bytes of code and jump tables in the archive, rounded up. */
-#define INTAKE_CODE_LENGTH 29696
+#define INTAKE_CODE_LENGTH 31744
 
 /* A function of this header that needs nothing of the archive. */
 #if defined(__cplusplus) || (defined(__STDC_VERSION__) && __STDC_VERSION__ >= 199901L)
