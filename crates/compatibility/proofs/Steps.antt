@@ -1,6 +1,6 @@
 -- Row 11 at each command, from what the code finds of its parts.
 use Prim.Native.Nat.{ℕ}
-use mathlib.Core.Path.{_≡_, sym, ap, ap₂, _∙_}
+use mathlib.Core.Path.{_≡_, sym, ap, ap₂, _∙_, subst}
 use mathlib.Core.Bool.{Bool, true, false, _&&_}
 use mathlib.Core.List.{List}
 use lib.ListN.{getD}
@@ -8,8 +8,9 @@ use Rattle.esterel.specs.Sets.{empty, below, from}
 use Rattle.esterel.specs.Statement.{local, Statement, seq, par, loop, present, signal, try, suspend}
 use Rattle.esterel.specs.Ranks.{middle, ofParts, compatible}
 use Rattle.sequence.specs.Commands.{Command}
-use Rattle.layout.specs.Layout.{Lies, Ready}
+use Rattle.layout.specs.Layout.{rest, Two, Lies, Ready, Pair}
 use Rattle.sequence.proofs.Table.{byteOf}
+use Rattle.layout.proofs.Parts.{rest-is}
 use Rattle.layout.proofs.Laid.{taken, command}
 use Rattle.layout.specs.Joints.{jointOf}
 
@@ -105,3 +106,11 @@ leaf-step {bs = bs} r base m p l n = go (command r .0) (command r .1)
     go Command.setpause b = rw (taken r base p l Command.setpause b .parts)
     go Command.suspend b = absurd (n .1 b)
     go Command.deliver b = rw (taken r base p l Command.deliver b .parts)
+
+-- ---- the two parts of a command whose bytes are handed on whole
+pub whole-pair : {t : List ℕ} {d a w : ℕ} {bs : List ℕ} → Pair t d a w bs → Pair t d a w (rest 0 bs)
+whole-pair {t} {d} {a} {w} {bs} r = subst (λ (l : List ℕ). Pair t d a w l) (sym (rest-is 0 bs)) r
+
+pub whole-two : {L : (base a : ℕ) → List ℕ → Statement → Type 0} {t : List ℕ} {base a w : ℕ} {bs : List ℕ} {p q : Statement} → Two L t base a w bs p q
+    → Two L t base a w (rest 0 bs) p q
+whole-two {L} {t} {base} {a} {w} {bs} {p} {q} h = subst (λ (l : List ℕ). Two L t base a w l p q) (sym (rest-is 0 bs)) h

@@ -1,4 +1,4 @@
-// Row 11 at a mask of active pauses: are they pairwise compatible? Only parts with an active pause are entered.
+// Row 11 at a mask of active pauses: are they pairwise compatible? Only parts with two of them or more are walked through.
 ghost use Prim.Native.Nat.{_-_, _≤_};
 ghost use lib.ListN.{length};
 ghost use Rattle.labels.specs.Labels.{labelSet};
@@ -12,12 +12,15 @@ pub fn compatible(s: &[u8], at: usize, depth: u8, second: &Seconds, active: Labe
     requires { ⌜ Ready (now second) depth at (now s) ⌝ }
     ensures { λ r. ⌜ TellsCompatible (now (second .entry)) depth at (now (s .entry)) (labelSet active) r ⌝ }
 {
+    if labels::is_empty(labels::without(active, labels::lowest(active))) {
+        return true;
+    }
     let command = s[0];
     match command {
-        4 => compatible_parts(s, at, 1, false, depth, second, active),
-        5 => compatible_parts(s, at, 1, true, depth, second, active),
+        4 => compatible_parts(&s[0..], at, 1, false, depth, second, active),
+        5 => compatible_parts(&s[0..], at, 1, true, depth, second, active),
         6 => compatible_part(s, 1, at + 1, depth - 1, second, active),
-        7 => compatible_parts(s, at, 2, false, depth, second, active),
+        7 => compatible_parts(&s[0..], at, 2, false, depth, second, active),
         8 => compatible_part(s, 2, at + 2, depth - 1, second, active),
         9 => compatible_part(s, 1, at + 1, depth - 1, second, active),
         11 => compatible_part(s, 2, at + 2, depth - 1, second, active),
