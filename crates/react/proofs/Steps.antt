@@ -1,7 +1,11 @@
 -- The tree of each command from those of its parts, as the code finds them.
-use Prim.Native.Nat.{ℕ, _<_}
+use Prim.Native.Nat.{ℕ, _+_, _-_, _<_}
 use mathlib.Core.Path.{_≡_, refl, sym, ap, _∙_}
 use mathlib.Core.Bool.{Bool, true, false, cond}
+use mathlib.Core.List.{List}
+use native.Mathlib.Omega.{arith}
+use lib.ListN.{length, getD, length-drop}
+use lib.Seq.{getD-drop}
 use borrow.Author.Tests.{lt-ltb}
 use Rattle.sets.specs.Sets.{signalCount, labelCount, onlyBelow, insertBelow}
 use Rattle.esterel.specs.Sets.{member, none, only, insert, remove}
@@ -15,6 +19,8 @@ use Rattle.esterel.specs.Resume as Esterel
 use Rattle.esterel.specs.Resume.{startTree, seqTree, parTree, loopTree, presentTree, tryTree, signalTree, signalOnce}
 use Rattle.theory.proofs.Trees.{start-tree-seq, start-tree-par, start-tree-loop, start-tree-present, start-tree-signal, start-tree-try, start-tree-suspend}
 use Rattle.theory.proofs.Asked.{one-run-signal}
+use Rattle.layout.specs.Layout.{rest, Ready}
+use Rattle.layout.proofs.Parts.{rest-is}
 use Rattle.reaction.specs.declared.Reaction.{Reaction}
 use Rattle.reaction.specs.Reactions.{alone, reactionOf, countedAround, FromOne, FromTwo}
 use Rattle.reaction.proofs.Values.{suspend-reaction, present-reaction}
@@ -100,3 +106,13 @@ module _ (f e : ℕ) {p r : Reaction} where
     pub absent-step : member x e ≡ false → p ≡ reactionOf (startTree f u e) → FromOne (countedAround b) p r
         → r ≡ reactionOf (startTree f (present x t u) e)
     absent-step = tested false
+
+-- ---- the part from index n on: its first byte is there, and is that at n
+module _ (n : ℕ) (bs : List ℕ) where
+  pub front-there : {t : List ℕ} {d a : ℕ} → Ready t d a (rest n bs) → n < length bs
+  front-there r = let e : length (rest n bs) ≡ length bs - n = ap length (rest-is n bs) ∙ length-drop n bs in omega (arith, r .bytes, e)
+
+  pub front-is : {b : ℕ} → getD bs n 0 ≡ b → getD (rest n bs) 0 0 ≡ b
+  front-is h =
+      let e : n + 0 ≡ n = omega arith in
+      ap (λ (l : List ℕ). getD l 0 0) (rest-is n bs) ∙ getD-drop n bs 0 0 ∙ ap (λ (k : ℕ). getD bs k 0) e ∙ h

@@ -18,8 +18,8 @@ use Rattle.theory.proofs.Sets.{join-none-l}
 use Rattle.theory.proofs.Trees.{start-tree-held}
 use Rattle.sequence.specs.Commands.{Command, commandOf}
 use Rattle.layout.specs.Layout.{Form, Lies}
-use Rattle.sequence.proofs.Table.{byte-is}
-use Rattle.layout.proofs.Laid.{opened}
+use Rattle.sequence.proofs.Table.{byteOf, byte-is}
+use Rattle.layout.proofs.Laid.{opened, by-command}
 use Rattle.reaction.specs.declared.Reaction.{Reaction}
 use Rattle.reaction.specs.Reactions.{alone, reactionOf, countedAround, FromOne, FromTwo}
 use Rattle.reaction.proofs.Values.{held-reaction}
@@ -165,3 +165,9 @@ leaf-step t d base a bs p farm m e {r} l w h = go (commandOf (getD bs 0 0)) refl
     go (some Command.setpause) q f = rw (f .parts) h
     go (some Command.suspend) q f = absurd (w .1 (byte-is (getD bs 0 0) Command.suspend q))
     go (some Command.deliver) q f = rw (f .parts) h
+
+-- an active pause
+pub pause-step : (t : List ℕ) (d base a : ℕ) (bs : List ℕ) (p : Statement) (farm m e : ℕ) {r : Reaction} → Lies t d base a bs p → getD bs 0 0 ≡ byteOf Command.pause
+    → r ≡ reactionOf (startTree farm nothing e) → r ≡ reactionOf (resumeTree farm base p m e)
+unfolding expandBy
+pause-step t d base a bs p farm m e l b h = rw (by-command t d base a bs p l Command.pause b .parts) h

@@ -51,6 +51,9 @@ fn part(
     requires { ⌜ Ready (now second) depth at (rest n (now s)) ⌝ }
     ensures { λ r. ⌜ Resumed (now (second .entry)) depth at (rest n (now (s .entry))) (labelSet active) input farm r ⌝ }
 {
+    if s[n] == 1 {
+        return reaction::ending(0, 0);
+    }
     resume(&s[n..], at, depth, input, farm, active, second)
 }
 

@@ -5,7 +5,7 @@ use borrow.Author.Tests.{ltb-true}
 use Rattle.esterel.specs.Statement.{local, nothing, seq, par, loop, present, signal, try, suspend}
 use Rattle.sequence.specs.Commands.{Command}
 use Rattle.layout.proofs.Laid.{ready, whole, whole-lies, taken, begins}
-use Rattle.react.proofs.Steps.{nothing-step}
+use Rattle.react.proofs.Steps.{nothing-step, front-there, front-is}
 use Rattle.resume.proofs.Steps.{
   here,
   seq-first,
@@ -22,6 +22,7 @@ use Rattle.resume.proofs.Steps.{
   side-ended,
   side-active,
   leaf-step,
+  pause-step,
 }
 use Prim.Native.Nat.{ℕ, _+_, _*_, _-_, _<_}
 use borrow.Fn.Kinds.{In}
@@ -189,7 +190,7 @@ abbrev par-parts-claims : ℕ → par-parts-lts.Claims
 par-parts-claims t = (below-reads.Asked, below-reads.Learnt, side-below t, side.Post, from-reads.Asked, from-reads.Learnt, in-parallel-reads.Asked, in-parallel-reads.Learnt)
 
 abbrev part-claims : ℕ → part-lts.Claims
-part-claims t = (resume-below t, resume.Post)
+part-claims t = (ending-reads.Asked, ending-reads.Learnt, resume-below t, resume.Post)
 
 abbrev present-parts-claims : ℕ → present-parts-lts.Claims
 present-parts-claims t = (below-reads.Asked, below-reads.Learnt, is-empty-reads.Asked, is-empty-reads.Learnt, from-reads.Asked, from-reads.Learnt, part-below t, part.Post)
@@ -241,24 +242,17 @@ par-parts-returns t c base p l =
     here _ base _ _ (par (y .0) (y .1)) p (y .2 .0)
     (par-step _ base _ _ (y .0) (y .1) _ _ (y .2 .1 .before) (c .before .before .before .before .below .ensures) _ (c .before .before .from .ensures) (c .before .before .before .side .ensures base (y .0) (y .2 .1 .first)) (c .before .side2 .ensures _ (y .1) (y .2 .1 .second)) (c .in-parallel .ensures))
 
-part-sub-resume :
-    (t : ℕ) → part-lts.Need-sub-resume (resume-below t, resume.Post) (part-at t) part.Post
-part-sub-resume t c = search needs
-
-part-part-resume-start :
-    (t : ℕ) → part-lts.Need-part-resume-start (resume-below t, resume.Post) (part-at t) part.Post
-part-part-resume-start t c = search needs
-
-part-part-resume-end :
-    (t : ℕ) → part-lts.Need-part-resume-end (resume-below t, resume.Post) (part-at t) part.Post
-part-part-resume-end t c = search needs
-
-part-resume-requires :
-    (t : ℕ) → part-lts.Need-resume-requires (resume-below t, resume.Post) (part-at t) part.Post
-part-resume-requires t c κs = (search needs, c .before .before .pre .1 .1)
+part-shared-slice-read-if1 : (t : ℕ) → part-lts.Need-shared-slice-read-if1 (part-claims t) (part-at t) part.Post
+part-shared-slice-read-if1 t c = front-there (c .before .before .args .n) (c .before .before .args .s .now) (c .before .before .pre .1 .1)
 
 part-returns : (t : ℕ) → part-lts.Need-returns (part-claims t) (part-at t) part.Post
-part-returns t c base p l = c .resume .ensures base p l
+part-returns t c base p l = pause-step _ _ base _ _ p _ _ _ l (front-is (c .before .before .before .before .args .n) (c .before .before .before .before .args .s .now) (c .before .if1 .taken)) (nothing-step _ nothing _ _ refl (c .ending .ensures 0 refl))
+
+part-resume-requires : (t : ℕ) → part-lts.Need-resume-requires (part-claims t) (part-at t) part.Post
+part-resume-requires t c κs = (search needs, c .before .before .before .before .pre .1 .1)
+
+part-returns-2 : (t : ℕ) → part-lts.Need-returns-2 (part-claims t) (part-at t) part.Post
+part-returns-2 t c base p l = c .resume .ensures base p l
 
 present-parts-element-copy-out-entry : (t : ℕ) → present-parts-lts.Need-element-copy-out-entry (present-parts-claims t) (present-parts-at t) present-parts.Post
 present-parts-element-copy-out-entry t c = omega (arith, c .before .pre .1 .0 .long, c .before .pre .1 .0 .fits, c .before .pre .1 .0 .bytes)
@@ -485,11 +479,12 @@ pub +loop-part+par-parts+part+present-parts+resume+seq-parts+side+signal-rule+su
     (par-parts-returns t))
     (λ t. part-lts.spec (part-claims t) (part-at t)
     part.Post
-    (part-sub-resume t)
-    (part-part-resume-start t)
-    (part-part-resume-end t)
+    (part-shared-slice-read-if1 t)
+    (λ c κs. search needs)
+    (part-returns t)
+    (λ c. search needs) (λ c. search needs) (λ c. search needs)
     (part-resume-requires t)
-    (part-returns t))
+    (part-returns-2 t))
     (λ t. present-parts-lts.spec (present-parts-claims t) (present-parts-at t)
     present-parts.Post
     (λ c. search needs)
