@@ -45,6 +45,9 @@ fn part(
     requires { ⌜ Ready (now second) depth at (rest n (now s)) ⌝ }
     ensures { λ r. ⌜ Started (now (second .entry)) depth at (rest n (now (s .entry))) input farm r ⌝ }
 {
+    if s[n] == 0 {
+        return reaction::ending(0, 0);
+    }
     react(&s[n..], at, depth, input, farm, second)
 }
 

@@ -25,6 +25,8 @@ use Rattle.react.proofs.Steps.{
   par-step,
   present-step,
   absent-step,
+  front-there,
+  front-is,
 }
 use Prim.Native.Nat.{ℕ, _+_, _*_, _-_, _<_}
 use borrow.Fn.Kinds.{In}
@@ -182,7 +184,7 @@ abbrev par-parts-claims : ℕ → par-parts-lts.Claims
 par-parts-claims t = (part-below t, part.Post, in-parallel-reads.Asked, in-parallel-reads.Learnt)
 
 abbrev part-claims : ℕ → part-lts.Claims
-part-claims t = (react-below t, react.Post)
+part-claims t = (ending-reads.Asked, ending-reads.Learnt, react-below t, react.Post)
 
 abbrev present-parts-claims : ℕ → present-parts-lts.Claims
 present-parts-claims t = (single-reads.Asked, single-reads.Learnt, member-reads.Asked, member-reads.Learnt, part-below t, part.Post, around-reads.Asked, around-reads.Learnt)
@@ -236,24 +238,19 @@ par-parts-returns t c base p l =
     here _ (par (y .0) (y .1)) p _ (y .2 .0)
     (par-step _ _ (y .0) (y .1) (c .before .before .part .ensures base (y .0) (y .2 .1 .first)) (c .before .part2 .ensures _ (y .1) (y .2 .1 .second)) (c .in-parallel .ensures))
 
-part-sub-react :
-    (t : ℕ) → part-lts.Need-sub-react (react-below t, react.Post) (part-at t) part.Post
-part-sub-react t c = search needs
-
-part-part-react-start :
-    (t : ℕ) → part-lts.Need-part-react-start (react-below t, react.Post) (part-at t) part.Post
-part-part-react-start t c = search needs
-
-part-part-react-end :
-    (t : ℕ) → part-lts.Need-part-react-end (react-below t, react.Post) (part-at t) part.Post
-part-part-react-end t c = search needs
-
-part-react-requires :
-    (t : ℕ) → part-lts.Need-react-requires (react-below t, react.Post) (part-at t) part.Post
-part-react-requires t c κs = (search needs, c .before .before .pre .1 .1)
+part-shared-slice-read-if1 : (t : ℕ) → part-lts.Need-shared-slice-read-if1 (part-claims t) (part-at t) part.Post
+part-shared-slice-read-if1 t c = front-there (c .before .before .args .n) (c .before .before .args .s .now) (c .before .before .pre .1 .1)
 
 part-returns : (t : ℕ) → part-lts.Need-returns (part-claims t) (part-at t) part.Post
-part-returns t c base p l = c .react .ensures base p l
+part-returns t c base p l =
+    let d = c .before .before .before .before in
+    nothing-step _ p _ _ (taken (d .pre .1 .1) base p l Command.nothing (front-is (d .args .n) (d .args .s .now) (c .before .if1 .taken)) .parts) (c .ending .ensures 0 refl)
+
+part-react-requires : (t : ℕ) → part-lts.Need-react-requires (part-claims t) (part-at t) part.Post
+part-react-requires t c κs = (search needs, c .before .before .before .before .pre .1 .1)
+
+part-returns-2 : (t : ℕ) → part-lts.Need-returns-2 (part-claims t) (part-at t) part.Post
+part-returns-2 t c base p l = c .react .ensures base p l
 
 present-parts-shared-slice-read-x : (t : ℕ) → present-parts-lts.Need-shared-slice-read-x (present-parts-claims t) (present-parts-at t) present-parts.Post
 present-parts-shared-slice-read-x t c = begins (c .before .before .pre .1 .0) Command.present (c .before .before .pre .1 .1) .there
@@ -494,11 +491,12 @@ pub +after+loop-part+par-parts+part+present-parts+react+seq-parts+signal-rule+tr
     (par-parts-returns t))
     (λ t. part-lts.spec (part-claims t) (part-at t)
     part.Post
-    (part-sub-react t)
-    (part-part-react-start t)
-    (part-part-react-end t)
+    (part-shared-slice-read-if1 t)
+    (λ c κs. search needs)
+    (part-returns t)
+    (λ c. search needs) (λ c. search needs) (λ c. search needs)
     (part-react-requires t)
-    (part-returns t))
+    (part-returns-2 t))
     (λ t. present-parts-lts.spec (present-parts-claims t) (present-parts-at t)
     present-parts.Post
     (present-parts-shared-slice-read-x t)
