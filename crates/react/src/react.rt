@@ -115,21 +115,51 @@ fn present_parts(s: &[u8], at: usize, depth: u8, input: u32, farm: u8, second: &
     }
 }
 
-// The body reacts without the signal, and with it where that run asked for the signal; else the second run would repeat the first.
+// The bytes of a declaration are handed on as a part of the slice, as those of every part are.
 fn signal_rule(s: &[u8], at: usize, depth: u8, input: u32, farm: u8, second: &Seconds) -> Reaction
+    requires { ⌜ Ready (now second) depth at (now s) × (getD (now s) 0 0 ≡ 8) ⌝ }
+    ensures { λ r. ⌜ Started (now (second .entry)) depth at (now (s .entry)) input farm r ⌝ }
+{
+    declared(&s[0..], at, depth, input, farm, second)
+}
+
+// The body reacts without the signal, and with it where that run asked for the signal; else the second run would repeat the first.
+// This function calls itself where the body is a declaration too, and so keeps a frame of its own: no other level of the walk has
+// room for two runs, and at most six declarations stand around a command (row 6).
+fn declared(s: &[u8], at: usize, depth: u8, input: u32, farm: u8, second: &Seconds) -> Reaction
     requires { ⌜ Ready (now second) depth at (now s) × (getD (now s) 0 0 ≡ 8) ⌝ }
     ensures { λ r. ⌜ Started (now (second .entry)) depth at (now (s .entry)) input farm r ⌝ }
 {
     let x = s[1];
     let without = signals::without(input, x);
     let with = signals::with(input, x);
-    let p = part(s, 2, at + 2, depth - 1, without, farm, second);
+    let p = body(s, 2, at + 2, depth - 1, without, farm, second);
     if signals::member(p.asked, x) {
-        let q = part(s, 2, at + 2, depth - 1, with, farm, second);
+        let q = body(s, 2, at + 2, depth - 1, with, farm, second);
         declarations::in_signal(at as u16, x, farm, p, q)
     } else {
         declarations::in_signal_once(x, farm, p)
     }
+}
+
+// The body of a declaration, which begins at index n of s: a declaration again, or any other part.
+fn body(
+    s: &[u8],
+    n: usize,
+    at: usize,
+    depth: u8,
+    input: u32,
+    farm: u8,
+    second: &Seconds,
+) -> Reaction
+    requires { ⌜ n ≤ length (now s) ⌝ }
+    requires { ⌜ Ready (now second) depth at (rest n (now s)) ⌝ }
+    ensures { λ r. ⌜ Started (now (second .entry)) depth at (rest n (now (s .entry))) input farm r ⌝ }
+{
+    if s[n] == 8 {
+        return declared(&s[n..], at, depth, input, farm, second);
+    }
+    part(s, n, at, depth, input, farm, second)
 }
 
 fn try_part(s: &[u8], at: usize, depth: u8, input: u32, farm: u8, second: &Seconds) -> Reaction

@@ -27,36 +27,42 @@ use Rattle.resume.proofs.Steps.{
 use Prim.Native.Nat.{ℕ, _+_, _*_, _-_, _<_}
 use borrow.Fn.Kinds.{In}
 use borrow.Fn.PlainCycle.{Measures, is, falls, and}
+use Rattle.resume.proofs.resume.body.Reads as body
+use Rattle.resume.proofs.resume.body.Kinds as body-kinds
+use Rattle.resume.proofs.resume.+body+declared+loop_part+par_parts+part+present_parts+resume+seq_parts+side+signal_rule+suspend_part+try_part.Lts-body as body-lts
+use Rattle.resume.proofs.resume.declared.Reads as declared
+use Rattle.resume.proofs.resume.declared.Kinds as declared-kinds
+use Rattle.resume.proofs.resume.+body+declared+loop_part+par_parts+part+present_parts+resume+seq_parts+side+signal_rule+suspend_part+try_part.Lts-declared as declared-lts
 use Rattle.resume.proofs.resume.loop_part.Reads as loop-part
 use Rattle.resume.proofs.resume.loop_part.Kinds as loop-part-kinds
-use Rattle.resume.proofs.resume.+loop_part+par_parts+part+present_parts+resume+seq_parts+side+signal_rule+suspend_part+try_part.Lts-loop_part as loop-part-lts
+use Rattle.resume.proofs.resume.+body+declared+loop_part+par_parts+part+present_parts+resume+seq_parts+side+signal_rule+suspend_part+try_part.Lts-loop_part as loop-part-lts
 use Rattle.resume.proofs.resume.par_parts.Reads as par-parts
 use Rattle.resume.proofs.resume.par_parts.Kinds as par-parts-kinds
-use Rattle.resume.proofs.resume.+loop_part+par_parts+part+present_parts+resume+seq_parts+side+signal_rule+suspend_part+try_part.Lts-par_parts as par-parts-lts
+use Rattle.resume.proofs.resume.+body+declared+loop_part+par_parts+part+present_parts+resume+seq_parts+side+signal_rule+suspend_part+try_part.Lts-par_parts as par-parts-lts
 use Rattle.resume.proofs.resume.part.Reads as part
 use Rattle.resume.proofs.resume.part.Kinds as part-kinds
-use Rattle.resume.proofs.resume.+loop_part+par_parts+part+present_parts+resume+seq_parts+side+signal_rule+suspend_part+try_part.Lts-part as part-lts
+use Rattle.resume.proofs.resume.+body+declared+loop_part+par_parts+part+present_parts+resume+seq_parts+side+signal_rule+suspend_part+try_part.Lts-part as part-lts
 use Rattle.resume.proofs.resume.present_parts.Reads as present-parts
 use Rattle.resume.proofs.resume.present_parts.Kinds as present-parts-kinds
-use Rattle.resume.proofs.resume.+loop_part+par_parts+part+present_parts+resume+seq_parts+side+signal_rule+suspend_part+try_part.Lts-present_parts as present-parts-lts
+use Rattle.resume.proofs.resume.+body+declared+loop_part+par_parts+part+present_parts+resume+seq_parts+side+signal_rule+suspend_part+try_part.Lts-present_parts as present-parts-lts
 use Rattle.resume.proofs.resume.resume.Reads as resume
 use Rattle.resume.proofs.resume.resume.Kinds as resume-kinds
-use Rattle.resume.proofs.resume.+loop_part+par_parts+part+present_parts+resume+seq_parts+side+signal_rule+suspend_part+try_part.Lts-resume as resume-lts
+use Rattle.resume.proofs.resume.+body+declared+loop_part+par_parts+part+present_parts+resume+seq_parts+side+signal_rule+suspend_part+try_part.Lts-resume as resume-lts
 use Rattle.resume.proofs.resume.seq_parts.Reads as seq-parts
 use Rattle.resume.proofs.resume.seq_parts.Kinds as seq-parts-kinds
-use Rattle.resume.proofs.resume.+loop_part+par_parts+part+present_parts+resume+seq_parts+side+signal_rule+suspend_part+try_part.Lts-seq_parts as seq-parts-lts
+use Rattle.resume.proofs.resume.+body+declared+loop_part+par_parts+part+present_parts+resume+seq_parts+side+signal_rule+suspend_part+try_part.Lts-seq_parts as seq-parts-lts
 use Rattle.resume.proofs.resume.side.Reads as side
 use Rattle.resume.proofs.resume.side.Kinds as side-kinds
-use Rattle.resume.proofs.resume.+loop_part+par_parts+part+present_parts+resume+seq_parts+side+signal_rule+suspend_part+try_part.Lts-side as side-lts
+use Rattle.resume.proofs.resume.+body+declared+loop_part+par_parts+part+present_parts+resume+seq_parts+side+signal_rule+suspend_part+try_part.Lts-side as side-lts
 use Rattle.resume.proofs.resume.signal_rule.Reads as signal-rule
 use Rattle.resume.proofs.resume.signal_rule.Kinds as signal-rule-kinds
-use Rattle.resume.proofs.resume.+loop_part+par_parts+part+present_parts+resume+seq_parts+side+signal_rule+suspend_part+try_part.Lts-signal_rule as signal-rule-lts
+use Rattle.resume.proofs.resume.+body+declared+loop_part+par_parts+part+present_parts+resume+seq_parts+side+signal_rule+suspend_part+try_part.Lts-signal_rule as signal-rule-lts
 use Rattle.resume.proofs.resume.suspend_part.Reads as suspend-part
 use Rattle.resume.proofs.resume.suspend_part.Kinds as suspend-part-kinds
-use Rattle.resume.proofs.resume.+loop_part+par_parts+part+present_parts+resume+seq_parts+side+signal_rule+suspend_part+try_part.Lts-suspend_part as suspend-part-lts
+use Rattle.resume.proofs.resume.+body+declared+loop_part+par_parts+part+present_parts+resume+seq_parts+side+signal_rule+suspend_part+try_part.Lts-suspend_part as suspend-part-lts
 use Rattle.resume.proofs.resume.try_part.Reads as try-part
 use Rattle.resume.proofs.resume.try_part.Kinds as try-part-kinds
-use Rattle.resume.proofs.resume.+loop_part+par_parts+part+present_parts+resume+seq_parts+side+signal_rule+suspend_part+try_part.Lts-try_part as try-part-lts
+use Rattle.resume.proofs.resume.+body+declared+loop_part+par_parts+part+present_parts+resume+seq_parts+side+signal_rule+suspend_part+try_part.Lts-try_part as try-part-lts
 use Rattle.react.proofs.react.after.Reads as after-reads
 use Rattle.reaction.proofs.ending.Reads as ending-reads
 use Rattle.rules.proofs.in_parallel.Reads as in-parallel-reads
@@ -73,42 +79,60 @@ use Rattle.signals.proofs.member.Reads as member-reads
 use Rattle.signals.proofs.single.Reads as single-reads
 use Rattle.signals.proofs.with.Reads as with-reads
 use Rattle.signals.proofs.without.Reads as without-reads
-use Rattle.resume.proofs.resume.+loop_part+par_parts+part+present_parts+resume+seq_parts+side+signal_rule+suspend_part+try_part.{
+use Rattle.resume.proofs.resume.+body+declared+loop_part+par_parts+part+present_parts+resume+seq_parts+side+signal_rule+suspend_part+try_part.{
   statement,
 }
-use Rattle.resume.proofs.resume.+loop_part+par_parts+part+present_parts+resume+seq_parts+side+signal_rule+suspend_part+try_part.Tie.{
+use Rattle.resume.proofs.resume.+body+declared+loop_part+par_parts+part+present_parts+resume+seq_parts+side+signal_rule+suspend_part+try_part.Tie.{
   close,
 }
 
+abbrev μ-body : Measures 2 body-kinds.ps ℕ
+μ-body κs a = 6 * (a .1 .1 .1 .0) + 2
+
+abbrev μ-declared : Measures 2 declared-kinds.ps ℕ
+μ-declared κs a = 6 * (a .1 .1 .0) - 2
+
 abbrev μ-loop-part : Measures 2 loop-part-kinds.ps ℕ
-μ-loop-part κs a = 4 * (a .1 .1 .0) - 1
+μ-loop-part κs a = 6 * (a .1 .1 .0) - 1
 
 abbrev μ-par-parts : Measures 2 par-parts-kinds.ps ℕ
-μ-par-parts κs a = 4 * (a .1 .1 .0) - 1
+μ-par-parts κs a = 6 * (a .1 .1 .0) - 1
 
 abbrev μ-part : Measures 2 part-kinds.ps ℕ
-μ-part κs a = 4 * (a .1 .1 .1 .0) + 1
+μ-part κs a = 6 * (a .1 .1 .1 .0) + 1
 
 abbrev μ-present-parts : Measures 2 present-parts-kinds.ps ℕ
-μ-present-parts κs a = 4 * (a .1 .1 .0) - 1
+μ-present-parts κs a = 6 * (a .1 .1 .0) - 1
 
 abbrev μ-resume : Measures 2 resume-kinds.ps ℕ
-μ-resume κs a = 4 * (a .1 .1 .0)
+μ-resume κs a = 6 * (a .1 .1 .0)
 
 abbrev μ-seq-parts : Measures 2 seq-parts-kinds.ps ℕ
-μ-seq-parts κs a = 4 * (a .1 .1 .0) - 1
+μ-seq-parts κs a = 6 * (a .1 .1 .0) - 1
 
 abbrev μ-side : Measures 2 side-kinds.ps ℕ
-μ-side κs a = 4 * (a .1 .1 .1 .0) + 2
+μ-side κs a = 6 * (a .1 .1 .1 .0) + 2
 
 abbrev μ-signal-rule : Measures 2 signal-rule-kinds.ps ℕ
-μ-signal-rule κs a = 4 * (a .1 .1 .0) - 1
+μ-signal-rule κs a = 6 * (a .1 .1 .0) - 1
 
 abbrev μ-suspend-part : Measures 2 suspend-part-kinds.ps ℕ
-μ-suspend-part κs a = 4 * (a .1 .1 .0) - 1
+μ-suspend-part κs a = 6 * (a .1 .1 .0) - 1
 
 abbrev μ-try-part : Measures 2 try-part-kinds.ps ℕ
-μ-try-part κs a = 4 * (a .1 .1 .0) - 1
+μ-try-part κs a = 6 * (a .1 .1 .0) - 1
+
+abbrev body-at : ℕ → In 2 body-kinds.ps
+body-at t = and 2 body-kinds.ps (is 2 body-kinds.ps μ-body t) body.Pre
+
+abbrev body-below : ℕ → In 2 body-kinds.ps
+body-below t = and 2 body-kinds.ps (falls 2 body-kinds.ps _<_ μ-body t) body.Pre
+
+abbrev declared-at : ℕ → In 2 declared-kinds.ps
+declared-at t = and 2 declared-kinds.ps (is 2 declared-kinds.ps μ-declared t) declared.Pre
+
+abbrev declared-below : ℕ → In 2 declared-kinds.ps
+declared-below t = and 2 declared-kinds.ps (falls 2 declared-kinds.ps _<_ μ-declared t) declared.Pre
 
 abbrev loop-part-at : ℕ → In 2 loop-part-kinds.ps
 loop-part-at t = and 2 loop-part-kinds.ps (is 2 loop-part-kinds.ps μ-loop-part t) loop-part.Pre
@@ -183,6 +207,12 @@ abbrev try-part-below : ℕ → In 2 try-part-kinds.ps
 try-part-below t =
     and 2 try-part-kinds.ps (falls 2 try-part-kinds.ps _<_ μ-try-part t) try-part.Pre
 
+abbrev body-claims : ℕ → body-lts.Claims
+body-claims t = (declared-below t, declared.Post, part-below t, part.Post)
+
+abbrev declared-claims : ℕ → declared-lts.Claims
+declared-claims t = (without-reads.Asked, without-reads.Learnt, with-reads.Asked, with-reads.Learnt, body-below t, body.Post, member-reads.Asked, member-reads.Learnt, in-signal-reads.Asked, in-signal-reads.Learnt, in-signal-once-reads.Asked, in-signal-once-reads.Learnt)
+
 abbrev loop-part-claims : ℕ → loop-part-lts.Claims
 loop-part-claims t = (part-below t, part.Post, after-reads.Asked, after-reads.Learnt)
 
@@ -205,13 +235,70 @@ abbrev side-claims : ℕ → side-lts.Claims
 side-claims t = (is-empty-reads.Asked, is-empty-reads.Learnt, ending-reads.Asked, ending-reads.Learnt, part-below t, part.Post)
 
 abbrev signal-rule-claims : ℕ → signal-rule-lts.Claims
-signal-rule-claims t = (without-reads.Asked, without-reads.Learnt, with-reads.Asked, with-reads.Learnt, part-below t, part.Post, member-reads.Asked, member-reads.Learnt, in-signal-reads.Asked, in-signal-reads.Learnt, in-signal-once-reads.Asked, in-signal-once-reads.Learnt)
+signal-rule-claims t = (declared-below t, declared.Post)
 
 abbrev suspend-part-claims : ℕ → suspend-part-lts.Claims
 suspend-part-claims t = (single-reads.Asked, single-reads.Learnt, member-reads.Asked, member-reads.Learnt, of-part-reads.Asked, of-part-reads.Learnt, waiting-reads.Asked, waiting-reads.Learnt, part-below t, part.Post, around-reads.Asked, around-reads.Learnt)
 
 abbrev try-part-claims : ℕ → try-part-lts.Claims
 try-part-claims t = (part-below t, part.Post, in-try-reads.Asked, in-try-reads.Learnt)
+
+body-shared-slice-read-if1 : (t : ℕ) → body-lts.Need-shared-slice-read-if1 (body-claims t) (body-at t) body.Post
+body-shared-slice-read-if1 t c = front-there (c .before .before .args .n) (c .before .before .args .s .now) (c .before .before .pre .1 .1)
+
+body-declared-requires : (t : ℕ) → body-lts.Need-declared-requires (body-claims t) (body-at t) body.Post
+body-declared-requires t c κs =
+    let d = c .before .before .before .before in
+    (search needs, (d .pre .1 .1, front-is (d .args .n) (d .args .s .now) (c .before .if1 .taken)))
+
+body-returns : (t : ℕ) → body-lts.Need-returns (body-claims t) (body-at t) body.Post
+body-returns t c base p l = c .declared .ensures base p l
+
+body-part-requires : (t : ℕ) → body-lts.Need-part-requires (body-claims t) (body-at t) body.Post
+body-part-requires t c κs = (search needs, (c .before .before .before .pre .1 .0, c .before .before .before .pre .1 .1))
+
+body-returns-2 : (t : ℕ) → body-lts.Need-returns-2 (body-claims t) (body-at t) body.Post
+body-returns-2 t c base p l = c .part .ensures base p l
+
+declared-shared-slice-read-x : (t : ℕ) → declared-lts.Need-shared-slice-read-x (declared-claims t) (declared-at t) declared.Post
+declared-shared-slice-read-x t c = begins (c .before .before .pre .1 .0) Command.signal (c .before .before .pre .1 .1) .there
+
+declared-body-requires : (t : ℕ) → declared-lts.Need-body-requires (declared-claims t) (declared-at t) declared.Post
+declared-body-requires t c κs =
+    let f = c .before .before .before .before .pre .1 in
+    let y = begins (f .0) Command.signal (f .1) in
+    (search needs, (y .there, ready _ (y .parts .0) (f .0 .long) (y .parts .1 .1)))
+
+declared-body-requires-2 : (t : ℕ) → declared-lts.Need-body-requires-2 (declared-claims t) (declared-at t) declared.Post
+declared-body-requires-2 t c κs =
+    let f = c .before .before .before .before .before .before .before .pre .1 in
+    let y = begins (f .0) Command.signal (f .1) in
+    (search needs, (y .there, ready _ (y .parts .0) (f .0 .long) (y .parts .1 .1)))
+
+declared-cast-in-signal : (t : ℕ) → declared-lts.Need-cast-in-signal (declared-claims t) (declared-at t) declared.Post
+declared-cast-in-signal t c =
+    let f = c .before .before .before .before .before .before .before .before .pre .1 .0 in
+    omega (arith, f .long, f .fits, f .bytes)
+
+declared-returns : (t : ℕ) → declared-lts.Need-returns (declared-claims t) (declared-at t) declared.Post
+declared-returns t c base p l =
+    let f = c .before .before .before .before .before .before .before .before .before .pre .1 in
+    let d = c .before .before .before .before in
+    let y = taken (f .0) base p l Command.signal (f .1) in
+    let q = y .parts .0 in
+    here _ base _ _ (signal local _ _ q) p (y .parts .1 .0)
+    (signal-step _ base _ _ q _ _ (ltb-true _ _ (y .ranged)) (d .before .before .without .ensures) (d .body .ensures base q (y .parts .1 .1))
+    (d .before .with .ensures) (c .before .body2 .ensures base q (y .parts .1 .1)) (c .in-signal .ensures))
+
+declared-returns-2 : (t : ℕ) → declared-lts.Need-returns-2 (declared-claims t) (declared-at t) declared.Post
+declared-returns-2 t c base p l =
+    let f = c .before .before .before .before .before .before .before .before .pre .1 in
+    let d = c .before .before .before in
+    let y = taken (f .0) base p l Command.signal (f .1) in
+    let q = y .parts .0 in
+    here _ base _ _ (signal local _ _ q) p (y .parts .1 .0)
+    (signal-once-step _ base _ _ q _ _ (ltb-true _ _ (y .ranged)) (d .before .before .without .ensures) (d .body .ensures base q (y .parts .1 .1))
+    (sym (c .before .before .member .ensures) ∙ c .before .if1 .left) (c .in-signal-once .ensures _))
 
 loop-part-part-requires : (t : ℕ) → loop-part-lts.Need-part-requires (loop-part-claims t) (loop-part-at t) loop-part.Post
 loop-part-part-requires t c κs = let y = begins (c .before .pre .1 .0) Command.loop (c .before .pre .1 .1) in (search needs, (y .there, ready _ (y .parts .0) (c .before .pre .1 .0 .long) (y .parts .1 .1)))
@@ -362,45 +449,13 @@ side-part-requires t c κs = (search needs, (c .before .before .before .pre .1 .
 side-returns-2 : (t : ℕ) → side-lts.Need-returns-2 (side-claims t) (side-at t) side.Post
 side-returns-2 t c base p l = side-active _ base _ _ p (sym (c .before .before .is-empty .ensures) ∙ c .before .if1 .left) (c .part .ensures base p l)
 
-signal-rule-shared-slice-read-x : (t : ℕ) → signal-rule-lts.Need-shared-slice-read-x (signal-rule-claims t) (signal-rule-at t) signal-rule.Post
-signal-rule-shared-slice-read-x t c = begins (c .before .before .pre .1 .0) Command.signal (c .before .before .pre .1 .1) .there
-
-signal-rule-part-requires : (t : ℕ) → signal-rule-lts.Need-part-requires (signal-rule-claims t) (signal-rule-at t) signal-rule.Post
-signal-rule-part-requires t c κs =
-    let f = c .before .before .before .before .pre .1 in
-    let y = begins (f .0) Command.signal (f .1) in
-    (search needs, (y .there, ready _ (y .parts .0) (f .0 .long) (y .parts .1 .1)))
-
-signal-rule-part-requires-2 : (t : ℕ) → signal-rule-lts.Need-part-requires-2 (signal-rule-claims t) (signal-rule-at t) signal-rule.Post
-signal-rule-part-requires-2 t c κs =
-    let f = c .before .before .before .before .before .before .before .pre .1 in
-    let y = begins (f .0) Command.signal (f .1) in
-    (search needs, (y .there, ready _ (y .parts .0) (f .0 .long) (y .parts .1 .1)))
-
-signal-rule-cast-in-signal : (t : ℕ) → signal-rule-lts.Need-cast-in-signal (signal-rule-claims t) (signal-rule-at t) signal-rule.Post
-signal-rule-cast-in-signal t c =
-    let f = c .before .before .before .before .before .before .before .before .pre .1 .0 in
-    omega (arith, f .long, f .fits, f .bytes)
+signal-rule-declared-requires : (t : ℕ) → signal-rule-lts.Need-declared-requires (signal-rule-claims t) (signal-rule-at t) signal-rule.Post
+signal-rule-declared-requires t c κs =
+    let d = c .before .before in
+    (search needs, (whole (d .pre .1 .0), front-is 0 (d .args .s .now) (d .pre .1 .1)))
 
 signal-rule-returns : (t : ℕ) → signal-rule-lts.Need-returns (signal-rule-claims t) (signal-rule-at t) signal-rule.Post
-signal-rule-returns t c base p l =
-    let f = c .before .before .before .before .before .before .before .before .before .pre .1 in
-    let d = c .before .before .before .before in
-    let y = taken (f .0) base p l Command.signal (f .1) in
-    let q = y .parts .0 in
-    here _ base _ _ (signal local _ _ q) p (y .parts .1 .0)
-    (signal-step _ base _ _ q _ _ (ltb-true _ _ (y .ranged)) (d .before .before .without .ensures) (d .part .ensures base q (y .parts .1 .1))
-    (d .before .with .ensures) (c .before .part2 .ensures base q (y .parts .1 .1)) (c .in-signal .ensures))
-
-signal-rule-returns-2 : (t : ℕ) → signal-rule-lts.Need-returns-2 (signal-rule-claims t) (signal-rule-at t) signal-rule.Post
-signal-rule-returns-2 t c base p l =
-    let f = c .before .before .before .before .before .before .before .before .pre .1 in
-    let d = c .before .before .before in
-    let y = taken (f .0) base p l Command.signal (f .1) in
-    let q = y .parts .0 in
-    here _ base _ _ (signal local _ _ q) p (y .parts .1 .0)
-    (signal-once-step _ base _ _ q _ _ (ltb-true _ _ (y .ranged)) (d .before .before .without .ensures) (d .part .ensures base q (y .parts .1 .1))
-    (sym (c .before .before .member .ensures) ∙ c .before .if1 .left) (c .in-signal-once .ensures _))
+signal-rule-returns t c base p l = c .declared .ensures base p (whole-lies _ _ _ _ _ p l)
 
 suspend-part-shared-slice-read-x : (t : ℕ) → suspend-part-lts.Need-shared-slice-read-x (suspend-part-claims t) (suspend-part-at t) suspend-part.Post
 suspend-part-shared-slice-read-x t c = begins (c .before .before .pre .1 .0) Command.suspend (c .before .before .pre .1 .1) .there
@@ -445,10 +500,12 @@ try-part-returns t c base p l =
     let y = taken (c .before .before .before .pre .1 .0) base p l Command.try (c .before .before .before .pre .1 .1) .parts in
     here _ base _ _ (try (y .0)) p (y .1 .0) (try-step _ base _ _ (y .0) (c .before .part .ensures base (y .0) (y .1 .1)) (c .in-try .ensures))
 
-pub +loop-part+par-parts+part+present-parts+resume+seq-parts+side+signal-rule+suspend-part+try-part-spec :
+pub +body+declared+loop-part+par-parts+part+present-parts+resume+seq-parts+side+signal-rule+suspend-part+try-part-spec :
     {M : Type 1} → statement M
-+loop-part+par-parts+part+present-parts+resume+seq-parts+side+signal-rule+suspend-part+try-part-spec =
++body+declared+loop-part+par-parts+part+present-parts+resume+seq-parts+side+signal-rule+suspend-part+try-part-spec =
     close
+    μ-body
+    μ-declared
     μ-loop-part
     μ-par-parts
     μ-part
@@ -459,6 +516,25 @@ pub +loop-part+par-parts+part+present-parts+resume+seq-parts+side+signal-rule+su
     μ-signal-rule
     μ-suspend-part
     μ-try-part
+    (λ t. body-lts.spec (body-claims t) (body-at t)
+    body.Post
+    (body-shared-slice-read-if1 t)
+    (λ c. search needs) (λ c. search needs) (λ c. search needs)
+    (body-declared-requires t)
+    (body-returns t)
+    (body-part-requires t)
+    (body-returns-2 t))
+    (λ t. declared-lts.spec (declared-claims t) (declared-at t)
+    declared.Post
+    (declared-shared-slice-read-x t)
+    (λ c κs. search needs) (λ c κs. search needs) (λ c. search needs) (λ c. search needs)
+    (declared-body-requires t)
+    (λ c κs. search needs) (λ c. search needs) (λ c. search needs)
+    (declared-body-requires-2 t)
+    (declared-cast-in-signal t)
+    (λ c κs. search needs) (λ c κs. search needs)
+    (declared-returns t)
+    (declared-returns-2 t))
     (λ t. loop-part-lts.spec (loop-part-claims t) (loop-part-at t)
     loop-part.Post
     (λ c. search needs) (λ c. search needs)
@@ -539,15 +615,9 @@ pub +loop-part+par-parts+part+present-parts+resume+seq-parts+side+signal-rule+su
     (side-returns-2 t))
     (λ t. signal-rule-lts.spec (signal-rule-claims t) (signal-rule-at t)
     signal-rule.Post
-    (signal-rule-shared-slice-read-x t)
-    (λ c κs. search needs) (λ c κs. search needs) (λ c. search needs) (λ c. search needs)
-    (signal-rule-part-requires t)
-    (λ c κs. search needs) (λ c. search needs) (λ c. search needs)
-    (signal-rule-part-requires-2 t)
-    (signal-rule-cast-in-signal t)
-    (λ c κs. search needs) (λ c κs. search needs)
-    (signal-rule-returns t)
-    (signal-rule-returns-2 t))
+    (λ c. search needs) (λ c. search needs) (λ c. search needs)
+    (signal-rule-declared-requires t)
+    (signal-rule-returns t))
     (λ t. suspend-part-lts.spec (suspend-part-claims t) (suspend-part-at t)
     suspend-part.Post
     (suspend-part-shared-slice-read-x t)

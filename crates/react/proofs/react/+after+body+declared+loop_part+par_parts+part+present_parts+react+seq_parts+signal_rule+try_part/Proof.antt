@@ -6,7 +6,7 @@ use Rattle.esterel.specs.Statement.{local, seq, par, loop, present, signal, try
 use Rattle.esterel.specs.Sets.{none}
 use Rattle.esterel.specs.Resume.{startTree}
 use Rattle.sequence.specs.Commands.{Command}
-use Rattle.layout.proofs.Laid.{ready, taken, begins, last-one}
+use Rattle.layout.proofs.Laid.{ready, taken, begins, last-one, whole, whole-lies}
 use Rattle.rules.proofs.Combining.{seq-stops}
 use Rattle.emissions.proofs.Values.{pure-emission, litres-emission}
 use Rattle.react.proofs.Steps.{
@@ -33,31 +33,37 @@ use borrow.Fn.Kinds.{In}
 use borrow.Fn.PlainCycle.{Measures, is, falls, and}
 use Rattle.react.proofs.react.after.Reads as after
 use Rattle.react.proofs.react.after.Kinds as after-kinds
-use Rattle.react.proofs.react.+after+loop_part+par_parts+part+present_parts+react+seq_parts+signal_rule+try_part.Lts-after as after-lts
+use Rattle.react.proofs.react.+after+body+declared+loop_part+par_parts+part+present_parts+react+seq_parts+signal_rule+try_part.Lts-after as after-lts
+use Rattle.react.proofs.react.body.Reads as body
+use Rattle.react.proofs.react.body.Kinds as body-kinds
+use Rattle.react.proofs.react.+after+body+declared+loop_part+par_parts+part+present_parts+react+seq_parts+signal_rule+try_part.Lts-body as body-lts
+use Rattle.react.proofs.react.declared.Reads as declared
+use Rattle.react.proofs.react.declared.Kinds as declared-kinds
+use Rattle.react.proofs.react.+after+body+declared+loop_part+par_parts+part+present_parts+react+seq_parts+signal_rule+try_part.Lts-declared as declared-lts
 use Rattle.react.proofs.react.loop_part.Reads as loop-part
 use Rattle.react.proofs.react.loop_part.Kinds as loop-part-kinds
-use Rattle.react.proofs.react.+after+loop_part+par_parts+part+present_parts+react+seq_parts+signal_rule+try_part.Lts-loop_part as loop-part-lts
+use Rattle.react.proofs.react.+after+body+declared+loop_part+par_parts+part+present_parts+react+seq_parts+signal_rule+try_part.Lts-loop_part as loop-part-lts
 use Rattle.react.proofs.react.par_parts.Reads as par-parts
 use Rattle.react.proofs.react.par_parts.Kinds as par-parts-kinds
-use Rattle.react.proofs.react.+after+loop_part+par_parts+part+present_parts+react+seq_parts+signal_rule+try_part.Lts-par_parts as par-parts-lts
+use Rattle.react.proofs.react.+after+body+declared+loop_part+par_parts+part+present_parts+react+seq_parts+signal_rule+try_part.Lts-par_parts as par-parts-lts
 use Rattle.react.proofs.react.part.Reads as part
 use Rattle.react.proofs.react.part.Kinds as part-kinds
-use Rattle.react.proofs.react.+after+loop_part+par_parts+part+present_parts+react+seq_parts+signal_rule+try_part.Lts-part as part-lts
+use Rattle.react.proofs.react.+after+body+declared+loop_part+par_parts+part+present_parts+react+seq_parts+signal_rule+try_part.Lts-part as part-lts
 use Rattle.react.proofs.react.present_parts.Reads as present-parts
 use Rattle.react.proofs.react.present_parts.Kinds as present-parts-kinds
-use Rattle.react.proofs.react.+after+loop_part+par_parts+part+present_parts+react+seq_parts+signal_rule+try_part.Lts-present_parts as present-parts-lts
+use Rattle.react.proofs.react.+after+body+declared+loop_part+par_parts+part+present_parts+react+seq_parts+signal_rule+try_part.Lts-present_parts as present-parts-lts
 use Rattle.react.proofs.react.react.Reads as react
 use Rattle.react.proofs.react.react.Kinds as react-kinds
-use Rattle.react.proofs.react.+after+loop_part+par_parts+part+present_parts+react+seq_parts+signal_rule+try_part.Lts-react as react-lts
+use Rattle.react.proofs.react.+after+body+declared+loop_part+par_parts+part+present_parts+react+seq_parts+signal_rule+try_part.Lts-react as react-lts
 use Rattle.react.proofs.react.seq_parts.Reads as seq-parts
 use Rattle.react.proofs.react.seq_parts.Kinds as seq-parts-kinds
-use Rattle.react.proofs.react.+after+loop_part+par_parts+part+present_parts+react+seq_parts+signal_rule+try_part.Lts-seq_parts as seq-parts-lts
+use Rattle.react.proofs.react.+after+body+declared+loop_part+par_parts+part+present_parts+react+seq_parts+signal_rule+try_part.Lts-seq_parts as seq-parts-lts
 use Rattle.react.proofs.react.signal_rule.Reads as signal-rule
 use Rattle.react.proofs.react.signal_rule.Kinds as signal-rule-kinds
-use Rattle.react.proofs.react.+after+loop_part+par_parts+part+present_parts+react+seq_parts+signal_rule+try_part.Lts-signal_rule as signal-rule-lts
+use Rattle.react.proofs.react.+after+body+declared+loop_part+par_parts+part+present_parts+react+seq_parts+signal_rule+try_part.Lts-signal_rule as signal-rule-lts
 use Rattle.react.proofs.react.try_part.Reads as try-part
 use Rattle.react.proofs.react.try_part.Kinds as try-part-kinds
-use Rattle.react.proofs.react.+after+loop_part+par_parts+part+present_parts+react+seq_parts+signal_rule+try_part.Lts-try_part as try-part-lts
+use Rattle.react.proofs.react.+after+body+declared+loop_part+par_parts+part+present_parts+react+seq_parts+signal_rule+try_part.Lts-try_part as try-part-lts
 use Rattle.reaction.proofs.around.Reads as around-reads
 use Rattle.reaction.proofs.ending.Reads as ending-reads
 use Rattle.emissions.proofs.emitting.Reads as emitting-reads
@@ -74,45 +80,63 @@ use Rattle.signals.proofs.member.Reads as member-reads
 use Rattle.signals.proofs.single.Reads as single-reads
 use Rattle.signals.proofs.with.Reads as with-reads
 use Rattle.signals.proofs.without.Reads as without-reads
-use Rattle.react.proofs.react.+after+loop_part+par_parts+part+present_parts+react+seq_parts+signal_rule+try_part.{
+use Rattle.react.proofs.react.+after+body+declared+loop_part+par_parts+part+present_parts+react+seq_parts+signal_rule+try_part.{
   statement,
 }
-use Rattle.react.proofs.react.+after+loop_part+par_parts+part+present_parts+react+seq_parts+signal_rule+try_part.Tie.{
+use Rattle.react.proofs.react.+after+body+declared+loop_part+par_parts+part+present_parts+react+seq_parts+signal_rule+try_part.Tie.{
   close,
 }
 
 abbrev μ-after : Measures 2 after-kinds.ps ℕ
-μ-after κs a = 4 * (a .1 .1 .1 .1 .0) + 2
+μ-after κs a = 6 * (a .1 .1 .1 .1 .0) + 2
+
+abbrev μ-body : Measures 2 body-kinds.ps ℕ
+μ-body κs a = 6 * (a .1 .1 .1 .0) + 2
+
+abbrev μ-declared : Measures 2 declared-kinds.ps ℕ
+μ-declared κs a = 6 * (a .1 .1 .0) - 2
 
 abbrev μ-loop-part : Measures 2 loop-part-kinds.ps ℕ
-μ-loop-part κs a = 4 * (a .1 .1 .0) - 1
+μ-loop-part κs a = 6 * (a .1 .1 .0) - 1
 
 abbrev μ-par-parts : Measures 2 par-parts-kinds.ps ℕ
-μ-par-parts κs a = 4 * (a .1 .1 .0) - 1
+μ-par-parts κs a = 6 * (a .1 .1 .0) - 1
 
 abbrev μ-part : Measures 2 part-kinds.ps ℕ
-μ-part κs a = 4 * (a .1 .1 .1 .0) + 1
+μ-part κs a = 6 * (a .1 .1 .1 .0) + 1
 
 abbrev μ-present-parts : Measures 2 present-parts-kinds.ps ℕ
-μ-present-parts κs a = 4 * (a .1 .1 .0) - 1
+μ-present-parts κs a = 6 * (a .1 .1 .0) - 1
 
 abbrev μ-react : Measures 2 react-kinds.ps ℕ
-μ-react κs a = 4 * (a .1 .1 .0)
+μ-react κs a = 6 * (a .1 .1 .0)
 
 abbrev μ-seq-parts : Measures 2 seq-parts-kinds.ps ℕ
-μ-seq-parts κs a = 4 * (a .1 .1 .0) - 1
+μ-seq-parts κs a = 6 * (a .1 .1 .0) - 1
 
 abbrev μ-signal-rule : Measures 2 signal-rule-kinds.ps ℕ
-μ-signal-rule κs a = 4 * (a .1 .1 .0) - 1
+μ-signal-rule κs a = 6 * (a .1 .1 .0) - 1
 
 abbrev μ-try-part : Measures 2 try-part-kinds.ps ℕ
-μ-try-part κs a = 4 * (a .1 .1 .0) - 1
+μ-try-part κs a = 6 * (a .1 .1 .0) - 1
 
 abbrev after-at : ℕ → In 2 after-kinds.ps
 after-at t = and 2 after-kinds.ps (is 2 after-kinds.ps μ-after t) after.Pre
 
 abbrev after-below : ℕ → In 2 after-kinds.ps
 after-below t = and 2 after-kinds.ps (falls 2 after-kinds.ps _<_ μ-after t) after.Pre
+
+abbrev body-at : ℕ → In 2 body-kinds.ps
+body-at t = and 2 body-kinds.ps (is 2 body-kinds.ps μ-body t) body.Pre
+
+abbrev body-below : ℕ → In 2 body-kinds.ps
+body-below t = and 2 body-kinds.ps (falls 2 body-kinds.ps _<_ μ-body t) body.Pre
+
+abbrev declared-at : ℕ → In 2 declared-kinds.ps
+declared-at t = and 2 declared-kinds.ps (is 2 declared-kinds.ps μ-declared t) declared.Pre
+
+abbrev declared-below : ℕ → In 2 declared-kinds.ps
+declared-below t = and 2 declared-kinds.ps (falls 2 declared-kinds.ps _<_ μ-declared t) declared.Pre
 
 abbrev loop-part-at : ℕ → In 2 loop-part-kinds.ps
 loop-part-at t = and 2 loop-part-kinds.ps (is 2 loop-part-kinds.ps μ-loop-part t) loop-part.Pre
@@ -177,6 +201,12 @@ try-part-below t =
 abbrev after-claims : ℕ → after-lts.Claims
 after-claims t = (is-ended-reads.Asked, is-ended-reads.Learnt, part-below t, part.Post, in-sequence-reads.Asked, in-sequence-reads.Learnt, around-reads.Asked, around-reads.Learnt)
 
+abbrev body-claims : ℕ → body-lts.Claims
+body-claims t = (declared-below t, declared.Post, part-below t, part.Post)
+
+abbrev declared-claims : ℕ → declared-lts.Claims
+declared-claims t = (without-reads.Asked, without-reads.Learnt, with-reads.Asked, with-reads.Learnt, body-below t, body.Post, member-reads.Asked, member-reads.Learnt, in-signal-reads.Asked, in-signal-reads.Learnt, in-signal-once-reads.Asked, in-signal-once-reads.Learnt)
+
 abbrev loop-part-claims : ℕ → loop-part-lts.Claims
 loop-part-claims t = (part-below t, part.Post, in-loop-reads.Asked, in-loop-reads.Learnt)
 
@@ -196,7 +226,7 @@ abbrev seq-parts-claims : ℕ → seq-parts-lts.Claims
 seq-parts-claims t = (part-below t, part.Post, after-below t, after.Post)
 
 abbrev signal-rule-claims : ℕ → signal-rule-lts.Claims
-signal-rule-claims t = (without-reads.Asked, without-reads.Learnt, with-reads.Asked, with-reads.Learnt, part-below t, part.Post, member-reads.Asked, member-reads.Learnt, in-signal-reads.Asked, in-signal-reads.Learnt, in-signal-once-reads.Asked, in-signal-once-reads.Learnt)
+signal-rule-claims t = (declared-below t, declared.Post)
 
 abbrev try-part-claims : ℕ → try-part-lts.Claims
 try-part-claims t = (part-below t, part.Post, in-try-reads.Asked, in-try-reads.Learnt)
@@ -211,6 +241,63 @@ after-returns-2 : (t : ℕ) → after-lts.Need-returns-2 (after-claims t) (after
 unfolding none
 after-returns-2 t c base u i l h =
     seq-stops u i (startTree _ u _) _ (c .before .before .before .before .args .p) h (sym (c .before .before .is-ended .ensures) ∙ c .before .if1 .left) (c .around .ensures i h)
+
+body-shared-slice-read-if1 : (t : ℕ) → body-lts.Need-shared-slice-read-if1 (body-claims t) (body-at t) body.Post
+body-shared-slice-read-if1 t c = front-there (c .before .before .args .n) (c .before .before .args .s .now) (c .before .before .pre .1 .1)
+
+body-declared-requires : (t : ℕ) → body-lts.Need-declared-requires (body-claims t) (body-at t) body.Post
+body-declared-requires t c κs =
+    let d = c .before .before .before .before in
+    (search needs, (d .pre .1 .1, front-is (d .args .n) (d .args .s .now) (c .before .if1 .taken)))
+
+body-returns : (t : ℕ) → body-lts.Need-returns (body-claims t) (body-at t) body.Post
+body-returns t c base p l = c .declared .ensures base p l
+
+body-part-requires : (t : ℕ) → body-lts.Need-part-requires (body-claims t) (body-at t) body.Post
+body-part-requires t c κs = (search needs, (c .before .before .before .pre .1 .0, c .before .before .before .pre .1 .1))
+
+body-returns-2 : (t : ℕ) → body-lts.Need-returns-2 (body-claims t) (body-at t) body.Post
+body-returns-2 t c base p l = c .part .ensures base p l
+
+declared-shared-slice-read-x : (t : ℕ) → declared-lts.Need-shared-slice-read-x (declared-claims t) (declared-at t) declared.Post
+declared-shared-slice-read-x t c = begins (c .before .before .pre .1 .0) Command.signal (c .before .before .pre .1 .1) .there
+
+declared-body-requires : (t : ℕ) → declared-lts.Need-body-requires (declared-claims t) (declared-at t) declared.Post
+declared-body-requires t c κs =
+    let f = c .before .before .before .before .pre .1 in
+    let y = begins (f .0) Command.signal (f .1) in
+    (search needs, (y .there, ready _ (y .parts .0) (f .0 .long) (y .parts .1 .1)))
+
+declared-body-requires-2 : (t : ℕ) → declared-lts.Need-body-requires-2 (declared-claims t) (declared-at t) declared.Post
+declared-body-requires-2 t c κs =
+    let f = c .before .before .before .before .before .before .before .pre .1 in
+    let y = begins (f .0) Command.signal (f .1) in
+    (search needs, (y .there, ready _ (y .parts .0) (f .0 .long) (y .parts .1 .1)))
+
+declared-cast-in-signal : (t : ℕ) → declared-lts.Need-cast-in-signal (declared-claims t) (declared-at t) declared.Post
+declared-cast-in-signal t c =
+    let f = c .before .before .before .before .before .before .before .before .pre .1 .0 in
+    omega (arith, f .long, f .fits, f .bytes)
+
+declared-returns : (t : ℕ) → declared-lts.Need-returns (declared-claims t) (declared-at t) declared.Post
+declared-returns t c base p l =
+    let f = c .before .before .before .before .before .before .before .before .before .pre .1 in
+    let d = c .before .before .before .before in
+    let y = taken (f .0) base p l Command.signal (f .1) in
+    let q = y .parts .0 in
+    here _ (signal local _ _ q) p _ (y .parts .1 .0)
+    (signal-step _ _ local _ _ q (ltb-true _ _ (y .ranged)) (d .before .before .without .ensures) (d .body .ensures base q (y .parts .1 .1))
+    (d .before .with .ensures) (c .before .body2 .ensures base q (y .parts .1 .1)) (c .in-signal .ensures))
+
+declared-returns-2 : (t : ℕ) → declared-lts.Need-returns-2 (declared-claims t) (declared-at t) declared.Post
+declared-returns-2 t c base p l =
+    let f = c .before .before .before .before .before .before .before .before .pre .1 in
+    let d = c .before .before .before in
+    let y = taken (f .0) base p l Command.signal (f .1) in
+    let q = y .parts .0 in
+    here _ (signal local _ _ q) p _ (y .parts .1 .0)
+    (signal-once-step _ _ local _ _ q (ltb-true _ _ (y .ranged)) (d .before .before .without .ensures) (d .body .ensures base q (y .parts .1 .1))
+    (sym (c .before .before .member .ensures) ∙ c .before .if1 .left) (c .in-signal-once .ensures _))
 
 loop-part-part-requires : (t : ℕ) → loop-part-lts.Need-part-requires (loop-part-claims t) (loop-part-at t) loop-part.Post
 loop-part-part-requires t c κs = let y = begins (c .before .pre .1 .0) Command.loop (c .before .pre .1 .1) in (search needs, (y .there, ready _ (y .parts .0) (c .before .pre .1 .0 .long) (y .parts .1 .1)))
@@ -404,45 +491,13 @@ seq-parts-returns t c base p l =
     here _ (seq (y .0) (y .1)) p _ (y .2 .0)
     (seq-step _ _ (y .0) (y .1) (c .before .part .ensures base (y .0) (y .2 .1 .first)) (λ i h. c .after .ensures _ (y .1) i (y .2 .1 .second) h))
 
-signal-rule-shared-slice-read-x : (t : ℕ) → signal-rule-lts.Need-shared-slice-read-x (signal-rule-claims t) (signal-rule-at t) signal-rule.Post
-signal-rule-shared-slice-read-x t c = begins (c .before .before .pre .1 .0) Command.signal (c .before .before .pre .1 .1) .there
-
-signal-rule-part-requires : (t : ℕ) → signal-rule-lts.Need-part-requires (signal-rule-claims t) (signal-rule-at t) signal-rule.Post
-signal-rule-part-requires t c κs =
-    let f = c .before .before .before .before .pre .1 in
-    let y = begins (f .0) Command.signal (f .1) in
-    (search needs, (y .there, ready _ (y .parts .0) (f .0 .long) (y .parts .1 .1)))
-
-signal-rule-part-requires-2 : (t : ℕ) → signal-rule-lts.Need-part-requires-2 (signal-rule-claims t) (signal-rule-at t) signal-rule.Post
-signal-rule-part-requires-2 t c κs =
-    let f = c .before .before .before .before .before .before .before .pre .1 in
-    let y = begins (f .0) Command.signal (f .1) in
-    (search needs, (y .there, ready _ (y .parts .0) (f .0 .long) (y .parts .1 .1)))
-
-signal-rule-cast-in-signal : (t : ℕ) → signal-rule-lts.Need-cast-in-signal (signal-rule-claims t) (signal-rule-at t) signal-rule.Post
-signal-rule-cast-in-signal t c =
-    let f = c .before .before .before .before .before .before .before .before .pre .1 .0 in
-    omega (arith, f .long, f .fits, f .bytes)
+signal-rule-declared-requires : (t : ℕ) → signal-rule-lts.Need-declared-requires (signal-rule-claims t) (signal-rule-at t) signal-rule.Post
+signal-rule-declared-requires t c κs =
+    let d = c .before .before in
+    (search needs, (whole (d .pre .1 .0), front-is 0 (d .args .s .now) (d .pre .1 .1)))
 
 signal-rule-returns : (t : ℕ) → signal-rule-lts.Need-returns (signal-rule-claims t) (signal-rule-at t) signal-rule.Post
-signal-rule-returns t c base p l =
-    let f = c .before .before .before .before .before .before .before .before .before .pre .1 in
-    let d = c .before .before .before .before in
-    let y = taken (f .0) base p l Command.signal (f .1) in
-    let q = y .parts .0 in
-    here _ (signal local _ _ q) p _ (y .parts .1 .0)
-    (signal-step _ _ local _ _ q (ltb-true _ _ (y .ranged)) (d .before .before .without .ensures) (d .part .ensures base q (y .parts .1 .1))
-    (d .before .with .ensures) (c .before .part2 .ensures base q (y .parts .1 .1)) (c .in-signal .ensures))
-
-signal-rule-returns-2 : (t : ℕ) → signal-rule-lts.Need-returns-2 (signal-rule-claims t) (signal-rule-at t) signal-rule.Post
-signal-rule-returns-2 t c base p l =
-    let f = c .before .before .before .before .before .before .before .before .pre .1 in
-    let d = c .before .before .before in
-    let y = taken (f .0) base p l Command.signal (f .1) in
-    let q = y .parts .0 in
-    here _ (signal local _ _ q) p _ (y .parts .1 .0)
-    (signal-once-step _ _ local _ _ q (ltb-true _ _ (y .ranged)) (d .before .before .without .ensures) (d .part .ensures base q (y .parts .1 .1))
-    (sym (c .before .before .member .ensures) ∙ c .before .if1 .left) (c .in-signal-once .ensures _))
+signal-rule-returns t c base p l = c .declared .ensures base p (whole-lies _ _ _ _ _ p l)
 
 try-part-part-requires : (t : ℕ) → try-part-lts.Need-part-requires (try-part-claims t) (try-part-at t) try-part.Post
 try-part-part-requires t c κs = let y = begins (c .before .pre .1 .0) Command.try (c .before .pre .1 .1) in (search needs, (y .there, ready _ (y .parts .0) (c .before .pre .1 .0 .long) (y .parts .1 .1)))
@@ -452,11 +507,13 @@ try-part-returns t c base p l =
     let y = taken (c .before .before .before .pre .1 .0) base p l Command.try (c .before .before .before .pre .1 .1) .parts in
     here _ (try (y .0)) p _ (y .1 .0) (try-step _ _ (y .0) (c .before .part .ensures base (y .0) (y .1 .1)) (c .in-try .ensures))
 
-pub +after+loop-part+par-parts+part+present-parts+react+seq-parts+signal-rule+try-part-spec :
+pub +after+body+declared+loop-part+par-parts+part+present-parts+react+seq-parts+signal-rule+try-part-spec :
     {M : Type 1} → statement M
-+after+loop-part+par-parts+part+present-parts+react+seq-parts+signal-rule+try-part-spec =
++after+body+declared+loop-part+par-parts+part+present-parts+react+seq-parts+signal-rule+try-part-spec =
     close
     μ-after
+    μ-body
+    μ-declared
     μ-loop-part
     μ-par-parts
     μ-part
@@ -472,6 +529,25 @@ pub +after+loop-part+par-parts+part+present-parts+react+seq-parts+signal-rule+tr
     (λ c κs. search needs) (λ c κs. search needs)
     (after-returns t)
     (after-returns-2 t))
+    (λ t. body-lts.spec (body-claims t) (body-at t)
+    body.Post
+    (body-shared-slice-read-if1 t)
+    (λ c. search needs) (λ c. search needs) (λ c. search needs)
+    (body-declared-requires t)
+    (body-returns t)
+    (body-part-requires t)
+    (body-returns-2 t))
+    (λ t. declared-lts.spec (declared-claims t) (declared-at t)
+    declared.Post
+    (declared-shared-slice-read-x t)
+    (λ c κs. search needs) (λ c κs. search needs) (λ c. search needs) (λ c. search needs)
+    (declared-body-requires t)
+    (λ c κs. search needs) (λ c. search needs) (λ c. search needs)
+    (declared-body-requires-2 t)
+    (declared-cast-in-signal t)
+    (λ c κs. search needs) (λ c κs. search needs)
+    (declared-returns t)
+    (declared-returns-2 t))
     (λ t. loop-part-lts.spec (loop-part-claims t) (loop-part-at t)
     loop-part.Post
     (λ c. search needs) (λ c. search needs)
@@ -556,15 +632,9 @@ pub +after+loop-part+par-parts+part+present-parts+react+seq-parts+signal-rule+tr
     (seq-parts-returns t))
     (λ t. signal-rule-lts.spec (signal-rule-claims t) (signal-rule-at t)
     signal-rule.Post
-    (signal-rule-shared-slice-read-x t)
-    (λ c κs. search needs) (λ c κs. search needs) (λ c. search needs) (λ c. search needs)
-    (signal-rule-part-requires t)
-    (λ c κs. search needs) (λ c. search needs) (λ c. search needs)
-    (signal-rule-part-requires-2 t)
-    (signal-rule-cast-in-signal t)
-    (λ c κs. search needs) (λ c κs. search needs)
-    (signal-rule-returns t)
-    (signal-rule-returns-2 t))
+    (λ c. search needs) (λ c. search needs) (λ c. search needs)
+    (signal-rule-declared-requires t)
+    (signal-rule-returns t))
     λ t. try-part-lts.spec (try-part-claims t) (try-part-at t)
     try-part.Post
     (λ c. search needs) (λ c. search needs)
