@@ -28,14 +28,14 @@
  * own functions take.
  */
 #define INTAKE_STACK_CHECK 24576
-#define INTAKE_STACK_TICK 28672
-#define INTAKE_STACK_REPLAY 28672
-#define INTAKE_STACK_BOX 28672
+#define INTAKE_STACK_TICK 24576
+#define INTAKE_STACK_REPLAY 24576
+#define INTAKE_STACK_BOX 24576
 #define INTAKE_STACK_UNROLL 24576
 #define INTAKE_STACK_THREAD 32768
 
 /* Bytes of code and jump tables in the archive, rounded up. */
-#define INTAKE_CODE_LENGTH 31744
+#define INTAKE_CODE_LENGTH 33792
 
 /* A function of this header that needs nothing of the archive. */
 #if defined(__cplusplus) || (defined(__STDC_VERSION__) && __STDC_VERSION__ >= 199901L)
