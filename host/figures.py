@@ -21,7 +21,7 @@ EXPORTED = [f"intake_{call}" for call in ("box_admit", "box_forget", "box_ledger
 # instructions that name no vector register and are not in the base set of x86-64; objdump's tzcnt is bsf with a prefix
 # that an older processor passes over, and LLVM emits it for all
 LATER = "andn bextr blsi blsmsk blsr bzhi crc32 lzcnt movbe mulx pdep pext popcnt rorx sarx shlx shrx adcx adox".split()
-VECTOR = set("""movaps movups movapd movupd movdqa movdqu movd movq movss movsd xorps andps orps pxor por pand pandn paddb paddw
+VECTOR = set("""movaps movups movapd movupd movlps movdqa movdqu movd movq movss movsd xorps andps orps pxor por pand pandn paddb paddw
     paddd paddq psubb psubw psubd psubq pcmpeqb pcmpeqw pcmpeqd pcmpgtb pcmpgtw pcmpgtd pslldq psrldq psllq psllw pslld psrlq
     psrlw psrld psraw psrad pshufd pshufhw pshuflw punpcklbw punpcklwd punpckldq punpcklqdq punpckhbw punpckhwd punpckhdq punpckhqdq
     pmovmskb movmskps movhlps movlhps shufps shufpd unpcklps unpcklpd addss addps subss mulss ucomiss comiss cmpss andnps cvttss2si
