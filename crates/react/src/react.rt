@@ -31,7 +31,7 @@ pub fn react(s: &[u8], at: usize, depth: u8, input: u32, farm: u8, second: &Seco
     }
 }
 
-// The part that begins at index n of s, at the offset `at`.
+// The part that begins at index n of s, at the offset `at`. A nothing is answered here, without a slice or a frame of its own.
 fn part(
     s: &[u8],
     n: usize,

@@ -36,7 +36,8 @@ pub fn resume(
     }
 }
 
-// The part that begins at index n of s, at the offset `at`.
+// The part that begins at index n of s, at the offset `at`. A pause, which has ended, is answered here, without a slice or a frame
+// of its own.
 fn part(
     s: &[u8],
     n: usize,
