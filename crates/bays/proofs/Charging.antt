@@ -28,7 +28,6 @@ use Rattle.demands.specs.Demands as demands
 use Rattle.demands.specs.Demands.{stateAfterwards}
 use Rattle.instants.specs.declared.Reply.the-variants.{Refused, Reacted}
 use Rattle.instants.specs.Replies.{Replies}
-use Rattle.farms.specs.Farms.{NamesAll}
 use Rattle.ledgers.specs.Ledgers.{ledgerLength, readingLength, passes, added, readingOf, cleared}
 use Rattle.deliveries.specs.Delivering.{Delivers}
 use Rattle.deliveries.proofs.Theorems.{passes-exactly, adds-exactly}
@@ -119,10 +118,7 @@ charged-exactly s z e farms litres d answer (called zero after lent) =
         (adds-exactly (sequenceIn s) (stateIn s) e (readBackIn s) farms litres (ledgerIn s) d (ledger-sized s z) h)
 charged-exactly s z e farms litres d answer (called (suc n) after lent) = refl
 
--- the farms named and the litres told, on the fields that were read
-pub names-on : {a a′ : List ℕ} (farms : ℕ) → a ≡ a′ → NamesAll a farms → NamesAll a′ farms
-names-on farms p h = subst (λ (q : List ℕ). NamesAll q farms) p h
-
+-- the litres told, on the fields that were read
 pub delivers-on : {a a′ b b′ : List ℕ} {k k′ : ℕ} (e farms : ℕ) (litres : List ℕ) → a ≡ a′ → b ≡ b′ → k ≡ k′
     → Delivers a b e k farms litres → Delivers a′ b′ e k′ farms litres
 delivers-on e farms litres p q o h = rw (p, q, o) at h

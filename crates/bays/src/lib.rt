@@ -8,7 +8,6 @@ ghost use Rattle.answers.specs.AnswerRecord.{answerLength};
 ghost use Rattle.recordings.specs.Record.{recordLength};
 ghost use Rattle.writing.specs.Written.{Writable, writtenFrom};
 ghost use Rattle.instants.specs.Replies.{Replies};
-ghost use Rattle.farms.specs.Farms.{NamesAll};
 ghost use Rattle.ledgers.specs.Ledgers.{farmCount, NoneOutside};
 ghost use Rattle.deliveries.specs.Delivering.{Delivers};
 ghost use Rattle.box_calls.specs.Called.{called};
@@ -117,12 +116,11 @@ pub fn part(stretch: &[u8]) -> u32
 }
 
 // What a tick on what the bay holds comes to before anything is written, with the litres of the farms that its sequence names.
-fn reply_with(stretch: &[u8], input: u32, named: u32, litres: &mut Deliveries) -> Reply
-    requires { ⌜ NamesAll (sequenceIn (now stretch)) named ⌝ }
+fn reply_with(stretch: &[u8], input: u32, named: &mut u32, litres: &mut Deliveries) -> Reply
     requires { ⌜ now litres ≡ replicate farmCount 0 ⌝ }
     ensures { λ r. ⌜ Replies (sequenceIn (now (stretch .entry))) (stateIn (now (stretch .entry))) input (readBackIn (now (stretch .entry))) r ⌝ }
     ensures { λ _. ⌜ Delivers (sequenceIn (now (stretch .entry))) (stateIn (now (stretch .entry))) input
-        (readBackIn (now (stretch .entry))) named (now (litres .exit)) ⌝ }
+        (readBackIn (now (stretch .entry))) (now (named .exit)) (now (litres .exit)) ⌝ }
 {
     deliveries::reply_with(
         sequence(stretch),
@@ -165,9 +163,9 @@ fn step(stretch: &mut [u8], input: u32, answer: &mut [u8]) -> u8
     if answer.len() != ANSWER_LENGTH {
         return 1;
     }
-    let named = farms::named(sequence(stretch));
+    let mut named: u32 = 0;
     let mut litres: Deliveries = [0; ledgers::FARMS];
-    match reply_with(stretch, input, named, &mut litres) {
+    match reply_with(stretch, input, &mut named, &mut litres) {
         Reply::Refused(number) => number,
         Reply::Reacted(reaction) => settle(stretch, answer, reaction, named, &litres),
     }

@@ -7,10 +7,10 @@ use mathlib.Core.Option.{Option, none, some}
 use native.Mathlib.Decide.{decLt}
 use native.Mathlib.Omega.{arith}
 use lib.Dec.{eqb}
-use borrow.Author.Tests.{eqb-true, ne-eqb}
-use Rattle.sequence.specs.Commands.{Command, commandOf, operandCount, inRange}
+use borrow.Author.Tests.{eqb-true, eqb-false, ne-eqb}
+use Rattle.sequence.specs.Commands.{Command, commandOf, operandCount, partCount, inRange}
 use Rattle.commands.specs.declared.Count.the-variants.{NoCommand, Of}
-use Rattle.commands.specs.Counts.{counted, operandsAt, partsAt, countOf, orZero, operandInRange}
+use Rattle.commands.specs.Counts.{counted, operandsAt, partsAt, countOf, isLeaf, operandInRange}
 use Rattle.commands.specs.Printed.{operandsPrinted, partsPrinted}
 
 -- ---- what a count says
@@ -22,17 +22,24 @@ pub of-none : (f : Command → ℕ) (o : Option Command) → NoCommand ≡ count
 of-none f none e = refl
 of-none f (some c) e = absurd (let x : _≡_ {A = ℕ} 0 1 = cc in omega arith)
 
-pub count-of : (o : Option ℕ) (n : ℕ) → Of n ≡ countOf o → n ≡ orZero o
-count-of none n e = absurd (let x : _≡_ {A = ℕ} 0 1 = cc in omega arith)
-count-of (some m) n e = cc
+-- ---- whether a command has parts
+pub leaf-none : (o : Option ℕ) → NoCommand ≡ countOf o → false ≡ isLeaf o
+leaf-none none e = refl
+leaf-none (some m) e = absurd (let x : _≡_ {A = ℕ} 0 1 = cc in omega arith)
 
-pub no-count : (o : Option ℕ) → NoCommand ≡ countOf o → 0 ≡ orZero o
-no-count none e = refl
-no-count (some m) e = absurd (let x : _≡_ {A = ℕ} 0 1 = cc in omega arith)
+pub leaf-of : (o : Option ℕ) (n : ℕ) → Of n ≡ countOf o → eqb n 0 ≡ isLeaf o
+leaf-of none n e = absurd (let x : _≡_ {A = ℕ} 0 1 = cc in omega arith)
+leaf-of (some m) n e = let q : n ≡ m = cc in ap (λ (k : ℕ). eqb k 0) q
 
--- ---- what is said of every byte, of one that has a command
-pub at-command : (f : Command → ℕ) {o : Option Command} (c : Command) → o ≡ some c → orZero (counted f o) ≡ f c
-at-command f c e = rw e
+pub without-parts : {o : Option Command} (c : Command) → o ≡ some c → isLeaf (counted partCount o) ≡ true → partCount c ≡ 0
+without-parts c e h = eqb-true (partCount c) 0 (rw e at h)
+
+pub with-parts : {o : Option Command} (c : Command) → o ≡ some c → isLeaf (counted partCount o) ≡ false → (partCount c ≡ 0 → ⊥)
+with-parts c e h = eqb-false (partCount c) 0 (rw e at h)
+
+pub some-leaf : (o : Option Command) → isLeaf (counted partCount o) ≡ true → (c : Command) × ((o ≡ some c) × (partCount c ≡ 0))
+some-leaf none h = absurd (false≢true h)
+some-leaf (some c) h = (c, (refl, eqb-true (partCount c) 0 h))
 
 -- the range looks at the first operand alone
 first-alone : (c : Command) (x : ℕ) (xs : List ℕ) → inRange c (x ∷ []) ≡ inRange c (x ∷ xs)

@@ -1,12 +1,11 @@
--- The operand bytes, the parts and the declared signals of a byte's command, counted, and the range of its operand; a byte without a
--- command has none of them.
+-- The operand bytes and the parts of a byte's command, counted, and the range of its operand; a byte without a command has none of them.
 use Prim.Native.Nat.{ℕ}
-use mathlib.Core.Bool.{Bool, cond}
+use mathlib.Core.Bool.{Bool, false, cond}
 use mathlib.Core.List.{[], _∷_}
 use mathlib.Core.Option.{Option, none, some}
 use lib.Dec.{eqb, ltb}
 use Rattle.limits.specs.Limits.{signalCount}
-use Rattle.sequence.specs.Commands.{Command, commandOf, operandCount, partCount, inRange, declares}
+use Rattle.sequence.specs.Commands.{Command, commandOf, operandCount, partCount, inRange}
 use Rattle.commands.specs.declared.Count.{Count}
 use Rattle.commands.specs.declared.Count.the-variants.{NoCommand, Of}
 
@@ -20,13 +19,10 @@ operandsAt b = counted operandCount (commandOf b)
 abbrev pub partsAt : ℕ → Option ℕ
 partsAt b = counted partCount (commandOf b)
 
-abbrev pub declaredAt : ℕ → Option ℕ
-declaredAt b = counted declares (commandOf b)
-
--- 0 where there is no command
-abbrev pub orZero : Option ℕ → ℕ
-orZero none = 0
-orZero (some n) = n
+-- a command without parts; a byte without a command is none
+abbrev pub isLeaf : Option ℕ → Bool
+isLeaf none = false
+isLeaf (some n) = eqb n 0
 
 -- is x, the first operand byte of a command, in its range? Where there is no operand, it is asked as of a signal
 abbrev pub operandInRange : Option Command → ℕ → Bool

@@ -2,7 +2,7 @@
 // this order cost less than a table: where the next command stands does not wait for a look into memory.
 ghost use mathlib.Core.Path.{_≡_};
 ghost use Rattle.sequence.specs.Commands.{commandOf};
-ghost use Rattle.commands.specs.Counts.{countOf, operandsAt, partsAt, declaredAt, orZero, operandInRange};
+ghost use Rattle.commands.specs.Counts.{countOf, operandsAt, partsAt, operandInRange};
 
 // A count, or that the byte has no command.
 pub enum Count {
@@ -77,11 +77,4 @@ pub fn in_range(b: u8, x: u8) -> bool
         return x < limits::LABELS;
     }
     x < limits::SIGNALS
-}
-
-// The signals that the command b declares around its part; 0 without a command.
-pub fn declared(b: u8) -> u8
-    ensures { λ r. ⌜ r ≡ orZero (declaredAt b) ⌝ }
-{
-    if b == 8 { 1 } else { 0 }
 }

@@ -31,8 +31,9 @@ use Rattle.reaction.specs.Reactions.{cappedOf, reactionOf}
 use Rattle.program.specs.declared.Position.{Position}
 use Rattle.program.specs.declared.Position.the-variants.{Fresh, Waiting}
 use Rattle.program.specs.Program.{termAt, Reacted}
-use Rattle.farms.specs.Farms.{NamesAll}
 use Rattle.farms.proofs.Theorems.{unnamed-none}
+use Rattle.layout.specs.Notes.{farmsIn, Noted}
+use Rattle.layout.proofs.Noting.{farms-below}
 use Rattle.ledgers.specs.Ledgers.{farmCount, NoneOutside}
 use Rattle.esterel.specs.Errors.{firstError}
 use Rattle.esterel.specs.Machines.{State}
@@ -254,11 +255,13 @@ module _ (t bs : List ℕ) (position : Position) (e readBack farms : ℕ) {first
 pub sized-entered : {litres entered : List ℕ} (f x : ℕ) → litres ≡ replicate farmCount 0 → entered ≡ set litres f x → length entered ≡ farmCount
 sized-entered {litres} f x z n = ap length n ∙ length-set litres f x ∙ ap length z ∙ length-replicate {A = ℕ} farmCount 0
 
--- the farms that the bytes name are those of the statement
-pub has-named : (bs : List ℕ) (readBack : ℕ) (p : Statement) → checked bs readBack ≡ sound p → (farms : ℕ) → NamesAll bs farms → HasNamed farms p
-has-named bs readBack p e farms names f small z =
-    let s : Spells bs p = subst (Decides bs readBack) e (decided bs readBack) .1 in
-    unnamed-none bs p farms f (s .0) (s .1 .ranged) names small z
+-- the farms noted are those that the statement names
+module _ {p : Statement} {notes : List ℕ} (n : Noted p notes) where
+  pub has-named : HasNamed (farmsIn notes) p
+  has-named f small z = unnamed-none f p (ap (member f) (sym (n .named)) ∙ z)
+
+  pub few-farms : Ranged p → farmsIn notes < 2 ^ signalCount
+  few-farms r = subst (λ (s : ℕ). s < 2 ^ signalCount) (sym (n .named)) (farms-below p r)
 
 -- ---- what a call delivers
 module _ (sequence state : List ℕ) (e readBack farms : ℕ) (litres : List ℕ) where

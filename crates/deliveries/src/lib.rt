@@ -6,7 +6,6 @@ ghost use lib.ListN.{length, replicate, set};
 ghost use Rattle.limits.specs.Limits.{maxDepth};
 ghost use Rattle.layout.specs.Layout.{Ready};
 ghost use Rattle.instants.specs.Replies.{Replies};
-ghost use Rattle.farms.specs.Farms.{NamesAll};
 ghost use Rattle.ledgers.specs.Ledgers.{farmCount};
 ghost use Rattle.deliveries.specs.Delivering.{Gathers, Instant, Delivers};
 use instants::Reply;
@@ -77,19 +76,20 @@ fn instant(
     r
 }
 
-// What a call comes to before anything is written, and the litres of each farm, up to one more than the limit.
+// What a call comes to before anything is written, the farms that its sequence names, and the litres of each farm, up to one more than
+// the limit. A call that is turned down by its check leaves `farms` as it was.
 pub fn reply_with(
     sequence: &[u8],
     state: &[u8],
     input: u32,
     read_back: u32,
-    farms: u32,
+    farms: &mut u32,
     litres: &mut Deliveries,
 ) -> Reply
-    requires { ⌜ NamesAll (now sequence) farms ⌝ }
     requires { ⌜ now litres ≡ replicate farmCount 0 ⌝ }
     ensures { λ r. ⌜ Replies (now (sequence .entry)) (now (state .entry)) input «read_back» r ⌝ }
-    ensures { λ _. ⌜ Delivers (now (sequence .entry)) (now (state .entry)) input «read_back» farms (now (litres .exit)) ⌝ }
+    ensures { λ _. ⌜ Delivers (now (sequence .entry)) (now (state .entry)) input «read_back»
+        (now (farms .exit)) (now (litres .exit)) ⌝ }
 {
     let mut second: Seconds = [0; limits::MAX_BYTES];
     let mut notes: Notes = [0; notes::LENGTH];
@@ -97,6 +97,8 @@ pub fn reply_with(
     if number != 0 {
         return Reply::Refused(number);
     }
+    let named = notes::farms(&notes);
+    *farms = named;
     match instants::decode(sequence, &second, &notes, state) {
         Standing::Malformed => Reply::Refused(11),
         Standing::Over => Reply::Refused(12),
@@ -105,7 +107,7 @@ pub fn reply_with(
             Position::Fresh,
             input,
             read_back,
-            farms,
+            named,
             &second,
             litres,
         )),
@@ -114,7 +116,7 @@ pub fn reply_with(
             Position::Waiting(active),
             input,
             read_back,
-            farms,
+            named,
             &second,
             litres,
         )),

@@ -1,19 +1,21 @@
--- The head of a command from its bytes: one law for each way in which `front` returns.
-use mathlib.Core.Path.{_≡_, refl, sym, ap, ap₂, _∙_, subst}
-use mathlib.Core.Bool.{Bool, true, false, _&&_}
+-- The head of a command from its bytes: one law for each way in which a head is answered.
+use mathlib.Core.Path.{_≡_, refl, sym, ap, _∙_}
+use mathlib.Core.Bool.{Bool, true, false}
 use mathlib.Core.Option.{some}
 use mathlib.Core.List.{List, [], _∷_}
 use Prim.Native.Nat.{ℕ, zero, suc, _+_, _-_, _*_, _≤_, _<_}
 use native.Mathlib.Omega.{arith}
-use lib.ListN.{length, getD, take, drop}
+use lib.ListN.{length, getD}
+use lib.Dec.{ltb}
 use lib.Ieee.{binary32, ofBits, inUnsigned}
-use borrow.Author.Tests.{lt-ltb}
-use Rattle.numbers.specs.Bytes.{leNumber, numberAt}
-use Rattle.sequence.specs.Amounts.{areBytes, isAmount}
-use Rattle.sequence.specs.Commands.{Command, commandOf, operandCount, operandsOf, bytesAt, inRange, litresFit, width}
+use borrow.Author.Tests.{lt-ltb, le-ltb}
+use Rattle.limits.specs.Limits.{signalCount}
+use Rattle.numbers.specs.Bytes.{numberAt}
+use Rattle.sequence.specs.Amounts.{areBytes}
+use Rattle.sequence.specs.Commands.{Command, commandOf, operandCount, operandsOf, partCount, bytesAt, inRange, litresFit, width}
 use Rattle.sequence.specs.Reader.{Front, front}
 use Rattle.layout.specs.Walk.{headOf, rowUnit}
-use Rattle.sequence.proofs.Table.{free, no-amount, many}
+use Rattle.sequence.proofs.Table.{byteOf, command-of-byte, leaves, free, no-amount}
 use Rattle.sequence.proofs.Front.{Fronts, front-is, bytes-taken}
 
 pub heads : (s : List ℕ) (f : Front) → Fronts s f → headOf f ≡ headOf (front s)
@@ -27,10 +29,6 @@ are-bytes : (n i : ℕ) (s : List ℕ) → ((k : ℕ) → getD s k 0 < 256) → 
 are-bytes zero i s h = refl
 are-bytes (suc n) i s h = rw (lt-ltb (getD s i 0) 256 (h i), are-bytes n (suc i) s h)
 
--- a command with more than one operand byte has litres behind its signal
-pub litres-there : (s : List ℕ) (c : Command) → 2 ≤ operandCount c → width c ≤ length s → 2 + 4 ≤ length s
-litres-there s c more long = subst (λ (d : Command). width d ≤ length s) (many c more) long
-
 module _ (s : List ℕ) (c : Command) (byte : commandOf (getD s 0 0) ≡ some c) where
   pub short : 0 < length s → length s < width c → 4 * rowUnit ≡ headOf (front s)
   short n l = heads s _ (Fronts.short c n byte l)
@@ -41,7 +39,7 @@ module _ (s : List ℕ) (c : Command) (byte : commandOf (getD s 0 0) ≡ some c)
       w ∙ heads s _ (Fronts.whole c _ (record { byte = byte; long = omega arith; operands = refl; ranged = free c _ z; fit = no-amount c _ (omega arith) }))
 
   module _ (some : 1 ≤ operandCount c) (long : width c ≤ length s) {r : Bool} (is : (xs : List ℕ) → r ≡ inRange c (getD s 1 0 ∷ xs)) where
-    range : inRange c (operandsOf c s) ≡ r
+    pub range : inRange c (operandsOf c s) ≡ r
     range = ap (inRange c) (first (operandCount c) s some) ∙ sym (is _)
 
     pub outside : r ≡ false → 5 * rowUnit ≡ headOf (front s)
@@ -52,19 +50,56 @@ module _ (s : List ℕ) (c : Command) (byte : commandOf (getD s 0 0) ≡ some c)
         let w : 2 ≡ width c = omega arith in
         w ∙ heads s _ (Fronts.whole c _ (record { byte = byte; long = long; operands = refl; ranged = range ∙ h; fit = no-amount c _ (omega arith) }))
 
-    module _ (more : 2 ≤ operandCount c) (bytes : (k : ℕ) → getD s k 0 < 256) {v : ℕ} {u : Bool} (read : v ≡ numberAt 2 4 s)
+-- ---- a command without parts has an operand but for nothing, and no more than one but for litres
+pub leaf-operands : (c : Command) → partCount c ≡ 0 → (byteOf c ≡ 0 → ⊥) → (1 ≤ operandCount c) × ((byteOf c ≡ 12 → ⊥) → operandCount c ≡ 1)
+leaf-operands =
+    leaves (λ (c : Command). (byteOf c ≡ 0 → ⊥) → (1 ≤ operandCount c) × ((byteOf c ≡ 12 → ⊥) → operandCount c ≡ 1))
+    (λ n. absurd (n refl)) (λ n. (omega arith, λ m. refl)) (λ n. (omega arith, λ m. refl)) (λ n. (omega arith, λ m. refl))
+    (λ n. (omega arith, λ m. refl)) (λ n. (omega arith, λ m. absurd (m refl)))
+
+-- ---- the operand of a command with parts is a signal
+abbrev Signal : Command → Type 0
+Signal c = (operandCount c ≡ 1) × ((x : ℕ) (xs : List ℕ) → ltb x signalCount ≡ inRange c (x ∷ xs))
+
+pub signal-operand : (c : Command) → (partCount c ≡ 0 → ⊥) → 1 ≤ operandCount c → Signal c
+signal-operand Command.nothing n l = absurd (n refl)
+signal-operand Command.pause n l = absurd (n refl)
+signal-operand Command.emit n l = absurd (n refl)
+signal-operand Command.exit n l = absurd (n refl)
+signal-operand Command.seq n l = absurd (omega arith)
+signal-operand Command.par n l = absurd (omega arith)
+signal-operand Command.loop n l = absurd (omega arith)
+signal-operand Command.present n l = (refl, λ x xs. refl)
+signal-operand Command.signal n l = (refl, λ x xs. refl)
+signal-operand Command.try n l = absurd (omega arith)
+signal-operand Command.setpause n l = absurd (n refl)
+signal-operand Command.suspend n l = (refl, λ x xs. refl)
+signal-operand Command.deliver n l = absurd (n refl)
+
+-- ---- the command 0C
+module _ (s : List ℕ) (e : getD s 0 0 ≡ 12) where
+  deliver-byte : commandOf (getD s 0 0) ≡ some Command.deliver
+  deliver-byte = ap commandOf e ∙ command-of-byte Command.deliver
+
+  pub deliver-short : 0 < length s → length s ≤ 5 → 4 * rowUnit ≡ headOf (front s)
+  deliver-short n l = short s Command.deliver deliver-byte n (omega arith)
+
+  module _ (long : 6 ≤ length s) where
+    pub deliver-outside : signalCount ≤ getD s 1 0 → 5 * rowUnit ≡ headOf (front s)
+    deliver-outside h = outside s Command.deliver deliver-byte (omega arith) (omega arith) (λ xs. refl) (le-ltb (getD s 1 0) signalCount h)
+
+    module _ (bytes : (k : ℕ) → getD s k 0 < 256) (ranged : getD s 1 0 < signalCount) {v : ℕ} {u : Bool} (read : v ≡ numberAt 2 4 s)
         (tests : u ≡ inUnsigned binary32 32 (ofBits binary32 v)) where
-      amount : Command.deliver ≡ c → litresFit c (operandsOf c s) ≡ u
-      amount e =
-          let long′ : width Command.deliver ≤ length s = rw (sym e) at long in
-          ap (λ (d : Command). litresFit d (operandsOf d s)) (sym e)
-          ∙ rw (are-bytes 4 2 s bytes, bytes-taken 4 2 s (omega arith)) (sym (tests ∙ ap (λ (x : ℕ). inUnsigned binary32 32 (ofBits binary32 x)) read))
+      in-range : inRange Command.deliver (operandsOf Command.deliver s) ≡ true
+      in-range = lt-ltb (getD s 1 0) signalCount ranged
 
-      pub five : r ≡ true → u ≡ true → 6 ≡ headOf (front s)
-      five h i =
-          let e = many c more in
-          let w : 6 ≡ width c = ap width (sym e) in
-          w ∙ heads s _ (Fronts.whole c _ (record { byte = byte; long = long; operands = refl; ranged = range ∙ h; fit = amount (sym e) ∙ i }))
+      amount : litresFit Command.deliver (operandsOf Command.deliver s) ≡ u
+      amount =
+          rw (are-bytes 4 2 s bytes, bytes-taken 4 2 s (omega arith)) (sym (tests ∙ ap (λ (x : ℕ). inUnsigned binary32 32 (ofBits binary32 x)) read))
 
-      pub unfit : r ≡ true → u ≡ false → 18 * rowUnit ≡ headOf (front s)
-      unfit h i = heads s _ (Fronts.unfit c byte long (range ∙ h) (amount (sym (many c more)) ∙ i))
+      pub deliver-whole : u ≡ true → 6 ≡ headOf (front s)
+      deliver-whole i =
+          heads s _ (Fronts.whole Command.deliver _ (record { byte = deliver-byte; long = omega arith; operands = refl; ranged = in-range; fit = amount ∙ i }))
+
+      pub deliver-unfit : u ≡ false → 18 * rowUnit ≡ headOf (front s)
+      deliver-unfit i = heads s _ (Fronts.unfit Command.deliver deliver-byte (omega arith) in-range (amount ∙ i))

@@ -1,5 +1,6 @@
--- What reading notes of a statement: its labels, whether a pause's label came twice, the number and the ranks of its pauses.
-use Prim.Native.Nat.{ℕ, _+_, _-_, _/_, _%_, _^_, _≤_, _<_}
+-- What reading notes of a statement: its labels, whether a pause's label came twice, the number and the ranks of its pauses, the most
+-- signal commands around a command, and the farms that it names.
+use Prim.Native.Nat.{ℕ, suc, _+_, _-_, _/_, _%_, _^_, _≤_, _<_, max}
 use mathlib.Core.Path.{_≡_, refl, sym, ap, ap₂, _∙_, subst}
 use mathlib.Core.Logic.{⊎-elim}
 use mathlib.Core.Bool.{Bool, true, false, _&&_, cond, and-eq-true-iff, and-true}
@@ -12,18 +13,20 @@ use lib.Pow.{pow-pos, pow-lt}
 use lib.Bits.{bitAnd, or-lt}
 use borrow.Author.Tests.{eqb-true, eqb-false, ltb-true, ltb-false}
 use Rattle.esterel.specs.Sets.{member, none, only, join, empty}
-use Rattle.esterel.specs.Statement.{Statement, nothing, pause, emit, exit, seq, par, loop, present, signal, try, setpause, suspend, held}
+use Rattle.esterel.specs.Statement.{Value, pure, litres, Statement, nothing, pause, emit, exit, seq, par, loop, present, signal, try, setpause, suspend, held}
 use Rattle.esterel.specs.LabelTests.{disjoint, labelsOf, pauses, setpauses, distinct}
 use Rattle.esterel.specs.Ranks.{pauseCount, rank}
+use Rattle.esterel.specs.Ceiling.{nesting}
 use Rattle.theory.proofs.Booleans.{never, clash, Tested, tested}
 use Rattle.theory.proofs.Sets.{member-only, join-none-l, join-none-r}
 use Rattle.theory.proofs.LabelSets.{in-none, in-l, in-r, in-join, disjoint-is}
 use Rattle.theory.proofs.SetAlgebra.{join-assoc, empty-join, disjoint-none, none-disjoint, once-both}
-use Rattle.limits.specs.Limits.{labelCount, wordLabels}
+use Rattle.limits.specs.Limits.{labelCount, wordLabels, signalCount}
 use Rattle.sets.specs.Sets.{twoWords, setAt}
 use Rattle.sets.proofs.Words.{words-none, one-low, one-high, common-low, common-high}
+use Rattle.farms.specs.Farms.{farmOf, farmsOf}
 use Rattle.sequence.specs.Writer.{bytesOf, size, Ranged}
-use Rattle.layout.specs.Notes.{pausesIn, setpausesIn, twiceIn, countIn, rankIn, noteCount, noNotes, wordAt, inWord, notePause, noteSetpause, note, Noted}
+use Rattle.layout.specs.Notes.{pausesIn, setpausesIn, twiceIn, countIn, mostIn, farmsIn, rankIn, noteCount, noNotes, wordAt, inWord, notePause, noteSetpause, noteFarm, noteEmission, noteSignals, noteWithin, note, Noted}
 
 -- the words of both sets hold what they have room for
 pub record Held (m : List ℕ) : Type 0 where
@@ -60,6 +63,54 @@ silent m =
       kept = λ l e. refl;
       ranked = λ e l h. in-none l h;
     }
+
+-- ---- what is noted beside all that
+-- only the words of signals and farms differ
+record Aside (m n : List ℕ) : Type 0 where
+  pub long : length n ≡ length m
+  pub low : (j : ℕ) → j < 6 → getD n j 0 ≡ getD m j 0
+  pub ranks : (l : ℕ) → rankIn n l ≡ rankIn m l
+
+stored-aside : (i v : ℕ) (m : List ℕ) → 6 ≤ i → i < 8 → Aside m (set m i v)
+stored-aside i v m k h =
+    record {
+      long = length-set m i v;
+      low = λ j g. getD-set-other m i j v 0 (λ e. omega arith);
+      ranks = λ l. getD-set-other m i (8 + l) v 0 (λ e. omega arith);
+    }
+
+module _ {m n : List ℕ} (z : Aside m n) where
+  held-aside : Held m → Held n
+  held-aside f = record { fits = λ j g. subst (λ (x : ℕ). x < 2 ^ wordLabels) (sym (z .low j (omega arith))) (f .fits j g) }
+
+  same-pauses : pausesIn n ≡ pausesIn m
+  same-pauses = ap₂ (twoWords wordLabels) (z .low 0 (omega arith)) (z .low 1 (omega arith))
+
+  same-setpauses : setpausesIn n ≡ setpausesIn m
+  same-setpauses = ap₂ (twoWords wordLabels) (z .low 2 (omega arith)) (z .low 3 (omega arith))
+
+  from-aside : {x s a : ℕ} {o : Bool} {f : (base l : ℕ) → ℕ} {r : List ℕ} → Added x s a o f n r → Added x s a o f m r
+  from-aside {x} {s} {a} {o} {f} {r} q =
+      record {
+        long = q .long ∙ z .long;
+        held = λ h. q .held (held-aside h);
+        pauses-in = λ h. q .pauses-in (held-aside h) ∙ ap (λ (y : ℕ). join y x) same-pauses;
+        setpauses-in = λ h. q .setpauses-in (held-aside h) ∙ ap (λ (y : ℕ). join y s) same-setpauses;
+        counted = q .counted ∙ ap (λ (y : ℕ). y + a) (z .low 5 (omega arith));
+        twice = λ h.
+            q .twice (held-aside h)
+            ∙ ap₂ (λ (y w : ℕ). empty y && (disjoint w x && o)) (z .low 4 (omega arith)) same-pauses;
+        kept = λ l e. q .kept l e ∙ z .ranks l;
+        ranked = λ e l h. q .ranked e l h ∙ ap (λ (y : ℕ). f y l) (z .low 5 (omega arith));
+      }
+
+farm-adds : (s : ℕ) (m : List ℕ) → Added none none 0 true (λ base l. base) m (noteFarm s m)
+unfolding noteFarm
+farm-adds s m = from-aside (stored-aside 7 (join (farmsIn m) (only s)) m (omega arith) (omega arith)) (silent (set m 7 (join (farmsIn m) (only s))))
+
+signals-aside : (k : ℕ) (m : List ℕ) → Aside m (noteSignals k m)
+unfolding noteSignals
+signals-aside k m = stored-aside 6 (max (mostIn m) k) m (omega arith) (omega arith)
 
 -- ---- a word of a set
 -- a word stored among those of the sets, and a number stored behind them
@@ -140,9 +191,9 @@ module _ (l : ℕ) (m : List ℕ) (h : l < labelCount) (long : length m ≡ note
   abbrev two : List ℕ
   two = set one (0 + l / wordLabels) paused
 
-  at-two : (j : ℕ) → (j ≡ 5 → ⊥) → (j ≡ 6 + l → ⊥) → getD (notePause l m) j 0 ≡ getD two j 0
+  at-two : (j : ℕ) → (j ≡ 5 → ⊥) → (j ≡ 8 + l → ⊥) → getD (notePause l m) j 0 ≡ getD two j 0
   unfolding notePause
-  at-two j f g = getD-set-other (set two (6 + l) (countIn m)) 5 j (countIn m + 1) 0 f ∙ getD-set-other two (6 + l) j (countIn m) 0 g
+  at-two j f g = getD-set-other (set two (8 + l) (countIn m)) 5 j (countIn m + 1) 0 f ∙ getD-set-other two (8 + l) j (countIn m) 0 g
 
   at-one : (j : ℕ) → (j ≡ 4 → ⊥) → getD one j 0 ≡ getD m j 0
   at-one j f = getD-set-other m 4 j twice 0 f
@@ -159,12 +210,12 @@ module _ (l : ℕ) (m : List ℕ) (h : l < labelCount) (long : length m ≡ note
   at-rank : rankIn (notePause l m) l ≡ countIn m
   unfolding notePause
   at-rank =
-      getD-set-other (set two (6 + l) (countIn m)) 5 (6 + l) (countIn m + 1) 0 (λ e. omega arith)
-      ∙ getD-set-same two (6 + l) (countIn m) 0 (simp length-set (omega arith))
+      getD-set-other (set two (8 + l) (countIn m)) 5 (8 + l) (countIn m + 1) 0 (λ e. omega arith)
+      ∙ getD-set-same two (8 + l) (countIn m) 0 (simp length-set (omega arith))
 
   at-count : countIn (notePause l m) ≡ countIn m + 1
   unfolding notePause
-  at-count = getD-set-same (set two (6 + l) (countIn m)) 5 (countIn m + 1) 0 (simp length-set (omega arith))
+  at-count = getD-set-same (set two (8 + l) (countIn m)) 5 (countIn m + 1) 0 (simp length-set (omega arith))
 
   pause-length : length (notePause l m) ≡ length m
   unfolding notePause
@@ -190,8 +241,8 @@ module _ (l : ℕ) (m : List ℕ) (h : l < labelCount) (long : length m ≡ note
   pause-held : Held m → Held (notePause l m)
   unfolding notePause
   pause-held fit =
-      held-above 5 (countIn m + 1) (set two (6 + l) (countIn m)) (omega arith)
-      (held-above (6 + l) (countIn m) two (omega arith)
+      held-above 5 (countIn m + 1) (set two (8 + l) (countIn m)) (omega arith)
+      (held-above (8 + l) (countIn m) two (omega arith)
       (held-set (0 + l / wordLabels) paused one (simp length-set (omega arith))
       (joined-fits 0 l m h (omega arith) (fit .fits 0 (omega arith)) (fit .fits (0 + l / wordLabels) (omega arith)))
       (held-above 4 twice m (omega arith) fit)))
@@ -208,8 +259,8 @@ module _ (l : ℕ) (m : List ℕ) (h : l < labelCount) (long : length m ≡ note
         counted = at-count;
         twice = pause-twice;
         kept = λ k e.
-            at-two (6 + k) (λ q. omega arith) (λ q. eqb-false l k (sym (member-only l k) ∙ e) (omega arith))
-            ∙ at-rest (6 + k) (λ q. omega arith) (λ q. omega arith);
+            at-two (8 + k) (λ q. omega arith) (λ q. eqb-false l k (sym (member-only l k) ∙ e) (omega arith))
+            ∙ at-rest (8 + k) (λ q. omega arith) (λ q. omega arith);
         ranked = λ o k e.
             ap (rankIn (notePause l m)) (sym (eqb-true l k (sym (member-only l k) ∙ e))) ∙ at-rank;
       }
@@ -234,7 +285,7 @@ module _ (l : ℕ) (m : List ℕ) (h : l < labelCount) (long : length m ≡ note
         setpauses-in = λ fit. unfold noteSetpause in set-joins 2 l m h (omega arith) (fit .fits 2 (omega arith));
         counted = setpause-other 5 (λ e. omega arith) ∙ (omega arith);
         twice = λ fit. ap empty (setpause-other 4 (λ e. omega arith)) ∙ once-none (empty (twiceIn m)) (pausesIn m);
-        kept = λ k e. setpause-other (6 + k) (λ q. omega arith);
+        kept = λ k e. setpause-other (8 + k) (λ q. omega arith);
         ranked = λ e k q. in-none k q;
       }
 
@@ -275,21 +326,136 @@ module _ {x y s t a b : ℕ} {o u : Bool} {f g : (base l : ℕ) → ℕ} {m n r 
       }
 
 -- ---- every statement
-pub noting : (p : Statement) (m : List ℕ) → length m ≡ noteCount → Ranged p → Adds p m (note p m)
-unfolding note labelsOf pauseCount distinct rank
-noting nothing m h r = silent m
-noting (pause l) m h r = pause-adds l m r h
-noting (emit s v) m h r = silent m
-noting (exit n) m h r = silent m
-noting (seq p q) m h r = let a = noting p m h (r .0) in two-adds a (noting q (note p m) (a .long ∙ h) (r .1))
-noting (par p q) m h r = let a = noting p m h (r .0) in two-adds a (noting q (note p m) (a .long ∙ h) (r .1))
-noting (loop a p) m h r = noting p m h r
-noting (present s p q) m h r = let a = noting p m h (r .1) in two-adds a (noting q (note p m) (a .long ∙ h) (r .2))
-noting (signal sc a s p) m h r = noting p m h (r .2)
-noting (try p) m h r = noting p m h r
-noting (setpause l) m h r = setpause-adds l m r h
-noting (suspend s p) m h r = noting p m h (r .1)
-noting (held s K p) m h r = absurd r
+emission-adds : (s : ℕ) (v : Value) (m : List ℕ) → Added none none 0 true (λ base l. base) m (noteEmission s v m)
+emission-adds s pure m = silent m
+emission-adds s (litres n) m = farm-adds s m
+
+pub noting : (k : ℕ) (p : Statement) (m : List ℕ) → length m ≡ noteCount → Ranged p → Adds p m (noteWithin k p m)
+unfolding noteWithin labelsOf pauseCount distinct rank
+noting k nothing m h r = silent m
+noting k (pause l) m h r = pause-adds l m r h
+noting k (emit s v) m h r = emission-adds s v m
+noting k (exit n) m h r = silent m
+noting k (seq p q) m h r = let a = noting k p m h (r .0) in two-adds a (noting k q (noteWithin k p m) (a .long ∙ h) (r .1))
+noting k (par p q) m h r = let a = noting k p m h (r .0) in two-adds a (noting k q (noteWithin k p m) (a .long ∙ h) (r .1))
+noting k (loop a p) m h r = noting k p m h r
+noting k (present s p q) m h r = let a = noting k p m h (r .1) in two-adds a (noting k q (noteWithin k p m) (a .long ∙ h) (r .2))
+noting k (signal sc a s p) m h r =
+    let z = signals-aside (suc k) m in from-aside z (noting (suc k) p (noteSignals (suc k) m) (z .long ∙ h) (r .2))
+noting k (try p) m h r = noting k p m h r
+noting k (setpause l) m h r = setpause-adds l m r h
+noting k (suspend s p) m h r = noting k p m h (r .1)
+noting k (held s K p) m h r = absurd r
+
+-- ---- the signal commands around, and the farms
+pause-aside : (j l : ℕ) (m : List ℕ) → l < labelCount → length m ≡ noteCount → 6 ≤ j → j < 8 → getD (notePause l m) j 0 ≡ getD m j 0
+pause-aside j l m h long k g =
+    at-two l m h long j (λ e. omega arith) (λ e. omega arith) ∙ at-rest l m h long j (λ e. omega arith) (λ e. omega arith)
+
+setpause-aside : (j l : ℕ) (m : List ℕ) → l < labelCount → length m ≡ noteCount → 6 ≤ j → getD (noteSetpause l m) j 0 ≡ getD m j 0
+setpause-aside j l m h long k = setpause-other l m h long j (λ e. omega arith)
+
+noted-most : (k : ℕ) (m : List ℕ) → length m ≡ noteCount → mostIn (noteSignals k m) ≡ max (mostIn m) k
+unfolding noteSignals
+noted-most k m h = getD-set-same m 6 (max (mostIn m) k) 0 (omega arith)
+
+most-emission : (s : ℕ) (v : Value) (m : List ℕ) → mostIn (noteEmission s v m) ≡ mostIn m
+unfolding noteFarm
+most-emission s pure m = refl
+most-emission s (litres n) m = getD-set-other m 7 6 (join (farmsIn m) (only s)) 0 (λ e. omega arith)
+
+most-two : (k x y a : ℕ) {b c : ℕ} → k ≤ a → b ≡ max a (k + x) → c ≡ max b (k + y) → c ≡ max a (k + max x y)
+most-two k x y a l e f = omega arith
+
+-- the most of what was noted and of what p has around its commands, where k stand around p and are noted
+pub most-noted : (k : ℕ) (p : Statement) (m : List ℕ) → length m ≡ noteCount → Ranged p → k ≤ mostIn m
+    → mostIn (noteWithin k p m) ≡ max (mostIn m) (k + nesting p)
+unfolding noteWithin nesting
+most-noted k nothing m h r l = omega arith
+most-noted k (pause x) m h r l = omega (arith, pause-aside 6 x m r h (omega arith) (omega arith))
+most-noted k (emit s v) m h r l = omega (arith, most-emission s v m)
+most-noted k (exit n) m h r l = omega arith
+most-noted k (seq p q) m h r l =
+    let e = most-noted k p m h (r .0) l in
+    most-two k (nesting p) (nesting q) (mostIn m) l e
+    (most-noted k q (noteWithin k p m) (noting k p m h (r .0) .long ∙ h) (r .1) (omega (arith, e)))
+most-noted k (par p q) m h r l =
+    let e = most-noted k p m h (r .0) l in
+    most-two k (nesting p) (nesting q) (mostIn m) l e
+    (most-noted k q (noteWithin k p m) (noting k p m h (r .0) .long ∙ h) (r .1) (omega (arith, e)))
+most-noted k (loop a p) m h r l = most-noted k p m h r l
+most-noted k (present s p q) m h r l =
+    let e = most-noted k p m h (r .1) l in
+    most-two k (nesting p) (nesting q) (mostIn m) l e
+    (most-noted k q (noteWithin k p m) (noting k p m h (r .1) .long ∙ h) (r .2) (omega (arith, e)))
+most-noted k (signal sc a s p) m h r l =
+    let e = noted-most (suc k) m h in
+    omega (arith, e, most-noted (suc k) p (noteSignals (suc k) m) (signals-aside (suc k) m .long ∙ h) (r .2) (omega (arith, e)))
+most-noted k (try p) m h r l = most-noted k p m h r l
+most-noted k (setpause x) m h r l = omega (arith, setpause-aside 6 x m r h (omega arith))
+most-noted k (suspend s p) m h r l = most-noted k p m h (r .1) l
+most-noted k (held s K p) m h r l = absurd r
+
+farms-emission : (s : ℕ) (v : Value) (m : List ℕ) → length m ≡ noteCount → farmsIn (noteEmission s v m) ≡ join (farmsIn m) (farmOf s v)
+unfolding noteFarm
+farms-emission s pure m h = sym (join-none-r (farmsIn m))
+farms-emission s (litres n) m h = getD-set-same m 7 (join (farmsIn m) (only s)) 0 (omega arith)
+
+farms-signals : (k : ℕ) (m : List ℕ) → farmsIn (noteSignals k m) ≡ farmsIn m
+unfolding noteSignals
+farms-signals k m = getD-set-other m 6 7 (max (mostIn m) k) 0 (λ e. omega arith)
+
+farms-two : (x y a : ℕ) {b c : ℕ} → b ≡ join a x → c ≡ join b y → c ≡ join a (join x y)
+farms-two x y a e f = f ∙ ap (λ (z : ℕ). join z y) e ∙ sym (join-assoc a x y)
+
+-- the farms noted before, and those that p names
+pub farms-noted : (k : ℕ) (p : Statement) (m : List ℕ) → length m ≡ noteCount → Ranged p → farmsIn (noteWithin k p m) ≡ join (farmsIn m) (farmsOf p)
+unfolding noteWithin farmsOf
+farms-noted k nothing m h r = sym (join-none-r (farmsIn m))
+farms-noted k (pause x) m h r = pause-aside 7 x m r h (omega arith) (omega arith) ∙ sym (join-none-r (farmsIn m))
+farms-noted k (emit s v) m h r = farms-emission s v m h
+farms-noted k (exit n) m h r = sym (join-none-r (farmsIn m))
+farms-noted k (seq p q) m h r =
+    farms-two (farmsOf p) (farmsOf q) (farmsIn m) (farms-noted k p m h (r .0)) (farms-noted k q (noteWithin k p m) (noting k p m h (r .0) .long ∙ h) (r .1))
+farms-noted k (par p q) m h r =
+    farms-two (farmsOf p) (farmsOf q) (farmsIn m) (farms-noted k p m h (r .0)) (farms-noted k q (noteWithin k p m) (noting k p m h (r .0) .long ∙ h) (r .1))
+farms-noted k (loop a p) m h r = farms-noted k p m h r
+farms-noted k (present s p q) m h r =
+    farms-two (farmsOf p) (farmsOf q) (farmsIn m) (farms-noted k p m h (r .1)) (farms-noted k q (noteWithin k p m) (noting k p m h (r .1) .long ∙ h) (r .2))
+farms-noted k (signal sc a s p) m h r =
+    farms-noted (suc k) p (noteSignals (suc k) m) (signals-aside (suc k) m .long ∙ h) (r .2)
+    ∙ ap (λ (z : ℕ). join z (farmsOf p)) (farms-signals (suc k) m)
+farms-noted k (try p) m h r = farms-noted k p m h r
+farms-noted k (setpause x) m h r = setpause-aside 7 x m r h (omega arith) ∙ sym (join-none-r (farmsIn m))
+farms-noted k (suspend s p) m h r = farms-noted k p m h (r .1)
+farms-noted k (held s K p) m h r = absurd r
+
+-- signals are numbers below their count
+farm-below : (s : ℕ) (v : Value) → s < signalCount → farmOf s v < 2 ^ signalCount
+unfolding none only
+farm-below s pure h = pow-pos signalCount
+farm-below s (litres n) h = pow-lt h
+
+join-below : (x y : ℕ) → x < 2 ^ signalCount → y < 2 ^ signalCount → join x y < 2 ^ signalCount
+unfolding join
+join-below x y h k = or-lt signalCount x y h k
+
+pub farms-below : (p : Statement) → Ranged p → farmsOf p < 2 ^ signalCount
+unfolding farmsOf none
+farms-below nothing r = pow-pos signalCount
+farms-below (pause l) r = pow-pos signalCount
+farms-below (emit s pure) r = pow-pos signalCount
+farms-below (emit s (litres n)) r = farm-below s (litres n) (r .0)
+farms-below (exit n) r = pow-pos signalCount
+farms-below (seq p q) r = join-below (farmsOf p) (farmsOf q) (farms-below p (r .0)) (farms-below q (r .1))
+farms-below (par p q) r = join-below (farmsOf p) (farmsOf q) (farms-below p (r .0)) (farms-below q (r .1))
+farms-below (loop a p) r = farms-below p r
+farms-below (present s p q) r = join-below (farmsOf p) (farmsOf q) (farms-below p (r .1)) (farms-below q (r .2))
+farms-below (signal sc a s p) r = farms-below p (r .2)
+farms-below (try p) r = farms-below p r
+farms-below (setpause l) r = pow-pos signalCount
+farms-below (suspend s p) r = farms-below p (r .1)
+farms-below (held s K p) r = absurd r
 
 nothing-held : Held noNotes
 nothing-held = record { fits = λ j g. subst (λ (x : ℕ). x < 2 ^ wordLabels) (sym (getD-replicate noteCount j 0 0 (omega arith))) (pow-pos wordLabels) }
@@ -298,12 +464,17 @@ nothing-held = record { fits = λ j g. subst (λ (x : ℕ). x < 2 ^ wordLabels) 
 pub noted : (p : Statement) → Ranged p → Noted p (note p noNotes)
 unfolding none
 noted p r =
-    let a = noting p noNotes (length-replicate {A = ℕ} noteCount 0) r in
+    let long = length-replicate {A = ℕ} noteCount 0 in
+    let a = noting 0 p noNotes long r in
+    let zero : mostIn noNotes ≡ 0 = getD-replicate noteCount 6 0 0 (omega arith) in
+    let free : farmsIn noNotes ≡ none = getD-replicate noteCount 7 0 0 (omega arith) in
     record {
       paused = a .pauses-in nothing-held ∙ ap (λ (x : ℕ). join x (pauses p)) (words-none wordLabels) ∙ join-none-l (pauses p);
       targeting = a .setpauses-in nothing-held ∙ ap (λ (x : ℕ). join x (setpauses p)) (words-none wordLabels) ∙ join-none-l (setpauses p);
       once = a .twice nothing-held ∙ ap (λ (s : ℕ). disjoint s (pauses p) && distinct p) (words-none wordLabels) ∙ ap (λ (b : Bool). b && distinct p) (none-disjoint (pauses p));
       ranked = a .ranked;
+      most = omega (arith, most-noted 0 p noNotes long r (omega arith), zero);
+      named = farms-noted 0 p noNotes long r ∙ ap (λ (x : ℕ). join x (farmsOf p)) free ∙ join-none-l (farmsOf p);
     }
 
 -- a pause has two bytes

@@ -1,42 +1,59 @@
 -- One law for each way out of the reading walk.
-use Prim.Native.Nat.{ℕ, zero, suc, _+_, _-_, _*_, _/_, _%_, _≤_, _<_, min, max}
+use Prim.Native.Nat.{ℕ, zero, suc, _+_, _-_, _*_, _≤_, _<_}
 use mathlib.Core.Path.{_≡_, refl, sym, ap, _∙_, subst}
 use mathlib.Core.Option.{some}
 use mathlib.Core.List.{List}
 use native.Mathlib.Omega.{arith}
-use lib.ListN.{length, getD, drop, set, length-drop, length-replicate}
-use lib.Seq.{drop-drop}
+use lib.ListN.{length, getD, drop, set, length-set, length-drop}
+use lib.Seq.{drop-drop, getD-set-other}
 use Rattle.esterel.specs.Statement.{Statement, nothing}
 use Rattle.esterel.specs.Ranks.{middle}
-use Rattle.limits.specs.Limits.{maxBytes}
-use Rattle.sequence.specs.Commands.{Command, commandOf, partCount, width, declares, build}
+use Rattle.limits.specs.Limits.{maxBytes, maxSignals}
+use Rattle.sequence.specs.Commands.{Command, commandOf, operandCount, bytesAt, firstOperand, partCount, width, declares, build}
 use Rattle.sequence.specs.Reader.{Read, accepted, refused, Front, command, bad, front, lastPart, firstPart, readParts, read}
-use Rattle.esterel.specs.Ceiling.{nesting}
 use Rattle.sequence.specs.Writer.{size}
-use Rattle.layout.specs.Layout.{rest, entry, Marked}
-use Rattle.layout.specs.Notes.{countIn, noteCount, noNotes, note}
-use Rattle.layout.specs.Walk.{leftUnit, rowUnit, headOf, Both, Readable, Entered, Done, pairRead}
+use Rattle.layout.specs.Layout.{rest, entry}
+use Rattle.layout.specs.Notes.{countIn, noteCount, noteSignals, noteWithin}
+use Rattle.layout.specs.Walk.{rowUnit, headOf, Readable, Notable, LeafNoted, Entered, Done, Fitting, LeafRead, pairRead}
 use Rattle.sequence.proofs.Table.{byteOf, command-of-byte, command-at, leaves, ones, twos, undeclared}
 use Rattle.layout.proofs.Parts.{rest-is}
-use Rattle.sequence.proofs.Front.{Fronted, fronted}
+use Rattle.sequence.proofs.Front.{Fronted, fronted, Fronts, front-is}
 use Rattle.sequence.proofs.Inversion.{refuses-bad, refuses-deep, refuses-crowded, enters}
 use Rattle.sequence.proofs.Refusals.{Small, front-small, Rowed, rowed}
 use Rattle.sequence.proofs.Sound.{sound, count-within}
 use Rattle.layout.proofs.Noting.{noting, count-size}
+use Rattle.layout.proofs.Leaves.{notable}
 use Rattle.layout.proofs.Marks.{entered-leaf, entered-one, entered-two}
 
 -- ---- what was handed on is readable
-pub onward : (a b n : ℕ) (s t m : List ℕ) → b ≡ a + n → n ≤ length s → a + length s ≤ maxBytes → countIn m ≤ b → length t ≡ maxBytes
-    → length m ≡ noteCount → Readable b (rest n s) t m
-onward a b n s t m e l fits counted long noted =
+pub onward : (g a b n : ℕ) (s t m : List ℕ) → b ≡ a + n → n ≤ length s → a + length s ≤ maxBytes → countIn m ≤ b → length t ≡ maxBytes
+    → length m ≡ noteCount → g ≤ maxSignals → Readable g b (rest n s) t m
+onward g a b n s t m e l fits counted long noted allowed =
     let k : length (rest n s) ≡ length s - n = ap length (rest-is n s) ∙ length-drop n s in
-    record { fits = omega arith; counted = counted; long = long; noted = noted }
+    record { fits = omega arith; counted = counted; long = long; noted = noted; allowed = allowed }
 
-pub forward : {a : ℕ} {s t m : List ℕ} (n : ℕ) → n ≤ length s → Readable a s t m → Readable (a + n) (rest n s) t m
-forward {a} {s} {t} {m} n l r = onward a (a + n) n s t m refl l (r .fits) (omega (arith, r .counted)) (r .long) (r .noted)
+pub forward : {g a : ℕ} {s t m : List ℕ} (n : ℕ) → n ≤ length s → Readable g a s t m → Readable g (a + n) (rest n s) t m
+forward {g} {a} {s} {t} {m} n l r = onward g a (a + n) n s t m refl l (r .fits) (omega (arith, r .counted)) (r .long) (r .noted) (r .allowed)
 
-pub again : {a : ℕ} {s t m : List ℕ} → Readable a s t m → Readable a (rest 0 s) t m
-again {a} {s} {t} {m} r = onward a a 0 s t m (omega arith) (omega arith) (r .fits) (r .counted) (r .long) (r .noted)
+pub again : {g a : ℕ} {s t m : List ℕ} → Readable g a s t m → Readable g a (rest 0 s) t m
+again {g} {a} {s} {t} {m} r = onward g a a 0 s t m (omega arith) (omega arith) (r .fits) (r .counted) (r .long) (r .noted) (r .allowed)
+
+pub fitting : {g a : ℕ} {s t m : List ℕ} → Readable g a s t m → Fitting a s m
+fitting r = record { fits = r .fits; counted = r .counted }
+
+-- a signal is noted, and its part is handed on
+same-count : (k : ℕ) (m : List ℕ) → countIn (noteSignals k m) ≡ countIn m
+unfolding noteSignals
+same-count k m = getD-set-other m 6 5 _ 0 (λ e. omega arith)
+
+same-length : (k : ℕ) (m : List ℕ) → length (noteSignals k m) ≡ length m
+unfolding noteSignals
+same-length k m = length-set m 6 _
+
+pub within : {g a : ℕ} {s t m n : List ℕ} (w h k : ℕ) → w ≤ length s → h ≤ g → n ≡ noteSignals k m → Readable g a s t m → Readable h (a + w) (rest w s) t n
+within {g} {a} {s} {t} {m} {n} w h k l below e r =
+    let c : countIn n ≡ countIn m = ap countIn e ∙ same-count k m in
+    onward h a (a + w) w s t n refl l (r .fits) (omega (arith, r .counted)) (r .long) (ap length e ∙ same-length k m ∙ r .noted) (omega (arith, r .allowed))
 
 -- ---- the command at the front, by its head of w bytes
 done-refused : (g a : ℕ) (t u m n : List ℕ) (y : Read) (k r : ℕ) → y ≡ refused k → r ≡ k * rowUnit → Done g a t u m n y r
@@ -49,6 +66,11 @@ done-bad d g a s t u m n w fits e l = go (front s) refl e
     go : (f : Front) → front s ≡ f → w ≡ headOf f → Done g a t u m n (read d g a s) w
     go (command c xs) q h = absurd (omega (arith, fits, fronted s c xs q .long))
     go (bad k) q h = done-refused g a t u m n (read d g a s) k w (refuses-bad d g a s k q) h
+
+-- no byte is left
+pub done-empty : (d g a : ℕ) (s t u m n : List ℕ) → length s ≡ 0 → Done g a t u m n (read d g a s) (4 * rowUnit)
+done-empty d g a s t u m n e =
+    done-refused g a t u m n (read d g a s) 4 _ (refuses-bad d g a s 4 (front-is s (bad 4) (Fronts.empty e))) refl
 
 pub record Heading (s : List ℕ) (w : ℕ) : Type 0 where
   pub of : Command
@@ -63,44 +85,30 @@ heading s w e l = go (front s) refl e
     go (command c xs) q h = record { of = c; operands = xs; stands = q; wide = h }
     go (bad k) q h = absurd (omega (arith, front-small s k q))
 
+-- the same of a command whose width is known
+abbrev pub narrow : {s : List ℕ} {w v : ℕ} (h : Heading s w) → v ≡ width (h .of) → Heading s v
+narrow h e = record { of = h .of; operands = h .operands; stands = h .stands; wide = e }
+
 -- ---- what a command notes, by its parts
-module _ (a : ℕ) (xs m : List ℕ) where
-  note-one : (c : Command) → partCount c ≡ 1 → (p : Statement) → note (build c a xs p nothing) m ≡ note p m
-  unfolding note
-  note-one = ones (λ (c : Command). (p : Statement) → note (build c a xs p nothing) m ≡ note p m) (λ p. refl) (λ p. refl) (λ p. refl) (λ p. refl)
+module _ (k a : ℕ) (xs m : List ℕ) where
+  note-one : (c : Command) → partCount c ≡ 1 → declares c ≡ 0 → (p : Statement) → noteWithin k (build c a xs p nothing) m ≡ noteWithin k p m
+  unfolding noteWithin
+  note-one =
+      ones (λ (c : Command). declares c ≡ 0 → (p : Statement) → noteWithin k (build c a xs p nothing) m ≡ noteWithin k p m)
+      (λ e p. refl) (λ e p. absurd (omega arith)) (λ e p. refl) (λ e p. refl)
 
-  note-two : (c : Command) → partCount c ≡ 2 → (p q : Statement) → note (build c a xs p q) m ≡ note q (note p m)
-  unfolding note
-  note-two = twos (λ (c : Command). (p q : Statement) → note (build c a xs p q) m ≡ note q (note p m)) (λ p q. refl) (λ p q. refl) (λ p q. refl)
+  note-signal : (c : Command) → partCount c ≡ 1 → declares c ≡ 1 → (p : Statement)
+      → noteWithin k (build c a xs p nothing) m ≡ noteWithin (suc k) p (noteSignals (suc k) m)
+  unfolding noteWithin
+  note-signal =
+      ones (λ (c : Command). declares c ≡ 1 → (p : Statement) → noteWithin k (build c a xs p nothing) m ≡ noteWithin (suc k) p (noteSignals (suc k) m))
+      (λ e p. absurd (omega arith)) (λ e p. refl) (λ e p. absurd (omega arith)) (λ e p. absurd (omega arith))
 
--- ---- the nesting of signals in a command, by its parts
-module _ (a : ℕ) (xs : List ℕ) where
-  nesting-leaf : (c : Command) → partCount c ≡ 0 → nesting (build c a xs nothing nothing) ≡ 0
-  unfolding nesting
-  nesting-leaf = leaves (λ (c : Command). nesting (build c a xs nothing nothing) ≡ 0) refl refl refl refl refl refl
-
-  nesting-one : (c : Command) → partCount c ≡ 1 → (p : Statement) → nesting (build c a xs p nothing) ≡ declares c + nesting p
-  unfolding nesting
-  nesting-one =
-      ones (λ (c : Command). (p : Statement) → nesting (build c a xs p nothing) ≡ declares c + nesting p)
-      (λ p. omega arith) (λ p. refl) (λ p. omega arith) (λ p. omega arith)
-
-  nesting-two : (c : Command) → partCount c ≡ 2 → (p q : Statement) → nesting (build c a xs p q) ≡ max (nesting p) (nesting q)
-  unfolding nesting
-  nesting-two =
-      twos (λ (c : Command). (p q : Statement) → nesting (build c a xs p q) ≡ max (nesting p) (nesting q)) (λ p q. refl) (λ p q. refl) (λ p q. refl)
-
--- ---- an answer is taken apart
-split-answer : (x i r : ℕ) → x < leftUnit → r ≡ x + i * leftUnit → (r % leftUnit ≡ x) × (r / leftUnit ≡ i)
-split-answer x i r l e = (omega arith, omega arith)
-
--- two parts of nesting i and j, where g signals are allowed
-both-left : (g i j x y m r z : ℕ) → x < leftUnit → y < leftUnit → m ≡ x + (g - i) * leftUnit → r ≡ y + (g - j) * leftUnit
-    → z ≡ r % leftUnit + min (m / leftUnit) (r / leftUnit) * leftUnit → z ≡ y + (g - max i j) * leftUnit
-both-left g i j x y m r z k l e f h =
-    let a = split-answer x (g - i) m k e in
-    let b = split-answer y (g - j) r l f in
-    h ∙ rw (b .0, b .1, a .1) (omega arith)
+  note-two : (c : Command) → partCount c ≡ 2 → (p q : Statement) → noteWithin k (build c a xs p q) m ≡ noteWithin k q (noteWithin k p m)
+  unfolding noteWithin
+  note-two =
+      twos (λ (c : Command). (p q : Statement) → noteWithin k (build c a xs p q) m ≡ noteWithin k q (noteWithin k p m))
+      (λ p q. refl) (λ p q. refl) (λ p q. refl)
 
 -- a command has two parts, behind its own bytes
 same-pair : (c : Command) (a : ℕ) (xs s : List ℕ) (i : ℕ → List ℕ → Read) (y : Read)
@@ -145,26 +153,45 @@ module _ {s : List ℕ} {w : ℕ} (h : Heading s w) where
         signal : byteOf (h .of) ≡ 8 → ⊥
         signal e = n (ap partCount (command-at (byteOf (h .of)) (h .of) Command.signal (command-of-byte (h .of)) e))
 
-    pub done-leaf : (t m n : List ℕ) → partCount (h .of) ≡ 0 → n ≡ note (build (h .of) a (h .operands) nothing nothing) m
-        → Done g a t t m n (read d g a s) (a + w + g * leftUnit)
+    pub done-leaf : (t m n : List ℕ) → partCount (h .of) ≡ 0 → n ≡ noteWithin (maxSignals - g) (build (h .of) a (h .operands) nothing nothing) m
+        → Done g a t t m n (read d g a s) (a + w)
     done-leaf t m n z e =
         let y : read d g a s ≡ accepted (build (h .of) a (h .operands) nothing nothing) (width (h .of)) = plain-are (λ o. omega arith) ∙ rw z in
-        rw y (omega (arith, h .wide, nesting-leaf a (h .operands) (h .of) z), (entered-leaf t (countIn m) a (h .operands) (h .of) z, e))
+        rw y (omega (arith, h .wide), (entered-leaf t (countIn m) a (h .operands) (h .of) z, e))
 
-    -- the part, of the bytes l
-    pub done-one : (k : ℕ) → k ≡ declares (h .of) → k ≤ g → partCount (h .of) ≡ 1 → (l : List ℕ) → l ≡ drop w s → (t u m n : List ℕ) (r : ℕ)
-        → Done (g - k) (a + w) t u m n (read (d - 1) (g - k) (a + w) l) r → Done g a t u m n (read d g a s) r
-    done-one k e le z l here t u m n r i =
-        let c = h .of in
-        let part = read (d - 1) (g - k) (a + width c) (drop (width c) s) in
-        let y : read d g a s ≡ lastPart (λ p. build c a (h .operands) p nothing) (width c) part = parts-are k e le ∙ rw z in
-        rw y (go part (rw (here, h .wide) at i))
-      where
-        go : (y : Read) → Done (g - k) (a + width (h .of)) t u m n y r
-            → Done g a t u m n (lastPart (λ p. build (h .of) a (h .operands) p nothing) (width (h .of)) y) r
-        go (accepted p j) i =
-            (omega (arith, i .0, nesting-one a (h .operands) (h .of) z p), (entered-one t u (countIn m) a (h .operands) (h .of) p j z (i .1 .0), i .1 .1 ∙ sym (note-one a (h .operands) m (h .of) z p)))
-        go (refused j) i = i
+    -- the part, of the bytes l, of a command that declares k signals
+    module _ (k : ℕ) (e : k ≡ declares (h .of)) (le : k ≤ g) (z : partCount (h .of) ≡ 1) (l : List ℕ) (here : l ≡ drop w s) where
+      done-part : (t u m i n : List ℕ) (r : ℕ) → countIn i ≡ countIn m
+          → ((p : Statement) → noteWithin (maxSignals - g) (build (h .of) a (h .operands) p nothing) m ≡ noteWithin (maxSignals - (g - k)) p i)
+          → Done (g - k) (a + w) t u i n (read (d - 1) (g - k) (a + w) l) r → Done g a t u m n (read d g a s) r
+      done-part t u m i n r counted noted done =
+          let c = h .of in
+          let part = read (d - 1) (g - k) (a + width c) (drop (width c) s) in
+          let y : read d g a s ≡ lastPart (λ p. build c a (h .operands) p nothing) (width c) part = parts-are k e le ∙ rw z in
+          rw y (go part (rw (here, h .wide) at done))
+        where
+          go : (y : Read) → Done (g - k) (a + width (h .of)) t u i n y r
+              → Done g a t u m n (lastPart (λ p. build (h .of) a (h .operands) p nothing) (width (h .of)) y) r
+          go (accepted p j) q =
+              let f : Entered t u (countIn m) (a + width (h .of)) j p = rw counted at (q .1 .0) in
+              (omega (arith, q .0), (entered-one t u (countIn m) a (h .operands) (h .of) p j z f, q .1 .1 ∙ sym (noted p)))
+          go (refused j) q = q
+
+    pub done-one : partCount (h .of) ≡ 1 → declares (h .of) ≡ 0 → (l : List ℕ) → l ≡ drop w s → (t u m n : List ℕ) (r : ℕ)
+        → Done g (a + w) t u m n (read (d - 1) g (a + w) l) r → Done g a t u m n (read d g a s) r
+    done-one z o l here t u m n r i =
+        let same : g - 0 ≡ g = omega arith in
+        done-part 0 (sym o) (omega arith) z l here t u m m n r refl
+        (λ p. note-one (maxSignals - g) a (h .operands) m (h .of) z o p ∙ ap (λ (j : ℕ). noteWithin (maxSignals - j) p m) (sym same))
+        (rw same i)
+
+    pub done-signal : partCount (h .of) ≡ 1 → declares (h .of) ≡ 1 → 1 ≤ g → g ≤ maxSignals → (l : List ℕ) → l ≡ drop w s → (t u m i n : List ℕ) (r : ℕ)
+        → i ≡ noteSignals (maxSignals - (g - 1)) m → Done (g - 1) (a + w) t u i n (read (d - 1) (g - 1) (a + w) l) r → Done g a t u m n (read d g a s) r
+    done-signal z o le allowed l here t u m i n r noted done =
+        let up : suc (maxSignals - g) ≡ maxSignals - (g - 1) = omega arith in
+        done-part 1 (sym o) le z l here t u m i n r (ap countIn noted ∙ same-count (maxSignals - (g - 1)) m)
+        (λ p. note-signal (maxSignals - g) a (h .operands) m (h .of) z o p ∙ rw (up, ← noted))
+        done
 
     pub done-pair : partCount (h .of) ≡ 2 → (l : List ℕ) → l ≡ drop w s → (t u m n : List ℕ) (r : ℕ)
         → ((c : Command) (xs : List ℕ) → partCount c ≡ 2 → w ≡ width c → Done g a t u m n (pairRead (read (d - 1) g) c a xs l) r)
@@ -176,51 +203,72 @@ module _ {s : List ℕ} {w : ℕ} (h : Heading s w) where
         = plain-are (λ o. omega arith) ∙ rw z (same-pair c a (h .operands) s (read (d - 1) g) (read (d - 1) g (a + width c) (drop (width c) s))) in
         rw (y, ← there) (i c (h .operands) z (h .wide))
 
+-- ---- a command without parts at the front
+first-operand : (n : ℕ) (s : List ℕ) → 1 ≤ n → firstOperand (bytesAt 1 n s) ≡ getD s 1 0
+first-operand zero s l = absurd (omega arith)
+first-operand (suc n) s l = refl
+
+bare-notes : (k a : ℕ) (xs m : List ℕ) (c : Command) → partCount c ≡ 0 → operandCount c ≡ 0 → m ≡ noteWithin k (build c a xs nothing nothing) m
+unfolding noteWithin
+bare-notes k a xs m =
+    leaves (λ (c : Command). operandCount c ≡ 0 → m ≡ noteWithin k (build c a xs nothing nothing) m)
+    (λ e. refl) (λ e. absurd (omega arith)) (λ e. refl) (λ e. refl) (λ e. absurd (omega arith)) (λ e. absurd (omega arith))
+
+module _ {s : List ℕ} {w : ℕ} (h : Heading s w) where
+  pub can-note : (a : ℕ) (m : List ℕ) → Fitting a s m → Notable (getD s 0 0) (getD s 1 0) m
+  can-note a m f = notable (at-front h) m (omega (arith, f .fits, f .counted, head-fits h))
+
+  module _ (z : partCount (h .of) ≡ 0) (d a : ℕ) (level : d ≡ 0 → ⊥) (m : List ℕ) where
+    pub read-bare : w ≡ 1 → LeafRead d a s m m (a + w)
+    read-bare one g t = done-leaf h d g a level t m m z (bare-notes (maxSignals - g) a (h .operands) m (h .of) z (omega (arith, h .wide)))
+
+    pub read-noted : 2 ≤ w → (n : List ℕ) → LeafNoted (getD s 0 0) (getD s 1 0) m n → LeafRead d a s m n (a + w)
+    read-noted more n i g t =
+        let f = at-front h in
+        let x : firstOperand (h .operands) ≡ getD s 1 0
+        = ap firstOperand (f .operands) ∙ first-operand (operandCount (h .of)) s (omega (arith, h .wide)) in
+        done-leaf h d g a level t m n z (i (h .of) a (maxSignals - g) (h .operands) (f .byte) z x)
+
 -- ---- the two parts of a command of w bytes; s is behind the command, and the first part stands at offset b
 pub record Firsts (d g b : ℕ) (s t u m n : List ℕ) (r : ℕ) : Type 0 where
   pub part : Statement
   pub count : ℕ
   pub reads : read d g b s ≡ accepted part count
-  pub answer : r ≡ b + count + (g - nesting part) * leftUnit
-  pub place : r % leftUnit ≡ b + count
+  pub place : r ≡ b + count
   pub within : count ≤ length s
   pub sized : count ≡ size part
   pub entered : Entered t u (countIn m) b count part
-  pub notes : n ≡ note part m
+  pub notes : n ≡ noteWithin (maxSignals - g) part m
   pub counted : countIn n ≡ middle (countIn m) part
-  pub few : countIn n ≤ r % leftUnit
+  pub few : countIn n ≤ r
   pub noted : length n ≡ noteCount
 
-module _ (d g b : ℕ) (s t u m n : List ℕ) (r : ℕ) (can : Readable b s t m) (h : Done g b t u m n (read d g b s) r) where
+module _ (d g b : ℕ) (s t u m n : List ℕ) (r : ℕ) (can : Readable g b s t m) (h : Done g b t u m n (read d g b s) r) where
   pub firsts : r < rowUnit → Firsts d g b s t u m n r
   firsts small = go (read d g b s) refl (rowed d g b s) h
     where
       go : (y : Read) → read d g b s ≡ y → Rowed (read d g b s) → Done g b t u m n y r → Firsts d g b s t u m n r
       go (accepted p k) q z i =
           let w = sound d g b s p k q in
-          let a = noting p m (can .noted) (w .within .ranged) in
+          let a = noting (maxSignals - g) p m (can .noted) (w .within .ranged) in
           let c : countIn n ≡ middle (countIn m) p = ap countIn (i .1 .1) ∙ a .counted in
-          let l = count-within d g b s p k q in
-          let e : r % leftUnit ≡ b + k = omega (arith, i .0, l, can .fits) in
           record {
             part = p;
             count = k;
             reads = q;
-            answer = i .0;
-            place = e;
-            within = l;
+            place = i .0;
+            within = count-within d g b s p k q;
             sized = w .count;
             entered = i .1 .0;
             notes = i .1 .1;
             counted = c;
-            few = omega (arith, count-size p, w .count, can .counted, e);
+            few = omega (arith, count-size p, w .count, can .counted, i .0);
             noted = ap length (i .1 .1) ∙ a .long ∙ can .noted;
           }
       go (refused k) q z i = let o : Small k = rw q at z in absurd (omega (arith, i .0))
 
-  -- the signals allowed are a byte
-  pub first-refused : (a : ℕ) (xs : List ℕ) (c : Command) → g < 256 → b ≡ a + width c → rowUnit ≤ r → Done g a t u m n (pairRead (read d g) c a xs s) r
-  first-refused a xs c allowed e large = go (read d g b s) refl h
+  pub first-refused : (a : ℕ) (xs : List ℕ) (c : Command) → b ≡ a + width c → rowUnit ≤ r → Done g a t u m n (pairRead (read d g) c a xs s) r
+  first-refused a xs c e large = go (read d g b s) refl h
     where
       go : (y : Read) → read d g b s ≡ y → Done g b t u m n y r → Done g a t u m n (pairRead (read d g) c a xs s) r
       go (accepted p k) q i = absurd (omega (arith, count-within d g b s p k q, i .0, can .fits))
@@ -228,36 +276,28 @@ module _ (d g b : ℕ) (s t u m n : List ℕ) (r : ℕ) (can : Readable b s t m)
           let q' : read d g (a + width c) s ≡ refused k = rw e at q in
           done-refused g a t u m n (pairRead (read d g) c a xs s) k r (rw q') (i .0)
 
-  -- the entry o is written at offset a, the second part, of the bytes l, is read at offset x, and z is the answer for both
-  pub both : (a : ℕ) (xs : List ℕ) (c : Command) → g < 256 → b ≡ a + width c → partCount c ≡ 2 → Firsts d g b s t u m n r → a < length u → (x o : ℕ)
-      → x ≡ r % leftUnit → o ≡ entry x (countIn n) → (l : List ℕ) → l ≡ drop (x - b) s → (v j : List ℕ) (r₂ z : ℕ)
-      → Done g x (set u a o) v n j (read d g x l) r₂ → Both r r₂ z → Done g a t v m j (pairRead (read d g) c a xs s) z
-  both a xs c allowed e two f inside x o behind w l here v j r₂ z i joined =
+  -- the entry o is written at offset a, and z is the answer for the second part, of the bytes l
+  pub both : (a : ℕ) (xs : List ℕ) (c : Command) → b ≡ a + width c → partCount c ≡ 2 → Firsts d g b s t u m n r → a < length u → (o : ℕ)
+      → o ≡ entry r (countIn n) → (l : List ℕ) → l ≡ drop (r - b) s → (v j : List ℕ) (z : ℕ)
+      → Done g r (set u a o) v n j (read d g r l) z → Done g a t v m j (pairRead (read d g) c a xs s) z
+  both a xs c e two f inside o w l here v j z i =
       let k = f .count in
       let q : read d g (a + width c) s ≡ accepted (f .part) k = rw e at (f .reads) in
-      let place : x ≡ a + (width c + k) = omega (arith, f .place) in
-      let gone : x - b ≡ k = omega (arith, f .place) in
-      let same : read d g x l ≡ read d g (a + (width c + k)) (drop k s) = rw (here, gone, place) in
+      let place : r ≡ a + (width c + k) = omega (arith, f .place) in
+      let gone : r - b ≡ k = omega (arith, f .place) in
+      let same : read d g r l ≡ read d g (a + (width c + k)) (drop k s) = rw (here, gone, place) in
       let fore : Entered t u (countIn m) (a + width c) k (f .part) = rw e at (f .entered) in
-      let noted : o ≡ entry x (middle (countIn m) (f .part)) = w ∙ ap (entry x) (f .counted) in
-      rw q (go fore place noted (read d g (a + (width c + k)) (drop k s)) (sym same) (rw same at i))
+      let noted : o ≡ entry r (middle (countIn m) (f .part)) = w ∙ ap (entry r) (f .counted) in
+      rw q (go fore place noted (read d g (a + (width c + k)) (drop k s)) (rw same at i))
     where
-      go : Entered t u (countIn m) (a + width c) (f .count) (f .part) → x ≡ a + (width c + f .count) → o ≡ entry x (middle (countIn m) (f .part)) → (y : Read)
-          → y ≡ read d g x l → Done g x (set u a o) v n j y r₂ → Done g a t v m j (lastPart (λ q. build c a xs (f .part) q) (width c + f .count) y) z
-      go fore place noted (accepted p k) y i =
-          let back : Entered (set u a o) v (middle (countIn m) (f .part)) x k p = rw (f .counted) at (i .1 .0) in
-          let within = count-within d g x l p k (sym y) in
-          let long : length l ≡ length s - (x - b) = ap length here ∙ length-drop (x - b) s in
-          let fits : x + k ≤ maxBytes = omega (arith, can .fits, f .place, f .within) in
-          let small : r₂ < rowUnit = omega (arith, i .0) in
-          let left = both-left g (nesting (f .part)) (nesting p) (b + f .count) (x + k) r r₂ z (omega arith) (omega arith) (f .answer) (i .0)
-          (joined .acceptance small) in
-          let behind : a + (width c + f .count + k) ≡ x + k = omega arith in (
-            rw (behind, nesting-two a xs c two (f .part) p) left,
+      go : Entered t u (countIn m) (a + width c) (f .count) (f .part) → r ≡ a + (width c + f .count) → o ≡ entry r (middle (countIn m) (f .part)) → (y : Read)
+          → Done g r (set u a o) v n j y z → Done g a t v m j (lastPart (λ q. build c a xs (f .part) q) (width c + f .count) y) z
+      go fore place noted (accepted p k) i =
+          let back : Entered (set u a o) v (middle (countIn m) (f .part)) r k p = rw (f .counted) at (i .1 .0) in (
+            omega (arith, i .0),
             (
-              entered-two t u v (countIn m) a xs x o c (f .part) p (f .count) k two (f .sized) place noted inside fore back,
-              i .1 .1 ∙ ap (note p) (f .notes) ∙ sym (note-two a xs m c two (f .part) p),
+              entered-two t u v (countIn m) a xs r o c (f .part) p (f .count) k two (f .sized) place noted inside fore back,
+              i .1 .1 ∙ ap (noteWithin (maxSignals - g) p) (f .notes) ∙ sym (note-two (maxSignals - g) a xs m c two (f .part) p),
             ),
           )
-      go fore place noted (refused k) y i =
-          let o : Small k = subst Rowed (sym y) (rowed d g x l) in (joined .refusal (omega (arith, i .0)) ∙ i .0, tt)
+      go fore place noted (refused k) i = (i .0, tt)

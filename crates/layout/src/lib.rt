@@ -1,7 +1,5 @@
-// How a statement lies in bytes, the table of second parts and the notes of labels: definitions in specs/, laws in proofs/.
-// The units of the reading walk's answer: a row, or an offset and the signals that may still stand around it.
-pub const LEFT_UNIT: usize = 4096;
-
+// How a statement lies in bytes, the table of second parts and the notes: definitions in specs/, laws in proofs/.
+// The unit of the reading walk's answer: so many for a row; below it, an offset.
 pub const ROW_UNIT: usize = 1048576;
 
 // The table of second parts: at the offset of a command of two parts, where its second part begins and, times BEFORE_UNIT, how many

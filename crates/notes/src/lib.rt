@@ -1,16 +1,17 @@
-// What reading notes of labels, in an array that the caller lends (layout, specs/Notes).
+// What reading notes of a statement, in an array that the caller lends (layout, specs/Notes).
 ghost use mathlib.Core.Path.{_≡_};
 ghost use mathlib.Core.Bool.{cond};
-ghost use Prim.Native.Nat.{_<_};
+ghost use Prim.Native.Nat.{_-_, _^_, _≤_, _<_, max};
 ghost use lib.Dec.{ltb};
 ghost use Rattle.esterel.specs.Sets.{empty};
 ghost use Rattle.labels.specs.Labels.{labelSet};
-ghost use Rattle.limits.specs.Limits.{labelCount, maxBytes};
-ghost use Rattle.layout.specs.Notes.{pausesIn, setpausesIn, twiceIn, countIn, rankIn, notePause, noteSetpause};
-ghost use Rattle.layout.specs.Walk.{Leaf, LabelNoted};
+ghost use Rattle.limits.specs.Limits.{labelCount, signalCount, maxBytes, maxSignals};
+ghost use Rattle.layout.specs.Notes.{pausesIn, setpausesIn, twiceIn, countIn, mostIn, farmsIn, rankIn, notePause, noteSetpause, noteFarm, noteSignals};
+ghost use Rattle.layout.specs.Walk.{Notable, LeafNoted};
 use limits::WORD_LABELS;
 
-// The labels of pauses and of setpauses in two words each, what came twice, the number of pauses, then a rank for each label.
+// The labels of pauses and of setpauses in two words each, what came twice, the number of pauses, the most signal commands around a
+// command, the farms named, then a rank for each label.
 pub const LENGTH: usize = RANKS + limits::LABEL_COUNT;
 
 pub type Notes = [u64; LENGTH];
@@ -23,7 +24,11 @@ const TWICE: usize = 4;
 
 const COUNT: usize = 5;
 
-const RANKS: usize = 6;
+const MOST: usize = 6;
+
+const FARMS: usize = 7;
+
+const RANKS: usize = 8;
 
 // A pause with label l was read.
 fn note_pause(l: u8, notes: &mut Notes)
@@ -49,19 +54,45 @@ fn note_setpause(l: u8, notes: &mut Notes)
     notes[word] = notes[word] | (1u64 << (l % WORD_LABELS));
 }
 
-// Notes the label of the command at the front of s, which has no parts.
-pub fn label(s: &[u8], notes: &mut Notes)
-    requires { ⌜ Leaf (now s) (now notes) ⌝ }
-    ensures { λ _. ⌜ LabelNoted (now (s .entry)) (now (notes .entry)) (now (notes .exit)) ⌝ }
+// An emission of s with litres was read.
+fn note_farm(s: u8, notes: &mut Notes)
+    requires { ⌜ s < signalCount ⌝ }
+    ensures { λ _. ⌜ now (notes .exit) ≡ noteFarm s (now (notes .entry)) ⌝ }
 {
-    let b = s[0];
+    notes[FARMS] = notes[FARMS] | (1u64 << s);
+}
+
+// The command b without parts was read, whose first operand byte is x; one without a label and without litres leaves no note.
+pub fn leaf(b: u8, x: u8, notes: &mut Notes)
+    requires { ⌜ Notable b x (now notes) ⌝ }
+    ensures { λ _. ⌜ LeafNoted b x (now (notes .entry)) (now (notes .exit)) ⌝ }
+{
     if b == 1 {
-        note_pause(s[1], notes);
+        note_pause(x, notes);
         return;
     }
     if b == 10 {
-        note_setpause(s[1], notes);
+        note_setpause(x, notes);
+        return;
     }
+    if b == 12 {
+        note_farm(x, notes);
+    }
+}
+
+fn greater(a: u64, b: u64) -> u64
+    ensures { λ r. ⌜ r ≡ max a b ⌝ }
+{
+    if a < b { b } else { a }
+}
+
+// A signal command was read, inside which so many more are allowed.
+pub fn signal(left: u8, notes: &mut Notes)
+    requires { ⌜ left ≤ maxSignals ⌝ }
+    ensures { λ _. ⌜ now (notes .exit) ≡ noteSignals (maxSignals - left) (now (notes .entry)) ⌝ }
+{
+    let around = limits::MAX_SIGNALS - left;
+    notes[MOST] = greater(notes[MOST], around as u64);
 }
 
 pub fn pauses(notes: &Notes) -> labels::Labels
@@ -87,6 +118,22 @@ pub fn count(notes: &Notes) -> u64
     ensures { λ r. ⌜ r ≡ countIn (now (notes .entry)) ⌝ }
 {
     notes[COUNT]
+}
+
+// The most signal commands around a command.
+pub fn most(notes: &Notes) -> u8
+    requires { ⌜ mostIn (now notes) ≤ maxSignals ⌝ }
+    ensures { λ r. ⌜ r ≡ mostIn (now (notes .entry)) ⌝ }
+{
+    notes[MOST] as u8
+}
+
+// The farms named.
+pub fn farms(notes: &Notes) -> u32
+    requires { ⌜ farmsIn (now notes) < 2 ^ signalCount ⌝ }
+    ensures { λ r. ⌜ r ≡ farmsIn (now (notes .entry)) ⌝ }
+{
+    notes[FARMS] as u32
 }
 
 // The rank of the pause l; a label outside the width has none.

@@ -1,5 +1,5 @@
 -- What the walk over a whole sequence answers and leaves.
-use Prim.Native.Nat.{ℕ, _-_, _*_, _/_, _%_, _≤_, _<_}
+use Prim.Native.Nat.{ℕ, _-_, _*_, _/_, _≤_, _<_}
 use mathlib.Core.Path.{_≡_, refl, sym, ap, ap₂, _∙_, subst}
 use mathlib.Core.List.{List}
 use native.Mathlib.Omega.{arith}
@@ -9,19 +9,20 @@ use Rattle.limits.specs.Limits.{maxBytes, maxDepth, maxSignals}
 use Rattle.sequence.specs.Reader.{Read, accepted, refused, read}
 use Rattle.esterel.specs.Ceiling.{nesting}
 use Rattle.sequence.proofs.Refusals.{Small, Rowed, rowed}
-use Rattle.sequence.proofs.Sound.{count-within}
+use Rattle.sequence.proofs.Sound.{sound, count-within}
 use Rattle.layout.specs.Layout.{rest, Marked}
-use Rattle.layout.specs.Notes.{countIn, noteCount, noNotes, note}
-use Rattle.layout.specs.Walk.{leftUnit, rowUnit, Readable, Entered, Done}
+use Rattle.layout.specs.Notes.{countIn, mostIn, noteCount, noNotes, note}
+use Rattle.layout.specs.Walk.{rowUnit, Readable, Entered, Done}
 use Rattle.layout.proofs.Walk.{onward}
+use Rattle.layout.proofs.Noting.{noted}
 use Rattle.reading.specs.declared.reader.Reading.the-variants.{Accepted, Refused}
 use Rattle.reading.specs.Reading.{readingOf, Reads}
 
-pub beginning : (s t m : List ℕ) → length s ≤ maxBytes → length t ≡ maxBytes → m ≡ noNotes → Readable 0 (rest 0 s) t m
+pub beginning : (s t m : List ℕ) → length s ≤ maxBytes → length t ≡ maxBytes → m ≡ noNotes → Readable maxSignals 0 (rest 0 s) t m
 beginning s t m l long e =
     let c : countIn m ≡ 0 = rw e in
     let k : length m ≡ noteCount = ap length e ∙ length-replicate {A = ℕ} noteCount 0 in
-    onward 0 0 0 s t m refl (omega arith) (omega arith) (omega arith) long k
+    onward maxSignals 0 0 0 s t m refl (omega arith) (omega arith) (omega arith) long k (omega arith)
 
 module _ (s t u m n : List ℕ) (r : ℕ) (short : length s ≤ maxBytes) (long : length t ≡ maxBytes) (none : m ≡ noNotes)
     (h : Done maxSignals 0 t u m n (read maxDepth maxSignals 0 s) r) where
@@ -43,22 +44,47 @@ module _ (s t u m n : List ℕ) (r : ℕ) (short : length s ≤ maxBytes) (long 
       never : {A : Type 0} {p : Statement} {j : ℕ} → read maxDepth maxSignals 0 s ≡ accepted p j → A
       never q = absurd (let z : _≡_ {A = ℕ} 0 1 = cc (row large .1 .0) in omega arith)
 
-  pub reads-accepted : r < rowUnit → Reads s u n (Accepted (r % leftUnit) (r / leftUnit))
-  reads-accepted small = go (read maxDepth maxSignals 0 s) refl (rowed maxDepth maxSignals 0 s) h
-    where
-      at : {p q : Statement} {j k : ℕ} (P : Statement → Type 0) → accepted p j ≡ accepted q k → P p → P q
-      at {p} {q} P e x = let f : p ≡ q = cc in subst P f x
+  at : {p q : Statement} {j k : ℕ} (P : Statement → Type 0) → accepted p j ≡ accepted q k → P p → P q
+  at {p} {q} P e x = let f : p ≡ q = cc in subst P f x
 
-      go : (y : Read) → read maxDepth maxSignals 0 s ≡ y → Rowed (read maxDepth maxSignals 0 s) → Done maxSignals 0 t u m n y r → Reads s u n (Accepted (r % leftUnit) (r / leftUnit))
+  -- an accepted statement, and the most signal commands around one of its commands
+  record Acceptance : Type 0 where
+    pub p : Statement
+    pub reads : read maxDepth maxSignals 0 s ≡ accepted p r
+    pub marked : Marked u 0 0 p
+    pub notes : n ≡ note p noNotes
+    pub sized : length u ≡ maxBytes
+    pub most : mostIn n ≡ nesting p
+    pub few : nesting p ≤ maxSignals
+
+  acceptance : r < rowUnit → Acceptance
+  acceptance small = go (read maxDepth maxSignals 0 s) refl (rowed maxDepth maxSignals 0 s) h
+    where
+      go : (y : Read) → read maxDepth maxSignals 0 s ≡ y → Rowed (read maxDepth maxSignals 0 s) → Done maxSignals 0 t u m n y r → Acceptance
       go (refused k) q z i = let o : Small k = rw q at z in absurd (omega (arith, i .0))
       go (accepted p k) q z i =
           let f : Entered t u 0 0 k p = rw none at (i .1 .0) in
           let g : n ≡ note p noNotes = rw none at (i .1 .1) in
-          let l = count-within maxDepth maxSignals 0 s p k q in
-          let count : r % leftUnit ≡ k = omega (arith, i .0) in
-          let left : r / leftUnit ≡ maxSignals - nesting p = omega (arith, i .0) in
+          let w = sound maxDepth maxSignals 0 s p k q in
+          let count : k ≡ r = omega (arith, i .0) in
           record {
-            answer = ap₂ Accepted count left ∙ ap readingOf (sym q);
-            marked = λ p' j e. at (λ (p : Statement). Marked u 0 0 p × (n ≡ note p noNotes)) (sym q ∙ e) (f .marked, g);
-            long = λ p' j e. f .long ∙ long;
+            p = p;
+            reads = q ∙ ap (accepted p) count;
+            marked = f .marked;
+            notes = g;
+            sized = f .long ∙ long;
+            most = ap mostIn g ∙ noted p (w .within .ranged) .most;
+            few = w .within .nested;
           }
+
+  pub most-fits : r < rowUnit → mostIn n ≤ maxSignals
+  most-fits small = let a = acceptance small in omega (arith, a .most, a .few)
+
+  pub reads-accepted : r < rowUnit → Reads s u n (Accepted r (maxSignals - mostIn n))
+  reads-accepted small =
+      let a = acceptance small in
+      record {
+        answer = ap (λ (k : ℕ). Accepted r (maxSignals - k)) (a .most) ∙ ap readingOf (sym (a .reads));
+        marked = λ p' j e. at (λ (p : Statement). Marked u 0 0 p × (n ≡ note p noNotes)) (sym (a .reads) ∙ e) (a .marked, a .notes);
+        long = λ p' j e. a .sized;
+      }

@@ -1,2 +1,3 @@
-// Reading (01, rows 3 to 6): the walk that fills the table of second parts and the notes of labels.
+// Reading (01, rows 3 to 6): the walk that fills the table of second parts and the notes.
+mod leaves;
 pub mod reader;

@@ -1,5 +1,5 @@
 // The reader (01, 'Commands' and rows 3 to 6): one walk into every part of a command. It answers one number: the row that
-// turns it down, or the offset behind the statement and the signals left. Offsets are those of the whole sequence.
+// turns it down, or the offset behind the statement. Offsets are those of the whole sequence.
 ghost use mathlib.Core.Path.{_≡_};
 ghost use Prim.Native.Nat.{ℕ, _+_, _≤_, _<_};
 ghost use mathlib.Core.List.{List};
@@ -9,8 +9,10 @@ ghost use Rattle.sequence.specs.Commands.{Command, partCount, width};
 ghost use Rattle.sequence.specs.Reader.{read};
 ghost use Rattle.layout.specs.Layout.{entry};
 ghost use Rattle.layout.specs.Notes.{noNotes};
-ghost use Rattle.layout.specs.Walk.{Both, pairRead, Readable, Done};
+ghost use Rattle.layout.specs.Walk.{pairRead, Readable, Done};
 ghost use Rattle.reading.specs.Reading.{Reads};
+use crate::leaves::ahead;
+use crate::leaves::leaf;
 use layout::Seconds;
 use notes::Notes;
 
@@ -29,19 +31,24 @@ fn entry(m: usize, n: u64) -> u32
     (m as u32) + layout::BEFORE_UNIT * (n as u32)
 }
 
-// The answer for two parts of which the first answered m and the second r: the fewer signals that either leaves.
-fn both(m: usize, r: usize) -> usize
-    ensures { λ z. ⌜ Both m r z ⌝ }
+// The first of two parts, at the front of s: one without parts of its own takes no walk.
+fn first(
+    s: &[u8],
+    at: usize,
+    depth: u8,
+    signals: u8,
+    second: &mut Seconds,
+    notes: &mut Notes,
+) -> usize
+    requires { ⌜ Readable signals at (now s) (now second) (now notes) ⌝ }
+    ensures { λ r. ⌜ Done signals at (now (second .entry)) (now (second .exit)) (now (notes .entry)) (now (notes .exit))
+        (read depth signals at (now (s .entry))) r ⌝ }
 {
-    if layout::ROW_UNIT <= r {
-        return r;
+    let m = ahead(&s[0..], at, depth, notes);
+    if m != 0 {
+        return m;
     }
-    let left = m / layout::LEFT_UNIT;
-    if left < r / layout::LEFT_UNIT {
-        r % layout::LEFT_UNIT + left * layout::LEFT_UNIT
-    } else {
-        r
-    }
+    read(&s[0..], at, depth, signals, second, notes)
 }
 
 // The two parts of the command of w bytes at offset `at`; s is behind the command.
@@ -55,19 +62,18 @@ fn two(
     notes: &mut Notes,
 ) -> usize
     requires { ⌜ 0 < w ⌝ }
-    requires { ⌜ Readable (at + w) (now s) (now second) (now notes) ⌝ }
+    requires { ⌜ Readable signals (at + w) (now s) (now second) (now notes) ⌝ }
     ensures { λ r. ⌜ ((c : Command) (xs : List ℕ) → partCount c ≡ 2 → w ≡ width c
         → Done signals at (now (second .entry)) (now (second .exit)) (now (notes .entry)) (now (notes .exit))
         (pairRead (read depth signals) c at xs (now (s .entry))) r) ⌝ }
 {
-    let m = read(&s[0..], at + w, depth, signals, second, notes);
+    let m = first(&s[0..], at + w, depth, signals, second, notes);
     if layout::ROW_UNIT <= m {
         return m;
     }
-    let next = m % layout::LEFT_UNIT;
-    second[at] = entry(next, notes::count(notes));
-    let n = next - at - w;
-    both(m, read(&s[n..], next, depth, signals, second, notes))
+    second[at] = entry(m, notes::count(notes));
+    let n = m - at - w;
+    read(&s[n..], m, depth, signals, second, notes)
 }
 
 // The statement at the front of s, which stands at offset `at`, where `depth` levels and `signals` signal commands are
@@ -80,32 +86,39 @@ fn read(
     second: &mut Seconds,
     notes: &mut Notes,
 ) -> usize
-    requires { ⌜ Readable at (now s) (now second) (now notes) ⌝ }
+    requires { ⌜ Readable signals at (now s) (now second) (now notes) ⌝ }
     ensures { λ r. ⌜ Done signals at (now (second .entry)) (now (second .exit)) (now (notes .entry)) (now (notes .exit))
         (read depth signals at (now (s .entry))) r ⌝ }
 {
-    let w = heads::front(&s[0..]);
+    if s.len() == 0 {
+        return 4 * layout::ROW_UNIT;
+    }
+    let b = s[0];
+    if heads::is_leaf(b) {
+        return leaf(&s[0..], at, b, depth, notes);
+    }
+    let w = heads::width(&s[0..], b);
     if layout::ROW_UNIT <= w {
         return w;
     }
     if depth == 0 {
         return 6 * layout::ROW_UNIT;
     }
-    let b = s[0];
-    let parts = heads::parts(b);
-    if parts == 2 {
-        return two(&s[w..], at, w, depth - 1, signals, second, notes);
+    if b < 6 {
+        return two(&s[1..], at, 1, depth - 1, signals, second, notes);
     }
-    if parts == 1 {
-        let declares = commands::declared(b);
-        if signals < declares {
+    if b == 7 {
+        return two(&s[2..], at, 2, depth - 1, signals, second, notes);
+    }
+    if b == 8 {
+        if signals == 0 {
             return 6 * layout::ROW_UNIT;
         }
-        let left = signals - declares;
-        return read(&s[w..], at + w, depth - 1, left, second, notes);
+        let left = signals - 1;
+        notes::signal(left, notes);
+        return read(&s[2..], at + 2, depth - 1, left, second, notes);
     }
-    notes::label(&s[0..], notes);
-    at + w + (signals as usize) * layout::LEFT_UNIT
+    read(&s[w..], at + w, depth - 1, signals, second, notes)
 }
 
 // The statement at the front of a sequence, with the table of its second parts and the notes of its labels.
@@ -126,5 +139,5 @@ pub fn read_sequence(s: &[u8], second: &mut Seconds, notes: &mut Notes) -> Readi
     if layout::ROW_UNIT <= m {
         return Reading::Refused((m / layout::ROW_UNIT) as u8);
     }
-    Reading::Accepted(m % layout::LEFT_UNIT, (m / layout::LEFT_UNIT) as u8)
+    Reading::Accepted(m, limits::MAX_SIGNALS - notes::most(notes))
 }

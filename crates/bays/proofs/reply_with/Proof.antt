@@ -1,7 +1,6 @@
 use borrow.Author.Needs.{needs}
-use mathlib.Core.Path.{sym}
 use Rattle.bays.proofs.Ticking.{on-fields}
-use Rattle.bays.proofs.Charging.{names-on, delivers-on}
+use Rattle.bays.proofs.Charging.{delivers-on}
 use Rattle.bays.proofs.reply_with.Statement.{statement}
 use Rattle.bays.proofs.reply_with.Tie as tie
 
@@ -15,14 +14,13 @@ read-back-requires : tie.Need-read-back-requires
 read-back-requires c κs = search needs
 
 reply-with-requires : tie.Need-reply-with-requires
-reply-with-requires c κs =
-    let s = c .before .before .before .before .before in (names-on _ (sym (c .before .before .before .sequence .ensures)) (s .pre .0), s .pre .1)
+reply-with-requires c κs = search needs
 
 returns : tie.Need-returns
 returns c = (
-  on-fields (c .before .before .before .before .sequence .ensures) (c .before .before .before .state .ensures) (c .before .before .read-back .ensures) (c .reply-with .ensures .0),
-  delivers-on _ _ (c .reply-with .last .1 .1 .1 .1 .1 .0) (c .before .before .before .before .sequence .ensures) (c .before .before .before .state .ensures)
-      (c .before .before .read-back .ensures) (c .reply-with .ensures .1),
+  on-fields (c .before .before .before .before .before .sequence .ensures) (c .before .before .before .before .state .ensures) (c .before .before .before .read-back .ensures) (c .reply-with .ensures .0),
+  delivers-on _ _ (c .reply-with .last .1 .1 .1 .1 .1 .0) (c .before .before .before .before .before .sequence .ensures) (c .before .before .before .before .state .ensures) (c .before .before .before .read-back .ensures)
+      (c .reply-with .ensures .1),
 )
 
 pub reply-with-spec : {M : Type 1} → statement M

@@ -1,21 +1,15 @@
 use borrow.Author.Needs.{needs}
 use mathlib.Core.Path.{subst}
 use Rattle.instants.specs.Replies.{Replies}
-use Rattle.bays.proofs.Charging.{names-on, charged-short, charged-refusal, charged-settled}
+use Rattle.bays.proofs.Charging.{charged-short, charged-refusal, charged-settled}
 use Rattle.bays.proofs.step.Statement.{statement}
 use Rattle.bays.proofs.step.Tie as tie
 
 returns : tie.Need-returns
 returns c = charged-short _ _ _ (c .if1 .taken)
 
-sequence-requires : tie.Need-sequence-requires
-sequence-requires c κs = search needs
-
-named-requires : tie.Need-named-requires
-named-requires c κs = search needs
-
 reply-with-requires : tie.Need-reply-with-requires
-reply-with-requires c κs = (names-on _ (c .before .before .before .sequence .ensures) (c .before .before .named .ensures), search needs)
+reply-with-requires c κs = search needs
 
 enum-known-number : tie.Need-enum-known-number
 enum-known-number c = search needs
@@ -35,9 +29,8 @@ same-length c = search needs
 
 returns-2 : tie.Need-returns-2
 returns-2 c =
-    let s = c .before .before .before .before .before .before .before .before .before .before .before .before in
-    charged-refusal _ _ _ (s .pre) (c .before .before .before .before .before .before .before .before .before .if1 .left) _
-    (subst (Replies _ _ _ _) (c .before .number .given .1) (c .before .before .before .reply-with .ensures .0))
+    let s = c .before .before .before .before .before .before .before .before .before .before in
+    charged-refusal _ _ _ (s .pre) (c .before .before .before .before .before .before .before .if1 .left) _ (subst (Replies _ _ _ _) (c .before .number .given .1) (c .before .before .before .reply-with .ensures .0))
 
 same-length-2 : tie.Need-same-length-2
 same-length-2 c = search needs
@@ -49,8 +42,8 @@ returns-3 : tie.Need-returns-3
 returns-3 c =
     let told = c .before .before .before .before .before .before .before .before .before in
     let asked = told .before .before .reply-with in
-    let s = told .before .before .before .before .before .before .before .before .before .before .before in
-    charged-settled _ _ _ (s .pre) (told .before .before .before .before .before .before .before .before .if1 .left) _ (subst (Replies _ _ _ _) (told .reaction .given .1) (asked .ensures .0)) _
+    let s = told .before .before .before .before .before .before .before .before .before in
+    charged-settled _ _ _ (s .pre) (told .before .before .before .before .before .before .if1 .left) _ (subst (Replies _ _ _ _) (told .reaction .given .1) (asked .ensures .0)) _
     (asked .last .1 .1 .1 .0) (asked .ensures .1) (c .before .before .before .before .settle .ensures)
 
 pub step-spec : {M : Type 1} → statement M
@@ -58,8 +51,6 @@ step-spec =
     tie.close
     (tie.spec
     returns
-    sequence-requires
-    named-requires
     reply-with-requires
     enum-known-number
     enum-known-reaction

@@ -1,0 +1,525 @@
+use Prim.Native.Nat.{ℕ, _+_, _-_, _*_, _≤_, _<_}
+use mathlib.Core.Path.{_≡_, refl, sym, ap, _∙_, subst, subst₂}
+use mathlib.Core.List.{List}
+use lib.ListN.{length, getD, drop, length-set}
+use native.Mathlib.Omega.{arith}
+use borrow.Author.Needs.{needs}
+use borrow.Fn.Kinds.{In}
+use borrow.Fn.PlainCycle.{Measures, is, falls, and}
+use Rattle.sequence.specs.Commands.{Command, partCount, width, declares}
+use Rattle.sequence.specs.Reader.{front, read as reads}
+use Rattle.layout.specs.Layout.{rest, entry}
+use Rattle.layout.specs.Walk.{headOf, Readable, Done}
+use Rattle.sequence.proofs.Table.{byteOf, byte-is, command-at, undeclared}
+use Rattle.commands.proofs.Counts.{with-parts}
+use Rattle.layout.proofs.Parts.{rest-is}
+use Rattle.layout.proofs.Walk.{Heading, heading, narrow, byte, head-fits, onward, forward, within, again, fitting, done-empty, done-bad, done-deep, done-signals, done-one, done-signal, done-pair, Firsts, firsts, first-refused, both}
+use Rattle.reading.proofs.Parting.{two-bare, one-part}
+use Rattle.reading.proofs.reader.first.Reads as first
+use Rattle.reading.proofs.reader.first.Kinds as first-kinds
+use Rattle.reading.proofs.reader.+first+read+two.Lts-first as first-lts
+use Rattle.reading.proofs.reader.read.Reads as read
+use Rattle.reading.proofs.reader.read.Kinds as read-kinds
+use Rattle.reading.proofs.reader.+first+read+two.Lts-read as read-lts
+use Rattle.reading.proofs.reader.two.Reads as two
+use Rattle.reading.proofs.reader.two.Kinds as two-kinds
+use Rattle.reading.proofs.reader.+first+read+two.Lts-two as two-lts
+use Rattle.heads.proofs.is_leaf.Reads as is-leaf-reads
+use Rattle.heads.proofs.width.Reads as width-reads
+use Rattle.notes.proofs.count.Reads as count-reads
+use Rattle.notes.proofs.signal.Reads as signal-reads
+use Rattle.reading.proofs.leaves.ahead.Reads as ahead-reads
+use Rattle.reading.proofs.leaves.leaf.Reads as leaf-reads
+use Rattle.reading.proofs.reader.entry.Reads as entry-reads
+use Rattle.reading.proofs.reader.+first+read+two.{statement}
+use Rattle.reading.proofs.reader.+first+read+two.Tie.{close}
+
+-- reading falls with each level; two parts, and the first of them, are read at the level of their helper
+abbrev μ-first : Measures 3 first-kinds.ps ℕ
+μ-first κs a = 3 * (a .1 .1 .0) + 1
+
+abbrev μ-read : Measures 3 read-kinds.ps ℕ
+μ-read κs a = 3 * (a .1 .1 .0)
+
+abbrev μ-two : Measures 3 two-kinds.ps ℕ
+μ-two κs a = 3 * (a .1 .1 .1 .0) + 2
+
+abbrev first-at : ℕ → In 3 first-kinds.ps
+first-at t = and 3 first-kinds.ps (is 3 first-kinds.ps μ-first t) first.Pre
+
+abbrev first-below : ℕ → In 3 first-kinds.ps
+first-below t = and 3 first-kinds.ps (falls 3 first-kinds.ps _<_ μ-first t) first.Pre
+
+abbrev read-at : ℕ → In 3 read-kinds.ps
+read-at t = and 3 read-kinds.ps (is 3 read-kinds.ps μ-read t) read.Pre
+
+abbrev read-below : ℕ → In 3 read-kinds.ps
+read-below t = and 3 read-kinds.ps (falls 3 read-kinds.ps _<_ μ-read t) read.Pre
+
+abbrev two-at : ℕ → In 3 two-kinds.ps
+two-at t = and 3 two-kinds.ps (is 3 two-kinds.ps μ-two t) two.Pre
+
+abbrev two-below : ℕ → In 3 two-kinds.ps
+two-below t = and 3 two-kinds.ps (falls 3 two-kinds.ps _<_ μ-two t) two.Pre
+
+abbrev first-claims : ℕ → first-lts.Claims
+first-claims t = (ahead-reads.Asked, ahead-reads.Learnt, read-below t, read.Post)
+
+abbrev read-claims : ℕ → read-lts.Claims
+read-claims t = (
+  is-leaf-reads.Asked,
+  is-leaf-reads.Learnt,
+  leaf-reads.Asked,
+  leaf-reads.Learnt,
+  width-reads.Asked,
+  width-reads.Learnt,
+  two-below t,
+  two.Post,
+  signal-reads.Asked,
+  signal-reads.Learnt,
+  read-below t,
+  read.Post,
+)
+
+abbrev two-claims : ℕ → two-lts.Claims
+two-claims t = (
+  first-below t,
+  first.Post,
+  count-reads.Asked,
+  count-reads.Learnt,
+  entry-reads.Asked,
+  entry-reads.Learnt,
+  read-below t,
+  read.Post,
+)
+
+first-sub-ahead : (t : ℕ) → first-lts.Need-sub-ahead (first-claims t) (first-at t) first.Post
+first-sub-ahead t c = search needs
+
+first-part-ahead-start : (t : ℕ) → first-lts.Need-part-ahead-start (first-claims t) (first-at t) first.Post
+first-part-ahead-start t c = search needs
+
+first-part-ahead-end : (t : ℕ) → first-lts.Need-part-ahead-end (first-claims t) (first-at t) first.Post
+first-part-ahead-end t c = search needs
+
+first-ahead-requires : (t : ℕ) → first-lts.Need-ahead-requires (first-claims t) (first-at t) first.Post
+first-ahead-requires t c κs = fitting (again (c .before .before .before .pre .1))
+
+first-returns : (t : ℕ) → first-lts.Need-returns (first-claims t) (first-at t) first.Post
+first-returns t c =
+    let i = c .before .before .before .before .before in
+    subst (λ (l : List ℕ). Done (i .args .signals) (i .args .at) (i .args .second .now) (i .args .second .now) (i .args .notes .now) (c .before .ahead .last .1 .1 .1 .0)
+    (reads (i .args .depth) (i .args .signals) (i .args .at) l) (c .before .ahead .result))
+    (rest-is 0 (i .args .s .now)) (c .before .ahead .ensures .1 (c .if1 .taken) (i .args .signals) (i .args .second .now))
+
+first-sub-read : (t : ℕ) → first-lts.Need-sub-read (first-claims t) (first-at t) first.Post
+first-sub-read t c = search needs
+
+first-part-read-start : (t : ℕ) → first-lts.Need-part-read-start (first-claims t) (first-at t) first.Post
+first-part-read-start t c = search needs
+
+first-part-read-end : (t : ℕ) → first-lts.Need-part-read-end (first-claims t) (first-at t) first.Post
+first-part-read-end t c = search needs
+
+first-read-requires : (t : ℕ) → first-lts.Need-read-requires (first-claims t) (first-at t) first.Post
+first-read-requires t c κs =
+    let i = c .before .before .before .before .before .before .before .before in (
+      omega (arith, i .pre .0),
+      subst (λ (m : List ℕ). Readable (i .args .signals) (i .args .at) (rest 0 (i .args .s .now)) (i .args .second .now) m)
+          (sym (c .before .before .before .before .ahead .ensures .0 (c .before .before .before .if1 .left))) (again (i .pre .1)),
+    )
+
+first-returns-2 : (t : ℕ) → first-lts.Need-returns-2 (first-claims t) (first-at t) first.Post
+first-returns-2 t c =
+    let i = c .before .before .before .before .before .before .before .before .before in
+    subst₂ (λ (m l : List ℕ). Done (i .args .signals) (i .args .at) (i .args .second .now) (c .read .last .1 .1 .1 .1 .0) m (c .read .last .1 .1 .1 .1 .1 .0)
+    (reads (i .args .depth) (i .args .signals) (i .args .at) l) (c .read .result))
+    (c .before .before .before .before .before .ahead .ensures .0 (c .before .before .before .before .if1 .left)) (rest-is 0 (i .args .s .now)) (c .read .ensures)
+
+-- ---- what is known once the command is seen
+told : (t : ℕ) (c : read-lts.After-width (read-claims t) (read-at t) read.Post)
+    → c .width .result ≡ headOf (front (c .before .before .before .before .before .before .before .args .s .now))
+told t c = c .width .ensures ∙ ap (λ (l : List ℕ). headOf (front l)) (rest-is 0 (c .before .before .before .before .before .before .before .args .s .now))
+
+head : (t : ℕ) (c : read-lts.Else3 (read-claims t) (read-at t) read.Post)
+    → Heading (c .before .before .before .before .before .before .before .before .args .s .now) (c .before .width .result)
+head t c = heading _ _ (told t (c .before)) (c .if3 .left)
+
+abbrev bytes-of : (t : ℕ) → read-lts.Else4 (read-claims t) (read-at t) read.Post → List ℕ
+bytes-of t q = q .before .before .before .before .before .before .before .before .before .args .s .now
+
+head-of : (t : ℕ) (q : read-lts.Else4 (read-claims t) (read-at t) read.Post) → Heading (bytes-of t q) (q .before .before .width .result)
+head-of t q = head t (q .before)
+
+parted : (t : ℕ) (q : read-lts.Else4 (read-claims t) (read-at t) read.Post) → (partCount (head-of t q .of) ≡ 0 → ⊥)
+parted t q =
+    with-parts (head-of t q .of) (byte (head-of t q)) (sym (q .before .before .before .before .before .is-leaf .ensures) ∙ q .before .before .before .before .if2 .left)
+
+byte-at : (t : ℕ) (q : read-lts.Else4 (read-claims t) (read-at t) read.Post) → getD (bytes-of t q) 0 0 ≡ byteOf (head-of t q .of)
+byte-at t q = byte-is (getD (bytes-of t q) 0 0) (head-of t q .of) (byte (head-of t q))
+
+fits-in : (t : ℕ) (q : read-lts.Else4 (read-claims t) (read-at t) read.Post) → 1 ≤ length (bytes-of t q)
+fits-in t q = omega (arith, head-fits (head-of t q))
+
+present-is : (t : ℕ) (q : read-lts.Else4 (read-claims t) (read-at t) read.Post) → getD (bytes-of t q) 0 0 ≡ 7 → head-of t q .of ≡ Command.present
+present-is t q e = command-at (getD (bytes-of t q) 0 0) (head-of t q .of) Command.present (byte (head-of t q)) e
+
+signal-is : (t : ℕ) (q : read-lts.Else4 (read-claims t) (read-at t) read.Post) → getD (bytes-of t q) 0 0 ≡ 8 → head-of t q .of ≡ Command.signal
+signal-is t q e = command-at (getD (bytes-of t q) 0 0) (head-of t q .of) Command.signal (byte (head-of t q)) e
+
+present-fits : (t : ℕ) (q : read-lts.Else4 (read-claims t) (read-at t) read.Post) → getD (bytes-of t q) 0 0 ≡ 7 → 2 ≤ length (bytes-of t q)
+present-fits t q e = let w = ap width (present-is t q e) in omega (arith, w, head-of t q .wide, head-fits (head-of t q))
+
+signal-fits : (t : ℕ) (q : read-lts.Else4 (read-claims t) (read-at t) read.Post) → getD (bytes-of t q) 0 0 ≡ 8 → 2 ≤ length (bytes-of t q)
+signal-fits t q e = let w = ap width (signal-is t q e) in omega (arith, w, head-of t q .wide, head-fits (head-of t q))
+
+read-mul-result : (t : ℕ) → read-lts.Need-mul-result (read-claims t) (read-at t) read.Post
+read-mul-result t c = search needs
+
+read-returns : (t : ℕ) → read-lts.Need-returns (read-claims t) (read-at t) read.Post
+read-returns t c = done-empty _ _ _ _ _ _ _ _ (c .if1 .taken)
+
+read-shared-slice-read-b : (t : ℕ) → read-lts.Need-shared-slice-read-b (read-claims t) (read-at t) read.Post
+read-shared-slice-read-b t c = search needs
+
+read-is-leaf-requires : (t : ℕ) → read-lts.Need-is-leaf-requires (read-claims t) (read-at t) read.Post
+read-is-leaf-requires t c κs = search needs
+
+read-sub-leaf : (t : ℕ) → read-lts.Need-sub-leaf (read-claims t) (read-at t) read.Post
+read-sub-leaf t c = search needs
+
+read-part-leaf-start : (t : ℕ) → read-lts.Need-part-leaf-start (read-claims t) (read-at t) read.Post
+read-part-leaf-start t c = search needs
+
+read-part-leaf-end : (t : ℕ) → read-lts.Need-part-leaf-end (read-claims t) (read-at t) read.Post
+read-part-leaf-end t c = search needs
+
+read-leaf-requires : (t : ℕ) → read-lts.Need-leaf-requires (read-claims t) (read-at t) read.Post
+read-leaf-requires t c κs =
+    let i = c .before .before .before .before .before .before .before in
+    let s = i .args .s .now in
+    let n : 0 < length s = omega (arith, c .before .before .before .before .before .if1 .left) in
+    rw (rest-is 0 s) ((n, refl), (sym (c .before .before .before .is-leaf .ensures) ∙ c .before .before .if2 .taken, fitting (i .pre .1)))
+
+read-returns-2 : (t : ℕ) → read-lts.Need-returns-2 (read-claims t) (read-at t) read.Post
+read-returns-2 t c =
+    let i = c .before .before .before .before .before .before .before .before in
+    subst (λ (l : List ℕ). Done (i .args .signals) (i .args .at) (i .args .second .now) (i .args .second .now) (i .args .notes .now) (c .leaf .last .1 .1 .1 .1 .0)
+    (reads (i .args .depth) (i .args .signals) (i .args .at) l) (c .leaf .result))
+    (rest-is 0 (i .args .s .now)) (c .leaf .ensures (i .args .signals) (i .args .second .now))
+
+read-sub-width : (t : ℕ) → read-lts.Need-sub-width (read-claims t) (read-at t) read.Post
+read-sub-width t c = search needs
+
+read-part-width-start : (t : ℕ) → read-lts.Need-part-width-start (read-claims t) (read-at t) read.Post
+read-part-width-start t c = search needs
+
+read-part-width-end : (t : ℕ) → read-lts.Need-part-width-end (read-claims t) (read-at t) read.Post
+read-part-width-end t c = search needs
+
+read-width-requires : (t : ℕ) → read-lts.Need-width-requires (read-claims t) (read-at t) read.Post
+read-width-requires t c κs =
+    let s = c .before .before .before .before .before .before .args .s .now in
+    let n : 0 < length s = omega (arith, c .before .before .before .before .if1 .left) in
+    rw (rest-is 0 s) ((n, refl), sym (c .before .before .is-leaf .ensures) ∙ c .before .if2 .left)
+
+read-returns-3 : (t : ℕ) → read-lts.Need-returns-3 (read-claims t) (read-at t) read.Post
+read-returns-3 t c = done-bad _ _ _ _ _ _ _ _ _ (c .before .before .before .before .before .before .before .before .pre .1 .fits) (told t (c .before)) (c .if3 .taken)
+
+read-mul-result-2 : (t : ℕ) → read-lts.Need-mul-result-2 (read-claims t) (read-at t) read.Post
+read-mul-result-2 t c = search needs
+
+read-returns-4 : (t : ℕ) → read-lts.Need-returns-4 (read-claims t) (read-at t) read.Post
+read-returns-4 t c = done-deep (head t (c .before)) _ _ _ _ _ _ _ (c .if4 .taken)
+
+read-sub-two : (t : ℕ) → read-lts.Need-sub-two (read-claims t) (read-at t) read.Post
+read-sub-two t c = omega (arith, fits-in t (c .before))
+
+read-part-two-start : (t : ℕ) → read-lts.Need-part-two-start (read-claims t) (read-at t) read.Post
+read-part-two-start t c = omega (arith, fits-in t (c .before))
+
+read-part-two-end : (t : ℕ) → read-lts.Need-part-two-end (read-claims t) (read-at t) read.Post
+read-part-two-end t c = search needs
+
+read-sub-two-2 : (t : ℕ) → read-lts.Need-sub-two-2 (read-claims t) (read-at t) read.Post
+read-sub-two-2 t c = search needs
+
+read-two-requires : (t : ℕ) → read-lts.Need-two-requires (read-claims t) (read-at t) read.Post
+read-two-requires t c κs =
+    let q = c .before .before .before .before in
+    let i = q .before .before .before .before .before .before .before .before .before in
+    (omega (arith, i .pre .0, q .if4 .left), (omega arith, forward 1 (fits-in t q) (i .pre .1)))
+
+read-returns-5 : (t : ℕ) → read-lts.Need-returns-5 (read-claims t) (read-at t) read.Post
+read-returns-5 t c =
+    let q = c .before .before .before .before .before in
+    let i = q .before .before .before .before .before .before .before .before .before in
+    let k = two-bare (head-of t q .of) (parted t q) (omega (arith, byte-at t q, c .before .before .before .before .if5 .taken)) in
+    done-pair (narrow (head-of t q) (k .1)) _ _ _ (q .if4 .left) (k .0) _ (rest-is 1 (i .args .s .now)) _ _ _ _ _ (c .two .ensures)
+
+read-sub-two-3 : (t : ℕ) → read-lts.Need-sub-two-3 (read-claims t) (read-at t) read.Post
+read-sub-two-3 t c = omega (arith, present-fits t (c .before .before) (c .if6 .taken))
+
+read-part-two-start-2 : (t : ℕ) → read-lts.Need-part-two-start-2 (read-claims t) (read-at t) read.Post
+read-part-two-start-2 t c = omega (arith, present-fits t (c .before .before) (c .if6 .taken))
+
+read-part-two-end-2 : (t : ℕ) → read-lts.Need-part-two-end-2 (read-claims t) (read-at t) read.Post
+read-part-two-end-2 t c = search needs
+
+read-sub-two-4 : (t : ℕ) → read-lts.Need-sub-two-4 (read-claims t) (read-at t) read.Post
+read-sub-two-4 t c = search needs
+
+read-two-requires-2 : (t : ℕ) → read-lts.Need-two-requires-2 (read-claims t) (read-at t) read.Post
+read-two-requires-2 t c κs =
+    let q = c .before .before .before .before .before in
+    let i = q .before .before .before .before .before .before .before .before .before in
+    (omega (arith, i .pre .0, q .if4 .left), (omega arith, forward 2 (present-fits t q (c .before .before .before .if6 .taken)) (i .pre .1)))
+
+read-returns-6 : (t : ℕ) → read-lts.Need-returns-6 (read-claims t) (read-at t) read.Post
+read-returns-6 t c =
+    let q = c .before .before .before .before .before .before in
+    let i = q .before .before .before .before .before .before .before .before .before in
+    let e = present-is t q (c .before .before .before .before .if6 .taken) in
+    done-pair (narrow (head-of t q) (ap width (sym e))) _ _ _ (q .if4 .left) (ap partCount e) _ (rest-is 2 (i .args .s .now)) _ _ _ _ _ (c .two2 .ensures)
+
+read-mul-result-3 : (t : ℕ) → read-lts.Need-mul-result-3 (read-claims t) (read-at t) read.Post
+read-mul-result-3 t c = search needs
+
+read-returns-7 : (t : ℕ) → read-lts.Need-returns-7 (read-claims t) (read-at t) read.Post
+read-returns-7 t c =
+    let q = c .before .before .before .before in
+    let e = signal-is t q (c .before .if7 .taken) in
+    done-signals (head-of t q) _ _ _ (q .if4 .left) _ _ _ _ 1 (sym (ap declares e)) (omega (arith, c .if8 .taken))
+
+read-sub-left : (t : ℕ) → read-lts.Need-sub-left (read-claims t) (read-at t) read.Post
+read-sub-left t c = search needs
+
+read-signal-requires : (t : ℕ) → read-lts.Need-signal-requires (read-claims t) (read-at t) read.Post
+read-signal-requires t c κs = omega (arith, c .before .before .before .before .before .before .before .before .before .before .before .before .before .before .pre .1 .allowed, c .before .if8 .left)
+
+read-sub-read : (t : ℕ) → read-lts.Need-sub-read (read-claims t) (read-at t) read.Post
+read-sub-read t c = omega (arith, signal-fits t (c .before .before .before .before .before .before) (c .before .before .before .if7 .taken))
+
+read-part-read-start : (t : ℕ) → read-lts.Need-part-read-start (read-claims t) (read-at t) read.Post
+read-part-read-start t c = omega (arith, signal-fits t (c .before .before .before .before .before .before) (c .before .before .before .if7 .taken))
+
+read-part-read-end : (t : ℕ) → read-lts.Need-part-read-end (read-claims t) (read-at t) read.Post
+read-part-read-end t c = search needs
+
+read-add-read : (t : ℕ) → read-lts.Need-add-read (read-claims t) (read-at t) read.Post
+read-add-read t c = search needs
+
+read-sub-read-2 : (t : ℕ) → read-lts.Need-sub-read-2 (read-claims t) (read-at t) read.Post
+read-sub-read-2 t c = search needs
+
+read-read-requires : (t : ℕ) → read-lts.Need-read-requires (read-claims t) (read-at t) read.Post
+read-read-requires t c κs =
+    let q = c .before .before .before .before .before .before .before .before .before in
+    let i = q .before .before .before .before .before .before .before .before .before in
+    (omega (arith, i .pre .0, q .if4 .left), within 2 (i .args .signals - 1) _ (signal-fits t q (c .before .before .before .before .before .before .if7 .taken)) (omega arith) (c .before .before .before .signal .ensures) (i .pre .1))
+
+read-returns-8 : (t : ℕ) → read-lts.Need-returns-8 (read-claims t) (read-at t) read.Post
+read-returns-8 t c =
+    let q = c .before .before .before .before .before .before .before .before .before .before in
+    let i = q .before .before .before .before .before .before .before .before .before in
+    let e = signal-is t q (c .before .before .before .before .before .before .before .if7 .taken) in
+    done-signal (narrow (head-of t q) (ap width (sym e))) _ _ _ (q .if4 .left) (ap partCount e) (ap declares e) (omega (arith, c .before .before .before .before .before .before .if8 .left)) (i .pre .1 .allowed) _
+    (rest-is 2 (i .args .s .now)) _ _ _ _ _ _ (c .before .before .before .before .signal .ensures) (c .read .ensures)
+
+read-sub-read-3 : (t : ℕ) → read-lts.Need-sub-read-3 (read-claims t) (read-at t) read.Post
+read-sub-read-3 t c = omega (arith, head-fits (head-of t (c .before .before .before)))
+
+read-part-read-start-2 : (t : ℕ) → read-lts.Need-part-read-start-2 (read-claims t) (read-at t) read.Post
+read-part-read-start-2 t c = omega (arith, head-fits (head-of t (c .before .before .before)))
+
+read-part-read-end-2 : (t : ℕ) → read-lts.Need-part-read-end-2 (read-claims t) (read-at t) read.Post
+read-part-read-end-2 t c = search needs
+
+read-add-read-2 : (t : ℕ) → read-lts.Need-add-read-2 (read-claims t) (read-at t) read.Post
+read-add-read-2 t c = search needs
+
+read-sub-read-4 : (t : ℕ) → read-lts.Need-sub-read-4 (read-claims t) (read-at t) read.Post
+read-sub-read-4 t c = search needs
+
+read-read-requires-2 : (t : ℕ) → read-lts.Need-read-requires-2 (read-claims t) (read-at t) read.Post
+read-read-requires-2 t c κs =
+    let q = c .before .before .before .before .before .before in
+    let i = q .before .before .before .before .before .before .before .before .before in
+    (omega (arith, i .pre .0, q .if4 .left), forward _ (head-fits (head-of t q) .1) (i .pre .1))
+
+read-returns-9 : (t : ℕ) → read-lts.Need-returns-9 (read-claims t) (read-at t) read.Post
+read-returns-9 t c =
+    let q = c .before .before .before .before .before .before .before in
+    let i = q .before .before .before .before .before .before .before .before .before in
+    let h = head-of t q in
+    let b = byte-at t q in
+    done-one h _ _ _ (q .if4 .left) (one-part (h .of) (parted t q) (omega (arith, b, c .before .before .before .before .before .before .if5 .left)) (λ z. c .before .before .before .before .before .if6 .left (b ∙ z))) (undeclared (h .of) (λ z. c .before .before .before .before .if7 .left (b ∙ z))) _
+    (rest-is _ (i .args .s .now)) _ _ _ _ _ (c .read2 .ensures)
+
+-- ---- the first part, of the bytes behind the command
+first-told : (t : ℕ) (c : two-lts.After-first (two-claims t) (two-at t) two.Post)
+    → let a = c .before .before .before .before .before .args in
+    Done (a .signals) (a .at + a .w) (a .second .now) (c .first .last .1 .1 .1 .1 .0) (a .notes .now) (c .first .last .1 .1 .1 .1 .1 .0)
+    (reads (a .depth) (a .signals) (a .at + a .w) (a .s .now)) (c .first .result)
+first-told t c =
+    let a = c .before .before .before .before .before .args in
+    subst (λ (l : List ℕ). Done (a .signals) (a .at + a .w) (a .second .now) (c .first .last .1 .1 .1 .1 .0) (a .notes .now) (c .first .last .1 .1 .1 .1 .1 .0)
+    (reads (a .depth) (a .signals) (a .at + a .w) l) (c .first .result))
+    (rest-is 0 (a .s .now)) (c .first .ensures)
+
+first-is : (t : ℕ) (c : two-lts.Else1 (two-claims t) (two-at t) two.Post)
+    → let a = c .before .before .before .before .before .before .args in
+    Firsts (a .depth) (a .signals) (a .at + a .w) (a .s .now) (a .second .now) (c .before .first .last .1 .1 .1 .1 .0) (a .notes .now)
+    (c .before .first .last .1 .1 .1 .1 .1 .0) (c .before .first .result)
+first-is t c =
+    firsts _ _ _ _ _ _ _ _ _ (c .before .before .before .before .before .before .pre .1 .1) (first-told t (c .before)) (c .if1 .left)
+
+two-sub-first : (t : ℕ) → two-lts.Need-sub-first (two-claims t) (two-at t) two.Post
+two-sub-first t c = search needs
+
+two-part-first-start : (t : ℕ) → two-lts.Need-part-first-start (two-claims t) (two-at t) two.Post
+two-part-first-start t c = search needs
+
+two-part-first-end : (t : ℕ) → two-lts.Need-part-first-end (two-claims t) (two-at t) two.Post
+two-part-first-end t c = search needs
+
+two-add-first : (t : ℕ) → two-lts.Need-add-first (two-claims t) (two-at t) two.Post
+two-add-first t c = search needs
+
+two-first-requires : (t : ℕ) → two-lts.Need-first-requires (two-claims t) (two-at t) two.Post
+two-first-requires t c κs =
+    let i = c .before .before .before .before in
+    (omega (arith, i .pre .0), again (i .pre .1 .1))
+
+two-returns : (t : ℕ) → two-lts.Need-returns (two-claims t) (two-at t) two.Post
+two-returns t c k x p e =
+    let i = c .before .before .before .before .before .before in
+    first-refused _ _ _ _ _ _ _ _ _ (i .pre .1 .1) (first-told t (c .before)) (i .args .at) x k (ap (λ (w : ℕ). i .args .at + w) e) (c .if1 .taken)
+
+two-count-requires : (t : ℕ) → two-lts.Need-count-requires (two-claims t) (two-at t) two.Post
+two-count-requires t c κs = search needs
+
+two-entry-requires : (t : ℕ) → two-lts.Need-entry-requires (two-claims t) (two-at t) two.Post
+two-entry-requires t c κs =
+    let i = c .before .before .before .before .before .before .before .before in
+    let f = first-is t (c .before .before) in
+    (omega (arith, f .place, f .within, i .pre .1 .1 .fits), omega (arith, f .place, f .within, f .few, i .pre .1 .1 .fits, c .count .ensures))
+
+two-mul-second : (t : ℕ) → two-lts.Need-mul-second (two-claims t) (two-at t) two.Post
+two-mul-second t c = search needs
+
+two-element-write-second : (t : ℕ) → two-lts.Need-element-write-second (two-claims t) (two-at t) two.Post
+two-element-write-second t c = search needs
+
+two-sub-n : (t : ℕ) → two-lts.Need-sub-n (two-claims t) (two-at t) two.Post
+two-sub-n t c = let f = first-is t (c .before .before .before) in omega (arith, f .place, f .within)
+
+two-sub-n-2 : (t : ℕ) → two-lts.Need-sub-n-2 (two-claims t) (two-at t) two.Post
+two-sub-n-2 t c = let f = first-is t (c .before .before .before) in omega (arith, f .place, f .within)
+
+two-sub-read : (t : ℕ) → two-lts.Need-sub-read (two-claims t) (two-at t) two.Post
+two-sub-read t c = let f = first-is t (c .before .before .before) in omega (arith, f .place, f .within)
+
+two-part-read-start : (t : ℕ) → two-lts.Need-part-read-start (two-claims t) (two-at t) two.Post
+two-part-read-start t c = let f = first-is t (c .before .before .before) in omega (arith, f .place, f .within)
+
+two-part-read-end : (t : ℕ) → two-lts.Need-part-read-end (two-claims t) (two-at t) two.Post
+two-part-read-end t c = search needs
+
+two-read-requires : (t : ℕ) → two-lts.Need-read-requires (two-claims t) (two-at t) two.Post
+two-read-requires t c κs =
+    let i = c .before .before .before .before .before .before .before .before .before .before .before .before in
+    let f = first-is t (c .before .before .before .before .before .before) in
+    let x = c .before .before .before .before .before .before .before .first .result in
+    let u = c .before .before .before .before .before .before .before .first .last .1 .1 .1 .1 .0 in
+    (omega (arith, i .pre .0), onward _ (i .args .at + i .args .w) x (x - i .args .at - i .args .w) (i .args .s .now) _ _ (omega (arith, f .place)) (omega (arith, f .place, f .within)) (i .pre .1 .1 .fits) (f .few) (length-set u (i .args .at) _ ∙ f .entered .long ∙ i .pre .1 .1 .long) (f .noted) (i .pre .1 .1 .allowed))
+
+two-returns-2 : (t : ℕ) → two-lts.Need-returns-2 (two-claims t) (two-at t) two.Post
+two-returns-2 t c k x p e =
+    let i = c .before .before .before .before .before .before .before .before .before .before .before .before .before in
+    let f = first-is t (c .before .before .before .before .before .before .before) in
+    let m = c .before .before .before .before .before .before .before .before .first .result in
+    let n = m - i .args .at - i .args .w in
+    let skipped : n ≡ m - (i .args .at + i .args .w) = omega arith in
+    both _ _ _ _ _ _ _ _ _ (i .pre .1 .1) (first-told t (c .before .before .before .before .before .before .before .before)) (i .args .at) x k (ap (λ (w : ℕ). i .args .at + w) e) p f
+    (omega (arith, i .pre .1 .0, i .pre .1 .1 .fits, i .pre .1 .1 .long, f .entered .long)) _
+    (c .before .before .before .before .entry .ensures ∙ ap (entry m) (c .before .before .before .before .before .count .ensures))
+    _ (rest-is n (i .args .s .now) ∙ ap (λ (j : ℕ). drop j (i .args .s .now)) skipped) _ _ _ (c .read .ensures)
+
+pub +first+read+two-spec : {M : Type 1} → statement M
++first+read+two-spec = close μ-first μ-read μ-two (λ t. first-lts.spec (first-claims t) (first-at t) first.Post
+    (first-sub-ahead t)
+    (first-part-ahead-start t)
+    (first-part-ahead-end t)
+    (first-ahead-requires t)
+    (first-returns t)
+    (first-sub-read t)
+    (first-part-read-start t)
+    (first-part-read-end t)
+    (first-read-requires t)
+    (first-returns-2 t))
+    (λ t. read-lts.spec (read-claims t) (read-at t) read.Post
+    (read-mul-result t)
+    (read-returns t)
+    (read-shared-slice-read-b t)
+    (read-is-leaf-requires t)
+    (read-sub-leaf t)
+    (read-part-leaf-start t)
+    (read-part-leaf-end t)
+    (read-leaf-requires t)
+    (read-returns-2 t)
+    (read-sub-width t)
+    (read-part-width-start t)
+    (read-part-width-end t)
+    (read-width-requires t)
+    (read-returns-3 t)
+    (read-mul-result-2 t)
+    (read-returns-4 t)
+    (read-sub-two t)
+    (read-part-two-start t)
+    (read-part-two-end t)
+    (read-sub-two-2 t)
+    (read-two-requires t)
+    (read-returns-5 t)
+    (read-sub-two-3 t)
+    (read-part-two-start-2 t)
+    (read-part-two-end-2 t)
+    (read-sub-two-4 t)
+    (read-two-requires-2 t)
+    (read-returns-6 t)
+    (read-mul-result-3 t)
+    (read-returns-7 t)
+    (read-sub-left t)
+    (read-signal-requires t)
+    (read-sub-read t)
+    (read-part-read-start t)
+    (read-part-read-end t)
+    (read-add-read t)
+    (read-sub-read-2 t)
+    (read-read-requires t)
+    (read-returns-8 t)
+    (read-sub-read-3 t)
+    (read-part-read-start-2 t)
+    (read-part-read-end-2 t)
+    (read-add-read-2 t)
+    (read-sub-read-4 t)
+    (read-read-requires-2 t)
+    (read-returns-9 t))
+    λ t. two-lts.spec (two-claims t) (two-at t) two.Post
+    (two-sub-first t)
+    (two-part-first-start t)
+    (two-part-first-end t)
+    (two-add-first t)
+    (two-first-requires t)
+    (two-returns t)
+    (two-count-requires t)
+    (two-entry-requires t)
+    (two-mul-second t)
+    (two-element-write-second t)
+    (two-sub-n t)
+    (two-sub-n-2 t)
+    (two-sub-read t)
+    (two-part-read-start t)
+    (two-part-read-end t)
+    (two-read-requires t)
+    (two-returns-2 t)
