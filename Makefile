@@ -216,7 +216,7 @@ target/lib/SHA256SUMS: target/staticlib/libintake.a include/intake.h include/int
 		include/intake.pc.in > target/lib/intake.pc
 	cd target/lib && sha256sum libintake.a intake.h intake.pc > SHA256SUMS
 
-PLAIN_CALLS = check tick deliver unroll replay $(addprefix box_, admit release tick save restore forget service panel preview \
+PLAIN_CALLS = check ceiling tick deliver unroll replay $(addprefix box_, admit release tick save restore forget service panel preview \
 	ledger new_year)
 PLAIN_NAMES = $(foreach call, $(PLAIN_CALLS), -Dplain_$(call)=intake_$(call))
 

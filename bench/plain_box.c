@@ -97,6 +97,11 @@ static uint32_t ceiling(const uint8_t *sequence, uint32_t read_back)
     return (size.commands + declared) * (1 + size.loops) << (size.signals + declared);
 }
 
+uint32_t plain_ceiling(const uint8_t *sequence, size_t length, uint32_t read_back)
+{
+    return plain_check(sequence, length, read_back) == 0 ? ceiling(sequence, read_back) : 0;
+}
+
 /* The stretch of a bay that is filled, or empty, as is wanted; else null, and the number. */
 static uint8_t *find(uint8_t *box, size_t box_length, uint32_t bay, bool filled, uint8_t *number)
 {

@@ -1,10 +1,11 @@
-/* The calls on a box in plain C, for comparison with intake.h: the same arguments, numbers and bytes. */
+/* The ceiling and the calls on a box in plain C, for comparison with intake.h: the same arguments, numbers and bytes. */
 #ifndef PLAIN_BOX_H
 #define PLAIN_BOX_H
 
 #include <stddef.h>
 #include <stdint.h>
 
+uint32_t plain_ceiling(const uint8_t *sequence, size_t length, uint32_t read_back);
 uint8_t plain_box_admit(uint8_t *box, size_t box_length, uint32_t bay, const uint8_t *sequence, size_t sequence_length,
                         uint32_t read_back, uint32_t service_only);
 uint8_t plain_box_release(uint8_t *box, size_t box_length, uint32_t bay);

@@ -73,6 +73,8 @@ static void worked_example(void)
     memset_calls = 0;
     expect(intake_check(sequence, sizeof sequence, 0) == INTAKE_ACCEPTED, "the check accepts it");
     expect(intake_check(sequence, sizeof sequence - 1, 0) == INTAKE_CUT_SHORT, "the check turns it down cut short");
+    expect(intake_ceiling(sequence, sizeof sequence, 0) == 12, "the ceiling");
+    expect(intake_ceiling(sequence, sizeof sequence - 1, 0) == 0, "no ceiling");
     for (unsigned instant = 1; instant <= 2; instant++) {
         uint8_t number = intake_tick(sequence, sizeof sequence, state, sizeof state, 0, 0, answer, sizeof answer);
         expect(number == INTAKE_ACCEPTED, "the tick is accepted");

@@ -130,11 +130,21 @@ def readme(folder, archive):
             add(said == expected, said != expected, f"README's host as {name}", said)
 
 
+def calls():
+    """README's table of calls."""
+    header, text = ((ROOT / path).read_text(encoding="utf-8") for path in ("include/intake.h", "README.md"))
+    declared = re.findall(r"^uint\d+_t (intake_\w+)\(", header, re.M)
+    told = re.search(r"^\| Call \|.*\n\|[-|]+\n((?:\|.*\n)+)", text, re.M)
+    listed = re.findall(r"`(intake_\w+)`", "\n".join(row.split("|")[1] for row in told[1].splitlines())) if told else []
+    add(listed == declared, listed != declared, f"README's table of calls: {listed}")
+
+
 def main(archive):
     with tempfile.TemporaryDirectory() as folder:
         for compiler, language, name in STANDARDS:
             standard(folder, compiler, language, name)
         readme(folder, archive)
+    calls()
     print(f"{passed} passed, {failed} failed")
     return failed != 0
 

@@ -5,8 +5,8 @@
  * around it in the sequence, or outside by the read-back set, which takes no level of the depth. Each is admitted to a box
  * too, previewed and ticked twice there, its record read, saved sixteen times and once more, restored, forgotten and
  * released; one that delivers is ticked also where its farm's total has no room; its records are replayed, and its loops
- * written out. The most of the check, of the tick, of a replay, of the calls on a box and of the writing out is held to what
- * include/intake.h promises, and a thread of the size that it names runs the deepest calls.
+ * written out. The most of the check, of the ceiling, of the tick, of a replay, of the calls on a box and of the writing out
+ * is held to what include/intake.h promises, and a thread of the size that it names runs the deepest calls.
  */
 #include "intake.h"
 
@@ -31,11 +31,13 @@ static uint32_t input, read_back, name, unknown = 0x3F; /* six unknown inputs of
 static uint8_t number;
 static ucontext_t here, there;
 static unsigned passed, failed;
-static size_t empty, most_check, most_tick, most_replay, most_box, most_unroll;
+static size_t empty, most_check, most_ceiling, most_tick, most_replay, most_box, most_unroll;
 static unsigned full_ledgers; /* ticks that found no room */
 
 static void nothing(void) { number = INTAKE_ACCEPTED; }
 static void check(void) { number = intake_check(sequence, length, read_back); }
+/* 0 for a ceiling, 1 for none. */
+static void ceiling(void) { number = intake_ceiling(sequence, length, read_back) == 0; }
 static void tick(void)
 {
     number = intake_tick(sequence, length, state, sizeof state, input, read_back, answer, sizeof answer);
@@ -165,8 +167,8 @@ static void build_one(const struct nest *nest, unsigned signals, int suspended, 
 static size_t used(void (*call)(void), uint8_t expected, const char *what)
 {
     size_t bytes = taken(call) - empty, *most = &most_box;
-    if (call == check || call == tick)
-        most = call == check ? &most_check : &most_tick;
+    if (call == check || call == ceiling || call == tick)
+        most = call == check ? &most_check : call == ceiling ? &most_ceiling : &most_tick;
     else if (call == replay || call == unroll)
         most = call == replay ? &most_replay : &most_unroll;
     *most = bytes > *most ? bytes : *most;
@@ -298,8 +300,10 @@ static size_t refused(const struct nest *nest, unsigned signals)
     stand(INTAKE_PHASE_WAITING, 1);
     build_one(nest, signals, 0, &pause_0, DEPTH + 1);
     bytes = larger(used(check, INTAKE_TOO_DEEP, nest->name), used(tick, INTAKE_TOO_DEEP, nest->name));
+    bytes = larger(bytes, used(ceiling, 1, nest->name));
     build_one(nest, signals, 0, &ill_formed, DEPTH);
     bytes = larger(bytes, used(check, INTAKE_NOT_WELL_FORMED, nest->name));
+    bytes = larger(bytes, used(ceiling, 1, nest->name));
     bytes = larger(bytes, used(tick, INTAKE_NOT_WELL_FORMED, nest->name));
     build_one(nest, signals, 0, &exclusive, DEPTH);
     stand(INTAKE_PHASE_WAITING, 3);
@@ -314,14 +318,14 @@ static void row(const struct nest *nest, unsigned signals, const char *around)
     size_t boxed = in_box(INTAKE_NOT_WELL_FORMED, nest->name);
     build_one(nest, signals, 0, &set, DEPTH);
     boxed = larger(boxed, in_box(admission(), nest->name));
-    size_t triggers = used(check, INTAKE_ACCEPTED, nest->name);
+    size_t triggers = larger(used(check, INTAKE_ACCEPTED, nest->name), used(ceiling, 0, nest->name));
     build_one(nest, signals, 0, &pause_0, DEPTH);
     boxed = larger(boxed, in_box(admission(), nest->name));
     build_one(nest, signals, 0, &delivery, DEPTH);
     boxed = larger(boxed, in_box(admission(), nest->name));
     build_one(nest, signals, 0, &pause_0, DEPTH);
     input = 0;
-    size_t checked = used(check, INTAKE_ACCEPTED, nest->name);
+    size_t checked = larger(used(check, INTAKE_ACCEPTED, nest->name), used(ceiling, 0, nest->name));
     stand(INTAKE_PHASE_FRESH, 0);
     size_t fresh = used(tick, INTAKE_ACCEPTED, nest->name);
     stand(INTAKE_PHASE_WAITING, 1);
@@ -354,6 +358,7 @@ static void mixed(void)
     build(levels, leaf, DEPTH);
     used(unroll, written_out(leaf, levels), "a mixed sequence");
     used(check, INTAKE_ACCEPTED, "a mixed sequence");
+    used(ceiling, 0, "a mixed sequence");
     stand(INTAKE_PHASE_FRESH, 0);
     used(tick, INTAKE_ACCEPTED, "a mixed sequence");
     stand(INTAKE_PHASE_WAITING, 1);
@@ -427,6 +432,7 @@ int main(void)
     for (unsigned i = 0; i < MIXES; i++)
         mixed();
     hold("intake_check", most_check, INTAKE_STACK_CHECK);
+    hold("intake_ceiling", most_ceiling, INTAKE_STACK_CHECK);
     hold("intake_tick", most_tick, INTAKE_STACK_TICK);
     hold("intake_replay", most_replay, INTAKE_STACK_REPLAY);
     hold("a call on a box", most_box, INTAKE_STACK_BOX);

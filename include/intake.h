@@ -18,14 +18,14 @@
 
 /* The version of this interface. The first number moves when a host must change. */
 #define INTAKE_VERSION_MAJOR 2
-#define INTAKE_VERSION_MINOR 4
+#define INTAKE_VERSION_MINOR 5
 #define INTAKE_VERSION_PATCH 0
 #define INTAKE_VERSION (INTAKE_VERSION_MAJOR * 10000 + INTAKE_VERSION_MINOR * 100 + INTAKE_VERSION_PATCH)
 
 /*
- * Bytes of stack that a call takes at most, the third one each call on a box, measured at depth 64 by painting and rounded
- * up; and what to give a thread of Linux that only ticks, with room for the system's own data there. A host adds what its
- * own functions take.
+ * Bytes of stack that a call takes at most, the fourth one each call on a box, measured at depth 64 by painting and rounded
+ * up, the first one intake_ceiling too; and what to give a thread of Linux that only ticks, with room for the system's own data
+ * there. A host adds what its own functions take.
  */
 #define INTAKE_STACK_CHECK 24576
 #define INTAKE_STACK_TICK 24576
@@ -249,6 +249,14 @@ enum intake_kind {
 uint8_t intake_check(const uint8_t *sequence, size_t length, uint32_t read_back);
 
 /*
+ * The ceiling of a sequence with its read-back set: what no instant of it exceeds in reactions, whatever its state and inputs,
+ * commands * (1 + loops) * 2^signals as above at the number of reactions. It is the part that the sequence takes of what the
+ * bays of a box share. 0 for a sequence that intake_check turns down; never 0 for one that it accepts. What is said of the
+ * caller and of the call at intake_check holds here too.
+ */
+uint32_t intake_ceiling(const uint8_t *sequence, size_t length, uint32_t read_back);
+
+/*
  * Runs one instant of the machine whose sequence and state record these are, and answers INTAKE_ACCEPTED, or the number
  * of the row that turns the call down. An accepted call writes the whole answer record and the whole state record, which
  * is then ready for the next call. A call turned down writes neither: that the bytes of both are unchanged afterwards is
@@ -330,8 +338,8 @@ uint8_t intake_replay(const uint8_t *sequence, size_t sequence_length, uint32_t 
  * nobody else; docs/FORMAT.md has the layout.
  *
  * The bays share a ceiling: what the instants of all bays present can take, one of each, sums to INTAKE_SHARED_CEILING
- * reactions at most. The part of a bay is fixed on admission: commands * (1 + loops) * 2^signals of its sequence, as above
- * at the number of reactions. A release gives it back. The ceiling speaks of instants: a preview, which is none, reacts up
+ * reactions at most. The part of a bay is fixed on admission: what intake_ceiling gives for its sequence and read-back set.
+ * A release gives it back. The ceiling speaks of instants: a preview, which is none, reacts up
  * to 64 times and may take up to 64 times the bay's part.
  *
  * Nothing that is done with one bay changes what another one answers or holds; only the number of an admission depends on

@@ -1,8 +1,9 @@
-// What hosts in C call: the check, the tick, the calls of a box of bays (02, items 8 to 12), the writing out of loops (02, item 13), and the
-// replay of a recording (02, item 14).
+// What hosts in C call: the check, the ceiling (02, item 6), the tick, the calls of a box of bays (02, items 8 to 12), the writing out of
+// loops (02, item 13), and the replay of a recording (02, item 14).
 ghost use mathlib.Core.Path.{_≡_};
 ghost use mathlib.Core.List.{[], _∷_};
-ghost use Rattle.sequence.specs.Check.{checkOf};
+ghost use Rattle.sequence.specs.Check.{checked, checkOf};
+ghost use Rattle.sequence.specs.Ceilings.{ceilingOf};
 ghost use Rattle.demands.specs.Demands.{TickMeets};
 ghost use Rattle.replays.specs.Replay.{replayed, replayOf};
 ghost use Rattle.box_calls.specs.Called.{called};
@@ -23,6 +24,14 @@ pub extern "C" fn intake_check(sequence: &[u8], read_back: u32) -> u8
     let mut second: Seconds = [0; limits::MAX_BYTES];
     let mut notes: Notes = [0; notes::LENGTH];
     checks::verdict::check(sequence, read_back, &mut second, &mut notes)
+}
+
+// The ceiling on the reactions of an instant: 0 for a sequence that the check turns down.
+#[no_mangle]
+pub extern "C" fn intake_ceiling(sequence: &[u8], read_back: u32) -> u32
+    ensures { λ r. ⌜ r ≡ ceilingOf «read_back» (checked (now (sequence .entry)) «read_back») ⌝ }
+{
+    ceilings::ceiling(sequence, read_back)
 }
 
 // The tick: 0 after an instant, whose records are written, or the number of the row that turns the call down.

@@ -1,4 +1,5 @@
-//! The host test: intake_check of the archive against the check of document 01 on an explicit tree, with read-back sets.
+//! The host test: intake_check and intake_ceiling of the archive against the check of document 01 and the ceiling of 02, item 6,
+//! on an explicit tree, with read-back sets.
 //! An argument replaces the seed. The last line is 'N passed, M failed'.
 mod edges;
 
@@ -6,14 +7,17 @@ use common::counts::Counts;
 use common::generate::{self, Random, Style};
 use common::{reference, table};
 use std::{env, process::ExitCode};
+use tick::ceiling::Ceiling;
 
 extern "C" {
     fn intake_check(sequence: *const u8, length: usize, read_back: u32) -> u8;
+    fn intake_ceiling(sequence: *const u8, length: usize, read_back: u32) -> u32;
 }
 
-fn archive(bytes: &[u8], read_back: u32) -> u8 {
+fn archive(bytes: &[u8], read_back: u32) -> (u8, u32) {
+    let (start, length) = (bytes.as_ptr(), bytes.len());
     // Safe: the slice's own pointer and length.
-    unsafe { intake_check(bytes.as_ptr(), bytes.len(), read_back) }
+    unsafe { (intake_check(start, length, read_back), intake_ceiling(start, length, read_back)) }
 }
 
 /// What the check answers.
@@ -45,6 +49,8 @@ struct Tally {
     most: [usize; 6],
     /// Of all groups.
     sets: [u64; SETS.len()],
+    /// The least and the greatest ceiling of all groups.
+    ceilings: Option<(u64, u64)>,
 }
 
 impl Tally {
@@ -52,7 +58,12 @@ impl Tally {
     fn compare(&mut self, bytes: &[u8], read_back: u32, by_hand: Option<u8>) {
         let tree = reference::check(bytes, read_back);
         let number = tree.as_ref().err().copied().unwrap_or(0);
+        let ceiling = tree.as_ref().map_or(0, |tree| Ceiling::of(tree, read_back).most());
         self.numbers[number as usize] += 1;
+        if number == 0 {
+            let (least, most) = self.ceilings.unwrap_or((ceiling, ceiling));
+            self.ceilings = Some((least.min(ceiling), most.max(ceiling)));
+        }
         if read_back != 0 {
             self.count_set(bytes, read_back, &tree);
         }
@@ -63,11 +74,12 @@ impl Tally {
             let reached = [pauses, setpauses, suspends, deliveries, levels(&tree), tree.nesting()];
             self.most = std::array::from_fn(|i| self.most[i].max(reached[i]));
         }
-        let answer = archive(bytes, read_back);
+        let (answer, most) = archive(bytes, read_back);
+        let program = || format!("{} & {read_back:08X}", table::hex(bytes));
         self.counts.expect(answer == number && by_hand.unwrap_or(number) == number, || {
-            let program = format!("{} & {read_back:08X}", table::hex(bytes));
-            format!("archive {answer}, tree {number}, by hand {by_hand:?}: {program}")
+            format!("archive {answer}, tree {number}, by hand {by_hand:?}: {}", program())
         });
+        self.counts.expect(most as u64 == ceiling, || format!("ceiling {most}, tree {ceiling}: {}", program()));
     }
 
     fn count_set(&mut self, bytes: &[u8], read_back: u32, tree: &Result<reference::Tree, u8>) {
@@ -104,7 +116,7 @@ impl Tally {
     fn close(&mut self, name: &str) {
         let numbers: String = NUMBERS.iter().map(|n| format!("{:>9}", self.numbers[*n])).collect();
         println!("{name:<16}{numbers}{:>9}", self.counts.close());
-        *self = Tally { counts: self.counts, sets: self.sets, ..Tally::default() };
+        *self = Tally { counts: self.counts, sets: self.sets, ceilings: self.ceilings, ..Tally::default() };
     }
 
     /// Prints what was reached with read-back sets; a test that does not get there would show nothing.
@@ -113,6 +125,9 @@ impl Tally {
             println!("{name:<40}{count:>10}");
             self.counts.expect(count >= 100, || format!("{name} occurred only {count} times"));
         }
+        let (least, most) = self.ceilings.unwrap_or((0, 0));
+        println!("ceilings from {least} to {most}");
+        self.counts.expect(least == 1 && most > 2_000_000, || "too far from the greatest ceiling".into());
     }
 }
 
