@@ -4,6 +4,7 @@
  * compiler may want both for a host's own code.
  */
 #include "intake.h"
+#include "intake_store.h"
 
 enum { SYSTEM_WRITE = 1, SYSTEM_EXIT = 60, STANDARD_OUTPUT = 1 };
 
@@ -104,6 +105,24 @@ static void year(void)
     expect(intake_ledger_farm(ledger, 3) == 0 && intake_ledger_total(ledger) == 0, "its new totals");
 }
 
+/* A state record over a cut: what was kept is found, and the older one where the newer is damaged; then nothing. */
+static void power_cut(void)
+{
+    static uint8_t first[INTAKE_STORE_LENGTH(INTAKE_STATE_LENGTH)], second[INTAKE_STORE_LENGTH(INTAKE_STATE_LENGTH)];
+    static const uint8_t sequence[] = {0x06, 0x01, 0x00};
+    uint8_t state[INTAKE_STATE_LENGTH] = {INTAKE_PHASE_WAITING, 1}, found[INTAKE_STATE_LENGTH];
+    unsigned long binding = intake_store_bind(0, sequence, sizeof sequence, 0);
+    expect(intake_store_read(first, second, binding, found, sizeof found) == 0 && found[0] == 0, "nothing is kept");
+    expect(intake_store_write(first, second, binding, state, sizeof state) == 0, "the first copy");
+    state[1] = 2;
+    expect(intake_store_write(first, second, binding, state, sizeof state) == 1, "the second copy");
+    expect(intake_store_read(first, second, binding, found, sizeof found) == 1 && found[1] == 2, "the newer one");
+    second[INTAKE_STORE_HEAD] ^= 1;
+    expect(intake_store_read(first, second, binding, found, sizeof found) == 1 && found[1] == 1, "the older one");
+    first[0] ^= 1;
+    expect(intake_store_read(first, second, binding, found, sizeof found) == 0 && found[1] == 0, "none is whole");
+}
+
 /* The system starts a program with an aligned stack and no return address. */
 __asm__(".globl _start\n_start:\n\txor %ebp, %ebp\n\tcall start\n\thlt\n");
 
@@ -111,6 +130,7 @@ void start(void)
 {
     worked_example();
     year();
+    power_cut();
     print_number(passed);
     print(" passed, ");
     print_number(failed);

@@ -1,8 +1,9 @@
 /*
- * The functions of include/intake.h that need nothing of the archive, on records made by hand. Compiled as every C from C90
- * on and as C++, so it says what both say.
+ * The functions of include/intake.h that need nothing of the archive, on records made by hand, and those of
+ * include/intake_store.h, which host/store.c tests. Compiled as every C from C90 on and as C++, so it says what both say.
  */
 #include "intake.h"
+#include "intake_store.h"
 
 #include <stdio.h>
 #include <string.h>
@@ -145,6 +146,27 @@ static void texts(void)
     expect(strcmp(intake_text(255), "no number of a call") == 0, "text", 255);
 }
 
+/* A payload of each length is kept and found, and is not where it was changed. */
+static void stores(void)
+{
+    static uint8_t first[INTAKE_STORE_LENGTH(300)], second[INTAKE_STORE_LENGTH(300)], payload[300], found[300];
+    const uint8_t sequence[] = {0x01, 0x00};
+    unsigned long binding = intake_store_bind(0, sequence, sizeof sequence, 1);
+    size_t length, i;
+    expect(intake_store_sum(0, (const unsigned char *)"123456789", 9) == 0xCBF43926UL, "the known sum", 0);
+    for (length = 0; length <= 300; length++) {
+        int copy;
+        for (i = 0; i < length; i++)
+            payload[i] = (uint8_t)(7 * i + length);
+        copy = intake_store_write(first, second, binding, payload, length);
+        expect(intake_store_read(first, second, binding, found, length) == 1 && memcmp(found, payload, length) == 0, "kept",
+               (unsigned)length);
+        expect(intake_store_read(first, second, binding ^ 1, found, length) == 0, "another binding", (unsigned)length);
+        (copy == 0 ? first : second)[INTAKE_STORE_LENGTH(length) - 1] ^= 0x80;
+        expect(intake_store_read(first, second, binding, found, length) == 0, "damaged", (unsigned)length);
+    }
+}
+
 static void lengths(void)
 {
     expect(INTAKE_STATE_LABELS + INTAKE_STATE_LABELS_LENGTH == INTAKE_STATE_LENGTH, "length of the state record", 0);
@@ -173,6 +195,7 @@ int main(void)
     previews();
     ledgers();
     texts();
+    stores();
     lengths();
     printf("%u passed, %u failed\n", passed, failed);
     return failed != 0;

@@ -1,5 +1,6 @@
 #!/usr/bin/env python3
-"""Compiles include/intake.h as every C and C++ and runs host/header.c, and README's hosts in C with the archive.
+"""Compiles include/intake.h and include/intake_store.h as every C and C++ and runs host/header.c, and README's hosts in C with
+the archive. README's table has the calls that the header declares.
 
   host/header_test.py ARCHIVE
 
@@ -15,7 +16,16 @@ ROOT = Path(__file__).resolve().parent.parent
 WARNED = ["-Wall", "-Wextra", "-Werror", "-pedantic", f"-I{ROOT / 'include'}"]
 STANDARDS = [("gcc", "c", name) for name in ("c90", "c99", "c11", "c17", "c2x")] + [
     ("g++", "c++", name) for name in ("c++98", "c++11", "c++14", "c++17", "c++20")]
-OTHER = '#include "intake.h"\nextern int other(void);\nint other(void) { return INTAKE_VERSION; }\n'
+OTHER = '#include "intake_store.h"\n#include "intake.h"\nextern int other(void);\nint other(void) { return INTAKE_VERSION; }\n'
+# The store needs nothing but stddef.h, which every compiler has, library or none.
+ALONE = """#include "intake_store.h"
+extern int kept(unsigned char *copies, const unsigned char *payload, unsigned char *found);
+int kept(unsigned char *copies, const unsigned char *payload, unsigned char *found)
+{
+    return intake_store_write(copies, copies + INTAKE_STORE_LENGTH(9), 7, payload, 9) +
+           intake_store_read(copies, copies + INTAKE_STORE_LENGTH(9), 7, found, 9);
+}
+"""
 # Around README's host: it waits an instant, then signal 0 is emitted only if absent; then the same cut short.
 SURROUNDINGS = """
 #include "intake.h"
@@ -87,6 +97,52 @@ BOX_SAID = """\
 1: emitted 0
 """
 
+# Around README's store: a machine of two pauses in turn that is cut after each instant, the second time in the write itself.
+STORE_SURROUNDINGS = """
+#include "intake.h"
+#include <stdio.h>
+#include <string.h>
+
+static void report(const char *what) {{ puts(what); }}
+static void write_to_medium(int copy, const uint8_t *bytes, size_t count);
+
+{0}
+
+static uint8_t medium[2][sizeof copies[0]];
+static size_t cut = sizeof copies[0];
+static void write_to_medium(int copy, const uint8_t *bytes, size_t count)
+{{
+    memcpy(medium[copy], bytes, count < cut ? count : cut);
+}}
+
+int main(void)
+{{
+    static const uint8_t sequence[] = {{0x06, 0x04, 0x01, 0x01, 0x01, 0x09}};
+    uint8_t answer[INTAKE_ANSWER_LENGTH];
+    unsigned i;
+    for (i = 0; i < 4; i++) {{
+        memcpy(copies, medium, sizeof copies);
+        memset(state, 0xFF, sizeof state);
+        start(sequence, sizeof sequence, 0);
+        printf("phase %u, waits at 1: %d, at 9: %d\\n", (unsigned)intake_state_phase(state), intake_waits_at(state, 1),
+               intake_waits_at(state, 9));
+        intake_tick(sequence, sizeof sequence, state, sizeof state, 0, 0, answer, sizeof answer);
+        cut = i == 1 ? INTAKE_STORE_HEAD + 2 : sizeof copies[0];
+        keep(sequence, sizeof sequence, 0);
+    }}
+    start(sequence, sizeof sequence - 1, 0);
+    return 0;
+}}
+"""
+STORE_SAID = """\
+nothing is kept of this sequence: the machine begins
+phase 0, waits at 1: 0, at 9: 0
+phase 1, waits at 1: 1, at 9: 0
+phase 1, waits at 1: 1, at 9: 0
+phase 1, waits at 1: 0, at 9: 1
+nothing is kept of this sequence: the machine begins
+"""
+
 passed = failed = 0
 
 
@@ -111,6 +167,11 @@ def standard(folder, compiler, language, name):
     built, said = run(compiler, f"-std={name}", *WARNED, "-x", language, ROOT / "host/header.c", other, "-o", program)
     if not built:
         return add(0, 1, f"{compiler} -std={name}", said)
+    alone = Path(folder) / "alone.c"
+    alone.write_text(ALONE, encoding="ascii")
+    words = ["-ffreestanding", "-x", language, "-c", alone, "-o", f"{folder}/alone.o"]
+    apart, errors = run(compiler, f"-std={name}", *WARNED, *words)
+    add(apart, not apart, f"the store alone, {compiler} -std={name}", errors)
     _, said = run(program)
     tally = re.search(r"^(\d+) passed, (\d+) failed$", said, re.M)
     return add(int(tally[1]), int(tally[2]), name, said) if tally else add(0, 1, name, said)
@@ -121,7 +182,8 @@ def readme(folder, archive):
     text = (ROOT / "README.md").read_text(encoding="utf-8")
     blocks = [block.replace('#include "intake.h"\n', "") for block in re.findall(r"```c\n(.*?)```", text, re.S)]
     source, program = Path(folder) / "readme.c", f"{folder}/readme"
-    for block, around, expected in zip(blocks, (SURROUNDINGS, BOX_SURROUNDINGS), (SAID, BOX_SAID), strict=True):
+    surroundings = (SURROUNDINGS, SAID), (BOX_SURROUNDINGS, BOX_SAID), (STORE_SURROUNDINGS, STORE_SAID)
+    for block, (around, expected) in zip(blocks, surroundings, strict=True):
         source.write_text(around.format(block), encoding="utf-8")
         for compiler, language, name in ("gcc", "c", "c11"), ("g++", "c++", "c++17"):
             built, said = run(compiler, f"-std={name}", *WARNED, "-x", language, source, "-x", "none", archive, "-o", program)

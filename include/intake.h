@@ -104,6 +104,18 @@ enum intake_phase {
 };
 
 /*
+ * Power cuts. A state record that is half written when the power goes is often one of its sequence all the same: a machine that
+ * waits at labels 1 and 9, restored with two of its seventeen bytes, waits at label 1 alone, and goes on so. INTAKE_INVALID_STATE
+ * does not catch that, nor is a box that is half written noticed by its calls.
+ *
+ * A host whose state record or box is to outlive a power cut keeps it in two copies, written in turn after each instant, or
+ * after each call that writes the box: each copy with a running number and a sum over all of it, bound to the sequence and its
+ * read-back set. At the start it takes the newer copy that is whole, and if none is, a cleared record or box: bytes 00. What else
+ * of the host belongs to that instant, such as its place in the inputs, goes into the same copy. include/intake_store.h has
+ * functions that do so, what the host must see to for them, and the faults that they do not catch.
+ */
+
+/*
  * The answer record: where its fields begin, and their bytes. Kind and place are 0 unless the code is INTAKE_WRONG. The
  * place is the byte offset of the erring command in the sequence, lowest byte first, or INTAKE_PLACE_READ_BACK. Byte 0 of
  * the emitted set holds the signals 0 to 7, signal 0 in the lowest bit; the set is empty if the code is INTAKE_WRONG.
@@ -335,7 +347,7 @@ uint8_t intake_replay(const uint8_t *sequence, size_t sequence_length, uint32_t 
  * A box holds the machines of up to INTAKE_BAY_COUNT bays, numbered from 0, each with its own sequence, read-back set,
  * set of service-only signals, state, positions and number of instants; and for each bay number, filled or empty, a ledger.
  * It is lent memory of INTAKE_BOX_LENGTH bytes, all of them 00 at first and from then on written by the calls below and by
- * nobody else; docs/FORMAT.md has the layout.
+ * nobody else; docs/FORMAT.md has the layout. One that is to outlive a power cut is kept as 'Power cuts' above says.
  *
  * The bays share a ceiling: what the instants of all bays present can take, one of each, sums to INTAKE_SHARED_CEILING
  * reactions at most. The part of a bay is fixed on admission: what intake_ceiling gives for its sequence and read-back set.
