@@ -25,7 +25,7 @@ PREFIX ?= /usr/local
 VERSION = $(shell sed -n 's/^\#define INTAKE_VERSION_[A-Z]* \([0-9]*\)$$/\1/p' include/intake.h | paste -sd .)
 
 HOST_TESTS = host-rust host-c host-tick-rust host-tick-c host-box-rust host-box-c host-unroll-rust host-unroll-c host-replay-rust \
-	host-replay-c host-store host-example host-example-box host-replay-program host-stack host-archive \
+	host-replay-c host-store host-power host-example host-example-box host-replay-program host-stack host-archive \
 	host-freestanding host-header host-install host-again figures
 
 # The two programs are built anew for whatever archive is named.
@@ -123,6 +123,11 @@ host-example-box: $(INTAKE_ARCHIVE) # runs the examples side by side in a box by
 host-store: # cuts writes of the store of include/intake_store.h at every byte and in every order of words, under sanitizers
 	@mkdir -p target/host
 	$(SANITIZED) -Iinclude host/store.c -o target/host/store && target/host/store
+
+host-power: $(INTAKE_ARCHIVE) # cuts the example host with several bays, starts it again, and holds its ledgers to its recordings
+	@mkdir -p target/host
+	$(SANITIZED) -Iinclude host/example_box.c $(INTAKE_ARCHIVE) -o target/host/example-box-power
+	host/power_test.py target/host/example-box-power
 
 host-replay-program: $(INTAKE_ARCHIVE) $(REPLAY_PROGRAM) # replays what the example host records by the program for planners
 	@mkdir -p target/host

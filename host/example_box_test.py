@@ -29,8 +29,8 @@ def lines(listing):
 
 
 def run(host, files, *more):
-    return subprocess.run([host, *(ROOT / "examples" / name for name, *_ in files), *more], capture_output=True, text=True,
-                          check=False)
+    words = [host, "--at-once", *(ROOT / "examples" / name for name, *_ in files), *more]
+    return subprocess.run(words, capture_output=True, text=True, check=False)
 
 
 def compare(host, files):
@@ -64,12 +64,13 @@ def refused(host, files):
 
 
 def shown():
-    """The commands of the pages that run the host, their words, with what the page shows below each."""
+    """The commands of the pages that run the host, their words, with what the page shows below each. Those with a store are of
+    host/power_test.py."""
     found = []
     for page in sorted((ROOT / "examples").glob("*.md")):
         text = page.read_text(encoding="utf-8")
         found += re.findall(r"^    target/host/example-box ([^\n]*)\n\n```text\n(.*?)```", text, re.M | re.S)
-    return [(words.split(), expected) for words, expected in found]
+    return [(words.split(), expected) for words, expected in found if " store:" not in words]
 
 
 def recorded(recording, expected):
@@ -101,15 +102,15 @@ def positions(host, commands):
         kept = [ROOT / word.partition(":record:")[2] for word in words if ":record:" in word]
         for file in kept:
             file.unlink(missing_ok=True)
-        done = subprocess.run([host, *words], capture_output=True, text=True, check=False, cwd=ROOT)
+        done = subprocess.run([host, "--at-once", *words], capture_output=True, text=True, check=False, cwd=ROOT)
         examples.expect(done.returncode == 0 and done.stdout == expected, f"{words}: {done.stdout}{done.stderr}")
         for file in kept:
             recorded(file.read_bytes(), expected)
             examples.expect(drawn(file) > 0, f"what the pages show of {file.name}")
-        beside = subprocess.run([host, *words, words[0]], capture_output=True, text=True, check=False, cwd=ROOT)
+        beside = subprocess.run([host, "--at-once", *words, words[0]], capture_output=True, text=True, check=False, cwd=ROOT)
         own = [line for line in beside.stdout.splitlines() if line.startswith("0 ")]
         other = [line[2:] for line in beside.stdout.splitlines() if line.startswith("1 ")]
-        alone = subprocess.run([host, words[0]], capture_output=True, text=True, check=False, cwd=ROOT).stdout
+        alone = subprocess.run([host, "--at-once", words[0]], capture_output=True, text=True, check=False, cwd=ROOT).stdout
         examples.expect(own == expected.splitlines(), f"{words} beside another bay: {own}")
         examples.expect(other == [line[2:] for line in alone.splitlines()], f"a bay beside {words}: {other}")
 

@@ -42,7 +42,7 @@ def recorded(host, name, *calls):
     the ledger: these are no instants."""
     with tempfile.TemporaryDirectory() as folder:
         kept = Path(folder) / "recording"
-        words = [host, ROOT / "examples" / name, f"0:record:{kept}", *calls]
+        words = [host, "--at-once", ROOT / "examples" / name, f"0:record:{kept}", *calls]
         done = subprocess.run(words, capture_output=True, text=True, check=False)
         examples.expect(done.returncode == 0, f"the recording of {name}")
         return kept.read_bytes(), done.stdout.count(" refused 19: ")
@@ -96,6 +96,24 @@ def returned(program, host):
     examples.expect(given.startswith("differs at "), f"{RETURNING} with its return: {given}")
 
 
+def cut(program, host):
+    """A bay whose host was cut after each number of rounds, and started again: its recording is that of a run without a cut."""
+    for name in "tour.bin", "intake.bin":
+        whole, _ = recorded(host, name)
+        head = head_of((ROOT / "examples" / name).read_bytes())
+        for rounds in range(1, len(whole) // RECORD):
+            with tempfile.TemporaryDirectory() as folder:
+                kept = Path(folder) / "recording"
+                words = [host, "--at-once", ROOT / "examples" / name, f"0:record:{kept}", f"store:{folder}/box"]
+                for more in [f"cut:{rounds}"], []:
+                    done = subprocess.run([*words, *more], capture_output=True, text=True, check=False)
+                    examples.expect(done.returncode == 0, f"{name} {more}: {done.stderr}")
+                    records = rounds if more else len(whole) // RECORD
+                    expect(program, head + kept.read_bytes(), f"accepted {records}", f"{name}, {rounds} rounds, {more}")
+                examples.expect(f"0 restored {rounds}\n" in done.stdout, f"{name} restored after {rounds} rounds")
+                examples.expect(kept.read_bytes() == whole, f"{name} cut after {rounds} rounds")
+
+
 def edges(program):
     sustain = bytes.fromhex("060402050100")  # loop (emit 5; pause, label 0)
     for count in range(2 + len(sustain) + 4):
@@ -116,6 +134,7 @@ def main(program, hosts):
         seen = sum(whole(program, host, rng, *file) for file in examples.documented())
         examples.expect(seen > 10, f"tools/show saw {seen} damages")
         returned(program, host)
+        cut(program, host)
     edges(program)
     print(f"{examples.passed} passed, {examples.failed} failed")
     return examples.failed != 0

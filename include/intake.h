@@ -112,7 +112,8 @@ enum intake_phase {
  * after each call that writes the box: each copy with a running number and a sum over all of it, bound to the sequence and its
  * read-back set. At the start it takes the newer copy that is whole, and if none is, a cleared record or box: bytes 00. What else
  * of the host belongs to that instant, such as its place in the inputs, goes into the same copy. include/intake_store.h has
- * functions that do so, what the host must see to for them, and the faults that they do not catch.
+ * functions that do so, what the host must see to for them, and the faults that they do not catch; host/example_box.c keeps
+ * its box by them.
  */
 
 /*
