@@ -22,6 +22,8 @@ SOURCES := crates.txt $(shell find crates -name '*.rt' -o -name '*.antt')
 
 # `make install` puts the files below $(DESTDIR)$(PREFIX), and the pkg-config file names $(PREFIX).
 PREFIX ?= /usr/local
+EXAMPLES = share/intake/examples
+INSTALLED_EXAMPLES = host/example.c host/example_box.c examples/clean.bin examples/tour.bin
 VERSION = $(shell sed -n 's/^\#define INTAKE_VERSION_[A-Z]* \([0-9]*\)$$/\1/p' include/intake.h | paste -sd .)
 
 HOST_TESTS = host-rust host-c host-tick-rust host-tick-c host-box-rust host-box-c host-unroll-rust host-unroll-c host-replay-rust \
@@ -29,7 +31,7 @@ HOST_TESTS = host-rust host-c host-tick-rust host-tick-c host-box-rust host-box-
 	host-freestanding host-header host-install host-again figures
 
 # The two programs are built anew for whatever archive is named.
-.PHONY: help run show paper unroll replay vectors-diff test lib install certificate host $(HOST_TESTS) host-plain show-test \
+.PHONY: help run show paper unroll replay vectors-diff test lib install uninstall clean certificate host $(HOST_TESTS) host-plain show-test \
 	format-test certificate-test bench bench-check bench-tick bench-box bench-unroll bench-replay bench-run target/host/stack \
 	target/host/dearest
 
@@ -57,16 +59,26 @@ vectors-diff: # shows each line that the vectors, as built last, print otherwise
 test: # proves everything and runs all tests: the gate
 	.ci/run
 
-lib: target/lib/SHA256SUMS # writes the archive, the header and a pkg-config file to target/lib, with their sha256
+lib: target/lib/SHA256SUMS # writes the archive, the headers and a pkg-config file to target/lib, with their sha256
 
-install: lib # installs them below PREFIX; DESTDIR=folder goes before it
-	install -d '$(DESTDIR)$(PREFIX)/lib/pkgconfig' '$(DESTDIR)$(PREFIX)/include'
+install: lib # installs them below PREFIX, with the example hosts; DESTDIR=folder goes before it
+	install -d '$(DESTDIR)$(PREFIX)/lib/pkgconfig' '$(DESTDIR)$(PREFIX)/include' '$(DESTDIR)$(PREFIX)/$(EXAMPLES)'
 	install -m 644 target/lib/libintake.a '$(DESTDIR)$(PREFIX)/lib/libintake.a'
-	install -m 644 target/lib/intake.h '$(DESTDIR)$(PREFIX)/include/intake.h'
+	install -m 644 target/lib/intake.h target/lib/intake_store.h '$(DESTDIR)$(PREFIX)/include'
+	install -m 644 $(INSTALLED_EXAMPLES) '$(DESTDIR)$(PREFIX)/$(EXAMPLES)'
 	sed 's|@PREFIX@|$(PREFIX)|; s|@LIBDIR@|$${prefix}/lib|; s|@INCLUDEDIR@|$${prefix}/include|; s|@VERSION@|$(VERSION)|' \
 		include/intake.pc.in > target/lib/installed.pc
 	install -m 644 target/lib/installed.pc '$(DESTDIR)$(PREFIX)/lib/pkgconfig/intake.pc'
 	@rm -f target/lib/installed.pc
+
+uninstall: # takes away what make install has put below PREFIX; DESTDIR as above
+	rm -f '$(DESTDIR)$(PREFIX)/lib/libintake.a' '$(DESTDIR)$(PREFIX)/lib/pkgconfig/intake.pc'
+	rm -f '$(DESTDIR)$(PREFIX)/include/intake.h' '$(DESTDIR)$(PREFIX)/include/intake_store.h'
+	rm -f $(foreach file, $(notdir $(INSTALLED_EXAMPLES)), '$(DESTDIR)$(PREFIX)/$(EXAMPLES)/$(file)')
+	@for folder in '$(EXAMPLES)' share/intake; do rmdir '$(DESTDIR)$(PREFIX)'/$$folder 2> /dev/null || true; done
+
+clean: # takes away all that was built, proofs too
+	rm -rf target
 
 certificate: # writes docs/CERTIFICATE.md from the last run of the gate
 	tools/certificate
@@ -218,12 +230,12 @@ target/staticlib/libintake.a: $(SOURCES)
 	rt staticlib intake
 
 # In this folder the pkg-config file finds the others beside itself, wherever the folder goes.
-target/lib/SHA256SUMS: target/staticlib/libintake.a include/intake.h include/intake.pc.in Makefile
+target/lib/SHA256SUMS: target/staticlib/libintake.a include/intake.h include/intake_store.h include/intake.pc.in Makefile
 	@rm -rf target/lib && mkdir -p target/lib
-	cp target/staticlib/libintake.a include/intake.h target/lib
+	cp target/staticlib/libintake.a include/intake.h include/intake_store.h target/lib
 	sed 's|@PREFIX@|$${pcfiledir}|; s|@LIBDIR@|$${prefix}|; s|@INCLUDEDIR@|$${prefix}|; s|@VERSION@|$(VERSION)|' \
 		include/intake.pc.in > target/lib/intake.pc
-	cd target/lib && sha256sum libintake.a intake.h intake.pc > SHA256SUMS
+	cd target/lib && sha256sum libintake.a intake.h intake_store.h intake.pc > SHA256SUMS
 
 PLAIN_CALLS = check ceiling tick deliver unroll replay $(addprefix box_, admit release tick save restore forget service panel preview \
 	ledger new_year)
