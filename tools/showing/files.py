@@ -1,31 +1,7 @@
-"""Files: their bytes, and run files (document 01, 'Bays to run', and 02, item 5)."""
-from pathlib import Path
-import os
-import sys
-
+"""Run files (document 01, 'Bays to run', and 02, item 5)."""
 from showing.damage import Damaged, counted
 
 MAX_FILE, LENGTH_BYTES, READ_BACK_BYTES, INPUT_BYTES = 65536, 2, 4, 4
-
-
-def read_bytes(path, limit):
-    """The bytes of a file, at most one more than the limit; - is standard input."""
-    with open(0 if path == "-" else path, "rb") as file:
-        return file.read(limit + 1)
-
-
-def write_bytes(path, data):
-    """Writes a file, or standard output for None and -; a reader of that which goes away early is no fault."""
-    if path is not None and path != "-":
-        Path(path).write_bytes(data)
-        return
-    try:
-        sys.stdout.buffer.write(data)
-        sys.stdout.buffer.flush()
-    except OSError as error:
-        os.dup2(os.open(os.devnull, os.O_WRONLY), 1)  # what is left in the buffer goes nowhere
-        if not isinstance(error, BrokenPipeError):
-            raise
 
 
 def number_in(data):

@@ -5,8 +5,9 @@ from collections import namedtuple
 from pathlib import Path
 
 from showing.damage import Damaged
-from showing.files import INPUT_BYTES, MAX_FILE, read_bytes
+from showing.files import INPUT_BYTES, MAX_FILE
 from showing.sequences import DELIVER, EMIT, LABELS, LOOP, PAUSE, READ_BACK_PLACE, SIGNAL, words_of
+from showing.streams import MARK, read_bytes
 
 MAX_LISTING = 64 * (MAX_FILE // INPUT_BYTES)  # no line has 64 bytes
 HEADER = "instant code kind place emitted labels"
@@ -33,7 +34,7 @@ def listing_of(path, data):
         text = subprocess.run([program], input=data, stdout=subprocess.PIPE, check=False).stdout
     if len(text) > MAX_LISTING:
         raise Damaged("listing: longer than that of any run")
-    return text.decode("ascii", "replace")
+    return text.removeprefix(MARK).decode("ascii", "replace")
 
 
 def cannot_be(number):

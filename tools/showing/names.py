@@ -9,6 +9,7 @@ from collections import namedtuple
 
 from showing.damage import Damaged
 from showing.sequences import OPERANDS
+from showing.streams import read_bytes, text_in
 
 MAX_NAMES_FILE = 65536
 LINE = re.compile(r"(signal|label)\s+([0-9]{1,3})\s+([^\W\d_][\w-]{0,23})")
@@ -24,9 +25,6 @@ class Names(namedtuple("Names", "signal label")):
 
     def all_of(self, kind, numbers):
         return ", ".join(self.of(kind, number) for number in numbers)
-
-
-NO_NAMES = Names({}, {})
 
 
 def named_in(line, names):
@@ -45,21 +43,20 @@ def named_in(line, names):
     return kind, number, name
 
 
-def names_in(data):
-    """The names of a file's bytes."""
-    if len(data) > MAX_NAMES_FILE:
-        raise Damaged(f"names: a file of names has at most {MAX_NAMES_FILE:,} bytes")
-    try:
-        text = data.decode("utf-8")
-    except UnicodeDecodeError as error:
-        raise Damaged(f"names: byte {error.start}: not UTF-8") from None
+def names_in(path):
+    """The names of a file; none where no file is named."""
     names = Names({}, {})
-    for number, line in enumerate(text.split("\n"), 1):
+    if path is None:
+        return names
+    data = read_bytes(path, MAX_NAMES_FILE)
+    if len(data) > MAX_NAMES_FILE:
+        raise Damaged(f"a file of names has at most {MAX_NAMES_FILE:,} bytes", path)
+    for number, line in enumerate(text_in(data, path).split("\n"), 1):
         line = line.partition("#")[0].strip()
         try:
             if line:
                 kind, place, name = named_in(line, names)
                 getattr(names, kind)[place] = name
         except Damaged as error:
-            raise Damaged(f"names: line {number}: {error}") from None
+            raise Damaged(f"line {number}: {error}", path) from None
     return names

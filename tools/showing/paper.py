@@ -4,10 +4,11 @@ Both are tables as that of the sequence, whose indentation and places they have.
 or for a side that ended, a sequence that begins a loop again) has no bytes, and the place of the command for which it was
 made; it is not told when it goes. A statement that stands as in the sequence takes one line, with its first and last place.
 """
-from showing.damage import Damaged, counted
-from showing.listings import WAITING, WRONG, Instant, code_in_words, error_in_words
+from showing.damage import counted
+from showing.listings import WAITING, WRONG, code_in_words, error_in_words
+from showing.reactions import steps_of
 from showing.sequences import READ_BACK_PLACE, line_of, members_of, width_of, words_of
-from showing.terms import HELD, react, struck_out, term_of
+from showing.terms import HELD, struck_out, term_of
 
 
 def words_and_bytes(term, names):
@@ -16,10 +17,11 @@ def words_and_bytes(term, names):
 
 
 class Paper:
-    """The term that is left, and the lines to which each instant adds what is told of it; whole folds no statement."""
+    """The lines to which each instant adds what is told of it; whole folds no statement."""
 
     def __init__(self, commands, read_back, names, whole, out):
-        self.term, self.commands, self.names = term_of(commands, read_back), commands, names
+        term_of(commands, read_back)  # a setpause is refused, whatever the inputs are
+        self.commands, self.read_back, self.names = commands, read_back, names
         self.whole, self.width, self.lines = whole, width_of(commands), out
 
     def add_term(self, term, depth, mark):
@@ -43,22 +45,16 @@ class Paper:
                 self.lines.append("-" + line_of(gone.place, own, self.width, depth, words)[1:])
         self.lines.insert(before, "struck out" if len(self.lines) > before else "nothing is struck out")
 
-    def react(self, number, inputs):
-        """One instant: adds what is told of it, and gives it as a listing has it, without labels."""
-        reaction = react(self.term, inputs, {})
-        kind, place = reaction.error if reaction.code == WRONG else (0, 0)
-        instant = Instant(number, reaction.code, kind, place, 0 if reaction.code == WRONG else reaction.emitted, None)
-        self.lines += ["", told(instant, reaction.deliveries, inputs, self.commands, self.names)]
-        if reaction.code == WAITING:
-            self.add_rest(reaction)
+    def add_step(self, step, inputs):
+        """Adds what is told of an instant."""
+        self.lines += ["", told(step.instant, step.reaction.deliveries, inputs, self.commands, self.names)]
+        if step.instant.code == WAITING:
+            self.add_rest(step.term, step.reaction)
         else:
             self.lines.append("nothing remains")
-        self.term = reaction.residual
-        return instant
 
-    def add_rest(self, reaction):
+    def add_rest(self, term, reaction):
         """Adds both tables; the read-back declarations, which are never struck out, stand at the head of the page alone."""
-        term = self.term
         while term.place == READ_BACK_PLACE:
             term, reaction = term.parts[0], reaction.premises[0]
         self.add_struck(term, reaction)
@@ -83,29 +79,12 @@ def litres_in_words(deliveries, names):
     return "".join(f"; {counted(sums[farm], 'litre')} of {names.of('signal', farm)}" for farm in sorted(sums))
 
 
-def compare(instant, listed):
-    """Raises where paper and listing part in an instant."""
-    pairs = [(field, getattr(instant, field), getattr(listed, field)) for field in ("code", "kind", "place", "emitted")]
-    apart = [(field, *(f"{value:08x}" if field == "emitted" else value for value in values))
-             for field, *values in pairs if values[0] != values[1]]
-    if apart:
-        each = "; ".join(f"{field} {ours} on paper, {theirs} in the listing" for field, ours, theirs in apart)
-        raise Damaged(f"instant {instant.number}: paper and listing part: {each}")
-
-
 def add_paper(paper, inputs, instants):
     """Adds the paper of a run, up to where it parts from the listing; None for the instants of a listing compares nothing."""
     number = 0
-    for number, given in enumerate(inputs, 1):
-        instant = paper.react(number, given)
-        if instants is not None:
-            if number > len(instants):
-                raise Damaged(f"instant {number}: paper and listing part: the listing ends before it")
-            compare(instant, instants[number - 1])
-        if paper.term is None:
-            break
-    if instants is not None and len(instants) > number:
-        raise Damaged(f"instant {number + 1}: paper and listing part: on paper there is none")
+    for step in steps_of(paper.commands, paper.read_back, inputs, instants):
+        number = step.instant.number
+        paper.add_step(step, inputs[number - 1])
     unused = len(inputs) - number
     paper.lines += [""] + [f"inputs not used: {unused}"] * (unused > 0)
     if instants is not None:

@@ -1,9 +1,10 @@
 """Makes a run file from a text, and a text from a run file.
 
-  tools/runfile [--names NAMES] TEXT > FILE    the run file that a text tells
-  tools/runfile --back [--names NAMES] FILE    the text of a run file
+  tools/runfile [--names NAMES] --output FILE TEXT    the run file that a text tells
+  tools/runfile --back [--names NAMES] FILE           the text of a run file
 
-TEXT and FILE - are standard input. The bytes of the sequence come from the editor: this program makes none from source text,
+TEXT and FILE - are standard input, and with no --output the result goes to standard output. FILE is written only where the text
+is right; with '> FILE' the shell empties it before this program begins. The bytes of the sequence come from the editor: this program makes none from source text,
 and checks none; 'tools/show FILE' says what a sequence is and which row turns it down. A text is as this one, where # begins a
 comment:
 
@@ -20,12 +21,12 @@ nothing is written.
 """
 import argparse
 import re
-import sys
 
-from showing.damage import Damaged, printable
-from showing.files import MAX_FILE, inputs_in, read_back_in, read_bytes, run_file_of, sequence_in, write_bytes
-from showing.names import MAX_NAMES_FILE, NO_NAMES, names_in
+from showing.damage import Damaged, quoted
+from showing.files import MAX_FILE, inputs_in, read_back_in, run_file_of, sequence_in
+from showing.names import names_in
 from showing.sequences import SIGNALS, members_of
+from showing.streams import Parser, read_bytes, tell, text_in, write_bytes
 
 MAX_TEXT = 64 * 1024 * 1024  # more than the longest run has with all signals in each instant and the longest names
 LINE_BYTES = 16
@@ -40,7 +41,8 @@ def signal_in(word, names):
     for number, name in names.signal.items():
         if name == word:
             return number
-    raise Damaged(f"{ascii(word)} is neither the number nor the name of a signal")
+    hint = "" if names.signal else "; names come from a file, --names FILE"
+    raise Damaged(f"{quoted(word)} is neither the number nor the name of a signal{hint}")
 
 
 def signals_in(text, names):
@@ -90,12 +92,8 @@ def run_file_in(data, names):
     """The run file that a text tells."""
     if len(data) > MAX_TEXT:
         raise Damaged("longer than the text of any run file")
-    try:
-        text = data.decode("utf-8")
-    except UnicodeDecodeError as error:
-        raise Damaged(f"byte {error.start}: not UTF-8") from None
     reader = Reader(names)
-    for number, line in enumerate(text.split("\n"), 1):
+    for number, line in enumerate(text_in(data).split("\n"), 1):
         try:
             line = line.partition("#")[0].strip()
             if line:
@@ -121,8 +119,8 @@ def text_of(data, names):
 
 
 def options_of(arguments):
-    parser = argparse.ArgumentParser(usage="tools/runfile [options] TEXT, or tools/runfile --back [options] FILE",
-                                     description=__doc__, formatter_class=argparse.RawDescriptionHelpFormatter)
+    parser = Parser(prog="runfile", usage="tools/runfile [options] TEXT, or tools/runfile --back [options] FILE",
+                    description=__doc__, formatter_class=argparse.RawDescriptionHelpFormatter)
     parser.add_argument("file", metavar="FILE", help="the text, or with --back the run file; - is standard input")
     parser.add_argument("--back", action="store_true", help="write the text of a run file")
     parser.add_argument("--names", metavar="NAMES", help="names of signals, as for tools/show")
@@ -137,17 +135,16 @@ def main(arguments=None):
     options, damage = options_of(arguments), None
     name = options.file
     try:
-        names = NO_NAMES if options.names is None else names_in(read_bytes(options.names, MAX_NAMES_FILE))
+        names = names_in(options.names)
         if options.back:
             result = text_of(read_bytes(options.file, MAX_FILE), names)
         else:
             result = run_file_in(read_bytes(options.file, MAX_TEXT), names)
-        name = "standard output"
         write_bytes(options.output, result)
     except Damaged as error:
-        damage = str(error)
+        name, damage = error.name or name, str(error)
     except OSError as error:
         name, damage = str(error.filename or name), error.strerror or str(error)
     if damage is not None:
-        print(f"runfile: {printable(name)}: {damage}", file=sys.stderr)
+        tell("runfile", name, damage)
     return 0 if damage is None else 1

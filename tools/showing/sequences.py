@@ -31,6 +31,7 @@ MAX_SEQUENCE, MAX_DEPTH, MAX_SIGNALS = 1024, 64, 6
 READ_BACK_PLACE = 65535  # of an error of a read-back signal, which no command declares
 
 Command = namedtuple("Command", "place depth bytes loops signals")  # so many loops and signals around it
+Ceiling = namedtuple("Ceiling", "commands loops signals most")  # read-back declarations counted as commands and signals
 
 
 def damaged(row, place, why):
@@ -104,13 +105,17 @@ def words_of(own, names):
                          for operand in operands))
 
 
-def ceiling(commands, read_back):
-    """What an instant takes at most, read-back declarations counted as commands and as signals."""
+def ceiling_of(commands, read_back):
+    """What an instant takes at most (docs/CEILING.md, 'The ceiling')."""
     declared = len(members_of(read_back))
     count = len(commands) + declared
     loops = max(command.loops for command in commands)
     signals = max(command.signals for command in commands) + declared
-    most = count * (1 + loops) * 2**signals
+    return Ceiling(count, loops, signals, count * (1 + loops) * 2**signals)
+
+
+def ceiling_line(commands, read_back):
+    count, loops, signals, most = ceiling_of(commands, read_back)
     return (f"ceiling: {count:,} × {1 + loops} × {2**signals} = {counted(most, 'reaction')} "
             f"({counted(count, 'command')}; around one: {counted(loops, 'loop')}, {counted(signals, 'signal')})")
 
@@ -144,5 +149,5 @@ def add_commands(sequence, read_back, names, out):
         out += [f"place  {'bytes':{width}}  command"] * (len(commands) > 0)
         out += [line_of(command.place, command.bytes, width, command.depth, words_of(command.bytes, names))
                 for command in commands]
-    out += ["", ceiling(commands, read_back)]
+    out += ["", ceiling_line(commands, read_back)]
     return commands

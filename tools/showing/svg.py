@@ -6,13 +6,14 @@ grid stand over them and part the instants.
 from html import escape
 
 from showing.listings import WRONG
-from showing.pictures import name_of
+from showing.pictures import codes_in_words, is_ignored, name_of
 
 CELL, LINE, CHARACTER, MARGIN = 24, 18, 7, 5
 BLOCK_WIDTH = 960  # of the columns beside each other, or more where the picture would be too high
 MAX_HEIGHT = 32000  # common viewers draw no picture of 32,768 points
 STYLE = (".background{fill:#fff}.grid{fill:none;stroke:#ddd}.input{fill:#3b6ea5}.emitted{fill:#b5502c}.label{fill:#8a8a8a}"
-         ".wrong{fill:#c00}.fault{fill:#fbd5d5}.name{text-anchor:start}")
+         ".ignored{fill:none;stroke:#3b6ea5}.wrong{fill:#c00}.fault{fill:#fbd5d5}.name{text-anchor:start}.bay{font-weight:bold}")
+LEGEND = {"input": "input", "ignored": "input ignored, since read back", "emitted": "emitted", "label": "label waited at"}
 
 
 def runs_of(marks):
@@ -29,12 +30,13 @@ def runs_of(marks):
 class Drawing:
     """The lines of a picture, and the sizes that are the same throughout."""
 
-    def __init__(self, rows, codes, numbers, names):
+    def __init__(self, rows, codes, numbers, names, read_back):
         self.rows, self.codes, self.numbers, self.columns, self.lines = rows, codes, numbers, len(numbers), []
+        self.kinds = ["input ignored" if is_ignored(row, read_back) else row.kind for row in rows]
         self.heads = [" ".join(filter(None, [row.kind, str(row.number), name_of(row, names)])) for row in rows]
         self.left = max([90, *(2 * MARGIN + CHARACTER * len(head) for head in self.heads)])
         self.cell = max(CELL, 3 + CHARACTER * len(str(max([0, *numbers]))))
-        blocks = max(1, MAX_HEIGHT // self.block_height())
+        blocks = max(1, (MAX_HEIGHT - 8 * LINE) // self.block_height())
         self.block = max(BLOCK_WIDTH // self.cell, -(-self.columns // blocks))
 
     def block_height(self):
@@ -68,32 +70,47 @@ class Drawing:
         """Some columns: the numbers of the instants, the rows with their marks, the codes."""
         self.add_fault(top, part)
         self.cells(top + LINE, "instant", part, self.numbers)
-        for index, (row, head) in enumerate(zip(self.rows, self.heads), 1):
+        for index, (row, head, kind) in enumerate(zip(self.rows, self.heads, self.kinds), 1):
             self.text(MARGIN, top + LINE * (index + 1), head, "name")
             y = top + LINE * index + 7
             steps = [f"M{self.left + self.cell * start + 1} {y}h{self.cell * count - 2}v13h{2 - self.cell * count}z"
                      for start, count in runs_of(row.marks[part[0] : part[-1] + 1])]
             if steps:
-                self.lines.append(f'<path class="{row.kind}" d="{"".join(steps)}"/>')
+                self.lines.append(f'<path class="{kind}" d="{"".join(steps)}"/>')
         self.add_grid(top, part)
         if self.codes:
             self.cells(top + LINE * (len(self.rows) + 2), "code", part, self.codes)
 
 
-def add_svg(drawing, told, out):
-    """Adds the picture; told are lines below it, whose first is the title as well."""
-    top = 0
+def legend_of(kinds):
+    """What the colours mean, of those that occur."""
+    used = [name for name in LEGEND if any(kind.split()[-1] == name for kind in kinds)]
+    return "colours: " + " ".join(f'<tspan class="{name}">■</tspan> {LEGEND[name]}' for name in used) if used else ""
+
+
+def add_svg(drawing, name, told, out):
+    """Adds the picture below the name of its bay; told are lines below it, whose first is the title as well."""
+    top = LINE
+    drawing.text(MARGIN, top, name, "name bay")
     for start in range(0, drawing.columns, drawing.block):
         drawing.add_block(top, range(start, min(start + drawing.block, drawing.columns)))
         top += drawing.block_height()
-    top = max(top, LINE) + MARGIN
+    top += LINE + MARGIN
     for index, line in enumerate(told):
         drawing.text(MARGIN, top, line, "name wrong" if index == 0 and drawing.codes[-1:] == [WRONG] else "name")
         top += LINE
-    columns = min(drawing.block, drawing.columns)
-    width = max([drawing.left + drawing.cell * columns + 10, *(2 * MARGIN + CHARACTER * len(line) for line in told)])
+    below = [codes_in_words(drawing.codes)] * (len(drawing.codes) > 0)
+    for line in below:
+        drawing.text(MARGIN, top, line, "name")
+        top += LINE
+    legend = legend_of(drawing.kinds)
+    if legend:
+        drawing.lines.append(f'<text x="{MARGIN}" y="{top}" class="name">{legend}</text>')
+        top += LINE
+    columns, lengths = min(drawing.block, drawing.columns), [80 * (legend != ""), len(name), *map(len, [*told, *below])]
+    width = max([drawing.left + drawing.cell * columns + 10, *(2 * MARGIN + CHARACTER * length for length in lengths)])
     size = f'width="{width}" height="{top}" viewBox="0 0 {width} {top}"'
     out.append(f'<svg xmlns="http://www.w3.org/2000/svg" {size} role="img" font-family="monospace" font-size="11" '
                'text-anchor="middle">')
-    out += [f"<title>{escape(told[0])}</title>", f"<style>{STYLE}</style>"]
+    out += [f"<title>{escape(f'{name}: {told[0]}')}</title>", f"<style>{STYLE}</style>"]
     out += [f'<rect class="background" width="{width}" height="{top}"/>', *drawing.lines, "</svg>"]

@@ -4,8 +4,10 @@ import shutil
 import subprocess
 
 from tests.common import SHOW, call, expect, folder, written
+from tests.generate import lines_of
 from tests.readers import picture_of, sets_of
 from tests.runs import WORKED, WORKED_LISTING, WORKED_SHOWN
+from tests.sequences import fit
 
 
 def test_calls():
@@ -29,7 +31,7 @@ def test_calls():
     answer = call("--listing", listing, "-", input=WORKED)
     expect(answer == (0, WORKED_SHOWN, ""), f"a run file on standard input: {answer}")
     answer = call("--sequence", "-", input=WORKED[2:12])
-    expect(answer == (0, WORKED_SHOWN.partition("\n\ninstant")[0] + "\n", ""), f"a sequence on standard input: {answer}")
+    expect(answer == (0, WORKED_SHOWN.partition("\n\ninstant")[0] + "\n" + fit(lines_of(WORKED[2:12])), ""), f"a sequence on standard input: {answer}")
     answer = call("--sequence", "-", input=b"\x0d")
     expect(answer[0] == 1 and answer[2] == "show: -: place 0: no command has the byte 0D (row 3)\n", f"a bad one: {answer}")
     with open("/dev/full", "wb") as full:

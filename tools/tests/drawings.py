@@ -5,8 +5,10 @@ import subprocess
 import xml.etree.ElementTree
 
 from tests.common import LABELS, ROOT, examples, expect, expect_damage, folder, listed, rng, run_file, show
+from tests.generate import lines_of
 from tests.readers import SPACE, picture_of, picture_of_svg, picture_of_vcd, sets_of, values_of_vcd
 from tests.runs import VALVE, VALVE_LISTING, WORKED, WORKED_LISTING, expect_pictures
+from tests.sequences import fit
 
 NAMES = """\
 # a comment
@@ -32,6 +34,7 @@ emitted  1 done               . #
 label    1 Wärmetauscher-2_ab # .
 code                          1 0
 
+codes: 1 waiting; 0 ended
 instant 2: ended
 """
 
@@ -40,7 +43,7 @@ def test_names():
     answer = show(data=WORKED, listing=WORKED_LISTING, names=NAMES)
     expect(answer == (0, NAMED, ""), f"names: {answer}")
     answer = show("--sequence", data=WORKED[2:12], names=NAMES)
-    expect(answer == (0, NAMED[: NAMED.index("\n\ninstant") + 1], ""), f"names of a sequence: {answer}")
+    expect(answer == (0, NAMED[: NAMED.index("\n\ninstant") + 1] + fit(lines_of(WORKED[2:12])), ""), f"names of a sequence: {answer}")
     status, shown, _ = show("--paper", data=WORKED, listing=WORKED_LISTING, names=NAMES)
     for line in ("instant 2: input none; emitted 1 done; code 0, ended", "-   6  01 01        pause, label 1 Wärmetauscher-2_ab",
                  "    0  08 00  signal 0 inner in …"):
@@ -64,8 +67,8 @@ def test_damaged_names():
         ("signal 1 1a", 1), ("signal 1 -", 1), ("Signal 1 a", 1), ("signal -1 a", 1), ("signal ١ a", 1), ("signal 1 a,b", 1),
         ("signal 1 <a>", 1), ("signal 1 " + "a" * 25, 1), ("signal 1 a\0", 1), ("pump", 1), ("exit 1 a", 1),
     ]:
-        expect_damage(show(data=WORKED, listing=WORKED_LISTING, names=text), f": names: line {line}: ", f"names {text!r}")
-    for data, said in (b"signal 1 \xff", ": names: byte 9: not UTF-8"), (b"#" * 65537, ": names: a file of names has at most"):
+        expect_damage(show(data=WORKED, listing=WORKED_LISTING, names=text), f"/names: line {line}: ", f"names {text!r}")
+    for data, said in (b"signal 1 \xff", "/names: byte 9: not UTF-8"), (b"#" * 65537, "/names: a file of names has at most"):
         expect_damage(show(data=WORKED, listing=WORKED_LISTING, names=data), said, said)
     most = f"signal 31 x\nlabel {LABELS - 1} x\nsignal 0 {'a' * 24}\r\n\tlabel  0\ty "
     expect(show(data=WORKED, listing=WORKED_LISTING, names=most)[0] == 0, "names at the edges")
@@ -74,7 +77,7 @@ def test_damaged_names():
         for _ in range(rng.randrange(1, 4)):
             changed[rng.randrange(len(changed))] = rng.randrange(256)
         status, _, message = show(data=WORKED, listing=WORKED_LISTING, names=bytes(changed))
-        told = status == 0 and not message or status == 1 and ": names: " in message
+        told = status == 0 and not message or status == 1 and "/names: " in message
         expect(told, f"changed names {number}: {changed}: {message}")
 
 
@@ -106,7 +109,7 @@ def test_drawing_of_a_wrong_instant():
     expect(red == [("2", "wrong"), ("255", "wrong"), (told, "name wrong")], f"in red: {red}")
     backgrounds = [rect.get("class") for rect in root.iter(SPACE + "rect")]
     expect(backgrounds == ["background", "fault"], f"the background of a wrong instant: {drawn}")
-    expect(root.find(SPACE + "title").text == told and "inputs not used: 1" in drawn, f"title: {drawn}")
+    expect(root.find(SPACE + "title").text == f"data: {told}" and "inputs not used: 1" in drawn, f"title: {drawn}")
     expect(int(root.get("width")) > 6 * len(told), f"room for what is told: {drawn}")
     drawn = show("--svg", "-", data=WORKED, listing=WORKED_LISTING)[1]
     expect("wrong\"" not in drawn and "fault\"" not in drawn, f"nothing in red: {drawn}")

@@ -21,7 +21,7 @@ def picture_of(shown):
         elif words and words[0] == "code":
             codes += map(int, words[1:])
         elif words and words[0] in KINDS:
-            marks = {first + column for column, mark in enumerate(words[first - instants - 1 :]) if mark == "#"}
+            marks = {first + column for column, mark in enumerate(words[first - instants - 1 :]) if mark in "#o"}
             rows.setdefault((words[0], int(words[1])), set()).update(marks)
     return rows, codes, instants
 
@@ -69,7 +69,7 @@ def read_marks(path, names, lines, columns, cells, width, rows):
         name, head = names[name_y], heads[bisect(heads, y) - 1]
         beside = columns[head]
         instants = {cells[head][at] for at in beside[bisect(beside, x) : bisect_left(beside, x + wide)]}
-        assert wide == back and x + wide < width and path.get("class") == name[0]
+        assert wide == back and x + wide < width and path.get("class").split()[0] == name[0]
         marked = rows.setdefault((name[0], int(name[1])), set())
         assert instants and not instants & marked
         marked |= instants

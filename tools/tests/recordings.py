@@ -27,6 +27,7 @@ emitted  9 pump   #   #   .
 label    3 full   #   #   .
 code              1   1 255
 
+codes: 1 waiting; 255 wrong
 instant 3: wrong, kind 1 (the loop's body ended in the instant in which it began), place 17
 """
 PANEL = """\
@@ -35,6 +36,7 @@ input    4        .   #   #
 emitted  9 pump   #   #   .
 code              1   1 255
 
+codes: 1 waiting; 255 wrong
 instant 3: wrong
 """
 

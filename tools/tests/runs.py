@@ -1,4 +1,6 @@
 """Runs: the picture of text and the drawing of the examples, of random runs and of damaged ones."""
+import re
+
 from tests.common import LABELS, ROOT, examples, expect, expect_damage, folder, listed, rng, run_file, show
 from tests.generate import accepted_sequence, nesting
 from tests.readers import picture_of, picture_of_svg, picture_of_vcd, sets_of
@@ -24,6 +26,7 @@ emitted  1 . #
 label    1 # .
 code       1 0
 
+codes: 1 waiting; 0 ended
 instant 2: ended
 """
 VALVE = bytes.fromhex("0800 0402080708020900 00010001 00000000")  # with 24, which is in no command, the highest of the set
@@ -44,6 +47,7 @@ emitted  8 #
 emitted  9 #
 code       0
 
+codes: 0 ended
 instant 1: ended
 """
 TOPPING_SHOWN = """
@@ -58,6 +62,7 @@ label    1   .   #   .   .
 label    2   #   #   #   .
 code         1   1   1 255
 
+codes: 1 waiting; 255 wrong
 instant 4: wrong, kind 1 (the loop's body ended in the instant in which it began), place 17: loop …
 inputs not used: 1
 """
@@ -74,7 +79,8 @@ def expect_pictures(data, listing, what, names=None):
     status, shown, message = show(data=data, listing=listing, names=names)
     picture = shown[shown.index("\n\n") :] if "\n\n" in shown else ""
     expect(status == 0 and not message and picture_of(picture) == sets, f"{what}: picture: {shown}")
-    expect(all(len(line) <= 100 or ": wrong" in line for line in picture.splitlines()), f"{what}: width: {shown}")
+    told = re.compile(r"instant \d+: |codes: ")
+    expect(all(len(line) <= 100 or told.match(line) for line in picture.splitlines()), f"{what}: width: {shown}")
     for option, reader in ("--svg", picture_of_svg), ("--vcd", picture_of_vcd):
         status, shown, message = show(option, "-", data=data, listing=listing, names=names)
         expect(status == 0 and not message and reader(shown) == sets, f"{what}: {option}: {shown[:2000]}")
@@ -95,7 +101,8 @@ def test_examples():
         expect_pictures(data, listing, name)
         kept = (ROOT / "examples" / name).with_suffix(".svg")  # the picture of a page, where it has one, with its names
         if kept.exists():
-            drawn = show("--svg", "-", data=data, listing=listing, names=kept.with_suffix(".names").read_text("utf-8"))[1]
+            words = "--svg", "-", kept.with_suffix(".bin")
+            drawn = show(*words, listing=listing, names=kept.with_suffix(".names").read_text("utf-8"))[1]
             expect(drawn == kept.read_text("utf-8"), f"{kept.name} is what tools/show draws")
     expect(names == {path.name for path in (ROOT / "examples").glob("*.bin")}, f"every example has a page: {names}")
     expect(show(data=WORKED, listing=WORKED_LISTING) == (0, WORKED_SHOWN, ""), "the worked example of 01")

@@ -4,6 +4,8 @@ What is expected is written by hand, or comes from generate.py: the generator, w
 reader by recursion.
 """
 import re
+from fractions import Fraction
+from math import ceil
 
 from tests.common import ROOT, expand, expect, expect_damage, listed, rng, run_file, show
 from tests.generate import (accepted_sequence, bytes_of, exclusive, label_verdict, lines_of, litres_of, nesting, paths_of,
@@ -27,8 +29,25 @@ def many(count, noun):
     return f"{count:,} {noun}" if count == 1 else f"{count:,} {noun}s"
 
 
+def fit(lines, declared=()):
+    """The sheet below it: what there is of each, and what there may be."""
+    most = (len(lines) + len(declared)) * (nesting(lines, 6) + 1) << nesting(lines) + len(declared)
+    named = {own[1] for _, _, own in lines if own[0] in (2, 7, 8, 11, 12)} | set(declared)
+    sheet = "\ntakes                                     of  share\n"
+    for what, count, limit in [
+        ("bytes", len(bytes_of(lines)), 1024), ("depth", max(line[1] for line in lines), 64), ("signals named", len(named), 32),
+        ("signals inside each other", nesting(lines) + len(declared), 6), ("labels", sum(own[0] == 1 for _, _, own in lines), 128),
+        ("reactions, by the ceiling", most, 65536),
+    ]:
+        sheet += f"{what:25}{count:11,}{limit:8,}{ceil(Fraction(100 * count, limit)):5,} %\n"
+    bays = [bays for bays in range(1, 9) if bays * most <= 65536]
+    if not bays:
+        return sheet + "no box takes such a bay (row 14): its ceiling is above the one that the bays of a box share\n"
+    return sheet + f"a box takes {many(max(bays), 'such bay')}, each with its part of the shared ceiling\n"
+
+
 def table(lines):
-    """All that is shown of a sequence; the bytes have a wider column where some command has litres."""
+    """The table of a sequence; the bytes have a wider column where some command has litres."""
     space = " " * (12 * any(own[0] == 12 for _, _, own in lines))
     rows = (f"{place:5}  {own.hex(' ').upper():5}{space[3 * max(0, len(own) - 2):]}  {'  ' * (depth - 1)}{in_words(own)}\n"
             for place, depth, own in lines)
@@ -59,8 +78,8 @@ def expect_sequence(data, what):
         expect("ceiling" not in shown, f"{what}: no ceiling: {data.hex()}: {answer}")
         return row
     lines = lines_of(data)
-    expect(shown == table(lines), f"{what}: {data.hex()}: {answer}")
     row = label_verdict(lines)
+    expect(shown == table(lines) + ("" if row else fit(lines)), f"{what}: {data.hex()}: {answer}")
     expect(status == (row > 0) and (named(lines, message) == row if row else message == ""), f"{what}: {data.hex()}: {answer}")
     return row
 
@@ -92,7 +111,7 @@ def test_sequences():
     for number in range(SEQUENCES):
         data, lines = accepted_sequence()
         answer = show("--sequence", data=data)
-        expect(answer == (0, table(lines), ""), f"sequence {number}: {data.hex()}: {answer}")
+        expect(answer == (0, table(lines) + fit(lines), ""), f"sequence {number}: {data.hex()}: {answer}")
         expect(bytes_of(lines) == data == bytes_shown(answer[1]), f"bytes of sequence {number}")
 
 
@@ -177,4 +196,8 @@ def test_ceilings():
         status, shown, _ = answer = show(data=run_file(data, (), read_back), listing=listed())
         expect(status == 0 and line in shown and shown.count("ceiling") == 1, f"the ceiling of {text}: {answer}")
         answer = show("--sequence", data=data)
-        expect(read_back or answer[0] == 0 and answer[1].endswith(line), f"the ceiling of {text}, alone: {answer}")
+        expect(read_back or answer[0] == 0 and line in answer[1], f"the ceiling of {text}, alone: {answer}")
+        lines, members = lines_of(data), [signal for signal in range(32) if read_back >> signal & 1]
+        words = ["--read-back", ", ".join(map(str, members)) or "-"]
+        answer = show("--sequence", *words, data=data)
+        expect(answer[0] == 0 and answer[1].endswith(fit(lines, members)) and line in answer[1], f"the fit of {text}: {answer}")
