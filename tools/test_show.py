@@ -7,9 +7,9 @@ import sys
 
 sys.dont_write_bytecode = True
 
-from tests import calls, common, drawings, papers, recordings, runfiles, runs, sequences, unrolled
+from tests import browser, calls, common, drawings, hostile, papers, reactions, recordings, runfiles, runs, sequences, unrolled
 
-SUBJECTS = sequences, runs, papers, drawings, recordings, runfiles, unrolled, calls
+SUBJECTS = sequences, runs, papers, reactions, drawings, recordings, runfiles, unrolled, browser, calls, hostile
 
 
 def main():

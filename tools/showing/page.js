@@ -11,6 +11,10 @@
     return made;
   }
 
+  function inShort(places) {
+    return (places.length < 4 ? places : places.slice(0, 2).concat("… " + places[places.length - 1])).join(", ");
+  }
+
   function fill(table, lines) {
     var body = document.querySelector("#" + table + " tbody");
     body.textContent = "";
@@ -22,7 +26,9 @@
         words.append(element("span", line[3], /^[0-9]+$/.test(line[3]) ? "mark" : "mark " + line[3]), " ");
       }
       words.append(line[4]);
-      row.append(element("td", line[0], "place"), element("td", line[1], "own"), words);
+      var place = element("td", inShort(line[0]), "place");
+      place.title = line[0].join(" ");
+      row.append(place, element("td", line[1], "own"), words);
       body.append(row);
     });
   }

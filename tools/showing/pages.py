@@ -14,7 +14,7 @@ from showing.reactions import has_jumps, share_of, steps_of
 from showing.sequences import READ_BACK_PLACE, ceiling_line, ceiling_of, members_of
 from showing.svg import runs_of
 from showing.terms import expanded, struck_out, term_of
-from showing.trees import lines_of
+from showing.trees import lines_of, struck_lines
 
 MAX_INSTANTS = 4096  # of a page: more are not looked at one by one
 CELL, WIDE, ROW, AFTER = 26, 60, 20, 150  # of the picture; the word of the last code stands beyond its column
@@ -40,11 +40,14 @@ def inner(term):
 
 
 def line_data(line):
-    """A line for the script: its places, those of a long chain not all, bytes, depth, mark, words, and whether rewriting made it."""
-    places = [str(place) for place in line.places]
-    short = ", ".join(places if len(places) < 4 else [*places[:2], f"… {places[-1]}"])
+    """A line for the script: its places, bytes, depth, mark, words, and whether rewriting made it."""
     words = line.words + (f", as it is written from {line.places[0]} to {line.last}" if line.last is not None else "")
-    return [short, line.own.hex(" ").upper(), line.depth, line.mark, words, int(not line.own)]
+    return [line.places, line.own.hex(" ").upper(), line.depth, line.mark, words, int(not line.own)]
+
+
+def in_short(places):
+    """The places of a line, those of a long chain not all; the script has the same."""
+    return ", ".join(map(str, places if len(places) < 4 else [*places[:2], f"… {places[-1]}"]))
 
 
 class Rests:
@@ -68,8 +71,7 @@ class Rests:
             term, reaction = term.parts[0], reaction.premises[0]
         struck = []
         for depth, gone, whole in struck_out(term, reaction, 1):
-            lines = [line for line in lines_of(gone, self.names, not whole, depth) if line.own]
-            struck += lines if whole else lines[:1] * (not gone.made)
+            struck += struck_lines(gone, self.names, depth, whole)
         return self.index_of(struck, lines_of(reaction.residual, self.names, False))
 
     def of_labels(self, whole, labels):
@@ -156,8 +158,8 @@ def table_of(lines):
     for line in lines:
         places, own, depth, mark, words, _ = line_data(line)
         label = f' data-label="{line.label}"' if line.label is not None else ""
-        each = " ".join(map(str, line.places))
-        rows.append(f'<tr data-places="{each}"{label}><td class="place">{places}</td><td class="own">{own}</td>'
+        each = " ".join(map(str, places))
+        rows.append(f'<tr data-places="{each}"{label}><td class="place" title="{each}">{in_short(places)}</td><td class="own">{own}</td>'
                     f'<td class="words" style="--depth:{depth - 1}">{mark_of(mark)}{escape(words)}</td></tr>')
     return "".join(rows)
 

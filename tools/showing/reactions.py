@@ -62,12 +62,11 @@ def share_of(count, most):
 
 def table_of(rows, most, names, out):
     """Adds a line for each instant: number, inputs, emitted set, code, reactions."""
-    share = [f"  {'of the ceiling':14}"] * (most is not None)
-    out += ["", "".join(["instant  reactions", *share, "  code; input; emitted"])]
+    out += ["", f"instant  reactions{'' if most is None else '  of the ceiling'}  code; input; emitted"]
     for number, count, code, given, emitted in rows:
-        part = [f"  {share_of(count, most):>14}"] * (most is not None)
+        share = "" if most is None else f"  {share_of(count, most):>14}"
         sets = [names.all_of("signal", members_of(members)) or "none" for members in (given, emitted)]
-        out.append("".join([f"{number:7}  {count:9,}", *part, f"  {code_in_words(code)}; {sets[0]}; {sets[1]}"]))
+        out.append(f"{number:7}  {count:9,}{share}  {code_in_words(code)}; {sets[0]}; {sets[1]}")
     if rows:
         number, count = max(((number, count) for number, count, *_ in rows), key=lambda pair: pair[1])
         known = f" of at most {most:,}, {share_of(count, most)}" if most is not None else ""

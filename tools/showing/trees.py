@@ -18,11 +18,11 @@ WORDS = {SEQUENCE: "in sequence", PARALLEL: "in parallel", LOOP: "loop", PRESENT
 
 
 def words_of(term, tries, names):
-    """A command without its parts."""
+    """A command without its parts; an exit alone, outside of the tries that it would leave, has None for them."""
     kind = SUSPEND if term.kind == HELD else term.kind
     operands = [counted(litres_in(term.own), "litre") if operand == "litres" else names.of(operand, term.operand)
                 for operand in COMMANDS[kind][1]]
-    if kind == EXIT:
+    if kind == EXIT and tries is not None:
         left = f"leaves the try at {tries[-term.operand]}" if term.operand <= len(tries) else "no try is left: the sequence is over"
         return f"exit {term.operand}: {left}"
     return WORDS.get(term.kind, COMMANDS[kind][0]).format(*operands)
@@ -45,14 +45,26 @@ def chain_of(term, whole):
     return commands, steps
 
 
+def line_of(term, names, depth, mark, tries, places, last):
+    label = term.operand if term.kind == PAUSE else None
+    return Line(places, b"" if term.made else term.own, depth, mark, words_of(term, tries, names), label, last)
+
+
+def struck_lines(term, names, depth, whole):
+    """Yields the lines of what is struck out, each command of the sequence by itself: alone, or with its parts where all are gone."""
+    if not term.made:
+        yield line_of(term, names, depth, "", None, [term.place], term.last if whole and is_folded(term, False) else None)
+    if whole and not is_folded(term, False):
+        for part in term.parts:
+            yield from struck_lines(part, names, depth + 1, True)
+
+
 def lines_of(term, names, whole, depth=1, mark="", tries=()):
     """Yields the lines of a statement; whole folds none that is as in the sequence."""
     folded, chained = is_folded(term, whole), term.kind in (SEQUENCE, PARALLEL)
     commands, parts = ([term], list(term.parts)) if folded or not chained else chain_of(term, whole)
     places = sorted({command.place for command in commands})
-    own = b"" if term.made else term.own
-    label = term.operand if term.kind == PAUSE else None
-    yield Line(places, own, depth, mark, words_of(term, tries, names), label, term.last if folded else None)
+    yield line_of(term, names, depth, mark, tries, places, term.last if folded else None)
     if folded:
         return
     inside = (*tries, term.place) if term.kind == TRY else tries
