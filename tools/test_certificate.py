@@ -11,93 +11,12 @@ import sys
 import tempfile
 from pathlib import Path
 
+sys.dont_write_bytecode = True
+
+from tests.gatelog import ARCHIVE, DAMAGED, FILES, LINES, LOG, LOGIC, PAPER, PAPER_SUM, SAID
+
 ROOT = Path(__file__).resolve().parent.parent
 TOOL = "tools/certificate"
-LOGIC = "097e4c862dff5811cb517e93ee40dbb7b9ec09c45f3cec10c76acff7b0827ba9"
-SAID = "native=nat,char,string logic-built=trusted libraries-built=trusted"
-FILES = {
-    "crates.txt": "# a comment: with a colon\nesterel:\nnumbers: esterel\nrun: io libc numbers\n",
-    "include/intake.h": "/* a header */\n",
-    "Makefile": "host-rust: archive # compares the archive with the check\nshow-test: # tests tools/show\n",
-    ".gitignore": "target/\n",
-}
-ARCHIVE = b"!<arch>\nnot a real one"
-LOG = f"""\
-gate: began {{commit}} clean
-gate: kit rattle-kit-5b-plain logic 097e4c862dff5811
-gate: test rt
-note: no function with a body is declared, so nothing was lowered
-logic /opt/rattle/logic/antt-project.json: libraries=16 files=1371 sum={LOGIC}
-library std: modules loaded=0 checked=0
-logic=proved functions=0 sum=097e4c862dff5811 {SAID}
-rt: esterel proved (1 s)
-fn numbers::at_most_8: proved
-logic /opt/rattle/logic/antt-project.json: libraries=16 files=1371 sum={LOGIC}
-logic=proved functions=5 sum=097e4c862dff5811 {SAID}
-rt: numbers proved (4 s)
-fn run::main: proved
-logic /opt/rattle/logic/antt-project.json: libraries=16 files=1371 sum={LOGIC}
-axioms libc: libc::read, libc::write (2 of the 50 declared)
-logic=proved functions=3 axioms=2 target=x86_64-unknown-linux-gnu sum=097e4c862dff5811 {SAID}
-rt: run proved (12 s)
-rt: must-fail esterel/last_error: refused, as it must be (first at proofs/Errors.antt:12:3; 7 s)
-rt: must-fail esterel/other_run_first: refused, as it must be (9 s)
-rt: must-fail numbers/other_base: refused, as it must be (first at proofs/Reading.antt:1:3; 4 s)
-rt: run ran as nobody, and wrote what its file 'stdout' has (0 s)
-rt: ok, 3 crates proved, 3 must-fail edits refused
-6 passed, 0 failed
-gate: test show-test
-40 passed, 0 failed
-gate: test host-rust
-logic=proved functions=2 target=x86_64-unknown-linux-gnu sum=097e4c862dff5811 {SAID}
-rt: target/staticlib/libintake.a has the functions of intake that are marked #[no_mangle] pub extern "C"
-3 passed, 0 failed
-1200 passed, 0 failed
-gate: sha256 {{archive}}  target/staticlib/libintake.a
-gate: sha256 {{header}}  include/intake.h
-gate: ended {{commit}} clean 2026-11-16
-1246 passed, 0 failed
-"""
-LINES = """\
-| toolchain (`rt version`) | `rattle-kit-5b-plain logic 097e4c862dff5811` |
-| date of the run | 2026-11-16 |
-| functions proved | 8 in 3 crates |
-| axioms that the archive rests on | 0 |
-| programs that rest on axioms | run |
-| must-fail edits refused | 3 |
-| comparisons of the tests | 1,240 |
-| last line of the gate | `1246 passed, 0 failed` |
-| esterel | 0 | none of its own | 2 |
-| numbers | 5 | none of its own | 1 |
-| run | 3 | 2: libc::read, libc::write | 0 |
-| `rt` | crates proved from nothing, and must-fail edits refused | 6 |
-| `host-rust` | compares the archive with the check | 1,200 |
-""".splitlines()
-DAMAGED = [  # what is put in the place of what, and a word that the refusal must have
-    ("gate: began {commit}", "gate: began " + "0" * 40, "is of commit"),
-    ("gate: began {commit} clean", "gate: began {commit} changed", "was not"),
-    ("gate: ended {commit} clean", "gate: ended {commit} changed", "was not"),
-    ("1246 passed, 0 failed", "1245 passed, 1 failed", "the gate failed"),
-    ("1246 passed, 0 failed\n", "", "not a whole log"),
-    ("1246 passed, 0 failed", "1247 passed, 0 failed", "not the sum"),
-    ("1200 passed, 0 failed", "1199 passed, 1 failed", "host-rust has failed"),
-    ("40 passed, 0 failed", "0 passed, 0 failed", "show-test has failed"),
-    ("gate: kit", "kit", "not a whole log"),
-    ("gate: test rt\n", "", "not a whole log"),
-    ("rt: must-fail numbers/other_base: refused", "rt: must-fail numbers/other_base: NOT REFUSED", "as many as rt counted"),
-    ("rt: must-fail numbers/", "rt: must-fail another/", "not proved"),
-    ("rt: numbers proved (4 s)\n", "", "not proved"),
-    ("rt: esterel proved (1 s)", "rt: extra proved (1 s)", "not proved"),
-    ("logic=proved functions=5", "logic=not-proved functions=5", "no verdict of numbers"),
-    (f"files=1371 sum={LOGIC}\nlibrary", "files=1371 sum=" + "0" * 64 + "\nlibrary", "more than one sum of the logic"),
-    ("functions=5 sum=097e4c862dff5811 native=nat", "functions=5 sum=097e4c862dff5811 native=", "more than one list"),
-    ("functions=5 sum", "functions=5 foreign=getpid sum", "numbers declares functions of C"),
-    ("rt: target/staticlib/libintake.a has", "rt: another has", "no verdict of the archive"),
-    ("{archive}  target", "0" * 64 + "  target", "not the file of that run"),
-    ("{header}  include", "0" * 64 + "  include", "not the file of that run"),
-    ("gate: sha256 {header}  include/intake.h\n", "", "lacks the sum"),
-]
-
 passed = failed = 0
 
 
@@ -117,8 +36,9 @@ class Repository:
         for name, text in FILES.items():
             self.write(name, text)
         (self.root / "tools").mkdir()
-        (self.root / "docs").mkdir()
         shutil.copy(ROOT / TOOL, self.root / TOOL)
+        for package in "certifying", "showing":
+            shutil.copytree(ROOT / "tools" / package, self.root / "tools" / package)
         self.write("target/staticlib/libintake.a", ARCHIVE)
         self.git("init", "-q")
         self.commit()
@@ -154,7 +74,7 @@ class Repository:
     def refused(self, word, what, *words):
         status, said, page = self.run(*words)
         expect(status == 1 and page is None and said.startswith("no certificate: ") and word in said
-               and "Traceback" not in said, f"{what}: {status} {said}")
+               and said.count("\n") == 1 and "Traceback" not in said, f"{what}: {status} {said}")
 
 
 def whole(repository):
@@ -164,14 +84,15 @@ def whole(repository):
     expect(status == 0 and page is not None, f"a whole log: {said}")
     page = page or ""
     for line in LINES + [f"| commit | `{repository.head}` |", f"git checkout {repository.head}", f"| sum of the logic | `{LOGIC}` |",
-                         f"| words of every verdict | `{SAID}` |", hashlib.sha256(ARCHIVE).hexdigest()]:
+                         f"| words of every verdict | `{SAID}` |", hashlib.sha256(ARCHIVE).hexdigest(),
+                         f"| 01 | The scope, a title | `{PAPER_SUM}` | here |", f"| 02 | Changes | `{'a' * 64}` | not here |",
+                         f"`{hashlib.sha256((repository.root / 'target/gate.log').read_bytes()).hexdigest()}` |"]:
         expect(line in page, f"the page has no line {line}")
     repository.write("docs/CERTIFICATE.md", "an older page")
     expect(repository.run()[2] == page, "an older page is no change, and the same log gives the same page")
 
 
 def of_other_files(repository):
-    repository.refused("usage", "a word too many", "more")
     repository.write("include/other.h", "")
     repository.refused("not committed", "a file more")
     (repository.root / "include/other.h").unlink()
@@ -190,7 +111,76 @@ def of_other_files(repository):
     repository.commit()
 
 
+def asked(repository, *words, into=subprocess.PIPE):
+    """Status, standard output and standard error of a question to the tool."""
+    done = subprocess.run([sys.executable, repository.root / TOOL, *words], stdout=into, stderr=subprocess.PIPE, text=True, check=False)
+    return done.returncode, done.stdout, done.stderr
+
+
+def changes(repository):
+    """What has changed since the certified commit, committed or not."""
+    repository.log(LOG)
+    status, _, page = repository.run()
+    expect(status == 0, "a certificate to compare with")
+    repository.write("docs/CERTIFICATE.md", page or "")
+    expect(asked(repository, "--changed")[:2] == (0, f"certified: {repository.head}\nhere:      {repository.head}\npages: 1 changed\n"
+                                                     "  docs/CERTIFICATE.md\npages only\n"), f"{asked(repository, '--changed')}")
+    certified = repository.head
+    repository.write("README.md", "a page")
+    repository.commit()
+    status, shown, said = asked(repository, "--changed")
+    expect(status == 0 and shown.endswith("\npages: 2 changed\n  README.md\n  docs/CERTIFICATE.md\npages only\n") and not said, shown)
+    expect(shown.startswith(f"certified: {certified}\nhere:      {repository.head}\n"), shown)
+    for path, kind in ("crates/a/src/ä.rt", "definitions, proofs and code"), ("tools/x", "what shows and measures"), ("host/a.c", "tests and how they are run"):
+        repository.write(path, "")
+        status, shown, _ = asked(repository, "--changed")
+        expect(status == 1 and f"\n{kind}: 1 changed\n  {path}\n" in shown and shown.endswith("is not of this tree\n"), f"{path}: {shown}")
+        (repository.root / path).unlink()
+    for page, word in (None, "there is no docs/CERTIFICATE.md"), ("none", "names no commit"), (f"| commit | `{'0' * 40}` |\n", "git diff: "):
+        (repository.root / "docs/CERTIFICATE.md").unlink(missing_ok=True)
+        if page:
+            repository.write("docs/CERTIFICATE.md", page)
+        status, shown, said = asked(repository, "--changed")
+        expect(status == 1 and shown == "" and word in said and said.count("\n") == 1, f"{page}: {said}")
+    (repository.root / "docs/CERTIFICATE.md").unlink()
+    repository.commit()
+
+
+def papers(repository):
+    """Papers that are here, that differ and that are not, and a damaged list of them."""
+    with tempfile.TemporaryDirectory() as folder:
+        (Path(folder) / "01-scope.md").write_bytes(PAPER)
+        told = "01 here: The scope, a title\n02 not here: Changes\n"
+        expect(asked(repository, "--papers", folder) == (0, told, ""), f"papers: {asked(repository, '--papers', folder)}")
+        (Path(folder) / "01-scope.md").write_bytes(PAPER + b".")
+        status, shown, _ = asked(repository, "--papers", folder)
+        expect(status == 1 and shown == told.replace("01 here", "01 differs"), f"a paper that differs: {shown}")
+    status, shown, _ = asked(repository, "--surroundings")
+    expect(status == 0 and shown.startswith("interface 2.14.3\ncompiler ") and f"\npaper 01 {PAPER_SUM} not here\n" in shown, shown)
+    for text in "", "01\n", f"01 {PAPER_SUM} a b\n01 {PAPER_SUM} a b\n", "\xff\xfe":
+        repository.write("docs/papers.txt", text)
+        for word in "--surroundings", "--papers=.":
+            status, shown, said = asked(repository, word)
+            expect(status == 1 and shown == "" and said.startswith("certificate: docs/papers.txt") and said.count("\n") == 1, f"{text!r}: {said}")
+    repository.write("docs/papers.txt", FILES["docs/papers.txt"])
+    with open("/dev/full", "wb") as full:
+        status, _, said = asked(repository, "--surroundings", into=full)
+    expect(status == 1 and said == "certificate: standard output: No space left on device\n", f"no room: {said}")
+    expect(asked(repository, "--papers", "/none")[0] == 1 and asked(repository, "more")[0] == 2, "no folder, and a word too many")
+
+
+def law():
+    """The papers of this repository: those that lie beside it, where they do, have the sums of docs/papers.txt."""
+    for folder in ROOT / "../shared/papers", ROOT / "../../shared/papers":
+        if folder.is_dir():
+            done = subprocess.run([ROOT / TOOL, "--papers", folder], capture_output=True, text=True, check=False)
+            expect(done.returncode == 0 and done.stdout.count(" here: ") == 4 and " not here" not in done.stdout, f"the papers: {done.stdout}")
+            return
+    print("the papers do not lie beside this repository, and were not compared")
+
+
 def main():
+    law()
     with tempfile.TemporaryDirectory() as folder:
         repository = Repository(folder)
         whole(repository)
@@ -200,13 +190,23 @@ def main():
             repository.refused(word, f"{old} made {new}")
         repository.log(LOG)
         of_other_files(repository)
-        rng = random.Random(1)
+        rng, filled = random.Random(1), (repository.root / "target/gate.log").read_text("utf-8")
         for _ in range(10):
             cut = rng.randrange(len(LOG) - 1)
             repository.log(LOG[:cut])
             repository.refused("", f"cut to {cut} characters")
         repository.write("target/gate.log", bytes(rng.randrange(256) for _ in range(2000)))
         repository.refused("not a whole log", "random bytes")
+        for number in range(40):
+            data = bytearray(filled.encode())
+            for _ in range(rng.choice([1, 5, 50])):
+                data[rng.randrange(len(data))] = rng.randrange(256)
+            repository.write("target/gate.log", bytes(data))
+            status, said, _ = repository.run()
+            expect(status == 0 and said == "" or status == 1 and said.startswith("no certificate: ") and said.count("\n") == 1,
+                   f"a damaged log {number}: {said}")
+        changes(repository)
+        papers(repository)
         repository.log(LOG)
         expect(repository.run()[0] == 0, "a whole log at the end")
     print(f"{passed} passed, {failed} failed")
