@@ -1,6 +1,6 @@
 # INTAKE_ARCHIVE, RUN_PROGRAM, UNROLL_PROGRAM and REPLAY_PROGRAM name another archive or program to test or time than the proved one, from
-# the root of the repository. BAY names the run file of `make run`, `make show`, `make paper` and `make unroll`, NAMES a file of names for
-# the last three.
+# the root of the repository. BAY names the run file of `make run`, `make show`, `make paper`, `make page` and `make unroll`, NAMES a file of
+# names for the last four.
 INTAKE_ARCHIVE ?= target/staticlib/libintake.a
 RUN_PROGRAM ?= target/bin/run
 UNROLL_PROGRAM ?= target/bin/unroll
@@ -27,12 +27,12 @@ INSTALLED_EXAMPLES = host/example.c host/example_box.c examples/clean.bin exampl
 VERSION = $(shell sed -n 's/^\#define INTAKE_VERSION_[A-Z]* \([0-9]*\)$$/\1/p' include/intake.h | paste -sd .)
 
 HOST_TESTS = host-rust host-c host-tick-rust host-tick-c host-box-rust host-box-c host-unroll-rust host-unroll-c host-replay-rust \
-	host-replay-c host-store host-power host-example host-example-box host-replay-program host-stack host-archive \
+	host-replay-c host-reactions host-store host-power host-example host-example-box host-replay-program host-stack host-archive \
 	host-freestanding host-header host-install host-again figures
 
 # The two programs are built anew for whatever archive is named.
-.PHONY: help run show paper unroll replay vectors-diff test lib install uninstall clean certificate host $(HOST_TESTS) host-plain show-test \
-	format-test certificate-test bench bench-check bench-tick bench-box bench-unroll bench-replay bench-run target/host/stack \
+.PHONY: help run show paper page unroll replay vectors-diff test lib install uninstall clean certificate host $(HOST_TESTS) host-plain \
+	show-test format-test certificate-test demands-test bench bench-check bench-tick bench-box bench-unroll bench-replay bench-run target/host/stack \
 	target/host/dearest
 
 help: # lists the targets
@@ -46,6 +46,11 @@ show: $(RUN_PROGRAM) # shows the commands and the run of a shipped example; BAY 
 
 paper: $(RUN_PROGRAM) # shows that run on paper, by rewriting, and compares it with the listing; BAY as above
 	@$(RUN_PROGRAM) < '$(BAY)' | tools/show --paper $(NAMED) --listing - '$(BAY)'
+
+page: $(RUN_PROGRAM) # writes the bay of a shipped example to target/page as one page for a browser; BAY as above
+	@mkdir -p target/page
+	@$(RUN_PROGRAM) < '$(BAY)' | tools/show $(NAMED) --html 'target/page/$(notdir $(BAY)).html' --listing - '$(BAY)'
+	@echo 'target/page/$(notdir $(BAY)).html'
 
 unroll: $(UNROLL_PROGRAM) # shows the commands of a shipped example, and those with its loops written out beside them; BAY as above
 	@$(UNROLL_PROGRAM) < '$(BAY)' | tools/show $(NAMED) --unrolled - '$(BAY)'
@@ -120,6 +125,11 @@ host-replay-c: $(INTAKE_ARCHIVE) # runs replays through include/intake.h under s
 	@mkdir -p target/host
 	$(SANITIZED) -Iinclude host/replay.c $(INTAKE_ARCHIVE) -o target/host/replay && target/host/replay host/examples.txt
 
+host-reactions: $(INTAKE_ARCHIVE) # holds the reactions and ceilings that tools/show prints to the archive's
+	@mkdir -p target/host
+	$(SANITIZED) -Iinclude host/reactions.c $(INTAKE_ARCHIVE) -o target/host/reactions
+	host/reactions_test.py target/host/reactions
+
 host-example: $(INTAKE_ARCHIVE) $(RUN_PROGRAM) # compares the example host with the run program
 	@mkdir -p target/host
 	$(WARNED) -O2 -Iinclude host/example.c $(INTAKE_ARCHIVE) -o target/host/example
@@ -188,6 +198,9 @@ host-plain: target/plain/libintake.a # runs the host tests against plain C, with
 show-test: # tests tools/show and tools/runfile
 	tools/test_show.py
 
+demands-test: # holds the names of the rows of docs/DEMANDS.md, and what cites them, together
+	tools/test_demands.py
+
 format-test: # holds the tables of docs/FORMAT.md, and what CONTRIBUTING.md quotes, to what they repeat
 	tools/test_format.py
 
@@ -227,7 +240,7 @@ bench-run: $(RUN_PROGRAM) # times the run program on its greatest input, for som
 	@tail -n 2 target/bench/greatest.txt
 
 target/staticlib/libintake.a: $(SOURCES)
-	rt staticlib intake
+	@tools/progress rt staticlib intake
 
 # In this folder the pkg-config file finds the others beside itself, wherever the folder goes.
 target/lib/SHA256SUMS: target/staticlib/libintake.a include/intake.h include/intake_store.h include/intake.pc.in Makefile
@@ -250,5 +263,5 @@ target/plain/libintake.a: $(foreach part, $(PLAIN_PARTS), bench/$(part).c bench/
 
 # A crate that is proved already is not built again, so the program may keep its time.
 target/bin/run target/bin/unroll target/bin/replay: target/bin/%: $(SOURCES)
-	rt check $*
+	@tools/progress rt check $*
 	@touch -c $@

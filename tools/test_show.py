@@ -7,9 +7,9 @@ import sys
 
 sys.dont_write_bytecode = True
 
-from tests import browser, calls, common, drawings, hostile, papers, reactions, recordings, runfiles, runs, sequences, unrolled
+from tests import browser, calls, common, drawings, hostile, papers, progress, reactions, recordings, runfiles, runs, sequences, unrolled
 
-SUBJECTS = sequences, runs, papers, reactions, drawings, recordings, runfiles, unrolled, browser, calls, hostile
+SUBJECTS = sequences, runs, papers, reactions, drawings, recordings, runfiles, unrolled, browser, calls, hostile, progress
 
 
 def main():

@@ -174,6 +174,10 @@ def test_ceilings():
     """By hand: loops and signals inside each other and beside, read-back signals, and the bytes of docs/CEILING.md."""
     page = (ROOT / "docs" / "CEILING.md").read_text(encoding="utf-8")
     dearest = re.search(r"```text\n(08 00 [0-9A-F \n]*)```", page)[1]
+    intake = (ROOT / "examples" / "intake.bin").read_bytes()
+    sheet = re.search(r"```text\n(takes .*?)```", page, re.S)[1]
+    answer = show("--sequence", data=intake[2 : 2 + intake[0]])
+    expect(answer[0] == 0 and answer[1].endswith("\n\n" + sheet), f"the sheet of docs/CEILING.md: {answer}")
     for text, read_back, factors, rest in [
         ("00", 0, "1 × 1 × 1 = 1", "1 command; around one: 0 loops, 0 signals"),
         ("06 01 00", 0, "2 × 2 × 1 = 4", "2 commands; around one: 1 loop, 0 signals"),
