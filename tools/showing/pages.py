@@ -17,7 +17,7 @@ from showing.terms import expanded, struck_out, term_of
 from showing.trees import lines_of, struck_lines
 
 MAX_INSTANTS = 4096  # of a page: more are not looked at one by one
-CELL, WIDE, ROW, AFTER = 26, 60, 20, 150  # of the picture; the word of the last code stands beyond its column
+CELL, ROW, AFTER = 26, 20, 150  # of the picture; the word of the last code stands beyond its column
 POLICY = "default-src 'none'; style-src 'unsafe-inline'; script-src 'unsafe-inline'"  # the page itself asks for nothing
 LEGEND = {"input": "input, given by the host", "ignored": "input that is ignored, since the signal is read back",
           "emitted": "emitted by the sequence", "label": "label at which the bay then waits"}
@@ -102,8 +102,8 @@ def instants_of(steps, inputs, instants, commands, read_back, names, rests):
 
 
 def cell_of(codes):
-    """How wide a column is: in a short run wide enough for a code in words."""
-    return WIDE if len(codes) < 10 else CELL
+    """How wide a column is: in a short run wide enough for a code in words, in a long one for the number of an instant."""
+    return 60 if len(codes) < 10 else CELL if len(codes) < 1000 else 36
 
 
 def picture_of(rows, codes, read_back, names):

@@ -15,7 +15,7 @@ from tests.papers import instants_on
 from tests.runs import VALVE, VALVE_LISTING
 
 BROWSER = shutil.which("chromium") or shutil.which("chromium-browser")
-LOOKED_AT = "intake.bin", "valve.bin", "grading.bin", "overflow.bin", "tour.bin", "hatch.bin"
+LOOKED_AT = "intake.bin", "valve.bin", "grading.bin", "overflow.bin", "hatch.bin"
 HOSTILE = "</script><script>document.title='broken'</script><img src=x onerror=alert(1)>\"'&amp;\u2028"
 STEPS = """
 <script>

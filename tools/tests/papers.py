@@ -6,7 +6,7 @@ from tests.common import ROOT, examples, expand as bytes_of_text, expect, expect
 from tests.generate import accepted_sequence, bytes_of, lines_of, waiting_sequence, without_setpauses
 from tests.machine import deliveries, expand, run, table_of, tree_of
 
-PAPERS = 300
+PAPERS = 200
 HEAD = re.compile(r"^place  (bytes *)  command$", re.M)
 
 

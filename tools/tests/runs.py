@@ -6,7 +6,7 @@ from tests.generate import accepted_sequence, nesting
 from tests.readers import picture_of, picture_of_svg, picture_of_vcd, sets_of
 from tests.sequences import bytes_shown, damage
 
-RUNS, GARBAGE = 60, 200
+RUNS, GARBAGE = 50, 120
 
 WORKED = bytes.fromhex("0a00 08000402000401010201 00000000 0000000000000000")
 WORKED_LISTING = listed((1, 0, 2), (0, 2, 0))

@@ -11,7 +11,7 @@ from tests.common import ROOT, expand, expect, expect_damage, listed, rng, run_f
 from tests.generate import (accepted_sequence, bytes_of, exclusive, label_verdict, lines_of, litres_of, nesting, paths_of,
                             relabelled, sequence, verdict)
 
-SEQUENCES, DAMAGED, GARBAGE = 150, 400, 150
+SEQUENCES, DAMAGED, GARBAGE = 120, 300, 100
 WORDS = {0: "nothing", 1: "pause, label {}", 2: "emit {}", 3: "exit {}", 4: "…; then …", 5: "… in parallel with …",
          6: "loop …", 7: "present {} then … else …", 8: "signal {} in …", 9: "try …", 10: "setpause {}",
          11: "suspend … when {}", 12: "emit {} with {}"}
