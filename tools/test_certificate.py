@@ -1,5 +1,5 @@
 #!/usr/bin/env python3
-"""Tests tools/certificate on a small repository with a log in the gate's form, whole and damaged.
+"""Tests tools/certificate on a small repository with a log in the gate's form, whole and damaged (U1.9, U1.12 to U1.14).
 
 The prover's lines are as rt prints them; what the page must say is written by hand. The last line is 'N passed, M failed'.
 """
@@ -131,12 +131,14 @@ def changes(repository):
     status, shown, said = asked(repository, "--changed")
     expect(status == 0 and shown.endswith("\npages: 2 changed\n  README.md\n  docs/CERTIFICATE.md\npages only\n") and not said, shown)
     expect(shown.startswith(f"certified: {certified}\nhere:      {repository.head}\n"), shown)
-    for path, kind in ("crates/a/src/ä.rt", "definitions, proofs and code"), ("tools/x", "what shows and measures"), ("host/a.c", "tests and how they are run"):
+    for path, kind in [("crates/a/src/ä.rt", "definitions, proofs and code"), ("tools/x", "what shows and measures"),
+                       ("host/a.c", "tests and how they are run")]:
         repository.write(path, "")
         status, shown, _ = asked(repository, "--changed")
         expect(status == 1 and f"\n{kind}: 1 changed\n  {path}\n" in shown and shown.endswith("is not of this tree\n"), f"{path}: {shown}")
         (repository.root / path).unlink()
-    for page, word in (None, "there is no docs/CERTIFICATE.md"), ("none", "names no commit"), (f"| commit | `{'0' * 40}` |\n", "git diff: "):
+    for page, word in [(None, "there is no docs/CERTIFICATE.md"), ("none", "names no commit"),
+                       (f"| commit | `{'0' * 40}` |\n", "git diff: ")]:
         (repository.root / "docs/CERTIFICATE.md").unlink(missing_ok=True)
         if page:
             repository.write("docs/CERTIFICATE.md", page)
@@ -161,7 +163,8 @@ def papers(repository):
         repository.write("docs/papers.txt", text)
         for word in "--surroundings", "--papers=.":
             status, shown, said = asked(repository, word)
-            expect(status == 1 and shown == "" and said.startswith("certificate: docs/papers.txt") and said.count("\n") == 1, f"{text!r}: {said}")
+            told = said.startswith("certificate: docs/papers.txt") and said.count("\n") == 1
+            expect(status == 1 and shown == "" and told, f"{text!r}: {said}")
     repository.write("docs/papers.txt", FILES["docs/papers.txt"])
     with open("/dev/full", "wb") as full:
         status, _, said = asked(repository, "--surroundings", into=full)
@@ -174,7 +177,8 @@ def law():
     for folder in ROOT / "../shared/papers", ROOT / "../../shared/papers":
         if folder.is_dir():
             done = subprocess.run([ROOT / TOOL, "--papers", folder], capture_output=True, text=True, check=False)
-            expect(done.returncode == 0 and done.stdout.count(" here: ") == 4 and " not here" not in done.stdout, f"the papers: {done.stdout}")
+            here = done.stdout.count(" here: ") == 4 and " not here" not in done.stdout
+            expect(done.returncode == 0 and here, f"the papers: {done.stdout}")
             return
     print("the papers do not lie beside this repository, and were not compared")
 

@@ -113,7 +113,8 @@ def changelog(text, header, notes):
     own = tuple(map(int, re.findall(r"^#define INTAKE_VERSION_[A-Z]+ (\d+)$", header, re.M)))
     if versions[:1] != [own] or versions != sorted(set(versions), reverse=True):
         yield f"the versions {versions}, and the header's {own}"
-    landings = [int(found) for pair in re.findall(r"^## .*?landing (\d+)|^## Landing (\d+)|^\| \[(\d+)\]", text, re.M) for found in pair if found]
+    told = re.findall(r"^## .*?landing (\d+)|^## Landing (\d+)|^\| \[(\d+)\]", text, re.M)
+    landings = [int(found) for kinds in told for found in kinds if found]
     if landings != sorted(set(landings), reverse=True) or set(landings) != set(notes):
         yield f"the landings {landings}, and the notes {notes}"
     yield from (f"CHANGELOG.md: the link to {link}" for link in re.findall(r"\]\(([^)#:]+)\)", text) if not (ROOT / link).exists())
@@ -142,7 +143,8 @@ def changed(texts):
             found = re.match(rf"\| ({NAME}) \|", line)
             if not found:
                 continue
-            others = [line.replace(found[1], found[1] + "1", 1), line.replace(found[1], found[1].lower(), 1), line.replace(f" {found[1]} |", "", 1), line * 2]
+            others = [line.replace(found[1], found[1] + "1", 1), line.replace(found[1], found[1].lower(), 1),
+                      line.replace(f" {found[1]} |", "", 1), line * 2]
             for other in others if at % 7 == 0 else others[:1]:
                 yield {**texts, path: "".join([*lines[:at], other, *lines[at + 1 :]])}, f"{path}: {found[1]}: {other[:20]}"
 

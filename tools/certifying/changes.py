@@ -53,5 +53,6 @@ def add_changes(root, out):
     for kind, paths in files.items():
         out += [f"{kind}: {len(paths)} changed"] * (len(paths) > 0) + [f"  {path}" for path in paths[:SHOWN]]
         out += [f"  and {len(paths) - SHOWN} more"] * (len(paths) > SHOWN)
-    out.append("nothing has changed" if not any(files.values()) else "pages only" if only else "more than pages: the certificate is not of this tree")
+    more = "pages only" if only else "more than pages: the certificate is not of this tree"
+    out.append(more if any(files.values()) else "nothing has changed")
     return only

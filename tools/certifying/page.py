@@ -6,7 +6,8 @@ from certifying.log import ARCHIVE, HEADER
 
 def described(makefile):
     """What each target of the Makefile does, in its own words."""
-    return dict(re.findall(r"^([a-z-]+):[^#\n]*# (.*)$", makefile, re.M)) | {"rt": "crates proved from nothing, and must-fail edits refused"}
+    found = dict(re.findall(r"^([a-z-]+):[^#\n]*# (.*)$", makefile, re.M))
+    return found | {"rt": "crates proved from nothing, and must-fail edits refused"}
 
 
 def demands_of(text):

@@ -36,7 +36,8 @@ def text_of(path):
 
 def demands_text():
     """docs/DEMANDS.md, and the pages of docs/demands behind it."""
-    return "\n".join([text_of("docs/DEMANDS.md"), *(text_of(path.relative_to(ROOT)) for path in sorted((ROOT / "docs/demands").glob("*.md")))])
+    behind = sorted((ROOT / "docs/demands").glob("*.md"))
+    return "\n".join([text_of("docs/DEMANDS.md"), *(text_of(path.relative_to(ROOT)) for path in behind)])
 
 
 def hold_to_files(gate):

@@ -190,7 +190,8 @@ def page_of(name, commands, read_back, inputs, instants, told, names):
         notes.append(f"held to the listing of the run: {counted(len(steps), 'instant')}")
     heads, picture = picture_of(rows, [step.instant.code for step in steps], read_back, names)
     fields = {"TITLE": escape(name), "POLICY": POLICY, "STYLE": (FOLDER / "page.css").read_text("utf-8"),
-              "NOTES": "".join(f"<li>{escape(note)}</li>" for note in notes), "LEGEND": legend_of(rows, read_back), "HEADS": heads, "PICTURE": picture,
+              "NOTES": "".join(f"<li>{escape(note)}</li>" for note in notes), "LEGEND": legend_of(rows, read_back),
+              "HEADS": heads, "PICTURE": picture,
               "COMMANDS": table_of(lines_of(whole, names, True)), "COUNT": str(len(steps)), "DATA": as_data(data),
               "SCRIPT": (FOLDER / "page.js").read_text("utf-8")}
     page = (FOLDER / "page.html").read_text("utf-8")

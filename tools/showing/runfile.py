@@ -4,9 +4,9 @@
   tools/runfile --back [--names NAMES] FILE           the text of a run file
 
 TEXT and FILE - are standard input, and with no --output the result goes to standard output. FILE is written only where the text
-is right; with '> FILE' the shell empties it before this program begins. The bytes of the sequence come from the editor: this program makes none from source text,
-and checks none; 'tools/show FILE' says what a sequence is and which row turns it down. A text is as this one, where # begins a
-comment:
+is right; with '> FILE' the shell empties it before this program begins. The bytes of the sequence come from the editor: this
+program makes none from source text, and checks none; 'tools/show FILE' says what a sequence is and which row turns it down. A
+text is as this one, where # begins a comment:
 
   sequence              # the bytes in hexadecimal, on this line and those below it
   06 04 02 09 01 00

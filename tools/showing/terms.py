@@ -151,8 +151,8 @@ def suspend(term, present, known):
     return Reaction(body.emitted, body.code, residual, body.error, (body,), 1 + body.count, body.deliveries)
 
 
-RULES = {NOTHING: leaf, PAUSE: leaf, SETPAUSE: leaf, EMIT: leaf, DELIVER: leaf, EXIT: leaf, SEQUENCE: sequence, PARALLEL: parallel, LOOP: loop,
-         PRESENT: present_rule, SIGNAL: signal, TRY: try_rule, SUSPEND: suspend, HELD: suspend}
+RULES = {NOTHING: leaf, PAUSE: leaf, SETPAUSE: leaf, EMIT: leaf, DELIVER: leaf, EXIT: leaf, SEQUENCE: sequence,
+         PARALLEL: parallel, LOOP: loop, PRESENT: present_rule, SIGNAL: signal, TRY: try_rule, SUSPEND: suspend, HELD: suspend}
 
 
 def expanded(term, labels):

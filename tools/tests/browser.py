@@ -1,5 +1,5 @@
 """The page of a bay: what stands in it, that nothing in it is fetched or run but its own script, and, where Chromium is installed,
-what a browser shows of it at each instant, held to the paper as text.
+what a browser shows of it at each instant, held to the paper as text (U2.11, U2.12).
 """
 import json
 import re

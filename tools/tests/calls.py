@@ -31,7 +31,8 @@ def test_calls():
     answer = call("--listing", listing, "-", input=WORKED)
     expect(answer == (0, WORKED_SHOWN, ""), f"a run file on standard input: {answer}")
     answer = call("--sequence", "-", input=WORKED[2:12])
-    expect(answer == (0, WORKED_SHOWN.partition("\n\ninstant")[0] + "\n" + fit(lines_of(WORKED[2:12])), ""), f"a sequence on standard input: {answer}")
+    expected = WORKED_SHOWN.partition("\n\ninstant")[0] + "\n" + fit(lines_of(WORKED[2:12]))
+    expect(answer == (0, expected, ""), f"a sequence on standard input: {answer}")
     answer = call("--sequence", "-", input=b"\x0d")
     expect(answer[0] == 1 and answer[2] == "show: -: place 0: no command has the byte 0D (row 3)\n", f"a bad one: {answer}")
     with open("/dev/full", "wb") as full:

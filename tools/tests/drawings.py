@@ -1,4 +1,4 @@
-"""Names, drawings and dumps: by hand, on the examples, on the longest run, and through GTKWave's own readers where they are."""
+"""Names, drawings and dumps (U2.4 to U2.6): by hand, on the examples, on the longest run, and through GTKWave's own readers."""
 import re
 import shutil
 import subprocess
@@ -43,7 +43,8 @@ def test_names():
     answer = show(data=WORKED, listing=WORKED_LISTING, names=NAMES)
     expect(answer == (0, NAMED, ""), f"names: {answer}")
     answer = show("--sequence", data=WORKED[2:12], names=NAMES)
-    expect(answer == (0, NAMED[: NAMED.index("\n\ninstant") + 1] + fit(lines_of(WORKED[2:12])), ""), f"names of a sequence: {answer}")
+    expected = NAMED[: NAMED.index("\n\ninstant") + 1] + fit(lines_of(WORKED[2:12]))
+    expect(answer == (0, expected, ""), f"names of a sequence: {answer}")
     status, shown, _ = show("--paper", data=WORKED, listing=WORKED_LISTING, names=NAMES)
     for line in ("instant 2: input none; emitted 1 done; code 0, ended", "-   6  01 01        pause, label 1 Wärmetauscher-2_ab",
                  "    0  08 00  signal 0 inner in …"):

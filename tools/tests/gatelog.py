@@ -7,7 +7,8 @@ PAPER = b"the scope"
 PAPER_SUM = hashlib.sha256(PAPER).hexdigest()
 FILES = {
     "docs/papers.txt": f"# the papers\n01 {PAPER_SUM} 01-scope.md The scope, a title\n02 {'a' * 64} 02.md Changes\n",
-    "docs/DEMANDS.md": "# The demands\n\n## Demand 1\n\n| Name | Sentence |\n|---|---|\n| D1.1 | one |\n| D1.2 | two |\n\n## Text\n\nnone\n",
+    "docs/DEMANDS.md": "# The demands\n\n## Demand 1\n\n| Name | Sentence |\n|---|---|\n| D1.1 | one |\n| D1.2 | two |\n\n"
+                       "## Text\n\nnone\n",
     "docs/demands/items.md": "# More\n\n## 02, item 1\n\n| Name | Sentence |\n|---|---|\n| I1.1 | one |\n",
     "crates.txt": "# a comment: with a colon\nesterel:\nnumbers: esterel\nrun: io libc numbers\n",
     "include/intake.h": "/* a header */\n#define INTAKE_VERSION_MAJOR 2\n#define INTAKE_VERSION_MINOR 14\n#define INTAKE_VERSION_PATCH 3\n",

@@ -1,5 +1,6 @@
-"""Every tool on what nobody should give it: closed and full streams, readers that go away, damaged files of every kind, byte
-order marks, and names with umlauts, in every locale. The answer is one line and a status other than 0, and never a traceback.
+"""Every tool on what nobody should give it (U2.14, U2.15): closed and full streams, readers that go away, damaged files of every
+kind, byte order marks, and names with umlauts, in every locale. The answer is one line and a status other than 0, and never a
+traceback.
 """
 import os
 import subprocess
@@ -50,14 +51,19 @@ def test_streams():
             expect(status == 0 and message == "", f"{line} | head: {answer}")
     worked, listing = written("worked.bin", WORKED), written("listing", WORKED_LISTING)
     for option in "--svg", "--vcd", "--html":
-        one_line(in_shell(f"'{SHOW}' --listing '{listing}' {option} /dev/full '{worked}'"), "show: /dev/full: ", f"{option} /dev/full")
-    one_line(in_shell(f"'{RUNFILE}' --output /dev/full '{written('text', 'sequence 00')}'"), "runfile: /dev/full: ", "--output /dev/full")
-    for words in f"'{SHOW}' - <&-", f"'{RUNFILE}' - <&-", f"'{SHOW}' --listing - '{worked}' <&-", f"'{SHOW}' --names - '{worked}' <&-":
+        answer = in_shell(f"'{SHOW}' --listing '{listing}' {option} /dev/full '{worked}'")
+        one_line(answer, "show: /dev/full: ", f"{option} /dev/full")
+    text = written("text", "sequence 00")
+    one_line(in_shell(f"'{RUNFILE}' --output /dev/full '{text}'"), "runfile: /dev/full: ", "--output /dev/full")
+    for words in [f"'{SHOW}' - <&-", f"'{RUNFILE}' - <&-", f"'{SHOW}' --listing - '{worked}' <&-",
+                  f"'{SHOW}' --names - '{worked}' <&-"]:
         one_line(in_shell(words), "standard input: closed", words)
-    for words in f"'{SHOW}' /none 2>&-", f"'{RUNFILE}' /none 2>&-", f"'{SHOW}' --nonsense 2>&-", f"'{CERTIFICATE}' --nonsense 2>&-":
+    for words in [f"'{SHOW}' /none 2>&-", f"'{RUNFILE}' /none 2>&-", f"'{SHOW}' --nonsense 2>&-",
+                  f"'{CERTIFICATE}' --nonsense 2>&-"]:
         status, shown, message = answer = in_shell(words)
         expect(status not in (0, None) and shown == message == "", f"{words}: {answer}")
-    for words in f"'{SHOW}'", f"'{SHOW}' --nonsense", f"'{SHOW}' $'--a\\nb'", f"'{RUNFILE}'", f"'{RUNFILE}' --nonsense", f"'{CERTIFICATE}' a b":
+    for words in [f"'{SHOW}'", f"'{SHOW}' --nonsense", f"'{SHOW}' $'--a\\nb'", f"'{RUNFILE}'", f"'{RUNFILE}' --nonsense",
+                  f"'{CERTIFICATE}' a b"]:
         one_line(in_shell(words), "", words)
 
 

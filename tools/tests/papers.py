@@ -1,4 +1,4 @@
-"""The paper of a run: on the examples and on random sequences, held to listings of the machine by labels, and by hand."""
+"""The paper of a run (U2.1 to U2.3): on the examples and on random sequences, held to listings of the machine by labels, and by hand."""
 import re
 from collections import Counter
 

@@ -1,4 +1,4 @@
-"""tools/progress with a program in the place of the prover: what it shows, what it keeps, and its exit status."""
+"""tools/progress with a program in the place of the prover: what it shows, what it keeps, and its exit status (U1.17)."""
 import shutil
 import subprocess
 
@@ -34,6 +34,8 @@ def test_progress():
     expect((status, out, told) == (0, "", shown) and kept.startswith("fn a: proved\nrt: limits"), f"progress: {told}{kept}")
     expect(progress(said, "rt", "check", "labels")[2].startswith("2 of 3: sets"), "the crates below another one")
     expect(progress(said, "rt", "prove")[2].startswith("2 of 5: sets"), "all crates")
+    built = "echo 'rt: limits proved (1 s)'; echo 'rt: target/staticlib/libsets.a has the functions of sets that are marked'"
+    expect(progress(built, "rt", "staticlib", "sets")[2] == "1 of 2: limits proved (1 s)\n2 of 2 crates proved\n", "an archive")
     status, out, told, _ = progress(said + "; exit 1", "rt", "check", "run")
     expect(status == 1 and told.endswith("rt: run proved (1 s)\nprogress: 4 of 4 crates proved, then rt check run failed; "
                                          "target/log/progress.out has all of it\n"), f"a failure: {told}")

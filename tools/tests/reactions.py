@@ -1,5 +1,6 @@
 """The number of reactions of each instant: by hand (host/ticks.txt), on the examples, and on random sequences, with setpause too,
-held to a count over the whole expansion, in which nothing is kept from one part to another; and never above the ceiling.
+held to a count over the whole expansion, in which nothing is kept from one part to another; and never above the ceiling
+(U3.3; I6.2, I6.5).
 """
 import re
 
