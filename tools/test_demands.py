@@ -1,7 +1,7 @@
 #!/usr/bin/env python3
 """Holds the names of the rows of docs/DEMANDS.md and docs/demands together: each row has one, in the order of its table and by
 the rule that the page gives, and a name that is cited anywhere in the repository is a row's. What the rows name is there too:
-targets of make, files and links.
+must-fail edits, each of which is named, targets of make, files and links. CHANGELOG.md has the header's version and each landing.
 
 Each check is a function of the pages' texts that gives their faults. The pages must have none, and pages with one name changed,
 exchanged, doubled or left away must have some. The last line is 'N passed, M failed'.
@@ -107,6 +107,41 @@ def references(texts):
             yield f"{path}: {len(text.splitlines())} lines"
 
 
+def edits_there():
+    """The must-fail edits of the crates, by name: the crates that have one of that name."""
+    found = {}
+    for path in ROOT.glob("crates/*/must-fail/*.edit"):
+        found.setdefault(path.stem, set()).add(path.parts[-3])
+    return found
+
+
+def edits_named(texts):
+    """Each must-fail edit that a row names in its column, with the crate that stands before it, or None where none does."""
+    for path, heading, lines in sections(texts):
+        column = None
+        for line, after in zip(lines, [*lines[1:], ""]):
+            cells = [cell.strip() for cell in line.strip("|").split("|")] if line.startswith("|") else []
+            if re.match(r"\|[-|]+$", after):
+                column = next((at for at, cell in enumerate(cells) if cell.startswith("Must-fail edit")), None)
+            elif column is not None and len(cells) > column and not re.match(r"\|[-|]+$", line):
+                cell = re.sub(r"\([^()]*\)|refuted:.*?(?:;|$)", "", cells[column])
+                crate = None
+                for word in re.findall(r"`[a-z0-9_]+`|[\w.]+|;", cell):
+                    if word.startswith("`"):
+                        yield f"{path}: {cells[0]}", crate, word.strip("`")
+                    elif word == ";" or (ROOT / "crates" / word).is_dir():
+                        crate = None if word == ";" else word
+
+
+def edits(texts):
+    """An edit that is named is there, in its crate, and each that is there is named."""
+    there, every = edits_there(), "\n".join(texts.values())
+    for where, crate, name in edits_named(texts):
+        if name not in there or crate is not None and crate not in there[name]:
+            yield f"{where}: no edit {name}{f' of {crate}' if crate else ''}"
+    yield from (f"the edit {name} of {', '.join(crates)} is named nowhere" for name, crates in there.items() if f"`{name}`" not in every)
+
+
 def changelog(text, header, notes):
     """The newest version is the header's, versions and landings fall, and each note has its entry."""
     versions = [tuple(map(int, found)) for found in re.findall(r"^## (\d+)\.(\d+)\.(\d+), ", text, re.M)]
@@ -120,7 +155,7 @@ def changelog(text, header, notes):
     yield from (f"CHANGELOG.md: the link to {link}" for link in re.findall(r"\]\(([^)#:]+)\)", text) if not (ROOT / link).exists())
 
 
-CHECKS = [names, unique, citations, references]
+CHECKS = [names, unique, citations, references, edits]
 
 
 def tracked():
@@ -166,6 +201,11 @@ def main():
     expect(version and certified and version[1] == certified[1], "README and the certificate name one version of the toolchain")
     for damaged, what in changed(texts):
         expect(list(names(damaged)), f"not noticed: {what}")
+    named = list(edits_named(texts))
+    for where, _, name in named[::25]:
+        damaged = {path: text.replace(f"`{name}`", f"`{name}_not`") for path, text in texts.items()}
+        expect(list(edits(damaged)), f"not noticed: {where}: {name}_not")
+    expect(len(named) > 300, f"edits named in rows: {len(named)}")
     for wrong in "D1.99", "I14.0", "U4.77":
         expect(cited_in(f"as {wrong} has it") == {wrong} and wrong not in known(texts), f"a citation of {wrong} would be noticed")
     expect(cited_in("C90 to C23, 1.2.3, D1.1.2, aD1.1, Σ.3") == set(), "what is no citation")

@@ -164,7 +164,10 @@ def looked_at(path, window="1300,900"):
     """What the script above has seen in a browser; None if there was no such thing."""
     words = [BROWSER, "--headless", "--no-sandbox", "--disable-gpu", "--disable-dev-shm-usage", f"--window-size={window}",
              f"--user-data-dir={folder / 'browser'}", "--dump-dom", path.as_uri()]
-    done = subprocess.run(words, capture_output=True, check=False, timeout=120)
+    try:
+        done = subprocess.run(words, capture_output=True, check=False, timeout=120)
+    except subprocess.TimeoutExpired:
+        return None
     found = re.search(r'<pre id="seen">(.*?)</pre>', done.stdout.decode("utf-8", "replace"), re.S)
     text = found and found[1].replace("&lt;", "<").replace("&gt;", ">").replace("&nbsp;", "\u00a0").replace("&amp;", "&")
     return json.loads(text) if text else None
