@@ -192,7 +192,7 @@ host-archive: $(INTAKE_ARCHIVE) # shows the read-only data of the archive: jump 
 
 host-plain: target/plain/libintake.a # runs the host tests against plain C, with which the benchmarks compare
 	$(MAKE) host-rust host-c host-tick-rust host-tick-c host-box-rust host-box-c host-unroll-rust host-unroll-c \
-		host-replay-rust host-replay-c \
+		host-replay-rust host-replay-c host-reactions \
 		INTAKE_ARCHIVE=target/plain/libintake.a
 
 show-test: # tests tools/show and tools/runfile

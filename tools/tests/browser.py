@@ -16,7 +16,7 @@ from tests.runs import VALVE, VALVE_LISTING
 
 BROWSER = shutil.which("chromium") or shutil.which("chromium-browser")
 LOOKED_AT = "intake.bin", "valve.bin", "grading.bin", "overflow.bin", "hatch.bin"
-HOSTILE = "</script><script>document.title='broken'</script><img src=x onerror=alert(1)>\"'&amp;\u2028"
+HOSTILE = "</script><script>document.title='broken'</script ><!--<script <img src=x onerror=alert(1)>\"'&amp;\u2028"
 STEPS = """
 <script>
 (function () {
@@ -119,6 +119,10 @@ def test_chains():
                     "10|07 00|4| present 0", "12|03 01|then| exit 1: leaves the try at 0", "14, 16|05|else| in parallel",
                     "15|00|1| nothing", "17|00|2| nothing", "18|03 02|3| exit 2: no try is left: the sequence is over"],
            f"a chain: {told}")
+    text = page("tries", run_file(bytes.fromhex("09 09 05 03 01 05 03 02 03 03"), [0]), listed((2, 0, 0)))
+    left = re.findall(r"exit \d: [\w :]+", text[text.index("<tbody>") : text.index("</tbody>")])
+    expect(left == ["exit 1: leaves the try at 1", "exit 2: leaves the try at 0", "exit 3: no try is left: the sequence is over"],
+           f"exits and their tries: {left}")
 
 
 def test_hostile_pages():
@@ -133,11 +137,13 @@ def test_hostile_pages():
     read = Reader(text)
     expect([tag for tag, _ in read.tags].count("script") == 2 and "img" not in [tag for tag, _ in read.tags], "hostile names")
     data = json.loads(read.data)
+    expect("<" not in read.data and ">" not in read.data and "\u2028" not in read.data, "nothing in the data can end its script")
     expect(data["instants"][0]["emitted"][0] == f"8 {HOSTILE}" and f"emit 8 {HOSTILE}" in "".join(read.cells), "names as they are")
     if BROWSER:
         (folder / "hostile.html").write_text(text.replace("</body>", STEPS + "</body>"), "utf-8")
         seen = looked_at(folder / "hostile.html")
         expect(seen and seen["title"].startswith("</script>") and seen["scripts"] == 3, f"hostile names in a browser: {seen}")
+        expect(seen and f"emitted\n8 {HOSTILE[:80]}" in seen["seen"][-1]["told"], f"a hostile name as a browser shows it: {seen}")
 
 
 def pages_commands(data):

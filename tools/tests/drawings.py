@@ -116,6 +116,33 @@ def test_drawing_of_a_wrong_instant():
     expect("wrong\"" not in drawn and "fault\"" not in drawn, f"nothing in red: {drawn}")
 
 
+def test_ignored_inputs():
+    """By hand: the host gives 8 and 9, and 8 is read back, so nobody reads the host's 8; the other rows are as ever (U2.13)."""
+    data = run_file(bytes.fromhex("0402080708020900"), [0x300], 0x100)
+    status, shown, _ = show(data=data, listing=listed((0, 0x300, 0)))
+    picture = """\
+instant    1
+input    8 o
+input    9 #
+emitted  8 #
+emitted  9 #
+code       0
+
+codes: 0 ended
+o: an input that is ignored, since the signal is read back
+instant 1: ended
+"""
+    expect(status == 0 and shown.endswith(f"\n\n{picture}"), f"an ignored input: {shown}")
+    drawn = show("--svg", "-", data=data, listing=listed((0, 0x300, 0)))[1]
+    kinds = [path.get("class") for path in xml.etree.ElementTree.fromstring(drawn).iter(SPACE + "path")]
+    expect(kinds == ["input ignored", "input", "emitted", "emitted", "grid"], f"an ignored input, drawn: {kinds}")
+    expect(">input ignored, since read back<" in re.sub(r"</tspan> ", ">", drawn.replace(" <tspan", "<")), f"its legend: {drawn}")
+    page = show("--html", "-", data=data, listing=listed((0, 0x300, 0)))[1]
+    expect('class="input ignored"' in page and "8 (ignored: read back)" in page, "an ignored input on a page")
+    other = show(data=data[:10] + bytes(4) + data[14:], listing=listed((0, 0x100, 0)))[1]
+    expect(" o" not in other.partition("instant")[2], f"with an empty set none is ignored: {other}")
+
+
 def test_longest_run():
     """16,382 instants, each with inputs of 32 signals: the picture is wrapped, and no file is large."""
     data = run_file(bytes.fromhex("0100"), [rng.getrandbits(32) for _ in range(16382)])
