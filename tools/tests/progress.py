@@ -1,6 +1,7 @@
 """tools/progress with a program in the place of the prover: what it shows, what it keeps, and its exit status (U1.17)."""
 import shutil
 import subprocess
+import sys
 
 from tests.common import ROOT, expect, folder
 
@@ -19,9 +20,8 @@ def progress(script, *words, **setting):
     if script is not None:
         program.write_text(f"#!/bin/sh\n{script}\n", "utf-8")
         program.chmod(0o755)
-    path = f"{house / 'bin'}:/usr/bin:/bin"
-    done = subprocess.run(["/usr/bin/env", f"PATH={path}", *(f"{name}={value}" for name, value in setting.items()), "python3",
-                           house / "tools" / "progress", *words], capture_output=True, text=True, check=False)
+    done = subprocess.run([sys.executable, house / "tools" / "progress", *words], capture_output=True, text=True, check=False,
+                          env={"PATH": f"{house / 'bin'}:/usr/bin:/bin", **setting})
     kept = house / "target" / "log" / "progress.out"
     return done.returncode, done.stdout, done.stderr, kept.read_text("utf-8", "replace") if kept.exists() else ""
 

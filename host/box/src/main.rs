@@ -2,6 +2,7 @@
 //! exact integers (ledgers.rs), whose check, tick and ceiling are those of the other host tests, and every byte against the
 //! layout (layout.rs); random lists of calls and a bay beside other traffic (lists.rs); boxes that no call has written
 //! (foreign.rs). All buffers stand between guard pages. An argument replaces the seed. The last line is 'N passed, M failed'.
+//! Rows of docs/DEMANDS.md that it tests: I8.1 to I12.25.
 mod archive;
 mod draw;
 mod foreign;

@@ -1,6 +1,7 @@
 //! The host test: intake_check and intake_ceiling of the archive against the check of document 01 and the ceiling of 02, item 6,
 //! on an explicit tree, with read-back sets.
 //! An argument replaces the seed. The last line is 'N passed, M failed'.
+//! Rows of docs/DEMANDS.md that it tests: D1.2 and R.2 to R.10 with R.18.
 mod edges;
 
 use common::counts::Counts;

@@ -1,6 +1,7 @@
 //! The host test of a replay (02, item 14): intake_replay of the archive against a model (model.rs) on recordings of
 //! random machines, whole and damaged in every byte, by whole records, by their length and by a position come back to; and on
 //! sequences that are turned down. An argument replaces the seed. The last line is 'N passed, M failed'.
+//! Rows of docs/DEMANDS.md that it tests: I14.1 to I14.11.
 mod archive;
 mod model;
 

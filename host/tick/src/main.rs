@@ -4,6 +4,7 @@
 //! implementations by both orders of the signal rules (orders.rs). The reactions of each instant are held to the ceiling of
 //! its sequence (ceiling.rs).
 //! An argument replaces the seed. The last line is 'N passed, M failed'.
+//! Rows of docs/DEMANDS.md that it tests: D1.3, D2.1 to D3.5 and those of items 1 to 7 that name it, such as I1.7 and I6.2.
 use common::{generate::Random, table};
 use std::{env, process::ExitCode};
 use tick::reference::{self, Sequence};

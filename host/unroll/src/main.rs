@@ -1,5 +1,6 @@
 //! The host test: intake_unroll of the archive against loops written out on an explicit tree, and the runs of the results
 //! against those of their originals. An argument replaces the seed. The last line is 'N passed, M failed'.
+//! Rows of docs/DEMANDS.md that it tests: I13.2 to I13.12.
 mod archive;
 mod unroller;
 
