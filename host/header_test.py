@@ -172,9 +172,22 @@ def standard(folder, compiler, language, name):
     words = ["-ffreestanding", "-x", language, "-c", alone, "-o", f"{folder}/alone.o"]
     apart, errors = run(compiler, f"-std={name}", *WARNED, *words)
     add(apart, not apart, f"the store alone, {compiler} -std={name}", errors)
+    if language == "c++":
+        quiet, errors = run(compiler, f"-std={name}", *WARNED, "-Wold-style-cast", "-x", language, "-fsyntax-only", other)
+        add(quiet, not quiet, f"casts, {compiler} -std={name}", errors)
     _, said = run(program)
     tally = re.search(r"^(\d+) passed, (\d+) failed$", said, re.M)
     return add(int(tally[1]), int(tally[2]), name, said) if tally else add(0, 1, name, said)
+
+
+def other_target(folder):
+    """A compiler for another processor says at once that there is no archive for it."""
+    source = Path(folder) / "narrow.c"
+    source.write_text('#include "intake.h"\n', encoding="ascii")
+    for option in "-m32", "-mx32":
+        built, said = run("gcc", option, "-ffreestanding", f"-I{ROOT / 'include'}", "-fsyntax-only", source)
+        refused = not built and "libintake.a is for x86-64" in said
+        add(refused, not refused, f"gcc {option}", said)
 
 
 def readme(folder, archive):
@@ -205,6 +218,7 @@ def main(archive):
     with tempfile.TemporaryDirectory() as folder:
         for compiler, language, name in STANDARDS:
             standard(folder, compiler, language, name)
+        other_target(folder)
         readme(folder, archive)
     calls()
     print(f"{passed} passed, {failed} failed")

@@ -13,6 +13,10 @@
 #ifndef INTAKE_H
 #define INTAKE_H
 
+#if defined(__GNUC__) && !(defined(__x86_64__) && defined(__LP64__))
+#error "libintake.a is for x86-64 with addresses of 64 bits, and for nothing else"
+#endif
+
 #include <stddef.h>
 #include <stdint.h>
 
@@ -44,6 +48,13 @@
 #define INTAKE_INLINE static __inline__
 #else
 #define INTAKE_INLINE static
+#endif
+
+/* A value as one of another type: no compiler of either language warns of it. */
+#ifdef __cplusplus
+#define INTAKE_AS(type, value) static_cast<type>(value)
+#else
+#define INTAKE_AS(type, value) ((type)(value))
 #endif
 
 #ifdef __cplusplus
@@ -535,7 +546,7 @@ INTAKE_INLINE uint8_t intake_answer_kind(const uint8_t *answer)
 
 INTAKE_INLINE uint16_t intake_answer_place(const uint8_t *answer)
 {
-    return (uint16_t)intake_number_in(answer + INTAKE_ANSWER_PLACE, INTAKE_ANSWER_PLACE_LENGTH);
+    return INTAKE_AS(uint16_t, intake_number_in(answer + INTAKE_ANSWER_PLACE, INTAKE_ANSWER_PLACE_LENGTH));
 }
 
 /* Bit s is signal s. */

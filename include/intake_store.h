@@ -69,6 +69,13 @@
 #define INTAKE_STORE_INLINE static
 #endif
 
+/* A value as a byte: no compiler of either language warns of it. */
+#ifdef __cplusplus
+#define INTAKE_STORE_BYTE(value) static_cast<unsigned char>(value)
+#else
+#define INTAKE_STORE_BYTE(value) ((unsigned char)(value))
+#endif
+
 /* The bytes before the payload in a copy, and those of a copy. */
 #define INTAKE_STORE_HEAD 24
 #define INTAKE_STORE_LENGTH(payload) (INTAKE_STORE_HEAD + (payload))
@@ -120,7 +127,7 @@ INTAKE_STORE_INLINE void intake_store_put(unsigned char *bytes, unsigned long nu
 {
     int i;
     for (i = 0; i < 4; i++)
-        bytes[i] = (unsigned char)(number >> 8 * i & 0xFF);
+        bytes[i] = INTAKE_STORE_BYTE(number >> 8 * i & 0xFF);
 }
 
 /* A length in eight bytes. */
@@ -128,7 +135,7 @@ INTAKE_STORE_INLINE void intake_store_put_length(unsigned char *bytes, size_t le
 {
     int i;
     for (i = 0; i < 8; i++) {
-        bytes[i] = (unsigned char)(length & 0xFF);
+        bytes[i] = INTAKE_STORE_BYTE(length & 0xFF);
         length >>= 8;
     }
 }
@@ -212,7 +219,7 @@ INTAKE_STORE_INLINE int intake_store_read(const unsigned char *first, const unsi
     int found = newer != 2 && intake_store_get(copy + INTAKE_STORE_AT_BINDING) == (binding & INTAKE_STORE_BITS);
     size_t i;
     for (i = 0; i < length; i++)
-        payload[i] = (unsigned char)(found ? copy[INTAKE_STORE_HEAD + i] : 0);
+        payload[i] = INTAKE_STORE_BYTE(found ? copy[INTAKE_STORE_HEAD + i] : 0);
     return found;
 }
 

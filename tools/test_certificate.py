@@ -59,8 +59,9 @@ class Repository:
 
     def log(self, text):
         """Writes the log, with the names in it filled in."""
-        header = hashlib.sha256(FILES["include/intake.h"].encode()).hexdigest()
-        filled = text.replace("{commit}", self.head).replace("{header}", header)
+        filled = text.replace("{commit}", self.head)
+        for name, path in ("{header}", "include/intake.h"), ("{store}", "include/intake_store.h"):
+            filled = filled.replace(name, hashlib.sha256(FILES[path].encode()).hexdigest())
         self.write("target/gate.log", filled.replace("{archive}", hashlib.sha256(ARCHIVE).hexdigest()))
 
     def run(self, *words):

@@ -3,7 +3,7 @@ import hashlib
 import re
 
 LOG = "target/gate.log"
-ARCHIVE, HEADER = "target/staticlib/libintake.a", "include/intake.h"
+ARCHIVE, HEADER, STORE = "target/staticlib/libintake.a", "include/intake.h", "include/intake_store.h"
 SUM = r"(\d+) passed, (\d+) failed"
 
 
@@ -132,7 +132,7 @@ class Gate:
             raise Refusal(f"{LOG} has no verdict of the archive")
         self.archive_axioms = field(built[1], "axioms")
         self.sums = {path: value for value, path in re.findall(r"^gate: sha256 ([0-9a-f]{64}) +(\S+)$", tail, re.M)}
-        if sorted(self.sums) != sorted([ARCHIVE, HEADER]):
-            raise Refusal(f"{LOG} lacks the sum of the archive or of the header")
+        if sorted(self.sums) != sorted([ARCHIVE, HEADER, STORE]):
+            raise Refusal(f"{LOG} lacks the sum of the archive or of a header")
         self.surroundings = surroundings_in(head)
         self.stacks, self.dearest = measured_in(sections.get("figures", ""))

@@ -1,7 +1,7 @@
 """The page of a certificate, docs/CERTIFICATE.md."""
 import re
 
-from certifying.log import ARCHIVE, HEADER
+from certifying.log import ARCHIVE, HEADER, STORE
 
 
 def described(makefile):
@@ -51,6 +51,7 @@ says what it means, and what it leaves open. The page is committed after the run
 | words of every verdict | `{gate.words}` |
 | sha256 of `libintake.a` | `{gate.sums[ARCHIVE]}` |
 | sha256 of `intake.h` | `{gate.sums[HEADER]}` |
+| sha256 of `intake_store.h` | `{gate.sums[STORE]}` |
 | sha256 of the log, `target/gate.log` | `{gate.log_sum}` |
 | compilers of the tests | {"; ".join(gate.surroundings["compiler"])} |
 | system | {gate.surroundings["system"][0]} |
@@ -93,7 +94,7 @@ The dearest instant found: {gate.dearest}.
 git checkout {gate.commit}
 rt version                # {gate.kit}
 make lib
-sha256sum target/lib/libintake.a target/lib/intake.h
+sha256sum target/lib/libintake.a target/lib/intake.h target/lib/intake_store.h
 ```
 
 The archive depends on the sources and the toolchain and not on the folder: {again}.
@@ -115,7 +116,7 @@ the axioms that a program reaches in all crates below it; of a library it names 
 
 ## Signed
 
-Of the archive and the header whose sums stand above, after reading [TRUST](TRUST.md):
+Of the archive and the headers whose sums stand above, after reading [TRUST](TRUST.md):
 
 | Name | For | Date | Signature |
 |---|---|---|---|

@@ -12,6 +12,7 @@ FILES = {
     "docs/demands/items.md": "# More\n\n## 02, item 1\n\n| Name | Sentence |\n|---|---|\n| I1.1 | one |\n",
     "crates.txt": "# a comment: with a colon\nesterel:\nnumbers: esterel\nrun: io libc numbers\n",
     "include/intake.h": "/* a header */\n#define INTAKE_VERSION_MAJOR 2\n#define INTAKE_VERSION_MINOR 14\n#define INTAKE_VERSION_PATCH 3\n",
+    "include/intake_store.h": "/* a store */\n",
     "Makefile": "host-rust: archive # compares the archive with the check\nshow-test: # tests tools/show\n",
     ".gitignore": "target/\n",
 }
@@ -62,6 +63,7 @@ dearest instant                        5.5 ms, 1,061,695 reactions            6.
 3 passed, 0 failed
 gate: sha256 {{archive}}  target/staticlib/libintake.a
 gate: sha256 {{header}}  include/intake.h
+gate: sha256 {{store}}  include/intake_store.h
 gate: took 2225 s
 gate: ended {{commit}} clean 2026-11-16
 1249 passed, 0 failed
@@ -116,6 +118,7 @@ DAMAGED = [  # what is put in the place of what, and a word that the refusal mus
     ("{archive}  target", "0" * 64 + "  target", "not the file of that run"),
     ("{header}  include", "0" * 64 + "  include", "not the file of that run"),
     ("gate: sha256 {header}  include/intake.h\n", "", "lacks the sum"),
+    ("gate: sha256 {store}  include/intake_store.h\n", "", "lacks the sum"),
     ("gate: took 2225 s\n", "", "not a whole log"),
     ("gate: interface 2.14.3\n", "", "(interface)"),
     ("gate: interface 2.14.3", "gate: interface 2.14.4", "not that of include/intake.h"),

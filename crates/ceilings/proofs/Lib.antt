@@ -1,2 +1,3 @@
 pub mod Planning
 pub mod CeilingExamples
+pub mod Theorems
