@@ -1,9 +1,9 @@
 #!/usr/bin/env python3
-"""Holds the tables of docs/FORMAT.md to what they repeat: the definitions, the header, tools/show and the hosts' tables;
-and what CONTRIBUTING.md quotes to the repository: an edit, a vector, targets, crates and links.
+"""Holds the tables of docs/FORMAT.md, FILES.md and GLOSSARY.md to what they repeat: the definitions, the header, tools/show and
+the hosts' tables; and what CONTRIBUTING.md quotes to the repository: an edit, a vector, targets, crates and links.
 
-Each check is a function of the page's text that gives its faults. The page itself must have none, and a page with one cell
-or quotation changed must have some: each that is checked is changed once. The last line is 'N passed, M failed'.
+Each check is a function of the pages' text, read as one page, that gives its faults. The page itself must have none, and a page
+with one cell or quotation changed must have some: each that is checked is changed once. The last line is 'N passed, M failed'.
 """
 import functools
 import importlib.machinery
@@ -17,7 +17,7 @@ sys.dont_write_bytecode = True
 from showing import files, listings, sequences
 
 ROOT = Path(__file__).resolve().parent.parent
-PAGE = "docs/FORMAT.md"
+PAGES = ["docs/FORMAT.md", "docs/FILES.md", "docs/GLOSSARY.md"]
 OPERANDS = {"label l": "l", "signal s": "s", "exit n": "n", "signal s, litres v": "sv", "–": ""}
 
 passed = failed = 0
@@ -296,12 +296,12 @@ def example(page):
 
 
 def glossary(page):
-    """Each definition that is named: a file of esterel/specs that declares it."""
+    """Each definition that is named: a file of esterel/specs, or of the specs that its path names, that declares it."""
     table = rows(page, "Term")
     for row in table:
-        for name in re.findall(r"`(\w+\.\w+)`", row[3]):
+        for name in re.findall(r"`([\w/]+\.\w+)`", row[3]):
             file, _, declared = name.partition(".")
-            path = f"crates/esterel/specs/{file}.antt"
+            path = f"crates/{file}.antt" if "/" in file else f"crates/esterel/specs/{file}.antt"
             line = rf"^(abbrev |unfoldable )?pub (data |record )?{declared}\b"
             if not (ROOT / path).exists() or not re.search(line, text_of(path), re.M):
                 yield f"{name} of the glossary"
@@ -332,11 +332,11 @@ def links(path, page):
             yield f"{path}: the link to {link}"
 
 
-def format_links(page):
-    yield from links(PAGE, page)
+def page_links(page):
+    yield from links(PAGES[0], page)
 
 
-CHECKS = [commands, ranges, records, codes, kinds, numbers, box, calls, unrolled, run_file, recording, example, glossary, format_links]
+CHECKS = [commands, ranges, records, codes, kinds, numbers, box, calls, unrolled, run_file, recording, example, glossary, page_links]
 
 
 def faults(page):
@@ -349,7 +349,8 @@ def faults(page):
 CHECKED = {"Byte": [0, 1, 2, 3], "Limit": [0, 1, 2], "State record": [0, 1, 2], "Answer record": [0, 1, 2],
            "Record": [0, 1, 2], "Panel": [0, 1, 2], "Preview": [0, 1, 2], "Ledger": [0, 1, 2], "Code": [0, 2],
            "Kind": [0, 1], "No.": [0, 1, 2, 3], "Stretch": [0, 1, 2], "Entry": [0, 1, 2], "Call": [0],
-           "Original": [0, 1], "Line": [0], "Part": [1], "Field": [0, 1], "Term": [3]}
+           "Original": [0, 1], "Line": [0], "Part": [1], "Field": [0, 1], "Term": [3],
+           "Word": []}  # tools/test_house.py has the words of the glossary
 
 
 def other(cell):
@@ -367,7 +368,7 @@ def changed(page):
         elif heading is None:
             heading = cells[1].strip()
         elif not line.startswith("|-"):
-            if heading != "Term":
+            if heading not in ("Term", "Word"):
                 yield "".join([*lines[:at], *lines[at + 1 :]]), f"left out: {line}"
             for column in CHECKED[heading]:
                 if cells[column + 1].strip():
@@ -391,10 +392,10 @@ def noticed(page):
 
 
 def main():
-    page = text_of(PAGE)
+    page = "\n".join(text_of(path) for path in PAGES)
     for check in CHECKS:
         found = list(check(page))
-        expect(not found, f"{PAGE}: {found}")
+        expect(not found, f"{check.__name__} of {', '.join(PAGES)}: {found}")
     for damaged, row in changed(page):
         expect(noticed(damaged), f"not noticed: {row.strip()}")
     guide = text_of("CONTRIBUTING.md")
