@@ -32,8 +32,8 @@ HOST_TESTS = host-rust host-c host-tick-rust host-tick-c host-box-rust host-box-
 
 # The two programs are built anew for whatever archive is named.
 .PHONY: help run show paper page unroll replay vectors-diff test lib install uninstall clean certificate host $(HOST_TESTS) host-plain \
-	show-test format-test certificate-test demands-test bench bench-check bench-tick bench-box bench-unroll bench-replay bench-run target/host/stack \
-	target/host/dearest
+	show-test format-test house-test certificate-test demands-test bench bench-check bench-tick bench-box bench-unroll bench-replay \
+	bench-run target/host/stack target/host/dearest
 
 help: # lists the targets
 	@sed -n 's/^\([a-z-]*\):[^#]*# /\1: /p' Makefile
@@ -201,8 +201,11 @@ show-test: # tests tools/show and tools/runfile
 demands-test: # holds the names of the rows of docs/DEMANDS.md, and what cites them, together
 	tools/test_demands.py
 
-format-test: # holds the tables of docs/FORMAT.md, and what CONTRIBUTING.md quotes, to what they repeat
+format-test: # holds the tables of docs/FORMAT.md, FILES.md and GLOSSARY.md, and what CONTRIBUTING.md quotes, to what they repeat
 	tools/test_format.py
+
+house-test: # holds docs/ARCHITECTURE.md, WALKS.md and GLOSSARY.md to the crates, and every page to its length and links
+	tools/test_house.py
 
 bench: bench-check bench-tick bench-box bench-unroll bench-replay # times all of it against plain C
 

@@ -1,0 +1,322 @@
+#!/usr/bin/env python3
+"""Holds the pages about the house to the crates: the wings and floors of docs/ARCHITECTURE.md to crates.txt, the predicates and steps of
+docs/WALKS.md and the list of required things in docs/DECISIONS.md to the contracts, the words of docs/GLOSSARY.md to the definitions; and
+every page to its length, its links, and the crates, files and functions that it names.
+
+Each check is a function of a house, which is the text of every page and of crates.txt by path, and gives its faults. The house itself must
+have none, and a house with one line, name or link changed must have some. The last line is 'N passed, M failed'.
+"""
+import functools
+import importlib.machinery
+import importlib.util
+import re
+import sys
+from pathlib import Path
+
+sys.dont_write_bytecode = True
+
+ROOT = Path(__file__).resolve().parent.parent
+LIST, HOUSE, WALKS, WORDS = "crates.txt", "docs/ARCHITECTURE.md", "docs/WALKS.md", "docs/GLOSSARY.md"
+DECISIONS = "docs/DECISIONS.md"
+FOLDERS = ["", "docs", "docs/decisions", "docs/landings", "examples"]
+MOST_LINES = 300
+LONGER = ["docs/DEMANDS.md"]  # one row for each sentence of the papers
+LIBRARIES = {"std", "check", "libc", "io", "os", "bytes"}  # of the toolchain
+DECLARED = r"^\s*(?:abbrev |unfoldable )?pub (?:data |record )?{}(?=[\s:(])"
+
+passed = failed = 0
+
+
+def expect(holds, what):
+    global passed, failed
+    passed += bool(holds)
+    failed += not holds
+    if not holds:
+        print(f"FAILED {what}")
+
+
+@functools.cache
+def text_of(path):
+    return (ROOT / path).read_text(encoding="utf-8")
+
+
+def load(path):
+    loader = importlib.machinery.SourceFileLoader(Path(path).stem, str(ROOT / path))
+    module = importlib.util.module_from_spec(importlib.util.spec_from_loader(loader.name, loader))
+    loader.exec_module(module)
+    return module
+
+
+floors = load("tools/floors")
+
+
+def house():
+    pages = [path for folder in FOLDERS for path in sorted((ROOT / folder).glob("*.md"))]
+    return {path: text_of(path) for path in [LIST, *(str(page.relative_to(ROOT)) for page in pages)]}
+
+
+def pages(texts, old=True):
+    """The pages; without the notes of landings, which tell of an older tree, and the certificate, which is made."""
+    for path, text in texts.items():
+        if path.endswith(".md") and (old or not path.startswith(("docs/landings/", "docs/CERTIFICATE"))):
+            yield path, text
+
+
+def section(page, heading):
+    """What stands below a heading, up to the next one of its kind."""
+    return page.partition(f"\n## {heading}\n")[2].partition("\n## ")[0]
+
+
+def rows(text, first):
+    """The rows of the first table whose first heading this is, each a list of cells."""
+    found = re.search(rf"^\| {first} \|.*\n\|[-|]+\n((?:\|.*\n?)+)", text, re.M)
+    return [[cell.strip() for cell in line.strip("|").split("|")] for line in found[1].splitlines()] if found else []
+
+
+def quoted(text):
+    return re.findall(r"`([^`]+)`", text)
+
+
+# What the crates have
+
+
+@functools.cache
+def crates():
+    return {path.parent.name for path in (ROOT / "crates").glob("*/src")}
+
+
+@functools.cache
+def sources(crate):
+    """The code of a crate, by file."""
+    return {path.stem: path.read_text(encoding="utf-8") for path in (ROOT / "crates" / crate / "src").glob("*.rt")}
+
+
+@functools.cache
+def modules():
+    """The files of code that are not the first of their crate."""
+    return {file for crate in crates() for file in sources(crate) if file not in ("lib", "main")}
+
+
+@functools.cache
+def contract(name):
+    """What a function requires, and what it ensures; nothing if there is no such function."""
+    crate, *file, function = name.split("::")
+    texts = sources(crate) if crate in crates() else {}
+    text = texts.get(file[0] if file else "lib" if "lib" in texts else "main", "")
+    found = re.search(rf"^(?:pub )?(?:extern \"C\" )?fn {function}\b(.*?)^\{{", text, re.M | re.S)
+    clauses = re.findall(r"(requires|ensures) \{(.*?⌝ ?)\}", found[1], re.S) if found else []
+    return found and {kind: " ".join(text for word, text in clauses if word == kind) for kind in ("requires", "ensures")}
+
+
+def declares(path, name):
+    """Does a file below crates/ declare a name?"""
+    file = ROOT / "crates" / f"{path}.antt"
+    return file.exists() and re.search(DECLARED.format(re.escape(name)), text_of(f"crates/{path}.antt"), re.M)
+
+
+@functools.cache
+def words_of_two():
+    """The names that the specs, or the types of the code, declare in more crates than one."""
+    found = {}
+    for path in (ROOT / "crates").glob("*/specs/*.antt"):
+        for name in re.findall(r"^(?:abbrev |unfoldable )?pub (?!mod|use)(?:data |record )?([^\s:(]+)", path.read_text("utf-8"), re.M):
+            found.setdefault(name, set()).add(path.parts[-3])
+    for crate in crates():
+        for text in sources(crate).values():
+            for name in re.findall(r"^pub (?:enum|struct|type) (\w+)", text, re.M):
+                found.setdefault(name, set()).add(crate)
+    return {name for name, where in found.items() if len(where) > 1}
+
+
+# Checks: each gives what is wrong with a house
+
+
+def wings(texts):
+    """Every crate stands in one wing of crates.txt, and on crates of its own wing or of one before it."""
+    listed = floors.wings(texts[LIST])
+    order, home = list(listed), {name: wing for wing, names in listed.items() for name in names}
+    if sorted(name for names in listed.values() for name in names) != sorted(crates()):
+        yield f"{LIST} and crates/: {set(home) ^ crates()}"
+    for name, below in floors.arrows(texts[LIST]).items():
+        for other in below:
+            if order.index(home[other]) > order.index(home[name]):
+                yield f"{name} of wing {home[name]} stands on {other} of wing {home[other]}"
+
+
+def pictures(texts):
+    """The floors of the page are those of the arrows."""
+    for heading, picture in floors.pictures(texts[LIST]).items():
+        given = re.findall(r"```text\n(.*?)```", section(texts[HOUSE], heading), re.S)
+        if given != [picture]:
+            yield f"the picture of '{heading}' in {HOUSE}: tools/floors --write"
+
+
+def tables(texts):
+    """Each wing's table has its crates, each once, and the page counts both."""
+    listed = floors.wings(texts[LIST])
+    for wing, names in listed.items():
+        given = [name for row in rows(section(texts[HOUSE], f"Wing {wing}"), "Crate") for name in quoted(row[0])]
+        if sorted(given) != sorted(names):
+            yield f"the crates of wing {wing} in {HOUSE}: {sorted(set(given) ^ set(names)) or given}"
+    if [row[0] for row in rows(texts[HOUSE], "Wing")] != list(listed):
+        yield f"the wings in {HOUSE}"
+    numbers = {7: "seven", 8: "eight"}
+    if f"a house of {sum(map(len, listed.values()))} crates in {numbers.get(len(listed))} wings" not in texts[HOUSE]:
+        yield f"how many crates and wings {HOUSE} counts"
+
+
+def lengths(texts):
+    for path, text in pages(texts):
+        if text.count("\n") > MOST_LINES and path not in LONGER:
+            yield f"{path} has {text.count(chr(10))} lines"
+
+
+def links(texts):
+    for path, text in pages(texts):
+        for link in re.findall(r"\]\(([^)#:\s]+)\)", text):
+            if not (ROOT / path).parent.joinpath(link).exists():
+                yield f"{path}: the link to {link}"
+
+
+def functions(texts):
+    """The functions, types and constants that are named with their crate."""
+    for path, text in pages(texts, old=False):
+        for name in re.findall(r"`((?:\w+::)+\w+)(?=[`(])", text):
+            first, *middle, last = name.split("::")
+            line = rf"^\s*(?:pub )?(?:extern \"C\" )?(?:fn|enum|struct|type|const|mod) {last}\b|^    {last}\b"
+            there = [text for file, text in sources(first).items() if not middle or file in middle] if first in crates() else []
+            if first not in crates() | modules() | LIBRARIES or first in crates() and not any(re.search(line, x, re.M) for x in there):
+                yield f"{path}: {name}"
+
+
+def files(texts):
+    """The files of specs and proofs that are named with their crate."""
+    for path, text in pages(texts, old=False):
+        for crate, kind, file in re.findall(r"(?<![\w/.*-])(?:crates/)?(\w+)/(specs|proofs|src)\b(?:/(\w+))?", text):
+            folder = ROOT / "crates" / crate / kind
+            if not folder.exists() or file and not any(folder.joinpath(file + end).exists() for end in ("", ".antt", ".rt")):
+                yield f"{path}: {crate}/{kind}/{file}"
+
+
+def predicates(texts):
+    """A predicate is declared where the page says, ensured by what gives it and required by what asks for it."""
+    for name, where, _, given, asked in rows(texts[WALKS], "Predicate"):
+        word = quoted(name)[0]
+        if not declares(where, word):
+            yield f"{word} in {where}"
+        for cell, clause in ((given, "ensures"), (asked, "requires")):
+            for inside, function in re.findall(r"(in )?`(\w+(?:::\w+)+)`", cell):
+                text = contract(function)
+                if not text or not inside and not re.search(rf"\b{word}\b", text[clause]):
+                    yield f"{word}: {function} {clause}"
+            for law, file in re.findall(r"`([\w-]+)` \((\w+/proofs/\w+)\)", cell):
+                if not declares(file, law):
+                    yield f"{word}: the law {law} of {file}"
+            for other in re.findall(r"part of `(\w+)`", cell):
+                if not re.search(rf"^\| `{other}` \|", texts[WALKS], re.M):
+                    yield f"{word}: part of {other}"
+
+
+def steps(texts):
+    """The functions of a step stand in its file, and a call of the box has its functions."""
+    table = rows(texts[WALKS], "Step")
+    if [row[0] for row in table] != [str(n + 1) for n in range(len(table))] or not table:
+        yield "the steps of a call to a box"
+    for _, names, where, _ in table:
+        for name in quoted(names):
+            if not contract(name) or not where.startswith(f"crates/{name.split('::')[0]}/src") or not (ROOT / where).exists():
+                yield f"the step {name} in {where}"
+    exported = set(re.findall(r"fn (intake_box_\w+)", sources("intake")["lib"])) - {"intake_box_tick"}
+    if {row[0].strip("`").partition("::")[2] for row in rows(texts[WALKS], "Call")} != exported:
+        yield "the calls of a box"
+
+
+def requirements(texts):
+    """The functions open to other crates that require something are those that the decision about them names."""
+    entry = re.search(r"Functions open to another crate with a `requires`\.\*\*(.*?)\n\n", texts[DECISIONS], re.S)
+    there = set()
+    for crate in crates():
+        for file, text in sources(crate).items():
+            for name, head in re.findall(r"^pub fn (\w+)(.*?)^\{", text, re.M | re.S):
+                if "requires {" in head:
+                    there.add("::".join([crate, *([file] if file not in ("lib", "main") else []), name]))
+    named = set(re.findall(r"`(\w+(?:::\w+)+)`", entry[1] if entry else ""))
+    if named != there:
+        yield f"functions with a requires: {sorted(named ^ there)}"
+
+
+def words(texts):
+    """A word that two crates declare is in the glossary, and the files beside it have it."""
+    table = rows(section(texts[WORDS], "Words that name two things"), "Word")
+    told = {word for row in table for word in quoted(row[0])}
+    listed = set(quoted(section(texts[WORDS], "One thing in several crates").partition("The standing of")[0]))
+    for word in sorted(words_of_two() - told - listed):
+        yield f"{word} is declared in two crates: give one of them another name, or say in {WORDS} why it stays"
+    yield from (f"{word} is declared in one crate only" for word in sorted(listed - words_of_two()))
+    for row in table:
+        for crate, kind, file in re.findall(r"(\w+)/(specs|proofs|src)/(\w+)", row[1] + " " + row[2]):
+            path = f"crates/{crate}/{kind}/{file}.{'rt' if kind == 'src' else 'antt'}"
+            own = quoted(row[0]) or quoted(row[1] + row[2]) or [row[0]]
+            if not (ROOT / path).exists() or not any(re.search(rf"(?<![\w-]){word}(?![\w-])", text_of(path), re.I) for word in own):
+                yield f"{row[0]} in {path}"
+
+
+CHECKS = [wings, pictures, tables, lengths, links, functions, files, predicates, steps, requirements, words]
+
+
+# Houses with one thing changed
+
+
+def other(texts, path, found, new):
+    """A house of the pages that are needed, with something new in the place of what was found in one of them."""
+    start, end = found.span(1)
+    return {name: texts[name] for name in (LIST, HOUSE, WALKS, WORDS, DECISIONS)} | {path: texts[path][:start] + new + texts[path][end:]}
+
+
+def changed(texts):
+    """Yields houses with one line, name or link changed, with the check that must notice it and what was changed."""
+    changes = [
+        (LIST, wings, r"^(\w+:.*\n)", ""),  # a crate that is left out
+        (LIST, tables, r"^(# \w+\n)", ""),  # a wing's crates in the one before it
+        (HOUSE, pictures, r"^( +\d* +`\w+`.*\n)", ""),
+        (HOUSE, tables, r"^\| (`\w+`.*?) \| [^|]* \|\n", "`nobody`"),
+        (HOUSE, lengths, r"\A()", "\n" * MOST_LINES),
+        (HOUSE, links, r"\]\(([^)]+)\)", "nowhere.md"),
+        (WALKS, functions, r"`\w+::([\w:]+)`", "nobody"),
+        (WALKS, files, r"\w+/(?:specs|proofs)/(\w+)", "Nobody"),
+        (WALKS, predicates, r"^\| (`[A-Z]\w+`) \| \w+/specs", "`Unit`"),
+        (WALKS, predicates, r"^\| `[A-Z]\w+` \|.*(?<!in )(`\w+::[\w:]+`).*\n", "`numbers::put_le`"),
+        (WALKS, predicates, r"^\| `[A-Z]\w+` \|.*?laws? `([\w-]+)`.*\n", "nobody"),
+        (WALKS, steps, r"^\| \d+ \| `\w+::([\w:]+)`.*\n", "nobody"),
+        (WALKS, steps, r"^\| (`intake::intake_box_\w+`) \| `\w+::", "`intake::intake_tick`"),
+        (DECISIONS, requirements, r"(`\w+::put_\w+`)", "nothing"),
+        ("docs/LANGUAGE.md", files, r"\w+/specs/(\w+)", "Nobody"),
+        *((WORDS, words, rf"`({word})`", "nobody") for word in sorted(words_of_two())),
+    ]
+    for path, check, pattern, new in changes:
+        places = list(re.finditer(pattern, texts[path], re.M))
+        expect(places, f"nothing to change: {pattern}")
+        for found in places[: 1 if check is words else None]:
+            yield other(texts, path, found, new), check, f"{path}: {found[0].strip()}"
+
+
+def noticed(texts, check):
+    try:
+        return bool(list(check(texts)))
+    except (ValueError, KeyError, IndexError):  # a crate that is nowhere, or in no wing
+        return True
+
+
+def main():
+    texts = house()
+    for check in CHECKS:
+        found = list(check(texts))
+        expect(not found, f"{check.__name__}: " + "\n  ".join(found))
+    for damaged, check, what in changed(texts):
+        expect(noticed(damaged, check), f"not noticed: {what}")
+    print(f"{passed} passed, {failed} failed")
+    return failed != 0
+
+
+if __name__ == "__main__":
+    sys.exit(main())
