@@ -1,7 +1,8 @@
 #!/usr/bin/env python3
-"""Holds the pages about the house to the crates: the wings and floors of docs/ARCHITECTURE.md to crates.txt, the predicates and steps of
-docs/WALKS.md and the list of required things in docs/DECISIONS.md to the contracts, the words of docs/GLOSSARY.md to the definitions; and
-every page to its length, its links, and the crates, files and functions that it names.
+"""Holds the pages about the house to the crates: the wings and floors of docs/ARCHITECTURE.md to crates.txt, docs/DEFINITIONS.md to the
+files of specs, the predicates and steps of docs/WALKS.md and the functions that docs/DECISIONS.md names for their requires to the
+contracts, the words of docs/GLOSSARY.md to the definitions; and every page to its length, its links, and the crates, files and functions
+that it names.
 
 Each check is a function of a house, which is the text of every page and of crates.txt by path, and gives its faults. The house itself must
 have none, and a house with one line, name or link changed must have some. The last line is 'N passed, M failed'.
@@ -17,7 +18,7 @@ sys.dont_write_bytecode = True
 
 ROOT = Path(__file__).resolve().parent.parent
 LIST, HOUSE, WALKS, WORDS = "crates.txt", "docs/ARCHITECTURE.md", "docs/WALKS.md", "docs/GLOSSARY.md"
-DECISIONS = "docs/DECISIONS.md"
+DECISIONS, DEFINITIONS = "docs/DECISIONS.md", "docs/DEFINITIONS.md"
 FOLDERS = ["", "docs", "docs/decisions", "docs/landings", "examples"]
 MOST_LINES = 300
 LONGER = ["docs/DEMANDS.md"]  # one row for each sentence of the papers
@@ -47,7 +48,12 @@ def load(path):
     return module
 
 
-floors = load("tools/floors")
+floors, index = load("tools/floors"), load("tools/definitions")
+
+
+@functools.cache
+def written_index():
+    return index.page()
 
 
 def house():
@@ -198,6 +204,12 @@ def files(texts):
                 yield f"{path}: {crate}/{kind}/{file}"
 
 
+def definitions(texts):
+    """The index of definitions is the one that the files give."""
+    if texts[DEFINITIONS] != written_index():
+        yield f"{DEFINITIONS}: tools/definitions --write"
+
+
 def predicates(texts):
     """A predicate is declared where the page says, ensured by what gives it and required by what asks for it."""
     for name, where, _, given, asked in rows(texts[WALKS], "Predicate"):
@@ -261,7 +273,7 @@ def words(texts):
                 yield f"{row[0]} in {path}"
 
 
-CHECKS = [wings, pictures, tables, lengths, links, functions, files, predicates, steps, requirements, words]
+CHECKS = [wings, pictures, tables, lengths, links, functions, files, definitions, predicates, steps, requirements, words]
 
 
 # Houses with one thing changed
@@ -270,7 +282,8 @@ CHECKS = [wings, pictures, tables, lengths, links, functions, files, predicates,
 def other(texts, path, found, new):
     """A house of the pages that are needed, with something new in the place of what was found in one of them."""
     start, end = found.span(1)
-    return {name: texts[name] for name in (LIST, HOUSE, WALKS, WORDS, DECISIONS)} | {path: texts[path][:start] + new + texts[path][end:]}
+    needed = (LIST, HOUSE, WALKS, WORDS, DECISIONS, DEFINITIONS)
+    return {name: texts[name] for name in needed} | {path: texts[path][:start] + new + texts[path][end:]}
 
 
 def changed(texts):
@@ -290,6 +303,7 @@ def changed(texts):
         (WALKS, steps, r"^\| \d+ \| `\w+::([\w:]+)`.*\n", "nobody"),
         (WALKS, steps, r"^\| (`intake::intake_box_\w+`) \| `\w+::", "`intake::intake_tick`"),
         (DECISIONS, requirements, r"(`\w+::put_\w+`)", "nothing"),
+        (DEFINITIONS, definitions, r"^(\| \[.*\n)", ""),
         ("docs/LANGUAGE.md", files, r"\w+/specs/(\w+)", "Nobody"),
         *((WORDS, words, rf"`({word})`", "nobody") for word in sorted(words_of_two())),
     ]
