@@ -18,7 +18,9 @@ sys.dont_write_bytecode = True
 
 ROOT = Path(__file__).resolve().parent.parent
 LIST, HOUSE, WALKS, WORDS = "crates.txt", "docs/ARCHITECTURE.md", "docs/WALKS.md", "docs/GLOSSARY.md"
-DECISIONS, DEFINITIONS = "docs/DECISIONS.md", "docs/DEFINITIONS.md"
+DECISIONS, DEFINITIONS, LANGUAGE = "docs/DECISIONS.md", "docs/DEFINITIONS.md", "docs/LANGUAGE.md"
+DEMANDS = "docs/DEMANDS.md"
+PROSE = {"edits", "edit"}  # words that stand before an edit and name no crate
 FOLDERS = ["", "docs", "docs/decisions", "docs/landings", "examples"]
 MOST_LINES = 300
 LONGER = ["docs/DEMANDS.md"]  # one row for each sentence of the papers
@@ -204,10 +206,54 @@ def files(texts):
                 yield f"{path}: {crate}/{kind}/{file}"
 
 
+@functools.cache
+def proof_text(name):
+    """What the files of specs and proofs of this name have, or all of them if none has it: then it is a type."""
+    paths = list((ROOT / "crates").glob(f"*/*/{name}.antt")) or list((ROOT / "crates").glob("*/specs/*.antt"))
+    return "\n".join(path.read_text(encoding="utf-8") for path in paths)
+
+
+def cited(texts):
+    """The declarations that are named behind their file, or behind their type."""
+    for path, text in pages(texts, old=False):
+        for where, file, name in re.findall(r"`((?:\w+/(?:specs|proofs)/)?([A-Z]\w+))\.([\w-]+)", text):
+            source = ROOT / "crates" / f"{where}.antt"
+            there = source.read_text(encoding="utf-8") if "/" in where and source.exists() else "" if "/" in where else proof_text(file)
+            if not re.search(rf"(?<![\w-]){re.escape(name)}(?![\w-])", there):
+                yield f"{path}: {where}.{name}"
+
+
+@functools.cache
+def edits():
+    """The must-fail edits by name, each with the crates that have it."""
+    found = {}
+    for path in (ROOT / "crates").glob("*/must-fail/*.edit"):
+        found.setdefault(path.stem, set()).add(path.parts[-3])
+    return found
+
+
+def edited(texts):
+    """A must-fail edit that is named behind a crate is one of that crate."""
+    for path, text in pages(texts, old=False):
+        for crate, named in re.findall(r"(?<![\w`])(\w+) ((?:`\w+`(?: \([^)|]*\))?(?:, )?)+)", text):
+            for edit in quoted(re.sub(r"\([^)]*\)", "", named)):
+                if edit in edits() and crate not in edits()[edit] and (crate in crates() or path == DEMANDS and crate not in PROSE):
+                    yield f"{path}: {crate} has no must-fail edit {edit}"
+
+
 def definitions(texts):
     """The index of definitions is the one that the files give."""
     if texts[DEFINITIONS] != written_index():
         yield f"{DEFINITIONS}: tools/definitions --write"
+
+
+def language(texts):
+    """The page about the language has every file of its definitions and of its theorems."""
+    for first, folder in (("specs/", "crates/esterel/specs"), ("proofs/", "crates/theory/proofs")):
+        given = {name for row in rows(texts[LANGUAGE], first) for name in quoted(row[0])}
+        there = {path.stem for path in (ROOT / folder).glob("*.antt")} - {"Lib", "Theorems"}
+        if given != there:
+            yield f"the files of {folder} in {LANGUAGE}: {sorted(given ^ there)}"
 
 
 def predicates(texts):
@@ -268,12 +314,12 @@ def words(texts):
     for row in table:
         for crate, kind, file in re.findall(r"(\w+)/(specs|proofs|src)/(\w+)", row[1] + " " + row[2]):
             path = f"crates/{crate}/{kind}/{file}.{'rt' if kind == 'src' else 'antt'}"
-            own = quoted(row[0]) or quoted(row[1] + row[2]) or [row[0]]
+            own = quoted(row[0]) or quoted(row[1] + row[2]) + row[0].split(", ")
             if not (ROOT / path).exists() or not any(re.search(rf"(?<![\w-]){word}(?![\w-])", text_of(path), re.I) for word in own):
                 yield f"{row[0]} in {path}"
 
 
-CHECKS = [wings, pictures, tables, lengths, links, functions, files, definitions, predicates, steps, requirements, words]
+CHECKS = [wings, pictures, tables, lengths, links, functions, files, cited, edited, definitions, language, predicates, steps, requirements, words]
 
 
 # Houses with one thing changed
@@ -282,7 +328,7 @@ CHECKS = [wings, pictures, tables, lengths, links, functions, files, definitions
 def other(texts, path, found, new):
     """A house of the pages that are needed, with something new in the place of what was found in one of them."""
     start, end = found.span(1)
-    needed = (LIST, HOUSE, WALKS, WORDS, DECISIONS, DEFINITIONS)
+    needed = (LIST, HOUSE, WALKS, WORDS, DECISIONS, DEFINITIONS, LANGUAGE)
     return {name: texts[name] for name in needed} | {path: texts[path][:start] + new + texts[path][end:]}
 
 
@@ -303,8 +349,11 @@ def changed(texts):
         (WALKS, steps, r"^\| \d+ \| `\w+::([\w:]+)`.*\n", "nobody"),
         (WALKS, steps, r"^\| (`intake::intake_box_\w+`) \| `\w+::", "`intake::intake_tick`"),
         (DECISIONS, requirements, r"(`\w+::put_\w+`)", "nothing"),
+        (DEMANDS, edited, r"\b(heads|esterel) `\w+`", "limits"),
+        (WORDS, cited, r"`[A-Z]\w+\.(\w+)`", "nonesuch"),
         (DEFINITIONS, definitions, r"^(\| \[.*\n)", ""),
-        ("docs/LANGUAGE.md", files, r"\w+/specs/(\w+)", "Nobody"),
+        (LANGUAGE, language, r"^\| (`[A-Z]\w+`.*?) \|.*\n", "`Nobody`"),
+        (LANGUAGE, files, r"\w+/specs/(\w+)", "Nobody"),
         *((WORDS, words, rf"`({word})`", "nobody") for word in sorted(words_of_two())),
     ]
     for path, check, pattern, new in changes:
