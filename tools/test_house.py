@@ -20,10 +20,11 @@ ROOT = Path(__file__).resolve().parent.parent
 LIST, HOUSE, WALKS, WORDS = "crates.txt", "docs/ARCHITECTURE.md", "docs/WALKS.md", "docs/GLOSSARY.md"
 DECISIONS, DEFINITIONS, LANGUAGE = "docs/DECISIONS.md", "docs/DEFINITIONS.md", "docs/LANGUAGE.md"
 DEMANDS = "docs/DEMANDS.md"
+SENTENCES = (DEMANDS, "docs/demands/")  # the pages with a row for each sentence of the papers
 PROSE = {"edits", "edit"}  # words that stand before an edit and name no crate
-FOLDERS = ["", "docs", "docs/decisions", "docs/landings", "examples"]
+FOLDERS = ["", "docs", "docs/decisions", "docs/demands", "docs/landings", "examples"]
 MOST_LINES = 300
-LONGER = ["docs/DEMANDS.md"]  # one row for each sentence of the papers
+LONGER = ["README.md"]  # its hosts in C are compiled as they stand there
 LIBRARIES = {"std", "check", "libc", "io", "os", "bytes"}  # of the toolchain
 DECLARED = r"^\s*(?:abbrev |unfoldable )?pub (?:data |record )?{}(?=[\s:(])"
 
@@ -237,7 +238,7 @@ def edited(texts):
     for path, text in pages(texts, old=False):
         for crate, named in re.findall(r"(?<![\w`])(\w+) ((?:`\w+`(?: \([^)|]*\))?(?:, )?)+)", text):
             for edit in quoted(re.sub(r"\([^)]*\)", "", named)):
-                if edit in edits() and crate not in edits()[edit] and (crate in crates() or path == DEMANDS and crate not in PROSE):
+                if edit in edits() and crate not in edits()[edit] and (crate in crates() or path.startswith(SENTENCES) and crate not in PROSE):
                     yield f"{path}: {crate} has no must-fail edit {edit}"
 
 
@@ -294,9 +295,10 @@ def requirements(texts):
     entry = re.search(r"Functions open to another crate with a `requires`\.\*\*(.*?)\n\n", texts[DECISIONS], re.S)
     there = set()
     for crate in crates():
+        closed = set(re.findall(r"^mod (\w+);", "\n".join(sources(crate).values()), re.M))  # files of the crate alone
         for file, text in sources(crate).items():
             for name, head in re.findall(r"^pub fn (\w+)(.*?)^\{", text, re.M | re.S):
-                if "requires {" in head:
+                if "requires {" in head and file not in closed:
                     there.add("::".join([crate, *([file] if file not in ("lib", "main") else []), name]))
     named = set(re.findall(r"`(\w+(?:::\w+)+)`", entry[1] if entry else ""))
     if named != there:
