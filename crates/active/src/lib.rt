@@ -5,25 +5,33 @@ ghost use lib.ListN.{length};
 ghost use Rattle.sets.specs.Sets.{labelCount, onlyBelow};
 ghost use Rattle.labels.specs.Labels.{labelSet};
 ghost use Rattle.layout.specs.Layout.{rest, Ready, Pair};
-ghost use Rattle.active.specs.Labelled.{Adds, Labelled, Found, FoundTwo};
+ghost use Rattle.active.specs.Labelled.{Joined, Labelled, Found, FoundTwo};
 use labels::Labels;
-use layout::Seconds;
+use layout::SecondParts;
 
 // The two words of a set of labels.
 type Words = [u64; 2];
 
 // A pause with label l is active.
 fn add(l: u8, found: &mut Words)
-    ensures { λ _. ⌜ Adds (onlyBelow labelCount l) (now (found .entry)) (now (found .exit)) ⌝ }
+    ensures { λ _. ⌜ Joined (onlyBelow labelCount l) (now (found .entry)) (now (found .exit)) ⌝ }
 {
     let labels = labels::union(labels::from_words(found[0], found[1]), labels::single(l));
     found[0] = labels::low_word(labels);
     found[1] = labels::high_word(labels);
 }
 
-// Adds the labels of the statement at the front of s, which stands at the offset `at`. The words of the mask are passed in
+// Joined the labels of the statement at the front of s, which stands at the offset `at`. The words of the mask are passed in
 // registers, and those of the result are kept in one place.
-fn inside(s: &[u8], at: usize, depth: u8, low: u64, high: u64, second: &Seconds, found: &mut Words)
+fn inside(
+    s: &[u8],
+    at: usize,
+    depth: u8,
+    low: u64,
+    high: u64,
+    second: &SecondParts,
+    found: &mut Words,
+)
     requires { ⌜ Ready (now second) depth at (now s) ⌝ }
     ensures { λ _. ⌜ Found (now (second .entry)) depth at (now (s .entry)) low high (now (found .entry)) (now (found .exit)) ⌝ }
 {
@@ -52,7 +60,7 @@ fn part(
     depth: u8,
     low: u64,
     high: u64,
-    second: &Seconds,
+    second: &SecondParts,
     found: &mut Words,
 )
     requires { ⌜ n ≤ length (now s) ⌝ }
@@ -70,7 +78,7 @@ fn parts(
     depth: u8,
     low: u64,
     high: u64,
-    second: &Seconds,
+    second: &SecondParts,
     found: &mut Words,
 )
     requires { ⌜ Pair (now second) (depth - 1) at w (now s) ⌝ }
@@ -107,7 +115,14 @@ fn parts(
 }
 
 // The labels of the part from s[n] on, which stands at the offset `at`.
-pub fn of_part(s: &[u8], n: usize, at: usize, depth: u8, active: Labels, second: &Seconds) -> Labels
+pub fn of_part(
+    s: &[u8],
+    n: usize,
+    at: usize,
+    depth: u8,
+    active: Labels,
+    second: &SecondParts,
+) -> Labels
     requires { ⌜ n ≤ length (now s) ⌝ }
     requires { ⌜ Ready (now second) depth at (rest n (now s)) ⌝ }
     ensures { λ r. ⌜ Labelled (now (second .entry)) depth at (rest n (now (s .entry))) (labelSet active) r ⌝ }

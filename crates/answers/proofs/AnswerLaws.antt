@@ -9,14 +9,14 @@ use Rattle.esterel.specs.Reaction.{Code, ended, waiting, leaving, wrong, gives}
 use Rattle.esterel.specs.Errors.{Error, noError, blame}
 use Rattle.esterel.specs.Resume.{instant}
 use Rattle.esterel.specs.Machines.{shown}
-use Rattle.limits.specs.Limits.{placeBytes, signalBytes, takenBytes}
+use Rattle.limits.specs.Limits.{placeBytes, signalBytes, reactionsBytes}
 use Rattle.numbers.specs.Bytes.{leBytes}
 use Rattle.numbers.proofs.Bytes.{le-round-trip}
-use Rattle.answers.specs.AnswerRecord.{answerLength, codeByte, answerRecord, codeIn, kindIn, placeIn, emittedIn, takenIn, encodeAnswer}
+use Rattle.answers.specs.AnswerRecord.{answerLength, codeByte, answerRecord, codeIn, kindIn, placeIn, emittedIn, reactionsIn, encodeAnswer}
 
-pub answer-sized : (code kind place emitted taken : ℕ) → length (answerRecord code kind place emitted taken) ≡ answerLength
+pub answer-sized : (code kind place emitted reactions : ℕ) → length (answerRecord code kind place emitted reactions) ≡ answerLength
 unfolding leBytes
-answer-sized code kind place emitted taken = refl
+answer-sized code kind place emitted reactions = refl
 
 -- ---- what an instant answers: no kind and place unless it is wrong, and then those of its first error
 pub blameless : (k : Code) (x : Option Error) → k ≢ wrong → blame k x ≡ noError
@@ -55,6 +55,6 @@ module _ (o : ℕ) (k : Code) (l : ℕ) (t : Statement) (x : Option Error) (n : 
   unfolding encodeAnswer leBytes
   emitted-field h = le-round-trip signalBytes (shown k o) h
 
-  pub taken-field : n < 256 ^ takenBytes → takenIn (encodeAnswer (instant (gives o k l t) x n)) ≡ n
+  pub reactions-field : n < 256 ^ reactionsBytes → reactionsIn (encodeAnswer (instant (gives o k l t) x n)) ≡ n
   unfolding encodeAnswer leBytes
-  taken-field h = le-round-trip takenBytes n h
+  reactions-field h = le-round-trip reactionsBytes n h

@@ -8,8 +8,8 @@ use Rattle.esterel.specs.Reaction.{Code, gives}
 use Rattle.esterel.specs.Errors.{Error, blame}
 use Rattle.esterel.specs.Resume.{instant}
 use Rattle.esterel.specs.Machines.{shown}
-use Rattle.limits.specs.Limits.{placeBytes, signalBytes, takenBytes}
-use Rattle.answers.specs.AnswerRecord.{answerLength, codeByte, codeIn, kindIn, placeIn, emittedIn, takenIn, encodeAnswer}
+use Rattle.limits.specs.Limits.{placeBytes, signalBytes, reactionsBytes}
+use Rattle.answers.specs.AnswerRecord.{answerLength, codeByte, codeIn, kindIn, placeIn, emittedIn, reactionsIn, encodeAnswer}
 use Rattle.answers.proofs.AnswerLaws as laws
 
 pub length-answer : (o : ℕ) (k : Code) (l : ℕ) (t : Statement) (x : Option Error) (n : ℕ)
@@ -21,11 +21,11 @@ pub fields : (o : ℕ) (k : Code) (l : ℕ) (t : Statement) (x : Option Error) (
     × (kindIn (encodeAnswer (instant (gives o k l t) x n)) ≡ blame k x .kind)
     × (blame k x .place < 256 ^ placeBytes → placeIn (encodeAnswer (instant (gives o k l t) x n)) ≡ blame k x .place)
     × (shown k o < 256 ^ signalBytes → emittedIn (encodeAnswer (instant (gives o k l t) x n)) ≡ shown k o)
-    × (n < 256 ^ takenBytes → takenIn (encodeAnswer (instant (gives o k l t) x n)) ≡ n)
+    × (n < 256 ^ reactionsBytes → reactionsIn (encodeAnswer (instant (gives o k l t) x n)) ≡ n)
 fields o k l t x n = (
   laws.code-field o k l t x n,
   laws.kind-field o k l t x n,
   laws.place-field o k l t x n,
   laws.emitted-field o k l t x n,
-  laws.taken-field o k l t x n,
+  laws.reactions-field o k l t x n,
 )

@@ -6,7 +6,7 @@ use Rattle.esterel.specs.Reaction.{Code, ended, waiting, leaving, wrong, gives}
 use Rattle.esterel.specs.Errors.{blame}
 use Rattle.esterel.specs.Resume.{Instant, instant}
 use Rattle.esterel.specs.Machines.{shown}
-use Rattle.limits.specs.Limits.{placeBytes, signalBytes, takenBytes}
+use Rattle.limits.specs.Limits.{placeBytes, signalBytes, reactionsBytes}
 use Rattle.numbers.specs.Bytes.{leBytes, leNumber}
 
 -- where a field of several bytes begins, and the length
@@ -16,15 +16,15 @@ placeAt = 2
 abbrev pub emittedAt : ℕ
 emittedAt = placeAt + placeBytes
 
-abbrev pub takenAt : ℕ
-takenAt = emittedAt + signalBytes
+abbrev pub reactionsAt : ℕ
+reactionsAt = emittedAt + signalBytes
 
 abbrev pub answerLength : ℕ
-answerLength = takenAt + takenBytes
+answerLength = reactionsAt + reactionsBytes
 
-abbrev pub answerRecord : (code kind place emitted taken : ℕ) → List ℕ
-answerRecord code kind place emitted taken =
-    ((code ∷ kind ∷ leBytes placeBytes place) ++ leBytes signalBytes emitted) ++ leBytes takenBytes taken
+abbrev pub answerRecord : (code kind place emitted reactions : ℕ) → List ℕ
+answerRecord code kind place emitted reactions =
+    ((code ∷ kind ∷ leBytes placeBytes place) ++ leBytes signalBytes emitted) ++ leBytes reactionsBytes reactions
 
 abbrev pub codeIn : List ℕ → ℕ
 codeIn answer = getD answer 0 0
@@ -38,8 +38,8 @@ placeIn answer = leNumber (take placeBytes (drop placeAt answer))
 abbrev pub emittedIn : List ℕ → ℕ
 emittedIn answer = leNumber (take signalBytes (drop emittedAt answer))
 
-abbrev pub takenIn : List ℕ → ℕ
-takenIn answer = leNumber (take takenBytes (drop takenAt answer))
+abbrev pub reactionsIn : List ℕ → ℕ
+reactionsIn answer = leNumber (take reactionsBytes (drop reactionsAt answer))
 
 -- what an instant answers: its code
 abbrev pub codeByte : Code → ℕ

@@ -1,19 +1,19 @@
 // The answer record that a host lends: code, kind and place of an error, emitted set, number of reactions.
 ghost use mathlib.Core.Path.{_≡_};
 ghost use Rattle.numbers.specs.Bytes.{replaced};
-ghost use Rattle.answers.specs.AnswerRecord.{codeIn, kindIn, placeIn, emittedIn, takenIn, answerRecord};
+ghost use Rattle.answers.specs.AnswerRecord.{codeIn, kindIn, placeIn, emittedIn, reactionsIn, answerRecord};
 use limits::PLACE_BYTES;
+use limits::REACTIONS_BYTES;
 use limits::SIGNAL_BYTES;
-use limits::TAKEN_BYTES;
 
 // Where the fields of several bytes begin.
 pub const PLACE_AT: usize = 2;
 
 pub const EMITTED_AT: usize = PLACE_AT + PLACE_BYTES;
 
-pub const TAKEN_AT: usize = EMITTED_AT + SIGNAL_BYTES;
+pub const REACTIONS_AT: usize = EMITTED_AT + SIGNAL_BYTES;
 
-pub const ANSWER_LENGTH: usize = TAKEN_AT + TAKEN_BYTES;
+pub const ANSWER_LENGTH: usize = REACTIONS_AT + REACTIONS_BYTES;
 
 pub fn code(answer: &[u8]) -> u8
     ensures { λ r. ⌜ r ≡ codeIn (now (answer .entry)) ⌝ }
@@ -39,15 +39,15 @@ pub fn emitted(answer: &[u8]) -> u32
     numbers::get_le(answer, EMITTED_AT, SIGNAL_BYTES) as u32
 }
 
-pub fn taken(answer: &[u8]) -> u32
-    ensures { λ r. ⌜ r ≡ takenIn (now (answer .entry)) ⌝ }
+pub fn reactions(answer: &[u8]) -> u32
+    ensures { λ r. ⌜ r ≡ reactionsIn (now (answer .entry)) ⌝ }
 {
-    numbers::get_le(answer, TAKEN_AT, TAKEN_BYTES) as u32
+    numbers::get_le(answer, REACTIONS_AT, REACTIONS_BYTES) as u32
 }
 
 // A buffer of another length is left as it is.
-pub fn write_answer(answer: &mut [u8], code: u8, kind: u8, place: u16, emitted: u32, taken: u32)
-    ensures { λ _. ⌜ now (answer .exit) ≡ replaced (now (answer .entry)) (answerRecord code kind place emitted taken) ⌝ }
+pub fn write_answer(answer: &mut [u8], code: u8, kind: u8, place: u16, emitted: u32, reactions: u32)
+    ensures { λ _. ⌜ now (answer .exit) ≡ replaced (now (answer .entry)) (answerRecord code kind place emitted reactions) ⌝ }
 {
     if answer.len() != ANSWER_LENGTH {
         return;
@@ -56,5 +56,5 @@ pub fn write_answer(answer: &mut [u8], code: u8, kind: u8, place: u16, emitted: 
     answer[1] = kind;
     numbers::put_le(answer, PLACE_AT, PLACE_BYTES, place as u64);
     numbers::put_le(answer, EMITTED_AT, SIGNAL_BYTES, emitted as u64);
-    numbers::put_le(answer, TAKEN_AT, TAKEN_BYTES, taken as u64);
+    numbers::put_le(answer, REACTIONS_AT, REACTIONS_BYTES, reactions as u64);
 }

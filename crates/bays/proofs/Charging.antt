@@ -40,13 +40,13 @@ use Rattle.box_fields.proofs.Fields.{ledger-sized}
 use Rattle.bays.proofs.Ticking.{short-step, refused-step, kept-written}
 
 -- ---- an instant
-by-completion : (P : Outcome → Type 0) (r : Reaction) → ((k : Completion) → P (writtenBy k (r .emitted) (labelSet (r .labels)) (r .taken))) → P (writtenFrom r)
+by-completion : (P : Outcome → Type 0) (r : Reaction) → ((k : Completion) → P (writtenBy k (r .emitted) (labelSet (r .labels)) (r .reactions))) → P (writtenFrom r)
 by-completion P r h = h (r .completion)
 
 pub written-0 : (r : Reaction) → demands.number (writtenFrom r) ≡ 0
 written-0 r = by-completion (λ o. demands.number o ≡ 0) r go
   where
-    go : (k : Completion) → demands.number (writtenBy k (r .emitted) (labelSet (r .labels)) (r .taken)) ≡ 0
+    go : (k : Completion) → demands.number (writtenBy k (r .emitted) (labelSet (r .labels)) (r .reactions)) ≡ 0
     go Ended = refl
     go Waiting = refl
     go (Leaving n) = refl
@@ -55,7 +55,7 @@ written-0 r = by-completion (λ o. demands.number o ≡ 0) r go
 written-sized : (r : Reaction) → length (stateAfterwards (writtenFrom r)) ≡ stateLength
 written-sized r = by-completion (λ o. length (stateAfterwards o) ≡ stateLength) r go
   where
-    go : (k : Completion) → length (stateAfterwards (writtenBy k (r .emitted) (labelSet (r .labels)) (r .taken))) ≡ stateLength
+    go : (k : Completion) → length (stateAfterwards (writtenBy k (r .emitted) (labelSet (r .labels)) (r .reactions))) ≡ stateLength
     go Ended = records.state-sized 2 _
     go Waiting = records.state-sized 1 _
     go (Leaving n) = records.state-sized 2 _

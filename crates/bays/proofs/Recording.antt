@@ -18,18 +18,18 @@ use Rattle.recordings.proofs.Records.{record-sized}
 use Rattle.recordings.proofs.Panels.{length-panel}
 use Rattle.parts.proofs.Parts.{stored}
 use Rattle.box_calls.specs.Called.{called}
-use Rattle.box_calls.specs.Stretch.{countAt, stretchLength, stateIn, countIn, serviceOnlyIn}
+use Rattle.box_calls.specs.Stretch.{countAt, stretchLength, stateIn, lastNumberIn, serviceOnlyIn}
 use Rattle.box_calls.specs.BayCalls.{counted, recorded, showing, bayChargedOf, bayTickOf, bayServiceOf, bayPanelOf}
 use Rattle.bays.proofs.Ticking.{state-sized}
 
 -- ---- an instant is counted, and its record is written
 module _ (s : List ℕ) (e : ℕ) (answer trace : List ℕ)
     (z : length s ≡ stretchLength) (l : length answer ≡ answerLength) (j : length trace ≡ recordLength) where
-  pub noted : {k n : ℕ} → k ≡ countIn s → n ≡ following k → {state s′ trace′ : List ℕ} → state ≡ stateIn s
+  pub noted : {k n : ℕ} → k ≡ lastNumberIn s → n ≡ following k → {state s′ trace′ : List ℕ} → state ≡ stateIn s
       → trace′ ≡ replaced trace (recordOf n e answer state) → s′ ≡ sets s countAt (leBytes numberBytes n)
       → called 0 s′ (answer ∷ trace′ ∷ []) ≡ recorded e trace (called 0 s (answer ∷ []))
   noted {k} {n} a b {state} {s′} {trace′} c h g =
-      let m = following (countIn s) in
+      let m = following (lastNumberIn s) in
       let x : n ≡ m = b ∙ ap following a in
       let y : s′ ≡ counted s =
       g ∙ ap (λ (i : ℕ). sets s countAt (leBytes numberBytes i)) x

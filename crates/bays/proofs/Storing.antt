@@ -5,7 +5,7 @@ use mathlib.Core.Path.{_≡_, refl, ap, _∙_}
 use mathlib.Core.List.{List}
 use lib.ListN.{length}
 use lib.Seq.{sets}
-use Rattle.limits.specs.Limits.{maxBytes, signalBytes, takenBytes}
+use Rattle.limits.specs.Limits.{maxBytes, signalBytes, reactionsBytes}
 use Rattle.numbers.specs.Bytes.{leBytes}
 use Rattle.numbers.proofs.Bytes.{length-leBytes}
 use Rattle.parts.specs.Parts.{put, zeros}
@@ -26,7 +26,7 @@ module _ (t : Terms) (ceiling : ℕ) (s : List ℕ) (z : length s ≡ stretchLen
 
   pub filled-by : {v a b c d e : List ℕ} → v ≡ vacated s → a ≡ sets v 0 (leBytes lengthBytes (length (t .sequence)))
       → b ≡ sets a sequenceAt (t .sequence) → c ≡ sets b readBackAt (leBytes signalBytes (t .readBack))
-      → d ≡ sets c ceilingAt (leBytes takenBytes ceiling) → e ≡ sets d serviceAt (leBytes signalBytes (t .serviceOnly)) → e ≡ filled t ceiling s
+      → d ≡ sets c ceilingAt (leBytes reactionsBytes ceiling) → e ≡ sets d serviceAt (leBytes signalBytes (t .serviceOnly)) → e ≡ filled t ceiling s
   unfolding filled
   filled-by {v} {a} {b} {c} {d} {e} ev ea eb ec ed ee =
       let n = length (t .sequence) in
@@ -34,7 +34,7 @@ module _ (t : Terms) (ceiling : ℕ) (s : List ℕ) (z : length s ≡ stretchLen
       let wb = next sequenceAt n (t .sequence) a (s1 t ceiling s z fits) wa (l1 t ceiling s z fits) (omega arith) refl eb in
       let wc = next readBackAt signalBytes (leBytes signalBytes (t .readBack)) b (s2 t ceiling s z fits) wb (l2 t ceiling s z fits) (omega arith)
       (length-leBytes signalBytes (t .readBack)) ec in
-      let wd = next ceilingAt takenBytes (leBytes takenBytes ceiling) c (s3 t ceiling s z fits) wc (l3 t ceiling s z fits) (omega arith)
-      (length-leBytes takenBytes ceiling) ed in
+      let wd = next ceilingAt reactionsBytes (leBytes reactionsBytes ceiling) c (s3 t ceiling s z fits) wc (l3 t ceiling s z fits) (omega arith)
+      (length-leBytes reactionsBytes ceiling) ed in
       next serviceAt signalBytes (leBytes signalBytes (t .serviceOnly)) d (s4 t ceiling s z fits) wd (l4 t ceiling s z fits) (omega arith)
       (length-leBytes signalBytes (t .serviceOnly)) ee

@@ -11,7 +11,7 @@ ghost use Rattle.instants.specs.Replies.{Replies};
 ghost use Rattle.ledgers.specs.Ledgers.{farmCount, NoneOutside};
 ghost use Rattle.deliveries.specs.Delivering.{Delivers};
 ghost use Rattle.box_calls.specs.Called.{called};
-ghost use Rattle.box_calls.specs.Stretch.{stretchLength, isEmpty, sequenceIn, readBackIn, serviceOnlyIn, stateIn, countIn, positionsIn};
+ghost use Rattle.box_calls.specs.Stretch.{stretchLength, isEmpty, sequenceIn, readBackIn, serviceOnlyIn, stateIn, lastNumberIn, positionsIn};
 ghost use Rattle.box_calls.specs.Stretch.{ledgerIn, partOf, vacated, terms, filled};
 ghost use Rattle.box_calls.specs.BayCalls.{stateKept, charged, bayChargedOf, recorded, bayTickOf, bayReleaseOf, bayAdmitOf, baySaveOf};
 ghost use Rattle.box_calls.specs.BayCalls.{bayRestoreOf, bayForgetOf, bayServiceOf, bayPanelOf, bayPreviewOf, bayLedgerOf, bayNewYearOf};
@@ -22,8 +22,8 @@ use ledgers::Deliveries;
 use limits::MAX_BYTES;
 use limits::MAX_POSITIONS;
 use limits::NUMBER_BYTES;
+use limits::REACTIONS_BYTES;
 use limits::SIGNAL_BYTES;
-use limits::TAKEN_BYTES;
 use positions::TABLE_LENGTH;
 use reaction::Reaction;
 use recordings::PANEL_LENGTH;
@@ -39,7 +39,7 @@ const READ_BACK_AT: usize = SEQUENCE_AT + MAX_BYTES;
 
 const CEILING_AT: usize = READ_BACK_AT + SIGNAL_BYTES;
 
-const SERVICE_AT: usize = CEILING_AT + TAKEN_BYTES;
+const SERVICE_AT: usize = CEILING_AT + REACTIONS_BYTES;
 
 // Moved by calls:
 const STATE_AT: usize = SERVICE_AT + SIGNAL_BYTES;
@@ -88,7 +88,7 @@ fn state(stretch: &[u8]) -> &[u8]
 }
 
 fn count(stretch: &[u8]) -> u32
-    ensures { λ r. ⌜ r ≡ countIn (now (stretch .entry)) ⌝ }
+    ensures { λ r. ⌜ r ≡ lastNumberIn (now (stretch .entry)) ⌝ }
 {
     numbers::get_le(stretch, COUNT_AT, NUMBER_BYTES) as u32
 }
@@ -112,7 +112,7 @@ pub fn part(stretch: &[u8]) -> u32
     if is_empty(stretch) {
         return 0;
     }
-    numbers::get_le(stretch, CEILING_AT, TAKEN_BYTES) as u32
+    numbers::get_le(stretch, CEILING_AT, REACTIONS_BYTES) as u32
 }
 
 // What a tick on what the bay holds comes to before anything is written, with the litres of the farms that its sequence names.
@@ -224,7 +224,7 @@ fn fill(stretch: &mut [u8], sequence: &[u8], read_back: u32, service_only: u32, 
     numbers::put_le(stretch, 0, LENGTH_BYTES, sequence.len() as u64);
     numbers::copying::put_bytes(stretch, SEQUENCE_AT, sequence);
     numbers::put_le(stretch, READ_BACK_AT, SIGNAL_BYTES, read_back as u64);
-    numbers::put_le(stretch, CEILING_AT, TAKEN_BYTES, ceiling as u64);
+    numbers::put_le(stretch, CEILING_AT, REACTIONS_BYTES, ceiling as u64);
     numbers::put_le(stretch, SERVICE_AT, SIGNAL_BYTES, service_only as u64);
 }
 

@@ -21,7 +21,7 @@ use Rattle.demands.specs.Deliveries.{deliveries}
 use Rattle.ledgers.specs.Ledgers as Ledgers
 use Rattle.ledgers.specs.Ledgers.{readingLength, passes, added, readingOf}
 use Rattle.box_calls.specs.Called.{Called, called, first}
-use Rattle.box_calls.specs.Stretch.{stateAt, countAt, positionsAt, sequenceIn, readBackIn, serviceOnlyIn, stateIn, countIn, positionsIn, ledgerIn, vacated, withLedger, Terms, filled}
+use Rattle.box_calls.specs.Stretch.{stateAt, countAt, positionsAt, sequenceIn, readBackIn, serviceOnlyIn, stateIn, lastNumberIn, positionsIn, ledgerIn, vacated, withLedger, Terms, filled}
 
 -- 02, item 8: 'a shared ceiling of 65,536 reactions an instant'
 abbrev pub sharedCeiling : ℕ
@@ -52,10 +52,10 @@ bayChargedOf s e answer = charged s (delivering s e) answer (bayStepOf s e answe
 -- 02, item 10: an instant is counted, and leaves its number, input, answer and next state in the buffer `trace`; a call turned down
 -- leaves no record
 abbrev pub counted : List ℕ → List ℕ
-counted s = put countAt numberBytes (leBytes numberBytes (following (countIn s))) s
+counted s = put countAt numberBytes (leBytes numberBytes (following (lastNumberIn s))) s
 
 abbrev pub recorded : (e : ℕ) (trace : List ℕ) → Called → Called
-recorded e trace (called zero s lent) = called 0 (counted s) (first lent ∷ recordOf (following (countIn s)) e (first lent) (stateIn s) ∷ [])
+recorded e trace (called zero s lent) = called 0 (counted s) (first lent ∷ recordOf (following (lastNumberIn s)) e (first lent) (stateIn s) ∷ [])
 recorded e trace (called (suc n) s lent) = called (suc n) s (first lent ∷ trace ∷ [])
 
 unfoldable pub bayTickOf : (s : List ℕ) (e : ℕ) (answer trace : List ℕ) → Called

@@ -12,7 +12,7 @@ use Rattle.box_calls.specs.Stretch.{lengthIn, sequenceIn, readBackIn, ce
 use Rattle.box_calls.specs.BayCalls.{sharedCeiling}
 use Rattle.box_calls.specs.Box.{bayCount, boxLength, emptyBox, stretchOf, present, Call, admit, release, tick, save, restore, forget, service, panel, preview, ledger, newYear, buffers}
 use Rattle.box_calls.specs.Lists.{Calling, Request, boxAfter, asked, answers, answerOf}
-use Rattle.box_calls.specs.Shares.{AllSendable, reactionsIn, OneTickEach}
+use Rattle.box_calls.specs.Shares.{AllSendable, sumOfReactions, OneTickEach}
 
 -- 'A refused call changes nothing in the box', whatever bytes it has: nor in the buffers that it was lent
 abbrev pub RefusalsLeave : Calling → Type 0
@@ -76,7 +76,7 @@ abbrev pub WithinCeiling : List ℕ → Type 0
 WithinCeiling box = present bayCount box ≤ sharedCeiling
 
 abbrev pub RoundsWithin : Calling → List ℕ → Type 0
-RoundsWithin call box = (ticks : List Request) → OneTickEach ticks → reactionsIn call box ticks ≤ sharedCeiling
+RoundsWithin call box = (ticks : List Request) → OneTickEach ticks → sumOfReactions call box ticks ≤ sharedCeiling
 
 -- 'A bay is admitted .. if Item 6's ceilings of those present and its own sum to no more': an accepted sequence, into an empty bay
 abbrev pub AdmitsBySum : Calling → List ℕ → Type 0

@@ -13,7 +13,7 @@ use Rattle.recordings.specs.Record.{recordLength, recordOf, numberIn, panelLeng
 use Rattle.recordings.specs.Recording.{following}
 use Rattle.demands.specs.Tick.{Outcome}
 use Rattle.box_calls.specs.Called.{Called, called, number, memoryAfter, lentAfter, first}
-use Rattle.box_calls.specs.Stretch.{lengthIn, stateIn, countIn, serviceOnlyIn, Terms}
+use Rattle.box_calls.specs.Stretch.{lengthIn, stateIn, lastNumberIn, serviceOnlyIn, Terms}
 use Rattle.box_calls.specs.Box.{bayCount, boxLength, stretchOf, Call, admit, release, tick, save, restore, forget, service, panel, preview, ledger, newYear}
 use Rattle.box_calls.specs.Lists.{Calling, Request, afterCall, boxAfter}
 use Rattle.box_calls.specs.Shares.{Sendable}
@@ -115,10 +115,10 @@ abbrev pub RecordIs : Calling → Type 0
 RecordIs call =
     (box : List ℕ) (bay e : ℕ) (answer trace : List ℕ) → number (call box bay (tick e answer trace)) ≡ 0
     → (second (lentAfter (call box bay (tick e answer trace)))
-    ≡ recordOf (following (countIn (stretchOf bay box))) e (first (lentAfter (call box bay (tick e answer trace))))
+    ≡ recordOf (following (lastNumberIn (stretchOf bay box))) e (first (lentAfter (call box bay (tick e answer trace))))
     (stateIn (stretchOf bay (memoryAfter (call box bay (tick e answer trace))))))
-    × (countIn (stretchOf bay box) ≤ lastNumber
-    → countIn (stretchOf bay (memoryAfter (call box bay (tick e answer trace)))) ≡ following (countIn (stretchOf bay box)))
+    × (lastNumberIn (stretchOf bay box) ≤ lastNumber
+    → lastNumberIn (stretchOf bay (memoryAfter (call box bay (tick e answer trace)))) ≡ following (lastNumberIn (stretchOf bay box)))
 
 -- 'from 1 at admission, going on after coming back to a position, staying at the greatest', whatever calls come in between
 abbrev pub NumberedFromOne : Calling → Type 0

@@ -5,7 +5,7 @@ use mathlib.Core.Bool.{Bool, true, false, cond}
 use mathlib.Core.List.{List, [], _∷_}
 use lib.Dec.{eqb}
 use Rattle.limits.specs.Limits.{signalBytes, nameBytes}
-use Rattle.answers.specs.AnswerRecord.{takenIn}
+use Rattle.answers.specs.AnswerRecord.{reactionsIn}
 use Rattle.box_calls.specs.Called.{Called, number, lentAfter, first}
 use Rattle.box_calls.specs.Box.{Call, admit, release, tick, save, restore, forget, service, panel, preview, ledger, newYear}
 use Rattle.box_calls.specs.Lists.{Calling, Request, afterCall}
@@ -30,12 +30,12 @@ pub data AllSendable : List Request → Type 0 where
 
 -- the reactions of a tick; none of one that is turned down
 abbrev pub reactionsOf : Called → ℕ
-reactionsOf o = cond (eqb (number o) 0) (takenIn (first (lentAfter o))) 0
+reactionsOf o = cond (eqb (number o) 0) (reactionsIn (first (lentAfter o))) 0
 
 -- the reactions of a list of calls in all
-unfoldable pub reactionsIn : Calling → List ℕ → List Request → ℕ
-reactionsIn call box [] = 0
-reactionsIn call box (x ∷ xs) = reactionsOf (call box (x .bay) (x .call)) + reactionsIn call (afterCall call box x) xs
+unfoldable pub sumOfReactions : Calling → List ℕ → List Request → ℕ
+sumOfReactions call box [] = 0
+sumOfReactions call box (x ∷ xs) = reactionsOf (call box (x .bay) (x .call)) + sumOfReactions call (afterCall call box x) xs
 
 -- a round: ticks alone, in any order, at most one of each bay that is left
 abbrev pub without : ℕ → (ℕ → Bool) → ℕ → Bool

@@ -5,7 +5,7 @@ use mathlib.Core.Bool.{Bool, cond}
 use mathlib.Core.List.{List}
 use lib.ListN.{length}
 use lib.Dec.{eqb}
-use Rattle.limits.specs.Limits.{maxBytes, signalBytes, takenBytes, numberBytes}
+use Rattle.limits.specs.Limits.{maxBytes, signalBytes, reactionsBytes, numberBytes}
 use Rattle.numbers.specs.Bytes.{leBytes, leNumber}
 use Rattle.parts.specs.Parts.{slot, put, zeros}
 use Rattle.states.specs.StateRecord.{stateLength}
@@ -28,7 +28,7 @@ abbrev pub ceilingAt : ℕ
 ceilingAt = readBackAt + signalBytes
 
 abbrev pub serviceAt : ℕ
-serviceAt = ceilingAt + takenBytes
+serviceAt = ceilingAt + reactionsBytes
 
 -- moved by calls: the state record, the number of the last instant (02, item 10) and the positions (02, item 9)
 abbrev pub stateAt : ℕ
@@ -61,7 +61,7 @@ abbrev pub readBackIn : List ℕ → ℕ
 readBackIn s = leNumber (slot readBackAt signalBytes s)
 
 abbrev pub ceilingIn : List ℕ → ℕ
-ceilingIn s = leNumber (slot ceilingAt takenBytes s)
+ceilingIn s = leNumber (slot ceilingAt reactionsBytes s)
 
 abbrev pub serviceOnlyIn : List ℕ → ℕ
 serviceOnlyIn s = leNumber (slot serviceAt signalBytes s)
@@ -70,8 +70,8 @@ abbrev pub stateIn : List ℕ → List ℕ
 stateIn s = slot stateAt stateLength s
 
 -- the number of the last instant; 0 before the first
-abbrev pub countIn : List ℕ → ℕ
-countIn s = leNumber (slot countAt numberBytes s)
+abbrev pub lastNumberIn : List ℕ → ℕ
+lastNumberIn s = leNumber (slot countAt numberBytes s)
 
 abbrev pub positionsIn : List ℕ → List ℕ
 positionsIn s = slot positionsAt tableLength s
@@ -105,7 +105,7 @@ terms sequence readBack serviceOnly = record { sequence = sequence; readBack = r
 unfoldable pub filled : Terms → (ceiling : ℕ) → List ℕ → List ℕ
 filled t ceiling s =
     put serviceAt signalBytes (leBytes signalBytes (t .serviceOnly))
-    (put ceilingAt takenBytes (leBytes takenBytes ceiling)
+    (put ceilingAt reactionsBytes (leBytes reactionsBytes ceiling)
     (put readBackAt signalBytes (leBytes signalBytes (t .readBack))
     (put sequenceAt (length (t .sequence)) (t .sequence)
     (put 0 lengthBytes (leBytes lengthBytes (length (t .sequence)))

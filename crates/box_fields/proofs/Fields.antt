@@ -5,7 +5,7 @@ use mathlib.Core.Path.{_≡_, refl, ap, _∙_}
 use mathlib.Core.List.{List}
 use lib.ListN.{length, drop, length-drop}
 use lib.Seq.{length-take-le}
-use Rattle.limits.specs.Limits.{maxBytes, signalBytes, takenBytes}
+use Rattle.limits.specs.Limits.{maxBytes, signalBytes, reactionsBytes}
 use Rattle.numbers.specs.Bytes.{leBytes, leNumber}
 use Rattle.numbers.proofs.Bytes.{length-leBytes, le-round-trip}
 use Rattle.states.specs.StateRecord.{stateLength}
@@ -63,7 +63,7 @@ module _ (t : Terms) (ceiling : ℕ) (fits : length (t .sequence) ≤ maxBytes) 
         long = ap leNumber (before 0 lengthBytes (omega arith)) ∙ h .long;
         bytes = before sequenceAt (length (t .sequence)) (omega arith) ∙ h .bytes;
         set = ap leNumber (before readBackAt signalBytes (omega arith)) ∙ h .set;
-        part = ap leNumber (before ceilingAt takenBytes (omega arith)) ∙ h .part;
+        part = ap leNumber (before ceilingAt reactionsBytes (omega arith)) ∙ h .part;
         service = ap leNumber (before serviceAt signalBytes (omega arith)) ∙ h .service;
       }
 
@@ -102,10 +102,10 @@ module _ (t : Terms) (ceiling : ℕ) (s : List ℕ) (z : length s ≡ stretchLen
   l3 = length-put readBackAt signalBytes (leBytes signalBytes (t .readBack)) s2 (omega (arith, l2)) (length-leBytes signalBytes (t .readBack)) ∙ l2
 
   abbrev pub s4 : List ℕ
-  s4 = put ceilingAt takenBytes (leBytes takenBytes ceiling) s3
+  s4 = put ceilingAt reactionsBytes (leBytes reactionsBytes ceiling) s3
 
   pub l4 : length s4 ≡ stretchLength
-  l4 = length-put ceilingAt takenBytes (leBytes takenBytes ceiling) s3 (omega (arith, l3)) (length-leBytes takenBytes ceiling) ∙ l3
+  l4 = length-put ceilingAt reactionsBytes (leBytes reactionsBytes ceiling) s3 (omega (arith, l3)) (length-leBytes reactionsBytes ceiling) ∙ l3
 
   pub length-filled : length (filled t ceiling s) ≡ stretchLength
   unfolding filled
@@ -115,13 +115,13 @@ module _ (t : Terms) (ceiling : ℕ) (s : List ℕ) (z : length s ≡ stretchLen
   before1 : (i m : ℕ) → lengthBytes ≤ i → slot i m s1 ≡ slot i m s0
   before1 = put-behind 0 lengthBytes (leBytes lengthBytes (length (t .sequence))) s0 (omega (arith, l0)) (length-leBytes lengthBytes (length (t .sequence)))
 
-  module _ (small : t .readBack < 256 ^ signalBytes) (hidden : t .serviceOnly < 256 ^ signalBytes) (low : ceiling < 256 ^ takenBytes) where
+  module _ (small : t .readBack < 256 ^ signalBytes) (hidden : t .serviceOnly < 256 ^ signalBytes) (low : ceiling < 256 ^ reactionsBytes) where
     pub filled-holds : Holds t ceiling (filled t ceiling s)
     unfolding filled
     filled-holds =
         let before2 = put-before sequenceAt (length (t .sequence)) (t .sequence) s1 (omega (arith, l1)) refl in
         let before3 = put-before readBackAt signalBytes (leBytes signalBytes (t .readBack)) s2 (omega (arith, l2)) (length-leBytes signalBytes (t .readBack)) in
-        let before4 = put-before ceilingAt takenBytes (leBytes takenBytes ceiling) s3 (omega (arith, l3)) (length-leBytes takenBytes ceiling) in
+        let before4 = put-before ceilingAt reactionsBytes (leBytes reactionsBytes ceiling) s3 (omega (arith, l3)) (length-leBytes reactionsBytes ceiling) in
         let before5 = put-before serviceAt signalBytes (leBytes signalBytes (t .serviceOnly)) s4 (omega (arith, l4)) (length-leBytes signalBytes (t .serviceOnly)) in
         let few : length (t .sequence) < 256 ^ lengthBytes = omega arith in
         record {
@@ -134,9 +134,9 @@ module _ (t : Terms) (ceiling : ℕ) (s : List ℕ) (z : length s ≡ stretchLen
           set = ap leNumber (before5 readBackAt signalBytes (omega arith) ∙ before4 readBackAt signalBytes (omega arith)
               ∙ slot-put readBackAt signalBytes (leBytes signalBytes (t .readBack)) s2 (omega (arith, l2)) (length-leBytes signalBytes (t .readBack)))
               ∙ le-round-trip signalBytes (t .readBack) small;
-          part = ap leNumber (before5 ceilingAt takenBytes (omega arith)
-              ∙ slot-put ceilingAt takenBytes (leBytes takenBytes ceiling) s3 (omega (arith, l3)) (length-leBytes takenBytes ceiling))
-              ∙ le-round-trip takenBytes ceiling low;
+          part = ap leNumber (before5 ceilingAt reactionsBytes (omega arith)
+              ∙ slot-put ceilingAt reactionsBytes (leBytes reactionsBytes ceiling) s3 (omega (arith, l3)) (length-leBytes reactionsBytes ceiling))
+              ∙ le-round-trip reactionsBytes ceiling low;
           service = ap leNumber
               (slot-put serviceAt signalBytes (leBytes signalBytes (t .serviceOnly)) s4 (omega (arith, l4)) (length-leBytes signalBytes (t .serviceOnly)))
               ∙ le-round-trip signalBytes (t .serviceOnly) hidden;
@@ -147,7 +147,7 @@ module _ (t : Terms) (ceiling : ℕ) (s : List ℕ) (z : length s ≡ stretchLen
   unfolding filled
   behind-fixed i m low =
       put-behind serviceAt signalBytes (leBytes signalBytes (t .serviceOnly)) s4 (omega (arith, l4)) (length-leBytes signalBytes (t .serviceOnly)) i m (omega arith)
-      ∙ put-behind ceilingAt takenBytes (leBytes takenBytes ceiling) s3 (omega (arith, l3)) (length-leBytes takenBytes ceiling) i m (omega arith)
+      ∙ put-behind ceilingAt reactionsBytes (leBytes reactionsBytes ceiling) s3 (omega (arith, l3)) (length-leBytes reactionsBytes ceiling) i m (omega arith)
       ∙ put-behind readBackAt signalBytes (leBytes signalBytes (t .readBack)) s2 (omega (arith, l2)) (length-leBytes signalBytes (t .readBack)) i m (omega arith)
       ∙ put-behind sequenceAt (length (t .sequence)) (t .sequence) s1 (omega (arith, l1)) refl i m (omega arith)
       ∙ before1 i m (omega arith)

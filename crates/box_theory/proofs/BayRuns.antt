@@ -49,7 +49,7 @@ use Rattle.box_theory.proofs.Ticks.{tick-number, tick-answer}
 use Rattle.box_theory.proofs.Readers.{service-reads, panel-reads, ledger-reads}
 use Rattle.box_theory.proofs.Previews.{preview-stays}
 use Rattle.box_theory.proofs.Moves.{Moved, save-moved, forget-moved, year-moved, further}
-use Rattle.box_theory.proofs.Bays.{ceilingFor, Admission, turned-down, taken, admission}
+use Rattle.box_theory.proofs.Bays.{ceilingFor, Admission, turned-down, admits, admission}
 use Rattle.box_theory.proofs.Standing.{Standing, not-empty, sequence-held, behind-stands, inner, inner-is, tick-told, tick-stands, fresh-state, filled-stands, cleared-fresh}
 use Rattle.box_theory.proofs.Stretches.{result, answered-inside, refused-stretch, filled-already, stretch-sized, own, own-stretch, same-length, others-stay}
 
@@ -433,7 +433,7 @@ module _ (box : List ℕ) (bay : ℕ) (t : Terms) (small : Sendable (admit t)) (
       of-bay : Admission k s t (bayAdmitOf k s t) → stretchOf bay begins ≡ memoryAfter (bayAdmitOf k s t)
           → number (bayAdmitOf k s t) ≡ 0 → Begun
       of-bay (turned-down n y e) w h = absurd (y (sym (ap number e) ∙ h))
-      of-bay (taken c room e) w h =
+      of-bay (admits c room e) w h =
           let a = accepted (t .sequence) (t .readBack) c in
           let whole = w ∙ ap memoryAfter e in
           record {

@@ -39,10 +39,10 @@ pub passed : (t : Terms) → Accepted (t .sequence) (t .readBack) → checkOf (t
 unfolding checkOf
 passed t a = rw (a .is-checked)
 
--- ---- the admission: turned down, or taken
+-- ---- the admission: turned down, or admits
 pub data Admission (present : ℕ) (s : List ℕ) (t : Terms) (o : Called) : Type 0 where
   turned-down : (n : ℕ) → n ≢ 0 → o ≡ called n s [] → Admission present s t o
-  taken : checkOf (t .sequence) (t .readBack) ≡ 0 → present + ceilingFor t ≤ sharedCeiling
+  admits : checkOf (t .sequence) (t .readBack) ≡ 0 → present + ceilingFor t ≤ sharedCeiling
       → o ≡ called 0 (filled t (ceilingFor t) s) [] → Admission present s t o
 
 module _ (present : ℕ) (s : List ℕ) (t : Terms) where
@@ -65,7 +65,7 @@ module _ (present : ℕ) (s : List ℕ) (t : Terms) where
       room : checkOf (t .sequence) (t .readBack) ≡ 0 → (b : Bool) → leb (present + ceilingFor t) sharedCeiling ≡ b
           → bayAdmitOf present s t ≡ byRoom b → Admission present s t (bayAdmitOf present s t)
       room h false l e = turned-down 14 (λ z. omega arith) e
-      room h true l e = taken h (leb-true (present + ceilingFor t) sharedCeiling l) e
+      room h true l e = admits h (leb-true (present + ceilingFor t) sharedCeiling l) e
 
       go : (c : Checked) → checked (t .sequence) (t .readBack) ≡ c → Decides (t .sequence) (t .readBack) c
           → Admission present s t (bayAdmitOf present s t)
@@ -88,7 +88,7 @@ module _ (k : ℕ) (s : List ℕ) (z : length s ≡ stretchLength) where
     where
       go : Admission k s t (bayAdmitOf k s t) → bayAdmitOf k s t ≡ called (number (bayAdmitOf k s t)) s []
       go (turned-down n y e) = e ∙ ap (λ (m : ℕ). called m s []) (sym (ap number e))
-      go (taken c r e) = absurd (h (ap number e))
+      go (admits c r e) = absurd (h (ap number e))
   bay-refused release h = absurd (h refl)
   bay-refused (tick e answer trace) h = tick-refused s z e answer trace h
   bay-refused (save name) h = moved-refused (save-moved s name) h
@@ -113,7 +113,7 @@ module _ (k : ℕ) (s : List ℕ) (z : length s ≡ stretchLength) where
     where
       go : Admission k s t (bayAdmitOf k s t) → length (memoryAfter (bayAdmitOf k s t)) ≡ stretchLength
       go (turned-down n x e) = ap (λ (o : Called). length (memoryAfter o)) e ∙ z
-      go (taken c r e) =
+      go (admits c r e) =
           ap (λ (o : Called). length (memoryAfter o)) e
           ∙ length-filled t (ceilingFor t) s z (bounds t (accepted (t .sequence) (t .readBack) c) .1)
   bay-sized release = length-vacated s z
@@ -146,7 +146,7 @@ admission-by-number k s t = go (isFor (admit t) s)
 
     of-bay : Admission k s t (bayAdmitOf k s t) → bayAdmitOf k s t ≡ admittedAs s t (number (bayAdmitOf k s t))
     of-bay (turned-down n z e) = by-number n (e ∙ rw (ne-eqb n 0 z)) (sym (ap number e))
-    of-bay (taken c r e) = by-number 0 e (sym (ap number e))
+    of-bay (admits c r e) = by-number 0 e (sym (ap number e))
 
     go : (b : Bool) → cond b (bayAdmitOf k s t) (called 13 s []) ≡ admittedAs s t (number (cond b (bayAdmitOf k s t) (called 13 s [])))
     go true = of-bay (admission k s t)

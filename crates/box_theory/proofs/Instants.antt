@@ -29,7 +29,7 @@ use Rattle.demands.specs.Demands as demands
 use Rattle.demands.specs.Demands.{stateAfterwards}
 use Rattle.demands.proofs.Sequence.{Accepted, accepted}
 use Rattle.box_calls.specs.Called.{Called, called, number, memoryAfter, lentAfter, first}
-use Rattle.box_calls.specs.Stretch.{sequenceAt, stateAt, countAt, positionsAt, bayLength, stretchLength, lengthIn, isEmpty, sequenceIn, readBackIn, serviceOnlyIn, stateIn, countIn, ledgerIn, Terms}
+use Rattle.box_calls.specs.Stretch.{sequenceAt, stateAt, countAt, positionsAt, bayLength, stretchLength, lengthIn, isEmpty, sequenceIn, readBackIn, serviceOnlyIn, stateIn, lastNumberIn, ledgerIn, Terms}
 use Rattle.box_calls.specs.BayCalls.{delivering, bayTickOf, bayAdmitOf, bayRestoreOf}
 use Rattle.box_calls.specs.BayRuns.{Onward, Onwards}
 use Rattle.box_calls.specs.BayRuns as Runs
@@ -75,7 +75,7 @@ module _ (box : List ℕ) (bay e : ℕ) (answer trace : List ℕ) (n : number (c
     pub sized : length state ≡ stateLength
     pub below : passes (ledgerIn stretch) (delivering stretch e) ≡ false
     pub told : tickOf (sequenceIn stretch) (stateIn stretch) e (readBackIn stretch) answer ≡ outcome 0 state answered
-    pub lent : lentAfter (callOf box bay c) ≡ answered ∷ recordOf (following (countIn stretch)) e answered state ∷ []
+    pub lent : lentAfter (callOf box bay c) ≡ answered ∷ recordOf (following (lastNumberIn stretch)) e answered state ∷ []
     pub after : stretchOf bay (memoryAfter (callOf box bay c)) ≡ written stretch z e answer trace state
 
   pub instant-of : Instant
@@ -98,7 +98,7 @@ module _ (box : List ℕ) (bay e : ℕ) (answer trace : List ℕ) (n : number (c
   -- the state and the number that it leaves
   module _ (state : List ℕ) (l : length state ≡ stateLength) (p : passes (ledgerIn stretch) (delivering stretch e) ≡ false) where
     abbrev count : List ℕ
-    count = leBytes numberBytes (following (countIn stretch))
+    count = leBytes numberBytes (following (lastNumberIn stretch))
 
     abbrev held : List ℕ
     held = entered stretch z e answer trace state
@@ -106,15 +106,15 @@ module _ (box : List ℕ) (bay e : ℕ) (answer trace : List ℕ) (n : number (c
     pub written-state : stateIn (written stretch z e answer trace state) ≡ state
     written-state =
         let k = length-entered stretch z e answer trace p state l in
-        put-before countAt numberBytes count held (omega arith) (length-leBytes numberBytes (following (countIn stretch))) stateAt stateLength (omega arith)
+        put-before countAt numberBytes count held (omega arith) (length-leBytes numberBytes (following (lastNumberIn stretch))) stateAt stateLength (omega arith)
         ∙ before-ledger stretch z e answer trace p state l stateAt stateLength (omega arith)
         ∙ slot-put stateAt stateLength state stretch (omega (arith, z)) l
 
-    pub written-count : countIn stretch ≤ lastNumber → countIn (written stretch z e answer trace state) ≡ following (countIn stretch)
+    pub written-count : lastNumberIn stretch ≤ lastNumber → lastNumberIn (written stretch z e answer trace state) ≡ following (lastNumberIn stretch)
     written-count h =
         let k = length-entered stretch z e answer trace p state l in
-        ap leNumber (slot-put countAt numberBytes count held (omega arith) (length-leBytes numberBytes (following (countIn stretch))))
-        ∙ le-round-trip numberBytes (following (countIn stretch)) (omega (arith, following-is (countIn stretch) h))
+        ap leNumber (slot-put countAt numberBytes count held (omega arith) (length-leBytes numberBytes (following (lastNumberIn stretch))))
+        ∙ le-round-trip numberBytes (following (lastNumberIn stretch)) (omega (arith, following-is (lastNumberIn stretch) h))
 
 from-tick : (sequence : List ℕ) (readBack n : ℕ) (st : List ℕ) (e : ℕ) (es : List ℕ) (state left : List ℕ)
     → tickOn sequence readBack st e ≡ outcome 0 state left
@@ -140,20 +140,20 @@ module _ (bay : ℕ) (b : bay < bayCount) (t : Terms) (a : Accepted (t .sequence
   pub record Here (box : List ℕ) : Type 0 where
     pub sized-box : length box ≡ boxLength
     pub holds : Holds t (ceilingFor t) (stretchOf bay box)
-    pub fits : countIn (stretchOf bay box) ≤ lastNumber
+    pub fits : lastNumberIn (stretchOf bay box) ≤ lastNumber
 
   pub record Over (box : List ℕ) (xs : List Request) : Type 0 where
     pub numbered : (i : ℕ) (r : List ℕ) → getElem? (recordsIn callOf bay box xs) i ≡ some r
-        → numberIn r ≡ min (countIn (stretchOf bay box) + suc i) lastNumber
+        → numberIn r ≡ min (lastNumberIn (stretchOf bay box) + suc i) lastNumber
     pub recorded : Onwards bay box xs
         → recordsIn callOf bay box xs
-        ≡ recordsFrom (t .sequence) (t .readBack) (following (countIn (stretchOf bay box))) (stateIn (stretchOf bay box)) (inputsIn callOf bay box xs)
+        ≡ recordsFrom (t .sequence) (t .readBack) (following (lastNumberIn (stretchOf bay box))) (stateIn (stretchOf bay box)) (inputsIn callOf bay box xs)
     pub held : Holds t (ceilingFor t) (stretchOf bay (boxAfter callOf box xs))
 
   -- what a call that is no instant of the bay leaves of its stretch
   record Quiet (s s′ : List ℕ) (Goes : Type 0) : Type 0 where
     pub holds : Holds t (ceilingFor t) s′
-    pub count : countIn s′ ≡ countIn s
+    pub count : lastNumberIn s′ ≡ lastNumberIn s
     pub state : Goes → stateIn s′ ≡ stateIn s
 
   onward-tail : {box : List ℕ} {x : Request} {xs : List Request} → Onwards bay box (x ∷ xs)
@@ -180,7 +180,7 @@ module _ (bay : ℕ) (b : bay < bayCount) (t : Terms) (a : Accepted (t .sequence
             rs ∙ k .recorded (w .1)
             ∙ ap₂ (λ (n : ℕ) (st : List ℕ). recordsFrom (t .sequence) (t .readBack) (following n) st (inputsIn callOf bay (afterCall callOf box x) xs))
             (q .count) (q .state (goes (w .0)))
-            ∙ ap (recordsFrom (t .sequence) (t .readBack) (following (countIn (stretchOf bay box))) (stateIn (stretchOf bay box))) (sym es);
+            ∙ ap (recordsFrom (t .sequence) (t .readBack) (following (lastNumberIn (stretchOf bay box))) (stateIn (stretchOf bay box))) (sym es);
         held = k .held;
       }
 
@@ -193,7 +193,7 @@ module _ (bay : ℕ) (b : bay < bayCount) (t : Terms) (a : Accepted (t .sequence
 
     same : (Goes : Type 0) {s′ : List ℕ} → s′ ≡ stretchOf bay box → Quiet (stretchOf bay box) s′ Goes
     same Goes e =
-        record { holds = subst (Holds t (ceilingFor t)) (sym e) (h .holds); count = ap countIn e; state = λ g. ap stateIn e }
+        record { holds = subst (Holds t (ceilingFor t)) (sym e) (h .holds); count = ap lastNumberIn e; state = λ g. ap stateIn e }
 
     -- the positions are written
     behind : {o : Called} → Moved positionsAt s o → (Goes : Type 0) → Quiet s (memoryAfter o) Goes
@@ -239,24 +239,24 @@ module _ (bay : ℕ) (b : bay < bayCount) (t : Terms) (a : Accepted (t .sequence
     unfolding boxAfter recordsIn inputsIn
     instant-over e answer trace n xs f =
         let i = instant-of box bay e answer trace n in
-        let l : length (leBytes numberBytes (following (countIn s))) ≡ numberBytes = length-leBytes numberBytes (following (countIn s)) in
+        let l : length (leBytes numberBytes (following (lastNumberIn s))) ≡ numberBytes = length-leBytes numberBytes (following (lastNumberIn s)) in
         let after : List ℕ = memoryAfter (callOf box bay (tick e answer trace)) in
-        let c : countIn (stretchOf bay after) ≡ following (countIn s) =
-        ap countIn (i .after) ∙ written-count box bay e answer trace n (i .state) (i .sized) (i .below) (h .fits) in
+        let c : lastNumberIn (stretchOf bay after) ≡ following (lastNumberIn s) =
+        ap lastNumberIn (i .after) ∙ written-count box bay e answer trace n (i .state) (i .sized) (i .below) (h .fits) in
         let st : stateIn (stretchOf bay after) ≡ i .state =
         ap stateIn (i .after) ∙ written-state box bay e answer trace n (i .state) (i .sized) (i .below) in
         let p = moved-holds t (ceilingFor t) (bounds t a .1) s (h .holds) (i .state) (i .sized) in
         let p′ = behind-holds t (ceilingFor t) (bounds t a .1) (put stateAt stateLength (i .state) s) p bayLength ledgerLength
         (added (delivering s e) (ledgerIn s)) (omega arith) (omega arith) (new-sized s (h .holds .sized) e answer trace (i .below) (i .state) (i .sized)) in
-        let up = following-is (countIn s) (h .fits) in
+        let up = following-is (lastNumberIn s) (h .fits) in
         let k = f (record {
           sized-box = same-length box bay (tick e answer trace) ∙ h .sized-box;
           holds = subst (Holds t (ceilingFor t)) (sym (i .after))
               (behind-holds t (ceilingFor t) (bounds t a .1) (entered s (h .holds .sized) e answer trace (i .state)) p′ countAt numberBytes
-              (leBytes numberBytes (following (countIn s))) (omega arith) (omega arith) l);
+              (leBytes numberBytes (following (lastNumberIn s))) (omega arith) (omega arith) l);
           fits = omega (arith, c, up);
         }) in
-        let note : List ℕ = recordOf (following (countIn s)) e (i .answered) (i .state) in
+        let note : List ℕ = recordOf (following (lastNumberIn s)) e (i .answered) (i .state) in
         let rs : recordsIn callOf bay box (record { bay = bay; call = tick e answer trace } ∷ xs) ≡ note ∷ recordsIn callOf bay after xs =
         rw (eq-eqb bay bay refl, eq-eqb (number (callOf box bay (tick e answer trace))) 0 n)
         (ap (λ (b : List (List ℕ)). second b ∷ recordsIn callOf bay after xs) (i .lent)) in
@@ -265,17 +265,17 @@ module _ (bay : ℕ) (b : bay < bayCount) (t : Terms) (a : Accepted (t .sequence
         let told : tickOf (t .sequence) (stateIn s) e (t .readBack) answer ≡ outcome 0 (i .state) (i .answered) =
         ap₂ (λ (q : List ℕ) (r : ℕ). tickOf q (stateIn s) e r answer) (sym sequence-is) (sym (h .holds .set)) ∙ i .told in
         record {
-          numbered = λ j r w. at-number note (recordsIn callOf bay after xs) (countIn s) r
-              (number-field (following (countIn s)) e (i .answered) (i .state) (omega (arith, up)) ∙ up)
-              (λ m v. k .numbered m r v ∙ (let q : min (countIn (stretchOf bay after) + suc m) lastNumber ≡ min (countIn s + suc (suc m)) lastNumber =
+          numbered = λ j r w. at-number note (recordsIn callOf bay after xs) (lastNumberIn s) r
+              (number-field (following (lastNumberIn s)) e (i .answered) (i .state) (omega (arith, up)) ∙ up)
+              (λ m v. k .numbered m r v ∙ (let q : min (lastNumberIn (stretchOf bay after) + suc m) lastNumber ≡ min (lastNumberIn s + suc (suc m)) lastNumber =
               omega (arith, c, up, h .fits) in q))
               j (sym (ap (λ (l : List (List ℕ)). getElem? l j) rs) ∙ w);
           recorded = λ o. rs ∙ ap (λ (l : List (List ℕ)). note ∷ l)
               (k .recorded (onward-tail o .1)
               ∙ ap₂ (λ (m : ℕ) (r : List ℕ). recordsFrom (t .sequence) (t .readBack) (following m) r (inputsIn callOf bay after xs)) c st)
-              ∙ sym (from-tick (t .sequence) (t .readBack) (following (countIn s)) (stateIn s) e (inputsIn callOf bay after xs) (i .state) (i .answered)
+              ∙ sym (from-tick (t .sequence) (t .readBack) (following (lastNumberIn s)) (stateIn s) e (inputsIn callOf bay after xs) (i .state) (i .answered)
               (runs.blank-alike (t .sequence) (stateIn s) e (t .readBack) answer (ap demands.number told) ∙ told))
-              ∙ ap (recordsFrom (t .sequence) (t .readBack) (following (countIn s)) (stateIn s)) (sym es);
+              ∙ ap (recordsFrom (t .sequence) (t .readBack) (following (lastNumberIn s)) (stateIn s)) (sym es);
           held = k .held;
         }
 
@@ -374,9 +374,9 @@ module _ (box : List ℕ) (bay : ℕ) (t : Terms) (small : Sendable (admit t)) (
   abbrev from : List ℕ
   from = memoryAfter (callOf box bay (admit t))
 
-  none-yet : countIn (stretchOf bay from) ≡ 0
+  none-yet : lastNumberIn (stretchOf bay from) ≡ 0
   none-yet =
-      ap countIn (stretch-after box bay (admit t) admitted)
+      ap lastNumberIn (stretch-after box bay (admit t) admitted)
       ∙ go (admission (present bayCount box) (stretchOf bay box) t)
     where
       k : ℕ
@@ -390,10 +390,10 @@ module _ (box : List ℕ) (bay : ℕ) (t : Terms) (small : Sendable (admit t)) (
           let i = answered-inside box bay (admit t) admitted in stretch-sized box bay (admit t) (i .0) (i .1)
 
       go : Admission (present bayCount box) (stretchOf bay box) t (bayAdmitOf (present bayCount box) (stretchOf bay box) t)
-          → countIn (memoryAfter (bayAdmitOf (present bayCount box) (stretchOf bay box) t)) ≡ 0
+          → lastNumberIn (memoryAfter (bayAdmitOf (present bayCount box) (stretchOf bay box) t)) ≡ 0
       go (Bays.turned-down n y e) = absurd (y (sym (ap number e) ∙ bay-answered box bay (admit t) admitted))
-      go (Bays.taken c room e) =
-          ap (λ (o : Called). countIn (memoryAfter o)) e
+      go (Bays.admits c room e) =
+          ap (λ (o : Called). lastNumberIn (memoryAfter o)) e
           ∙ ap leNumber (filled-zeros t (ceilingFor t) r sized (bounds t (accepted (t .sequence) (t .readBack) c) .1) countAt numberBytes
           (omega arith) (omega arith))
           ∙ zeros-number numberBytes
@@ -411,7 +411,7 @@ module _ (box : List ℕ) (bay : ℕ) (t : Terms) (small : Sendable (admit t)) (
     pub numbered-from-one : NotTakenOut callOf bay from xs → (i : ℕ) (r : List ℕ) → getElem? (recordsIn callOf bay from xs) i ≡ some r
         → numberIn r ≡ min (i + 1) lastNumber
     numbered-from-one k i r w =
-        let q : min (countIn (stretchOf bay from) + suc i) lastNumber ≡ min (i + 1) lastNumber = omega (arith, none-yet) in
+        let q : min (lastNumberIn (stretchOf bay from) + suc i) lastNumber ≡ min (i + 1) lastNumber = omega (arith, none-yet) in
         from-here k .numbered i r w ∙ q
 
     pub service-only-fixed : NotTakenOut callOf bay from xs → serviceOnlyIn (stretchOf bay (boxAfter callOf from xs)) ≡ t .serviceOnly
@@ -430,8 +430,8 @@ record-is box bay e answer trace n =
     let i = instant-of box bay e answer trace n in
     let st = ap stateIn (i .after) ∙ written-state box bay e answer trace n (i .state) (i .sized) (i .below) in (
       ap second (i .lent)
-          ∙ ap₂ (recordOf (following (countIn (stretchOf bay box))) e) (sym (ap first (i .lent))) (sym st),
-      λ h. ap countIn (i .after) ∙ written-count box bay e answer trace n (i .state) (i .sized) (i .below) h,
+          ∙ ap₂ (recordOf (following (lastNumberIn (stretchOf bay box))) e) (sym (ap first (i .lent))) (sym st),
+      λ h. ap lastNumberIn (i .after) ∙ written-count box bay e answer trace n (i .state) (i .sized) (i .below) h,
     )
 
 -- ---- the readers

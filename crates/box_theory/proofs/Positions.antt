@@ -38,7 +38,7 @@ use Rattle.box_theory.proofs.Moves as moves
 use Rattle.box_theory.proofs.Ticks.{next, entered, length-entered, before-ledger, Ticked, down, full, instant, ticked}
 use Rattle.box_theory.proofs.Readers.{service-reads, panel-reads, ledger-reads}
 use Rattle.box_theory.proofs.Previews.{preview-stays}
-use Rattle.box_theory.proofs.Bays.{ceilingFor, bounds, Admission, turned-down, taken, admission, bay-refused}
+use Rattle.box_theory.proofs.Bays.{ceilingFor, bounds, Admission, turned-down, admits, admission, bay-refused}
 use Rattle.box_theory.proofs.Standing.{Standing, put-stands}
 
 -- ---- what a call answered 0 makes of the table
@@ -69,7 +69,7 @@ module _ (k : ℕ) (s : List ℕ) (z : length s ≡ stretchLength) where
     where
       go : Admission k s t (bayAdmitOf k s t) → positionsIn (memoryAfter (bayAdmitOf k s t)) ≡ zeros tableLength
       go (turned-down m y e) = absurd (y (sym (ap number e) ∙ n))
-      go (taken c r e) =
+      go (admits c r e) =
           ap positionsIn (ap memoryAfter e)
           ∙ filled-zeros t (ceilingFor t) s z (bounds t (accepted (t .sequence) (t .readBack) c) .1) positionsAt tableLength (omega arith) (omega arith)
   table-after release n = slot-vacated positionsAt tableLength s (omega arith)

@@ -30,7 +30,7 @@ use Rattle.box_calls.specs.Claims.{ceilingHeld}
 use Rattle.box_fields.proofs.Fields.{length-vacated, slot-vacated, vacated-empty, filled-zeros}
 use Rattle.box_theory.proofs.Sums.{sumOf, one-changed}
 use Rattle.box_theory.proofs.Moves.{save-moved, forget-moved}
-use Rattle.box_theory.proofs.Bays.{ceilingFor, bounds, passed, Admission, turned-down, taken, admission, onStretch}
+use Rattle.box_theory.proofs.Bays.{ceilingFor, bounds, passed, Admission, turned-down, admits, admission, onStretch}
 use Rattle.box_theory.proofs.Ticks.{tick-number}
 use Rattle.box_theory.proofs.Readers.{service-reads, panel-reads, ledger-reads}
 use Rattle.box_theory.proofs.Previews.{preview-stays}
@@ -78,7 +78,7 @@ module _ (k : ℕ) (s : List ℕ) (u : k ≤ sharedCeiling) (v : Sound s) where
     where
       go : Admission k s t (bayAdmitOf k s t) → Step k s (memoryAfter (bayAdmitOf k s t))
       go (turned-down n z e) = subst (Step k s) (sym (ap memoryAfter e)) stays
-      go (taken c room e) =
+      go (admits c room e) =
           let a = accepted (t .sequence) (t .readBack) c in
           let f = filled-stands t a s (sized s v) r in
           let empty = filled-zeros t (ceilingFor t) s (sized s v) (bounds t a .1) positionsAt tableLength (omega arith) (omega arith) in
@@ -231,7 +231,7 @@ module _ (box : List ℕ) (h : Kept box) (bay : ℕ) (b : bay < bayCount) where
   abbrev s : List ℕ
   s = stretchOf bay box
 
-  -- a filled bay taken out gives its part back
+  -- a filled bay admits out gives its part back
   pub gives-back : lengthIn s ≢ 0
       → (number (callOf box bay release) ≡ 0)
       × (present bayCount (memoryAfter (callOf box bay release)) + partOf s ≡ present bayCount box)

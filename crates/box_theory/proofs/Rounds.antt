@@ -11,7 +11,7 @@ use lib.Dec.{eqb}
 use borrow.Author.Tests.{eq-eqb, ne-eqb, eqb-true}
 use Rattle.sequence.specs.Check.{checked}
 use Rattle.sequence.specs.Ceilings.{ceilingOf}
-use Rattle.answers.specs.AnswerRecord.{takenIn}
+use Rattle.answers.specs.AnswerRecord.{reactionsIn}
 use Rattle.demands.specs.Tick.{Outcome, tickOf}
 use Rattle.demands.specs.Demands as demands
 use Rattle.demands.specs.Demands.{answerAfterwards}
@@ -22,7 +22,7 @@ use Rattle.box_calls.specs.BayCalls.{sharedCeiling, bayTickOf}
 use Rattle.box_calls.specs.BayRuns.{paperBuffer}
 use Rattle.box_calls.specs.Box.{bayCount, stretchOf, present, tick, bayCall, isFor, callOf}
 use Rattle.box_calls.specs.Lists.{Request}
-use Rattle.box_calls.specs.Shares.{reactionsOf, reactionsIn, without, Round, done, more, OneTickEach}
+use Rattle.box_calls.specs.Shares.{reactionsOf, sumOfReactions, without, Round, done, more, OneTickEach}
 use Rattle.box_theory.proofs.Sums.{sumOf, same-sum, one-changed}
 use Rattle.box_theory.proofs.Bays.{onStretch}
 use Rattle.box_theory.proofs.Standing.{inner-is}
@@ -32,29 +32,29 @@ use Rattle.box_theory.proofs.Reached.{Sound, filled-bay, part-held, par
 
 -- ---- one tick
 -- the reactions of a tick on a sequence
-abbrev takenBy : Outcome → ℕ
-takenBy o = cond (eqb (demands.number o) 0) (takenIn (answerAfterwards o)) 0
+abbrev countedBy : Outcome → ℕ
+countedBy o = cond (eqb (demands.number o) 0) (reactionsIn (answerAfterwards o)) 0
 
-tick-taken : (s : List ℕ) (z : length s ≡ stretchLength) (e : ℕ) (answer trace : List ℕ)
-    → reactionsOf (bayTickOf s e answer trace) ≤ takenBy (ticks.inner s z e answer trace)
-tick-taken s z e answer trace = go (ticks.ticked s z e answer trace)
+tick-reactions : (s : List ℕ) (z : length s ≡ stretchLength) (e : ℕ) (answer trace : List ℕ)
+    → reactionsOf (bayTickOf s e answer trace) ≤ countedBy (ticks.inner s z e answer trace)
+tick-reactions s z e answer trace = go (ticks.ticked s z e answer trace)
   where
     go : ticks.Ticked s z e answer trace (bayTickOf s e answer trace)
-        → reactionsOf (bayTickOf s e answer trace) ≤ takenBy (ticks.inner s z e answer trace)
+        → reactionsOf (bayTickOf s e answer trace) ≤ countedBy (ticks.inner s z e answer trace)
     go (ticks.down n y d q w) =
-        let none : (x : ℕ) → cond (eqb n 0) x 0 ≡ 0 = λ x. rw (ne-eqb n 0 y) in omega (arith, ap reactionsOf w, none (takenIn answer))
+        let none : (x : ℕ) → cond (eqb n 0) x 0 ≡ 0 = λ x. rw (ne-eqb n 0 y) in omega (arith, ap reactionsOf w, none (reactionsIn answer))
     go (ticks.full q p w) = omega (arith, ap reactionsOf w)
-    go (ticks.instant state left l j p q w) = omega (arith, ap reactionsOf w, ap takenBy q)
+    go (ticks.instant state left l j p q w) = omega (arith, ap reactionsOf w, ap countedBy q)
 
-taken-below : (sequence state : List ℕ) (e readBack : ℕ) (answer : List ℕ)
-    → takenBy (tickOf sequence state e readBack answer) ≤ ceilingOf readBack (checked sequence readBack)
-taken-below sequence state e readBack answer = go (eqb (demands.number o) 0) refl
+reactions-below : (sequence state : List ℕ) (e readBack : ℕ) (answer : List ℕ)
+    → countedBy (tickOf sequence state e readBack answer) ≤ ceilingOf readBack (checked sequence readBack)
+reactions-below sequence state e readBack answer = go (eqb (demands.number o) 0) refl
   where
     o : Outcome
     o = tickOf sequence state e readBack answer
 
     go : (b : Bool) → eqb (demands.number o) 0 ≡ b
-        → cond b (takenIn (answerAfterwards o)) 0 ≤ ceilingOf readBack (checked sequence readBack)
+        → cond b (reactionsIn (answerAfterwards o)) 0 ≤ ceilingOf readBack (checked sequence readBack)
     go true h = never-above sequence state e readBack answer (eqb-true (demands.number o) 0 h)
     go false h = omega arith
 
@@ -69,9 +69,9 @@ bay-below k s v e answer trace = go (isFor (tick e answer trace) s) refl
         let t = f .0 in
         omega (
           arith,
-          tick-taken s (f .1 .holds .sized) e answer trace,
-          ap takenBy (inner-is t s (f .1) e answer trace),
-          taken-below (t .sequence) (stateIn s) e (t .readBack) (paperBuffer trace answer),
+          tick-reactions s (f .1 .holds .sized) e answer trace,
+          ap countedBy (inner-is t s (f .1) e answer trace),
+          reactions-below (t .sequence) (stateIn s) e (t .readBack) (paperBuffer trace answer),
           part-held t s (f .1),
         )
 
@@ -116,8 +116,8 @@ module _ (left : ℕ → Bool) (box : List ℕ) (h : Kept box) (bay e : ℕ) (an
       ]
 
 round-below : {left : ℕ → Bool} {xs : List Request} → Round left xs → (box : List ℕ) → Kept box
-    → reactionsIn callOf box xs ≤ sumOf (partLeft left box) bayCount
-unfolding reactionsIn
+    → sumOfReactions callOf box xs ≤ sumOf (partLeft left box) bayCount
+unfolding sumOfReactions
 round-below done box h = omega arith
 round-below (more {left} {bay} {e} {answer} {trace} {xs} l r) box h =
     omega (
@@ -126,7 +126,7 @@ round-below (more {left} {bay} {e} {answer} {trace} {xs} l r) box h =
       round-below r (memoryAfter (callOf box bay (tick e answer trace))) (kept-call box h bay (tick e answer trace) tt),
     )
 
-pub rounds-within : (box : List ℕ) → Kept box → (ticks : List Request) → OneTickEach ticks → reactionsIn callOf box ticks ≤ sharedCeiling
+pub rounds-within : (box : List ℕ) → Kept box → (ticks : List Request) → OneTickEach ticks → sumOfReactions callOf box ticks ≤ sharedCeiling
 rounds-within box h ticks r =
     let x : present bayCount box ≡ sumOf (partLeft (λ bay. true) box) bayCount = present-sum box bayCount in
     omega (arith, round-below r box h, x, h .under)

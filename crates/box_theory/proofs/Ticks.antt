@@ -38,7 +38,7 @@ use Rattle.demands.specs.Demands.{stateAfterwards, answerAfterwards}
 use Rattle.demands.proofs.Sequence.{tick-short}
 use Rattle.demands.proofs.Demand1.{demand-1}
 use Rattle.box_calls.specs.Called.{Called, called, number, memoryAfter, lentAfter, first}
-use Rattle.box_calls.specs.Stretch.{stateAt, countAt, bayLength, stretchLength, sequenceIn, readBackIn, stateIn, countIn, ledgerIn, withLedger}
+use Rattle.box_calls.specs.Stretch.{stateAt, countAt, bayLength, stretchLength, sequenceIn, readBackIn, stateIn, lastNumberIn, ledgerIn, withLedger}
 use Rattle.box_calls.specs.BayCalls.{stateKept, delivering, charged, recorded, bayStepOf, bayChargedOf, bayTickOf}
 use Rattle.box_calls.specs.BayRuns.{paperBuffer}
 use Rattle.box_fields.proofs.Fields.{ledger-sized}
@@ -93,7 +93,7 @@ module _ (s : List ℕ) (z : length s ≡ stretchLength) (e : ℕ) (answer trace
   entered state = withLedger (added (delivering s e) (ledgerIn s)) (stepped state)
 
   abbrev pub next : ℕ
-  next = following (countIn s)
+  next = following (lastNumberIn s)
 
   abbrev pub written : List ℕ → List ℕ
   written state = put countAt numberBytes (leBytes numberBytes next) (entered state)

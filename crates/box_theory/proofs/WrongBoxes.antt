@@ -15,7 +15,7 @@ use Rattle.esterel.specs.LabelTests.{subset, disjoint, labelsOf, activeLabels, 
 use Rattle.esterel.specs.States.{active}
 use Rattle.esterel.specs.Expansion.{expand}
 use Rattle.esterel.specs.ReadBack.{membersFrom, declaredBy}
-use Rattle.esterel.specs.Ceiling.{commands, loopNesting, nesting, ceiling}
+use Rattle.esterel.specs.Ceiling.{commands, loopNesting, signalNesting, ceiling}
 use Rattle.sequence.specs.Commands.{commandOf}
 use Rattle.sequence.specs.Reader.{front, read}
 use Rattle.sequence.specs.Check.{checked, checkOf}
@@ -50,7 +50,7 @@ abbrev besideOver : List Request
 besideOver = admitted 1 ends ∷ ticked 1 ∷ byItself
 
 pub not-readsNeighbour : ¬ Isolated readsNeighbour
-unfolding asked answers boxAfter callOf emptyBox present partOf vacated filled bayStepOf bayChargedOf wouldPass totalIn addedBelow deliveredBy ofBits whole inUnsigned toUnsigned bayTickOf following bayReleaseOf bayAdmitOf put zeros leBytes leNumber tickBy checked read front commandOf distinct wellFormed before everyLabel labelsOf subset disjoint valid active activeLabels membersFrom declaredBy commands loopNesting nesting ceiling encodeState decodeState encodeAnswer expand reactBy errorsBy reactionsBy Sets.none only member join insert remove
+unfolding asked answers boxAfter callOf emptyBox present partOf vacated filled bayStepOf bayChargedOf wouldPass totalIn addedBelow deliveredBy ofBits whole inUnsigned toUnsigned bayTickOf following bayReleaseOf bayAdmitOf put zeros leBytes leNumber tickBy checked read front commandOf distinct wellFormed before everyLabel labelsOf subset disjoint valid active activeLabels membersFrom declaredBy commands loopNesting signalNesting ceiling encodeState decodeState encodeAnswer expand reactBy errorsBy reactionsBy Sets.none only member join insert remove
 not-readsNeighbour h =
     let e : _≡_ {A = ℕ} 0 12 = ap (numberAt 1) (h 0 (omega arith) byItself besideOver refl .0) in omega arith
 
@@ -59,7 +59,7 @@ abbrev overfilled : List Request
 overfilled = admitted 7 half ∷ admitted 0 half ∷ admitted 1 ends ∷ []
 
 pub not-forgetsBay : ¬ InBoxes forgetsBay WithinCeiling
-unfolding boxAfter callOf emptyBox present partOf vacated filled bayAdmitOf put zeros leBytes leNumber checked read front commandOf distinct wellFormed before everyLabel labelsOf subset disjoint membersFrom declaredBy commands loopNesting nesting ceiling Sets.none only member join insert remove
+unfolding boxAfter callOf emptyBox present partOf vacated filled bayAdmitOf put zeros leBytes leNumber checked read front commandOf distinct wellFormed before everyLabel labelsOf subset disjoint membersFrom declaredBy commands loopNesting signalNesting ceiling Sets.none only member join insert remove
 not-forgetsBay h =
     let e : 65537 ≤ 65536 = h overfilled (each (omega arith) (each (omega arith) (each (omega arith) none))) in omega arith
 
@@ -68,7 +68,7 @@ abbrev onesOut : List Request
 onesOut = admitted 0 half ∷ admitted 1 half ∷ released 0 ∷ []
 
 pub not-keepsPart : ¬ InBoxes keepsPart (AdmitsBySum keepsPart)
-unfolding boxAfter callOf emptyBox present storedIn partOf vacated filled bayReleaseOf bayAdmitOf put zeros leBytes leNumber checkOf checked read front commandOf distinct wellFormed before everyLabel labelsOf subset disjoint membersFrom declaredBy commands loopNesting nesting ceiling Sets.none only member join insert remove
+unfolding boxAfter callOf emptyBox present storedIn partOf vacated filled bayReleaseOf bayAdmitOf put zeros leBytes leNumber checkOf checked read front commandOf distinct wellFormed before everyLabel labelsOf subset disjoint membersFrom declaredBy commands loopNesting signalNesting ceiling Sets.none only member join insert remove
 not-keepsPart h =
     let e : _≡_ {A = ℕ} 14 0 =
     h onesOut (each (omega arith) (each (omega arith) (each tt none))) 2 (omega arith) refl

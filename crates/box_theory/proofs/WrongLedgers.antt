@@ -16,7 +16,7 @@ use Rattle.esterel.specs.LabelTests.{subset, disjoint, labelsOf, activeLabels, 
 use Rattle.esterel.specs.States.{active}
 use Rattle.esterel.specs.Expansion.{expand}
 use Rattle.esterel.specs.ReadBack.{membersFrom, declaredBy}
-use Rattle.esterel.specs.Ceiling.{commands, loopNesting, nesting, ceiling}
+use Rattle.esterel.specs.Ceiling.{commands, loopNesting, signalNesting, ceiling}
 use Rattle.sequence.specs.Commands.{commandOf}
 use Rattle.sequence.specs.Reader.{front, read}
 use Rattle.sequence.specs.Check.{checked}
@@ -44,17 +44,17 @@ abbrev back : List Request
 back = admitted 0 fiveOnce ∷ ticked 0 ∷ saved 0 1 ∷ restored 0 1 ∷ []
 
 pub not-rewinds : ¬ TotalsExact rewinds
-unfolding boxAfter deliveredSince callOf emptyBox present partOf vacated filled bayStepOf bayChargedOf wouldPass totalIn addedBelow deliveredBy ofBits whole inUnsigned toUnsigned bayTickOf following bayReleaseOf bayAdmitOf baySaveOf bayForgetOf bayRestoreOf saveOf forgetOf lookup place put zeros leBytes leNumber tickBy checked read front commandOf distinct wellFormed before everyLabel labelsOf subset disjoint valid active activeLabels membersFrom declaredBy commands loopNesting nesting ceiling encodeState decodeState encodeAnswer expand reactBy errorsBy reactionsBy Sets.none only member join insert remove totalsBytes toBits ofInt
+unfolding boxAfter deliveredSince callOf emptyBox present partOf vacated filled bayStepOf bayChargedOf wouldPass totalIn addedBelow deliveredBy ofBits whole inUnsigned toUnsigned bayTickOf following bayReleaseOf bayAdmitOf baySaveOf bayForgetOf bayRestoreOf saveOf forgetOf lookup place put zeros leBytes leNumber tickBy checked read front commandOf distinct wellFormed before everyLabel labelsOf subset disjoint valid active activeLabels membersFrom declaredBy commands loopNesting signalNesting ceiling encodeState decodeState encodeAnswer expand reactBy errorsBy reactionsBy Sets.none only member join insert remove totalsBytes toBits ofInt
 not-rewinds h = let e : _≡_ {A = ℕ} 0 5 = h back 0 (omega arith) 2 (omega arith) .is-sum in omega arith
 
 -- ---- 5 litres in a wrong instant
 pub not-entersWrong : ¬ TotalsExact entersWrong
-unfolding boxAfter deliveredSince callOf emptyBox present partOf vacated filled bayStepOf bayChargedOf wouldPass totalIn addedBelow deliveredBy ofBits whole inUnsigned toUnsigned bayTickOf following bayReleaseOf bayAdmitOf baySaveOf bayForgetOf bayRestoreOf saveOf forgetOf lookup place put zeros leBytes leNumber tickBy checked read front commandOf distinct wellFormed before everyLabel labelsOf subset disjoint valid active activeLabels membersFrom declaredBy commands loopNesting nesting ceiling encodeState decodeState encodeAnswer expand reactBy errorsBy reactionsBy Sets.none only member join insert remove totalsBytes toBits ofInt
+unfolding boxAfter deliveredSince callOf emptyBox present partOf vacated filled bayStepOf bayChargedOf wouldPass totalIn addedBelow deliveredBy ofBits whole inUnsigned toUnsigned bayTickOf following bayReleaseOf bayAdmitOf baySaveOf bayForgetOf bayRestoreOf saveOf forgetOf lookup place put zeros leBytes leNumber tickBy checked read front commandOf distinct wellFormed before everyLabel labelsOf subset disjoint valid active activeLabels membersFrom declaredBy commands loopNesting signalNesting ceiling encodeState decodeState encodeAnswer expand reactBy errorsBy reactionsBy Sets.none only member join insert remove totalsBytes toBits ofInt
 not-entersWrong h = let e : _≡_ {A = ℕ} 5 0 = h inVain 0 (omega arith) 2 (omega arith) .is-sum in omega arith
 
 -- ---- 5 litres in the one run, 7 in the one that answers
 pub not-entersBoth : ¬ TotalsExact entersBoth
-unfolding boxAfter deliveredSince callOf emptyBox present partOf vacated filled bayStepOf bayChargedOf wouldPass totalIn addedBelow deliveredBy ofBits whole inUnsigned toUnsigned bayTickOf following bayReleaseOf bayAdmitOf baySaveOf bayForgetOf bayRestoreOf saveOf forgetOf lookup place put zeros leBytes leNumber tickBy checked read front commandOf distinct wellFormed before everyLabel labelsOf subset disjoint valid active activeLabels membersFrom declaredBy commands loopNesting nesting ceiling encodeState decodeState encodeAnswer expand reactBy errorsBy reactionsBy Sets.none only member join insert remove totalsBytes toBits ofInt
+unfolding boxAfter deliveredSince callOf emptyBox present partOf vacated filled bayStepOf bayChargedOf wouldPass totalIn addedBelow deliveredBy ofBits whole inUnsigned toUnsigned bayTickOf following bayReleaseOf bayAdmitOf baySaveOf bayForgetOf bayRestoreOf saveOf forgetOf lookup place put zeros leBytes leNumber tickBy checked read front commandOf distinct wellFormed before everyLabel labelsOf subset disjoint valid active activeLabels membersFrom declaredBy commands loopNesting signalNesting ceiling encodeState decodeState encodeAnswer expand reactBy errorsBy reactionsBy Sets.none only member join insert remove totalsBytes toBits ofInt
 not-entersBoth h = let e : _≡_ {A = ℕ} 12 7 = h chosenRun 0 (omega arith) 2 (omega arith) .is-sum in omega arith
 
 -- ---- 16,777,216 litres, and one more
@@ -62,7 +62,7 @@ abbrev full : List Request
 full = admitted 0 oneTooMany ∷ ticked 0 ∷ []
 
 pub not-testsInSingles : ¬ Nineteen testsInSingles
-unfolding boxAfter deliveredSince callOf emptyBox present partOf vacated filled bayStepOf bayChargedOf wouldPass totalIn addedBelow deliveredBy ofBits whole inUnsigned toUnsigned bayTickOf following bayReleaseOf bayAdmitOf baySaveOf bayForgetOf bayRestoreOf saveOf forgetOf lookup place put zeros leBytes leNumber tickBy checked read front commandOf distinct wellFormed before everyLabel labelsOf subset disjoint valid active activeLabels membersFrom declaredBy commands loopNesting nesting ceiling encodeState decodeState encodeAnswer expand reactBy errorsBy reactionsBy Sets.none only member join insert remove totalsBytes toBits ofInt passesInSingles add
+unfolding boxAfter deliveredSince callOf emptyBox present partOf vacated filled bayStepOf bayChargedOf wouldPass totalIn addedBelow deliveredBy ofBits whole inUnsigned toUnsigned bayTickOf following bayReleaseOf bayAdmitOf baySaveOf bayForgetOf bayRestoreOf saveOf forgetOf lookup place put zeros leBytes leNumber tickBy checked read front commandOf distinct wellFormed before everyLabel labelsOf subset disjoint valid active activeLabels membersFrom declaredBy commands loopNesting signalNesting ceiling encodeState decodeState encodeAnswer expand reactBy errorsBy reactionsBy Sets.none only member join insert remove totalsBytes toBits ofInt passesInSingles add
 not-testsInSingles h =
     let box : List ℕ = boxAfter callOf emptyBox full in
     let past : 16777216 < 16777217 = omega arith in

@@ -39,7 +39,7 @@ use Rattle.box_theory.proofs.Moves.{positions-sized}
 use Rattle.box_theory.proofs.Ticks.{next, entered, length-stepped, length-entered, new-sized, Ticked, down, full, instant, ticked, tick-number}
 use Rattle.box_theory.proofs.Readers.{service-reads, panel-reads, ledger-reads, ledger-lengths}
 use Rattle.box_theory.proofs.Previews.{preview-stays, preview-not}
-use Rattle.box_theory.proofs.Bays.{ceilingFor, bounds, Admission, turned-down, taken, admission}
+use Rattle.box_theory.proofs.Bays.{ceilingFor, bounds, Admission, turned-down, admits, admission}
 use Rattle.box_theory.proofs.Stretches.{refused-stretch, number-there, stretch-sized, own, no-bay, other-box, same-length, others-stay}
 use Rattle.box_theory.proofs.Reached.{empty-stretch, kept-empty}
 use Rattle.box_theory.proofs.Named.{bay-answered, stretch-after}
@@ -97,7 +97,7 @@ module _ (k : ℕ) (s : List ℕ) (z : length s ≡ stretchLength) where
     where
       go : Admission k s t (bayAdmitOf k s t) → ledgerIn (memoryAfter (bayAdmitOf k s t)) ≡ ledgerIn s
       go (turned-down m y e) = ap (λ (o : Called). ledgerIn (memoryAfter o)) e
-      go (taken c r e) =
+      go (admits c r e) =
           ap (λ (o : Called). ledgerIn (memoryAfter o)) e
           ∙ filled-behind t (ceilingFor t) s z (bounds t (accepted (t .sequence) (t .readBack) c) .1) bayLength ledgerLength (omega arith)
   ledger-after release n = vacated-behind bayLength ledgerLength s z (omega arith)

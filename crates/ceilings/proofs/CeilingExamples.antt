@@ -5,7 +5,7 @@ use Prim.Native.Nat.{ℕ}
 use Rattle.esterel.specs.Sets.{member, none, only, join}
 use Rattle.esterel.specs.ReadBack.{membersFrom, declaredBy}
 use Rattle.esterel.specs.LabelTests.{subset, disjoint, labelsOf, everyLabel, distinct, before, wellFormed}
-use Rattle.esterel.specs.Ceiling.{commands, loopNesting, nesting, ceiling}
+use Rattle.esterel.specs.Ceiling.{commands, loopNesting, signalNesting, ceiling}
 use Rattle.sequence.specs.Commands.{commandOf}
 use Rattle.sequence.specs.Reader.{front, read}
 use Rattle.sequence.specs.Check.{checked}
@@ -22,5 +22,5 @@ table =
     ∷ []
 
 examples : map (λ (x : List ℕ × ℕ × ℕ). ceilingOf (x .1) (checked (x .0) (x .1))) table ≡ map (λ (x : List ℕ × ℕ × ℕ). x .2) table
-unfolding checked read front commandOf ceiling commands loopNesting nesting declaredBy membersFrom distinct wellFormed everyLabel before labelsOf subset disjoint member none only join
+unfolding checked read front commandOf ceiling commands loopNesting signalNesting declaredBy membersFrom distinct wellFormed everyLabel before labelsOf subset disjoint member none only join
 examples = refl

@@ -7,7 +7,7 @@ use native.Mathlib.Nat.{mul-le-mul, one-mul}
 use lib.ListN.{length}
 use lib.Pow.{pow-mono, shl-exact}
 use Rattle.esterel.specs.Statement.{Statement}
-use Rattle.esterel.specs.Ceiling.{commands, loopNesting, nesting, ceiling}
+use Rattle.esterel.specs.Ceiling.{commands, loopNesting, signalNesting, ceiling}
 use Rattle.theory.proofs.Ceiling.{commands-declared, loops-declared, nesting-declared}
 use Rattle.limits.specs.Limits.{maxBytes, maxDepth, maxSignals, readBackPlace}
 use Rattle.sequence.specs.Program.{readBackSignals, program}
@@ -15,7 +15,7 @@ use Rattle.sequence.specs.Check.{Checked, sound, bad, checked, numberOf, checkO
 use Rattle.sequence.proofs.Extents.{few-signals}
 use Rattle.checks.specs.Verdict.{Judged, Passed}
 use Rattle.checks.proofs.Passing.{as-ready}
-use Rattle.extents.specs.declared.Numbers.{Numbers}
+use Rattle.extents.specs.declared.Extent.{Extent}
 use Rattle.extents.specs.Extents.{Has}
 use Rattle.sequence.specs.Ceilings.{ceilingOf}
 use Rattle.ceilings.specs.Ceilings.{Plannable}
@@ -26,7 +26,7 @@ use Rattle.extents.proofs.Sizes.{sized}
 
 -- ---- the product, and that it fits
 pub ceiling-is : (readBack k : ℕ) (p : Statement) → k ≡ length (readBackSignals readBack)
-    → ceiling (program readBack p) ≡ (k + commands p) * (1 + loopNesting p) * 2 ^ (k + nesting p)
+    → ceiling (program readBack p) ≡ (k + commands p) * (1 + loopNesting p) * 2 ^ (k + signalNesting p)
 unfolding ceiling
 ceiling-is readBack k p e =
     let ss = readBackSignals readBack in
@@ -47,7 +47,7 @@ module _ (x y : ℕ) (c : x ≤ maxBytes + maxSignals) (l : y ≤ maxDepth) wher
 module _ (bs : List ℕ) (readBack : ℕ) where
   module _ (t notes : List ℕ) (a : Passed bs readBack t notes) where
     -- the numbers n that the walk finds, with k signals read back
-    module _ {n : Numbers} (h : Has (a .p) n) {k : ℕ} (e : k ≡ length (readBackSignals readBack)) where
+    module _ {n : Extent} (h : Has (a .p) n) {k : ℕ} (e : k ≡ length (readBackSignals readBack)) where
       pub plannable : Plannable n k
       plannable =
           let s = sized t maxDepth 0 0 bs (a .p) (a .known .lies) in

@@ -7,12 +7,12 @@ ghost use Rattle.sequence.specs.Ceilings.{ceilingOf};
 ghost use Rattle.checks.specs.Verdict.{Passed};
 ghost use Rattle.ceilings.specs.Ceilings.{Plannable};
 ghost use Rattle.ceilings.specs.Plans.{planOf};
-use extents::Numbers;
-use layout::Seconds;
+use extents::Extent;
+use layout::SecondParts;
 use notes::Notes;
 
 // The ceiling of a statement with these numbers under k declarations: each is a command and a signal around one.
-fn under(n: Numbers, k: u32) -> u32
+fn under(n: Extent, k: u32) -> u32
     requires { ⌜ Plannable n k ⌝ }
     ensures { λ r. ⌜ r ≡ (k + n .commands) * (1 + n .loops) * 2 ^ (k + n .signals) ⌝ }
 {
@@ -20,7 +20,7 @@ fn under(n: Numbers, k: u32) -> u32
 }
 
 // The ceiling of a sequence that the check has passed, with the table of second parts that it left.
-pub fn of_accepted(sequence: &[u8], read_back: u32, second: &Seconds) -> u32
+pub fn of_accepted(sequence: &[u8], read_back: u32, second: &SecondParts) -> u32
     requires { ⌜ ((notes : List ℕ) × Passed (now sequence) «read_back» (now second) notes) ⌝ }
     ensures { λ r. ⌜ r ≡ ceilingOf «read_back» (checked (now (sequence .entry)) «read_back») ⌝ }
 {
@@ -37,7 +37,7 @@ pub enum Plan {
 pub fn planned(sequence: &[u8], read_back: u32) -> Plan
     ensures { λ r. ⌜ r ≡ planOf «read_back» (checked (now (sequence .entry)) «read_back») ⌝ }
 {
-    let mut second: Seconds = [0; limits::MAX_BYTES];
+    let mut second: SecondParts = [0; limits::MAX_BYTES];
     let mut notes: Notes = [0; notes::LENGTH];
     let number = checks::verdict::check(sequence, read_back, &mut second, &mut notes);
     if number != 0 {

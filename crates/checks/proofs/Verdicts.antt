@@ -14,7 +14,7 @@ use Rattle.reading.specs.declared.reader.Reading.the-variants.{Accepted, Refuse
 use Rattle.limits.specs.Limits.{maxDepth, maxSignals, readBackPlace}
 use Rattle.theory.proofs.Ceiling.{nesting-declared}
 use Rattle.sequence.specs.Reader.{Read, accepted, refused, readAll}
-use Rattle.esterel.specs.Ceiling.{nesting}
+use Rattle.esterel.specs.Ceiling.{signalNesting}
 use Rattle.sequence.specs.Writer.{Written}
 use Rattle.sequence.specs.Program.{readBackSignals, program}
 use Rattle.layout.specs.Layout.{Lies}
@@ -42,7 +42,7 @@ rules-sound false b c p q e = never-sound e
 record ReadAs (bs : List ℕ) (n left : ℕ) : Type 0 where
   statement : Statement
   reads : readAll bs ≡ accepted statement n
-  leaves : left ≡ maxSignals - nesting statement
+  leaves : left ≡ maxSignals - signalNesting statement
 
 module _ (bs : List ℕ) (readBack : ℕ) (t notes : List ℕ) where
   -- turned down
@@ -102,17 +102,17 @@ module _ (bs : List ℕ) (readBack : ℕ) (t notes : List ℕ) where
 
       -- k signals are read back
       module _ {k : ℕ} (size : k ≡ length (readBackSignals readBack)) where
-        nests : nesting (program readBack p) ≡ k + nesting p
-        nests = nesting-declared readBackPlace (readBackSignals readBack) p ∙ ap (λ (i : ℕ). i + nesting p) (sym size)
+        nests : signalNesting (program readBack p) ≡ k + signalNesting p
+        nests = nesting-declared readBackPlace (readBackSignals readBack) p ∙ ap (λ (i : ℕ). i + signalNesting p) (sym size)
 
         pub too-many : left < k → Judged bs readBack t notes 6
         too-many l =
-            let c : ltb maxSignals (nesting (program readBack p)) ≡ true = lt-ltb maxSignals (nesting (program readBack p)) (omega (arith, nests, as-read .leaves)) in
+            let c : ltb maxSignals (signalNesting (program readBack p)) ≡ true = lt-ltb maxSignals (signalNesting (program readBack p)) (omega (arith, nests, as-read .leaves)) in
             refuse (by-reading (accepted p n) (as-read .reads) ∙ rw c) refl
 
         module _ (fits : k ≤ left) where
-          within : ltb maxSignals (nesting (program readBack p)) ≡ false
-          within = le-ltb maxSignals (nesting (program readBack p)) (omega (arith, nests, as-read .leaves, written .within .nested))
+          within : ltb maxSignals (signalNesting (program readBack p)) ≡ false
+          within = le-ltb maxSignals (signalNesting (program readBack p)) (omega (arith, nests, as-read .leaves, written .within .nested))
 
           pub bytes-left : n < length bs → Judged bs readBack t notes 7
           bytes-left l = refuse (by-reading (accepted p n) (as-read .reads) ∙ rw (within, lt-ltb n (length bs) l)) refl

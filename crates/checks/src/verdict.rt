@@ -5,12 +5,12 @@ ghost use lib.ListN.{length};
 ghost use Rattle.limits.specs.Limits.{maxBytes};
 ghost use Rattle.layout.specs.Notes.{noNotes};
 ghost use Rattle.checks.specs.Verdict.{Judged};
-use layout::Seconds;
+use layout::SecondParts;
 use notes::Notes;
 use reading::reader::Reading;
 
 // The row that turns the sequence down, or 0.
-pub fn check(s: &[u8], read_back: u32, second: &mut Seconds, notes: &mut Notes) -> u8
+pub fn check(s: &[u8], read_back: u32, second: &mut SecondParts, notes: &mut Notes) -> u8
     requires { ⌜ length (now second) ≡ maxBytes ⌝ }
     requires { ⌜ now notes ≡ noNotes ⌝ }
     ensures { λ r. ⌜ Judged (now (s .entry)) «read_back» (now (second .exit)) (now (notes .exit)) r ⌝ }

@@ -7,10 +7,10 @@ ghost use Rattle.matrix.specs.Rows.{rowOf};
 ghost use Rattle.esterel.specs.Sets.{member};
 ghost use Rattle.clashes.specs.Clashes.{InRowOf, RowsOf, ClashIf, Clashes};
 use labels::Labels;
-use matrix::Rows;
+use matrix::Matrix;
 
 // Is k in the row of a label of s?
-fn in_row_of(rows: &Rows, s: Labels, k: u8) -> bool
+fn in_row_of(rows: &Matrix, s: Labels, k: u8) -> bool
     ensures { λ r. ⌜ (r ≡ true) ↔ InRowOf (rowOf (now (rows .entry))) (labelSet s) k ⌝ }
 {
     let mut left = s;
@@ -25,7 +25,7 @@ fn in_row_of(rows: &Rows, s: Labels, k: u8) -> bool
 }
 
 // The labels that stand in the rows of the labels of s.
-fn union_of_rows(rows: &Rows, s: Labels) -> Labels
+fn union_of_rows(rows: &Matrix, s: Labels) -> Labels
     ensures { λ r. ⌜ RowsOf (rowOf (now (rows .entry))) (labelSet s) (labelSet r) ⌝ }
 {
     let mut all = labels::empty();
@@ -39,7 +39,7 @@ fn union_of_rows(rows: &Rows, s: Labels) -> Labels
 }
 
 // Has a label concurrent with k a pause exclusive with that of k? Only a label of `all` is looked for in other rows.
-fn clash(exclusive: &Rows, concurrent: &Rows, all: Labels, k: u8) -> bool
+fn clash(exclusive: &Matrix, concurrent: &Matrix, all: Labels, k: u8) -> bool
     ensures { λ r. ⌜ (r ≡ true) ↔ ClashIf (rowOf (now (exclusive .entry))) (rowOf (now (concurrent .entry)))
         (member k (labelSet all) ≡ true) k ⌝ }
 {
@@ -56,7 +56,7 @@ fn clash(exclusive: &Rows, concurrent: &Rows, all: Labels, k: u8) -> bool
 }
 
 // Does a label of `pauses` clash? If only those have a row, does any (`clashes-of-all`)?
-pub fn any_clash(exclusive: &Rows, concurrent: &Rows, pauses: Labels) -> bool
+pub fn any_clash(exclusive: &Matrix, concurrent: &Matrix, pauses: Labels) -> bool
     ensures { λ r. ⌜ Clashes (rowOf (now (exclusive .entry))) (rowOf (now (concurrent .entry))) (labelSet pauses) r ⌝ }
 {
     let all = union_of_rows(exclusive, pauses);

@@ -9,10 +9,10 @@ use lib.Dec.{eqb}
 pub data Letter : Type 0 where
   l s n v p q : Letter
 
-pub data Row : Type 0 where
-  row : (byte : ℕ) (letters : List Letter) → Row
+pub data Printed : Type 0 where
+  row : (byte : ℕ) (letters : List Letter) → Printed
 
-abbrev pub printed : List Row
+abbrev pub printed : List Printed
 printed =
     row 0x00 []
     ∷ row 0x01 (l ∷ [])
@@ -52,12 +52,12 @@ count f [] = 0
 count f (x ∷ xs) = cond (f x) (bytes x + count f xs) (count f xs)
 
 -- the count in the row of a byte, if the table has one
-abbrev pub countIn : (Letter → Bool) → ℕ → List Row → Option ℕ
-countIn f b [] = none
-countIn f b (row a xs ∷ rows) = cond (eqb a b) (some (count f xs)) (countIn f b rows)
+abbrev pub lettersIn : (Letter → Bool) → ℕ → List Printed → Option ℕ
+lettersIn f b [] = none
+lettersIn f b (row a xs ∷ rows) = cond (eqb a b) (some (count f xs)) (lettersIn f b rows)
 
 abbrev pub operandsPrinted : ℕ → Option ℕ
-operandsPrinted b = countIn (λ x. not (isPart x)) b printed
+operandsPrinted b = lettersIn (λ x. not (isPart x)) b printed
 
 abbrev pub partsPrinted : ℕ → Option ℕ
-partsPrinted b = countIn isPart b printed
+partsPrinted b = lettersIn isPart b printed

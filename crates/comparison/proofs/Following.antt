@@ -11,7 +11,7 @@ use borrow.Author.Tests.{ne-eqb}
 use Rattle.limits.specs.Limits.{noFarm}
 use Rattle.esterel.specs.Sets.{none}
 use Rattle.esterel.specs.Resume as Esterel
-use Rattle.esterel.specs.Resume.{Instant, instantOf, startTree, expandBy}
+use Rattle.esterel.specs.Resume.{Instant, instantOf, startTraced, expandBy}
 use Rattle.esterel.specs.Machines.{State}
 use Rattle.labels.specs.Labels.{labelSet}
 use Rattle.labels.specs.declared.Labels.{Labels}
@@ -62,7 +62,7 @@ written-number (Wrong kind place) o L m = refl
 pub record-made : (n e : ℕ) (i : Reaction) (k : ℕ) (state answer : List ℕ) → outcome k state answer ≡ writtenFrom i
     → (room made : List ℕ) → length room ≡ recordLength → made ≡ replaced room (recordOf n e answer state) → made ≡ recordFrom n e (writtenFrom i)
 record-made n e i k state answer w room made l m =
-    let z : Sized (outcome k state answer) = subst Sized (sym w) (written-sized (i .completion) (i .emitted) (labelSet (i .labels)) (i .taken)) in
+    let z : Sized (outcome k state answer) = subst Sized (sym w) (written-sized (i .completion) (i .emitted) (labelSet (i .labels)) (i .reactions)) in
     m ∙ replaced-by recordLength room (recordOf n e answer state) (record-sized n e answer state (z .1) (z .0)) l
     ∙ ap (recordFrom n e) w
 
@@ -78,12 +78,12 @@ module _ (sequence : List ℕ) (readBack : ℕ) {second notes : List ℕ} (h : P
   stood : Decodes (h .p) state standing
   stood = k .decodes
 
-  pub fresh-replies : standing ≡ stands.Fresh → (e : ℕ) (i : Reaction) → i ≡ reactionOf (startTree noFarm (program readBack (h .p)) e)
+  pub fresh-replies : standing ≡ stands.Fresh → (e : ℕ) (i : Reaction) → i ≡ reactionOf (startTraced noFarm (program readBack (h .p)) e)
       → Replies sequence state e readBack (Reacted i)
   fresh-replies q e i w = fresh-reply sequence state e readBack (h .p) (h .is) (h .ranged) noFarm i (subst (Decodes (h .p) state) q stood) w
 
   pub waiting-replies : (m : Labels) → standing ≡ stands.Waiting m → (e : ℕ) (i : Reaction)
-      → i ≡ reactionOf (startTree noFarm (program readBack (expandBy 0 (h .p) (labelSet m))) e) → Replies sequence state e readBack (Reacted i)
+      → i ≡ reactionOf (startTraced noFarm (program readBack (expandBy 0 (h .p) (labelSet m))) e) → Replies sequence state e readBack (Reacted i)
   waiting-replies m q e i w = waiting-reply sequence state e readBack (h .p) (h .is) (h .ranged) noFarm i m (subst (Decodes (h .p) state) q stood) w
 
   -- what the comparison asks of an instant
@@ -129,7 +129,7 @@ module _ (sequence : List ℕ) (readBack : ℕ) {second notes : List ℕ} (h : P
     is-record i q =
         ap (isRecord n r) (sym (as-tick (Reacted i) q))
         ∙ ap (λ (m : ℕ). eqb m 0 && same r (recordFrom n (inputIn r) (writtenFrom i)))
-        (written-number (i .completion) (i .emitted) (labelSet (i .labels)) (i .taken))
+        (written-number (i .completion) (i .emitted) (labelSet (i .labels)) (i .reactions))
 
     by-comparison : (i : Reaction) → Replies sequence state (inputIn r) readBack (Reacted i) → (x : Next)
         → Compared notes n (inputIn r) r i x → FollowsFrom (h .p) sequence readBack n r s x

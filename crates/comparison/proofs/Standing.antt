@@ -12,7 +12,7 @@ use Rattle.esterel.specs.States.{Valid}
 use Rattle.esterel.specs.LabelTests.{pauses, valid, distinct}
 use Rattle.esterel.specs.Ranks.{mask, pauseCount}
 use Rattle.esterel.specs.Resume as Esterel
-use Rattle.esterel.specs.Resume.{Instant, Tree, tree, instantOf, start}
+use Rattle.esterel.specs.Resume.{Instant, Traced, traced, instantOf, start}
 use Rattle.esterel.specs.Machines.{State, stateAfter}
 use Rattle.esterel.specs.Expansion.{expand}
 use Rattle.theory.proofs.LabelTests.{valid-is, distinct-is, pauses-is}
@@ -99,18 +99,18 @@ recorded-then sequence readBack h s r e i q =
 
 -- ---- the code's value of an instant
 module _ (p : Statement) (ranged : Ranged p) {t notes bs : List ℕ} (k : Known t notes bs p) where
-  pub ranked-after : (j : Tree) (i : Reaction) → i ≡ reactionOf j → Recorded p (stateOf (instantOf j))
+  pub ranked-after : (j : Traced) (i : Reaction) → i ≡ reactionOf j → Recorded p (stateOf (instantOf j))
       → RankedAfter notes (i .completion) (labelSet (i .labels))
   ranked-after j i q r = subst (λ (x : Reaction). RankedAfter notes (x .completion) (labelSet (x .labels))) (sym q) (go j r)
     where
-      go : (j : Tree) → Recorded p (stateOf (instantOf j)) → RankedAfter notes (reactionOf j .completion) (labelSet (reactionOf j .labels))
-      go (tree (Esterel.instant (gives o ended l u) x n) a y) r = tt
-      go (tree (Esterel.instant (gives o waiting l u) x n) a y) r =
+      go : (j : Traced) → Recorded p (stateOf (instantOf j)) → RankedAfter notes (reactionOf j .completion) (labelSet (reactionOf j .labels))
+      go (traced (Esterel.instant (gives o ended l u) x n) a y) r = tt
+      go (traced (Esterel.instant (gives o waiting l u) x n) a y) r =
           subst (Ranked notes) (sym (labelSet-of l)) (valid-ranked p ranged t notes bs k l (r .0))
-      go (tree (Esterel.instant (gives o (leaving m) l u) x n) a y) r = tt
-      go (tree (Esterel.instant (gives o wrong l u) x n) a y) r = tt
+      go (traced (Esterel.instant (gives o (leaving m) l u) x n) a y) r = tt
+      go (traced (Esterel.instant (gives o wrong l u) x n) a y) r = tt
 
-  pub decodes-after : (j : Tree) (i : Reaction) → i ≡ reactionOf j → Recorded p (stateOf (instantOf j))
+  pub decodes-after : (j : Traced) (i : Reaction) → i ≡ reactionOf j → Recorded p (stateOf (instantOf j))
       → (s : Standing) → StandsAfter notes (i .completion) (labelSet (i .labels)) s → Decodes p (encodeState (stateOf (instantOf j))) s
   decodes-after j i q r s h =
       go j r (subst (λ (x : Reaction). StandsAfter notes (x .completion) (labelSet (x .labels)) s) q h)
@@ -126,13 +126,13 @@ module _ (p : Statement) (ranged : Ranged p) {t notes bs : List ℕ} (k : Known 
             w p (k .noted) (k .once) (λ x y. pauses-is p x .1 (r .0 .paused x y)) ∙ ap (mask 0 p) (sym e),
           )
 
-      go : (j : Tree) → Recorded p (stateOf (instantOf j)) → StandsAfter notes (reactionOf j .completion) (labelSet (reactionOf j .labels)) s
+      go : (j : Traced) → Recorded p (stateOf (instantOf j)) → StandsAfter notes (reactionOf j .completion) (labelSet (reactionOf j .labels)) s
           → Decodes p (encodeState (stateOf (instantOf j))) s
-      go (tree (Esterel.instant (gives o ended l u) x n) a y) r h = over s h
-      go (tree (Esterel.instant (gives o waiting l u) x n) a y) r (m, e, w) =
+      go (traced (Esterel.instant (gives o ended l u) x n) a y) r h = over s h
+      go (traced (Esterel.instant (gives o waiting l u) x n) a y) r (m, e, w) =
           subst (Decodes p (encodeState (State.waits l))) (sym e) (waits l r m (subst (λ (y : ℕ). Masked notes y (labelSet m)) (labelSet-of l) w))
-      go (tree (Esterel.instant (gives o (leaving m) l u) x n) a y) r h = over s h
-      go (tree (Esterel.instant (gives o wrong l u) x n) a y) r h = over s h
+      go (traced (Esterel.instant (gives o (leaving m) l u) x n) a y) r h = over s h
+      go (traced (Esterel.instant (gives o wrong l u) x n) a y) r h = over s h
 
 -- ---- one law for each return of the code that says where the machine stands
 module _ (notes : List ℕ) {k : Completion} (L : ℕ) where

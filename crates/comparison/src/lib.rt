@@ -10,9 +10,9 @@ ghost use Rattle.comparison.specs.Following.{RankedAfter, StandsAfter, C
 use answers::ANSWER_LENGTH;
 use completions::Completion;
 use instants::Standing;
-use layout::Seconds;
+use layout::SecondParts;
 use notes::Notes;
-use program::Position;
+use program::Start;
 use reaction::Reaction;
 use recordings::RECORD_LENGTH;
 use states::STATE_LENGTH;
@@ -78,7 +78,7 @@ fn compare(notes: &Notes, number: u32, input: u32, trace: &[u8], r: Reaction) ->
 // An instant on the input recorded, from where the machine stands. Litres play no part.
 fn follow(
     sequence: &[u8],
-    second: &Seconds,
+    second: &SecondParts,
     notes: &Notes,
     read_back: u32,
     number: u32,
@@ -98,7 +98,7 @@ fn follow(
             trace,
             program::react(
                 sequence,
-                Position::Fresh,
+                Start::Fresh,
                 input,
                 read_back,
                 limits::NO_FARM,
@@ -112,7 +112,7 @@ fn follow(
             trace,
             program::react(
                 sequence,
-                Position::Waiting(active),
+                Start::Waiting(active),
                 input,
                 read_back,
                 limits::NO_FARM,
@@ -127,7 +127,7 @@ fn follow(
 // The place of the first record that differs, or 0.
 fn first_difference(
     sequence: &[u8],
-    second: &Seconds,
+    second: &SecondParts,
     notes: &Notes,
     read_back: u32,
     recording: &[u8],
@@ -160,7 +160,7 @@ pub fn replay(sequence: &[u8], read_back: u32, recording: &[u8], place: &mut usi
     ensures { λ r. ⌜ replayed r (now (place .exit)) ≡ replayOf (now (sequence .entry)) «read_back» (now (recording .entry)) ⌝ }
 {
     *place = 0;
-    let mut second: Seconds = [0; limits::MAX_BYTES];
+    let mut second: SecondParts = [0; limits::MAX_BYTES];
     let mut notes: Notes = [0; notes::LENGTH];
     let number = checks::verdict::check(sequence, read_back, &mut second, &mut notes);
     if number != 0 {

@@ -11,7 +11,7 @@ use Rattle.sequence.specs.Commands.{Command}
 use Rattle.layout.specs.Layout.{rest, Two, Lies, Ready, Pair}
 use Rattle.sequence.proofs.Table.{byteOf}
 use Rattle.layout.proofs.Parts.{rest-is}
-use Rattle.layout.proofs.Laid.{taken, command}
+use Rattle.layout.proofs.Laid.{taken-apart, command}
 use Rattle.layout.specs.Joints.{jointOf}
 
 -- what is said of a command is said of the statement that it is
@@ -93,19 +93,19 @@ unfolding compatible
 leaf-step {bs = bs} r base m p l n = go (command r .0) (command r .1)
   where
     go : (c : Command) → getD bs 0 0 ≡ byteOf c → true ≡ compatible base p m
-    go Command.nothing b = rw (taken r base p l Command.nothing b .parts)
-    go Command.pause b = rw (taken r base p l Command.pause b .parts)
-    go Command.emit b = rw (taken r base p l Command.emit b .parts)
-    go Command.exit b = rw (taken r base p l Command.exit b .parts)
+    go Command.nothing b = rw (taken-apart r base p l Command.nothing b .parts)
+    go Command.pause b = rw (taken-apart r base p l Command.pause b .parts)
+    go Command.emit b = rw (taken-apart r base p l Command.emit b .parts)
+    go Command.exit b = rw (taken-apart r base p l Command.exit b .parts)
     go Command.seq b = absurd (n .0 .0 .0 .0 .0 .0 .1 b)
     go Command.par b = absurd (n .0 .0 .0 .0 .0 .1 b)
     go Command.loop b = absurd (n .0 .0 .0 .0 .1 b)
     go Command.present b = absurd (n .0 .0 .0 .1 b)
     go Command.signal b = absurd (n .0 .0 .1 b)
     go Command.try b = absurd (n .0 .1 b)
-    go Command.setpause b = rw (taken r base p l Command.setpause b .parts)
+    go Command.setpause b = rw (taken-apart r base p l Command.setpause b .parts)
     go Command.suspend b = absurd (n .1 b)
-    go Command.deliver b = rw (taken r base p l Command.deliver b .parts)
+    go Command.deliver b = rw (taken-apart r base p l Command.deliver b .parts)
 
 -- ---- the two parts of a command whose bytes are handed on whole
 pub whole-pair : {t : List ℕ} {d a w : ℕ} {bs : List ℕ} → Pair t d a w bs → Pair t d a w (rest 0 bs)

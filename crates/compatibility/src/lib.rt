@@ -5,10 +5,10 @@ ghost use Rattle.labels.specs.Labels.{labelSet};
 ghost use Rattle.layout.specs.Layout.{rest, Ready, Pair};
 ghost use Rattle.compatibility.specs.Compatibility.{TellsCompatible, TellsCompatibleTwo};
 use labels::Labels;
-use layout::Seconds;
+use layout::SecondParts;
 
 // Are the active pauses pairwise compatible? The statement at the front of s stands at the offset `at`.
-pub fn compatible(s: &[u8], at: usize, depth: u8, second: &Seconds, active: Labels) -> bool
+pub fn compatible(s: &[u8], at: usize, depth: u8, second: &SecondParts, active: Labels) -> bool
     requires { ⌜ Ready (now second) depth at (now s) ⌝ }
     ensures { λ r. ⌜ TellsCompatible (now (second .entry)) depth at (now (s .entry)) (labelSet active) r ⌝ }
 {
@@ -34,7 +34,7 @@ fn compatible_part(
     n: usize,
     at: usize,
     depth: u8,
-    second: &Seconds,
+    second: &SecondParts,
     active: Labels,
 ) -> bool
     requires { ⌜ n ≤ length (now s) ⌝ }
@@ -51,7 +51,7 @@ fn compatible_parts(
     w: usize,
     parallel: bool,
     depth: u8,
-    second: &Seconds,
+    second: &SecondParts,
     active: Labels,
 ) -> bool
     requires { ⌜ Pair (now second) (depth - 1) at w (now s) ⌝ }

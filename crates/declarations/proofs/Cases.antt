@@ -4,7 +4,7 @@ use mathlib.Core.Path.{_≡_, refl, sym, ap, _∙_}
 use mathlib.Core.Bool.{Bool, true, false, not, _||_, cond, false≢true, true≢false}
 use mathlib.Core.Option.{Option, some}
 use Rattle.labels.specs.declared.Labels.{Labels}
-use Rattle.labels.specs.Labels.{Stands}
+use Rattle.labels.specs.Labels.{Represents}
 use Rattle.labels.proofs.LabelValues.{stands-of}
 use Rattle.esterel.specs.Sets.{member, none, join, remove}
 use Rattle.esterel.specs.Statement.{Scope, local, reported, Statement}
@@ -14,7 +14,7 @@ use Rattle.esterel.specs.Errors.{Error, notReactive, notDeterministic}
 use Rattle.esterel.specs.Litres as litres
 use Rattle.esterel.specs.Litres.{passing}
 use Rattle.esterel.specs.Resume as Esterel
-use Rattle.esterel.specs.Resume.{instant, ifWrong, signalNames, tree, signalTree, signalOnce}
+use Rattle.esterel.specs.Resume.{instant, ifWrong, signalNames, traced, signalTraced, signalOnce}
 use Rattle.theory.proofs.Sets.{remove-absent}
 use Rattle.theory.proofs.Rules.{either-wrong}
 use Rattle.theory.proofs.Litres.{passing-none}
@@ -43,14 +43,14 @@ same-case only+ = refl
 same-case inherited = refl
 
 -- the tree of a case
-abbrev inCase : Case → (f : ℕ) → Scope → (b s : ℕ) → Esterel.Tree → Esterel.Tree → Esterel.Tree
-inCase d f sc b s (tree (instant (gives o− k− l− t−) x− n−) a− y−) (tree (instant r+ x+ n+) a+ y+) =
-    tree (instant (answer d sc b s (gives o− k− l− t−) r+) (signalNames d b (ifWrong k− x− x+)) (1 + n− + n+)) (remove s (join a− a+))
+abbrev inCase : Case → (f : ℕ) → Scope → (b s : ℕ) → Esterel.Traced → Esterel.Traced → Esterel.Traced
+inCase d f sc b s (traced (instant (gives o− k− l− t−) x− n−) a− y−) (traced (instant r+ x+ n+) a+ y+) =
+    traced (instant (answer d sc b s (gives o− k− l− t−) r+) (signalNames d b (ifWrong k− x− x+)) (1 + n− + n+)) (remove s (join a− a+))
     (passing sc f s (litres.chosen d y− y+))
 
-as-fits : (f : ℕ) (sc : Scope) (b s : ℕ) (t u : Esterel.Tree)
-    → signalTree f sc b s t u ≡ inCase (caseIn s (reactionOf t) (reactionOf u)) f sc b s t u
-as-fits f sc b s (tree (instant (gives o− k− l− t−) x− n−) a− y−) (tree (instant (gives o+ k+ l+ t+) x+ n+) a+ y+) =
+as-fits : (f : ℕ) (sc : Scope) (b s : ℕ) (t u : Esterel.Traced)
+    → signalTraced f sc b s t u ≡ inCase (caseIn s (reactionOf t) (reactionOf u)) f sc b s t u
+as-fits f sc b s (traced (instant (gives o− k− l− t−) x− n−) a− y−) (traced (instant (gives o+ k+ l+ t+) x+ n+) a+ y+) =
     rw (code-of k− x−, code-of k+ x+)
 
 -- the two runs of a case: not wrong, or one of them wrong
@@ -102,7 +102,7 @@ Runs s p q b = isInherited (caseIn s p q) ≡ b
 
 -- both runs count, and what they ask for is asked outside but s
 abbrev Counted : (p q : Reaction) (m : ℕ) → Type 0
-Counted p q m = m ≡ keptOf (1 + p .taken + q .taken)
+Counted p q m = m ≡ keptOf (1 + p .reactions + q .reactions)
 
 abbrev Noted : (s : ℕ) (p q : Reaction) (a : ℕ) → Type 0
 Noted s p q a = a ≡ remove s (join (p .asked) (q .asked))
@@ -121,82 +121,82 @@ passed f sc s b x h = go b ∙ ap cappedOf (sym (h x))
 none-passed : (f : ℕ) (sc : Scope) (s : ℕ) → 0 ≡ cappedOf (passing sc f s 0)
 none-passed f sc s = ap cappedOf (sym (passing-none sc f s))
 
-abbrev InBoth : (f : ℕ) (sc : Scope) (b s : ℕ) (t u : Esterel.Tree) (p q : Reaction) → Type 0
+abbrev InBoth : (f : ℕ) (sc : Scope) (b s : ℕ) (t u : Esterel.Traced) (p q : Reaction) → Type 0
 InBoth f sc b s t u p q =
     (o m a : ℕ) (g : Bool) → Runs s p q false → o ≡ outside sc s (q .emitted) → Counted p q m → Noted s p q a → Passes f sc s g
-    → _≡_ {A = Reaction} (record { emitted = o; labels = q .labels; completion = q .completion; taken = m; asked = a; delivered = cond g 0 (q .delivered) })
+    → _≡_ {A = Reaction} (record { emitted = o; labels = q .labels; completion = q .completion; reactions = m; asked = a; delivered = cond g 0 (q .delivered) })
     (reactionOf (inCase both f sc b s t u))
 
-in-both : (f : ℕ) (sc : Scope) (b s : ℕ) (t u : Esterel.Tree) → InBoth f sc b s t u (reactionOf t) (reactionOf u)
-in-both f sc b s (tree (instant (gives o− k− l− t−) x− n−) a− y−) (tree (instant (gives o+ k+ l+ t+) x+ n+) a+ y+) o m a g h e w i d =
+in-both : (f : ℕ) (sc : Scope) (b s : ℕ) (t u : Esterel.Traced) → InBoth f sc b s t u (reactionOf t) (reactionOf u)
+in-both f sc b s (traced (instant (gives o− k− l− t−) x− n−) a− y−) (traced (instant (gives o+ k+ l+ t+) x+ n+) a+ y+) o m a g h e w i d =
     made k+ Option.none (1 + n− + n+) (remove s (join a− a+)) (passing sc f s y+) e (stands-of l+)
     (unmoved k+ x+ Option.none
     (right-runs (member s o−) (member s o+) (isWrong k−) (isWrong k+) (rw (code-of k− x−, code-of k+ x+) at h) .1))
     (w ∙ kept-two n− n+) i (passed f sc s g y+ d)
 
-abbrev InNeither : (f : ℕ) (sc : Scope) (b s : ℕ) (t u : Esterel.Tree) (p q : Reaction) → Type 0
+abbrev InNeither : (f : ℕ) (sc : Scope) (b s : ℕ) (t u : Esterel.Traced) (p q : Reaction) → Type 0
 InNeither f sc b s t u p q =
     (m a : ℕ) (g : Bool) → Runs s p q false → Counted p q m → Noted s p q a → Passes f sc s g
     → _≡_ {A = Reaction}
-    (record { emitted = p .emitted; labels = p .labels; completion = p .completion; taken = m; asked = a; delivered = cond g 0 (p .delivered) })
+    (record { emitted = p .emitted; labels = p .labels; completion = p .completion; reactions = m; asked = a; delivered = cond g 0 (p .delivered) })
     (reactionOf (inCase neither f sc b s t u))
 
-in-neither : (f : ℕ) (sc : Scope) (b s : ℕ) (t u : Esterel.Tree) → InNeither f sc b s t u (reactionOf t) (reactionOf u)
-in-neither f sc b s (tree (instant (gives o− k− l− t−) x− n−) a− y−) (tree (instant (gives o+ k+ l+ t+) x+ n+) a+ y+) m a g h w i d =
+in-neither : (f : ℕ) (sc : Scope) (b s : ℕ) (t u : Esterel.Traced) → InNeither f sc b s t u (reactionOf t) (reactionOf u)
+in-neither f sc b s (traced (instant (gives o− k− l− t−) x− n−) a− y−) (traced (instant (gives o+ k+ l+ t+) x+ n+) a+ y+) m a g h w i d =
     made k− Option.none (1 + n− + n+) (remove s (join a− a+)) (passing sc f s y−) refl (stands-of l−)
     (unmoved k− x− Option.none
     (right-runs (member s o−) (member s o+) (isWrong k−) (isWrong k+) (rw (code-of k− x−, code-of k+ x+) at h) .0))
     (w ∙ kept-two n− n+) i (passed f sc s g y− d)
 
-abbrev InInherited : (f : ℕ) (sc : Scope) (b s : ℕ) (t u : Esterel.Tree) (p q : Reaction) → Type 0
+abbrev InInherited : (f : ℕ) (sc : Scope) (b s : ℕ) (t u : Esterel.Traced) (p q : Reaction) → Type 0
 InInherited f sc b s t u p q =
-    (l : Labels) (c : Completion) (m a : ℕ) → Runs s p q true → Stands l none → c ≡ greaterOf (p .completion) (q .completion)
+    (l : Labels) (c : Completion) (m a : ℕ) → Runs s p q true → Represents l none → c ≡ greaterOf (p .completion) (q .completion)
     → Counted p q m → Noted s p q a
-    → _≡_ {A = Reaction} (record { emitted = none; labels = l; completion = c; taken = m; asked = a; delivered = 0 })
+    → _≡_ {A = Reaction} (record { emitted = none; labels = l; completion = c; reactions = m; asked = a; delivered = 0 })
     (reactionOf (inCase inherited f sc b s t u))
 
-in-inherited : (f : ℕ) (sc : Scope) (b s : ℕ) (t u : Esterel.Tree) → InInherited f sc b s t u (reactionOf t) (reactionOf u)
-in-inherited f sc b s (tree (instant (gives o− k− l− t−) x− n−) a− y−) (tree (instant (gives o+ k+ l+ t+) x+ n+) a+ y+) l c m a h e g w i =
+in-inherited : (f : ℕ) (sc : Scope) (b s : ℕ) (t u : Esterel.Traced) → InInherited f sc b s t u (reactionOf t) (reactionOf u)
+in-inherited f sc b s (traced (instant (gives o− k− l− t−) x− n−) a− y−) (traced (instant (gives o+ k+ l+ t+) x+ n+) a+ y+) l c m a h e g w i =
     let v = wrong-runs (member s o−) (member s o+) (isWrong k−) (isWrong k+) (rw (code-of k− x−, code-of k+ x+) at h) in
     made wrong (ifWrong k− x− x+) (1 + n− + n+) (remove s (join a− a+)) (passing sc f s 0) refl e
     (g ∙ greater-of k− k+ x− x+ ∙ ap (λ (k : Code). completionOf k (ifWrong k− x− x+)) (either-wrong k− k+ v))
     (w ∙ kept-two n− n+) i (none-passed f sc s)
 
 -- a case of the signal's own error
-abbrev InFailed : (d : Case) (f : ℕ) (sc : Scope) (b s : ℕ) (t u : Esterel.Tree) (p q : Reaction) → Type 0
+abbrev InFailed : (d : Case) (f : ℕ) (sc : Scope) (b s : ℕ) (t u : Esterel.Traced) (p q : Reaction) → Type 0
 InFailed d f sc b s t u p q =
     (x : Error) (m a : ℕ) → ((r− r+ : rules.Reaction) → answer d sc b s r− r+ ≡ failed) → ((y : Option Error) → signalNames d b y ≡ some x)
     → ((y− y+ : ℕ) → litres.chosen d y− y+ ≡ 0) → Counted p q m → Noted s p q a → failedWith x m a ≡ reactionOf (inCase d f sc b s t u)
 
-in-failed : (d : Case) (f : ℕ) (sc : Scope) (b s : ℕ) (t u : Esterel.Tree) → InFailed d f sc b s t u (reactionOf t) (reactionOf u)
-in-failed d f sc b s (tree (instant (gives o− k− l− t−) x− n−) a− y−) (tree (instant r+ x+ n+) a+ y+) x m a h n z w i =
+in-failed : (d : Case) (f : ℕ) (sc : Scope) (b s : ℕ) (t u : Esterel.Traced) → InFailed d f sc b s t u (reactionOf t) (reactionOf u)
+in-failed d f sc b s (traced (instant (gives o− k− l− t−) x− n−) a− y−) (traced (instant r+ x+ n+) a+ y+) x m a h n z w i =
     rw (h (gives o− k− l− t−) r+, n (ifWrong k− x− x+), z y− y+, passing-none sc f s, w, kept-two n− n+, i)
 
-module _ (f : ℕ) (sc : Scope) (b s : ℕ) (t u : Esterel.Tree) (p q : Reaction) (p-is : p ≡ reactionOf t) (q-is : q ≡ reactionOf u)
+module _ (f : ℕ) (sc : Scope) (b s : ℕ) (t u : Esterel.Traced) (p q : Reaction) (p-is : p ≡ reactionOf t) (q-is : q ≡ reactionOf u)
     (v : Choice) (fits : v ≡ choiceOf (caseIn s p q)) (m a : ℕ) (counted : Counted p q m) (noted : Noted s p q a) where
   fit-is : (d : Case) → v ≡ choiceOf d → caseIn s p q ≡ d
   fit-is d h = sym (same-case (caseIn s p q)) ∙ ap caseOf (sym fits ∙ h) ∙ same-case d
 
-  chosen : (d : Case) → v ≡ choiceOf d → reactionOf (inCase d f sc b s t u) ≡ reactionOf (signalTree f sc b s t u)
+  chosen : (d : Case) → v ≡ choiceOf d → reactionOf (inCase d f sc b s t u) ≡ reactionOf (signalTraced f sc b s t u)
   chosen d h =
       sym (ap reactionOf (as-fits f sc b s t u ∙ ap (λ (c : Case). inCase c f sc b s t u) (rw (p-is, q-is) at (fit-is d h))))
 
   pub signal-both : v ≡ Both → (g : Bool) {o d : ℕ} {r : Reaction} → o ≡ outside sc s (q .emitted) → Passes f sc s g → d ≡ cond g 0 (q .delivered)
-      → r ≡ record { emitted = o; labels = q .labels; completion = q .completion; taken = m; asked = a; delivered = d }
-      → r ≡ reactionOf (signalTree f sc b s t u)
+      → r ≡ record { emitted = o; labels = q .labels; completion = q .completion; reactions = m; asked = a; delivered = d }
+      → r ≡ reactionOf (signalTraced f sc b s t u)
   signal-both h g {o} e i j k =
       let law : InBoth f sc b s t u p q = rw (p-is, q-is) (in-both f sc b s t u) in
       rw j at k ∙ law o m a g (ap isInherited (fit-is both h)) e counted noted i ∙ chosen both h
 
   pub signal-neither : v ≡ Neither → (g : Bool) {d : ℕ} {r : Reaction} → Passes f sc s g → d ≡ cond g 0 (p .delivered)
-      → r ≡ record { emitted = p .emitted; labels = p .labels; completion = p .completion; taken = m; asked = a; delivered = d }
-      → r ≡ reactionOf (signalTree f sc b s t u)
+      → r ≡ record { emitted = p .emitted; labels = p .labels; completion = p .completion; reactions = m; asked = a; delivered = d }
+      → r ≡ reactionOf (signalTraced f sc b s t u)
   signal-neither h g i j k =
       let law : InNeither f sc b s t u p q = rw (p-is, q-is) (in-neither f sc b s t u) in
       rw j at k ∙ law m a g (ap isInherited (fit-is neither h)) counted noted i ∙ chosen neither h
 
-  pub signal-inherits : v ≡ Inherited → (l : Labels) (c : Completion) → Stands l none → c ≡ greaterOf (p .completion) (q .completion)
-      → _≡_ {A = Reaction} (record { emitted = none; labels = l; completion = c; taken = m; asked = a; delivered = 0 }) (reactionOf (signalTree f sc b s t u))
+  pub signal-inherits : v ≡ Inherited → (l : Labels) (c : Completion) → Represents l none → c ≡ greaterOf (p .completion) (q .completion)
+      → _≡_ {A = Reaction} (record { emitted = none; labels = l; completion = c; reactions = m; asked = a; delivered = 0 }) (reactionOf (signalTraced f sc b s t u))
   signal-inherits h l c e g =
       let law : InInherited f sc b s t u p q = rw (p-is, q-is) (in-inherited f sc b s t u) in
       law l c m a (ap isInherited (fit-is inherited h)) e g counted noted ∙ chosen inherited h
@@ -204,10 +204,10 @@ module _ (f : ℕ) (sc : Scope) (b s : ℕ) (t u : Esterel.Tree) (p q : Reaction
   failed-as : (d : Case) → InFailed d f sc b s t u p q
   failed-as d = rw (p-is, q-is) (in-failed d f sc b s t u)
 
-  pub signal-unreactive : v ≡ OnlyMinus → failedWith (notReactive b) m a ≡ reactionOf (signalTree f sc b s t u)
+  pub signal-unreactive : v ≡ OnlyMinus → failedWith (notReactive b) m a ≡ reactionOf (signalTraced f sc b s t u)
   signal-unreactive h = failed-as only− (notReactive b) m a (λ r− r+. refl) (λ y. refl) (λ y− y+. refl) counted noted ∙ chosen only− h
 
-  pub signal-undetermined : v ≡ OnlyPlus → failedWith (notDeterministic b) m a ≡ reactionOf (signalTree f sc b s t u)
+  pub signal-undetermined : v ≡ OnlyPlus → failedWith (notDeterministic b) m a ≡ reactionOf (signalTraced f sc b s t u)
   signal-undetermined h = failed-as only+ (notDeterministic b) m a (λ r− r+. refl) (λ y. refl) (λ y− y+. refl) counted noted ∙ chosen only+ h
 
 -- ---- one run that stands for both: s is emitted by both or by neither, and a wrong run is inherited
@@ -216,44 +216,44 @@ absent-outside local s o h = remove-absent s o h
 absent-outside reported s o h = refl
 
 module _ (f : ℕ) (sc : Scope) (b s : ℕ) where
-  abbrev OnceRight : Esterel.Tree → Reaction → Type 0
+  abbrev OnceRight : Esterel.Traced → Reaction → Type 0
   OnceRight t p =
       (o m : ℕ) (g : Bool) → isWrong (codeOf (p .completion)) ≡ false → o ≡ outside sc s (p .emitted) → Counted p p m → Passes f sc s g
       → _≡_ {A = Reaction}
-      (record { emitted = o; labels = p .labels; completion = p .completion; taken = m; asked = p .asked; delivered = cond g 0 (p .delivered) })
+      (record { emitted = o; labels = p .labels; completion = p .completion; reactions = m; asked = p .asked; delivered = cond g 0 (p .delivered) })
       (reactionOf (signalOnce f sc b s t))
 
   right-by-member : (c : Bool) (o₁ : ℕ) (k : Code) (l : ℕ) (t₁ : Statement) (x : Option Error) (n a y : ℕ) → member s o₁ ≡ c
-      → isWrong k ≡ false → OnceRight (tree (instant (gives o₁ k l t₁) x n) a y) (reactionOf (tree (instant (gives o₁ k l t₁) x n) a y))
+      → isWrong k ≡ false → OnceRight (traced (instant (gives o₁ k l t₁) x n) a y) (reactionOf (traced (instant (gives o₁ k l t₁) x n) a y))
   right-by-member true o₁ k l t₁ x n a y i r o m g h e w d =
       rw (i, r, e, w, kept-two n n, unmoved k x Option.none r, passed f sc s g y d)
   right-by-member false o₁ k l t₁ x n a y i r o m g h e w d =
       rw (i, r, e, absent-outside sc s o₁ i, w, kept-two n n, unmoved k x Option.none r, passed f sc s g y d)
 
-  right-run : (t : Esterel.Tree) → OnceRight t (reactionOf t)
-  right-run (tree (instant (gives o₁ k l t₁) x n) a y) o m g h =
+  right-run : (t : Esterel.Traced) → OnceRight t (reactionOf t)
+  right-run (traced (instant (gives o₁ k l t₁) x n) a y) o m g h =
       right-by-member (member s o₁) o₁ k l t₁ x n a y refl (rw (code-of k x) at h) o m g h
 
-  abbrev OnceWrong : Esterel.Tree → Reaction → Type 0
+  abbrev OnceWrong : Esterel.Traced → Reaction → Type 0
   OnceWrong t p =
-      (l : Labels) (m : ℕ) → isWrong (codeOf (p .completion)) ≡ true → Stands l none → Counted p p m
-      → _≡_ {A = Reaction} (record { emitted = none; labels = l; completion = p .completion; taken = m; asked = p .asked; delivered = 0 })
+      (l : Labels) (m : ℕ) → isWrong (codeOf (p .completion)) ≡ true → Represents l none → Counted p p m
+      → _≡_ {A = Reaction} (record { emitted = none; labels = l; completion = p .completion; reactions = m; asked = p .asked; delivered = 0 })
       (reactionOf (signalOnce f sc b s t))
 
-  wrong-run : (t : Esterel.Tree) → OnceWrong t (reactionOf t)
-  wrong-run (tree (instant (gives o₁ ended l₁ t₁) x n) a y) l m h e w = absurd (false≢true h)
-  wrong-run (tree (instant (gives o₁ waiting l₁ t₁) x n) a y) l m h e w = absurd (false≢true h)
-  wrong-run (tree (instant (gives o₁ (leaving k) l₁ t₁) x n) a y) l m h e w = absurd (false≢true h)
-  wrong-run (tree (instant (gives o₁ wrong l₁ t₁) x n) a y) l m h e w = made wrong x (1 + n + n) a (passing sc f s 0) refl e refl (w ∙ kept-two n n) refl (none-passed f sc s)
+  wrong-run : (t : Esterel.Traced) → OnceWrong t (reactionOf t)
+  wrong-run (traced (instant (gives o₁ ended l₁ t₁) x n) a y) l m h e w = absurd (false≢true h)
+  wrong-run (traced (instant (gives o₁ waiting l₁ t₁) x n) a y) l m h e w = absurd (false≢true h)
+  wrong-run (traced (instant (gives o₁ (leaving k) l₁ t₁) x n) a y) l m h e w = absurd (false≢true h)
+  wrong-run (traced (instant (gives o₁ wrong l₁ t₁) x n) a y) l m h e w = made wrong x (1 + n + n) a (passing sc f s 0) refl e refl (w ∙ kept-two n n) refl (none-passed f sc s)
 
-  module _ (t : Esterel.Tree) (p : Reaction) (p-is : p ≡ reactionOf t) {m : ℕ} (counted : Counted p p m) {r : Reaction} where
+  module _ (t : Esterel.Traced) (p : Reaction) (p-is : p ≡ reactionOf t) {m : ℕ} (counted : Counted p p m) {r : Reaction} where
     pub once-right : isWrong (codeOf (p .completion)) ≡ false → (g : Bool) {o d : ℕ} → o ≡ outside sc s (p .emitted)
         → Passes f sc s g → d ≡ cond g 0 (p .delivered)
-        → r ≡ record { emitted = o; labels = p .labels; completion = p .completion; taken = m; asked = p .asked; delivered = d }
+        → r ≡ record { emitted = o; labels = p .labels; completion = p .completion; reactions = m; asked = p .asked; delivered = d }
         → r ≡ reactionOf (signalOnce f sc b s t)
     once-right h g {o} e i j k = let law : OnceRight t p = rw p-is (right-run t) in rw j at k ∙ law o m g h e counted i
 
-    pub once-wrong : isWrong (codeOf (p .completion)) ≡ true → {l : Labels} → Stands l none
-        → r ≡ record { emitted = none; labels = l; completion = p .completion; taken = m; asked = p .asked; delivered = 0 }
+    pub once-wrong : isWrong (codeOf (p .completion)) ≡ true → {l : Labels} → Represents l none
+        → r ≡ record { emitted = none; labels = l; completion = p .completion; reactions = m; asked = p .asked; delivered = 0 }
         → r ≡ reactionOf (signalOnce f sc b s t)
     once-wrong h {l} e k = let law : OnceWrong t p = rw p-is (wrong-run t) in k ∙ law l m h e counted

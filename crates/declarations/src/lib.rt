@@ -6,7 +6,7 @@ ghost use Rattle.esterel.specs.Statement.{Scope, local, reported};
 ghost use mathlib.Core.Bool.{cond};
 ghost use Rattle.esterel.specs.Reaction.{outside};
 ghost use Rattle.esterel.specs.Litres.{passing};
-ghost use Rattle.esterel.specs.Resume.{signalTree, signalOnce};
+ghost use Rattle.esterel.specs.Resume.{signalTraced, signalOnce};
 ghost use Rattle.reaction.specs.Reactions.{FromOne, FromTwo};
 ghost use Rattle.declarations.specs.Choices.{choiceOf, caseIn};
 use reaction::Reaction;
@@ -67,20 +67,20 @@ fn declaring(
     plus: Reaction,
 ) -> Reaction
     ensures { λ r. ⌜ ((f : ℕ) (sc : Scope) → kept ≡ outside sc s (plus .emitted) → ((x : ℕ) → passing sc f s x ≡ cond dropped 0 x)
-        → FromTwo (signalTree f sc place s) minus plus r) ⌝ }
+        → FromTwo (signalTraced f sc place s) minus plus r) ⌝ }
 {
     let k = minus.completion;
     let l = plus.completion;
     let minus_labels = minus.labels;
     let plus_labels = plus.labels;
-    let taken = reaction::over_two(minus.taken, plus.taken);
+    let reactions = reaction::over_two(minus.reactions, plus.reactions);
     let asked = signals::without(signals::union(minus.asked, plus.asked), s);
     match choose(s, minus, plus) {
         Choice::Both => reaction::made(
             kept,
             plus_labels,
             l,
-            taken,
+            reactions,
             asked,
             passed(dropped, plus.delivered),
         ),
@@ -88,17 +88,17 @@ fn declaring(
             minus.emitted,
             minus_labels,
             k,
-            taken,
+            reactions,
             asked,
             passed(dropped, minus.delivered),
         ),
-        Choice::OnlyMinus => reaction::failing(2, place, taken, asked),
-        Choice::OnlyPlus => reaction::failing(3, place, taken, asked),
+        Choice::OnlyMinus => reaction::failing(2, place, reactions, asked),
+        Choice::OnlyPlus => reaction::failing(3, place, reactions, asked),
         Choice::Inherited => Reaction {
             emitted: 0,
             labels: labels::empty(),
             completion: completions::greater_of(k, l),
-            taken,
+            reactions,
             asked,
             delivered: 0,
         },
@@ -112,15 +112,15 @@ fn declaring_once(kept: u32, dropped: bool, p: Reaction) -> Reaction
 {
     let k = p.completion;
     let labels = p.labels;
-    let taken = reaction::over_two(p.taken, p.taken);
+    let reactions = reaction::over_two(p.reactions, p.reactions);
     if completions::is_wrong(k) {
-        reaction::made(0, labels::empty(), k, taken, p.asked, 0)
+        reaction::made(0, labels::empty(), k, reactions, p.asked, 0)
     } else {
         reaction::made(
             kept,
             labels,
             k,
-            taken,
+            reactions,
             p.asked,
             passed(dropped, p.delivered),
         )
@@ -129,7 +129,7 @@ fn declaring_once(kept: u32, dropped: bool, p: Reaction) -> Reaction
 
 // signal s at the offset `place`: s stays inside, with its litres
 pub fn in_signal(place: u16, s: u8, farm: u8, minus: Reaction, plus: Reaction) -> Reaction
-    ensures { λ r. ⌜ FromTwo (signalTree farm local place s) minus plus r ⌝ }
+    ensures { λ r. ⌜ FromTwo (signalTraced farm local place s) minus plus r ⌝ }
 {
     declaring(
         place,
@@ -150,7 +150,7 @@ pub fn in_signal_once(s: u8, farm: u8, p: Reaction) -> Reaction
 
 // The read-back declaration of s (02, items 5 and 12): s is reported all the same, and its litres are kept.
 pub fn in_read_back(s: u8, minus: Reaction, plus: Reaction) -> Reaction
-    ensures { λ r. ⌜ ((f : ℕ) → FromTwo (signalTree f reported readBackPlace s) minus plus r) ⌝ }
+    ensures { λ r. ⌜ ((f : ℕ) → FromTwo (signalTraced f reported readBackPlace s) minus plus r) ⌝ }
 {
     declaring(limits::READ_BACK_PLACE, s, plus.emitted, false, minus, plus)
 }

@@ -15,7 +15,7 @@ use Rattle.esterel.specs.Sets.{member, none, remove, empty, below, from}
 use Rattle.esterel.specs.Statement.{Statement, nothing, pause, emit, exit, seq, par, loop, present, signal, try, setpause, suspend, held}
 use Rattle.esterel.specs.Reaction.{emitted, code, react, isWrong}
 use Rattle.esterel.specs.Ranks.{middle, labelsBy}
-use Rattle.esterel.specs.Resume.{startTree, expandBy}
+use Rattle.esterel.specs.Resume.{startTraced, expandBy}
 use Rattle.esterel.specs.ReadBack.{declaredBy, declared}
 use Rattle.esterel.specs.Litres.{AtMost, delivered}
 use Rattle.esterel.specs.Machines.{adds}
@@ -28,8 +28,8 @@ use Rattle.sequence.proofs.Rows.{Decides, decided}
 use Rattle.layout.specs.Layout.{Lies}
 use Rattle.reaction.specs.declared.Reaction.{Reaction}
 use Rattle.reaction.specs.Reactions.{cappedOf, reactionOf}
-use Rattle.program.specs.declared.Position.{Position}
-use Rattle.program.specs.declared.Position.the-variants.{Fresh, Waiting}
+use Rattle.program.specs.declared.Start.{Start}
+use Rattle.program.specs.declared.Start.the-variants.{Fresh, Waiting}
 use Rattle.program.specs.Program.{termAt, Reacted}
 use Rattle.farms.proofs.Theorems.{unnamed-none}
 use Rattle.layout.specs.Notes.{farmsIn, Noted}
@@ -85,7 +85,7 @@ module _ (f c : ℕ) where
   declared-most a [] p h = h
   declared-most a (s ∷ ss) p h = declared-most a ss p h
 
-  term-most : (position : Position) (readBack : ℕ) (p : Statement) → AtMost f c p → AtMost f c (termOf position readBack p)
+  term-most : (origin : Start) (readBack : ℕ) (p : Statement) → AtMost f c p → AtMost f c (termOf origin readBack p)
   term-most Fresh readBack p h = declared-most readBackPlace (readBackSignals readBack) p h
   term-most (Waiting m) readBack p h =
       declared-most readBackPlace (readBackSignals readBack) (expandBy 0 p (labelSet m)) (expand-most 0 p (labelSet m) h)
@@ -98,10 +98,10 @@ none-capped : {n : ℕ} → n ≡ 0 → 0 ≡ cappedOf n
 none-capped h = rw h
 
 -- ---- the farms of a set, one after the other
-module _ (t bs : List ℕ) (position : Position) (e readBack farms : ℕ) where
+module _ (t bs : List ℕ) (origin : Start) (e readBack farms : ℕ) where
   pub record Gathering (left : ℕ) (before litres : List ℕ) : Type 0 where
     pub sized : length litres ≡ farmCount
-    pub seen : Seeking (λ f. LitresOf t bs position e readBack f (getD litres f 0)) farms left
+    pub seen : Seeking (λ f. LitresOf t bs origin e readBack f (getD litres f 0)) farms left
     pub others : (f : ℕ) → member f farms ≡ false → getD litres f 0 ≡ getD before f 0
 
   pub gathers-none : {litres : List ℕ} → length litres ≡ farmCount → Gathering farms litres litres
@@ -109,7 +109,7 @@ module _ (t bs : List ℕ) (position : Position) (e readBack farms : ℕ) where
 
   -- one is entered; it is a farm, since a set has no other members
   module _ (few : farms < 2 ^ signalCount) {left : ℕ} {before litres : List ℕ} (g : Gathering left before litres) {f : ℕ}
-      (low : Lowest signalCount left f) (some : left ≡ none → ⊥) {r : Reaction} (w : Reacted t bs position e readBack f r) where
+      (low : Lowest signalCount left f) (some : left ≡ none → ⊥) {r : Reaction} (w : Reacted t bs origin e readBack f r) where
     hit : member f farms ≡ true
     hit = seek-hit _ farms left (g .seen) signalCount f low some
 
@@ -120,20 +120,20 @@ module _ (t bs : List ℕ) (position : Position) (e readBack farms : ℕ) where
           | no l ↦ absurd (true≢false (sym hit ∙ member-high {w = signalCount} {s = farms} f few (omega (arith, l))))
         ]
 
-    told : LitresOf t bs position e readBack f (r .delivered)
+    told : LitresOf t bs origin e readBack f (r .delivered)
     told p l = ap (λ (x : Reaction). x .delivered) (w p l)
 
-    entered : (i : ℕ) → LitresOf t bs position e readBack i (getD litres i 0)
-        → LitresOf t bs position e readBack i (getD (set litres f (r .delivered)) i 0)
+    entered : (i : ℕ) → LitresOf t bs origin e readBack i (getD litres i 0)
+        → LitresOf t bs origin e readBack i (getD (set litres f (r .delivered)) i 0)
     entered i h =
         elim (ℕ-discrete i f) [
           | yes j ↦ at-hit i j
           | no j ↦ λ p l. getD-set-other litres f i (r .delivered) 0 j ∙ h p l
         ]
       where
-        at-hit : (i : ℕ) → i ≡ f → LitresOf t bs position e readBack i (getD (set litres f (r .delivered)) i 0)
+        at-hit : (i : ℕ) → i ≡ f → LitresOf t bs origin e readBack i (getD (set litres f (r .delivered)) i 0)
         at-hit i j p l =
-            subst (λ (x : ℕ). getD (set litres f (r .delivered)) x 0 ≡ cappedOf (delivered x (termOf position readBack p) e)) (sym j)
+            subst (λ (x : ℕ). getD (set litres f (r .delivered)) x 0 ≡ cappedOf (delivered x (termOf origin readBack p) e)) (sym j)
             (getD-set-same litres f (r .delivered) 0 (omega (arith, small, g .sized)) ∙ told p l)
 
     pub gathers-next : {next : ℕ} {after : List ℕ} → next ≡ remove f left → after ≡ set litres f (r .delivered) → Gathering next before after
@@ -148,7 +148,7 @@ module _ (t bs : List ℕ) (position : Position) (e readBack farms : ℕ) where
         })
 
   pub gathers-all : {left : ℕ} {before litres : List ℕ} → left ≡ none → Gathering left before litres
-      → Gathers t bs position e readBack farms before litres
+      → Gathers t bs origin e readBack farms before litres
   gathers-all z g = (seek-end _ farms _ (g .seen) z, g .others)
 
 -- ---- an instant
@@ -160,27 +160,27 @@ zeros (suc n) (suc f) = zeros n f
 none-held : {litres : List ℕ} → litres ≡ replicate farmCount 0 → (f : ℕ) → getD litres f 0 ≡ 0
 none-held z f = ap (λ (x : List ℕ). getD x f 0) z ∙ zeros farmCount f
 
-module _ (t bs : List ℕ) (position : Position) (e readBack farms : ℕ) {first : ℕ} (low : Lowest signalCount farms first)
-    {r : Reaction} (h : Reacted t bs position e readBack first r) {b : Bool} (tested : b ≡ isWrong (codeOf (r .completion)))
+module _ (t bs : List ℕ) (origin : Start) (e readBack farms : ℕ) {first : ℕ} (low : Lowest signalCount farms first)
+    {r : Reaction} (h : Reacted t bs origin e readBack first r) {b : Bool} (tested : b ≡ isWrong (codeOf (r .completion)))
     {litres : List ℕ} (clear : litres ≡ replicate farmCount 0) where
-  code-is : (p : Statement) → Lies t maxDepth 0 0 bs p → isWrong (code (react (termOf position readBack p) e)) ≡ b
+  code-is : (p : Statement) → Lies t maxDepth 0 0 bs p → isWrong (code (react (termOf origin readBack p) e)) ≡ b
   code-is p l =
       sym (tested ∙ ap (λ (x : Reaction). isWrong (codeOf (x .completion))) (h p l)
-      ∙ ap isWrong (code-of (code (react (termOf position readBack p) e)) (firstError (termOf position readBack p) e)))
+      ∙ ap isWrong (code-of (code (react (termOf origin readBack p) e)) (firstError (termOf origin readBack p) e)))
 
-  pub wrong-instant : b ≡ true → Instant t bs position e readBack farms r litres
+  pub wrong-instant : b ≡ true → Instant t bs origin e readBack farms r litres
   wrong-instant w = (
     λ f small n. none-held clear f,
     λ p l named. (
       (first, h p l),
-      λ f small. none-held clear f ∙ none-capped (ap (λ (x : Bool). cond x 0 (delivered f (termOf position readBack p) e)) (code-is p l ∙ w)),
+      λ f small. none-held clear f ∙ none-capped (ap (λ (x : Bool). cond x 0 (delivered f (termOf origin readBack p) e)) (code-is p l ∙ w)),
     ),
   )
 
   -- the first farm's litres are those of the walk, and others that the instant emits and the sequence names are asked for
   module _ {entered : List ℕ} (n : entered ≡ set litres first (r .delivered)) {both asked : ℕ} (m : both ≡ common (r .emitted) farms)
       (o : asked ≡ remove first both)
-      (after : List ℕ) (g : Gathers t bs position e readBack asked entered after) where
+      (after : List ℕ) (g : Gathers t bs origin e readBack asked entered after) where
     a : asked ≡ remove first (common (r .emitted) farms)
     a = o ∙ ap (remove first) m
 
@@ -205,16 +205,16 @@ module _ (t bs : List ℕ) (position : Position) (e readBack farms : ℕ) {first
 
     module _ (p : Statement) (l : Lies t maxDepth 0 0 bs p) (named : HasNamed farms p) where
       abbrev Right : ℕ → Type 0
-      Right f = getD after f 0 ≡ cappedOf (delivered f (termOf position readBack p) e)
+      Right f = getD after f 0 ≡ cappedOf (delivered f (termOf origin readBack p) e)
 
       at-first : (f : ℕ) → f < farmCount → f ≡ first → member f asked ≡ false → Right f
       at-first f small j z =
-          subst (λ (x : ℕ). getD after f 0 ≡ cappedOf (delivered x (termOf position readBack p) e)) (sym j)
+          subst (λ (x : ℕ). getD after f 0 ≡ cappedOf (delivered x (termOf origin readBack p) e)) (sym j)
           (g .1 f z ∙ ap₂ (λ (x : List ℕ) (i : ℕ). getD x i 0) n j
           ∙ getD-set-same litres first (r .delivered) 0 (let k = ap length clear ∙ length-replicate {A = ℕ} farmCount 0 in omega (arith, j, small, k))
           ∙ ap (λ (x : Reaction). x .delivered) (h p l))
 
-      none-there : (f : ℕ) → f < farmCount → f ≢ first → member f asked ≡ false → delivered f (termOf position readBack p) e ≡ 0 → Right f
+      none-there : (f : ℕ) → f < farmCount → f ≢ first → member f asked ≡ false → delivered f (termOf origin readBack p) e ≡ 0 → Right f
       none-there f small j z d = g .1 f z ∙ kept f small j ∙ none-capped d
 
       absent : (f : ℕ) → f < farmCount → f ≢ first → member f asked ≡ false → Right f
@@ -222,9 +222,9 @@ module _ (t bs : List ℕ) (position : Position) (e readBack farms : ℕ) {first
         where
           go : (x y : Bool) → member f (r .emitted) ≡ x → member f farms ≡ y → Right f
           go false y o m =
-              none-there f small j z (no-litres f (termOf position readBack p) e (ap (λ (i : Reaction). member f (i .emitted)) (sym (h p l)) ∙ o))
+              none-there f small j z (no-litres f (termOf origin readBack p) e (ap (λ (i : Reaction). member f (i .emitted)) (sym (h p l)) ∙ o))
           go true false o m =
-              none-there f small j z (unnamed-no-litres f (termOf position readBack p) e (term-most f 0 position readBack p (named f small m)) .0)
+              none-there f small j z (unnamed-no-litres f (termOf origin readBack p) e (term-most f 0 origin readBack p (named f small m)) .0)
           go true true o m =
               absurd (true≢false
               (sym (ap (member f) a ∙ member-remove first (common (r .emitted) farms) f
@@ -241,14 +241,14 @@ module _ (t bs : List ℕ) (position : Position) (e readBack farms : ℕ) {first
                 | no j ↦ absent f small j o
               ]
 
-    pub right-instant : b ≡ false → Instant t bs position e readBack farms r after
+    pub right-instant : b ≡ false → Instant t bs origin e readBack farms r after
     right-instant w = (
       outside,
       λ p l named. (
         (first, h p l),
         λ f small.
             each p l named f small
-            ∙ ap (λ (x : Bool). cappedOf (cond x 0 (delivered f (termOf position readBack p) e))) (sym (code-is p l ∙ w)),
+            ∙ ap (λ (x : Bool). cappedOf (cond x 0 (delivered f (termOf origin readBack p) e))) (sym (code-is p l ∙ w)),
       ),
     )
 

@@ -10,10 +10,10 @@ ghost use Rattle.ledgers.specs.Ledgers.{farmCount};
 ghost use Rattle.deliveries.specs.Delivering.{Gathers, Instant, Delivers};
 use instants::Reply;
 use instants::Standing;
-use layout::Seconds;
+use layout::SecondParts;
 use ledgers::Deliveries;
 use notes::Notes;
-use program::Position;
+use program::Start;
 use reaction::Reaction;
 
 // The litres of a farm, if it is one.
@@ -29,22 +29,22 @@ fn enter(litres: &mut Deliveries, farm: u8, more: u32)
 // The litres of the farms of a set, each by a walk that asks for it.
 fn gather(
     s: &[u8],
-    position: Position,
+    origin: Start,
     input: u32,
     read_back: u32,
     farms: u32,
-    second: &Seconds,
+    second: &SecondParts,
     litres: &mut Deliveries,
 )
     requires { ⌜ Ready (now second) maxDepth 0 (now s) ⌝ }
     requires { ⌜ length (now litres) ≡ farmCount ⌝ }
-    ensures { λ _. ⌜ Gathers (now (second .entry)) (now (s .entry)) position input «read_back» farms
+    ensures { λ _. ⌜ Gathers (now (second .entry)) (now (s .entry)) origin input «read_back» farms
         (now (litres .entry)) (now (litres .exit)) ⌝ }
 {
     let mut left = farms;
     while !signals::is_empty(left) {
         let farm = signals::lowest(left);
-        let r = program::react(s, position, input, read_back, farm, second);
+        let r = program::react(s, origin, input, read_back, farm, second);
         enter(litres, farm, r.delivered);
         left = signals::without(left, farm);
     }
@@ -53,26 +53,26 @@ fn gather(
 // An instant with the litres of the farms of a set; a wrong one delivers nothing.
 fn instant(
     s: &[u8],
-    position: Position,
+    origin: Start,
     input: u32,
     read_back: u32,
     farms: u32,
-    second: &Seconds,
+    second: &SecondParts,
     litres: &mut Deliveries,
 ) -> Reaction
     requires { ⌜ Ready (now second) maxDepth 0 (now s) ⌝ }
     requires { ⌜ now litres ≡ replicate farmCount 0 ⌝ }
-    ensures { λ r. ⌜ Instant (now (second .entry)) (now (s .entry)) position input «read_back» farms r (now (litres .exit)) ⌝ }
+    ensures { λ r. ⌜ Instant (now (second .entry)) (now (s .entry)) origin input «read_back» farms r (now (litres .exit)) ⌝ }
 {
     let first = signals::lowest(farms);
-    let r = program::react(s, position, input, read_back, first, second);
+    let r = program::react(s, origin, input, read_back, first, second);
     let k = r.completion;
     if completions::is_wrong(k) {
         return r;
     }
     enter(litres, first, r.delivered);
     let asked = signals::without(signals::common(r.emitted, farms), first);
-    gather(s, position, input, read_back, asked, second, litres);
+    gather(s, origin, input, read_back, asked, second, litres);
     r
 }
 
@@ -91,7 +91,7 @@ pub fn reply_with(
     ensures { λ _. ⌜ Delivers (now (sequence .entry)) (now (state .entry)) input «read_back»
         (now (farms .exit)) (now (litres .exit)) ⌝ }
 {
-    let mut second: Seconds = [0; limits::MAX_BYTES];
+    let mut second: SecondParts = [0; limits::MAX_BYTES];
     let mut notes: Notes = [0; notes::LENGTH];
     let number = checks::verdict::check(sequence, read_back, &mut second, &mut notes);
     if number != 0 {
@@ -104,7 +104,7 @@ pub fn reply_with(
         Standing::Over => Reply::Refused(12),
         Standing::Fresh => Reply::Reacted(instant(
             sequence,
-            Position::Fresh,
+            Start::Fresh,
             input,
             read_back,
             named,
@@ -113,7 +113,7 @@ pub fn reply_with(
         )),
         Standing::Waiting(active) => Reply::Reacted(instant(
             sequence,
-            Position::Waiting(active),
+            Start::Waiting(active),
             input,
             read_back,
             named,

@@ -20,7 +20,7 @@ use Rattle.demands.specs.Tick.{Outcome, outcome, tickOf}
 use Rattle.demands.specs.Plain.{plainChecked, plainTick}
 use Rattle.demands.specs.Paper.{Call}
 use Rattle.demands.specs.Demands.{stateAfterwards, outcomes, cleared}
-use Rattle.demands.specs.Bays.{Bay, Instant, table, shownBy, instants, ShowsBay}
+use Rattle.demands.specs.Bays.{Bay, Shown, table, shownBy, instants, ShowsBay}
 use Rattle.demands.proofs.ReadBack.{plain-tick}
 
 -- ---- in each instant
@@ -38,7 +38,7 @@ module _ (bytes buffer : List ℕ) (n m : ℕ) (first : tickOf bytes cleared 0 n
       → map shownBy (outcomes tickOf bytes none state (replicate k c)) ≡ replicate k (shownBy (waitsIn n))
   unfolding outcomes
   then-on zero i state e = refl
-  then-on (suc k) i state e = rw e (ap (λ (is : List Instant). shownBy (waitsIn n) ∷ is) (then-on k m (stateAfterwards (waitsIn n)) again))
+  then-on (suc k) i state e = rw e (ap (λ (is : List Shown). shownBy (waitsIn n) ∷ is) (then-on k m (stateAfterwards (waitsIn n)) again))
 
   for-ever : (k : ℕ) → instants tickOf bytes buffer k ≡ replicate k (shownBy (waitsIn n))
   for-ever k = then-on k n cleared first
@@ -55,10 +55,10 @@ row-of (a ∷ bs) buffer h b m =
     (List·Memᴰ·cases-cons m)
 
 -- no signal is read back: the plain tick shows it
-once-shows : (bytes buffer : List ℕ) (shown : Instant) → shownBy (plainTick bytes cleared 0 buffer) ≡ shown
+once-shows : (bytes buffer : List ℕ) (shown : Shown) → shownBy (plainTick bytes cleared 0 buffer) ≡ shown
     → instants tickOf bytes buffer 1 ≡ shown ∷ []
 unfolding outcomes
-once-shows bytes buffer shown h = ap (λ (o : Outcome). shownBy o ∷ []) (plain-tick bytes cleared 0 buffer) ∙ ap (λ (i : Instant). i ∷ []) h
+once-shows bytes buffer shown h = ap (λ (o : Outcome). shownBy o ∷ []) (plain-tick bytes cleared 0 buffer) ∙ ap (λ (i : Shown). i ∷ []) h
 
 for-ever-plain : (bytes buffer : List ℕ) (n m : ℕ) → plainTick bytes cleared 0 buffer ≡ waitsIn n
     → plainTick bytes (stateAfterwards (waitsIn n)) 0 buffer ≡ waitsIn m → (k : ℕ)

@@ -10,13 +10,13 @@ use Rattle.esterel.specs.Statement.{Statement}
 use Rattle.esterel.specs.Reaction.{Reaction, gives, react, inheritanceFirst}
 use Rattle.esterel.specs.Errors.{Error, firstError}
 use Rattle.esterel.specs.Reactions.{reactions}
-use Rattle.esterel.specs.Ceiling.{commands, nesting, ceiling, LoopFree, tries, triesButOne, hundred, hundred-takes}
+use Rattle.esterel.specs.Ceiling.{commands, signalNesting, ceiling, LoopFree, tries, triesButOne, hundred, hundred-takes}
 use Rattle.esterel.specs.LabelTests.{subset, disjoint, labelsOf, everyLabel, distinct, before, wellFormed}
 use Rattle.esterel.specs.ReadBack.{membersFrom, declaredBy}
 use Rattle.esterel.specs.Resume.{instant}
 use Rattle.theory.proofs.Ceiling.{fresh-below, resumed-below}
 use Rattle.theory.proofs.Dearest.{hundred-fresh, hundred-resumed, hundred-free}
-use Rattle.limits.specs.Limits.{takenBytes}
+use Rattle.limits.specs.Limits.{reactionsBytes}
 use Rattle.sequence.specs.Commands.{commandOf}
 use Rattle.sequence.specs.Reader.{front, read}
 use Rattle.sequence.specs.Program.{program}
@@ -27,8 +27,8 @@ use Rattle.sequence.specs.Rows.{Spells}
 use Rattle.sequence.proofs.Writer.{reads-what-is-written}
 use Rattle.numbers.specs.Bytes.{leNumber}
 use Rattle.states.specs.StateRecord.{labelsIn}
-use Rattle.answers.specs.AnswerRecord.{answerLength, takenIn}
-use Rattle.answers.proofs.AnswerLaws.{taken-field}
+use Rattle.answers.specs.AnswerRecord.{answerLength, reactionsIn}
+use Rattle.answers.proofs.AnswerLaws.{reactions-field}
 use Rattle.demands.specs.Tick.{written, tickOf}
 use Rattle.demands.specs.Demands.{number, answerAfterwards, cleared, StandsAt, at-start, at-labels, TickMeets}
 use Rattle.demands.specs.Dearest.{hundredBytes}
@@ -37,17 +37,17 @@ use Rattle.demands.proofs.Demand2.{stands-written, passed-check, state-
 use Rattle.demands.proofs.ReadBack.{none-declared}
 
 -- ---- the number told is that of the term at which the machine stands
-taken-written : (r : Reaction) (x : Option Error) (n : ℕ) → n < 256 ^ takenBytes → takenIn (answerAfterwards (written (instant r x n))) ≡ n
-taken-written (gives o k l t) x n h = taken-field o k l t x n h
+reactions-written : (r : Reaction) (x : Option Error) (n : ℕ) → n < 256 ^ reactionsBytes → reactionsIn (answerAfterwards (written (instant r x n))) ≡ n
+reactions-written (gives o k l t) x n h = reactions-field o k l t x n h
 
 told : (sequence state : List ℕ) (e readBack : ℕ) (answer : List ℕ) → number (tickOf sequence state e readBack answer) ≡ 0
-    → (t : Statement) × StandsAt sequence readBack state t × (takenIn (answerAfterwards (tickOf sequence state e readBack answer)) ≡ reactions t e)
+    → (t : Statement) × StandsAt sequence readBack state t × (reactionsIn (answerAfterwards (tickOf sequence state e readBack answer)) ≡ reactions t e)
 told sequence state e readBack answer z =
     let t = stands sequence state e readBack answer z in
     let a = accepted sequence readBack (passed-check sequence state e readBack answer z) in
     let w = stands-written sequence readBack a inheritanceFirst state e answer (state-sized sequence state e readBack answer z)
     (answer-sized sequence state e readBack answer z) (t .1) in
-    (t .0, t .1, rw (w .0) (taken-written (react (t .0) e) (firstError (t .0) e) (reactions (t .0) e) (w .1 .2 e)))
+    (t .0, t .1, rw (w .0) (reactions-written (react (t .0) e) (firstError (t .0) e) (reactions (t .0) e) (w .1 .2 e)))
 
 -- ---- CEILING
 standing-below : {sequence state : List ℕ} {readBack : ℕ} {t : Statement} (e : ℕ) → StandsAt sequence readBack state t
@@ -58,14 +58,14 @@ standing-below {sequence} {state} {readBack} e (at-labels {p = q} s x v) p h =
     rw (same-statement sequence p q h s) (resumed-below (program readBack q) (labelsIn state) e)
 
 pub never-above : (sequence state : List ℕ) (e readBack : ℕ) (answer : List ℕ) → number (tickOf sequence state e readBack answer) ≡ 0
-    → takenIn (answerAfterwards (tickOf sequence state e readBack answer)) ≤ ceilingOf readBack (checked sequence readBack)
+    → reactionsIn (answerAfterwards (tickOf sequence state e readBack answer)) ≤ ceilingOf readBack (checked sequence readBack)
 never-above sequence state e readBack answer z =
     let x = told sequence state e readBack answer z in
     let a = accepted sequence readBack (passed-check sequence state e readBack answer z) in
     rw (a .is-checked) (omega (arith, x .2, standing-below e (x .1) (a .statement) (a .spelled)))
 
 pub never-above-call : {n : ℕ} {state′ answer′ : List ℕ} (sequence state : List ℕ) (e readBack : ℕ) (answer : List ℕ)
-    → TickMeets n state′ answer′ sequence state e readBack answer → n ≡ 0 → takenIn answer′ ≤ ceilingOf readBack (checked sequence readBack)
+    → TickMeets n state′ answer′ sequence state e readBack answer → n ≡ 0 → reactionsIn answer′ ≤ ceilingOf readBack (checked sequence readBack)
 never-above-call sequence state e readBack answer m z =
     let h = never-above sequence state e readBack answer (ap number (sym m) ∙ z) in rw (← m) at h
 
@@ -90,7 +90,7 @@ standing-hundred {sequence} {state} e (at-labels {p = q} s x v) p h free many =
 
 pub none-dearer : (sequence state : List ℕ) (e : ℕ) (answer : List ℕ) → number (tickOf sequence state e none answer) ≡ 0
     → (p : Statement) → Spells sequence p → LoopFree p → commands p ≡ 100
-    → takenIn (answerAfterwards (tickOf sequence state e none answer)) ≤ 6079
+    → reactionsIn (answerAfterwards (tickOf sequence state e none answer)) ≤ 6079
 none-dearer sequence state e answer z p h free many =
     let x = told sequence state e none answer z in omega (arith, x .2, standing-hundred e (x .1) p h free many)
 
@@ -100,7 +100,7 @@ unfolding read front commandOf hundredBytes hundred tries triesButOne
 hundred-spelled = (reads-what-is-written hundredBytes hundred .0 refl, hundred-free, hundred-takes .0)
 
 hundred-accepted : checkOf hundredBytes none ≡ 0
-unfolding checkOf checked read front commandOf hundredBytes nesting declaredBy membersFrom distinct wellFormed everyLabel before labelsOf subset disjoint member none only join
+unfolding checkOf checked read front commandOf hundredBytes signalNesting declaredBy membersFrom distinct wellFormed everyLabel before labelsOf subset disjoint member none only join
 hundred-accepted = refl
 
 cleared-labels : labelsIn cleared ≡ none
@@ -108,11 +108,11 @@ unfolding leNumber none
 cleared-labels = refl
 
 pub hundred-shown : (e : ℕ) (answer : List ℕ) → length answer ≡ answerLength
-    → (number (tickOf hundredBytes cleared e none answer) ≡ 0) × (takenIn (answerAfterwards (tickOf hundredBytes cleared e none answer)) ≡ 6079)
+    → (number (tickOf hundredBytes cleared e none answer) ≡ 0) × (reactionsIn (answerAfterwards (tickOf hundredBytes cleared e none answer)) ≡ 6079)
 hundred-shown e answer j =
     let s : StandsAt hundredBytes none cleared (program none hundred) = at-start (hundred-spelled .0) refl cleared-labels in
     let t = program none hundred in
     let w = stands-written hundredBytes none (accepted hundredBytes none hundred-accepted) inheritanceFirst cleared e answer refl j s in (
       rw (w .0),
-      rw (w .0) (taken-written (react t e) (firstError t e) (reactions t e) (w .1 .2 e) ∙ ap (λ (p : Statement). reactions p e) (none-declared hundred) ∙ hundred-takes .3 e),
+      rw (w .0) (reactions-written (react t e) (firstError t e) (reactions t e) (w .1 .2 e) ∙ ap (λ (p : Statement). reactions p e) (none-declared hundred) ∙ hundred-takes .3 e),
     )

@@ -22,16 +22,16 @@ use Rattle.theory.proofs.SignalOrders.{wrong-named}
 use Rattle.theory.proofs.Derivations.{first-use}
 use Rattle.theory.proofs.Reactions.{rules-used}
 use Rattle.theory.proofs.LabelTests.{valid-is}
-use Rattle.limits.specs.Limits.{signalCount, signalBytes, placeBytes, takenBytes}
+use Rattle.limits.specs.Limits.{signalCount, signalBytes, placeBytes, reactionsBytes}
 use Rattle.sequence.specs.Program.{program}
 use Rattle.sequence.specs.Check.{checkOf}
 use Rattle.sequence.proofs.Rows.{check-by-rows}
 use Rattle.states.specs.StateRecord.{stateLength, Decoded, holds, decodeState, phaseIn, labelsIn}
-use Rattle.answers.specs.AnswerRecord.{answerLength, encodeAnswer, codeByte, kindIn, placeIn, takenIn}
+use Rattle.answers.specs.AnswerRecord.{answerLength, encodeAnswer, codeByte, kindIn, placeIn, reactionsIn}
 use Rattle.demands.specs.Tick.{written, tickBy, tickOf}
 use Rattle.demands.specs.TickRows.{TickRow, row-1, row-2-to-10, row-11, row-12}
 use Rattle.demands.specs.Demands.{number, StandsAt, at-start, at-labels, Derived, Shows, Demand2}
-use Rattle.answers.proofs.AnswerLaws.{code-field, kind-field, place-field, emitted-field, taken-field, blameless, wrong-blame, answer-is, length-answer}
+use Rattle.answers.proofs.AnswerLaws.{code-field, kind-field, place-field, emitted-field, reactions-field, blameless, wrong-blame, answer-is, length-answer}
 use Rattle.demands.proofs.Bounds.{Below, Bounded, emitted-below, Exits, code-exits}
 use Rattle.demands.proofs.ErrorPlaces.{PlacesBelow, place-fits}
 use Rattle.demands.proofs.Reports.{shown-below}
@@ -47,7 +47,7 @@ called-wrong wrong c f h = (λ i. refl, λ i. h)
 
 -- a term within the widths of the records
 abbrev pub Fitting : Statement → Type 0
-Fitting t = Bounded t × PlacesBelow (256 ^ placeBytes) t × ((e : ℕ) → reactions t e < 256 ^ takenBytes)
+Fitting t = Bounded t × PlacesBelow (256 ^ placeBytes) t × ((e : ℕ) → reactions t e < 256 ^ reactionsBytes)
 
 module _ (t : Statement) (e : ℕ) (f : Fitting t) where
   shown-right : (o : ℕ) (k : Code) → k ≢ wrong → shown k o ≡ o
@@ -81,8 +81,8 @@ module _ (t : Statement) (e : ℕ) (f : Fitting t) where
         counted-rules = λ d. counts ∙ sym (rules-used d);
       }
     where
-      counts : takenIn (encodeAnswer (instant (gives o k l t′) (firstError t e) (reactions t e))) ≡ reactions t e
-      counts = taken-field o k l t′ (firstError t e) (reactions t e) (f .2 e)
+      counts : reactionsIn (encodeAnswer (instant (gives o k l t′) (firstError t e) (reactions t e))) ≡ reactions t e
+      counts = reactions-field o k l t′ (firstError t e) (reactions t e) (f .2 e)
 
       named : k ≡ wrong
           → (x : Error) × (firstError t e ≡ some x) × ((d : Reacts t e (gives o k l t′)) → head? (uses d) ≡ some x)

@@ -17,7 +17,7 @@ use Rattle.esterel.specs.ReadBack.{membersFrom, declaredBy, declared}
 use Rattle.theory.proofs.ReadBack.{members-none, expand-declared, declared-unread}
 use Rattle.limits.specs.Limits.{maxBytes, maxDepth, maxSignals, signalCount, readBackPlace}
 use Rattle.sequence.specs.Reader.{Read, accepted, refused, read}
-use Rattle.esterel.specs.Ceiling.{nesting}
+use Rattle.esterel.specs.Ceiling.{signalNesting}
 use Rattle.sequence.specs.Program.{readBackSignals, program}
 use Rattle.sequence.specs.Check.{Checked, sound, bad, afterRead, checked, checkOf, numberOf}
 use Rattle.sequence.proofs.Sound as reader
@@ -34,7 +34,7 @@ none-declared p = ap (λ (ss : List ℕ). declared readBackPlace ss p) (members-
 plain-read : (bs : List ℕ) (r : Read) → read maxDepth maxSignals 0 bs ≡ r → afterRead none (length bs) r ≡ plainAfterRead (length bs) r
 plain-read bs (refused k) e = refl
 plain-read bs (accepted p n) e =
-    rw (none-declared p, le-ltb maxSignals (nesting p) (reader.sound maxDepth maxSignals 0 bs p n e .within .nested))
+    rw (none-declared p, le-ltb maxSignals (signalNesting p) (reader.sound maxDepth maxSignals 0 bs p n e .within .nested))
 
 plain-checked : (bs : List ℕ) → checked bs none ≡ plainChecked bs
 unfolding checked plainChecked

@@ -17,7 +17,7 @@ use Rattle.esterel.specs.LabelTests.{subset, disjoint, labelsOf, everyLabel, di
 use Rattle.sequence.specs.Commands.{commandOf}
 use Rattle.esterel.specs.ReadBack.{membersFrom, declaredBy}
 use Rattle.sequence.specs.Reader.{front, read}
-use Rattle.esterel.specs.Ceiling.{nesting}
+use Rattle.esterel.specs.Ceiling.{signalNesting}
 use Rattle.sequence.specs.Check.{checkOf, checked}
 use Rattle.sequence.specs.Rows.{Spells, rank}
 use Rattle.sequence.specs.Program.{program}
@@ -78,7 +78,7 @@ unfolding read front commandOf
 spells-later = reads-what-is-written later (seq (pause 0) (emit 0 pure)) .0 refl
 
 all-accepted : (checkOf ends none ≡ 0) × (checkOf waits none ≡ 0) × (checkOf later none ≡ 0)
-unfolding checkOf checked read front commandOf nesting declaredBy membersFrom distinct wellFormed everyLabel before labelsOf subset disjoint member none only join
+unfolding checkOf checked read front commandOf signalNesting declaredBy membersFrom distinct wellFormed everyLabel before labelsOf subset disjoint member none only join
 all-accepted = (refl, refl, refl)
 
 -- a check that goes by the rows accepts what checkOf accepts
@@ -91,7 +91,7 @@ unfolding leNumber none
 cleared-labels = refl
 
 first-tick : tickOf ends cleared 0 none buffer ≡ outcome 0 (2 ∷ replicate 16 0) (replicate 8 0 ++ 1 ∷ replicate 3 0)
-unfolding tickBy checked read front commandOf nesting declaredBy membersFrom distinct wellFormed everyLabel before labelsOf subset disjoint decodeState encodeState encodeAnswer leNumber leBytes reactBy errorsBy reactionsBy member none only join
+unfolding tickBy checked read front commandOf signalNesting declaredBy membersFrom distinct wellFormed everyLabel before labelsOf subset disjoint decodeState encodeState encodeAnswer leNumber leBytes reactBy errorsBy reactionsBy member none only join
 first-tick = refl
 
 stands-ends : StandsAt ends none cleared nothing

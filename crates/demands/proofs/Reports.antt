@@ -9,9 +9,9 @@ use Rattle.esterel.specs.Reaction.{Code, ended, waiting, leaving, wrong, Reacti
 use Rattle.esterel.specs.Errors.{Error, blame}
 use Rattle.esterel.specs.Resume.{instant}
 use Rattle.esterel.specs.Machines.{shown, phaseAfter, seen, stateAfter}
-use Rattle.limits.specs.Limits.{signalCount, placeBytes, takenBytes}
+use Rattle.limits.specs.Limits.{signalCount, placeBytes, reactionsBytes}
 use Rattle.states.specs.StateRecord.{encodeState, phaseIn}
-use Rattle.answers.proofs.AnswerLaws.{code-field, kind-field, place-field, emitted-field, taken-field}
+use Rattle.answers.proofs.AnswerLaws.{code-field, kind-field, place-field, emitted-field, reactions-field}
 use Rattle.demands.specs.Tick.{written}
 use Rattle.demands.specs.Paper.{phaseNumber, reportOf}
 use Rattle.demands.specs.Demands.{report}
@@ -33,13 +33,13 @@ phase-field o wrong l t = refl
 
 -- an instant is reported as the machine by rewriting sees it
 pub report-written : (r : Reaction) (x : Option Error) (n : ℕ) → Below signalCount (emitted r) → blame (code r) x .place < 256 ^ placeBytes
-    → n < 256 ^ takenBytes → report (written (instant r x n)) ≡ reportOf (seen r x n)
+    → n < 256 ^ reactionsBytes → report (written (instant r x n)) ≡ reportOf (seen r x n)
 report-written (gives o k l t) x n h i j =
     rw (
       code-field o k l t x n,
       kind-field o k l t x n,
       place-field o k l t x n i,
       emitted-field o k l t x n (shown-below o k h),
-      taken-field o k l t x n j,
+      reactions-field o k l t x n j,
       phase-field o k l t,
     )

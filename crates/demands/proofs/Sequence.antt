@@ -18,7 +18,7 @@ use Rattle.esterel.specs.Reactions.{reactions}
 use Rattle.esterel.specs.Ceiling.{commands, loopNesting, ceiling}
 use Rattle.esterel.specs.Machines.{State, stateAfter, ReactionOf, of-statement, of-expansion, FromValid}
 use Rattle.theory.proofs.Theorems.{stable}
-use Rattle.limits.specs.Limits.{labelCount, maxBytes, maxDepth, maxSignals, placeBytes, takenBytes, readBackPlace}
+use Rattle.limits.specs.Limits.{labelCount, maxBytes, maxDepth, maxSignals, placeBytes, reactionsBytes, readBackPlace}
 use Rattle.theory.proofs.ReadBack.{source-declared, distinct-declared, targeted-declared, wellFormed-declared, valid-declared}
 use Rattle.theory.proofs.Ceiling.{fresh-below, resumed-below, ceiling-within, commands-declared, loops-declared, nesting-declared}
 use Rattle.theory.proofs.LabelTests.{distinct-is, targeted-is, wellFormed-is, valid-is}
@@ -173,8 +173,8 @@ module _ (sequence : List ℕ) (readBack : ℕ) (a : Accepted sequence readBack)
       let m : loopNesting term ≤ maxDepth - 1 = omega (arith, loops-declared readBackPlace ss p, x .1, a .spelled .1 .deep) in
       omega (arith, ceiling-within term (maxSignals + maxBytes) (maxDepth - 1) maxSignals n m g)
 
-  pub counted-fresh : (e : ℕ) → reactions term e < 256 ^ takenBytes
+  pub counted-fresh : (e : ℕ) → reactions term e < 256 ^ reactionsBytes
   counted-fresh e = omega (arith, fresh-below term e, term-ceiling)
 
-  pub counted-resumed : (L e : ℕ) → reactions (expand term L) e < 256 ^ takenBytes
+  pub counted-resumed : (L e : ℕ) → reactions (expand term L) e < 256 ^ reactionsBytes
   counted-resumed L e = omega (arith, resumed-below term L e, term-ceiling)

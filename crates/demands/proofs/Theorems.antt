@@ -21,7 +21,7 @@ use Rattle.sequence.specs.Program.{program}
 use Rattle.sequence.specs.Check.{numberOf, checked, checkOf}
 use Rattle.sequence.specs.Rows.{Spells}
 use Rattle.states.specs.StateRecord.{stateLength, encodeState}
-use Rattle.answers.specs.AnswerRecord.{answerLength, codeIn, kindIn, placeIn, takenIn}
+use Rattle.answers.specs.AnswerRecord.{answerLength, codeIn, kindIn, placeIn, reactionsIn}
 use Rattle.demands.specs.Tick.{Outcome, outcome, tickBy, tickOf}
 use Rattle.demands.specs.Deliveries.{delivered, paperDelivered}
 use Rattle.demands.specs.Paper.{Call, paper}
@@ -174,12 +174,12 @@ read-back = read-back-runs.read-back
 -- it never exceeds the ceiling: of every accepted sequence and set, in every state that row 11 admits and for every input
 pub ceiling-holds : (sequence state : List ℕ) (e readBack : ℕ) (answer : List ℕ)
     → number (tickOf sequence state e readBack answer) ≡ 0
-    → takenIn (answerAfterwards (tickOf sequence state e readBack answer)) ≤ ceilingOf readBack (checked sequence readBack)
+    → reactionsIn (answerAfterwards (tickOf sequence state e readBack answer)) ≤ ceilingOf readBack (checked sequence readBack)
 ceiling-holds = ceilings.never-above
 
 pub ceiling-holds-call : {n : ℕ} {state′ answer′ : List ℕ} (sequence state : List ℕ) (e readBack : ℕ) (answer : List ℕ)
     → TickMeets n state′ answer′ sequence state e readBack answer → n ≡ 0
-    → takenIn answer′ ≤ ceilingOf readBack (checked sequence readBack)
+    → reactionsIn answer′ ≤ ceilingOf readBack (checked sequence readBack)
 ceiling-holds-call = ceilings.never-above-call
 
 pub ceiling-most : (sequence : List ℕ) (readBack : ℕ) → ceilingOf readBack (checked sequence readBack) ≤ 4218880
@@ -192,12 +192,12 @@ hundred-commands = ceilings.hundred-spelled
 
 pub hundred-takes : (e : ℕ) (answer : List ℕ) → length answer ≡ answerLength
     → (number (tickOf hundredBytes cleared e none answer) ≡ 0)
-    × (takenIn (answerAfterwards (tickOf hundredBytes cleared e none answer)) ≡ 6079)
+    × (reactionsIn (answerAfterwards (tickOf hundredBytes cleared e none answer)) ≡ 6079)
 hundred-takes = ceilings.hundred-shown
 
 pub none-dearer : (sequence state : List ℕ) (e : ℕ) (answer : List ℕ) → number (tickOf sequence state e none answer) ≡ 0
     → (p : Statement) → Spells sequence p → LoopFree p → commands p ≡ 100
-    → takenIn (answerAfterwards (tickOf sequence state e none answer)) ≤ 6079
+    → reactionsIn (answerAfterwards (tickOf sequence state e none answer)) ≤ 6079
 none-dearer = ceilings.none-dearer
 
 -- ---- the starred bays

@@ -10,7 +10,7 @@ use Rattle.answers.specs.AnswerRecord.{codeIn, kindIn, placeIn, emittedIn}
 use Rattle.demands.specs.Tick.{Outcome}
 use Rattle.demands.specs.Demands.{Tick, number, stateAfterwards, answerAfterwards, outcomes, cleared}
 
-pub record Instant : Type 0 where
+pub record Shown : Type 0 where
   pub number : ℕ
   pub code : ℕ
   pub kind : ℕ
@@ -25,10 +25,10 @@ pub data When : Type 0 where
 pub record Bay : Type 0 where
   pub bytes : List ℕ
   pub when : When
-  pub shows : Instant
+  pub shows : Shown
 
 -- number 0 and an empty emitted set, as in every starred bay
-abbrev pub quiet : (code kind place labels : ℕ) → Instant
+abbrev pub quiet : (code kind place labels : ℕ) → Shown
 quiet code kind place labels =
     record { number = 0; code = code; kind = kind; place = place; emitted = 0; labels = labels }
 
@@ -52,7 +52,7 @@ table =
     ∷ []
 
 -- what an outcome shows
-abbrev pub shownBy : Outcome → Instant
+abbrev pub shownBy : Outcome → Shown
 shownBy o =
     record {
       number = number o;
@@ -64,11 +64,11 @@ shownBy o =
     }
 
 -- what a tick shows in n instants from a cleared record
-abbrev pub instants : Tick → (bytes buffer : List ℕ) → ℕ → List Instant
+abbrev pub instants : Tick → (bytes buffer : List ℕ) → ℕ → List Shown
 instants tick bytes buffer n = map shownBy (outcomes tick bytes none cleared (replicate n (record { input = 0; buffer = buffer })))
 
 -- the tick shows what the row says, as often as the row says
-abbrev pub ShowsWhen : When → Tick → (bytes buffer : List ℕ) → Instant → Type 0
+abbrev pub ShowsWhen : When → Tick → (bytes buffer : List ℕ) → Shown → Type 0
 ShowsWhen once tick bytes buffer shown = instants tick bytes buffer 1 ≡ shown ∷ []
 ShowsWhen inEachInstant tick bytes buffer shown = (n : ℕ) → instants tick bytes buffer n ≡ replicate n shown
 

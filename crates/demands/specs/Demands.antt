@@ -18,7 +18,7 @@ use Rattle.esterel.specs.Machines.{shown, stateAfter, Rewriting}
 use Rattle.sequence.specs.Program.{program}
 use Rattle.sequence.specs.Rows.{Spells, Row, ByRows}
 use Rattle.states.specs.StateRecord.{stateLength, phaseIn, labelsIn, encodeState}
-use Rattle.answers.specs.AnswerRecord.{takenAt, answerLength, answerRecord, codeIn, kindIn, placeIn, emittedIn, takenIn, codeByte}
+use Rattle.answers.specs.AnswerRecord.{reactionsAt, answerLength, answerRecord, codeIn, kindIn, placeIn, emittedIn, reactionsIn, codeByte}
 use Rattle.demands.specs.Tick.{Outcome, outcome, tickOf}
 use Rattle.demands.specs.TickRows.{Malformed, TickRow}
 use Rattle.demands.specs.Paper.{Call, Report, turnedDown, reacted, paper}
@@ -42,7 +42,7 @@ answerAfterwards (outcome n state answer) = answer
 
 -- an outcome without the number of reactions in its answer
 abbrev pub uncounted : Outcome → Outcome
-uncounted (outcome n state answer) = outcome n state (take takenAt answer)
+uncounted (outcome n state answer) = outcome n state (take reactionsAt answer)
 
 -- ---- lists of ticks: each reads the record as the last one left it; the read-back set is the same in all (02, item 5)
 unfoldable pub outcomes : Tick → (sequence : List ℕ) (readBack : ℕ) (state : List ℕ) → List Call → List Outcome
@@ -102,8 +102,8 @@ pub record Shows (t : Statement) (e o : ℕ) (k : Code) (l : ℕ) (t′ : Statem
       × (kindIn (answerAfterwards result) ≡ x .kind) × (placeIn (answerAfterwards result) ≡ x .place)
   pub unnamed : k ≢ wrong → (kindIn (answerAfterwards result) ≡ 0) × (placeIn (answerAfterwards result) ≡ 0)
   -- the number of reactions in the tree, whole: it fits its bytes (02, item 6); and that of the rules used in any derivation
-  pub counted : takenIn (answerAfterwards result) ≡ reactions t e
-  pub counted-rules : (d : Reacts t e (gives o k l t′)) → takenIn (answerAfterwards result) ≡ rulesUsed d
+  pub counted : reactionsIn (answerAfterwards result) ≡ reactions t e
+  pub counted-rules : (d : Reacts t e (gives o k l t′)) → reactionsIn (answerAfterwards result) ≡ rulesUsed d
 
 pub record Demand2 (check : Check) (tick : Tick) : Type 0 where
   -- where the tick gives 0, the machine stands at a term, and the rules give that term an instant
@@ -117,7 +117,7 @@ pub record Demand2 (check : Check) (tick : Tick) : Type 0 where
 -- ---- demand 3
 abbrev pub report : Outcome → Report
 report (outcome zero state answer) =
-    reacted (codeIn answer) (kindIn answer) (placeIn answer) (emittedIn answer) (takenIn answer) (phaseIn state)
+    reacted (codeIn answer) (kindIn answer) (placeIn answer) (emittedIn answer) (reactionsIn answer) (phaseIn state)
 report (outcome (suc n) state answer) = turnedDown (suc n) (phaseIn state)
 
 -- an accepted sequence without setpause: the paper is fed the program of the statement that it spells, and both report the same

@@ -17,7 +17,7 @@ pub record Call : Type 0 where
 -- what is compared: number, code, kind, place, emitted set and number of reactions of an instant, and the phase after each tick
 pub data Report : Type 0 where
   turnedDown : (number : ℕ) (phase : ℕ) → Report
-  reacted : (code kind place emitted taken : ℕ) (phase : ℕ) → Report
+  reacted : (code kind place emitted reactions : ℕ) (phase : ℕ) → Report
 
 abbrev pub phaseNumber : Phase → ℕ
 phaseNumber fresh = 0

@@ -8,9 +8,9 @@ use mathlib.Core.List.{List, [], _∷_, _++_}
 use lib.ListN.{take, drop, replicate}
 use lib.Dec.{eqb}
 use Rattle.esterel.specs.Machines.{State}
-use Rattle.limits.specs.Limits.{takenBytes}
+use Rattle.limits.specs.Limits.{reactionsBytes}
 use Rattle.states.specs.StateRecord.{labelsAt, encodeState, phaseIn, labelsIn}
-use Rattle.answers.specs.AnswerRecord.{takenAt, answerLength, codeIn}
+use Rattle.answers.specs.AnswerRecord.{reactionsAt, answerLength, codeIn}
 use Rattle.demands.specs.Tick.{Outcome, outcome, tickOf}
 use Rattle.demands.specs.Demands.{Check, Tick, number, stateAfterwards, answerAfterwards, cleared}
 
@@ -93,4 +93,4 @@ appendsZero sequence state e readBack answer =
 -- a tick that counts no reactions
 abbrev pub countsNone : Tick
 countsNone sequence state e readBack answer =
-    instead (λ state′ answer′. outcome 0 state′ (take takenAt answer′ ++ replicate takenBytes 0)) (tickOf sequence state e readBack answer)
+    instead (λ state′ answer′. outcome 0 state′ (take reactionsAt answer′ ++ replicate reactionsBytes 0)) (tickOf sequence state e readBack answer)

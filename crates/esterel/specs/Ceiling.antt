@@ -41,25 +41,25 @@ loopNesting (suspend s p) = loopNesting p
 loopNesting (held s K p) = loopNesting p
 
 -- the greatest number of signal commands around a command
-unfoldable pub nesting : Statement → ℕ
-nesting nothing = 0
-nesting (pause l) = 0
-nesting (emit s v) = 0
-nesting (exit n) = 0
-nesting (seq p q) = max (nesting p) (nesting q)
-nesting (par p q) = max (nesting p) (nesting q)
-nesting (loop a p) = nesting p
-nesting (present s p q) = max (nesting p) (nesting q)
-nesting (signal sc a s p) = 1 + nesting p
-nesting (try p) = nesting p
-nesting (setpause l) = 0
-nesting (suspend s p) = nesting p
-nesting (held s K p) = nesting p
+unfoldable pub signalNesting : Statement → ℕ
+signalNesting nothing = 0
+signalNesting (pause l) = 0
+signalNesting (emit s v) = 0
+signalNesting (exit n) = 0
+signalNesting (seq p q) = max (signalNesting p) (signalNesting q)
+signalNesting (par p q) = max (signalNesting p) (signalNesting q)
+signalNesting (loop a p) = signalNesting p
+signalNesting (present s p q) = max (signalNesting p) (signalNesting q)
+signalNesting (signal sc a s p) = 1 + signalNesting p
+signalNesting (try p) = signalNesting p
+signalNesting (setpause l) = 0
+signalNesting (suspend s p) = signalNesting p
+signalNesting (held s K p) = signalNesting p
 
 -- 02: 'commands, times one more than the greatest number of loops around a command, times two to the power of the greatest number
 -- of signals around one'
 unfoldable pub ceiling : Statement → ℕ
-ceiling p = commands p * (1 + loopNesting p) * 2 ^ nesting p
+ceiling p = commands p * (1 + loopNesting p) * 2 ^ signalNesting p
 
 -- no command is a loop
 unfoldable pub LoopFree : Statement → Type 0
@@ -98,13 +98,13 @@ triesButOne (suc k) = seq (triesButOne k) (tries k)
 unfoldable pub hundred : Statement
 hundred = signal local 0 0 (signal local 2 1 (signal local 4 2 (signal local 6 3 (signal local 8 4 (signal local 10 5 (triesButOne 5))))))
 
-pub hundred-takes : (commands hundred ≡ 100) × (nesting hundred ≡ 6) × (ceiling hundred ≡ 6400) × ((e : ℕ) → reactions hundred e ≡ 6079)
+pub hundred-takes : (commands hundred ≡ 100) × (signalNesting hundred ≡ 6) × (ceiling hundred ≡ 6400) × ((e : ℕ) → reactions hundred e ≡ 6079)
     × (dearest 6 100 ≡ 6080)
-unfolding reactionsBy reactBy commands nesting loopNesting ceiling dearest hundred tries triesButOne member none only join insert remove
+unfolding reactionsBy reactBy commands signalNesting loopNesting ceiling dearest hundred tries triesButOne member none only join insert remove
 hundred-takes = (refl, refl, refl, λ e. refl, refl)
 
 -- 06 01 00, whose resumed instant takes 4 (specs/Reactions); and read-back declarations count as commands and as signals
 ceilings-reached : (ceiling (loop 0 (pause 0)) ≡ 4) × (ceiling (loop 0 (suspend 0 (pause 0))) ≡ 6)
     × (ceiling (declared 65535 (0 ∷ 1 ∷ []) (loop 0 (loop 1 (pause 0)))) ≡ 60)
-unfolding ceiling commands loopNesting nesting declaredBy
+unfolding ceiling commands loopNesting signalNesting declaredBy
 ceilings-reached = (refl, refl, refl)

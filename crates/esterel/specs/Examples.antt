@@ -15,15 +15,15 @@ use Rattle.esterel.specs.States.{active, Triggers}
 use Rattle.esterel.specs.Expansion.{expand}
 use Rattle.esterel.specs.LabelTests.{labelsOf, activeLabels}
 use Rattle.esterel.specs.Ranks.{pauseCount, mask, rank, labelsBy, compatible}
-use Rattle.esterel.specs.Resume.{Instant, askedOf, expandBy, resume, resumeTree}
+use Rattle.esterel.specs.Resume.{Instant, askedOf, expandBy, resume, resumeTraced}
 use Rattle.esterel.specs.Machines.{waits, over, Seen, instant, refused, run, State, byLabels, Rewriting, byRewriting}
 
 -- what the table says of an instant with empty input: code, emitted set, labels, errors
-abbrev Row : Type 0
-Row = Code × ℕ × ℕ × List Error
+abbrev Told : Type 0
+Told = Code × ℕ × ℕ × List Error
 
-abbrev row : Statement → Row
-row p = (code (react p 0), emitted (react p 0), labels (react p 0), errors p 0)
+abbrev told : Statement → Told
+told p = (code (react p 0), emitted (react p 0), labels (react p 0), errors p 0)
 
 -- 06 08 00 04 07 00 02 01 00 04 01 00 02 00, and 002's figure 6: the next round does not see the last one's signal
 abbrev reincarnated : Statement
@@ -52,7 +52,7 @@ split = seq (pause 1) (seq (par (setpause 2) (pause 3)) (pause 2))
 abbrev three : Statement
 three = seq (pause 5) (par (loop 3 (pause 3)) (pause 4))
 
-table : List (Statement × Row)
+table : List (Statement × Told)
 table =
     (nothing, (ended, 0, 0, []))
     ∷ (exit 1, (leaving 1, 0, 0, []))
@@ -91,9 +91,9 @@ table =
     )
     ∷ []
 
-rows : map (λ (x : Statement × Row). row (x .0)) table ≡ map (λ (x : Statement × Row). x .1) table
+table-told : map (λ (x : Statement × Told). told (x .0)) table ≡ map (λ (x : Statement × Told). x .1) table
 unfolding table reactBy errorsBy member none only join insert remove
-rows = refl
+table-told = refl
 
 -- of two errors the first is named: that of the run without the signal
 abbrev erring : Statement
@@ -303,9 +303,9 @@ kept-by-ranks = (refl, refl, refl, refl, refl)
 
 -- A present whose branch is resumed asks for nothing; the round that begins after it does. A resumed suspend asks first, and what
 -- is inside it only where it is not stopped.
-asked-by-ranks : (askedOf (resumeTree 32 0 (present 0 (pause 0) nothing) 1 0) ≡ 0)
-    × (askedOf (resumeTree 32 0 errsLater 1 0) ≡ 1)
-    × (askedOf (resumeTree 32 0 (suspend 3 errsLater) 1 8) ≡ 8)
-    × (askedOf (resumeTree 32 0 (suspend 3 errsLater) 1 0) ≡ 9)
+asked-by-ranks : (askedOf (resumeTraced 32 0 (present 0 (pause 0) nothing) 1 0) ≡ 0)
+    × (askedOf (resumeTraced 32 0 errsLater 1 0) ≡ 1)
+    × (askedOf (resumeTraced 32 0 (suspend 3 errsLater) 1 8) ≡ 8)
+    × (askedOf (resumeTraced 32 0 (suspend 3 errsLater) 1 0) ≡ 9)
 unfolding expandBy askedBy pauseCount below from labelsBy reactBy errorsBy reactionsBy member none only join insert remove
 asked-by-ranks = (refl, refl, refl, refl)

@@ -114,21 +114,21 @@ before x y j (suspend s p) k = before x y j p k
 before x y j (held s K p) k = none
 
 -- the labels of the pauses before a pause k and exclusive with it
-abbrev pub rivals : Statement → ℕ → ℕ
-rivals = before true false alternative
+abbrev pub exclusiveWith : Statement → ℕ → ℕ
+exclusiveWith = before true false alternative
 
 -- the labels that have a pause or setpause before one of k, on the other side of a parallel
-abbrev pub aside : Statement → ℕ → ℕ
-aside = before true true parallel
+abbrev pub concurrentWith : Statement → ℕ → ℕ
+concurrentWith = before true true parallel
 
 -- have k and l exclusive pauses?
 abbrev pub exclusive : Statement → ℕ → ℕ → Bool
-exclusive p k l = member l (rivals p k) || member k (rivals p l)
+exclusive p k l = member l (exclusiveWith p k) || member k (exclusiveWith p l)
 
 -- row 10 does not hold, if row 8 does not: triggers at compatible places are one, or stand on two sides of a parallel
 unfoldable pub wellFormed : Statement → Bool
-wellFormed p = everyLabel p (λ k. everyLabel p (λ l. not (member l (aside p k) && exclusive p k l)))
+wellFormed p = everyLabel p (λ k. everyLabel p (λ l. not (member l (concurrentWith p k) && exclusive p k l)))
 
 -- is L valid (row 11)?
 unfoldable pub valid : Statement → ℕ → Bool
-valid p L = not (eqb L none) && (subset L (pauses p) && everyLabel p (λ k. not (member k L) || disjoint (rivals p k) L))
+valid p L = not (eqb L none) && (subset L (pauses p) && everyLabel p (λ k. not (member k L) || disjoint (exclusiveWith p k) L))

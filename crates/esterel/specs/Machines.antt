@@ -35,7 +35,7 @@ shown wrong o = none
 -- What is seen of one tick: an instant with its code, the error it names, the set it shows, the number of reactions it takes
 -- and the phase after it; no instant once over.
 pub data Seen : Type 0 where
-  instant : (k : Code) (names : Error) (shows taken : ℕ) (after : Phase) → Seen
+  instant : (k : Code) (names : Error) (shows reactions : ℕ) (after : Phase) → Seen
   refused : Seen
 
 -- from a reaction, the first error of its tree and the number of reactions in it
@@ -44,7 +44,7 @@ seen (gives o k l p′) x n = instant k (blame k x) (shown k o) n (phaseAfter k)
 
 -- the same with a set that lacks the signals of the list
 abbrev pub seenWithout : List ℕ → Seen → Seen
-seenWithout ss (instant k names shows taken after) = instant k names (without ss shows) taken after
+seenWithout ss (instant k names shows reactions after) = instant k names (without ss shows) reactions after
 seenWithout ss refused = refused
 
 -- A machine: from its state and the input, what is seen and the next state.

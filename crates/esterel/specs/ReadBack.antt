@@ -11,7 +11,7 @@ use Rattle.esterel.specs.Errors.{errorsBy, errors, notReactive, notDeter
 use Rattle.esterel.specs.Reactions.{reactionsBy}
 use Rattle.esterel.specs.Asked.{askedBy}
 use Rattle.esterel.specs.Litres.{deliveredBy}
-use Rattle.esterel.specs.Resume.{startTree}
+use Rattle.esterel.specs.Resume.{startTraced}
 
 abbrev pub keepIf : Bool → ℕ → List ℕ → List ℕ
 keepIf true i is = i ∷ is
@@ -69,8 +69,8 @@ unfolding declaredBy reactBy errorsBy member none only join insert remove
 order-matters = (refl, refl)
 
 -- the host says that 0 is present: the test does not see it
-not-believed : startTree 1 (declared 9 (0 ∷ []) (present 0 (emit 1 (litres 5)) nothing)) 1
-    ≡ startTree 1 (declared 9 (0 ∷ []) (present 0 (emit 1 (litres 5)) nothing)) 0
+not-believed : startTraced 1 (declared 9 (0 ∷ []) (present 0 (emit 1 (litres 5)) nothing)) 1
+    ≡ startTraced 1 (declared 9 (0 ∷ []) (present 0 (emit 1 (litres 5)) nothing)) 0
 unfolding declaredBy reactBy errorsBy reactionsBy askedBy deliveredBy member none only join insert remove
 not-believed = refl
 

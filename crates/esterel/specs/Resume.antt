@@ -15,7 +15,7 @@ use Rattle.esterel.specs.Ranks.{middle, labelsBy}
 
 -- a reaction with the first error of its tree, where it is wrong, and the number of reactions in it
 pub data Instant : Type 0 where
-  instant : (r : Reaction) (first : Option Error) (taken : ℕ) → Instant
+  instant : (r : Reaction) (first : Option Error) (reactions : ℕ) → Instant
 
 abbrev pub startBy : Order → Statement → ℕ → Instant
 startBy ord p e = instant (reactBy ord p e) (firstErrorBy ord p e) (reactionsBy ord p e)
@@ -66,63 +66,63 @@ stoppedInstant s K p = instant (stopped s K p) Option.none 1
 
 -- ---- an instant with the signals that its tree asks for, which are not told but say where one run of a signal stands for both, and
 -- with the litres of the one farm that the caller asks for
-pub data Tree : Type 0 where
-  tree : (i : Instant) (asked delivered : ℕ) → Tree
+pub data Traced : Type 0 where
+  traced : (i : Instant) (asked delivered : ℕ) → Traced
 
-abbrev pub instantOf : Tree → Instant
-instantOf (tree i a x) = i
+abbrev pub instantOf : Traced → Instant
+instantOf (traced i a x) = i
 
-abbrev pub askedOf : Tree → ℕ
-askedOf (tree i a x) = a
+abbrev pub askedOf : Traced → ℕ
+askedOf (traced i a x) = a
 
-abbrev pub deliveredOf : Tree → ℕ
-deliveredOf (tree i a x) = x
+abbrev pub deliveredOf : Traced → ℕ
+deliveredOf (traced i a x) = x
 
-abbrev pub startTree : (farm : ℕ) → Statement → ℕ → Tree
-startTree f p e = tree (start p e) (asked p e) (delivered f p e)
+abbrev pub startTraced : (farm : ℕ) → Statement → ℕ → Traced
+startTraced f p e = traced (start p e) (asked p e) (delivered f p e)
 
 abbrev pub reactionIn : Instant → Reaction
 reactionIn (instant r x n) = r
 
-abbrev pub codeIn : Instant → Code
-codeIn (instant r x n) = code r
+abbrev pub codeTold : Instant → Code
+codeTold (instant r x n) = code r
 
 abbrev pub caseOfRuns : ℕ → Instant → Instant → Case
 caseOfRuns s i− i+ = caseOf inheritanceFirst s (reactionIn i−) (reactionIn i+)
 
 -- what a command makes of the trees of its parts
-abbrev pub seqTree : Statement → Tree → Tree → Tree
-seqTree q (tree i a x) (tree j b y) = tree (seqInstant q i j) (join a (ifEnded (codeIn i) b none)) (x + ifEnded (codeIn i) y 0)
+abbrev pub seqTraced : Statement → Traced → Traced → Traced
+seqTraced q (traced i a x) (traced j b y) = traced (seqInstant q i j) (join a (ifEnded (codeTold i) b none)) (x + ifEnded (codeTold i) y 0)
 
-abbrev pub parTree : Tree → Tree → Tree
-parTree (tree i a x) (tree j b y) = tree (parInstant i j) (join a b) (x + y)
+abbrev pub parTraced : Traced → Traced → Traced
+parTraced (traced i a x) (traced j b y) = traced (parInstant i j) (join a b) (x + y)
 
-abbrev pub loopTree : ℕ → Statement → Tree → Tree
-loopTree a p (tree i b x) = tree (loopInstant a p i) b (ifEnded (codeIn i) 0 x)
+abbrev pub loopTraced : ℕ → Statement → Traced → Traced
+loopTraced a p (traced i b x) = traced (loopInstant a p i) b (ifEnded (codeTold i) 0 x)
 
-abbrev pub presentTree : ℕ → Tree → Tree
-presentTree s (tree i a x) = tree (presentInstant i) (insert s a) x
+abbrev pub presentTraced : ℕ → Traced → Traced
+presentTraced s (traced i a x) = traced (presentInstant i) (insert s a) x
 
-abbrev pub tryTree : Tree → Tree
-tryTree (tree i a x) = tree (tryInstant i) a x
+abbrev pub tryTraced : Traced → Traced
+tryTraced (traced i a x) = traced (tryInstant i) a x
 
-abbrev pub signalTree : (farm : ℕ) → Scope → ℕ → ℕ → Tree → Tree → Tree
-signalTree f sc a s (tree i− a− x−) (tree i+ a+ x+) =
-    tree (signalInstant sc a s i− i+) (remove s (join a− a+)) (passing sc f s (chosen (caseOfRuns s i− i+) x− x+))
+abbrev pub signalTraced : (farm : ℕ) → Scope → ℕ → ℕ → Traced → Traced → Traced
+signalTraced f sc a s (traced i− a− x−) (traced i+ a+ x+) =
+    traced (signalInstant sc a s i− i+) (remove s (join a− a+)) (passing sc f s (chosen (caseOfRuns s i− i+) x− x+))
 
 -- the same from one run that stands for both, and does not ask for s
-abbrev pub signalOnce : (farm : ℕ) → Scope → ℕ → ℕ → Tree → Tree
-signalOnce f sc a s (tree i b x) = tree (signalInstant sc a s i i) b (passing sc f s (chosen (caseOfRuns s i i) x x))
+abbrev pub signalOnce : (farm : ℕ) → Scope → ℕ → ℕ → Traced → Traced
+signalOnce f sc a s (traced i b x) = traced (signalInstant sc a s i i) b (passing sc f s (chosen (caseOfRuns s i i) x x))
 
 -- a fresh suspend, and a held one whose signal is absent, or present
-abbrev pub suspendTree : ℕ → Tree → Tree
-suspendTree s (tree i a x) = tree (suspendInstant s i) a x
+abbrev pub suspendTraced : ℕ → Traced → Traced
+suspendTraced s (traced i a x) = traced (suspendInstant s i) a x
 
-abbrev pub heldTree : ℕ → Tree → Tree
-heldTree s (tree i a x) = tree (suspendInstant s i) (insert s a) x
+abbrev pub heldTraced : ℕ → Traced → Traced
+heldTraced s (traced i a x) = traced (suspendInstant s i) (insert s a) x
 
-abbrev pub stoppedTree : (s K : ℕ) → Statement → Tree
-stoppedTree s K p = tree (stoppedInstant s K p) (insert s none) 0
+abbrev pub stoppedTraced : (s K : ℕ) → Statement → Traced
+stoppedTraced s K p = traced (stoppedInstant s K p) (insert s none) 0
 
 -- ---- the expansion of p, whose first pause has rank base, by the ranks m of its active pauses; m is not empty
 -- A side without an active pause has ended; a sequence whose second part is active, and a present, are gone.
@@ -151,27 +151,27 @@ expandBy base (held s K p) m = nothing
 abbrev pub resume : (base : ℕ) → Statement → (m : ℕ) → (e : ℕ) → Instant
 resume base p m e = start (expandBy base p m) e
 
-abbrev pub resumeTree : (farm base : ℕ) → Statement → (m : ℕ) → (e : ℕ) → Tree
-resumeTree f base p m e = startTree f (expandBy base p m) e
+abbrev pub resumeTraced : (farm base : ℕ) → Statement → (m : ℕ) → (e : ℕ) → Traced
+resumeTraced f base p m e = startTraced f (expandBy base p m) e
 
 -- ---- by computation: a tree is what its command makes of the trees of the parts (theory/proofs/Trees)
-from-parts : (startTree 2 (seq (tests 1) (tests 0)) 0 ≡ seqTree (tests 0) (startTree 2 (tests 1) 0) (startTree 2 (tests 0) 0))
-    × (startTree 2 (seq (pause 0) (tests 0)) 0 ≡ seqTree (tests 0) (startTree 2 (pause 0) 0) (startTree 2 (tests 0) 0))
-    × (startTree 2 (par (loop 1 (tests 0)) (loop 5 (tests 1))) 0 ≡ parTree (startTree 2 (loop 1 (tests 0)) 0) (startTree 2 (loop 5 (tests 1)) 0))
-    × (startTree 2 (loop 1 (tests 0)) 0 ≡ loopTree 1 (tests 0) (startTree 2 (tests 0) 0))
-    × (startTree 2 (present 2 (tests 0) nothing) 4 ≡ presentTree 2 (startTree 2 (tests 0) 4))
-    × (startTree 2 (try (par (tests 0) (exit 1))) 0 ≡ tryTree (startTree 2 (par (tests 0) (exit 1)) 0))
-    × (startTree 2 (suspend 2 (tests 0)) 4 ≡ suspendTree 2 (startTree 2 (tests 0) 4))
-    × (startTree 2 (held 2 1 (tests 0)) 4 ≡ stoppedTree 2 1 (tests 0))
-    × (startTree 2 (held 2 1 (tests 0)) 0 ≡ heldTree 2 (startTree 2 (tests 0) 0))
+from-parts : (startTraced 2 (seq (tests 1) (tests 0)) 0 ≡ seqTraced (tests 0) (startTraced 2 (tests 1) 0) (startTraced 2 (tests 0) 0))
+    × (startTraced 2 (seq (pause 0) (tests 0)) 0 ≡ seqTraced (tests 0) (startTraced 2 (pause 0) 0) (startTraced 2 (tests 0) 0))
+    × (startTraced 2 (par (loop 1 (tests 0)) (loop 5 (tests 1))) 0 ≡ parTraced (startTraced 2 (loop 1 (tests 0)) 0) (startTraced 2 (loop 5 (tests 1)) 0))
+    × (startTraced 2 (loop 1 (tests 0)) 0 ≡ loopTraced 1 (tests 0) (startTraced 2 (tests 0) 0))
+    × (startTraced 2 (present 2 (tests 0) nothing) 4 ≡ presentTraced 2 (startTraced 2 (tests 0) 4))
+    × (startTraced 2 (try (par (tests 0) (exit 1))) 0 ≡ tryTraced (startTraced 2 (par (tests 0) (exit 1)) 0))
+    × (startTraced 2 (suspend 2 (tests 0)) 4 ≡ suspendTraced 2 (startTraced 2 (tests 0) 4))
+    × (startTraced 2 (held 2 1 (tests 0)) 4 ≡ stoppedTraced 2 1 (tests 0))
+    × (startTraced 2 (held 2 1 (tests 0)) 0 ≡ heldTraced 2 (startTraced 2 (tests 0) 0))
 unfolding reactBy errorsBy reactionsBy askedBy deliveredBy member none only join insert remove
 from-parts = (refl, refl, refl, refl, refl, refl, refl, refl, refl)
 
 -- both runs of a signal, and one for both where the first does not ask for it
-from-runs : (startTree 2 (signal local 4 3 (present 3 (tests 1) (emit 2 (litres 5)))) 0
-    ≡ signalTree 2 local 4 3 (startTree 2 (present 3 (tests 1) (emit 2 (litres 5))) 0) (startTree 2 (present 3 (tests 1) (emit 2 (litres 5))) 8))
-    × (startTree 2 (signal local 4 3 (present 3 nothing (emit 3 pure))) 0
-    ≡ signalTree 2 local 4 3 (startTree 2 (present 3 nothing (emit 3 pure)) 0) (startTree 2 (present 3 nothing (emit 3 pure)) 8))
-    × (startTree 2 (signal local 4 3 (tests 1)) 0 ≡ signalOnce 2 local 4 3 (startTree 2 (tests 1) 0))
+from-runs : (startTraced 2 (signal local 4 3 (present 3 (tests 1) (emit 2 (litres 5)))) 0
+    ≡ signalTraced 2 local 4 3 (startTraced 2 (present 3 (tests 1) (emit 2 (litres 5))) 0) (startTraced 2 (present 3 (tests 1) (emit 2 (litres 5))) 8))
+    × (startTraced 2 (signal local 4 3 (present 3 nothing (emit 3 pure))) 0
+    ≡ signalTraced 2 local 4 3 (startTraced 2 (present 3 nothing (emit 3 pure)) 0) (startTraced 2 (present 3 nothing (emit 3 pure)) 8))
+    × (startTraced 2 (signal local 4 3 (tests 1)) 0 ≡ signalOnce 2 local 4 3 (startTraced 2 (tests 1) 0))
 unfolding reactBy errorsBy reactionsBy askedBy deliveredBy member none only join insert remove
 from-runs = (refl, refl, refl)

@@ -4,9 +4,9 @@ ghost use Rattle.esterel.specs.Sets.{none};
 ghost use Rattle.sets.specs.Sets.{labelCount, onlyBelow};
 ghost use Rattle.labels.specs.Labels.{labelSet};
 ghost use Rattle.matrix.specs.Rows.{addRowBelow, Updates};
-ghost use Rattle.exclusion.specs.Exclusion.{Labelled, Joins, BeginsSecond};
+ghost use Rattle.exclusion.specs.Exclusion.{Carries, Joins, BeginsSecond};
 use labels::Labels;
-use matrix::Rows;
+use matrix::Matrix;
 
 // What stands before a statement: the pauses exclusive with it, and the pauses and setpauses on another side of a parallel.
 pub struct Before {
@@ -15,18 +15,18 @@ pub struct Before {
 }
 
 // A statement that was passed: the offset behind it, the labels of its pauses, and those of its pauses and setpauses.
-pub struct Passed {
+pub struct Walked {
     pub end: usize,
     pub pauses: Labels,
     pub triggers: Labels,
 }
 
 // A command without labels.
-pub fn at_other(end: usize) -> Passed
-    ensures { λ r. ⌜ Labelled r end none none ⌝ }
+pub fn at_other(end: usize) -> Walked
+    ensures { λ r. ⌜ Carries r end none none ⌝ }
 {
     let none = labels::empty();
-    Passed {
+    Walked {
         end,
         pauses: none,
         triggers: none,
@@ -38,10 +38,10 @@ pub fn at_pause(
     l: u8,
     end: usize,
     before: Before,
-    exclusive: &mut Rows,
-    concurrent: &mut Rows,
-) -> Passed
-    ensures labels { λ r. ⌜ Labelled r end (onlyBelow labelCount l) (onlyBelow labelCount l) ⌝ }
+    exclusive: &mut Matrix,
+    concurrent: &mut Matrix,
+) -> Walked
+    ensures labels { λ r. ⌜ Carries r end (onlyBelow labelCount l) (onlyBelow labelCount l) ⌝ }
     ensures excludes { λ _. ⌜ Updates (addRowBelow labelCount l (labelSet (before .exclusive)))
         (now (exclusive .entry)) (now (exclusive .exit)) ⌝ }
     ensures sides { λ _. ⌜ Updates (addRowBelow labelCount l (labelSet (before .concurrent)))
@@ -50,20 +50,20 @@ pub fn at_pause(
     matrix::add_row(exclusive, l, before.exclusive);
     matrix::add_row(concurrent, l, before.concurrent);
     let one = labels::single(l);
-    Passed {
+    Walked {
         end,
         pauses: one,
         triggers: one,
     }
 }
 
-pub fn at_setpause(l: u8, end: usize, before: Before, concurrent: &mut Rows) -> Passed
-    ensures labels { λ r. ⌜ Labelled r end none (onlyBelow labelCount l) ⌝ }
+pub fn at_setpause(l: u8, end: usize, before: Before, concurrent: &mut Matrix) -> Walked
+    ensures labels { λ r. ⌜ Carries r end none (onlyBelow labelCount l) ⌝ }
     ensures sides { λ _. ⌜ Updates (addRowBelow labelCount l (labelSet (before .concurrent)))
         (now (concurrent .entry)) (now (concurrent .exit)) ⌝ }
 {
     matrix::add_row(concurrent, l, before.concurrent);
-    Passed {
+    Walked {
         end,
         pauses: labels::empty(),
         triggers: labels::single(l),
@@ -71,7 +71,7 @@ pub fn at_setpause(l: u8, end: usize, before: Before, concurrent: &mut Rows) -> 
 }
 
 // What stands before the second part of a command, whose first part was passed.
-pub fn before_second(parallel: bool, before: Before, first: Passed) -> Before
+pub fn before_second(parallel: bool, before: Before, first: Walked) -> Before
     ensures { λ r. ⌜ BeginsSecond parallel before first r ⌝ }
 {
     let exclusive = before.exclusive;
@@ -90,10 +90,10 @@ pub fn before_second(parallel: bool, before: Before, first: Passed) -> Before
 }
 
 // Two parts that were passed, as one.
-pub fn joined(p: Passed, q: Passed) -> Passed
+pub fn joined(p: Walked, q: Walked) -> Walked
     ensures { λ r. ⌜ Joins p q r ⌝ }
 {
-    Passed {
+    Walked {
         end: q.end,
         pauses: labels::union(p.pauses, q.pauses),
         triggers: labels::union(p.triggers, q.triggers),

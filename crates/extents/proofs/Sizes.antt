@@ -6,14 +6,14 @@ use mathlib.Core.List.{List}
 use native.Mathlib.Omega.{arith}
 use lib.ListN.{length, getD, length-drop, length-append}
 use Rattle.esterel.specs.Statement.{Statement, nothing, pause, emit, exit, seq, par, loop, present, signal, try, setpause, suspend, held}
-use Rattle.esterel.specs.Ceiling.{commands, loopNesting, nesting}
-use Rattle.sequence.specs.Commands.{Command, commandOf, operandsOf, partCount, width, build}
+use Rattle.esterel.specs.Ceiling.{commands, loopNesting, signalNesting}
+use Rattle.sequence.specs.Commands.{Command, commandOf, operandsOf, partCount, headLength, build}
 use Rattle.numbers.specs.Bytes.{leBytes}
 use Rattle.sequence.specs.Writer.{bytesOf, size}
 use Rattle.sequence.proofs.Table.{leaves, ones, twos, at-most-two}
 use Rattle.layout.specs.Layout.{rest, Parts, Form, Lies, Ready}
 use Rattle.layout.proofs.Parts.{rest-is}
-use Rattle.extents.specs.declared.Numbers.{Numbers}
+use Rattle.extents.specs.declared.Extent.{Extent}
 use Rattle.extents.specs.Extents.{Numbered, Few}
 
 -- in n bytes, with at most d levels
@@ -34,22 +34,22 @@ Two w p q r =
     (size p ≡ w + (size q + size r)) × (commands p ≡ 1 + commands q + commands r) × (loopNesting p ≡ max (loopNesting q) (loopNesting r))
 
 module _ (a : ℕ) (xs : List ℕ) where
-  leaf-shape : (c : Command) → partCount c ≡ 0 → Leaf (width c) (build c a xs nothing nothing)
+  leaf-shape : (c : Command) → partCount c ≡ 0 → Leaf (headLength c) (build c a xs nothing nothing)
   unfolding bytesOf leBytes commands loopNesting
   leaf-shape =
-      leaves (λ (c : Command). Leaf (width c) (build c a xs nothing nothing))
+      leaves (λ (c : Command). Leaf (headLength c) (build c a xs nothing nothing))
       (refl, refl, refl) (refl, refl, refl) (refl, refl, refl) (refl, refl, refl) (refl, refl, refl) (refl, refl, refl)
 
-  one-shape : (c : Command) → partCount c ≡ 1 → (q : Statement) → One (width c) (build c a xs q nothing) q
+  one-shape : (c : Command) → partCount c ≡ 1 → (q : Statement) → One (headLength c) (build c a xs q nothing) q
   unfolding bytesOf commands loopNesting
   one-shape =
-      ones (λ (c : Command). (q : Statement) → One (width c) (build c a xs q nothing) q)
+      ones (λ (c : Command). (q : Statement) → One (headLength c) (build c a xs q nothing) q)
       (λ q. omega arith) (λ q. omega arith) (λ q. omega arith) (λ q. omega arith)
 
-  two-shape : (c : Command) → partCount c ≡ 2 → (q r : Statement) → Two (width c) (build c a xs q r) q r
+  two-shape : (c : Command) → partCount c ≡ 2 → (q r : Statement) → Two (headLength c) (build c a xs q r) q r
   unfolding bytesOf commands loopNesting
   two-shape =
-      twos (λ (c : Command). (q r : Statement) → Two (width c) (build c a xs q r) q r)
+      twos (λ (c : Command). (q r : Statement) → Two (headLength c) (build c a xs q r) q r)
       (λ q r. omega (arith, length-append (bytesOf q) (bytesOf r)))
       (λ q r. omega (arith, length-append (bytesOf q) (bytesOf r)))
       (λ q r. omega (arith, length-append (bytesOf q) (bytesOf r)))
@@ -59,15 +59,15 @@ rest-length : (n : ℕ) (bs : List ℕ) → n ≤ length bs → length (rest n b
 rest-length n bs h = rw (rest-is n bs) (omega (arith, length-drop n bs))
 
 module _ (t : List ℕ) (d : ℕ) (ih : (base a : ℕ) (bs : List ℕ) (p : Statement) → Lies t d base a bs p → Sized d (length bs) p)
-    (base a : ℕ) (bs : List ℕ) (p : Statement) (c : Command) (there : width c ≤ length bs) where
+    (base a : ℕ) (bs : List ℕ) (p : Statement) (c : Command) (there : headLength c ≤ length bs) where
   by-parts : (n : ℕ) → partCount c ≡ n → Parts (Lies t d) t base a bs p c n → Sized (suc d) (length bs) p
   by-parts zero z h =
       let s = leaf-shape a (operandsOf c bs) c z in
       rw h (record { bytes = omega arith; count = omega arith; loops = omega arith })
   by-parts (suc zero) z h =
       let s = one-shape a (operandsOf c bs) c z (h .0) in
-      let i = ih base (a + width c) (rest (width c) bs) (h .0) (h .1 .1) in
-      let e = rest-length (width c) bs there in
+      let i = ih base (a + headLength c) (rest (headLength c) bs) (h .0) (h .1 .1) in
+      let e = rest-length (headLength c) bs there in
       rw (h .1 .0) (record { bytes = omega arith; count = omega arith; loops = omega arith })
   by-parts (suc (suc n)) z h =
       let y = h .2 .1 in
@@ -89,8 +89,8 @@ sized t zero base a bs p l = absurd l
 sized t (suc d) base a bs p l = by-form t d (sized t d) base a bs p (commandOf (getD bs 0 0)) (l .form)
 
 -- ---- a loop and a signal are commands, and another command stands inside
-pub nested : (p : Statement) → (loopNesting p < commands p) × (nesting p < commands p)
-unfolding commands loopNesting nesting
+pub nested : (p : Statement) → (loopNesting p < commands p) × (signalNesting p < commands p)
+unfolding commands loopNesting signalNesting
 nested nothing = omega arith
 nested (pause l) = omega arith
 nested (emit s v) = omega arith
@@ -106,7 +106,7 @@ nested (suspend s p) = omega (arith, nested p)
 nested (held s K p) = omega (arith, nested p)
 
 -- what a walk finds is at most 1,024
-pub few : {t : List ℕ} {d a : ℕ} {bs : List ℕ} {n : Numbers} → Ready t d a bs → Numbered t d a bs n → Few n
+pub few : {t : List ℕ} {d a : ℕ} {bs : List ℕ} {n : Extent} → Ready t d a bs → Numbered t d a bs n → Few n
 few {t} {d} {a} {bs} r h =
     let k = h (r .base) (r .p) (r .lies) in
     let s = sized t d (r .base) a bs (r .p) (r .lies) in

@@ -4,20 +4,20 @@ ghost use Prim.Native.Nat.{_-_, _≤_, max};
 ghost use lib.ListN.{length};
 ghost use Rattle.layout.specs.Layout.{rest, Ready, Pair};
 ghost use Rattle.extents.specs.Extents.{Around, AroundTwo, Numbered, NumberedTwo, Few};
-use layout::Seconds;
+use layout::SecondParts;
 
 // Of a statement: its commands, and the greatest numbers of loops and of signals around one.
-pub struct Numbers {
+pub struct Extent {
     pub commands: u32,
     pub loops: u32,
     pub signals: u32,
 }
 
 // Those of a command without parts.
-fn single() -> Numbers
+fn single() -> Extent
     ensures { λ r. ⌜ (r .commands ≡ 1) × (r .loops ≡ 0) × (r .signals ≡ 0) ⌝ }
 {
-    Numbers {
+    Extent {
         commands: 1,
         loops: 0,
         signals: 0,
@@ -25,11 +25,11 @@ fn single() -> Numbers
 }
 
 // Those of a command around a part with the numbers n.
-fn around(n: Numbers, loops: u32, signals: u32) -> Numbers
+fn around(n: Extent, loops: u32, signals: u32) -> Extent
     requires { ⌜ Few n × (loops ≤ 1) × (signals ≤ 1) ⌝ }
     ensures { λ r. ⌜ Around loops signals n r ⌝ }
 {
-    Numbers {
+    Extent {
         commands: 1 + n.commands,
         loops: loops + n.loops,
         signals: signals + n.signals,
@@ -43,11 +43,11 @@ fn greater(x: u32, y: u32) -> u32
 }
 
 // Those of a command around two parts.
-fn around_two(p: Numbers, q: Numbers) -> Numbers
+fn around_two(p: Extent, q: Extent) -> Extent
     requires { ⌜ Few p × Few q ⌝ }
     ensures { λ r. ⌜ AroundTwo p q r ⌝ }
 {
-    Numbers {
+    Extent {
         commands: 1 + p.commands + q.commands,
         loops: greater(p.loops, q.loops),
         signals: greater(p.signals, q.signals),
@@ -55,7 +55,7 @@ fn around_two(p: Numbers, q: Numbers) -> Numbers
 }
 
 // The numbers of the statement at the front of s, which stands at the offset `at`.
-pub fn of_statement(s: &[u8], at: usize, depth: u8, second: &Seconds) -> Numbers
+pub fn of_statement(s: &[u8], at: usize, depth: u8, second: &SecondParts) -> Extent
     requires { ⌜ Ready (now second) depth at (now s) ⌝ }
     ensures { λ r. ⌜ Numbered (now (second .entry)) depth at (now (s .entry)) r ⌝ }
 {
@@ -73,7 +73,7 @@ pub fn of_statement(s: &[u8], at: usize, depth: u8, second: &Seconds) -> Numbers
 }
 
 // The same of the part from s[n] on, which stands at the offset `at`.
-fn of_part(s: &[u8], n: usize, at: usize, depth: u8, second: &Seconds) -> Numbers
+fn of_part(s: &[u8], n: usize, at: usize, depth: u8, second: &SecondParts) -> Extent
     requires { ⌜ n ≤ length (now s) ⌝ }
     requires { ⌜ Ready (now second) depth at (rest n (now s)) ⌝ }
     ensures { λ r. ⌜ Numbered (now (second .entry)) depth at (rest n (now (s .entry))) r ⌝ }
@@ -82,7 +82,7 @@ fn of_part(s: &[u8], n: usize, at: usize, depth: u8, second: &Seconds) -> Number
 }
 
 // The same of the command of w bytes and two parts at the front of s, which stands at the offset `at`.
-fn of_parts(s: &[u8], at: usize, w: usize, depth: u8, second: &Seconds) -> Numbers
+fn of_parts(s: &[u8], at: usize, w: usize, depth: u8, second: &SecondParts) -> Extent
     requires { ⌜ Pair (now second) (depth - 1) at w (now s) ⌝ }
     ensures { λ r. ⌜ NumberedTwo (now (second .entry)) (depth - 1) at w (now (s .entry)) r ⌝ }
 {

@@ -6,7 +6,7 @@ use Rattle.esterel.specs.Reaction.{reactBy}
 use Rattle.esterel.specs.Errors.{errorsBy}
 use Rattle.esterel.specs.Reactions.{reactionsBy}
 use Rattle.esterel.specs.LabelTests.{subset, disjoint, labelsOf, everyLabel, distinct, before, wellFormed}
-use Rattle.esterel.specs.Ceiling.{nesting}
+use Rattle.esterel.specs.Ceiling.{signalNesting}
 use Rattle.esterel.specs.ReadBack.{membersFrom, declaredBy}
 use Rattle.sets.specs.Sets.{common, difference, allBelow}
 use Rattle.sets.specs.Subsets.{subsetsBelow}
@@ -21,5 +21,5 @@ use Rattle.fillings.specs.Worked.{Case, cases}
 
 -- WORKED: each row of the table
 pub worked : map (λ (c : Case). previewOf (c .sequence) (c .state) (c .input) (c .unknown) 0 (c .lent)) cases ≡ map (λ (c : Case). c .shows) cases
-unfolding cases previewOf findings gathered both subsetsBelow common difference allBelow checked read front commandOf nesting declaredBy membersFrom distinct wellFormed everyLabel before labelsOf subset disjoint decodeState encodeAnswer leNumber leBytes reactBy errorsBy reactionsBy member none only join insert remove
+unfolding cases previewOf findings gathered both subsetsBelow common difference allBelow checked read front commandOf signalNesting declaredBy membersFrom distinct wellFormed everyLabel before labelsOf subset disjoint decodeState encodeAnswer leNumber leBytes reactBy errorsBy reactionsBy member none only join insert remove
 worked = refl

@@ -12,7 +12,7 @@ use borrow.Author.Tests.{lt-ltb, le-ltb}
 use Rattle.limits.specs.Limits.{signalCount}
 use Rattle.numbers.specs.Bytes.{numberAt}
 use Rattle.sequence.specs.Amounts.{areBytes}
-use Rattle.sequence.specs.Commands.{Command, commandOf, operandCount, operandsOf, partCount, bytesAt, inRange, litresFit, width}
+use Rattle.sequence.specs.Commands.{Command, commandOf, operandCount, operandsOf, partCount, bytesAt, inRange, litresFit, headLength}
 use Rattle.sequence.specs.Reader.{Front, front}
 use Rattle.layout.specs.Walk.{headOf, rowUnit}
 use Rattle.sequence.proofs.Table.{byteOf, command-of-byte, leaves, free, no-amount}
@@ -30,15 +30,15 @@ are-bytes zero i s h = refl
 are-bytes (suc n) i s h = rw (lt-ltb (getD s i 0) 256 (h i), are-bytes n (suc i) s h)
 
 module _ (s : List ℕ) (c : Command) (byte : commandOf (getD s 0 0) ≡ some c) where
-  pub short : 0 < length s → length s < width c → 4 * rowUnit ≡ headOf (front s)
+  pub short : 0 < length s → length s < headLength c → 4 * rowUnit ≡ headOf (front s)
   short n l = heads s _ (Fronts.short c n byte l)
 
   pub bare : operandCount c ≡ 0 → 0 < length s → 1 ≡ headOf (front s)
   bare z n =
-      let w : 1 ≡ width c = omega arith in
+      let w : 1 ≡ headLength c = omega arith in
       w ∙ heads s _ (Fronts.whole c _ (record { byte = byte; long = omega arith; operands = refl; ranged = free c _ z; fit = no-amount c _ (omega arith) }))
 
-  module _ (some : 1 ≤ operandCount c) (long : width c ≤ length s) {r : Bool} (is : (xs : List ℕ) → r ≡ inRange c (getD s 1 0 ∷ xs)) where
+  module _ (some : 1 ≤ operandCount c) (long : headLength c ≤ length s) {r : Bool} (is : (xs : List ℕ) → r ≡ inRange c (getD s 1 0 ∷ xs)) where
     pub range : inRange c (operandsOf c s) ≡ r
     range = ap (inRange c) (first (operandCount c) s some) ∙ sym (is _)
 
@@ -47,7 +47,7 @@ module _ (s : List ℕ) (c : Command) (byte : commandOf (getD s 0 0) ≡ some c)
 
     pub one : operandCount c ≡ 1 → r ≡ true → 2 ≡ headOf (front s)
     one o h =
-        let w : 2 ≡ width c = omega arith in
+        let w : 2 ≡ headLength c = omega arith in
         w ∙ heads s _ (Fronts.whole c _ (record { byte = byte; long = long; operands = refl; ranged = range ∙ h; fit = no-amount c _ (omega arith) }))
 
 -- ---- a command without parts has an operand but for nothing, and no more than one but for litres

@@ -12,7 +12,7 @@ use Rattle.esterel.specs.Errors.{Error, firstError}
 use Rattle.esterel.specs.Ranks.{mask}
 use Rattle.esterel.specs.Expansion.{expand}
 use Rattle.esterel.specs.Resume as Esterel
-use Rattle.esterel.specs.Resume.{tree, instantOf, start, startTree, expandBy}
+use Rattle.esterel.specs.Resume.{traced, instantOf, start, startTraced, expandBy}
 use Rattle.esterel.specs.Machines.{State}
 use Rattle.theory.proofs.LabelTests.{valid-is}
 use Rattle.theory.proofs.Figure5.{valid-active}
@@ -23,7 +23,7 @@ use Rattle.sequence.specs.Program.{readBackSignals, program}
 use Rattle.labels.specs.Labels.{labelSet}
 use Rattle.labels.proofs.LabelValues.{labelSet-of}
 use Rattle.labels.specs.declared.Labels.{Labels}
-use Rattle.limits.specs.Limits.{readBackPlace, takenBytes}
+use Rattle.limits.specs.Limits.{readBackPlace, reactionsBytes}
 use Rattle.sequence.specs.Writer.{Ranged}
 use Rattle.sequence.specs.Check.{Checked, sound, bad, checked, numberOf, checkOf}
 use Rattle.completions.specs.Completions.{completionOf}
@@ -42,12 +42,12 @@ use Rattle.instants.specs.Replies.{Decodes, StandsFor, repliedFrom, Repl
 use Rattle.demands.proofs.Bounds.{Bounded, Exits, ranged-bounded, bounded-expand, bounded-declared, code-exits}
 
 -- WRITTEN: the code's tree writes what esterel's instant does; the signals asked for and the litres are not told
-pub written-from : (j : Esterel.Tree) → writtenFrom (reactionOf j) ≡ written (instantOf j)
+pub written-from : (j : Esterel.Traced) → writtenFrom (reactionOf j) ≡ written (instantOf j)
 unfolding encodeState encodeAnswer none
-written-from (tree (Esterel.instant (gives o ended l t) x n) a y) = rw (le-low takenBytes n)
-written-from (tree (Esterel.instant (gives o waiting l t) x n) a y) = rw (labelSet-of, le-low takenBytes n)
-written-from (tree (Esterel.instant (gives o (leaving m) l t) x n) a y) = rw (le-low takenBytes n)
-written-from (tree (Esterel.instant (gives o wrong l t) x n) a y) = rw (le-low takenBytes n)
+written-from (traced (Esterel.instant (gives o ended l t) x n) a y) = rw (le-low reactionsBytes n)
+written-from (traced (Esterel.instant (gives o waiting l t) x n) a y) = rw (labelSet-of, le-low reactionsBytes n)
+written-from (traced (Esterel.instant (gives o (leaving m) l t) x n) a y) = rw (le-low reactionsBytes n)
+written-from (traced (Esterel.instant (gives o wrong l t) x n) a y) = rw (le-low reactionsBytes n)
 
 -- so what is written from a reply is what its value writes
 pub replied-from : (r : Reply) (d : tick.Reply) → StandsFor r d → (state answer : List ℕ) → repliedFrom r state answer ≡ replied d state answer
@@ -62,7 +62,7 @@ writable-code waiting x f = tt
 writable-code (leaving n) x f = omega arith
 writable-code wrong x f = tt
 
-writable : (f : ℕ) (t : Statement) (e : ℕ) → Bounded t → (i : Reaction) → i ≡ reactionOf (startTree f t e) → Writable i
+writable : (f : ℕ) (t : Statement) (e : ℕ) → Bounded t → (i : Reaction) → i ≡ reactionOf (startTraced f t e) → Writable i
 writable f t e r i w = subst Writable (sym w) (writable-code (code (react t e)) (firstError t e) (code-exits inheritanceFirst t e r))
 
 -- ---- the reply
@@ -89,9 +89,9 @@ module _ (sequence state : List ℕ) (e readBack : ℕ) where
         ap (λ (c : Checked). byCheck inheritanceFirst readBack c state e) s
         ∙ ap (λ (x : Decoded). byState inheritanceFirst q x e) w
 
-    reacted : (f : ℕ) (t : Statement) (i : Reaction) → Bounded t → i ≡ reactionOf (startTree f t e)
+    reacted : (f : ℕ) (t : Statement) (i : Reaction) → Bounded t → i ≡ reactionOf (startTraced f t e)
         → replyOf sequence state e readBack ≡ reacts (start t e) → Replies sequence state e readBack (Reacted i)
-    reacted f t i r h k = record { writable = writable f t e r i h; is = (startTree f t e, h, k) }
+    reacted f t i r h k = record { writable = writable f t e r i h; is = (startTraced f t e, h, k) }
 
     pub malformed-reply : Decodes p state stands.Malformed → Replies sequence state e readBack (Refused 11)
     malformed-reply d = record { writable = tt; is = by-record malformed d }
@@ -99,7 +99,7 @@ module _ (sequence state : List ℕ) (e readBack : ℕ) where
     pub over-reply : Decodes p state stands.Over → Replies sequence state e readBack (Refused 12)
     over-reply d = record { writable = tt; is = by-record (holds State.over) d }
 
-    pub fresh-reply : (f : ℕ) (i : Reaction) → Decodes p state stands.Fresh → i ≡ reactionOf (startTree f q e) → Replies sequence state e readBack (Reacted i)
+    pub fresh-reply : (f : ℕ) (i : Reaction) → Decodes p state stands.Fresh → i ≡ reactionOf (startTraced f q e) → Replies sequence state e readBack (Reacted i)
     fresh-reply f i d h = reacted f q i bounded h (by-record (holds State.fresh) d)
 
     -- the expansion by ranks, under the declarations, is the expansion of the program
@@ -109,9 +109,9 @@ module _ (sequence state : List ℕ) (e readBack : ℕ) where
         ∙ sym (expand-declared readBackPlace (readBackSignals readBack) p L)
 
     pub waiting-reply : (f : ℕ) (i : Reaction) (m : Labels) → Decodes p state (stands.Waiting m)
-        → i ≡ reactionOf (startTree f (program readBack (expandBy 0 p (labelSet m))) e) → Replies sequence state e readBack (Reacted i)
+        → i ≡ reactionOf (startTraced f (program readBack (expandBy 0 p (labelSet m))) e) → Replies sequence state e readBack (Reacted i)
     waiting-reply f i m d h =
         let L = labelsIn state in
         reacted f (expand q L) i (bounded-expand q L bounded)
-        (h ∙ ap (λ (t : Statement). reactionOf (startTree f t e)) (expanded (labelSet m) L (valid-is p L .0 (d .1)) (d .2)))
+        (h ∙ ap (λ (t : Statement). reactionOf (startTraced f t e)) (expanded (labelSet m) L (valid-is p L .0 (d .1)) (d .2)))
         (by-record (holds (State.waits L)) (d .0))

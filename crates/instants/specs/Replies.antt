@@ -7,7 +7,7 @@ use Rattle.layout.specs.Known.{Known}
 use Rattle.esterel.specs.Statement.{Statement}
 use Rattle.esterel.specs.LabelTests.{valid}
 use Rattle.esterel.specs.Ranks.{mask}
-use Rattle.esterel.specs.Resume.{Tree, instantOf}
+use Rattle.esterel.specs.Resume.{Traced, instantOf}
 use Rattle.esterel.specs.Machines.{State}
 use Rattle.labels.specs.Labels.{labelSet}
 use Rattle.instants.specs.declared.Standing.{Standing}
@@ -35,7 +35,7 @@ DecodesRead t notes sequence state r = (p : Statement) → Known t notes sequenc
 -- ---- the reply by value: the code's instant is that of a tree, whose signals asked for are not told
 abbrev pub StandsFor : Reply → tick.Reply → Type 0
 StandsFor (Refused number) r = r ≡ refused number
-StandsFor (Reacted i) r = (t : Tree) × (i ≡ reactionOf t) × (r ≡ reacts (instantOf t))
+StandsFor (Reacted i) r = (t : Traced) × (i ≡ reactionOf t) × (r ≡ reacts (instantOf t))
 
 abbrev pub WritableReply : Reply → Type 0
 WritableReply (Refused number) = Unit {0}

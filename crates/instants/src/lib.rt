@@ -4,9 +4,9 @@ ghost use Rattle.layout.specs.Known.{Sound};
 ghost use Rattle.checks.specs.Verdict.{Passed};
 ghost use Rattle.instants.specs.Replies.{DecodesRead, Replies};
 use labels::Labels;
-use layout::Seconds;
+use layout::SecondParts;
 use notes::Notes;
-use program::Position;
+use program::Start;
 use reaction::Reaction;
 use validity::activity::Validity;
 
@@ -19,7 +19,7 @@ pub enum Standing {
 }
 
 // The standing of a record, by what reading the sequence noted.
-pub fn decode(sequence: &[u8], second: &Seconds, notes: &Notes, state: &[u8]) -> Standing
+pub fn decode(sequence: &[u8], second: &SecondParts, notes: &Notes, state: &[u8]) -> Standing
     requires { ⌜ Sound (now second) (now notes) (now sequence) ⌝ }
     ensures { λ r. ⌜ DecodesRead (now (second .entry)) (now (notes .entry)) (now (sequence .entry)) (now (state .entry)) r ⌝ }
 {
@@ -51,7 +51,7 @@ pub enum Reply {
 // The program of a sequence that the check has passed, in the state of a record: a fresh machine reacts, a waiting one resumes.
 pub fn reply_of(
     sequence: &[u8],
-    second: &Seconds,
+    second: &SecondParts,
     notes: &Notes,
     state: &[u8],
     input: u32,
@@ -65,7 +65,7 @@ pub fn reply_of(
         Standing::Over => Reply::Refused(12),
         Standing::Fresh => Reply::Reacted(program::react(
             sequence,
-            Position::Fresh,
+            Start::Fresh,
             input,
             read_back,
             limits::NO_FARM,
@@ -73,7 +73,7 @@ pub fn reply_of(
         )),
         Standing::Waiting(active) => Reply::Reacted(program::react(
             sequence,
-            Position::Waiting(active),
+            Start::Waiting(active),
             input,
             read_back,
             limits::NO_FARM,
@@ -86,7 +86,7 @@ pub fn reply_of(
 pub fn reply_to(sequence: &[u8], state: &[u8], input: u32, read_back: u32) -> Reply
     ensures { λ r. ⌜ Replies (now (sequence .entry)) (now (state .entry)) input «read_back» r ⌝ }
 {
-    let mut second: Seconds = [0; limits::MAX_BYTES];
+    let mut second: SecondParts = [0; limits::MAX_BYTES];
     let mut notes: Notes = [0; notes::LENGTH];
     let number = checks::verdict::check(sequence, read_back, &mut second, &mut notes);
     if number != 0 {

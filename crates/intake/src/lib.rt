@@ -12,7 +12,7 @@ ghost use Rattle.box_calls.specs.Box.{admit, release, tick, save, restore, forg
 ghost use Rattle.unrolled.specs.Call.{unrolling, unrollOf};
 use answers::ANSWER_LENGTH;
 use instants::Reply;
-use layout::Seconds;
+use layout::SecondParts;
 use notes::Notes;
 use states::STATE_LENGTH;
 
@@ -21,7 +21,7 @@ use states::STATE_LENGTH;
 pub extern "C" fn intake_check(sequence: &[u8], read_back: u32) -> u8
     ensures { λ r. ⌜ r ≡ checkOf (now (sequence .entry)) «read_back» ⌝ }
 {
-    let mut second: Seconds = [0; limits::MAX_BYTES];
+    let mut second: SecondParts = [0; limits::MAX_BYTES];
     let mut notes: Notes = [0; notes::LENGTH];
     checks::verdict::check(sequence, read_back, &mut second, &mut notes)
 }

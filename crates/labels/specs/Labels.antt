@@ -12,9 +12,9 @@ unfoldable pub labelsWith : ℕ → Labels
 labelsWith n = record { low = n % 2 ^ wordLabels; high = n / 2 ^ wordLabels }
 
 -- the first word holds no more than it has room for, as in every value of the code
-abbrev pub Held : Labels → Type 0
-Held s = s .low < 2 ^ wordLabels
+abbrev pub LowFits : Labels → Type 0
+LowFits s = s .low < 2 ^ wordLabels
 
 -- s is a value of the code that stands for n
-abbrev pub Stands : Labels → ℕ → Type 0
-Stands s n = Held s × (labelSet s ≡ n)
+abbrev pub Represents : Labels → ℕ → Type 0
+Represents s n = LowFits s × (labelSet s ≡ n)

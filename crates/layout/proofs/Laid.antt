@@ -1,4 +1,4 @@
--- What the reader accepts lies in the bytes with the table that it filled; and a statement that lies there is taken apart by
+-- What the reader accepts lies in the bytes with the table that it filled; and a statement that lies there is taken-apart apart by
 -- its command byte.
 use Prim.Native.Nat.{ℕ, zero, suc, _+_, _-_, _≤_, _<_}
 use mathlib.Core.Path.{_≡_, refl, sym, ap, _∙_, subst, subst₂}
@@ -9,7 +9,7 @@ use native.Mathlib.Numerals.{sub-one}
 use lib.ListN.{length, drop, getD, length-drop}
 use Rattle.esterel.specs.Statement.{Statement, nothing}
 use Rattle.esterel.specs.Ranks.{middle}
-use Rattle.sequence.specs.Commands.{Command, commandOf, partCount, inRange, litresFit, width, declares, build}
+use Rattle.sequence.specs.Commands.{Command, commandOf, partCount, inRange, litresFit, headLength, declares, build}
 use Rattle.limits.specs.Limits.{lastCommand, maxBytes}
 use Rattle.sequence.specs.Reader.{accepted, read}
 use Rattle.sequence.specs.Writer.{size}
@@ -55,28 +55,28 @@ module _ (t : List ℕ) (d : ℕ)
           q,
           (
             ap (λ (o : List ℕ). build c a o q nothing) (f .operands),
-            part-at (g - declares c) base (a + width c) (drop (width c) bs) q i (a + width c) (rest (width c) bs) refl (rest-is (width c) bs) h
-                (marked-one t base a xs c z q .1 m) (omega (arith, fits, f .long, length-drop (width c) bs)),
+            part-at (g - declares c) base (a + headLength c) (drop (headLength c) bs) q i (a + headLength c) (rest (headLength c) bs) refl (rest-is (headLength c) bs) h
+                (marked-one t base a xs c z q .1 m) (omega (arith, fits, f .long, length-drop (headLength c) bs)),
           ),
         ))
     laid g p n (Meets.two c xs l z q i h r j k) m =
         let f = l .fronted in
         let y : Marks t base a xs c q r = marked-two t base a xs c z q r .1 m in
-        let u : i ≡ size q = sound d (g - declares c) (a + width c) (drop (width c) bs) q i h .count in
-        let v : i ≤ length (drop (width c) bs) = count-within d (g - declares c) (a + width c) (drop (width c) bs) q i h in
-        let w : secondAt t a ≡ a + (width c + i) = omega (arith, y .0, u, v, fits, f .long, length-drop (width c) bs) in
-        let s : rest (secondAt t a - a) bs ≡ drop (width c + i) bs
-        = ap (λ (o : ℕ). rest o bs) (let o : secondAt t a - a ≡ width c + i = omega (arith, w) in o) ∙ rest-is (width c + i) bs in
-        let two : Two (Lies t d) t base a (width c) bs q r = record {
-          first = part-at (g - declares c) base (a + width c) (drop (width c) bs) q i (a + width c) (rest (width c) bs) refl
-              (rest-is (width c) bs) h (y .1) (omega (arith, fits, f .long, length-drop (width c) bs));
-          second = part-at (g - declares c) (middle base q) (a + (width c + i)) (drop (width c + i) bs) r j (secondAt t a)
+        let u : i ≡ size q = sound d (g - declares c) (a + headLength c) (drop (headLength c) bs) q i h .count in
+        let v : i ≤ length (drop (headLength c) bs) = count-within d (g - declares c) (a + headLength c) (drop (headLength c) bs) q i h in
+        let w : secondAt t a ≡ a + (headLength c + i) = omega (arith, y .0, u, v, fits, f .long, length-drop (headLength c) bs) in
+        let s : rest (secondAt t a - a) bs ≡ drop (headLength c + i) bs
+        = ap (λ (o : ℕ). rest o bs) (let o : secondAt t a - a ≡ headLength c + i = omega (arith, w) in o) ∙ rest-is (headLength c + i) bs in
+        let two : Two (Lies t d) t base a (headLength c) bs q r = record {
+          first = part-at (g - declares c) base (a + headLength c) (drop (headLength c) bs) q i (a + headLength c) (rest (headLength c) bs) refl
+              (rest-is (headLength c) bs) h (y .1) (omega (arith, fits, f .long, length-drop (headLength c) bs));
+          second = part-at (g - declares c) (middle base q) (a + (headLength c + i)) (drop (headLength c + i) bs) r j (secondAt t a)
               (rest (secondAt t a - a) bs) w s k
-              (subst (λ (o : ℕ). Marked t (middle base q) (a + (width c + o)) r) (sym u) (y .2))
-              (omega (arith, fits, f .long, v, length-drop (width c) bs, length-drop (width c + i) bs));
-          place = w ∙ ap (λ (o : ℕ). a + (width c + o)) u;
-          before = omega (arith, y .0, u, v, fits, f .long, length-drop (width c) bs);
-          within = omega (arith, w, v, length-drop (width c) bs, f .long);
+              (subst (λ (o : ℕ). Marked t (middle base q) (a + (headLength c + o)) r) (sym u) (y .2))
+              (omega (arith, fits, f .long, v, length-drop (headLength c) bs, length-drop (headLength c + i) bs));
+          place = w ∙ ap (λ (o : ℕ). a + (headLength c + o)) u;
+          before = omega (arith, y .0, u, v, fits, f .long, length-drop (headLength c) bs);
+          within = omega (arith, w, v, length-drop (headLength c) bs, f .long);
         } in
         front-of c xs p f
         (subst (λ (o : ℕ). Parts (Lies t d) t base a bs p c o) (sym z) (q, r, (ap (λ (o : List ℕ). build c a o q r) (f .operands), two)))
@@ -86,7 +86,7 @@ pub lies : (t : List ℕ) (d g base a : ℕ) (bs : List ℕ) (p : Statement) (n 
 lies t zero g base a bs p n h m f = no-level g a bs p n h
 lies t (suc d) g base a bs p n h m f = laid t d (lies t d) base a bs f g p n (met d g a bs (accepted p n) h) m
 
--- ---- taken apart
+-- ---- taken-apart apart
 pub opened : (t : List ℕ) (d base a : ℕ) (bs : List ℕ) (p : Statement) → Lies t d base a bs p → (0 < d) × AtFront (Lies t (d - 1)) t base a bs p
 unfolding Lies
 opened t zero base a bs p l = absurd l
@@ -111,11 +111,11 @@ by-command t d base a bs p l c b =
     subst (λ (o : Option Command). Form (Lies t (d - 1)) t base a bs p o) (ap commandOf b ∙ command-of-byte c) (opened t d base a bs p l .1 .form)
 
 module _ {t : List ℕ} {d a : ℕ} {bs : List ℕ} (r : Ready t d a bs) where
-  pub taken : (base : ℕ) (p : Statement) → Lies t d base a bs p → (c : Command) → getD bs 0 0 ≡ byteOf c → Begins (Lies t (d - 1)) t base a bs p c
-  taken base p l c b = by-command t d base a bs p l c b
+  pub taken-apart : (base : ℕ) (p : Statement) → Lies t d base a bs p → (c : Command) → getD bs 0 0 ≡ byteOf c → Begins (Lies t (d - 1)) t base a bs p c
+  taken-apart base p l c b = by-command t d base a bs p l c b
 
   pub begins : (c : Command) → getD bs 0 0 ≡ byteOf c → Begins (Lies t (d - 1)) t (r .base) a bs (r .p) c
-  begins = taken (r .base) (r .p) (r .lies)
+  begins = taken-apart (r .base) (r .p) (r .lies)
 
   -- the first byte is a command's
   pub command : (c : Command) × (getD bs 0 0 ≡ byteOf c)

@@ -10,8 +10,8 @@ use lib.Dec.{ltb}
 use borrow.Author.Tests.{ltb-true}
 use Rattle.esterel.specs.Statement.{nothing}
 use Rattle.limits.specs.Limits.{labelCount, signalCount, maxBytes}
-use Rattle.sequence.specs.Commands.{Command, commandOf, operandCount, operandsOf, partCount, firstOperand, inRange, width, build}
-use Rattle.layout.specs.Notes.{countIn, notePause, noteSetpause, noteFarm, noteWithin}
+use Rattle.sequence.specs.Commands.{Command, commandOf, operandCount, operandsOf, partCount, firstOperand, inRange, headLength, build}
+use Rattle.layout.specs.Notes.{pausesCounted, notePause, noteSetpause, noteFarm, noteWithin}
 use Rattle.layout.specs.Walk.{Notable, LeafNoted}
 use Rattle.sequence.proofs.Table.{byteOf, byte-is, command-at, leaves}
 use Rattle.sequence.proofs.Front.{Fronted}
@@ -53,7 +53,7 @@ module _ {s : List ℕ} {c : Command} {xs : List ℕ} (f : Fronted s c xs) where
       let r : inRange d xs ≡ true = rw q at (f .ranged) in
       ap (inRange d) (sym o) ∙ r
 
-  pub notable : (m : List ℕ) → countIn m < maxBytes → Notable (getD s 0 0) (getD s 1 0) m
+  pub notable : (m : List ℕ) → pausesCounted m < maxBytes → Notable (getD s 0 0) (getD s 1 0) m
   notable m few =
       record {
         pausing = λ e. ltb-true (getD s 1 0) labelCount (ranged-as Command.pause e);

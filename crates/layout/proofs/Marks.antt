@@ -8,7 +8,7 @@ use lib.ListN.{getD, length, set, length-append, length-set}
 use lib.Seq.{getD-set-same, getD-set-other}
 use Rattle.esterel.specs.Statement.{Statement, nothing, pause, emit, exit, seq, par, loop, present, signal, try, setpause, suspend, held}
 use Rattle.esterel.specs.Ranks.{middle}
-use Rattle.sequence.specs.Commands.{Command, partCount, width, build}
+use Rattle.sequence.specs.Commands.{Command, partCount, headLength, build}
 use Rattle.sequence.specs.Writer.{bytesOf, size}
 use Rattle.layout.specs.Layout.{entry, Marked}
 use Rattle.layout.specs.Walk.{Entered}
@@ -55,15 +55,15 @@ module _ (t : List ℕ) (base a : ℕ) (xs : List ℕ) where
   marked-leaf : (c : Command) → partCount c ≡ 0 → Marked t base a (build c a xs nothing nothing)
   marked-leaf = leaves (λ (c : Command). Marked t base a (build c a xs nothing nothing)) tt tt tt tt tt tt
 
-  pub marked-one : (c : Command) → partCount c ≡ 1 → (p : Statement) → Marked t base (a + width c) p ↔ Marked t base a (build c a xs p nothing)
+  pub marked-one : (c : Command) → partCount c ≡ 1 → (p : Statement) → Marked t base (a + headLength c) p ↔ Marked t base a (build c a xs p nothing)
   marked-one =
-      ones (λ (c : Command). (p : Statement) → Marked t base (a + width c) p ↔ Marked t base a (build c a xs p nothing))
+      ones (λ (c : Command). (p : Statement) → Marked t base (a + headLength c) p ↔ Marked t base a (build c a xs p nothing))
       (λ p. (λ m. m, λ m. m)) (λ p. (λ m. m, λ m. m)) (λ p. (λ m. m, λ m. m)) (λ p. (λ m. m, λ m. m))
 
   -- the entry of the command, and those of its parts
   abbrev pub Marks : Command → (p q : Statement) → Type 0
   Marks c p q =
-      (getD t a 0 ≡ entry (a + (width c + size p)) (middle base p)) × Marked t base (a + width c) p × Marked t (middle base p) (a + (width c + size p)) q
+      (getD t a 0 ≡ entry (a + (headLength c + size p)) (middle base p)) × Marked t base (a + headLength c) p × Marked t (middle base p) (a + (headLength c + size p)) q
 
   pub marked-two : (c : Command) → partCount c ≡ 2 → (p q : Statement) → Marks c p q ↔ Marked t base a (build c a xs p q)
   marked-two =
@@ -71,11 +71,11 @@ module _ (t : List ℕ) (base a : ℕ) (xs : List ℕ) where
       (λ p q. (λ m. m, λ m. m)) (λ p q. (λ m. m, λ m. m)) (λ p q. (λ m. m, λ m. m))
 
 -- ---- the same with what is kept
-pub entered-leaf : (t : List ℕ) (base a : ℕ) (xs : List ℕ) (c : Command) → partCount c ≡ 0 → Entered t t base a (width c) (build c a xs nothing nothing)
+pub entered-leaf : (t : List ℕ) (base a : ℕ) (xs : List ℕ) (c : Command) → partCount c ≡ 0 → Entered t t base a (headLength c) (build c a xs nothing nothing)
 entered-leaf t base a xs c e = record { long = refl; marked = marked-leaf t base a xs c e; below = λ i h. refl; above = λ i h. refl }
 
-pub entered-one : (t u : List ℕ) (base a : ℕ) (xs : List ℕ) (c : Command) (p : Statement) (n : ℕ) → partCount c ≡ 1 → Entered t u base (a + width c) n p
-    → Entered t u base a (width c + n) (build c a xs p nothing)
+pub entered-one : (t u : List ℕ) (base a : ℕ) (xs : List ℕ) (c : Command) (p : Statement) (n : ℕ) → partCount c ≡ 1 → Entered t u base (a + headLength c) n p
+    → Entered t u base a (headLength c + n) (build c a xs p nothing)
 entered-one t u base a xs c p n e h =
     record {
       long = h .long;
@@ -87,17 +87,17 @@ entered-one t u base a xs c p n e h =
 -- the first part is read, the entry o of the offset b behind it is noted at the command's own offset, and the second part
 -- is read there
 pub entered-two : (t u v : List ℕ) (base a : ℕ) (xs : List ℕ) (b o : ℕ) (c : Command) (p q : Statement) (m n : ℕ) → partCount c ≡ 2 → m ≡ size p
-    → b ≡ a + (width c + m) → o ≡ entry b (middle base p) → a < length u → Entered t u base (a + width c) m p
-    → Entered (set u a o) v (middle base p) b n q → Entered t v base a (width c + m + n) (build c a xs p q)
+    → b ≡ a + (headLength c + m) → o ≡ entry b (middle base p) → a < length u → Entered t u base (a + headLength c) m p
+    → Entered (set u a o) v (middle base p) b n q → Entered t v base a (headLength c + m + n) (build c a xs p q)
 entered-two t u v base a xs b o c p q m n e z y w l f g =
     let own : getD v a 0 ≡ o = g .below a (omega arith) ∙ getD-set-same u a o 0 l in
-    let place : b ≡ a + (width c + size p) = omega arith in
+    let place : b ≡ a + (headLength c + size p) = omega arith in
     record {
       long = g .long ∙ length-set u a o ∙ f .long;
       marked =
           marked-two v base a xs c e p q .0 (
             own ∙ w ∙ ap (λ (i : ℕ). entry i (middle base p)) place,
-            local u v base (a + width c) p (λ i k h. g .below i (omega arith) ∙ getD-set-other u a i o 0 (omega arith)) (f .marked),
+            local u v base (a + headLength c) p (λ i k h. g .below i (omega arith) ∙ getD-set-other u a i o 0 (omega arith)) (f .marked),
             rw place at (g .marked),
           );
       below = λ i h. g .below i (omega arith) ∙ getD-set-other u a i o 0 (omega arith) ∙ f .below i (omega arith);

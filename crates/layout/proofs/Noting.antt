@@ -16,7 +16,7 @@ use Rattle.esterel.specs.Sets.{member, none, only, join, empty}
 use Rattle.esterel.specs.Statement.{Value, pure, litres, Statement, nothing, pause, emit, exit, seq, par, loop, present, signal, try, setpause, suspend, held}
 use Rattle.esterel.specs.LabelTests.{disjoint, labelsOf, pauses, setpauses, distinct}
 use Rattle.esterel.specs.Ranks.{pauseCount, rank}
-use Rattle.esterel.specs.Ceiling.{nesting}
+use Rattle.esterel.specs.Ceiling.{signalNesting}
 use Rattle.theory.proofs.Booleans.{never, clash, Tested, tested}
 use Rattle.theory.proofs.Sets.{member-only, join-none-l, join-none-r}
 use Rattle.theory.proofs.LabelSets.{in-none, in-l, in-r, in-join, disjoint-is}
@@ -26,26 +26,26 @@ use Rattle.sets.specs.Sets.{twoWords, setAt}
 use Rattle.sets.proofs.Words.{words-none, one-low, one-high, common-low, common-high}
 use Rattle.farms.specs.Farms.{farmOf, farmsOf}
 use Rattle.sequence.specs.Writer.{bytesOf, size, Ranged}
-use Rattle.layout.specs.Notes.{pausesIn, setpausesIn, twiceIn, countIn, mostIn, farmsIn, rankIn, noteCount, noNotes, wordAt, inWord, notePause, noteSetpause, noteFarm, noteEmission, noteSignals, noteWithin, note, Noted}
+use Rattle.layout.specs.Notes.{pausesIn, setpausesIn, twiceIn, pausesCounted, mostIn, farmsIn, rankIn, noteCount, noNotes, wordAt, inWord, notePause, noteSetpause, noteFarm, noteEmission, noteSignals, noteWithin, note, Noted}
 
 -- the words of both sets hold what they have room for
-pub record Held (m : List ℕ) : Type 0 where
+pub record WordsFit (m : List ℕ) : Type 0 where
   pub fits : (j : ℕ) → j < 4 → getD m j 0 < 2 ^ wordLabels
 
 -- the notes m become n by these pauses and setpauses, so many pauses, the test of row 8 among them, and their ranks
 pub record Added (paused targeted count : ℕ) (once : Bool) (rank : (base l : ℕ) → ℕ) (m n : List ℕ) : Type 0 where
   pub long : length n ≡ length m
-  pub held : Held m → Held n
-  pub pauses-in : Held m → pausesIn n ≡ join (pausesIn m) paused
-  pub setpauses-in : Held m → setpausesIn n ≡ join (setpausesIn m) targeted
-  pub counted : countIn n ≡ countIn m + count
-  pub twice : Held m → empty (twiceIn n) ≡ (empty (twiceIn m) && (disjoint (pausesIn m) paused && once))
+  pub held : WordsFit m → WordsFit n
+  pub pauses-in : WordsFit m → pausesIn n ≡ join (pausesIn m) paused
+  pub setpauses-in : WordsFit m → setpausesIn n ≡ join (setpausesIn m) targeted
+  pub counted : pausesCounted n ≡ pausesCounted m + count
+  pub twice : WordsFit m → empty (twiceIn n) ≡ (empty (twiceIn m) && (disjoint (pausesIn m) paused && once))
   pub kept : (l : ℕ) → member l paused ≡ false → rankIn n l ≡ rankIn m l
-  pub ranked : once ≡ true → (l : ℕ) → member l paused ≡ true → rankIn n l ≡ rank (countIn m) l
+  pub ranked : once ≡ true → (l : ℕ) → member l paused ≡ true → rankIn n l ≡ rank (pausesCounted m) l
 
 -- the notes m become n by those of p
-abbrev pub Adds : Statement → (m n : List ℕ) → Type 0
-Adds p = Added (pauses p) (setpauses p) (pauseCount p) (distinct p) (λ base l. rank base p l)
+abbrev pub NotesOf : Statement → (m n : List ℕ) → Type 0
+NotesOf p = Added (pauses p) (setpauses p) (pauseCount p) (distinct p) (λ base l. rank base p l)
 
 -- ---- a command with no label
 once-none : (x : Bool) (seen : ℕ) → x ≡ (x && (disjoint seen none && true))
@@ -80,7 +80,7 @@ stored-aside i v m k h =
     }
 
 module _ {m n : List ℕ} (z : Aside m n) where
-  held-aside : Held m → Held n
+  held-aside : WordsFit m → WordsFit n
   held-aside f = record { fits = λ j g. subst (λ (x : ℕ). x < 2 ^ wordLabels) (sym (z .low j (omega arith))) (f .fits j g) }
 
   same-pauses : pausesIn n ≡ pausesIn m
@@ -114,7 +114,7 @@ signals-aside k m = stored-aside 6 (max (mostIn m) k) m (omega arith) (omega ari
 
 -- ---- a word of a set
 -- a word stored among those of the sets, and a number stored behind them
-held-set : (i v : ℕ) (m : List ℕ) → i < length m → v < 2 ^ wordLabels → Held m → Held (set m i v)
+held-set : (i v : ℕ) (m : List ℕ) → i < length m → v < 2 ^ wordLabels → WordsFit m → WordsFit (set m i v)
 held-set i v m k f fit = record { fits = λ j g. go j g (tested (eqb i j)) }
   where
     go : (j : ℕ) → j < 4 → Tested (eqb i j) → getD (set m i v) j 0 < 2 ^ wordLabels
@@ -124,7 +124,7 @@ held-set i v m k f fit = record { fits = λ j g. go j g (tested (eqb i j)) }
     go j g (Tested.no e) =
         subst (λ (x : ℕ). x < 2 ^ wordLabels) (sym (getD-set-other m i j v 0 (λ z. eqb-false i j e (sym z)))) (fit .fits j g)
 
-held-above : (i v : ℕ) (m : List ℕ) → 4 ≤ i → Held m → Held (set m i v)
+held-above : (i v : ℕ) (m : List ℕ) → 4 ≤ i → WordsFit m → WordsFit (set m i v)
 held-above i v m k fit =
     record { fits = λ j g. subst (λ (x : ℕ). x < 2 ^ wordLabels) (sym (getD-set-other m i j v 0 (λ z. omega arith))) (fit .fits j g) }
 
@@ -193,7 +193,7 @@ module _ (l : ℕ) (m : List ℕ) (h : l < labelCount) (long : length m ≡ note
 
   at-two : (j : ℕ) → (j ≡ 5 → ⊥) → (j ≡ 8 + l → ⊥) → getD (notePause l m) j 0 ≡ getD two j 0
   unfolding notePause
-  at-two j f g = getD-set-other (set two (8 + l) (countIn m)) 5 j (countIn m + 1) 0 f ∙ getD-set-other two (8 + l) j (countIn m) 0 g
+  at-two j f g = getD-set-other (set two (8 + l) (pausesCounted m)) 5 j (pausesCounted m + 1) 0 f ∙ getD-set-other two (8 + l) j (pausesCounted m) 0 g
 
   at-one : (j : ℕ) → (j ≡ 4 → ⊥) → getD one j 0 ≡ getD m j 0
   at-one j f = getD-set-other m 4 j twice 0 f
@@ -207,15 +207,15 @@ module _ (l : ℕ) (m : List ℕ) (h : l < labelCount) (long : length m ≡ note
       ∙ getD-set-other one (0 + l / wordLabels) 4 paused 0 (λ e. omega arith)
       ∙ getD-set-same m 4 twice 0 (omega arith)
 
-  at-rank : rankIn (notePause l m) l ≡ countIn m
+  at-rank : rankIn (notePause l m) l ≡ pausesCounted m
   unfolding notePause
   at-rank =
-      getD-set-other (set two (8 + l) (countIn m)) 5 (8 + l) (countIn m + 1) 0 (λ e. omega arith)
-      ∙ getD-set-same two (8 + l) (countIn m) 0 (simp length-set (omega arith))
+      getD-set-other (set two (8 + l) (pausesCounted m)) 5 (8 + l) (pausesCounted m + 1) 0 (λ e. omega arith)
+      ∙ getD-set-same two (8 + l) (pausesCounted m) 0 (simp length-set (omega arith))
 
-  at-count : countIn (notePause l m) ≡ countIn m + 1
+  at-count : pausesCounted (notePause l m) ≡ pausesCounted m + 1
   unfolding notePause
-  at-count = getD-set-same (set two (8 + l) (countIn m)) 5 (countIn m + 1) 0 (simp length-set (omega arith))
+  at-count = getD-set-same (set two (8 + l) (pausesCounted m)) 5 (pausesCounted m + 1) 0 (simp length-set (omega arith))
 
   pause-length : length (notePause l m) ≡ length m
   unfolding notePause
@@ -225,24 +225,24 @@ module _ (l : ℕ) (m : List ℕ) (h : l < labelCount) (long : length m ≡ note
   same-words : (j : ℕ) → j < 2 → getD one j 0 ≡ getD m j 0
   same-words j k = at-one j (λ e. omega arith)
 
-  pause-joins : Held m → pausesIn (notePause l m) ≡ join (pausesIn m) (only l)
+  pause-joins : WordsFit m → pausesIn (notePause l m) ≡ join (pausesIn m) (only l)
   pause-joins fit =
       ap₂ (twoWords wordLabels) (at-two 0 (λ e. omega arith) (λ e. omega arith)) (at-two 1 (λ e. omega arith) (λ e. omega arith))
       ∙ ap (λ (v : ℕ). setAt 0 (set one (0 + l / wordLabels) (join v (inWord l)))) (sym (same-words (0 + l / wordLabels) (omega arith)))
       ∙ set-joins 0 l one h (simp length-set (omega arith)) (omega (arith, same-words 0 (omega arith), fit .fits 0 (omega arith)))
       ∙ ap₂ (λ (a b : ℕ). join (twoWords wordLabels a b) (only l)) (same-words 0 (omega arith)) (same-words 1 (omega arith))
 
-  pause-twice : Held m → empty (twiceIn (notePause l m)) ≡ (empty (twiceIn m) && (disjoint (pausesIn m) (only l) && true))
+  pause-twice : WordsFit m → empty (twiceIn (notePause l m)) ≡ (empty (twiceIn m) && (disjoint (pausesIn m) (only l) && true))
   pause-twice fit =
       ap empty at-twice ∙ empty-join (twiceIn m) (bitAnd (wordAt 0 l m) (inWord l))
       ∙ ap (λ (b : Bool). empty (twiceIn m) && b)
       (digit-common 0 l m h (omega arith) (fit .fits 0 (omega arith)) ∙ sym (and-true (disjoint (pausesIn m) (only l))))
 
-  pause-held : Held m → Held (notePause l m)
+  pause-held : WordsFit m → WordsFit (notePause l m)
   unfolding notePause
   pause-held fit =
-      held-above 5 (countIn m + 1) (set two (8 + l) (countIn m)) (omega arith)
-      (held-above (8 + l) (countIn m) two (omega arith)
+      held-above 5 (pausesCounted m + 1) (set two (8 + l) (pausesCounted m)) (omega arith)
+      (held-above (8 + l) (pausesCounted m) two (omega arith)
       (held-set (0 + l / wordLabels) paused one (simp length-set (omega arith))
       (joined-fits 0 l m h (omega arith) (fit .fits 0 (omega arith)) (fit .fits (0 + l / wordLabels) (omega arith)))
       (held-above 4 twice m (omega arith) fit)))
@@ -297,14 +297,14 @@ module _ {x y s t a b : ℕ} {o u : Bool} {f g : (base l : ℕ) → ℕ} {m n r 
       ∙ p .kept l (never (member l x) (λ i. clash (member l (join x y)) (in-l l x y i) e))
 
   two-ranked : (disjoint x y && (o && u)) ≡ true → (l : ℕ) → member l (join x y) ≡ true
-      → rankIn r l ≡ cond (member l x) (f (countIn m) l) (g (countIn m + a) l)
+      → rankIn r l ≡ cond (member l x) (f (pausesCounted m) l) (g (pausesCounted m + a) l)
   two-ranked e l h =
       let apart = and-eq-true-iff (disjoint x y) (o && u) .0 e in
       let each = and-eq-true-iff o u .0 (apart .1) in
       go (disjoint-is x y .0 (apart .0) l) (each .0) (each .1) (tested (member l x))
     where
       go : (member l x ≡ true → member l y ≡ true → ⊥) → o ≡ true → u ≡ true → Tested (member l x)
-          → rankIn r l ≡ cond (member l x) (f (countIn m) l) (g (countIn m + a) l)
+          → rankIn r l ≡ cond (member l x) (f (pausesCounted m) l) (g (pausesCounted m + a) l)
       go d v w (Tested.yes i) = rw i (q .kept l (never (member l y) (d i)) ∙ p .ranked v l i)
       go d v w (Tested.no i) =
           let j : member l y ≡ true = ⊎-elim (λ z. clash (member l x) z i) (λ z. z) (in-join l x y h) in
@@ -330,7 +330,7 @@ emission-adds : (s : ℕ) (v : Value) (m : List ℕ) → Added none none 0 true 
 emission-adds s pure m = silent m
 emission-adds s (litres n) m = farm-adds s m
 
-pub noting : (k : ℕ) (p : Statement) (m : List ℕ) → length m ≡ noteCount → Ranged p → Adds p m (noteWithin k p m)
+pub noting : (k : ℕ) (p : Statement) (m : List ℕ) → length m ≡ noteCount → Ranged p → NotesOf p m (noteWithin k p m)
 unfolding noteWithin labelsOf pauseCount distinct rank
 noting k nothing m h r = silent m
 noting k (pause l) m h r = pause-adds l m r h
@@ -369,24 +369,24 @@ most-two k x y a l e f = omega arith
 
 -- the most of what was noted and of what p has around its commands, where k stand around p and are noted
 pub most-noted : (k : ℕ) (p : Statement) (m : List ℕ) → length m ≡ noteCount → Ranged p → k ≤ mostIn m
-    → mostIn (noteWithin k p m) ≡ max (mostIn m) (k + nesting p)
-unfolding noteWithin nesting
+    → mostIn (noteWithin k p m) ≡ max (mostIn m) (k + signalNesting p)
+unfolding noteWithin signalNesting
 most-noted k nothing m h r l = omega arith
 most-noted k (pause x) m h r l = omega (arith, pause-aside 6 x m r h (omega arith) (omega arith))
 most-noted k (emit s v) m h r l = omega (arith, most-emission s v m)
 most-noted k (exit n) m h r l = omega arith
 most-noted k (seq p q) m h r l =
     let e = most-noted k p m h (r .0) l in
-    most-two k (nesting p) (nesting q) (mostIn m) l e
+    most-two k (signalNesting p) (signalNesting q) (mostIn m) l e
     (most-noted k q (noteWithin k p m) (noting k p m h (r .0) .long ∙ h) (r .1) (omega (arith, e)))
 most-noted k (par p q) m h r l =
     let e = most-noted k p m h (r .0) l in
-    most-two k (nesting p) (nesting q) (mostIn m) l e
+    most-two k (signalNesting p) (signalNesting q) (mostIn m) l e
     (most-noted k q (noteWithin k p m) (noting k p m h (r .0) .long ∙ h) (r .1) (omega (arith, e)))
 most-noted k (loop a p) m h r l = most-noted k p m h r l
 most-noted k (present s p q) m h r l =
     let e = most-noted k p m h (r .1) l in
-    most-two k (nesting p) (nesting q) (mostIn m) l e
+    most-two k (signalNesting p) (signalNesting q) (mostIn m) l e
     (most-noted k q (noteWithin k p m) (noting k p m h (r .1) .long ∙ h) (r .2) (omega (arith, e)))
 most-noted k (signal sc a s p) m h r l =
     let e = noted-most (suc k) m h in
@@ -457,7 +457,7 @@ farms-below (setpause l) r = pow-pos signalCount
 farms-below (suspend s p) r = farms-below p (r .1)
 farms-below (held s K p) r = absurd r
 
-nothing-held : Held noNotes
+nothing-held : WordsFit noNotes
 nothing-held = record { fits = λ j g. subst (λ (x : ℕ). x < 2 ^ wordLabels) (sym (getD-replicate noteCount j 0 0 (omega arith))) (pow-pos wordLabels) }
 
 -- from nothing noted, the notes of p

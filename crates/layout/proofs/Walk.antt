@@ -9,11 +9,11 @@ use lib.Seq.{drop-drop, getD-set-other}
 use Rattle.esterel.specs.Statement.{Statement, nothing}
 use Rattle.esterel.specs.Ranks.{middle}
 use Rattle.limits.specs.Limits.{maxBytes, maxSignals}
-use Rattle.sequence.specs.Commands.{Command, commandOf, operandCount, bytesAt, firstOperand, partCount, width, declares, build}
+use Rattle.sequence.specs.Commands.{Command, commandOf, operandCount, bytesAt, firstOperand, partCount, headLength, declares, build}
 use Rattle.sequence.specs.Reader.{Read, accepted, refused, Front, command, bad, front, lastPart, firstPart, readParts, read}
 use Rattle.sequence.specs.Writer.{size}
 use Rattle.layout.specs.Layout.{rest, entry}
-use Rattle.layout.specs.Notes.{countIn, noteCount, noteSignals, noteWithin}
+use Rattle.layout.specs.Notes.{pausesCounted, noteCount, noteSignals, noteWithin}
 use Rattle.layout.specs.Walk.{rowUnit, headOf, Readable, Notable, LeafNoted, Entered, Done, Fitting, LeafRead, pairRead}
 use Rattle.sequence.proofs.Table.{byteOf, command-of-byte, command-at, leaves, ones, twos, undeclared}
 use Rattle.layout.proofs.Parts.{rest-is}
@@ -26,7 +26,7 @@ use Rattle.layout.proofs.Leaves.{notable}
 use Rattle.layout.proofs.Marks.{entered-leaf, entered-one, entered-two}
 
 -- ---- what was handed on is readable
-pub onward : (g a b n : ℕ) (s t m : List ℕ) → b ≡ a + n → n ≤ length s → a + length s ≤ maxBytes → countIn m ≤ b → length t ≡ maxBytes
+pub onward : (g a b n : ℕ) (s t m : List ℕ) → b ≡ a + n → n ≤ length s → a + length s ≤ maxBytes → pausesCounted m ≤ b → length t ≡ maxBytes
     → length m ≡ noteCount → g ≤ maxSignals → Readable g b (rest n s) t m
 onward g a b n s t m e l fits counted long noted allowed =
     let k : length (rest n s) ≡ length s - n = ap length (rest-is n s) ∙ length-drop n s in
@@ -42,7 +42,7 @@ pub fitting : {g a : ℕ} {s t m : List ℕ} → Readable g a s t m → Fitting 
 fitting r = record { fits = r .fits; counted = r .counted }
 
 -- a signal is noted, and its part is handed on
-same-count : (k : ℕ) (m : List ℕ) → countIn (noteSignals k m) ≡ countIn m
+same-count : (k : ℕ) (m : List ℕ) → pausesCounted (noteSignals k m) ≡ pausesCounted m
 unfolding noteSignals
 same-count k m = getD-set-other m 6 5 _ 0 (λ e. omega arith)
 
@@ -52,7 +52,7 @@ same-length k m = length-set m 6 _
 
 pub within : {g a : ℕ} {s t m n : List ℕ} (w h k : ℕ) → w ≤ length s → h ≤ g → n ≡ noteSignals k m → Readable g a s t m → Readable h (a + w) (rest w s) t n
 within {g} {a} {s} {t} {m} {n} w h k l below e r =
-    let c : countIn n ≡ countIn m = ap countIn e ∙ same-count k m in
+    let c : pausesCounted n ≡ pausesCounted m = ap pausesCounted e ∙ same-count k m in
     onward h a (a + w) w s t n refl l (r .fits) (omega (arith, r .counted)) (r .long) (ap length e ∙ same-length k m ∙ r .noted) (omega (arith, r .allowed))
 
 -- ---- the command at the front, by its head of w bytes
@@ -76,7 +76,7 @@ pub record Heading (s : List ℕ) (w : ℕ) : Type 0 where
   pub of : Command
   pub operands : List ℕ
   pub stands : front s ≡ command of operands
-  pub wide : w ≡ width of
+  pub wide : w ≡ headLength of
 
 pub heading : (s : List ℕ) (w : ℕ) → w ≡ headOf (front s) → w < rowUnit → Heading s w
 heading s w e l = go (front s) refl e
@@ -85,8 +85,8 @@ heading s w e l = go (front s) refl e
     go (command c xs) q h = record { of = c; operands = xs; stands = q; wide = h }
     go (bad k) q h = absurd (omega (arith, front-small s k q))
 
--- the same of a command whose width is known
-abbrev pub narrow : {s : List ℕ} {w v : ℕ} (h : Heading s w) → v ≡ width (h .of) → Heading s v
+-- the same of a command whose headLength is known
+abbrev pub narrow : {s : List ℕ} {w v : ℕ} (h : Heading s w) → v ≡ headLength (h .of) → Heading s v
 narrow h e = record { of = h .of; operands = h .operands; stands = h .stands; wide = e }
 
 -- ---- what a command notes, by its parts
@@ -112,10 +112,10 @@ module _ (k a : ℕ) (xs m : List ℕ) where
 
 -- a command has two parts, behind its own bytes
 same-pair : (c : Command) (a : ℕ) (xs s : List ℕ) (i : ℕ → List ℕ → Read) (y : Read)
-    → firstPart (λ p m. lastPart (λ q. build c a xs p q) (width c + m) (i (a + (width c + m)) (drop (width c + m) s))) y
-    ≡ firstPart (λ p m. lastPart (λ q. build c a xs p q) (width c + m) (i (a + (width c + m)) (drop m (drop (width c) s)))) y
+    → firstPart (λ p m. lastPart (λ q. build c a xs p q) (headLength c + m) (i (a + (headLength c + m)) (drop (headLength c + m) s))) y
+    ≡ firstPart (λ p m. lastPart (λ q. build c a xs p q) (headLength c + m) (i (a + (headLength c + m)) (drop m (drop (headLength c) s)))) y
 same-pair c a xs s i (accepted p m) =
-    ap (λ (bs : List ℕ). lastPart (λ q. build c a xs p q) (width c + m) (i (a + (width c + m)) bs)) (sym (drop-drop m (width c) s))
+    ap (λ (bs : List ℕ). lastPart (λ q. build c a xs p q) (headLength c + m) (i (a + (headLength c + m)) bs)) (sym (drop-drop m (headLength c) s))
 same-pair c a xs s i (refused number) = refl
 
 module _ {s : List ℕ} {w : ℕ} (h : Heading s w) where
@@ -156,25 +156,25 @@ module _ {s : List ℕ} {w : ℕ} (h : Heading s w) where
     pub done-leaf : (t m n : List ℕ) → partCount (h .of) ≡ 0 → n ≡ noteWithin (maxSignals - g) (build (h .of) a (h .operands) nothing nothing) m
         → Done g a t t m n (read d g a s) (a + w)
     done-leaf t m n z e =
-        let y : read d g a s ≡ accepted (build (h .of) a (h .operands) nothing nothing) (width (h .of)) = plain-are (λ o. omega arith) ∙ rw z in
-        rw y (omega (arith, h .wide), (entered-leaf t (countIn m) a (h .operands) (h .of) z, e))
+        let y : read d g a s ≡ accepted (build (h .of) a (h .operands) nothing nothing) (headLength (h .of)) = plain-are (λ o. omega arith) ∙ rw z in
+        rw y (omega (arith, h .wide), (entered-leaf t (pausesCounted m) a (h .operands) (h .of) z, e))
 
     -- the part, of the bytes l, of a command that declares k signals
     module _ (k : ℕ) (e : k ≡ declares (h .of)) (le : k ≤ g) (z : partCount (h .of) ≡ 1) (l : List ℕ) (here : l ≡ drop w s) where
-      done-part : (t u m i n : List ℕ) (r : ℕ) → countIn i ≡ countIn m
+      done-part : (t u m i n : List ℕ) (r : ℕ) → pausesCounted i ≡ pausesCounted m
           → ((p : Statement) → noteWithin (maxSignals - g) (build (h .of) a (h .operands) p nothing) m ≡ noteWithin (maxSignals - (g - k)) p i)
           → Done (g - k) (a + w) t u i n (read (d - 1) (g - k) (a + w) l) r → Done g a t u m n (read d g a s) r
       done-part t u m i n r counted noted done =
           let c = h .of in
-          let part = read (d - 1) (g - k) (a + width c) (drop (width c) s) in
-          let y : read d g a s ≡ lastPart (λ p. build c a (h .operands) p nothing) (width c) part = parts-are k e le ∙ rw z in
+          let part = read (d - 1) (g - k) (a + headLength c) (drop (headLength c) s) in
+          let y : read d g a s ≡ lastPart (λ p. build c a (h .operands) p nothing) (headLength c) part = parts-are k e le ∙ rw z in
           rw y (go part (rw (here, h .wide) at done))
         where
-          go : (y : Read) → Done (g - k) (a + width (h .of)) t u i n y r
-              → Done g a t u m n (lastPart (λ p. build (h .of) a (h .operands) p nothing) (width (h .of)) y) r
+          go : (y : Read) → Done (g - k) (a + headLength (h .of)) t u i n y r
+              → Done g a t u m n (lastPart (λ p. build (h .of) a (h .operands) p nothing) (headLength (h .of)) y) r
           go (accepted p j) q =
-              let f : Entered t u (countIn m) (a + width (h .of)) j p = rw counted at (q .1 .0) in
-              (omega (arith, q .0), (entered-one t u (countIn m) a (h .operands) (h .of) p j z f, q .1 .1 ∙ sym (noted p)))
+              let f : Entered t u (pausesCounted m) (a + headLength (h .of)) j p = rw counted at (q .1 .0) in
+              (omega (arith, q .0), (entered-one t u (pausesCounted m) a (h .operands) (h .of) p j z f, q .1 .1 ∙ sym (noted p)))
           go (refused j) q = q
 
     pub done-one : partCount (h .of) ≡ 1 → declares (h .of) ≡ 0 → (l : List ℕ) → l ≡ drop w s → (t u m n : List ℕ) (r : ℕ)
@@ -189,18 +189,18 @@ module _ {s : List ℕ} {w : ℕ} (h : Heading s w) where
         → i ≡ noteSignals (maxSignals - (g - 1)) m → Done (g - 1) (a + w) t u i n (read (d - 1) (g - 1) (a + w) l) r → Done g a t u m n (read d g a s) r
     done-signal z o le allowed l here t u m i n r noted done =
         let up : suc (maxSignals - g) ≡ maxSignals - (g - 1) = omega arith in
-        done-part 1 (sym o) le z l here t u m i n r (ap countIn noted ∙ same-count (maxSignals - (g - 1)) m)
+        done-part 1 (sym o) le z l here t u m i n r (ap pausesCounted noted ∙ same-count (maxSignals - (g - 1)) m)
         (λ p. note-signal (maxSignals - g) a (h .operands) m (h .of) z o p ∙ rw (up, ← noted))
         done
 
     pub done-pair : partCount (h .of) ≡ 2 → (l : List ℕ) → l ≡ drop w s → (t u m n : List ℕ) (r : ℕ)
-        → ((c : Command) (xs : List ℕ) → partCount c ≡ 2 → w ≡ width c → Done g a t u m n (pairRead (read (d - 1) g) c a xs l) r)
+        → ((c : Command) (xs : List ℕ) → partCount c ≡ 2 → w ≡ headLength c → Done g a t u m n (pairRead (read (d - 1) g) c a xs l) r)
         → Done g a t u m n (read d g a s) r
     done-pair z l here t u m n r i =
         let c = h .of in
-        let there : l ≡ drop (width c) s = here ∙ ap (λ (i : ℕ). drop i s) (h .wide) in
-        let y : read d g a s ≡ pairRead (read (d - 1) g) c a (h .operands) (drop (width c) s)
-        = plain-are (λ o. omega arith) ∙ rw z (same-pair c a (h .operands) s (read (d - 1) g) (read (d - 1) g (a + width c) (drop (width c) s))) in
+        let there : l ≡ drop (headLength c) s = here ∙ ap (λ (i : ℕ). drop i s) (h .wide) in
+        let y : read d g a s ≡ pairRead (read (d - 1) g) c a (h .operands) (drop (headLength c) s)
+        = plain-are (λ o. omega arith) ∙ rw z (same-pair c a (h .operands) s (read (d - 1) g) (read (d - 1) g (a + headLength c) (drop (headLength c) s))) in
         rw (y, ← there) (i c (h .operands) z (h .wide))
 
 -- ---- a command without parts at the front
@@ -237,10 +237,10 @@ pub record Firsts (d g b : ℕ) (s t u m n : List ℕ) (r : ℕ) : Type 0 where
   pub place : r ≡ b + count
   pub within : count ≤ length s
   pub sized : count ≡ size part
-  pub entered : Entered t u (countIn m) b count part
+  pub entered : Entered t u (pausesCounted m) b count part
   pub notes : n ≡ noteWithin (maxSignals - g) part m
-  pub counted : countIn n ≡ middle (countIn m) part
-  pub few : countIn n ≤ r
+  pub counted : pausesCounted n ≡ middle (pausesCounted m) part
+  pub few : pausesCounted n ≤ r
   pub noted : length n ≡ noteCount
 
 module _ (d g b : ℕ) (s t u m n : List ℕ) (r : ℕ) (can : Readable g b s t m) (h : Done g b t u m n (read d g b s) r) where
@@ -251,7 +251,7 @@ module _ (d g b : ℕ) (s t u m n : List ℕ) (r : ℕ) (can : Readable g b s t 
       go (accepted p k) q z i =
           let w = sound d g b s p k q in
           let a = noting (maxSignals - g) p m (can .noted) (w .within .ranged) in
-          let c : countIn n ≡ middle (countIn m) p = ap countIn (i .1 .1) ∙ a .counted in
+          let c : pausesCounted n ≡ middle (pausesCounted m) p = ap pausesCounted (i .1 .1) ∙ a .counted in
           record {
             part = p;
             count = k;
@@ -267,36 +267,36 @@ module _ (d g b : ℕ) (s t u m n : List ℕ) (r : ℕ) (can : Readable g b s t 
           }
       go (refused k) q z i = let o : Small k = rw q at z in absurd (omega (arith, i .0))
 
-  pub first-refused : (a : ℕ) (xs : List ℕ) (c : Command) → b ≡ a + width c → rowUnit ≤ r → Done g a t u m n (pairRead (read d g) c a xs s) r
+  pub first-refused : (a : ℕ) (xs : List ℕ) (c : Command) → b ≡ a + headLength c → rowUnit ≤ r → Done g a t u m n (pairRead (read d g) c a xs s) r
   first-refused a xs c e large = go (read d g b s) refl h
     where
       go : (y : Read) → read d g b s ≡ y → Done g b t u m n y r → Done g a t u m n (pairRead (read d g) c a xs s) r
       go (accepted p k) q i = absurd (omega (arith, count-within d g b s p k q, i .0, can .fits))
       go (refused k) q i =
-          let q' : read d g (a + width c) s ≡ refused k = rw e at q in
+          let q' : read d g (a + headLength c) s ≡ refused k = rw e at q in
           done-refused g a t u m n (pairRead (read d g) c a xs s) k r (rw q') (i .0)
 
   -- the entry o is written at offset a, and z is the answer for the second part, of the bytes l
-  pub both : (a : ℕ) (xs : List ℕ) (c : Command) → b ≡ a + width c → partCount c ≡ 2 → Firsts d g b s t u m n r → a < length u → (o : ℕ)
-      → o ≡ entry r (countIn n) → (l : List ℕ) → l ≡ drop (r - b) s → (v j : List ℕ) (z : ℕ)
+  pub both : (a : ℕ) (xs : List ℕ) (c : Command) → b ≡ a + headLength c → partCount c ≡ 2 → Firsts d g b s t u m n r → a < length u → (o : ℕ)
+      → o ≡ entry r (pausesCounted n) → (l : List ℕ) → l ≡ drop (r - b) s → (v j : List ℕ) (z : ℕ)
       → Done g r (set u a o) v n j (read d g r l) z → Done g a t v m j (pairRead (read d g) c a xs s) z
   both a xs c e two f inside o w l here v j z i =
       let k = f .count in
-      let q : read d g (a + width c) s ≡ accepted (f .part) k = rw e at (f .reads) in
-      let place : r ≡ a + (width c + k) = omega (arith, f .place) in
+      let q : read d g (a + headLength c) s ≡ accepted (f .part) k = rw e at (f .reads) in
+      let place : r ≡ a + (headLength c + k) = omega (arith, f .place) in
       let gone : r - b ≡ k = omega (arith, f .place) in
-      let same : read d g r l ≡ read d g (a + (width c + k)) (drop k s) = rw (here, gone, place) in
-      let fore : Entered t u (countIn m) (a + width c) k (f .part) = rw e at (f .entered) in
-      let noted : o ≡ entry r (middle (countIn m) (f .part)) = w ∙ ap (entry r) (f .counted) in
-      rw q (go fore place noted (read d g (a + (width c + k)) (drop k s)) (rw same at i))
+      let same : read d g r l ≡ read d g (a + (headLength c + k)) (drop k s) = rw (here, gone, place) in
+      let fore : Entered t u (pausesCounted m) (a + headLength c) k (f .part) = rw e at (f .entered) in
+      let noted : o ≡ entry r (middle (pausesCounted m) (f .part)) = w ∙ ap (entry r) (f .counted) in
+      rw q (go fore place noted (read d g (a + (headLength c + k)) (drop k s)) (rw same at i))
     where
-      go : Entered t u (countIn m) (a + width c) (f .count) (f .part) → r ≡ a + (width c + f .count) → o ≡ entry r (middle (countIn m) (f .part)) → (y : Read)
-          → Done g r (set u a o) v n j y z → Done g a t v m j (lastPart (λ q. build c a xs (f .part) q) (width c + f .count) y) z
+      go : Entered t u (pausesCounted m) (a + headLength c) (f .count) (f .part) → r ≡ a + (headLength c + f .count) → o ≡ entry r (middle (pausesCounted m) (f .part)) → (y : Read)
+          → Done g r (set u a o) v n j y z → Done g a t v m j (lastPart (λ q. build c a xs (f .part) q) (headLength c + f .count) y) z
       go fore place noted (accepted p k) i =
-          let back : Entered (set u a o) v (middle (countIn m) (f .part)) r k p = rw (f .counted) at (i .1 .0) in (
+          let back : Entered (set u a o) v (middle (pausesCounted m) (f .part)) r k p = rw (f .counted) at (i .1 .0) in (
             omega (arith, i .0),
             (
-              entered-two t u v (countIn m) a xs r o c (f .part) p (f .count) k two (f .sized) place noted inside fore back,
+              entered-two t u v (pausesCounted m) a xs r o c (f .part) p (f .count) k two (f .sized) place noted inside fore back,
               i .1 .1 ∙ ap (noteWithin (maxSignals - g) p) (f .notes) ∙ sym (note-two (maxSignals - g) a xs m c two (f .part) p),
             ),
           )

@@ -9,7 +9,7 @@ use lib.ListN.{getD, length, take, drop}
 use Rattle.esterel.specs.Statement.{Statement, nothing, pause, emit, exit, seq, par, loop, present, signal, try, setpause, suspend, held}
 use Rattle.esterel.specs.Ranks.{middle}
 use Rattle.limits.specs.Limits.{maxBytes}
-use Rattle.sequence.specs.Commands.{Command, commandOf, operandsOf, partCount, inRange, litresFit, width, build}
+use Rattle.sequence.specs.Commands.{Command, commandOf, operandsOf, partCount, inRange, litresFit, headLength, build}
 use Rattle.sequence.specs.Writer.{size}
 
 -- the bytes from n on, as a part of a slice
@@ -63,12 +63,12 @@ pub record Two (L : (base a : ℕ) → List ℕ → Statement → Type 0) (t : L
 abbrev pub Parts : (L : (base a : ℕ) → List ℕ → Statement → Type 0) → (t : List ℕ) (base a : ℕ) → List ℕ → Statement → Command → ℕ → Type 0
 Parts L t base a bs p c zero = p ≡ build c a (operandsOf c bs) nothing nothing
 Parts L t base a bs p c (suc zero) =
-    (q : Statement) × ((p ≡ build c a (operandsOf c bs) q nothing) × L base (a + width c) (rest (width c) bs) q)
+    (q : Statement) × ((p ≡ build c a (operandsOf c bs) q nothing) × L base (a + headLength c) (rest (headLength c) bs) q)
 Parts L t base a bs p c (suc (suc n)) =
-    (q r : Statement) × ((p ≡ build c a (operandsOf c bs) q r) × Two L t base a (width c) bs q r)
+    (q r : Statement) × ((p ≡ build c a (operandsOf c bs) q r) × Two L t base a (headLength c) bs q r)
 
 pub record Begins (L : (base a : ℕ) → List ℕ → Statement → Type 0) (t : List ℕ) (base a : ℕ) (bs : List ℕ) (p : Statement) (c : Command) : Type 0 where
-  pub there : width c ≤ length bs
+  pub there : headLength c ≤ length bs
   pub ranged : inRange c (operandsOf c bs) ≡ true
   pub fit : litresFit c (operandsOf c bs) ≡ true
   pub parts : Parts L t base a bs p c (partCount c)

@@ -11,7 +11,7 @@ use Rattle.esterel.specs.Sets.{member, only, join, empty}
 use Rattle.esterel.specs.Statement.{Value, pure, litres, Statement, nothing, pause, emit, exit, seq, par, loop, present, signal, try, setpause, suspend, held}
 use Rattle.esterel.specs.LabelTests.{pauses, setpauses, distinct}
 use Rattle.esterel.specs.Ranks.{rank}
-use Rattle.esterel.specs.Ceiling.{nesting}
+use Rattle.esterel.specs.Ceiling.{signalNesting}
 use Rattle.limits.specs.Limits.{labelCount, wordLabels}
 use Rattle.sets.specs.Sets.{setAt}
 use Rattle.farms.specs.Farms.{farmsOf}
@@ -27,8 +27,8 @@ setpausesIn notes = setAt 2 notes
 abbrev pub twiceIn : List ℕ → ℕ
 twiceIn notes = getD notes 4 0
 
-abbrev pub countIn : List ℕ → ℕ
-countIn notes = getD notes 5 0
+abbrev pub pausesCounted : List ℕ → ℕ
+pausesCounted notes = getD notes 5 0
 
 -- the most signal commands around a command
 abbrev pub mostIn : List ℕ → ℕ
@@ -58,7 +58,7 @@ inWord l = only (l % wordLabels)
 unfoldable pub notePause : (l : ℕ) → List ℕ → List ℕ
 notePause l notes =
     set (set (set (set notes 4 (join (twiceIn notes) (bitAnd (wordAt 0 l notes) (inWord l))))
-    (0 + l / wordLabels) (join (wordAt 0 l notes) (inWord l))) (8 + l) (countIn notes)) 5 (countIn notes + 1)
+    (0 + l / wordLabels) (join (wordAt 0 l notes) (inWord l))) (8 + l) (pausesCounted notes)) 5 (pausesCounted notes + 1)
 
 unfoldable pub noteSetpause : (l : ℕ) → List ℕ → List ℕ
 noteSetpause l notes = set notes (2 + l / wordLabels) (join (wordAt 2 l notes) (inWord l))
@@ -100,5 +100,5 @@ pub record Noted (p : Statement) (notes : List ℕ) : Type 0 where
   pub targeting : setpausesIn notes ≡ setpauses p
   pub once : empty (twiceIn notes) ≡ distinct p
   pub ranked : distinct p ≡ true → (l : ℕ) → member l (pauses p) ≡ true → rankIn notes l ≡ rank 0 p l
-  pub most : mostIn notes ≡ nesting p
+  pub most : mostIn notes ≡ signalNesting p
   pub named : farmsIn notes ≡ farmsOf p

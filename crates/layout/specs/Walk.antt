@@ -7,10 +7,10 @@ use mathlib.Core.List.{List}
 use lib.ListN.{getD, length, drop}
 use Rattle.esterel.specs.Statement.{Statement, nothing}
 use Rattle.limits.specs.Limits.{labelCount, signalCount, maxBytes, maxSignals}
-use Rattle.sequence.specs.Commands.{Command, commandOf, partCount, firstOperand, width, build}
+use Rattle.sequence.specs.Commands.{Command, commandOf, partCount, firstOperand, headLength, build}
 use Rattle.sequence.specs.Reader.{Read, accepted, refused, Front, command, bad, lastPart, firstPart, read}
 use Rattle.layout.specs.Layout.{Marked}
-use Rattle.layout.specs.Notes.{countIn, noteCount, noteWithin}
+use Rattle.layout.specs.Notes.{pausesCounted, noteCount, noteWithin}
 
 -- ---- one number for an answer: so many rowUnits for a row, else an offset
 abbrev pub rowUnit : ℕ
@@ -18,7 +18,7 @@ rowUnit = 1048576
 
 -- the bytes of the command itself
 abbrev pub headOf : Front → ℕ
-headOf (command c xs) = width c
+headOf (command c xs) = headLength c
 headOf (bad number) = number * rowUnit
 
 -- the offset behind the statement that was read at offset a
@@ -31,7 +31,7 @@ packed a (refused number) = number * rowUnit
 -- allowed than in the whole sequence
 pub record Readable (signals a : ℕ) (bs t m : List ℕ) : Type 0 where
   pub fits : a + length bs ≤ maxBytes
-  pub counted : countIn m ≤ a
+  pub counted : pausesCounted m ≤ a
   pub long : length t ≡ maxBytes
   pub noted : length m ≡ noteCount
   pub allowed : signals ≤ maxSignals
@@ -41,7 +41,7 @@ pub record Notable (b x : ℕ) (m : List ℕ) : Type 0 where
   pub pausing : b ≡ 1 → x < labelCount
   pub targeting : b ≡ 10 → x < labelCount
   pub naming : b ≡ 12 → x < signalCount
-  pub few : countIn m < maxBytes
+  pub few : pausesCounted m < maxBytes
 
 -- what a command without parts notes, by its byte and its first operand byte
 abbrev pub LeafNoted : (b x : ℕ) (m n : List ℕ) → Type 0
@@ -58,7 +58,7 @@ pub record Entered (t u : List ℕ) (base a k : ℕ) (p : Statement) : Type 0 wh
 
 -- after a refusal nothing is promised of the table and the notes
 abbrev pub Filled : (signals a : ℕ) → (t u m n : List ℕ) → Read → Type 0
-Filled signals a t u m n (accepted p k) = Entered t u (countIn m) a k p × (n ≡ noteWithin (maxSignals - signals) p m)
+Filled signals a t u m n (accepted p k) = Entered t u (pausesCounted m) a k p × (n ≡ noteWithin (maxSignals - signals) p m)
 Filled signals a t u m n (refused number) = Unit {0}
 
 -- the answer r for what was read at offset a, with so many signals allowed
@@ -69,7 +69,7 @@ Done signals a t u m n y r = (r ≡ packed a y) × Filled signals a t u m n y
 -- the bytes from offset a on lie within the limit, and no more than a pauses came before
 pub record Fitting (a : ℕ) (bs m : List ℕ) : Type 0 where
   pub fits : a + length bs ≤ maxBytes
-  pub counted : countIn m ≤ a
+  pub counted : pausesCounted m ≤ a
 
 -- the answer r for the command at their front, however many signals are allowed: the table stays
 abbrev pub LeafRead : (depth a : ℕ) → (bs m n : List ℕ) → ℕ → Type 0
@@ -83,4 +83,4 @@ Ahead depth a bs m n r = (r ≡ 0 → n ≡ m) × ((r ≡ 0 → ⊥) → LeafRea
 -- the two parts of the command c at offset a with operands xs, by a reader r of parts; bs is behind the command
 abbrev pub pairRead : (ℕ → List ℕ → Read) → Command → (a : ℕ) (xs : List ℕ) → List ℕ → Read
 pairRead r c a xs bs =
-    firstPart (λ p k. lastPart (λ q. build c a xs p q) (width c + k) (r (a + (width c + k)) (drop k bs))) (r (a + width c) bs)
+    firstPart (λ p k. lastPart (λ q. build c a xs p q) (headLength c + k) (r (a + (headLength c + k)) (drop k bs))) (r (a + headLength c) bs)

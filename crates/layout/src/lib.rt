@@ -4,6 +4,6 @@ pub const ROW_UNIT: usize = 1048576;
 
 // The table of second parts: at the offset of a command of two parts, where its second part begins and, times BEFORE_UNIT, how many
 // pauses stand before that.
-pub type Seconds = [u32; limits::MAX_BYTES];
+pub type SecondParts = [u32; limits::MAX_BYTES];
 
 pub const BEFORE_UNIT: u32 = 2048;

@@ -56,12 +56,12 @@ placeBytes = 2
 abbrev pub signalBytes : ℕ
 signalBytes = 4
 
-abbrev pub takenBytes : ℕ
-takenBytes = 4
+abbrev pub reactionsBytes : ℕ
+reactionsBytes = 4
 
 -- how many numbers those hold
-abbrev pub takenCount : ℕ
-takenCount = 256 ^ takenBytes
+abbrev pub reactionsCount : ℕ
+reactionsCount = 256 ^ reactionsBytes
 
 -- ---- 02, item 9: how many positions a bay keeps, and the bytes of a position's name
 abbrev pub maxPositions : ℕ

@@ -42,9 +42,9 @@ pub const PLACE_BYTES: usize = 2;
 
 pub const SIGNAL_BYTES: usize = 4;
 
-pub const TAKEN_BYTES: usize = 4;
+pub const REACTIONS_BYTES: usize = 4;
 
-pub const TAKEN_COUNT: u64 = 4294967296;
+pub const REACTIONS_COUNT: u64 = 4294967296;
 
 // A bay keeps so many positions; the bytes of a position's name (02, item 9).
 pub const MAX_POSITIONS: usize = 16;

@@ -6,10 +6,10 @@ use mathlib.Core.List.{List, _++_, append-nil}
 use lib.ListN.{length, drop, drop-of-length-le}
 use Rattle.text.specs.Buffer.{Prepended}
 use Rattle.lines.specs.declared.Line.{Line}
-use Rattle.lines.specs.Shown.{lineLength, Shows}
+use Rattle.lines.specs.Shown.{lineLength, Displays}
 
 pub shown : {l text : List ℕ} (line : Line) → length l ≡ lineLength → length (line .bytes) ≡ length l
-    → Prepended l lineLength text (line .bytes) (line .from) → Shows line text
+    → Prepended l lineLength text (line .bytes) (line .from) → Displays line text
 shown {l} {text} line n k p =
     let t : drop (line .from) (line .bytes) ≡ text
     = p .shows ∙ ap (λ (r : List ℕ). text ++ r) (drop-of-length-le l {i = lineLength} (omega (arith, n))) ∙ append-nil text in

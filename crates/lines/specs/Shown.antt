@@ -14,7 +14,7 @@ abbrev pub mostWords : ℕ
 mostWords = 139
 
 -- the line has the text
-pub record Shows (line : Line) (text : List ℕ) : Type 0 where
+pub record Displays (line : Line) (text : List ℕ) : Type 0 where
   pub told : drop (line .from) (line .bytes) ≡ text
   pub within : line .from ≤ lineLength
   pub sized : length (line .bytes) ≡ lineLength

@@ -4,7 +4,7 @@ ghost use mathlib.Core.List.{[], _∷_, _++_};
 ghost use lib.ListN.{length};
 ghost use Rattle.runs.specs.Text.{numeral, newline, inputCut};
 ghost use Rattle.runs.specs.Text.{heading as Text·heading, ending as Text·ending, refusal as Text·refusal};
-ghost use Rattle.lines.specs.Shown.{lineLength, mostWords, Shows};
+ghost use Rattle.lines.specs.Shown.{lineLength, mostWords, Displays};
 
 // The bytes of a line's buffer.
 pub const LINE_LENGTH: usize = 160;
@@ -18,7 +18,7 @@ pub struct Line {
 // A line of some words and a decimal number.
 pub fn numbered(words: &[u8], number: u64) -> Line
     requires { ⌜ length (now words) ≤ mostWords ⌝ }
-    ensures { λ r. ⌜ Shows r (now (words .entry) ++ (numeral 10 1 number ++ newline ∷ [])) ⌝ }
+    ensures { λ r. ⌜ Displays r (now (words .entry) ++ (numeral 10 1 number ++ newline ∷ [])) ⌝ }
 {
     let mut bytes = [0u8; LINE_LENGTH];
     let at = text::put_field(&mut bytes, LINE_LENGTH, 10, 1, number, b'\n');
@@ -31,35 +31,35 @@ pub fn numbered(words: &[u8], number: u64) -> Line
 
 // The line for a sequence that the check turns down.
 pub fn refusal(number: u8) -> Line
-    ensures { λ r. ⌜ Shows r (Text·refusal number) ⌝ }
+    ensures { λ r. ⌜ Displays r (Text·refusal number) ⌝ }
 {
     numbered(b"refused ", number as u64)
 }
 
 // The line for a file that is not whole.
 pub fn cut() -> Line
-    ensures { λ r. ⌜ Shows r inputCut ⌝ }
+    ensures { λ r. ⌜ Displays r inputCut ⌝ }
 {
     fixed(b"input cut\n")
 }
 
 // The first line of a run.
 pub fn heading() -> Line
-    ensures { λ r. ⌜ Shows r Text·heading ⌝ }
+    ensures { λ r. ⌜ Displays r Text·heading ⌝ }
 {
     fixed(b"instant code kind place emitted labels\n")
 }
 
 // The last line of a run.
 pub fn ending() -> Line
-    ensures { λ r. ⌜ Shows r Text·ending ⌝ }
+    ensures { λ r. ⌜ Displays r Text·ending ⌝ }
 {
     fixed(b"end\n")
 }
 
 // No line: an empty text.
 pub fn nothing() -> Line
-    ensures { λ r. ⌜ Shows r [] ⌝ }
+    ensures { λ r. ⌜ Displays r [] ⌝ }
 {
     Line {
         bytes: [0; LINE_LENGTH],
@@ -70,7 +70,7 @@ pub fn nothing() -> Line
 // A line that never changes.
 fn fixed(words: &[u8]) -> Line
     requires { ⌜ length (now words) ≤ lineLength ⌝ }
-    ensures { λ r. ⌜ Shows r (now (words .entry)) ⌝ }
+    ensures { λ r. ⌜ Displays r (now (words .entry)) ⌝ }
 {
     let mut bytes = [0u8; LINE_LENGTH];
     let from = text::put_text(&mut bytes, LINE_LENGTH, words);

@@ -6,7 +6,7 @@ ghost use Rattle.runs.specs.Text.{heading as Text·heading};
 ghost use Rattle.runs.specs.File.{fileOf, sequenceIn, readBackIn, inputsIn};
 ghost use Rattle.runs.specs.Stages.{running, finished, opened, turnOf};
 ghost use Rattle.runs.specs.Stages.{turn as Stages·turn};
-ghost use Rattle.lines.specs.Shown.{Shows};
+ghost use Rattle.lines.specs.Shown.{Displays};
 ghost use Rattle.stages.specs.Answers.{stageIn};
 ghost use Rattle.pieces.specs.Answers.{turnAt, Prints};
 use files::Input;
@@ -35,7 +35,7 @@ pub fn turn(file: &[u8], run: Run) -> Piece
 
 // The last piece of a listing.
 fn last(line: Line) -> Piece
-    ensures { λ r. ⌜ ((file text : List ℕ) → Shows line text → Prints file (Stages·turn text finished) r) ⌝ }
+    ensures { λ r. ⌜ ((file text : List ℕ) → Displays line text → Prints file (Stages·turn text finished) r) ⌝ }
 {
     let run = Run {
         stage: Stage::Finished,

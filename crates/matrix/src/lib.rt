@@ -8,10 +8,10 @@ use labels::Labels;
 // Two words for each label.
 pub const LENGTH: usize = 2 * limits::LABEL_COUNT;
 
-pub type Rows = [u64; LENGTH];
+pub type Matrix = [u64; LENGTH];
 
 // Adds the labels of s to the row of k; a label outside the width has no row.
-pub fn add_row(rows: &mut Rows, k: u8, s: Labels)
+pub fn add_row(rows: &mut Matrix, k: u8, s: Labels)
     ensures { λ _. ⌜ Updates (addRowBelow labelCount k (labelSet s)) (now (rows .entry)) (now (rows .exit)) ⌝ }
 {
     if k < limits::LABELS {
@@ -22,7 +22,7 @@ pub fn add_row(rows: &mut Rows, k: u8, s: Labels)
     }
 }
 
-pub fn row(rows: &Rows, k: u8) -> Labels
+pub fn row(rows: &Matrix, k: u8) -> Labels
     ensures { λ r. ⌜ labelSet r ≡ rowOf (now (rows .entry)) k ⌝ }
 {
     if k < limits::LABELS {

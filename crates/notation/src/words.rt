@@ -9,24 +9,24 @@ use crate::digits::number;
 pub const NONE: u64 = 0x100000000;
 
 // The number that a word is, and where the word ends.
-pub struct Found {
+pub struct Parsed {
     pub value: u64,
     pub end: usize,
 }
 
 // The number to the base 16 whose word begins at `at`.
-pub fn word(line: &[u8], at: usize) -> Found
+pub fn word(line: &[u8], at: usize) -> Parsed
     ensures { λ r. ⌜ (r .value ≡ wordValue (now (line .entry)) at) × (r .end ≡ wordEnd (now (line .entry)) at) ⌝ }
     ensures { λ r. ⌜ (min (at + 1) (length (now (line .entry))) ≤ r .end) × (r .end ≤ length (now (line .entry))) ⌝ }
 {
     if line.len() <= at {
-        return Found {
+        return Parsed {
             value: NONE,
             end: line.len(),
         };
     }
     let end = bytes::scan::find(line, at + 1, line.len(), b' ');
-    Found {
+    Parsed {
         value: number(line, at, end, 16),
         end: end,
     }

@@ -6,7 +6,7 @@ ghost use lib.Dec.{ltb};
 ghost use Rattle.esterel.specs.Sets.{empty};
 ghost use Rattle.labels.specs.Labels.{labelSet};
 ghost use Rattle.limits.specs.Limits.{labelCount, signalCount, maxBytes, maxSignals};
-ghost use Rattle.layout.specs.Notes.{pausesIn, setpausesIn, twiceIn, countIn, mostIn, farmsIn, rankIn, notePause, noteSetpause, noteFarm, noteSignals};
+ghost use Rattle.layout.specs.Notes.{pausesIn, setpausesIn, twiceIn, pausesCounted, mostIn, farmsIn, rankIn, notePause, noteSetpause, noteFarm, noteSignals};
 ghost use Rattle.layout.specs.Walk.{Notable, LeafNoted};
 use limits::WORD_LABELS;
 
@@ -32,7 +32,7 @@ const RANKS: usize = 8;
 
 // A pause with label l was read.
 fn note_pause(l: u8, notes: &mut Notes)
-    requires { ⌜ (l < labelCount) × (countIn (now notes) < maxBytes) ⌝ }
+    requires { ⌜ (l < labelCount) × (pausesCounted (now notes) < maxBytes) ⌝ }
     ensures { λ _. ⌜ now (notes .exit) ≡ notePause l (now (notes .entry)) ⌝ }
 {
     let word = PAUSES + (l / WORD_LABELS) as usize;
@@ -115,7 +115,7 @@ pub fn is_distinct(notes: &Notes) -> bool
 }
 
 pub fn count(notes: &Notes) -> u64
-    ensures { λ r. ⌜ r ≡ countIn (now (notes .entry)) ⌝ }
+    ensures { λ r. ⌜ r ≡ pausesCounted (now (notes .entry)) ⌝ }
 {
     notes[COUNT]
 }

@@ -10,17 +10,17 @@ use lib.Dec.{eqb}
 use Rattle.demands.specs.Tick.{Outcome, outcome}
 use Rattle.demands.specs.Demands.{stateAfterwards}
 use Rattle.runs.specs.File.{sequenceIn, readBackIn, inputsIn, first}
-use Rattle.runs.specs.Listing.{lineOf, rowIn, rowOf, ticked, isOver}
+use Rattle.runs.specs.Listing.{lineOf, entryRead, entryFrom, ticked, isOver}
 use Rattle.runs.specs.Stages as Listing
 use Rattle.runs.proofs.Files.{input-next}
 use Rattle.stages.specs.declared.Stage.the-variants as stages
 use Rattle.stages.specs.Answers.{stageBy, stageIn, stageAfter}
 use Rattle.pieces.specs.declared.Piece.{Piece}
-use Rattle.lines.specs.Shown.{Shows}
+use Rattle.lines.specs.Shown.{Displays}
 use Rattle.pieces.specs.Answers.{Prints}
 
 -- a line with the text, and a run at the next stage
-pub printed : {text : List ℕ} (file : List ℕ) (piece : Piece) (next : Listing.Stage) → Shows (piece .line) text → stageIn file (piece .run) ≡ next
+pub printed : {text : List ℕ} (file : List ℕ) (piece : Piece) (next : Listing.Stage) → Displays (piece .line) text → stageIn file (piece .run) ≡ next
     → Prints file (Listing.turn text next) piece
 printed file piece next s e = record { result = ap₂ Listing.turn (s .told) e; within = s .within; sized = s .sized }
 
@@ -33,12 +33,12 @@ stage-after false file after i = refl
 
 turn-on : (s : List ℕ) (b : ℕ) (state : List ℕ) (j e : ℕ) (es : List ℕ) (o : Outcome) → o ≡ ticked s b state e
     → Listing.turnOf (Listing.running s b state j (e ∷ es))
-    ≡ Listing.turn (lineOf (rowOf j o)) (cond (isOver (stateAfterwards o)) Listing.closing (Listing.running s b (stateAfterwards o) (suc j) es))
+    ≡ Listing.turn (lineOf (entryFrom j o)) (cond (isOver (stateAfterwards o)) Listing.closing (Listing.running s b (stateAfterwards o) (suc j) es))
 unfolding Listing.turnOf
 turn-on s b state j e es o h =
     ap
     (λ (r : Outcome).
-    Listing.turn (lineOf (rowOf j r)) (cond (isOver (stateAfterwards r)) Listing.closing (Listing.running s b (stateAfterwards r) (suc j) es)))
+    Listing.turn (lineOf (entryFrom j r)) (cond (isOver (stateAfterwards r)) Listing.closing (Listing.running s b (stateAfterwards r) (suc j) es)))
     (sym h)
 
 -- the tick of a sequence and a read-back set that are the file's
@@ -48,11 +48,11 @@ ticked-at state e h k l = h ∙ ap₂ (λ (x : List ℕ) (y : ℕ). ticked x y s
 
 pub instant-turn : (file state after answer : List ℕ) (i e n : ℕ) → first (drop i (inputsIn file)) ≡ some e
     → outcome n after answer ≡ ticked (sequenceIn file) (readBackIn file) state e
-    → Listing.turn (lineOf (rowIn (i + 1) after answer)) (stageBy file (stageAfter (getD after 0 0) (i + 1)) after)
+    → Listing.turn (lineOf (entryRead (i + 1) after answer)) (stageBy file (stageAfter (getD after 0 0) (i + 1)) after)
     ≡ Listing.turnOf (Listing.running (sequenceIn file) (readBackIn file) state (suc i) (drop i (inputsIn file)))
 instant-turn file state after answer i e n h o =
     let b : Bool = eqb (getD after 0 0) 2 in
-    ap₂ Listing.turn (ap (λ (j : ℕ). lineOf (rowIn j after answer)) (add-one i))
+    ap₂ Listing.turn (ap (λ (j : ℕ). lineOf (entryRead j after answer)) (add-one i))
     (ap (λ (j : ℕ). stageBy file (cond b stages.Closing (stages.Running j)) after) (add-one i) ∙ sym (stage-after b file after i))
     ∙ sym
     (ap (λ (es : List ℕ). Listing.turnOf (Listing.running (sequenceIn file) (readBackIn file) state (suc i) es)) (input-next i e (inputsIn file) h)

@@ -8,15 +8,15 @@ use lib.ListN.{length}
 use borrow.Author.Tests.{le-leb, lt-leb}
 use Rattle.limits.specs.Limits.{signalCount, noFarm}
 use Rattle.esterel.specs.ReadBack.{membersFrom}
-use Rattle.esterel.specs.Resume.{startTree, instantOf}
+use Rattle.esterel.specs.Resume.{startTraced, instantOf}
 use Rattle.sets.specs.Sets.{difference}
 use Rattle.sequence.specs.Program.{program}
 use Rattle.sequence.specs.Check.{checkOf}
 use Rattle.checks.specs.Verdict.{Passed}
 use Rattle.checks.proofs.Passing.{as-ready}
 use Rattle.labels.specs.declared.Labels.{Labels}
-use Rattle.program.specs.declared.Position.{Position}
-use Rattle.program.specs.declared.Position.the-variants.{Fresh, Waiting}
+use Rattle.program.specs.declared.Start.{Start}
+use Rattle.program.specs.declared.Start.the-variants.{Fresh, Waiting}
 use Rattle.program.specs.Program.{termAt}
 use Rattle.reaction.specs.Reactions.{reactionOf}
 use Rattle.writing.specs.Written.{writtenFrom}
@@ -32,7 +32,7 @@ use Rattle.previews.specs.Standing.{answersAt, Stands}
 use Rattle.fillings.proofs.Numbers as numbers
 use Rattle.fillings.proofs.Numbers.{written-answer, refused-preview}
 
--- ---- from a position
+-- ---- from a origin
 module _ (answers : ℕ → List ℕ) (input unknown : ℕ) (buffer : List ℕ) (n : ℕ) (h : n ≡ length (membersFrom signalCount 0 unknown)) where
   pub too-many : maxUnknown < n → previewed 17 buffer ≡ shownBy answers input unknown buffer
   too-many l = rw (lt-leb (length (membersFrom signalCount 0 unknown)) maxUnknown (omega arith))
@@ -42,10 +42,10 @@ module _ (answers : ℕ → List ℕ) (input unknown : ℕ) (buffer : List ℕ) 
   shown-bytes l x b e w =
       rw (le-leb (length (membersFrom signalCount 0 unknown)) maxUnknown (omega arith)) (ap (previewed 0) (w ∙ ap previewBytes e))
 
--- ---- from a position, whatever the input, the machine reacts
+-- ---- from a origin, whatever the input, the machine reacts
 module _ (sequence state : List ℕ) (readBack : ℕ) {second notes : List ℕ} (a : Passed sequence readBack second notes) where
-  abbrev pub Reacts : Position → Type 0
-  Reacts position = (e : ℕ) → Replies sequence state e readBack (Reacted (reactionOf (startTree noFarm (program readBack (termAt position (a .p))) e)))
+  abbrev pub Reacts : Start → Type 0
+  Reacts origin = (e : ℕ) → Replies sequence state e readBack (Reacted (reactionOf (startTraced noFarm (program readBack (termAt origin (a .p))) e)))
 
   pub from-fresh : Decodes (a .p) state stands.Fresh → Reacts Fresh
   from-fresh d e = fresh-reply sequence state e readBack (a .p) (a .is) (a .ranged) noFarm _ d refl
@@ -53,14 +53,14 @@ module _ (sequence state : List ℕ) (readBack : ℕ) {second notes : List ℕ} 
   pub from-waiting : (m : Labels) → Decodes (a .p) state (stands.Waiting m) → Reacts (Waiting m)
   from-waiting m d e = waiting-reply sequence state e readBack (a .p) (a .is) (a .ranged) noFarm _ m d refl
 
-  pub stands-at : (position : Position) → Reacts position → Stands second sequence position readBack
-  stands-at position r = record { p = a .p; lies = a .known .lies; ready = as-ready a; writable = λ e. r e .writable }
+  pub stands-at : (origin : Start) → Reacts origin → Stands second sequence origin readBack
+  stands-at origin r = record { p = a .p; lies = a .known .lies; ready = as-ready a; writable = λ e. r e .writable }
 
-  module _ (position : Position) (r : Reacts position) (e : ℕ) where
+  module _ (origin : Start) (r : Reacts origin) (e : ℕ) where
     -- what is written from the code's instant and from the reply's is one record
-    answers-from : answersAt position (a .p) readBack e ≡ answersOf sequence state readBack e
+    answers-from : answersAt origin (a .p) readBack e ≡ answersOf sequence state readBack e
     answers-from =
-        let t = startTree noFarm (program readBack (termAt position (a .p))) e in
+        let t = startTraced noFarm (program readBack (termAt origin (a .p))) e in
         let (t′, h, k) = r e .is in
         sym (written-answer (instantOf t)) ∙ ap answerAfterwards (sym (written-from t) ∙ ap writtenFrom h ∙ written-from t′)
         ∙ written-answer (instantOf t′) ∙ sym (ap answerIn k)
@@ -87,9 +87,9 @@ module _ (sequence state : List ℕ) (input unknown readBack : ℕ) (buffer : Li
       pub over-preview : Decodes (a .p) state stands.Over → Gives (previewed 12 buffer)
       over-preview d = turned-down 12 (over-reply sequence state (difference input unknown) readBack (a .p) (a .is) (a .ranged) d)
 
-      pub shown-preview : (position : Position) → Reacts sequence state readBack a position → (o : Previewed)
-          → o ≡ shownBy (answersAt position (a .p) readBack) input unknown buffer → Gives o
-      shown-preview position r o h =
+      pub shown-preview : (origin : Start) → Reacts sequence state readBack a origin → (o : Previewed)
+          → o ≡ shownBy (answersAt origin (a .p) readBack) input unknown buffer → Gives o
+      shown-preview origin r o h =
           let (t, e, k) = r (difference input unknown) .is in
-          h ∙ ap (λ (f : ℕ → List ℕ). shownBy f input unknown buffer) (λ i e. answers-from sequence state readBack a position r e i)
+          h ∙ ap (λ (f : ℕ → List ℕ). shownBy f input unknown buffer) (λ i e. answers-from sequence state readBack a origin r e i)
           ∙ sym (numbers.shown-preview sequence state readBack input unknown buffer sized (instantOf t) k)

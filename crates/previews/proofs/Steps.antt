@@ -6,7 +6,7 @@ use mathlib.Core.List.{List}
 use Rattle.limits.specs.Limits.{signalBytes, noFarm}
 use Rattle.esterel.specs.Sets.{join}
 use Rattle.esterel.specs.Statement.{Statement}
-use Rattle.esterel.specs.Resume.{startTree, start}
+use Rattle.esterel.specs.Resume.{startTraced, start}
 use Rattle.sets.specs.Sets.{difference}
 use Rattle.sets.specs.Subsets.{nextSubset, subsetsBelow}
 use Rattle.sets.proofs.Subsets.{subsets-step, subsets-end}
@@ -21,7 +21,7 @@ use Rattle.numbers.proofs.Bytes.{le-round-trip}
 use Rattle.answers.specs.AnswerRecord.{answerRecord}
 use Rattle.demands.specs.Tick.{Outcome}
 use Rattle.demands.specs.Demands.{answerAfterwards}
-use Rattle.program.specs.declared.Position.{Position}
+use Rattle.program.specs.declared.Start.{Start}
 use Rattle.program.specs.Program.{termAt}
 use Rattle.instants.proofs.Replying.{written-from}
 use Rattle.fillings.specs.declared.Findings.{Findings}
@@ -50,14 +50,14 @@ module _ (o L m : ℕ) (h : o < 256 ^ signalBytes) where
   pub wrong-found : {c : Completion} {x : Findings} {kind place : ℕ} → c ≡ Wrong kind place → x ≡ alone 0 255 → In c x
   wrong-found {c} {x} {kind} {place} e q = subst (λ (k : Completion). In k x) (sym e) (q ∙ alone-in 255 kind place 0 m (omega arith))
 
--- a reaction of the program from a position
-pub tried-is : (position : Position) (p : Statement) (readBack e : ℕ) (r : Reaction) (x : Findings)
-    → r ≡ reactionOf (startTree noFarm (program readBack (termAt position p)) e) → x ≡ foundIn (answerAfterwards (writtenFrom r))
-    → x ≡ foundIn (answersAt position p readBack e)
-tried-is position p readBack e r x h q =
-    let t = program readBack (termAt position p) in
+-- a reaction of the program from a origin
+pub tried-is : (origin : Start) (p : Statement) (readBack e : ℕ) (r : Reaction) (x : Findings)
+    → r ≡ reactionOf (startTraced noFarm (program readBack (termAt origin p)) e) → x ≡ foundIn (answerAfterwards (writtenFrom r))
+    → x ≡ foundIn (answersAt origin p readBack e)
+tried-is origin p readBack e r x h q =
+    let t = program readBack (termAt origin p) in
     q ∙ ap (λ (w : Reaction). foundIn (answerAfterwards (writtenFrom w))) h
-    ∙ ap (λ (o : Outcome). foundIn (answerAfterwards o)) (written-from (startTree noFarm t e))
+    ∙ ap (λ (o : Outcome). foundIn (answerAfterwards o)) (written-from (startTraced noFarm t e))
     ∙ ap foundIn (written-answer (start t e))
 
 -- ---- the loop

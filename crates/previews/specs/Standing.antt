@@ -1,26 +1,26 @@
--- A preview from a position of the statement that lies in the bytes (program, specs/Program): the form for the code.
+-- A preview from a origin of the statement that lies in the bytes (program, specs/Program): the form for the code.
 use Prim.Native.Nat.{ℕ}
 use mathlib.Core.List.{List}
 use Rattle.limits.specs.Limits.{maxDepth, noFarm}
 use Rattle.esterel.specs.Statement.{Statement}
-use Rattle.esterel.specs.Resume.{start, startTree}
+use Rattle.esterel.specs.Resume.{start, startTraced}
 use Rattle.sequence.specs.Program.{program}
 use Rattle.layout.specs.Layout.{Lies, Ready}
-use Rattle.program.specs.declared.Position.{Position}
+use Rattle.program.specs.declared.Start.{Start}
 use Rattle.program.specs.Program.{termAt}
 use Rattle.reaction.specs.Reactions.{reactionOf}
 use Rattle.writing.specs.Written.{Writable}
 use Rattle.answers.specs.AnswerRecord.{encodeAnswer}
 
-abbrev pub answersAt : Position → Statement → (readBack e : ℕ) → List ℕ
-answersAt position p readBack e = encodeAnswer (start (program readBack (termAt position p)) e)
+abbrev pub answersAt : Start → Statement → (readBack e : ℕ) → List ℕ
+answersAt origin p readBack e = encodeAnswer (start (program readBack (termAt origin p)) e)
 
--- the statement can react from the position, and its instants fit the answer record
-pub record Stands (t bs : List ℕ) (position : Position) (readBack : ℕ) : Type 0 where
+-- the statement can react from the origin, and its instants fit the answer record
+pub record Stands (t bs : List ℕ) (origin : Start) (readBack : ℕ) : Type 0 where
   pub p : Statement
   pub lies : Lies t maxDepth 0 0 bs p
   pub ready : Ready t maxDepth 0 bs
-  pub writable : (e : ℕ) → Writable (reactionOf (startTree noFarm (program readBack (termAt position p)) e))
+  pub writable : (e : ℕ) → Writable (reactionOf (startTraced noFarm (program readBack (termAt origin p)) e))
 
 -- something of every statement that lies there
 abbrev pub OfEach : (t bs : List ℕ) → (Statement → Type 0) → Type 0

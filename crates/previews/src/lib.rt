@@ -10,9 +10,9 @@ ghost use Rattle.previews.specs.Standing.{answersAt, Stands, OfEach};
 use completions::Completion;
 use fillings::Findings;
 use instants::Standing;
-use layout::Seconds;
+use layout::SecondParts;
 use notes::Notes;
-use program::Position;
+use program::Start;
 use reaction::Reaction;
 
 // What one filling comes to. A wrong instant reports no signal.
@@ -30,32 +30,32 @@ fn found(r: Reaction) -> Findings
 }
 
 // The filling that makes e of the input.
-fn tried(sequence: &[u8], second: &Seconds, position: Position, e: u32, read_back: u32) -> Findings
-    requires { ⌜ Stands (now second) (now sequence) position «read_back» ⌝ }
-    ensures { λ r. ⌜ OfEach (now (second .entry)) (now (sequence .entry)) (λ p. r ≡ foundIn (answersAt position p «read_back» e)) ⌝ }
+fn tried(sequence: &[u8], second: &SecondParts, origin: Start, e: u32, read_back: u32) -> Findings
+    requires { ⌜ Stands (now second) (now sequence) origin «read_back» ⌝ }
+    ensures { λ r. ⌜ OfEach (now (second .entry)) (now (sequence .entry)) (λ p. r ≡ foundIn (answersAt origin p «read_back» e)) ⌝ }
 {
-    found(program::react(sequence, position, e, read_back, limits::NO_FARM, second))
+    found(program::react(sequence, origin, e, read_back, limits::NO_FARM, second))
 }
 
 // Every filling, from the greatest down.
 fn gather(
     sequence: &[u8],
-    second: &Seconds,
-    position: Position,
+    second: &SecondParts,
+    origin: Start,
     input: u32,
     unknown: u32,
     read_back: u32,
 ) -> Findings
-    requires { ⌜ Stands (now second) (now sequence) position «read_back» ⌝ }
+    requires { ⌜ Stands (now second) (now sequence) origin «read_back» ⌝ }
     ensures { λ r. ⌜ OfEach (now (second .entry)) (now (sequence .entry))
-        (λ p. r ≡ findings (answersAt position p «read_back») input unknown) ⌝ }
+        (λ p. r ≡ findings (answersAt origin p «read_back») input unknown) ⌝ }
 {
     let known = signals::difference(input, unknown);
     let mut filling = unknown;
     let mut sum = tried(
         sequence,
         second,
-        position,
+        origin,
         signals::union(known, filling),
         read_back,
     );
@@ -64,7 +64,7 @@ fn gather(
         let one = tried(
             sequence,
             second,
-            position,
+            origin,
             signals::union(known, filling),
             read_back,
         );
@@ -73,26 +73,26 @@ fn gather(
     sum
 }
 
-// The preview from a position: 0, or 17 for a seventh unknown.
+// The preview from a origin: 0, or 17 for a seventh unknown.
 fn show(
     sequence: &[u8],
-    second: &Seconds,
-    position: Position,
+    second: &SecondParts,
+    origin: Start,
     input: u32,
     unknown: u32,
     read_back: u32,
     buffer: &mut [u8],
 ) -> u8
-    requires { ⌜ Stands (now second) (now sequence) position «read_back» × (length (now buffer) ≡ previewLength) ⌝ }
+    requires { ⌜ Stands (now second) (now sequence) origin «read_back» × (length (now buffer) ≡ previewLength) ⌝ }
     ensures { λ r. ⌜ OfEach (now (second .entry)) (now (sequence .entry))
-        (λ p. previewed r (now (buffer .exit)) ≡ shownBy (answersAt position p «read_back») input unknown (now (buffer .entry))) ⌝ }
+        (λ p. previewed r (now (buffer .exit)) ≡ shownBy (answersAt origin p «read_back») input unknown (now (buffer .entry))) ⌝ }
 {
     if fillings::MAX_UNKNOWN < signals::size(unknown) {
         return 17;
     }
     fillings::write(
         buffer,
-        gather(sequence, second, position, input, unknown, read_back),
+        gather(sequence, second, origin, input, unknown, read_back),
     );
     0
 }
@@ -112,7 +112,7 @@ pub fn preview(
     if buffer.len() != fillings::PREVIEW_LENGTH {
         return 1;
     }
-    let mut second: Seconds = [0; limits::MAX_BYTES];
+    let mut second: SecondParts = [0; limits::MAX_BYTES];
     let mut notes: Notes = [0; notes::LENGTH];
     let number = checks::verdict::check(sequence, read_back, &mut second, &mut notes);
     if number != 0 {
@@ -124,7 +124,7 @@ pub fn preview(
         Standing::Fresh => show(
             sequence,
             &second,
-            Position::Fresh,
+            Start::Fresh,
             input,
             unknown,
             read_back,
@@ -133,7 +133,7 @@ pub fn preview(
         Standing::Waiting(active) => show(
             sequence,
             &second,
-            Position::Waiting(active),
+            Start::Waiting(active),
             input,
             unknown,
             read_back,

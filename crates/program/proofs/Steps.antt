@@ -10,7 +10,7 @@ use Rattle.limits.specs.Limits.{signalCount, readBackPlace}
 use Rattle.sets.specs.Sets.{insertBelow, Lowest}
 use Rattle.esterel.specs.Sets.{member, none, empty, remove}
 use Rattle.esterel.specs.Statement.{Statement, reported, signal}
-use Rattle.esterel.specs.Resume.{startTree, signalTree, signalOnce}
+use Rattle.esterel.specs.Resume.{startTraced, signalTraced, signalOnce}
 use Rattle.esterel.specs.ReadBack.{membersFrom, declaredBy, declared}
 use Rattle.theory.proofs.Booleans.{clash}
 use Rattle.theory.proofs.Sets.{member-high}
@@ -25,8 +25,8 @@ unfolding declaredBy
 none-declared readBack t z =
     ap (λ (ss : List ℕ). declared readBackPlace ss t) (ap (membersFrom signalCount 0) (eqb-true readBack none z) ∙ members-none signalCount 0)
 
-pub none-left : (f readBack : ℕ) (t : Statement) (e : ℕ) {r : Reaction} → empty readBack ≡ true → r ≡ reactionOf (startTree f t e)
-    → r ≡ reactionOf (startTree f (program readBack t) e)
+pub none-left : (f readBack : ℕ) (t : Statement) (e : ℕ) {r : Reaction} → empty readBack ≡ true → r ≡ reactionOf (startTraced f t e)
+    → r ≡ reactionOf (startTraced f (program readBack t) e)
 none-left f readBack t e z = here f t (program readBack t) e (none-declared readBack t z)
 
 module _ (readBack x : ℕ) (fits : readBack < 2 ^ signalCount) (some : empty readBack ≡ false) (low : Lowest signalCount readBack x) where
@@ -48,16 +48,16 @@ module _ (readBack x : ℕ) (fits : readBack < 2 ^ signalCount) (some : empty re
   declared-first t = ap (λ (ss : List ℕ). declared readBackPlace ss t) first
 
   module _ (f : ℕ) (t : Statement) (e : ℕ) {o e− : ℕ} {p r : Reaction} (ho : o ≡ remove x readBack) (less : e− ≡ remove x e)
-      (p-is : p ≡ reactionOf (startTree f (program o t) e−)) where
-    pub one-more : {q : Reaction} {e+ : ℕ} → e+ ≡ insertBelow signalCount x e → q ≡ reactionOf (startTree f (program o t) e+)
-        → FromTwo (signalTree f reported readBackPlace x) p q r → r ≡ reactionOf (startTree f (program readBack t) e)
+      (p-is : p ≡ reactionOf (startTraced f (program o t) e−)) where
+    pub one-more : {q : Reaction} {e+ : ℕ} → e+ ≡ insertBelow signalCount x e → q ≡ reactionOf (startTraced f (program o t) e+)
+        → FromTwo (signalTraced f reported readBackPlace x) p q r → r ≡ reactionOf (startTraced f (program readBack t) e)
     one-more more q-is k =
         let u = program (remove x readBack) t in
         here f (signal reported readBackPlace x u) (program readBack t) e (declared-first t)
         (signal-step f e reported readBackPlace x u small less (rw ho at p-is) more (rw ho at q-is) k)
 
     pub one-more-once : member x (p .asked) ≡ false → FromOne (signalOnce f reported readBackPlace x) p r
-        → r ≡ reactionOf (startTree f (program readBack t) e)
+        → r ≡ reactionOf (startTraced f (program readBack t) e)
     one-more-once n k =
         let u = program (remove x readBack) t in
         here f (signal reported readBackPlace x u) (program readBack t) e (declared-first t)

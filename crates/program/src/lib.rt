@@ -5,23 +5,23 @@ ghost use Rattle.limits.specs.Limits.{maxDepth};
 ghost use Rattle.layout.specs.Layout.{Ready};
 ghost use Rattle.program.specs.Program.{Inside, Reacted};
 use labels::Labels;
-use layout::Seconds;
+use layout::SecondParts;
 use reaction::Reaction;
 
 // Where a sequence stands: at its beginning, or at its active pauses, by their ranks.
-pub enum Position {
+pub enum Start {
     Fresh,
     Waiting(Labels),
 }
 
 // The sequence itself, with no declaration left around it.
-fn inside(s: &[u8], position: Position, input: u32, farm: u8, second: &Seconds) -> Reaction
+fn inside(s: &[u8], origin: Start, input: u32, farm: u8, second: &SecondParts) -> Reaction
     requires { ⌜ Ready (now second) maxDepth 0 (now s) ⌝ }
-    ensures { λ r. ⌜ Inside (now (second .entry)) (now (s .entry)) position input farm r ⌝ }
+    ensures { λ r. ⌜ Inside (now (second .entry)) (now (s .entry)) origin input farm r ⌝ }
 {
-    match position {
-        Position::Fresh => react::react::react(s, 0, limits::MAX_DEPTH, input, farm, second),
-        Position::Waiting(active) => resume::resume::resume(
+    match origin {
+        Start::Fresh => react::react::react(s, 0, limits::MAX_DEPTH, input, farm, second),
+        Start::Waiting(active) => resume::resume::resume(
             s,
             0,
             limits::MAX_DEPTH,
@@ -37,25 +37,25 @@ fn inside(s: &[u8], position: Position, input: u32, farm: u8, second: &Seconds) 
 // asked.
 pub fn react(
     s: &[u8],
-    position: Position,
+    origin: Start,
     input: u32,
     read_back: u32,
     farm: u8,
-    second: &Seconds,
+    second: &SecondParts,
 ) -> Reaction
     requires { ⌜ Ready (now second) maxDepth 0 (now s) ⌝ }
-    ensures { λ r. ⌜ Reacted (now (second .entry)) (now (s .entry)) position input «read_back» farm r ⌝ }
+    ensures { λ r. ⌜ Reacted (now (second .entry)) (now (s .entry)) origin input «read_back» farm r ⌝ }
 {
     if signals::is_empty(read_back) {
-        return inside(s, position, input, farm, second);
+        return inside(s, origin, input, farm, second);
     }
     let x = signals::lowest(read_back);
     let others = signals::without(read_back, x);
     let without = signals::without(input, x);
     let with = signals::with(input, x);
-    let p = react(s, position, without, others, farm, second);
+    let p = react(s, origin, without, others, farm, second);
     if signals::member(p.asked, x) {
-        let q = react(s, position, with, others, farm, second);
+        let q = react(s, origin, with, others, farm, second);
         declarations::in_read_back(x, p, q)
     } else {
         declarations::in_read_back_once(p)

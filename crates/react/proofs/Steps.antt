@@ -16,8 +16,8 @@ use Rattle.esterel.specs.Reactions.{reactionsBy}
 use Rattle.esterel.specs.Asked.{askedBy}
 use Rattle.esterel.specs.Litres.{brought, deliveredBy}
 use Rattle.esterel.specs.Resume as Esterel
-use Rattle.esterel.specs.Resume.{startTree, seqTree, parTree, loopTree, presentTree, tryTree, signalTree, signalOnce}
-use Rattle.theory.proofs.Trees.{start-tree-seq, start-tree-par, start-tree-loop, start-tree-present, start-tree-signal, start-tree-try, start-tree-suspend}
+use Rattle.esterel.specs.Resume.{startTraced, seqTraced, parTraced, loopTraced, presentTraced, tryTraced, signalTraced, signalOnce}
+use Rattle.theory.proofs.Trees.{start-traced-seq, start-traced-par, start-traced-loop, start-traced-present, start-traced-signal, start-traced-try, start-traced-suspend}
 use Rattle.theory.proofs.Asked.{one-run-signal}
 use Rattle.layout.specs.Layout.{rest, Ready}
 use Rattle.layout.proofs.Parts.{rest-is}
@@ -27,84 +27,84 @@ use Rattle.reaction.proofs.Values.{suspend-reaction, present-reaction}
 
 -- ---- commands without parts, once they are known
 module _ (f : ℕ) (p : Statement) (e : ℕ) (r : Reaction) where
-  pub nothing-step : p ≡ nothing → r ≡ reactionOf (alone (gives 0 ended none nothing) none 0) → r ≡ reactionOf (startTree f p e)
+  pub nothing-step : p ≡ nothing → r ≡ reactionOf (alone (gives 0 ended none nothing) none 0) → r ≡ reactionOf (startTraced f p e)
   unfolding reactBy errorsBy reactionsBy askedBy deliveredBy none
   nothing-step h k = rw h k
 
   pub emit-step : (s : ℕ) (v : Value) → p ≡ emit s v → s < signalCount
-      → r ≡ reactionOf (alone (gives (onlyBelow signalCount s) ended none nothing) none (brought f s v)) → r ≡ reactionOf (startTree f p e)
+      → r ≡ reactionOf (alone (gives (onlyBelow signalCount s) ended none nothing) none (brought f s v)) → r ≡ reactionOf (startTraced f p e)
   unfolding reactBy errorsBy reactionsBy askedBy deliveredBy
   emit-step s v h l i = rw h (i ∙ rw (lt-ltb s signalCount l))
 
-  pub exit-step : (n : ℕ) → p ≡ exit n → r ≡ reactionOf (alone (gives none (leaving n) none nothing) none 0) → r ≡ reactionOf (startTree f p e)
+  pub exit-step : (n : ℕ) → p ≡ exit n → r ≡ reactionOf (alone (gives none (leaving n) none nothing) none 0) → r ≡ reactionOf (startTraced f p e)
   unfolding reactBy errorsBy reactionsBy askedBy deliveredBy
   exit-step n h k = rw h k
 
   module _ (l : ℕ) (small : l < labelCount) (h : r ≡ reactionOf (alone (gives none waiting (onlyBelow labelCount l) nothing) none 0)) where
-    pub pause-step : p ≡ pause l → r ≡ reactionOf (startTree f p e)
+    pub pause-step : p ≡ pause l → r ≡ reactionOf (startTraced f p e)
     unfolding reactBy errorsBy reactionsBy askedBy deliveredBy
     pause-step k = rw k (h ∙ rw (lt-ltb l labelCount small))
 
-    pub setpause-step : p ≡ setpause l → r ≡ reactionOf (startTree f p e)
+    pub setpause-step : p ≡ setpause l → r ≡ reactionOf (startTraced f p e)
     unfolding reactBy errorsBy reactionsBy askedBy deliveredBy
     setpause-step k = rw k (h ∙ rw (lt-ltb l labelCount small))
 
 -- what is said of a command is said of the statement that it is
-pub here : (f : ℕ) (t : Statement) (p : Statement) (e : ℕ) {r : Reaction} → p ≡ t → r ≡ reactionOf (startTree f t e) → r ≡ reactionOf (startTree f p e)
-here f t p e h m = m ∙ ap (λ (z : Statement). reactionOf (startTree f z e)) (sym h)
+pub here : (f : ℕ) (t : Statement) (p : Statement) (e : ℕ) {r : Reaction} → p ≡ t → r ≡ reactionOf (startTraced f t e) → r ≡ reactionOf (startTraced f p e)
+here f t p e h m = m ∙ ap (λ (z : Statement). reactionOf (startTraced f z e)) (sym h)
 
 module _ (f e : ℕ) {p r : Reaction} where
-  pub loop-step : (a : ℕ) (t : Statement) → p ≡ reactionOf (startTree f t e) → ((u : Statement) → FromOne (loopTree a u) p r)
-      → r ≡ reactionOf (startTree f (loop a t) e)
-  loop-step a t h k = k t (startTree f t e) h ∙ ap reactionOf (sym (start-tree-loop f a t e))
+  pub loop-step : (a : ℕ) (t : Statement) → p ≡ reactionOf (startTraced f t e) → ((u : Statement) → FromOne (loopTraced a u) p r)
+      → r ≡ reactionOf (startTraced f (loop a t) e)
+  loop-step a t h k = k t (startTraced f t e) h ∙ ap reactionOf (sym (start-traced-loop f a t e))
 
-  pub try-step : (t : Statement) → p ≡ reactionOf (startTree f t e) → FromOne tryTree p r → r ≡ reactionOf (startTree f (try t) e)
-  try-step t h k = k (startTree f t e) h ∙ ap reactionOf (sym (start-tree-try f t e))
+  pub try-step : (t : Statement) → p ≡ reactionOf (startTraced f t e) → FromOne tryTraced p r → r ≡ reactionOf (startTraced f (try t) e)
+  try-step t h k = k (startTraced f t e) h ∙ ap reactionOf (sym (start-traced-try f t e))
 
-  pub seq-step : (t u : Statement) → p ≡ reactionOf (startTree f t e) → FromOne (λ (z : Esterel.Tree). seqTree u z (startTree f u e)) p r
-      → r ≡ reactionOf (startTree f (seq t u) e)
-  seq-step t u h k = k (startTree f t e) h ∙ ap reactionOf (sym (start-tree-seq f t u e))
+  pub seq-step : (t u : Statement) → p ≡ reactionOf (startTraced f t e) → FromOne (λ (z : Esterel.Traced). seqTraced u z (startTraced f u e)) p r
+      → r ≡ reactionOf (startTraced f (seq t u) e)
+  seq-step t u h k = k (startTraced f t e) h ∙ ap reactionOf (sym (start-traced-seq f t u e))
 
-  pub par-step : (t u : Statement) {q : Reaction} → p ≡ reactionOf (startTree f t e) → q ≡ reactionOf (startTree f u e) → FromTwo parTree p q r
-      → r ≡ reactionOf (startTree f (par t u) e)
-  par-step t u h m k = k (startTree f t e) (startTree f u e) h m ∙ ap reactionOf (sym (start-tree-par f t u e))
+  pub par-step : (t u : Statement) {q : Reaction} → p ≡ reactionOf (startTraced f t e) → q ≡ reactionOf (startTraced f u e) → FromTwo parTraced p q r
+      → r ≡ reactionOf (startTraced f (par t u) e)
+  par-step t u h m k = k (startTraced f t e) (startTraced f u e) h m ∙ ap reactionOf (sym (start-traced-par f t u e))
 
   -- a fresh suspend only counts
-  pub suspend-step : (s : ℕ) (t : Statement) → p ≡ reactionOf (startTree f t e) → FromOne (countedAround none) p r
-      → r ≡ reactionOf (startTree f (suspend s t) e)
-  suspend-step s t h k = k (startTree f t e) h ∙ suspend-reaction s (startTree f t e) ∙ ap reactionOf (sym (start-tree-suspend f s t e))
+  pub suspend-step : (s : ℕ) (t : Statement) → p ≡ reactionOf (startTraced f t e) → FromOne (countedAround none) p r
+      → r ≡ reactionOf (startTraced f (suspend s t) e)
+  suspend-step s t h k = k (startTraced f t e) h ∙ suspend-reaction s (startTraced f t e) ∙ ap reactionOf (sym (start-traced-suspend f s t e))
 
   -- ---- a signal x at place a, whose run without it is p
-  module _ (sc : Scope) (a x : ℕ) (t : Statement) (small : x < signalCount) {e− : ℕ} (less : e− ≡ remove x e) (p-is : p ≡ reactionOf (startTree f t e−)) where
-    pub signal-step : {q : Reaction} {e+ : ℕ} → e+ ≡ insertBelow signalCount x e → q ≡ reactionOf (startTree f t e+)
-        → FromTwo (signalTree f sc a x) p q r → r ≡ reactionOf (startTree f (signal sc a x t) e)
+  module _ (sc : Scope) (a x : ℕ) (t : Statement) (small : x < signalCount) {e− : ℕ} (less : e− ≡ remove x e) (p-is : p ≡ reactionOf (startTraced f t e−)) where
+    pub signal-step : {q : Reaction} {e+ : ℕ} → e+ ≡ insertBelow signalCount x e → q ≡ reactionOf (startTraced f t e+)
+        → FromTwo (signalTraced f sc a x) p q r → r ≡ reactionOf (startTraced f (signal sc a x t) e)
     signal-step {q} {e+} more m k =
         let more′ : e+ ≡ insert x e = more ∙ rw (lt-ltb x signalCount small) in
-        k (startTree f t (remove x e)) (startTree f t (insert x e)) (rw less at p-is) (rw more′ at m)
-        ∙ ap reactionOf (sym (start-tree-signal f sc a x t e))
+        k (startTraced f t (remove x e)) (startTraced f t (insert x e)) (rw less at p-is) (rw more′ at m)
+        ∙ ap reactionOf (sym (start-traced-signal f sc a x t e))
 
     -- it was not asked for
-    pub signal-once-step : member x (p .asked) ≡ false → FromOne (signalOnce f sc a x) p r → r ≡ reactionOf (startTree f (signal sc a x t) e)
+    pub signal-once-step : member x (p .asked) ≡ false → FromOne (signalOnce f sc a x) p r → r ≡ reactionOf (startTraced f (signal sc a x t) e)
     signal-once-step n k =
-        let h : p ≡ reactionOf (startTree f t (remove x e)) = rw less at p-is in
-        k (startTree f t (remove x e)) h ∙ ap reactionOf (sym (one-run-signal f x t e (rw h at n) sc a))
+        let h : p ≡ reactionOf (startTraced f t (remove x e)) = rw less at p-is in
+        k (startTraced f t (remove x e)) h ∙ ap reactionOf (sym (one-run-signal f x t e (rw h at n) sc a))
 
   -- ---- a test of x, which notes it
   module _ (x : ℕ) (t u : Statement) (small : x < signalCount) {b : ℕ} (noted : b ≡ onlyBelow signalCount x) where
-    tested : (c : Bool) → member x e ≡ c → p ≡ reactionOf (cond c (startTree f t e) (startTree f u e)) → FromOne (countedAround b) p r
-        → r ≡ reactionOf (startTree f (present x t u) e)
+    tested : (c : Bool) → member x e ≡ c → p ≡ reactionOf (cond c (startTraced f t e) (startTraced f u e)) → FromOne (countedAround b) p r
+        → r ≡ reactionOf (startTraced f (present x t u) e)
     tested c i h k =
         let z : b ≡ only x = noted ∙ rw (lt-ltb x signalCount small) in
-        let v : Esterel.Tree = cond c (startTree f t e) (startTree f u e) in
+        let v : Esterel.Traced = cond c (startTraced f t e) (startTraced f u e) in
         k v h ∙ ap (λ (s : ℕ). reactionOf (countedAround s v)) z ∙ present-reaction x v
-        ∙ ap reactionOf (sym (start-tree-present f x t u e ∙ ap (λ (y : Bool). presentTree x (cond y (startTree f t e) (startTree f u e))) i))
+        ∙ ap reactionOf (sym (start-traced-present f x t u e ∙ ap (λ (y : Bool). presentTraced x (cond y (startTraced f t e) (startTraced f u e))) i))
 
-    pub present-step : member x e ≡ true → p ≡ reactionOf (startTree f t e) → FromOne (countedAround b) p r
-        → r ≡ reactionOf (startTree f (present x t u) e)
+    pub present-step : member x e ≡ true → p ≡ reactionOf (startTraced f t e) → FromOne (countedAround b) p r
+        → r ≡ reactionOf (startTraced f (present x t u) e)
     present-step = tested true
 
-    pub absent-step : member x e ≡ false → p ≡ reactionOf (startTree f u e) → FromOne (countedAround b) p r
-        → r ≡ reactionOf (startTree f (present x t u) e)
+    pub absent-step : member x e ≡ false → p ≡ reactionOf (startTraced f u e) → FromOne (countedAround b) p r
+        → r ≡ reactionOf (startTraced f (present x t u) e)
     absent-step = tested false
 
 -- ---- the part from index n on: its first byte is there, and is that at n

@@ -4,16 +4,16 @@ use mathlib.Core.Path.{_≡_}
 use mathlib.Core.List.{List}
 use Rattle.esterel.specs.Statement.{Statement}
 use Rattle.esterel.specs.Resume as Esterel
-use Rattle.esterel.specs.Resume.{startTree, seqTree}
+use Rattle.esterel.specs.Resume.{startTraced, seqTraced}
 use Rattle.layout.specs.Layout.{Lies}
 use Rattle.reaction.specs.declared.Reaction.{Reaction}
 use Rattle.reaction.specs.Reactions.{reactionOf}
 
 -- r is the tree of the statement that lies there, with the litres of the farm f
 abbrev pub Started : (t : List ℕ) (d a : ℕ) (bs : List ℕ) (e f : ℕ) (r : Reaction) → Type 0
-Started t d a bs e f r = (base : ℕ) (p : Statement) → Lies t d base a bs p → r ≡ reactionOf (startTree f p e)
+Started t d a bs e f r = (base : ℕ) (p : Statement) → Lies t d base a bs p → r ≡ reactionOf (startTraced f p e)
 
 -- r is what comes of a tree u and then the statement that lies there, started where u has ended
 abbrev pub StartedAfter : (t : List ℕ) (d a : ℕ) (bs : List ℕ) (e f : ℕ) (p r : Reaction) → Type 0
 StartedAfter t d a bs e f p r =
-    (base : ℕ) (q : Statement) (u : Esterel.Tree) → Lies t d base a bs q → p ≡ reactionOf u → r ≡ reactionOf (seqTree q u (startTree f q e))
+    (base : ℕ) (q : Statement) (u : Esterel.Traced) → Lies t d base a bs q → p ≡ reactionOf u → r ≡ reactionOf (seqTraced q u (startTraced f q e))

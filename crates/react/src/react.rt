@@ -4,11 +4,11 @@ ghost use Prim.Native.Nat.{_≤_};
 ghost use lib.ListN.{length, getD};
 ghost use Rattle.layout.specs.Layout.{rest, Ready};
 ghost use Rattle.react.specs.Started.{Started, StartedAfter};
-use layout::Seconds;
+use layout::SecondParts;
 use reaction::Reaction;
 
 // The reaction of the statement at the front of s, which stands at the offset `at`.
-pub fn react(s: &[u8], at: usize, depth: u8, input: u32, farm: u8, second: &Seconds) -> Reaction
+pub fn react(s: &[u8], at: usize, depth: u8, input: u32, farm: u8, second: &SecondParts) -> Reaction
     requires { ⌜ Ready (now second) depth at (now s) ⌝ }
     ensures { λ r. ⌜ Started (now (second .entry)) depth at (now (s .entry)) input farm r ⌝ }
 {
@@ -39,7 +39,7 @@ fn part(
     depth: u8,
     input: u32,
     farm: u8,
-    second: &Seconds,
+    second: &SecondParts,
 ) -> Reaction
     requires { ⌜ n ≤ length (now s) ⌝ }
     requires { ⌜ Ready (now second) depth at (rest n (now s)) ⌝ }
@@ -60,7 +60,7 @@ pub fn after(
     depth: u8,
     input: u32,
     farm: u8,
-    second: &Seconds,
+    second: &SecondParts,
 ) -> Reaction
     requires { ⌜ n ≤ length (now s) ⌝ }
     requires { ⌜ Ready (now second) depth at (rest n (now s)) ⌝ }
@@ -74,7 +74,7 @@ pub fn after(
     }
 }
 
-fn seq_parts(s: &[u8], at: usize, depth: u8, input: u32, farm: u8, second: &Seconds) -> Reaction
+fn seq_parts(s: &[u8], at: usize, depth: u8, input: u32, farm: u8, second: &SecondParts) -> Reaction
     requires { ⌜ Ready (now second) depth at (now s) × (getD (now s) 0 0 ≡ 4) ⌝ }
     ensures { λ r. ⌜ Started (now (second .entry)) depth at (now (s .entry)) input farm r ⌝ }
 {
@@ -83,7 +83,7 @@ fn seq_parts(s: &[u8], at: usize, depth: u8, input: u32, farm: u8, second: &Seco
     after(p, s, m - at, m, depth - 1, input, farm, second)
 }
 
-fn par_parts(s: &[u8], at: usize, depth: u8, input: u32, farm: u8, second: &Seconds) -> Reaction
+fn par_parts(s: &[u8], at: usize, depth: u8, input: u32, farm: u8, second: &SecondParts) -> Reaction
     requires { ⌜ Ready (now second) depth at (now s) × (getD (now s) 0 0 ≡ 5) ⌝ }
     ensures { λ r. ⌜ Started (now (second .entry)) depth at (now (s .entry)) input farm r ⌝ }
 {
@@ -93,7 +93,7 @@ fn par_parts(s: &[u8], at: usize, depth: u8, input: u32, farm: u8, second: &Seco
     rules::in_parallel(p, q)
 }
 
-fn loop_part(s: &[u8], at: usize, depth: u8, input: u32, farm: u8, second: &Seconds) -> Reaction
+fn loop_part(s: &[u8], at: usize, depth: u8, input: u32, farm: u8, second: &SecondParts) -> Reaction
     requires { ⌜ Ready (now second) depth at (now s) × (getD (now s) 0 0 ≡ 6) ⌝ }
     ensures { λ r. ⌜ Started (now (second .entry)) depth at (now (s .entry)) input farm r ⌝ }
 {
@@ -101,7 +101,14 @@ fn loop_part(s: &[u8], at: usize, depth: u8, input: u32, farm: u8, second: &Seco
     rules::in_loop(at as u16, p)
 }
 
-fn present_parts(s: &[u8], at: usize, depth: u8, input: u32, farm: u8, second: &Seconds) -> Reaction
+fn present_parts(
+    s: &[u8],
+    at: usize,
+    depth: u8,
+    input: u32,
+    farm: u8,
+    second: &SecondParts,
+) -> Reaction
     requires { ⌜ Ready (now second) depth at (now s) × (getD (now s) 0 0 ≡ 7) ⌝ }
     ensures { λ r. ⌜ Started (now (second .entry)) depth at (now (s .entry)) input farm r ⌝ }
 {
@@ -116,7 +123,14 @@ fn present_parts(s: &[u8], at: usize, depth: u8, input: u32, farm: u8, second: &
 }
 
 // The bytes of a declaration are handed on as a part of the slice, as those of every part are.
-fn signal_rule(s: &[u8], at: usize, depth: u8, input: u32, farm: u8, second: &Seconds) -> Reaction
+fn signal_rule(
+    s: &[u8],
+    at: usize,
+    depth: u8,
+    input: u32,
+    farm: u8,
+    second: &SecondParts,
+) -> Reaction
     requires { ⌜ Ready (now second) depth at (now s) × (getD (now s) 0 0 ≡ 8) ⌝ }
     ensures { λ r. ⌜ Started (now (second .entry)) depth at (now (s .entry)) input farm r ⌝ }
 {
@@ -126,7 +140,7 @@ fn signal_rule(s: &[u8], at: usize, depth: u8, input: u32, farm: u8, second: &Se
 // The body reacts without the signal, and with it where that run asked for the signal; else the second run would repeat the first.
 // This function calls itself where the body is a declaration too, and so keeps a frame of its own: no other level of the walk has
 // room for two runs, and at most six declarations stand around a command (row 6).
-fn declared(s: &[u8], at: usize, depth: u8, input: u32, farm: u8, second: &Seconds) -> Reaction
+fn declared(s: &[u8], at: usize, depth: u8, input: u32, farm: u8, second: &SecondParts) -> Reaction
     requires { ⌜ Ready (now second) depth at (now s) × (getD (now s) 0 0 ≡ 8) ⌝ }
     ensures { λ r. ⌜ Started (now (second .entry)) depth at (now (s .entry)) input farm r ⌝ }
 {
@@ -150,7 +164,7 @@ fn body(
     depth: u8,
     input: u32,
     farm: u8,
-    second: &Seconds,
+    second: &SecondParts,
 ) -> Reaction
     requires { ⌜ n ≤ length (now s) ⌝ }
     requires { ⌜ Ready (now second) depth at (rest n (now s)) ⌝ }
@@ -162,7 +176,7 @@ fn body(
     part(s, n, at, depth, input, farm, second)
 }
 
-fn try_part(s: &[u8], at: usize, depth: u8, input: u32, farm: u8, second: &Seconds) -> Reaction
+fn try_part(s: &[u8], at: usize, depth: u8, input: u32, farm: u8, second: &SecondParts) -> Reaction
     requires { ⌜ Ready (now second) depth at (now s) × (getD (now s) 0 0 ≡ 9) ⌝ }
     ensures { λ r. ⌜ Started (now (second .entry)) depth at (now (s .entry)) input farm r ⌝ }
 {

@@ -4,14 +4,14 @@ use mathlib.Core.Path.{_≡_, refl}
 use mathlib.Core.Option.{Option, some}
 use native.Mathlib.Omega.{arith}
 use Rattle.labels.specs.declared.Labels.{Labels}
-use Rattle.labels.specs.Labels.{Stands}
+use Rattle.labels.specs.Labels.{Represents}
 use Rattle.labels.proofs.LabelValues.{labels-of}
 use Rattle.esterel.specs.Sets.{none, only, join, insert}
 use Rattle.esterel.specs.Statement.{nothing}
 use Rattle.esterel.specs.Reaction.{Code, wrong, gives}
 use Rattle.esterel.specs.Errors.{Error}
 use Rattle.esterel.specs.Resume as Esterel
-use Rattle.esterel.specs.Resume.{instant, presentInstant, tree, presentTree, suspendTree, heldTree}
+use Rattle.esterel.specs.Resume.{instant, presentInstant, traced, presentTraced, suspendTraced, heldTraced}
 use Rattle.theory.proofs.Sets.{join-none-r}
 use Rattle.completions.specs.declared.Completion.{Completion}
 use Rattle.completions.specs.Completions.{completionOf}
@@ -31,36 +31,36 @@ capped-two n m = omega arith
 
 -- a reaction is that of its six values
 module _ (k : Code) (x : Option Error) (n a y : ℕ) {o o′ : ℕ} {l : Labels} {l′ : ℕ} {c : Completion} {m b z : ℕ} where
-  pub made : o ≡ o′ → Stands l l′ → c ≡ completionOf k x → m ≡ keptOf n → b ≡ a → z ≡ cappedOf y
-      → _≡_ {A = Reaction} (record { emitted = o; labels = l; completion = c; taken = m; asked = b; delivered = z })
-      (reactionOf (tree (instant (gives o′ k l′ nothing) x n) a y))
+  pub made : o ≡ o′ → Represents l l′ → c ≡ completionOf k x → m ≡ keptOf n → b ≡ a → z ≡ cappedOf y
+      → _≡_ {A = Reaction} (record { emitted = o; labels = l; completion = c; reactions = m; asked = b; delivered = z })
+      (reactionOf (traced (instant (gives o′ k l′ nothing) x n) a y))
   made h b d e f g = rw (← h, ← labels-of l b, ← d, ← e, ← f, ← g)
 
 -- one that fails, whatever was taken and asked for
-pub failed-made : (x : Error) (m a : ℕ) (l : Labels) → Stands l none
-    → _≡_ {A = Reaction} (record { emitted = none; labels = l; completion = completionOf wrong (some x); taken = m; asked = a; delivered = 0 })
+pub failed-made : (x : Error) (m a : ℕ) (l : Labels) → Represents l none
+    → _≡_ {A = Reaction} (record { emitted = none; labels = l; completion = completionOf wrong (some x); reactions = m; asked = a; delivered = 0 })
     (failedWith x m a)
 failed-made x m a l b = rw (← labels-of l b)
 
 -- ---- a command that only counts, and asks for the signals b
-pub around-reaction : (t : Esterel.Tree) (p : Reaction) (m a b : ℕ) → p ≡ reactionOf t → m ≡ keptOf (1 + p .taken) → a ≡ join (p .asked) b
-    → _≡_ {A = Reaction} (record { emitted = p .emitted; labels = p .labels; completion = p .completion; taken = m; asked = a; delivered = p .delivered })
+pub around-reaction : (t : Esterel.Traced) (p : Reaction) (m a b : ℕ) → p ≡ reactionOf t → m ≡ keptOf (1 + p .reactions) → a ≡ join (p .asked) b
+    → _≡_ {A = Reaction} (record { emitted = p .emitted; labels = p .labels; completion = p .completion; reactions = m; asked = a; delivered = p .delivered })
     (reactionOf (countedAround b t))
-around-reaction (tree (instant (gives o k l t) x n) a₁ y) p m a b h e f = rw (e, f, h, kept-one n)
+around-reaction (traced (instant (gives o k l t) x n) a₁ y) p m a b h e f = rw (e, f, h, kept-one n)
 
 -- around an instant whose tree asks for a; where it asks for none itself, nothing is added
-pub counts-only : (i : Esterel.Instant) (a y : ℕ) → reactionOf (countedAround none (tree i a y)) ≡ reactionOf (tree (presentInstant i) a y)
+pub counts-only : (i : Esterel.Instant) (a y : ℕ) → reactionOf (countedAround none (traced i a y)) ≡ reactionOf (traced (presentInstant i) a y)
 counts-only i a y = rw (join-none-r a)
 
 -- a suspend changes only what remains
-pub suspend-reaction : (s : ℕ) (t : Esterel.Tree) → reactionOf (countedAround none t) ≡ reactionOf (suspendTree s t)
-suspend-reaction s (tree (instant (gives o k l t) x n) a y) = rw (join-none-r a)
+pub suspend-reaction : (s : ℕ) (t : Esterel.Traced) → reactionOf (countedAround none t) ≡ reactionOf (suspendTraced s t)
+suspend-reaction s (traced (instant (gives o k l t) x n) a y) = rw (join-none-r a)
 
 -- a test and a held suspend ask for their signal
-pub present-reaction : (s : ℕ) (t : Esterel.Tree) → reactionOf (countedAround (only s) t) ≡ reactionOf (presentTree s t)
+pub present-reaction : (s : ℕ) (t : Esterel.Traced) → reactionOf (countedAround (only s) t) ≡ reactionOf (presentTraced s t)
 unfolding join only insert
-present-reaction s (tree (instant (gives o k l t) x n) a y) = refl
+present-reaction s (traced (instant (gives o k l t) x n) a y) = refl
 
-pub held-reaction : (s : ℕ) (t : Esterel.Tree) → reactionOf (countedAround (only s) t) ≡ reactionOf (heldTree s t)
+pub held-reaction : (s : ℕ) (t : Esterel.Traced) → reactionOf (countedAround (only s) t) ≡ reactionOf (heldTraced s t)
 unfolding join only insert
-held-reaction s (tree (instant (gives o k l t) x n) a y) = refl
+held-reaction s (traced (instant (gives o k l t) x n) a y) = refl

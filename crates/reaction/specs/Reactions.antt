@@ -3,7 +3,7 @@
 use Prim.Native.Nat.{ℕ, _+_, _%_, min}
 use mathlib.Core.Path.{_≡_}
 use mathlib.Core.Option.{none, some}
-use Rattle.limits.specs.Limits.{takenCount, litresLimit}
+use Rattle.limits.specs.Limits.{reactionsCount, litresLimit}
 use Rattle.labels.specs.Labels.{labelsWith}
 use Rattle.esterel.specs.Sets.{join}
 use Rattle.esterel.specs.Reaction.{emitted, code, labels, failed}
@@ -15,46 +15,46 @@ use Rattle.reaction.specs.declared.Reaction.{Reaction}
 
 -- what 32 bits keep of a number: no accepted program takes more reactions (demands, Shows.counted)
 abbrev pub keptOf : ℕ → ℕ
-keptOf n = n % takenCount
+keptOf n = n % reactionsCount
 
 -- litres up to the limit, and one more for all above it
 abbrev pub cappedOf : ℕ → ℕ
 cappedOf n = min n (litresLimit + 1)
 
-abbrev pub reactionOf : Esterel.Tree → Reaction
-reactionOf (Esterel.tree (Esterel.instant r x n) a y) =
+abbrev pub reactionOf : Esterel.Traced → Reaction
+reactionOf (Esterel.traced (Esterel.instant r x n) a y) =
     record {
       emitted = emitted r;
       labels = labelsWith (labels r);
       completion = completionOf (code r) x;
-      taken = keptOf n;
+      reactions = keptOf n;
       asked = a;
       delivered = cappedOf y;
     }
 
 -- the reaction of a command without parts, which asks for the signals a and delivers y litres
-abbrev pub alone : rules.Reaction → (a y : ℕ) → Esterel.Tree
-alone r a y = Esterel.tree (Esterel.instant r none 1) a y
+abbrev pub alone : rules.Reaction → (a y : ℕ) → Esterel.Traced
+alone r a y = Esterel.traced (Esterel.instant r none 1) a y
 
 -- the reaction of a command that fails, with its error
-abbrev pub failedWith : Error → (taken asked : ℕ) → Reaction
+abbrev pub failedWith : Error → (reactions asked : ℕ) → Reaction
 failedWith x n a =
     record {
       emitted = emitted failed;
       labels = labelsWith (labels failed);
       completion = completionOf (code failed) (some x);
-      taken = n;
+      reactions = n;
       asked = a;
       delivered = 0;
     }
 
 -- a command that changes nothing of its part but the number of reactions, and the signals asked for by b
-abbrev pub countedAround : (b : ℕ) → Esterel.Tree → Esterel.Tree
-countedAround b (Esterel.tree i a y) = Esterel.tree (Esterel.presentInstant i) (join a b) y
+abbrev pub countedAround : (b : ℕ) → Esterel.Traced → Esterel.Traced
+countedAround b (Esterel.traced i a y) = Esterel.traced (Esterel.presentInstant i) (join a b) y
 
 -- r is f of whatever trees the values stand for
-abbrev pub FromOne : (f : Esterel.Tree → Esterel.Tree) (p r : Reaction) → Type 0
-FromOne f p r = (t : Esterel.Tree) → p ≡ reactionOf t → r ≡ reactionOf (f t)
+abbrev pub FromOne : (f : Esterel.Traced → Esterel.Traced) (p r : Reaction) → Type 0
+FromOne f p r = (t : Esterel.Traced) → p ≡ reactionOf t → r ≡ reactionOf (f t)
 
-abbrev pub FromTwo : (f : Esterel.Tree → Esterel.Tree → Esterel.Tree) (p q r : Reaction) → Type 0
-FromTwo f p q r = (t u : Esterel.Tree) → p ≡ reactionOf t → q ≡ reactionOf u → r ≡ reactionOf (f t u)
+abbrev pub FromTwo : (f : Esterel.Traced → Esterel.Traced → Esterel.Traced) (p q r : Reaction) → Type 0
+FromTwo f p q r = (t u : Esterel.Traced) → p ≡ reactionOf t → q ≡ reactionOf u → r ≡ reactionOf (f t u)

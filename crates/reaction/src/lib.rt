@@ -19,7 +19,7 @@ pub struct Reaction {
     pub labels: Labels,
     pub emitted: u32,
     pub completion: Completion,
-    pub taken: u32,
+    pub reactions: u32,
     pub asked: u32,
     pub delivered: u32,
 }
@@ -29,7 +29,7 @@ pub struct Reaction {
 pub fn over_two(n: u32, m: u32) -> u32
     ensures { λ r. ⌜ r ≡ keptOf (1 + n + m) ⌝ }
 {
-    ((1 + n as u64 + m as u64) % limits::TAKEN_COUNT) as u32
+    ((1 + n as u64 + m as u64) % limits::REACTIONS_COUNT) as u32
 }
 
 // The reactions of a command over one part.
@@ -57,17 +57,17 @@ pub fn made(
     emitted: u32,
     labels: Labels,
     completion: Completion,
-    taken: u32,
+    reactions: u32,
     asked: u32,
     delivered: u32,
 ) -> Reaction
-    ensures { λ r. ⌜ r ≡ record { emitted = emitted; labels = labels; completion = completion; taken = taken; asked = asked; delivered = delivered } ⌝ }
+    ensures { λ r. ⌜ r ≡ record { emitted = emitted; labels = labels; completion = completion; reactions = reactions; asked = asked; delivered = delivered } ⌝ }
 {
     Reaction {
         emitted,
         labels,
         completion,
-        taken,
+        reactions,
         asked,
         delivered,
     }
@@ -101,14 +101,14 @@ pub fn leaving(n: u8) -> Reaction
 }
 
 // Wrong, with nothing emitted.
-pub fn failing(kind: u8, place: u16, taken: u32, asked: u32) -> Reaction
-    ensures { λ r. ⌜ r ≡ failedWith (record { kind = kind; place = place }) taken asked ⌝ }
+pub fn failing(kind: u8, place: u16, reactions: u32, asked: u32) -> Reaction
+    ensures { λ r. ⌜ r ≡ failedWith (record { kind = kind; place = place }) reactions asked ⌝ }
 {
     made(
         0,
         labels::empty(),
         Completion::Wrong(kind, place),
-        taken,
+        reactions,
         asked,
         0,
     )
@@ -125,7 +125,7 @@ pub fn around(p: Reaction, asked: u32) -> Reaction
         p.emitted,
         labels,
         k,
-        over_one(p.taken),
+        over_one(p.reactions),
         signals::union(p.asked, asked),
         p.delivered,
     )

@@ -2,7 +2,7 @@
 use Prim.Native.Nat.{_≤_, _<_}
 use mathlib.Core.Path.{_≡_, refl}
 use native.Mathlib.Omega.{arith}
-use Rattle.sequence.specs.Commands.{Command, partCount, width}
+use Rattle.sequence.specs.Commands.{Command, partCount, headLength}
 use Rattle.sequence.proofs.Table.{byteOf}
 
 module _ (P : Command → Type 0) where
@@ -23,9 +23,9 @@ module _ (P : Command → Type 0) where
   with-parts l s t f q p r Command.deliver n = absurd (n refl)
 
 -- 04 and 05
-pub two-bare : (c : Command) → (partCount c ≡ 0 → ⊥) → byteOf c < 6 → (partCount c ≡ 2) × (1 ≡ width c)
+pub two-bare : (c : Command) → (partCount c ≡ 0 → ⊥) → byteOf c < 6 → (partCount c ≡ 2) × (1 ≡ headLength c)
 two-bare =
-    with-parts (λ (c : Command). byteOf c < 6 → (partCount c ≡ 2) × (1 ≡ width c))
+    with-parts (λ (c : Command). byteOf c < 6 → (partCount c ≡ 2) × (1 ≡ headLength c))
     (λ l. absurd (omega arith)) (λ l. absurd (omega arith)) (λ l. absurd (omega arith)) (λ l. absurd (omega arith))
     (λ l. (refl, refl)) (λ l. (refl, refl)) (λ l. absurd (omega arith))
 

@@ -7,11 +7,11 @@ use lib.ListN.{length, length-replicate}
 use Rattle.esterel.specs.Statement.{Statement}
 use Rattle.limits.specs.Limits.{maxBytes, maxDepth, maxSignals}
 use Rattle.sequence.specs.Reader.{Read, accepted, refused, read}
-use Rattle.esterel.specs.Ceiling.{nesting}
+use Rattle.esterel.specs.Ceiling.{signalNesting}
 use Rattle.sequence.proofs.Refusals.{Small, Rowed, rowed}
 use Rattle.sequence.proofs.Sound.{sound, count-within}
 use Rattle.layout.specs.Layout.{rest, Marked}
-use Rattle.layout.specs.Notes.{countIn, mostIn, noteCount, noNotes, note}
+use Rattle.layout.specs.Notes.{pausesCounted, mostIn, noteCount, noNotes, note}
 use Rattle.layout.specs.Walk.{rowUnit, Readable, Entered, Done}
 use Rattle.layout.proofs.Walk.{onward}
 use Rattle.layout.proofs.Noting.{noted}
@@ -20,7 +20,7 @@ use Rattle.reading.specs.Reading.{readingOf, Reads}
 
 pub beginning : (s t m : List ℕ) → length s ≤ maxBytes → length t ≡ maxBytes → m ≡ noNotes → Readable maxSignals 0 (rest 0 s) t m
 beginning s t m l long e =
-    let c : countIn m ≡ 0 = rw e in
+    let c : pausesCounted m ≡ 0 = rw e in
     let k : length m ≡ noteCount = ap length e ∙ length-replicate {A = ℕ} noteCount 0 in
     onward maxSignals 0 0 0 s t m refl (omega arith) (omega arith) (omega arith) long k (omega arith)
 
@@ -54,8 +54,8 @@ module _ (s t u m n : List ℕ) (r : ℕ) (short : length s ≤ maxBytes) (long 
     pub marked : Marked u 0 0 p
     pub notes : n ≡ note p noNotes
     pub sized : length u ≡ maxBytes
-    pub most : mostIn n ≡ nesting p
-    pub few : nesting p ≤ maxSignals
+    pub most : mostIn n ≡ signalNesting p
+    pub few : signalNesting p ≤ maxSignals
 
   acceptance : r < rowUnit → Acceptance
   acceptance small = go (read maxDepth maxSignals 0 s) refl (rowed maxDepth maxSignals 0 s) h

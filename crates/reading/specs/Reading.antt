@@ -6,14 +6,14 @@ use lib.ListN.{length}
 use Rattle.esterel.specs.Statement.{Statement}
 use Rattle.limits.specs.Limits.{maxBytes, maxSignals}
 use Rattle.sequence.specs.Reader.{Read, accepted, refused, readAll}
-use Rattle.esterel.specs.Ceiling.{nesting}
+use Rattle.esterel.specs.Ceiling.{signalNesting}
 use Rattle.layout.specs.Layout.{Marked}
 use Rattle.layout.specs.Notes.{noNotes, note}
 use Rattle.reading.specs.declared.reader.Reading.{Reading}
 use Rattle.reading.specs.declared.reader.Reading.the-variants.{Accepted, Refused}
 
 abbrev pub readingOf : Read → Reading
-readingOf (accepted p n) = Accepted n (maxSignals - nesting p)
+readingOf (accepted p n) = Accepted n (maxSignals - signalNesting p)
 readingOf (refused number) = Refused number
 
 -- the answer r for the bytes; if they are accepted, t has the second parts of the statement and the notes are its notes

@@ -5,7 +5,7 @@ ghost use Prim.Native.Nat.{ℕ, _+_, _≤_, _<_};
 ghost use mathlib.Core.List.{List};
 ghost use lib.ListN.{length};
 ghost use Rattle.limits.specs.Limits.{maxBytes};
-ghost use Rattle.sequence.specs.Commands.{Command, partCount, width};
+ghost use Rattle.sequence.specs.Commands.{Command, partCount, headLength};
 ghost use Rattle.sequence.specs.Reader.{read};
 ghost use Rattle.layout.specs.Layout.{entry};
 ghost use Rattle.layout.specs.Notes.{noNotes};
@@ -13,7 +13,7 @@ ghost use Rattle.layout.specs.Walk.{pairRead, Readable, Done};
 ghost use Rattle.reading.specs.Reading.{Reads};
 use crate::leaves::ahead;
 use crate::leaves::leaf;
-use layout::Seconds;
+use layout::SecondParts;
 use notes::Notes;
 
 // A statement: the count of its bytes and how many more signals may stand around it, or the row that turns it down.
@@ -37,7 +37,7 @@ fn first(
     at: usize,
     depth: u8,
     signals: u8,
-    second: &mut Seconds,
+    second: &mut SecondParts,
     notes: &mut Notes,
 ) -> usize
     requires { ⌜ Readable signals at (now s) (now second) (now notes) ⌝ }
@@ -58,12 +58,12 @@ fn two(
     w: usize,
     depth: u8,
     signals: u8,
-    second: &mut Seconds,
+    second: &mut SecondParts,
     notes: &mut Notes,
 ) -> usize
     requires { ⌜ 0 < w ⌝ }
     requires { ⌜ Readable signals (at + w) (now s) (now second) (now notes) ⌝ }
-    ensures { λ r. ⌜ ((c : Command) (xs : List ℕ) → partCount c ≡ 2 → w ≡ width c
+    ensures { λ r. ⌜ ((c : Command) (xs : List ℕ) → partCount c ≡ 2 → w ≡ headLength c
         → Done signals at (now (second .entry)) (now (second .exit)) (now (notes .entry)) (now (notes .exit))
         (pairRead (read depth signals) c at xs (now (s .entry))) r) ⌝ }
 {
@@ -83,7 +83,7 @@ fn read(
     at: usize,
     depth: u8,
     signals: u8,
-    second: &mut Seconds,
+    second: &mut SecondParts,
     notes: &mut Notes,
 ) -> usize
     requires { ⌜ Readable signals at (now s) (now second) (now notes) ⌝ }
@@ -122,7 +122,7 @@ fn read(
 }
 
 // The statement at the front of a sequence, with the table of its second parts and the notes of its labels.
-pub fn read_sequence(s: &[u8], second: &mut Seconds, notes: &mut Notes) -> Reading
+pub fn read_sequence(s: &[u8], second: &mut SecondParts, notes: &mut Notes) -> Reading
     requires { ⌜ length (now s) ≤ maxBytes ⌝ }
     requires { ⌜ length (now second) ≡ maxBytes ⌝ }
     requires { ⌜ now notes ≡ noNotes ⌝ }

@@ -7,7 +7,7 @@ use Rattle.esterel.specs.Errors.{errorsBy}
 use Rattle.esterel.specs.Reactions.{reactionsBy}
 use Rattle.esterel.specs.LabelTests.{subset, disjoint, labelsOf, everyLabel, distinct, before, wellFormed, valid}
 use Rattle.esterel.specs.Expansion.{expand}
-use Rattle.esterel.specs.Ceiling.{nesting}
+use Rattle.esterel.specs.Ceiling.{signalNesting}
 use Rattle.esterel.specs.ReadBack.{membersFrom, declaredBy}
 use Rattle.sequence.specs.Commands.{commandOf}
 use Rattle.sequence.specs.Reader.{front, read}
@@ -22,5 +22,5 @@ use Rattle.replays.specs.Worked.{Case, cases}
 
 -- WORKED: each row of the table
 pub worked : map (λ (c : Case). replayOf (c .sequence) (c .readBack) (c .recording)) cases ≡ map (λ (c : Case). c .shows) cases
-unfolding cases replayOf placeOf firstDifference same firstRecords recordsFrom following tickBy checkOf checked read front commandOf nesting declaredBy membersFrom distinct wellFormed valid expand everyLabel before labelsOf subset disjoint encodeState decodeState encodeAnswer leNumber leBytes reactBy errorsBy reactionsBy member none only join insert remove
+unfolding cases replayOf placeOf firstDifference same firstRecords recordsFrom following tickBy checkOf checked read front commandOf signalNesting declaredBy membersFrom distinct wellFormed valid expand everyLabel before labelsOf subset disjoint encodeState decodeState encodeAnswer leNumber leBytes reactBy errorsBy reactionsBy member none only join insert remove
 worked = refl

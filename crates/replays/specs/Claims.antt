@@ -12,7 +12,7 @@ use Rattle.sequence.specs.Program.{program}
 use Rattle.sequence.specs.Check.{checkOf}
 use Rattle.sequence.specs.Rows.{Spells}
 use Rattle.states.specs.StateRecord.{phaseIn}
-use Rattle.answers.specs.AnswerRecord.{codeIn, kindIn, placeIn, emittedIn, takenIn}
+use Rattle.answers.specs.AnswerRecord.{codeIn, kindIn, placeIn, emittedIn, reactionsIn}
 use Rattle.demands.specs.Paper.{Report, reacted, paper}
 use Rattle.recordings.specs.Record.{recordLength, answerIn, stateIn}
 use Rattle.recordings.specs.Recording.{recordingOf, callOn, joined, Inputs}
@@ -84,7 +84,7 @@ AcceptsRecordings replay =
 -- what demand 3 compares, as a record has it
 abbrev pub reportIn : List ℕ → Report
 reportIn r =
-    reacted (codeIn (answerIn r)) (kindIn (answerIn r)) (placeIn (answerIn r)) (emittedIn (answerIn r)) (takenIn (answerIn r))
+    reacted (codeIn (answerIn r)) (kindIn (answerIn r)) (placeIn (answerIn r)) (emittedIn (answerIn r)) (reactionsIn (answerIn r))
     (phaseIn (stateIn r))
 
 abbrev pub ByPaper : Replay → Type 0

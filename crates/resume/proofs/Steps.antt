@@ -13,9 +13,9 @@ use Rattle.esterel.specs.Statement.{local, Statement, nothing, seq, par, loop, 
 use Rattle.esterel.specs.Reaction.{waiting, gives}
 use Rattle.esterel.specs.Ranks.{middle, labelsBy}
 use Rattle.esterel.specs.Resume as Esterel
-use Rattle.esterel.specs.Resume.{startTree, seqTree, parTree, tryTree, signalTree, signalOnce, heldTree, stoppedTree, expandBy, resumeTree}
+use Rattle.esterel.specs.Resume.{startTraced, seqTraced, parTraced, tryTraced, signalTraced, signalOnce, heldTraced, stoppedTraced, expandBy, resumeTraced}
 use Rattle.theory.proofs.Sets.{join-none-l}
-use Rattle.theory.proofs.Trees.{start-tree-held}
+use Rattle.theory.proofs.Trees.{start-traced-held}
 use Rattle.sequence.specs.Commands.{Command, commandOf}
 use Rattle.layout.specs.Layout.{Form, Lies}
 use Rattle.sequence.proofs.Table.{byteOf, byte-is}
@@ -47,32 +47,32 @@ module _ (base m : ℕ) (p q : Statement) where
 
 module _ (farm base m e : ℕ) {r : Reaction} where
   -- what is said of a command is said of the statement that it is
-  pub here : (t p : Statement) → p ≡ t → r ≡ reactionOf (resumeTree farm base t m e) → r ≡ reactionOf (resumeTree farm base p m e)
+  pub here : (t p : Statement) → p ≡ t → r ≡ reactionOf (resumeTraced farm base t m e) → r ≡ reactionOf (resumeTraced farm base p m e)
   here t p h = fresh.here farm (expandBy base t m) (expandBy base p m) e (ap (λ (z : Statement). expandBy base z m) h)
 
   -- ---- two parts; the first rank of the second part is k
   module _ (p q : Statement) (k f : ℕ) (hk : k ≡ middle base p) (hf : f ≡ below k m) where
-    pub seq-first : {u : Reaction} → empty f ≡ false → u ≡ reactionOf (resumeTree farm base p f e)
-        → FromOne (λ (t : Esterel.Tree). seqTree q t (startTree farm q e)) u r → r ≡ reactionOf (resumeTree farm base (seq p q) m e)
+    pub seq-first : {u : Reaction} → empty f ≡ false → u ≡ reactionOf (resumeTraced farm base p f e)
+        → FromOne (λ (t : Esterel.Traced). seqTraced q t (startTraced farm q e)) u r → r ≡ reactionOf (resumeTraced farm base (seq p q) m e)
     seq-first z h g =
         fresh.here farm (seq (expandBy base p f) q) (expandBy base (seq p q) m) e (seq-expands base m p q hk hf z) (fresh.seq-step farm e (expandBy base p f) q h g)
 
-    pub present-first : (x : ℕ) → empty f ≡ false → r ≡ reactionOf (resumeTree farm base p f e) → r ≡ reactionOf (resumeTree farm base (present x p q) m e)
+    pub present-first : (x : ℕ) → empty f ≡ false → r ≡ reactionOf (resumeTraced farm base p f e) → r ≡ reactionOf (resumeTraced farm base (present x p q) m e)
     unfolding expandBy
     present-first x z h = rw (← moved below m hk hf, z) h
 
     module _ (g : ℕ) (hg : g ≡ from k m) where
-      pub seq-second : empty f ≡ true → r ≡ reactionOf (resumeTree farm (middle base p) q g e) → r ≡ reactionOf (resumeTree farm base (seq p q) m e)
+      pub seq-second : empty f ≡ true → r ≡ reactionOf (resumeTraced farm (middle base p) q g e) → r ≡ reactionOf (resumeTraced farm base (seq p q) m e)
       unfolding expandBy
       seq-second z h = rw (← moved below m hk hf, ← moved from m hk hg, z) h
 
-      pub present-second : (x : ℕ) → empty f ≡ true → r ≡ reactionOf (resumeTree farm (middle base p) q g e)
-          → r ≡ reactionOf (resumeTree farm base (present x p q) m e)
+      pub present-second : (x : ℕ) → empty f ≡ true → r ≡ reactionOf (resumeTraced farm (middle base p) q g e)
+          → r ≡ reactionOf (resumeTraced farm base (present x p q) m e)
       unfolding expandBy
       present-second x z h = rw (← moved below m hk hf, ← moved from m hk hg, z) h
 
-      pub par-step : {u v : Reaction} → u ≡ reactionOf (startTree farm (sideBy base p f) e)
-          → v ≡ reactionOf (startTree farm (sideBy (middle base p) q g) e) → FromTwo parTree u v r → r ≡ reactionOf (resumeTree farm base (par p q) m e)
+      pub par-step : {u v : Reaction} → u ≡ reactionOf (startTraced farm (sideBy base p f) e)
+          → v ≡ reactionOf (startTraced farm (sideBy (middle base p) q g) e) → FromTwo parTraced u v r → r ≡ reactionOf (resumeTraced farm base (par p q) m e)
       par-step h i w =
           let x = sideBy base p f in
           let y = sideBy (middle base p) q g in
@@ -80,23 +80,23 @@ module _ (farm base m e : ℕ) {r : Reaction} where
 
   -- ---- one part, which resumed as u
   module _ (p : Statement) {u : Reaction} where
-    pub loop-step : (a : ℕ) (q : Statement) → q ≡ loop a p → u ≡ reactionOf (resumeTree farm base p m e)
-        → FromOne (λ (t : Esterel.Tree). seqTree q t (startTree farm q e)) u r → r ≡ reactionOf (resumeTree farm base q m e)
+    pub loop-step : (a : ℕ) (q : Statement) → q ≡ loop a p → u ≡ reactionOf (resumeTraced farm base p m e)
+        → FromOne (λ (t : Esterel.Traced). seqTraced q t (startTraced farm q e)) u r → r ≡ reactionOf (resumeTraced farm base q m e)
     loop-step a q h k w =
         fresh.here farm (seq (expandBy base p m) q) (expandBy base q m) e (loop-expands base m p q h) (fresh.seq-step farm e (expandBy base p m) q k w)
 
-    pub try-step : u ≡ reactionOf (resumeTree farm base p m e) → FromOne tryTree u r → r ≡ reactionOf (resumeTree farm base (try p) m e)
+    pub try-step : u ≡ reactionOf (resumeTraced farm base p m e) → FromOne tryTraced u r → r ≡ reactionOf (resumeTraced farm base (try p) m e)
     unfolding expandBy
     try-step = fresh.try-step farm e (expandBy base p m)
 
-    module _ (a x : ℕ) (small : x < signalCount) {e− : ℕ} (less : e− ≡ remove x e) (u-is : u ≡ reactionOf (resumeTree farm base p m e−)) where
-      pub signal-step : {v : Reaction} {e+ : ℕ} → e+ ≡ insertBelow signalCount x e → v ≡ reactionOf (resumeTree farm base p m e+)
-          → FromTwo (signalTree farm local a x) u v r → r ≡ reactionOf (resumeTree farm base (signal local a x p) m e)
+    module _ (a x : ℕ) (small : x < signalCount) {e− : ℕ} (less : e− ≡ remove x e) (u-is : u ≡ reactionOf (resumeTraced farm base p m e−)) where
+      pub signal-step : {v : Reaction} {e+ : ℕ} → e+ ≡ insertBelow signalCount x e → v ≡ reactionOf (resumeTraced farm base p m e+)
+          → FromTwo (signalTraced farm local a x) u v r → r ≡ reactionOf (resumeTraced farm base (signal local a x p) m e)
       unfolding expandBy
       signal-step = fresh.signal-step farm e local a x (expandBy base p m) small less u-is
 
       pub signal-once-step : member x (u .asked) ≡ false → FromOne (signalOnce farm local a x) u r
-          → r ≡ reactionOf (resumeTree farm base (signal local a x p) m e)
+          → r ≡ reactionOf (resumeTraced farm base (signal local a x p) m e)
       unfolding expandBy
       signal-once-step = fresh.signal-once-step farm e local a x (expandBy base p m) small less u-is
 
@@ -108,35 +108,35 @@ only-one s = sym (join-none-l (only s))
 module _ (farm base m e s : ℕ) (p : Statement) {r : Reaction} where
   -- it is held, with the labels of its active pauses
   as-held : (c : Bool) → member s e ≡ c
-      → r ≡ reactionOf (cond c (stoppedTree s (labelsBy base p m) (expandBy base p m)) (heldTree s (resumeTree farm base p m e)))
-      → r ≡ reactionOf (resumeTree farm base (suspend s p) m e)
+      → r ≡ reactionOf (cond c (stoppedTraced s (labelsBy base p m) (expandBy base p m)) (heldTraced s (resumeTraced farm base p m e)))
+      → r ≡ reactionOf (resumeTraced farm base (suspend s p) m e)
   unfolding expandBy
   as-held c i h =
-      h ∙ ap reactionOf (sym (start-tree-held farm s (labelsBy base p m) (expandBy base p m) e
-      ∙ ap (λ (x : Bool). cond x (stoppedTree s (labelsBy base p m) (expandBy base p m)) (heldTree s (resumeTree farm base p m e))) i))
+      h ∙ ap reactionOf (sym (start-traced-held farm s (labelsBy base p m) (expandBy base p m) e
+      ∙ ap (λ (x : Bool). cond x (stoppedTraced s (labelsBy base p m) (expandBy base p m)) (heldTraced s (resumeTraced farm base p m e))) i))
 
   module _ (small : s < signalCount) {b : ℕ} (noted : b ≡ onlyBelow signalCount s) where
     -- it keeps the labels K
     pub suspend-stopped : {K : ℕ} → member s e ≡ true → K ≡ labelsBy base p m → r ≡ reactionOf (alone (gives sets.none waiting K nothing) b 0)
-        → r ≡ reactionOf (resumeTree farm base (suspend s p) m e)
+        → r ≡ reactionOf (resumeTraced farm base (suspend s p) m e)
     suspend-stopped i k h = as-held true i (h ∙ rw (k, noted, lt-ltb s signalCount small, only-one s))
 
-    pub suspend-resumed : {u : Reaction} → member s e ≡ false → u ≡ reactionOf (resumeTree farm base p m e) → FromOne (countedAround b) u r
-        → r ≡ reactionOf (resumeTree farm base (suspend s p) m e)
+    pub suspend-resumed : {u : Reaction} → member s e ≡ false → u ≡ reactionOf (resumeTraced farm base p m e) → FromOne (countedAround b) u r
+        → r ≡ reactionOf (resumeTraced farm base (suspend s p) m e)
     suspend-resumed i h k =
         let z : b ≡ only s = noted ∙ rw (lt-ltb s signalCount small) in
         as-held false i
-        (k (resumeTree farm base p m e) h ∙ ap (λ (x : ℕ). reactionOf (countedAround x (resumeTree farm base p m e))) z
-        ∙ held-reaction s (resumeTree farm base p m e))
+        (k (resumeTraced farm base p m e) h ∙ ap (λ (x : ℕ). reactionOf (countedAround x (resumeTraced farm base p m e))) z
+        ∙ held-reaction s (resumeTraced farm base p m e))
 
 -- ---- a side of a parallel
 module _ (farm base m e : ℕ) (p : Statement) {r : Reaction} where
-  pub side-ended : empty m ≡ true → r ≡ reactionOf (startTree farm nothing e)
-      → r ≡ reactionOf (startTree farm (sideBy base p m) e)
+  pub side-ended : empty m ≡ true → r ≡ reactionOf (startTraced farm nothing e)
+      → r ≡ reactionOf (startTraced farm (sideBy base p m) e)
   side-ended z h = rw z h
 
-  pub side-active : empty m ≡ false → r ≡ reactionOf (resumeTree farm base p m e)
-      → r ≡ reactionOf (startTree farm (sideBy base p m) e)
+  pub side-active : empty m ≡ false → r ≡ reactionOf (resumeTraced farm base p m e)
+      → r ≡ reactionOf (startTraced farm (sideBy base p m) e)
   side-active z h = rw z h
 
 -- ---- a command without parts
@@ -146,11 +146,11 @@ Without b low zero = Unit {0}
 Without b low (suc n) = Without b low n × (b ≡ low + n → ⊥)
 
 pub leaf-step : (t : List ℕ) (d base a : ℕ) (bs : List ℕ) (p : Statement) (farm m e : ℕ) {r : Reaction} → Lies t d base a bs p → Without (getD bs 0 0) 4 6 × (getD bs 0 0 ≡ 11 → ⊥)
-    → r ≡ reactionOf (startTree farm nothing e) → r ≡ reactionOf (resumeTree farm base p m e)
+    → r ≡ reactionOf (startTraced farm nothing e) → r ≡ reactionOf (resumeTraced farm base p m e)
 unfolding expandBy
 leaf-step t d base a bs p farm m e {r} l w h = go (commandOf (getD bs 0 0)) refl (opened t d base a bs p l .1 .form)
   where
-    go : (o : Option Command) → commandOf (getD bs 0 0) ≡ o → Form (Lies t (d - 1)) t base a bs p o → r ≡ reactionOf (resumeTree farm base p m e)
+    go : (o : Option Command) → commandOf (getD bs 0 0) ≡ o → Form (Lies t (d - 1)) t base a bs p o → r ≡ reactionOf (resumeTraced farm base p m e)
     go none q f = absurd f
     go (some Command.nothing) q f = rw (f .parts) h
     go (some Command.pause) q f = rw (f .parts) h
@@ -168,6 +168,6 @@ leaf-step t d base a bs p farm m e {r} l w h = go (commandOf (getD bs 0 0)) refl
 
 -- an active pause
 pub pause-step : (t : List ℕ) (d base a : ℕ) (bs : List ℕ) (p : Statement) (farm m e : ℕ) {r : Reaction} → Lies t d base a bs p → getD bs 0 0 ≡ byteOf Command.pause
-    → r ≡ reactionOf (startTree farm nothing e) → r ≡ reactionOf (resumeTree farm base p m e)
+    → r ≡ reactionOf (startTraced farm nothing e) → r ≡ reactionOf (resumeTraced farm base p m e)
 unfolding expandBy
 pause-step t d base a bs p farm m e l b h = rw (by-command t d base a bs p l Command.pause b .parts) h

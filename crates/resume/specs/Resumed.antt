@@ -6,18 +6,18 @@ use mathlib.Core.Bool.{cond}
 use mathlib.Core.List.{List}
 use Rattle.esterel.specs.Sets.{empty}
 use Rattle.esterel.specs.Statement.{Statement, nothing}
-use Rattle.esterel.specs.Resume.{startTree, expandBy, resumeTree}
+use Rattle.esterel.specs.Resume.{startTraced, expandBy, resumeTraced}
 use Rattle.layout.specs.Layout.{Lies}
 use Rattle.reaction.specs.declared.Reaction.{Reaction}
 use Rattle.reaction.specs.Reactions.{reactionOf}
 
 -- r is the tree of the statement that lies there, with the litres of the farm f
 abbrev pub Resumed : (t : List ℕ) (d a : ℕ) (bs : List ℕ) (m e f : ℕ) (r : Reaction) → Type 0
-Resumed t d a bs m e f r = (base : ℕ) (p : Statement) → Lies t d base a bs p → r ≡ reactionOf (resumeTree f base p m e)
+Resumed t d a bs m e f r = (base : ℕ) (p : Statement) → Lies t d base a bs p → r ≡ reactionOf (resumeTraced f base p m e)
 
 -- the expansion of a side of a parallel: it has ended where none of its pauses is active
 abbrev pub sideBy : (base : ℕ) → Statement → (m : ℕ) → Statement
 sideBy base p m = cond (empty m) nothing (expandBy base p m)
 
 abbrev pub ResumedSide : (t : List ℕ) (d a : ℕ) (bs : List ℕ) (m e f : ℕ) (r : Reaction) → Type 0
-ResumedSide t d a bs m e f r = (base : ℕ) (p : Statement) → Lies t d base a bs p → r ≡ reactionOf (startTree f (sideBy base p m) e)
+ResumedSide t d a bs m e f r = (base : ℕ) (p : Statement) → Lies t d base a bs p → r ≡ reactionOf (startTraced f (sideBy base p m) e)

@@ -7,7 +7,7 @@ ghost use Rattle.labels.specs.Labels.{labelSet};
 ghost use Rattle.layout.specs.Layout.{rest, Ready};
 ghost use Rattle.resume.specs.Resumed.{Resumed, ResumedSide};
 use labels::Labels;
-use layout::Seconds;
+use layout::SecondParts;
 use reaction::Reaction;
 
 // The reaction of the statement at the front of s, which stands at the offset `at`, by the ranks of its active pauses.
@@ -18,7 +18,7 @@ pub fn resume(
     input: u32,
     farm: u8,
     active: Labels,
-    second: &Seconds,
+    second: &SecondParts,
 ) -> Reaction
     requires { ⌜ Ready (now second) depth at (now s) ⌝ }
     ensures { λ r. ⌜ Resumed (now (second .entry)) depth at (now (s .entry)) (labelSet active) input farm r ⌝ }
@@ -46,7 +46,7 @@ fn part(
     input: u32,
     farm: u8,
     active: Labels,
-    second: &Seconds,
+    second: &SecondParts,
 ) -> Reaction
     requires { ⌜ n ≤ length (now s) ⌝ }
     requires { ⌜ Ready (now second) depth at (rest n (now s)) ⌝ }
@@ -65,7 +65,7 @@ fn seq_parts(
     input: u32,
     farm: u8,
     active: Labels,
-    second: &Seconds,
+    second: &SecondParts,
 ) -> Reaction
     requires { ⌜ Ready (now second) depth at (now s) × (getD (now s) 0 0 ≡ 4) ⌝ }
     ensures { λ r. ⌜ Resumed (now (second .entry)) depth at (now (s .entry)) (labelSet active) input farm r ⌝ }
@@ -91,7 +91,7 @@ fn side(
     input: u32,
     farm: u8,
     active: Labels,
-    second: &Seconds,
+    second: &SecondParts,
 ) -> Reaction
     requires { ⌜ n ≤ length (now s) ⌝ }
     requires { ⌜ Ready (now second) depth at (rest n (now s)) ⌝ }
@@ -110,7 +110,7 @@ fn par_parts(
     input: u32,
     farm: u8,
     active: Labels,
-    second: &Seconds,
+    second: &SecondParts,
 ) -> Reaction
     requires { ⌜ Ready (now second) depth at (now s) × (getD (now s) 0 0 ≡ 5) ⌝ }
     ensures { λ r. ⌜ Resumed (now (second .entry)) depth at (now (s .entry)) (labelSet active) input farm r ⌝ }
@@ -132,7 +132,7 @@ fn loop_part(
     input: u32,
     farm: u8,
     active: Labels,
-    second: &Seconds,
+    second: &SecondParts,
 ) -> Reaction
     requires { ⌜ Ready (now second) depth at (now s) × (getD (now s) 0 0 ≡ 6) ⌝ }
     ensures { λ r. ⌜ Resumed (now (second .entry)) depth at (now (s .entry)) (labelSet active) input farm r ⌝ }
@@ -149,7 +149,7 @@ fn present_parts(
     input: u32,
     farm: u8,
     active: Labels,
-    second: &Seconds,
+    second: &SecondParts,
 ) -> Reaction
     requires { ⌜ Ready (now second) depth at (now s) × (getD (now s) 0 0 ≡ 7) ⌝ }
     ensures { λ r. ⌜ Resumed (now (second .entry)) depth at (now (s .entry)) (labelSet active) input farm r ⌝ }
@@ -172,7 +172,7 @@ fn signal_rule(
     input: u32,
     farm: u8,
     active: Labels,
-    second: &Seconds,
+    second: &SecondParts,
 ) -> Reaction
     requires { ⌜ Ready (now second) depth at (now s) × (getD (now s) 0 0 ≡ 8) ⌝ }
     ensures { λ r. ⌜ Resumed (now (second .entry)) depth at (now (s .entry)) (labelSet active) input farm r ⌝ }
@@ -189,7 +189,7 @@ fn declared(
     input: u32,
     farm: u8,
     active: Labels,
-    second: &Seconds,
+    second: &SecondParts,
 ) -> Reaction
     requires { ⌜ Ready (now second) depth at (now s) × (getD (now s) 0 0 ≡ 8) ⌝ }
     ensures { λ r. ⌜ Resumed (now (second .entry)) depth at (now (s .entry)) (labelSet active) input farm r ⌝ }
@@ -215,7 +215,7 @@ fn body(
     input: u32,
     farm: u8,
     active: Labels,
-    second: &Seconds,
+    second: &SecondParts,
 ) -> Reaction
     requires { ⌜ n ≤ length (now s) ⌝ }
     requires { ⌜ Ready (now second) depth at (rest n (now s)) ⌝ }
@@ -235,7 +235,7 @@ fn suspend_part(
     input: u32,
     farm: u8,
     active: Labels,
-    second: &Seconds,
+    second: &SecondParts,
 ) -> Reaction
     requires { ⌜ Ready (now second) depth at (now s) × (getD (now s) 0 0 ≡ 11) ⌝ }
     ensures { λ r. ⌜ Resumed (now (second .entry)) depth at (now (s .entry)) (labelSet active) input farm r ⌝ }
@@ -260,7 +260,7 @@ fn try_part(
     input: u32,
     farm: u8,
     active: Labels,
-    second: &Seconds,
+    second: &SecondParts,
 ) -> Reaction
     requires { ⌜ Ready (now second) depth at (now s) × (getD (now s) 0 0 ≡ 9) ⌝ }
     ensures { λ r. ⌜ Resumed (now (second .entry)) depth at (now (s .entry)) (labelSet active) input farm r ⌝ }

@@ -9,10 +9,10 @@ use Rattle.answers.specs.AnswerRecord.{codeIn, kindIn, placeIn, emittedIn}
 use Rattle.limits.specs.Limits.{wordLabels}
 use Rattle.sets.specs.Sets.{twoWords}
 use Rattle.runs.specs.Text.{numeral, space, newline}
-use Rattle.runs.specs.Listing.{numbersOf, setsOf, lineOf, rowIn}
+use Rattle.runs.specs.Listing.{numbersOf, setsOf, lineOf, entryRead}
 use Rattle.lines.specs.declared.Line.{Line}
 use Rattle.text.specs.Buffer.{Prepended}
-use Rattle.lines.specs.Shown.{lineLength, Shows}
+use Rattle.lines.specs.Shown.{lineLength, Displays}
 use Rattle.lines.proofs.Lines.{shown}
 use Rattle.text.proofs.Buffers.{before}
 use Rattle.text.proofs.Numerals.{numeral-split}
@@ -42,7 +42,7 @@ pub record Fields (state answer : List ℕ) (labels emitted place kind code : �
   pub code-is : code ≡ codeIn answer
 
 row-text : {state answer : List ℕ} {labels emitted place kind code : ℕ} (instant : ℕ) → Fields state answer labels emitted place kind code
-    → numbersOf instant code kind place ++ setsOf emitted labels ≡ lineOf (rowIn instant state answer)
+    → numbersOf instant code kind place ++ setsOf emitted labels ≡ lineOf (entryRead instant state answer)
 unfolding lineOf
 row-text instant f = rw (f .labels-are, f .emitted-are, f .place-is, f .kind-is, f .code-is)
 
@@ -50,6 +50,6 @@ row-text instant f = rw (f .labels-are, f .emitted-are, f .place-is, f .kind-is,
 pub shown-row : {l m state answer : List ℕ} {at labels emitted place kind code : ℕ} (instant : ℕ) → Fields state answer labels emitted place kind code
     → (line : Line) → length l ≡ lineLength → length (line .bytes) ≡ length l
     → Prepended l lineLength (setsOf emitted labels) m at → Prepended m at (numbersOf instant code kind place) (line .bytes) (line .from)
-    → Shows line (lineOf (rowIn instant state answer))
+    → Displays line (lineOf (entryRead instant state answer))
 shown-row {l} instant f line n k p q =
     shown line n k (subst (λ (t : List ℕ). Prepended l lineLength t (line .bytes) (line .from)) (row-text instant f) (before p q))

@@ -6,7 +6,7 @@ ghost use Rattle.limits.specs.Limits.{wordLabels};
 ghost use Rattle.sets.specs.Sets.{twoWords};
 ghost use Rattle.runs.specs.Listing.{numbersOf, setsOf, lineIn};
 ghost use Rattle.text.specs.Buffer.{Prepended};
-ghost use Rattle.lines.specs.Shown.{lineLength, Shows};
+ghost use Rattle.lines.specs.Shown.{lineLength, Displays};
 use lines::LINE_LENGTH;
 use lines::Line;
 
@@ -34,7 +34,7 @@ fn put_sets(line: &mut [u8], emitted: u64, low: u64, high: u64) -> usize
 
 // The line of an instant, from the records that its tick left.
 pub fn row(instant: u64, state: &[u8], answer: &[u8]) -> Line
-    ensures { λ r. ⌜ Shows r (lineIn instant (now (state .entry)) (now (answer .entry))) ⌝ }
+    ensures { λ r. ⌜ Displays r (lineIn instant (now (state .entry)) (now (answer .entry))) ⌝ }
 {
     let labels = states::labels(state);
     let low = labels::low_word(labels);

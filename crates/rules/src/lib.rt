@@ -3,7 +3,7 @@ ghost use mathlib.Core.Path.{_≡_};
 ghost use Rattle.labels.specs.Labels.{labelSet};
 ghost use Rattle.esterel.specs.Statement.{Statement};
 ghost use Rattle.esterel.specs.Reaction.{ifWaiting};
-ghost use Rattle.esterel.specs.Resume.{seqTree, parTree, loopTree, tryTree};
+ghost use Rattle.esterel.specs.Resume.{seqTraced, parTraced, loopTraced, tryTraced};
 ghost use Rattle.completions.specs.Completions.{codeOf};
 ghost use Rattle.reaction.specs.Reactions.{FromOne, FromTwo};
 use completions::Completion;
@@ -24,7 +24,7 @@ fn if_waiting(k: Completion, labels: Labels) -> Labels
 
 // p; q
 pub fn in_sequence(p: Reaction, q: Reaction) -> Reaction
-    ensures { λ r. ⌜ ((u : Statement) → FromTwo (seqTree u) p q r) ⌝ }
+    ensures { λ r. ⌜ ((u : Statement) → FromTwo (seqTraced u) p q r) ⌝ }
 {
     let k = p.completion;
     if completions::is_ended(k) {
@@ -34,7 +34,7 @@ pub fn in_sequence(p: Reaction, q: Reaction) -> Reaction
             emitted: signals::union(p.emitted, q.emitted),
             labels,
             completion: l,
-            taken: reaction::over_two(p.taken, q.taken),
+            reactions: reaction::over_two(p.reactions, q.reactions),
             asked: signals::union(p.asked, q.asked),
             delivered: reaction::together(p.delivered, q.delivered),
         }
@@ -45,7 +45,7 @@ pub fn in_sequence(p: Reaction, q: Reaction) -> Reaction
 
 // p in parallel with q
 pub fn in_parallel(p: Reaction, q: Reaction) -> Reaction
-    ensures { λ r. ⌜ FromTwo parTree p q r ⌝ }
+    ensures { λ r. ⌜ FromTwo parTraced p q r ⌝ }
 {
     let k = p.completion;
     let l = q.completion;
@@ -54,7 +54,7 @@ pub fn in_parallel(p: Reaction, q: Reaction) -> Reaction
         emitted: signals::union(p.emitted, q.emitted),
         labels: if_waiting(code, labels::union(p.labels, q.labels)),
         completion: code,
-        taken: reaction::over_two(p.taken, q.taken),
+        reactions: reaction::over_two(p.reactions, q.reactions),
         asked: signals::union(p.asked, q.asked),
         delivered: reaction::together(p.delivered, q.delivered),
     }
@@ -62,11 +62,11 @@ pub fn in_parallel(p: Reaction, q: Reaction) -> Reaction
 
 // loop p at the offset `place`
 pub fn in_loop(place: u16, p: Reaction) -> Reaction
-    ensures { λ r. ⌜ ((u : Statement) → FromOne (loopTree place u) p r) ⌝ }
+    ensures { λ r. ⌜ ((u : Statement) → FromOne (loopTraced place u) p r) ⌝ }
 {
     let k = p.completion;
     if completions::is_ended(k) {
-        reaction::failing(1, place, reaction::over_one(p.taken), p.asked)
+        reaction::failing(1, place, reaction::over_one(p.reactions), p.asked)
     } else {
         reaction::around(p, 0)
     }
@@ -74,7 +74,7 @@ pub fn in_loop(place: u16, p: Reaction) -> Reaction
 
 // try p
 pub fn in_try(p: Reaction) -> Reaction
-    ensures { λ r. ⌜ FromOne tryTree p r ⌝ }
+    ensures { λ r. ⌜ FromOne tryTraced p r ⌝ }
 {
     let labels = p.labels;
     let k = p.completion;
@@ -82,7 +82,7 @@ pub fn in_try(p: Reaction) -> Reaction
         emitted: p.emitted,
         labels,
         completion: completions::caught(k),
-        taken: reaction::over_one(p.taken),
+        reactions: reaction::over_one(p.reactions),
         asked: p.asked,
         delivered: p.delivered,
     }

@@ -9,7 +9,7 @@ use Rattle.esterel.specs.Expansion.{expand}
 use Rattle.esterel.specs.ReadBack.{membersFrom, declaredBy}
 use Rattle.sequence.specs.Commands.{commandOf}
 use Rattle.sequence.specs.Reader.{front, read}
-use Rattle.esterel.specs.Ceiling.{nesting}
+use Rattle.esterel.specs.Ceiling.{signalNesting}
 use Rattle.sequence.specs.Check.{checked, checkOf}
 use Rattle.numbers.specs.Bytes.{leBytes, leNumber}
 use Rattle.states.specs.StateRecord.{encodeState, decodeState}
@@ -17,13 +17,13 @@ use Rattle.answers.specs.AnswerRecord.{encodeAnswer}
 use Rattle.demands.specs.Tick.{tickBy, tickOf}
 use Rattle.runs.specs.Text.{numeralIn, numeral}
 use Rattle.runs.specs.File.{sequenceIn, readBackIn, words, inputsIn, fileOf}
-use Rattle.runs.specs.Listing.{lineOf, rows, lines, listingOf}
+use Rattle.runs.specs.Listing.{lineOf, entries, lines, listingOf}
 use Rattle.runs.specs.Examples.{exampleFile, exampleListing, readBackFile, readBackListing}
 
 pub example : listingOf exampleFile ≡ exampleListing
-unfolding listingOf fileOf sequenceIn readBackIn words inputsIn rows lines lineOf numeral numeralIn tickBy checkOf checked read front commandOf nesting declaredBy membersFrom distinct wellFormed everyLabel before labelsOf subset disjoint valid active expand decodeState encodeState encodeAnswer leNumber leBytes reactBy errorsBy member none only join insert remove
+unfolding listingOf fileOf sequenceIn readBackIn words inputsIn entries lines lineOf numeral numeralIn tickBy checkOf checked read front commandOf signalNesting declaredBy membersFrom distinct wellFormed everyLabel before labelsOf subset disjoint valid active expand decodeState encodeState encodeAnswer leNumber leBytes reactBy errorsBy member none only join insert remove
 example = refl
 
 pub read-back : listingOf readBackFile ≡ readBackListing
-unfolding listingOf fileOf sequenceIn readBackIn words inputsIn rows lines lineOf numeral numeralIn tickBy checkOf checked read front commandOf nesting declaredBy membersFrom distinct wellFormed everyLabel before labelsOf subset disjoint valid active expand decodeState encodeState encodeAnswer leNumber leBytes reactBy errorsBy member none only join insert remove
+unfolding listingOf fileOf sequenceIn readBackIn words inputsIn entries lines lineOf numeral numeralIn tickBy checkOf checked read front commandOf signalNesting declaredBy membersFrom distinct wellFormed everyLabel before labelsOf subset disjoint valid active expand decodeState encodeState encodeAnswer leNumber leBytes reactBy errorsBy member none only join insert remove
 read-back = refl

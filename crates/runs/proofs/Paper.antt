@@ -26,7 +26,7 @@ use Rattle.demands.specs.Demands.{stateAfterwards, cleared, report, outcomes}
 use Rattle.demands.proofs.Agreement.{demand-3}
 use Rattle.runs.specs.Text.{heading, ending}
 use Rattle.runs.specs.File.{cut, runs, byNumber, fileOf, whole, sequenceIn, readBackIn, inputsIn}
-use Rattle.runs.specs.Listing.{Row, rowOf, isOver, ticked, rows, lines, listed, listingOf}
+use Rattle.runs.specs.Listing.{Entry, entryFrom, isOver, ticked, entries, lines, listed, listingOf}
 use Rattle.runs.specs.Paper.{Columns, columns, instants, paperColumns}
 
 abbrev callsOf : List ℕ → List Call
@@ -42,43 +42,43 @@ over-shows-none i (e ∷ es) = refl
 abbrev shownAt : (i code : ℕ) → Error → (emitted : ℕ) → Columns
 shownAt i code x emitted = record { instant = i; code = code; kind = x .kind; place = x .place; emitted = emitted }
 
-abbrev reports : (code : ℕ) → Error → (emitted taken phase : ℕ) → Report
-reports code x emitted taken phase = reacted code (x .kind) (x .place) emitted taken phase
+abbrev reports : (code : ℕ) → Error → (emitted reactions phase : ℕ) → Report
+reports code x emitted reactions phase = reacted code (x .kind) (x .place) emitted reactions phase
 
-row-columns : (i code : ℕ) (x : Error) (emitted taken phase : ℕ) (state answer : List ℕ)
-    → report (outcome 0 state answer) ≡ reports code x emitted taken phase
-    → columns (rowOf i (outcome 0 state answer)) ≡ shownAt i code x emitted
-row-columns i code x emitted taken phase state answer h =
+row-columns : (i code : ℕ) (x : Error) (emitted reactions phase : ℕ) (state answer : List ℕ)
+    → report (outcome 0 state answer) ≡ reports code x emitted reactions phase
+    → columns (entryFrom i (outcome 0 state answer)) ≡ shownAt i code x emitted
+row-columns i code x emitted reactions phase state answer h =
     let c : codeIn answer ≡ code = cc in
     let k : kindIn answer ≡ x .kind = cc in
     let a : placeIn answer ≡ x .place = cc in
     let o : emittedIn answer ≡ emitted = cc in
     rw (c, k, a, o)
 
-last-row : (i code : ℕ) (x : Error) (emitted taken : ℕ) (state answer s : List ℕ) (b : ℕ) (es : List ℕ)
-    → report (outcome 0 state answer) ≡ reports code x emitted taken 2
-    → map columns (rowOf i (outcome 0 state answer) ∷ cond (isOver state) [] (rows s b state (suc i) es))
+last-row : (i code : ℕ) (x : Error) (emitted reactions : ℕ) (state answer s : List ℕ) (b : ℕ) (es : List ℕ)
+    → report (outcome 0 state answer) ≡ reports code x emitted reactions 2
+    → map columns (entryFrom i (outcome 0 state answer) ∷ cond (isOver state) [] (entries s b state (suc i) es))
     ≡ shownAt i code x emitted ∷ instants (suc i) (run byRewriting Rewriting.over es)
-last-row i code x emitted taken state answer s b es h =
+last-row i code x emitted reactions state answer s b es h =
     let p : phaseIn state ≡ 2 = cc in
-    rw (eq-eqb (phaseIn state) 2 p, over-shows-none (suc i) es) (ap (λ (y : Columns). y ∷ []) (row-columns i code x emitted taken 2 state answer h))
+    rw (eq-eqb (phaseIn state) 2 p, over-shows-none (suc i) es) (ap (λ (y : Columns). y ∷ []) (row-columns i code x emitted reactions 2 state answer h))
 
-later-row : (i code : ℕ) (x : Error) (emitted taken : ℕ) (state answer s : List ℕ) (b : ℕ) (es : List ℕ) (later : List Columns)
-    → report (outcome 0 state answer) ≡ reports code x emitted taken 1
-    → map columns (rows s b state (suc i) es) ≡ later
-    → map columns (rowOf i (outcome 0 state answer) ∷ cond (isOver state) [] (rows s b state (suc i) es))
+later-row : (i code : ℕ) (x : Error) (emitted reactions : ℕ) (state answer s : List ℕ) (b : ℕ) (es : List ℕ) (later : List Columns)
+    → report (outcome 0 state answer) ≡ reports code x emitted reactions 1
+    → map columns (entries s b state (suc i) es) ≡ later
+    → map columns (entryFrom i (outcome 0 state answer) ∷ cond (isOver state) [] (entries s b state (suc i) es))
     ≡ shownAt i code x emitted ∷ later
-later-row i code x emitted taken state answer s b es later h q =
+later-row i code x emitted reactions state answer s b es later h q =
     let p : phaseIn state ≡ 1 = cc in
     let n : phaseIn state ≢ 2 = λ z. absurd (let w : _≡_ {A = ℕ} 1 2 = sym p ∙ z in omega arith) in
-    rw (ne-eqb (phaseIn state) 2 n) (ap₂ (λ (y : Columns) (ys : List Columns). y ∷ ys) (row-columns i code x emitted taken 1 state answer h) q)
+    rw (ne-eqb (phaseIn state) 2 n) (ap₂ (λ (y : Columns) (ys : List Columns). y ∷ ys) (row-columns i code x emitted reactions 1 state answer h) q)
 
 -- a reaction with the first error and the number of reactions of its tree, and the tick that reports it
 instant-columns : (r : Reaction) (x : Option Error) (m : ℕ) (o : Outcome) (i : ℕ) (s : List ℕ) (b : ℕ) (es : List ℕ)
     → report o ≡ reportOf (seen r x m)
     → ((t : Statement) → termAfter r ≡ Rewriting.waits t
-    → map columns (rows s b (stateAfterwards o) (suc i) es) ≡ instants (suc i) (run byRewriting (Rewriting.waits t) es))
-    → map columns (rowOf i o ∷ cond (isOver (stateAfterwards o)) [] (rows s b (stateAfterwards o) (suc i) es))
+    → map columns (entries s b (stateAfterwards o) (suc i) es) ≡ instants (suc i) (run byRewriting (Rewriting.waits t) es))
+    → map columns (entryFrom i o ∷ cond (isOver (stateAfterwards o)) [] (entries s b (stateAfterwards o) (suc i) es))
     ≡ instants i (seen r x m ∷ run byRewriting (termAfter r) es)
 unfolding instants
 instant-columns (gives o ended l t) x m (outcome zero state answer) i s b es h later = last-row i 0 noError o m state answer s b es h
@@ -94,8 +94,8 @@ instant-columns (gives o k l t) x m (outcome (suc n) state answer) i s b es h la
 follow : (s : List ℕ) (b : ℕ) (es state : List ℕ) (t : Statement) (i : ℕ) (w : Rewriting)
     → ((e : ℕ) → byRewriting w e ≡ (seen (react t e) (firstError t e) (reactions t e), termAfter (react t e)))
     → map report (outcomes tickOf s b state (callsOf es)) ≡ paper w (callsOf es)
-    → map columns (rows s b state i es) ≡ instants i (run byRewriting w es)
-unfolding rows run outcomes paper instants
+    → map columns (entries s b state i es) ≡ instants i (run byRewriting w es)
+unfolding entries run outcomes paper instants
 follow s b [] state t i w steps h = refl
 follow s b (e ∷ es) state t i w steps h =
     let o : Outcome = ticked s b state e in
@@ -109,7 +109,7 @@ follow s b (e ∷ es) state t i w steps h =
 
 rows-by-paper : (sequence : List ℕ) (readBack : ℕ) (inputs : List ℕ) → checkOf sequence readBack ≡ 0
     → (p : Statement) → Spells sequence p → NoSetpause p
-    → map columns (rows sequence readBack cleared 1 inputs) ≡ paperColumns (program readBack p) inputs
+    → map columns (entries sequence readBack cleared 1 inputs) ≡ paperColumns (program readBack p) inputs
 rows-by-paper sequence readBack inputs h p s plain =
     let q : Statement = program readBack p in
     follow sequence readBack inputs cleared q 1 (Rewriting.fresh q) (λ e. refl)
@@ -128,11 +128,11 @@ file-accepted file s b es h =
     let a = accepted (whole file) (checkOf (sequenceIn file) (readBackIn file)) (sequenceIn file) (readBackIn file) (inputsIn file) s b es h in
     ap₂ checkOf (sym (a .1)) (sym (a .2)) ∙ a .0
 
--- what the run program prints: a heading, rows that are the machine's in every field but the labels, and the end
+-- what the run program prints: a heading, entries that are the machine's in every field but the labels, and the end
 pub listing-by-paper : (file sequence : List ℕ) (readBack : ℕ) (inputs : List ℕ) → fileOf file ≡ runs sequence readBack inputs
     → (p : Statement) → Spells sequence p → NoSetpause p
-    → (rs : List Row) × (listingOf file ≡ heading ++ (lines rs ++ ending)) × (map columns rs ≡ paperColumns (program readBack p) inputs)
+    → (rs : List Entry) × (listingOf file ≡ heading ++ (lines rs ++ ending)) × (map columns rs ≡ paperColumns (program readBack p) inputs)
 unfolding listingOf
 listing-by-paper file sequence readBack inputs h p s plain =
     let accepted : checkOf sequence readBack ≡ 0 = file-accepted file sequence readBack inputs h in
-    (rows sequence readBack cleared 1 inputs, ap listed h, rows-by-paper sequence readBack inputs accepted p s plain)
+    (entries sequence readBack cleared 1 inputs, ap listed h, rows-by-paper sequence readBack inputs accepted p s plain)

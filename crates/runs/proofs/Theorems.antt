@@ -10,7 +10,7 @@ use Rattle.sequence.specs.Program.{program}
 use Rattle.sequence.specs.Rows.{Spells}
 use Rattle.runs.specs.Text.{heading, ending}
 use Rattle.runs.specs.File.{runs, fileOf}
-use Rattle.runs.specs.Listing.{Row, lines, listingOf}
+use Rattle.runs.specs.Listing.{Entry, lines, listingOf}
 use Rattle.runs.specs.Stages.{opening, turns}
 use Rattle.runs.specs.Paper.{columns, paperColumns}
 use Rattle.runs.specs.Examples.{exampleFile, exampleListing, readBackFile, readBackListing}
@@ -26,7 +26,7 @@ turns-list = all.turns-list
 -- machine is fed the sequence under the declarations of its read-back set
 pub listing-by-paper : (file sequence : List ℕ) (readBack : ℕ) (inputs : List ℕ) → fileOf file ≡ runs sequence readBack inputs
     → (p : Statement) → Spells sequence p → NoSetpause p
-    → (rs : List Row) × (listingOf file ≡ heading ++ (lines rs ++ ending)) × (map columns rs ≡ paperColumns (program readBack p) inputs)
+    → (rs : List Entry) × (listingOf file ≡ heading ++ (lines rs ++ ending)) × (map columns rs ≡ paperColumns (program readBack p) inputs)
 listing-by-paper = paper.listing-by-paper
 
 pub example : listingOf exampleFile ≡ exampleListing

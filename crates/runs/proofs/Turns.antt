@@ -10,14 +10,14 @@ use Rattle.demands.specs.Demands.{stateAfterwards}
 use Rattle.runs.specs.Text.{ending}
 use Rattle.sequence.specs.Check.{checkOf}
 use Rattle.runs.specs.File.{File, cut, refused, runs, byNumber, fileOf, whole, sequenceIn, readBackIn, inputsIn}
-use Rattle.runs.specs.Listing.{rowOf, lineOf, ticked, isOver, rows, lines, listed, listingOf}
+use Rattle.runs.specs.Listing.{entryFrom, lineOf, ticked, isOver, entries, lines, listed, listingOf}
 use Rattle.runs.specs.Stages.{Stage, opening, running, closing, finished, opened, turnOf, turns}
 use Rattle.runs.proofs.Files.{inputs-length}
 
 -- the text still to come
 abbrev rest : Stage → List ℕ
 rest (opening file) = listed (fileOf file)
-rest (running s b state i es) = lines (rows s b state i es) ++ ending
+rest (running s b state i es) = lines (entries s b state i es) ++ ending
 rest closing = ending
 rest finished = []
 
@@ -45,7 +45,7 @@ opened-left (refused number) n h = h
 opened-left (runs s b es) n h = h
 
 over-or-on : (over : Bool) (s : List ℕ) (b : ℕ) (state : List ℕ) (i : ℕ) (es : List ℕ)
-    → lines (cond over [] (rows s b state i es)) ++ ending ≡ rest (cond over closing (running s b state i es))
+    → lines (cond over [] (entries s b state i es)) ++ ending ≡ rest (cond over closing (running s b state i es))
 unfolding lines
 over-or-on true s b state i es = refl
 over-or-on false s b state i es = refl
@@ -56,13 +56,13 @@ over-or-left true s b state i es n h = omega arith
 over-or-left false s b state i es n h = h
 
 turn-text : (g : Stage) → rest g ≡ turnOf g .text ++ rest (turnOf g .next)
-unfolding turnOf rows lines
+unfolding turnOf entries lines
 turn-text (opening file) = opened-text (fileOf file)
 turn-text (running s b state i []) = sym (append-nil ending)
 turn-text (running s b state i (e ∷ es)) =
     let o = ticked s b state e in
-    append-assoc (lineOf (rowOf i o)) (lines (cond (isOver (stateAfterwards o)) [] (rows s b (stateAfterwards o) (suc i) es))) ending
-    ∙ ap (λ (t : List ℕ). lineOf (rowOf i o) ++ t) (over-or-on (isOver (stateAfterwards o)) s b (stateAfterwards o) (suc i) es)
+    append-assoc (lineOf (entryFrom i o)) (lines (cond (isOver (stateAfterwards o)) [] (entries s b (stateAfterwards o) (suc i) es))) ending
+    ∙ ap (λ (t : List ℕ). lineOf (entryFrom i o) ++ t) (over-or-on (isOver (stateAfterwards o)) s b (stateAfterwards o) (suc i) es)
 turn-text closing = sym (append-nil ending)
 turn-text finished = refl
 

@@ -12,7 +12,7 @@ use Rattle.demands.specs.Demands.{stateAfterwards, answerAfterwards, cleared}
 use Rattle.runs.specs.Text.{numeral, space, newline, heading, ending, inputCut, refusal}
 use Rattle.runs.specs.File.{File, cut, refused, runs, fileOf}
 
-pub record Row : Type 0 where
+pub record Entry : Type 0 where
   pub instant : ℕ
   pub code : ℕ
   pub kind : ℕ
@@ -31,12 +31,12 @@ numbersOf instant code kind place =
 abbrev pub setsOf : (emitted labels : ℕ) → List ℕ
 setsOf emitted labels = (numeral 16 (2 * signalBytes) emitted ++ space ∷ []) ++ (numeral 16 (2 * labelBytes) labels ++ newline ∷ [])
 
-unfoldable pub lineOf : Row → List ℕ
+unfoldable pub lineOf : Entry → List ℕ
 lineOf r = numbersOf (r .instant) (r .code) (r .kind) (r .place) ++ setsOf (r .emitted) (r .labels)
 
 -- the row that a tick's records show; its labels are those of the next state
-abbrev pub rowIn : (instant : ℕ) (state answer : List ℕ) → Row
-rowIn i state answer =
+abbrev pub entryRead : (instant : ℕ) (state answer : List ℕ) → Entry
+entryRead i state answer =
     record {
       instant = i;
       code = codeIn answer;
@@ -47,10 +47,10 @@ rowIn i state answer =
     }
 
 abbrev pub lineIn : (instant : ℕ) (state answer : List ℕ) → List ℕ
-lineIn i state answer = lineOf (rowIn i state answer)
+lineIn i state answer = lineOf (entryRead i state answer)
 
-abbrev pub rowOf : (instant : ℕ) → Outcome → Row
-rowOf i o = rowIn i (stateAfterwards o) (answerAfterwards o)
+abbrev pub entryFrom : (instant : ℕ) → Outcome → Entry
+entryFrom i o = entryRead i (stateAfterwards o) (answerAfterwards o)
 
 abbrev pub isOver : List ℕ → Bool
 isOver state = eqb (phaseIn state) 2
@@ -60,20 +60,20 @@ abbrev pub ticked : (sequence : List ℕ) (readBack : ℕ) (state : List ℕ) (i
 ticked sequence readBack state e = tickOf sequence state e readBack (replicate answerLength 0)
 
 -- an instant for each input, up to the one that ends the machine; the read-back set is the same in all
-unfoldable pub rows : (sequence : List ℕ) (readBack : ℕ) (state : List ℕ) (instant : ℕ) (inputs : List ℕ) → List Row
-rows sequence readBack state i [] = []
-rows sequence readBack state i (e ∷ es) =
+unfoldable pub entries : (sequence : List ℕ) (readBack : ℕ) (state : List ℕ) (instant : ℕ) (inputs : List ℕ) → List Entry
+entries sequence readBack state i [] = []
+entries sequence readBack state i (e ∷ es) =
     let o = ticked sequence readBack state e in
-    rowOf i o ∷ cond (isOver (stateAfterwards o)) [] (rows sequence readBack (stateAfterwards o) (suc i) es)
+    entryFrom i o ∷ cond (isOver (stateAfterwards o)) [] (entries sequence readBack (stateAfterwards o) (suc i) es)
 
-unfoldable pub lines : List Row → List ℕ
+unfoldable pub lines : List Entry → List ℕ
 lines [] = []
 lines (r ∷ rs) = lineOf r ++ lines rs
 
 abbrev pub listed : File → List ℕ
 listed cut = inputCut
 listed (refused number) = refusal number
-listed (runs sequence readBack inputs) = heading ++ (lines (rows sequence readBack cleared 1 inputs) ++ ending)
+listed (runs sequence readBack inputs) = heading ++ (lines (entries sequence readBack cleared 1 inputs) ++ ending)
 
 unfoldable pub listingOf : List ℕ → List ℕ
 listingOf file = listed (fileOf file)

@@ -5,7 +5,7 @@ use mathlib.Core.List.{List, [], _∷_}
 use Rattle.esterel.specs.Statement.{Statement}
 use Rattle.esterel.specs.Machines.{Seen, instant, refused, Rewriting, byRewriting, run}
 use Rattle.answers.specs.AnswerRecord.{codeByte}
-use Rattle.runs.specs.Listing.{Row}
+use Rattle.runs.specs.Listing.{Entry}
 
 pub record Columns : Type 0 where
   pub instant : ℕ
@@ -14,7 +14,7 @@ pub record Columns : Type 0 where
   pub place : ℕ
   pub emitted : ℕ
 
-abbrev pub columns : Row → Columns
+abbrev pub columns : Entry → Columns
 columns r = record { instant = r .instant; code = r .code; kind = r .kind; place = r .place; emitted = r .emitted }
 
 -- numbered from i

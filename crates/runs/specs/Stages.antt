@@ -5,7 +5,7 @@ use mathlib.Core.List.{List, [], _∷_, _++_}
 use Rattle.demands.specs.Demands.{stateAfterwards, cleared}
 use Rattle.runs.specs.Text.{heading, ending, inputCut, refusal}
 use Rattle.runs.specs.File.{File, cut, refused, runs, fileOf}
-use Rattle.runs.specs.Listing.{lineOf, rowOf, ticked, isOver}
+use Rattle.runs.specs.Listing.{lineOf, entryFrom, ticked, isOver}
 
 pub data Stage : Type 0 where
   opening : (file : List ℕ) → Stage
@@ -36,7 +36,7 @@ turnOf (opening file) = opened (fileOf file)
 turnOf (running sequence readBack state i []) = turn ending finished
 turnOf (running sequence readBack state i (e ∷ es)) =
     let o = ticked sequence readBack state e in
-    turn (lineOf (rowOf i o)) (cond (isOver (stateAfterwards o)) closing (running sequence readBack (stateAfterwards o) (suc i) es))
+    turn (lineOf (entryFrom i o)) (cond (isOver (stateAfterwards o)) closing (running sequence readBack (stateAfterwards o) (suc i) es))
 turnOf closing = turn ending finished
 turnOf finished = turn [] finished
 

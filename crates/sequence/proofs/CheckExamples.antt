@@ -11,7 +11,7 @@ use Rattle.esterel.specs.ReadBack.{membersFrom, declaredBy}
 use Rattle.esterel.specs.LabelTests.{subset, disjoint, labelsOf, everyLabel, distinct, before, wellFormed}
 use Rattle.sequence.specs.Commands.{commandOf}
 use Rattle.sequence.specs.Reader.{front, read}
-use Rattle.esterel.specs.Ceiling.{nesting}
+use Rattle.esterel.specs.Ceiling.{signalNesting}
 use Rattle.sequence.specs.Check.{checked, checkOf}
 
 -- n times
@@ -120,5 +120,5 @@ readBackTable =
 -- THE TABLES
 pub examples : (map (λ (x : List ℕ × ℕ). checkOf (x .0) none) table ≡ map (λ (x : List ℕ × ℕ). x .1) table)
     × (map (λ (x : List ℕ × ℕ × ℕ). checkOf (x .0) (x .1)) readBackTable ≡ map (λ (x : List ℕ × ℕ × ℕ). x .2) readBackTable)
-unfolding ofBits ofFields odd inUnsigned whole leNumber checkOf checked read front commandOf nesting declaredBy membersFrom flatten distinct wellFormed everyLabel before labelsOf subset disjoint member none only join
+unfolding ofBits ofFields odd inUnsigned whole leNumber checkOf checked read front commandOf signalNesting declaredBy membersFrom flatten distinct wellFormed everyLabel before labelsOf subset disjoint member none only join
 examples = (refl, refl)

@@ -10,7 +10,7 @@ use lib.Seq.{drop-at}
 use borrow.Author.Tests.{lt-ltb, le-leb}
 use Rattle.esterel.specs.Statement.{pure, litres, local, reported, Statement, nothing, pause, emit, exit, seq, par, loop, present, signal, try, setpause, suspend, held}
 use Rattle.limits.specs.Limits.{labelCount, signalCount, maxExit}
-use Rattle.sequence.specs.Commands.{Command, commandOf, operandsOf, partCount, inRange, litresFit, width, declares}
+use Rattle.sequence.specs.Commands.{Command, commandOf, operandsOf, partCount, inRange, litresFit, headLength, declares}
 use Rattle.sequence.specs.Reader.{accepted, lastPart, firstPart, readParts, read}
 use Rattle.sequence.specs.Writer.{bytesOf, size, depthOf, Within, PlacedAt}
 use Rattle.numbers.specs.Bytes.{leBytes}
@@ -36,7 +36,7 @@ depth-positive (suspend s p) = omega arith
 depth-positive (held s K p) = omega arith
 
 -- a command that is there, with its operands in their ranges and its signals allowed
-starts : (d g a : ℕ) (bs : List ℕ) (c : Command) → commandOf (getD bs 0 0) ≡ some c → width c ≤ length bs → inRange c (operandsOf c bs) ≡ true
+starts : (d g a : ℕ) (bs : List ℕ) (c : Command) → commandOf (getD bs 0 0) ≡ some c → headLength c ≤ length bs → inRange c (operandsOf c bs) ≡ true
     → litresFit c (operandsOf c bs) ≡ true → declares c ≤ g → read (suc d) g a bs ≡ readParts (read d (g - declares c)) c a (operandsOf c bs) (partCount c) bs
 starts d g a bs c e l r i f =
     let w : Fronted bs c (operandsOf c bs) = record { byte = e; long = l; operands = refl; ranged = r; fit = i } in

@@ -7,7 +7,7 @@ use mathlib.Core.Path.{_≡_, refl, sym, _∙_, subst}
 use mathlib.Core.List.{List, [], append-nil}
 use lib.ListN.{length-append}
 use Rattle.esterel.specs.Statement.{pure, litres, Statement, nothing, pause, emit, exit, seq, par, loop, present, signal, try, setpause, suspend, held}
-use Rattle.esterel.specs.Ceiling.{commands, loopNesting, nesting}
+use Rattle.esterel.specs.Ceiling.{commands, loopNesting, signalNesting}
 use Rattle.limits.specs.Limits.{maxDepth, maxSignals}
 use Rattle.sequence.specs.Program.{program}
 use Rattle.sequence.specs.Check.{sound, checked}
@@ -42,12 +42,12 @@ extent (suspend s p) h = let x = extent p (h .1) in (omega arith, omega arith)
 extent (held s K p) h = absurd h
 
 -- row 6 with the read-back set
-pub few-signals : (bs : List ℕ) (readBack : ℕ) (p : Statement) → checked bs readBack ≡ sound p → nesting (program readBack p) ≤ maxSignals
+pub few-signals : (bs : List ℕ) (readBack : ℕ) (p : Statement) → checked bs readBack ≡ sound p → signalNesting (program readBack p) ≤ maxSignals
 few-signals bs readBack p e =
     let d = subst (Decides bs readBack) e (decided bs readBack) in
     let w : Written maxDepth maxSignals 0 bs p (size p)
     = record { rest = []; bytes = d .1 .0 ∙ sym (append-nil (bytesOf p)); count = refl; within = d .1 .1; placed = d .1 .2 } in
-    elim (decLt maxSignals (nesting (program readBack p))) [
+    elim (decLt maxSignals (signalNesting (program readBack p))) [
       | yes i ↦ absurd (d .0 6 (row-6 w i))
       | no i ↦ omega (arith, i)
     ]

@@ -9,14 +9,14 @@ use native.Mathlib.Omega.{arith}
 use lib.ListN.{length, getD, take, drop}
 use lib.Seq.{drop-cons}
 use Rattle.limits.specs.Limits.{lastCommand}
-use Rattle.sequence.specs.Commands.{Command, commandOf, operandCount, bytesAt, operandsOf, inRange, litresFit, width}
+use Rattle.sequence.specs.Commands.{Command, commandOf, operandCount, bytesAt, operandsOf, inRange, litresFit, headLength}
 use Rattle.sequence.specs.Reader.{Front, command, bad, after, firstBytes, withOperands, withCommand, front}
 use Rattle.sequence.proofs.Table.{above, unnamed, byteOf, byte-is}
 
 -- the command c with operand bytes xs
 pub record Fronted (bs : List ℕ) (c : Command) (xs : List ℕ) : Type 0 where
   pub byte : commandOf (getD bs 0 0) ≡ some c
-  pub long : width c ≤ length bs
+  pub long : headLength c ≤ length bs
   pub operands : xs ≡ operandsOf c bs
   pub ranged : inRange c xs ≡ true
   pub fit : litresFit c xs ≡ true
@@ -24,9 +24,9 @@ pub record Fronted (bs : List ℕ) (c : Command) (xs : List ℕ) : Type 0 where
 pub data Fronts (bs : List ℕ) : Front → Type 0 where
   empty : length bs ≡ 0 → Fronts bs (bad 4)
   unknown : 0 < length bs → lastCommand < getD bs 0 0 → Fronts bs (bad 3)
-  short : (c : Command) → 0 < length bs → commandOf (getD bs 0 0) ≡ some c → length bs < width c → Fronts bs (bad 4)
-  outside : (c : Command) → commandOf (getD bs 0 0) ≡ some c → width c ≤ length bs → inRange c (operandsOf c bs) ≡ false → Fronts bs (bad 5)
-  unfit : (c : Command) → commandOf (getD bs 0 0) ≡ some c → width c ≤ length bs → inRange c (operandsOf c bs) ≡ true
+  short : (c : Command) → 0 < length bs → commandOf (getD bs 0 0) ≡ some c → length bs < headLength c → Fronts bs (bad 4)
+  outside : (c : Command) → commandOf (getD bs 0 0) ≡ some c → headLength c ≤ length bs → inRange c (operandsOf c bs) ≡ false → Fronts bs (bad 5)
+  unfit : (c : Command) → commandOf (getD bs 0 0) ≡ some c → headLength c ≤ length bs → inRange c (operandsOf c bs) ≡ true
       → litresFit c (operandsOf c bs) ≡ false → Fronts bs (bad 18)
   whole : (c : Command) (xs : List ℕ) → Fronted bs c xs → Fronts bs (command c xs)
 
@@ -90,23 +90,23 @@ module _ (bs : List ℕ) where
   told : (f : Front) → Fronts bs f → Fronts bs (front bs)
   told f v = subst (Fronts bs) (sym (front-is bs f v)) v
 
-  by-litres : (c : Command) → commandOf (getD bs 0 0) ≡ some c → width c ≤ length bs → inRange c (operandsOf c bs) ≡ true → (u : Bool)
+  by-litres : (c : Command) → commandOf (getD bs 0 0) ≡ some c → headLength c ≤ length bs → inRange c (operandsOf c bs) ≡ true → (u : Bool)
       → litresFit c (operandsOf c bs) ≡ u → Fronts bs (front bs)
   by-litres c e l r true i =
       told _ (Fronts.whole c (operandsOf c bs) (record { byte = e; long = l; operands = refl; ranged = r; fit = i }))
   by-litres c e l r false i = told _ (Fronts.unfit c e l r i)
 
-  by-range : (c : Command) → commandOf (getD bs 0 0) ≡ some c → width c ≤ length bs → (t : Bool) → inRange c (operandsOf c bs) ≡ t → Fronts bs (front bs)
+  by-range : (c : Command) → commandOf (getD bs 0 0) ≡ some c → headLength c ≤ length bs → (t : Bool) → inRange c (operandsOf c bs) ≡ t → Fronts bs (front bs)
   by-range c e l true r = by-litres c e l r (litresFit c (operandsOf c bs)) refl
   by-range c e l false r = told _ (Fronts.outside c e l r)
 
-  by-width : 0 < length bs → (c : Command) → commandOf (getD bs 0 0) ≡ some c → Dec (length bs < width c) → Fronts bs (front bs)
+  by-width : 0 < length bs → (c : Command) → commandOf (getD bs 0 0) ≡ some c → Dec (length bs < headLength c) → Fronts bs (front bs)
   by-width n c e (yes l) = told _ (Fronts.short c n e l)
   by-width n c e (no l) = by-range c e (omega (arith, l)) (inRange c (operandsOf c bs)) refl
 
   by-byte : 0 < length bs → (o : Option Command) → commandOf (getD bs 0 0) ≡ o → Fronts bs (front bs)
   by-byte n none e = told _ (Fronts.unknown n (unnamed (getD bs 0 0) e))
-  by-byte n (some c) e = by-width n c e (decLt (length bs) (width c))
+  by-byte n (some c) e = by-width n c e (decLt (length bs) (headLength c))
 
   by-length : Dec (0 < length bs) → Fronts bs (front bs)
   by-length (yes n) = by-byte n (commandOf (getD bs 0 0)) refl
@@ -122,12 +122,12 @@ module _ (bs : List ℕ) where
   fronted c xs e = only-whole c xs (fronts (command c xs) e)
 
 -- the bytes are those of the command, and the rest
-pub own-bytes : (bs : List ℕ) (c : Command) (xs : List ℕ) → Fronted bs c xs → bs ≡ byteOf c ∷ operandsOf c bs ++ drop (width c) bs
+pub own-bytes : (bs : List ℕ) (c : Command) (xs : List ℕ) → Fronted bs c xs → bs ≡ byteOf c ∷ operandsOf c bs ++ drop (headLength c) bs
 own-bytes [] c xs f = absurd (omega (arith, f .long))
 own-bytes (b ∷ bs) c xs f =
     let n : ℕ = operandCount c in
     let w : 1 + n ≡ suc n = omega arith in
-    let t : bs ≡ operandsOf c (b ∷ bs) ++ drop (width c) (b ∷ bs)
+    let t : bs ≡ operandsOf c (b ∷ bs) ++ drop (headLength c) (b ∷ bs)
     = split n bs (omega (arith, f .long)) ∙ ap (λ (l : List ℕ). l ++ drop n bs) (sym (behind b 0 n bs))
     ∙ ap (λ (k : ℕ). operandsOf c (b ∷ bs) ++ drop k (b ∷ bs)) (sym w) in
-    ap (λ (l : List ℕ). b ∷ l) t ∙ ap (λ (k : ℕ). k ∷ operandsOf c (b ∷ bs) ++ drop (width c) (b ∷ bs)) (byte-is b c (f .byte))
+    ap (λ (l : List ℕ). b ∷ l) t ∙ ap (λ (k : ℕ). k ∷ operandsOf c (b ∷ bs) ++ drop (headLength c) (b ∷ bs)) (byte-is b c (f .byte))

@@ -8,7 +8,7 @@ use lib.ListN.{drop}
 use lib.Dec.{ltb}
 use borrow.Author.Tests.{ltb-true, ltb-false, lt-ltb, le-ltb}
 use Rattle.esterel.specs.Statement.{Statement, nothing}
-use Rattle.sequence.specs.Commands.{Command, partCount, width, declares, build}
+use Rattle.sequence.specs.Commands.{Command, partCount, headLength, declares, build}
 use Rattle.sequence.specs.Reader.{Read, accepted, refused, Front, command, bad, front, lastPart, firstPart, readParts, tooDeep, readCommand, read}
 use Rattle.sequence.proofs.Table.{at-most-two}
 use Rattle.sequence.proofs.Front.{Fronted, fronted}
@@ -29,20 +29,20 @@ pub data Meets (r : (signals a : ℕ) → List ℕ → Read) (signals a : ℕ) (
   unsound : (k : ℕ) → front bs ≡ bad k → Meets r signals a bs (refused k)
   crowded : (c : Command) (xs : List ℕ) → front bs ≡ command c xs → signals < declares c → Meets r signals a bs (refused 6)
   leaf : (c : Command) (xs : List ℕ) → Allowed signals bs c xs → partCount c ≡ 0
-      → Meets r signals a bs (accepted (build c a xs nothing nothing) (width c))
+      → Meets r signals a bs (accepted (build c a xs nothing nothing) (headLength c))
   one : (c : Command) (xs : List ℕ) → Allowed signals bs c xs → partCount c ≡ 1
-      → (p : Statement) (n : ℕ) → r (signals - declares c) (a + width c) (drop (width c) bs) ≡ accepted p n
-      → Meets r signals a bs (accepted (build c a xs p nothing) (width c + n))
+      → (p : Statement) (n : ℕ) → r (signals - declares c) (a + headLength c) (drop (headLength c) bs) ≡ accepted p n
+      → Meets r signals a bs (accepted (build c a xs p nothing) (headLength c + n))
   two : (c : Command) (xs : List ℕ) → Allowed signals bs c xs → partCount c ≡ 2
-      → (p : Statement) (n : ℕ) → r (signals - declares c) (a + width c) (drop (width c) bs) ≡ accepted p n
-      → (q : Statement) (m : ℕ) → r (signals - declares c) (a + (width c + n)) (drop (width c + n) bs) ≡ accepted q m
-      → Meets r signals a bs (accepted (build c a xs p q) (width c + n + m))
+      → (p : Statement) (n : ℕ) → r (signals - declares c) (a + headLength c) (drop (headLength c) bs) ≡ accepted p n
+      → (q : Statement) (m : ℕ) → r (signals - declares c) (a + (headLength c + n)) (drop (headLength c + n) bs) ≡ accepted q m
+      → Meets r signals a bs (accepted (build c a xs p q) (headLength c + n + m))
   first-refused : (c : Command) (xs : List ℕ) → Allowed signals bs c xs → (i : ℕ) → partCount c ≡ suc i
-      → (k : ℕ) → r (signals - declares c) (a + width c) (drop (width c) bs) ≡ refused k
+      → (k : ℕ) → r (signals - declares c) (a + headLength c) (drop (headLength c) bs) ≡ refused k
       → Meets r signals a bs (refused k)
   second-refused : (c : Command) (xs : List ℕ) → Allowed signals bs c xs → partCount c ≡ 2
-      → (p : Statement) (n : ℕ) → r (signals - declares c) (a + width c) (drop (width c) bs) ≡ accepted p n
-      → (k : ℕ) → r (signals - declares c) (a + (width c + n)) (drop (width c + n) bs) ≡ refused k
+      → (p : Statement) (n : ℕ) → r (signals - declares c) (a + headLength c) (drop (headLength c) bs) ≡ accepted p n
+      → (k : ℕ) → r (signals - declares c) (a + (headLength c + n)) (drop (headLength c + n) bs) ≡ refused k
       → Meets r signals a bs (refused k)
 
 pub stops : (signals a : ℕ) (bs : List ℕ) → Stops bs (read zero signals a bs)
@@ -61,24 +61,24 @@ module _ (r : (signals a : ℕ) → List ℕ → Read) (signals a : ℕ) (bs : L
     abbrev part : ℕ → Read
     part k = r (signals - declares c) (a + k) (drop k bs)
 
-    meets-one : partCount c ≡ 1 → (y : Read) → part (width c) ≡ y → Met (lastPart (λ p. build c a xs p nothing) (width c) y)
+    meets-one : partCount c ≡ 1 → (y : Read) → part (headLength c) ≡ y → Met (lastPart (λ p. build c a xs p nothing) (headLength c) y)
     meets-one z (accepted p n) e = Meets.one c xs h z p n e
     meets-one z (refused k) e = Meets.first-refused c xs h 0 z k e
 
-    meets-second : partCount c ≡ 2 → (p : Statement) (n : ℕ) → part (width c) ≡ accepted p n → (y : Read) → part (width c + n) ≡ y
-        → Met (lastPart (λ q. build c a xs p q) (width c + n) y)
+    meets-second : partCount c ≡ 2 → (p : Statement) (n : ℕ) → part (headLength c) ≡ accepted p n → (y : Read) → part (headLength c + n) ≡ y
+        → Met (lastPart (λ q. build c a xs p q) (headLength c + n) y)
     meets-second z p n e (accepted q m) f = Meets.two c xs h z p n e q m f
     meets-second z p n e (refused k) f = Meets.second-refused c xs h z p n e k f
 
-    meets-first : partCount c ≡ 2 → (y : Read) → part (width c) ≡ y
-        → Met (firstPart (λ p n. lastPart (λ q. build c a xs p q) (width c + n) (part (width c + n))) y)
-    meets-first z (accepted p n) e = meets-second z p n e (part (width c + n)) refl
+    meets-first : partCount c ≡ 2 → (y : Read) → part (headLength c) ≡ y
+        → Met (firstPart (λ p n. lastPart (λ q. build c a xs p q) (headLength c + n) (part (headLength c + n))) y)
+    meets-first z (accepted p n) e = meets-second z p n e (part (headLength c + n)) refl
     meets-first z (refused k) e = Meets.first-refused c xs h 1 z k e
 
     meets-parts : (i : ℕ) → partCount c ≡ i → Met (readParts (r (signals - declares c)) c a xs i bs)
     meets-parts zero z = Meets.leaf c xs h z
-    meets-parts (suc zero) z = meets-one z (part (width c)) refl
-    meets-parts (suc (suc i)) z = meets-first (omega (arith, at-most-two c)) (part (width c)) refl
+    meets-parts (suc zero) z = meets-one z (part (headLength c)) refl
+    meets-parts (suc (suc i)) z = meets-first (omega (arith, at-most-two c)) (part (headLength c)) refl
 
   meets-allowed : (c : Command) (xs : List ℕ) → front bs ≡ command c xs → (t : Bool) → ltb signals (declares c) ≡ t
       → Met (cond t (refused 6) (readParts (r (signals - declares c)) c a xs (partCount c) bs))

@@ -17,17 +17,17 @@ use Rattle.theory.proofs.LabelTests.{distinct-is, targeted-is, wellFormed-is}
 use Rattle.limits.specs.Limits.{maxBytes, maxDepth, maxSignals}
 use Rattle.sequence.specs.Commands.{declares}
 use Rattle.sequence.specs.Reader.{Read, accepted, refused, Front, command, front, read}
-use Rattle.esterel.specs.Ceiling.{nesting}
+use Rattle.esterel.specs.Ceiling.{signalNesting}
 use Rattle.sequence.specs.Program.{program}
 use Rattle.sequence.specs.Writer.{Written}
 use Rattle.sequence.specs.Check.{Checked, sound, bad, labelRules, afterRead, checked, numberOf, checkOf}
-use Rattle.sequence.specs.Rows.{Slot, slot, Position, at, Fault, unknown, no-statement, no-operand, out-of-range, no-litres, too-deep, too-many-signals, enter, next, walk, Spells, Row, row-2, row-3-to-6, row-6, row-7, row-8, row-9, row-10, rank, ByRows}
+use Rattle.sequence.specs.Rows.{Awaited, awaits, Reached, at, Fault, unknown, no-statement, no-operand, out-of-range, no-litres, too-deep, too-many-signals, enter, next, walk, Spells, Row, row-2, row-3-to-6, row-6, row-7, row-8, row-9, row-10, rank, ByRows}
 use Rattle.sequence.proofs.Walk.{faultOf, fault-is, Faulty, Comes, comes}
 use Rattle.sequence.proofs.Sound.{count-within}
 use Rattle.sequence.proofs.Writer.{reader-writer, reads-what-is-written}
 use Rattle.sequence.proofs.ByRows.{rank-least, refused-by, accepted-by}
 
-fault-range : {bs : List ℕ} {s : Slot} {k : ℕ} → Fault bs s k → (3 ≤ k) × (k ≤ 18)
+fault-range : {bs : List ℕ} {s : Awaited} {k : ℕ} → Fault bs s k → (3 ≤ k) × (k ≤ 18)
 fault-range (unknown h) = omega arith
 fault-range no-statement = omega arith
 fault-range (no-operand i o) = omega arith
@@ -36,7 +36,7 @@ fault-range (no-litres i o r f) = omega arith
 fault-range (too-deep f h) = omega arith
 fault-range (too-many-signals f h) = omega arith
 
-fault-rank : {bs : List ℕ} {s : Slot} {k : ℕ} → Fault bs s k → rank k ≤ 20
+fault-rank : {bs : List ℕ} {s : Awaited} {k : ℕ} → Fault bs s k → rank k ≤ 20
 fault-rank (unknown h) = omega arith
 fault-rank no-statement = omega arith
 fault-rank (no-operand i o) = omega arith
@@ -61,21 +61,21 @@ module _ (bs : List ℕ) where
       ]
 
   -- the last position of the walk
-  pub record Last (n : ℕ) (x : Position) : Type 0 where
+  pub record Last (n : ℕ) (x : Reached) : Type 0 where
     pub here : walk n bs ≡ some x
     pub stop : next bs (some x) ≡ none
 
-  stopped : (n : ℕ) (x : Position) → Last n x → walk (suc n) bs ≡ none
+  stopped : (n : ℕ) (x : Reached) → Last n x → walk (suc n) bs ≡ none
   unfolding walk
   stopped n x l = ap (next bs) (l .here) ∙ l .stop
 
-  not-later : (n m : ℕ) (x y : Position) → Last n x → walk m bs ≡ some y → n < m → ⊥
+  not-later : (n m : ℕ) (x y : Reached) → Last n x → walk m bs ≡ some y → n < m → ⊥
   not-later n m x y l h i =
       let e : walk m bs ≡ none = later (suc n) m i (stopped n x l) in
       let z : _≡_ {A = ℕ} 0 1 = cc in
       omega arith
 
-  last-unique : (n m : ℕ) (x y : Position) → Last n x → Last m y → x ≡ y
+  last-unique : (n m : ℕ) (x y : Reached) → Last n x → Last m y → x ≡ y
   last-unique n m x y l r =
       elim (decLt n m) [
         | yes i ↦ absurd (not-later n m x y l (r .here) i)
@@ -86,16 +86,16 @@ module _ (bs : List ℕ) where
         ]
       ]
 
-  stays : (k : ℕ) (b : Bool) (y : Option Position) → cond b none (some 6) ≡ some k → cond b y none ≡ none
+  stays : (k : ℕ) (b : Bool) (y : Option Reached) → cond b none (some 6) ≡ some k → cond b y none ≡ none
   stays k true y h = absurd (let z : _≡_ {A = ℕ} 0 1 = cc in omega arith)
   stays k false y h = refl
 
-  faulty-last : (n a : ℕ) (s : Slot) (w : List Slot) (k : ℕ) → walk n bs ≡ some (at a (s ∷ w)) → Fault (drop a bs) s k
+  faulty-last : (n a : ℕ) (s : Awaited) (w : List Awaited) (k : ℕ) → walk n bs ≡ some (at a (s ∷ w)) → Fault (drop a bs) s k
       → Last n (at a (s ∷ w))
-  faulty-last n a (slot d g) w k h f =
-      record { here = h; stop = go (front (drop a bs)) (fault-is (slot d g) (drop a bs) k .0 f) }
+  faulty-last n a (awaits d g) w k h f =
+      record { here = h; stop = go (front (drop a bs)) (fault-is (awaits d g) (drop a bs) k .0 f) }
     where
-      go : (y : Front) → faultOf (slot d g) y ≡ some k → enter a d g w y ≡ none
+      go : (y : Front) → faultOf (awaits d g) y ≡ some k → enter a d g w y ≡ none
       go (Front.bad m) e = refl
       go (command c xs) e = stays k (ltb d maxDepth && leb (g + declares c) maxSignals) _ e
 
@@ -103,7 +103,7 @@ module _ (bs : List ℕ) where
   ended-last n a h = record { here = h; stop = refl }
 
   -- two faults are one; a fault and an end exclude each other; two ends are one
-  one-fault : (n m a b k j : ℕ) (s t : Slot) (v w : List Slot) → walk n bs ≡ some (at a (s ∷ v)) → Fault (drop a bs) s k
+  one-fault : (n m a b k j : ℕ) (s t : Awaited) (v w : List Awaited) → walk n bs ≡ some (at a (s ∷ v)) → Fault (drop a bs) s k
       → walk m bs ≡ some (at b (t ∷ w)) → Fault (drop b bs) t j → k ≡ j
   one-fault n m a b k j s t v w h f i g =
       let e : at a (s ∷ v) ≡ at b (t ∷ w) = last-unique n m _ _ (faulty-last n a s v k h f) (faulty-last m b t w j i g) in
@@ -111,9 +111,9 @@ module _ (bs : List ℕ) where
       let es : s ≡ t = cc in
       Option·some-injective k j
       (sym (fault-is s (drop a bs) k .0 f) ∙ ap (λ (x : ℕ). faultOf s (front (drop x bs))) ea
-      ∙ ap (λ (x : Slot). faultOf x (front (drop b bs))) es ∙ fault-is t (drop b bs) j .0 g)
+      ∙ ap (λ (x : Awaited). faultOf x (front (drop b bs))) es ∙ fault-is t (drop b bs) j .0 g)
 
-  fault-or-end : (n m a b k : ℕ) (s : Slot) (w : List Slot) → walk n bs ≡ some (at a (s ∷ w)) → Fault (drop a bs) s k
+  fault-or-end : (n m a b k : ℕ) (s : Awaited) (w : List Awaited) → walk n bs ≡ some (at a (s ∷ w)) → Fault (drop a bs) s k
       → walk m bs ≡ some (at b []) → ⊥
   fault-or-end n m a b k s w h f i =
       let e : at a (s ∷ w) ≡ at b [] = last-unique n m _ _ (faulty-last n a s w k h f) (ended-last m b i) in
@@ -187,9 +187,9 @@ module _ (bs : List ℕ) (readBack : ℕ) where
       none-below m l (row-9 {p = p} s y) = unspelled bs p k s x
       none-below m l (row-10 {p = p} s y) = unspelled bs p k s x
 
-  -- the declarations make the nesting of signals exceed six
+  -- the declarations make the signalNesting of signals exceed six
   abbrev Crowded : Statement → Type 0
-  Crowded p = maxSignals < nesting (program readBack p)
+  Crowded p = maxSignals < signalNesting (program readBack p)
 
   given-6 : Sized → (p : Statement) (m n a : ℕ) → read maxDepth maxSignals 0 bs ≡ accepted p m → walk n bs ≡ some (at a []) → Crowded p → Given 6
   given-6 z p j n a e h c = (row-6 (reader-writer maxDepth maxSignals 0 bs p j .0 e) c, none-below)
@@ -294,7 +294,7 @@ module _ (bs : List ℕ) (readBack : ℕ) where
 
   read-decides : Sized → (r : Read) → read maxDepth maxSignals 0 bs ≡ r → Comes bs 0 [] r → Decides (afterRead readBack (length bs) r)
   read-decides z (refused k) e x = given-fault z k x
-  read-decides z (accepted p m) e x = crowds (ltb maxSignals (nesting (program readBack p))) refl
+  read-decides z (accepted p m) e x = crowds (ltb maxSignals (signalNesting (program readBack p))) refl
     where
       exact : (m ≡ length bs) → ¬ Crowded p → Decides (labelRules p)
       exact i c =
@@ -306,10 +306,10 @@ module _ (bs : List ℕ) (readBack : ℕ) where
       go c false i =
           exact (omega (arith, ltb-false m (length bs) i, count-within maxDepth maxSignals 0 bs p m e)) c
 
-      crowds : (b : Bool) → ltb maxSignals (nesting (program readBack p)) ≡ b
+      crowds : (b : Bool) → ltb maxSignals (signalNesting (program readBack p)) ≡ b
           → Decides (cond b (bad 6) (cond (ltb m (length bs)) (bad 7) (labelRules p)))
-      crowds true i = given-6 z p m (x .0) (0 + m) e (x .1) (ltb-true maxSignals (nesting (program readBack p)) i)
-      crowds false i = go (λ c. omega (arith, ltb-false maxSignals (nesting (program readBack p)) i)) (ltb m (length bs)) refl
+      crowds true i = given-6 z p m (x .0) (0 + m) e (x .1) (ltb-true maxSignals (signalNesting (program readBack p)) i)
+      crowds false i = go (λ c. omega (arith, ltb-false maxSignals (signalNesting (program readBack p)) i)) (ltb m (length bs)) refl
 
   pub decided : Decides (checked bs readBack)
   unfolding checked walk

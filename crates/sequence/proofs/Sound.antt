@@ -10,9 +10,9 @@ use lib.Dec.{leb}
 use borrow.Author.Tests.{ltb-true, leb-true}
 use Rattle.esterel.specs.Statement.{local, pure, litres, Statement, nothing, pause, emit, exit, seq, par, loop, present, signal, try, setpause, suspend}
 use Rattle.limits.specs.Limits.{labelCount, signalCount, maxExit}
-use Rattle.sequence.specs.Commands.{Command, partCount, bytesAt, operandsOf, inRange, litresFit, width, declares, build}
+use Rattle.sequence.specs.Commands.{Command, partCount, bytesAt, operandsOf, inRange, litresFit, headLength, declares, build}
 use Rattle.sequence.specs.Reader.{accepted, read}
-use Rattle.esterel.specs.Ceiling.{nesting}
+use Rattle.esterel.specs.Ceiling.{signalNesting}
 use Rattle.sequence.specs.Writer.{bytesOf, depthOf, Ranged, PlacedAt, Written}
 use Rattle.sequence.specs.Amounts.{amountIn}
 use Rattle.sequence.proofs.Amounts.{amount-read}
@@ -23,7 +23,7 @@ use Rattle.sequence.proofs.Shapes.{OnePart, TwoParts, loop-shape, try-s
 
 -- ---- a command whose own bytes h stand at the front, by its parts
 module _ (d g a : ℕ) (h bs : List ℕ) (are : bs ≡ h ++ drop (length h) bs) where
-  leaf-sound : (p : Statement) → bytesOf p ≡ h → depthOf p ≡ 1 → nesting p ≡ 0 → Ranged p → PlacedAt a p → Written (suc d) g a bs p (length h)
+  leaf-sound : (p : Statement) → bytesOf p ≡ h → depthOf p ≡ 1 → signalNesting p ≡ 0 → Ranged p → PlacedAt a p → Written (suc d) g a bs p (length h)
   leaf-sound p e i j r s =
       record {
         rest = drop (length h) bs;
@@ -73,7 +73,7 @@ module _ (d g a : ℕ) (h bs : List ℕ) (are : bs ≡ h ++ drop (length h) bs) 
 module _ (d g a : ℕ) (bs : List ℕ) where
   -- the command c stands at the front of the bytes
   abbrev Stands : Command → Type 0
-  Stands c = (inRange c (operandsOf c bs) ≡ true) × (litresFit c (operandsOf c bs) ≡ true) × (bs ≡ byteOf c ∷ operandsOf c bs ++ drop (width c) bs)
+  Stands c = (inRange c (operandsOf c bs) ≡ true) × (litresFit c (operandsOf c bs) ≡ true) × (bs ≡ byteOf c ∷ operandsOf c bs ++ drop (headLength c) bs)
 
   stands : (c : Command) (xs : List ℕ) → Fronted bs c xs → Stands c
   stands c xs f = (ap (inRange c) (sym (f .operands)) ∙ f .ranged, ap (litresFit c) (sym (f .operands)) ∙ f .fit, own-bytes bs c xs f)
@@ -82,21 +82,21 @@ module _ (d g a : ℕ) (bs : List ℕ) where
   x = getD bs 1 0
 
   abbrev LeafSound : Command → Type 0
-  LeafSound c = Stands c → Written (suc d) g a bs (build c a (operandsOf c bs) nothing nothing) (width c)
+  LeafSound c = Stands c → Written (suc d) g a bs (build c a (operandsOf c bs) nothing nothing) (headLength c)
 
   abbrev OneSound : Command → Type 0
   OneSound c =
-      Stands c → declares c ≤ g → (p : Statement) (m : ℕ) → Written d (g - declares c) (a + width c) (drop (width c) bs) p m
-      → Written (suc d) g a bs (build c a (operandsOf c bs) p nothing) (width c + m)
+      Stands c → declares c ≤ g → (p : Statement) (m : ℕ) → Written d (g - declares c) (a + headLength c) (drop (headLength c) bs) p m
+      → Written (suc d) g a bs (build c a (operandsOf c bs) p nothing) (headLength c + m)
 
   abbrev TwoSound : Command → Type 0
   TwoSound c =
-      Stands c → (p q : Statement) (m n : ℕ) → Written d (g - declares c) (a + width c) (drop (width c) bs) p m
-      → Written d (g - declares c) (a + (width c + m)) (drop (width c + m) bs) q n
-      → Written (suc d) g a bs (build c a (operandsOf c bs) p q) (width c + m + n)
+      Stands c → (p q : Statement) (m n : ℕ) → Written d (g - declares c) (a + headLength c) (drop (headLength c) bs) p m
+      → Written d (g - declares c) (a + (headLength c + m)) (drop (headLength c + m) bs) q n
+      → Written (suc d) g a bs (build c a (operandsOf c bs) p q) (headLength c + m + n)
 
   sound-leaf : (c : Command) → partCount c ≡ 0 → LeafSound c
-  unfolding bytesOf depthOf nesting
+  unfolding bytesOf depthOf signalNesting
   sound-leaf =
       leaves LeafSound
       (λ s. leaf-sound d g a (0 ∷ []) bs (s .2) nothing refl refl refl tt tt)

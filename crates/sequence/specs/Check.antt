@@ -9,7 +9,7 @@ use Rattle.esterel.specs.Statement.{Statement}
 use Rattle.esterel.specs.LabelTests.{distinct, targeted, wellFormed}
 use Rattle.limits.specs.Limits.{maxBytes, maxSignals}
 use Rattle.sequence.specs.Reader.{Read, accepted, refused, readAll}
-use Rattle.esterel.specs.Ceiling.{nesting}
+use Rattle.esterel.specs.Ceiling.{signalNesting}
 use Rattle.sequence.specs.Program.{program}
 
 pub data Checked : Type 0 where
@@ -20,11 +20,11 @@ pub data Checked : Type 0 where
 abbrev pub labelRules : Statement → Checked
 labelRules p = cond (distinct p) (cond (targeted p) (cond (wellFormed p) (sound p) (bad 10)) (bad 9)) (bad 8)
 
--- Rows 3 to 6 from the reader; row 6 again, 'if the declarations make the nesting of signals exceed six' (02, item 5); row 7
+-- Rows 3 to 6 from the reader; row 6 again, 'if the declarations make the signalNesting of signals exceed six' (02, item 5); row 7
 abbrev pub afterRead : (readBack n : ℕ) → Read → Checked
 afterRead readBack n (refused number) = bad number
 afterRead readBack n (accepted p count) =
-    cond (ltb maxSignals (nesting (program readBack p))) (bad 6) (cond (ltb count n) (bad 7) (labelRules p))
+    cond (ltb maxSignals (signalNesting (program readBack p))) (bad 6) (cond (ltb count n) (bad 7) (labelRules p))
 
 -- row 2
 unfoldable pub checked : List ℕ → (readBack : ℕ) → Checked

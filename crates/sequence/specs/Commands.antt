@@ -111,8 +111,8 @@ litresFit suspend xs = true
 litresFit deliver xs = isAmount (drop 1 xs)
 
 -- the command byte and its operand bytes
-abbrev pub width : Command → ℕ
-width c = 1 + operandCount c
+abbrev pub headLength : Command → ℕ
+headLength c = 1 + operandCount c
 
 -- the signals that a command declares around its part
 abbrev pub declares : Command → ℕ

@@ -8,7 +8,7 @@ use lib.ListN.{drop}
 use lib.Dec.{ltb}
 use Rattle.esterel.specs.Statement.{Statement, nothing}
 use Rattle.limits.specs.Limits.{maxDepth, maxSignals}
-use Rattle.sequence.specs.Commands.{Command, commandOf, operandCount, partCount, inRange, litresFit, width, declares, build}
+use Rattle.sequence.specs.Commands.{Command, commandOf, operandCount, partCount, inRange, litresFit, headLength, declares, build}
 
 pub data Read : Type 0 where
   accepted : (p : Statement) (count : ℕ) → Read
@@ -52,12 +52,12 @@ firstPart next (refused number) = refused number
 
 -- by the number of parts
 abbrev pub readParts : (ℕ → List ℕ → Read) → Command → (a : ℕ) (xs : List ℕ) → ℕ → List ℕ → Read
-readParts r c a xs zero bs = accepted (build c a xs nothing nothing) (width c)
-readParts r c a xs (suc zero) bs = lastPart (λ p. build c a xs p nothing) (width c) (r (a + width c) (drop (width c) bs))
+readParts r c a xs zero bs = accepted (build c a xs nothing nothing) (headLength c)
+readParts r c a xs (suc zero) bs = lastPart (λ p. build c a xs p nothing) (headLength c) (r (a + headLength c) (drop (headLength c) bs))
 readParts r c a xs (suc (suc n)) bs =
     firstPart
-    (λ p m. lastPart (λ q. build c a xs p q) (width c + m) (r (a + (width c + m)) (drop (width c + m) bs)))
-    (r (a + width c) (drop (width c) bs))
+    (λ p m. lastPart (λ q. build c a xs p q) (headLength c + m) (r (a + (headLength c + m)) (drop (headLength c + m) bs)))
+    (r (a + headLength c) (drop (headLength c) bs))
 
 -- row 6: no depth left for the command, or no signal left for a signal command
 abbrev pub tooDeep : Front → Read

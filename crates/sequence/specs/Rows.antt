@@ -10,54 +10,54 @@ use lib.Dec.{leb, ltb, eqb}
 use Rattle.esterel.specs.Statement.{Statement}
 use Rattle.esterel.specs.States.{Distinct, Targeted, WellFormed}
 use Rattle.limits.specs.Limits.{lastCommand, maxBytes, maxDepth, maxSignals}
-use Rattle.sequence.specs.Commands.{Command, commandOf, operandCount, operandsOf, partCount, inRange, litresFit, width, declares}
+use Rattle.sequence.specs.Commands.{Command, commandOf, operandCount, operandsOf, partCount, inRange, litresFit, headLength, declares}
 use Rattle.sequence.specs.Reader.{Front, command, bad, front}
-use Rattle.esterel.specs.Ceiling.{nesting}
+use Rattle.esterel.specs.Ceiling.{signalNesting}
 use Rattle.sequence.specs.Program.{program}
 use Rattle.sequence.specs.Writer.{bytesOf, Within, PlacedAt, Written}
 
 -- a statement that is awaited, inside so many commands, so many of them signal commands
-pub data Slot : Type 0 where
-  slot : (around signals : ℕ) → Slot
+pub data Awaited : Type 0 where
+  awaits : (around signals : ℕ) → Awaited
 
 -- where reading stands: the offset of the next byte, and the statements awaited, the next one first
-pub data Position : Type 0 where
-  at : (offset : ℕ) (awaited : List Slot) → Position
+pub data Reached : Type 0 where
+  at : (offset : ℕ) (awaited : List Awaited) → Reached
 
 -- ---- rows 3 to 6 at one command: what is wrong where a statement is awaited and these bytes are left
-pub data Fault : List ℕ → Slot → (number : ℕ) → Type 0 where
+pub data Fault : List ℕ → Awaited → (number : ℕ) → Type 0 where
   -- command byte above 0C
-  unknown : {s : Slot} {b : ℕ} {bs : List ℕ} → lastCommand < b → Fault (b ∷ bs) s 3
+  unknown : {s : Awaited} {b : ℕ} {bs : List ℕ} → lastCommand < b → Fault (b ∷ bs) s 3
   -- operand or statement missing at the end
-  no-statement : {s : Slot} → Fault [] s 4
-  no-operand : {s : Slot} {b : ℕ} {bs : List ℕ} {c : Command} → commandOf b ≡ some c → length bs < operandCount c → Fault (b ∷ bs) s 4
+  no-statement : {s : Awaited} → Fault [] s 4
+  no-operand : {s : Awaited} {b : ℕ} {bs : List ℕ} {c : Command} → commandOf b ≡ some c → length bs < operandCount c → Fault (b ∷ bs) s 4
   -- operand outside its range
-  out-of-range : {s : Slot} {b : ℕ} {bs : List ℕ} {c : Command} → commandOf b ≡ some c → operandCount c ≤ length bs
+  out-of-range : {s : Awaited} {b : ℕ} {bs : List ℕ} {c : Command} → commandOf b ≡ some c → operandCount c ≤ length bs
       → inRange c (operandsOf c (b ∷ bs)) ≡ false → Fault (b ∷ bs) s 5
   -- 02, item 12: at its command right after 5
-  no-litres : {s : Slot} {b : ℕ} {bs : List ℕ} {c : Command} → commandOf b ≡ some c → operandCount c ≤ length bs
+  no-litres : {s : Awaited} {b : ℕ} {bs : List ℕ} {c : Command} → commandOf b ≡ some c → operandCount c ≤ length bs
       → inRange c (operandsOf c (b ∷ bs)) ≡ true → litresFit c (operandsOf c (b ∷ bs)) ≡ false → Fault (b ∷ bs) s 18
   -- depth over 64, or a seventh signal inside six; the command has passed 3, 4, 5 and 18
-  too-deep : {d g : ℕ} {bs xs : List ℕ} {c : Command} → front bs ≡ command c xs → maxDepth ≤ d → Fault bs (slot d g) 6
+  too-deep : {d g : ℕ} {bs xs : List ℕ} {c : Command} → front bs ≡ command c xs → maxDepth ≤ d → Fault bs (awaits d g) 6
   too-many-signals : {d g : ℕ} {bs xs : List ℕ} {c : Command} → front bs ≡ command c xs → maxSignals < g + declares c
-      → Fault bs (slot d g) 6
+      → Fault bs (awaits d g) 6
 
 -- ---- from one command to the next
-abbrev pub enter : (a d g : ℕ) → List Slot → Front → Option Position
+abbrev pub enter : (a d g : ℕ) → List Awaited → Front → Option Reached
 enter a d g awaited (bad number) = none
 enter a d g awaited (command c xs) =
     cond (ltb d maxDepth && leb (g + declares c) maxSignals)
-    (some (at (a + width c) (replicate (partCount c) (slot (suc d) (g + declares c)) ++ awaited)))
+    (some (at (a + headLength c) (replicate (partCount c) (awaits (suc d) (g + declares c)) ++ awaited)))
     none
 
-abbrev pub next : List ℕ → Option Position → Option Position
+abbrev pub next : List ℕ → Option Reached → Option Reached
 next bs none = none
 next bs (some (at a [])) = none
-next bs (some (at a (slot d g ∷ awaited))) = enter a d g awaited (front (drop a bs))
+next bs (some (at a (awaits d g ∷ awaited))) = enter a d g awaited (front (drop a bs))
 
 -- where reading stands after n commands, if all of them are sound
-unfoldable pub walk : ℕ → List ℕ → Option Position
-walk zero bs = some (at 0 (slot 0 0 ∷ []))
+unfoldable pub walk : ℕ → List ℕ → Option Reached
+walk zero bs = some (at 0 (awaits 0 0 ∷ []))
 walk (suc n) bs = next bs (walk n bs)
 
 -- ---- the rows
@@ -70,10 +70,10 @@ pub data Row (bs : List ℕ) (readBack : ℕ) : (number : ℕ) → Type 0 where
   -- no bytes or over 1,024
   row-2 : (length bs ≡ 0) ⊎ (maxBytes < length bs) → Row bs readBack 2
   -- rows 3 to 6 at the first command that is not sound
-  row-3-to-6 : (n : ℕ) {a number : ℕ} {s : Slot} {awaited : List Slot} → walk n bs ≡ some (at a (s ∷ awaited))
+  row-3-to-6 : (n : ℕ) {a number : ℕ} {s : Awaited} {awaited : List Awaited} → walk n bs ≡ some (at a (s ∷ awaited))
       → Fault (drop a bs) s number → Row bs readBack number
-  -- 02, item 5: the bytes begin with a whole statement, and the declarations make the nesting of signals exceed six
-  row-6 : {p : Statement} {n : ℕ} → Written maxDepth maxSignals 0 bs p n → maxSignals < nesting (program readBack p)
+  -- 02, item 5: the bytes begin with a whole statement, and the declarations make the signalNesting of signals exceed six
+  row-6 : {p : Statement} {n : ℕ} → Written maxDepth maxSignals 0 bs p n → maxSignals < signalNesting (program readBack p)
       → Row bs readBack 6
   -- bytes after the statement
   row-7 : (n : ℕ) {a : ℕ} → walk n bs ≡ some (at a []) → a < length bs → Row bs readBack 7

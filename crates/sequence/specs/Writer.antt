@@ -7,7 +7,7 @@ use Rattle.esterel.specs.Statement.{local, pure, litres, Statement, nothing, pa
 use Rattle.limits.specs.Limits.{labelCount, signalCount, maxExit, litresLimit}
 use Rattle.esterel.specs.Litres.{amount}
 use Rattle.sequence.specs.Amounts.{amountBytes}
-use Rattle.esterel.specs.Ceiling.{nesting}
+use Rattle.esterel.specs.Ceiling.{signalNesting}
 
 -- no bytes spell a held suspend (02)
 unfoldable pub bytesOf : Statement → List ℕ
@@ -64,7 +64,7 @@ Ranged (held s K p) = ⊥
 
 pub record Within (depth signals : ℕ) (p : Statement) : Type 0 where
   pub deep : depthOf p ≤ depth
-  pub nested : nesting p ≤ signals
+  pub nested : signalNesting p ≤ signals
   pub ranged : Ranged p
 
 -- the command of p stands at offset a: each loop and signal in it carries the offset of its own command

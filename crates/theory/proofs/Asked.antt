@@ -14,13 +14,13 @@ use Rattle.esterel.specs.Errors.{ifEnded, errorsBy}
 use Rattle.esterel.specs.Reactions.{reactionsBy}
 use Rattle.esterel.specs.Asked.{askedBy, asked, asks}
 use Rattle.esterel.specs.Litres.{chosen, passing, deliveredBy}
-use Rattle.esterel.specs.Resume.{signalInstant, Tree, tree, askedOf, caseOfRuns, startTree, signalTree, signalOnce}
+use Rattle.esterel.specs.Resume.{signalInstant, Traced, traced, askedOf, caseOfRuns, startTraced, signalTraced, signalOnce}
 use Rattle.theory.proofs.Booleans.{or-l, or-true, or-false, and-true, and-false, clash, Tested, tested}
 use Rattle.theory.proofs.Sets.{member-insert, member-remove, join-none-r, join-self, remove-absent}
 use Rattle.theory.proofs.LabelSets.{in-l, in-r}
 use Rattle.theory.proofs.Rules.{sound}
 use Rattle.theory.proofs.Reactions.{stays}
-use Rattle.theory.proofs.Trees.{start-tree-signal}
+use Rattle.theory.proofs.Trees.{start-traced-signal}
 
 -- ---- two present sets that give each member of a set the same status
 abbrev pub Agree : (a e e′ : ℕ) → Type 0
@@ -37,8 +37,8 @@ module _ (s a e e′ : ℕ) (h : Agree (insert s a) e e′) where
   agree-tested : member s e′ ≡ member s e
   agree-tested = sym (h s (member-insert s a s ∙ rw (eq-eqb s s refl) (or-true (member s a))))
 
-  agree-taken : Agree a e e′
-  agree-taken i m = h i (member-insert s a i ∙ or-l (member i a) (eqb s i) m)
+  agree-reactions : Agree a e e′
+  agree-reactions i m = h i (member-insert s a i ∙ or-l (member i a) (eqb s i) m)
 
 -- in each run of a signal its own status is given, and the others stay
 module _ (s a e e′ : ℕ) (h : Agree (remove s a) e e′) where
@@ -61,16 +61,16 @@ module _ (s a e e′ : ℕ) (h : Agree (remove s a) e e′) where
 
 -- ---- UNASKED, by either order of the signal rules
 module _ (ord : Order) (f : ℕ) where
-  abbrev pub SameTree : (p : Statement) (e e′ : ℕ) → Type 0
-  SameTree p e e′ =
+  abbrev pub SameTraced : (p : Statement) (e e′ : ℕ) → Type 0
+  SameTraced p e e′ =
       (reactBy ord p e′ ≡ reactBy ord p e) × (errorsBy ord p e′ ≡ errorsBy ord p e) × (reactionsBy ord p e′ ≡ reactionsBy ord p e)
       × (askedBy ord p e′ ≡ askedBy ord p e) × (deliveredBy ord f p e′ ≡ deliveredBy ord f p e)
 
   -- where the statuses that are asked for agree
   abbrev Unasked : (p : Statement) (e e′ : ℕ) → Type 0
-  Unasked p e e′ = Agree (askedBy ord p e) e e′ → SameTree p e e′
+  Unasked p e e′ = Agree (askedBy ord p e) e e′ → SameTraced p e e′
 
-  seq-unasked : (p q : Statement) (e e′ : ℕ) → SameTree p e e′ → Unasked q e e′ → Unasked (seq p q) e e′
+  seq-unasked : (p q : Statement) (e e′ : ℕ) → SameTraced p e e′ → Unasked q e e′ → Unasked (seq p q) e e′
   unfolding reactBy errorsBy reactionsBy askedBy deliveredBy
   seq-unasked p q e e′ x y h =
       rw (x .0, x .1, x .2, x .3, x .4)
@@ -92,7 +92,7 @@ module _ (ord : Order) (f : ℕ) where
   present-unasked : (s : ℕ) (p q : Statement) (e e′ : ℕ) → Unasked p e e′ → Unasked q e e′ → Unasked (present s p q) e e′
   unfolding reactBy errorsBy reactionsBy askedBy deliveredBy
   present-unasked s p q e e′ x y h =
-      rw (agree-tested s _ e e′ h) (go (member s e) (agree-taken s _ e e′ h))
+      rw (agree-tested s _ e e′ h) (go (member s e) (agree-reactions s _ e e′ h))
     where
       go : (b : Bool) → Agree (cond b (askedBy ord p e) (askedBy ord q e)) e e′
           → (cond b (reactBy ord p e′) (reactBy ord q e′) ≡ cond b (reactBy ord p e) (reactBy ord q e))
@@ -106,7 +106,7 @@ module _ (ord : Order) (f : ℕ) where
   held-unasked : (s K : ℕ) (p : Statement) (e e′ : ℕ) → Unasked p e e′ → Unasked (held s K p) e e′
   unfolding reactBy errorsBy reactionsBy askedBy deliveredBy
   held-unasked s K p e e′ x h =
-      rw (agree-tested s _ e e′ h) (go (member s e) (agree-taken s _ e e′ h))
+      rw (agree-tested s _ e e′ h) (go (member s e) (agree-reactions s _ e e′ h))
     where
       go : (b : Bool) → Agree (cond b none (askedBy ord p e)) e e′
           → (cond b (stopped s K p) (inSuspend s (reactBy ord p e′)) ≡ cond b (stopped s K p) (inSuspend s (reactBy ord p e)))
@@ -117,7 +117,7 @@ module _ (ord : Order) (f : ℕ) where
       go true k = (refl, refl, refl, refl, refl)
       go false k = rw (x k .0, x k .1, x k .2, x k .3, x k .4) (refl, refl, refl, refl, refl)
 
-  pub unasked : (p : Statement) (e e′ : ℕ) → Agree (askedBy ord p e) e e′ → SameTree p e e′
+  pub unasked : (p : Statement) (e e′ : ℕ) → Agree (askedBy ord p e) e e′ → SameTraced p e e′
   unfolding reactBy errorsBy reactionsBy askedBy deliveredBy
   unasked nothing e e′ h = (refl, refl, refl, refl, refl)
   unasked (pause l) e e′ h = (refl, refl, refl, refl, refl)
@@ -143,8 +143,8 @@ module _ (ord : Order) (f : ℕ) where
   unasked (suspend s p) e e′ h = let x = unasked p e e′ h in rw (x .0, x .1, x .2, x .3, x .4) (refl, refl, refl, refl, refl)
   unasked (held s K p) e e′ h = held-unasked s K p e e′ (unasked p e e′) h
 
-pub unasked-tree : (f : ℕ) (p : Statement) (e e′ : ℕ) → Agree (asked p e) e e′ → startTree f p e′ ≡ startTree f p e
-unasked-tree f p e e′ h = let x = unasked inheritanceFirst f p e e′ h in rw (x .0, x .1, x .2, x .3, x .4) refl
+pub unasked-traced : (f : ℕ) (p : Statement) (e e′ : ℕ) → Agree (asked p e) e e′ → startTraced f p e′ ≡ startTraced f p e
+unasked-traced f p e e′ h = let x = unasked inheritanceFirst f p e e′ h in rw (x .0, x .1, x .2, x .3, x .4) refl
 
 -- ---- ONE RUN: the two runs of a signal s differ in s only
 pub agree-runs : (s a e : ℕ) → member s a ≡ false → Agree a (remove s e) (insert s e)
@@ -155,22 +155,22 @@ agree-runs s a e h i m = rw (member-remove s e i, member-insert s e i) (go (test
     go (Tested.no x) = rw x (and-true (member i e) ∙ sym (or-false (member i e)))
 
 pub one-run : (f s : ℕ) (p : Statement) (e : ℕ) → member s (asked p (remove s e)) ≡ false
-    → startTree f p (insert s e) ≡ startTree f p (remove s e)
-one-run f s p e h = unasked-tree f p (remove s e) (insert s e) (agree-runs s (asked p (remove s e)) e h)
+    → startTraced f p (insert s e) ≡ startTraced f p (remove s e)
+one-run f s p e h = unasked-traced f p (remove s e) (insert s e) (agree-runs s (asked p (remove s e)) e h)
 
 -- two equal runs that do not ask for s ask for the same outside its declaration
 twice : (s a : ℕ) → member s a ≡ false → remove s (join a a) ≡ a
 twice s a h = ap (remove s) (join-self a) ∙ remove-absent s a h
 
-pub once-is : (f : ℕ) (sc : Scope) (a s : ℕ) (t : Tree) → member s (askedOf t) ≡ false → signalTree f sc a s t t ≡ signalOnce f sc a s t
-once-is f sc a s (tree i b x) h =
-    ap (λ (y : ℕ). tree (signalInstant sc a s i i) y (passing sc f s (chosen (caseOfRuns s i i) x x))) (twice s b h)
+pub once-is : (f : ℕ) (sc : Scope) (a s : ℕ) (t : Traced) → member s (askedOf t) ≡ false → signalTraced f sc a s t t ≡ signalOnce f sc a s t
+once-is f sc a s (traced i b x) h =
+    ap (λ (y : ℕ). traced (signalInstant sc a s i i) y (passing sc f s (chosen (caseOfRuns s i i) x x))) (twice s b h)
 
 pub one-run-signal : (f s : ℕ) (p : Statement) (e : ℕ) → member s (asked p (remove s e)) ≡ false → (sc : Scope) (a : ℕ)
-    → startTree f (signal sc a s p) e ≡ signalOnce f sc a s (startTree f p (remove s e))
+    → startTraced f (signal sc a s p) e ≡ signalOnce f sc a s (startTraced f p (remove s e))
 one-run-signal f s p e h sc a =
-    start-tree-signal f sc a s p e ∙ ap (signalTree f sc a s (startTree f p (remove s e))) (one-run f s p e h)
-    ∙ once-is f sc a s (startTree f p (remove s e)) h
+    start-traced-signal f sc a s p e ∙ ap (signalTraced f sc a s (startTraced f p (remove s e))) (one-run f s p e h)
+    ∙ once-is f sc a s (startTraced f p (remove s e)) h
 
 -- ---- DERIVATIONS: what is asked for is what the rules used test
 pub asks-is : {ord : Order} {p : Statement} {e : ℕ} {r : Reaction} (d : ReactsBy ord p e r) → asks d ≡ askedBy ord p e

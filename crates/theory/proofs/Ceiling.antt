@@ -13,7 +13,7 @@ use Rattle.esterel.specs.States.{active}
 use Rattle.esterel.specs.LabelTests.{activeLabels}
 use Rattle.esterel.specs.Expansion.{expand, ifActive}
 use Rattle.esterel.specs.Reactions.{reactionsBy, reactions}
-use Rattle.esterel.specs.Ceiling.{commands, loopNesting, nesting, ceiling}
+use Rattle.esterel.specs.Ceiling.{commands, loopNesting, signalNesting, ceiling}
 use Rattle.esterel.specs.ReadBack.{declaredBy, declared}
 use Rattle.theory.proofs.Reactions.{if-ended, either, some-reaction}
 
@@ -46,8 +46,8 @@ module _ (m g : ℕ) where
   round n h i = let o = positive g in omega arith
 
 -- ---- a fresh instant: every command at most once in each run of the signals around it
-fresh-within : (p : Statement) (e m g : ℕ) → nesting p ≤ g → reactions p e ≤ Bound (commands p) m g
-unfolding reactionsBy commands nesting
+fresh-within : (p : Statement) (e m g : ℕ) → signalNesting p ≤ g → reactions p e ≤ Bound (commands p) m g
+unfolding reactionsBy commands signalNesting
 fresh-within nothing e m g h = one m g 0
 fresh-within (pause l) e m g h = one m g 0
 fresh-within (emit s v) e m g h = one m g 0
@@ -76,7 +76,7 @@ fresh-within (held s K p) e m g h =
 
 pub fresh-below : (p : Statement) (e : ℕ) → reactions p e ≤ ceiling p
 unfolding ceiling
-fresh-below p e = fresh-within p e (loopNesting p) (nesting p) (le-refl (nesting p))
+fresh-below p e = fresh-within p e (loopNesting p) (signalNesting p) (le-refl (signalNesting p))
 
 -- ---- a resumed instant: beside that, once for each loop around it
 -- what holds of both holds of the one that is chosen
@@ -89,8 +89,8 @@ if-active : (b : Bool) (t : Statement) (e : ℕ) {z : ℕ} → reactions t e ≤
 unfolding reactionsBy
 if-active b t e {z} h = chosen (λ u. reactions u e ≤ z) b t nothing h (le-trans (some-reaction t e) h)
 
-resumed-within : (p : Statement) (L e m g : ℕ) → loopNesting p ≤ m → nesting p ≤ g → reactions (expand p L) e ≤ Bound (commands p) m g
-unfolding reactionsBy expand commands loopNesting nesting
+resumed-within : (p : Statement) (L e m g : ℕ) → loopNesting p ≤ m → signalNesting p ≤ g → reactions (expand p L) e ≤ Bound (commands p) m g
+unfolding reactionsBy expand commands loopNesting signalNesting
 resumed-within nothing L e m g h i = one m g 0
 resumed-within (pause l) L e m g h i = one m g 0
 resumed-within (emit s v) L e m g h i = one m g 0
@@ -129,10 +129,10 @@ resumed-within (held s K p) L e m g h i = one m g (commands p)
 -- for every set of labels, valid or not
 pub resumed-below : (p : Statement) (L e : ℕ) → reactions (expand p L) e ≤ ceiling p
 unfolding ceiling
-resumed-below p L e = resumed-within p L e (loopNesting p) (nesting p) (le-refl (loopNesting p)) (le-refl (nesting p))
+resumed-below p L e = resumed-within p L e (loopNesting p) (signalNesting p) (le-refl (loopNesting p)) (le-refl (signalNesting p))
 
 -- ---- the ceiling itself
-pub ceiling-within : (p : Statement) (n m g : ℕ) → commands p ≤ n → loopNesting p ≤ m → nesting p ≤ g → ceiling p ≤ n * (1 + m) * 2 ^ g
+pub ceiling-within : (p : Statement) (n m g : ℕ) → commands p ≤ n → loopNesting p ≤ m → signalNesting p ≤ g → ceiling p ≤ n * (1 + m) * 2 ^ g
 unfolding ceiling
 ceiling-within p n m g h i j = mul-le-mul (mul-le-mul h (add-le-add (le-refl 1) i)) (pow-le-pow-right {n = 2} (omega arith) j)
 
@@ -147,7 +147,7 @@ unfolding loopNesting declaredBy
 loops-declared a [] p = omega arith
 loops-declared a (s ∷ ss) p = loops-declared a ss p
 
-pub nesting-declared : (a : ℕ) (ss : List ℕ) (p : Statement) → nesting (declared a ss p) ≡ length ss + nesting p
-unfolding nesting declaredBy
+pub nesting-declared : (a : ℕ) (ss : List ℕ) (p : Statement) → signalNesting (declared a ss p) ≡ length ss + signalNesting p
+unfolding signalNesting declaredBy
 nesting-declared a [] p = omega arith
 nesting-declared a (s ∷ ss) p = let h = nesting-declared a ss p in omega arith

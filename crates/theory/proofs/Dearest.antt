@@ -12,7 +12,7 @@ use Rattle.esterel.specs.States.{active}
 use Rattle.esterel.specs.LabelTests.{activeLabels}
 use Rattle.esterel.specs.Expansion.{expand, ifActive}
 use Rattle.esterel.specs.Reactions.{reactionsBy, reactions}
-use Rattle.esterel.specs.Ceiling.{commands, nesting, LoopFree, dearest, tries, triesButOne, hundred, hundred-takes}
+use Rattle.esterel.specs.Ceiling.{commands, signalNesting, LoopFree, dearest, tries, triesButOne, hundred, hundred-takes}
 use Rattle.theory.proofs.Reactions.{if-ended, either, some-command}
 use Rattle.theory.proofs.Ceiling.{chosen}
 
@@ -96,8 +96,8 @@ module _ (g e : ℕ) where
   over-two p q h i = let t = dearest-two g (commands p) (commands q) (1 + commands p + commands q) (omega arith) in omega arith
 
 -- DEAREST: fresh, also with loops
-pub fresh-dearest : (g : ℕ) (p : Statement) (e : ℕ) → nesting p ≤ g → 1 + reactions p e ≤ dearest g (commands p)
-unfolding reactionsBy commands nesting
+pub fresh-dearest : (g : ℕ) (p : Statement) (e : ℕ) → signalNesting p ≤ g → 1 + reactions p e ≤ dearest g (commands p)
+unfolding reactionsBy commands signalNesting
 fresh-dearest g nothing e h = alone g
 fresh-dearest g (pause l) e h = alone g
 fresh-dearest g (emit s v) e h = alone g
@@ -132,9 +132,9 @@ commands-if : (b : Bool) (t p : Statement) → commands t ≤ commands p → com
 unfolding commands
 commands-if b t p h = chosen (λ u. commands u ≤ commands p) b t nothing h (some-command p)
 
-nesting-if : (b : Bool) (t p : Statement) → nesting t ≤ nesting p → nesting (ifActive b t) ≤ nesting p
-unfolding nesting
-nesting-if b t p h = chosen (λ u. nesting u ≤ nesting p) b t nothing h (omega arith)
+nesting-if : (b : Bool) (t p : Statement) → signalNesting t ≤ signalNesting p → signalNesting (ifActive b t) ≤ signalNesting p
+unfolding signalNesting
+nesting-if b t p h = chosen (λ u. signalNesting u ≤ signalNesting p) b t nothing h (omega arith)
 
 module _ (L : ℕ) where
   pub expand-commands : (p : Statement) → LoopFree p → commands (expand p L) ≤ commands p
@@ -165,8 +165,8 @@ module _ (L : ℕ) where
   expand-commands (held s K p) h = omega arith
 
   -- also with loops
-  pub expand-nesting : (p : Statement) → nesting (expand p L) ≤ nesting p
-  unfolding expand nesting
+  pub expand-nesting : (p : Statement) → signalNesting (expand p L) ≤ signalNesting p
+  unfolding expand signalNesting
   expand-nesting nothing = omega arith
   expand-nesting (pause l) = omega arith
   expand-nesting (emit s v) = omega arith
@@ -174,7 +174,7 @@ module _ (L : ℕ) where
   expand-nesting (seq p q) =
       let i = expand-nesting p in
       let j = expand-nesting q in
-      chosen (λ t. nesting t ≤ max (nesting p) (nesting q)) (active p L) (seq (expand p L) q) (expand q L) (omega arith) (omega arith)
+      chosen (λ t. signalNesting t ≤ max (signalNesting p) (signalNesting q)) (active p L) (seq (expand p L) q) (expand q L) (omega arith) (omega arith)
   expand-nesting (par p q) =
       let i = nesting-if (active p L) (expand p L) p (expand-nesting p) in
       let j = nesting-if (active q L) (expand q L) q (expand-nesting q) in
@@ -183,7 +183,7 @@ module _ (L : ℕ) where
   expand-nesting (present s p q) =
       let i = expand-nesting p in
       let j = expand-nesting q in
-      chosen (λ t. nesting t ≤ max (nesting p) (nesting q)) (active p L) (expand p L) (expand q L) (omega arith) (omega arith)
+      chosen (λ t. signalNesting t ≤ max (signalNesting p) (signalNesting q)) (active p L) (expand p L) (expand q L) (omega arith) (omega arith)
   expand-nesting (signal sc a s p) = let i = expand-nesting p in omega arith
   expand-nesting (try p) = expand-nesting p
   expand-nesting (setpause l) = omega arith
@@ -191,13 +191,13 @@ module _ (L : ℕ) where
   expand-nesting (held s K p) = omega arith
 
 -- DEAREST: resumed
-pub resumed-dearest : (g : ℕ) (p : Statement) (L e : ℕ) → LoopFree p → nesting p ≤ g → 1 + reactions (expand p L) e ≤ dearest g (commands p)
+pub resumed-dearest : (g : ℕ) (p : Statement) (L e : ℕ) → LoopFree p → signalNesting p ≤ g → 1 + reactions (expand p L) e ≤ dearest g (commands p)
 resumed-dearest g p L e f h =
     le-trans (fresh-dearest g (expand p L) e (le-trans (expand-nesting L p) h))
     (dearest-mono g (commands (expand p L)) (commands p) (expand-commands L p f))
 
 -- ---- of 100 commands
-module _ (p : Statement) (many : commands p ≡ 100) (nested : nesting p ≤ 6) where
+module _ (p : Statement) (many : commands p ≡ 100) (nested : signalNesting p ≤ 6) where
   at-hundred : dearest 6 (commands p) ≡ 6080
   at-hundred = ap (dearest 6) many ∙ hundred-takes .4
 

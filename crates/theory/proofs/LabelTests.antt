@@ -10,7 +10,7 @@ use Rattle.esterel.specs.Sets.{member, none}
 use Rattle.esterel.specs.Statement.{Statement, nothing, pause, emit, exit, seq, par, loop, present, signal, try, setpause, suspend, held}
 use Rattle.esterel.specs.Places.{Part, PartOf, seq₁, seq₂, par₁, par₂, loop₁, present₁, present₂, signal₁, try₁, suspend₁, Place, At, Exclusive, Compatible}
 use Rattle.esterel.specs.States.{Holds, Valid, Distinct, Targeted, NoSetpause, WellFormed}
-use Rattle.esterel.specs.LabelTests.{disjoint, subset, pauses, setpauses, triggers, everyLabel, distinct, targeted, Joint, alternative, parallel, rivals, aside, exclusive, wellFormed, valid}
+use Rattle.esterel.specs.LabelTests.{disjoint, subset, pauses, setpauses, triggers, everyLabel, distinct, targeted, Joint, alternative, parallel, exclusiveWith, concurrentWith, exclusive, wellFormed, valid}
 use Rattle.theory.proofs.Booleans.{or-l, or-r, or-cases}
 use Rattle.theory.proofs.Sets.{member-none}
 use Rattle.theory.proofs.Places.{distinct-part, disjoint-parts}
@@ -52,10 +52,10 @@ trigger-paused p l h m =
     (in-join l (pauses p) (setpauses p) (sym (ap (member l) (triggers-are p)) ∙ m))
 
 -- ---- the labels that have others before them
-pub rivals-paused : (p : Statement) (k l : ℕ) → member l (rivals p k) ≡ true → member k (pauses p) ≡ true
+pub rivals-paused : (p : Statement) (k l : ℕ) → member l (exclusiveWith p k) ≡ true → member k (pauses p) ≡ true
 rivals-paused p k l h = label-before true false alternative k l p h
 
-pub aside-paused : (p : Statement) (k l : ℕ) → targeted p ≡ true → member l (aside p k) ≡ true → member k (pauses p) ≡ true
+pub aside-paused : (p : Statement) (k l : ℕ) → targeted p ≡ true → member l (concurrentWith p k) ≡ true → member k (pauses p) ≡ true
 aside-paused p k l t h = trigger-paused p k t (label-before true true parallel k l p h)
 
 -- ---- row 8
@@ -142,7 +142,7 @@ Apart p k l = (a : Place) × (b : Place) × At (pause k) a p × At (pause l) b p
 apart-sym : {p : Statement} (k l : ℕ) → Apart p k l → Apart p l k
 apart-sym k l x = (x .1, x .0, x .3, x .2, exclusive-sym (x .4))
 
-rivals-from : (p : Statement) (k l : ℕ) → member l (rivals p k) ≡ true → Apart p k l
+rivals-from : (p : Statement) (k l : ℕ) → member l (exclusiveWith p k) ≡ true → Apart p k l
 rivals-from p k l h = go (pair-from true false alternative k l p h)
   where
     found : {v w : Statement} {a b : Place} → Counted true false k v → Counted true false l w → At v a p → At w b p → Before alternative p a b → Apart p k l
@@ -153,26 +153,26 @@ rivals-from p k l h = go (pair-from true false alternative k l p h)
     go : Pair true false alternative p k l → Apart p k l
     go r = found (r .later-counted) (r .earlier-counted) (r .later-stands) (r .earlier-stands) (r .order)
 
-rivals-at : (p : Statement) (k l : ℕ) {a b : Place} → At (pause k) a p → At (pause l) b p → Before alternative p a b → member l (rivals p k) ≡ true
+rivals-at : (p : Statement) (k l : ℕ) {a b : Place} → At (pause k) a p → At (pause l) b p → Before alternative p a b → member l (exclusiveWith p k) ≡ true
 rivals-at p k l u v r = pair-at true false alternative k l (as-pause refl) (as-pause refl) u v r
 
 pub exclusive-is : (p : Statement) (k l : ℕ) → (exclusive p k l ≡ true) ↔ Apart p k l
 exclusive-is p k l = (to, from)
   where
     to : exclusive p k l ≡ true → Apart p k l
-    to h = ⊎-elim (rivals-from p k l) (λ m. apart-sym l k (rivals-from p l k m)) (or-cases (member l (rivals p k)) (member k (rivals p l)) h)
+    to h = ⊎-elim (rivals-from p k l) (λ m. apart-sym l k (rivals-from p l k m)) (or-cases (member l (exclusiveWith p k)) (member k (exclusiveWith p l)) h)
 
     from : Apart p k l → exclusive p k l ≡ true
     from x =
         ⊎-elim
-        (λ r. or-l (member l (rivals p k)) (member k (rivals p l)) (rivals-at p k l (x .2) (x .3) r))
-        (λ r. or-r (member l (rivals p k)) (member k (rivals p l)) (rivals-at p l k (x .3) (x .2) r))
+        (λ r. or-l (member l (exclusiveWith p k)) (member k (exclusiveWith p l)) (rivals-at p k l (x .2) (x .3) r))
+        (λ r. or-r (member l (exclusiveWith p k)) (member k (exclusiveWith p l)) (rivals-at p l k (x .3) (x .2) r))
         (exclusive-before (x .4))
 
 -- ---- row 10
 -- no two labels with exclusive pauses have triggers on two sides of a parallel
 abbrev pub Unmixed : Statement → Type 0
-Unmixed p = (k l : ℕ) → member l (aside p k) ≡ true → exclusive p k l ≡ true → ⊥
+Unmixed p = (k l : ℕ) → member l (concurrentWith p k) ≡ true → exclusive p k l ≡ true → ⊥
 
 not-and : (a b : Bool) → not (a && b) ≡ true → a ≡ true → b ≡ true → ⊥
 not-and true true h e f = false≢true h
@@ -188,22 +188,22 @@ pub unmixed-is : (p : Statement) → (wellFormed p ≡ true) ↔ Unmixed p
 unfolding wellFormed
 unmixed-is p = (to, from)
   where
-    to : everyLabel p (λ k. everyLabel p (λ l. not (member l (aside p k) && exclusive p k l))) ≡ true → Unmixed p
+    to : everyLabel p (λ k. everyLabel p (λ l. not (member l (concurrentWith p k) && exclusive p k l))) ≡ true → Unmixed p
     to h k l m x =
         let r = pair-from true true parallel k l p m in
         let inK = labels-at true true k (r .later-counted) (r .later-stands) in
         let inL = labels-at true true l (r .earlier-counted) (r .earlier-stands) in
-        not-and (member l (aside p k)) (exclusive p k l)
-        (every-to (λ l. not (member l (aside p k) && exclusive p k l)) p
-        (every-to (λ k. everyLabel p (λ l. not (member l (aside p k) && exclusive p k l))) p h k inK)
+        not-and (member l (concurrentWith p k)) (exclusive p k l)
+        (every-to (λ l. not (member l (concurrentWith p k) && exclusive p k l)) p
+        (every-to (λ k. everyLabel p (λ l. not (member l (concurrentWith p k) && exclusive p k l))) p h k inK)
         l inL)
         m x
 
-    from : Unmixed p → everyLabel p (λ k. everyLabel p (λ l. not (member l (aside p k) && exclusive p k l))) ≡ true
+    from : Unmixed p → everyLabel p (λ k. everyLabel p (λ l. not (member l (concurrentWith p k) && exclusive p k l))) ≡ true
     from f =
-        every-from (λ k. everyLabel p (λ l. not (member l (aside p k) && exclusive p k l))) p
-        (λ k inK. every-from (λ l. not (member l (aside p k) && exclusive p k l)) p
-        (λ l inL. and-not (member l (aside p k)) (exclusive p k l) (f k l)))
+        every-from (λ k. everyLabel p (λ l. not (member l (concurrentWith p k) && exclusive p k l))) p
+        (λ k inK. every-from (λ l. not (member l (concurrentWith p k) && exclusive p k l)) p
+        (λ l inL. and-not (member l (concurrentWith p k)) (exclusive p k l) (f k l)))
 
 same-label : {x y : Bool} {k l : ℕ} {v w : Statement} → Counted x y k v → Counted x y l w → v ≡ w → k ≡ l
 same-label (as-pause e) (as-pause f) z = cc
@@ -280,37 +280,37 @@ or-not false b f = refl
 
 -- the labels exclusive with k in L, all told by a row of k or by the row of another
 abbrev Apartless : Statement → ℕ → Type 0
-Apartless p L = (k : ℕ) → member k (triggers p) ≡ true → (not (member k L) || disjoint (rivals p k) L) ≡ true
+Apartless p L = (k : ℕ) → member k (triggers p) ≡ true → (not (member k L) || disjoint (exclusiveWith p k) L) ≡ true
 
 module _ (p : Statement) (L : ℕ) where
-  no-rival : Apartless p L → (k l : ℕ) → member k L ≡ true → member l L ≡ true → member l (rivals p k) ≡ true → ⊥
+  no-rival : Apartless p L → (k l : ℕ) → member k L ≡ true → member l L ≡ true → member l (exclusiveWith p k) ≡ true → ⊥
   no-rival f k l inK inL r =
       let x = rivals-from p k l r in
-      disjoint-is (rivals p k) L .0
-      (not-or (member k L) (disjoint (rivals p k) L) (f k (labels-at true true k (as-pause refl) (x .2))) inK)
+      disjoint-is (exclusiveWith p k) L .0
+      (not-or (member k L) (disjoint (exclusiveWith p k) L) (f k (labels-at true true k (as-pause refl) (x .2))) inK)
       l r inL
 
   together : Apartless p L → (k l : ℕ) → member k L ≡ true → member l L ≡ true → (a b : Place) → At (pause k) a p → At (pause l) b p → Compatible p a b
   together f k l inK inL a b u v e =
       ⊎-elim (no-rival f k l inK inL) (no-rival f l k inL inK)
-      (or-cases (member l (rivals p k)) (member k (rivals p l)) (exclusive-is p k l .1 (a, b, u, v, e)))
+      (or-cases (member l (exclusiveWith p k)) (member k (exclusiveWith p l)) (exclusive-is p k l .1 (a, b, u, v, e)))
 
   apartless : Valid p L → Apartless p L
   apartless v k inP =
-      or-not (member k L) (disjoint (rivals p k) L)
-      (λ inK. disjoint-is (rivals p k) L .1 (λ l r inL. let x = rivals-from p k l r in v .together k l inK inL (x .0) (x .1) (x .2) (x .3) (x .4)))
+      or-not (member k L) (disjoint (exclusiveWith p k) L)
+      (λ inK. disjoint-is (exclusiveWith p k) L .1 (λ l r inL. let x = rivals-from p k l r in v .together k l inK inL (x .0) (x .1) (x .2) (x .3) (x .4)))
 
   pub valid-is : (valid p L ≡ true) ↔ Valid p L
   unfolding valid
   valid-is = (
-    λ h. let t = three (not (eqb L none)) (subset L (pauses p)) (everyLabel p (λ k. not (member k L) || disjoint (rivals p k) L)) h in
+    λ h. let t = three (not (eqb L none)) (subset L (pauses p)) (everyLabel p (λ k. not (member k L) || disjoint (exclusiveWith p k) L)) h in
         record {
           some = some-is L .0 (t .0);
           paused = λ l m. pauses-is p l .0 (subset-is L (pauses p) .0 (t .1) l m);
-          together = together (every-to (λ k. not (member k L) || disjoint (rivals p k) L) p (t .2));
+          together = together (every-to (λ k. not (member k L) || disjoint (exclusiveWith p k) L) p (t .2));
         },
-    λ v. all-three (not (eqb L none)) (subset L (pauses p)) (everyLabel p (λ k. not (member k L) || disjoint (rivals p k) L))
+    λ v. all-three (not (eqb L none)) (subset L (pauses p)) (everyLabel p (λ k. not (member k L) || disjoint (exclusiveWith p k) L))
         (some-is L .1 (v .some))
         (subset-is L (pauses p) .1 (λ l m. pauses-is p l .1 (v .paused l m)))
-        (every-from (λ k. not (member k L) || disjoint (rivals p k) L) p (apartless v)),
+        (every-from (λ k. not (member k L) || disjoint (exclusiveWith p k) L) p (apartless v)),
   )

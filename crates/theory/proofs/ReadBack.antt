@@ -22,7 +22,7 @@ use Rattle.esterel.specs.ReadBack.{keepIf, membersFrom, declaredBy, declared, A
 use Rattle.theory.proofs.Booleans.{and-true, and-false}
 use Rattle.theory.proofs.Sets.{member-none, member-remove}
 use Rattle.theory.proofs.LabelSets.{in-join}
-use Rattle.theory.proofs.Asked.{unasked-tree}
+use Rattle.theory.proofs.Asked.{unasked-traced}
 
 -- ---- an empty set has no members
 pub members-none : (n i : ℕ) → membersFrom n i none ≡ []
@@ -112,7 +112,7 @@ declared-unasked sc a (s ∷ ss) p e i h m =
 pub declared-unread : (a : ℕ) (ss : List ℕ) (p : Statement) (e e′ : ℕ) → AgreeOutside ss e e′
     → start (declared a ss p) e ≡ start (declared a ss p) e′
 declared-unread a ss p e e′ h =
-    ap instantOf (sym (unasked-tree 0 (declared a ss p) e e′ (λ i m. h i (declared-unasked reported a ss p e i m))))
+    ap instantOf (sym (unasked-traced 0 (declared a ss p) e e′ (λ i m. h i (declared-unasked reported a ss p e i m))))
 
 -- ---- labels: the declarations have none
 module _ (a : ℕ) where

@@ -15,12 +15,12 @@ use Rattle.esterel.specs.Asked.{askedBy, asked, asks}
 use Rattle.esterel.specs.Litres.{AtMost, deliveredBy, delivered, delivers}
 use Rattle.esterel.specs.SignalOrders.{overlap}
 use Rattle.esterel.specs.Rules.{ReactsBy, Reacts}
-use Rattle.esterel.specs.Ceiling.{commands, nesting, ceiling, LoopFree, dearest}
+use Rattle.esterel.specs.Ceiling.{commands, signalNesting, ceiling, LoopFree, dearest}
 use Rattle.esterel.specs.States.{Holds, active, Awake, Stops, Valid, Distinct, Targeted, NoSetpause, Source, WellFormed}
 use Rattle.esterel.specs.Expansion.{expand, Expands, clause}
 use Rattle.esterel.specs.LabelTests.{activeLabels}
 use Rattle.esterel.specs.Ranks.{mask, labelsBy}
-use Rattle.esterel.specs.Resume.{instant, start, suspendInstant, askedOf, startTree, signalOnce, expandBy, resume, resumeTree}
+use Rattle.esterel.specs.Resume.{instant, start, suspendInstant, askedOf, startTraced, signalOnce, expandBy, resume, resumeTraced}
 use Rattle.esterel.specs.ReadBack.{declaredBy, declared, without, AgreeOutside, RemainsUnder}
 use Rattle.esterel.specs.Machines.{seenWithout, run, reached, State, byLabels, ValidState, ReactionOf, of-statement, of-expansion, FromValid, Rewriting, byRewriting, addsByLabels, addsByRewriting, added, erase}
 use Rattle.theory.proofs.Booleans.{never, clash, Tested, tested}
@@ -239,7 +239,7 @@ pub ceiling-holds : (p : Statement) (e : ℕ) → (reactions p e ≤ ceiling p) 
 ceiling-holds p e = (ceilings.fresh-below p e, λ L. ceilings.resumed-below p L e)
 
 -- what no loop-free statement exceeds, by its commands and the signals around one; as a product
-pub dearest-holds : (g : ℕ) (p : Statement) (e : ℕ) → nesting p ≤ g
+pub dearest-holds : (g : ℕ) (p : Statement) (e : ℕ) → signalNesting p ≤ g
     → (1 + reactions p e ≤ dearest g (commands p)) × (LoopFree p → (L : ℕ) → 1 + reactions (expand p L) e ≤ dearest g (commands p))
 dearest-holds g p e h = (dearests.fresh-dearest g p e h, λ f L. dearests.resumed-dearest g p L e f h)
 
@@ -259,19 +259,19 @@ not-asked = unasked inheritanceFirst
 -- So where the run of a signal's body without the signal does not ask for it, that run is the run with it, and stands for both: of a
 -- statement,
 pub one-run-for-both : (f : ℕ) (sc : Scope) (a s : ℕ) (p : Statement) (e : ℕ) → member s (asked p (remove s e)) ≡ false
-    → (startTree f p (insert s e) ≡ startTree f p (remove s e)) × (startTree f (signal sc a s p) e ≡ signalOnce f sc a s (startTree f p (remove s e)))
+    → (startTraced f p (insert s e) ≡ startTraced f p (remove s e)) × (startTraced f (signal sc a s p) e ≡ signalOnce f sc a s (startTraced f p (remove s e)))
 one-run-for-both f sc a s p e h = (one-run f s p e h, one-run-signal f s p e h sc a)
 
 -- of one that resumes by any ranks, and under read-back declarations
-pub one-run-resumed : (f : ℕ) (sc : Scope) (a s base : ℕ) (p : Statement) (m e : ℕ) → member s (askedOf (resumeTree f base p m (remove s e))) ≡ false
-    → (resumeTree f base p m (insert s e) ≡ resumeTree f base p m (remove s e))
-    × (resumeTree f base (signal sc a s p) m e ≡ signalOnce f sc a s (resumeTree f base p m (remove s e)))
+pub one-run-resumed : (f : ℕ) (sc : Scope) (a s base : ℕ) (p : Statement) (m e : ℕ) → member s (askedOf (resumeTraced f base p m (remove s e))) ≡ false
+    → (resumeTraced f base p m (insert s e) ≡ resumeTraced f base p m (remove s e))
+    × (resumeTraced f base (signal sc a s p) m e ≡ signalOnce f sc a s (resumeTraced f base p m (remove s e)))
 unfolding expandBy
 one-run-resumed f sc a s base p m e h = one-run-for-both f sc a s (expandBy base p m) e h
 
 pub one-run-declared : (f a s : ℕ) (ss : List ℕ) (p : Statement) (e : ℕ) → member s (asked (declared a ss p) (remove s e)) ≡ false
-    → (startTree f (declared a ss p) (insert s e) ≡ startTree f (declared a ss p) (remove s e))
-    × (startTree f (declared a (s ∷ ss) p) e ≡ signalOnce f reported a s (startTree f (declared a ss p) (remove s e)))
+    → (startTraced f (declared a ss p) (insert s e) ≡ startTraced f (declared a ss p) (remove s e))
+    × (startTraced f (declared a (s ∷ ss) p) e ≡ signalOnce f reported a s (startTraced f (declared a ss p) (remove s e)))
 unfolding declaredBy
 one-run-declared f a s ss p e h = one-run-for-both f reported a s (declared a ss p) e h
 

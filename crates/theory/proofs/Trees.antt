@@ -11,7 +11,7 @@ use Rattle.esterel.specs.Errors.{Error, instantaneous, ifEnded, signalErrors, e
 use Rattle.esterel.specs.Reactions.{reactionsBy, reactions}
 use Rattle.esterel.specs.Asked.{askedBy, asked}
 use Rattle.esterel.specs.Litres.{deliveredBy, delivered}
-use Rattle.esterel.specs.Resume.{Instant, instant, start, seqInstant, parInstant, loopInstant, presentInstant, tryInstant, signalNames, signalInstant, suspendInstant, stoppedInstant, tree, startTree, seqTree, parTree, loopTree, presentTree, tryTree, signalTree, suspendTree, heldTree, stoppedTree}
+use Rattle.esterel.specs.Resume.{Instant, instant, start, seqInstant, parInstant, loopInstant, presentInstant, tryInstant, signalNames, signalInstant, suspendInstant, stoppedInstant, traced, startTraced, seqTraced, parTraced, loopTraced, presentTraced, tryTraced, signalTraced, suspendTraced, heldTraced, stoppedTraced}
 use Rattle.theory.proofs.SignalOrders.{Blamed, blamed}
 
 -- ---- the first error of a list in parts: what is wrong has one, what is not has none
@@ -97,49 +97,49 @@ start-held s K p e = go (member s e)
 
 -- ---- a tree from the trees of the parts, with the litres of a farm
 module _ (f : ℕ) where
-  pub start-tree-seq : (p q : Statement) (e : ℕ) → startTree f (seq p q) e ≡ seqTree q (startTree f p e) (startTree f q e)
+  pub start-traced-seq : (p q : Statement) (e : ℕ) → startTraced f (seq p q) e ≡ seqTraced q (startTraced f p e) (startTraced f q e)
   unfolding askedBy deliveredBy
-  start-tree-seq p q e = ap (λ (i : Instant). tree i (asked (seq p q) e) (delivered f (seq p q) e)) (start-seq p q e)
+  start-traced-seq p q e = ap (λ (i : Instant). traced i (asked (seq p q) e) (delivered f (seq p q) e)) (start-seq p q e)
 
-  pub start-tree-par : (p q : Statement) (e : ℕ) → startTree f (par p q) e ≡ parTree (startTree f p e) (startTree f q e)
+  pub start-traced-par : (p q : Statement) (e : ℕ) → startTraced f (par p q) e ≡ parTraced (startTraced f p e) (startTraced f q e)
   unfolding askedBy deliveredBy
-  start-tree-par p q e = ap (λ (i : Instant). tree i (asked (par p q) e) (delivered f (par p q) e)) (start-par p q e)
+  start-traced-par p q e = ap (λ (i : Instant). traced i (asked (par p q) e) (delivered f (par p q) e)) (start-par p q e)
 
-  pub start-tree-loop : (a : ℕ) (p : Statement) (e : ℕ) → startTree f (loop a p) e ≡ loopTree a p (startTree f p e)
+  pub start-traced-loop : (a : ℕ) (p : Statement) (e : ℕ) → startTraced f (loop a p) e ≡ loopTraced a p (startTraced f p e)
   unfolding askedBy deliveredBy
-  start-tree-loop a p e = ap (λ (i : Instant). tree i (asked p e) (delivered f (loop a p) e)) (start-loop a p e)
+  start-traced-loop a p e = ap (λ (i : Instant). traced i (asked p e) (delivered f (loop a p) e)) (start-loop a p e)
 
-  pub start-tree-present : (s : ℕ) (p q : Statement) (e : ℕ)
-      → startTree f (present s p q) e ≡ presentTree s (cond (member s e) (startTree f p e) (startTree f q e))
+  pub start-traced-present : (s : ℕ) (p q : Statement) (e : ℕ)
+      → startTraced f (present s p q) e ≡ presentTraced s (cond (member s e) (startTraced f p e) (startTraced f q e))
   unfolding askedBy deliveredBy
-  start-tree-present s p q e = ap (λ (i : Instant). tree i (asked (present s p q) e) (delivered f (present s p q) e)) (start-present s p q e) ∙ go (member s e)
+  start-traced-present s p q e = ap (λ (i : Instant). traced i (asked (present s p q) e) (delivered f (present s p q) e)) (start-present s p q e) ∙ go (member s e)
     where
       go : (b : Bool)
-          → tree (presentInstant (cond b (start p e) (start q e))) (insert s (cond b (asked p e) (asked q e))) (cond b (delivered f p e) (delivered f q e))
-          ≡ presentTree s (cond b (startTree f p e) (startTree f q e))
+          → traced (presentInstant (cond b (start p e) (start q e))) (insert s (cond b (asked p e) (asked q e))) (cond b (delivered f p e) (delivered f q e))
+          ≡ presentTraced s (cond b (startTraced f p e) (startTraced f q e))
       go true = refl
       go false = refl
 
-  pub start-tree-signal : (sc : Scope) (a s : ℕ) (p : Statement) (e : ℕ)
-      → startTree f (signal sc a s p) e ≡ signalTree f sc a s (startTree f p (remove s e)) (startTree f p (insert s e))
+  pub start-traced-signal : (sc : Scope) (a s : ℕ) (p : Statement) (e : ℕ)
+      → startTraced f (signal sc a s p) e ≡ signalTraced f sc a s (startTraced f p (remove s e)) (startTraced f p (insert s e))
   unfolding askedBy deliveredBy
-  start-tree-signal sc a s p e = ap (λ (i : Instant). tree i (asked (signal sc a s p) e) (delivered f (signal sc a s p) e)) (start-signal sc a s p e)
+  start-traced-signal sc a s p e = ap (λ (i : Instant). traced i (asked (signal sc a s p) e) (delivered f (signal sc a s p) e)) (start-signal sc a s p e)
 
-  pub start-tree-try : (p : Statement) (e : ℕ) → startTree f (try p) e ≡ tryTree (startTree f p e)
+  pub start-traced-try : (p : Statement) (e : ℕ) → startTraced f (try p) e ≡ tryTraced (startTraced f p e)
   unfolding askedBy deliveredBy
-  start-tree-try p e = ap (λ (i : Instant). tree i (asked p e) (delivered f p e)) (start-try p e)
+  start-traced-try p e = ap (λ (i : Instant). traced i (asked p e) (delivered f p e)) (start-try p e)
 
-  pub start-tree-suspend : (s : ℕ) (p : Statement) (e : ℕ) → startTree f (suspend s p) e ≡ suspendTree s (startTree f p e)
+  pub start-traced-suspend : (s : ℕ) (p : Statement) (e : ℕ) → startTraced f (suspend s p) e ≡ suspendTraced s (startTraced f p e)
   unfolding askedBy deliveredBy
-  start-tree-suspend s p e = ap (λ (i : Instant). tree i (asked p e) (delivered f p e)) (start-suspend s p e)
+  start-traced-suspend s p e = ap (λ (i : Instant). traced i (asked p e) (delivered f p e)) (start-suspend s p e)
 
-  pub start-tree-held : (s K : ℕ) (p : Statement) (e : ℕ)
-      → startTree f (held s K p) e ≡ cond (member s e) (stoppedTree s K p) (heldTree s (startTree f p e))
+  pub start-traced-held : (s K : ℕ) (p : Statement) (e : ℕ)
+      → startTraced f (held s K p) e ≡ cond (member s e) (stoppedTraced s K p) (heldTraced s (startTraced f p e))
   unfolding askedBy deliveredBy
-  start-tree-held s K p e = ap (λ (i : Instant). tree i (asked (held s K p) e) (delivered f (held s K p) e)) (start-held s K p e) ∙ go (member s e)
+  start-traced-held s K p e = ap (λ (i : Instant). traced i (asked (held s K p) e) (delivered f (held s K p) e)) (start-held s K p e) ∙ go (member s e)
     where
       go : (b : Bool)
-          → tree (cond b (stoppedInstant s K p) (suspendInstant s (start p e))) (insert s (cond b none (asked p e))) (cond b 0 (delivered f p e))
-          ≡ cond b (stoppedTree s K p) (heldTree s (startTree f p e))
+          → traced (cond b (stoppedInstant s K p) (suspendInstant s (start p e))) (insert s (cond b none (asked p e))) (cond b 0 (delivered f p e))
+          ≡ cond b (stoppedTraced s K p) (heldTraced s (startTraced f p e))
       go true = refl
       go false = refl

@@ -13,7 +13,7 @@ use Rattle.esterel.specs.Errors.{errorsBy}
 use Rattle.esterel.specs.Reactions.{reactionsBy}
 use Rattle.esterel.specs.States.{active}
 use Rattle.esterel.specs.LabelTests.{subset, disjoint, labelsOf, activeLabels, everyLabel, distinct, before, wellFormed}
-use Rattle.esterel.specs.Ceiling.{nesting}
+use Rattle.esterel.specs.Ceiling.{signalNesting}
 use Rattle.esterel.specs.ReadBack.{membersFrom, declaredBy}
 use Rattle.esterel.specs.Expansion.{expand}
 use Rattle.esterel.specs.Machines.{State}
@@ -71,7 +71,7 @@ lent = replicate 1024 0xAA
 whole-call : (unrollOf (0x06 ∷ 0x01 ∷ 0x00 ∷ []) 0 lent ≡ unrolling 0 6 (0x06 ∷ 0x04 ∷ 0x0A ∷ 0x00 ∷ 0x01 ∷ 0x00 ∷ replicate 1018 0xAA))
     × (unrollOf (0x06 ∷ []) 0 (replicate 1023 0xAA) ≡ unrolling 1 0 (replicate 1023 0xAA))
     × (unrollOf (0x06 ∷ []) 0 lent ≡ unrolling 4 0 lent)
-unfolding unrollOf checked read front commandOf nesting declaredBy membersFrom distinct wellFormed everyLabel before labelsOf subset disjoint member none only join copied unrolled bytesOf depthOf
+unfolding unrollOf checked read front commandOf signalNesting declaredBy membersFrom distinct wellFormed everyLabel before labelsOf subset disjoint member none only join copied unrolled bytesOf depthOf
 whole-call = (refl, refl, refl)
 
 -- with any buffer: 31 loops around a pause give a result of depth 63, 32 one of depth 65
@@ -110,7 +110,7 @@ stops-before = (refl, refl)
 -- the same through the tick: no tick of the first, whose bytes these are, comes before a wrong instant
 no-tick-before : beforeWrong tickOf (0x06 ∷ 0x04 ∷ 0x06 ∷ 0x00 ∷ 0x01 ∷ 0x00 ∷ []) 0 cleared
     (record { input = 0; buffer = replicate answerLength 0 } ∷ []) ≡ []
-unfolding beforeWrong tickBy checked read front commandOf nesting declaredBy membersFrom distinct wellFormed everyLabel before labelsOf subset disjoint decodeState encodeState encodeAnswer leNumber leBytes reactBy errorsBy reactionsBy member none only join insert remove
+unfolding beforeWrong tickBy checked read front commandOf signalNesting declaredBy membersFrom distinct wellFormed everyLabel before labelsOf subset disjoint decodeState encodeState encodeAnswer leNumber leBytes reactBy errorsBy reactionsBy member none only join insert remove
 no-tick-before = refl
 
 -- ---- how often a command reacts and is entered

@@ -10,7 +10,7 @@ use Rattle.sequence.specs.Commands.{Command}
 use Rattle.sequence.specs.Writer.{bytesOf, size, depthOf}
 use Rattle.sequence.proofs.Table.{byteOf}
 use Rattle.layout.specs.Layout.{Lies, Ready}
-use Rattle.layout.proofs.Laid.{taken, command}
+use Rattle.layout.proofs.Laid.{taken-apart, command}
 use Rattle.unrolled.specs.Unrolled.{copied, unrolled}
 use Rattle.unrolled_sizes.specs.declared.Sizes.{Sizes}
 use Rattle.unrolled_sizes.specs.Measured.{cappedBytes, cappedDepth, SizesOf, Has, HasTwo, Measured, Few}
@@ -118,15 +118,15 @@ leaf-step {bs = bs} r base p l z {n} h = go (command r .0) (command r .1)
   where
     go : (c : Command) → getD bs 0 0 ≡ byteOf c → Has p n
     go Command.nothing b = absurd (z .0 .0 .0 .0 .0 .0 .0 .0 .1 b)
-    go Command.pause b = here (pause _) (taken r base p l Command.pause b .parts) h
-    go Command.emit b = here (emit _ _) (taken r base p l Command.emit b .parts) h
-    go Command.exit b = here (exit _) (taken r base p l Command.exit b .parts) h
+    go Command.pause b = here (pause _) (taken-apart r base p l Command.pause b .parts) h
+    go Command.emit b = here (emit _ _) (taken-apart r base p l Command.emit b .parts) h
+    go Command.exit b = here (exit _) (taken-apart r base p l Command.exit b .parts) h
     go Command.seq b = absurd (z .0 .0 .0 .0 .0 .0 .0 .1 b)
     go Command.par b = absurd (z .0 .0 .0 .0 .0 .0 .1 b)
     go Command.loop b = absurd (z .0 .0 .0 .0 .0 .1 b)
     go Command.present b = absurd (z .0 .0 .0 .0 .1 b)
     go Command.signal b = absurd (z .0 .0 .0 .1 b)
     go Command.try b = absurd (z .0 .0 .1 b)
-    go Command.setpause b = here (setpause _) (taken r base p l Command.setpause b .parts) h
+    go Command.setpause b = here (setpause _) (taken-apart r base p l Command.setpause b .parts) h
     go Command.suspend b = absurd (z .0 .1 b)
     go Command.deliver b = absurd (z .1 b)

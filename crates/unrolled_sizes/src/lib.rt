@@ -4,7 +4,7 @@ ghost use Prim.Native.Nat.{_+_, _-_, _≤_, max};
 ghost use lib.ListN.{length};
 ghost use Rattle.layout.specs.Layout.{rest, Ready, Pair};
 ghost use Rattle.unrolled_sizes.specs.Measured.{cappedBytes, cappedDepth, SizesOf, Measured, MeasuredTwo, Few};
-use layout::Seconds;
+use layout::SecondParts;
 
 // Of a statement: the bytes of its copy, and the bytes and the depth of it worked through. One of the three is wider, so that the
 // compiler adds them one by one: vector operations would bring read-only operands.
@@ -84,7 +84,7 @@ fn around_two(p: Sizes, q: Sizes, w: u32) -> Sizes
 }
 
 // The numbers of the statement at the front of s, which stands at the offset `at`.
-pub fn of_statement(s: &[u8], at: usize, depth: u8, second: &Seconds) -> Sizes
+pub fn of_statement(s: &[u8], at: usize, depth: u8, second: &SecondParts) -> Sizes
     requires { ⌜ Ready (now second) depth at (now s) ⌝ }
     ensures { λ r. ⌜ Measured (now (second .entry)) depth at (now (s .entry)) r ⌝ }
 {
@@ -104,7 +104,7 @@ pub fn of_statement(s: &[u8], at: usize, depth: u8, second: &Seconds) -> Sizes
 }
 
 // The same of the part from s[n] on, which stands at the offset `at`.
-fn of_part(s: &[u8], n: usize, at: usize, depth: u8, second: &Seconds) -> Sizes
+fn of_part(s: &[u8], n: usize, at: usize, depth: u8, second: &SecondParts) -> Sizes
     requires { ⌜ n ≤ length (now s) ⌝ }
     requires { ⌜ Ready (now second) depth at (rest n (now s)) ⌝ }
     ensures { λ r. ⌜ Measured (now (second .entry)) depth at (rest n (now (s .entry))) r ⌝ }
@@ -113,7 +113,7 @@ fn of_part(s: &[u8], n: usize, at: usize, depth: u8, second: &Seconds) -> Sizes
 }
 
 // The same of the command of w bytes and two parts at the front of s, which stands at the offset `at`.
-fn of_parts(s: &[u8], at: usize, w: usize, depth: u8, second: &Seconds) -> Sizes
+fn of_parts(s: &[u8], at: usize, w: usize, depth: u8, second: &SecondParts) -> Sizes
     requires { ⌜ w ≤ 2 ⌝ }
     requires { ⌜ Pair (now second) (depth - 1) at w (now s) ⌝ }
     ensures { λ r. ⌜ MeasuredTwo (now (second .entry)) (depth - 1) at w (now (s .entry)) r ⌝ }

@@ -6,9 +6,9 @@ use mathlib.Core.Bool.{Bool, true, false, cond}
 use native.Mathlib.Omega.{arith}
 use Rattle.esterel.specs.Sets.{member, none, join}
 use Rattle.esterel.specs.Statement.{Statement, pause, setpause}
-use Rattle.esterel.specs.Ceiling.{nesting}
+use Rattle.esterel.specs.Ceiling.{signalNesting}
 use Rattle.esterel.specs.States.{Holds, Valid, Distinct, Targeted, NoSetpause, WellFormed}
-use Rattle.esterel.specs.LabelTests.{labelsOf, pauses, setpauses, triggers, distinct, targeted, ifMember, before, rivals, aside, exclusive, wellFormed, valid}
+use Rattle.esterel.specs.LabelTests.{labelsOf, pauses, setpauses, triggers, distinct, targeted, ifMember, before, exclusiveWith, concurrentWith, exclusive, wellFormed, valid}
 use Rattle.theory.proofs.Sets.{join-none-l, join-self}
 use Rattle.theory.proofs.SetAlgebra.{none-disjoint}
 use Rattle.theory.proofs.LabelSets.{in-r, in-join, same-test, triggers-are}
@@ -26,9 +26,9 @@ if-none k s = go (member k s)
     go true = refl
     go false = refl
 
--- ---- the nesting of signals
-pub nesting-same : {c : Bool} {p q : Statement} → Forms c p q → nesting q ≡ nesting p
-unfolding nesting
+-- ---- the signalNesting of signals
+pub nesting-same : {c : Bool} {p q : Statement} → Forms c p q → signalNesting q ≡ signalNesting p
+unfolding signalNesting
 nesting-same Forms.nothing = refl
 nesting-same Forms.pause = refl
 nesting-same Forms.pause-copied = refl
@@ -98,7 +98,7 @@ distinct-same (Forms.suspend f) = distinct-same f
 distinct-same (Forms.held f) = refl
 
 -- ---- row 10: the pairs of exclusive pauses, and those of triggers on two sides of a parallel, stay
-copy-rivals : {p q : Statement} → Forms true p q → (k : ℕ) → rivals q k ≡ none
+copy-rivals : {p q : Statement} → Forms true p q → (k : ℕ) → exclusiveWith q k ≡ none
 unfolding before
 copy-rivals Forms.nothing k = refl
 copy-rivals Forms.pause-copied k = refl
@@ -114,7 +114,7 @@ copy-rivals Forms.setpause k = refl
 copy-rivals (Forms.suspend f) k = copy-rivals f k
 copy-rivals (Forms.held f) k = refl
 
-pub rivals-same : {p q : Statement} → Forms false p q → (k : ℕ) → rivals q k ≡ rivals p k
+pub rivals-same : {p q : Statement} → Forms false p q → (k : ℕ) → exclusiveWith q k ≡ exclusiveWith p k
 unfolding before
 rivals-same Forms.nothing k = refl
 rivals-same Forms.pause k = refl
@@ -123,7 +123,7 @@ rivals-same Forms.exit k = refl
 rivals-same (Forms.seq f g) k = rw (pauses-same f, pauses-same g, rivals-same f k, rivals-same g k)
 rivals-same (Forms.par f g) k = rw (rivals-same f k, rivals-same g k)
 rivals-same (Forms.loop {p′ = p′} f g) k =
-    rw (copy-pauses f, if-none, copy-rivals f k) (no-two (rivals p′ k) ∙ rivals-same g k)
+    rw (copy-pauses f, if-none, copy-rivals f k) (no-two (exclusiveWith p′ k) ∙ rivals-same g k)
 rivals-same (Forms.present f g) k = rw (pauses-same f, pauses-same g, rivals-same f k, rivals-same g k)
 rivals-same (Forms.signal f) k = rivals-same f k
 rivals-same (Forms.try f) k = rivals-same f k
@@ -131,7 +131,7 @@ rivals-same Forms.setpause k = refl
 rivals-same (Forms.suspend f) k = rivals-same f k
 rivals-same (Forms.held f) k = refl
 
-pub aside-same : {c : Bool} {p q : Statement} → Forms c p q → (k : ℕ) → aside q k ≡ aside p k
+pub aside-same : {c : Bool} {p q : Statement} → Forms c p q → (k : ℕ) → concurrentWith q k ≡ concurrentWith p k
 unfolding before
 aside-same Forms.nothing k = refl
 aside-same Forms.pause k = refl
@@ -140,7 +140,7 @@ aside-same Forms.emit k = refl
 aside-same Forms.exit k = refl
 aside-same (Forms.seq f g) k = rw (aside-same f k, aside-same g k)
 aside-same (Forms.par f g) k = rw (triggers-same f, triggers-same g, aside-same f k, aside-same g k)
-aside-same (Forms.loop {p = p} f g) k = rw (aside-same f k, aside-same g k, join-none-l) (join-self (aside p k))
+aside-same (Forms.loop {p = p} f g) k = rw (aside-same f k, aside-same g k, join-none-l) (join-self (concurrentWith p k))
 aside-same (Forms.loop-copied f) k = aside-same f k
 aside-same (Forms.present f g) k = rw (aside-same f k, aside-same g k)
 aside-same (Forms.signal f) k = aside-same f k

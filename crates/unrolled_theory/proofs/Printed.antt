@@ -12,7 +12,7 @@ use Rattle.esterel.specs.Errors.{errorsBy}
 use Rattle.esterel.specs.Reactions.{reactionsBy}
 use Rattle.esterel.specs.States.{NoSetpause}
 use Rattle.esterel.specs.LabelTests.{subset, disjoint, labelsOf, everyLabel, distinct, before, wellFormed}
-use Rattle.esterel.specs.Ceiling.{nesting}
+use Rattle.esterel.specs.Ceiling.{signalNesting}
 use Rattle.esterel.specs.ReadBack.{membersFrom, declaredBy}
 use Rattle.sequence.specs.Commands.{commandOf}
 use Rattle.sequence.specs.Reader.{front, read}
@@ -40,7 +40,7 @@ hidingBytes =
     0x08 ∷ 0x00 ∷ 0x07 ∷ 0x00 ∷ 0x02 ∷ 0x00 ∷ 0x06 ∷ 0x04 ∷ 0x02 ∷ 0x00 ∷ 0x09 ∷ 0x06 ∷ 0x04 ∷ 0x06 ∷ 0x00 ∷ 0x03 ∷ 0x01 ∷ []
 
 is-checked : checked hidingBytes 0 ≡ sound hiding
-unfolding checked read front commandOf nesting declaredBy membersFrom distinct wellFormed everyLabel before labelsOf subset disjoint member none only join
+unfolding checked read front commandOf signalNesting declaredBy membersFrom distinct wellFormed everyLabel before labelsOf subset disjoint member none only join
 is-checked = refl
 
 is-accepted : checkOf hidingBytes 0 ≡ 0
@@ -69,7 +69,7 @@ firstCode (o ∷ os) = codeIn (answerAfterwards o)
 
 -- 255 for the result, and 0 for the original
 runs-differ : ¬ SameUntilWrong (tickBy printed) hidingBytes (bytesOf (unrolled hiding)) 0
-unfolding tickBy outcomes beforeWrong copied unrolled bytesOf checked read front commandOf nesting declaredBy membersFrom distinct wellFormed everyLabel before labelsOf subset disjoint decodeState encodeState encodeAnswer leNumber leBytes reactBy errorsBy reactionsBy member none only join insert remove
+unfolding tickBy outcomes beforeWrong copied unrolled bytesOf checked read front commandOf signalNesting declaredBy membersFrom distinct wellFormed everyLabel before labelsOf subset disjoint decodeState encodeState encodeAnswer leNumber leBytes reactBy errorsBy reactionsBy member none only join insert remove
 runs-differ same = let e : _≡_ {A = ℕ} 255 0 = ap firstCode (same (once ∷ [])) in omega arith
 
 pub counterexample : (sequence : List ℕ) × (p : Statement) × (checkOf sequence 0 ≡ 0) × Spells sequence p × NoSetpause p × Fits p

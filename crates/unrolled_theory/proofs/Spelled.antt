@@ -7,7 +7,7 @@ use mathlib.Core.List.{List}
 use lib.ListN.{length}
 use borrow.Author.Tests.{le-leb, le-ltb}
 use Rattle.esterel.specs.Statement.{pure, litres, Statement, nothing, pause, emit, exit, seq, par, loop, present, signal, try, setpause, suspend, held}
-use Rattle.esterel.specs.Ceiling.{nesting}
+use Rattle.esterel.specs.Ceiling.{signalNesting}
 use Rattle.esterel.specs.LabelTests.{distinct, targeted, wellFormed}
 use Rattle.theory.proofs.LabelTests.{distinct-is, targeted-is, wellFormed-is}
 use Rattle.limits.specs.Limits.{maxBytes, maxDepth, maxSignals, readBackPlace}
@@ -98,7 +98,7 @@ module _ (p : Statement) where
   pub out-bytes : bytesOf (resultOf p) ≡ bytesOf (unrolled p)
   out-bytes = bytes-placed (unrolled p) 0
 
-  pub out-nesting : (readBack : ℕ) → nesting (program readBack (resultOf p)) ≡ nesting (program readBack p)
+  pub out-nesting : (readBack : ℕ) → signalNesting (program readBack (resultOf p)) ≡ signalNesting (program readBack p)
   out-nesting readBack = nesting-same (declared-forms readBackPlace (readBackSignals readBack) out-forms)
 
   pub out-spelled : Within maxDepth maxSignals p → depthOf (unrolled p) ≤ maxDepth → Spells (bytesOf (unrolled p)) (resultOf p)
@@ -132,7 +132,7 @@ bytes-some (held s K p) r = absurd r
 
 -- a statement whose bytes are within the limits and that keeps the rules on labels is what the check finds in them
 pub checked-spelled : (bs : List ℕ) (readBack : ℕ) (p : Statement) → Spells bs p → length bs ≤ maxBytes
-    → nesting (program readBack p) ≤ maxSignals → distinct p ≡ true → targeted p ≡ true → wellFormed p ≡ true
+    → signalNesting (program readBack p) ≤ maxSignals → distinct p ≡ true → targeted p ≡ true → wellFormed p ≡ true
     → checked bs readBack ≡ sound p
 unfolding checked
 checked-spelled bs readBack p s l n d t f =
@@ -142,7 +142,7 @@ checked-spelled bs readBack p s l n d t f =
       le-leb 1 (length bs) some,
       le-leb (length bs) maxBytes l,
       reads,
-      le-ltb maxSignals (nesting (program readBack p)) n,
+      le-ltb maxSignals (signalNesting (program readBack p)) n,
       le-ltb (length bs) (length bs) (omega arith),
       d,
       t,

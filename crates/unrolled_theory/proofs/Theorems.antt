@@ -9,7 +9,7 @@ use Rattle.esterel.specs.Places.{Place, At}
 use Rattle.esterel.specs.Reaction.{printed}
 use Rattle.esterel.specs.Reactions.{reactions}
 use Rattle.esterel.specs.Expansion.{expand}
-use Rattle.esterel.specs.Ceiling.{nesting}
+use Rattle.esterel.specs.Ceiling.{signalNesting}
 use Rattle.esterel.specs.States.{active, Valid, Distinct, Targeted, NoSetpause, WellFormed}
 use Rattle.esterel.specs.Machines.{State, byLabels}
 use Rattle.limits.specs.Limits.{readBackPlace}
@@ -59,7 +59,7 @@ accepted sequence readBack p e f = spelled.out-checked sequence readBack p e (f 
 pub rules-kept : (p : Statement) → Distinct p → NoSetpause p → Distinct (resultOf p) × Targeted (resultOf p) × WellFormed (resultOf p)
 rules-kept p = labels.plain-kept p (resultOf p) (spelled.out-forms p)
 
-pub nesting-kept : (readBack : ℕ) (p : Statement) → nesting (program readBack (resultOf p)) ≡ nesting (program readBack p)
+pub nesting-kept : (readBack : ℕ) (p : Statement) → signalNesting (program readBack (resultOf p)) ≡ signalNesting (program readBack p)
 nesting-kept readBack p = spelled.out-nesting p readBack
 
 -- ---- 'up to the last instant before its run is wrong, both, started fresh on the same inputs and read-back set, emit the same and have

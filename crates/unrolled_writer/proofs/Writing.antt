@@ -6,14 +6,14 @@ use mathlib.Core.List.{List, [], _∷_, _++_}
 use native.Mathlib.Omega.{arith}
 use lib.ListN.{length, getD}
 use Rattle.esterel.specs.Statement.{Statement, nothing, pause, emit, exit, seq, par, loop, present, signal, try, setpause, suspend}
-use Rattle.sequence.specs.Commands.{Command, operandsOf, partCount, litresFit, width, build, bytesAt}
+use Rattle.sequence.specs.Commands.{Command, operandsOf, partCount, litresFit, headLength, build, bytesAt}
 use Rattle.sequence.specs.Amounts.{amountIn, amountBytes}
 use Rattle.sequence.specs.Writer.{bytesOf}
 use Rattle.sequence.proofs.Amounts.{amount-read}
 use Rattle.sequence.proofs.Table.{byteOf}
 use Rattle.layout.specs.Layout.{rest, secondAt, Parts, Two, Lies, Ready, Pair}
 use Rattle.esterel.specs.Ranks.{middle}
-use Rattle.layout.proofs.Laid.{ready, taken, begins, command, first-ready, second-ready}
+use Rattle.layout.proofs.Laid.{ready, taken-apart, begins, command, first-ready, second-ready}
 use Rattle.unrolled.specs.Unrolled.{copied, unrolled}
 use Rattle.unrolled_writer.specs.Writing.{formBytes, Put, Room, pauseBytes, loopBytes, Writable, Writes, WritableTwo, WritesTwo, WritableLoop, WritesLoop}
 use Rattle.unrolled_writer.proofs.Putting.{put-then, room-first, room-then}
@@ -24,15 +24,15 @@ module _ (c : Bool) (a : ℕ) (bs : List ℕ) where
   abbrev pub OwnLeaf : Command → Type 0
   OwnLeaf k =
       getD bs 0 0 ≡ byteOf k → litresFit k (operandsOf k bs) ≡ true
-      → formBytes c (build k a (operandsOf k bs) nothing nothing) ≡ bytesAt 0 (width k) bs
+      → formBytes c (build k a (operandsOf k bs) nothing nothing) ≡ bytesAt 0 (headLength k) bs
 
   abbrev pub OwnOne : Command → Type 0
-  OwnOne k = getD bs 0 0 ≡ byteOf k → (p : Statement) → formBytes c (build k a (operandsOf k bs) p nothing) ≡ bytesAt 0 (width k) bs ++ formBytes c p
+  OwnOne k = getD bs 0 0 ≡ byteOf k → (p : Statement) → formBytes c (build k a (operandsOf k bs) p nothing) ≡ bytesAt 0 (headLength k) bs ++ formBytes c p
 
   abbrev pub OwnTwo : Command → Type 0
   OwnTwo k =
       getD bs 0 0 ≡ byteOf k → (p q : Statement)
-      → formBytes c (build k a (operandsOf k bs) p q) ≡ bytesAt 0 (width k) bs ++ (formBytes c p ++ formBytes c q)
+      → formBytes c (build k a (operandsOf k bs) p q) ≡ bytesAt 0 (headLength k) bs ++ (formBytes c p ++ formBytes c q)
 
 pub own-nothing : (c : Bool) (a : ℕ) (bs : List ℕ) → OwnLeaf c a bs Command.nothing
 unfolding bytesOf copied unrolled
@@ -124,16 +124,16 @@ module _ {c : Bool} {t : List ℕ} {d a : ℕ} {bs : List ℕ} {i : ℕ} {b : Li
   -- ---- without parts
   leaf-is : (k : Command) → partCount k ≡ 0 → getD bs 0 0 ≡ byteOf k → (base : ℕ) (p : Statement) → Lies t d base a bs p
       → p ≡ build k a (operandsOf k bs) nothing nothing
-  leaf-is k z e base p l = subst (λ (n : ℕ). Parts (Lies t (d - 1)) t base a bs p k n) z (taken r base p l k e .parts)
+  leaf-is k z e base p l = subst (λ (n : ℕ). Parts (Lies t (d - 1)) t base a bs p k n) z (taken-apart r base p l k e .parts)
 
   module _ (k : Command) (z : partCount k ≡ 0) (e : getD bs 0 0 ≡ byteOf k) (own : (c : Bool) (a : ℕ) (bs : List ℕ) → OwnLeaf c a bs k) where
-    leaf-bytes : (base : ℕ) (p : Statement) → Lies t d base a bs p → formBytes c p ≡ bytesAt 0 (width k) bs
-    leaf-bytes base p l = ap (formBytes c) (leaf-is k z e base p l) ∙ own c a bs e (taken r base p l k e .fit)
+    leaf-bytes : (base : ℕ) (p : Statement) → Lies t d base a bs p → formBytes c p ≡ bytesAt 0 (headLength k) bs
+    leaf-bytes base p l = ap (formBytes c) (leaf-is k z e base p l) ∙ own c a bs e (taken-apart r base p l k e .fit)
 
-    pub leaf-room : (width k ≤ length bs) × Room i (length (bytesAt 0 (width k) bs)) b
+    pub leaf-room : (headLength k ≤ length bs) × Room i (length (bytesAt 0 (headLength k) bs)) b
     leaf-room = (begins r k e .there, room-as (leaf-bytes (w .base) (w .p) (w .lies)) (w .room))
 
-    pub leaf-writes : {b′ : List ℕ} {j : ℕ} → Put i (bytesAt 0 (width k) bs) b b′ j → Writes c t d a bs i b b′ j
+    pub leaf-writes : {b′ : List ℕ} {j : ℕ} → Put i (bytesAt 0 (headLength k) bs) b b′ j → Writes c t d a bs i b b′ j
     leaf-writes h base p l = put-as (leaf-bytes base p l) h
 
   module _ (e : getD bs 0 0 ≡ 1) where
@@ -152,24 +152,24 @@ module _ {c : Bool} {t : List ℕ} {d a : ℕ} {bs : List ℕ} {i : ℕ} {b : Li
   -- ---- one part
   module _ (k : Command) (z : partCount k ≡ 1) (e : getD bs 0 0 ≡ byteOf k) where
     one-of : (base : ℕ) (p : Statement) → Lies t d base a bs p
-        → (q : Statement) × ((p ≡ build k a (operandsOf k bs) q nothing) × Lies t (d - 1) base (a + width k) (rest (width k) bs) q)
-    one-of base p l = subst (λ (n : ℕ). Parts (Lies t (d - 1)) t base a bs p k n) z (taken r base p l k e .parts)
+        → (q : Statement) × ((p ≡ build k a (operandsOf k bs) q nothing) × Lies t (d - 1) base (a + headLength k) (rest (headLength k) bs) q)
+    one-of base p l = subst (λ (n : ℕ). Parts (Lies t (d - 1)) t base a bs p k n) z (taken-apart r base p l k e .parts)
 
-    one-ready : (base : ℕ) (q : Statement) → Lies t (d - 1) base (a + width k) (rest (width k) bs) q → Ready t (d - 1) (a + width k) (rest (width k) bs)
+    one-ready : (base : ℕ) (q : Statement) → Lies t (d - 1) base (a + headLength k) (rest (headLength k) bs) q → Ready t (d - 1) (a + headLength k) (rest (headLength k) bs)
     one-ready base q l = ready base q (r .long) l
 
     module _ (own : (c : Bool) (a : ℕ) (bs : List ℕ) → OwnOne c a bs k) where
       abbrev inner : Statement
       inner = one-of (w .base) (w .p) (w .lies) .0
 
-      one-room : Room i (length (bytesAt 0 (width k) bs ++ formBytes c inner)) b
+      one-room : Room i (length (bytesAt 0 (headLength k) bs ++ formBytes c inner)) b
       one-room = room-as (ap (formBytes c) (one-of (w .base) (w .p) (w .lies) .1 .0) ∙ own c a bs e inner) (w .room)
 
-      pub one-head : (width k ≤ length bs) × Room i (length (bytesAt 0 (width k) bs)) b
-      one-head = (begins r k e .there, room-first (bytesAt 0 (width k) bs) (formBytes c inner) one-room)
+      pub one-head : (headLength k ≤ length bs) × Room i (length (bytesAt 0 (headLength k) bs)) b
+      one-head = (begins r k e .there, room-first (bytesAt 0 (headLength k) bs) (formBytes c inner) one-room)
 
-      pub one-writable : {b′ : List ℕ} {j : ℕ} → Put i (bytesAt 0 (width k) bs) b b′ j
-          → (width k ≤ length bs) × Writable c t (d - 1) (a + width k) (rest (width k) bs) j b′
+      pub one-writable : {b′ : List ℕ} {j : ℕ} → Put i (bytesAt 0 (headLength k) bs) b b′ j
+          → (headLength k ≤ length bs) × Writable c t (d - 1) (a + headLength k) (rest (headLength k) bs) j b′
       one-writable h =
           let y = one-of (w .base) (w .p) (w .lies) in (
             begins r k e .there,
@@ -178,12 +178,12 @@ module _ {c : Bool} {t : List ℕ} {d a : ℕ} {bs : List ℕ} {i : ℕ} {b : Li
               base = w .base;
               p = y .0;
               lies = y .1 .1;
-              room = room-then (bytesAt 0 (width k) bs) (formBytes c inner) one-room h;
+              room = room-then (bytesAt 0 (headLength k) bs) (formBytes c inner) one-room h;
             },
           )
 
-      pub one-writes : {b₁ b₂ : List ℕ} {j m : ℕ} → Put i (bytesAt 0 (width k) bs) b b₁ j
-          → Writes c t (d - 1) (a + width k) (rest (width k) bs) j b₁ b₂ m → Writes c t d a bs i b b₂ m
+      pub one-writes : {b₁ b₂ : List ℕ} {j m : ℕ} → Put i (bytesAt 0 (headLength k) bs) b b₁ j
+          → Writes c t (d - 1) (a + headLength k) (rest (headLength k) bs) j b₁ b₂ m → Writes c t d a bs i b b₂ m
       one-writes h f base p l =
           let y = one-of base p l in
           put-as (ap (formBytes c) (y .1 .0) ∙ own c a bs e (y .0)) (put-then h (f base (y .0) (y .1 .1)))
@@ -211,8 +211,8 @@ module _ {c : Bool} {t : List ℕ} {d a : ℕ} {bs : List ℕ} {i : ℕ} {b : Li
   -- ---- two parts
   module _ (k : Command) (z : partCount k ≡ 2) (e : getD bs 0 0 ≡ byteOf k) where
     two-of : (base : ℕ) (p : Statement) → Lies t d base a bs p
-        → (q s : Statement) × ((p ≡ build k a (operandsOf k bs) q s) × Two (Lies t (d - 1)) t base a (width k) bs q s)
-    two-of base p l = subst (λ (n : ℕ). Parts (Lies t (d - 1)) t base a bs p k n) z (taken r base p l k e .parts)
+        → (q s : Statement) × ((p ≡ build k a (operandsOf k bs) q s) × Two (Lies t (d - 1)) t base a (headLength k) bs q s)
+    two-of base p l = subst (λ (n : ℕ). Parts (Lies t (d - 1)) t base a bs p k n) z (taken-apart r base p l k e .parts)
 
     module _ (own : (c : Bool) (a : ℕ) (bs : List ℕ) → OwnTwo c a bs k) where
       abbrev left : Statement
@@ -221,22 +221,22 @@ module _ {c : Bool} {t : List ℕ} {d a : ℕ} {bs : List ℕ} {i : ℕ} {b : Li
       abbrev right : Statement
       right = two-of (w .base) (w .p) (w .lies) .1
 
-      two-room : Room i (length (bytesAt 0 (width k) bs ++ (formBytes c left ++ formBytes c right))) b
+      two-room : Room i (length (bytesAt 0 (headLength k) bs ++ (formBytes c left ++ formBytes c right))) b
       two-room = room-as (ap (formBytes c) (two-of (w .base) (w .p) (w .lies) .2 .0) ∙ own c a bs e left right) (w .room)
 
-      pub two-head : (width k ≤ length bs) × Room i (length (bytesAt 0 (width k) bs)) b
-      two-head = (begins r k e .there, room-first (bytesAt 0 (width k) bs) (formBytes c left ++ formBytes c right) two-room)
+      pub two-head : (headLength k ≤ length bs) × Room i (length (bytesAt 0 (headLength k) bs)) b
+      two-head = (begins r k e .there, room-first (bytesAt 0 (headLength k) bs) (formBytes c left ++ formBytes c right) two-room)
 
-      pub two-writable : {b′ : List ℕ} {j : ℕ} → Put i (bytesAt 0 (width k) bs) b b′ j → WritableTwo c t (d - 1) a (width k) bs j b′
+      pub two-writable : {b′ : List ℕ} {j : ℕ} → Put i (bytesAt 0 (headLength k) bs) b b′ j → WritableTwo c t (d - 1) a (headLength k) bs j b′
       two-writable h =
           let y = two-of (w .base) (w .p) (w .lies) in
           record {
             pair = record { base = w .base; p = y .0; q = y .1; two = y .2 .1; there = begins r k e .there; long = r .long };
-            room = room-then (bytesAt 0 (width k) bs) (formBytes c left ++ formBytes c right) two-room h;
+            room = room-then (bytesAt 0 (headLength k) bs) (formBytes c left ++ formBytes c right) two-room h;
           }
 
-      pub two-writes : {b₁ b₂ : List ℕ} {j m : ℕ} → Put i (bytesAt 0 (width k) bs) b b₁ j
-          → WritesTwo c t (d - 1) a (width k) bs j b₁ b₂ m → Writes c t d a bs i b b₂ m
+      pub two-writes : {b₁ b₂ : List ℕ} {j m : ℕ} → Put i (bytesAt 0 (headLength k) bs) b b₁ j
+          → WritesTwo c t (d - 1) a (headLength k) bs j b₁ b₂ m → Writes c t d a bs i b b₂ m
       two-writes h f base p l =
           let y = two-of base p l in
           put-as (ap (formBytes c) (y .2 .0) ∙ own c a bs e (y .0) (y .1)) (put-then h (f base (y .0) (y .1) (y .2 .1)))
@@ -255,7 +255,7 @@ module _ {c : Bool} {t : List ℕ} {d a : ℕ} {bs : List ℕ} {i : ℕ} {b : Li
   pub other : Others (getD bs 0 0) → Other
   other z = go (command r .0) (command r .1)
     where
-      of : (k : Command) → width k ≡ 2 → partCount k ≡ 0 → getD bs 0 0 ≡ byteOf k → ((c : Bool) (a : ℕ) (bs : List ℕ) → OwnLeaf c a bs k) → Other
+      of : (k : Command) → headLength k ≡ 2 → partCount k ≡ 0 → getD bs 0 0 ≡ byteOf k → ((c : Bool) (a : ℕ) (bs : List ℕ) → OwnLeaf c a bs k) → Other
       of k v y e own =
           let m = leaf-room k y e own in
           record {

@@ -8,7 +8,7 @@ ghost use Rattle.sequence.specs.Commands.{bytesAt};
 ghost use Rattle.layout.specs.Layout.{rest};
 ghost use Rattle.unrolled_writer.specs.Writing.{Put, Room, pauseBytes};
 ghost use Rattle.unrolled_writer.specs.Writing.{Writable, Writes, WritableTwo, WritesTwo, WritableLoop, WritesLoop};
-use layout::Seconds;
+use layout::SecondParts;
 
 // Puts one byte at index i, and answers the index behind it.
 fn put_one(x: u8, i: usize, buffer: &mut [u8]) -> usize
@@ -75,7 +75,7 @@ pub fn write(
     at: usize,
     depth: u8,
     copying: bool,
-    second: &Seconds,
+    second: &SecondParts,
     i: usize,
     buffer: &mut [u8],
 ) -> usize
@@ -123,7 +123,7 @@ fn part(
     at: usize,
     depth: u8,
     copying: bool,
-    second: &Seconds,
+    second: &SecondParts,
     i: usize,
     buffer: &mut [u8],
 ) -> usize
@@ -142,7 +142,7 @@ fn parts(
     w: usize,
     depth: u8,
     copying: bool,
-    second: &Seconds,
+    second: &SecondParts,
     i: usize,
     buffer: &mut [u8],
 ) -> usize
@@ -162,7 +162,7 @@ fn looped(
     at: usize,
     depth: u8,
     copying: bool,
-    second: &Seconds,
+    second: &SecondParts,
     i: usize,
     buffer: &mut [u8],
 ) -> usize

@@ -4,7 +4,7 @@ ghost use lib.ListN.{length};
 ghost use Rattle.limits.specs.Limits.{maxBytes, maxDepth};
 ghost use Rattle.layout.specs.Layout.{Ready};
 ghost use Rattle.unrolling.specs.Unrolling.{UnrollMeets, PlainMeets};
-use layout::Seconds;
+use layout::SecondParts;
 use notes::Notes;
 
 const MAX_BYTES: u64 = limits::MAX_BYTES as u64;
@@ -24,7 +24,7 @@ fn refused(number: u8) -> Result
 }
 
 // Of a statement without setpause at the front of an accepted sequence, with the table of second parts that the check left.
-fn of_plain(sequence: &[u8], second: &Seconds, buffer: &mut [u8]) -> Result
+fn of_plain(sequence: &[u8], second: &SecondParts, buffer: &mut [u8]) -> Result
     requires { ⌜ Ready (now second) maxDepth 0 (now sequence) ⌝ }
     requires { ⌜ length (now buffer) ≡ maxBytes ⌝ }
     ensures { λ r. ⌜ PlainMeets r (now (buffer .exit)) (now (second .entry)) (now (sequence .entry)) (now (buffer .entry)) ⌝ }
@@ -47,7 +47,7 @@ pub fn unroll(sequence: &[u8], read_back: u32, buffer: &mut [u8]) -> Result
     if buffer.len() != limits::MAX_BYTES {
         return refused(1);
     }
-    let mut second: Seconds = [0; limits::MAX_BYTES];
+    let mut second: SecondParts = [0; limits::MAX_BYTES];
     let mut notes: Notes = [0; notes::LENGTH];
     let row = checks::verdict::check(sequence, read_back, &mut second, &mut notes);
     if row != 0 {

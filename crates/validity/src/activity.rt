@@ -3,7 +3,7 @@ ghost use Rattle.labels.specs.Labels.{labelSet};
 ghost use Rattle.validity.specs.Activity.{Ranked, Masked, Judges};
 ghost use Rattle.layout.specs.Known.{Sound};
 use labels::Labels;
-use layout::Seconds;
+use layout::SecondParts;
 use notes::Notes;
 
 // The ranks of the pauses with these labels.
@@ -29,7 +29,7 @@ pub enum Validity {
 }
 
 // Is the label set valid for the statement that was read?
-pub fn validity_of(s: &[u8], second: &Seconds, notes: &Notes, labels: Labels) -> Validity
+pub fn validity_of(s: &[u8], second: &SecondParts, notes: &Notes, labels: Labels) -> Validity
     requires { ⌜ Sound (now second) (now notes) (now s) ⌝ }
     ensures { λ r. ⌜ Judges (now (second .entry)) (now (notes .entry)) (now (s .entry)) (labelSet labels) r ⌝ }
 {

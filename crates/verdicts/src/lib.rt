@@ -1,5 +1,5 @@
 // What the replay program does, as a library over slices (02, item 14): the line that it prints for a file.
-ghost use Rattle.lines.specs.Shown.{Shows};
+ghost use Rattle.lines.specs.Shown.{Displays};
 ghost use Rattle.verdicts.specs.Verdict.{verdictOf};
 use lines::Line;
 use recordings::RECORD_LENGTH;
@@ -9,7 +9,7 @@ const MAX_FILE: usize = 4194304;
 
 // The line that the program prints.
 pub fn verdict(file: &[u8]) -> Line
-    ensures { λ r. ⌜ Shows r (verdictOf (now (file .entry))) ⌝ }
+    ensures { λ r. ⌜ Displays r (verdictOf (now (file .entry))) ⌝ }
 {
     let n = file.len();
     if MAX_FILE < n {

@@ -7,14 +7,14 @@ use mathlib.Core.List.{List}
 use Rattle.esterel.specs.Sets.{member}
 use Rattle.esterel.specs.Statement.{Statement}
 use Rattle.esterel.specs.LabelTests as Esterel
-use Rattle.esterel.specs.LabelTests.{pauses, targeted, rivals, aside, wellFormed}
+use Rattle.esterel.specs.LabelTests.{pauses, targeted, exclusiveWith, concurrentWith, wellFormed}
 use Rattle.theory.proofs.Booleans.{never}
 use Rattle.theory.proofs.LabelTests.{rivals-paused, aside-paused, unmixed-is}
 use Rattle.matrix.specs.Rows.{rowOf}
 use Rattle.clashes.specs.Clashes.{RowsWithin, Clash, Clashes}
 use Rattle.clashes.proofs.Clashes.{clashes-of-all}
 
-module _ (p : Statement) (exclusive concurrent : List ℕ) (er : (k : ℕ) → rowOf exclusive k ≡ rivals p k) (es : (k : ℕ) → rowOf concurrent k ≡ aside p k) where
+module _ (p : Statement) (exclusive concurrent : List ℕ) (er : (k : ℕ) → rowOf exclusive k ≡ exclusiveWith p k) (es : (k : ℕ) → rowOf concurrent k ≡ concurrentWith p k) where
   pair-is : (k l : ℕ) → (member l (rowOf exclusive k) || member k (rowOf exclusive l)) ≡ Esterel.exclusive p k l
   pair-is k l = ap₂ (λ (a b : ℕ). member l a || member k b) (er k) (er l)
 

@@ -22,8 +22,8 @@ use Rattle.sequence.proofs.Table.{byteOf}
 use Rattle.layout.proofs.Laid.{ready, by-command, command, first-ready}
 use Rattle.layout.specs.Joints.{jointOf}
 use Rattle.exclusion.specs.declared.Before.{Before}
-use Rattle.exclusion.specs.declared.Passed.{Passed}
-use Rattle.exclusion.specs.Exclusion.{Labelled, Joins, BeginsSecond}
+use Rattle.exclusion.specs.declared.Walked.{Walked}
+use Rattle.exclusion.specs.Exclusion.{Carries, Joins, BeginsSecond}
 use Rattle.wellformed.specs.Survey.{Standing, StandingTwo, Past, Passes, PastTwo}
 
 -- ---- rows
@@ -45,20 +45,20 @@ only-label : {l s : ℕ} → l < labelCount → s ≡ onlyBelow labelCount l →
 only-label {l} h e = e ∙ rw (lt-ltb l labelCount h)
 
 -- ---- what is said of a command is said of the statement that it is
-module _ (a : ℕ) (v : Before) (r : Passed) (m m′ n n′ : List ℕ) where
+module _ (a : ℕ) (v : Before) (r : Walked) (m m′ n n′ : List ℕ) where
   pub here : (p t : Statement) → p ≡ t → Past t a v r m m′ n n′ → Past p a v r m m′ n n′
   here p t e h = subst (λ (z : Statement). Past z a v r m m′ n n′) (sym e) h
 
-ends-at : {r : Passed} {i j s t : ℕ} → i ≡ j → Labelled r i s t → Labelled r j s t
+ends-at : {r : Walked} {i j s t : ℕ} → i ≡ j → Carries r i s t → Carries r j s t
 ends-at e h = record { ends = h .ends ∙ e; paused = h .paused; triggering = h .triggering }
 
 -- ---- commands without parts
-module _ (a : ℕ) (v : Before) (r : Passed) (m n : List ℕ) where
-  pub nothing-step : Labelled r (a + 1) none none → Past nothing a v r m m n n
+module _ (a : ℕ) (v : Before) (r : Walked) (m n : List ℕ) where
+  pub nothing-step : Carries r (a + 1) none none → Past nothing a v r m m n n
   unfolding labelsOf bytesOf fill
   nothing-step h = record { labels = h; excludes = unchanged; sides = unchanged }
 
-  module _ (h : Labelled r (a + 2) none none) where
+  module _ (h : Carries r (a + 2) none none) where
     pub emit-step : (s : ℕ) → Past (emit s pure) a v r m m n n
     unfolding labelsOf bytesOf fill
     emit-step s = record { labels = h; excludes = unchanged; sides = unchanged }
@@ -67,13 +67,13 @@ module _ (a : ℕ) (v : Before) (r : Passed) (m n : List ℕ) where
     unfolding labelsOf bytesOf fill
     exit-step k = record { labels = h; excludes = unchanged; sides = unchanged }
 
-  pub deliver-step : Labelled r (a + 6) none none → (s x : ℕ) → Past (emit s (litres x)) a v r m m n n
+  pub deliver-step : Carries r (a + 6) none none → (s x : ℕ) → Past (emit s (litres x)) a v r m m n n
   unfolding labelsOf bytesOf leBytes fill
   deliver-step h s x = record { labels = h; excludes = unchanged; sides = unchanged }
 
   -- a label below the width
   module _ (l : ℕ) (small : l < labelCount) (n′ : List ℕ) (w : Updates (addRowBelow labelCount l (labelSet (v .concurrent))) n n′) where
-    pub setpause-step : Labelled r (a + 2) none (onlyBelow labelCount l) → Past (setpause l) a v r m m n n′
+    pub setpause-step : Carries r (a + 2) none (onlyBelow labelCount l) → Past (setpause l) a v r m m n n′
     unfolding labelsOf bytesOf fill
     setpause-step h = record {
       labels = record { ends = h .ends; paused = h .paused; triggering = only-label small (h .triggering) };
@@ -81,7 +81,7 @@ module _ (a : ℕ) (v : Before) (r : Passed) (m n : List ℕ) where
       sides = row-of-label l (labelSet (v .concurrent)) small w;
     }
 
-    pub pause-step : (m′ : List ℕ) → Labelled r (a + 2) (onlyBelow labelCount l) (onlyBelow labelCount l)
+    pub pause-step : (m′ : List ℕ) → Carries r (a + 2) (onlyBelow labelCount l) (onlyBelow labelCount l)
         → Updates (addRowBelow labelCount l (labelSet (v .exclusive))) m m′ → Past (pause l) a v r m m′ n n′
     unfolding labelsOf bytesOf fill
     pause-step m′ h u = record {
@@ -95,7 +95,7 @@ abbrev pub Other : ℕ → Type 0
 Other b =
     ((((((((((Unit {0} × (b ≡ 0 → ⊥)) × (b ≡ 1 → ⊥)) × (b ≡ 4 → ⊥)) × (b ≡ 5 → ⊥)) × (b ≡ 6 → ⊥)) × (b ≡ 7 → ⊥)) × (b ≡ 8 → ⊥)) × (b ≡ 9 → ⊥)) × (b ≡ 10 → ⊥)) × (b ≡ 11 → ⊥)) × (b ≡ 12 → ⊥)
 
-pub other-step : {u : List ℕ} {d a : ℕ} {bs : List ℕ} (i : Ready u d a bs) (v : Before) (r : Passed) (m n : List ℕ) → Labelled r (a + 2) none none
+pub other-step : {u : List ℕ} {d a : ℕ} {bs : List ℕ} (i : Ready u d a bs) (v : Before) (r : Walked) (m n : List ℕ) → Carries r (a + 2) none none
     → Other (getD bs 0 0) → (t : List ℕ) (base : ℕ) (p : Statement) → Lies t d base a bs p → Past p a v r m m n n
 other-step {d = d} {a = a} {bs = bs} i v r m n h o t base p l = go (command i .0) (command i .1)
   where
@@ -115,7 +115,7 @@ other-step {d = d} {a = a} {bs = bs} i v r m n h o t base p l = go (command i .0
     go Command.deliver b = absurd (o .1 b)
 
 -- ---- commands of one part
-module _ (a : ℕ) (v : Before) (r : Passed) (m m′ n n′ : List ℕ) (p : Statement) where
+module _ (a : ℕ) (v : Before) (r : Walked) (m m′ n n′ : List ℕ) (p : Statement) where
   pub loop-step : (b : ℕ) → Past p (a + 1) v r m m′ n n′ → Past (loop b p) a v r m m′ n n′
   unfolding labelsOf bytesOf fill
   loop-step b h = record { labels = ends-at (omega arith) (h .labels); excludes = h .excludes; sides = h .sides }
@@ -145,7 +145,7 @@ module _ {d a w : ℕ} {bs : List ℕ} (i : StandingTwo d a w bs) where
   standing-first = record { table = i .table; ready = first-ready (i .pair) }
 
   -- the first part was passed
-  module _ {v : Before} {x : Passed} {m m′ n n′ : List ℕ} (h : Passes d (a + w) (rest w bs) v x m m′ n n′) where
+  module _ {v : Before} {x : Walked} {m m′ n n′ : List ℕ} (h : Passes d (a + w) (rest w bs) v x m m′ n n′) where
     ended : x .end ≡ (a + w) + size (i .pair .p)
     ended = h (i .table) (i .pair .base) (i .pair .p) (i .pair .two .first) .labels .ends
 
@@ -162,7 +162,7 @@ module _ {d a w : ℕ} {bs : List ℕ} (i : StandingTwo d a w bs) where
           (second-at (i .table) d (i .pair .base) a w bs (i .pair .p) (i .pair .q) (i .pair .two) (x .end) ended);
     }
 
-module _ (a : ℕ) (v : Before) (r : Passed) (m m′ n n′ : List ℕ) (p q : Statement) where
+module _ (a : ℕ) (v : Before) (r : Walked) (m m′ n n′ : List ℕ) (p q : Statement) where
   pub seq-step : PastTwo false p q a 1 v r m m′ n n′ → Past (seq p q) a v r m m′ n n′
   unfolding labelsOf bytesOf fill
   seq-step h =
@@ -179,7 +179,7 @@ module _ (a : ℕ) (v : Before) (r : Passed) (m m′ n n′ : List ℕ) (p q : S
       record { labels = ends-at (omega (arith, length-append (bytesOf p) (bytesOf q))) (h .labels); excludes = h .excludes; sides = h .sides }
 
   -- one part after the other; the rows m₁ and n₁ are those between them
-  pub parts-step : (w : ℕ) (b : Bool) (v₂ : Before) (x y : Passed) (m₁ n₁ : List ℕ) → Past p (a + w) v x m m₁ n n₁ → BeginsSecond b v x v₂
+  pub parts-step : (w : ℕ) (b : Bool) (v₂ : Before) (x y : Walked) (m₁ n₁ : List ℕ) → Past p (a + w) v x m m₁ n n₁ → BeginsSecond b v x v₂
       → Past q (x .end) v₂ y m₁ m′ n₁ n′ → Joins x y r → PastTwo b p q a w v r m m′ n n′
   parts-step w b v₂ x y m₁ n₁ h e k j =
       record {

@@ -15,8 +15,8 @@ use Rattle.sequence.specs.Writer.{size}
 use Rattle.layout.specs.Layout.{Two, Lies, Ready, Pair}
 use Rattle.layout.specs.Joints.{jointOf}
 use Rattle.exclusion.specs.declared.Before.{Before}
-use Rattle.exclusion.specs.declared.Passed.{Passed}
-use Rattle.exclusion.specs.Exclusion.{Labelled}
+use Rattle.exclusion.specs.declared.Walked.{Walked}
+use Rattle.exclusion.specs.Exclusion.{Carries}
 
 -- ---- what the walk requires
 pub record Standing (d a : ℕ) (bs : List ℕ) : Type 0 where
@@ -28,24 +28,24 @@ pub record StandingTwo (d a w : ℕ) (bs : List ℕ) : Type 0 where
   pub pair : Pair table d a w bs
 
 -- ---- the walk: the labels of a statement, and what it adds to the rows m and n
-pub record Past (p : Statement) (a : ℕ) (v : Before) (r : Passed) (m m′ n n′ : List ℕ) : Type 0 where
-  pub labels : Labelled r (a + size p) (pauses p) (triggers p)
+pub record Past (p : Statement) (a : ℕ) (v : Before) (r : Walked) (m m′ n n′ : List ℕ) : Type 0 where
+  pub labels : Carries r (a + size p) (pauses p) (triggers p)
   pub excludes : Updates (fill true false alternative p (labelSet (v .exclusive))) m m′
   pub sides : Updates (fill true true parallel p (labelSet (v .concurrent))) n n′
 
-abbrev pub Passes : (d a : ℕ) (bs : List ℕ) (v : Before) (r : Passed) (m m′ n n′ : List ℕ) → Type 0
+abbrev pub Passes : (d a : ℕ) (bs : List ℕ) (v : Before) (r : Walked) (m m′ n n′ : List ℕ) → Type 0
 Passes d a bs v r m m′ n n′ = (t : List ℕ) (base : ℕ) (p : Statement) → Lies t d base a bs p → Past p a v r m m′ n n′
 
 -- the same of the two parts of a command of w bytes at offset a
 abbrev pub fillTwo : (x y : Bool) → Joint → (parallel : Bool) (p q : Statement) → ℕ → (ℕ → ℕ) → ℕ → ℕ
 fillTwo x y j b p q known rows = fill x y j q (further j (jointOf b) known (labelsOf x y p)) (fill x y j p known rows)
 
-pub record PastTwo (b : Bool) (p q : Statement) (a w : ℕ) (v : Before) (r : Passed) (m m′ n n′ : List ℕ) : Type 0 where
-  pub labels : Labelled r (a + (w + (size p + size q))) (join (pauses p) (pauses q)) (join (triggers p) (triggers q))
+pub record PastTwo (b : Bool) (p q : Statement) (a w : ℕ) (v : Before) (r : Walked) (m m′ n n′ : List ℕ) : Type 0 where
+  pub labels : Carries r (a + (w + (size p + size q))) (join (pauses p) (pauses q)) (join (triggers p) (triggers q))
   pub excludes : Updates (fillTwo true false alternative b p q (labelSet (v .exclusive))) m m′
   pub sides : Updates (fillTwo true true parallel b p q (labelSet (v .concurrent))) n n′
 
-abbrev pub PassesTwo : (d a w : ℕ) (bs : List ℕ) (parallel : Bool) (v : Before) (r : Passed) (m m′ n n′ : List ℕ) → Type 0
+abbrev pub PassesTwo : (d a w : ℕ) (bs : List ℕ) (parallel : Bool) (v : Before) (r : Walked) (m m′ n n′ : List ℕ) → Type 0
 PassesTwo d a w bs b v r m m′ n n′ =
     (t : List ℕ) (base : ℕ) (p q : Statement) → Two (Lies t d) t base a w bs p q → PastTwo b p q a w v r m m′ n n′
 

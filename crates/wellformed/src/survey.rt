@@ -6,8 +6,8 @@ ghost use Rattle.limits.specs.Limits.{maxDepth};
 ghost use Rattle.layout.specs.Layout.{rest};
 ghost use Rattle.wellformed.specs.Survey.{Standing, StandingTwo, Passes, PassesTwo, Surveys};
 use exclusion::Before;
-use exclusion::Passed;
-use matrix::Rows;
+use exclusion::Walked;
+use matrix::Matrix;
 
 // Past the statement at the front of s, which stands at the offset `at`.
 fn pass(
@@ -15,9 +15,9 @@ fn pass(
     at: usize,
     depth: u8,
     before: Before,
-    exclusive: &mut Rows,
-    concurrent: &mut Rows,
-) -> Passed
+    exclusive: &mut Matrix,
+    concurrent: &mut Matrix,
+) -> Walked
     requires { ⌜ Standing depth at (now s) ⌝ }
     ensures { λ r. ⌜ Passes depth at (now (s .entry)) before r
         (now (exclusive .entry)) (now (exclusive .exit)) (now (concurrent .entry)) (now (concurrent .exit)) ⌝ }
@@ -46,9 +46,9 @@ fn pass_part(
     at: usize,
     depth: u8,
     before: Before,
-    exclusive: &mut Rows,
-    concurrent: &mut Rows,
-) -> Passed
+    exclusive: &mut Matrix,
+    concurrent: &mut Matrix,
+) -> Walked
     requires { ⌜ n ≤ length (now s) ⌝ }
     requires { ⌜ Standing depth at (rest n (now s)) ⌝ }
     ensures { λ r. ⌜ Passes depth at (rest n (now (s .entry))) before r
@@ -65,9 +65,9 @@ fn pass_parts(
     parallel: bool,
     depth: u8,
     before: Before,
-    exclusive: &mut Rows,
-    concurrent: &mut Rows,
-) -> Passed
+    exclusive: &mut Matrix,
+    concurrent: &mut Matrix,
+) -> Walked
     requires { ⌜ StandingTwo (depth - 1) at w (now s) ⌝ }
     ensures { λ r. ⌜ PassesTwo (depth - 1) at w (now (s .entry)) parallel before r
         (now (exclusive .entry)) (now (exclusive .exit)) (now (concurrent .entry)) (now (concurrent .exit)) ⌝ }
@@ -81,7 +81,7 @@ fn pass_parts(
 }
 
 // What the labels of the whole statement add to the two matrices.
-pub fn survey(s: &[u8], exclusive: &mut Rows, concurrent: &mut Rows)
+pub fn survey(s: &[u8], exclusive: &mut Matrix, concurrent: &mut Matrix)
     requires { ⌜ Standing maxDepth 0 (now s) ⌝ }
     ensures { λ _. ⌜ Surveys (now (s .entry))
         (now (exclusive .entry)) (now (exclusive .exit)) (now (concurrent .entry)) (now (concurrent .exit)) ⌝ }

@@ -20,11 +20,11 @@ abbrev pub Writable : Reaction → Type 0
 Writable r = WritableCode (r .completion)
 
 -- what an instant writes, by its completion: phase and labels, then code, kind, place, emitted set and number of reactions
-abbrev pub writtenBy : Completion → (emitted labels taken : ℕ) → Outcome
+abbrev pub writtenBy : Completion → (emitted labels reactions : ℕ) → Outcome
 writtenBy Ended o L m = outcome 0 (stateRecord 2 none) (answerRecord 0 0 0 o m)
 writtenBy Waiting o L m = outcome 0 (stateRecord 1 L) (answerRecord 1 0 0 o m)
 writtenBy (Leaving n) o L m = outcome 0 (stateRecord 2 none) (answerRecord (n + 1) 0 0 o m)
 writtenBy (Wrong kind place) o L m = outcome 0 (stateRecord 2 none) (answerRecord 255 kind place 0 m)
 
 abbrev pub writtenFrom : Reaction → Outcome
-writtenFrom r = writtenBy (r .completion) (r .emitted) (labelSet (r .labels)) (r .taken)
+writtenFrom r = writtenBy (r .completion) (r .emitted) (labelSet (r .labels)) (r .reactions)

@@ -5,7 +5,7 @@ use borrow.Author.Tests.{ltb-true}
 use Rattle.esterel.specs.Sets.{below, from}
 use Rattle.esterel.specs.Statement.{local, pause, seq, par, loop, present, signal, try, suspend}
 use Rattle.sequence.specs.Commands.{Command}
-use Rattle.layout.proofs.Laid.{ready, taken, begins, first-ready, second-ready}
+use Rattle.layout.proofs.Laid.{ready, taken-apart, begins, first-ready, second-ready}
 use Rattle.active.proofs.Steps.{
   tested,
   part-mask,
@@ -111,42 +111,42 @@ inside-part-requires-4 t c κs = let y = begins (c .before .before .before .befo
 
 inside-returns-2 : (t : ℕ) → inside-lts.Need-returns-2 (inside-claims t) (inside-at t) inside.Post
 inside-returns-2 t c base p l =
-    let y = taken (c .before .before .before .before .before .before .before .before .before .pre .1) base p l Command.pause (c .before .before .before .match .keys1) in
+    let y = taken-apart (c .before .before .before .before .before .before .before .before .before .pre .1) base p l Command.pause (c .before .before .before .match .keys1) in
     here (pause _) p base _ (y .parts) (pause-step base _ _ (ltb-true _ _ (y .ranged)) (tested (c .before .before .before .before .before .before .before .from-words .ensures) (c .before .before .before .before .before .before .is-empty .ensures) (c .before .before .before .before .before .if1 .left)) (c .add .ensures))
 
 inside-returns-3 : (t : ℕ) → inside-lts.Need-returns-3 (inside-claims t) (inside-at t) inside.Post
 inside-returns-3 t c base p l =
-    let y = taken (c .before .before .before .before .before .before .before .before .pre .1) base p l Command.seq (c .before .before .match .keys2) .parts in
+    let y = taken-apart (c .before .before .before .before .before .before .before .before .pre .1) base p l Command.seq (c .before .before .match .keys2) .parts in
     here (seq (y .0) (y .1)) p base _ (y .2 .0) (seq-step base _ (y .0) (y .1) (c .parts .ensures base (y .0) (y .1) (y .2 .1)))
 
 inside-returns-4 : (t : ℕ) → inside-lts.Need-returns-4 (inside-claims t) (inside-at t) inside.Post
 inside-returns-4 t c base p l =
-    let y = taken (c .before .before .before .before .before .before .before .before .pre .1) base p l Command.par (c .before .before .match .keys3) .parts in
+    let y = taken-apart (c .before .before .before .before .before .before .before .before .pre .1) base p l Command.par (c .before .before .match .keys3) .parts in
     here (par (y .0) (y .1)) p base _ (y .2 .0) (par-step base _ (y .0) (y .1) (c .parts2 .ensures base (y .0) (y .1) (y .2 .1)))
 
 inside-returns-5 : (t : ℕ) → inside-lts.Need-returns-5 (inside-claims t) (inside-at t) inside.Post
 inside-returns-5 t c base p l =
-    let y = taken (c .before .before .before .before .before .before .before .before .pre .1) base p l Command.loop (c .before .before .match .keys4) .parts in
+    let y = taken-apart (c .before .before .before .before .before .before .before .before .pre .1) base p l Command.loop (c .before .before .match .keys4) .parts in
     here (loop _ (y .0)) p base _ (y .1 .0) (loop-step base _ (y .0) (c .part .ensures base (y .0) (y .1 .1)) _)
 
 inside-returns-6 : (t : ℕ) → inside-lts.Need-returns-6 (inside-claims t) (inside-at t) inside.Post
 inside-returns-6 t c base p l =
-    let y = taken (c .before .before .before .before .before .before .before .before .pre .1) base p l Command.present (c .before .before .match .keys5) .parts in
+    let y = taken-apart (c .before .before .before .before .before .before .before .before .pre .1) base p l Command.present (c .before .before .match .keys5) .parts in
     here (present _ (y .0) (y .1)) p base _ (y .2 .0) (present-step base _ (y .0) (y .1) (c .parts3 .ensures base (y .0) (y .1) (y .2 .1)) _)
 
 inside-returns-7 : (t : ℕ) → inside-lts.Need-returns-7 (inside-claims t) (inside-at t) inside.Post
 inside-returns-7 t c base p l =
-    let y = taken (c .before .before .before .before .before .before .before .before .pre .1) base p l Command.signal (c .before .before .match .keys6) .parts in
+    let y = taken-apart (c .before .before .before .before .before .before .before .before .pre .1) base p l Command.signal (c .before .before .match .keys6) .parts in
     here (signal local _ _ (y .0)) p base _ (y .1 .0) (signal-step base _ (y .0) (c .part2 .ensures base (y .0) (y .1 .1)) _ _)
 
 inside-returns-8 : (t : ℕ) → inside-lts.Need-returns-8 (inside-claims t) (inside-at t) inside.Post
 inside-returns-8 t c base p l =
-    let y = taken (c .before .before .before .before .before .before .before .before .pre .1) base p l Command.try (c .before .before .match .keys7) .parts in
+    let y = taken-apart (c .before .before .before .before .before .before .before .before .pre .1) base p l Command.try (c .before .before .match .keys7) .parts in
     here (try (y .0)) p base _ (y .1 .0) (try-step base _ (y .0) (c .part3 .ensures base (y .0) (y .1 .1)))
 
 inside-returns-9 : (t : ℕ) → inside-lts.Need-returns-9 (inside-claims t) (inside-at t) inside.Post
 inside-returns-9 t c base p l =
-    let y = taken (c .before .before .before .before .before .before .before .before .pre .1) base p l Command.suspend (c .before .before .match .keys8) .parts in
+    let y = taken-apart (c .before .before .before .before .before .before .before .before .pre .1) base p l Command.suspend (c .before .before .match .keys8) .parts in
     here (suspend _ (y .0)) p base _ (y .1 .0) (suspend-step base _ (y .0) (c .part4 .ensures base (y .0) (y .1 .1)) _)
 
 inside-returns-10 : (t : ℕ) → inside-lts.Need-returns-10 (inside-claims t) (inside-at t) inside.Post

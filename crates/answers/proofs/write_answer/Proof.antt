@@ -5,8 +5,8 @@ use mathlib.Core.List.{List}
 use lib.ListN.{length-set}
 use lib.Seq.{sets}
 use Rattle.numbers.specs.Bytes.{leBytes}
-use Rattle.limits.specs.Limits.{signalBytes, takenBytes}
-use Rattle.answers.specs.AnswerRecord.{answerLength, emittedAt, takenAt, answerRecord}
+use Rattle.limits.specs.Limits.{signalBytes, reactionsBytes}
+use Rattle.answers.specs.AnswerRecord.{answerLength, emittedAt, reactionsAt, answerRecord}
 use Rattle.numbers.proofs.Writing.{left-alone}
 use Rattle.answers.proofs.Stores.{answer-stored}
 use Rattle.answers.proofs.AnswerLaws.{answer-sized}
@@ -20,8 +20,8 @@ use Rattle.numbers.proofs.put_le.Reads as put-le-reads
 returns : tie.Need-returns
 returns c =
     let a = c .before .before .args in
-    left-alone answerLength (a .answer .now) (answerRecord (a .code) (a .kind) (a .place) (a .emitted) (a .taken))
-    (answer-sized (a .code) (a .kind) (a .place) (a .emitted) (a .taken)) (c .if1 .taken)
+    left-alone answerLength (a .answer .now) (answerRecord (a .code) (a .kind) (a .place) (a .emitted) (a .reactions))
+    (answer-sized (a .code) (a .kind) (a .place) (a .emitted) (a .reactions)) (c .if1 .taken)
 
 slice-write-answer : tie.Need-slice-write-answer
 slice-write-answer c = search needs
@@ -53,9 +53,9 @@ returns-2 c =
     let f = e .before .before .before .before in
     let s = f .before .before .before .before .args in
     d .put-le3 .ensures
-    ∙ ap (λ (l : List ℕ). sets l takenAt (leBytes takenBytes (s .taken)))
+    ∙ ap (λ (l : List ℕ). sets l reactionsAt (leBytes reactionsBytes (s .reactions)))
     (e .put-le2 .ensures ∙ ap (λ (l : List ℕ). sets l emittedAt (leBytes signalBytes (s .emitted))) (f .put-le .ensures))
-    ∙ answer-stored (s .code) (s .kind) (s .place) (s .emitted) (s .taken) (s .answer .now) (f .before .before .if1 .left)
+    ∙ answer-stored (s .code) (s .kind) (s .place) (s .emitted) (s .reactions) (s .answer .now) (f .before .before .if1 .left)
 
 pub write-answer-spec : {M : Type 1} → statement M
 write-answer-spec =

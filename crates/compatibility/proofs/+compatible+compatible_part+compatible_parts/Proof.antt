@@ -4,7 +4,7 @@ use borrow.Author.Needs.{needs}
 use borrow.Author.Tests.{not-true, not-false}
 use Rattle.esterel.specs.Statement.{local, seq, par, loop, present, signal, try, suspend}
 use Rattle.sequence.specs.Commands.{Command}
-use Rattle.layout.proofs.Laid.{ready, taken, begins, first-ready, second-ready}
+use Rattle.layout.proofs.Laid.{ready, taken-apart, begins, first-ready, second-ready}
 use Rattle.compatibility.proofs.Steps.{
   here,
   loop-step,
@@ -129,37 +129,37 @@ compatible-returns t c base p l = single-step _ base _ p (c .before .before .wit
 
 compatible-returns-2 : (t : ℕ) → compatible-lts.Need-returns-2 (compatible-claims t) (compatible-at t) compatible.Post
 compatible-returns-2 t c base p l =
-    let y = taken (c .before .before .before .before .before .before .before .before .before .pre .1) base p l Command.seq (c .before .before .match .keys1) .parts in
+    let y = taken-apart (c .before .before .before .before .before .before .before .before .before .pre .1) base p l Command.seq (c .before .before .match .keys1) .parts in
     here (seq (y .0) (y .1)) p base _ (y .2 .0) (seq-step base _ (y .0) (y .1) (c .compatible-parts .ensures base (y .0) (y .1) (whole-two (y .2 .1))))
 
 compatible-returns-3 : (t : ℕ) → compatible-lts.Need-returns-3 (compatible-claims t) (compatible-at t) compatible.Post
 compatible-returns-3 t c base p l =
-    let y = taken (c .before .before .before .before .before .before .before .before .before .pre .1) base p l Command.par (c .before .before .match .keys2) .parts in
+    let y = taken-apart (c .before .before .before .before .before .before .before .before .before .pre .1) base p l Command.par (c .before .before .match .keys2) .parts in
     here (par (y .0) (y .1)) p base _ (y .2 .0) (par-step base _ (y .0) (y .1) (c .compatible-parts2 .ensures base (y .0) (y .1) (whole-two (y .2 .1))))
 
 compatible-returns-4 : (t : ℕ) → compatible-lts.Need-returns-4 (compatible-claims t) (compatible-at t) compatible.Post
 compatible-returns-4 t c base p l =
-    let y = taken (c .before .before .before .before .before .before .before .before .pre .1) base p l Command.loop (c .before .match .keys3) .parts in
+    let y = taken-apart (c .before .before .before .before .before .before .before .before .pre .1) base p l Command.loop (c .before .match .keys3) .parts in
     here (loop _ (y .0)) p base _ (y .1 .0) (loop-step base _ (y .0) (c .compatible-part .ensures base (y .0) (y .1 .1)) _)
 
 compatible-returns-5 : (t : ℕ) → compatible-lts.Need-returns-5 (compatible-claims t) (compatible-at t) compatible.Post
 compatible-returns-5 t c base p l =
-    let y = taken (c .before .before .before .before .before .before .before .before .before .pre .1) base p l Command.present (c .before .before .match .keys4) .parts in
+    let y = taken-apart (c .before .before .before .before .before .before .before .before .before .pre .1) base p l Command.present (c .before .before .match .keys4) .parts in
     here (present _ (y .0) (y .1)) p base _ (y .2 .0) (present-step base _ (y .0) (y .1) _ (c .compatible-parts3 .ensures base (y .0) (y .1) (whole-two (y .2 .1))))
 
 compatible-returns-6 : (t : ℕ) → compatible-lts.Need-returns-6 (compatible-claims t) (compatible-at t) compatible.Post
 compatible-returns-6 t c base p l =
-    let y = taken (c .before .before .before .before .before .before .before .before .pre .1) base p l Command.signal (c .before .match .keys5) .parts in
+    let y = taken-apart (c .before .before .before .before .before .before .before .before .pre .1) base p l Command.signal (c .before .match .keys5) .parts in
     here (signal local _ _ (y .0)) p base _ (y .1 .0) (signal-step base _ (y .0) (c .compatible-part2 .ensures base (y .0) (y .1 .1)) _ _)
 
 compatible-returns-7 : (t : ℕ) → compatible-lts.Need-returns-7 (compatible-claims t) (compatible-at t) compatible.Post
 compatible-returns-7 t c base p l =
-    let y = taken (c .before .before .before .before .before .before .before .before .pre .1) base p l Command.try (c .before .match .keys6) .parts in
+    let y = taken-apart (c .before .before .before .before .before .before .before .before .pre .1) base p l Command.try (c .before .match .keys6) .parts in
     here (try (y .0)) p base _ (y .1 .0) (try-step base _ (y .0) (c .compatible-part3 .ensures base (y .0) (y .1 .1)))
 
 compatible-returns-8 : (t : ℕ) → compatible-lts.Need-returns-8 (compatible-claims t) (compatible-at t) compatible.Post
 compatible-returns-8 t c base p l =
-    let y = taken (c .before .before .before .before .before .before .before .before .pre .1) base p l Command.suspend (c .before .match .keys7) .parts in
+    let y = taken-apart (c .before .before .before .before .before .before .before .before .pre .1) base p l Command.suspend (c .before .match .keys7) .parts in
     here (suspend _ (y .0)) p base _ (y .1 .0) (suspend-step base _ (y .0) (c .compatible-part4 .ensures base (y .0) (y .1 .1)) _)
 
 compatible-returns-9 : (t : ℕ) → compatible-lts.Need-returns-9 (compatible-claims t) (compatible-at t) compatible.Post

@@ -6,16 +6,16 @@ use Rattle.deliveries.proofs.gather.Statement.{statement}
 use Rattle.deliveries.proofs.gather.Tie as tie
 
 abbrev Inv-loop : tie.InvT-loop
-Inv-loop s position input read-back farms second litres₀ left₀ litres left =
-    Gathering second s position input read-back farms left litres₀ litres
+Inv-loop s origin input read-back farms second litres₀ left₀ litres left =
+    Gathering second s origin input read-back farms left litres₀ litres
 
 abbrev μ-loop : tie.MeasureT-loop
-μ-loop s position input read-back farms second litres₀ left₀ litres left = left
+μ-loop s origin input read-back farms second litres₀ left₀ litres left = left
 
 loop-holds : tie.Need-loop-holds Inv-loop μ-loop
 loop-holds c =
     let a = c .before .args in
-    gathers-none (a .second .now) (a .s .now) (a .position) (a .input) (a .read-back) (a .farms) (c .before .pre .1)
+    gathers-none (a .second .now) (a .s .now) (a .origin) (a .input) (a .read-back) (a .farms) (c .before .pre .1)
 
 react-requires : tie.Need-react-requires Inv-loop μ-loop
 react-requires c κs = c .before .before .before .before .before .pre .0
@@ -35,7 +35,7 @@ loop-again c =
     let k = c .before .before .before .before .before .before .before .before .before in
     let a = k .args in
     let l = c .before .before .before .before .before .before .before .loop in
-    gathers-next (a .second .now) (a .s .now) (a .position) (a .input) (a .read-back) (a .farms) (search needs) (l .inv)
+    gathers-next (a .second .now) (a .s .now) (a .origin) (a .input) (a .read-back) (a .farms) (search needs) (l .inv)
     (c .before .before .before .before .lowest .ensures)
     (some-left (c .before .before .before .before .before .before .is-empty .ensures) (c .before .before .before .before .before .if1 .taken))
     (c .before .before .before .react .ensures) (c .without .ensures) (c .before .enter .ensures)
@@ -43,7 +43,7 @@ loop-again c =
 returns : tie.Need-returns Inv-loop μ-loop
 returns c =
     let a = c .before .before .before .before .args in
-    gathers-all (a .second .now) (a .s .now) (a .position) (a .input) (a .read-back) (a .farms)
+    gathers-all (a .second .now) (a .s .now) (a .origin) (a .input) (a .read-back) (a .farms)
     (none-left (c .before .is-empty .ensures) (c .if1 .left)) (c .before .before .loop .inv)
 
 pub gather-spec : {M : Type 1} → statement M

@@ -11,7 +11,7 @@ returns : tie.Need-returns
 returns c =
     let k = c .before .before .before .before .before in
     let a = k .args in
-    wrong-instant (a .second .now) (a .s .now) (a .position) (a .input) (a .read-back) (a .farms) (c .before .before .before .lowest .ensures)
+    wrong-instant (a .second .now) (a .s .now) (a .origin) (a .input) (a .read-back) (a .farms) (c .before .before .before .lowest .ensures)
     (c .before .before .react .ensures) (c .before .is-wrong .ensures) (k .pre .1) (c .if1 .taken)
 
 enter-requires : tie.Need-enter-requires
@@ -26,7 +26,7 @@ returns-2 : tie.Need-returns-2
 returns-2 c =
     let k = c .before .before .before .before .before .before .before .before .before .before .before in
     let a = k .args in
-    right-instant (a .second .now) (a .s .now) (a .position) (a .input) (a .read-back) (a .farms) (c .before .before .before .before .before .before .before .before .before .lowest .ensures)
+    right-instant (a .second .now) (a .s .now) (a .origin) (a .input) (a .read-back) (a .farms) (c .before .before .before .before .before .before .before .before .before .lowest .ensures)
     (c .before .before .before .before .before .before .before .before .react .ensures) (c .before .before .before .before .before .before .before .is-wrong .ensures) (k .pre .1) (c .before .before .before .before .enter .ensures)
     (c .before .before .before .common .ensures) (c .before .before .without .ensures) (c .gather .last .1 .1 .1 .1 .1 .1 .0) (c .gather .ensures) (c .before .before .before .before .before .before .if1 .left)
 

@@ -9,11 +9,11 @@ use Rattle.previews.proofs.gather.Statement.{statement}
 use Rattle.previews.proofs.gather.Tie as tie
 
 abbrev Inv-loop : tie.InvT-loop
-Inv-loop sequence second position input unknown read-back known filling₀ sum₀ filling sum =
-    OfEach second sequence (λ p. Left (answersAt position p read-back) input unknown sum filling)
+Inv-loop sequence second origin input unknown read-back known filling₀ sum₀ filling sum =
+    OfEach second sequence (λ p. Left (answersAt origin p read-back) input unknown sum filling)
 
 abbrev μ-loop : tie.MeasureT-loop
-μ-loop sequence second position input unknown read-back known filling₀ sum₀ filling sum = filling
+μ-loop sequence second origin input unknown read-back known filling₀ sum₀ filling sum = filling
 
 difference-requires : tie.Need-difference-requires Inv-loop μ-loop
 difference-requires c κs = search needs

@@ -1,5 +1,5 @@
 use mathlib.Core.Path.{subst}
-use Rattle.program.specs.declared.Position.the-variants.{Fresh, Waiting}
+use Rattle.program.specs.declared.Start.the-variants.{Fresh, Waiting}
 use Rattle.instants.specs.Replies.{Decodes}
 use Rattle.checks.proofs.Passing.{passed, as-sound}
 use Rattle.previews.proofs.Calls.{other-buffer, unchecked-preview, malformed-preview, over-preview, from-fresh, from-waiting, stands-at, shown-preview}

@@ -10,7 +10,7 @@ size-requires c κs = search needs
 returns : tie.Need-returns
 returns c p l =
     let a = c .before .before .before .before .args in
-    too-many (answersAt (a .position) p (a .read-back)) (a .input) (a .unknown) (a .buffer .now) _ (c .before .size .ensures) (c .if1 .taken)
+    too-many (answersAt (a .origin) p (a .read-back)) (a .input) (a .unknown) (a .buffer .now) _ (c .before .size .ensures) (c .if1 .taken)
 
 gather-requires : tie.Need-gather-requires
 gather-requires c κs = search needs
@@ -24,7 +24,7 @@ same-length c = search needs
 returns-2 : tie.Need-returns-2
 returns-2 c p l =
     let a = c .before .before .before .before .before .before .before .before .before .args in
-    shown-bytes (answersAt (a .position) p (a .read-back)) (a .input) (a .unknown) (a .buffer .now) _ (c .before .before .before .before .before .before .size .ensures) (c .before .before .before .before .before .if1 .left) _ _
+    shown-bytes (answersAt (a .origin) p (a .read-back)) (a .input) (a .unknown) (a .buffer .now) _ (c .before .before .before .before .before .before .size .ensures) (c .before .before .before .before .before .if1 .left) _ _
     (c .before .before .before .gather .ensures p l) (c .before .before .write .ensures)
 
 pub show-spec : {M : Type 1} → statement M

@@ -14,7 +14,7 @@ found-requires c κs = let s = c .before .before .pre in subst Writable (sym (c 
 returns : tie.Need-returns
 returns c p l =
     let a = c .before .before .before .args in
-    tried-is (a .position) p (a .read-back) (a .e) _ _ (c .before .react .ensures p l) (c .found .ensures)
+    tried-is (a .origin) p (a .read-back) (a .e) _ _ (c .before .react .ensures p l) (c .found .ensures)
 
 pub tried-spec : {M : Type 1} → statement M
 tried-spec = tie.close (tie.spec react-requires found-requires returns)

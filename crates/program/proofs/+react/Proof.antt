@@ -62,7 +62,7 @@ react-inside-requires t c κs = search needs
 react-returns : (t : ℕ) → react-lts.Need-returns (claims t) (react-at t) react.Post
 react-returns t c p l =
     let a = c .before .before .before .before .args in
-    none-left (a .farm) (a .read-back) (termAt (a .position) p) (a .input) (sym (c .before .before .is-empty .ensures) ∙ c .before .if1 .taken) (c .inside .ensures p l)
+    none-left (a .farm) (a .read-back) (termAt (a .origin) p) (a .input) (sym (c .before .before .is-empty .ensures) ∙ c .before .if1 .taken) (c .inside .ensures p l)
 
 react-lowest-requires : (t : ℕ) → react-lts.Need-lowest-requires (claims t) (react-at t) react.Post
 react-lowest-requires t c κs = search needs
@@ -107,7 +107,7 @@ react-returns-2 t c p l =
     let w = d .before .before .before .before in
     let a = w .before .before .before .before .args in
     one-more (a .read-back) _ (search needs) (sym (w .before .before .is-empty .ensures) ∙ w .before .if1 .left) (w .lowest .ensures)
-    (a .farm) (termAt (a .position) p) (a .input) (d .before .before .before .without .ensures) (d .before .before .without2 .ensures) (d .react .ensures p l)
+    (a .farm) (termAt (a .origin) p) (a .input) (d .before .before .before .without .ensures) (d .before .before .without2 .ensures) (d .react .ensures p l)
     (d .before .with .ensures) (c .before .react2 .ensures p l) (c .in-read-back .ensures _)
 
 react-returns-3 : (t : ℕ) → react-lts.Need-returns-3 (claims t) (react-at t) react.Post
@@ -116,7 +116,7 @@ react-returns-3 t c p l =
     let w = d .before .before .before .before in
     let a = w .before .before .before .before .args in
     one-more-once (a .read-back) _ (search needs) (sym (w .before .before .is-empty .ensures) ∙ w .before .if1 .left) (w .lowest .ensures)
-    (a .farm) (termAt (a .position) p) (a .input) (d .before .before .before .without .ensures) (d .before .before .without2 .ensures) (d .react .ensures p l)
+    (a .farm) (termAt (a .origin) p) (a .input) (d .before .before .before .without .ensures) (d .before .before .without2 .ensures) (d .react .ensures p l)
     (sym (c .before .before .member .ensures) ∙ c .before .if2 .left) (c .in-read-back-once .ensures _ _)
 
 pub +react-spec : {M : Type 1} → statement M

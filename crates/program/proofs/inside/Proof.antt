@@ -8,8 +8,8 @@ enum-told c = search needs
 react-requires : tie.Need-react-requires
 react-requires c κs = search needs
 
-enum-known-position : tie.Need-enum-known-position
-enum-known-position c = search needs
+enum-known-origin : tie.Need-enum-known-origin
+enum-known-origin c = search needs
 
 resume-requires : tie.Need-resume-requires
 resume-requires c κs = search needs
@@ -18,9 +18,9 @@ returns : tie.Need-returns
 returns c p l = rw (c .before .enum-told .given .1) (c .react .ensures 0 p l)
 
 returns-2 : tie.Need-returns-2
-returns-2 c p l = rw (c .before .before .position .given .1) (c .resume .ensures 0 p l)
+returns-2 c p l = rw (c .before .before .origin .given .1) (c .resume .ensures 0 p l)
 
 pub inside-spec : {M : Type 1} → statement M
 inside-spec =
     tie.close
-    (tie.spec enum-told react-requires enum-known-position resume-requires returns returns-2)
+    (tie.spec enum-told react-requires enum-known-origin resume-requires returns returns-2)

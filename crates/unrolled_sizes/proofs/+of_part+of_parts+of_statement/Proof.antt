@@ -3,7 +3,7 @@ use native.Mathlib.Omega.{arith}
 use borrow.Author.Needs.{needs}
 use Rattle.esterel.specs.Statement.{local, litres, nothing, emit, seq, par, loop, present, signal, try, suspend}
 use Rattle.sequence.specs.Commands.{Command}
-use Rattle.layout.proofs.Laid.{taken, first-ready, second-ready}
+use Rattle.layout.proofs.Laid.{taken-apart, first-ready, second-ready}
 use Rattle.extents.proofs.Steps.{part-ready, pair-ready}
 use Rattle.unrolled_sizes.proofs.Steps.{few, here, loop-step, signal-step, try-step, suspend-step, parts-step, seq-step, par-step, present-step, nothing-step, deliver-step, leaf-step}
 use Prim.Native.Nat.{ℕ, _+_, _*_, _<_}
@@ -136,46 +136,46 @@ of-statement-around-requires-3 t c κs = (few (part-ready (c .before .before .be
 
 of-statement-returns : (t : ℕ) → of-statement-lts.Need-returns (of-statement-claims t) (of-statement-at t) of-statement.Post
 of-statement-returns t c = λ base p l.
-    here nothing (taken (c .before .before .before .before .pre .1) base p l Command.nothing (c .before .match .keys1) .parts) (nothing-step (c .capped .ensures))
+    here nothing (taken-apart (c .before .before .before .before .pre .1) base p l Command.nothing (c .before .match .keys1) .parts) (nothing-step (c .capped .ensures))
 
 of-statement-returns-2 : (t : ℕ) → of-statement-lts.Need-returns-2 (of-statement-claims t) (of-statement-at t) of-statement.Post
 of-statement-returns-2 t c = λ base p l.
-    let y = taken (c .before .before .before .before .pre .1) base p l Command.seq (c .before .match .keys2) .parts in
+    let y = taken-apart (c .before .before .before .before .pre .1) base p l Command.seq (c .before .match .keys2) .parts in
     here (seq (y .0) (y .1)) (y .2 .0) (seq-step (y .0) (y .1) (c .of-parts .ensures base (y .0) (y .1) (y .2 .1)))
 
 of-statement-returns-3 : (t : ℕ) → of-statement-lts.Need-returns-3 (of-statement-claims t) (of-statement-at t) of-statement.Post
 of-statement-returns-3 t c = λ base p l.
-    let y = taken (c .before .before .before .before .pre .1) base p l Command.par (c .before .match .keys3) .parts in
+    let y = taken-apart (c .before .before .before .before .pre .1) base p l Command.par (c .before .match .keys3) .parts in
     here (par (y .0) (y .1)) (y .2 .0) (par-step (y .0) (y .1) (c .of-parts2 .ensures base (y .0) (y .1) (y .2 .1)))
 
 of-statement-returns-4 : (t : ℕ) → of-statement-lts.Need-returns-4 (of-statement-claims t) (of-statement-at t) of-statement.Post
 of-statement-returns-4 t c = λ base p l.
-    let y = taken (c .before .before .before .before .before .pre .1) base p l Command.loop (c .before .before .match .keys4) .parts in
+    let y = taken-apart (c .before .before .before .before .before .pre .1) base p l Command.loop (c .before .before .match .keys4) .parts in
     here (loop _ (y .0)) (y .1 .0) (loop-step (y .0) (c .before .of-part .ensures base (y .0) (y .1 .1)) _ (c .around-loop .ensures))
 
 of-statement-returns-5 : (t : ℕ) → of-statement-lts.Need-returns-5 (of-statement-claims t) (of-statement-at t) of-statement.Post
 of-statement-returns-5 t c = λ base p l.
-    let y = taken (c .before .before .before .before .pre .1) base p l Command.present (c .before .match .keys5) .parts in
+    let y = taken-apart (c .before .before .before .before .pre .1) base p l Command.present (c .before .match .keys5) .parts in
     here (present _ (y .0) (y .1)) (y .2 .0) (present-step (y .0) (y .1) _ (c .of-parts3 .ensures base (y .0) (y .1) (y .2 .1)))
 
 of-statement-returns-6 : (t : ℕ) → of-statement-lts.Need-returns-6 (of-statement-claims t) (of-statement-at t) of-statement.Post
 of-statement-returns-6 t c = λ base p l.
-    let y = taken (c .before .before .before .before .before .pre .1) base p l Command.signal (c .before .before .match .keys6) .parts in
+    let y = taken-apart (c .before .before .before .before .before .pre .1) base p l Command.signal (c .before .before .match .keys6) .parts in
     here (signal local _ _ (y .0)) (y .1 .0) (signal-step (y .0) (c .before .of-part2 .ensures base (y .0) (y .1 .1)) _ _ (c .around .ensures))
 
 of-statement-returns-7 : (t : ℕ) → of-statement-lts.Need-returns-7 (of-statement-claims t) (of-statement-at t) of-statement.Post
 of-statement-returns-7 t c = λ base p l.
-    let y = taken (c .before .before .before .before .before .pre .1) base p l Command.try (c .before .before .match .keys7) .parts in
+    let y = taken-apart (c .before .before .before .before .before .pre .1) base p l Command.try (c .before .before .match .keys7) .parts in
     here (try (y .0)) (y .1 .0) (try-step (y .0) (c .before .of-part3 .ensures base (y .0) (y .1 .1)) (c .around2 .ensures))
 
 of-statement-returns-8 : (t : ℕ) → of-statement-lts.Need-returns-8 (of-statement-claims t) (of-statement-at t) of-statement.Post
 of-statement-returns-8 t c = λ base p l.
-    let y = taken (c .before .before .before .before .before .pre .1) base p l Command.suspend (c .before .before .match .keys8) .parts in
+    let y = taken-apart (c .before .before .before .before .before .pre .1) base p l Command.suspend (c .before .before .match .keys8) .parts in
     here (suspend _ (y .0)) (y .1 .0) (suspend-step (y .0) (c .before .of-part4 .ensures base (y .0) (y .1 .1)) _ (c .around3 .ensures))
 
 of-statement-returns-9 : (t : ℕ) → of-statement-lts.Need-returns-9 (of-statement-claims t) (of-statement-at t) of-statement.Post
 of-statement-returns-9 t c = λ base p l.
-    here (emit _ (litres _)) (taken (c .before .before .before .before .pre .1) base p l Command.deliver (c .before .match .keys9) .parts)
+    here (emit _ (litres _)) (taken-apart (c .before .before .before .before .pre .1) base p l Command.deliver (c .before .match .keys9) .parts)
     (deliver-step _ _ (c .capped2 .ensures))
 
 of-statement-returns-10 : (t : ℕ) → of-statement-lts.Need-returns-10 (of-statement-claims t) (of-statement-at t) of-statement.Post

@@ -1,6 +1,6 @@
 use mathlib.Core.Path.{subst}
 use borrow.Author.Needs.{needs}
-use Rattle.lines.specs.Shown.{Shows}
+use Rattle.lines.specs.Shown.{Displays}
 use Rattle.verdicts.proofs.Verdicts.{too-long, ended-early, refused, accepted, differs}
 use Rattle.verdicts.proofs.verdict.Statement.{statement}
 use Rattle.verdicts.proofs.verdict.Tie as tie
@@ -9,7 +9,7 @@ cut-requires : tie.Need-cut-requires
 cut-requires c κs = search needs
 
 returns : tie.Need-returns
-returns c = subst (Shows _) (too-long (c .before .before .before .args .file .now) (c .before .if1 .taken)) (c .cut .ensures)
+returns c = subst (Displays _) (too-long (c .before .before .before .args .file .now) (c .before .if1 .taken)) (c .cut .ensures)
 
 inputs-begin-requires : tie.Need-inputs-begin-requires
 inputs-begin-requires c κs = search needs
@@ -20,7 +20,7 @@ cut-requires-2 c κs = search needs
 returns-2 : tie.Need-returns-2
 returns-2 c =
     let i = c .before .before .inputs-begin in
-    subst (Shows _) (ended-early (c .before .before .before .before .before .args .file .now) (c .before .before .before .if1 .left) (i .result) (i .ensures .0) (c .before .if2 .taken)) (c .cut2 .ensures)
+    subst (Displays _) (ended-early (c .before .before .before .before .before .args .file .now) (c .before .before .before .if1 .left) (i .result) (i .ensures .0) (c .before .if2 .taken)) (c .cut2 .ensures)
 
 part-requires : tie.Need-part-requires
 part-requires c κs = search needs
@@ -41,7 +41,7 @@ returns-3 : tie.Need-returns-3
 returns-3 c =
     let r = c .before .before in
     let i = r .before .before .before .before .before .before .inputs-begin in
-    subst (Shows _)
+    subst (Displays _)
     (refused (r .before .before .before .before .before .before .before .before .before .args .file .now) (r .before .before .before .before .before .before .before .if1 .left) (i .result) (i .ensures .0) (r .before .before .before .before .before .if2 .left) _ _ _ (r .before .before .before .before .part .ensures) (r .before .before .sequence .ensures) (r .before .before .before .read-back .ensures) _ _ (r .intake-replay .ensures)
     (c .before .if3 .taken))
     (c .refusal .ensures)
@@ -56,7 +56,7 @@ returns-4 : tie.Need-returns-4
 returns-4 c =
     let r = c .before .before .before .before in
     let i = r .before .before .before .before .before .before .inputs-begin in
-    subst (Shows _)
+    subst (Displays _)
     (accepted (r .before .before .before .before .before .before .before .before .before .args .file .now) (r .before .before .before .before .before .before .before .if1 .left) (i .result) (i .ensures .0) (r .before .before .before .before .before .if2 .left) _ _ _ (r .before .before .before .before .part .ensures) (r .before .before .sequence .ensures) (r .before .before .before .read-back .ensures) _ _ (r .intake-replay .ensures)
     (c .before .before .before .if3 .left) (c .before .before .if4 .taken))
     (c .numbered .ensures)
@@ -71,7 +71,7 @@ returns-5 : tie.Need-returns-5
 returns-5 c =
     let r = c .before .before .before .before in
     let i = r .before .before .before .before .before .before .inputs-begin in
-    subst (Shows _)
+    subst (Displays _)
     (differs (r .before .before .before .before .before .before .before .before .before .args .file .now) (r .before .before .before .before .before .before .before .if1 .left) (i .result) (i .ensures .0) (r .before .before .before .before .before .if2 .left) _ _ _ (r .before .before .before .before .part .ensures) (r .before .before .sequence .ensures) (r .before .before .before .read-back .ensures) _ _ (r .intake-replay .ensures)
     (c .before .before .before .if3 .left) (c .before .before .if4 .left))
     (c .numbered2 .ensures)

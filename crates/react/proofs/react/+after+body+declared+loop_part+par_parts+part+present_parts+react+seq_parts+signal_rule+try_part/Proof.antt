@@ -4,9 +4,9 @@ use borrow.Author.Needs.{needs}
 use borrow.Author.Tests.{ltb-true}
 use Rattle.esterel.specs.Statement.{local, seq, par, loop, present, signal, try, suspend}
 use Rattle.esterel.specs.Sets.{none}
-use Rattle.esterel.specs.Resume.{startTree}
+use Rattle.esterel.specs.Resume.{startTraced}
 use Rattle.sequence.specs.Commands.{Command}
-use Rattle.layout.proofs.Laid.{ready, taken, begins, last-one, whole, whole-lies}
+use Rattle.layout.proofs.Laid.{ready, taken-apart, begins, last-one, whole, whole-lies}
 use Rattle.rules.proofs.Combining.{seq-stops}
 use Rattle.emissions.proofs.Values.{pure-emission, litres-emission}
 use Rattle.react.proofs.Steps.{
@@ -235,12 +235,12 @@ after-part-requires : (t : ℕ) → after-lts.Need-part-requires (after-claims t
 after-part-requires t c κs = (search needs, (c .before .before .before .pre .1 .0, c .before .before .before .pre .1 .1))
 
 after-returns : (t : ℕ) → after-lts.Need-returns (after-claims t) (after-at t) after.Post
-after-returns t c base u i l h = c .in-sequence .ensures u i (startTree _ u _) h (c .before .part .ensures base u l)
+after-returns t c base u i l h = c .in-sequence .ensures u i (startTraced _ u _) h (c .before .part .ensures base u l)
 
 after-returns-2 : (t : ℕ) → after-lts.Need-returns-2 (after-claims t) (after-at t) after.Post
 unfolding none
 after-returns-2 t c base u i l h =
-    seq-stops u i (startTree _ u _) _ (c .before .before .before .before .args .p) h (sym (c .before .before .is-ended .ensures) ∙ c .before .if1 .left) (c .around .ensures i h)
+    seq-stops u i (startTraced _ u _) _ (c .before .before .before .before .args .p) h (sym (c .before .before .is-ended .ensures) ∙ c .before .if1 .left) (c .around .ensures i h)
 
 body-shared-slice-read-if1 : (t : ℕ) → body-lts.Need-shared-slice-read-if1 (body-claims t) (body-at t) body.Post
 body-shared-slice-read-if1 t c = front-there (c .before .before .args .n) (c .before .before .args .s .now) (c .before .before .pre .1 .1)
@@ -283,7 +283,7 @@ declared-returns : (t : ℕ) → declared-lts.Need-returns (declared-claims t) (
 declared-returns t c base p l =
     let f = c .before .before .before .before .before .before .before .before .before .pre .1 in
     let d = c .before .before .before .before in
-    let y = taken (f .0) base p l Command.signal (f .1) in
+    let y = taken-apart (f .0) base p l Command.signal (f .1) in
     let q = y .parts .0 in
     here _ (signal local _ _ q) p _ (y .parts .1 .0)
     (signal-step _ _ local _ _ q (ltb-true _ _ (y .ranged)) (d .before .before .without .ensures) (d .body .ensures base q (y .parts .1 .1))
@@ -293,7 +293,7 @@ declared-returns-2 : (t : ℕ) → declared-lts.Need-returns-2 (declared-claims 
 declared-returns-2 t c base p l =
     let f = c .before .before .before .before .before .before .before .before .pre .1 in
     let d = c .before .before .before in
-    let y = taken (f .0) base p l Command.signal (f .1) in
+    let y = taken-apart (f .0) base p l Command.signal (f .1) in
     let q = y .parts .0 in
     here _ (signal local _ _ q) p _ (y .parts .1 .0)
     (signal-once-step _ _ local _ _ q (ltb-true _ _ (y .ranged)) (d .before .before .without .ensures) (d .body .ensures base q (y .parts .1 .1))
@@ -304,7 +304,7 @@ loop-part-part-requires t c κs = let y = begins (c .before .pre .1 .0) Command.
 
 loop-part-returns : (t : ℕ) → loop-part-lts.Need-returns (loop-part-claims t) (loop-part-at t) loop-part.Post
 loop-part-returns t c base p l =
-    let y = taken (c .before .before .before .pre .1 .0) base p l Command.loop (c .before .before .before .pre .1 .1) .parts in
+    let y = taken-apart (c .before .before .before .pre .1 .0) base p l Command.loop (c .before .before .before .pre .1 .1) .parts in
     here _ (loop _ (y .0)) p _ (y .1 .0) (loop-step _ _ _ (y .0) (c .before .part .ensures base (y .0) (y .1 .1)) (c .in-loop .ensures))
 
 par-parts-element-copy-out-m : (t : ℕ) → par-parts-lts.Need-element-copy-out-m (par-parts-claims t) (par-parts-at t) par-parts.Post
@@ -321,7 +321,7 @@ par-parts-part-requires-2 t c κs = let y = begins (c .before .before .before .p
 
 par-parts-returns : (t : ℕ) → par-parts-lts.Need-returns (par-parts-claims t) (par-parts-at t) par-parts.Post
 par-parts-returns t c base p l =
-    let y = taken (c .before .before .before .before .before .pre .1 .0) base p l Command.par (c .before .before .before .before .before .pre .1 .1) .parts in
+    let y = taken-apart (c .before .before .before .before .before .pre .1 .0) base p l Command.par (c .before .before .before .before .before .pre .1 .1) .parts in
     here _ (par (y .0) (y .1)) p _ (y .2 .0)
     (par-step _ _ (y .0) (y .1) (c .before .before .part .ensures base (y .0) (y .2 .1 .first)) (c .before .part2 .ensures _ (y .1) (y .2 .1 .second)) (c .in-parallel .ensures))
 
@@ -331,7 +331,7 @@ part-shared-slice-read-if1 t c = front-there (c .before .before .args .n) (c .be
 part-returns : (t : ℕ) → part-lts.Need-returns (part-claims t) (part-at t) part.Post
 part-returns t c base p l =
     let d = c .before .before .before .before in
-    nothing-step _ p _ _ (taken (d .pre .1 .1) base p l Command.nothing (front-is (d .args .n) (d .args .s .now) (c .before .if1 .taken)) .parts) (c .ending .ensures 0 refl)
+    nothing-step _ p _ _ (taken-apart (d .pre .1 .1) base p l Command.nothing (front-is (d .args .n) (d .args .s .now) (c .before .if1 .taken)) .parts) (c .ending .ensures 0 refl)
 
 part-react-requires : (t : ℕ) → part-lts.Need-react-requires (part-claims t) (part-at t) part.Post
 part-react-requires t c κs = (search needs, c .before .before .before .before .pre .1 .1)
@@ -368,7 +368,7 @@ present-parts-returns : (t : ℕ) → present-parts-lts.Need-returns (present-pa
 present-parts-returns t c base p l =
     let f = c .before .before .before .before .before .before .before .pre .1 in
     let d = c .before .before .before in
-    let y = taken (f .0) base p l Command.present (f .1) in
+    let y = taken-apart (f .0) base p l Command.present (f .1) in
     let z = y .parts in
     here _ (present _ (z .0) (z .1)) p _ (z .2 .0)
     (present-step _ _ _ (z .0) (z .1) (ltb-true _ _ (y .ranged)) (d .before .single .ensures) (sym (d .member .ensures) ∙ c .before .before .if1 .taken)
@@ -378,7 +378,7 @@ present-parts-returns-2 : (t : ℕ) → present-parts-lts.Need-returns-2 (presen
 present-parts-returns-2 t c base p l =
     let f = c .before .before .before .before .before .before .before .before .pre .1 in
     let d = c .before .before .before .before in
-    let y = taken (f .0) base p l Command.present (f .1) in
+    let y = taken-apart (f .0) base p l Command.present (f .1) in
     let z = y .parts in
     here _ (present _ (z .0) (z .1)) p _ (z .2 .0)
     (absent-step _ _ _ (z .0) (z .1) (ltb-true _ _ (y .ranged)) (d .before .single .ensures) (sym (d .member .ensures) ∙ c .before .before .before .if1 .left)
@@ -423,20 +423,20 @@ react-part-requires : (t : ℕ) → react-lts.Need-part-requires (react-claims t
 react-part-requires t c κs = let y = begins (c .before .before .before .pre .1) Command.suspend (c .match .keys12) in (search needs, (y .there, ready _ (y .parts .0) (c .before .before .before .pre .1 .long) (y .parts .1 .1)))
 
 react-returns : (t : ℕ) → react-lts.Need-returns (react-claims t) (react-at t) react.Post
-react-returns t c base p l = nothing-step _ p _ _ (taken (c .before .before .before .before .pre .1) base p l Command.nothing (c .before .match .keys1) .parts) (c .ending .ensures 0 refl)
+react-returns t c base p l = nothing-step _ p _ _ (taken-apart (c .before .before .before .before .pre .1) base p l Command.nothing (c .before .match .keys1) .parts) (c .ending .ensures 0 refl)
 
 react-returns-2 : (t : ℕ) → react-lts.Need-returns-2 (react-claims t) (react-at t) react.Post
 react-returns-2 t c base p l =
-    let y = taken (c .before .before .before .before .before .pre .1) base p l Command.pause (c .before .before .match .keys2) in
+    let y = taken-apart (c .before .before .before .before .before .pre .1) base p l Command.pause (c .before .before .match .keys2) in
     pause-step _ p _ _ _ (ltb-true _ _ (y .ranged)) (c .pausing .ensures) (y .parts)
 
 react-returns-3 : (t : ℕ) → react-lts.Need-returns-3 (react-claims t) (react-at t) react.Post
 react-returns-3 t c base p l =
-    let y = taken (c .before .before .before .before .pre .1) base p l Command.emit (c .before .match .keys3) in
+    let y = taken-apart (c .before .before .before .before .pre .1) base p l Command.emit (c .before .match .keys3) in
     emit-step _ p _ _ _ _ (pure-emission (c .before .match .keys3) y .1) (ltb-true _ _ (y .ranged)) (c .emitting .ensures)
 
 react-returns-4 : (t : ℕ) → react-lts.Need-returns-4 (react-claims t) (react-at t) react.Post
-react-returns-4 t c base p l = exit-step _ p _ _ _ (taken (c .before .before .before .before .before .pre .1) base p l Command.exit (c .before .before .match .keys4) .parts) (c .leaving .ensures)
+react-returns-4 t c base p l = exit-step _ p _ _ _ (taken-apart (c .before .before .before .before .before .pre .1) base p l Command.exit (c .before .before .match .keys4) .parts) (c .leaving .ensures)
 
 react-returns-5 : (t : ℕ) → react-lts.Need-returns-5 (react-claims t) (react-at t) react.Post
 react-returns-5 t c base p l = c .seq-parts .ensures base p l
@@ -458,19 +458,19 @@ react-returns-10 t c base p l = c .try-part .ensures base p l
 
 react-returns-11 : (t : ℕ) → react-lts.Need-returns-11 (react-claims t) (react-at t) react.Post
 react-returns-11 t c base p l =
-    let y = taken (c .before .before .before .before .before .pre .1) base p l Command.setpause (c .before .before .match .keys11) in
+    let y = taken-apart (c .before .before .before .before .before .pre .1) base p l Command.setpause (c .before .before .match .keys11) in
     setpause-step _ p _ _ _ (ltb-true _ _ (y .ranged)) (c .pausing2 .ensures) (y .parts)
 
 react-returns-12 : (t : ℕ) → react-lts.Need-returns-12 (react-claims t) (react-at t) react.Post
 unfolding none
 react-returns-12 t c base p l =
-    let y = taken (c .before .before .before .before .before .pre .1) base p l Command.suspend (c .before .before .match .keys12) .parts in
+    let y = taken-apart (c .before .before .before .before .before .pre .1) base p l Command.suspend (c .before .before .match .keys12) .parts in
     here _ (suspend _ (y .0)) p _ (y .1 .0) (suspend-step _ _ _ (y .0) (c .before .part .ensures base (y .0) (y .1 .1)) (c .around .ensures))
 
 react-returns-13 : (t : ℕ) → react-lts.Need-returns-13 (react-claims t) (react-at t) react.Post
 react-returns-13 t c base p l =
     let e = last-one (c .before .before .before .before .pre .1) (c .before .match .rest) in
-    let y = taken (c .before .before .before .before .pre .1) base p l Command.deliver e in
+    let y = taken-apart (c .before .before .before .before .pre .1) base p l Command.deliver e in
     emit-step _ p _ _ _ _ (litres-emission e y .1) (ltb-true _ _ (y .ranged)) (c .emitting2 .ensures)
 
 seq-parts-element-copy-out-m : (t : ℕ) → seq-parts-lts.Need-element-copy-out-m (seq-parts-claims t) (seq-parts-at t) seq-parts.Post
@@ -487,7 +487,7 @@ seq-parts-after-requires t c κs = let y = begins (c .before .before .before .pr
 
 seq-parts-returns : (t : ℕ) → seq-parts-lts.Need-returns (seq-parts-claims t) (seq-parts-at t) seq-parts.Post
 seq-parts-returns t c base p l =
-    let y = taken (c .before .before .before .before .pre .1 .0) base p l Command.seq (c .before .before .before .before .pre .1 .1) .parts in
+    let y = taken-apart (c .before .before .before .before .pre .1 .0) base p l Command.seq (c .before .before .before .before .pre .1 .1) .parts in
     here _ (seq (y .0) (y .1)) p _ (y .2 .0)
     (seq-step _ _ (y .0) (y .1) (c .before .part .ensures base (y .0) (y .2 .1 .first)) (λ i h. c .after .ensures _ (y .1) i (y .2 .1 .second) h))
 
@@ -504,7 +504,7 @@ try-part-part-requires t c κs = let y = begins (c .before .pre .1 .0) Command.t
 
 try-part-returns : (t : ℕ) → try-part-lts.Need-returns (try-part-claims t) (try-part-at t) try-part.Post
 try-part-returns t c base p l =
-    let y = taken (c .before .before .before .pre .1 .0) base p l Command.try (c .before .before .before .pre .1 .1) .parts in
+    let y = taken-apart (c .before .before .before .pre .1 .0) base p l Command.try (c .before .before .before .pre .1 .1) .parts in
     here _ (try (y .0)) p _ (y .1 .0) (try-step _ _ (y .0) (c .before .part .ensures base (y .0) (y .1 .1)) (c .in-try .ensures))
 
 pub +after+body+declared+loop-part+par-parts+part+present-parts+react+seq-parts+signal-rule+try-part-spec :

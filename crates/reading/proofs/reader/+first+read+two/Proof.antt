@@ -6,7 +6,7 @@ use native.Mathlib.Omega.{arith}
 use borrow.Author.Needs.{needs}
 use borrow.Fn.Kinds.{In}
 use borrow.Fn.PlainCycle.{Measures, is, falls, and}
-use Rattle.sequence.specs.Commands.{Command, partCount, width, declares}
+use Rattle.sequence.specs.Commands.{Command, partCount, headLength, declares}
 use Rattle.sequence.specs.Reader.{front, read as reads}
 use Rattle.layout.specs.Layout.{rest, entry}
 use Rattle.layout.specs.Walk.{headOf, Readable, Done}
@@ -168,10 +168,10 @@ signal-is : (t : ℕ) (q : read-lts.Else4 (read-claims t) (read-at t) read.Post)
 signal-is t q e = command-at (getD (bytes-of t q) 0 0) (head-of t q .of) Command.signal (byte (head-of t q)) e
 
 present-fits : (t : ℕ) (q : read-lts.Else4 (read-claims t) (read-at t) read.Post) → getD (bytes-of t q) 0 0 ≡ 7 → 2 ≤ length (bytes-of t q)
-present-fits t q e = let w = ap width (present-is t q e) in omega (arith, w, head-of t q .wide, head-fits (head-of t q))
+present-fits t q e = let w = ap headLength (present-is t q e) in omega (arith, w, head-of t q .wide, head-fits (head-of t q))
 
 signal-fits : (t : ℕ) (q : read-lts.Else4 (read-claims t) (read-at t) read.Post) → getD (bytes-of t q) 0 0 ≡ 8 → 2 ≤ length (bytes-of t q)
-signal-fits t q e = let w = ap width (signal-is t q e) in omega (arith, w, head-of t q .wide, head-fits (head-of t q))
+signal-fits t q e = let w = ap headLength (signal-is t q e) in omega (arith, w, head-of t q .wide, head-fits (head-of t q))
 
 read-mul-result : (t : ℕ) → read-lts.Need-mul-result (read-claims t) (read-at t) read.Post
 read-mul-result t c = search needs
@@ -280,7 +280,7 @@ read-returns-6 t c =
     let q = c .before .before .before .before .before .before in
     let i = q .before .before .before .before .before .before .before .before .before in
     let e = present-is t q (c .before .before .before .before .if6 .taken) in
-    done-pair (narrow (head-of t q) (ap width (sym e))) _ _ _ (q .if4 .left) (ap partCount e) _ (rest-is 2 (i .args .s .now)) _ _ _ _ _ (c .two2 .ensures)
+    done-pair (narrow (head-of t q) (ap headLength (sym e))) _ _ _ (q .if4 .left) (ap partCount e) _ (rest-is 2 (i .args .s .now)) _ _ _ _ _ (c .two2 .ensures)
 
 read-mul-result-3 : (t : ℕ) → read-lts.Need-mul-result-3 (read-claims t) (read-at t) read.Post
 read-mul-result-3 t c = search needs
@@ -323,7 +323,7 @@ read-returns-8 t c =
     let q = c .before .before .before .before .before .before .before .before .before .before in
     let i = q .before .before .before .before .before .before .before .before .before in
     let e = signal-is t q (c .before .before .before .before .before .before .before .if7 .taken) in
-    done-signal (narrow (head-of t q) (ap width (sym e))) _ _ _ (q .if4 .left) (ap partCount e) (ap declares e) (omega (arith, c .before .before .before .before .before .before .if8 .left)) (i .pre .1 .allowed) _
+    done-signal (narrow (head-of t q) (ap headLength (sym e))) _ _ _ (q .if4 .left) (ap partCount e) (ap declares e) (omega (arith, c .before .before .before .before .before .before .if8 .left)) (i .pre .1 .allowed) _
     (rest-is 2 (i .args .s .now)) _ _ _ _ _ _ (c .before .before .before .before .signal .ensures) (c .read .ensures)
 
 read-sub-read-3 : (t : ℕ) → read-lts.Need-sub-read-3 (read-claims t) (read-at t) read.Post

@@ -4,7 +4,7 @@ use borrow.Author.Needs.{needs}
 use borrow.Author.Tests.{ltb-true}
 use Rattle.esterel.specs.Statement.{local, nothing, seq, par, loop, present, signal, try, suspend}
 use Rattle.sequence.specs.Commands.{Command}
-use Rattle.layout.proofs.Laid.{ready, whole, whole-lies, taken, begins}
+use Rattle.layout.proofs.Laid.{ready, whole, whole-lies, taken-apart, begins}
 use Rattle.react.proofs.Steps.{nothing-step, front-there, front-is}
 use Rattle.resume.proofs.Steps.{
   here,
@@ -284,7 +284,7 @@ declared-returns : (t : ℕ) → declared-lts.Need-returns (declared-claims t) (
 declared-returns t c base p l =
     let f = c .before .before .before .before .before .before .before .before .before .pre .1 in
     let d = c .before .before .before .before in
-    let y = taken (f .0) base p l Command.signal (f .1) in
+    let y = taken-apart (f .0) base p l Command.signal (f .1) in
     let q = y .parts .0 in
     here _ base _ _ (signal local _ _ q) p (y .parts .1 .0)
     (signal-step _ base _ _ q _ _ (ltb-true _ _ (y .ranged)) (d .before .before .without .ensures) (d .body .ensures base q (y .parts .1 .1))
@@ -294,7 +294,7 @@ declared-returns-2 : (t : ℕ) → declared-lts.Need-returns-2 (declared-claims 
 declared-returns-2 t c base p l =
     let f = c .before .before .before .before .before .before .before .before .pre .1 in
     let d = c .before .before .before in
-    let y = taken (f .0) base p l Command.signal (f .1) in
+    let y = taken-apart (f .0) base p l Command.signal (f .1) in
     let q = y .parts .0 in
     here _ base _ _ (signal local _ _ q) p (y .parts .1 .0)
     (signal-once-step _ base _ _ q _ _ (ltb-true _ _ (y .ranged)) (d .before .before .without .ensures) (d .body .ensures base q (y .parts .1 .1))
@@ -308,7 +308,7 @@ loop-part-after-requires t c κs = (search needs, whole (c .before .before .pre 
 
 loop-part-returns : (t : ℕ) → loop-part-lts.Need-returns (loop-part-claims t) (loop-part-at t) loop-part.Post
 loop-part-returns t c base p l =
-    let y = taken (c .before .before .before .pre .1 .0) base p l Command.loop (c .before .before .before .pre .1 .1) .parts in
+    let y = taken-apart (c .before .before .before .pre .1 .0) base p l Command.loop (c .before .before .before .pre .1 .1) .parts in
     loop-step _ base _ _ (y .0) _ p (y .1 .0) (c .before .part .ensures base (y .0) (y .1 .1)) (λ i h. c .after .ensures base p i (whole-lies _ _ _ _ _ p l) h)
 
 par-parts-element-copy-out-entry : (t : ℕ) → par-parts-lts.Need-element-copy-out-entry (par-parts-claims t) (par-parts-at t) par-parts.Post
@@ -325,7 +325,7 @@ par-parts-side-requires-2 t c κs = let y = begins (c .before .before .before .b
 
 par-parts-returns : (t : ℕ) → par-parts-lts.Need-returns (par-parts-claims t) (par-parts-at t) par-parts.Post
 par-parts-returns t c base p l =
-    let y = taken (c .before .before .before .before .before .before .before .pre .1 .0) base p l Command.par (c .before .before .before .before .before .before .before .pre .1 .1) .parts in
+    let y = taken-apart (c .before .before .before .before .before .before .before .pre .1 .0) base p l Command.par (c .before .before .before .before .before .before .before .pre .1 .1) .parts in
     here _ base _ _ (par (y .0) (y .1)) p (y .2 .0)
     (par-step _ base _ _ (y .0) (y .1) _ _ (y .2 .1 .before) (c .before .before .before .before .below .ensures) _ (c .before .before .from .ensures) (c .before .before .before .side .ensures base (y .0) (y .2 .1 .first)) (c .before .side2 .ensures _ (y .1) (y .2 .1 .second)) (c .in-parallel .ensures))
 
@@ -352,7 +352,7 @@ present-parts-part-requires t c κs = let y = begins (c .before .before .before 
 
 present-parts-returns : (t : ℕ) → present-parts-lts.Need-returns (present-parts-claims t) (present-parts-at t) present-parts.Post
 present-parts-returns t c base p l =
-    let y = taken (c .before .before .before .before .before .before .before .pre .1 .0) base p l Command.present (c .before .before .before .before .before .before .before .pre .1 .1) .parts in
+    let y = taken-apart (c .before .before .before .before .before .before .before .pre .1 .0) base p l Command.present (c .before .before .before .before .before .before .before .pre .1 .1) .parts in
     here _ base _ _ (present _ (y .0) (y .1)) p (y .2 .0)
     (present-second _ base _ _ (y .0) (y .1) _ _ (y .2 .1 .before) (c .before .before .before .before .below .ensures) _ (c .before .from .ensures) _ (sym (c .before .before .before .is-empty .ensures) ∙ c .before .before .if1 .taken) (c .part .ensures _ (y .1) (y .2 .1 .second)))
 
@@ -361,7 +361,7 @@ present-parts-part-requires-2 t c κs = let y = begins (c .before .before .befor
 
 present-parts-returns-2 : (t : ℕ) → present-parts-lts.Need-returns-2 (present-parts-claims t) (present-parts-at t) present-parts.Post
 present-parts-returns-2 t c base p l =
-    let y = taken (c .before .before .before .before .before .before .pre .1 .0) base p l Command.present (c .before .before .before .before .before .before .pre .1 .1) .parts in
+    let y = taken-apart (c .before .before .before .before .before .before .pre .1 .0) base p l Command.present (c .before .before .before .before .before .before .pre .1 .1) .parts in
     here _ base _ _ (present _ (y .0) (y .1)) p (y .2 .0)
     (present-first _ base _ _ (y .0) (y .1) _ _ (y .2 .1 .before) (c .before .before .before .below .ensures) _ (sym (c .before .before .is-empty .ensures) ∙ c .before .if1 .left) (c .part2 .ensures base (y .0) (y .2 .1 .first)))
 
@@ -421,7 +421,7 @@ seq-parts-part-requires t c κs = let y = begins (c .before .before .before .bef
 
 seq-parts-returns : (t : ℕ) → seq-parts-lts.Need-returns (seq-parts-claims t) (seq-parts-at t) seq-parts.Post
 seq-parts-returns t c base p l =
-    let y = taken (c .before .before .before .before .before .before .before .pre .1 .0) base p l Command.seq (c .before .before .before .before .before .before .before .pre .1 .1) .parts in
+    let y = taken-apart (c .before .before .before .before .before .before .before .pre .1 .0) base p l Command.seq (c .before .before .before .before .before .before .before .pre .1 .1) .parts in
     here _ base _ _ (seq (y .0) (y .1)) p (y .2 .0)
     (seq-second _ base _ _ (y .0) (y .1) _ _ (y .2 .1 .before) (c .before .before .before .before .below .ensures) _ (c .before .from .ensures) (sym (c .before .before .before .is-empty .ensures) ∙ c .before .before .if1 .taken) (c .part .ensures _ (y .1) (y .2 .1 .second)))
 
@@ -436,7 +436,7 @@ seq-parts-after-requires t c κs = let y = begins (c .before .before .before .be
 
 seq-parts-returns-2 : (t : ℕ) → seq-parts-lts.Need-returns-2 (seq-parts-claims t) (seq-parts-at t) seq-parts.Post
 seq-parts-returns-2 t c base p l =
-    let y = taken (c .before .before .before .before .before .before .before .pre .1 .0) base p l Command.seq (c .before .before .before .before .before .before .before .pre .1 .1) .parts in
+    let y = taken-apart (c .before .before .before .before .before .before .before .pre .1 .0) base p l Command.seq (c .before .before .before .before .before .before .before .pre .1 .1) .parts in
     here _ base _ _ (seq (y .0) (y .1)) p (y .2 .0)
     (seq-first _ base _ _ (y .0) (y .1) _ _ (y .2 .1 .before) (c .before .before .before .before .below .ensures) (sym (c .before .before .before .is-empty .ensures) ∙ c .before .before .if1 .left) (c .before .part2 .ensures base (y .0) (y .2 .1 .first)) (λ i h. c .after .ensures _ (y .1) i (y .2 .1 .second) h))
 
@@ -476,7 +476,7 @@ suspend-part-returns : (t : ℕ) → suspend-part-lts.Need-returns (suspend-part
 suspend-part-returns t c base p l =
     let f = c .before .before .before .before .before .before .before .pre .1 in
     let d = c .before .before .before in
-    let y = taken (f .0) base p l Command.suspend (f .1) in
+    let y = taken-apart (f .0) base p l Command.suspend (f .1) in
     let q = y .parts .0 in
     here _ base _ _ (suspend _ q) p (y .parts .1 .0)
     (suspend-stopped _ base _ _ _ q (ltb-true _ _ (y .ranged)) (d .before .single .ensures) (sym (d .member .ensures) ∙ c .before .before .if1 .taken)
@@ -486,7 +486,7 @@ suspend-part-returns-2 : (t : ℕ) → suspend-part-lts.Need-returns-2 (suspend-
 suspend-part-returns-2 t c base p l =
     let f = c .before .before .before .before .before .before .before .pre .1 in
     let d = c .before .before .before in
-    let y = taken (f .0) base p l Command.suspend (f .1) in
+    let y = taken-apart (f .0) base p l Command.suspend (f .1) in
     let q = y .parts .0 in
     here _ base _ _ (suspend _ q) p (y .parts .1 .0)
     (suspend-resumed _ base _ _ _ q (ltb-true _ _ (y .ranged)) (d .before .single .ensures) (sym (d .member .ensures) ∙ c .before .before .if1 .left)
@@ -497,7 +497,7 @@ try-part-part-requires t c κs = let y = begins (c .before .pre .1 .0) Command.t
 
 try-part-returns : (t : ℕ) → try-part-lts.Need-returns (try-part-claims t) (try-part-at t) try-part.Post
 try-part-returns t c base p l =
-    let y = taken (c .before .before .before .pre .1 .0) base p l Command.try (c .before .before .before .pre .1 .1) .parts in
+    let y = taken-apart (c .before .before .before .pre .1 .0) base p l Command.try (c .before .before .before .pre .1 .1) .parts in
     here _ base _ _ (try (y .0)) p (y .1 .0) (try-step _ base _ _ (y .0) (c .before .part .ensures base (y .0) (y .1 .1)) (c .in-try .ensures))
 
 pub +body+declared+loop-part+par-parts+part+present-parts+resume+seq-parts+side+signal-rule+suspend-part+try-part-spec :
