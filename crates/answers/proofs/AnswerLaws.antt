@@ -7,7 +7,7 @@ use lib.ListN.{length}
 use Rattle.esterel.specs.Statement.{Statement}
 use Rattle.esterel.specs.Reaction.{Code, ended, waiting, leaving, wrong, gives}
 use Rattle.esterel.specs.Errors.{Error, noError, blame}
-use Rattle.esterel.specs.Resume.{instant}
+use Rattle.esterel.specs.Instants.{instant}
 use Rattle.esterel.specs.Machines.{shown}
 use Rattle.limits.specs.Limits.{placeBytes, signalBytes, reactionsBytes}
 use Rattle.numbers.specs.Bytes.{leBytes}

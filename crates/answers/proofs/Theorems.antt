@@ -6,7 +6,7 @@ use lib.ListN.{length}
 use Rattle.esterel.specs.Statement.{Statement}
 use Rattle.esterel.specs.Reaction.{Code, gives}
 use Rattle.esterel.specs.Errors.{Error, blame}
-use Rattle.esterel.specs.Resume.{instant}
+use Rattle.esterel.specs.Instants.{instant}
 use Rattle.esterel.specs.Machines.{shown}
 use Rattle.limits.specs.Limits.{placeBytes, signalBytes, reactionsBytes}
 use Rattle.answers.specs.AnswerRecord.{answerLength, codeByte, codeIn, kindIn, placeIn, emittedIn, reactionsIn, encodeAnswer}

@@ -10,8 +10,10 @@ use lib.Dec.{eqb}
 use borrow.Author.Tests.{ne-eqb}
 use Rattle.limits.specs.Limits.{noFarm}
 use Rattle.esterel.specs.Sets.{none}
-use Rattle.esterel.specs.Resume as Esterel
-use Rattle.esterel.specs.Resume.{Instant, instantOf, startTraced, expandBy}
+use Rattle.esterel.specs.Instants as Instants
+use Rattle.esterel.specs.Instants.{Instant}
+use Rattle.esterel.specs.Traced.{instantOf, startTraced}
+use Rattle.esterel.specs.RankedExpansion.{expandBy}
 use Rattle.esterel.specs.Machines.{State}
 use Rattle.labels.specs.Labels.{labelSet}
 use Rattle.labels.specs.declared.Labels.{Labels}
@@ -67,7 +69,7 @@ record-made n e i k state answer w room made l m =
     ∙ ap (recordFrom n e) w
 
 written-state : (i : Instant) → stateAfterwards (written i) ≡ encodeState (stateOf i)
-written-state (Esterel.instant r x n) = refl
+written-state (Instants.instant r x n) = refl
 
 -- ---- one record, from a state on
 module _ (sequence : List ℕ) (readBack : ℕ) {second notes : List ℕ} (h : Passed sequence readBack second notes) (s : State)

@@ -11,8 +11,9 @@ use Rattle.esterel.specs.Reaction.{gives, ended, waiting, leaving, wrong, inher
 use Rattle.esterel.specs.States.{Valid}
 use Rattle.esterel.specs.LabelTests.{pauses, valid, distinct}
 use Rattle.esterel.specs.Ranks.{mask, pauseCount}
-use Rattle.esterel.specs.Resume as Esterel
-use Rattle.esterel.specs.Resume.{Instant, Traced, traced, instantOf, start}
+use Rattle.esterel.specs.Instants as Instants
+use Rattle.esterel.specs.Instants.{Instant, start}
+use Rattle.esterel.specs.Traced.{Traced, traced, instantOf}
 use Rattle.esterel.specs.Machines.{State, stateAfter}
 use Rattle.esterel.specs.Expansion.{expand}
 use Rattle.theory.proofs.LabelTests.{valid-is, distinct-is, pauses-is}
@@ -62,7 +63,7 @@ module _ (p : Statement) (r : Ranged p) where
 
 -- ---- the state after an instant
 abbrev pub stateOf : Instant → State
-stateOf (Esterel.instant r x n) = stateAfter r
+stateOf (Instants.instant r x n) = stateAfter r
 
 module _ (sequence : List ℕ) (readBack : ℕ) (a : Accepted sequence readBack) where
   abbrev p : Statement
@@ -104,11 +105,11 @@ module _ (p : Statement) (ranged : Ranged p) {t notes bs : List ℕ} (k : Known 
   ranked-after j i q r = subst (λ (x : Reaction). RankedAfter notes (x .completion) (labelSet (x .labels))) (sym q) (go j r)
     where
       go : (j : Traced) → Recorded p (stateOf (instantOf j)) → RankedAfter notes (reactionOf j .completion) (labelSet (reactionOf j .labels))
-      go (traced (Esterel.instant (gives o ended l u) x n) a y) r = tt
-      go (traced (Esterel.instant (gives o waiting l u) x n) a y) r =
+      go (traced (Instants.instant (gives o ended l u) x n) a y) r = tt
+      go (traced (Instants.instant (gives o waiting l u) x n) a y) r =
           subst (Ranked notes) (sym (labelSet-of l)) (valid-ranked p ranged t notes bs k l (r .0))
-      go (traced (Esterel.instant (gives o (leaving m) l u) x n) a y) r = tt
-      go (traced (Esterel.instant (gives o wrong l u) x n) a y) r = tt
+      go (traced (Instants.instant (gives o (leaving m) l u) x n) a y) r = tt
+      go (traced (Instants.instant (gives o wrong l u) x n) a y) r = tt
 
   pub decodes-after : (j : Traced) (i : Reaction) → i ≡ reactionOf j → Recorded p (stateOf (instantOf j))
       → (s : Standing) → StandsAfter notes (i .completion) (labelSet (i .labels)) s → Decodes p (encodeState (stateOf (instantOf j))) s
@@ -128,11 +129,11 @@ module _ (p : Statement) (ranged : Ranged p) {t notes bs : List ℕ} (k : Known 
 
       go : (j : Traced) → Recorded p (stateOf (instantOf j)) → StandsAfter notes (reactionOf j .completion) (labelSet (reactionOf j .labels)) s
           → Decodes p (encodeState (stateOf (instantOf j))) s
-      go (traced (Esterel.instant (gives o ended l u) x n) a y) r h = over s h
-      go (traced (Esterel.instant (gives o waiting l u) x n) a y) r (m, e, w) =
+      go (traced (Instants.instant (gives o ended l u) x n) a y) r h = over s h
+      go (traced (Instants.instant (gives o waiting l u) x n) a y) r (m, e, w) =
           subst (Decodes p (encodeState (State.waits l))) (sym e) (waits l r m (subst (λ (y : ℕ). Masked notes y (labelSet m)) (labelSet-of l) w))
-      go (traced (Esterel.instant (gives o (leaving m) l u) x n) a y) r h = over s h
-      go (traced (Esterel.instant (gives o wrong l u) x n) a y) r h = over s h
+      go (traced (Instants.instant (gives o (leaving m) l u) x n) a y) r h = over s h
+      go (traced (Instants.instant (gives o wrong l u) x n) a y) r h = over s h
 
 -- ---- one law for each return of the code that says where the machine stands
 module _ (notes : List ℕ) {k : Completion} (L : ℕ) where

@@ -13,8 +13,9 @@ use Rattle.esterel.specs.Reaction as rules
 use Rattle.esterel.specs.Errors.{Error, notReactive, notDeterministic}
 use Rattle.esterel.specs.Litres as litres
 use Rattle.esterel.specs.Litres.{passing}
-use Rattle.esterel.specs.Resume as Esterel
-use Rattle.esterel.specs.Resume.{instant, ifWrong, signalNames, traced, signalTraced, signalOnce}
+use Rattle.esterel.specs.Traced as Traces
+use Rattle.esterel.specs.Instants.{instant, ifWrong, signalNames}
+use Rattle.esterel.specs.Traced.{traced, signalTraced, signalOnce}
 use Rattle.theory.proofs.Sets.{remove-absent}
 use Rattle.theory.proofs.Rules.{either-wrong}
 use Rattle.theory.proofs.Litres.{passing-none}
@@ -43,12 +44,12 @@ same-case only+ = refl
 same-case inherited = refl
 
 -- the tree of a case
-abbrev inCase : Case → (f : ℕ) → Scope → (b s : ℕ) → Esterel.Traced → Esterel.Traced → Esterel.Traced
+abbrev inCase : Case → (f : ℕ) → Scope → (b s : ℕ) → Traces.Traced → Traces.Traced → Traces.Traced
 inCase d f sc b s (traced (instant (gives o− k− l− t−) x− n−) a− y−) (traced (instant r+ x+ n+) a+ y+) =
     traced (instant (answer d sc b s (gives o− k− l− t−) r+) (signalNames d b (ifWrong k− x− x+)) (1 + n− + n+)) (remove s (join a− a+))
     (passing sc f s (litres.chosen d y− y+))
 
-as-fits : (f : ℕ) (sc : Scope) (b s : ℕ) (t u : Esterel.Traced)
+as-fits : (f : ℕ) (sc : Scope) (b s : ℕ) (t u : Traces.Traced)
     → signalTraced f sc b s t u ≡ inCase (caseIn s (reactionOf t) (reactionOf u)) f sc b s t u
 as-fits f sc b s (traced (instant (gives o− k− l− t−) x− n−) a− y−) (traced (instant (gives o+ k+ l+ t+) x+ n+) a+ y+) =
     rw (code-of k− x−, code-of k+ x+)
@@ -121,41 +122,41 @@ passed f sc s b x h = go b ∙ ap cappedOf (sym (h x))
 none-passed : (f : ℕ) (sc : Scope) (s : ℕ) → 0 ≡ cappedOf (passing sc f s 0)
 none-passed f sc s = ap cappedOf (sym (passing-none sc f s))
 
-abbrev InBoth : (f : ℕ) (sc : Scope) (b s : ℕ) (t u : Esterel.Traced) (p q : Reaction) → Type 0
+abbrev InBoth : (f : ℕ) (sc : Scope) (b s : ℕ) (t u : Traces.Traced) (p q : Reaction) → Type 0
 InBoth f sc b s t u p q =
     (o m a : ℕ) (g : Bool) → Runs s p q false → o ≡ outside sc s (q .emitted) → Counted p q m → Noted s p q a → Passes f sc s g
     → _≡_ {A = Reaction} (record { emitted = o; labels = q .labels; completion = q .completion; reactions = m; asked = a; delivered = cond g 0 (q .delivered) })
     (reactionOf (inCase both f sc b s t u))
 
-in-both : (f : ℕ) (sc : Scope) (b s : ℕ) (t u : Esterel.Traced) → InBoth f sc b s t u (reactionOf t) (reactionOf u)
+in-both : (f : ℕ) (sc : Scope) (b s : ℕ) (t u : Traces.Traced) → InBoth f sc b s t u (reactionOf t) (reactionOf u)
 in-both f sc b s (traced (instant (gives o− k− l− t−) x− n−) a− y−) (traced (instant (gives o+ k+ l+ t+) x+ n+) a+ y+) o m a g h e w i d =
     made k+ Option.none (1 + n− + n+) (remove s (join a− a+)) (passing sc f s y+) e (stands-of l+)
     (unmoved k+ x+ Option.none
     (right-runs (member s o−) (member s o+) (isWrong k−) (isWrong k+) (rw (code-of k− x−, code-of k+ x+) at h) .1))
     (w ∙ kept-two n− n+) i (passed f sc s g y+ d)
 
-abbrev InNeither : (f : ℕ) (sc : Scope) (b s : ℕ) (t u : Esterel.Traced) (p q : Reaction) → Type 0
+abbrev InNeither : (f : ℕ) (sc : Scope) (b s : ℕ) (t u : Traces.Traced) (p q : Reaction) → Type 0
 InNeither f sc b s t u p q =
     (m a : ℕ) (g : Bool) → Runs s p q false → Counted p q m → Noted s p q a → Passes f sc s g
     → _≡_ {A = Reaction}
     (record { emitted = p .emitted; labels = p .labels; completion = p .completion; reactions = m; asked = a; delivered = cond g 0 (p .delivered) })
     (reactionOf (inCase neither f sc b s t u))
 
-in-neither : (f : ℕ) (sc : Scope) (b s : ℕ) (t u : Esterel.Traced) → InNeither f sc b s t u (reactionOf t) (reactionOf u)
+in-neither : (f : ℕ) (sc : Scope) (b s : ℕ) (t u : Traces.Traced) → InNeither f sc b s t u (reactionOf t) (reactionOf u)
 in-neither f sc b s (traced (instant (gives o− k− l− t−) x− n−) a− y−) (traced (instant (gives o+ k+ l+ t+) x+ n+) a+ y+) m a g h w i d =
     made k− Option.none (1 + n− + n+) (remove s (join a− a+)) (passing sc f s y−) refl (stands-of l−)
     (unmoved k− x− Option.none
     (right-runs (member s o−) (member s o+) (isWrong k−) (isWrong k+) (rw (code-of k− x−, code-of k+ x+) at h) .0))
     (w ∙ kept-two n− n+) i (passed f sc s g y− d)
 
-abbrev InInherited : (f : ℕ) (sc : Scope) (b s : ℕ) (t u : Esterel.Traced) (p q : Reaction) → Type 0
+abbrev InInherited : (f : ℕ) (sc : Scope) (b s : ℕ) (t u : Traces.Traced) (p q : Reaction) → Type 0
 InInherited f sc b s t u p q =
     (l : Labels) (c : Completion) (m a : ℕ) → Runs s p q true → Represents l none → c ≡ greaterOf (p .completion) (q .completion)
     → Counted p q m → Noted s p q a
     → _≡_ {A = Reaction} (record { emitted = none; labels = l; completion = c; reactions = m; asked = a; delivered = 0 })
     (reactionOf (inCase inherited f sc b s t u))
 
-in-inherited : (f : ℕ) (sc : Scope) (b s : ℕ) (t u : Esterel.Traced) → InInherited f sc b s t u (reactionOf t) (reactionOf u)
+in-inherited : (f : ℕ) (sc : Scope) (b s : ℕ) (t u : Traces.Traced) → InInherited f sc b s t u (reactionOf t) (reactionOf u)
 in-inherited f sc b s (traced (instant (gives o− k− l− t−) x− n−) a− y−) (traced (instant (gives o+ k+ l+ t+) x+ n+) a+ y+) l c m a h e g w i =
     let v = wrong-runs (member s o−) (member s o+) (isWrong k−) (isWrong k+) (rw (code-of k− x−, code-of k+ x+) at h) in
     made wrong (ifWrong k− x− x+) (1 + n− + n+) (remove s (join a− a+)) (passing sc f s 0) refl e
@@ -163,16 +164,16 @@ in-inherited f sc b s (traced (instant (gives o− k− l− t−) x− n−) a�
     (w ∙ kept-two n− n+) i (none-passed f sc s)
 
 -- a case of the signal's own error
-abbrev InFailed : (d : Case) (f : ℕ) (sc : Scope) (b s : ℕ) (t u : Esterel.Traced) (p q : Reaction) → Type 0
+abbrev InFailed : (d : Case) (f : ℕ) (sc : Scope) (b s : ℕ) (t u : Traces.Traced) (p q : Reaction) → Type 0
 InFailed d f sc b s t u p q =
     (x : Error) (m a : ℕ) → ((r− r+ : rules.Reaction) → answer d sc b s r− r+ ≡ failed) → ((y : Option Error) → signalNames d b y ≡ some x)
     → ((y− y+ : ℕ) → litres.chosen d y− y+ ≡ 0) → Counted p q m → Noted s p q a → failedWith x m a ≡ reactionOf (inCase d f sc b s t u)
 
-in-failed : (d : Case) (f : ℕ) (sc : Scope) (b s : ℕ) (t u : Esterel.Traced) → InFailed d f sc b s t u (reactionOf t) (reactionOf u)
+in-failed : (d : Case) (f : ℕ) (sc : Scope) (b s : ℕ) (t u : Traces.Traced) → InFailed d f sc b s t u (reactionOf t) (reactionOf u)
 in-failed d f sc b s (traced (instant (gives o− k− l− t−) x− n−) a− y−) (traced (instant r+ x+ n+) a+ y+) x m a h n z w i =
     rw (h (gives o− k− l− t−) r+, n (ifWrong k− x− x+), z y− y+, passing-none sc f s, w, kept-two n− n+, i)
 
-module _ (f : ℕ) (sc : Scope) (b s : ℕ) (t u : Esterel.Traced) (p q : Reaction) (p-is : p ≡ reactionOf t) (q-is : q ≡ reactionOf u)
+module _ (f : ℕ) (sc : Scope) (b s : ℕ) (t u : Traces.Traced) (p q : Reaction) (p-is : p ≡ reactionOf t) (q-is : q ≡ reactionOf u)
     (v : Choice) (fits : v ≡ choiceOf (caseIn s p q)) (m a : ℕ) (counted : Counted p q m) (noted : Noted s p q a) where
   fit-is : (d : Case) → v ≡ choiceOf d → caseIn s p q ≡ d
   fit-is d h = sym (same-case (caseIn s p q)) ∙ ap caseOf (sym fits ∙ h) ∙ same-case d
@@ -216,7 +217,7 @@ absent-outside local s o h = remove-absent s o h
 absent-outside reported s o h = refl
 
 module _ (f : ℕ) (sc : Scope) (b s : ℕ) where
-  abbrev OnceRight : Esterel.Traced → Reaction → Type 0
+  abbrev OnceRight : Traces.Traced → Reaction → Type 0
   OnceRight t p =
       (o m : ℕ) (g : Bool) → isWrong (codeOf (p .completion)) ≡ false → o ≡ outside sc s (p .emitted) → Counted p p m → Passes f sc s g
       → _≡_ {A = Reaction}
@@ -230,23 +231,23 @@ module _ (f : ℕ) (sc : Scope) (b s : ℕ) where
   right-by-member false o₁ k l t₁ x n a y i r o m g h e w d =
       rw (i, r, e, absent-outside sc s o₁ i, w, kept-two n n, unmoved k x Option.none r, passed f sc s g y d)
 
-  right-run : (t : Esterel.Traced) → OnceRight t (reactionOf t)
+  right-run : (t : Traces.Traced) → OnceRight t (reactionOf t)
   right-run (traced (instant (gives o₁ k l t₁) x n) a y) o m g h =
       right-by-member (member s o₁) o₁ k l t₁ x n a y refl (rw (code-of k x) at h) o m g h
 
-  abbrev OnceWrong : Esterel.Traced → Reaction → Type 0
+  abbrev OnceWrong : Traces.Traced → Reaction → Type 0
   OnceWrong t p =
       (l : Labels) (m : ℕ) → isWrong (codeOf (p .completion)) ≡ true → Represents l none → Counted p p m
       → _≡_ {A = Reaction} (record { emitted = none; labels = l; completion = p .completion; reactions = m; asked = p .asked; delivered = 0 })
       (reactionOf (signalOnce f sc b s t))
 
-  wrong-run : (t : Esterel.Traced) → OnceWrong t (reactionOf t)
+  wrong-run : (t : Traces.Traced) → OnceWrong t (reactionOf t)
   wrong-run (traced (instant (gives o₁ ended l₁ t₁) x n) a y) l m h e w = absurd (false≢true h)
   wrong-run (traced (instant (gives o₁ waiting l₁ t₁) x n) a y) l m h e w = absurd (false≢true h)
   wrong-run (traced (instant (gives o₁ (leaving k) l₁ t₁) x n) a y) l m h e w = absurd (false≢true h)
   wrong-run (traced (instant (gives o₁ wrong l₁ t₁) x n) a y) l m h e w = made wrong x (1 + n + n) a (passing sc f s 0) refl e refl (w ∙ kept-two n n) refl (none-passed f sc s)
 
-  module _ (t : Esterel.Traced) (p : Reaction) (p-is : p ≡ reactionOf t) {m : ℕ} (counted : Counted p p m) {r : Reaction} where
+  module _ (t : Traces.Traced) (p : Reaction) (p-is : p ≡ reactionOf t) {m : ℕ} (counted : Counted p p m) {r : Reaction} where
     pub once-right : isWrong (codeOf (p .completion)) ≡ false → (g : Bool) {o d : ℕ} → o ≡ outside sc s (p .emitted)
         → Passes f sc s g → d ≡ cond g 0 (p .delivered)
         → r ≡ record { emitted = o; labels = p .labels; completion = p .completion; reactions = m; asked = p .asked; delivered = d }

@@ -6,7 +6,7 @@ ghost use Rattle.esterel.specs.Statement.{Scope, local, reported};
 ghost use mathlib.Core.Bool.{cond};
 ghost use Rattle.esterel.specs.Reaction.{outside};
 ghost use Rattle.esterel.specs.Litres.{passing};
-ghost use Rattle.esterel.specs.Resume.{signalTraced, signalOnce};
+ghost use Rattle.esterel.specs.Traced.{signalTraced, signalOnce};
 ghost use Rattle.reaction.specs.Reactions.{FromOne, FromTwo};
 ghost use Rattle.declarations.specs.Choices.{choiceOf, caseIn};
 use reaction::Reaction;

@@ -15,7 +15,8 @@ use Rattle.esterel.specs.Sets.{member, none, remove, empty, below, from}
 use Rattle.esterel.specs.Statement.{Statement, nothing, pause, emit, exit, seq, par, loop, present, signal, try, setpause, suspend, held}
 use Rattle.esterel.specs.Reaction.{emitted, code, react, isWrong}
 use Rattle.esterel.specs.Ranks.{middle, labelsBy}
-use Rattle.esterel.specs.Resume.{startTraced, expandBy}
+use Rattle.esterel.specs.Traced.{startTraced}
+use Rattle.esterel.specs.RankedExpansion.{expandBy}
 use Rattle.esterel.specs.ReadBack.{declaredBy, declared}
 use Rattle.esterel.specs.Litres.{AtMost, delivered}
 use Rattle.esterel.specs.Machines.{adds}

@@ -7,7 +7,7 @@ use lib.ListN.{getD}
 use Rattle.limits.specs.Limits.{maxDepth}
 use Rattle.esterel.specs.Sets.{member}
 use Rattle.esterel.specs.Statement.{Statement}
-use Rattle.esterel.specs.Resume.{startTraced}
+use Rattle.esterel.specs.Traced.{startTraced}
 use Rattle.esterel.specs.Litres.{AtMost, delivered}
 use Rattle.esterel.specs.Machines.{adds}
 use Rattle.sequence.specs.Program.{program}

@@ -13,7 +13,7 @@ use Rattle.esterel.specs.Reactions.{reactions}
 use Rattle.esterel.specs.Ceiling.{commands, signalNesting, ceiling, LoopFree, tries, triesButOne, hundred, hundred-takes}
 use Rattle.esterel.specs.LabelTests.{subset, disjoint, labelsOf, everyLabel, distinct, before, wellFormed}
 use Rattle.esterel.specs.ReadBack.{membersFrom, declaredBy}
-use Rattle.esterel.specs.Resume.{instant}
+use Rattle.esterel.specs.Instants.{instant}
 use Rattle.theory.proofs.Ceiling.{fresh-below, resumed-below}
 use Rattle.theory.proofs.Dearest.{hundred-fresh, hundred-resumed, hundred-free}
 use Rattle.limits.specs.Limits.{reactionsBytes}

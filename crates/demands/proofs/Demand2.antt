@@ -14,7 +14,7 @@ use Rattle.esterel.specs.Errors.{Error, firstError, uses}
 use Rattle.esterel.specs.Reactions.{reactions}
 use Rattle.esterel.specs.States.{Valid}
 use Rattle.esterel.specs.Expansion.{expand}
-use Rattle.esterel.specs.Resume.{instant, startBy}
+use Rattle.esterel.specs.Instants.{instant, startBy}
 use Rattle.esterel.specs.Machines.{shown, State}
 use Rattle.esterel.specs.Rules.{Reacts}
 use Rattle.theory.proofs.Rules.{reacts-is}

@@ -11,7 +11,7 @@ use Rattle.esterel.specs.Sets.{member, none}
 use Rattle.esterel.specs.Statement.{Statement}
 use Rattle.esterel.specs.Reaction.{Order, inheritanceFirst}
 use Rattle.esterel.specs.Expansion.{expand}
-use Rattle.esterel.specs.Resume.{start}
+use Rattle.esterel.specs.Instants.{start}
 use Rattle.esterel.specs.Machines.{State}
 use Rattle.esterel.specs.ReadBack.{membersFrom, declaredBy, declared}
 use Rattle.theory.proofs.ReadBack.{members-none, expand-declared, declared-unread}

@@ -7,7 +7,7 @@ use Rattle.esterel.specs.Sets.{none}
 use Rattle.esterel.specs.Statement.{Statement}
 use Rattle.esterel.specs.Reaction.{Code, ended, waiting, leaving, wrong, Reaction, gives, emitted, code}
 use Rattle.esterel.specs.Errors.{Error, blame}
-use Rattle.esterel.specs.Resume.{instant}
+use Rattle.esterel.specs.Instants.{instant}
 use Rattle.esterel.specs.Machines.{shown, phaseAfter, seen, stateAfter}
 use Rattle.limits.specs.Limits.{signalCount, placeBytes, reactionsBytes}
 use Rattle.states.specs.StateRecord.{encodeState, phaseIn}

@@ -13,7 +13,7 @@ use Rattle.esterel.specs.Reaction.{Code, wrong, isWrong, Reaction, gives, code,
 use Rattle.esterel.specs.Errors.{Error, firstErrorBy, firstError}
 use Rattle.esterel.specs.Reactions.{reactionsBy, reactions}
 use Rattle.esterel.specs.SignalOrders.{overlap}
-use Rattle.esterel.specs.Resume.{instant, startBy, start}
+use Rattle.esterel.specs.Instants.{instant, startBy, start}
 use Rattle.esterel.specs.Machines.{State}
 use Rattle.theory.proofs.Booleans.{Tested, tested}
 use Rattle.theory.proofs.Rules.{wrong-is}

@@ -8,7 +8,7 @@ use lib.Dec.{eqb}
 use Rattle.esterel.specs.Statement.{Statement}
 use Rattle.esterel.specs.Reaction.{Order, inheritanceFirst}
 use Rattle.esterel.specs.Expansion.{expand}
-use Rattle.esterel.specs.Resume.{Instant, instant, startBy}
+use Rattle.esterel.specs.Instants.{Instant, instant, startBy}
 use Rattle.esterel.specs.Machines.{State, stateAfter}
 use Rattle.sequence.specs.Program.{program}
 use Rattle.sequence.specs.Check.{Checked, sound, bad, checked}

@@ -15,7 +15,9 @@ use Rattle.esterel.specs.States.{active, Triggers}
 use Rattle.esterel.specs.Expansion.{expand}
 use Rattle.esterel.specs.LabelTests.{labelsOf, activeLabels}
 use Rattle.esterel.specs.Ranks.{pauseCount, mask, rank, labelsBy, compatible}
-use Rattle.esterel.specs.Resume.{Instant, askedOf, expandBy, resume, resumeTraced}
+use Rattle.esterel.specs.Instants.{Instant}
+use Rattle.esterel.specs.Traced.{askedOf}
+use Rattle.esterel.specs.RankedExpansion.{expandBy, resume, resumeTraced}
 use Rattle.esterel.specs.Machines.{waits, over, Seen, instant, refused, run, State, byLabels, Rewriting, byRewriting}
 
 -- what the table says of an instant with empty input: code, emitted set, labels, errors

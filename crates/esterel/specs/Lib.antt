@@ -14,7 +14,9 @@ pub mod Expansion
 pub mod LabelTests
 pub mod LabelRows
 pub mod Ranks
-pub mod Resume
+pub mod Instants
+pub mod Traced
+pub mod RankedExpansion
 pub mod ReadBack
 pub mod Machines
 pub mod Examples

@@ -11,7 +11,7 @@ use Rattle.esterel.specs.Errors.{errorsBy, errors, notReactive, notDeter
 use Rattle.esterel.specs.Reactions.{reactionsBy}
 use Rattle.esterel.specs.Asked.{askedBy}
 use Rattle.esterel.specs.Litres.{deliveredBy}
-use Rattle.esterel.specs.Resume.{startTraced}
+use Rattle.esterel.specs.Traced.{startTraced}
 
 abbrev pub keepIf : Bool → ℕ → List ℕ → List ℕ
 keepIf true i is = i ∷ is

@@ -14,7 +14,7 @@ use Rattle.esterel.specs.Sets.{member}
 use Rattle.esterel.specs.Statement.{Statement}
 use Rattle.esterel.specs.Reaction.{inheritanceFirst}
 use Rattle.esterel.specs.Expansion.{expand}
-use Rattle.esterel.specs.Resume.{Instant, instant, start}
+use Rattle.esterel.specs.Instants.{Instant, instant, start}
 use Rattle.esterel.specs.ReadBack.{keepIf, membersFrom}
 use Rattle.esterel.specs.Machines.{State}
 use Rattle.sets.specs.Sets.{Subset, difference}

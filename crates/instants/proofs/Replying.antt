@@ -11,8 +11,11 @@ use Rattle.esterel.specs.Reaction.{Code, ended, waiting, leaving, wrong, gives,
 use Rattle.esterel.specs.Errors.{Error, firstError}
 use Rattle.esterel.specs.Ranks.{mask}
 use Rattle.esterel.specs.Expansion.{expand}
-use Rattle.esterel.specs.Resume as Esterel
-use Rattle.esterel.specs.Resume.{traced, instantOf, start, startTraced, expandBy}
+use Rattle.esterel.specs.Instants as Instants
+use Rattle.esterel.specs.Traced as Traces
+use Rattle.esterel.specs.Traced.{traced, instantOf, startTraced}
+use Rattle.esterel.specs.Instants.{start}
+use Rattle.esterel.specs.RankedExpansion.{expandBy}
 use Rattle.esterel.specs.Machines.{State}
 use Rattle.theory.proofs.LabelTests.{valid-is}
 use Rattle.theory.proofs.Figure5.{valid-active}
@@ -42,12 +45,12 @@ use Rattle.instants.specs.Replies.{Decodes, StandsFor, repliedFrom, Repl
 use Rattle.demands.proofs.Bounds.{Bounded, Exits, ranged-bounded, bounded-expand, bounded-declared, code-exits}
 
 -- WRITTEN: the code's tree writes what esterel's instant does; the signals asked for and the litres are not told
-pub written-from : (j : Esterel.Traced) → writtenFrom (reactionOf j) ≡ written (instantOf j)
+pub written-from : (j : Traces.Traced) → writtenFrom (reactionOf j) ≡ written (instantOf j)
 unfolding encodeState encodeAnswer none
-written-from (traced (Esterel.instant (gives o ended l t) x n) a y) = rw (le-low reactionsBytes n)
-written-from (traced (Esterel.instant (gives o waiting l t) x n) a y) = rw (labelSet-of, le-low reactionsBytes n)
-written-from (traced (Esterel.instant (gives o (leaving m) l t) x n) a y) = rw (le-low reactionsBytes n)
-written-from (traced (Esterel.instant (gives o wrong l t) x n) a y) = rw (le-low reactionsBytes n)
+written-from (traced (Instants.instant (gives o ended l t) x n) a y) = rw (le-low reactionsBytes n)
+written-from (traced (Instants.instant (gives o waiting l t) x n) a y) = rw (labelSet-of, le-low reactionsBytes n)
+written-from (traced (Instants.instant (gives o (leaving m) l t) x n) a y) = rw (le-low reactionsBytes n)
+written-from (traced (Instants.instant (gives o wrong l t) x n) a y) = rw (le-low reactionsBytes n)
 
 -- so what is written from a reply is what its value writes
 pub replied-from : (r : Reply) (d : tick.Reply) → StandsFor r d → (state answer : List ℕ) → repliedFrom r state answer ≡ replied d state answer

@@ -7,7 +7,7 @@ use Rattle.layout.specs.Known.{Known}
 use Rattle.esterel.specs.Statement.{Statement}
 use Rattle.esterel.specs.LabelTests.{valid}
 use Rattle.esterel.specs.Ranks.{mask}
-use Rattle.esterel.specs.Resume.{Traced, instantOf}
+use Rattle.esterel.specs.Traced.{Traced, instantOf}
 use Rattle.esterel.specs.Machines.{State}
 use Rattle.labels.specs.Labels.{labelSet}
 use Rattle.instants.specs.declared.Standing.{Standing}

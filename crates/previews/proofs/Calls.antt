@@ -8,7 +8,7 @@ use lib.ListN.{length}
 use borrow.Author.Tests.{le-leb, lt-leb}
 use Rattle.limits.specs.Limits.{signalCount, noFarm}
 use Rattle.esterel.specs.ReadBack.{membersFrom}
-use Rattle.esterel.specs.Resume.{startTraced, instantOf}
+use Rattle.esterel.specs.Traced.{startTraced, instantOf}
 use Rattle.sets.specs.Sets.{difference}
 use Rattle.sequence.specs.Program.{program}
 use Rattle.sequence.specs.Check.{checkOf}

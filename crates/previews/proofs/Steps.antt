@@ -6,7 +6,8 @@ use mathlib.Core.List.{List}
 use Rattle.limits.specs.Limits.{signalBytes, noFarm}
 use Rattle.esterel.specs.Sets.{join}
 use Rattle.esterel.specs.Statement.{Statement}
-use Rattle.esterel.specs.Resume.{startTraced, start}
+use Rattle.esterel.specs.Traced.{startTraced}
+use Rattle.esterel.specs.Instants.{start}
 use Rattle.sets.specs.Sets.{difference}
 use Rattle.sets.specs.Subsets.{nextSubset, subsetsBelow}
 use Rattle.sets.proofs.Subsets.{subsets-step, subsets-end}

@@ -11,7 +11,7 @@ use lib.Count.{ones}
 use borrow.Author.Tests.{le-leb, lt-leb}
 use Rattle.limits.specs.Limits.{signalCount}
 use Rattle.esterel.specs.Sets.{member, none, insert, remove}
-use Rattle.esterel.specs.Resume.{Instant}
+use Rattle.esterel.specs.Instants.{Instant}
 use Rattle.esterel.specs.ReadBack.{membersFrom}
 use Rattle.sets.specs.Sets.{Subset, Disjoint, common, difference}
 use Rattle.sets.specs.Subsets.{subsetsOf}

@@ -3,7 +3,8 @@ use Prim.Native.Nat.{ℕ}
 use mathlib.Core.List.{List}
 use Rattle.limits.specs.Limits.{maxDepth, noFarm}
 use Rattle.esterel.specs.Statement.{Statement}
-use Rattle.esterel.specs.Resume.{start, startTraced}
+use Rattle.esterel.specs.Instants.{start}
+use Rattle.esterel.specs.Traced.{startTraced}
 use Rattle.sequence.specs.Program.{program}
 use Rattle.layout.specs.Layout.{Lies, Ready}
 use Rattle.program.specs.declared.Start.{Start}

@@ -10,7 +10,7 @@ use Rattle.limits.specs.Limits.{signalCount, readBackPlace}
 use Rattle.sets.specs.Sets.{insertBelow, Lowest}
 use Rattle.esterel.specs.Sets.{member, none, empty, remove}
 use Rattle.esterel.specs.Statement.{Statement, reported, signal}
-use Rattle.esterel.specs.Resume.{startTraced, signalTraced, signalOnce}
+use Rattle.esterel.specs.Traced.{startTraced, signalTraced, signalOnce}
 use Rattle.esterel.specs.ReadBack.{membersFrom, declaredBy, declared}
 use Rattle.theory.proofs.Booleans.{clash}
 use Rattle.theory.proofs.Sets.{member-high}

@@ -5,7 +5,8 @@ use mathlib.Core.List.{List}
 use Rattle.limits.specs.Limits.{maxDepth}
 use Rattle.labels.specs.Labels.{labelSet}
 use Rattle.esterel.specs.Statement.{Statement}
-use Rattle.esterel.specs.Resume.{startTraced, expandBy}
+use Rattle.esterel.specs.Traced.{startTraced}
+use Rattle.esterel.specs.RankedExpansion.{expandBy}
 use Rattle.sequence.specs.Program.{program}
 use Rattle.layout.specs.Layout.{Lies}
 use Rattle.reaction.specs.declared.Reaction.{Reaction}

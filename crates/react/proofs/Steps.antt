@@ -15,8 +15,8 @@ use Rattle.esterel.specs.Errors.{errorsBy}
 use Rattle.esterel.specs.Reactions.{reactionsBy}
 use Rattle.esterel.specs.Asked.{askedBy}
 use Rattle.esterel.specs.Litres.{brought, deliveredBy}
-use Rattle.esterel.specs.Resume as Esterel
-use Rattle.esterel.specs.Resume.{startTraced, seqTraced, parTraced, loopTraced, presentTraced, tryTraced, signalTraced, signalOnce}
+use Rattle.esterel.specs.Traced as Traces
+use Rattle.esterel.specs.Traced.{startTraced, seqTraced, parTraced, loopTraced, presentTraced, tryTraced, signalTraced, signalOnce}
 use Rattle.theory.proofs.Trees.{start-traced-seq, start-traced-par, start-traced-loop, start-traced-present, start-traced-signal, start-traced-try, start-traced-suspend}
 use Rattle.theory.proofs.Asked.{one-run-signal}
 use Rattle.layout.specs.Layout.{rest, Ready}
@@ -61,7 +61,7 @@ module _ (f e : ℕ) {p r : Reaction} where
   pub try-step : (t : Statement) → p ≡ reactionOf (startTraced f t e) → FromOne tryTraced p r → r ≡ reactionOf (startTraced f (try t) e)
   try-step t h k = k (startTraced f t e) h ∙ ap reactionOf (sym (start-traced-try f t e))
 
-  pub seq-step : (t u : Statement) → p ≡ reactionOf (startTraced f t e) → FromOne (λ (z : Esterel.Traced). seqTraced u z (startTraced f u e)) p r
+  pub seq-step : (t u : Statement) → p ≡ reactionOf (startTraced f t e) → FromOne (λ (z : Traces.Traced). seqTraced u z (startTraced f u e)) p r
       → r ≡ reactionOf (startTraced f (seq t u) e)
   seq-step t u h k = k (startTraced f t e) h ∙ ap reactionOf (sym (start-traced-seq f t u e))
 
@@ -95,7 +95,7 @@ module _ (f e : ℕ) {p r : Reaction} where
         → r ≡ reactionOf (startTraced f (present x t u) e)
     tested c i h k =
         let z : b ≡ only x = noted ∙ rw (lt-ltb x signalCount small) in
-        let v : Esterel.Traced = cond c (startTraced f t e) (startTraced f u e) in
+        let v : Traces.Traced = cond c (startTraced f t e) (startTraced f u e) in
         k v h ∙ ap (λ (s : ℕ). reactionOf (countedAround s v)) z ∙ present-reaction x v
         ∙ ap reactionOf (sym (start-traced-present f x t u e ∙ ap (λ (y : Bool). presentTraced x (cond y (startTraced f t e) (startTraced f u e))) i))
 

@@ -10,8 +10,10 @@ use Rattle.esterel.specs.Sets.{none, only, join, insert}
 use Rattle.esterel.specs.Statement.{nothing}
 use Rattle.esterel.specs.Reaction.{Code, wrong, gives}
 use Rattle.esterel.specs.Errors.{Error}
-use Rattle.esterel.specs.Resume as Esterel
-use Rattle.esterel.specs.Resume.{instant, presentInstant, traced, presentTraced, suspendTraced, heldTraced}
+use Rattle.esterel.specs.Instants as Instants
+use Rattle.esterel.specs.Traced as Traces
+use Rattle.esterel.specs.Instants.{instant, presentInstant}
+use Rattle.esterel.specs.Traced.{traced, presentTraced, suspendTraced, heldTraced}
 use Rattle.theory.proofs.Sets.{join-none-r}
 use Rattle.completions.specs.declared.Completion.{Completion}
 use Rattle.completions.specs.Completions.{completionOf}
@@ -43,24 +45,24 @@ pub failed-made : (x : Error) (m a : ℕ) (l : Labels) → Represents l none
 failed-made x m a l b = rw (← labels-of l b)
 
 -- ---- a command that only counts, and asks for the signals b
-pub around-reaction : (t : Esterel.Traced) (p : Reaction) (m a b : ℕ) → p ≡ reactionOf t → m ≡ keptOf (1 + p .reactions) → a ≡ join (p .asked) b
+pub around-reaction : (t : Traces.Traced) (p : Reaction) (m a b : ℕ) → p ≡ reactionOf t → m ≡ keptOf (1 + p .reactions) → a ≡ join (p .asked) b
     → _≡_ {A = Reaction} (record { emitted = p .emitted; labels = p .labels; completion = p .completion; reactions = m; asked = a; delivered = p .delivered })
     (reactionOf (countedAround b t))
 around-reaction (traced (instant (gives o k l t) x n) a₁ y) p m a b h e f = rw (e, f, h, kept-one n)
 
 -- around an instant whose tree asks for a; where it asks for none itself, nothing is added
-pub counts-only : (i : Esterel.Instant) (a y : ℕ) → reactionOf (countedAround none (traced i a y)) ≡ reactionOf (traced (presentInstant i) a y)
+pub counts-only : (i : Instants.Instant) (a y : ℕ) → reactionOf (countedAround none (traced i a y)) ≡ reactionOf (traced (presentInstant i) a y)
 counts-only i a y = rw (join-none-r a)
 
 -- a suspend changes only what remains
-pub suspend-reaction : (s : ℕ) (t : Esterel.Traced) → reactionOf (countedAround none t) ≡ reactionOf (suspendTraced s t)
+pub suspend-reaction : (s : ℕ) (t : Traces.Traced) → reactionOf (countedAround none t) ≡ reactionOf (suspendTraced s t)
 suspend-reaction s (traced (instant (gives o k l t) x n) a y) = rw (join-none-r a)
 
 -- a test and a held suspend ask for their signal
-pub present-reaction : (s : ℕ) (t : Esterel.Traced) → reactionOf (countedAround (only s) t) ≡ reactionOf (presentTraced s t)
+pub present-reaction : (s : ℕ) (t : Traces.Traced) → reactionOf (countedAround (only s) t) ≡ reactionOf (presentTraced s t)
 unfolding join only insert
 present-reaction s (traced (instant (gives o k l t) x n) a y) = refl
 
-pub held-reaction : (s : ℕ) (t : Esterel.Traced) → reactionOf (countedAround (only s) t) ≡ reactionOf (heldTraced s t)
+pub held-reaction : (s : ℕ) (t : Traces.Traced) → reactionOf (countedAround (only s) t) ≡ reactionOf (heldTraced s t)
 unfolding join only insert
 held-reaction s (traced (instant (gives o k l t) x n) a y) = refl

@@ -8,7 +8,8 @@ use Rattle.labels.specs.Labels.{labelsWith}
 use Rattle.esterel.specs.Sets.{join}
 use Rattle.esterel.specs.Reaction.{emitted, code, labels, failed}
 use Rattle.esterel.specs.Errors.{Error}
-use Rattle.esterel.specs.Resume as Esterel
+use Rattle.esterel.specs.Instants as Instants
+use Rattle.esterel.specs.Traced as Traces
 use Rattle.esterel.specs.Reaction as rules
 use Rattle.completions.specs.Completions.{completionOf}
 use Rattle.reaction.specs.declared.Reaction.{Reaction}
@@ -21,8 +22,8 @@ keptOf n = n % reactionsCount
 abbrev pub cappedOf : ℕ → ℕ
 cappedOf n = min n (litresLimit + 1)
 
-abbrev pub reactionOf : Esterel.Traced → Reaction
-reactionOf (Esterel.traced (Esterel.instant r x n) a y) =
+abbrev pub reactionOf : Traces.Traced → Reaction
+reactionOf (Traces.traced (Instants.instant r x n) a y) =
     record {
       emitted = emitted r;
       labels = labelsWith (labels r);
@@ -33,8 +34,8 @@ reactionOf (Esterel.traced (Esterel.instant r x n) a y) =
     }
 
 -- the reaction of a command without parts, which asks for the signals a and delivers y litres
-abbrev pub alone : rules.Reaction → (a y : ℕ) → Esterel.Traced
-alone r a y = Esterel.traced (Esterel.instant r none 1) a y
+abbrev pub alone : rules.Reaction → (a y : ℕ) → Traces.Traced
+alone r a y = Traces.traced (Instants.instant r none 1) a y
 
 -- the reaction of a command that fails, with its error
 abbrev pub failedWith : Error → (reactions asked : ℕ) → Reaction
@@ -49,12 +50,12 @@ failedWith x n a =
     }
 
 -- a command that changes nothing of its part but the number of reactions, and the signals asked for by b
-abbrev pub countedAround : (b : ℕ) → Esterel.Traced → Esterel.Traced
-countedAround b (Esterel.traced i a y) = Esterel.traced (Esterel.presentInstant i) (join a b) y
+abbrev pub countedAround : (b : ℕ) → Traces.Traced → Traces.Traced
+countedAround b (Traces.traced i a y) = Traces.traced (Instants.presentInstant i) (join a b) y
 
 -- r is f of whatever trees the values stand for
-abbrev pub FromOne : (f : Esterel.Traced → Esterel.Traced) (p r : Reaction) → Type 0
-FromOne f p r = (t : Esterel.Traced) → p ≡ reactionOf t → r ≡ reactionOf (f t)
+abbrev pub FromOne : (f : Traces.Traced → Traces.Traced) (p r : Reaction) → Type 0
+FromOne f p r = (t : Traces.Traced) → p ≡ reactionOf t → r ≡ reactionOf (f t)
 
-abbrev pub FromTwo : (f : Esterel.Traced → Esterel.Traced → Esterel.Traced) (p q r : Reaction) → Type 0
-FromTwo f p q r = (t u : Esterel.Traced) → p ≡ reactionOf t → q ≡ reactionOf u → r ≡ reactionOf (f t u)
+abbrev pub FromTwo : (f : Traces.Traced → Traces.Traced → Traces.Traced) (p q r : Reaction) → Type 0
+FromTwo f p q r = (t u : Traces.Traced) → p ≡ reactionOf t → q ≡ reactionOf u → r ≡ reactionOf (f t u)

@@ -11,7 +11,7 @@ use lib.Seq.{take-at, drop-at}
 use lib.Dec.{eqb}
 use borrow.Author.Tests.{ne-eqb}
 use Rattle.esterel.specs.Reaction.{gives}
-use Rattle.esterel.specs.Resume.{Instant, instant}
+use Rattle.esterel.specs.Instants.{Instant, instant}
 use Rattle.esterel.specs.Machines.{stateAfter}
 use Rattle.states.specs.StateRecord.{stateLength, phaseIn}
 use Rattle.states.proofs.StateLaws.{length-state}

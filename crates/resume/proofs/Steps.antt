@@ -12,8 +12,9 @@ use Rattle.esterel.specs.Sets as sets
 use Rattle.esterel.specs.Statement.{local, Statement, nothing, seq, par, loop, present, signal, try, suspend}
 use Rattle.esterel.specs.Reaction.{waiting, gives}
 use Rattle.esterel.specs.Ranks.{middle, labelsBy}
-use Rattle.esterel.specs.Resume as Esterel
-use Rattle.esterel.specs.Resume.{startTraced, seqTraced, parTraced, tryTraced, signalTraced, signalOnce, heldTraced, stoppedTraced, expandBy, resumeTraced}
+use Rattle.esterel.specs.Traced as Traces
+use Rattle.esterel.specs.Traced.{startTraced, seqTraced, parTraced, tryTraced, signalTraced, signalOnce, heldTraced, stoppedTraced}
+use Rattle.esterel.specs.RankedExpansion.{expandBy, resumeTraced}
 use Rattle.theory.proofs.Sets.{join-none-l}
 use Rattle.theory.proofs.Trees.{start-traced-held}
 use Rattle.sequence.specs.Commands.{Command, commandOf}
@@ -53,7 +54,7 @@ module _ (farm base m e : ℕ) {r : Reaction} where
   -- ---- two parts; the first rank of the second part is k
   module _ (p q : Statement) (k f : ℕ) (hk : k ≡ middle base p) (hf : f ≡ below k m) where
     pub seq-first : {u : Reaction} → empty f ≡ false → u ≡ reactionOf (resumeTraced farm base p f e)
-        → FromOne (λ (t : Esterel.Traced). seqTraced q t (startTraced farm q e)) u r → r ≡ reactionOf (resumeTraced farm base (seq p q) m e)
+        → FromOne (λ (t : Traces.Traced). seqTraced q t (startTraced farm q e)) u r → r ≡ reactionOf (resumeTraced farm base (seq p q) m e)
     seq-first z h g =
         fresh.here farm (seq (expandBy base p f) q) (expandBy base (seq p q) m) e (seq-expands base m p q hk hf z) (fresh.seq-step farm e (expandBy base p f) q h g)
 
@@ -81,7 +82,7 @@ module _ (farm base m e : ℕ) {r : Reaction} where
   -- ---- one part, which resumed as u
   module _ (p : Statement) {u : Reaction} where
     pub loop-step : (a : ℕ) (q : Statement) → q ≡ loop a p → u ≡ reactionOf (resumeTraced farm base p m e)
-        → FromOne (λ (t : Esterel.Traced). seqTraced q t (startTraced farm q e)) u r → r ≡ reactionOf (resumeTraced farm base q m e)
+        → FromOne (λ (t : Traces.Traced). seqTraced q t (startTraced farm q e)) u r → r ≡ reactionOf (resumeTraced farm base q m e)
     loop-step a q h k w =
         fresh.here farm (seq (expandBy base p m) q) (expandBy base q m) e (loop-expands base m p q h) (fresh.seq-step farm e (expandBy base p m) q k w)
 

@@ -6,7 +6,8 @@ use mathlib.Core.Bool.{cond}
 use mathlib.Core.List.{List}
 use Rattle.esterel.specs.Sets.{empty}
 use Rattle.esterel.specs.Statement.{Statement, nothing}
-use Rattle.esterel.specs.Resume.{startTraced, expandBy, resumeTraced}
+use Rattle.esterel.specs.Traced.{startTraced}
+use Rattle.esterel.specs.RankedExpansion.{expandBy, resumeTraced}
 use Rattle.layout.specs.Layout.{Lies}
 use Rattle.reaction.specs.declared.Reaction.{Reaction}
 use Rattle.reaction.specs.Reactions.{reactionOf}

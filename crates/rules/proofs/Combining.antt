@@ -12,8 +12,9 @@ use Rattle.esterel.specs.Sets.{none, join}
 use Rattle.esterel.specs.Statement.{Statement, nothing, try}
 use Rattle.esterel.specs.Reaction.{Code, ended, waiting, leaving, wrong, greater, gives, ifWaiting}
 use Rattle.esterel.specs.Errors.{Error, instantaneous}
-use Rattle.esterel.specs.Resume as Esterel
-use Rattle.esterel.specs.Resume.{instant, ifWrong, traced, seqTraced, parTraced, loopTraced, tryTraced}
+use Rattle.esterel.specs.Traced as Traces
+use Rattle.esterel.specs.Instants.{instant, ifWrong}
+use Rattle.esterel.specs.Traced.{traced, seqTraced, parTraced, loopTraced, tryTraced}
 use Rattle.completions.specs.declared.Completion.{Completion}
 use Rattle.reaction.specs.declared.Reaction.{Reaction}
 use Rattle.completions.specs.Completions.{completionOf, codeOf, greaterOf, isEnded, caught}
@@ -22,7 +23,7 @@ use Rattle.reaction.specs.Reactions.{keptOf, cappedOf, reactionOf, failedWith, 
 use Rattle.reaction.proofs.Values.{kept-two, kept-one, capped-two, made, counts-only}
 
 -- ---- p; q
-abbrev SeqGoesOn : Statement → (t v : Esterel.Traced) (p q : Reaction) → Type 0
+abbrev SeqGoesOn : Statement → (t v : Traces.Traced) (p q : Reaction) → Type 0
 SeqGoesOn u t v p q =
     (o m a d : ℕ) → isEnded (p .completion) ≡ true → o ≡ join (p .emitted) (q .emitted) → m ≡ keptOf (1 + p .reactions + q .reactions)
     → a ≡ join (p .asked) (q .asked) → d ≡ cappedOf (p .delivered + q .delivered)
@@ -35,11 +36,11 @@ no-more n = omega arith
 nothing-more : (z : ℕ) → z + 0 ≡ z
 nothing-more z = omega arith
 
-module _ (u : Statement) (t v : Esterel.Traced) (p q : Reaction) (p-is : p ≡ reactionOf t) where
+module _ (u : Statement) (t v : Traces.Traced) (p q : Reaction) (p-is : p ≡ reactionOf t) where
   pub seq-goes-on : q ≡ reactionOf v → SeqGoesOn u t v p q
   seq-goes-on q-is = rw (p-is, q-is) (go t v)
     where
-      go : (t v : Esterel.Traced) → SeqGoesOn u t v (reactionOf t) (reactionOf v)
+      go : (t v : Traces.Traced) → SeqGoesOn u t v (reactionOf t) (reactionOf v)
       go (traced (instant (gives o₁ ended l₁ t₁) x n) a₁ z₁) (traced (instant (gives o₂ k l₂ t₂) y n₂) a₂ z₂) o m a d h e w f g =
           made k y (1 + n + n₂) (join a₁ a₂) (z₁ + z₂) e (stands-of l₂) refl (w ∙ kept-two n n₂) f (g ∙ capped-two z₁ z₂)
       go (traced (instant (gives o₁ waiting l₁ t₁) x n) a₁ z₁) v o m a d h e w f g = absurd (false≢true h)
@@ -49,7 +50,7 @@ module _ (u : Statement) (t v : Esterel.Traced) (p q : Reaction) (p-is : p ≡ r
   pub seq-stops : {r : Reaction} → isEnded (p .completion) ≡ false → r ≡ reactionOf (countedAround none t) → r ≡ reactionOf (seqTraced u t v)
   seq-stops h k = k ∙ go t v (rw p-is at h)
     where
-      go : (t v : Esterel.Traced) → isEnded (reactionOf t .completion) ≡ false
+      go : (t v : Traces.Traced) → isEnded (reactionOf t .completion) ≡ false
           → reactionOf (countedAround none t) ≡ reactionOf (seqTraced u t v)
       go (traced (instant (gives o ended l t₁) x n) a z) v h = absurd (true≢false h)
       go (traced (instant (gives o waiting l t₁) x n) a z) (traced (instant r y m) b w) h = rw (no-more n, nothing-more z)
@@ -57,7 +58,7 @@ module _ (u : Statement) (t v : Esterel.Traced) (p q : Reaction) (p-is : p ≡ r
       go (traced (instant (gives o wrong l t₁) x n) a z) (traced (instant r y m) b w) h = rw (no-more n, nothing-more z)
 
 -- ---- p in parallel with q
-abbrev ParJoins : (t v : Esterel.Traced) (p q : Reaction) → Type 0
+abbrev ParJoins : (t v : Traces.Traced) (p q : Reaction) → Type 0
 ParJoins t v p q =
     (o m a d : ℕ) (l u : Labels) (c : Completion)
     → o ≡ join (p .emitted) (q .emitted) → c ≡ greaterOf (p .completion) (q .completion) → m ≡ keptOf (1 + p .reactions + q .reactions)
@@ -65,10 +66,10 @@ ParJoins t v p q =
     → labelSet u ≡ join (labelSet (p .labels)) (labelSet (q .labels)) → Represents l (ifWaiting (codeOf c) (labelSet u))
     → _≡_ {A = Reaction} (record { emitted = o; labels = l; completion = c; reactions = m; asked = a; delivered = d }) (reactionOf (parTraced t v))
 
-pub par-joins : (t v : Esterel.Traced) (p q : Reaction) → p ≡ reactionOf t → q ≡ reactionOf v → ParJoins t v p q
+pub par-joins : (t v : Traces.Traced) (p q : Reaction) → p ≡ reactionOf t → q ≡ reactionOf v → ParJoins t v p q
 par-joins t v p q p-is q-is = rw (p-is, q-is) (go t v)
   where
-    go : (t v : Esterel.Traced) → ParJoins t v (reactionOf t) (reactionOf v)
+    go : (t v : Traces.Traced) → ParJoins t v (reactionOf t) (reactionOf v)
     go (traced (instant (gives o₁ k₁ l₁ t₁) x n) a₁ z₁) (traced (instant (gives o₂ k₂ l₂ t₂) y n₂) a₂ z₂) o m a b l u c e g s f i d w =
         let z : c ≡ completionOf (greater k₁ k₂) (ifWrong k₁ x y) = g ∙ greater-of k₁ k₂ x y in
         let z′ : codeOf c ≡ greater k₁ k₂ = ap codeOf z ∙ code-of (greater k₁ k₂) (ifWrong k₁ x y) in
@@ -77,12 +78,12 @@ par-joins t v p q p-is q-is = rw (p-is, q-is) (go t v)
         (w .0, w .1 ∙ ap (λ (h : Code). ifWaiting h (labelSet u)) z′ ∙ ap (ifWaiting (greater k₁ k₂)) d′) z (s ∙ kept-two n n₂) f (i ∙ capped-two z₁ z₂)
 
 -- ---- loop p at the offset b
-module _ (b : ℕ) (u : Statement) (t : Esterel.Traced) (p : Reaction) (p-is : p ≡ reactionOf t) {r : Reaction} where
+module _ (b : ℕ) (u : Statement) (t : Traces.Traced) (p : Reaction) (p-is : p ≡ reactionOf t) {r : Reaction} where
   pub loop-fails : (m : ℕ) → isEnded (p .completion) ≡ true → r ≡ failedWith (instantaneous b) m (p .asked) → m ≡ keptOf (1 + p .reactions)
       → r ≡ reactionOf (loopTraced b u t)
   loop-fails m h w e = (rw p-is at w) ∙ go t (rw p-is at h) (rw p-is at e)
     where
-      go : (t : Esterel.Traced) → isEnded (reactionOf t .completion) ≡ true → m ≡ keptOf (1 + reactionOf t .reactions)
+      go : (t : Traces.Traced) → isEnded (reactionOf t .completion) ≡ true → m ≡ keptOf (1 + reactionOf t .reactions)
           → failedWith (instantaneous b) m (reactionOf t .asked) ≡ reactionOf (loopTraced b u t)
       go (traced (instant (gives o ended l t₁) x n) a z) h e = rw (e, kept-one n)
       go (traced (instant (gives o waiting l t₁) x n) a z) h e = absurd (false≢true h)
@@ -92,20 +93,20 @@ module _ (b : ℕ) (u : Statement) (t : Esterel.Traced) (p : Reaction) (p-is : p
   pub loop-goes-on : isEnded (p .completion) ≡ false → r ≡ reactionOf (countedAround none t) → r ≡ reactionOf (loopTraced b u t)
   loop-goes-on h k = k ∙ go t (rw p-is at h)
     where
-      go : (t : Esterel.Traced) → isEnded (reactionOf t .completion) ≡ false → reactionOf (countedAround none t) ≡ reactionOf (loopTraced b u t)
+      go : (t : Traces.Traced) → isEnded (reactionOf t .completion) ≡ false → reactionOf (countedAround none t) ≡ reactionOf (loopTraced b u t)
       go (traced (instant (gives o ended l t₁) x n) a z) h = absurd (true≢false h)
       go (traced (instant (gives o waiting l t₁) x n) a z) h = counts-only (instant (gives o waiting l t₁) x n) a z
       go (traced (instant (gives o (leaving k) l t₁) x n) a z) h = counts-only (instant (gives o (leaving k) l t₁) x n) a z
       go (traced (instant (gives o wrong l t₁) x n) a z) h = counts-only (instant (gives o wrong l t₁) x n) a z
 
 -- ---- try p
-abbrev TryCatches : Esterel.Traced → Reaction → Type 0
+abbrev TryCatches : Traces.Traced → Reaction → Type 0
 TryCatches t p =
     (c : Completion) (m : ℕ) → c ≡ caught (p .completion) → m ≡ keptOf (1 + p .reactions)
     → _≡_ {A = Reaction} (record { emitted = p .emitted; labels = p .labels; completion = c; reactions = m; asked = p .asked; delivered = p .delivered })
     (reactionOf (tryTraced t))
 
-pub try-catches : (t : Esterel.Traced) (p : Reaction) → p ≡ reactionOf t → TryCatches t p
+pub try-catches : (t : Traces.Traced) (p : Reaction) → p ≡ reactionOf t → TryCatches t p
 try-catches t p p-is = rw p-is (go t)
   where
     leaves : (b : Bool) (o l n : ℕ) (t : Statement) (x : Option Error) (n₁ a z : ℕ) (c : Completion) (m : ℕ)
@@ -115,7 +116,7 @@ try-catches t p p-is = rw p-is (go t)
     leaves true o l n t x n₁ a z c m h e = rw (h, e)
     leaves false o l n t x n₁ a z c m h e = rw (h, e)
 
-    go : (t : Esterel.Traced) → TryCatches t (reactionOf t)
+    go : (t : Traces.Traced) → TryCatches t (reactionOf t)
     go (traced (instant (gives o ended l t₁) x n) a z) c m h e = rw (h, e, kept-one n)
     go (traced (instant (gives o waiting l t₁) x n) a z) c m h e = rw (h, e, kept-one n)
     go (traced (instant (gives o (leaving k) l t₁) x n) a z) c m h e = leaves (eqb k 1) o l k t₁ x n a z c m h (e ∙ kept-one n)

@@ -3,7 +3,7 @@ ghost use mathlib.Core.Path.{_≡_};
 ghost use Rattle.labels.specs.Labels.{labelSet};
 ghost use Rattle.esterel.specs.Statement.{Statement};
 ghost use Rattle.esterel.specs.Reaction.{ifWaiting};
-ghost use Rattle.esterel.specs.Resume.{seqTraced, parTraced, loopTraced, tryTraced};
+ghost use Rattle.esterel.specs.Traced.{seqTraced, parTraced, loopTraced, tryTraced};
 ghost use Rattle.completions.specs.Completions.{codeOf};
 ghost use Rattle.reaction.specs.Reactions.{FromOne, FromTwo};
 use completions::Completion;

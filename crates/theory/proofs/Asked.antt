@@ -14,7 +14,8 @@ use Rattle.esterel.specs.Errors.{ifEnded, errorsBy}
 use Rattle.esterel.specs.Reactions.{reactionsBy}
 use Rattle.esterel.specs.Asked.{askedBy, asked, asks}
 use Rattle.esterel.specs.Litres.{chosen, passing, deliveredBy}
-use Rattle.esterel.specs.Resume.{signalInstant, Traced, traced, askedOf, caseOfRuns, startTraced, signalTraced, signalOnce}
+use Rattle.esterel.specs.Instants.{signalInstant}
+use Rattle.esterel.specs.Traced.{Traced, traced, askedOf, caseOfRuns, startTraced, signalTraced, signalOnce}
 use Rattle.theory.proofs.Booleans.{or-l, or-true, or-false, and-true, and-false, clash, Tested, tested}
 use Rattle.theory.proofs.Sets.{member-insert, member-remove, join-none-r, join-self, remove-absent}
 use Rattle.theory.proofs.LabelSets.{in-l, in-r}

@@ -17,7 +17,8 @@ use Rattle.esterel.specs.States.{Holds, Stops, NoSetpause, Source}
 use Rattle.esterel.specs.Expansion.{expand}
 use Rattle.esterel.specs.LabelTests.{labelsOf, everyLabel, before, distinct, targeted, wellFormed, valid}
 use Rattle.esterel.specs.Asked.{askedBy, asked}
-use Rattle.esterel.specs.Resume.{start, instantOf}
+use Rattle.esterel.specs.Instants.{start}
+use Rattle.esterel.specs.Traced.{instantOf}
 use Rattle.esterel.specs.ReadBack.{keepIf, membersFrom, declaredBy, declared, AgreeOutside, RemainsUnder}
 use Rattle.theory.proofs.Booleans.{and-true, and-false}
 use Rattle.theory.proofs.Sets.{member-none, member-remove}

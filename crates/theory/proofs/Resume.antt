@@ -7,7 +7,7 @@ use Rattle.esterel.specs.States.{active}
 use Rattle.esterel.specs.Expansion.{expand, ifActive}
 use Rattle.esterel.specs.LabelTests.{alternative, parallel}
 use Rattle.esterel.specs.Ranks.{middle, mask}
-use Rattle.esterel.specs.Resume.{expandBy}
+use Rattle.esterel.specs.RankedExpansion.{expandBy}
 use Rattle.theory.proofs.Order.{Joined, sequence, test, sides}
 use Rattle.theory.proofs.Ranks.{split-below, split-from, first-empty, second-empty, labels-by}
 

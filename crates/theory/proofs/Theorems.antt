@@ -20,7 +20,9 @@ use Rattle.esterel.specs.States.{Holds, active, Awake, Stops, Valid, Distinct, 
 use Rattle.esterel.specs.Expansion.{expand, Expands, clause}
 use Rattle.esterel.specs.LabelTests.{activeLabels}
 use Rattle.esterel.specs.Ranks.{mask, labelsBy}
-use Rattle.esterel.specs.Resume.{instant, start, suspendInstant, askedOf, startTraced, signalOnce, expandBy, resume, resumeTraced}
+use Rattle.esterel.specs.Instants.{instant, start, suspendInstant}
+use Rattle.esterel.specs.Traced.{askedOf, startTraced, signalOnce}
+use Rattle.esterel.specs.RankedExpansion.{expandBy, resume, resumeTraced}
 use Rattle.esterel.specs.ReadBack.{declaredBy, declared, without, AgreeOutside, RemainsUnder}
 use Rattle.esterel.specs.Machines.{seenWithout, run, reached, State, byLabels, ValidState, ReactionOf, of-statement, of-expansion, FromValid, Rewriting, byRewriting, addsByLabels, addsByRewriting, added, erase}
 use Rattle.theory.proofs.Booleans.{never, clash, Tested, tested}

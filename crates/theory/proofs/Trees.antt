@@ -11,7 +11,8 @@ use Rattle.esterel.specs.Errors.{Error, instantaneous, ifEnded, signalErrors, e
 use Rattle.esterel.specs.Reactions.{reactionsBy, reactions}
 use Rattle.esterel.specs.Asked.{askedBy, asked}
 use Rattle.esterel.specs.Litres.{deliveredBy, delivered}
-use Rattle.esterel.specs.Resume.{Instant, instant, start, seqInstant, parInstant, loopInstant, presentInstant, tryInstant, signalNames, signalInstant, suspendInstant, stoppedInstant, traced, startTraced, seqTraced, parTraced, loopTraced, presentTraced, tryTraced, signalTraced, suspendTraced, heldTraced, stoppedTraced}
+use Rattle.esterel.specs.Instants.{Instant, instant, start, seqInstant, parInstant, loopInstant, presentInstant, tryInstant, signalNames, signalInstant, suspendInstant, stoppedInstant}
+use Rattle.esterel.specs.Traced.{traced, startTraced, seqTraced, parTraced, loopTraced, presentTraced, tryTraced, signalTraced, suspendTraced, heldTraced, stoppedTraced}
 use Rattle.theory.proofs.SignalOrders.{Blamed, blamed}
 
 -- ---- the first error of a list in parts: what is wrong has one, what is not has none

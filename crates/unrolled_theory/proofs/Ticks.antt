@@ -13,7 +13,7 @@ use Rattle.esterel.specs.Reaction.{ended, waiting, leaving, wrong, isWrong, Rea
 use Rattle.esterel.specs.Errors.{Error, firstError}
 use Rattle.esterel.specs.Reactions.{reactions}
 use Rattle.esterel.specs.Expansion.{expand}
-use Rattle.esterel.specs.Resume.{instant}
+use Rattle.esterel.specs.Instants.{instant}
 use Rattle.esterel.specs.Machines.{State, stateAfter, addsByLabels}
 use Rattle.theory.proofs.Booleans.{clash, Tested, tested}
 use Rattle.limits.specs.Limits.{readBackPlace}

@@ -4,7 +4,7 @@ use borrow.Author.Needs.{needs}
 use borrow.Author.Tests.{ltb-true}
 use Rattle.esterel.specs.Statement.{local, seq, par, loop, present, signal, try, suspend}
 use Rattle.esterel.specs.Sets.{none}
-use Rattle.esterel.specs.Resume.{startTraced}
+use Rattle.esterel.specs.Traced.{startTraced}
 use Rattle.sequence.specs.Commands.{Command}
 use Rattle.layout.proofs.Laid.{ready, taken-apart, begins, last-one, whole, whole-lies}
 use Rattle.rules.proofs.Combining.{seq-stops}
