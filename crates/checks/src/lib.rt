@@ -1,2 +1,36 @@
-// The check of a sequence with a read-back set (01, rows 2 to 10; 02, item 5).
-pub mod verdict;
+// The check of a sequence with a read-back set (01, rows 2 to 10). Of a sound one it leaves the table of second parts and
+// the notes of labels.
+ghost use mathlib.Core.Path.{_≡_};
+ghost use lib.ListN.{length};
+ghost use Rattle.limits.specs.Limits.{maxBytes};
+ghost use Rattle.layout.specs.Notes.{noNotes};
+ghost use Rattle.checks.specs.Verdict.{Judged};
+use layout::SecondParts;
+use notes::Notes;
+use reading::reader::Reading;
+
+// The row that turns the sequence down, or 0.
+pub fn check(s: &[u8], read_back: u32, second: &mut SecondParts, notes: &mut Notes) -> u8
+    requires { ⌜ length (now second) ≡ maxBytes ⌝ }
+    requires { ⌜ now notes ≡ noNotes ⌝ }
+    ensures { λ r. ⌜ Judged (now (s .entry)) «read_back» (now (second .exit)) (now (notes .exit)) r ⌝ }
+{
+    if s.len() == 0 {
+        return 2;
+    }
+    if s.len() > limits::MAX_BYTES {
+        return 2;
+    }
+    match reading::reader::read_sequence(s, second, notes) {
+        Reading::Refused(row) => row,
+        Reading::Accepted(n, left) => {
+            if left < signals::size(read_back) {
+                6
+            } else if n < s.len() {
+                7
+            } else {
+                labelling::label_row(s, notes)
+            }
+        }
+    }
+}

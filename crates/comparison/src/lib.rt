@@ -45,7 +45,7 @@ fn after(r: Reaction, notes: &Notes) -> Standing
         Completion::Ended => Standing::Over,
         Completion::Waiting => {
             let labels = r.labels;
-            Standing::Waiting(validity::activity::ranks(labels, notes))
+            Standing::Waiting(validity::ranks(labels, notes))
         }
         Completion::Leaving(_) => Standing::Over,
         Completion::Wrong(_, _) => Standing::Over,
@@ -162,7 +162,7 @@ pub fn replay(sequence: &[u8], read_back: u32, recording: &[u8], place: &mut usi
     *place = 0;
     let mut second: SecondParts = [0; limits::MAX_BYTES];
     let mut notes: Notes = [0; notes::LENGTH];
-    let number = checks::verdict::check(sequence, read_back, &mut second, &mut notes);
+    let number = checks::check(sequence, read_back, &mut second, &mut notes);
     if number != 0 {
         return number;
     }

@@ -15,7 +15,7 @@ use Rattle.instants.specs.declared.Standing.the-variants as stands
 use Rattle.instants.specs.Replies.{Decodes}
 use Rattle.labels.specs.declared.Labels.{Labels}
 use Rattle.validity.specs.Activity.{ValidityOf}
-use Rattle.validity.specs.declared.activity.Validity.the-variants.{Valid, Invalid}
+use Rattle.validity.specs.declared.Validity.the-variants.{Valid, Invalid}
 
 module _ (p : Statement) (state : List ℕ) (phase L : ℕ) (at : phase ≡ phaseIn state) (read : L ≡ labelsIn state) where
   by-validity : (b : Bool) → phase ≡ 1 → valid p L ≡ b → decodeState p state ≡ cond b (holds (State.waits (labelsIn state))) malformed

@@ -8,7 +8,7 @@ use layout::SecondParts;
 use notes::Notes;
 use program::Start;
 use reaction::Reaction;
-use validity::activity::Validity;
+use validity::Validity;
 
 // What a state record holds for an accepted sequence. A waiting machine has the ranks of its active pauses.
 pub enum Standing {
@@ -26,7 +26,7 @@ pub fn decode(sequence: &[u8], second: &SecondParts, notes: &Notes, state: &[u8]
     let phase = states::phase(state);
     let labels = states::labels(state);
     if phase == 1 {
-        return match validity::activity::validity_of(sequence, second, notes, labels) {
+        return match validity::validity_of(sequence, second, notes, labels) {
             Validity::Valid(active) => Standing::Waiting(active),
             Validity::Invalid => Standing::Malformed,
         };
@@ -88,7 +88,7 @@ pub fn reply_to(sequence: &[u8], state: &[u8], input: u32, read_back: u32) -> Re
 {
     let mut second: SecondParts = [0; limits::MAX_BYTES];
     let mut notes: Notes = [0; notes::LENGTH];
-    let number = checks::verdict::check(sequence, read_back, &mut second, &mut notes);
+    let number = checks::check(sequence, read_back, &mut second, &mut notes);
     if number != 0 {
         return Reply::Refused(number);
     }

@@ -23,7 +23,7 @@ pub extern "C" fn intake_check(sequence: &[u8], read_back: u32) -> u8
 {
     let mut second: SecondParts = [0; limits::MAX_BYTES];
     let mut notes: Notes = [0; notes::LENGTH];
-    checks::verdict::check(sequence, read_back, &mut second, &mut notes)
+    checks::check(sequence, read_back, &mut second, &mut notes)
 }
 
 // The ceiling on the reactions of an instant: 0 for a sequence that the check turns down.

@@ -20,8 +20,8 @@ fn inside(s: &[u8], origin: Start, input: u32, farm: u8, second: &SecondParts) -
     ensures { λ r. ⌜ Inside (now (second .entry)) (now (s .entry)) origin input farm r ⌝ }
 {
     match origin {
-        Start::Fresh => react::react::react(s, 0, limits::MAX_DEPTH, input, farm, second),
-        Start::Waiting(active) => resume::resume::resume(
+        Start::Fresh => react::react(s, 0, limits::MAX_DEPTH, input, farm, second),
+        Start::Waiting(active) => resume::resume(
             s,
             0,
             limits::MAX_DEPTH,

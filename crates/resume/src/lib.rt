@@ -1,2 +1,270 @@
-// One reaction of a waiting statement, by the ranks of its active pauses.
-pub mod resume;
+// A waiting statement resumes by the ranks of its active pauses, and no expansion is built. Only parts with an active pause
+// are entered; `second` says where second parts begin and how many pauses stand before, which splits the ranks.
+ghost use mathlib.Core.Path.{_≡_};
+ghost use Prim.Native.Nat.{_≤_};
+ghost use lib.ListN.{length, getD};
+ghost use Rattle.labels.specs.Labels.{labelSet};
+ghost use Rattle.layout.specs.Layout.{rest, Ready};
+ghost use Rattle.resume.specs.Resumed.{Resumed, ResumedSide};
+use labels::Labels;
+use layout::SecondParts;
+use reaction::Reaction;
+
+// The reaction of the statement at the front of s, which stands at the offset `at`, by the ranks of its active pauses.
+pub fn resume(
+    s: &[u8],
+    at: usize,
+    depth: u8,
+    input: u32,
+    farm: u8,
+    active: Labels,
+    second: &SecondParts,
+) -> Reaction
+    requires { ⌜ Ready (now second) depth at (now s) ⌝ }
+    ensures { λ r. ⌜ Resumed (now (second .entry)) depth at (now (s .entry)) (labelSet active) input farm r ⌝ }
+{
+    let command = s[0];
+    match command {
+        4 => seq_parts(s, at, depth, input, farm, active, second),
+        5 => par_parts(s, at, depth, input, farm, active, second),
+        6 => loop_part(s, at, depth, input, farm, active, second),
+        7 => present_parts(s, at, depth, input, farm, active, second),
+        8 => signal_rule(s, at, depth, input, farm, active, second),
+        9 => try_part(s, at, depth, input, farm, active, second),
+        11 => suspend_part(s, at, depth, input, farm, active, second),
+        _ => reaction::ending(0, 0),
+    }
+}
+
+// The part that begins at index n of s, at the offset `at`. A pause, which has ended, is answered here, without a slice or a frame
+// of its own.
+fn part(
+    s: &[u8],
+    n: usize,
+    at: usize,
+    depth: u8,
+    input: u32,
+    farm: u8,
+    active: Labels,
+    second: &SecondParts,
+) -> Reaction
+    requires { ⌜ n ≤ length (now s) ⌝ }
+    requires { ⌜ Ready (now second) depth at (rest n (now s)) ⌝ }
+    ensures { λ r. ⌜ Resumed (now (second .entry)) depth at (rest n (now (s .entry))) (labelSet active) input farm r ⌝ }
+{
+    if s[n] == 1 {
+        return reaction::ending(0, 0);
+    }
+    resume(&s[n..], at, depth, input, farm, active, second)
+}
+
+fn seq_parts(
+    s: &[u8],
+    at: usize,
+    depth: u8,
+    input: u32,
+    farm: u8,
+    active: Labels,
+    second: &SecondParts,
+) -> Reaction
+    requires { ⌜ Ready (now second) depth at (now s) × (getD (now s) 0 0 ≡ 4) ⌝ }
+    ensures { λ r. ⌜ Resumed (now (second .entry)) depth at (now (s .entry)) (labelSet active) input farm r ⌝ }
+{
+    let entry = second[at];
+    let m = (entry % layout::BEFORE_UNIT) as usize;
+    let first = labels::below(active, entry / layout::BEFORE_UNIT);
+    if labels::is_empty(first) {
+        // the expansion is that of the second part
+        let others = labels::from(active, entry / layout::BEFORE_UNIT);
+        return part(s, m - at, m, depth - 1, input, farm, others, second);
+    }
+    let p = part(s, 1, at + 1, depth - 1, input, farm, first, second);
+    react::after(p, s, m - at, m, depth - 1, input, farm, second)
+}
+
+// A side of a parallel, which begins at index n of s: it has ended where none of its pauses is active.
+fn side(
+    s: &[u8],
+    n: usize,
+    at: usize,
+    depth: u8,
+    input: u32,
+    farm: u8,
+    active: Labels,
+    second: &SecondParts,
+) -> Reaction
+    requires { ⌜ n ≤ length (now s) ⌝ }
+    requires { ⌜ Ready (now second) depth at (rest n (now s)) ⌝ }
+    ensures { λ r. ⌜ ResumedSide (now (second .entry)) depth at (rest n (now (s .entry))) (labelSet active) input farm r ⌝ }
+{
+    if labels::is_empty(active) {
+        return reaction::ending(0, 0);
+    }
+    part(s, n, at, depth, input, farm, active, second)
+}
+
+fn par_parts(
+    s: &[u8],
+    at: usize,
+    depth: u8,
+    input: u32,
+    farm: u8,
+    active: Labels,
+    second: &SecondParts,
+) -> Reaction
+    requires { ⌜ Ready (now second) depth at (now s) × (getD (now s) 0 0 ≡ 5) ⌝ }
+    ensures { λ r. ⌜ Resumed (now (second .entry)) depth at (now (s .entry)) (labelSet active) input farm r ⌝ }
+{
+    let entry = second[at];
+    let m = (entry % layout::BEFORE_UNIT) as usize;
+    let first = labels::below(active, entry / layout::BEFORE_UNIT);
+    let p = side(s, 1, at + 1, depth - 1, input, farm, first, second);
+    let others = labels::from(active, entry / layout::BEFORE_UNIT);
+    let q = side(s, m - at, m, depth - 1, input, farm, others, second);
+    rules::in_parallel(p, q)
+}
+
+// The loop begins again where its body has ended.
+fn loop_part(
+    s: &[u8],
+    at: usize,
+    depth: u8,
+    input: u32,
+    farm: u8,
+    active: Labels,
+    second: &SecondParts,
+) -> Reaction
+    requires { ⌜ Ready (now second) depth at (now s) × (getD (now s) 0 0 ≡ 6) ⌝ }
+    ensures { λ r. ⌜ Resumed (now (second .entry)) depth at (now (s .entry)) (labelSet active) input farm r ⌝ }
+{
+    let p = part(s, 1, at + 1, depth - 1, input, farm, active, second);
+    react::after(p, s, 0, at, depth, input, farm, second)
+}
+
+// Of a test the active branch goes on, whatever its signal is now.
+fn present_parts(
+    s: &[u8],
+    at: usize,
+    depth: u8,
+    input: u32,
+    farm: u8,
+    active: Labels,
+    second: &SecondParts,
+) -> Reaction
+    requires { ⌜ Ready (now second) depth at (now s) × (getD (now s) 0 0 ≡ 7) ⌝ }
+    ensures { λ r. ⌜ Resumed (now (second .entry)) depth at (now (s .entry)) (labelSet active) input farm r ⌝ }
+{
+    let entry = second[at];
+    let first = labels::below(active, entry / layout::BEFORE_UNIT);
+    if labels::is_empty(first) {
+        let m = (entry % layout::BEFORE_UNIT) as usize;
+        let others = labels::from(active, entry / layout::BEFORE_UNIT);
+        return part(s, m - at, m, depth - 1, input, farm, others, second);
+    }
+    part(s, 2, at + 2, depth - 1, input, farm, first, second)
+}
+
+// The bytes of a declaration are handed on as a part of the slice, as those of every part are.
+fn signal_rule(
+    s: &[u8],
+    at: usize,
+    depth: u8,
+    input: u32,
+    farm: u8,
+    active: Labels,
+    second: &SecondParts,
+) -> Reaction
+    requires { ⌜ Ready (now second) depth at (now s) × (getD (now s) 0 0 ≡ 8) ⌝ }
+    ensures { λ r. ⌜ Resumed (now (second .entry)) depth at (now (s .entry)) (labelSet active) input farm r ⌝ }
+{
+    declared(&s[0..], at, depth, input, farm, active, second)
+}
+
+// The body resumes without the signal, and with it where that run asked for the signal; else the second run would repeat the first.
+// It has a frame of its own, as in `react`.
+fn declared(
+    s: &[u8],
+    at: usize,
+    depth: u8,
+    input: u32,
+    farm: u8,
+    active: Labels,
+    second: &SecondParts,
+) -> Reaction
+    requires { ⌜ Ready (now second) depth at (now s) × (getD (now s) 0 0 ≡ 8) ⌝ }
+    ensures { λ r. ⌜ Resumed (now (second .entry)) depth at (now (s .entry)) (labelSet active) input farm r ⌝ }
+{
+    let x = s[1];
+    let without = signals::without(input, x);
+    let with = signals::with(input, x);
+    let p = body(s, 2, at + 2, depth - 1, without, farm, active, second);
+    if signals::member(p.asked, x) {
+        let q = body(s, 2, at + 2, depth - 1, with, farm, active, second);
+        declarations::in_signal(at as u16, x, farm, p, q)
+    } else {
+        declarations::in_signal_once(x, farm, p)
+    }
+}
+
+// The body of a declaration, which begins at index n of s: a declaration again, or any other part.
+fn body(
+    s: &[u8],
+    n: usize,
+    at: usize,
+    depth: u8,
+    input: u32,
+    farm: u8,
+    active: Labels,
+    second: &SecondParts,
+) -> Reaction
+    requires { ⌜ n ≤ length (now s) ⌝ }
+    requires { ⌜ Ready (now second) depth at (rest n (now s)) ⌝ }
+    ensures { λ r. ⌜ Resumed (now (second .entry)) depth at (rest n (now (s .entry))) (labelSet active) input farm r ⌝ }
+{
+    if s[n] == 8 {
+        return declared(&s[n..], at, depth, input, farm, active, second);
+    }
+    part(s, n, at, depth, input, farm, active, second)
+}
+
+// The signal is tested first. Where it is present nothing inside reacts, and the active labels inside are kept.
+fn suspend_part(
+    s: &[u8],
+    at: usize,
+    depth: u8,
+    input: u32,
+    farm: u8,
+    active: Labels,
+    second: &SecondParts,
+) -> Reaction
+    requires { ⌜ Ready (now second) depth at (now s) × (getD (now s) 0 0 ≡ 11) ⌝ }
+    ensures { λ r. ⌜ Resumed (now (second .entry)) depth at (now (s .entry)) (labelSet active) input farm r ⌝ }
+{
+    let x = s[1];
+    let tested = signals::single(x);
+    if signals::member(input, x) {
+        let labels = active::of_part(s, 2, at + 2, depth - 1, active, second);
+        reaction::waiting(labels, tested)
+    } else {
+        reaction::around(
+            part(s, 2, at + 2, depth - 1, input, farm, active, second),
+            tested,
+        )
+    }
+}
+
+fn try_part(
+    s: &[u8],
+    at: usize,
+    depth: u8,
+    input: u32,
+    farm: u8,
+    active: Labels,
+    second: &SecondParts,
+) -> Reaction
+    requires { ⌜ Ready (now second) depth at (now s) × (getD (now s) 0 0 ≡ 9) ⌝ }
+    ensures { λ r. ⌜ Resumed (now (second .entry)) depth at (now (s .entry)) (labelSet active) input farm r ⌝ }
+{
+    let p = part(s, 1, at + 1, depth - 1, input, farm, active, second);
+    rules::in_try(p)
+}

@@ -49,7 +49,7 @@ pub fn unroll(sequence: &[u8], read_back: u32, buffer: &mut [u8]) -> Result
     }
     let mut second: SecondParts = [0; limits::MAX_BYTES];
     let mut notes: Notes = [0; notes::LENGTH];
-    let row = checks::verdict::check(sequence, read_back, &mut second, &mut notes);
+    let row = checks::check(sequence, read_back, &mut second, &mut notes);
     if row != 0 {
         return refused(row);
     }

@@ -11,8 +11,8 @@ use Rattle.sets.specs.Sets.{Subset, labelCount}
 use Rattle.labels.specs.Labels.{labelSet}
 use Rattle.layout.specs.Notes.{Noted, rankIn}
 use Rattle.layout.specs.Known.{Known}
-use Rattle.validity.specs.declared.activity.Validity.{Validity}
-use Rattle.validity.specs.declared.activity.Validity.the-variants.{Valid, Invalid}
+use Rattle.validity.specs.declared.Validity.{Validity}
+use Rattle.validity.specs.declared.Validity.the-variants.{Valid, Invalid}
 
 -- the numbers of L are labels, and their noted ranks are numbers of a mask
 abbrev pub Ranked : (notes : List ℕ) (L : ℕ) → Type 0

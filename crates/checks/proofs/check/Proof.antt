@@ -1,7 +1,7 @@
 use Rattle.checks.proofs.Verdicts.{too-short, too-long, refused-is, too-many, bytes-left, standing, by-labels}
 use borrow.Author.Needs.{needs}
-use Rattle.checks.proofs.verdict.check.Statement.{statement}
-use Rattle.checks.proofs.verdict.check.Tie as tie
+use Rattle.checks.proofs.check.Statement.{statement}
+use Rattle.checks.proofs.check.Tie as tie
 
 returns : tie.Need-returns
 returns c = too-short _ _ _ _ (c .if1 .taken)

@@ -31,39 +31,39 @@ use Rattle.react.proofs.Steps.{
 use Prim.Native.Nat.{ℕ, _+_, _*_, _-_, _<_}
 use borrow.Fn.Kinds.{In}
 use borrow.Fn.PlainCycle.{Measures, is, falls, and}
-use Rattle.react.proofs.react.after.Reads as after
-use Rattle.react.proofs.react.after.Kinds as after-kinds
-use Rattle.react.proofs.react.+after+body+declared+loop_part+par_parts+part+present_parts+react+seq_parts+signal_rule+try_part.Lts-after as after-lts
-use Rattle.react.proofs.react.body.Reads as body
-use Rattle.react.proofs.react.body.Kinds as body-kinds
-use Rattle.react.proofs.react.+after+body+declared+loop_part+par_parts+part+present_parts+react+seq_parts+signal_rule+try_part.Lts-body as body-lts
-use Rattle.react.proofs.react.declared.Reads as declared
-use Rattle.react.proofs.react.declared.Kinds as declared-kinds
-use Rattle.react.proofs.react.+after+body+declared+loop_part+par_parts+part+present_parts+react+seq_parts+signal_rule+try_part.Lts-declared as declared-lts
-use Rattle.react.proofs.react.loop_part.Reads as loop-part
-use Rattle.react.proofs.react.loop_part.Kinds as loop-part-kinds
-use Rattle.react.proofs.react.+after+body+declared+loop_part+par_parts+part+present_parts+react+seq_parts+signal_rule+try_part.Lts-loop_part as loop-part-lts
-use Rattle.react.proofs.react.par_parts.Reads as par-parts
-use Rattle.react.proofs.react.par_parts.Kinds as par-parts-kinds
-use Rattle.react.proofs.react.+after+body+declared+loop_part+par_parts+part+present_parts+react+seq_parts+signal_rule+try_part.Lts-par_parts as par-parts-lts
-use Rattle.react.proofs.react.part.Reads as part
-use Rattle.react.proofs.react.part.Kinds as part-kinds
-use Rattle.react.proofs.react.+after+body+declared+loop_part+par_parts+part+present_parts+react+seq_parts+signal_rule+try_part.Lts-part as part-lts
-use Rattle.react.proofs.react.present_parts.Reads as present-parts
-use Rattle.react.proofs.react.present_parts.Kinds as present-parts-kinds
-use Rattle.react.proofs.react.+after+body+declared+loop_part+par_parts+part+present_parts+react+seq_parts+signal_rule+try_part.Lts-present_parts as present-parts-lts
-use Rattle.react.proofs.react.react.Reads as react
-use Rattle.react.proofs.react.react.Kinds as react-kinds
-use Rattle.react.proofs.react.+after+body+declared+loop_part+par_parts+part+present_parts+react+seq_parts+signal_rule+try_part.Lts-react as react-lts
-use Rattle.react.proofs.react.seq_parts.Reads as seq-parts
-use Rattle.react.proofs.react.seq_parts.Kinds as seq-parts-kinds
-use Rattle.react.proofs.react.+after+body+declared+loop_part+par_parts+part+present_parts+react+seq_parts+signal_rule+try_part.Lts-seq_parts as seq-parts-lts
-use Rattle.react.proofs.react.signal_rule.Reads as signal-rule
-use Rattle.react.proofs.react.signal_rule.Kinds as signal-rule-kinds
-use Rattle.react.proofs.react.+after+body+declared+loop_part+par_parts+part+present_parts+react+seq_parts+signal_rule+try_part.Lts-signal_rule as signal-rule-lts
-use Rattle.react.proofs.react.try_part.Reads as try-part
-use Rattle.react.proofs.react.try_part.Kinds as try-part-kinds
-use Rattle.react.proofs.react.+after+body+declared+loop_part+par_parts+part+present_parts+react+seq_parts+signal_rule+try_part.Lts-try_part as try-part-lts
+use Rattle.react.proofs.after.Reads as after
+use Rattle.react.proofs.after.Kinds as after-kinds
+use Rattle.react.proofs.+after+body+declared+loop_part+par_parts+part+present_parts+react+seq_parts+signal_rule+try_part.Lts-after as after-lts
+use Rattle.react.proofs.body.Reads as body
+use Rattle.react.proofs.body.Kinds as body-kinds
+use Rattle.react.proofs.+after+body+declared+loop_part+par_parts+part+present_parts+react+seq_parts+signal_rule+try_part.Lts-body as body-lts
+use Rattle.react.proofs.declared.Reads as declared
+use Rattle.react.proofs.declared.Kinds as declared-kinds
+use Rattle.react.proofs.+after+body+declared+loop_part+par_parts+part+present_parts+react+seq_parts+signal_rule+try_part.Lts-declared as declared-lts
+use Rattle.react.proofs.loop_part.Reads as loop-part
+use Rattle.react.proofs.loop_part.Kinds as loop-part-kinds
+use Rattle.react.proofs.+after+body+declared+loop_part+par_parts+part+present_parts+react+seq_parts+signal_rule+try_part.Lts-loop_part as loop-part-lts
+use Rattle.react.proofs.par_parts.Reads as par-parts
+use Rattle.react.proofs.par_parts.Kinds as par-parts-kinds
+use Rattle.react.proofs.+after+body+declared+loop_part+par_parts+part+present_parts+react+seq_parts+signal_rule+try_part.Lts-par_parts as par-parts-lts
+use Rattle.react.proofs.part.Reads as part
+use Rattle.react.proofs.part.Kinds as part-kinds
+use Rattle.react.proofs.+after+body+declared+loop_part+par_parts+part+present_parts+react+seq_parts+signal_rule+try_part.Lts-part as part-lts
+use Rattle.react.proofs.present_parts.Reads as present-parts
+use Rattle.react.proofs.present_parts.Kinds as present-parts-kinds
+use Rattle.react.proofs.+after+body+declared+loop_part+par_parts+part+present_parts+react+seq_parts+signal_rule+try_part.Lts-present_parts as present-parts-lts
+use Rattle.react.proofs.react.Reads as react
+use Rattle.react.proofs.react.Kinds as react-kinds
+use Rattle.react.proofs.+after+body+declared+loop_part+par_parts+part+present_parts+react+seq_parts+signal_rule+try_part.Lts-react as react-lts
+use Rattle.react.proofs.seq_parts.Reads as seq-parts
+use Rattle.react.proofs.seq_parts.Kinds as seq-parts-kinds
+use Rattle.react.proofs.+after+body+declared+loop_part+par_parts+part+present_parts+react+seq_parts+signal_rule+try_part.Lts-seq_parts as seq-parts-lts
+use Rattle.react.proofs.signal_rule.Reads as signal-rule
+use Rattle.react.proofs.signal_rule.Kinds as signal-rule-kinds
+use Rattle.react.proofs.+after+body+declared+loop_part+par_parts+part+present_parts+react+seq_parts+signal_rule+try_part.Lts-signal_rule as signal-rule-lts
+use Rattle.react.proofs.try_part.Reads as try-part
+use Rattle.react.proofs.try_part.Kinds as try-part-kinds
+use Rattle.react.proofs.+after+body+declared+loop_part+par_parts+part+present_parts+react+seq_parts+signal_rule+try_part.Lts-try_part as try-part-lts
 use Rattle.reaction.proofs.around.Reads as around-reads
 use Rattle.reaction.proofs.ending.Reads as ending-reads
 use Rattle.emissions.proofs.emitting.Reads as emitting-reads
@@ -80,10 +80,10 @@ use Rattle.signals.proofs.member.Reads as member-reads
 use Rattle.signals.proofs.single.Reads as single-reads
 use Rattle.signals.proofs.with.Reads as with-reads
 use Rattle.signals.proofs.without.Reads as without-reads
-use Rattle.react.proofs.react.+after+body+declared+loop_part+par_parts+part+present_parts+react+seq_parts+signal_rule+try_part.{
+use Rattle.react.proofs.+after+body+declared+loop_part+par_parts+part+present_parts+react+seq_parts+signal_rule+try_part.{
   statement,
 }
-use Rattle.react.proofs.react.+after+body+declared+loop_part+par_parts+part+present_parts+react+seq_parts+signal_rule+try_part.Tie.{
+use Rattle.react.proofs.+after+body+declared+loop_part+par_parts+part+present_parts+react+seq_parts+signal_rule+try_part.Tie.{
   close,
 }
 

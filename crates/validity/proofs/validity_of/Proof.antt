@@ -7,8 +7,8 @@ use Rattle.layout.proofs.Laid.{ready, whole, whole-lies}
 use Rattle.validity.proofs.Ranking.{ranked, paused-in}
 use Rattle.validity.proofs.Validities.{none-invalid, outside-invalid, valid-is}
 use borrow.Author.Needs.{needs}
-use Rattle.validity.proofs.activity.validity_of.Statement.{statement}
-use Rattle.validity.proofs.activity.validity_of.Tie as tie
+use Rattle.validity.proofs.validity_of.Statement.{statement}
+use Rattle.validity.proofs.validity_of.Tie as tie
 
 is-empty-requires : tie.Need-is-empty-requires
 is-empty-requires c κs = search needs

@@ -4,8 +4,8 @@ use Rattle.labels.specs.Labels.{labelSet}
 use Rattle.sets.proofs.Lowest.{remove-less}
 use Rattle.sets.proofs.Members.{some-left, none-left}
 use Rattle.validity.proofs.Ranking.{Ranking, ranking-begin, ranking-end, rank-small, ranking-on}
-use Rattle.validity.proofs.activity.ranks.Statement.{statement}
-use Rattle.validity.proofs.activity.ranks.Tie as tie
+use Rattle.validity.proofs.ranks.Statement.{statement}
+use Rattle.validity.proofs.ranks.Tie as tie
 
 abbrev Inv-loop : tie.InvT-loop
 Inv-loop notes mask₀ left₀ mask left = Ranking notes (labelSet left₀) (labelSet left) (labelSet mask)

@@ -27,43 +27,43 @@ use Rattle.resume.proofs.Steps.{
 use Prim.Native.Nat.{ℕ, _+_, _*_, _-_, _<_}
 use borrow.Fn.Kinds.{In}
 use borrow.Fn.PlainCycle.{Measures, is, falls, and}
-use Rattle.resume.proofs.resume.body.Reads as body
-use Rattle.resume.proofs.resume.body.Kinds as body-kinds
-use Rattle.resume.proofs.resume.+body+declared+loop_part+par_parts+part+present_parts+resume+seq_parts+side+signal_rule+suspend_part+try_part.Lts-body as body-lts
-use Rattle.resume.proofs.resume.declared.Reads as declared
-use Rattle.resume.proofs.resume.declared.Kinds as declared-kinds
-use Rattle.resume.proofs.resume.+body+declared+loop_part+par_parts+part+present_parts+resume+seq_parts+side+signal_rule+suspend_part+try_part.Lts-declared as declared-lts
-use Rattle.resume.proofs.resume.loop_part.Reads as loop-part
-use Rattle.resume.proofs.resume.loop_part.Kinds as loop-part-kinds
-use Rattle.resume.proofs.resume.+body+declared+loop_part+par_parts+part+present_parts+resume+seq_parts+side+signal_rule+suspend_part+try_part.Lts-loop_part as loop-part-lts
-use Rattle.resume.proofs.resume.par_parts.Reads as par-parts
-use Rattle.resume.proofs.resume.par_parts.Kinds as par-parts-kinds
-use Rattle.resume.proofs.resume.+body+declared+loop_part+par_parts+part+present_parts+resume+seq_parts+side+signal_rule+suspend_part+try_part.Lts-par_parts as par-parts-lts
-use Rattle.resume.proofs.resume.part.Reads as part
-use Rattle.resume.proofs.resume.part.Kinds as part-kinds
-use Rattle.resume.proofs.resume.+body+declared+loop_part+par_parts+part+present_parts+resume+seq_parts+side+signal_rule+suspend_part+try_part.Lts-part as part-lts
-use Rattle.resume.proofs.resume.present_parts.Reads as present-parts
-use Rattle.resume.proofs.resume.present_parts.Kinds as present-parts-kinds
-use Rattle.resume.proofs.resume.+body+declared+loop_part+par_parts+part+present_parts+resume+seq_parts+side+signal_rule+suspend_part+try_part.Lts-present_parts as present-parts-lts
-use Rattle.resume.proofs.resume.resume.Reads as resume
-use Rattle.resume.proofs.resume.resume.Kinds as resume-kinds
-use Rattle.resume.proofs.resume.+body+declared+loop_part+par_parts+part+present_parts+resume+seq_parts+side+signal_rule+suspend_part+try_part.Lts-resume as resume-lts
-use Rattle.resume.proofs.resume.seq_parts.Reads as seq-parts
-use Rattle.resume.proofs.resume.seq_parts.Kinds as seq-parts-kinds
-use Rattle.resume.proofs.resume.+body+declared+loop_part+par_parts+part+present_parts+resume+seq_parts+side+signal_rule+suspend_part+try_part.Lts-seq_parts as seq-parts-lts
-use Rattle.resume.proofs.resume.side.Reads as side
-use Rattle.resume.proofs.resume.side.Kinds as side-kinds
-use Rattle.resume.proofs.resume.+body+declared+loop_part+par_parts+part+present_parts+resume+seq_parts+side+signal_rule+suspend_part+try_part.Lts-side as side-lts
-use Rattle.resume.proofs.resume.signal_rule.Reads as signal-rule
-use Rattle.resume.proofs.resume.signal_rule.Kinds as signal-rule-kinds
-use Rattle.resume.proofs.resume.+body+declared+loop_part+par_parts+part+present_parts+resume+seq_parts+side+signal_rule+suspend_part+try_part.Lts-signal_rule as signal-rule-lts
-use Rattle.resume.proofs.resume.suspend_part.Reads as suspend-part
-use Rattle.resume.proofs.resume.suspend_part.Kinds as suspend-part-kinds
-use Rattle.resume.proofs.resume.+body+declared+loop_part+par_parts+part+present_parts+resume+seq_parts+side+signal_rule+suspend_part+try_part.Lts-suspend_part as suspend-part-lts
-use Rattle.resume.proofs.resume.try_part.Reads as try-part
-use Rattle.resume.proofs.resume.try_part.Kinds as try-part-kinds
-use Rattle.resume.proofs.resume.+body+declared+loop_part+par_parts+part+present_parts+resume+seq_parts+side+signal_rule+suspend_part+try_part.Lts-try_part as try-part-lts
-use Rattle.react.proofs.react.after.Reads as after-reads
+use Rattle.resume.proofs.body.Reads as body
+use Rattle.resume.proofs.body.Kinds as body-kinds
+use Rattle.resume.proofs.+body+declared+loop_part+par_parts+part+present_parts+resume+seq_parts+side+signal_rule+suspend_part+try_part.Lts-body as body-lts
+use Rattle.resume.proofs.declared.Reads as declared
+use Rattle.resume.proofs.declared.Kinds as declared-kinds
+use Rattle.resume.proofs.+body+declared+loop_part+par_parts+part+present_parts+resume+seq_parts+side+signal_rule+suspend_part+try_part.Lts-declared as declared-lts
+use Rattle.resume.proofs.loop_part.Reads as loop-part
+use Rattle.resume.proofs.loop_part.Kinds as loop-part-kinds
+use Rattle.resume.proofs.+body+declared+loop_part+par_parts+part+present_parts+resume+seq_parts+side+signal_rule+suspend_part+try_part.Lts-loop_part as loop-part-lts
+use Rattle.resume.proofs.par_parts.Reads as par-parts
+use Rattle.resume.proofs.par_parts.Kinds as par-parts-kinds
+use Rattle.resume.proofs.+body+declared+loop_part+par_parts+part+present_parts+resume+seq_parts+side+signal_rule+suspend_part+try_part.Lts-par_parts as par-parts-lts
+use Rattle.resume.proofs.part.Reads as part
+use Rattle.resume.proofs.part.Kinds as part-kinds
+use Rattle.resume.proofs.+body+declared+loop_part+par_parts+part+present_parts+resume+seq_parts+side+signal_rule+suspend_part+try_part.Lts-part as part-lts
+use Rattle.resume.proofs.present_parts.Reads as present-parts
+use Rattle.resume.proofs.present_parts.Kinds as present-parts-kinds
+use Rattle.resume.proofs.+body+declared+loop_part+par_parts+part+present_parts+resume+seq_parts+side+signal_rule+suspend_part+try_part.Lts-present_parts as present-parts-lts
+use Rattle.resume.proofs.resume.Reads as resume
+use Rattle.resume.proofs.resume.Kinds as resume-kinds
+use Rattle.resume.proofs.+body+declared+loop_part+par_parts+part+present_parts+resume+seq_parts+side+signal_rule+suspend_part+try_part.Lts-resume as resume-lts
+use Rattle.resume.proofs.seq_parts.Reads as seq-parts
+use Rattle.resume.proofs.seq_parts.Kinds as seq-parts-kinds
+use Rattle.resume.proofs.+body+declared+loop_part+par_parts+part+present_parts+resume+seq_parts+side+signal_rule+suspend_part+try_part.Lts-seq_parts as seq-parts-lts
+use Rattle.resume.proofs.side.Reads as side
+use Rattle.resume.proofs.side.Kinds as side-kinds
+use Rattle.resume.proofs.+body+declared+loop_part+par_parts+part+present_parts+resume+seq_parts+side+signal_rule+suspend_part+try_part.Lts-side as side-lts
+use Rattle.resume.proofs.signal_rule.Reads as signal-rule
+use Rattle.resume.proofs.signal_rule.Kinds as signal-rule-kinds
+use Rattle.resume.proofs.+body+declared+loop_part+par_parts+part+present_parts+resume+seq_parts+side+signal_rule+suspend_part+try_part.Lts-signal_rule as signal-rule-lts
+use Rattle.resume.proofs.suspend_part.Reads as suspend-part
+use Rattle.resume.proofs.suspend_part.Kinds as suspend-part-kinds
+use Rattle.resume.proofs.+body+declared+loop_part+par_parts+part+present_parts+resume+seq_parts+side+signal_rule+suspend_part+try_part.Lts-suspend_part as suspend-part-lts
+use Rattle.resume.proofs.try_part.Reads as try-part
+use Rattle.resume.proofs.try_part.Kinds as try-part-kinds
+use Rattle.resume.proofs.+body+declared+loop_part+par_parts+part+present_parts+resume+seq_parts+side+signal_rule+suspend_part+try_part.Lts-try_part as try-part-lts
+use Rattle.react.proofs.after.Reads as after-reads
 use Rattle.reaction.proofs.ending.Reads as ending-reads
 use Rattle.rules.proofs.in_parallel.Reads as in-parallel-reads
 use Rattle.declarations.proofs.in_signal.Reads as in-signal-reads
@@ -79,10 +79,10 @@ use Rattle.signals.proofs.member.Reads as member-reads
 use Rattle.signals.proofs.single.Reads as single-reads
 use Rattle.signals.proofs.with.Reads as with-reads
 use Rattle.signals.proofs.without.Reads as without-reads
-use Rattle.resume.proofs.resume.+body+declared+loop_part+par_parts+part+present_parts+resume+seq_parts+side+signal_rule+suspend_part+try_part.{
+use Rattle.resume.proofs.+body+declared+loop_part+par_parts+part+present_parts+resume+seq_parts+side+signal_rule+suspend_part+try_part.{
   statement,
 }
-use Rattle.resume.proofs.resume.+body+declared+loop_part+par_parts+part+present_parts+resume+seq_parts+side+signal_rule+suspend_part+try_part.Tie.{
+use Rattle.resume.proofs.+body+declared+loop_part+par_parts+part+present_parts+resume+seq_parts+side+signal_rule+suspend_part+try_part.Tie.{
   close,
 }
 
