@@ -22,8 +22,8 @@ use Rattle.completions.specs.declared.Completion.the-variants.{Ended, Waiting, 
 use Rattle.reaction.specs.declared.Reaction.{Reaction}
 use Rattle.labels.specs.Labels.{labelSet}
 use Rattle.writing.specs.Written.{writtenBy, writtenFrom}
-use Rattle.demands.specs.Tick as Tick
-use Rattle.demands.specs.Tick.{Outcome, outcome}
+use Rattle.tick.specs.Tick as Tick
+use Rattle.tick.specs.Tick.{Outcome, outcome}
 use Rattle.demands.specs.Demands as demands
 use Rattle.demands.specs.Demands.{stateAfterwards}
 use Rattle.instants.specs.declared.Reply.the-variants.{Refused, Reacted}

@@ -11,7 +11,7 @@ use lib.Dec.{eqb}
 use borrow.Author.Tests.{eq-eqb, eqb-true, eqb-false}
 use Rattle.states.specs.StateRecord.{stateLength}
 use Rattle.answers.specs.AnswerRecord.{answerLength}
-use Rattle.demands.specs.Tick.{Outcome, outcome, tickBy, tickOf, replyOf}
+use Rattle.tick.specs.Tick.{Outcome, outcome, tickBy, tickOf, replyOf}
 use Rattle.demands.proofs.Sequence.{tick-short}
 use Rattle.reaction.specs.declared.Reaction.{Reaction}
 use Rattle.writing.specs.Written.{writtenFrom}

@@ -22,7 +22,7 @@ use Rattle.states.specs.StateRecord.{encodeState, decodeState}
 use Rattle.answers.specs.AnswerRecord.{encodeAnswer}
 use Rattle.parts.specs.Parts.{put, zeros}
 use Rattle.ledgers.specs.Ledgers.{totalIn, totalsBytes, wouldPass, addedBelow}
-use Rattle.demands.specs.Tick.{tickBy}
+use Rattle.tick.specs.Tick.{tickBy}
 use Rattle.recordings.specs.Record.{recordLength, panelOf}
 use Rattle.recordings.specs.Recording.{following}
 use Rattle.box_calls.specs.Stretch.{partOf, vacated, filled}

@@ -16,7 +16,7 @@ use Rattle.recordings.specs.Record.{recordLength, recordOf, panelLength, panelO
 use Rattle.recordings.specs.Recording.{following}
 use lib.ListN.{length}
 use Rattle.fillings.specs.Preview.{Previewed, previewed, previewOf}
-use Rattle.demands.specs.Tick.{Outcome, outcome, tickOf}
+use Rattle.tick.specs.Tick.{Outcome, outcome, tickOf}
 use Rattle.demands.specs.Deliveries.{deliveries}
 use Rattle.ledgers.specs.Ledgers as Ledgers
 use Rattle.ledgers.specs.Ledgers.{readingLength, passes, added, readingOf}

@@ -8,8 +8,8 @@ use mathlib.Core.List.{List, [], _∷_}
 use lib.ListN.{length}
 use lib.Dec.{eqb}
 use Rattle.recordings.specs.Record.{recordLength}
-use Rattle.demands.specs.Tick.{Outcome, outcome}
-use Rattle.demands.specs.Paper as Paper
+use Rattle.tick.specs.Tick.{Outcome, outcome}
+use Rattle.tick.specs.Paper as Paper
 use Rattle.box_calls.specs.Called.{Called, number, memoryAfter, lentAfter, first}
 use Rattle.box_calls.specs.Stretch.{stateIn}
 use Rattle.box_calls.specs.BayCalls.{delivering}

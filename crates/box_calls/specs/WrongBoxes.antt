@@ -4,7 +4,7 @@ use mathlib.Core.Bool.{cond}
 use mathlib.Core.List.{List, [], _∷_}
 use lib.Dec.{eqb}
 use Rattle.parts.specs.Parts.{put, zeros}
-use Rattle.demands.specs.Tick.{tickOf}
+use Rattle.tick.specs.Tick.{tickOf}
 use Rattle.box_calls.specs.Called.{Called, called, number}
 use Rattle.box_calls.specs.Stretch.{lengthBytes, sequenceIn, readBackIn, ceilingIn, stateIn}
 use Rattle.box_calls.specs.BayCalls.{stateKept, delivering, charged, recorded, bayAdmitOf}

@@ -12,7 +12,7 @@ use Rattle.litres.specs.Litres.{whole, within}
 use Rattle.ledgers.specs.Ledgers as Ledgers
 use Rattle.ledgers.specs.Ledgers.{farmCount, readingLength, fieldIn, totalIn, exactTotal, readingOf, totalRead}
 use Rattle.recordings.specs.Record.{recordLength}
-use Rattle.demands.specs.Tick.{tickOf}
+use Rattle.tick.specs.Tick.{tickOf}
 use Rattle.demands.specs.Demands as demands
 use Rattle.box_calls.specs.Called.{called, number, memoryAfter}
 use Rattle.box_calls.specs.Stretch.{lengthIn, sequenceIn, readBackIn, stateIn, ledgerIn, withLedger}

@@ -22,15 +22,15 @@ use Rattle.sequence.specs.Check.{Checked, sound, bad, checked}
 use Rattle.states.specs.StateRecord.{stateLength, Decoded, holds, malformed, decodeState}
 use Rattle.answers.specs.AnswerRecord.{answerLength}
 use Rattle.recordings.specs.Recording.{blank, tickOn, callOn}
-use Rattle.demands.specs.Tick as Tick
-use Rattle.demands.specs.Tick.{Outcome, outcome, tickBy, tickOf}
+use Rattle.tick.specs.Tick as Tick
+use Rattle.tick.specs.Tick.{Outcome, outcome, tickBy, tickOf}
 use Rattle.demands.specs.Deliveries as Deliveries
 use Rattle.demands.specs.Deliveries.{deliveredIf, deliveries, callDelivers, delivered, paperDelivered}
-use Rattle.demands.specs.TickRows.{TickRow}
+use Rattle.tick.specs.TickRows.{TickRow}
 use Rattle.demands.specs.Demands as demands
 use Rattle.demands.specs.Demands.{stateAfterwards, answerAfterwards, outcomes, cleared, report, StandsAt, Derived, Shows}
-use Rattle.demands.specs.Paper as Paper
-use Rattle.demands.specs.Paper.{paper}
+use Rattle.tick.specs.Paper as Paper
+use Rattle.tick.specs.Paper.{paper}
 use Rattle.demands.proofs.Sequence.{Accepted, accepted, same-statement, tick-at}
 use Rattle.demands.proofs.Agreement.{all-ticks, all-deliveries}
 use Rattle.demands.proofs.Demand2.{passed-check, state-sized, answer-sized}

@@ -24,7 +24,7 @@ use Rattle.parts.specs.Parts.{slot, put}
 use Rattle.parts.proofs.Parts.{put-slot, slot-put, put-before, put-behind}
 use Rattle.parts.proofs.Zeros.{zeros-number}
 use Rattle.ledgers.specs.Ledgers.{ledgerLength, passes, added}
-use Rattle.demands.specs.Tick.{Outcome, outcome, tickOf}
+use Rattle.tick.specs.Tick.{Outcome, outcome, tickOf}
 use Rattle.demands.specs.Demands as demands
 use Rattle.demands.specs.Demands.{stateAfterwards}
 use Rattle.demands.proofs.Sequence.{Accepted, accepted}

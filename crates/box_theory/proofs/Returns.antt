@@ -13,7 +13,7 @@ use Rattle.sequence.specs.Rows.{Spells}
 use Rattle.states.specs.StateRecord.{encodeState}
 use Rattle.states.proofs.StateLaws.{length-state}
 use Rattle.demands.specs.Demands.{report}
-use Rattle.demands.specs.Paper.{paper}
+use Rattle.tick.specs.Paper.{paper}
 use Rattle.demands.specs.Deliveries.{paperDelivered}
 use Rattle.recordings.specs.Recording.{callOn}
 use Rattle.demands.proofs.Sequence.{Accepted, same-statement}

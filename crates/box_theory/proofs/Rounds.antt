@@ -12,7 +12,7 @@ use borrow.Author.Tests.{eq-eqb, ne-eqb, eqb-true}
 use Rattle.sequence.specs.Check.{checked}
 use Rattle.sequence.specs.Ceilings.{ceilingOf}
 use Rattle.answers.specs.AnswerRecord.{reactionsIn}
-use Rattle.demands.specs.Tick.{Outcome, tickOf}
+use Rattle.tick.specs.Tick.{Outcome, tickOf}
 use Rattle.demands.specs.Demands as demands
 use Rattle.demands.specs.Demands.{answerAfterwards}
 use Rattle.demands.proofs.Ceiling.{never-above}

@@ -20,8 +20,8 @@ use Rattle.states.specs.StateRecord.{stateLength, encodeState, holds, Recorded}
 use Rattle.states.proofs.StateLaws.{length-state, decode-encode}
 use Rattle.answers.specs.AnswerRecord.{answerLength}
 use Rattle.parts.specs.Parts.{slot, put}
-use Rattle.demands.specs.Tick as Tick
-use Rattle.demands.specs.Tick.{Outcome, tickOf}
+use Rattle.tick.specs.Tick as Tick
+use Rattle.tick.specs.Tick.{Outcome, tickOf}
 use Rattle.demands.specs.Demands as demands
 use Rattle.demands.specs.Demands.{stateAfterwards, cleared}
 use Rattle.demands.proofs.Sequence.{Accepted, tick-at, tick-short, recorded-fresh, recorded-resumed}

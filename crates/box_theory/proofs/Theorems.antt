@@ -13,11 +13,11 @@ use Rattle.esterel.specs.Expansion.{expand}
 use Rattle.esterel.specs.Machines.{Rewriting}
 use Rattle.sequence.specs.Program.{program}
 use Rattle.sequence.specs.Rows.{Spells, ByRows}
-use Rattle.demands.specs.Tick.{Outcome, tickOf}
-use Rattle.demands.specs.TickRows.{TickRow}
+use Rattle.tick.specs.Tick.{Outcome, tickOf}
+use Rattle.tick.specs.TickRows.{TickRow}
 use Rattle.demands.specs.Demands as demands
 use Rattle.demands.specs.Demands.{outcomes, cleared, report, StandsAt, Derived, Shows}
-use Rattle.demands.specs.Paper.{paper}
+use Rattle.tick.specs.Paper.{paper}
 use Rattle.demands.specs.Deliveries.{paperDelivered}
 use Rattle.recordings.specs.Record.{recordLength, panelLength}
 use Rattle.recordings.specs.Recording.{callOn, recordingOf, joined, Inputs}

@@ -30,9 +30,9 @@ use Rattle.parts.specs.Parts.{slot, put}
 use Rattle.parts.proofs.Parts.{put-slot, length-put, slot-put, put-before, put-behind}
 use Rattle.ledgers.specs.Ledgers.{ledgerLength, passes, added}
 use Rattle.ledgers.proofs.Theorems.{added-sized}
-use Rattle.demands.specs.Tick as Tick
-use Rattle.demands.specs.Tick.{Outcome, outcome, byState, replied, tickBy, tickOf}
-use Rattle.demands.specs.TickRows.{TickRow, row-1, row-2-to-10, row-11, row-12}
+use Rattle.tick.specs.Tick as Tick
+use Rattle.tick.specs.Tick.{Outcome, outcome, byState, replied, tickBy, tickOf}
+use Rattle.tick.specs.TickRows.{TickRow, row-1, row-2-to-10, row-11, row-12}
 use Rattle.demands.specs.Demands as demands
 use Rattle.demands.specs.Demands.{stateAfterwards, answerAfterwards}
 use Rattle.demands.proofs.Sequence.{tick-short}

@@ -24,7 +24,7 @@ use Rattle.states.specs.StateRecord.{encodeState, decodeState}
 use Rattle.answers.specs.AnswerRecord.{encodeAnswer}
 use Rattle.parts.specs.Parts.{put, zeros}
 use Rattle.ledgers.specs.Ledgers.{totalIn, wouldPass, addedBelow}
-use Rattle.demands.specs.Tick.{tickBy}
+use Rattle.tick.specs.Tick.{tickBy}
 use Rattle.box_calls.specs.Called.{Called, memoryAfter}
 use Rattle.recordings.specs.Recording.{following}
 use Rattle.box_calls.specs.Stretch.{partOf, vacated, filled}

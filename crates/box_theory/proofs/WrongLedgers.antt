@@ -26,7 +26,7 @@ use Rattle.answers.specs.AnswerRecord.{encodeAnswer, answerLength}
 use Rattle.parts.specs.Parts.{put, zeros}
 use Rattle.positions.specs.Table.{place, lookup, saveOf, forgetOf}
 use Rattle.ledgers.specs.Ledgers.{totalIn, totalsBytes, wouldPass, addedBelow}
-use Rattle.demands.specs.Tick.{tickBy}
+use Rattle.tick.specs.Tick.{tickBy}
 use Rattle.recordings.specs.Record.{recordLength}
 use Rattle.recordings.specs.Recording.{following}
 use Rattle.box_calls.specs.Stretch.{partOf, vacated, filled}

@@ -27,7 +27,7 @@ use Rattle.positions.specs.Names as Names
 use Rattle.positions.specs.Names.{find, saveNamed}
 use Rattle.positions.specs.Table.{place, lookup, saveOf, forgetOf, namesBelow}
 use Rattle.ledgers.specs.Ledgers.{totalIn, wouldPass, addedBelow}
-use Rattle.demands.specs.Tick.{tickBy}
+use Rattle.tick.specs.Tick.{tickBy}
 use Rattle.recordings.specs.Recording.{following}
 use Rattle.box_calls.specs.Stretch.{stateIn, partOf, vacated, filled}
 use Rattle.box_calls.specs.BayCalls.{bayStepOf, bayChargedOf, bayTickOf, bayReleaseOf, bayAdmitOf, baySaveOf, bayForgetOf, bayRestoreOf}

@@ -29,8 +29,8 @@ use Rattle.numbers.proofs.Writing.{replaced-by}
 use Rattle.states.specs.StateRecord.{encodeState}
 use Rattle.states.proofs.StateLaws.{state-sized, length-state}
 use Rattle.answers.proofs.AnswerLaws.{answer-sized}
-use Rattle.demands.specs.Tick as tick
-use Rattle.demands.specs.Tick.{Outcome, outcome, written, replyOf, replied, tickBy}
+use Rattle.tick.specs.Tick as tick
+use Rattle.tick.specs.Tick.{Outcome, outcome, written, replyOf, replied, tickBy}
 use Rattle.demands.specs.Demands.{number, stateAfterwards}
 use Rattle.instants.specs.declared.Standing.the-variants as stands
 use Rattle.instants.specs.declared.Standing.{Standing}

@@ -37,7 +37,7 @@ use Rattle.numbers.specs.Bytes.{leBytes}
 use Rattle.numbers.proofs.Bytes.{le-round-trip}
 use Rattle.states.specs.StateRecord.{labelsIn, encodeState, holds, Recorded}
 use Rattle.states.proofs.StateLaws.{decode-encode}
-use Rattle.demands.specs.Tick.{reacts, byState, byCheck, replyOf}
+use Rattle.tick.specs.Tick.{reacts, byState, byCheck, replyOf}
 use Rattle.demands.proofs.Bounds.{Below, below-number, valid-below}
 use Rattle.demands.proofs.Sequence.{Accepted, accepted, recorded-fresh, recorded-resumed}
 use Rattle.instants.specs.declared.Standing.{Standing}

@@ -13,7 +13,7 @@ use Rattle.esterel.specs.Machines.{State}
 use Rattle.numbers.specs.Bytes.{leBytes}
 use Rattle.states.specs.StateRecord.{encodeState}
 use Rattle.states.proofs.StateLaws.{decode-encode}
-use Rattle.demands.specs.Tick.{Outcome}
+use Rattle.tick.specs.Tick.{Outcome}
 use Rattle.demands.specs.Demands.{number, stateAfterwards}
 use Rattle.recordings.specs.Record.{recordLength, inputIn}
 use Rattle.recordings.specs.Recording.{following, tickOn, recordFrom, recordsFrom}

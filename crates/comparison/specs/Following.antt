@@ -18,7 +18,7 @@ use Rattle.writing.specs.Written.{writtenFrom}
 use Rattle.instants.specs.declared.Standing.{Standing}
 use Rattle.instants.specs.declared.Standing.the-variants as stands
 use Rattle.instants.specs.Replies.{Decodes}
-use Rattle.demands.specs.Tick.{Outcome}
+use Rattle.tick.specs.Tick.{Outcome}
 use Rattle.demands.specs.Demands.{number, stateAfterwards}
 use Rattle.recordings.specs.Record.{inputIn}
 use Rattle.recordings.specs.Recording.{tickOn, recordFrom, recordsFrom}

@@ -26,8 +26,8 @@ use Rattle.sequence.specs.Rows.{Spells}
 use Rattle.numbers.specs.Bytes.{leBytes}
 use Rattle.states.specs.StateRecord.{stateLength, Decoded, holds, encodeState, phaseIn, Recorded}
 use Rattle.answers.specs.AnswerRecord.{answerLength}
-use Rattle.demands.specs.Tick.{Outcome, outcome, byState, replied, tickOf}
-use Rattle.demands.specs.Paper.{Call, Report, turnedDown, phaseOf, reportOf, paperTick, paper}
+use Rattle.tick.specs.Tick.{Outcome, outcome, byState, replied, tickOf}
+use Rattle.tick.specs.Paper.{Call, Report, turnedDown, phaseOf, reportOf, paperTick, paper}
 use Rattle.demands.specs.Demands.{stateAfterwards, outcomes, cleared, report, Demand3}
 use Rattle.demands.specs.Deliveries.{deliveredBy, deliveredIf, deliveries, callDelivers, delivered, paperDelivered}
 use Rattle.states.proofs.StateLaws.{length-state, decode-encode}

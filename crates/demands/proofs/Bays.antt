@@ -16,9 +16,9 @@ use Rattle.sequence.specs.Reader.{front, read}
 use Rattle.numbers.specs.Bytes.{leBytes, leNumber}
 use Rattle.states.specs.StateRecord.{encodeState, decodeState}
 use Rattle.answers.specs.AnswerRecord.{answerLength, encodeAnswer}
-use Rattle.demands.specs.Tick.{Outcome, outcome, tickOf}
+use Rattle.tick.specs.Tick.{Outcome, outcome, tickOf}
 use Rattle.demands.specs.Plain.{plainChecked, plainTick}
-use Rattle.demands.specs.Paper.{Call}
+use Rattle.tick.specs.Paper.{Call}
 use Rattle.demands.specs.Demands.{stateAfterwards, outcomes, cleared}
 use Rattle.demands.specs.Bays.{Bay, Shown, table, shownBy, instants, ShowsBay}
 use Rattle.demands.proofs.ReadBack.{plain-tick}

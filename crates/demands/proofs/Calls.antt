@@ -11,8 +11,8 @@ use Rattle.esterel.specs.Rules.{Reacts}
 use Rattle.sequence.specs.Program.{program}
 use Rattle.sequence.specs.Check.{checkOf}
 use Rattle.sequence.specs.Rows.{Spells}
-use Rattle.demands.specs.Tick.{Outcome, outcome, tickOf}
-use Rattle.demands.specs.Paper.{Call, paper}
+use Rattle.tick.specs.Tick.{Outcome, outcome, tickOf}
+use Rattle.tick.specs.Paper.{Call, paper}
 use Rattle.demands.specs.Demands.{number, outcomes, Admitted, StandsAt, Derived, Shows, TickMeets, Chain, done, call, report, cleared}
 use Rattle.demands.proofs.Agreement.{demand-3}
 use Rattle.demands.proofs.Demand1.{demand-1}

@@ -29,7 +29,7 @@ use Rattle.numbers.specs.Bytes.{leNumber}
 use Rattle.states.specs.StateRecord.{labelsIn}
 use Rattle.answers.specs.AnswerRecord.{answerLength, reactionsIn}
 use Rattle.answers.proofs.AnswerLaws.{reactions-field}
-use Rattle.demands.specs.Tick.{written, tickOf}
+use Rattle.tick.specs.Tick.{written, tickOf}
 use Rattle.demands.specs.Demands.{number, answerAfterwards, cleared, StandsAt, at-start, at-labels, TickMeets}
 use Rattle.demands.specs.Dearest.{hundredBytes}
 use Rattle.demands.proofs.Sequence.{same-statement, Accepted, accepted, term-ceiling}

@@ -10,9 +10,9 @@ use Rattle.esterel.specs.Rules.{Reacts}
 use Rattle.theory.proofs.Rules.{reacts-is}
 use Rattle.sequence.specs.Check.{checkOf}
 use Rattle.sequence.specs.Rows.{Row, ByRows}
-use Rattle.demands.specs.Tick.{Outcome, outcome, tickOf}
-use Rattle.demands.specs.TickRows.{TickRow}
-use Rattle.demands.specs.Paper.{Call}
+use Rattle.tick.specs.Tick.{Outcome, outcome, tickOf}
+use Rattle.tick.specs.TickRows.{TickRow}
+use Rattle.tick.specs.Paper.{Call}
 use Rattle.demands.specs.Demands.{Check, Tick, number, stateAfterwards, answerAfterwards, outcomes, cleared, report, Shows, Demand1, Demand2, Demand3}
 use Rattle.demands.proofs.Demand1.{demand-1}
 use Rattle.demands.proofs.Demand2.{demand-2, passed-check, state-sized, answer-sized}

@@ -20,9 +20,9 @@ use Rattle.sequence.proofs.Rows.{check-by-rows}
 use Rattle.numbers.specs.Bytes.{leNumber}
 use Rattle.states.specs.StateRecord.{stateLength, Decoded, encodeState, decodeState, phaseIn, labelsIn, Recorded}
 use Rattle.answers.specs.AnswerRecord.{answerLength}
-use Rattle.demands.specs.Tick.{Outcome, outcome, Reply, refused, reacts, byState, replyOf, replied, tickBy, tickOf}
-use Rattle.demands.specs.TickRows.{Malformed, phase-above, labels-fresh, labels-over, not-valid}
-use Rattle.demands.specs.Paper.{Call}
+use Rattle.tick.specs.Tick.{Outcome, outcome, Reply, refused, reacts, byState, replyOf, replied, tickBy, tickOf}
+use Rattle.tick.specs.TickRows.{Malformed, phase-above, labels-fresh, labels-over, not-valid}
+use Rattle.tick.specs.Paper.{Call}
 use Rattle.demands.specs.Demands.{number, stateAfterwards, outcomes, Admitted, Demand1, cleared}
 use Rattle.states.proofs.StateLaws.{length-state, decode-encode}
 use Rattle.demands.proofs.TickRows.{Reading, reads-fresh, reads-waiting, reads-over, reads-malformed, reading, well-formed, tick-by-rows}

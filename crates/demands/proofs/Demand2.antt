@@ -28,8 +28,8 @@ use Rattle.sequence.specs.Check.{checkOf}
 use Rattle.sequence.proofs.Rows.{check-by-rows}
 use Rattle.states.specs.StateRecord.{stateLength, Decoded, holds, decodeState, phaseIn, labelsIn}
 use Rattle.answers.specs.AnswerRecord.{answerLength, encodeAnswer, codeByte, kindIn, placeIn, reactionsIn}
-use Rattle.demands.specs.Tick.{written, tickBy, tickOf}
-use Rattle.demands.specs.TickRows.{TickRow, row-1, row-2-to-10, row-11, row-12}
+use Rattle.tick.specs.Tick.{written, tickBy, tickOf}
+use Rattle.tick.specs.TickRows.{TickRow, row-1, row-2-to-10, row-11, row-12}
 use Rattle.demands.specs.Demands.{number, StandsAt, at-start, at-labels, Derived, Shows, Demand2}
 use Rattle.answers.proofs.AnswerLaws.{code-field, kind-field, place-field, emitted-field, reactions-field, blameless, wrong-blame, answer-is, length-answer}
 use Rattle.demands.proofs.Bounds.{Below, Bounded, emitted-below, Exits, code-exits}

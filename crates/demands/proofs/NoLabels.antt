@@ -14,7 +14,7 @@ use Rattle.esterel.specs.Reactions.{reactions}
 use Rattle.esterel.specs.Machines.{Seen, instant, refused, seen, run, Rewriting, termAfter, byRewriting, erase}
 use Rattle.theory.proofs.Erasure.{erased-run}
 use Rattle.answers.specs.AnswerRecord.{answerLength}
-use Rattle.demands.specs.Paper.{Call, Report, turnedDown, phaseNumber, phaseOf, reportOf, paperTick, paper}
+use Rattle.tick.specs.Paper.{Call, Report, turnedDown, phaseNumber, phaseOf, reportOf, paperTick, paper}
 
 -- what is seen of a tick tells the phase after it
 abbrev phaseSeen : Seen → ℕ

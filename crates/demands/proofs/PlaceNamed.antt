@@ -7,7 +7,7 @@ use Rattle.esterel.specs.Errors.{Error}
 use Rattle.sequence.specs.Program.{program}
 use Rattle.states.specs.StateRecord.{labelsIn}
 use Rattle.answers.specs.AnswerRecord.{codeIn, kindIn, placeIn}
-use Rattle.demands.specs.Tick.{Outcome, tickOf}
+use Rattle.tick.specs.Tick.{Outcome, tickOf}
 use Rattle.demands.specs.Demands.{number, answerAfterwards, StandsAt, at-start, at-labels, TickMeets}
 use Rattle.demands.specs.PlaceNamed.{PlaceNamed}
 use Rattle.demands.proofs.ErrorPlaces.{AllErrors, errors-expand, first-holds}

@@ -23,7 +23,7 @@ use Rattle.sequence.specs.Check.{Checked, sound, bad, afterRead, checked, check
 use Rattle.sequence.proofs.Sound as reader
 use Rattle.states.specs.StateRecord.{stateLength, Decoded, holds, malformed, decodeState}
 use Rattle.answers.specs.AnswerRecord.{answerLength}
-use Rattle.demands.specs.Tick.{outcome, Reply, reacts, byState, byCheck, replyOf, replied, tickBy, tickOf}
+use Rattle.tick.specs.Tick.{outcome, Reply, reacts, byState, byCheck, replyOf, replied, tickBy, tickOf}
 use Rattle.demands.specs.Plain.{plainAfterRead, plainChecked, plainByCheck, plainTick, SameOutside}
 
 -- ---- an empty set

@@ -28,9 +28,9 @@ use Rattle.numbers.specs.Bytes.{leBytes, leNumber}
 use Rattle.states.proofs.StateLaws.{length-state}
 use Rattle.states.specs.StateRecord.{stateLength, labelsAt, phaseIn, labelsIn, encodeState, decodeState}
 use Rattle.answers.specs.AnswerRecord.{answerLength, encodeAnswer, codeIn}
-use Rattle.demands.specs.Tick.{Outcome, outcome, tickBy, tickOf}
-use Rattle.demands.specs.TickRows.{TickRow, row-1, row-2-to-10, row-11, row-12}
-use Rattle.demands.specs.Paper.{Call, Report, turnedDown, reacted, paper}
+use Rattle.tick.specs.Tick.{Outcome, outcome, tickBy, tickOf}
+use Rattle.tick.specs.TickRows.{TickRow, row-1, row-2-to-10, row-11, row-12}
+use Rattle.tick.specs.Paper.{Call, Report, turnedDown, reacted, paper}
 use Rattle.demands.specs.Demands.{Check, Tick, number, stateAfterwards, answerAfterwards, outcomes, report, Demand1, Demand2, Demand3, StandsAt, at-start, Shows, cleared}
 use Rattle.demands.specs.Replacements.{AllWrong, AllTurnedDown, AllEnded, LabelsLeft, FirstRepeated, OverToFresh, instead, everyWrong, turnsDown, alwaysEnds, leavesLabels, repeatsFirst, saysOver, appendsZero, countsNone}
 use Rattle.demands.proofs.Demand1.{demand-1}

@@ -12,8 +12,8 @@ use Rattle.esterel.specs.Machines.{shown, phaseAfter, seen, stateAfter}
 use Rattle.limits.specs.Limits.{signalCount, placeBytes, reactionsBytes}
 use Rattle.states.specs.StateRecord.{encodeState, phaseIn}
 use Rattle.answers.proofs.AnswerLaws.{code-field, kind-field, place-field, emitted-field, reactions-field}
-use Rattle.demands.specs.Tick.{written}
-use Rattle.demands.specs.Paper.{phaseNumber, reportOf}
+use Rattle.tick.specs.Tick.{written}
+use Rattle.tick.specs.Paper.{phaseNumber, reportOf}
 use Rattle.demands.specs.Demands.{report}
 use Rattle.demands.proofs.Bounds.{Below, below-number}
 

@@ -33,7 +33,7 @@ use Rattle.sequence.proofs.Source.{spells-source}
 use Rattle.sequence.proofs.Rows.{Decides, decided, row-range}
 use Rattle.states.specs.StateRecord.{stateLength, Decoded, decodeState, Recorded}
 use Rattle.answers.specs.AnswerRecord.{answerLength}
-use Rattle.demands.specs.Tick.{outcome, byState, replyOf, replied, tickBy, tickOf}
+use Rattle.tick.specs.Tick.{outcome, byState, replyOf, replied, tickBy, tickOf}
 use Rattle.demands.specs.PlaceNamed.{PlaceNamed, of-loop, of-signal, of-declaration}
 use Rattle.demands.proofs.Bounds.{Bounded, below-number, ranged-bounded, bounded-expand, bounded-declared, valid-below}
 use Rattle.demands.proofs.ErrorPlaces.{PlacesBelow, errors-expand}

@@ -24,8 +24,8 @@ use Rattle.sequence.specs.Program.{program}
 use Rattle.sequence.specs.Check.{Checked, sound, bad, checked, checkOf}
 use Rattle.states.specs.StateRecord.{stateLength, Decoded, holds, malformed, decodeState, encodeState}
 use Rattle.answers.specs.AnswerRecord.{answerLength, encodeAnswer, codeIn, codeByte}
-use Rattle.demands.specs.Tick.{Outcome, outcome, written, Reply, byState, byCheck, replyBy, replyOf, replied, tickBy, tickOf}
-use Rattle.demands.specs.Paper.{Call}
+use Rattle.tick.specs.Tick.{Outcome, outcome, written, Reply, byState, byCheck, replyBy, replyOf, replied, tickBy, tickOf}
+use Rattle.tick.specs.Paper.{Call}
 use Rattle.demands.specs.Demands.{number, stateAfterwards, answerAfterwards, outcomes, StandsAt, uncounted}
 use Rattle.demands.proofs.Bounds.{Exits, code-exits}
 use Rattle.demands.proofs.Sequence.{accepted}

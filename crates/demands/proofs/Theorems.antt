@@ -22,9 +22,9 @@ use Rattle.sequence.specs.Check.{numberOf, checked, checkOf}
 use Rattle.sequence.specs.Rows.{Spells}
 use Rattle.states.specs.StateRecord.{stateLength, encodeState}
 use Rattle.answers.specs.AnswerRecord.{answerLength, codeIn, kindIn, placeIn, reactionsIn}
-use Rattle.demands.specs.Tick.{Outcome, outcome, tickBy, tickOf}
+use Rattle.tick.specs.Tick.{Outcome, outcome, tickBy, tickOf}
 use Rattle.demands.specs.Deliveries.{delivered, paperDelivered}
-use Rattle.demands.specs.Paper.{Call, paper}
+use Rattle.tick.specs.Paper.{Call, paper}
 use Rattle.demands.specs.Demands.{Check, Tick, number, answerAfterwards, outcomes, cleared, report, Admitted, StandsAt, Derived, Shows, uncounted, Demand1, Demand2, Demand3, TickMeets, Chain}
 use Rattle.demands.specs.PlaceNamed.{PlaceNamed}
 use Rattle.demands.specs.Replacements as wrong

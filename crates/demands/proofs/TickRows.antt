@@ -22,8 +22,8 @@ use Rattle.sequence.proofs.ByRows.{rank-least, refused-by, accepted-by}
 use Rattle.sequence.proofs.Rows.{Decides, decided, row-range, row-rank}
 use Rattle.states.specs.StateRecord.{stateLength, Decoded, holds, malformed, decode, decodeState, phaseIn, labelsIn}
 use Rattle.answers.specs.AnswerRecord.{answerLength}
-use Rattle.demands.specs.Tick.{outcome, byState, byCheck, replyOf, replied, tickBy, tickOf}
-use Rattle.demands.specs.TickRows.{Malformed, phase-above, labels-fresh, labels-over, not-valid, TickRow, row-1, row-2-to-10, row-11, row-12}
+use Rattle.tick.specs.Tick.{outcome, byState, byCheck, replyOf, replied, tickBy, tickOf}
+use Rattle.tick.specs.TickRows.{Malformed, phase-above, labels-fresh, labels-over, not-valid, TickRow, row-1, row-2-to-10, row-11, row-12}
 use Rattle.demands.specs.Demands.{number}
 use Rattle.demands.proofs.Sequence.{same-statement}
 

@@ -7,7 +7,7 @@ use lib.ListN.{replicate}
 use Rattle.esterel.specs.Sets.{none}
 use Rattle.states.specs.StateRecord.{labelsIn}
 use Rattle.answers.specs.AnswerRecord.{codeIn, kindIn, placeIn, emittedIn}
-use Rattle.demands.specs.Tick.{Outcome}
+use Rattle.tick.specs.Tick.{Outcome}
 use Rattle.demands.specs.Demands.{Tick, number, stateAfterwards, answerAfterwards, outcomes, cleared}
 
 pub record Shown : Type 0 where

@@ -10,8 +10,8 @@ use Rattle.sequence.specs.Program.{program}
 use Rattle.sequence.specs.Check.{Checked, sound, bad, checked}
 use Rattle.states.specs.StateRecord.{stateLength, Decoded, holds, malformed, decodeState}
 use Rattle.answers.specs.AnswerRecord.{answerLength}
-use Rattle.demands.specs.Paper.{Call, paperTick}
-use Rattle.demands.specs.Tick.{tickOf}
+use Rattle.tick.specs.Paper.{Call, paperTick}
+use Rattle.tick.specs.Tick.{tickOf}
 use Rattle.demands.specs.Demands.{stateAfterwards}
 
 -- by what the state record holds, for the whole program p

@@ -19,9 +19,9 @@ use Rattle.sequence.specs.Program.{program}
 use Rattle.sequence.specs.Rows.{Spells, Row, ByRows}
 use Rattle.states.specs.StateRecord.{stateLength, phaseIn, labelsIn, encodeState}
 use Rattle.answers.specs.AnswerRecord.{reactionsAt, answerLength, answerRecord, codeIn, kindIn, placeIn, emittedIn, reactionsIn, codeByte}
-use Rattle.demands.specs.Tick.{Outcome, outcome, tickOf}
-use Rattle.demands.specs.TickRows.{Malformed, TickRow}
-use Rattle.demands.specs.Paper.{Call, Report, turnedDown, reacted, paper}
+use Rattle.tick.specs.Tick.{Outcome, outcome, tickOf}
+use Rattle.tick.specs.TickRows.{Malformed, TickRow}
+use Rattle.tick.specs.Paper.{Call, Report, turnedDown, reacted, paper}
 
 -- sequence, read-back set
 abbrev pub Check : Type 0

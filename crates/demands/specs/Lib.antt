@@ -1,7 +1,4 @@
-pub mod Tick
 pub mod Plain
-pub mod TickRows
-pub mod Paper
 pub mod Demands
 pub mod PlaceNamed
 pub mod Replacements

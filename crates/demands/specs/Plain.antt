@@ -14,7 +14,7 @@ use Rattle.sequence.specs.Program.{readBackSignals}
 use Rattle.sequence.specs.Check.{Checked, sound, bad, labelRules}
 use Rattle.states.specs.StateRecord.{stateLength, decodeState}
 use Rattle.answers.specs.AnswerRecord.{answerLength}
-use Rattle.demands.specs.Tick.{Outcome, outcome, Reply, refused, byState, replied}
+use Rattle.tick.specs.Tick.{Outcome, outcome, Reply, refused, byState, replied}
 
 abbrev pub plainAfterRead : ℕ → Read → Checked
 plainAfterRead n (Reader.refused number) = bad number

@@ -11,7 +11,7 @@ use Rattle.esterel.specs.Machines.{State}
 use Rattle.limits.specs.Limits.{reactionsBytes}
 use Rattle.states.specs.StateRecord.{labelsAt, encodeState, phaseIn, labelsIn}
 use Rattle.answers.specs.AnswerRecord.{reactionsAt, answerLength, codeIn}
-use Rattle.demands.specs.Tick.{Outcome, outcome, tickOf}
+use Rattle.tick.specs.Tick.{Outcome, outcome, tickOf}
 use Rattle.demands.specs.Demands.{Check, Tick, number, stateAfterwards, answerAfterwards, cleared}
 
 -- ---- the kinds

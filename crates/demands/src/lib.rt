@@ -1,1 +1,1 @@
-// One tick, the paper machine and the three demands: definitions in specs/, theorems in proofs/, no code.
+// The three demands of a tick: definitions in specs/, theorems in proofs/, no code.

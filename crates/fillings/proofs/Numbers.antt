@@ -24,7 +24,7 @@ use Rattle.sequence.specs.Rows.{rank}
 use Rattle.sequence.proofs.Rows.{Decides, decided, row-range, row-rank}
 use Rattle.states.specs.StateRecord.{stateLength, Decoded, holds, malformed, decodeState}
 use Rattle.answers.specs.AnswerRecord.{answerLength, encodeAnswer}
-use Rattle.demands.specs.Tick.{Reply, refused, reacts, written, byState, byCheck, replyOf, replied, tickBy, tickOf}
+use Rattle.tick.specs.Tick.{Reply, refused, reacts, written, byState, byCheck, replyOf, replied, tickBy, tickOf}
 use Rattle.demands.specs.Demands as demands
 use Rattle.demands.specs.Demands.{answerAfterwards}
 use Rattle.fillings.specs.Preview.{Previewed, previewed, number, bufferAfter, findings, previewBytes, previewLength, maxUnknown, shownBy, byReply, answerIn, answersOf, previewOf}

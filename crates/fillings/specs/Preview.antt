@@ -13,7 +13,7 @@ use Rattle.sets.specs.Sets.{Subset, common, difference, complement}
 use Rattle.sets.specs.Subsets.{subsetsBelow}
 use Rattle.numbers.specs.Bytes.{leBytes, leNumber}
 use Rattle.answers.specs.AnswerRecord.{codeIn, emittedIn, encodeAnswer}
-use Rattle.demands.specs.Tick.{Reply, refused, reacts, replyOf}
+use Rattle.tick.specs.Tick.{Reply, refused, reacts, replyOf}
 use Rattle.fillings.specs.declared.Findings.{Findings}
 
 -- ---- a filling is a subset of the unknown inputs: those of them that are present

@@ -35,8 +35,8 @@ use Rattle.reaction.specs.declared.Reaction.{Reaction}
 use Rattle.numbers.proofs.Bytes.{le-low}
 use Rattle.states.specs.StateRecord.{labelsIn, encodeState, Decoded, holds, malformed, decodeState}
 use Rattle.answers.specs.AnswerRecord.{encodeAnswer}
-use Rattle.demands.specs.Tick as tick
-use Rattle.demands.specs.Tick.{written, reacts, byState, byCheck, replyOf, replied}
+use Rattle.tick.specs.Tick as tick
+use Rattle.tick.specs.Tick.{written, reacts, byState, byCheck, replyOf, replied}
 use Rattle.instants.specs.declared.Standing.the-variants as stands
 use Rattle.instants.specs.declared.Reply.{Reply}
 use Rattle.instants.specs.declared.Reply.the-variants.{Refused, Reacted}

@@ -17,8 +17,8 @@ use Rattle.instants.specs.declared.Reply.the-variants.{Refused, Reacted}
 use Rattle.reaction.specs.Reactions.{reactionOf}
 use Rattle.writing.specs.Written.{Writable, writtenFrom}
 use Rattle.states.specs.StateRecord.{labelsIn, holds, malformed, decodeState}
-use Rattle.demands.specs.Tick as tick
-use Rattle.demands.specs.Tick.{Outcome, outcome, refused, reacts, replyOf}
+use Rattle.tick.specs.Tick as tick
+use Rattle.tick.specs.Tick.{Outcome, outcome, refused, reacts, replyOf}
 
 -- what the record holds for p; of a waiting machine also the ranks of its active pauses
 abbrev pub Decodes : Statement → List ℕ → Standing → Type 0

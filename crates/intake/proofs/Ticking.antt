@@ -7,7 +7,7 @@ use lib.ListN.{length}
 use borrow.Author.Tests.{eq-eqb, ne-eqb}
 use Rattle.states.specs.StateRecord.{stateLength}
 use Rattle.answers.specs.AnswerRecord.{answerLength}
-use Rattle.demands.specs.Tick.{outcome, replyOf, tickBy, tickOf}
+use Rattle.tick.specs.Tick.{outcome, replyOf, tickBy, tickOf}
 use Rattle.instants.specs.declared.Reply.{Reply}
 use Rattle.instants.specs.Replies.{repliedFrom, Replies}
 use Rattle.instants.proofs.Replying.{replied-from}

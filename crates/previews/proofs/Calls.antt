@@ -20,7 +20,7 @@ use Rattle.program.specs.declared.Start.the-variants.{Fresh, Waiting}
 use Rattle.program.specs.Program.{termAt}
 use Rattle.reaction.specs.Reactions.{reactionOf}
 use Rattle.writing.specs.Written.{writtenFrom}
-use Rattle.demands.specs.Tick.{reacts}
+use Rattle.tick.specs.Tick.{reacts}
 use Rattle.demands.specs.Demands.{answerAfterwards}
 use Rattle.instants.specs.declared.Standing.the-variants as stands
 use Rattle.instants.specs.declared.Reply.the-variants.{Refused, Reacted}

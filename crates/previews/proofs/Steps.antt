@@ -20,7 +20,7 @@ use Rattle.writing.specs.Written.{writtenBy, writtenFrom}
 use Rattle.numbers.specs.Bytes.{leBytes}
 use Rattle.numbers.proofs.Bytes.{le-round-trip}
 use Rattle.answers.specs.AnswerRecord.{answerRecord}
-use Rattle.demands.specs.Tick.{Outcome}
+use Rattle.tick.specs.Tick.{Outcome}
 use Rattle.demands.specs.Demands.{answerAfterwards}
 use Rattle.program.specs.declared.Start.{Start}
 use Rattle.program.specs.Program.{termAt}

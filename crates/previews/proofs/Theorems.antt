@@ -20,7 +20,7 @@ use Rattle.sets.proofs.Sizes.{size-is}
 use Rattle.sets.proofs.Counting.{subsets-few}
 use Rattle.states.specs.StateRecord.{stateLength}
 use Rattle.answers.specs.AnswerRecord.{answerLength, codeIn, emittedIn}
-use Rattle.demands.specs.Tick.{Outcome, refused, reacts, replyOf, tickOf}
+use Rattle.tick.specs.Tick.{Outcome, refused, reacts, replyOf, tickOf}
 use Rattle.demands.specs.Demands as demands
 use Rattle.demands.specs.Demands.{answerAfterwards}
 use Rattle.demands.specs.Plain.{SameOutside}

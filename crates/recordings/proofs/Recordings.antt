@@ -9,7 +9,7 @@ use lib.ListN.{getElem?}
 use lib.Dec.{eqb, ltb}
 use borrow.Author.Tests.{ltb-true, ltb-false}
 use Rattle.limits.specs.Limits.{lastNumber}
-use Rattle.demands.specs.Tick.{Outcome, tickOf}
+use Rattle.tick.specs.Tick.{Outcome, tickOf}
 use Rattle.demands.specs.Demands.{number, stateAfterwards, answerAfterwards, outcomes, cleared}
 use Rattle.recordings.specs.Record.{numberIn}
 use Rattle.recordings.specs.Recording.{following, tickOn, recordFrom, recordsFrom, recordingOf, callOn, recordsOf}

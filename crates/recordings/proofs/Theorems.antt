@@ -9,7 +9,7 @@ use lib.ListN.{length, getElem?}
 use Rattle.limits.specs.Limits.{signalBytes, numberBytes, lastNumber}
 use Rattle.states.specs.StateRecord.{stateLength}
 use Rattle.answers.specs.AnswerRecord.{answerLength}
-use Rattle.demands.specs.Tick.{tickOf}
+use Rattle.tick.specs.Tick.{tickOf}
 use Rattle.demands.specs.Demands.{outcomes, cleared}
 use Rattle.recordings.specs.Record.{recordLength, recordOf, numberIn, inputIn, answerIn, stateIn, panelLength, panelOf, Agree, Bytes}
 use Rattle.recordings.specs.Recording.{following, recordingOf, callOn, recordsOf}

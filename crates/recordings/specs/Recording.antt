@@ -6,8 +6,8 @@ use lib.ListN.{replicate}
 use lib.Dec.{eqb, ltb}
 use Rattle.limits.specs.Limits.{signalBytes, lastNumber}
 use Rattle.answers.specs.AnswerRecord.{answerLength}
-use Rattle.demands.specs.Tick.{Outcome, tickOf}
-use Rattle.demands.specs.Paper.{Call}
+use Rattle.tick.specs.Tick.{Outcome, tickOf}
+use Rattle.tick.specs.Paper.{Call}
 use Rattle.demands.specs.Demands.{number, stateAfterwards, answerAfterwards, cleared}
 use Rattle.recordings.specs.Record.{recordOf}
 

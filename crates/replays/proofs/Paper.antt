@@ -14,9 +14,9 @@ use Rattle.sequence.specs.Program.{program}
 use Rattle.sequence.specs.Check.{checkOf}
 use Rattle.sequence.specs.Rows.{Spells}
 use Rattle.states.specs.StateRecord.{stateLength}
-use Rattle.demands.specs.Tick.{Outcome, outcome, tickOf}
+use Rattle.tick.specs.Tick.{Outcome, outcome, tickOf}
 use Rattle.demands.specs.Demands.{number, stateAfterwards, outcomes, cleared, report}
-use Rattle.demands.specs.Paper.{Report, paper}
+use Rattle.tick.specs.Paper.{Report, paper}
 use Rattle.demands.proofs.Theorems.{demand-3}
 use Rattle.recordings.specs.Record.{inputIn}
 use Rattle.recordings.specs.Recording.{following, tickOn, recordFrom, recordsFrom, recordingOf, callOn}

@@ -17,8 +17,8 @@ use Rattle.states.specs.StateRecord.{stateLength, phaseIn}
 use Rattle.states.proofs.StateLaws.{length-state}
 use Rattle.answers.specs.AnswerRecord.{answerLength}
 use Rattle.answers.proofs.AnswerLaws.{length-answer}
-use Rattle.demands.specs.Tick.{Outcome, Reply, refused, reacts, written, replyOf, replied, tickBy}
-use Rattle.demands.specs.TickRows.{row-12}
+use Rattle.tick.specs.Tick.{Outcome, Reply, refused, reacts, written, replyOf, replied, tickBy}
+use Rattle.tick.specs.TickRows.{row-12}
 use Rattle.demands.specs.Demands.{number, stateAfterwards, answerAfterwards, cleared}
 use Rattle.demands.proofs.Theorems.{demand-1}
 use Rattle.recordings.specs.Record.{recordLength, inputIn, stateIn}

@@ -15,7 +15,7 @@ use Rattle.sequence.specs.Check.{checked, checkOf}
 use Rattle.numbers.specs.Bytes.{leBytes, leNumber}
 use Rattle.states.specs.StateRecord.{encodeState, decodeState}
 use Rattle.answers.specs.AnswerRecord.{encodeAnswer}
-use Rattle.demands.specs.Tick.{tickBy}
+use Rattle.tick.specs.Tick.{tickBy}
 use Rattle.recordings.specs.Recording.{following, recordsFrom}
 use Rattle.replays.specs.Replay.{firstRecords, same, firstDifference, placeOf, replayOf}
 use Rattle.replays.specs.Worked.{Case, cases}

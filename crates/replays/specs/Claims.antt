@@ -13,7 +13,7 @@ use Rattle.sequence.specs.Check.{checkOf}
 use Rattle.sequence.specs.Rows.{Spells}
 use Rattle.states.specs.StateRecord.{phaseIn}
 use Rattle.answers.specs.AnswerRecord.{codeIn, kindIn, placeIn, emittedIn, reactionsIn}
-use Rattle.demands.specs.Paper.{Report, reacted, paper}
+use Rattle.tick.specs.Paper.{Report, reacted, paper}
 use Rattle.recordings.specs.Record.{recordLength, answerIn, stateIn}
 use Rattle.recordings.specs.Recording.{recordingOf, callOn, joined, Inputs}
 use Rattle.replays.specs.Replay.{recordsIn, inputsIn, Replayed, replayed, number, place}

@@ -20,8 +20,8 @@ use Rattle.sequence.specs.Check.{checkOf}
 use Rattle.sequence.specs.Rows.{Spells}
 use Rattle.states.specs.StateRecord.{phaseIn}
 use Rattle.answers.specs.AnswerRecord.{answerLength, codeIn, kindIn, placeIn, emittedIn, codeByte}
-use Rattle.demands.specs.Tick.{Outcome, outcome, tickOf}
-use Rattle.demands.specs.Paper.{Call, Report, reacted, reportOf, paper}
+use Rattle.tick.specs.Tick.{Outcome, outcome, tickOf}
+use Rattle.tick.specs.Paper.{Call, Report, reacted, reportOf, paper}
 use Rattle.demands.specs.Demands.{stateAfterwards, cleared, report, outcomes}
 use Rattle.demands.proofs.Agreement.{demand-3}
 use Rattle.runs.specs.Text.{heading, ending}

@@ -7,7 +7,7 @@ use lib.Dec.{eqb}
 use Rattle.limits.specs.Limits.{signalBytes, labelBytes}
 use Rattle.states.specs.StateRecord.{phaseIn, labelsIn}
 use Rattle.answers.specs.AnswerRecord.{answerLength, codeIn, kindIn, placeIn, emittedIn}
-use Rattle.demands.specs.Tick.{Outcome, tickOf}
+use Rattle.tick.specs.Tick.{Outcome, tickOf}
 use Rattle.demands.specs.Demands.{stateAfterwards, answerAfterwards, cleared}
 use Rattle.runs.specs.Text.{numeral, space, newline, heading, ending, inputCut, refusal}
 use Rattle.runs.specs.File.{File, cut, refused, runs, fileOf}

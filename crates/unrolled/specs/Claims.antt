@@ -10,7 +10,7 @@ use Rattle.sequence.specs.Writer.{bytesOf, size}
 use Rattle.sequence.specs.Program.{program}
 use Rattle.sequence.specs.Check.{checkOf}
 use Rattle.sequence.specs.Rows.{Spells}
-use Rattle.demands.specs.Tick.{tickOf}
+use Rattle.tick.specs.Tick.{tickOf}
 use Rattle.unrolled.specs.Unrolled.{unrolled, resultOf}
 use Rattle.unrolled.specs.Runs.{SameUntilWrong, SameLitresUntilWrong, showsWrong}
 use Rattle.unrolled.specs.Entries.{Counting, OneRun, AtMostOnce}

@@ -9,8 +9,8 @@ use Rattle.esterel.specs.Reaction.{Code, isWrong}
 use Rattle.esterel.specs.Statement.{Statement}
 use Rattle.esterel.specs.Machines.{Seen, instant, State, byLabels, addsByLabels}
 use Rattle.answers.specs.AnswerRecord.{codeIn}
-use Rattle.demands.specs.Tick.{Outcome, outcome, tickOf}
-use Rattle.demands.specs.Paper.{Call}
+use Rattle.tick.specs.Tick.{Outcome, outcome, tickOf}
+use Rattle.tick.specs.Paper.{Call}
 use Rattle.demands.specs.Demands.{Tick, stateAfterwards, uncounted, outcomes, cleared}
 use Rattle.demands.specs.Deliveries.{delivered}
 

@@ -24,7 +24,7 @@ use Rattle.sequence.specs.Writer.{bytesOf, depthOf}
 use Rattle.sequence.specs.Check.{checked}
 use Rattle.states.specs.StateRecord.{decodeState, encodeState}
 use Rattle.answers.specs.AnswerRecord.{answerLength, encodeAnswer}
-use Rattle.demands.specs.Tick.{tickBy, tickOf}
+use Rattle.tick.specs.Tick.{tickBy, tickOf}
 use Rattle.demands.specs.Demands.{cleared}
 use Rattle.unrolled.specs.Unrolled.{copied, unrolled, placed, resultOf}
 use Rattle.unrolled.specs.Call.{unrolling, ofStatement, unrollOf}

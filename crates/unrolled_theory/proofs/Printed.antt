@@ -23,8 +23,8 @@ use Rattle.sequence.proofs.Rows.{Decides, decided}
 use Rattle.numbers.specs.Bytes.{leBytes, leNumber}
 use Rattle.states.specs.StateRecord.{decodeState, encodeState}
 use Rattle.answers.specs.AnswerRecord.{answerLength, codeIn, encodeAnswer}
-use Rattle.demands.specs.Tick.{Outcome, tickBy}
-use Rattle.demands.specs.Paper.{Call}
+use Rattle.tick.specs.Tick.{Outcome, tickBy}
+use Rattle.tick.specs.Paper.{Call}
 use Rattle.demands.specs.Demands.{answerAfterwards, outcomes}
 use Rattle.unrolled.specs.Unrolled.{copied, unrolled}
 use Rattle.unrolled.specs.Rows.{Fits}

@@ -17,7 +17,7 @@ use Rattle.sequence.specs.Writer.{bytesOf}
 use Rattle.sequence.specs.Program.{readBackSignals, program}
 use Rattle.sequence.specs.Check.{sound, checked, checkOf}
 use Rattle.sequence.specs.Rows.{Spells, ByRows}
-use Rattle.demands.specs.Tick.{tickBy, tickOf}
+use Rattle.tick.specs.Tick.{tickBy, tickOf}
 use Rattle.unrolled.specs.Unrolled.{unrolled, resultOf}
 use Rattle.unrolled.specs.Call.{unrolling, number, refused, unrollOf}
 use Rattle.unrolled.specs.Rows.{UnrollRow, Fits}

@@ -25,8 +25,8 @@ use Rattle.sequence.specs.Rows.{Spells}
 use Rattle.states.specs.StateRecord.{stateLength, Decoded, holds, encodeState, Recorded}
 use Rattle.states.proofs.StateLaws.{length-state, decode-encode}
 use Rattle.answers.specs.AnswerRecord.{answerLength, encodeAnswer}
-use Rattle.demands.specs.Tick.{Outcome, written, byState, replied, tickOf}
-use Rattle.demands.specs.Paper.{Call}
+use Rattle.tick.specs.Tick.{Outcome, written, byState, replied, tickOf}
+use Rattle.tick.specs.Paper.{Call}
 use Rattle.demands.specs.Demands.{stateAfterwards, outcomes, cleared, uncounted}
 use Rattle.demands.specs.Deliveries.{deliveredBy, deliveredIf, deliveries, callDelivers, delivered}
 use Rattle.demands.proofs.Sequence.{same-statement, Accepted, accepted, tick-at, tick-short, recorded-fresh, recorded-resumed}

@@ -7,7 +7,7 @@ use Rattle.completions.specs.declared.Completion.the-variants.{Ended, Waiting, 
 use Rattle.reaction.specs.declared.Reaction.{Reaction}
 use Rattle.states.specs.StateRecord.{stateRecord}
 use Rattle.answers.specs.AnswerRecord.{answerRecord}
-use Rattle.demands.specs.Tick.{Outcome, outcome}
+use Rattle.tick.specs.Tick.{Outcome, outcome}
 
 -- the code of the instant fits a byte
 abbrev pub WritableCode : Completion → Type 0

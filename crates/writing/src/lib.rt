@@ -3,7 +3,7 @@ ghost use mathlib.Core.Path.{_≡_};
 ghost use lib.ListN.{length};
 ghost use Rattle.states.specs.StateRecord.{stateLength};
 ghost use Rattle.answers.specs.AnswerRecord.{answerLength};
-ghost use Rattle.demands.specs.Tick.{outcome};
+ghost use Rattle.tick.specs.Tick.{outcome};
 ghost use Rattle.writing.specs.Written.{Writable, writtenFrom};
 use completions::Completion;
 use reaction::Reaction;

@@ -1,7 +1,7 @@
 use native.Mathlib.Omega.{arith}
 use mathlib.Core.Path.{refl, ap₂, subst}
 use Rattle.completions.specs.declared.Completion.the-variants.{Ended, Waiting, Leaving, Wrong}
-use Rattle.demands.specs.Tick.{outcome}
+use Rattle.tick.specs.Tick.{outcome}
 use Rattle.writing.specs.Written.{WritableCode}
 use Rattle.writing.proofs.Arms.{arm}
 use Rattle.states.proofs.Stores.{state-written}

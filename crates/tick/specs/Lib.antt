@@ -1,0 +1,4 @@
+pub mod Tick
+pub mod TickRows
+pub mod Paper
+pub mod Examples
