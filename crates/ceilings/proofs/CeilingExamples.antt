@@ -5,7 +5,8 @@ use Prim.Native.Nat.{ℕ}
 use Rattle.esterel.specs.Sets.{member, none, only, join}
 use Rattle.esterel.specs.ReadBack.{membersFrom, declaredBy}
 use Rattle.esterel.specs.LabelTests.{subset, disjoint, labelsOf, everyLabel, distinct, before, wellFormed}
-use Rattle.esterel.specs.Ceiling.{commands, loopNesting, signalNesting, ceiling}
+use Rattle.esterel.specs.Sizes.{commands, loopNesting, signalNesting}
+use Rattle.esterel.specs.Ceiling.{ceiling}
 use Rattle.sequence.specs.Commands.{commandOf}
 use Rattle.sequence.specs.Reader.{front, read}
 use Rattle.sequence.specs.Check.{checked}

@@ -7,7 +7,8 @@ use native.Mathlib.Nat.{mul-le-mul, one-mul}
 use lib.ListN.{length}
 use lib.Pow.{pow-mono, shl-exact}
 use Rattle.esterel.specs.Statement.{Statement}
-use Rattle.esterel.specs.Ceiling.{commands, loopNesting, signalNesting, ceiling}
+use Rattle.esterel.specs.Sizes.{commands, loopNesting, signalNesting}
+use Rattle.esterel.specs.Ceiling.{ceiling}
 use Rattle.theory.proofs.Ceiling.{commands-declared, loops-declared, nesting-declared}
 use Rattle.limits.specs.Limits.{maxBytes, maxDepth, maxSignals, readBackPlace}
 use Rattle.sequence.specs.Program.{readBackSignals, program}

@@ -14,7 +14,7 @@ use Rattle.reading.specs.declared.reader.Reading.the-variants.{Accepted, Refuse
 use Rattle.limits.specs.Limits.{maxDepth, maxSignals, readBackPlace}
 use Rattle.theory.proofs.Ceiling.{nesting-declared}
 use Rattle.sequence.specs.Reader.{Read, accepted, refused, readAll}
-use Rattle.esterel.specs.Ceiling.{signalNesting}
+use Rattle.esterel.specs.Sizes.{signalNesting}
 use Rattle.sequence.specs.Writer.{Written}
 use Rattle.sequence.specs.Program.{readBackSignals, program}
 use Rattle.layout.specs.Layout.{Lies}

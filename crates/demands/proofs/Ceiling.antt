@@ -10,7 +10,8 @@ use Rattle.esterel.specs.Statement.{Statement}
 use Rattle.esterel.specs.Reaction.{Reaction, gives, react, inheritanceFirst}
 use Rattle.esterel.specs.Errors.{Error, firstError}
 use Rattle.esterel.specs.Reactions.{reactions}
-use Rattle.esterel.specs.Ceiling.{commands, signalNesting, ceiling, LoopFree, tries, triesButOne, hundred, hundred-takes}
+use Rattle.esterel.specs.Sizes.{commands, signalNesting}
+use Rattle.esterel.specs.Ceiling.{ceiling, LoopFree, tries, triesButOne, hundred, hundred-takes}
 use Rattle.esterel.specs.LabelTests.{subset, disjoint, labelsOf, everyLabel, distinct, before, wellFormed}
 use Rattle.esterel.specs.ReadBack.{membersFrom, declaredBy}
 use Rattle.esterel.specs.Instants.{instant}

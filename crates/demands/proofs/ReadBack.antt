@@ -17,7 +17,7 @@ use Rattle.esterel.specs.ReadBack.{membersFrom, declaredBy, declared}
 use Rattle.theory.proofs.ReadBack.{members-none, expand-declared, declared-unread}
 use Rattle.limits.specs.Limits.{maxBytes, maxDepth, maxSignals, signalCount, readBackPlace}
 use Rattle.sequence.specs.Reader.{Read, accepted, refused, read}
-use Rattle.esterel.specs.Ceiling.{signalNesting}
+use Rattle.esterel.specs.Sizes.{signalNesting}
 use Rattle.sequence.specs.Program.{readBackSignals, program}
 use Rattle.sequence.specs.Check.{Checked, sound, bad, afterRead, checked, checkOf, numberOf}
 use Rattle.sequence.proofs.Sound as reader

@@ -17,7 +17,7 @@ use Rattle.esterel.specs.LabelTests.{subset, disjoint, labelsOf, everyLabel, di
 use Rattle.sequence.specs.Commands.{commandOf}
 use Rattle.esterel.specs.ReadBack.{membersFrom, declaredBy}
 use Rattle.sequence.specs.Reader.{front, read}
-use Rattle.esterel.specs.Ceiling.{signalNesting}
+use Rattle.esterel.specs.Sizes.{signalNesting}
 use Rattle.sequence.specs.Check.{checkOf, checked}
 use Rattle.sequence.specs.Rows.{Spells, rank}
 use Rattle.sequence.specs.Program.{program}

@@ -15,7 +15,8 @@ use Rattle.esterel.specs.States.{Valid, Distinct, Targeted, Source, WellFormed}
 use Rattle.esterel.specs.Expansion.{expand}
 use Rattle.esterel.specs.Errors.{Error}
 use Rattle.esterel.specs.Reactions.{reactions}
-use Rattle.esterel.specs.Ceiling.{commands, loopNesting, ceiling}
+use Rattle.esterel.specs.Sizes.{commands, loopNesting}
+use Rattle.esterel.specs.Ceiling.{ceiling}
 use Rattle.esterel.specs.Machines.{State, stateAfter, ReactionOf, of-statement, of-expansion, FromValid}
 use Rattle.theory.proofs.Theorems.{stable}
 use Rattle.limits.specs.Limits.{labelCount, maxBytes, maxDepth, maxSignals, placeBytes, reactionsBytes, readBackPlace}

@@ -12,7 +12,8 @@ use Rattle.esterel.specs.Statement.{Statement}
 use Rattle.esterel.specs.Reaction.{Code, gives, printed}
 use Rattle.esterel.specs.SignalOrders.{overlap}
 use Rattle.esterel.specs.Rules.{Reacts}
-use Rattle.esterel.specs.Ceiling.{commands, LoopFree, hundred}
+use Rattle.esterel.specs.Sizes.{commands}
+use Rattle.esterel.specs.Ceiling.{LoopFree, hundred}
 use Rattle.sequence.specs.Ceilings.{ceilingOf}
 use Rattle.esterel.specs.States.{NoSetpause, Valid}
 use Rattle.esterel.specs.Expansion.{expand}

@@ -1,5 +1,5 @@
 -- The ceiling on the number of reactions of an instant, and the dearest sequences without loops (02, item 6).
-use Prim.Native.Nat.{ℕ, zero, suc, _+_, _*_, _^_, max}
+use Prim.Native.Nat.{ℕ, zero, suc, _+_, _*_, _^_}
 use mathlib.Core.Path.{_≡_, refl}
 use mathlib.Core.List.{[], _∷_}
 use Rattle.esterel.specs.Sets.{member, none, only, join, insert, remove}
@@ -7,54 +7,7 @@ use Rattle.esterel.specs.Statement.{local, Statement, nothing, pause, em
 use Rattle.esterel.specs.Reaction.{reactBy}
 use Rattle.esterel.specs.Reactions.{reactionsBy, reactions}
 use Rattle.esterel.specs.ReadBack.{declaredBy, declared}
-
--- the number of commands
-unfoldable pub commands : Statement → ℕ
-commands nothing = 1
-commands (pause l) = 1
-commands (emit s v) = 1
-commands (exit n) = 1
-commands (seq p q) = 1 + commands p + commands q
-commands (par p q) = 1 + commands p + commands q
-commands (loop a p) = 1 + commands p
-commands (present s p q) = 1 + commands p + commands q
-commands (signal sc a s p) = 1 + commands p
-commands (try p) = 1 + commands p
-commands (setpause l) = 1
-commands (suspend s p) = 1 + commands p
-commands (held s K p) = 1 + commands p
-
--- the greatest number of loops around a command
-unfoldable pub loopNesting : Statement → ℕ
-loopNesting nothing = 0
-loopNesting (pause l) = 0
-loopNesting (emit s v) = 0
-loopNesting (exit n) = 0
-loopNesting (seq p q) = max (loopNesting p) (loopNesting q)
-loopNesting (par p q) = max (loopNesting p) (loopNesting q)
-loopNesting (loop a p) = 1 + loopNesting p
-loopNesting (present s p q) = max (loopNesting p) (loopNesting q)
-loopNesting (signal sc a s p) = loopNesting p
-loopNesting (try p) = loopNesting p
-loopNesting (setpause l) = 0
-loopNesting (suspend s p) = loopNesting p
-loopNesting (held s K p) = loopNesting p
-
--- the greatest number of signal commands around a command
-unfoldable pub signalNesting : Statement → ℕ
-signalNesting nothing = 0
-signalNesting (pause l) = 0
-signalNesting (emit s v) = 0
-signalNesting (exit n) = 0
-signalNesting (seq p q) = max (signalNesting p) (signalNesting q)
-signalNesting (par p q) = max (signalNesting p) (signalNesting q)
-signalNesting (loop a p) = signalNesting p
-signalNesting (present s p q) = max (signalNesting p) (signalNesting q)
-signalNesting (signal sc a s p) = 1 + signalNesting p
-signalNesting (try p) = signalNesting p
-signalNesting (setpause l) = 0
-signalNesting (suspend s p) = signalNesting p
-signalNesting (held s K p) = signalNesting p
+use Rattle.esterel.specs.Sizes.{commands, loopNesting, signalNesting}
 
 -- 02: 'commands, times one more than the greatest number of loops around a command, times two to the power of the greatest number
 -- of signals around one'

@@ -6,6 +6,7 @@ pub mod Errors
 pub mod Reactions
 pub mod Asked
 pub mod Litres
+pub mod Sizes
 pub mod Ceiling
 pub mod SignalOrders
 pub mod Places

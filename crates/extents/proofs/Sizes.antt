@@ -6,7 +6,7 @@ use mathlib.Core.List.{List}
 use native.Mathlib.Omega.{arith}
 use lib.ListN.{length, getD, length-drop, length-append}
 use Rattle.esterel.specs.Statement.{Statement, nothing, pause, emit, exit, seq, par, loop, present, signal, try, setpause, suspend, held}
-use Rattle.esterel.specs.Ceiling.{commands, loopNesting, signalNesting}
+use Rattle.esterel.specs.Sizes.{commands, loopNesting, signalNesting}
 use Rattle.sequence.specs.Commands.{Command, commandOf, operandsOf, partCount, headLength, build}
 use Rattle.numbers.specs.Bytes.{leBytes}
 use Rattle.sequence.specs.Writer.{bytesOf, size}

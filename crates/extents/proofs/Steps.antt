@@ -5,7 +5,7 @@ use mathlib.Core.List.{List}
 use native.Mathlib.Omega.{arith}
 use lib.ListN.{length, getD}
 use Rattle.esterel.specs.Statement.{local, Statement, nothing, pause, emit, exit, seq, par, loop, present, signal, try, setpause, suspend}
-use Rattle.esterel.specs.Ceiling.{commands, loopNesting, signalNesting}
+use Rattle.esterel.specs.Sizes.{commands, loopNesting, signalNesting}
 use Rattle.sequence.specs.Commands.{Command, partCount, headLength}
 use Rattle.sequence.proofs.Table.{byteOf}
 use Rattle.layout.specs.Layout.{rest, Parts, Lies, Ready, Pair}

@@ -3,7 +3,7 @@ use Prim.Native.Nat.{ℕ, _+_, _≤_, max}
 use mathlib.Core.Path.{_≡_}
 use mathlib.Core.List.{List}
 use Rattle.esterel.specs.Statement.{Statement, seq}
-use Rattle.esterel.specs.Ceiling.{commands, loopNesting, signalNesting}
+use Rattle.esterel.specs.Sizes.{commands, loopNesting, signalNesting}
 use Rattle.limits.specs.Limits.{maxBytes}
 use Rattle.layout.specs.Layout.{Two, Lies}
 use Rattle.extents.specs.declared.Extent.{Extent}

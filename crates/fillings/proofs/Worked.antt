@@ -6,7 +6,7 @@ use Rattle.esterel.specs.Reaction.{reactBy}
 use Rattle.esterel.specs.Errors.{errorsBy}
 use Rattle.esterel.specs.Reactions.{reactionsBy}
 use Rattle.esterel.specs.LabelTests.{subset, disjoint, labelsOf, everyLabel, distinct, before, wellFormed}
-use Rattle.esterel.specs.Ceiling.{signalNesting}
+use Rattle.esterel.specs.Sizes.{signalNesting}
 use Rattle.esterel.specs.ReadBack.{membersFrom, declaredBy}
 use Rattle.sets.specs.Sets.{common, difference, allBelow}
 use Rattle.sets.specs.Subsets.{subsetsBelow}

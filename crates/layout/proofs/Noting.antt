@@ -16,7 +16,7 @@ use Rattle.esterel.specs.Sets.{member, none, only, join, empty}
 use Rattle.esterel.specs.Statement.{Value, pure, litres, Statement, nothing, pause, emit, exit, seq, par, loop, present, signal, try, setpause, suspend, held}
 use Rattle.esterel.specs.LabelTests.{disjoint, labelsOf, pauses, setpauses, distinct}
 use Rattle.esterel.specs.Ranks.{pauseCount, rank}
-use Rattle.esterel.specs.Ceiling.{signalNesting}
+use Rattle.esterel.specs.Sizes.{signalNesting}
 use Rattle.theory.proofs.Booleans.{never, clash, Tested, tested}
 use Rattle.theory.proofs.Sets.{member-only, join-none-l, join-none-r}
 use Rattle.theory.proofs.LabelSets.{in-none, in-l, in-r, in-join, disjoint-is}

@@ -11,7 +11,7 @@ use Rattle.esterel.specs.Sets.{member, only, join, empty}
 use Rattle.esterel.specs.Statement.{Value, pure, litres, Statement, nothing, pause, emit, exit, seq, par, loop, present, signal, try, setpause, suspend, held}
 use Rattle.esterel.specs.LabelTests.{pauses, setpauses, distinct}
 use Rattle.esterel.specs.Ranks.{rank}
-use Rattle.esterel.specs.Ceiling.{signalNesting}
+use Rattle.esterel.specs.Sizes.{signalNesting}
 use Rattle.limits.specs.Limits.{labelCount, wordLabels}
 use Rattle.sets.specs.Sets.{setAt}
 use Rattle.farms.specs.Farms.{farmsOf}

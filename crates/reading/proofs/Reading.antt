@@ -7,7 +7,7 @@ use lib.ListN.{length, length-replicate}
 use Rattle.esterel.specs.Statement.{Statement}
 use Rattle.limits.specs.Limits.{maxBytes, maxDepth, maxSignals}
 use Rattle.sequence.specs.Reader.{Read, accepted, refused, read}
-use Rattle.esterel.specs.Ceiling.{signalNesting}
+use Rattle.esterel.specs.Sizes.{signalNesting}
 use Rattle.sequence.proofs.Refusals.{Small, Rowed, rowed}
 use Rattle.sequence.proofs.Sound.{sound, count-within}
 use Rattle.layout.specs.Layout.{rest, Marked}

@@ -6,7 +6,7 @@ use lib.ListN.{length}
 use Rattle.esterel.specs.Statement.{Statement}
 use Rattle.limits.specs.Limits.{maxBytes, maxSignals}
 use Rattle.sequence.specs.Reader.{Read, accepted, refused, readAll}
-use Rattle.esterel.specs.Ceiling.{signalNesting}
+use Rattle.esterel.specs.Sizes.{signalNesting}
 use Rattle.layout.specs.Layout.{Marked}
 use Rattle.layout.specs.Notes.{noNotes, note}
 use Rattle.reading.specs.declared.reader.Reading.{Reading}

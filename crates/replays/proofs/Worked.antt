@@ -7,7 +7,7 @@ use Rattle.esterel.specs.Errors.{errorsBy}
 use Rattle.esterel.specs.Reactions.{reactionsBy}
 use Rattle.esterel.specs.LabelTests.{subset, disjoint, labelsOf, everyLabel, distinct, before, wellFormed, valid}
 use Rattle.esterel.specs.Expansion.{expand}
-use Rattle.esterel.specs.Ceiling.{signalNesting}
+use Rattle.esterel.specs.Sizes.{signalNesting}
 use Rattle.esterel.specs.ReadBack.{membersFrom, declaredBy}
 use Rattle.sequence.specs.Commands.{commandOf}
 use Rattle.sequence.specs.Reader.{front, read}

@@ -12,7 +12,8 @@ use Rattle.esterel.specs.Statement.{pure, litres, local, reported, Statement, n
 use Rattle.limits.specs.Limits.{labelCount, signalCount, maxExit}
 use Rattle.sequence.specs.Commands.{Command, commandOf, operandsOf, partCount, inRange, litresFit, headLength, declares}
 use Rattle.sequence.specs.Reader.{accepted, lastPart, firstPart, readParts, read}
-use Rattle.sequence.specs.Writer.{bytesOf, size, depthOf, Within, PlacedAt}
+use Rattle.sequence.specs.Writer.{bytesOf, size, Within, PlacedAt}
+use Rattle.esterel.specs.Sizes.{depthOf}
 use Rattle.numbers.specs.Bytes.{leBytes}
 use Rattle.sequence.proofs.Amounts.{amount-written}
 use Rattle.sequence.proofs.Front.{Fronted, Fronts, front-is}

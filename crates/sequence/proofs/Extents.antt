@@ -7,12 +7,12 @@ use mathlib.Core.Path.{_≡_, refl, sym, _∙_, subst}
 use mathlib.Core.List.{List, [], append-nil}
 use lib.ListN.{length-append}
 use Rattle.esterel.specs.Statement.{pure, litres, Statement, nothing, pause, emit, exit, seq, par, loop, present, signal, try, setpause, suspend, held}
-use Rattle.esterel.specs.Ceiling.{commands, loopNesting, signalNesting}
+use Rattle.esterel.specs.Sizes.{commands, loopNesting, signalNesting, depthOf}
 use Rattle.limits.specs.Limits.{maxDepth, maxSignals}
 use Rattle.sequence.specs.Program.{program}
 use Rattle.sequence.specs.Check.{sound, checked}
 use Rattle.sequence.specs.Rows.{row-6}
-use Rattle.sequence.specs.Writer.{bytesOf, size, depthOf, Ranged, Written}
+use Rattle.sequence.specs.Writer.{bytesOf, size, Ranged, Written}
 use Rattle.sequence.proofs.Rows.{Decides, decided}
 
 pub extent : (p : Statement) → Ranged p → (commands p ≤ size p) × (loopNesting p < depthOf p)

@@ -17,7 +17,7 @@ use Rattle.theory.proofs.LabelTests.{distinct-is, targeted-is, wellFormed-is}
 use Rattle.limits.specs.Limits.{maxBytes, maxDepth, maxSignals}
 use Rattle.sequence.specs.Commands.{declares}
 use Rattle.sequence.specs.Reader.{Read, accepted, refused, Front, command, front, read}
-use Rattle.esterel.specs.Ceiling.{signalNesting}
+use Rattle.esterel.specs.Sizes.{signalNesting}
 use Rattle.sequence.specs.Program.{program}
 use Rattle.sequence.specs.Writer.{Written}
 use Rattle.sequence.specs.Check.{Checked, sound, bad, labelRules, afterRead, checked, numberOf, checkOf}

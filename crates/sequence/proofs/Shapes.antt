@@ -7,8 +7,8 @@ use native.Mathlib.Omega.{arith}
 use lib.ListN.{length}
 use Rattle.esterel.specs.Statement.{local, Statement, seq, par, loop, present, signal, try, suspend}
 use Rattle.limits.specs.Limits.{signalCount}
-use Rattle.esterel.specs.Ceiling.{signalNesting}
-use Rattle.sequence.specs.Writer.{bytesOf, size, depthOf, Ranged, PlacedAt}
+use Rattle.esterel.specs.Sizes.{signalNesting, depthOf}
+use Rattle.sequence.specs.Writer.{bytesOf, size, Ranged, PlacedAt}
 
 pub record OnePart (h : List ℕ) (a declared : ℕ) (f : Statement → Statement) : Type 0 where
   pub bytes : (p : Statement) → bytesOf (f p) ≡ h ++ bytesOf p

@@ -12,8 +12,8 @@ use Rattle.esterel.specs.Statement.{local, pure, litres, Statement, nothing, pa
 use Rattle.limits.specs.Limits.{labelCount, signalCount, maxExit}
 use Rattle.sequence.specs.Commands.{Command, partCount, bytesAt, operandsOf, inRange, litresFit, headLength, declares, build}
 use Rattle.sequence.specs.Reader.{accepted, read}
-use Rattle.esterel.specs.Ceiling.{signalNesting}
-use Rattle.sequence.specs.Writer.{bytesOf, depthOf, Ranged, PlacedAt, Written}
+use Rattle.esterel.specs.Sizes.{signalNesting, depthOf}
+use Rattle.sequence.specs.Writer.{bytesOf, Ranged, PlacedAt, Written}
 use Rattle.sequence.specs.Amounts.{amountIn}
 use Rattle.sequence.proofs.Amounts.{amount-read}
 use Rattle.sequence.proofs.Table.{byteOf, leaves, ones, twos}

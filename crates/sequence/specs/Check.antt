@@ -9,7 +9,7 @@ use Rattle.esterel.specs.Statement.{Statement}
 use Rattle.esterel.specs.LabelTests.{distinct, targeted, wellFormed}
 use Rattle.limits.specs.Limits.{maxBytes, maxSignals}
 use Rattle.sequence.specs.Reader.{Read, accepted, refused, readAll}
-use Rattle.esterel.specs.Ceiling.{signalNesting}
+use Rattle.esterel.specs.Sizes.{signalNesting}
 use Rattle.sequence.specs.Program.{program}
 
 pub data Checked : Type 0 where

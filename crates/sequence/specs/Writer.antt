@@ -7,7 +7,7 @@ use Rattle.esterel.specs.Statement.{local, pure, litres, Statement, nothing, pa
 use Rattle.limits.specs.Limits.{labelCount, signalCount, maxExit, litresLimit}
 use Rattle.esterel.specs.Litres.{amount}
 use Rattle.sequence.specs.Amounts.{amountBytes}
-use Rattle.esterel.specs.Ceiling.{signalNesting}
+use Rattle.esterel.specs.Sizes.{signalNesting, depthOf}
 
 -- no bytes spell a held suspend (02)
 unfoldable pub bytesOf : Statement → List ℕ
@@ -29,22 +29,6 @@ bytesOf (held s K p) = []
 -- the bytes of a statement, counted
 abbrev pub size : Statement → ℕ
 size p = length (bytesOf p)
-
--- the greatest depth of a command; the outermost has depth 1
-unfoldable pub depthOf : Statement → ℕ
-depthOf nothing = 1
-depthOf (pause l) = 1
-depthOf (emit s v) = 1
-depthOf (exit n) = 1
-depthOf (seq p q) = 1 + max (depthOf p) (depthOf q)
-depthOf (par p q) = 1 + max (depthOf p) (depthOf q)
-depthOf (loop a p) = 1 + depthOf p
-depthOf (present s p q) = 1 + max (depthOf p) (depthOf q)
-depthOf (signal sc a s p) = 1 + depthOf p
-depthOf (try p) = 1 + depthOf p
-depthOf (setpause l) = 1
-depthOf (suspend s p) = 1 + depthOf p
-depthOf (held s K p) = 1
 
 -- signals are 0 to 31, labels 0 to 127, exits 1 to 15, litres 0 to 16,777,216; no held suspend, and no signal that is reported
 abbrev pub Ranged : Statement → Type 0

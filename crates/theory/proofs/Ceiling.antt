@@ -13,7 +13,8 @@ use Rattle.esterel.specs.States.{active}
 use Rattle.esterel.specs.LabelTests.{activeLabels}
 use Rattle.esterel.specs.Expansion.{expand, ifActive}
 use Rattle.esterel.specs.Reactions.{reactionsBy, reactions}
-use Rattle.esterel.specs.Ceiling.{commands, loopNesting, signalNesting, ceiling}
+use Rattle.esterel.specs.Sizes.{commands, loopNesting, signalNesting}
+use Rattle.esterel.specs.Ceiling.{ceiling}
 use Rattle.esterel.specs.ReadBack.{declaredBy, declared}
 use Rattle.theory.proofs.Reactions.{if-ended, either, some-reaction}
 

@@ -12,7 +12,8 @@ use Rattle.esterel.specs.States.{active}
 use Rattle.esterel.specs.LabelTests.{activeLabels}
 use Rattle.esterel.specs.Expansion.{expand, ifActive}
 use Rattle.esterel.specs.Reactions.{reactionsBy, reactions}
-use Rattle.esterel.specs.Ceiling.{commands, signalNesting, LoopFree, dearest, tries, triesButOne, hundred, hundred-takes}
+use Rattle.esterel.specs.Sizes.{commands, signalNesting}
+use Rattle.esterel.specs.Ceiling.{LoopFree, dearest, tries, triesButOne, hundred, hundred-takes}
 use Rattle.theory.proofs.Reactions.{if-ended, either, some-command}
 use Rattle.theory.proofs.Ceiling.{chosen}
 

@@ -13,7 +13,7 @@ use Rattle.esterel.specs.Rules.{ReactsBy}
 use Rattle.esterel.specs.Errors.{ifEnded}
 use Rattle.esterel.specs.Reactions.{reactionsBy, reactions, rulesUsed}
 use Rattle.esterel.specs.SignalOrders.{overlaps, overlap}
-use Rattle.esterel.specs.Ceiling.{commands}
+use Rattle.esterel.specs.Sizes.{commands}
 use Rattle.theory.proofs.Booleans.{or-first, or-second, never, clash}
 use Rattle.theory.proofs.Rules.{sound}
 use Rattle.theory.proofs.SignalOrders.{unchanged, overlap-wrong}

@@ -15,7 +15,8 @@ use Rattle.esterel.specs.Asked.{askedBy, asked, asks}
 use Rattle.esterel.specs.Litres.{AtMost, deliveredBy, delivered, delivers}
 use Rattle.esterel.specs.SignalOrders.{overlap}
 use Rattle.esterel.specs.Rules.{ReactsBy, Reacts}
-use Rattle.esterel.specs.Ceiling.{commands, signalNesting, ceiling, LoopFree, dearest}
+use Rattle.esterel.specs.Sizes.{commands, signalNesting}
+use Rattle.esterel.specs.Ceiling.{ceiling, LoopFree, dearest}
 use Rattle.esterel.specs.States.{Holds, active, Awake, Stops, Valid, Distinct, Targeted, NoSetpause, Source, WellFormed}
 use Rattle.esterel.specs.Expansion.{expand, Expands, clause}
 use Rattle.esterel.specs.LabelTests.{activeLabels}

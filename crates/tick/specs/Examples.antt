@@ -12,7 +12,7 @@ use Rattle.esterel.specs.LabelTests.{subset, disjoint, labelsOf, activeLabels, 
 use Rattle.esterel.specs.States.{active}
 use Rattle.esterel.specs.Expansion.{expand}
 use Rattle.esterel.specs.ReadBack.{membersFrom, declaredBy}
-use Rattle.esterel.specs.Ceiling.{signalNesting}
+use Rattle.esterel.specs.Sizes.{signalNesting}
 use Rattle.esterel.specs.Machines.{Rewriting}
 use Rattle.sequence.specs.Commands.{commandOf}
 use Rattle.sequence.specs.Reader.{front, read}

@@ -8,7 +8,8 @@ use Rattle.esterel.specs.Sets.{empty}
 use Rattle.esterel.specs.Statement.{Statement}
 use Rattle.esterel.specs.LabelTests.{setpauses}
 use Rattle.limits.specs.Limits.{maxBytes, maxDepth}
-use Rattle.sequence.specs.Writer.{bytesOf, size, depthOf}
+use Rattle.sequence.specs.Writer.{bytesOf, size}
+use Rattle.esterel.specs.Sizes.{depthOf}
 use Rattle.sequence.specs.Check.{Checked, sound, bad, checked}
 use Rattle.unrolled.specs.Unrolled.{unrolled}
 

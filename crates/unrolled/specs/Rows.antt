@@ -6,7 +6,8 @@ use lib.ListN.{length}
 use Rattle.esterel.specs.Statement.{Statement}
 use Rattle.esterel.specs.States.{NoSetpause}
 use Rattle.limits.specs.Limits.{maxBytes, maxDepth}
-use Rattle.sequence.specs.Writer.{size, depthOf}
+use Rattle.sequence.specs.Writer.{size}
+use Rattle.esterel.specs.Sizes.{depthOf}
 use Rattle.sequence.specs.Rows.{Spells, Row}
 use Rattle.unrolled.specs.Unrolled.{unrolled}
 

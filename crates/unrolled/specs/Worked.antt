@@ -13,14 +13,14 @@ use Rattle.esterel.specs.Errors.{errorsBy}
 use Rattle.esterel.specs.Reactions.{reactionsBy}
 use Rattle.esterel.specs.States.{active}
 use Rattle.esterel.specs.LabelTests.{subset, disjoint, labelsOf, activeLabels, everyLabel, distinct, before, wellFormed}
-use Rattle.esterel.specs.Ceiling.{signalNesting}
+use Rattle.esterel.specs.Sizes.{signalNesting, depthOf}
 use Rattle.esterel.specs.ReadBack.{membersFrom, declaredBy}
 use Rattle.esterel.specs.Expansion.{expand}
 use Rattle.esterel.specs.Machines.{State}
 use Rattle.numbers.specs.Bytes.{leBytes, leNumber}
 use Rattle.sequence.specs.Commands.{commandOf}
 use Rattle.sequence.specs.Reader.{front, read}
-use Rattle.sequence.specs.Writer.{bytesOf, depthOf}
+use Rattle.sequence.specs.Writer.{bytesOf}
 use Rattle.sequence.specs.Check.{checked}
 use Rattle.states.specs.StateRecord.{decodeState, encodeState}
 use Rattle.answers.specs.AnswerRecord.{answerLength, encodeAnswer}

@@ -7,7 +7,8 @@ use lib.ListN.{length, getD, length-append}
 use Rattle.esterel.specs.Statement.{local, litres, Statement, nothing, pause, emit, exit, seq, par, loop, present, signal, try, setpause, suspend, held}
 use Rattle.numbers.specs.Bytes.{leBytes}
 use Rattle.sequence.specs.Commands.{Command}
-use Rattle.sequence.specs.Writer.{bytesOf, size, depthOf}
+use Rattle.sequence.specs.Writer.{bytesOf, size}
+use Rattle.esterel.specs.Sizes.{depthOf}
 use Rattle.sequence.proofs.Table.{byteOf}
 use Rattle.layout.specs.Layout.{Lies, Ready}
 use Rattle.layout.proofs.Laid.{taken-apart, command}

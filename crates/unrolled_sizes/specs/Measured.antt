@@ -5,7 +5,8 @@ use mathlib.Core.Path.{_≡_}
 use mathlib.Core.List.{List}
 use Rattle.esterel.specs.Statement.{Statement}
 use Rattle.limits.specs.Limits.{maxBytes, maxDepth}
-use Rattle.sequence.specs.Writer.{size, depthOf}
+use Rattle.sequence.specs.Writer.{size}
+use Rattle.esterel.specs.Sizes.{depthOf}
 use Rattle.layout.specs.Layout.{Two, Lies}
 use Rattle.unrolled.specs.Unrolled.{copied, unrolled}
 use Rattle.unrolled_sizes.specs.declared.Sizes.{Sizes}

@@ -6,7 +6,7 @@ use mathlib.Core.Bool.{Bool, true, false, cond}
 use native.Mathlib.Omega.{arith}
 use Rattle.esterel.specs.Sets.{member, none, join}
 use Rattle.esterel.specs.Statement.{Statement, pause, setpause}
-use Rattle.esterel.specs.Ceiling.{signalNesting}
+use Rattle.esterel.specs.Sizes.{signalNesting}
 use Rattle.esterel.specs.States.{Holds, Valid, Distinct, Targeted, NoSetpause, WellFormed}
 use Rattle.esterel.specs.LabelTests.{labelsOf, pauses, setpauses, triggers, distinct, targeted, ifMember, before, exclusiveWith, concurrentWith, exclusive, wellFormed, valid}
 use Rattle.theory.proofs.Sets.{join-none-l, join-self}

@@ -12,11 +12,11 @@ use Rattle.esterel.specs.Errors.{errorsBy}
 use Rattle.esterel.specs.Reactions.{reactionsBy}
 use Rattle.esterel.specs.States.{NoSetpause}
 use Rattle.esterel.specs.LabelTests.{subset, disjoint, labelsOf, everyLabel, distinct, before, wellFormed}
-use Rattle.esterel.specs.Ceiling.{signalNesting}
+use Rattle.esterel.specs.Sizes.{signalNesting, depthOf}
 use Rattle.esterel.specs.ReadBack.{membersFrom, declaredBy}
 use Rattle.sequence.specs.Commands.{commandOf}
 use Rattle.sequence.specs.Reader.{front, read}
-use Rattle.sequence.specs.Writer.{bytesOf, depthOf}
+use Rattle.sequence.specs.Writer.{bytesOf}
 use Rattle.sequence.specs.Check.{sound, checked, numberOf, checkOf}
 use Rattle.sequence.specs.Rows.{Spells}
 use Rattle.sequence.proofs.Rows.{Decides, decided}

@@ -16,7 +16,8 @@ use Rattle.theory.proofs.Booleans.{clash, Tested, tested}
 use Rattle.theory.proofs.LabelSets.{in-none, some-member}
 use Rattle.theory.proofs.LabelTests.{setpauses-is}
 use Rattle.limits.specs.Limits.{maxBytes, maxDepth}
-use Rattle.sequence.specs.Writer.{bytesOf, size, depthOf}
+use Rattle.sequence.specs.Writer.{bytesOf, size}
+use Rattle.esterel.specs.Sizes.{depthOf}
 use Rattle.sequence.specs.Check.{Checked, sound, bad, checked}
 use Rattle.sequence.specs.Rows.{rank, ByRows}
 use Rattle.sequence.proofs.ByRows.{rank-least, refused-by, accepted-by}

@@ -9,7 +9,7 @@ use Rattle.esterel.specs.Places.{Place, At}
 use Rattle.esterel.specs.Reaction.{printed}
 use Rattle.esterel.specs.Reactions.{reactions}
 use Rattle.esterel.specs.Expansion.{expand}
-use Rattle.esterel.specs.Ceiling.{signalNesting}
+use Rattle.esterel.specs.Sizes.{signalNesting}
 use Rattle.esterel.specs.States.{active, Valid, Distinct, Targeted, NoSetpause, WellFormed}
 use Rattle.esterel.specs.Machines.{State, byLabels}
 use Rattle.limits.specs.Limits.{readBackPlace}

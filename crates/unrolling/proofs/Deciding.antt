@@ -13,7 +13,8 @@ use Rattle.esterel.specs.Statement.{Statement}
 use Rattle.esterel.specs.LabelTests.{setpauses}
 use Rattle.theory.proofs.Booleans.{and-false}
 use Rattle.limits.specs.Limits.{maxBytes, maxDepth}
-use Rattle.sequence.specs.Writer.{bytesOf, size, depthOf}
+use Rattle.sequence.specs.Writer.{bytesOf, size}
+use Rattle.esterel.specs.Sizes.{depthOf}
 use Rattle.sequence.specs.Check.{Checked, sound, bad, checked, numberOf, checkOf}
 use Rattle.sequence.proofs.Rows.{Decides, decided, row-range}
 use Rattle.layout.specs.Layout.{Ready}
