@@ -10,8 +10,8 @@ use Rattle.runs.specs.Stages as Listing
 use Rattle.stages.specs.declared.Stage.{Stage}
 use Rattle.stages.specs.declared.Run.{Run}
 use Rattle.stages.specs.Answers.{stageBy, stageIn}
-use Rattle.opening.specs.declared.Opened.{Opened}
-use Rattle.opening.specs.Answers.{fileBy}
+use Rattle.pieces.specs.declared.Opened.{Opened}
+use Rattle.pieces.specs.Opened.{fileBy}
 
 pub no-turn : (s : List ℕ) (b : ℕ) (state : List ℕ) (j : ℕ) (es : List ℕ) → first es ≡ none
     → Listing.turn ending Listing.finished ≡ Listing.turnOf (Listing.running s b state j es)

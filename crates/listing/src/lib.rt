@@ -11,7 +11,7 @@ ghost use Rattle.stages.specs.Answers.{stageIn};
 ghost use Rattle.pieces.specs.Answers.{turnAt, Prints};
 use files::Input;
 use lines::Line;
-use opening::Opened;
+use pieces::Opened;
 use pieces::Piece;
 use stages::Run;
 use stages::Stage;
@@ -51,7 +51,7 @@ fn last(line: Line) -> Piece
 fn open(file: &[u8]) -> Piece
     ensures { λ r. ⌜ Prints (now (file .entry)) (opened (fileOf (now (file .entry)))) r ⌝ }
 {
-    match opening::open(file) {
+    match pieces::open(file) {
         Opened::Cut => last(lines::cut()),
         Opened::Refused(number) => last(lines::refusal(number)),
         Opened::Runs => heading(),

@@ -1,9 +1,9 @@
 use Rattle.text.proofs.Buffers.{before}
 use borrow.Author.Needs.{needs}
-use Rattle.rows.proofs.put_numbers.Statement.{statement}
-use Rattle.rows.proofs.put_numbers.Tie as tie
-use Rattle.rows.proofs.put_numbers.Reads as reads
-use Rattle.rows.proofs.put_numbers.Lts as lts
+use Rattle.lines.proofs.put_numbers.Statement.{statement}
+use Rattle.lines.proofs.put_numbers.Tie as tie
+use Rattle.lines.proofs.put_numbers.Reads as reads
+use Rattle.lines.proofs.put_numbers.Lts as lts
 use Rattle.text.proofs.put_field.Reads as put-field-reads
 
 put-field-requires : tie.Need-put-field-requires

@@ -1,9 +1,9 @@
 use native.Mathlib.Omega.{arith}
 use Rattle.text.proofs.Numerals.{field-fits}
-use Rattle.rows.proofs.Fields.{sets-put}
+use Rattle.lines.proofs.Fields.{sets-put}
 use borrow.Author.Needs.{needs}
-use Rattle.rows.proofs.put_sets.Statement.{statement}
-use Rattle.rows.proofs.put_sets.Tie as tie
+use Rattle.lines.proofs.put_sets.Statement.{statement}
+use Rattle.lines.proofs.put_sets.Tie as tie
 
 put-field-requires : tie.Need-put-field-requires
 put-field-requires c κs = search needs

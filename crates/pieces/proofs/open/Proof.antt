@@ -7,10 +7,10 @@ use mathlib.Core.Path.{_≡_, sym, ap₂, _∙_}
 use Rattle.sequence.specs.Check.{checkOf}
 use Rattle.runs.proofs.Files.{file-cut, file-runs, file-refused}
 use borrow.Author.Needs.{needs}
-use Rattle.opening.proofs.open.Statement.{statement}
-use Rattle.opening.proofs.open.Tie as tie
-use Rattle.opening.proofs.open.Reads as reads
-use Rattle.opening.proofs.open.Lts as lts
+use Rattle.pieces.proofs.open.Statement.{statement}
+use Rattle.pieces.proofs.open.Tie as tie
+use Rattle.pieces.proofs.open.Reads as reads
+use Rattle.pieces.proofs.open.Lts as lts
 use Rattle.intake.proofs.intake_check.Reads as intake-check-reads
 use Rattle.files.proofs.is_whole.Reads as is-whole-reads
 use Rattle.files.proofs.sequence.Reads as sequence-reads

@@ -3,10 +3,10 @@ use Rattle.limits.specs.Limits.{wordLabels}
 use Rattle.sets.specs.Sets.{twoWords}
 use Rattle.sets.proofs.Words.{words-of}
 use Rattle.labels.specs.Labels.{labelSet}
-use Rattle.rows.proofs.Fields.{Fields, shown-row}
+use Rattle.lines.proofs.Fields.{Fields, shown-row}
 use borrow.Author.Needs.{needs}
-use Rattle.rows.proofs.row.Statement.{statement}
-use Rattle.rows.proofs.row.Tie as tie
+use Rattle.lines.proofs.instant_line.Statement.{statement}
+use Rattle.lines.proofs.instant_line.Tie as tie
 
 labels-requires : tie.Need-labels-requires
 labels-requires c κs = search needs
@@ -72,8 +72,8 @@ returns c =
     } in
     shown-row (a .instant) fields _ refl (n .kept .0 ∙ s .kept .0) (s .ensures .0) (n .ensures)
 
-pub row-spec : {M : Type 1} → statement M
-row-spec =
+pub instant-line-spec : {M : Type 1} → statement M
+instant-line-spec =
     tie.close
     (tie.spec
     labels-requires
