@@ -21,13 +21,13 @@ use Rattle.sequence.specs.Check.{checked}
 use Rattle.numbers.specs.Bytes.{leBytes, leNumber}
 use Rattle.states.specs.StateRecord.{encodeState, decodeState}
 use Rattle.answers.specs.AnswerRecord.{encodeAnswer}
-use Rattle.parts.specs.Parts.{put, zeros}
-use Rattle.ledgers.specs.Ledgers.{totalIn, totalsBytes, wouldPass, addedBelow}
+use Rattle.box_parts.specs.Parts.{put, zeros}
+use Rattle.box_ledgers.specs.Ledgers.{totalIn, totalsBytes, wouldPass, addedBelow}
 use Rattle.tick.specs.Tick.{tickBy}
 use Rattle.recordings.specs.Record.{recordLength, panelOf}
 use Rattle.recordings.specs.Recording.{following}
 use Rattle.box_calls.specs.Stretch.{partOf, vacated, filled}
-use Rattle.positions.specs.Table.{place, lookup, saveOf, forgetOf}
+use Rattle.box_positions.specs.Table.{place, lookup, saveOf, forgetOf}
 use Rattle.box_calls.specs.BayCalls.{bayStepOf, bayChargedOf, bayTickOf, bayReleaseOf, bayAdmitOf, baySaveOf, bayForgetOf, bayRestoreOf, bayServiceOf, bayPanelOf, bayLedgerOf, bayNewYearOf}
 use Rattle.box_calls.specs.Box.{emptyBox, present, callOf}
 use Rattle.box_calls.specs.Lists.{boxAfter}

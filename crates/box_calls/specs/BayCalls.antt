@@ -7,19 +7,19 @@ use lib.Dec.{eqb, leb}
 use Rattle.esterel.specs.Ceiling.{ceiling}
 use Rattle.sequence.specs.Program.{program}
 use Rattle.sequence.specs.Check.{Checked, sound, bad, checked}
-use Rattle.parts.specs.Parts.{put}
+use Rattle.box_parts.specs.Parts.{put}
 use Rattle.states.specs.StateRecord.{stateLength, stateRecord, phaseIn, labelsIn}
-use Rattle.positions.specs.Table.{tableLength, lookup, Kept, kept, saveOf, forgetOf}
+use Rattle.box_positions.specs.Table.{tableLength, lookup, Kept, kept, saveOf, forgetOf}
 use Rattle.numbers.specs.Bytes.{leBytes}
 use Rattle.limits.specs.Limits.{numberBytes}
 use Rattle.recordings.specs.Record.{recordLength, recordOf, panelLength, panelOf}
 use Rattle.recordings.specs.Recording.{following}
 use lib.ListN.{length}
-use Rattle.fillings.specs.Preview.{Previewed, previewed, previewOf}
+use Rattle.box_fillings.specs.Preview.{Previewed, previewed, previewOf}
 use Rattle.tick.specs.Tick.{Outcome, outcome, tickOf}
 use Rattle.demands.specs.Deliveries.{deliveries}
-use Rattle.ledgers.specs.Ledgers as Ledgers
-use Rattle.ledgers.specs.Ledgers.{readingLength, passes, added, readingOf}
+use Rattle.box_ledgers.specs.Ledgers as Ledgers
+use Rattle.box_ledgers.specs.Ledgers.{readingLength, passes, added, readingOf}
 use Rattle.box_calls.specs.Called.{Called, called, first}
 use Rattle.box_calls.specs.Stretch.{stateAt, countAt, positionsAt, sequenceIn, readBackIn, serviceOnlyIn, stateIn, lastNumberIn, positionsIn, ledgerIn, vacated, withLedger, Terms, filled}
 

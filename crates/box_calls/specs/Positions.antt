@@ -12,9 +12,9 @@ use Rattle.esterel.specs.States.{Valid}
 use Rattle.esterel.specs.Machines.{State}
 use Rattle.sequence.specs.Rows.{Spells}
 use Rattle.states.specs.StateRecord.{stateLength, phaseIn, labelsIn, encodeState}
-use Rattle.parts.specs.Parts.{put}
-use Rattle.positions.specs.Names.{Position, find, saveNamed, forgetNamed, positionsAfter}
-use Rattle.positions.specs.Table.{lookup, SixteenKnown}
+use Rattle.box_parts.specs.Parts.{put}
+use Rattle.box_positions.specs.Names.{Position, find, saveNamed, forgetNamed, positionsAfter}
+use Rattle.box_positions.specs.Table.{lookup, SixteenKnown}
 use Rattle.box_calls.specs.Called.{number, memoryAfter}
 use Rattle.box_calls.specs.Stretch.{stateAt, lengthIn, sequenceIn, stateIn, positionsIn, Terms}
 use Rattle.box_calls.specs.Box.{bayCount, emptyBox, stretchOf, Call, admit, release, tick, save, restore, forget, service, panel, preview, ledger, newYear}

@@ -4,8 +4,8 @@ use mathlib.Core.Path.{_≡_}
 use mathlib.Core.Logic.{_≢_}
 use mathlib.Core.List.{List, [], _∷_}
 use lib.ListN.{length}
-use Rattle.fillings.specs.Preview as fillings
-use Rattle.fillings.specs.Preview.{Previewed, bufferAfter, previewOf}
+use Rattle.box_fillings.specs.Preview as fillings
+use Rattle.box_fillings.specs.Preview.{Previewed, bufferAfter, previewOf}
 use Rattle.box_calls.specs.Called.{called, number}
 use Rattle.box_calls.specs.Stretch.{lengthIn, sequenceIn, readBackIn, stateIn}
 use Rattle.box_calls.specs.Box.{bayCount, boxLength, stretchOf, preview}

@@ -7,10 +7,10 @@ use lib.ListN.{length}
 use lib.Dec.{eqb}
 use Rattle.limits.specs.Limits.{maxBytes, signalBytes, reactionsBytes, numberBytes}
 use Rattle.numbers.specs.Bytes.{leBytes, leNumber}
-use Rattle.parts.specs.Parts.{slot, put, zeros}
+use Rattle.box_parts.specs.Parts.{slot, put, zeros}
 use Rattle.states.specs.StateRecord.{stateLength}
-use Rattle.positions.specs.Table.{tableLength}
-use Rattle.ledgers.specs.Ledgers.{ledgerLength}
+use Rattle.box_positions.specs.Table.{tableLength}
+use Rattle.box_ledgers.specs.Ledgers.{ledgerLength}
 
 -- ---- where the fields begin
 -- fixed by the admission: the length of the sequence (0: the bay is empty), the sequence, its read-back set, its ceiling and the

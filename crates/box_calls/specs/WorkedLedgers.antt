@@ -2,7 +2,7 @@
 use Prim.Native.Nat.{ℕ}
 use mathlib.Core.List.{List, [], _∷_, _++_}
 use lib.ListN.{replicate}
-use Rattle.ledgers.specs.Ledgers.{ledgerLength, readingLength, totalIn}
+use Rattle.box_ledgers.specs.Ledgers.{ledgerLength, readingLength, totalIn}
 use Rattle.box_calls.specs.Stretch.{ledgerIn}
 use Rattle.box_calls.specs.Box.{ledger, newYear}
 use Rattle.box_calls.specs.Lists.{Request, boxAfter}

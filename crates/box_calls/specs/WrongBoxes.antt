@@ -3,7 +3,7 @@ use Prim.Native.Nat.{ℕ, zero, suc, _+_, _%_}
 use mathlib.Core.Bool.{cond}
 use mathlib.Core.List.{List, [], _∷_}
 use lib.Dec.{eqb}
-use Rattle.parts.specs.Parts.{put, zeros}
+use Rattle.box_parts.specs.Parts.{put, zeros}
 use Rattle.tick.specs.Tick.{tickOf}
 use Rattle.box_calls.specs.Called.{Called, called, number}
 use Rattle.box_calls.specs.Stretch.{lengthBytes, sequenceIn, readBackIn, ceilingIn, stateIn}

@@ -11,10 +11,10 @@ use Rattle.esterel.specs.Statement.{Statement, nothing, pause, emit, exit, seq,
 use Rattle.esterel.specs.Litres.{delivered}
 use Rattle.sequence.specs.Program.{program}
 use Rattle.sequence.specs.Check.{Checked, sound, bad, checked}
-use Rattle.parts.specs.Parts.{put}
+use Rattle.box_parts.specs.Parts.{put}
 use Rattle.litres.specs.Litres.{litres}
-use Rattle.ledgers.specs.Ledgers as Ledgers
-use Rattle.ledgers.specs.Ledgers.{farmCount, totalFloat, added}
+use Rattle.box_ledgers.specs.Ledgers as Ledgers
+use Rattle.box_ledgers.specs.Ledgers.{farmCount, totalFloat, added}
 use Rattle.box_calls.specs.Called.{Called, called, number, memoryAfter, lentAfter}
 use Rattle.box_calls.specs.Stretch.{stretchLength, sequenceIn, readBackIn, ledgerIn, withLedger}
 use Rattle.box_calls.specs.BayCalls.{delivering, recorded, bayStepOf}

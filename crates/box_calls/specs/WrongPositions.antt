@@ -6,9 +6,9 @@ use lib.ListN.{length}
 use lib.Dec.{leb}
 use Rattle.limits.specs.Limits.{maxPositions}
 use Rattle.states.specs.StateRecord.{labelsAt}
-use Rattle.parts.specs.Parts.{slot, put}
-use Rattle.positions.specs.Names.{isKnown}
-use Rattle.positions.specs.Table.{tableLength, lookup, names}
+use Rattle.box_parts.specs.Parts.{slot, put}
+use Rattle.box_positions.specs.Names.{isKnown}
+use Rattle.box_positions.specs.Table.{tableLength, lookup, names}
 use Rattle.box_calls.specs.Called.{Called, called, memoryAfter}
 use Rattle.box_calls.specs.Stretch.{stateAt, positionsAt, positionsIn, vacated}
 use Rattle.box_calls.specs.Box.{stretchOf, Call, admit, release, tick, save, restore, forget, service, panel, preview, ledger, newYear, inBox, callOf}

@@ -9,8 +9,8 @@ use lib.ListN.{length}
 use lib.Dec.{T, eqb}
 use Rattle.limits.specs.Limits.{litresLimit}
 use Rattle.litres.specs.Litres.{whole, within}
-use Rattle.ledgers.specs.Ledgers as Ledgers
-use Rattle.ledgers.specs.Ledgers.{farmCount, readingLength, fieldIn, totalIn, exactTotal, readingOf, totalRead}
+use Rattle.box_ledgers.specs.Ledgers as Ledgers
+use Rattle.box_ledgers.specs.Ledgers.{farmCount, readingLength, fieldIn, totalIn, exactTotal, readingOf, totalRead}
 use Rattle.recordings.specs.Record.{recordLength}
 use Rattle.tick.specs.Tick.{tickOf}
 use Rattle.demands.specs.Demands as demands

@@ -20,10 +20,10 @@ use Rattle.recordings.specs.Record.{recordLength, recordOf, numberIn, panelLeng
 use Rattle.recordings.specs.Recording.{following, tickOn, recordFrom, recordsFrom, recordingOf}
 use Rattle.recordings.proofs.Records.{number-field}
 use Rattle.recordings.proofs.Theorems.{following-is, panel-alike}
-use Rattle.parts.specs.Parts.{slot, put}
-use Rattle.parts.proofs.Parts.{put-slot, slot-put, put-before, put-behind}
-use Rattle.parts.proofs.Zeros.{zeros-number}
-use Rattle.ledgers.specs.Ledgers.{ledgerLength, passes, added}
+use Rattle.box_parts.specs.Parts.{slot, put}
+use Rattle.box_parts.proofs.Parts.{put-slot, slot-put, put-before, put-behind}
+use Rattle.box_parts.proofs.Zeros.{zeros-number}
+use Rattle.box_ledgers.specs.Ledgers.{ledgerLength, passes, added}
 use Rattle.tick.specs.Tick.{Outcome, outcome, tickOf}
 use Rattle.demands.specs.Demands as demands
 use Rattle.demands.specs.Demands.{stateAfterwards}
@@ -42,7 +42,7 @@ use Rattle.box_theory.proofs.Moves as moves
 use Rattle.box_theory.proofs.Moves.{Moved, save-moved, forget-moved, year-moved, further}
 use Rattle.box_theory.proofs.Ticks.{entered, written, new-sized, length-entered, before-ledger, like-buffer, unlike-tick, Ticked, down, full, instant, ticked}
 use Rattle.box_theory.proofs.Readers.{service-reads, panel-reads, ledger-reads, service-lengths, panel-lengths}
-use Rattle.fillings.specs.Preview.{bufferAfter}
+use Rattle.box_fillings.specs.Preview.{bufferAfter}
 use Rattle.box_calls.specs.Previews.{previewIn, PreviewShows, PreviewNumbers}
 use Rattle.box_theory.proofs.Previews.{preview-stays, preview-number, preview-shown}
 use Rattle.box_theory.proofs.Bays as Bays

@@ -11,13 +11,13 @@ use lib.Seq.{length-take-le}
 use lib.Dec.{eqb}
 use Rattle.states.specs.StateRecord.{stateLength, stateRecord, phaseIn, labelsIn}
 use Rattle.states.proofs.StateLaws.{state-sized}
-use Rattle.parts.specs.Parts.{put}
-use Rattle.parts.proofs.Parts.{put-slot, length-put}
-use Rattle.positions.specs.Table.{tableLength, lookup, Kept, kept, numberKept, tableKept, saveOf, forgetOf}
-use Rattle.positions.proofs.Theorems.{save-number, forget-number, save-refused, forget-refused}
-use Rattle.positions.proofs.TableLaws.{save-sized, forget-sized}
-use Rattle.ledgers.specs.Ledgers.{ledgerLength, cleared}
-use Rattle.ledgers.proofs.Theorems.{cleared-sized}
+use Rattle.box_parts.specs.Parts.{put}
+use Rattle.box_parts.proofs.Parts.{put-slot, length-put}
+use Rattle.box_positions.specs.Table.{tableLength, lookup, Kept, kept, numberKept, tableKept, saveOf, forgetOf}
+use Rattle.box_positions.proofs.Theorems.{save-number, forget-number, save-refused, forget-refused}
+use Rattle.box_positions.proofs.TableLaws.{save-sized, forget-sized}
+use Rattle.box_ledgers.specs.Ledgers.{ledgerLength, cleared}
+use Rattle.box_ledgers.proofs.Theorems.{cleared-sized}
 use Rattle.box_calls.specs.Called.{Called, called, number, memoryAfter}
 use Rattle.box_calls.specs.Stretch.{stateAt, positionsAt, bayLength, stretchLength, stateIn, positionsIn}
 use Rattle.box_calls.specs.BayCalls.{positionsKept, restored, baySaveOf, bayForgetOf, bayRestoreOf, bayNewYearOf}

@@ -14,11 +14,11 @@ use Rattle.esterel.specs.States.{Valid}
 use Rattle.esterel.specs.Machines.{State}
 use Rattle.sequence.specs.Rows.{Spells}
 use Rattle.states.specs.StateRecord.{stateLength, phaseIn, labelsIn, encodeState}
-use Rattle.parts.specs.Parts.{put, zeros}
-use Rattle.positions.specs.Names.{Position}
-use Rattle.positions.specs.Table.{tableLength, lookup, numberKept, saveOf, forgetOf, SixteenKnown, Agrees}
-use Rattle.positions.proofs.Theorems as table
-use Rattle.positions.proofs.Theorems.{cleared-agrees, save-agrees, forget-agrees, lookup-zeros}
+use Rattle.box_parts.specs.Parts.{put, zeros}
+use Rattle.box_positions.specs.Names.{Position}
+use Rattle.box_positions.specs.Table.{tableLength, lookup, numberKept, saveOf, forgetOf, SixteenKnown, Agrees}
+use Rattle.box_positions.proofs.Theorems as table
+use Rattle.box_positions.proofs.Theorems.{cleared-agrees, save-agrees, forget-agrees, lookup-zeros}
 use Rattle.box_calls.specs.Called.{called, number, memoryAfter}
 use Rattle.box_calls.specs.Stretch.{stateAt, lengthIn, isEmpty, sequenceIn, stateIn, positionsIn}
 use Rattle.box_calls.specs.Box.{bayCount, boxLength, emptyBox, stretchOf, present, Call, admit, release, tick, save, restore, forget, service, panel, preview, ledger, newYear, buffers, bayCall, isFor, callOf}

@@ -19,14 +19,14 @@ use Rattle.numbers.specs.Bytes.{leBytes}
 use Rattle.numbers.proofs.Bytes.{length-leBytes, le-round-trip}
 use Rattle.states.specs.StateRecord.{stateLength, stateRecord, phaseIn, labelsIn, encodeState, Recorded}
 use Rattle.states.proofs.StateLaws.{state-sized}
-use Rattle.parts.specs.Parts.{put, zeros}
-use Rattle.parts.proofs.Parts.{slot-put, put-before, put-behind}
-use Rattle.ledgers.specs.Ledgers as Ledgers
-use Rattle.ledgers.specs.Ledgers.{ledgerLength}
-use Rattle.ledgers.proofs.Theorems.{cleared-sized}
-use Rattle.positions.specs.Table.{tableLength, lookup, Kept, kept, numberKept, tableKept, saveOf, forgetOf, Formed}
-use Rattle.positions.proofs.Theorems.{lookup-saved, lookup-others-saved, lookup-forgotten, lookup-others-forgotten, lookup-zeros, formed-zeros, formed-saved, formed-forgotten, save-refused}
-use Rattle.positions.proofs.TableLaws.{save-sized, forget-sized}
+use Rattle.box_parts.specs.Parts.{put, zeros}
+use Rattle.box_parts.proofs.Parts.{slot-put, put-before, put-behind}
+use Rattle.box_ledgers.specs.Ledgers as Ledgers
+use Rattle.box_ledgers.specs.Ledgers.{ledgerLength}
+use Rattle.box_ledgers.proofs.Theorems.{cleared-sized}
+use Rattle.box_positions.specs.Table.{tableLength, lookup, Kept, kept, numberKept, tableKept, saveOf, forgetOf, Formed}
+use Rattle.box_positions.proofs.Theorems.{lookup-saved, lookup-others-saved, lookup-forgotten, lookup-others-forgotten, lookup-zeros, formed-zeros, formed-saved, formed-forgotten, save-refused}
+use Rattle.box_positions.proofs.TableLaws.{save-sized, forget-sized}
 use Rattle.demands.proofs.Sequence.{accepted, same-statement}
 use Rattle.box_calls.specs.Called.{Called, called, number, memoryAfter}
 use Rattle.box_calls.specs.Stretch.{stateAt, countAt, positionsAt, bayLength, stretchLength, stateIn, positionsIn, Terms}

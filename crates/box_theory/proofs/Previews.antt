@@ -4,10 +4,10 @@ use native.Mathlib.Omega.{arith}
 use mathlib.Core.Path.{_≡_, refl, sym, ap, _∙_}
 use mathlib.Core.Logic.{_≢_, ⊎-elim}
 use mathlib.Core.List.{List, [], _∷_}
-use Rattle.fillings.specs.Preview as fillings
-use Rattle.fillings.specs.Preview.{Previewed, previewed, previewOf}
+use Rattle.box_fillings.specs.Preview as fillings
+use Rattle.box_fillings.specs.Preview.{Previewed, previewed, previewOf}
 use Rattle.sequence.specs.Rows.{rank}
-use Rattle.fillings.proofs.Numbers.{lent-left, preview-range}
+use Rattle.box_fillings.proofs.Numbers.{lent-left, preview-range}
 use Rattle.box_calls.specs.Called.{Called, called, number, memoryAfter}
 use Rattle.box_calls.specs.Stretch.{sequenceIn, readBackIn, stateIn}
 use Rattle.box_calls.specs.BayCalls.{stretchKept, bayPreviewOf}

@@ -11,7 +11,7 @@ use lib.Dec.{eqb}
 use borrow.Author.Tests.{eq-eqb, ne-eqb}
 use Rattle.recordings.specs.Record.{recordLength, panelLength, panelOf}
 use Rattle.box_calls.specs.Called.{Called, called, number, memoryAfter}
-use Rattle.ledgers.specs.Ledgers.{readingLength, readingOf}
+use Rattle.box_ledgers.specs.Ledgers.{readingLength, readingOf}
 use Rattle.box_calls.specs.Stretch.{serviceOnlyIn, ledgerIn}
 use Rattle.box_calls.specs.BayCalls.{showing, bayServiceOf, bayPanelOf, bayLedgerOf}
 

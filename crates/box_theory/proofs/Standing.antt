@@ -19,15 +19,15 @@ use Rattle.numbers.proofs.Bytes.{length-leBytes}
 use Rattle.states.specs.StateRecord.{stateLength, encodeState, holds, Recorded}
 use Rattle.states.proofs.StateLaws.{length-state, decode-encode}
 use Rattle.answers.specs.AnswerRecord.{answerLength}
-use Rattle.parts.specs.Parts.{slot, put}
+use Rattle.box_parts.specs.Parts.{slot, put}
 use Rattle.tick.specs.Tick as Tick
 use Rattle.tick.specs.Tick.{Outcome, tickOf}
 use Rattle.demands.specs.Demands as demands
 use Rattle.demands.specs.Demands.{stateAfterwards, cleared}
 use Rattle.demands.proofs.Sequence.{Accepted, tick-at, tick-short, recorded-fresh, recorded-resumed}
 use Rattle.demands.proofs.Ceiling.{most}
-use Rattle.parts.proofs.Parts.{put-before}
-use Rattle.ledgers.specs.Ledgers.{ledgerLength, added}
+use Rattle.box_parts.proofs.Parts.{put-before}
+use Rattle.box_ledgers.specs.Ledgers.{ledgerLength, added}
 use Rattle.box_calls.specs.Called.{Called, number, memoryAfter}
 use Rattle.box_calls.specs.Stretch.{sequenceAt, stateAt, countAt, positionsAt, bayLength, stretchLength, lengthIn, isEmpty, sequenceIn, stateIn, ledgerIn, Terms, filled}
 use Rattle.box_calls.specs.BayCalls.{delivering, bayTickOf}

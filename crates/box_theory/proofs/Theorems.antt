@@ -23,9 +23,9 @@ use Rattle.recordings.specs.Record.{recordLength, panelLength}
 use Rattle.recordings.specs.Recording.{callOn, recordingOf, joined, Inputs}
 use Rattle.replays.specs.Replay.{replayed, replayOf}
 use Rattle.replays.proofs.Theorems.{accepts-recordings}
-use Rattle.positions.specs.Names.{find}
-use Rattle.positions.specs.Table.{lookup}
-use Rattle.ledgers.specs.Ledgers.{farmCount, readingLength, totalIn}
+use Rattle.box_positions.specs.Names.{find}
+use Rattle.box_positions.specs.Table.{lookup}
+use Rattle.box_ledgers.specs.Ledgers.{farmCount, readingLength, totalIn}
 use Rattle.box_calls.specs.Called.{called, number, memoryAfter}
 use Rattle.box_calls.specs.Stretch.{sequenceIn, readBackIn, serviceOnlyIn, stateIn, positionsIn, ledgerIn, Terms, terms}
 use Rattle.box_calls.specs.Box.{bayCount, boxLength, emptyBox, stretchOf, admit, release, tick, restore, forget, service, panel, ledger, callOf}

@@ -26,10 +26,10 @@ use Rattle.states.proofs.StateLaws.{length-state}
 use Rattle.answers.specs.AnswerRecord.{answerLength}
 use Rattle.recordings.specs.Record.{recordLength, recordOf}
 use Rattle.recordings.specs.Recording.{following}
-use Rattle.parts.specs.Parts.{slot, put}
-use Rattle.parts.proofs.Parts.{put-slot, length-put, slot-put, put-before, put-behind}
-use Rattle.ledgers.specs.Ledgers.{ledgerLength, passes, added}
-use Rattle.ledgers.proofs.Theorems.{added-sized}
+use Rattle.box_parts.specs.Parts.{slot, put}
+use Rattle.box_parts.proofs.Parts.{put-slot, length-put, slot-put, put-before, put-behind}
+use Rattle.box_ledgers.specs.Ledgers.{ledgerLength, passes, added}
+use Rattle.box_ledgers.proofs.Theorems.{added-sized}
 use Rattle.tick.specs.Tick as Tick
 use Rattle.tick.specs.Tick.{Outcome, outcome, byState, replied, tickBy, tickOf}
 use Rattle.tick.specs.TickRows.{TickRow, row-1, row-2-to-10, row-11, row-12}

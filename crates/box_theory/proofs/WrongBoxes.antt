@@ -23,8 +23,8 @@ use Rattle.sequence.specs.Check.{checked, checkOf}
 use Rattle.numbers.specs.Bytes.{leBytes, leNumber}
 use Rattle.states.specs.StateRecord.{encodeState, decodeState}
 use Rattle.answers.specs.AnswerRecord.{encodeAnswer}
-use Rattle.parts.specs.Parts.{put, zeros}
-use Rattle.ledgers.specs.Ledgers.{totalIn, wouldPass, addedBelow}
+use Rattle.box_parts.specs.Parts.{put, zeros}
+use Rattle.box_ledgers.specs.Ledgers.{totalIn, wouldPass, addedBelow}
 use Rattle.tick.specs.Tick.{tickBy}
 use Rattle.box_calls.specs.Called.{Called, memoryAfter}
 use Rattle.recordings.specs.Recording.{following}

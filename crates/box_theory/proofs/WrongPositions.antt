@@ -23,11 +23,11 @@ use Rattle.sequence.specs.Check.{checked}
 use Rattle.numbers.specs.Bytes.{leBytes, leNumber}
 use Rattle.states.specs.StateRecord.{phaseIn, encodeState, decodeState}
 use Rattle.answers.specs.AnswerRecord.{encodeAnswer}
-use Rattle.parts.specs.Parts.{put, zeros}
-use Rattle.positions.specs.Names as Names
-use Rattle.positions.specs.Names.{find, saveNamed}
-use Rattle.positions.specs.Table.{place, lookup, saveOf, forgetOf, namesBelow}
-use Rattle.ledgers.specs.Ledgers.{totalIn, wouldPass, addedBelow}
+use Rattle.box_parts.specs.Parts.{put, zeros}
+use Rattle.box_positions.specs.Names as Names
+use Rattle.box_positions.specs.Names.{find, saveNamed}
+use Rattle.box_positions.specs.Table.{place, lookup, saveOf, forgetOf, namesBelow}
+use Rattle.box_ledgers.specs.Ledgers.{totalIn, wouldPass, addedBelow}
 use Rattle.tick.specs.Tick.{tickBy}
 use Rattle.recordings.specs.Recording.{following}
 use Rattle.box_calls.specs.Stretch.{stateIn, partOf, vacated, filled}

@@ -9,8 +9,8 @@ use lib.ListN.{length, take, drop, length-drop}
 use lib.Dec.{eqb, ltb}
 use lib.Seq.{length-take-le}
 use borrow.Author.Tests.{lt-ltb, le-ltb, eq-eqb, ne-eqb, ltb-true, eqb-true}
-use Rattle.parts.specs.Parts.{slot, put}
-use Rattle.parts.proofs.Parts.{put-slot}
+use Rattle.box_parts.specs.Parts.{slot, put}
+use Rattle.box_parts.proofs.Parts.{put-slot}
 use Rattle.box_calls.specs.Called.{called}
 use Rattle.box_calls.specs.Stretch.{stretchLength, isEmpty, Terms}
 use Rattle.box_calls.specs.BayCalls.{bayAdmitOf}

@@ -8,7 +8,7 @@ ghost use Rattle.box_calls.specs.Stretch.{terms};
 ghost use Rattle.box_calls.specs.Box.{bayCount, boxLength, present, callOf};
 ghost use Rattle.box_calls.specs.Box.{release, tick, admit, save, restore, forget, service, panel, preview, ledger, newYear};
 ghost use Rattle.boxes.specs.Entries.{fits, either, entryOf};
-use bays::STRETCH_LENGTH;
+use box_bays::STRETCH_LENGTH;
 
 const BAY_COUNT: usize = 8;
 
@@ -37,7 +37,7 @@ fn entry(memory: &[u8], bay: u32, vacant: bool) -> u8
         return number;
     }
     let from = bay as usize * STRETCH_LENGTH;
-    let empty = bays::is_empty(numbers::part(memory, from, STRETCH_LENGTH));
+    let empty = box_bays::is_empty(numbers::part(memory, from, STRETCH_LENGTH));
     if vacant {
         if empty {
             return 0;
@@ -60,7 +60,7 @@ pub fn tick(memory: &mut [u8], bay: u32, input: u32, answer: &mut [u8], trace: &
     }
     let from = bay as usize * STRETCH_LENGTH;
     let end = from + STRETCH_LENGTH;
-    bays::tick(&mut memory[from..end], input, answer, trace)
+    box_bays::tick(&mut memory[from..end], input, answer, trace)
 }
 
 pub fn release(memory: &mut [u8], bay: u32) -> u8
@@ -72,7 +72,7 @@ pub fn release(memory: &mut [u8], bay: u32) -> u8
     }
     let from = bay as usize * STRETCH_LENGTH;
     let end = from + STRETCH_LENGTH;
-    bays::release(&mut memory[from..end])
+    box_bays::release(&mut memory[from..end])
 }
 
 // What the bays present have of the shared ceiling.
@@ -84,7 +84,7 @@ fn present_in(memory: &[u8]) -> u64
     let mut i = 0;
     while i < BAY_COUNT {
         let from = i * STRETCH_LENGTH;
-        sum += bays::part(numbers::part(memory, from, STRETCH_LENGTH)) as u64;
+        sum += box_bays::part(numbers::part(memory, from, STRETCH_LENGTH)) as u64;
         i += 1;
     }
     sum
@@ -101,7 +101,7 @@ pub fn admit(memory: &mut [u8], bay: u32, sequence: &[u8], read_back: u32, servi
     let present = present_in(memory);
     let from = bay as usize * STRETCH_LENGTH;
     let end = from + STRETCH_LENGTH;
-    bays::admit(
+    box_bays::admit(
         &mut memory[from..end],
         present,
         sequence,
@@ -119,7 +119,7 @@ pub fn save(memory: &mut [u8], bay: u32, name: u32) -> u8
     }
     let from = bay as usize * STRETCH_LENGTH;
     let end = from + STRETCH_LENGTH;
-    bays::save(&mut memory[from..end], name)
+    box_bays::save(&mut memory[from..end], name)
 }
 
 pub fn restore(memory: &mut [u8], bay: u32, name: u32) -> u8
@@ -131,7 +131,7 @@ pub fn restore(memory: &mut [u8], bay: u32, name: u32) -> u8
     }
     let from = bay as usize * STRETCH_LENGTH;
     let end = from + STRETCH_LENGTH;
-    bays::restore(&mut memory[from..end], name)
+    box_bays::restore(&mut memory[from..end], name)
 }
 
 pub fn forget(memory: &mut [u8], bay: u32, name: u32) -> u8
@@ -143,7 +143,7 @@ pub fn forget(memory: &mut [u8], bay: u32, name: u32) -> u8
     }
     let from = bay as usize * STRETCH_LENGTH;
     let end = from + STRETCH_LENGTH;
-    bays::forget(&mut memory[from..end], name)
+    box_bays::forget(&mut memory[from..end], name)
 }
 
 pub fn service(memory: &[u8], bay: u32, trace: &[u8], view: &mut [u8]) -> u8
@@ -155,7 +155,7 @@ pub fn service(memory: &[u8], bay: u32, trace: &[u8], view: &mut [u8]) -> u8
         return number;
     }
     let from = bay as usize * STRETCH_LENGTH;
-    bays::service(numbers::part(memory, from, STRETCH_LENGTH), trace, view)
+    box_bays::service(numbers::part(memory, from, STRETCH_LENGTH), trace, view)
 }
 
 pub fn panel(memory: &[u8], bay: u32, trace: &[u8], view: &mut [u8]) -> u8
@@ -167,7 +167,7 @@ pub fn panel(memory: &[u8], bay: u32, trace: &[u8], view: &mut [u8]) -> u8
         return number;
     }
     let from = bay as usize * STRETCH_LENGTH;
-    bays::panel(numbers::part(memory, from, STRETCH_LENGTH), trace, view)
+    box_bays::panel(numbers::part(memory, from, STRETCH_LENGTH), trace, view)
 }
 
 pub fn preview(memory: &[u8], bay: u32, input: u32, unknown: u32, buffer: &mut [u8]) -> u8
@@ -179,7 +179,7 @@ pub fn preview(memory: &[u8], bay: u32, input: u32, unknown: u32, buffer: &mut [
         return number;
     }
     let from = bay as usize * STRETCH_LENGTH;
-    bays::preview(
+    box_bays::preview(
         numbers::part(memory, from, STRETCH_LENGTH),
         input,
         unknown,
@@ -197,7 +197,7 @@ pub fn read_ledger(memory: &[u8], bay: u32, totals: &mut [u8]) -> u8
         return number;
     }
     let from = bay as usize * STRETCH_LENGTH;
-    bays::read_ledger(numbers::part(memory, from, STRETCH_LENGTH), totals)
+    box_bays::read_ledger(numbers::part(memory, from, STRETCH_LENGTH), totals)
 }
 
 pub fn new_year(memory: &mut [u8], bay: u32) -> u8
@@ -209,5 +209,5 @@ pub fn new_year(memory: &mut [u8], bay: u32) -> u8
     }
     let from = bay as usize * STRETCH_LENGTH;
     let end = from + STRETCH_LENGTH;
-    bays::new_year(&mut memory[from..end])
+    box_bays::new_year(&mut memory[from..end])
 }

@@ -29,7 +29,7 @@ pub fn check(s: &[u8], read_back: u32, second: &mut SecondParts, notes: &mut Not
             } else if n < s.len() {
                 7
             } else {
-                labelling::label_row(s, notes)
+                checks_labels::label_row(s, notes)
             }
         }
     }

@@ -11,11 +11,11 @@ use Rattle.sets.specs.Sets.{twoWords}
 use Rattle.runs.specs.Text.{numeral, space, newline}
 use Rattle.runs.specs.Listing.{numbersOf, setsOf, lineOf, entryRead}
 use Rattle.lines.specs.declared.Line.{Line}
-use Rattle.text.specs.Buffer.{Prepended}
+use Rattle.lines_text.specs.Buffer.{Prepended}
 use Rattle.lines.specs.Shown.{lineLength, Displays}
 use Rattle.lines.proofs.Lines.{shown}
-use Rattle.text.proofs.Buffers.{before}
-use Rattle.text.proofs.Numerals.{numeral-split}
+use Rattle.lines_text.proofs.Buffers.{before}
+use Rattle.lines_text.proofs.Numerals.{numeral-split}
 
 -- the labels from 64 on stand before the others
 sets-text : (emitted low high : ℕ) → low < 2 ^ wordLabels

@@ -8,7 +8,7 @@ ghost use mathlib.Core.Path.{_≡_};
 ghost use Rattle.limits.specs.Limits.{wordLabels};
 ghost use Rattle.sets.specs.Sets.{twoWords};
 ghost use Rattle.runs.specs.Listing.{numbersOf, setsOf, lineIn};
-ghost use Rattle.text.specs.Buffer.{Prepended};
+ghost use Rattle.lines_text.specs.Buffer.{Prepended};
 
 // The bytes of a line's buffer.
 pub const LINE_LENGTH: usize = 160;
@@ -25,8 +25,8 @@ pub fn numbered(words: &[u8], number: u64) -> Line
     ensures { λ r. ⌜ Displays r (now (words .entry) ++ (numeral 10 1 number ++ newline ∷ [])) ⌝ }
 {
     let mut bytes = [0u8; LINE_LENGTH];
-    let at = text::put_field(&mut bytes, LINE_LENGTH, 10, 1, number, b'\n');
-    let from = text::put_text(&mut bytes, at, words);
+    let at = lines_text::put_field(&mut bytes, LINE_LENGTH, 10, 1, number, b'\n');
+    let from = lines_text::put_text(&mut bytes, at, words);
     Line {
         bytes: bytes,
         from: from,
@@ -77,7 +77,7 @@ fn fixed(words: &[u8]) -> Line
     ensures { λ r. ⌜ Displays r (now (words .entry)) ⌝ }
 {
     let mut bytes = [0u8; LINE_LENGTH];
-    let from = text::put_text(&mut bytes, LINE_LENGTH, words);
+    let from = lines_text::put_text(&mut bytes, LINE_LENGTH, words);
     Line {
         bytes: bytes,
         from: from,
@@ -89,10 +89,10 @@ fn put_numbers(line: &mut [u8], end: usize, instant: u64, code: u64, kind: u64, 
     requires { ⌜ (84 ≤ end) × (end ≤ length (now line)) ⌝ }
     ensures { λ r. ⌜ Prepended (now (line .entry)) end (numbersOf instant code kind place) (now (line .exit)) r ⌝ }
 {
-    let mut at = text::put_field(line, end, 10, 1, place, b' ');
-    at = text::put_field(line, at, 10, 1, kind, b' ');
-    at = text::put_field(line, at, 10, 1, code, b' ');
-    text::put_field(line, at, 10, 1, instant, b' ')
+    let mut at = lines_text::put_field(line, end, 10, 1, place, b' ');
+    at = lines_text::put_field(line, at, 10, 1, kind, b' ');
+    at = lines_text::put_field(line, at, 10, 1, code, b' ');
+    lines_text::put_field(line, at, 10, 1, instant, b' ')
 }
 
 // The fields of a row that are sets, at the end of the line. The labels are two words, the second of those from 64 on.
@@ -101,9 +101,9 @@ fn put_sets(line: &mut [u8], emitted: u64, low: u64, high: u64) -> usize
     ensures { λ r. ⌜ Prepended (now (line .entry)) lineLength (setsOf emitted (twoWords wordLabels low high)) (now (line .exit)) r ⌝ }
     ensures { λ r. ⌜ 84 ≤ r ⌝ }
 {
-    let mut at = text::put_field(line, LINE_LENGTH, 16, 16, low, b'\n');
-    at = text::put_numeral(line, at, 16, 16, high);
-    text::put_field(line, at, 16, 8, emitted, b' ')
+    let mut at = lines_text::put_field(line, LINE_LENGTH, 16, 16, low, b'\n');
+    at = lines_text::put_numeral(line, at, 16, 16, high);
+    lines_text::put_field(line, at, 16, 8, emitted, b' ')
 }
 
 // The line of an instant, from the records that its tick left.

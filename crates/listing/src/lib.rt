@@ -7,14 +7,14 @@ ghost use Rattle.runs.specs.File.{fileOf, sequenceIn, readBackIn, inputsIn};
 ghost use Rattle.runs.specs.Stages.{running, finished, opened, turnOf};
 ghost use Rattle.runs.specs.Stages.{turn as Stages·turn};
 ghost use Rattle.lines.specs.Shown.{Displays};
-ghost use Rattle.stages.specs.Answers.{stageIn};
-ghost use Rattle.pieces.specs.Answers.{turnAt, Prints};
+ghost use Rattle.listing_stages.specs.Answers.{stageIn};
+ghost use Rattle.listing_pieces.specs.Answers.{turnAt, Prints};
 use files::Input;
 use lines::Line;
-use pieces::Opened;
-use pieces::Piece;
-use stages::Run;
-use stages::Stage;
+use listing_pieces::Opened;
+use listing_pieces::Piece;
+use listing_stages::Run;
+use listing_stages::Stage;
 use states::STATE_LENGTH;
 
 // The next piece of the listing of a file; after the last one all are empty.
@@ -51,7 +51,7 @@ fn last(line: Line) -> Piece
 fn open(file: &[u8]) -> Piece
     ensures { λ r. ⌜ Prints (now (file .entry)) (opened (fileOf (now (file .entry)))) r ⌝ }
 {
-    match pieces::open(file) {
+    match listing_pieces::open(file) {
         Opened::Cut => last(lines::cut()),
         Opened::Refused(number) => last(lines::refusal(number)),
         Opened::Runs => heading(),
@@ -79,6 +79,6 @@ fn step(file: &[u8], i: usize, state: [u8; STATE_LENGTH]) -> Piece
 {
     match files::input_at(file, i) {
         Input::Nothing => last(lines::ending()),
-        Input::Word(e) => pieces::instant(file, i, e, state),
+        Input::Word(e) => listing_pieces::instant(file, i, e, state),
     }
 }

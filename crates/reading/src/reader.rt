@@ -94,10 +94,10 @@ fn read(
         return 4 * layout::ROW_UNIT;
     }
     let b = s[0];
-    if heads::is_leaf(b) {
+    if reading_heads::is_leaf(b) {
         return leaf(&s[0..], at, b, depth, notes);
     }
-    let w = heads::width(&s[0..], b);
+    let w = reading_heads::width(&s[0..], b);
     if layout::ROW_UNIT <= w {
         return w;
     }

@@ -243,7 +243,7 @@ fn suspend_part(
     let x = s[1];
     let tested = signals::single(x);
     if signals::member(input, x) {
-        let labels = active::of_part(s, 2, at + 2, depth - 1, active, second);
+        let labels = resume_labels::of_part(s, 2, at + 2, depth - 1, active, second);
         reaction::waiting(labels, tested)
     } else {
         reaction::around(

@@ -40,7 +40,7 @@ pub fn validity_of(s: &[u8], second: &SecondParts, notes: &Notes, labels: Labels
         return Validity::Invalid;
     }
     let active = ranks(labels, notes);
-    if compatibility::compatible(&s[0..], 0, limits::MAX_DEPTH, second, active) {
+    if validity_compatibility::compatible(&s[0..], 0, limits::MAX_DEPTH, second, active) {
         Validity::Valid(active)
     } else {
         Validity::Invalid

@@ -7,14 +7,14 @@ use crate::vector::fresh;
 use crate::vector::malformed;
 use crate::vector::spelled;
 use answers::ANSWER_LENGTH;
-use notation::print;
-use notation::room::ROOM;
-use notation::room::append;
-use notation::room::repeat;
-use notation::room::zeros;
-use notation::words::NONE;
-use notation::words::word;
 use states::STATE_LENGTH;
+use vectors_notation::print;
+use vectors_notation::room::ROOM;
+use vectors_notation::room::append;
+use vectors_notation::room::repeat;
+use vectors_notation::room::zeros;
+use vectors_notation::words::NONE;
+use vectors_notation::words::word;
 
 // The read-back set that the line names, for the calls after it.
 fn declared(line: &[u8], from: usize, vector: Vector) -> Vector {

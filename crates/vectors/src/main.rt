@@ -26,7 +26,7 @@ fn main() {
     let mut space = room();
     let count = io::read_full(STDIN_FILENO, &mut space);
     if count == ROOM {
-        notation::print::text(b"file too long\n");
+        vectors_notation::print::text(b"file too long\n");
         return;
     }
     lines::all(&space[..count]);

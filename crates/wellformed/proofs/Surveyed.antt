@@ -17,7 +17,7 @@ use Rattle.theory.proofs.LabelRows.{fill-is}
 use Rattle.limits.specs.Limits.{wordLabels}
 use Rattle.sets.specs.Sets.{labelCount, twoWords, setAt}
 use Rattle.sets.proofs.Words.{words-none}
-use Rattle.matrix.specs.Rows.{rowBelow, rowOf, Updates}
+use Rattle.wellformed_matrix.specs.Rows.{rowBelow, rowOf, Updates}
 
 pub nothing-before : (x y : Bool) (j : Joint) (p : Statement) {s : ℕ} {m n : List ℕ} → s ≡ none → Updates (fill x y j p s) m n → Updates (fill x y j p none) m n
 nothing-before x y j p {s} {m} {n} e t = subst (λ (k : ℕ). Updates (fill x y j p k) m n) e t

@@ -9,14 +9,14 @@ use Rattle.esterel.specs.Statement.{Statement}
 use Rattle.esterel.specs.LabelTests.{labelsOf, pauses, triggers, Joint, alternative, parallel}
 use Rattle.esterel.specs.LabelRows.{further, fill}
 use Rattle.labels.specs.Labels.{labelSet}
-use Rattle.matrix.specs.Rows.{Updates}
+use Rattle.wellformed_matrix.specs.Rows.{Updates}
 use Rattle.limits.specs.Limits.{maxDepth}
 use Rattle.sequence.specs.Writer.{size}
 use Rattle.layout.specs.Layout.{Two, Lies, Ready, Pair}
 use Rattle.layout.specs.Joints.{jointOf}
-use Rattle.exclusion.specs.declared.Before.{Before}
-use Rattle.exclusion.specs.declared.Walked.{Walked}
-use Rattle.exclusion.specs.Exclusion.{Carries}
+use Rattle.wellformed_exclusion.specs.declared.Before.{Before}
+use Rattle.wellformed_exclusion.specs.declared.Walked.{Walked}
+use Rattle.wellformed_exclusion.specs.Exclusion.{Carries}
 
 -- ---- what the walk requires
 pub record Standing (d a : ℕ) (bs : List ℕ) : Type 0 where

@@ -5,9 +5,9 @@ ghost use lib.ListN.{length};
 ghost use Rattle.limits.specs.Limits.{maxDepth};
 ghost use Rattle.layout.specs.Layout.{rest};
 ghost use Rattle.wellformed.specs.Survey.{Standing, StandingTwo, Passes, PassesTwo, Surveys};
-use exclusion::Before;
-use exclusion::Walked;
-use matrix::Matrix;
+use wellformed_exclusion::Before;
+use wellformed_exclusion::Walked;
+use wellformed_matrix::Matrix;
 
 // Past the statement at the front of s, which stands at the offset `at`.
 fn pass(
@@ -24,18 +24,18 @@ fn pass(
 {
     let command = s[0];
     match command {
-        0 => exclusion::at_other(at + 1),
-        1 => exclusion::at_pause(s[1], at + 2, before, exclusive, concurrent),
+        0 => wellformed_exclusion::at_other(at + 1),
+        1 => wellformed_exclusion::at_pause(s[1], at + 2, before, exclusive, concurrent),
         4 => pass_parts(s, at, 1, false, depth, before, exclusive, concurrent),
         5 => pass_parts(s, at, 1, true, depth, before, exclusive, concurrent),
         6 => pass_part(s, 1, at + 1, depth - 1, before, exclusive, concurrent),
         7 => pass_parts(s, at, 2, false, depth, before, exclusive, concurrent),
         8 => pass_part(s, 2, at + 2, depth - 1, before, exclusive, concurrent),
         9 => pass_part(s, 1, at + 1, depth - 1, before, exclusive, concurrent),
-        10 => exclusion::at_setpause(s[1], at + 2, before, concurrent),
+        10 => wellformed_exclusion::at_setpause(s[1], at + 2, before, concurrent),
         11 => pass_part(s, 2, at + 2, depth - 1, before, exclusive, concurrent),
-        12 => exclusion::at_other(at + 6),
-        _ => exclusion::at_other(at + 2),
+        12 => wellformed_exclusion::at_other(at + 6),
+        _ => wellformed_exclusion::at_other(at + 2),
     }
 }
 
@@ -75,9 +75,9 @@ fn pass_parts(
     let p = pass_part(s, w, at + w, depth - 1, before, exclusive, concurrent);
     let m = p.end;
     let n = m - at;
-    let beyond = exclusion::before_second(parallel, before, p);
+    let beyond = wellformed_exclusion::before_second(parallel, before, p);
     let q = pass_part(s, n, m, depth - 1, beyond, exclusive, concurrent);
-    exclusion::joined(p, q)
+    wellformed_exclusion::joined(p, q)
 }
 
 // What the labels of the whole statement add to the two matrices.

@@ -1,5 +1,5 @@
 use native.Mathlib.Omega.{arith}
-use Rattle.text.proofs.Numerals.{field-fits}
+use Rattle.lines_text.proofs.Numerals.{field-fits}
 use Rattle.lines.proofs.Fields.{sets-put}
 use borrow.Author.Needs.{needs}
 use Rattle.lines.proofs.put_sets.Statement.{statement}

@@ -2,8 +2,8 @@ use mathlib.Core.Path.{_∙_, subst}
 use mathlib.Core.List.{[]}
 use Rattle.runs.specs.Text.{ending}
 use Rattle.runs.specs.Stages as Listing
-use Rattle.stages.specs.declared.Stage.the-variants as stages
-use Rattle.pieces.specs.Answers.{Prints}
+use Rattle.listing_stages.specs.declared.Stage.the-variants as stages
+use Rattle.listing_pieces.specs.Answers.{Prints}
 use Rattle.listing.proofs.Turns.{turn-by, turn-opening, turn-closing, turn-finished}
 use borrow.Author.Needs.{needs}
 use Rattle.listing.proofs.turn.Statement.{statement}

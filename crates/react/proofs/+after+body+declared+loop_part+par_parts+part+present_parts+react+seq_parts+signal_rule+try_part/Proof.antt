@@ -8,7 +8,7 @@ use Rattle.esterel.specs.Traced.{startTraced}
 use Rattle.sequence.specs.Commands.{Command}
 use Rattle.layout.proofs.Laid.{ready, taken-apart, begins, last-one, whole, whole-lies}
 use Rattle.rules.proofs.Combining.{seq-stops}
-use Rattle.emissions.proofs.Values.{pure-emission, litres-emission}
+use Rattle.react_emissions.proofs.Values.{pure-emission, litres-emission}
 use Rattle.react.proofs.Steps.{
   nothing-step,
   emit-step,
@@ -66,7 +66,7 @@ use Rattle.react.proofs.try_part.Kinds as try-part-kinds
 use Rattle.react.proofs.+after+body+declared+loop_part+par_parts+part+present_parts+react+seq_parts+signal_rule+try_part.Lts-try_part as try-part-lts
 use Rattle.reaction.proofs.around.Reads as around-reads
 use Rattle.reaction.proofs.ending.Reads as ending-reads
-use Rattle.emissions.proofs.emitting.Reads as emitting-reads
+use Rattle.react_emissions.proofs.emitting.Reads as emitting-reads
 use Rattle.rules.proofs.in_loop.Reads as in-loop-reads
 use Rattle.rules.proofs.in_parallel.Reads as in-parallel-reads
 use Rattle.rules.proofs.in_sequence.Reads as in-sequence-reads

@@ -24,8 +24,8 @@ use Rattle.reading.proofs.reader.+first+read+two.Lts-read as read-lts
 use Rattle.reading.proofs.reader.two.Reads as two
 use Rattle.reading.proofs.reader.two.Kinds as two-kinds
 use Rattle.reading.proofs.reader.+first+read+two.Lts-two as two-lts
-use Rattle.heads.proofs.is_leaf.Reads as is-leaf-reads
-use Rattle.heads.proofs.width.Reads as width-reads
+use Rattle.reading_heads.proofs.is_leaf.Reads as is-leaf-reads
+use Rattle.reading_heads.proofs.width.Reads as width-reads
 use Rattle.notes.proofs.count.Reads as count-reads
 use Rattle.notes.proofs.signal.Reads as signal-reads
 use Rattle.reading.proofs.leaves.ahead.Reads as ahead-reads

@@ -1,0 +1,25 @@
+-- The previews worked by hand, by computation.
+use mathlib.Core.Path.{_≡_, refl}
+use mathlib.Core.List.{map}
+use Rattle.esterel.specs.Sets.{none, only, member, join, insert, remove}
+use Rattle.esterel.specs.Reaction.{reactBy}
+use Rattle.esterel.specs.Errors.{errorsBy}
+use Rattle.esterel.specs.Reactions.{reactionsBy}
+use Rattle.esterel.specs.LabelTests.{subset, disjoint, labelsOf, everyLabel, distinct, before, wellFormed}
+use Rattle.esterel.specs.Sizes.{signalNesting}
+use Rattle.esterel.specs.ReadBack.{membersFrom, declaredBy}
+use Rattle.sets.specs.Sets.{common, difference, allBelow}
+use Rattle.sets.specs.Subsets.{subsetsBelow}
+use Rattle.sequence.specs.Commands.{commandOf}
+use Rattle.sequence.specs.Reader.{front, read}
+use Rattle.sequence.specs.Check.{checked}
+use Rattle.numbers.specs.Bytes.{leBytes, leNumber}
+use Rattle.states.specs.StateRecord.{decodeState}
+use Rattle.answers.specs.AnswerRecord.{encodeAnswer}
+use Rattle.box_fillings.specs.Preview.{both, gathered, findings, previewOf}
+use Rattle.box_fillings.specs.Worked.{Case, cases}
+
+-- WORKED: each row of the table
+pub worked : map (λ (c : Case). previewOf (c .sequence) (c .state) (c .input) (c .unknown) 0 (c .lent)) cases ≡ map (λ (c : Case). c .shows) cases
+unfolding cases previewOf findings gathered both subsetsBelow common difference allBelow checked read front commandOf signalNesting declaredBy membersFrom distinct wellFormed everyLabel before labelsOf subset disjoint decodeState encodeAnswer leNumber leBytes reactBy errorsBy reactionsBy member none only join insert remove
+worked = refl

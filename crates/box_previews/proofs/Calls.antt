@@ -1,0 +1,95 @@
+-- One law for each return of the call, over plain lists.
+use Prim.Native.Nat.{ℕ, _≤_, _<_}
+use native.Mathlib.Omega.{arith}
+use mathlib.Core.Path.{_≡_, refl, sym, ap, _∙_}
+use mathlib.Core.Logic.{_≢_}
+use mathlib.Core.List.{List}
+use lib.ListN.{length}
+use borrow.Author.Tests.{le-leb, lt-leb}
+use Rattle.limits.specs.Limits.{signalCount, noFarm}
+use Rattle.esterel.specs.ReadBack.{membersFrom}
+use Rattle.esterel.specs.Traced.{startTraced, instantOf}
+use Rattle.sets.specs.Sets.{difference}
+use Rattle.sequence.specs.Program.{program}
+use Rattle.sequence.specs.Check.{checkOf}
+use Rattle.checks.specs.Verdict.{Passed}
+use Rattle.checks.proofs.Passing.{as-ready}
+use Rattle.labels.specs.declared.Labels.{Labels}
+use Rattle.program.specs.declared.Start.{Start}
+use Rattle.program.specs.declared.Start.the-variants.{Fresh, Waiting}
+use Rattle.program.specs.Program.{termAt}
+use Rattle.reaction.specs.Reactions.{reactionOf}
+use Rattle.writing.specs.Written.{writtenFrom}
+use Rattle.tick.specs.Tick.{reacts}
+use Rattle.demands.specs.Demands.{answerAfterwards}
+use Rattle.instants.specs.declared.Standing.the-variants as stands
+use Rattle.instants.specs.declared.Reply.the-variants.{Refused, Reacted}
+use Rattle.instants.specs.Replies.{Decodes, Replies}
+use Rattle.instants.proofs.Replying.{written-from, refused, malformed-reply, over-reply, fresh-reply, waiting-reply}
+use Rattle.box_fillings.specs.declared.Findings.{Findings}
+use Rattle.box_fillings.specs.Preview.{findings, maxUnknown, previewLength, previewBytes, shownBy, Previewed, previewed, answerIn, answersOf, previewOf}
+use Rattle.box_previews.specs.Standing.{answersAt, Stands}
+use Rattle.box_fillings.proofs.Numbers as numbers
+use Rattle.box_fillings.proofs.Numbers.{written-answer, refused-preview}
+
+-- ---- from a origin
+module _ (answers : ℕ → List ℕ) (input unknown : ℕ) (buffer : List ℕ) (n : ℕ) (h : n ≡ length (membersFrom signalCount 0 unknown)) where
+  pub too-many : maxUnknown < n → previewed 17 buffer ≡ shownBy answers input unknown buffer
+  too-many l = rw (lt-leb (length (membersFrom signalCount 0 unknown)) maxUnknown (omega arith))
+
+  pub shown-bytes : n ≤ maxUnknown → (x : Findings) (b : List ℕ) → x ≡ findings answers input unknown → b ≡ previewBytes x
+      → previewed 0 b ≡ shownBy answers input unknown buffer
+  shown-bytes l x b e w =
+      rw (le-leb (length (membersFrom signalCount 0 unknown)) maxUnknown (omega arith)) (ap (previewed 0) (w ∙ ap previewBytes e))
+
+-- ---- from a origin, whatever the input, the machine reacts
+module _ (sequence state : List ℕ) (readBack : ℕ) {second notes : List ℕ} (a : Passed sequence readBack second notes) where
+  abbrev pub Reacts : Start → Type 0
+  Reacts origin = (e : ℕ) → Replies sequence state e readBack (Reacted (reactionOf (startTraced noFarm (program readBack (termAt origin (a .p))) e)))
+
+  pub from-fresh : Decodes (a .p) state stands.Fresh → Reacts Fresh
+  from-fresh d e = fresh-reply sequence state e readBack (a .p) (a .is) (a .ranged) noFarm _ d refl
+
+  pub from-waiting : (m : Labels) → Decodes (a .p) state (stands.Waiting m) → Reacts (Waiting m)
+  from-waiting m d e = waiting-reply sequence state e readBack (a .p) (a .is) (a .ranged) noFarm _ m d refl
+
+  pub stands-at : (origin : Start) → Reacts origin → Stands second sequence origin readBack
+  stands-at origin r = record { p = a .p; lies = a .known .lies; ready = as-ready a; writable = λ e. r e .writable }
+
+  module _ (origin : Start) (r : Reacts origin) (e : ℕ) where
+    -- what is written from the code's instant and from the reply's is one record
+    answers-from : answersAt origin (a .p) readBack e ≡ answersOf sequence state readBack e
+    answers-from =
+        let t = startTraced noFarm (program readBack (termAt origin (a .p))) e in
+        let (t′, h, k) = r e .is in
+        sym (written-answer (instantOf t)) ∙ ap answerAfterwards (sym (written-from t) ∙ ap writtenFrom h ∙ written-from t′)
+        ∙ written-answer (instantOf t′) ∙ sym (ap answerIn k)
+
+-- ---- the call
+module _ (sequence state : List ℕ) (input unknown readBack : ℕ) (buffer : List ℕ) where
+  abbrev Gives : Previewed → Type 0
+  Gives o = o ≡ previewOf sequence state input unknown readBack buffer
+
+  pub other-buffer : length buffer ≢ previewLength → Gives (previewed 1 buffer)
+  other-buffer z = sym (numbers.other-buffer sequence state readBack input unknown buffer z)
+
+  module _ (sized : length buffer ≡ previewLength) where
+    turned-down : (n : ℕ) → Replies sequence state (difference input unknown) readBack (Refused n) → Gives (previewed n buffer)
+    turned-down n h = sym (refused-preview sequence state readBack input unknown buffer sized n (h .is))
+
+    pub unchecked-preview : (n : ℕ) → n ≡ checkOf sequence readBack → n ≢ 0 → Gives (previewed n buffer)
+    unchecked-preview n h z = turned-down n (refused sequence state (difference input unknown) readBack n h z)
+
+    module _ {second notes : List ℕ} (a : Passed sequence readBack second notes) where
+      pub malformed-preview : Decodes (a .p) state stands.Malformed → Gives (previewed 11 buffer)
+      malformed-preview d = turned-down 11 (malformed-reply sequence state (difference input unknown) readBack (a .p) (a .is) (a .ranged) d)
+
+      pub over-preview : Decodes (a .p) state stands.Over → Gives (previewed 12 buffer)
+      over-preview d = turned-down 12 (over-reply sequence state (difference input unknown) readBack (a .p) (a .is) (a .ranged) d)
+
+      pub shown-preview : (origin : Start) → Reacts sequence state readBack a origin → (o : Previewed)
+          → o ≡ shownBy (answersAt origin (a .p) readBack) input unknown buffer → Gives o
+      shown-preview origin r o h =
+          let (t, e, k) = r (difference input unknown) .is in
+          h ∙ ap (λ (f : ℕ → List ℕ). shownBy f input unknown buffer) (λ i e. answers-from sequence state readBack a origin r e i)
+          ∙ sym (numbers.shown-preview sequence state readBack input unknown buffer sized (instantOf t) k)

@@ -1,0 +1,64 @@
+use borrow.Author.Tests.{not-true, not-false}
+use Rattle.runs.specs.File.{whole, sequenceIn, readBackIn}
+use Prim.Native.Nat.{ℕ}
+use mathlib.Core.Bool.{true}
+use mathlib.Core.List.{List}
+use mathlib.Core.Path.{_≡_, sym, ap₂, _∙_}
+use Rattle.sequence.specs.Check.{checkOf}
+use Rattle.runs.proofs.Files.{file-cut, file-runs, file-refused}
+use borrow.Author.Needs.{needs}
+use Rattle.listing_pieces.proofs.open.Statement.{statement}
+use Rattle.listing_pieces.proofs.open.Tie as tie
+use Rattle.listing_pieces.proofs.open.Reads as reads
+use Rattle.listing_pieces.proofs.open.Lts as lts
+use Rattle.intake.proofs.intake_check.Reads as intake-check-reads
+use Rattle.files.proofs.is_whole.Reads as is-whole-reads
+use Rattle.files.proofs.sequence.Reads as sequence-reads
+use Rattle.files.proofs.read_back.Reads as read-back-reads
+
+is-whole-requires : tie.Need-is-whole-requires
+is-whole-requires c κs = search needs
+
+returns : tie.Need-returns
+returns c = file-cut (c .before .before .before .args .file .now) (sym (c .before .is-whole .ensures) ∙ not-true (c .before .is-whole .result) (c .if1 .taken))
+
+read-back-requires : tie.Need-read-back-requires
+read-back-requires c κs = search needs
+
+sequence-requires : tie.Need-sequence-requires
+sequence-requires c κs = search needs
+
+intake-check-requires : tie.Need-intake-check-requires
+intake-check-requires c κs = search needs
+
+abbrev bytes : tie.After-intake-check → List ℕ
+bytes c = c .before .before .before .before .before .before .args .file .now
+
+-- past the test for a whole file: the check's number for the sequence with the read-back set
+is-whole : (c : tie.After-intake-check) → whole (bytes c) ≡ true
+is-whole c =
+    let w = c .before .before .before .before in
+    sym (w .is-whole .ensures) ∙ not-false (w .is-whole .result) (c .before .before .before .if1 .left)
+
+number : (c : tie.After-intake-check) → c .intake-check .result ≡ checkOf (sequenceIn (bytes c)) (readBackIn (bytes c))
+number c = c .intake-check .ensures ∙ ap₂ checkOf (c .before .sequence .ensures) (c .before .before .read-back .ensures)
+
+returns-2 : tie.Need-returns-2
+returns-2 c =
+    file-runs (bytes (c .before)) (c .before .intake-check .result) (is-whole (c .before)) (number (c .before)) (c .if2 .taken)
+
+returns-3 : tie.Need-returns-3
+returns-3 c =
+    file-refused (bytes (c .before)) (c .before .intake-check .result) (is-whole (c .before)) (number (c .before)) (c .if2 .left)
+
+pub open-spec : {M : Type 1} → statement M
+open-spec =
+    tie.close
+    (tie.spec
+    is-whole-requires
+    returns
+    read-back-requires
+    sequence-requires
+    intake-check-requires
+    returns-2
+    returns-3)

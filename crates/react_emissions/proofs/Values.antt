@@ -1,0 +1,68 @@
+-- Emissions: their bytes as they lie in an accepted sequence, their values and what they bring a farm.
+use Prim.Native.Nat.{ℕ, _+_, _≤_}
+use mathlib.Core.Path.{_≡_, refl, sym, ap, _∙_, subst}
+use mathlib.Core.Bool.{Bool, true, false, cond, and-eq-true-iff}
+use mathlib.Core.List.{List}
+use native.Mathlib.Omega.{arith}
+use lib.ListN.{getD, length}
+use lib.Dec.{T, eqb}
+use lib.Ieee.{Float, binary32, ofBits, inUnsigned}
+use borrow.Author.Tests.{eq-eqb, ne-eqb}
+use Rattle.numbers.specs.Bytes.{leNumber, numberAt}
+use Rattle.litres.specs.Litres.{whole, litres}
+use Rattle.litres.proofs.Sums.{value-of}
+use Rattle.esterel.specs.Statement as Esterel
+use Rattle.esterel.specs.Litres.{amount, brought}
+use Rattle.sequence.specs.Amounts.{areBytes, floatIn}
+use Rattle.sequence.specs.Commands.{Command, bytesAt, operandsOf, build}
+use Rattle.sequence.proofs.Table.{byteOf}
+use Rattle.sequence.proofs.Front.{bytes-taken}
+use Rattle.layout.specs.Layout.{Begins}
+use Rattle.reaction.specs.Reactions.{cappedOf}
+use Rattle.react_emissions.specs.declared.Value.{Value}
+use Rattle.react_emissions.specs.declared.Value.the-variants.{Pure, Litres}
+use Rattle.react_emissions.specs.Emissions.{valueIn, amountOf, meant, Whole, Emission}
+
+-- ---- the value by the first byte
+pub with-litres : (bs : List ℕ) {n : ℕ} → n ≡ numberAt 2 4 bs → getD bs 0 0 ≡ 12 → Litres (ofBits binary32 n) ≡ valueIn bs
+with-litres bs h e = ap (λ (x : ℕ). Litres (ofBits binary32 x)) h ∙ rw (eq-eqb (getD bs 0 0) 12 e)
+
+pub without : (bs : List ℕ) → (getD bs 0 0 ≡ 12 → ⊥) → Pure ≡ valueIn bs
+without bs n = rw (ne-eqb (getD bs 0 0) 12 n)
+
+-- ---- what it brings a farm
+most : (v : Value) → Whole v → amountOf v ≡ cappedOf (amount (meant v))
+most Pure w = refl
+most (Litres x) w = let l = value-of x w .1 in omega (arith, l)
+
+module _ (f s : ℕ) (v : Value) where
+  pub to-farm : {u : Value} {n : ℕ} → s ≡ f → u ≡ v → Whole u → n ≡ amountOf u → n ≡ cappedOf (brought f s (meant v))
+  to-farm e h w k = rw (eq-eqb s f e) (k ∙ ap amountOf h ∙ most v (subst Whole h w))
+
+  pub to-other : (s ≡ f → ⊥) → 0 ≡ cappedOf (brought f s (meant v))
+  to-other n = rw (ne-eqb s f n)
+
+-- ---- the bytes of an emission in an accepted sequence
+holds : (b : Bool) → b ≡ true → T b
+holds true h = tt
+holds false h = absurd (let z : _≡_ {A = ℕ} 0 1 = cc in omega arith)
+
+module _ {L : (base a : ℕ) → List ℕ → Esterel.Statement → Type 0} {t : List ℕ} {base a : ℕ} {bs : List ℕ} {p : Esterel.Statement} where
+  -- 02
+  pub pure-emission : getD bs 0 0 ≡ byteOf Command.emit → Begins L t base a bs p Command.emit
+      → Emission bs × (p ≡ Esterel.emit (getD bs 1 0) (meant (valueIn bs)))
+  pure-emission e b =
+      let n : getD bs 0 0 ≡ 12 → ⊥ = λ h. absurd (let z : _≡_ {A = ℕ} 2 12 = sym e ∙ h in omega arith) in
+      (record { there = b .there; fit = λ h. absurd (n h) }, b .parts ∙ ap (λ (v : Value). Esterel.emit (getD bs 1 0) (meant v)) (without bs n))
+
+  -- 0C
+  pub litres-emission : getD bs 0 0 ≡ byteOf Command.deliver → Begins L t base a bs p Command.deliver
+      → Emission bs × (p ≡ Esterel.emit (getD bs 1 0) (meant (valueIn bs)))
+  litres-emission e b =
+      let m : leNumber (bytesAt 2 4 bs) ≡ numberAt 2 4 bs = ap leNumber (bytes-taken 4 2 bs (omega (arith, b .there))) in
+      let w : T (whole (floatIn (bytesAt 2 4 bs)))
+      = holds (inUnsigned binary32 32 (floatIn (bytesAt 2 4 bs))) (and-eq-true-iff (areBytes (bytesAt 2 4 bs)) (inUnsigned binary32 32 (floatIn (bytesAt 2 4 bs))) .0 (b .fit) .1) in (
+        record { there = omega (arith, b .there); fit = λ h. (omega (arith, b .there), subst (λ (x : ℕ). T (whole (ofBits binary32 x))) m w) },
+        b .parts ∙ ap (λ (x : ℕ). Esterel.emit (getD bs 1 0) (Esterel.litres (litres (ofBits binary32 x)))) m
+            ∙ ap (λ (v : Value). Esterel.emit (getD bs 1 0) (meant v)) (with-litres bs refl e),
+      )

@@ -1,0 +1,54 @@
+// An emission (01, 'Commands'; 02, item 12): its value, read from its bytes, and its reaction.
+ghost use mathlib.Core.Path.{_≡_};
+ghost use lib.ListN.{getD};
+ghost use Rattle.esterel.specs.Sets.{none};
+ghost use Rattle.esterel.specs.Statement.{nothing};
+ghost use Rattle.esterel.specs.Reaction.{ended, gives};
+ghost use Rattle.esterel.specs.Litres.{brought};
+ghost use Rattle.sets.specs.Sets.{signalCount, onlyBelow};
+ghost use Rattle.reaction.specs.Reactions.{alone, reactionOf};
+ghost use Rattle.react_emissions.specs.Emissions.{Emission, Whole, valueIn, meant, amountOf};
+use reaction::Reaction;
+
+// What an emission carries: 02 nothing, 0C litres.
+pub enum Value {
+    Pure,
+    Litres(f32),
+}
+
+// The value of the emission at the front of s.
+pub fn carried(s: &[u8]) -> Value
+    requires { ⌜ Emission (now s) ⌝ }
+    ensures { λ r. ⌜ (r ≡ valueIn (now (s .entry))) × Whole r ⌝ }
+{
+    if s[0] == 12 {
+        Value::Litres(f32::from_bits(litres::bits(s, 2)))
+    } else {
+        Value::Pure
+    }
+}
+
+// The litres of a value.
+pub fn amount(v: Value) -> u32
+    requires { ⌜ Whole v ⌝ }
+    ensures { λ r. ⌜ r ≡ amountOf v ⌝ }
+{
+    match v {
+        Value::Pure => 0,
+        Value::Litres(x) => x as u32,
+    }
+}
+
+// An emission reacts. Its litres count where its signal is the farm that is asked for.
+pub fn emitting(s: &[u8], farm: u8) -> Reaction
+    requires { ⌜ Emission (now s) ⌝ }
+    ensures { λ r. ⌜ r ≡ reactionOf (alone (gives (onlyBelow signalCount (getD (now (s .entry)) 1 0)) ended none nothing) none
+        (brought farm (getD (now (s .entry)) 1 0) (meant (valueIn (now (s .entry)))))) ⌝ }
+{
+    let x = s[1];
+    if x == farm {
+        reaction::ending(signals::single(x), amount(carried(s)))
+    } else {
+        reaction::ending(signals::single(x), 0)
+    }
+}

@@ -1,0 +1,268 @@
+use mathlib.Core.Path.{sym, ap, _∙_}
+use native.Mathlib.Omega.{arith}
+use borrow.Author.Needs.{needs}
+use borrow.Author.Tests.{ltb-true}
+use Rattle.esterel.specs.Sets.{below, from}
+use Rattle.esterel.specs.Statement.{local, pause, seq, par, loop, present, signal, try, suspend}
+use Rattle.sequence.specs.Commands.{Command}
+use Rattle.layout.proofs.Laid.{ready, taken-apart, begins, first-ready, second-ready}
+use Rattle.resume_labels.proofs.Steps.{
+  tested,
+  part-mask,
+  here,
+  empty-step,
+  pause-step,
+  loop-step,
+  signal-step,
+  try-step,
+  suspend-step,
+  seq-step,
+  par-step,
+  present-step,
+  parts-step,
+  leaf-step,
+}
+use Prim.Native.Nat.{ℕ, _+_, _*_, _<_}
+use borrow.Fn.Kinds.{In}
+use borrow.Fn.PlainCycle.{Measures, is, falls, and}
+use Rattle.resume_labels.proofs.inside.Reads as inside
+use Rattle.resume_labels.proofs.inside.Kinds as inside-kinds
+use Rattle.resume_labels.proofs.+inside+part+parts.Lts-inside as inside-lts
+use Rattle.resume_labels.proofs.part.Reads as part
+use Rattle.resume_labels.proofs.part.Kinds as part-kinds
+use Rattle.resume_labels.proofs.+inside+part+parts.Lts-part as part-lts
+use Rattle.resume_labels.proofs.parts.Reads as parts
+use Rattle.resume_labels.proofs.parts.Kinds as parts-kinds
+use Rattle.resume_labels.proofs.+inside+part+parts.Lts-parts as parts-lts
+use Rattle.resume_labels.proofs.add.Reads as add-reads
+use Rattle.labels.proofs.below.Reads as below-reads
+use Rattle.labels.proofs.from.Reads as from-reads
+use Rattle.labels.proofs.from_words.Reads as from-words-reads
+use Rattle.labels.proofs.high_word.Reads as high-word-reads
+use Rattle.labels.proofs.is_empty.Reads as is-empty-reads
+use Rattle.labels.proofs.low_word.Reads as low-word-reads
+use Rattle.resume_labels.proofs.+inside+part+parts.{statement}
+use Rattle.resume_labels.proofs.+inside+part+parts.Tie.{close}
+
+abbrev μ-inside : Measures 3 inside-kinds.ps ℕ
+μ-inside κs a = 3 * (a .1 .1 .0) + 1
+
+abbrev μ-part : Measures 3 part-kinds.ps ℕ
+μ-part κs a = 3 * (a .1 .1 .1 .0) + 2
+
+abbrev μ-parts : Measures 3 parts-kinds.ps ℕ
+μ-parts κs a = 3 * (a .1 .1 .1 .0)
+
+abbrev inside-at : ℕ → In 3 inside-kinds.ps
+inside-at t = and 3 inside-kinds.ps (is 3 inside-kinds.ps μ-inside t) inside.Pre
+
+abbrev inside-below : ℕ → In 3 inside-kinds.ps
+inside-below t =
+    and 3 inside-kinds.ps (falls 3 inside-kinds.ps _<_ μ-inside t) inside.Pre
+
+abbrev part-at : ℕ → In 3 part-kinds.ps
+part-at t = and 3 part-kinds.ps (is 3 part-kinds.ps μ-part t) part.Pre
+
+abbrev part-below : ℕ → In 3 part-kinds.ps
+part-below t = and 3 part-kinds.ps (falls 3 part-kinds.ps _<_ μ-part t) part.Pre
+
+abbrev parts-at : ℕ → In 3 parts-kinds.ps
+parts-at t = and 3 parts-kinds.ps (is 3 parts-kinds.ps μ-parts t) parts.Pre
+
+abbrev parts-below : ℕ → In 3 parts-kinds.ps
+parts-below t =
+    and 3 parts-kinds.ps (falls 3 parts-kinds.ps _<_ μ-parts t) parts.Pre
+
+abbrev inside-claims : ℕ → inside-lts.Claims
+inside-claims t = (from-words-reads.Asked, from-words-reads.Learnt, is-empty-reads.Asked, is-empty-reads.Learnt, add-reads.Asked, add-reads.Learnt, parts-below t, parts.Post, part-below t, part.Post)
+
+abbrev part-claims : ℕ → part-lts.Claims
+part-claims t = (inside-below t, inside.Post)
+
+abbrev parts-claims : ℕ → parts-lts.Claims
+parts-claims t = (from-words-reads.Asked, from-words-reads.Learnt, below-reads.Asked, below-reads.Learnt, from-reads.Asked, from-reads.Learnt, low-word-reads.Asked, low-word-reads.Learnt, high-word-reads.Asked, high-word-reads.Learnt, is-empty-reads.Asked, is-empty-reads.Learnt, part-below t, part.Post)
+
+inside-returns : (t : ℕ) → inside-lts.Need-returns (inside-claims t) (inside-at t) inside.Post
+inside-returns t c base p l = empty-step base _ p (tested (c .before .before .from-words .ensures) (c .before .is-empty .ensures) (c .if1 .taken))
+
+inside-shared-slice-read-add : (t : ℕ) → inside-lts.Need-shared-slice-read-add (inside-claims t) (inside-at t) inside.Post
+inside-shared-slice-read-add t c = begins (c .before .before .before .before .before .before .before .pre .1) Command.pause (c .before .match .keys1) .there
+
+inside-parts-requires : (t : ℕ) → inside-lts.Need-parts-requires (inside-claims t) (inside-at t) inside.Post
+inside-parts-requires t c κs = let y = begins (c .before .before .before .before .before .before .before .pre .1) Command.seq (c .before .match .keys2) in (search needs, record { base = _; p = y .parts .0; q = y .parts .1; two = y .parts .2 .1; there = y .there; long = c .before .before .before .before .before .before .before .pre .1 .long })
+
+inside-parts-requires-2 : (t : ℕ) → inside-lts.Need-parts-requires-2 (inside-claims t) (inside-at t) inside.Post
+inside-parts-requires-2 t c κs = let y = begins (c .before .before .before .before .before .before .before .pre .1) Command.par (c .before .match .keys3) in (search needs, record { base = _; p = y .parts .0; q = y .parts .1; two = y .parts .2 .1; there = y .there; long = c .before .before .before .before .before .before .before .pre .1 .long })
+
+inside-parts-requires-3 : (t : ℕ) → inside-lts.Need-parts-requires-3 (inside-claims t) (inside-at t) inside.Post
+inside-parts-requires-3 t c κs = let y = begins (c .before .before .before .before .before .before .before .pre .1) Command.present (c .before .match .keys5) in (search needs, record { base = _; p = y .parts .0; q = y .parts .1; two = y .parts .2 .1; there = y .there; long = c .before .before .before .before .before .before .before .pre .1 .long })
+
+inside-part-requires : (t : ℕ) → inside-lts.Need-part-requires (inside-claims t) (inside-at t) inside.Post
+inside-part-requires t c κs = let y = begins (c .before .before .before .before .before .before .before .pre .1) Command.loop (c .before .match .keys4) in (search needs, (y .there, ready _ (y .parts .0) (c .before .before .before .before .before .before .before .pre .1 .long) (y .parts .1 .1)))
+
+inside-part-requires-2 : (t : ℕ) → inside-lts.Need-part-requires-2 (inside-claims t) (inside-at t) inside.Post
+inside-part-requires-2 t c κs = let y = begins (c .before .before .before .before .before .before .before .pre .1) Command.signal (c .before .match .keys6) in (search needs, (y .there, ready _ (y .parts .0) (c .before .before .before .before .before .before .before .pre .1 .long) (y .parts .1 .1)))
+
+inside-part-requires-3 : (t : ℕ) → inside-lts.Need-part-requires-3 (inside-claims t) (inside-at t) inside.Post
+inside-part-requires-3 t c κs = let y = begins (c .before .before .before .before .before .before .before .pre .1) Command.try (c .before .match .keys7) in (search needs, (y .there, ready _ (y .parts .0) (c .before .before .before .before .before .before .before .pre .1 .long) (y .parts .1 .1)))
+
+inside-part-requires-4 : (t : ℕ) → inside-lts.Need-part-requires-4 (inside-claims t) (inside-at t) inside.Post
+inside-part-requires-4 t c κs = let y = begins (c .before .before .before .before .before .before .before .pre .1) Command.suspend (c .before .match .keys8) in (search needs, (y .there, ready _ (y .parts .0) (c .before .before .before .before .before .before .before .pre .1 .long) (y .parts .1 .1)))
+
+inside-returns-2 : (t : ℕ) → inside-lts.Need-returns-2 (inside-claims t) (inside-at t) inside.Post
+inside-returns-2 t c base p l =
+    let y = taken-apart (c .before .before .before .before .before .before .before .before .before .pre .1) base p l Command.pause (c .before .before .before .match .keys1) in
+    here (pause _) p base _ (y .parts) (pause-step base _ _ (ltb-true _ _ (y .ranged)) (tested (c .before .before .before .before .before .before .before .from-words .ensures) (c .before .before .before .before .before .before .is-empty .ensures) (c .before .before .before .before .before .if1 .left)) (c .add .ensures))
+
+inside-returns-3 : (t : ℕ) → inside-lts.Need-returns-3 (inside-claims t) (inside-at t) inside.Post
+inside-returns-3 t c base p l =
+    let y = taken-apart (c .before .before .before .before .before .before .before .before .pre .1) base p l Command.seq (c .before .before .match .keys2) .parts in
+    here (seq (y .0) (y .1)) p base _ (y .2 .0) (seq-step base _ (y .0) (y .1) (c .parts .ensures base (y .0) (y .1) (y .2 .1)))
+
+inside-returns-4 : (t : ℕ) → inside-lts.Need-returns-4 (inside-claims t) (inside-at t) inside.Post
+inside-returns-4 t c base p l =
+    let y = taken-apart (c .before .before .before .before .before .before .before .before .pre .1) base p l Command.par (c .before .before .match .keys3) .parts in
+    here (par (y .0) (y .1)) p base _ (y .2 .0) (par-step base _ (y .0) (y .1) (c .parts2 .ensures base (y .0) (y .1) (y .2 .1)))
+
+inside-returns-5 : (t : ℕ) → inside-lts.Need-returns-5 (inside-claims t) (inside-at t) inside.Post
+inside-returns-5 t c base p l =
+    let y = taken-apart (c .before .before .before .before .before .before .before .before .pre .1) base p l Command.loop (c .before .before .match .keys4) .parts in
+    here (loop _ (y .0)) p base _ (y .1 .0) (loop-step base _ (y .0) (c .part .ensures base (y .0) (y .1 .1)) _)
+
+inside-returns-6 : (t : ℕ) → inside-lts.Need-returns-6 (inside-claims t) (inside-at t) inside.Post
+inside-returns-6 t c base p l =
+    let y = taken-apart (c .before .before .before .before .before .before .before .before .pre .1) base p l Command.present (c .before .before .match .keys5) .parts in
+    here (present _ (y .0) (y .1)) p base _ (y .2 .0) (present-step base _ (y .0) (y .1) (c .parts3 .ensures base (y .0) (y .1) (y .2 .1)) _)
+
+inside-returns-7 : (t : ℕ) → inside-lts.Need-returns-7 (inside-claims t) (inside-at t) inside.Post
+inside-returns-7 t c base p l =
+    let y = taken-apart (c .before .before .before .before .before .before .before .before .pre .1) base p l Command.signal (c .before .before .match .keys6) .parts in
+    here (signal local _ _ (y .0)) p base _ (y .1 .0) (signal-step base _ (y .0) (c .part2 .ensures base (y .0) (y .1 .1)) _ _)
+
+inside-returns-8 : (t : ℕ) → inside-lts.Need-returns-8 (inside-claims t) (inside-at t) inside.Post
+inside-returns-8 t c base p l =
+    let y = taken-apart (c .before .before .before .before .before .before .before .before .pre .1) base p l Command.try (c .before .before .match .keys7) .parts in
+    here (try (y .0)) p base _ (y .1 .0) (try-step base _ (y .0) (c .part3 .ensures base (y .0) (y .1 .1)))
+
+inside-returns-9 : (t : ℕ) → inside-lts.Need-returns-9 (inside-claims t) (inside-at t) inside.Post
+inside-returns-9 t c base p l =
+    let y = taken-apart (c .before .before .before .before .before .before .before .before .pre .1) base p l Command.suspend (c .before .before .match .keys8) .parts in
+    here (suspend _ (y .0)) p base _ (y .1 .0) (suspend-step base _ (y .0) (c .part4 .ensures base (y .0) (y .1 .1)) _)
+
+inside-returns-10 : (t : ℕ) → inside-lts.Need-returns-10 (inside-claims t) (inside-at t) inside.Post
+inside-returns-10 t c base p l = leaf-step (c .before .before .before .before .before .before .pre .1) base _ p l (c .match .rest)
+
+part-inside-requires : (t : ℕ) → part-lts.Need-inside-requires (part-claims t) (part-at t) part.Post
+part-inside-requires t c κs = (search needs, c .before .before .before .pre .1 .1)
+
+part-returns : (t : ℕ) → part-lts.Need-returns (part-claims t) (part-at t) part.Post
+part-returns t c = c .inside .ensures
+
+parts-element-copy-out-entry : (t : ℕ) → parts-lts.Need-element-copy-out-entry (parts-claims t) (parts-at t) parts.Post
+parts-element-copy-out-entry t c = let r = first-ready (c .before .pre .1) in omega (arith, r .fits, r .bytes, c .before .pre .1 .long)
+
+parts-sub-n : (t : ℕ) → parts-lts.Need-sub-n (parts-claims t) (parts-at t) parts.Post
+parts-sub-n t c = omega (arith, c .before .before .pre .1 .two .place)
+
+parts-sub-part : (t : ℕ) → parts-lts.Need-sub-part (parts-claims t) (parts-at t) parts.Post
+parts-sub-part t c = omega (arith, first-ready (c .before .before .before .before .before .before .before .before .before .pre .1) .levels)
+
+parts-part-requires : (t : ℕ) → parts-lts.Need-part-requires (parts-claims t) (parts-at t) parts.Post
+parts-part-requires t c κs = (omega (arith, first-ready (c .before .before .before .before .before .before .before .before .before .before .pre .1) .levels), (c .before .before .before .before .before .before .before .before .before .before .pre .1 .two .within, second-ready (c .before .before .before .before .before .before .before .before .before .before .pre .1)))
+
+parts-returns : (t : ℕ) → parts-lts.Need-returns (parts-claims t) (parts-at t) parts.Post
+parts-returns t c base p q l =
+    let f = c .before .before .before .before .before .before in
+    parts-step base _ p q _ (l .before) (f .before .below .ensures ∙ ap (below _) (f .before .before .from-words .ensures))
+    (part-mask (from _) (f .before .before .from-words .ensures) (f .from .ensures) (c .before .before .before .before .before .low-word .ensures) (c .before .before .before .before .high-word .ensures))
+    (empty-step base _ p (sym (c .before .before .before .is-empty .ensures) ∙ c .before .before .if1 .taken)) (c .part .ensures _ q (l .second))
+
+parts-sub-part-2 : (t : ℕ) → parts-lts.Need-sub-part-2 (parts-claims t) (parts-at t) parts.Post
+parts-sub-part-2 t c = omega (arith, first-ready (c .before .before .before .before .before .before .before .before .before .before .before .pre .1) .levels)
+
+parts-part-requires-2 : (t : ℕ) → parts-lts.Need-part-requires-2 (parts-claims t) (parts-at t) parts.Post
+parts-part-requires-2 t c κs = (omega (arith, first-ready (c .before .before .before .before .before .before .before .before .before .before .before .before .pre .1) .levels), (c .before .before .before .before .before .before .before .before .before .before .before .before .pre .1 .there, first-ready (c .before .before .before .before .before .before .before .before .before .before .before .before .pre .1)))
+
+parts-returns-2 : (t : ℕ) → parts-lts.Need-returns-2 (parts-claims t) (parts-at t) parts.Post
+parts-returns-2 t c base p q l =
+    let f = c .before .before .before .before .before .before .before .before .before .before in
+    parts-step base _ p q _ (l .before)
+    (part-mask (below _) (f .before .before .from-words .ensures) (f .before .below .ensures) (c .before .before .before .before .before .low-word2 .ensures) (c .before .before .before .before .high-word2 .ensures))
+    (f .from .ensures ∙ ap (from _) (f .before .before .from-words .ensures)) (c .before .before .part2 .ensures base p (l .first))
+    (empty-step _ _ q (sym (c .before .is-empty2 .ensures) ∙ c .if2 .taken))
+
+parts-sub-part-3 : (t : ℕ) → parts-lts.Need-sub-part-3 (parts-claims t) (parts-at t) parts.Post
+parts-sub-part-3 t c = omega (arith, first-ready (c .before .before .before .before .before .before .before .before .before .before .before .before .before .before .before .pre .1) .levels)
+
+parts-part-requires-3 : (t : ℕ) → parts-lts.Need-part-requires-3 (parts-claims t) (parts-at t) parts.Post
+parts-part-requires-3 t c κs = (omega (arith, first-ready (c .before .before .before .before .before .before .before .before .before .before .before .before .before .before .before .before .pre .1) .levels), (c .before .before .before .before .before .before .before .before .before .before .before .before .before .before .before .before .pre .1 .two .within, second-ready (c .before .before .before .before .before .before .before .before .before .before .before .before .before .before .before .before .pre .1)))
+
+parts-returns-3 : (t : ℕ) → parts-lts.Need-returns-3 (parts-claims t) (parts-at t) parts.Post
+parts-returns-3 t c base p q l =
+    let f = c .before .before .before .before .before .before .before .before .before .before .before .before in
+    parts-step base _ p q _ (l .before)
+    (part-mask (below _) (f .before .before .from-words .ensures) (f .before .below .ensures) (c .before .before .before .before .before .before .before .low-word2 .ensures) (c .before .before .before .before .before .before .high-word2 .ensures))
+    (part-mask (from _) (f .before .before .from-words .ensures) (f .from .ensures) (c .before .before .before .before .before .before .before .before .before .before .before .low-word .ensures) (c .before .before .before .before .before .before .before .before .before .before .high-word .ensures))
+    (c .before .before .before .before .part2 .ensures base p (l .first)) (c .part3 .ensures _ q (l .second))
+
+pub +inside+part+parts-spec : {M : Type 1} → statement M
++inside+part+parts-spec =
+    close μ-inside μ-part μ-parts (λ t. inside-lts.spec (inside-claims t) (inside-at t)
+    inside.Post
+    (λ c κs. search needs)
+    (λ c κs. search needs)
+    (inside-returns t)
+    (λ c. search needs)
+    (inside-shared-slice-read-add t)
+    (λ c κs. search needs)
+    (inside-parts-requires t)
+    (inside-parts-requires-2 t)
+    (λ c. search needs)
+    (λ c. search needs)
+    (inside-part-requires t)
+    (inside-parts-requires-3 t)
+    (λ c. search needs)
+    (λ c. search needs)
+    (inside-part-requires-2 t)
+    (λ c. search needs)
+    (λ c. search needs)
+    (inside-part-requires-3 t)
+    (λ c. search needs)
+    (λ c. search needs)
+    (inside-part-requires-4 t)
+    (inside-returns-2 t)
+    (inside-returns-3 t)
+    (inside-returns-4 t)
+    (inside-returns-5 t)
+    (inside-returns-6 t)
+    (inside-returns-7 t)
+    (inside-returns-8 t)
+    (inside-returns-9 t)
+    (inside-returns-10 t))
+    (λ t. part-lts.spec (part-claims t) (part-at t)
+    part.Post
+    (λ c. search needs)
+    (λ c. search needs)
+    (λ c. search needs)
+    (part-inside-requires t)
+    (part-returns t))
+    λ t. parts-lts.spec (parts-claims t) (parts-at t)
+    parts.Post
+    (λ c. search needs)
+    (parts-element-copy-out-entry t)
+    (λ c. search needs)
+    (parts-sub-n t)
+    (λ c κs. search needs) (λ c κs. search needs) (λ c κs. search needs)
+    (λ c κs. search needs) (λ c κs. search needs) (λ c κs. search needs)
+    (parts-sub-part t)
+    (parts-part-requires t)
+    (parts-returns t)
+    (λ c κs. search needs) (λ c κs. search needs)
+    (λ c. search needs)
+    (parts-sub-part-2 t)
+    (parts-part-requires-2 t)
+    (λ c κs. search needs)
+    (parts-returns-2 t)
+    (parts-sub-part-3 t)
+    (parts-part-requires-3 t)
+    (parts-returns-3 t)

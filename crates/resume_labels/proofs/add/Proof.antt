@@ -1,0 +1,17 @@
+use mathlib.Core.Path.{ap₂, _∙_}
+use Rattle.esterel.specs.Sets.{join}
+use Rattle.resume_labels.proofs.Steps.{words-stored}
+use borrow.Author.Needs.{needs}
+use Rattle.resume_labels.proofs.add.Statement.{statement}
+use Rattle.resume_labels.proofs.add.Tie as tie
+
+returns : tie.Need-returns
+returns c =
+    words-stored _ (c .before .low-word .ensures) (c .high-word .ensures)
+    (c .before .before .union .ensures ∙ ap₂ join (c .before .before .before .before .from-words .ensures) (c .before .before .before .single .ensures))
+
+pub add-spec : {M : Type 1} → statement M
+add-spec =
+    tie.close
+    (tie.spec (λ c. search needs) (λ c. search needs) (λ c κs. search needs) (λ c κs. search needs) (λ c κs. search needs)
+    (λ c κs. search needs) (λ c. search needs) (λ c κs. search needs) (λ c. search needs) returns)

@@ -1,0 +1,331 @@
+use mathlib.Core.Path.{refl, sym, _∙_}
+use native.Mathlib.Omega.{arith}
+use borrow.Author.Needs.{needs}
+use borrow.Author.Tests.{not-true, not-false}
+use Rattle.esterel.specs.Statement.{local, seq, par, loop, present, signal, try, suspend}
+use Rattle.sequence.specs.Commands.{Command}
+use Rattle.layout.proofs.Laid.{ready, taken-apart, begins, first-ready, second-ready}
+use Rattle.validity_compatibility.proofs.Steps.{
+  here,
+  loop-step,
+  signal-step,
+  try-step,
+  suspend-step,
+  seq-step,
+  par-step,
+  present-step,
+  second-only,
+  first-only,
+  both-active,
+  both-parts,
+  both,
+  neither,
+  leaf-step,
+  whole-pair,
+  whole-two,
+}
+use Rattle.validity_compatibility.proofs.Single.{single-step}
+use Prim.Native.Nat.{ℕ, _+_, _*_, _<_}
+use borrow.Fn.Kinds.{In}
+use borrow.Fn.PlainCycle.{Measures, is, falls, and}
+use Rattle.validity_compatibility.proofs.compatible.Reads as compatible
+use Rattle.validity_compatibility.proofs.compatible.Kinds as compatible-kinds
+use Rattle.validity_compatibility.proofs.+compatible+compatible_part+compatible_parts.Lts-compatible as compatible-lts
+use Rattle.validity_compatibility.proofs.compatible_part.Reads as compatible-part
+use Rattle.validity_compatibility.proofs.compatible_part.Kinds as compatible-part-kinds
+use Rattle.validity_compatibility.proofs.+compatible+compatible_part+compatible_parts.Lts-compatible_part as compatible-part-lts
+use Rattle.validity_compatibility.proofs.compatible_parts.Reads as compatible-parts
+use Rattle.validity_compatibility.proofs.compatible_parts.Kinds as compatible-parts-kinds
+use Rattle.validity_compatibility.proofs.+compatible+compatible_part+compatible_parts.Lts-compatible_parts as compatible-parts-lts
+use Rattle.labels.proofs.below.Reads as below-reads
+use Rattle.labels.proofs.from.Reads as from-reads
+use Rattle.labels.proofs.is_empty.Reads as is-empty-reads
+use Rattle.labels.proofs.lowest.Reads as lowest-reads
+use Rattle.labels.proofs.without.Reads as without-reads
+use Rattle.validity_compatibility.proofs.+compatible+compatible_part+compatible_parts.{statement}
+use Rattle.validity_compatibility.proofs.+compatible+compatible_part+compatible_parts.Tie.{close}
+
+abbrev μ-compatible : Measures 2 compatible-kinds.ps ℕ
+μ-compatible κs a = 3 * (a .1 .1 .0) + 1
+
+abbrev μ-compatible-part : Measures 2 compatible-part-kinds.ps ℕ
+μ-compatible-part κs a = 3 * (a .1 .1 .1 .0) + 2
+
+abbrev μ-compatible-parts : Measures 2 compatible-parts-kinds.ps ℕ
+μ-compatible-parts κs a = 3 * (a .1 .1 .1 .1 .0)
+
+abbrev compatible-at : ℕ → In 2 compatible-kinds.ps
+compatible-at t =
+    and 2 compatible-kinds.ps (is 2 compatible-kinds.ps μ-compatible t) compatible.Pre
+
+abbrev compatible-below : ℕ → In 2 compatible-kinds.ps
+compatible-below t =
+    and 2 compatible-kinds.ps (falls 2 compatible-kinds.ps _<_ μ-compatible t) compatible.Pre
+
+abbrev compatible-part-at : ℕ → In 2 compatible-part-kinds.ps
+compatible-part-at t =
+    and
+    2
+    compatible-part-kinds.ps
+    (is 2 compatible-part-kinds.ps μ-compatible-part t)
+    compatible-part.Pre
+
+abbrev compatible-part-below : ℕ → In 2 compatible-part-kinds.ps
+compatible-part-below t =
+    and
+    2
+    compatible-part-kinds.ps
+    (falls 2 compatible-part-kinds.ps _<_ μ-compatible-part t)
+    compatible-part.Pre
+
+abbrev compatible-parts-at : ℕ → In 2 compatible-parts-kinds.ps
+compatible-parts-at t =
+    and
+    2
+    compatible-parts-kinds.ps
+    (is 2 compatible-parts-kinds.ps μ-compatible-parts t)
+    compatible-parts.Pre
+
+abbrev compatible-parts-below : ℕ → In 2 compatible-parts-kinds.ps
+compatible-parts-below t =
+    and
+    2
+    compatible-parts-kinds.ps
+    (falls 2 compatible-parts-kinds.ps _<_ μ-compatible-parts t)
+    compatible-parts.Pre
+
+abbrev compatible-claims : ℕ → compatible-lts.Claims
+compatible-claims t = (lowest-reads.Asked, lowest-reads.Learnt, without-reads.Asked, without-reads.Learnt, is-empty-reads.Asked, is-empty-reads.Learnt, compatible-parts-below t, compatible-parts.Post, compatible-part-below t, compatible-part.Post)
+
+abbrev compatible-part-claims : ℕ → compatible-part-lts.Claims
+compatible-part-claims t = (compatible-below t, compatible.Post)
+
+abbrev compatible-parts-claims : ℕ → compatible-parts-lts.Claims
+compatible-parts-claims t = (below-reads.Asked, below-reads.Learnt, from-reads.Asked, from-reads.Learnt, is-empty-reads.Asked, is-empty-reads.Learnt, compatible-part-below t, compatible-part.Post)
+
+compatible-compatible-parts-requires : (t : ℕ) → compatible-lts.Need-compatible-parts-requires (compatible-claims t) (compatible-at t) compatible.Post
+compatible-compatible-parts-requires t c κs = let y = begins (c .before .before .before .before .before .before .before .before .pre .1) Command.seq (c .before .match .keys1) in (search needs, whole-pair record { base = _; p = y .parts .0; q = y .parts .1; two = y .parts .2 .1; there = y .there; long = c .before .before .before .before .before .before .before .before .pre .1 .long })
+
+compatible-compatible-parts-requires-2 : (t : ℕ) → compatible-lts.Need-compatible-parts-requires-2 (compatible-claims t) (compatible-at t) compatible.Post
+compatible-compatible-parts-requires-2 t c κs = let y = begins (c .before .before .before .before .before .before .before .before .pre .1) Command.par (c .before .match .keys2) in (search needs, whole-pair record { base = _; p = y .parts .0; q = y .parts .1; two = y .parts .2 .1; there = y .there; long = c .before .before .before .before .before .before .before .before .pre .1 .long })
+
+compatible-compatible-part-requires : (t : ℕ) → compatible-lts.Need-compatible-part-requires (compatible-claims t) (compatible-at t) compatible.Post
+compatible-compatible-part-requires t c κs = let y = begins (c .before .before .before .before .before .before .before .pre .1) Command.loop (c .match .keys3) in (search needs, (search needs, ready _ (y .parts .0) (c .before .before .before .before .before .before .before .pre .1 .long) (y .parts .1 .1)))
+
+compatible-compatible-parts-requires-3 : (t : ℕ) → compatible-lts.Need-compatible-parts-requires-3 (compatible-claims t) (compatible-at t) compatible.Post
+compatible-compatible-parts-requires-3 t c κs = let y = begins (c .before .before .before .before .before .before .before .before .pre .1) Command.present (c .before .match .keys4) in (search needs, whole-pair record { base = _; p = y .parts .0; q = y .parts .1; two = y .parts .2 .1; there = y .there; long = c .before .before .before .before .before .before .before .before .pre .1 .long })
+
+compatible-compatible-part-requires-2 : (t : ℕ) → compatible-lts.Need-compatible-part-requires-2 (compatible-claims t) (compatible-at t) compatible.Post
+compatible-compatible-part-requires-2 t c κs = let y = begins (c .before .before .before .before .before .before .before .pre .1) Command.signal (c .match .keys5) in (search needs, (y .there, ready _ (y .parts .0) (c .before .before .before .before .before .before .before .pre .1 .long) (y .parts .1 .1)))
+
+compatible-compatible-part-requires-3 : (t : ℕ) → compatible-lts.Need-compatible-part-requires-3 (compatible-claims t) (compatible-at t) compatible.Post
+compatible-compatible-part-requires-3 t c κs = let y = begins (c .before .before .before .before .before .before .before .pre .1) Command.try (c .match .keys6) in (search needs, (search needs, ready _ (y .parts .0) (c .before .before .before .before .before .before .before .pre .1 .long) (y .parts .1 .1)))
+
+compatible-compatible-part-requires-4 : (t : ℕ) → compatible-lts.Need-compatible-part-requires-4 (compatible-claims t) (compatible-at t) compatible.Post
+compatible-compatible-part-requires-4 t c κs = let y = begins (c .before .before .before .before .before .before .before .pre .1) Command.suspend (c .match .keys7) in (search needs, (y .there, ready _ (y .parts .0) (c .before .before .before .before .before .before .before .pre .1 .long) (y .parts .1 .1)))
+
+compatible-returns : (t : ℕ) → compatible-lts.Need-returns (compatible-claims t) (compatible-at t) compatible.Post
+compatible-returns t c base p l = single-step _ base _ p (c .before .before .without .ensures) (sym (c .before .is-empty .ensures) ∙ c .if1 .taken)
+
+compatible-returns-2 : (t : ℕ) → compatible-lts.Need-returns-2 (compatible-claims t) (compatible-at t) compatible.Post
+compatible-returns-2 t c base p l =
+    let y = taken-apart (c .before .before .before .before .before .before .before .before .before .pre .1) base p l Command.seq (c .before .before .match .keys1) .parts in
+    here (seq (y .0) (y .1)) p base _ (y .2 .0) (seq-step base _ (y .0) (y .1) (c .compatible-parts .ensures base (y .0) (y .1) (whole-two (y .2 .1))))
+
+compatible-returns-3 : (t : ℕ) → compatible-lts.Need-returns-3 (compatible-claims t) (compatible-at t) compatible.Post
+compatible-returns-3 t c base p l =
+    let y = taken-apart (c .before .before .before .before .before .before .before .before .before .pre .1) base p l Command.par (c .before .before .match .keys2) .parts in
+    here (par (y .0) (y .1)) p base _ (y .2 .0) (par-step base _ (y .0) (y .1) (c .compatible-parts2 .ensures base (y .0) (y .1) (whole-two (y .2 .1))))
+
+compatible-returns-4 : (t : ℕ) → compatible-lts.Need-returns-4 (compatible-claims t) (compatible-at t) compatible.Post
+compatible-returns-4 t c base p l =
+    let y = taken-apart (c .before .before .before .before .before .before .before .before .pre .1) base p l Command.loop (c .before .match .keys3) .parts in
+    here (loop _ (y .0)) p base _ (y .1 .0) (loop-step base _ (y .0) (c .compatible-part .ensures base (y .0) (y .1 .1)) _)
+
+compatible-returns-5 : (t : ℕ) → compatible-lts.Need-returns-5 (compatible-claims t) (compatible-at t) compatible.Post
+compatible-returns-5 t c base p l =
+    let y = taken-apart (c .before .before .before .before .before .before .before .before .before .pre .1) base p l Command.present (c .before .before .match .keys4) .parts in
+    here (present _ (y .0) (y .1)) p base _ (y .2 .0) (present-step base _ (y .0) (y .1) _ (c .compatible-parts3 .ensures base (y .0) (y .1) (whole-two (y .2 .1))))
+
+compatible-returns-6 : (t : ℕ) → compatible-lts.Need-returns-6 (compatible-claims t) (compatible-at t) compatible.Post
+compatible-returns-6 t c base p l =
+    let y = taken-apart (c .before .before .before .before .before .before .before .before .pre .1) base p l Command.signal (c .before .match .keys5) .parts in
+    here (signal local _ _ (y .0)) p base _ (y .1 .0) (signal-step base _ (y .0) (c .compatible-part2 .ensures base (y .0) (y .1 .1)) _ _)
+
+compatible-returns-7 : (t : ℕ) → compatible-lts.Need-returns-7 (compatible-claims t) (compatible-at t) compatible.Post
+compatible-returns-7 t c base p l =
+    let y = taken-apart (c .before .before .before .before .before .before .before .before .pre .1) base p l Command.try (c .before .match .keys6) .parts in
+    here (try (y .0)) p base _ (y .1 .0) (try-step base _ (y .0) (c .compatible-part3 .ensures base (y .0) (y .1 .1)))
+
+compatible-returns-8 : (t : ℕ) → compatible-lts.Need-returns-8 (compatible-claims t) (compatible-at t) compatible.Post
+compatible-returns-8 t c base p l =
+    let y = taken-apart (c .before .before .before .before .before .before .before .before .pre .1) base p l Command.suspend (c .before .match .keys7) .parts in
+    here (suspend _ (y .0)) p base _ (y .1 .0) (suspend-step base _ (y .0) (c .compatible-part4 .ensures base (y .0) (y .1 .1)) _)
+
+compatible-returns-9 : (t : ℕ) → compatible-lts.Need-returns-9 (compatible-claims t) (compatible-at t) compatible.Post
+compatible-returns-9 t c base p l = leaf-step (c .before .before .before .before .before .before .before .pre .1) base _ p l (c .match .rest)
+
+compatible-part-compatible-requires : (t : ℕ) → compatible-part-lts.Need-compatible-requires (compatible-part-claims t) (compatible-part-at t) compatible-part.Post
+compatible-part-compatible-requires t c κs = (search needs, c .before .before .pre .1 .1)
+
+compatible-part-returns : (t : ℕ) → compatible-part-lts.Need-returns (compatible-part-claims t) (compatible-part-at t) compatible-part.Post
+compatible-part-returns t c = c .compatible .ensures
+
+compatible-parts-element-copy-out-entry :
+    (t : ℕ) → compatible-parts-lts.Need-element-copy-out-entry (
+      below-reads.Asked,
+      below-reads.Learnt,
+      from-reads.Asked,
+      from-reads.Learnt,
+      is-empty-reads.Asked,
+      is-empty-reads.Learnt,
+      compatible-part-below t,
+      compatible-part.Post,
+    ) (compatible-parts-at t) compatible-parts.Post
+compatible-parts-element-copy-out-entry t c =
+    let r = first-ready (c .before .pre .1) in omega (arith, r .fits, r .bytes, c .before .pre .1 .long)
+
+compatible-parts-sub-compatible-part : (t : ℕ) → compatible-parts-lts.Need-sub-compatible-part (compatible-parts-claims t) (compatible-parts-at t) compatible-parts.Post
+compatible-parts-sub-compatible-part t c = omega (arith, first-ready (c .before .before .before .before .before .before .pre .1) .levels)
+
+compatible-parts-compatible-part-requires :
+    (t : ℕ) → compatible-parts-lts.Need-compatible-part-requires (
+      below-reads.Asked,
+      below-reads.Learnt,
+      from-reads.Asked,
+      from-reads.Learnt,
+      is-empty-reads.Asked,
+      is-empty-reads.Learnt,
+      compatible-part-below t,
+      compatible-part.Post,
+    ) (compatible-parts-at t) compatible-parts.Post
+compatible-parts-compatible-part-requires t c κs = (omega (arith, first-ready (c .before .before .before .before .before .before .pre .1) .levels), (c .before .before .before .before .before .before .pre .1 .two .within, second-ready (c .before .before .before .before .before .before .pre .1)))
+
+compatible-parts-returns : (t : ℕ) → compatible-parts-lts.Need-returns (compatible-parts-claims t) (compatible-parts-at t) compatible-parts.Post
+compatible-parts-returns t c base p q l =
+    second-only base _ p q (c .before .before .before .before .before .before .before .args .parallel) _ _ _ (l .before) (c .before .before .before .before .below .ensures) (c .before .before .before .from .ensures) (sym (c .before .before .is-empty .ensures) ∙ c .before .if1 .taken)
+    (c .compatible-part .ensures _ q (l .second))
+
+compatible-parts-sub-compatible-part-2 : (t : ℕ) → compatible-parts-lts.Need-sub-compatible-part-2 (compatible-parts-claims t) (compatible-parts-at t) compatible-parts.Post
+compatible-parts-sub-compatible-part-2 t c = omega (arith, first-ready (c .before .before .before .before .before .before .before .before .pre .1) .levels)
+
+compatible-parts-compatible-part-requires-2 :
+    (t : ℕ) → compatible-parts-lts.Need-compatible-part-requires-2 (
+      below-reads.Asked,
+      below-reads.Learnt,
+      from-reads.Asked,
+      from-reads.Learnt,
+      is-empty-reads.Asked,
+      is-empty-reads.Learnt,
+      compatible-part-below t,
+      compatible-part.Post,
+    ) (compatible-parts-at t) compatible-parts.Post
+compatible-parts-compatible-part-requires-2 t c κs = (omega (arith, first-ready (c .before .before .before .before .before .before .before .before .pre .1) .levels), (c .before .before .before .before .before .before .before .before .pre .1 .there, first-ready (c .before .before .before .before .before .before .before .before .pre .1)))
+
+compatible-parts-returns-2 : (t : ℕ) → compatible-parts-lts.Need-returns-2 (compatible-parts-claims t) (compatible-parts-at t) compatible-parts.Post
+compatible-parts-returns-2 t c base p q l =
+    first-only base _ p q (c .before .before .before .before .before .before .before .before .before .args .parallel) _ _ _ (l .before) (c .before .before .before .before .before .before .below .ensures) (c .before .before .before .before .before .from .ensures) (sym (c .before .before .before .before .is-empty .ensures) ∙ c .before .before .before .if1 .left)
+    (sym (c .before .before .is-empty2 .ensures) ∙ c .before .if2 .taken) (c .compatible-part2 .ensures _ p (l .first))
+
+compatible-parts-returns-3 : (t : ℕ) → compatible-parts-lts.Need-returns-3 (compatible-parts-claims t) (compatible-parts-at t) compatible-parts.Post
+compatible-parts-returns-3 t c base p q l =
+    both-active base _ p q (c .before .before .before .before .before .before .before .before .before .args .parallel) _ _ _ (l .before) (c .before .before .before .before .before .before .below .ensures) (c .before .before .before .before .before .from .ensures) (sym (c .before .before .before .before .is-empty .ensures) ∙ c .before .before .before .if1 .left)
+    (sym (c .before .before .is-empty2 .ensures) ∙ c .before .if2 .left) (not-true _ (c .if3 .taken)) refl
+
+compatible-parts-sub-compatible-part-3 : (t : ℕ) → compatible-parts-lts.Need-sub-compatible-part-3 (compatible-parts-claims t) (compatible-parts-at t) compatible-parts.Post
+compatible-parts-sub-compatible-part-3 t c = omega (arith, first-ready (c .before .before .before .before .before .before .before .before .before .pre .1) .levels)
+
+compatible-parts-compatible-part-requires-3 :
+    (t : ℕ) → compatible-parts-lts.Need-compatible-part-requires-3 (
+      below-reads.Asked,
+      below-reads.Learnt,
+      from-reads.Asked,
+      from-reads.Learnt,
+      is-empty-reads.Asked,
+      is-empty-reads.Learnt,
+      compatible-part-below t,
+      compatible-part.Post,
+    ) (compatible-parts-at t) compatible-parts.Post
+compatible-parts-compatible-part-requires-3 t c κs = (omega (arith, first-ready (c .before .before .before .before .before .before .before .before .before .pre .1) .levels), (c .before .before .before .before .before .before .before .before .before .pre .1 .there, first-ready (c .before .before .before .before .before .before .before .before .before .pre .1)))
+
+compatible-parts-sub-compatible-part-4 : (t : ℕ) → compatible-parts-lts.Need-sub-compatible-part-4 (compatible-parts-claims t) (compatible-parts-at t) compatible-parts.Post
+compatible-parts-sub-compatible-part-4 t c = omega (arith, first-ready (c .before .before .before .before .before .before .before .before .before .before .before .pre .1) .levels)
+
+compatible-parts-compatible-part-requires-4 :
+    (t : ℕ) → compatible-parts-lts.Need-compatible-part-requires-4 (
+      below-reads.Asked,
+      below-reads.Learnt,
+      from-reads.Asked,
+      from-reads.Learnt,
+      is-empty-reads.Asked,
+      is-empty-reads.Learnt,
+      compatible-part-below t,
+      compatible-part.Post,
+    ) (compatible-parts-at t) compatible-parts.Post
+compatible-parts-compatible-part-requires-4 t c κs = (omega (arith, first-ready (c .before .before .before .before .before .before .before .before .before .before .before .pre .1) .levels), (c .before .before .before .before .before .before .before .before .before .before .before .pre .1 .two .within, second-ready (c .before .before .before .before .before .before .before .before .before .before .before .pre .1)))
+
+compatible-parts-returns-4 : (t : ℕ) → compatible-parts-lts.Need-returns-4 (compatible-parts-claims t) (compatible-parts-at t) compatible-parts.Post
+compatible-parts-returns-4 t c base p q l =
+    both-parts base _ p q (c .before .before .before .before .before .before .before .before .before .before .before .before .args .parallel) _ _ _ (l .before) (c .before .before .before .before .before .before .before .before .before .below .ensures) (c .before .before .before .before .before .before .before .before .from .ensures) (sym (c .before .before .before .before .before .before .before .is-empty .ensures) ∙ c .before .before .before .before .before .before .if1 .left)
+    (sym (c .before .before .before .before .before .is-empty2 .ensures) ∙ c .before .before .before .before .if2 .left) (not-false _ (c .before .before .before .if3 .left))
+    (both (sym (c .before .before .compatible-part3 .ensures _ p (l .first)) ∙ c .before .if4 .taken) (c .compatible-part4 .ensures _ q (l .second)))
+
+compatible-parts-returns-5 : (t : ℕ) → compatible-parts-lts.Need-returns-5 (compatible-parts-claims t) (compatible-parts-at t) compatible-parts.Post
+compatible-parts-returns-5 t c base p q l =
+    both-parts base _ p q (c .before .before .before .before .before .before .before .before .before .before .before .args .parallel) _ _ _ (l .before) (c .before .before .before .before .before .before .before .before .below .ensures) (c .before .before .before .before .before .before .before .from .ensures) (sym (c .before .before .before .before .before .before .is-empty .ensures) ∙ c .before .before .before .before .before .if1 .left)
+    (sym (c .before .before .before .before .is-empty2 .ensures) ∙ c .before .before .before .if2 .left) (not-false _ (c .before .before .if3 .left))
+    (neither _ (sym (c .before .compatible-part3 .ensures _ p (l .first)) ∙ c .if4 .left))
+
+pub +compatible+compatible-part+compatible-parts-spec : {M : Type 1} → statement M
++compatible+compatible-part+compatible-parts-spec =
+    close μ-compatible μ-compatible-part μ-compatible-parts (λ t. compatible-lts.spec (compatible-claims t) (compatible-at t)
+    compatible.Post
+    (λ c κs. search needs) (λ c κs. search needs) (λ c κs. search needs)
+    (compatible-returns t)
+    (λ c. search needs) (λ c. search needs) (λ c. search needs) (λ c. search needs)
+    (compatible-compatible-parts-requires t)
+    (λ c. search needs) (λ c. search needs) (λ c. search needs)
+    (compatible-compatible-parts-requires-2 t)
+    (λ c. search needs) (λ c. search needs)
+    (compatible-compatible-part-requires t)
+    (λ c. search needs) (λ c. search needs) (λ c. search needs)
+    (compatible-compatible-parts-requires-3 t)
+    (λ c. search needs) (λ c. search needs)
+    (compatible-compatible-part-requires-2 t)
+    (λ c. search needs) (λ c. search needs)
+    (compatible-compatible-part-requires-3 t)
+    (λ c. search needs) (λ c. search needs)
+    (compatible-compatible-part-requires-4 t)
+    (compatible-returns-2 t)
+    (compatible-returns-3 t)
+    (compatible-returns-4 t)
+    (compatible-returns-5 t)
+    (compatible-returns-6 t)
+    (compatible-returns-7 t)
+    (compatible-returns-8 t)
+    (compatible-returns-9 t))
+    (λ t. compatible-part-lts.spec (compatible-part-claims t) (compatible-part-at t)
+    compatible-part.Post
+    (λ c. search needs) (λ c. search needs) (λ c. search needs)
+    (compatible-part-compatible-requires t)
+    (compatible-part-returns t))
+    λ t. compatible-parts-lts.spec (compatible-parts-claims t) (compatible-parts-at t)
+    compatible-parts.Post
+    (λ c. search needs)
+    (compatible-parts-element-copy-out-entry t)
+    (λ c. search needs) (λ c. search needs) (λ c κs. search needs) (λ c κs. search needs) (λ c κs. search needs)
+    (compatible-parts-sub-compatible-part t)
+    (compatible-parts-compatible-part-requires t)
+    (compatible-parts-returns t)
+    (λ c κs. search needs) (λ c. search needs)
+    (compatible-parts-sub-compatible-part-2 t)
+    (compatible-parts-compatible-part-requires-2 t)
+    (compatible-parts-returns-2 t)
+    (compatible-parts-returns-3 t)
+    (λ c. search needs)
+    (compatible-parts-sub-compatible-part-3 t)
+    (compatible-parts-compatible-part-requires-3 t)
+    (compatible-parts-sub-compatible-part-4 t)
+    (compatible-parts-compatible-part-requires-4 t)
+    (compatible-parts-returns-4 t)
+    (compatible-parts-returns-5 t)

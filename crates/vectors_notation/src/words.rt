@@ -1,0 +1,33 @@
+// The words on a line: each is a number with a space before it.
+ghost use Prim.Native.Nat.{min, _+_, _≤_};
+ghost use mathlib.Core.Path.{_≡_};
+ghost use lib.ListN.{length};
+ghost use Rattle.vectors_notation.specs.Words.{wordValue, wordEnd};
+use crate::digits::number;
+
+// More than any number that a line may name: what stands there is no number.
+pub const NONE: u64 = 0x100000000;
+
+// The number that a word is, and where the word ends.
+pub struct Parsed {
+    pub value: u64,
+    pub end: usize,
+}
+
+// The number to the base 16 whose word begins at `at`.
+pub fn word(line: &[u8], at: usize) -> Parsed
+    ensures { λ r. ⌜ (r .value ≡ wordValue (now (line .entry)) at) × (r .end ≡ wordEnd (now (line .entry)) at) ⌝ }
+    ensures { λ r. ⌜ (min (at + 1) (length (now (line .entry))) ≤ r .end) × (r .end ≤ length (now (line .entry))) ⌝ }
+{
+    if line.len() <= at {
+        return Parsed {
+            value: NONE,
+            end: line.len(),
+        };
+    }
+    let end = bytes::scan::find(line, at + 1, line.len(), b' ');
+    Parsed {
+        value: number(line, at, end, 16),
+        end: end,
+    }
+}
