@@ -6,6 +6,9 @@ use limits::PLACE_BYTES;
 use limits::REACTIONS_BYTES;
 use limits::SIGNAL_BYTES;
 
+// The code of a wrong instant.
+pub const WRONG: u8 = 255;
+
 // Where the fields of several bytes begin.
 pub const PLACE_AT: usize = 2;
 

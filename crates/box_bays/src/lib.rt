@@ -276,7 +276,7 @@ pub fn restore(stretch: &mut [u8], name: u32) -> u8
         return 15;
     }
     let labels = box_positions::saved_labels(saved, i);
-    states::write_state(&mut stretch[STATE_AT..COUNT_AT], 1, labels);
+    states::write_state(&mut stretch[STATE_AT..COUNT_AT], states::WAITING, labels);
     0
 }
 

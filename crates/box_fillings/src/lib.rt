@@ -31,7 +31,7 @@ pub fn alone(emitted: u32, code: u8) -> Findings
     Findings {
         every: emitted,
         some: emitted,
-        wrong: code == 255,
+        wrong: code == answers::WRONG,
         code,
     }
 }

@@ -25,7 +25,7 @@ fn found(r: Reaction) -> Findings
         Completion::Ended => box_fillings::alone(r.emitted, 0),
         Completion::Waiting => box_fillings::alone(r.emitted, 1),
         Completion::Leaving(n) => box_fillings::alone(r.emitted, n + 1),
-        Completion::Wrong(_, _) => box_fillings::alone(0, 255),
+        Completion::Wrong(_, _) => box_fillings::alone(0, answers::WRONG),
     }
 }
 

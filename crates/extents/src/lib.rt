@@ -61,13 +61,13 @@ pub fn of_statement(s: &[u8], at: usize, depth: u8, second: &SecondParts) -> Ext
 {
     let command = s[0];
     match command {
-        4 => of_parts(s, at, 1, depth, second),
-        5 => of_parts(s, at, 1, depth, second),
-        6 => around(of_part(s, 1, at + 1, depth - 1, second), 1, 0),
-        7 => of_parts(s, at, 2, depth, second),
-        8 => around(of_part(s, 2, at + 2, depth - 1, second), 0, 1),
-        9 => around(of_part(s, 1, at + 1, depth - 1, second), 0, 0),
-        11 => around(of_part(s, 2, at + 2, depth - 1, second), 0, 0),
+        limits::SEQUENCE => of_parts(s, at, 1, depth, second),
+        limits::PARALLEL => of_parts(s, at, 1, depth, second),
+        limits::LOOP => around(of_part(s, 1, at + 1, depth - 1, second), 1, 0),
+        limits::PRESENT => of_parts(s, at, 2, depth, second),
+        limits::SIGNAL => around(of_part(s, 2, at + 2, depth - 1, second), 0, 1),
+        limits::TRY => around(of_part(s, 1, at + 1, depth - 1, second), 0, 0),
+        limits::SUSPEND => around(of_part(s, 2, at + 2, depth - 1, second), 0, 0),
         _ => single(),
     }
 }

@@ -25,17 +25,17 @@ pub fn decode(sequence: &[u8], second: &SecondParts, notes: &Notes, state: &[u8]
 {
     let phase = states::phase(state);
     let labels = states::labels(state);
-    if phase == 1 {
+    if phase == states::WAITING {
         return match validity::validity_of(sequence, second, notes, labels) {
             Validity::Valid(active) => Standing::Waiting(active),
             Validity::Invalid => Standing::Malformed,
         };
     }
     if labels::is_empty(labels) {
-        if phase == 0 {
+        if phase == states::FRESH {
             return Standing::Fresh;
         }
-        if phase == 2 {
+        if phase == states::OVER {
             return Standing::Over;
         }
     }

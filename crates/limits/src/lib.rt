@@ -11,8 +11,35 @@ pub const SIGNALS: u8 = 32;
 
 pub const MAX_EXIT: u8 = 15;
 
+// The command bytes (01, 'Commands'; 0B by 02, item 1, 0C by item 12).
+pub const NOTHING: u8 = 0;
+
+pub const PAUSE: u8 = 1;
+
+pub const EMIT: u8 = 2;
+
+pub const EXIT: u8 = 3;
+
+pub const SEQUENCE: u8 = 4;
+
+pub const PARALLEL: u8 = 5;
+
+pub const LOOP: u8 = 6;
+
+pub const PRESENT: u8 = 7;
+
+pub const SIGNAL: u8 = 8;
+
+pub const TRY: u8 = 9;
+
+pub const SETPAUSE: u8 = 10;
+
+pub const SUSPEND: u8 = 11;
+
+pub const DELIVER: u8 = 12;
+
 // The greatest command byte: row 3 begins above it.
-pub const LAST_COMMAND: u8 = 12;
+pub const LAST_COMMAND: u8 = DELIVER;
 
 // The outermost command has depth 1; at most so many signal commands stand around a command.
 pub const MAX_DEPTH: u8 = 64;

@@ -47,7 +47,7 @@ pub fn is_finished(run: Run) -> bool
 pub fn following(phase: u8, i: usize) -> Stage
     ensures { λ r. ⌜ r ≡ stageAfter phase i ⌝ }
 {
-    if phase == 2 {
+    if phase == states::OVER {
         Stage::Closing
     } else {
         Stage::Running(i)

@@ -67,15 +67,15 @@ pub fn leaf(b: u8, x: u8, notes: &mut Notes)
     requires { ⌜ Notable b x (now notes) ⌝ }
     ensures { λ _. ⌜ LeafNoted b x (now (notes .entry)) (now (notes .exit)) ⌝ }
 {
-    if b == 1 {
+    if b == limits::PAUSE {
         note_pause(x, notes);
         return;
     }
-    if b == 10 {
+    if b == limits::SETPAUSE {
         note_setpause(x, notes);
         return;
     }
-    if b == 12 {
+    if b == limits::DELIVER {
         note_farm(x, notes);
     }
 }

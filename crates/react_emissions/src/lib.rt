@@ -21,7 +21,7 @@ pub fn carried(s: &[u8]) -> Value
     requires { ⌜ Emission (now s) ⌝ }
     ensures { λ r. ⌜ (r ≡ valueIn (now (s .entry))) × Whole r ⌝ }
 {
-    if s[0] == 12 {
+    if s[0] == limits::DELIVER {
         Value::Litres(f32::from_bits(litres::bits(s, 2)))
     } else {
         Value::Pure

@@ -41,16 +41,16 @@ pub fn ahead(s: &[u8], at: usize, depth: u8, notes: &mut Notes) -> usize
     }
     let b = s[0];
     let x = s[1];
-    if b == 0 {
+    if b == limits::NOTHING {
         return at + 1;
     }
-    if b == 2 {
+    if b == limits::EMIT {
         if x < limits::SIGNALS {
             return at + 2;
         }
         return 0;
     }
-    if b == 3 {
+    if b == limits::EXIT {
         if x == 0 {
             return 0;
         }
@@ -62,11 +62,11 @@ pub fn ahead(s: &[u8], at: usize, depth: u8, notes: &mut Notes) -> usize
     if limits::LABELS <= x {
         return 0;
     }
-    if b == 1 {
+    if b == limits::PAUSE {
         notes::leaf(b, x, notes);
         return at + 2;
     }
-    if b == 10 {
+    if b == limits::SETPAUSE {
         notes::leaf(b, x, notes);
         return at + 2;
     }

@@ -107,10 +107,10 @@ fn read(
     if b < 6 {
         return two(&s[1..], at, 1, depth - 1, signals, second, notes);
     }
-    if b == 7 {
+    if b == limits::PRESENT {
         return two(&s[2..], at, 2, depth - 1, signals, second, notes);
     }
-    if b == 8 {
+    if b == limits::SIGNAL {
         if signals == 0 {
             return 6 * layout::ROW_UNIT;
         }

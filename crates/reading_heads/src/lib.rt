@@ -43,13 +43,13 @@ pub fn leaf(s: &[u8], b: u8) -> usize
     requires { ⌜ isLeaf (partsAt b) ≡ true ⌝ }
     ensures { λ r. ⌜ r ≡ headOf (front (now (s .entry))) ⌝ }
 {
-    if b == 0 {
+    if b == limits::NOTHING {
         return 1;
     }
     if s.len() <= 1 {
         return 4 * layout::ROW_UNIT;
     }
-    if b == 12 {
+    if b == limits::DELIVER {
         return delivery(&s[0..]);
     }
     if commands::in_range(b, s[1]) {

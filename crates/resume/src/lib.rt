@@ -25,13 +25,13 @@ pub fn resume(
 {
     let command = s[0];
     match command {
-        4 => seq_parts(s, at, depth, input, farm, active, second),
-        5 => par_parts(s, at, depth, input, farm, active, second),
-        6 => loop_part(s, at, depth, input, farm, active, second),
-        7 => present_parts(s, at, depth, input, farm, active, second),
-        8 => signal_rule(s, at, depth, input, farm, active, second),
-        9 => try_part(s, at, depth, input, farm, active, second),
-        11 => suspend_part(s, at, depth, input, farm, active, second),
+        limits::SEQUENCE => seq_parts(s, at, depth, input, farm, active, second),
+        limits::PARALLEL => par_parts(s, at, depth, input, farm, active, second),
+        limits::LOOP => loop_part(s, at, depth, input, farm, active, second),
+        limits::PRESENT => present_parts(s, at, depth, input, farm, active, second),
+        limits::SIGNAL => signal_rule(s, at, depth, input, farm, active, second),
+        limits::TRY => try_part(s, at, depth, input, farm, active, second),
+        limits::SUSPEND => suspend_part(s, at, depth, input, farm, active, second),
         _ => reaction::ending(0, 0),
     }
 }
@@ -52,7 +52,7 @@ fn part(
     requires { ⌜ Ready (now second) depth at (rest n (now s)) ⌝ }
     ensures { λ r. ⌜ Resumed (now (second .entry)) depth at (rest n (now (s .entry))) (labelSet active) input farm r ⌝ }
 {
-    if s[n] == 1 {
+    if s[n] == limits::PAUSE {
         return reaction::ending(0, 0);
     }
     resume(&s[n..], at, depth, input, farm, active, second)
@@ -221,7 +221,7 @@ fn body(
     requires { ⌜ Ready (now second) depth at (rest n (now s)) ⌝ }
     ensures { λ r. ⌜ Resumed (now (second .entry)) depth at (rest n (now (s .entry))) (labelSet active) input farm r ⌝ }
 {
-    if s[n] == 8 {
+    if s[n] == limits::SIGNAL {
         return declared(&s[n..], at, depth, input, farm, active, second);
     }
     part(s, n, at, depth, input, farm, active, second)

@@ -40,14 +40,14 @@ fn inside(
     }
     let command = s[0];
     match command {
-        1 => add(s[1], found),
-        4 => parts(s, at, 1, depth, low, high, second, found),
-        5 => parts(s, at, 1, depth, low, high, second, found),
-        6 => part(s, 1, at + 1, depth - 1, low, high, second, found),
-        7 => parts(s, at, 2, depth, low, high, second, found),
-        8 => part(s, 2, at + 2, depth - 1, low, high, second, found),
-        9 => part(s, 1, at + 1, depth - 1, low, high, second, found),
-        11 => part(s, 2, at + 2, depth - 1, low, high, second, found),
+        limits::PAUSE => add(s[1], found),
+        limits::SEQUENCE => parts(s, at, 1, depth, low, high, second, found),
+        limits::PARALLEL => parts(s, at, 1, depth, low, high, second, found),
+        limits::LOOP => part(s, 1, at + 1, depth - 1, low, high, second, found),
+        limits::PRESENT => parts(s, at, 2, depth, low, high, second, found),
+        limits::SIGNAL => part(s, 2, at + 2, depth - 1, low, high, second, found),
+        limits::TRY => part(s, 1, at + 1, depth - 1, low, high, second, found),
+        limits::SUSPEND => part(s, 2, at + 2, depth - 1, low, high, second, found),
         _ => {}
     }
 }

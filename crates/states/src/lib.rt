@@ -11,6 +11,13 @@ use labels::Labels;
 use limits::LABEL_BYTES;
 use limits::WORD_BYTES;
 
+// The phases of a state record (01, 'States and resuming').
+pub const FRESH: u8 = 0;
+
+pub const WAITING: u8 = 1;
+
+pub const OVER: u8 = 2;
+
 // Where the label set begins.
 pub const LABELS_AT: usize = 1;
 

@@ -90,15 +90,15 @@ pub fn of_statement(s: &[u8], at: usize, depth: u8, second: &SecondParts) -> Siz
 {
     let command = s[0];
     match command {
-        0 => capped(1, 1, 1),
-        4 => of_parts(s, at, 1, depth, second),
-        5 => of_parts(s, at, 1, depth, second),
-        6 => around_loop(of_part(s, 1, at + 1, depth - 1, second)),
-        7 => of_parts(s, at, 2, depth, second),
-        8 => around(of_part(s, 2, at + 2, depth - 1, second), 2),
-        9 => around(of_part(s, 1, at + 1, depth - 1, second), 1),
-        11 => around(of_part(s, 2, at + 2, depth - 1, second), 2),
-        12 => capped(6, 6, 1),
+        limits::NOTHING => capped(1, 1, 1),
+        limits::SEQUENCE => of_parts(s, at, 1, depth, second),
+        limits::PARALLEL => of_parts(s, at, 1, depth, second),
+        limits::LOOP => around_loop(of_part(s, 1, at + 1, depth - 1, second)),
+        limits::PRESENT => of_parts(s, at, 2, depth, second),
+        limits::SIGNAL => around(of_part(s, 2, at + 2, depth - 1, second), 2),
+        limits::TRY => around(of_part(s, 1, at + 1, depth - 1, second), 1),
+        limits::SUSPEND => around(of_part(s, 2, at + 2, depth - 1, second), 2),
+        limits::DELIVER => capped(6, 6, 1),
         _ => capped(2, 2, 1),
     }
 }

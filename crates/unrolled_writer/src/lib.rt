@@ -84,34 +84,34 @@ pub fn write(
 {
     let command = s[0];
     match command {
-        0 => head_one(s, i, buffer),
-        1 => pause(s, copying, i, buffer),
-        4 => {
+        limits::NOTHING => head_one(s, i, buffer),
+        limits::PAUSE => pause(s, copying, i, buffer),
+        limits::SEQUENCE => {
             let j = head_one(s, i, buffer);
             parts(s, at, 1, depth, copying, second, j, buffer)
         }
-        5 => {
+        limits::PARALLEL => {
             let j = head_one(s, i, buffer);
             parts(s, at, 1, depth, copying, second, j, buffer)
         }
-        6 => looped(s, at + 1, depth - 1, copying, second, i, buffer),
-        7 => {
+        limits::LOOP => looped(s, at + 1, depth - 1, copying, second, i, buffer),
+        limits::PRESENT => {
             let j = head_two(s, i, buffer);
             parts(s, at, 2, depth, copying, second, j, buffer)
         }
-        8 => {
+        limits::SIGNAL => {
             let j = head_two(s, i, buffer);
             part(s, 2, at + 2, depth - 1, copying, second, j, buffer)
         }
-        9 => {
+        limits::TRY => {
             let j = head_one(s, i, buffer);
             part(s, 1, at + 1, depth - 1, copying, second, j, buffer)
         }
-        11 => {
+        limits::SUSPEND => {
             let j = head_two(s, i, buffer);
             part(s, 2, at + 2, depth - 1, copying, second, j, buffer)
         }
-        12 => head_six(s, i, buffer),
+        limits::DELIVER => head_six(s, i, buffer),
         _ => head_two(s, i, buffer),
     }
 }

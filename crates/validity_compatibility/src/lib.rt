@@ -17,13 +17,13 @@ pub fn compatible(s: &[u8], at: usize, depth: u8, second: &SecondParts, active: 
     }
     let command = s[0];
     match command {
-        4 => compatible_parts(&s[0..], at, 1, false, depth, second, active),
-        5 => compatible_parts(&s[0..], at, 1, true, depth, second, active),
-        6 => compatible_part(s, 1, at + 1, depth - 1, second, active),
-        7 => compatible_parts(&s[0..], at, 2, false, depth, second, active),
-        8 => compatible_part(s, 2, at + 2, depth - 1, second, active),
-        9 => compatible_part(s, 1, at + 1, depth - 1, second, active),
-        11 => compatible_part(s, 2, at + 2, depth - 1, second, active),
+        limits::SEQUENCE => compatible_parts(&s[0..], at, 1, false, depth, second, active),
+        limits::PARALLEL => compatible_parts(&s[0..], at, 1, true, depth, second, active),
+        limits::LOOP => compatible_part(s, 1, at + 1, depth - 1, second, active),
+        limits::PRESENT => compatible_parts(&s[0..], at, 2, false, depth, second, active),
+        limits::SIGNAL => compatible_part(s, 2, at + 2, depth - 1, second, active),
+        limits::TRY => compatible_part(s, 1, at + 1, depth - 1, second, active),
+        limits::SUSPEND => compatible_part(s, 2, at + 2, depth - 1, second, active),
         _ => true,
     }
 }

@@ -24,17 +24,23 @@ fn pass(
 {
     let command = s[0];
     match command {
-        0 => wellformed_exclusion::at_other(at + 1),
-        1 => wellformed_exclusion::at_pause(s[1], at + 2, before, exclusive, concurrent),
-        4 => pass_parts(s, at, 1, false, depth, before, exclusive, concurrent),
-        5 => pass_parts(s, at, 1, true, depth, before, exclusive, concurrent),
-        6 => pass_part(s, 1, at + 1, depth - 1, before, exclusive, concurrent),
-        7 => pass_parts(s, at, 2, false, depth, before, exclusive, concurrent),
-        8 => pass_part(s, 2, at + 2, depth - 1, before, exclusive, concurrent),
-        9 => pass_part(s, 1, at + 1, depth - 1, before, exclusive, concurrent),
-        10 => wellformed_exclusion::at_setpause(s[1], at + 2, before, concurrent),
-        11 => pass_part(s, 2, at + 2, depth - 1, before, exclusive, concurrent),
-        12 => wellformed_exclusion::at_other(at + 6),
+        limits::NOTHING => wellformed_exclusion::at_other(at + 1),
+        limits::PAUSE => wellformed_exclusion::at_pause(
+            s[1],
+            at + 2,
+            before,
+            exclusive,
+            concurrent,
+        ),
+        limits::SEQUENCE => pass_parts(s, at, 1, false, depth, before, exclusive, concurrent),
+        limits::PARALLEL => pass_parts(s, at, 1, true, depth, before, exclusive, concurrent),
+        limits::LOOP => pass_part(s, 1, at + 1, depth - 1, before, exclusive, concurrent),
+        limits::PRESENT => pass_parts(s, at, 2, false, depth, before, exclusive, concurrent),
+        limits::SIGNAL => pass_part(s, 2, at + 2, depth - 1, before, exclusive, concurrent),
+        limits::TRY => pass_part(s, 1, at + 1, depth - 1, before, exclusive, concurrent),
+        limits::SETPAUSE => wellformed_exclusion::at_setpause(s[1], at + 2, before, concurrent),
+        limits::SUSPEND => pass_part(s, 2, at + 2, depth - 1, before, exclusive, concurrent),
+        limits::DELIVER => wellformed_exclusion::at_other(at + 6),
         _ => wellformed_exclusion::at_other(at + 2),
     }
 }

@@ -16,20 +16,20 @@ pub fn finish(state: &mut [u8], answer: &mut [u8], r: Reaction) -> u8
     let k = r.completion;
     match k {
         Completion::Ended => {
-            states::write_state(state, 2, labels::empty());
+            states::write_state(state, states::OVER, labels::empty());
             answers::write_answer(answer, 0, 0, 0, r.emitted, r.reactions);
         }
         Completion::Waiting => {
-            states::write_state(state, 1, r.labels);
+            states::write_state(state, states::WAITING, r.labels);
             answers::write_answer(answer, 1, 0, 0, r.emitted, r.reactions);
         }
         Completion::Leaving(n) => {
-            states::write_state(state, 2, labels::empty());
+            states::write_state(state, states::OVER, labels::empty());
             answers::write_answer(answer, n + 1, 0, 0, r.emitted, r.reactions);
         }
         Completion::Wrong(kind, place) => {
-            states::write_state(state, 2, labels::empty());
-            answers::write_answer(answer, 255, kind, place, 0, r.reactions);
+            states::write_state(state, states::OVER, labels::empty());
+            answers::write_answer(answer, answers::WRONG, kind, place, 0, r.reactions);
         }
     }
     0
