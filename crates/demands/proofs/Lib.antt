@@ -15,8 +15,6 @@ pub mod Decided
 pub mod Replacements
 pub mod ReadBack
 pub mod Bays
-pub mod Suspended
-pub mod FirstErrors
-pub mod ReadBackRuns
+pub mod Runs
 pub mod Ceiling
 pub mod Theorems

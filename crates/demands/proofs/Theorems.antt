@@ -47,10 +47,8 @@ use Rattle.demands.proofs.Calls as calls
 use Rattle.demands.proofs.Decided as decided
 use Rattle.demands.proofs.Replacements as refuted
 use Rattle.demands.proofs.Bays as bays
-use Rattle.demands.proofs.Suspended as suspends
-use Rattle.demands.proofs.FirstErrors as firsts
+use Rattle.demands.proofs.Runs.{worked}
 use Rattle.demands.proofs.ReadBack as reads
-use Rattle.demands.proofs.ReadBackRuns as read-back-runs
 use Rattle.demands.proofs.Ceiling as ceilings
 
 -- an accepted sequence spells one statement
@@ -169,7 +167,7 @@ host-status-ignored = reads.tick-unread
 
 -- bays with a read-back set
 pub read-back : ShowsRuns readBackRuns tickOf
-read-back = read-back-runs.read-back
+read-back = worked .2
 
 -- ---- the number of reactions (02, item 6); that the answer holds it whole is demand 2's (`counted`, `counted-rules`)
 -- it never exceeds the ceiling: of every accepted sequence and set, in every state that row 11 admits and for every input
@@ -207,11 +205,11 @@ starred = bays.starred
 
 -- ---- bays with suspend
 pub suspended : ShowsRuns suspendRuns tickOf
-suspended = suspends.suspended
+suspended = worked .0
 
 -- ---- bays with more errors than one, or one in a run of a signal
 pub first-errors : ShowsRuns firstErrorRuns tickOf
-first-errors = firsts.first-errors
+first-errors = worked .1
 
 -- ---- what the demands refuse
 -- 01's checklist: a check and a tick that meet demands 1 and 2 are checkOf and tickOf, for all arguments, and so meet demand 3

@@ -1,4 +1,4 @@
--- The bays with a read-back set, by computation.
+-- The bays worked by hand, by computation: with suspend, whose first error is not their only one, and with a read-back set.
 use mathlib.Core.Path.{refl}
 use Rattle.esterel.specs.Sets.{none, only, member, join, insert, remove}
 use Rattle.esterel.specs.Reaction.{reactBy}
@@ -17,9 +17,11 @@ use Rattle.answers.specs.AnswerRecord.{encodeAnswer}
 use Rattle.tick.specs.Tick.{tickBy, tickOf}
 use Rattle.demands.specs.Demands.{outcomes}
 use Rattle.demands.specs.Worked.{ShowsRuns}
+use Rattle.demands.specs.Suspended.{suspendRuns}
+use Rattle.demands.specs.FirstErrors.{firstErrorRuns}
 use Rattle.demands.specs.ReadBack.{readBackRuns}
 
--- THE BAYS WITH A READ-BACK SET: each row of the table
-pub read-back : ShowsRuns readBackRuns tickOf
-unfolding readBackRuns outcomes tickBy checked read front commandOf signalNesting declaredBy membersFrom distinct wellFormed everyLabel before labelsOf activeLabels valid subset disjoint active expand decodeState encodeState encodeAnswer leNumber leBytes reactBy errorsBy member none only join insert remove
-read-back = refl
+-- EACH ROW OF THE THREE TABLES
+pub worked : ShowsRuns suspendRuns tickOf × ShowsRuns firstErrorRuns tickOf × ShowsRuns readBackRuns tickOf
+unfolding suspendRuns firstErrorRuns readBackRuns outcomes tickBy checked read front commandOf signalNesting declaredBy membersFrom distinct wellFormed everyLabel before labelsOf activeLabels valid subset disjoint active expand decodeState encodeState encodeAnswer leNumber leBytes reactBy errorsBy member none only join insert remove
+worked = (refl, refl, refl)
