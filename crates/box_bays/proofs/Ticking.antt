@@ -1,14 +1,12 @@
 -- One law for each return of the code of a bay's step, over plain lists.
 use Prim.Native.Nat.{ℕ}
 use native.Mathlib.Omega.{arith}
-use mathlib.Core.Path.{_≡_, refl, sym, ap, _∙_}
+use mathlib.Core.Path.{_≡_, sym, ap, _∙_}
 use mathlib.Core.Logic.{_≢_}
-use mathlib.Core.Bool.{Bool, true, false}
-use mathlib.Core.List.{List, [], _∷_, _++_}
-use lib.ListN.{length, take, drop, length-drop}
+use mathlib.Core.List.{List, [], _∷_}
+use lib.ListN.{length, drop, length-drop}
 use lib.Seq.{length-take-le}
-use lib.Dec.{eqb}
-use borrow.Author.Tests.{eq-eqb, eqb-true, eqb-false}
+use borrow.Author.Tests.{eq-eqb}
 use Rattle.states.specs.StateRecord.{stateLength}
 use Rattle.answers.specs.AnswerRecord.{answerLength}
 use Rattle.tick.specs.Tick.{Outcome, outcome, tickBy, tickOf, replyOf}
@@ -19,10 +17,9 @@ use Rattle.instants.specs.declared.Reply.{Reply}
 use Rattle.instants.specs.declared.Reply.the-variants.{Refused, Reacted}
 use Rattle.instants.specs.Replies.{repliedFrom, Replies}
 use Rattle.instants.proofs.Replying.{replied-from}
-use Rattle.box_parts.specs.Parts.{put}
 use Rattle.box_parts.proofs.Parts.{put-slot}
-use Rattle.box_calls.specs.Called.{called, number}
-use Rattle.box_calls.specs.Stretch.{stateAt, countAt, stretchLength, sequenceIn, readBackIn, stateIn}
+use Rattle.box_calls.specs.Called.{called}
+use Rattle.box_calls.specs.Stretch.{stateAt, stretchLength, sequenceIn, readBackIn, stateIn}
 use Rattle.box_calls.specs.BayCalls.{stateKept, bayStepOf}
 
 pub state-sized : (s : List ℕ) → length s ≡ stretchLength → length (stateIn s) ≡ stateLength

@@ -11,7 +11,6 @@ use Rattle.limits.specs.Limits.{litresLimit}
 use Rattle.litres.specs.Litres.{whole, within}
 use Rattle.box_ledgers.specs.Ledgers as Ledgers
 use Rattle.box_ledgers.specs.Ledgers.{farmCount, readingLength, fieldIn, totalIn, exactTotal, readingOf, totalRead}
-use Rattle.recordings.specs.Record.{recordLength}
 use Rattle.tick.specs.Tick.{tickOf}
 use Rattle.demands.specs.Demands as demands
 use Rattle.box_calls.specs.Called.{called, number, memoryAfter}

@@ -14,8 +14,7 @@ use Rattle.limits.specs.Limits.{maxDepth, readBackPlace}
 use Rattle.esterel.specs.Sets.{member, none, remove, empty, below, from}
 use Rattle.esterel.specs.Statement.{Statement, nothing, pause, emit, exit, seq, par, loop, present, signal, try, setpause, suspend, held}
 use Rattle.esterel.specs.Reaction.{emitted, code, react, isWrong}
-use Rattle.esterel.specs.Ranks.{middle, labelsBy}
-use Rattle.esterel.specs.Traced.{startTraced}
+use Rattle.esterel.specs.Ranks.{middle}
 use Rattle.esterel.specs.RankedExpansion.{expandBy}
 use Rattle.esterel.specs.ReadBack.{declaredBy, declared}
 use Rattle.esterel.specs.Litres.{AtMost, delivered}
@@ -24,14 +23,12 @@ use Rattle.theory.proofs.Ceiling.{chosen}
 use Rattle.theory.proofs.Theorems.{no-litres, unnamed-no-litres}
 use Rattle.labels.specs.Labels.{labelSet}
 use Rattle.sequence.specs.Program.{readBackSignals, program}
-use Rattle.sequence.specs.Rows.{Spells}
-use Rattle.sequence.proofs.Rows.{Decides, decided}
 use Rattle.layout.specs.Layout.{Lies}
 use Rattle.reaction.specs.declared.Reaction.{Reaction}
-use Rattle.reaction.specs.Reactions.{cappedOf, reactionOf}
+use Rattle.reaction.specs.Reactions.{cappedOf}
 use Rattle.program.specs.declared.Start.{Start}
 use Rattle.program.specs.declared.Start.the-variants.{Fresh, Waiting}
-use Rattle.program.specs.Program.{termAt, Reacted}
+use Rattle.program.specs.Program.{Reacted}
 use Rattle.farms.proofs.Theorems.{unnamed-none}
 use Rattle.layout.specs.Notes.{farmsIn, Noted}
 use Rattle.layout.proofs.Noting.{farms-below}

@@ -10,18 +10,18 @@ use native.Mathlib.Decide.{decLt, ℕ-discrete}
 use lib.ListN.{length, getD, take, drop, set, length-append}
 use lib.Seq.{sets, sets-eq, length-sets, length-take-le, getD-set-other, take-at, drop-at, drop-append-le}
 use lib.IntN.{pos}
-use lib.Dec.{T, eqb}
+use lib.Dec.{eqb}
 use lib.Ieee.{Float, binary32, ofBits, toBits, ofInt, inUnsigned}
-use borrow.Author.Tests.{eqb-true, eqb-false, ne-eqb, eq-eqb}
+use borrow.Author.Tests.{eqb-true}
 use Rattle.limits.specs.Limits.{litresLimit}
-use Rattle.numbers.specs.Bytes.{leBytes, leNumber, numberAt}
+use Rattle.numbers.specs.Bytes.{leNumber, numberAt}
 use Rattle.numbers.proofs.Bytes.{length-leBytes}
 use Rattle.sequence.specs.Amounts.{amountBytes, areBytes, floatIn}
 use Rattle.sequence.specs.Commands.{bytesAt}
 use Rattle.sequence.proofs.Amounts.{amount-written}
 use Rattle.sequence.proofs.Front.{bytes-taken}
 use Rattle.litres.specs.Litres.{whole, litres}
-use Rattle.box_ledgers.specs.Ledgers.{farmCount, ledgerLength, fieldIn, totalIn, Exact, passes, addedTo, addedBelow, added}
+use Rattle.box_ledgers.specs.Ledgers.{farmCount, ledgerLength, fieldIn, totalIn, Exact, passes, addedTo, addedBelow}
 use Rattle.box_ledgers.proofs.Totals.{total-whole, passes-not}
 
 -- ---- bytes elsewhere

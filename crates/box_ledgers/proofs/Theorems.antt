@@ -16,7 +16,7 @@ use lib.Ieee.Fits.{add-fits}
 use Rattle.esterel.specs.Sets.{member, none}
 use Rattle.theory.proofs.Sets.{member-none}
 use Rattle.limits.specs.Limits.{litresLimit}
-use Rattle.numbers.specs.Bytes.{leBytes, leNumber, numberAt}
+use Rattle.numbers.specs.Bytes.{leBytes, leNumber}
 use Rattle.numbers.proofs.Bytes.{length-leBytes, le-round-trip}
 use Rattle.sequence.specs.Amounts.{amountSize, amountBytes, areBytes, floatIn}
 use Rattle.sequence.proofs.Amounts.{amount-written}

@@ -3,16 +3,16 @@ use Prim.Native.Nat.{ℕ, zero, suc, _+_, _-_, _*_, _≤_, _<_}
 use mathlib.Core.Path.{_≡_, refl, sym, ap, ap₂, _∙_, subst}
 use mathlib.Core.Bool.{Bool, true, false, not, _||_, cond, true≢false}
 use native.Mathlib.Decide.{ℕ-discrete}
-use mathlib.Core.List.{List, [], _∷_, _++_}
+use mathlib.Core.List.{List, _++_}
 use native.Mathlib.Omega.{arith}
 use native.Mathlib.Numerals.{add-one}
-use lib.ListN.{length, getD, length-append}
+use lib.ListN.{length, length-append}
 use lib.Seq.{sets, length-sets}
 use lib.IntN.{pos}
-use lib.Dec.{T, ltb, eqb}
+use lib.Dec.{T, ltb}
 use lib.Ieee.{Float, binary32, ofBits, toBits, ofInt, add, isNan, fits, inFloat}
 use lib.Ieee as Ieee
-use lib.Ieee.Bits.{ofBits-fits, toBits-lt, is-true}
+use lib.Ieee.Bits.{ofBits-fits, toBits-lt}
 use lib.Ieee.Fits.{ofInt-fits, add-fits}
 use lib.Ieee.Back.{float-back-unsigned}
 use borrow.Author.Tests.{ltb-false, lt-ltb, le-ltb}
@@ -22,7 +22,7 @@ use Rattle.numbers.proofs.Bytes.{length-leBytes}
 use Rattle.numbers.proofs.Writing.{sets-append, sets-whole}
 use Rattle.sequence.specs.Amounts.{amountBytes}
 use Rattle.litres.specs.Litres.{whole, litres, exact, ordered, Whole, within}
-use Rattle.litres.proofs.Sums.{value-of, sum-is, int-is, to-float, whole-no-nan, Added, added-all}
+use Rattle.litres.proofs.Sums.{value-of, sum-is, int-is, to-float, whole-no-nan}
 use Rattle.box_ledgers.specs.Ledgers.{farmCount, readingLength, fieldIn, totalIn, totalFloat, totalsBytes, wouldPass, exactTotal, shownTotal}
 
 pub holds : (b : Bool) → b ≡ true → T b

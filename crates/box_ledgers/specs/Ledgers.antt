@@ -1,9 +1,8 @@
 -- The year's ledger of one bay number (02, item 12): a total for each farm, a single-precision number in 4 bytes, lowest first.
-use Prim.Native.Nat.{ℕ, zero, suc, _+_, _*_, _≤_, _<_}
+use Prim.Native.Nat.{ℕ, zero, suc, _+_, _*_, _<_}
 use mathlib.Core.Path.{_≡_}
 use mathlib.Core.Bool.{Bool, true, false, _||_, cond}
 use mathlib.Core.List.{List, [], _++_}
-use lib.ListN.{length}
 use lib.Seq.{sets}
 use lib.IntN.{pos}
 use lib.Dec.{eqb, ltb}

@@ -1,5 +1,5 @@
 -- A preview of a bay: the stretch stays, and so do the lent bytes where it is turned down.
-use Prim.Native.Nat.{ℕ, _≤_, _<_}
+use Prim.Native.Nat.{ℕ, _<_}
 use native.Mathlib.Omega.{arith}
 use mathlib.Core.Path.{_≡_, refl, sym, ap, _∙_}
 use mathlib.Core.Logic.{_≢_, ⊎-elim}
@@ -8,7 +8,7 @@ use Rattle.box_fillings.specs.Preview as fillings
 use Rattle.box_fillings.specs.Preview.{Previewed, previewed, previewOf}
 use Rattle.sequence.specs.Rows.{rank}
 use Rattle.box_fillings.proofs.Numbers.{lent-left, preview-range}
-use Rattle.box_calls.specs.Called.{Called, called, number, memoryAfter}
+use Rattle.box_calls.specs.Called.{called, number, memoryAfter}
 use Rattle.box_calls.specs.Stretch.{sequenceIn, readBackIn, stateIn}
 use Rattle.box_calls.specs.BayCalls.{stretchKept, bayPreviewOf}
 

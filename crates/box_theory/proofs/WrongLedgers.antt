@@ -5,7 +5,6 @@ use mathlib.Core.Path.{_≡_, refl}
 use mathlib.Core.List.{List, [], _∷_}
 use lib.ListN.{replicate}
 use lib.Ieee.{ofBits, toBits, ofInt, add, whole, inUnsigned, toUnsigned}
-use Rattle.limits.specs.Limits.{litresLimit}
 use Rattle.esterel.specs.Sets as Sets
 use Rattle.esterel.specs.Sets.{only, member, join, insert, remove}
 use Rattle.esterel.specs.Reaction.{reactBy}

@@ -16,7 +16,7 @@ use Rattle.numbers.specs.Bytes.{leBytes}
 use Rattle.numbers.proofs.Bytes.{length-leBytes}
 use Rattle.states.specs.StateRecord.{stateLength, stateRecord, phaseIn, labelsIn}
 use Rattle.states.proofs.StateLaws.{state-sized}
-use Rattle.box_parts.specs.Parts.{slot, put, zeros}
+use Rattle.box_parts.specs.Parts.{put, zeros}
 use Rattle.box_parts.proofs.Parts.{slot-put, put-behind}
 use Rattle.box_parts.proofs.Zeros.{slot-zeros}
 use Rattle.box_positions.specs.Table.{tableLength, lookup, Kept, kept, tableKept, saveOf, forgetOf}

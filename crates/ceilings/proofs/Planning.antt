@@ -20,7 +20,6 @@ use Rattle.extents.specs.declared.Extent.{Extent}
 use Rattle.extents.specs.Extents.{Has}
 use Rattle.sequence.specs.Ceilings.{ceilingOf}
 use Rattle.ceilings.specs.Ceilings.{Plannable}
-use Rattle.ceilings.specs.declared.Plan.{Plan}
 use Rattle.ceilings.specs.declared.Plan.the-variants.{Refused, Takes}
 use Rattle.ceilings.specs.Plans.{planOf}
 use Rattle.extents.proofs.Sizes.{sized}

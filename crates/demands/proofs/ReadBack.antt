@@ -1,19 +1,18 @@
 -- What a read-back set changes (02, item 5): an empty one nothing, and the host's status of its signals is never read.
-use Prim.Native.Nat.{ℕ, zero, suc, _+_, _<_}
-use native.Mathlib.Omega.{arith}
+use Prim.Native.Nat.{ℕ}
 use mathlib.Core.Path.{_≡_, refl, ap, _∙_}
-use mathlib.Core.Bool.{Bool, true, false, _&&_, cond}
-use mathlib.Core.List.{List, [], _∷_, List·Memᴰ}
+use mathlib.Core.Bool.{_&&_, cond}
+use mathlib.Core.List.{List}
 use lib.ListN.{length}
-use lib.Dec.{eqb, leb, ltb}
+use lib.Dec.{eqb, leb}
 use borrow.Author.Tests.{le-ltb}
-use Rattle.esterel.specs.Sets.{member, none}
+use Rattle.esterel.specs.Sets.{none}
 use Rattle.esterel.specs.Statement.{Statement}
-use Rattle.esterel.specs.Reaction.{Order, inheritanceFirst}
+use Rattle.esterel.specs.Reaction.{inheritanceFirst}
 use Rattle.esterel.specs.Expansion.{expand}
 use Rattle.esterel.specs.Instants.{start}
 use Rattle.esterel.specs.Machines.{State}
-use Rattle.esterel.specs.ReadBack.{membersFrom, declaredBy, declared}
+use Rattle.esterel.specs.ReadBack.{declaredBy, declared}
 use Rattle.theory.proofs.ReadBack.{members-none, expand-declared, declared-unread}
 use Rattle.limits.specs.Limits.{maxBytes, maxDepth, maxSignals, signalCount, readBackPlace}
 use Rattle.sequence.specs.Reader.{Read, accepted, refused, read}

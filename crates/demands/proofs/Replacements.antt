@@ -8,7 +8,7 @@ use borrow.Author.Tests.{eq-eqb}
 use Rattle.esterel.specs.Sets.{none, only, member, join}
 use Rattle.esterel.specs.Statement.{pure, nothing, pause, emit, seq, setpause}
 use Rattle.esterel.specs.Reaction.{ended, waiting, gives, reactBy}
-use Rattle.esterel.specs.Rules.{Reacts, ReactsBy}
+use Rattle.esterel.specs.Rules.{ReactsBy}
 use Rattle.esterel.specs.Errors.{errorsBy}
 use Rattle.esterel.specs.Reactions.{reactionsBy}
 use Rattle.esterel.specs.Places.{seq₁, seq₂, Place, At}

@@ -10,7 +10,7 @@ use lib.ListN.{length}
 use lib.Dec.{eqb}
 use borrow.Author.Tests.{eq-eqb, ne-eqb}
 use Rattle.esterel.specs.Statement.{Statement}
-use Rattle.esterel.specs.Reaction.{Reaction, gives, ended, waiting, leaving, wrong, react, inheritanceFirst, Order}
+use Rattle.esterel.specs.Reaction.{Reaction, gives, ended, waiting, leaving, wrong, react, Order}
 use Rattle.esterel.specs.States.{Valid, Distinct, Targeted, Source, WellFormed}
 use Rattle.esterel.specs.Expansion.{expand}
 use Rattle.esterel.specs.Errors.{Error}

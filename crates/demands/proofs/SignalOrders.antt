@@ -9,7 +9,7 @@ use mathlib.Core.List.{List, [], _∷_, List·Memᴰ}
 use lib.ListN.{length}
 use lib.Dec.{eqb}
 use Rattle.esterel.specs.Statement.{Statement}
-use Rattle.esterel.specs.Reaction.{Code, wrong, isWrong, Reaction, gives, code, Order, printed, inheritanceFirst, reactBy, react}
+use Rattle.esterel.specs.Reaction.{wrong, isWrong, Reaction, gives, code, Order, printed, inheritanceFirst, reactBy, react}
 use Rattle.esterel.specs.Errors.{Error, firstErrorBy, firstError}
 use Rattle.esterel.specs.Reactions.{reactionsBy, reactions}
 use Rattle.esterel.specs.SignalOrders.{overlap}
@@ -27,7 +27,7 @@ use Rattle.answers.specs.AnswerRecord.{answerLength, encodeAnswer, codeIn, code
 use Rattle.tick.specs.Tick.{Outcome, outcome, written, Reply, byState, byCheck, replyBy, replyOf, replied, tickBy, tickOf}
 use Rattle.tick.specs.Paper.{Call}
 use Rattle.demands.specs.Demands.{number, stateAfterwards, answerAfterwards, outcomes, StandsAt, uncounted}
-use Rattle.demands.proofs.Bounds.{Exits, code-exits}
+use Rattle.demands.proofs.Bounds.{code-exits}
 use Rattle.demands.proofs.Sequence.{accepted}
 use Rattle.demands.proofs.Demand2.{called-wrong, Fitting, stands-written, passed-check, state-sized, answer-sized, stands}
 

@@ -5,7 +5,7 @@ use mathlib.Core.List.{List, [], _∷_}
 use lib.ListN.{length}
 use lib.Dec.{eqb}
 use Rattle.esterel.specs.Statement.{Statement}
-use Rattle.esterel.specs.Machines.{State, addsByLabels, Rewriting, addsByRewriting}
+use Rattle.esterel.specs.Machines.{addsByLabels, Rewriting, addsByRewriting}
 use Rattle.sequence.specs.Program.{program}
 use Rattle.sequence.specs.Check.{Checked, sound, bad, checked}
 use Rattle.states.specs.StateRecord.{stateLength, Decoded, holds, malformed, decodeState}

@@ -1,12 +1,12 @@
 -- A farm that a statement does not name has no litres in it.
 use Prim.Native.Nat.{ℕ, _≤_}
-use mathlib.Core.Path.{_≡_, refl, sym, ap, _∙_}
+use mathlib.Core.Path.{_≡_, sym, _∙_}
 use mathlib.Core.Bool.{Bool, true, false, cond}
 use native.Mathlib.Omega.{arith}
 use lib.Dec.{eqb}
 use Rattle.esterel.specs.Sets.{member, join}
 use Rattle.esterel.specs.Statement.{pure, litres, Statement, nothing, pause, emit, exit, seq, par, loop, present, signal, try, setpause, suspend, held}
-use Rattle.esterel.specs.Litres.{brought, AtMost}
+use Rattle.esterel.specs.Litres.{AtMost}
 use Rattle.theory.proofs.Booleans.{never, clash}
 use Rattle.theory.proofs.Sets.{member-only}
 use Rattle.theory.proofs.LabelSets.{in-l, in-r}

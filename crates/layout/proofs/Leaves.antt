@@ -1,16 +1,13 @@
 -- What a command without parts notes: its label or its farm, if it has one.
-use Prim.Native.Nat.{ℕ, _≤_, _<_}
+use Prim.Native.Nat.{ℕ, _<_}
 use mathlib.Core.Path.{_≡_, refl, sym, ap, _∙_}
 use mathlib.Core.Bool.{true}
-use mathlib.Core.Option.{some}
 use mathlib.Core.List.{List}
-use native.Mathlib.Omega.{arith}
-use lib.ListN.{length, getD}
-use lib.Dec.{ltb}
+use lib.ListN.{getD}
 use borrow.Author.Tests.{ltb-true}
 use Rattle.esterel.specs.Statement.{nothing}
 use Rattle.limits.specs.Limits.{labelCount, signalCount, maxBytes}
-use Rattle.sequence.specs.Commands.{Command, commandOf, operandCount, operandsOf, partCount, firstOperand, inRange, headLength, build}
+use Rattle.sequence.specs.Commands.{Command, operandsOf, partCount, inRange, build}
 use Rattle.layout.specs.Notes.{pausesCounted, notePause, noteSetpause, noteFarm, noteWithin}
 use Rattle.layout.specs.Walk.{Notable, LeafNoted}
 use Rattle.sequence.proofs.Table.{byteOf, byte-is, command-at, leaves}

@@ -2,19 +2,19 @@
 use mathlib.Core.Path.{_≡_, refl, sym, ap, _∙_, subst}
 use mathlib.Core.Logic.{_⊎_, inl, inr}
 use Prim.Native.Nat.{ℕ, zero, suc, _+_, _-_, _*_, _/_, _%_, _^_, _≤_, _<_}
-use native.Mathlib.Nat.{mul-one, one-mul, mul-comm, mul-assoc, mul-right-comm, mul-mod-left, mod-eq-of-lt, mul-pos, zero-lt-suc, not-le-of-lt, lt-of-lt-of-le, le-trans, eq-of-mul-eq-mul-right, div-add-mod', div-one, add-zero, mul-le-mul-left, mul-le-mul-right, eq-or-lt-of-le, div-le-self}
+use native.Mathlib.Nat.{mul-one, one-mul, mul-assoc, mul-right-comm, mul-mod-left, mod-eq-of-lt, zero-lt-suc, not-le-of-lt, lt-of-lt-of-le, le-trans, eq-of-mul-eq-mul-right, div-add-mod', div-one, add-zero, mul-le-mul-left, eq-or-lt-of-le, div-le-self}
 use native.Mathlib.Omega.{arith}
 use mathlib.Core.Bool.{Bool, true, false, not, _&&_, cond}
 use lib.IntN.{ℤ, pos}
-use lib.Dec.{T, leb, ltb, eqb, leb→le, le→leb, ltb→lt, lt→ltb, nltb→le, eqb→eq, eqb-refl, not-T, lit<, lit≤}
+use lib.Dec.{T, leb, ltb, eqb, leb→le, le→leb, ltb→lt, lt→ltb, nltb→le, eqb→eq, not-T, lit<, lit≤}
 use lib.Pow.{pow-pos, pow-add, pow-mono, shl-exact}
-use lib.Ieee.{Float, nan, inf, fin, binary32, up, down, odd, ofFields, ofBits, inUnsigned, toUnsigned}
+use lib.Ieee.{Float, nan, inf, fin, binary32, up, down, odd, ofFields, ofBits, inUnsigned}
 use lib.Ieee as Ieee
-use lib.Ieee.Fits.{down-pos, and-i, and-l, and-r, eq→eqb}
+use lib.Ieee.Fits.{down-pos, and-i, and-l, eq→eqb}
 use lib.Ieee.Bits.{is-true, is-false, cond-no}
 use lib.Ieee.Exact.{HasValue, odd-sign}
 use lib.Ieee.Nearest.{div-same}
-use Rattle.litres.specs.Litres.{whole, litres}
+use Rattle.litres.specs.Litres.{whole}
 
 -- ---- `whole` of a value known as a fraction
 same-test : (b c : Bool) → (T b → T c) → (T c → T b) → b ≡ c

@@ -2,18 +2,16 @@
 use mathlib.Core.Path.{_≡_, refl, sym, ap, _∙_, subst}
 use mathlib.Core.Logic.{_⊎_, inl, inr}
 use Prim.Native.Nat.{ℕ, zero, suc, _+_, _-_, _*_, _/_, _%_, _^_, _≤_, _<_, compare, Ordering, Ordering·lt, Ordering·eq, Ordering·gt}
-use native.Mathlib.Nat.{mul-one, one-mul, mul-comm, mul-assoc, mul-left-comm, mul-right-comm, mul-pos, zero-lt-suc, not-le-of-lt, lt-of-lt-of-le, lt-of-le-of-lt, le-trans, le-of-eq, eq-of-mul-eq-mul-right, div-add-mod', div-one, mod-lt, mul-le-mul-left, mul-le-mul-right, eq-or-lt-of-le, suc-mul, add-zero, le-of-lt, le-of-suc-le-suc, lt-of-mul-lt-mul-right, pow-succ', lt-of-not-le}
+use native.Mathlib.Nat.{one-mul, mul-comm, mul-assoc, mul-right-comm, mul-pos, zero-lt-suc, not-le-of-lt, lt-of-lt-of-le, le-of-eq, eq-of-mul-eq-mul-right, div-add-mod', div-one, mod-lt, mul-le-mul-right, eq-or-lt-of-le, suc-mul, add-zero, le-of-lt, le-of-suc-le-suc, lt-of-mul-lt-mul-right, pow-succ', lt-of-not-le}
 use native.Mathlib.Omega.{arith}
-use mathlib.Core.Bool.{Bool, true, false, not, _&&_, cond}
-use lib.Dec.{T, isLe, isEq, leb, ltb, eqb, leb→le, nleb→lt, ltb→lt, nltb→le, eqb→eq, eqb-refl, lit<, lit≤}
+use mathlib.Core.Bool.{Bool, true, false, not}
+use lib.Dec.{T, isLe, isEq, ltb, eqb, leb→le, nleb→lt, ltb→lt, nltb→le, eqb→eq, eqb-refl, lit<, lit≤}
 use lib.Arith.{lt-of-le-ne}
 use lib.Pow.{pow-pos, pow-add, pow-mono, shl-lt}
-use lib.Ieee.{Float, nan, inf, fin, binary32, up, down, prec, low, emax, size, nearest, round}
-use lib.Ieee.Fits.{nearest-le}
+use lib.Ieee.{Float, nan, inf, fin, binary32, up, down, size, nearest, round}
 use lib.Ieee.Digits.{size-lt, size-le}
 use lib.Ieee.Exact.{HasValue, round-exact}
-use lib.Ieee.Nearest.{closest, closest-same, closest-mono}
-use lib.Ieee.Order.{drop, kept}
+use lib.Ieee.Nearest.{closest, closest-same}
 use lib.Ieee.Scale.{grid, overflow, round-val}
 use lib.Ieee.Back.{round-whole}
 

@@ -1,14 +1,13 @@
 -- Sums of whole single-precision numbers. Assumes nothing.
 use mathlib.Core.Path.{_≡_, refl, sym, ap, _∙_, subst}
-use mathlib.Core.Logic.{_⊎_, inl, inr}
 use Prim.Native.Nat.{ℕ, zero, suc, _+_, _-_, _*_, _/_, _%_, _^_, _≤_, _<_}
-use native.Mathlib.Nat.{mul-one, one-mul, mul-comm, mul-assoc, mul-left-comm, mul-right-comm, add-mul, mul-pos, zero-lt-suc, add-zero, zero-add, div-add-mod', mul-le-mul-right}
+use native.Mathlib.Nat.{mul-one, mul-comm, mul-assoc, mul-left-comm, add-mul, mul-pos, zero-lt-suc, add-zero, zero-add, div-add-mod', mul-le-mul-right}
 use native.Mathlib.Omega.{arith}
 use native.Mathlib.Numerals.{add-one}
-use mathlib.Core.Bool.{Bool, true, false, not, _&&_, cond}
-use lib.IntN.{ℤ, pos}
+use mathlib.Core.Bool.{Bool, true, false, not, _&&_}
+use lib.IntN.{pos}
 use lib.Dec.{T, leb, ltb, eqb, eqb→eq, leb→le, le→leb, lit<, lit≤}
-use lib.Ieee.{Float, nan, inf, fin, Format, binary32, up, down, prec, round, sum, add, ofInt, toUnsigned, inUnsigned, inFloat, fits, isNan, nanBits, ofBits, toBits}
+use lib.Ieee.{Float, nan, inf, fin, Format, binary32, up, down, round, sum, add, ofInt, inUnsigned, inFloat, isNan, nanBits, ofBits, toBits}
 use lib.Ieee.Bits.{nanBits-is, ofBits-toBits}
 use lib.Ieee.Fits.{add-fits, down-pos, and-i, and-l, and-r}
 use lib.Ieee.Exact.{HasValue}
@@ -16,7 +15,7 @@ use lib.Ieee.Back.{unsigned-back}
 use lib.Ieee.Casts.{toUnsigned-cut}
 use lib.Ieee as Ieee
 use lib.Ieee.Scale.{round-same}
-use Rattle.litres.proofs.Rounding.{Rounded, rounded}
+use Rattle.litres.proofs.Rounding.{rounded}
 use Rattle.litres.specs.Litres.{whole, litres, exact, ordered, Whole, within}
 
 -- ---- the sum of two whole numbers is their exact sum, rounded

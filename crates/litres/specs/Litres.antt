@@ -1,9 +1,8 @@
 -- Litres as single-precision numbers, over the values of the kit's `lib.Ieee`. Definitions only.
-use Prim.Native.Nat.{ℕ, zero, suc, _+_, _*_, _/_, _%_, _≤_, _<_}
-use mathlib.Core.Bool.{Bool, true, false, not, _&&_}
-use lib.IntN.{ℤ, pos}
-use lib.Dec.{T, leb, eqb}
-use lib.Ieee.{Float, nan, inf, fin, binary32, up, down, inUnsigned, toUnsigned, ofInt, ofBits, add}
+use Prim.Native.Nat.{ℕ, zero, suc, _+_, _*_, _<_}
+use mathlib.Core.Bool.{Bool, false, not, _&&_}
+use lib.Dec.{T, leb}
+use lib.Ieee.{Float, nan, inf, fin, binary32, up, down, inUnsigned, toUnsigned, add}
 
 -- x is a whole number from 0 to 2 ^ 24, and not minus zero
 abbrev pub whole : Float → Bool

@@ -1,12 +1,12 @@
 -- Emissions: their bytes as they lie in an accepted sequence, their values and what they bring a farm.
-use Prim.Native.Nat.{ℕ, _+_, _≤_}
+use Prim.Native.Nat.{ℕ}
 use mathlib.Core.Path.{_≡_, refl, sym, ap, _∙_, subst}
-use mathlib.Core.Bool.{Bool, true, false, cond, and-eq-true-iff}
+use mathlib.Core.Bool.{Bool, true, false, and-eq-true-iff}
 use mathlib.Core.List.{List}
 use native.Mathlib.Omega.{arith}
-use lib.ListN.{getD, length}
-use lib.Dec.{T, eqb}
-use lib.Ieee.{Float, binary32, ofBits, inUnsigned}
+use lib.ListN.{getD}
+use lib.Dec.{T}
+use lib.Ieee.{binary32, ofBits, inUnsigned}
 use borrow.Author.Tests.{eq-eqb, ne-eqb}
 use Rattle.numbers.specs.Bytes.{leNumber, numberAt}
 use Rattle.litres.specs.Litres.{whole, litres}
@@ -14,7 +14,7 @@ use Rattle.litres.proofs.Sums.{value-of}
 use Rattle.esterel.specs.Statement as Esterel
 use Rattle.esterel.specs.Litres.{amount, brought}
 use Rattle.sequence.specs.Amounts.{areBytes, floatIn}
-use Rattle.sequence.specs.Commands.{Command, bytesAt, operandsOf, build}
+use Rattle.sequence.specs.Commands.{Command, bytesAt}
 use Rattle.sequence.proofs.Table.{byteOf}
 use Rattle.sequence.proofs.Front.{bytes-taken}
 use Rattle.layout.specs.Layout.{Begins}

@@ -6,7 +6,6 @@ use mathlib.Core.List.{List}
 use lib.ListN.{getD, length}
 use lib.Dec.{T, eqb}
 use lib.Ieee.{binary32, ofBits}
-use Rattle.limits.specs.Limits.{litresLimit}
 use Rattle.numbers.specs.Bytes.{numberAt}
 use Rattle.litres.specs.Litres.{whole, litres}
 use Rattle.esterel.specs.Statement as Esterel

@@ -10,7 +10,7 @@ use Rattle.sequence.specs.Commands.{Command, commandOf, operandCount, partCount
 use Rattle.sequence.proofs.Table.{byteOf, command-of-byte, command-at}
 use Rattle.commands.specs.Counts.{partsAt, isLeaf}
 use Rattle.commands.proofs.Counts.{without-parts}
-use Rattle.layout.specs.Walk.{Notable, LeafNoted, Fitting, LeafRead, Ahead}
+use Rattle.layout.specs.Walk.{Notable, LeafNoted, Fitting, Ahead}
 use Rattle.layout.proofs.Walk.{Heading, heading, byte, can-note, read-bare, read-noted}
 use Rattle.reading_heads.proofs.Fronting.{bare, one}
 

@@ -9,7 +9,7 @@ use Rattle.esterel.specs.Sets.{member}
 use Rattle.esterel.specs.Statement.{Statement}
 use Rattle.esterel.specs.Reaction.{gives, ended, waiting, leaving, wrong, inheritanceFirst}
 use Rattle.esterel.specs.States.{Valid}
-use Rattle.esterel.specs.LabelTests.{pauses, valid, distinct}
+use Rattle.esterel.specs.LabelTests.{pauses, valid}
 use Rattle.esterel.specs.Ranks.{mask, pauseCount}
 use Rattle.esterel.specs.Instants as Instants
 use Rattle.esterel.specs.Instants.{Instant, start}

@@ -14,7 +14,7 @@ use Rattle.sequence.specs.Check.{checked, checkOf}
 use Rattle.numbers.specs.Bytes.{leBytes, leNumber}
 use Rattle.states.specs.StateRecord.{encodeState, decodeState}
 use Rattle.answers.specs.AnswerRecord.{encodeAnswer}
-use Rattle.tick.specs.Tick.{tickBy, tickOf}
+use Rattle.tick.specs.Tick.{tickBy}
 use Rattle.runs.specs.Text.{numeralIn, numeral}
 use Rattle.runs.specs.File.{sequenceIn, readBackIn, words, inputsIn, fileOf}
 use Rattle.runs.specs.Listing.{lineOf, entries, lines, listingOf}

@@ -1,22 +1,22 @@
 -- A whole number of litres up to the limit and its 4 bytes: each is read from the other.
 use Prim.Native.Nat.{ℕ, zero, suc, _+_, _*_, _/_, _%_, _^_, _≤_, _<_}
-use mathlib.Core.Path.{_≡_, refl, sym, ap, _∙_, subst}
+use mathlib.Core.Path.{_≡_, refl, sym, ap, _∙_}
 use mathlib.Core.Logic.{_↔_}
-use mathlib.Core.Bool.{Bool, true, false, not, _&&_, and-eq-true-iff}
+use mathlib.Core.Bool.{Bool, true, false, not, and-eq-true-iff}
 use mathlib.Core.List.{List, [], _∷_}
 use native.Mathlib.Nat.{pow-suc}
 use native.Mathlib.Omega.{arith}
 use lib.ListN.{length}
 use lib.IntN.{pos}
 use lib.Dec.{T, ltb, leb}
-use lib.Ieee.{Float, nan, inf, fin, binary32, ofBits, toBits, ofInt, inUnsigned, toUnsigned, inFloat, isNan, fits, prec}
+use lib.Ieee.{Float, nan, inf, fin, binary32, ofBits, toBits, ofInt, inUnsigned, inFloat, isNan}
 use lib.Ieee.Bits.{is-true, ofBits-toBits, toBits-lt, toBits-ofBits, ofBits-fits}
 use lib.Ieee.Fits.{ofInt-fits}
 use lib.Ieee.Back.{unsigned-back, float-back-unsigned}
 use borrow.Author.Tests.{ltb-true, lt-ltb, le-leb, leb-true}
 use Rattle.limits.specs.Limits.{litresLimit}
 use Rattle.numbers.specs.Bytes.{leBytes, leNumber}
-use Rattle.numbers.proofs.Bytes.{length-leBytes, le-round-trip}
+use Rattle.numbers.proofs.Bytes.{le-round-trip}
 use Rattle.sequence.specs.Amounts.{amountSize, floatIn, areBytes, isAmount, amountIn, amountBytes}
 
 holds : (b : Bool) → b ≡ true → T b

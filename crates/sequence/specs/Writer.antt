@@ -1,5 +1,5 @@
 -- The writer (01, 'Commands'): the bytes of a statement, 01's limits on it, and places that are the offsets of its commands.
-use Prim.Native.Nat.{ℕ, _+_, _≤_, _<_, max}
+use Prim.Native.Nat.{ℕ, _+_, _≤_, _<_}
 use mathlib.Core.Path.{_≡_}
 use mathlib.Core.List.{List, [], _∷_, _++_}
 use lib.ListN.{length}

@@ -2,14 +2,14 @@
 use Prim.Native.Nat.{ℕ, _+_, _/_, _%_, _^_}
 use native.Mathlib.Omega.{arith}
 use mathlib.Core.Path.{_≡_, sym, ap, _∙_}
-use mathlib.Core.List.{List, _∷_}
+use mathlib.Core.List.{List}
 use lib.ListN.{length}
 use lib.Seq.{sets}
 use Rattle.limits.specs.Limits.{wordLabels, wordBytes, labelBytes}
 use Rattle.numbers.specs.Bytes.{leBytes, replaced}
 use Rattle.numbers.proofs.Bytes.{length-leBytes, le-low, le-append}
 use Rattle.numbers.proofs.Writing.{sets-whole, sets-append, replaced-by}
-use Rattle.states.specs.StateRecord.{labelsAt, stateLength, stateRecord}
+use Rattle.states.specs.StateRecord.{stateLength, stateRecord}
 use Rattle.states.proofs.StateLaws.{state-sized}
 
 state-replaced : (b : List ℕ) (phase labels : ℕ) → length b ≡ stateLength

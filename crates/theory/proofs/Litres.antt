@@ -2,12 +2,11 @@
 -- most those of one emission for each reaction; and run and rewriting add the same.
 use Prim.Native.Nat.{ℕ, _+_, _-_, _*_, _≤_}
 use mathlib.Core.Path.{_≡_, refl, sym, ap, ap₂, _∙_}
-use mathlib.Core.Bool.{Bool, true, false, not, _&&_, _||_, cond}
+use mathlib.Core.Bool.{Bool, true, false, not, _&&_, cond}
 use mathlib.Core.List.{List, [], _∷_}
 use native.Mathlib.Nat.{le-trans}
 use native.Mathlib.Omega.{arith}
 use lib.Dec.{eqb}
-use borrow.Author.Tests.{eq-eqb}
 use Rattle.esterel.specs.Sets.{member, none, only, join, insert, remove}
 use Rattle.esterel.specs.Statement.{Scope, local, reported, Value, Statement, nothing, pause, emit, exit, seq, par, loop, present, signal, try, setpause, suspend, held}
 use Rattle.esterel.specs.Reaction.{Code, ended, waiting, leaving, wrong, Reaction, gives, code, emitted, inSeq, inPar, inLoop, inTry, inSuspend, stopped, Case, both, neither, only−, only+, inherited, Order, inheritanceFirst, caseOf, answer, reactBy, react}
@@ -16,7 +15,7 @@ use Rattle.esterel.specs.Errors.{ifEnded}
 use Rattle.esterel.specs.Reactions.{reactionsBy, reactions}
 use Rattle.esterel.specs.States.{active, Source, Distinct, NoSetpause}
 use Rattle.esterel.specs.LabelTests.{activeLabels}
-use Rattle.esterel.specs.Expansion.{expand, ifActive}
+use Rattle.esterel.specs.Expansion.{expand}
 use Rattle.esterel.specs.Litres.{brought, chosen, passing, AtMost, deliveredBy, delivered, delivers}
 use Rattle.esterel.specs.Machines.{Machine, State, byLabels, Rewriting, byRewriting, addsByLabels, addsByRewriting, added}
 use Rattle.theory.proofs.Booleans.{or-first, or-second}

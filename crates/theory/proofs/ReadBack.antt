@@ -13,7 +13,7 @@ use Rattle.esterel.specs.Sets.{member, none, join, insert, remove}
 use Rattle.esterel.specs.Statement.{Scope, reported, Statement, signal, setpause, held}
 use Rattle.esterel.specs.Reaction.{waiting, Reaction, code, residual, Case, both, neither, only−, only+, inherited, inheritanceFirst, caseOf, answer, reactBy, react}
 use Rattle.esterel.specs.Places.{Place, signal₁, At}
-use Rattle.esterel.specs.States.{Holds, Stops, NoSetpause, Source}
+use Rattle.esterel.specs.States.{Holds, NoSetpause, Source}
 use Rattle.esterel.specs.Expansion.{expand}
 use Rattle.esterel.specs.LabelTests.{labelsOf, everyLabel, before, distinct, targeted, wellFormed, valid}
 use Rattle.esterel.specs.Asked.{askedBy, asked}

@@ -1,7 +1,7 @@
 -- Row 11 over the bytes, for whatever statement lies in them (layout, specs/Layout), by the ranks that reading noted.
 use Prim.Native.Nat.{ℕ, _<_}
 use mathlib.Core.Path.{_≡_}
-use mathlib.Core.Bool.{Bool, true, false}
+use mathlib.Core.Bool.{true, false}
 use mathlib.Core.List.{List}
 use Rattle.esterel.specs.Sets.{member}
 use Rattle.esterel.specs.Statement.{Statement}

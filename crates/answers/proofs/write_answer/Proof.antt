@@ -13,9 +13,6 @@ use Rattle.answers.proofs.AnswerLaws.{answer-sized}
 use borrow.Author.Needs.{needs}
 use Rattle.answers.proofs.write_answer.Statement.{statement}
 use Rattle.answers.proofs.write_answer.Tie as tie
-use Rattle.answers.proofs.write_answer.Reads as reads
-use Rattle.answers.proofs.write_answer.Lts as lts
-use Rattle.numbers.proofs.put_le.Reads as put-le-reads
 
 returns : tie.Need-returns
 returns c =

@@ -1,9 +1,9 @@
-use Prim.Native.Nat.{ℕ, _+_, _-_, _≤_}
+use Prim.Native.Nat.{ℕ, _-_, _≤_}
 use mathlib.Core.Path.{_≡_, sym, ap, _∙_}
 use native.Mathlib.Omega.{arith}
 use lib.ListN.{getD, length}
 use borrow.Author.Needs.{needs}
-use Rattle.box_ledgers.specs.Ledgers.{ledgerLength, totalIn, addedBelow}
+use Rattle.box_ledgers.specs.Ledgers.{ledgerLength, addedBelow}
 use Rattle.box_ledgers.proofs.Theorems.{nothing-added, none-at-all}
 use Rattle.box_ledgers.proofs.Fields.{added-start, added-next, next-most}
 use Rattle.box_ledgers.proofs.add.Statement.{statement}

@@ -4,7 +4,7 @@ use lib.Dec.{T}
 use lib.Ieee.{Float, binary32, add}
 use borrow.Author.Needs.{needs}
 use borrow.Author.Count.{falls}
-use Rattle.litres.specs.Litres.{within, ordered}
+use Rattle.litres.specs.Litres.{within}
 use Rattle.litres.proofs.Sums.{Added, added-first, added-next, added-all}
 use Rattle.box_ledgers.specs.Ledgers.{farmCount, totalFloat}
 use Rattle.box_ledgers.proofs.Totals.{totals-whole, exact-is}

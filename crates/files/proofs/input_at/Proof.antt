@@ -3,10 +3,6 @@ use Rattle.runs.proofs.Files.{no-input, an-input}
 use borrow.Author.Needs.{needs}
 use Rattle.files.proofs.input_at.Statement.{statement}
 use Rattle.files.proofs.input_at.Tie as tie
-use Rattle.files.proofs.input_at.Reads as reads
-use Rattle.files.proofs.input_at.Lts as lts
-use Rattle.files.proofs.inputs_begin.Reads as inputs-begin-reads
-use Rattle.numbers.proofs.get_le.Reads as get-le-reads
 
 inputs-begin-requires : tie.Need-inputs-begin-requires
 inputs-begin-requires c κs = search needs

@@ -4,9 +4,6 @@ use mathlib.Core.Path.{ap}
 use borrow.Author.Needs.{needs}
 use Rattle.files.proofs.inputs_begin.Statement.{statement}
 use Rattle.files.proofs.inputs_begin.Tie as tie
-use Rattle.files.proofs.inputs_begin.Reads as reads
-use Rattle.files.proofs.inputs_begin.Lts as lts
-use Rattle.files.proofs.sequence_length.Reads as sequence-length-reads
 
 sequence-length-requires : tie.Need-sequence-length-requires
 sequence-length-requires c κs = search needs

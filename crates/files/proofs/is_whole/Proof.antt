@@ -2,9 +2,6 @@ use Rattle.runs.proofs.Files.{too-long, too-short, ended-early, bytes-over}
 use borrow.Author.Needs.{needs}
 use Rattle.files.proofs.is_whole.Statement.{statement}
 use Rattle.files.proofs.is_whole.Tie as tie
-use Rattle.files.proofs.is_whole.Reads as reads
-use Rattle.files.proofs.is_whole.Lts as lts
-use Rattle.files.proofs.inputs_begin.Reads as inputs-begin-reads
 
 returns : tie.Need-returns
 returns c = too-long (c .before .before .args .file .now) (c .if1 .taken)

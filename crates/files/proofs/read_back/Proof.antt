@@ -2,10 +2,6 @@ use Rattle.runs.proofs.Files.{read-back-part}
 use borrow.Author.Needs.{needs}
 use Rattle.files.proofs.read_back.Statement.{statement}
 use Rattle.files.proofs.read_back.Tie as tie
-use Rattle.files.proofs.read_back.Reads as reads
-use Rattle.files.proofs.read_back.Lts as lts
-use Rattle.files.proofs.sequence_length.Reads as sequence-length-reads
-use Rattle.numbers.proofs.get_le.Reads as get-le-reads
 
 sequence-length-requires : tie.Need-sequence-length-requires
 sequence-length-requires c κs = search needs

@@ -2,10 +2,6 @@ use Rattle.runs.proofs.Files.{sequence-part}
 use borrow.Author.Needs.{needs}
 use Rattle.files.proofs.sequence.Statement.{statement}
 use Rattle.files.proofs.sequence.Tie as tie
-use Rattle.files.proofs.sequence.Reads as reads
-use Rattle.files.proofs.sequence.Lts as lts
-use Rattle.numbers.proofs.part.Reads as part-reads
-use Rattle.files.proofs.sequence_length.Reads as sequence-length-reads
 
 sequence-length-requires : tie.Need-sequence-length-requires
 sequence-length-requires c κs = search needs

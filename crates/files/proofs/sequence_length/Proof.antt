@@ -2,9 +2,6 @@ use native.Mathlib.Omega.{arith}
 use borrow.Author.Needs.{needs}
 use Rattle.files.proofs.sequence_length.Statement.{statement}
 use Rattle.files.proofs.sequence_length.Tie as tie
-use Rattle.files.proofs.sequence_length.Reads as reads
-use Rattle.files.proofs.sequence_length.Lts as lts
-use Rattle.numbers.proofs.get_le.Reads as get-le-reads
 
 get-le-requires : tie.Need-get-le-requires
 get-le-requires c κs = search needs

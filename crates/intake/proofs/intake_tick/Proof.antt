@@ -5,10 +5,6 @@ use Rattle.instants.specs.Replies.{Replies}
 use Rattle.intake.proofs.Ticking.{other-state, other-answer, as-replied}
 use Rattle.intake.proofs.intake_tick.Statement.{statement}
 use Rattle.intake.proofs.intake_tick.Tie as tie
-use Rattle.intake.proofs.intake_tick.Reads as reads
-use Rattle.intake.proofs.intake_tick.Lts as lts
-use Rattle.writing.proofs.finish.Reads as finish-reads
-use Rattle.instants.proofs.reply_to.Reads as reply-to-reads
 
 returns : tie.Need-returns
 returns c = other-state _ _ _ _ _ (c .if1 .taken)

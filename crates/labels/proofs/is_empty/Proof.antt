@@ -2,7 +2,6 @@ use Rattle.limits.specs.Limits.{wordLabels}
 use mathlib.Core.Path.{ap, _∙_}
 use lib.Dec.{eqb}
 use lib.Pow.{pow-pos}
-use Rattle.esterel.specs.Sets.{none}
 use Rattle.sets.specs.Sets.{twoWords}
 use Rattle.labels.specs.Labels.{labelSet}
 use Rattle.sets.proofs.Words.{words-none, words-same, words-differ}

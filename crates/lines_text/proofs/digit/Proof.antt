@@ -3,8 +3,6 @@ use mathlib.Core.Path.{refl}
 use borrow.Author.Needs.{needs}
 use Rattle.lines_text.proofs.digit.Statement.{statement}
 use Rattle.lines_text.proofs.digit.Tie as tie
-use Rattle.lines_text.proofs.digit.Reads as reads
-use Rattle.lines_text.proofs.digit.Lts as lts
 
 cast-result : tie.Need-cast-result
 cast-result c = search needs

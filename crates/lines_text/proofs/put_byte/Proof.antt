@@ -8,8 +8,6 @@ use Rattle.lines_text.proofs.Buffers.{one}
 use borrow.Author.Needs.{needs}
 use Rattle.lines_text.proofs.put_byte.Statement.{statement}
 use Rattle.lines_text.proofs.put_byte.Tie as tie
-use Rattle.lines_text.proofs.put_byte.Reads as reads
-use Rattle.lines_text.proofs.put_byte.Lts as lts
 
 sub-from : tie.Need-sub-from
 sub-from c = search needs

@@ -6,10 +6,6 @@ use Rattle.lines_text.proofs.Numerals.{field-fits, field}
 use borrow.Author.Needs.{needs}
 use Rattle.lines_text.proofs.put_field.Statement.{statement}
 use Rattle.lines_text.proofs.put_field.Tie as tie
-use Rattle.lines_text.proofs.put_field.Reads as reads
-use Rattle.lines_text.proofs.put_field.Lts as lts
-use Rattle.lines_text.proofs.put_byte.Reads as put-byte-reads
-use Rattle.lines_text.proofs.put_numeral.Reads as put-numeral-reads
 
 put-byte-requires : tie.Need-put-byte-requires
 put-byte-requires c κs = search needs

@@ -11,10 +11,6 @@ use Rattle.lines_text.proofs.Buffers.{Filling, begin, under}
 use Rattle.lines_text.proofs.Numerals.{measure-falls, numeral-room, numeral-again, numeral-end}
 use Rattle.lines_text.proofs.put_numeral.Statement.{statement}
 use Rattle.lines_text.proofs.put_numeral.Tie as tie
-use Rattle.lines_text.proofs.put_numeral.Reads as reads
-use Rattle.lines_text.proofs.put_numeral.Lts as lts
-use Rattle.lines_text.proofs.digit.Reads as digit-reads
-use Rattle.lines_text.proofs.one_less.Reads as one-less-reads
 
 abbrev Inv-loop : tie.InvT-loop
 Inv-loop line₀ end base width x from₀ left₀ rest₀ line from left rest = (length line ≡ length line₀) × Filling line₀ end (numeral base width x) line from (numeral base left rest)

@@ -8,8 +8,6 @@ use lib.Seq.{take-length, length-take-le}
 use Rattle.lines_text.proofs.Buffers.{Filling, begin, room, under, text-again, end-filling}
 use Rattle.lines_text.proofs.put_text.Statement.{statement}
 use Rattle.lines_text.proofs.put_text.Tie as tie
-use Rattle.lines_text.proofs.put_text.Reads as reads
-use Rattle.lines_text.proofs.put_text.Lts as lts
 
 abbrev Inv-loop : tie.InvT-loop
 Inv-loop line₀ end text from₀ left₀ line from left = (left ≤ length text) × (length line ≡ length line₀) × Filling line₀ end text line from (take left text)

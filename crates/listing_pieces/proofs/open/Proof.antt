@@ -9,12 +9,6 @@ use Rattle.runs.proofs.Files.{file-cut, file-runs, file-refused}
 use borrow.Author.Needs.{needs}
 use Rattle.listing_pieces.proofs.open.Statement.{statement}
 use Rattle.listing_pieces.proofs.open.Tie as tie
-use Rattle.listing_pieces.proofs.open.Reads as reads
-use Rattle.listing_pieces.proofs.open.Lts as lts
-use Rattle.intake.proofs.intake_check.Reads as intake-check-reads
-use Rattle.files.proofs.is_whole.Reads as is-whole-reads
-use Rattle.files.proofs.sequence.Reads as sequence-reads
-use Rattle.files.proofs.read_back.Reads as read-back-reads
 
 is-whole-requires : tie.Need-is-whole-requires
 is-whole-requires c κs = search needs

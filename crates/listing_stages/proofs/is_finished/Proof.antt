@@ -5,8 +5,6 @@ use Rattle.listing_stages.specs.Answers.{stageBy}
 use borrow.Author.Needs.{needs}
 use Rattle.listing_stages.proofs.is_finished.Statement.{statement}
 use Rattle.listing_stages.proofs.is_finished.Tie as tie
-use Rattle.listing_stages.proofs.is_finished.Reads as reads
-use Rattle.listing_stages.proofs.is_finished.Lts as lts
 
 enum-told : tie.Need-enum-told
 enum-told c = search needs

@@ -1,5 +1,4 @@
 -- `is_whole` meets its contract. Assumes nothing.
-use native.Mathlib.Omega.{arith}
 use Rattle.litres.proofs.Patterns.{small, large, middle-code, unit-pos}
 use borrow.Author.Needs.{needs}
 use Rattle.litres.proofs.is_whole.Statement.{statement}

@@ -1,4 +1,3 @@
-use mathlib.Core.Path.{ap}
 use Rattle.layout.specs.Notes.{noteSignals}
 use borrow.Author.Needs.{needs}
 use Rattle.notes.proofs.signal.Statement.{statement}

@@ -2,8 +2,6 @@ use borrow.Author.Needs.{needs}
 use Rattle.numbers.proofs.Parts.{few, many}
 use Rattle.numbers.proofs.at_most_8.Statement.{statement}
 use Rattle.numbers.proofs.at_most_8.Tie as tie
-use Rattle.numbers.proofs.at_most_8.Reads as reads
-use Rattle.numbers.proofs.at_most_8.Lts as lts
 
 returns : tie.Need-returns
 returns c = few (c .before .args .n) (search needs)

@@ -3,11 +3,6 @@ use Rattle.numbers.proofs.Parts.{part-fits, part-number, part-bound}
 use borrow.Author.Needs.{needs}
 use Rattle.numbers.proofs.get_le.Statement.{statement}
 use Rattle.numbers.proofs.get_le.Tie as tie
-use Rattle.numbers.proofs.get_le.Reads as reads
-use Rattle.numbers.proofs.get_le.Lts as lts
-use Rattle.numbers.proofs.at_most_8.Reads as at-most-8-reads
-use Rattle.numbers.proofs.part.Reads as part-reads
-use Rattle.numbers.proofs.read_le.Reads as read-le-reads
 
 at-most-8-requires : tie.Need-at-most-8-requires
 at-most-8-requires c κs = search needs

@@ -2,8 +2,6 @@ use Rattle.numbers.proofs.Parts.{part-none, part-rest, part-front}
 use borrow.Author.Needs.{needs}
 use Rattle.numbers.proofs.part.Statement.{statement}
 use Rattle.numbers.proofs.part.Tie as tie
-use Rattle.numbers.proofs.part.Reads as reads
-use Rattle.numbers.proofs.part.Lts as lts
 
 sub-result : tie.Need-sub-result
 sub-result c = search needs

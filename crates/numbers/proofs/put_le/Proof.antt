@@ -9,8 +9,6 @@ use Rattle.numbers.specs.Bytes.{leBytes}
 use Rattle.numbers.proofs.Writing.{put-step}
 use Rattle.numbers.proofs.put_le.Statement.{statement}
 use Rattle.numbers.proofs.put_le.Tie as tie
-use Rattle.numbers.proofs.put_le.Reads as reads
-use Rattle.numbers.proofs.put_le.Lts as lts
 
 abbrev Inv-loop : tie.InvT-loop
 Inv-loop buf₀ at n x i₀ left₀ rest₀ buf i left rest = (sets buf i (leBytes left rest) ≡ sets buf₀ at (leBytes n x)) × (length buf ≡ length buf₀) × (i + left ≡ at + n)

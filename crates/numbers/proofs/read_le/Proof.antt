@@ -9,9 +9,6 @@ use Rattle.numbers.specs.Bytes.{leNumber}
 use Rattle.numbers.proofs.Reading.{leNumber-lt}
 use Rattle.numbers.proofs.read_le.Statement.{statement}
 use Rattle.numbers.proofs.read_le.Tie as tie
-use Rattle.numbers.proofs.read_le.Reads as reads
-use Rattle.numbers.proofs.read_le.Lts as lts
-use Rattle.numbers.proofs.wide.Reads as wide-reads
 
 abbrev Inv-loop : tie.InvT-loop
 Inv-loop b at n x₀ k₀ x k = (k ≤ n) × (x ≡ leNumber (take (n - k) (drop (at + k) b)))

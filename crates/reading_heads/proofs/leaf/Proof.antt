@@ -5,7 +5,7 @@ use mathlib.Core.Option.{some}
 use mathlib.Core.List.{List}
 use native.Mathlib.Omega.{arith}
 use lib.ListN.{length, getD}
-use Rattle.sequence.specs.Commands.{Command, commandOf, operandCount, partCount}
+use Rattle.sequence.specs.Commands.{Command, commandOf, operandCount}
 use Rattle.sequence.proofs.Table.{byteOf, byte-is, command-of-byte}
 use Rattle.commands.specs.Counts.{partsAt, isLeaf}
 use Rattle.commands.proofs.Counts.{some-leaf, operand-of}

@@ -1,11 +1,6 @@
 use borrow.Author.Needs.{needs}
 use Rattle.run.proofs.print_listing.Statement.{statement}
 use Rattle.run.proofs.print_listing.Tie as tie
-use Rattle.run.proofs.print_listing.Reads as reads
-use Rattle.run.proofs.print_listing.Lts as lts
-use Rattle.listing_stages.proofs.is_finished.Reads as is-finished-reads
-use Rattle.listing_stages.proofs.start.Reads as start-reads
-use Rattle.run.proofs.print_piece.Reads as print-piece-reads
 
 abbrev Inv-loop : tie.InvT-loop
 Inv-loop file run₀ turns₀ run turns = Unit {0}

@@ -2,10 +2,6 @@ use native.Mathlib.Omega.{arith}
 use borrow.Author.Needs.{needs}
 use Rattle.run.proofs.print_piece.Statement.{statement}
 use Rattle.run.proofs.print_piece.Tie as tie
-use Rattle.run.proofs.print_piece.Reads as reads
-use Rattle.run.proofs.print_piece.Lts as lts
-use Rattle.io.proofs.write_all.Reads as write-all-reads
-use Rattle.listing.proofs.turn.Reads as turn-reads
 
 turn-requires : tie.Need-turn-requires
 turn-requires c κs = search needs

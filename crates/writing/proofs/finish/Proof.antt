@@ -9,11 +9,6 @@ use Rattle.answers.proofs.Stores.{answer-written}
 use borrow.Author.Needs.{needs}
 use Rattle.writing.proofs.finish.Statement.{statement}
 use Rattle.writing.proofs.finish.Tie as tie
-use Rattle.writing.proofs.finish.Reads as reads
-use Rattle.writing.proofs.finish.Lts as lts
-use Rattle.answers.proofs.write_answer.Reads as write-answer-reads
-use Rattle.states.proofs.write_state.Reads as write-state-reads
-use Rattle.labels.proofs.empty.Reads as empty-reads
 
 enum-told : tie.Need-enum-told
 enum-told c = search needs

@@ -4,8 +4,6 @@ use Rattle.vectors_notation.specs.Digits.{digitOf}
 use borrow.Author.Needs.{needs}
 use Rattle.vectors_notation.proofs.digits.digit.Statement.{statement}
 use Rattle.vectors_notation.proofs.digits.digit.Tie as tie
-use Rattle.vectors_notation.proofs.digits.digit.Reads as reads
-use Rattle.vectors_notation.proofs.digits.digit.Lts as lts
 
 -- src/digits.rt:13:24
 sub-result : tie.Need-sub-result

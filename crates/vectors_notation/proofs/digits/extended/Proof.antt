@@ -1,10 +1,9 @@
 use borrow.Author.Needs.{needs}
 use Prim.Native.Nat.{ℕ, _*_, _≤_, _<_}
-use mathlib.Core.Path.{_≡_, sym, _∙_, subst}
 use native.Mathlib.Nat.{mul-le-mul}
 use native.Mathlib.Omega.{arith}
 use borrow.Author.Tests.{le-leb, lt-leb}
-use Rattle.vectors_notation.specs.Digits.{digitOf, extendedBy}
+use Rattle.vectors_notation.specs.Digits.{extendedBy}
 use Rattle.vectors_notation.proofs.digits.extended.Statement.{statement}
 use Rattle.vectors_notation.proofs.digits.extended.Tie as tie
 
