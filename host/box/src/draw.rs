@@ -232,7 +232,7 @@ fn previewing(random: &mut Random) -> Call {
     Call::Preview { input: runs::input(random), unknown, preview_length: length(random, PREVIEW_LENGTH) }
 }
 
-/// A call as the model's bays suggest it; `box_positions` is how many in a hundred are on positions, and `ticks` how many of
+/// A call as the model's bays suggest it; `positions` is how many in a hundred are on positions, and `ticks` how many of
 /// the others, but for some that read a record, some previews and some on a ledger, are ticks.
 pub fn request(random: &mut Random, model: &Model, positions: usize, ticks: usize) -> Request {
     let idle = model.bays.iter().flatten().all(over);

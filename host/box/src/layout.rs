@@ -122,17 +122,17 @@ pub fn arrange(stretch: &mut [u8], given: &[u8]) {
 
 /// What the ledger of a stretch says.
 pub fn totals(stretch: &[u8]) -> Totals {
-    std::array::from_fn(|farm| box_ledgers::total(&stretch[LEDGER + 4 * farm..LEDGER + 4 * farm + 4]))
+    std::array::from_fn(|farm| ledgers::total(&stretch[LEDGER + 4 * farm..LEDGER + 4 * farm + 4]))
 }
 
 /// Puts the totals that are others than before; the bytes of all others stay.
 pub fn put_changed(stretch: &mut [u8], before: &Totals, after: &Totals) {
     for farm in (0..FARMS).filter(|&farm| before[farm] != after[farm]) {
-        field(stretch, LEDGER + 4 * farm, &box_ledgers::bytes(after[farm]));
+        field(stretch, LEDGER + 4 * farm, &ledgers::bytes(after[farm]));
     }
 }
 
-/// Every byte of a box as the model says, but for the ledgers, which are those of `box_ledgers`, and for the places of the
+/// Every byte of a box as the model says, but for the ledgers, which are those of `ledgers`, and for the places of the
 /// positions, which `given` tells.
 pub fn image(model: &Model, ledgers: &[u8], given: &[u8]) -> Vec<u8> {
     let mut bytes = ledgers.to_vec();

@@ -118,7 +118,7 @@ impl Run {
             }
         };
         if let (Call::Ledger { .. }, 0) = (call, given.number) {
-            let close = box_ledgers::close(&given.written[0], &self.model.ledgers[*bay as usize]);
+            let close = ledgers::close(&given.written[0], &self.model.ledgers[*bay as usize]);
             tally.counts.expect(close, || format!("{} is not close to the exact sum", call.text(*bay)));
         }
         let image = layout::image(&self.model, &self.ledgers, self.lent.bytes());
@@ -189,7 +189,7 @@ fn invent(random: &mut Random, kind: usize, ledger: &mut [u8]) {
         let near = MOST_LITRES - random.pick(&[0, 1, 2, 1000, 1_000_000, 8_388_608]);
         let any = random.below(1 << 32) as u32;
         match if kind == 3 { random.below(3) } else { kind } {
-            1 => bytes.copy_from_slice(&box_ledgers::bytes(near - random.below(3).min(near as usize) as u64)),
+            1 => bytes.copy_from_slice(&ledgers::bytes(near - random.below(3).min(near as usize) as u64)),
             2 => bytes.copy_from_slice(&any.to_le_bytes()),
             _ => {}
         }
