@@ -61,7 +61,14 @@ pub fn made(
     asked: u32,
     delivered: u32,
 ) -> Reaction
-    ensures { λ r. ⌜ r ≡ record { emitted = emitted; labels = labels; completion = completion; reactions = reactions; asked = asked; delivered = delivered } ⌝ }
+    ensures { λ r. ⌜ r ≡ record {
+      emitted = emitted;
+      labels = labels;
+      completion = completion;
+      reactions = reactions;
+      asked = asked;
+      delivered = delivered;
+    } ⌝ }
 {
     Reaction {
         emitted,

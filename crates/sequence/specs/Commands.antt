@@ -1,4 +1,4 @@
--- The table of commands (01, 'Commands'; 02, item 1): the command of a byte, its operands and its parts.
+-- The table of commands (01, 'Commands'; 02, items 1 and 12): the command of a byte, its operands and its parts.
 use Prim.Native.Nat.{ℕ, zero, suc, _+_}
 use mathlib.Core.Bool.{Bool, true, _&&_}
 use mathlib.Core.Option.{Option, none, some}

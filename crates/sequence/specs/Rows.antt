@@ -1,4 +1,4 @@
--- Rows 2 to 10 of 01's 'Turned down', each as a proposition about the bytes. Commands are met one by one from the left.
+-- Rows 2 to 10 of 01's 'Turned down', and 18 (02, item 12), each as a proposition about the bytes. Commands are met one by one from the left.
 use Prim.Native.Nat.{ℕ, zero, suc, _+_, _*_, _≤_, _<_}
 use mathlib.Core.Path.{_≡_}
 use mathlib.Core.Logic.{_⊎_, _≢_, _↔_}

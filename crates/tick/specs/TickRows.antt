@@ -1,4 +1,4 @@
--- Rows 1 to 12 of 01's 'Turned down' for a tick, each as a proposition about the bytes of its three buffers.
+-- Rows 1 to 12 of 01's 'Turned down' for a tick, and 18 (02, item 12), each as a proposition about the bytes of its three buffers.
 use Prim.Native.Nat.{ℕ, _<_}
 use mathlib.Core.Path.{_≡_}
 use mathlib.Core.Logic.{_≢_, _⊎_}
