@@ -167,7 +167,7 @@ target/host/dearest: $(INTAKE_ARCHIVE)
 	@mkdir -p target/host
 	$(WARNED) -O2 -Iinclude -Ibench host/dearest.c bench/plain.c $(INTAKE_ARCHIVE) -lm -o $@
 
-figures: target/host/stack target/host/dearest # holds what README and the header say that the archive requires to what it takes
+figures: target/host/stack target/host/dearest # holds what docs/HOST.md and the header say that the archive requires to what it takes
 	host/figures.py $(INTAKE_ARCHIVE) target/host/stack target/host/dearest
 
 host-freestanding: $(INTAKE_ARCHIVE) # links and runs a host without any library
@@ -175,7 +175,7 @@ host-freestanding: $(INTAKE_ARCHIVE) # links and runs a host without any library
 	$(WARNED) -O2 -ffreestanding -fno-stack-protector -nostdlib -static -Iinclude host/freestanding.c $(INTAKE_ARCHIVE) \
 		-o target/host/freestanding && target/host/freestanding
 
-host-header: $(INTAKE_ARCHIVE) # compiles the header and README's host as every C and C++
+host-header: $(INTAKE_ARCHIVE) # compiles the headers and the pages' hosts as every C and C++
 	host/header_test.py $(INTAKE_ARCHIVE)
 
 host-install: lib # installs into a temporary folder, and builds and runs the example host from there

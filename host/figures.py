@@ -1,8 +1,8 @@
 #!/usr/bin/env python3
-"""Holds what include/intake.h and README.md say that the archive requires to what is measured.
+"""Holds what include/intake.h and docs/HOST.md say that the archive requires to what is measured.
 
   host/figures.py ARCHIVE STACK-PROGRAM DEAREST-PROGRAM    compares, and prints both
-  host/figures.py --write                                  writes README's table from the header
+  host/figures.py --write                                  writes the page's table from the header
 
 The figures stand in the header alone. The programs are those of host/stack.c and host/dearest.c. A control object shows
 that a further function, a variable or a later instruction would be noticed. The last line is 'N passed, M failed'.
@@ -14,7 +14,7 @@ import tempfile
 from pathlib import Path
 
 ROOT = Path(__file__).resolve().parent.parent
-HEADER, README = ROOT / "include/intake.h", ROOT / "README.md"
+HEADER, PAGE = ROOT / "include/intake.h", ROOT / "docs/HOST.md"
 EXPORTED = [f"intake_{call}" for call in ("box_admit", "box_forget", "box_ledger", "box_new_year", "box_panel", "box_preview",
                                         "box_release", "box_restore", "box_save", "box_service", "box_tick", "ceiling", "check",
                                         "replay", "tick", "unroll")]
@@ -71,7 +71,7 @@ def stated():
 
 
 def table(figures):
-    """README's table of these figures."""
+    """The page's table of these figures."""
     functions = ", ".join(f"`{name}`" for name in figures["functions"].split(", "))
     return f"""\
 | | |
@@ -143,7 +143,7 @@ def compare(archive, stack, dearest):
     cost = measured(dearest, r"^dearest instant: (\S+ ms), (\d+) reactions$.*^(\d+) passed, 0 failed$")
     said = f"{cost[1]}, {int(cost[2]):,} reactions" if cost else "over 100 ms"
     expect(cost and said.split(", ", 1)[1] in figures["dearest"], "dearest instant", figures["dearest"].split(" (")[0], said)
-    expect(table(figures) in README.read_text(encoding="utf-8"), "README's table", "as the header has it",
+    expect(table(figures) in PAGE.read_text(encoding="utf-8"), "the page's table", "as the header has it",
            "--write makes it so")
     expect(control_noticed(), "a control object is noticed", "", "")
     print(f"{passed} passed, {failed} failed")
@@ -151,13 +151,13 @@ def compare(archive, stack, dearest):
 
 
 def write():
-    """Puts the table in the place of the one that stands in README's section."""
-    text = README.read_text(encoding="utf-8")
+    """Puts the table in the place of the one that stands in the page."""
+    text = PAGE.read_text(encoding="utf-8")
     mended, count = re.subn(r"(?<=\n)\| \| \|\n\|---\|---\|\n\| target \|.*\n(?:\|.*\n)*", lambda _: table(stated()), text)
     if count != 1:
-        print("README.md has no table of the figures, or several", file=sys.stderr)
+        print("docs/HOST.md has no table of the figures, or several", file=sys.stderr)
         return 1
-    README.write_text(mended, encoding="utf-8")
+    PAGE.write_text(mended, encoding="utf-8")
     return 0
 
 

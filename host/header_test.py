@@ -1,6 +1,6 @@
 #!/usr/bin/env python3
-"""Compiles include/intake.h and include/intake_store.h as every C and C++ and runs host/header.c, and README's hosts in C with
-the archive. README's table has the calls that the header declares.
+"""Compiles include/intake.h and include/intake_store.h as every C and C++ and runs host/header.c, and the hosts in C of README and
+docs/HOST.md with the archive. README's table has the calls that the header declares.
 
   host/header_test.py ARCHIVE
 
@@ -57,7 +57,7 @@ the machine is over
 the sequence ends within a command
 acted 1, stopped 1
 """
-# Around README's host with a box: a bay that waits, then is wrong, beside one that ends; then each is over.
+# Around the page's host with a box: a bay that waits, then is wrong, beside one that ends; then each is over.
 BOX_SURROUNDINGS = """
 #include "intake.h"
 #include <stdio.h>
@@ -97,7 +97,7 @@ BOX_SAID = """\
 1: emitted 0
 """
 
-# Around README's store: a machine of two pauses in turn that is cut after each instant, the second time in the write itself.
+# Around the page's store: a machine of two pauses in turn that is cut after each instant, the second time in the write itself.
 STORE_SURROUNDINGS = """
 #include "intake.h"
 #include <stdio.h>
@@ -190,11 +190,11 @@ def other_target(folder):
         add(refused, not refused, f"gcc {option}", said)
 
 
-def readme(folder, archive):
-    """README's hosts, compiled as they stand there, and what they do in a wrong instant."""
-    text = (ROOT / "README.md").read_text(encoding="utf-8")
+def pages(folder, archive):
+    """The pages' hosts, compiled as they stand there, and what they do in a wrong instant."""
+    text = "".join((ROOT / page).read_text(encoding="utf-8") for page in ("README.md", "docs/HOST.md"))
     blocks = [block.replace('#include "intake.h"\n', "") for block in re.findall(r"```c\n(.*?)```", text, re.S)]
-    source, program = Path(folder) / "readme.c", f"{folder}/readme"
+    source, program = Path(folder) / "page.c", f"{folder}/page"
     surroundings = (SURROUNDINGS, SAID), (BOX_SURROUNDINGS, BOX_SAID), (STORE_SURROUNDINGS, STORE_SAID)
     for block, (around, expected) in zip(blocks, surroundings, strict=True):
         source.write_text(around.format(block), encoding="utf-8")
@@ -202,7 +202,7 @@ def readme(folder, archive):
             built, said = run(compiler, f"-std={name}", *WARNED, "-x", language, source, "-x", "none", archive, "-o", program)
             if built:
                 _, said = run(program)
-            add(said == expected, said != expected, f"README's host as {name}", said)
+            add(said == expected, said != expected, f"a page's host as {name}", said)
 
 
 def calls():
@@ -219,7 +219,7 @@ def main(archive):
         for compiler, language, name in STANDARDS:
             standard(folder, compiler, language, name)
         other_target(folder)
-        readme(folder, archive)
+        pages(folder, archive)
     calls()
     print(f"{passed} passed, {failed} failed")
     return failed != 0

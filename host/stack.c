@@ -405,7 +405,7 @@ static void hold(const char *what, size_t most, size_t promised)
            !within ? ": FAILED" : most + FAR < promised ? ": far below what is promised" : "");
 }
 
-/* Holds a thread with so much stack to what README says of it. */
+/* Holds a thread with so much stack to what docs/HOST.md says of it. */
 static void hold_thread(size_t size, int expected)
 {
     int lives = thread_lives(size), holds = lives == expected;

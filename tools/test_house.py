@@ -24,7 +24,6 @@ SENTENCES = (DEMANDS, "docs/demands/")  # the pages with a row for each sentence
 PROSE = {"edits", "edit"}  # words that stand before an edit and name no crate
 FOLDERS = ["", "docs", "docs/decisions", "docs/demands", "docs/landings", "examples"]
 MOST_LINES = 300
-LONGER = ["README.md"]  # its hosts in C are compiled as they stand there
 LIBRARIES = {"std", "check", "libc", "io", "os", "bytes"}  # of the toolchain
 DECLARED = r"^\s*(?:abbrev |unfoldable )?pub (?:data |record )?{}(?=[\s:(])"
 
@@ -176,7 +175,7 @@ def tables(texts):
 
 def lengths(texts):
     for path, text in pages(texts):
-        if text.count("\n") > MOST_LINES and path not in LONGER:
+        if text.count("\n") > MOST_LINES:
             yield f"{path} has {text.count(chr(10))} lines"
 
 
