@@ -8,7 +8,7 @@ use lib.ListN.{length, getD, length-drop}
 use lib.Seq.{getD-drop}
 use borrow.Author.Tests.{lt-ltb}
 use Rattle.sets.specs.Sets.{signalCount, labelCount, onlyBelow, insertBelow}
-use Rattle.esterel.specs.Sets.{member, none, only, insert, remove}
+use Rattle.esterel.specs.Sets.{member, none, insert, remove}
 use Rattle.esterel.specs.Statement.{Scope, Value, Statement, nothing, pause, emit, exit, seq, par, loop, present, signal, try, setpause, suspend}
 use Rattle.esterel.specs.Reaction.{ended, waiting, leaving, gives, reactBy}
 use Rattle.esterel.specs.Errors.{errorsBy}
@@ -16,19 +16,18 @@ use Rattle.esterel.specs.Reactions.{reactionsBy}
 use Rattle.esterel.specs.Asked.{askedBy}
 use Rattle.esterel.specs.Litres.{brought, deliveredBy}
 use Rattle.esterel.specs.Traced as Traces
-use Rattle.esterel.specs.Traced.{startTraced, seqTraced, parTraced, loopTraced, presentTraced, tryTraced, signalTraced, signalOnce}
+use Rattle.esterel.specs.Traced.{startTraced, seqTraced, parTraced, loopTraced, presentTraced, tryTraced, suspendTraced, signalTraced, signalOnce}
 use Rattle.theory.proofs.Trees.{start-traced-seq, start-traced-par, start-traced-loop, start-traced-present, start-traced-signal, start-traced-try, start-traced-suspend}
 use Rattle.theory.proofs.Asked.{one-run-signal}
 use Rattle.layout.specs.Layout.{rest, Ready}
 use Rattle.layout.proofs.Parts.{rest-is}
 use Rattle.reaction.specs.declared.Reaction.{Reaction}
-use Rattle.reaction.specs.Reactions.{alone, reactionOf, countedAround, FromOne, FromTwo}
-use Rattle.reaction.proofs.Values.{suspend-reaction, present-reaction}
+use Rattle.reaction.specs.Reactions.{alone, reactionOf, FromOne, FromTwo}
 
 -- ---- commands without parts, once they are known
 module _ (f : ℕ) (p : Statement) (e : ℕ) (r : Reaction) where
-  pub nothing-step : p ≡ nothing → r ≡ reactionOf (alone (gives 0 ended none nothing) none 0) → r ≡ reactionOf (startTraced f p e)
-  unfolding reactBy errorsBy reactionsBy askedBy deliveredBy none
+  pub nothing-step : p ≡ nothing → r ≡ reactionOf (alone (gives none ended none nothing) none 0) → r ≡ reactionOf (startTraced f p e)
+  unfolding reactBy errorsBy reactionsBy askedBy deliveredBy
   nothing-step h k = rw h k
 
   pub emit-step : (s : ℕ) (v : Value) → p ≡ emit s v → s < signalCount
@@ -69,10 +68,9 @@ module _ (f e : ℕ) {p r : Reaction} where
       → r ≡ reactionOf (startTraced f (par t u) e)
   par-step t u h m k = k (startTraced f t e) (startTraced f u e) h m ∙ ap reactionOf (sym (start-traced-par f t u e))
 
-  -- a fresh suspend only counts
-  pub suspend-step : (s : ℕ) (t : Statement) → p ≡ reactionOf (startTraced f t e) → FromOne (countedAround none) p r
+  pub suspend-step : (s : ℕ) (t : Statement) → p ≡ reactionOf (startTraced f t e) → FromOne (suspendTraced s) p r
       → r ≡ reactionOf (startTraced f (suspend s t) e)
-  suspend-step s t h k = k (startTraced f t e) h ∙ suspend-reaction s (startTraced f t e) ∙ ap reactionOf (sym (start-traced-suspend f s t e))
+  suspend-step s t h k = k (startTraced f t e) h ∙ ap reactionOf (sym (start-traced-suspend f s t e))
 
   -- ---- a signal x at place a, whose run without it is p
   module _ (sc : Scope) (a x : ℕ) (t : Statement) (small : x < signalCount) {e− : ℕ} (less : e− ≡ remove x e) (p-is : p ≡ reactionOf (startTraced f t e−)) where
@@ -89,21 +87,19 @@ module _ (f e : ℕ) {p r : Reaction} where
         let h : p ≡ reactionOf (startTraced f t (remove x e)) = rw less at p-is in
         k (startTraced f t (remove x e)) h ∙ ap reactionOf (sym (one-run-signal f x t e (rw h at n) sc a))
 
-  -- ---- a test of x, which notes it
-  module _ (x : ℕ) (t u : Statement) (small : x < signalCount) {b : ℕ} (noted : b ≡ onlyBelow signalCount x) where
-    tested : (c : Bool) → member x e ≡ c → p ≡ reactionOf (cond c (startTraced f t e) (startTraced f u e)) → FromOne (countedAround b) p r
+  -- ---- a test of x
+  module _ (x : ℕ) (t u : Statement) where
+    tested : (c : Bool) → member x e ≡ c → p ≡ reactionOf (cond c (startTraced f t e) (startTraced f u e)) → FromOne (presentTraced x) p r
         → r ≡ reactionOf (startTraced f (present x t u) e)
     tested c i h k =
-        let z : b ≡ only x = noted ∙ rw (lt-ltb x signalCount small) in
-        let v : Traces.Traced = cond c (startTraced f t e) (startTraced f u e) in
-        k v h ∙ ap (λ (s : ℕ). reactionOf (countedAround s v)) z ∙ present-reaction x v
+        k (cond c (startTraced f t e) (startTraced f u e)) h
         ∙ ap reactionOf (sym (start-traced-present f x t u e ∙ ap (λ (y : Bool). presentTraced x (cond y (startTraced f t e) (startTraced f u e))) i))
 
-    pub present-step : member x e ≡ true → p ≡ reactionOf (startTraced f t e) → FromOne (countedAround b) p r
+    pub present-step : member x e ≡ true → p ≡ reactionOf (startTraced f t e) → FromOne (presentTraced x) p r
         → r ≡ reactionOf (startTraced f (present x t u) e)
     present-step = tested true
 
-    pub absent-step : member x e ≡ false → p ≡ reactionOf (startTraced f u e) → FromOne (countedAround b) p r
+    pub absent-step : member x e ≡ false → p ≡ reactionOf (startTraced f u e) → FromOne (presentTraced x) p r
         → r ≡ reactionOf (startTraced f (present x t u) e)
     absent-step = tested false
 

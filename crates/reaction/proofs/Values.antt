@@ -1,19 +1,19 @@
 -- A value of the code is that of a tree.
 use Prim.Native.Nat.{ℕ, _+_}
-use mathlib.Core.Path.{_≡_, refl}
+use mathlib.Core.Path.{_≡_}
 use mathlib.Core.Option.{Option, some}
 use native.Mathlib.Omega.{arith}
 use Rattle.labels.specs.declared.Labels.{Labels}
 use Rattle.labels.specs.Labels.{Represents}
 use Rattle.labels.proofs.LabelValues.{labels-of}
-use Rattle.esterel.specs.Sets.{none, only, join, insert}
+use Rattle.esterel.specs.Sets.{none, join}
 use Rattle.esterel.specs.Statement.{nothing}
 use Rattle.esterel.specs.Reaction.{Code, wrong, gives}
 use Rattle.esterel.specs.Errors.{Error}
 use Rattle.esterel.specs.Instants as Instants
 use Rattle.esterel.specs.Traced as Traces
 use Rattle.esterel.specs.Instants.{instant, presentInstant}
-use Rattle.esterel.specs.Traced.{traced, presentTraced, suspendTraced, heldTraced}
+use Rattle.esterel.specs.Traced.{traced}
 use Rattle.theory.proofs.Sets.{join-none-r}
 use Rattle.completions.specs.declared.Completion.{Completion}
 use Rattle.completions.specs.Completions.{completionOf}
@@ -53,16 +53,3 @@ around-reaction (traced (instant (gives o k l t) x n) a₁ y) p m a b h e f = rw
 -- around an instant whose tree asks for a; where it asks for none itself, nothing is added
 pub counts-only : (i : Instants.Instant) (a y : ℕ) → reactionOf (countedAround none (traced i a y)) ≡ reactionOf (traced (presentInstant i) a y)
 counts-only i a y = rw (join-none-r a)
-
--- a suspend changes only what remains
-pub suspend-reaction : (s : ℕ) (t : Traces.Traced) → reactionOf (countedAround none t) ≡ reactionOf (suspendTraced s t)
-suspend-reaction s (traced (instant (gives o k l t) x n) a y) = rw (join-none-r a)
-
--- a test and a held suspend ask for their signal
-pub present-reaction : (s : ℕ) (t : Traces.Traced) → reactionOf (countedAround (only s) t) ≡ reactionOf (presentTraced s t)
-unfolding join only insert
-present-reaction s (traced (instant (gives o k l t) x n) a y) = refl
-
-pub held-reaction : (s : ℕ) (t : Traces.Traced) → reactionOf (countedAround (only s) t) ≡ reactionOf (heldTraced s t)
-unfolding join only insert
-held-reaction s (traced (instant (gives o k l t) x n) a y) = refl

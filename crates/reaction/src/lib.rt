@@ -1,7 +1,6 @@
 // What one reaction gives (01, 'One reaction'), the reactions of commands without parts, the number of reactions of a tree
 // from those of its parts (02, item 6), the signals that a tree asks for, and the litres of the farm that is asked for (02, item 12).
 ghost use mathlib.Core.Path.{_≡_};
-ghost use mathlib.Core.Option.{some};
 ghost use Prim.Native.Nat.{ℕ, _+_};
 ghost use Rattle.labels.specs.Labels.{labelSet};
 ghost use Rattle.sets.specs.Sets.{labelCount, onlyBelow};
@@ -85,6 +84,13 @@ pub fn ending(emitted: u32, delivered: u32) -> Reaction
     ensures { λ r. ⌜ ((x : ℕ) → delivered ≡ cappedOf x → r ≡ reactionOf (alone (gives emitted ended none nothing) none x)) ⌝ }
 {
     made(emitted, labels::empty(), Completion::Ended, 1, 0, delivered)
+}
+
+// A nothing, and whatever has ended at once.
+pub fn nothing() -> Reaction
+    ensures { λ r. ⌜ r ≡ reactionOf (alone (gives none ended none nothing) none 0) ⌝ }
+{
+    ending(0, 0)
 }
 
 // A command that waits: a pause with its label, a stopped suspend with the active labels inside it. A stopped suspend asked for

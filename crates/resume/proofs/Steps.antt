@@ -5,25 +5,20 @@ use mathlib.Core.Bool.{Bool, true, false, cond}
 use mathlib.Core.Option.{Option, none, some}
 use mathlib.Core.List.{List}
 use lib.ListN.{getD}
-use borrow.Author.Tests.{lt-ltb}
-use Rattle.sets.specs.Sets.{signalCount, onlyBelow, insertBelow}
-use Rattle.esterel.specs.Sets.{member, only, join, insert, remove, empty, below, from}
-use Rattle.esterel.specs.Sets as sets
+use Rattle.sets.specs.Sets.{signalCount, insertBelow}
+use Rattle.esterel.specs.Sets.{member, remove, empty, below, from}
 use Rattle.esterel.specs.Statement.{local, Statement, nothing, seq, par, loop, present, signal, try, suspend}
-use Rattle.esterel.specs.Reaction.{waiting, gives}
 use Rattle.esterel.specs.Ranks.{middle, labelsBy}
 use Rattle.esterel.specs.Traced as Traces
 use Rattle.esterel.specs.Traced.{startTraced, seqTraced, parTraced, tryTraced, signalTraced, signalOnce, heldTraced, stoppedTraced}
 use Rattle.esterel.specs.RankedExpansion.{expandBy, resumeTraced}
-use Rattle.theory.proofs.Sets.{join-none-l}
 use Rattle.theory.proofs.Trees.{start-traced-held}
 use Rattle.sequence.specs.Commands.{Command, commandOf}
 use Rattle.layout.specs.Layout.{Form, Lies}
 use Rattle.sequence.proofs.Table.{byteOf, byte-is}
 use Rattle.layout.proofs.Laid.{opened, by-command}
 use Rattle.reaction.specs.declared.Reaction.{Reaction}
-use Rattle.reaction.specs.Reactions.{alone, reactionOf, countedAround, FromOne, FromTwo}
-use Rattle.reaction.proofs.Values.{held-reaction}
+use Rattle.reaction.specs.Reactions.{reactionOf, FromOne, FromTwo}
 use Rattle.react.proofs.Steps as fresh
 use Rattle.resume.specs.Resumed.{sideBy}
 
@@ -101,13 +96,8 @@ module _ (farm base m e : ℕ) {r : Reaction} where
       unfolding expandBy
       signal-once-step = fresh.signal-once-step farm e local a x (expandBy base p m) small less u-is
 
--- ---- a suspend, which notes its signal
-only-one : (s : ℕ) → only s ≡ insert s sets.none
-unfolding only insert join
-only-one s = sym (join-none-l (only s))
-
+-- ---- a suspend, held with the labels of its active pauses
 module _ (farm base m e s : ℕ) (p : Statement) {r : Reaction} where
-  -- it is held, with the labels of its active pauses
   as-held : (c : Bool) → member s e ≡ c
       → r ≡ reactionOf (cond c (stoppedTraced s (labelsBy base p m) (expandBy base p m)) (heldTraced s (resumeTraced farm base p m e)))
       → r ≡ reactionOf (resumeTraced farm base (suspend s p) m e)
@@ -116,19 +106,14 @@ module _ (farm base m e s : ℕ) (p : Statement) {r : Reaction} where
       h ∙ ap reactionOf (sym (start-traced-held farm s (labelsBy base p m) (expandBy base p m) e
       ∙ ap (λ (x : Bool). cond x (stoppedTraced s (labelsBy base p m) (expandBy base p m)) (heldTraced s (resumeTraced farm base p m e))) i))
 
-  module _ (small : s < signalCount) {b : ℕ} (noted : b ≡ onlyBelow signalCount s) where
-    -- it keeps the labels K
-    pub suspend-stopped : {K : ℕ} → member s e ≡ true → K ≡ labelsBy base p m → r ≡ reactionOf (alone (gives sets.none waiting K nothing) b 0)
-        → r ≡ reactionOf (resumeTraced farm base (suspend s p) m e)
-    suspend-stopped i k h = as-held true i (h ∙ rw (k, noted, lt-ltb s signalCount small, only-one s))
+  -- it keeps the labels K
+  pub suspend-stopped : {K : ℕ} → member s e ≡ true → K ≡ labelsBy base p m → ((u : Statement) → r ≡ reactionOf (stoppedTraced s K u))
+      → r ≡ reactionOf (resumeTraced farm base (suspend s p) m e)
+  suspend-stopped i k h = as-held true i (rw k at h (expandBy base p m))
 
-    pub suspend-resumed : {u : Reaction} → member s e ≡ false → u ≡ reactionOf (resumeTraced farm base p m e) → FromOne (countedAround b) u r
-        → r ≡ reactionOf (resumeTraced farm base (suspend s p) m e)
-    suspend-resumed i h k =
-        let z : b ≡ only s = noted ∙ rw (lt-ltb s signalCount small) in
-        as-held false i
-        (k (resumeTraced farm base p m e) h ∙ ap (λ (x : ℕ). reactionOf (countedAround x (resumeTraced farm base p m e))) z
-        ∙ held-reaction s (resumeTraced farm base p m e))
+  pub suspend-resumed : {u : Reaction} → member s e ≡ false → u ≡ reactionOf (resumeTraced farm base p m e) → FromOne (heldTraced s) u r
+      → r ≡ reactionOf (resumeTraced farm base (suspend s p) m e)
+  suspend-resumed i h k = as-held false i (k (resumeTraced farm base p m e) h)
 
 -- ---- a side of a parallel
 module _ (farm base m e : ℕ) (p : Statement) {r : Reaction} where

@@ -32,7 +32,7 @@ pub fn resume(
         limits::SIGNAL => signal_rule(s, at, depth, input, farm, active, second),
         limits::TRY => try_part(s, at, depth, input, farm, active, second),
         limits::SUSPEND => suspend_part(s, at, depth, input, farm, active, second),
-        _ => reaction::ending(0, 0),
+        _ => reaction::nothing(),
     }
 }
 
@@ -53,7 +53,7 @@ fn part(
     ensures { λ r. ⌜ Resumed (now (second .entry)) depth at (rest n (now (s .entry))) (labelSet active) input farm r ⌝ }
 {
     if s[n] == limits::PAUSE {
-        return reaction::ending(0, 0);
+        return reaction::nothing();
     }
     resume(&s[n..], at, depth, input, farm, active, second)
 }
@@ -98,7 +98,7 @@ fn side(
     ensures { λ r. ⌜ ResumedSide (now (second .entry)) depth at (rest n (now (s .entry))) (labelSet active) input farm r ⌝ }
 {
     if labels::is_empty(active) {
-        return reaction::ending(0, 0);
+        return reaction::nothing();
     }
     part(s, n, at, depth, input, farm, active, second)
 }
@@ -241,14 +241,13 @@ fn suspend_part(
     ensures { λ r. ⌜ Resumed (now (second .entry)) depth at (now (s .entry)) (labelSet active) input farm r ⌝ }
 {
     let x = s[1];
-    let tested = signals::single(x);
     if signals::member(input, x) {
         let labels = resume_labels::of_part(s, 2, at + 2, depth - 1, active, second);
-        reaction::waiting(labels, tested)
+        rules::stopped(x, labels)
     } else {
-        reaction::around(
+        rules::in_held(
+            x,
             part(s, 2, at + 2, depth - 1, input, farm, active, second),
-            tested,
         )
     }
 }

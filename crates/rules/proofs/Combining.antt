@@ -1,25 +1,28 @@
 -- The rules on the values of the code are esterel's: one law for each way in which a rule returns.
-use Prim.Native.Nat.{ℕ, _+_, _-_}
-use mathlib.Core.Path.{_≡_, refl, ap, _∙_}
+use Prim.Native.Nat.{ℕ, _+_, _-_, _<_}
+use mathlib.Core.Path.{_≡_, refl, sym, ap, _∙_}
 use mathlib.Core.Bool.{Bool, true, false, cond, false≢true, true≢false}
 use mathlib.Core.Option.{Option}
 use native.Mathlib.Omega.{arith}
 use lib.Dec.{eqb}
+use borrow.Author.Tests.{lt-ltb}
 use Rattle.labels.specs.declared.Labels.{Labels}
 use Rattle.labels.specs.Labels.{labelSet, labelsWith, Represents}
 use Rattle.labels.proofs.LabelValues.{labelSet-of, stands-of}
-use Rattle.esterel.specs.Sets.{none, join}
+use Rattle.sets.specs.Sets.{signalCount, onlyBelow}
+use Rattle.esterel.specs.Sets.{none, only, join, insert}
 use Rattle.esterel.specs.Statement.{Statement, nothing, try}
 use Rattle.esterel.specs.Reaction.{Code, ended, waiting, leaving, wrong, greater, gives, ifWaiting}
 use Rattle.esterel.specs.Errors.{Error, instantaneous}
 use Rattle.esterel.specs.Traced as Traces
 use Rattle.esterel.specs.Instants.{instant, ifWrong}
-use Rattle.esterel.specs.Traced.{traced, seqTraced, parTraced, loopTraced, tryTraced}
+use Rattle.esterel.specs.Traced.{traced, seqTraced, parTraced, loopTraced, presentTraced, tryTraced, suspendTraced, heldTraced, stoppedTraced}
+use Rattle.theory.proofs.Sets.{join-none-l, join-none-r}
 use Rattle.completions.specs.declared.Completion.{Completion}
 use Rattle.reaction.specs.declared.Reaction.{Reaction}
 use Rattle.completions.specs.Completions.{completionOf, codeOf, greaterOf, isEnded, caught}
 use Rattle.completions.proofs.Completions.{code-of, greater-of}
-use Rattle.reaction.specs.Reactions.{keptOf, cappedOf, reactionOf, failedWith, countedAround}
+use Rattle.reaction.specs.Reactions.{keptOf, cappedOf, alone, reactionOf, failedWith, countedAround}
 use Rattle.reaction.proofs.Values.{kept-two, kept-one, capped-two, made, counts-only}
 
 -- ---- p; q
@@ -36,9 +39,9 @@ no-more n = omega arith
 nothing-more : (z : ℕ) → z + 0 ≡ z
 nothing-more z = omega arith
 
-module _ (u : Statement) (t v : Traces.Traced) (p q : Reaction) (p-is : p ≡ reactionOf t) where
-  pub seq-goes-on : q ≡ reactionOf v → SeqGoesOn u t v p q
-  seq-goes-on q-is = rw (p-is, q-is) (go t v)
+module _ (u : Statement) (t v : Traces.Traced) (p : Reaction) (p-is : p ≡ reactionOf t) where
+  pub seq-goes-on : (q : Reaction) → q ≡ reactionOf v → SeqGoesOn u t v p q
+  seq-goes-on q q-is = rw (p-is, q-is) (go t v)
     where
       go : (t v : Traces.Traced) → SeqGoesOn u t v (reactionOf t) (reactionOf v)
       go (traced (instant (gives o₁ ended l₁ t₁) x n) a₁ z₁) (traced (instant (gives o₂ k l₂ t₂) y n₂) a₂ z₂) o m a d h e w f g =
@@ -121,3 +124,27 @@ try-catches t p p-is = rw p-is (go t)
     go (traced (instant (gives o waiting l t₁) x n) a z) c m h e = rw (h, e, kept-one n)
     go (traced (instant (gives o (leaving k) l t₁) x n) a z) c m h e = leaves (eqb k 1) o l k t₁ x n a z c m h (e ∙ kept-one n)
     go (traced (instant (gives o wrong l t₁) x n) a z) c m h e = rw (h, e, kept-one n)
+
+-- ---- a suspend changes only what remains
+pub suspend-counts : (s : ℕ) (t : Traces.Traced) {r : Reaction} → r ≡ reactionOf (countedAround none t) → r ≡ reactionOf (suspendTraced s t)
+suspend-counts s (traced (instant (gives o k l t) x n) a y) h = h ∙ rw (join-none-r a)
+
+-- ---- a test, a held suspend and a stopped one ask for their signal s
+only-one : (s : ℕ) → only s ≡ insert s none
+unfolding only insert join
+only-one s = sym (join-none-l (only s))
+
+module _ (s : ℕ) (small : s < signalCount) {b : ℕ} (noted : b ≡ onlyBelow signalCount s) where
+  known : b ≡ only s
+  known = noted ∙ rw (lt-ltb s signalCount small)
+
+  pub present-asks : (t : Traces.Traced) {r : Reaction} → r ≡ reactionOf (countedAround b t) → r ≡ reactionOf (presentTraced s t)
+  unfolding join only insert
+  present-asks (traced (instant (gives o k l t) x n) a y) h = h ∙ rw known
+
+  pub held-asks : (t : Traces.Traced) {r : Reaction} → r ≡ reactionOf (countedAround b t) → r ≡ reactionOf (heldTraced s t)
+  unfolding join only insert
+  held-asks (traced (instant (gives o k l t) x n) a y) h = h ∙ rw known
+
+  pub stopped-asks : (K : ℕ) (u : Statement) {r : Reaction} → r ≡ reactionOf (alone (gives none waiting K nothing) b 0) → r ≡ reactionOf (stoppedTraced s K u)
+  stopped-asks K u h = h ∙ rw (known, only-one s)

@@ -1,13 +1,11 @@
-use mathlib.Core.Path.{refl, sym, _∙_}
+use mathlib.Core.Path.{sym, _∙_}
 use native.Mathlib.Omega.{arith}
 use borrow.Author.Needs.{needs}
 use borrow.Author.Tests.{ltb-true}
 use Rattle.esterel.specs.Statement.{local, seq, par, loop, present, signal, try, suspend}
-use Rattle.esterel.specs.Sets.{none}
 use Rattle.esterel.specs.Traced.{startTraced}
 use Rattle.sequence.specs.Commands.{Command}
 use Rattle.layout.proofs.Laid.{ready, taken-apart, begins, last-one, whole, whole-lies}
-use Rattle.rules.proofs.Combining.{seq-stops}
 use Rattle.react_emissions.proofs.Values.{pure-emission, litres-emission}
 use Rattle.react.proofs.Steps.{
   nothing-step,
@@ -64,8 +62,10 @@ use Rattle.react.proofs.+after+body+declared+loop_part+par_parts+part+p
 use Rattle.react.proofs.try_part.Reads as try-part
 use Rattle.react.proofs.try_part.Kinds as try-part-kinds
 use Rattle.react.proofs.+after+body+declared+loop_part+par_parts+part+present_parts+react+seq_parts+signal_rule+try_part.Lts-try_part as try-part-lts
-use Rattle.reaction.proofs.around.Reads as around-reads
-use Rattle.reaction.proofs.ending.Reads as ending-reads
+use Rattle.reaction.proofs.nothing.Reads as nothing-reads
+use Rattle.rules.proofs.in_first.Reads as in-first-reads
+use Rattle.rules.proofs.in_present.Reads as in-present-reads
+use Rattle.rules.proofs.in_suspend.Reads as in-suspend-reads
 use Rattle.react_emissions.proofs.emitting.Reads as emitting-reads
 use Rattle.rules.proofs.in_loop.Reads as in-loop-reads
 use Rattle.rules.proofs.in_parallel.Reads as in-parallel-reads
@@ -77,7 +77,6 @@ use Rattle.completions.proofs.is_ended.Reads as is-ended-reads
 use Rattle.reaction.proofs.leaving.Reads as leaving-reads
 use Rattle.reaction.proofs.pausing.Reads as pausing-reads
 use Rattle.signals.proofs.member.Reads as member-reads
-use Rattle.signals.proofs.single.Reads as single-reads
 use Rattle.signals.proofs.with.Reads as with-reads
 use Rattle.signals.proofs.without.Reads as without-reads
 use Rattle.react.proofs.+after+body+declared+loop_part+par_parts+part+present_parts+react+seq_parts+signal_rule+try_part.{
@@ -199,7 +198,7 @@ try-part-below t =
     and 2 try-part-kinds.ps (falls 2 try-part-kinds.ps _<_ μ-try-part t) try-part.Pre
 
 abbrev after-claims : ℕ → after-lts.Claims
-after-claims t = (is-ended-reads.Asked, is-ended-reads.Learnt, part-below t, part.Post, in-sequence-reads.Asked, in-sequence-reads.Learnt, around-reads.Asked, around-reads.Learnt)
+after-claims t = (is-ended-reads.Asked, is-ended-reads.Learnt, part-below t, part.Post, in-sequence-reads.Asked, in-sequence-reads.Learnt, in-first-reads.Asked, in-first-reads.Learnt)
 
 abbrev body-claims : ℕ → body-lts.Claims
 body-claims t = (declared-below t, declared.Post, part-below t, part.Post)
@@ -214,13 +213,13 @@ abbrev par-parts-claims : ℕ → par-parts-lts.Claims
 par-parts-claims t = (part-below t, part.Post, in-parallel-reads.Asked, in-parallel-reads.Learnt)
 
 abbrev part-claims : ℕ → part-lts.Claims
-part-claims t = (ending-reads.Asked, ending-reads.Learnt, react-below t, react.Post)
+part-claims t = (nothing-reads.Asked, nothing-reads.Learnt, react-below t, react.Post)
 
 abbrev present-parts-claims : ℕ → present-parts-lts.Claims
-present-parts-claims t = (single-reads.Asked, single-reads.Learnt, member-reads.Asked, member-reads.Learnt, part-below t, part.Post, around-reads.Asked, around-reads.Learnt)
+present-parts-claims t = (member-reads.Asked, member-reads.Learnt, part-below t, part.Post, in-present-reads.Asked, in-present-reads.Learnt)
 
 abbrev react-claims : ℕ → react-lts.Claims
-react-claims t = (ending-reads.Asked, ending-reads.Learnt, pausing-reads.Asked, pausing-reads.Learnt, emitting-reads.Asked, emitting-reads.Learnt, leaving-reads.Asked, leaving-reads.Learnt, seq-parts-below t, seq-parts.Post, par-parts-below t, par-parts.Post, loop-part-below t, loop-part.Post, present-parts-below t, present-parts.Post, signal-rule-below t, signal-rule.Post, try-part-below t, try-part.Post, part-below t, part.Post, around-reads.Asked, around-reads.Learnt)
+react-claims t = (nothing-reads.Asked, nothing-reads.Learnt, pausing-reads.Asked, pausing-reads.Learnt, emitting-reads.Asked, emitting-reads.Learnt, leaving-reads.Asked, leaving-reads.Learnt, seq-parts-below t, seq-parts.Post, par-parts-below t, par-parts.Post, loop-part-below t, loop-part.Post, present-parts-below t, present-parts.Post, signal-rule-below t, signal-rule.Post, try-part-below t, try-part.Post, part-below t, part.Post, in-suspend-reads.Asked, in-suspend-reads.Learnt)
 
 abbrev seq-parts-claims : ℕ → seq-parts-lts.Claims
 seq-parts-claims t = (part-below t, part.Post, after-below t, after.Post)
@@ -238,9 +237,7 @@ after-returns : (t : ℕ) → after-lts.Need-returns (after-claims t) (after-at 
 after-returns t c base u i l h = c .in-sequence .ensures u i (startTraced _ u _) h (c .before .part .ensures base u l)
 
 after-returns-2 : (t : ℕ) → after-lts.Need-returns-2 (after-claims t) (after-at t) after.Post
-unfolding none
-after-returns-2 t c base u i l h =
-    seq-stops u i (startTraced _ u _) _ (c .before .before .before .before .args .p) h (sym (c .before .before .is-ended .ensures) ∙ c .before .if1 .left) (c .around .ensures i h)
+after-returns-2 t c base u i l h = c .in-first .ensures u (startTraced _ u _) (sym (c .before .before .is-ended .ensures) ∙ c .before .if1 .left) i h
 
 body-shared-slice-read-if1 : (t : ℕ) → body-lts.Need-shared-slice-read-if1 (body-claims t) (body-at t) body.Post
 body-shared-slice-read-if1 t c = front-there (c .before .before .args .n) (c .before .before .args .s .now) (c .before .before .pre .1 .1)
@@ -331,7 +328,7 @@ part-shared-slice-read-if1 t c = front-there (c .before .before .args .n) (c .be
 part-returns : (t : ℕ) → part-lts.Need-returns (part-claims t) (part-at t) part.Post
 part-returns t c base p l =
     let d = c .before .before .before .before in
-    nothing-step _ p _ _ (taken-apart (d .pre .1 .1) base p l Command.nothing (front-is (d .args .n) (d .args .s .now) (c .before .if1 .taken)) .parts) (c .ending .ensures 0 refl)
+    nothing-step _ p _ _ (taken-apart (d .pre .1 .1) base p l Command.nothing (front-is (d .args .n) (d .args .s .now) (c .before .if1 .taken)) .parts) (c .nothing .ensures)
 
 part-react-requires : (t : ℕ) → part-lts.Need-react-requires (part-claims t) (part-at t) part.Post
 part-react-requires t c κs = (search needs, c .before .before .before .before .pre .1 .1)
@@ -344,45 +341,45 @@ present-parts-shared-slice-read-x t c = begins (c .before .before .pre .1 .0) Co
 
 present-parts-part-requires : (t : ℕ) → present-parts-lts.Need-part-requires (present-parts-claims t) (present-parts-at t) present-parts.Post
 present-parts-part-requires t c κs =
-    let f = c .before .before .before .before .before .pre .1 in
+    let f = c .before .before .before .before .pre .1 in
     let y = begins (f .0) Command.present (f .1) in
     (search needs, (y .there, ready _ (y .parts .0) (f .0 .long) (y .parts .2 .1 .first)))
 
 present-parts-element-copy-out-m : (t : ℕ) → present-parts-lts.Need-element-copy-out-m (present-parts-claims t) (present-parts-at t) present-parts.Post
 present-parts-element-copy-out-m t c =
-    let f = c .before .before .before .before .before .pre .1 .0 in
+    let f = c .before .before .before .before .pre .1 .0 in
     omega (arith, f .long, f .fits, f .bytes)
 
 present-parts-sub-part-2 : (t : ℕ) → present-parts-lts.Need-sub-part-2 (present-parts-claims t) (present-parts-at t) present-parts.Post
 present-parts-sub-part-2 t c =
-    let f = c .before .before .before .before .before .before .pre .1 in
+    let f = c .before .before .before .before .before .pre .1 in
     omega (arith, begins (f .0) Command.present (f .1) .parts .2 .1 .place)
 
 present-parts-part-requires-2 : (t : ℕ) → present-parts-lts.Need-part-requires-2 (present-parts-claims t) (present-parts-at t) present-parts.Post
 present-parts-part-requires-2 t c κs =
-    let f = c .before .before .before .before .before .before .pre .1 in
+    let f = c .before .before .before .before .before .pre .1 in
     let y = begins (f .0) Command.present (f .1) in
     (search needs, (y .parts .2 .1 .within, ready _ (y .parts .1) (f .0 .long) (y .parts .2 .1 .second)))
 
 present-parts-returns : (t : ℕ) → present-parts-lts.Need-returns (present-parts-claims t) (present-parts-at t) present-parts.Post
 present-parts-returns t c base p l =
-    let f = c .before .before .before .before .before .before .before .pre .1 in
+    let f = c .before .before .before .before .before .before .pre .1 in
     let d = c .before .before .before in
     let y = taken-apart (f .0) base p l Command.present (f .1) in
     let z = y .parts in
     here _ (present _ (z .0) (z .1)) p _ (z .2 .0)
-    (present-step _ _ _ (z .0) (z .1) (ltb-true _ _ (y .ranged)) (d .before .single .ensures) (sym (d .member .ensures) ∙ c .before .before .if1 .taken)
-    (c .before .part .ensures base (z .0) (z .2 .1 .first)) (c .around .ensures))
+    (present-step _ _ _ (z .0) (z .1) (sym (d .member .ensures) ∙ c .before .before .if1 .taken)
+    (c .before .part .ensures base (z .0) (z .2 .1 .first)) (c .in-present .ensures (ltb-true _ _ (y .ranged))))
 
 present-parts-returns-2 : (t : ℕ) → present-parts-lts.Need-returns-2 (present-parts-claims t) (present-parts-at t) present-parts.Post
 present-parts-returns-2 t c base p l =
-    let f = c .before .before .before .before .before .before .before .before .pre .1 in
+    let f = c .before .before .before .before .before .before .before .pre .1 in
     let d = c .before .before .before .before in
     let y = taken-apart (f .0) base p l Command.present (f .1) in
     let z = y .parts in
     here _ (present _ (z .0) (z .1)) p _ (z .2 .0)
-    (absent-step _ _ _ (z .0) (z .1) (ltb-true _ _ (y .ranged)) (d .before .single .ensures) (sym (d .member .ensures) ∙ c .before .before .before .if1 .left)
-    (c .before .part2 .ensures _ (z .1) (z .2 .1 .second)) (c .around2 .ensures))
+    (absent-step _ _ _ (z .0) (z .1) (sym (d .member .ensures) ∙ c .before .before .before .if1 .left)
+    (c .before .part2 .ensures _ (z .1) (z .2 .1 .second)) (c .in-present2 .ensures (ltb-true _ _ (y .ranged))))
 
 react-shared-slice-read-pausing : (t : ℕ) → react-lts.Need-shared-slice-read-pausing (react-claims t) (react-at t) react.Post
 react-shared-slice-read-pausing t c = begins (c .before .before .before .before .pre .1) Command.pause (c .before .match .keys2) .there
@@ -423,7 +420,7 @@ react-part-requires : (t : ℕ) → react-lts.Need-part-requires (react-claims t
 react-part-requires t c κs = let y = begins (c .before .before .before .pre .1) Command.suspend (c .match .keys12) in (search needs, (y .there, ready _ (y .parts .0) (c .before .before .before .pre .1 .long) (y .parts .1 .1)))
 
 react-returns : (t : ℕ) → react-lts.Need-returns (react-claims t) (react-at t) react.Post
-react-returns t c base p l = nothing-step _ p _ _ (taken-apart (c .before .before .before .before .pre .1) base p l Command.nothing (c .before .match .keys1) .parts) (c .ending .ensures 0 refl)
+react-returns t c base p l = nothing-step _ p _ _ (taken-apart (c .before .before .before .before .pre .1) base p l Command.nothing (c .before .match .keys1) .parts) (c .nothing .ensures)
 
 react-returns-2 : (t : ℕ) → react-lts.Need-returns-2 (react-claims t) (react-at t) react.Post
 react-returns-2 t c base p l =
@@ -462,10 +459,9 @@ react-returns-11 t c base p l =
     setpause-step _ p _ _ _ (ltb-true _ _ (y .ranged)) (c .pausing2 .ensures) (y .parts)
 
 react-returns-12 : (t : ℕ) → react-lts.Need-returns-12 (react-claims t) (react-at t) react.Post
-unfolding none
 react-returns-12 t c base p l =
     let y = taken-apart (c .before .before .before .before .before .pre .1) base p l Command.suspend (c .before .before .match .keys12) .parts in
-    here _ (suspend _ (y .0)) p _ (y .1 .0) (suspend-step _ _ _ (y .0) (c .before .part .ensures base (y .0) (y .1 .1)) (c .around .ensures))
+    here _ (suspend _ (y .0)) p _ (y .1 .0) (suspend-step _ _ _ (y .0) (c .before .part .ensures base (y .0) (y .1 .1)) (c .in-suspend .ensures _))
 
 react-returns-13 : (t : ℕ) → react-lts.Need-returns-13 (react-claims t) (react-at t) react.Post
 react-returns-13 t c base p l =
@@ -576,7 +572,7 @@ pub +after+body+declared+loop-part+par-parts+part+present-parts+react+seq-parts+
     (λ t. present-parts-lts.spec (present-parts-claims t) (present-parts-at t)
     present-parts.Post
     (present-parts-shared-slice-read-x t)
-    (λ c κs. search needs) (λ c κs. search needs) (λ c. search needs) (λ c. search needs)
+    (λ c κs. search needs) (λ c. search needs) (λ c. search needs)
     (present-parts-part-requires t)
     (λ c κs. search needs) (λ c. search needs)
     (present-parts-element-copy-out-m t)

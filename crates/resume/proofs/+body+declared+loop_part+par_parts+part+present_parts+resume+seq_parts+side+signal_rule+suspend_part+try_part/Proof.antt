@@ -64,19 +64,18 @@ use Rattle.resume.proofs.try_part.Reads as try-part
 use Rattle.resume.proofs.try_part.Kinds as try-part-kinds
 use Rattle.resume.proofs.+body+declared+loop_part+par_parts+part+present_parts+resume+seq_parts+side+signal_rule+suspend_part+try_part.Lts-try_part as try-part-lts
 use Rattle.react.proofs.after.Reads as after-reads
-use Rattle.reaction.proofs.ending.Reads as ending-reads
+use Rattle.reaction.proofs.nothing.Reads as nothing-reads
 use Rattle.rules.proofs.in_parallel.Reads as in-parallel-reads
 use Rattle.declarations.proofs.in_signal.Reads as in-signal-reads
 use Rattle.declarations.proofs.in_signal_once.Reads as in-signal-once-reads
 use Rattle.rules.proofs.in_try.Reads as in-try-reads
-use Rattle.reaction.proofs.around.Reads as around-reads
-use Rattle.reaction.proofs.waiting.Reads as waiting-reads
+use Rattle.rules.proofs.in_held.Reads as in-held-reads
+use Rattle.rules.proofs.stopped.Reads as stopped-reads
 use Rattle.resume_labels.proofs.of_part.Reads as of-part-reads
 use Rattle.labels.proofs.below.Reads as below-reads
 use Rattle.labels.proofs.from.Reads as from-reads
 use Rattle.labels.proofs.is_empty.Reads as is-empty-reads
 use Rattle.signals.proofs.member.Reads as member-reads
-use Rattle.signals.proofs.single.Reads as single-reads
 use Rattle.signals.proofs.with.Reads as with-reads
 use Rattle.signals.proofs.without.Reads as without-reads
 use Rattle.resume.proofs.+body+declared+loop_part+par_parts+part+present_parts+resume+seq_parts+side+signal_rule+suspend_part+try_part.{
@@ -220,25 +219,25 @@ abbrev par-parts-claims : ℕ → par-parts-lts.Claims
 par-parts-claims t = (below-reads.Asked, below-reads.Learnt, side-below t, side.Post, from-reads.Asked, from-reads.Learnt, in-parallel-reads.Asked, in-parallel-reads.Learnt)
 
 abbrev part-claims : ℕ → part-lts.Claims
-part-claims t = (ending-reads.Asked, ending-reads.Learnt, resume-below t, resume.Post)
+part-claims t = (nothing-reads.Asked, nothing-reads.Learnt, resume-below t, resume.Post)
 
 abbrev present-parts-claims : ℕ → present-parts-lts.Claims
 present-parts-claims t = (below-reads.Asked, below-reads.Learnt, is-empty-reads.Asked, is-empty-reads.Learnt, from-reads.Asked, from-reads.Learnt, part-below t, part.Post)
 
 abbrev resume-claims : ℕ → resume-lts.Claims
-resume-claims t = (seq-parts-below t, seq-parts.Post, par-parts-below t, par-parts.Post, loop-part-below t, loop-part.Post, present-parts-below t, present-parts.Post, signal-rule-below t, signal-rule.Post, try-part-below t, try-part.Post, suspend-part-below t, suspend-part.Post, ending-reads.Asked, ending-reads.Learnt)
+resume-claims t = (seq-parts-below t, seq-parts.Post, par-parts-below t, par-parts.Post, loop-part-below t, loop-part.Post, present-parts-below t, present-parts.Post, signal-rule-below t, signal-rule.Post, try-part-below t, try-part.Post, suspend-part-below t, suspend-part.Post, nothing-reads.Asked, nothing-reads.Learnt)
 
 abbrev seq-parts-claims : ℕ → seq-parts-lts.Claims
 seq-parts-claims t = (below-reads.Asked, below-reads.Learnt, is-empty-reads.Asked, is-empty-reads.Learnt, from-reads.Asked, from-reads.Learnt, part-below t, part.Post, after-reads.Asked, after-reads.Learnt)
 
 abbrev side-claims : ℕ → side-lts.Claims
-side-claims t = (is-empty-reads.Asked, is-empty-reads.Learnt, ending-reads.Asked, ending-reads.Learnt, part-below t, part.Post)
+side-claims t = (is-empty-reads.Asked, is-empty-reads.Learnt, nothing-reads.Asked, nothing-reads.Learnt, part-below t, part.Post)
 
 abbrev signal-rule-claims : ℕ → signal-rule-lts.Claims
 signal-rule-claims t = (declared-below t, declared.Post)
 
 abbrev suspend-part-claims : ℕ → suspend-part-lts.Claims
-suspend-part-claims t = (single-reads.Asked, single-reads.Learnt, member-reads.Asked, member-reads.Learnt, of-part-reads.Asked, of-part-reads.Learnt, waiting-reads.Asked, waiting-reads.Learnt, part-below t, part.Post, around-reads.Asked, around-reads.Learnt)
+suspend-part-claims t = (member-reads.Asked, member-reads.Learnt, of-part-reads.Asked, of-part-reads.Learnt, stopped-reads.Asked, stopped-reads.Learnt, part-below t, part.Post, in-held-reads.Asked, in-held-reads.Learnt)
 
 abbrev try-part-claims : ℕ → try-part-lts.Claims
 try-part-claims t = (part-below t, part.Post, in-try-reads.Asked, in-try-reads.Learnt)
@@ -333,7 +332,7 @@ part-shared-slice-read-if1 : (t : ℕ) → part-lts.Need-shared-slice-read-if1 (
 part-shared-slice-read-if1 t c = front-there (c .before .before .args .n) (c .before .before .args .s .now) (c .before .before .pre .1 .1)
 
 part-returns : (t : ℕ) → part-lts.Need-returns (part-claims t) (part-at t) part.Post
-part-returns t c base p l = pause-step _ _ base _ _ p _ _ _ l (front-is (c .before .before .before .before .args .n) (c .before .before .before .before .args .s .now) (c .before .if1 .taken)) (nothing-step _ nothing _ _ refl (c .ending .ensures 0 refl))
+part-returns t c base p l = pause-step _ _ base _ _ p _ _ _ l (front-is (c .before .before .before .before .args .n) (c .before .before .before .before .args .s .now) (c .before .if1 .taken)) (nothing-step _ nothing _ _ refl (c .nothing .ensures))
 
 part-resume-requires : (t : ℕ) → part-lts.Need-resume-requires (part-claims t) (part-at t) part.Post
 part-resume-requires t c κs = (search needs, c .before .before .before .before .pre .1 .1)
@@ -408,7 +407,7 @@ resume-returns-7 : (t : ℕ) → resume-lts.Need-returns-7 (resume-claims t) (re
 resume-returns-7 t c base p l = c .suspend-part .ensures base p l
 
 resume-returns-8 : (t : ℕ) → resume-lts.Need-returns-8 (resume-claims t) (resume-at t) resume.Post
-resume-returns-8 t c base p l = leaf-step _ _ base _ _ p _ _ _ l (c .before .match .rest) (nothing-step _ nothing _ _ refl (c .ending .ensures 0 refl))
+resume-returns-8 t c base p l = leaf-step _ _ base _ _ p _ _ _ l (c .before .match .rest) (nothing-step _ nothing _ _ refl (c .nothing .ensures))
 
 seq-parts-element-copy-out-entry : (t : ℕ) → seq-parts-lts.Need-element-copy-out-entry (seq-parts-claims t) (seq-parts-at t) seq-parts.Post
 seq-parts-element-copy-out-entry t c = omega (arith, c .before .pre .1 .0 .long, c .before .pre .1 .0 .fits, c .before .pre .1 .0 .bytes)
@@ -441,7 +440,7 @@ seq-parts-returns-2 t c base p l =
     (seq-first _ base _ _ (y .0) (y .1) _ _ (y .2 .1 .before) (c .before .before .before .before .below .ensures) (sym (c .before .before .before .is-empty .ensures) ∙ c .before .before .if1 .left) (c .before .part2 .ensures base (y .0) (y .2 .1 .first)) (λ i h. c .after .ensures _ (y .1) i (y .2 .1 .second) h))
 
 side-returns : (t : ℕ) → side-lts.Need-returns (side-claims t) (side-at t) side.Post
-side-returns t c base p l = side-ended _ base _ _ p (sym (c .before .before .is-empty .ensures) ∙ c .before .if1 .taken) (nothing-step _ nothing _ _ refl (c .ending .ensures 0 refl))
+side-returns t c base p l = side-ended _ base _ _ p (sym (c .before .before .is-empty .ensures) ∙ c .before .if1 .taken) (nothing-step _ nothing _ _ refl (c .nothing .ensures))
 
 side-part-requires : (t : ℕ) → side-lts.Need-part-requires (side-claims t) (side-at t) side.Post
 side-part-requires t c κs = (search needs, (c .before .before .before .pre .1 .0, c .before .before .before .pre .1 .1))
@@ -462,35 +461,35 @@ suspend-part-shared-slice-read-x t c = begins (c .before .before .pre .1 .0) Com
 
 suspend-part-of-part-requires : (t : ℕ) → suspend-part-lts.Need-of-part-requires (suspend-part-claims t) (suspend-part-at t) suspend-part.Post
 suspend-part-of-part-requires t c κs =
-    let f = c .before .before .before .before .before .pre .1 in
+    let f = c .before .before .before .before .pre .1 in
     let y = begins (f .0) Command.suspend (f .1) in
     (y .there, ready _ (y .parts .0) (f .0 .long) (y .parts .1 .1))
 
 suspend-part-part-requires : (t : ℕ) → suspend-part-lts.Need-part-requires (suspend-part-claims t) (suspend-part-at t) suspend-part.Post
 suspend-part-part-requires t c κs =
-    let f = c .before .before .before .before .before .pre .1 in
+    let f = c .before .before .before .before .pre .1 in
     let y = begins (f .0) Command.suspend (f .1) in
     (search needs, (y .there, ready _ (y .parts .0) (f .0 .long) (y .parts .1 .1)))
 
 suspend-part-returns : (t : ℕ) → suspend-part-lts.Need-returns (suspend-part-claims t) (suspend-part-at t) suspend-part.Post
 suspend-part-returns t c base p l =
-    let f = c .before .before .before .before .before .before .before .pre .1 in
+    let f = c .before .before .before .before .before .before .pre .1 in
     let d = c .before .before .before in
     let y = taken-apart (f .0) base p l Command.suspend (f .1) in
     let q = y .parts .0 in
     here _ base _ _ (suspend _ q) p (y .parts .1 .0)
-    (suspend-stopped _ base _ _ _ q (ltb-true _ _ (y .ranged)) (d .before .single .ensures) (sym (d .member .ensures) ∙ c .before .before .if1 .taken)
-    (c .before .of-part .ensures base q (y .parts .1 .1)) (c .waiting .ensures))
+    (suspend-stopped _ base _ _ _ q (sym (d .member .ensures) ∙ c .before .before .if1 .taken)
+    (c .before .of-part .ensures base q (y .parts .1 .1)) (c .stopped .ensures (ltb-true _ _ (y .ranged))))
 
 suspend-part-returns-2 : (t : ℕ) → suspend-part-lts.Need-returns-2 (suspend-part-claims t) (suspend-part-at t) suspend-part.Post
 suspend-part-returns-2 t c base p l =
-    let f = c .before .before .before .before .before .before .before .pre .1 in
+    let f = c .before .before .before .before .before .before .pre .1 in
     let d = c .before .before .before in
     let y = taken-apart (f .0) base p l Command.suspend (f .1) in
     let q = y .parts .0 in
     here _ base _ _ (suspend _ q) p (y .parts .1 .0)
-    (suspend-resumed _ base _ _ _ q (ltb-true _ _ (y .ranged)) (d .before .single .ensures) (sym (d .member .ensures) ∙ c .before .before .if1 .left)
-    (c .before .part .ensures base q (y .parts .1 .1)) (c .around .ensures))
+    (suspend-resumed _ base _ _ _ q (sym (d .member .ensures) ∙ c .before .before .if1 .left)
+    (c .before .part .ensures base q (y .parts .1 .1)) (c .in-held .ensures (ltb-true _ _ (y .ranged))))
 
 try-part-part-requires : (t : ℕ) → try-part-lts.Need-part-requires (try-part-claims t) (try-part-at t) try-part.Post
 try-part-part-requires t c κs = let y = begins (c .before .pre .1 .0) Command.try (c .before .pre .1 .1) in (search needs, (y .there, ready _ (y .parts .0) (c .before .pre .1 .0 .long) (y .parts .1 .1)))
@@ -621,7 +620,7 @@ pub +body+declared+loop-part+par-parts+part+present-parts+resume+seq-parts+side+
     (λ t. suspend-part-lts.spec (suspend-part-claims t) (suspend-part-at t)
     suspend-part.Post
     (suspend-part-shared-slice-read-x t)
-    (λ c κs. search needs) (λ c κs. search needs) (λ c. search needs) (λ c. search needs)
+    (λ c κs. search needs) (λ c. search needs) (λ c. search needs)
     (suspend-part-of-part-requires t)
     (λ c κs. search needs) (λ c. search needs) (λ c. search needs)
     (suspend-part-part-requires t)

@@ -1,6 +1,5 @@
 use mathlib.Core.Path.{sym, _∙_}
-use Rattle.esterel.specs.Sets.{none}
-use Rattle.rules.proofs.Combining.{seq-goes-on, seq-stops}
+use Rattle.rules.proofs.Combining.{seq-goes-on}
 use borrow.Author.Needs.{needs}
 use Rattle.rules.proofs.in_sequence.Statement.{statement}
 use Rattle.rules.proofs.in_sequence.Tie as tie
@@ -20,19 +19,17 @@ union-requires-2 c κs = search needs
 together-requires : tie.Need-together-requires
 together-requires c κs = search needs
 
-around-requires : tie.Need-around-requires
-around-requires c κs = search needs
+in-first-requires : tie.Need-in-first-requires
+in-first-requires c κs = search needs
 
 returns : tie.Need-returns
 returns c u t v a b =
     let d = c .before .before .before .before .before in
-    seq-goes-on u t v _ _ a b _ _ _ _ (sym (d .before .is-ended .ensures) ∙ d .if1 .taken) (c .before .before .before .union .ensures)
+    seq-goes-on u t v _ a _ b _ _ _ _ (sym (d .before .is-ended .ensures) ∙ d .if1 .taken) (c .before .before .before .union .ensures)
     (c .before .before .over-two .ensures) (c .before .union2 .ensures) (c .together .ensures)
 
 returns-2 : tie.Need-returns-2
-unfolding none
-returns-2 c u t v a b =
-    seq-stops u t v _ (c .before .before .before .args .q) a (sym (c .before .before .is-ended .ensures) ∙ c .before .if1 .left) (c .around .ensures t a)
+returns-2 c u t v a b = c .in-first .ensures u v (sym (c .before .before .is-ended .ensures) ∙ c .before .if1 .left) t a
 
 pub in-sequence-spec : {M : Type 1} → statement M
-in-sequence-spec = tie.close (tie.spec is-ended-requires union-requires over-two-requires union-requires-2 together-requires around-requires returns returns-2)
+in-sequence-spec = tie.close (tie.spec is-ended-requires union-requires over-two-requires union-requires-2 together-requires in-first-requires returns returns-2)
