@@ -27,10 +27,14 @@ pub fn resume(
     match command {
         limits::SEQUENCE => seq_parts(s, at, depth, input, farm, active, second),
         limits::PARALLEL => par_parts(s, at, depth, input, farm, active, second),
-        limits::LOOP => loop_part(s, at, depth, input, farm, active, second),
+        // the loop begins again where its body has ended
+        limits::LOOP => {
+            let p = part(s, 1, at + 1, depth - 1, input, farm, active, second);
+            react::after(p, s, 0, at, depth, input, farm, second)
+        }
         limits::PRESENT => present_parts(s, at, depth, input, farm, active, second),
         limits::SIGNAL => signal_rule(s, at, depth, input, farm, active, second),
-        limits::TRY => try_part(s, at, depth, input, farm, active, second),
+        limits::TRY => rules::in_try(part(s, 1, at + 1, depth - 1, input, farm, active, second)),
         limits::SUSPEND => suspend_part(s, at, depth, input, farm, active, second),
         _ => reaction::nothing(),
     }
@@ -122,23 +126,6 @@ fn par_parts(
     let others = labels::from(active, entry / layout::BEFORE_UNIT);
     let q = side(s, m - at, m, depth - 1, input, farm, others, second);
     rules::in_parallel(p, q)
-}
-
-// The loop begins again where its body has ended.
-fn loop_part(
-    s: &[u8],
-    at: usize,
-    depth: u8,
-    input: u32,
-    farm: u8,
-    active: Labels,
-    second: &SecondParts,
-) -> Reaction
-    requires { ⌜ Ready (now second) depth at (now s) × (getD (now s) 0 0 ≡ 6) ⌝ }
-    ensures { λ r. ⌜ Resumed (now (second .entry)) depth at (now (s .entry)) (labelSet active) input farm r ⌝ }
-{
-    let p = part(s, 1, at + 1, depth - 1, input, farm, active, second);
-    react::after(p, s, 0, at, depth, input, farm, second)
 }
 
 // Of a test the active branch goes on, whatever its signal is now.
@@ -250,20 +237,4 @@ fn suspend_part(
             part(s, 2, at + 2, depth - 1, input, farm, active, second),
         )
     }
-}
-
-fn try_part(
-    s: &[u8],
-    at: usize,
-    depth: u8,
-    input: u32,
-    farm: u8,
-    active: Labels,
-    second: &SecondParts,
-) -> Reaction
-    requires { ⌜ Ready (now second) depth at (now s) × (getD (now s) 0 0 ≡ 9) ⌝ }
-    ensures { λ r. ⌜ Resumed (now (second .entry)) depth at (now (s .entry)) (labelSet active) input farm r ⌝ }
-{
-    let p = part(s, 1, at + 1, depth - 1, input, farm, active, second);
-    rules::in_try(p)
 }

@@ -31,37 +31,31 @@ use borrow.Fn.Kinds.{In}
 use borrow.Fn.PlainCycle.{Measures, is, falls, and}
 use Rattle.react.proofs.after.Reads as after
 use Rattle.react.proofs.after.Kinds as after-kinds
-use Rattle.react.proofs.+after+body+declared+loop_part+par_parts+part+present_parts+react+seq_parts+signal_rule+try_part.Lts-after as after-lts
+use Rattle.react.proofs.+after+body+declared+par_parts+part+present_parts+react+seq_parts+signal_rule.Lts-after as after-lts
 use Rattle.react.proofs.body.Reads as body
 use Rattle.react.proofs.body.Kinds as body-kinds
-use Rattle.react.proofs.+after+body+declared+loop_part+par_parts+part+present_parts+react+seq_parts+signal_rule+try_part.Lts-body as body-lts
+use Rattle.react.proofs.+after+body+declared+par_parts+part+present_parts+react+seq_parts+signal_rule.Lts-body as body-lts
 use Rattle.react.proofs.declared.Reads as declared
 use Rattle.react.proofs.declared.Kinds as declared-kinds
-use Rattle.react.proofs.+after+body+declared+loop_part+par_parts+part+present_parts+react+seq_parts+signal_rule+try_part.Lts-declared as declared-lts
-use Rattle.react.proofs.loop_part.Reads as loop-part
-use Rattle.react.proofs.loop_part.Kinds as loop-part-kinds
-use Rattle.react.proofs.+after+body+declared+loop_part+par_parts+part+present_parts+react+seq_parts+signal_rule+try_part.Lts-loop_part as loop-part-lts
+use Rattle.react.proofs.+after+body+declared+par_parts+part+present_parts+react+seq_parts+signal_rule.Lts-declared as declared-lts
 use Rattle.react.proofs.par_parts.Reads as par-parts
 use Rattle.react.proofs.par_parts.Kinds as par-parts-kinds
-use Rattle.react.proofs.+after+body+declared+loop_part+par_parts+part+present_parts+react+seq_parts+signal_rule+try_part.Lts-par_parts as par-parts-lts
+use Rattle.react.proofs.+after+body+declared+par_parts+part+present_parts+react+seq_parts+signal_rule.Lts-par_parts as par-parts-lts
 use Rattle.react.proofs.part.Reads as part
 use Rattle.react.proofs.part.Kinds as part-kinds
-use Rattle.react.proofs.+after+body+declared+loop_part+par_parts+part+present_parts+react+seq_parts+signal_rule+try_part.Lts-part as part-lts
+use Rattle.react.proofs.+after+body+declared+par_parts+part+present_parts+react+seq_parts+signal_rule.Lts-part as part-lts
 use Rattle.react.proofs.present_parts.Reads as present-parts
 use Rattle.react.proofs.present_parts.Kinds as present-parts-kinds
-use Rattle.react.proofs.+after+body+declared+loop_part+par_parts+part+present_parts+react+seq_parts+signal_rule+try_part.Lts-present_parts as present-parts-lts
+use Rattle.react.proofs.+after+body+declared+par_parts+part+present_parts+react+seq_parts+signal_rule.Lts-present_parts as present-parts-lts
 use Rattle.react.proofs.react.Reads as react
 use Rattle.react.proofs.react.Kinds as react-kinds
-use Rattle.react.proofs.+after+body+declared+loop_part+par_parts+part+present_parts+react+seq_parts+signal_rule+try_part.Lts-react as react-lts
+use Rattle.react.proofs.+after+body+declared+par_parts+part+present_parts+react+seq_parts+signal_rule.Lts-react as react-lts
 use Rattle.react.proofs.seq_parts.Reads as seq-parts
 use Rattle.react.proofs.seq_parts.Kinds as seq-parts-kinds
-use Rattle.react.proofs.+after+body+declared+loop_part+par_parts+part+present_parts+react+seq_parts+signal_rule+try_part.Lts-seq_parts as seq-parts-lts
+use Rattle.react.proofs.+after+body+declared+par_parts+part+present_parts+react+seq_parts+signal_rule.Lts-seq_parts as seq-parts-lts
 use Rattle.react.proofs.signal_rule.Reads as signal-rule
 use Rattle.react.proofs.signal_rule.Kinds as signal-rule-kinds
-use Rattle.react.proofs.+after+body+declared+loop_part+par_parts+part+present_parts+react+seq_parts+signal_rule+try_part.Lts-signal_rule as signal-rule-lts
-use Rattle.react.proofs.try_part.Reads as try-part
-use Rattle.react.proofs.try_part.Kinds as try-part-kinds
-use Rattle.react.proofs.+after+body+declared+loop_part+par_parts+part+present_parts+react+seq_parts+signal_rule+try_part.Lts-try_part as try-part-lts
+use Rattle.react.proofs.+after+body+declared+par_parts+part+present_parts+react+seq_parts+signal_rule.Lts-signal_rule as signal-rule-lts
 use Rattle.reaction.proofs.nothing.Reads as nothing-reads
 use Rattle.rules.proofs.in_first.Reads as in-first-reads
 use Rattle.rules.proofs.in_present.Reads as in-present-reads
@@ -79,10 +73,10 @@ use Rattle.reaction.proofs.pausing.Reads as pausing-reads
 use Rattle.signals.proofs.member.Reads as member-reads
 use Rattle.signals.proofs.with.Reads as with-reads
 use Rattle.signals.proofs.without.Reads as without-reads
-use Rattle.react.proofs.+after+body+declared+loop_part+par_parts+part+present_parts+react+seq_parts+signal_rule+try_part.{
+use Rattle.react.proofs.+after+body+declared+par_parts+part+present_parts+react+seq_parts+signal_rule.{
   statement,
 }
-use Rattle.react.proofs.+after+body+declared+loop_part+par_parts+part+present_parts+react+seq_parts+signal_rule+try_part.Tie.{
+use Rattle.react.proofs.+after+body+declared+par_parts+part+present_parts+react+seq_parts+signal_rule.Tie.{
   close,
 }
 
@@ -94,9 +88,6 @@ abbrev μ-body : Measures 2 body-kinds.ps ℕ
 
 abbrev μ-declared : Measures 2 declared-kinds.ps ℕ
 μ-declared κs a = 6 * (a .1 .1 .0) - 2
-
-abbrev μ-loop-part : Measures 2 loop-part-kinds.ps ℕ
-μ-loop-part κs a = 6 * (a .1 .1 .0) - 1
 
 abbrev μ-par-parts : Measures 2 par-parts-kinds.ps ℕ
 μ-par-parts κs a = 6 * (a .1 .1 .0) - 1
@@ -116,9 +107,6 @@ abbrev μ-seq-parts : Measures 2 seq-parts-kinds.ps ℕ
 abbrev μ-signal-rule : Measures 2 signal-rule-kinds.ps ℕ
 μ-signal-rule κs a = 6 * (a .1 .1 .0) - 1
 
-abbrev μ-try-part : Measures 2 try-part-kinds.ps ℕ
-μ-try-part κs a = 6 * (a .1 .1 .0) - 1
-
 abbrev after-at : ℕ → In 2 after-kinds.ps
 after-at t = and 2 after-kinds.ps (is 2 after-kinds.ps μ-after t) after.Pre
 
@@ -136,13 +124,6 @@ declared-at t = and 2 declared-kinds.ps (is 2 declared-kinds.ps μ-declared t) d
 
 abbrev declared-below : ℕ → In 2 declared-kinds.ps
 declared-below t = and 2 declared-kinds.ps (falls 2 declared-kinds.ps _<_ μ-declared t) declared.Pre
-
-abbrev loop-part-at : ℕ → In 2 loop-part-kinds.ps
-loop-part-at t = and 2 loop-part-kinds.ps (is 2 loop-part-kinds.ps μ-loop-part t) loop-part.Pre
-
-abbrev loop-part-below : ℕ → In 2 loop-part-kinds.ps
-loop-part-below t =
-    and 2 loop-part-kinds.ps (falls 2 loop-part-kinds.ps _<_ μ-loop-part t) loop-part.Pre
 
 abbrev par-parts-at : ℕ → In 2 par-parts-kinds.ps
 par-parts-at t = and 2 par-parts-kinds.ps (is 2 par-parts-kinds.ps μ-par-parts t) par-parts.Pre
@@ -190,13 +171,6 @@ abbrev signal-rule-below : ℕ → In 2 signal-rule-kinds.ps
 signal-rule-below t =
     and 2 signal-rule-kinds.ps (falls 2 signal-rule-kinds.ps _<_ μ-signal-rule t) signal-rule.Pre
 
-abbrev try-part-at : ℕ → In 2 try-part-kinds.ps
-try-part-at t = and 2 try-part-kinds.ps (is 2 try-part-kinds.ps μ-try-part t) try-part.Pre
-
-abbrev try-part-below : ℕ → In 2 try-part-kinds.ps
-try-part-below t =
-    and 2 try-part-kinds.ps (falls 2 try-part-kinds.ps _<_ μ-try-part t) try-part.Pre
-
 abbrev after-claims : ℕ → after-lts.Claims
 after-claims t = (is-ended-reads.Asked, is-ended-reads.Learnt, part-below t, part.Post, in-sequence-reads.Asked, in-sequence-reads.Learnt, in-first-reads.Asked, in-first-reads.Learnt)
 
@@ -205,9 +179,6 @@ body-claims t = (declared-below t, declared.Post, part-below t, part.Post)
 
 abbrev declared-claims : ℕ → declared-lts.Claims
 declared-claims t = (without-reads.Asked, without-reads.Learnt, with-reads.Asked, with-reads.Learnt, body-below t, body.Post, member-reads.Asked, member-reads.Learnt, in-signal-reads.Asked, in-signal-reads.Learnt, in-signal-once-reads.Asked, in-signal-once-reads.Learnt)
-
-abbrev loop-part-claims : ℕ → loop-part-lts.Claims
-loop-part-claims t = (part-below t, part.Post, in-loop-reads.Asked, in-loop-reads.Learnt)
 
 abbrev par-parts-claims : ℕ → par-parts-lts.Claims
 par-parts-claims t = (part-below t, part.Post, in-parallel-reads.Asked, in-parallel-reads.Learnt)
@@ -219,16 +190,13 @@ abbrev present-parts-claims : ℕ → present-parts-lts.Claims
 present-parts-claims t = (member-reads.Asked, member-reads.Learnt, part-below t, part.Post, in-present-reads.Asked, in-present-reads.Learnt)
 
 abbrev react-claims : ℕ → react-lts.Claims
-react-claims t = (nothing-reads.Asked, nothing-reads.Learnt, pausing-reads.Asked, pausing-reads.Learnt, emitting-reads.Asked, emitting-reads.Learnt, leaving-reads.Asked, leaving-reads.Learnt, seq-parts-below t, seq-parts.Post, par-parts-below t, par-parts.Post, loop-part-below t, loop-part.Post, present-parts-below t, present-parts.Post, signal-rule-below t, signal-rule.Post, try-part-below t, try-part.Post, part-below t, part.Post, in-suspend-reads.Asked, in-suspend-reads.Learnt)
+react-claims t = (nothing-reads.Asked, nothing-reads.Learnt, pausing-reads.Asked, pausing-reads.Learnt, emitting-reads.Asked, emitting-reads.Learnt, leaving-reads.Asked, leaving-reads.Learnt, seq-parts-below t, seq-parts.Post, par-parts-below t, par-parts.Post, part-below t, part.Post, in-loop-reads.Asked, in-loop-reads.Learnt, present-parts-below t, present-parts.Post, signal-rule-below t, signal-rule.Post, in-try-reads.Asked, in-try-reads.Learnt, in-suspend-reads.Asked, in-suspend-reads.Learnt)
 
 abbrev seq-parts-claims : ℕ → seq-parts-lts.Claims
 seq-parts-claims t = (part-below t, part.Post, after-below t, after.Post)
 
 abbrev signal-rule-claims : ℕ → signal-rule-lts.Claims
 signal-rule-claims t = (declared-below t, declared.Post)
-
-abbrev try-part-claims : ℕ → try-part-lts.Claims
-try-part-claims t = (part-below t, part.Post, in-try-reads.Asked, in-try-reads.Learnt)
 
 after-part-requires : (t : ℕ) → after-lts.Need-part-requires (after-claims t) (after-at t) after.Post
 after-part-requires t c κs = (search needs, (c .before .before .before .pre .1 .0, c .before .before .before .pre .1 .1))
@@ -295,14 +263,6 @@ declared-returns-2 t c base p l =
     here _ (signal local _ _ q) p _ (y .parts .1 .0)
     (signal-once-step _ _ local _ _ q (ltb-true _ _ (y .ranged)) (d .before .before .without .ensures) (d .body .ensures base q (y .parts .1 .1))
     (sym (c .before .before .member .ensures) ∙ c .before .if1 .left) (c .in-signal-once .ensures _))
-
-loop-part-part-requires : (t : ℕ) → loop-part-lts.Need-part-requires (loop-part-claims t) (loop-part-at t) loop-part.Post
-loop-part-part-requires t c κs = let y = begins (c .before .pre .1 .0) Command.loop (c .before .pre .1 .1) in (search needs, (y .there, ready _ (y .parts .0) (c .before .pre .1 .0 .long) (y .parts .1 .1)))
-
-loop-part-returns : (t : ℕ) → loop-part-lts.Need-returns (loop-part-claims t) (loop-part-at t) loop-part.Post
-loop-part-returns t c base p l =
-    let y = taken-apart (c .before .before .before .pre .1 .0) base p l Command.loop (c .before .before .before .pre .1 .1) .parts in
-    here _ (loop _ (y .0)) p _ (y .1 .0) (loop-step _ _ _ (y .0) (c .before .part .ensures base (y .0) (y .1 .1)) (c .in-loop .ensures))
 
 par-parts-element-copy-out-m : (t : ℕ) → par-parts-lts.Need-element-copy-out-m (par-parts-claims t) (par-parts-at t) par-parts.Post
 par-parts-element-copy-out-m t c = omega (arith, c .before .pre .1 .0 .long, c .before .pre .1 .0 .fits, c .before .pre .1 .0 .bytes)
@@ -396,17 +356,11 @@ react-seq-parts-requires t c κs = (search needs, ((c .before .before .before .p
 react-par-parts-requires : (t : ℕ) → react-lts.Need-par-parts-requires (react-claims t) (react-at t) react.Post
 react-par-parts-requires t c κs = (search needs, ((c .before .before .before .pre .1), c .match .keys6))
 
-react-loop-part-requires : (t : ℕ) → react-lts.Need-loop-part-requires (react-claims t) (react-at t) react.Post
-react-loop-part-requires t c κs = (search needs, ((c .before .before .before .pre .1), c .match .keys7))
-
 react-present-parts-requires : (t : ℕ) → react-lts.Need-present-parts-requires (react-claims t) (react-at t) react.Post
 react-present-parts-requires t c κs = (search needs, ((c .before .before .before .pre .1), c .match .keys8))
 
 react-signal-rule-requires : (t : ℕ) → react-lts.Need-signal-rule-requires (react-claims t) (react-at t) react.Post
 react-signal-rule-requires t c κs = (search needs, ((c .before .before .before .pre .1), c .match .keys9))
-
-react-try-part-requires : (t : ℕ) → react-lts.Need-try-part-requires (react-claims t) (react-at t) react.Post
-react-try-part-requires t c κs = (search needs, ((c .before .before .before .pre .1), c .match .keys10))
 
 react-shared-slice-read-pausing-2 : (t : ℕ) → react-lts.Need-shared-slice-read-pausing-2 (react-claims t) (react-at t) react.Post
 react-shared-slice-read-pausing-2 t c = begins (c .before .before .before .before .pre .1) Command.setpause (c .before .match .keys11) .there
@@ -417,7 +371,22 @@ react-emitting-requires-2 t c κs =
     litres-emission e (begins (c .before .before .before .pre .1) Command.deliver e) .0
 
 react-part-requires : (t : ℕ) → react-lts.Need-part-requires (react-claims t) (react-at t) react.Post
-react-part-requires t c κs = let y = begins (c .before .before .before .pre .1) Command.suspend (c .match .keys12) in (search needs, (y .there, ready _ (y .parts .0) (c .before .before .before .pre .1 .long) (y .parts .1 .1)))
+react-part-requires t c κs =
+    let f = c .before .before .before .pre .1 in
+    let y = begins f Command.loop (c .match .keys7) in
+    (search needs, (y .there, ready _ (y .parts .0) (f .long) (y .parts .1 .1)))
+
+react-part-requires-2 : (t : ℕ) → react-lts.Need-part-requires-2 (react-claims t) (react-at t) react.Post
+react-part-requires-2 t c κs =
+    let f = c .before .before .before .pre .1 in
+    let y = begins f Command.try (c .match .keys10) in
+    (search needs, (y .there, ready _ (y .parts .0) (f .long) (y .parts .1 .1)))
+
+react-part-requires-3 : (t : ℕ) → react-lts.Need-part-requires-3 (react-claims t) (react-at t) react.Post
+react-part-requires-3 t c κs =
+    let f = c .before .before .before .pre .1 in
+    let y = begins f Command.suspend (c .match .keys12) in
+    (search needs, (y .there, ready _ (y .parts .0) (f .long) (y .parts .1 .1)))
 
 react-returns : (t : ℕ) → react-lts.Need-returns (react-claims t) (react-at t) react.Post
 react-returns t c base p l = nothing-step _ p _ _ (taken-apart (c .before .before .before .before .pre .1) base p l Command.nothing (c .before .match .keys1) .parts) (c .nothing .ensures)
@@ -442,7 +411,9 @@ react-returns-6 : (t : ℕ) → react-lts.Need-returns-6 (react-claims t) (react
 react-returns-6 t c base p l = c .par-parts .ensures base p l
 
 react-returns-7 : (t : ℕ) → react-lts.Need-returns-7 (react-claims t) (react-at t) react.Post
-react-returns-7 t c base p l = c .loop-part .ensures base p l
+react-returns-7 t c base p l =
+    let y = taken-apart (c .before .before .before .before .before .pre .1) base p l Command.loop (c .before .before .match .keys7) .parts in
+    here _ (loop _ (y .0)) p _ (y .1 .0) (loop-step _ _ _ (y .0) (c .before .part .ensures base (y .0) (y .1 .1)) (c .in-loop .ensures))
 
 react-returns-8 : (t : ℕ) → react-lts.Need-returns-8 (react-claims t) (react-at t) react.Post
 react-returns-8 t c base p l = c .present-parts .ensures base p l
@@ -451,7 +422,9 @@ react-returns-9 : (t : ℕ) → react-lts.Need-returns-9 (react-claims t) (react
 react-returns-9 t c base p l = c .signal-rule .ensures base p l
 
 react-returns-10 : (t : ℕ) → react-lts.Need-returns-10 (react-claims t) (react-at t) react.Post
-react-returns-10 t c base p l = c .try-part .ensures base p l
+react-returns-10 t c base p l =
+    let y = taken-apart (c .before .before .before .before .before .pre .1) base p l Command.try (c .before .before .match .keys10) .parts in
+    here _ (try (y .0)) p _ (y .1 .0) (try-step _ _ (y .0) (c .before .part2 .ensures base (y .0) (y .1 .1)) (c .in-try .ensures))
 
 react-returns-11 : (t : ℕ) → react-lts.Need-returns-11 (react-claims t) (react-at t) react.Post
 react-returns-11 t c base p l =
@@ -461,7 +434,7 @@ react-returns-11 t c base p l =
 react-returns-12 : (t : ℕ) → react-lts.Need-returns-12 (react-claims t) (react-at t) react.Post
 react-returns-12 t c base p l =
     let y = taken-apart (c .before .before .before .before .before .pre .1) base p l Command.suspend (c .before .before .match .keys12) .parts in
-    here _ (suspend _ (y .0)) p _ (y .1 .0) (suspend-step _ _ _ (y .0) (c .before .part .ensures base (y .0) (y .1 .1)) (c .in-suspend .ensures _))
+    here _ (suspend _ (y .0)) p _ (y .1 .0) (suspend-step _ _ _ (y .0) (c .before .part3 .ensures base (y .0) (y .1 .1)) (c .in-suspend .ensures _))
 
 react-returns-13 : (t : ℕ) → react-lts.Need-returns-13 (react-claims t) (react-at t) react.Post
 react-returns-13 t c base p l =
@@ -495,29 +468,19 @@ signal-rule-declared-requires t c κs =
 signal-rule-returns : (t : ℕ) → signal-rule-lts.Need-returns (signal-rule-claims t) (signal-rule-at t) signal-rule.Post
 signal-rule-returns t c base p l = c .declared .ensures base p (whole-lies _ _ _ _ _ p l)
 
-try-part-part-requires : (t : ℕ) → try-part-lts.Need-part-requires (try-part-claims t) (try-part-at t) try-part.Post
-try-part-part-requires t c κs = let y = begins (c .before .pre .1 .0) Command.try (c .before .pre .1 .1) in (search needs, (y .there, ready _ (y .parts .0) (c .before .pre .1 .0 .long) (y .parts .1 .1)))
-
-try-part-returns : (t : ℕ) → try-part-lts.Need-returns (try-part-claims t) (try-part-at t) try-part.Post
-try-part-returns t c base p l =
-    let y = taken-apart (c .before .before .before .pre .1 .0) base p l Command.try (c .before .before .before .pre .1 .1) .parts in
-    here _ (try (y .0)) p _ (y .1 .0) (try-step _ _ (y .0) (c .before .part .ensures base (y .0) (y .1 .1)) (c .in-try .ensures))
-
-pub +after+body+declared+loop-part+par-parts+part+present-parts+react+seq-parts+signal-rule+try-part-spec :
+pub +after+body+declared+par-parts+part+present-parts+react+seq-parts+signal-rule-spec :
     {M : Type 1} → statement M
-+after+body+declared+loop-part+par-parts+part+present-parts+react+seq-parts+signal-rule+try-part-spec =
++after+body+declared+par-parts+part+present-parts+react+seq-parts+signal-rule-spec =
     close
     μ-after
     μ-body
     μ-declared
-    μ-loop-part
     μ-par-parts
     μ-part
     μ-present-parts
     μ-react
     μ-seq-parts
     μ-signal-rule
-    μ-try-part
     (λ t. after-lts.spec (after-claims t) (after-at t)
     after.Post
     (λ c κs. search needs)
@@ -544,12 +507,6 @@ pub +after+body+declared+loop-part+par-parts+part+present-parts+react+seq-parts+
     (λ c κs. search needs) (λ c κs. search needs)
     (declared-returns t)
     (declared-returns-2 t))
-    (λ t. loop-part-lts.spec (loop-part-claims t) (loop-part-at t)
-    loop-part.Post
-    (λ c. search needs) (λ c. search needs)
-    (loop-part-part-requires t)
-    (λ c. search needs) (λ c κs. search needs)
-    (loop-part-returns t))
     (λ t. par-parts-lts.spec (par-parts-claims t) (par-parts-at t)
     par-parts.Post
     (λ c. search needs)
@@ -593,14 +550,18 @@ pub +after+body+declared+loop-part+par-parts+part+present-parts+react+seq-parts+
     (λ c κs. search needs)
     (react-seq-parts-requires t)
     (react-par-parts-requires t)
-    (react-loop-part-requires t)
+    (λ c. search needs) (λ c. search needs) (λ c. search needs)
+    (react-part-requires t)
+    (λ c κs. search needs)
     (react-present-parts-requires t)
     (react-signal-rule-requires t)
-    (react-try-part-requires t)
+    (λ c. search needs) (λ c. search needs)
+    (react-part-requires-2 t)
+    (λ c κs. search needs)
     (react-shared-slice-read-pausing-2 t)
     (λ c κs. search needs)
     (λ c. search needs) (λ c. search needs)
-    (react-part-requires t)
+    (react-part-requires-3 t)
     (λ c κs. search needs)
     (react-emitting-requires-2 t)
     (react-returns t)
@@ -626,14 +587,8 @@ pub +after+body+declared+loop-part+par-parts+part+present-parts+react+seq-parts+
     (λ c. search needs)
     (seq-parts-after-requires t)
     (seq-parts-returns t))
-    (λ t. signal-rule-lts.spec (signal-rule-claims t) (signal-rule-at t)
+    λ t. signal-rule-lts.spec (signal-rule-claims t) (signal-rule-at t)
     signal-rule.Post
     (λ c. search needs) (λ c. search needs) (λ c. search needs)
     (signal-rule-declared-requires t)
-    (signal-rule-returns t))
-    λ t. try-part-lts.spec (try-part-claims t) (try-part-at t)
-    try-part.Post
-    (λ c. search needs) (λ c. search needs)
-    (try-part-part-requires t)
-    (λ c κs. search needs)
-    (try-part-returns t)
+    (signal-rule-returns t)

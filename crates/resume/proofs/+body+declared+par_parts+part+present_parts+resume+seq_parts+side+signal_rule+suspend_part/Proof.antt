@@ -29,40 +29,34 @@ use borrow.Fn.Kinds.{In}
 use borrow.Fn.PlainCycle.{Measures, is, falls, and}
 use Rattle.resume.proofs.body.Reads as body
 use Rattle.resume.proofs.body.Kinds as body-kinds
-use Rattle.resume.proofs.+body+declared+loop_part+par_parts+part+present_parts+resume+seq_parts+side+signal_rule+suspend_part+try_part.Lts-body as body-lts
+use Rattle.resume.proofs.+body+declared+par_parts+part+present_parts+resume+seq_parts+side+signal_rule+suspend_part.Lts-body as body-lts
 use Rattle.resume.proofs.declared.Reads as declared
 use Rattle.resume.proofs.declared.Kinds as declared-kinds
-use Rattle.resume.proofs.+body+declared+loop_part+par_parts+part+present_parts+resume+seq_parts+side+signal_rule+suspend_part+try_part.Lts-declared as declared-lts
-use Rattle.resume.proofs.loop_part.Reads as loop-part
-use Rattle.resume.proofs.loop_part.Kinds as loop-part-kinds
-use Rattle.resume.proofs.+body+declared+loop_part+par_parts+part+present_parts+resume+seq_parts+side+signal_rule+suspend_part+try_part.Lts-loop_part as loop-part-lts
+use Rattle.resume.proofs.+body+declared+par_parts+part+present_parts+resume+seq_parts+side+signal_rule+suspend_part.Lts-declared as declared-lts
 use Rattle.resume.proofs.par_parts.Reads as par-parts
 use Rattle.resume.proofs.par_parts.Kinds as par-parts-kinds
-use Rattle.resume.proofs.+body+declared+loop_part+par_parts+part+present_parts+resume+seq_parts+side+signal_rule+suspend_part+try_part.Lts-par_parts as par-parts-lts
+use Rattle.resume.proofs.+body+declared+par_parts+part+present_parts+resume+seq_parts+side+signal_rule+suspend_part.Lts-par_parts as par-parts-lts
 use Rattle.resume.proofs.part.Reads as part
 use Rattle.resume.proofs.part.Kinds as part-kinds
-use Rattle.resume.proofs.+body+declared+loop_part+par_parts+part+present_parts+resume+seq_parts+side+signal_rule+suspend_part+try_part.Lts-part as part-lts
+use Rattle.resume.proofs.+body+declared+par_parts+part+present_parts+resume+seq_parts+side+signal_rule+suspend_part.Lts-part as part-lts
 use Rattle.resume.proofs.present_parts.Reads as present-parts
 use Rattle.resume.proofs.present_parts.Kinds as present-parts-kinds
-use Rattle.resume.proofs.+body+declared+loop_part+par_parts+part+present_parts+resume+seq_parts+side+signal_rule+suspend_part+try_part.Lts-present_parts as present-parts-lts
+use Rattle.resume.proofs.+body+declared+par_parts+part+present_parts+resume+seq_parts+side+signal_rule+suspend_part.Lts-present_parts as present-parts-lts
 use Rattle.resume.proofs.resume.Reads as resume
 use Rattle.resume.proofs.resume.Kinds as resume-kinds
-use Rattle.resume.proofs.+body+declared+loop_part+par_parts+part+present_parts+resume+seq_parts+side+signal_rule+suspend_part+try_part.Lts-resume as resume-lts
+use Rattle.resume.proofs.+body+declared+par_parts+part+present_parts+resume+seq_parts+side+signal_rule+suspend_part.Lts-resume as resume-lts
 use Rattle.resume.proofs.seq_parts.Reads as seq-parts
 use Rattle.resume.proofs.seq_parts.Kinds as seq-parts-kinds
-use Rattle.resume.proofs.+body+declared+loop_part+par_parts+part+present_parts+resume+seq_parts+side+signal_rule+suspend_part+try_part.Lts-seq_parts as seq-parts-lts
+use Rattle.resume.proofs.+body+declared+par_parts+part+present_parts+resume+seq_parts+side+signal_rule+suspend_part.Lts-seq_parts as seq-parts-lts
 use Rattle.resume.proofs.side.Reads as side
 use Rattle.resume.proofs.side.Kinds as side-kinds
-use Rattle.resume.proofs.+body+declared+loop_part+par_parts+part+present_parts+resume+seq_parts+side+signal_rule+suspend_part+try_part.Lts-side as side-lts
+use Rattle.resume.proofs.+body+declared+par_parts+part+present_parts+resume+seq_parts+side+signal_rule+suspend_part.Lts-side as side-lts
 use Rattle.resume.proofs.signal_rule.Reads as signal-rule
 use Rattle.resume.proofs.signal_rule.Kinds as signal-rule-kinds
-use Rattle.resume.proofs.+body+declared+loop_part+par_parts+part+present_parts+resume+seq_parts+side+signal_rule+suspend_part+try_part.Lts-signal_rule as signal-rule-lts
+use Rattle.resume.proofs.+body+declared+par_parts+part+present_parts+resume+seq_parts+side+signal_rule+suspend_part.Lts-signal_rule as signal-rule-lts
 use Rattle.resume.proofs.suspend_part.Reads as suspend-part
 use Rattle.resume.proofs.suspend_part.Kinds as suspend-part-kinds
-use Rattle.resume.proofs.+body+declared+loop_part+par_parts+part+present_parts+resume+seq_parts+side+signal_rule+suspend_part+try_part.Lts-suspend_part as suspend-part-lts
-use Rattle.resume.proofs.try_part.Reads as try-part
-use Rattle.resume.proofs.try_part.Kinds as try-part-kinds
-use Rattle.resume.proofs.+body+declared+loop_part+par_parts+part+present_parts+resume+seq_parts+side+signal_rule+suspend_part+try_part.Lts-try_part as try-part-lts
+use Rattle.resume.proofs.+body+declared+par_parts+part+present_parts+resume+seq_parts+side+signal_rule+suspend_part.Lts-suspend_part as suspend-part-lts
 use Rattle.react.proofs.after.Reads as after-reads
 use Rattle.reaction.proofs.nothing.Reads as nothing-reads
 use Rattle.rules.proofs.in_parallel.Reads as in-parallel-reads
@@ -78,10 +72,10 @@ use Rattle.labels.proofs.is_empty.Reads as is-empty-reads
 use Rattle.signals.proofs.member.Reads as member-reads
 use Rattle.signals.proofs.with.Reads as with-reads
 use Rattle.signals.proofs.without.Reads as without-reads
-use Rattle.resume.proofs.+body+declared+loop_part+par_parts+part+present_parts+resume+seq_parts+side+signal_rule+suspend_part+try_part.{
+use Rattle.resume.proofs.+body+declared+par_parts+part+present_parts+resume+seq_parts+side+signal_rule+suspend_part.{
   statement,
 }
-use Rattle.resume.proofs.+body+declared+loop_part+par_parts+part+present_parts+resume+seq_parts+side+signal_rule+suspend_part+try_part.Tie.{
+use Rattle.resume.proofs.+body+declared+par_parts+part+present_parts+resume+seq_parts+side+signal_rule+suspend_part.Tie.{
   close,
 }
 
@@ -90,9 +84,6 @@ abbrev μ-body : Measures 2 body-kinds.ps ℕ
 
 abbrev μ-declared : Measures 2 declared-kinds.ps ℕ
 μ-declared κs a = 6 * (a .1 .1 .0) - 2
-
-abbrev μ-loop-part : Measures 2 loop-part-kinds.ps ℕ
-μ-loop-part κs a = 6 * (a .1 .1 .0) - 1
 
 abbrev μ-par-parts : Measures 2 par-parts-kinds.ps ℕ
 μ-par-parts κs a = 6 * (a .1 .1 .0) - 1
@@ -118,9 +109,6 @@ abbrev μ-signal-rule : Measures 2 signal-rule-kinds.ps ℕ
 abbrev μ-suspend-part : Measures 2 suspend-part-kinds.ps ℕ
 μ-suspend-part κs a = 6 * (a .1 .1 .0) - 1
 
-abbrev μ-try-part : Measures 2 try-part-kinds.ps ℕ
-μ-try-part κs a = 6 * (a .1 .1 .0) - 1
-
 abbrev body-at : ℕ → In 2 body-kinds.ps
 body-at t = and 2 body-kinds.ps (is 2 body-kinds.ps μ-body t) body.Pre
 
@@ -132,13 +120,6 @@ declared-at t = and 2 declared-kinds.ps (is 2 declared-kinds.ps μ-declared t) d
 
 abbrev declared-below : ℕ → In 2 declared-kinds.ps
 declared-below t = and 2 declared-kinds.ps (falls 2 declared-kinds.ps _<_ μ-declared t) declared.Pre
-
-abbrev loop-part-at : ℕ → In 2 loop-part-kinds.ps
-loop-part-at t = and 2 loop-part-kinds.ps (is 2 loop-part-kinds.ps μ-loop-part t) loop-part.Pre
-
-abbrev loop-part-below : ℕ → In 2 loop-part-kinds.ps
-loop-part-below t =
-    and 2 loop-part-kinds.ps (falls 2 loop-part-kinds.ps _<_ μ-loop-part t) loop-part.Pre
 
 abbrev par-parts-at : ℕ → In 2 par-parts-kinds.ps
 par-parts-at t = and 2 par-parts-kinds.ps (is 2 par-parts-kinds.ps μ-par-parts t) par-parts.Pre
@@ -199,21 +180,11 @@ abbrev suspend-part-below : ℕ → In 2 suspend-part-kinds.ps
 suspend-part-below t =
     and 2 suspend-part-kinds.ps (falls 2 suspend-part-kinds.ps _<_ μ-suspend-part t) suspend-part.Pre
 
-abbrev try-part-at : ℕ → In 2 try-part-kinds.ps
-try-part-at t = and 2 try-part-kinds.ps (is 2 try-part-kinds.ps μ-try-part t) try-part.Pre
-
-abbrev try-part-below : ℕ → In 2 try-part-kinds.ps
-try-part-below t =
-    and 2 try-part-kinds.ps (falls 2 try-part-kinds.ps _<_ μ-try-part t) try-part.Pre
-
 abbrev body-claims : ℕ → body-lts.Claims
 body-claims t = (declared-below t, declared.Post, part-below t, part.Post)
 
 abbrev declared-claims : ℕ → declared-lts.Claims
 declared-claims t = (without-reads.Asked, without-reads.Learnt, with-reads.Asked, with-reads.Learnt, body-below t, body.Post, member-reads.Asked, member-reads.Learnt, in-signal-reads.Asked, in-signal-reads.Learnt, in-signal-once-reads.Asked, in-signal-once-reads.Learnt)
-
-abbrev loop-part-claims : ℕ → loop-part-lts.Claims
-loop-part-claims t = (part-below t, part.Post, after-reads.Asked, after-reads.Learnt)
 
 abbrev par-parts-claims : ℕ → par-parts-lts.Claims
 par-parts-claims t = (below-reads.Asked, below-reads.Learnt, side-below t, side.Post, from-reads.Asked, from-reads.Learnt, in-parallel-reads.Asked, in-parallel-reads.Learnt)
@@ -225,7 +196,7 @@ abbrev present-parts-claims : ℕ → present-parts-lts.Claims
 present-parts-claims t = (below-reads.Asked, below-reads.Learnt, is-empty-reads.Asked, is-empty-reads.Learnt, from-reads.Asked, from-reads.Learnt, part-below t, part.Post)
 
 abbrev resume-claims : ℕ → resume-lts.Claims
-resume-claims t = (seq-parts-below t, seq-parts.Post, par-parts-below t, par-parts.Post, loop-part-below t, loop-part.Post, present-parts-below t, present-parts.Post, signal-rule-below t, signal-rule.Post, try-part-below t, try-part.Post, suspend-part-below t, suspend-part.Post, nothing-reads.Asked, nothing-reads.Learnt)
+resume-claims t = (seq-parts-below t, seq-parts.Post, par-parts-below t, par-parts.Post, part-below t, part.Post, after-reads.Asked, after-reads.Learnt, present-parts-below t, present-parts.Post, signal-rule-below t, signal-rule.Post, in-try-reads.Asked, in-try-reads.Learnt, suspend-part-below t, suspend-part.Post, nothing-reads.Asked, nothing-reads.Learnt)
 
 abbrev seq-parts-claims : ℕ → seq-parts-lts.Claims
 seq-parts-claims t = (below-reads.Asked, below-reads.Learnt, is-empty-reads.Asked, is-empty-reads.Learnt, from-reads.Asked, from-reads.Learnt, part-below t, part.Post, after-reads.Asked, after-reads.Learnt)
@@ -238,9 +209,6 @@ signal-rule-claims t = (declared-below t, declared.Post)
 
 abbrev suspend-part-claims : ℕ → suspend-part-lts.Claims
 suspend-part-claims t = (member-reads.Asked, member-reads.Learnt, of-part-reads.Asked, of-part-reads.Learnt, stopped-reads.Asked, stopped-reads.Learnt, part-below t, part.Post, in-held-reads.Asked, in-held-reads.Learnt)
-
-abbrev try-part-claims : ℕ → try-part-lts.Claims
-try-part-claims t = (part-below t, part.Post, in-try-reads.Asked, in-try-reads.Learnt)
 
 body-shared-slice-read-if1 : (t : ℕ) → body-lts.Need-shared-slice-read-if1 (body-claims t) (body-at t) body.Post
 body-shared-slice-read-if1 t c = front-there (c .before .before .args .n) (c .before .before .args .s .now) (c .before .before .pre .1 .1)
@@ -298,17 +266,6 @@ declared-returns-2 t c base p l =
     here _ base _ _ (signal local _ _ q) p (y .parts .1 .0)
     (signal-once-step _ base _ _ q _ _ (ltb-true _ _ (y .ranged)) (d .before .before .without .ensures) (d .body .ensures base q (y .parts .1 .1))
     (sym (c .before .before .member .ensures) ∙ c .before .if1 .left) (c .in-signal-once .ensures _))
-
-loop-part-part-requires : (t : ℕ) → loop-part-lts.Need-part-requires (loop-part-claims t) (loop-part-at t) loop-part.Post
-loop-part-part-requires t c κs = let y = begins (c .before .pre .1 .0) Command.loop (c .before .pre .1 .1) in (search needs, (y .there, ready _ (y .parts .0) (c .before .pre .1 .0 .long) (y .parts .1 .1)))
-
-loop-part-after-requires : (t : ℕ) → loop-part-lts.Need-after-requires (loop-part-claims t) (loop-part-at t) loop-part.Post
-loop-part-after-requires t c κs = (search needs, whole (c .before .before .pre .1 .0))
-
-loop-part-returns : (t : ℕ) → loop-part-lts.Need-returns (loop-part-claims t) (loop-part-at t) loop-part.Post
-loop-part-returns t c base p l =
-    let y = taken-apart (c .before .before .before .pre .1 .0) base p l Command.loop (c .before .before .before .pre .1 .1) .parts in
-    loop-step _ base _ _ (y .0) _ p (y .1 .0) (c .before .part .ensures base (y .0) (y .1 .1)) (λ i h. c .after .ensures base p i (whole-lies _ _ _ _ _ p l) h)
 
 par-parts-element-copy-out-entry : (t : ℕ) → par-parts-lts.Need-element-copy-out-entry (par-parts-claims t) (par-parts-at t) par-parts.Post
 par-parts-element-copy-out-entry t c = omega (arith, c .before .pre .1 .0 .long, c .before .pre .1 .0 .fits, c .before .pre .1 .0 .bytes)
@@ -370,8 +327,14 @@ resume-seq-parts-requires t c κs = (search needs, ((c .before .before .before .
 resume-par-parts-requires : (t : ℕ) → resume-lts.Need-par-parts-requires (resume-claims t) (resume-at t) resume.Post
 resume-par-parts-requires t c κs = (search needs, ((c .before .before .before .pre .1), c .match .keys2))
 
-resume-loop-part-requires : (t : ℕ) → resume-lts.Need-loop-part-requires (resume-claims t) (resume-at t) resume.Post
-resume-loop-part-requires t c κs = (search needs, ((c .before .before .before .pre .1), c .match .keys3))
+resume-part-requires : (t : ℕ) → resume-lts.Need-part-requires (resume-claims t) (resume-at t) resume.Post
+resume-part-requires t c κs =
+    let f = c .before .before .before .pre .1 in
+    let y = begins f Command.loop (c .match .keys3) in
+    (search needs, (y .there, ready _ (y .parts .0) (f .long) (y .parts .1 .1)))
+
+resume-after-requires : (t : ℕ) → resume-lts.Need-after-requires (resume-claims t) (resume-at t) resume.Post
+resume-after-requires t c κs = (search needs, whole (c .before .before .before .before .pre .1))
 
 resume-present-parts-requires : (t : ℕ) → resume-lts.Need-present-parts-requires (resume-claims t) (resume-at t) resume.Post
 resume-present-parts-requires t c κs = (search needs, ((c .before .before .before .pre .1), c .match .keys4))
@@ -379,8 +342,11 @@ resume-present-parts-requires t c κs = (search needs, ((c .before .before .befo
 resume-signal-rule-requires : (t : ℕ) → resume-lts.Need-signal-rule-requires (resume-claims t) (resume-at t) resume.Post
 resume-signal-rule-requires t c κs = (search needs, ((c .before .before .before .pre .1), c .match .keys5))
 
-resume-try-part-requires : (t : ℕ) → resume-lts.Need-try-part-requires (resume-claims t) (resume-at t) resume.Post
-resume-try-part-requires t c κs = (search needs, ((c .before .before .before .pre .1), c .match .keys6))
+resume-part-requires-2 : (t : ℕ) → resume-lts.Need-part-requires-2 (resume-claims t) (resume-at t) resume.Post
+resume-part-requires-2 t c κs =
+    let f = c .before .before .before .pre .1 in
+    let y = begins f Command.try (c .match .keys6) in
+    (search needs, (y .there, ready _ (y .parts .0) (f .long) (y .parts .1 .1)))
 
 resume-suspend-part-requires : (t : ℕ) → resume-lts.Need-suspend-part-requires (resume-claims t) (resume-at t) resume.Post
 resume-suspend-part-requires t c κs = (search needs, ((c .before .before .before .pre .1), c .match .keys7))
@@ -392,7 +358,9 @@ resume-returns-2 : (t : ℕ) → resume-lts.Need-returns-2 (resume-claims t) (re
 resume-returns-2 t c base p l = c .par-parts .ensures base p l
 
 resume-returns-3 : (t : ℕ) → resume-lts.Need-returns-3 (resume-claims t) (resume-at t) resume.Post
-resume-returns-3 t c base p l = c .loop-part .ensures base p l
+resume-returns-3 t c base p l =
+    let y = taken-apart (c .before .before .before .before .before .pre .1) base p l Command.loop (c .before .before .match .keys3) .parts in
+    loop-step _ base _ _ (y .0) _ p (y .1 .0) (c .before .part .ensures base (y .0) (y .1 .1)) (λ i h. c .after .ensures base p i (whole-lies _ _ _ _ _ p l) h)
 
 resume-returns-4 : (t : ℕ) → resume-lts.Need-returns-4 (resume-claims t) (resume-at t) resume.Post
 resume-returns-4 t c base p l = c .present-parts .ensures base p l
@@ -401,7 +369,9 @@ resume-returns-5 : (t : ℕ) → resume-lts.Need-returns-5 (resume-claims t) (re
 resume-returns-5 t c base p l = c .signal-rule .ensures base p l
 
 resume-returns-6 : (t : ℕ) → resume-lts.Need-returns-6 (resume-claims t) (resume-at t) resume.Post
-resume-returns-6 t c base p l = c .try-part .ensures base p l
+resume-returns-6 t c base p l =
+    let y = taken-apart (c .before .before .before .before .before .pre .1) base p l Command.try (c .before .before .match .keys6) .parts in
+    here _ base _ _ (try (y .0)) p (y .1 .0) (try-step _ base _ _ (y .0) (c .before .part2 .ensures base (y .0) (y .1 .1)) (c .in-try .ensures))
 
 resume-returns-7 : (t : ℕ) → resume-lts.Need-returns-7 (resume-claims t) (resume-at t) resume.Post
 resume-returns-7 t c base p l = c .suspend-part .ensures base p l
@@ -491,21 +461,12 @@ suspend-part-returns-2 t c base p l =
     (suspend-resumed _ base _ _ _ q (sym (d .member .ensures) ∙ c .before .before .if1 .left)
     (c .before .part .ensures base q (y .parts .1 .1)) (c .in-held .ensures (ltb-true _ _ (y .ranged))))
 
-try-part-part-requires : (t : ℕ) → try-part-lts.Need-part-requires (try-part-claims t) (try-part-at t) try-part.Post
-try-part-part-requires t c κs = let y = begins (c .before .pre .1 .0) Command.try (c .before .pre .1 .1) in (search needs, (y .there, ready _ (y .parts .0) (c .before .pre .1 .0 .long) (y .parts .1 .1)))
-
-try-part-returns : (t : ℕ) → try-part-lts.Need-returns (try-part-claims t) (try-part-at t) try-part.Post
-try-part-returns t c base p l =
-    let y = taken-apart (c .before .before .before .pre .1 .0) base p l Command.try (c .before .before .before .pre .1 .1) .parts in
-    here _ base _ _ (try (y .0)) p (y .1 .0) (try-step _ base _ _ (y .0) (c .before .part .ensures base (y .0) (y .1 .1)) (c .in-try .ensures))
-
-pub +body+declared+loop-part+par-parts+part+present-parts+resume+seq-parts+side+signal-rule+suspend-part+try-part-spec :
+pub +body+declared+par-parts+part+present-parts+resume+seq-parts+side+signal-rule+suspend-part-spec :
     {M : Type 1} → statement M
-+body+declared+loop-part+par-parts+part+present-parts+resume+seq-parts+side+signal-rule+suspend-part+try-part-spec =
++body+declared+par-parts+part+present-parts+resume+seq-parts+side+signal-rule+suspend-part-spec =
     close
     μ-body
     μ-declared
-    μ-loop-part
     μ-par-parts
     μ-part
     μ-present-parts
@@ -514,7 +475,6 @@ pub +body+declared+loop-part+par-parts+part+present-parts+resume+seq-parts+side+
     μ-side
     μ-signal-rule
     μ-suspend-part
-    μ-try-part
     (λ t. body-lts.spec (body-claims t) (body-at t)
     body.Post
     (body-shared-slice-read-if1 t)
@@ -534,12 +494,6 @@ pub +body+declared+loop-part+par-parts+part+present-parts+resume+seq-parts+side+
     (λ c κs. search needs) (λ c κs. search needs)
     (declared-returns t)
     (declared-returns-2 t))
-    (λ t. loop-part-lts.spec (loop-part-claims t) (loop-part-at t)
-    loop-part.Post
-    (λ c. search needs) (λ c. search needs)
-    (loop-part-part-requires t)
-    (loop-part-after-requires t)
-    (loop-part-returns t))
     (λ t. par-parts-lts.spec (par-parts-claims t) (par-parts-at t)
     par-parts.Post
     (λ c. search needs)
@@ -577,10 +531,14 @@ pub +body+declared+loop-part+par-parts+part+present-parts+resume+seq-parts+side+
     (λ c. search needs)
     (resume-seq-parts-requires t)
     (resume-par-parts-requires t)
-    (resume-loop-part-requires t)
+    (λ c. search needs) (λ c. search needs)
+    (resume-part-requires t)
+    (resume-after-requires t)
     (resume-present-parts-requires t)
     (resume-signal-rule-requires t)
-    (resume-try-part-requires t)
+    (λ c. search needs) (λ c. search needs)
+    (resume-part-requires-2 t)
+    (λ c κs. search needs)
     (resume-suspend-part-requires t)
     (λ c κs. search needs)
     (resume-returns t)
@@ -617,7 +575,7 @@ pub +body+declared+loop-part+par-parts+part+present-parts+resume+seq-parts+side+
     (λ c. search needs) (λ c. search needs) (λ c. search needs)
     (signal-rule-declared-requires t)
     (signal-rule-returns t))
-    (λ t. suspend-part-lts.spec (suspend-part-claims t) (suspend-part-at t)
+    λ t. suspend-part-lts.spec (suspend-part-claims t) (suspend-part-at t)
     suspend-part.Post
     (suspend-part-shared-slice-read-x t)
     (λ c κs. search needs) (λ c. search needs) (λ c. search needs)
@@ -626,10 +584,4 @@ pub +body+declared+loop-part+par-parts+part+present-parts+resume+seq-parts+side+
     (suspend-part-part-requires t)
     (λ c κs. search needs)
     (suspend-part-returns t)
-    (suspend-part-returns-2 t))
-    λ t. try-part-lts.spec (try-part-claims t) (try-part-at t)
-    try-part.Post
-    (λ c. search needs) (λ c. search needs)
-    (try-part-part-requires t)
-    (λ c κs. search needs)
-    (try-part-returns t)
+    (suspend-part-returns-2 t)
