@@ -3,45 +3,30 @@ use Prim.Native.Nat.{ℕ, _+_}
 use mathlib.Core.Path.{_≡_, refl, sym, ap, _∙_}
 use mathlib.Core.Bool.{Bool, true, false, not, _||_, cond, false≢true, true≢false}
 use mathlib.Core.Option.{Option, some}
-use Rattle.labels.specs.declared.Labels.{Labels}
-use Rattle.labels.specs.Labels.{Represents}
+use Rattle.labels.specs.Labels.{labelsWith}
 use Rattle.labels.proofs.LabelValues.{stands-of}
 use Rattle.esterel.specs.Sets.{member, none, join, remove}
-use Rattle.esterel.specs.Statement.{Scope, local, reported, Statement}
-use Rattle.esterel.specs.Reaction.{Code, ended, waiting, leaving, wrong, isWrong, gives, failed, outside, Case, both, neither, only−, only+, inherited, inheritanceFirst, firstFit, answer}
+use Rattle.esterel.specs.Statement.{Scope}
+use Rattle.esterel.specs.Reaction.{Code, wrong, isWrong, gives, failed, outside, Case, both, neither, only−, only+, inherited, inheritanceFirst, firstFit, answer}
 use Rattle.esterel.specs.Reaction as rules
 use Rattle.esterel.specs.Errors.{Error, notReactive, notDeterministic}
 use Rattle.esterel.specs.Litres as litres
 use Rattle.esterel.specs.Litres.{passing}
 use Rattle.esterel.specs.Traced as Traces
 use Rattle.esterel.specs.Instants.{instant, ifWrong, signalNames}
-use Rattle.esterel.specs.Traced.{traced, signalTraced, signalOnce}
-use Rattle.theory.proofs.Sets.{remove-absent}
+use Rattle.esterel.specs.Traced.{traced, signalTraced}
 use Rattle.theory.proofs.Rules.{either-wrong}
 use Rattle.theory.proofs.Litres.{passing-none}
-use Rattle.completions.specs.declared.Completion.{Completion}
 use Rattle.reaction.specs.declared.Reaction.{Reaction}
-use Rattle.declarations.specs.declared.Choice.{Choice}
-use Rattle.declarations.specs.declared.Choice.the-variants.{Both, Neither, OnlyMinus, OnlyPlus, Inherited}
-use Rattle.completions.specs.Completions.{completionOf, codeOf, greaterOf}
+use Rattle.declarations_cases.specs.declared.Choice.{Choice}
+use Rattle.declarations_cases.specs.declared.Choice.the-variants.{Both, Neither, OnlyMinus, OnlyPlus, Inherited}
+use Rattle.completions.specs.Completions.{completionOf, greaterOf}
 use Rattle.completions.proofs.Completions.{code-of, greater-of}
-use Rattle.reaction.specs.Reactions.{keptOf, cappedOf, reactionOf, failedWith}
-use Rattle.declarations.specs.Choices.{choiceOf, caseIn}
+use Rattle.reaction.specs.Reactions.{reactionOf, failedWith}
+use Rattle.declarations_cases.specs.Choices.{choiceOf, caseIn}
+use Rattle.declarations_cases.proofs.Cases.{caseOf, same-case}
+use Rattle.declarations_runs.proofs.Runs.{unmoved, Counted, Noted, Passes, passed, none-passed}
 use Rattle.reaction.proofs.Values.{kept-two, made}
-
-abbrev caseOf : Choice → Case
-caseOf Both = both
-caseOf Neither = neither
-caseOf OnlyMinus = only−
-caseOf OnlyPlus = only+
-caseOf Inherited = inherited
-
-same-case : (c : Case) → caseOf (choiceOf c) ≡ c
-same-case both = refl
-same-case neither = refl
-same-case only− = refl
-same-case only+ = refl
-same-case inherited = refl
 
 -- the tree of a case
 abbrev inCase : Case → (f : ℕ) → Scope → (b s : ℕ) → Traces.Traced → Traces.Traced → Traces.Traced
@@ -75,52 +60,9 @@ wrong-runs true false false false h = absurd (false≢true h)
 wrong-runs false true false false h = absurd (false≢true h)
 wrong-runs false false false false h = absurd (false≢true h)
 
--- where no run is wrong, the four cases are told by the signal alone
-pub by-signal : (i− i+ w− w+ : Bool) → (w− || w+) ≡ false
-    → firstFit inheritanceFirst i− i+ w− w+ ≡ cond i− (cond i+ both only−) (cond i+ only+ neither)
-by-signal i− i+ true w+ h = absurd (true≢false h)
-by-signal i− i+ false true h = absurd (true≢false h)
-by-signal true true false false h = refl
-by-signal true false false false h = refl
-by-signal false true false false h = refl
-by-signal false false false false h = refl
-
-pub chosen-by : (s : ℕ) (p q : Reaction) {i− i+ w− w+ a b : Bool} → i− ≡ member s (p .emitted) → i+ ≡ member s (q .emitted)
-    → w− ≡ isWrong (codeOf (p .completion)) → w+ ≡ isWrong (codeOf (q .completion)) → (w− || w+) ≡ false → i− ≡ a → i+ ≡ b
-    → choiceOf (cond a (cond b both only−) (cond b only+ neither)) ≡ choiceOf (caseIn s p q)
-chosen-by s p q {i−} {i+} {w−} {w+} h− h+ v− v+ n x y = rw (← h−, ← h+, ← v−, ← v+, by-signal i− i+ w− w+ n, x, y)
-
--- only a wrong completion shows the error
-unmoved : (k : Code) (x y : Option Error) → isWrong k ≡ false → completionOf k x ≡ completionOf k y
-unmoved ended x y h = refl
-unmoved waiting x y h = refl
-unmoved (leaving n) x y h = refl
-unmoved wrong x y h = absurd (true≢false h)
-
 -- by the case of two runs, as the code sees them
 abbrev Runs : (s : ℕ) (p q : Reaction) → Bool → Type 0
 Runs s p q b = isInherited (caseIn s p q) ≡ b
-
--- both runs count, and what they ask for is asked outside but s
-abbrev Counted : (p q : Reaction) (m : ℕ) → Type 0
-Counted p q m = m ≡ keptOf (1 + p .reactions + q .reactions)
-
-abbrev Noted : (s : ℕ) (p q : Reaction) (a : ℕ) → Type 0
-Noted s p q a = a ≡ remove s (join (p .asked) (q .asked))
-
--- what passes of the litres of a run
-abbrev Passes : (f : ℕ) → Scope → (s : ℕ) → Bool → Type 0
-Passes f sc s b = (x : ℕ) → passing sc f s x ≡ cond b 0 x
-
-passed : (f : ℕ) (sc : Scope) (s : ℕ) (b : Bool) (x : ℕ) → Passes f sc s b → cond b 0 (cappedOf x) ≡ cappedOf (passing sc f s x)
-passed f sc s b x h = go b ∙ ap cappedOf (sym (h x))
-  where
-    go : (c : Bool) → cond c 0 (cappedOf x) ≡ cappedOf (cond c 0 x)
-    go true = refl
-    go false = refl
-
-none-passed : (f : ℕ) (sc : Scope) (s : ℕ) → 0 ≡ cappedOf (passing sc f s 0)
-none-passed f sc s = ap cappedOf (sym (passing-none sc f s))
 
 abbrev InBoth : (f : ℕ) (sc : Scope) (b s : ℕ) (t u : Traces.Traced) (p q : Reaction) → Type 0
 InBoth f sc b s t u p q =
@@ -151,16 +93,16 @@ in-neither f sc b s (traced (instant (gives o− k− l− t−) x− n−) a−
 
 abbrev InInherited : (f : ℕ) (sc : Scope) (b s : ℕ) (t u : Traces.Traced) (p q : Reaction) → Type 0
 InInherited f sc b s t u p q =
-    (l : Labels) (c : Completion) (m a : ℕ) → Runs s p q true → Represents l none → c ≡ greaterOf (p .completion) (q .completion)
-    → Counted p q m → Noted s p q a
-    → _≡_ {A = Reaction} (record { emitted = none; labels = l; completion = c; reactions = m; asked = a; delivered = 0 })
+    (m a : ℕ) → Runs s p q true → Counted p q m → Noted s p q a
+    → _≡_ {A = Reaction}
+    (record { emitted = none; labels = labelsWith none; completion = greaterOf (p .completion) (q .completion); reactions = m; asked = a; delivered = 0 })
     (reactionOf (inCase inherited f sc b s t u))
 
 in-inherited : (f : ℕ) (sc : Scope) (b s : ℕ) (t u : Traces.Traced) → InInherited f sc b s t u (reactionOf t) (reactionOf u)
-in-inherited f sc b s (traced (instant (gives o− k− l− t−) x− n−) a− y−) (traced (instant (gives o+ k+ l+ t+) x+ n+) a+ y+) l c m a h e g w i =
+in-inherited f sc b s (traced (instant (gives o− k− l− t−) x− n−) a− y−) (traced (instant (gives o+ k+ l+ t+) x+ n+) a+ y+) m a h w i =
     let v = wrong-runs (member s o−) (member s o+) (isWrong k−) (isWrong k+) (rw (code-of k− x−, code-of k+ x+) at h) in
-    made wrong (ifWrong k− x− x+) (1 + n− + n+) (remove s (join a− a+)) (passing sc f s 0) refl e
-    (g ∙ greater-of k− k+ x− x+ ∙ ap (λ (k : Code). completionOf k (ifWrong k− x− x+)) (either-wrong k− k+ v))
+    made wrong (ifWrong k− x− x+) (1 + n− + n+) (remove s (join a− a+)) (passing sc f s 0) refl (stands-of none)
+    (greater-of k− k+ x− x+ ∙ ap (λ (k : Code). completionOf k (ifWrong k− x− x+)) (either-wrong k− k+ v))
     (w ∙ kept-two n− n+) i (none-passed f sc s)
 
 -- a case of the signal's own error
@@ -196,11 +138,12 @@ module _ (f : ℕ) (sc : Scope) (b s : ℕ) (t u : Traces.Traced) (p q : Reactio
       let law : InNeither f sc b s t u p q = rw (p-is, q-is) (in-neither f sc b s t u) in
       rw j at k ∙ law m a g (ap isInherited (fit-is neither h)) counted noted i ∙ chosen neither h
 
-  pub signal-inherits : v ≡ Inherited → (l : Labels) (c : Completion) → Represents l none → c ≡ greaterOf (p .completion) (q .completion)
-      → _≡_ {A = Reaction} (record { emitted = none; labels = l; completion = c; reactions = m; asked = a; delivered = 0 }) (reactionOf (signalTraced f sc b s t u))
-  signal-inherits h l c e g =
+  pub signal-inherits : v ≡ Inherited → {r : Reaction}
+      → r ≡ record { emitted = none; labels = labelsWith none; completion = greaterOf (p .completion) (q .completion); reactions = m; asked = a; delivered = 0 }
+      → r ≡ reactionOf (signalTraced f sc b s t u)
+  signal-inherits h k =
       let law : InInherited f sc b s t u p q = rw (p-is, q-is) (in-inherited f sc b s t u) in
-      law l c m a (ap isInherited (fit-is inherited h)) e g counted noted ∙ chosen inherited h
+      k ∙ law m a (ap isInherited (fit-is inherited h)) counted noted ∙ chosen inherited h
 
   failed-as : (d : Case) → InFailed d f sc b s t u p q
   failed-as d = rw (p-is, q-is) (in-failed d f sc b s t u)
@@ -210,51 +153,3 @@ module _ (f : ℕ) (sc : Scope) (b s : ℕ) (t u : Traces.Traced) (p q : Reactio
 
   pub signal-undetermined : v ≡ OnlyPlus → failedWith (notDeterministic b) m a ≡ reactionOf (signalTraced f sc b s t u)
   signal-undetermined h = failed-as only+ (notDeterministic b) m a (λ r− r+. refl) (λ y. refl) (λ y− y+. refl) counted noted ∙ chosen only+ h
-
--- ---- one run that stands for both: s is emitted by both or by neither, and a wrong run is inherited
-absent-outside : (sc : Scope) (s o : ℕ) → member s o ≡ false → outside sc s o ≡ o
-absent-outside local s o h = remove-absent s o h
-absent-outside reported s o h = refl
-
-module _ (f : ℕ) (sc : Scope) (b s : ℕ) where
-  abbrev OnceRight : Traces.Traced → Reaction → Type 0
-  OnceRight t p =
-      (o m : ℕ) (g : Bool) → isWrong (codeOf (p .completion)) ≡ false → o ≡ outside sc s (p .emitted) → Counted p p m → Passes f sc s g
-      → _≡_ {A = Reaction}
-      (record { emitted = o; labels = p .labels; completion = p .completion; reactions = m; asked = p .asked; delivered = cond g 0 (p .delivered) })
-      (reactionOf (signalOnce f sc b s t))
-
-  right-by-member : (c : Bool) (o₁ : ℕ) (k : Code) (l : ℕ) (t₁ : Statement) (x : Option Error) (n a y : ℕ) → member s o₁ ≡ c
-      → isWrong k ≡ false → OnceRight (traced (instant (gives o₁ k l t₁) x n) a y) (reactionOf (traced (instant (gives o₁ k l t₁) x n) a y))
-  right-by-member true o₁ k l t₁ x n a y i r o m g h e w d =
-      rw (i, r, e, w, kept-two n n, unmoved k x Option.none r, passed f sc s g y d)
-  right-by-member false o₁ k l t₁ x n a y i r o m g h e w d =
-      rw (i, r, e, absent-outside sc s o₁ i, w, kept-two n n, unmoved k x Option.none r, passed f sc s g y d)
-
-  right-run : (t : Traces.Traced) → OnceRight t (reactionOf t)
-  right-run (traced (instant (gives o₁ k l t₁) x n) a y) o m g h =
-      right-by-member (member s o₁) o₁ k l t₁ x n a y refl (rw (code-of k x) at h) o m g h
-
-  abbrev OnceWrong : Traces.Traced → Reaction → Type 0
-  OnceWrong t p =
-      (l : Labels) (m : ℕ) → isWrong (codeOf (p .completion)) ≡ true → Represents l none → Counted p p m
-      → _≡_ {A = Reaction} (record { emitted = none; labels = l; completion = p .completion; reactions = m; asked = p .asked; delivered = 0 })
-      (reactionOf (signalOnce f sc b s t))
-
-  wrong-run : (t : Traces.Traced) → OnceWrong t (reactionOf t)
-  wrong-run (traced (instant (gives o₁ ended l₁ t₁) x n) a y) l m h e w = absurd (false≢true h)
-  wrong-run (traced (instant (gives o₁ waiting l₁ t₁) x n) a y) l m h e w = absurd (false≢true h)
-  wrong-run (traced (instant (gives o₁ (leaving k) l₁ t₁) x n) a y) l m h e w = absurd (false≢true h)
-  wrong-run (traced (instant (gives o₁ wrong l₁ t₁) x n) a y) l m h e w = made wrong x (1 + n + n) a (passing sc f s 0) refl e refl (w ∙ kept-two n n) refl (none-passed f sc s)
-
-  module _ (t : Traces.Traced) (p : Reaction) (p-is : p ≡ reactionOf t) {m : ℕ} (counted : Counted p p m) {r : Reaction} where
-    pub once-right : isWrong (codeOf (p .completion)) ≡ false → (g : Bool) {o d : ℕ} → o ≡ outside sc s (p .emitted)
-        → Passes f sc s g → d ≡ cond g 0 (p .delivered)
-        → r ≡ record { emitted = o; labels = p .labels; completion = p .completion; reactions = m; asked = p .asked; delivered = d }
-        → r ≡ reactionOf (signalOnce f sc b s t)
-    once-right h g {o} e i j k = let law : OnceRight t p = rw p-is (right-run t) in rw j at k ∙ law o m g h e counted i
-
-    pub once-wrong : isWrong (codeOf (p .completion)) ≡ true → {l : Labels} → Represents l none
-        → r ≡ record { emitted = none; labels = l; completion = p .completion; reactions = m; asked = p .asked; delivered = 0 }
-        → r ≡ reactionOf (signalOnce f sc b s t)
-    once-wrong h {l} e k = let law : OnceWrong t p = rw p-is (wrong-run t) in k ∙ law l m h e counted

@@ -7,14 +7,9 @@ use native.Mathlib.Omega.{arith}
 use lib.ListN.{length, getD, length-drop}
 use lib.Seq.{getD-drop}
 use borrow.Author.Tests.{lt-ltb}
-use Rattle.sets.specs.Sets.{signalCount, labelCount, onlyBelow, insertBelow}
-use Rattle.esterel.specs.Sets.{member, none, insert, remove}
-use Rattle.esterel.specs.Statement.{Scope, Value, Statement, nothing, pause, emit, exit, seq, par, loop, present, signal, try, setpause, suspend}
-use Rattle.esterel.specs.Reaction.{ended, waiting, leaving, gives, reactBy}
-use Rattle.esterel.specs.Errors.{errorsBy}
-use Rattle.esterel.specs.Reactions.{reactionsBy}
-use Rattle.esterel.specs.Asked.{askedBy}
-use Rattle.esterel.specs.Litres.{brought, deliveredBy}
+use Rattle.sets.specs.Sets.{signalCount, insertBelow}
+use Rattle.esterel.specs.Sets.{member, insert, remove}
+use Rattle.esterel.specs.Statement.{Scope, Statement, seq, par, loop, present, signal, try, suspend}
 use Rattle.esterel.specs.Traced as Traces
 use Rattle.esterel.specs.Traced.{startTraced, seqTraced, parTraced, loopTraced, presentTraced, tryTraced, suspendTraced, signalTraced, signalOnce}
 use Rattle.theory.proofs.Trees.{start-traced-seq, start-traced-par, start-traced-loop, start-traced-present, start-traced-signal, start-traced-try, start-traced-suspend}
@@ -22,31 +17,7 @@ use Rattle.theory.proofs.Asked.{one-run-signal}
 use Rattle.layout.specs.Layout.{rest, Ready}
 use Rattle.layout.proofs.Parts.{rest-is}
 use Rattle.reaction.specs.declared.Reaction.{Reaction}
-use Rattle.reaction.specs.Reactions.{alone, reactionOf, FromOne, FromTwo}
-
--- ---- commands without parts, once they are known
-module _ (f : ℕ) (p : Statement) (e : ℕ) (r : Reaction) where
-  pub nothing-step : p ≡ nothing → r ≡ reactionOf (alone (gives none ended none nothing) none 0) → r ≡ reactionOf (startTraced f p e)
-  unfolding reactBy errorsBy reactionsBy askedBy deliveredBy
-  nothing-step h k = rw h k
-
-  pub emit-step : (s : ℕ) (v : Value) → p ≡ emit s v → s < signalCount
-      → r ≡ reactionOf (alone (gives (onlyBelow signalCount s) ended none nothing) none (brought f s v)) → r ≡ reactionOf (startTraced f p e)
-  unfolding reactBy errorsBy reactionsBy askedBy deliveredBy
-  emit-step s v h l i = rw h (i ∙ rw (lt-ltb s signalCount l))
-
-  pub exit-step : (n : ℕ) → p ≡ exit n → r ≡ reactionOf (alone (gives none (leaving n) none nothing) none 0) → r ≡ reactionOf (startTraced f p e)
-  unfolding reactBy errorsBy reactionsBy askedBy deliveredBy
-  exit-step n h k = rw h k
-
-  module _ (l : ℕ) (small : l < labelCount) (h : r ≡ reactionOf (alone (gives none waiting (onlyBelow labelCount l) nothing) none 0)) where
-    pub pause-step : p ≡ pause l → r ≡ reactionOf (startTraced f p e)
-    unfolding reactBy errorsBy reactionsBy askedBy deliveredBy
-    pause-step k = rw k (h ∙ rw (lt-ltb l labelCount small))
-
-    pub setpause-step : p ≡ setpause l → r ≡ reactionOf (startTraced f p e)
-    unfolding reactBy errorsBy reactionsBy askedBy deliveredBy
-    setpause-step k = rw k (h ∙ rw (lt-ltb l labelCount small))
+use Rattle.reaction.specs.Reactions.{reactionOf, FromOne, FromTwo}
 
 -- what is said of a command is said of the statement that it is
 pub here : (f : ℕ) (t : Statement) (p : Statement) (e : ℕ) {r : Reaction} → p ≡ t → r ≡ reactionOf (startTraced f t e) → r ≡ reactionOf (startTraced f p e)

@@ -1,1 +1,1 @@
-pub mod Started
+pub mod After

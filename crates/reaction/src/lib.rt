@@ -4,7 +4,7 @@ ghost use mathlib.Core.Path.{_≡_};
 ghost use Prim.Native.Nat.{ℕ, _+_};
 ghost use Rattle.labels.specs.Labels.{labelSet};
 ghost use Rattle.sets.specs.Sets.{labelCount, onlyBelow};
-ghost use Rattle.esterel.specs.Sets.{none};
+ghost use Rattle.esterel.specs.Sets.{member, none};
 ghost use Rattle.esterel.specs.Statement.{nothing};
 ghost use Rattle.esterel.specs.Reaction.{ended, waiting, leaving, gives};
 ghost use Rattle.reaction.specs.Reactions.{keptOf, cappedOf, alone, reactionOf, failedWith, countedAround, FromOne};
@@ -77,6 +77,13 @@ pub fn made(
         asked,
         delivered,
     }
+}
+
+// Whether the tree of p asked for the signal s: where a run without s did not, the run with it would be the same.
+pub fn asks(p: Reaction, s: u8) -> bool
+    ensures { λ r. ⌜ r ≡ member s (p .asked) ⌝ }
+{
+    signals::member(p.asked, s)
 }
 
 // A command that ends at once.

@@ -1,5 +1,5 @@
 -- The tree of each command from those of its active parts, as the code finds them: that of the fresh command to which it expands.
-use Prim.Native.Nat.{ℕ, zero, suc, _+_, _-_, _<_}
+use Prim.Native.Nat.{ℕ, _+_, _-_, _<_}
 use mathlib.Core.Path.{_≡_, refl, sym, ap, _∙_}
 use mathlib.Core.Bool.{Bool, true, false, cond}
 use mathlib.Core.Option.{Option, none, some}
@@ -19,6 +19,7 @@ use Rattle.sequence.proofs.Table.{byteOf, byte-is}
 use Rattle.layout.proofs.Laid.{opened, by-command}
 use Rattle.reaction.specs.declared.Reaction.{Reaction}
 use Rattle.reaction.specs.Reactions.{reactionOf, FromOne, FromTwo}
+use Rattle.react_leaves.specs.Started.{Partless}
 use Rattle.react.proofs.Steps as fresh
 use Rattle.resume.specs.Resumed.{sideBy}
 
@@ -126,12 +127,7 @@ module _ (farm base m e : ℕ) (p : Statement) {r : Reaction} where
   side-active z h = rw z h
 
 -- ---- a command without parts
--- b is none of the n bytes from `low` on
-abbrev pub Without : (b low n : ℕ) → Type 0
-Without b low zero = Unit {0}
-Without b low (suc n) = Without b low n × (b ≡ low + n → ⊥)
-
-pub leaf-step : (t : List ℕ) (d base a : ℕ) (bs : List ℕ) (p : Statement) (farm m e : ℕ) {r : Reaction} → Lies t d base a bs p → Without (getD bs 0 0) 4 6 × (getD bs 0 0 ≡ 11 → ⊥)
+pub leaf-step : (t : List ℕ) (d base a : ℕ) (bs : List ℕ) (p : Statement) (farm m e : ℕ) {r : Reaction} → Lies t d base a bs p → Partless (getD bs 0 0)
     → r ≡ reactionOf (startTraced farm nothing e) → r ≡ reactionOf (resumeTraced farm base p m e)
 unfolding expandBy
 leaf-step t d base a bs p farm m e {r} l w h = go (commandOf (getD bs 0 0)) refl (opened t d base a bs p l .1 .form)

@@ -56,7 +56,7 @@ fn part(
     requires { ⌜ Ready (now second) depth at (rest n (now s)) ⌝ }
     ensures { λ r. ⌜ Resumed (now (second .entry)) depth at (rest n (now (s .entry))) (labelSet active) input farm r ⌝ }
 {
-    if s[n] == limits::PAUSE {
+    if react_leaves::is_pause(s, n) {
         return reaction::nothing();
     }
     resume(&s[n..], at, depth, input, farm, active, second)
@@ -185,7 +185,7 @@ fn declared(
     let without = signals::without(input, x);
     let with = signals::with(input, x);
     let p = body(s, 2, at + 2, depth - 1, without, farm, active, second);
-    if signals::member(p.asked, x) {
+    if reaction::asks(p, x) {
         let q = body(s, 2, at + 2, depth - 1, with, farm, active, second);
         declarations::in_signal(at as u16, x, farm, p, q)
     } else {

@@ -1,18 +1,14 @@
-use mathlib.Core.Path.{ap, _∙_}
+use mathlib.Core.Path.{_∙_}
 use Rattle.declarations.proofs.Cases.{signal-both, signal-neither, signal-inherits, signal-unreactive, signal-undetermined}
-use Rattle.esterel.specs.Sets.{none, remove}
 use borrow.Author.Needs.{needs}
 use Rattle.declarations.proofs.declaring.Statement.{statement}
 use Rattle.declarations.proofs.declaring.Tie as tie
 
-over-two-requires : tie.Need-over-two-requires
-over-two-requires c κs = search needs
+counted-requires : tie.Need-counted-requires
+counted-requires c κs = search needs
 
-union-requires : tie.Need-union-requires
-union-requires c κs = search needs
-
-without-requires : tie.Need-without-requires
-without-requires c κs = search needs
+asked-requires : tie.Need-asked-requires
+asked-requires c κs = search needs
 
 choose-requires : tie.Need-choose-requires
 choose-requires c κs = search needs
@@ -50,49 +46,43 @@ failing-requires-2 c κs = search needs
 enum-told-5 : tie.Need-enum-told-5
 enum-told-5 c = search needs
 
-empty-requires : tie.Need-empty-requires
-empty-requires c κs = search needs
-
-greater-of-requires : tie.Need-greater-of-requires
-greater-of-requires c κs = search needs
+inherited-requires : tie.Need-inherited-requires
+inherited-requires c κs = search needs
 
 returns : tie.Need-returns
 returns c f sc w i t u a b =
     let d = c .before .before .before .before in
-    signal-both f sc _ _ t u _ _ a b _ (d .choose .ensures) _ _ (d .before .before .before .over-two .ensures) (d .before .without .ensures ∙ ap (remove _) (d .before .before .union .ensures)) (c .before .before .enum-told .given .1) (d .before .before .before .before .before .before .args .dropped) w i (c .before .passed .ensures) (c .made .ensures)
+    signal-both f sc _ _ t u _ _ a b _ (d .choose .ensures) _ _ (d .before .before .counted .ensures) (d .before .asked .ensures) (c .before .before .enum-told .given .1) (d .before .before .before .before .before .args .dropped) w i (c .before .passed .ensures) (c .made .ensures)
 
 returns-2 : tie.Need-returns-2
 returns-2 c f sc w i t u a b =
     let d = c .before .before .before .before in
-    signal-neither f sc _ _ t u _ _ a b _ (d .choose .ensures) _ _ (d .before .before .before .over-two .ensures) (d .before .without .ensures ∙ ap (remove _) (d .before .before .union .ensures)) (c .before .before .enum-told2 .given .1) (d .before .before .before .before .before .before .args .dropped) i
+    signal-neither f sc _ _ t u _ _ a b _ (d .choose .ensures) _ _ (d .before .before .counted .ensures) (d .before .asked .ensures) (c .before .before .enum-told2 .given .1) (d .before .before .before .before .before .args .dropped) i
     (c .before .passed2 .ensures) (c .made2 .ensures)
 
 returns-3 : tie.Need-returns-3
 returns-3 c f sc w i t u a b =
     let d = c .before .before .before in
     c .failing .ensures
-    ∙ signal-unreactive f sc _ _ t u _ _ a b _ (d .choose .ensures) _ _ (d .before .before .before .over-two .ensures) (d .before .without .ensures ∙ ap (remove _) (d .before .before .union .ensures)) (c .before .enum-told3 .given .1)
+    ∙ signal-unreactive f sc _ _ t u _ _ a b _ (d .choose .ensures) _ _ (d .before .before .counted .ensures) (d .before .asked .ensures) (c .before .enum-told3 .given .1)
 
 returns-4 : tie.Need-returns-4
 returns-4 c f sc w i t u a b =
     let d = c .before .before .before in
     c .failing2 .ensures
-    ∙ signal-undetermined f sc _ _ t u _ _ a b _ (d .choose .ensures) _ _ (d .before .before .before .over-two .ensures) (d .before .without .ensures ∙ ap (remove _) (d .before .before .union .ensures)) (c .before .enum-told4 .given .1)
+    ∙ signal-undetermined f sc _ _ t u _ _ a b _ (d .choose .ensures) _ _ (d .before .before .counted .ensures) (d .before .asked .ensures) (c .before .enum-told4 .given .1)
 
 returns-5 : tie.Need-returns-5
-unfolding none
 returns-5 c f sc w i t u a b =
-    let d = c .before .before .before .before in
-    signal-inherits f sc _ _ t u _ _ a b _ (d .choose .ensures) _ _ (d .before .before .before .over-two .ensures) (d .before .without .ensures ∙ ap (remove _) (d .before .before .union .ensures)) (c .before .before .enum-told5 .given .1) _ _
-    (search needs, c .before .empty .ensures) (c .greater-of .ensures)
+    let d = c .before .before .before in
+    signal-inherits f sc _ _ t u _ _ a b _ (d .choose .ensures) _ _ (d .before .before .counted .ensures) (d .before .asked .ensures) (c .before .enum-told5 .given .1) (c .inherited .ensures)
 
 pub declaring-spec : {M : Type 1} → statement M
 declaring-spec =
     tie.close
     (tie.spec
-    over-two-requires
-    union-requires
-    without-requires
+    counted-requires
+    asked-requires
     choose-requires
     enum-told
     passed-requires
@@ -105,8 +95,7 @@ declaring-spec =
     enum-told-4
     failing-requires-2
     enum-told-5
-    empty-requires
-    greater-of-requires
+    inherited-requires
     returns
     returns-2
     returns-3

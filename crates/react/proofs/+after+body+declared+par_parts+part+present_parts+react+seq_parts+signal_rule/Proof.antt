@@ -1,18 +1,13 @@
 use mathlib.Core.Path.{sym, _∙_}
 use native.Mathlib.Omega.{arith}
 use borrow.Author.Needs.{needs}
-use borrow.Author.Tests.{ltb-true}
+use borrow.Author.Tests.{eqb-true, ltb-true}
 use Rattle.esterel.specs.Statement.{local, seq, par, loop, present, signal, try, suspend}
 use Rattle.esterel.specs.Traced.{startTraced}
 use Rattle.sequence.specs.Commands.{Command}
-use Rattle.layout.proofs.Laid.{ready, taken-apart, begins, last-one, whole, whole-lies}
-use Rattle.react_emissions.proofs.Values.{pure-emission, litres-emission}
+use Rattle.layout.proofs.Laid.{ready, taken-apart, begins, whole, whole-lies}
+use Rattle.react_leaves.proofs.Steps.{nothing-step}
 use Rattle.react.proofs.Steps.{
-  nothing-step,
-  emit-step,
-  exit-step,
-  pause-step,
-  setpause-step,
   here,
   loop-step,
   try-step,
@@ -60,7 +55,8 @@ use Rattle.reaction.proofs.nothing.Reads as nothing-reads
 use Rattle.rules.proofs.in_first.Reads as in-first-reads
 use Rattle.rules.proofs.in_present.Reads as in-present-reads
 use Rattle.rules.proofs.in_suspend.Reads as in-suspend-reads
-use Rattle.react_emissions.proofs.emitting.Reads as emitting-reads
+use Rattle.react_leaves.proofs.alone.Reads as alone-reads
+use Rattle.react_leaves.proofs.is_nothing.Reads as is-nothing-reads
 use Rattle.rules.proofs.in_loop.Reads as in-loop-reads
 use Rattle.rules.proofs.in_parallel.Reads as in-parallel-reads
 use Rattle.rules.proofs.in_sequence.Reads as in-sequence-reads
@@ -68,9 +64,8 @@ use Rattle.declarations.proofs.in_signal.Reads as in-signal-reads
 use Rattle.declarations.proofs.in_signal_once.Reads as in-signal-once-reads
 use Rattle.rules.proofs.in_try.Reads as in-try-reads
 use Rattle.completions.proofs.is_ended.Reads as is-ended-reads
-use Rattle.reaction.proofs.leaving.Reads as leaving-reads
-use Rattle.reaction.proofs.pausing.Reads as pausing-reads
 use Rattle.signals.proofs.member.Reads as member-reads
+use Rattle.reaction.proofs.asks.Reads as asks-reads
 use Rattle.signals.proofs.with.Reads as with-reads
 use Rattle.signals.proofs.without.Reads as without-reads
 use Rattle.react.proofs.+after+body+declared+par_parts+part+present_parts+react+seq_parts+signal_rule.{
@@ -178,19 +173,19 @@ abbrev body-claims : ℕ → body-lts.Claims
 body-claims t = (declared-below t, declared.Post, part-below t, part.Post)
 
 abbrev declared-claims : ℕ → declared-lts.Claims
-declared-claims t = (without-reads.Asked, without-reads.Learnt, with-reads.Asked, with-reads.Learnt, body-below t, body.Post, member-reads.Asked, member-reads.Learnt, in-signal-reads.Asked, in-signal-reads.Learnt, in-signal-once-reads.Asked, in-signal-once-reads.Learnt)
+declared-claims t = (without-reads.Asked, without-reads.Learnt, with-reads.Asked, with-reads.Learnt, body-below t, body.Post, asks-reads.Asked, asks-reads.Learnt, in-signal-reads.Asked, in-signal-reads.Learnt, in-signal-once-reads.Asked, in-signal-once-reads.Learnt)
 
 abbrev par-parts-claims : ℕ → par-parts-lts.Claims
 par-parts-claims t = (part-below t, part.Post, in-parallel-reads.Asked, in-parallel-reads.Learnt)
 
 abbrev part-claims : ℕ → part-lts.Claims
-part-claims t = (nothing-reads.Asked, nothing-reads.Learnt, react-below t, react.Post)
+part-claims t = (is-nothing-reads.Asked, is-nothing-reads.Learnt, nothing-reads.Asked, nothing-reads.Learnt, react-below t, react.Post)
 
 abbrev present-parts-claims : ℕ → present-parts-lts.Claims
 present-parts-claims t = (member-reads.Asked, member-reads.Learnt, part-below t, part.Post, in-present-reads.Asked, in-present-reads.Learnt)
 
 abbrev react-claims : ℕ → react-lts.Claims
-react-claims t = (nothing-reads.Asked, nothing-reads.Learnt, pausing-reads.Asked, pausing-reads.Learnt, emitting-reads.Asked, emitting-reads.Learnt, leaving-reads.Asked, leaving-reads.Learnt, seq-parts-below t, seq-parts.Post, par-parts-below t, par-parts.Post, part-below t, part.Post, in-loop-reads.Asked, in-loop-reads.Learnt, present-parts-below t, present-parts.Post, signal-rule-below t, signal-rule.Post, in-try-reads.Asked, in-try-reads.Learnt, in-suspend-reads.Asked, in-suspend-reads.Learnt)
+react-claims t = (seq-parts-below t, seq-parts.Post, par-parts-below t, par-parts.Post, part-below t, part.Post, in-loop-reads.Asked, in-loop-reads.Learnt, present-parts-below t, present-parts.Post, signal-rule-below t, signal-rule.Post, in-try-reads.Asked, in-try-reads.Learnt, in-suspend-reads.Asked, in-suspend-reads.Learnt, alone-reads.Asked, alone-reads.Learnt)
 
 abbrev seq-parts-claims : ℕ → seq-parts-lts.Claims
 seq-parts-claims t = (part-below t, part.Post, after-below t, after.Post)
@@ -262,7 +257,7 @@ declared-returns-2 t c base p l =
     let q = y .parts .0 in
     here _ (signal local _ _ q) p _ (y .parts .1 .0)
     (signal-once-step _ _ local _ _ q (ltb-true _ _ (y .ranged)) (d .before .before .without .ensures) (d .body .ensures base q (y .parts .1 .1))
-    (sym (c .before .before .member .ensures) ∙ c .before .if1 .left) (c .in-signal-once .ensures _))
+    (sym (c .before .before .asks .ensures) ∙ c .before .if1 .left) (c .in-signal-once .ensures _))
 
 par-parts-element-copy-out-m : (t : ℕ) → par-parts-lts.Need-element-copy-out-m (par-parts-claims t) (par-parts-at t) par-parts.Post
 par-parts-element-copy-out-m t c = omega (arith, c .before .pre .1 .0 .long, c .before .pre .1 .0 .fits, c .before .pre .1 .0 .bytes)
@@ -282,13 +277,14 @@ par-parts-returns t c base p l =
     here _ (par (y .0) (y .1)) p _ (y .2 .0)
     (par-step _ _ (y .0) (y .1) (c .before .before .part .ensures base (y .0) (y .2 .1 .first)) (c .before .part2 .ensures _ (y .1) (y .2 .1 .second)) (c .in-parallel .ensures))
 
-part-shared-slice-read-if1 : (t : ℕ) → part-lts.Need-shared-slice-read-if1 (part-claims t) (part-at t) part.Post
-part-shared-slice-read-if1 t c = front-there (c .before .before .args .n) (c .before .before .args .s .now) (c .before .before .pre .1 .1)
+part-is-nothing-requires : (t : ℕ) → part-lts.Need-is-nothing-requires (part-claims t) (part-at t) part.Post
+part-is-nothing-requires t c κs = front-there (c .before .args .n) (c .before .args .s .now) (c .before .pre .1 .1)
 
 part-returns : (t : ℕ) → part-lts.Need-returns (part-claims t) (part-at t) part.Post
 part-returns t c base p l =
     let d = c .before .before .before .before in
-    nothing-step _ p _ _ (taken-apart (d .pre .1 .1) base p l Command.nothing (front-is (d .args .n) (d .args .s .now) (c .before .if1 .taken)) .parts) (c .nothing .ensures)
+    let b = eqb-true _ _ (sym (c .before .before .is-nothing .ensures) ∙ c .before .if1 .taken) in
+    nothing-step _ p _ _ (taken-apart (d .pre .1 .1) base p l Command.nothing (front-is (d .args .n) (d .args .s .now) b) .parts) (c .nothing .ensures)
 
 part-react-requires : (t : ℕ) → part-lts.Need-react-requires (part-claims t) (part-at t) part.Post
 part-react-requires t c κs = (search needs, c .before .before .before .before .pre .1 .1)
@@ -341,106 +337,68 @@ present-parts-returns-2 t c base p l =
     (absent-step _ _ _ (z .0) (z .1) (sym (d .member .ensures) ∙ c .before .before .before .if1 .left)
     (c .before .part2 .ensures _ (z .1) (z .2 .1 .second)) (c .in-present2 .ensures (ltb-true _ _ (y .ranged))))
 
-react-shared-slice-read-pausing : (t : ℕ) → react-lts.Need-shared-slice-read-pausing (react-claims t) (react-at t) react.Post
-react-shared-slice-read-pausing t c = begins (c .before .before .before .before .pre .1) Command.pause (c .before .match .keys2) .there
-
-react-emitting-requires : (t : ℕ) → react-lts.Need-emitting-requires (react-claims t) (react-at t) react.Post
-react-emitting-requires t c κs = pure-emission (c .match .keys3) (begins (c .before .before .before .pre .1) Command.emit (c .match .keys3)) .0
-
-react-shared-slice-read-leaving : (t : ℕ) → react-lts.Need-shared-slice-read-leaving (react-claims t) (react-at t) react.Post
-react-shared-slice-read-leaving t c = begins (c .before .before .before .before .pre .1) Command.exit (c .before .match .keys4) .there
-
 react-seq-parts-requires : (t : ℕ) → react-lts.Need-seq-parts-requires (react-claims t) (react-at t) react.Post
-react-seq-parts-requires t c κs = (search needs, ((c .before .before .before .pre .1), c .match .keys5))
+react-seq-parts-requires t c κs = (search needs, ((c .before .before .before .pre .1), c .match .keys1))
 
 react-par-parts-requires : (t : ℕ) → react-lts.Need-par-parts-requires (react-claims t) (react-at t) react.Post
-react-par-parts-requires t c κs = (search needs, ((c .before .before .before .pre .1), c .match .keys6))
-
-react-present-parts-requires : (t : ℕ) → react-lts.Need-present-parts-requires (react-claims t) (react-at t) react.Post
-react-present-parts-requires t c κs = (search needs, ((c .before .before .before .pre .1), c .match .keys8))
-
-react-signal-rule-requires : (t : ℕ) → react-lts.Need-signal-rule-requires (react-claims t) (react-at t) react.Post
-react-signal-rule-requires t c κs = (search needs, ((c .before .before .before .pre .1), c .match .keys9))
-
-react-shared-slice-read-pausing-2 : (t : ℕ) → react-lts.Need-shared-slice-read-pausing-2 (react-claims t) (react-at t) react.Post
-react-shared-slice-read-pausing-2 t c = begins (c .before .before .before .before .pre .1) Command.setpause (c .before .match .keys11) .there
-
-react-emitting-requires-2 : (t : ℕ) → react-lts.Need-emitting-requires-2 (react-claims t) (react-at t) react.Post
-react-emitting-requires-2 t c κs =
-    let e = last-one (c .before .before .before .pre .1) (c .match .rest) in
-    litres-emission e (begins (c .before .before .before .pre .1) Command.deliver e) .0
+react-par-parts-requires t c κs = (search needs, ((c .before .before .before .pre .1), c .match .keys2))
 
 react-part-requires : (t : ℕ) → react-lts.Need-part-requires (react-claims t) (react-at t) react.Post
 react-part-requires t c κs =
     let f = c .before .before .before .pre .1 in
-    let y = begins f Command.loop (c .match .keys7) in
+    let y = begins f Command.loop (c .match .keys3) in
     (search needs, (y .there, ready _ (y .parts .0) (f .long) (y .parts .1 .1)))
+
+react-present-parts-requires : (t : ℕ) → react-lts.Need-present-parts-requires (react-claims t) (react-at t) react.Post
+react-present-parts-requires t c κs = (search needs, ((c .before .before .before .pre .1), c .match .keys4))
+
+react-signal-rule-requires : (t : ℕ) → react-lts.Need-signal-rule-requires (react-claims t) (react-at t) react.Post
+react-signal-rule-requires t c κs = (search needs, ((c .before .before .before .pre .1), c .match .keys5))
 
 react-part-requires-2 : (t : ℕ) → react-lts.Need-part-requires-2 (react-claims t) (react-at t) react.Post
 react-part-requires-2 t c κs =
     let f = c .before .before .before .pre .1 in
-    let y = begins f Command.try (c .match .keys10) in
+    let y = begins f Command.try (c .match .keys6) in
     (search needs, (y .there, ready _ (y .parts .0) (f .long) (y .parts .1 .1)))
 
 react-part-requires-3 : (t : ℕ) → react-lts.Need-part-requires-3 (react-claims t) (react-at t) react.Post
 react-part-requires-3 t c κs =
     let f = c .before .before .before .pre .1 in
-    let y = begins f Command.suspend (c .match .keys12) in
+    let y = begins f Command.suspend (c .match .keys7) in
     (search needs, (y .there, ready _ (y .parts .0) (f .long) (y .parts .1 .1)))
 
+react-alone-requires : (t : ℕ) → react-lts.Need-alone-requires (react-claims t) (react-at t) react.Post
+react-alone-requires t c κs = record { t = _; d = _; a = _; ready = c .before .before .before .pre .1; partless = c .match .rest }
+
 react-returns : (t : ℕ) → react-lts.Need-returns (react-claims t) (react-at t) react.Post
-react-returns t c base p l = nothing-step _ p _ _ (taken-apart (c .before .before .before .before .pre .1) base p l Command.nothing (c .before .match .keys1) .parts) (c .nothing .ensures)
+react-returns t c base p l = c .seq-parts .ensures base p l
 
 react-returns-2 : (t : ℕ) → react-lts.Need-returns-2 (react-claims t) (react-at t) react.Post
-react-returns-2 t c base p l =
-    let y = taken-apart (c .before .before .before .before .before .pre .1) base p l Command.pause (c .before .before .match .keys2) in
-    pause-step _ p _ _ _ (ltb-true _ _ (y .ranged)) (c .pausing .ensures) (y .parts)
+react-returns-2 t c base p l = c .par-parts .ensures base p l
 
 react-returns-3 : (t : ℕ) → react-lts.Need-returns-3 (react-claims t) (react-at t) react.Post
 react-returns-3 t c base p l =
-    let y = taken-apart (c .before .before .before .before .pre .1) base p l Command.emit (c .before .match .keys3) in
-    emit-step _ p _ _ _ _ (pure-emission (c .before .match .keys3) y .1) (ltb-true _ _ (y .ranged)) (c .emitting .ensures)
+    let y = taken-apart (c .before .before .before .before .before .pre .1) base p l Command.loop (c .before .before .match .keys3) .parts in
+    here _ (loop _ (y .0)) p _ (y .1 .0) (loop-step _ _ _ (y .0) (c .before .part .ensures base (y .0) (y .1 .1)) (c .in-loop .ensures))
 
 react-returns-4 : (t : ℕ) → react-lts.Need-returns-4 (react-claims t) (react-at t) react.Post
-react-returns-4 t c base p l = exit-step _ p _ _ _ (taken-apart (c .before .before .before .before .before .pre .1) base p l Command.exit (c .before .before .match .keys4) .parts) (c .leaving .ensures)
+react-returns-4 t c base p l = c .present-parts .ensures base p l
 
 react-returns-5 : (t : ℕ) → react-lts.Need-returns-5 (react-claims t) (react-at t) react.Post
-react-returns-5 t c base p l = c .seq-parts .ensures base p l
+react-returns-5 t c base p l = c .signal-rule .ensures base p l
 
 react-returns-6 : (t : ℕ) → react-lts.Need-returns-6 (react-claims t) (react-at t) react.Post
-react-returns-6 t c base p l = c .par-parts .ensures base p l
+react-returns-6 t c base p l =
+    let y = taken-apart (c .before .before .before .before .before .pre .1) base p l Command.try (c .before .before .match .keys6) .parts in
+    here _ (try (y .0)) p _ (y .1 .0) (try-step _ _ (y .0) (c .before .part2 .ensures base (y .0) (y .1 .1)) (c .in-try .ensures))
 
 react-returns-7 : (t : ℕ) → react-lts.Need-returns-7 (react-claims t) (react-at t) react.Post
 react-returns-7 t c base p l =
-    let y = taken-apart (c .before .before .before .before .before .pre .1) base p l Command.loop (c .before .before .match .keys7) .parts in
-    here _ (loop _ (y .0)) p _ (y .1 .0) (loop-step _ _ _ (y .0) (c .before .part .ensures base (y .0) (y .1 .1)) (c .in-loop .ensures))
-
-react-returns-8 : (t : ℕ) → react-lts.Need-returns-8 (react-claims t) (react-at t) react.Post
-react-returns-8 t c base p l = c .present-parts .ensures base p l
-
-react-returns-9 : (t : ℕ) → react-lts.Need-returns-9 (react-claims t) (react-at t) react.Post
-react-returns-9 t c base p l = c .signal-rule .ensures base p l
-
-react-returns-10 : (t : ℕ) → react-lts.Need-returns-10 (react-claims t) (react-at t) react.Post
-react-returns-10 t c base p l =
-    let y = taken-apart (c .before .before .before .before .before .pre .1) base p l Command.try (c .before .before .match .keys10) .parts in
-    here _ (try (y .0)) p _ (y .1 .0) (try-step _ _ (y .0) (c .before .part2 .ensures base (y .0) (y .1 .1)) (c .in-try .ensures))
-
-react-returns-11 : (t : ℕ) → react-lts.Need-returns-11 (react-claims t) (react-at t) react.Post
-react-returns-11 t c base p l =
-    let y = taken-apart (c .before .before .before .before .before .pre .1) base p l Command.setpause (c .before .before .match .keys11) in
-    setpause-step _ p _ _ _ (ltb-true _ _ (y .ranged)) (c .pausing2 .ensures) (y .parts)
-
-react-returns-12 : (t : ℕ) → react-lts.Need-returns-12 (react-claims t) (react-at t) react.Post
-react-returns-12 t c base p l =
-    let y = taken-apart (c .before .before .before .before .before .pre .1) base p l Command.suspend (c .before .before .match .keys12) .parts in
+    let y = taken-apart (c .before .before .before .before .before .pre .1) base p l Command.suspend (c .before .before .match .keys7) .parts in
     here _ (suspend _ (y .0)) p _ (y .1 .0) (suspend-step _ _ _ (y .0) (c .before .part3 .ensures base (y .0) (y .1 .1)) (c .in-suspend .ensures _))
 
-react-returns-13 : (t : ℕ) → react-lts.Need-returns-13 (react-claims t) (react-at t) react.Post
-react-returns-13 t c base p l =
-    let e = last-one (c .before .before .before .before .pre .1) (c .before .match .rest) in
-    let y = taken-apart (c .before .before .before .before .pre .1) base p l Command.deliver e in
-    emit-step _ p _ _ _ _ (litres-emission e y .1) (ltb-true _ _ (y .ranged)) (c .emitting2 .ensures)
+react-returns-8 : (t : ℕ) → react-lts.Need-returns-8 (react-claims t) (react-at t) react.Post
+react-returns-8 t c base p l = c .alone .ensures _ _ _ _ base p l
 
 seq-parts-element-copy-out-m : (t : ℕ) → seq-parts-lts.Need-element-copy-out-m (seq-parts-claims t) (seq-parts-at t) seq-parts.Post
 seq-parts-element-copy-out-m t c = omega (arith, c .before .pre .1 .0 .long, c .before .pre .1 .0 .fits, c .before .pre .1 .0 .bytes)
@@ -520,7 +478,7 @@ pub +after+body+declared+par-parts+part+present-parts+react+seq-parts+signal-rul
     (par-parts-returns t))
     (λ t. part-lts.spec (part-claims t) (part-at t)
     part.Post
-    (part-shared-slice-read-if1 t)
+    (part-is-nothing-requires t)
     (λ c κs. search needs)
     (part-returns t)
     (λ c. search needs) (λ c. search needs) (λ c. search needs)
@@ -542,12 +500,7 @@ pub +after+body+declared+par-parts+part+present-parts+react+seq-parts+signal-rul
     (present-parts-returns-2 t))
     (λ t. react-lts.spec (react-claims t) (react-at t)
     react.Post
-    (λ c. search needs) (λ c κs. search needs)
-    (react-shared-slice-read-pausing t)
-    (λ c κs. search needs)
-    (react-emitting-requires t)
-    (react-shared-slice-read-leaving t)
-    (λ c κs. search needs)
+    (λ c. search needs)
     (react-seq-parts-requires t)
     (react-par-parts-requires t)
     (λ c. search needs) (λ c. search needs) (λ c. search needs)
@@ -558,12 +511,10 @@ pub +after+body+declared+par-parts+part+present-parts+react+seq-parts+signal-rul
     (λ c. search needs) (λ c. search needs)
     (react-part-requires-2 t)
     (λ c κs. search needs)
-    (react-shared-slice-read-pausing-2 t)
-    (λ c κs. search needs)
     (λ c. search needs) (λ c. search needs)
     (react-part-requires-3 t)
     (λ c κs. search needs)
-    (react-emitting-requires-2 t)
+    (react-alone-requires t)
     (react-returns t)
     (react-returns-2 t)
     (react-returns-3 t)
@@ -571,12 +522,7 @@ pub +after+body+declared+par-parts+part+present-parts+react+seq-parts+signal-rul
     (react-returns-5 t)
     (react-returns-6 t)
     (react-returns-7 t)
-    (react-returns-8 t)
-    (react-returns-9 t)
-    (react-returns-10 t)
-    (react-returns-11 t)
-    (react-returns-12 t)
-    (react-returns-13 t))
+    (react-returns-8 t))
     (λ t. seq-parts-lts.spec (seq-parts-claims t) (seq-parts-at t)
     seq-parts.Post
     (λ c. search needs)

@@ -1,11 +1,12 @@
 use mathlib.Core.Path.{refl, sym, _∙_}
 use native.Mathlib.Omega.{arith}
 use borrow.Author.Needs.{needs}
-use borrow.Author.Tests.{ltb-true}
+use borrow.Author.Tests.{eqb-true, ltb-true}
 use Rattle.esterel.specs.Statement.{local, nothing, seq, par, loop, present, signal, try, suspend}
 use Rattle.sequence.specs.Commands.{Command}
 use Rattle.layout.proofs.Laid.{ready, whole, whole-lies, taken-apart, begins}
-use Rattle.react.proofs.Steps.{nothing-step, front-there, front-is}
+use Rattle.react_leaves.proofs.Steps.{nothing-step}
+use Rattle.react.proofs.Steps.{front-there, front-is}
 use Rattle.resume.proofs.Steps.{
   here,
   seq-first,
@@ -70,6 +71,8 @@ use Rattle.labels.proofs.below.Reads as below-reads
 use Rattle.labels.proofs.from.Reads as from-reads
 use Rattle.labels.proofs.is_empty.Reads as is-empty-reads
 use Rattle.signals.proofs.member.Reads as member-reads
+use Rattle.reaction.proofs.asks.Reads as asks-reads
+use Rattle.react_leaves.proofs.is_pause.Reads as is-pause-reads
 use Rattle.signals.proofs.with.Reads as with-reads
 use Rattle.signals.proofs.without.Reads as without-reads
 use Rattle.resume.proofs.+body+declared+par_parts+part+present_parts+resume+seq_parts+side+signal_rule+suspend_part.{
@@ -184,13 +187,13 @@ abbrev body-claims : ℕ → body-lts.Claims
 body-claims t = (declared-below t, declared.Post, part-below t, part.Post)
 
 abbrev declared-claims : ℕ → declared-lts.Claims
-declared-claims t = (without-reads.Asked, without-reads.Learnt, with-reads.Asked, with-reads.Learnt, body-below t, body.Post, member-reads.Asked, member-reads.Learnt, in-signal-reads.Asked, in-signal-reads.Learnt, in-signal-once-reads.Asked, in-signal-once-reads.Learnt)
+declared-claims t = (without-reads.Asked, without-reads.Learnt, with-reads.Asked, with-reads.Learnt, body-below t, body.Post, asks-reads.Asked, asks-reads.Learnt, in-signal-reads.Asked, in-signal-reads.Learnt, in-signal-once-reads.Asked, in-signal-once-reads.Learnt)
 
 abbrev par-parts-claims : ℕ → par-parts-lts.Claims
 par-parts-claims t = (below-reads.Asked, below-reads.Learnt, side-below t, side.Post, from-reads.Asked, from-reads.Learnt, in-parallel-reads.Asked, in-parallel-reads.Learnt)
 
 abbrev part-claims : ℕ → part-lts.Claims
-part-claims t = (nothing-reads.Asked, nothing-reads.Learnt, resume-below t, resume.Post)
+part-claims t = (is-pause-reads.Asked, is-pause-reads.Learnt, nothing-reads.Asked, nothing-reads.Learnt, resume-below t, resume.Post)
 
 abbrev present-parts-claims : ℕ → present-parts-lts.Claims
 present-parts-claims t = (below-reads.Asked, below-reads.Learnt, is-empty-reads.Asked, is-empty-reads.Learnt, from-reads.Asked, from-reads.Learnt, part-below t, part.Post)
@@ -265,7 +268,7 @@ declared-returns-2 t c base p l =
     let q = y .parts .0 in
     here _ base _ _ (signal local _ _ q) p (y .parts .1 .0)
     (signal-once-step _ base _ _ q _ _ (ltb-true _ _ (y .ranged)) (d .before .before .without .ensures) (d .body .ensures base q (y .parts .1 .1))
-    (sym (c .before .before .member .ensures) ∙ c .before .if1 .left) (c .in-signal-once .ensures _))
+    (sym (c .before .before .asks .ensures) ∙ c .before .if1 .left) (c .in-signal-once .ensures _))
 
 par-parts-element-copy-out-entry : (t : ℕ) → par-parts-lts.Need-element-copy-out-entry (par-parts-claims t) (par-parts-at t) par-parts.Post
 par-parts-element-copy-out-entry t c = omega (arith, c .before .pre .1 .0 .long, c .before .pre .1 .0 .fits, c .before .pre .1 .0 .bytes)
@@ -285,11 +288,14 @@ par-parts-returns t c base p l =
     here _ base _ _ (par (y .0) (y .1)) p (y .2 .0)
     (par-step _ base _ _ (y .0) (y .1) _ _ (y .2 .1 .before) (c .before .before .before .before .below .ensures) _ (c .before .before .from .ensures) (c .before .before .before .side .ensures base (y .0) (y .2 .1 .first)) (c .before .side2 .ensures _ (y .1) (y .2 .1 .second)) (c .in-parallel .ensures))
 
-part-shared-slice-read-if1 : (t : ℕ) → part-lts.Need-shared-slice-read-if1 (part-claims t) (part-at t) part.Post
-part-shared-slice-read-if1 t c = front-there (c .before .before .args .n) (c .before .before .args .s .now) (c .before .before .pre .1 .1)
+part-is-pause-requires : (t : ℕ) → part-lts.Need-is-pause-requires (part-claims t) (part-at t) part.Post
+part-is-pause-requires t c κs = front-there (c .before .args .n) (c .before .args .s .now) (c .before .pre .1 .1)
 
 part-returns : (t : ℕ) → part-lts.Need-returns (part-claims t) (part-at t) part.Post
-part-returns t c base p l = pause-step _ _ base _ _ p _ _ _ l (front-is (c .before .before .before .before .args .n) (c .before .before .before .before .args .s .now) (c .before .if1 .taken)) (nothing-step _ nothing _ _ refl (c .nothing .ensures))
+part-returns t c base p l =
+    let d = c .before .before .before .before in
+    let b = eqb-true _ _ (sym (c .before .before .is-pause .ensures) ∙ c .before .if1 .taken) in
+    pause-step _ _ base _ _ p _ _ _ l (front-is (d .args .n) (d .args .s .now) b) (nothing-step _ nothing _ _ refl (c .nothing .ensures))
 
 part-resume-requires : (t : ℕ) → part-lts.Need-resume-requires (part-claims t) (part-at t) part.Post
 part-resume-requires t c κs = (search needs, c .before .before .before .before .pre .1 .1)
@@ -508,7 +514,7 @@ pub +body+declared+par-parts+part+present-parts+resume+seq-parts+side+signal-rul
     (par-parts-returns t))
     (λ t. part-lts.spec (part-claims t) (part-at t)
     part.Post
-    (part-shared-slice-read-if1 t)
+    (part-is-pause-requires t)
     (λ c κs. search needs)
     (part-returns t)
     (λ c. search needs) (λ c. search needs) (λ c. search needs)

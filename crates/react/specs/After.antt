@@ -1,4 +1,4 @@
--- What a fresh statement answers, for whatever statement lies in the bytes (layout, specs/Layout).
+-- What a fresh statement answers behind one that reacted, for whatever statement lies in the bytes (layout, specs/Layout).
 use Prim.Native.Nat.{ℕ}
 use mathlib.Core.Path.{_≡_}
 use mathlib.Core.List.{List}
@@ -8,10 +8,6 @@ use Rattle.esterel.specs.Traced.{startTraced, seqTraced}
 use Rattle.layout.specs.Layout.{Lies}
 use Rattle.reaction.specs.declared.Reaction.{Reaction}
 use Rattle.reaction.specs.Reactions.{reactionOf}
-
--- r is the tree of the statement that lies there, with the litres of the farm f
-abbrev pub Started : (t : List ℕ) (d a : ℕ) (bs : List ℕ) (e f : ℕ) (r : Reaction) → Type 0
-Started t d a bs e f r = (base : ℕ) (p : Statement) → Lies t d base a bs p → r ≡ reactionOf (startTraced f p e)
 
 -- r is what comes of a tree u and then the statement that lies there, started where u has ended
 abbrev pub StartedAfter : (t : List ℕ) (d a : ℕ) (bs : List ℕ) (e f : ℕ) (p r : Reaction) → Type 0
