@@ -125,7 +125,7 @@ fn par_parts(
     let p = side(s, 1, at + 1, depth - 1, input, farm, first, second);
     let others = labels::from(active, entry / layout::BEFORE_UNIT);
     let q = side(s, m - at, m, depth - 1, input, farm, others, second);
-    rules::in_parallel(p, q)
+    rules_two::in_parallel(p, q)
 }
 
 // Of a test the active branch goes on, whatever its signal is now.
