@@ -33,9 +33,9 @@ use Rattle.box_deliveries.specs.Delivering.{Delivers}
 use Rattle.box_deliveries.proofs.Theorems.{passes-exactly, adds-exactly}
 use Rattle.box_parts.specs.Parts.{slot, put}
 use Rattle.box_parts.proofs.Parts.{put-behind}
-use Rattle.box_calls.specs.Called.{Called, called, number}
-use Rattle.box_calls.specs.Stretch.{stateAt, countAt, bayLength, stretchLength, sequenceIn, readBackIn, stateIn, ledgerIn, withLedger}
-use Rattle.box_calls.specs.BayCalls.{stateKept, delivering, charged, bayStepOf, bayChargedOf, bayLedgerOf, bayNewYearOf}
+use Rattle.box_stretches.specs.Called.{Called, called, number}
+use Rattle.box_stretches.specs.Stretch.{stateAt, countAt, bayLength, stretchLength, sequenceIn, readBackIn, stateIn, ledgerIn, withLedger}
+use Rattle.box_stretches.specs.BayCalls.{stateKept, delivering, charged, bayStepOf, bayChargedOf, bayLedgerOf, bayNewYearOf}
 use Rattle.box_fields.proofs.Fields.{ledger-sized}
 use Rattle.box_bays.proofs.Ticking.{short-step, refused-step, kept-written}
 

@@ -13,9 +13,9 @@ use Rattle.states.specs.StateRecord.{stateLength, stateRecord, phaseIn, labelsI
 use Rattle.states.proofs.Stores.{state-written}
 use Rattle.box_positions.specs.Table.{savedLabels, placeOf, kept, saveOf, forgetOf}
 use Rattle.box_positions.proofs.Lookups.{lookup-at, lookup-none}
-use Rattle.box_calls.specs.Called.{called}
-use Rattle.box_calls.specs.Stretch.{stateAt, countAt, positionsAt, bayLength, stretchLength, stateIn, positionsIn}
-use Rattle.box_calls.specs.BayCalls.{positionsKept, restored, baySaveOf, bayRestoreOf, bayForgetOf}
+use Rattle.box_stretches.specs.Called.{called}
+use Rattle.box_stretches.specs.Stretch.{stateAt, countAt, positionsAt, bayLength, stretchLength, stateIn, positionsIn}
+use Rattle.box_stretches.specs.BayCalls.{positionsKept, restored, baySaveOf, bayRestoreOf, bayForgetOf}
 use Rattle.box_bays.proofs.Ticking.{state-sized}
 
 module _ (s : List ℕ) (name : ℕ) where

@@ -17,9 +17,9 @@ use Rattle.recordings.specs.Recording.{following}
 use Rattle.recordings.proofs.Records.{record-sized}
 use Rattle.recordings.proofs.Panels.{length-panel}
 use Rattle.box_parts.proofs.Parts.{stored}
-use Rattle.box_calls.specs.Called.{called}
-use Rattle.box_calls.specs.Stretch.{countAt, stretchLength, stateIn, lastNumberIn, serviceOnlyIn}
-use Rattle.box_calls.specs.BayCalls.{counted, recorded, showing, bayChargedOf, bayTickOf, bayServiceOf, bayPanelOf}
+use Rattle.box_stretches.specs.Called.{called}
+use Rattle.box_stretches.specs.Stretch.{countAt, stretchLength, stateIn, lastNumberIn, serviceOnlyIn}
+use Rattle.box_stretches.specs.BayCalls.{counted, recorded, showing, bayChargedOf, bayTickOf, bayServiceOf, bayPanelOf}
 use Rattle.box_bays.proofs.Ticking.{state-sized}
 
 -- ---- an instant is counted, and its record is written

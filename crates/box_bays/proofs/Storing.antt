@@ -10,7 +10,7 @@ use Rattle.numbers.specs.Bytes.{leBytes}
 use Rattle.numbers.proofs.Bytes.{length-leBytes}
 use Rattle.box_parts.specs.Parts.{put, zeros}
 use Rattle.box_parts.proofs.Parts.{stored}
-use Rattle.box_calls.specs.Stretch.{lengthBytes, sequenceAt, readBackAt, ceilingAt, serviceAt, bayLength, stretchLength, vacated, Terms, filled}
+use Rattle.box_stretches.specs.Stretch.{lengthBytes, sequenceAt, readBackAt, ceilingAt, serviceAt, bayLength, stretchLength, vacated, Terms, filled}
 use Rattle.box_fields.proofs.Fields.{s1, s2, s3, s4, l0, l1, l2, l3, l4}
 
 pub cleared-out : (s : List ℕ) → length s ≡ stretchLength → sets s 0 (leBytes bayLength 0) ≡ vacated s

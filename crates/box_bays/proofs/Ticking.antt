@@ -18,9 +18,9 @@ use Rattle.instants.specs.declared.Reply.the-variants.{Refused, Reacted}
 use Rattle.instants.specs.Replies.{repliedFrom, Replies}
 use Rattle.instants.proofs.Replying.{replied-from}
 use Rattle.box_parts.proofs.Parts.{put-slot}
-use Rattle.box_calls.specs.Called.{called}
-use Rattle.box_calls.specs.Stretch.{stateAt, stretchLength, sequenceIn, readBackIn, stateIn}
-use Rattle.box_calls.specs.BayCalls.{stateKept, bayStepOf}
+use Rattle.box_stretches.specs.Called.{called}
+use Rattle.box_stretches.specs.Stretch.{stateAt, stretchLength, sequenceIn, readBackIn, stateIn}
+use Rattle.box_stretches.specs.BayCalls.{stateKept, bayStepOf}
 
 pub state-sized : (s : List ℕ) → length s ≡ stretchLength → length (stateIn s) ≡ stateLength
 state-sized s z = length-take-le stateLength (drop stateAt s) (omega (arith, length-drop stateAt s))

@@ -10,9 +10,9 @@ use lib.Dec.{eqb}
 use Rattle.recordings.specs.Record.{recordLength}
 use Rattle.tick.specs.Tick.{Outcome, outcome}
 use Rattle.tick.specs.Paper as Paper
-use Rattle.box_calls.specs.Called.{Called, number, memoryAfter, lentAfter, first}
-use Rattle.box_calls.specs.Stretch.{stateIn}
-use Rattle.box_calls.specs.BayCalls.{delivering}
+use Rattle.box_stretches.specs.Called.{Called, number, memoryAfter, lentAfter, first}
+use Rattle.box_stretches.specs.Stretch.{stateIn}
+use Rattle.box_stretches.specs.BayCalls.{delivering}
 use Rattle.box_calls.specs.Box.{stretchOf, Call, admit, release, tick, save, restore, forget, service, panel, preview, ledger, newYear, callOf}
 use Rattle.box_calls.specs.Lists.{Request, afterCall}
 

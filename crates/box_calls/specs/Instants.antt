@@ -12,8 +12,8 @@ use Rattle.limits.specs.Limits.{lastNumber}
 use Rattle.recordings.specs.Record.{recordLength, recordOf, numberIn, panelLength, panelOf, Bytes, Agree}
 use Rattle.recordings.specs.Recording.{following}
 use Rattle.tick.specs.Tick.{Outcome}
-use Rattle.box_calls.specs.Called.{Called, called, number, memoryAfter, lentAfter, first}
-use Rattle.box_calls.specs.Stretch.{lengthIn, stateIn, lastNumberIn, serviceOnlyIn, Terms}
+use Rattle.box_stretches.specs.Called.{Called, called, number, memoryAfter, lentAfter, first}
+use Rattle.box_stretches.specs.Stretch.{lengthIn, stateIn, lastNumberIn, serviceOnlyIn, Terms}
 use Rattle.box_calls.specs.Box.{bayCount, boxLength, stretchOf, Call, admit, release, tick, save, restore, forget, service, panel, preview, ledger, newYear}
 use Rattle.box_calls.specs.Lists.{Calling, Request, afterCall, boxAfter}
 use Rattle.box_calls.specs.Shares.{Sendable}

@@ -4,8 +4,8 @@ use Prim.Native.Nat.{ℕ}
 use mathlib.Core.Bool.{cond}
 use mathlib.Core.List.{List, [], _∷_}
 use lib.Dec.{eqb}
-use Rattle.box_calls.specs.Called.{Called, number, memoryAfter, lentAfter}
-use Rattle.box_calls.specs.Stretch.{Terms}
+use Rattle.box_stretches.specs.Called.{Called, number, memoryAfter, lentAfter}
+use Rattle.box_stretches.specs.Stretch.{Terms}
 use Rattle.box_calls.specs.Box.{Call, admit, release, tick, save, restore, forget, service, panel, preview, ledger, newYear}
 
 -- box, bay, call

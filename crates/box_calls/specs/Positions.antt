@@ -15,8 +15,8 @@ use Rattle.states.specs.StateRecord.{stateLength, phaseIn, labelsIn, encodeStat
 use Rattle.box_parts.specs.Parts.{put}
 use Rattle.box_positions.specs.Names.{Position, find, saveNamed, forgetNamed, positionsAfter}
 use Rattle.box_positions.specs.Table.{lookup, SixteenKnown}
-use Rattle.box_calls.specs.Called.{number, memoryAfter}
-use Rattle.box_calls.specs.Stretch.{stateAt, lengthIn, sequenceIn, stateIn, positionsIn, Terms}
+use Rattle.box_stretches.specs.Called.{number, memoryAfter}
+use Rattle.box_stretches.specs.Stretch.{stateAt, lengthIn, sequenceIn, stateIn, positionsIn, Terms}
 use Rattle.box_calls.specs.Box.{bayCount, emptyBox, stretchOf, Call, admit, release, tick, save, restore, forget, service, panel, preview, ledger, newYear}
 use Rattle.box_calls.specs.Lists.{Calling, Request, afterCall, boxAfter}
 use Rattle.box_calls.specs.Shares.{AllSendable}

@@ -6,8 +6,8 @@ use mathlib.Core.List.{List, [], _∷_}
 use lib.ListN.{length}
 use Rattle.box_fillings.specs.Preview as fillings
 use Rattle.box_fillings.specs.Preview.{Previewed, bufferAfter, previewOf}
-use Rattle.box_calls.specs.Called.{called, number}
-use Rattle.box_calls.specs.Stretch.{lengthIn, sequenceIn, readBackIn, stateIn}
+use Rattle.box_stretches.specs.Called.{called, number}
+use Rattle.box_stretches.specs.Stretch.{lengthIn, sequenceIn, readBackIn, stateIn}
 use Rattle.box_calls.specs.Box.{bayCount, boxLength, stretchOf, preview}
 use Rattle.box_calls.specs.Lists.{Calling}
 

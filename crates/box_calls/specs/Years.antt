@@ -13,9 +13,9 @@ use Rattle.box_ledgers.specs.Ledgers as Ledgers
 use Rattle.box_ledgers.specs.Ledgers.{farmCount, readingLength, fieldIn, totalIn, exactTotal, readingOf, totalRead}
 use Rattle.tick.specs.Tick.{tickOf}
 use Rattle.demands.specs.Demands as demands
-use Rattle.box_calls.specs.Called.{called, number, memoryAfter}
-use Rattle.box_calls.specs.Stretch.{lengthIn, sequenceIn, readBackIn, stateIn, ledgerIn, withLedger}
-use Rattle.box_calls.specs.BayCalls.{delivering}
+use Rattle.box_stretches.specs.Called.{called, number, memoryAfter}
+use Rattle.box_stretches.specs.Stretch.{lengthIn, sequenceIn, readBackIn, stateIn, ledgerIn, withLedger}
+use Rattle.box_stretches.specs.BayCalls.{delivering}
 use Rattle.box_calls.specs.BayRuns.{paperBuffer}
 use Rattle.box_calls.specs.Box.{bayCount, boxLength, emptyBox, stretchOf, Call, admit, release, tick, save, restore, forget, service, panel, preview, ledger, newYear}
 use Rattle.box_calls.specs.Lists.{Calling, Request, afterCall, boxAfter}

@@ -12,7 +12,7 @@ use Rattle.states.specs.StateRecord.{stateLength}
 use Rattle.demands.specs.Demands.{cleared}
 use Rattle.box_parts.specs.Parts.{slot, put, zeros}
 use Rattle.box_ledgers.specs.Ledgers.{ledgerLength}
-use Rattle.box_calls.specs.Stretch.{lengthBytes, sequenceAt, readBackAt, ceilingAt, serviceAt, stateAt, bayLength, stretchLength, lengthIn, readBackIn, ceilingIn, serviceOnlyIn, stateIn, ledgerIn, vacated, Terms, filled}
+use Rattle.box_stretches.specs.Stretch.{lengthBytes, sequenceAt, readBackAt, ceilingAt, serviceAt, stateAt, bayLength, stretchLength, lengthIn, readBackIn, ceilingIn, serviceOnlyIn, stateIn, ledgerIn, vacated, Terms, filled}
 use Rattle.box_parts.proofs.Zeros.{length-zeros, slot-zeros, zeros-number}
 use Rattle.box_parts.proofs.Parts.{slot-front, length-put, slot-put, put-before, put-behind}
 

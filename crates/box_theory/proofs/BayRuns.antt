@@ -36,9 +36,9 @@ use Rattle.demands.proofs.Agreement.{all-ticks, all-deliveries}
 use Rattle.demands.proofs.Demand2.{passed-check, state-sized, answer-sized}
 use Rattle.demands.proofs.Demand1.{demand-1}
 use Rattle.demands.proofs.Calls.{demand-2-call}
-use Rattle.box_calls.specs.Called.{Called, called, number, memoryAfter, lentAfter, first}
-use Rattle.box_calls.specs.Stretch.{positionsAt, stretchLength, isEmpty, stateIn, Terms}
-use Rattle.box_calls.specs.BayCalls.{delivering, bayTickOf, bayAdmitOf}
+use Rattle.box_stretches.specs.Called.{Called, called, number, memoryAfter, lentAfter, first}
+use Rattle.box_stretches.specs.Stretch.{positionsAt, stretchLength, isEmpty, stateIn, Terms}
+use Rattle.box_stretches.specs.BayCalls.{delivering, bayTickOf, bayAdmitOf}
 use Rattle.box_calls.specs.Box.{bayCount, boxLength, stretchOf, present, Call, admit, release, tick, save, restore, forget, service, panel, preview, ledger, newYear, callOf}
 use Rattle.box_calls.specs.Lists.{Request, afterCall, boxAfter}
 use Rattle.box_calls.specs.Shares.{Sendable}

@@ -15,9 +15,9 @@ use Rattle.sequence.specs.Ceilings.{ceilingOf}
 use Rattle.sequence.specs.Rows.{row-2}
 use Rattle.sequence.proofs.Rows.{Decides, decided, row-range}
 use Rattle.demands.proofs.Sequence.{Accepted, accepted}
-use Rattle.box_calls.specs.Called.{Called, called, number, memoryAfter}
-use Rattle.box_calls.specs.Stretch.{stretchLength, Terms, filled}
-use Rattle.box_calls.specs.BayCalls.{sharedCeiling, bayReleaseOf, bayAdmitOf}
+use Rattle.box_stretches.specs.Called.{Called, called, number, memoryAfter}
+use Rattle.box_stretches.specs.Stretch.{stretchLength, Terms, filled}
+use Rattle.box_stretches.specs.BayCalls.{sharedCeiling, bayReleaseOf, bayAdmitOf}
 use Rattle.box_calls.specs.Box.{Call, admit, release, tick, save, restore, forget, service, panel, preview, ledger, newYear, buffers, bayCall, isFor}
 use Rattle.box_fields.proofs.Fields.{length-vacated, length-filled}
 use Rattle.box_theory.proofs.Ticks.{tick-refused, tick-keeps-length}

@@ -28,9 +28,9 @@ use Rattle.tick.specs.Tick.{Outcome, outcome, tickOf}
 use Rattle.demands.specs.Demands as demands
 use Rattle.demands.specs.Demands.{stateAfterwards}
 use Rattle.demands.proofs.Sequence.{Accepted, accepted}
-use Rattle.box_calls.specs.Called.{Called, called, number, memoryAfter, lentAfter, first}
-use Rattle.box_calls.specs.Stretch.{sequenceAt, stateAt, countAt, positionsAt, bayLength, stretchLength, lengthIn, isEmpty, sequenceIn, readBackIn, serviceOnlyIn, stateIn, lastNumberIn, ledgerIn, Terms}
-use Rattle.box_calls.specs.BayCalls.{delivering, bayTickOf, bayAdmitOf, bayRestoreOf}
+use Rattle.box_stretches.specs.Called.{Called, called, number, memoryAfter, lentAfter, first}
+use Rattle.box_stretches.specs.Stretch.{sequenceAt, stateAt, countAt, positionsAt, bayLength, stretchLength, lengthIn, isEmpty, sequenceIn, readBackIn, serviceOnlyIn, stateIn, lastNumberIn, ledgerIn, Terms}
+use Rattle.box_stretches.specs.BayCalls.{delivering, bayTickOf, bayAdmitOf, bayRestoreOf}
 use Rattle.box_calls.specs.BayRuns.{Onward, Onwards}
 use Rattle.box_calls.specs.BayRuns as Runs
 use Rattle.box_calls.specs.Box.{bayCount, boxLength, stretchOf, present, Call, admit, release, tick, save, restore, forget, service, panel, preview, ledger, newYear, bayCall, callOf}

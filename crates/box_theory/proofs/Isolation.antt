@@ -8,7 +8,7 @@ use mathlib.Core.List.{List, [], _∷_}
 use lib.ListN.{length}
 use lib.Dec.{eqb}
 use borrow.Author.Tests.{eq-eqb, ne-eqb}
-use Rattle.box_calls.specs.Called.{Called, number, memoryAfter}
+use Rattle.box_stretches.specs.Called.{Called, number, memoryAfter}
 use Rattle.box_calls.specs.Box.{bayCount, boxLength, stretchOf, present, Call, admit, release, tick, save, restore, forget, service, panel, preview, ledger, newYear, callOf}
 use Rattle.box_calls.specs.Lists.{Request, afterCall, boxAfter, Asked, admission, other, askedBy, asked, Answer, answerOf, answers}
 use Rattle.box_calls.specs.Claims.{SumAlike}

@@ -18,9 +18,9 @@ use Rattle.box_positions.proofs.Theorems.{save-number, forget-number, save-refu
 use Rattle.box_positions.proofs.TableLaws.{save-sized, forget-sized}
 use Rattle.box_ledgers.specs.Ledgers.{ledgerLength, cleared}
 use Rattle.box_ledgers.proofs.Theorems.{cleared-sized}
-use Rattle.box_calls.specs.Called.{Called, called, number, memoryAfter}
-use Rattle.box_calls.specs.Stretch.{stateAt, positionsAt, bayLength, stretchLength, stateIn, positionsIn}
-use Rattle.box_calls.specs.BayCalls.{positionsKept, restored, baySaveOf, bayForgetOf, bayRestoreOf, bayNewYearOf}
+use Rattle.box_stretches.specs.Called.{Called, called, number, memoryAfter}
+use Rattle.box_stretches.specs.Stretch.{stateAt, positionsAt, bayLength, stretchLength, stateIn, positionsIn}
+use Rattle.box_stretches.specs.BayCalls.{positionsKept, restored, baySaveOf, bayForgetOf, bayRestoreOf, bayNewYearOf}
 
 pub data Moved (from : ℕ) (s : List ℕ) (o : Called) : Type 0 where
   refused : (n : ℕ) → 15 ≤ n → o ≡ called n s [] → Moved from s o

@@ -28,9 +28,9 @@ use Rattle.box_positions.specs.Table.{tableLength, lookup, Kept, kept, numberKe
 use Rattle.box_positions.proofs.Theorems.{lookup-saved, lookup-others-saved, lookup-forgotten, lookup-others-forgotten, lookup-zeros, formed-zeros, formed-saved, formed-forgotten, save-refused}
 use Rattle.box_positions.proofs.TableLaws.{save-sized, forget-sized}
 use Rattle.demands.proofs.Sequence.{accepted, same-statement}
-use Rattle.box_calls.specs.Called.{Called, called, number, memoryAfter}
-use Rattle.box_calls.specs.Stretch.{stateAt, countAt, positionsAt, bayLength, stretchLength, stateIn, positionsIn, Terms}
-use Rattle.box_calls.specs.BayCalls.{positionsKept, restored, bayTickOf, bayReleaseOf, bayAdmitOf, baySaveOf, bayForgetOf, bayRestoreOf, bayNewYearOf}
+use Rattle.box_stretches.specs.Called.{Called, called, number, memoryAfter}
+use Rattle.box_stretches.specs.Stretch.{stateAt, countAt, positionsAt, bayLength, stretchLength, stateIn, positionsIn, Terms}
+use Rattle.box_stretches.specs.BayCalls.{positionsKept, restored, bayTickOf, bayReleaseOf, bayAdmitOf, baySaveOf, bayForgetOf, bayRestoreOf, bayNewYearOf}
 use Rattle.box_calls.specs.Box.{Call, admit, release, tick, save, restore, forget, service, panel, preview, ledger, newYear, bayCall}
 use Rattle.box_calls.specs.Shares.{Sendable}
 use Rattle.box_fields.proofs.Fields.{slot-vacated, filled-zeros}

@@ -8,9 +8,9 @@ use Rattle.box_fillings.specs.Preview as fillings
 use Rattle.box_fillings.specs.Preview.{Previewed, previewed, previewOf}
 use Rattle.sequence.specs.Rows.{rank}
 use Rattle.box_fillings.proofs.Numbers.{lent-left, preview-range}
-use Rattle.box_calls.specs.Called.{called, number, memoryAfter}
-use Rattle.box_calls.specs.Stretch.{sequenceIn, readBackIn, stateIn}
-use Rattle.box_calls.specs.BayCalls.{stretchKept, bayPreviewOf}
+use Rattle.box_stretches.specs.Called.{called, number, memoryAfter}
+use Rattle.box_stretches.specs.Stretch.{sequenceIn, readBackIn, stateIn}
+use Rattle.box_stretches.specs.BayCalls.{stretchKept, bayPreviewOf}
 
 kept-stretch : (s : List ℕ) (o : Previewed) → memoryAfter (stretchKept s o) ≡ s
 kept-stretch s (previewed n buffer) = refl

@@ -20,9 +20,9 @@ use Rattle.box_parts.proofs.Zeros.{length-zeros, slot-zeros, zeros-number}
 use Rattle.box_positions.specs.Table.{tableLength}
 use Rattle.demands.specs.Demands as demands
 use Rattle.demands.proofs.Sequence.{accepted}
-use Rattle.box_calls.specs.Called.{called, number, memoryAfter}
-use Rattle.box_calls.specs.Stretch.{lengthBytes, positionsAt, bayLength, stretchLength, lengthIn, sequenceIn, readBackIn, ceilingIn, positionsIn, partOf, vacated, withLedger, Terms, filled}
-use Rattle.box_calls.specs.BayCalls.{sharedCeiling, bayReleaseOf, bayAdmitOf, bayNewYearOf}
+use Rattle.box_stretches.specs.Called.{called, number, memoryAfter}
+use Rattle.box_stretches.specs.Stretch.{lengthBytes, positionsAt, bayLength, stretchLength, lengthIn, sequenceIn, readBackIn, ceilingIn, positionsIn, partOf, vacated, withLedger, Terms, filled}
+use Rattle.box_stretches.specs.BayCalls.{sharedCeiling, bayReleaseOf, bayAdmitOf, bayNewYearOf}
 use Rattle.box_calls.specs.Box.{bayCount, boxLength, emptyBox, stretchOf, present, Call, admit, release, tick, save, restore, forget, service, panel, preview, ledger, newYear, buffers, bayCall, isFor, callOf}
 use Rattle.box_calls.specs.Lists.{Request, boxAfter}
 use Rattle.box_calls.specs.Shares.{Sendable, AllSendable, none, each}

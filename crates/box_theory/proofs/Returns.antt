@@ -18,8 +18,8 @@ use Rattle.demands.specs.Deliveries.{paperDelivered}
 use Rattle.recordings.specs.Recording.{callOn}
 use Rattle.demands.proofs.Sequence.{Accepted, same-statement}
 use Rattle.box_positions.specs.Table.{lookup}
-use Rattle.box_calls.specs.Called.{number, memoryAfter}
-use Rattle.box_calls.specs.Stretch.{sequenceIn, readBackIn, serviceOnlyIn, stateIn, positionsIn, Terms, terms}
+use Rattle.box_stretches.specs.Called.{number, memoryAfter}
+use Rattle.box_stretches.specs.Stretch.{sequenceIn, readBackIn, serviceOnlyIn, stateIn, positionsIn, Terms, terms}
 use Rattle.box_calls.specs.Box.{bayCount, stretchOf, restore, callOf}
 use Rattle.box_calls.specs.Lists.{Request}
 use Rattle.box_calls.specs.BayRuns.{ticksTo, tickOutcomes, tickLitres, Onwards}

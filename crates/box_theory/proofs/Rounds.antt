@@ -16,9 +16,9 @@ use Rattle.tick.specs.Tick.{Outcome, tickOf}
 use Rattle.demands.specs.Demands as demands
 use Rattle.demands.specs.Demands.{answerAfterwards}
 use Rattle.demands.proofs.Ceiling.{never-above}
-use Rattle.box_calls.specs.Called.{called, memoryAfter}
-use Rattle.box_calls.specs.Stretch.{stretchLength, stateIn, partOf}
-use Rattle.box_calls.specs.BayCalls.{sharedCeiling, bayTickOf}
+use Rattle.box_stretches.specs.Called.{called, memoryAfter}
+use Rattle.box_stretches.specs.Stretch.{stretchLength, stateIn, partOf}
+use Rattle.box_stretches.specs.BayCalls.{sharedCeiling, bayTickOf}
 use Rattle.box_calls.specs.BayRuns.{paperBuffer}
 use Rattle.box_calls.specs.Box.{bayCount, stretchOf, present, tick, bayCall, isFor, callOf}
 use Rattle.box_calls.specs.Lists.{Request}

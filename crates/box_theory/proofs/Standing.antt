@@ -28,9 +28,9 @@ use Rattle.demands.proofs.Sequence.{Accepted, tick-at, tick-short, recorded-fre
 use Rattle.demands.proofs.Ceiling.{most}
 use Rattle.box_parts.proofs.Parts.{put-before}
 use Rattle.box_ledgers.specs.Ledgers.{ledgerLength, added}
-use Rattle.box_calls.specs.Called.{Called, number, memoryAfter}
-use Rattle.box_calls.specs.Stretch.{sequenceAt, stateAt, countAt, positionsAt, bayLength, stretchLength, lengthIn, isEmpty, sequenceIn, stateIn, ledgerIn, Terms, filled}
-use Rattle.box_calls.specs.BayCalls.{delivering, bayTickOf}
+use Rattle.box_stretches.specs.Called.{Called, number, memoryAfter}
+use Rattle.box_stretches.specs.Stretch.{sequenceAt, stateAt, countAt, positionsAt, bayLength, stretchLength, lengthIn, isEmpty, sequenceIn, stateIn, ledgerIn, Terms, filled}
+use Rattle.box_stretches.specs.BayCalls.{delivering, bayTickOf}
 use Rattle.box_calls.specs.Box.{admit}
 use Rattle.box_calls.specs.Shares.{Sendable}
 use Rattle.box_calls.specs.BayRuns.{paperBuffer}

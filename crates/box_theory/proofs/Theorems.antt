@@ -26,8 +26,8 @@ use Rattle.replays.proofs.Theorems.{accepts-recordings}
 use Rattle.box_positions.specs.Names.{find}
 use Rattle.box_positions.specs.Table.{lookup}
 use Rattle.box_ledgers.specs.Ledgers.{farmCount, readingLength, totalIn}
-use Rattle.box_calls.specs.Called.{called, number, memoryAfter}
-use Rattle.box_calls.specs.Stretch.{sequenceIn, readBackIn, serviceOnlyIn, stateIn, positionsIn, ledgerIn, Terms, terms}
+use Rattle.box_stretches.specs.Called.{called, number, memoryAfter}
+use Rattle.box_stretches.specs.Stretch.{sequenceIn, readBackIn, serviceOnlyIn, stateIn, positionsIn, ledgerIn, Terms, terms}
 use Rattle.box_calls.specs.Box.{bayCount, boxLength, emptyBox, stretchOf, admit, release, tick, restore, forget, service, panel, ledger, callOf}
 use Rattle.box_calls.specs.Lists.{Request, boxAfter, asked, answers}
 use Rattle.box_calls.specs.Shares.{Sendable, AllSendable}
@@ -37,11 +37,11 @@ use Rattle.box_calls.specs.Positions.{savedIn, PositionsSaved, PositionsValid, 
 use Rattle.box_calls.specs.Instants.{recordsIn, inputsIn, instantsIn, RecordIs, NumberedFromOne, ServiceOnlyFixed, ServiceShows, PanelShows, PanelsAlike, ReaderNumbers, RecordLength, RecordDemands}
 use Rattle.box_calls.specs.Previews.{PreviewShows, PreviewNumbers}
 use Rattle.box_calls.specs.Years.{deliveredSince, SameYear, sumOf, TotalsExact, LedgerShows, YearBegins, LedgerNumbers, Nineteen, PreviewsNeverNineteen, LedgerDemands}
-use Rattle.box_calls.specs.WrongBoxes as wrong
+use Rattle.box_examples.specs.WrongBoxes as wrong
 use Rattle.box_theory.proofs.WrongBoxes as refuted
-use Rattle.box_calls.specs.WrongPositions as slips
+use Rattle.box_examples.specs.WrongPositions as slips
 use Rattle.box_theory.proofs.WrongPositions as refutes
-use Rattle.box_calls.specs.WrongLedgers as ledgers
+use Rattle.box_examples.specs.WrongLedgers as ledgers
 use Rattle.box_theory.proofs.WrongLedgers as wrongs
 use Rattle.box_theory.proofs.Stretches as stretches
 use Rattle.box_theory.proofs.Numbers as numbers

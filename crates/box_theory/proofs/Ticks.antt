@@ -37,9 +37,9 @@ use Rattle.demands.specs.Demands as demands
 use Rattle.demands.specs.Demands.{stateAfterwards, answerAfterwards}
 use Rattle.demands.proofs.Sequence.{tick-short}
 use Rattle.demands.proofs.Demand1.{demand-1}
-use Rattle.box_calls.specs.Called.{Called, called, number, memoryAfter, lentAfter, first}
-use Rattle.box_calls.specs.Stretch.{stateAt, countAt, bayLength, stretchLength, sequenceIn, readBackIn, stateIn, lastNumberIn, ledgerIn, withLedger}
-use Rattle.box_calls.specs.BayCalls.{stateKept, delivering, charged, recorded, bayStepOf, bayChargedOf, bayTickOf}
+use Rattle.box_stretches.specs.Called.{Called, called, number, memoryAfter, lentAfter, first}
+use Rattle.box_stretches.specs.Stretch.{stateAt, countAt, bayLength, stretchLength, sequenceIn, readBackIn, stateIn, lastNumberIn, ledgerIn, withLedger}
+use Rattle.box_stretches.specs.BayCalls.{stateKept, delivering, charged, recorded, bayStepOf, bayChargedOf, bayTickOf}
 use Rattle.box_calls.specs.BayRuns.{paperBuffer}
 use Rattle.box_fields.proofs.Fields.{ledger-sized}
 

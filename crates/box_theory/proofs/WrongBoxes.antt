@@ -26,16 +26,16 @@ use Rattle.answers.specs.AnswerRecord.{encodeAnswer}
 use Rattle.box_parts.specs.Parts.{put, zeros}
 use Rattle.box_ledgers.specs.Ledgers.{totalIn, wouldPass, addedBelow}
 use Rattle.tick.specs.Tick.{tickBy}
-use Rattle.box_calls.specs.Called.{Called, memoryAfter}
+use Rattle.box_stretches.specs.Called.{Called, memoryAfter}
 use Rattle.recordings.specs.Recording.{following}
-use Rattle.box_calls.specs.Stretch.{partOf, vacated, filled}
-use Rattle.box_calls.specs.BayCalls.{bayStepOf, bayChargedOf, bayTickOf, bayReleaseOf, bayAdmitOf}
+use Rattle.box_stretches.specs.Stretch.{partOf, vacated, filled}
+use Rattle.box_stretches.specs.BayCalls.{bayStepOf, bayChargedOf, bayTickOf, bayReleaseOf, bayAdmitOf}
 use Rattle.box_calls.specs.Box.{emptyBox, present, release, callOf}
 use Rattle.box_calls.specs.Lists.{Request, boxAfter, asked, Answer, answered, answers}
 use Rattle.box_calls.specs.Shares.{none, each}
 use Rattle.box_calls.specs.Claims.{RefusalsLeave, Isolated, InBoxes, WithinCeiling, AdmitsBySum}
-use Rattle.box_calls.specs.Worked.{waitsOnce, ends, half, admitted, released, ticked}
-use Rattle.box_calls.specs.WrongBoxes.{readsNeighbour, forgetsBay, storedIn, keepsPart, refusalWrites}
+use Rattle.box_examples.specs.Worked.{waitsOnce, ends, half, admitted, released, ticked}
+use Rattle.box_examples.specs.WrongBoxes.{readsNeighbour, forgetsBay, storedIn, keepsPart, refusalWrites}
 
 -- the number of answer i
 abbrev numberAt : ℕ → List Answer → ℕ

@@ -29,19 +29,19 @@ use Rattle.box_ledgers.specs.Ledgers.{totalIn, totalsBytes, wouldPass, addedBel
 use Rattle.tick.specs.Tick.{tickBy}
 use Rattle.recordings.specs.Record.{recordLength}
 use Rattle.recordings.specs.Recording.{following}
-use Rattle.box_calls.specs.Stretch.{partOf, vacated, filled}
-use Rattle.box_calls.specs.BayCalls.{bayStepOf, bayChargedOf, bayTickOf, bayReleaseOf, bayAdmitOf, baySaveOf, bayForgetOf, bayRestoreOf}
+use Rattle.box_stretches.specs.Stretch.{partOf, vacated, filled}
+use Rattle.box_stretches.specs.BayCalls.{bayStepOf, bayChargedOf, bayTickOf, bayReleaseOf, bayAdmitOf, baySaveOf, bayForgetOf, bayRestoreOf}
 use Rattle.box_calls.specs.Box.{emptyBox, present, callOf}
 use Rattle.box_calls.specs.Lists.{Request, boxAfter}
 use Rattle.box_calls.specs.Years.{deliveredSince, TotalsExact, Nineteen}
-use Rattle.box_calls.specs.Worked.{admitted, ticked}
-use Rattle.box_calls.specs.WorkedPositions.{saved, restored}
-use Rattle.box_calls.specs.WorkedLedgers.{fiveOnce, oneTooMany, inVain, chosenRun}
-use Rattle.box_calls.specs.WrongLedgers.{rewinds, entersWrong, entersBoth, passesInSingles, testsInSingles}
+use Rattle.box_examples.specs.Worked.{admitted, ticked}
+use Rattle.box_examples.specs.WorkedPositions.{saved, backTo}
+use Rattle.box_examples.specs.WorkedLedgers.{fiveOnce, oneTooMany, inVain, chosenRun}
+use Rattle.box_examples.specs.WrongLedgers.{rewinds, entersWrong, entersBoth, passesInSingles, testsInSingles}
 
 -- ---- 5 litres, and back to the position after them
 abbrev back : List Request
-back = admitted 0 fiveOnce ∷ ticked 0 ∷ saved 0 1 ∷ restored 0 1 ∷ []
+back = admitted 0 fiveOnce ∷ ticked 0 ∷ saved 0 1 ∷ backTo 0 1 ∷ []
 
 pub not-rewinds : ¬ TotalsExact rewinds
 unfolding boxAfter deliveredSince callOf emptyBox present partOf vacated filled bayStepOf bayChargedOf wouldPass totalIn addedBelow deliveredBy ofBits whole inUnsigned toUnsigned bayTickOf following bayReleaseOf bayAdmitOf baySaveOf bayForgetOf bayRestoreOf saveOf forgetOf lookup place put zeros leBytes leNumber tickBy checked read front commandOf distinct wellFormed before everyLabel labelsOf subset disjoint valid active activeLabels membersFrom declaredBy commands loopNesting signalNesting ceiling encodeState decodeState encodeAnswer expand reactBy errorsBy reactionsBy Sets.none only member join insert remove totalsBytes toBits ofInt

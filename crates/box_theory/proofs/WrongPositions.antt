@@ -30,17 +30,17 @@ use Rattle.box_positions.specs.Table.{place, lookup, saveOf, forgetOf, namesBel
 use Rattle.box_ledgers.specs.Ledgers.{totalIn, wouldPass, addedBelow}
 use Rattle.tick.specs.Tick.{tickBy}
 use Rattle.recordings.specs.Recording.{following}
-use Rattle.box_calls.specs.Stretch.{stateIn, partOf, vacated, filled}
-use Rattle.box_calls.specs.BayCalls.{bayStepOf, bayChargedOf, bayTickOf, bayReleaseOf, bayAdmitOf, baySaveOf, bayForgetOf, bayRestoreOf}
+use Rattle.box_stretches.specs.Stretch.{stateIn, partOf, vacated, filled}
+use Rattle.box_stretches.specs.BayCalls.{bayStepOf, bayChargedOf, bayTickOf, bayReleaseOf, bayAdmitOf, baySaveOf, bayForgetOf, bayRestoreOf}
 use Rattle.box_calls.specs.Box.{emptyBox, present, callOf}
 use Rattle.box_calls.specs.Lists.{Request, boxAfter}
 use Rattle.box_calls.specs.Shares as Shares
 use Rattle.box_calls.specs.Shares.{AllSendable, each}
 use Rattle.box_calls.specs.Claims.{InBoxes}
 use Rattle.box_calls.specs.Positions.{savedIn, PositionsSaved, SaveNumbers, ComesBack, LosesPositions}
-use Rattle.box_calls.specs.Worked.{admitted, ticked}
-use Rattle.box_calls.specs.WorkedPositions.{twoStages, saved}
-use Rattle.box_calls.specs.WrongPositions.{keepsPositions, keepsFirst, fullFirst, leavesPhase}
+use Rattle.box_examples.specs.Worked.{admitted, ticked}
+use Rattle.box_examples.specs.WorkedPositions.{twoStages, saved}
+use Rattle.box_examples.specs.WrongPositions.{keepsPositions, keepsFirst, fullFirst, leavesPhase}
 
 -- the labels found, or 0
 abbrev labelsOrNone : Option ℕ → ℕ

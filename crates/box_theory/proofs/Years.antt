@@ -27,9 +27,9 @@ use Rattle.box_ledgers.proofs.Totals.{passes-not}
 use Rattle.box_ledgers.proofs.Theorems.{added-total, added-stays-exact, total-most, reading-total, reading-within, cleared-total, cleared-exact, cleared-sized, cleared-is}
 use Rattle.demands.specs.Demands as demands
 use Rattle.demands.proofs.Sequence.{accepted}
-use Rattle.box_calls.specs.Called.{Called, called, number, memoryAfter}
-use Rattle.box_calls.specs.Stretch.{stateAt, countAt, positionsAt, bayLength, stretchLength, lengthIn, stateIn, positionsIn, ledgerIn}
-use Rattle.box_calls.specs.BayCalls.{positionsKept, restored, delivering, bayTickOf, bayReleaseOf, bayAdmitOf, baySaveOf, bayForgetOf, bayRestoreOf, bayNewYearOf}
+use Rattle.box_stretches.specs.Called.{Called, called, number, memoryAfter}
+use Rattle.box_stretches.specs.Stretch.{stateAt, countAt, positionsAt, bayLength, stretchLength, lengthIn, stateIn, positionsIn, ledgerIn}
+use Rattle.box_stretches.specs.BayCalls.{positionsKept, restored, delivering, bayTickOf, bayReleaseOf, bayAdmitOf, baySaveOf, bayForgetOf, bayRestoreOf, bayNewYearOf}
 use Rattle.box_calls.specs.Box.{bayCount, boxLength, emptyBox, stretchOf, present, Call, admit, release, tick, save, restore, forget, service, panel, preview, ledger, newYear, bayCall, isFor, callOf}
 use Rattle.box_calls.specs.Lists.{Request, afterCall, boxAfter}
 use Rattle.box_calls.specs.BayRuns.{withLitres, tickLitres}

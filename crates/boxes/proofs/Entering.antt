@@ -11,9 +11,9 @@ use lib.Seq.{length-take-le}
 use borrow.Author.Tests.{lt-ltb, le-ltb, eq-eqb, ne-eqb, ltb-true, eqb-true}
 use Rattle.box_parts.specs.Parts.{slot, put}
 use Rattle.box_parts.proofs.Parts.{put-slot}
-use Rattle.box_calls.specs.Called.{called}
-use Rattle.box_calls.specs.Stretch.{stretchLength, isEmpty, Terms}
-use Rattle.box_calls.specs.BayCalls.{bayAdmitOf}
+use Rattle.box_stretches.specs.Called.{called}
+use Rattle.box_stretches.specs.Stretch.{stretchLength, isEmpty, Terms}
+use Rattle.box_stretches.specs.BayCalls.{bayAdmitOf}
 use Rattle.box_calls.specs.Box.{bayCount, boxLength, stretchOf, present, Call, admit, buffers, bayCall, isFor, inBox, callOf}
 use Rattle.boxes.specs.Entries.{fits, either, entryOf}
 

@@ -2,7 +2,7 @@ use borrow.Author.Needs.{needs}
 use Prim.Native.Nat.{ℕ}
 use mathlib.Core.Path.{ap, _∙_}
 use Rattle.box_parts.specs.Parts.{slot}
-use Rattle.box_calls.specs.Stretch.{sequenceAt}
+use Rattle.box_stretches.specs.Stretch.{sequenceAt}
 use Rattle.box_bays.proofs.sequence.Statement.{statement}
 use Rattle.box_bays.proofs.sequence.Tie as tie
 

@@ -5,11 +5,11 @@ use mathlib.Core.List.{List, [], _∷_}
 use lib.Dec.{eqb}
 use Rattle.box_parts.specs.Parts.{put, zeros}
 use Rattle.tick.specs.Tick.{tickOf}
-use Rattle.box_calls.specs.Called.{Called, called, number}
-use Rattle.box_calls.specs.Stretch.{lengthBytes, sequenceIn, readBackIn, ceilingIn, stateIn}
-use Rattle.box_calls.specs.BayCalls.{stateKept, delivering, charged, recorded, bayAdmitOf}
+use Rattle.box_stretches.specs.Called.{Called, called, number}
+use Rattle.box_stretches.specs.Stretch.{lengthBytes, sequenceIn, readBackIn, ceilingIn, stateIn}
+use Rattle.box_stretches.specs.BayCalls.{stateKept, delivering, charged, recorded, bayAdmitOf}
 use Rattle.box_calls.specs.Box.{bayCount, stretchOf, present, admit, release, tick, save, restore, forget, service, panel, preview, ledger, newYear, inBox, callOf}
 use Rattle.box_calls.specs.Lists.{Calling}
 
 -- another result for a call that is answered with this number
 abbrev pub instead : ℕ → Called → Called → Called

@@ -3,11 +3,11 @@ use Prim.Native.Nat.{ℕ}
 use mathlib.Core.List.{List, [], _∷_, _++_}
 use lib.ListN.{replicate}
 use Rattle.box_ledgers.specs.Ledgers.{ledgerLength, readingLength, totalIn}
-use Rattle.box_calls.specs.Stretch.{ledgerIn}
+use Rattle.box_stretches.specs.Stretch.{ledgerIn}
 use Rattle.box_calls.specs.Box.{ledger, newYear}
 use Rattle.box_calls.specs.Lists.{Request, boxAfter}
-use Rattle.box_calls.specs.Worked.{admitted, released, ticked, Line, line, alone, emptyStretch}
-use Rattle.box_calls.specs.WorkedPositions.{saved, restored}
+use Rattle.box_examples.specs.Worked.{admitted, released, ticked, Line, line, alone, emptyStretch}
+use Rattle.box_examples.specs.WorkedPositions.{saved, backTo}
 
 -- litres v for farm 2, v as single-precision bytes
 abbrev delivery : (v : List ℕ) → List ℕ
@@ -96,7 +96,7 @@ overfull = admitted 0 twoMore ∷ ticked 0 ∷ ticked 0 ∷ []
 
 abbrev pub twice : List Request
 twice =
-    admitted 0 fiveOnce ∷ ticked 0 ∷ saved 0 1 ∷ restored 0 1 ∷ released 0 ∷ admitted 0 fiveOnce ∷ ticked 0 ∷ []
+    admitted 0 fiveOnce ∷ ticked 0 ∷ saved 0 1 ∷ backTo 0 1 ∷ released 0 ∷ admitted 0 fiveOnce ∷ ticked 0 ∷ []
 
 abbrev pub chosenRun : List Request
 chosenRun = admitted 0 byRun ∷ ticked 0 ∷ []

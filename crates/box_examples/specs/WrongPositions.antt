@@ -9,11 +9,11 @@ use Rattle.states.specs.StateRecord.{labelsAt}
 use Rattle.box_parts.specs.Parts.{slot, put}
 use Rattle.box_positions.specs.Names.{isKnown}
 use Rattle.box_positions.specs.Table.{tableLength, lookup, names}
-use Rattle.box_calls.specs.Called.{Called, called, memoryAfter}
-use Rattle.box_calls.specs.Stretch.{stateAt, positionsAt, positionsIn, vacated}
+use Rattle.box_stretches.specs.Called.{Called, called, memoryAfter}
+use Rattle.box_stretches.specs.Stretch.{stateAt, positionsAt, positionsIn, vacated}
 use Rattle.box_calls.specs.Box.{stretchOf, Call, admit, release, tick, save, restore, forget, service, panel, preview, ledger, newYear, inBox, callOf}
 use Rattle.box_calls.specs.Lists.{Calling}
-use Rattle.box_calls.specs.WrongBoxes.{instead}
+use Rattle.box_examples.specs.WrongBoxes.{instead}
 
 -- what a call comes to, with another one for a release, for a save or for a restore
 abbrev pub altered : (released : Called → Called) (saved : ℕ → Called → Called) (restored : Called → Called) → Call → Called → Called

@@ -26,16 +26,16 @@ use Rattle.box_ledgers.specs.Ledgers.{totalIn, totalsBytes, wouldPass, addedBel
 use Rattle.tick.specs.Tick.{tickBy}
 use Rattle.recordings.specs.Record.{recordLength, panelOf}
 use Rattle.recordings.specs.Recording.{following}
-use Rattle.box_calls.specs.Stretch.{partOf, vacated, filled}
+use Rattle.box_stretches.specs.Stretch.{partOf, vacated, filled}
 use Rattle.box_positions.specs.Table.{place, lookup, saveOf, forgetOf}
-use Rattle.box_calls.specs.BayCalls.{bayStepOf, bayChargedOf, bayTickOf, bayReleaseOf, bayAdmitOf, baySaveOf, bayForgetOf, bayRestoreOf, bayServiceOf, bayPanelOf, bayLedgerOf, bayNewYearOf}
+use Rattle.box_stretches.specs.BayCalls.{bayStepOf, bayChargedOf, bayTickOf, bayReleaseOf, bayAdmitOf, baySaveOf, bayForgetOf, bayRestoreOf, bayServiceOf, bayPanelOf, bayLedgerOf, bayNewYearOf}
 use Rattle.box_calls.specs.Box.{emptyBox, present, callOf}
 use Rattle.box_calls.specs.Lists.{boxAfter}
 use Rattle.box_calls.specs.Instants.{recordsIn}
-use Rattle.box_calls.specs.Worked.{otherwise, alone, emptyStretch, bay, admissions, reached, passed, full, overmuch, bays, elsewhere}
-use Rattle.box_calls.specs.WorkedPositions.{positions}
-use Rattle.box_calls.specs.WorkedLedgers.{ledgersCalls, turnedDown, totalAfter, filledUp, overfull, twice, chosenRun, inVain}
-use Rattle.box_calls.specs.WorkedRecords.{numbers, leftByRefusal, lengths, shownOnPanel}
+use Rattle.box_examples.specs.Worked.{otherwise, alone, emptyStretch, bay, admissions, reached, passed, full, overmuch, bays, elsewhere}
+use Rattle.box_examples.specs.WorkedPositions.{positions}
+use Rattle.box_examples.specs.WorkedLedgers.{ledgersCalls, turnedDown, totalAfter, filledUp, overfull, twice, chosenRun, inVain}
+use Rattle.box_examples.specs.WorkedRecords.{numbers, leftByRefusal, lengths, shownOnPanel}
 
 pub bay-worked : otherwise (alone 0) emptyStretch bay ≡ 0
 unfolding otherwise emptyStretch partOf vacated filled bayStepOf bayChargedOf wouldPass totalIn addedBelow deliveredBy ofBits whole inUnsigned toUnsigned bayTickOf following bayReleaseOf bayAdmitOf put zeros leBytes leNumber tickBy checked read front commandOf distinct wellFormed before everyLabel labelsOf subset disjoint valid active activeLabels membersFrom declaredBy commands loopNesting signalNesting ceiling encodeState decodeState encodeAnswer expand reactBy errorsBy reactionsBy none only member join insert remove

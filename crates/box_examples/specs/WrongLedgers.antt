@@ -15,13 +15,13 @@ use Rattle.box_parts.specs.Parts.{put}
 use Rattle.litres.specs.Litres.{litres}
 use Rattle.box_ledgers.specs.Ledgers as Ledgers
 use Rattle.box_ledgers.specs.Ledgers.{farmCount, totalFloat, added}
-use Rattle.box_calls.specs.Called.{Called, called, number, memoryAfter, lentAfter}
-use Rattle.box_calls.specs.Stretch.{stretchLength, sequenceIn, readBackIn, ledgerIn, withLedger}
-use Rattle.box_calls.specs.BayCalls.{delivering, recorded, bayStepOf}
+use Rattle.box_stretches.specs.Called.{Called, called, number, memoryAfter, lentAfter}
+use Rattle.box_stretches.specs.Stretch.{stretchLength, sequenceIn, readBackIn, ledgerIn, withLedger}
+use Rattle.box_stretches.specs.BayCalls.{delivering, recorded, bayStepOf}
 use Rattle.box_calls.specs.Box.{stretchOf, Call, admit, release, tick, save, restore, forget, service, panel, preview, ledger, newYear, inBox, callOf}
 use Rattle.box_calls.specs.Lists.{Calling}
-use Rattle.box_calls.specs.WrongBoxes.{instead}
-use Rattle.box_calls.specs.WrongPositions.{altered}
+use Rattle.box_examples.specs.WrongBoxes.{instead}
+use Rattle.box_examples.specs.WrongPositions.{altered}
 
 -- a restore that takes the ledger back to the new year
 abbrev pub rewinds : Calling

@@ -8,10 +8,10 @@ use lib.Dec.{eqb}
 use Rattle.answers.specs.AnswerRecord.{answerLength, codeIn}
 use Rattle.recordings.specs.Record.{recordLength}
 use Rattle.box_parts.specs.Parts.{zeros}
-use Rattle.box_calls.specs.Called.{Called, called, number, lentAfter, first}
-use Rattle.box_calls.specs.Stretch.{stretchLength}
+use Rattle.box_stretches.specs.Called.{Called, called, number, lentAfter, first}
+use Rattle.box_stretches.specs.Stretch.{stretchLength}
 use Rattle.box_calls.specs.Box.{admit, release, tick, buffers, bayCall, isFor}
 use Rattle.box_calls.specs.Lists.{Calling, Request, afterCall}
 
 -- ---- sequences
 -- pause 0, then nothing: ceiling 3

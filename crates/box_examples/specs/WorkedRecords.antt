@@ -5,12 +5,12 @@ use lib.ListN.{replicate}
 use Rattle.states.specs.StateRecord.{stateRecord}
 use Rattle.answers.specs.AnswerRecord.{answerLength, answerRecord}
 use Rattle.recordings.specs.Record.{recordOf, numberIn, panelLength}
-use Rattle.box_calls.specs.Called.{lentAfter, first}
+use Rattle.box_stretches.specs.Called.{lentAfter, first}
 use Rattle.box_calls.specs.Box.{admit, tick, service, panel}
 use Rattle.box_calls.specs.Lists.{Request, boxAfter}
 use Rattle.box_calls.specs.Instants.{second, recordsIn}
-use Rattle.box_calls.specs.Worked.{ends, admitted, released, ticked, Line, line, alone, emptyStretch}
-use Rattle.box_calls.specs.WorkedPositions.{twoStages, saved, restored}
+use Rattle.box_examples.specs.Worked.{ends, admitted, released, ticked, Line, line, alone, emptyStretch}
+use Rattle.box_examples.specs.WorkedPositions.{twoStages, saved, backTo}
 
 -- a tick with a record's buffer of this length
 abbrev tickedInto : (length : ℕ) → Request
@@ -24,7 +24,7 @@ instants =
     ∷ saved 0 1
     ∷ ticked 0
     ∷ tickedInto 36
-    ∷ restored 0 1
+    ∷ backTo 0 1
     ∷ ticked 0
     ∷ released 0
     ∷ admitted 0 twoStages

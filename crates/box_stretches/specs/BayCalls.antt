@@ -20,8 +20,8 @@ use Rattle.tick.specs.Tick.{Outcome, outcome, tickOf}
 use Rattle.demands.specs.Deliveries.{deliveries}
 use Rattle.box_ledgers.specs.Ledgers as Ledgers
 use Rattle.box_ledgers.specs.Ledgers.{readingLength, passes, added, readingOf}
-use Rattle.box_calls.specs.Called.{Called, called, first}
-use Rattle.box_calls.specs.Stretch.{stateAt, countAt, positionsAt, sequenceIn, readBackIn, serviceOnlyIn, stateIn, lastNumberIn, positionsIn, ledgerIn, vacated, withLedger, Terms, filled}
+use Rattle.box_stretches.specs.Called.{Called, called, first}
+use Rattle.box_stretches.specs.Stretch.{stateAt, countAt, positionsAt, sequenceIn, readBackIn, serviceOnlyIn, stateIn, lastNumberIn, positionsIn, ledgerIn, vacated, withLedger, Terms, filled}
 
 -- 02, item 8: 'a shared ceiling of 65,536 reactions an instant'
 abbrev pub sharedCeiling : ℕ

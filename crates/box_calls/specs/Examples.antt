@@ -1,0 +1,51 @@
+-- The first steps of a call on a box worked by hand: which bay is there for it, whose stretch it reads, and the order of its errors.
+-- Boxes with bays in them are worked in box_examples.
+use Prim.Native.Nat.{ℕ, _*_, _-_}
+use mathlib.Core.Path.{_≡_, refl}
+use mathlib.Core.Bool.{true, false}
+use mathlib.Core.List.{List, [], _∷_, _++_}
+use lib.ListN.{replicate, getD}
+use Rattle.esterel.specs.Sets.{none, only, member, join, insert, remove}
+use Rattle.esterel.specs.LabelTests.{subset, disjoint, labelsOf, everyLabel, distinct, before, wellFormed}
+use Rattle.esterel.specs.ReadBack.{membersFrom, declaredBy}
+use Rattle.esterel.specs.Sizes.{commands, loopNesting, signalNesting}
+use Rattle.esterel.specs.Ceiling.{ceiling}
+use Rattle.sequence.specs.Commands.{commandOf}
+use Rattle.sequence.specs.Reader.{front, read}
+use Rattle.sequence.specs.Check.{checked}
+use Rattle.numbers.specs.Bytes.{leBytes, leNumber}
+use Rattle.box_parts.specs.Parts.{put, zeros}
+use Rattle.box_stretches.specs.Called.{number}
+use Rattle.box_stretches.specs.Stretch.{stretchLength, partOf, vacated, terms, filled}
+use Rattle.box_stretches.specs.BayCalls.{bayAdmitOf}
+use Rattle.box_calls.specs.Box.{stretchOf, present, admit, release, ledger, isFor, callOf}
+
+-- ends at once: ceiling 1
+abbrev ends : List ℕ
+ends = 0x00 ∷ []
+
+-- ---- a bay that is there for the call
+filled-not-admitted : isFor (admit (terms ends 0 0)) (0x01 ∷ replicate (stretchLength - 1) 0) ≡ false
+unfolding leNumber
+filled-not-admitted = refl
+
+empty-has-ledger : isFor (ledger []) [] ≡ true
+empty-has-ledger = refl
+
+-- ---- bytes of another length than a box: no bay above 7 before their length, and their length before the bay
+bay-before-length : number (callOf [] 8 release) ≡ 13
+unfolding callOf
+bay-before-length = refl
+
+length-before-bay : number (callOf [] 0 release) ≡ 1
+unfolding callOf leNumber
+length-before-bay = refl
+
+-- ---- the second stretch is that of bay 1
+own-stretch : getD (stretchOf 1 (replicate stretchLength 7 ++ replicate stretchLength 8)) 0 0 ≡ 8
+own-stretch = refl
+
+-- ---- bay 7 has all of the shared ceiling
+last-counts : number (callOf (zeros (7 * stretchLength) ++ filled (terms ends 0 0) 65536 (zeros stretchLength)) 0 (admit (terms ends 0 0))) ≡ 14
+unfolding callOf present partOf filled vacated bayAdmitOf put zeros leBytes leNumber checked read front commandOf distinct wellFormed before everyLabel labelsOf subset disjoint membersFrom declaredBy commands loopNesting signalNesting ceiling none only member join insert remove
+last-counts = refl

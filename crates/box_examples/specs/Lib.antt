@@ -1,0 +1,7 @@
+pub mod Worked
+pub mod WorkedPositions
+pub mod WorkedLedgers
+pub mod WorkedRecords
+pub mod WrongBoxes
+pub mod WrongPositions
+pub mod WrongLedgers

@@ -1,0 +1,4 @@
+pub mod Stretch
+pub mod Called
+pub mod BayCalls
+pub mod Examples
