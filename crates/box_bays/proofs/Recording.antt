@@ -14,13 +14,13 @@ use Rattle.numbers.proofs.Writing.{replaced-by}
 use Rattle.answers.specs.AnswerRecord.{answerLength}
 use Rattle.recordings.specs.Record.{recordLength, recordOf, panelLength, panelOf}
 use Rattle.recordings.specs.Recording.{following}
-use Rattle.recordings.proofs.Records.{record-sized}
-use Rattle.recordings.proofs.Panels.{length-panel}
+use Rattle.recordings_writer.proofs.Records.{record-sized}
+use Rattle.recordings_writer.proofs.Panels.{length-panel}
 use Rattle.box_parts.proofs.Parts.{stored}
 use Rattle.box_stretches.specs.Called.{called}
 use Rattle.box_stretches.specs.Stretch.{countAt, stretchLength, stateIn, lastNumberIn, serviceOnlyIn}
 use Rattle.box_stretches.specs.BayCalls.{counted, recorded, showing, bayChargedOf, bayTickOf, bayServiceOf, bayPanelOf}
-use Rattle.box_bays.proofs.Ticking.{state-sized}
+use Rattle.box_fields.proofs.Fields.{state-sized}
 
 -- ---- an instant is counted, and its record is written
 module _ (s : List ℕ) (e : ℕ) (answer trace : List ℕ)

@@ -1,11 +1,9 @@
 -- One law for each return of the code of a bay's step, over plain lists.
 use Prim.Native.Nat.{ℕ}
-use native.Mathlib.Omega.{arith}
 use mathlib.Core.Path.{_≡_, sym, ap, _∙_}
 use mathlib.Core.Logic.{_≢_}
 use mathlib.Core.List.{List, [], _∷_}
-use lib.ListN.{length, drop, length-drop}
-use lib.Seq.{length-take-le}
+use lib.ListN.{length}
 use borrow.Author.Tests.{eq-eqb}
 use Rattle.states.specs.StateRecord.{stateLength}
 use Rattle.answers.specs.AnswerRecord.{answerLength}
@@ -21,9 +19,7 @@ use Rattle.box_parts.proofs.Parts.{put-slot}
 use Rattle.box_stretches.specs.Called.{called}
 use Rattle.box_stretches.specs.Stretch.{stateAt, stretchLength, sequenceIn, readBackIn, stateIn}
 use Rattle.box_stretches.specs.BayCalls.{stateKept, bayStepOf}
-
-pub state-sized : (s : List ℕ) → length s ≡ stretchLength → length (stateIn s) ≡ stateLength
-state-sized s z = length-take-le stateLength (drop stateAt s) (omega (arith, length-drop stateAt s))
+use Rattle.box_fields.proofs.Fields.{state-sized}
 
 -- the core's answer, on the fields that were read
 pub on-fields : {a a′ b b′ : List ℕ} {e k k′ : ℕ} {r : Reply} → a ≡ a′ → b ≡ b′ → k ≡ k′ → Replies a b e k r → Replies a′ b′ e k′ r

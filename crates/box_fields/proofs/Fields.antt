@@ -19,6 +19,9 @@ use Rattle.box_parts.proofs.Parts.{slot-front, length-put, slot-put, put-before
 pub ledger-sized : (s : List ℕ) → length s ≡ stretchLength → length (ledgerIn s) ≡ ledgerLength
 ledger-sized s z = length-take-le ledgerLength (drop bayLength s) (omega (arith, length-drop bayLength s))
 
+pub state-sized : (s : List ℕ) → length s ≡ stretchLength → length (stateIn s) ≡ stateLength
+state-sized s z = length-take-le stateLength (drop stateAt s) (omega (arith, length-drop stateAt s))
+
 -- ---- zeros
 zeros-state : zeros stateLength ≡ cleared
 unfolding zeros leBytes

@@ -1,3 +1,1 @@
-pub mod Stores
-pub mod Numbers
 pub mod Worked

@@ -1,20 +1,13 @@
-// What the fillings of a preview come to (02, item 11): the findings of one, of two together, and their ten bytes.
-ghost use mathlib.Core.Path.{_≡_};
-ghost use mathlib.Core.Bool.{_||_};
-ghost use lib.ListN.{length};
-ghost use Rattle.box_fillings.specs.Preview.{alone, sharedBy, both, bit, previewLength, previewBytes};
+// Previews (02, item 11): definitions in specs/, and what fillings come to as a value of the code.
 use limits::SIGNAL_BYTES;
 
-const NEVER_AT: usize = SIGNAL_BYTES;
+pub const NEVER_AT: usize = SIGNAL_BYTES;
 
-const WRONG_AT: usize = NEVER_AT + SIGNAL_BYTES;
+pub const WRONG_AT: usize = NEVER_AT + SIGNAL_BYTES;
 
 pub const PREVIEW_LENGTH: usize = WRONG_AT + 2;
 
 pub const MAX_UNKNOWN: u8 = 6;
-
-// The code of fillings that do not share one.
-const OPEN: u8 = 254;
 
 // The signals emitted for every filling and for some, whether some filling is wrong, and the code that they share.
 pub struct Findings {
@@ -22,57 +15,4 @@ pub struct Findings {
     pub some: u32,
     pub wrong: bool,
     pub code: u8,
-}
-
-// One filling, by what its instant reports.
-pub fn alone(emitted: u32, code: u8) -> Findings
-    ensures { λ r. ⌜ r ≡ alone emitted code ⌝ }
-{
-    Findings {
-        every: emitted,
-        some: emitted,
-        wrong: code == answers::WRONG,
-        code,
-    }
-}
-
-fn either(a: bool, b: bool) -> bool
-    ensures { λ r. ⌜ r ≡ (a || b) ⌝ }
-{
-    if a { true } else { b }
-}
-
-fn shared(k: u8, l: u8) -> u8
-    ensures { λ r. ⌜ r ≡ sharedBy k l ⌝ }
-{
-    if k == l { k } else { OPEN }
-}
-
-pub fn both(x: Findings, y: Findings) -> Findings
-    ensures { λ r. ⌜ r ≡ both x y ⌝ }
-{
-    Findings {
-        every: signals::common(x.every, y.every),
-        some: signals::union(x.some, y.some),
-        wrong: either(x.wrong, y.wrong),
-        code: shared(x.code, y.code),
-    }
-}
-
-fn bit(b: bool) -> u8
-    ensures { λ r. ⌜ r ≡ bit b ⌝ }
-{
-    if b { 1 } else { 0 }
-}
-
-pub fn write(buffer: &mut [u8], x: Findings)
-    requires { ⌜ length (now buffer) ≡ previewLength ⌝ }
-    ensures { λ _. ⌜ now (buffer .exit) ≡ previewBytes x ⌝ }
-{
-    let never = signals::complement(x.some);
-    let wrong = bit(x.wrong);
-    numbers::put_le(buffer, 0, SIGNAL_BYTES, x.every as u64);
-    numbers::put_le(buffer, NEVER_AT, SIGNAL_BYTES, never as u64);
-    buffer[WRONG_AT] = wrong;
-    buffer[WRONG_AT + 1] = x.code;
 }

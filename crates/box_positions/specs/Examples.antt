@@ -2,11 +2,11 @@
 use Prim.Native.Nat.{ℕ, zero, suc}
 use mathlib.Core.Path.{_≡_, refl}
 use mathlib.Core.Option.{some, none}
-use mathlib.Core.List.{List, []}
+use mathlib.Core.List.{List, [], _∷_}
 use Rattle.numbers.specs.Bytes.{leBytes, leNumber}
 use Rattle.box_parts.specs.Parts.{put, zeros}
-use Rattle.box_positions.specs.Names.{Position, find, without, answered, saveNamed, forgetNamed, numberAnswered, positionsAfter}
-use Rattle.box_positions.specs.Table.{tableLength, place, lookup, tableKept, saveOf, forgetOf}
+use Rattle.box_positions.specs.Names.{Position, find, without, answered, saveNamed, forgetNamed, numberAnswered, positionsAfter, namesOf}
+use Rattle.box_positions.specs.Table.{tableLength, place, lookup, numberKept, tableKept, saveOf, forgetOf}
 
 -- names 0 to n - 1 saved, each with a label set of its own
 abbrev first : ℕ → List Position
@@ -20,6 +20,10 @@ seventeenth-refused = refl
 known-replaced : find 3 (positionsAfter (saveNamed 3 9 (first 16))) ≡ some 9
 unfolding saveNamed find without
 known-replaced = refl
+
+one-of-a-name : namesOf (positionsAfter (saveNamed 0 9 (first 2))) ≡ 0 ∷ 1 ∷ []
+unfolding saveNamed find without namesOf
+one-of-a-name = refl
 
 place-freed : numberAnswered (saveNamed 16 1 (positionsAfter (forgetNamed 5 (first 16)))) ≡ 0
 unfolding saveNamed forgetNamed find without
@@ -44,6 +48,14 @@ other-unknown = refl
 zero-forgotten : lookup 0 (tableKept (forgetOf 0 two)) ≡ none
 unfolding two saveOf forgetOf lookup place put zeros leBytes leNumber
 zero-forgotten = refl
+
+unknown-refused : numberKept (forgetOf 1 two) ≡ 15
+unfolding two saveOf forgetOf place put zeros leBytes leNumber
+unknown-refused = refl
+
+one-entry : lookup 7 (tableKept (forgetOf 7 (tableKept (saveOf 7 6 two)))) ≡ none
+unfolding two saveOf forgetOf lookup place put zeros leBytes leNumber
+one-entry = refl
 
 -- names that differ from another in one byte
 apart : List ℕ

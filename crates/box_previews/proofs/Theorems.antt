@@ -28,8 +28,8 @@ use Rattle.box_fillings.specs.Preview.{filled, openCode, foundIn, findings, max
 use Rattle.box_previews.proofs.Gathering.{learned, learned-one, findings-alike, findings-none, as-filled, within, every-filling, emits, misses, shares}
 use Rattle.box_previews.proofs.Alike.{read-back-bytes}
 use Rattle.box_previews.proofs.Groups as groups
-use Rattle.box_fillings.proofs.Numbers as numbers
-use Rattle.box_fillings.proofs.Numbers.{reacting, refused-preview, shown-preview, members-fewer, Given, given, tick-number, tick-answer, tick-turned-down}
+use Rattle.box_fillings_findings.proofs.Numbers as numbers
+use Rattle.box_fillings_findings.proofs.Numbers.{reacting, refused-preview, shown-preview, members-fewer, Given, given, tick-number, tick-answer, tick-turned-down}
 
 -- SIX UNKNOWN: at most 64 fillings
 pub sixty-four : (unknown : ℕ) → unknown < 2 ^ signalCount → length (membersFrom signalCount 0 unknown) ≤ maxUnknown

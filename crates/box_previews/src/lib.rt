@@ -22,10 +22,10 @@ fn found(r: Reaction) -> Findings
 {
     let k = r.completion;
     match k {
-        Completion::Ended => box_fillings::alone(r.emitted, 0),
-        Completion::Waiting => box_fillings::alone(r.emitted, 1),
-        Completion::Leaving(n) => box_fillings::alone(r.emitted, n + 1),
-        Completion::Wrong(_, _) => box_fillings::alone(0, answers::WRONG),
+        Completion::Ended => box_fillings_findings::alone(r.emitted, 0),
+        Completion::Waiting => box_fillings_findings::alone(r.emitted, 1),
+        Completion::Leaving(n) => box_fillings_findings::alone(r.emitted, n + 1),
+        Completion::Wrong(_, _) => box_fillings_findings::alone(0, answers::WRONG),
     }
 }
 
@@ -68,7 +68,7 @@ fn gather(
             signals::union(known, filling),
             read_back,
         );
-        sum = box_fillings::both(sum, one);
+        sum = box_fillings_findings::both(sum, one);
     }
     sum
 }
@@ -90,7 +90,7 @@ fn show(
     if box_fillings::MAX_UNKNOWN < signals::size(unknown) {
         return 17;
     }
-    box_fillings::write(
+    box_fillings_findings::write(
         buffer,
         gather(sequence, second, origin, input, unknown, read_back),
     );

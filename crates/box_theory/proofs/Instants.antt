@@ -18,8 +18,8 @@ use Rattle.states.specs.StateRecord.{stateLength, encodeState}
 use Rattle.states.proofs.StateLaws.{length-state}
 use Rattle.recordings.specs.Record.{recordLength, recordOf, numberIn, panelLength, panelOf}
 use Rattle.recordings.specs.Recording.{following, tickOn, recordFrom, recordsFrom, recordingOf}
-use Rattle.recordings.proofs.Records.{number-field}
-use Rattle.recordings.proofs.Theorems.{following-is, panel-alike}
+use Rattle.recordings_writer.proofs.Records.{number-field}
+use Rattle.recordings_writer.proofs.Theorems.{following-is, panel-alike}
 use Rattle.box_parts.specs.Parts.{slot, put}
 use Rattle.box_parts.proofs.Parts.{put-slot, slot-put, put-before, put-behind}
 use Rattle.box_parts.proofs.Zeros.{zeros-number}

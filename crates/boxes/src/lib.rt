@@ -7,54 +7,16 @@ ghost use Rattle.box_stretches.specs.Called.{called};
 ghost use Rattle.box_stretches.specs.Stretch.{terms};
 ghost use Rattle.box_calls.specs.Box.{bayCount, boxLength, present, callOf};
 ghost use Rattle.box_calls.specs.Box.{release, tick, admit, save, restore, forget, service, panel, preview, ledger, newYear};
-ghost use Rattle.boxes.specs.Entries.{fits, either, entryOf};
-use box_bays::STRETCH_LENGTH;
-
-const BAY_COUNT: usize = 8;
-
-const BOX_LENGTH: usize = BAY_COUNT * STRETCH_LENGTH;
-
-// The number that turns a call down before any bay is looked at, or 0.
-fn reach(memory: &[u8], bay: u32) -> u8
-    ensures { λ r. ⌜ r ≡ entryOf (now (memory .entry)) bay either ⌝ }
-{
-    let at = bay as usize;
-    if BAY_COUNT <= at {
-        return 13;
-    }
-    if memory.len() != BOX_LENGTH {
-        return 1;
-    }
-    0
-}
-
-// The number that turns a call down before its bay is touched, or 0: `vacant` says whether the call wants an empty bay.
-fn entry(memory: &[u8], bay: u32, vacant: bool) -> u8
-    ensures { λ r. ⌜ r ≡ entryOf (now (memory .entry)) bay (fits vacant) ⌝ }
-{
-    let number = reach(memory, bay);
-    if number != 0 {
-        return number;
-    }
-    let from = bay as usize * STRETCH_LENGTH;
-    let empty = box_bays::is_empty(numbers::part(memory, from, STRETCH_LENGTH));
-    if vacant {
-        if empty {
-            return 0;
-        }
-        return 13;
-    }
-    if empty {
-        return 13;
-    }
-    0
-}
+ghost use Rattle.boxes.specs.Moving.{callBy};
+use box_bays_fields::STRETCH_LENGTH;
+use box_bays_moves::Moving;
+use box_entry::BAY_COUNT;
 
 pub fn tick(memory: &mut [u8], bay: u32, input: u32, answer: &mut [u8], trace: &mut [u8]) -> u8
     ensures { λ r. ⌜ called r (now (memory .exit)) (now (answer .exit) ∷ now (trace .exit) ∷ [])
         ≡ callOf (now (memory .entry)) bay (tick input (now (answer .entry)) (now (trace .entry))) ⌝ }
 {
-    let number = entry(memory, bay, false);
+    let number = box_entry::entry(memory, bay, false);
     if number != 0 {
         return number;
     }
@@ -63,16 +25,23 @@ pub fn tick(memory: &mut [u8], bay: u32, input: u32, answer: &mut [u8], trace: &
     box_bays::tick(&mut memory[from..end], input, answer, trace)
 }
 
-pub fn release(memory: &mut [u8], bay: u32) -> u8
-    ensures { λ r. ⌜ called r (now (memory .exit)) [] ≡ callOf (now (memory .entry)) bay release ⌝ }
+// A call that lends nothing but a bay, which is to be filled.
+fn moved(memory: &mut [u8], bay: u32, call: Moving) -> u8
+    ensures { λ r. ⌜ called r (now (memory .exit)) [] ≡ callOf (now (memory .entry)) bay (callBy call) ⌝ }
 {
-    let number = entry(memory, bay, false);
+    let number = box_entry::entry(memory, bay, false);
     if number != 0 {
         return number;
     }
     let from = bay as usize * STRETCH_LENGTH;
     let end = from + STRETCH_LENGTH;
-    box_bays::release(&mut memory[from..end])
+    box_bays_moves::moved(&mut memory[from..end], call)
+}
+
+pub fn release(memory: &mut [u8], bay: u32) -> u8
+    ensures { λ r. ⌜ called r (now (memory .exit)) [] ≡ callOf (now (memory .entry)) bay release ⌝ }
+{
+    moved(memory, bay, Moving::Release)
 }
 
 // What the bays present have of the shared ceiling.
@@ -84,7 +53,7 @@ fn present_in(memory: &[u8]) -> u64
     let mut i = 0;
     while i < BAY_COUNT {
         let from = i * STRETCH_LENGTH;
-        sum += box_bays::part(numbers::part(memory, from, STRETCH_LENGTH)) as u64;
+        sum += box_bays_fields::part(numbers::part(memory, from, STRETCH_LENGTH)) as u64;
         i += 1;
     }
     sum
@@ -94,14 +63,14 @@ pub fn admit(memory: &mut [u8], bay: u32, sequence: &[u8], read_back: u32, servi
     ensures { λ r. ⌜ called r (now (memory .exit)) []
         ≡ callOf (now (memory .entry)) bay (admit (terms (now (sequence .entry)) «read_back» «service_only»)) ⌝ }
 {
-    let number = entry(memory, bay, true);
+    let number = box_entry::entry(memory, bay, true);
     if number != 0 {
         return number;
     }
     let present = present_in(memory);
     let from = bay as usize * STRETCH_LENGTH;
     let end = from + STRETCH_LENGTH;
-    box_bays::admit(
+    box_bays_admission::admit(
         &mut memory[from..end],
         present,
         sequence,
@@ -113,44 +82,26 @@ pub fn admit(memory: &mut [u8], bay: u32, sequence: &[u8], read_back: u32, servi
 pub fn save(memory: &mut [u8], bay: u32, name: u32) -> u8
     ensures { λ r. ⌜ called r (now (memory .exit)) [] ≡ callOf (now (memory .entry)) bay (save name) ⌝ }
 {
-    let number = entry(memory, bay, false);
-    if number != 0 {
-        return number;
-    }
-    let from = bay as usize * STRETCH_LENGTH;
-    let end = from + STRETCH_LENGTH;
-    box_bays::save(&mut memory[from..end], name)
+    moved(memory, bay, Moving::Save(name))
 }
 
 pub fn restore(memory: &mut [u8], bay: u32, name: u32) -> u8
     ensures { λ r. ⌜ called r (now (memory .exit)) [] ≡ callOf (now (memory .entry)) bay (restore name) ⌝ }
 {
-    let number = entry(memory, bay, false);
-    if number != 0 {
-        return number;
-    }
-    let from = bay as usize * STRETCH_LENGTH;
-    let end = from + STRETCH_LENGTH;
-    box_bays::restore(&mut memory[from..end], name)
+    moved(memory, bay, Moving::Restore(name))
 }
 
 pub fn forget(memory: &mut [u8], bay: u32, name: u32) -> u8
     ensures { λ r. ⌜ called r (now (memory .exit)) [] ≡ callOf (now (memory .entry)) bay (forget name) ⌝ }
 {
-    let number = entry(memory, bay, false);
-    if number != 0 {
-        return number;
-    }
-    let from = bay as usize * STRETCH_LENGTH;
-    let end = from + STRETCH_LENGTH;
-    box_bays::forget(&mut memory[from..end], name)
+    moved(memory, bay, Moving::Forget(name))
 }
 
 pub fn service(memory: &[u8], bay: u32, trace: &[u8], view: &mut [u8]) -> u8
     ensures { λ r. ⌜ called r (now (memory .entry)) (now (view .exit) ∷ [])
         ≡ callOf (now (memory .entry)) bay (service (now (trace .entry)) (now (view .entry))) ⌝ }
 {
-    let number = entry(memory, bay, false);
+    let number = box_entry::entry(memory, bay, false);
     if number != 0 {
         return number;
     }
@@ -162,7 +113,7 @@ pub fn panel(memory: &[u8], bay: u32, trace: &[u8], view: &mut [u8]) -> u8
     ensures { λ r. ⌜ called r (now (memory .entry)) (now (view .exit) ∷ [])
         ≡ callOf (now (memory .entry)) bay (panel (now (trace .entry)) (now (view .entry))) ⌝ }
 {
-    let number = entry(memory, bay, false);
+    let number = box_entry::entry(memory, bay, false);
     if number != 0 {
         return number;
     }
@@ -174,7 +125,7 @@ pub fn preview(memory: &[u8], bay: u32, input: u32, unknown: u32, buffer: &mut [
     ensures { λ r. ⌜ called r (now (memory .entry)) (now (buffer .exit) ∷ [])
         ≡ callOf (now (memory .entry)) bay (preview input unknown (now (buffer .entry))) ⌝ }
 {
-    let number = entry(memory, bay, false);
+    let number = box_entry::entry(memory, bay, false);
     if number != 0 {
         return number;
     }
@@ -192,7 +143,7 @@ pub fn read_ledger(memory: &[u8], bay: u32, totals: &mut [u8]) -> u8
     ensures { λ r. ⌜ called r (now (memory .entry)) (now (totals .exit) ∷ [])
         ≡ callOf (now (memory .entry)) bay (ledger (now (totals .entry))) ⌝ }
 {
-    let number = reach(memory, bay);
+    let number = box_entry::reach(memory, bay);
     if number != 0 {
         return number;
     }
@@ -203,7 +154,7 @@ pub fn read_ledger(memory: &[u8], bay: u32, totals: &mut [u8]) -> u8
 pub fn new_year(memory: &mut [u8], bay: u32) -> u8
     ensures { λ r. ⌜ called r (now (memory .exit)) [] ≡ callOf (now (memory .entry)) bay newYear ⌝ }
 {
-    let number = reach(memory, bay);
+    let number = box_entry::reach(memory, bay);
     if number != 0 {
         return number;
     }

@@ -1,12 +1,23 @@
 -- Records, panels and numbers worked by hand.
 use mathlib.Core.Path.{_≡_, refl}
-use mathlib.Core.List.{[], _∷_}
+use mathlib.Core.List.{[], _∷_, map}
+use Rattle.esterel.specs.Sets.{none, only, member, join, insert, remove}
+use Rattle.esterel.specs.Reaction.{reactBy}
+use Rattle.esterel.specs.Errors.{errorsBy}
+use Rattle.esterel.specs.Reactions.{reactionsBy}
+use Rattle.esterel.specs.LabelTests.{subset, disjoint, labelsOf, everyLabel, distinct, before, wellFormed}
+use Rattle.esterel.specs.ReadBack.{membersFrom, declaredBy}
+use Rattle.esterel.specs.Sizes.{signalNesting}
+use Rattle.sequence.specs.Commands.{commandOf}
+use Rattle.sequence.specs.Reader.{front, read}
+use Rattle.sequence.specs.Check.{checked}
 use Rattle.numbers.specs.Bytes.{leBytes, leNumber}
 use Rattle.sets.specs.Sets.{difference}
-use Rattle.states.specs.StateRecord.{stateRecord}
-use Rattle.answers.specs.AnswerRecord.{answerRecord}
-use Rattle.recordings.specs.Record.{recordOf, panelOf}
-use Rattle.recordings.specs.Recording.{following}
+use Rattle.states.specs.StateRecord.{stateRecord, encodeState, decodeState}
+use Rattle.answers.specs.AnswerRecord.{answerRecord, encodeAnswer}
+use Rattle.tick.specs.Tick.{tickBy}
+use Rattle.recordings.specs.Record.{recordOf, numberIn, panelOf}
+use Rattle.recordings.specs.Recording.{following, recordsFrom, recordingOf}
 
 -- instant 258 on inputs 0 and 2, which waits at label 1 and emits 1 and 3; signals 2 and 3 are service-only
 shown : panelOf 0x0C (recordOf 258 0x05 (answerRecord 1 0 0 0x0A 4) (stateRecord 1 2))
@@ -21,3 +32,8 @@ counts-on = refl
 stays : following 4294967295 ≡ 4294967295
 unfolding following
 stays = refl
+
+-- the recording of a machine that ends at once
+begins : map numberIn (recordingOf (0x00 ∷ []) 0 (0 ∷ [])) ≡ 1 ∷ []
+unfolding recordsFrom following tickBy checked read front commandOf distinct wellFormed before everyLabel labelsOf subset disjoint membersFrom declaredBy signalNesting encodeState decodeState encodeAnswer reactBy errorsBy reactionsBy none only member join insert remove leBytes leNumber
+begins = refl

@@ -20,7 +20,7 @@ use Rattle.tick.specs.Paper.{Report, paper}
 use Rattle.demands.proofs.Theorems.{demand-3}
 use Rattle.recordings.specs.Record.{inputIn}
 use Rattle.recordings.specs.Recording.{following, tickOn, recordFrom, recordsFrom, recordingOf, callOn}
-use Rattle.recordings.proofs.Records.{answer-field, state-field}
+use Rattle.recordings_writer.proofs.Records.{answer-field, state-field}
 use Rattle.replays.specs.Replay.{recordsIn, inputsIn}
 use Rattle.replays.specs.Claims.{reportIn}
 use Rattle.replays.proofs.Recordings.{Sized, tick-sized}

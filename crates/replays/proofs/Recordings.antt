@@ -23,7 +23,7 @@ use Rattle.demands.specs.Demands.{number, stateAfterwards, answerAfterwards, cl
 use Rattle.demands.proofs.Theorems.{demand-1}
 use Rattle.recordings.specs.Record.{recordLength, inputIn, stateIn}
 use Rattle.recordings.specs.Recording.{following, blank, tickOn, recordFrom, recordsFrom, recordingOf, joined, Inputs}
-use Rattle.recordings.proofs.Records.{record-sized, input-field, state-field}
+use Rattle.recordings_writer.proofs.Records.{record-sized, input-field, state-field}
 use Rattle.replays.specs.Replay.{firstRecords, recordsIn, inputsIn, placeOf}
 use Rattle.replays.proofs.Differences.{none-differs, alike}
 

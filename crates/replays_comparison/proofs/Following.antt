@@ -39,7 +39,7 @@ use Rattle.instants.specs.declared.Reply.the-variants.{Refused, Reacted}
 use Rattle.instants.specs.Replies.{Decodes, repliedFrom, Replies}
 use Rattle.instants.proofs.Replying.{replied-from, malformed-reply, over-reply, fresh-reply, waiting-reply}
 use Rattle.recordings.specs.Record.{recordLength, inputIn, recordOf}
-use Rattle.recordings.proofs.Records.{record-sized}
+use Rattle.recordings_writer.proofs.Records.{record-sized}
 use Rattle.recordings.specs.Recording.{blank, tickOn, recordFrom}
 use Rattle.replays.specs.Replay.{same}
 use Rattle.replays.proofs.Recordings.{Sized}

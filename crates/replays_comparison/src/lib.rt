@@ -67,7 +67,7 @@ fn compare(notes: &Notes, number: u32, input: u32, trace: &[u8], r: Reaction) ->
     let mut answer = [0u8; ANSWER_LENGTH];
     let mut made = [0u8; RECORD_LENGTH];
     writing::finish(&mut state, &mut answer, r);
-    recordings::write_record(&mut made, number, input, &answer, &state);
+    recordings_writer::write_record(&mut made, number, input, &answer, &state);
     if same(trace, &made) {
         Next::Stands(after(r, notes))
     } else {
@@ -89,7 +89,7 @@ fn follow(
     ensures { λ x. ⌜ Follows (now (sequence .entry)) «read_back» (now (second .entry)) (now (notes .entry))
         number (now (trace .entry)) standing x ⌝ }
 {
-    let input = recordings::input(trace);
+    let input = recordings_writer::input(trace);
     match standing {
         Standing::Fresh => compare(
             notes,
@@ -147,7 +147,7 @@ fn first_difference(
             return place;
         };
         standing = there;
-        number = recordings::following(number);
+        number = recordings_writer::following(number);
         place += 1;
         at += RECORD_LENGTH;
         left -= 1;

@@ -1,7 +1,7 @@
 use mathlib.Core.Path.{refl}
 use Rattle.box_calls.specs.Box.{ledger}
-use Rattle.boxes.specs.Entries.{either}
-use Rattle.boxes.proofs.Entering.{turned-down, read-call}
+use Rattle.box_entry.specs.Entries.{either}
+use Rattle.boxes.proofs.Calling.{turned-down, read-call}
 use borrow.Author.Needs.{needs}
 use Rattle.boxes.proofs.read_ledger.Statement.{statement}
 use Rattle.boxes.proofs.read_ledger.Tie as tie

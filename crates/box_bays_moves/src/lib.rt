@@ -1,0 +1,26 @@
+// The calls that lend nothing but the bay and want it filled, on its stretch, by a value that names one.
+ghost use mathlib.Core.Path.{_≡_};
+ghost use mathlib.Core.List.{[]};
+ghost use lib.ListN.{length};
+ghost use Rattle.box_stretches.specs.Called.{called};
+ghost use Rattle.box_stretches.specs.Stretch.{stretchLength};
+ghost use Rattle.box_bays_moves.specs.Moves.{bayMovedOf};
+
+pub enum Moving {
+    Release,
+    Save(u32),
+    Restore(u32),
+    Forget(u32),
+}
+
+pub fn moved(stretch: &mut [u8], call: Moving) -> u8
+    requires { ⌜ length (now stretch) ≡ stretchLength ⌝ }
+    ensures { λ r. ⌜ called r (now (stretch .exit)) [] ≡ bayMovedOf call (now (stretch .entry)) ⌝ }
+{
+    match call {
+        Moving::Release => box_bays_admission::release(stretch),
+        Moving::Save(name) => box_bays_positions::save(stretch, name),
+        Moving::Restore(name) => box_bays_positions::restore(stretch, name),
+        Moving::Forget(name) => box_bays_positions::forget(stretch, name),
+    }
+}

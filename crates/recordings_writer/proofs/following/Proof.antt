@@ -1,0 +1,20 @@
+use borrow.Author.Needs.{needs}
+use borrow.Author.Tests.{lt-ltb, le-ltb}
+use Rattle.limits.specs.Limits.{lastNumber}
+use Rattle.recordings.specs.Recording.{following}
+use Rattle.recordings_writer.proofs.following.Statement.{statement}
+use Rattle.recordings_writer.proofs.following.Tie as tie
+
+add-result : tie.Need-add-result
+add-result c = search needs
+
+returns : tie.Need-returns
+unfolding following
+returns c = rw (lt-ltb _ lastNumber (c .if1 .taken))
+
+returns-2 : tie.Need-returns-2
+unfolding following
+returns-2 c = rw (le-ltb _ lastNumber (c .if1 .left))
+
+pub following-spec : {M : Type 1} → statement M
+following-spec = tie.close (tie.spec add-result returns returns-2)
