@@ -1,4 +1,4 @@
--- One law for each return of the code of release and admission, over plain lists.
+-- One law for each return of the code of admission, over plain lists.
 use Prim.Native.Nat.{ℕ, _+_, _≤_, _<_}
 use native.Mathlib.Omega.{arith}
 use native.Mathlib.Decide.{decLt}
@@ -17,8 +17,8 @@ use Rattle.ceilings.specs.declared.Plan.{Plan}
 use Rattle.ceilings.specs.declared.Plan.the-variants.{Refused, Takes}
 use Rattle.ceilings.specs.Plans.{planOf}
 use Rattle.box_stretches.specs.Called.{Called, called}
-use Rattle.box_stretches.specs.Stretch.{vacated, Terms, filled}
-use Rattle.box_stretches.specs.BayCalls.{sharedCeiling, byCheck, bayReleaseOf, bayAdmitOf}
+use Rattle.box_stretches.specs.Stretch.{Terms, filled}
+use Rattle.box_stretches.specs.BayCalls.{sharedCeiling, byCheck, bayAdmitOf}
 
 -- the bytes of a sequence that passes the check
 pub bounds : (sequence : List ℕ) (readBack : ℕ) → numberOf (checked sequence readBack) ≡ 0 → length sequence ≤ maxBytes
@@ -33,10 +33,6 @@ within sequence readBack c h = bounds sequence readBack (go (checked sequence re
     go : (k : Checked) → Takes c ≡ planOf readBack k → numberOf k ≡ 0
     go (bad k) e = absurd (let z : _≡_ {A = ℕ} 0 1 = cc in omega arith)
     go (sound p) e = refl
-
-pub released : (s : List ℕ) {v : List ℕ} → v ≡ vacated s → called 0 v [] ≡ bayReleaseOf s
-unfolding bayReleaseOf
-released s e = ap (λ (r : List ℕ). called 0 r []) e
 
 module _ (present : ℕ) (s : List ℕ) (t : Terms) where
   abbrev Plans : Plan → Type 0

@@ -18,7 +18,7 @@ pub fn moved(stretch: &mut [u8], call: Moving) -> u8
     ensures { λ r. ⌜ called r (now (stretch .exit)) [] ≡ bayMovedOf call (now (stretch .entry)) ⌝ }
 {
     match call {
-        Moving::Release => box_bays_admission::release(stretch),
+        Moving::Release => box_bays_filling::release(stretch),
         Moving::Save(name) => box_bays_positions::save(stretch, name),
         Moving::Restore(name) => box_bays_positions::restore(stretch, name),
         Moving::Forget(name) => box_bays_positions::forget(stretch, name),

@@ -1,80 +1,16 @@
 // The core of a bay's tick (02, item 12): the instant by value, and the litres of each farm in it. The check and the table of second
-// parts are made once. The walk of the instant asks for the lowest farm that the sequence names; each other farm that is named and
-// emitted takes one walk more.
+// parts are made once.
 ghost use mathlib.Core.Path.{_≡_};
-ghost use lib.ListN.{length, replicate, set};
-ghost use Rattle.limits.specs.Limits.{maxDepth};
-ghost use Rattle.layout.specs.Layout.{Ready};
+ghost use lib.ListN.{replicate};
 ghost use Rattle.instants.specs.Replies.{Replies};
 ghost use Rattle.box_ledgers.specs.Ledgers.{farmCount};
-ghost use Rattle.box_deliveries.specs.Delivering.{Gathers, Instant, Delivers};
+ghost use Rattle.box_deliveries.specs.Delivering.{Delivers};
 use box_ledgers::Deliveries;
 use instants::Reply;
 use instants::Standing;
 use layout::SecondParts;
 use notes::Notes;
 use program::Start;
-use reaction::Reaction;
-
-// The litres of a farm, if it is one.
-fn enter(litres: &mut Deliveries, farm: u8, more: u32)
-    requires { ⌜ length (now litres) ≡ farmCount ⌝ }
-    ensures { λ _. ⌜ now (litres .exit) ≡ set (now (litres .entry)) farm more ⌝ }
-{
-    if farm < limits::SIGNALS {
-        litres[farm as usize] = more;
-    }
-}
-
-// The litres of the farms of a set, each by a walk that asks for it.
-fn gather(
-    s: &[u8],
-    origin: Start,
-    input: u32,
-    read_back: u32,
-    farms: u32,
-    second: &SecondParts,
-    litres: &mut Deliveries,
-)
-    requires { ⌜ Ready (now second) maxDepth 0 (now s) ⌝ }
-    requires { ⌜ length (now litres) ≡ farmCount ⌝ }
-    ensures { λ _. ⌜ Gathers (now (second .entry)) (now (s .entry)) origin input «read_back» farms
-        (now (litres .entry)) (now (litres .exit)) ⌝ }
-{
-    let mut left = farms;
-    while !signals::is_empty(left) {
-        let farm = signals::lowest(left);
-        let r = program::react(s, origin, input, read_back, farm, second);
-        enter(litres, farm, r.delivered);
-        left = signals::without(left, farm);
-    }
-}
-
-// An instant with the litres of the farms of a set; a wrong one delivers nothing.
-fn instant(
-    s: &[u8],
-    origin: Start,
-    input: u32,
-    read_back: u32,
-    farms: u32,
-    second: &SecondParts,
-    litres: &mut Deliveries,
-) -> Reaction
-    requires { ⌜ Ready (now second) maxDepth 0 (now s) ⌝ }
-    requires { ⌜ now litres ≡ replicate farmCount 0 ⌝ }
-    ensures { λ r. ⌜ Instant (now (second .entry)) (now (s .entry)) origin input «read_back» farms r (now (litres .exit)) ⌝ }
-{
-    let first = signals::lowest(farms);
-    let r = program::react(s, origin, input, read_back, first, second);
-    let k = r.completion;
-    if completions::is_wrong(k) {
-        return r;
-    }
-    enter(litres, first, r.delivered);
-    let asked = signals::without(signals::common(r.emitted, farms), first);
-    gather(s, origin, input, read_back, asked, second, litres);
-    r
-}
 
 // What a call comes to before anything is written, the farms that its sequence names, and the litres of each farm, up to one more than
 // the limit. A call that is turned down by its check leaves `farms` as it was.
@@ -102,7 +38,7 @@ pub fn reply_with(
     match instants::decode(sequence, &second, &notes, state) {
         Standing::Malformed => Reply::Refused(11),
         Standing::Over => Reply::Refused(12),
-        Standing::Fresh => Reply::Reacted(instant(
+        Standing::Fresh => Reply::Reacted(box_deliveries_walks::instant(
             sequence,
             Start::Fresh,
             input,
@@ -111,7 +47,7 @@ pub fn reply_with(
             &second,
             litres,
         )),
-        Standing::Waiting(active) => Reply::Reacted(instant(
+        Standing::Waiting(active) => Reply::Reacted(box_deliveries_walks::instant(
             sequence,
             Start::Waiting(active),
             input,

@@ -1,8 +1,7 @@
 -- Totals worked by hand, where single precision rounds.
-use Prim.Native.Nat.{ℕ}
 use mathlib.Core.Path.{_≡_, refl}
 use mathlib.Core.Bool.{true, false}
-use mathlib.Core.List.{List, _++_}
+use mathlib.Core.List.{_++_}
 use lib.Ieee.{binary32, ofBits, toBits, ofInt, add, whole, inUnsigned, toUnsigned}
 use Rattle.numbers.specs.Bytes.{leBytes, leNumber}
 use Rattle.litres.specs.Litres.{ordered}

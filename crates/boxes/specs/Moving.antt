@@ -1,5 +1,4 @@
 -- The call on a box that a value of the code names.
-use Prim.Native.Nat.{ℕ}
 use Rattle.box_calls.specs.Box.{Call, release, save, restore, forget}
 use Rattle.box_bays_moves.specs.declared.Moving.{Moving}
 use Rattle.box_bays_moves.specs.declared.Moving.the-variants.{Release, Save, Restore, Forget}

@@ -1,4 +1,1 @@
-pub mod Bytes
-pub mod Standing
-pub mod Following
 pub mod Walking

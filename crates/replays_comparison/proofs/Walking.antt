@@ -20,8 +20,8 @@ use Rattle.recordings.specs.Recording.{following, tickOn, recordFrom, recordsFr
 use Rattle.replays.specs.Replay.{firstRecords, same, firstDifference, placeOf}
 use Rattle.instants.specs.declared.Standing.{Standing}
 use Rattle.instants.specs.declared.Standing.the-variants as stands
-use Rattle.replays_comparison.specs.declared.Next.the-variants.{Differs, Stands}
-use Rattle.replays_comparison.specs.Following.{isRecord, Holds, FollowsFrom, placeFrom}
+use Rattle.replays_records.specs.declared.Next.the-variants.{Differs, Stands}
+use Rattle.replays_following.specs.Following.{isRecord, Holds, FollowsFrom, placeFrom}
 
 module _ (sequence : List ℕ) (readBack : ℕ) where
   pub begin : (recording : List ℕ)

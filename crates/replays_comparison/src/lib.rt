@@ -1,128 +1,13 @@
 // A recording compared with what its sequence gives (02, item 14). The sequence is checked once; then each record costs an instant and 37
 // compared bytes. Nothing of the recording is believed but its inputs: the machine goes on from its own states, which need no row 11.
 ghost use mathlib.Core.Path.{_≡_};
-ghost use Rattle.labels.specs.Labels.{labelSet};
 ghost use Rattle.checks.specs.Verdict.{Passed};
-ghost use Rattle.writing.specs.Written.{Writable};
 ghost use Rattle.replays.specs.Replay.{placeOf, replayed, replayOf};
-ghost use Rattle.replays.specs.Replay.{same as Replay·same};
-ghost use Rattle.replays_comparison.specs.Following.{RankedAfter, StandsAfter, Compared, Stood, Follows};
-use answers::ANSWER_LENGTH;
-use completions::Completion;
 use instants::Standing;
 use layout::SecondParts;
 use notes::Notes;
-use program::Start;
-use reaction::Reaction;
 use recordings::RECORD_LENGTH;
-use states::STATE_LENGTH;
-
-// Whether the bytes are the same.
-fn same(a: &[u8], b: &[u8]) -> bool
-    ensures { λ r. ⌜ r ≡ Replay·same (now (a .entry)) (now (b .entry)) ⌝ }
-{
-    let n = a.len();
-    if b.len() != n {
-        return false;
-    }
-    let mut i: usize = 0;
-    while i < n {
-        if a[i] != b[i] {
-            return false;
-        }
-        i += 1;
-    }
-    true
-}
-
-// Where the machine stands after an instant.
-fn after(r: Reaction, notes: &Notes) -> Standing
-    requires { ⌜ RankedAfter (now notes) (r .completion) (labelSet (r .labels)) ⌝ }
-    ensures { λ s. ⌜ StandsAfter (now (notes .entry)) (r .completion) (labelSet (r .labels)) s ⌝ }
-{
-    let k = r.completion;
-    match k {
-        Completion::Ended => Standing::Over,
-        Completion::Waiting => {
-            let labels = r.labels;
-            Standing::Waiting(validity::ranks(labels, notes))
-        }
-        Completion::Leaving(_) => Standing::Over,
-        Completion::Wrong(_, _) => Standing::Over,
-    }
-}
-
-// What a record comes to: it differs, or it is the instant's, and the machine stands where the instant has left it.
-enum Next {
-    Differs,
-    Stands(Standing),
-}
-
-// A record against the one that an instant leaves.
-fn compare(notes: &Notes, number: u32, input: u32, trace: &[u8], r: Reaction) -> Next
-    requires { ⌜ Writable r × RankedAfter (now notes) (r .completion) (labelSet (r .labels)) ⌝ }
-    ensures { λ x. ⌜ Compared (now (notes .entry)) number input (now (trace .entry)) r x ⌝ }
-{
-    let mut state = [0u8; STATE_LENGTH];
-    let mut answer = [0u8; ANSWER_LENGTH];
-    let mut made = [0u8; RECORD_LENGTH];
-    writing::finish(&mut state, &mut answer, r);
-    recordings_writer::write_record(&mut made, number, input, &answer, &state);
-    if same(trace, &made) {
-        Next::Stands(after(r, notes))
-    } else {
-        Next::Differs
-    }
-}
-
-// An instant on the input recorded, from where the machine stands. Litres play no part.
-fn follow(
-    sequence: &[u8],
-    second: &SecondParts,
-    notes: &Notes,
-    read_back: u32,
-    number: u32,
-    trace: &[u8],
-    standing: Standing,
-) -> Next
-    requires { ⌜ Stood (now sequence) «read_back» (now second) (now notes) standing ⌝ }
-    ensures { λ x. ⌜ Follows (now (sequence .entry)) «read_back» (now (second .entry)) (now (notes .entry))
-        number (now (trace .entry)) standing x ⌝ }
-{
-    let input = recordings_writer::input(trace);
-    match standing {
-        Standing::Fresh => compare(
-            notes,
-            number,
-            input,
-            trace,
-            program::react(
-                sequence,
-                Start::Fresh,
-                input,
-                read_back,
-                limits::NO_FARM,
-                second,
-            ),
-        ),
-        Standing::Waiting(active) => compare(
-            notes,
-            number,
-            input,
-            trace,
-            program::react(
-                sequence,
-                Start::Waiting(active),
-                input,
-                read_back,
-                limits::NO_FARM,
-                second,
-            ),
-        ),
-        Standing::Over => Next::Differs,
-        Standing::Malformed => Next::Differs,
-    }
-}
+use replays_records::Next;
 
 // The place of the first record that differs, or 0.
 fn first_difference(
@@ -142,7 +27,15 @@ fn first_difference(
     let mut left = recording.len() / RECORD_LENGTH;
     while 0 < left {
         let trace = numbers::part(recording, at, RECORD_LENGTH);
-        let next = follow(sequence, second, notes, read_back, number, trace, standing);
+        let next = replays_following::follow(
+            sequence,
+            second,
+            notes,
+            read_back,
+            number,
+            trace,
+            standing,
+        );
         let Next::Stands(there) = next else {
             return place;
         };

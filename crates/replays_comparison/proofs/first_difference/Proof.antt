@@ -8,7 +8,7 @@ use Rattle.checks.specs.Verdict.{Passed}
 use Rattle.states.specs.StateRecord.{encodeState}
 use Rattle.recordings.specs.Record.{recordLength}
 use Rattle.replays.specs.Replay.{placeOf}
-use Rattle.replays_comparison.specs.Following.{Holds, FollowsFrom, placeFrom}
+use Rattle.replays_following.specs.Following.{Holds, FollowsFrom, placeFrom}
 use Rattle.replays_comparison.proofs.Walking.{begin, begins, finished, stopped, turned}
 use Rattle.replays_comparison.proofs.first_difference.Statement.{statement}
 use Rattle.replays_comparison.proofs.first_difference.Tie as tie
