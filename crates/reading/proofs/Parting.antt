@@ -1,8 +1,10 @@
--- Commands with parts, by their bytes.
+-- Commands with parts, by their bytes and by what the table says of them.
 use Prim.Native.Nat.{_≤_, _<_}
-use mathlib.Core.Path.{_≡_, refl}
+use mathlib.Core.Path.{_≡_, refl, sym}
+use mathlib.Core.Bool.{true, false, _&&_, false≢true}
 use native.Mathlib.Omega.{arith}
-use Rattle.sequence.specs.Commands.{Command, partCount, headLength}
+use lib.Dec.{eqb}
+use Rattle.sequence.specs.Commands.{Command, operandCount, partCount, headLength, declares}
 use Rattle.sequence.proofs.Table.{byteOf}
 
 module _ (P : Command → Type 0) where
@@ -29,8 +31,27 @@ two-bare =
     (λ l. absurd (omega arith)) (λ l. absurd (omega arith)) (λ l. absurd (omega arith)) (λ l. absurd (omega arith))
     (λ l. (refl, refl)) (λ l. (refl, refl)) (λ l. absurd (omega arith))
 
+-- 07: two parts behind an operand
+pub choice : (c : Command) → (partCount c ≡ 0 → ⊥) → (eqb (partCount c) 2 && eqb (operandCount c) 1) ≡ true → (partCount c ≡ 2) × (2 ≡ headLength c)
+choice =
+    with-parts (λ (c : Command). (eqb (partCount c) 2 && eqb (operandCount c) 1) ≡ true → (partCount c ≡ 2) × (2 ≡ headLength c))
+    (λ e. absurd (false≢true e)) (λ e. absurd (false≢true e)) (λ e. absurd (false≢true e)) (λ e. absurd (false≢true e))
+    (λ e. absurd (false≢true e)) (λ e. absurd (false≢true e)) (λ e. (refl, refl))
+
 -- 06 and above, but for 07
-pub one-part : (c : Command) → (partCount c ≡ 0 → ⊥) → 6 ≤ byteOf c → (byteOf c ≡ 7 → ⊥) → partCount c ≡ 1
+pub one-part : (c : Command) → (partCount c ≡ 0 → ⊥) → 6 ≤ byteOf c → (eqb (partCount c) 2 && eqb (operandCount c) 1) ≡ false → partCount c ≡ 1
 one-part =
-    with-parts (λ (c : Command). 6 ≤ byteOf c → (byteOf c ≡ 7 → ⊥) → partCount c ≡ 1)
-    (λ l n. refl) (λ l n. refl) (λ l n. refl) (λ l n. refl) (λ l n. absurd (omega arith)) (λ l n. absurd (omega arith)) (λ l n. absurd (n refl))
+    with-parts (λ (c : Command). 6 ≤ byteOf c → (eqb (partCount c) 2 && eqb (operandCount c) 1) ≡ false → partCount c ≡ 1)
+    (λ l e. refl) (λ l e. refl) (λ l e. refl) (λ l e. refl) (λ l e. absurd (omega arith)) (λ l e. absurd (omega arith)) (λ l e. absurd (false≢true (sym e)))
+
+-- 08: a declaration
+pub declaration : (c : Command) → (partCount c ≡ 0 → ⊥) → eqb (declares c) 1 ≡ true → (partCount c ≡ 1) × (2 ≡ headLength c) × (declares c ≡ 1)
+declaration =
+    with-parts (λ (c : Command). eqb (declares c) 1 ≡ true → (partCount c ≡ 1) × (2 ≡ headLength c) × (declares c ≡ 1))
+    (λ e. absurd (false≢true e)) (λ e. (refl, refl, refl)) (λ e. absurd (false≢true e)) (λ e. absurd (false≢true e))
+    (λ e. absurd (false≢true e)) (λ e. absurd (false≢true e)) (λ e. absurd (false≢true e))
+
+pub plain : (c : Command) → (partCount c ≡ 0 → ⊥) → eqb (declares c) 1 ≡ false → declares c ≡ 0
+plain =
+    with-parts (λ (c : Command). eqb (declares c) 1 ≡ false → declares c ≡ 0)
+    (λ e. refl) (λ e. absurd (false≢true (sym e))) (λ e. refl) (λ e. refl) (λ e. refl) (λ e. refl) (λ e. refl)

@@ -7,28 +7,24 @@ ghost use lib.ListN.{length};
 ghost use Rattle.limits.specs.Limits.{maxBytes};
 ghost use Rattle.sequence.specs.Commands.{Command, partCount, headLength};
 ghost use Rattle.sequence.specs.Reader.{read};
-ghost use Rattle.layout.specs.Layout.{entry};
 ghost use Rattle.layout.specs.Notes.{noNotes};
 ghost use Rattle.layout.specs.Walk.{pairRead, Readable, Done};
 ghost use Rattle.reading.specs.Reading.{Reads};
-use crate::leaves::ahead;
-use crate::leaves::leaf;
 use layout::SecondParts;
 use notes::Notes;
+use reading_leaves::ahead;
+use reading_leaves::leaf;
+use reading_steps::CROWDED;
+use reading_steps::declare;
+use reading_steps::declares;
+use reading_steps::head;
+use reading_steps::is_choice;
+use reading_steps::mark;
 
 // A statement: the count of its bytes and how many more signals may stand around it, or the row that turns it down.
 pub enum Reading {
     Accepted(usize, u8),
     Refused(u8),
-}
-
-// The entry of a second part at offset m with n pauses before it.
-fn entry(m: usize, n: u64) -> u32
-    requires { ⌜ m ≤ maxBytes ⌝ }
-    requires { ⌜ n ≤ maxBytes ⌝ }
-    ensures { λ r. ⌜ r ≡ entry m n ⌝ }
-{
-    (m as u32) + layout::BEFORE_UNIT * (n as u32)
 }
 
 // The first of two parts, at the front of s: one without parts of its own takes no walk.
@@ -44,7 +40,7 @@ fn first(
     ensures { λ r. ⌜ Done signals at (now (second .entry)) (now (second .exit)) (now (notes .entry)) (now (notes .exit))
         (read depth signals at (now (s .entry))) r ⌝ }
 {
-    let m = ahead(&s[0..], at, depth, notes);
+    let m = ahead(s, at, depth, notes);
     if m != 0 {
         return m;
     }
@@ -71,7 +67,7 @@ fn two(
     if layout::ROW_UNIT <= m {
         return m;
     }
-    second[at] = entry(m, notes::count(notes));
+    mark(at, m, notes, second);
     let n = m - at - w;
     read(&s[n..], m, depth, signals, second, notes)
 }
@@ -95,27 +91,23 @@ fn read(
     }
     let b = s[0];
     if reading_heads::is_leaf(b) {
-        return leaf(&s[0..], at, b, depth, notes);
+        return leaf(s, at, b, depth, notes);
     }
-    let w = reading_heads::width(&s[0..], b);
+    let w = head(s, b, depth);
     if layout::ROW_UNIT <= w {
         return w;
-    }
-    if depth == 0 {
-        return 6 * layout::ROW_UNIT;
     }
     if b < 6 {
         return two(&s[1..], at, 1, depth - 1, signals, second, notes);
     }
-    if b == limits::PRESENT {
+    if is_choice(b) {
         return two(&s[2..], at, 2, depth - 1, signals, second, notes);
     }
-    if b == limits::SIGNAL {
-        if signals == 0 {
+    if declares(b) {
+        let left = declare(signals, notes);
+        if left == CROWDED {
             return 6 * layout::ROW_UNIT;
         }
-        let left = signals - 1;
-        notes::signal(left, notes);
         return read(&s[2..], at + 2, depth - 1, left, second, notes);
     }
     read(&s[w..], at + w, depth - 1, signals, second, notes)

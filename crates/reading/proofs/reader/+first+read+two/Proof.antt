@@ -6,15 +6,15 @@ use native.Mathlib.Omega.{arith}
 use borrow.Author.Needs.{needs}
 use borrow.Fn.Kinds.{In}
 use borrow.Fn.PlainCycle.{Measures, is, falls, and}
-use Rattle.sequence.specs.Commands.{Command, partCount, headLength, declares}
-use Rattle.sequence.specs.Reader.{front, read as reads}
+use Rattle.sequence.specs.Commands.{partCount, headLength, declares}
+use Rattle.sequence.specs.Reader.{read as reads}
 use Rattle.layout.specs.Layout.{rest, entry}
-use Rattle.layout.specs.Walk.{headOf, Readable, Done}
-use Rattle.sequence.proofs.Table.{byteOf, byte-is, command-at, undeclared}
+use Rattle.layout.specs.Walk.{Readable, Done}
+use Rattle.sequence.proofs.Table.{byteOf, byte-is}
 use Rattle.commands.proofs.Counts.{with-parts}
 use Rattle.layout.proofs.Parts.{rest-is}
-use Rattle.layout.proofs.Walk.{Heading, heading, narrow, byte, head-fits, onward, forward, within, again, fitting, done-empty, done-bad, done-deep, done-signals, done-one, done-signal, done-pair, Firsts, firsts, first-refused, both}
-use Rattle.reading.proofs.Parting.{two-bare, one-part}
+use Rattle.layout.proofs.Walk.{Heading, heading, narrow, byte, head-fits, onward, forward, within, again, fitting, done-empty, done-signals, done-one, done-signal, done-pair, Firsts, firsts, first-refused, both}
+use Rattle.reading.proofs.Parting.{two-bare, choice, one-part, declaration, plain}
 use Rattle.reading.proofs.reader.first.Reads as first
 use Rattle.reading.proofs.reader.first.Kinds as first-kinds
 use Rattle.reading.proofs.reader.+first+read+two.Lts-first as first-lts
@@ -25,12 +25,13 @@ use Rattle.reading.proofs.reader.two.Reads as two
 use Rattle.reading.proofs.reader.two.Kinds as two-kinds
 use Rattle.reading.proofs.reader.+first+read+two.Lts-two as two-lts
 use Rattle.reading_heads.proofs.is_leaf.Reads as is-leaf-reads
-use Rattle.reading_heads.proofs.width.Reads as width-reads
-use Rattle.notes.proofs.count.Reads as count-reads
-use Rattle.notes.proofs.signal.Reads as signal-reads
-use Rattle.reading.proofs.leaves.ahead.Reads as ahead-reads
-use Rattle.reading.proofs.leaves.leaf.Reads as leaf-reads
-use Rattle.reading.proofs.reader.entry.Reads as entry-reads
+use Rattle.reading_leaves.proofs.ahead.Reads as ahead-reads
+use Rattle.reading_leaves.proofs.leaf.Reads as leaf-reads
+use Rattle.reading_steps.proofs.declare.Reads as declare-reads
+use Rattle.reading_steps.proofs.declares.Reads as declares-reads
+use Rattle.reading_steps.proofs.head.Reads as head-reads
+use Rattle.reading_steps.proofs.is_choice.Reads as is-choice-reads
+use Rattle.reading_steps.proofs.mark.Reads as mark-reads
 use Rattle.reading.proofs.reader.+first+read+two.{statement}
 use Rattle.reading.proofs.reader.+first+read+two.Tie.{close}
 
@@ -71,12 +72,16 @@ read-claims t = (
   is-leaf-reads.Learnt,
   leaf-reads.Asked,
   leaf-reads.Learnt,
-  width-reads.Asked,
-  width-reads.Learnt,
+  head-reads.Asked,
+  head-reads.Learnt,
   two-below t,
   two.Post,
-  signal-reads.Asked,
-  signal-reads.Learnt,
+  is-choice-reads.Asked,
+  is-choice-reads.Learnt,
+  declares-reads.Asked,
+  declares-reads.Learnt,
+  declare-reads.Asked,
+  declare-reads.Learnt,
   read-below t,
   read.Post,
 )
@@ -85,32 +90,17 @@ abbrev two-claims : ℕ → two-lts.Claims
 two-claims t = (
   first-below t,
   first.Post,
-  count-reads.Asked,
-  count-reads.Learnt,
-  entry-reads.Asked,
-  entry-reads.Learnt,
+  mark-reads.Asked,
+  mark-reads.Learnt,
   read-below t,
   read.Post,
 )
 
-first-sub-ahead : (t : ℕ) → first-lts.Need-sub-ahead (first-claims t) (first-at t) first.Post
-first-sub-ahead t c = search needs
-
-first-part-ahead-start : (t : ℕ) → first-lts.Need-part-ahead-start (first-claims t) (first-at t) first.Post
-first-part-ahead-start t c = search needs
-
-first-part-ahead-end : (t : ℕ) → first-lts.Need-part-ahead-end (first-claims t) (first-at t) first.Post
-first-part-ahead-end t c = search needs
-
 first-ahead-requires : (t : ℕ) → first-lts.Need-ahead-requires (first-claims t) (first-at t) first.Post
-first-ahead-requires t c κs = fitting (again (c .before .before .before .pre .1))
+first-ahead-requires t c κs = fitting (c .before .before .pre .1)
 
 first-returns : (t : ℕ) → first-lts.Need-returns (first-claims t) (first-at t) first.Post
-first-returns t c =
-    let i = c .before .before .before .before .before in
-    subst (λ (l : List ℕ). Done (i .args .signals) (i .args .at) (i .args .second .now) (i .args .second .now) (i .args .notes .now) (c .before .ahead .last .1 .1 .1 .0)
-    (reads (i .args .depth) (i .args .signals) (i .args .at) l) (c .before .ahead .result))
-    (rest-is 0 (i .args .s .now)) (c .before .ahead .ensures .1 (c .if1 .taken) (i .args .signals) (i .args .second .now))
+first-returns t c = c .before .ahead .ensures .1 (c .if1 .taken) (c .before .before .before .before .args .signals) (c .before .before .before .before .args .second .now)
 
 first-sub-read : (t : ℕ) → first-lts.Need-sub-read (first-claims t) (first-at t) first.Post
 first-sub-read t c = search needs
@@ -123,7 +113,7 @@ first-part-read-end t c = search needs
 
 first-read-requires : (t : ℕ) → first-lts.Need-read-requires (first-claims t) (first-at t) first.Post
 first-read-requires t c κs =
-    let i = c .before .before .before .before .before .before .before .before in (
+    let i = c .before .before .before .before .before .before .before in (
       omega (arith, i .pre .0),
       subst (λ (m : List ℕ). Readable (i .args .signals) (i .args .at) (rest 0 (i .args .s .now)) (i .args .second .now) m)
           (sym (c .before .before .before .before .ahead .ensures .0 (c .before .before .before .if1 .left))) (again (i .pre .1)),
@@ -131,47 +121,47 @@ first-read-requires t c κs =
 
 first-returns-2 : (t : ℕ) → first-lts.Need-returns-2 (first-claims t) (first-at t) first.Post
 first-returns-2 t c =
-    let i = c .before .before .before .before .before .before .before .before .before in
+    let i = c .before .before .before .before .before .before .before .before in
     subst₂ (λ (m l : List ℕ). Done (i .args .signals) (i .args .at) (i .args .second .now) (c .read .last .1 .1 .1 .1 .0) m (c .read .last .1 .1 .1 .1 .1 .0)
     (reads (i .args .depth) (i .args .signals) (i .args .at) l) (c .read .result))
     (c .before .before .before .before .before .ahead .ensures .0 (c .before .before .before .before .if1 .left)) (rest-is 0 (i .args .s .now)) (c .read .ensures)
 
--- ---- what is known once the command is seen
-told : (t : ℕ) (c : read-lts.After-width (read-claims t) (read-at t) read.Post)
-    → c .width .result ≡ headOf (front (c .before .before .before .before .before .before .before .args .s .now))
-told t c = c .width .ensures ∙ ap (λ (l : List ℕ). headOf (front l)) (rest-is 0 (c .before .before .before .before .before .before .before .args .s .now))
+-- ---- what is known once the head of the command is read
+abbrev bytes-of : (t : ℕ) → read-lts.Else3 (read-claims t) (read-at t) read.Post → List ℕ
+bytes-of t q = q .before .before .before .before .before .before .before .args .s .now
 
-head : (t : ℕ) (c : read-lts.Else3 (read-claims t) (read-at t) read.Post)
-    → Heading (c .before .before .before .before .before .before .before .before .args .s .now) (c .before .width .result)
-head t c = heading _ _ (told t (c .before)) (c .if3 .left)
+head-of : (t : ℕ) (q : read-lts.Else3 (read-claims t) (read-at t) read.Post) → Heading (bytes-of t q) (q .before .head .result)
+head-of t q = heading _ _ (q .before .head .ensures .wide (q .if3 .left)) (q .if3 .left)
 
-abbrev bytes-of : (t : ℕ) → read-lts.Else4 (read-claims t) (read-at t) read.Post → List ℕ
-bytes-of t q = q .before .before .before .before .before .before .before .before .before .args .s .now
+level : (t : ℕ) (q : read-lts.Else3 (read-claims t) (read-at t) read.Post) → (q .before .before .before .before .before .before .before .args .depth ≡ 0 → ⊥)
+level t q = q .before .head .ensures .level (q .if3 .left)
 
-head-of : (t : ℕ) (q : read-lts.Else4 (read-claims t) (read-at t) read.Post) → Heading (bytes-of t q) (q .before .before .width .result)
-head-of t q = head t (q .before)
+parted : (t : ℕ) (q : read-lts.Else3 (read-claims t) (read-at t) read.Post) → (partCount (head-of t q .of) ≡ 0 → ⊥)
+parted t q = with-parts (head-of t q .of) (byte (head-of t q)) (sym (q .before .before .before .is-leaf .ensures) ∙ q .before .before .if2 .left)
 
-parted : (t : ℕ) (q : read-lts.Else4 (read-claims t) (read-at t) read.Post) → (partCount (head-of t q .of) ≡ 0 → ⊥)
-parted t q =
-    with-parts (head-of t q .of) (byte (head-of t q)) (sym (q .before .before .before .before .before .is-leaf .ensures) ∙ q .before .before .before .before .if2 .left)
-
-byte-at : (t : ℕ) (q : read-lts.Else4 (read-claims t) (read-at t) read.Post) → getD (bytes-of t q) 0 0 ≡ byteOf (head-of t q .of)
+byte-at : (t : ℕ) (q : read-lts.Else3 (read-claims t) (read-at t) read.Post) → getD (bytes-of t q) 0 0 ≡ byteOf (head-of t q .of)
 byte-at t q = byte-is (getD (bytes-of t q) 0 0) (head-of t q .of) (byte (head-of t q))
 
-fits-in : (t : ℕ) (q : read-lts.Else4 (read-claims t) (read-at t) read.Post) → 1 ≤ length (bytes-of t q)
+fits-in : (t : ℕ) (q : read-lts.Else3 (read-claims t) (read-at t) read.Post) → 1 ≤ length (bytes-of t q)
 fits-in t q = omega (arith, head-fits (head-of t q))
 
-present-is : (t : ℕ) (q : read-lts.Else4 (read-claims t) (read-at t) read.Post) → getD (bytes-of t q) 0 0 ≡ 7 → head-of t q .of ≡ Command.present
-present-is t q e = command-at (getD (bytes-of t q) 0 0) (head-of t q .of) Command.present (byte (head-of t q)) e
+-- the command of two bytes
+wide-fits : (t : ℕ) (q : read-lts.Else3 (read-claims t) (read-at t) read.Post) → 2 ≡ headLength (head-of t q .of) → 2 ≤ length (bytes-of t q)
+wide-fits t q e = omega (arith, e, head-of t q .wide, head-fits (head-of t q))
 
-signal-is : (t : ℕ) (q : read-lts.Else4 (read-claims t) (read-at t) read.Post) → getD (bytes-of t q) 0 0 ≡ 8 → head-of t q .of ≡ Command.signal
-signal-is t q e = command-at (getD (bytes-of t q) 0 0) (head-of t q .of) Command.signal (byte (head-of t q)) e
+chosen : (t : ℕ) (c : read-lts.Then5 (read-claims t) (read-at t) read.Post)
+    → (partCount (head-of t (c .before .before .before) .of) ≡ 2) × (2 ≡ headLength (head-of t (c .before .before .before) .of))
+chosen t c =
+    let q = c .before .before .before in
+    choice (head-of t q .of) (parted t q) (sym (c .before .is-choice .ensures (head-of t q .of) (byte (head-of t q))) ∙ c .if5 .taken)
 
-present-fits : (t : ℕ) (q : read-lts.Else4 (read-claims t) (read-at t) read.Post) → getD (bytes-of t q) 0 0 ≡ 7 → 2 ≤ length (bytes-of t q)
-present-fits t q e = let w = ap headLength (present-is t q e) in omega (arith, w, head-of t q .wide, head-fits (head-of t q))
-
-signal-fits : (t : ℕ) (q : read-lts.Else4 (read-claims t) (read-at t) read.Post) → getD (bytes-of t q) 0 0 ≡ 8 → 2 ≤ length (bytes-of t q)
-signal-fits t q e = let w = ap headLength (signal-is t q e) in omega (arith, w, head-of t q .wide, head-fits (head-of t q))
+declared : (t : ℕ) (c : read-lts.Then6 (read-claims t) (read-at t) read.Post)
+    → (partCount (head-of t (c .before .before .before .before .before) .of) ≡ 1)
+    × (2 ≡ headLength (head-of t (c .before .before .before .before .before) .of))
+    × (declares (head-of t (c .before .before .before .before .before) .of) ≡ 1)
+declared t c =
+    let q = c .before .before .before .before .before in
+    declaration (head-of t q .of) (parted t q) (sym (c .before .declares .ensures (head-of t q .of) (byte (head-of t q))) ∙ c .if6 .taken)
 
 read-mul-result : (t : ℕ) → read-lts.Need-mul-result (read-claims t) (read-at t) read.Post
 read-mul-result t c = search needs
@@ -185,52 +175,22 @@ read-shared-slice-read-b t c = search needs
 read-is-leaf-requires : (t : ℕ) → read-lts.Need-is-leaf-requires (read-claims t) (read-at t) read.Post
 read-is-leaf-requires t c κs = search needs
 
-read-sub-leaf : (t : ℕ) → read-lts.Need-sub-leaf (read-claims t) (read-at t) read.Post
-read-sub-leaf t c = search needs
-
-read-part-leaf-start : (t : ℕ) → read-lts.Need-part-leaf-start (read-claims t) (read-at t) read.Post
-read-part-leaf-start t c = search needs
-
-read-part-leaf-end : (t : ℕ) → read-lts.Need-part-leaf-end (read-claims t) (read-at t) read.Post
-read-part-leaf-end t c = search needs
-
 read-leaf-requires : (t : ℕ) → read-lts.Need-leaf-requires (read-claims t) (read-at t) read.Post
 read-leaf-requires t c κs =
-    let i = c .before .before .before .before .before .before .before in
-    let s = i .args .s .now in
-    let n : 0 < length s = omega (arith, c .before .before .before .before .before .if1 .left) in
-    rw (rest-is 0 s) ((n, refl), (sym (c .before .before .before .is-leaf .ensures) ∙ c .before .before .if2 .taken, fitting (i .pre .1)))
+    let i = c .before .before .before .before .before .before in
+    let n : 0 < length (i .args .s .now) = omega (arith, c .before .before .before .before .if1 .left) in
+    ((n, refl), (sym (c .before .before .is-leaf .ensures) ∙ c .before .if2 .taken, fitting (i .pre .1)))
 
 read-returns-2 : (t : ℕ) → read-lts.Need-returns-2 (read-claims t) (read-at t) read.Post
-read-returns-2 t c =
-    let i = c .before .before .before .before .before .before .before .before in
-    subst (λ (l : List ℕ). Done (i .args .signals) (i .args .at) (i .args .second .now) (i .args .second .now) (i .args .notes .now) (c .leaf .last .1 .1 .1 .1 .0)
-    (reads (i .args .depth) (i .args .signals) (i .args .at) l) (c .leaf .result))
-    (rest-is 0 (i .args .s .now)) (c .leaf .ensures (i .args .signals) (i .args .second .now))
+read-returns-2 t c = c .leaf .ensures (c .before .before .before .before .before .before .before .args .signals) (c .before .before .before .before .before .before .before .args .second .now)
 
-read-sub-width : (t : ℕ) → read-lts.Need-sub-width (read-claims t) (read-at t) read.Post
-read-sub-width t c = search needs
-
-read-part-width-start : (t : ℕ) → read-lts.Need-part-width-start (read-claims t) (read-at t) read.Post
-read-part-width-start t c = search needs
-
-read-part-width-end : (t : ℕ) → read-lts.Need-part-width-end (read-claims t) (read-at t) read.Post
-read-part-width-end t c = search needs
-
-read-width-requires : (t : ℕ) → read-lts.Need-width-requires (read-claims t) (read-at t) read.Post
-read-width-requires t c κs =
-    let s = c .before .before .before .before .before .before .args .s .now in
-    let n : 0 < length s = omega (arith, c .before .before .before .before .if1 .left) in
-    rw (rest-is 0 s) ((n, refl), sym (c .before .before .is-leaf .ensures) ∙ c .before .if2 .left)
+read-head-requires : (t : ℕ) → read-lts.Need-head-requires (read-claims t) (read-at t) read.Post
+read-head-requires t c κs =
+    let n : 0 < length (c .before .before .before .before .before .args .s .now) = omega (arith, c .before .before .before .if1 .left) in
+    ((n, refl), sym (c .before .is-leaf .ensures) ∙ c .if2 .left)
 
 read-returns-3 : (t : ℕ) → read-lts.Need-returns-3 (read-claims t) (read-at t) read.Post
-read-returns-3 t c = done-bad _ _ _ _ _ _ _ _ _ (c .before .before .before .before .before .before .before .before .pre .1 .fits) (told t (c .before)) (c .if3 .taken)
-
-read-mul-result-2 : (t : ℕ) → read-lts.Need-mul-result-2 (read-claims t) (read-at t) read.Post
-read-mul-result-2 t c = search needs
-
-read-returns-4 : (t : ℕ) → read-lts.Need-returns-4 (read-claims t) (read-at t) read.Post
-read-returns-4 t c = done-deep (head t (c .before)) _ _ _ _ _ _ _ (c .if4 .taken)
+read-returns-3 t c = c .before .head .ensures .refused (c .if3 .taken) _ _ _ _ _ _ (c .before .before .before .before .before .before .before .pre .1 .fits)
 
 read-sub-two : (t : ℕ) → read-lts.Need-sub-two (read-claims t) (read-at t) read.Post
 read-sub-two t c = omega (arith, fits-in t (c .before))
@@ -242,66 +202,68 @@ read-part-two-end : (t : ℕ) → read-lts.Need-part-two-end (read-claims t) (re
 read-part-two-end t c = search needs
 
 read-sub-two-2 : (t : ℕ) → read-lts.Need-sub-two-2 (read-claims t) (read-at t) read.Post
-read-sub-two-2 t c = search needs
+read-sub-two-2 t c = let n = level t (c .before .before) in omega (arith, n)
 
 read-two-requires : (t : ℕ) → read-lts.Need-two-requires (read-claims t) (read-at t) read.Post
 read-two-requires t c κs =
     let q = c .before .before .before .before in
-    let i = q .before .before .before .before .before .before .before .before .before in
-    (omega (arith, i .pre .0, q .if4 .left), (omega arith, forward 1 (fits-in t q) (i .pre .1)))
+    let i = c .before .before .before .before .before .before .before .before .before .before .before in
+    (omega (arith, i .pre .0, level t q), (omega arith, forward 1 (fits-in t q) (i .pre .1)))
 
-read-returns-5 : (t : ℕ) → read-lts.Need-returns-5 (read-claims t) (read-at t) read.Post
-read-returns-5 t c =
+read-returns-4 : (t : ℕ) → read-lts.Need-returns-4 (read-claims t) (read-at t) read.Post
+read-returns-4 t c =
     let q = c .before .before .before .before .before in
-    let i = q .before .before .before .before .before .before .before .before .before in
-    let k = two-bare (head-of t q .of) (parted t q) (omega (arith, byte-at t q, c .before .before .before .before .if5 .taken)) in
-    done-pair (narrow (head-of t q) (k .1)) _ _ _ (q .if4 .left) (k .0) _ (rest-is 1 (i .args .s .now)) _ _ _ _ _ (c .two .ensures)
+    let i = c .before .before .before .before .before .before .before .before .before .before .before .before in
+    let k = two-bare (head-of t q .of) (parted t q) (omega (arith, byte-at t q, c .before .before .before .before .if4 .taken)) in
+    done-pair (narrow (head-of t q) (k .1)) _ _ _ (level t q) (k .0) _ (rest-is 1 (i .args .s .now)) _ _ _ _ _ (c .two .ensures)
+
+read-is-choice-requires : (t : ℕ) → read-lts.Need-is-choice-requires (read-claims t) (read-at t) read.Post
+read-is-choice-requires t c κs = search needs
 
 read-sub-two-3 : (t : ℕ) → read-lts.Need-sub-two-3 (read-claims t) (read-at t) read.Post
-read-sub-two-3 t c = omega (arith, present-fits t (c .before .before) (c .if6 .taken))
+read-sub-two-3 t c = omega (arith, wide-fits t (c .before .before .before) (chosen t (c) .1))
 
 read-part-two-start-2 : (t : ℕ) → read-lts.Need-part-two-start-2 (read-claims t) (read-at t) read.Post
-read-part-two-start-2 t c = omega (arith, present-fits t (c .before .before) (c .if6 .taken))
+read-part-two-start-2 t c = omega (arith, wide-fits t (c .before .before .before) (chosen t (c) .1))
 
 read-part-two-end-2 : (t : ℕ) → read-lts.Need-part-two-end-2 (read-claims t) (read-at t) read.Post
 read-part-two-end-2 t c = search needs
 
 read-sub-two-4 : (t : ℕ) → read-lts.Need-sub-two-4 (read-claims t) (read-at t) read.Post
-read-sub-two-4 t c = search needs
+read-sub-two-4 t c = let n = level t (c .before .before .before .before) in omega (arith, n)
 
 read-two-requires-2 : (t : ℕ) → read-lts.Need-two-requires-2 (read-claims t) (read-at t) read.Post
 read-two-requires-2 t c κs =
-    let q = c .before .before .before .before .before in
-    let i = q .before .before .before .before .before .before .before .before .before in
-    (omega (arith, i .pre .0, q .if4 .left), (omega arith, forward 2 (present-fits t q (c .before .before .before .if6 .taken)) (i .pre .1)))
+    let q = c .before .before .before .before .before .before in
+    let i = c .before .before .before .before .before .before .before .before .before .before .before .before .before in
+    (omega (arith, i .pre .0, level t q), (omega arith, forward 2 (wide-fits t q (chosen t (c .before .before .before) .1)) (i .pre .1)))
+
+read-returns-5 : (t : ℕ) → read-lts.Need-returns-5 (read-claims t) (read-at t) read.Post
+read-returns-5 t c =
+    let q = c .before .before .before .before .before .before .before in
+    let i = c .before .before .before .before .before .before .before .before .before .before .before .before .before .before in
+    let k = chosen t (c .before .before .before .before) in
+    done-pair (narrow (head-of t q) (k .1)) _ _ _ (level t q) (k .0) _ (rest-is 2 (i .args .s .now)) _ _ _ _ _ (c .two2 .ensures)
+
+read-declares-requires : (t : ℕ) → read-lts.Need-declares-requires (read-claims t) (read-at t) read.Post
+read-declares-requires t c κs = search needs
+
+read-declare-requires : (t : ℕ) → read-lts.Need-declare-requires (read-claims t) (read-at t) read.Post
+read-declare-requires t c κs = c .before .before .before .before .before .before .before .before .before .before .before .before .before .pre .1 .allowed
+
+read-mul-result-2 : (t : ℕ) → read-lts.Need-mul-result-2 (read-claims t) (read-at t) read.Post
+read-mul-result-2 t c = search needs
 
 read-returns-6 : (t : ℕ) → read-lts.Need-returns-6 (read-claims t) (read-at t) read.Post
 read-returns-6 t c =
-    let q = c .before .before .before .before .before .before in
-    let i = q .before .before .before .before .before .before .before .before .before in
-    let e = present-is t q (c .before .before .before .before .if6 .taken) in
-    done-pair (narrow (head-of t q) (ap headLength (sym e))) _ _ _ (q .if4 .left) (ap partCount e) _ (rest-is 2 (i .args .s .now)) _ _ _ _ _ (c .two2 .ensures)
-
-read-mul-result-3 : (t : ℕ) → read-lts.Need-mul-result-3 (read-claims t) (read-at t) read.Post
-read-mul-result-3 t c = search needs
-
-read-returns-7 : (t : ℕ) → read-lts.Need-returns-7 (read-claims t) (read-at t) read.Post
-read-returns-7 t c =
-    let q = c .before .before .before .before in
-    let e = signal-is t q (c .before .if7 .taken) in
-    done-signals (head-of t q) _ _ _ (q .if4 .left) _ _ _ _ 1 (sym (ap declares e)) (omega (arith, c .if8 .taken))
-
-read-sub-left : (t : ℕ) → read-lts.Need-sub-left (read-claims t) (read-at t) read.Post
-read-sub-left t c = search needs
-
-read-signal-requires : (t : ℕ) → read-lts.Need-signal-requires (read-claims t) (read-at t) read.Post
-read-signal-requires t c κs = omega (arith, c .before .before .before .before .before .before .before .before .before .before .before .before .before .before .pre .1 .allowed, c .before .if8 .left)
+    let q = c .before .before .before .before .before .before .before .before in
+    done-signals (head-of t q) _ _ _ (level t q) _ _ _ _ 1 (sym (declared t (c .before .before .before) .2)) (omega (arith, c .before .declare .ensures .crowded (c .if7 .taken)))
 
 read-sub-read : (t : ℕ) → read-lts.Need-sub-read (read-claims t) (read-at t) read.Post
-read-sub-read t c = omega (arith, signal-fits t (c .before .before .before .before .before .before) (c .before .before .before .if7 .taken))
+read-sub-read t c = omega (arith, wide-fits t (c .before .before .before .before .before .before .before .before) (declared t (c .before .before .before) .1))
 
 read-part-read-start : (t : ℕ) → read-lts.Need-part-read-start (read-claims t) (read-at t) read.Post
-read-part-read-start t c = omega (arith, signal-fits t (c .before .before .before .before .before .before) (c .before .before .before .if7 .taken))
+read-part-read-start t c = omega (arith, wide-fits t (c .before .before .before .before .before .before .before .before) (declared t (c .before .before .before) .1))
 
 read-part-read-end : (t : ℕ) → read-lts.Need-part-read-end (read-claims t) (read-at t) read.Post
 read-part-read-end t c = search needs
@@ -310,27 +272,31 @@ read-add-read : (t : ℕ) → read-lts.Need-add-read (read-claims t) (read-at t)
 read-add-read t c = search needs
 
 read-sub-read-2 : (t : ℕ) → read-lts.Need-sub-read-2 (read-claims t) (read-at t) read.Post
-read-sub-read-2 t c = search needs
+read-sub-read-2 t c = let n = level t (c .before .before .before .before .before .before .before .before .before) in omega (arith, n)
 
 read-read-requires : (t : ℕ) → read-lts.Need-read-requires (read-claims t) (read-at t) read.Post
 read-read-requires t c κs =
-    let q = c .before .before .before .before .before .before .before .before .before in
-    let i = q .before .before .before .before .before .before .before .before .before in
-    (omega (arith, i .pre .0, q .if4 .left), within 2 (i .args .signals - 1) _ (signal-fits t q (c .before .before .before .before .before .before .if7 .taken)) (omega arith) (c .before .before .before .signal .ensures) (i .pre .1))
+    let q = c .before .before .before .before .before .before .before .before .before .before .before in
+    let i = c .before .before .before .before .before .before .before .before .before .before .before .before .before .before .before .before .before .before in
+    let d = c .before .before .before .before .declare in
+    let l = d .ensures .left (c .before .before .before .if7 .left) in
+    (omega (arith, i .pre .0, level t q), within 2 _ _ (wide-fits t q (declared t (c .before .before .before .before .before .before) .1)) (omega (arith, l)) (d .ensures .noted (c .before .before .before .if7 .left)) (i .pre .1))
 
-read-returns-8 : (t : ℕ) → read-lts.Need-returns-8 (read-claims t) (read-at t) read.Post
-read-returns-8 t c =
-    let q = c .before .before .before .before .before .before .before .before .before .before in
-    let i = q .before .before .before .before .before .before .before .before .before in
-    let e = signal-is t q (c .before .before .before .before .before .before .before .if7 .taken) in
-    done-signal (narrow (head-of t q) (ap headLength (sym e))) _ _ _ (q .if4 .left) (ap partCount e) (ap declares e) (omega (arith, c .before .before .before .before .before .before .if8 .left)) (i .pre .1 .allowed) _
-    (rest-is 2 (i .args .s .now)) _ _ _ _ _ _ (c .before .before .before .before .signal .ensures) (c .read .ensures)
+read-returns-7 : (t : ℕ) → read-lts.Need-returns-7 (read-claims t) (read-at t) read.Post
+read-returns-7 t c =
+    let q = c .before .before .before .before .before .before .before .before .before .before .before .before in
+    let i = c .before .before .before .before .before .before .before .before .before .before .before .before .before .before .before .before .before .before .before in
+    let k = declared t (c .before .before .before .before .before .before .before) in
+    let d = c .before .before .before .before .before .declare in
+    let l = d .ensures .left (c .before .before .before .before .if7 .left) in
+    done-signal (narrow (head-of t q) (k .1)) _ _ _ (level t q) (k .0) (k .2) (l .0) (i .pre .1 .allowed) _
+    (rest-is 2 (i .args .s .now)) _ _ _ _ _ _ (d .ensures .noted (c .before .before .before .before .if7 .left)) (rw (l .1) at (c .read .ensures))
 
 read-sub-read-3 : (t : ℕ) → read-lts.Need-sub-read-3 (read-claims t) (read-at t) read.Post
-read-sub-read-3 t c = omega (arith, head-fits (head-of t (c .before .before .before)))
+read-sub-read-3 t c = omega (arith, head-fits (head-of t (c .before .before .before .before .before)))
 
 read-part-read-start-2 : (t : ℕ) → read-lts.Need-part-read-start-2 (read-claims t) (read-at t) read.Post
-read-part-read-start-2 t c = omega (arith, head-fits (head-of t (c .before .before .before)))
+read-part-read-start-2 t c = omega (arith, head-fits (head-of t (c .before .before .before .before .before)))
 
 read-part-read-end-2 : (t : ℕ) → read-lts.Need-part-read-end-2 (read-claims t) (read-at t) read.Post
 read-part-read-end-2 t c = search needs
@@ -339,22 +305,21 @@ read-add-read-2 : (t : ℕ) → read-lts.Need-add-read-2 (read-claims t) (read-a
 read-add-read-2 t c = search needs
 
 read-sub-read-4 : (t : ℕ) → read-lts.Need-sub-read-4 (read-claims t) (read-at t) read.Post
-read-sub-read-4 t c = search needs
+read-sub-read-4 t c = let n = level t (c .before .before .before .before .before .before) in omega (arith, n)
 
 read-read-requires-2 : (t : ℕ) → read-lts.Need-read-requires-2 (read-claims t) (read-at t) read.Post
 read-read-requires-2 t c κs =
-    let q = c .before .before .before .before .before .before in
-    let i = q .before .before .before .before .before .before .before .before .before in
-    (omega (arith, i .pre .0, q .if4 .left), forward _ (head-fits (head-of t q) .1) (i .pre .1))
+    let q = c .before .before .before .before .before .before .before .before in
+    let i = c .before .before .before .before .before .before .before .before .before .before .before .before .before .before .before in
+    (omega (arith, i .pre .0, level t q), forward _ (head-fits (head-of t q) .1) (i .pre .1))
 
-read-returns-9 : (t : ℕ) → read-lts.Need-returns-9 (read-claims t) (read-at t) read.Post
-read-returns-9 t c =
-    let q = c .before .before .before .before .before .before .before in
-    let i = q .before .before .before .before .before .before .before .before .before in
+read-returns-8 : (t : ℕ) → read-lts.Need-returns-8 (read-claims t) (read-at t) read.Post
+read-returns-8 t c =
+    let q = c .before .before .before .before .before .before .before .before .before in
     let h = head-of t q in
-    let b = byte-at t q in
-    done-one h _ _ _ (q .if4 .left) (one-part (h .of) (parted t q) (omega (arith, b, c .before .before .before .before .before .before .if5 .left)) (λ z. c .before .before .before .before .before .if6 .left (b ∙ z))) (undeclared (h .of) (λ z. c .before .before .before .before .if7 .left (b ∙ z))) _
-    (rest-is _ (i .args .s .now)) _ _ _ _ _ (c .read2 .ensures)
+    let k = h .of in
+    done-one h _ _ _ (level t q) (one-part k (parted t q) (omega (arith, byte-at t q, c .before .before .before .before .before .before .before .before .if4 .left)) (sym (c .before .before .before .before .before .before .before .is-choice .ensures k (byte h)) ∙ c .before .before .before .before .before .before .if5 .left))
+    (plain k (parted t q) (sym (c .before .before .before .before .before .declares .ensures k (byte h)) ∙ c .before .before .before .before .if6 .left)) _ (rest-is _ (c .before .before .before .before .before .before .before .before .before .before .before .before .before .before .before .before .args .s .now)) _ _ _ _ _ (c .read2 .ensures)
 
 -- ---- the first part, of the bytes behind the command
 first-told : (t : ℕ) (c : two-lts.After-first (two-claims t) (two-at t) two.Post)
@@ -396,20 +361,11 @@ two-returns t c k x p e =
     let i = c .before .before .before .before .before .before in
     first-refused _ _ _ _ _ _ _ _ _ (i .pre .1 .1) (first-told t (c .before)) (i .args .at) x k (ap (λ (w : ℕ). i .args .at + w) e) (c .if1 .taken)
 
-two-count-requires : (t : ℕ) → two-lts.Need-count-requires (two-claims t) (two-at t) two.Post
-two-count-requires t c κs = search needs
-
-two-entry-requires : (t : ℕ) → two-lts.Need-entry-requires (two-claims t) (two-at t) two.Post
-two-entry-requires t c κs =
+two-mark-requires : (t : ℕ) → two-lts.Need-mark-requires (two-claims t) (two-at t) two.Post
+two-mark-requires t c κs =
     let i = c .before .before .before .before .before .before .before .before in
     let f = first-is t (c .before .before) in
-    (omega (arith, f .place, f .within, i .pre .1 .1 .fits), omega (arith, f .place, f .within, f .few, i .pre .1 .1 .fits, c .count .ensures))
-
-two-mul-second : (t : ℕ) → two-lts.Need-mul-second (two-claims t) (two-at t) two.Post
-two-mul-second t c = search needs
-
-two-element-write-second : (t : ℕ) → two-lts.Need-element-write-second (two-claims t) (two-at t) two.Post
-two-element-write-second t c = search needs
+    (omega (arith, i .pre .1 .0, i .pre .1 .1 .fits), omega (arith, f .place, f .within, i .pre .1 .1 .fits), omega (arith, f .place, f .within, f .few, i .pre .1 .1 .fits))
 
 two-sub-n : (t : ℕ) → two-lts.Need-sub-n (two-claims t) (two-at t) two.Post
 two-sub-n t c = let f = first-is t (c .before .before .before) in omega (arith, f .place, f .within)
@@ -432,7 +388,7 @@ two-read-requires t c κs =
     let f = first-is t (c .before .before .before .before .before .before) in
     let x = c .before .before .before .before .before .before .before .first .result in
     let u = c .before .before .before .before .before .before .before .first .last .1 .1 .1 .1 .0 in
-    (omega (arith, i .pre .0), onward _ (i .args .at + i .args .w) x (x - i .args .at - i .args .w) (i .args .s .now) _ _ (omega (arith, f .place)) (omega (arith, f .place, f .within)) (i .pre .1 .1 .fits) (f .few) (length-set u (i .args .at) _ ∙ f .entered .long ∙ i .pre .1 .1 .long) (f .noted) (i .pre .1 .1 .allowed))
+    (omega (arith, i .pre .0), onward _ (i .args .at + i .args .w) x (x - i .args .at - i .args .w) (i .args .s .now) _ _ (omega (arith, f .place)) (omega (arith, f .place, f .within)) (i .pre .1 .1 .fits) (f .few) (ap length (c .before .before .before .mark .ensures) ∙ length-set u (i .args .at) _ ∙ f .entered .long ∙ i .pre .1 .1 .long) (f .noted) (i .pre .1 .1 .allowed))
 
 two-returns-2 : (t : ℕ) → two-lts.Need-returns-2 (two-claims t) (two-at t) two.Post
 two-returns-2 t c k x p e =
@@ -442,15 +398,11 @@ two-returns-2 t c k x p e =
     let n = m - i .args .at - i .args .w in
     let skipped : n ≡ m - (i .args .at + i .args .w) = omega arith in
     both _ _ _ _ _ _ _ _ _ (i .pre .1 .1) (first-told t (c .before .before .before .before .before .before .before .before)) (i .args .at) x k (ap (λ (w : ℕ). i .args .at + w) e) p f
-    (omega (arith, i .pre .1 .0, i .pre .1 .1 .fits, i .pre .1 .1 .long, f .entered .long)) _
-    (c .before .before .before .before .entry .ensures ∙ ap (entry m) (c .before .before .before .before .before .count .ensures))
-    _ (rest-is n (i .args .s .now) ∙ ap (λ (j : ℕ). drop j (i .args .s .now)) skipped) _ _ _ (c .read .ensures)
+    (omega (arith, i .pre .1 .0, i .pre .1 .1 .fits, i .pre .1 .1 .long, f .entered .long)) _ refl
+    _ (rest-is n (i .args .s .now) ∙ ap (λ (j : ℕ). drop j (i .args .s .now)) skipped) _ _ _ (rw (c .before .before .before .before .mark .ensures) at (c .read .ensures))
 
 pub +first+read+two-spec : {M : Type 1} → statement M
 +first+read+two-spec = close μ-first μ-read μ-two (λ t. first-lts.spec (first-claims t) (first-at t) first.Post
-    (first-sub-ahead t)
-    (first-part-ahead-start t)
-    (first-part-ahead-end t)
     (first-ahead-requires t)
     (first-returns t)
     (first-sub-read t)
@@ -463,48 +415,41 @@ pub +first+read+two-spec : {M : Type 1} → statement M
     (read-returns t)
     (read-shared-slice-read-b t)
     (read-is-leaf-requires t)
-    (read-sub-leaf t)
-    (read-part-leaf-start t)
-    (read-part-leaf-end t)
     (read-leaf-requires t)
     (read-returns-2 t)
-    (read-sub-width t)
-    (read-part-width-start t)
-    (read-part-width-end t)
-    (read-width-requires t)
+    (read-head-requires t)
     (read-returns-3 t)
-    (read-mul-result-2 t)
-    (read-returns-4 t)
     (read-sub-two t)
     (read-part-two-start t)
     (read-part-two-end t)
     (read-sub-two-2 t)
     (read-two-requires t)
-    (read-returns-5 t)
+    (read-returns-4 t)
+    (read-is-choice-requires t)
     (read-sub-two-3 t)
     (read-part-two-start-2 t)
     (read-part-two-end-2 t)
     (read-sub-two-4 t)
     (read-two-requires-2 t)
+    (read-returns-5 t)
+    (read-declares-requires t)
+    (read-declare-requires t)
+    (read-mul-result-2 t)
     (read-returns-6 t)
-    (read-mul-result-3 t)
-    (read-returns-7 t)
-    (read-sub-left t)
-    (read-signal-requires t)
     (read-sub-read t)
     (read-part-read-start t)
     (read-part-read-end t)
     (read-add-read t)
     (read-sub-read-2 t)
     (read-read-requires t)
-    (read-returns-8 t)
+    (read-returns-7 t)
     (read-sub-read-3 t)
     (read-part-read-start-2 t)
     (read-part-read-end-2 t)
     (read-add-read-2 t)
     (read-sub-read-4 t)
     (read-read-requires-2 t)
-    (read-returns-9 t))
+    (read-returns-8 t))
     λ t. two-lts.spec (two-claims t) (two-at t) two.Post
     (two-sub-first t)
     (two-part-first-start t)
@@ -512,10 +457,7 @@ pub +first+read+two-spec : {M : Type 1} → statement M
     (two-add-first t)
     (two-first-requires t)
     (two-returns t)
-    (two-count-requires t)
-    (two-entry-requires t)
-    (two-mul-second t)
-    (two-element-write-second t)
+    (two-mark-requires t)
     (two-sub-n t)
     (two-sub-n-2 t)
     (two-sub-read t)

@@ -6,6 +6,7 @@ ghost use lib.ListN.{length, getD};
 ghost use Rattle.commands.specs.Counts.{partsAt, isLeaf};
 ghost use Rattle.layout.specs.Walk.{Fitting, LeafRead, Ahead};
 use notes::Notes;
+use reading_steps::is_exit;
 
 // The command b without parts at the front of s, which stands at offset `at`.
 pub fn leaf(s: &[u8], at: usize, b: u8, depth: u8, notes: &mut Notes) -> usize
@@ -14,7 +15,7 @@ pub fn leaf(s: &[u8], at: usize, b: u8, depth: u8, notes: &mut Notes) -> usize
     requires { ⌜ Fitting at (now s) (now notes) ⌝ }
     ensures { λ r. ⌜ LeafRead depth at (now (s .entry)) (now (notes .entry)) (now (notes .exit)) r ⌝ }
 {
-    let w = reading_heads::leaf(&s[0..], b);
+    let w = reading_heads::leaf(s, b);
     if layout::ROW_UNIT <= w {
         return w;
     }
@@ -51,10 +52,7 @@ pub fn ahead(s: &[u8], at: usize, depth: u8, notes: &mut Notes) -> usize
         return 0;
     }
     if b == limits::EXIT {
-        if x == 0 {
-            return 0;
-        }
-        if x <= limits::MAX_EXIT {
+        if is_exit(x) {
             return at + 2;
         }
         return 0;

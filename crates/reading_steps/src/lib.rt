@@ -1,0 +1,89 @@
+// Steps of the reading walk at one command (01, 'Commands' and rows 3 to 6), outside its recursion.
+ghost use mathlib.Core.Path.{_≡_};
+ghost use mathlib.Core.Bool.{false, _&&_};
+ghost use mathlib.Core.List.{List, _∷_};
+ghost use mathlib.Core.Option.{some};
+ghost use Prim.Native.Nat.{ℕ, _≤_, _<_};
+ghost use lib.Dec.{eqb};
+ghost use lib.ListN.{length, getD, set};
+ghost use Rattle.limits.specs.Limits.{maxBytes, maxSignals};
+ghost use Rattle.sequence.specs.Commands.{Command, commandOf, operandCount, partCount, inRange, declares};
+ghost use Rattle.commands.specs.Counts.{partsAt, isLeaf};
+ghost use Rattle.layout.specs.Layout.{entry};
+ghost use Rattle.layout.specs.Notes.{pausesCounted};
+ghost use Rattle.reading_steps.specs.Steps.{Headed, Declared};
+use layout::SecondParts;
+use notes::Notes;
+
+// What `declare` answers where no signal is left.
+pub const CROWDED: u8 = 255;
+
+// May x be the operand of an exit?
+pub fn is_exit(x: u8) -> bool
+    ensures { λ r. ⌜ ((xs : List ℕ) → r ≡ inRange Command.exit (x ∷ xs)) ⌝ }
+{
+    if x == 0 {
+        return false;
+    }
+    x <= limits::MAX_EXIT
+}
+
+// Has the command b two parts behind an operand?
+pub fn is_choice(b: u8) -> bool
+    ensures { λ r. ⌜ ((c : Command) → commandOf b ≡ some c → r ≡ (eqb (partCount c) 2 && eqb (operandCount c) 1)) ⌝ }
+{
+    b == limits::PRESENT
+}
+
+// Does the command b declare a signal?
+pub fn declares(b: u8) -> bool
+    ensures { λ r. ⌜ ((c : Command) → commandOf b ≡ some c → r ≡ eqb (declares c) 1) ⌝ }
+{
+    b == limits::SIGNAL
+}
+
+// The bytes of the command b with parts at the front of s, where so many levels are allowed, or the row that turns it down.
+pub fn head(s: &[u8], b: u8, depth: u8) -> usize
+    requires { ⌜ (0 < length (now s)) × (b ≡ getD (now s) 0 0) ⌝ }
+    requires { ⌜ isLeaf (partsAt b) ≡ false ⌝ }
+    ensures { λ r. ⌜ Headed depth (now (s .entry)) r ⌝ }
+{
+    let w = reading_heads::width(s, b);
+    if layout::ROW_UNIT <= w {
+        return w;
+    }
+    if depth == 0 {
+        return 6 * layout::ROW_UNIT;
+    }
+    w
+}
+
+// A signal command where so many are allowed: how many are allowed inside it, which is noted.
+pub fn declare(signals: u8, notes: &mut Notes) -> u8
+    requires { ⌜ signals ≤ maxSignals ⌝ }
+    ensures { λ r. ⌜ Declared signals (now (notes .entry)) (now (notes .exit)) r ⌝ }
+{
+    if signals == 0 {
+        return CROWDED;
+    }
+    let left = signals - 1;
+    notes::signal(left, notes);
+    left
+}
+
+// The entry of a second part at offset m with n pauses before it.
+fn entry(m: usize, n: u64) -> u32
+    requires { ⌜ m ≤ maxBytes ⌝ }
+    requires { ⌜ n ≤ maxBytes ⌝ }
+    ensures { λ r. ⌜ r ≡ entry m n ⌝ }
+{
+    (m as u32) + layout::BEFORE_UNIT * (n as u32)
+}
+
+// The second part, at offset m, of the command at offset `at`: its entry, by the pauses noted so far.
+pub fn mark(at: usize, m: usize, notes: &Notes, second: &mut SecondParts)
+    requires { ⌜ (at < maxBytes) × (m ≤ maxBytes) × (pausesCounted (now notes) ≤ maxBytes) ⌝ }
+    ensures { λ _. ⌜ now (second .exit) ≡ set (now (second .entry)) at (entry m (pausesCounted (now (notes .entry)))) ⌝ }
+{
+    second[at] = entry(m, notes::count(notes));
+}
