@@ -10,11 +10,8 @@ ghost use Rattle.box_stretches.specs.Called.{called};
 ghost use Rattle.box_stretches.specs.Stretch.{terms};
 ghost use Rattle.box_calls.specs.Box.{admit, release, tick, save, restore, forget, service, panel, preview, ledger, newYear, callOf};
 ghost use Rattle.unrolled.specs.Call.{unrolling, unrollOf};
-use answers::ANSWER_LENGTH;
-use instants::Reply;
 use layout::SecondParts;
 use notes::Notes;
-use states::STATE_LENGTH;
 
 // The check of a sequence with a read-back set: 0, or the number of the row that turns it down.
 #[no_mangle]
@@ -46,16 +43,7 @@ pub extern "C" fn intake_tick(
     ensures { λ r. ⌜ TickMeets r (now (state .exit)) (now (answer .exit))
         (now (sequence .entry)) (now (state .entry)) input «read_back» (now (answer .entry)) ⌝ }
 {
-    if state.len() != STATE_LENGTH {
-        return 1;
-    }
-    if answer.len() != ANSWER_LENGTH {
-        return 1;
-    }
-    match instants::reply_to(sequence, state, input, read_back) {
-        Reply::Refused(number) => number,
-        Reply::Reacted(reaction) => writing::finish(state, answer, reaction),
-    }
+    intake_ticks::tick(sequence, state, input, read_back, answer)
 }
 
 // A recording checked against a sequence (02, item 14): 0 and a place, 0 if the recording is accepted and else that of the first record

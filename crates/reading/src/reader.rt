@@ -17,8 +17,8 @@ use reading_leaves::leaf;
 use reading_steps::CROWDED;
 use reading_steps::declare;
 use reading_steps::declares;
-use reading_steps::head;
 use reading_steps::is_choice;
+use reading_steps::is_deep;
 use reading_steps::mark;
 
 // A statement: the count of its bytes and how many more signals may stand around it, or the row that turns it down.
@@ -93,17 +93,22 @@ fn read(
     if reading_heads::is_leaf(b) {
         return leaf(s, at, b, depth, notes);
     }
-    let w = head(s, b, depth);
+    let w = reading_heads::width(s, b);
     if layout::ROW_UNIT <= w {
         return w;
     }
+    if is_deep(depth) {
+        return 6 * layout::ROW_UNIT;
+    }
+    let choice = is_choice(b);
+    let declaring = declares(b);
     if b < 6 {
         return two(&s[1..], at, 1, depth - 1, signals, second, notes);
     }
-    if is_choice(b) {
+    if choice {
         return two(&s[2..], at, 2, depth - 1, signals, second, notes);
     }
-    if declares(b) {
+    if declaring {
         let left = declare(signals, notes);
         if left == CROWDED {
             return 6 * layout::ROW_UNIT;

@@ -1,17 +1,16 @@
 // Steps of the reading walk at one command (01, 'Commands' and rows 3 to 6), outside its recursion.
 ghost use mathlib.Core.Path.{_≡_};
-ghost use mathlib.Core.Bool.{false, _&&_};
+ghost use mathlib.Core.Bool.{_&&_};
 ghost use mathlib.Core.List.{List, _∷_};
 ghost use mathlib.Core.Option.{some};
 ghost use Prim.Native.Nat.{ℕ, _≤_, _<_};
 ghost use lib.Dec.{eqb};
-ghost use lib.ListN.{length, getD, set};
+ghost use lib.ListN.{set};
 ghost use Rattle.limits.specs.Limits.{maxBytes, maxSignals};
 ghost use Rattle.sequence.specs.Commands.{Command, commandOf, operandCount, partCount, inRange, declares};
-ghost use Rattle.commands.specs.Counts.{partsAt, isLeaf};
 ghost use Rattle.layout.specs.Layout.{entry};
 ghost use Rattle.layout.specs.Notes.{pausesCounted};
-ghost use Rattle.reading_steps.specs.Steps.{Headed, Declared};
+ghost use Rattle.reading_steps.specs.Steps.{Declared};
 use layout::SecondParts;
 use notes::Notes;
 
@@ -42,20 +41,11 @@ pub fn declares(b: u8) -> bool
     b == limits::SIGNAL
 }
 
-// The bytes of the command b with parts at the front of s, where so many levels are allowed, or the row that turns it down.
-pub fn head(s: &[u8], b: u8, depth: u8) -> usize
-    requires { ⌜ (0 < length (now s)) × (b ≡ getD (now s) 0 0) ⌝ }
-    requires { ⌜ isLeaf (partsAt b) ≡ false ⌝ }
-    ensures { λ r. ⌜ Headed depth (now (s .entry)) r ⌝ }
+// Is no level left for the command?
+pub fn is_deep(depth: u8) -> bool
+    ensures { λ r. ⌜ r ≡ eqb depth 0 ⌝ }
 {
-    let w = reading_heads::width(s, b);
-    if layout::ROW_UNIT <= w {
-        return w;
-    }
-    if depth == 0 {
-        return 6 * layout::ROW_UNIT;
-    }
-    w
+    depth == 0
 }
 
 // A signal command where so many are allowed: how many are allowed inside it, which is noted.

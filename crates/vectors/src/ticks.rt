@@ -1,11 +1,11 @@
 // Machines that tick on given inputs, and the lines of their calls.
 use crate::vector::Vector;
 use crate::vector::malformed;
+use vectors_digits::NONE;
 use vectors_notation::print;
-use vectors_notation::room::Bytes;
-use vectors_notation::room::ROOM;
-use vectors_notation::words::NONE;
-use vectors_notation::words::word;
+use vectors_room::Bytes;
+use vectors_room::ROOM;
+use vectors_words::word;
 
 // What stands in an answer record before a call.
 const UNWRITTEN: u8 = 0xA5;

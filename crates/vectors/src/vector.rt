@@ -1,7 +1,7 @@
 // What the lines of a vector gave so far.
-use vectors_notation::room::Bytes;
-use vectors_notation::room::MALFORMED;
-use vectors_notation::room::zeros;
+use vectors_room::Bytes;
+use vectors_room::MALFORMED;
+use vectors_room::zeros;
 
 // The sequence, and the read-back set of the calls that follow.
 pub struct Vector {

@@ -1,5 +1,2 @@
-// How vectors are written: the numbers and bytes that a line names, and the lines that are printed.
-mod digits;
+// How vectors are written: the lines that are printed.
 pub mod print;
-pub mod room;
-pub mod words;

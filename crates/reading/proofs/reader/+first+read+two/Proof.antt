@@ -1,9 +1,11 @@
 use Prim.Native.Nat.{ℕ, _+_, _-_, _*_, _≤_, _<_}
 use mathlib.Core.Path.{_≡_, refl, sym, ap, _∙_, subst, subst₂}
+use mathlib.Core.Bool.{true}
 use mathlib.Core.List.{List}
 use lib.ListN.{length, getD, drop, length-set}
 use native.Mathlib.Omega.{arith}
 use borrow.Author.Needs.{needs}
+use borrow.Author.Tests.{eqb-true, eqb-false}
 use borrow.Fn.Kinds.{In}
 use borrow.Fn.PlainCycle.{Measures, is, falls, and}
 use Rattle.sequence.specs.Commands.{partCount, headLength, declares}
@@ -13,7 +15,7 @@ use Rattle.layout.specs.Walk.{Readable, Done}
 use Rattle.sequence.proofs.Table.{byteOf, byte-is}
 use Rattle.commands.proofs.Counts.{with-parts}
 use Rattle.layout.proofs.Parts.{rest-is}
-use Rattle.layout.proofs.Walk.{Heading, heading, narrow, byte, head-fits, onward, forward, within, again, fitting, done-empty, done-signals, done-one, done-signal, done-pair, Firsts, firsts, first-refused, both}
+use Rattle.layout.proofs.Walk.{Heading, heading, narrow, byte, head-fits, onward, forward, within, again, fitting, done-empty, done-bad, done-deep, done-signals, done-one, done-signal, done-pair, Firsts, firsts, first-refused, both}
 use Rattle.reading.proofs.Parting.{two-bare, choice, one-part, declaration, plain}
 use Rattle.reading.proofs.reader.first.Reads as first
 use Rattle.reading.proofs.reader.first.Kinds as first-kinds
@@ -25,12 +27,13 @@ use Rattle.reading.proofs.reader.two.Reads as two
 use Rattle.reading.proofs.reader.two.Kinds as two-kinds
 use Rattle.reading.proofs.reader.+first+read+two.Lts-two as two-lts
 use Rattle.reading_heads.proofs.is_leaf.Reads as is-leaf-reads
+use Rattle.reading_heads.proofs.width.Reads as width-reads
 use Rattle.reading_leaves.proofs.ahead.Reads as ahead-reads
 use Rattle.reading_leaves.proofs.leaf.Reads as leaf-reads
 use Rattle.reading_steps.proofs.declare.Reads as declare-reads
 use Rattle.reading_steps.proofs.declares.Reads as declares-reads
-use Rattle.reading_steps.proofs.head.Reads as head-reads
 use Rattle.reading_steps.proofs.is_choice.Reads as is-choice-reads
+use Rattle.reading_steps.proofs.is_deep.Reads as is-deep-reads
 use Rattle.reading_steps.proofs.mark.Reads as mark-reads
 use Rattle.reading.proofs.reader.+first+read+two.{statement}
 use Rattle.reading.proofs.reader.+first+read+two.Tie.{close}
@@ -72,14 +75,16 @@ read-claims t = (
   is-leaf-reads.Learnt,
   leaf-reads.Asked,
   leaf-reads.Learnt,
-  head-reads.Asked,
-  head-reads.Learnt,
-  two-below t,
-  two.Post,
+  width-reads.Asked,
+  width-reads.Learnt,
+  is-deep-reads.Asked,
+  is-deep-reads.Learnt,
   is-choice-reads.Asked,
   is-choice-reads.Learnt,
   declares-reads.Asked,
   declares-reads.Learnt,
+  two-below t,
+  two.Post,
   declare-reads.Asked,
   declare-reads.Learnt,
   read-below t,
@@ -126,42 +131,36 @@ first-returns-2 t c =
     (reads (i .args .depth) (i .args .signals) (i .args .at) l) (c .read .result))
     (c .before .before .before .before .before .ahead .ensures .0 (c .before .before .before .before .if1 .left)) (rest-is 0 (i .args .s .now)) (c .read .ensures)
 
--- ---- what is known once the head of the command is read
-abbrev bytes-of : (t : ℕ) → read-lts.Else3 (read-claims t) (read-at t) read.Post → List ℕ
-bytes-of t q = q .before .before .before .before .before .before .before .args .s .now
+-- ---- what is known once the command is seen to have parts and a level
+abbrev bytes-of : (t : ℕ) → read-lts.After-declares (read-claims t) (read-at t) read.Post → List ℕ
+bytes-of t q = q .before .before .before .before .before .before .before .before .before .before .before .args .s .now
 
-head-of : (t : ℕ) (q : read-lts.Else3 (read-claims t) (read-at t) read.Post) → Heading (bytes-of t q) (q .before .head .result)
-head-of t q = heading _ _ (q .before .head .ensures .wide (q .if3 .left)) (q .if3 .left)
+head-of : (t : ℕ) (q : read-lts.After-declares (read-claims t) (read-at t) read.Post) → Heading (bytes-of t q) (q .before .before .before .before .before .width .result)
+head-of t q = heading _ _ (q .before .before .before .before .before .width .ensures) (q .before .before .before .before .if3 .left)
 
-level : (t : ℕ) (q : read-lts.Else3 (read-claims t) (read-at t) read.Post) → (q .before .before .before .before .before .before .before .args .depth ≡ 0 → ⊥)
-level t q = q .before .head .ensures .level (q .if3 .left)
+level : (t : ℕ) (q : read-lts.After-declares (read-claims t) (read-at t) read.Post) → (q .before .before .before .before .before .before .before .before .before .before .before .args .depth ≡ 0 → ⊥)
+level t q = eqb-false _ 0 (sym (q .before .before .before .is-deep .ensures) ∙ q .before .before .if4 .left)
 
-parted : (t : ℕ) (q : read-lts.Else3 (read-claims t) (read-at t) read.Post) → (partCount (head-of t q .of) ≡ 0 → ⊥)
-parted t q = with-parts (head-of t q .of) (byte (head-of t q)) (sym (q .before .before .before .is-leaf .ensures) ∙ q .before .before .if2 .left)
+parted : (t : ℕ) (q : read-lts.After-declares (read-claims t) (read-at t) read.Post) → (partCount (head-of t q .of) ≡ 0 → ⊥)
+parted t q = with-parts (head-of t q .of) (byte (head-of t q)) (sym (q .before .before .before .before .before .before .before .is-leaf .ensures) ∙ q .before .before .before .before .before .before .if2 .left)
 
-byte-at : (t : ℕ) (q : read-lts.Else3 (read-claims t) (read-at t) read.Post) → getD (bytes-of t q) 0 0 ≡ byteOf (head-of t q .of)
+byte-at : (t : ℕ) (q : read-lts.After-declares (read-claims t) (read-at t) read.Post) → getD (bytes-of t q) 0 0 ≡ byteOf (head-of t q .of)
 byte-at t q = byte-is (getD (bytes-of t q) 0 0) (head-of t q .of) (byte (head-of t q))
 
-fits-in : (t : ℕ) (q : read-lts.Else3 (read-claims t) (read-at t) read.Post) → 1 ≤ length (bytes-of t q)
+fits-in : (t : ℕ) (q : read-lts.After-declares (read-claims t) (read-at t) read.Post) → 1 ≤ length (bytes-of t q)
 fits-in t q = omega (arith, head-fits (head-of t q))
 
 -- the command of two bytes
-wide-fits : (t : ℕ) (q : read-lts.Else3 (read-claims t) (read-at t) read.Post) → 2 ≡ headLength (head-of t q .of) → 2 ≤ length (bytes-of t q)
+wide-fits : (t : ℕ) (q : read-lts.After-declares (read-claims t) (read-at t) read.Post) → 2 ≡ headLength (head-of t q .of) → 2 ≤ length (bytes-of t q)
 wide-fits t q e = omega (arith, e, head-of t q .wide, head-fits (head-of t q))
 
-chosen : (t : ℕ) (c : read-lts.Then5 (read-claims t) (read-at t) read.Post)
-    → (partCount (head-of t (c .before .before .before) .of) ≡ 2) × (2 ≡ headLength (head-of t (c .before .before .before) .of))
-chosen t c =
-    let q = c .before .before .before in
-    choice (head-of t q .of) (parted t q) (sym (c .before .is-choice .ensures (head-of t q .of) (byte (head-of t q))) ∙ c .if5 .taken)
+chosen : (t : ℕ) (q : read-lts.After-declares (read-claims t) (read-at t) read.Post) → q .before .is-choice .result ≡ true
+    → (partCount (head-of t q .of) ≡ 2) × (2 ≡ headLength (head-of t q .of))
+chosen t q e = choice (head-of t q .of) (parted t q) (sym (q .before .is-choice .ensures (head-of t q .of) (byte (head-of t q))) ∙ e)
 
-declared : (t : ℕ) (c : read-lts.Then6 (read-claims t) (read-at t) read.Post)
-    → (partCount (head-of t (c .before .before .before .before .before) .of) ≡ 1)
-    × (2 ≡ headLength (head-of t (c .before .before .before .before .before) .of))
-    × (declares (head-of t (c .before .before .before .before .before) .of) ≡ 1)
-declared t c =
-    let q = c .before .before .before .before .before in
-    declaration (head-of t q .of) (parted t q) (sym (c .before .declares .ensures (head-of t q .of) (byte (head-of t q))) ∙ c .if6 .taken)
+declared : (t : ℕ) (q : read-lts.After-declares (read-claims t) (read-at t) read.Post) → q .declares .result ≡ true
+    → (partCount (head-of t q .of) ≡ 1) × (2 ≡ headLength (head-of t q .of)) × (declares (head-of t q .of) ≡ 1)
+declared t q e = declaration (head-of t q .of) (parted t q) (sym (q .declares .ensures (head-of t q .of) (byte (head-of t q))) ∙ e)
 
 read-mul-result : (t : ℕ) → read-lts.Need-mul-result (read-claims t) (read-at t) read.Post
 read-mul-result t c = search needs
@@ -184,13 +183,28 @@ read-leaf-requires t c κs =
 read-returns-2 : (t : ℕ) → read-lts.Need-returns-2 (read-claims t) (read-at t) read.Post
 read-returns-2 t c = c .leaf .ensures (c .before .before .before .before .before .before .before .args .signals) (c .before .before .before .before .before .before .before .args .second .now)
 
-read-head-requires : (t : ℕ) → read-lts.Need-head-requires (read-claims t) (read-at t) read.Post
-read-head-requires t c κs =
+read-width-requires : (t : ℕ) → read-lts.Need-width-requires (read-claims t) (read-at t) read.Post
+read-width-requires t c κs =
     let n : 0 < length (c .before .before .before .before .before .args .s .now) = omega (arith, c .before .before .before .if1 .left) in
     ((n, refl), sym (c .before .is-leaf .ensures) ∙ c .if2 .left)
 
 read-returns-3 : (t : ℕ) → read-lts.Need-returns-3 (read-claims t) (read-at t) read.Post
-read-returns-3 t c = c .before .head .ensures .refused (c .if3 .taken) _ _ _ _ _ _ (c .before .before .before .before .before .before .before .pre .1 .fits)
+read-returns-3 t c = done-bad _ _ _ _ _ _ _ _ _ (c .before .before .before .before .before .before .before .pre .1 .fits) (c .before .width .ensures) (c .if3 .taken)
+
+read-is-deep-requires : (t : ℕ) → read-lts.Need-is-deep-requires (read-claims t) (read-at t) read.Post
+read-is-deep-requires t c κs = search needs
+
+read-mul-result-2 : (t : ℕ) → read-lts.Need-mul-result-2 (read-claims t) (read-at t) read.Post
+read-mul-result-2 t c = search needs
+
+read-returns-4 : (t : ℕ) → read-lts.Need-returns-4 (read-claims t) (read-at t) read.Post
+read-returns-4 t c = done-deep (heading _ _ (c .before .before .before .width .ensures) (c .before .before .if3 .left)) _ _ _ _ _ _ _ (eqb-true _ 0 (sym (c .before .is-deep .ensures) ∙ c .if4 .taken))
+
+read-is-choice-requires : (t : ℕ) → read-lts.Need-is-choice-requires (read-claims t) (read-at t) read.Post
+read-is-choice-requires t c κs = search needs
+
+read-declares-requires : (t : ℕ) → read-lts.Need-declares-requires (read-claims t) (read-at t) read.Post
+read-declares-requires t c κs = search needs
 
 read-sub-two : (t : ℕ) → read-lts.Need-sub-two (read-claims t) (read-at t) read.Post
 read-sub-two t c = omega (arith, fits-in t (c .before))
@@ -207,63 +221,57 @@ read-sub-two-2 t c = let n = level t (c .before .before) in omega (arith, n)
 read-two-requires : (t : ℕ) → read-lts.Need-two-requires (read-claims t) (read-at t) read.Post
 read-two-requires t c κs =
     let q = c .before .before .before .before in
-    let i = c .before .before .before .before .before .before .before .before .before .before .before in
+    let i = c .before .before .before .before .before .before .before .before .before .before .before .before .before .before .before in
     (omega (arith, i .pre .0, level t q), (omega arith, forward 1 (fits-in t q) (i .pre .1)))
 
-read-returns-4 : (t : ℕ) → read-lts.Need-returns-4 (read-claims t) (read-at t) read.Post
-read-returns-4 t c =
+read-returns-5 : (t : ℕ) → read-lts.Need-returns-5 (read-claims t) (read-at t) read.Post
+read-returns-5 t c =
     let q = c .before .before .before .before .before in
-    let i = c .before .before .before .before .before .before .before .before .before .before .before .before in
-    let k = two-bare (head-of t q .of) (parted t q) (omega (arith, byte-at t q, c .before .before .before .before .if4 .taken)) in
+    let i = c .before .before .before .before .before .before .before .before .before .before .before .before .before .before .before .before in
+    let k = two-bare (head-of t q .of) (parted t q) (omega (arith, byte-at t q, c .before .before .before .before .if5 .taken)) in
     done-pair (narrow (head-of t q) (k .1)) _ _ _ (level t q) (k .0) _ (rest-is 1 (i .args .s .now)) _ _ _ _ _ (c .two .ensures)
 
-read-is-choice-requires : (t : ℕ) → read-lts.Need-is-choice-requires (read-claims t) (read-at t) read.Post
-read-is-choice-requires t c κs = search needs
-
 read-sub-two-3 : (t : ℕ) → read-lts.Need-sub-two-3 (read-claims t) (read-at t) read.Post
-read-sub-two-3 t c = omega (arith, wide-fits t (c .before .before .before) (chosen t (c) .1))
+read-sub-two-3 t c = omega (arith, wide-fits t (c .before .before) (chosen t (c .before .before) (c .if6 .taken) .1))
 
 read-part-two-start-2 : (t : ℕ) → read-lts.Need-part-two-start-2 (read-claims t) (read-at t) read.Post
-read-part-two-start-2 t c = omega (arith, wide-fits t (c .before .before .before) (chosen t (c) .1))
+read-part-two-start-2 t c = omega (arith, wide-fits t (c .before .before) (chosen t (c .before .before) (c .if6 .taken) .1))
 
 read-part-two-end-2 : (t : ℕ) → read-lts.Need-part-two-end-2 (read-claims t) (read-at t) read.Post
 read-part-two-end-2 t c = search needs
 
 read-sub-two-4 : (t : ℕ) → read-lts.Need-sub-two-4 (read-claims t) (read-at t) read.Post
-read-sub-two-4 t c = let n = level t (c .before .before .before .before) in omega (arith, n)
+read-sub-two-4 t c = let n = level t (c .before .before .before) in omega (arith, n)
 
 read-two-requires-2 : (t : ℕ) → read-lts.Need-two-requires-2 (read-claims t) (read-at t) read.Post
 read-two-requires-2 t c κs =
-    let q = c .before .before .before .before .before .before in
-    let i = c .before .before .before .before .before .before .before .before .before .before .before .before .before in
-    (omega (arith, i .pre .0, level t q), (omega arith, forward 2 (wide-fits t q (chosen t (c .before .before .before) .1)) (i .pre .1)))
-
-read-returns-5 : (t : ℕ) → read-lts.Need-returns-5 (read-claims t) (read-at t) read.Post
-read-returns-5 t c =
-    let q = c .before .before .before .before .before .before .before in
-    let i = c .before .before .before .before .before .before .before .before .before .before .before .before .before .before in
-    let k = chosen t (c .before .before .before .before) in
-    done-pair (narrow (head-of t q) (k .1)) _ _ _ (level t q) (k .0) _ (rest-is 2 (i .args .s .now)) _ _ _ _ _ (c .two2 .ensures)
-
-read-declares-requires : (t : ℕ) → read-lts.Need-declares-requires (read-claims t) (read-at t) read.Post
-read-declares-requires t c κs = search needs
-
-read-declare-requires : (t : ℕ) → read-lts.Need-declare-requires (read-claims t) (read-at t) read.Post
-read-declare-requires t c κs = c .before .before .before .before .before .before .before .before .before .before .before .before .before .pre .1 .allowed
-
-read-mul-result-2 : (t : ℕ) → read-lts.Need-mul-result-2 (read-claims t) (read-at t) read.Post
-read-mul-result-2 t c = search needs
+    let q = c .before .before .before .before .before in
+    let i = c .before .before .before .before .before .before .before .before .before .before .before .before .before .before .before .before in
+    (omega (arith, i .pre .0, level t q), (omega arith, forward 2 (wide-fits t q (chosen t (c .before .before .before .before .before) (c .before .before .before .if6 .taken) .1)) (i .pre .1)))
 
 read-returns-6 : (t : ℕ) → read-lts.Need-returns-6 (read-claims t) (read-at t) read.Post
 read-returns-6 t c =
-    let q = c .before .before .before .before .before .before .before .before in
-    done-signals (head-of t q) _ _ _ (level t q) _ _ _ _ 1 (sym (declared t (c .before .before .before) .2)) (omega (arith, c .before .declare .ensures .crowded (c .if7 .taken)))
+    let q = c .before .before .before .before .before .before in
+    let i = c .before .before .before .before .before .before .before .before .before .before .before .before .before .before .before .before .before in
+    let k = chosen t (c .before .before .before .before .before .before) (c .before .before .before .before .if6 .taken) in
+    done-pair (narrow (head-of t q) (k .1)) _ _ _ (level t q) (k .0) _ (rest-is 2 (i .args .s .now)) _ _ _ _ _ (c .two2 .ensures)
+
+read-declare-requires : (t : ℕ) → read-lts.Need-declare-requires (read-claims t) (read-at t) read.Post
+read-declare-requires t c κs = c .before .before .before .before .before .before .before .before .before .before .before .before .before .before .before .pre .1 .allowed
+
+read-mul-result-3 : (t : ℕ) → read-lts.Need-mul-result-3 (read-claims t) (read-at t) read.Post
+read-mul-result-3 t c = search needs
+
+read-returns-7 : (t : ℕ) → read-lts.Need-returns-7 (read-claims t) (read-at t) read.Post
+read-returns-7 t c =
+    let q = c .before .before .before .before .before .before in
+    done-signals (head-of t q) _ _ _ (level t q) _ _ _ _ 1 (sym (declared t (c .before .before .before .before .before .before) (c .before .before .before .if7 .taken) .2)) (omega (arith, c .before .declare .ensures .crowded (c .if8 .taken)))
 
 read-sub-read : (t : ℕ) → read-lts.Need-sub-read (read-claims t) (read-at t) read.Post
-read-sub-read t c = omega (arith, wide-fits t (c .before .before .before .before .before .before .before .before) (declared t (c .before .before .before) .1))
+read-sub-read t c = omega (arith, wide-fits t (c .before .before .before .before .before .before) (declared t (c .before .before .before .before .before .before) (c .before .before .before .if7 .taken) .1))
 
 read-part-read-start : (t : ℕ) → read-lts.Need-part-read-start (read-claims t) (read-at t) read.Post
-read-part-read-start t c = omega (arith, wide-fits t (c .before .before .before .before .before .before .before .before) (declared t (c .before .before .before) .1))
+read-part-read-start t c = omega (arith, wide-fits t (c .before .before .before .before .before .before) (declared t (c .before .before .before .before .before .before) (c .before .before .before .if7 .taken) .1))
 
 read-part-read-end : (t : ℕ) → read-lts.Need-part-read-end (read-claims t) (read-at t) read.Post
 read-part-read-end t c = search needs
@@ -272,31 +280,31 @@ read-add-read : (t : ℕ) → read-lts.Need-add-read (read-claims t) (read-at t)
 read-add-read t c = search needs
 
 read-sub-read-2 : (t : ℕ) → read-lts.Need-sub-read-2 (read-claims t) (read-at t) read.Post
-read-sub-read-2 t c = let n = level t (c .before .before .before .before .before .before .before .before .before) in omega (arith, n)
+read-sub-read-2 t c = let n = level t (c .before .before .before .before .before .before .before) in omega (arith, n)
 
 read-read-requires : (t : ℕ) → read-lts.Need-read-requires (read-claims t) (read-at t) read.Post
 read-read-requires t c κs =
-    let q = c .before .before .before .before .before .before .before .before .before .before .before in
-    let i = c .before .before .before .before .before .before .before .before .before .before .before .before .before .before .before .before .before .before in
+    let q = c .before .before .before .before .before .before .before .before .before in
+    let i = c .before .before .before .before .before .before .before .before .before .before .before .before .before .before .before .before .before .before .before .before in
     let d = c .before .before .before .before .declare in
-    let l = d .ensures .left (c .before .before .before .if7 .left) in
-    (omega (arith, i .pre .0, level t q), within 2 _ _ (wide-fits t q (declared t (c .before .before .before .before .before .before) .1)) (omega (arith, l)) (d .ensures .noted (c .before .before .before .if7 .left)) (i .pre .1))
+    let l = d .ensures .left (c .before .before .before .if8 .left) in
+    (omega (arith, i .pre .0, level t q), within 2 _ _ (wide-fits t q (declared t (c .before .before .before .before .before .before .before .before .before) (c .before .before .before .before .before .before .if7 .taken) .1)) (omega (arith, l)) (d .ensures .noted (c .before .before .before .if8 .left)) (i .pre .1))
 
-read-returns-7 : (t : ℕ) → read-lts.Need-returns-7 (read-claims t) (read-at t) read.Post
-read-returns-7 t c =
-    let q = c .before .before .before .before .before .before .before .before .before .before .before .before in
-    let i = c .before .before .before .before .before .before .before .before .before .before .before .before .before .before .before .before .before .before .before in
-    let k = declared t (c .before .before .before .before .before .before .before) in
+read-returns-8 : (t : ℕ) → read-lts.Need-returns-8 (read-claims t) (read-at t) read.Post
+read-returns-8 t c =
+    let q = c .before .before .before .before .before .before .before .before .before .before in
+    let i = c .before .before .before .before .before .before .before .before .before .before .before .before .before .before .before .before .before .before .before .before .before in
+    let k = declared t (c .before .before .before .before .before .before .before .before .before .before) (c .before .before .before .before .before .before .before .if7 .taken) in
     let d = c .before .before .before .before .before .declare in
-    let l = d .ensures .left (c .before .before .before .before .if7 .left) in
+    let l = d .ensures .left (c .before .before .before .before .if8 .left) in
     done-signal (narrow (head-of t q) (k .1)) _ _ _ (level t q) (k .0) (k .2) (l .0) (i .pre .1 .allowed) _
-    (rest-is 2 (i .args .s .now)) _ _ _ _ _ _ (d .ensures .noted (c .before .before .before .before .if7 .left)) (rw (l .1) at (c .read .ensures))
+    (rest-is 2 (i .args .s .now)) _ _ _ _ _ _ (d .ensures .noted (c .before .before .before .before .if8 .left)) (rw (l .1) at (c .read .ensures))
 
 read-sub-read-3 : (t : ℕ) → read-lts.Need-sub-read-3 (read-claims t) (read-at t) read.Post
-read-sub-read-3 t c = omega (arith, head-fits (head-of t (c .before .before .before .before .before)))
+read-sub-read-3 t c = omega (arith, head-fits (head-of t (c .before .before .before)))
 
 read-part-read-start-2 : (t : ℕ) → read-lts.Need-part-read-start-2 (read-claims t) (read-at t) read.Post
-read-part-read-start-2 t c = omega (arith, head-fits (head-of t (c .before .before .before .before .before)))
+read-part-read-start-2 t c = omega (arith, head-fits (head-of t (c .before .before .before)))
 
 read-part-read-end-2 : (t : ℕ) → read-lts.Need-part-read-end-2 (read-claims t) (read-at t) read.Post
 read-part-read-end-2 t c = search needs
@@ -305,21 +313,21 @@ read-add-read-2 : (t : ℕ) → read-lts.Need-add-read-2 (read-claims t) (read-a
 read-add-read-2 t c = search needs
 
 read-sub-read-4 : (t : ℕ) → read-lts.Need-sub-read-4 (read-claims t) (read-at t) read.Post
-read-sub-read-4 t c = let n = level t (c .before .before .before .before .before .before) in omega (arith, n)
+read-sub-read-4 t c = let n = level t (c .before .before .before .before) in omega (arith, n)
 
 read-read-requires-2 : (t : ℕ) → read-lts.Need-read-requires-2 (read-claims t) (read-at t) read.Post
 read-read-requires-2 t c κs =
-    let q = c .before .before .before .before .before .before .before .before in
-    let i = c .before .before .before .before .before .before .before .before .before .before .before .before .before .before .before in
+    let q = c .before .before .before .before .before .before in
+    let i = c .before .before .before .before .before .before .before .before .before .before .before .before .before .before .before .before .before in
     (omega (arith, i .pre .0, level t q), forward _ (head-fits (head-of t q) .1) (i .pre .1))
 
-read-returns-8 : (t : ℕ) → read-lts.Need-returns-8 (read-claims t) (read-at t) read.Post
-read-returns-8 t c =
-    let q = c .before .before .before .before .before .before .before .before .before in
+read-returns-9 : (t : ℕ) → read-lts.Need-returns-9 (read-claims t) (read-at t) read.Post
+read-returns-9 t c =
+    let q = c .before .before .before .before .before .before .before in
     let h = head-of t q in
     let k = h .of in
-    done-one h _ _ _ (level t q) (one-part k (parted t q) (omega (arith, byte-at t q, c .before .before .before .before .before .before .before .before .if4 .left)) (sym (c .before .before .before .before .before .before .before .is-choice .ensures k (byte h)) ∙ c .before .before .before .before .before .before .if5 .left))
-    (plain k (parted t q) (sym (c .before .before .before .before .before .declares .ensures k (byte h)) ∙ c .before .before .before .before .if6 .left)) _ (rest-is _ (c .before .before .before .before .before .before .before .before .before .before .before .before .before .before .before .before .args .s .now)) _ _ _ _ _ (c .read2 .ensures)
+    done-one h _ _ _ (level t q) (one-part k (parted t q) (omega (arith, byte-at t q, c .before .before .before .before .before .before .if5 .left)) (sym (c .before .before .before .before .before .before .before .before .is-choice .ensures k (byte h)) ∙ c .before .before .before .before .before .if6 .left))
+    (plain k (parted t q) (sym (c .before .before .before .before .before .before .before .declares .ensures k (byte h)) ∙ c .before .before .before .before .if7 .left)) _ (rest-is _ (c .before .before .before .before .before .before .before .before .before .before .before .before .before .before .before .before .before .before .args .s .now)) _ _ _ _ _ (c .read2 .ensures)
 
 -- ---- the first part, of the bytes behind the command
 first-told : (t : ℕ) (c : two-lts.After-first (two-claims t) (two-at t) two.Post)
@@ -417,39 +425,42 @@ pub +first+read+two-spec : {M : Type 1} → statement M
     (read-is-leaf-requires t)
     (read-leaf-requires t)
     (read-returns-2 t)
-    (read-head-requires t)
+    (read-width-requires t)
     (read-returns-3 t)
+    (read-is-deep-requires t)
+    (read-mul-result-2 t)
+    (read-returns-4 t)
+    (read-is-choice-requires t)
+    (read-declares-requires t)
     (read-sub-two t)
     (read-part-two-start t)
     (read-part-two-end t)
     (read-sub-two-2 t)
     (read-two-requires t)
-    (read-returns-4 t)
-    (read-is-choice-requires t)
+    (read-returns-5 t)
     (read-sub-two-3 t)
     (read-part-two-start-2 t)
     (read-part-two-end-2 t)
     (read-sub-two-4 t)
     (read-two-requires-2 t)
-    (read-returns-5 t)
-    (read-declares-requires t)
-    (read-declare-requires t)
-    (read-mul-result-2 t)
     (read-returns-6 t)
+    (read-declare-requires t)
+    (read-mul-result-3 t)
+    (read-returns-7 t)
     (read-sub-read t)
     (read-part-read-start t)
     (read-part-read-end t)
     (read-add-read t)
     (read-sub-read-2 t)
     (read-read-requires t)
-    (read-returns-7 t)
+    (read-returns-8 t)
     (read-sub-read-3 t)
     (read-part-read-start-2 t)
     (read-part-read-end-2 t)
     (read-add-read-2 t)
     (read-sub-read-4 t)
     (read-read-requires-2 t)
-    (read-returns-8 t))
+    (read-returns-9 t))
     λ t. two-lts.spec (two-claims t) (two-at t) two.Post
     (two-sub-first t)
     (two-part-first-start t)
