@@ -1,23 +1,13 @@
 // The ceiling on the reactions of an instant (02, item 6), from the bytes of a sequence and a read-back set.
 ghost use mathlib.Core.Path.{_≡_};
 ghost use mathlib.Core.List.{List};
-ghost use Prim.Native.Nat.{ℕ, _+_, _*_, _^_};
+ghost use Prim.Native.Nat.{ℕ};
 ghost use Rattle.sequence.specs.Check.{checked};
 ghost use Rattle.sequence.specs.Ceilings.{ceilingOf};
 ghost use Rattle.checks.specs.Verdict.{Passed};
-ghost use Rattle.ceilings.specs.Ceilings.{Plannable};
 ghost use Rattle.ceilings.specs.Plans.{planOf};
-use extents::Extent;
 use layout::SecondParts;
 use notes::Notes;
-
-// The ceiling of a statement with these numbers under k declarations: each is a command and a signal around one.
-fn under(n: Extent, k: u32) -> u32
-    requires { ⌜ Plannable n k ⌝ }
-    ensures { λ r. ⌜ r ≡ (k + n .commands) * (1 + n .loops) * 2 ^ (k + n .signals) ⌝ }
-{
-    (k + n.commands) * (1 + n.loops) * (1 << (k + n.signals))
-}
 
 // The ceiling of a sequence that the check has passed, with the table of second parts that it left.
 pub fn of_accepted(sequence: &[u8], read_back: u32, second: &SecondParts) -> u32
@@ -25,7 +15,7 @@ pub fn of_accepted(sequence: &[u8], read_back: u32, second: &SecondParts) -> u32
     ensures { λ r. ⌜ r ≡ ceilingOf «read_back» (checked (now (sequence .entry)) «read_back») ⌝ }
 {
     let n = extents::of_statement(sequence, 0, limits::MAX_DEPTH, second);
-    under(n, signals::size(read_back) as u32)
+    ceilings_products::under(n, read_back)
 }
 
 // The row that turns a sequence down, or the ceiling of one that passes the check.

@@ -1,17 +1,18 @@
 -- The verdict of the check, from the reader's answer and the label rules.
 use Prim.Native.Nat.{ℕ, _+_, _-_, _≤_, _<_}
 use mathlib.Core.Path.{_≡_, refl, sym, ap, _∙_, subst}
-use mathlib.Core.Bool.{Bool, true, false, cond}
+use mathlib.Core.Bool.{Bool, true, false, cond, _&&_, and-eq-true-iff}
 use mathlib.Core.List.{List}
 use native.Mathlib.Omega.{arith}
+use native.Mathlib.Decide.{decLt}
 use lib.Dec.{leb, ltb}
 use lib.ListN.{length}
-use borrow.Author.Tests.{lt-ltb, le-ltb, le-leb, lt-leb}
+use borrow.Author.Tests.{lt-ltb, le-ltb, leb-true}
 use Rattle.esterel.specs.Statement.{Statement}
 use Rattle.esterel.specs.LabelTests.{distinct, targeted, wellFormed}
 use Rattle.reading.specs.declared.reader.Reading.{Reading}
 use Rattle.reading.specs.declared.reader.Reading.the-variants.{Accepted, Refused}
-use Rattle.limits.specs.Limits.{maxDepth, maxSignals, readBackPlace}
+use Rattle.limits.specs.Limits.{maxBytes, maxDepth, maxSignals, readBackPlace}
 use Rattle.theory.proofs.Ceiling.{nesting-declared}
 use Rattle.sequence.specs.Reader.{Read, accepted, refused, readAll}
 use Rattle.esterel.specs.Sizes.{signalNesting}
@@ -38,6 +39,9 @@ rules-sound true true false p q e = never-sound e
 rules-sound true false c p q e = never-sound e
 rules-sound false b c p q e = never-sound e
 
+pub sized-few : (bs : List ℕ) → (leb 1 (length bs) && leb (length bs) maxBytes) ≡ true → length bs ≤ maxBytes
+sized-few bs e = leb-true (length bs) maxBytes (and-eq-true-iff (leb 1 (length bs)) (leb (length bs) maxBytes) .0 e .1)
+
 -- the bytes begin with a statement of n bytes, around which so many more signals may stand
 record ReadAs (bs : List ℕ) (n left : ℕ) : Type 0 where
   statement : Statement
@@ -50,25 +54,17 @@ module _ (bs : List ℕ) (readBack : ℕ) (t notes : List ℕ) where
   unfolding checkOf
   refuse e h = record { number = h ∙ ap numberOf (sym e); known = λ p z. never-sound (sym e ∙ z) }
 
-  pub too-short : length bs ≡ 0 → Judged bs readBack t notes 2
+  pub unsized : (leb 1 (length bs) && leb (length bs) maxBytes) ≡ false → Judged bs readBack t notes 2
   unfolding checked
-  too-short e = refuse (let z : leb 1 (length bs) ≡ false = lt-leb 1 (length bs) (omega arith) in rw z) refl
+  unsized e = refuse (rw e) refl
 
-  pub too-long : 1024 < length bs → Judged bs readBack t notes 2
-  unfolding checked
-  too-long e =
-      refuse
-      (let y : leb 1 (length bs) ≡ true = le-leb 1 (length bs) (omega arith) in
-      let z : leb (length bs) 1024 ≡ false = lt-leb (length bs) 1024 e in
-      rw (y, z)) refl
+  module _ (sized : (leb 1 (length bs) && leb (length bs) maxBytes) ≡ true) {x : Reading} (h : Reads bs t notes x) where
+    few : length bs ≤ maxBytes
+    few = sized-few bs sized
 
-  module _ (some : length bs ≡ 0 → ⊥) (few : length bs ≤ 1024) {x : Reading} (h : Reads bs t notes x) where
     by-reading : (y : Read) → readAll bs ≡ y → checked bs readBack ≡ afterRead readBack (length bs) y
     unfolding checked
-    by-reading y e =
-        let u : leb 1 (length bs) ≡ true = le-leb 1 (length bs) (omega (arith, some)) in
-        let v : leb (length bs) 1024 ≡ true = le-leb (length bs) 1024 few in
-        rw (u, v, e)
+    by-reading y e = rw (sized, e)
 
     pub refused-is : {r : ℕ} → x ≡ Refused r → Judged bs readBack t notes r
     refused-is {r} g = go (readAll bs) refl (sym g ∙ h .answer)
@@ -92,7 +88,7 @@ module _ (bs : List ℕ) (readBack : ℕ) (t notes : List ℕ) where
       written = Sound.sound maxDepth maxSignals 0 bs p n (as-read .reads)
 
       laid : Lies t maxDepth 0 0 bs p
-      laid = lies t maxDepth maxSignals 0 0 bs p n (as-read .reads) (h .marked p n (as-read .reads) .0) (omega arith)
+      laid = lies t maxDepth maxSignals 0 0 bs p n (as-read .reads) (h .marked p n (as-read .reads) .0) (omega (arith, few))
 
       noted : Noted p notes
       noted = subst (Noted p) (sym (h .marked p n (as-read .reads) .1)) (Noting.noted p (written .within .ranged))
@@ -127,3 +123,29 @@ module _ (bs : List ℕ) (readBack : ℕ) (t notes : List ℕ) where
                     let s = rules-sound (distinct p) (targeted p) (wellFormed p) p q (sym e ∙ z) in
                     subst (Known t notes bs) (s .1) (record { lies = laid; noted = noted; once = s .0; long = h .long p n (as-read .reads) });
               }
+
+      -- rows 6 and 7
+      pub by-numbers : {r : ℕ} → r ≡ cond (ltb left (length (readBackSignals readBack))) 6 (cond (ltb n (length bs)) 7 0) → (r ≡ 0 → ⊥) → Judged bs readBack t notes r
+      by-numbers {r} e z = go (decLt left (length (readBackSignals readBack))) (decLt n (length bs))
+        where
+          go : Dec (left < length (readBackSignals readBack)) → Dec (n < length bs) → Judged bs readBack t notes r
+          go (yes l) d = let k : r ≡ 6 = e ∙ rw (lt-ltb left (length (readBackSignals readBack)) l) in rw k (too-many refl l)
+          go (no m) (yes l) =
+              let f : length (readBackSignals readBack) ≤ left = omega (arith, m) in
+              let k : r ≡ 7 = e ∙ rw (le-ltb left (length (readBackSignals readBack)) f, lt-ltb n (length bs) l) in
+              rw k (bytes-left refl f l)
+          go (no m) (no l) =
+              let f : length (readBackSignals readBack) ≤ left = omega (arith, m) in
+              let g : length bs ≤ n = omega (arith, l) in
+              absurd (z (e ∙ rw (le-ltb left (length (readBackSignals readBack)) f, le-ltb n (length bs) g)))
+
+      -- neither of them
+      pub passes : _≡_ {A = ℕ} 0 (cond (ltb left (length (readBackSignals readBack))) 6 (cond (ltb n (length bs)) 7 0)) → (length (readBackSignals readBack) ≤ left) × (length bs ≤ n)
+      passes e = go (decLt left (length (readBackSignals readBack))) (decLt n (length bs))
+        where
+          go : Dec (left < length (readBackSignals readBack)) → Dec (n < length bs) → (length (readBackSignals readBack) ≤ left) × (length bs ≤ n)
+          go (yes l) d = absurd (let k : _≡_ {A = ℕ} 0 6 = e ∙ rw (lt-ltb left (length (readBackSignals readBack)) l) in omega arith)
+          go (no m) (yes l) =
+              let f : length (readBackSignals readBack) ≤ left = omega (arith, m) in
+              absurd (let k : _≡_ {A = ℕ} 0 7 = e ∙ rw (le-ltb left (length (readBackSignals readBack)) f, lt-ltb n (length bs) l) in omega arith)
+          go (no m) (no l) = (omega (arith, m), omega (arith, l))

@@ -15,22 +15,17 @@ pub fn check(s: &[u8], read_back: u32, second: &mut SecondParts, notes: &mut Not
     requires { ⌜ now notes ≡ noNotes ⌝ }
     ensures { λ r. ⌜ Judged (now (s .entry)) «read_back» (now (second .exit)) (now (notes .exit)) r ⌝ }
 {
-    if s.len() == 0 {
-        return 2;
-    }
-    if s.len() > limits::MAX_BYTES {
+    if !checks_rows::is_sized(s.len()) {
         return 2;
     }
     match reading::reader::read_sequence(s, second, notes) {
         Reading::Refused(row) => row,
         Reading::Accepted(n, left) => {
-            if left < signals::size(read_back) {
-                6
-            } else if n < s.len() {
-                7
-            } else {
-                checks_labels::label_row(s, notes)
+            let row = checks_rows::after_reading(n, left, s.len(), read_back);
+            if row == 0 {
+                return checks_labels::label_row(s, notes);
             }
+            row
         }
     }
 }

@@ -1,5 +1,5 @@
 -- What the ceiling of a sequence with a read-back set is made of (02, item 6).
-use Prim.Native.Nat.{ℕ, _+_, _≤_, _<_}
+use Prim.Native.Nat.{ℕ, _+_, _*_, _^_, _≤_, _<_}
 use Rattle.limits.specs.Limits.{maxBytes, maxDepth, maxSignals}
 use Rattle.extents.specs.declared.Extent.{Extent}
 
@@ -8,3 +8,7 @@ pub record Plannable (n : Extent) (k : ℕ) : Type 0 where
   pub count : n .commands ≤ maxBytes
   pub loops : n .loops < maxDepth
   pub signals : k + n .signals ≤ maxSignals
+
+-- the ceiling of a statement with these numbers under k declarations
+abbrev pub product : Extent → (k : ℕ) → ℕ
+product n k = (k + n .commands) * (1 + n .loops) * 2 ^ (k + n .signals)
