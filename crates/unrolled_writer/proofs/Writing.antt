@@ -15,8 +15,9 @@ use Rattle.layout.specs.Layout.{rest, secondAt, Parts, Two, Lies, Ready, Pair}
 use Rattle.esterel.specs.Ranks.{middle}
 use Rattle.layout.proofs.Laid.{ready, taken-apart, begins, command, first-ready, second-ready}
 use Rattle.unrolled.specs.Unrolled.{copied, unrolled}
-use Rattle.unrolled_writer.specs.Writing.{formBytes, Put, Room, pauseBytes, loopBytes, Writable, Writes, WritableTwo, WritesTwo, WritableLoop, WritesLoop}
-use Rattle.unrolled_writer.proofs.Putting.{put-then, room-first, room-then}
+use Rattle.unrolled_heads.specs.Putting.{Put, Room, pauseBytes}
+use Rattle.unrolled_heads.proofs.Putting.{put-then, room-first, room-then}
+use Rattle.unrolled_writer.specs.Writing.{formBytes, loopBytes, Writable, Writes, WritableTwo, WritesTwo, WritableLoop, WritesLoop}
 
 -- ---- the bytes of each command
 module _ (c : Bool) (a : ℕ) (bs : List ℕ) where

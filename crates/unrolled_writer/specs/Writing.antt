@@ -1,15 +1,13 @@
 -- Writing the copy of a statement, or what is worked through (02, item 13): bytes put into a buffer one behind the other.
-use Prim.Native.Nat.{ℕ, _+_, _≤_}
-use mathlib.Core.Path.{_≡_}
+use Prim.Native.Nat.{ℕ}
 use mathlib.Core.Bool.{Bool, true, false}
-use mathlib.Core.List.{List, [], _∷_, _++_}
+use mathlib.Core.List.{List, _∷_, _++_}
 use lib.ListN.{length}
-use lib.Seq.{sets}
 use Rattle.esterel.specs.Statement.{Statement}
-use Rattle.limits.specs.Limits.{maxBytes}
 use Rattle.layout.specs.Layout.{Two, Lies, Ready, Pair}
 use Rattle.sequence.specs.Writer.{bytesOf}
 use Rattle.unrolled.specs.Unrolled.{copied, unrolled}
+use Rattle.unrolled_heads.specs.Putting.{Put, Room}
 
 -- the copy of a statement, or the statement worked through
 abbrev pub form : (copying : Bool) → Statement → Statement
@@ -18,21 +16,6 @@ form false p = unrolled p
 
 abbrev pub formBytes : (copying : Bool) → Statement → List ℕ
 formBytes c p = bytesOf (form c p)
-
--- from index i on the buffer b has got the bytes xs, and r is the index behind them
-pub record Put (i : ℕ) (xs b b′ : List ℕ) (r : ℕ) : Type 0 where
-  pub after : b′ ≡ sets b i xs
-  pub end : r ≡ i + length xs
-
--- n more bytes can be put from index i on
-pub record Room (i n : ℕ) (b : List ℕ) : Type 0 where
-  pub fits : i + n ≤ length b
-  pub sized : length b ≡ maxBytes
-
--- a pause, or the setpause of a copy
-abbrev pub pauseBytes : (copying : Bool) (l : ℕ) → List ℕ
-pauseBytes true l = 10 ∷ l ∷ []
-pauseBytes false l = 1 ∷ l ∷ []
 
 -- a loop around p, or of a copy its body
 abbrev pub loopBytes : (copying : Bool) → Statement → List ℕ

@@ -26,8 +26,9 @@ use Rattle.unrolled.specs.Unrolled.{unrolled}
 use Rattle.unrolled.specs.Call.{unrolling, fits, ofPlain, ofChecked, unrollOf}
 use Rattle.unrolled_sizes.specs.declared.Sizes.{Sizes}
 use Rattle.unrolled_sizes.specs.Measured.{Has}
-use Rattle.unrolled_writer.specs.Writing.{Put, Room, Writable}
-use Rattle.unrolled_writer.proofs.Putting.{put-whole}
+use Rattle.unrolled_heads.specs.Putting.{Put, Room}
+use Rattle.unrolled_heads.proofs.Putting.{put-whole}
+use Rattle.unrolled_writer.specs.Writing.{Writable}
 use Rattle.unrolling.specs.declared.Result.{Result}
 use Rattle.unrolling.specs.Unrolling.{PlainMeets}
 

@@ -1,7 +1,7 @@
-use Rattle.unrolled_writer.proofs.Putting.{put-then}
+use Rattle.unrolled_heads.proofs.Putting.{put-then}
 use borrow.Author.Needs.{needs}
-use Rattle.unrolled_writer.proofs.put_two.Statement.{statement}
-use Rattle.unrolled_writer.proofs.put_two.Tie as tie
+use Rattle.unrolled_heads.proofs.put_two.Statement.{statement}
+use Rattle.unrolled_heads.proofs.put_two.Tie as tie
 
 put-one-requires : tie.Need-put-one-requires
 put-one-requires c κs = search needs

@@ -1,7 +1,7 @@
-use Rattle.unrolled_writer.proofs.Putting.{put-then}
+use Rattle.unrolled_heads.proofs.Putting.{put-then}
 use borrow.Author.Needs.{needs}
-use Rattle.unrolled_writer.proofs.head_six.Statement.{statement}
-use Rattle.unrolled_writer.proofs.head_six.Tie as tie
+use Rattle.unrolled_heads.proofs.six.Statement.{statement}
+use Rattle.unrolled_heads.proofs.six.Tie as tie
 
 shared-slice-read-put-two : tie.Need-shared-slice-read-put-two
 shared-slice-read-put-two c = search needs
@@ -38,8 +38,8 @@ returns c =
     put-then (c .before .before .before .before .before .before .before .before .before .before .before .before .before .before .put-two .ensures)
     (put-then (c .before .before .before .before .before .before .before .before .put-two2 .ensures) (c .before .before .put-two3 .ensures))
 
-pub head-six-spec : {M : Type 1} → statement M
-head-six-spec =
+pub six-spec : {M : Type 1} → statement M
+six-spec =
     tie.close
     (tie.spec
     shared-slice-read-put-two

@@ -6,7 +6,7 @@ use native.Mathlib.Omega.{arith}
 use lib.ListN.{length, drop, length-append}
 use lib.Seq.{sets, length-sets, sets-eq}
 use Rattle.numbers.proofs.Writing.{sets-append}
-use Rattle.unrolled_writer.specs.Writing.{Put, Room}
+use Rattle.unrolled_heads.specs.Putting.{Put, Room}
 
 pub put-then : {i j r : ℕ} {xs ys b b₁ b₂ : List ℕ} → Put i xs b b₁ j → Put j ys b₁ b₂ r → Put i (xs ++ ys) b b₂ r
 put-then {i} {j} {r} {xs} {ys} {b} {b₁} {b₂} h k =

@@ -1,6 +1,6 @@
 use borrow.Author.Needs.{needs}
-use Rattle.unrolled_writer.proofs.pause.Statement.{statement}
-use Rattle.unrolled_writer.proofs.pause.Tie as tie
+use Rattle.unrolled_heads.proofs.pause.Statement.{statement}
+use Rattle.unrolled_heads.proofs.pause.Tie as tie
 
 shared-slice-read-put-two : tie.Need-shared-slice-read-put-two
 shared-slice-read-put-two c = search needs
