@@ -57,7 +57,7 @@ pub fn declare(signals: u8, notes: &mut Notes) -> u8
         return CROWDED;
     }
     let left = signals - 1;
-    notes::signal(left, notes);
+    notes_signals::signal(left, notes);
     left
 }
 

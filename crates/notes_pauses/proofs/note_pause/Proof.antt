@@ -5,8 +5,8 @@ use Rattle.esterel.specs.Sets.{join, only}
 use Rattle.sets.proofs.Laws.{shifted}
 use Rattle.layout.specs.Notes.{notePause}
 use borrow.Author.Needs.{needs}
-use Rattle.notes.proofs.note_pause.Statement.{statement}
-use Rattle.notes.proofs.note_pause.Tie as tie
+use Rattle.notes_pauses.proofs.note_pause.Statement.{statement}
+use Rattle.notes_pauses.proofs.note_pause.Tie as tie
 
 cast-word : tie.Need-cast-word
 cast-word c = search needs
