@@ -1,14 +1,9 @@
-// The lines of a listing (01, 'Bays to run'), each at the end of a buffer of its own.
+// The lines of a listing that no instant has (01, 'Bays to run'), each at the end of a buffer of its own.
 ghost use Prim.Native.Nat.{_≤_};
 ghost use mathlib.Core.List.{[], _∷_, _++_};
 ghost use lib.ListN.{length};
 ghost use Rattle.runs.specs.Text.{numeral, newline, inputCut, heading as Text·heading, ending as Text·ending, refusal as Text·refusal};
 ghost use Rattle.lines.specs.Shown.{lineLength, mostWords, Displays};
-ghost use mathlib.Core.Path.{_≡_};
-ghost use Rattle.limits.specs.Limits.{wordLabels};
-ghost use Rattle.sets.specs.Sets.{twoWords};
-ghost use Rattle.runs.specs.Listing.{numbersOf, setsOf, lineIn};
-ghost use Rattle.lines_text.specs.Buffer.{Prepended};
 
 // The bytes of a line's buffer.
 pub const LINE_LENGTH: usize = 160;
@@ -78,48 +73,6 @@ fn fixed(words: &[u8]) -> Line
 {
     let mut bytes = [0u8; LINE_LENGTH];
     let from = lines_text::put_text(&mut bytes, LINE_LENGTH, words);
-    Line {
-        bytes: bytes,
-        from: from,
-    }
-}
-
-// The fields of a row that are numerals to the base 10, before `end`.
-fn put_numbers(line: &mut [u8], end: usize, instant: u64, code: u64, kind: u64, place: u64) -> usize
-    requires { ⌜ (84 ≤ end) × (end ≤ length (now line)) ⌝ }
-    ensures { λ r. ⌜ Prepended (now (line .entry)) end (numbersOf instant code kind place) (now (line .exit)) r ⌝ }
-{
-    let mut at = lines_text::put_field(line, end, 10, 1, place, b' ');
-    at = lines_text::put_field(line, at, 10, 1, kind, b' ');
-    at = lines_text::put_field(line, at, 10, 1, code, b' ');
-    lines_text::put_field(line, at, 10, 1, instant, b' ')
-}
-
-// The fields of a row that are sets, at the end of the line. The labels are two words, the second of those from 64 on.
-fn put_sets(line: &mut [u8], emitted: u64, low: u64, high: u64) -> usize
-    requires { ⌜ length (now line) ≡ lineLength ⌝ }
-    ensures { λ r. ⌜ Prepended (now (line .entry)) lineLength (setsOf emitted (twoWords wordLabels low high)) (now (line .exit)) r ⌝ }
-    ensures { λ r. ⌜ 84 ≤ r ⌝ }
-{
-    let mut at = lines_text::put_field(line, LINE_LENGTH, 16, 16, low, b'\n');
-    at = lines_text::put_numeral(line, at, 16, 16, high);
-    lines_text::put_field(line, at, 16, 8, emitted, b' ')
-}
-
-// The line of an instant, from the records that its tick left.
-pub fn instant_line(instant: u64, state: &[u8], answer: &[u8]) -> Line
-    ensures { λ r. ⌜ Displays r (lineIn instant (now (state .entry)) (now (answer .entry))) ⌝ }
-{
-    let labels = states::labels(state);
-    let low = labels::low_word(labels);
-    let high = labels::high_word(labels);
-    let emitted = answers::emitted(answer) as u64;
-    let place = answers::place(answer) as u64;
-    let kind = answers::kind(answer) as u64;
-    let code = answers::code(answer) as u64;
-    let mut bytes = [0u8; LINE_LENGTH];
-    let at = put_sets(&mut bytes, emitted, low, high);
-    let from = put_numbers(&mut bytes, at, instant, code, kind, place);
     Line {
         bytes: bytes,
         from: from,
