@@ -1,4 +1,5 @@
 // The line of an instant (01, 'Bays to run').
+ghost use Prim.Native.Nat.{_+_, _^_, _<_};
 ghost use Rattle.runs.specs.Listing.{lineIn};
 ghost use Rattle.lines.specs.Shown.{Displays};
 use lines::LINE_LENGTH;
@@ -24,4 +25,12 @@ pub fn instant_line(instant: u64, state: &[u8], answer: &[u8]) -> Line
         bytes: bytes,
         from: from,
     }
+}
+
+// The same of the instant behind i others.
+pub fn line_behind(i: usize, state: &[u8], answer: &[u8]) -> Line
+    requires { ⌜ i + 1 < 2 ^ 64 ⌝ }
+    ensures { λ r. ⌜ Displays r (lineIn (i + 1) (now (state .entry)) (now (answer .entry))) ⌝ }
+{
+    instant_line(i as u64 + 1, state, answer)
 }

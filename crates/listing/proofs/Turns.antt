@@ -10,8 +10,8 @@ use Rattle.runs.specs.Stages as Listing
 use Rattle.listing_stages.specs.declared.Stage.{Stage}
 use Rattle.listing_stages.specs.declared.Run.{Run}
 use Rattle.listing_stages.specs.Answers.{stageBy, stageIn}
-use Rattle.listing_pieces.specs.declared.Opened.{Opened}
-use Rattle.listing_pieces.specs.Opened.{fileBy}
+use Rattle.listing_openings.specs.declared.Opened.{Opened}
+use Rattle.listing_openings.specs.Opened.{fileBy}
 
 pub no-turn : (s : List ℕ) (b : ℕ) (state : List ℕ) (j : ℕ) (es : List ℕ) → first es ≡ none
     → Listing.turn ending Listing.finished ≡ Listing.turnOf (Listing.running s b state j es)

@@ -11,7 +11,7 @@ ghost use Rattle.listing_stages.specs.Answers.{stageIn};
 ghost use Rattle.listing_pieces.specs.Answers.{turnAt, Prints};
 use files::Input;
 use lines::Line;
-use listing_pieces::Opened;
+use listing_openings::Opened;
 use listing_pieces::Piece;
 use listing_stages::Run;
 use listing_stages::Stage;
@@ -51,7 +51,7 @@ fn last(line: Line) -> Piece
 fn open(file: &[u8]) -> Piece
     ensures { λ r. ⌜ Prints (now (file .entry)) (opened (fileOf (now (file .entry)))) r ⌝ }
 {
-    match listing_pieces::open(file) {
+    match listing_openings::open(file) {
         Opened::Cut => last(lines::cut()),
         Opened::Refused(number) => last(lines::refusal(number)),
         Opened::Runs => heading(),

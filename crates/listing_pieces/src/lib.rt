@@ -2,9 +2,8 @@
 ghost use mathlib.Core.Path.{_≡_};
 ghost use mathlib.Core.Option.{some};
 ghost use lib.ListN.{drop};
-ghost use Rattle.runs.specs.File.{inputsIn, first, fileOf};
+ghost use Rattle.runs.specs.File.{inputsIn, first};
 ghost use Rattle.listing_pieces.specs.Answers.{turnAt, Prints};
-ghost use Rattle.listing_pieces.specs.Opened.{fileBy};
 use answers::ANSWER_LENGTH;
 use lines::Line;
 use listing_stages::Run;
@@ -25,7 +24,7 @@ pub fn instant(file: &[u8], i: usize, e: u32, state: [u8; STATE_LENGTH]) -> Piec
     let mut answer = [0u8; ANSWER_LENGTH];
     let read_back = files::read_back(file);
     intake::intake_tick(files::sequence(file), &mut after, e, read_back, &mut answer);
-    let line = lines_instants::instant_line(i as u64 + 1, &after, &answer);
+    let line = lines_instants::line_behind(i, &after, &answer);
     let run = Run {
         stage: listing_stages::following(states::phase(&after), i + 1),
         state: after,
@@ -34,24 +33,4 @@ pub fn instant(file: &[u8], i: usize, e: u32, state: [u8; STATE_LENGTH]) -> Piec
         line: line,
         run: run,
     }
-}
-
-pub enum Opened {
-    Cut,
-    Refused(u8),
-    Runs,
-}
-
-pub fn open(file: &[u8]) -> Opened
-    ensures { λ r. ⌜ fileBy (now (file .entry)) r ≡ fileOf (now (file .entry)) ⌝ }
-{
-    if !files::is_whole(file) {
-        return Opened::Cut;
-    }
-    let read_back = files::read_back(file);
-    let number = intake::intake_check(files::sequence(file), read_back);
-    if number == 0 {
-        return Opened::Runs;
-    }
-    Opened::Refused(number)
 }

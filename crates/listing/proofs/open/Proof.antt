@@ -2,7 +2,7 @@ use mathlib.Core.Path.{subst}
 use Rattle.runs.specs.Text.{inputCut, refusal}
 use Rattle.runs.specs.Stages as Listing
 use Rattle.listing_pieces.specs.Answers.{Prints}
-use Rattle.listing_pieces.specs.declared.Opened.the-variants as opens
+use Rattle.listing_openings.specs.declared.Opened.the-variants as opens
 use Rattle.listing.proofs.Turns.{opened-by}
 use borrow.Author.Needs.{needs}
 use Rattle.listing.proofs.open.Statement.{statement}

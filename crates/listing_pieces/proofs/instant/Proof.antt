@@ -30,20 +30,17 @@ slice-aggregate-intake-tick-2 c = search needs
 intake-tick-requires : tie.Need-intake-tick-requires
 intake-tick-requires c κs = search needs
 
-add-instant-line : tie.Need-add-instant-line
-add-instant-line c =
-    let s = c .before .before .before .before .before .before .before .before in
+slice-aggregate-line-behind : tie.Need-slice-aggregate-line-behind
+slice-aggregate-line-behind c = search needs
+
+slice-aggregate-line-behind-2 : tie.Need-slice-aggregate-line-behind-2
+slice-aggregate-line-behind-2 c = search needs
+
+line-behind-requires : tie.Need-line-behind-requires
+line-behind-requires c κs =
+    let s = c .before .before .before .before .before .before .before .before .before .before in
     let a = s .args in
     omega (arith, input-within (a .file .now) (a .i) (a .e) (s .pre))
-
-slice-aggregate-instant-line : tie.Need-slice-aggregate-instant-line
-slice-aggregate-instant-line c = search needs
-
-slice-aggregate-instant-line-2 : tie.Need-slice-aggregate-instant-line-2
-slice-aggregate-instant-line-2 c = search needs
-
-instant-line-requires : tie.Need-instant-line-requires
-instant-line-requires c κs = search needs
 
 slice-aggregate-phase : tie.Need-slice-aggregate-phase
 slice-aggregate-phase c = search needs
@@ -70,9 +67,9 @@ returns c =
     let o : outcome (t .result) (t .last .1 .0) (t .last .1 .1 .1 .1 .0) ≡ ticked (sequenceIn f) (readBackIn f) (a .state) (a .e)
     = ticked-at (a .state) (a .e) (t .ensures) (q .sequence .ensures) (q .before .read-back .ensures) in
     let piece : Piece
-    = record { line = c .before .before .before .instant-line .result; run = record { stage = c .following .result; state = t .last .1 .0 } } in
+    = record { line = c .before .before .before .line-behind .result; run = record { stage = c .following .result; state = t .last .1 .0 } } in
     subst (λ (u : Listing.Turn). Prints f u piece) (instant-turn f (a .state) (t .last .1 .0) (t .last .1 .1 .1 .1 .0) (a .i) (a .e) (t .result) (s .pre) o)
-    (printed f piece _ (c .before .before .before .instant-line .ensures) (ap (λ (g : Stage). stageBy f g (t .last .1 .0)) (c .following .ensures ∙ ap (λ (n : ℕ). stageAfter n (a .i + 1)) (c .before .phase .ensures))))
+    (printed f piece _ (c .before .before .before .line-behind .ensures) (ap (λ (g : Stage). stageBy f g (t .last .1 .0)) (c .following .ensures ∙ ap (λ (n : ℕ). stageAfter n (a .i + 1)) (c .before .phase .ensures))))
 
 pub instant-spec : {M : Type 1} → statement M
 instant-spec =
@@ -83,10 +80,9 @@ instant-spec =
     slice-aggregate-intake-tick
     slice-aggregate-intake-tick-2
     intake-tick-requires
-    add-instant-line
-    slice-aggregate-instant-line
-    slice-aggregate-instant-line-2
-    instant-line-requires
+    slice-aggregate-line-behind
+    slice-aggregate-line-behind-2
+    line-behind-requires
     slice-aggregate-phase
     phase-requires
     add-following

@@ -7,8 +7,8 @@ use mathlib.Core.Path.{_≡_, sym, ap₂, _∙_}
 use Rattle.sequence.specs.Check.{checkOf}
 use Rattle.runs.proofs.Files.{file-cut, file-runs, file-refused}
 use borrow.Author.Needs.{needs}
-use Rattle.listing_pieces.proofs.open.Statement.{statement}
-use Rattle.listing_pieces.proofs.open.Tie as tie
+use Rattle.listing_openings.proofs.open.Statement.{statement}
+use Rattle.listing_openings.proofs.open.Tie as tie
 
 is-whole-requires : tie.Need-is-whole-requires
 is-whole-requires c κs = search needs
