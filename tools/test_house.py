@@ -19,7 +19,7 @@ sys.dont_write_bytecode = True
 ROOT = Path(__file__).resolve().parent.parent
 LIST, HOUSE, WALKS, WORDS = "crates.txt", "docs/ARCHITECTURE.md", "docs/WALKS.md", "docs/GLOSSARY.md"
 DECISIONS, DEFINITIONS, LANGUAGE = "docs/DECISIONS.md", "docs/DEFINITIONS.md", "docs/LANGUAGE.md"
-DEMANDS = "docs/DEMANDS.md"
+DEMANDS, FLOORS = "docs/DEMANDS.md", "docs/FLOORS.md"
 SENTENCES = (DEMANDS, "docs/demands/")  # the pages with a row for each sentence of the papers
 PROSE = {"edits", "edit"}  # words that stand before an edit and name no crate
 FOLDERS = ["", "docs", "docs/decisions", "docs/demands", "docs/landings", "examples"]
@@ -152,11 +152,11 @@ def wings(texts):
 
 
 def pictures(texts):
-    """The floors of the page are those of the arrows."""
-    for heading, picture in floors.pictures(texts[LIST]).items():
-        given = re.findall(r"```text\n(.*?)```", section(texts[HOUSE], heading), re.S)
-        if given != [picture]:
-            yield f"the picture of '{heading}' in {HOUSE}: tools/floors --write"
+    """The floors of the pages are those of the arrows."""
+    if texts[FLOORS] != floors.page(texts[LIST]):
+        yield f"{FLOORS}: tools/floors --write"
+    if re.findall(r"```text\n(.*?)```", section(texts[HOUSE], "The wings"), re.S) != [floors.overview(texts[LIST])]:
+        yield f"the picture of the wings in {HOUSE}: tools/floors --write"
 
 
 def tables(texts):
@@ -248,9 +248,10 @@ def definitions(texts):
 
 
 def language(texts):
-    """The page about the language has every file of its definitions and of its theorems."""
-    for first, folder in (("specs/", "crates/esterel/specs"), ("proofs/", "crates/theory/proofs")):
-        given = {name for row in rows(texts[LANGUAGE], first) for name in quoted(row[0])}
+    """The page about the language has every file of its definitions and of its theorems, and of sets and their laws."""
+    for first, cell, folder in (("specs/", 0, "crates/esterel/specs"), ("proofs/", 0, "crates/theory/proofs"),
+                                ("sets/specs", 0, "crates/sets/specs"), ("sets/specs", 2, "crates/sets/proofs")):
+        given = {name for row in rows(texts[LANGUAGE], first) for name in quoted(row[cell])}
         there = {path.stem for path in (ROOT / folder).glob("*.antt")} - {"Lib", "Theorems"}
         if given != there:
             yield f"the files of {folder} in {LANGUAGE}: {sorted(given ^ there)}"
@@ -329,7 +330,7 @@ CHECKS = [wings, pictures, tables, lengths, links, functions, files, cited, edit
 def other(texts, path, found, new):
     """A house of the pages that are needed, with something new in the place of what was found in one of them."""
     start, end = found.span(1)
-    needed = (LIST, HOUSE, WALKS, WORDS, DECISIONS, DEFINITIONS, LANGUAGE)
+    needed = (LIST, HOUSE, FLOORS, WALKS, WORDS, DECISIONS, DEFINITIONS, LANGUAGE)
     return {name: texts[name] for name in needed} | {path: texts[path][:start] + new + texts[path][end:]}
 
 
@@ -338,7 +339,8 @@ def changed(texts):
     changes = [
         (LIST, wings, r"^(\w+:.*\n)", ""),  # a crate that is left out
         (LIST, tables, r"^(# \w+\n)", ""),  # a wing's crates in the one before it
-        (HOUSE, pictures, r"^( +\d* +`\w+`.*\n)", ""),
+        (FLOORS, pictures, r"^( +\d* +`\w+`.*\n)", ""),
+        (HOUSE, pictures, r"^( +\w+  floors .*\n)", ""),
         (HOUSE, tables, r"^\| (`\w+`.*?) \| [^|]* \|\n", "`nobody`"),
         (HOUSE, lengths, r"\A()", "\n" * MOST_LINES),
         (HOUSE, links, r"\]\(([^)]+)\)", "nowhere.md"),
@@ -350,7 +352,7 @@ def changed(texts):
         (WALKS, steps, r"^\| \d+ \| `\w+::([\w:]+)`.*\n", "nobody"),
         (WALKS, steps, r"^\| (`intake::intake_box_\w+`) \| `\w+::", "`intake::intake_tick`"),
         (DECISIONS, requirements, r"(`\w+::put_\w+`)", "nothing"),
-        (DEMANDS, edited, r"\b(heads|esterel) `\w+`", "limits"),
+        (DEMANDS, edited, r"\b(reading_heads|esterel) `\w+`", "limits"),
         (WORDS, cited, r"`[A-Z]\w+\.(\w+)`", "nonesuch"),
         (DEFINITIONS, definitions, r"^(\| \[.*\n)", ""),
         (LANGUAGE, language, r"^\| (`[A-Z]\w+`.*?) \|.*\n", "`Nobody`"),

@@ -5,9 +5,9 @@ use mathlib.Core.Path.{_≡_, refl}
 use mathlib.Core.Bool.{true, false}
 use mathlib.Core.List.{List, [], _∷_, _++_}
 use lib.ListN.{replicate, getD}
-use Rattle.esterel.specs.Sets.{none, only, member, join, insert, remove}
-use Rattle.esterel.specs.LabelTests.{subset, disjoint, labelsOf, everyLabel, distinct, before, wellFormed}
-use Rattle.esterel.specs.ReadBack.{membersFrom, declaredBy}
+use Rattle.sets.specs.Sets.{member, none, only, join, insert, remove, subset, disjoint, membersFrom}
+use Rattle.esterel.specs.LabelTests.{labelsOf, everyLabel, distinct, before, wellFormed}
+use Rattle.esterel.specs.ReadBack.{declaredBy}
 use Rattle.esterel.specs.Sizes.{commands, loopNesting, signalNesting}
 use Rattle.esterel.specs.Ceiling.{ceiling}
 use Rattle.sequence.specs.Commands.{commandOf}

@@ -3,10 +3,11 @@ use Prim.Native.Nat.{ℕ, _^_, _<_}
 use mathlib.Core.Path.{_≡_, refl, sym, ap, _∙_, subst}
 use mathlib.Core.List.{List}
 use lib.ListN.{getD, replicate}
-use Rattle.esterel.specs.Sets.{member}
+use Rattle.limits.specs.Limits.{signalCount}
+use Rattle.sets.specs.Sets.{member}
 use Rattle.esterel.specs.Statement.{Statement}
 use Rattle.esterel.specs.RankedExpansion.{expandBy}
-use Rattle.esterel.specs.Machines.{adds}
+use Rattle.esterel.specs.Machines.{adds, State}
 use Rattle.labels.specs.Labels.{labelSet}
 use Rattle.sequence.specs.Program.{program}
 use Rattle.reaction.specs.Reactions.{cappedOf}
@@ -15,7 +16,6 @@ use Rattle.farms.proofs.Theorems.{unnamed-none}
 use Rattle.layout.specs.Notes.{farmsIn, Noted}
 use Rattle.layout.proofs.Noting.{farms-below}
 use Rattle.box_ledgers.specs.Ledgers.{farmCount, NoneOutside}
-use Rattle.esterel.specs.Machines.{State}
 use Rattle.theory.proofs.LabelTests.{valid-is}
 use Rattle.labels.specs.declared.Labels.{Labels}
 use Rattle.sequence.specs.Writer.{Ranged}
@@ -25,7 +25,6 @@ use Rattle.demands.specs.Deliveries.{deliveredBy, deliveredIf, deliveries}
 use Rattle.instants.specs.declared.Standing.the-variants as stands
 use Rattle.instants.specs.Replies.{Decodes}
 use Rattle.instants.proofs.Replying.{expanded}
-use Rattle.sets.specs.Sets.{signalCount}
 use Rattle.box_deliveries_walks.specs.Walks.{HasNamed}
 use Rattle.box_deliveries.specs.Delivering.{Delivers}
 use Rattle.box_deliveries_walks.proofs.Walking.{none-capped, none-held}

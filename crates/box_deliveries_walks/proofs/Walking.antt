@@ -10,8 +10,11 @@ use lib.ListN.{length, getD, set, replicate, length-set, length-replicate}
 use lib.Dec.{eqb}
 use borrow.Author.Tests.{ne-eqb}
 use lib.Seq.{getD-set-same, getD-set-other}
-use Rattle.limits.specs.Limits.{maxDepth, readBackPlace}
-use Rattle.esterel.specs.Sets.{member, none, remove, empty, below, from}
+use Rattle.limits.specs.Limits.{maxDepth, readBackPlace, signalCount}
+use Rattle.sets.specs.Sets.{member, none, empty, common, remove, below, from}
+use Rattle.sets.specs.Widths.{Lowest}
+use Rattle.sets.proofs.Members.{member-common, member-high, member-remove}
+use Rattle.sets.proofs.Loops.{Seeking, seek, seek-on, seek-as, seek-end, seek-hit}
 use Rattle.esterel.specs.Statement.{Statement, nothing, pause, emit, exit, seq, par, loop, present, signal, try, setpause, suspend, held}
 use Rattle.esterel.specs.Reaction.{emitted, code, react, isWrong}
 use Rattle.esterel.specs.Ranks.{middle}
@@ -32,10 +35,6 @@ use Rattle.box_ledgers.specs.Ledgers.{farmCount, NoneOutside}
 use Rattle.esterel.specs.Errors.{firstError}
 use Rattle.completions.specs.Completions.{codeOf}
 use Rattle.completions.proofs.Completions.{code-of}
-use Rattle.sets.specs.Sets.{signalCount, Lowest, common}
-use Rattle.sets.proofs.Members.{Seeking, seek, seek-on, seek-as, seek-end, seek-hit}
-use Rattle.sets.proofs.Differences.{member-common}
-use Rattle.theory.proofs.Sets.{member-high, member-remove}
 use Rattle.box_deliveries_walks.specs.Walks.{termOf, LitresOf, Gathers, HasNamed, Instant}
 
 -- ---- a term has the emissions of its statement

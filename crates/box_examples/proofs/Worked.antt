@@ -3,18 +3,17 @@ use mathlib.Core.Path.{_≡_, refl}
 use mathlib.Core.List.{[], _∷_}
 use lib.ListN.{replicate}
 use lib.Ieee.{ofBits, toBits, ofInt, whole, inUnsigned, toUnsigned}
-use Rattle.esterel.specs.Sets.{none, only, member, join, insert, remove}
+use Rattle.sets.specs.Sets.{member, none, only, join, difference, insert, remove, subset, disjoint, membersFrom}
 use Rattle.esterel.specs.Reaction.{reactBy}
 use Rattle.esterel.specs.Errors.{errorsBy}
 use Rattle.esterel.specs.Reactions.{reactionsBy}
 use Rattle.esterel.specs.Litres.{deliveredBy}
-use Rattle.esterel.specs.LabelTests.{subset, disjoint, labelsOf, activeLabels, everyLabel, distinct, before, wellFormed, valid}
+use Rattle.esterel.specs.LabelTests.{labelsOf, activeLabels, everyLabel, distinct, before, wellFormed, valid}
 use Rattle.esterel.specs.States.{active}
 use Rattle.esterel.specs.Expansion.{expand}
-use Rattle.esterel.specs.ReadBack.{membersFrom, declaredBy}
+use Rattle.esterel.specs.ReadBack.{declaredBy}
 use Rattle.esterel.specs.Sizes.{commands, loopNesting, signalNesting}
 use Rattle.esterel.specs.Ceiling.{ceiling}
-use Rattle.sets.specs.Sets.{difference}
 use Rattle.sequence.specs.Commands.{commandOf}
 use Rattle.sequence.specs.Reader.{front, read}
 use Rattle.sequence.specs.Check.{checked}

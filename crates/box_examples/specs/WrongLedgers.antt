@@ -6,7 +6,7 @@ use lib.Dec.{eqb, ltb}
 use lib.IntN.{pos}
 use lib.Ieee.{binary32, ofInt, add}
 use Rattle.limits.specs.Limits.{litresLimit}
-use Rattle.esterel.specs.Sets.{insert, remove}
+use Rattle.sets.specs.Sets.{insert, remove}
 use Rattle.esterel.specs.Statement.{Statement, nothing, pause, emit, exit, seq, par, loop, present, signal, try, setpause, suspend, held}
 use Rattle.esterel.specs.Litres.{delivered}
 use Rattle.sequence.specs.Program.{program}

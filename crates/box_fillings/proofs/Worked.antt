@@ -1,15 +1,15 @@
 -- The previews worked by hand, by computation.
 use mathlib.Core.Path.{_≡_, refl}
 use mathlib.Core.List.{map}
-use Rattle.esterel.specs.Sets.{none, only, member, join, insert, remove}
+use Rattle.sets.specs.Sets.{member, none, only, join, common, difference, insert, remove, subset, disjoint, membersFrom}
+use Rattle.sets.specs.Widths.{allBelow}
+use Rattle.sets.specs.Subsets.{subsetsBelow}
 use Rattle.esterel.specs.Reaction.{reactBy}
 use Rattle.esterel.specs.Errors.{errorsBy}
 use Rattle.esterel.specs.Reactions.{reactionsBy}
-use Rattle.esterel.specs.LabelTests.{subset, disjoint, labelsOf, everyLabel, distinct, before, wellFormed}
+use Rattle.esterel.specs.LabelTests.{labelsOf, everyLabel, distinct, before, wellFormed}
 use Rattle.esterel.specs.Sizes.{signalNesting}
-use Rattle.esterel.specs.ReadBack.{membersFrom, declaredBy}
-use Rattle.sets.specs.Sets.{common, difference, allBelow}
-use Rattle.sets.specs.Subsets.{subsetsBelow}
+use Rattle.esterel.specs.ReadBack.{declaredBy}
 use Rattle.sequence.specs.Commands.{commandOf}
 use Rattle.sequence.specs.Reader.{front, read}
 use Rattle.sequence.specs.Check.{checked}

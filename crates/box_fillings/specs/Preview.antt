@@ -7,9 +7,8 @@ use mathlib.Core.List.{List, [], _∷_, _++_}
 use lib.ListN.{length, getD, take, drop}
 use lib.Dec.{eqb, leb}
 use Rattle.limits.specs.Limits.{signalCount, signalBytes}
-use Rattle.esterel.specs.Sets.{member, join}
-use Rattle.esterel.specs.ReadBack.{membersFrom}
-use Rattle.sets.specs.Sets.{Subset, common, difference, complement}
+use Rattle.sets.specs.Sets.{member, join, common, difference, Subset, membersFrom}
+use Rattle.sets.specs.Widths.{complement}
 use Rattle.sets.specs.Subsets.{subsetsBelow}
 use Rattle.numbers.specs.Bytes.{leBytes, leNumber}
 use Rattle.answers.specs.AnswerRecord.{codeIn, emittedIn, encodeAnswer}

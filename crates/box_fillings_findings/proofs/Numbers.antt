@@ -10,14 +10,12 @@ use lib.ListN.{length}
 use lib.Dec.{eqb, leb}
 use borrow.Author.Tests.{eq-eqb, ne-eqb, leb-true}
 use Rattle.limits.specs.Limits.{signalCount}
-use Rattle.esterel.specs.Sets.{member}
+use Rattle.sets.specs.Sets.{member, difference, Subset, keepIf, membersFrom}
 use Rattle.esterel.specs.Statement.{Statement}
 use Rattle.esterel.specs.Reaction.{inheritanceFirst}
 use Rattle.esterel.specs.Expansion.{expand}
 use Rattle.esterel.specs.Instants.{Instant, instant, start}
-use Rattle.esterel.specs.ReadBack.{keepIf, membersFrom}
 use Rattle.esterel.specs.Machines.{State}
-use Rattle.sets.specs.Sets.{Subset, difference}
 use Rattle.sequence.specs.Program.{program}
 use Rattle.sequence.specs.Check.{Checked, sound, bad, checked}
 use Rattle.sequence.specs.Rows.{rank}

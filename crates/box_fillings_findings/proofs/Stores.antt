@@ -5,7 +5,7 @@ use mathlib.Core.List.{List, [], _∷_, _++_}
 use lib.ListN.{length}
 use lib.Seq.{sets}
 use Rattle.limits.specs.Limits.{signalCount, signalBytes}
-use Rattle.sets.specs.Sets.{complement}
+use Rattle.sets.specs.Widths.{complement}
 use Rattle.numbers.specs.Bytes.{leBytes}
 use Rattle.numbers.proofs.Writing.{sets-whole, sets-append}
 use Rattle.box_fillings.specs.declared.Findings.{Findings}

@@ -7,8 +7,8 @@ use lib.Seq.{sets}
 use lib.IntN.{pos}
 use lib.Dec.{eqb, ltb}
 use lib.Ieee.{Float, binary32, ofBits, toBits, ofInt}
-use Rattle.esterel.specs.Sets.{member}
 use Rattle.limits.specs.Limits.{signalCount, litresLimit}
+use Rattle.sets.specs.Sets.{member}
 use Rattle.numbers.specs.Bytes.{leBytes, numberAt}
 use Rattle.litres.specs.Litres.{whole, litres, ordered}
 use Rattle.sequence.specs.Amounts.{amountSize, amountBytes}

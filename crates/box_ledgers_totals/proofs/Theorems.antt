@@ -13,9 +13,9 @@ use lib.IntN.{pos}
 use lib.Ieee.{Float, binary32, ofBits, toBits, ofInt, inUnsigned, fits}
 use lib.Ieee.Bits.{ofBits-toBits, toBits-lt}
 use lib.Ieee.Fits.{add-fits}
-use Rattle.esterel.specs.Sets.{member, none}
-use Rattle.theory.proofs.Sets.{member-none}
 use Rattle.limits.specs.Limits.{litresLimit}
+use Rattle.sets.specs.Sets.{member, none}
+use Rattle.sets.proofs.Members.{member-none}
 use Rattle.numbers.specs.Bytes.{leBytes, leNumber}
 use Rattle.numbers.proofs.Bytes.{length-leBytes, le-round-trip}
 use Rattle.sequence.specs.Amounts.{amountSize, amountBytes, areBytes, floatIn}

@@ -4,10 +4,8 @@ use native.Mathlib.Decide.{ℕ-discrete}
 use mathlib.Core.Path.{_≡_, refl, sym, ap, ap₂, _∙_, subst}
 use mathlib.Core.Bool.{Bool, true, false, not, _&&_, _||_}
 use mathlib.Core.List.{List}
-use Rattle.esterel.specs.Sets.{member}
-use Rattle.theory.proofs.Sets.{ext}
-use Rattle.sets.specs.Sets.{Subset, common}
-use Rattle.sets.proofs.Differences.{member-common}
+use Rattle.sets.specs.Sets.{member, common, Subset}
+use Rattle.sets.proofs.Members.{member-common, ext}
 use Rattle.demands.specs.Plain.{SameOutside}
 use Rattle.demands.proofs.ReadBack.{reply-unread}
 use Rattle.box_fillings.specs.declared.Findings.{Findings}

@@ -7,9 +7,8 @@ use mathlib.Core.List.{List}
 use lib.ListN.{length}
 use borrow.Author.Tests.{le-leb, lt-leb}
 use Rattle.limits.specs.Limits.{signalCount, noFarm}
-use Rattle.esterel.specs.ReadBack.{membersFrom}
+use Rattle.sets.specs.Sets.{difference, membersFrom}
 use Rattle.esterel.specs.Traced.{startTraced, instantOf}
-use Rattle.sets.specs.Sets.{difference}
 use Rattle.sequence.specs.Program.{program}
 use Rattle.sequence.specs.Check.{checkOf}
 use Rattle.checks.specs.Verdict.{Passed}

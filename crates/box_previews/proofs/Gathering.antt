@@ -2,16 +2,14 @@
 use Prim.Native.Nat.{ℕ}
 use mathlib.Core.Path.{_≡_, refl, sym, ap, ap₂, _∙_, subst}
 use mathlib.Core.Logic.{_≢_, _↔_, ⊎-elim}
-use mathlib.Core.Bool.{Bool, true, false, not, _&&_, _||_, cond, true≢false, false≢true}
+use mathlib.Core.Bool.{Bool, true, false, not, _&&_, _||_, cond, true≢false, false≢true, or-false, and-true}
 use mathlib.Core.List.{List, [], _∷_, List·Memᴰ, List·Memᴰ·head, List·Memᴰ·tail, List·Memᴰ·not-nil, List·Memᴰ·cases-cons}
 use lib.Dec.{eqb}
 use borrow.Author.Tests.{eq-eqb, eqb-true, ne-eqb}
-use Rattle.esterel.specs.Sets.{member, none, join, insert, remove}
-use Rattle.theory.proofs.Sets.{member-join, member-insert, member-remove, member-none, ext}
-use Rattle.theory.proofs.Booleans.{or-false, or-first, or-second, and-true, clash}
-use Rattle.sets.specs.Sets.{Subset, common, difference}
+use Rattle.sets.specs.Sets.{member, none, join, common, difference, insert, remove, Subset}
 use Rattle.sets.specs.Subsets.{subsetsBelow}
-use Rattle.sets.proofs.Differences.{member-common, member-difference}
+use Rattle.sets.proofs.Booleans.{or-first, or-second, clash}
+use Rattle.sets.proofs.Members.{member-join, member-common, member-none, member-insert, member-difference, member-remove, ext}
 use Rattle.sets.proofs.Subsets.{subsets-are}
 use Rattle.box_fillings.specs.declared.Findings.{Findings}
 use Rattle.box_fillings.specs.Preview.{filled, openCode, foundIn, sharedBy, both, gathered, findings, Learned}

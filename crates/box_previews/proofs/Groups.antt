@@ -9,12 +9,12 @@ use mathlib.Core.List.{List}
 use lib.Dec.{ltb}
 use borrow.Author.Tests.{eqb-false, ne-eqb, lt-ltb, ltb-true, ltb-false}
 use Rattle.limits.specs.Limits.{signalCount, signalBytes}
-use Rattle.esterel.specs.Sets.{member}
-use Rattle.theory.proofs.Sets.{member-high}
-use Rattle.theory.proofs.Booleans.{clash}
-use Rattle.sets.specs.Sets.{Subset, allBelow, complement}
+use Rattle.sets.specs.Sets.{member, Subset}
+use Rattle.sets.specs.Widths.{allBelow, complement}
+use Rattle.sets.proofs.Booleans.{clash}
+use Rattle.sets.proofs.Members.{member-high}
+use Rattle.sets.proofs.Widths.{difference-lt, all-lt, member-complement}
 use Rattle.sets.proofs.Words.{words-of, low-fits, member-low}
-use Rattle.sets.proofs.Differences.{all-lt, difference-lt, member-complement}
 use Rattle.numbers.specs.Bytes.{leBytes, leNumber}
 use Rattle.numbers.proofs.Bytes.{le-low, le-round-trip}
 use Rattle.answers.specs.AnswerRecord.{codeIn, emittedIn}

@@ -10,14 +10,12 @@ use lib.Pow.{pow-mono}
 use lib.Count.{ones}
 use borrow.Author.Tests.{le-leb, lt-leb}
 use Rattle.limits.specs.Limits.{signalCount}
-use Rattle.esterel.specs.Sets.{member, none, insert, remove}
-use Rattle.esterel.specs.Instants.{Instant}
-use Rattle.esterel.specs.ReadBack.{membersFrom}
-use Rattle.sets.specs.Sets.{Subset, Disjoint, common, difference}
+use Rattle.sets.specs.Sets.{member, none, common, difference, insert, remove, Subset, Disjoint, membersFrom}
 use Rattle.sets.specs.Subsets.{subsetsOf}
-use Rattle.sets.proofs.Differences.{differences-same}
+use Rattle.sets.proofs.Algebra.{differences-same}
 use Rattle.sets.proofs.Sizes.{size-is}
 use Rattle.sets.proofs.Counting.{subsets-few}
+use Rattle.esterel.specs.Instants.{Instant}
 use Rattle.states.specs.StateRecord.{stateLength}
 use Rattle.answers.specs.AnswerRecord.{answerLength, codeIn, emittedIn}
 use Rattle.tick.specs.Tick.{Outcome, refused, reacts, replyOf, tickOf}

@@ -4,13 +4,12 @@ use native.Mathlib.Omega.{arith}
 use mathlib.Core.Path.{_≡_, sym, ap, ap₂, _∙_, subst}
 use mathlib.Core.List.{List}
 use Rattle.limits.specs.Limits.{signalBytes, noFarm}
-use Rattle.esterel.specs.Sets.{join}
+use Rattle.sets.specs.Sets.{join, difference}
+use Rattle.sets.specs.Subsets.{nextSubset, subsetsBelow}
+use Rattle.sets.proofs.Subsets.{subsets-step, subsets-end}
 use Rattle.esterel.specs.Statement.{Statement}
 use Rattle.esterel.specs.Traced.{startTraced}
 use Rattle.esterel.specs.Instants.{start}
-use Rattle.sets.specs.Sets.{difference}
-use Rattle.sets.specs.Subsets.{nextSubset, subsetsBelow}
-use Rattle.sets.proofs.Subsets.{subsets-step, subsets-end}
 use Rattle.sequence.specs.Program.{program}
 use Rattle.completions.specs.declared.Completion.{Completion}
 use Rattle.completions.specs.declared.Completion.the-variants.{Ended, Waiting, Leaving, Wrong}

@@ -11,7 +11,7 @@ use lib.ListN.{length}
 use lib.Dec.{eqb}
 use borrow.Author.Tests.{eq-eqb, ne-eqb}
 use Rattle.limits.specs.Limits.{labelBytes, nameBytes, numberBytes}
-use Rattle.esterel.specs.Sets as Sets
+use Rattle.sets.specs.Sets as Sets
 use Rattle.esterel.specs.Statement.{Statement}
 use Rattle.esterel.specs.Machines.{State}
 use Rattle.sequence.specs.Rows.{Spells}

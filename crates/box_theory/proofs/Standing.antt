@@ -9,7 +9,7 @@ use mathlib.Core.List.{List}
 use lib.ListN.{length}
 use borrow.Author.Tests.{ne-eqb}
 use Rattle.limits.specs.Limits.{numberBytes}
-use Rattle.esterel.specs.Sets as Sets
+use Rattle.sets.specs.Sets as Sets
 use Rattle.esterel.specs.Reaction.{react, inheritanceFirst}
 use Rattle.esterel.specs.Expansion.{expand}
 use Rattle.esterel.specs.Machines.{State, stateAfter}

@@ -2,9 +2,9 @@
 use mathlib.Core.Path.{_≡_, refl}
 use mathlib.Core.List.{List, [], _∷_, map}
 use Prim.Native.Nat.{ℕ}
-use Rattle.esterel.specs.Sets.{member, none, only, join}
-use Rattle.esterel.specs.ReadBack.{membersFrom, declaredBy}
-use Rattle.esterel.specs.LabelTests.{subset, disjoint, labelsOf, everyLabel, distinct, before, wellFormed}
+use Rattle.sets.specs.Sets.{member, none, only, join, subset, disjoint, membersFrom}
+use Rattle.esterel.specs.ReadBack.{declaredBy}
+use Rattle.esterel.specs.LabelTests.{labelsOf, everyLabel, distinct, before, wellFormed}
 use Rattle.esterel.specs.Sizes.{commands, loopNesting, signalNesting}
 use Rattle.esterel.specs.Ceiling.{ceiling}
 use Rattle.sequence.specs.Commands.{commandOf}

@@ -3,7 +3,7 @@ ghost use mathlib.Core.Path.{_≡_};
 ghost use Prim.Native.Nat.{_+_, _*_, _^_};
 ghost use lib.ListN.{length};
 ghost use Rattle.limits.specs.Limits.{signalCount};
-ghost use Rattle.esterel.specs.ReadBack.{membersFrom};
+ghost use Rattle.sets.specs.Sets.{membersFrom};
 ghost use Rattle.ceilings_products.specs.Ceilings.{Plannable, product};
 use extents::Extent;
 

@@ -5,15 +5,14 @@ use mathlib.Core.Bool.{Bool, true, false}
 use mathlib.Core.Logic.{_↔_}
 use mathlib.Core.List.{List}
 use borrow.Author.Tests.{eqb-true}
-use Rattle.esterel.specs.Sets.{member, none, empty}
+use Rattle.sets.specs.Sets.{member, none, empty, Subset, subset}
+use Rattle.sets.proofs.Members.{in-none}
+use Rattle.sets.proofs.Tests.{subset-is, subset-by}
 use Rattle.esterel.specs.Statement.{Statement}
-use Rattle.esterel.specs.LabelTests.{subset, pauses, setpauses, distinct, targeted, wellFormed}
-use Rattle.theory.proofs.LabelSets.{in-none, subset-is}
+use Rattle.esterel.specs.LabelTests.{pauses, setpauses, distinct, targeted, wellFormed}
 use Rattle.theory.proofs.LabelTests.{setpauses-is, distinct-is, wellFormed-is, noSetpause-formed}
-use Rattle.sets.specs.Sets.{Subset}
 use Rattle.layout.specs.Notes.{Noted, pausesIn, setpausesIn, twiceIn}
 use Rattle.sequence.specs.Check.{labelRules, numberOf}
-use Rattle.sets.proofs.Tests.{subset-by}
 
 -- d, s and x are what the code takes from the notes
 module _ (p : Statement) (notes : List ℕ) (n : Noted p notes) {d : Bool} (ed : d ≡ empty (twiceIn notes)) where

@@ -4,7 +4,7 @@ ghost use mathlib.Core.Bool.{_&&_, cond};
 ghost use lib.Dec.{leb, ltb};
 ghost use lib.ListN.{length};
 ghost use Rattle.limits.specs.Limits.{maxBytes, signalCount};
-ghost use Rattle.esterel.specs.ReadBack.{membersFrom};
+ghost use Rattle.sets.specs.Sets.{membersFrom};
 
 // Has a sequence of n bytes one, and no more than are allowed?
 pub fn is_sized(n: usize) -> bool

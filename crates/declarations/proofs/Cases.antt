@@ -3,9 +3,9 @@ use Prim.Native.Nat.{ℕ, _+_}
 use mathlib.Core.Path.{_≡_, refl, sym, ap, _∙_}
 use mathlib.Core.Bool.{Bool, true, false, not, _||_, cond, false≢true, true≢false}
 use mathlib.Core.Option.{Option, some}
+use Rattle.sets.specs.Sets.{member, none, join, remove}
 use Rattle.labels.specs.Labels.{labelsWith}
 use Rattle.labels.proofs.LabelValues.{stands-of}
-use Rattle.esterel.specs.Sets.{member, none, join, remove}
 use Rattle.esterel.specs.Statement.{Scope}
 use Rattle.esterel.specs.Reaction.{Code, wrong, isWrong, gives, failed, outside, Case, both, neither, only−, only+, inherited, inheritanceFirst, firstFit, answer}
 use Rattle.esterel.specs.Reaction as rules

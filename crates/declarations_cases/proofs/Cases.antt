@@ -2,7 +2,7 @@
 use Prim.Native.Nat.{ℕ}
 use mathlib.Core.Path.{_≡_, refl}
 use mathlib.Core.Bool.{Bool, true, false, _||_, cond, true≢false}
-use Rattle.esterel.specs.Sets.{member}
+use Rattle.sets.specs.Sets.{member}
 use Rattle.esterel.specs.Reaction.{isWrong, Case, both, neither, only−, only+, inherited, inheritanceFirst, firstFit}
 use Rattle.reaction.specs.declared.Reaction.{Reaction}
 use Rattle.completions.specs.Completions.{codeOf}

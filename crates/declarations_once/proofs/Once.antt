@@ -3,9 +3,10 @@ use Prim.Native.Nat.{ℕ, _+_}
 use mathlib.Core.Path.{_≡_, refl, _∙_}
 use mathlib.Core.Bool.{Bool, true, false, cond, false≢true}
 use mathlib.Core.Option.{Option}
+use Rattle.sets.specs.Sets.{member, none}
+use Rattle.sets.proofs.Algebra.{remove-absent}
 use Rattle.labels.specs.declared.Labels.{Labels}
 use Rattle.labels.specs.Labels.{Represents}
-use Rattle.esterel.specs.Sets.{member, none}
 use Rattle.esterel.specs.Statement.{Scope, local, reported, Statement}
 use Rattle.esterel.specs.Reaction.{Code, ended, waiting, leaving, wrong, isWrong, gives, outside}
 use Rattle.esterel.specs.Errors.{Error}
@@ -13,7 +14,6 @@ use Rattle.esterel.specs.Litres.{passing}
 use Rattle.esterel.specs.Traced as Traces
 use Rattle.esterel.specs.Instants.{instant}
 use Rattle.esterel.specs.Traced.{traced, signalOnce}
-use Rattle.theory.proofs.Sets.{remove-absent}
 use Rattle.reaction.specs.declared.Reaction.{Reaction}
 use Rattle.completions.specs.Completions.{codeOf}
 use Rattle.completions.proofs.Completions.{code-of}

@@ -3,10 +3,10 @@ use Prim.Native.Nat.{ℕ, _+_}
 use mathlib.Core.Path.{_≡_, refl, sym, ap, _∙_}
 use mathlib.Core.Bool.{Bool, true, false, cond, true≢false}
 use mathlib.Core.Option.{Option}
+use Rattle.sets.specs.Sets.{none, join, remove}
 use Rattle.labels.specs.declared.Labels.{Labels}
 use Rattle.labels.specs.Labels.{labelsWith, Represents}
 use Rattle.labels.proofs.LabelValues.{labels-of}
-use Rattle.esterel.specs.Sets.{none, join, remove}
 use Rattle.esterel.specs.Statement.{Scope}
 use Rattle.esterel.specs.Reaction.{Code, ended, waiting, leaving, wrong, isWrong}
 use Rattle.esterel.specs.Errors.{Error}

@@ -2,8 +2,8 @@
 ghost use mathlib.Core.Path.{_≡_};
 ghost use mathlib.Core.Bool.{cond};
 ghost use Prim.Native.Nat.{_+_};
+ghost use Rattle.sets.specs.Sets.{none, join, remove};
 ghost use Rattle.labels.specs.Labels.{labelsWith};
-ghost use Rattle.esterel.specs.Sets.{none, join, remove};
 ghost use Rattle.completions.specs.Completions.{greaterOf};
 ghost use Rattle.reaction.specs.Reactions.{keptOf};
 use reaction::Reaction;

@@ -8,7 +8,8 @@ use mathlib.Core.List.{List, [], _∷_, map}
 use lib.ListN.{length, getD}
 use lib.Dec.{eqb}
 use borrow.Author.Tests.{eqb-true, eqb-false}
-use Rattle.esterel.specs.Sets.{none}
+use Rattle.limits.specs.Limits.{placeBytes, readBackPlace}
+use Rattle.sets.specs.Sets.{none}
 use Rattle.esterel.specs.Statement.{Statement}
 use Rattle.esterel.specs.Reaction.{code, react, inheritanceFirst}
 use Rattle.esterel.specs.Errors.{firstError}
@@ -19,7 +20,6 @@ use Rattle.esterel.specs.Machines.{State, stateAfter, byLabels, addsByLabels, R
 use Rattle.theory.proofs.Agreement.{TermOf, step}
 use Rattle.theory.proofs.ReadBack.{noSetpause-declared}
 use Rattle.theory.proofs.Litres.{agree-added}
-use Rattle.limits.specs.Limits.{placeBytes, readBackPlace}
 use Rattle.sequence.specs.Program.{readBackSignals, program}
 use Rattle.sequence.specs.Check.{Checked, checkOf}
 use Rattle.sequence.specs.Rows.{Spells}

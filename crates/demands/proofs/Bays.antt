@@ -4,11 +4,11 @@ use mathlib.Core.Path.{_≡_, refl, sym, ap, _∙_, subst}
 use mathlib.Core.Logic.{⊎-elim}
 use mathlib.Core.List.{List, [], _∷_, map, List·Memᴰ, List·Memᴰ·not-nil, List·Memᴰ·cases-cons}
 use lib.ListN.{length, replicate}
-use Rattle.esterel.specs.Sets.{none, only, member, join, insert, remove}
+use Rattle.sets.specs.Sets.{member, none, only, join, insert, remove, subset, disjoint}
 use Rattle.esterel.specs.Reaction.{reactBy}
 use Rattle.esterel.specs.Errors.{errorsBy}
 use Rattle.esterel.specs.Reactions.{reactionsBy}
-use Rattle.esterel.specs.LabelTests.{subset, disjoint, labelsOf, everyLabel, distinct, before, wellFormed, valid}
+use Rattle.esterel.specs.LabelTests.{labelsOf, everyLabel, distinct, before, wellFormed, valid}
 use Rattle.esterel.specs.States.{active}
 use Rattle.esterel.specs.Expansion.{expand}
 use Rattle.sequence.specs.Commands.{commandOf}

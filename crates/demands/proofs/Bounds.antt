@@ -1,59 +1,20 @@
 -- Every number that a reaction of a ranged statement or of its expansion gives fits its field: emitted sets, label sets and exits.
-use Prim.Native.Nat.{ℕ, zero, suc, _-_, _/_, _^_, _<_, _≤_}
-use native.Mathlib.Nat.{pow-suc}
+use Prim.Native.Nat.{ℕ, _-_, _^_, _<_, _≤_}
 use native.Mathlib.Omega.{arith}
 use mathlib.Core.List.{List, [], _∷_}
-use mathlib.Core.Path.{_≡_, refl, sym, _∙_, subst}
-use mathlib.Core.Logic.{⊎-elim}
-use mathlib.Core.Bool.{Bool, true, false, not, _&&_, cond, false≢true}
+use mathlib.Core.Bool.{Bool, true, false, cond}
 use lib.Dec.{eqb}
-use borrow.Author.Tests.{eqb-true}
-use Rattle.esterel.specs.Sets.{member, none, only, join, insert, remove}
+use Rattle.limits.specs.Limits.{labelCount, signalCount, maxExit}
+use Rattle.sets.specs.Sets.{member, insert, remove}
+use Rattle.sets.proofs.Widths.{none-lt, only-lt, join-lt, remove-lt, members-lt}
 use Rattle.esterel.specs.Statement.{Scope, local, reported, Statement, nothing, pause, emit, exit, seq, par, loop, present, signal, try, setpause, suspend, held}
 use Rattle.esterel.specs.Reaction.{ended, waiting, leaving, wrong, Reaction, gives, emitted, inSeq, inPar, inLoop, inTry, inSuspend, stopped, Case, both, neither, only−, only+, inherited, caseOf, answer, react, Code, code, greater, inheritanceFirst, reactBy, Order}
 use Rattle.esterel.specs.States.{active, Valid}
 use Rattle.esterel.specs.LabelTests.{activeLabels}
 use Rattle.esterel.specs.Expansion.{expand}
-use Rattle.theory.proofs.Booleans.{or-cases}
-use Rattle.theory.proofs.Sets.{member-none, member-only, member-join, member-remove, member-step, ext}
 use Rattle.esterel.specs.ReadBack.{declaredBy, declared}
-use Rattle.limits.specs.Limits.{labelCount, signalCount, maxExit}
 use Rattle.sequence.specs.Writer.{Ranged}
 use Rattle.sequence.proofs.Source.{ranged-at}
-
--- ---- sets whose members are below a bound
-abbrev pub Below : ℕ → ℕ → Type 0
-Below n s = (i : ℕ) → member i s ≡ true → i < n
-
-no-members : (s : ℕ) → Below 0 s → s ≡ 0
-unfolding none
-no-members s h = ext s none (λ i. go i (member i s) refl ∙ sym (member-none i))
-  where
-    go : (i : ℕ) (b : Bool) → member i s ≡ b → member i s ≡ false
-    go i true e = absurd (omega (arith, h i e))
-    go i false e = e
-
-pub below-number : (n s : ℕ) → Below n s → s < 2 ^ n
-below-number zero s h = omega (arith, no-members s h)
-below-number (suc n) s h =
-    let i : s / 2 < 2 ^ n = below-number n (s / 2) (λ j m. omega (arith, h (suc j) (member-step j s ∙ m))) in
-    rw pow-suc (omega arith)
-
-pub below-none : (n : ℕ) → Below n none
-below-none n i m = absurd (false≢true (sym (member-none i) ∙ m))
-
-pub below-only : (n i : ℕ) → i < n → Below n (only i)
-below-only n i h j m = subst (λ (k : ℕ). k < n) (eqb-true i j (sym (member-only i j) ∙ m)) h
-
-pub below-join : (n s t : ℕ) → Below n s → Below n t → Below n (join s t)
-below-join n s t f g i m = ⊎-elim (f i) (g i) (or-cases (member i s) (member i t) (sym (member-join i s t) ∙ m))
-
-below-remove : (n j s : ℕ) → Below n s → Below n (remove j s)
-below-remove n j s f i m = f i (go (member i s) (not (eqb j i)) (sym (member-remove j s i) ∙ m))
-  where
-    go : (a b : Bool) → (a && b) ≡ true → a ≡ true
-    go true b h = refl
-    go false b h = h
 
 -- ---- each emit and each exit is in its range, inside held suspends too; so in a ranged statement and in its expansions
 abbrev pub Bounded : Statement → Type 0
@@ -114,19 +75,19 @@ bounded-expand (held s K p) L h = tt
 
 -- ---- emitted sets
 abbrev Emits : Reaction → Type 0
-Emits r = Below signalCount (emitted r)
+Emits r = emitted r < 2 ^ signalCount
 
 seq-emits : (q : Statement) (r r₂ : Reaction) → Emits r → Emits r₂ → Emits (inSeq q r r₂)
-seq-emits q (gives o ended l t) r₂ f g = below-join signalCount o (emitted r₂) f g
+seq-emits q (gives o ended l t) r₂ f g = join-lt signalCount o (emitted r₂) f g
 seq-emits q (gives o waiting l t) r₂ f g = f
 seq-emits q (gives o (leaving n) l t) r₂ f g = f
 seq-emits q (gives o wrong l t) r₂ f g = f
 
 par-emits : (r r₂ : Reaction) → Emits r → Emits r₂ → Emits (inPar r r₂)
-par-emits (gives o k l t) (gives o₂ k₂ l₂ u) f g = below-join signalCount o o₂ f g
+par-emits (gives o k l t) (gives o₂ k₂ l₂ u) f g = join-lt signalCount o o₂ f g
 
 loop-emits : (a : ℕ) (p : Statement) (r : Reaction) → Emits r → Emits (inLoop a p r)
-loop-emits a p (gives o ended l t) f = below-none signalCount
+loop-emits a p (gives o ended l t) f = none-lt signalCount
 loop-emits a p (gives o waiting l t) f = f
 loop-emits a p (gives o (leaving n) l t) f = f
 loop-emits a p (gives o wrong l t) f = f
@@ -146,22 +107,22 @@ present-emits true r r₂ f g = f
 present-emits false r r₂ f g = g
 
 signal-emits : (c : Case) (sc : Scope) (a s : ℕ) (r− r+ : Reaction) → Emits r− → Emits r+ → Emits (answer c sc a s r− r+)
-signal-emits both local a s r− r+ f g = below-remove signalCount s (emitted r+) g
+signal-emits both local a s r− r+ f g = remove-lt signalCount s (emitted r+) g
 signal-emits both reported a s r− r+ f g = g
 signal-emits neither sc a s r− r+ f g = f
-signal-emits only− sc a s r− r+ f g = below-none signalCount
-signal-emits only+ sc a s r− r+ f g = below-none signalCount
-signal-emits inherited sc a s r− r+ f g = below-none signalCount
+signal-emits only− sc a s r− r+ f g = none-lt signalCount
+signal-emits only+ sc a s r− r+ f g = none-lt signalCount
+signal-emits inherited sc a s r− r+ f g = none-lt signalCount
 
 suspend-emits : (s : ℕ) (r : Reaction) → Emits r → Emits (inSuspend s r)
 suspend-emits s (gives o k l t) f = f
 
-pub emitted-below : (p : Statement) (e : ℕ) → Bounded p → Below signalCount (emitted (react p e))
+pub emitted-below : (p : Statement) (e : ℕ) → Bounded p → Emits (react p e)
 unfolding reactBy
-emitted-below nothing e h = below-none signalCount
-emitted-below (pause l) e h = below-none signalCount
-emitted-below (emit s v) e h = below-only signalCount s h
-emitted-below (exit n) e h = below-none signalCount
+emitted-below nothing e h = none-lt signalCount
+emitted-below (pause l) e h = none-lt signalCount
+emitted-below (emit s v) e h = only-lt signalCount s h
+emitted-below (exit n) e h = none-lt signalCount
 emitted-below (seq p q) e h = seq-emits q (react p e) (react q e) (emitted-below p e (h .0)) (emitted-below q e (h .1))
 emitted-below (par p q) e h = par-emits (react p e) (react q e) (emitted-below p e (h .0)) (emitted-below q e (h .1))
 emitted-below (loop a p) e h = loop-emits a p (react p e) (emitted-below p e h)
@@ -171,10 +132,10 @@ emitted-below (signal sc a s p) e h =
     signal-emits (caseOf inheritanceFirst s (react p (remove s e)) (react p (insert s e))) sc a s (react p (remove s e)) (react p (insert s e))
     (emitted-below p (remove s e) h) (emitted-below p (insert s e) h)
 emitted-below (try p) e h = try-emits (react p e) (emitted-below p e h)
-emitted-below (setpause l) e h = below-none signalCount
+emitted-below (setpause l) e h = none-lt signalCount
 emitted-below (suspend s p) e h = suspend-emits s (react p e) (emitted-below p e h)
 emitted-below (held s K p) e h =
-    present-emits (member s e) (stopped s K p) (inSuspend s (react p e)) (below-none signalCount) (suspend-emits s (react p e) (emitted-below p e h))
+    present-emits (member s e) (stopped s K p) (inSuspend s (react p e)) (none-lt signalCount) (suspend-emits s (react p e) (emitted-below p e h))
 
 -- ---- read-back declarations
 pub bounded-declared : (a : ℕ) (ss : List ℕ) (p : Statement) → Bounded p → Bounded (declared a ss p)
@@ -183,8 +144,8 @@ bounded-declared a [] p h = h
 bounded-declared a (s ∷ ss) p h = bounded-declared a ss p h
 
 -- ---- labels
-pub valid-below : (p : Statement) → Ranged p → (L : ℕ) → Valid p L → Below labelCount L
-valid-below p h L v l m = ranged-at (v .paused l m .1) h
+pub valid-below : (p : Statement) → Ranged p → (L : ℕ) → Valid p L → L < 2 ^ labelCount
+valid-below p h L v = members-lt labelCount L (λ l m. ranged-at (v .paused l m .1) h)
 
 -- ---- exits: a code leaves at most as many try blocks as an exit may
 abbrev pub Exits : Code → Type 0

@@ -8,7 +8,7 @@ use mathlib.Core.Bool.{Bool, true, false, _&&_, cond}
 use mathlib.Core.List.{List, [], _∷_, List·Memᴰ, List·Memᴰ·not-nil, List·Memᴰ·cases-cons}
 use lib.ListN.{length}
 use lib.Dec.{eqb}
-use Rattle.esterel.specs.Sets.{none}
+use Rattle.sets.specs.Sets.{none}
 use Rattle.esterel.specs.Statement.{Statement}
 use Rattle.esterel.specs.Reaction.{gives, react, inheritanceFirst}
 use Rattle.esterel.specs.Expansion.{expand}

@@ -7,7 +7,8 @@ use mathlib.Core.Logic.{_↔_, _≢_, inr, inl}
 use mathlib.Core.Option.{some}
 use mathlib.Core.List.{List, head?}
 use lib.ListN.{length}
-use Rattle.esterel.specs.Sets.{none}
+use Rattle.limits.specs.Limits.{signalCount, signalBytes, placeBytes, reactionsBytes}
+use Rattle.sets.specs.Sets.{none}
 use Rattle.esterel.specs.Statement.{Statement}
 use Rattle.esterel.specs.Reaction.{Code, ended, waiting, leaving, wrong, Reaction, gives, emitted, code, react, Order, inheritanceFirst}
 use Rattle.esterel.specs.Errors.{Error, firstError, uses}
@@ -22,7 +23,6 @@ use Rattle.theory.proofs.SignalOrders.{wrong-named}
 use Rattle.theory.proofs.Derivations.{first-use}
 use Rattle.theory.proofs.Reactions.{rules-used}
 use Rattle.theory.proofs.LabelTests.{valid-is}
-use Rattle.limits.specs.Limits.{signalCount, signalBytes, placeBytes, reactionsBytes}
 use Rattle.sequence.specs.Program.{program}
 use Rattle.sequence.specs.Check.{checkOf}
 use Rattle.sequence.proofs.Rows.{check-by-rows}
@@ -32,7 +32,7 @@ use Rattle.tick.specs.Tick.{written, tickBy, tickOf}
 use Rattle.tick.specs.TickRows.{TickRow, row-1, row-2-to-10, row-11, row-12}
 use Rattle.demands.specs.Demands.{number, StandsAt, at-start, at-labels, Derived, Shows, Demand2}
 use Rattle.answers.proofs.AnswerLaws.{code-field, kind-field, place-field, emitted-field, reactions-field, blameless, wrong-blame, answer-is, length-answer}
-use Rattle.demands.proofs.Bounds.{Below, Bounded, emitted-below, Exits, code-exits}
+use Rattle.demands.proofs.Bounds.{Bounded, emitted-below, Exits, code-exits}
 use Rattle.demands.proofs.ErrorPlaces.{PlacesBelow, place-fits}
 use Rattle.demands.proofs.Reports.{shown-below}
 use Rattle.demands.proofs.TickRows.{Reading, reads-fresh, reads-waiting, reads-over, reads-malformed, reading, tick-by-rows}
@@ -60,7 +60,7 @@ module _ (t : Statement) (e : ℕ) (f : Fitting t) where
       → Shows t e o k l t′ (written (instant (gives o k l t′) (firstError t e) (reactions t e)))
   shows o k l t′ h =
       let fits : shown k o < 256 ^ signalBytes =
-      shown-below o k (subst (λ (r : Reaction). Below signalCount (emitted r)) (sym h) (emitted-below t e (f .0))) in
+      shown-below o k (subst (λ (r : Reaction). emitted r < 2 ^ signalCount) (sym h) (emitted-below t e (f .0))) in
       record {
         an-instant = refl;
         moved = refl;

@@ -8,7 +8,8 @@ use mathlib.Core.Bool.{Bool, true, false, cond}
 use mathlib.Core.Option.{Option, none, some}
 use mathlib.Core.List.{List, [], _∷_, _++_, head?, List·Memᴰ, List·Memᴰ·head, List·Memᴰ·not-nil, List·Memᴰ·append-cases, List·Memᴰ·eq-of-singleton}
 use lib.ListN.{length}
-use Rattle.esterel.specs.Sets.{member, insert, remove}
+use Rattle.limits.specs.Limits.{placeBytes}
+use Rattle.sets.specs.Sets.{member, insert, remove}
 use Rattle.esterel.specs.Statement.{Statement, nothing, pause, emit, exit, seq, par, loop, present, signal, try, setpause, suspend, held}
 use Rattle.esterel.specs.Reaction.{Code, ended, waiting, leaving, wrong, code, Case, both, neither, only−, only+, inherited, caseOf, react, inheritanceFirst}
 use Rattle.esterel.specs.Errors.{Error, instantaneous, notReactive, notDeterministic, ifEnded, loopErrors, signalErrors, errors, firstError, blame, errorsBy}
@@ -16,7 +17,6 @@ use Rattle.esterel.specs.States.{active}
 use Rattle.esterel.specs.LabelTests.{activeLabels}
 use Rattle.esterel.specs.Expansion.{expand}
 use Rattle.esterel.specs.ReadBack.{declaredBy, declared}
-use Rattle.limits.specs.Limits.{placeBytes}
 
 -- P holds of each error that a loop or a signal of p may make
 abbrev pub AllErrors : (Error → Type 0) → Statement → Type 0

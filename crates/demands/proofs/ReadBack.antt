@@ -6,15 +6,16 @@ use mathlib.Core.List.{List}
 use lib.ListN.{length}
 use lib.Dec.{eqb, leb}
 use borrow.Author.Tests.{le-ltb}
-use Rattle.esterel.specs.Sets.{none}
+use Rattle.limits.specs.Limits.{maxBytes, maxDepth, maxSignals, signalCount, readBackPlace}
+use Rattle.sets.specs.Sets.{none}
+use Rattle.sets.proofs.Lists.{members-none}
 use Rattle.esterel.specs.Statement.{Statement}
 use Rattle.esterel.specs.Reaction.{inheritanceFirst}
 use Rattle.esterel.specs.Expansion.{expand}
 use Rattle.esterel.specs.Instants.{start}
 use Rattle.esterel.specs.Machines.{State}
 use Rattle.esterel.specs.ReadBack.{declaredBy, declared}
-use Rattle.theory.proofs.ReadBack.{members-none, expand-declared, declared-unread}
-use Rattle.limits.specs.Limits.{maxBytes, maxDepth, maxSignals, signalCount, readBackPlace}
+use Rattle.theory.proofs.ReadBack.{expand-declared, declared-unread}
 use Rattle.sequence.specs.Reader.{Read, accepted, refused, read}
 use Rattle.esterel.specs.Sizes.{signalNesting}
 use Rattle.sequence.specs.Program.{readBackSignals, program}

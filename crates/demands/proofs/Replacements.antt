@@ -5,7 +5,7 @@ use mathlib.Core.Path.{_≡_, refl, sym, ap, _∙_}
 use mathlib.Core.List.{List, [], _∷_, _++_}
 use lib.ListN.{length, take, drop, replicate}
 use borrow.Author.Tests.{eq-eqb}
-use Rattle.esterel.specs.Sets.{none, only, member, join}
+use Rattle.sets.specs.Sets.{member, none, only, join, subset, disjoint, membersFrom}
 use Rattle.esterel.specs.Statement.{pure, nothing, pause, emit, seq, setpause}
 use Rattle.esterel.specs.Reaction.{ended, waiting, gives, reactBy}
 use Rattle.esterel.specs.Rules.{ReactsBy}
@@ -13,9 +13,9 @@ use Rattle.esterel.specs.Errors.{errorsBy}
 use Rattle.esterel.specs.Reactions.{reactionsBy}
 use Rattle.esterel.specs.Places.{seq₁, seq₂, Place, At}
 use Rattle.esterel.specs.States.{NoSetpause}
-use Rattle.esterel.specs.LabelTests.{subset, disjoint, labelsOf, everyLabel, distinct, before, wellFormed}
+use Rattle.esterel.specs.LabelTests.{labelsOf, everyLabel, distinct, before, wellFormed}
 use Rattle.sequence.specs.Commands.{commandOf}
-use Rattle.esterel.specs.ReadBack.{membersFrom, declaredBy}
+use Rattle.esterel.specs.ReadBack.{declaredBy}
 use Rattle.sequence.specs.Reader.{front, read}
 use Rattle.esterel.specs.Sizes.{signalNesting}
 use Rattle.sequence.specs.Check.{checkOf, checked}

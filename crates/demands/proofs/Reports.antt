@@ -3,25 +3,24 @@ use Prim.Native.Nat.{ℕ, _^_, _<_}
 use native.Mathlib.Omega.{arith}
 use mathlib.Core.Path.{_≡_, refl}
 use mathlib.Core.Option.{Option}
-use Rattle.esterel.specs.Sets.{none}
+use Rattle.limits.specs.Limits.{signalCount, placeBytes, reactionsBytes}
+use Rattle.sets.specs.Sets.{none}
 use Rattle.esterel.specs.Statement.{Statement}
 use Rattle.esterel.specs.Reaction.{Code, ended, waiting, leaving, wrong, Reaction, gives, emitted, code}
 use Rattle.esterel.specs.Errors.{Error, blame}
 use Rattle.esterel.specs.Instants.{instant}
 use Rattle.esterel.specs.Machines.{shown, phaseAfter, seen, stateAfter}
-use Rattle.limits.specs.Limits.{signalCount, placeBytes, reactionsBytes}
 use Rattle.states.specs.StateRecord.{encodeState, phaseIn}
 use Rattle.answers.proofs.AnswerLaws.{code-field, kind-field, place-field, emitted-field, reactions-field}
 use Rattle.tick.specs.Tick.{written}
 use Rattle.tick.specs.Paper.{phaseNumber, reportOf}
 use Rattle.demands.specs.Demands.{report}
-use Rattle.demands.proofs.Bounds.{Below, below-number}
 
-pub shown-below : (o : ℕ) (k : Code) → Below signalCount o → shown k o < 2 ^ signalCount
+pub shown-below : (o : ℕ) (k : Code) → o < 2 ^ signalCount → shown k o < 2 ^ signalCount
 unfolding none
-shown-below o ended h = below-number signalCount o h
-shown-below o waiting h = below-number signalCount o h
-shown-below o (leaving n) h = below-number signalCount o h
+shown-below o ended h = h
+shown-below o waiting h = h
+shown-below o (leaving n) h = h
 shown-below o wrong h = omega arith
 
 phase-field : (o : ℕ) (k : Code) (l : ℕ) (t : Statement) → phaseIn (encodeState (stateAfter (gives o k l t))) ≡ phaseNumber (phaseAfter k)
@@ -32,7 +31,7 @@ phase-field o (leaving n) l t = refl
 phase-field o wrong l t = refl
 
 -- an instant is reported as the machine by rewriting sees it
-pub report-written : (r : Reaction) (x : Option Error) (n : ℕ) → Below signalCount (emitted r) → blame (code r) x .place < 256 ^ placeBytes
+pub report-written : (r : Reaction) (x : Option Error) (n : ℕ) → emitted r < 2 ^ signalCount → blame (code r) x .place < 256 ^ placeBytes
     → n < 256 ^ reactionsBytes → report (written (instant r x n)) ≡ reportOf (seen r x n)
 report-written (gives o k l t) x n h i j =
     rw (

@@ -1,13 +1,13 @@
 -- The bays worked by hand, by computation: with suspend, whose first error is not their only one, and with a read-back set.
 use mathlib.Core.Path.{refl}
-use Rattle.esterel.specs.Sets.{none, only, member, join, insert, remove}
+use Rattle.sets.specs.Sets.{member, none, only, join, insert, remove, subset, disjoint, membersFrom}
 use Rattle.esterel.specs.Reaction.{reactBy}
 use Rattle.esterel.specs.Errors.{errorsBy}
-use Rattle.esterel.specs.LabelTests.{subset, disjoint, labelsOf, activeLabels, everyLabel, distinct, before, wellFormed, valid}
+use Rattle.esterel.specs.LabelTests.{labelsOf, activeLabels, everyLabel, distinct, before, wellFormed, valid}
 use Rattle.esterel.specs.States.{active}
 use Rattle.esterel.specs.Expansion.{expand}
 use Rattle.sequence.specs.Commands.{commandOf}
-use Rattle.esterel.specs.ReadBack.{membersFrom, declaredBy}
+use Rattle.esterel.specs.ReadBack.{declaredBy}
 use Rattle.sequence.specs.Reader.{front, read}
 use Rattle.esterel.specs.Sizes.{signalNesting}
 use Rattle.sequence.specs.Check.{checked}

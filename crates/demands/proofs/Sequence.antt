@@ -19,7 +19,7 @@ use Rattle.esterel.specs.Sizes.{commands, loopNesting}
 use Rattle.esterel.specs.Ceiling.{ceiling}
 use Rattle.esterel.specs.Machines.{State, stateAfter, ReactionOf, of-statement, of-expansion, FromValid}
 use Rattle.theory.proofs.Theorems.{stable}
-use Rattle.limits.specs.Limits.{labelCount, maxBytes, maxDepth, maxSignals, placeBytes, reactionsBytes, readBackPlace}
+use Rattle.limits.specs.Limits.{maxBytes, maxDepth, maxSignals, placeBytes, reactionsBytes, readBackPlace}
 use Rattle.theory.proofs.ReadBack.{source-declared, distinct-declared, targeted-declared, wellFormed-declared, valid-declared}
 use Rattle.theory.proofs.Ceiling.{fresh-below, resumed-below, ceiling-within, commands-declared, loops-declared, nesting-declared}
 use Rattle.theory.proofs.LabelTests.{distinct-is, targeted-is, wellFormed-is, valid-is}
@@ -36,7 +36,7 @@ use Rattle.states.specs.StateRecord.{stateLength, Decoded, decodeState, Recorde
 use Rattle.answers.specs.AnswerRecord.{answerLength}
 use Rattle.tick.specs.Tick.{outcome, byState, replyOf, replied, tickBy, tickOf}
 use Rattle.demands.specs.PlaceNamed.{PlaceNamed, of-loop, of-signal, of-declaration}
-use Rattle.demands.proofs.Bounds.{Bounded, below-number, ranged-bounded, bounded-expand, bounded-declared, valid-below}
+use Rattle.demands.proofs.Bounds.{Bounded, ranged-bounded, bounded-expand, bounded-declared, valid-below}
 use Rattle.demands.proofs.ErrorPlaces.{PlacesBelow, errors-expand}
 use Rattle.demands.proofs.Offsets.{program-errors}
 
@@ -93,7 +93,7 @@ tick-short sequence state e readBack answer h = rw (ne-eqb (length answer) answe
 
 -- labels that are valid fit the record
 pub valid-recorded : (p : Statement) → Ranged p → (L : ℕ) → Valid p L → Recorded p (State.waits L)
-valid-recorded p r L v = (v, below-number labelCount L (valid-below p r L v))
+valid-recorded p r L v = (v, valid-below p r L v)
 
 -- ---- reactions of an accepted program keep to valid states and to the widths
 module _ (sequence : List ℕ) (readBack : ℕ) (a : Accepted sequence readBack) where

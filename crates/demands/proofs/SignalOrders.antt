@@ -8,6 +8,7 @@ use mathlib.Core.Option.{Option}
 use mathlib.Core.List.{List, [], _∷_, List·Memᴰ}
 use lib.ListN.{length}
 use lib.Dec.{eqb}
+use Rattle.sets.proofs.Booleans.{Tested, tested}
 use Rattle.esterel.specs.Statement.{Statement}
 use Rattle.esterel.specs.Reaction.{wrong, isWrong, Reaction, gives, code, Order, printed, inheritanceFirst, reactBy, react}
 use Rattle.esterel.specs.Errors.{Error, firstErrorBy, firstError}
@@ -15,7 +16,6 @@ use Rattle.esterel.specs.Reactions.{reactionsBy, reactions}
 use Rattle.esterel.specs.SignalOrders.{overlap}
 use Rattle.esterel.specs.Instants.{instant, startBy, start}
 use Rattle.esterel.specs.Machines.{State}
-use Rattle.theory.proofs.Booleans.{Tested, tested}
 use Rattle.theory.proofs.Rules.{wrong-is}
 use Rattle.theory.proofs.SignalOrders as orders
 use Rattle.theory.proofs.Reactions.{reactions-unchanged, reactions-kept}

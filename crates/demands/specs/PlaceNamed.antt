@@ -4,10 +4,10 @@ use mathlib.Core.Path.{_≡_}
 use mathlib.Core.Logic.{_≢_, _⊎_}
 use mathlib.Core.List.{List}
 use lib.ListN.{length, getD}
-use Rattle.esterel.specs.Sets.{none}
+use Rattle.limits.specs.Limits.{readBackPlace}
+use Rattle.sets.specs.Sets.{none}
 use Rattle.esterel.specs.Statement.{local, Statement, loop, signal}
 use Rattle.esterel.specs.Places.{Place, At}
-use Rattle.limits.specs.Limits.{readBackPlace}
 use Rattle.sequence.specs.Rows.{Spells}
 
 pub data PlaceNamed (sequence : List ℕ) (readBack kind place : ℕ) : Type 0 where

@@ -2,7 +2,7 @@
 use Prim.Native.Nat.{ℕ, zero, suc, _+_, _*_, _^_}
 use mathlib.Core.Path.{_≡_, refl}
 use mathlib.Core.List.{[], _∷_}
-use Rattle.esterel.specs.Sets.{member, none, only, join, insert, remove}
+use Rattle.sets.specs.Sets.{member, none, only, join, insert, remove}
 use Rattle.esterel.specs.Statement.{local, Statement, nothing, pause, emit, exit, seq, par, loop, present, signal, try, setpause, suspend, held}
 use Rattle.esterel.specs.Reaction.{reactBy}
 use Rattle.esterel.specs.Reactions.{reactionsBy, reactions}

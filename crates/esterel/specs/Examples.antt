@@ -4,7 +4,7 @@ use mathlib.Core.Path.{_≡_, refl}
 use mathlib.Core.Bool.{true, false}
 use mathlib.Core.Option.{Option, some}
 use mathlib.Core.List.{List, [], _∷_, map}
-use Rattle.esterel.specs.Sets.{member, none, only, join, insert, remove, below, from}
+use Rattle.sets.specs.Sets.{member, none, only, join, insert, remove, below, from}
 use Rattle.esterel.specs.Statement.{local, pure, Statement, nothing, pause, emit, exit, seq, par, loop, present, signal, try, setpause, suspend, held}
 use Rattle.esterel.specs.Reaction.{Code, ended, waiting, leaving, wrong, gives, code, emitted, labels, residual, reactBy, react}
 use Rattle.esterel.specs.Errors.{Error, noError, errorsBy, errors, firstError, instantaneous, notReactive, notDeterministic}

@@ -2,7 +2,7 @@
 use Prim.Native.Nat.{ℕ}
 use mathlib.Core.Path.{_≡_}
 use mathlib.Core.Bool.{Bool, true, false, cond}
-use Rattle.esterel.specs.Sets.{member}
+use Rattle.sets.specs.Sets.{member}
 use Rattle.esterel.specs.Statement.{Scope, Statement}
 use Rattle.esterel.specs.States.{active}
 use Rattle.esterel.specs.LabelTests.{activeLabels}

@@ -2,7 +2,7 @@
 use Prim.Native.Nat.{ℕ, _+_}
 use mathlib.Core.Bool.{cond}
 use mathlib.Core.Option.{Option, some}
-use Rattle.esterel.specs.Sets.{none, only}
+use Rattle.sets.specs.Sets.{none, only}
 use Rattle.esterel.specs.Statement.{Scope, Statement, signal}
 use Rattle.esterel.specs.Reaction.{Code, isWrong, Reaction, code, inSeq, inPar, inLoop, inTry, inSuspend, stopped, Case, both, neither, only−, only+, inherited, Order, inheritanceFirst, caseOf, inSignal, reactBy}
 use Rattle.esterel.specs.Errors.{Error, instantaneous, notReactive, notDeterministic, ifEnded, firstErrorBy}

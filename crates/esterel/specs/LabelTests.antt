@@ -4,14 +4,8 @@ use Prim.Native.Nat.{ℕ}
 use mathlib.Core.Bool.{Bool, true, false, not, _&&_, _||_, cond}
 use lib.Dec.{eqb}
 use lib.Bits.{bitAnd}
-use Rattle.esterel.specs.Sets.{member, none, only, join}
+use Rattle.sets.specs.Sets.{member, none, only, join, subset, disjoint}
 use Rattle.esterel.specs.Statement.{Statement, nothing, pause, emit, exit, seq, par, loop, present, signal, try, setpause, suspend, held}
-
-unfoldable pub disjoint : ℕ → ℕ → Bool
-disjoint s t = eqb (bitAnd s t) none
-
-unfoldable pub subset : ℕ → ℕ → Bool
-subset s t = eqb (bitAnd s t) s
 
 -- the labels of p: those of its pauses if x, and those of its setpauses if y
 unfoldable pub labelsOf : (x y : Bool) → Statement → ℕ

@@ -1,4 +1,3 @@
-pub mod Sets
 pub mod Statement
 pub mod Reaction
 pub mod Rules

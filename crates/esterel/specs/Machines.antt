@@ -5,7 +5,7 @@ use mathlib.Core.Path.{_≡_, refl}
 use mathlib.Core.Bool.{cond}
 use mathlib.Core.Option.{Option}
 use mathlib.Core.List.{List, [], _∷_}
-use Rattle.esterel.specs.Sets.{member, none, only, join}
+use Rattle.sets.specs.Sets.{member, none, only, join, without}
 use Rattle.esterel.specs.Statement.{litres, Statement, nothing, pause, emit, exit, seq, par, loop, present, signal, try, setpause, suspend, held}
 use Rattle.esterel.specs.Reaction.{Code, ended, waiting, leaving, wrong, isWrong, Reaction, gives, code, reactBy, react}
 use Rattle.esterel.specs.Errors.{Error, errorsBy, firstError, blame}
@@ -13,7 +13,6 @@ use Rattle.esterel.specs.Reactions.{reactionsBy, reactions}
 use Rattle.esterel.specs.States.{active, Valid}
 use Rattle.esterel.specs.Litres.{deliveredBy, delivered}
 use Rattle.esterel.specs.Expansion.{expand}
-use Rattle.esterel.specs.ReadBack.{without}
 
 -- 01: code 1 gives phase 1 (waiting), every other code phase 2 (over)
 pub data Phase : Type 0 where

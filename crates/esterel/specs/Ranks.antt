@@ -3,7 +3,7 @@
 -- mask below and from a number.
 use Prim.Native.Nat.{ℕ, _+_}
 use mathlib.Core.Bool.{Bool, true, false, _&&_, cond}
-use Rattle.esterel.specs.Sets.{member, none, only, join, empty, below, from}
+use Rattle.sets.specs.Sets.{member, none, empty, only, join, below, from}
 use Rattle.esterel.specs.Statement.{Statement, nothing, pause, emit, exit, seq, par, loop, present, signal, try, setpause, suspend, held}
 use Rattle.esterel.specs.LabelTests.{pauses, Joint, alternative, parallel}
 

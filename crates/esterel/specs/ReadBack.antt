@@ -1,10 +1,9 @@
 -- Read-back declarations (02, item 5): 'as if each were declared around it, lowest outermost, except that an emitted one is
 -- still reported'.
-use Prim.Native.Nat.{ℕ, zero, suc}
+use Prim.Native.Nat.{ℕ}
 use mathlib.Core.Path.{_≡_, refl}
-use mathlib.Core.Bool.{Bool, true, false}
 use mathlib.Core.List.{List, [], _∷_, List·Memᴰ}
-use Rattle.esterel.specs.Sets.{member, none, only, join, insert, remove}
+use Rattle.sets.specs.Sets.{member, none, only, join, insert, remove, without}
 use Rattle.esterel.specs.Statement.{Scope, local, reported, pure, litres, Statement, nothing, emit, seq, present, signal}
 use Rattle.esterel.specs.Reaction.{ended, waiting, gives, emitted, code, residual, failed, reactBy, react}
 use Rattle.esterel.specs.Errors.{errorsBy, errors, notReactive, notDeterministic}
@@ -13,15 +12,6 @@ use Rattle.esterel.specs.Asked.{askedBy}
 use Rattle.esterel.specs.Litres.{deliveredBy}
 use Rattle.esterel.specs.Traced.{startTraced}
 
-abbrev pub keepIf : Bool → ℕ → List ℕ → List ℕ
-keepIf true i is = i ∷ is
-keepIf false i is = is
-
--- the members of a set from i on, n numbers being left; the lowest first
-unfoldable pub membersFrom : (n i s : ℕ) → List ℕ
-membersFrom zero i s = []
-membersFrom (suc n) i s = keepIf (member i s) i (membersFrom n (suc i) s)
-
 -- p under a declaration at place a for each signal of the list, the first outermost; a read-back set's are reported
 unfoldable pub declaredBy : Scope → (a : ℕ) → List ℕ → Statement → Statement
 declaredBy sc a [] p = p
@@ -29,11 +19,6 @@ declaredBy sc a (s ∷ ss) p = signal sc a s (declaredBy sc a ss p)
 
 abbrev pub declared : (a : ℕ) → List ℕ → Statement → Statement
 declared = declaredBy reported
-
--- a set without the signals of the list
-unfoldable pub without : List ℕ → ℕ → ℕ
-without [] o = o
-without (s ∷ ss) o = remove s (without ss o)
 
 -- two present sets that agree on every signal that is not in the list
 abbrev pub AgreeOutside : List ℕ → (e e′ : ℕ) → Type 0
@@ -46,10 +31,6 @@ RemainsUnder a ss p t =
 
 -- ---- by computation
 -- emit 0; present 0 then emit 1: both are reported, and the test sees what was emitted
-lowest-first : membersFrom 32 0 37 ≡ 0 ∷ 2 ∷ 5 ∷ []
-unfolding membersFrom member
-lowest-first = refl
-
 seen-and-reported : react (declared 9 (0 ∷ []) (seq (emit 0 pure) (present 0 (emit 1 pure) nothing))) 0 ≡ gives 3 ended 0 (signal reported 9 0 nothing)
 unfolding declaredBy reactBy member none only join insert remove
 seen-and-reported = refl

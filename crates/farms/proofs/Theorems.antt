@@ -4,12 +4,11 @@ use mathlib.Core.Path.{_≡_, sym, _∙_}
 use mathlib.Core.Bool.{Bool, true, false, cond}
 use native.Mathlib.Omega.{arith}
 use lib.Dec.{eqb}
-use Rattle.esterel.specs.Sets.{member, join}
+use Rattle.sets.specs.Sets.{member, join}
+use Rattle.sets.proofs.Booleans.{never, clash}
+use Rattle.sets.proofs.Members.{member-only, in-l, in-r}
 use Rattle.esterel.specs.Statement.{pure, litres, Statement, nothing, pause, emit, exit, seq, par, loop, present, signal, try, setpause, suspend, held}
 use Rattle.esterel.specs.Litres.{AtMost}
-use Rattle.theory.proofs.Booleans.{never, clash}
-use Rattle.theory.proofs.Sets.{member-only}
-use Rattle.theory.proofs.LabelSets.{in-l, in-r}
 use Rattle.farms.specs.Farms.{farmsOf}
 
 none-brought : (b : Bool) → cond b 0 0 ≤ 0

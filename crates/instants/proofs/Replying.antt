@@ -5,8 +5,9 @@ use mathlib.Core.Path.{_≡_, sym, ap, _∙_, subst}
 use mathlib.Core.Logic.{_≢_}
 use mathlib.Core.Option.{Option}
 use mathlib.Core.List.{List}
+use Rattle.limits.specs.Limits.{readBackPlace, reactionsBytes}
+use Rattle.sets.specs.Sets.{none}
 use Rattle.esterel.specs.Statement.{Statement}
-use Rattle.esterel.specs.Sets.{none}
 use Rattle.esterel.specs.Reaction.{Code, ended, waiting, leaving, wrong, gives, code, react, inheritanceFirst}
 use Rattle.esterel.specs.Errors.{Error, firstError}
 use Rattle.esterel.specs.Ranks.{mask}
@@ -26,7 +27,6 @@ use Rattle.sequence.specs.Program.{readBackSignals, program}
 use Rattle.labels.specs.Labels.{labelSet}
 use Rattle.labels.proofs.LabelValues.{labelSet-of}
 use Rattle.labels.specs.declared.Labels.{Labels}
-use Rattle.limits.specs.Limits.{readBackPlace, reactionsBytes}
 use Rattle.sequence.specs.Writer.{Ranged}
 use Rattle.sequence.specs.Check.{Checked, sound, bad, checked, numberOf, checkOf}
 use Rattle.completions.specs.Completions.{completionOf}

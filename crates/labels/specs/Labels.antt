@@ -2,7 +2,7 @@
 use Prim.Native.Nat.{ℕ, _/_, _%_, _^_, _<_}
 use mathlib.Core.Path.{_≡_}
 use Rattle.limits.specs.Limits.{wordLabels}
-use Rattle.sets.specs.Sets.{twoWords}
+use Rattle.sets.specs.Widths.{twoWords}
 use Rattle.labels.specs.declared.Labels.{Labels}
 
 unfoldable pub labelSet : Labels → ℕ

@@ -12,18 +12,20 @@ use lib.Dec.{eqb, ltb}
 use lib.Pow.{pow-pos, pow-lt}
 use lib.Bits.{bitAnd, or-lt}
 use borrow.Author.Tests.{eqb-true, eqb-false, ltb-true, ltb-false}
-use Rattle.esterel.specs.Sets.{member, none, only, join, empty}
+use Rattle.limits.specs.Limits.{labelCount, wordLabels, signalCount}
+use Rattle.sets.specs.Sets.{member, none, empty, only, join, disjoint}
+use Rattle.sets.specs.Widths.{twoWords, setAt}
+use Rattle.sets.proofs.Booleans.{clash, Tested, tested}
+use Rattle.sets.proofs.Members.{member-only, in-none, in-join, out-l, out-r}
+use Rattle.sets.proofs.Algebra.{join-none-l, join-none-r, join-assoc, empty-join}
+use Rattle.sets.proofs.Tests.{disjoint-is, disjoint-none, none-disjoint}
+use Rattle.sets.proofs.Widths.{none-lt, only-lt, join-lt}
+use Rattle.sets.proofs.Words.{words-none, one-low, one-high, common-low, common-high}
 use Rattle.esterel.specs.Statement.{Value, pure, litres, Statement, nothing, pause, emit, exit, seq, par, loop, present, signal, try, setpause, suspend, held}
-use Rattle.esterel.specs.LabelTests.{disjoint, labelsOf, pauses, setpauses, distinct}
+use Rattle.esterel.specs.LabelTests.{labelsOf, pauses, setpauses, distinct}
 use Rattle.esterel.specs.Ranks.{pauseCount, rank}
 use Rattle.esterel.specs.Sizes.{signalNesting}
-use Rattle.theory.proofs.Booleans.{never, clash, Tested, tested}
-use Rattle.theory.proofs.Sets.{member-only, join-none-l, join-none-r}
-use Rattle.theory.proofs.LabelSets.{in-none, in-l, in-r, in-join, disjoint-is}
-use Rattle.theory.proofs.SetAlgebra.{join-assoc, empty-join, disjoint-none, none-disjoint, once-both}
-use Rattle.limits.specs.Limits.{labelCount, wordLabels, signalCount}
-use Rattle.sets.specs.Sets.{twoWords, setAt}
-use Rattle.sets.proofs.Words.{words-none, one-low, one-high, common-low, common-high}
+use Rattle.theory.proofs.LabelTests.{once-both}
 use Rattle.farms.specs.Farms.{farmOf, farmsOf}
 use Rattle.sequence.specs.Writer.{bytesOf, size, Ranged}
 use Rattle.layout.specs.Notes.{pausesIn, setpausesIn, twiceIn, pausesCounted, mostIn, farmsIn, rankIn, noteCount, noNotes, wordAt, inWord, notePause, noteSetpause, noteFarm, noteEmission, noteSignals, noteWithin, note, Noted}
@@ -293,8 +295,7 @@ module _ (l : ℕ) (m : List ℕ) (h : l < labelCount) (long : length m ≡ note
 module _ {x y s t a b : ℕ} {o u : Bool} {f g : (base l : ℕ) → ℕ} {m n r : List ℕ} (p : Added x s a o f m n) (q : Added y t b u g n r) where
   two-kept : (l : ℕ) → member l (join x y) ≡ false → rankIn r l ≡ rankIn m l
   two-kept l e =
-      q .kept l (never (member l y) (λ i. clash (member l (join x y)) (in-r l x y i) e))
-      ∙ p .kept l (never (member l x) (λ i. clash (member l (join x y)) (in-l l x y i) e))
+      q .kept l (out-r l x y e) ∙ p .kept l (out-l l x y e)
 
   two-ranked : (disjoint x y && (o && u)) ≡ true → (l : ℕ) → member l (join x y) ≡ true
       → rankIn r l ≡ cond (member l x) (f (pausesCounted m) l) (g (pausesCounted m + a) l)
@@ -303,9 +304,9 @@ module _ {x y s t a b : ℕ} {o u : Bool} {f g : (base l : ℕ) → ℕ} {m n r 
       let each = and-eq-true-iff o u .0 (apart .1) in
       go (disjoint-is x y .0 (apart .0) l) (each .0) (each .1) (tested (member l x))
     where
-      go : (member l x ≡ true → member l y ≡ true → ⊥) → o ≡ true → u ≡ true → Tested (member l x)
+      go : (member l x ≡ true → member l y ≡ false) → o ≡ true → u ≡ true → Tested (member l x)
           → rankIn r l ≡ cond (member l x) (f (pausesCounted m) l) (g (pausesCounted m + a) l)
-      go d v w (Tested.yes i) = rw i (q .kept l (never (member l y) (d i)) ∙ p .ranked v l i)
+      go d v w (Tested.yes i) = rw i (q .kept l (d i) ∙ p .ranked v l i)
       go d v w (Tested.no i) =
           let j : member l y ≡ true = ⊎-elim (λ z. clash (member l x) z i) (λ z. z) (in-join l x y h) in
           rw i (q .ranked w l j ∙ ap (λ (c : ℕ). g c l) (p .counted))
@@ -432,28 +433,23 @@ farms-noted k (held s K p) m h r = absurd r
 
 -- signals are numbers below their count
 farm-below : (s : ℕ) (v : Value) → s < signalCount → farmOf s v < 2 ^ signalCount
-unfolding none only
-farm-below s pure h = pow-pos signalCount
-farm-below s (litres n) h = pow-lt h
-
-join-below : (x y : ℕ) → x < 2 ^ signalCount → y < 2 ^ signalCount → join x y < 2 ^ signalCount
-unfolding join
-join-below x y h k = or-lt signalCount x y h k
+farm-below s pure h = none-lt signalCount
+farm-below s (litres n) h = only-lt signalCount s h
 
 pub farms-below : (p : Statement) → Ranged p → farmsOf p < 2 ^ signalCount
-unfolding farmsOf none
-farms-below nothing r = pow-pos signalCount
-farms-below (pause l) r = pow-pos signalCount
-farms-below (emit s pure) r = pow-pos signalCount
+unfolding farmsOf
+farms-below nothing r = none-lt signalCount
+farms-below (pause l) r = none-lt signalCount
+farms-below (emit s pure) r = none-lt signalCount
 farms-below (emit s (litres n)) r = farm-below s (litres n) (r .0)
-farms-below (exit n) r = pow-pos signalCount
-farms-below (seq p q) r = join-below (farmsOf p) (farmsOf q) (farms-below p (r .0)) (farms-below q (r .1))
-farms-below (par p q) r = join-below (farmsOf p) (farmsOf q) (farms-below p (r .0)) (farms-below q (r .1))
+farms-below (exit n) r = none-lt signalCount
+farms-below (seq p q) r = join-lt signalCount (farmsOf p) (farmsOf q) (farms-below p (r .0)) (farms-below q (r .1))
+farms-below (par p q) r = join-lt signalCount (farmsOf p) (farmsOf q) (farms-below p (r .0)) (farms-below q (r .1))
 farms-below (loop a p) r = farms-below p r
-farms-below (present s p q) r = join-below (farmsOf p) (farmsOf q) (farms-below p (r .1)) (farms-below q (r .2))
+farms-below (present s p q) r = join-lt signalCount (farmsOf p) (farmsOf q) (farms-below p (r .1)) (farms-below q (r .2))
 farms-below (signal sc a s p) r = farms-below p (r .2)
 farms-below (try p) r = farms-below p r
-farms-below (setpause l) r = pow-pos signalCount
+farms-below (setpause l) r = none-lt signalCount
 farms-below (suspend s p) r = farms-below p (r .1)
 farms-below (held s K p) r = absurd r
 

@@ -7,13 +7,13 @@ use mathlib.Core.Bool.{true}
 use mathlib.Core.List.{List}
 use lib.ListN.{getD, set, replicate}
 use lib.Bits.{bitAnd}
-use Rattle.esterel.specs.Sets.{member, only, join, empty}
+use Rattle.limits.specs.Limits.{labelCount, wordLabels}
+use Rattle.sets.specs.Sets.{member, empty, only, join}
+use Rattle.sets.specs.Widths.{setAt}
 use Rattle.esterel.specs.Statement.{Value, pure, litres, Statement, nothing, pause, emit, exit, seq, par, loop, present, signal, try, setpause, suspend, held}
 use Rattle.esterel.specs.LabelTests.{pauses, setpauses, distinct}
 use Rattle.esterel.specs.Ranks.{rank}
 use Rattle.esterel.specs.Sizes.{signalNesting}
-use Rattle.limits.specs.Limits.{labelCount, wordLabels}
-use Rattle.sets.specs.Sets.{setAt}
 use Rattle.farms.specs.Farms.{farmsOf}
 
 -- ---- the fields

@@ -2,6 +2,8 @@
 ghost use Prim.Native.Nat.{_≤_};
 ghost use mathlib.Core.List.{[], _∷_, _++_};
 ghost use lib.ListN.{length};
+ghost use Rattle.limits.specs.Limits.{wordLabels};
+ghost use Rattle.sets.specs.Widths.{twoWords};
 ghost use Rattle.runs.specs.Text.{numeral, newline, inputCut, heading as Text·heading, ending as Text·ending, refusal as Text·refusal};
 ghost use Rattle.lines.specs.Shown.{lineLength, mostWords, Displays};
 

@@ -4,7 +4,7 @@ use native.Mathlib.Omega.{arith}
 use mathlib.Core.Path.{_≡_, sym, ap, _∙_, subst}
 use mathlib.Core.List.{List, [], _∷_, _++_, append-assoc}
 use Rattle.limits.specs.Limits.{wordLabels}
-use Rattle.sets.specs.Sets.{twoWords}
+use Rattle.sets.specs.Widths.{twoWords}
 use Rattle.runs.specs.Text.{numeral, space, newline}
 use Rattle.runs.specs.Listing.{setsOf}
 use Rattle.lines_text.specs.Buffer.{Prepended}

@@ -3,7 +3,7 @@ ghost use Prim.Native.Nat.{_≤_};
 ghost use mathlib.Core.Path.{_≡_};
 ghost use lib.ListN.{length};
 ghost use Rattle.limits.specs.Limits.{wordLabels};
-ghost use Rattle.sets.specs.Sets.{twoWords};
+ghost use Rattle.sets.specs.Widths.{twoWords};
 ghost use Rattle.runs.specs.Listing.{numbersOf, setsOf};
 ghost use Rattle.lines_text.specs.Buffer.{Prepended};
 ghost use Rattle.lines.specs.Shown.{lineLength};

@@ -4,10 +4,10 @@ use native.Mathlib.Omega.{arith}
 use mathlib.Core.Path.{_≡_, sym, ap, _∙_, subst}
 use mathlib.Core.List.{List, [], _∷_, _++_, append-assoc}
 use lib.ListN.{length}
+use Rattle.limits.specs.Limits.{wordLabels}
+use Rattle.sets.specs.Widths.{twoWords}
 use Rattle.states.specs.StateRecord.{labelsIn}
 use Rattle.answers.specs.AnswerRecord.{codeIn, kindIn, placeIn, emittedIn}
-use Rattle.limits.specs.Limits.{wordLabels}
-use Rattle.sets.specs.Sets.{twoWords}
 use Rattle.runs.specs.Text.{numeral, space, newline}
 use Rattle.runs.specs.Listing.{numbersOf, setsOf, lineOf, entryRead}
 use Rattle.lines.specs.declared.Line.{Line}

@@ -1,20 +1,18 @@
 -- The tree under the read-back declarations, one declaration at a time.
 use Prim.Native.Nat.{ℕ, _^_, _<_}
 use native.Mathlib.Omega.{arith}
-use native.Mathlib.Decide.{decLt}
 use mathlib.Core.Path.{_≡_, ap, _∙_}
 use mathlib.Core.Bool.{true, false}
 use mathlib.Core.List.{List, _∷_}
 use borrow.Author.Tests.{eqb-true, eqb-false}
 use Rattle.limits.specs.Limits.{signalCount, readBackPlace}
-use Rattle.sets.specs.Sets.{insertBelow, Lowest}
-use Rattle.esterel.specs.Sets.{member, none, empty, remove}
+use Rattle.sets.specs.Sets.{member, none, empty, remove, membersFrom}
+use Rattle.sets.specs.Widths.{insertBelow, Lowest}
+use Rattle.sets.proofs.Members.{member-lt}
+use Rattle.sets.proofs.Lists.{members-none, members-lowest}
 use Rattle.esterel.specs.Statement.{Statement, reported, signal}
 use Rattle.esterel.specs.Traced.{startTraced, signalTraced, signalOnce}
-use Rattle.esterel.specs.ReadBack.{membersFrom, declaredBy, declared}
-use Rattle.theory.proofs.Booleans.{clash}
-use Rattle.theory.proofs.Sets.{member-high}
-use Rattle.theory.proofs.ReadBack.{members-none, members-lowest}
+use Rattle.esterel.specs.ReadBack.{declaredBy, declared}
 use Rattle.sequence.specs.Program.{readBackSignals, program}
 use Rattle.reaction.specs.declared.Reaction.{Reaction}
 use Rattle.reaction.specs.Reactions.{reactionOf, FromOne, FromTwo}
@@ -34,11 +32,7 @@ module _ (readBack x : ℕ) (fits : readBack < 2 ^ signalCount) (some : empty re
   found = low .found (eqb-false readBack none some)
 
   pub small : x < signalCount
-  small =
-      elim (decLt x signalCount) [
-        | yes l ↦ l
-        | no l ↦ clash (member x readBack) found (member-high {w = signalCount} x fits (omega arith))
-      ]
+  small = member-lt {w = signalCount} x fits found
 
   first : readBackSignals readBack ≡ x ∷ readBackSignals (remove x readBack)
   first = members-lowest signalCount 0 readBack x (omega arith) (omega (arith, small)) found (low .least)

@@ -7,8 +7,9 @@ use native.Mathlib.Omega.{arith}
 use lib.ListN.{length, getD, length-drop}
 use lib.Seq.{getD-drop}
 use borrow.Author.Tests.{lt-ltb}
-use Rattle.sets.specs.Sets.{signalCount, insertBelow}
-use Rattle.esterel.specs.Sets.{member, insert, remove}
+use Rattle.limits.specs.Limits.{signalCount}
+use Rattle.sets.specs.Sets.{member, insert, remove}
+use Rattle.sets.specs.Widths.{insertBelow}
 use Rattle.esterel.specs.Statement.{Scope, Statement, seq, par, loop, present, signal, try, suspend}
 use Rattle.esterel.specs.Traced as Traces
 use Rattle.esterel.specs.Traced.{startTraced, seqTraced, parTraced, loopTraced, presentTraced, tryTraced, suspendTraced, signalTraced, signalOnce}

@@ -1,11 +1,12 @@
 // An emission (01, 'Commands'; 02, item 12): its value, read from its bytes, and its reaction.
 ghost use mathlib.Core.Path.{_≡_};
 ghost use lib.ListN.{getD};
-ghost use Rattle.esterel.specs.Sets.{none};
+ghost use Rattle.limits.specs.Limits.{signalCount};
+ghost use Rattle.sets.specs.Sets.{none};
+ghost use Rattle.sets.specs.Widths.{onlyBelow};
 ghost use Rattle.esterel.specs.Statement.{nothing};
 ghost use Rattle.esterel.specs.Reaction.{ended, gives};
 ghost use Rattle.esterel.specs.Litres.{brought};
-ghost use Rattle.sets.specs.Sets.{signalCount, onlyBelow};
 ghost use Rattle.reaction.specs.Reactions.{alone, reactionOf};
 ghost use Rattle.react_emissions.specs.Emissions.{Emission, Whole, valueIn, meant, amountOf};
 use reaction::Reaction;

@@ -4,8 +4,9 @@ use mathlib.Core.Path.{_≡_, _∙_}
 use mathlib.Core.List.{List}
 use lib.ListN.{getD}
 use borrow.Author.Tests.{lt-ltb}
-use Rattle.sets.specs.Sets.{signalCount, labelCount, onlyBelow}
-use Rattle.esterel.specs.Sets.{none}
+use Rattle.limits.specs.Limits.{signalCount, labelCount}
+use Rattle.sets.specs.Sets.{none}
+use Rattle.sets.specs.Widths.{onlyBelow}
 use Rattle.esterel.specs.Statement.{Value, Statement, nothing, pause, emit, exit, setpause}
 use Rattle.esterel.specs.Reaction.{ended, waiting, leaving, gives, reactBy}
 use Rattle.esterel.specs.Errors.{errorsBy}

@@ -3,10 +3,11 @@ use Prim.Native.Nat.{ℕ, _+_}
 use mathlib.Core.Path.{_≡_}
 use mathlib.Core.Option.{Option, some}
 use native.Mathlib.Omega.{arith}
+use Rattle.sets.specs.Sets.{none, only, join, insert}
+use Rattle.sets.proofs.Algebra.{join-none-r}
 use Rattle.labels.specs.declared.Labels.{Labels}
 use Rattle.labels.specs.Labels.{Represents}
 use Rattle.labels.proofs.LabelValues.{labels-of}
-use Rattle.esterel.specs.Sets.{none, join}
 use Rattle.esterel.specs.Statement.{nothing}
 use Rattle.esterel.specs.Reaction.{Code, wrong, gives}
 use Rattle.esterel.specs.Errors.{Error}
@@ -14,7 +15,6 @@ use Rattle.esterel.specs.Instants as Instants
 use Rattle.esterel.specs.Traced as Traces
 use Rattle.esterel.specs.Instants.{instant, presentInstant}
 use Rattle.esterel.specs.Traced.{traced}
-use Rattle.theory.proofs.Sets.{join-none-r}
 use Rattle.completions.specs.declared.Completion.{Completion}
 use Rattle.completions.specs.Completions.{completionOf}
 use Rattle.reaction.specs.declared.Reaction.{Reaction}

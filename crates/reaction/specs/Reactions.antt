@@ -4,8 +4,8 @@ use Prim.Native.Nat.{ℕ, _+_, _%_, min}
 use mathlib.Core.Path.{_≡_}
 use mathlib.Core.Option.{none, some}
 use Rattle.limits.specs.Limits.{reactionsCount, litresLimit}
+use Rattle.sets.specs.Sets.{join}
 use Rattle.labels.specs.Labels.{labelsWith}
-use Rattle.esterel.specs.Sets.{join}
 use Rattle.esterel.specs.Reaction.{emitted, code, labels, failed}
 use Rattle.esterel.specs.Errors.{Error}
 use Rattle.esterel.specs.Instants as Instants

@@ -2,9 +2,10 @@
 // from those of its parts (02, item 6), the signals that a tree asks for, and the litres of the farm that is asked for (02, item 12).
 ghost use mathlib.Core.Path.{_≡_};
 ghost use Prim.Native.Nat.{ℕ, _+_};
+ghost use Rattle.limits.specs.Limits.{labelCount};
+ghost use Rattle.sets.specs.Sets.{member, none};
+ghost use Rattle.sets.specs.Widths.{onlyBelow};
 ghost use Rattle.labels.specs.Labels.{labelSet};
-ghost use Rattle.sets.specs.Sets.{labelCount, onlyBelow};
-ghost use Rattle.esterel.specs.Sets.{member, none};
 ghost use Rattle.esterel.specs.Statement.{nothing};
 ghost use Rattle.esterel.specs.Reaction.{ended, waiting, leaving, gives};
 ghost use Rattle.reaction.specs.Reactions.{keptOf, cappedOf, alone, reactionOf, failedWith, countedAround, FromOne};

@@ -1,18 +1,17 @@
 -- Records, panels and numbers worked by hand.
 use mathlib.Core.Path.{_≡_, refl}
 use mathlib.Core.List.{[], _∷_, map}
-use Rattle.esterel.specs.Sets.{none, only, member, join, insert, remove}
+use Rattle.sets.specs.Sets.{member, none, only, join, difference, insert, remove, subset, disjoint, membersFrom}
 use Rattle.esterel.specs.Reaction.{reactBy}
 use Rattle.esterel.specs.Errors.{errorsBy}
 use Rattle.esterel.specs.Reactions.{reactionsBy}
-use Rattle.esterel.specs.LabelTests.{subset, disjoint, labelsOf, everyLabel, distinct, before, wellFormed}
-use Rattle.esterel.specs.ReadBack.{membersFrom, declaredBy}
+use Rattle.esterel.specs.LabelTests.{labelsOf, everyLabel, distinct, before, wellFormed}
+use Rattle.esterel.specs.ReadBack.{declaredBy}
 use Rattle.esterel.specs.Sizes.{signalNesting}
 use Rattle.sequence.specs.Commands.{commandOf}
 use Rattle.sequence.specs.Reader.{front, read}
 use Rattle.sequence.specs.Check.{checked}
 use Rattle.numbers.specs.Bytes.{leBytes, leNumber}
-use Rattle.sets.specs.Sets.{difference}
 use Rattle.states.specs.StateRecord.{stateRecord, encodeState, decodeState}
 use Rattle.answers.specs.AnswerRecord.{answerRecord, encodeAnswer}
 use Rattle.tick.specs.Tick.{tickBy}

@@ -5,8 +5,7 @@ use mathlib.Core.Bool.{false}
 use mathlib.Core.List.{List, [], _∷_, _++_}
 use lib.ListN.{getD, take, drop}
 use Rattle.limits.specs.Limits.{signalBytes, numberBytes}
-use Rattle.esterel.specs.Sets.{member}
-use Rattle.sets.specs.Sets.{difference}
+use Rattle.sets.specs.Sets.{member, difference}
 use Rattle.numbers.specs.Bytes.{leBytes, leNumber}
 use Rattle.states.specs.StateRecord.{stateLength}
 use Rattle.answers.specs.AnswerRecord.{answerLength, codeIn, emittedIn}

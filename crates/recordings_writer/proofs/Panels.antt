@@ -9,7 +9,8 @@ use lib.ListN.{length, getD, take, drop, length-take, List·getD-eq-default}
 use lib.Seq.{getD-take, getD-drop}
 use Rattle.limits.specs.Limits.{signalCount, signalBytes, numberBytes}
 use Rattle.sets.specs.Sets.{difference}
-use Rattle.sets.proofs.Differences.{difference-lt, differences-same}
+use Rattle.sets.proofs.Algebra.{differences-same}
+use Rattle.sets.proofs.Widths.{difference-lt}
 use Rattle.numbers.specs.Bytes.{leBytes, leNumber}
 use Rattle.numbers.proofs.Bytes.{le-round-trip}
 use Rattle.numbers.proofs.Reading.{leNumber-lt}

@@ -2,7 +2,7 @@
 use Prim.Native.Nat.{ℕ}
 use mathlib.Core.List.{List, [], _∷_, _++_}
 use lib.ListN.{take}
-use Rattle.esterel.specs.Sets.{none}
+use Rattle.sets.specs.Sets.{none}
 use Rattle.states.specs.StateRecord.{stateRecord}
 use Rattle.answers.specs.AnswerRecord.{answerRecord}
 use Rattle.recordings.specs.Record.{recordOf}

@@ -1,11 +1,13 @@
 -- A machine goes on from its own states: where it stands after an instant is one of them, and its labels have ranks.
-use Prim.Native.Nat.{ℕ, _≤_}
+use Prim.Native.Nat.{ℕ, _^_, _<_, _≤_}
 use native.Mathlib.Omega.{arith}
 use mathlib.Core.Path.{_≡_, sym, ap, _∙_, subst}
 use mathlib.Core.Bool.{true}
 use mathlib.Core.List.{List}
 use Rattle.limits.specs.Limits.{labelCount, labelBytes}
-use Rattle.esterel.specs.Sets.{member}
+use Rattle.sets.specs.Sets.{member}
+use Rattle.sets.proofs.Members.{member-lt}
+use Rattle.sets.proofs.Widths.{members-lt}
 use Rattle.esterel.specs.Statement.{Statement}
 use Rattle.esterel.specs.Reaction.{gives, ended, waiting, leaving, wrong, inheritanceFirst}
 use Rattle.esterel.specs.States.{Valid}
@@ -37,7 +39,7 @@ use Rattle.numbers.proofs.Bytes.{le-round-trip}
 use Rattle.states.specs.StateRecord.{labelsIn, encodeState, holds, Recorded}
 use Rattle.states.proofs.StateLaws.{decode-encode}
 use Rattle.tick.specs.Tick.{reacts, byState, byCheck, replyOf}
-use Rattle.demands.proofs.Bounds.{Below, below-number, valid-below}
+use Rattle.demands.proofs.Bounds.{valid-below}
 use Rattle.demands.proofs.Sequence.{Accepted, accepted, recorded-fresh, recorded-resumed}
 use Rattle.instants.specs.declared.Standing.{Standing}
 use Rattle.instants.specs.declared.Standing.the-variants as stands
@@ -51,14 +53,14 @@ labels-recorded p L r = le-round-trip labelBytes L (r .1)
 
 -- ---- a valid set has ranks
 module _ (p : Statement) (r : Ranged p) where
-  paused-below : Below labelCount (pauses p)
-  paused-below l m = ranged-at (pauses-is p l .0 m .1) r
+  paused-below : pauses p < 2 ^ labelCount
+  paused-below = members-lt labelCount (pauses p) (λ l m. ranged-at (pauses-is p l .0 m .1) r)
 
   pub valid-ranked : (t notes bs : List ℕ) → Known t notes bs p → (L : ℕ) → Valid p L → Ranked notes L
   valid-ranked t notes bs k L v l m =
       let w : member l (pauses p) ≡ true = pauses-is p l .1 (v .paused l m) in
-      let f : pauseCount p ≤ labelCount = few-pauses labelCount p (distinct-is p .0 (k .once)) (below-number labelCount (pauses p) paused-below) in
-      (valid-below p r L v l m, omega (arith, k .noted .ranked (k .once) l w, rank-lt 0 p l w, f))
+      let f : pauseCount p ≤ labelCount = few-pauses labelCount p (distinct-is p .0 (k .once)) paused-below in
+      (member-lt {w = labelCount} l (valid-below p r L v) m, omega (arith, k .noted .ranked (k .once) l w, rank-lt 0 p l w, f))
 
 -- ---- the state after an instant
 abbrev pub stateOf : Instant → State

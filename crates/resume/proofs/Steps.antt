@@ -5,8 +5,9 @@ use mathlib.Core.Bool.{Bool, true, false, cond}
 use mathlib.Core.Option.{Option, none, some}
 use mathlib.Core.List.{List}
 use lib.ListN.{getD}
-use Rattle.sets.specs.Sets.{signalCount, insertBelow}
-use Rattle.esterel.specs.Sets.{member, remove, empty, below, from}
+use Rattle.limits.specs.Limits.{signalCount}
+use Rattle.sets.specs.Sets.{member, empty, remove, below, from}
+use Rattle.sets.specs.Widths.{insertBelow}
 use Rattle.esterel.specs.Statement.{local, Statement, nothing, seq, par, loop, present, signal, try, suspend}
 use Rattle.esterel.specs.Ranks.{middle, labelsBy}
 use Rattle.esterel.specs.Traced as Traces

@@ -4,7 +4,7 @@ use Prim.Native.Nat.{ℕ}
 use mathlib.Core.Path.{_≡_}
 use mathlib.Core.Bool.{cond}
 use mathlib.Core.List.{List}
-use Rattle.esterel.specs.Sets.{empty}
+use Rattle.sets.specs.Sets.{empty}
 use Rattle.esterel.specs.Statement.{Statement, nothing}
 use Rattle.esterel.specs.Traced.{startTraced}
 use Rattle.esterel.specs.RankedExpansion.{expandBy, resumeTraced}

@@ -6,15 +6,14 @@ use mathlib.Core.List.{List}
 use native.Mathlib.Omega.{arith}
 use lib.ListN.{length-set, getD, set, replicate}
 use borrow.Author.Tests.{eqb-true, lt-ltb}
-use Rattle.esterel.specs.Sets.{none, join, empty, below, from}
+use Rattle.limits.specs.Limits.{wordLabels, labelCount}
+use Rattle.sets.specs.Sets.{none, empty, join, below, from}
+use Rattle.sets.specs.Widths.{onlyBelow, twoWords, setAt}
+use Rattle.sets.proofs.Algebra.{join-none-l, join-none-r, join-assoc}
+use Rattle.sets.proofs.Words.{words-of, words-none, stored-here}
 use Rattle.esterel.specs.Statement.{local, Statement, pause, seq, par, loop, present, signal, try, suspend}
 use Rattle.esterel.specs.Ranks.{middle, labelsBy}
-use Rattle.theory.proofs.Sets.{join-none-l, join-none-r}
-use Rattle.theory.proofs.SetAlgebra.{join-assoc}
 use Rattle.theory.proofs.Ranks.{labels-by-none}
-use Rattle.limits.specs.Limits.{wordLabels}
-use Rattle.sets.specs.Sets.{labelCount, twoWords, setAt, onlyBelow}
-use Rattle.sets.proofs.Words.{words-of, words-none, stored-here}
 use Rattle.sequence.specs.Commands.{Command}
 use Rattle.sequence.proofs.Table.{byteOf}
 use Rattle.layout.specs.Layout.{Lies, Ready}

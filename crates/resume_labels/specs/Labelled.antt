@@ -3,11 +3,11 @@ use Prim.Native.Nat.{ℕ}
 use mathlib.Core.Path.{_≡_}
 use mathlib.Core.List.{List}
 use lib.ListN.{length}
-use Rattle.esterel.specs.Sets.{join, below, from}
+use Rattle.limits.specs.Limits.{wordLabels}
+use Rattle.sets.specs.Sets.{join, below, from}
+use Rattle.sets.specs.Widths.{twoWords, setAt}
 use Rattle.esterel.specs.Statement.{Statement}
 use Rattle.esterel.specs.Ranks.{middle, labelsBy}
-use Rattle.limits.specs.Limits.{wordLabels}
-use Rattle.sets.specs.Sets.{twoWords, setAt}
 use Rattle.labels.specs.declared.Labels.{Labels}
 use Rattle.labels.specs.Labels.{labelSet}
 use Rattle.layout.specs.Layout.{Two, Lies}

@@ -5,16 +5,17 @@ use mathlib.Core.Bool.{Bool, true, false, cond, false≢true, true≢false}
 use mathlib.Core.Option.{Option}
 use lib.Dec.{eqb}
 use borrow.Author.Tests.{lt-ltb}
+use Rattle.limits.specs.Limits.{signalCount}
+use Rattle.sets.specs.Sets.{none, only, join, insert}
+use Rattle.sets.specs.Widths.{onlyBelow}
+use Rattle.sets.proofs.Algebra.{join-none-l, join-none-r}
 use Rattle.labels.specs.Labels.{labelsWith}
-use Rattle.sets.specs.Sets.{signalCount, onlyBelow}
-use Rattle.esterel.specs.Sets.{none, only, join, insert}
 use Rattle.esterel.specs.Statement.{Statement, nothing, try}
 use Rattle.esterel.specs.Reaction.{ended, waiting, leaving, wrong, gives}
 use Rattle.esterel.specs.Errors.{Error, instantaneous}
 use Rattle.esterel.specs.Traced as Traces
 use Rattle.esterel.specs.Instants.{instant}
 use Rattle.esterel.specs.Traced.{traced, loopTraced, presentTraced, tryTraced, suspendTraced, heldTraced, stoppedTraced}
-use Rattle.theory.proofs.Sets.{join-none-l, join-none-r}
 use Rattle.completions.specs.declared.Completion.{Completion}
 use Rattle.reaction.specs.declared.Reaction.{Reaction}
 use Rattle.completions.specs.Completions.{completionOf, isEnded, caught}

@@ -3,10 +3,10 @@ use Prim.Native.Nat.{ℕ, _+_, _-_}
 use mathlib.Core.Path.{_≡_, refl, ap, _∙_}
 use mathlib.Core.Bool.{true, false, false≢true, true≢false}
 use native.Mathlib.Omega.{arith}
+use Rattle.sets.specs.Sets.{none, join}
 use Rattle.labels.specs.declared.Labels.{Labels}
 use Rattle.labels.specs.Labels.{labelSet, labelsWith, Represents}
 use Rattle.labels.proofs.LabelValues.{labelSet-of, stands-of}
-use Rattle.esterel.specs.Sets.{none, join}
 use Rattle.esterel.specs.Statement.{Statement}
 use Rattle.esterel.specs.Reaction.{Code, ended, waiting, leaving, wrong, greater, gives, ifWaiting}
 use Rattle.esterel.specs.Traced as Traces

@@ -8,7 +8,7 @@ use mathlib.Core.Option.{Option}
 use mathlib.Core.List.{List, [], _∷_, _++_, map}
 use lib.ListN.{replicate}
 use borrow.Author.Tests.{eq-eqb, ne-eqb}
-use Rattle.esterel.specs.Sets.{none}
+use Rattle.sets.specs.Sets.{none}
 use Rattle.esterel.specs.Statement.{Statement}
 use Rattle.esterel.specs.Reaction.{ended, waiting, leaving, wrong, Reaction, gives, react}
 use Rattle.esterel.specs.Errors.{Error, noError, firstError, blame}

@@ -5,10 +5,10 @@ use mathlib.Core.List.{List, [], _∷_, _++_, map, flatten}
 use Prim.Native.Nat.{ℕ}
 use lib.ListN.{replicate}
 use lib.Ieee.{ofBits, ofFields, odd, inUnsigned, whole}
+use Rattle.sets.specs.Sets.{member, none, only, join, subset, disjoint, membersFrom}
 use Rattle.numbers.specs.Bytes.{leNumber}
-use Rattle.esterel.specs.Sets.{member, none, only, join}
-use Rattle.esterel.specs.ReadBack.{membersFrom, declaredBy}
-use Rattle.esterel.specs.LabelTests.{subset, disjoint, labelsOf, everyLabel, distinct, before, wellFormed}
+use Rattle.esterel.specs.ReadBack.{declaredBy}
+use Rattle.esterel.specs.LabelTests.{labelsOf, everyLabel, distinct, before, wellFormed}
 use Rattle.sequence.specs.Commands.{commandOf}
 use Rattle.sequence.specs.Reader.{front, read}
 use Rattle.esterel.specs.Sizes.{signalNesting}

@@ -1,9 +1,10 @@
 -- The program of a host (02, item 5): the statement of its sequence under the read-back declarations.
 use Prim.Native.Nat.{ℕ}
 use mathlib.Core.List.{List}
-use Rattle.esterel.specs.Statement.{Statement}
-use Rattle.esterel.specs.ReadBack.{membersFrom, declared}
 use Rattle.limits.specs.Limits.{signalCount, readBackPlace}
+use Rattle.sets.specs.Sets.{membersFrom}
+use Rattle.esterel.specs.Statement.{Statement}
+use Rattle.esterel.specs.ReadBack.{declared}
 
 -- the signals of a read-back set, lowest first
 abbrev pub readBackSignals : (readBack : ℕ) → List ℕ

@@ -8,7 +8,10 @@ use mathlib.Core.List.{List, [], _∷_, List·Memᴰ, List·Memᴰ·head, List·
 use lib.ListN.{length}
 use lib.Bits.{and-le-r}
 use lib.Count.{ones, ones-step}
+use Rattle.sets.specs.Sets.{none}
 use Rattle.sets.specs.Subsets.{subsetsOf, Falls}
+use Rattle.sets.proofs.Lowest.{half-below}
+use Rattle.sets.proofs.Sizes.{size-none}
 use Rattle.sets.proofs.Subsets.{Within, to-within, half-within, low-within, subsets-are, subsets-fall}
 
 -- the digits of f at the places of u, moved together
@@ -20,19 +23,14 @@ packed : (w f u : ℕ) → ℕ
 packed zero f u = 0
 packed (suc w) f u = place (u % 2) (f % 2) (packed w (f / 2) (u / 2))
 
-no-digit : ones 0 ≡ 0
-unfolding ones
-no-digit = refl
-
 packed-lt : (w f u : ℕ) → u < 2 ^ w → packed w f u < 2 ^ ones u
-unfolding packed
+unfolding packed none
 packed-lt zero f u h =
     let z : u ≡ 0 = omega arith in
-    let o : ones u ≡ 0 = ap ones z ∙ no-digit in
+    let o : ones u ≡ 0 = ap ones z ∙ size-none in
     rw o (omega arith)
 packed-lt (suc w) f u h =
-    let p : 2 ^ suc w ≡ 2 ^ w * 2 = pow-suc 2 w in
-    go (u % 2) refl (packed-lt w (f / 2) (u / 2) (omega arith))
+    go (u % 2) refl (packed-lt w (f / 2) (u / 2) (half-below w u h))
   where
     go : (d : ℕ) → u % 2 ≡ d → packed w (f / 2) (u / 2) < 2 ^ ones (u / 2) → place d (f % 2) (packed w (f / 2) (u / 2)) < 2 ^ ones u
     go zero e l = let o : ones u ≡ ones (u / 2) = omega (arith, ones-step u) in rw o l
@@ -46,9 +44,7 @@ packed-less : (w f g u : ℕ) → g < 2 ^ w → Within f u → Within g u → f 
 unfolding packed
 packed-less zero f g u b hf hg l = absurd (omega arith)
 packed-less (suc w) f g u b hf hg l =
-    let p : 2 ^ suc w ≡ 2 ^ w * 2 = pow-suc 2 w in
-    let c : g / 2 < 2 ^ w = omega arith in
-    go (u % 2) refl (λ q. packed-less w (f / 2) (g / 2) (u / 2) c (half-within f u hf) (half-within g u hg) q)
+    go (u % 2) refl (λ q. packed-less w (f / 2) (g / 2) (u / 2) (half-below w g b) (half-within f u hf) (half-within g u hg) q)
   where
     go : (d : ℕ) → u % 2 ≡ d → (f / 2 < g / 2 → packed w (f / 2) (u / 2) < packed w (g / 2) (u / 2))
         → place d (f % 2) (packed w (f / 2) (u / 2)) < place d (g % 2) (packed w (g / 2) (u / 2))

@@ -1,30 +1,31 @@
 -- The list of the subsets of a set has each of them once and nothing else, and a loop over it takes them from the greatest down.
 use Prim.Native.Nat.{ℕ, zero, suc, _+_, _*_, _-_, _/_, _%_, _^_, _≤_, _<_, min}
-use native.Mathlib.Nat.{pow-suc}
 use native.Mathlib.Decide.{ℕ-discrete}
 use native.Mathlib.Omega.{arith}
 use mathlib.Core.Path.{_≡_, refl, sym, ap, ap₂, _∙_, subst}
 use mathlib.Core.Logic.{_≢_, _↔_, _⊎_, ⊎-elim}
-use mathlib.Core.Bool.{Bool, true, false, _&&_, cond, false≢true}
+use mathlib.Core.Bool.{Bool, true, false, cond, and-eq-true-iff}
 use mathlib.Core.List.{List, [], _∷_, List·Memᴰ, List·Memᴰ·head, List·Memᴰ·tail, List·Memᴰ·not-nil, List·Memᴰ·cases-cons}
 use lib.Dec.{eqb}
 use lib.Bits.{bitAnd, and-step, and-le-l, and-le-r, and-self}
 use borrow.Author.Tests.{eq-eqb, eqb-true, eqb-false, ne-eqb}
-use Rattle.esterel.specs.Sets.{member}
-use Rattle.theory.proofs.Sets.{member-and}
-use Rattle.sets.specs.Sets.{common, Subset}
+use Rattle.sets.specs.Sets.{member, common, Subset, subset}
 use Rattle.sets.specs.Subsets.{nextSubset, subsetsBelow, subsetsOf, Falls}
-use Rattle.sets.proofs.Laws.{subset-test}
+use Rattle.sets.proofs.Members.{member-common}
+use Rattle.sets.proofs.Tests.{subset-is}
+use Rattle.sets.proofs.Lowest.{half-below, lt-power}
 
 -- ---- a subset, by its digits
 abbrev pub Within : (f u : ℕ) → Type 0
 Within f u = bitAnd f u ≡ f
 
 pub to-within : (f u : ℕ) → Subset f u → Within f u
-to-within f u h = eqb-true (bitAnd f u) f (subset-test f u .1 h)
+unfolding subset
+to-within f u h = eqb-true (bitAnd f u) f (subset-is f u .1 h)
 
 from-within : (f u : ℕ) → Within f u → Subset f u
-from-within f u h = subset-test f u .0 (eq-eqb (bitAnd f u) f h)
+unfolding subset
+from-within f u h = subset-is f u .0 (eq-eqb (bitAnd f u) f h)
 
 pub half-within : (f u : ℕ) → Within f u → Within (f / 2) (u / 2)
 half-within f u h = omega (arith, and-step f u)
@@ -36,11 +37,8 @@ low-within g u h = omega (arith, and-step g u)
 greatest : (w f g u : ℕ) → f < 2 ^ w → Within f u → Within g u → g < f → g ≤ bitAnd (f - 1) u
 greatest zero f g u b hf hg l = absurd (omega arith)
 greatest (suc w) f g u b hf hg l =
-    go (f % 2) refl (λ q. greatest w (f / 2) (g / 2) (u / 2) below (half-within f u hf) (half-within g u hg) q)
+    go (f % 2) refl (λ q. greatest w (f / 2) (g / 2) (u / 2) (half-below w f b) (half-within f u hf) (half-within g u hg) q)
   where
-    below : f / 2 < 2 ^ w
-    below = let e : 2 ^ suc w ≡ 2 ^ w * 2 = pow-suc 2 w in omega arith
-
     go : (d : ℕ) → f % 2 ≡ d → (g / 2 < f / 2 → g / 2 ≤ bitAnd (f / 2 - 1) (u / 2)) → g ≤ bitAnd (f - 1) u
     go zero e ih =
         let q : (f - 1) / 2 ≡ f / 2 - 1 = omega arith in
@@ -56,16 +54,10 @@ greatest (suc w) f g u b hf hg l =
         and-step (f - 1) u ∙ ap (λ (x : ℕ). bitAnd x (u / 2) * 2 + min ((f - 1) % 2) (u % 2)) q in
         omega arith
 
-and-right : (a b : Bool) → (a && b) ≡ true → b ≡ true
-and-right true b h = h
-and-right false b h = absurd (false≢true h)
-
-small : (f : ℕ) → f < 2 ^ f
-small zero = omega arith
-small (suc f) = let e : 2 ^ suc f ≡ 2 ^ f * 2 = pow-suc 2 f in omega (arith, small f)
-
 next-within : (f u : ℕ) → Within (bitAnd (f - 1) u) u
-next-within f u = to-within (bitAnd (f - 1) u) u (λ i h. and-right (member i (f - 1)) (member i u) (sym (member-and i (f - 1) u) ∙ h))
+unfolding common
+next-within f u =
+    to-within (bitAnd (f - 1) u) u (λ i h. and-eq-true-iff (member i (f - 1)) (member i u) .0 (sym (member-common i (f - 1) u) ∙ h) .1)
 
 -- ---- the list
 -- more than f of them are not below f
@@ -115,7 +107,7 @@ module _ (u : ℕ) where
       elim (ℕ-discrete g (nextSubset f u)) [
         | yes e ↦ List·Memᴰ·head e
         | no e ↦ List·Memᴰ·tail (reached n (nextSubset f u) g (omega (arith, and-le-l (f - 1) u)) (next-within f u) hg
-            (omega (arith, greatest f f g u (small f) hf hg l)))
+            (omega (arith, greatest f f g u (lt-power f) hf hg l)))
       ])
 
   below-less : (n f g : ℕ) → List·Memᴰ g (subsetsBelow n f u) → g < f

@@ -10,14 +10,15 @@ use lib.Dec.{eqb, ltb}
 use lib.ListN.{length, getD, set, length-set}
 use lib.Seq.{getD-set-same, getD-set-other}
 use lib.Bits.{bitAnd, bitXor, and-block, or-block, xor-block, and-lt, and-zero-r}
-use lib.Pow.{pow-pos, pow-lt, pow-add, shr-shr, split, high, low, field, mod-mod-pow, mod-pow-add}
+use lib.Pow.{pow-pos, pow-add, shr-shr, split, high, low, field, mod-mod-pow, mod-pow-add}
 use borrow.Author.Tests.{eq-eqb, eqb-true, ne-eqb, eqb-false, ltb-true, ltb-false, lt-ltb}
 use Rattle.limits.specs.Limits.{wordLabels}
-use Rattle.esterel.specs.Sets.{member, none, only, join, below}
-use Rattle.theory.proofs.Booleans.{clash}
-use Rattle.theory.proofs.Sets.{member-none, member-high, join-none-r}
-use Rattle.sets.specs.Sets.{onlyBelow, twoWords, setAt, Subset, Disjoint, Lowest}
-use Rattle.sets.proofs.Laws.{shifted-only, subset-test, disjoint-test}
+use Rattle.sets.specs.Sets.{member, none, only, join, Subset, subset, Disjoint, disjoint, below}
+use Rattle.sets.specs.Widths.{onlyBelow, twoWords, setAt, Lowest}
+use Rattle.sets.proofs.Members.{member-none, member-lt}
+use Rattle.sets.proofs.Algebra.{join-none-r}
+use Rattle.sets.proofs.Tests.{subset-is, disjoint-is}
+use Rattle.sets.proofs.Widths.{shifted-only, only-lt}
 
 -- ---- a number and the two words that hold it
 pub words-of : (w s : ℕ) → twoWords w (s % 2 ^ w) (s / 2 ^ w) ≡ s
@@ -166,39 +167,39 @@ module _ (w a b c d : ℕ) (h : a < 2 ^ w) (k : c < 2 ^ w) where
   words-difference =
       words-xor w a b (bitAnd a c) (bitAnd b d) h (and-lt w a c h k) ∙ ap (bitXor s) (words-and w a b c d h k)
 
-  common : (e : ℕ) → eqb (twoWords w (bitAnd a c) (bitAnd b d)) e ≡ eqb (bitAnd s t) e
-  common e = ap (λ (x : ℕ). eqb x e) (words-and w a b c d h k)
+  words-common : (e : ℕ) → eqb (twoWords w (bitAnd a c) (bitAnd b d)) e ≡ eqb (bitAnd s t) e
+  words-common e = ap (λ (x : ℕ). eqb x e) (words-and w a b c d h k)
 
   pub subset-words : bitAnd a c ≡ a → (eqb (bitAnd b d) b ≡ true) ↔ Subset s t
+  unfolding subset
   subset-words e =
-      as-test (words-same w (bitAnd a c) (bitAnd b d) a b (and-lt w a c h k) h e ∙ common s) (subset-test s t)
+      as-test (words-same w (bitAnd a c) (bitAnd b d) a b (and-lt w a c h k) h e ∙ words-common s) (subset-is s t)
 
   pub no-subset : (bitAnd a c ≡ a → ⊥) → (false ≡ true) ↔ Subset s t
+  unfolding subset
   no-subset f =
-      as-test (words-differ w (bitAnd a c) (bitAnd b d) a b (and-lt w a c h k) h f ∙ common s) (subset-test s t)
+      as-test (words-differ w (bitAnd a c) (bitAnd b d) a b (and-lt w a c h k) h f ∙ words-common s) (subset-is s t)
 
   none-common : eqb (twoWords w (bitAnd a c) (bitAnd b d)) (twoWords w 0 0) ≡ eqb (bitAnd s t) 0
   unfolding none
-  none-common = ap (eqb (twoWords w (bitAnd a c) (bitAnd b d))) (words-none w) ∙ common 0
+  none-common = ap (eqb (twoWords w (bitAnd a c) (bitAnd b d))) (words-none w) ∙ words-common 0
 
   pub disjoint-words : bitAnd a c ≡ 0 → (eqb (bitAnd b d) 0 ≡ true) ↔ Disjoint s t
+  unfolding disjoint none
   disjoint-words e =
-      as-test (words-same w (bitAnd a c) (bitAnd b d) 0 0 (and-lt w a c h k) (pow-pos w) e ∙ none-common) (disjoint-test s t)
+      as-test (words-same w (bitAnd a c) (bitAnd b d) 0 0 (and-lt w a c h k) (pow-pos w) e ∙ none-common) (disjoint-is s t)
 
   pub no-disjoint : (bitAnd a c ≡ 0 → ⊥) → (false ≡ true) ↔ Disjoint s t
+  unfolding disjoint none
   no-disjoint f =
-      as-test (words-differ w (bitAnd a c) (bitAnd b d) 0 0 (and-lt w a c h k) (pow-pos w) f ∙ none-common) (disjoint-test s t)
+      as-test (words-differ w (bitAnd a c) (bitAnd b d) 0 0 (and-lt w a c h k) (pow-pos w) f ∙ none-common) (disjoint-is s t)
 
 -- ---- one number more, or in common, in the word that has it
 module _ (w a b l : ℕ) (fits : a < 2 ^ w) where
-  only-fits : l < w → only l < 2 ^ w
-  unfolding only
-  only-fits h = pow-lt h
-
   pub one-low : l < w → twoWords w (join a (only l)) b ≡ join (twoWords w a b) (only l)
   unfolding none
   one-low h =
-      ap (twoWords w (join a (only l))) (sym (join-none-r b)) ∙ words-join w a b (only l) 0 fits (only-fits h)
+      ap (twoWords w (join a (only l))) (sym (join-none-r b)) ∙ words-join w a b (only l) 0 fits (only-lt w l h)
       ∙ ap (join (twoWords w a b)) (only-low w l)
 
   pub one-high : w ≤ l → twoWords w a (join b (only (l - w))) ≡ join (twoWords w a b) (only l)
@@ -210,7 +211,7 @@ module _ (w a b l : ℕ) (fits : a < 2 ^ w) where
   pub common-low : l < w → eqb (bitAnd a (only l)) 0 ≡ eqb (bitAnd (twoWords w a b) (only l)) 0
   common-low h =
       ap (λ (x : ℕ). eqb x 0)
-      (alone ∙ ap (twoWords w (bitAnd a (only l))) (sym (and-zero-r b)) ∙ words-and w a b (only l) 0 fits (only-fits h)
+      (alone ∙ ap (twoWords w (bitAnd a (only l))) (sym (and-zero-r b)) ∙ words-and w a b (only l) 0 fits (only-lt w l h)
       ∙ ap (bitAnd (twoWords w a b)) (only-low w l))
     where
       alone : bitAnd a (only l) ≡ twoWords w (bitAnd a (only l)) 0
@@ -249,16 +250,9 @@ module _ (w v a b : ℕ) (fits : a < 2 ^ w) where
   unfolding none
   both-none e f = ap₂ (twoWords w) e f ∙ words-none w
 
-  within : (i : ℕ) → member i a ≡ true → i < w
-  within i m = go (ltb i w) refl
-    where
-      go : (x : Bool) → ltb i w ≡ x → i < w
-      go true z = ltb-true i w z
-      go false z = clash (member i a) m (member-high i fits (ltb-false i w z))
-
   pub lowest-low : (i : ℕ) → (a ≡ none → ⊥) → Lowest w a i → Lowest (v + w) (twoWords w a b) i
   lowest-low i f l =
-      let h : i < w = within i (l .found f) in
+      let h : i < w = member-lt i fits (l .found f) in
       record {
         found = λ g. sym (member-low w a b fits i h) ∙ l .found f;
         least = λ j q. sym (member-low w a b fits j (omega arith)) ∙ l .least j q;

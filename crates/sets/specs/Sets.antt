@@ -1,51 +1,75 @@
--- Sets below a width, and two relations between sets, over the sets of esterel.
-use Prim.Native.Nat.{ℕ, _+_, _*_, _-_, _^_, _<_}
-use mathlib.Core.Path.{_≡_}
-use mathlib.Core.Bool.{true, false, cond}
-use mathlib.Core.List.{List}
-use lib.ListN.{getD}
-use lib.Dec.{ltb}
-use lib.Bits.{bitAnd, bitXor}
-use Rattle.limits.specs.Limits.{wordLabels}
-pub use Rattle.limits.specs.Limits.{labelCount, signalCount}
-use Rattle.esterel.specs.Sets.{member, none, only, insert}
+-- Sets of small numbers, for signals and for labels. A set is a number: `i` is a member if binary digit `i` is 1.
+-- No width is fixed here.
+use Prim.Native.Nat.{ℕ, zero, suc, _/_, _%_, _^_}
+use mathlib.Core.Path.{_≡_, refl}
+use mathlib.Core.Bool.{Bool, true, false}
+use mathlib.Core.List.{List, [], _∷_}
+use lib.Dec.{eqb}
+use lib.Bits.{bitOr, bitAnd, bitXor}
 
--- a set of numbers below w has no other member
-abbrev pub onlyBelow : (w i : ℕ) → ℕ
-onlyBelow w i = cond (ltb i w) (only i) none
+unfoldable pub member : ℕ → ℕ → Bool
+member i s = eqb (s / 2 ^ i % 2) 1
 
-abbrev pub insertBelow : (w i s : ℕ) → ℕ
-insertBelow w i s = cond (ltb i w) (insert i s) s
+unfoldable pub none : ℕ
+none = 0
 
--- the set held in two words: the members below w, in a first word below 2 ^ w, and those from w on moved down by w
-unfoldable pub twoWords : (w low high : ℕ) → ℕ
-twoWords w low high = high * 2 ^ w + low
+abbrev pub empty : ℕ → Bool
+empty s = eqb s none
 
--- the set in the two words of a list that begin at `at`
-abbrev pub setAt : (at : ℕ) → List ℕ → ℕ
-setAt at words = twoWords wordLabels (getD words at 0) (getD words (at + 1) 0)
+unfoldable pub only : ℕ → ℕ
+only i = 2 ^ i
 
-abbrev pub Subset : ℕ → ℕ → Type 0
-Subset s t = (i : ℕ) → member i s ≡ true → member i t ≡ true
+unfoldable pub join : ℕ → ℕ → ℕ
+join s t = bitOr s t
 
-abbrev pub Disjoint : ℕ → ℕ → Type 0
-Disjoint s t = (i : ℕ) → member i s ≡ true → member i t ≡ false
-
--- i is the least member of s, or w if s is empty
-pub record Lowest (w s i : ℕ) : Type 0 where
-  pub found : (s ≡ none → ⊥) → member i s ≡ true
-  pub least : (j : ℕ) → j < i → member j s ≡ false
-  pub absent : s ≡ none → i ≡ w
-
--- ---- what two sets have in common, what the first has alone, all numbers below w, and those of them that a set has not
+-- what two sets have in common, and what the first has alone
 unfoldable pub common : ℕ → ℕ → ℕ
 common s t = bitAnd s t
 
 unfoldable pub difference : ℕ → ℕ → ℕ
 difference s t = bitXor s (bitAnd s t)
 
-unfoldable pub allBelow : (w : ℕ) → ℕ
-allBelow w = 2 ^ w - 1
+-- ---- one number more, one less, and less those of a list
+unfoldable pub insert : ℕ → ℕ → ℕ
+insert i s = bitOr s (2 ^ i)
 
-abbrev pub complement : (w s : ℕ) → ℕ
-complement w s = difference (allBelow w) s
+unfoldable pub remove : ℕ → ℕ → ℕ
+remove i s = bitXor s (bitAnd s (2 ^ i))
+
+unfoldable pub without : List ℕ → ℕ → ℕ
+without [] s = s
+without (i ∷ is) s = remove i (without is s)
+
+-- ---- two relations, and the tests that tell them
+abbrev pub Subset : ℕ → ℕ → Type 0
+Subset s t = (i : ℕ) → member i s ≡ true → member i t ≡ true
+
+unfoldable pub subset : ℕ → ℕ → Bool
+subset s t = eqb (bitAnd s t) s
+
+abbrev pub Disjoint : ℕ → ℕ → Type 0
+Disjoint s t = (i : ℕ) → member i s ≡ true → member i t ≡ false
+
+unfoldable pub disjoint : ℕ → ℕ → Bool
+disjoint s t = eqb (bitAnd s t) none
+
+-- ---- a set in two: the members below k, and the others
+unfoldable pub below : (k s : ℕ) → ℕ
+below k s = s % 2 ^ k
+
+unfoldable pub from : (k s : ℕ) → ℕ
+from k s = bitXor s (below k s)
+
+-- ---- the members in a list
+abbrev pub keepIf : Bool → ℕ → List ℕ → List ℕ
+keepIf true i is = i ∷ is
+keepIf false i is = is
+
+-- those from i on, n numbers being left; the lowest first
+unfoldable pub membersFrom : (n i s : ℕ) → List ℕ
+membersFrom zero i s = []
+membersFrom (suc n) i s = keepIf (member i s) i (membersFrom n (suc i) s)
+
+lowest-first : membersFrom 32 0 37 ≡ 0 ∷ 2 ∷ 5 ∷ []
+unfolding membersFrom member
+lowest-first = refl

@@ -1,1 +1,1 @@
-// Sets below a width, and the laws by which sets are held as bits: definitions and proofs, no code.
+// Sets of small numbers, for signals and for labels, and the laws of them: definitions and proofs, no code.

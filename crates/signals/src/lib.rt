@@ -2,9 +2,9 @@
 // outside the width is no member.
 ghost use mathlib.Core.Path.{_≡_};
 ghost use lib.ListN.{length};
-ghost use Rattle.esterel.specs.Sets.{member, join, remove, empty};
-ghost use Rattle.esterel.specs.ReadBack.{membersFrom};
-ghost use Rattle.sets.specs.Sets.{signalCount, onlyBelow, insertBelow, Lowest, common, difference, complement};
+ghost use Rattle.limits.specs.Limits.{signalCount};
+ghost use Rattle.sets.specs.Sets.{member, empty, join, common, difference, remove, membersFrom};
+ghost use Rattle.sets.specs.Widths.{onlyBelow, insertBelow, complement, Lowest};
 ghost use Rattle.sets.specs.Subsets.{nextSubset};
 
 pub fn member(s: u32, i: u8) -> bool

@@ -3,12 +3,12 @@ use Prim.Native.Nat.{ℕ, suc}
 use mathlib.Core.Path.{_≡_, refl, ap}
 use mathlib.Core.Bool.{cond}
 use lib.ListN.{length}
-use Rattle.esterel.specs.Sets.{none}
+use Rattle.limits.specs.Limits.{labelBytes}
+use Rattle.sets.specs.Sets.{none}
 use Rattle.esterel.specs.Statement.{Statement}
 use Rattle.esterel.specs.LabelTests.{valid}
 use Rattle.esterel.specs.Machines.{State}
 use Rattle.theory.proofs.LabelTests.{valid-is}
-use Rattle.limits.specs.Limits.{labelBytes}
 use Rattle.numbers.specs.Bytes.{leBytes, leNumber}
 use Rattle.numbers.proofs.Bytes.{length-leBytes, le-round-trip}
 use Rattle.states.specs.StateRecord.{stateLength, stateRecord, encodeState, holds, malformed, decodeState, Recorded}

@@ -4,12 +4,12 @@ use mathlib.Core.Bool.{_&&_, cond}
 use mathlib.Core.List.{List, _∷_}
 use lib.ListN.{getD, take, drop}
 use lib.Dec.{eqb}
-use Rattle.esterel.specs.Sets.{none}
+use Rattle.limits.specs.Limits.{labelBytes}
+use Rattle.sets.specs.Sets.{none}
 use Rattle.esterel.specs.Statement.{Statement}
 use Rattle.esterel.specs.States.{Valid}
 use Rattle.esterel.specs.LabelTests.{valid}
 use Rattle.esterel.specs.Machines.{State}
-use Rattle.limits.specs.Limits.{labelBytes}
 use Rattle.numbers.specs.Bytes.{leBytes, leNumber}
 
 -- where the label set begins, and the length

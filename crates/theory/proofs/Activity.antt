@@ -5,18 +5,17 @@ use mathlib.Core.Logic.{_↔_, ⊎-elim}
 use mathlib.Core.Bool.{true, false, _||_, and-eq-true-iff, false≢true}
 use mathlib.Core.List.{[]}
 use borrow.Author.Tests.{eqb-true}
-use Rattle.esterel.specs.Sets.{member, none, only, join}
+use Rattle.sets.specs.Sets.{member, none, only, join, common}
+use Rattle.sets.proofs.Booleans.{or-l, or-r, or-cases, never, clash, same-test}
+use Rattle.sets.proofs.Members.{member-common, member-only, in-none, same-set}
+use Rattle.sets.proofs.Algebra.{common-join}
 use Rattle.esterel.specs.Statement.{Statement, nothing, pause, emit, exit, seq, par, loop, present, signal, try, setpause, suspend, held}
 use Rattle.esterel.specs.Places.{Part, PartOf, seq₁, seq₂, par₁, par₂, loop₁, present₁, present₂, signal₁, try₁, suspend₁, Place, At}
 use Rattle.esterel.specs.States.{Holds, active, Awake}
 use Rattle.esterel.specs.Expansion.{expand}
 use Rattle.esterel.specs.LabelTests.{Joint, labelsOf, pauses, activeLabels}
-use Rattle.theory.proofs.Booleans.{or-l, or-r, or-cases, never, clash}
-use Rattle.theory.proofs.Sets.{member-and, member-only}
 use Rattle.theory.proofs.Places.{holds-in, Disjoint}
 use Rattle.theory.proofs.Order.{Joined, sequence, test, sides}
-use Rattle.theory.proofs.LabelSets.{in-none, same-test, same-set}
-use Rattle.theory.proofs.SetAlgebra.{and-join}
 use Rattle.theory.proofs.LabelTests.{pauses-is}
 
 -- ---- active in 01's words
@@ -91,11 +90,11 @@ active-same (held s K p) L M h = refl
 
 -- ---- the active labels inside it, in 02's words
 pub activeLabels-is : (p : Statement) (L l : ℕ) → (member l (activeLabels p L) ≡ true) ↔ ((member l L ≡ true) × Holds p (pause l))
-unfolding activeLabels
+unfolding activeLabels common
 activeLabels-is p L l = (
-  λ h. let x = and-eq-true-iff (member l L) (member l (pauses p)) .0 (sym (member-and l L (pauses p)) ∙ h) in
+  λ h. let x = and-eq-true-iff (member l L) (member l (pauses p)) .0 (sym (member-common l L (pauses p)) ∙ h) in
       (x .0, pauses-is p l .0 (x .1)),
-  λ h. member-and l L (pauses p) ∙ and-eq-true-iff (member l L) (member l (pauses p)) .1 (h .0, pauses-is p l .1 (h .1)),
+  λ h. member-common l L (pauses p) ∙ and-eq-true-iff (member l L) (member l (pauses p)) .1 (h .0, pauses-is p l .1 (h .1)),
 )
 
 abbrev pub Inside : Statement → ℕ → Type 0
@@ -134,10 +133,10 @@ activeLabels-pause l L m =
 
 pub activeLabels-two : {j : Joint} {p q w : Statement} (L : ℕ) → Joined j p q w
     → activeLabels w L ≡ join (activeLabels p L) (activeLabels q L)
-unfolding activeLabels labelsOf
-activeLabels-two L (sequence {p = p} {q = q}) = and-join L (pauses p) (pauses q)
-activeLabels-two L (test {p = p} {q = q}) = and-join L (pauses p) (pauses q)
-activeLabels-two L (sides {p = p} {q = q}) = and-join L (pauses p) (pauses q)
+unfolding activeLabels labelsOf common
+activeLabels-two L (sequence {p = p} {q = q}) = common-join L (pauses p) (pauses q)
+activeLabels-two L (test {p = p} {q = q}) = common-join L (pauses p) (pauses q)
+activeLabels-two L (sides {p = p} {q = q}) = common-join L (pauses p) (pauses q)
 
 pub expand-same : (p : Statement) (L M : ℕ) → Same p L M → expand p L ≡ expand p M
 unfolding expand

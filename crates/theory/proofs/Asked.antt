@@ -2,11 +2,14 @@
 -- signal does not ask for it, that run is the run with it too.
 use Prim.Native.Nat.{ℕ, _+_}
 use mathlib.Core.Path.{_≡_, refl, sym, ap, _∙_}
-use mathlib.Core.Bool.{Bool, true, false, not, _&&_, _||_, cond}
+use mathlib.Core.Bool.{Bool, true, false, not, _&&_, _||_, cond, or-true, or-false, and-true, and-false}
 use mathlib.Core.List.{[], _++_}
 use lib.Dec.{eqb}
 use borrow.Author.Tests.{eqb-true, eq-eqb}
-use Rattle.esterel.specs.Sets.{member, none, join, insert, remove}
+use Rattle.sets.specs.Sets.{member, none, join, insert, remove}
+use Rattle.sets.proofs.Booleans.{or-l, clash, Tested, tested}
+use Rattle.sets.proofs.Members.{member-insert, member-remove, in-l, in-r}
+use Rattle.sets.proofs.Algebra.{join-none-r, join-self, remove-absent}
 use Rattle.esterel.specs.Statement.{Scope, Statement, nothing, pause, emit, exit, seq, par, loop, present, signal, try, setpause, suspend, held}
 use Rattle.esterel.specs.Reaction.{ended, waiting, leaving, wrong, Reaction, gives, code, inSeq, inSuspend, stopped, Order, inheritanceFirst, reactBy}
 use Rattle.esterel.specs.Rules.{ReactsBy}
@@ -16,9 +19,6 @@ use Rattle.esterel.specs.Asked.{askedBy, asked, asks}
 use Rattle.esterel.specs.Litres.{chosen, passing, deliveredBy}
 use Rattle.esterel.specs.Instants.{signalInstant}
 use Rattle.esterel.specs.Traced.{Traced, traced, askedOf, caseOfRuns, startTraced, signalTraced, signalOnce}
-use Rattle.theory.proofs.Booleans.{or-l, or-true, or-false, and-true, and-false, clash, Tested, tested}
-use Rattle.theory.proofs.Sets.{member-insert, member-remove, join-none-r, join-self, remove-absent}
-use Rattle.theory.proofs.LabelSets.{in-l, in-r}
 use Rattle.theory.proofs.Rules.{sound}
 use Rattle.theory.proofs.Reactions.{stays}
 use Rattle.theory.proofs.Trees.{start-traced-signal}

@@ -6,7 +6,7 @@ use mathlib.Core.List.{List, [], _∷_}
 use lib.ListN.{length}
 use native.Mathlib.Nat.{le-refl, le-trans, pow-suc, one-le-pow, add-le-add, mul-le-mul, pow-le-pow-right}
 use native.Mathlib.Omega.{arith}
-use Rattle.esterel.specs.Sets.{member, insert, remove}
+use Rattle.sets.specs.Sets.{member, insert, remove}
 use Rattle.esterel.specs.Statement.{Statement, nothing, pause, emit, exit, seq, par, loop, present, signal, try, setpause, suspend, held}
 use Rattle.esterel.specs.Reaction.{code, react}
 use Rattle.esterel.specs.States.{active}

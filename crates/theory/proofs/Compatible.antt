@@ -5,18 +5,20 @@ use mathlib.Core.Logic.{_↔_}
 use mathlib.Core.Bool.{Bool, true, false, not, _&&_, and-eq-true-iff, false≢true}
 use mathlib.Core.List.{_∷_}
 use native.Mathlib.Omega.{arith}
-use borrow.Author.Tests.{eqb-false, ne-eqb, not-true}
-use Rattle.esterel.specs.Sets.{member, none, empty, below, from}
+use borrow.Author.Tests.{ne-eqb}
+use Rattle.sets.specs.Sets.{member, none, empty, subset, below, from}
+use Rattle.sets.proofs.Booleans.{clash, Tested, tested, same-test}
+use Rattle.sets.proofs.Members.{in-none}
+use Rattle.sets.proofs.Tests.{subset-is}
+use Rattle.sets.proofs.Lowest.{some-is}
 use Rattle.esterel.specs.Statement.{Statement, nothing, pause, emit, exit, seq, par, loop, present, signal, try, setpause, suspend, held}
 use Rattle.esterel.specs.Places.{Part, first, second, PartOf, loop₁, signal₁, try₁, suspend₁, Place, At, Alternative, Exclusive}
 use Rattle.esterel.specs.States.{active}
-use Rattle.esterel.specs.LabelTests.{Joint, alternative, parallel, subset, pauses, valid}
+use Rattle.esterel.specs.LabelTests.{Joint, alternative, parallel, pauses, valid}
 use Rattle.esterel.specs.Ranks.{middle, mask, ofParts, compatible}
-use Rattle.theory.proofs.Booleans.{clash, Tested, tested}
 use Rattle.theory.proofs.Places.{Together, together-part, exclusive-part}
 use Rattle.theory.proofs.Activity.{active-is}
 use Rattle.theory.proofs.Order.{Joined, sequence, test, sides, first-part, second-part, at-part}
-use Rattle.theory.proofs.LabelSets.{in-none, some-member, subset-is, same-test}
 use Rattle.theory.proofs.LabelTests.{pauses-is, valid-is}
 use Rattle.theory.proofs.Ranks.{split-below, split-from, first-empty, second-empty}
 
@@ -191,7 +193,7 @@ valid-by base p L = same-test (valid p L) (not (empty L) && (subset L (pauses p)
         let d = and-eq-true-iff (subset L (pauses p)) (passes base p L) .0 (c .1) in
         valid-is p L .1 (
         record {
-          some = some-member L (eqb-false L none (not-true (empty L) (c .0)));
+          some = some-is L .0 (c .0);
           paused = λ l m. pauses-is p l .0 (subset-is L (pauses p) .0 (d .0) l m);
           together = compatible-to base p L (d .1);
         }

@@ -5,12 +5,12 @@ use mathlib.Core.Path.{_≡_, refl, sym, subst}
 use mathlib.Core.Logic.{_↔_}
 use mathlib.Core.Bool.{Bool, true, false, _||_, cond, false≢true}
 use mathlib.Core.List.{_∷_}
-use Rattle.esterel.specs.Sets.{member}
+use Rattle.sets.specs.Sets.{member}
+use Rattle.sets.proofs.Booleans.{or-l, or-r, never, clash, Tested, tested}
 use Rattle.esterel.specs.Statement.{Statement, nothing, pause, emit, exit, seq, par, loop, present, signal, try, setpause, suspend, held}
 use Rattle.esterel.specs.Places.{first, second, PartOf, seq₁, seq₂, par₁, par₂, loop₁, present₁, present₂, signal₁, try₁, suspend₁, Place, At, Alternative, Exclusive}
 use Rattle.esterel.specs.States.{active, Valid}
 use Rattle.esterel.specs.Expansion.{expand, ifActive, Expands, clause}
-use Rattle.theory.proofs.Booleans.{or-l, or-r, never, clash, Tested, tested}
 use Rattle.theory.proofs.Activity.{active-is}
 use Rattle.theory.proofs.Places.{Together, together-part}
 

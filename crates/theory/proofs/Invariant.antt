@@ -5,14 +5,14 @@ use Prim.Native.Nat.{ℕ, _-_}
 use mathlib.Core.Path.{_≡_, refl}
 use mathlib.Core.Bool.{Bool, true, false, cond}
 use lib.Dec.{eqb}
-use Rattle.esterel.specs.Sets.{member, none, only, join, insert, remove}
+use Rattle.sets.specs.Sets.{member, none, only, join, insert, remove}
+use Rattle.sets.proofs.Booleans.{Tested, tested}
+use Rattle.sets.proofs.Algebra.{join-none-l, join-none-r}
 use Rattle.esterel.specs.Statement.{Scope, Statement, nothing, pause, emit, exit, seq, par, loop, present, signal, try, setpause, suspend, held}
 use Rattle.esterel.specs.Reaction.{Code, ended, waiting, leaving, wrong, Reaction, gives, inSeq, inPar, inLoop, inTry, inSuspend, stopped, outside, Case, both, neither, only−, only+, inherited, inheritanceFirst, caseOf, answer, reactBy, react}
 use Rattle.esterel.specs.States.{active}
 use Rattle.esterel.specs.Expansion.{expand, ifActive}
 use Rattle.esterel.specs.LabelTests.{activeLabels}
-use Rattle.theory.proofs.Booleans.{Tested, tested}
-use Rattle.theory.proofs.Sets.{join-none-l, join-none-r}
 
 abbrev pub Relation : Type 1
 Relation = Statement → ℕ → Statement → Type 0

@@ -2,23 +2,16 @@
 -- is a label of it, and the labels before k.
 use Prim.Native.Nat.{ℕ}
 use mathlib.Core.Path.{_≡_, refl, sym, ap, ap₂, _∙_}
-use mathlib.Core.Bool.{Bool, true, false, _&&_, _||_, cond}
+use mathlib.Core.Bool.{Bool, true, false, _&&_, _||_, cond, or-false}
 use lib.Dec.{eqb}
-use Rattle.esterel.specs.Sets.{member, none, only, join}
+use Rattle.sets.specs.Sets.{member, none, only, join}
+use Rattle.sets.proofs.Members.{member-join, member-none, member-only, ext}
 use Rattle.esterel.specs.Statement.{Statement, nothing, pause, emit, exit, seq, par, loop, present, signal, try, setpause, suspend, held}
 use Rattle.esterel.specs.LabelTests.{labelsOf, Joint, alternative, parallel, atJoint, ifMember, before}
 use Rattle.esterel.specs.LabelRows.{addRow, further, fill}
-use Rattle.theory.proofs.Booleans.{or-false}
-use Rattle.theory.proofs.Sets.{member-join, member-none, member-only, ext}
+use Rattle.theory.proofs.LabelSets.{member-if}
 
 -- ---- members
-pub member-if : (l k s t : ℕ) → member l (ifMember k s t) ≡ (member k s && member l t)
-member-if l k s t = go (member k s)
-  where
-    go : (b : Bool) → member l (cond b t none) ≡ (b && member l t)
-    go true = refl
-    go false = member-none l
-
 member-further : (j i : Joint) (l known s : ℕ) → member l (further j i known s) ≡ (member l known || member l (atJoint j i s))
 member-further alternative alternative l known s = member-join l known s
 member-further alternative parallel l known s = sym (ap (λ (b : Bool). member l known || b) (member-none l) ∙ or-false (member l known))

@@ -1,98 +1,16 @@
 -- The sets of LabelTests by places: labelsOf holds the labels of pauses and setpauses, before the pairs in order.
-use Prim.Native.Nat.{ℕ, suc, _/_, _%_, _^_}
-use mathlib.Core.Path.{_≡_, refl, sym, ap, _∙_, subst}
-use mathlib.Core.Logic.{_⊎_, ⊎-elim, _↔_}
+use Prim.Native.Nat.{ℕ}
+use mathlib.Core.Path.{_≡_, refl, sym, _∙_, subst}
+use mathlib.Core.Logic.{⊎-elim}
 use mathlib.Core.Bool.{Bool, true, false, _&&_, cond, and-eq-true-iff, false≢true}
 use mathlib.Core.List.{[], _∷_}
-use native.Mathlib.Omega.{arith}
-use lib.Dec.{eqb}
-use lib.Arith.{bin-ind}
-use lib.Bits.{bitAnd}
-use borrow.Author.Tests.{eqb-true, eqb-false, eq-eqb}
-use Rattle.esterel.specs.Sets.{member, none, only, join}
+use borrow.Author.Tests.{eqb-true, eq-eqb}
+use Rattle.sets.specs.Sets.{member, none, only, join}
+use Rattle.sets.proofs.Members.{member-none, member-only, in-none, in-l, in-r, in-join, same-set}
 use Rattle.esterel.specs.Statement.{Statement, nothing, pause, emit, exit, seq, par, loop, present, signal, try, setpause, suspend, held}
 use Rattle.esterel.specs.Places.{Part, first, second, PartOf, seq₁, seq₂, par₁, par₂, loop₁, present₁, present₂, signal₁, try₁, suspend₁, Place, At}
-use Rattle.esterel.specs.LabelTests.{disjoint, subset, labelsOf, Joint, alternative, parallel, atJoint, ifMember, before, everyLabel, triggers}
-use Rattle.theory.proofs.Booleans.{or-l, or-r, or-cases, Tested, tested}
-use Rattle.theory.proofs.Sets.{member-join, member-and, member-none, member-only, member-step, ext}
+use Rattle.esterel.specs.LabelTests.{labelsOf, Joint, alternative, parallel, atJoint, ifMember, before, everyLabel, triggers}
 use Rattle.theory.proofs.Order.{Joined, sequence, test, sides, first-part, second-part, Before, at-part, NoParts}
-
--- ---- members
-pub in-l : (k s t : ℕ) → member k s ≡ true → member k (join s t) ≡ true
-in-l k s t h = member-join k s t ∙ or-l (member k s) (member k t) h
-
-pub in-r : (k s t : ℕ) → member k t ≡ true → member k (join s t) ≡ true
-in-r k s t h = member-join k s t ∙ or-r (member k s) (member k t) h
-
-pub in-join : (k s t : ℕ) → member k (join s t) ≡ true → (member k s ≡ true) ⊎ (member k t ≡ true)
-in-join k s t h = or-cases (member k s) (member k t) (sym (member-join k s t) ∙ h)
-
-pub in-none {ℓ} : {A : Type ℓ} (k : ℕ) → member k none ≡ true → A
-in-none k h = absurd (false≢true (sym (member-none k) ∙ h))
-
-pub even : (n : ℕ) → member 0 n ≡ false → n % 2 ≡ 0
-unfolding member
-even n h =
-    let e : n / 2 ^ 0 ≡ n = omega arith in
-    let z : (n % 2 ≡ 1) → ⊥ = eqb-false (n % 2) 1 (rw e at h) in
-    omega arith
-
-abbrev pub Disjoint : ℕ → ℕ → Type 0
-Disjoint s t = (k : ℕ) → member k s ≡ true → member k t ≡ true → ⊥
-
-abbrev pub Subset : ℕ → ℕ → Type 0
-Subset s t = (k : ℕ) → member k s ≡ true → member k t ≡ true
-
-not-both : (a b : Bool) → (a ≡ true → b ≡ true → ⊥) → (a && b) ≡ false
-not-both true true f = absurd (f refl refl)
-not-both true false f = refl
-not-both false b f = refl
-
-first-implies : (a b : Bool) → (a ≡ true → b ≡ true) → (a && b) ≡ a
-first-implies true b f = f refl
-first-implies false b f = refl
-
-pub disjoint-is : (s t : ℕ) → (disjoint s t ≡ true) ↔ Disjoint s t
-unfolding disjoint
-disjoint-is s t = (to, from)
-  where
-    to : eqb (bitAnd s t) none ≡ true → Disjoint s t
-    to e k h g =
-        in-none k
-        (sym (ap (member k) (eqb-true (bitAnd s t) none e)) ∙ member-and k s t ∙ and-eq-true-iff (member k s) (member k t) .1 (h, g))
-
-    from : Disjoint s t → eqb (bitAnd s t) none ≡ true
-    from f =
-        eq-eqb (bitAnd s t) none
-        (ext (bitAnd s t) none (λ k. member-and k s t ∙ not-both (member k s) (member k t) (f k) ∙ sym (member-none k)))
-
-pub subset-is : (s t : ℕ) → (subset s t ≡ true) ↔ Subset s t
-unfolding subset
-subset-is s t = (to, from)
-  where
-    to : eqb (bitAnd s t) s ≡ true → Subset s t
-    to e k h =
-        and-eq-true-iff (member k s) (member k t) .0
-        (sym (member-and k s t) ∙ ap (member k) (eqb-true (bitAnd s t) s e) ∙ h)
-        .1
-
-    from : Subset s t → eqb (bitAnd s t) s ≡ true
-    from f = eq-eqb (bitAnd s t) s (ext (bitAnd s t) s (λ k. member-and k s t ∙ first-implies (member k s) (member k t) (f k)))
-
--- a set that is not empty has a member
-pub some-member : (s : ℕ) → (s ≡ none → ⊥) → (k : ℕ) × (member k s ≡ true)
-unfolding none
-some-member = bin-ind (λ (n : ℕ). (n ≡ 0 → ⊥) → (k : ℕ) × (member k n ≡ true)) (λ f. absurd (f refl)) step
-  where
-    step : (n : ℕ) → ((n / 2 ≡ 0 → ⊥) → (k : ℕ) × (member k (n / 2) ≡ true)) → (n ≡ 0 → ⊥) → (k : ℕ) × (member k n ≡ true)
-    step n ih f = go (tested (member 0 n))
-      where
-        go : Tested (member 0 n) → (k : ℕ) × (member k n ≡ true)
-        go (Tested.yes h) = (0, h)
-        go (Tested.no h) = let r = ih (λ e. f (halves e (even n h))) in (suc (r .0), member-step (r .0) n ∙ r .1)
-          where
-            halves : n / 2 ≡ 0 → n % 2 ≡ 0 → n ≡ 0
-            halves e z = omega arith
 
 -- ---- the labels of a statement
 -- the command w is a pause l, if pauses count, or a setpause l, if setpauses count
@@ -219,6 +137,13 @@ pair-across t m n =
       order = Before.across t;
     }
 
+pub member-if : (l k s t : ℕ) → member l (ifMember k s t) ≡ (member k s && member l t)
+member-if l k s t = go (member k s)
+  where
+    go : (b : Bool) → member l (cond b t none) ≡ (b && member l t)
+    go true = refl
+    go false = member-none l
+
 -- a label across the joint of two parts
 across-two : {j : Joint} {p q w : Statement} (x y : Bool) (k l : ℕ) → Joined j p q w
     → member l (ifMember k (labelsOf x y q) (labelsOf x y p)) ≡ true → member l (before x y j w k) ≡ true
@@ -236,20 +161,6 @@ module _ (x y : Bool) (j : Joint) (k l : ℕ) where
 
   abbrev inBefore : Statement → Type 0
   inBefore p = member l (before x y j p k) ≡ true
-
-  if-member : (s t : ℕ) → member l (ifMember k t s) ≡ true → (member k t ≡ true) × (member l s ≡ true)
-  if-member s t h = go (member k t) h
-    where
-      go : (b : Bool) → member l (cond b s none) ≡ true → (b ≡ true) × (member l s ≡ true)
-      go true h = (refl, h)
-      go false h = in-none l h
-
-  member-if : (s t : ℕ) → member k t ≡ true → member l s ≡ true → member l (ifMember k t s) ≡ true
-  member-if s t h g = go (member k t) h
-    where
-      go : (b : Bool) → b ≡ true → member l (cond b s none) ≡ true
-      go true e = g
-      go false e = absurd (false≢true e)
 
   at-same : (i : Joint) (s : ℕ) → member l (atJoint j i s) ≡ true → (i ≡ j) × (member l s ≡ true)
   at-same i s h = go j i h
@@ -270,7 +181,8 @@ module _ (x y : Bool) (j : Joint) (k l : ℕ) where
     where
       cross : (i ≡ j) × (member l (ifMember k (labelsOf x y q) (labelsOf x y p)) ≡ true) → Pair x y j w k l
       cross e =
-          let m = if-member (labelsOf x y p) (labelsOf x y q) (e .1) in
+          let m = and-eq-true-iff (member k (labelsOf x y q)) (member l (labelsOf x y p)) .0
+          (sym (member-if l k (labelsOf x y q) (labelsOf x y p)) ∙ e .1) in
           pair-across (subst (λ (n : Joint). Joined n p q w) (e .0) t) (labels-from x y k q (m .0)) (labels-from x y l p (m .1))
 
   pub pair-from : (p : Statement) → inBefore p → Pair x y j p k l
@@ -311,9 +223,9 @@ module _ (x y : Bool) (j : Joint) (k l : ℕ) where
   pub pair-at : {p v w : Statement} {a b : Place} → Counted x y k v → Counted x y l w → At v a p → At w b p → Before j p a b → inBefore p
   pair-at m n u v (Before.across {p = p} {q = q} t) =
       across-two x y k l t
-      (member-if (labelsOf x y p) (labelsOf x y q)
-      (labels-at x y k m (at-part (second-part t) u))
-      (labels-at x y l n (at-part (first-part t) v)))
+      (member-if l k (labelsOf x y q) (labelsOf x y p)
+      ∙ and-eq-true-iff (member k (labelsOf x y q)) (member l (labelsOf x y p)) .1
+      (labels-at x y k m (at-part (second-part t) u), labels-at x y l n (at-part (first-part t) v)))
   pair-at m n u v (Before.inside i r) = before-part i (pair-at m n (at-part i u) (at-part i v) r)
 
   -- a label with others before it is one
@@ -374,15 +286,6 @@ module _ (f : ℕ → Bool) where
   every-from (setpause l) e = e l (labels-at true true l (as-setpause refl) At.here)
   every-from (suspend s p) e = every-from p (every-in (suspend₁ {s = s}) e)
   every-from (held s K p) e = refl
-
--- ---- two tests that are true together are one, and so are two sets with the same members
-pub same-test : (a b : Bool) → (a ≡ true → b ≡ true) → (b ≡ true → a ≡ true) → a ≡ b
-same-test true b f g = sym (f refl)
-same-test false true f g = g refl
-same-test false false f g = refl
-
-pub same-set : (s t : ℕ) → ((l : ℕ) → member l s ≡ true → member l t ≡ true) → ((l : ℕ) → member l t ≡ true → member l s ≡ true) → s ≡ t
-same-set s t f g = ext s t (λ l. same-test (member l s) (member l t) (f l) (g l))
 
 -- the triggers are the pauses and the setpauses
 pub triggers-are : (p : Statement) → triggers p ≡ join (labelsOf true false p) (labelsOf false true p)

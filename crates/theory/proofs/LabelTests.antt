@@ -5,17 +5,18 @@ use mathlib.Core.Logic.{_⊎_, inl, inr, ⊎-elim, _↔_}
 use mathlib.Core.Bool.{Bool, true, false, not, _&&_, _||_, false≢true}
 use lib.Dec.{eqb}
 use native.Mathlib.Omega.{arith}
-use borrow.Author.Tests.{eqb-false, ne-eqb, not-true}
-use Rattle.esterel.specs.Sets.{member, none}
+use Rattle.sets.specs.Sets.{member, none, join, subset, Disjoint, disjoint}
+use Rattle.sets.proofs.Booleans.{or-l, or-r, or-cases, never, clash}
+use Rattle.sets.proofs.Members.{in-join}
+use Rattle.sets.proofs.Tests.{subset-is, disjoint-is, disjoint-right, disjoint-left}
+use Rattle.sets.proofs.Lowest.{some-is}
 use Rattle.esterel.specs.Statement.{Statement, nothing, pause, emit, exit, seq, par, loop, present, signal, try, setpause, suspend, held}
 use Rattle.esterel.specs.Places.{Part, PartOf, seq₁, seq₂, par₁, par₂, loop₁, present₁, present₂, signal₁, try₁, suspend₁, Place, At, Exclusive, Compatible}
 use Rattle.esterel.specs.States.{Holds, Valid, Distinct, Targeted, NoSetpause, WellFormed}
-use Rattle.esterel.specs.LabelTests.{disjoint, subset, pauses, setpauses, triggers, everyLabel, distinct, targeted, Joint, alternative, parallel, exclusiveWith, concurrentWith, exclusive, wellFormed, valid}
-use Rattle.theory.proofs.Booleans.{or-l, or-r, or-cases}
-use Rattle.theory.proofs.Sets.{member-none}
+use Rattle.esterel.specs.LabelTests.{pauses, setpauses, triggers, everyLabel, distinct, targeted, Joint, alternative, parallel, exclusiveWith, concurrentWith, exclusive, wellFormed, valid}
 use Rattle.theory.proofs.Places.{distinct-part, disjoint-parts}
 use Rattle.theory.proofs.Order.{Joined, sequence, test, sides, first-part, second-part, Before, before-exclusive, exclusive-before, exclusive-sym, exclusive-irreflexive, beside-compatible, at-part, at-unique, NoParts, Order, same, ordered, order}
-use Rattle.theory.proofs.LabelSets.{in-join, some-member, Disjoint, disjoint-is, subset-is, Counted, as-pause, as-setpause, counted-leaf, Named, labels-at, labels-from, Pair, pair-from, pair-at, label-before, triggers-are, every-to, every-from}
+use Rattle.theory.proofs.LabelSets.{Counted, as-pause, as-setpause, counted-leaf, Named, labels-at, labels-from, Pair, pair-from, pair-at, label-before, triggers-are, every-to, every-from}
 
 -- ---- pauses and setpauses
 pub pauses-is : (p : Statement) (l : ℕ) → (member l (pauses p) ≡ true) ↔ Holds p (pause l)
@@ -86,12 +87,27 @@ parts-disjoint (sequence {p = p} {q = q}) h = disjoint-is (pauses p) (pauses q) 
 parts-disjoint (test {p = p} {q = q}) h = disjoint-is (pauses p) (pauses q) .0 (three (disjoint (pauses p) (pauses q)) (distinct p) (distinct q) h .0)
 parts-disjoint (sides {p = p} {q = q}) h = disjoint-is (pauses p) (pauses q) .0 (three (disjoint (pauses p) (pauses q)) (distinct p) (distinct q) h .0)
 
+regroup : (o a b c p q : Bool) → (o && ((a && b) && (c && (p && q)))) ≡ ((o && (a && p)) && ((b && c) && q))
+regroup false a b c p q = refl
+regroup true false b c p q = refl
+regroup true true false c true q = refl
+regroup true true false c false q = refl
+regroup true true true true p q = refl
+regroup true true true false true q = refl
+regroup true true true false false q = refl
+
+-- row 8 at two parts, where labels were seen before
+pub once-both : (o : Bool) (seen a b : ℕ) (p q : Bool)
+    → (o && (disjoint seen (join a b) && (disjoint a b && (p && q))))
+    ≡ ((o && (disjoint seen a && p)) && (disjoint (join seen a) b && q))
+once-both o seen a b p q =
+    rw (disjoint-right seen a b, disjoint-left seen a b) (regroup o (disjoint seen a) (disjoint seen b) (disjoint a b) p q)
+
 -- no label stands before itself
 not-before : {j : Joint} {p : Statement} {a b : Place} (l : ℕ) → distinct p ≡ true → At (pause l) a p → At (pause l) b p → Before j p a b → ⊥
 not-before l h u v (Before.across t) =
-    parts-disjoint t h l
-    (labels-at true false l (as-pause refl) (at-part (first-part t) v))
-    (labels-at true false l (as-pause refl) (at-part (second-part t) u))
+    clash _ (labels-at true false l (as-pause refl) (at-part (second-part t) u))
+    (parts-disjoint t h l (labels-at true false l (as-pause refl) (at-part (first-part t) v)))
 not-before l h u v (Before.inside i r) = not-before l (distinct-in i h) (at-part i u) (at-part i v) r
 
 -- a pause has no parts
@@ -106,12 +122,15 @@ to-distinct p h l a b u v = go (order (pause-leaf l) (pause-leaf l) u v)
     go (ordered (inl r)) = absurd (not-before l h u v r)
     go (ordered (inr r)) = absurd (not-before l h v u r)
 
+pub pauses-apart : {j : Joint} {p q w : Statement} → Joined j p q w → Distinct w → Disjoint (pauses p) (pauses q)
+pauses-apart {p = p} {q = q} t d l m =
+    never (member l (pauses q)) (λ n. disjoint-parts (first-part t) (second-part t) d l (pauses-is p l .0 m) (pauses-is q l .0 n))
+
 distinct-two : {j : Joint} {p q w : Statement} → Joined j p q w → (Distinct p → distinct p ≡ true) → (Distinct q → distinct q ≡ true)
     → Distinct w → (disjoint (pauses p) (pauses q) && (distinct p && distinct q)) ≡ true
 distinct-two {p = p} {q = q} t f g d =
     all-three (disjoint (pauses p) (pauses q)) (distinct p) (distinct q)
-    (disjoint-is (pauses p) (pauses q) .1
-    (λ l m n. disjoint-parts (first-part t) (second-part t) d l (pauses-is p l .0 m) (pauses-is q l .0 n)))
+    (disjoint-is (pauses p) (pauses q) .1 (pauses-apart t d))
     (f (distinct-part (first-part t) d))
     (g (distinct-part (second-part t) d))
 
@@ -264,12 +283,6 @@ noSetpause-formed p none k l a b u v e =
     }
 
 -- ---- row 11
-some-is : (L : ℕ) → (not (eqb L none) ≡ true) ↔ ((l : ℕ) × (member l L ≡ true))
-some-is L = (
-  λ h. some-member L (eqb-false L none (not-true (eqb L none) h)),
-  λ m. ap not (ne-eqb L none (λ e. false≢true (sym (ap (member (m .0)) e ∙ member-none (m .0)) ∙ m .1))),
-)
-
 not-or : (a b : Bool) → (not a || b) ≡ true → a ≡ true → b ≡ true
 not-or true b h e = h
 not-or false b h e = absurd (false≢true e)
@@ -286,9 +299,9 @@ module _ (p : Statement) (L : ℕ) where
   no-rival : Apartless p L → (k l : ℕ) → member k L ≡ true → member l L ≡ true → member l (exclusiveWith p k) ≡ true → ⊥
   no-rival f k l inK inL r =
       let x = rivals-from p k l r in
-      disjoint-is (exclusiveWith p k) L .0
-      (not-or (member k L) (disjoint (exclusiveWith p k) L) (f k (labels-at true true k (as-pause refl) (x .2))) inK)
-      l r inL
+      clash (member l L) inL
+      (disjoint-is (exclusiveWith p k) L .0
+      (not-or (member k L) (disjoint (exclusiveWith p k) L) (f k (labels-at true true k (as-pause refl) (x .2))) inK) l r)
 
   together : Apartless p L → (k l : ℕ) → member k L ≡ true → member l L ≡ true → (a b : Place) → At (pause k) a p → At (pause l) b p → Compatible p a b
   together f k l inK inL a b u v e =
@@ -298,7 +311,8 @@ module _ (p : Statement) (L : ℕ) where
   apartless : Valid p L → Apartless p L
   apartless v k inP =
       or-not (member k L) (disjoint (exclusiveWith p k) L)
-      (λ inK. disjoint-is (exclusiveWith p k) L .1 (λ l r inL. let x = rivals-from p k l r in v .together k l inK inL (x .0) (x .1) (x .2) (x .3) (x .4)))
+      (λ inK. disjoint-is (exclusiveWith p k) L .1 (λ l r. never (member l L)
+      (λ inL. let x = rivals-from p k l r in v .together k l inK inL (x .0) (x .1) (x .2) (x .3) (x .4))))
 
   pub valid-is : (valid p L ≡ true) ↔ Valid p L
   unfolding valid

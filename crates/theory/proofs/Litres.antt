@@ -7,7 +7,8 @@ use mathlib.Core.List.{List, [], _∷_}
 use native.Mathlib.Nat.{le-trans}
 use native.Mathlib.Omega.{arith}
 use lib.Dec.{eqb}
-use Rattle.esterel.specs.Sets.{member, none, only, join, insert, remove}
+use Rattle.sets.specs.Sets.{member, none, only, insert, remove}
+use Rattle.sets.proofs.Members.{member-only, member-remove, out-l, out-r}
 use Rattle.esterel.specs.Statement.{Scope, local, reported, Value, Statement, nothing, pause, emit, exit, seq, par, loop, present, signal, try, setpause, suspend, held}
 use Rattle.esterel.specs.Reaction.{Code, ended, waiting, leaving, wrong, Reaction, gives, code, emitted, inSeq, inPar, inLoop, inTry, inSuspend, stopped, Case, both, neither, only−, only+, inherited, Order, inheritanceFirst, caseOf, answer, reactBy, react}
 use Rattle.esterel.specs.Rules.{ReactsBy}
@@ -18,8 +19,6 @@ use Rattle.esterel.specs.LabelTests.{activeLabels}
 use Rattle.esterel.specs.Expansion.{expand}
 use Rattle.esterel.specs.Litres.{brought, chosen, passing, AtMost, deliveredBy, delivered, delivers}
 use Rattle.esterel.specs.Machines.{Machine, State, byLabels, Rewriting, byRewriting, addsByLabels, addsByRewriting, added}
-use Rattle.theory.proofs.Booleans.{or-first, or-second}
-use Rattle.theory.proofs.Sets.{member-join, member-only, member-remove}
 use Rattle.theory.proofs.Rules.{sound, fits++, fits−−, fits+−, fits−+, fits∞}
 use Rattle.theory.proofs.Reactions.{stays}
 use Rattle.theory.proofs.Ceiling as ceilings
@@ -83,23 +82,17 @@ module _ (f : ℕ) where
   abbrev Dry : Reaction → ℕ → Type 0
   Dry r x = member f (emitted r) ≡ false → x ≡ 0
 
-  not-l : (a b : ℕ) → member f (join a b) ≡ false → member f a ≡ false
-  not-l a b h = or-first (member f a) (member f b) (sym (member-join f a b) ∙ h)
-
-  not-r : (a b : ℕ) → member f (join a b) ≡ false → member f b ≡ false
-  not-r a b h = or-second (member f a) (member f b) (sym (member-join f a b) ∙ h)
-
   dry-emit : (s : ℕ) (v : Value) → member f (emitted (gives (only s) ended none nothing)) ≡ false → brought f s v ≡ 0
   dry-emit s v h = rw (sym (member-only s f) ∙ h)
 
   dry-seq : (q : Statement) (r u : Reaction) (x y : ℕ) → Dry r x → Dry u y → Dry (inSeq q r u) (x + ifEnded (code r) y 0)
-  dry-seq q (gives o ended l t) u x y i j h = let a = i (not-l o (emitted u) h) in let b = j (not-r o (emitted u) h) in omega arith
+  dry-seq q (gives o ended l t) u x y i j h = let a = i (out-l f o (emitted u) h) in let b = j (out-r f o (emitted u) h) in omega arith
   dry-seq q (gives o waiting l t) u x y i j h = let a = i h in omega arith
   dry-seq q (gives o (leaving n) l t) u x y i j h = let a = i h in omega arith
   dry-seq q (gives o wrong l t) u x y i j h = let a = i h in omega arith
 
   dry-par : (r u : Reaction) (x y : ℕ) → Dry r x → Dry u y → Dry (inPar r u) (x + y)
-  dry-par (gives o k l t) (gives o₂ k₂ l₂ t₂) x y i j h = let a = i (not-l o o₂ h) in let b = j (not-r o o₂ h) in omega arith
+  dry-par (gives o k l t) (gives o₂ k₂ l₂ t₂) x y i j h = let a = i (out-l f o o₂ h) in let b = j (out-r f o o₂ h) in omega arith
 
   dry-loop : (a : ℕ) (p : Statement) (r : Reaction) (x : ℕ) → Dry r x → Dry (inLoop a p r) (ifEnded (code r) 0 x)
   dry-loop a p (gives o ended l t) x i h = refl

@@ -3,33 +3,33 @@
 use Prim.Native.Nat.{ℕ, _+_, _%_, _^_, _<_, _≤_}
 use mathlib.Core.Path.{_≡_, refl, sym, ap, ap₂, _∙_, subst}
 use mathlib.Core.Logic.{⊎-elim, _↔_}
-use mathlib.Core.Bool.{Bool, true, false, not, _||_, cond}
+use mathlib.Core.Bool.{Bool, true, false, not, _&&_, _||_, cond}
 use native.Mathlib.Omega.{arith}
-use lib.Bits.{bitOr, or-zero-l, or-lt, or-mod, or-add-and, and-le-l, and-le-r}
-use lib.Pow.{pow-pos, pow-mono, mod-mod-pow}
-use borrow.Author.Tests.{eqb-true, eqb-false, eq-eqb, ne-eqb, not-true}
-use Rattle.esterel.specs.Sets.{member, none, only, join, empty, below, from}
+use lib.Bits.{bitOr, or-zero-l, or-mod}
+use lib.Pow.{pow-mono, mod-mod-pow}
+use borrow.Author.Tests.{eqb-true, eq-eqb, not-true}
+use Rattle.sets.specs.Sets.{member, none, empty, only, join, below, from}
+use Rattle.sets.proofs.Booleans.{never, clash, Tested, tested, same-test}
+use Rattle.sets.proofs.Members.{member-join, member-only, in-none, in-join}
+use Rattle.sets.proofs.Algebra.{join-none-l, join-none-r, join-self, join-swap, empty-join, only-some}
+use Rattle.sets.proofs.Halves.{none-over, only-over, below-join, from-join}
+use Rattle.sets.proofs.Widths.{none-lt, only-lt, join-lt}
 use Rattle.esterel.specs.Statement.{Statement, nothing, pause, emit, exit, seq, par, loop, present, signal, try, setpause, suspend, held}
 use Rattle.esterel.specs.Places.{loop₁, signal₁, try₁, suspend₁}
 use Rattle.esterel.specs.States.{active, Distinct}
 use Rattle.esterel.specs.LabelTests.{Joint, labelsOf, pauses, activeLabels}
 use Rattle.esterel.specs.Ranks.{pauseCount, middle, mask, rank, labelsBy}
-use Rattle.theory.proofs.Booleans.{clash, never, Tested, tested}
-use Rattle.theory.proofs.Sets.{member-join, member-only, join-none-l, join-none-r, join-self, ext}
-use Rattle.theory.proofs.SplitSets.{none-lt, only-lt, none-over, only-over, below-join, from-join}
 use Rattle.theory.proofs.Places.{distinct-part, disjoint-parts}
 use Rattle.theory.proofs.Activity.{active-is, activeLabels-none, activeLabels-pause, activeLabels-two}
 use Rattle.theory.proofs.Order.{Joined, sequence, test, sides, first-part, second-part}
-use Rattle.theory.proofs.LabelSets.{in-none, in-join, same-test}
 use Rattle.theory.proofs.LabelTests.{pauses-is}
 
 -- ---- the ranks of p are those from base, as many as it has pauses
 lt-two : (base m n a b : ℕ) → a < 2 ^ (base + m) → b < 2 ^ ((base + m) + n) → join a b < 2 ^ (base + (m + n))
-unfolding join
 lt-two base m n a b h k =
     let e : (base + m) + n ≡ base + (m + n) = omega arith in
     let g : 2 ^ (base + m) ≤ 2 ^ (base + (m + n)) = pow-mono (omega arith) in
-    or-lt (base + (m + n)) a b (omega (arith, h, g)) (subst (λ (c : ℕ). b < 2 ^ c) e k)
+    join-lt (base + (m + n)) a b (omega (arith, h, g)) (subst (λ (c : ℕ). b < 2 ^ c) e k)
 
 pub mask-lt : (base : ℕ) (p : Statement) (L : ℕ) → mask base p L < 2 ^ middle base p
 unfolding mask pauseCount
@@ -37,7 +37,7 @@ mask-lt base nothing L = none-lt (base + 0)
 mask-lt base (pause l) L = go (member l L)
   where
     go : (b : Bool) → cond b (only base) none < 2 ^ (base + 1)
-    go true = only-lt base
+    go true = only-lt (base + 1) base (omega arith)
     go false = none-lt (base + 1)
 mask-lt base (emit s v) L = none-lt (base + 0)
 mask-lt base (exit n) L = none-lt (base + 0)
@@ -107,14 +107,11 @@ split-from {p = p} {q = q} base L t =
 
 -- ---- EMPTY
 empty-two : (a b : ℕ) (x y : Bool) → empty a ≡ not x → empty b ≡ not y → empty (join a b) ≡ not (x || y)
-unfolding join none
-empty-two a b true y h k = ne-eqb (bitOr a b) 0 (λ e. eqb-false a 0 h (omega (arith, or-add-and a b, and-le-r a b)))
-empty-two a b false true h k = ne-eqb (bitOr a b) 0 (λ e. eqb-false b 0 k (omega (arith, or-add-and a b, and-le-l a b)))
-empty-two a b false false h k = rw (eqb-true a 0 h, eqb-true b 0 k)
-
-only-some : (k : ℕ) → empty (only k) ≡ false
-unfolding only none
-only-some k = ne-eqb (2 ^ k) 0 (λ e. omega (arith, pow-pos k, e))
+empty-two a b x y h k = empty-join a b ∙ ap₂ _&&_ h k ∙ go x y
+  where
+    go : (x y : Bool) → (not x && not y) ≡ not (x || y)
+    go true y = refl
+    go false y = refl
 
 pub empty-is : (base : ℕ) (p : Statement) (L : ℕ) → empty (mask base p L) ≡ not (active p L)
 unfolding mask active
@@ -195,20 +192,6 @@ pub labels-by-none : (base : ℕ) (p : Statement) → labelsBy base p none ≡ n
 labels-by-none base p = ap (labelsBy base p) (sym (mask-none base p)) ∙ labels-by none base p ∙ activeLabels-none p none (active-none p)
 
 -- ---- MASK BY LABELS: label by label, each at its rank
-four : (a b c d : ℕ) → join (join a b) (join c d) ≡ join (join a c) (join b d)
-four a b c d =
-    ext (join (join a b) (join c d)) (join (join a c) (join b d))
-    (λ i. members i a b c d ∙ go (member i a) (member i b) (member i c) (member i d) ∙ sym (members i a c b d))
-  where
-    members : (i a b c d : ℕ) → member i (join (join a b) (join c d)) ≡ ((member i a || member i b) || (member i c || member i d))
-    members i a b c d = member-join i (join a b) (join c d) ∙ ap₂ _||_ (member-join i a b) (member-join i c d)
-
-    go : (x y z t : Bool) → ((x || y) || (z || t)) ≡ ((x || z) || (y || t))
-    go true y z t = refl
-    go false true true t = refl
-    go false true false t = refl
-    go false false z t = refl
-
 pub mask-join : (base : ℕ) (p : Statement) (L M : ℕ) → mask base p (join L M) ≡ join (mask base p L) (mask base p M)
 unfolding mask
 mask-join base nothing L M = sym (join-none-l none)
@@ -223,14 +206,14 @@ mask-join base (emit s v) L M = sym (join-none-l none)
 mask-join base (exit n) L M = sym (join-none-l none)
 mask-join base (seq p q) L M =
     ap₂ join (mask-join base p L M) (mask-join (middle base p) q L M)
-    ∙ four (mask base p L) (mask base p M) (mask (middle base p) q L) (mask (middle base p) q M)
+    ∙ join-swap (mask base p L) (mask base p M) (mask (middle base p) q L) (mask (middle base p) q M)
 mask-join base (par p q) L M =
     ap₂ join (mask-join base p L M) (mask-join (middle base p) q L M)
-    ∙ four (mask base p L) (mask base p M) (mask (middle base p) q L) (mask (middle base p) q M)
+    ∙ join-swap (mask base p L) (mask base p M) (mask (middle base p) q L) (mask (middle base p) q M)
 mask-join base (loop a p) L M = mask-join base p L M
 mask-join base (present s p q) L M =
     ap₂ join (mask-join base p L M) (mask-join (middle base p) q L M)
-    ∙ four (mask base p L) (mask base p M) (mask (middle base p) q L) (mask (middle base p) q M)
+    ∙ join-swap (mask base p L) (mask base p M) (mask (middle base p) q L) (mask (middle base p) q M)
 mask-join base (signal sc a s p) L M = mask-join base p L M
 mask-join base (try p) L M = mask-join base p L M
 mask-join base (setpause l) L M = sym (join-none-l none)

@@ -6,7 +6,8 @@ use mathlib.Core.Logic.{_≢_}
 use mathlib.Core.Bool.{Bool, true, false, _||_, cond}
 use native.Mathlib.Nat.{le-refl}
 use native.Mathlib.Omega.{arith}
-use Rattle.esterel.specs.Sets.{member, insert, remove}
+use Rattle.sets.specs.Sets.{member, insert, remove}
+use Rattle.sets.proofs.Booleans.{or-first, or-second, never, clash}
 use Rattle.esterel.specs.Statement.{Statement, nothing, pause, emit, exit, seq, par, loop, present, signal, try, setpause, suspend, held}
 use Rattle.esterel.specs.Reaction.{Code, ended, waiting, leaving, wrong, isWrong, Reaction, code, Order, printed, reactBy, react}
 use Rattle.esterel.specs.Rules.{ReactsBy}
@@ -14,7 +15,6 @@ use Rattle.esterel.specs.Errors.{ifEnded}
 use Rattle.esterel.specs.Reactions.{reactionsBy, reactions, rulesUsed}
 use Rattle.esterel.specs.SignalOrders.{overlaps, overlap}
 use Rattle.esterel.specs.Sizes.{commands}
-use Rattle.theory.proofs.Booleans.{or-first, or-second, never, clash}
 use Rattle.theory.proofs.Rules.{sound}
 use Rattle.theory.proofs.SignalOrders.{unchanged, overlap-wrong}
 

@@ -1,15 +1,13 @@
 -- A program under read-back declarations (02, item 5): expansion and rewriting leave the declarations in place, what is said
 -- of labels is said of the statement inside, and the host's status of a declared signal is never read.
-use Prim.Native.Nat.{ℕ, zero, suc, _+_, _≤_, _<_}
-use mathlib.Core.Path.{_≡_, refl, sym, ap, ap₂, _∙_}
+use Prim.Native.Nat.{ℕ}
+use mathlib.Core.Path.{_≡_, refl, sym, ap}
 use mathlib.Core.Logic.{_≢_, ⊎-elim}
-use mathlib.Core.Bool.{Bool, true, false, not, _&&_, false≢true}
+use mathlib.Core.Bool.{true}
 use mathlib.Core.List.{List, [], _∷_, List·Memᴰ, List·Memᴰ·cases-cons, List·Memᴰ·not-nil}
-use lib.Dec.{eqb}
 use native.Mathlib.Omega.{arith}
-use native.Mathlib.Decide.{ℕ-discrete}
-use borrow.Author.Tests.{eqb-false, eq-eqb, ne-eqb}
-use Rattle.esterel.specs.Sets.{member, none, join, insert, remove}
+use Rattle.sets.specs.Sets.{member, join, insert, remove}
+use Rattle.sets.proofs.Members.{in-join, in-remove}
 use Rattle.esterel.specs.Statement.{Scope, reported, Statement, signal, setpause, held}
 use Rattle.esterel.specs.Reaction.{waiting, Reaction, code, residual, Case, both, neither, only−, only+, inherited, inheritanceFirst, caseOf, answer, reactBy, react}
 use Rattle.esterel.specs.Places.{Place, signal₁, At}
@@ -19,42 +17,8 @@ use Rattle.esterel.specs.LabelTests.{labelsOf, everyLabel, before, distinct, ta
 use Rattle.esterel.specs.Asked.{askedBy, asked}
 use Rattle.esterel.specs.Instants.{start}
 use Rattle.esterel.specs.Traced.{instantOf}
-use Rattle.esterel.specs.ReadBack.{keepIf, membersFrom, declaredBy, declared, AgreeOutside, RemainsUnder}
-use Rattle.theory.proofs.Booleans.{and-true, and-false}
-use Rattle.theory.proofs.Sets.{member-none, member-remove}
-use Rattle.theory.proofs.LabelSets.{in-join}
+use Rattle.esterel.specs.ReadBack.{declaredBy, declared, AgreeOutside, RemainsUnder}
 use Rattle.theory.proofs.Asked.{unasked-traced}
-
--- ---- an empty set has no members
-pub members-none : (n i : ℕ) → membersFrom n i none ≡ []
-unfolding membersFrom
-members-none zero i = refl
-members-none (suc n) i = rw (member-none i) (members-none n (suc i))
-
--- ---- the lowest member comes first
-members-same : (n j s t : ℕ) → ((k : ℕ) → j ≤ k → member k s ≡ member k t) → membersFrom n j s ≡ membersFrom n j t
-unfolding membersFrom
-members-same zero j s t h = refl
-members-same (suc n) j s t h =
-    ap₂ (λ (b : Bool) (is : List ℕ). keepIf b j is) (h j (omega arith)) (members-same n (suc j) s t (λ k l. h k (omega arith)))
-
-pub members-lowest : (n j s i : ℕ) → j ≤ i → i < j + n → member i s ≡ true → ((k : ℕ) → k < i → member k s ≡ false)
-    → membersFrom n j s ≡ i ∷ membersFrom n j (remove i s)
-unfolding membersFrom
-members-lowest zero j s i l m h f = absurd (omega arith)
-members-lowest (suc n) j s i l m h f =
-    elim (ℕ-discrete i j) [
-      | yes e ↦ here e
-      | no e ↦ rw (f j (omega arith), member-remove i s j, f j (omega arith)) (members-lowest n (suc j) s i (omega arith) (omega arith) h f)
-    ]
-  where
-    kept : (k : ℕ) → suc i ≤ k → member k s ≡ member k (remove i s)
-    kept k g = sym (member-remove i s k ∙ rw (ne-eqb i k (omega arith)) (and-true (member k s)))
-
-    here : i ≡ j → membersFrom (suc n) j s ≡ i ∷ membersFrom (suc n) j (remove i s)
-    here e =
-        rw (← e, h, member-remove i s i, eq-eqb i i refl, and-false (member i s))
-        (ap (λ (is : List ℕ). i ∷ is) (members-same n (suc i) s (remove i s) kept))
 
 -- ---- EXPANSION
 pub expand-declaredBy : (sc : Scope) (a : ℕ) (ss : List ℕ) (p : Statement) (L : ℕ)
@@ -89,14 +53,6 @@ remains-declared a (s ∷ ss) p e h =
 
 -- ---- the host's status of a declared signal is not read
 -- whoever asks inside a declaration of s for s asks for the declared one
-asked-other : (s i b : ℕ) → member i (remove s b) ≡ true → (member i b ≡ true) × (eqb s i ≡ false)
-asked-other s i b h = go (member i b) (eqb s i) (sym (member-remove s b i) ∙ h)
-  where
-    go : (m x : Bool) → (m && not x) ≡ true → (m ≡ true) × (x ≡ false)
-    go true true k = absurd (false≢true k)
-    go true false k = (refl, refl)
-    go false x k = absurd (false≢true k)
-
 pub declared-unasked : (sc : Scope) (a : ℕ) (ss : List ℕ) (p : Statement) (e i : ℕ) → member i (asked (declaredBy sc a ss p) e) ≡ true
     → ¬ List·Memᴰ i ss
 unfolding declaredBy askedBy
@@ -104,8 +60,8 @@ declared-unasked sc a [] p e i h m = List·Memᴰ·not-nil m
 declared-unasked sc a (s ∷ ss) p e i h m =
     let b− = asked (declaredBy sc a ss p) (remove s e) in
     let b+ = asked (declaredBy sc a ss p) (insert s e) in
-    let x = asked-other s i (join b− b+) h in
-    ⊎-elim (λ k. eqb-false s i (x .1) (sym k))
+    let x = in-remove s (join b− b+) i h in
+    ⊎-elim (λ k. x .1 (sym k))
     (λ k. ⊎-elim (λ y. declared-unasked sc a ss p (remove s e) i y k) (λ y. declared-unasked sc a ss p (insert s e) i y k)
     (in-join i b− b+ (x .0)))
     (List·Memᴰ·cases-cons m)

@@ -3,18 +3,18 @@
 use Prim.Native.Nat.{ℕ}
 use mathlib.Core.Path.{_≡_, refl, sym, _∙_, subst}
 use mathlib.Core.Logic.{⊎-elim}
-use mathlib.Core.Bool.{true}
+use mathlib.Core.Bool.{true, or-false}
 use mathlib.Core.List.{[]}
 use borrow.Author.Tests.{eqb-true, eq-eqb}
-use Rattle.esterel.specs.Sets.{member, only, join}
+use Rattle.sets.specs.Sets.{member, only, join}
+use Rattle.sets.proofs.Booleans.{or-l, or-cases, never}
+use Rattle.sets.proofs.Members.{member-join, member-only}
 use Rattle.esterel.specs.Statement.{Statement, nothing, pause, seq, par, loop, present, signal, try, suspend, held}
 use Rattle.esterel.specs.Reaction.{react}
 use Rattle.esterel.specs.Places.{Part, PartOf, seq₁, seq₂, par₁, par₂, loop₁, present₁, present₂, signal₁, try₁, suspend₁, At}
 use Rattle.esterel.specs.States.{Holds, active, Distinct, NoSetpause, Source}
 use Rattle.esterel.specs.Expansion.{expand}
 use Rattle.esterel.specs.LabelTests.{activeLabels}
-use Rattle.theory.proofs.Booleans.{or-l, or-cases, or-false, never}
-use Rattle.theory.proofs.Sets.{member-join, member-only}
 use Rattle.theory.proofs.Places.{holds-in, Disjoint, distinct-part, disjoint-parts, noSetpause-part, source-part}
 use Rattle.theory.proofs.Activity.{active-part, Same, active-same, expand-same, Inside, activeLabels-inside, activeLabels-wakes, activeLabels-all, expand-activeLabels, asleep}
 use Rattle.theory.proofs.Invariant.{Kept, Stopped, Fits, fresh-fits, resumed-fits}

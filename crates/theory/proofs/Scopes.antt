@@ -2,55 +2,24 @@
 -- `reported` and the same with scope `local` have one tree, and differ in what is emitted outside them.
 use Prim.Native.Nat.{ℕ}
 use mathlib.Core.Path.{_≡_, refl, sym, ap, ap₂, _∙_, subst, subst₂}
-use mathlib.Core.Logic.{_⊎_, inl, inr, ⊎-elim}
+use mathlib.Core.Logic.{_⊎_, ⊎-elim}
 use mathlib.Core.Bool.{Bool, true, false}
-use mathlib.Core.List.{List, [], _∷_, _++_, map, List·Memᴰ, List·Memᴰ·head, List·Memᴰ·tail, List·Memᴰ·cases-cons, List·Memᴰ·not-nil}
+use mathlib.Core.List.{List, [], _∷_, _++_, map, List·Memᴰ}
 use mathlib.Core.Option.{Option}
-use native.Mathlib.Decide.{ℕ-discrete}
-use borrow.Author.Tests.{eq-eqb, ne-eqb}
-use Rattle.esterel.specs.Sets.{member, none, insert, remove}
+use Rattle.sets.specs.Sets.{member, none, insert, remove, without}
+use Rattle.sets.proofs.Booleans.{never}
+use Rattle.sets.proofs.Algebra.{remove-absent}
+use Rattle.sets.proofs.Lists.{listed, without-listed, without-other, without-none}
 use Rattle.esterel.specs.Statement.{Scope, local, reported, Statement, nothing, signal}
 use Rattle.esterel.specs.Reaction.{Code, ended, waiting, leaving, wrong, isWrong, Reaction, gives, emitted, code, labels, failed, inSignal, inheritanceFirst, firstFit, caseOf, answer, reactBy, react}
 use Rattle.esterel.specs.Errors.{Error, signalErrors, errorsBy, errors, firstError, blame}
 use Rattle.esterel.specs.Reactions.{reactionsBy, reactions}
 use Rattle.esterel.specs.Asked.{askedBy, asked}
 use Rattle.esterel.specs.Expansion.{expand}
-use Rattle.esterel.specs.ReadBack.{declaredBy, declared, without}
+use Rattle.esterel.specs.ReadBack.{declaredBy, declared}
 use Rattle.esterel.specs.Machines.{Phase, Seen, seen, seenWithout, run, reached, State, stateAfter, byLabels}
-use Rattle.theory.proofs.Booleans.{and-true, and-false, never}
-use Rattle.theory.proofs.Sets.{member-none, member-remove, remove-absent}
 use Rattle.theory.proofs.Asked.{unasked, agree-runs}
 use Rattle.theory.proofs.ReadBack.{expand-declaredBy, declared-unasked}
-
--- ---- the members of a set without those of a list
-listed : (i : ℕ) (ss : List ℕ) → List·Memᴰ i ss ⊎ (¬ List·Memᴰ i ss)
-listed i [] = inr List·Memᴰ·not-nil
-listed i (s ∷ ss) =
-    elim (ℕ-discrete i s) [
-      | yes e ↦ inl (List·Memᴰ·head e)
-      | no n ↦ ⊎-elim (λ m. inl (List·Memᴰ·tail m)) (λ m. inr (λ k. ⊎-elim n m (List·Memᴰ·cases-cons k))) (listed i ss)
-    ]
-
-without-listed : (i : ℕ) (ss : List ℕ) (o : ℕ) → List·Memᴰ i ss → member i (without ss o) ≡ false
-unfolding without
-without-listed i [] o m = absurd (List·Memᴰ·not-nil m)
-without-listed i (s ∷ ss) o m =
-    member-remove s (without ss o) i
-    ∙ ⊎-elim (λ e. rw (eq-eqb s i (sym e)) (and-false (member i (without ss o)))) (λ k. rw (without-listed i ss o k))
-    (List·Memᴰ·cases-cons m)
-
-without-other : (i : ℕ) (ss : List ℕ) (o : ℕ) → (¬ List·Memᴰ i ss) → member i (without ss o) ≡ member i o
-unfolding without
-without-other i [] o n = refl
-without-other i (s ∷ ss) o n =
-    member-remove s (without ss o) i
-    ∙ rw (ne-eqb s i (λ e. n (List·Memᴰ·head (sym e))))
-    (and-true (member i (without ss o)) ∙ without-other i ss o (λ k. n (List·Memᴰ·tail k)))
-
-without-none : (ss : List ℕ) → without ss none ≡ none
-unfolding without
-without-none [] = refl
-without-none (s ∷ ss) = ap (remove s) (without-none ss) ∙ remove-absent s none (member-none s)
 
 -- ---- the reaction under declarations that are reported, and under the same that are local
 pub data Hides (ss : List ℕ) : Reaction → Reaction → Type 0 where

@@ -8,12 +8,12 @@ use mathlib.Core.Option.{some}
 use mathlib.Core.List.{List, [], _∷_, _++_, head?}
 use lib.Dec.{eqb}
 use native.Mathlib.Omega.{arith}
-use Rattle.esterel.specs.Sets.{member, none, only, join, insert, remove}
+use Rattle.sets.specs.Sets.{member, none, only, join, insert, remove}
+use Rattle.sets.proofs.Booleans.{or-l, or-r, or-first, or-second, clash}
 use Rattle.esterel.specs.Statement.{Scope, Statement, nothing, pause, emit, exit, seq, par, loop, present, signal, try, setpause, suspend, held}
 use Rattle.esterel.specs.Reaction.{Code, ended, waiting, leaving, wrong, isWrong, greater, ifWaiting, side, Reaction, gives, emitted, code, failed, inSeq, inPar, inLoop, inTry, remains, inSuspend, outside, Case, inherited, printed, inheritanceFirst, firstFit, caseOf, answer, inSignal, reactBy, react}
 use Rattle.esterel.specs.Errors.{Error, ifEnded, loopErrors, signalErrors, errorsBy, errors, firstErrorBy, firstError, instantaneous, notReactive, notDeterministic}
 use Rattle.esterel.specs.SignalOrders.{overlaps, overlap}
-use Rattle.theory.proofs.Booleans.{or-l, or-r, or-first, or-second, clash}
 use Rattle.theory.proofs.Rules.{right-both}
 
 -- ---- the invariant: is there an overlap; the reactions by the printed and by the new order; the errors by both

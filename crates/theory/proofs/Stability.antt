@@ -7,15 +7,15 @@ use mathlib.Core.Logic.{_⊎_, inl, inr, ⊎-elim}
 use mathlib.Core.Bool.{true, false≢true}
 use mathlib.Core.List.{[], _∷_}
 use borrow.Author.Tests.{eqb-true, eq-eqb}
-use Rattle.esterel.specs.Sets.{member, none, only, join}
+use Rattle.sets.specs.Sets.{member, none, only, join}
+use Rattle.sets.proofs.Booleans.{or-l}
+use Rattle.sets.proofs.Members.{member-join, member-none, member-only, in-join}
 use Rattle.esterel.specs.Statement.{Statement, pause, setpause, par}
 use Rattle.esterel.specs.Reaction.{react}
 use Rattle.esterel.specs.Places.{Part, first, second, PartOf, seq₁, seq₂, par₁, par₂, loop₁, present₁, present₂, signal₁, try₁, suspend₁, Place, At, Exclusive, Compatible}
 use Rattle.esterel.specs.States.{Holds, active, Stop, Stops, Valid, Distinct, Targeted, Source, WellFormed}
 use Rattle.esterel.specs.Expansion.{expand}
 use Rattle.esterel.specs.LabelTests.{activeLabels}
-use Rattle.theory.proofs.Booleans.{or-l, or-cases}
-use Rattle.theory.proofs.Sets.{member-join, member-none, member-only}
 use Rattle.theory.proofs.Places.{compatible-part, compatible-sides, compatible-sides′, source-part, Together, together-part}
 use Rattle.theory.proofs.Activity.{active-is, activeLabels-is, activeLabels-inside}
 use Rattle.theory.proofs.Invariant.{Kept, Stopped, Fits, fresh-fits, resumed-fits}
@@ -65,9 +65,6 @@ nowhere : (p : Statement) → Compatible p [] []
 nowhere p x = elim x [ ]
 
 module _ (S : ℕ) (p q : Statement) (L M : ℕ) (f : Sound S p L) (g : Sound S q M) where
-  either : (l : ℕ) → member l (join L M) ≡ true → (member l L ≡ true) ⊎ (member l M ≡ true)
-  either l h = or-cases (member l L) (member l M) (sym (member-join l L M) ∙ h)
-
   across : (k l : ℕ) → Stops p k → Stops q l → Meet (par p q) k l
   across k l x y = (first ∷ x .0, second ∷ y .0, stop-in k par₁ (x .1), stop-in l par₂ (y .1), compatible-sides)
 
@@ -78,13 +75,13 @@ module _ (S : ℕ) (p q : Statement) (L M : ℕ) (f : Sound S p L) (g : Sound S 
   sound-join =
       record {
         some = ((f .some) .0, member-join (f .some .0) L M ∙ or-l _ _ (f .some .1));
-        stops = λ l h. ⊎-elim (λ x. stops-in l par₁ (f .stops l x)) (λ x. stops-in l par₂ (g .stops l x)) (either l h);
+        stops = λ l h. ⊎-elim (λ x. stops-in l par₁ (f .stops l x)) (λ x. stops-in l par₂ (g .stops l x)) (in-join l L M h);
         meet = λ w k l h i. ⊎-elim
             (λ x. ⊎-elim (λ y. meet-in k l par₁ (f .meet (together-part S par₁ w) k l x y))
-            (λ y. across k l (f .stops k x) (g .stops l y)) (either l i))
+            (λ y. across k l (f .stops k x) (g .stops l y)) (in-join l L M i))
             (λ x. ⊎-elim (λ y. across′ k l (g .stops k x) (f .stops l y))
-            (λ y. meet-in k l par₂ (g .meet (together-part S par₂ w) k l x y)) (either l i))
-            (either k h);
+            (λ y. meet-in k l par₂ (g .meet (together-part S par₂ w) k l x y)) (in-join l L M i))
+            (in-join k L M h);
       }
 
 abbrev pub SoundLabels : ℕ → Statement → ℕ → Statement → Type 0

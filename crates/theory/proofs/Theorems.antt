@@ -6,7 +6,8 @@ use mathlib.Core.Bool.{true, false}
 use mathlib.Core.Option.{Option}
 use mathlib.Core.List.{List, [], _∷_, map, head?}
 use native.Mathlib.Omega.{arith}
-use Rattle.esterel.specs.Sets.{member, none, insert, remove}
+use Rattle.sets.specs.Sets.{member, none, insert, remove, without}
+use Rattle.sets.proofs.Booleans.{never, clash, Tested, tested}
 use Rattle.esterel.specs.Statement.{Scope, local, reported, Statement, pause, signal, suspend}
 use Rattle.esterel.specs.Reaction.{ended, waiting, leaving, wrong, Reaction, gives, emitted, code, labels, residual, isWrong, Order, printed, inheritanceFirst, reactBy, react}
 use Rattle.esterel.specs.Errors.{errorsBy, errors, firstErrorBy, firstError, uses}
@@ -24,9 +25,8 @@ use Rattle.esterel.specs.Ranks.{mask, labelsBy}
 use Rattle.esterel.specs.Instants.{instant, start, suspendInstant}
 use Rattle.esterel.specs.Traced.{askedOf, startTraced, signalOnce}
 use Rattle.esterel.specs.RankedExpansion.{expandBy, resume, resumeTraced}
-use Rattle.esterel.specs.ReadBack.{declaredBy, declared, without, AgreeOutside, RemainsUnder}
+use Rattle.esterel.specs.ReadBack.{declaredBy, declared, AgreeOutside, RemainsUnder}
 use Rattle.esterel.specs.Machines.{seenWithout, run, reached, State, byLabels, ValidState, ReactionOf, of-statement, of-expansion, FromValid, Rewriting, byRewriting, addsByLabels, addsByRewriting, added, erase}
-use Rattle.theory.proofs.Booleans.{never, clash, Tested, tested}
 use Rattle.theory.proofs.Rules as rules
 use Rattle.theory.proofs.Rules.{wrong-is}
 use Rattle.theory.proofs.Derivations as derivations

@@ -4,10 +4,10 @@ use mathlib.Core.Bool.{Bool, _&&_, cond}
 use mathlib.Core.List.{List, _++_}
 use lib.ListN.{length, drop}
 use lib.Dec.{eqb, leb}
-use Rattle.esterel.specs.Sets.{empty}
+use Rattle.limits.specs.Limits.{maxBytes, maxDepth}
+use Rattle.sets.specs.Sets.{empty}
 use Rattle.esterel.specs.Statement.{Statement}
 use Rattle.esterel.specs.LabelTests.{setpauses}
-use Rattle.limits.specs.Limits.{maxBytes, maxDepth}
 use Rattle.sequence.specs.Writer.{bytesOf, size}
 use Rattle.esterel.specs.Sizes.{depthOf}
 use Rattle.sequence.specs.Check.{Checked, sound, bad, checked}

@@ -4,14 +4,16 @@ use mathlib.Core.Path.{_≡_, refl, sym, ap, _∙_}
 use mathlib.Core.Logic.{⊎-elim, _↔_}
 use mathlib.Core.Bool.{Bool, true, false, cond}
 use native.Mathlib.Omega.{arith}
-use Rattle.esterel.specs.Sets.{member, none, join}
+use Rattle.sets.specs.Sets.{member, none, join}
+use Rattle.sets.proofs.Booleans.{same-test}
+use Rattle.sets.proofs.Members.{in-r, in-join}
+use Rattle.sets.proofs.Algebra.{join-none-l, join-self}
+use Rattle.sets.proofs.Tests.{none-disjoint}
 use Rattle.esterel.specs.Statement.{Statement, pause, setpause}
 use Rattle.esterel.specs.Sizes.{signalNesting}
 use Rattle.esterel.specs.States.{Holds, Valid, Distinct, Targeted, NoSetpause, WellFormed}
 use Rattle.esterel.specs.LabelTests.{labelsOf, pauses, setpauses, triggers, distinct, targeted, ifMember, before, exclusiveWith, concurrentWith, exclusive, wellFormed, valid}
-use Rattle.theory.proofs.Sets.{join-none-l, join-self}
-use Rattle.theory.proofs.SetAlgebra.{none-disjoint}
-use Rattle.theory.proofs.LabelSets.{in-r, in-join, same-test, triggers-are}
+use Rattle.theory.proofs.LabelSets.{triggers-are}
 use Rattle.theory.proofs.LabelTests.{pauses-is, setpauses-is, targeted-is, distinct-is, exclusive-is, Unmixed, unmixed-is, wellFormed-is, noSetpause-formed, valid-is}
 use Rattle.unrolled_theory.proofs.Forms.{Forms}
 use Rattle.unrolled_theory.proofs.Alike.{copy-pauses, pauses-same}

@@ -5,10 +5,10 @@ use mathlib.Core.Logic.{_⊎_, inl, inr}
 use mathlib.Core.Bool.{true, false, false≢true}
 use mathlib.Core.List.{[], _∷_}
 use native.Mathlib.Omega.{arith}
+use Rattle.sets.proofs.Booleans.{never}
 use Rattle.esterel.specs.Statement.{Statement, nothing, pause, emit, exit, seq, par, loop, present, signal, try, setpause, suspend, held}
 use Rattle.esterel.specs.Places.{Part, first, second, PartOf, seq₁, seq₂, par₁, par₂, loop₁, present₁, present₂, signal₁, try₁, suspend₁, Place, At, Alternative, Exclusive}
 use Rattle.esterel.specs.States.{active}
-use Rattle.theory.proofs.Booleans.{never}
 use Rattle.theory.proofs.Activity.{active-is, active-part}
 use Rattle.theory.proofs.Places.{Together, together-part}
 use Rattle.unrolled.specs.Entries.{at, resuming, AtLoop}

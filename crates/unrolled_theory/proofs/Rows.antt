@@ -8,14 +8,15 @@ use mathlib.Core.List.{List}
 use lib.ListN.{length}
 use lib.Dec.{eqb, leb}
 use borrow.Author.Tests.{eqb-true, eqb-false, leb-true, leb-false}
-use Rattle.esterel.specs.Sets.{member, none, empty}
+use Rattle.limits.specs.Limits.{maxBytes, maxDepth}
+use Rattle.sets.specs.Sets.{member, none, empty}
+use Rattle.sets.proofs.Booleans.{clash, Tested, tested}
+use Rattle.sets.proofs.Members.{in-none}
+use Rattle.sets.proofs.Lowest.{some-member}
 use Rattle.esterel.specs.Statement.{Statement}
 use Rattle.esterel.specs.States.{NoSetpause}
 use Rattle.esterel.specs.LabelTests.{setpauses}
-use Rattle.theory.proofs.Booleans.{clash, Tested, tested}
-use Rattle.theory.proofs.LabelSets.{in-none, some-member}
 use Rattle.theory.proofs.LabelTests.{setpauses-is}
-use Rattle.limits.specs.Limits.{maxBytes, maxDepth}
 use Rattle.sequence.specs.Writer.{bytesOf, size}
 use Rattle.esterel.specs.Sizes.{depthOf}
 use Rattle.sequence.specs.Check.{Checked, sound, bad, checked}

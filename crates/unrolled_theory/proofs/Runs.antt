@@ -6,6 +6,7 @@ use mathlib.Core.Logic.{_⊎_, inl, inr}
 use mathlib.Core.Bool.{Bool, true, false, cond}
 use mathlib.Core.Option.{Option}
 use mathlib.Core.List.{List, [], _∷_}
+use Rattle.sets.proofs.Booleans.{clash, Tested, tested}
 use Rattle.esterel.specs.Statement.{Statement}
 use Rattle.esterel.specs.Reaction.{Code, ended, waiting, leaving, wrong, Reaction, react, isWrong, code, gives}
 use Rattle.esterel.specs.Errors.{Error, firstError}
@@ -14,7 +15,6 @@ use Rattle.esterel.specs.Places.{Place, At}
 use Rattle.esterel.specs.States.{active}
 use Rattle.esterel.specs.Expansion.{expand}
 use Rattle.esterel.specs.Machines.{Seen, instant, seen, State, stateAfter, byLabels, addsByLabels}
-use Rattle.theory.proofs.Booleans.{clash, Tested, tested}
 use Rattle.theory.proofs.Places.{Together}
 use Rattle.unrolled.specs.Runs.{Told, told, turnedDown, tells, tellsAll, showsWrong, untilWrong, InEach}
 use Rattle.unrolled.specs.Entries.{at, Counting, OneRun, resuming, AtLoop, beginsAt, AtMostOnce}

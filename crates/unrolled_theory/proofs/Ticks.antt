@@ -7,7 +7,9 @@ use mathlib.Core.List.{List, [], _∷_, map}
 use lib.ListN.{length}
 use lib.Dec.{eqb}
 use borrow.Author.Tests.{eqb-true, eqb-false}
-use Rattle.esterel.specs.Sets.{none}
+use Rattle.limits.specs.Limits.{readBackPlace}
+use Rattle.sets.specs.Sets.{none}
+use Rattle.sets.proofs.Booleans.{clash, Tested, tested}
 use Rattle.esterel.specs.Statement.{Statement}
 use Rattle.esterel.specs.Reaction.{ended, waiting, leaving, wrong, isWrong, Reaction, code, react, inheritanceFirst}
 use Rattle.esterel.specs.Errors.{Error, firstError}
@@ -15,8 +17,6 @@ use Rattle.esterel.specs.Reactions.{reactions}
 use Rattle.esterel.specs.Expansion.{expand}
 use Rattle.esterel.specs.Instants.{instant}
 use Rattle.esterel.specs.Machines.{State, stateAfter, addsByLabels}
-use Rattle.theory.proofs.Booleans.{clash, Tested, tested}
-use Rattle.limits.specs.Limits.{readBackPlace}
 use Rattle.numbers.specs.Bytes.{leBytes}
 use Rattle.sequence.specs.Writer.{bytesOf}
 use Rattle.sequence.specs.Program.{readBackSignals, program}

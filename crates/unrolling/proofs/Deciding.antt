@@ -3,16 +3,15 @@ use Prim.Native.Nat.{ℕ, _+_, _≤_, _<_}
 use native.Mathlib.Omega.{arith}
 use mathlib.Core.Path.{_≡_, refl, sym, ap, _∙_}
 use mathlib.Core.Logic.{_≢_}
-use mathlib.Core.Bool.{Bool, true, false}
+use mathlib.Core.Bool.{Bool, true, false, and-false}
 use mathlib.Core.List.{List, _++_}
 use lib.ListN.{length, drop}
 use lib.Dec.{eqb, leb}
 use borrow.Author.Tests.{eq-eqb, ne-eqb, le-leb, lt-leb}
-use Rattle.esterel.specs.Sets.{none, empty}
+use Rattle.limits.specs.Limits.{maxBytes, maxDepth}
+use Rattle.sets.specs.Sets.{none, empty}
 use Rattle.esterel.specs.Statement.{Statement}
 use Rattle.esterel.specs.LabelTests.{setpauses}
-use Rattle.theory.proofs.Booleans.{and-false}
-use Rattle.limits.specs.Limits.{maxBytes, maxDepth}
 use Rattle.sequence.specs.Writer.{bytesOf, size}
 use Rattle.esterel.specs.Sizes.{depthOf}
 use Rattle.sequence.specs.Check.{Checked, sound, bad, checked, numberOf, checkOf}

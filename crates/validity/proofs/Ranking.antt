@@ -7,18 +7,18 @@ use native.Mathlib.Omega.{arith}
 use native.Mathlib.Decide.{decLt}
 use lib.Dec.{eqb, ltb}
 use borrow.Author.Tests.{eqb-true, lt-ltb}
-use Rattle.esterel.specs.Sets.{member, none, only, join, remove}
+use Rattle.limits.specs.Limits.{labelCount}
+use Rattle.sets.specs.Sets.{member, none, only, join, remove, Subset}
+use Rattle.sets.specs.Widths.{onlyBelow}
+use Rattle.sets.proofs.Booleans.{clash, Tested, tested}
+use Rattle.sets.proofs.Members.{member-join, member-high, member-only, member-remove, ext}
+use Rattle.sets.proofs.Algebra.{join-none-l, join-none-r, join-assoc}
 use Rattle.esterel.specs.Statement.{Statement}
 use Rattle.esterel.specs.LabelTests.{pauses, distinct}
 use Rattle.esterel.specs.Ranks.{pauseCount, mask, rank}
-use Rattle.theory.proofs.Booleans.{Tested, tested, clash}
-use Rattle.theory.proofs.Sets.{member-join, member-only, member-remove, join-none-l, join-none-r, ext}
-use Rattle.theory.proofs.SetAlgebra.{join-assoc}
 use Rattle.theory.proofs.LabelTests.{distinct-is}
 use Rattle.theory.proofs.Ranks.{mask-none, mask-join, mask-only, rank-lt}
 use Rattle.theory.proofs.Counts.{few-pauses}
-use Rattle.sets.specs.Sets.{Subset, labelCount, onlyBelow}
-use Rattle.theory.proofs.Sets.{member-high}
 use Rattle.layout.specs.Notes.{Noted, pausesIn, rankIn}
 use Rattle.validity.specs.Activity.{Ranked, Masked}
 

@@ -4,13 +4,12 @@ use mathlib.Core.Path.{_≡_, sym, ap, _∙_}
 use mathlib.Core.Bool.{Bool, true, false}
 use mathlib.Core.Logic.{_↔_}
 use lib.Dec.{eqb}
-use Rattle.esterel.specs.Sets.{none, empty}
+use Rattle.sets.specs.Sets.{none, empty, Subset, subset}
+use Rattle.sets.proofs.Tests.{subset-by}
 use Rattle.esterel.specs.Statement.{Statement}
-use Rattle.esterel.specs.LabelTests.{subset, pauses, valid}
+use Rattle.esterel.specs.LabelTests.{pauses, valid}
 use Rattle.esterel.specs.Ranks.{mask, compatible}
 use Rattle.theory.proofs.Compatible.{valid-by}
-use Rattle.sets.specs.Sets.{Subset}
-use Rattle.sets.proofs.Tests.{subset-by}
 
 module _ (p : Statement) (L : ℕ) where
   pub none-invalid : {b : Bool} → b ≡ empty L → b ≡ true → valid p L ≡ false

@@ -3,11 +3,11 @@ use Prim.Native.Nat.{ℕ, _<_}
 use mathlib.Core.Path.{_≡_}
 use mathlib.Core.Bool.{true, false}
 use mathlib.Core.List.{List}
-use Rattle.esterel.specs.Sets.{member}
+use Rattle.limits.specs.Limits.{labelCount}
+use Rattle.sets.specs.Sets.{member, Subset}
 use Rattle.esterel.specs.Statement.{Statement}
 use Rattle.esterel.specs.LabelTests.{pauses, distinct, valid}
 use Rattle.esterel.specs.Ranks.{mask}
-use Rattle.sets.specs.Sets.{Subset, labelCount}
 use Rattle.labels.specs.Labels.{labelSet}
 use Rattle.layout.specs.Notes.{Noted, rankIn}
 use Rattle.layout.specs.Known.{Known}

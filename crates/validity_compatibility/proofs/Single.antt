@@ -1,19 +1,21 @@
 -- Row 11 at a mask of at most one pause: there is no second one that it could exclude.
 use Prim.Native.Nat.{ℕ, _+_, _*_, _-_, _^_, _%_, _<_, _≤_}
 use mathlib.Core.Path.{_≡_, refl, sym, ap, _∙_, subst}
-use mathlib.Core.Bool.{Bool, true, false, not, _&&_}
+use mathlib.Core.Bool.{Bool, true, false, not, _&&_, and-true}
 use native.Mathlib.Omega.{arith}
 use lib.Dec.{eqb, ltb}
 use lib.Bits.{bitXor, xor-self, xor-zero-r}
 use lib.Pow.{pow-pos, pow-lt, pow-add, low}
 use borrow.Author.Tests.{eq-eqb, eqb-true, ltb-true, ltb-false}
-use Rattle.esterel.specs.Sets.{member, none, only, remove, empty, below, from}
+use Rattle.sets.specs.Sets.{member, none, empty, only, remove, below, from}
+use Rattle.sets.proofs.Booleans.{Tested, tested}
+use Rattle.sets.proofs.Members.{member-none, member-only, member-remove, ext}
+use Rattle.sets.proofs.Algebra.{remove-absent}
+use Rattle.sets.proofs.Halves.{below-all}
+use Rattle.sets.proofs.Widths.{none-lt}
 use Rattle.esterel.specs.Statement.{Statement, nothing, pause, emit, exit, seq, par, loop, present, signal, try, setpause, suspend, held}
 use Rattle.esterel.specs.LabelTests.{Joint, alternative, parallel}
 use Rattle.esterel.specs.Ranks.{middle, ofParts, compatible}
-use Rattle.theory.proofs.Booleans.{Tested, tested, and-true}
-use Rattle.theory.proofs.Sets.{member-only, member-remove, member-none, ext, remove-absent}
-use Rattle.theory.proofs.SplitSets.{none-lt, below-all}
 
 -- ---- sets that no number divides in two
 data Whole (k m : ℕ) : Type 0 where

@@ -4,11 +4,11 @@ use mathlib.Core.Path.{_≡_, refl, sym, ap, ap₂, _∙_}
 use mathlib.Core.Bool.{Bool, true, false, not, _||_, true≢false}
 use mathlib.Core.Logic.{_↔_}
 use mathlib.Core.List.{List}
-use Rattle.esterel.specs.Sets.{member}
+use Rattle.sets.specs.Sets.{member}
+use Rattle.sets.proofs.Booleans.{never}
 use Rattle.esterel.specs.Statement.{Statement}
 use Rattle.esterel.specs.LabelTests as Esterel
 use Rattle.esterel.specs.LabelTests.{pauses, targeted, exclusiveWith, concurrentWith, wellFormed}
-use Rattle.theory.proofs.Booleans.{never}
 use Rattle.theory.proofs.LabelTests.{rivals-paused, aside-paused, unmixed-is}
 use Rattle.wellformed_matrix.specs.Rows.{rowOf}
 use Rattle.wellformed_clashes.specs.Clashes.{RowsWithin, Clash, Clashes}

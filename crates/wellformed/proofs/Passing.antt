@@ -6,12 +6,13 @@ use mathlib.Core.List.{List}
 use native.Mathlib.Omega.{arith}
 use lib.ListN.{length, getD, length-append}
 use borrow.Author.Tests.{lt-ltb}
-use Rattle.esterel.specs.Sets.{none, only, join}
+use Rattle.limits.specs.Limits.{labelCount}
+use Rattle.sets.specs.Sets.{none, only, join}
+use Rattle.sets.specs.Widths.{onlyBelow}
 use Rattle.esterel.specs.Statement.{pure, litres, local, Statement, nothing, pause, emit, exit, seq, par, loop, present, signal, try, setpause, suspend}
 use Rattle.esterel.specs.LabelTests.{labelsOf, alternative, parallel}
 use Rattle.esterel.specs.LabelRows.{addRow, further, fill}
 use Rattle.esterel.specs.Ranks.{middle}
-use Rattle.sets.specs.Sets.{labelCount, onlyBelow}
 use Rattle.labels.specs.Labels.{labelSet}
 use Rattle.wellformed_matrix.specs.Rows.{rowOf, addRowBelow, Updates}
 use Rattle.numbers.specs.Bytes.{leBytes}

@@ -7,16 +7,16 @@ use mathlib.Core.List.{List}
 use lib.Dec.{ltb}
 use lib.ListN.{replicate, getD-replicate, length-replicate}
 use borrow.Author.Tests.{ltb-true}
-use Rattle.esterel.specs.Sets.{member, none, join}
+use Rattle.limits.specs.Limits.{wordLabels, labelCount}
+use Rattle.sets.specs.Sets.{member, none, join}
+use Rattle.sets.specs.Widths.{twoWords, setAt}
+use Rattle.sets.proofs.Booleans.{Tested, tested}
+use Rattle.sets.proofs.Algebra.{join-none-l}
+use Rattle.sets.proofs.Words.{words-none}
 use Rattle.esterel.specs.Statement.{Statement}
 use Rattle.esterel.specs.LabelTests.{labelsOf, Joint, before}
 use Rattle.esterel.specs.LabelRows.{fill}
-use Rattle.theory.proofs.Sets.{join-none-l}
-use Rattle.theory.proofs.Booleans.{Tested, tested}
 use Rattle.theory.proofs.LabelRows.{fill-is}
-use Rattle.limits.specs.Limits.{wordLabels}
-use Rattle.sets.specs.Sets.{labelCount, twoWords, setAt}
-use Rattle.sets.proofs.Words.{words-none}
 use Rattle.wellformed_matrix.specs.Rows.{rowBelow, rowOf, Updates}
 
 pub nothing-before : (x y : Bool) (j : Joint) (p : Statement) {s : ℕ} {m n : List ℕ} → s ≡ none → Updates (fill x y j p s) m n → Updates (fill x y j p none) m n

@@ -4,13 +4,13 @@
 use Prim.Native.Nat.{ℕ, _+_}
 use mathlib.Core.Bool.{Bool, true, false}
 use mathlib.Core.List.{List}
-use Rattle.esterel.specs.Sets.{none, join}
+use Rattle.limits.specs.Limits.{maxDepth}
+use Rattle.sets.specs.Sets.{none, join}
 use Rattle.esterel.specs.Statement.{Statement}
 use Rattle.esterel.specs.LabelTests.{labelsOf, pauses, triggers, Joint, alternative, parallel}
 use Rattle.esterel.specs.LabelRows.{further, fill}
 use Rattle.labels.specs.Labels.{labelSet}
 use Rattle.wellformed_matrix.specs.Rows.{Updates}
-use Rattle.limits.specs.Limits.{maxDepth}
 use Rattle.sequence.specs.Writer.{size}
 use Rattle.layout.specs.Layout.{Two, Lies, Ready, Pair}
 use Rattle.layout.specs.Joints.{jointOf}

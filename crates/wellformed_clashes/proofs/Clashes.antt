@@ -1,16 +1,14 @@
 -- The loops over the rows, and what their ends tell.
 use Prim.Native.Nat.{ℕ}
 use mathlib.Core.Path.{_≡_, refl, sym, ap, _∙_}
-use mathlib.Core.Bool.{Bool, true, false, not, and-eq-true-iff, false≢true}
+use mathlib.Core.Bool.{Bool, true, false, false≢true}
 use mathlib.Core.Logic.{_↔_, _⊎_, inl, inr, ⊎-elim}
-use lib.Bits.{bitAnd}
-use Rattle.esterel.specs.Sets.{member, none, join, remove}
-use Rattle.theory.proofs.Booleans.{or-l, or-r, or-cases, never, clash}
-use Rattle.theory.proofs.Sets.{member-and}
-use Rattle.theory.proofs.LabelSets.{in-l, in-r, in-join, in-none, some-member}
-use Rattle.sets.specs.Sets.{Disjoint}
+use Rattle.sets.specs.Sets.{member, none, join, remove, Disjoint}
+use Rattle.sets.proofs.Booleans.{or-l, or-r, or-cases, clash}
+use Rattle.sets.proofs.Members.{in-none, in-l, in-r, in-join}
+use Rattle.sets.proofs.Lowest.{some-common}
+use Rattle.sets.proofs.Loops.{Seeking, seek, seek-on, seek-as, seek-end}
 use Rattle.wellformed_clashes.specs.Clashes.{InRowOf, RowsWithin, RowsOf, Clash, ClashIf, Clashes}
-use Rattle.sets.proofs.Members.{Seeking, seek, seek-as, seek-on, seek-end}
 
 pub in-row-end : (rows : ℕ → ℕ) (s k : ℕ) → ((i : ℕ) → member i s ≡ true → member k (rows i) ≡ false) → (false ≡ true) ↔ InRowOf rows s k
 in-row-end rows s k f = (λ z. absurd (false≢true z), λ n. clash _ (n .2) (f (n .0) (n .1)))
@@ -59,17 +57,10 @@ module _ (exclusive concurrent : ℕ → ℕ) (P : Type 0) (s k r : ℕ) (es : s
   pub no-clash : Disjoint s r → (P → ⊥) → (false ≡ true) ↔ ClashIf exclusive concurrent P k
   no-clash d f = (λ z. absurd (false≢true z), λ x. ⊎-elim (apart d (x .0) (x .1)) (λ h. absurd (f (h .0))) (x .2))
 
-shared : (s r : ℕ) → (Disjoint s r → ⊥) → (l : ℕ) × (member l s ≡ true) × (member l r ≡ true)
-shared s r f =
-    let x = some-member (bitAnd s r) (λ e. f (λ i h. never (member i r) (λ g. in-none i
-    (sym (ap (member i) e) ∙ member-and i s r ∙ and-eq-true-iff (member i s) (member i r) .1 (h, g))))) in
-    let y = and-eq-true-iff (member (x .0) s) (member (x .0) r) .0 (sym (member-and (x .0) s r) ∙ x .1) in
-    (x .0, y .0, y .1)
-
 pub clash-at : (exclusive concurrent : ℕ → ℕ) (P : Type 0) (s k r : ℕ) (t : Bool) → s ≡ concurrent k → r ≡ exclusive k → (t ≡ true) ↔ Disjoint s r → t ≡ false
     → (true ≡ true) ↔ ClashIf exclusive concurrent P k
 clash-at exclusive concurrent P s k r t es er d h = (
-  λ _. let x = shared s r (λ g. clash _ (d .1 g) h) in
+  λ _. let x = some-common s r (λ g. clash _ (d .1 g) h) in
       (x .0, ap (member (x .0)) (sym es) ∙ x .1, inl (ap (member (x .0)) (sym er) ∙ x .2)),
   λ _. refl,
 )

@@ -2,9 +2,9 @@
 ghost use mathlib.Core.Path.{_≡_};
 ghost use mathlib.Core.Bool.{true};
 ghost use mathlib.Core.Logic.{_↔_};
+ghost use Rattle.sets.specs.Sets.{member};
 ghost use Rattle.labels.specs.Labels.{labelSet};
 ghost use Rattle.wellformed_matrix.specs.Rows.{rowOf};
-ghost use Rattle.esterel.specs.Sets.{member};
 ghost use Rattle.wellformed_clashes.specs.Clashes.{InRowOf, RowsOf, ClashIf, Clashes};
 use labels::Labels;
 use wellformed_matrix::Matrix;

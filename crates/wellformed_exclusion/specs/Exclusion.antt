@@ -2,7 +2,7 @@
 use Prim.Native.Nat.{ℕ}
 use mathlib.Core.Path.{_≡_}
 use mathlib.Core.Bool.{Bool}
-use Rattle.esterel.specs.Sets.{join}
+use Rattle.sets.specs.Sets.{join}
 use Rattle.esterel.specs.LabelTests.{alternative, parallel}
 use Rattle.esterel.specs.LabelRows.{further}
 use Rattle.labels.specs.Labels.{labelSet}

@@ -8,10 +8,10 @@ use lib.Dec.{eqb, ltb}
 use lib.ListN.{length, set, length-set}
 use borrow.Author.Tests.{eqb-true, eqb-false, lt-ltb, le-ltb}
 use Rattle.limits.specs.Limits.{wordLabels}
-use Rattle.esterel.specs.Sets.{none, join}
-use Rattle.esterel.specs.LabelRows.{addRow}
-use Rattle.sets.specs.Sets.{setAt}
+use Rattle.sets.specs.Sets.{none, join}
+use Rattle.sets.specs.Widths.{setAt}
 use Rattle.sets.proofs.Words.{stored, stored-here, stored-elsewhere}
+use Rattle.esterel.specs.LabelRows.{addRow}
 use Rattle.wellformed_matrix.specs.Rows.{rowBelow, addRowBelow, UpdatesBelow}
 
 pub row-here : (w k : ℕ) (m : List ℕ) → k < w → setAt (2 * k) m ≡ rowBelow w m k

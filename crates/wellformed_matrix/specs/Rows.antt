@@ -5,9 +5,10 @@ use mathlib.Core.List.{List}
 use mathlib.Core.Bool.{cond}
 use lib.ListN.{length}
 use lib.Dec.{ltb}
-use Rattle.esterel.specs.Sets.{none}
+use Rattle.limits.specs.Limits.{labelCount}
+use Rattle.sets.specs.Sets.{none}
+use Rattle.sets.specs.Widths.{setAt}
 use Rattle.esterel.specs.LabelRows.{addRow}
-use Rattle.sets.specs.Sets.{labelCount, setAt}
 
 -- the row of k, for labels below w: no other label has one
 unfoldable pub rowBelow : (w : ℕ) → List ℕ → ℕ → ℕ

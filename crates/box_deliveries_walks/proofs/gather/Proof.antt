@@ -1,5 +1,5 @@
-use Rattle.sets.specs.Sets.{signalCount}
-use Rattle.sets.proofs.Members.{some-left, none-left, seek-less}
+use Rattle.limits.specs.Limits.{signalCount}
+use Rattle.sets.proofs.Loops.{some-left, none-left, seek-less}
 use Rattle.box_deliveries_walks.proofs.Walking.{Gathering, gathers-none, gathers-next, gathers-all}
 use borrow.Author.Needs.{needs}
 use Rattle.box_deliveries_walks.proofs.gather.Statement.{statement}

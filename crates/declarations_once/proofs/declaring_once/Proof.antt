@@ -1,5 +1,5 @@
 use mathlib.Core.Path.{sym, _∙_}
-use Rattle.esterel.specs.Sets.{none}
+use Rattle.sets.specs.Sets.{none}
 use Rattle.declarations_once.proofs.Once.{once-right, once-wrong}
 use borrow.Author.Needs.{needs}
 use Rattle.declarations_once.proofs.declaring_once.Statement.{statement}

@@ -1,6 +1,6 @@
 use mathlib.Core.Path.{ap, _∙_}
-use Rattle.esterel.specs.Sets.{remove}
 use borrow.Author.Needs.{needs}
+use Rattle.sets.specs.Sets.{remove}
 use Rattle.declarations_runs.proofs.asked.Statement.{statement}
 use Rattle.declarations_runs.proofs.asked.Tie as tie
 

@@ -1,4 +1,4 @@
-use Rattle.esterel.specs.Sets.{none}
+use Rattle.sets.specs.Sets.{none}
 use Rattle.declarations_runs.proofs.Runs.{inherited-made}
 use borrow.Author.Needs.{needs}
 use Rattle.declarations_runs.proofs.inherited.Statement.{statement}

@@ -3,10 +3,10 @@ use Prim.Native.Nat.{ℕ, _-_}
 use mathlib.Core.Path.{ap, _∙_}
 use native.Mathlib.Omega.{arith}
 use lib.Pow.{pow-pos}
-use Rattle.sets.specs.Sets.{twoWords}
-use Rattle.labels.specs.Labels.{labelSet}
-use Rattle.sets.proofs.Laws.{shifted, masked, all-below}
+use Rattle.sets.specs.Widths.{twoWords}
+use Rattle.sets.proofs.Widths.{shifted, masked, all-below}
 use Rattle.sets.proofs.Words.{words-lt, below-low, below-high}
+use Rattle.labels.specs.Labels.{labelSet}
 use borrow.Author.Needs.{needs}
 use Rattle.labels.proofs.below.Statement.{statement}
 use Rattle.labels.proofs.below.Tie as tie

@@ -1,10 +1,10 @@
 use Rattle.limits.specs.Limits.{wordLabels}
 use mathlib.Core.Path.{ap, _∙_}
 use lib.Bits.{bitXor}
-use Rattle.esterel.specs.Sets.{from}
-use Rattle.sets.specs.Sets.{twoWords}
-use Rattle.labels.specs.Labels.{labelSet}
+use Rattle.sets.specs.Sets.{from}
+use Rattle.sets.specs.Widths.{twoWords}
 use Rattle.sets.proofs.Words.{words-xor}
+use Rattle.labels.specs.Labels.{labelSet}
 use borrow.Author.Needs.{needs}
 use Rattle.labels.proofs.from.Statement.{statement}
 use Rattle.labels.proofs.from.Tie as tie

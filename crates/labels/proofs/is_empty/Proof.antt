@@ -2,9 +2,9 @@ use Rattle.limits.specs.Limits.{wordLabels}
 use mathlib.Core.Path.{ap, _∙_}
 use lib.Dec.{eqb}
 use lib.Pow.{pow-pos}
-use Rattle.sets.specs.Sets.{twoWords}
-use Rattle.labels.specs.Labels.{labelSet}
+use Rattle.sets.specs.Widths.{twoWords}
 use Rattle.sets.proofs.Words.{words-none, words-same, words-differ}
+use Rattle.labels.specs.Labels.{labelSet}
 use borrow.Author.Needs.{needs}
 use Rattle.labels.proofs.is_empty.Statement.{statement}
 use Rattle.labels.proofs.is_empty.Tie as tie

@@ -1,10 +1,10 @@
 use Rattle.limits.specs.Limits.{wordLabels}
 use native.Mathlib.Omega.{arith}
 use lib.Count.{trailing-le}
-use Rattle.esterel.specs.Sets.{none}
-use Rattle.labels.specs.Labels.{labelSet}
+use Rattle.sets.specs.Sets.{none}
 use Rattle.sets.proofs.Lowest.{lowest-is}
 use Rattle.sets.proofs.Words.{lowest-low, lowest-high}
+use Rattle.labels.specs.Labels.{labelSet}
 use borrow.Author.Needs.{needs}
 use Rattle.labels.proofs.lowest.Statement.{statement}
 use Rattle.labels.proofs.lowest.Tie as tie

@@ -1,9 +1,9 @@
 use Rattle.limits.specs.Limits.{labelCount, wordLabels}
 use mathlib.Core.Path.{sym}
-use Rattle.labels.specs.Labels.{labelSet}
-use Rattle.esterel.specs.Sets.{member}
-use Rattle.theory.proofs.Sets.{member-high}
+use Rattle.sets.specs.Sets.{member}
+use Rattle.sets.proofs.Members.{member-high}
 use Rattle.sets.proofs.Words.{words-lt, member-low, member-from}
+use Rattle.labels.specs.Labels.{labelSet}
 use borrow.Author.Needs.{needs}
 use Rattle.labels.proofs.member.Statement.{statement}
 use Rattle.labels.proofs.member.Tie as tie

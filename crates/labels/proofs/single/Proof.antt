@@ -1,9 +1,9 @@
 use Rattle.limits.specs.Limits.{labelCount, wordLabels}
 use mathlib.Core.Path.{_∙_}
 use native.Mathlib.Omega.{arith}
-use Rattle.labels.specs.Labels.{labelSet}
-use Rattle.sets.proofs.Laws.{none-only}
+use Rattle.sets.proofs.Widths.{none-only}
 use Rattle.sets.proofs.Words.{shifted-low, shifted-high}
+use Rattle.labels.specs.Labels.{labelSet}
 use borrow.Author.Needs.{needs}
 use Rattle.labels.proofs.single.Statement.{statement}
 use Rattle.labels.proofs.single.Tie as tie

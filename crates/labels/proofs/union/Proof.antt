@@ -1,7 +1,7 @@
 use Rattle.limits.specs.Limits.{wordLabels}
-use Rattle.labels.specs.Labels.{labelSet}
-use Rattle.esterel.specs.Sets.{join}
+use Rattle.sets.specs.Sets.{join}
 use Rattle.sets.proofs.Words.{words-join}
+use Rattle.labels.specs.Labels.{labelSet}
 use borrow.Author.Needs.{needs}
 use Rattle.labels.proofs.union.Statement.{statement}
 use Rattle.labels.proofs.union.Tie as tie

@@ -2,10 +2,10 @@ use Rattle.limits.specs.Limits.{labelCount, wordLabels}
 use mathlib.Core.Path.{ap, _∙_}
 use Prim.Native.Nat.{ℕ}
 use lib.Bits.{bitAnd, bitXor}
-use Rattle.sets.specs.Sets.{twoWords}
-use Rattle.labels.specs.Labels.{labelSet}
-use Rattle.sets.proofs.Laws.{difference-only}
+use Rattle.sets.specs.Widths.{twoWords}
+use Rattle.sets.proofs.Widths.{difference-only}
 use Rattle.sets.proofs.Words.{words-lt, words-difference}
+use Rattle.labels.specs.Labels.{labelSet}
 use borrow.Author.Needs.{needs}
 use Rattle.labels.proofs.without.Statement.{statement}
 use Rattle.labels.proofs.without.Tie as tie

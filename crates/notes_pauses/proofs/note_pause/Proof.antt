@@ -1,8 +1,8 @@
 use Rattle.limits.specs.Limits.{wordLabels}
 use Prim.Native.Nat.{_%_, _<_}
 use native.Mathlib.Omega.{arith}
-use Rattle.esterel.specs.Sets.{join, only}
-use Rattle.sets.proofs.Laws.{shifted}
+use Rattle.sets.specs.Sets.{only, join}
+use Rattle.sets.proofs.Widths.{shifted}
 use Rattle.layout.specs.Notes.{notePause}
 use borrow.Author.Needs.{needs}
 use Rattle.notes_pauses.proofs.note_pause.Statement.{statement}

@@ -1,8 +1,8 @@
 use Rattle.limits.specs.Limits.{wordLabels}
 use Prim.Native.Nat.{_%_, _<_}
 use native.Mathlib.Omega.{arith}
-use Rattle.esterel.specs.Sets.{join, only}
-use Rattle.sets.proofs.Laws.{shifted}
+use Rattle.sets.specs.Sets.{only, join}
+use Rattle.sets.proofs.Widths.{shifted}
 use Rattle.layout.specs.Notes.{noteSetpause}
 use borrow.Author.Needs.{needs}
 use Rattle.notes_pauses.proofs.note_setpause.Statement.{statement}

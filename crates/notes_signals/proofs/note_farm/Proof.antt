@@ -1,8 +1,8 @@
 use native.Mathlib.Omega.{arith}
 use Prim.Native.Nat.{_<_}
 use Rattle.limits.specs.Limits.{wordLabels}
-use Rattle.esterel.specs.Sets.{join, only}
-use Rattle.sets.proofs.Laws.{shifted}
+use Rattle.sets.specs.Sets.{only, join}
+use Rattle.sets.proofs.Widths.{shifted}
 use Rattle.layout.specs.Notes.{noteFarm}
 use borrow.Author.Needs.{needs}
 use Rattle.notes_signals.proofs.note_farm.Statement.{statement}

@@ -1,7 +1,7 @@
 use Prim.Native.Nat.{ℕ}
 use mathlib.Core.Path.{ap, _∙_}
 use lib.ListN.{getD}
-use Rattle.esterel.specs.Sets.{none}
+use Rattle.sets.specs.Sets.{none}
 use Rattle.esterel.specs.Litres.{brought}
 use Rattle.react_emissions.specs.Emissions.{valueIn, meant}
 use Rattle.esterel.specs.Statement.{nothing}

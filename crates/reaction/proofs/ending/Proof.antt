@@ -1,6 +1,6 @@
 use mathlib.Core.Path.{refl, _∙_}
 use mathlib.Core.Option.{Option}
-use Rattle.esterel.specs.Sets.{none}
+use Rattle.sets.specs.Sets.{none}
 use Rattle.esterel.specs.Reaction.{ended}
 use Rattle.reaction.proofs.Values.{made}
 use borrow.Author.Needs.{needs}

@@ -1,6 +1,6 @@
 use mathlib.Core.Path.{refl}
-use Rattle.esterel.specs.Sets.{none}
 use borrow.Author.Needs.{needs}
+use Rattle.sets.specs.Sets.{none}
 use Rattle.reaction.proofs.nothing.Statement.{statement}
 use Rattle.reaction.proofs.nothing.Tie as tie
 

@@ -1,6 +1,6 @@
 use Prim.Native.Nat.{ℕ}
 use mathlib.Core.Path.{ap, _∙_}
-use Rattle.esterel.specs.Sets.{none}
+use Rattle.sets.specs.Sets.{none}
 use Rattle.esterel.specs.Statement.{nothing}
 use Rattle.esterel.specs.Reaction.{waiting, gives}
 use Rattle.reaction.specs.Reactions.{alone, reactionOf}

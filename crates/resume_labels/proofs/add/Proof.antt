@@ -1,5 +1,5 @@
 use mathlib.Core.Path.{ap₂, _∙_}
-use Rattle.esterel.specs.Sets.{join}
+use Rattle.sets.specs.Sets.{join}
 use Rattle.resume_labels.proofs.Steps.{words-stored}
 use borrow.Author.Needs.{needs}
 use Rattle.resume_labels.proofs.add.Statement.{statement}

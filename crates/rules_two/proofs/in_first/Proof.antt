@@ -1,4 +1,4 @@
-use Rattle.esterel.specs.Sets.{none}
+use Rattle.sets.specs.Sets.{none}
 use Rattle.rules_two.proofs.Combining.{seq-stops}
 use borrow.Author.Needs.{needs}
 use Rattle.rules_two.proofs.in_first.Statement.{statement}

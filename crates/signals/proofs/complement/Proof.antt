@@ -1,5 +1,5 @@
-use Rattle.sets.specs.Sets.{allBelow}
 use borrow.Author.Needs.{needs}
+use Rattle.sets.specs.Widths.{allBelow}
 use Rattle.signals.proofs.complement.Statement.{statement}
 use Rattle.signals.proofs.complement.Tie as tie
 

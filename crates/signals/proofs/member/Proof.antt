@@ -1,7 +1,7 @@
 use mathlib.Core.Path.{refl, sym}
-use Rattle.esterel.specs.Sets.{member}
-use Rattle.theory.proofs.Sets.{member-high}
 use borrow.Author.Needs.{needs}
+use Rattle.sets.specs.Sets.{member}
+use Rattle.sets.proofs.Members.{member-high}
 use Rattle.signals.proofs.member.Statement.{statement}
 use Rattle.signals.proofs.member.Tie as tie
 

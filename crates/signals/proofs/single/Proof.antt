@@ -1,6 +1,6 @@
-use Rattle.esterel.specs.Sets.{none}
-use Rattle.sets.proofs.Laws.{shifted-only, none-only}
 use borrow.Author.Needs.{needs}
+use Rattle.sets.specs.Sets.{none}
+use Rattle.sets.proofs.Widths.{shifted-only, none-only}
 use Rattle.signals.proofs.single.Statement.{statement}
 use Rattle.signals.proofs.single.Tie as tie
 

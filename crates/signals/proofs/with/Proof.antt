@@ -1,7 +1,7 @@
 use mathlib.Core.Path.{ap, _∙_}
-use Rattle.esterel.specs.Sets.{join}
-use Rattle.sets.proofs.Laws.{join-only}
 use borrow.Author.Needs.{needs}
+use Rattle.sets.specs.Sets.{join}
+use Rattle.sets.proofs.Widths.{join-only}
 use Rattle.signals.proofs.with.Statement.{statement}
 use Rattle.signals.proofs.with.Tie as tie
 

@@ -1,8 +1,8 @@
 use mathlib.Core.Path.{ap, _∙_}
 use Prim.Native.Nat.{ℕ}
 use lib.Bits.{bitAnd, bitXor}
-use Rattle.sets.proofs.Laws.{difference-only}
 use borrow.Author.Needs.{needs}
+use Rattle.sets.proofs.Widths.{difference-only}
 use Rattle.signals.proofs.without.Statement.{statement}
 use Rattle.signals.proofs.without.Tie as tie
 

@@ -1,8 +1,8 @@
 use native.Mathlib.Omega.{arith}
 use borrow.Author.Needs.{needs}
-use Rattle.labels.specs.Labels.{labelSet}
 use Rattle.sets.proofs.Lowest.{remove-less}
-use Rattle.sets.proofs.Members.{some-left, none-left}
+use Rattle.sets.proofs.Loops.{some-left, none-left}
+use Rattle.labels.specs.Labels.{labelSet}
 use Rattle.validity.proofs.Ranking.{Ranking, ranking-begin, ranking-end, rank-small, ranking-on}
 use Rattle.validity.proofs.ranks.Statement.{statement}
 use Rattle.validity.proofs.ranks.Tie as tie

@@ -1,8 +1,8 @@
-use Rattle.sets.specs.Sets.{labelCount}
-use Rattle.theory.proofs.Booleans as Booleans
+use Rattle.limits.specs.Limits.{labelCount}
+use Rattle.sets.proofs.Booleans as Booleans
+use Rattle.sets.proofs.Loops.{some-left, none-left, Seeking, seek, seek-on, seek-less, seek-hit}
 use Rattle.labels.specs.Labels.{labelSet}
 use Rattle.wellformed_matrix.specs.Rows.{rowOf}
-use Rattle.sets.proofs.Members.{some-left, none-left, Seeking, seek, seek-on, seek-less, seek-hit}
 use Rattle.wellformed_clashes.proofs.Clashes.{Clear, clash-found, clear-end}
 use borrow.Author.Needs.{needs}
 use Rattle.wellformed_clashes.proofs.any_clash.Statement.{statement}

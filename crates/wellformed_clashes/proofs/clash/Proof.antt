@@ -1,5 +1,5 @@
 use mathlib.Core.Path.{sym, _∙_}
-use Rattle.theory.proofs.Booleans as Booleans
+use Rattle.sets.proofs.Booleans as Booleans
 use Rattle.wellformed_matrix.specs.Rows.{rowOf}
 use Rattle.wellformed_clashes.proofs.Clashes.{clash-by, no-clash, clash-at}
 use borrow.Author.Needs.{needs}

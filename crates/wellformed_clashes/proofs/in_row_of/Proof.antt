@@ -1,10 +1,10 @@
-use Rattle.sets.specs.Sets.{labelCount}
+use Rattle.limits.specs.Limits.{labelCount}
 use mathlib.Core.Path.{_≡_, refl, sym, ap, _∙_}
 use mathlib.Core.Bool.{false}
-use Rattle.esterel.specs.Sets.{member}
+use Rattle.sets.specs.Sets.{member}
+use Rattle.sets.proofs.Loops.{some-left, none-left, Seeking, seek, seek-on, seek-end, seek-less, seek-hit}
 use Rattle.labels.specs.Labels.{labelSet}
 use Rattle.wellformed_matrix.specs.Rows.{rowOf}
-use Rattle.sets.proofs.Members.{some-left, none-left, Seeking, seek, seek-on, seek-less, seek-hit, seek-end}
 use Rattle.wellformed_clashes.proofs.Clashes.{in-row-end}
 use borrow.Author.Needs.{needs}
 use Rattle.wellformed_clashes.proofs.in_row_of.Statement.{statement}

@@ -1,7 +1,7 @@
-use Rattle.sets.specs.Sets.{labelCount}
+use Rattle.limits.specs.Limits.{labelCount}
+use Rattle.sets.proofs.Loops.{some-left, none-left, seek-less, seek-hit}
 use Rattle.labels.specs.Labels.{labelSet}
 use Rattle.wellformed_matrix.specs.Rows.{rowOf}
-use Rattle.sets.proofs.Members.{some-left, none-left, seek-less, seek-hit}
 use Rattle.wellformed_clashes.proofs.Clashes.{Gathering, gather, gather-on, gather-end}
 use borrow.Author.Needs.{needs}
 use Rattle.wellformed_clashes.proofs.union_of_rows.Statement.{statement}

@@ -3,16 +3,8 @@ use Prim.Native.Nat.{ℕ, _+_, _*_, _-_, _/_, _%_, _^_, _<_}
 use mathlib.Core.Path.{_≡_, sym, ap, ap₂, _∙_}
 use native.Mathlib.Omega.{arith}
 use lib.Bits.{bitOr, bitAnd, bitXor, or-shifted-r, and-mask, xor-block, xor-self, xor-zero-r}
-use lib.Pow.{pow-pos, pow-lt, low, split}
-use Rattle.esterel.specs.Sets.{none, only, join, below, from}
-
-pub none-lt : (k : ℕ) → none < 2 ^ k
-unfolding none
-none-lt k = pow-pos k
-
-pub only-lt : (k : ℕ) → only k < 2 ^ (k + 1)
-unfolding only
-only-lt k = pow-lt (omega arith)
+use lib.Pow.{pow-pos, low, split}
+use Rattle.sets.specs.Sets.{none, only, join, below, from}
 
 pub none-over : (k : ℕ) → none % 2 ^ k ≡ 0
 unfolding none

@@ -1,7 +1,7 @@
--- Facts on tests.
+-- Facts on tests, beside those of mathlib.Core.Bool.
 use mathlib.Core.Path.{_≡_, refl, sym, _∙_}
-use mathlib.Core.Logic.{_⊎_, inl, inr}
-use mathlib.Core.Bool.{Bool, true, false, _&&_, _||_, true≢false}
+use mathlib.Core.Logic.{_⊎_, inl, inr, _↔_}
+use mathlib.Core.Bool.{Bool, true, false, _&&_, _||_, true≢false, false≢true}
 
 pub or-l : (a b : Bool) → a ≡ true → (a || b) ≡ true
 or-l a b h = rw h
@@ -13,22 +13,6 @@ or-r false b h = h
 pub or-cases : (a b : Bool) → (a || b) ≡ true → (a ≡ true) ⊎ (b ≡ true)
 or-cases true b h = inl refl
 or-cases false b h = inr h
-
-pub or-false : (a : Bool) → (a || false) ≡ a
-or-false true = refl
-or-false false = refl
-
-pub or-true : (a : Bool) → (a || true) ≡ true
-or-true true = refl
-or-true false = refl
-
-pub and-true : (a : Bool) → (a && true) ≡ a
-and-true true = refl
-and-true false = refl
-
-pub and-false : (a : Bool) → (a && false) ≡ false
-and-false true = refl
-and-false false = refl
 
 pub or-first : (a b : Bool) → (a || b) ≡ false → a ≡ false
 or-first true b h = h
@@ -53,3 +37,18 @@ pub data Tested (b : Bool) : Type 0 where
 pub tested : (b : Bool) → Tested b
 tested true = Tested.yes refl
 tested false = Tested.no refl
+
+-- two tests that are true together are one
+pub same-test : (a b : Bool) → (a ≡ true → b ≡ true) → (b ≡ true → a ≡ true) → a ≡ b
+same-test true b f g = sym (f refl)
+same-test false true f g = g refl
+same-test false false f g = refl
+
+-- ---- one test against another
+pub implies-is : (a b : Bool) → (a ≡ true → b ≡ true) ↔ ((a && b) ≡ a)
+implies-is true b = (λ h. h refl, λ e k. e)
+implies-is false b = (λ h. refl, λ e k. absurd (false≢true k))
+
+pub apart-is : (a b : Bool) → (a ≡ true → b ≡ false) ↔ ((a && b) ≡ false)
+apart-is true b = (λ h. h refl, λ e k. e)
+apart-is false b = (λ h. refl, λ e k. absurd (false≢true k))
