@@ -232,8 +232,9 @@ fn suspend_part(
         let labels = resume_labels::of_part(s, 2, at + 2, depth - 1, active, second);
         rules::stopped(x, labels)
     } else {
+        let absent = signals::single(x);
         rules::in_held(
-            x,
+            absent,
             part(s, 2, at + 2, depth - 1, input, farm, active, second),
         )
     }

@@ -76,10 +76,10 @@ only-one : (s : ℕ) → only s ≡ insert s none
 unfolding only insert join
 only-one s = sym (join-none-l (only s))
 
-module _ (s : ℕ) (small : s < signalCount) {b : ℕ} (noted : b ≡ onlyBelow signalCount s) where
-  known : b ≡ only s
-  known = noted ∙ rw (lt-ltb s signalCount small)
+pub single-is : (s : ℕ) → s < signalCount → {b : ℕ} → b ≡ onlyBelow signalCount s → b ≡ only s
+single-is s small noted = noted ∙ rw (lt-ltb s signalCount small)
 
+module _ (s : ℕ) {b : ℕ} (known : b ≡ only s) where
   pub present-asks : (t : Traces.Traced) {r : Reaction} → r ≡ reactionOf (countedAround b t) → r ≡ reactionOf (presentTraced s t)
   unfolding join only insert
   present-asks (traced (instant (gives o k l t) x n) a y) h = h ∙ rw known

@@ -4,6 +4,7 @@ ghost use mathlib.Core.Path.{_≡_};
 ghost use Prim.Native.Nat.{ℕ, _<_};
 ghost use Rattle.limits.specs.Limits.{signalCount};
 ghost use Rattle.labels.specs.Labels.{labelSet};
+ghost use Rattle.esterel.specs.Sets.{only};
 ghost use Rattle.esterel.specs.Statement.{Statement};
 ghost use Rattle.esterel.specs.Traced.{loopTraced, presentTraced, tryTraced};
 ghost use Rattle.esterel.specs.Traced.{suspendTraced, heldTraced, stoppedTraced};
@@ -54,11 +55,11 @@ pub fn in_suspend(p: Reaction) -> Reaction
     reaction::around(p, 0)
 }
 
-// A suspend that goes on, its signal s being absent; it asked for s.
-pub fn in_held(s: u8, p: Reaction) -> Reaction
-    ensures { λ r. ⌜ (s < signalCount → FromOne (heldTraced s) p r) ⌝ }
+// A suspend that goes on, its signal being absent; it asked for that signal, whose set is `absent`. The set and not the signal is
+// what a walk keeps while the part resumes, so it is the argument here.
+pub fn in_held(absent: u32, p: Reaction) -> Reaction
+    ensures { λ r. ⌜ ((s : ℕ) → absent ≡ only s → FromOne (heldTraced s) p r) ⌝ }
 {
-    let absent = signals::single(s);
     reaction::around(p, absent)
 }
 

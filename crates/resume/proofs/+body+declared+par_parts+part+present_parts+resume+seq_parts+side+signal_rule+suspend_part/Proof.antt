@@ -7,6 +7,7 @@ use Rattle.sequence.specs.Commands.{Command}
 use Rattle.layout.proofs.Laid.{ready, whole, whole-lies, taken-apart, begins}
 use Rattle.react_leaves.proofs.Steps.{nothing-step}
 use Rattle.react.proofs.Steps.{front-there, front-is}
+use Rattle.rules.proofs.Combining.{single-is}
 use Rattle.resume.proofs.Steps.{
   here,
   seq-first,
@@ -73,6 +74,7 @@ use Rattle.labels.proofs.is_empty.Reads as is-empty-reads
 use Rattle.signals.proofs.member.Reads as member-reads
 use Rattle.reaction.proofs.asks.Reads as asks-reads
 use Rattle.react_leaves.proofs.is_pause.Reads as is-pause-reads
+use Rattle.signals.proofs.single.Reads as single-reads
 use Rattle.signals.proofs.with.Reads as with-reads
 use Rattle.signals.proofs.without.Reads as without-reads
 use Rattle.resume.proofs.+body+declared+par_parts+part+present_parts+resume+seq_parts+side+signal_rule+suspend_part.{
@@ -211,7 +213,7 @@ abbrev signal-rule-claims : ℕ → signal-rule-lts.Claims
 signal-rule-claims t = (declared-below t, declared.Post)
 
 abbrev suspend-part-claims : ℕ → suspend-part-lts.Claims
-suspend-part-claims t = (member-reads.Asked, member-reads.Learnt, of-part-reads.Asked, of-part-reads.Learnt, stopped-reads.Asked, stopped-reads.Learnt, part-below t, part.Post, in-held-reads.Asked, in-held-reads.Learnt)
+suspend-part-claims t = (member-reads.Asked, member-reads.Learnt, of-part-reads.Asked, of-part-reads.Learnt, stopped-reads.Asked, stopped-reads.Learnt, single-reads.Asked, single-reads.Learnt, part-below t, part.Post, in-held-reads.Asked, in-held-reads.Learnt)
 
 body-shared-slice-read-if1 : (t : ℕ) → body-lts.Need-shared-slice-read-if1 (body-claims t) (body-at t) body.Post
 body-shared-slice-read-if1 t c = front-there (c .before .before .args .n) (c .before .before .args .s .now) (c .before .before .pre .1 .1)
@@ -443,7 +445,7 @@ suspend-part-of-part-requires t c κs =
 
 suspend-part-part-requires : (t : ℕ) → suspend-part-lts.Need-part-requires (suspend-part-claims t) (suspend-part-at t) suspend-part.Post
 suspend-part-part-requires t c κs =
-    let f = c .before .before .before .before .pre .1 in
+    let f = c .before .before .before .before .before .pre .1 in
     let y = begins (f .0) Command.suspend (f .1) in
     (search needs, (y .there, ready _ (y .parts .0) (f .0 .long) (y .parts .1 .1)))
 
@@ -459,13 +461,13 @@ suspend-part-returns t c base p l =
 
 suspend-part-returns-2 : (t : ℕ) → suspend-part-lts.Need-returns-2 (suspend-part-claims t) (suspend-part-at t) suspend-part.Post
 suspend-part-returns-2 t c base p l =
-    let f = c .before .before .before .before .before .before .pre .1 in
-    let d = c .before .before .before in
+    let f = c .before .before .before .before .before .before .before .pre .1 in
+    let d = c .before .before .before .before in
     let y = taken-apart (f .0) base p l Command.suspend (f .1) in
     let q = y .parts .0 in
     here _ base _ _ (suspend _ q) p (y .parts .1 .0)
-    (suspend-resumed _ base _ _ _ q (sym (d .member .ensures) ∙ c .before .before .if1 .left)
-    (c .before .part .ensures base q (y .parts .1 .1)) (c .in-held .ensures (ltb-true _ _ (y .ranged))))
+    (suspend-resumed _ base _ _ _ q (sym (d .member .ensures) ∙ c .before .before .before .if1 .left)
+    (c .before .part .ensures base q (y .parts .1 .1)) (c .in-held .ensures _ (single-is _ (ltb-true _ _ (y .ranged)) (c .before .before .single .ensures))))
 
 pub +body+declared+par-parts+part+present-parts+resume+seq-parts+side+signal-rule+suspend-part-spec :
     {M : Type 1} → statement M
@@ -586,7 +588,7 @@ pub +body+declared+par-parts+part+present-parts+resume+seq-parts+side+signal-rul
     (suspend-part-shared-slice-read-x t)
     (λ c κs. search needs) (λ c. search needs) (λ c. search needs)
     (suspend-part-of-part-requires t)
-    (λ c κs. search needs) (λ c. search needs) (λ c. search needs)
+    (λ c κs. search needs) (λ c κs. search needs) (λ c. search needs) (λ c. search needs)
     (suspend-part-part-requires t)
     (λ c κs. search needs)
     (suspend-part-returns t)
