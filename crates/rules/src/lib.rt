@@ -3,11 +3,10 @@
 ghost use mathlib.Core.Path.{_≡_};
 ghost use Prim.Native.Nat.{ℕ, _<_};
 ghost use Rattle.limits.specs.Limits.{signalCount};
+ghost use Rattle.sets.specs.Sets.{only};
 ghost use Rattle.labels.specs.Labels.{labelSet};
-ghost use Rattle.esterel.specs.Sets.{only};
 ghost use Rattle.esterel.specs.Statement.{Statement};
-ghost use Rattle.esterel.specs.Traced.{loopTraced, presentTraced, tryTraced};
-ghost use Rattle.esterel.specs.Traced.{suspendTraced, heldTraced, stoppedTraced};
+ghost use Rattle.esterel.specs.Traced.{loopTraced, presentTraced, tryTraced, suspendTraced, heldTraced, stoppedTraced};
 ghost use Rattle.reaction.specs.Reactions.{reactionOf, FromOne};
 use labels::Labels;
 use reaction::Reaction;

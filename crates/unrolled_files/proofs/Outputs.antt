@@ -8,7 +8,7 @@ use Rattle.numbers.specs.Bytes.{leBytes}
 use Rattle.runs.specs.File.{lengthBytes, sequenceIn, readBackIn, whole}
 use Rattle.runs.specs.Text.{inputCut, refusal}
 use Rattle.unrolled.specs.Call.{unrolling, unrollOf}
-use Rattle.unrolled_files.specs.Output.{withSequence, output, outputOf}
+use Rattle.unrolled_outputs.specs.Output.{withSequence, output, outputOf}
 
 module _ (file buffer : List ℕ) where
   pub cut-output : whole file ≡ false → inputCut ≡ outputOf file buffer

@@ -9,7 +9,7 @@ use Rattle.limits.specs.Limits.{maxBytes, signalBytes}
 use Rattle.numbers.specs.Bytes.{leBytes, leNumber}
 use Rattle.numbers.proofs.Bytes.{length-leBytes, le-round-trip}
 use Rattle.runs.specs.File.{lengthBytes, sequenceLength, readBackAt, sequenceIn, readBackIn, words, inputsIn}
-use Rattle.unrolled_files.specs.Output.{withSequence}
+use Rattle.unrolled_outputs.specs.Output.{withSequence}
 
 module _ (file buffer : List ℕ) (n : ℕ) (fits : n ≤ length buffer) (short : n ≤ maxBytes) where
   abbrev head : List ℕ

@@ -2,7 +2,7 @@
 use Prim.Native.Nat.{ℕ}
 use mathlib.Core.List.{List}
 use Rattle.runs.specs.Text.{inputCut, refusal}
-use Rattle.unrolled_files.specs.Output.{withSequence}
+use Rattle.unrolled_outputs.specs.Output.{withSequence}
 use Rattle.unrolled_files.specs.declared.Answer.{Answer}
 use Rattle.unrolled_files.specs.declared.Answer.the-variants as answers
 

@@ -2,7 +2,7 @@
 ghost use mathlib.Core.Path.{_≡_};
 ghost use Rattle.numbers.specs.Bytes.{leBytes};
 ghost use Rattle.runs.specs.File.{lengthBytes};
-ghost use Rattle.unrolled_files.specs.Output.{outputOf};
+ghost use Rattle.unrolled_outputs.specs.Output.{outputOf};
 ghost use Rattle.unrolled_files.specs.Answers.{outputBy};
 
 pub enum Answer {

@@ -1,0 +1,1 @@
+// What the unroll program writes: definitions in specs/, no code.
