@@ -1,4 +1,4 @@
--- Each box of box_calls/specs/WrongLedgers breaks a claim of box_calls/specs/Years, by computation.
+-- Each box of box_examples/specs/WrongLedgers breaks a claim of box_calls/specs/Years, by computation.
 use Prim.Native.Nat.{ℕ, _<_}
 use native.Mathlib.Omega.{arith}
 use mathlib.Core.Path.{_≡_, refl}
