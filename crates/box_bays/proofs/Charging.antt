@@ -17,11 +17,9 @@ use Rattle.sequence.proofs.Rows.{Decides, decided, row-range}
 use Rattle.states.specs.StateRecord.{stateLength, Decoded, holds, malformed, decodeState}
 use Rattle.states.proofs.StateLaws as records
 use Rattle.answers.specs.AnswerRecord.{answerLength}
-use Rattle.completions.specs.declared.Completion.{Completion}
-use Rattle.completions.specs.declared.Completion.the-variants.{Ended, Waiting, Leaving, Wrong}
 use Rattle.reaction.specs.declared.Reaction.{Reaction}
-use Rattle.labels.specs.Labels.{labelSet}
-use Rattle.writing.specs.Written.{writtenBy, writtenFrom}
+use Rattle.writing.specs.Written.{writtenFrom}
+use Rattle.writing.proofs.Lengths.{writes}
 use Rattle.tick.specs.Tick as Tick
 use Rattle.tick.specs.Tick.{Outcome, outcome}
 use Rattle.demands.specs.Demands as demands
@@ -40,26 +38,8 @@ use Rattle.box_fields.proofs.Fields.{ledger-sized}
 use Rattle.box_bays.proofs.Ticking.{short-step, refused-step, kept-written}
 
 -- ---- an instant
-by-completion : (P : Outcome → Type 0) (r : Reaction) → ((k : Completion) → P (writtenBy k (r .emitted) (labelSet (r .labels)) (r .reactions))) → P (writtenFrom r)
-by-completion P r h = h (r .completion)
-
 pub written-0 : (r : Reaction) → demands.number (writtenFrom r) ≡ 0
-written-0 r = by-completion (λ o. demands.number o ≡ 0) r go
-  where
-    go : (k : Completion) → demands.number (writtenBy k (r .emitted) (labelSet (r .labels)) (r .reactions)) ≡ 0
-    go Ended = refl
-    go Waiting = refl
-    go (Leaving n) = refl
-    go (Wrong kind place) = refl
-
-written-sized : (r : Reaction) → length (stateAfterwards (writtenFrom r)) ≡ stateLength
-written-sized r = by-completion (λ o. length (stateAfterwards o) ≡ stateLength) r go
-  where
-    go : (k : Completion) → length (stateAfterwards (writtenBy k (r .emitted) (labelSet (r .labels)) (r .reactions))) ≡ stateLength
-    go Ended = records.state-sized 2 _
-    go Waiting = records.state-sized 1 _
-    go (Leaving n) = records.state-sized 2 _
-    go (Wrong kind place) = records.state-sized 2 _
+written-0 r = ap demands.number (writes r .is)
 
 -- ---- its litres x: 19, or the ledger is written behind the state that was written
 module _ (s : List ℕ) (x : ℕ → ℕ) where
@@ -86,7 +66,7 @@ module _ (s : List ℕ) (x : ℕ → ℕ) where
     same-ledger : slot bayLength (stretchLength - bayLength) moved ≡ ledgerIn s
     unfolding put
     same-ledger =
-        let y : length state ≡ stateLength = ap (λ (o : Outcome). length (stateAfterwards o)) w ∙ written-sized r in
+        let y : length state ≡ stateLength = ap (λ (o : Outcome). length (stateAfterwards o)) (w ∙ writes r .is) ∙ writes r .state-sized in
         put-behind stateAt stateLength state s (omega arith) y bayLength ledgerLength (omega arith)
 
     pub still-below : passes (slot bayLength (stretchLength - bayLength) (take stateAt s ++ (state ++ drop (countAt - stateAt) (drop stateAt s)))) x ≡ false

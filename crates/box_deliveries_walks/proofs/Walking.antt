@@ -1,11 +1,11 @@
 -- The litres of each farm, from a walk that asks for it or from none.
 use Prim.Native.Nat.{ℕ, zero, suc, _^_, _<_}
 use mathlib.Core.Path.{_≡_, refl, sym, ap, ap₂, _∙_, subst}
-use mathlib.Core.Bool.{Bool, true, false, not, _&&_, cond, true≢false}
+use mathlib.Core.Bool.{Bool, true, false, not, _&&_, cond, and-false, true≢false}
 use mathlib.Core.Logic.{_≢_}
 use mathlib.Core.List.{List, [], _∷_}
 use native.Mathlib.Omega.{arith}
-use native.Mathlib.Decide.{ℕ-discrete, decLt}
+use native.Mathlib.Decide.{ℕ-discrete}
 use lib.ListN.{length, getD, set, replicate, length-set, length-replicate}
 use lib.Dec.{eqb}
 use borrow.Author.Tests.{ne-eqb}
@@ -13,7 +13,7 @@ use lib.Seq.{getD-set-same, getD-set-other}
 use Rattle.limits.specs.Limits.{maxDepth, readBackPlace, signalCount}
 use Rattle.sets.specs.Sets.{member, none, empty, common, remove, below, from}
 use Rattle.sets.specs.Widths.{Lowest}
-use Rattle.sets.proofs.Members.{member-common, member-high, member-remove}
+use Rattle.sets.proofs.Members.{member-common, member-lt, member-remove}
 use Rattle.sets.proofs.Loops.{Seeking, seek, seek-on, seek-as, seek-end, seek-hit}
 use Rattle.esterel.specs.Statement.{Statement, nothing, pause, emit, exit, seq, par, loop, present, signal, try, setpause, suspend, held}
 use Rattle.esterel.specs.Reaction.{emitted, code, react, isWrong}
@@ -73,10 +73,6 @@ module _ (f c : ℕ) where
   term-most (Waiting m) readBack p h =
       declared-most readBackPlace (readBackSignals readBack) (expandBy 0 p (labelSet m)) (expand-most 0 p (labelSet m) h)
 
-and-false : (b : Bool) → (b && false) ≡ false
-and-false true = refl
-and-false false = refl
-
 pub none-capped : {n : ℕ} → n ≡ 0 → 0 ≡ cappedOf n
 none-capped h = rw h
 
@@ -97,11 +93,7 @@ module _ (t bs : List ℕ) (origin : Start) (e readBack farms : ℕ) where
     hit = seek-hit _ farms left (g .seen) signalCount f low some
 
     small : f < farmCount
-    small =
-        elim (decLt f farmCount) [
-          | yes l ↦ l
-          | no l ↦ absurd (true≢false (sym hit ∙ member-high {w = signalCount} {s = farms} f few (omega (arith, l))))
-        ]
+    small = member-lt {w = signalCount} f few hit
 
     told : LitresOf t bs origin e readBack f (r .delivered)
     told p l = ap (λ (x : Reaction). x .delivered) (w p l)

@@ -1,7 +1,7 @@
 -- A farm's total as the code has it: in single precision, exact up to the limit; and sums of totals.
 use Prim.Native.Nat.{ℕ, zero, suc, _+_, _-_, _*_, _≤_, _<_}
 use mathlib.Core.Path.{_≡_, refl, sym, ap, ap₂, _∙_, subst}
-use mathlib.Core.Bool.{Bool, true, false, not, _||_, cond, true≢false}
+use mathlib.Core.Bool.{Bool, true, false, not, cond}
 use native.Mathlib.Decide.{ℕ-discrete}
 use mathlib.Core.List.{List, _++_}
 use native.Mathlib.Omega.{arith}
@@ -16,6 +16,7 @@ use lib.Ieee.Bits.{ofBits-fits, toBits-lt}
 use lib.Ieee.Fits.{ofInt-fits, add-fits}
 use lib.Ieee.Back.{float-back-unsigned}
 use borrow.Author.Tests.{ltb-false, lt-ltb, le-ltb}
+use Rattle.sets.proofs.Booleans.{or-l, or-r, or-first, or-second}
 use Rattle.limits.specs.Limits.{litresLimit}
 use Rattle.numbers.specs.Bytes.{leBytes, numberAt}
 use Rattle.numbers.proofs.Bytes.{length-leBytes}
@@ -107,29 +108,14 @@ pub int-no-nan : (n : ℕ) → n ≤ litresLimit → T (not (isNan (ofInt binary
 int-no-nan n h = whole-no-nan (ofInt binary32 (pos n)) (int-is n h .0)
 
 -- ---- the limit
-or-l : (b c : Bool) → (b || c) ≡ false → b ≡ false
-or-l true c h = h
-or-l false c h = refl
-
-or-r : (b c : Bool) → (b || c) ≡ false → c ≡ false
-or-r true c h = absurd (true≢false h)
-or-r false c h = h
-
-or-l-true : (b c : Bool) → b ≡ true → (b || c) ≡ true
-or-l-true b c h = rw h
-
-or-r-true : (b c : Bool) → c ≡ true → (b || c) ≡ true
-or-r-true true c h = refl
-or-r-true false c h = h
-
 module _ (t x : ℕ → ℕ) where
   pub passes-not : (n : ℕ) → wouldPass n t x ≡ false → (f : ℕ) → f < n → t f + x f ≤ litresLimit
   unfolding wouldPass
   passes-not zero h f l = absurd (omega arith)
   passes-not (suc n) h f l =
       elim (ℕ-discrete f n) [
-        | yes e ↦ subst (λ (j : ℕ). t j + x j ≤ litresLimit) (sym e) (ltb-false litresLimit (t n + x n) (or-r (wouldPass n t x) (ltb litresLimit (t n + x n)) h))
-        | no e ↦ passes-not n (or-l (wouldPass n t x) (ltb litresLimit (t n + x n)) h) f (omega arith)
+        | yes e ↦ subst (λ (j : ℕ). t j + x j ≤ litresLimit) (sym e) (ltb-false litresLimit (t n + x n) (or-second (wouldPass n t x) (ltb litresLimit (t n + x n)) h))
+        | no e ↦ passes-not n (or-first (wouldPass n t x) (ltb litresLimit (t n + x n)) h) f (omega arith)
       ]
 
   pub passes-none : wouldPass 0 t x ≡ false
@@ -147,8 +133,8 @@ module _ (t x : ℕ → ℕ) where
   passes-at zero f h l = absurd (omega arith)
   passes-at (suc n) f h l =
       elim (ℕ-discrete f n) [
-        | yes e ↦ or-r-true (wouldPass n t x) (ltb litresLimit (t n + x n)) (lt-ltb litresLimit (t n + x n) (subst (λ (j : ℕ). litresLimit < t j + x j) e l))
-        | no e ↦ or-l-true (wouldPass n t x) (ltb litresLimit (t n + x n)) (passes-at n f (omega arith) l)
+        | yes e ↦ or-r (wouldPass n t x) (ltb litresLimit (t n + x n)) (lt-ltb litresLimit (t n + x n) (subst (λ (j : ℕ). litresLimit < t j + x j) e l))
+        | no e ↦ or-l (wouldPass n t x) (ltb litresLimit (t n + x n)) (passes-at n f (omega arith) l)
       ]
 
 -- ---- the ledger's total

@@ -5,17 +5,13 @@ use mathlib.Core.Path.{_≡_, refl, sym, ap, ap₂, _∙_, subst}
 use mathlib.Core.Bool.{Bool, true, false, not, _&&_, _||_}
 use mathlib.Core.List.{List}
 use Rattle.sets.specs.Sets.{member, common, Subset}
+use Rattle.sets.proofs.Booleans.{same-test}
 use Rattle.sets.proofs.Members.{member-common, ext}
 use Rattle.demands.specs.Plain.{SameOutside}
 use Rattle.demands.proofs.ReadBack.{reply-unread}
 use Rattle.box_fillings.specs.declared.Findings.{Findings}
 use Rattle.box_fillings.specs.Preview.{filled, openCode, foundIn, findings, previewBytes, answerIn, answersOf}
 use Rattle.box_previews.proofs.Gathering.{Said, Emits, Misses, Right, Shares, every-filling, emits, misses, right, shares, member-filled, within}
-
-same-true : (a b : Bool) → (a ≡ true → b ≡ true) → (b ≡ true → a ≡ true) → a ≡ b
-same-true true b f g = sym (f refl)
-same-true false true f g = g refl
-same-true false false f g = refl
 
 same-false : (a b : Bool) → (a ≡ false → b ≡ false) → (b ≡ false → a ≡ false) → a ≡ b
 same-false false b f g = sym (f refl)
@@ -27,7 +23,7 @@ module _ (x y : Findings) (there : (Says : Findings → Type 0) → Said Says �
     (back : (Says : Findings → Type 0) → Said Says → Says y → Says x) where
   same-every : x .every ≡ y .every
   same-every =
-      ext (x .every) (y .every) (λ i. same-true (member i (x .every)) (member i (y .every)) (there (Emits i) (emits i)) (back (Emits i) (emits i)))
+      ext (x .every) (y .every) (λ i. same-test (member i (x .every)) (member i (y .every)) (there (Emits i) (emits i)) (back (Emits i) (emits i)))
 
   same-some : x .some ≡ y .some
   same-some =

@@ -2,7 +2,7 @@
 use Prim.Native.Nat.{ℕ}
 use mathlib.Core.Path.{_≡_, refl, sym, ap, ap₂, _∙_, subst}
 use mathlib.Core.Logic.{_≢_, _↔_, ⊎-elim}
-use mathlib.Core.Bool.{Bool, true, false, not, _&&_, _||_, cond, true≢false, false≢true, or-false, and-true}
+use mathlib.Core.Bool.{Bool, true, false, not, _&&_, _||_, cond, and-eq-true-iff, true≢false, or-false, and-true}
 use mathlib.Core.List.{List, [], _∷_, List·Memᴰ, List·Memᴰ·head, List·Memᴰ·tail, List·Memᴰ·not-nil, List·Memᴰ·cases-cons}
 use lib.Dec.{eqb}
 use borrow.Author.Tests.{eq-eqb, eqb-true, ne-eqb}
@@ -62,15 +62,11 @@ Right x = x .wrong ≡ false
 abbrev pub Shares : (k : ℕ) → Findings → Type 0
 Shares k x = x .code ≡ k
 
-and-both : (a b : Bool) → (a && b) ≡ true → (a ≡ true) × (b ≡ true)
-and-both true b h = (refl, h)
-and-both false b h = absurd (false≢true h)
-
 pub emits : (i : ℕ) → Said (Emits i)
 unfolding both
 emits i =
     record {
-      split = λ x y h. and-both (member i (x .every)) (member i (y .every)) (sym (member-common i (x .every) (y .every)) ∙ h);
+      split = λ x y h. and-eq-true-iff (member i (x .every)) (member i (y .every)) .0 (sym (member-common i (x .every) (y .every)) ∙ h);
       merge = λ x y a b. member-common i (x .every) (y .every) ∙ ap₂ _&&_ a b;
     }
 
@@ -131,7 +127,7 @@ member-filled i input unknown f =
     member-join i (difference input unknown) f ∙ ap (λ (b : Bool). b || member i f) (member-difference i input unknown)
 
 pub within : (e unknown : ℕ) → Subset (common e unknown) unknown
-within e unknown i h = and-both (member i e) (member i unknown) (sym (member-common i e unknown) ∙ h) .1
+within e unknown i h = and-eq-true-iff (member i e) (member i unknown) .0 (sym (member-common i e unknown) ∙ h) .1
 
 module _ {input unknown input′ unknown′ : ℕ} (l : Learned input unknown input′ unknown′) where
   -- a filling of the one is a filling of the other
@@ -158,7 +154,7 @@ pub learned-one : (input unknown u : ℕ) (b : Bool) → member u unknown ≡ tr
     → Learned input unknown (cond b (insert u input) (remove u input)) (remove u unknown)
 learned-one input unknown u b h =
     record {
-      fewer = λ i e. and-both (member i unknown) (not (eqb u i)) (sym (member-remove u unknown i) ∙ e) .0;
+      fewer = λ i e. and-eq-true-iff (member i unknown) (not (eqb u i)) .0 (sym (member-remove u unknown i) ∙ e) .0;
       kept = λ i e. go i b (ne-eqb u i (λ q. clash (member u unknown) h (ap (λ (j : ℕ). member j unknown) q ∙ e)));
     }
   where

@@ -7,12 +7,11 @@ use mathlib.Core.Logic.{_≢_, _↔_}
 use mathlib.Core.Bool.{Bool, true, false, not, _&&_, true≢false, false≢true}
 use mathlib.Core.List.{List}
 use lib.Dec.{ltb}
-use borrow.Author.Tests.{eqb-false, ne-eqb, lt-ltb, ltb-true, ltb-false}
+use borrow.Author.Tests.{eqb-false, ne-eqb, lt-ltb}
 use Rattle.limits.specs.Limits.{signalCount, signalBytes}
 use Rattle.sets.specs.Sets.{member, Subset}
 use Rattle.sets.specs.Widths.{allBelow, complement}
-use Rattle.sets.proofs.Booleans.{clash}
-use Rattle.sets.proofs.Members.{member-high}
+use Rattle.sets.proofs.Members.{member-lt}
 use Rattle.sets.proofs.Widths.{difference-lt, all-lt, member-complement}
 use Rattle.sets.proofs.Words.{words-of, low-fits, member-low}
 use Rattle.numbers.specs.Bytes.{leBytes, leNumber}
@@ -29,14 +28,6 @@ member-mod w i s h = member-low w (s % 2 ^ w) (s / 2 ^ w) (low-fits w s) i h ∙
 le-mod : (n x : ℕ) → 0 < 256 ^ n → leNumber (leBytes n x) ≡ x % 256 ^ n
 le-mod n x h = ap leNumber (sym (le-low n x)) ∙ le-round-trip n (x % 256 ^ n) (mod-lt x h)
 
--- a member of a set below a width is below it
-inside : (w i s : ℕ) → s < 2 ^ w → member i s ≡ true → i < w
-inside w i s b h = go (ltb i w) refl
-  where
-    go : (x : Bool) → ltb i w ≡ x → i < w
-    go true e = ltb-true i w e
-    go false e = clash (member i s) h (member-high i b (ltb-false i w e))
-
 and-second : (a b : Bool) → (a && not b) ≡ true → b ≡ false
 and-second true true h = absurd (false≢true h)
 and-second true false h = refl
@@ -50,7 +41,7 @@ module _ (x : Findings) where
   in-every : (i : ℕ) → (member i (everyIn (previewBytes x)) ≡ true) ↔ ((i < signalCount) × (member i (x .every) ≡ true))
   in-every i = (
     λ h. let m : member i (x .every % 2 ^ signalCount) ≡ true = sym (ap (member i) every-field) ∙ h in
-        let l = inside signalCount i (x .every % 2 ^ signalCount) (low-fits signalCount (x .every)) m in
+        let l = member-lt i (low-fits signalCount (x .every)) m in
         (l, sym (member-mod signalCount i (x .every) l) ∙ m),
     λ h. ap (member i) every-field ∙ member-mod signalCount i (x .every) (h .0) ∙ h .1,
   )
@@ -68,7 +59,7 @@ module _ (x : Findings) where
   in-never : (i : ℕ) → (member i (neverIn (previewBytes x)) ≡ true) ↔ ((i < signalCount) × (member i (x .some) ≡ false))
   in-never i = (
     λ h. let m : member i never ≡ true = sym (ap (member i) never-field) ∙ h in
-        (inside signalCount i never never-lt m, and-second (ltb i signalCount) (member i (x .some)) (sym (member-complement signalCount (x .some) i) ∙ m)),
+        (member-lt i never-lt m, and-second (ltb i signalCount) (member i (x .some)) (sym (member-complement signalCount (x .some) i) ∙ m)),
     λ h. ap (member i) never-field ∙ member-complement signalCount (x .some) i
         ∙ ap₂ (λ (a b : Bool). a && not b) (lt-ltb i signalCount (h .0)) (h .1),
   )

@@ -8,7 +8,7 @@ use mathlib.Core.Bool.{Bool, true, false, not, cond, true≢false}
 use mathlib.Core.List.{List, []}
 use lib.ListN.{length}
 use lib.Dec.{leb}
-use borrow.Author.Tests.{eq-eqb, ne-eqb, eqb-true, eqb-false, le-leb, lt-leb, leb-true, leb-false}
+use borrow.Author.Tests.{eq-eqb, ne-eqb, eqb-true, eqb-false, not-false, le-leb, lt-leb, leb-true, leb-false}
 use Rattle.sequence.specs.Check.{Checked, sound, bad, checked, numberOf, checkOf}
 use Rattle.sequence.proofs.Rows.{check-by-rows, row-rank}
 use Rattle.demands.proofs.Sequence.{accepted}
@@ -77,12 +77,9 @@ bay-not-13 k (ledger totals) s l n = omega (arith, ledger-reads s totals .low)
 bay-not-13 k newYear s l n = moved-not-13 (year-moved s) n
 
 -- ---- a bay that is not there for a call
-not-true : (b : Bool) → not b ≡ false → b ≡ true
-not-true true h = refl
-not-true false h = absurd (true≢false h)
 
 is-empty : (s : List ℕ) → (not (isEmpty s) ≡ false) ↔ (lengthIn s ≡ 0)
-is-empty s = (λ h. eqb-true (lengthIn s) 0 (not-true (isEmpty s) h), λ h. rw (eq-eqb (lengthIn s) 0 h))
+is-empty s = (λ h. eqb-true (lengthIn s) 0 (not-false (isEmpty s) h), λ h. rw (eq-eqb (lengthIn s) 0 h))
 
 not-there : (c : Call) (s : List ℕ) → (isFor c s ≡ false) ↔ NotThere c s
 not-there (admit t) s = (eqb-false (lengthIn s) 0, ne-eqb (lengthIn s) 0)

@@ -7,8 +7,7 @@ use mathlib.Core.Path.{_≡_, refl, sym, ap, ap₂, _∙_}
 use mathlib.Core.Logic.{_≢_}
 use mathlib.Core.Bool.{Bool, true, false, _&&_, cond}
 use mathlib.Core.List.{List, [], _∷_}
-use lib.ListN.{length, drop, length-drop}
-use lib.Seq.{length-take-le}
+use lib.ListN.{length}
 use lib.Dec.{eqb}
 use borrow.Author.Tests.{eq-eqb, ne-eqb}
 use Rattle.limits.specs.Limits.{numberBytes}
@@ -41,10 +40,7 @@ use Rattle.box_stretches.specs.Called.{Called, called, number, memoryAfter, len
 use Rattle.box_stretches.specs.Stretch.{stateAt, countAt, bayLength, stretchLength, sequenceIn, readBackIn, stateIn, lastNumberIn, ledgerIn, withLedger}
 use Rattle.box_stretches.specs.BayCalls.{stateKept, delivering, charged, recorded, bayStepOf, bayChargedOf, bayTickOf}
 use Rattle.box_calls.specs.BayRuns.{paperBuffer}
-use Rattle.box_fields.proofs.Fields.{ledger-sized}
-
-pub state-sized : (s : List ℕ) → length s ≡ stretchLength → length (stateIn s) ≡ stateLength
-state-sized s z = length-take-le stateLength (drop stateAt s) (omega (arith, length-drop stateAt s))
+use Rattle.box_fields.proofs.Fields.{ledger-sized, state-sized}
 
 -- ---- the rows of a tick come before 13 and 19
 pub tick-range : {sequence : List ℕ} {readBack : ℕ} {state answer : List ℕ} (k : ℕ) → TickRow sequence readBack state answer k → rank k ≤ rank 12

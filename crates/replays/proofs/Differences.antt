@@ -4,7 +4,7 @@ use native.Mathlib.Omega.{arith}
 use native.Mathlib.Decide.{decLt}
 use mathlib.Core.Path.{_≡_, refl, sym, ap, _∙_, subst}
 use mathlib.Core.Logic.{_↔_}
-use mathlib.Core.Bool.{Bool, true, false, _&&_, cond, false≢true}
+use mathlib.Core.Bool.{Bool, true, false, cond, and-eq-true-iff, false≢true}
 use mathlib.Core.Option.{Option, some, Option·none-ne-some}
 use mathlib.Core.List.{List, [], _∷_}
 use lib.ListN.{length}
@@ -14,9 +14,6 @@ use Rattle.replays.specs.Replay.{same, firstDifference}
 use Rattle.replays.specs.Claims.{SameAt, DiffersFirst}
 
 -- ---- two records
-both : (a b : Bool) → (a && b) ≡ true → (a ≡ true) × (b ≡ true)
-both true b h = (refl, h)
-both false b h = absurd (false≢true h)
 
 pub same-to : (x y : List ℕ) → same x y ≡ true → x ≡ y
 unfolding same
@@ -24,7 +21,7 @@ same-to [] [] h = refl
 same-to [] (b ∷ y) h = absurd (false≢true h)
 same-to (a ∷ x) [] h = absurd (false≢true h)
 same-to (a ∷ x) (b ∷ y) h =
-    let s = both (eqb a b) (same x y) h in
+    let s = and-eq-true-iff (eqb a b) (same x y) .0 h in
     let e = eqb-true a b (s .0) in
     let f = same-to x y (s .1) in
     rw (e, f)

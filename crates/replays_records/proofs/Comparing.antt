@@ -1,16 +1,16 @@
 -- The record that an instant leaves, and one law for each return of the code that says where the machine stands.
-use Prim.Native.Nat.{ℕ, _+_}
+use Prim.Native.Nat.{ℕ}
 use mathlib.Core.Path.{_≡_, refl, sym, ap, _∙_, subst}
 use mathlib.Core.List.{List}
 use lib.ListN.{length}
-use Rattle.sets.specs.Sets.{none}
 use Rattle.labels.specs.Labels.{labelSet}
 use Rattle.labels.specs.declared.Labels.{Labels}
 use Rattle.reaction.specs.declared.Reaction.{Reaction}
 use Rattle.completions.specs.declared.Completion.{Completion}
 use Rattle.completions.specs.declared.Completion.the-variants.{Ended, Waiting, Leaving, Wrong}
 use Rattle.validity.specs.Activity.{Ranked, Masked}
-use Rattle.writing.specs.Written.{writtenBy, writtenFrom}
+use Rattle.writing.specs.Written.{writtenFrom}
+use Rattle.writing.proofs.Lengths.{writes}
 use Rattle.numbers.specs.Bytes.{replaced}
 use Rattle.numbers.proofs.Writing.{replaced-by}
 use Rattle.states.proofs.StateLaws.{state-sized}
@@ -24,16 +24,11 @@ use Rattle.replays.proofs.Recordings.{Sized}
 use Rattle.replays_records.specs.Comparing.{RankedAfter, StandsAfter}
 
 -- ---- the record that an instant leaves
-written-sized : (c : Completion) (o L m : ℕ) → Sized (writtenBy c o L m)
-written-sized Ended o L m = (state-sized 2 none, answer-sized 0 0 0 o m)
-written-sized Waiting o L m = (state-sized 1 L, answer-sized 1 0 0 o m)
-written-sized (Leaving n) o L m = (state-sized 2 none, answer-sized (n + 1) 0 0 o m)
-written-sized (Wrong kind place) o L m = (state-sized 2 none, answer-sized 255 kind place 0 m)
-
 pub record-made : (n e : ℕ) (i : Reaction) (k : ℕ) (state answer : List ℕ) → outcome k state answer ≡ writtenFrom i
     → (room made : List ℕ) → length room ≡ recordLength → made ≡ replaced room (recordOf n e answer state) → made ≡ recordFrom n e (writtenFrom i)
 record-made n e i k state answer w room made l m =
-    let z : Sized (outcome k state answer) = subst Sized (sym w) (written-sized (i .completion) (i .emitted) (labelSet (i .labels)) (i .reactions)) in
+    let x = writes i in
+    let z : Sized (outcome k state answer) = subst Sized (sym (w ∙ x .is)) (x .state-sized, x .answer-sized) in
     m ∙ replaced-by recordLength room (recordOf n e answer state) (record-sized n e answer state (z .1) (z .0)) l
     ∙ ap (recordFrom n e) w
 

@@ -1,7 +1,7 @@
 -- A mask is made label by label, each at its noted rank.
 use Prim.Native.Nat.{ℕ, _^_, _<_, _≤_}
-use mathlib.Core.Path.{_≡_, refl, sym, ap, ap₂, _∙_, subst}
-use mathlib.Core.Bool.{Bool, true, false, not, _&&_, _||_, cond, and-eq-true-iff}
+use mathlib.Core.Path.{_≡_, sym, ap, ap₂, _∙_, subst}
+use mathlib.Core.Bool.{true, not, _&&_, _||_, cond, and-true, and-eq-true-iff}
 use mathlib.Core.List.{List}
 use native.Mathlib.Omega.{arith}
 use native.Mathlib.Decide.{decLt}
@@ -15,7 +15,7 @@ use Rattle.sets.proofs.Members.{member-join, member-high, member-only, member-r
 use Rattle.sets.proofs.Algebra.{join-none-l, join-none-r, join-assoc}
 use Rattle.esterel.specs.Statement.{Statement}
 use Rattle.esterel.specs.LabelTests.{pauses, distinct}
-use Rattle.esterel.specs.Ranks.{pauseCount, mask, rank}
+use Rattle.esterel.specs.Ranks.{pauseCount, mask}
 use Rattle.theory.proofs.LabelTests.{distinct-is}
 use Rattle.theory.proofs.Ranks.{mask-none, mask-join, mask-only, rank-lt}
 use Rattle.theory.proofs.Counts.{few-pauses}
@@ -31,10 +31,6 @@ with-others l s h =
     go : (i : ℕ) → Tested (eqb l i) → (eqb l i || (member i s && not (eqb l i))) ≡ member i s
     go i (Tested.yes e) = rw e (sym (ap (λ (k : ℕ). member k s) (sym (eqb-true l i e)) ∙ h))
     go i (Tested.no e) = rw e (and-true (member i s))
-      where
-        and-true : (b : Bool) → (b && true) ≡ b
-        and-true true = refl
-        and-true false = refl
 
 -- the labels left, and what their ranks add to the mask
 pub record Ranking (notes : List ℕ) (L left m : ℕ) : Type 0 where
