@@ -100,6 +100,7 @@ fn read(
     if is_deep(depth) {
         return 6 * layout::ROW_UNIT;
     }
+    // asked before the first call of `two`: behind it they would keep `first` from being inlined, which costs a frame
     let choice = is_choice(b);
     let declaring = declares(b);
     if b < 6 {
