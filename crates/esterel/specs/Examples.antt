@@ -164,17 +164,28 @@ resumed : (resume 0 three 4 0 ≡ Instant.instant (gives 0 ended 0 (par nothing 
 unfolding expandBy pauseCount below from reactBy errorsBy reactionsBy member none only join insert remove
 resumed = (refl, refl, refl, refl, refl, refl)
 
+-- The second side of a parallel has ended too where none of its pauses is active.
+second-side : resume 0 (par (pause 0) (loop 2 (pause 1))) 1 0 ≡ Instant.instant (gives 0 ended 0 (par nothing nothing)) Option.none 3
+unfolding expandBy pauseCount below from reactBy errorsBy reactionsBy member none only join insert remove
+second-side = refl
+
+-- A fresh suspend reacts as its part, in the same present set.
+fresh-suspend : react (suspend 0 (present 1 (emit 2 pure) (pause 3))) 2 ≡ gives 4 ended 0 nothing
+unfolding reactBy member none only join insert remove
+fresh-suspend = refl
+
 -- of two wrong sides the first is named
 both-wrong : resume 0 (par (seq (pause 0) (loop 4 nothing)) (seq (pause 1) (loop 9 nothing))) 3 0
     ≡ Instant.instant (gives 0 wrong 0 (par nothing nothing)) (some (instantaneous 4)) 9
 unfolding expandBy pauseCount below from reactBy errorsBy reactionsBy member none only join insert remove
 both-wrong = refl
 
--- the pauses of the parallel are compatible, those of the sequence are not
+-- the pauses of the parallel are compatible, those of the sequence and of a test, also within a suspend, are not
 together : (compatible 0 three 6 ≡ true) × (compatible 0 three 5 ≡ false) × (compatible 0 three 3 ≡ false)
     × (compatible 0 (present 0 (pause 1) (pause 2)) 3 ≡ false) × (compatible 0 (present 0 (pause 1) (pause 2)) 2 ≡ true)
+    × (compatible 0 (suspend 0 (present 0 (pause 1) (pause 2))) 3 ≡ false)
 unfolding compatible pauseCount below from none
-together = (refl, refl, refl, refl, refl)
+together = (refl, refl, refl, refl, refl, refl)
 
 -- ---- suspend (02, item 1)
 -- code, emitted set and labels of an instant
