@@ -5,12 +5,11 @@ ghost use lib.ListN.{length};
 ghost use Rattle.box_stretches.specs.Called.{called};
 ghost use Rattle.box_stretches.specs.Stretch.{stretchLength};
 ghost use Rattle.box_bays_moves.specs.Moves.{bayMovedOf};
+use box_bays_positions::Naming;
 
 pub enum Moving {
     Release,
-    Save(u32),
-    Restore(u32),
-    Forget(u32),
+    Named(Naming, u32),
 }
 
 pub fn moved(stretch: &mut [u8], call: Moving) -> u8
@@ -19,8 +18,6 @@ pub fn moved(stretch: &mut [u8], call: Moving) -> u8
 {
     match call {
         Moving::Release => box_bays_filling::release(stretch),
-        Moving::Save(name) => box_bays_positions::save(stretch, name),
-        Moving::Restore(name) => box_bays_positions::restore(stretch, name),
-        Moving::Forget(name) => box_bays_positions::forget(stretch, name),
+        Moving::Named(naming, name) => box_bays_positions::named(stretch, naming, name),
     }
 }

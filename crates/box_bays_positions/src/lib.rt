@@ -2,18 +2,27 @@
 ghost use mathlib.Core.Path.{_≡_};
 ghost use mathlib.Core.List.{[]};
 ghost use lib.ListN.{length};
+ghost use Rattle.box_positions.specs.Table.{placeOf, labelsFound};
 ghost use Rattle.box_stretches.specs.Called.{called};
-ghost use Rattle.box_stretches.specs.Stretch.{stretchLength};
-ghost use Rattle.box_stretches.specs.BayCalls.{baySaveOf, bayRestoreOf, bayForgetOf};
+ghost use Rattle.box_stretches.specs.Stretch.{stretchLength, positionsIn};
+ghost use Rattle.box_stretches.specs.BayCalls.{baySaveOf, restored};
+ghost use Rattle.box_bays_positions.specs.Names.{bayNamedOf};
 use box_bays_fields::BAY_LENGTH;
 use box_bays_fields::COUNT_AT;
 use box_bays_fields::POSITIONS_AT;
 use box_bays_fields::STATE_AT;
 use limits::MAX_POSITIONS;
 
+// What is done with a name.
+pub enum Naming {
+    Save,
+    Restore,
+    Forget,
+}
+
 // The labels of a waiting machine, saved under a name.
-pub fn save(stretch: &mut [u8], name: u32) -> u8
-    requires { ⌜ length (now stretch) ≡ stretchLength ⌝ }
+fn save(stretch: &mut [u8], known: usize, name: u32) -> u8
+    requires { ⌜ (length (now stretch) ≡ stretchLength) × (known ≡ placeOf name (positionsIn (now stretch))) ⌝ }
     ensures { λ r. ⌜ called r (now (stretch .exit)) [] ≡ baySaveOf (now (stretch .entry)) name ⌝ }
 {
     let held = box_bays_fields::state(stretch);
@@ -21,28 +30,36 @@ pub fn save(stretch: &mut [u8], name: u32) -> u8
         return 15;
     }
     let labels = states::labels(held);
-    box_positions_table::save(&mut stretch[POSITIONS_AT..BAY_LENGTH], name, labels)
+    box_positions_table::save(&mut stretch[POSITIONS_AT..BAY_LENGTH], known, name, labels)
 }
 
-// The machine waits at the labels saved under a name.
-pub fn restore(stretch: &mut [u8], name: u32) -> u8
+// The machine waits at the labels saved in an entry.
+fn restore(stretch: &mut [u8], known: usize) -> u8
     requires { ⌜ length (now stretch) ≡ stretchLength ⌝ }
-    ensures { λ r. ⌜ called r (now (stretch .exit)) [] ≡ bayRestoreOf (now (stretch .entry)) name ⌝ }
+    ensures { λ r. ⌜ called r (now (stretch .exit)) []
+        ≡ restored (now (stretch .entry)) (labelsFound known (positionsIn (now (stretch .entry)))) ⌝ }
 {
-    let saved = box_bays_fields::table(stretch);
-    let i = box_positions_table::place_of(saved, name);
-    if MAX_POSITIONS <= i {
+    if MAX_POSITIONS <= known {
         return 15;
     }
-    let labels = box_positions_table::saved_labels(saved, i);
+    let saved = box_bays_fields::table(stretch);
+    let labels = box_positions_table::saved_labels(saved, known);
     states::write_state(&mut stretch[STATE_AT..COUNT_AT], states::WAITING, labels);
     0
 }
 
-// A saved name is given up.
-pub fn forget(stretch: &mut [u8], name: u32) -> u8
+// The three calls look a name up by one search, which keeps the code small.
+pub fn named(stretch: &mut [u8], call: Naming, name: u32) -> u8
     requires { ⌜ length (now stretch) ≡ stretchLength ⌝ }
-    ensures { λ r. ⌜ called r (now (stretch .exit)) [] ≡ bayForgetOf (now (stretch .entry)) name ⌝ }
+    ensures { λ r. ⌜ called r (now (stretch .exit)) [] ≡ bayNamedOf call name (now (stretch .entry)) ⌝ }
 {
-    box_positions_table::forget(&mut stretch[POSITIONS_AT..BAY_LENGTH], name)
+    let known = box_positions_table::place_of(box_bays_fields::table(stretch), name);
+    match call {
+        Naming::Save => save(stretch, known, name),
+        Naming::Restore => restore(stretch, known),
+        Naming::Forget => box_positions_table::forget(
+            &mut stretch[POSITIONS_AT..BAY_LENGTH],
+            known,
+        ),
+    }
 }

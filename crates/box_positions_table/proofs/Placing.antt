@@ -7,7 +7,7 @@ use mathlib.Core.Logic.{_≢_}
 use mathlib.Core.List.{List, _++_}
 use lib.ListN.{length, take, drop, length-drop}
 use lib.Seq.{sets, length-take-le}
-use lib.Dec.{eqb}
+use lib.Dec.{eqb, ltb}
 use borrow.Author.Tests.{eq-eqb, ne-eqb, lt-ltb, le-ltb}
 use Rattle.limits.specs.Limits.{maxPositions, nameBytes}
 use Rattle.numbers.specs.Bytes.{leBytes, replaced}
@@ -17,7 +17,7 @@ use Rattle.states.specs.StateRecord.{stateLength, stateRecord}
 use Rattle.states.proofs.StateLaws.{state-sized}
 use Rattle.box_parts.specs.Parts.{slot, put, zeros}
 use Rattle.box_parts.proofs.Parts.{length-put, stored, put-next}
-use Rattle.box_positions.specs.Table.{entryLength, tableLength, keyIn, place, placeOf, placeFor, written, cleared, kept, saveOf, forgetOf}
+use Rattle.box_positions.specs.Table.{entryLength, tableLength, keyIn, place, placeOf, placeFor, written, cleared, kept, saveOf}
 
 place-step : (n key : ℕ) (t : List ℕ) → 0 < n → place n key t ≡ cond (eqb (keyIn (n - 1) t) key) (n - 1) (place (n - 1) key t)
 unfolding place
@@ -36,31 +36,31 @@ module _ (n key : ℕ) (t : List ℕ) (i : ℕ) (inv : place n key t ≡ place i
   nowhere h = let e : i ≡ 0 = omega arith in sym (inv ∙ ap (λ (m : ℕ). place m key t) e)
 
 -- ---- the place of a name, or a free one
-module _ (name : ℕ) (t : List ℕ) where
-  module _ {k : ℕ} (w : k ≡ placeOf name t) where
-    pub known-place : k < maxPositions → k ≡ placeFor name t
-    known-place l = rw (lt-ltb (placeOf name t) maxPositions (rw w at l)) w
+module _ (t : List ℕ) {k : ℕ} where
+  pub known-place : k < maxPositions → k ≡ cond (ltb k maxPositions) k (place maxPositions 0 t)
+  known-place l = rw (lt-ltb k maxPositions l)
 
-    pub free-place : maxPositions ≤ k → {r : ℕ} → r ≡ place maxPositions 0 t → r ≡ placeFor name t
-    free-place l e = rw (le-ltb (placeOf name t) maxPositions (rw w at l)) e
+  pub free-place : maxPositions ≤ k → {r : ℕ} → r ≡ place maxPositions 0 t → r ≡ cond (ltb k maxPositions) k (place maxPositions 0 t)
+  free-place l e = rw (le-ltb k maxPositions l) e
 
-  module _ {i : ℕ} (e : i ≡ placeFor name t) (labels : ℕ) where
-    pub saved : i < maxPositions → {t′ : List ℕ} → t′ ≡ written i name labels t → kept 0 t′ ≡ saveOf name labels t
-    unfolding saveOf
-    saved l w = rw (lt-ltb (placeFor name t) maxPositions (rw e at l)) (ap (kept 0) (w ∙ ap (λ (j : ℕ). written j name labels t) e))
+module _ (name : ℕ) (t : List ℕ) {k i : ℕ} (w : k ≡ placeOf name t) (e : i ≡ cond (ltb k maxPositions) k (place maxPositions 0 t)) (labels : ℕ) where
+  for-name : i ≡ placeFor name t
+  for-name = e ∙ ap (λ (j : ℕ). cond (ltb j maxPositions) j (place maxPositions 0 t)) w
 
-    pub not-saved : maxPositions ≤ i → kept 16 t ≡ saveOf name labels t
-    unfolding saveOf
-    not-saved l = rw (le-ltb (placeFor name t) maxPositions (rw e at l))
+  pub saved : i < maxPositions → {t′ : List ℕ} → t′ ≡ written i name labels t → kept 0 t′ ≡ saveOf name labels t
+  unfolding saveOf
+  saved l h = rw (lt-ltb (placeFor name t) maxPositions (rw for-name at l)) (ap (kept 0) (h ∙ ap (λ (j : ℕ). written j name labels t) for-name))
 
-  module _ {i : ℕ} (e : i ≡ placeOf name t) where
-    pub forgotten : i < maxPositions → {t′ : List ℕ} → t′ ≡ cleared i t → kept 0 t′ ≡ forgetOf name t
-    unfolding forgetOf
-    forgotten l w = rw (lt-ltb (placeOf name t) maxPositions (rw e at l)) (ap (kept 0) (w ∙ ap (λ (j : ℕ). cleared j t) e))
+  pub not-saved : maxPositions ≤ i → kept 16 t ≡ saveOf name labels t
+  unfolding saveOf
+  not-saved l = rw (le-ltb (placeFor name t) maxPositions (rw for-name at l))
 
-    pub not-forgotten : maxPositions ≤ i → kept 15 t ≡ forgetOf name t
-    unfolding forgetOf
-    not-forgotten l = rw (le-ltb (placeOf name t) maxPositions (rw e at l))
+module _ (i : ℕ) (t : List ℕ) where
+  pub forgotten : i < maxPositions → {t′ : List ℕ} → t′ ≡ cleared i t → kept 0 t′ ≡ cond (ltb i maxPositions) (kept 0 (cleared i t)) (kept 15 t)
+  forgotten l w = rw (lt-ltb i maxPositions l) (ap (kept 0) w)
+
+  pub not-forgotten : maxPositions ≤ i → kept 15 t ≡ cond (ltb i maxPositions) (kept 0 (cleared i t)) (kept 15 t)
+  not-forgotten l = rw (le-ltb i maxPositions l)
 
 -- ---- an entry is written, or cleared
 module _ (i : ℕ) (t : List ℕ) (z : length t ≡ tableLength) (l : i < maxPositions) where

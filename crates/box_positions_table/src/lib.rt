@@ -1,10 +1,12 @@
 // The table of a bay's positions (02, item 9): a name saved, looked up and forgotten.
 ghost use mathlib.Core.Path.{_≡_};
+ghost use mathlib.Core.Bool.{cond};
 ghost use Prim.Native.Nat.{_<_};
 ghost use lib.ListN.{length};
+ghost use lib.Dec.{ltb};
 ghost use Rattle.limits.specs.Limits.{maxPositions};
 ghost use Rattle.labels.specs.Labels.{labelSet};
-ghost use Rattle.box_positions.specs.Table.{tableLength, place, placeOf, placeFor, savedLabels, written, kept, saveOf, forgetOf};
+ghost use Rattle.box_positions.specs.Table.{tableLength, place, placeOf, savedLabels, written, cleared, kept, saveOf};
 use labels::Labels;
 use limits::MAX_POSITIONS;
 use limits::NAME_BYTES;
@@ -40,11 +42,10 @@ pub fn place_of(table: &[u8], name: u32) -> usize
     place(table, name as u64 + USED)
 }
 
-// Where a known name is, else a free entry, or 16.
-fn place_for(table: &[u8], name: u32) -> usize
-    ensures { λ r. ⌜ r ≡ placeFor name (now (table .entry)) ⌝ }
+// The entry where a name is known, else a free one, or 16.
+fn place_for(table: &[u8], known: usize) -> usize
+    ensures { λ r. ⌜ r ≡ cond (ltb known maxPositions) known (place maxPositions 0 (now (table .entry))) ⌝ }
 {
-    let known = place_of(table, name);
     if known < MAX_POSITIONS {
         return known;
     }
@@ -69,11 +70,11 @@ fn write(table: &mut [u8], i: usize, name: u32, labels: Labels)
     states::write_state(&mut table[from..end], 1, labels);
 }
 
-pub fn save(table: &mut [u8], name: u32, labels: Labels) -> u8
-    requires { ⌜ length (now table) ≡ tableLength ⌝ }
+pub fn save(table: &mut [u8], known: usize, name: u32, labels: Labels) -> u8
+    requires { ⌜ (length (now table) ≡ tableLength) × (known ≡ placeOf name (now table)) ⌝ }
     ensures { λ r. ⌜ kept r (now (table .exit)) ≡ saveOf name (labelSet labels) (now (table .entry)) ⌝ }
 {
-    let i = place_for(table, name);
+    let i = place_for(table, known);
     if i < MAX_POSITIONS {
         write(table, i, name, labels);
         return 0;
@@ -81,13 +82,14 @@ pub fn save(table: &mut [u8], name: u32, labels: Labels) -> u8
     16
 }
 
-pub fn forget(table: &mut [u8], name: u32) -> u8
+// The name of an entry is forgotten; 15 if it has none.
+pub fn forget(table: &mut [u8], known: usize) -> u8
     requires { ⌜ length (now table) ≡ tableLength ⌝ }
-    ensures { λ r. ⌜ kept r (now (table .exit)) ≡ forgetOf name (now (table .entry)) ⌝ }
+    ensures { λ r. ⌜ kept r (now (table .exit))
+        ≡ cond (ltb known maxPositions) (kept 0 (cleared known (now (table .entry)))) (kept 15 (now (table .entry))) ⌝ }
 {
-    let i = place_of(table, name);
-    if i < MAX_POSITIONS {
-        numbers::put_le(table, i * ENTRY_LENGTH, ENTRY_LENGTH, 0);
+    if known < MAX_POSITIONS {
+        numbers::put_le(table, known * ENTRY_LENGTH, ENTRY_LENGTH, 0);
         return 0;
     }
     15

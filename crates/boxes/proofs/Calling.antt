@@ -15,9 +15,10 @@ use Rattle.box_stretches.specs.Called.{called}
 use Rattle.box_stretches.specs.Stretch.{stretchLength, Terms}
 use Rattle.box_stretches.specs.BayCalls.{bayAdmitOf}
 use Rattle.box_calls.specs.Box.{bayCount, boxLength, stretchOf, present, Call, admit, buffers, bayCall, isFor, inBox, callOf}
+use Rattle.box_bays_positions.specs.declared.Naming.the-variants.{Save, Restore, Forget}
 use Rattle.box_bays_moves.specs.Moves.{bayMovedOf}
 use Rattle.box_bays_moves.specs.declared.Moving.{Moving}
-use Rattle.box_bays_moves.specs.declared.Moving.the-variants.{Release, Save, Restore, Forget}
+use Rattle.box_bays_moves.specs.declared.Moving.the-variants.{Release, Named}
 use Rattle.box_entry.specs.Entries.{fits, entryOf}
 use Rattle.box_entry.proofs.Entering.{entered}
 use Rattle.boxes.specs.Moving.{callBy}
@@ -91,27 +92,27 @@ module _ (box : List ℕ) (bay : ℕ) (m : Moving) where
     where
       go : (m : Moving) → isFor (callBy m) s ≡ fits false s
       go Release = refl
-      go (Save name) = refl
-      go (Restore name) = refl
-      go (Forget name) = refl
+      go (Named Save name) = refl
+      go (Named Restore name) = refl
+      go (Named Forget name) = refl
 
   on-stretch : (k : ℕ) (s : List ℕ) → bayMovedOf m s ≡ bayCall k (callBy m) s
   on-stretch k s = go m
     where
       go : (m : Moving) → bayMovedOf m s ≡ bayCall k (callBy m) s
       go Release = refl
-      go (Save name) = refl
-      go (Restore name) = refl
-      go (Forget name) = refl
+      go (Named Save name) = refl
+      go (Named Restore name) = refl
+      go (Named Forget name) = refl
 
   lends-none : buffers (callBy m) ≡ []
   lends-none = go m
     where
       go : (m : Moving) → buffers (callBy m) ≡ []
       go Release = refl
-      go (Save name) = refl
-      go (Restore name) = refl
-      go (Forget name) = refl
+      go (Named Save name) = refl
+      go (Named Restore name) = refl
+      go (Named Forget name) = refl
 
   pub move-refused : {n : ℕ} → n ≡ entryOf box bay (fits false) → n ≢ 0 → called n box [] ≡ callOf box bay (callBy m)
   move-refused {n} h z =

@@ -1,10 +1,11 @@
 -- The call on a box that a value of the code names.
 use Rattle.box_calls.specs.Box.{Call, release, save, restore, forget}
+use Rattle.box_bays_positions.specs.declared.Naming.the-variants.{Save, Restore, Forget}
 use Rattle.box_bays_moves.specs.declared.Moving.{Moving}
-use Rattle.box_bays_moves.specs.declared.Moving.the-variants.{Release, Save, Restore, Forget}
+use Rattle.box_bays_moves.specs.declared.Moving.the-variants.{Release, Named}
 
 abbrev pub callBy : Moving → Call
 callBy Release = release
-callBy (Save name) = save name
-callBy (Restore name) = restore name
-callBy (Forget name) = forget name
+callBy (Named Save name) = save name
+callBy (Named Restore name) = restore name
+callBy (Named Forget name) = forget name

@@ -10,6 +10,7 @@ ghost use Rattle.box_calls.specs.Box.{release, tick, admit, save, restore, forg
 ghost use Rattle.boxes.specs.Moving.{callBy};
 use box_bays_fields::STRETCH_LENGTH;
 use box_bays_moves::Moving;
+use box_bays_positions::Naming;
 use box_entry::BAY_COUNT;
 
 pub fn tick(memory: &mut [u8], bay: u32, input: u32, answer: &mut [u8], trace: &mut [u8]) -> u8
@@ -82,19 +83,19 @@ pub fn admit(memory: &mut [u8], bay: u32, sequence: &[u8], read_back: u32, servi
 pub fn save(memory: &mut [u8], bay: u32, name: u32) -> u8
     ensures { λ r. ⌜ called r (now (memory .exit)) [] ≡ callOf (now (memory .entry)) bay (save name) ⌝ }
 {
-    moved(memory, bay, Moving::Save(name))
+    moved(memory, bay, Moving::Named(Naming::Save, name))
 }
 
 pub fn restore(memory: &mut [u8], bay: u32, name: u32) -> u8
     ensures { λ r. ⌜ called r (now (memory .exit)) [] ≡ callOf (now (memory .entry)) bay (restore name) ⌝ }
 {
-    moved(memory, bay, Moving::Restore(name))
+    moved(memory, bay, Moving::Named(Naming::Restore, name))
 }
 
 pub fn forget(memory: &mut [u8], bay: u32, name: u32) -> u8
     ensures { λ r. ⌜ called r (now (memory .exit)) [] ≡ callOf (now (memory .entry)) bay (forget name) ⌝ }
 {
-    moved(memory, bay, Moving::Forget(name))
+    moved(memory, bay, Moving::Named(Naming::Forget, name))
 }
 
 pub fn service(memory: &[u8], bay: u32, trace: &[u8], view: &mut [u8]) -> u8

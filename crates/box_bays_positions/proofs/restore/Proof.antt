@@ -3,17 +3,11 @@ use Rattle.box_bays_positions.proofs.Positioning.{unknown-name, back-at
 use Rattle.box_bays_positions.proofs.restore.Statement.{statement}
 use Rattle.box_bays_positions.proofs.restore.Tie as tie
 
+returns : tie.Need-returns
+returns c = unknown-name _ (c .if1 .taken)
+
 table-requires : tie.Need-table-requires
 table-requires c κs = search needs
-
-place-of-requires : tie.Need-place-of-requires
-place-of-requires c κs = search needs
-
-same-length : tie.Need-same-length
-same-length c = search needs
-
-returns : tie.Need-returns
-returns c = unknown-name _ _ (c .before .before .table .ensures) (c .before .place-of .ensures) (c .if1 .taken)
 
 saved-labels-requires : tie.Need-saved-labels-requires
 saved-labels-requires c κs = search needs
@@ -30,29 +24,28 @@ part-write-state-end c = search needs
 write-state-requires : tie.Need-write-state-requires
 write-state-requires c κs = search needs
 
-same-length-2 : tie.Need-same-length-2
-same-length-2 c = search needs
+same-length : tie.Need-same-length
+same-length c = search needs
 
 returns-2 : tie.Need-returns-2
 returns-2 c =
     let writing = c .before .before in
-    let tested = writing .before .before .before in
-    let called = tested .before .before .before .before .before in
-    back-at (called .args .stretch .now) _ (tested .before .before .table .ensures) (tested .before .place-of .ensures) (tested .if1 .left)
-    (writing .before .before .saved-labels .ensures) (called .pre) (writing .write-state .ensures)
+    let read = writing .before .before in
+    let tested = read .before .before .before in
+    let called = tested .before .before in
+    back-at (called .args .stretch .now) (read .before .table .ensures) (tested .if1 .left) (read .saved-labels .ensures) (called .pre)
+    (writing .write-state .ensures)
 
 pub restore-spec : {M : Type 1} → statement M
 restore-spec =
     tie.close
     (tie.spec
-    table-requires
-    place-of-requires
-    same-length
     returns
+    table-requires
     saved-labels-requires
     sub-write-state
     part-write-state-start
     part-write-state-end
     write-state-requires
-    same-length-2
+    same-length
     returns-2)

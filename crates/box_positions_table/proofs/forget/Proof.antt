@@ -4,9 +4,6 @@ use Rattle.box_positions_table.proofs.Placing.{forgotten, not-forgotten
 use Rattle.box_positions_table.proofs.forget.Statement.{statement}
 use Rattle.box_positions_table.proofs.forget.Tie as tie
 
-place-of-requires : tie.Need-place-of-requires
-place-of-requires c κs = search needs
-
 mul-put-le : tie.Need-mul-put-le
 mul-put-le c = search needs
 
@@ -20,24 +17,12 @@ returns : tie.Need-returns
 returns c =
     let put = c .before .before in
     let tested = put .before .before in
-    let called = tested .before .before .before .before in
+    let called = tested .before .before in
     let l = tested .if1 .taken in
-    forgotten _ _ (tested .before .place-of .ensures) l (put .put-le .ensures ∙ entry-cleared _ (called .args .table .now) (called .pre) l)
-
-same-length-2 : tie.Need-same-length-2
-same-length-2 c = search needs
+    forgotten _ _ l (put .put-le .ensures ∙ entry-cleared _ (called .args .table .now) (called .pre) l)
 
 returns-2 : tie.Need-returns-2
-returns-2 c = not-forgotten _ _ (c .before .place-of .ensures) (c .if1 .left)
+returns-2 c = not-forgotten _ _ (c .if1 .left)
 
 pub forget-spec : {M : Type 1} → statement M
-forget-spec =
-    tie.close
-    (tie.spec
-    place-of-requires
-    mul-put-le
-    put-le-requires
-    same-length
-    returns
-    same-length-2
-    returns-2)
+forget-spec = tie.close (tie.spec mul-put-le put-le-requires same-length returns returns-2)

@@ -3,17 +3,14 @@ use Rattle.box_positions_table.proofs.Placing.{known-place, free-place}
 use Rattle.box_positions_table.proofs.place_for.Statement.{statement}
 use Rattle.box_positions_table.proofs.place_for.Tie as tie
 
-place-of-requires : tie.Need-place-of-requires
-place-of-requires c κs = search needs
-
 returns : tie.Need-returns
-returns c = known-place _ _ (c .before .place-of .ensures) (c .if1 .taken)
+returns c = known-place _ (c .if1 .taken)
 
 place-requires : tie.Need-place-requires
 place-requires c κs = search needs
 
 returns-2 : tie.Need-returns-2
-returns-2 c = free-place _ _ (c .before .before .place-of .ensures) (c .before .if1 .left) (c .place .ensures)
+returns-2 c = free-place _ (c .before .if1 .left) (c .place .ensures)
 
 pub place-for-spec : {M : Type 1} → statement M
-place-for-spec = tie.close (tie.spec place-of-requires returns place-requires returns-2)
+place-for-spec = tie.close (tie.spec returns place-requires returns-2)

@@ -16,13 +16,16 @@ returns : tie.Need-returns
 returns c =
     let put = c .before .before in
     let tested = put .before .before in
-    saved _ _ (tested .before .place-for .ensures) _ (tested .if1 .taken) (put .write .ensures)
+    let called = tested .before .before .before .before in
+    saved _ _ (called .pre .1) (tested .before .place-for .ensures) _ (tested .if1 .taken) (put .write .ensures)
 
 same-length-2 : tie.Need-same-length-2
 same-length-2 c = search needs
 
 returns-2 : tie.Need-returns-2
-returns-2 c = not-saved _ _ (c .before .place-for .ensures) _ (c .if1 .left)
+returns-2 c =
+    let called = c .before .before .before .before in
+    not-saved _ _ (called .pre .1) (c .before .place-for .ensures) _ (c .if1 .left)
 
 pub save-spec : {M : Type 1} → statement M
 save-spec =
