@@ -34,7 +34,7 @@ use Rattle.recordings.specs.Recording.{following}
 use Rattle.tick.specs.Tick.{outcome, tickBy}
 use Rattle.box_stretches.specs.Called.{called, number, memoryAfter, lentAfter, first}
 use Rattle.box_stretches.specs.Stretch.{stateAt, countAt, positionsAt, bayLength, stretchLength, lengthIn, stateIn, lastNumberIn, positionsIn, ledgerIn, partOf, vacated, terms, filled}
-use Rattle.box_stretches.specs.BayCalls.{stateKept, bayStepOf, charged, recorded, bayReleaseOf, bayAdmitOf, baySaveOf, restored, bayPanelOf, bayLedgerOf, bayNewYearOf}
+use Rattle.box_stretches.specs.BayCalls.{stateKept, bayStepOf, charged, recorded, bayReleaseOf, bayAdmitOf, baySaveOf, restored, bayServiceOf, bayPanelOf, bayLedgerOf, bayNewYearOf}
 
 -- ends at once: ceiling 1
 abbrev ends : List ℕ
@@ -176,6 +176,11 @@ panel-shown : first (lentAfter (bayPanelOf busy (recordOf 258 0x05 (answerRecord
     ≡ 2 ∷ 1 ∷ 0 ∷ 0 ∷ 1 ∷ 1 ∷ 0 ∷ 0 ∷ 0 ∷ 2 ∷ 0 ∷ 0 ∷ 0 ∷ []
 unfolding bayPanelOf panelOf difference busy filled vacated blank put zeros leBytes leNumber
 panel-shown = refl
+
+-- ---- the service reader: a record whole, in 37 bytes
+service-shown : first (lentAfter (bayServiceOf busy (replicate 37 5) (replicate 37 77))) ≡ replicate 37 5
+unfolding bayServiceOf
+service-shown = refl
 
 -- ---- the ledger: read into 132 bytes, and cleared for the new year
 reading-length : number (bayLedgerOf blank (replicate 132 77)) ≡ 0
