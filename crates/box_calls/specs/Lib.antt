@@ -8,3 +8,6 @@ pub mod Positions
 pub mod Instants
 pub mod Previews
 pub mod Years
+pub mod Reused
+pub mod Leaves
+pub mod Numbers

@@ -1,14 +1,18 @@
 -- What 02, item 11, says of a preview of a bay, each sentence a predicate of any function in the place of `callOf`.
 use Prim.Native.Nat.{ℕ, _<_}
 use mathlib.Core.Path.{_≡_}
-use mathlib.Core.Logic.{_≢_}
+use mathlib.Core.Logic.{_≢_, _⊎_}
+use mathlib.Core.Bool.{false}
 use mathlib.Core.List.{List, [], _∷_}
 use lib.ListN.{length}
+use Rattle.sets.specs.Sets.{member, Subset, Disjoint}
+use Rattle.answers.specs.AnswerRecord.{answerLength, codeIn, emittedIn}
+use Rattle.recordings.specs.Record.{recordLength}
 use Rattle.box_fillings.specs.Preview as fillings
-use Rattle.box_fillings.specs.Preview.{Previewed, bufferAfter, previewOf}
-use Rattle.box_stretches.specs.Called.{called, number}
+use Rattle.box_fillings.specs.Preview.{openCode, everyIn, neverIn, wrongIn, sharedIn, Previewed, bufferAfter, previewOf}
+use Rattle.box_stretches.specs.Called.{called, number, lentAfter, first}
 use Rattle.box_stretches.specs.Stretch.{lengthIn, sequenceIn, readBackIn, stateIn}
-use Rattle.box_calls.specs.Box.{bayCount, boxLength, stretchOf, preview}
+use Rattle.box_calls.specs.Box.{bayCount, boxLength, stretchOf, tick, preview}
 use Rattle.box_calls.specs.Lists.{Calling}
 
 -- the preview of the sequence, state and read-back set that the bay holds
@@ -27,3 +31,42 @@ PreviewNumbers call =
     (box : List ℕ) → length box ≡ boxLength → (bay : ℕ) → bay < bayCount → lengthIn (stretchOf bay box) ≢ 0
     → (e unknown : ℕ) (buffer : List ℕ)
     → number (call box bay (preview e unknown buffer)) ≡ fillings.number (previewIn (stretchOf bay box) e unknown buffer)
+
+-- ---- a bay's preview against that bay's ticks, in every box, whatever its bytes
+-- an answer lies within what a preview shows: it emits what is emitted for every filling and nothing of what is emitted for none, has
+-- the shared code, if there is one, and is not wrong where no filling is
+pub record Within (shown answer : List ℕ) : Type 0 where
+  pub emits-every : Subset (everyIn shown) (emittedIn answer)
+  pub emits-never : Disjoint (neverIn shown) (emittedIn answer)
+  pub shared-code : sharedIn shown ≢ openCode → codeIn answer ≡ sharedIn shown
+  pub not-wrong : wrongIn shown ≡ 0 → codeIn answer ≢ 255
+
+-- a preview and a tick of the bay in the same box, both answered 0, the tick on inputs that have the status given for every input but
+-- the unknown ones
+abbrev pub PreviewForesees : Calling → Type 0
+PreviewForesees call =
+    (box : List ℕ) (bay e unknown : ℕ) (buffer : List ℕ) → number (call box bay (preview e unknown buffer)) ≡ 0
+    → (input : ℕ) (answer trace : List ℕ) → number (call box bay (tick input answer trace)) ≡ 0
+    → ((i : ℕ) → member i unknown ≡ false → member i e ≡ member i input)
+    → Within (first (lentAfter (call box bay (preview e unknown buffer)))) (first (lentAfter (call box bay (tick input answer trace))))
+
+-- where a preview is given, a tick with buffers of their lengths is an instant on every input, unless the ledger turns it down
+abbrev pub PreviewedTicks : Calling → Type 0
+PreviewedTicks call =
+    (box : List ℕ) (bay e unknown : ℕ) (buffer : List ℕ) → number (call box bay (preview e unknown buffer)) ≡ 0
+    → (input : ℕ) (answer trace : List ℕ) → length answer ≡ answerLength → length trace ≡ recordLength
+    → (number (call box bay (tick input answer trace)) ≡ 0) ⊎ (number (call box bay (tick input answer trace)) ≡ 19)
+
+-- no tick of a bay answered 0 has the code 254, which a preview has for "open"
+abbrev pub NeverOpen : Calling → Type 0
+NeverOpen call =
+    (box : List ℕ) (bay input : ℕ) (answer trace : List ℕ) → number (call box bay (tick input answer trace)) ≡ 0
+    → codeIn (first (lentAfter (call box bay (tick input answer trace)))) ≢ openCode
+
+-- ITEM 11, of the calls
+pub record PreviewDemands (call : Calling) : Type 0 where
+  pub preview-shows : PreviewShows call
+  pub preview-numbers : PreviewNumbers call
+  pub foresees : PreviewForesees call
+  pub previewed-ticks : PreviewedTicks call
+  pub never-open : NeverOpen call

@@ -5,3 +5,4 @@ pub mod WorkedRecords
 pub mod WrongBoxes
 pub mod WrongPositions
 pub mod WrongLedgers
+pub mod WrongPaper

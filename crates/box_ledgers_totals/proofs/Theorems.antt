@@ -21,7 +21,7 @@ use Rattle.numbers.proofs.Bytes.{length-leBytes, le-round-trip}
 use Rattle.sequence.specs.Amounts.{amountSize, amountBytes, areBytes, floatIn}
 use Rattle.sequence.proofs.Amounts.{amount-written}
 use Rattle.litres.specs.Litres.{whole, litres, ordered, within}
-use Rattle.litres.proofs.Sums.{Added, added-first, added-next, added-all}
+use Rattle.litres.proofs.Sums.{Running, Added, added-first, added-next, added-all}
 use Rattle.box_ledgers.specs.Ledgers.{farmCount, ledgerLength, fieldIn, totalIn, totalFloat, Exact, totalsBytes, cleared, NoneOutside, wouldPass, passes, addedBelow, added, exactTotal, shownTotal, readingOf, totalRead}
 use Rattle.box_ledgers_totals.proofs.Totals as totals
 use Rattle.box_ledgers_totals.proofs.Fields as fields
@@ -52,6 +52,10 @@ running bs (suc n) h =
     added-next (λ f. totalFloat f bs) (ordered n (λ f. totalFloat f bs)) (suc n) (totals.totals-whole bs) h
     (subst (λ (i : ℕ). Added (λ f. totalFloat f bs) (ordered n (λ f. totalFloat f bs)) i) (add-one n) (running bs n (omega arith)))
 
+-- it is a whole number, not above the exact sum by more than 496, nor below it
+pub shown-running : (bs : List ℕ) → Running (shownTotal bs) 32 (exactTotal farmCount bs)
+shown-running bs = subst (Running (shownTotal bs) 32) (totals.exact-is bs farmCount) (running bs 31 (lit< tt) .2)
+
 pub shown-within : (bs : List ℕ) → T (within 496 (shownTotal bs) (exactTotal farmCount bs))
 shown-within bs =
     subst (λ (n : ℕ). T (within 496 (shownTotal bs) n)) (totals.exact-is bs farmCount)
@@ -76,7 +80,7 @@ field-of (suc n) t r f h =
         ∙ ap (λ (k : ℕ). amountBytes (t k)) (sym e)
 
 module _ (t : ℕ → ℕ) (r : List ℕ) (f : ℕ) (small : f < farmCount) (most : t f ≤ litresLimit) where
-  written : (whole (fieldIn f (totalsBytes farmCount t ++ r)) ≡ true) × (litres (fieldIn f (totalsBytes farmCount t ++ r)) ≡ t f)
+  pub written : (whole (fieldIn f (totalsBytes farmCount t ++ r)) ≡ true) × (litres (fieldIn f (totalsBytes farmCount t ++ r)) ≡ t f)
   written =
       let w = amount-written (t f) most in
       let e : fieldIn f (totalsBytes farmCount t ++ r) ≡ floatIn (amountBytes (t f)) = ap (λ (l : List ℕ). ofBits binary32 (leNumber l)) (field-of farmCount t r f small) in

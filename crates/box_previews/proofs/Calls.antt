@@ -28,8 +28,8 @@ use Rattle.instants.proofs.Replying.{written-from, refused, malformed-reply, ov
 use Rattle.box_fillings.specs.declared.Findings.{Findings}
 use Rattle.box_fillings.specs.Preview.{findings, maxUnknown, previewLength, previewBytes, shownBy, Previewed, previewed, answerIn, answersOf, previewOf}
 use Rattle.box_previews_fillings.specs.Standing.{answersAt, Stands}
-use Rattle.box_fillings_findings.proofs.Numbers as numbers
-use Rattle.box_fillings_findings.proofs.Numbers.{written-answer, refused-preview}
+use Rattle.box_fillings.proofs.Numbers as numbers
+use Rattle.box_fillings.proofs.Numbers.{written-answer, refused-preview}
 
 -- ---- from a origin
 module _ (answers : ℕ → List ℕ) (input unknown : ℕ) (buffer : List ℕ) (n : ℕ) (h : n ≡ length (membersFrom signalCount 0 unknown)) where

@@ -27,7 +27,7 @@ use Rattle.instants.proofs.Replying.{written-from}
 use Rattle.box_fillings.specs.declared.Findings.{Findings}
 use Rattle.box_fillings.specs.Preview.{filled, alone, foundIn, both, gathered, findings}
 use Rattle.box_previews_fillings.specs.Standing.{answersAt}
-use Rattle.box_fillings_findings.proofs.Numbers.{written-answer}
+use Rattle.box_fillings.proofs.Numbers.{written-answer}
 
 -- ---- one filling
 alone-in : (k kind place o m : ℕ) → o < 256 ^ signalBytes → alone o k ≡ foundIn (answerRecord k kind place o m)

@@ -417,6 +417,14 @@ module _ (box : List ℕ) (bay : ℕ) (t : Terms) (small : Sendable (admit t)) (
     pub service-only-fixed : NotTakenOut callOf bay from xs → serviceOnlyIn (stretchOf bay (boxAfter callOf from xs)) ≡ t .serviceOnly
     service-only-fixed k = from-here k .held .service
 
+    pub terms-fixed : NotTakenOut callOf bay from xs
+        → (sequenceIn (stretchOf bay (boxAfter callOf from xs)) ≡ t .sequence)
+        × (readBackIn (stretchOf bay (boxAfter callOf from xs)) ≡ t .readBack)
+        × (serviceOnlyIn (stretchOf bay (boxAfter callOf from xs)) ≡ t .serviceOnly)
+    terms-fixed k =
+        let h = from-here k .held in
+        (ap (λ (n : ℕ). slot sequenceAt n (stretchOf bay (boxAfter callOf from xs))) (h .long) ∙ h .bytes, h .set, h .service)
+
     pub records-are : Onwards bay from xs → recordsIn callOf bay from xs ≡ recordingOf (t .sequence) (t .readBack) (inputsIn callOf bay from xs)
     records-are k =
         let a = runs.begun box bay t small admitted .here .1 .accepted in

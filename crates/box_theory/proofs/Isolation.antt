@@ -16,7 +16,7 @@ use Rattle.box_theory.proofs.Bays.{onStretch, admittedAs, admission-by-
 use Rattle.box_theory.proofs.Stretches.{result, own, own-stretch, same-length, others-stay}
 
 -- ---- the bay alone
-abbrev alone : (s : List ℕ) → Asked → Called
+abbrev pub alone : (s : List ℕ) → Asked → Called
 alone s (admission t n) = admittedAs s t n
 alone s (other c) = onStretch 0 c s
 
@@ -28,7 +28,7 @@ unfoldable stretchAlone : (s : List ℕ) → List Asked → List ℕ
 stretchAlone s [] = s
 stretchAlone s (a ∷ xs) = stretchAlone (memoryAfter (alone s a)) xs
 
-by-itself : (k : ℕ) (s : List ℕ) (c : Call) (o : Called) → number o ≡ number (onStretch k c s) → onStretch k c s ≡ alone s (askedBy c o)
+pub by-itself : (k : ℕ) (s : List ℕ) (c : Call) (o : Called) → number o ≡ number (onStretch k c s) → onStretch k c s ≡ alone s (askedBy c o)
 by-itself k s (admit t) o h = admission-by-number k s t ∙ ap (admittedAs s t) (sym h)
 by-itself k s release o h = refl
 by-itself k s (tick e answer trace) o h = refl

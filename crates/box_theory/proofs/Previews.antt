@@ -7,7 +7,7 @@ use mathlib.Core.List.{List, [], _∷_}
 use Rattle.box_fillings.specs.Preview as fillings
 use Rattle.box_fillings.specs.Preview.{Previewed, previewed, previewOf}
 use Rattle.sequence.specs.Rows.{rank}
-use Rattle.box_fillings_findings.proofs.Numbers.{lent-left, preview-range}
+use Rattle.box_fillings.proofs.Numbers.{lent-left, preview-range}
 use Rattle.box_stretches.specs.Called.{called, number, memoryAfter}
 use Rattle.box_stretches.specs.Stretch.{sequenceIn, readBackIn, stateIn}
 use Rattle.box_stretches.specs.BayCalls.{stretchKept, bayPreviewOf}

@@ -43,7 +43,7 @@ pub data Sound (s : List ℕ) : Type 0 where
   vacant : length s ≡ stretchLength → lengthIn s ≡ 0 → positionsIn s ≡ zeros tableLength → Sound s
   held : (t : Terms) → Standing t s → Positioned t (positionsIn s) → Sound s
 
-part-vacant : (s : List ℕ) → lengthIn s ≡ 0 → partOf s ≡ 0
+pub part-vacant : (s : List ℕ) → lengthIn s ≡ 0 → partOf s ≡ 0
 unfolding partOf
 part-vacant s e = rw (eq-eqb (lengthIn s) 0 e)
 

@@ -1,6 +1,6 @@
 -- The theorems about a box (02, items 8 to 12 and 14): of the definitions of the calls, which the code meets for all arguments.
 use Prim.Native.Nat.{ℕ, _+_, _<_}
-use mathlib.Core.Path.{_≡_, refl, sym, ap, _∙_}
+use mathlib.Core.Path.{_≡_, refl, sym, ap, ap₂, _∙_, subst}
 use mathlib.Core.Logic.{_≢_}
 use mathlib.Core.Option.{some}
 use mathlib.Core.List.{List, [], _∷_, map, List·Memᴰ}
@@ -10,15 +10,17 @@ use Rattle.esterel.specs.Reaction.{Code, gives}
 use Rattle.esterel.specs.Rules.{Reacts}
 use Rattle.esterel.specs.States.{NoSetpause}
 use Rattle.esterel.specs.Expansion.{expand}
-use Rattle.esterel.specs.Machines.{Rewriting}
+use Rattle.esterel.specs.Machines.{State, Rewriting}
 use Rattle.sequence.specs.Program.{program}
 use Rattle.sequence.specs.Rows.{Spells, ByRows}
+use Rattle.states.specs.StateRecord.{encodeState}
 use Rattle.tick.specs.Tick.{Outcome, tickOf}
 use Rattle.tick.specs.TickRows.{TickRow}
 use Rattle.demands.specs.Demands as demands
 use Rattle.demands.specs.Demands.{outcomes, cleared, report, StandsAt, Derived, Shows}
+use Rattle.tick.specs.Paper as Paper
 use Rattle.tick.specs.Paper.{paper}
-use Rattle.demands.specs.Deliveries.{paperDelivered}
+use Rattle.demands.specs.Deliveries.{delivered, paperDelivered}
 use Rattle.recordings.specs.Record.{recordLength, panelLength}
 use Rattle.recordings.specs.Recording.{callOn, recordingOf, joined, Inputs}
 use Rattle.replays.specs.Replay.{replayed, replayOf}
@@ -33,8 +35,10 @@ use Rattle.box_calls.specs.Lists.{Request, boxAfter, asked, answers}
 use Rattle.box_calls.specs.Shares.{Sendable, AllSendable}
 use Rattle.box_calls.specs.BayRuns.{paperBuffer, ticksTo, outcomeOf, tickOutcomes, tickLitres, Onwards}
 use Rattle.box_calls.specs.Claims.{RefusalsLeave, OthersStay, Isolated, BySum, InBoxes, CeilingsStored, WithinCeiling, RoundsWithin, AdmitsBySum, GivesBack, Thirteen, NoBox, Fourteen, BoxDemands}
+use Rattle.box_calls.specs.Reused.{IsolatedReusing}
+use Rattle.box_calls.specs.Leaves.{AdmissionLeaves, ReleaseLeaves}
 use Rattle.box_calls.specs.Positions.{savedIn, PositionsSaved, PositionsValid, SaveNumbers, KnownOnly, ComesBack, LosesPositions, PositionDemands}
-use Rattle.box_calls.specs.Instants.{recordsIn, inputsIn, instantsIn, RecordIs, NumberedFromOne, ServiceOnlyFixed, ServiceShows, PanelShows, PanelsAlike, ReaderNumbers, RecordLength, RecordDemands}
+use Rattle.box_calls.specs.Instants.{recordsIn, inputsIn, instantsIn, NotTakenOut, OverBay, RecordIs, NumberedFromOne, ServiceOnlyFixed, ServiceShows, PanelShows, PanelsAlike, ReaderNumbers, RecordLength, RecordDemands}
 use Rattle.box_calls.specs.Previews.{PreviewShows, PreviewNumbers}
 use Rattle.box_calls.specs.Years.{deliveredSince, SameYear, sumOf, TotalsExact, LedgerShows, YearBegins, LedgerNumbers, Nineteen, PreviewsNeverNineteen, LedgerDemands}
 use Rattle.box_examples.specs.WrongBoxes as wrong
@@ -46,6 +50,8 @@ use Rattle.box_theory.proofs.WrongLedgers as wrongs
 use Rattle.box_theory.proofs.Stretches as stretches
 use Rattle.box_theory.proofs.Numbers as numbers
 use Rattle.box_theory.proofs.Isolation as apart
+use Rattle.box_theory.proofs.Reused as reused
+use Rattle.box_theory.proofs.Leaves as leaves
 use Rattle.box_theory.proofs.Reached as reached
 use Rattle.box_theory.proofs.Rounds as rounds
 use Rattle.box_theory.proofs.Bays as bays
@@ -79,6 +85,10 @@ isolated-from = apart.alike
 -- answered alike, give it the same answers and states, whatever the others get'
 pub isolated : Isolated callOf
 isolated bay b = let z = reached.kept-empty .sized-box in isolated-from bay b emptyBox emptyBox z z refl
+
+-- the same where buffers are lent again: of a buffer that a call only writes its length counts, and not what was in it
+pub isolated-reusing : IsolatedReusing callOf
+isolated-reusing = reused.isolated-reusing
 
 -- ---- every box that calls reach from an empty one
 -- what a bay present has is the ceiling of the sequence that it holds, which passes the check
@@ -114,6 +124,14 @@ no-box = numbers.no-box
 -- '14 for the sum, after the sequence's own check'
 pub fourteen : Fourteen callOf
 fourteen box z bay b i t = (numbers.by-its-row box z bay b i t, numbers.fourteen-iff box z bay b i t)
+
+-- what an admission leaves: the terms, a fresh machine, no instant and no positions, the ceiling; the ledger stays
+pub admission-leaves : AdmissionLeaves callOf
+admission-leaves = leaves.admission-leaves
+
+-- a bay taken out is empty
+pub release-leaves : ReleaseLeaves callOf
+release-leaves = leaves.release-leaves
 
 -- ITEM 8
 pub box-demands : BoxDemands callOf
@@ -279,6 +297,29 @@ module _ (zs : List Request) (sent : AllSendable zs) (bay name : ℕ)
       let saved = positions-are-saved zs sent bay is-bay name in
       (r .labels, r .found, sym saved ∙ r .found, returns.agrees there (reached.kept zs sent) bay name back)
 
+  -- with setpause too, over the list: from there on the ticks of the bay are those that the tick on its own gives from the label set that
+  -- was saved, one after the other, and its instants are those on their inputs, each of which demand 2 is about; and the litres
+  pub ticks-from-position : (labels : ℕ) × (find name (savedIn callOf bay emptyBox [] zs) ≡ some labels)
+      × ((xs : List Request) → Onwards bay again xs
+      → (tickOutcomes bay again xs
+      ≡ outcomes tickOf (held .sequence) (held .readBack) (encodeState (State.waits labels)) (ticksTo bay again xs))
+      × (instantsIn callOf bay again xs
+      ≡ outcomes tickOf (held .sequence) (held .readBack) (encodeState (State.waits labels)) (map callOn (inputsIn callOf bay again xs)))
+      × ((farm : ℕ) → tickLitres bay farm again xs
+      ≡ delivered (held .sequence) (held .readBack) farm (encodeState (State.waits labels)) (ticksTo bay again xs)))
+  ticks-from-position =
+      let r = returns.returned there (reached.kept zs sent) bay name back in
+      let at : stateIn (stretchOf bay again) ≡ encodeState (State.waits (r .labels)) = r .here .1 .bytes ∙ ap encodeState (r .at-labels) in (
+        r .labels,
+        sym (positions-are-saved zs sent bay is-bay name) ∙ r .found,
+        λ xs k.
+            let run = from-there xs k in (
+              run .ticks ∙ ap (λ (st : List ℕ). outcomes tickOf (held .sequence) (held .readBack) st (ticksTo bay again xs)) at,
+              run .instants ∙ ap (λ (st : List ℕ). outcomes tickOf (held .sequence) (held .readBack) st (map callOn (inputsIn callOf bay again xs))) at,
+              λ farm. run .litres farm ∙ ap (λ (st : List ℕ). delivered (held .sequence) (held .readBack) farm st (ticksTo bay again xs)) at,
+            ),
+      )
+
   module _ (xs : List Request) (k : Onwards bay again xs) where
     abbrev then : List ℕ
     then = boxAfter callOf again xs
@@ -312,6 +353,64 @@ numbered-from-one = instants.numbered-from-one
 -- 'a set of service-only signals, fixed on admission'
 pub service-only-fixed : ServiceOnlyFixed callOf
 service-only-fixed = instants.service-only-fixed
+
+-- from an admission on, as long as the bay is not taken out, it holds the sequence and both sets that were admitted, across every coming
+-- back to a position
+pub terms-fixed : OverBay callOf (λ bay t from xs.
+    (sequenceIn (stretchOf bay (boxAfter callOf from xs)) ≡ t .sequence)
+    × (readBackIn (stretchOf bay (boxAfter callOf from xs)) ≡ t .readBack)
+    × (serviceOnlyIn (stretchOf bay (boxAfter callOf from xs)) ≡ t .serviceOnly))
+terms-fixed = instants.terms-fixed
+
+-- so a bay that comes back to a position answers by the sequence and the read-back set that were ADMITTED: in a box that calls reach, an
+-- admission; then calls that do not take the bay out, saves and comings back among them; then a coming back; then the list `xs`
+module _ (zs : List Request) (sent : AllSendable zs) (bay : ℕ) (t : Terms) (small : Sendable (admit t))
+    (admitted : number (callOf (boxAfter callOf emptyBox zs) bay (admit t)) ≡ 0) where
+  abbrev opened : List ℕ
+  opened = memoryAfter (callOf (boxAfter callOf emptyBox zs) bay (admit t))
+
+  module _ (ys : List Request) (sent′ : AllSendable ys) (stays : NotTakenOut callOf bay opened ys) (name : ℕ)
+      (back : number (callOf (boxAfter callOf opened ys) bay (restore name)) ≡ 0) where
+    abbrev left : List ℕ
+    left = boxAfter callOf opened ys
+
+    abbrev come : List ℕ
+    come = memoryAfter (callOf left bay (restore name))
+
+    left-kept : reached.Kept left
+    left-kept = reached.kept-list opened (reached.kept-call (boxAfter callOf emptyBox zs) (reached.kept zs sent) bay (admit t) small) ys sent′
+
+    fixed : (sequenceIn (stretchOf bay left) ≡ t .sequence) × (readBackIn (stretchOf bay left) ≡ t .readBack)
+    fixed = let f = terms-fixed (boxAfter callOf emptyBox zs) bay t small admitted ys stays in (f .0, f .1)
+
+    pub admitted-from-position : (labels : ℕ) × (lookup name (positionsIn (stretchOf bay left)) ≡ some labels)
+        × ((xs : List Request) → Onwards bay come xs
+        -- with setpause too: the ticks, and the instants on their inputs, are the tick's on its own from that label set
+        → (tickOutcomes bay come xs ≡ outcomes tickOf (t .sequence) (t .readBack) (encodeState (State.waits labels)) (ticksTo bay come xs))
+        × (instantsIn callOf bay come xs
+        ≡ outcomes tickOf (t .sequence) (t .readBack) (encodeState (State.waits labels)) (map callOn (inputsIn callOf bay come xs)))
+        -- without setpause: they equal rewriting started from the expansion of that set
+        × ((p : Statement) → Spells (t .sequence) p → NoSetpause p
+        → map report (tickOutcomes bay come xs) ≡ paper (Rewriting.waits (expand (program (t .readBack) p) labels)) (ticksTo bay come xs)))
+    admitted-from-position =
+        let r = returns.returned left left-kept bay name back in
+        let at : stateIn (stretchOf bay come) ≡ encodeState (State.waits (r .labels)) = r .here .1 .bytes ∙ ap encodeState (r .at-labels) in
+        let as-admitted : (rest : List Paper.Call)
+        → outcomes tickOf (sequenceIn (stretchOf bay left)) (readBackIn (stretchOf bay left)) (stateIn (stretchOf bay come)) rest
+        ≡ outcomes tickOf (t .sequence) (t .readBack) (encodeState (State.waits (r .labels))) rest =
+        (λ rest. ap₂ (λ (sequence : List ℕ) (set : ℕ). outcomes tickOf sequence set (stateIn (stretchOf bay come)) rest) (fixed .0) (fixed .1)
+        ∙ ap (λ (st : List ℕ). outcomes tickOf (t .sequence) (t .readBack) st rest) at) in (
+          r .labels,
+          r .found,
+          λ xs k.
+              let run = returns.run left left-kept bay name back xs k in (
+                run .ticks ∙ as-admitted (ticksTo bay come xs),
+                run .instants ∙ as-admitted (map callOn (inputsIn callOf bay come xs)),
+                λ p q plain.
+                    returns.agrees left left-kept bay name back p (subst (λ (x : List ℕ). Spells x p) (sym (fixed .0)) q) plain xs k .0
+                    ∙ ap (λ (set : ℕ). paper (Rewriting.waits (expand (program set p) (r .labels))) (ticksTo bay come xs)) (fixed .1),
+              ),
+        )
 
 -- 'The bay's service reader shows the record whole'
 pub service-shows : ServiceShows callOf
@@ -436,9 +535,9 @@ replays-in-bay box bay t small admitted xs k i =
 
 -- ---- what the claims refuse: a tick that reads the neighbour's state, a sum without the last bay, a part that is not given back, and
 -- a refusal that writes
-pub refused-boxes : (¬ Isolated wrong.readsNeighbour) × (¬ InBoxes wrong.forgetsBay WithinCeiling)
+pub refused-boxes : (¬ Isolated wrong.readsNeighbour) × (¬ IsolatedReusing wrong.readsNeighbour) × (¬ InBoxes wrong.forgetsBay WithinCeiling)
     × (¬ InBoxes wrong.keepsPart (AdmitsBySum wrong.keepsPart)) × (¬ RefusalsLeave wrong.refusalWrites)
-refused-boxes = (refuted.not-readsNeighbour, refuted.not-forgetsBay, refuted.not-keepsPart, refuted.not-refusalWrites)
+refused-boxes = (refuted.not-readsNeighbour, refuted.not-readsNeighbour-reusing, refuted.not-forgetsBay, refuted.not-keepsPart, refuted.not-refusalWrites)
 
 -- positions that a release leaves, a save that leaves what was saved first, 16 before 15, and a restore that leaves the phase
 pub refused-positions : (¬ LosesPositions slips.keepsPositions) × (¬ PositionsSaved slips.keepsFirst)

@@ -33,6 +33,7 @@ use Rattle.box_stretches.specs.BayCalls.{bayStepOf, bayChargedOf, bayTickOf, ba
 use Rattle.box_calls.specs.Box.{emptyBox, present, release, callOf}
 use Rattle.box_calls.specs.Lists.{Request, boxAfter, asked, Answer, answered, answers}
 use Rattle.box_calls.specs.Shares.{none, each}
+use Rattle.box_calls.specs.Reused.{askedCleared, given, IsolatedReusing}
 use Rattle.box_calls.specs.Claims.{RefusalsLeave, Isolated, InBoxes, WithinCeiling, AdmitsBySum}
 use Rattle.box_examples.specs.Worked.{waitsOnce, ends, half, admitted, released, ticked}
 use Rattle.box_examples.specs.WrongBoxes.{readsNeighbour, forgetsBay, storedIn, keepsPart, refusalWrites}
@@ -53,6 +54,12 @@ besideOver = admitted 1 ends ∷ ticked 1 ∷ byItself
 pub not-readsNeighbour : ¬ Isolated readsNeighbour
 unfolding asked answers boxAfter callOf emptyBox present partOf vacated filled bayStepOf bayChargedOf wouldPass totalIn addedBelow deliveredBy ofBits whole inUnsigned toUnsigned bayTickOf following bayReleaseOf bayAdmitOf put zeros leBytes leNumber tickBy checked read front commandOf distinct wellFormed before everyLabel labelsOf subset disjoint valid active activeLabels membersFrom declaredBy commands loopNesting signalNesting ceiling encodeState decodeState encodeAnswer expand reactBy errorsBy reactionsBy Sets.none only member join insert remove
 not-readsNeighbour h =
+    let e : _≡_ {A = ℕ} 0 12 = ap (numberAt 1) (h 0 (omega arith) byItself besideOver refl .0) in omega arith
+
+-- nor is it with buffers that are lent again
+pub not-readsNeighbour-reusing : ¬ IsolatedReusing readsNeighbour
+unfolding askedCleared given boxAfter callOf emptyBox present partOf vacated filled bayStepOf bayChargedOf wouldPass totalIn addedBelow deliveredBy ofBits whole inUnsigned toUnsigned bayTickOf following bayReleaseOf bayAdmitOf put zeros leBytes leNumber tickBy checked read front commandOf distinct wellFormed before everyLabel labelsOf subset disjoint valid active activeLabels membersFrom declaredBy commands loopNesting signalNesting ceiling encodeState decodeState encodeAnswer expand reactBy errorsBy reactionsBy Sets.none only member join insert remove
+not-readsNeighbour-reusing h =
     let e : _≡_ {A = ℕ} 0 12 = ap (numberAt 1) (h 0 (omega arith) byItself besideOver refl .0) in omega arith
 
 -- ---- 32,768 in the last bay, and too much with it

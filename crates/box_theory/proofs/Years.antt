@@ -46,7 +46,7 @@ use Rattle.box_theory.proofs.Named.{bay-answered, stretch-after}
 use Rattle.box_theory.proofs.Instants.{shown-in}
 
 -- ---- what a call answered 0 makes of the ledger
-abbrev ledgerBy : Call → List ℕ → List ℕ
+abbrev pub ledgerBy : Call → List ℕ → List ℕ
 ledgerBy (admit t) s = ledgerIn s
 ledgerBy release s = ledgerIn s
 ledgerBy (tick e answer trace) s = added (delivering s e) (ledgerIn s)
@@ -91,7 +91,7 @@ module _ (k : ℕ) (s : List ℕ) (z : length s ≡ stretchLength) where
                 (new-sized s z e answer trace p state l);
           }
 
-  ledger-after : (c : Call) → number (bayCall k c s) ≡ 0 → ledgerIn (memoryAfter (bayCall k c s)) ≡ ledgerBy c s
+  pub ledger-after : (c : Call) → number (bayCall k c s) ≡ 0 → ledgerIn (memoryAfter (bayCall k c s)) ≡ ledgerBy c s
   unfolding bayReleaseOf baySaveOf bayRestoreOf bayForgetOf bayNewYearOf
   ledger-after (admit t) n = go (admission k s t)
     where
@@ -120,7 +120,7 @@ module _ (k : ℕ) (s : List ℕ) (z : length s ≡ stretchLength) where
   ledger-after newYear n = slot-put bayLength ledgerLength cleared s (omega arith) cleared-sized
 
   -- a farm's total in it
-  total-by : (f : ℕ) → f < farmCount → (c : Call) → number (bayCall k c s) ≡ 0 → totalIn f (ledgerBy c s) ≡ deliveredAfter f c s (totalIn f (ledgerIn s))
+  pub total-by : (f : ℕ) → f < farmCount → (c : Call) → number (bayCall k c s) ≡ 0 → totalIn f (ledgerBy c s) ≡ deliveredAfter f c s (totalIn f (ledgerIn s))
   total-by f l (admit t) n = refl
   total-by f l release n = refl
   total-by f l (tick e answer trace) n = added-total (delivering s e) (ledgerIn s) (ledger-sized s z) (tick-grows e answer trace n .below) f l

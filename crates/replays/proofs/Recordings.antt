@@ -176,6 +176,10 @@ module _ (sequence : List ℕ) (readBack : ℕ) where
     abbrev remade : List (List ℕ)
     remade = made (inputsIn recording)
 
+    -- a record after the machine is over was not made
+    pub made-ends : (i : ℕ) (r : List ℕ) → getElem? remade i ≡ some r → phaseIn (stateIn r) ≡ 2 → getElem? remade (suc i) ≡ none
+    made-ends i r h p = none-after (inputsIn recording) 1 cleared refl i r h p
+
     -- a recording that is the machine's on its own inputs
     module _ (e : recording ≡ joined remade) where
       pub remade-sized : length recording % recordLength ≡ 0

@@ -1,17 +1,26 @@
 -- The theorems of this crate (02, item 14): every claim of specs/Claims about the definition of a replay, which the code meets for all
 -- arguments, and the recordings worked by hand. That the records of a bay are accepted is box_theory's.
-use Prim.Native.Nat.{_+_}
-use mathlib.Core.Path.{_≡_, refl}
-use mathlib.Core.List.{[], map}
+use Prim.Native.Nat.{ℕ, zero, suc, _+_, _<_}
+use native.Mathlib.Omega.{arith}
+use mathlib.Core.Path.{_≡_, refl, sym, ap, ap₂, _∙_}
+use mathlib.Core.Option.{Option, some, none, Option·none-ne-some}
+use mathlib.Core.List.{List, [], _∷_, map}
+use lib.ListN.{length, getElem?}
 use Rattle.recordings.specs.Recording.{recordsFrom, recordingOf, joined}
-use Rattle.replays.specs.Replay.{firstRecords, recordsIn, inputsIn, placeOf, replayOf}
-use Rattle.replays.specs.Claims.{Refuses, TwentyTwo, NoPlace, Accepts, Differs, EmptyAccepted, NothingAfterTheEnd, AcceptsRecordings, ByPaper, ReplayDemands}
+use Rattle.replays.specs.Replay.{firstRecords, recordsIn, inputsIn, placeOf, Replayed, replayed, number, place, replayOf}
+use Rattle.replays.specs.Claims.{Replay, Refuses, TwentyTwo, NoPlace, Accepts, Differs, EmptyAccepted, NothingAfterTheEnd, DiffersAfterTheEnd, AcceptsRecordings, ByPaper, ReplayDemands}
 use Rattle.replays.specs.Worked.{Case, cases}
 use Rattle.replays.proofs.Differences.{first-differs}
 use Rattle.replays.proofs.Recordings as recordings
 use Rattle.replays.proofs.Numbers as numbers
 use Rattle.replays.proofs.Paper as paper
 use Rattle.replays.proofs.Worked as by-hand
+
+-- an index below the length has a record
+getElem?-some : (l : List (List ℕ)) (i : ℕ) → i < length l → (r : List ℕ) × (getElem? l i ≡ some r)
+getElem?-some [] i h = absurd (omega arith)
+getElem?-some (x ∷ l) zero h = (x, refl)
+getElem?-some (x ∷ l) (suc i) h = getElem?-some l i (omega arith)
 
 -- NUMBERS: those of the check, 'then 22, after the sequence's check', then 0; 'a place, 0 after an error'
 pub refuses : Refuses replayOf
@@ -54,11 +63,54 @@ pub nothing-after-the-end : NothingAfterTheEnd replayOf
 nothing-after-the-end sequence readBack recording h =
     recordings.remade-ends sequence readBack recording (accepts sequence readBack recording .0 h .1)
 
+-- and so the sentence: the first record after the end is the first that differs
+pub differs-after-the-end : DiffersAfterTheEnd replayOf
+differs-after-the-end sequence readBack recording c m i r h over right more =
+    let given = recordsIn recording in
+    let made = recordingOf sequence readBack (inputsIn recording) in
+    let none-made = recordings.made-ends sequence readBack recording i r (sym (right i (omega arith)) ∙ h) over in
+    let there = getElem?-some given (suc i) more in
+    let e : suc i + 1 ≡ i + 2 = omega arith in
+    differs sequence readBack recording (suc i) .1 (
+      c,
+      m,
+      record {
+        within = more;
+        here = λ q. Option·none-ne-some (there .0) (sym none-made ∙ sym q ∙ there .1);
+        before = λ j l. right j (omega arith);
+      },
+    )
+    ∙ ap (replayed 0) e
+
 -- BY PAPER: without setpause, each record of an accepted recording shows what rewriting reports on its input
 pub by-paper : ByPaper replayOf
 by-paper sequence readBack recording h p s plain =
     let a = accepts sequence readBack recording .0 h in
     paper.by-paper sequence readBack (a .0) recording (recordings.remade-records sequence readBack recording (a .1)) p s plain
+
+-- DECIDED: a replay that refuses by the check, gives 22 by the length and no place with an error, accepts and differs where it should, is
+-- replayOf, for all arguments
+pub replay-decided : (replay : Replay) → Refuses replay → TwentyTwo replay → NoPlace replay → Accepts replay → Differs replay
+    → (sequence : List ℕ) (readBack : ℕ) (recording : List ℕ) → replay sequence readBack recording ≡ replayOf sequence readBack recording
+replay-decided replay f t n a d sequence readBack recording = go (numbers.verdict sequence readBack recording)
+  where
+    eta : (o : Replayed) → o ≡ replayed (number o) (place o)
+    eta (replayed n k) = refl
+
+    compared : (k : ℕ) → replayOf sequence readBack recording ≡ replayed 0 k → replay sequence readBack recording ≡ replayed 0 k
+    compared zero e = a sequence readBack recording .1 (accepts sequence readBack recording .0 e)
+    compared (suc j) e =
+        let q : suc j ≡ j + 1 = omega arith in
+        d sequence readBack recording j .1 (differs sequence readBack recording j .0 (e ∙ ap (replayed 0) q)) ∙ sym (ap (replayed 0) q)
+
+    go : numbers.Verdict sequence readBack recording → replay sequence readBack recording ≡ replayOf sequence readBack recording
+    go (numbers.refused z e) = f sequence readBack recording z ∙ sym e
+    go (numbers.cut c z e) =
+        let w : number (replay sequence readBack recording) ≡ 22 = t sequence readBack recording .1 (c, z) in
+        eta (replay sequence readBack recording)
+        ∙ ap₂ replayed w (n sequence readBack recording (λ y. omega (arith, w, y)))
+        ∙ sym e
+    go (numbers.compared c m e) = compared (placeOf sequence readBack recording) e ∙ sym e
 
 -- ITEM 14
 pub replay-demands : ReplayDemands replayOf
@@ -71,6 +123,7 @@ replay-demands =
       differs = differs;
       empty-accepted = empty-accepted;
       nothing-after-the-end = nothing-after-the-end;
+      differs-after-the-end = differs-after-the-end;
       accepts-recordings = accepts-recordings;
       by-paper = by-paper;
     }

@@ -1,5 +1,5 @@
 -- What 02, item 14, says of a replay, each sentence a predicate of any function in the place of `replayOf`.
-use Prim.Native.Nat.{ℕ, suc, _+_, _%_, _<_}
+use Prim.Native.Nat.{ℕ, suc, _+_, _%_, _≤_, _<_}
 use mathlib.Core.Path.{_≡_}
 use mathlib.Core.Logic.{_≢_, _↔_}
 use mathlib.Core.Option.{none, some}
@@ -74,6 +74,16 @@ NothingAfterTheEnd replay =
     → (i : ℕ) (r : List ℕ) → getElem? (recordsIn recording) i ≡ some r → phaseIn (stateIn r) ≡ 2
     → getElem? (recordsIn recording) (suc i) ≡ none
 
+-- the sentence: records 0 to i are what a fresh machine gives, the machine is over with record i, and another record follows: that one
+-- differs, at place i + 2, counted from 1
+abbrev pub DiffersAfterTheEnd : Replay → Type 0
+DiffersAfterTheEnd replay =
+    (sequence : List ℕ) (readBack : ℕ) (recording : List ℕ) → checkOf sequence readBack ≡ 0 → length recording % recordLength ≡ 0
+    → (i : ℕ) (r : List ℕ) → getElem? (recordsIn recording) i ≡ some r → phaseIn (stateIn r) ≡ 2
+    → ((j : ℕ) → j ≤ i → SameAt j (recordsIn recording) (recordingOf sequence readBack (inputsIn recording)))
+    → suc i < length (recordsIn recording)
+    → replay sequence readBack recording ≡ replayed 0 (i + 2)
+
 -- ---- what a fresh machine gives is accepted
 abbrev pub AcceptsRecordings : Replay → Type 0
 AcceptsRecordings replay =
@@ -102,5 +112,6 @@ pub record ReplayDemands (replay : Replay) : Type 0 where
   pub differs : Differs replay
   pub empty-accepted : EmptyAccepted replay
   pub nothing-after-the-end : NothingAfterTheEnd replay
+  pub differs-after-the-end : DiffersAfterTheEnd replay
   pub accepts-recordings : AcceptsRecordings replay
   pub by-paper : ByPaper replay

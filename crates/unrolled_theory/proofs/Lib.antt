@@ -10,4 +10,5 @@ pub mod Ticks
 pub mod Printed
 pub mod Rows
 pub mod Results
+pub mod Decided
 pub mod Theorems

@@ -1,7 +1,8 @@
 -- What is said of every filling, and what stays said when more is known.
 use Prim.Native.Nat.{ℕ}
 use mathlib.Core.Path.{_≡_, refl, sym, ap, ap₂, _∙_, subst}
-use mathlib.Core.Logic.{_≢_, _↔_, ⊎-elim}
+use native.Mathlib.Decide.{ℕ-discrete}
+use mathlib.Core.Logic.{_≢_, _↔_, _⊎_, inl, inr, ⊎-elim}
 use mathlib.Core.Bool.{Bool, true, false, not, _&&_, _||_, cond, and-eq-true-iff, true≢false, or-false, and-true}
 use mathlib.Core.List.{List, [], _∷_, List·Memᴰ, List·Memᴰ·head, List·Memᴰ·tail, List·Memᴰ·not-nil, List·Memᴰ·cases-cons}
 use lib.Dec.{eqb}
@@ -97,6 +98,56 @@ shares k z =
       split = λ x y h. shared-split k (x .code) (y .code) z h;
       merge = λ x y a b. rw (eq-eqb (x .code) (y .code) (a ∙ sym b)) a;
     }
+
+-- ---- a filling that shows it: one that is wrong, and one whose code is another
+module _ (answers : ℕ → List ℕ) (input unknown : ℕ) where
+  abbrev of-filling : ℕ → Findings
+  of-filling f = foundIn (answers (filled input unknown f))
+
+  wrong-gathered : (fs : List ℕ) (x : Findings) → gathered answers input unknown x fs .wrong ≡ true
+      → (x .wrong ≡ true) ⊎ ((f : ℕ) × List·Memᴰ f fs × (of-filling f .wrong ≡ true))
+  unfolding gathered both
+  wrong-gathered [] x h = inl h
+  wrong-gathered (g ∷ fs) x h =
+      ⊎-elim (λ w. go (x .wrong) (of-filling g .wrong) refl refl w) (λ r. inr (r .0, List·Memᴰ·tail (r .1), r .2))
+      (wrong-gathered fs (both x (of-filling g)) h)
+    where
+      go : (a b : Bool) → x .wrong ≡ a → foundIn (answers (filled input unknown g)) .wrong ≡ b → (a || b) ≡ true
+          → (x .wrong ≡ true) ⊎ ((f : ℕ) × List·Memᴰ f (g ∷ fs) × (foundIn (answers (filled input unknown f)) .wrong ≡ true))
+      go true b i j w = inl i
+      go false true i j w = inr (g, List·Memᴰ·head refl, j)
+      go false false i j w = absurd (true≢false (sym w))
+
+  pub wrong-filling : findings answers input unknown .wrong ≡ true → (f : ℕ) × Subset f unknown × (of-filling f .wrong ≡ true)
+  unfolding findings
+  wrong-filling h =
+      ⊎-elim (λ w. (unknown, subsets-are unknown unknown .0 (List·Memᴰ·head refl), w))
+      (λ r. (r .0, subsets-are unknown (r .0) .0 (List·Memᴰ·tail (r .1)), r .2))
+      (wrong-gathered (subsetsBelow unknown unknown unknown) (of-filling unknown) h)
+
+  open-gathered : (fs : List ℕ) (x : Findings) → x .code ≢ openCode → gathered answers input unknown x fs .code ≡ openCode
+      → (f : ℕ) × List·Memᴰ f fs × (of-filling f .code ≢ x .code)
+  unfolding gathered both
+  open-gathered [] x z h = absurd (z h)
+  open-gathered (g ∷ fs) x z h =
+      elim (ℕ-discrete (x .code) (of-filling g .code)) [
+        | yes q ↦
+            let k : both x (of-filling g) .code ≡ x .code = rw (eq-eqb (x .code) (of-filling g .code) q) in
+            let r = open-gathered fs (both x (of-filling g)) (λ y. z (sym k ∙ y)) h in
+            (r .0, List·Memᴰ·tail (r .1), λ y. r .2 (y ∙ sym k))
+        | no q ↦ (g, List·Memᴰ·head refl, λ y. q (sym y))
+      ]
+
+  pub open-filling : of-filling unknown .code ≢ openCode → findings answers input unknown .code ≡ openCode
+      → (f : ℕ) × Subset f unknown × (of-filling f .code ≢ of-filling unknown .code)
+  unfolding findings
+  open-filling z h =
+      let r = open-gathered (subsetsBelow unknown unknown unknown) (of-filling unknown) z h in
+      (r .0, subsets-are unknown (r .0) .0 (List·Memᴰ·tail (r .1)), r .2)
+
+  -- a set is one of its own subsets
+  pub all-present : Subset unknown unknown
+  all-present = subsets-are unknown unknown .0 (List·Memᴰ·head refl)
 
 -- ---- more is known
 not-in : (a b : Bool) → (a ≡ true → b ≡ true) → b ≡ false → a ≡ false

@@ -9,9 +9,9 @@ use Rattle.sets.proofs.Booleans.{same-test}
 use Rattle.sets.proofs.Members.{member-common, ext}
 use Rattle.demands.specs.Plain.{SameOutside}
 use Rattle.demands.proofs.ReadBack.{reply-unread}
 use Rattle.box_fillings.specs.declared.Findings.{Findings}
 use Rattle.box_fillings.specs.Preview.{filled, openCode, foundIn, findings, previewBytes, answerIn, answersOf}
-use Rattle.box_previews.proofs.Gathering.{Said, Emits, Misses, Right, Shares, every-filling, emits, misses, right, shares, member-filled, within}
+use Rattle.box_fillings.proofs.Gathering.{Said, Emits, Misses, Right, Shares, every-filling, emits, misses, right, shares, member-filled, within}
 
 same-false : (a b : Bool) → (a ≡ false → b ≡ false) → (b ≡ false → a ≡ false) → a ≡ b
 same-false false b f g = sym (f refl)

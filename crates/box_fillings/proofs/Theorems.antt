@@ -1,8 +1,9 @@
 -- The theorems about a preview (02, item 11), of the definition previewOf (fillings, specs/Preview).
 use Prim.Native.Nat.{ℕ, _^_, _≤_, _<_}
 use native.Mathlib.Omega.{arith}
+use native.Mathlib.Decide.{ℕ-discrete}
 use mathlib.Core.Path.{_≡_, refl, sym, ap, _∙_, subst}
-use mathlib.Core.Logic.{_≢_, _↔_}
+use mathlib.Core.Logic.{_≢_, _↔_, _⊎_}
 use mathlib.Core.Bool.{Bool, true, false, cond}
 use mathlib.Core.List.{List}
 use lib.ListN.{length}
@@ -22,12 +23,13 @@ use Rattle.tick.specs.Tick.{Outcome, refused, reacts, replyOf, tickOf}
 use Rattle.demands.specs.Demands as demands
 use Rattle.demands.specs.Demands.{answerAfterwards}
 use Rattle.demands.specs.Plain.{SameOutside}
 use Rattle.box_fillings.specs.Preview.{filled, openCode, foundIn, findings, maxUnknown, previewLength, previewBytes, everyIn, neverIn, wrongIn, sharedIn, Previewed, previewed, number, bufferAfter, shownBy, answersOf, previewOf, Learned}
-use Rattle.box_previews.proofs.Gathering.{learned, learned-one, findings-alike, findings-none, as-filled, within, every-filling, emits, misses, shares}
-use Rattle.box_previews.proofs.Alike.{read-back-bytes}
-use Rattle.box_previews.proofs.Groups as groups
-use Rattle.box_fillings_findings.proofs.Numbers as numbers
-use Rattle.box_fillings_findings.proofs.Numbers.{reacting, refused-preview, shown-preview, members-fewer, Given, given, tick-number, tick-answer, tick-turned-down}
+use Rattle.box_fillings.proofs.Gathering.{learned, learned-one, findings-alike, findings-none, as-filled, within, every-filling, emits, misses, shares}
+use Rattle.box_fillings.proofs.Alike.{read-back-bytes}
+use Rattle.box_fillings.proofs.Codes as codes
+use Rattle.box_fillings.proofs.Groups as groups
+use Rattle.box_fillings.proofs.Numbers as numbers
+use Rattle.box_fillings.proofs.Numbers.{reacting, refused-preview, shown-preview, members-fewer, Given, given, tick-number, tick-answer, tick-turned-down}
 
 -- SIX UNKNOWN: at most 64 fillings
 pub sixty-four : (unknown : ℕ) → unknown < 2 ^ signalCount → length (membersFrom signalCount 0 unknown) ≤ maxUnknown
@@ -195,6 +197,30 @@ module _ (sequence state : List ℕ) (readBack : ℕ) (answer : List ℕ) (long 
   -- the code if all share it
   pub shared-code : (k : ℕ) → k ≢ openCode → (sharedIn bytes ≡ k) ↔ Each (λ x. codeIn x ≡ k)
   shared-code = groups.shared-code shows input unknown bytes are
+
+  pub some-wrong : (wrongIn bytes ≡ 1) ↔ ((f : ℕ) × Subset f unknown × (codeIn (shows (filled input unknown f)) ≡ 255))
+  some-wrong = groups.some-wrong shows input unknown bytes are
+
+  pub zero-or-one : (wrongIn bytes ≡ 0) ⊎ (wrongIn bytes ≡ 1)
+  zero-or-one = groups.zero-or-one shows input unknown bytes are
+
+  -- no instant has the code 254
+  pub never-open : (e : ℕ) → codeIn (shows e) ≢ openCode
+  never-open e = codes.never-open sequence state e readBack answer (an-instant e)
+
+  -- 'else 254 for "open"': exactly if two fillings have different codes, that is if they share none
+  pub open-code : (sharedIn bytes ≡ openCode)
+      ↔ ((f f′ : ℕ) × Subset f unknown × Subset f′ unknown × (codeIn (shows (filled input unknown f)) ≢ codeIn (shows (filled input unknown f′))))
+  open-code = groups.open-code shows input unknown bytes are (λ f. never-open (filled input unknown f))
+
+  pub none-shared : (sharedIn bytes ≡ openCode) ↔ (¬ ((k : ℕ) × Each (λ x. codeIn x ≡ k)))
+  none-shared = (
+    λ h s. let r = open-code .0 h in r .4 (s .1 (r .0) (r .2) ∙ sym (s .1 (r .1) (r .3))),
+    λ n. elim (ℕ-discrete (sharedIn bytes) openCode) [
+      | yes q ↦ q
+      | no q ↦ absurd (n (sharedIn bytes, shared-code (sharedIn bytes) q .0 refl))
+    ],
+  )
 
   -- AS IT COMES: the instant on the statuses that the unknown inputs then have lies within the preview
   module _ (e : ℕ) (h : (i : ℕ) → member i unknown ≡ false → member i input ≡ member i e) where

@@ -2,12 +2,13 @@
 use Prim.Native.Nat.{ℕ, _/_, _%_, _^_, _<_}
 use native.Mathlib.Nat.{mod-lt}
 use native.Mathlib.Omega.{arith}
+use native.Mathlib.Decide.{ℕ-discrete}
 use mathlib.Core.Path.{_≡_, refl, sym, ap, ap₂, _∙_}
-use mathlib.Core.Logic.{_≢_, _↔_}
+use mathlib.Core.Logic.{_≢_, _↔_, _⊎_, inl, inr, ⊎-elim}
 use mathlib.Core.Bool.{Bool, true, false, not, _&&_, true≢false, false≢true}
 use mathlib.Core.List.{List}
 use lib.Dec.{ltb}
-use borrow.Author.Tests.{eqb-false, ne-eqb, lt-ltb}
+use borrow.Author.Tests.{eqb-true, eqb-false, ne-eqb, lt-ltb}
 use Rattle.limits.specs.Limits.{signalCount, signalBytes}
 use Rattle.sets.specs.Sets.{member, Subset}
 use Rattle.sets.specs.Widths.{allBelow, complement}
@@ -17,9 +18,9 @@ use Rattle.sets.proofs.Words.{words-of, low-fits, member-low}
 use Rattle.numbers.specs.Bytes.{leBytes, leNumber}
 use Rattle.numbers.proofs.Bytes.{le-low, le-round-trip}
 use Rattle.answers.specs.AnswerRecord.{codeIn, emittedIn}
 use Rattle.box_fillings.specs.declared.Findings.{Findings}
 use Rattle.box_fillings.specs.Preview.{filled, openCode, findings, bit, previewBytes, everyIn, neverIn, wrongIn, sharedIn, Learned}
-use Rattle.box_previews.proofs.Gathering.{every-filling, emits, misses, right, shares, learned}
+use Rattle.box_fillings.proofs.Gathering.{every-filling, wrong-filling, open-filling, all-present, emits, misses, right, shares, learned}
 
 -- ---- the fields
 member-mod : (w i s : ℕ) → i < w → member i (s % 2 ^ w) ≡ member i s
@@ -76,6 +77,14 @@ bit-zero : (b : Bool) → (bit b ≡ 0) ↔ (b ≡ false)
 bit-zero true = (λ e. absurd (omega arith), λ e. absurd (true≢false e))
 bit-zero false = (λ e. refl, λ e. refl)
 
+bit-one : (b : Bool) → bit b ≡ 1 → b ≡ true
+bit-one true e = refl
+bit-one false e = absurd (omega arith)
+
+one-or-zero : (b : Bool) {n : ℕ} → n ≡ bit b → (n ≡ 0) ⊎ (n ≡ 1)
+one-or-zero true e = inr e
+one-or-zero false e = inl e
+
 -- ---- the groups, of bytes that are the findings'
 module _ (answers : ℕ → List ℕ) (input unknown : ℕ) where
   -- something of the answer to each filling
@@ -115,6 +124,34 @@ module _ (answers : ℕ → List ℕ) (input unknown : ℕ) where
         let e = ap sharedIn g ∙ shared-field x in
         let t = every-filling (shares k o) answers input unknown in
         (λ h. t .0 (sym e ∙ h), λ h. e ∙ t .1 h)
+
+    -- 1 exactly if some filling is wrong
+    pub some-wrong : (wrongIn bytes ≡ 1) ↔ ((f : ℕ) × Subset f unknown × (codeIn (answers (filled input unknown f)) ≡ 255))
+    some-wrong =
+        let e = ap wrongIn g ∙ wrong-field x in (
+          λ h. let r = wrong-filling answers input unknown (bit-one (x .wrong) (sym e ∙ h)) in
+              (r .0, r .1, eqb-true (codeIn (answers (filled input unknown (r .0)))) 255 (r .2)),
+          λ r. ⊎-elim (λ z. absurd (none-wrong .0 z (r .0) (r .1) (r .2))) (λ z. z) (one-or-zero (x .wrong) e),
+        )
+
+    pub zero-or-one : (wrongIn bytes ≡ 0) ⊎ (wrongIn bytes ≡ 1)
+    zero-or-one = one-or-zero (x .wrong) (ap wrongIn g ∙ wrong-field x)
+
+    -- 254 exactly if two fillings have different codes, where no code of an answer is 254
+    pub open-code : ((f : ℕ) → codeIn (answers (filled input unknown f)) ≢ openCode)
+        → (sharedIn bytes ≡ openCode)
+        ↔ ((f f′ : ℕ) × Subset f unknown × Subset f′ unknown × (codeIn (answers (filled input unknown f)) ≢ codeIn (answers (filled input unknown f′))))
+    open-code never =
+        let e = ap sharedIn g ∙ shared-field x in (
+          λ h. let r = open-filling answers input unknown (never unknown) (sym e ∙ h) in
+              (r .0, unknown, r .1, all-present answers input unknown, r .2),
+          λ r. elim (ℕ-discrete (sharedIn bytes) openCode) [
+            | yes q ↦ q
+            | no q ↦
+                let s = shared-code (sharedIn bytes) q .0 refl in
+                absurd (r .4 (s (r .0) (r .2) ∙ sym (s (r .1) (r .3))))
+          ],
+        )
 
 -- that no filling is wrong stays so
 pub still-right : {input unknown input′ unknown′ : ℕ} → Learned input unknown input′ unknown′ → (answers : ℕ → List ℕ)

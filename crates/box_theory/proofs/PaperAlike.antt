@@ -1,0 +1,100 @@
+-- A stretch of the box and a place of the box on paper that are alike: the same bay or none, the machine in a state whose term the
+-- paper has, positions whose terms it has, and the same totals.
+use Prim.Native.Nat.{ℕ, _≤_, _<_}
+use mathlib.Core.Path.{_≡_, sym, ap, _∙_, subst}
+use mathlib.Core.Logic.{_≢_}
+use mathlib.Core.Option.{some, none}
+use mathlib.Core.List.{List}
+use lib.ListN.{length}
+use borrow.Author.Tests.{ne-eqb}
+use Rattle.limits.specs.Limits.{lastNumber}
+use Rattle.esterel.specs.Machines.{State}
+use Rattle.sequence.specs.Program.{program}
+use Rattle.states.specs.StateRecord.{encodeState, Recorded}
+use Rattle.demands.proofs.Sequence.{Accepted}
+use Rattle.box_positions.specs.Names.{Position}
+use Rattle.box_positions.specs.Table.{Agrees}
+use Rattle.box_ledgers.specs.Ledgers.{farmCount, totalIn}
+use Rattle.box_stretches.specs.Called.{Called, called, number, memoryAfter}
+use Rattle.box_stretches.specs.Stretch.{stretchLength, lengthIn, stateIn, lastNumberIn, positionsIn, ledgerIn, Terms}
+use Rattle.box_calls.specs.Box.{Call, bayCall}
+use Rattle.box_calls.specs.Years.{deliveredAfter}
+use Rattle.box_fields.proofs.Fields.{Holds}
+use Rattle.box_theory.proofs.Bays.{ceilingFor}
+use Rattle.box_theory.proofs.Standing.{Standing}
+use Rattle.box_theory.proofs.Positions.{Positioned}
+use Rattle.box_theory.proofs.Years.{ledger-after, total-by}
+use Rattle.box_paper.specs.PaperBox.{Saved, PaperBay, PaperPlace, Reported, PaperReply, down}
+use Rattle.box_paper.specs.Reports.{shownIn, reported}
+use Rattle.box_theory.proofs.PaperMachines.{Follows}
+use Rattle.box_theory.proofs.PaperNames.{savedOf}
+
+abbrev pub SameTotals : List ℕ → (ℕ → ℕ) → Type 0
+SameTotals s t = (f : ℕ) → f < farmCount → totalIn f (ledgerIn s) ≡ t f
+
+module _ {S T R : Type 0} (m : Follows S T R) where
+  pub record Present (s : List ℕ) : Type 0 where
+    pub terms : Terms
+    pub accepted : Accepted (terms .sequence) (terms .readBack)
+    pub holds : Holds terms (ceilingFor terms) s
+    pub fine : m .For (accepted .statement)
+    -- the state of the machine, and that of the machine on paper
+    pub state : State
+    pub bytes : stateIn s ≡ encodeState state
+    pub recorded : Recorded (accepted .statement) state
+    pub machine : S
+    pub at : m .At (program (terms .readBack) (accepted .statement)) state machine
+    -- the number of the last instant
+    pub last : ℕ
+    pub count : lastNumberIn s ≡ last
+    pub fits : last ≤ lastNumber
+    -- the positions
+    pub positioned : Positioned terms (positionsIn s)
+    pub names : List Position
+    pub agrees : Agrees (positionsIn s) names
+    pub positions : List (Saved T)
+    pub saved : positions ≡ savedOf (m .keptOf (program (terms .readBack) (accepted .statement))) names
+
+  abbrev pub standing : {s : List ℕ} → (h : Present s) → Standing (h .terms) s
+  standing h = record { accepted = h .accepted; holds = h .holds; state = h .state; bytes = h .bytes; recorded = h .recorded }
+
+  -- the bay of the paper
+  abbrev pub bayOf : {s : List ℕ} → Present s → PaperBay S T
+  bayOf h =
+      record {
+        statement = h .accepted .statement;
+        readBack = h .terms .readBack;
+        serviceOnly = h .terms .serviceOnly;
+        machine = h .machine;
+        last = h .last;
+        positions = h .positions;
+      }
+
+  pub data Alike (s : List ℕ) (z : PaperPlace S T) : Type 0 where
+    vacant : length s ≡ stretchLength → lengthIn s ≡ 0 → z .bay ≡ none → SameTotals s (z .totals) → Alike s z
+    present : (h : Present s) → z .bay ≡ some (bayOf h) → SameTotals s (z .totals) → Alike s z
+
+  -- what a call on the stretch comes to is what it comes to on paper
+  pub record Same (c : Call) (o : Called) (told : PaperReply S T R) : Type 0 where
+    pub report : reported (m .kind .view) c o ≡ told .0
+    pub alike : Alike (memoryAfter o) (told .1)
+
+  -- turned down, on both
+  pub same-down : (c : Call) (s : List ℕ) (z : PaperPlace S T) → Alike s z → (n : ℕ) → n ≢ 0 → (lent : List (List ℕ)) → {o : Called} → o ≡ called n s lent
+      → {told : PaperReply S T R} → told ≡ down n z → Same c o told
+  same-down c s z a n y lent {o} e {told} f =
+      subst (λ (o : Called). Same c o told) (sym e)
+      (subst (λ (t : PaperReply S T R). Same c (called n s lent) t) (sym f) (record { report = rw (ne-eqb n 0 y); alike = a }))
+
+  -- answered 0, on both
+  pub same-answered : (c : Call) (s : List ℕ) (z : PaperPlace S T) (lent : List (List ℕ)) (r : Reported R) → shownIn (m .kind .view) c lent ≡ r → Alike s z
+      → {o : Called} → o ≡ called 0 s lent → {told : PaperReply S T R} → told ≡ (r, z) → Same c o told
+  same-answered c s z lent r shown a {o} e {told} f =
+      subst (λ (o : Called). Same c o told) (sym e)
+      (subst (λ (t : PaperReply S T R). Same c (called 0 s lent) t) (sym f) (record { report = shown; alike = a }))
+
+-- the totals after a call answered 0
+pub totals-after : (k : ℕ) (s : List ℕ) → length s ≡ stretchLength → (t : ℕ → ℕ) → SameTotals s t → (c : Call) → number (bayCall k c s) ≡ 0
+    → (f : ℕ) → f < farmCount → totalIn f (ledgerIn (memoryAfter (bayCall k c s))) ≡ deliveredAfter f c s (t f)
+totals-after k s z t h c n f l =
+    ap (totalIn f) (ledger-after k s z c n) ∙ total-by k s z f l c n ∙ ap (deliveredAfter f c s) (h f l)
