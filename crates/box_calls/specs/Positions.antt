@@ -24,7 +24,7 @@ use Rattle.box_calls.specs.Claims.{InBoxes}
 
 -- ---- by name
 -- what a call answered 0 makes of them, the machine having these labels
-abbrev pub changedBy : Call → (labels : ℕ) → List Position → List Position
+abbrev pub changedBy : Call → (labels : ℕ) → List (Position ℕ) → List (Position ℕ)
 changedBy (admit t) labels ps = ps
 changedBy release labels ps = []
 changedBy (tick e answer trace) labels ps = ps
@@ -38,7 +38,7 @@ changedBy (ledger totals) labels ps = ps
 changedBy newYear labels ps = ps
 
 -- a call that is turned down leaves them, and so does one to another bay
-unfoldable pub savedIn : Calling → (bay : ℕ) → List ℕ → List Position → List Request → List Position
+unfoldable pub savedIn : Calling → (bay : ℕ) → List ℕ → List (Position ℕ) → List Request → List (Position ℕ)
 savedIn call bay box ps [] = ps
 savedIn call bay box ps (x ∷ xs) =
     savedIn call bay (afterCall call box x)

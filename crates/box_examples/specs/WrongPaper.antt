@@ -1,62 +1,82 @@
--- A box with a slip that no claim about one call sees: a forget while the machine is over puts another sequence of the same length, labels
--- and ceiling in the place of the one admitted. No tick of the bay tells of it until it comes back to a position.
-use Prim.Native.Nat.{ℕ, _+_, _*_}
-use mathlib.Core.Bool.{_&&_, cond}
+-- Boxes that are not the box on paper, with a slip each, and the lists of calls that tell.
+use Prim.Native.Nat.{ℕ, suc, _+_, _*_, _%_}
+use mathlib.Core.Bool.{not, _&&_, cond}
 use mathlib.Core.List.{List, [], _∷_}
 use lib.ListN.{replicate}
-use lib.Dec.{eqb}
-use Rattle.states.specs.StateRecord.{phaseIn}
+use Rattle.limits.specs.Limits.{signalBytes}
 use Rattle.recordings.specs.Record.{recordLength}
 use Rattle.recordings.specs.Recording.{blank}
-use Rattle.box_parts.specs.Parts.{put}
+use Rattle.box_parts.specs.Parts.{slot, put, zeros}
+use Rattle.box_positions.specs.Names.{isKnown}
+use Rattle.box_positions.specs.Table.{lookup}
+use Rattle.box_ledgers.specs.Ledgers.{ledgerLength, readingLength}
 use Rattle.box_stretches.specs.Called.{Called, called, number, memoryAfter, lentAfter}
-use Rattle.box_stretches.specs.Stretch.{sequenceAt, stretchLength, stateIn, Terms}
-use Rattle.box_calls.specs.Box.{stretchOf, Call, admit, release, tick, save, restore, forget, service, panel, preview, ledger, newYear, callOf}
+use Rattle.box_stretches.specs.Stretch.{sequenceAt, readBackAt, bayLength, stretchLength, isEmpty, positionsIn, Terms}
+use Rattle.box_calls.specs.Box.{bayCount, stretchOf, Call, admit, release, tick, save, restore, ledger, callOf}
 use Rattle.box_calls.specs.Lists.{Calling, Request}
 
--- pause 0, then emit 0; and pause 0, then emit 1
-abbrev pub emitsZero : List ℕ
-emitsZero = 0x04 ∷ 0x01 ∷ 0x00 ∷ 0x02 ∷ 0x00 ∷ []
-
-abbrev pub emitsOne : List ℕ
-emitsOne = 0x04 ∷ 0x01 ∷ 0x00 ∷ 0x02 ∷ 0x01 ∷ []
-
-abbrev swapped : (bay : ℕ) → Called → Called
-swapped bay o =
-    cond (eqb (number o) 0 && eqb (phaseIn (stateIn (stretchOf bay (memoryAfter o)))) 2)
-    (called 0 (put (bay * stretchLength + sequenceAt) 5 emitsOne (memoryAfter o)) (lentAfter o)) o
-
-abbrev pub swapsWhenOver : Calling
-swapsWhenOver box bay (admit t) = callOf box bay (admit t)
-swapsWhenOver box bay release = callOf box bay release
-swapsWhenOver box bay (tick e answer trace) = callOf box bay (tick e answer trace)
-swapsWhenOver box bay (save name) = callOf box bay (save name)
-swapsWhenOver box bay (restore name) = callOf box bay (restore name)
-swapsWhenOver box bay (forget name) = swapped bay (callOf box bay (forget name))
-swapsWhenOver box bay (service trace view) = callOf box bay (service trace view)
-swapsWhenOver box bay (panel trace view) = callOf box bay (panel trace view)
-swapsWhenOver box bay (preview e unknown buffer) = callOf box bay (preview e unknown buffer)
-swapsWhenOver box bay (ledger totals) = callOf box bay (ledger totals)
-swapsWhenOver box bay newYear = callOf box bay newYear
-
+-- ---- calls to bay 0
 abbrev pub to : Call → Request
 to c = record { bay = 0; call = c }
 
 abbrev pub instant : Call
 instant = tick 0 blank (replicate recordLength 0)
 
-abbrev pub emitsZeroAdmitted : Terms
-emitsZeroAdmitted = record { sequence = emitsZero; readBack = 0; serviceOnly = 0 }
+abbrev pub reading : Call
+reading = ledger (replicate readingLength 0)
 
--- waits, is saved twice, ends, forgets one and comes back to the other
-abbrev pub thereAndBack : List Request
-thereAndBack =
-    to (admit emitsZeroAdmitted)
-    ∷ to instant
-    ∷ to (save 1)
-    ∷ to (save 2)
-    ∷ to instant
-    ∷ to (forget 2)
-    ∷ to (restore 1)
+abbrev pub alone : (sequence : List ℕ) → Terms
+alone sequence = record { sequence = sequence; readBack = 0; serviceOnly = 0 }
+
+-- ---- the sequence that is held changes: pause 0, emit 0, pause 1, where from a second position on the emission is of signal 1. Both
+-- sequences have the same length, labels and ceiling, and no claim about one call sees it
+abbrev pub emitsZero : List ℕ
+emitsZero = 0x04 ∷ 0x04 ∷ 0x01 ∷ 0x00 ∷ 0x02 ∷ 0x00 ∷ 0x01 ∷ 0x01 ∷ []
+
+abbrev pub changesSequence : Calling
+changesSequence box bay c =
+    let o = callOf box bay c in
+    cond (isKnown (lookup 2 (positionsIn (stretchOf bay (memoryAfter o)))))
+    (called (number o) (put (bay * stretchLength + (sequenceAt + 5)) 1 (1 ∷ []) (memoryAfter o)) (lentAfter o)) o
+
+-- a position before the emission and one behind it, and back to the first
+abbrev pub backBefore : List Request
+backBefore =
+    to (admit (alone emitsZero)) ∷ to instant ∷ to (save 1) ∷ to instant ∷ to (save 2) ∷ to (restore 1) ∷ to instant ∷ []
+
+-- ---- the ledger is gone with the bay
+abbrev pub forgetsAtRelease : Calling
+forgetsAtRelease box bay c =
+    let o = callOf box bay c in
+    cond (not (isEmpty (stretchOf bay box)) && isEmpty (stretchOf bay (memoryAfter o)))
+    (called (number o) (put (bay * stretchLength + bayLength) ledgerLength (zeros ledgerLength) (memoryAfter o)) (lentAfter o)) o
+
+-- 5 litres for farm 2
+abbrev pub delivers : List ℕ
+delivers = 0x0C ∷ 0x02 ∷ 0x00 ∷ 0x00 ∷ 0xA0 ∷ 0x40 ∷ []
+
+abbrev pub takenOut : List Request
+takenOut = to (admit (alone delivers)) ∷ to instant ∷ to release ∷ to reading ∷ []
+
+-- ---- a bay reads back what the next bay number does
+abbrev pub readsBackNeighbour : Calling
+readsBackNeighbour box bay c =
+    callOf (put (bay * stretchLength + readBackAt) signalBytes (slot readBackAt signalBytes (stretchOf (suc bay % bayCount) box)) box) bay c
+
+-- emits signal 0, and beside it pauses where signal 0 is present
+abbrev pub waitsIfRead : List ℕ
+waitsIfRead = 0x05 ∷ 0x02 ∷ 0x00 ∷ 0x07 ∷ 0x00 ∷ 0x01 ∷ 0x00 ∷ 0x00 ∷ []
+
+abbrev pub besideReader : List Request
+besideReader =
+    record { bay = 1; call = admit (record { sequence = waitsIfRead; readBack = 1; serviceOnly = 0 }) }
+    ∷ to (admit (alone waitsIfRead))
     ∷ to instant
     ∷ []
+
+-- ---- a position after the delivery, and back to it: the total of a box that rewinds its ledger is then 0 (WrongLedgers)
+abbrev pub delivered : List ℕ
+delivered = 0x04 ∷ 0x0C ∷ 0x02 ∷ 0x00 ∷ 0x00 ∷ 0xA0 ∷ 0x40 ∷ 0x01 ∷ 0x00 ∷ []
+
+abbrev pub backBehind : List Request
+backBehind = to (admit (alone delivered)) ∷ to instant ∷ to (save 1) ∷ to (restore 1) ∷ to reading ∷ []

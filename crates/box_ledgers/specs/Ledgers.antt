@@ -85,9 +85,12 @@ exactTotal (suc n) bs = exactTotal n bs + totalIn n bs
 abbrev pub shownTotal : List ℕ → Float
 shownTotal bs = ordered 31 (λ f. totalFloat f bs)
 
--- 02: 'the 32 totals, then the ledger's total'
+-- 02: 'the 32 totals, then the ledger's total', which is added in single precision over farms 0 to 31
+abbrev pub readingFor : (t : ℕ → ℕ) → List ℕ
+readingFor t = totalsBytes farmCount t ++ leBytes amountSize (toBits binary32 (ordered 31 (λ f. ofInt binary32 (pos (t f)))))
+
 abbrev pub readingOf : List ℕ → List ℕ
-readingOf bs = totalsBytes farmCount (λ f. totalIn f bs) ++ leBytes amountSize (toBits binary32 (shownTotal bs))
+readingOf bs = readingFor (λ f. totalIn f bs)
 
 -- the ledger's total in a reading
 abbrev pub totalRead : List ℕ → Float

@@ -1,71 +1,63 @@
--- THE CERTIFICATE (02, item 12): tank and ledger agree within limits. Whatever calls a box was given since it was empty, a reading of the
--- ledger of a bay number says what the machine on paper delivered to each farm since that bay number's last new year.
+-- THE CERTIFICATE: tank and ledger agree within limits (02, item 12). Whatever calls a box was given since it was empty, a reading of the
+-- ledger of a bay number says what the machines on paper delivered to each farm since that bay number's last new year.
 use Prim.Native.Nat.{ℕ, zero, suc, _+_, _*_, _≤_, _<_}
 use mathlib.Core.Path.{_≡_}
-use mathlib.Core.Bool.{Bool, true, false, cond}
+use mathlib.Core.Bool.{Bool, false, cond}
 use mathlib.Core.Option.{Option, some, none}
-use mathlib.Core.List.{List, [], _∷_, _++_}
+use mathlib.Core.List.{List, [], _∷_}
 use lib.Dec.{eqb}
-use lib.IntN.{pos}
-use lib.Ieee.{Float, nan, inf, fin, binary32, up, down, toBits, ofInt}
+use lib.Ieee.{Float, nan, inf, fin, up, down}
+use Rattle.limits.specs.Limits.{litresLimit}
 use Rattle.esterel.specs.States.{NoSetpause}
-use Rattle.numbers.specs.Bytes.{leBytes}
-use Rattle.litres.specs.Litres.{ordered}
-use Rattle.sequence.specs.Amounts.{amountSize}
-use Rattle.box_ledgers.specs.Ledgers.{farmCount, fieldIn, totalsBytes, totalRead}
+use Rattle.box_ledgers.specs.Ledgers.{farmCount, fieldIn, readingFor, totalRead}
 use Rattle.box_stretches.specs.Called.{number, lentAfter, first}
 use Rattle.box_calls.specs.Box.{emptyBox, Call, admit, release, tick, save, restore, forget, service, panel, preview, ledger, newYear}
 use Rattle.box_calls.specs.Lists.{Calling, Request, boxAfter}
+use Rattle.box_calls.specs.Shares.{AllSendable}
 use Rattle.box_calls.specs.Years.{sumOf}
-use Rattle.box_paper.specs.PaperBox.{Kind, onTerms, onLabels, PaperBay, PaperPlace, PaperBox, emptyPaper, Reported, numbered, ticked, shows, reading, addsOn, paperCall}
-use Rattle.box_paper.specs.Reports.{AllForPaper}
+use Rattle.box_paper.specs.PaperBox.{BayMachine, byTerms, byLabelSets, PaperBay, PaperPlace, PaperBox, emptyPaper, Reported, ticked, replies, addsOn, paperCall}
+use Rattle.box_paper.specs.Reports.{Admitting}
 
 -- ---- what was delivered, on paper
-abbrev pub isInstant : {R : Type 0} → Reported R → Bool
-isInstant (numbered n) = false
-isInstant (ticked a n i r) = true
-isInstant (shows bytes) = false
-isInstant (reading each near) = false
-
-module _ {S T R : Type 0} (m : Kind S T R) where
-  -- what the bay's machine delivers to a farm on an input
+module _ {S T R : Type 0} (m : BayMachine S T R) where
+  -- what the instant on an input brings a farm
   abbrev pub delivery : Option (PaperBay S T) → (e farm : ℕ) → ℕ
   delivery none e f = 0
   delivery (some b) e f = addsOn m b e f
 
-  -- the deliveries so far, the latest first, after a call to the bay number: an instant adds its own, a tick that is turned down (12, 13,
-  -- 19 ..) adds none, a new year begins anew; an admission, a coming back and a taking out leave them
-  abbrev pub deliveriesAfter : (farm : ℕ) → Call → Reported R → PaperPlace S T → List ℕ → List ℕ
-  deliveriesAfter f (admit t) o z ds = ds
-  deliveriesAfter f release o z ds = ds
-  deliveriesAfter f (tick e answer trace) o z ds = cond (isInstant o) (delivery (z .bay) e f ∷ ds) ds
-  deliveriesAfter f (save name) o z ds = ds
-  deliveriesAfter f (restore name) o z ds = ds
-  deliveriesAfter f (forget name) o z ds = ds
-  deliveriesAfter f (service trace view) o z ds = ds
-  deliveriesAfter f (panel trace view) o z ds = ds
-  deliveriesAfter f (preview e unknown buffer) o z ds = ds
-  deliveriesAfter f (ledger buffer) o z ds = ds
-  deliveriesAfter f newYear o z ds = []
+  -- a tick's delivery goes before those so far if it is an instant; one that is turned down (1, 12, 13, 19) delivers nothing
+  abbrev pub withDelivery : Reported R → (litres : ℕ) → List ℕ → List ℕ
+  withDelivery (ticked r) n ds = n ∷ ds
+  withDelivery (replies number lent) n ds = ds
 
-  -- over a list of calls; those to other bays leave them
+  -- the deliveries of a bay number to a farm after a call to it: a new year begins anew; an admission, a coming back and a taking out leave
+  -- them like every other call
+  abbrev pub deliveriesAfter : (farm : ℕ) → Call → Reported R → Option (PaperBay S T) → List ℕ → List ℕ
+  deliveriesAfter f (admit t) o b ds = ds
+  deliveriesAfter f release o b ds = ds
+  deliveriesAfter f (tick e answer trace) o b ds = withDelivery o (delivery b e f) ds
+  deliveriesAfter f (save name) o b ds = ds
+  deliveriesAfter f (restore name) o b ds = ds
+  deliveriesAfter f (forget name) o b ds = ds
+  deliveriesAfter f (service trace view) o b ds = ds
+  deliveriesAfter f (panel trace view) o b ds = ds
+  deliveriesAfter f (preview e unknown buffer) o b ds = ds
+  deliveriesAfter f (ledger buffer) o b ds = ds
+  deliveriesAfter f newYear o b ds = []
+
+  -- over a list of calls, the latest first; a call to another bay number leaves them
   unfoldable pub deliveriesOver : (bay farm : ℕ) → PaperBox S T → List ℕ → List Request → List ℕ
   deliveriesOver bay f box ds [] = ds
   deliveriesOver bay f box ds (x ∷ xs) =
       deliveriesOver bay f (paperCall m box (x .bay) (x .call) .1)
-      (cond (eqb (x .bay) bay) (deliveriesAfter f (x .call) (paperCall m box bay (x .call) .0) (box bay) ds) ds) xs
+      (cond (eqb (x .bay) bay) (deliveriesAfter f (x .call) (paperCall m box bay (x .call) .0) (box bay .bay) ds) ds) xs
 
--- the litres that rewriting delivered to a farm in a bay number since its last new year, after a list of calls from the empty box
-abbrev pub deliveredOnPaper : (bay : ℕ) → List Request → (farm : ℕ) → ℕ
-deliveredOnPaper bay xs farm = sumOf (deliveriesOver onTerms bay farm emptyPaper [] xs)
-
--- and those that the machine that keeps a label set delivered, for sequences with setpause too
-abbrev pub deliveredByLabels : (bay : ℕ) → List Request → (farm : ℕ) → ℕ
-deliveredByLabels bay xs farm = sumOf (deliveriesOver onLabels bay farm emptyPaper [] xs)
+  -- the litres that a bay number delivered to a farm since its last new year, after a list of calls from the empty box
+  abbrev pub deliveredOn : (bay : ℕ) → List Request → (farm : ℕ) → ℕ
+  deliveredOn bay xs farm = sumOf (deliveriesOver bay farm emptyPaper [] xs)
 
 -- ---- what is read
--- x is the whole number n: finite, without a minus sign, and with no fraction (a finite x is m times 2 to the power e, which is
--- the fraction up e / down e)
+-- x is the whole number n: finite, with no minus sign and no fraction. A finite x is m times 2 to the power e, or m * up e / down e
 abbrev pub IsNumber : Float → (n : ℕ) → Type 0
 IsNumber nan n = ⊥
 IsNumber (inf minus) n = ⊥
@@ -76,36 +68,33 @@ unfoldable pub overFarms : (n : ℕ) → (litres : (farm : ℕ) → ℕ) → ℕ
 overFarms zero litres = 0
 overFarms (suc n) litres = overFarms n litres + litres n
 
--- the 132 bytes of a reading, from the farms' totals alone: the 32, then their sum in single precision, added over farms 0 to 31
-abbrev pub readingFor : (litres : (farm : ℕ) → ℕ) → List ℕ
-readingFor t = totalsBytes farmCount t ++ leBytes amountSize (toBits binary32 (ordered 31 (λ f. ofInt binary32 (pos (t f)))))
-
--- A READING IS CERTIFIED for what was delivered to each farm
+-- A READING IS CERTIFIED for what was delivered to each farm:
 pub record Certified (delivered : (farm : ℕ) → ℕ) (reading : List ℕ) : Type 0 where
-  -- each farm's total read is a whole number, exactly what was delivered to the farm
+  -- each farm's total is a whole number, and exactly what was delivered to the farm
   pub farm-exact : (farm : ℕ) → farm < farmCount → IsNumber (fieldIn farm reading) (delivered farm)
-  -- and at most 16,777,216
-  pub farm-at-most : (farm : ℕ) → farm < farmCount → delivered farm ≤ 16777216
-  -- the ledger's total read is a whole number
+  -- it is at most 16,777,216 litres
+  pub farm-at-most : (farm : ℕ) → farm < farmCount → delivered farm ≤ litresLimit
+  -- the ledger's total is a whole number too
   pub total : ℕ
-  pub total-read : IsNumber (totalRead reading) total
-  -- at most 496 litres above the exact sum of the 32, and at most 496 below it
+  pub total-exact : IsNumber (totalRead reading) total
+  -- it 'lies within 496 litres of the exact sum' of what was delivered to the 32 farms
   pub not-above : total ≤ overFarms farmCount delivered + 496
   pub not-below : overFarms farmCount delivered ≤ total + 496
-  -- and nothing else is in the reading: its bytes go by what was delivered
+  -- and nothing else is in the reading: its 132 bytes go by what was delivered
   pub bytes : reading ≡ readingFor delivered
 
--- After every list of calls from the empty box, to whichever bays and turned down or not, with comings back, takings out, admissions and new
--- years among them, every reading answered 0, of a bay that is filled or empty, is certified (sequences without setpause)
+-- AFTER EVERY LIST OF CALLS from the empty box, to whichever bays and turned down or not, with comings back, takings out, admissions, calls
+-- answered 19 and new years among them, every reading that is answered 0 is certified for what the paper delivered that rewrites; the
+-- list's sequences are without setpause, sets and names are of 32 bits
 abbrev pub ReadingsCertified : Calling → Type 0
 ReadingsCertified call =
-    (xs : List Request) → AllForPaper NoSetpause xs → (bay : ℕ) (buffer : List ℕ)
+    (xs : List Request) → AllSendable xs → Admitting NoSetpause xs → (bay : ℕ) (buffer : List ℕ)
     → number (call (boxAfter call emptyBox xs) bay (ledger buffer)) ≡ 0
-    → Certified (deliveredOnPaper bay xs) (first (lentAfter (call (boxAfter call emptyBox xs) bay (ledger buffer))))
+    → Certified (deliveredOn byTerms bay xs) (first (lentAfter (call (boxAfter call emptyBox xs) bay (ledger buffer))))
 
--- the same of every sequence, for what the machine of 01, 'States and resuming', delivered
+-- and, with setpause too, for what the paper delivered that keeps label sets
 abbrev pub ReadingsCertifiedByLabels : Calling → Type 0
 ReadingsCertifiedByLabels call =
-    (xs : List Request) → AllForPaper (λ p. Unit {0}) xs → (bay : ℕ) (buffer : List ℕ)
+    (xs : List Request) → AllSendable xs → (bay : ℕ) (buffer : List ℕ)
     → number (call (boxAfter call emptyBox xs) bay (ledger buffer)) ≡ 0
-    → Certified (deliveredByLabels bay xs) (first (lentAfter (call (boxAfter call emptyBox xs) bay (ledger buffer))))
+    → Certified (deliveredOn byLabelSets bay xs) (first (lentAfter (call (boxAfter call emptyBox xs) bay (ledger buffer))))

@@ -1,4 +1,4 @@
 pub mod PaperBox
 pub mod Reports
-pub mod Examples
 pub mod Certified
+pub mod Examples

@@ -9,7 +9,7 @@ use Rattle.box_positions.specs.Names.{Position, find, without, answered,
 use Rattle.box_positions.specs.Table.{tableLength, place, lookup, numberKept, tableKept, saveOf, forgetOf}
 
 -- names 0 to n - 1 saved, each with a label set of its own
-abbrev first : ℕ → List Position
+abbrev first : ℕ → List (Position ℕ)
 first zero = []
 first (suc n) = positionsAfter (saveNamed n (suc n) (first n))
 

@@ -105,7 +105,7 @@ pub record Formed (t : List ℕ) : Type 0 where
   pub named : (i : ℕ) → i < maxPositions → FreeOrNamed (keyIn i t)
 
 -- the table and the positions by name are the same
-pub record Agrees (t : List ℕ) (ps : List Position) : Type 0 where
+pub record Agrees (t : List ℕ) (ps : List (Position ℕ)) : Type 0 where
   pub formed : Formed t
   pub alike : (name : ℕ) → lookup name t ≡ find name ps
   pub once : Once (namesOf ps)

@@ -21,7 +21,7 @@ use Rattle.box_positions_table.proofs.Known.{names-known, names-once, a
 
 -- ---- what is found without a name
 module _ (name : ℕ) where
-  pub find-without : (ps : List Position) → find name (without name ps) ≡ none
+  pub find-without : (ps : List (Position ℕ)) → find name (without name ps) ≡ none
   unfolding find without
   find-without [] = refl
   find-without (position n labels ∷ ps) =
@@ -32,7 +32,7 @@ module _ (name : ℕ) where
             rw (ne-eqb n name e) w
       ]
 
-  pub find-others : (other : ℕ) → other ≢ name → (ps : List Position) → find other (without name ps) ≡ find other ps
+  pub find-others : (other : ℕ) → other ≢ name → (ps : List (Position ℕ)) → find other (without name ps) ≡ find other ps
   unfolding find without
   find-others other d [] = refl
   find-others other d (position n labels ∷ ps) =
@@ -43,7 +43,7 @@ module _ (name : ℕ) where
 
 -- ---- the names
 module _ (name : ℕ) where
-  pub found-named : (ps : List Position) (labels : ℕ) → find name ps ≡ some labels → List·Memᴰ name (namesOf ps)
+  pub found-named : (ps : List (Position ℕ)) (labels : ℕ) → find name ps ≡ some labels → List·Memᴰ name (namesOf ps)
   unfolding find namesOf
   found-named [] labels h = absurd (Option·none-ne-some labels h)
   found-named (position n l ∷ ps) labels h =
@@ -53,7 +53,7 @@ module _ (name : ℕ) where
         | no e ↦ List·Memᴰ·tail (found-named ps labels (rw (ne-eqb n name e) at w))
       ]
 
-  pub named-found : (ps : List Position) → List·Memᴰ name (namesOf ps) → (labels : ℕ) × (find name ps ≡ some labels)
+  pub named-found : (ps : List (Position ℕ)) → List·Memᴰ name (namesOf ps) → (labels : ℕ) × (find name ps ≡ some labels)
   unfolding find namesOf
   named-found [] h = absurd (List·Memᴰ·not-nil h)
   named-found (position n l ∷ ps) h =
@@ -65,12 +65,12 @@ module _ (name : ℕ) where
       ]
 
 module _ (name : ℕ) where
-  not-left : (ps : List Position) → ¬ List·Memᴰ name (namesOf (without name ps))
+  not-left : (ps : List (Position ℕ)) → ¬ List·Memᴰ name (namesOf (without name ps))
   not-left ps h =
       let r = named-found name (without name ps) h in
       Option·none-ne-some (r .0) (sym (find-without name ps) ∙ r .1)
 
-  left-in : (ps : List Position) (m : ℕ) → List·Memᴰ m (namesOf (without name ps)) → List·Memᴰ m (namesOf ps)
+  left-in : (ps : List (Position ℕ)) (m : ℕ) → List·Memᴰ m (namesOf (without name ps)) → List·Memᴰ m (namesOf ps)
   left-in ps m h =
       let r = named-found m (without name ps) h in
       elim (ℕ-discrete m name) [
@@ -78,7 +78,7 @@ module _ (name : ℕ) where
         | no e ↦ found-named m ps (r .0) (sym (find-others name m e ps) ∙ r .1)
       ]
 
-  pub once-without : (ps : List Position) → Once (namesOf ps) → Once (namesOf (without name ps))
+  pub once-without : (ps : List (Position ℕ)) → Once (namesOf ps) → Once (namesOf (without name ps))
   unfolding without namesOf
   once-without [] h = tt
   once-without (position n labels ∷ ps) h =
@@ -87,13 +87,13 @@ module _ (name : ℕ) where
         | no e ↦ rw (ne-eqb n name e) (λ m. h .0 (left-in ps n m), once-without ps (h .1))
       ]
 
-length-names : (ps : List Position) → length (namesOf ps) ≡ length ps
+length-names : (ps : List (Position ℕ)) → length (namesOf ps) ≡ length ps
 unfolding namesOf
 length-names [] = refl
 length-names (position n labels ∷ ps) = ap suc (length-names ps)
 
 -- ---- a table that agrees
-module _ (t : List ℕ) (ps : List Position) (a : Agrees t ps) where
+module _ (t : List ℕ) (ps : List (Position ℕ)) (a : Agrees t ps) where
   pub as-many : length (names t) ≡ length ps
   as-many =
       let x = fewer (names t) (namesOf ps) (names-once t (a .formed))
@@ -106,7 +106,7 @@ module _ (t : List ℕ) (ps : List Position) (a : Agrees t ps) where
   find-none name u = sym (a .alike name) ∙ lookup-none name t u
 
   module _ (name labels : ℕ) (small : name < 256 ^ nameBytes) (fits : labels < 256 ^ labelBytes) where
-    abbrev more : List Position
+    abbrev more : List (Position ℕ)
     more = position name labels ∷ without name ps
 
     room : (i : ℕ) → i < maxPositions → Place name t i → saveNamed name labels ps ≡ answered 0 more
@@ -156,12 +156,12 @@ module _ (t : List ℕ) (ps : List Position) (a : Agrees t ps) where
         go (placed i l p w) =
             let r = room i l p in (
               ap numberKept w ∙ sym (ap numberAnswered r),
-              subst (λ (o : Answered). Agrees (tableKept (saveOf name labels t)) (positionsAfter o)) (sym r) (saved-agrees (ap numberKept w)),
+              subst (λ (o : Answered ℕ). Agrees (tableKept (saveOf name labels t)) (positionsAfter o)) (sym r) (saved-agrees (ap numberKept w)),
             )
         go (full u e w) =
             let r = no-room u e in (
               ap numberKept w ∙ sym (ap numberAnswered r),
-              subst (λ (o : Answered). Agrees (tableKept (saveOf name labels t)) (positionsAfter o)) (sym r)
+              subst (λ (o : Answered ℕ). Agrees (tableKept (saveOf name labels t)) (positionsAfter o)) (sym r)
                   (subst (λ (s : List ℕ). Agrees s ps) (sym (ap tableKept w)) a),
             )
 
@@ -194,12 +194,12 @@ module _ (t : List ℕ) (ps : List Position) (a : Agrees t ps) where
         go (known l w) =
             let r = is-known l in (
               ap numberKept w ∙ sym (ap numberAnswered r),
-              subst (λ (o : Answered). Agrees (tableKept (forgetOf name t)) (positionsAfter o)) (sym r) forgotten-agrees,
+              subst (λ (o : Answered ℕ). Agrees (tableKept (forgetOf name t)) (positionsAfter o)) (sym r) forgotten-agrees,
             )
         go (unknown u w) =
             let r = is-unknown u in (
               ap numberKept w ∙ sym (ap numberAnswered r),
-              subst (λ (o : Answered). Agrees (tableKept (forgetOf name t)) (positionsAfter o)) (sym r)
+              subst (λ (o : Answered ℕ). Agrees (tableKept (forgetOf name t)) (positionsAfter o)) (sym r)
                   (subst (λ (s : List ℕ). Agrees s ps) (sym (ap tableKept w)) a),
             )
 

@@ -17,12 +17,12 @@ use Rattle.box_positions_table.proofs.ByNames as by-names
 pub cleared-agrees : Agrees (zeros tableLength) []
 cleared-agrees = by-names.cleared-agrees
 
-pub save-agrees : (t : List ℕ) (ps : List Position) → Agrees t ps → (name labels : ℕ) → name < 256 ^ nameBytes → labels < 256 ^ labelBytes
+pub save-agrees : (t : List ℕ) (ps : List (Position ℕ)) → Agrees t ps → (name labels : ℕ) → name < 256 ^ nameBytes → labels < 256 ^ labelBytes
     → (numberKept (saveOf name labels t) ≡ numberAnswered (saveNamed name labels ps))
     × Agrees (tableKept (saveOf name labels t)) (positionsAfter (saveNamed name labels ps))
 save-agrees = by-names.save-agrees
 
-pub forget-agrees : (t : List ℕ) (ps : List Position) → Agrees t ps → (name : ℕ)
+pub forget-agrees : (t : List ℕ) (ps : List (Position ℕ)) → Agrees t ps → (name : ℕ)
     → (numberKept (forgetOf name t) ≡ numberAnswered (forgetNamed name ps))
     × Agrees (tableKept (forgetOf name t)) (positionsAfter (forgetNamed name ps))
 forget-agrees = by-names.forget-agrees

@@ -35,5 +35,4 @@ pub mod PaperBoxes
 pub mod PaperDeliveries
 pub mod PaperCertified
 pub mod WrongPaper
-pub mod WrongReadings
 pub mod Theorems

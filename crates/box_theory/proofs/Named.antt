@@ -85,12 +85,12 @@ comes-back box bay name n = go (is-known (stretchOf bay box) name)
         (labels, e, stretch-after box bay (restore name) n ∙ ap memoryAfter (restore-known r name labels e))
 
 -- ---- by name
-agrees-empty : (s : List ℕ) → Sound s → isEmpty s ≡ true → (ps : List Position) → Agrees (positionsIn s) ps → Agrees (zeros tableLength) ps
+agrees-empty : (s : List ℕ) → Sound s → isEmpty s ≡ true → (ps : List (Position ℕ)) → Agrees (positionsIn s) ps → Agrees (zeros tableLength) ps
 agrees-empty s (vacant z e c) i ps a = subst (λ (t : List ℕ). Agrees t ps) c a
 agrees-empty s (held t h v) i ps a = absurd (true≢false (sym i ∙ not-empty t s h))
 
 agrees-by : (k : ℕ) (s : List ℕ) → Sound s → (c : Call) → Sendable c → isFor c s ≡ true → number (bayCall k c s) ≡ 0
-    → (ps : List Position) → Agrees (positionsIn s) ps → Agrees (tableBy c s) (changedBy c (labelsIn (stateIn s)) ps)
+    → (ps : List (Position ℕ)) → Agrees (positionsIn s) ps → Agrees (tableBy c s) (changedBy c (labelsIn (stateIn s)) ps)
 agrees-by k s v (admit t) r i n ps a = agrees-empty s v i ps a
 agrees-by k s v release r i n ps a = cleared-agrees
 agrees-by k s v (tick e answer trace) r i n ps a = a
@@ -108,18 +108,18 @@ agrees-by k s v (ledger totals) r i n ps a = a
 agrees-by k s v newYear r i n ps a = a
 
 module _ (bay : ℕ) (b : bay < bayCount) where
-  abbrev Same : List ℕ → List Position → Type 0
+  abbrev Same : List ℕ → List (Position ℕ) → Type 0
   Same box ps = Agrees (positionsIn (stretchOf bay box)) ps
 
-  abbrev Over : (box : List ℕ) (ps : List Position) (xs : List Request) → Type 0
+  abbrev Over : (box : List ℕ) (ps : List (Position ℕ)) (xs : List Request) → Type 0
   Over box ps xs = Same (boxAfter callOf box xs) (savedIn callOf bay box ps xs)
 
   -- a call that leaves the stretch
-  same-after : (box box′ : List ℕ) (ps : List Position) → stretchOf bay box′ ≡ stretchOf bay box → Same box ps → Same box′ ps
+  same-after : (box box′ : List ℕ) (ps : List (Position ℕ)) → stretchOf bay box′ ≡ stretchOf bay box → Same box ps → Same box′ ps
   same-after box box′ ps e a = subst (λ (s : List ℕ). Agrees (positionsIn s) ps) (sym e) a
 
-  own-step : (box : List ℕ) → Kept box → (ps : List Position) → Same box ps → (c : Call) → Sendable c → (xs : List Request)
-      → ((qs : List Position) → Same (memoryAfter (callOf box bay c)) qs → Over (memoryAfter (callOf box bay c)) qs xs)
+  own-step : (box : List ℕ) → Kept box → (ps : List (Position ℕ)) → Same box ps → (c : Call) → Sendable c → (xs : List Request)
+      → ((qs : List (Position ℕ)) → Same (memoryAfter (callOf box bay c)) qs → Over (memoryAfter (callOf box bay c)) qs xs)
       → Over box ps (record { bay = bay; call = c } ∷ xs)
   unfolding boxAfter savedIn
   own-step box h ps a c r xs f =
@@ -134,7 +134,7 @@ module _ (bay : ℕ) (b : bay < bayCount) where
             (refused-stretch box bay c n) a))
       ]
 
-  by-name : (box : List ℕ) → Kept box → (ps : List Position) → Same box ps → (xs : List Request) → AllSendable xs → Over box ps xs
+  by-name : (box : List ℕ) → Kept box → (ps : List (Position ℕ)) → Same box ps → (xs : List Request) → AllSendable xs → Over box ps xs
   unfolding boxAfter savedIn
   by-name box h ps a [] none = a
   by-name box h ps a (x ∷ xs) (each r k) =

@@ -6,7 +6,9 @@ use mathlib.Core.Bool.{Bool, true, false, cond}
 use mathlib.Core.Option.{some, none}
 use mathlib.Core.List.{List, [], _∷_, _++_}
 use lib.ListN.{length}
-use lib.Dec.{T, eqb, leb}
+use lib.Dec.{eqb, leb}
+use lib.IntN.{pos}
+use lib.Ieee.{Float, binary32, add, toBits, ofInt}
 use Rattle.limits.specs.Limits.{numberBytes}
 use Rattle.esterel.specs.Statement.{Statement}
 use Rattle.esterel.specs.Ceiling.{ceiling}
@@ -16,16 +18,17 @@ use Rattle.sequence.specs.Check.{Checked, sound, bad, checked, checkOf}
 use Rattle.sequence.specs.Ceilings.{ceilingOf}
 use Rattle.sequence.specs.Rows.{Spells}
 use Rattle.sequence.proofs.Rows.{Decides, decided, row-range}
-use Rattle.numbers.specs.Bytes.{leNumber}
-use Rattle.litres.specs.Litres.{within}
+use Rattle.numbers.specs.Bytes.{leBytes, leNumber}
+use Rattle.litres.specs.Litres.{ordered}
+use Rattle.sequence.specs.Amounts.{amountSize, amountBytes}
 use Rattle.demands.proofs.Sequence.{Accepted, accepted}
 use Rattle.box_parts.proofs.Parts.{length-put, put-before}
 use Rattle.box_parts.proofs.Zeros.{zeros-number}
 use Rattle.box_positions.specs.Table.{tableLength, Agrees}
 use Rattle.box_positions_table.proofs.Theorems.{cleared-agrees}
 use Rattle.box_ledgers.specs.Ledgers as Ledgers
-use Rattle.box_ledgers.specs.Ledgers.{farmCount, ledgerLength, readingLength, totalIn, exactTotal, readingOf, totalRead}
-use Rattle.box_ledgers_totals.proofs.Theorems.{reading-total, reading-within, cleared-sized}
+use Rattle.box_ledgers.specs.Ledgers.{farmCount, ledgerLength, readingLength, totalIn, totalsBytes, readingFor, readingOf}
+use Rattle.box_ledgers_totals.proofs.Theorems.{cleared-sized}
 use Rattle.box_stretches.specs.Called.{Called, called, number, memoryAfter}
 use Rattle.box_stretches.specs.Stretch.{lengthBytes, countAt, positionsAt, bayLength, stretchLength, lengthIn, ledgerIn, Terms, filled}
 use Rattle.box_stretches.specs.BayCalls.{sharedCeiling, bayAdmitOf, bayLedgerOf, bayNewYearOf}
@@ -35,57 +38,54 @@ use Rattle.box_fields.proofs.Fields.{filled-zeros}
 use Rattle.box_theory.proofs.Bays.{ceilingFor, bounds, passed, admit-by-sum}
 use Rattle.box_theory.proofs.Standing.{cleared-fresh, fresh-state, filled-stands}
 use Rattle.box_theory.proofs.Positions.{Positioned, positioned-zeros}
-use Rattle.box_paper.specs.PaperBox.{PaperPlace, Reported, numbered, reading, down, freshBay, admitOn, readOn, farmTotals}
+use Rattle.box_paper.specs.PaperBox.{PaperPlace, replies, down, holds, shows, freshBay, admitOn, sized}
 use Rattle.box_theory.proofs.PaperMachines.{Follows}
 use Rattle.box_theory.proofs.PaperNames.{nil-kept}
 use Rattle.box_theory.proofs.PaperAlike.{Present, SameTotals, Alike, vacant, present, Same, same-down, same-answered, totals-after}
 
 -- ---- the ledger
-same-farms : (t t′ : ℕ → ℕ) → ((f : ℕ) → f < farmCount → t f ≡ t′ f) → (n : ℕ) → n ≤ farmCount → farmTotals n t ≡ farmTotals n t′
-unfolding farmTotals
-same-farms t t′ i zero l = refl
-same-farms t t′ i (suc n) l =
-    ap₂ (λ (x : List ℕ) (m : ℕ). x ++ (m ∷ [])) (same-farms t t′ i n (omega arith)) (i n (omega arith))
+-- totals that are the same for each of the 32 farms are read alike
+module _ (t u : ℕ → ℕ) (same : (f : ℕ) → f < farmCount → t f ≡ u f) where
+  same-bytes : (n : ℕ) → n ≤ farmCount → totalsBytes n t ≡ totalsBytes n u
+  unfolding totalsBytes
+  same-bytes zero l = refl
+  same-bytes (suc n) l = ap₂ (λ (x : List ℕ) (k : ℕ). x ++ amountBytes k) (same-bytes n (omega arith)) (same n (omega arith))
 
-same-exact : (held : List ℕ) (n : ℕ) → n ≤ farmCount → exactTotal n (readingOf held) ≡ exactTotal n held
-unfolding exactTotal
-same-exact held zero l = refl
-same-exact held (suc n) l = omega (arith, same-exact held n (omega arith), reading-total held n (omega arith))
+  same-sum : (n : ℕ) → n < farmCount → ordered n (λ f. ofInt binary32 (pos (t f))) ≡ ordered n (λ f. ofInt binary32 (pos (u f)))
+  unfolding ordered
+  same-sum zero l = ap (λ (k : ℕ). ofInt binary32 (pos k)) (same 0 l)
+  same-sum (suc n) l =
+      ap₂ (λ (x : Float) (k : ℕ). add binary32 x (ofInt binary32 (pos k))) (same-sum n (omega arith)) (same (suc n) l)
 
-is-true : (b : Bool) → T b → b ≡ true
-is-true true h = refl
-is-true false h = absurd h
-
-near : (held : List ℕ) → within 496 (totalRead (readingOf held)) (exactTotal farmCount (readingOf held)) ≡ true
-near held =
-    ap (within 496 (totalRead (readingOf held))) (same-exact held farmCount (omega arith))
-    ∙ is-true (within 496 (totalRead (readingOf held)) (exactTotal farmCount held)) (reading-within held)
+  pub same-reading : readingFor t ≡ readingFor u
+  same-reading =
+      ap₂ (λ (x : List ℕ) (y : Float). x ++ leBytes amountSize (toBits binary32 y)) (same-bytes farmCount (omega arith)) (same-sum 31 (omega arith))
 
 pub ledger-same : {S T R : Type 0} (m : Follows S T R) (s : List ℕ) (z : PaperPlace S T) → Alike m s z → SameTotals s (z .totals) → (buffer : List ℕ)
-    → Same m (ledger buffer) (bayLedgerOf s buffer) (readOn (m .kind) z (eqb (length buffer) readingLength) (reading (farmTotals farmCount (z .totals)) true))
+    → Same m (ledger buffer) (bayLedgerOf s buffer)
+    (sized (m .kind) (eqb (length buffer) readingLength) (buffer ∷ []) z (shows (readingFor (z .totals)) z))
 unfolding bayLedgerOf
 ledger-same m s z a t buffer = go (eqb (length buffer) readingLength)
   where
     go : (b : Bool) → Same m (ledger buffer) (cond b (called 0 s (readingOf (ledgerIn s) ∷ [])) (called 1 s (buffer ∷ [])))
-        (readOn (m .kind) z b (reading (farmTotals farmCount (z .totals)) true))
+        (sized (m .kind) b (buffer ∷ []) z (shows (readingFor (z .totals)) z))
     go true =
-        same-answered m (ledger buffer) s z (readingOf (ledgerIn s) ∷ []) (reading (farmTotals farmCount (z .totals)) true)
-        (ap₂ {C = Reported _} reading
-        (same-farms (λ f. totalIn f (readingOf (ledgerIn s))) (z .totals) (λ f l. reading-total (ledgerIn s) f l ∙ t f l) farmCount (omega arith))
-        (near (ledgerIn s)))
-        a refl refl
-    go false = same-down m (ledger buffer) s z a 1 (λ y. omega arith) (buffer ∷ []) refl refl
+        record {
+          report = ap (λ (x : List ℕ). replies 0 (x ∷ [])) (same-reading (λ f. totalIn f (ledgerIn s)) (z .totals) t);
+          alike = a;
+        }
+    go false = record { report = refl; alike = a }
 
 -- ---- an empty bay
-module _ {S T R : Type 0} (m : Follows S T R) (k : ℕ) (s : List ℕ) (z : PaperPlace S T) (sized : length s ≡ stretchLength) (empty : lengthIn s ≡ 0) (bay : z .bay ≡ none) (t : SameTotals s (z .totals)) where
-  pub vacant-year-same : Same m newYear (bayNewYearOf s) (numbered 0, record { bay = z .bay; totals = λ f. 0 })
+module _ {S T R : Type 0} (m : Follows S T R) (k : ℕ) (s : List ℕ) (z : PaperPlace S T) (long : length s ≡ stretchLength) (empty : lengthIn s ≡ 0) (bay : z .bay ≡ none) (t : SameTotals s (z .totals)) where
+  pub vacant-year-same : Same m newYear (bayNewYearOf s) (replies 0 [], record { bay = z .bay; totals = λ f. 0 })
   unfolding bayNewYearOf
   vacant-year-same =
       record {
         report = refl;
-        alike = vacant (length-put bayLength ledgerLength Ledgers.cleared s (omega arith) cleared-sized ∙ sized)
+        alike = vacant (length-put bayLength ledgerLength Ledgers.cleared s (omega arith) cleared-sized ∙ long)
             (ap leNumber (put-before bayLength ledgerLength Ledgers.cleared s (omega arith) cleared-sized 0 lengthBytes (omega arith)) ∙ empty)
-            bay (totals-after k s sized (z .totals) t newYear refl);
+            bay (totals-after k s long (z .totals) t newYear refl);
       }
 
   module _ (x : Terms) (small : Sendable (admit x)) (plain : checkOf (x .sequence) (x .readBack) ≡ 0 → (p : Statement) → Spells (x .sequence) p → m .For p) where
@@ -96,15 +96,15 @@ module _ {S T R : Type 0} (m : Follows S T R) (k : ℕ) (s : List ℕ) (z : Pape
 
       fresh : Present m (filled x (ceilingFor x) s)
       fresh =
-          let zeroed = filled-zeros x own s sized (bounds x a .1) in
+          let zeroed = filled-zeros x own s long (bounds x a .1) in
           let table = zeroed positionsAt tableLength (omega arith) (omega arith) in
           record {
             terms = x;
             accepted = a;
-            holds = filled-stands x a s sized small .holds;
+            holds = filled-stands x a s long small .holds;
             fine = plain (passed x a) (a .statement) (a .spelled);
             state = State.fresh;
-            bytes = fresh-state x a s sized ∙ cleared-fresh;
+            bytes = fresh-state x a s long ∙ cleared-fresh;
             recorded = tt;
             machine = m .kind .fresh (program (x .readBack) (a .statement));
             at = m .fresh-at (program (x .readBack) (a .statement));
@@ -122,14 +122,14 @@ module _ {S T R : Type 0} (m : Follows S T R) (k : ℕ) (s : List ℕ) (z : Pape
       ceiling-is = ap (ceilingOf (x .readBack)) (a .is-checked)
 
       by-room : (b : Bool) → bayAdmitOf k s x ≡ cond b (called 0 (filled x (ceilingFor x) s) []) (called 14 s [])
-          → Same m (admit x) (bayAdmitOf k s x) (cond b (numbered 0, record { bay = some (freshBay (m .kind) x (a .statement)); totals = z .totals }) (down 14 z))
+          → Same m (admit x) (bayAdmitOf k s x) (cond b (holds z (some (freshBay (m .kind) x (a .statement)))) (down 14 [] z))
       unfolding fresh
       by-room true w =
-          same-answered m (admit x) (filled x (ceilingFor x) s) (record { bay = some (freshBay (m .kind) x (a .statement)); totals = z .totals }) [] (numbered 0) refl
+          same-answered m (admit x) (filled x (ceilingFor x) s) (record { bay = some (freshBay (m .kind) x (a .statement)); totals = z .totals }) [] (replies 0 []) refl
           (present fresh refl
-          (λ f l. sym (ap (λ (o : Called). totalIn f (ledgerIn (memoryAfter o))) w) ∙ totals-after k s sized (z .totals) t (admit x) (ap number w) f l))
+          (λ f l. sym (ap (λ (o : Called). totalIn f (ledgerIn (memoryAfter o))) w) ∙ totals-after k s long (z .totals) t (admit x) (ap number w) f l))
           w refl
-      by-room false w = same-down m (admit x) s z (vacant sized empty bay t) 14 (λ y. omega arith) [] w refl
+      by-room false w = same-down m (admit x) s z (vacant long empty bay t) 14 (λ y. omega arith) [] w refl
 
       accepted-same : Same m (admit x) (bayAdmitOf k s x) (admitOn (m .kind) k z x (sound (a .statement)))
       accepted-same =
@@ -144,7 +144,7 @@ module _ {S T R : Type 0} (m : Follows S T R) (k : ℕ) (s : List ℕ) (z : Pape
         go : (c : Checked) → checked (x .sequence) (x .readBack) ≡ c → Decides (x .sequence) (x .readBack) c
             → Same m (admit x) (bayAdmitOf k s x) (admitOn (m .kind) k z x (checked (x .sequence) (x .readBack)))
         go (bad n) i d =
-            same-down m (admit x) s z (vacant sized empty bay t) n (λ y. omega (arith, row-range (x .sequence) (x .readBack) n (d .0))) []
+            same-down m (admit x) s z (vacant long empty bay t) n (λ y. omega (arith, row-range (x .sequence) (x .readBack) n (d .0))) []
             (rw i) (ap (admitOn (m .kind) k z x) i)
         go (sound p) i d =
             let a = accepted (x .sequence) (x .readBack) (rw i) in

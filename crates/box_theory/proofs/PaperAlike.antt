@@ -1,7 +1,8 @@
 -- A stretch of the box and a place of the box on paper that are alike: the same bay or none, the machine in a state whose term the
 -- paper has, positions whose terms it has, and the same totals.
 use Prim.Native.Nat.{ℕ, _≤_, _<_}
-use mathlib.Core.Path.{_≡_, sym, ap, _∙_, subst}
+use mathlib.Core.Path.{_≡_, refl, sym, ap, _∙_, subst}
+use mathlib.Core.Bool.{Bool, true, false, _&&_, cond}
 use mathlib.Core.Logic.{_≢_}
 use mathlib.Core.Option.{some, none}
 use mathlib.Core.List.{List}
@@ -15,22 +16,32 @@ use Rattle.demands.proofs.Sequence.{Accepted}
 use Rattle.box_positions.specs.Names.{Position}
 use Rattle.box_positions.specs.Table.{Agrees}
 use Rattle.box_ledgers.specs.Ledgers.{farmCount, totalIn}
-use Rattle.box_stretches.specs.Called.{Called, called, number, memoryAfter}
+use Rattle.box_stretches.specs.Called.{Called, called, number, memoryAfter, first}
 use Rattle.box_stretches.specs.Stretch.{stretchLength, lengthIn, stateIn, lastNumberIn, positionsIn, ledgerIn, Terms}
 use Rattle.box_calls.specs.Box.{Call, bayCall}
+use Rattle.box_calls.specs.Instants.{second}
 use Rattle.box_calls.specs.Years.{deliveredAfter}
 use Rattle.box_fields.proofs.Fields.{Holds}
 use Rattle.box_theory.proofs.Bays.{ceilingFor}
 use Rattle.box_theory.proofs.Standing.{Standing}
 use Rattle.box_theory.proofs.Positions.{Positioned}
 use Rattle.box_theory.proofs.Years.{ledger-after, total-by}
-use Rattle.box_paper.specs.PaperBox.{Saved, PaperBay, PaperPlace, Reported, PaperReply, down}
-use Rattle.box_paper.specs.Reports.{shownIn, reported}
+use Rattle.box_paper.specs.PaperBox.{PaperBay, PaperPlace, Reported, ticked, replies, PaperReply, down}
+use Rattle.box_paper.specs.Reports.{isTick, reported}
 use Rattle.box_theory.proofs.PaperMachines.{Follows}
-use Rattle.box_theory.proofs.PaperNames.{savedOf}
+use Rattle.box_theory.proofs.PaperNames.{mapped}
 
 abbrev pub SameTotals : List ℕ → (ℕ → ℕ) → Type 0
 SameTotals s t = (f : ℕ) → f < farmCount → totalIn f (ledgerIn s) ≡ t f
+
+-- a call that is turned down is no instant
+pub refusal-reported : {R : Type 0} (reads : List ℕ → List ℕ → R) (c : Call) (n : ℕ) → n ≢ 0 → (s : List ℕ) (lent : List (List ℕ))
+    → reported reads c (called n s lent) ≡ replies n lent
+refusal-reported {R = R} reads c n y s lent = rw (ne-eqb n 0 y) (go (isTick c) (ticked (reads (first lent) (second lent))) (replies n lent))
+  where
+    go : (b : Bool) (x w : Reported R) → cond (b && false) x w ≡ w
+    go true x w = refl
+    go false x w = refl
 
 module _ {S T R : Type 0} (m : Follows S T R) where
   pub record Present (s : List ℕ) : Type 0 where
@@ -50,10 +61,10 @@ module _ {S T R : Type 0} (m : Follows S T R) where
     pub fits : last ≤ lastNumber
     -- the positions
     pub positioned : Positioned terms (positionsIn s)
-    pub names : List Position
+    pub names : List (Position ℕ)
     pub agrees : Agrees (positionsIn s) names
-    pub positions : List (Saved T)
-    pub saved : positions ≡ savedOf (m .keptOf (program (terms .readBack) (accepted .statement))) names
+    pub positions : List (Position T)
+    pub saved : positions ≡ mapped (m .keptOf (program (terms .readBack) (accepted .statement))) names
 
   abbrev pub standing : {s : List ℕ} → (h : Present s) → Standing (h .terms) s
   standing h = record { accepted = h .accepted; holds = h .holds; state = h .state; bytes = h .bytes; recorded = h .recorded }
@@ -76,18 +87,19 @@ module _ {S T R : Type 0} (m : Follows S T R) where
 
   -- what a call on the stretch comes to is what it comes to on paper
   pub record Same (c : Call) (o : Called) (told : PaperReply S T R) : Type 0 where
-    pub report : reported (m .kind .view) c o ≡ told .0
+    pub report : reported (m .kind .reads) c o ≡ told .0
     pub alike : Alike (memoryAfter o) (told .1)
 
   -- turned down, on both
   pub same-down : (c : Call) (s : List ℕ) (z : PaperPlace S T) → Alike s z → (n : ℕ) → n ≢ 0 → (lent : List (List ℕ)) → {o : Called} → o ≡ called n s lent
-      → {told : PaperReply S T R} → told ≡ down n z → Same c o told
+      → {told : PaperReply S T R} → told ≡ down n lent z → Same c o told
   same-down c s z a n y lent {o} e {told} f =
       subst (λ (o : Called). Same c o told) (sym e)
-      (subst (λ (t : PaperReply S T R). Same c (called n s lent) t) (sym f) (record { report = rw (ne-eqb n 0 y); alike = a }))
+      (subst (λ (t : PaperReply S T R). Same c (called n s lent) t) (sym f) (record { report = refusal-reported (m .kind .reads) c n y s lent; alike = a }))
 
   -- answered 0, on both
-  pub same-answered : (c : Call) (s : List ℕ) (z : PaperPlace S T) (lent : List (List ℕ)) (r : Reported R) → shownIn (m .kind .view) c lent ≡ r → Alike s z
+  pub same-answered : (c : Call) (s : List ℕ) (z : PaperPlace S T) (lent : List (List ℕ)) (r : Reported R)
+      → reported (m .kind .reads) c (called 0 s lent) ≡ r → Alike s z
       → {o : Called} → o ≡ called 0 s lent → {told : PaperReply S T R} → told ≡ (r, z) → Same c o told
   same-answered c s z lent r shown a {o} e {told} f =
       subst (λ (o : Called). Same c o told) (sym e)

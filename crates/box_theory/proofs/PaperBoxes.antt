@@ -4,13 +4,16 @@ use native.Mathlib.Omega.{arith}
 use native.Mathlib.Decide.{ℕ-discrete, decLt}
 use mathlib.Core.Path.{_≡_, refl, sym, ap, ap₂, _∙_, subst}
 use mathlib.Core.Bool.{Bool, true, false, cond}
-use mathlib.Core.Option.{Option, some, none}
-use mathlib.Core.List.{List, [], _∷_}
+use mathlib.Core.Option.{Option, some}
+use mathlib.Core.Option as Option
+use mathlib.Core.List.{List, [], _∷_, List·Memᴰ, List·Memᴰ·head, List·Memᴰ·tail}
 use lib.ListN.{length}
 use borrow.Author.Tests.{eq-eqb, ne-eqb, lt-ltb, le-ltb}
 use Rattle.esterel.specs.Ceiling.{ceiling}
 use Rattle.esterel.specs.States.{NoSetpause}
 use Rattle.esterel.specs.Machines.{State}
+use Rattle.esterel.specs.Statement.{Statement}
+use Rattle.sequence.specs.Check.{checkOf}
 use Rattle.sequence.specs.Rows.{Spells}
 use Rattle.states.specs.StateRecord.{encodeState}
 use Rattle.sequence.specs.Ceilings.{ceilingOf}
@@ -20,28 +23,34 @@ use Rattle.box_parts.proofs.Zeros.{length-zeros, slot-zeros, zeros-number}
 use Rattle.box_ledgers.specs.Ledgers.{farmCount, totalIn}
 use Rattle.box_ledgers_totals.proofs.Theorems.{cleared-total}
 use Rattle.box_stretches.specs.Called.{Called, memoryAfter}
-use Rattle.box_stretches.specs.Stretch.{stretchLength, lengthIn, isEmpty, sequenceIn, readBackIn, serviceOnlyIn, stateIn, ledgerIn, partOf}
+use Rattle.box_stretches.specs.Stretch.{stretchLength, lengthIn, isEmpty, sequenceIn, readBackIn, serviceOnlyIn, stateIn, ledgerIn, partOf, Terms}
 use Rattle.box_calls.specs.Box.{bayCount, boxLength, emptyBox, stretchOf, present, Call, admit, release, tick, save, restore, forget, service, panel, preview, ledger, newYear, buffers, isFor, callOf}
 use Rattle.box_calls.specs.Lists.{Request, afterCall, boxAfter}
+use Rattle.box_calls.specs.Shares.{Sendable, AllSendable, none, each}
 use Rattle.box_theory.proofs.Bays.{onStretch}
 use Rattle.box_theory.proofs.Standing.{not-empty, sequence-held}
 use Rattle.box_theory.proofs.Reached.{part-vacant, part-held, empty-stretch, kept-empty}
 use Rattle.box_theory.proofs.Years.{at-first}
 use Rattle.box_theory.proofs.Stretches.{result, no-bay, own, own-stretch, same-length, others-stay}
-use Rattle.box_paper.specs.PaperBox.{PaperBay, PaperPlace, PaperBox, emptyPaper, Reported, numbered, PaperReply, down, part, parts, placeCall, at, paperCall, onTerms, onLabels}
-use Rattle.box_paper.specs.Reports.{reported, reports, paperReports, paperAfter, ForPaper, AllForPaper, none, each, OnPaperBy, OnPaper, BoxByLabels}
-use Rattle.box_theory.proofs.PaperMachines.{Follows, byTerms, byLabelSets}
+use Rattle.box_paper.specs.PaperBox.{PaperBay, PaperPlace, PaperBox, emptyPaper, Reported, replies, PaperReply, down, partOn, presentOn, placeCall, withPlace, paperCall, byTerms, byLabelSets}
+use Rattle.box_paper.specs.Reports.{reported, reports, paperReports, paperAfter, Admitting, OnPaper, ByLabelSets}
+use Rattle.box_theory.proofs.PaperMachines.{Follows, terms-follow, labels-follow}
 use Rattle.box_theory.proofs.PaperAlike as alike
-use Rattle.box_theory.proofs.PaperAlike.{Present, standing, bayOf, SameTotals, Alike, Same, same-down}
+use Rattle.box_theory.proofs.PaperAlike.{Present, standing, bayOf, SameTotals, Alike, Same, refusal-reported, same-down}
 use Rattle.box_theory.proofs.PaperMoves.{release-same, year-same, service-same, panel-same, save-same, forget-same, restore-same}
 use Rattle.box_theory.proofs.PaperTicks.{tick-same}
 use Rattle.box_theory.proofs.PaperPreviews.{preview-same}
 use Rattle.box_theory.proofs.PaperAdmissions.{ledger-same, vacant-year-same, admit-same}
 
+-- ---- a call that the machine is for: sets and names of 32 bits, and an accepted sequence spells such a statement
+pub record Fits (For : Statement → Type 0) (c : Call) : Type 0 where
+  pub sendable : Sendable c
+  pub admitted : (t : Terms) → c ≡ admit t → checkOf (t .sequence) (t .readBack) ≡ 0 → (p : Statement) → Spells (t .sequence) p → For p
+
 -- ---- a call on a stretch
 module _ {S T R : Type 0} (m : Follows S T R) (k : ℕ) (s : List ℕ) (z : PaperPlace S T) where
   -- 13 for a bay that is not there for the call
-  not-there : (c : Call) → Alike m s z → isFor c s ≡ false → {told : PaperReply S T R} → told ≡ down 13 z → Same m c (onStretch k c s) told
+  not-there : (c : Call) → Alike m s z → isFor c s ≡ false → {told : PaperReply S T R} → told ≡ down 13 (buffers c) z → Same m c (onStretch k c s) told
   not-there c a i e = same-down m c s z a 13 (λ y. omega arith) (buffers c) (rw i) e
 
 -- a bay that is present
@@ -55,11 +64,11 @@ module _ {S T R : Type 0} (m : Follows S T R) (k : ℕ) (s : List ℕ) (h : Pres
   filled : isEmpty s ≡ false
   filled = not-empty (h .terms) s (standing m h)
 
-  present-same : (c : Call) → ForPaper (m .For) c → Same m c (onStretch k c s) (placeCall (m .kind) k c (record { bay = some (bayOf m h); totals = totals }))
+  present-same : (c : Call) → Fits (m .For) c → Same m c (onStretch k c s) (placeCall (m .kind) k c (record { bay = some (bayOf m h); totals = totals }))
   present-same (admit x) r = not-there m k s z (admit x) a filled refl
   present-same release r = rw filled (release-same m k s z h refl t)
-  present-same (tick i answer trace) r = rw filled (tick-same m k s z h refl t i r answer trace)
-  present-same (save name) r = rw filled (save-same m k s z h refl t name r)
+  present-same (tick i answer trace) r = rw filled (tick-same m k s z h refl t i answer trace)
+  present-same (save name) r = rw filled (save-same m k s z h refl t name (r .sendable))
   present-same (restore name) r = rw filled (restore-same m k s z h refl t name)
   present-same (forget name) r = rw filled (forget-same m k s z h refl t name)
   present-same (service trace view) r = rw filled (service-same m k s z h refl t trace view)
@@ -71,19 +80,19 @@ module _ {S T R : Type 0} (m : Follows S T R) (k : ℕ) (s : List ℕ) (h : Pres
 -- an empty one
 module _ {S T R : Type 0} (m : Follows S T R) (k : ℕ) (s : List ℕ) (sized : length s ≡ stretchLength) (empty : lengthIn s ≡ 0) (totals : ℕ → ℕ) (t : SameTotals s totals) where
   abbrev z₀ : PaperPlace S T
-  z₀ = record { bay = none; totals = totals }
+  z₀ = record { bay = Option.none; totals = totals }
 
-  a₀ : Alike m s (record { bay = none; totals = totals })
+  a₀ : Alike m s (record { bay = Option.none; totals = totals })
   a₀ = alike.vacant sized empty refl t
 
   free : isEmpty s ≡ true
   free = eq-eqb (lengthIn s) 0 empty
 
-  absent : (c : Call) → isFor c s ≡ false → {told : PaperReply S T R} → told ≡ down 13 (record { bay = none; totals = totals }) → Same m c (onStretch k c s) told
+  absent : (c : Call) → isFor c s ≡ false → {told : PaperReply S T R} → told ≡ down 13 (buffers c) (record { bay = Option.none; totals = totals }) → Same m c (onStretch k c s) told
   absent c i e = not-there m k s z₀ c a₀ i e
 
-  vacant-same : (c : Call) → ForPaper (m .For) c → Same m c (onStretch k c s) (placeCall (m .kind) k c (record { bay = none; totals = totals }))
-  vacant-same (admit x) r = rw free (admit-same m k s z₀ sized empty refl t x (r .0) (r .1))
+  vacant-same : (c : Call) → Fits (m .For) c → Same m c (onStretch k c s) (placeCall (m .kind) k c (record { bay = Option.none; totals = totals }))
+  vacant-same (admit x) r = rw free (admit-same m k s z₀ sized empty refl t x (r .sendable) (r .admitted x refl))
   vacant-same release r = absent release (rw free) refl
   vacant-same (tick i answer trace) r = absent (tick i answer trace) (rw free) refl
   vacant-same (save name) r = absent (save name) (rw free) refl
@@ -95,7 +104,7 @@ module _ {S T R : Type 0} (m : Follows S T R) (k : ℕ) (s : List ℕ) (sized : 
   vacant-same (ledger buffer) r = ledger-same m s z₀ a₀ t buffer
   vacant-same newYear r = vacant-year-same m k s z₀ sized empty refl t
 
-stretch-same : {S T R : Type 0} (m : Follows S T R) (k : ℕ) (s : List ℕ) (z : PaperPlace S T) → Alike m s z → (c : Call) → ForPaper (m .For) c → Same m c (onStretch k c s) (placeCall (m .kind) k c z)
+stretch-same : {S T R : Type 0} (m : Follows S T R) (k : ℕ) (s : List ℕ) (z : PaperPlace S T) → Alike m s z → (c : Call) → Fits (m .For) c → Same m c (onStretch k c s) (placeCall (m .kind) k c z)
 stretch-same {S = S} {T = T} m k s z (alike.vacant sized empty e t) c r =
     subst (λ (b : Option (PaperBay S T)). Same m c (onStretch k c s) (placeCall (m .kind) k c (record { bay = b; totals = z .totals }))) (sym e)
     (vacant-same m k s sized empty (z .totals) t c r)
@@ -109,43 +118,43 @@ pub record Simulates {S T R : Type 0} (m : Follows S T R) (box : List ℕ) (pape
   pub places : (bay : ℕ) → bay < bayCount → Alike m (stretchOf bay box) (paper bay)
 
 -- a bay has the same part of the shared ceiling
-same-part : {S T R : Type 0} (m : Follows S T R) (s : List ℕ) (z : PaperPlace S T) → Alike m s z → partOf s ≡ part (z .bay)
-same-part m s z (alike.vacant sized empty e t) = part-vacant s empty ∙ ap part (sym e)
+same-part : {S T R : Type 0} (m : Follows S T R) (s : List ℕ) (z : PaperPlace S T) → Alike m s z → partOf s ≡ partOn (z .bay)
+same-part m s z (alike.vacant sized empty e t) = part-vacant s empty ∙ ap partOn (sym e)
 same-part m s z (alike.present h e t) =
-    part-held (h .terms) s (standing m h) ∙ ap (ceilingOf (h .terms .readBack)) (h .accepted .is-checked) ∙ ap part (sym e)
+    part-held (h .terms) s (standing m h) ∙ ap (ceilingOf (h .terms .readBack)) (h .accepted .is-checked) ∙ ap partOn (sym e)
 
-same-parts : {S T R : Type 0} (m : Follows S T R) (box : List ℕ) (paper : PaperBox S T) → Simulates m box paper → (n : ℕ) → n ≤ bayCount → present n box ≡ parts n paper
-unfolding present parts
+same-parts : {S T R : Type 0} (m : Follows S T R) (box : List ℕ) (paper : PaperBox S T) → Simulates m box paper → (n : ℕ) → n ≤ bayCount → present n box ≡ presentOn n paper
+unfolding present presentOn
 same-parts m box paper h zero l = refl
 same-parts m box paper h (suc n) l =
     ap₂ _+_ (same-parts m box paper h n (omega arith)) (same-part m (stretchOf n box) (paper n) (h .places n (omega arith)))
 
 pub record Step {S T R : Type 0} (m : Follows S T R) (box : List ℕ) (bay : ℕ) (c : Call) (told : Reported R × PaperBox S T) : Type 0 where
-  pub report : reported (m .kind .view) c (callOf box bay c) ≡ told .0
+  pub report : reported (m .kind .reads) c (callOf box bay c) ≡ told .0
   pub after : Simulates m (memoryAfter (callOf box bay c)) (told .1)
 
-call-step : {S T R : Type 0} (m : Follows S T R) (box : List ℕ) (paper : PaperBox S T) → Simulates m box paper → (bay : ℕ) (c : Call) → ForPaper (m .For) c → Step m box bay c (paperCall (m .kind) paper bay c)
+call-step : {S T R : Type 0} (m : Follows S T R) (box : List ℕ) (paper : PaperBox S T) → Simulates m box paper → (bay : ℕ) (c : Call) → Fits (m .For) c → Step m box bay c (paperCall (m .kind) paper bay c)
 call-step {S = S} {T = T} {R = R} m box paper h bay c r = elim (decLt bay bayCount) [ yes b ↦ inside b | no b ↦ outside (omega arith) ]
   where
     outside : bayCount ≤ bay → Step m box bay c (paperCall (m .kind) paper bay c)
     outside b =
         let e = no-bay box bay c b in
         subst (Step m box bay c) (sym (ap (λ (x : Bool). cond x
-        (placeCall (m .kind) (parts bayCount paper) c (paper bay) .0, at (m .kind) paper bay (placeCall (m .kind) (parts bayCount paper) c (paper bay) .1)) (numbered 13, paper)) (le-ltb bay bayCount b)))
-        (record { report = ap (reported (m .kind .view) c) e; after = subst (λ (o : Called). Simulates m (memoryAfter o) paper) (sym e) h })
+        (placeCall (m .kind) (presentOn bayCount paper) c (paper bay) .0, withPlace (m .kind) paper bay (placeCall (m .kind) (presentOn bayCount paper) c (paper bay) .1)) (replies 13 (buffers c), paper)) (le-ltb bay bayCount b)))
+        (record { report = ap (reported (m .kind .reads) c) e ∙ refusal-reported (m .kind .reads) c 13 (λ y. omega arith) box (buffers c); after = subst (λ (o : Called). Simulates m (memoryAfter o) paper) (sym e) h })
 
     inside : bay < bayCount → Step m box bay c (paperCall (m .kind) paper bay c)
     inside b =
-        let told : PaperReply S T R = placeCall (m .kind) (parts bayCount paper) c (paper bay) in
+        let told : PaperReply S T R = placeCall (m .kind) (presentOn bayCount paper) c (paper bay) in
         let s : List ℕ = stretchOf bay box in
         let k = ap (λ (n : ℕ). placeCall (m .kind) n c (paper bay)) (same-parts m box paper h bayCount (omega arith)) in
         let x : Same m c (result box bay c) told =
         subst (Same m c (result box bay c)) k (stretch-same m (present bayCount box) s (paper bay) (h .places bay b) c r) in
         let w = own box bay c b (h .sized) in
         subst (Step m box bay c) (sym (ap (λ (x : Bool). cond x
-        (placeCall (m .kind) (parts bayCount paper) c (paper bay) .0, at (m .kind) paper bay (placeCall (m .kind) (parts bayCount paper) c (paper bay) .1)) (numbered 13, paper)) (lt-ltb bay bayCount b)))
+        (placeCall (m .kind) (presentOn bayCount paper) c (paper bay) .0, withPlace (m .kind) paper bay (placeCall (m .kind) (presentOn bayCount paper) c (paper bay) .1)) (replies 13 (buffers c), paper)) (lt-ltb bay bayCount b)))
         (record {
-          report = ap (reported (m .kind .view) c) w ∙ x .report;
+          report = ap (reported (m .kind .reads) c) w ∙ x .report;
           after = record {
             sized = same-length box bay c ∙ h .sized;
             places = λ i l. elim (ℕ-discrete i bay) [
@@ -158,14 +167,17 @@ call-step {S = S} {T = T} {R = R} m box paper h bay c r = elim (decLt bay bayCou
         })
 
 -- ---- lists of calls
-pub from-alike : {S T R : Type 0} (m : Follows S T R) (box : List ℕ) (paper : PaperBox S T) → Simulates m box paper → (xs : List Request) → AllForPaper (m .For) xs
-    → reports (m .kind .view) callOf box xs ≡ paperReports (m .kind) paper xs
+first-fits : {For : Statement → Type 0} (x : Request) (xs : List Request) → Sendable (x .call) → Admitting For (x ∷ xs) → Fits For (x .call)
+first-fits x xs s a = record { sendable = s; admitted = a x (List·Memᴰ·head refl) }
+
+pub from-alike : {S T R : Type 0} (m : Follows S T R) (box : List ℕ) (paper : PaperBox S T) → Simulates m box paper → (xs : List Request)
+    → AllSendable xs → Admitting (m .For) xs → reports (m .kind .reads) callOf box xs ≡ paperReports (m .kind) paper xs
 unfolding reports paperReports
-from-alike {R = R} m box paper h [] none = refl
-from-alike {R = R} m box paper h (x ∷ xs) (each r k) =
-    let s = call-step m box paper h (x .bay) (x .call) r in
+from-alike {R = R} m box paper h [] none a = refl
+from-alike {R = R} m box paper h (x ∷ xs) (each r k) a =
+    let s = call-step m box paper h (x .bay) (x .call) (first-fits x xs r a) in
     ap₂ {B = List (Reported R)} {C = List (Reported R)} _∷_ (s .report)
-    (from-alike m (afterCall callOf box x) (paperCall (m .kind) paper (x .bay) (x .call) .1) (s .after) xs k)
+    (from-alike m (afterCall callOf box x) (paperCall (m .kind) paper (x .bay) (x .call) .1) (s .after) xs k (λ y i. a y (List·Memᴰ·tail i)))
 
 -- ---- from the empty box
 zeros-empty : lengthIn (zeros stretchLength) ≡ 0
@@ -179,58 +191,58 @@ empty-simulates m =
           (λ f l. ap (totalIn f) (at-first bay b) ∙ cleared-total f l);
     }
 
-from-empty : {S T R : Type 0} (m : Follows S T R) → OnPaperBy (m .kind) (m .For) callOf
-from-empty m = from-alike m emptyBox emptyPaper (empty-simulates m)
+-- every sequence is for the machine that keeps a label set
+every : (xs : List Request) → Admitting (λ p. Unit {0}) xs
+every xs x i t e c p q = tt
 
--- THE BOX ON PAPER: every call of every list from the empty box, turned down or not and to whichever bay, reports what the paper that
--- rewrites does, for sequences without setpause
+-- THE BOX ON PAPER
 pub box-on-paper : OnPaper callOf
-box-on-paper = from-empty byTerms
+box-on-paper = from-alike terms-follow emptyBox emptyPaper (empty-simulates terms-follow)
 
--- THE BOX BY LABELS: the same for every sequence, and with the answer and the state record of each instant whole
-pub box-by-labels : BoxByLabels callOf
-box-by-labels = from-empty byLabelSets
+pub box-by-labels : ByLabelSets callOf
+box-by-labels xs k = from-alike labels-follow emptyBox emptyPaper (empty-simulates labels-follow) xs k (every xs)
 
 -- ---- what is held after a list of calls
 simulates-after : {S T R : Type 0} (m : Follows S T R) (box : List ℕ) (paper : PaperBox S T) → Simulates m box paper → (xs : List Request)
-    → AllForPaper (m .For) xs → Simulates m (boxAfter callOf box xs) (paperAfter (m .kind) paper xs)
+    → AllSendable xs → Admitting (m .For) xs → Simulates m (boxAfter callOf box xs) (paperAfter (m .kind) paper xs)
 unfolding boxAfter paperAfter
-simulates-after m box paper h [] none = h
-simulates-after m box paper h (x ∷ xs) (each r k) =
-    simulates-after m (afterCall callOf box x) (paperCall (m .kind) paper (x .bay) (x .call) .1) (call-step m box paper h (x .bay) (x .call) r .after) xs k
+simulates-after m box paper h [] none a = h
+simulates-after m box paper h (x ∷ xs) (each r k) a =
+    simulates-after m (afterCall callOf box x) (paperCall (m .kind) paper (x .bay) (x .call) .1)
+    (call-step m box paper h (x .bay) (x .call) (first-fits x xs r a) .after) xs k (λ y i. a y (List·Memᴰ·tail i))
 
 -- the total that the box holds of a farm is the paper's, across comings back, takings out and new years
 same-total : {S T R : Type 0} (m : Follows S T R) (s : List ℕ) (z : PaperPlace S T) → Alike m s z → SameTotals s (z .totals)
 same-total m s z (alike.vacant sized empty e t) = t
 same-total m s z (alike.present h e t) = t
 
-pub totals-on : {S T R : Type 0} (m : Follows S T R) (xs : List Request) → AllForPaper (m .For) xs → (bay : ℕ) → bay < bayCount → (farm : ℕ) → farm < farmCount
+pub totals-on : {S T R : Type 0} (m : Follows S T R) (xs : List Request) → AllSendable xs → Admitting (m .For) xs
+    → (bay : ℕ) → bay < bayCount → (farm : ℕ) → farm < farmCount
     → totalIn farm (ledgerIn (stretchOf bay (boxAfter callOf emptyBox xs))) ≡ paperAfter (m .kind) emptyPaper xs bay .totals farm
-totals-on m xs k bay b =
+totals-on m xs k a bay b =
     same-total m (stretchOf bay (boxAfter callOf emptyBox xs)) (paperAfter (m .kind) emptyPaper xs bay)
-    (simulates-after m emptyBox emptyPaper (empty-simulates m) xs k .places bay b)
-
-pub totals-on-paper : (xs : List Request) → AllForPaper NoSetpause xs → (bay : ℕ) → bay < bayCount → (farm : ℕ) → farm < farmCount
-    → totalIn farm (ledgerIn (stretchOf bay (boxAfter callOf emptyBox xs))) ≡ paperAfter onTerms emptyPaper xs bay .totals farm
-totals-on-paper = totals-on byTerms
+    (simulates-after m emptyBox emptyPaper (empty-simulates m) xs k a .places bay b)
 
 -- the sequence that the box holds spells the statement that the paper was given at the admission, and the sets are the same
 abbrev pub Held : List ℕ → Option (PaperBay State ℕ) → Type 0
-Held s none = lengthIn s ≡ 0
+Held s Option.none = lengthIn s ≡ 0
 Held s (some b) = Spells (sequenceIn s) (b .statement) × (readBackIn s ≡ b .readBack) × (serviceOnlyIn s ≡ b .serviceOnly) × (stateIn s ≡ encodeState (b .machine))
 
-same-held : (s : List ℕ) (z : PaperPlace State ℕ) → Alike byLabelSets s z → Held s (z .bay)
+same-held : (s : List ℕ) (z : PaperPlace State ℕ) → Alike labels-follow s z → Held s (z .bay)
 same-held s z (alike.vacant sized empty e t) = subst (Held s) (sym e) empty
 same-held s z (alike.present h e t) =
     subst (Held s) (sym e) (
-      subst (λ (x : List ℕ). Spells x (h .accepted .statement)) (sym (sequence-held (h .terms) s (standing byLabelSets h))) (h .accepted .spelled),
+      subst (λ (x : List ℕ). Spells x (h .accepted .statement)) (sym (sequence-held (h .terms) s (standing labels-follow h))) (h .accepted .spelled),
       h .holds .set,
       h .holds .service,
       h .bytes ∙ ap encodeState (sym (h .at)),
     )
 
-pub held-on-paper : (xs : List Request) → AllForPaper (λ p. Unit {0}) xs → (bay : ℕ) → bay < bayCount
-    → Held (stretchOf bay (boxAfter callOf emptyBox xs)) (paperAfter onLabels emptyPaper xs bay .bay)
+pub held-on-paper : (xs : List Request) → AllSendable xs → (bay : ℕ) → bay < bayCount
+    → Held (stretchOf bay (boxAfter callOf emptyBox xs)) (paperAfter byLabelSets emptyPaper xs bay .bay)
 held-on-paper xs k bay b =
-    same-held (stretchOf bay (boxAfter callOf emptyBox xs)) (paperAfter onLabels emptyPaper xs bay)
-    (simulates-after byLabelSets emptyBox emptyPaper (empty-simulates byLabelSets) xs k .places bay b)
+    same-held (stretchOf bay (boxAfter callOf emptyBox xs)) (paperAfter byLabelSets emptyPaper xs bay)
+    (simulates-after labels-follow emptyBox emptyPaper (empty-simulates labels-follow) xs k (every xs) .places bay b)
+
+pub every-sequence : (xs : List Request) → Admitting (λ p. Unit {0}) xs
+every-sequence = every

@@ -4,16 +4,15 @@ use native.Mathlib.Omega.{arith}
 use native.Mathlib.Nat.{mul-one, eq-of-mul-eq-mul-right}
 use mathlib.Core.Path.{_≡_, refl, sym, ap, ap₂, _∙_, subst}
 use mathlib.Core.Bool.{false}
-use mathlib.Core.List.{List, [], _++_}
-use lib.IntN.{pos}
-use lib.Ieee.{Float, nan, inf, fin, binary32, up, down, add, toBits, ofInt}
+use mathlib.Core.List.{List, []}
+use lib.Ieee.{Float, nan, inf, fin, binary32, up, down, toBits}
 use lib.Ieee.Exact.{HasValue}
 use lib.Ieee.Fits.{down-pos}
 use Rattle.numbers.specs.Bytes.{leBytes}
-use Rattle.litres.specs.Litres.{ordered}
+use Rattle.limits.specs.Limits.{litresLimit}
 use Rattle.litres.proofs.Sums.{value-of}
-use Rattle.sequence.specs.Amounts.{amountSize, amountBytes}
-use Rattle.box_ledgers.specs.Ledgers.{farmCount, fieldIn, totalIn, totalsBytes, exactTotal, shownTotal, readingOf}
+use Rattle.sequence.specs.Amounts.{amountSize}
+use Rattle.box_ledgers.specs.Ledgers.{farmCount, fieldIn, totalIn, exactTotal, shownTotal, readingOf}
 use Rattle.box_ledgers_totals.proofs.Totals.{holds}
 use Rattle.box_ledgers_totals.proofs.Theorems.{written, total-most, shown-running, reading-shows}
 use Rattle.box_stretches.specs.Called.{Called, number, lentAfter, first}
@@ -24,10 +23,12 @@ use Rattle.box_calls.specs.Years.{sumOf}
 use Rattle.box_theory.proofs.Stretches.{answered-inside}
 use Rattle.box_theory.proofs.Years.{ledger-shows}
 use Rattle.box_paper.specs.PaperBox.{emptyPaper}
-use Rattle.box_paper.specs.Reports.{AllForPaper}
-use Rattle.box_paper.specs.Certified.{deliveriesOver, IsNumber, overFarms, readingFor, Certified, ReadingsCertified, ReadingsCertifiedByLabels}
-use Rattle.box_theory.proofs.PaperMachines.{Follows, byTerms, byLabelSets}
-use Rattle.box_theory.proofs.PaperBoxes.{totals-on}
+use Rattle.box_paper.specs.Reports.{Admitting}
+use Rattle.box_calls.specs.Shares.{AllSendable}
+use Rattle.box_paper.specs.Certified.{deliveredOn, IsNumber, overFarms, Certified, ReadingsCertified, ReadingsCertifiedByLabels}
+use Rattle.box_theory.proofs.PaperMachines.{Follows, terms-follow, labels-follow}
+use Rattle.box_theory.proofs.PaperBoxes.{totals-on, every-sequence}
+use Rattle.box_theory.proofs.PaperAdmissions.{same-reading}
 use Rattle.box_theory.proofs.PaperDeliveries.{totals-are-sums}
 
 -- ---- whole numbers
@@ -42,32 +43,12 @@ one-number nan n k v w = absurd v
 one-number (inf s) n k v w = absurd v
 one-number (fin s m e) n k v w = eq-of-mul-eq-mul-right (down e) (down-pos e) n k (sym (v .1) ∙ w .1)
 
--- ---- totals that are the same for each of the 32 farms
-module _ (t u : ℕ → ℕ) (same : (f : ℕ) → f < farmCount → t f ≡ u f) where
-  same-bytes : (n : ℕ) → n ≤ farmCount → totalsBytes n t ≡ totalsBytes n u
-  unfolding totalsBytes
-  same-bytes zero l = refl
-  same-bytes (suc n) l = ap₂ (λ (x : List ℕ) (k : ℕ). x ++ amountBytes k) (same-bytes n (omega arith)) (same n (omega arith))
-
-  abbrev single : (ℕ → ℕ) → ℕ → Float
-  single t f = ofInt binary32 (pos (t f))
-
-  same-sum : (n : ℕ) → n < farmCount → ordered n (single t) ≡ ordered n (single u)
-  unfolding ordered
-  same-sum zero l = ap (λ (k : ℕ). ofInt binary32 (pos k)) (same 0 l)
-  same-sum (suc n) l =
-      ap₂ (λ (x : Float) (k : ℕ). add binary32 x (ofInt binary32 (pos k))) (same-sum n (omega arith)) (same (suc n) l)
-
-  same-reading : readingFor t ≡ readingFor u
-  same-reading =
-      ap₂ (λ (x : List ℕ) (y : Float). x ++ leBytes amountSize (toBits binary32 y)) (same-bytes farmCount (omega arith)) (same-sum 31 (omega arith))
-
+-- ---- a reading of a ledger that holds these totals is certified for them
 same-exact : (held : List ℕ) (t : ℕ → ℕ) → ((f : ℕ) → f < farmCount → totalIn f held ≡ t f) → (n : ℕ) → n ≤ farmCount → exactTotal n held ≡ overFarms n t
 unfolding exactTotal overFarms
 same-exact held t h zero l = refl
 same-exact held t h (suc n) l = ap₂ _+_ (same-exact held t h n (omega arith)) (h n (omega arith))
 
--- ---- a reading of a ledger that holds these totals is certified for them
 pub reading-certified : (held : List ℕ) (t : ℕ → ℕ) → ((f : ℕ) → f < farmCount → totalIn f held ≡ t f) → Certified t (readingOf held)
 reading-certified held t h =
     let r = shown-running held in
@@ -77,36 +58,33 @@ reading-certified held t h =
           let w = written (λ g. totalIn g held) (leBytes amountSize (toBits binary32 (shownTotal held))) f l (total-most f held) in
           let x : Float = fieldIn f (readingOf held) in
           is-number x (t f) (subst (λ (n : ℕ). HasValue x false n 1) (w .1 ∙ h f l) (value-of x (holds _ (w .0)) .0));
-      farm-at-most = λ f l. subst (λ (n : ℕ). n ≤ 16777216) (h f l) (total-most f held);
+      farm-at-most = λ f l. subst (λ (n : ℕ). n ≤ litresLimit) (h f l) (total-most f held);
       total = r .0;
-      total-read = subst (λ (x : Float). IsNumber x (r .0)) (sym (reading-shows held)) (is-number (shownTotal held) (r .0) (r .1));
+      total-exact = subst (λ (x : Float). IsNumber x (r .0)) (sym (reading-shows held)) (is-number (shownTotal held) (r .0) (r .1));
       not-above = let a = r .3 in omega (arith, a, e);
       not-below = let a = r .4 in omega (arith, a, e);
       bytes = same-reading (λ g. totalIn g held) t h;
     }
 
 -- ---- after every list of calls
-module _ {S T R : Type 0} (m : Follows S T R) (xs : List Request) (k : AllForPaper (m .For) xs) (bay : ℕ) where
+module _ {S T R : Type 0} (m : Follows S T R) (xs : List Request) (k : AllSendable xs) (a : Admitting (m .For) xs) (bay : ℕ) where
   -- what a machine delivered is what the box holds
   delivered-is-held : bay < bayCount → (farm : ℕ) → farm < farmCount
-      → totalIn farm (ledgerIn (stretchOf bay (boxAfter callOf emptyBox xs))) ≡ sumOf (deliveriesOver (m .kind) bay farm emptyPaper [] xs)
+      → totalIn farm (ledgerIn (stretchOf bay (boxAfter callOf emptyBox xs))) ≡ deliveredOn (m .kind) bay xs farm
   unfolding sumOf
-  delivered-is-held b farm l = totals-on m xs k bay b farm l ∙ totals-are-sums (m .kind) bay b farm emptyPaper [] refl xs
+  delivered-is-held b farm l = totals-on m xs k a bay b farm l ∙ totals-are-sums (m .kind) bay b farm emptyPaper [] refl xs
 
   certified : (buffer : List ℕ) → number (callOf (boxAfter callOf emptyBox xs) bay (ledger buffer)) ≡ 0
-      → Certified (λ farm. sumOf (deliveriesOver (m .kind) bay farm emptyPaper [] xs))
-      (first (lentAfter (callOf (boxAfter callOf emptyBox xs) bay (ledger buffer))))
+      → Certified (deliveredOn (m .kind) bay xs) (first (lentAfter (callOf (boxAfter callOf emptyBox xs) bay (ledger buffer))))
   certified buffer n =
       let box = boxAfter callOf emptyBox xs in
-      let delivered : ℕ → ℕ = λ farm. sumOf (deliveriesOver (m .kind) bay farm emptyPaper [] xs) in
       let s = ledger-shows box bay buffer n in
-      subst (Certified delivered) (sym (ap (λ (o : Called). first (lentAfter o)) (s .1) ∙ s .2 .bytes))
-      (reading-certified (ledgerIn (stretchOf bay box)) delivered (delivered-is-held (answered-inside box bay (ledger buffer) n .0)))
+      subst (Certified (deliveredOn (m .kind) bay xs)) (sym (ap (λ (o : Called). first (lentAfter o)) (s .1) ∙ s .2 .bytes))
+      (reading-certified (ledgerIn (stretchOf bay box)) (deliveredOn (m .kind) bay xs) (delivered-is-held (answered-inside box bay (ledger buffer) n .0)))
 
--- THE CERTIFICATE: every reading answered 0, after every list of calls from the empty box, is certified for what the paper delivered
+-- THE CERTIFICATE
 pub readings-certified : ReadingsCertified callOf
-readings-certified xs k bay = certified byTerms xs k bay
+readings-certified = certified terms-follow
 
--- and, for sequences with setpause too, for what the machine that keeps a label set delivered
 pub readings-certified-by-labels : ReadingsCertifiedByLabels callOf
-readings-certified-by-labels xs k bay = certified byLabelSets xs k bay
+readings-certified-by-labels xs k = certified labels-follow xs k (every-sequence xs)

@@ -3,13 +3,12 @@ use Prim.Native.Nat.{ℕ, _+_, _<_}
 use native.Mathlib.Omega.{arith}
 use native.Mathlib.Decide.{ℕ-discrete}
 use mathlib.Core.Path.{_≡_, refl, sym, _∙_, subst}
-use mathlib.Core.Bool.{Bool, true, false, _&&_, _||_, cond}
+use mathlib.Core.Bool.{Bool, true, false, _&&_, cond}
 use mathlib.Core.Option.{Option, some, none}
 use mathlib.Core.List.{List, [], _∷_}
 use lib.ListN.{length}
 use lib.Dec.{eqb, leb, ltb}
 use borrow.Author.Tests.{eq-eqb, ne-eqb, lt-ltb}
-use Rattle.limits.specs.Limits.{maxPositions}
 use Rattle.esterel.specs.Statement.{Statement}
 use Rattle.esterel.specs.Ceiling.{ceiling}
 use Rattle.esterel.specs.Machines.{Seen, instant, refused}
@@ -18,31 +17,32 @@ use Rattle.sequence.specs.Check.{Checked, sound, bad, checked}
 use Rattle.answers.specs.AnswerRecord.{answerLength}
 use Rattle.recordings.specs.Record.{recordLength, panelLength, panelOf}
 use Rattle.recordings.specs.Recording.{following}
-use Rattle.box_fillings.specs.Preview.{previewLength}
-use Rattle.box_ledgers.specs.Ledgers.{farmCount, readingLength, wouldPass}
+use Rattle.box_positions.specs.Names.{find, Answered, answered, saveNamed, forgetNamed}
+use Rattle.box_fillings.specs.Preview.{Previewed, previewed, previewLength, shownBy}
+use Rattle.box_ledgers.specs.Ledgers.{farmCount, readingLength, readingFor, wouldPass}
 use Rattle.box_stretches.specs.Stretch.{Terms}
 use Rattle.box_stretches.specs.BayCalls.{sharedCeiling}
-use Rattle.box_calls.specs.Box.{bayCount, Call, admit, release, tick, save, restore, forget, service, panel, preview, ledger, newYear}
+use Rattle.box_calls.specs.Box.{bayCount, Call, admit, release, tick, save, restore, forget, service, panel, preview, ledger, newYear, buffers}
 use Rattle.box_calls.specs.Lists.{Request}
 use Rattle.box_calls.specs.Years.{sumOf}
-use Rattle.box_paper.specs.PaperBox.{Kind, PaperBay, PaperPlace, PaperBox, PaperReply, Reported, numbered, ticked, shows, reading, down, done, holding, saved, keptAs, without, isSome, farmTotals, parts, programOf, freshBay, admitOn, addsOn, tickOn, saveOn, restoreOn, forgetOn, readOn, previewOn, placeCall, at, paperCall}
+use Rattle.box_paper.specs.PaperBox.{BayMachine, PaperBay, PaperPlace, PaperBox, PaperReply, Reported, ticked, replies, down, holds, shows, withMachine, presentOn, programOf, freshBay, admitOn, addsOn, tickOn, renamedOn, saveOn, restoreOn, previewedOn, previewOn, sized, placeCall, withPlace, paperCall, answerOf}
 use Rattle.box_paper.specs.Reports.{paperAfter}
 use Rattle.box_paper.specs.Certified.{deliveriesAfter, deliveriesOver}
 
 -- ---- the totals on paper are the sums of what was delivered
-module _ {S T R : Type 0} (m : Kind S T R) (f k : ℕ) (totals : ℕ → ℕ) (ds : List ℕ) (h : totals f ≡ sumOf ds) where
+module _ {S T R : Type 0} (m : BayMachine S T R) (f k : ℕ) (totals : ℕ → ℕ) (ds : List ℕ) (h : totals f ≡ sumOf ds) where
   abbrev place : Option (PaperBay S T) → PaperPlace S T
   place b = record { bay = b; totals = totals }
 
   -- the farm's total after a call is the sum of the deliveries after it
   abbrev Told : Call → Option (PaperBay S T) → PaperReply S T R → Type 0
-  Told c b o = o .1 .totals f ≡ sumOf (deliveriesAfter m f c (o .0) (record { bay = b; totals = totals }) ds)
+  Told c b o = o .1 .totals f ≡ sumOf (deliveriesAfter m f c (o .0) b ds)
 
   admit-told : (t : Terms) (b : Option (PaperBay S T)) → Told (admit t) b (placeCall m k (admit t) (record { bay = b; totals = totals }))
   admit-told t (some b) = h
   admit-told t none = go (checked (t .sequence) (t .readBack))
     where
-      by-sum : (p : Statement) (c : Bool) → Told (admit t) none (cond c (done (place none) (freshBay m t p)) (down 14 (place none)))
+      by-sum : (p : Statement) (c : Bool) → Told (admit t) none (cond c (holds (place none) (some (freshBay m t p))) (down 14 [] (place none)))
       by-sum p true = h
       by-sum p false = h
 
@@ -55,60 +55,61 @@ module _ {S T R : Type 0} (m : Kind S T R) (f k : ℕ) (totals : ℕ → ℕ) (d
   unfolding sumOf
   tick-told e answer trace none = h
   tick-told e answer trace (some b) =
-      sized (eqb (length trace) recordLength && eqb (length answer) answerLength) (m .react (programOf b) (b .machine) e .0)
+      long (eqb (length trace) recordLength && eqb (length answer) answerLength) (m .react (programOf b) (b .machine) e .0)
     where
-      w : S
-      w = m .react (programOf b) (b .machine) e .1
-
       passing : (x : R) (n : ℕ) (c : Bool) → Told (tick e answer trace) (some b)
-          (cond c (down 19 (place (some b)))
-          (ticked x n e x, record { bay = some (holding b (m .react (programOf b) (b .machine) e .1) n (b .positions)); totals = λ g. totals g + addsOn m b e g }))
+          (cond c (down 19 (answer ∷ trace ∷ []) (place (some b)))
+          (ticked x, record { bay = some (withMachine b (m .react (programOf b) (b .machine) e .1) n); totals = λ g. totals g + addsOn m b e g }))
       passing x n true = h
       passing x n false = omega (arith, h)
 
-      seen : (x : Seen) → Told (tick e answer trace) (some b) (tickOn m (place (some b)) b e x (m .react (programOf b) (b .machine) e .1))
+      seen : (x : Seen) → Told (tick e answer trace) (some b)
+          (tickOn m (place (some b)) b e (answer ∷ trace ∷ []) x (m .react (programOf b) (b .machine) e .1))
       seen refused = h
       seen (instant c x o n after) =
-          passing (m .shown (instant c x o n after) w) (following (b .last)) (wouldPass farmCount totals (addsOn m b e))
+          passing (m .tells (instant c x o n after) (m .react (programOf b) (b .machine) e .1) (following (b .last)) e) (following (b .last))
+          (wouldPass farmCount totals (addsOn m b e))
 
-      sized : (c : Bool) (x : Seen) → Told (tick e answer trace) (some b)
-          (cond c (tickOn m (place (some b)) b e x (m .react (programOf b) (b .machine) e .1)) (down 1 (place (some b))))
-      sized true x = seen x
-      sized false x = h
+      long : (c : Bool) (x : Seen) → Told (tick e answer trace) (some b)
+          (sized m c (answer ∷ trace ∷ []) (place (some b)) (tickOn m (place (some b)) b e (answer ∷ trace ∷ []) x (m .react (programOf b) (b .machine) e .1)))
+      long true x = seen x
+      long false x = h
+
+  -- positions: a bay with others, or the same
+  renamed-told : (b : PaperBay S T) (x : Answered T) → renamedOn m (record { bay = some b; totals = totals }) b x .1 .totals f ≡ sumOf ds
+  renamed-told b (answered n ps) = h
 
   save-told : (name : ℕ) (b : Option (PaperBay S T)) → Told (save name) b (placeCall m k (save name) (record { bay = b; totals = totals }))
   save-told name none = h
   save-told name (some b) = go (m .kept (b .machine))
     where
-      room : (t : T) (c : Bool) → Told (save name) (some b)
-          (cond c (done (place (some b)) (holding b (b .machine) (b .last) (saved name t ∷ without name (b .positions)))) (down 16 (place (some b))))
-      room t true = h
-      room t false = h
-
       go : (t : Option T) → Told (save name) (some b) (saveOn m (place (some b)) b name t)
       go none = h
-      go (some t) = room t (isSome (keptAs name (b .positions)) || ltb (length (b .positions)) maxPositions)
+      go (some t) = renamed-told b (saveNamed name t (b .positions))
 
   restore-told : (name : ℕ) (b : Option (PaperBay S T)) → Told (restore name) b (placeCall m k (restore name) (record { bay = b; totals = totals }))
   restore-told name none = h
-  restore-told name (some b) = go (keptAs name (b .positions))
+  restore-told name (some b) = go (find name (b .positions))
     where
       go : (t : Option T) → Told (restore name) (some b) (restoreOn m (place (some b)) b t)
       go none = h
       go (some t) = h
 
-  forget-told : (name : ℕ) (b : Option (PaperBay S T)) → Told (forget name) b (placeCall m k (forget name) (record { bay = b; totals = totals }))
-  forget-told name none = h
-  forget-told name (some b) = go (keptAs name (b .positions))
-    where
-      go : (t : Option T) → Told (forget name) (some b) (forgetOn m (place (some b)) b name t)
-      go none = h
-      go (some t) = h
-
   -- a reader leaves the place
-  read-told : (b : Option (PaperBay S T)) (c : Bool) (x : Reported R) → readOn m (record { bay = b; totals = totals }) c x .1 .totals f ≡ sumOf ds
-  read-told b true x = h
-  read-told b false x = h
+  read-told : (b : Option (PaperBay S T)) (c : Bool) (lent : List (List ℕ)) (bytes : List ℕ)
+      → sized m c lent (record { bay = b; totals = totals }) (shows bytes (record { bay = b; totals = totals })) .1 .totals f ≡ sumOf ds
+  read-told b true lent bytes = h
+  read-told b false lent bytes = h
+
+  preview-told : (b : PaperBay S T) (e u : ℕ) (buffer : List ℕ) (c : Bool) (x : Seen)
+      → sized m c (buffer ∷ []) (record { bay = some b; totals = totals }) (previewOn m (record { bay = some b; totals = totals }) b e u buffer x) .1 .totals f
+      ≡ sumOf ds
+  preview-told b e u buffer false x = h
+  preview-told b e u buffer true refused = h
+  preview-told b e u buffer true (instant k x o n after) = go (shownBy (λ i. answerOf (m .react (programOf b) (b .machine) i .0)) e u buffer)
+    where
+      go : (x : Previewed) → previewedOn m (record { bay = some b; totals = totals }) x .1 .totals f ≡ sumOf ds
+      go (previewed n bytes) = h
 
   place-told : (c : Call) (b : Option (PaperBay S T)) → Told c b (placeCall m k c (record { bay = b; totals = totals }))
   unfolding sumOf
@@ -118,32 +119,34 @@ module _ {S T R : Type 0} (m : Kind S T R) (f k : ℕ) (totals : ℕ → ℕ) (d
   place-told (tick e answer trace) b = tick-told e answer trace b
   place-told (save name) b = save-told name b
   place-told (restore name) b = restore-told name b
-  place-told (forget name) b = forget-told name b
+  place-told (forget name) none = h
+  place-told (forget name) (some b) = renamed-told b (forgetNamed name (b .positions))
   place-told (service trace view) none = h
-  place-told (service trace view) (some b) = read-told (some b) (eqb (length trace) recordLength && eqb (length view) recordLength) (shows trace)
+  place-told (service trace view) (some b) =
+      read-told (some b) (eqb (length trace) recordLength && eqb (length view) recordLength) (view ∷ []) trace
   place-told (panel trace view) none = h
   place-told (panel trace view) (some b) =
-      read-told (some b) (eqb (length trace) recordLength && eqb (length view) panelLength) (shows (panelOf (b .serviceOnly) trace))
+      read-told (some b) (eqb (length trace) recordLength && eqb (length view) panelLength) (view ∷ []) (panelOf (b .serviceOnly) trace)
   place-told (preview e u buffer) none = h
   place-told (preview e u buffer) (some b) =
-      read-told (some b) (eqb (length buffer) previewLength) (previewOn m b e u (m .react (programOf b) (b .machine) e .0))
-  place-told (ledger buffer) b = read-told b (eqb (length buffer) readingLength) (reading (farmTotals farmCount totals) true)
+      preview-told b e u buffer (eqb (length buffer) previewLength) (m .react (programOf b) (b .machine) e .0)
+  place-told (ledger buffer) b = read-told b (eqb (length buffer) readingLength) (buffer ∷ []) (readingFor totals)
   place-told newYear b = refl
 
 -- over a list of calls
-module _ {S T R : Type 0} (m : Kind S T R) (bay : ℕ) (small : bay < bayCount) (f : ℕ) where
+module _ {S T R : Type 0} (m : BayMachine S T R) (bay : ℕ) (small : bay < bayCount) (f : ℕ) where
   own-total : (box : PaperBox S T) (ds : List ℕ) → box bay .totals f ≡ sumOf ds → (c : Call)
-      → paperCall m box bay c .1 bay .totals f ≡ sumOf (deliveriesAfter m f c (paperCall m box bay c .0) (box bay) ds)
+      → paperCall m box bay c .1 bay .totals f ≡ sumOf (deliveriesAfter m f c (paperCall m box bay c .0) (box bay .bay) ds)
   own-total box ds h c =
-      rw (lt-ltb bay bayCount small, eq-eqb bay bay refl) (place-told m f (parts bayCount box) (box bay .totals) ds h c (box bay .bay))
+      rw (lt-ltb bay bayCount small, eq-eqb bay bay refl) (place-told m f (presentOn bayCount box) (box bay .totals) ds h c (box bay .bay))
 
   other-total : (box : PaperBox S T) (j : ℕ) (c : Call) → (j ≡ bay → ⊥) → paperCall m box j c .1 bay .totals f ≡ box bay .totals f
   other-total box j c q = go (ltb j bayCount)
     where
       told : PaperReply S T R
-      told = placeCall m (parts bayCount box) c (box j)
+      told = placeCall m (presentOn bayCount box) c (box j)
 
-      go : (b : Bool) → cond {A = Reported R × PaperBox S T} b (told .0, at m box j (told .1)) (numbered 13, box) .1 bay .totals f ≡ box bay .totals f
+      go : (b : Bool) → cond {A = Reported R × PaperBox S T} b (told .0, withPlace m box j (told .1)) (replies 13 (buffers c), box) .1 bay .totals f ≡ box bay .totals f
       go true = rw (ne-eqb bay j (λ e. q (sym e)))
       go false = refl
 
@@ -157,9 +160,9 @@ module _ {S T R : Type 0} (m : Kind S T R) (bay : ℕ) (small : bay < bayCount) 
         | yes q ↦ subst (λ (j : ℕ).
             paperAfter m (paperCall m box j (x .call) .1) xs bay .totals f
             ≡ sumOf (deliveriesOver m bay f (paperCall m box j (x .call) .1)
-            (cond (eqb j bay) (deliveriesAfter m f (x .call) (paperCall m box bay (x .call) .0) (box bay) ds) ds) xs)) (sym q)
+            (cond (eqb j bay) (deliveriesAfter m f (x .call) (paperCall m box bay (x .call) .0) (box bay .bay) ds) ds) xs)) (sym q)
             (rw (eq-eqb bay bay refl)
-            (totals-are-sums (paperCall m box bay (x .call) .1) (deliveriesAfter m f (x .call) (paperCall m box bay (x .call) .0) (box bay) ds)
+            (totals-are-sums (paperCall m box bay (x .call) .1) (deliveriesAfter m f (x .call) (paperCall m box bay (x .call) .0) (box bay .bay) ds)
             (own-total box ds h (x .call)) xs))
         | no q ↦ rw (ne-eqb (x .bay) bay q) (totals-are-sums (paperCall m box (x .bay) (x .call) .1) ds (other-total box (x .bay) (x .call) q ∙ h) xs)
       ]

@@ -1,13 +1,13 @@
 -- A machine on paper that follows the machine by labels of 01, 'States and resuming'; the two of the specs do, the one that rewrites
 -- for statements without setpause. And one tick on an accepted sequence, by what such a machine sees of it.
-use Prim.Native.Nat.{ℕ, _^_, _<_}
+use Prim.Native.Nat.{ℕ, _%_, _^_, _<_}
 use native.Mathlib.Omega.{arith}
 use mathlib.Core.Path.{_≡_, refl, sym, ap, ap₂, _∙_, subst}
 use mathlib.Core.Option.{Option, some}
 use mathlib.Core.Option as Option
-use mathlib.Core.List.{List, [], _∷_}
+use mathlib.Core.List.{List, [], _∷_, _++_}
 use lib.ListN.{length, getD}
-use Rattle.limits.specs.Limits.{signalCount, placeBytes, reactionsBytes, readBackPlace}
+use Rattle.limits.specs.Limits.{signalCount, signalBytes, numberBytes, placeBytes, reactionsBytes, readBackPlace}
 use Rattle.esterel.specs.Statement.{Statement}
 use Rattle.esterel.specs.Reaction.{Code, Reaction, gives, emitted, code, react, inheritanceFirst}
 use Rattle.esterel.specs.Errors.{Error, blame, firstError}
@@ -24,18 +24,22 @@ use Rattle.sequence.specs.Check.{Checked}
 use Rattle.states.specs.StateRecord.{Decoded, encodeState, holds, Recorded}
 use Rattle.states.proofs.StateLaws.{length-state, decode-encode}
 use Rattle.answers.specs.AnswerRecord.{answerLength, encodeAnswer}
-use Rattle.answers.proofs.AnswerLaws.{length-answer, code-field, emitted-field}
+use Rattle.answers.proofs.AnswerLaws.{length-answer}
 use Rattle.tick.specs.Tick as Tick
 use Rattle.tick.specs.Tick.{Outcome, outcome, Reply, reacts, byState, written, replied, tickOf}
-use Rattle.tick.specs.Paper.{Report}
+use Rattle.tick.specs.Paper.{Report, reportOf}
 use Rattle.demands.specs.Deliveries.{deliveredBy, deliveredIf, deliveries}
-use Rattle.demands.proofs.Reports.{shown-below, report-written}
+use Rattle.demands.proofs.Reports.{report-written}
+use Rattle.demands.specs.Demands.{report}
+use Rattle.recordings.specs.Record.{recordOf, inputIn}
+use Rattle.recordings_writer.proofs.Records.{answer-field, state-field, number-field, input-field}
 use Rattle.demands.proofs.Bounds.{emitted-below}
 use Rattle.demands.proofs.ErrorPlaces.{place-fits}
 use Rattle.demands.proofs.Sequence.{Accepted, tick-at, term-source, term-distinct, recorded-fresh, recorded-resumed, bounded-fresh, bounded-resumed, places-fresh, places-resumed, counted-fresh, counted-resumed}
-use Rattle.box_fillings.specs.Preview.{alone, foundIn, answerIn}
-use Rattle.numbers.specs.Bytes.{leNumber}
-use Rattle.box_paper.specs.PaperBox.{Kind, onTerms, onLabels, records, found}
+use Rattle.box_fillings.specs.Preview.{answerIn}
+use Rattle.numbers.specs.Bytes.{leBytes}
+use Rattle.numbers.proofs.Bytes.{le-low}
+use Rattle.box_paper.specs.PaperBox.{BayMachine, answerOf, Told, told, byTerms, byLabelSets}
 
 -- ---- an instant of the machine by labels: the reaction of a term, whose answer fits its record
 module _ (sequence : List ℕ) (readBack : ℕ) (a : Accepted sequence readBack) (st : State) (e : ℕ) where
@@ -69,7 +73,7 @@ labelled sequence readBack a State.over r e = over refl refl
 
 -- ---- a machine that follows it
 pub record Follows (S T R : Type 0) : Type 1 where
-  pub kind : Kind S T R
+  pub kind : BayMachine S T R
   -- the statements that it is for
   pub For : Statement → Type 0
   -- its state for a program in this state, and what is saved of it where it waits with these labels
@@ -87,23 +91,25 @@ pub record Follows (S T R : Type 0) : Type 1 where
   pub same-adds : (sequence : List ℕ) (readBack : ℕ) (a : Accepted sequence readBack) → For (a .statement)
       → (st : State) (w : S) → At (program readBack (a .statement)) st w → (e f : ℕ)
       → addsByLabels f (program readBack (a .statement)) st e ≡ kind .adds (program readBack (a .statement)) f w e
-  -- what is told by the records is what is told by what is seen
-  pub viewed : (q : Statement) (w : S) (r : Reaction) (x : Option Error) (n : ℕ)
+  -- what answer and record tell of an instant is what is told by what is seen of it
+  pub reads-told : (q : Statement) (w : S) (r : Reaction) (x : Option Error) (n : ℕ)
       → emitted r < 2 ^ signalCount → blame (code r) x .place < 256 ^ placeBytes → n < 256 ^ reactionsBytes
-      → At q (stateAfter r) w → kind .view (written (Instants.instant r x n)) ≡ kind .shown (seen r x n) w
+      → At q (stateAfter r) w → (i e : ℕ) → i < 256 ^ numberBytes
+      → kind .reads (encodeAnswer (Instants.instant r x n)) (recordOf i e (encodeAnswer (Instants.instant r x n)) (encodeState (stateAfter r)))
+      ≡ kind .tells (seen r x n) w i e
 
 -- ---- by rewriting
-pub kept-none : (q : Statement) (w : Rewriting) → TermOf q State.fresh w → onTerms .kept w ≡ Option.none
+pub kept-none : (q : Statement) (w : Rewriting) → TermOf q State.fresh w → byTerms .kept w ≡ Option.none
 kept-none q (Rewriting.fresh t) h = refl
 kept-none q (Rewriting.waits t) h = absurd h
 kept-none q Rewriting.over h = absurd h
 
-pub kept-term : (q : Statement) (L : ℕ) (w : Rewriting) → TermOf q (State.waits L) w → onTerms .kept w ≡ some (expand q L)
+pub kept-term : (q : Statement) (L : ℕ) (w : Rewriting) → TermOf q (State.waits L) w → byTerms .kept w ≡ some (expand q L)
 kept-term q L (Rewriting.fresh t) h = absurd h
 kept-term q L (Rewriting.waits t) h = ap some h
 kept-term q L Rewriting.over h = absurd h
 
-pub kept-ended : (q : Statement) (w : Rewriting) → TermOf q State.over w → onTerms .kept w ≡ Option.none
+pub kept-ended : (q : Statement) (w : Rewriting) → TermOf q State.over w → byTerms .kept w ≡ Option.none
 kept-ended q (Rewriting.fresh t) h = absurd h
 kept-ended q (Rewriting.waits t) h = absurd h
 kept-ended q Rewriting.over h = refl
@@ -120,10 +126,28 @@ terms-adds sequence readBack a plain st w h e f =
     (agree-added f (program readBack (a .statement)) (term-source sequence readBack a) (term-distinct sequence readBack a)
     (plain-term readBack (a .statement) plain) st w h (e ∷ []))
 
-abbrev pub byTerms : Follows Rewriting Statement Report
-byTerms =
+-- of the inputs a record has 32
+inputs-in : (n e : ℕ) (answer state : List ℕ) → inputIn (recordOf n e answer state) ≡ e % 256 ^ signalBytes
+inputs-in n e answer state =
+    ap (λ (x : List ℕ). inputIn (((leBytes numberBytes n ++ x) ++ answer) ++ state)) (sym (le-low signalBytes e))
+    ∙ input-field n (e % 256 ^ signalBytes) answer state (omega arith)
+
+pub terms-told : (r : Reaction) (x : Option Error) (n : ℕ) → emitted r < 2 ^ signalCount → blame (code r) x .place < 256 ^ placeBytes
+    → n < 256 ^ reactionsBytes → (i e : ℕ) → i < 256 ^ numberBytes
+    → byTerms .reads (encodeAnswer (Instants.instant r x n)) (recordOf i e (encodeAnswer (Instants.instant r x n)) (encodeState (stateAfter r)))
+    ≡ told (reportOf (seen r x n)) i (e % 256 ^ signalBytes) (reportOf (seen r x n))
+terms-told (gives o k L t) x n b d f i e l =
+    let answer = encodeAnswer (Instants.instant (gives o k L t) x n) in
+    let state = encodeState (stateAfter (gives o k L t)) in
+    let a = length-answer o k L t x n in
+    let s = length-state (stateAfter (gives o k L t)) in
+    rw (answer-field i e answer state a s, state-field i e answer state a s, number-field i e answer state l, inputs-in i e answer state)
+    (ap (λ (y : Report). told y i (e % 256 ^ signalBytes) y) (report-written (gives o k L t) x n b d f))
+
+abbrev pub terms-follow : Follows Rewriting Statement Told
+terms-follow =
     record {
-      kind = onTerms;
+      kind = byTerms;
       For = NoSetpause;
       At = TermOf;
       keptOf = expand;
@@ -135,7 +159,7 @@ byTerms =
       steps = λ sequence readBack a plain. step (program readBack (a .statement)) (term-source sequence readBack a) (term-distinct sequence readBack a)
           (plain-term readBack (a .statement) plain);
       same-adds = terms-adds;
-      viewed = λ q w r x n i j k g. report-written r x n i j k;
+      reads-told = λ q w r x n b d f g. terms-told r x n b d f;
     }
 
 -- ---- by labels
@@ -145,25 +169,27 @@ Is q st w = w ≡ st
 pub labels-steps : (q : Statement) (st w : State) → w ≡ st → (e : ℕ) → (byLabels q st e .0 ≡ byLabels q w e .0) × (byLabels q w e .1 ≡ byLabels q st e .1)
 labels-steps q st w h e = (ap (λ (x : State). byLabels q x e .0) (sym h), ap (λ (x : State). byLabels q x e .1) h)
 
-pub whole-records : (r : Reaction) (x : Option Error) (n : ℕ) → written (Instants.instant r x n) ≡ records (seen r x n) (stateAfter r)
+pub labels-told : (q : Statement) (w : State) (r : Reaction) (x : Option Error) (n : ℕ) → w ≡ stateAfter r → (i e : ℕ)
+    → byLabelSets .reads (encodeAnswer (Instants.instant r x n)) (recordOf i e (encodeAnswer (Instants.instant r x n)) (encodeState (stateAfter r)))
+    ≡ byLabelSets .tells (seen r x n) w i e
 unfolding encodeAnswer
-whole-records (gives o k l t) x n = refl
+labels-told q w (gives o k L t) x n g i e = ap (λ (st : State). byLabelSets .tells (seen (gives o k L t) x n) st i e) (sym g)
 
-abbrev pub byLabelSets : Follows State ℕ Outcome
-byLabelSets =
+abbrev pub labels-follow : Follows State ℕ (List (List ℕ))
+labels-follow =
     record {
-      kind = onLabels;
+      kind = byLabelSets;
       For = λ p. Unit {0};
       At = Is;
       keptOf = λ q L. L;
       fresh-at = λ q. refl;
       back-at = λ q L. refl;
-      kept-fresh = λ q w h. ap (onLabels .kept) h;
-      kept-waits = λ q L w h. ap (onLabels .kept) h;
-      kept-over = λ q w h. ap (onLabels .kept) h;
+      kept-fresh = λ q w h. ap (byLabelSets .kept) h;
+      kept-waits = λ q L w h. ap (byLabelSets .kept) h;
+      kept-over = λ q w h. ap (byLabelSets .kept) h;
       steps = λ sequence readBack a u st w h e. labels-steps (program readBack (a .statement)) st w h e;
       same-adds = λ sequence readBack a u st w h e f. ap (λ (x : State). addsByLabels f (program readBack (a .statement)) x e) (sym h);
-      viewed = λ q w r x n i j k g. whole-records r x n ∙ ap (records (seen r x n)) (sym g);
+      reads-told = λ q w r x n b d f g i e l. labels-told q w r x n g i e;
     }
 
 -- ---- one tick on an accepted sequence, by what the machine sees of it
@@ -182,8 +208,8 @@ module _ {S T R : Type 0} (m : Follows S T R) (sequence : List ℕ) (readBack : 
         → m .At (program readBack (a .statement)) state (m .kind .react (program readBack (a .statement)) w e .1)
         → Recorded (a .statement) state → length left ≡ answerLength
         → (k : Code) (x : Error) (s n : ℕ) (after : Phase) → m .kind .react (program readBack (a .statement)) w e .0 ≡ instant k x s n after
-        → m .kind .view (outcome 0 (encodeState state) left)
-        ≡ m .kind .shown (instant k x s n after) (m .kind .react (program readBack (a .statement)) w e .1)
+        → ((i : ℕ) → i < 256 ^ numberBytes → m .kind .reads left (recordOf i e left (encodeState state))
+        ≡ m .kind .tells (instant k x s n after) (m .kind .react (program readBack (a .statement)) w e .1) i e)
         → Goes buffer o
 
   pub goes : (buffer : List ℕ) → length buffer ≡ answerLength → Goes buffer (tickOf sequence (encodeState st) e readBack buffer)
@@ -203,7 +229,7 @@ module _ {S T R : Type 0} (m : Follows S T R) (sequence : List ℕ) (readBack : 
           (at-state ∙ ap (λ (y : Reply). replied y (encodeState st) buffer) i)
           h c (length-answer o k L t x n)
           k (blame k x) (shown k o) n (phaseAfter k) (sym (follows .0) ∙ j)
-          (m .viewed (program readBack (a .statement)) (m .kind .react (program readBack (a .statement)) w e .1) (gives o k L t) x n b d f h)
+          (λ i l. m .reads-told (program readBack (a .statement)) (m .kind .react (program readBack (a .statement)) w e .1) (gives o k L t) x n b d f h i e l)
 
   pub litres-are : (f : ℕ) → deliveries sequence readBack (encodeState st) e f ≡ m .kind .adds (program readBack (a .statement)) f w e
   litres-are f =
@@ -211,17 +237,14 @@ module _ {S T R : Type 0} (m : Follows S T R) (sequence : List ℕ) (readBack : 
       ∙ ap (λ (d : Decoded). deliveredBy (program readBack (a .statement)) d e f) (decode-encode (a .statement) st r)
       ∙ m .same-adds sequence readBack a fine st w at e f
 
-  -- what one filling comes to
-  pub found-is : foundIn (answerIn (byState inheritanceFirst (program readBack (a .statement)) (holds st) e))
-      ≡ found (m .kind .react (program readBack (a .statement)) w e .0)
-  unfolding leNumber
-  found-is = go (labelled sequence readBack a st r e)
+  -- what it answers
+  pub answer-is : answerIn (byState inheritanceFirst (program readBack (a .statement)) (holds st) e)
+      ≡ answerOf (m .kind .react (program readBack (a .statement)) w e .0)
+  unfolding encodeAnswer
+  answer-is = go (labelled sequence readBack a st r e)
     where
       go : Labelled sequence readBack a st e
-          → foundIn (answerIn (byState inheritanceFirst (program readBack (a .statement)) (holds st) e))
-          ≡ found (m .kind .react (program readBack (a .statement)) w e .0)
-      go (over i j) = ap (λ (y : Reply). foundIn (answerIn y)) i ∙ sym (ap found (sym (follows .0) ∙ j))
-      go (runs (gives o k L t) x n i j g c b d f) =
-          ap (λ (y : Reply). foundIn (answerIn y)) i
-          ∙ ap₂ alone (emitted-field o k L t x n (shown-below o k b)) (code-field o k L t x n)
-          ∙ sym (ap found (sym (follows .0) ∙ j))
+          → answerIn (byState inheritanceFirst (program readBack (a .statement)) (holds st) e)
+          ≡ answerOf (m .kind .react (program readBack (a .statement)) w e .0)
+      go (over i j) = ap answerIn i ∙ ap answerOf (sym j ∙ follows .0)
+      go (runs (gives o k L t) x n i j g c b d f) = ap answerIn i ∙ ap answerOf (sym j ∙ follows .0)

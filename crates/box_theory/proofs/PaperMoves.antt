@@ -18,8 +18,7 @@ use Rattle.states.specs.StateRecord.{stateLength, phaseIn, labelsIn, encodeStat
 use Rattle.states.proofs.StateLaws.{length-state}
 use Rattle.box_parts.specs.Parts.{put}
 use Rattle.box_parts.proofs.Parts.{put-before, put-behind}
-use Rattle.box_positions.specs.Names as Names
-use Rattle.box_positions.specs.Names.{Position, position, find, isKnown, answered, saveNamed, forgetNamed, numberAnswered, positionsAfter}
+use Rattle.box_positions.specs.Names.{Position, position, find, without, isKnown, Answered, answered, saveNamed, forgetNamed, numberAnswered, positionsAfter}
 use Rattle.box_positions.specs.Table.{lookup, kept, numberKept, tableKept, saveOf, forgetOf, Agrees}
 use Rattle.box_positions_table.proofs.Theorems.{save-agrees, forget-agrees}
 use Rattle.box_ledgers.specs.Ledgers.{totalIn}
@@ -34,10 +33,11 @@ use Rattle.box_theory.proofs.Moves.{Moved, refused, stored, moved-refus
 use Rattle.box_theory.proofs.Bays.{ceilingFor, bounds}
 use Rattle.box_theory.proofs.Standing.{behind-stands}
 use Rattle.box_theory.proofs.Positions.{Positioned, table-after, positioned-after, save-waiting, save-otherwise, forget-number, restore-known, restore-unknown}
-use Rattle.box_paper.specs.PaperBox.{Saved, saved, PaperPlace, numbered, shows, down, done, keptAs, without, isSome, holding, saveOn, restoreOn, forgetOn, readOn}
+use Rattle.box_paper.specs.PaperBox.{PaperPlace, replies, PaperReply, down, holds, shows, withMachine, withPositions, renamedOn, saveOn, restoreOn, sized}
+use Rattle.box_paper.specs.Reports.{reported}
 use Rattle.box_theory.proofs.PaperMachines.{Follows}
-use Rattle.box_theory.proofs.PaperNames.{savedOf, keptIf, known-kept, find-kept, without-kept, length-kept, cons-kept}
-use Rattle.box_theory.proofs.PaperAlike.{Present, standing, bayOf, SameTotals, Alike, vacant, present, Same, same-down, same-answered, totals-after}
+use Rattle.box_theory.proofs.PaperNames.{mapped, keptIf, mappedAnswer, find-kept, save-kept, forget-kept}
+use Rattle.box_theory.proofs.PaperAlike.{Present, standing, bayOf, SameTotals, Alike, vacant, present, Same, refusal-reported, same-down, same-answered, totals-after}
 
 -- what is written behind the number leaves it
 pub count-behind : {s : List ℕ} {o : Called} → length s ≡ stretchLength → Moved positionsAt s o → lastNumberIn (memoryAfter o) ≡ lastNumberIn s
@@ -62,8 +62,8 @@ unfolding encodeState
 phases = (λ x. omega arith, λ x. omega arith)
 
 module _ {S T R : Type 0} (m : Follows S T R) (k : ℕ) (s : List ℕ) (z : PaperPlace S T) (h : Present m s) (e : z .bay ≡ some (bayOf m h)) (t : SameTotals s (z .totals)) where
-  abbrev sized : length s ≡ stretchLength
-  sized = h .holds .sized
+  abbrev long : length s ≡ stretchLength
+  long = h .holds .sized
 
   same : Alike m s z
   same = present h e t
@@ -76,17 +76,17 @@ module _ {S T R : Type 0} (m : Follows S T R) (k : ℕ) (s : List ℕ) (z : Pape
   g = m .keptOf (program (h .terms .readBack) (h .accepted .statement))
 
   -- ---- taken out
-  pub release-same : Same m release (bayReleaseOf s) (numbered 0, record { bay = none; totals = z .totals })
+  pub release-same : Same m release (bayReleaseOf s) (holds z none)
   unfolding bayReleaseOf
   release-same =
       record {
         report = refl;
-        alike = vacant (length-vacated s sized) (vacated-empty s) refl (totals-after k s sized (z .totals) t release refl);
+        alike = vacant (length-vacated s long) (vacated-empty s) refl (totals-after k s long (z .totals) t release refl);
       }
 
   -- ---- something is written behind the state
-  abbrev behind : (c : Call) → Sendable c → Moved positionsAt s (bayCall k c s) → (ps : List Position) → Agrees (positionsIn (memoryAfter (bayCall k c s))) ps
-      → (qs : List (Saved T)) → qs ≡ savedOf (m .keptOf (program (h .terms .readBack) (h .accepted .statement))) ps → Present m (memoryAfter (bayCall k c s))
+  abbrev behind : (c : Call) → Sendable c → Moved positionsAt s (bayCall k c s) → (ps : List (Position ℕ)) → Agrees (positionsIn (memoryAfter (bayCall k c s))) ps
+      → (qs : List (Position T)) → qs ≡ mapped (m .keptOf (program (h .terms .readBack) (h .accepted .statement))) ps → Present m (memoryAfter (bayCall k c s))
   behind c r v ps a qs i =
       let now = behind-stands (h .terms) s (standing m h) v in
       record {
@@ -100,7 +100,7 @@ module _ {S T R : Type 0} (m : Follows S T R) (k : ℕ) (s : List ℕ) (z : Pape
         machine = h .machine;
         at = h .at;
         last = h .last;
-        count = count-behind sized v ∙ h .count;
+        count = count-behind long v ∙ h .count;
         fits = h .fits;
         positioned = positioned-after (h .terms) s (standing m h) (h .positioned) k c r;
         names = ps;
@@ -110,52 +110,69 @@ module _ {S T R : Type 0} (m : Follows S T R) (k : ℕ) (s : List ℕ) (z : Pape
       }
 
   -- ---- a new year
-  pub year-same : Same m newYear (bayNewYearOf s) (numbered 0, record { bay = z .bay; totals = λ f. 0 })
+  pub year-same : Same m newYear (bayNewYearOf s) (replies 0 [], record { bay = z .bay; totals = λ f. 0 })
   unfolding bayNewYearOf
   year-same =
       record {
         report = refl;
         alike = present
             (behind newYear tt (further (omega arith) (year-moved s)) (h .names)
-            (subst (λ (x : List ℕ). Agrees x (h .names)) (sym (table-after k s sized newYear refl)) (h .agrees)) (h .positions) (h .saved))
-            e (totals-after k s sized (z .totals) t newYear refl);
+            (subst (λ (x : List ℕ). Agrees x (h .names)) (sym (table-after k s long newYear refl)) (h .agrees)) (h .positions) (h .saved))
+            e (totals-after k s long (z .totals) t newYear refl);
       }
 
   -- ---- readers
-  reads-same : (c : Call) (b : Bool) (shown view : List ℕ) → ((lent : List (List ℕ)) → Same m c (called 0 s (shown ∷ [])) (shows shown, z))
-      → Same m c (cond b (called 0 s (shown ∷ [])) (called 1 s (view ∷ []))) (readOn (m .kind) z b (shows shown))
-  reads-same c true shown view f = f []
-  reads-same c false shown view f = same-down m c s z same 1 (λ y. omega arith) (view ∷ []) refl refl
+  reads-same : (c : Call) → ((n : ℕ) (lent : List (List ℕ)) → reported (m .kind .reads) c (called n s lent) ≡ replies n lent)
+      → (b : Bool) (shown view : List ℕ)
+      → Same m c (cond b (called 0 s (shown ∷ [])) (called 1 s (view ∷ []))) (sized (m .kind) b (view ∷ []) z (shows shown z))
+  reads-same c i true shown view = record { report = i 0 (shown ∷ []); alike = same }
+  reads-same c i false shown view = record { report = i 1 (view ∷ []); alike = same }
 
-  pub service-same : (trace view : List ℕ)
-      → Same m (service trace view) (bayServiceOf s trace view) (readOn (m .kind) z (eqb (length trace) recordLength && eqb (length view) recordLength) (shows trace))
+  pub service-same : (trace view : List ℕ) → Same m (service trace view) (bayServiceOf s trace view)
+      (sized (m .kind) (eqb (length trace) recordLength && eqb (length view) recordLength) (view ∷ []) z (shows trace z))
   unfolding bayServiceOf
   service-same trace view =
-      reads-same (service trace view) (eqb (length trace) recordLength && eqb (length view) recordLength) trace view
-      (λ l. record { report = refl; alike = same })
+      reads-same (service trace view) (λ n lent. refl) (eqb (length trace) recordLength && eqb (length view) recordLength) trace view
 
-  pub panel-same : (trace view : List ℕ)
-      → Same m (panel trace view) (bayPanelOf s trace view)
-      (readOn (m .kind) z (eqb (length trace) recordLength && eqb (length view) panelLength) (shows (panelOf (h .terms .serviceOnly) trace)))
+  pub panel-same : (trace view : List ℕ) → Same m (panel trace view) (bayPanelOf s trace view)
+      (sized (m .kind) (eqb (length trace) recordLength && eqb (length view) panelLength) (view ∷ []) z (shows (panelOf (h .terms .serviceOnly) trace) z))
   unfolding bayPanelOf
   panel-same trace view =
       rw (h .holds .service)
-      (reads-same (panel trace view) (eqb (length trace) recordLength && eqb (length view) panelLength) (panelOf (h .terms .serviceOnly) trace) view
-      (λ l. record { report = refl; alike = same }))
+      (reads-same (panel trace view) (λ n lent. refl) (eqb (length trace) recordLength && eqb (length view) panelLength)
+      (panelOf (h .terms .serviceOnly) trace) view)
 
   -- ---- positions
-  turned-down : (c : Call) (n : ℕ) → n ≢ 0 → Moved positionsAt s (bayCall k c s) → number (bayCall k c s) ≡ n → Same m c (bayCall k c s) (down n z)
-  turned-down c n y v i =
-      same-down m c s z same n y [] (moved-refused v (λ x. y (sym i ∙ x)) ∙ ap (λ (j : ℕ). called j s []) i) refl
+  turned-down : (c : Call) (n : ℕ) → n ≢ 0 → Moved positionsAt s (bayCall k c s) → number (bayCall k c s) ≡ n → bayCall k c s ≡ called n s []
+  turned-down c n y v i = moved-refused v (λ x. y (sym i ∙ x)) ∙ ap (λ (j : ℕ). called j s []) i
+
+  -- a save or a forget that is turned down leaves the positions
+  same-names : (c : Call) (n : ℕ) → n ≢ 0 → bayCall k c s ≡ called n s []
+      → Same m c (bayCall k c s) (renamedOn (m .kind) z (bayOf m h) (answered n (mapped (m .keptOf (program (h .terms .readBack) (h .accepted .statement))) (h .names))))
+  same-names c n y w =
+      subst (λ (o : Called). Same m c o (renamedOn (m .kind) z (bayOf m h) (answered n (mapped g (h .names))))) (sym w)
+      (record {
+        report = refusal-reported (m .kind .reads) c n y s [];
+        alike = present h (ap (λ (ps : List (Position T)). some (withPositions (bayOf m h) ps)) (sym (h .saved))) t;
+      })
+
+  -- one that is answered 0 has these positions
+  other-names : (c : Call) → Sendable c → Moved positionsAt s (bayCall k c s) → number (bayCall k c s) ≡ 0
+      → reported (m .kind .reads) c (called 0 (memoryAfter (bayCall k c s)) []) ≡ replies 0 []
+      → (ps : List (Position ℕ)) → Agrees (positionsIn (memoryAfter (bayCall k c s))) ps
+      → SameTotals (memoryAfter (bayCall k c s)) (z .totals)
+      → Same m c (bayCall k c s) (renamedOn (m .kind) z (bayOf m h) (answered 0 (mapped (m .keptOf (program (h .terms .readBack) (h .accepted .statement))) ps)))
+  other-names c r v n i ps a u =
+      same-answered m c (memoryAfter (bayCall k c s)) (record { bay = some (withPositions (bayOf m h) (mapped g ps)); totals = z .totals }) [] (replies 0 []) i
+      (present (behind c r v ps a (mapped g ps) refl) refl u)
+      (answered-moved v n) refl
 
   module _ (name : ℕ) (small : Sendable (save name)) where
-    abbrev ps : List Position
-    ps = h .names
-
-    not-waiting : (st : State) → h .state ≡ st → phaseIn (encodeState st) ≢ 1 → Same m (save name) (baySaveOf s name) (down 15 z)
+    not-waiting : (st : State) → h .state ≡ st → phaseIn (encodeState st) ≢ 1 → Same m (save name) (baySaveOf s name) (down 15 [] z)
     not-waiting st i y =
-        turned-down (save name) 15 (λ x. omega arith) (save-moved s name)
-        (save-otherwise s name (λ x. y (ap phaseIn (ap encodeState (sym i) ∙ sym (h .bytes)) ∙ x)))
+        same-down m (save name) s z same 15 (λ x. omega arith) []
+        (turned-down (save name) 15 (λ x. omega arith) (save-moved s name)
+        (save-otherwise s name (λ x. y (ap phaseIn (ap encodeState (sym i) ∙ sym (h .bytes)) ∙ x)))) refl
 
     module _ (L : ℕ) (i : h .state ≡ State.waits L) where
       labels : labelsIn (stateIn s) ≡ L
@@ -170,44 +187,32 @@ module _ {S T R : Type 0} (m : Follows S T R) (k : ℕ) (s : List ℕ) (z : Pape
 
       agreed : (numberKept (saveOf name L (positionsIn s)) ≡ numberAnswered (saveNamed name L (h .names)))
           × Agrees (tableKept (saveOf name L (positionsIn s))) (positionsAfter (saveNamed name L (h .names)))
-      agreed = save-agrees (positionsIn s) ps (h .agrees) name L small (subst (Recorded (h .accepted .statement)) i (h .recorded) .1)
+      agreed = save-agrees (positionsIn s) (h .names) (h .agrees) name L small (subst (Recorded (h .accepted .statement)) i (h .recorded) .1)
 
       number-is : number (baySaveOf s name) ≡ numberAnswered (saveNamed name L (h .names))
       number-is = save-waiting s name waiting ∙ ap (λ (l : ℕ). numberKept (saveOf name l (positionsIn s))) labels ∙ agreed .0
 
-      by-test : (b : Bool) → saveNamed name L (h .names) ≡ cond b (answered 0 (position name L ∷ Names.without name (h .names))) (answered 16 (h .names))
-          → Same m (save name) (baySaveOf s name)
-          (cond b (done z (holding (bayOf m h) (h .machine) (h .last) (saved name (m .keptOf (program (h .terms .readBack) (h .accepted .statement)) L) ∷ without name (h .positions)))) (down 16 z))
+      by-test : (b : Bool) → saveNamed name L (h .names) ≡ cond b (answered 0 (position name L ∷ without name (h .names))) (answered 16 (h .names))
+          → Same m (save name) (baySaveOf s name) (renamedOn (m .kind) z (bayOf m h) (mappedAnswer (m .keptOf (program (h .terms .readBack) (h .accepted .statement)))
+          (cond b (answered 0 (position name L ∷ without name (h .names))) (answered 16 (h .names)))))
       by-test true w =
           let n : number (baySaveOf s name) ≡ 0 = number-is ∙ ap numberAnswered w in
-          let qs : List (Saved T) = saved name (m .keptOf (program (h .terms .readBack) (h .accepted .statement)) L) ∷ without name (h .positions) in
-          let a : Agrees (positionsIn (memoryAfter (baySaveOf s name))) (position name L ∷ Names.without name (h .names)) =
-          subst (λ (x : List ℕ). Agrees x (position name L ∷ Names.without name (h .names)))
-          (sym (table-after k s sized (save name) n ∙ ap (λ (l : ℕ). tableKept (saveOf name l (positionsIn s))) labels))
-          (subst (Agrees (tableKept (saveOf name L (positionsIn s)))) (ap positionsAfter w) (agreed .1)) in
-          let v : qs ≡ savedOf g (position name L ∷ Names.without name (h .names)) =
-          ap (λ (l : List (Saved T)). saved name (g L) ∷ l) (ap (without name) (h .saved) ∙ without-kept g name (h .names))
-          ∙ cons-kept g name L (Names.without name (h .names)) in
-          same-answered m (save name) (memoryAfter (baySaveOf s name))
-          (record { bay = some (holding (bayOf m h) (h .machine) (h .last) qs); totals = z .totals }) [] (numbered 0) refl
-          (present (behind (save name) small (save-moved s name) (position name L ∷ Names.without name (h .names)) a qs v) refl
-          (totals-after k s sized (z .totals) t (save name) n))
-          (answered-moved (save-moved s name) n) refl
-      by-test false w = turned-down (save name) 16 (λ x. omega arith) (save-moved s name) (number-is ∙ ap numberAnswered w)
+          other-names (save name) small (save-moved s name) n refl (position name L ∷ without name (h .names))
+          (subst (λ (x : List ℕ). Agrees x (position name L ∷ without name (h .names)))
+          (sym (table-after k s long (save name) n ∙ ap (λ (l : ℕ). tableKept (saveOf name l (positionsIn s))) labels))
+          (subst (Agrees (tableKept (saveOf name L (positionsIn s)))) (ap positionsAfter w) (agreed .1)))
+          (totals-after k s long (z .totals) t (save name) n)
+      by-test false w =
+          same-names (save name) 16 (λ x. omega arith)
+          (turned-down (save name) 16 (λ x. omega arith) (save-moved s name) (number-is ∙ ap numberAnswered w))
 
-      test : (isSome (keptAs name (h .positions)) || ltb (length (h .positions)) maxPositions)
-          ≡ (isKnown (find name (h .names)) || ltb (length (h .names)) maxPositions)
-      test =
-          ap (λ (l : List (Saved T)). isSome (keptAs name l) || ltb (length l) maxPositions) (h .saved)
-          ∙ ap₂ (λ (x : Bool) (n : ℕ). x || ltb n maxPositions)
-          (ap isSome (find-kept g name (h .names)) ∙ known-kept g (find name (h .names))) (length-kept g (h .names))
-
-      waiting-same : Same m (save name) (baySaveOf s name) (saveOn (m .kind) z (bayOf m h) name (some (m .keptOf (program (h .terms .readBack) (h .accepted .statement)) L)))
+      waiting-same : Same m (save name) (baySaveOf s name)
+          (saveOn (m .kind) z (bayOf m h) name (some (m .keptOf (program (h .terms .readBack) (h .accepted .statement)) L)))
       unfolding saveNamed
       waiting-same =
-          subst (λ (b : Bool). Same m (save name) (baySaveOf s name)
-          (cond b (done z (holding (bayOf m h) (h .machine) (h .last) (saved name (m .keptOf (program (h .terms .readBack) (h .accepted .statement)) L) ∷ without name (h .positions)))) (down 16 z)))
-          (sym test) (by-test (isKnown (find name (h .names)) || ltb (length (h .names)) maxPositions) refl)
+          subst (λ (x : Answered T). Same m (save name) (baySaveOf s name) (renamedOn (m .kind) z (bayOf m h) x))
+          (sym (ap (saveNamed name (g L)) (h .saved) ∙ save-kept g name L (h .names)))
+          (by-test (isKnown (find name (h .names)) || ltb (length (h .names)) maxPositions) refl)
 
     pub save-same : Same m (save name) (baySaveOf s name) (saveOn (m .kind) z (bayOf m h) name (m .kind .kept (h .machine)))
     save-same = go (h .state) refl (h .at)
@@ -223,40 +228,37 @@ module _ {S T R : Type 0} (m : Follows S T R) (k : ℕ) (s : List ℕ) (z : Pape
         go State.over i j = kept-as none (m .kept-over q (h .machine) j) (not-waiting State.over i (phases .1))
 
   module _ (name : ℕ) where
-    -- what is known on paper is what is known in the table
-    found : keptAs name (h .positions) ≡ keptIf (m .keptOf (program (h .terms .readBack) (h .accepted .statement))) (find name (h .names))
-    found = ap (keptAs name) (h .saved) ∙ find-kept g name (h .names)
-
-    forget-agreed : (numberKept (forgetOf name (positionsIn s)) ≡ numberAnswered (forgetNamed name (h .names)))
+    agreed-on : (numberKept (forgetOf name (positionsIn s)) ≡ numberAnswered (forgetNamed name (h .names)))
         × Agrees (tableKept (forgetOf name (positionsIn s))) (positionsAfter (forgetNamed name (h .names)))
-    forget-agreed = forget-agrees (positionsIn s) (h .names) (h .agrees) name
+    agreed-on = forget-agrees (positionsIn s) (h .names) (h .agrees) name
 
     forget-is : number (bayForgetOf s name) ≡ numberAnswered (forgetNamed name (h .names))
-    forget-is = forget-number s name ∙ forget-agreed .0
+    forget-is = forget-number s name ∙ agreed-on .0
 
-    forgets : (o : Option ℕ) → forgetNamed name (h .names) ≡ cond (isKnown o) (answered 0 (Names.without name (h .names))) (answered 15 (h .names))
-        → Same m (forget name) (bayForgetOf s name) (forgetOn (m .kind) z (bayOf m h) name (keptIf (m .keptOf (program (h .terms .readBack) (h .accepted .statement))) o))
-    forgets none w = turned-down (forget name) 15 (λ x. omega arith) (forget-moved s name) (forget-is ∙ ap numberAnswered w)
-    forgets (some labels) w =
+    forgets : (b : Bool) → forgetNamed name (h .names) ≡ cond b (answered 0 (without name (h .names))) (answered 15 (h .names))
+        → Same m (forget name) (bayForgetOf s name) (renamedOn (m .kind) z (bayOf m h) (mappedAnswer (m .keptOf (program (h .terms .readBack) (h .accepted .statement)))
+        (cond b (answered 0 (without name (h .names))) (answered 15 (h .names)))))
+    forgets true w =
         let n : number (bayForgetOf s name) ≡ 0 = forget-is ∙ ap numberAnswered w in
-        let qs : List (Saved T) = without name (h .positions) in
-        let a : Agrees (positionsIn (memoryAfter (bayForgetOf s name))) (Names.without name (h .names)) =
-        subst (λ (x : List ℕ). Agrees x (Names.without name (h .names))) (sym (table-after k s sized (forget name) n))
-        (subst (Agrees (tableKept (forgetOf name (positionsIn s)))) (ap positionsAfter w) (forget-agreed .1)) in
-        same-answered m (forget name) (memoryAfter (bayForgetOf s name))
-        (record { bay = some (holding (bayOf m h) (h .machine) (h .last) qs); totals = z .totals }) [] (numbered 0) refl
-        (present (behind (forget name) tt (forget-moved s name) (Names.without name (h .names)) a qs
-        (ap (without name) (h .saved) ∙ without-kept g name (h .names))) refl
-        (totals-after k s sized (z .totals) t (forget name) n))
-        (answered-moved (forget-moved s name) n) refl
+        other-names (forget name) tt (forget-moved s name) n refl (without name (h .names))
+        (subst (λ (x : List ℕ). Agrees x (without name (h .names))) (sym (table-after k s long (forget name) n))
+        (subst (Agrees (tableKept (forgetOf name (positionsIn s)))) (ap positionsAfter w) (agreed-on .1)))
+        (totals-after k s long (z .totals) t (forget name) n)
+    forgets false w =
+        same-names (forget name) 15 (λ x. omega arith)
+        (turned-down (forget name) 15 (λ x. omega arith) (forget-moved s name) (forget-is ∙ ap numberAnswered w))
 
-    pub forget-same : Same m (forget name) (bayForgetOf s name) (forgetOn (m .kind) z (bayOf m h) name (keptAs name (h .positions)))
+    pub forget-same : Same m (forget name) (bayForgetOf s name) (renamedOn (m .kind) z (bayOf m h) (forgetNamed name (h .positions)))
     unfolding forgetNamed
     forget-same =
-        subst (λ (o : Option T). Same m (forget name) (bayForgetOf s name) (forgetOn (m .kind) z (bayOf m h) name o)) (sym found)
-        (forgets (find name (h .names)) refl)
+        subst (λ (x : Answered T). Same m (forget name) (bayForgetOf s name) (renamedOn (m .kind) z (bayOf m h) x))
+        (sym (ap (forgetNamed name) (h .saved) ∙ forget-kept g name (h .names)))
+        (forgets (isKnown (find name (h .names))) refl)
 
     -- coming back
+    found : find name (h .positions) ≡ keptIf (m .keptOf (program (h .terms .readBack) (h .accepted .statement))) (find name (h .names))
+    found = ap (find name) (h .saved) ∙ find-kept g name (h .names)
+
     restores : (o : Option ℕ) → lookup name (positionsIn s) ≡ o
         → Same m (restore name) (bayRestoreOf s name) (restoreOn (m .kind) z (bayOf m h) (keptIf (m .keptOf (program (h .terms .readBack) (h .accepted .statement))) o))
     restores none w = same-down m (restore name) s z same 15 (λ x. omega arith) [] (restore-unknown s name w) refl
@@ -267,7 +269,7 @@ module _ {S T R : Type 0} (m : Follows S T R) (k : ℕ) (s : List ℕ) (z : Pape
         let bytes : List ℕ = encodeState (State.waits L) in
         let l = length-state (State.waits L) in
         let after : List ℕ = put stateAt stateLength bytes s in
-        let table : positionsIn after ≡ positionsIn s = sym (ap (λ (o : Called). positionsIn (memoryAfter o)) back) ∙ table-after k s sized (restore name) n in
+        let table : positionsIn after ≡ positionsIn s = sym (ap (λ (o : Called). positionsIn (memoryAfter o)) back) ∙ table-after k s long (restore name) n in
         let next : Present m after = record {
           terms = h .terms;
           accepted = h .accepted;
@@ -279,7 +281,7 @@ module _ {S T R : Type 0} (m : Follows S T R) (k : ℕ) (s : List ℕ) (z : Pape
           machine = m .kind .back (g L);
           at = m .back-at q L;
           last = h .last;
-          count = ap leNumber (put-behind stateAt stateLength bytes s (omega (arith, sized)) l countAt numberBytes (omega arith)) ∙ h .count;
+          count = ap leNumber (put-behind stateAt stateLength bytes s (omega (arith, long)) l countAt numberBytes (omega arith)) ∙ h .count;
           fits = h .fits;
           positioned = subst (Positioned (h .terms)) (sym table) (h .positioned);
           names = h .names;
@@ -288,12 +290,12 @@ module _ {S T R : Type 0} (m : Follows S T R) (k : ℕ) (s : List ℕ) (z : Pape
           saved = h .saved;
         } in
         same-answered m (restore name) after
-        (record { bay = some (holding (bayOf m h) (m .kind .back (g L)) (h .last) (h .positions)); totals = z .totals }) [] (numbered 0) refl
+        (record { bay = some (withMachine (bayOf m h) (m .kind .back (g L)) (h .last)); totals = z .totals }) [] (replies 0 []) refl
         (present next refl
-        (λ f i. sym (ap (λ (o : Called). totalIn f (ledgerIn (memoryAfter o))) back) ∙ totals-after k s sized (z .totals) t (restore name) n f i))
+        (λ f i. sym (ap (λ (o : Called). totalIn f (ledgerIn (memoryAfter o))) back) ∙ totals-after k s long (z .totals) t (restore name) n f i))
         back refl
 
-    pub restore-same : Same m (restore name) (bayRestoreOf s name) (restoreOn (m .kind) z (bayOf m h) (keptAs name (h .positions)))
+    pub restore-same : Same m (restore name) (bayRestoreOf s name) (restoreOn (m .kind) z (bayOf m h) (find name (h .positions)))
     restore-same =
         subst (λ (o : Option T). Same m (restore name) (bayRestoreOf s name) (restoreOn (m .kind) z (bayOf m h) o)) (sym found)
         (restores (find name (h .names)) (h .agrees .alike name))

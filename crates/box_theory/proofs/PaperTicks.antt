@@ -9,7 +9,7 @@ use mathlib.Core.List.{List, [], _∷_}
 use lib.ListN.{length}
 use lib.Dec.{eqb, ltb}
 use borrow.Author.Tests.{eq-eqb, ne-eqb}
-use Rattle.limits.specs.Limits.{signalBytes, numberBytes, litresLimit}
+use Rattle.limits.specs.Limits.{numberBytes, litresLimit}
 use native.Mathlib.Decide.{ℕ-discrete}
 use Rattle.esterel.specs.Reaction.{Code}
 use Rattle.esterel.specs.Errors.{Error}
@@ -21,7 +21,6 @@ use Rattle.states.specs.StateRecord.{stateLength, encodeState}
 use Rattle.answers.specs.AnswerRecord.{answerLength}
 use Rattle.recordings.specs.Record.{recordLength, recordOf}
 use Rattle.recordings.specs.Recording.{following}
-use Rattle.recordings_writer.proofs.Records.{answer-field, state-field, number-field, input-field}
 use Rattle.recordings_writer.proofs.Theorems.{following-is}
 use Rattle.box_parts.proofs.Parts.{slot-put}
 use Rattle.box_positions.specs.Table.{Agrees}
@@ -41,8 +40,7 @@ use Rattle.box_theory.proofs.Ticks.{Ticked, ticked, entered, length-ent
 use Rattle.box_theory.proofs.Standing.{inner-is, sequence-held, tick-stands}
 use Rattle.box_theory.proofs.Positions.{table-after, positioned-after}
 use Rattle.box_paper.specs.PaperBox as paper
-use Rattle.box_paper.specs.PaperBox.{PaperPlace, PaperReply, down, holding, addsOn, tickOn}
-use Rattle.box_paper.specs.Reports.{instantIn}
+use Rattle.box_paper.specs.PaperBox.{PaperPlace, PaperReply, down, withMachine, addsOn, tickOn, sized}
 use Rattle.box_theory.proofs.PaperMachines.{Follows, Goes, stops, moves, goes, litres-are}
 use Rattle.box_theory.proofs.PaperAlike.{Present, standing, bayOf, SameTotals, present, Same, same-down, same-answered, totals-after}
 
@@ -53,13 +51,6 @@ unfolding wouldPass
 same-pass t x t′ x′ i j zero l = refl
 same-pass t x t′ x′ i j (suc n) l =
     ap₂ (λ (b : Bool) (m : ℕ). b || ltb litresLimit m) (same-pass t x t′ x′ i j n (omega arith)) (ap₂ _+_ (i n (omega arith)) (j n))
-
--- what an answer and its record report
-record-reports : {R : Type 0} (view : Outcome → R) (n e : ℕ) (left state : List ℕ) → length left ≡ answerLength → length state ≡ stateLength
-    → n < 256 ^ numberBytes → e < 256 ^ signalBytes
-    → instantIn view left (recordOf n e left state) ≡ paper.ticked (view (outcome 0 state left)) n e (view (outcome 0 state left))
-record-reports view n e left state a s i j =
-    rw (answer-field n e left state a s, state-field n e left state a s, number-field n e left state i, input-field n e left state j)
 
 eta : (o : Called) → o ≡ called (number o) (memoryAfter o) (lentAfter o)
 eta (called n s lent) = refl
@@ -74,9 +65,13 @@ both-lengths trace answer = go (eqb (length trace) recordLength)
     go false = refl
 
 module _ {S T R : Type 0} (m : Follows S T R) (k : ℕ) (s : List ℕ) (z : PaperPlace S T) (h : Present m s) (bay : z .bay ≡ some (bayOf m h))
-    (t : SameTotals s (z .totals)) (e : ℕ) (small : e < 256 ^ signalBytes) (answer trace : List ℕ) where
-  abbrev sized : length s ≡ stretchLength
-  sized = h .holds .sized
+    (t : SameTotals s (z .totals)) (e : ℕ) (answer trace : List ℕ) where
+  abbrev long : length s ≡ stretchLength
+  long = h .holds .sized
+
+  -- the buffers that are lent
+  abbrev lent : List (List ℕ)
+  lent = answer ∷ trace ∷ []
 
   abbrev c : Call
   c = tick e answer trace
@@ -91,7 +86,7 @@ module _ {S T R : Type 0} (m : Follows S T R) (k : ℕ) (s : List ℕ) (z : Pape
   abbrev own : Outcome
   own = tickOf (h .terms .sequence) (encodeState (h .state)) e (h .terms .readBack) (paperBuffer trace answer)
 
-  own-is : ticks.inner s sized e answer trace ≡ own
+  own-is : ticks.inner s long e answer trace ≡ own
   own-is =
       inner-is (h .terms) s (standing m h) e answer trace
       ∙ ap (λ (st : List ℕ). tickOf (h .terms .sequence) st e (h .terms .readBack) buffer) (h .bytes)
@@ -117,39 +112,39 @@ module _ {S T R : Type 0} (m : Follows S T R) (k : ℕ) (s : List ℕ) (z : Pape
 
   -- ---- on paper
   abbrev told : PaperReply S T R
-  told = cond (eqb (length trace) recordLength && eqb (length answer) answerLength) (tickOn (m .kind) z (bayOf m h) e sees after) (down 1 z)
+  told = sized (m .kind) (eqb (length trace) recordLength && eqb (length answer) answerLength) lent z (tickOn (m .kind) z (bayOf m h) e lent sees after)
 
-  told-by : (x : Bool) → eqb (length buffer) answerLength ≡ x → told ≡ cond x (tickOn (m .kind) z (bayOf m h) e sees after) (down 1 z)
-  told-by x i = ap (λ (y : Bool). cond y (tickOn (m .kind) z b e sees after) (down 1 z)) (both-lengths trace answer ∙ i)
+  told-by : (x : Bool) → eqb (length buffer) answerLength ≡ x → told ≡ cond x (tickOn (m .kind) z (bayOf m h) e lent sees after) (down 1 lent z)
+  told-by x i = ap (λ (y : Bool). cond y (tickOn (m .kind) z b e lent sees after) (down 1 lent z)) (both-lengths trace answer ∙ i)
 
-  told-seen : length buffer ≡ answerLength → (x : Seen) → sees ≡ x → told ≡ tickOn (m .kind) z (bayOf m h) e x after
-  told-seen l x i = told-by true (eq-eqb (length buffer) answerLength l) ∙ ap (λ (y : Seen). tickOn (m .kind) z b e y after) i
+  told-seen : length buffer ≡ answerLength → (x : Seen) → sees ≡ x → told ≡ tickOn (m .kind) z (bayOf m h) e lent x after
+  told-seen l x i = told-by true (eq-eqb (length buffer) answerLength l) ∙ ap (λ (y : Seen). tickOn (m .kind) z b e lent y after) i
 
-  told-short : length buffer ≢ answerLength → told ≡ down 1 z
+  told-short : length buffer ≢ answerLength → told ≡ down 1 lent z
   told-short l = told-by false (ne-eqb (length buffer) answerLength l)
 
   abbrev entering : R → PaperReply S T R
   entering r = (
-    paper.ticked r (following (h .last)) e r,
-    record { bay = some (holding (bayOf m h) after (following (h .last)) (h .positions)); totals = λ f. z .totals f + addsOn (m .kind) (bayOf m h) e f },
+    paper.ticked r,
+    record { bay = some (withMachine (bayOf m h) after (following (h .last))); totals = λ f. z .totals f + addsOn (m .kind) (bayOf m h) e f },
   )
 
   told-instant : length buffer ≡ answerLength → (x : Bool) → passes (ledgerIn s) (delivering s e) ≡ x
       → (k : Code) (y : Error) (o n : ℕ) (ph : Phase) → sees ≡ instant k y o n ph
-      → told ≡ cond x (down 19 z) (entering (m .kind .shown (instant k y o n ph) after))
+      → told ≡ cond x (down 19 lent z) (entering (m .kind .tells (instant k y o n ph) after (following (h .last)) e))
   told-instant l x p k y o n ph i =
       told-seen l (instant k y o n ph) i
-      ∙ ap (λ (x : Bool). cond x (down 19 z) (entering (m .kind .shown (instant k y o n ph) after))) (sym pass-is ∙ p)
+      ∙ ap (λ (x : Bool). cond x (down 19 lent z) (entering (m .kind .tells (instant k y o n ph) after (following (h .last)) e))) (sym pass-is ∙ p)
 
   -- ---- the number that an instant leaves
   count-after : (state : List ℕ) → length state ≡ stateLength → passes (ledgerIn s) (delivering s e) ≡ false
-      → lastNumberIn (ticks.written s sized e answer trace state) ≡ following (h .last)
+      → lastNumberIn (ticks.written s long e answer trace state) ≡ following (h .last)
   count-after state l p =
-      let m = length-entered s sized e answer trace p state l in
+      let m = length-entered s long e answer trace p state l in
       let n : ℕ = following (lastNumberIn s) in
       let up = following-is (h .last) (h .fits) in
       let same : n ≡ following (h .last) = ap following (h .count) in
-      ap leNumber (slot-put countAt numberBytes (leBytes numberBytes n) (entered s sized e answer trace state) (omega (arith, m)) (length-leBytes numberBytes n))
+      ap leNumber (slot-put countAt numberBytes (leBytes numberBytes n) (entered s long e answer trace state) (omega (arith, m)) (length-leBytes numberBytes n))
       ∙ le-round-trip numberBytes n (omega (arith, same, up, h .fits)) ∙ same
 
   -- ---- an instant
@@ -163,12 +158,12 @@ module _ {S T R : Type 0} (m : Follows S T R) (k : ℕ) (s : List ℕ) (z : Pape
 
     instant-same : Going own → Same m (tick e answer trace) (bayTickOf s e answer trace) told
     instant-same (stops i j) = absurd (omega (arith, ap demands.number (sym own-told ∙ i)))
-    instant-same (moves st left′ i at rec long x y o n ph j v) =
+    instant-same (moves st left′ i at rec filled x y o n ph j v) =
         let called-0 : number (bayTickOf s e answer trace) ≡ 0 = ap number w in
         let out : List ℕ = memoryAfter (bayTickOf s e answer trace) in
         let stands = tick-stands (h .terms) s (standing m h) e answer trace in
         let up = following-is (h .last) (h .fits) in
-        let table = table-after k s sized c called-0 in
+        let table = table-after k s long c called-0 in
         let same-state : state ≡ encodeState st = ap stateAfterwards (sym own-told ∙ i) in
         let same-left : left ≡ left′ = ap answerAfterwards (sym own-told ∙ i) in
         let then : Present m out = record {
@@ -191,17 +186,18 @@ module _ {S T R : Type 0} (m : Follows S T R) (k : ℕ) (s : List ℕ) (z : Pape
           positions = h .positions;
           saved = h .saved;
         } in
-        let r : R = m .kind .shown (instant x y o n ph) after in
-        let viewed : m .kind .view (outcome 0 state left) ≡ r = ap₂ (λ (a b : List ℕ). m .kind .view (outcome 0 a b)) same-state same-left ∙ v in
+        let r : R = m .kind .tells (instant x y o n ph) after (following (h .last)) e in
+        let read : m .kind .reads left (recordOf (following (lastNumberIn s)) e left state) ≡ r =
+        ap (λ (i : ℕ). m .kind .reads left (recordOf (following i) e left state)) (h .count)
+        ∙ ap₂ (λ (a b : List ℕ). m .kind .reads b (recordOf (following (h .last)) e b a)) same-state same-left
+        ∙ v (following (h .last)) (omega (arith, up)) in
         same-answered m c out
-        (record { bay = some (holding b after (following (h .last)) (h .positions)); totals = λ f. z .totals f + addsOn (m .kind) b e f })
+        (record { bay = some (withMachine b after (following (h .last))); totals = λ f. z .totals f + addsOn (m .kind) b e f })
         (left ∷ recordOf (following (lastNumberIn s)) e left state ∷ [])
-        (paper.ticked r (following (h .last)) e r)
-        (ap (λ (i : ℕ). instantIn (m .kind .view) left (recordOf (following i) e left state)) (h .count)
-        ∙ record-reports (m .kind .view) (following (h .last)) e left state (ap length same-left ∙ long) l (omega (arith, up)) small
-        ∙ ap (λ (a : R). paper.ticked a (following (h .last)) e a) viewed)
+        (paper.ticked r)
+        (ap paper.ticked read)
         (present then refl
-        (λ f i. totals-after k s sized (z .totals) t c called-0 f i ∙ ap (λ (a : ℕ). z .totals f + a) (litres f)))
+        (λ f i. totals-after k s long (z .totals) t c called-0 f i ∙ ap (λ (a : ℕ). z .totals f + a) (litres f)))
         (eta (bayTickOf s e answer trace) ∙ ap₂ (λ (i : ℕ) (ls : List (List ℕ)). called i out ls) called-0 (ap lentAfter w))
         (told-instant full false p x y o n ph j)
 
@@ -210,10 +206,10 @@ module _ {S T R : Type 0} (m : Follows S T R) (k : ℕ) (s : List ℕ) (z : Pape
       → Same m (tick e answer trace) (bayTickOf s e answer trace) told
   by-goes l (stops i j) (ticks.down n y d q w) =
       let n-is : n ≡ 12 = ap demands.number (sym q ∙ own-is ∙ i) in
-      same-down m c s z (present h bay t) n y (answer ∷ trace ∷ []) w (told-seen l refused j ∙ ap (λ (a : ℕ). down a z) (sym n-is))
-  by-goes l (moves st left i at rec long x y′ o n′ ph j v) (ticks.down n y d q w) = absurd (y (ap demands.number (sym q ∙ own-is ∙ i)))
+      same-down m c s z (present h bay t) n y (answer ∷ trace ∷ []) w (told-seen l refused j ∙ ap (λ (a : ℕ). down a lent z) (sym n-is))
+  by-goes l (moves st left i at rec filled x y′ o n′ ph j v) (ticks.down n y d q w) = absurd (y (ap demands.number (sym q ∙ own-is ∙ i)))
   by-goes l (stops i j) (ticks.full q p w) = absurd (omega (arith, q, ap demands.number (own-is ∙ i)))
-  by-goes l (moves st left i at rec long x y o n ph j v) (ticks.full q p w) =
+  by-goes l (moves st left i at rec filled x y o n ph j v) (ticks.full q p w) =
       same-down m c s z (present h bay t) 19 (λ y. omega arith) (answer ∷ trace ∷ []) w (told-instant l true p x y o n ph j)
   by-goes l g (ticks.instant state left a j p q w) = instant-same state left a p q w l g
 
@@ -224,18 +220,17 @@ module _ {S T R : Type 0} (m : Follows S T R) (k : ℕ) (s : List ℕ) (z : Pape
       → Same m (tick e answer trace) (bayTickOf s e answer trace) told
   by-short l (ticks.down n y d q w) =
       let n-is : n ≡ 1 = ap demands.number (sym q ∙ own-is ∙ short l) in
-      same-down m c s z (present h bay t) n y (answer ∷ trace ∷ []) w (told-short l ∙ ap (λ (a : ℕ). down a z) (sym n-is))
+      same-down m c s z (present h bay t) n y (answer ∷ trace ∷ []) w (told-short l ∙ ap (λ (a : ℕ). down a lent z) (sym n-is))
   by-short l (ticks.full q p w) = absurd (omega (arith, q, ap demands.number (own-is ∙ short l)))
   by-short l (ticks.instant state left a j p q w) = absurd (omega (arith, ap demands.number (sym q ∙ own-is ∙ short l)))
 
   pub tick-same : Same m (tick e answer trace) (bayTickOf s e answer trace)
-      (cond (eqb (length trace) recordLength && eqb (length answer) answerLength)
-      (tickOn (m .kind) z (bayOf m h) e (m .kind .react (program (h .terms .readBack) (h .accepted .statement)) (h .machine) e .0)
-      (m .kind .react (program (h .terms .readBack) (h .accepted .statement)) (h .machine) e .1))
-      (down 1 z))
+      (sized (m .kind) (eqb (length trace) recordLength && eqb (length answer) answerLength) (answer ∷ trace ∷ []) z
+      (tickOn (m .kind) z (bayOf m h) e (answer ∷ trace ∷ []) (m .kind .react (program (h .terms .readBack) (h .accepted .statement)) (h .machine) e .0)
+      (m .kind .react (program (h .terms .readBack) (h .accepted .statement)) (h .machine) e .1)))
   tick-same =
       elim (ℕ-discrete (length buffer) answerLength) [
         | yes l ↦ by-goes l (goes m (h .terms .sequence) (h .terms .readBack) (h .accepted) (h .fine) (h .state) (h .machine) (h .at) (h .recorded) e buffer l)
-            (ticked s sized e answer trace)
-        | no l ↦ by-short l (ticked s sized e answer trace)
+            (ticked s long e answer trace)
+        | no l ↦ by-short l (ticked s long e answer trace)
       ]

@@ -1,4 +1,5 @@
--- The theorems about a box (02, items 8 to 12 and 14): of the definitions of the calls, which the code meets for all arguments.
+-- The theorems about a box (02, items 8 to 12 and 14): of the definitions of the calls, which the code meets for all arguments. The first
+-- is the box on paper; what follows says the sentences of 02 one by one, also of boxes that no call has written.
 use Prim.Native.Nat.{ℕ, _+_, _<_}
 use mathlib.Core.Path.{_≡_, refl, sym, ap, ap₂, _∙_, subst}
 use mathlib.Core.Logic.{_≢_}
@@ -41,6 +42,14 @@ use Rattle.box_calls.specs.Positions.{savedIn, PositionsSaved, PositionsValid, 
 use Rattle.box_calls.specs.Instants.{recordsIn, inputsIn, instantsIn, NotTakenOut, OverBay, RecordIs, NumberedFromOne, ServiceOnlyFixed, ServiceShows, PanelShows, PanelsAlike, ReaderNumbers, RecordLength, RecordDemands}
 use Rattle.box_calls.specs.Previews.{PreviewShows, PreviewNumbers}
 use Rattle.box_calls.specs.Years.{deliveredSince, SameYear, sumOf, TotalsExact, LedgerShows, YearBegins, LedgerNumbers, Nineteen, PreviewsNeverNineteen, LedgerDemands}
+use Rattle.box_paper.specs.PaperBox.{byLabelSets, emptyPaper}
+use Rattle.box_paper.specs.Reports.{paperAfter, OnPaper, ByLabelSets}
+use Rattle.box_paper.specs.Certified.{ReadingsCertified, ReadingsCertifiedByLabels}
+use Rattle.box_theory.proofs.PaperBoxes as paper-boxes
+use Rattle.box_theory.proofs.PaperBoxes.{Held}
+use Rattle.box_theory.proofs.PaperCertified as certificates
+use Rattle.box_examples.specs.WrongPaper as papers
+use Rattle.box_theory.proofs.WrongPaper as off-paper
 use Rattle.box_examples.specs.WrongBoxes as wrong
 use Rattle.box_theory.proofs.WrongBoxes as refuted
 use Rattle.box_examples.specs.WrongPositions as slips
@@ -60,6 +69,40 @@ use Rattle.box_theory.proofs.Named as named
 use Rattle.box_theory.proofs.Returns as returns
 use Rattle.box_theory.proofs.Instants as instants
 use Rattle.box_theory.proofs.Years as years
+
+-- ---- THE BOX IS THE BOX ON PAPER (box_paper/specs/PaperBox): over every list of calls from the empty box, those turned down and those to
+-- all bays included
+-- what every call reports is what the paper reports that rewrites a term for each bay; sequences without setpause
+pub box-on-paper : OnPaper callOf
+box-on-paper = paper-boxes.box-on-paper
+
+-- and, with setpause too, what the paper reports that keeps a label set for each bay: every number, and every byte of the lent buffers
+pub box-by-labels : ByLabelSets callOf
+box-by-labels = paper-boxes.box-by-labels
+
+-- what the box holds is what that paper holds: the statement that was admitted, both sets, and the machine
+pub held-on-paper : (xs : List Request) → AllSendable xs → (bay : ℕ) → bay < bayCount
+    → Held (stretchOf bay (boxAfter callOf emptyBox xs)) (paperAfter byLabelSets emptyPaper xs bay .bay)
+held-on-paper = paper-boxes.held-on-paper
+
+-- THE CERTIFICATE, 'tank and ledger agree within limits': every reading of a ledger is certified for what the paper delivered
+pub readings-certified : ReadingsCertified callOf
+readings-certified = certificates.readings-certified
+
+pub readings-certified-by-labels : ReadingsCertifiedByLabels callOf
+readings-certified-by-labels = certificates.readings-certified-by-labels
+
+-- refused: a box whose sequence changes after its admission, one that rewinds its ledger, one that forgets it at a release, and one that reads
+-- back what its neighbour does
+pub not-on-paper : (¬ OnPaper papers.changesSequence) × (¬ OnPaper ledgers.rewinds) × (¬ OnPaper papers.forgetsAtRelease) × (¬ OnPaper papers.readsBackNeighbour)
+not-on-paper = (off-paper.not-changesSequence .0, off-paper.not-rewinds-on-paper .0, off-paper.not-forgetsAtRelease .0, off-paper.not-readsBackNeighbour .0)
+
+pub not-by-labels : (¬ ByLabelSets papers.changesSequence) × (¬ ByLabelSets ledgers.rewinds) × (¬ ByLabelSets papers.forgetsAtRelease)
+    × (¬ ByLabelSets papers.readsBackNeighbour)
+not-by-labels = (off-paper.not-changesSequence .1, off-paper.not-rewinds-on-paper .1, off-paper.not-forgetsAtRelease .1, off-paper.not-readsBackNeighbour .1)
+
+pub not-certified : (¬ ReadingsCertified ledgers.rewinds) × (¬ ReadingsCertifiedByLabels ledgers.rewinds)
+not-certified = off-paper.not-rewinds-certified
 
 -- ---- every box, whatever its bytes
 -- 'A refused call changes nothing in the box', nor in the buffers that it was lent

@@ -1,14 +1,17 @@
--- The box of specs/WrongBoxes is not the box on paper, by computation.
+-- Boxes with a slip each are not the box on paper, and a ledger that is rewound or forgotten is not certified, by computation.
 use Prim.Native.Nat.{ℕ, zero, suc}
 use native.Mathlib.Omega.{arith}
-use mathlib.Core.Path.{_≡_, refl, sym, ap, _∙_}
-use mathlib.Core.Bool.{true, true≢false}
-use mathlib.Core.List.{List, [], _∷_}
-use lib.Ieee.{ofBits, whole, inUnsigned, toUnsigned}
+use mathlib.Core.Path.{_≡_, refl, sym, ap, _∙_, subst}
+use mathlib.Core.Logic.{⊎-elim}
+use mathlib.Core.Bool.{Bool, true, false, true≢false}
+use mathlib.Core.List.{List, [], _∷_, List·Memᴰ, List·Memᴰ·not-nil, List·Memᴰ·cases-cons}
+use lib.ListN.{getD, replicate}
+use lib.Ieee.{Float, ofBits, toBits, ofInt, add, whole, inUnsigned, toUnsigned}
 use Rattle.sets.specs.Sets as Sets
 use Rattle.sets.specs.Sets.{member, only, join, insert, remove, subset, disjoint, membersFrom}
 use Rattle.sets.proofs.Members.{member-none}
-use Rattle.esterel.specs.Statement.{pure, Statement, nothing, pause, emit, seq}
+use Rattle.litres.specs.Litres.{ordered}
+use Rattle.esterel.specs.Statement.{Statement, nothing}
 use Rattle.esterel.specs.Reaction.{reactBy}
 use Rattle.esterel.specs.Errors.{errorsBy}
 use Rattle.esterel.specs.Reactions.{reactionsBy}
@@ -26,66 +29,205 @@ use Rattle.sequence.specs.Check.{Checked, sound, bad, checked, checkOf}
 use Rattle.sequence.specs.Rows.{Spells}
 use Rattle.numbers.specs.Bytes.{leBytes, leNumber}
 use Rattle.states.specs.StateRecord.{encodeState, decodeState}
-use Rattle.answers.specs.AnswerRecord.{emittedIn, encodeAnswer}
+use Rattle.answers.specs.AnswerRecord.{codeIn, emittedIn, encodeAnswer}
 use Rattle.box_parts.specs.Parts.{put, zeros}
+use Rattle.box_positions.specs.Names.{find, without, saveNamed}
 use Rattle.box_positions.specs.Table.{saveOf, forgetOf, lookup, place}
-use Rattle.box_ledgers.specs.Ledgers.{totalIn, wouldPass, addedBelow}
-use Rattle.tick.specs.Tick.{Outcome, outcome, tickBy}
+use Rattle.box_ledgers.specs.Ledgers.{readingLength, fieldIn, totalIn, totalsBytes, wouldPass, addedBelow}
+use Rattle.tick.specs.Tick.{tickBy}
 use Rattle.recordings.specs.Recording.{following}
 use Rattle.tick.specs.Paper.{Report, turnedDown, reacted}
-use Rattle.demands.specs.Demands.{answerAfterwards}
 use Rattle.demands.proofs.Sequence.{accepted, same-statement}
-use Rattle.box_stretches.specs.Stretch.{partOf, vacated, filled}
-use Rattle.box_stretches.specs.BayCalls.{bayStepOf, bayChargedOf, bayTickOf, bayReleaseOf, bayAdmitOf, baySaveOf, bayForgetOf, bayRestoreOf}
-use Rattle.box_calls.specs.Box.{emptyBox, present, Call, admit, save, restore, forget, callOf}
-use Rattle.box_calls.specs.Lists.{Request}
-use Rattle.box_paper.specs.PaperBox.{Reported, numbered, ticked, shows, reading, parts, keptAs, without}
-use Rattle.box_paper.specs.Reports.{reports, paperReports, ForPaper, AllForPaper, none, each, OnPaper, BoxByLabels}
-use Rattle.box_examples.specs.WrongPaper.{emitsZero, emitsZeroAdmitted, to, instant, swapsWhenOver, thereAndBack}
+use Rattle.box_stretches.specs.Called.{lentAfter, first}
+use Rattle.box_stretches.specs.Stretch.{partOf, vacated, filled, Terms}
+use Rattle.box_stretches.specs.BayCalls.{bayStepOf, bayChargedOf, bayTickOf, bayReleaseOf, bayAdmitOf, baySaveOf, bayForgetOf, bayRestoreOf, bayLedgerOf}
+use Rattle.box_calls.specs.Box.{emptyBox, present, Call, admit, release, tick, save, restore, forget, service, panel, preview, ledger, newYear, callOf}
+use Rattle.box_calls.specs.Lists.{Request, boxAfter}
+use Rattle.box_calls.specs.Shares.{AllSendable, none, each}
+use Rattle.box_calls.specs.Years.{sumOf}
+use Rattle.box_examples.specs.WrongPaper.{to, instant, reading, alone, emitsZero, changesSequence, backBefore, forgetsAtRelease, delivers, takenOut, readsBackNeighbour, waitsIfRead, besideReader, delivered, backBehind}
+use Rattle.box_examples.specs.WrongLedgers.{rewinds}
+use Rattle.box_paper.specs.PaperBox.{Told, told, Reported, ticked, replies, presentOn}
+use Rattle.box_paper.specs.Reports.{reports, paperReports, Admitting, OnPaper, ByLabelSets}
+use Rattle.box_paper.specs.Certified.{deliveriesOver, ReadingsCertified, ReadingsCertifiedByLabels}
+use Rattle.box_theory.proofs.PaperCertified.{one-number}
 
--- what is told of call i, an instant
-module _ {R : Type 0} (other : R) where
-  abbrev toldAt : ℕ → List (Reported R) → R
-  toldAt i [] = other
-  toldAt zero (numbered n ∷ rs) = other
-  toldAt zero (ticked a n e r ∷ rs) = a
-  toldAt zero (shows bs ∷ rs) = other
-  toldAt zero (reading ts b ∷ rs) = other
-  toldAt (suc i) (r ∷ rs) = toldAt i rs
+-- ---- what is reported of call i: the first buffer that an instant or a reader leaves, and the set that an instant emits by rewriting
+abbrev bufferAt : ℕ → List (Reported (List (List ℕ))) → List ℕ
+bufferAt i [] = []
+bufferAt zero (ticked bs ∷ rs) = first bs
+bufferAt zero (replies n lent ∷ rs) = first lent
+bufferAt (suc i) (r ∷ rs) = bufferAt i rs
+
+abbrev shownAt : ℕ → List (Reported Told) → List ℕ
+shownAt i [] = []
+shownAt zero (ticked x ∷ rs) = []
+shownAt zero (replies n lent ∷ rs) = first lent
+shownAt (suc i) (r ∷ rs) = shownAt i rs
+
+abbrev reportIn : Told → Report
+reportIn (told answer number inputs recorded) = answer
 
 abbrev emittedOf : Report → ℕ
-emittedOf (turnedDown n phase) = 255
+emittedOf (turnedDown n phase) = 0
 emittedOf (reacted code kind place emitted reactions phase) = emitted
 
-module _ (For : Statement → Type 0) where
-  more : (c : Call) {xs : List Request} → ForPaper For c → AllForPaper For xs → AllForPaper For (to c ∷ xs)
-  more c f r = each f r
+abbrev codeOf : Report → ℕ
+codeOf (turnedDown n phase) = 0
+codeOf (reacted code kind place emitted reactions phase) = code
 
-  allowed : ((p : Statement) → Spells emitsZero p → For p) → AllForPaper For thereAndBack
-  allowed plain =
-      more (admit emitsZeroAdmitted) ((omega arith, omega arith), λ h. plain)
-      (more instant (omega arith) (more (save 1) (omega arith) (more (save 2) (omega arith) (more instant (omega arith)
-      (more (forget 2) tt (more (restore 1) tt (more instant (omega arith) none)))))))
+abbrev reportAt : ℕ → List (Reported Told) → Report
+reportAt i [] = turnedDown 0 0
+reportAt zero (ticked x ∷ rs) = reportIn x
+reportAt zero (replies n lent ∷ rs) = turnedDown 0 0
+reportAt (suc i) (r ∷ rs) = reportAt i rs
 
-pub not-by-labels : ¬ BoxByLabels swapsWhenOver
-unfolding reports paperReports parts keptAs without callOf emptyBox present partOf vacated filled bayStepOf bayChargedOf wouldPass totalIn addedBelow deliveredBy ofBits whole inUnsigned toUnsigned bayTickOf following bayReleaseOf bayAdmitOf baySaveOf bayForgetOf bayRestoreOf saveOf forgetOf lookup place put zeros leBytes leNumber tickBy checked read front commandOf distinct wellFormed before everyLabel labelsOf subset disjoint valid active activeLabels membersFrom declaredBy commands loopNesting signalNesting ceiling encodeState decodeState encodeAnswer expand reactBy errorsBy reactionsBy Sets.none only member join insert remove
-not-by-labels h = let e : _≡_ {A = ℕ} 2 1 = ap (λ (rs : List (Reported Outcome)). emittedIn (answerAfterwards (toldAt (outcome 1 [] []) 7 rs))) (h thereAndBack (allowed (λ p. Unit {0}) (λ p s. tt))) in omega arith
-
--- the sequence has no setpause
+-- ---- lists whose sequences have no setpause
 abbrev statementOf : Checked → Statement
 statementOf (sound p) = p
 statementOf (bad n) = nothing
 
-plain : (p : Statement) → Spells emitsZero p → NoSetpause p
-unfolding checkOf checked read front commandOf distinct wellFormed before everyLabel labelsOf subset disjoint membersFrom declaredBy signalNesting Sets.none only member join insert remove
-plain p s l n =
-    let a = accepted emitsZero 0 refl in
-    let same : seq (pause 0) (emit 0 pure) ≡ p = ap statementOf (a .is-checked) ∙ same-statement emitsZero (a .statement) p (a .spelled) s in
-    let none-there : member l Sets.none ≡ true = ap (λ (q : Statement). member l (setpauses q)) same ∙ setpauses-is p l .1 n in
-    true≢false (sym none-there ∙ member-none l)
+plain : (sequence : List ℕ) (readBack : ℕ) → checkOf sequence readBack ≡ 0 → setpauses (statementOf (checked sequence readBack)) ≡ Sets.none
+    → (p : Statement) → Spells sequence p → NoSetpause p
+plain sequence readBack c e p s l n =
+    let a = accepted sequence readBack c in
+    let same : statementOf (checked sequence readBack) ≡ p = ap statementOf (a .is-checked) ∙ same-statement sequence (a .statement) p (a .spelled) s in
+    true≢false (sym (setpauses-is p l .1 n) ∙ ap (λ (q : Statement). member l (setpauses q)) (sym same) ∙ ap (member l) e ∙ member-none l)
 
-pub not-on-paper : ¬ OnPaper swapsWhenOver
-unfolding reports paperReports parts keptAs without callOf emptyBox present partOf vacated filled bayStepOf bayChargedOf wouldPass totalIn addedBelow deliveredBy ofBits whole inUnsigned toUnsigned bayTickOf following bayReleaseOf bayAdmitOf baySaveOf bayForgetOf bayRestoreOf saveOf forgetOf lookup place put zeros leBytes leNumber tickBy checked read front commandOf distinct wellFormed before everyLabel labelsOf subset disjoint valid active activeLabels membersFrom declaredBy commands loopNesting signalNesting ceiling encodeState decodeState encodeAnswer expand reactBy errorsBy reactionsBy Sets.none only member join insert remove
-not-on-paper h =
-    let e : _≡_ {A = ℕ} 2 1 = ap (λ (rs : List (Reported Report)). emittedOf (toldAt (turnedDown 0 0) 7 rs)) (h thereAndBack (allowed NoSetpause plain)) in
-    omega arith
+abbrev termsOf : Terms → Call → Terms
+termsOf x (admit t) = t
+termsOf x release = x
+termsOf x (tick e answer trace) = x
+termsOf x (save name) = x
+termsOf x (restore name) = x
+termsOf x (forget name) = x
+termsOf x (service trace view) = x
+termsOf x (panel trace view) = x
+termsOf x (preview e unknown buffer) = x
+termsOf x (ledger buffer) = x
+termsOf x newYear = x
+
+no-call : Admitting NoSetpause []
+no-call x i = absurd (List·Memᴰ·not-nil i)
+
+more : (x : Request) (xs : List Request) → ((t : Terms) → x .call ≡ admit t → (p : Statement) → Spells (t .sequence) p → NoSetpause p)
+    → Admitting NoSetpause xs → Admitting NoSetpause (x ∷ xs)
+more x xs f a y i t e c p s =
+    ⊎-elim (λ q. f t (ap (λ (z : Request). z .call) (sym q) ∙ e) p s) (λ j. a y j t e c p s) (List·Memᴰ·cases-cons i)
+
+admitting : (bay : ℕ) (u : Terms) (xs : List Request) → ((p : Statement) → Spells (u .sequence) p → NoSetpause p)
+    → Admitting NoSetpause xs → Admitting NoSetpause (record { bay = bay; call = admit u } ∷ xs)
+admitting bay u xs f =
+    more (record { bay = bay; call = admit u }) xs (λ t e p s. f p (subst (λ (x : Terms). Spells (x .sequence) p) (sym (ap (termsOf u) e)) s))
+
+abbrev isAdmission : Call → Bool
+isAdmission (admit t) = true
+isAdmission release = false
+isAdmission (tick e answer trace) = false
+isAdmission (save name) = false
+isAdmission (restore name) = false
+isAdmission (forget name) = false
+isAdmission (service trace view) = false
+isAdmission (panel trace view) = false
+isAdmission (preview e unknown buffer) = false
+isAdmission (ledger buffer) = false
+isAdmission newYear = false
+
+other : (c : Call) (xs : List Request) → isAdmission c ≡ false → Admitting NoSetpause xs → Admitting NoSetpause (to c ∷ xs)
+other c xs n = more (to c) xs (λ t e p s. absurd (true≢false (sym (ap isAdmission e) ∙ n)))
+
+-- ---- the sequence that is held changes: the instant after the coming back emits 1, where the paper emits 0
+zero-plain : (p : Statement) → Spells emitsZero p → NoSetpause p
+unfolding checkOf checked read front commandOf distinct wellFormed before everyLabel labelsOf subset disjoint membersFrom declaredBy signalNesting ofBits whole inUnsigned toUnsigned leNumber Sets.none only member join insert remove
+zero-plain = plain emitsZero 0 refl refl
+
+sent-back : AllSendable backBefore
+sent-back =
+    each {x = to (admit (alone emitsZero))} (omega arith, omega arith) (each {x = to instant} tt (each {x = to (save 1)} (omega arith) (each {x = to instant} tt
+    (each {x = to (save 2)} (omega arith) (each {x = to (restore 1)} tt (each {x = to instant} tt none))))))
+
+plain-back : Admitting NoSetpause backBefore
+plain-back =
+    admitting 0 (alone emitsZero) _ zero-plain
+    (other instant _ refl (other (save 1) _ refl (other instant _ refl (other (save 2) _ refl (other (restore 1) _ refl (other instant _ refl no-call))))))
+
+pub not-changesSequence : (¬ OnPaper changesSequence) × (¬ ByLabelSets changesSequence)
+unfolding reports paperReports presentOn find without saveNamed callOf emptyBox present partOf vacated filled bayStepOf bayChargedOf wouldPass totalIn addedBelow deliveredBy ofBits whole inUnsigned toUnsigned bayTickOf following bayReleaseOf bayAdmitOf baySaveOf bayRestoreOf bayLedgerOf saveOf lookup place put zeros totalsBytes ordered add toBits ofInt leBytes leNumber tickBy checked read front commandOf distinct wellFormed before everyLabel labelsOf subset disjoint valid active activeLabels membersFrom declaredBy commands loopNesting signalNesting ceiling encodeState decodeState encodeAnswer expand reactBy errorsBy reactionsBy Sets.none only member join insert remove
+not-changesSequence = (
+  λ h. let e : _≡_ {A = ℕ} 2 1 = ap (λ (rs : List (Reported Told)). emittedOf (reportAt 6 rs)) (h backBefore sent-back plain-back) in omega arith,
+  λ h. let e : _≡_ {A = ℕ} 2 1 = ap (λ (rs : List (Reported (List (List ℕ)))). emittedIn (bufferAt 6 rs)) (h backBefore sent-back) in omega arith,
+)
+
+-- ---- a reading after the taking out has 0 litres of farm 2, where the paper has 5: of 5.0, 0x40A00000, the third byte is 0xA0
+delivers-plain : (p : Statement) → Spells delivers p → NoSetpause p
+unfolding checkOf checked read front commandOf distinct wellFormed before everyLabel labelsOf subset disjoint membersFrom declaredBy signalNesting ofBits whole inUnsigned toUnsigned leNumber Sets.none only member join insert remove
+delivers-plain = plain delivers 0 refl refl
+
+sent-out : AllSendable takenOut
+sent-out =
+    each {x = to (admit (alone delivers))} (omega arith, omega arith) (each {x = to instant} tt (each {x = to release} tt (each {x = to reading} tt none)))
+
+plain-out : Admitting NoSetpause takenOut
+plain-out = admitting 0 (alone delivers) _ delivers-plain (other instant _ refl (other release _ refl (other reading _ refl no-call)))
+
+pub not-forgetsAtRelease : (¬ OnPaper forgetsAtRelease) × (¬ ByLabelSets forgetsAtRelease)
+unfolding reports paperReports presentOn find without saveNamed callOf emptyBox present partOf vacated filled bayStepOf bayChargedOf wouldPass totalIn addedBelow deliveredBy ofBits whole inUnsigned toUnsigned bayTickOf following bayReleaseOf bayAdmitOf baySaveOf bayRestoreOf bayLedgerOf saveOf lookup place put zeros totalsBytes ordered add toBits ofInt leBytes leNumber tickBy checked read front commandOf distinct wellFormed before everyLabel labelsOf subset disjoint valid active activeLabels membersFrom declaredBy commands loopNesting signalNesting ceiling encodeState decodeState encodeAnswer expand reactBy errorsBy reactionsBy Sets.none only member join insert remove
+not-forgetsAtRelease = (
+  λ h. let e : _≡_ {A = ℕ} 0 0xA0 = ap (λ (rs : List (Reported Told)). getD (shownAt 3 rs) 10 0) (h takenOut sent-out plain-out) in omega arith,
+  λ h. let e : _≡_ {A = ℕ} 0 0xA0 = ap (λ (rs : List (Reported (List (List ℕ)))). getD (bufferAt 3 rs) 10 0) (h takenOut sent-out) in omega arith,
+)
+
+-- ---- a bay that reads nothing back waits, where the paper ends
+waits-plain : (readBack : ℕ) → checkOf waitsIfRead readBack ≡ 0 → setpauses (statementOf (checked waitsIfRead readBack)) ≡ Sets.none
+    → (p : Statement) → Spells waitsIfRead p → NoSetpause p
+waits-plain = plain waitsIfRead
+
+sent-beside : AllSendable besideReader
+sent-beside =
+    each {x = record { bay = 1; call = admit (record { sequence = waitsIfRead; readBack = 1; serviceOnly = 0 }) }} (omega arith, omega arith)
+    (each {x = to (admit (alone waitsIfRead))} (omega arith, omega arith) (each {x = to instant} tt none))
+
+plain-beside : Admitting NoSetpause besideReader
+unfolding checkOf checked read front commandOf distinct wellFormed before everyLabel labelsOf subset disjoint membersFrom declaredBy signalNesting ofBits whole inUnsigned toUnsigned leNumber Sets.none only member join insert remove
+plain-beside =
+    admitting 1 (record { sequence = waitsIfRead; readBack = 1; serviceOnly = 0 }) _ (waits-plain 0 refl refl)
+    (admitting 0 (alone waitsIfRead) _ (waits-plain 0 refl refl) (other instant _ refl no-call))
+
+pub not-readsBackNeighbour : (¬ OnPaper readsBackNeighbour) × (¬ ByLabelSets readsBackNeighbour)
+unfolding reports paperReports presentOn find without saveNamed callOf emptyBox present partOf vacated filled bayStepOf bayChargedOf wouldPass totalIn addedBelow deliveredBy ofBits whole inUnsigned toUnsigned bayTickOf following bayReleaseOf bayAdmitOf baySaveOf bayRestoreOf bayLedgerOf saveOf lookup place put zeros totalsBytes ordered add toBits ofInt leBytes leNumber tickBy checked read front commandOf distinct wellFormed before everyLabel labelsOf subset disjoint valid active activeLabels membersFrom declaredBy commands loopNesting signalNesting ceiling encodeState decodeState encodeAnswer expand reactBy errorsBy reactionsBy Sets.none only member join insert remove
+not-readsBackNeighbour = (
+  λ h. let e : _≡_ {A = ℕ} 1 0 = ap (λ (rs : List (Reported Told)). codeOf (reportAt 2 rs)) (h besideReader sent-beside plain-beside) in omega arith,
+  λ h. let e : _≡_ {A = ℕ} 1 0 = ap (λ (rs : List (Reported (List (List ℕ)))). codeIn (bufferAt 2 rs)) (h besideReader sent-beside) in omega arith,
+)
+
+-- ---- a ledger that a restore takes back, and one that is gone with the bay, are not certified
+delivered-plain : (p : Statement) → Spells delivered p → NoSetpause p
+unfolding checkOf checked read front commandOf distinct wellFormed before everyLabel labelsOf subset disjoint membersFrom declaredBy signalNesting ofBits whole inUnsigned toUnsigned leNumber Sets.none only member join insert remove
+delivered-plain = plain delivered 0 refl refl
+
+sent-behind : AllSendable backBehind
+sent-behind =
+    each {x = to (admit (alone delivered))} (omega arith, omega arith) (each {x = to instant} tt (each {x = to (save 1)} (omega arith) (each {x = to (restore 1)} tt (each {x = to reading} tt none))))
+
+plain-behind : Admitting NoSetpause backBehind
+plain-behind = admitting 0 (alone delivered) _ delivered-plain (other instant _ refl (other (save 1) _ refl (other (restore 1) _ refl (other reading _ refl no-call))))
+
+pub not-rewinds-on-paper : (¬ OnPaper rewinds) × (¬ ByLabelSets rewinds)
+unfolding reports paperReports presentOn find without saveNamed callOf emptyBox present partOf vacated filled bayStepOf bayChargedOf wouldPass totalIn addedBelow deliveredBy ofBits whole inUnsigned toUnsigned bayTickOf following bayReleaseOf bayAdmitOf baySaveOf bayRestoreOf bayLedgerOf saveOf lookup place put zeros totalsBytes ordered add toBits ofInt leBytes leNumber tickBy checked read front commandOf distinct wellFormed before everyLabel labelsOf subset disjoint valid active activeLabels membersFrom declaredBy commands loopNesting signalNesting ceiling encodeState decodeState encodeAnswer expand reactBy errorsBy reactionsBy Sets.none only member join insert remove
+not-rewinds-on-paper = (
+  λ h. let e : _≡_ {A = ℕ} 0 0xA0 = ap (λ (rs : List (Reported Told)). getD (shownAt 4 rs) 10 0) (h backBehind sent-behind plain-behind) in omega arith,
+  λ h. let e : _≡_ {A = ℕ} 0 0xA0 = ap (λ (rs : List (Reported (List (List ℕ)))). getD (bufferAt 4 rs) 10 0) (h backBehind sent-behind) in omega arith,
+)
+
+pub not-rewinds-certified : (¬ ReadingsCertified rewinds) × (¬ ReadingsCertifiedByLabels rewinds)
+unfolding reports paperReports presentOn find without saveNamed callOf emptyBox present partOf vacated filled bayStepOf bayChargedOf wouldPass totalIn addedBelow deliveredBy ofBits whole inUnsigned toUnsigned bayTickOf following bayReleaseOf bayAdmitOf baySaveOf bayRestoreOf bayLedgerOf saveOf lookup place put zeros totalsBytes ordered add toBits ofInt leBytes leNumber tickBy checked read front commandOf distinct wellFormed before everyLabel labelsOf subset disjoint valid active activeLabels membersFrom declaredBy commands loopNesting signalNesting ceiling encodeState decodeState encodeAnswer expand reactBy errorsBy reactionsBy Sets.none only member join insert remove boxAfter deliveriesOver sumOf
+not-rewinds-certified =
+    let bytes : List ℕ = first (lentAfter (rewinds (boxAfter rewinds emptyBox backBehind) 0 reading)) in
+    let x : Float = fieldIn 2 bytes in (
+      λ h.
+          let e : _≡_ {A = ℕ} 5 0 = one-number x 5 0 (h backBehind sent-behind plain-behind 0 (replicate readingLength 0) refl .farm-exact 2 (omega arith)) (refl, refl) in
+          omega arith,
+      λ h.
+          let e : _≡_ {A = ℕ} 5 0 = one-number x 5 0 (h backBehind sent-behind 0 (replicate readingLength 0) refl .farm-exact 2 (omega arith)) (refl, refl) in
+          omega arith,
+    )
