@@ -31,7 +31,7 @@ use Rattle.box_previews_fillings.specs.Standing.{answersAt, Stands}
 use Rattle.box_fillings.proofs.Numbers as numbers
 use Rattle.box_fillings.proofs.Numbers.{written-answer, refused-preview}
 
--- ---- from a origin
+-- ---- from an origin
 module _ (answers : ℕ → List ℕ) (input unknown : ℕ) (buffer : List ℕ) (n : ℕ) (h : n ≡ length (membersFrom signalCount 0 unknown)) where
   pub too-many : maxUnknown < n → previewed 17 buffer ≡ shownBy answers input unknown buffer
   too-many l = rw (lt-leb (length (membersFrom signalCount 0 unknown)) maxUnknown (omega arith))
@@ -41,7 +41,7 @@ module _ (answers : ℕ → List ℕ) (input unknown : ℕ) (buffer : List ℕ) 
   shown-bytes l x b e w =
       rw (le-leb (length (membersFrom signalCount 0 unknown)) maxUnknown (omega arith)) (ap (previewed 0) (w ∙ ap previewBytes e))
 
--- ---- from a origin, whatever the input, the machine reacts
+-- ---- from an origin, whatever the input, the machine reacts
 module _ (sequence state : List ℕ) (readBack : ℕ) {second notes : List ℕ} (a : Passed sequence readBack second notes) where
   abbrev pub Reacts : Start → Type 0
   Reacts origin = (e : ℕ) → Replies sequence state e readBack (Reacted (reactionOf (startTraced noFarm (program readBack (termAt origin (a .p))) e)))

@@ -50,7 +50,7 @@ module _ (o L m : ℕ) (h : o < 256 ^ signalBytes) where
   pub wrong-found : {c : Completion} {x : Findings} {kind place : ℕ} → c ≡ Wrong kind place → x ≡ alone 0 255 → In c x
   wrong-found {c} {x} {kind} {place} e q = subst (λ (k : Completion). In k x) (sym e) (q ∙ alone-in 255 kind place 0 m (omega arith))
 
--- a reaction of the program from a origin
+-- a reaction of the program from an origin
 pub tried-is : (origin : Start) (p : Statement) (readBack e : ℕ) (r : Reaction) (x : Findings)
     → r ≡ reactionOf (startTraced noFarm (program readBack (termAt origin p)) e) → x ≡ foundIn (answerAfterwards (writtenFrom r))
     → x ≡ foundIn (answersAt origin p readBack e)

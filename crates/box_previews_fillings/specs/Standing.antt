@@ -1,4 +1,4 @@
--- A preview from a origin of the statement that lies in the bytes (program, specs/Program): the form for the code.
+-- A preview from an origin of the statement that lies in the bytes (program, specs/Program): the form for the code.
 use Prim.Native.Nat.{ℕ}
 use mathlib.Core.List.{List}
 use Rattle.limits.specs.Limits.{maxDepth, noFarm}

@@ -1,4 +1,4 @@
--- What the reader accepts lies in the bytes with the table that it filled; and a statement that lies there is taken-apart apart by
+-- What the reader accepts lies in the bytes with the table that it filled; and a statement that lies there is taken apart by
 -- its command byte.
 use Prim.Native.Nat.{ℕ, zero, suc, _+_, _-_, _≤_, _<_}
 use mathlib.Core.Path.{_≡_, refl, sym, ap, _∙_, subst, subst₂}
@@ -86,7 +86,7 @@ pub lies : (t : List ℕ) (d g base a : ℕ) (bs : List ℕ) (p : Statement) (n 
 lies t zero g base a bs p n h m f = no-level g a bs p n h
 lies t (suc d) g base a bs p n h m f = laid t d (lies t d) base a bs f g p n (met d g a bs (accepted p n) h) m
 
--- ---- taken-apart apart
+-- ---- taken apart
 pub opened : (t : List ℕ) (d base a : ℕ) (bs : List ℕ) (p : Statement) → Lies t d base a bs p → (0 < d) × AtFront (Lies t (d - 1)) t base a bs p
 unfolding Lies
 opened t zero base a bs p l = absurd l

@@ -187,7 +187,7 @@ module _ (bs : List ℕ) (readBack : ℕ) where
       none-below m l (row-9 {p = p} s y) = unspelled bs p k s x
       none-below m l (row-10 {p = p} s y) = unspelled bs p k s x
 
-  -- the declarations make the signalNesting of signals exceed six
+  -- 'the declarations make the nesting of signals exceed six'
   abbrev Crowded : Statement → Type 0
   Crowded p = maxSignals < signalNesting (program readBack p)
 
@@ -342,7 +342,7 @@ module _ (bs : List ℕ) (readBack : ℕ) where
   row-rank k (row-9 s x) = omega arith
   row-rank k (row-10 s x) = omega arith
 
-  -- CHECK: the number goes by rows 2 to 10
+  -- CHECK: the number goes by rows 2 to 10 and 18
   pub check-by-rows : ByRows (checkOf bs readBack) (Row bs readBack)
   unfolding checkOf
   check-by-rows = go (checked bs readBack) decided

@@ -1,4 +1,4 @@
--- The check of a sequence with a read-back set (01, 'Turned down', rows 2 to 10): the statement that the bytes hold, or the
+-- The check of a sequence with a read-back set (01, 'Turned down', rows 2 to 10, and 18 of 02, item 12): the statement that the bytes hold, or the
 -- first row that holds.
 use Prim.Native.Nat.{ℕ}
 use mathlib.Core.Bool.{_&&_, cond}
@@ -20,7 +20,7 @@ pub data Checked : Type 0 where
 abbrev pub labelRules : Statement → Checked
 labelRules p = cond (distinct p) (cond (targeted p) (cond (wellFormed p) (sound p) (bad 10)) (bad 9)) (bad 8)
 
--- Rows 3 to 6 from the reader; row 6 again, 'if the declarations make the signalNesting of signals exceed six' (02, item 5); row 7
+-- Rows 3 to 6 from the reader; row 6 again, 'if the declarations make the nesting of signals exceed six' (02, item 5); row 7
 abbrev pub afterRead : (readBack n : ℕ) → Read → Checked
 afterRead readBack n (refused number) = bad number
 afterRead readBack n (accepted p count) =

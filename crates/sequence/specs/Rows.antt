@@ -72,7 +72,7 @@ pub data Row (bs : List ℕ) (readBack : ℕ) : (number : ℕ) → Type 0 where
   -- rows 3 to 6 at the first command that is not sound
   row-3-to-6 : (n : ℕ) {a number : ℕ} {s : Awaited} {awaited : List Awaited} → walk n bs ≡ some (at a (s ∷ awaited))
       → Fault (drop a bs) s number → Row bs readBack number
-  -- 02, item 5: the bytes begin with a whole statement, and the declarations make the signalNesting of signals exceed six
+  -- 02, item 5: the bytes begin with a whole statement, and 'the declarations make the nesting of signals exceed six'
   row-6 : {p : Statement} {n : ℕ} → Written maxDepth maxSignals 0 bs p n → maxSignals < signalNesting (program readBack p)
       → Row bs readBack 6
   -- bytes after the statement

@@ -1,4 +1,4 @@
--- 02, item 5, 'as if each were declared around it, except that an emitted one is still reported': declarations with scope
+-- 02, item 5, 'as if each were declared around it .. except that an emitted one is still reported': declarations with scope
 -- `reported` and the same with scope `local` have one tree, and differ in what is emitted outside them.
 use Prim.Native.Nat.{ℕ}
 use mathlib.Core.Path.{_≡_, refl, sym, ap, ap₂, _∙_, subst, subst₂}

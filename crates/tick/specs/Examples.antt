@@ -23,7 +23,7 @@ use Rattle.answers.specs.AnswerRecord.{encodeAnswer}
 use Rattle.tick.specs.Tick.{outcome, tickBy, tickOf}
 use Rattle.tick.specs.Paper.{Call, turnedDown, reacted, paper}
 
--- 'pause 0; emit 3', and the state in which it waits
+-- pause 0; emit 3: its bytes, and the state in which it waits
 abbrev bytes : List ℕ
 bytes = 4 ∷ 1 ∷ 0 ∷ 2 ∷ 3 ∷ []
 
@@ -40,7 +40,7 @@ ticks : (tickOf bytes (replicate 17 0) 0 0 (replicate 12 9) ≡ outcome 0 waitin
 unfolding tickBy checked read front commandOf signalNesting declaredBy membersFrom distinct wellFormed everyLabel before labelsOf activeLabels valid subset disjoint active expand decodeState encodeState encodeAnswer leNumber leBytes reactBy errorsBy reactionsBy member none only join insert remove
 ticks = (refl, refl, refl)
 
--- 'present 0 then emit 1 else nothing': without a set by its input, with 0 read back not
+-- present 0 then emit 1 else nothing: without a set by its input, with 0 read back not
 read-back : (tickOf (7 ∷ 0 ∷ 2 ∷ 1 ∷ 0 ∷ []) (replicate 17 0) 1 0 (replicate 12 9) ≡ outcome 0 ended (0 ∷ 0 ∷ 0 ∷ 0 ∷ 2 ∷ 0 ∷ 0 ∷ 0 ∷ 2 ∷ 0 ∷ 0 ∷ 0 ∷ []))
     × (tickOf (7 ∷ 0 ∷ 2 ∷ 1 ∷ 0 ∷ []) (replicate 17 0) 1 1 (replicate 12 9) ≡ outcome 0 ended (0 ∷ 0 ∷ 0 ∷ 0 ∷ 0 ∷ 0 ∷ 0 ∷ 0 ∷ 5 ∷ 0 ∷ 0 ∷ 0 ∷ []))
 unfolding tickBy checked read front commandOf signalNesting declaredBy membersFrom distinct wellFormed everyLabel before labelsOf activeLabels valid subset disjoint active expand decodeState encodeState encodeAnswer leNumber leBytes reactBy errorsBy reactionsBy member none only join insert remove

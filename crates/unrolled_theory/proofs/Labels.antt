@@ -28,7 +28,7 @@ if-none k s = go (member k s)
     go true = refl
     go false = refl
 
--- ---- the signalNesting of signals
+-- ---- the nesting of signals
 pub nesting-same : {c : Bool} {p q : Statement} → Forms c p q → signalNesting q ≡ signalNesting p
 unfolding signalNesting
 nesting-same Forms.nothing = refl
