@@ -25,7 +25,7 @@ PreviewShows call =
     (box : List ℕ) (bay e unknown : ℕ) (buffer : List ℕ) → number (call box bay (preview e unknown buffer)) ≡ 0
     → call box bay (preview e unknown buffer) ≡ called 0 box (bufferAfter (previewIn (stretchOf bay box) e unknown buffer) ∷ [])
 
--- of a filled bay, the numbers of the preview: 1, then 2 to 12 of the tick, then 17
+-- of a filled bay, the numbers of the preview: 1, then 2 to 12 and 18 of the tick, then 17
 abbrev pub PreviewNumbers : Calling → Type 0
 PreviewNumbers call =
     (box : List ℕ) → length box ≡ boxLength → (bay : ℕ) → bay < bayCount → lengthIn (stretchOf bay box) ≢ 0

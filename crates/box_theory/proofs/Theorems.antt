@@ -199,8 +199,8 @@ pub never-11-in-box : (xs : List Request) → AllSendable xs → (bay e : ℕ) (
     → number (callOf (boxAfter callOf emptyBox xs) bay (tick e answer trace)) ≢ 11
 never-11-in-box xs k = reached.no-11 (boxAfter callOf emptyBox xs) (reached.kept xs k)
 
--- ---- a bay from its admission on, in any box, as long as it is not taken out: whatever other calls come in between, and calls of
--- its own that are turned down, its ticks are those on its sequence
+-- ---- a bay from its admission up to the first coming back to a position or its taking out (`Onwards`), in any box: whatever other
+-- calls come in between, and calls of its own that are turned down, its ticks are those on its sequence
 module _ (box : List ℕ) (bay : ℕ) (t : Terms) (small : Sendable (admit t)) (admitted : number (callOf box bay (admit t)) ≡ 0) where
   abbrev from : List ℕ
   from = memoryAfter (callOf box bay (admit t))
@@ -483,7 +483,7 @@ record-length = instants.record-length
 pub preview-shows : PreviewShows callOf
 preview-shows = instants.preview-shows
 
--- the numbers of a filled bay: 1, then 2 to 12 of the tick, then 17
+-- the numbers of a filled bay: 1, then 2 to 12 and 18 of the tick, then 17
 pub preview-numbers : PreviewNumbers callOf
 preview-numbers = instants.preview-numbers
 

@@ -1,4 +1,4 @@
-// The check of a sequence with a read-back set (01, rows 2 to 10). Of a sound one it leaves the table of second parts and
+// The check of a sequence with a read-back set (01, rows 2 to 10; 02, row 18). Of a sound one it leaves the table of second parts and
 // the notes of labels.
 ghost use mathlib.Core.Path.{_≡_};
 ghost use lib.ListN.{length};

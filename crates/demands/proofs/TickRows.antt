@@ -1,4 +1,4 @@
--- DEMAND 1, the numbers: a tick's number goes by rows 1 to 12.
+-- DEMAND 1, the numbers: a tick's number goes by rows 1 to 12 and 18.
 use Prim.Native.Nat.{ℕ, _<_, _≤_}
 use native.Mathlib.Omega.{arith}
 use mathlib.Core.Path.{_≡_, refl, sym, _∙_, subst}

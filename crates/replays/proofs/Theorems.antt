@@ -1,5 +1,6 @@
 -- The theorems of this crate (02, item 14): every claim of specs/Claims about the definition of a replay, which the code meets for all
--- arguments, and the recordings worked by hand. That the records of a bay are accepted is box_theory's.
+-- arguments, and the recordings worked by hand. That the records of a bay, up to its first coming back, are
+-- accepted is box_theory's.
 use Prim.Native.Nat.{ℕ, zero, suc, _+_, _<_}
 use native.Mathlib.Omega.{arith}
 use mathlib.Core.Path.{_≡_, refl, sym, ap, ap₂, _∙_}
@@ -22,7 +23,7 @@ getElem?-some [] i h = absurd (omega arith)
 getElem?-some (x ∷ l) zero h = (x, refl)
 getElem?-some (x ∷ l) (suc i) h = getElem?-some l i (omega arith)
 
--- NUMBERS: those of the check, 'then 22, after the sequence's check', then 0; 'a place, 0 after an error'
+-- NUMBERS: those of the check, then '22, after the sequence's check', then 0; 'a place, 0 after an error'
 pub refuses : Refuses replayOf
 refuses sequence readBack recording z = numbers.refused-replay sequence readBack recording _ refl z
 

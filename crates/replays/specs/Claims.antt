@@ -90,8 +90,8 @@ AcceptsRecordings replay =
     (sequence : List ℕ) (readBack : ℕ) → checkOf sequence readBack ≡ 0 → (inputs : List ℕ) → Inputs inputs
     → replay sequence readBack (joined (recordingOf sequence readBack inputs)) ≡ replayed 0 0
 
--- ---- without setpause, an accepted recording is what the paper reports on its inputs
--- what demand 3 compares, as a record has it
+-- ---- without setpause, an accepted recording shows what the paper reports on its inputs
+-- what demand 3 compares, as a record has it: no labels
 abbrev pub reportIn : List ℕ → Report
 reportIn r =
     reacted (codeIn (answerIn r)) (kindIn (answerIn r)) (placeIn (answerIn r)) (emittedIn (answerIn r)) (reactionsIn (answerIn r))

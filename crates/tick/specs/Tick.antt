@@ -22,7 +22,7 @@ pub data Outcome : Type 0 where
 abbrev pub written : Instant → Outcome
 written (instant r x n) = outcome 0 (encodeState (stateAfter r)) (encodeAnswer (instant r x n))
 
--- ---- the reply: rows 2 to 12, and else the instant; nothing is written yet
+-- ---- the reply: rows 2 to 12 and 18, and else the instant; nothing is written yet
 pub data Reply : Type 0 where
   refused : (number : ℕ) → Reply
   reacts : Instant → Reply

@@ -19,7 +19,7 @@ use Rattle.unrolled.specs.Entries.{Counting, OneRun, AtMostOnce}
 pub record Written (sequence : List ℕ) (readBack : ℕ) (buffer : List ℕ) (n : ℕ) (out : List ℕ) : Type 0 where
   -- the buffer begins with the bytes of p worked through, and the length is theirs
   pub bytes : (p : Statement) → Spells sequence p → (take n out ≡ bytesOf (unrolled p)) × (n ≡ size (unrolled p))
-  -- 'those after it keep their values'
+  -- 'those after it .. keep their values'
   pub behind : drop n out ≡ drop n buffer
   -- the result is accepted with the original's read-back set, and its places are its own offsets
   pub accepted : checkOf (take n out) readBack ≡ 0
@@ -27,6 +27,7 @@ pub record Written (sequence : List ℕ) (readBack : ℕ) (buffer : List ℕ) (n
   -- 'up to the last instant before its run is wrong, both .. emit the same and have the same codes and labels'
   pub same : SameUntilWrong tickOf sequence (take n out) readBack
   pub same-litres : SameLitresUntilWrong sequence (take n out) readBack
-  -- 'can't enter a body twice in an instant': from any state, in an instant that is not wrong
+  -- 'can't enter a body twice in an instant': from any state, in an instant that is not wrong, one run of each signal counted; of a
+  -- loop and of its body as a whole only the beginnings count (Entries)
   pub once : (q : Statement) → Spells (take n out) q → (c : Counting) → OneRun c → (s : State) (e : ℕ)
       → showsWrong (byLabels (program readBack q) s e .0) ≡ false → AtMostOnce c (program readBack q) s e

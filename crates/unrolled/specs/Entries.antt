@@ -173,7 +173,7 @@ resumesAt p State.over a = 0
 abbrev pub entersAt : Counting → Statement → State → (e : ℕ) → Place → ℕ
 entersAt c p s e a = beginsAt c p s e a + resumesAt p s a
 
--- no command reacts twice, begins twice, or is resumed and begins
+-- no command reacts twice, begins twice, or is resumed and begins; of a loop and of its body as a whole only the beginnings count
 pub record AtMostOnce (c : Counting) (p : Statement) (s : State) (e : ℕ) : Type 0 where
   pub reacts : (a : Place) → reactsAt c p s e a ≤ 1
   pub enters : (a : Place) → entersAt c p s e a ≤ 1

@@ -14,7 +14,7 @@ use Rattle.unrolled.specs.Unrolled.{unrolled}
 pub data UnrollRow (sequence : List ℕ) (readBack : ℕ) (buffer : List ℕ) : (number : ℕ) → Type 0 where
   -- 'another buffer length'
   row-1 : length buffer ≢ maxBytes → UnrollRow sequence readBack buffer 1
-  -- 'the original's own check'
+  -- 'the original's own check': every row of it, 18 too
   row-2-to-10 : {number : ℕ} → Row sequence readBack number → UnrollRow sequence readBack buffer number
   -- 'it has a setpause'
   row-20 : {p : Statement} → Spells sequence p → ¬ NoSetpause p → UnrollRow sequence readBack buffer 20

@@ -1,5 +1,5 @@
--- The result of a call that gave 0: it stands at the front of the buffer, is accepted, its ticks answer as the original's, and no
--- command of it reacts twice in an instant.
+-- The result of a call that gave 0: it stands at the front of the buffer, is accepted, its ticks answer as the original's up to the
+-- last before a wrong one, and in an instant that is not wrong no command of it reacts twice, one run of each signal counted.
 use Prim.Native.Nat.{ℕ}
 use native.Mathlib.Omega.{arith}
 use mathlib.Core.Path.{_≡_, refl, ap}

@@ -111,7 +111,8 @@ module _ (readBack : ℕ) (p : Statement) where
   -- ---- 'can't enter a body twice in an instant'
   -- c: what counts of the two runs of a signal
   module _ (c : Counting) (i : OneRun c) where
-    -- in an instant of the result that is not wrong, from any state, no command reacts twice or is entered twice
+    -- in an instant of the result that is not wrong, from any state, no command reacts twice, begins twice, or is resumed and begins; a
+    -- loop and the 04 put into it go round, and of them only the beginnings count
     pub at-most-once : (s : State) (e : ℕ) → showsWrong (byLabels result s e .0) ≡ false → AtMostOnce c result s e
     at-most-once = runs.tick-once c i forms
 
