@@ -62,12 +62,12 @@ extern "C" {
 #endif
 
 /*
- * What a call answers: 0, or the row of document 01, 'Turned down', that turns it down. The check gives 2 to 10 and 18, the
- * tick 1 to 12 and 18; of several rows that hold, the lowest, but rows 3, 4, 5, 18 and 6 go command by command from the
- * left, and at one command in this order. Row 6 by the read-back set comes after them, once the whole statement was read,
- * and before row 7. The calls on a box give 13 to 17 and 19 too: 13 before all others, 14 after row 10, 15 before 16, 17
- * after row 12, and 19 last of all. intake_unroll gives 1, then those of the check, then 20, then 21. A replay gives what
- * the check gives, and then 22.
+ * What a call answers, but for intake_ceiling: 0, or the number of the row that turns it down, by document 01, 'Turned down',
+ * and document 02. The check gives 2 to 10 and 18, the tick 1 to 12 and 18; of several rows that hold, the lowest, but rows
+ * 3, 4, 5, 18 and 6 go command by command from the left, and at one command in this order, so that 18 comes before 11 and 12.
+ * Row 6 by the read-back set comes after them, once the whole statement was read, and before row 7. The calls on a box give
+ * 13 to 17 and 19 too: 13 before all others, 14 after those of the check, 15 before 16, 17 after row 12, and 19 last of all.
+ * intake_unroll gives 1, then those of the check, then 20, then 21. A replay gives what the check gives, and then 22.
  */
 enum intake_number {
     INTAKE_ACCEPTED = 0,                /* accepted */
@@ -198,9 +198,10 @@ enum intake_preview {
 };
 
 /*
- * What is read of a ledger: a total for each of the farms 0 to 31, four bytes each, and then the ledger's own total,
- * their sum. Each is a single-precision number, lowest byte first, and a whole one; intake_ledger_farm and
- * intake_ledger_total give them as integers.
+ * What is read of a ledger: a total for each of the farms 0 to 31, four bytes each, and then the ledger's own total, their
+ * rounded sum: they are added in single precision, in that order, and what comes out lies within 496 litres of the exact sum.
+ * Each is a single-precision number, lowest byte first, and a whole one; intake_ledger_farm and intake_ledger_total give
+ * them as integers.
  */
 enum intake_ledger {
     INTAKE_LEDGER_FARMS = 0,
@@ -241,8 +242,8 @@ enum intake_kind {
  * Read-back. A sequence that emits 'valve open' may want to test it in the same instant: the pump runs if the valve is
  * open, whichever step opened it. A test of an interface signal reads the host's input, where an output is not given. The
  * read-back set names the outputs that the sequence can read: bit s says that a test of signal s, or a suspend by it, sees
- * s present exactly if the sequence emits s in this instant, and absent if not. The host is told of an emitted one as of
- * any other output.
+ * s present exactly if the sequence emits s in this instant, and absent if not, in an instant that is not wrong. The host is
+ * told of an emitted one as of any other output.
  *
  * - Put into the set the outputs that the sequence tests, and no others: each takes one of the six signals that may stand
  *   around a command, and lets the sequence react in two runs, so that the ceiling of reactions more than doubles. A signal
@@ -303,9 +304,9 @@ uint8_t intake_tick(const uint8_t *sequence, size_t sequence_length, uint8_t *st
 
 /*
  * Loops written out. A panel of logic cells cannot enter the body of a loop twice in one instant, as a loop does whose body
- * ends and begins again. This call writes a sequence that never does: each loop p becomes a loop over a copy of p, followed
- * by p itself with its own loops written out; in the copy pauses are setpauses and loops are their bodies, so that a round
- * begins in the copy and is resumed in p.
+ * ends and begins again. This call writes a sequence for it: each loop p becomes 06 04, then a copy of p, then p itself with
+ * its own loops written out; in the copy pauses are setpauses and loops are their bodies, so that a round begins in the copy
+ * and is resumed in p.
  *
  *     uint8_t result[INTAKE_RESULT_LENGTH];
  *     size_t result_length;
@@ -314,10 +315,11 @@ uint8_t intake_tick(const uint8_t *sequence, size_t sequence_length, uint8_t *st
  *         result[0] to result[result_length - 1] is the sequence for the panel
  *
  * Up to the last instant before the original's run is wrong, both, started with a cleared state record on the same inputs
- * and with the same read-back set, have the same numbers, codes, emitted sets and state records, and in a bay the same
- * litres; the number of reactions differs. In an instant of the result that is not wrong no command reacts twice, of each
- * signal one run counted. A wrong instant of the original need not be one of the result: an error of a loop inside a loop is
- * not in the copy. The places of the result are its own offsets. The result is accepted with the same read-back set.
+ * and with the same read-back set, have the same numbers, codes, emitted sets and state records, and deliver the same litres
+ * to each farm; the number of reactions may differ. In an instant of the result that is not wrong, one run of each signal
+ * counted, no command reacts twice, begins twice, or is resumed and begins; a loop and the 04 put into it go round, and of
+ * them only beginnings count. A wrong instant of the original need not be one of the result: an error of a loop inside a loop
+ * is not in the copy. The places of the result are its own offsets. The result is accepted with the same read-back set.
  *
  * The numbers are INTAKE_BUFFER_LENGTH for a buffer that has not INTAKE_RESULT_LENGTH bytes, then those of intake_check, then
  * INTAKE_HAS_SETPAUSE, then INTAKE_RESULT_TOO_LARGE exactly if the result would be longer than INTAKE_RESULT_LENGTH bytes or
@@ -350,7 +352,7 @@ uint8_t intake_unroll(const uint8_t *sequence, size_t sequence_length, uint32_t 
  * The caller must see to it that both buffers have the lengths given and are readable, that nobody writes them during the
  * call, and that `place` is none of their bytes. A buffer of length 0 may be a null pointer. The call reads no byte outside,
  * writes `*place` alone, keeps nothing and always returns. It takes the time of the check once and of an instant for each
- * record, and no more memory for a longer recording.
+ * record up to the first that differs, and no more memory for a longer recording.
  */
 uint8_t intake_replay(const uint8_t *sequence, size_t sequence_length, uint32_t read_back, const uint8_t *recording,
                       size_t recording_length, size_t *place);
@@ -366,8 +368,8 @@ uint8_t intake_replay(const uint8_t *sequence, size_t sequence_length, uint32_t 
  * A release gives it back. The ceiling speaks of instants: a preview, which is none, reacts up
  * to 64 times and may take up to 64 times the bay's part.
  *
- * Nothing that is done with one bay changes what another one answers or holds; only the number of an admission depends on
- * the other bays, by their parts of the ceiling.
+ * Nothing that is done with one bay changes what another one answers or holds; only whether a bay is admitted depends on the
+ * other bays, by their parts of the ceiling.
  *
  * The numbers come in this order: INTAKE_NO_SUCH_BAY for a number above 7, then INTAKE_BUFFER_LENGTH for a box of another
  * length, then INTAKE_NO_SUCH_BAY for a bay that is filled on admission or empty otherwise, which the two calls on a ledger
@@ -387,7 +389,7 @@ uint8_t intake_replay(const uint8_t *sequence, size_t sequence_length, uint32_t 
 
 /*
  * Admits a sequence with its read-back set to an empty bay: its machine is fresh. The bay's panel never shows a signal
- * of `service_only`; bit s is signal s, every set is allowed, and no answer depends on it. After the numbers of every
+ * of `service_only`; bit s is signal s, every set is allowed, and no instant depends on it. After the numbers of every
  * call on a box come those of intake_check, 2 to 10 and 18, and then INTAKE_ABOVE_CEILING if the bay's part and the parts of
  * the bays present sum to more than the shared ceiling, in an empty box too. The sequence is copied: the caller's is
  * not needed afterwards.
@@ -416,8 +418,12 @@ uint8_t intake_box_tick(uint8_t *box, size_t box_length, uint32_t bay, uint32_t 
 /*
  * Positions. A cleaning crew that leaves a sequence half way may want to come back to 'rinse done'. A filled bay keeps
  * up to INTAKE_POSITION_COUNT positions of its machine, each with a name; every number of 32 bits is a name, 0 too. A
- * position is the label set of a waiting machine and nothing of its past: from there on the machine answers as it would
- * have when it was saved, and what was emitted since is not undone.
+ * position is the label set of a waiting machine and nothing of its past. Coming back sets the state record to that of a
+ * machine that waits at these labels, and nothing else: the bay's number of instants goes on, its ledger and the other
+ * positions stay, and what was emitted since is not undone. The next tick is intake_tick from that state record, or gives
+ * INTAKE_ABOVE_FARM_LIMIT. For a sequence without setpause the ticks from there up to the next coming back or the release,
+ * those that give that number left out, agree with rewriting started from the expansion of the label set in number, code,
+ * kind, place, emitted set, number of reactions and phase.
  */
 #define INTAKE_POSITION_COUNT 16
 
@@ -465,10 +471,12 @@ uint8_t intake_box_panel(const uint8_t *box, size_t box_length, uint32_t bay, co
  *         the pump stands still, wherever the float stands
  *
  * Bit s of `unknown` says that the status of signal s is not known, and bit s of `input` does not matter then. A filling
- * gives each unknown input a status; for every one of them the preview has what an intake_box_tick with those inputs would
- * answer now. Learning one more status keeps every signal that is in one of the two sets where it is, and a shared code
- * too. With no unknown input the preview has the emitted set, the set of all others and the code of the next answer. A
- * read-back signal among the unknown ones has no effect, since its status is never the host's, but counts as one of them.
+ * gives each unknown input a status, and the preview is over the answers of intake_tick to all fillings, on the bay's
+ * sequence, state record and read-back set. An intake_box_tick with the inputs of a filling would now give that answer, unless
+ * it gives INTAKE_ABOVE_FARM_LIMIT and so none: a preview asks no ledger. While the machine stays, learning one more status
+ * keeps every signal that is in one of the two sets where it is, and a shared code too. With no unknown input the preview has
+ * the emitted set, the set of all others, whether it is wrong, and the code of that one answer. A read-back signal among the
+ * unknown ones has no effect, since its status is never the host's, but counts as one of them.
  *
  * The box is not written: a preview is no instant, leaves no record, adds no litres and never gives
  * INTAKE_ABOVE_FARM_LIMIT, where the tick may. After the numbers of every call on a box come
@@ -491,20 +499,21 @@ uint8_t intake_box_preview(const uint8_t *box, size_t box_length, uint32_t bay, 
  *
  * Each bay number has a ledger of its own with a year total for each farm, 0 at first: an instant of the bay that is not
  * wrong adds its litres there. Admission, release and coming back to a position leave it as it is, and only
- * intake_box_new_year clears it. A farm's total is always the exact sum of its deliveries since the last clearing, a whole
- * number of at most INTAKE_FARM_LIMIT litres. A tick that would let the total of a farm pass that gives
- * INTAKE_ABOVE_FARM_LIMIT: it is no instant, and nothing is written, neither the state nor any farm's total. The host may
- * tick again with other inputs, or after a new year. A farm whose litres in one instant are more than INTAKE_FARM_LIMIT by
- * themselves gives it for ever, new year or not: mend the sequence.
+ * intake_box_new_year clears it. In a box that these calls alone have written, a farm's total is the exact sum of its
+ * deliveries since the last clearing, a whole number of at most INTAKE_FARM_LIMIT litres. A tick that would let the total of a
+ * farm pass that gives INTAKE_ABOVE_FARM_LIMIT: it is no instant, and nothing is written, neither the state nor any farm's
+ * total. The host may tick again with other inputs, or after a new year. Where the litres of one farm in one instant are more
+ * than INTAKE_FARM_LIMIT by themselves, no new year helps: from this state every tick with inputs that give those litres gives
+ * it. If no other inputs are to be had, mend the sequence.
  *
  *     uint8_t ledger[INTAKE_LEDGER_LENGTH];
  *     if (intake_box_ledger(box, sizeof box, bay, ledger, sizeof ledger) == INTAKE_ACCEPTED)
  *         pay(farm, intake_ledger_farm(ledger, farm))
  *
- * The ledger's total is added in single precision, over the farms 0 to 31 in that order, and lies within 496 litres of the
- * exact sum of the 32. A host that wants that one adds the integers of intake_ledger_farm. intake_tick, which has no box,
- * knows no ledger and never gives INTAKE_ABOVE_FARM_LIMIT. In a box that no call has written, a farm's total that is no
- * whole number from 0 to INTAKE_FARM_LIMIT counts as 0.
+ * The ledger's total is a rounded sum, added in single precision over the farms 0 to 31 in that order: it lies within 496
+ * litres of the exact sum of the 32. A host that wants that one adds the integers of intake_ledger_farm. intake_tick, which
+ * has no box, knows no ledger and never gives INTAKE_ABOVE_FARM_LIMIT. In a box that other hands have written, a farm's total
+ * that is no whole number from 0 to INTAKE_FARM_LIMIT counts as 0.
  *
  * Both calls take an empty bay too: after INTAKE_NO_SUCH_BAY for a number above 7 and INTAKE_BUFFER_LENGTH for a box of
  * another length comes, for reading, INTAKE_BUFFER_LENGTH for `totals` not of INTAKE_LEDGER_LENGTH bytes. Reading does not
