@@ -32,7 +32,7 @@ HOST_TESTS = host-rust host-c host-tick-rust host-tick-c host-box-rust host-box-
 
 # The two programs are built anew for whatever archive is named.
 .PHONY: help run show paper page unroll replay vectors-diff test lib install uninstall clean certificate host $(HOST_TESTS) host-plain \
-	show-test format-test house-test certificate-test demands-test bench bench-check bench-tick bench-box bench-unroll bench-replay \
+	show-test format-test house-test certificate-test demands-test quotes-test bench bench-check bench-tick bench-box bench-unroll bench-replay \
 	bench-run target/host/stack target/host/dearest
 
 help: # lists the targets
@@ -200,6 +200,9 @@ show-test: # tests tools/show and tools/runfile
 
 demands-test: # holds the names of the rows of docs/DEMANDS.md, and what cites them, together
 	tools/test_demands.py
+
+quotes-test: # holds what comments and pages quote to the papers, or, where they are not at hand, to docs/quotations.txt
+	tools/test_quotes.py
 
 format-test: # holds the tables of docs/FORMAT.md, FILES.md and GLOSSARY.md, and what CONTRIBUTING.md quotes, to what they repeat
 	tools/test_format.py
