@@ -33,7 +33,7 @@ pub fn resume(
             react::after(p, s, 0, at, depth, input, farm, second)
         }
         limits::PRESENT => present_parts(s, at, depth, input, farm, active, second),
-        limits::SIGNAL => signal_rule(s, at, depth, input, farm, active, second),
+        limits::SIGNAL => signal_rule(&s[0..], at, depth, input, farm, active, second),
         limits::TRY => rules::in_try(part(s, 1, at + 1, depth - 1, input, farm, active, second)),
         limits::SUSPEND => suspend_part(s, at, depth, input, farm, active, second),
         _ => reaction::nothing(),
@@ -151,25 +151,9 @@ fn present_parts(
     part(s, 2, at + 2, depth - 1, input, farm, first, second)
 }
 
-// The bytes of a declaration are handed on as a part of the slice, as those of every part are.
-fn signal_rule(
-    s: &[u8],
-    at: usize,
-    depth: u8,
-    input: u32,
-    farm: u8,
-    active: Labels,
-    second: &SecondParts,
-) -> Reaction
-    requires { ⌜ Ready (now second) depth at (now s) × (getD (now s) 0 0 ≡ 8) ⌝ }
-    ensures { λ r. ⌜ Resumed (now (second .entry)) depth at (now (s .entry)) (labelSet active) input farm r ⌝ }
-{
-    declared(&s[0..], at, depth, input, farm, active, second)
-}
-
-// The body resumes without the signal, and with it where that run asked for the signal; else the second run would repeat the first.
+// The signal rule: the body resumes without the signal, and with it where that run asked for the signal; else the second run would repeat the first.
 // It has a frame of its own, as in `react`.
-fn declared(
+fn signal_rule(
     s: &[u8],
     at: usize,
     depth: u8,
@@ -209,7 +193,7 @@ fn body(
     ensures { λ r. ⌜ Resumed (now (second .entry)) depth at (rest n (now (s .entry))) (labelSet active) input farm r ⌝ }
 {
     if s[n] == limits::SIGNAL {
-        return declared(&s[n..], at, depth, input, farm, active, second);
+        return signal_rule(&s[n..], at, depth, input, farm, active, second);
     }
     part(s, n, at, depth, input, farm, active, second)
 }

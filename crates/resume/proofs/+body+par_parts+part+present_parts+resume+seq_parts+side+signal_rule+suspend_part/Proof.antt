@@ -31,34 +31,31 @@ use borrow.Fn.Kinds.{In}
 use borrow.Fn.PlainCycle.{Measures, is, falls, and}
 use Rattle.resume.proofs.body.Reads as body
 use Rattle.resume.proofs.body.Kinds as body-kinds
-use Rattle.resume.proofs.+body+declared+par_parts+part+present_parts+resume+seq_parts+side+signal_rule+suspend_part.Lts-body as body-lts
-use Rattle.resume.proofs.declared.Reads as declared
-use Rattle.resume.proofs.declared.Kinds as declared-kinds
-use Rattle.resume.proofs.+body+declared+par_parts+part+present_parts+resume+seq_parts+side+signal_rule+suspend_part.Lts-declared as declared-lts
+use Rattle.resume.proofs.+body+par_parts+part+present_parts+resume+seq_parts+side+signal_rule+suspend_part.Lts-body as body-lts
 use Rattle.resume.proofs.par_parts.Reads as par-parts
 use Rattle.resume.proofs.par_parts.Kinds as par-parts-kinds
-use Rattle.resume.proofs.+body+declared+par_parts+part+present_parts+resume+seq_parts+side+signal_rule+suspend_part.Lts-par_parts as par-parts-lts
+use Rattle.resume.proofs.+body+par_parts+part+present_parts+resume+seq_parts+side+signal_rule+suspend_part.Lts-par_parts as par-parts-lts
 use Rattle.resume.proofs.part.Reads as part
 use Rattle.resume.proofs.part.Kinds as part-kinds
-use Rattle.resume.proofs.+body+declared+par_parts+part+present_parts+resume+seq_parts+side+signal_rule+suspend_part.Lts-part as part-lts
+use Rattle.resume.proofs.+body+par_parts+part+present_parts+resume+seq_parts+side+signal_rule+suspend_part.Lts-part as part-lts
 use Rattle.resume.proofs.present_parts.Reads as present-parts
 use Rattle.resume.proofs.present_parts.Kinds as present-parts-kinds
-use Rattle.resume.proofs.+body+declared+par_parts+part+present_parts+resume+seq_parts+side+signal_rule+suspend_part.Lts-present_parts as present-parts-lts
+use Rattle.resume.proofs.+body+par_parts+part+present_parts+resume+seq_parts+side+signal_rule+suspend_part.Lts-present_parts as present-parts-lts
 use Rattle.resume.proofs.resume.Reads as resume
 use Rattle.resume.proofs.resume.Kinds as resume-kinds
-use Rattle.resume.proofs.+body+declared+par_parts+part+present_parts+resume+seq_parts+side+signal_rule+suspend_part.Lts-resume as resume-lts
+use Rattle.resume.proofs.+body+par_parts+part+present_parts+resume+seq_parts+side+signal_rule+suspend_part.Lts-resume as resume-lts
 use Rattle.resume.proofs.seq_parts.Reads as seq-parts
 use Rattle.resume.proofs.seq_parts.Kinds as seq-parts-kinds
-use Rattle.resume.proofs.+body+declared+par_parts+part+present_parts+resume+seq_parts+side+signal_rule+suspend_part.Lts-seq_parts as seq-parts-lts
+use Rattle.resume.proofs.+body+par_parts+part+present_parts+resume+seq_parts+side+signal_rule+suspend_part.Lts-seq_parts as seq-parts-lts
 use Rattle.resume.proofs.side.Reads as side
 use Rattle.resume.proofs.side.Kinds as side-kinds
-use Rattle.resume.proofs.+body+declared+par_parts+part+present_parts+resume+seq_parts+side+signal_rule+suspend_part.Lts-side as side-lts
+use Rattle.resume.proofs.+body+par_parts+part+present_parts+resume+seq_parts+side+signal_rule+suspend_part.Lts-side as side-lts
 use Rattle.resume.proofs.signal_rule.Reads as signal-rule
 use Rattle.resume.proofs.signal_rule.Kinds as signal-rule-kinds
-use Rattle.resume.proofs.+body+declared+par_parts+part+present_parts+resume+seq_parts+side+signal_rule+suspend_part.Lts-signal_rule as signal-rule-lts
+use Rattle.resume.proofs.+body+par_parts+part+present_parts+resume+seq_parts+side+signal_rule+suspend_part.Lts-signal_rule as signal-rule-lts
 use Rattle.resume.proofs.suspend_part.Reads as suspend-part
 use Rattle.resume.proofs.suspend_part.Kinds as suspend-part-kinds
-use Rattle.resume.proofs.+body+declared+par_parts+part+present_parts+resume+seq_parts+side+signal_rule+suspend_part.Lts-suspend_part as suspend-part-lts
+use Rattle.resume.proofs.+body+par_parts+part+present_parts+resume+seq_parts+side+signal_rule+suspend_part.Lts-suspend_part as suspend-part-lts
 use Rattle.react.proofs.after.Reads as after-reads
 use Rattle.reaction.proofs.nothing.Reads as nothing-reads
 use Rattle.rules_two.proofs.in_parallel.Reads as in-parallel-reads
@@ -77,18 +74,15 @@ use Rattle.react_leaves.proofs.is_pause.Reads as is-pause-reads
 use Rattle.signals.proofs.single.Reads as single-reads
 use Rattle.signals.proofs.with.Reads as with-reads
 use Rattle.signals.proofs.without.Reads as without-reads
-use Rattle.resume.proofs.+body+declared+par_parts+part+present_parts+resume+seq_parts+side+signal_rule+suspend_part.{
+use Rattle.resume.proofs.+body+par_parts+part+present_parts+resume+seq_parts+side+signal_rule+suspend_part.{
   statement,
 }
-use Rattle.resume.proofs.+body+declared+par_parts+part+present_parts+resume+seq_parts+side+signal_rule+suspend_part.Tie.{
+use Rattle.resume.proofs.+body+par_parts+part+present_parts+resume+seq_parts+side+signal_rule+suspend_part.Tie.{
   close,
 }
 
 abbrev μ-body : Measures 2 body-kinds.ps ℕ
 μ-body κs a = 6 * (a .1 .1 .1 .0) + 2
-
-abbrev μ-declared : Measures 2 declared-kinds.ps ℕ
-μ-declared κs a = 6 * (a .1 .1 .0) - 2
 
 abbrev μ-par-parts : Measures 2 par-parts-kinds.ps ℕ
 μ-par-parts κs a = 6 * (a .1 .1 .0) - 1
@@ -109,7 +103,7 @@ abbrev μ-side : Measures 2 side-kinds.ps ℕ
 μ-side κs a = 6 * (a .1 .1 .1 .0) + 2
 
 abbrev μ-signal-rule : Measures 2 signal-rule-kinds.ps ℕ
-μ-signal-rule κs a = 6 * (a .1 .1 .0) - 1
+μ-signal-rule κs a = 6 * (a .1 .1 .0) - 2
 
 abbrev μ-suspend-part : Measures 2 suspend-part-kinds.ps ℕ
 μ-suspend-part κs a = 6 * (a .1 .1 .0) - 1
@@ -119,12 +113,6 @@ body-at t = and 2 body-kinds.ps (is 2 body-kinds.ps μ-body t) body.Pre
 
 abbrev body-below : ℕ → In 2 body-kinds.ps
 body-below t = and 2 body-kinds.ps (falls 2 body-kinds.ps _<_ μ-body t) body.Pre
-
-abbrev declared-at : ℕ → In 2 declared-kinds.ps
-declared-at t = and 2 declared-kinds.ps (is 2 declared-kinds.ps μ-declared t) declared.Pre
-
-abbrev declared-below : ℕ → In 2 declared-kinds.ps
-declared-below t = and 2 declared-kinds.ps (falls 2 declared-kinds.ps _<_ μ-declared t) declared.Pre
 
 abbrev par-parts-at : ℕ → In 2 par-parts-kinds.ps
 par-parts-at t = and 2 par-parts-kinds.ps (is 2 par-parts-kinds.ps μ-par-parts t) par-parts.Pre
@@ -171,12 +159,10 @@ abbrev side-below : ℕ → In 2 side-kinds.ps
 side-below t = and 2 side-kinds.ps (falls 2 side-kinds.ps _<_ μ-side t) side.Pre
 
 abbrev signal-rule-at : ℕ → In 2 signal-rule-kinds.ps
-signal-rule-at t =
-    and 2 signal-rule-kinds.ps (is 2 signal-rule-kinds.ps μ-signal-rule t) signal-rule.Pre
+signal-rule-at t = and 2 signal-rule-kinds.ps (is 2 signal-rule-kinds.ps μ-signal-rule t) signal-rule.Pre
 
 abbrev signal-rule-below : ℕ → In 2 signal-rule-kinds.ps
-signal-rule-below t =
-    and 2 signal-rule-kinds.ps (falls 2 signal-rule-kinds.ps _<_ μ-signal-rule t) signal-rule.Pre
+signal-rule-below t = and 2 signal-rule-kinds.ps (falls 2 signal-rule-kinds.ps _<_ μ-signal-rule t) signal-rule.Pre
 
 abbrev suspend-part-at : ℕ → In 2 suspend-part-kinds.ps
 suspend-part-at t = and 2 suspend-part-kinds.ps (is 2 suspend-part-kinds.ps μ-suspend-part t) suspend-part.Pre
@@ -186,10 +172,7 @@ suspend-part-below t =
     and 2 suspend-part-kinds.ps (falls 2 suspend-part-kinds.ps _<_ μ-suspend-part t) suspend-part.Pre
 
 abbrev body-claims : ℕ → body-lts.Claims
-body-claims t = (declared-below t, declared.Post, part-below t, part.Post)
-
-abbrev declared-claims : ℕ → declared-lts.Claims
-declared-claims t = (without-reads.Asked, without-reads.Learnt, with-reads.Asked, with-reads.Learnt, body-below t, body.Post, asks-reads.Asked, asks-reads.Learnt, in-signal-reads.Asked, in-signal-reads.Learnt, in-signal-once-reads.Asked, in-signal-once-reads.Learnt)
+body-claims t = (signal-rule-below t, signal-rule.Post, part-below t, part.Post)
 
 abbrev par-parts-claims : ℕ → par-parts-lts.Claims
 par-parts-claims t = (below-reads.Asked, below-reads.Learnt, side-below t, side.Post, from-reads.Asked, from-reads.Learnt, in-parallel-reads.Asked, in-parallel-reads.Learnt)
@@ -210,7 +193,7 @@ abbrev side-claims : ℕ → side-lts.Claims
 side-claims t = (is-empty-reads.Asked, is-empty-reads.Learnt, nothing-reads.Asked, nothing-reads.Learnt, part-below t, part.Post)
 
 abbrev signal-rule-claims : ℕ → signal-rule-lts.Claims
-signal-rule-claims t = (declared-below t, declared.Post)
+signal-rule-claims t = (without-reads.Asked, without-reads.Learnt, with-reads.Asked, with-reads.Learnt, body-below t, body.Post, asks-reads.Asked, asks-reads.Learnt, in-signal-reads.Asked, in-signal-reads.Learnt, in-signal-once-reads.Asked, in-signal-once-reads.Learnt)
 
 abbrev suspend-part-claims : ℕ → suspend-part-lts.Claims
 suspend-part-claims t = (member-reads.Asked, member-reads.Learnt, of-part-reads.Asked, of-part-reads.Learnt, stopped-reads.Asked, stopped-reads.Learnt, single-reads.Asked, single-reads.Learnt, part-below t, part.Post, in-held-reads.Asked, in-held-reads.Learnt)
@@ -218,59 +201,19 @@ suspend-part-claims t = (member-reads.Asked, member-reads.Learnt, of-part-reads.
 body-shared-slice-read-if1 : (t : ℕ) → body-lts.Need-shared-slice-read-if1 (body-claims t) (body-at t) body.Post
 body-shared-slice-read-if1 t c = front-there (c .before .before .args .n) (c .before .before .args .s .now) (c .before .before .pre .1 .1)
 
-body-declared-requires : (t : ℕ) → body-lts.Need-declared-requires (body-claims t) (body-at t) body.Post
-body-declared-requires t c κs =
+body-signal-rule-requires : (t : ℕ) → body-lts.Need-signal-rule-requires (body-claims t) (body-at t) body.Post
+body-signal-rule-requires t c κs =
     let d = c .before .before .before .before in
     (search needs, (d .pre .1 .1, front-is (d .args .n) (d .args .s .now) (c .before .if1 .taken)))
 
 body-returns : (t : ℕ) → body-lts.Need-returns (body-claims t) (body-at t) body.Post
-body-returns t c base p l = c .declared .ensures base p l
+body-returns t c base p l = c .signal-rule .ensures base p l
 
 body-part-requires : (t : ℕ) → body-lts.Need-part-requires (body-claims t) (body-at t) body.Post
 body-part-requires t c κs = (search needs, (c .before .before .before .pre .1 .0, c .before .before .before .pre .1 .1))
 
 body-returns-2 : (t : ℕ) → body-lts.Need-returns-2 (body-claims t) (body-at t) body.Post
 body-returns-2 t c base p l = c .part .ensures base p l
-
-declared-shared-slice-read-x : (t : ℕ) → declared-lts.Need-shared-slice-read-x (declared-claims t) (declared-at t) declared.Post
-declared-shared-slice-read-x t c = begins (c .before .before .pre .1 .0) Command.signal (c .before .before .pre .1 .1) .there
-
-declared-body-requires : (t : ℕ) → declared-lts.Need-body-requires (declared-claims t) (declared-at t) declared.Post
-declared-body-requires t c κs =
-    let f = c .before .before .before .before .pre .1 in
-    let y = begins (f .0) Command.signal (f .1) in
-    (search needs, (y .there, ready _ (y .parts .0) (f .0 .long) (y .parts .1 .1)))
-
-declared-body-requires-2 : (t : ℕ) → declared-lts.Need-body-requires-2 (declared-claims t) (declared-at t) declared.Post
-declared-body-requires-2 t c κs =
-    let f = c .before .before .before .before .before .before .before .pre .1 in
-    let y = begins (f .0) Command.signal (f .1) in
-    (search needs, (y .there, ready _ (y .parts .0) (f .0 .long) (y .parts .1 .1)))
-
-declared-cast-in-signal : (t : ℕ) → declared-lts.Need-cast-in-signal (declared-claims t) (declared-at t) declared.Post
-declared-cast-in-signal t c =
-    let f = c .before .before .before .before .before .before .before .before .pre .1 .0 in
-    omega (arith, f .long, f .fits, f .bytes)
-
-declared-returns : (t : ℕ) → declared-lts.Need-returns (declared-claims t) (declared-at t) declared.Post
-declared-returns t c base p l =
-    let f = c .before .before .before .before .before .before .before .before .before .pre .1 in
-    let d = c .before .before .before .before in
-    let y = taken-apart (f .0) base p l Command.signal (f .1) in
-    let q = y .parts .0 in
-    here _ base _ _ (signal local _ _ q) p (y .parts .1 .0)
-    (signal-step _ base _ _ q _ _ (ltb-true _ _ (y .ranged)) (d .before .before .without .ensures) (d .body .ensures base q (y .parts .1 .1))
-    (d .before .with .ensures) (c .before .body2 .ensures base q (y .parts .1 .1)) (c .in-signal .ensures))
-
-declared-returns-2 : (t : ℕ) → declared-lts.Need-returns-2 (declared-claims t) (declared-at t) declared.Post
-declared-returns-2 t c base p l =
-    let f = c .before .before .before .before .before .before .before .before .pre .1 in
-    let d = c .before .before .before in
-    let y = taken-apart (f .0) base p l Command.signal (f .1) in
-    let q = y .parts .0 in
-    here _ base _ _ (signal local _ _ q) p (y .parts .1 .0)
-    (signal-once-step _ base _ _ q _ _ (ltb-true _ _ (y .ranged)) (d .before .before .without .ensures) (d .body .ensures base q (y .parts .1 .1))
-    (sym (c .before .before .asks .ensures) ∙ c .before .if1 .left) (c .in-signal-once .ensures _))
 
 par-parts-element-copy-out-entry : (t : ℕ) → par-parts-lts.Need-element-copy-out-entry (par-parts-claims t) (par-parts-at t) par-parts.Post
 par-parts-element-copy-out-entry t c = omega (arith, c .before .pre .1 .0 .long, c .before .pre .1 .0 .fits, c .before .pre .1 .0 .bytes)
@@ -348,7 +291,9 @@ resume-present-parts-requires : (t : ℕ) → resume-lts.Need-present-parts-requ
 resume-present-parts-requires t c κs = (search needs, ((c .before .before .before .pre .1), c .match .keys4))
 
 resume-signal-rule-requires : (t : ℕ) → resume-lts.Need-signal-rule-requires (resume-claims t) (resume-at t) resume.Post
-resume-signal-rule-requires t c κs = (search needs, ((c .before .before .before .pre .1), c .match .keys5))
+resume-signal-rule-requires t c κs =
+    let d = c .before .before .before .before in
+    (search needs, (whole (d .pre .1), front-is 0 (d .args .s .now) (c .before .match .keys5)))
 
 resume-part-requires-2 : (t : ℕ) → resume-lts.Need-part-requires-2 (resume-claims t) (resume-at t) resume.Post
 resume-part-requires-2 t c κs =
@@ -374,7 +319,7 @@ resume-returns-4 : (t : ℕ) → resume-lts.Need-returns-4 (resume-claims t) (re
 resume-returns-4 t c base p l = c .present-parts .ensures base p l
 
 resume-returns-5 : (t : ℕ) → resume-lts.Need-returns-5 (resume-claims t) (resume-at t) resume.Post
-resume-returns-5 t c base p l = c .signal-rule .ensures base p l
+resume-returns-5 t c base p l = c .signal-rule .ensures base p (whole-lies _ _ _ _ _ p l)
 
 resume-returns-6 : (t : ℕ) → resume-lts.Need-returns-6 (resume-claims t) (resume-at t) resume.Post
 resume-returns-6 t c base p l =
@@ -426,13 +371,45 @@ side-part-requires t c κs = (search needs, (c .before .before .before .pre .1 .
 side-returns-2 : (t : ℕ) → side-lts.Need-returns-2 (side-claims t) (side-at t) side.Post
 side-returns-2 t c base p l = side-active _ base _ _ p (sym (c .before .before .is-empty .ensures) ∙ c .before .if1 .left) (c .part .ensures base p l)
 
-signal-rule-declared-requires : (t : ℕ) → signal-rule-lts.Need-declared-requires (signal-rule-claims t) (signal-rule-at t) signal-rule.Post
-signal-rule-declared-requires t c κs =
-    let d = c .before .before in
-    (search needs, (whole (d .pre .1 .0), front-is 0 (d .args .s .now) (d .pre .1 .1)))
+signal-rule-shared-slice-read-x : (t : ℕ) → signal-rule-lts.Need-shared-slice-read-x (signal-rule-claims t) (signal-rule-at t) signal-rule.Post
+signal-rule-shared-slice-read-x t c = begins (c .before .before .pre .1 .0) Command.signal (c .before .before .pre .1 .1) .there
+
+signal-rule-body-requires : (t : ℕ) → signal-rule-lts.Need-body-requires (signal-rule-claims t) (signal-rule-at t) signal-rule.Post
+signal-rule-body-requires t c κs =
+    let f = c .before .before .before .before .pre .1 in
+    let y = begins (f .0) Command.signal (f .1) in
+    (search needs, (y .there, ready _ (y .parts .0) (f .0 .long) (y .parts .1 .1)))
+
+signal-rule-body-requires-2 : (t : ℕ) → signal-rule-lts.Need-body-requires-2 (signal-rule-claims t) (signal-rule-at t) signal-rule.Post
+signal-rule-body-requires-2 t c κs =
+    let f = c .before .before .before .before .before .before .before .pre .1 in
+    let y = begins (f .0) Command.signal (f .1) in
+    (search needs, (y .there, ready _ (y .parts .0) (f .0 .long) (y .parts .1 .1)))
+
+signal-rule-cast-in-signal : (t : ℕ) → signal-rule-lts.Need-cast-in-signal (signal-rule-claims t) (signal-rule-at t) signal-rule.Post
+signal-rule-cast-in-signal t c =
+    let f = c .before .before .before .before .before .before .before .before .pre .1 .0 in
+    omega (arith, f .long, f .fits, f .bytes)
 
 signal-rule-returns : (t : ℕ) → signal-rule-lts.Need-returns (signal-rule-claims t) (signal-rule-at t) signal-rule.Post
-signal-rule-returns t c base p l = c .declared .ensures base p (whole-lies _ _ _ _ _ p l)
+signal-rule-returns t c base p l =
+    let f = c .before .before .before .before .before .before .before .before .before .pre .1 in
+    let d = c .before .before .before .before in
+    let y = taken-apart (f .0) base p l Command.signal (f .1) in
+    let q = y .parts .0 in
+    here _ base _ _ (signal local _ _ q) p (y .parts .1 .0)
+    (signal-step _ base _ _ q _ _ (ltb-true _ _ (y .ranged)) (d .before .before .without .ensures) (d .body .ensures base q (y .parts .1 .1))
+    (d .before .with .ensures) (c .before .body2 .ensures base q (y .parts .1 .1)) (c .in-signal .ensures))
+
+signal-rule-returns-2 : (t : ℕ) → signal-rule-lts.Need-returns-2 (signal-rule-claims t) (signal-rule-at t) signal-rule.Post
+signal-rule-returns-2 t c base p l =
+    let f = c .before .before .before .before .before .before .before .before .pre .1 in
+    let d = c .before .before .before in
+    let y = taken-apart (f .0) base p l Command.signal (f .1) in
+    let q = y .parts .0 in
+    here _ base _ _ (signal local _ _ q) p (y .parts .1 .0)
+    (signal-once-step _ base _ _ q _ _ (ltb-true _ _ (y .ranged)) (d .before .before .without .ensures) (d .body .ensures base q (y .parts .1 .1))
+    (sym (c .before .before .asks .ensures) ∙ c .before .if1 .left) (c .in-signal-once .ensures _))
 
 suspend-part-shared-slice-read-x : (t : ℕ) → suspend-part-lts.Need-shared-slice-read-x (suspend-part-claims t) (suspend-part-at t) suspend-part.Post
 suspend-part-shared-slice-read-x t c = begins (c .before .before .pre .1 .0) Command.suspend (c .before .before .pre .1 .1) .there
@@ -469,12 +446,11 @@ suspend-part-returns-2 t c base p l =
     (suspend-resumed _ base _ _ _ q (sym (d .member .ensures) ∙ c .before .before .before .if1 .left)
     (c .before .part .ensures base q (y .parts .1 .1)) (c .in-held .ensures _ (single-is _ (ltb-true _ _ (y .ranged)) (c .before .before .single .ensures))))
 
-pub +body+declared+par-parts+part+present-parts+resume+seq-parts+side+signal-rule+suspend-part-spec :
+pub +body+par-parts+part+present-parts+resume+seq-parts+side+signal-rule+suspend-part-spec :
     {M : Type 1} → statement M
-+body+declared+par-parts+part+present-parts+resume+seq-parts+side+signal-rule+suspend-part-spec =
++body+par-parts+part+present-parts+resume+seq-parts+side+signal-rule+suspend-part-spec =
     close
     μ-body
-    μ-declared
     μ-par-parts
     μ-part
     μ-present-parts
@@ -487,21 +463,10 @@ pub +body+declared+par-parts+part+present-parts+resume+seq-parts+side+signal-rul
     body.Post
     (body-shared-slice-read-if1 t)
     (λ c. search needs) (λ c. search needs) (λ c. search needs)
-    (body-declared-requires t)
+    (body-signal-rule-requires t)
     (body-returns t)
     (body-part-requires t)
     (body-returns-2 t))
-    (λ t. declared-lts.spec (declared-claims t) (declared-at t)
-    declared.Post
-    (declared-shared-slice-read-x t)
-    (λ c κs. search needs) (λ c κs. search needs) (λ c. search needs) (λ c. search needs)
-    (declared-body-requires t)
-    (λ c κs. search needs) (λ c. search needs) (λ c. search needs)
-    (declared-body-requires-2 t)
-    (declared-cast-in-signal t)
-    (λ c κs. search needs) (λ c κs. search needs)
-    (declared-returns t)
-    (declared-returns-2 t))
     (λ t. par-parts-lts.spec (par-parts-claims t) (par-parts-at t)
     par-parts.Post
     (λ c. search needs)
@@ -543,6 +508,7 @@ pub +body+declared+par-parts+part+present-parts+resume+seq-parts+side+signal-rul
     (resume-part-requires t)
     (resume-after-requires t)
     (resume-present-parts-requires t)
+    (λ c. search needs) (λ c. search needs) (λ c. search needs)
     (resume-signal-rule-requires t)
     (λ c. search needs) (λ c. search needs)
     (resume-part-requires-2 t)
@@ -580,9 +546,15 @@ pub +body+declared+par-parts+part+present-parts+resume+seq-parts+side+signal-rul
     (side-returns-2 t))
     (λ t. signal-rule-lts.spec (signal-rule-claims t) (signal-rule-at t)
     signal-rule.Post
-    (λ c. search needs) (λ c. search needs) (λ c. search needs)
-    (signal-rule-declared-requires t)
-    (signal-rule-returns t))
+    (signal-rule-shared-slice-read-x t)
+    (λ c κs. search needs) (λ c κs. search needs) (λ c. search needs) (λ c. search needs)
+    (signal-rule-body-requires t)
+    (λ c κs. search needs) (λ c. search needs) (λ c. search needs)
+    (signal-rule-body-requires-2 t)
+    (signal-rule-cast-in-signal t)
+    (λ c κs. search needs) (λ c κs. search needs)
+    (signal-rule-returns t)
+    (signal-rule-returns-2 t))
     λ t. suspend-part-lts.spec (suspend-part-claims t) (suspend-part-at t)
     suspend-part.Post
     (suspend-part-shared-slice-read-x t)

@@ -26,31 +26,28 @@ use borrow.Fn.Kinds.{In}
 use borrow.Fn.PlainCycle.{Measures, is, falls, and}
 use Rattle.react.proofs.after.Reads as after
 use Rattle.react.proofs.after.Kinds as after-kinds
-use Rattle.react.proofs.+after+body+declared+par_parts+part+present_parts+react+seq_parts+signal_rule.Lts-after as after-lts
+use Rattle.react.proofs.+after+body+par_parts+part+present_parts+react+seq_parts+signal_rule.Lts-after as after-lts
 use Rattle.react.proofs.body.Reads as body
 use Rattle.react.proofs.body.Kinds as body-kinds
-use Rattle.react.proofs.+after+body+declared+par_parts+part+present_parts+react+seq_parts+signal_rule.Lts-body as body-lts
-use Rattle.react.proofs.declared.Reads as declared
-use Rattle.react.proofs.declared.Kinds as declared-kinds
-use Rattle.react.proofs.+after+body+declared+par_parts+part+present_parts+react+seq_parts+signal_rule.Lts-declared as declared-lts
+use Rattle.react.proofs.+after+body+par_parts+part+present_parts+react+seq_parts+signal_rule.Lts-body as body-lts
 use Rattle.react.proofs.par_parts.Reads as par-parts
 use Rattle.react.proofs.par_parts.Kinds as par-parts-kinds
-use Rattle.react.proofs.+after+body+declared+par_parts+part+present_parts+react+seq_parts+signal_rule.Lts-par_parts as par-parts-lts
+use Rattle.react.proofs.+after+body+par_parts+part+present_parts+react+seq_parts+signal_rule.Lts-par_parts as par-parts-lts
 use Rattle.react.proofs.part.Reads as part
 use Rattle.react.proofs.part.Kinds as part-kinds
-use Rattle.react.proofs.+after+body+declared+par_parts+part+present_parts+react+seq_parts+signal_rule.Lts-part as part-lts
+use Rattle.react.proofs.+after+body+par_parts+part+present_parts+react+seq_parts+signal_rule.Lts-part as part-lts
 use Rattle.react.proofs.present_parts.Reads as present-parts
 use Rattle.react.proofs.present_parts.Kinds as present-parts-kinds
-use Rattle.react.proofs.+after+body+declared+par_parts+part+present_parts+react+seq_parts+signal_rule.Lts-present_parts as present-parts-lts
+use Rattle.react.proofs.+after+body+par_parts+part+present_parts+react+seq_parts+signal_rule.Lts-present_parts as present-parts-lts
 use Rattle.react.proofs.react.Reads as react
 use Rattle.react.proofs.react.Kinds as react-kinds
-use Rattle.react.proofs.+after+body+declared+par_parts+part+present_parts+react+seq_parts+signal_rule.Lts-react as react-lts
+use Rattle.react.proofs.+after+body+par_parts+part+present_parts+react+seq_parts+signal_rule.Lts-react as react-lts
 use Rattle.react.proofs.seq_parts.Reads as seq-parts
 use Rattle.react.proofs.seq_parts.Kinds as seq-parts-kinds
-use Rattle.react.proofs.+after+body+declared+par_parts+part+present_parts+react+seq_parts+signal_rule.Lts-seq_parts as seq-parts-lts
+use Rattle.react.proofs.+after+body+par_parts+part+present_parts+react+seq_parts+signal_rule.Lts-seq_parts as seq-parts-lts
 use Rattle.react.proofs.signal_rule.Reads as signal-rule
 use Rattle.react.proofs.signal_rule.Kinds as signal-rule-kinds
-use Rattle.react.proofs.+after+body+declared+par_parts+part+present_parts+react+seq_parts+signal_rule.Lts-signal_rule as signal-rule-lts
+use Rattle.react.proofs.+after+body+par_parts+part+present_parts+react+seq_parts+signal_rule.Lts-signal_rule as signal-rule-lts
 use Rattle.reaction.proofs.nothing.Reads as nothing-reads
 use Rattle.rules_two.proofs.in_first.Reads as in-first-reads
 use Rattle.rules.proofs.in_present.Reads as in-present-reads
@@ -68,10 +65,10 @@ use Rattle.signals.proofs.member.Reads as member-reads
 use Rattle.reaction.proofs.asks.Reads as asks-reads
 use Rattle.signals.proofs.with.Reads as with-reads
 use Rattle.signals.proofs.without.Reads as without-reads
-use Rattle.react.proofs.+after+body+declared+par_parts+part+present_parts+react+seq_parts+signal_rule.{
+use Rattle.react.proofs.+after+body+par_parts+part+present_parts+react+seq_parts+signal_rule.{
   statement,
 }
-use Rattle.react.proofs.+after+body+declared+par_parts+part+present_parts+react+seq_parts+signal_rule.Tie.{
+use Rattle.react.proofs.+after+body+par_parts+part+present_parts+react+seq_parts+signal_rule.Tie.{
   close,
 }
 
@@ -80,9 +77,6 @@ abbrev μ-after : Measures 2 after-kinds.ps ℕ
 
 abbrev μ-body : Measures 2 body-kinds.ps ℕ
 μ-body κs a = 6 * (a .1 .1 .1 .0) + 2
-
-abbrev μ-declared : Measures 2 declared-kinds.ps ℕ
-μ-declared κs a = 6 * (a .1 .1 .0) - 2
 
 abbrev μ-par-parts : Measures 2 par-parts-kinds.ps ℕ
 μ-par-parts κs a = 6 * (a .1 .1 .0) - 1
@@ -100,7 +94,7 @@ abbrev μ-seq-parts : Measures 2 seq-parts-kinds.ps ℕ
 μ-seq-parts κs a = 6 * (a .1 .1 .0) - 1
 
 abbrev μ-signal-rule : Measures 2 signal-rule-kinds.ps ℕ
-μ-signal-rule κs a = 6 * (a .1 .1 .0) - 1
+μ-signal-rule κs a = 6 * (a .1 .1 .0) - 2
 
 abbrev after-at : ℕ → In 2 after-kinds.ps
 after-at t = and 2 after-kinds.ps (is 2 after-kinds.ps μ-after t) after.Pre
@@ -113,12 +107,6 @@ body-at t = and 2 body-kinds.ps (is 2 body-kinds.ps μ-body t) body.Pre
 
 abbrev body-below : ℕ → In 2 body-kinds.ps
 body-below t = and 2 body-kinds.ps (falls 2 body-kinds.ps _<_ μ-body t) body.Pre
-
-abbrev declared-at : ℕ → In 2 declared-kinds.ps
-declared-at t = and 2 declared-kinds.ps (is 2 declared-kinds.ps μ-declared t) declared.Pre
-
-abbrev declared-below : ℕ → In 2 declared-kinds.ps
-declared-below t = and 2 declared-kinds.ps (falls 2 declared-kinds.ps _<_ μ-declared t) declared.Pre
 
 abbrev par-parts-at : ℕ → In 2 par-parts-kinds.ps
 par-parts-at t = and 2 par-parts-kinds.ps (is 2 par-parts-kinds.ps μ-par-parts t) par-parts.Pre
@@ -159,21 +147,16 @@ seq-parts-below t =
     and 2 seq-parts-kinds.ps (falls 2 seq-parts-kinds.ps _<_ μ-seq-parts t) seq-parts.Pre
 
 abbrev signal-rule-at : ℕ → In 2 signal-rule-kinds.ps
-signal-rule-at t =
-    and 2 signal-rule-kinds.ps (is 2 signal-rule-kinds.ps μ-signal-rule t) signal-rule.Pre
+signal-rule-at t = and 2 signal-rule-kinds.ps (is 2 signal-rule-kinds.ps μ-signal-rule t) signal-rule.Pre
 
 abbrev signal-rule-below : ℕ → In 2 signal-rule-kinds.ps
-signal-rule-below t =
-    and 2 signal-rule-kinds.ps (falls 2 signal-rule-kinds.ps _<_ μ-signal-rule t) signal-rule.Pre
+signal-rule-below t = and 2 signal-rule-kinds.ps (falls 2 signal-rule-kinds.ps _<_ μ-signal-rule t) signal-rule.Pre
 
 abbrev after-claims : ℕ → after-lts.Claims
 after-claims t = (is-ended-reads.Asked, is-ended-reads.Learnt, part-below t, part.Post, in-sequence-reads.Asked, in-sequence-reads.Learnt, in-first-reads.Asked, in-first-reads.Learnt)
 
 abbrev body-claims : ℕ → body-lts.Claims
-body-claims t = (declared-below t, declared.Post, part-below t, part.Post)
-
-abbrev declared-claims : ℕ → declared-lts.Claims
-declared-claims t = (without-reads.Asked, without-reads.Learnt, with-reads.Asked, with-reads.Learnt, body-below t, body.Post, asks-reads.Asked, asks-reads.Learnt, in-signal-reads.Asked, in-signal-reads.Learnt, in-signal-once-reads.Asked, in-signal-once-reads.Learnt)
+body-claims t = (signal-rule-below t, signal-rule.Post, part-below t, part.Post)
 
 abbrev par-parts-claims : ℕ → par-parts-lts.Claims
 par-parts-claims t = (part-below t, part.Post, in-parallel-reads.Asked, in-parallel-reads.Learnt)
@@ -191,7 +174,7 @@ abbrev seq-parts-claims : ℕ → seq-parts-lts.Claims
 seq-parts-claims t = (part-below t, part.Post, after-below t, after.Post)
 
 abbrev signal-rule-claims : ℕ → signal-rule-lts.Claims
-signal-rule-claims t = (declared-below t, declared.Post)
+signal-rule-claims t = (without-reads.Asked, without-reads.Learnt, with-reads.Asked, with-reads.Learnt, body-below t, body.Post, asks-reads.Asked, asks-reads.Learnt, in-signal-reads.Asked, in-signal-reads.Learnt, in-signal-once-reads.Asked, in-signal-once-reads.Learnt)
 
 after-part-requires : (t : ℕ) → after-lts.Need-part-requires (after-claims t) (after-at t) after.Post
 after-part-requires t c κs = (search needs, (c .before .before .before .pre .1 .0, c .before .before .before .pre .1 .1))
@@ -205,59 +188,19 @@ after-returns-2 t c base u i l h = c .in-first .ensures u (startTraced _ u _) (s
 body-shared-slice-read-if1 : (t : ℕ) → body-lts.Need-shared-slice-read-if1 (body-claims t) (body-at t) body.Post
 body-shared-slice-read-if1 t c = front-there (c .before .before .args .n) (c .before .before .args .s .now) (c .before .before .pre .1 .1)
 
-body-declared-requires : (t : ℕ) → body-lts.Need-declared-requires (body-claims t) (body-at t) body.Post
-body-declared-requires t c κs =
+body-signal-rule-requires : (t : ℕ) → body-lts.Need-signal-rule-requires (body-claims t) (body-at t) body.Post
+body-signal-rule-requires t c κs =
     let d = c .before .before .before .before in
     (search needs, (d .pre .1 .1, front-is (d .args .n) (d .args .s .now) (c .before .if1 .taken)))
 
 body-returns : (t : ℕ) → body-lts.Need-returns (body-claims t) (body-at t) body.Post
-body-returns t c base p l = c .declared .ensures base p l
+body-returns t c base p l = c .signal-rule .ensures base p l
 
 body-part-requires : (t : ℕ) → body-lts.Need-part-requires (body-claims t) (body-at t) body.Post
 body-part-requires t c κs = (search needs, (c .before .before .before .pre .1 .0, c .before .before .before .pre .1 .1))
 
 body-returns-2 : (t : ℕ) → body-lts.Need-returns-2 (body-claims t) (body-at t) body.Post
 body-returns-2 t c base p l = c .part .ensures base p l
-
-declared-shared-slice-read-x : (t : ℕ) → declared-lts.Need-shared-slice-read-x (declared-claims t) (declared-at t) declared.Post
-declared-shared-slice-read-x t c = begins (c .before .before .pre .1 .0) Command.signal (c .before .before .pre .1 .1) .there
-
-declared-body-requires : (t : ℕ) → declared-lts.Need-body-requires (declared-claims t) (declared-at t) declared.Post
-declared-body-requires t c κs =
-    let f = c .before .before .before .before .pre .1 in
-    let y = begins (f .0) Command.signal (f .1) in
-    (search needs, (y .there, ready _ (y .parts .0) (f .0 .long) (y .parts .1 .1)))
-
-declared-body-requires-2 : (t : ℕ) → declared-lts.Need-body-requires-2 (declared-claims t) (declared-at t) declared.Post
-declared-body-requires-2 t c κs =
-    let f = c .before .before .before .before .before .before .before .pre .1 in
-    let y = begins (f .0) Command.signal (f .1) in
-    (search needs, (y .there, ready _ (y .parts .0) (f .0 .long) (y .parts .1 .1)))
-
-declared-cast-in-signal : (t : ℕ) → declared-lts.Need-cast-in-signal (declared-claims t) (declared-at t) declared.Post
-declared-cast-in-signal t c =
-    let f = c .before .before .before .before .before .before .before .before .pre .1 .0 in
-    omega (arith, f .long, f .fits, f .bytes)
-
-declared-returns : (t : ℕ) → declared-lts.Need-returns (declared-claims t) (declared-at t) declared.Post
-declared-returns t c base p l =
-    let f = c .before .before .before .before .before .before .before .before .before .pre .1 in
-    let d = c .before .before .before .before in
-    let y = taken-apart (f .0) base p l Command.signal (f .1) in
-    let q = y .parts .0 in
-    here _ (signal local _ _ q) p _ (y .parts .1 .0)
-    (signal-step _ _ local _ _ q (ltb-true _ _ (y .ranged)) (d .before .before .without .ensures) (d .body .ensures base q (y .parts .1 .1))
-    (d .before .with .ensures) (c .before .body2 .ensures base q (y .parts .1 .1)) (c .in-signal .ensures))
-
-declared-returns-2 : (t : ℕ) → declared-lts.Need-returns-2 (declared-claims t) (declared-at t) declared.Post
-declared-returns-2 t c base p l =
-    let f = c .before .before .before .before .before .before .before .before .pre .1 in
-    let d = c .before .before .before in
-    let y = taken-apart (f .0) base p l Command.signal (f .1) in
-    let q = y .parts .0 in
-    here _ (signal local _ _ q) p _ (y .parts .1 .0)
-    (signal-once-step _ _ local _ _ q (ltb-true _ _ (y .ranged)) (d .before .before .without .ensures) (d .body .ensures base q (y .parts .1 .1))
-    (sym (c .before .before .asks .ensures) ∙ c .before .if1 .left) (c .in-signal-once .ensures _))
 
 par-parts-element-copy-out-m : (t : ℕ) → par-parts-lts.Need-element-copy-out-m (par-parts-claims t) (par-parts-at t) par-parts.Post
 par-parts-element-copy-out-m t c = omega (arith, c .before .pre .1 .0 .long, c .before .pre .1 .0 .fits, c .before .pre .1 .0 .bytes)
@@ -353,7 +296,9 @@ react-present-parts-requires : (t : ℕ) → react-lts.Need-present-parts-requir
 react-present-parts-requires t c κs = (search needs, ((c .before .before .before .pre .1), c .match .keys4))
 
 react-signal-rule-requires : (t : ℕ) → react-lts.Need-signal-rule-requires (react-claims t) (react-at t) react.Post
-react-signal-rule-requires t c κs = (search needs, ((c .before .before .before .pre .1), c .match .keys5))
+react-signal-rule-requires t c κs =
+    let d = c .before .before .before .before in
+    (search needs, (whole (d .pre .1), front-is 0 (d .args .s .now) (c .before .match .keys5)))
 
 react-part-requires-2 : (t : ℕ) → react-lts.Need-part-requires-2 (react-claims t) (react-at t) react.Post
 react-part-requires-2 t c κs =
@@ -385,7 +330,7 @@ react-returns-4 : (t : ℕ) → react-lts.Need-returns-4 (react-claims t) (react
 react-returns-4 t c base p l = c .present-parts .ensures base p l
 
 react-returns-5 : (t : ℕ) → react-lts.Need-returns-5 (react-claims t) (react-at t) react.Post
-react-returns-5 t c base p l = c .signal-rule .ensures base p l
+react-returns-5 t c base p l = c .signal-rule .ensures base p (whole-lies _ _ _ _ _ p l)
 
 react-returns-6 : (t : ℕ) → react-lts.Need-returns-6 (react-claims t) (react-at t) react.Post
 react-returns-6 t c base p l =
@@ -418,21 +363,52 @@ seq-parts-returns t c base p l =
     here _ (seq (y .0) (y .1)) p _ (y .2 .0)
     (seq-step _ _ (y .0) (y .1) (c .before .part .ensures base (y .0) (y .2 .1 .first)) (λ i h. c .after .ensures _ (y .1) i (y .2 .1 .second) h))
 
-signal-rule-declared-requires : (t : ℕ) → signal-rule-lts.Need-declared-requires (signal-rule-claims t) (signal-rule-at t) signal-rule.Post
-signal-rule-declared-requires t c κs =
-    let d = c .before .before in
-    (search needs, (whole (d .pre .1 .0), front-is 0 (d .args .s .now) (d .pre .1 .1)))
+signal-rule-shared-slice-read-x : (t : ℕ) → signal-rule-lts.Need-shared-slice-read-x (signal-rule-claims t) (signal-rule-at t) signal-rule.Post
+signal-rule-shared-slice-read-x t c = begins (c .before .before .pre .1 .0) Command.signal (c .before .before .pre .1 .1) .there
+
+signal-rule-body-requires : (t : ℕ) → signal-rule-lts.Need-body-requires (signal-rule-claims t) (signal-rule-at t) signal-rule.Post
+signal-rule-body-requires t c κs =
+    let f = c .before .before .before .before .pre .1 in
+    let y = begins (f .0) Command.signal (f .1) in
+    (search needs, (y .there, ready _ (y .parts .0) (f .0 .long) (y .parts .1 .1)))
+
+signal-rule-body-requires-2 : (t : ℕ) → signal-rule-lts.Need-body-requires-2 (signal-rule-claims t) (signal-rule-at t) signal-rule.Post
+signal-rule-body-requires-2 t c κs =
+    let f = c .before .before .before .before .before .before .before .pre .1 in
+    let y = begins (f .0) Command.signal (f .1) in
+    (search needs, (y .there, ready _ (y .parts .0) (f .0 .long) (y .parts .1 .1)))
+
+signal-rule-cast-in-signal : (t : ℕ) → signal-rule-lts.Need-cast-in-signal (signal-rule-claims t) (signal-rule-at t) signal-rule.Post
+signal-rule-cast-in-signal t c =
+    let f = c .before .before .before .before .before .before .before .before .pre .1 .0 in
+    omega (arith, f .long, f .fits, f .bytes)
 
 signal-rule-returns : (t : ℕ) → signal-rule-lts.Need-returns (signal-rule-claims t) (signal-rule-at t) signal-rule.Post
-signal-rule-returns t c base p l = c .declared .ensures base p (whole-lies _ _ _ _ _ p l)
+signal-rule-returns t c base p l =
+    let f = c .before .before .before .before .before .before .before .before .before .pre .1 in
+    let d = c .before .before .before .before in
+    let y = taken-apart (f .0) base p l Command.signal (f .1) in
+    let q = y .parts .0 in
+    here _ (signal local _ _ q) p _ (y .parts .1 .0)
+    (signal-step _ _ local _ _ q (ltb-true _ _ (y .ranged)) (d .before .before .without .ensures) (d .body .ensures base q (y .parts .1 .1))
+    (d .before .with .ensures) (c .before .body2 .ensures base q (y .parts .1 .1)) (c .in-signal .ensures))
 
-pub +after+body+declared+par-parts+part+present-parts+react+seq-parts+signal-rule-spec :
+signal-rule-returns-2 : (t : ℕ) → signal-rule-lts.Need-returns-2 (signal-rule-claims t) (signal-rule-at t) signal-rule.Post
+signal-rule-returns-2 t c base p l =
+    let f = c .before .before .before .before .before .before .before .before .pre .1 in
+    let d = c .before .before .before in
+    let y = taken-apart (f .0) base p l Command.signal (f .1) in
+    let q = y .parts .0 in
+    here _ (signal local _ _ q) p _ (y .parts .1 .0)
+    (signal-once-step _ _ local _ _ q (ltb-true _ _ (y .ranged)) (d .before .before .without .ensures) (d .body .ensures base q (y .parts .1 .1))
+    (sym (c .before .before .asks .ensures) ∙ c .before .if1 .left) (c .in-signal-once .ensures _))
+
+pub +after+body+par-parts+part+present-parts+react+seq-parts+signal-rule-spec :
     {M : Type 1} → statement M
-+after+body+declared+par-parts+part+present-parts+react+seq-parts+signal-rule-spec =
++after+body+par-parts+part+present-parts+react+seq-parts+signal-rule-spec =
     close
     μ-after
     μ-body
-    μ-declared
     μ-par-parts
     μ-part
     μ-present-parts
@@ -450,21 +426,10 @@ pub +after+body+declared+par-parts+part+present-parts+react+seq-parts+signal-rul
     body.Post
     (body-shared-slice-read-if1 t)
     (λ c. search needs) (λ c. search needs) (λ c. search needs)
-    (body-declared-requires t)
+    (body-signal-rule-requires t)
     (body-returns t)
     (body-part-requires t)
     (body-returns-2 t))
-    (λ t. declared-lts.spec (declared-claims t) (declared-at t)
-    declared.Post
-    (declared-shared-slice-read-x t)
-    (λ c κs. search needs) (λ c κs. search needs) (λ c. search needs) (λ c. search needs)
-    (declared-body-requires t)
-    (λ c κs. search needs) (λ c. search needs) (λ c. search needs)
-    (declared-body-requires-2 t)
-    (declared-cast-in-signal t)
-    (λ c κs. search needs) (λ c κs. search needs)
-    (declared-returns t)
-    (declared-returns-2 t))
     (λ t. par-parts-lts.spec (par-parts-claims t) (par-parts-at t)
     par-parts.Post
     (λ c. search needs)
@@ -507,6 +472,7 @@ pub +after+body+declared+par-parts+part+present-parts+react+seq-parts+signal-rul
     (react-part-requires t)
     (λ c κs. search needs)
     (react-present-parts-requires t)
+    (λ c. search needs) (λ c. search needs) (λ c. search needs)
     (react-signal-rule-requires t)
     (λ c. search needs) (λ c. search needs)
     (react-part-requires-2 t)
@@ -535,6 +501,12 @@ pub +after+body+declared+par-parts+part+present-parts+react+seq-parts+signal-rul
     (seq-parts-returns t))
     λ t. signal-rule-lts.spec (signal-rule-claims t) (signal-rule-at t)
     signal-rule.Post
-    (λ c. search needs) (λ c. search needs) (λ c. search needs)
-    (signal-rule-declared-requires t)
+    (signal-rule-shared-slice-read-x t)
+    (λ c κs. search needs) (λ c κs. search needs) (λ c. search needs) (λ c. search needs)
+    (signal-rule-body-requires t)
+    (λ c κs. search needs) (λ c. search needs) (λ c. search needs)
+    (signal-rule-body-requires-2 t)
+    (signal-rule-cast-in-signal t)
+    (λ c κs. search needs) (λ c κs. search needs)
     (signal-rule-returns t)
+    (signal-rule-returns-2 t)
