@@ -83,7 +83,7 @@ differs-after-the-end sequence readBack recording c m i r h over right more =
     )
     ∙ ap (replayed 0) e
 
--- BY PAPER: without setpause, each record of an accepted recording shows what rewriting reports on its input
+-- BY PAPER: without setpause, each record of an accepted recording shows what rewriting reports on its input; labels are not compared
 pub by-paper : ByPaper replayOf
 by-paper sequence readBack recording h p s plain =
     let a = accepts sequence readBack recording .0 h in
