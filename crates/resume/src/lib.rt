@@ -33,7 +33,7 @@ pub fn resume(
             react::after(p, s, 0, at, depth, input, farm, second)
         }
         limits::PRESENT => present_parts(s, at, depth, input, farm, active, second),
-        limits::SIGNAL => signal_rule(&s[0..], at, depth, input, farm, active, second),
+        limits::SIGNAL => declaration(s, at, depth, input, farm, active, second),
         limits::TRY => rules::in_try(part(s, 1, at + 1, depth - 1, input, farm, active, second)),
         limits::SUSPEND => suspend_part(s, at, depth, input, farm, active, second),
         _ => reaction::nothing(),
@@ -149,6 +149,22 @@ fn present_parts(
         return part(s, m - at, m, depth - 1, input, farm, others, second);
     }
     part(s, 2, at + 2, depth - 1, input, farm, first, second)
+}
+
+// A declaration, as in `react`.
+fn declaration(
+    s: &[u8],
+    at: usize,
+    depth: u8,
+    input: u32,
+    farm: u8,
+    active: Labels,
+    second: &SecondParts,
+) -> Reaction
+    requires { ⌜ Ready (now second) depth at (now s) × (getD (now s) 0 0 ≡ 8) ⌝ }
+    ensures { λ r. ⌜ Resumed (now (second .entry)) depth at (now (s .entry)) (labelSet active) input farm r ⌝ }
+{
+    signal_rule(&s[0..], at, depth, input, farm, active, second)
 }
 
 // The signal rule: the body resumes without the signal, and with it where that run asked for the signal; else the second run would repeat the first.

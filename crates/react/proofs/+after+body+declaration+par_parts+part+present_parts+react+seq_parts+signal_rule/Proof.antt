@@ -26,28 +26,31 @@ use borrow.Fn.Kinds.{In}
 use borrow.Fn.PlainCycle.{Measures, is, falls, and}
 use Rattle.react.proofs.after.Reads as after
 use Rattle.react.proofs.after.Kinds as after-kinds
-use Rattle.react.proofs.+after+body+par_parts+part+present_parts+react+seq_parts+signal_rule.Lts-after as after-lts
+use Rattle.react.proofs.+after+body+declaration+par_parts+part+present_parts+react+seq_parts+signal_rule.Lts-after as after-lts
 use Rattle.react.proofs.body.Reads as body
 use Rattle.react.proofs.body.Kinds as body-kinds
-use Rattle.react.proofs.+after+body+par_parts+part+present_parts+react+seq_parts+signal_rule.Lts-body as body-lts
+use Rattle.react.proofs.+after+body+declaration+par_parts+part+present_parts+react+seq_parts+signal_rule.Lts-body as body-lts
+use Rattle.react.proofs.declaration.Reads as declaration
+use Rattle.react.proofs.declaration.Kinds as declaration-kinds
+use Rattle.react.proofs.+after+body+declaration+par_parts+part+present_parts+react+seq_parts+signal_rule.Lts-declaration as declaration-lts
 use Rattle.react.proofs.par_parts.Reads as par-parts
 use Rattle.react.proofs.par_parts.Kinds as par-parts-kinds
-use Rattle.react.proofs.+after+body+par_parts+part+present_parts+react+seq_parts+signal_rule.Lts-par_parts as par-parts-lts
+use Rattle.react.proofs.+after+body+declaration+par_parts+part+present_parts+react+seq_parts+signal_rule.Lts-par_parts as par-parts-lts
 use Rattle.react.proofs.part.Reads as part
 use Rattle.react.proofs.part.Kinds as part-kinds
-use Rattle.react.proofs.+after+body+par_parts+part+present_parts+react+seq_parts+signal_rule.Lts-part as part-lts
+use Rattle.react.proofs.+after+body+declaration+par_parts+part+present_parts+react+seq_parts+signal_rule.Lts-part as part-lts
 use Rattle.react.proofs.present_parts.Reads as present-parts
 use Rattle.react.proofs.present_parts.Kinds as present-parts-kinds
-use Rattle.react.proofs.+after+body+par_parts+part+present_parts+react+seq_parts+signal_rule.Lts-present_parts as present-parts-lts
+use Rattle.react.proofs.+after+body+declaration+par_parts+part+present_parts+react+seq_parts+signal_rule.Lts-present_parts as present-parts-lts
 use Rattle.react.proofs.react.Reads as react
 use Rattle.react.proofs.react.Kinds as react-kinds
-use Rattle.react.proofs.+after+body+par_parts+part+present_parts+react+seq_parts+signal_rule.Lts-react as react-lts
+use Rattle.react.proofs.+after+body+declaration+par_parts+part+present_parts+react+seq_parts+signal_rule.Lts-react as react-lts
 use Rattle.react.proofs.seq_parts.Reads as seq-parts
 use Rattle.react.proofs.seq_parts.Kinds as seq-parts-kinds
-use Rattle.react.proofs.+after+body+par_parts+part+present_parts+react+seq_parts+signal_rule.Lts-seq_parts as seq-parts-lts
+use Rattle.react.proofs.+after+body+declaration+par_parts+part+present_parts+react+seq_parts+signal_rule.Lts-seq_parts as seq-parts-lts
 use Rattle.react.proofs.signal_rule.Reads as signal-rule
 use Rattle.react.proofs.signal_rule.Kinds as signal-rule-kinds
-use Rattle.react.proofs.+after+body+par_parts+part+present_parts+react+seq_parts+signal_rule.Lts-signal_rule as signal-rule-lts
+use Rattle.react.proofs.+after+body+declaration+par_parts+part+present_parts+react+seq_parts+signal_rule.Lts-signal_rule as signal-rule-lts
 use Rattle.reaction.proofs.nothing.Reads as nothing-reads
 use Rattle.rules_two.proofs.in_first.Reads as in-first-reads
 use Rattle.rules.proofs.in_present.Reads as in-present-reads
@@ -65,10 +68,10 @@ use Rattle.signals.proofs.member.Reads as member-reads
 use Rattle.reaction.proofs.asks.Reads as asks-reads
 use Rattle.signals.proofs.with.Reads as with-reads
 use Rattle.signals.proofs.without.Reads as without-reads
-use Rattle.react.proofs.+after+body+par_parts+part+present_parts+react+seq_parts+signal_rule.{
+use Rattle.react.proofs.+after+body+declaration+par_parts+part+present_parts+react+seq_parts+signal_rule.{
   statement,
 }
-use Rattle.react.proofs.+after+body+par_parts+part+present_parts+react+seq_parts+signal_rule.Tie.{
+use Rattle.react.proofs.+after+body+declaration+par_parts+part+present_parts+react+seq_parts+signal_rule.Tie.{
   close,
 }
 
@@ -77,6 +80,9 @@ abbrev μ-after : Measures 2 after-kinds.ps ℕ
 
 abbrev μ-body : Measures 2 body-kinds.ps ℕ
 μ-body κs a = 6 * (a .1 .1 .1 .0) + 2
+
+abbrev μ-declaration : Measures 2 declaration-kinds.ps ℕ
+μ-declaration κs a = 6 * (a .1 .1 .0) - 1
 
 abbrev μ-par-parts : Measures 2 par-parts-kinds.ps ℕ
 μ-par-parts κs a = 6 * (a .1 .1 .0) - 1
@@ -107,6 +113,14 @@ body-at t = and 2 body-kinds.ps (is 2 body-kinds.ps μ-body t) body.Pre
 
 abbrev body-below : ℕ → In 2 body-kinds.ps
 body-below t = and 2 body-kinds.ps (falls 2 body-kinds.ps _<_ μ-body t) body.Pre
+
+abbrev declaration-at : ℕ → In 2 declaration-kinds.ps
+declaration-at t =
+    and 2 declaration-kinds.ps (is 2 declaration-kinds.ps μ-declaration t) declaration.Pre
+
+abbrev declaration-below : ℕ → In 2 declaration-kinds.ps
+declaration-below t =
+    and 2 declaration-kinds.ps (falls 2 declaration-kinds.ps _<_ μ-declaration t) declaration.Pre
 
 abbrev par-parts-at : ℕ → In 2 par-parts-kinds.ps
 par-parts-at t = and 2 par-parts-kinds.ps (is 2 par-parts-kinds.ps μ-par-parts t) par-parts.Pre
@@ -158,6 +172,9 @@ after-claims t = (is-ended-reads.Asked, is-ended-reads.Learnt, part-below t, par
 abbrev body-claims : ℕ → body-lts.Claims
 body-claims t = (signal-rule-below t, signal-rule.Post, part-below t, part.Post)
 
+abbrev declaration-claims : ℕ → declaration-lts.Claims
+declaration-claims t = (signal-rule-below t, signal-rule.Post)
+
 abbrev par-parts-claims : ℕ → par-parts-lts.Claims
 par-parts-claims t = (part-below t, part.Post, in-parallel-reads.Asked, in-parallel-reads.Learnt)
 
@@ -168,7 +185,7 @@ abbrev present-parts-claims : ℕ → present-parts-lts.Claims
 present-parts-claims t = (member-reads.Asked, member-reads.Learnt, part-below t, part.Post, in-present-reads.Asked, in-present-reads.Learnt)
 
 abbrev react-claims : ℕ → react-lts.Claims
-react-claims t = (seq-parts-below t, seq-parts.Post, par-parts-below t, par-parts.Post, part-below t, part.Post, in-loop-reads.Asked, in-loop-reads.Learnt, present-parts-below t, present-parts.Post, signal-rule-below t, signal-rule.Post, in-try-reads.Asked, in-try-reads.Learnt, in-suspend-reads.Asked, in-suspend-reads.Learnt, alone-reads.Asked, alone-reads.Learnt)
+react-claims t = (seq-parts-below t, seq-parts.Post, par-parts-below t, par-parts.Post, part-below t, part.Post, in-loop-reads.Asked, in-loop-reads.Learnt, present-parts-below t, present-parts.Post, declaration-below t, declaration.Post, in-try-reads.Asked, in-try-reads.Learnt, in-suspend-reads.Asked, in-suspend-reads.Learnt, alone-reads.Asked, alone-reads.Learnt)
 
 abbrev seq-parts-claims : ℕ → seq-parts-lts.Claims
 seq-parts-claims t = (part-below t, part.Post, after-below t, after.Post)
@@ -201,6 +218,14 @@ body-part-requires t c κs = (search needs, (c .before .before .before .pre .1 .
 
 body-returns-2 : (t : ℕ) → body-lts.Need-returns-2 (body-claims t) (body-at t) body.Post
 body-returns-2 t c base p l = c .part .ensures base p l
+
+declaration-signal-rule-requires : (t : ℕ) → declaration-lts.Need-signal-rule-requires (declaration-claims t) (declaration-at t) declaration.Post
+declaration-signal-rule-requires t c κs =
+    let d = c .before .before in
+    (search needs, (whole (d .pre .1 .0), front-is 0 (d .args .s .now) (d .pre .1 .1)))
+
+declaration-returns : (t : ℕ) → declaration-lts.Need-returns (declaration-claims t) (declaration-at t) declaration.Post
+declaration-returns t c base p l = c .signal-rule .ensures base p (whole-lies _ _ _ _ _ p l)
 
 par-parts-element-copy-out-m : (t : ℕ) → par-parts-lts.Need-element-copy-out-m (par-parts-claims t) (par-parts-at t) par-parts.Post
 par-parts-element-copy-out-m t c = omega (arith, c .before .pre .1 .0 .long, c .before .pre .1 .0 .fits, c .before .pre .1 .0 .bytes)
@@ -295,10 +320,8 @@ react-part-requires t c κs =
 react-present-parts-requires : (t : ℕ) → react-lts.Need-present-parts-requires (react-claims t) (react-at t) react.Post
 react-present-parts-requires t c κs = (search needs, ((c .before .before .before .pre .1), c .match .keys4))
 
-react-signal-rule-requires : (t : ℕ) → react-lts.Need-signal-rule-requires (react-claims t) (react-at t) react.Post
-react-signal-rule-requires t c κs =
-    let d = c .before .before .before .before in
-    (search needs, (whole (d .pre .1), front-is 0 (d .args .s .now) (c .before .match .keys5)))
+react-declaration-requires : (t : ℕ) → react-lts.Need-declaration-requires (react-claims t) (react-at t) react.Post
+react-declaration-requires t c κs = (search needs, ((c .before .before .before .pre .1), c .match .keys5))
 
 react-part-requires-2 : (t : ℕ) → react-lts.Need-part-requires-2 (react-claims t) (react-at t) react.Post
 react-part-requires-2 t c κs =
@@ -330,7 +353,7 @@ react-returns-4 : (t : ℕ) → react-lts.Need-returns-4 (react-claims t) (react
 react-returns-4 t c base p l = c .present-parts .ensures base p l
 
 react-returns-5 : (t : ℕ) → react-lts.Need-returns-5 (react-claims t) (react-at t) react.Post
-react-returns-5 t c base p l = c .signal-rule .ensures base p (whole-lies _ _ _ _ _ p l)
+react-returns-5 t c base p l = c .declaration .ensures base p l
 
 react-returns-6 : (t : ℕ) → react-lts.Need-returns-6 (react-claims t) (react-at t) react.Post
 react-returns-6 t c base p l =
@@ -403,12 +426,13 @@ signal-rule-returns-2 t c base p l =
     (signal-once-step _ _ local _ _ q (ltb-true _ _ (y .ranged)) (d .before .before .without .ensures) (d .body .ensures base q (y .parts .1 .1))
     (sym (c .before .before .asks .ensures) ∙ c .before .if1 .left) (c .in-signal-once .ensures _))
 
-pub +after+body+par-parts+part+present-parts+react+seq-parts+signal-rule-spec :
+pub +after+body+declaration+par-parts+part+present-parts+react+seq-parts+signal-rule-spec :
     {M : Type 1} → statement M
-+after+body+par-parts+part+present-parts+react+seq-parts+signal-rule-spec =
++after+body+declaration+par-parts+part+present-parts+react+seq-parts+signal-rule-spec =
     close
     μ-after
     μ-body
+    μ-declaration
     μ-par-parts
     μ-part
     μ-present-parts
@@ -430,6 +454,11 @@ pub +after+body+par-parts+part+present-parts+react+seq-parts+signal-rule-spec :
     (body-returns t)
     (body-part-requires t)
     (body-returns-2 t))
+    (λ t. declaration-lts.spec (declaration-claims t) (declaration-at t)
+    declaration.Post
+    (λ c. search needs) (λ c. search needs) (λ c. search needs)
+    (declaration-signal-rule-requires t)
+    (declaration-returns t))
     (λ t. par-parts-lts.spec (par-parts-claims t) (par-parts-at t)
     par-parts.Post
     (λ c. search needs)
@@ -472,8 +501,7 @@ pub +after+body+par-parts+part+present-parts+react+seq-parts+signal-rule-spec :
     (react-part-requires t)
     (λ c κs. search needs)
     (react-present-parts-requires t)
-    (λ c. search needs) (λ c. search needs) (λ c. search needs)
-    (react-signal-rule-requires t)
+    (react-declaration-requires t)
     (λ c. search needs) (λ c. search needs)
     (react-part-requires-2 t)
     (λ c κs. search needs)

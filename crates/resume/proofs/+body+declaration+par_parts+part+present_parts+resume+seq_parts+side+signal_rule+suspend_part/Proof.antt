@@ -31,31 +31,34 @@ use borrow.Fn.Kinds.{In}
 use borrow.Fn.PlainCycle.{Measures, is, falls, and}
 use Rattle.resume.proofs.body.Reads as body
 use Rattle.resume.proofs.body.Kinds as body-kinds
-use Rattle.resume.proofs.+body+par_parts+part+present_parts+resume+seq_parts+side+signal_rule+suspend_part.Lts-body as body-lts
+use Rattle.resume.proofs.+body+declaration+par_parts+part+present_parts+resume+seq_parts+side+signal_rule+suspend_part.Lts-body as body-lts
+use Rattle.resume.proofs.declaration.Reads as declaration
+use Rattle.resume.proofs.declaration.Kinds as declaration-kinds
+use Rattle.resume.proofs.+body+declaration+par_parts+part+present_parts+resume+seq_parts+side+signal_rule+suspend_part.Lts-declaration as declaration-lts
 use Rattle.resume.proofs.par_parts.Reads as par-parts
 use Rattle.resume.proofs.par_parts.Kinds as par-parts-kinds
-use Rattle.resume.proofs.+body+par_parts+part+present_parts+resume+seq_parts+side+signal_rule+suspend_part.Lts-par_parts as par-parts-lts
+use Rattle.resume.proofs.+body+declaration+par_parts+part+present_parts+resume+seq_parts+side+signal_rule+suspend_part.Lts-par_parts as par-parts-lts
 use Rattle.resume.proofs.part.Reads as part
 use Rattle.resume.proofs.part.Kinds as part-kinds
-use Rattle.resume.proofs.+body+par_parts+part+present_parts+resume+seq_parts+side+signal_rule+suspend_part.Lts-part as part-lts
+use Rattle.resume.proofs.+body+declaration+par_parts+part+present_parts+resume+seq_parts+side+signal_rule+suspend_part.Lts-part as part-lts
 use Rattle.resume.proofs.present_parts.Reads as present-parts
 use Rattle.resume.proofs.present_parts.Kinds as present-parts-kinds
-use Rattle.resume.proofs.+body+par_parts+part+present_parts+resume+seq_parts+side+signal_rule+suspend_part.Lts-present_parts as present-parts-lts
+use Rattle.resume.proofs.+body+declaration+par_parts+part+present_parts+resume+seq_parts+side+signal_rule+suspend_part.Lts-present_parts as present-parts-lts
 use Rattle.resume.proofs.resume.Reads as resume
 use Rattle.resume.proofs.resume.Kinds as resume-kinds
-use Rattle.resume.proofs.+body+par_parts+part+present_parts+resume+seq_parts+side+signal_rule+suspend_part.Lts-resume as resume-lts
+use Rattle.resume.proofs.+body+declaration+par_parts+part+present_parts+resume+seq_parts+side+signal_rule+suspend_part.Lts-resume as resume-lts
 use Rattle.resume.proofs.seq_parts.Reads as seq-parts
 use Rattle.resume.proofs.seq_parts.Kinds as seq-parts-kinds
-use Rattle.resume.proofs.+body+par_parts+part+present_parts+resume+seq_parts+side+signal_rule+suspend_part.Lts-seq_parts as seq-parts-lts
+use Rattle.resume.proofs.+body+declaration+par_parts+part+present_parts+resume+seq_parts+side+signal_rule+suspend_part.Lts-seq_parts as seq-parts-lts
 use Rattle.resume.proofs.side.Reads as side
 use Rattle.resume.proofs.side.Kinds as side-kinds
-use Rattle.resume.proofs.+body+par_parts+part+present_parts+resume+seq_parts+side+signal_rule+suspend_part.Lts-side as side-lts
+use Rattle.resume.proofs.+body+declaration+par_parts+part+present_parts+resume+seq_parts+side+signal_rule+suspend_part.Lts-side as side-lts
 use Rattle.resume.proofs.signal_rule.Reads as signal-rule
 use Rattle.resume.proofs.signal_rule.Kinds as signal-rule-kinds
-use Rattle.resume.proofs.+body+par_parts+part+present_parts+resume+seq_parts+side+signal_rule+suspend_part.Lts-signal_rule as signal-rule-lts
+use Rattle.resume.proofs.+body+declaration+par_parts+part+present_parts+resume+seq_parts+side+signal_rule+suspend_part.Lts-signal_rule as signal-rule-lts
 use Rattle.resume.proofs.suspend_part.Reads as suspend-part
 use Rattle.resume.proofs.suspend_part.Kinds as suspend-part-kinds
-use Rattle.resume.proofs.+body+par_parts+part+present_parts+resume+seq_parts+side+signal_rule+suspend_part.Lts-suspend_part as suspend-part-lts
+use Rattle.resume.proofs.+body+declaration+par_parts+part+present_parts+resume+seq_parts+side+signal_rule+suspend_part.Lts-suspend_part as suspend-part-lts
 use Rattle.react.proofs.after.Reads as after-reads
 use Rattle.reaction.proofs.nothing.Reads as nothing-reads
 use Rattle.rules_two.proofs.in_parallel.Reads as in-parallel-reads
@@ -74,15 +77,18 @@ use Rattle.react_leaves.proofs.is_pause.Reads as is-pause-reads
 use Rattle.signals.proofs.single.Reads as single-reads
 use Rattle.signals.proofs.with.Reads as with-reads
 use Rattle.signals.proofs.without.Reads as without-reads
-use Rattle.resume.proofs.+body+par_parts+part+present_parts+resume+seq_parts+side+signal_rule+suspend_part.{
+use Rattle.resume.proofs.+body+declaration+par_parts+part+present_parts+resume+seq_parts+side+signal_rule+suspend_part.{
   statement,
 }
-use Rattle.resume.proofs.+body+par_parts+part+present_parts+resume+seq_parts+side+signal_rule+suspend_part.Tie.{
+use Rattle.resume.proofs.+body+declaration+par_parts+part+present_parts+resume+seq_parts+side+signal_rule+suspend_part.Tie.{
   close,
 }
 
 abbrev μ-body : Measures 2 body-kinds.ps ℕ
 μ-body κs a = 6 * (a .1 .1 .1 .0) + 2
+
+abbrev μ-declaration : Measures 2 declaration-kinds.ps ℕ
+μ-declaration κs a = 6 * (a .1 .1 .0) - 1
 
 abbrev μ-par-parts : Measures 2 par-parts-kinds.ps ℕ
 μ-par-parts κs a = 6 * (a .1 .1 .0) - 1
@@ -113,6 +119,14 @@ body-at t = and 2 body-kinds.ps (is 2 body-kinds.ps μ-body t) body.Pre
 
 abbrev body-below : ℕ → In 2 body-kinds.ps
 body-below t = and 2 body-kinds.ps (falls 2 body-kinds.ps _<_ μ-body t) body.Pre
+
+abbrev declaration-at : ℕ → In 2 declaration-kinds.ps
+declaration-at t =
+    and 2 declaration-kinds.ps (is 2 declaration-kinds.ps μ-declaration t) declaration.Pre
+
+abbrev declaration-below : ℕ → In 2 declaration-kinds.ps
+declaration-below t =
+    and 2 declaration-kinds.ps (falls 2 declaration-kinds.ps _<_ μ-declaration t) declaration.Pre
 
 abbrev par-parts-at : ℕ → In 2 par-parts-kinds.ps
 par-parts-at t = and 2 par-parts-kinds.ps (is 2 par-parts-kinds.ps μ-par-parts t) par-parts.Pre
@@ -174,6 +188,9 @@ suspend-part-below t =
 abbrev body-claims : ℕ → body-lts.Claims
 body-claims t = (signal-rule-below t, signal-rule.Post, part-below t, part.Post)
 
+abbrev declaration-claims : ℕ → declaration-lts.Claims
+declaration-claims t = (signal-rule-below t, signal-rule.Post)
+
 abbrev par-parts-claims : ℕ → par-parts-lts.Claims
 par-parts-claims t = (below-reads.Asked, below-reads.Learnt, side-below t, side.Post, from-reads.Asked, from-reads.Learnt, in-parallel-reads.Asked, in-parallel-reads.Learnt)
 
@@ -184,7 +201,7 @@ abbrev present-parts-claims : ℕ → present-parts-lts.Claims
 present-parts-claims t = (below-reads.Asked, below-reads.Learnt, is-empty-reads.Asked, is-empty-reads.Learnt, from-reads.Asked, from-reads.Learnt, part-below t, part.Post)
 
 abbrev resume-claims : ℕ → resume-lts.Claims
-resume-claims t = (seq-parts-below t, seq-parts.Post, par-parts-below t, par-parts.Post, part-below t, part.Post, after-reads.Asked, after-reads.Learnt, present-parts-below t, present-parts.Post, signal-rule-below t, signal-rule.Post, in-try-reads.Asked, in-try-reads.Learnt, suspend-part-below t, suspend-part.Post, nothing-reads.Asked, nothing-reads.Learnt)
+resume-claims t = (seq-parts-below t, seq-parts.Post, par-parts-below t, par-parts.Post, part-below t, part.Post, after-reads.Asked, after-reads.Learnt, present-parts-below t, present-parts.Post, declaration-below t, declaration.Post, in-try-reads.Asked, in-try-reads.Learnt, suspend-part-below t, suspend-part.Post, nothing-reads.Asked, nothing-reads.Learnt)
 
 abbrev seq-parts-claims : ℕ → seq-parts-lts.Claims
 seq-parts-claims t = (below-reads.Asked, below-reads.Learnt, is-empty-reads.Asked, is-empty-reads.Learnt, from-reads.Asked, from-reads.Learnt, part-below t, part.Post, after-reads.Asked, after-reads.Learnt)
@@ -214,6 +231,14 @@ body-part-requires t c κs = (search needs, (c .before .before .before .pre .1 .
 
 body-returns-2 : (t : ℕ) → body-lts.Need-returns-2 (body-claims t) (body-at t) body.Post
 body-returns-2 t c base p l = c .part .ensures base p l
+
+declaration-signal-rule-requires : (t : ℕ) → declaration-lts.Need-signal-rule-requires (declaration-claims t) (declaration-at t) declaration.Post
+declaration-signal-rule-requires t c κs =
+    let d = c .before .before in
+    (search needs, (whole (d .pre .1 .0), front-is 0 (d .args .s .now) (d .pre .1 .1)))
+
+declaration-returns : (t : ℕ) → declaration-lts.Need-returns (declaration-claims t) (declaration-at t) declaration.Post
+declaration-returns t c base p l = c .signal-rule .ensures base p (whole-lies _ _ _ _ _ p l)
 
 par-parts-element-copy-out-entry : (t : ℕ) → par-parts-lts.Need-element-copy-out-entry (par-parts-claims t) (par-parts-at t) par-parts.Post
 par-parts-element-copy-out-entry t c = omega (arith, c .before .pre .1 .0 .long, c .before .pre .1 .0 .fits, c .before .pre .1 .0 .bytes)
@@ -290,10 +315,8 @@ resume-after-requires t c κs = (search needs, whole (c .before .before .before 
 resume-present-parts-requires : (t : ℕ) → resume-lts.Need-present-parts-requires (resume-claims t) (resume-at t) resume.Post
 resume-present-parts-requires t c κs = (search needs, ((c .before .before .before .pre .1), c .match .keys4))
 
-resume-signal-rule-requires : (t : ℕ) → resume-lts.Need-signal-rule-requires (resume-claims t) (resume-at t) resume.Post
-resume-signal-rule-requires t c κs =
-    let d = c .before .before .before .before in
-    (search needs, (whole (d .pre .1), front-is 0 (d .args .s .now) (c .before .match .keys5)))
+resume-declaration-requires : (t : ℕ) → resume-lts.Need-declaration-requires (resume-claims t) (resume-at t) resume.Post
+resume-declaration-requires t c κs = (search needs, ((c .before .before .before .pre .1), c .match .keys5))
 
 resume-part-requires-2 : (t : ℕ) → resume-lts.Need-part-requires-2 (resume-claims t) (resume-at t) resume.Post
 resume-part-requires-2 t c κs =
@@ -319,7 +342,7 @@ resume-returns-4 : (t : ℕ) → resume-lts.Need-returns-4 (resume-claims t) (re
 resume-returns-4 t c base p l = c .present-parts .ensures base p l
 
 resume-returns-5 : (t : ℕ) → resume-lts.Need-returns-5 (resume-claims t) (resume-at t) resume.Post
-resume-returns-5 t c base p l = c .signal-rule .ensures base p (whole-lies _ _ _ _ _ p l)
+resume-returns-5 t c base p l = c .declaration .ensures base p l
 
 resume-returns-6 : (t : ℕ) → resume-lts.Need-returns-6 (resume-claims t) (resume-at t) resume.Post
 resume-returns-6 t c base p l =
@@ -446,11 +469,12 @@ suspend-part-returns-2 t c base p l =
     (suspend-resumed _ base _ _ _ q (sym (d .member .ensures) ∙ c .before .before .before .if1 .left)
     (c .before .part .ensures base q (y .parts .1 .1)) (c .in-held .ensures _ (single-is _ (ltb-true _ _ (y .ranged)) (c .before .before .single .ensures))))
 
-pub +body+par-parts+part+present-parts+resume+seq-parts+side+signal-rule+suspend-part-spec :
+pub +body+declaration+par-parts+part+present-parts+resume+seq-parts+side+signal-rule+suspend-part-spec :
     {M : Type 1} → statement M
-+body+par-parts+part+present-parts+resume+seq-parts+side+signal-rule+suspend-part-spec =
++body+declaration+par-parts+part+present-parts+resume+seq-parts+side+signal-rule+suspend-part-spec =
     close
     μ-body
+    μ-declaration
     μ-par-parts
     μ-part
     μ-present-parts
@@ -467,6 +491,11 @@ pub +body+par-parts+part+present-parts+resume+seq-parts+side+signal-rule+suspend
     (body-returns t)
     (body-part-requires t)
     (body-returns-2 t))
+    (λ t. declaration-lts.spec (declaration-claims t) (declaration-at t)
+    declaration.Post
+    (λ c. search needs) (λ c. search needs) (λ c. search needs)
+    (declaration-signal-rule-requires t)
+    (declaration-returns t))
     (λ t. par-parts-lts.spec (par-parts-claims t) (par-parts-at t)
     par-parts.Post
     (λ c. search needs)
@@ -508,8 +537,7 @@ pub +body+par-parts+part+present-parts+resume+seq-parts+side+signal-rule+suspend
     (resume-part-requires t)
     (resume-after-requires t)
     (resume-present-parts-requires t)
-    (λ c. search needs) (λ c. search needs) (λ c. search needs)
-    (resume-signal-rule-requires t)
+    (resume-declaration-requires t)
     (λ c. search needs) (λ c. search needs)
     (resume-part-requires-2 t)
     (λ c κs. search needs)
