@@ -1,111 +1,132 @@
--- The ticks of one bay in a list of calls to a box, in the words of the three demands, up to the next coming back to a position or the
--- taking out of the bay.
+-- The ticks of one bay in a list of calls to a box, for any function in the place of `callOf`: what they, and the instants among them,
+-- come to from an admission or a coming back to a position on, in the words of the three demands. box_theory has the claims of `callOf`.
 use Prim.Native.Nat.{ℕ}
 use mathlib.Core.Path.{_≡_}
 use mathlib.Core.Logic.{_≢_}
-use mathlib.Core.Bool.{cond}
-use mathlib.Core.List.{List, [], _∷_}
+use mathlib.Core.Bool.{Bool, not, cond}
+use mathlib.Core.List.{List, [], _∷_, map}
 use lib.ListN.{length}
 use lib.Dec.{eqb}
+use Rattle.esterel.specs.Statement.{Statement}
+use Rattle.esterel.specs.States.{NoSetpause}
+use Rattle.esterel.specs.Machines.{Rewriting}
+use Rattle.sequence.specs.Program.{program}
+use Rattle.sequence.specs.Rows.{Spells}
 use Rattle.recordings.specs.Record.{recordLength}
-use Rattle.tick.specs.Tick.{Outcome, outcome}
+use Rattle.recordings.specs.Recording.{callOn}
+use Rattle.tick.specs.Tick.{Outcome, outcome, tickOf}
 use Rattle.tick.specs.Paper as Paper
+use Rattle.tick.specs.Paper.{paper}
+use Rattle.demands.specs.Demands.{outcomes, cleared, report}
+use Rattle.demands.specs.Deliveries.{delivered, paperDelivered}
 use Rattle.box_stretches.specs.Called.{Called, number, memoryAfter, lentAfter, first}
-use Rattle.box_stretches.specs.Stretch.{stateIn}
+use Rattle.box_stretches.specs.Stretch.{sequenceIn, readBackIn, serviceOnlyIn, stateIn, Terms, terms}
 use Rattle.box_stretches.specs.BayCalls.{delivering}
-use Rattle.box_calls.specs.Box.{stretchOf, Call, admit, release, tick, save, restore, forget, service, panel, preview, ledger, newYear, callOf}
-use Rattle.box_calls.specs.Lists.{Request, afterCall}
+use Rattle.box_calls.specs.Box.{stretchOf, Call, admit, release, restore, onTick}
+use Rattle.box_calls.specs.Lists.{Calling, Request, afterCall, boxAfter, overBay}
+use Rattle.box_calls.specs.Shares.{Sendable}
 
 -- the paper knows no record: a record's buffer of another length is to it an answer buffer of another length
 abbrev pub paperBuffer : (trace answer : List ℕ) → List ℕ
 paperBuffer trace answer = cond (eqb (length trace) recordLength) answer []
 
--- what a tick comes to, by whether it is one: 'In a bay a call answered 19 is no instant', and leaves all as it was
-abbrev pub ifTick : {A : Type 0} → Called → List A → A → List A
-ifTick o xs x = cond (eqb (number o) 19) xs (x ∷ xs)
+-- ---- the ticks to a bay, in their order
+-- what is taken of each whose number counts, by the box, the call and what it comes to
+abbrev pub overTicks : {A : Type 0} → (counts : ℕ → Bool) → (taken : (box : List ℕ) (input : ℕ) (answer trace : List ℕ) → Called → A)
+    → Calling → (bay : ℕ) → List ℕ → List Request → List A
+overTicks counts taken call bay =
+    overBay (λ box c rest.
+    onTick rest (λ e answer trace. cond (counts (number (call box bay c))) (taken box e answer trace (call box bay c) ∷ rest) rest) c)
+    call bay
 
--- the ticks to a bay: input and answer buffer of each
-abbrev pub withTick : Call → Called → List Paper.Call → List Paper.Call
-withTick (admit t) o cs = cs
-withTick release o cs = cs
-withTick (tick e answer trace) o cs = ifTick o cs (record { input = e; buffer = paperBuffer trace answer })
-withTick (save name) o cs = cs
-withTick (restore name) o cs = cs
-withTick (forget name) o cs = cs
-withTick (service trace view) o cs = cs
-withTick (panel trace view) o cs = cs
-withTick (preview e unknown buffer) o cs = cs
-withTick (ledger totals) o cs = cs
-withTick newYear o cs = cs
+-- 'In a bay a call answered 19 is no instant', and leaves all as it was: it is no tick of the list
+abbrev pub countsAsTick : (number : ℕ) → Bool
+countsAsTick n = not (eqb n 19)
 
-unfoldable pub ticksTo : (bay : ℕ) → List ℕ → List Request → List Paper.Call
-ticksTo bay box [] = []
-ticksTo bay box (x ∷ xs) =
-    cond (eqb (x .bay) bay)
-    (withTick (x .call) (callOf box bay (x .call)) (ticksTo bay (afterCall callOf box x) xs))
-    (ticksTo bay (afterCall callOf box x) xs)
+-- an instant is a tick answered 0
+abbrev pub countsAsInstant : (number : ℕ) → Bool
+countsAsInstant n = eqb n 0
+
+-- input and answer buffer of each
+abbrev pub ticksTo : Calling → (bay : ℕ) → List ℕ → List Request → List Paper.Call
+ticksTo = overTicks countsAsTick (λ box e answer trace o. record { input = e; buffer = paperBuffer trace answer })
 
 -- what a tick comes to: number, the state record that the bay then holds, and answer
 abbrev pub outcomeOf : (bay : ℕ) (trace : List ℕ) → Called → Outcome
 outcomeOf bay trace o = outcome (number o) (stateIn (stretchOf bay (memoryAfter o))) (paperBuffer trace (first (lentAfter o)))
 
-abbrev pub withOutcome : (bay : ℕ) → Call → Called → List Outcome → List Outcome
-withOutcome bay (admit t) o os = os
-withOutcome bay release o os = os
-withOutcome bay (tick e answer trace) o os = ifTick o os (outcomeOf bay trace o)
-withOutcome bay (save name) o os = os
-withOutcome bay (restore name) o os = os
-withOutcome bay (forget name) o os = os
-withOutcome bay (service trace view) o os = os
-withOutcome bay (panel trace view) o os = os
-withOutcome bay (preview e unknown buffer) o os = os
-withOutcome bay (ledger totals) o os = os
-withOutcome bay newYear o os = os
-
-unfoldable pub tickOutcomes : (bay : ℕ) → List ℕ → List Request → List Outcome
-tickOutcomes bay box [] = []
-tickOutcomes bay box (x ∷ xs) =
-    cond (eqb (x .bay) bay)
-    (withOutcome bay (x .call) (callOf box bay (x .call)) (tickOutcomes bay (afterCall callOf box x) xs))
-    (tickOutcomes bay (afterCall callOf box x) xs)
+abbrev pub tickOutcomes : Calling → (bay : ℕ) → List ℕ → List Request → List Outcome
+tickOutcomes call bay = overTicks countsAsTick (λ box e answer trace o. outcomeOf bay trace o) call bay
 
 -- the litres of each to a farm (02, item 12); none of one that is turned down
-abbrev pub withLitres : (farm : ℕ) (s : List ℕ) → Call → Called → List ℕ → List ℕ
-withLitres f s (admit t) o ls = ls
-withLitres f s release o ls = ls
-withLitres f s (tick e answer trace) o ls = ifTick o ls (cond (eqb (number o) 0) (delivering s e f) 0)
-withLitres f s (save name) o ls = ls
-withLitres f s (restore name) o ls = ls
-withLitres f s (forget name) o ls = ls
-withLitres f s (service trace view) o ls = ls
-withLitres f s (panel trace view) o ls = ls
-withLitres f s (preview e unknown buffer) o ls = ls
-withLitres f s (ledger totals) o ls = ls
-withLitres f s newYear o ls = ls
+abbrev pub tickLitres : Calling → (bay farm : ℕ) → List ℕ → List Request → List ℕ
+tickLitres call bay f =
+    overTicks countsAsTick (λ box e answer trace o. cond (eqb (number o) 0) (delivering (stretchOf bay box) e f) 0) call bay
 
-unfoldable pub tickLitres : (bay farm : ℕ) → List ℕ → List Request → List ℕ
-tickLitres bay f box [] = []
-tickLitres bay f box (x ∷ xs) =
-    cond (eqb (x .bay) bay)
-    (withLitres f (stretchOf bay box) (x .call) (callOf box bay (x .call)) (tickLitres bay f (afterCall callOf box x) xs))
-    (tickLitres bay f (afterCall callOf box x) xs)
+-- the instants among them, and their inputs
+abbrev pub instantsIn : Calling → (bay : ℕ) → List ℕ → List Request → List Outcome
+instantsIn call bay = overTicks countsAsInstant (λ box e answer trace o. outcomeOf bay trace o) call bay
 
--- a call that neither takes the bay out nor comes back to a position; one that is turned down does neither
+abbrev pub inputsIn : Calling → (bay : ℕ) → List ℕ → List Request → List ℕ
+inputsIn = overTicks countsAsInstant (λ box e answer trace o. e)
+
+-- ---- how far a list of calls goes; one that is turned down neither takes the bay out nor comes back to a position
+-- a call that does not take the bay out, and a list whose calls to the bay do not
+abbrev pub Stays : Call → Called → Type 0
+Stays c o = c ≡ release → number o ≢ 0
+
+pub data NotTakenOut (call : Calling) (bay : ℕ) : List ℕ → List Request → Type 0 where
+  done : {box : List ℕ} → NotTakenOut call bay box []
+  more : {box : List ℕ} {x : Request} {xs : List Request} → (x .bay ≡ bay → Stays (x .call) (call box bay (x .call)))
+      → NotTakenOut call bay (afterCall call box x) xs → NotTakenOut call bay box (x ∷ xs)
+
+-- nor comes back to a position
 abbrev pub Onward : Call → Called → Type 0
-Onward (admit t) o = Unit {0}
-Onward release o = number o ≢ 0
-Onward (tick e answer trace) o = Unit {0}
-Onward (save name) o = Unit {0}
-Onward (restore name) o = number o ≢ 0
-Onward (forget name) o = Unit {0}
-Onward (service trace view) o = Unit {0}
-Onward (panel trace view) o = Unit {0}
-Onward (preview e unknown buffer) o = Unit {0}
-Onward (ledger totals) o = Unit {0}
-Onward newYear o = Unit {0}
+Onward c o = Stays c o × ((name : ℕ) → c ≡ restore name → number o ≢ 0)
 
--- every call of the list to this bay is
-pub data Onwards (bay : ℕ) : List ℕ → List Request → Type 0 where
-  done : {box : List ℕ} → Onwards bay box []
-  more : {box : List ℕ} {x : Request} {xs : List Request} → (x .bay ≡ bay → Onward (x .call) (callOf box bay (x .call)))
-      → Onwards bay (afterCall callOf box x) xs → Onwards bay box (x ∷ xs)
+pub data Onwards (call : Calling) (bay : ℕ) : List ℕ → List Request → Type 0 where
+  done : {box : List ℕ} → Onwards call bay box []
+  more : {box : List ℕ} {x : Request} {xs : List Request} → (x .bay ≡ bay → Onward (x .call) (call box bay (x .call)))
+      → Onwards call bay (afterCall call box x) xs → Onwards call bay box (x ∷ xs)
+
+-- ---- from an admission on, in any box: a bay that is admitted, and every list of calls that does not take it out
+abbrev pub OverBay : Calling → ((bay : ℕ) → Terms → List ℕ → List Request → Type 0) → Type 0
+OverBay call Has =
+    (box : List ℕ) (bay : ℕ) (t : Terms) → Sendable (admit t) → number (call box bay (admit t)) ≡ 0
+    → (xs : List Request) → NotTakenOut call bay (memoryAfter (call box bay (admit t))) xs → Has bay t (memoryAfter (call box bay (admit t))) xs
+
+-- the terms that a stretch holds
+abbrev pub termsIn : List ℕ → Terms
+termsIn s = terms (sequenceIn s) (readBackIn s) (serviceOnlyIn s)
+
+-- 'each with its own sequence .. and a read-back set fixed on admission', and the set of service-only signals with them: the bay holds what
+-- was admitted, whatever calls come in between, comings back to a position included
+abbrev pub TermsFixed : Calling → Type 0
+TermsFixed call = OverBay call (λ bay t from xs. termsIn (stretchOf bay (boxAfter call from xs)) ≡ t)
+
+-- ---- the run of a bay in a list of calls, by its terms and the state record that it starts with: the ticks are those that the tick on its
+-- own gives one after the other, and the instants those that it gives on their inputs; so are the litres to each farm
+pub record RunOf (call : Calling) (bay : ℕ) (t : Terms) (state box : List ℕ) (xs : List Request) : Type 0 where
+  pub ticks : tickOutcomes call bay box xs ≡ outcomes tickOf (t .sequence) (t .readBack) state (ticksTo call bay box xs)
+  pub instants : instantsIn call bay box xs ≡ outcomes tickOf (t .sequence) (t .readBack) state (map callOn (inputsIn call bay box xs))
+  pub litres : (farm : ℕ) → tickLitres call bay farm box xs ≡ delivered (t .sequence) (t .readBack) farm state (ticksTo call bay box xs)
+
+-- the same by rewriting, from this start, of what demand 3 compares
+pub record RewritesAs (call : Calling) (bay : ℕ) (start : Rewriting) (box : List ℕ) (xs : List Request) : Type 0 where
+  pub ticks : map report (tickOutcomes call bay box xs) ≡ paper start (ticksTo call bay box xs)
+  pub instants : map report (instantsIn call bay box xs) ≡ paper start (map callOn (inputsIn call bay box xs))
+  pub litres : (farm : ℕ) → tickLitres call bay farm box xs ≡ paperDelivered farm start (ticksTo call bay box xs)
+
+-- for a sequence without setpause, by what it starts with of its program
+abbrev pub Rewrites : Calling → (bay : ℕ) → Terms → (start : Statement → Rewriting) → List ℕ → List Request → Type 0
+Rewrites call bay t start box xs =
+    (p : Statement) → Spells (t .sequence) p → NoSetpause p → RewritesAs call bay (start (program (t .readBack) p)) box xs
+
+-- '2 is there over the inputs of the ticks not turned down, in their order. So are 3, from an admission up to the first coming back to a
+-- position or the taking out', 'fresh': in any box, whatever other calls come in between
+abbrev pub TicksInBay : Calling → Type 0
+TicksInBay call =
+    (box : List ℕ) (bay : ℕ) (t : Terms) → Sendable (admit t) → number (call box bay (admit t)) ≡ 0
+    → (xs : List Request) → Onwards call bay (memoryAfter (call box bay (admit t))) xs
+    → RunOf call bay t cleared (memoryAfter (call box bay (admit t))) xs
+    × Rewrites call bay t Rewriting.fresh (memoryAfter (call box bay (admit t))) xs

@@ -42,6 +42,46 @@ pub data Call : Type 0 where
   ledger : (totals : List ℕ) → Call
   newYear : Call
 
+-- ---- by the kind of a call: what is made of a tick, of an admission or of a new year, and what every other call comes to
+abbrev pub onTick : {A : Type 0} → (other : A) → ((input : ℕ) (answer trace : List ℕ) → A) → Call → A
+onTick other made (admit t) = other
+onTick other made release = other
+onTick other made (tick e answer trace) = made e answer trace
+onTick other made (save name) = other
+onTick other made (restore name) = other
+onTick other made (forget name) = other
+onTick other made (service trace view) = other
+onTick other made (panel trace view) = other
+onTick other made (preview e unknown buffer) = other
+onTick other made (ledger totals) = other
+onTick other made newYear = other
+
+abbrev pub onAdmit : {A : Type 0} → (other : A) → (Terms → A) → Call → A
+onAdmit other made (admit t) = made t
+onAdmit other made release = other
+onAdmit other made (tick e answer trace) = other
+onAdmit other made (save name) = other
+onAdmit other made (restore name) = other
+onAdmit other made (forget name) = other
+onAdmit other made (service trace view) = other
+onAdmit other made (panel trace view) = other
+onAdmit other made (preview e unknown buffer) = other
+onAdmit other made (ledger totals) = other
+onAdmit other made newYear = other
+
+abbrev pub onNewYear : {A : Type 0} → (other made : A) → Call → A
+onNewYear other made (admit t) = other
+onNewYear other made release = other
+onNewYear other made (tick e answer trace) = other
+onNewYear other made (save name) = other
+onNewYear other made (restore name) = other
+onNewYear other made (forget name) = other
+onNewYear other made (service trace view) = other
+onNewYear other made (panel trace view) = other
+onNewYear other made (preview e unknown buffer) = other
+onNewYear other made (ledger totals) = other
+onNewYear other made newYear = made
+
 -- the buffers that a call is lent for writing beside the box
 abbrev pub buffers : Call → List (List ℕ)
 buffers (admit t) = []

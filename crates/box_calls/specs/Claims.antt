@@ -7,12 +7,14 @@ use mathlib.Core.List.{List}
 use lib.ListN.{length}
 use Rattle.sequence.specs.Check.{checked, checkOf}
 use Rattle.sequence.specs.Ceilings.{ceilingOf}
-use Rattle.box_stretches.specs.Called.{called, number, memoryAfter}
+use Rattle.box_stretches.specs.Called.{called, number, memoryAfter, lentAfter}
 use Rattle.box_stretches.specs.Stretch.{lengthIn, sequenceIn, readBackIn, ceilingIn, partOf, Terms}
 use Rattle.box_stretches.specs.BayCalls.{sharedCeiling}
 use Rattle.box_calls.specs.Box.{bayCount, boxLength, emptyBox, stretchOf, present, Call, admit, release, tick, save, restore, forget, service, panel, preview, ledger, newYear, buffers}
-use Rattle.box_calls.specs.Lists.{Calling, Request, boxAfter, asked, answers, answerOf}
+use Rattle.box_calls.specs.Lists.{Calling, Request, boxAfter, asked, answers}
 use Rattle.box_calls.specs.Shares.{AllSendable, sumOfReactions, OneTickEach}
+use Rattle.box_calls.specs.BayRuns.{TermsFixed, TicksInBay}
+use Rattle.box_calls.specs.Leaves.{AdmissionLeaves, ReleaseLeaves}
 
 -- 'A refused call changes nothing in the box', whatever bytes it has: nor in the buffers that it was lent
 abbrev pub RefusalsLeave : Calling → Type 0
@@ -26,7 +28,8 @@ OthersStay call =
     × ((other : ℕ) → other ≢ bay → other < bayCount → stretchOf other (memoryAfter (call box bay c)) ≡ stretchOf other box)
 
 -- 'Two runs from an empty box, written by its calls only, with the same calls to one bay in the same order and its admissions
--- answered alike, give it the same answers and states, whatever the others get': the same stretch, of which the state is a field
+-- answered alike, give it the same answers and states, whatever the others get', and whatever bytes the buffers had that it was lent for
+-- writing: the same stretch, of which the state is a field
 abbrev pub Isolated : Calling → Type 0
 Isolated call =
     (bay : ℕ) → bay < bayCount → (xs ys : List Request) → asked call bay emptyBox xs ≡ asked call bay emptyBox ys
@@ -36,23 +39,13 @@ Isolated call =
 -- 'only admission depends on them, through that sum': in two boxes with the same stretch of the bay, and for an admission the same
 -- sum of the others' ceilings and its own, a call to the bay gives the same answer and stretch
 abbrev pub SumAlike : Call → (box box′ : List ℕ) → Type 0
-SumAlike (admit t) box box′ = present bayCount box ≡ present bayCount box′
-SumAlike release box box′ = Unit {0}
-SumAlike (tick e answer trace) box box′ = Unit {0}
-SumAlike (save name) box box′ = Unit {0}
-SumAlike (restore name) box box′ = Unit {0}
-SumAlike (forget name) box box′ = Unit {0}
-SumAlike (service trace view) box box′ = Unit {0}
-SumAlike (panel trace view) box box′ = Unit {0}
-SumAlike (preview e unknown buffer) box box′ = Unit {0}
-SumAlike (ledger totals) box box′ = Unit {0}
-SumAlike newYear box box′ = Unit {0}
+SumAlike c box box′ = (t : Terms) → c ≡ admit t → present bayCount box ≡ present bayCount box′
 
 abbrev pub BySum : Calling → Type 0
 BySum call =
     (box box′ : List ℕ) (bay : ℕ) → bay < bayCount → length box ≡ boxLength → length box′ ≡ boxLength
     → stretchOf bay box ≡ stretchOf bay box′ → (c : Call) → SumAlike c box box′
-    → (answerOf (call box bay c) ≡ answerOf (call box′ bay c))
+    → (number (call box bay c) ≡ number (call box′ bay c)) × (lentAfter (call box bay c) ≡ lentAfter (call box′ bay c))
     × (stretchOf bay (memoryAfter (call box bay c)) ≡ stretchOf bay (memoryAfter (call box′ bay c)))
 
 -- ---- the shared ceiling, in every box that a list of calls comes to from the empty one
@@ -134,11 +127,15 @@ pub record BoxDemands (call : Calling) : Type 0 where
   pub others-stay : OthersStay call
   pub isolated : Isolated call
   pub by-sum : BySum call
+  pub admission-leaves : AdmissionLeaves call
+  pub terms-fixed : TermsFixed call
+  pub ticks-in-bay : TicksInBay call
   pub ceilings-stored : InBoxes call CeilingsStored
   pub within-ceiling : InBoxes call WithinCeiling
   pub rounds-within : InBoxes call (RoundsWithin call)
   pub admits-by-sum : InBoxes call (AdmitsBySum call)
   pub gives-back : InBoxes call (GivesBack call)
+  pub release-leaves : ReleaseLeaves call
   pub thirteen : Thirteen call
   pub no-box : NoBox call
   pub fourteen : Fourteen call

@@ -1,112 +1,28 @@
--- The instants of a bay over a list of calls (02, item 10): the records that they leave, and what 02 says of them, each sentence a
+-- The records that the instants of a bay leave over a list of calls (02, item 10), and what 02 says of them, each sentence a
 -- predicate of any function in the place of `callOf`, which box_theory has of `callOf`.
 use Prim.Native.Nat.{ℕ, _+_, _≤_, _<_, min}
 use mathlib.Core.Path.{_≡_}
 use mathlib.Core.Logic.{_≢_, _↔_}
-use mathlib.Core.Bool.{cond}
 use mathlib.Core.Option.{some}
 use mathlib.Core.List.{List, [], _∷_}
 use lib.ListN.{length, getElem?}
-use lib.Dec.{eqb}
 use Rattle.limits.specs.Limits.{lastNumber}
 use Rattle.recordings.specs.Record.{recordLength, recordOf, numberIn, panelLength, panelOf, Bytes, Agree}
 use Rattle.recordings.specs.Recording.{following}
-use Rattle.tick.specs.Tick.{Outcome}
-use Rattle.box_stretches.specs.Called.{Called, called, number, memoryAfter, lentAfter, first}
-use Rattle.box_stretches.specs.Stretch.{lengthIn, stateIn, lastNumberIn, serviceOnlyIn, Terms}
-use Rattle.box_calls.specs.Box.{bayCount, boxLength, stretchOf, Call, admit, release, tick, save, restore, forget, service, panel, preview, ledger, newYear}
-use Rattle.box_calls.specs.Lists.{Calling, Request, afterCall, boxAfter}
-use Rattle.box_calls.specs.Shares.{Sendable}
-use Rattle.box_calls.specs.BayRuns.{outcomeOf}
+use Rattle.box_stretches.specs.Called.{called, number, memoryAfter, lentAfter, first}
+use Rattle.box_stretches.specs.Stretch.{lengthIn, stateIn, lastNumberIn, serviceOnlyIn}
+use Rattle.box_calls.specs.Box.{bayCount, boxLength, stretchOf, Call, tick, service, panel}
+use Rattle.box_calls.specs.Lists.{Calling, Request, boxAfter}
+use Rattle.box_calls.specs.BayRuns.{overTicks, countsAsInstant, OverBay}
 
 -- the second of the buffers: the record's
 abbrev pub second : List (List ℕ) → List ℕ
 second [] = []
 second (b ∷ bs) = first bs
 
--- ---- the records of a bay's instants, which are its ticks answered 0, and their inputs
-abbrev pub withRecord : Call → Called → List (List ℕ) → List (List ℕ)
-withRecord (admit t) o rs = rs
-withRecord release o rs = rs
-withRecord (tick e answer trace) o rs = cond (eqb (number o) 0) (second (lentAfter o) ∷ rs) rs
-withRecord (save name) o rs = rs
-withRecord (restore name) o rs = rs
-withRecord (forget name) o rs = rs
-withRecord (service trace view) o rs = rs
-withRecord (panel trace view) o rs = rs
-withRecord (preview e unknown buffer) o rs = rs
-withRecord (ledger totals) o rs = rs
-withRecord newYear o rs = rs
-
-unfoldable pub recordsIn : Calling → (bay : ℕ) → List ℕ → List Request → List (List ℕ)
-recordsIn call bay box [] = []
-recordsIn call bay box (x ∷ xs) =
-    cond (eqb (x .bay) bay) (withRecord (x .call) (call box bay (x .call)) (recordsIn call bay (afterCall call box x) xs))
-    (recordsIn call bay (afterCall call box x) xs)
-
-abbrev pub withInput : Call → Called → List ℕ → List ℕ
-withInput (admit t) o es = es
-withInput release o es = es
-withInput (tick e answer trace) o es = cond (eqb (number o) 0) (e ∷ es) es
-withInput (save name) o es = es
-withInput (restore name) o es = es
-withInput (forget name) o es = es
-withInput (service trace view) o es = es
-withInput (panel trace view) o es = es
-withInput (preview e unknown buffer) o es = es
-withInput (ledger totals) o es = es
-withInput newYear o es = es
-
-unfoldable pub inputsIn : Calling → (bay : ℕ) → List ℕ → List Request → List ℕ
-inputsIn call bay box [] = []
-inputsIn call bay box (x ∷ xs) =
-    cond (eqb (x .bay) bay) (withInput (x .call) (call box bay (x .call)) (inputsIn call bay (afterCall call box x) xs))
-    (inputsIn call bay (afterCall call box x) xs)
-
--- what each instant comes to
-abbrev pub withInstant : (bay : ℕ) → Call → Called → List Outcome → List Outcome
-withInstant bay (admit t) o os = os
-withInstant bay release o os = os
-withInstant bay (tick e answer trace) o os = cond (eqb (number o) 0) (outcomeOf bay trace o ∷ os) os
-withInstant bay (save name) o os = os
-withInstant bay (restore name) o os = os
-withInstant bay (forget name) o os = os
-withInstant bay (service trace view) o os = os
-withInstant bay (panel trace view) o os = os
-withInstant bay (preview e unknown buffer) o os = os
-withInstant bay (ledger totals) o os = os
-withInstant bay newYear o os = os
-
-unfoldable pub instantsIn : Calling → (bay : ℕ) → List ℕ → List Request → List Outcome
-instantsIn call bay box [] = []
-instantsIn call bay box (x ∷ xs) =
-    cond (eqb (x .bay) bay) (withInstant bay (x .call) (call box bay (x .call)) (instantsIn call bay (afterCall call box x) xs))
-    (instantsIn call bay (afterCall call box x) xs)
-
--- ---- a list of calls that does not take the bay out
-abbrev pub Stays : Call → Called → Type 0
-Stays (admit t) o = Unit {0}
-Stays release o = number o ≢ 0
-Stays (tick e answer trace) o = Unit {0}
-Stays (save name) o = Unit {0}
-Stays (restore name) o = Unit {0}
-Stays (forget name) o = Unit {0}
-Stays (service trace view) o = Unit {0}
-Stays (panel trace view) o = Unit {0}
-Stays (preview e unknown buffer) o = Unit {0}
-Stays (ledger totals) o = Unit {0}
-Stays newYear o = Unit {0}
-
-pub data NotTakenOut (call : Calling) (bay : ℕ) : List ℕ → List Request → Type 0 where
-  done : {box : List ℕ} → NotTakenOut call bay box []
-  more : {box : List ℕ} {x : Request} {xs : List Request} → (x .bay ≡ bay → Stays (x .call) (call box bay (x .call)))
-      → NotTakenOut call bay (afterCall call box x) xs → NotTakenOut call bay box (x ∷ xs)
-
--- from an admission on: in any box, a bay that is admitted, and every such list
-abbrev pub OverBay : Calling → ((bay : ℕ) → Terms → List ℕ → List Request → Type 0) → Type 0
-OverBay call Has =
-    (box : List ℕ) (bay : ℕ) (t : Terms) → Sendable (admit t) → number (call box bay (admit t)) ≡ 0
-    → (xs : List Request) → NotTakenOut call bay (memoryAfter (call box bay (admit t))) xs → Has bay t (memoryAfter (call box bay (admit t))) xs
+-- the records of a bay's instants, in their order
+abbrev pub recordsIn : Calling → (bay : ℕ) → List ℕ → List Request → List (List ℕ)
+recordsIn = overTicks countsAsInstant (λ box e answer trace o. second (lentAfter o))
 
 -- ---- what 02 says
 -- 'Each instant of a bay leaves in lent memory a record': number, inputs, answer and next state, in every box, whatever its bytes; the

@@ -1,6 +1,5 @@
 -- What an admission and a release leave (02, item 8: 'A bay is admitted, fresh'; 'A bay taken out gives its part back'), each a predicate of any
--- function in the place of `callOf`, in every box, whatever its bytes. A call with bytes of another length than a box is in no list of
--- calls: 13 or 1, and nothing is written (NoBox, RefusalsLeave).
+-- function in the place of `callOf`, in every box, whatever its bytes.
 use Prim.Native.Nat.{ℕ}
 use mathlib.Core.Path.{_≡_}
 use mathlib.Core.Option.{none}
@@ -17,7 +16,7 @@ use Rattle.box_calls.specs.Lists.{Calling}
 use Rattle.box_calls.specs.Shares.{Sendable}
 
 -- the bay after an admission with the terms t
-pub record Admitted (t : Terms) (before after : List ℕ) : Type 0 where
+pub record FreshlyFilled (t : Terms) (before after : List ℕ) : Type 0 where
   -- the sequence passes the check, and the bay holds it with both sets
   pub accepted : checkOf (t .sequence) (t .readBack) ≡ 0
   pub sequence : sequenceIn after ≡ t .sequence
@@ -35,7 +34,7 @@ pub record Admitted (t : Terms) (before after : List ℕ) : Type 0 where
 abbrev pub AdmissionLeaves : Calling → Type 0
 AdmissionLeaves call =
     (box : List ℕ) (bay : ℕ) (t : Terms) → Sendable (admit t) → number (call box bay (admit t)) ≡ 0
-    → Admitted t (stretchOf bay box) (stretchOf bay (memoryAfter (call box bay (admit t))))
+    → FreshlyFilled t (stretchOf bay box) (stretchOf bay (memoryAfter (call box bay (admit t))))
 
 -- the bay after it was taken out: empty, with nothing left of it but the ledger of the bay number
 pub record TakenOut (before after : List ℕ) : Type 0 where

@@ -3,11 +3,10 @@ pub mod Examples
 pub mod Lists
 pub mod Shares
 pub mod BayRuns
+pub mod Leaves
 pub mod Claims
 pub mod Positions
 pub mod Instants
 pub mod Previews
 pub mod Years
-pub mod Reused
-pub mod Leaves
 pub mod Numbers

@@ -9,7 +9,8 @@ use mathlib.Core.List.{List, [], _∷_}
 use lib.Dec.{eqb}
 use Rattle.esterel.specs.Statement.{Statement}
 use Rattle.esterel.specs.States.{Valid}
-use Rattle.esterel.specs.Machines.{State}
+use Rattle.esterel.specs.Expansion.{expand}
+use Rattle.esterel.specs.Machines.{State, Rewriting}
 use Rattle.sequence.specs.Rows.{Spells}
 use Rattle.states.specs.StateRecord.{stateLength, phaseIn, labelsIn, encodeState}
 use Rattle.box_parts.specs.Parts.{put}
@@ -19,7 +20,8 @@ use Rattle.box_stretches.specs.Called.{number, memoryAfter}
 use Rattle.box_stretches.specs.Stretch.{stateAt, lengthIn, sequenceIn, stateIn, positionsIn, Terms}
 use Rattle.box_calls.specs.Box.{bayCount, emptyBox, stretchOf, Call, admit, release, tick, save, restore, forget, service, panel, preview, ledger, newYear}
 use Rattle.box_calls.specs.Lists.{Calling, Request, afterCall, boxAfter}
-use Rattle.box_calls.specs.Shares.{AllSendable}
+use Rattle.box_calls.specs.Shares.{Sendable, AllSendable}
+use Rattle.box_calls.specs.BayRuns.{NotTakenOut, Onwards, RunOf, Rewrites}
 use Rattle.box_calls.specs.Claims.{InBoxes}
 
 -- ---- by name
@@ -95,6 +97,26 @@ LosesPositions call =
     (box : List ℕ) (bay : ℕ) → (number (call box bay release) ≡ 0 → NoneKnown bay (memoryAfter (call box bay release)))
     × ((t : Terms) → number (call box bay (admit t)) ≡ 0 → NoneKnown bay (memoryAfter (call box bay (admit t))))
 
+-- ---- a bay from a coming back on
+-- 'the answers from there up to the next coming back or the taking out': in a box that calls reach an admission; then calls that do not
+-- take the bay out, saves and comings back among them; then a coming back. From there on the run is that of the ADMITTED terms, setpause
+-- included, from the label set that was last saved under that name; 'Without setpause, the answers .. equal rewriting started from the
+-- expansion of that set', and so do the litres
+abbrev pub FromPosition : Calling → (bay : ℕ) → Terms → (opened : List ℕ) → Type 0
+FromPosition call bay t opened =
+    (ys : List Request) → AllSendable ys → NotTakenOut call bay opened ys
+    → (name : ℕ) → number (call (boxAfter call opened ys) bay (restore name)) ≡ 0
+    → (labels : ℕ) × (find name (savedIn call bay opened [] ys) ≡ some labels)
+    × ((xs : List Request) → Onwards call bay (memoryAfter (call (boxAfter call opened ys) bay (restore name))) xs
+    → RunOf call bay t (encodeState (State.waits labels)) (memoryAfter (call (boxAfter call opened ys) bay (restore name))) xs
+    × Rewrites call bay t (λ p. Rewriting.waits (expand p labels)) (memoryAfter (call (boxAfter call opened ys) bay (restore name))) xs)
+
+abbrev pub TicksFromPosition : Calling → Type 0
+TicksFromPosition call =
+    (zs : List Request) → AllSendable zs → (bay : ℕ) (t : Terms) → Sendable (admit t)
+    → number (call (boxAfter call emptyBox zs) bay (admit t)) ≡ 0
+    → FromPosition call bay t (memoryAfter (call (boxAfter call emptyBox zs) bay (admit t)))
+
 pub record PositionDemands (call : Calling) : Type 0 where
   pub positions-saved : PositionsSaved call
   pub positions-valid : InBoxes call PositionsValid
@@ -103,3 +125,4 @@ pub record PositionDemands (call : Calling) : Type 0 where
   pub forget-numbers : InBoxes call (KnownOnly call forget)
   pub comes-back : ComesBack call
   pub loses-positions : LosesPositions call
+  pub ticks-from-position : TicksFromPosition call

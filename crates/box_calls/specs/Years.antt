@@ -16,25 +16,16 @@ use Rattle.demands.specs.Demands as demands
 use Rattle.box_stretches.specs.Called.{called, number, memoryAfter}
 use Rattle.box_stretches.specs.Stretch.{lengthIn, sequenceIn, readBackIn, stateIn, ledgerIn, withLedger}
 use Rattle.box_stretches.specs.BayCalls.{delivering}
-use Rattle.box_calls.specs.BayRuns.{paperBuffer}
-use Rattle.box_calls.specs.Box.{bayCount, boxLength, emptyBox, stretchOf, Call, admit, release, tick, save, restore, forget, service, panel, preview, ledger, newYear}
+use Rattle.box_calls.specs.Box.{bayCount, boxLength, emptyBox, stretchOf, Call, tick, preview, ledger, newYear, onTick, onNewYear}
 use Rattle.box_calls.specs.Lists.{Calling, Request, afterCall, boxAfter}
+use Rattle.box_calls.specs.BayRuns.{paperBuffer, TicksInBay}
+use Rattle.box_calls.specs.Positions.{TicksFromPosition}
 
 -- ---- the deliveries of a bay number
 -- what a call answered 0 makes of the litres delivered to a farm so far: an instant adds its own, from the sequence, the read-back set
 -- and the state that the bay holds; a new year begins anew; an admission, a coming back and a taking out leave them like all others
 abbrev pub deliveredAfter : (farm : ℕ) → Call → (s : List ℕ) (sum : ℕ) → ℕ
-deliveredAfter f (admit t) s sum = sum
-deliveredAfter f release s sum = sum
-deliveredAfter f (tick e answer trace) s sum = sum + delivering s e f
-deliveredAfter f (save name) s sum = sum
-deliveredAfter f (restore name) s sum = sum
-deliveredAfter f (forget name) s sum = sum
-deliveredAfter f (service trace view) s sum = sum
-deliveredAfter f (panel trace view) s sum = sum
-deliveredAfter f (preview e unknown buffer) s sum = sum
-deliveredAfter f (ledger totals) s sum = sum
-deliveredAfter f newYear s sum = 0
+deliveredAfter f c s sum = onTick (onNewYear sum 0 c) (λ e answer trace. sum + delivering s e f) c
 
 -- over a list of calls; one that is turned down leaves them, and so does one to another bay
 unfoldable pub deliveredSince : Calling → (bay farm : ℕ) → List ℕ → (sum : ℕ) → List Request → ℕ
@@ -45,22 +36,9 @@ deliveredSince call bay f box sum (x ∷ xs) =
     xs
 
 -- a list of calls without a new year of the bay number
-abbrev pub InYear : Call → Type 0
-InYear (admit t) = Unit {0}
-InYear release = Unit {0}
-InYear (tick e answer trace) = Unit {0}
-InYear (save name) = Unit {0}
-InYear (restore name) = Unit {0}
-InYear (forget name) = Unit {0}
-InYear (service trace view) = Unit {0}
-InYear (panel trace view) = Unit {0}
-InYear (preview e unknown buffer) = Unit {0}
-InYear (ledger totals) = Unit {0}
-InYear newYear = ⊥
-
 pub data SameYear (bay : ℕ) : List Request → Type 0 where
   done : SameYear bay []
-  more : {x : Request} {xs : List Request} → (x .bay ≡ bay → InYear (x .call)) → SameYear bay xs → SameYear bay (x ∷ xs)
+  more : {x : Request} {xs : List Request} → (x .bay ≡ bay → x .call ≢ newYear) → SameYear bay xs → SameYear bay (x ∷ xs)
 
 unfoldable pub sumOf : List ℕ → ℕ
 sumOf [] = 0
@@ -129,8 +107,12 @@ abbrev pub PreviewsNeverNineteen : Calling → Type 0
 PreviewsNeverNineteen call =
     (box : List ℕ) (bay e unknown : ℕ) (buffer : List ℕ) → number (call box bay (preview e unknown buffer)) ≢ 19
 
+-- that a call answered 19 is no instant, and that 2, 3, item 9's agreement and the litres stand over the ticks that are, is TicksInBay and
+-- TicksFromPosition
 pub record LedgerDemands (call : Calling) : Type 0 where
   pub totals-exact : TotalsExact call
+  pub ticks-in-bay : TicksInBay call
+  pub ticks-from-position : TicksFromPosition call
   pub ledger-shows : LedgerShows call
   pub year-begins : YearBegins call
   pub ledger-numbers : LedgerNumbers call

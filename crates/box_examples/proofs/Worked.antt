@@ -29,8 +29,7 @@ use Rattle.box_stretches.specs.Stretch.{partOf, vacated, filled}
 use Rattle.box_positions.specs.Table.{place, lookup, saveOf, forgetOf}
 use Rattle.box_stretches.specs.BayCalls.{bayStepOf, bayChargedOf, bayTickOf, bayReleaseOf, bayAdmitOf, baySaveOf, bayForgetOf, bayRestoreOf, bayServiceOf, bayPanelOf, bayLedgerOf, bayNewYearOf}
 use Rattle.box_calls.specs.Box.{emptyBox, present, callOf}
-use Rattle.box_calls.specs.Lists.{boxAfter}
-use Rattle.box_calls.specs.Instants.{recordsIn}
+use Rattle.box_calls.specs.Lists.{boxAfter, overBay}
 use Rattle.box_examples.specs.Worked.{otherwise, alone, emptyStretch, bay, admissions, reached, passed, full, overmuch, bays, elsewhere}
 use Rattle.box_examples.specs.WorkedPositions.{positions}
 use Rattle.box_examples.specs.WorkedLedgers.{ledgersCalls, turnedDown, totalAfter, filledUp, overfull, twice, chosenRun, inVain}
@@ -76,7 +75,7 @@ positions-worked = refl
 
 -- ---- records
 pub numbers-worked : numbers ≡ 1 ∷ 2 ∷ 3 ∷ 1 ∷ []
-unfolding recordsIn emptyStretch partOf vacated filled bayStepOf bayChargedOf wouldPass totalIn addedBelow deliveredBy ofBits whole inUnsigned toUnsigned bayTickOf following bayReleaseOf bayAdmitOf baySaveOf bayForgetOf bayRestoreOf saveOf forgetOf lookup place put zeros leBytes leNumber tickBy checked read front commandOf distinct wellFormed before everyLabel labelsOf subset disjoint valid active activeLabels membersFrom declaredBy commands loopNesting signalNesting ceiling encodeState decodeState encodeAnswer expand reactBy errorsBy reactionsBy none only member join insert remove
+unfolding overBay emptyStretch partOf vacated filled bayStepOf bayChargedOf wouldPass totalIn addedBelow deliveredBy ofBits whole inUnsigned toUnsigned bayTickOf following bayReleaseOf bayAdmitOf baySaveOf bayForgetOf bayRestoreOf saveOf forgetOf lookup place put zeros leBytes leNumber tickBy checked read front commandOf distinct wellFormed before everyLabel labelsOf subset disjoint valid active activeLabels membersFrom declaredBy commands loopNesting signalNesting ceiling encodeState decodeState encodeAnswer expand reactBy errorsBy reactionsBy none only member join insert remove
 numbers-worked = refl
 
 pub refusal-worked : leftByRefusal ≡ replicate recordLength 77

@@ -3,51 +3,51 @@ use Prim.Native.Nat.{ℕ, zero, suc, _+_, _%_}
 use mathlib.Core.Bool.{cond}
 use mathlib.Core.List.{List, [], _∷_}
 use lib.Dec.{eqb}
+use Rattle.states.specs.StateRecord.{stateLength}
 use Rattle.box_parts.specs.Parts.{put, zeros}
 use Rattle.tick.specs.Tick.{tickOf}
-use Rattle.box_stretches.specs.Called.{Called, called, number}
-use Rattle.box_stretches.specs.Stretch.{lengthBytes, sequenceIn, readBackIn, ceilingIn, stateIn}
+use Rattle.box_stretches.specs.Called.{Called, called, number, memoryAfter}
+use Rattle.box_stretches.specs.Stretch.{lengthBytes, stateAt, sequenceIn, readBackIn, ceilingIn, stateIn}
 use Rattle.box_stretches.specs.BayCalls.{stateKept, delivering, charged, recorded, bayAdmitOf}
-use Rattle.box_calls.specs.Box.{bayCount, stretchOf, present, admit, release, tick, save, restore, forget, service, panel, preview, ledger, newYear, inBox, callOf}
+use Rattle.box_calls.specs.Box.{bayCount, stretchOf, present, Call, admit, release, tick, save, restore, forget, service, panel, preview, ledger, newYear, onTick, onAdmit, inBox, callOf}
 use Rattle.box_calls.specs.Lists.{Calling}
 
 -- another result for a call that is answered with this number
 abbrev pub instead : ℕ → Called → Called → Called
 instead n other o = cond (eqb (number o) n) other o
 
+-- what a call comes to, with another one for a release, for a save or for a restore
+abbrev pub altered : (released : Called → Called) (saved : ℕ → Called → Called) (restored : Called → Called) → Call → Called → Called
+altered released saved restored (admit t) o = o
+altered released saved restored release o = released o
+altered released saved restored (tick e answer trace) o = o
+altered released saved restored (save name) o = saved name o
+altered released saved restored (restore name) o = restored o
+altered released saved restored (forget name) o = o
+altered released saved restored (service trace view) o = o
+altered released saved restored (panel trace view) o = o
+altered released saved restored (preview e unknown buffer) o = o
+altered released saved restored (ledger totals) o = o
+altered released saved restored newYear o = o
+
 -- a tick that reads the neighbour's state
 abbrev pub readsNeighbour : Calling
-readsNeighbour box bay (admit t) = callOf box bay (admit t)
-readsNeighbour box bay release = callOf box bay release
-readsNeighbour box bay (save name) = callOf box bay (save name)
-readsNeighbour box bay (restore name) = callOf box bay (restore name)
-readsNeighbour box bay (forget name) = callOf box bay (forget name)
-readsNeighbour box bay (service trace view) = callOf box bay (service trace view)
-readsNeighbour box bay (panel trace view) = callOf box bay (panel trace view)
-readsNeighbour box bay (preview e unknown buffer) = callOf box bay (preview e unknown buffer)
-readsNeighbour box bay (ledger totals) = callOf box bay (ledger totals)
-readsNeighbour box bay newYear = callOf box bay newYear
-readsNeighbour box bay (tick e answer trace) =
-    cond (eqb (number (callOf box bay (tick e answer trace))) 13) (called 13 box (answer ∷ trace ∷ []))
+readsNeighbour box bay c =
+    onTick (callOf box bay c)
+    (λ e answer trace.
+    cond (eqb (number (callOf box bay c)) 13) (called 13 box (answer ∷ trace ∷ []))
     (inBox bay box
     (recorded e trace
     (charged (stretchOf bay box) (delivering (stretchOf bay box) e) answer
     (stateKept (stretchOf bay box)
-    (tickOf (sequenceIn (stretchOf bay box)) (stateIn (stretchOf (suc bay % bayCount) box)) e (readBackIn (stretchOf bay box)) answer)))))
+    (tickOf (sequenceIn (stretchOf bay box)) (stateIn (stretchOf (suc bay % bayCount) box)) e (readBackIn (stretchOf bay box)) answer))))))
+    c
 
 -- an admission that forgets the last bay in the sum
 abbrev pub forgetsBay : Calling
-forgetsBay box bay (admit t) = instead 14 (inBox bay box (bayAdmitOf (present 7 box) (stretchOf bay box) t)) (callOf box bay (admit t))
-forgetsBay box bay release = callOf box bay release
-forgetsBay box bay (tick e answer trace) = callOf box bay (tick e answer trace)
-forgetsBay box bay (save name) = callOf box bay (save name)
-forgetsBay box bay (restore name) = callOf box bay (restore name)
-forgetsBay box bay (forget name) = callOf box bay (forget name)
-forgetsBay box bay (service trace view) = callOf box bay (service trace view)
-forgetsBay box bay (panel trace view) = callOf box bay (panel trace view)
-forgetsBay box bay (preview e unknown buffer) = callOf box bay (preview e unknown buffer)
-forgetsBay box bay (ledger totals) = callOf box bay (ledger totals)
-forgetsBay box bay newYear = callOf box bay newYear
+forgetsBay box bay c =
+    onAdmit (callOf box bay c)
+    (λ t. instead 14 (inBox bay box (bayAdmitOf (present 7 box) (stretchOf bay box) t)) (callOf box bay c)) c
 
 -- a release that leaves the ceiling, and an admission that counts the ceilings of bays that were taken out too
 unfoldable pub storedIn : (n : ℕ) → List ℕ → ℕ
@@ -55,19 +55,12 @@ storedIn zero box = 0
 storedIn (suc n) box = storedIn n box + ceilingIn (stretchOf n box)
 
 abbrev pub keepsPart : Calling
-keepsPart box bay (admit t) =
-    instead 0 (inBox bay box (bayAdmitOf (storedIn bayCount box) (stretchOf bay box) t)) (callOf box bay (admit t))
-keepsPart box bay release =
-    instead 0 (inBox bay box (called 0 (put 0 lengthBytes (zeros lengthBytes) (stretchOf bay box)) [])) (callOf box bay release)
-keepsPart box bay (tick e answer trace) = callOf box bay (tick e answer trace)
-keepsPart box bay (save name) = callOf box bay (save name)
-keepsPart box bay (restore name) = callOf box bay (restore name)
-keepsPart box bay (forget name) = callOf box bay (forget name)
-keepsPart box bay (service trace view) = callOf box bay (service trace view)
-keepsPart box bay (panel trace view) = callOf box bay (panel trace view)
-keepsPart box bay (preview e unknown buffer) = callOf box bay (preview e unknown buffer)
-keepsPart box bay (ledger totals) = callOf box bay (ledger totals)
-keepsPart box bay newYear = callOf box bay newYear
+keepsPart box bay c =
+    onAdmit
+    (altered (instead 0 (inBox bay box (called 0 (put 0 lengthBytes (zeros lengthBytes) (stretchOf bay box)) []))) (λ name o. o) (λ o. o)
+    c (callOf box bay c))
+    (λ t. instead 0 (inBox bay box (bayAdmitOf (storedIn bayCount box) (stretchOf bay box) t)) (callOf box bay c))
+    c
 
 -- a call turned down that clears the first byte of the box
 abbrev clearing : Called → Called

@@ -1,7 +1,7 @@
 -- Boxes with one slip each in their ledgers (02, item 12), which break a claim of Years.
-use Prim.Native.Nat.{ℕ, zero, suc, _+_, _*_}
+use Prim.Native.Nat.{ℕ, zero, suc, _+_, _*_, _-_, min}
 use mathlib.Core.Bool.{Bool, false, not, _||_, _&&_, cond}
-use mathlib.Core.List.{List, []}
+use mathlib.Core.List.{List, [], _∷_}
 use lib.Dec.{eqb, ltb}
 use lib.IntN.{pos}
 use lib.Ieee.{binary32, ofInt, add}
@@ -14,14 +14,13 @@ use Rattle.sequence.specs.Check.{Checked, sound, bad, checked}
 use Rattle.box_parts.specs.Parts.{put}
 use Rattle.litres.specs.Litres.{litres}
 use Rattle.box_ledgers.specs.Ledgers as Ledgers
-use Rattle.box_ledgers.specs.Ledgers.{farmCount, totalFloat, added}
+use Rattle.box_ledgers.specs.Ledgers.{farmCount, totalIn, totalFloat, added}
 use Rattle.box_stretches.specs.Called.{Called, called, number, memoryAfter, lentAfter}
 use Rattle.box_stretches.specs.Stretch.{stretchLength, sequenceIn, readBackIn, ledgerIn, withLedger}
 use Rattle.box_stretches.specs.BayCalls.{delivering, recorded, bayStepOf}
-use Rattle.box_calls.specs.Box.{stretchOf, Call, admit, release, tick, save, restore, forget, service, panel, preview, ledger, newYear, inBox, callOf}
+use Rattle.box_calls.specs.Box.{stretchOf, Call, onTick, inBox, callOf}
 use Rattle.box_calls.specs.Lists.{Calling}
-use Rattle.box_examples.specs.WrongBoxes.{instead}
-use Rattle.box_examples.specs.WrongPositions.{altered}
+use Rattle.box_examples.specs.WrongBoxes.{instead, altered}
 
 -- a restore that takes the ledger back to the new year
 abbrev pub rewinds : Calling
@@ -32,17 +31,7 @@ rewinds box bay c =
 
 -- ---- ticks that are told otherwise
 abbrev retold : (told : (e : ℕ) (answer trace : List ℕ) → Called → Called) → Call → Called → Called
-retold told (admit t) o = o
-retold told release o = o
-retold told (tick e answer trace) o = told e answer trace o
-retold told (save name) o = o
-retold told (restore name) o = o
-retold told (forget name) o = o
-retold told (service trace view) o = o
-retold told (panel trace view) o = o
-retold told (preview e unknown buffer) o = o
-retold told (ledger totals) o = o
-retold told newYear o = o
+retold told c o = onTick o (λ e answer trace. told e answer trace o) c
 
 -- an instant that enters other litres
 abbrev entering : (litresOf : (s : List ℕ) (e farm : ℕ) → ℕ) → Calling

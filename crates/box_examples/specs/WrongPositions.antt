@@ -1,33 +1,20 @@
 -- Boxes with one slip each in the calls of positions (02, item 9), which break a claim of Positions.
-use Prim.Native.Nat.{ℕ}
-use mathlib.Core.Bool.{cond}
-use mathlib.Core.List.{[]}
+use Prim.Native.Nat.{ℕ, _+_, _*_}
+use mathlib.Core.Bool.{_&&_, cond}
+use mathlib.Core.List.{List, [], _∷_}
 use lib.ListN.{length}
-use lib.Dec.{leb}
+use lib.Dec.{eqb, leb}
 use Rattle.limits.specs.Limits.{maxPositions}
-use Rattle.states.specs.StateRecord.{labelsAt}
+use Rattle.numbers.specs.Bytes.{leNumber}
+use Rattle.states.specs.StateRecord.{labelsAt, labelsIn}
 use Rattle.box_parts.specs.Parts.{slot, put}
 use Rattle.box_positions.specs.Names.{isKnown}
 use Rattle.box_positions.specs.Table.{tableLength, lookup, names}
-use Rattle.box_stretches.specs.Called.{Called, called, memoryAfter}
-use Rattle.box_stretches.specs.Stretch.{stateAt, positionsAt, positionsIn, vacated}
-use Rattle.box_calls.specs.Box.{stretchOf, Call, admit, release, tick, save, restore, forget, service, panel, preview, ledger, newYear, inBox, callOf}
+use Rattle.box_stretches.specs.Called.{called, memoryAfter}
+use Rattle.box_stretches.specs.Stretch.{sequenceAt, stateAt, positionsAt, stretchLength, sequenceIn, stateIn, positionsIn, vacated}
+use Rattle.box_calls.specs.Box.{stretchOf, inBox, callOf}
 use Rattle.box_calls.specs.Lists.{Calling}
-use Rattle.box_examples.specs.WrongBoxes.{instead}
-
--- what a call comes to, with another one for a release, for a save or for a restore
-abbrev pub altered : (released : Called → Called) (saved : ℕ → Called → Called) (restored : Called → Called) → Call → Called → Called
-altered released saved restored (admit t) o = o
-altered released saved restored release o = released o
-altered released saved restored (tick e answer trace) o = o
-altered released saved restored (save name) o = saved name o
-altered released saved restored (restore name) o = restored o
-altered released saved restored (forget name) o = o
-altered released saved restored (service trace view) o = o
-altered released saved restored (panel trace view) o = o
-altered released saved restored (preview e unknown buffer) o = o
-altered released saved restored (ledger totals) o = o
-altered released saved restored newYear o = o
+use Rattle.box_examples.specs.WrongBoxes.{instead, altered}
 
 -- a release that leaves the positions
 abbrev pub keepsPositions : Calling

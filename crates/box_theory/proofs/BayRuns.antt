@@ -17,7 +17,7 @@ use Rattle.esterel.specs.States.{NoSetpause}
 use Rattle.esterel.specs.Machines.{State, Rewriting}
 use Rattle.theory.proofs.Agreement.{TermOf}
 use Rattle.sequence.specs.Program.{program}
-use Rattle.sequence.specs.Rows.{Spells, ByRows}
+use Rattle.sequence.specs.Rows.{ByRows}
 use Rattle.sequence.specs.Check.{Checked, sound, bad, checked}
 use Rattle.states.specs.StateRecord.{stateLength, Decoded, holds, malformed, decodeState}
 use Rattle.answers.specs.AnswerRecord.{answerLength}
@@ -25,13 +25,13 @@ use Rattle.recordings.specs.Recording.{blank, tickOn, callOn}
 use Rattle.tick.specs.Tick as Tick
 use Rattle.tick.specs.Tick.{Outcome, outcome, tickBy, tickOf}
 use Rattle.demands.specs.Deliveries as Deliveries
-use Rattle.demands.specs.Deliveries.{deliveredIf, deliveries, callDelivers, delivered, paperDelivered}
+use Rattle.demands.specs.Deliveries.{deliveredIf, deliveries, callDelivers, delivered}
 use Rattle.tick.specs.TickRows.{TickRow}
 use Rattle.demands.specs.Demands as demands
 use Rattle.demands.specs.Demands.{stateAfterwards, answerAfterwards, outcomes, cleared, report, StandsAt, Derived, Shows}
 use Rattle.tick.specs.Paper as Paper
 use Rattle.tick.specs.Paper.{paper}
-use Rattle.demands.proofs.Sequence.{Accepted, accepted, same-statement, tick-at}
+use Rattle.demands.proofs.Sequence.{accepted, same-statement, tick-at}
 use Rattle.demands.proofs.Agreement.{all-ticks, all-deliveries}
 use Rattle.demands.proofs.Demand2.{passed-check, state-sized, answer-sized}
 use Rattle.demands.proofs.Demand1.{demand-1}
@@ -39,11 +39,10 @@ use Rattle.demands.proofs.Calls.{demand-2-call}
 use Rattle.box_stretches.specs.Called.{Called, called, number, memoryAfter, lentAfter, first}
 use Rattle.box_stretches.specs.Stretch.{positionsAt, stretchLength, isEmpty, stateIn, Terms}
 use Rattle.box_stretches.specs.BayCalls.{delivering, bayTickOf, bayAdmitOf}
-use Rattle.box_calls.specs.Box.{bayCount, boxLength, stretchOf, present, Call, admit, release, tick, save, restore, forget, service, panel, preview, ledger, newYear, callOf}
-use Rattle.box_calls.specs.Lists.{Request, afterCall, boxAfter}
+use Rattle.box_calls.specs.Box.{bayCount, boxLength, stretchOf, present, Call, admit, release, tick, save, restore, forget, service, panel, preview, ledger, newYear, onTick, callOf}
+use Rattle.box_calls.specs.Lists.{Request, afterCall, boxAfter, overBay}
 use Rattle.box_calls.specs.Shares.{Sendable}
-use Rattle.box_calls.specs.BayRuns.{paperBuffer, withTick, ticksTo, outcomeOf, withOutcome, tickOutcomes, withLitres, tickLitres, Onward, Onwards, done, more}
-use Rattle.box_calls.specs.Instants.{withInput, inputsIn, withInstant, instantsIn}
+use Rattle.box_calls.specs.BayRuns.{paperBuffer, ticksTo, outcomeOf, tickOutcomes, tickLitres, instantsIn, inputsIn, Onward, Onwards, done, more, RunOf, RewritesAs, Rewrites}
 use Rattle.box_fields.proofs.Fields.{Holds}
 use Rattle.box_theory.proofs.Ticks.{tick-number, tick-answer}
 use Rattle.box_theory.proofs.Readers.{service-reads, panel-reads, ledger-reads}
@@ -193,11 +192,8 @@ module _ (bay : ℕ) (b : bay < bayCount) (t : Terms) where
 
   -- ---- a list of calls that neither takes it out nor comes back to a position
   pub record Run (box : List ℕ) (xs : List Request) : Type 0 where
-    pub ticks : tickOutcomes bay box xs ≡ outcomes tickOf (t .sequence) (t .readBack) (stateIn (stretchOf bay box)) (ticksTo bay box xs)
-    pub litres : (f : ℕ) → tickLitres bay f box xs ≡ delivered (t .sequence) (t .readBack) f (stateIn (stretchOf bay box)) (ticksTo bay box xs)
-    pub instants : instantsIn callOf bay box xs
-        ≡ outcomes tickOf (t .sequence) (t .readBack) (stateIn (stretchOf bay box)) (map callOn (inputsIn callOf bay box xs))
-    pub never-11 : (o : Outcome) → List·Memᴰ o (tickOutcomes bay box xs) → demands.number o ≢ 11
+    pub told : RunOf callOf bay t (stateIn (stretchOf bay box)) box xs
+    pub never-11 : (o : Outcome) → List·Memᴰ o (tickOutcomes callOf bay box xs) → demands.number o ≢ 11
     pub stands : Here (boxAfter callOf box xs)
 
   abbrev From : List ℕ → List Paper.Call → List Outcome
@@ -208,42 +204,42 @@ module _ (bay : ℕ) (b : bay < bayCount) (t : Terms) where
 
   -- a call that is no tick of the bay: none of the lists has it
   record Aside (box : List ℕ) (x : Request) (xs : List Request) : Type 0 where
-    pub outcome : tickOutcomes bay box (x ∷ xs) ≡ tickOutcomes bay (afterCall callOf box x) xs
-    pub tick : ticksTo bay box (x ∷ xs) ≡ ticksTo bay (afterCall callOf box x) xs
-    pub litres : (f : ℕ) → tickLitres bay f box (x ∷ xs) ≡ tickLitres bay f (afterCall callOf box x) xs
+    pub outcome : tickOutcomes callOf bay box (x ∷ xs) ≡ tickOutcomes callOf bay (afterCall callOf box x) xs
+    pub tick : ticksTo callOf bay box (x ∷ xs) ≡ ticksTo callOf bay (afterCall callOf box x) xs
+    pub litres : (f : ℕ) → tickLitres callOf bay f box (x ∷ xs) ≡ tickLitres callOf bay f (afterCall callOf box x) xs
     pub instant : instantsIn callOf bay box (x ∷ xs) ≡ instantsIn callOf bay (afterCall callOf box x) xs
     pub input : inputsIn callOf bay box (x ∷ xs) ≡ inputsIn callOf bay (afterCall callOf box x) xs
 
   other-aside : (box : List ℕ) (x : Request) (xs : List Request) → x .bay ≢ bay → Aside box x xs
-  unfolding tickOutcomes ticksTo tickLitres instantsIn inputsIn
+  unfolding overBay
   other-aside box x xs q =
       let e = ne-eqb (x .bay) bay q in record { outcome = rw e; tick = rw e; litres = λ f. rw e; instant = rw e; input = rw e }
 
-  -- what a call to the bay puts on each of them: nothing
-  abbrev Quiet : (box : List ℕ) → Call → Type 0
-  Quiet box c =
-      ((os : List Outcome) → withOutcome bay c (callOf box bay c) os ≡ os) × ((cs : List Paper.Call) → withTick c (callOf box bay c) cs ≡ cs)
-      × ((f : ℕ) (ls : List ℕ) → withLitres f (stretchOf bay box) c (callOf box bay c) ls ≡ ls)
-      × ((os : List Outcome) → withInstant bay c (callOf box bay c) os ≡ os) × ((es : List ℕ) → withInput c (callOf box bay c) es ≡ es)
+  -- a call to the bay that is no tick
+  abbrev NoTick : Call → Type 1
+  NoTick c = (A : Type 0) (rest : A) (made : (e : ℕ) (answer trace : List ℕ) → A) → onTick rest made c ≡ rest
 
-  own-aside : (box : List ℕ) (c : Call) (xs : List Request) → Quiet box c → Aside box (record { bay = bay; call = c }) xs
-  unfolding tickOutcomes ticksTo tickLitres instantsIn inputsIn
+  own-aside : (box : List ℕ) (c : Call) (xs : List Request) → NoTick c → Aside box (record { bay = bay; call = c }) xs
+  unfolding overBay
   own-aside box c xs q =
       let e = eq-eqb bay bay refl in
-      let after = memoryAfter (callOf box bay c) in
       record {
-        outcome = rw e (q .0 (tickOutcomes bay after xs));
-        tick = rw e (q .1 (ticksTo bay after xs));
-        litres = λ f. rw e (q .2 f (tickLitres bay f after xs));
-        instant = rw e (q .3 (instantsIn callOf bay after xs));
-        input = rw e (q .4 (inputsIn callOf bay after xs));
+        outcome = rw e (q _ _ _);
+        tick = rw e (q _ _ _);
+        litres = λ f. rw e (q _ _ _);
+        instant = rw e (q _ _ _);
+        input = rw e (q _ _ _);
       }
 
-  full-quiet : (box : List ℕ) (e : ℕ) (answer trace : List ℕ) → number (callOf box bay (tick e answer trace)) ≡ 19 → Quiet box (tick e answer trace)
-  full-quiet box e answer trace n =
+  -- a tick that the ledger turns down
+  full-aside : (box : List ℕ) (e : ℕ) (answer trace : List ℕ) (xs : List Request) → number (callOf box bay (tick e answer trace)) ≡ 19
+      → Aside box (record { bay = bay; call = tick e answer trace }) xs
+  unfolding overBay
+  full-aside box e answer trace xs n =
+      let same = eq-eqb bay bay refl in
       let full = eq-eqb (number (callOf box bay (tick e answer trace))) 19 n in
       let none = ne-eqb (number (callOf box bay (tick e answer trace))) 0 (λ y. omega arith) in
-      (λ os. rw full, λ cs. rw full, λ f ls. rw full, λ os. rw none, λ es. rw none)
+      record { outcome = rw (same, full); tick = rw (same, full); litres = λ f. rw (same, full); instant = rw (same, none); input = rw (same, none) }
 
   -- one that leaves the state record
   steady-run : (box : List ℕ) → Here box → (x : Request) (xs : List Request) → Standing t (stretchOf bay (afterCall callOf box x))
@@ -253,9 +249,11 @@ module _ (bay : ℕ) (b : bay < bayCount) (t : Terms) where
   steady-run box h x xs v e a r =
       let k = r (same-length box (x .bay) (x .call) ∙ h .0, v) in
       record {
-        ticks = a .outcome ∙ k .ticks ∙ ap₂ From e (sym (a .tick));
-        litres = λ f. a .litres f ∙ k .litres f ∙ ap₂ (Brings f) e (sym (a .tick));
-        instants = a .instant ∙ k .instants ∙ ap₂ (λ (state es : List ℕ). From state (map callOn es)) e (sym (a .input));
+        told = record {
+          ticks = a .outcome ∙ k .told .ticks ∙ ap₂ From e (sym (a .tick));
+          litres = λ f. a .litres f ∙ k .told .litres f ∙ ap₂ (Brings f) e (sym (a .tick));
+          instants = a .instant ∙ k .told .instants ∙ ap₂ (λ (state es : List ℕ). From state (map callOn es)) e (sym (a .input));
+        };
         never-11 = λ y m. k .never-11 y (subst (List·Memᴰ y) (a .outcome) m);
         stands = k .stands;
       }
@@ -267,7 +265,7 @@ module _ (bay : ℕ) (b : bay < bayCount) (t : Terms) where
 
   -- one to the bay that writes behind the state
   behind-run : (box : List ℕ) → Here box → (c : Call) (xs : List Request) → Moved positionsAt (stretchOf bay box) (result box bay c)
-      → Quiet box c
+      → NoTick c
       → (Here (memoryAfter (callOf box bay c)) → Run (memoryAfter (callOf box bay c)) xs) → Run box (record { bay = bay; call = c } ∷ xs)
   behind-run box h c xs m q =
       let own = own-stretch box bay c b (h .0) in
@@ -285,33 +283,35 @@ module _ (bay : ℕ) (b : bay < bayCount) (t : Terms) where
     -- its instant, if it is one, and those behind it
     instants-from : Run after xs
         → instantsIn callOf bay box (c ∷ xs) ≡ From (stateIn (stretchOf bay box)) (map callOn (inputsIn callOf bay box (c ∷ xs)))
-    unfolding instantsIn inputsIn outcomes
+    unfolding overBay outcomes
     instants-from k =
         elim (ℕ-discrete (number (callOf box bay (tick e answer trace))) 0) [
           | yes n ↦
               let first = on-input box h e answer trace n in
               rw (eq-eqb bay bay refl, eq-eqb (number (callOf box bay (tick e answer trace))) 0 n)
               (ap₂ (λ (y : Outcome) (ys : List Outcome). y ∷ ys) first
-              (k .instants ∙ ap (λ (state : List ℕ). From state (map callOn (inputsIn callOf bay after xs))) (ap stateAfterwards first)))
+              (k .told .instants ∙ ap (λ (state : List ℕ). From state (map callOn (inputsIn callOf bay after xs))) (ap stateAfterwards first)))
           | no n ↦ rw (eq-eqb bay bay refl, ne-eqb (number (callOf box bay (tick e answer trace))) 0 n)
-              (k .instants ∙ ap (λ (s : List ℕ). From (stateIn s) (map callOn (inputsIn callOf bay after xs)))
+              (k .told .instants ∙ ap (λ (s : List ℕ). From (stateIn s) (map callOn (inputsIn callOf bay after xs)))
               (refused-stretch box bay (tick e answer trace) n))
         ]
 
     tick-run : (Here after → Run after xs) → Run box (c ∷ xs)
-    unfolding boxAfter tickOutcomes ticksTo tickLitres outcomes delivered
+    unfolding boxAfter overBay outcomes delivered
     tick-run r =
         let k = r (tick-here box h e answer trace) in
         let first = as-told box h e answer trace d in
         let same = eq-eqb bay bay refl in
-        let told = ne-eqb (number (callOf box bay (tick e answer trace))) 19 d in
+        let taken = ne-eqb (number (callOf box bay (tick e answer trace))) 19 d in
         record {
-          ticks = rw (same, told) (ap₂ (λ (y : Outcome) (ys : List Outcome). y ∷ ys) first
-              (k .ticks ∙ ap (λ (state : List ℕ). From state (ticksTo bay after xs)) (ap stateAfterwards first)));
-          litres = λ f. rw (same, told) (ap₂ (λ (y : ℕ) (ys : List ℕ). y ∷ ys) (litres-are box h e answer trace d f)
-              (k .litres f ∙ ap (λ (state : List ℕ). Brings f state (ticksTo bay after xs)) (ap stateAfterwards first)));
-          instants = instants-from k;
-          never-11 = rw (same, told) (λ y m. ⊎-elim
+          told = record {
+            ticks = rw (same, taken) (ap₂ (λ (y : Outcome) (ys : List Outcome). y ∷ ys) first
+                (k .told .ticks ∙ ap (λ (state : List ℕ). From state (ticksTo callOf bay after xs)) (ap stateAfterwards first)));
+            litres = λ f. rw (same, taken) (ap₂ (λ (y : ℕ) (ys : List ℕ). y ∷ ys) (litres-are box h e answer trace d f)
+                (k .told .litres f ∙ ap (λ (state : List ℕ). Brings f state (ticksTo callOf bay after xs)) (ap stateAfterwards first)));
+            instants = instants-from k;
+          };
+          never-11 = rw (same, taken) (λ y m. ⊎-elim
               (λ i. subst (λ (w : Outcome). demands.number w ≢ 11) (sym (i ∙ first))
               (tick-told t (stretchOf bay box) (h .1) e answer trace .not-11))
               (λ i. k .never-11 y i)
@@ -323,82 +323,79 @@ module _ (bay : ℕ) (b : bay < bayCount) (t : Terms) where
       → (Here (memoryAfter (callOf box bay c)) → Run (memoryAfter (callOf box bay c)) xs) → Run box (record { bay = bay; call = c } ∷ xs)
   own-run box h (admit t′) xs n r =
       stays-run box h (record { bay = bay; call = admit t′ }) xs (refused-stretch box bay (admit t′) (filled-already box bay b (h .0) (not-empty t (stretchOf bay box) (h .1)) t′))
-      (own-aside box (admit t′) xs (λ os. refl, λ cs. refl, λ f ls. refl, λ os. refl, λ es. refl)) r
+      (own-aside box (admit t′) xs (λ A rest made. refl)) r
   own-run box h release xs n r =
-      stays-run box h (record { bay = bay; call = release }) xs (refused-stretch box bay release n)
-      (own-aside box release xs (λ os. refl, λ cs. refl, λ f ls. refl, λ os. refl, λ es. refl)) r
+      stays-run box h (record { bay = bay; call = release }) xs (refused-stretch box bay release (n .0 refl))
+      (own-aside box release xs (λ A rest made. refl)) r
   own-run box h (tick e answer trace) xs n r =
       elim (ℕ-discrete (number (callOf box bay (tick e answer trace))) 19) [
         | yes y ↦ stays-run box h (record { bay = bay; call = tick e answer trace }) xs
-            (refused-stretch box bay (tick e answer trace) (λ z. omega arith)) (own-aside box (tick e answer trace) xs (full-quiet box e answer trace y)) r
+            (refused-stretch box bay (tick e answer trace) (λ z. omega arith)) (full-aside box e answer trace xs y) r
         | no y ↦ tick-run box h e answer trace xs y r
       ]
   own-run box h (save name) xs n r =
       behind-run box h (save name) xs (rw (not-empty t (stretchOf bay box) (h .1)) (save-moved (stretchOf bay box) name))
-      (λ os. refl, λ cs. refl, λ f ls. refl, λ os. refl, λ es. refl) r
+      (λ A rest made. refl) r
   own-run box h (restore name) xs n r =
-      stays-run box h (record { bay = bay; call = restore name }) xs (refused-stretch box bay (restore name) n)
-      (own-aside box (restore name) xs (λ os. refl, λ cs. refl, λ f ls. refl, λ os. refl, λ es. refl)) r
+      stays-run box h (record { bay = bay; call = restore name }) xs (refused-stretch box bay (restore name) (n .1 name refl))
+      (own-aside box (restore name) xs (λ A rest made. refl)) r
   own-run box h (forget name) xs n r =
       behind-run box h (forget name) xs (rw (not-empty t (stretchOf bay box) (h .1)) (forget-moved (stretchOf bay box) name))
-      (λ os. refl, λ cs. refl, λ f ls. refl, λ os. refl, λ es. refl) r
+      (λ A rest made. refl) r
   own-run box h (service trace view) xs n r =
       stays-run box h (record { bay = bay; call = service trace view }) xs
       (own-stretch box bay (service trace view) b (h .0)
       ∙ rw (not-empty t (stretchOf bay box) (h .1)) (service-reads (stretchOf bay box) trace view .left))
-      (own-aside box (service trace view) xs (λ os. refl, λ cs. refl, λ f ls. refl, λ os. refl, λ es. refl)) r
+      (own-aside box (service trace view) xs (λ A rest made. refl)) r
   own-run box h (panel trace view) xs n r =
       stays-run box h (record { bay = bay; call = panel trace view }) xs
       (own-stretch box bay (panel trace view) b (h .0)
       ∙ rw (not-empty t (stretchOf bay box) (h .1)) (panel-reads (stretchOf bay box) trace view .left))
-      (own-aside box (panel trace view) xs (λ os. refl, λ cs. refl, λ f ls. refl, λ os. refl, λ es. refl)) r
+      (own-aside box (panel trace view) xs (λ A rest made. refl)) r
   own-run box h (preview e u buffer) xs n r =
       stays-run box h (record { bay = bay; call = preview e u buffer }) xs
       (own-stretch box bay (preview e u buffer) b (h .0)
       ∙ rw (not-empty t (stretchOf bay box) (h .1)) (preview-stays (stretchOf bay box) e u buffer))
-      (own-aside box (preview e u buffer) xs (λ os. refl, λ cs. refl, λ f ls. refl, λ os. refl, λ es. refl)) r
+      (own-aside box (preview e u buffer) xs (λ A rest made. refl)) r
   own-run box h (ledger totals) xs n r =
       stays-run box h (record { bay = bay; call = ledger totals }) xs
       (own-stretch box bay (ledger totals) b (h .0) ∙ ledger-reads (stretchOf bay box) totals .left)
-      (own-aside box (ledger totals) xs (λ os. refl, λ cs. refl, λ f ls. refl, λ os. refl, λ es. refl)) r
+      (own-aside box (ledger totals) xs (λ A rest made. refl)) r
   own-run box h newYear xs n r =
       behind-run box h newYear xs (further (omega arith) (year-moved (stretchOf bay box)))
-      (λ os. refl, λ cs. refl, λ f ls. refl, λ os. refl, λ es. refl) r
+      (λ A rest made. refl) r
 
-  pub runs : (box : List ℕ) → Here box → (xs : List Request) → Onwards bay box xs → Run box xs
-  unfolding tickOutcomes ticksTo tickLitres instantsIn inputsIn outcomes delivered boxAfter
+  pub runs : (box : List ℕ) → Here box → (xs : List Request) → Onwards callOf bay box xs → Run box xs
+  unfolding overBay outcomes delivered boxAfter
   runs box h [] done =
-      record { ticks = refl; litres = λ f. refl; instants = refl; never-11 = λ o m. absurd (List·Memᴰ·not-nil m); stands = h }
+      record { told = record { ticks = refl; litres = λ f. refl; instants = refl }; never-11 = λ o m. absurd (List·Memᴰ·not-nil m); stands = h }
   runs box h (x ∷ xs) (more n k) =
       elim (ℕ-discrete (x .bay) bay) [
         | yes q ↦ subst (λ (j : ℕ). Run box (record { bay = j; call = x .call } ∷ xs)) (sym q)
             (own-run box h (x .call) xs (n q)
             (λ i. runs (memoryAfter (callOf box bay (x .call))) i xs
-            (subst (λ (j : ℕ). Onwards bay (memoryAfter (callOf box j (x .call))) xs) q k)))
+            (subst (λ (j : ℕ). Onwards callOf bay (memoryAfter (callOf box j (x .call))) xs) q k)))
         | no q ↦ stays-run box h x xs (others-stay box (x .bay) (x .call) bay (λ y. q (sym y)) b)
             (other-aside box x xs q) (λ i. runs (afterCall callOf box x) i xs k)
       ]
 
   -- ---- demand 3 from any state: the paper that starts with the term of the state
-  module _ (box : List ℕ) (h : Here box) (xs : List Request) (k : Onwards bay box xs) (plain : NoSetpause (h .1 .accepted .statement))
+  module _ (box : List ℕ) (h : Here box) (xs : List Request) (k : Onwards callOf bay box xs) (plain : NoSetpause (h .1 .accepted .statement))
       (w : Rewriting) (i : TermOf (program (t .readBack) (h .1 .accepted .statement)) (h .1 .state) w) where
     reports : (calls : List Paper.Call) → map report (From (stateIn (stretchOf bay box)) calls) ≡ paper w calls
     reports calls =
         ap (λ (state : List ℕ). map report (From state calls)) (h .1 .bytes)
         ∙ all-ticks (t .sequence) (t .readBack) (h .1 .accepted) plain calls (h .1 .state) w i (h .1 .recorded)
 
-    -- what it reports of the ticks, and of the inputs of the instants
-    pub agrees-from : map report (tickOutcomes bay box xs) ≡ paper w (ticksTo bay box xs)
-    agrees-from = ap (map report) (runs box h xs k .ticks) ∙ reports (ticksTo bay box xs)
-
-    pub instants-agree : map report (instantsIn callOf bay box xs) ≡ paper w (map callOn (inputsIn callOf bay box xs))
-    instants-agree = ap (map report) (runs box h xs k .instants) ∙ reports (map callOn (inputsIn callOf bay box xs))
-
-    -- and what it delivers
-    pub litres-agree : (f : ℕ) → tickLitres bay f box xs ≡ paperDelivered f w (ticksTo bay box xs)
-    litres-agree f =
-        runs box h xs k .litres f ∙ ap (λ (state : List ℕ). Brings f state (ticksTo bay box xs)) (h .1 .bytes)
-        ∙ all-deliveries (t .sequence) (t .readBack) (h .1 .accepted) plain f (ticksTo bay box xs) (h .1 .state) w i (h .1 .recorded)
+    pub rewrites-from : RewritesAs callOf bay w box xs
+    rewrites-from =
+        let r = runs box h xs k .told in
+        record {
+          ticks = ap (map report) (r .ticks) ∙ reports (ticksTo callOf bay box xs);
+          instants = ap (map report) (r .instants) ∙ reports (map callOn (inputsIn callOf bay box xs));
+          litres = λ f. r .litres f ∙ ap (λ (state : List ℕ). Brings f state (ticksTo callOf bay box xs)) (h .1 .bytes)
+              ∙ all-deliveries (t .sequence) (t .readBack) (h .1 .accepted) plain f (ticksTo callOf bay box xs) (h .1 .state) w i (h .1 .recorded);
+        }
 
 -- ---- from an admission on
 module _ (box : List ℕ) (bay : ℕ) (t : Terms) (small : Sendable (admit t)) (admitted : number (callOf box bay (admit t)) ≡ 0) where
@@ -456,42 +453,18 @@ module _ (box : List ℕ) (bay : ℕ) (t : Terms) (small : Sendable (admit t)) (
       go true w h = of-bay (admission k s t) w h
       go false w h = absurd (omega arith)
 
-  -- the paper that starts with the program of the sequence
-  module _ (p : Statement) (q : Spells (t .sequence) p) (plain : NoSetpause p) where
-    abbrev a : Accepted (t .sequence) (t .readBack)
-    a = begun .here .1 .accepted
-
-    same : p ≡ begun .here .1 .accepted .statement
-    same = same-statement (t .sequence) p (a .statement) q (a .spelled)
-
-    abbrev w : Rewriting
-    w = Rewriting.fresh (program (t .readBack) p)
-
-    starts : TermOf (program (t .readBack) (begun .here .1 .accepted .statement)) (begun .here .1 .state) (Rewriting.fresh (program (t .readBack) p))
-    starts =
-        subst (λ (st : State). TermOf (program (t .readBack) (a .statement)) st w) (sym (begun .from-fresh))
-        (ap (program (t .readBack)) same)
-
-  module _ (xs : List Request) (k : Onwards bay begins xs) where
+  module _ (xs : List Request) (k : Onwards callOf bay begins xs) where
     pub run : Run bay is-bay t begins xs
     run = runs bay is-bay t begins (begun .here) xs k
 
-    pub bay-ticks : tickOutcomes bay begins xs ≡ outcomes tickOf (t .sequence) (t .readBack) cleared (ticksTo bay begins xs)
-    bay-ticks = run .ticks ∙ ap (λ (state : List ℕ). outcomes tickOf (t .sequence) (t .readBack) state (ticksTo bay begins xs)) (begun .fresh)
-
-    pub bay-instants : instantsIn callOf bay begins xs
-        ≡ outcomes tickOf (t .sequence) (t .readBack) cleared (map callOn (inputsIn callOf bay begins xs))
-    bay-instants =
-        run .instants
-        ∙ ap (λ (state : List ℕ). outcomes tickOf (t .sequence) (t .readBack) state (map callOn (inputsIn callOf bay begins xs))) (begun .fresh)
-
-    module _ (p : Statement) (q : Spells (t .sequence) p) (plain : NoSetpause p) where
-      pub agrees : map report (tickOutcomes bay begins xs) ≡ paper (Rewriting.fresh (program (t .readBack) p)) (ticksTo bay begins xs)
-      agrees = agrees-from bay is-bay t begins (begun .here) xs k (subst NoSetpause (same p q plain) plain) (w p q plain) (starts p q plain)
-
-      pub instants-agreeing : map report (instantsIn callOf bay begins xs)
-          ≡ paper (Rewriting.fresh (program (t .readBack) p)) (map callOn (inputsIn callOf bay begins xs))
-      instants-agreeing = instants-agree bay is-bay t begins (begun .here) xs k (subst NoSetpause (same p q plain) plain) (w p q plain) (starts p q plain)
-
-      pub litres-agreeing : (f : ℕ) → tickLitres bay f begins xs ≡ paperDelivered f (Rewriting.fresh (program (t .readBack) p)) (ticksTo bay begins xs)
-      litres-agreeing = litres-agree bay is-bay t begins (begun .here) xs k (subst NoSetpause (same p q plain) plain) (w p q plain) (starts p q plain)
+    -- by the tick on its own, from a cleared record; and by rewriting, from the program of the sequence
+    pub ticks-in-bay : RunOf callOf bay t cleared begins xs × Rewrites callOf bay t Rewriting.fresh begins xs
+    ticks-in-bay = (subst (λ (state : List ℕ). RunOf callOf bay t state begins xs) (begun .fresh) (run .told), rewrites)
+      where
+        rewrites : Rewrites callOf bay t Rewriting.fresh begins xs
+        rewrites p q plain =
+            let a = begun .here .1 .accepted in
+            let same = same-statement (t .sequence) p (a .statement) q (a .spelled) in
+            rewrites-from bay is-bay t begins (begun .here) xs k (subst NoSetpause same plain) (Rewriting.fresh (program (t .readBack) p))
+            (subst (λ (st : State). TermOf (program (t .readBack) (a .statement)) st (Rewriting.fresh (program (t .readBack) p))) (sym (begun .from-fresh))
+            (ap (program (t .readBack)) same))

@@ -29,13 +29,13 @@ use Rattle.demands.specs.Demands as demands
 use Rattle.demands.specs.Demands.{stateAfterwards}
 use Rattle.demands.proofs.Sequence.{Accepted, accepted}
 use Rattle.box_stretches.specs.Called.{Called, called, number, memoryAfter, lentAfter, first}
-use Rattle.box_stretches.specs.Stretch.{sequenceAt, stateAt, countAt, positionsAt, bayLength, stretchLength, lengthIn, isEmpty, sequenceIn, readBackIn, serviceOnlyIn, stateIn, lastNumberIn, ledgerIn, Terms}
+use Rattle.box_stretches.specs.Stretch.{sequenceAt, stateAt, countAt, positionsAt, bayLength, stretchLength, lengthIn, isEmpty, sequenceIn, readBackIn, serviceOnlyIn, stateIn, lastNumberIn, ledgerIn, Terms, terms}
 use Rattle.box_stretches.specs.BayCalls.{delivering, bayTickOf, bayAdmitOf, bayRestoreOf}
-use Rattle.box_calls.specs.BayRuns.{Onward, Onwards}
+use Rattle.box_calls.specs.BayRuns.{inputsIn, Stays, NotTakenOut, Onward, Onwards, termsIn}
 use Rattle.box_calls.specs.BayRuns as Runs
 use Rattle.box_calls.specs.Box.{bayCount, boxLength, stretchOf, present, Call, admit, release, tick, save, restore, forget, service, panel, preview, ledger, newYear, bayCall, callOf}
-use Rattle.box_calls.specs.Lists.{Request, afterCall, boxAfter}
-use Rattle.box_calls.specs.Instants.{second, recordsIn, inputsIn, Stays, NotTakenOut, done, more, RecordIs, ServiceShows, PanelShows, PanelsAlike, ReaderNumbers, RecordLength}
+use Rattle.box_calls.specs.Lists.{Request, afterCall, boxAfter, overBay}
+use Rattle.box_calls.specs.Instants.{second, recordsIn, RecordIs, ServiceShows, PanelShows, PanelsAlike, ReaderNumbers, RecordLength}
 use Rattle.box_calls.specs.Shares.{Sendable}
 use Rattle.box_fields.proofs.Fields.{Holds, behind-holds, moved-holds, filled-zeros}
 use Rattle.box_theory.proofs.Moves as moves
@@ -145,7 +145,7 @@ module _ (bay : ℕ) (b : bay < bayCount) (t : Terms) (a : Accepted (t .sequence
   pub record Over (box : List ℕ) (xs : List Request) : Type 0 where
     pub numbered : (i : ℕ) (r : List ℕ) → getElem? (recordsIn callOf bay box xs) i ≡ some r
         → numberIn r ≡ min (lastNumberIn (stretchOf bay box) + suc i) lastNumber
-    pub recorded : Onwards bay box xs
+    pub recorded : Onwards callOf bay box xs
         → recordsIn callOf bay box xs
         ≡ recordsFrom (t .sequence) (t .readBack) (following (lastNumberIn (stretchOf bay box))) (stateIn (stretchOf bay box)) (inputsIn callOf bay box xs)
     pub held : Holds t (ceilingFor t) (stretchOf bay (boxAfter callOf box xs))
@@ -156,9 +156,9 @@ module _ (bay : ℕ) (b : bay < bayCount) (t : Terms) (a : Accepted (t .sequence
     pub count : lastNumberIn s′ ≡ lastNumberIn s
     pub state : Goes → stateIn s′ ≡ stateIn s
 
-  onward-tail : {box : List ℕ} {x : Request} {xs : List Request} → Onwards bay box (x ∷ xs)
-      → (x .bay ≡ bay → Onward (x .call) (callOf box bay (x .call))) × Onwards bay (afterCall callOf box x) xs
-  onward-tail (Runs.more n k) = (n, k)
+  onward-tail : {box : List ℕ} {x : Request} {xs : List Request} → Onwards callOf bay box (x ∷ xs)
+      → (x .bay ≡ bay → Onward (x .call) (callOf box bay (x .call))) × Onwards callOf bay (afterCall callOf box x) xs
+  onward-tail (Runs.Onwards.more n k) = (n, k)
 
   quiet-over : (box : List ℕ) → Here box → (x : Request) (xs : List Request) (Goes : Type 0)
       → Quiet (stretchOf bay box) (stretchOf bay (afterCall callOf box x)) Goes
@@ -236,7 +236,7 @@ module _ (bay : ℕ) (b : bay < bayCount) (t : Terms) (a : Accepted (t .sequence
     instant-over : (e : ℕ) (answer trace : List ℕ) (n : number (callOf box bay (tick e answer trace)) ≡ 0) (xs : List Request)
         → (Here (memoryAfter (callOf box bay (tick e answer trace))) → Over (memoryAfter (callOf box bay (tick e answer trace))) xs)
         → Over box (record { bay = bay; call = tick e answer trace } ∷ xs)
-    unfolding boxAfter recordsIn inputsIn
+    unfolding boxAfter overBay
     instant-over e answer trace n xs f =
         let i = instant-of box bay e answer trace n in
         let l : length (leBytes numberBytes (following (lastNumberIn s))) ≡ numberBytes = length-leBytes numberBytes (following (lastNumberIn s)) in
@@ -281,12 +281,12 @@ module _ (bay : ℕ) (b : bay < bayCount) (t : Terms) (a : Accepted (t .sequence
 
     own-over : (c : Call) (xs : List Request) → Stays c (callOf box bay c)
         → (Here (memoryAfter (callOf box bay c)) → Over (memoryAfter (callOf box bay c)) xs) → Over box (record { bay = bay; call = c } ∷ xs)
-    unfolding recordsIn inputsIn
+    unfolding overBay
     own-over (admit t′) xs n f =
         quiet-over box h (record { bay = bay; call = admit t′ }) xs (Unit {0}) (same (Unit {0}) (refused-stretch box bay (admit t′) (filled-already box bay b (h .sized-box) there t′))) (λ g. tt)
         (rw (eq-eqb bay bay refl)) (rw (eq-eqb bay bay refl)) f
     own-over release xs n f =
-        quiet-over box h (record { bay = bay; call = release }) xs (Unit {0}) (same (Unit {0}) (refused-stretch box bay release n)) (λ g. tt)
+        quiet-over box h (record { bay = bay; call = release }) xs (Unit {0}) (same (Unit {0}) (refused-stretch box bay release (n refl))) (λ g. tt)
         (rw (eq-eqb bay bay refl)) (rw (eq-eqb bay bay refl)) f
     own-over (tick e answer trace) xs n f =
         elim (ℕ-discrete (number (callOf box bay (tick e answer trace))) 0) [
@@ -307,7 +307,7 @@ module _ (bay : ℕ) (b : bay < bayCount) (t : Terms) (a : Accepted (t .sequence
         quiet-over box h (record { bay = bay; call = restore name }) xs (number (bayRestoreOf s name) ≢ 0)
         (subst (λ (r : List ℕ). Quiet s r (number (bayRestoreOf s name) ≢ 0))
         (sym (own-stretch box bay (restore name) b (h .sized-box) ∙ ap memoryAfter is)) (returns name))
-        (λ g w. g refl (number-is ∙ w))
+        (λ g w. g refl .1 name refl (number-is ∙ w))
         (rw (eq-eqb bay bay refl)) (rw (eq-eqb bay bay refl)) f
     own-over (forget name) xs n f =
         quiet-over box h (record { bay = bay; call = forget name }) xs (Unit {0})
@@ -337,9 +337,9 @@ module _ (bay : ℕ) (b : bay < bayCount) (t : Terms) (a : Accepted (t .sequence
         (rw (eq-eqb bay bay refl)) (rw (eq-eqb bay bay refl)) f
 
   pub over : (box : List ℕ) → Here box → (xs : List Request) → NotTakenOut callOf bay box xs → Over box xs
-  unfolding recordsIn inputsIn recordsFrom boxAfter
-  over box h [] done = record { numbered = λ i r w. absurd (Option·none-ne-some r w); recorded = λ o. refl; held = h .holds }
-  over box h (x ∷ xs) (more n k) =
+  unfolding overBay recordsFrom boxAfter
+  over box h [] Runs.NotTakenOut.done = record { numbered = λ i r w. absurd (Option·none-ne-some r w); recorded = λ o. refl; held = h .holds }
+  over box h (x ∷ xs) (Runs.NotTakenOut.more n k) =
       elim (ℕ-discrete (x .bay) bay) [
         | yes q ↦ subst (λ (j : ℕ). Over box (record { bay = j; call = x .call } ∷ xs)) (sym q)
             (own-over box h (x .call) xs (n q)
@@ -351,23 +351,9 @@ module _ (bay : ℕ) (b : bay < bayCount) (t : Terms) (a : Accepted (t .sequence
       ]
 
   -- a list that goes onward does not take the bay out
-  stays : (c : Call) (o : Called) → Onward c o → Stays c o
-  stays (admit t′) o n = tt
-  stays release o n = n
-  stays (tick e answer trace) o n = tt
-  stays (save name) o n = tt
-  stays (restore name) o n = tt
-  stays (forget name) o n = tt
-  stays (service trace view) o n = tt
-  stays (panel trace view) o n = tt
-  stays (preview e u buffer) o n = tt
-  stays (ledger totals) o n = tt
-  stays newYear o n = tt
-
-  pub not-taken : (box : List ℕ) (xs : List Request) → Onwards bay box xs → NotTakenOut callOf bay box xs
-  not-taken box [] Runs.done = done
-  not-taken box (x ∷ xs) (Runs.more n k) =
-      more (λ q. stays (x .call) (callOf box bay (x .call)) (n q)) (not-taken (afterCall callOf box x) xs k)
+  pub not-taken : (box : List ℕ) (xs : List Request) → Onwards callOf bay box xs → NotTakenOut callOf bay box xs
+  not-taken box [] Runs.Onwards.done = Runs.NotTakenOut.done
+  not-taken box (x ∷ xs) (Runs.Onwards.more n k) = Runs.NotTakenOut.more (λ q. n q .0) (not-taken (afterCall callOf box x) xs k)
 
 -- ---- from an admission on
 module _ (box : List ℕ) (bay : ℕ) (t : Terms) (small : Sendable (admit t)) (admitted : number (callOf box bay (admit t)) ≡ 0) where
@@ -414,18 +400,15 @@ module _ (box : List ℕ) (bay : ℕ) (t : Terms) (small : Sendable (admit t)) (
         let q : min (lastNumberIn (stretchOf bay from) + suc i) lastNumber ≡ min (i + 1) lastNumber = omega (arith, none-yet) in
         from-here k .numbered i r w ∙ q
 
-    pub service-only-fixed : NotTakenOut callOf bay from xs → serviceOnlyIn (stretchOf bay (boxAfter callOf from xs)) ≡ t .serviceOnly
-    service-only-fixed k = from-here k .held .service
-
-    pub terms-fixed : NotTakenOut callOf bay from xs
-        → (sequenceIn (stretchOf bay (boxAfter callOf from xs)) ≡ t .sequence)
-        × (readBackIn (stretchOf bay (boxAfter callOf from xs)) ≡ t .readBack)
-        × (serviceOnlyIn (stretchOf bay (boxAfter callOf from xs)) ≡ t .serviceOnly)
+    pub terms-fixed : NotTakenOut callOf bay from xs → termsIn (stretchOf bay (boxAfter callOf from xs)) ≡ t
     terms-fixed k =
+        let s : List ℕ = stretchOf bay (boxAfter callOf from xs) in
         let h = from-here k .held in
-        (ap (λ (n : ℕ). slot sequenceAt n (stretchOf bay (boxAfter callOf from xs))) (h .long) ∙ h .bytes, h .set, h .service)
+        ap₂ (λ (sequence : List ℕ) (readBack : ℕ). terms sequence readBack (serviceOnlyIn s))
+        (ap (λ (n : ℕ). slot sequenceAt n s) (h .long) ∙ h .bytes) (h .set)
+        ∙ ap (terms (t .sequence) (t .readBack)) (h .service)
 
-    pub records-are : Onwards bay from xs → recordsIn callOf bay from xs ≡ recordingOf (t .sequence) (t .readBack) (inputsIn callOf bay from xs)
+    pub records-are : Onwards callOf bay from xs → recordsIn callOf bay from xs ≡ recordingOf (t .sequence) (t .readBack) (inputsIn callOf bay from xs)
     records-are k =
         let a = runs.begun box bay t small admitted .here .1 .accepted in
         from-here (not-taken bay (runs.is-bay box bay t small admitted) t a from xs k) .recorded k

@@ -14,7 +14,7 @@ use Rattle.box_positions.specs.Table.{lookup}
 use Rattle.box_ledgers.specs.Ledgers.{ledgerLength}
 use Rattle.box_stretches.specs.BayCalls.{bayReleaseOf, bayAdmitOf}
 use Rattle.box_calls.specs.Box.{bayCount, stretchOf, present, admit, release, callOf}
-use Rattle.box_calls.specs.Leaves.{Admitted, AdmissionLeaves, TakenOut, ReleaseLeaves}
+use Rattle.box_calls.specs.Leaves.{FreshlyFilled, AdmissionLeaves, TakenOut, ReleaseLeaves}
 use Rattle.box_fields.proofs.Fields.{vacated-empty, slot-vacated, vacated-behind, filled-zeros, filled-behind}
 use Rattle.box_theory.proofs.Bays.{ceilingFor, bounds, Admission, turned-down, admits, admission}
 use Rattle.box_theory.proofs.Standing.{fresh-state, filled-stands, sequence-held}
@@ -23,7 +23,7 @@ use Rattle.box_theory.proofs.Named.{bay-answered, stretch-after, none-k
 
 pub admission-leaves : AdmissionLeaves callOf
 admission-leaves box bay t small n =
-    subst (Admitted t s) (sym (stretch-after box bay (admit t) n)) (go (admission k s t) (bay-answered box bay (admit t) n))
+    subst (FreshlyFilled t s) (sym (stretch-after box bay (admit t) n)) (go (admission k s t) (bay-answered box bay (admit t) n))
   where
     k : ℕ
     k = present bayCount box
@@ -34,7 +34,7 @@ admission-leaves box bay t small n =
     z : length s ≡ stretchLength
     z = let i = answered-inside box bay (admit t) n in stretch-sized box bay (admit t) (i .0) (i .1)
 
-    go : Admission k s t (bayAdmitOf k s t) → number (bayAdmitOf k s t) ≡ 0 → Admitted t s (memoryAfter (bayAdmitOf k s t))
+    go : Admission k s t (bayAdmitOf k s t) → number (bayAdmitOf k s t) ≡ 0 → FreshlyFilled t s (memoryAfter (bayAdmitOf k s t))
     go (turned-down m y e) h = absurd (y (sym (ap number e) ∙ h))
     go (admits c room e) h =
         let a = accepted (t .sequence) (t .readBack) c in

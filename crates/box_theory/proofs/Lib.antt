@@ -19,7 +19,6 @@ pub mod Years
 pub mod WrongBoxes
 pub mod WrongPositions
 pub mod WrongLedgers
-pub mod Reused
 pub mod Leaves
 pub mod NumberLists
 pub mod NumberTable

@@ -20,7 +20,7 @@ use Rattle.box_positions.specs.Table.{tableLength, lookup, numberKept, saveOf, 
 use Rattle.box_positions_table.proofs.Theorems as table
 use Rattle.box_positions_table.proofs.Theorems.{cleared-agrees, save-agrees, forget-agrees, lookup-zeros}
 use Rattle.box_stretches.specs.Called.{called, number, memoryAfter}
-use Rattle.box_stretches.specs.Stretch.{stateAt, lengthIn, isEmpty, sequenceIn, stateIn, positionsIn}
+use Rattle.box_stretches.specs.Stretch.{stateAt, lengthIn, isEmpty, sequenceIn, stateIn, positionsIn, Terms}
 use Rattle.box_calls.specs.Box.{bayCount, boxLength, emptyBox, stretchOf, present, Call, admit, release, tick, save, restore, forget, service, panel, preview, ledger, newYear, buffers, bayCall, isFor, callOf}
 use Rattle.box_calls.specs.Lists.{Request, afterCall, boxAfter}
 use Rattle.box_calls.specs.Shares.{Sendable, AllSendable, none, each}
@@ -147,6 +147,13 @@ module _ (bay : ℕ) (b : bay < bayCount) where
         | no q ↦ rw (ne-eqb (x .bay) bay q)
             (by-name after g ps (same-after box after ps (others-stay box (x .bay) (x .call) bay (λ y. q (sym y)) b) a) xs k)
       ]
+
+  -- from an admission on: it leaves none
+  pub named-from-admission : (box : List ℕ) → Kept box → (t : Terms) → Sendable (admit t) → number (callOf box bay (admit t)) ≡ 0
+      → (ys : List Request) → AllSendable ys → Over (memoryAfter (callOf box bay (admit t))) [] ys
+  named-from-admission box h t small n =
+      by-name (memoryAfter (callOf box bay (admit t))) (kept-call box h bay (admit t) small) []
+      (subst (λ (s : List ℕ). Agrees s []) (sym (positions-after box bay (admit t) n)) cleared-agrees)
 
   pub positions-named : (xs : List Request) → AllSendable xs → Over emptyBox [] xs
   positions-named =

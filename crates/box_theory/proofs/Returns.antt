@@ -2,40 +2,32 @@
 use Prim.Native.Nat.{ℕ, _<_}
 use mathlib.Core.Path.{_≡_, refl, sym, ap, ap₂, _∙_, subst}
 use mathlib.Core.Option.{some}
-use mathlib.Core.List.{List, map}
+use mathlib.Core.List.{List}
 use Rattle.esterel.specs.Statement.{Statement}
 use Rattle.esterel.specs.States.{NoSetpause}
 use Rattle.esterel.specs.Expansion.{expand}
 use Rattle.esterel.specs.Machines.{State, Rewriting}
 use Rattle.theory.proofs.Agreement.{TermOf}
 use Rattle.sequence.specs.Program.{program}
-use Rattle.sequence.specs.Rows.{Spells}
 use Rattle.states.specs.StateRecord.{encodeState}
 use Rattle.states.proofs.StateLaws.{length-state}
-use Rattle.demands.specs.Demands.{report}
-use Rattle.tick.specs.Paper.{paper}
-use Rattle.demands.specs.Deliveries.{paperDelivered}
-use Rattle.recordings.specs.Recording.{callOn}
-use Rattle.demands.proofs.Sequence.{Accepted, same-statement}
+use Rattle.demands.proofs.Sequence.{same-statement}
 use Rattle.box_positions.specs.Table.{lookup}
 use Rattle.box_stretches.specs.Called.{number, memoryAfter}
-use Rattle.box_stretches.specs.Stretch.{sequenceIn, readBackIn, serviceOnlyIn, stateIn, positionsIn, Terms, terms}
-use Rattle.box_calls.specs.Box.{bayCount, stretchOf, restore, callOf}
-use Rattle.box_calls.specs.Lists.{Request}
-use Rattle.box_calls.specs.BayRuns.{ticksTo, tickOutcomes, tickLitres, Onwards}
-use Rattle.box_calls.specs.Instants.{inputsIn, instantsIn}
+use Rattle.box_stretches.specs.Stretch.{sequenceIn, readBackIn, stateIn, positionsIn, Terms, terms}
+use Rattle.box_calls.specs.Box.{bayCount, emptyBox, stretchOf, admit, restore, callOf}
+use Rattle.box_calls.specs.Lists.{Request, boxAfter}
+use Rattle.box_calls.specs.BayRuns.{Onwards, termsIn, RunOf, Rewrites}
+use Rattle.box_calls.specs.Positions.{TicksFromPosition}
 use Rattle.box_fields.proofs.Fields.{Holds, moved-state}
 use Rattle.box_theory.proofs.Bays.{ceilingFor, bounds}
 use Rattle.box_theory.proofs.Standing.{Standing, sequence-held, put-stands}
 use Rattle.box_theory.proofs.Positions.{Positioned}
 use Rattle.box_theory.proofs.Stretches.{answered-inside, same-length}
-use Rattle.box_theory.proofs.Reached.{filled-bay, Kept}
-use Rattle.box_theory.proofs.Named.{answered-there, comes-back}
-use Rattle.box_theory.proofs.BayRuns.{Here, Run, runs, agrees-from, instants-agree, litres-agree}
-
--- what a stretch holds, as an admission fixes it
-abbrev pub termsIn : List ℕ → Terms
-termsIn s = terms (sequenceIn s) (readBackIn s) (serviceOnlyIn s)
+use Rattle.box_theory.proofs.Reached.{filled-bay, Kept, kept, kept-call, kept-list}
+use Rattle.box_theory.proofs.Named.{answered-there, comes-back, named-from-admission}
+use Rattle.box_theory.proofs.Instants.{terms-fixed}
+use Rattle.box_theory.proofs.BayRuns.{Here, Run, runs, rewrites-from}
 
 as-held : (t : Terms) (s : List ℕ) → Standing t s → Positioned t (positionsIn s) → Standing (termsIn s) s × Positioned (termsIn s) (positionsIn s)
 as-held t s h v =
@@ -86,33 +78,39 @@ module _ (box : List ℕ) (h : Kept box) (bay name : ℕ) (back : number (callOf
         at-labels = refl;
       }
 
-  -- the paper that starts with the expansion of the labels
-  module _ (p : Statement) (q : Spells (sequenceIn s) p) (plain : NoSetpause p) (xs : List Request) (k : Onwards bay again xs) where
-    abbrev a : Accepted (sequenceIn s) (readBackIn s)
-    a = returned .here .1 .accepted
+  -- by the tick on its own, from the labels found; and by rewriting, from their expansion
+  module _ (xs : List Request) (k : Onwards callOf bay again xs) where
+    pub run : Run bay is-bay (termsIn s) again xs
+    run = runs bay is-bay (termsIn s) again (returned .here) xs k
 
-    same : p ≡ returned .here .1 .accepted .statement
-    same = same-statement (sequenceIn s) p (a .statement) q (a .spelled)
+    pub run-from : RunOf callOf bay (termsIn s) (encodeState (State.waits (returned .labels))) again xs
+    run-from =
+        subst (λ (state : List ℕ). RunOf callOf bay (termsIn s) state again xs) (returned .here .1 .bytes ∙ ap encodeState (returned .at-labels)) (run .told)
 
-    abbrev w : Rewriting
-    w = Rewriting.waits (expand (program (readBackIn s) p) (returned .labels))
+    pub rewrites : Rewrites callOf bay (termsIn s) (λ p. Rewriting.waits (expand p (returned .labels))) again xs
+    rewrites p q plain =
+        let a = returned .here .1 .accepted in
+        let same = same-statement (sequenceIn s) p (a .statement) q (a .spelled) in
+        let w : Rewriting = Rewriting.waits (expand (program (readBackIn s) p) (returned .labels)) in
+        rewrites-from bay is-bay (termsIn s) again (returned .here) xs k (subst NoSetpause same plain) w
+        (subst (λ (st : State). TermOf (program (readBackIn s) (a .statement)) st w) (sym (returned .at-labels))
+        (ap (λ (r : Statement). expand (program (readBackIn s) r) (returned .labels)) same))
 
-    starts : TermOf (program (readBackIn s) (returned .here .1 .accepted .statement)) (returned .here .1 .state)
-        (Rewriting.waits (expand (program (readBackIn s) p) (returned .labels)))
-    starts =
-        subst (λ (st : State). TermOf (program (readBackIn s) (a .statement)) st w) (sym (returned .at-labels))
-        (ap (λ (r : Statement). expand (program (readBackIn s) r) (returned .labels)) same)
-
-    pub agrees : (map report (tickOutcomes bay again xs) ≡ paper (Rewriting.waits (expand (program (readBackIn s) p) (returned .labels))) (ticksTo bay again xs))
-        × (map report (instantsIn callOf bay again xs)
-        ≡ paper (Rewriting.waits (expand (program (readBackIn s) p) (returned .labels))) (map callOn (inputsIn callOf bay again xs)))
-        × ((f : ℕ) → tickLitres bay f again xs ≡ paperDelivered f (Rewriting.waits (expand (program (readBackIn s) p) (returned .labels))) (ticksTo bay again xs))
-    agrees =
-        let plain′ = subst NoSetpause same plain in (
-          agrees-from bay is-bay (termsIn s) again (returned .here) xs k plain′ w starts,
-          instants-agree bay is-bay (termsIn s) again (returned .here) xs k plain′ w starts,
-          litres-agree bay is-bay (termsIn s) again (returned .here) xs k plain′ w starts,
-        )
-
-  pub run : (xs : List Request) → Onwards bay again xs → Run bay is-bay (termsIn s) again xs
-  run = runs bay is-bay (termsIn s) again (returned .here)
+-- ---- in a box that calls reach, an admission, calls that do not take the bay out, and a coming back
+pub ticks-from-position : TicksFromPosition callOf
+ticks-from-position zs sent bay t small admitted ys sent′ stays name back =
+    let box = boxAfter callOf emptyBox zs in
+    let opened = memoryAfter (callOf box bay (admit t)) in
+    let left = boxAfter callOf opened ys in
+    let come = memoryAfter (callOf left bay (restore name)) in
+    let h = kept-list opened (kept-call box (kept zs sent) bay (admit t) small) ys sent′ in
+    let r = returned left h bay name back in
+    let fixed : termsIn (stretchOf bay left) ≡ t = terms-fixed box bay t small admitted ys stays in
+    let saved = named-from-admission bay (is-bay left h bay name back) box (kept zs sent) t small admitted ys sent′ .alike name in (
+      r .labels,
+      sym saved ∙ r .found,
+      λ xs k. (
+        subst (λ (u : Terms). RunOf callOf bay u (encodeState (State.waits (r .labels))) come xs) fixed (run-from left h bay name back xs k),
+        subst (λ (u : Terms). Rewrites callOf bay u (λ p. Rewriting.waits (expand p (r .labels))) come xs) fixed (rewrites left h bay name back xs k),
+      ),
+    )

@@ -1,7 +1,7 @@
 -- The theorems about a box (02, items 8 to 12 and 14): of the definitions of the calls, which the code meets for all arguments. The first
 -- is the box on paper; what follows says the sentences of 02 one by one, also of boxes that no call has written.
 use Prim.Native.Nat.{ℕ, _+_, _<_}
-use mathlib.Core.Path.{_≡_, refl, sym, ap, ap₂, _∙_, subst}
+use mathlib.Core.Path.{_≡_, refl, sym, ap, _∙_}
 use mathlib.Core.Logic.{_≢_}
 use mathlib.Core.Option.{some}
 use mathlib.Core.List.{List, [], _∷_, map, List·Memᴰ}
@@ -11,17 +11,15 @@ use Rattle.esterel.specs.Reaction.{Code, gives}
 use Rattle.esterel.specs.Rules.{Reacts}
 use Rattle.esterel.specs.States.{NoSetpause}
 use Rattle.esterel.specs.Expansion.{expand}
-use Rattle.esterel.specs.Machines.{State, Rewriting}
+use Rattle.esterel.specs.Machines.{Rewriting}
 use Rattle.sequence.specs.Program.{program}
 use Rattle.sequence.specs.Rows.{Spells, ByRows}
-use Rattle.states.specs.StateRecord.{encodeState}
 use Rattle.tick.specs.Tick.{Outcome, tickOf}
 use Rattle.tick.specs.TickRows.{TickRow}
 use Rattle.demands.specs.Demands as demands
 use Rattle.demands.specs.Demands.{outcomes, cleared, report, StandsAt, Derived, Shows}
-use Rattle.tick.specs.Paper as Paper
 use Rattle.tick.specs.Paper.{paper}
-use Rattle.demands.specs.Deliveries.{delivered, paperDelivered}
+use Rattle.demands.specs.Deliveries.{paperDelivered}
 use Rattle.recordings.specs.Record.{recordLength, panelLength}
 use Rattle.recordings.specs.Recording.{callOn, recordingOf, joined, Inputs}
 use Rattle.replays.specs.Replay.{replayed, replayOf}
@@ -30,16 +28,15 @@ use Rattle.box_positions.specs.Names.{find}
 use Rattle.box_positions.specs.Table.{lookup}
 use Rattle.box_ledgers.specs.Ledgers.{farmCount, readingLength, totalIn}
 use Rattle.box_stretches.specs.Called.{called, number, memoryAfter}
-use Rattle.box_stretches.specs.Stretch.{sequenceIn, readBackIn, serviceOnlyIn, stateIn, positionsIn, ledgerIn, Terms, terms}
+use Rattle.box_stretches.specs.Stretch.{stateIn, positionsIn, ledgerIn, Terms}
 use Rattle.box_calls.specs.Box.{bayCount, boxLength, emptyBox, stretchOf, admit, release, tick, restore, forget, service, panel, ledger, callOf}
 use Rattle.box_calls.specs.Lists.{Request, boxAfter, asked, answers}
 use Rattle.box_calls.specs.Shares.{Sendable, AllSendable}
-use Rattle.box_calls.specs.BayRuns.{paperBuffer, ticksTo, outcomeOf, tickOutcomes, tickLitres, Onwards}
+use Rattle.box_calls.specs.BayRuns.{paperBuffer, ticksTo, outcomeOf, tickOutcomes, tickLitres, instantsIn, inputsIn, Onwards, termsIn, TermsFixed, Rewrites, TicksInBay}
 use Rattle.box_calls.specs.Claims.{RefusalsLeave, OthersStay, Isolated, BySum, InBoxes, CeilingsStored, WithinCeiling, RoundsWithin, AdmitsBySum, GivesBack, Thirteen, NoBox, Fourteen, BoxDemands}
-use Rattle.box_calls.specs.Reused.{IsolatedReusing}
 use Rattle.box_calls.specs.Leaves.{AdmissionLeaves, ReleaseLeaves}
-use Rattle.box_calls.specs.Positions.{savedIn, PositionsSaved, PositionsValid, SaveNumbers, KnownOnly, ComesBack, LosesPositions, PositionDemands}
-use Rattle.box_calls.specs.Instants.{recordsIn, inputsIn, instantsIn, NotTakenOut, OverBay, RecordIs, NumberedFromOne, ServiceOnlyFixed, ServiceShows, PanelShows, PanelsAlike, ReaderNumbers, RecordLength, RecordDemands}
+use Rattle.box_calls.specs.Positions.{savedIn, PositionsSaved, PositionsValid, SaveNumbers, KnownOnly, ComesBack, LosesPositions, TicksFromPosition, PositionDemands}
+use Rattle.box_calls.specs.Instants.{recordsIn, RecordIs, NumberedFromOne, ServiceOnlyFixed, ServiceShows, PanelShows, PanelsAlike, ReaderNumbers, RecordLength, RecordDemands}
 use Rattle.box_calls.specs.Previews.{PreviewShows, PreviewNumbers}
 use Rattle.box_calls.specs.Years.{deliveredSince, SameYear, sumOf, TotalsExact, LedgerShows, YearBegins, LedgerNumbers, Nineteen, PreviewsNeverNineteen, LedgerDemands}
 use Rattle.box_paper.specs.PaperBox.{byLabelSets, emptyPaper}
@@ -59,7 +56,6 @@ use Rattle.box_theory.proofs.WrongLedgers as wrongs
 use Rattle.box_theory.proofs.Stretches as stretches
 use Rattle.box_theory.proofs.Numbers as numbers
 use Rattle.box_theory.proofs.Isolation as apart
-use Rattle.box_theory.proofs.Reused as reused
 use Rattle.box_theory.proofs.Leaves as leaves
 use Rattle.box_theory.proofs.Reached as reached
 use Rattle.box_theory.proofs.Rounds as rounds
@@ -117,7 +113,8 @@ others-stay box bay c = (stretches.same-length box bay c, stretches.others-stay 
 pub by-sum : BySum callOf
 by-sum box box′ bay b z z′ e = apart.by-sum bay b box box′ z z′ e
 
--- the same calls to one bay, its admissions answered alike, from any two boxes with the same stretch of it
+-- the same calls to one bay, its admissions answered alike, from any two boxes with the same stretch of it; of a buffer that a call only
+-- writes its length counts, and not what was in it
 pub isolated-from : (bay : ℕ) → bay < bayCount → (box box′ : List ℕ) → length box ≡ boxLength → length box′ ≡ boxLength
     → stretchOf bay box ≡ stretchOf bay box′ → (xs ys : List Request) → asked callOf bay box xs ≡ asked callOf bay box′ ys
     → (answers callOf bay box xs ≡ answers callOf bay box′ ys)
@@ -128,10 +125,6 @@ isolated-from = apart.alike
 -- answered alike, give it the same answers and states, whatever the others get'
 pub isolated : Isolated callOf
 isolated bay b = let z = reached.kept-empty .sized-box in isolated-from bay b emptyBox emptyBox z z refl
-
--- the same where buffers are lent again: of a buffer that a call only writes its length counts, and not what was in it
-pub isolated-reusing : IsolatedReusing callOf
-isolated-reusing = reused.isolated-reusing
 
 -- ---- every box that calls reach from an empty one
 -- what a bay present has is the ceiling of the sequence that it holds, which passes the check
@@ -176,6 +169,16 @@ admission-leaves = leaves.admission-leaves
 pub release-leaves : ReleaseLeaves callOf
 release-leaves = leaves.release-leaves
 
+-- from an admission on, as long as the bay is not taken out, it holds the sequence and both sets that were admitted, across every coming
+-- back to a position
+pub terms-fixed : TermsFixed callOf
+terms-fixed = instants.terms-fixed
+
+-- from an admission up to the first coming back or the taking out, whatever other calls come in between, the ticks and the instants of the
+-- bay, and the litres, are those of the tick on its own, and without setpause those of rewriting
+pub ticks-in-bay : TicksInBay callOf
+ticks-in-bay = runs.ticks-in-bay
+
 -- ITEM 8
 pub box-demands : BoxDemands callOf
 box-demands =
@@ -184,11 +187,15 @@ box-demands =
       others-stay = others-stay;
       isolated = isolated;
       by-sum = by-sum;
+      admission-leaves = admission-leaves;
+      terms-fixed = terms-fixed;
+      ticks-in-bay = ticks-in-bay;
       ceilings-stored = ceilings-stored;
       within-ceiling = within-ceiling;
       rounds-within = rounds-within;
       admits-by-sum = admits-by-sum;
       gives-back = gives-back;
+      release-leaves = release-leaves;
       thirteen = thirteen;
       no-box = no-box;
       fourteen = fourteen;
@@ -205,56 +212,57 @@ module _ (box : List ℕ) (bay : ℕ) (t : Terms) (small : Sendable (admit t)) (
   abbrev from : List ℕ
   from = memoryAfter (callOf box bay (admit t))
 
-  module _ (xs : List Request) (k : Onwards bay from xs) where
+  module _ (xs : List Request) (k : Onwards callOf bay from xs) where
     -- the box after the list
-    abbrev now : List ℕ
-    now = boxAfter callOf from xs
+    abbrev afterwards : List ℕ
+    afterwards = boxAfter callOf from xs
 
     -- 'In a bay a call answered 19 is no instant': the ticks are those of the list that the ledger does not turn down
-    pub bay-ticks : tickOutcomes bay from xs ≡ outcomes tickOf (t .sequence) (t .readBack) cleared (ticksTo bay from xs)
-    bay-ticks = runs.bay-ticks box bay t small admitted xs k
+    pub bay-ticks : tickOutcomes callOf bay from xs ≡ outcomes tickOf (t .sequence) (t .readBack) cleared (ticksTo callOf bay from xs)
+    bay-ticks = ticks-in-bay box bay t small admitted xs k .0 .ticks
 
     -- '2 is there over the inputs of the ticks not turned down, in their order': the instants of the bay are those that the tick on its
     -- own gives on these inputs, one after the other, and demand 2 is about each of them
     pub instants-in-bay : instantsIn callOf bay from xs
         ≡ outcomes tickOf (t .sequence) (t .readBack) cleared (map callOn (inputsIn callOf bay from xs))
-    instants-in-bay = runs.bay-instants box bay t small admitted xs k
+    instants-in-bay = ticks-in-bay box bay t small admitted xs k .0 .instants
 
     -- demand 1: no tick of the list gives 11, and the number of the next, unless it is 19, is by the rows
-    pub demand-1-in-bay : (o : Outcome) → List·Memᴰ o (tickOutcomes bay from xs) → demands.number o ≢ 11
+    pub demand-1-in-bay : (o : Outcome) → List·Memᴰ o (tickOutcomes callOf bay from xs) → demands.number o ≢ 11
     demand-1-in-bay = runs.run box bay t small admitted xs k .never-11
 
-    pub rows-in-bay : (e : ℕ) (answer trace : List ℕ) → number (callOf now bay (tick e answer trace)) ≢ 19
-        → ByRows (number (callOf now bay (tick e answer trace))) (TickRow (t .sequence) (t .readBack) (stateIn (stretchOf bay now)) (paperBuffer trace answer))
-    rows-in-bay = runs.by-rows bay (runs.is-bay box bay t small admitted) t now (runs.run box bay t small admitted xs k .stands)
+    pub rows-in-bay : (e : ℕ) (answer trace : List ℕ) → number (callOf afterwards bay (tick e answer trace)) ≢ 19
+        → ByRows (number (callOf afterwards bay (tick e answer trace)))
+        (TickRow (t .sequence) (t .readBack) (stateIn (stretchOf bay afterwards)) (paperBuffer trace answer))
+    rows-in-bay = runs.by-rows bay (runs.is-bay box bay t small admitted) t afterwards (runs.run box bay t small admitted xs k .stands)
 
     -- demand 2, of the next tick
-    pub demand-2-in-bay : (e : ℕ) (answer trace : List ℕ) → number (callOf now bay (tick e answer trace)) ≡ 0
-        → (p : Statement) × StandsAt (t .sequence) (t .readBack) (stateIn (stretchOf bay now)) p × Derived p e
+    pub demand-2-in-bay : (e : ℕ) (answer trace : List ℕ) → number (callOf afterwards bay (tick e answer trace)) ≡ 0
+        → (p : Statement) × StandsAt (t .sequence) (t .readBack) (stateIn (stretchOf bay afterwards)) p × Derived p e
         × ((o : ℕ) (c : Code) (l : ℕ) (p′ : Statement) → Reacts p e (gives o c l p′)
-        → Shows p e o c l p′ (outcomeOf bay trace (callOf now bay (tick e answer trace))))
-    demand-2-in-bay = runs.shows-rules bay (runs.is-bay box bay t small admitted) t now (runs.run box bay t small admitted xs k .stands)
+        → Shows p e o c l p′ (outcomeOf bay trace (callOf afterwards bay (tick e answer trace))))
+    demand-2-in-bay = runs.shows-rules bay (runs.is-bay box bay t small admitted) t afterwards (runs.run box bay t small admitted xs k .stands)
 
     -- demand 3, 'from an admission up to the first coming back to a position or the taking out': over the ticks, those turned down by
     -- their row included, and over the inputs of the instants
     pub demand-3-in-bay : (p : Statement) → Spells (t .sequence) p → NoSetpause p
-        → map report (tickOutcomes bay from xs) ≡ paper (Rewriting.fresh (program (t .readBack) p)) (ticksTo bay from xs)
-    demand-3-in-bay = runs.agrees box bay t small admitted xs k
+        → map report (tickOutcomes callOf bay from xs) ≡ paper (Rewriting.fresh (program (t .readBack) p)) (ticksTo callOf bay from xs)
+    demand-3-in-bay p q plain = ticks-in-bay box bay t small admitted xs k .1 p q plain .ticks
 
     pub demand-3-on-inputs : (p : Statement) → Spells (t .sequence) p → NoSetpause p
         → map report (instantsIn callOf bay from xs)
         ≡ paper (Rewriting.fresh (program (t .readBack) p)) (map callOn (inputsIn callOf bay from xs))
-    demand-3-on-inputs = runs.instants-agreeing box bay t small admitted xs k
+    demand-3-on-inputs p q plain = ticks-in-bay box bay t small admitted xs k .1 p q plain .instants
 
     -- 'Rewriting gives the same litres': what each tick brings a farm is what the paper does
     pub litres-in-bay : (p : Statement) → Spells (t .sequence) p → NoSetpause p → (farm : ℕ)
-        → tickLitres bay farm from xs ≡ paperDelivered farm (Rewriting.fresh (program (t .readBack) p)) (ticksTo bay from xs)
-    litres-in-bay = runs.litres-agreeing box bay t small admitted xs k
+        → tickLitres callOf bay farm from xs ≡ paperDelivered farm (Rewriting.fresh (program (t .readBack) p)) (ticksTo callOf bay from xs)
+    litres-in-bay p q plain = ticks-in-bay box bay t small admitted xs k .1 p q plain .litres
 
     -- and the ledger has grown by what the paper delivers, tick by tick, if no new year came in between
     pub ledger-by-paper : SameYear bay xs → (p : Statement) → Spells (t .sequence) p → NoSetpause p → (farm : ℕ) → farm < farmCount
-        → totalIn farm (ledgerIn (stretchOf bay now))
-        ≡ totalIn farm (ledgerIn (stretchOf bay from)) + sumOf (paperDelivered farm (Rewriting.fresh (program (t .readBack) p)) (ticksTo bay from xs))
+        → totalIn farm (ledgerIn (stretchOf bay afterwards))
+        ≡ totalIn farm (ledgerIn (stretchOf bay from)) + sumOf (paperDelivered farm (Rewriting.fresh (program (t .readBack) p)) (ticksTo callOf bay from xs))
     ledger-by-paper y p q plain farm l =
         let b = runs.is-bay box bay t small admitted in
         let before = totalIn farm (ledgerIn (stretchOf bay from)) in
@@ -293,6 +301,11 @@ comes-back = named.comes-back
 pub loses-positions : LosesPositions callOf
 loses-positions box bay = (named.none-known box bay release refl, λ t. named.none-known box bay (admit t) refl)
 
+-- from a coming back on, the ticks, the instants and the litres are those of the tick on its own on the ADMITTED terms, setpause included,
+-- from the label set last saved under that name; 'Without setpause' they 'equal rewriting started from the expansion of that set'
+pub ticks-from-position : TicksFromPosition callOf
+ticks-from-position = returns.ticks-from-position
+
 -- ITEM 9, of the calls
 pub position-demands : PositionDemands callOf
 position-demands =
@@ -304,9 +317,11 @@ position-demands =
       forget-numbers = forget-numbers;
       comes-back = comes-back;
       loses-positions = loses-positions;
+      ticks-from-position = ticks-from-position;
     }
 
--- ---- a bay from a coming back on, in every box that calls reach from an empty one, up to the next coming back or the taking out
+-- ---- a bay from a coming back on, in every box that calls reach from an empty one, up to the next coming back or the taking out; what it
+-- holds is what was admitted (terms-fixed)
 module _ (zs : List Request) (sent : AllSendable zs) (bay name : ℕ)
     (back : number (callOf (boxAfter callOf emptyBox zs) bay (restore name)) ≡ 0) where
   abbrev there : List ℕ
@@ -317,12 +332,12 @@ module _ (zs : List Request) (sent : AllSendable zs) (bay name : ℕ)
 
   -- what the bay holds
   abbrev held : Terms
-  held = terms (sequenceIn (stretchOf bay there)) (readBackIn (stretchOf bay there)) (serviceOnlyIn (stretchOf bay there))
+  held = termsIn (stretchOf bay there)
 
   abbrev is-bay : bay < bayCount
   is-bay = returns.is-bay there (reached.kept zs sent) bay name back
 
-  from-there : (xs : List Request) → Onwards bay again xs → runs.Run bay is-bay held again xs
+  from-there : (xs : List Request) → Onwards callOf bay again xs → runs.Run bay is-bay held again xs
   from-there = returns.run there (reached.kept zs sent) bay name back
 
   -- 'Without setpause, the answers from there up to the next coming back or the taking out equal rewriting started from the expansion
@@ -330,45 +345,18 @@ module _ (zs : List Request) (sent : AllSendable zs) (bay name : ℕ)
   -- the litres to each farm (02, item 12)
   pub agrees-from-position : (labels : ℕ) × (lookup name (positionsIn (stretchOf bay there)) ≡ some labels)
       × (find name (savedIn callOf bay emptyBox [] zs) ≡ some labels)
-      × ((p : Statement) → Spells (held .sequence) p → NoSetpause p → (xs : List Request) → Onwards bay again xs
-      → (map report (tickOutcomes bay again xs) ≡ paper (Rewriting.waits (expand (program (held .readBack) p) labels)) (ticksTo bay again xs))
-      × (map report (instantsIn callOf bay again xs)
-      ≡ paper (Rewriting.waits (expand (program (held .readBack) p) labels)) (map callOn (inputsIn callOf bay again xs)))
-      × ((farm : ℕ) → tickLitres bay farm again xs ≡ paperDelivered farm (Rewriting.waits (expand (program (held .readBack) p) labels)) (ticksTo bay again xs)))
+      × ((xs : List Request) → Onwards callOf bay again xs → Rewrites callOf bay held (λ p. Rewriting.waits (expand p labels)) again xs)
   agrees-from-position =
       let r = returns.returned there (reached.kept zs sent) bay name back in
       let saved = positions-are-saved zs sent bay is-bay name in
-      (r .labels, r .found, sym saved ∙ r .found, returns.agrees there (reached.kept zs sent) bay name back)
+      (r .labels, r .found, sym saved ∙ r .found, returns.rewrites there (reached.kept zs sent) bay name back)
 
-  -- with setpause too, over the list: from there on the ticks of the bay are those that the tick on its own gives from the label set that
-  -- was saved, one after the other, and its instants are those on their inputs, each of which demand 2 is about; and the litres
-  pub ticks-from-position : (labels : ℕ) × (find name (savedIn callOf bay emptyBox [] zs) ≡ some labels)
-      × ((xs : List Request) → Onwards bay again xs
-      → (tickOutcomes bay again xs
-      ≡ outcomes tickOf (held .sequence) (held .readBack) (encodeState (State.waits labels)) (ticksTo bay again xs))
-      × (instantsIn callOf bay again xs
-      ≡ outcomes tickOf (held .sequence) (held .readBack) (encodeState (State.waits labels)) (map callOn (inputsIn callOf bay again xs)))
-      × ((farm : ℕ) → tickLitres bay farm again xs
-      ≡ delivered (held .sequence) (held .readBack) farm (encodeState (State.waits labels)) (ticksTo bay again xs)))
-  ticks-from-position =
-      let r = returns.returned there (reached.kept zs sent) bay name back in
-      let at : stateIn (stretchOf bay again) ≡ encodeState (State.waits (r .labels)) = r .here .1 .bytes ∙ ap encodeState (r .at-labels) in (
-        r .labels,
-        sym (positions-are-saved zs sent bay is-bay name) ∙ r .found,
-        λ xs k.
-            let run = from-there xs k in (
-              run .ticks ∙ ap (λ (st : List ℕ). outcomes tickOf (held .sequence) (held .readBack) st (ticksTo bay again xs)) at,
-              run .instants ∙ ap (λ (st : List ℕ). outcomes tickOf (held .sequence) (held .readBack) st (map callOn (inputsIn callOf bay again xs))) at,
-              λ farm. run .litres farm ∙ ap (λ (st : List ℕ). delivered (held .sequence) (held .readBack) farm st (ticksTo bay again xs)) at,
-            ),
-      )
-
-  module _ (xs : List Request) (k : Onwards bay again xs) where
+  module _ (xs : List Request) (k : Onwards callOf bay again xs) where
     abbrev then : List ℕ
     then = boxAfter callOf again xs
 
     -- demand 1
-    pub demand-1-from-position : (o : Outcome) → List·Memᴰ o (tickOutcomes bay again xs) → demands.number o ≢ 11
+    pub demand-1-from-position : (o : Outcome) → List·Memᴰ o (tickOutcomes callOf bay again xs) → demands.number o ≢ 11
     demand-1-from-position = from-there xs k .never-11
 
     pub rows-from-position : (e : ℕ) (answer trace : List ℕ) → number (callOf then bay (tick e answer trace)) ≢ 19
@@ -395,65 +383,7 @@ numbered-from-one = instants.numbered-from-one
 
 -- 'a set of service-only signals, fixed on admission'
 pub service-only-fixed : ServiceOnlyFixed callOf
-service-only-fixed = instants.service-only-fixed
-
--- from an admission on, as long as the bay is not taken out, it holds the sequence and both sets that were admitted, across every coming
--- back to a position
-pub terms-fixed : OverBay callOf (λ bay t from xs.
-    (sequenceIn (stretchOf bay (boxAfter callOf from xs)) ≡ t .sequence)
-    × (readBackIn (stretchOf bay (boxAfter callOf from xs)) ≡ t .readBack)
-    × (serviceOnlyIn (stretchOf bay (boxAfter callOf from xs)) ≡ t .serviceOnly))
-terms-fixed = instants.terms-fixed
-
--- so a bay that comes back to a position answers by the sequence and the read-back set that were ADMITTED: in a box that calls reach, an
--- admission; then calls that do not take the bay out, saves and comings back among them; then a coming back; then the list `xs`
-module _ (zs : List Request) (sent : AllSendable zs) (bay : ℕ) (t : Terms) (small : Sendable (admit t))
-    (admitted : number (callOf (boxAfter callOf emptyBox zs) bay (admit t)) ≡ 0) where
-  abbrev opened : List ℕ
-  opened = memoryAfter (callOf (boxAfter callOf emptyBox zs) bay (admit t))
-
-  module _ (ys : List Request) (sent′ : AllSendable ys) (stays : NotTakenOut callOf bay opened ys) (name : ℕ)
-      (back : number (callOf (boxAfter callOf opened ys) bay (restore name)) ≡ 0) where
-    abbrev left : List ℕ
-    left = boxAfter callOf opened ys
-
-    abbrev come : List ℕ
-    come = memoryAfter (callOf left bay (restore name))
-
-    left-kept : reached.Kept left
-    left-kept = reached.kept-list opened (reached.kept-call (boxAfter callOf emptyBox zs) (reached.kept zs sent) bay (admit t) small) ys sent′
-
-    fixed : (sequenceIn (stretchOf bay left) ≡ t .sequence) × (readBackIn (stretchOf bay left) ≡ t .readBack)
-    fixed = let f = terms-fixed (boxAfter callOf emptyBox zs) bay t small admitted ys stays in (f .0, f .1)
-
-    pub admitted-from-position : (labels : ℕ) × (lookup name (positionsIn (stretchOf bay left)) ≡ some labels)
-        × ((xs : List Request) → Onwards bay come xs
-        -- with setpause too: the ticks, and the instants on their inputs, are the tick's on its own from that label set
-        → (tickOutcomes bay come xs ≡ outcomes tickOf (t .sequence) (t .readBack) (encodeState (State.waits labels)) (ticksTo bay come xs))
-        × (instantsIn callOf bay come xs
-        ≡ outcomes tickOf (t .sequence) (t .readBack) (encodeState (State.waits labels)) (map callOn (inputsIn callOf bay come xs)))
-        -- without setpause: they equal rewriting started from the expansion of that set
-        × ((p : Statement) → Spells (t .sequence) p → NoSetpause p
-        → map report (tickOutcomes bay come xs) ≡ paper (Rewriting.waits (expand (program (t .readBack) p) labels)) (ticksTo bay come xs)))
-    admitted-from-position =
-        let r = returns.returned left left-kept bay name back in
-        let at : stateIn (stretchOf bay come) ≡ encodeState (State.waits (r .labels)) = r .here .1 .bytes ∙ ap encodeState (r .at-labels) in
-        let as-admitted : (rest : List Paper.Call)
-        → outcomes tickOf (sequenceIn (stretchOf bay left)) (readBackIn (stretchOf bay left)) (stateIn (stretchOf bay come)) rest
-        ≡ outcomes tickOf (t .sequence) (t .readBack) (encodeState (State.waits (r .labels))) rest =
-        (λ rest. ap₂ (λ (sequence : List ℕ) (set : ℕ). outcomes tickOf sequence set (stateIn (stretchOf bay come)) rest) (fixed .0) (fixed .1)
-        ∙ ap (λ (st : List ℕ). outcomes tickOf (t .sequence) (t .readBack) st rest) at) in (
-          r .labels,
-          r .found,
-          λ xs k.
-              let run = returns.run left left-kept bay name back xs k in (
-                run .ticks ∙ as-admitted (ticksTo bay come xs),
-                run .instants ∙ as-admitted (map callOn (inputsIn callOf bay come xs)),
-                λ p q plain.
-                    returns.agrees left left-kept bay name back p (subst (λ (x : List ℕ). Spells x p) (sym (fixed .0)) q) plain xs k .0
-                    ∙ ap (λ (set : ℕ). paper (Rewriting.waits (expand (program set p) (r .labels))) (ticksTo bay come xs)) (fixed .1),
-              ),
-        )
+service-only-fixed box bay t small admitted xs k = ap (λ (u : Terms). u .serviceOnly) (terms-fixed box bay t small admitted xs k)
 
 -- 'The bay's service reader shows the record whole'
 pub service-shows : ServiceShows callOf
@@ -535,6 +465,8 @@ pub ledger-demands : LedgerDemands callOf
 ledger-demands =
     record {
       totals-exact = totals-exact;
+      ticks-in-bay = ticks-in-bay;
+      ticks-from-position = ticks-from-position;
       ledger-shows = ledger-shows;
       year-begins = year-begins;
       ledger-numbers = ledger-numbers;
@@ -560,7 +492,7 @@ record-demands =
 -- from an admission up to the first coming back to a position or the taking out, the records are the recording of the sequence on the
 -- inputs of the instants: what item 14 checks
 pub records-in-bay : (box : List ℕ) (bay : ℕ) (t : Terms) → Sendable (admit t) → number (callOf box bay (admit t)) ≡ 0
-    → (xs : List Request) → Onwards bay (memoryAfter (callOf box bay (admit t))) xs
+    → (xs : List Request) → Onwards callOf bay (memoryAfter (callOf box bay (admit t))) xs
     → recordsIn callOf bay (memoryAfter (callOf box bay (admit t))) xs
     ≡ recordingOf (t .sequence) (t .readBack) (inputsIn callOf bay (memoryAfter (callOf box bay (admit t))) xs)
 records-in-bay = instants.records-are
@@ -568,7 +500,7 @@ records-in-bay = instants.records-are
 -- so the records that a bay leaves from an admission up to its first coming back to a position or its taking out, one after the other,
 -- are accepted by a replay (02, item 14), whatever calls come in between and are turned down; inputs are of 32 bits
 pub replays-in-bay : (box : List ℕ) (bay : ℕ) (t : Terms) → Sendable (admit t) → number (callOf box bay (admit t)) ≡ 0
-    → (xs : List Request) → Onwards bay (memoryAfter (callOf box bay (admit t))) xs
+    → (xs : List Request) → Onwards callOf bay (memoryAfter (callOf box bay (admit t))) xs
     → Inputs (inputsIn callOf bay (memoryAfter (callOf box bay (admit t))) xs)
     → replayOf (t .sequence) (t .readBack) (joined (recordsIn callOf bay (memoryAfter (callOf box bay (admit t))) xs)) ≡ replayed 0 0
 replays-in-bay box bay t small admitted xs k i =
@@ -576,18 +508,33 @@ replays-in-bay box bay t small admitted xs k i =
     ∙ accepts-recordings (t .sequence) (t .readBack) (bays.passed t (runs.begun box bay t small admitted .here .1 .accepted))
     (inputsIn callOf bay (memoryAfter (callOf box bay (admit t))) xs) i
 
--- ---- what the claims refuse: a tick that reads the neighbour's state, a sum without the last bay, a part that is not given back, and
--- a refusal that writes
-pub refused-boxes : (¬ Isolated wrong.readsNeighbour) × (¬ IsolatedReusing wrong.readsNeighbour) × (¬ InBoxes wrong.forgetsBay WithinCeiling)
-    × (¬ InBoxes wrong.keepsPart (AdmitsBySum wrong.keepsPart)) × (¬ RefusalsLeave wrong.refusalWrites)
-refused-boxes = (refuted.not-readsNeighbour, refuted.not-readsNeighbour-reusing, refuted.not-forgetsBay, refuted.not-keepsPart, refuted.not-refusalWrites)
+-- ---- what the claims refuse: a tick that reads the neighbour's state, a sum without the last bay, a part that is not given back, and a
+-- refusal that writes
+pub refused-boxes : (¬ Isolated wrong.readsNeighbour) × (¬ TicksInBay wrong.readsNeighbour) × (¬ InBoxes wrong.forgetsBay WithinCeiling)
+    × (¬ InBoxes wrong.keepsPart (AdmitsBySum wrong.keepsPart)) × (¬ ReleaseLeaves wrong.keepsPart)
+    × (¬ RefusalsLeave wrong.refusalWrites)
+refused-boxes = (
+  refuted.not-readsNeighbour,
+  refuted.no-ticks-readsNeighbour,
+  refuted.not-forgetsBay,
+  refuted.not-keepsPart,
+  refuted.no-release-keepsPart,
+  refuted.not-refusalWrites,
+)
 
--- positions that a release leaves, a save that leaves what was saved first, 16 before 15, and a restore that leaves the phase
+-- positions that a release leaves, a save that leaves what was saved first, 16 before 15, and a restore that leaves the
+-- phase
 pub refused-positions : (¬ LosesPositions slips.keepsPositions) × (¬ PositionsSaved slips.keepsFirst)
     × (¬ InBoxes slips.fullFirst (SaveNumbers slips.fullFirst)) × (¬ ComesBack slips.leavesPhase)
-refused-positions = (refutes.not-keepsPositions, refutes.not-keepsFirst, refutes.not-fullFirst, refutes.not-leavesPhase)
+refused-positions = (
+  refutes.not-keepsPositions,
+  refutes.not-keepsFirst,
+  refutes.not-fullFirst,
+  refutes.not-leavesPhase,
+)
 
--- a ledger that a restore takes back, litres of a wrong instant, litres of the run not chosen, and 19 tested in single precision
+-- a ledger that a restore takes back, litres of a wrong instant, litres of the run not chosen, and 19 tested in single
+-- precision
 pub refused-ledgers : (¬ TotalsExact ledgers.rewinds) × (¬ TotalsExact ledgers.entersWrong) × (¬ TotalsExact ledgers.entersBoth)
     × (¬ Nineteen ledgers.testsInSingles)
 refused-ledgers = (wrongs.not-rewinds, wrongs.not-entersWrong, wrongs.not-entersBoth, wrongs.not-testsInSingles)

@@ -1,7 +1,7 @@
 -- Each box of specs/WrongBoxes breaks a claim of specs/Claims, by computation.
-use Prim.Native.Nat.{ℕ, zero, suc, _≤_}
+use Prim.Native.Nat.{ℕ, zero, suc, _≤_, _<_}
 use native.Mathlib.Omega.{arith}
-use mathlib.Core.Path.{_≡_, refl, ap}
+use mathlib.Core.Path.{_≡_, refl, sym, ap, _∙_}
 use mathlib.Core.List.{List, [], _∷_}
 use lib.ListN.{getD}
 use lib.Ieee.{ofBits, whole, inUnsigned, toUnsigned}
@@ -21,19 +21,21 @@ use Rattle.sequence.specs.Commands.{commandOf}
 use Rattle.sequence.specs.Reader.{front, read}
 use Rattle.sequence.specs.Check.{checked, checkOf}
 use Rattle.numbers.specs.Bytes.{leBytes, leNumber}
-use Rattle.states.specs.StateRecord.{encodeState, decodeState}
+use Rattle.states.specs.StateRecord.{phaseIn, encodeState, decodeState}
 use Rattle.answers.specs.AnswerRecord.{encodeAnswer}
 use Rattle.box_parts.specs.Parts.{put, zeros}
 use Rattle.box_ledgers.specs.Ledgers.{totalIn, wouldPass, addedBelow}
-use Rattle.tick.specs.Tick.{tickBy}
+use Rattle.tick.specs.Tick.{Outcome, outcome, tickBy}
+use Rattle.demands.specs.Demands.{outcomes}
 use Rattle.box_stretches.specs.Called.{Called, memoryAfter}
 use Rattle.recordings.specs.Recording.{following}
-use Rattle.box_stretches.specs.Stretch.{partOf, vacated, filled}
+use Rattle.box_stretches.specs.Stretch.{stateAt, ceilingIn, partOf, vacated, filled, Terms}
 use Rattle.box_stretches.specs.BayCalls.{bayStepOf, bayChargedOf, bayTickOf, bayReleaseOf, bayAdmitOf}
-use Rattle.box_calls.specs.Box.{emptyBox, present, release, callOf}
-use Rattle.box_calls.specs.Lists.{Request, boxAfter, asked, Answer, answered, answers}
+use Rattle.box_calls.specs.Box.{emptyBox, present, Call, admit, release, save, onTick, callOf}
+use Rattle.box_calls.specs.Lists.{Request, boxAfter, overBay, Answer, answered}
 use Rattle.box_calls.specs.Shares.{none, each}
-use Rattle.box_calls.specs.Reused.{askedCleared, given, IsolatedReusing}
+use Rattle.box_calls.specs.BayRuns.{Stays, Onward, Onwards, TicksInBay}
+use Rattle.box_calls.specs.Leaves.{AdmissionLeaves, ReleaseLeaves}
 use Rattle.box_calls.specs.Claims.{RefusalsLeave, Isolated, InBoxes, WithinCeiling, AdmitsBySum}
 use Rattle.box_examples.specs.Worked.{waitsOnce, ends, half, admitted, released, ticked}
 use Rattle.box_examples.specs.WrongBoxes.{readsNeighbour, forgetsBay, storedIn, keepsPart, refusalWrites}
@@ -44,6 +46,19 @@ numberAt i [] = 255
 numberAt zero (answered n lent ∷ rest) = n
 numberAt (suc i) (a ∷ rest) = numberAt i rest
 
+-- a tick goes on, and a save leaves the bay in place
+abbrev ticks : Call → ℕ
+ticks = onTick 0 (λ e answer trace. 1)
+
+pub tick-onward : (c : Call) → _≡_ {A = ℕ} (ticks c) 1 → (o : Called) → Onward c o
+tick-onward c k o = (
+  λ q. absurd (let z : _≡_ {A = ℕ} 0 1 = sym (ap ticks q) ∙ k in omega arith),
+  λ name q. absurd (let z : _≡_ {A = ℕ} 0 1 = sym (ap ticks q) ∙ k in omega arith),
+)
+
+pub save-stays : (name : ℕ) (o : Called) → Stays (save name) o
+save-stays name o q = absurd (let z : _≡_ {A = ℕ} 0 1 = cc in omega arith)
+
 -- ---- bay 0 by itself, and beside a neighbour that is over
 abbrev byItself : List Request
 byItself = admitted 0 waitsOnce ∷ ticked 0 ∷ []
@@ -52,15 +67,30 @@ abbrev besideOver : List Request
 besideOver = admitted 1 ends ∷ ticked 1 ∷ byItself
 
 pub not-readsNeighbour : ¬ Isolated readsNeighbour
-unfolding asked answers boxAfter callOf emptyBox present partOf vacated filled bayStepOf bayChargedOf wouldPass totalIn addedBelow deliveredBy ofBits whole inUnsigned toUnsigned bayTickOf following bayReleaseOf bayAdmitOf put zeros leBytes leNumber tickBy checked read front commandOf distinct wellFormed before everyLabel labelsOf subset disjoint valid active activeLabels membersFrom declaredBy commands loopNesting signalNesting ceiling encodeState decodeState encodeAnswer expand reactBy errorsBy reactionsBy Sets.none only member join insert remove
+unfolding overBay boxAfter callOf emptyBox present partOf vacated filled bayStepOf bayChargedOf wouldPass totalIn addedBelow deliveredBy ofBits whole inUnsigned toUnsigned bayTickOf following bayReleaseOf bayAdmitOf put zeros leBytes leNumber tickBy checked read front commandOf distinct wellFormed before everyLabel labelsOf subset disjoint valid active activeLabels membersFrom declaredBy commands loopNesting signalNesting ceiling encodeState decodeState encodeAnswer expand reactBy errorsBy reactionsBy Sets.none only member join insert remove
 not-readsNeighbour h =
     let e : _≡_ {A = ℕ} 0 12 = ap (numberAt 1) (h 0 (omega arith) byItself besideOver refl .0) in omega arith
 
--- nor is it with buffers that are lent again
-pub not-readsNeighbour-reusing : ¬ IsolatedReusing readsNeighbour
-unfolding askedCleared given boxAfter callOf emptyBox present partOf vacated filled bayStepOf bayChargedOf wouldPass totalIn addedBelow deliveredBy ofBits whole inUnsigned toUnsigned bayTickOf following bayReleaseOf bayAdmitOf put zeros leBytes leNumber tickBy checked read front commandOf distinct wellFormed before everyLabel labelsOf subset disjoint valid active activeLabels membersFrom declaredBy commands loopNesting signalNesting ceiling encodeState decodeState encodeAnswer expand reactBy errorsBy reactionsBy Sets.none only member join insert remove
-not-readsNeighbour-reusing h =
-    let e : _≡_ {A = ℕ} 0 12 = ap (numberAt 1) (h 0 (omega arith) byItself besideOver refl .0) in omega arith
+-- nor is its tick the one on its own
+abbrev neighbourOver : List ℕ
+neighbourOver = boxAfter callOf emptyBox (admitted 1 ends ∷ ticked 1 ∷ [])
+
+abbrev firstNumber : List Outcome → ℕ
+firstNumber [] = 255
+firstNumber (outcome n state answer ∷ os) = n
+
+abbrev waiting : Terms
+waiting = record { sequence = waitsOnce; readBack = 0; serviceOnly = 0 }
+
+pub no-ticks-readsNeighbour : ¬ TicksInBay readsNeighbour
+unfolding overBay boxAfter callOf emptyBox present partOf vacated filled bayStepOf bayChargedOf wouldPass totalIn addedBelow deliveredBy ofBits whole inUnsigned toUnsigned bayTickOf following bayReleaseOf bayAdmitOf put zeros leBytes leNumber tickBy checked read front commandOf distinct wellFormed before everyLabel labelsOf subset disjoint valid active activeLabels membersFrom declaredBy commands loopNesting signalNesting ceiling encodeState decodeState encodeAnswer expand reactBy errorsBy reactionsBy Sets.none only member join insert remove outcomes
+no-ticks-readsNeighbour h =
+    let small : (0 < 4294967296) × (0 < 4294967296) = (omega arith, omega arith) in
+    let from : List ℕ = memoryAfter (readsNeighbour neighbourOver 0 (admit waiting)) in
+    let one : Onwards readsNeighbour 0 from (ticked 0 ∷ []) =
+    Onwards.more (λ q. tick-onward (ticked 0 .call) refl (readsNeighbour from 0 (ticked 0 .call))) Onwards.done in
+    let e : _≡_ {A = ℕ} 12 0 = ap firstNumber (h neighbourOver 0 waiting small refl (ticked 0 ∷ []) one .0 .ticks) in
+    omega arith
 
 -- ---- 32,768 in the last bay, and too much with it
 abbrev overfilled : List Request
@@ -83,6 +113,12 @@ not-keepsPart h =
     (record { sequence = half; readBack = 0; serviceOnly = 0 }) refl .1
     (let l : 65536 ≤ 65536 = omega arith in l) in
     omega arith
+
+-- its release leaves the ceiling
+pub no-release-keepsPart : ¬ ReleaseLeaves keepsPart
+unfolding boxAfter callOf emptyBox present storedIn partOf vacated filled bayReleaseOf bayAdmitOf put zeros leBytes leNumber checkOf checked read front commandOf distinct wellFormed before everyLabel labelsOf subset disjoint membersFrom declaredBy commands loopNesting signalNesting ceiling Sets.none only member join insert remove
+no-release-keepsPart h =
+    let e : _≡_ {A = ℕ} 32768 0 = ap ceilingIn (h (boxAfter callOf emptyBox (admitted 0 half ∷ [])) 0 refl .nothing-left) in omega arith
 
 -- ---- a box of one byte, which is of another length
 pub not-refusalWrites : ¬ RefusalsLeave refusalWrites

@@ -1,9 +1,10 @@
 -- Each box of box_examples/specs/WrongPositions breaks a claim of box_calls/specs/Positions, by computation.
 use Prim.Native.Nat.{ℕ, zero, suc, _≤_, _<_}
 use native.Mathlib.Omega.{arith}
-use mathlib.Core.Path.{_≡_, refl, ap}
+use mathlib.Core.Path.{_≡_, refl, sym, ap, _∙_}
 use mathlib.Core.Option.{Option, some, none}
 use mathlib.Core.List.{List, [], _∷_, _++_}
+use lib.ListN.{getD}
 use lib.Ieee.{ofBits, whole, inUnsigned, toUnsigned}
 use Rattle.sets.specs.Sets as Sets
 use Rattle.sets.specs.Sets.{member, only, join, insert, remove, subset, disjoint, membersFrom}
@@ -14,6 +15,7 @@ use Rattle.esterel.specs.Litres.{deliveredBy}
 use Rattle.esterel.specs.LabelTests.{labelsOf, activeLabels, everyLabel, distinct, before, wellFormed, valid}
 use Rattle.esterel.specs.States.{active}
 use Rattle.esterel.specs.Expansion.{expand}
+use Rattle.esterel.specs.Machines.{State}
 use Rattle.esterel.specs.ReadBack.{declaredBy}
 use Rattle.esterel.specs.Sizes.{commands, loopNesting, signalNesting}
 use Rattle.esterel.specs.Ceiling.{ceiling}
@@ -22,25 +24,29 @@ use Rattle.sequence.specs.Reader.{front, read}
 use Rattle.sequence.specs.Check.{checked}
 use Rattle.numbers.specs.Bytes.{leBytes, leNumber}
 use Rattle.states.specs.StateRecord.{phaseIn, encodeState, decodeState}
-use Rattle.answers.specs.AnswerRecord.{encodeAnswer}
+use Rattle.answers.specs.AnswerRecord.{emittedIn, encodeAnswer}
 use Rattle.box_parts.specs.Parts.{put, zeros}
 use Rattle.box_positions.specs.Names as Names
 use Rattle.box_positions.specs.Names.{find, saveNamed}
 use Rattle.box_positions.specs.Table.{place, lookup, saveOf, forgetOf, namesBelow}
 use Rattle.box_ledgers.specs.Ledgers.{totalIn, wouldPass, addedBelow}
-use Rattle.tick.specs.Tick.{tickBy}
-use Rattle.recordings.specs.Recording.{following}
-use Rattle.box_stretches.specs.Stretch.{stateIn, partOf, vacated, filled}
+use Rattle.tick.specs.Tick.{Outcome, outcome, tickBy, tickOf}
+use Rattle.demands.specs.Demands.{outcomes}
+use Rattle.recordings.specs.Recording.{following, callOn}
+use Rattle.box_stretches.specs.Called.{memoryAfter}
+use Rattle.box_stretches.specs.Stretch.{stateIn, partOf, vacated, filled, Terms}
 use Rattle.box_stretches.specs.BayCalls.{bayStepOf, bayChargedOf, bayTickOf, bayReleaseOf, bayAdmitOf, baySaveOf, bayForgetOf, bayRestoreOf}
-use Rattle.box_calls.specs.Box.{emptyBox, present, callOf}
-use Rattle.box_calls.specs.Lists.{Request, boxAfter}
+use Rattle.box_calls.specs.Box.{emptyBox, present, admit, save, restore, callOf}
+use Rattle.box_calls.specs.Lists.{Request, afterCall, boxAfter, overBay}
 use Rattle.box_calls.specs.Shares as Shares
 use Rattle.box_calls.specs.Shares.{AllSendable, each}
+use Rattle.box_calls.specs.BayRuns.{NotTakenOut, Onwards, TermsFixed}
 use Rattle.box_calls.specs.Claims.{InBoxes}
-use Rattle.box_calls.specs.Positions.{savedIn, PositionsSaved, SaveNumbers, ComesBack, LosesPositions}
+use Rattle.box_calls.specs.Positions.{savedIn, PositionsSaved, SaveNumbers, ComesBack, LosesPositions, TicksFromPosition}
 use Rattle.box_examples.specs.Worked.{admitted, ticked}
 use Rattle.box_examples.specs.WorkedPositions.{twoStages, saved}
 use Rattle.box_examples.specs.WrongPositions.{keepsPositions, keepsFirst, fullFirst, leavesPhase}
+use Rattle.box_theory.proofs.WrongBoxes.{tick-onward, save-stays}
 
 -- the labels found, or 0
 abbrev labelsOrNone : Option ℕ → ℕ

@@ -30,10 +30,10 @@ use Rattle.demands.proofs.Sequence.{accepted}
 use Rattle.box_stretches.specs.Called.{Called, called, number, memoryAfter}
 use Rattle.box_stretches.specs.Stretch.{stateAt, countAt, positionsAt, bayLength, stretchLength, lengthIn, stateIn, positionsIn, ledgerIn}
 use Rattle.box_stretches.specs.BayCalls.{positionsKept, restored, delivering, bayTickOf, bayReleaseOf, bayAdmitOf, baySaveOf, bayForgetOf, bayRestoreOf, bayNewYearOf}
-use Rattle.box_calls.specs.Box.{bayCount, boxLength, emptyBox, stretchOf, present, Call, admit, release, tick, save, restore, forget, service, panel, preview, ledger, newYear, bayCall, isFor, callOf}
-use Rattle.box_calls.specs.Lists.{Request, afterCall, boxAfter}
-use Rattle.box_calls.specs.BayRuns.{withLitres, tickLitres}
-use Rattle.box_calls.specs.Years.{deliveredAfter, deliveredSince, InYear, SameYear, done, more, sumOf, TotalsExact, LedgerShows, YearBegins, LedgerNumbers, ownNumber, WouldPass, Nineteen, PreviewsNeverNineteen}
+use Rattle.box_calls.specs.Box.{bayCount, boxLength, emptyBox, stretchOf, present, Call, admit, release, tick, save, restore, forget, service, panel, preview, ledger, newYear, onTick, bayCall, isFor, callOf}
+use Rattle.box_calls.specs.Lists.{Request, afterCall, boxAfter, overBay}
+use Rattle.box_calls.specs.BayRuns.{tickLitres}
+use Rattle.box_calls.specs.Years.{deliveredAfter, deliveredSince, SameYear, done, more, sumOf, TotalsExact, LedgerShows, YearBegins, LedgerNumbers, ownNumber, WouldPass, Nineteen, PreviewsNeverNineteen}
 use Rattle.box_fields.proofs.Fields.{ledger-sized, vacated-behind, filled-behind}
 use Rattle.box_theory.proofs.Moves.{positions-sized}
 use Rattle.box_theory.proofs.Ticks.{next, entered, length-stepped, length-entered, new-sized, Ticked, down, full, instant, ticked, tick-number}
@@ -242,11 +242,11 @@ totals-exact xs bay b f l =
 -- ---- within a year: what was there, and the litres of the ticks
 module _ (bay f : ℕ) where
   abbrev Sums : (box : List ℕ) (xs : List Request) → Type 0
-  Sums box xs = (sum : ℕ) → deliveredSince callOf bay f box sum xs ≡ sum + sumOf (tickLitres bay f box xs)
+  Sums box xs = (sum : ℕ) → deliveredSince callOf bay f box sum xs ≡ sum + sumOf (tickLitres callOf bay f box xs)
 
   tick-sums : (box : List ℕ) (e : ℕ) (answer trace : List ℕ) (xs : List Request) → Sums (memoryAfter (callOf box bay (tick e answer trace))) xs
       → Sums box (record { bay = bay; call = tick e answer trace } ∷ xs)
-  unfolding deliveredSince tickLitres sumOf
+  unfolding deliveredSince overBay sumOf
   tick-sums box e answer trace xs r sum =
       let n = number (callOf box bay (tick e answer trace)) in
       let x = delivering (stretchOf bay box) e f in
@@ -261,35 +261,35 @@ module _ (bay f : ℕ) where
 
   -- another call to the bay number
   other-sums : (box : List ℕ) (c : Call) (xs : List Request) → ((s : List ℕ) (sum : ℕ) → deliveredAfter f c s sum ≡ sum)
-      → ((s : List ℕ) (o : Called) (ls : List ℕ) → withLitres f s c o ls ≡ ls) → Sums (memoryAfter (callOf box bay c)) xs
+      → ((rest : List ℕ) (made : ℕ → List ℕ → List ℕ → List ℕ) → onTick rest made c ≡ rest) → Sums (memoryAfter (callOf box bay c)) xs
       → Sums box (record { bay = bay; call = c } ∷ xs)
-  unfolding deliveredSince tickLitres
-  other-sums box c xs d l r sum =
+  unfolding deliveredSince overBay
+  other-sums box c xs d q r sum =
       let after = memoryAfter (callOf box bay c) in
       rw (eq-eqb bay bay refl)
       (ap (λ (k : ℕ). deliveredSince callOf bay f after k xs) (by (eqb (number (callOf box bay c)) 0)) ∙ r sum
-      ∙ ap (λ (ls : List ℕ). sum + sumOf ls) (sym (l (stretchOf bay box) (callOf box bay c) (tickLitres bay f after xs))))
+      ∙ ap (λ (ls : List ℕ). sum + sumOf ls) (sym (q (tickLitres callOf bay f after xs) _)))
     where
       by : (b : Bool) → cond b (deliveredAfter f c (stretchOf bay box) sum) sum ≡ sum
       by true = d (stretchOf bay box) sum
       by false = refl
 
-  own-sums : (box : List ℕ) (c : Call) (xs : List Request) → InYear c → Sums (memoryAfter (callOf box bay c)) xs
+  own-sums : (box : List ℕ) (c : Call) (xs : List Request) → c ≢ newYear → Sums (memoryAfter (callOf box bay c)) xs
       → Sums box (record { bay = bay; call = c } ∷ xs)
-  own-sums box (admit t) xs y r = other-sums box (admit t) xs (λ s sum. refl) (λ s o ls. refl) r
-  own-sums box release xs y r = other-sums box release xs (λ s sum. refl) (λ s o ls. refl) r
+  own-sums box (admit t) xs y r = other-sums box (admit t) xs (λ s sum. refl) (λ rest made. refl) r
+  own-sums box release xs y r = other-sums box release xs (λ s sum. refl) (λ rest made. refl) r
   own-sums box (tick e answer trace) xs y r = tick-sums box e answer trace xs r
-  own-sums box (save name) xs y r = other-sums box (save name) xs (λ s sum. refl) (λ s o ls. refl) r
-  own-sums box (restore name) xs y r = other-sums box (restore name) xs (λ s sum. refl) (λ s o ls. refl) r
-  own-sums box (forget name) xs y r = other-sums box (forget name) xs (λ s sum. refl) (λ s o ls. refl) r
-  own-sums box (service trace view) xs y r = other-sums box (service trace view) xs (λ s sum. refl) (λ s o ls. refl) r
-  own-sums box (panel trace view) xs y r = other-sums box (panel trace view) xs (λ s sum. refl) (λ s o ls. refl) r
-  own-sums box (preview e u buffer) xs y r = other-sums box (preview e u buffer) xs (λ s sum. refl) (λ s o ls. refl) r
-  own-sums box (ledger totals) xs y r = other-sums box (ledger totals) xs (λ s sum. refl) (λ s o ls. refl) r
-  own-sums box newYear xs y r = absurd y
+  own-sums box (save name) xs y r = other-sums box (save name) xs (λ s sum. refl) (λ rest made. refl) r
+  own-sums box (restore name) xs y r = other-sums box (restore name) xs (λ s sum. refl) (λ rest made. refl) r
+  own-sums box (forget name) xs y r = other-sums box (forget name) xs (λ s sum. refl) (λ rest made. refl) r
+  own-sums box (service trace view) xs y r = other-sums box (service trace view) xs (λ s sum. refl) (λ rest made. refl) r
+  own-sums box (panel trace view) xs y r = other-sums box (panel trace view) xs (λ s sum. refl) (λ rest made. refl) r
+  own-sums box (preview e u buffer) xs y r = other-sums box (preview e u buffer) xs (λ s sum. refl) (λ rest made. refl) r
+  own-sums box (ledger totals) xs y r = other-sums box (ledger totals) xs (λ s sum. refl) (λ rest made. refl) r
+  own-sums box newYear xs y r = absurd (y refl)
 
   pub year-sums : (box : List ℕ) (xs : List Request) → SameYear bay xs → Sums box xs
-  unfolding deliveredSince tickLitres sumOf
+  unfolding deliveredSince overBay sumOf
   year-sums box [] done = λ sum. omega arith
   year-sums box (x ∷ xs) (more y k) =
       elim (ℕ-discrete (x .bay) bay) [
