@@ -49,6 +49,15 @@ forgetsBay box bay c =
     onAdmit (callOf box bay c)
     (λ t. instead 14 (inBox bay box (bayAdmitOf (present 7 box) (stretchOf bay box) t)) (callOf box bay c)) c
 
+-- an admission that leaves the state record as it finds it
+abbrev pub keepsState : Calling
+keepsState box bay c =
+    onAdmit (callOf box bay c)
+    (λ t. instead 0
+    (inBox bay box (called 0 (put stateAt stateLength (stateIn (stretchOf bay box)) (stretchOf bay (memoryAfter (callOf box bay c)))) []))
+    (callOf box bay c))
+    c
+
 -- a release that leaves the ceiling, and an admission that counts the ceilings of bays that were taken out too
 unfoldable pub storedIn : (n : ℕ) → List ℕ → ℕ
 storedIn zero box = 0

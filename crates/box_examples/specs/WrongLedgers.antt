@@ -90,3 +90,17 @@ testsInSingles box bay c =
     (inBox bay box (recorded e trace (bayStepOf (stretchOf bay box) e answer)))
     o)
     c (callOf box bay c)
+
+-- a tick answered 19 that enters of its litres what the totals still take
+abbrev pub entersTurnedDown : Calling
+entersTurnedDown box bay c =
+    retold
+    (λ e answer trace.
+    instead 19
+    (inBox bay box
+    (called 19
+    (withLedger
+    (added (λ farm. min (delivering (stretchOf bay box) e farm) (litresLimit - totalIn farm (ledgerIn (stretchOf bay box)))) (ledgerIn (stretchOf bay box)))
+    (stretchOf bay box))
+    (answer ∷ trace ∷ []))))
+    c (callOf box bay c)

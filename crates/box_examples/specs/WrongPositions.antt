@@ -45,3 +45,21 @@ leavesPhase box bay c =
     (inBox bay box
     (called 0 (put stateAt labelsAt (slot stateAt labelsAt (stretchOf bay box)) (stretchOf bay (memoryAfter (callOf box bay c)))) [])))
     c (callOf box bay c)
+
+-- pause 0 and emit 8, and then pause 1; and the same with 9 in the place of 8
+abbrev pub eightFirst : List ℕ
+eightFirst = 0x04 ∷ 0x04 ∷ 0x01 ∷ 0x00 ∷ 0x02 ∷ 0x08 ∷ 0x01 ∷ 0x01 ∷ []
+
+abbrev nineFirst : List ℕ
+nineFirst = 0x04 ∷ 0x04 ∷ 0x01 ∷ 0x00 ∷ 0x02 ∷ 0x09 ∷ 0x01 ∷ 0x01 ∷ []
+
+-- a save that puts the second for the first while the machine waits at label 1, from where the first part is not reached: length, labels,
+-- ceiling and litres are the same, and no answer tells of it until the bay comes back to label 0
+abbrev pub changesEmission : Calling
+changesEmission box bay c =
+    altered (λ o. o)
+    (λ name o.
+    cond (eqb (leNumber (sequenceIn (stretchOf bay box))) (leNumber eightFirst) && eqb (labelsIn (stateIn (stretchOf bay box))) 2)
+    (instead 0 (called 0 (put (bay * stretchLength + sequenceAt) (length nineFirst) nineFirst (memoryAfter o)) []) o)
+    o)
+    (λ o. o) c (callOf box bay c)

@@ -508,10 +508,10 @@ replays-in-bay box bay t small admitted xs k i =
     ∙ accepts-recordings (t .sequence) (t .readBack) (bays.passed t (runs.begun box bay t small admitted .here .1 .accepted))
     (inputsIn callOf bay (memoryAfter (callOf box bay (admit t))) xs) i
 
--- ---- what the claims refuse: a tick that reads the neighbour's state, a sum without the last bay, a part that is not given back, and a
--- refusal that writes
+-- ---- what the claims refuse: a tick that reads the neighbour's state, a sum without the last bay, a part that is not given back, an
+-- admission that leaves the state, and a refusal that writes
 pub refused-boxes : (¬ Isolated wrong.readsNeighbour) × (¬ TicksInBay wrong.readsNeighbour) × (¬ InBoxes wrong.forgetsBay WithinCeiling)
-    × (¬ InBoxes wrong.keepsPart (AdmitsBySum wrong.keepsPart)) × (¬ ReleaseLeaves wrong.keepsPart)
+    × (¬ InBoxes wrong.keepsPart (AdmitsBySum wrong.keepsPart)) × (¬ ReleaseLeaves wrong.keepsPart) × (¬ AdmissionLeaves wrong.keepsState)
     × (¬ RefusalsLeave wrong.refusalWrites)
 refused-boxes = (
   refuted.not-readsNeighbour,
@@ -519,22 +519,26 @@ refused-boxes = (
   refuted.not-forgetsBay,
   refuted.not-keepsPart,
   refuted.no-release-keepsPart,
+  refuted.not-keepsState,
   refuted.not-refusalWrites,
 )
 
--- positions that a release leaves, a save that leaves what was saved first, 16 before 15, and a restore that leaves the
--- phase
+-- positions that a release leaves, a save that leaves what was saved first, 16 before 15, a restore that leaves the phase, and a save that
+-- changes the sequence
 pub refused-positions : (¬ LosesPositions slips.keepsPositions) × (¬ PositionsSaved slips.keepsFirst)
-    × (¬ InBoxes slips.fullFirst (SaveNumbers slips.fullFirst)) × (¬ ComesBack slips.leavesPhase)
+    × (¬ InBoxes slips.fullFirst (SaveNumbers slips.fullFirst)) × (¬ ComesBack slips.leavesPhase) × (¬ TermsFixed slips.changesEmission)
+    × (¬ TicksFromPosition slips.changesEmission)
 refused-positions = (
   refutes.not-keepsPositions,
   refutes.not-keepsFirst,
   refutes.not-fullFirst,
   refutes.not-leavesPhase,
+  refutes.not-changesEmission,
+  refutes.no-ticks-changesEmission,
 )
 
--- a ledger that a restore takes back, litres of a wrong instant, litres of the run not chosen, and 19 tested in single
--- precision
+-- a ledger that a restore takes back, litres of a wrong instant, litres of the run not chosen, 19 tested in single precision, and litres of a
+-- tick answered 19
 pub refused-ledgers : (¬ TotalsExact ledgers.rewinds) × (¬ TotalsExact ledgers.entersWrong) × (¬ TotalsExact ledgers.entersBoth)
-    × (¬ Nineteen ledgers.testsInSingles)
-refused-ledgers = (wrongs.not-rewinds, wrongs.not-entersWrong, wrongs.not-entersBoth, wrongs.not-testsInSingles)
+    × (¬ Nineteen ledgers.testsInSingles) × (¬ TotalsExact ledgers.entersTurnedDown)
+refused-ledgers = (wrongs.not-rewinds, wrongs.not-entersWrong, wrongs.not-entersBoth, wrongs.not-testsInSingles, wrongs.not-entersTurnedDown)

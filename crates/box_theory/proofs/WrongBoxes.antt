@@ -38,7 +38,7 @@ use Rattle.box_calls.specs.BayRuns.{Stays, Onward, Onwards, TicksInBay}
 use Rattle.box_calls.specs.Leaves.{AdmissionLeaves, ReleaseLeaves}
 use Rattle.box_calls.specs.Claims.{RefusalsLeave, Isolated, InBoxes, WithinCeiling, AdmitsBySum}
 use Rattle.box_examples.specs.Worked.{waitsOnce, ends, half, admitted, released, ticked}
-use Rattle.box_examples.specs.WrongBoxes.{readsNeighbour, forgetsBay, storedIn, keepsPart, refusalWrites}
+use Rattle.box_examples.specs.WrongBoxes.{readsNeighbour, forgetsBay, storedIn, keepsPart, keepsState, refusalWrites}
 
 -- the number of answer i
 abbrev numberAt : ℕ → List Answer → ℕ
@@ -119,6 +119,13 @@ pub no-release-keepsPart : ¬ ReleaseLeaves keepsPart
 unfolding boxAfter callOf emptyBox present storedIn partOf vacated filled bayReleaseOf bayAdmitOf put zeros leBytes leNumber checkOf checked read front commandOf distinct wellFormed before everyLabel labelsOf subset disjoint membersFrom declaredBy commands loopNesting signalNesting ceiling Sets.none only member join insert remove
 no-release-keepsPart h =
     let e : _≡_ {A = ℕ} 32768 0 = ap ceilingIn (h (boxAfter callOf emptyBox (admitted 0 half ∷ [])) 0 refl .nothing-left) in omega arith
+
+-- ---- an empty bay with phase 2 in its bytes
+pub not-keepsState : ¬ AdmissionLeaves keepsState
+unfolding callOf emptyBox present partOf vacated filled bayAdmitOf put zeros leBytes leNumber checked read front commandOf distinct wellFormed before everyLabel labelsOf subset disjoint membersFrom declaredBy commands loopNesting signalNesting ceiling Sets.none only member join insert remove
+not-keepsState h =
+    let small : (0 < 4294967296) × (0 < 4294967296) = (omega arith, omega arith) in
+    let e : _≡_ {A = ℕ} 2 0 = ap phaseIn (h (put stateAt 1 (2 ∷ []) emptyBox) 0 waiting small refl .state) in omega arith
 
 -- ---- a box of one byte, which is of another length
 pub not-refusalWrites : ¬ RefusalsLeave refusalWrites

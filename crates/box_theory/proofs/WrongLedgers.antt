@@ -36,8 +36,8 @@ use Rattle.box_calls.specs.Lists.{Request, boxAfter}
 use Rattle.box_calls.specs.Years.{deliveredSince, TotalsExact, Nineteen}
 use Rattle.box_examples.specs.Worked.{admitted, ticked}
 use Rattle.box_examples.specs.WorkedPositions.{saved, backTo}
-use Rattle.box_examples.specs.WorkedLedgers.{fiveOnce, oneTooMany, inVain, chosenRun}
-use Rattle.box_examples.specs.WrongLedgers.{rewinds, entersWrong, entersBoth, passesInSingles, testsInSingles}
+use Rattle.box_examples.specs.WorkedLedgers.{fiveOnce, oneTooMany, inVain, chosenRun, overfull}
+use Rattle.box_examples.specs.WrongLedgers.{rewinds, entersWrong, entersBoth, passesInSingles, testsInSingles, entersTurnedDown}
 
 -- ---- 5 litres, and back to the position after them
 abbrev back : List Request
@@ -56,6 +56,11 @@ not-entersWrong h = let e : _≡_ {A = ℕ} 5 0 = h inVain 0 (omega arith) 2 (om
 pub not-entersBoth : ¬ TotalsExact entersBoth
 unfolding boxAfter deliveredSince callOf emptyBox present partOf vacated filled bayStepOf bayChargedOf wouldPass totalIn addedBelow deliveredBy ofBits whole inUnsigned toUnsigned bayTickOf following bayReleaseOf bayAdmitOf baySaveOf bayForgetOf bayRestoreOf saveOf forgetOf lookup place put zeros leBytes leNumber tickBy checked read front commandOf distinct wellFormed before everyLabel labelsOf subset disjoint valid active activeLabels membersFrom declaredBy commands loopNesting signalNesting ceiling encodeState decodeState encodeAnswer expand reactBy errorsBy reactionsBy Sets.none only member join insert remove totalsBytes toBits ofInt
 not-entersBoth h = let e : _≡_ {A = ℕ} 12 7 = h chosenRun 0 (omega arith) 2 (omega arith) .is-sum in omega arith
+
+-- ---- 16,777,215 litres, and two more
+pub not-entersTurnedDown : ¬ TotalsExact entersTurnedDown
+unfolding boxAfter deliveredSince callOf emptyBox present partOf vacated filled bayStepOf bayChargedOf wouldPass totalIn addedBelow deliveredBy ofBits whole inUnsigned toUnsigned bayTickOf following bayReleaseOf bayAdmitOf baySaveOf bayForgetOf bayRestoreOf saveOf forgetOf lookup place put zeros leBytes leNumber tickBy checked read front commandOf distinct wellFormed before everyLabel labelsOf subset disjoint valid active activeLabels membersFrom declaredBy commands loopNesting signalNesting ceiling encodeState decodeState encodeAnswer expand reactBy errorsBy reactionsBy Sets.none only member join insert remove totalsBytes toBits ofInt
+not-entersTurnedDown h = let e : _≡_ {A = ℕ} 16777216 16777215 = h overfull 0 (omega arith) 2 (omega arith) .is-sum in omega arith
 
 -- ---- 16,777,216 litres, and one more
 abbrev full : List Request

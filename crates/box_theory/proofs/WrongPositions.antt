@@ -45,7 +45,7 @@ use Rattle.box_calls.specs.Claims.{InBoxes}
 use Rattle.box_calls.specs.Positions.{savedIn, PositionsSaved, SaveNumbers, ComesBack, LosesPositions, TicksFromPosition}
 use Rattle.box_examples.specs.Worked.{admitted, ticked}
 use Rattle.box_examples.specs.WorkedPositions.{twoStages, saved}
-use Rattle.box_examples.specs.WrongPositions.{keepsPositions, keepsFirst, fullFirst, leavesPhase}
+use Rattle.box_examples.specs.WrongPositions.{keepsPositions, keepsFirst, fullFirst, leavesPhase, eightFirst, changesEmission}
 use Rattle.box_theory.proofs.WrongBoxes.{tick-onward, save-stays}
 
 -- the labels found, or 0
@@ -104,3 +104,55 @@ not-fullFirst h =
     each sets
     (each tt (saves-sendable 16 (omega arith) (ticked 0 ∷ ticked 0 ∷ []) (each tt (each tt Shares.none)))) in
     let e : _≡_ {A = ℕ} 16 15 = h fullAndOver s 0 (omega arith) (λ z. omega arith) 16 .0 .1 (λ z. omega arith) in omega arith
+
+-- ---- label 0 saved, 8 emitted, and label 1 saved
+abbrev eight : Terms
+eight = record { sequence = eightFirst; readBack = 0; serviceOnly = 0 }
+
+abbrev opened : List ℕ
+opened = memoryAfter (changesEmission emptyBox 0 (admit eight))
+
+abbrev bothSaved : List Request
+bothSaved = ticked 0 ∷ saved 0 1 ∷ ticked 0 ∷ saved 0 2 ∷ []
+
+tick-stays : (box : List ℕ) (xs : List Request) → NotTakenOut changesEmission 0 (afterCall changesEmission box (ticked 0)) xs
+    → NotTakenOut changesEmission 0 box (ticked 0 ∷ xs)
+tick-stays box xs = NotTakenOut.more (λ q. tick-onward (ticked 0 .call) refl (changesEmission box 0 (ticked 0 .call)) .0)
+
+saving-stays : (name : ℕ) (box : List ℕ) (xs : List Request) → NotTakenOut changesEmission 0 (afterCall changesEmission box (saved 0 name)) xs
+    → NotTakenOut changesEmission 0 box (saved 0 name ∷ xs)
+saving-stays name box xs = NotTakenOut.more (λ q. save-stays name (changesEmission box 0 (save name)))
+
+stays : NotTakenOut changesEmission 0 opened bothSaved
+stays = tick-stays opened _ (saving-stays 1 _ _ (tick-stays _ _ (saving-stays 2 _ _ NotTakenOut.done)))
+
+pub not-changesEmission : ¬ TermsFixed changesEmission
+unfolding boxAfter callOf emptyBox present partOf vacated filled bayStepOf bayChargedOf wouldPass totalIn addedBelow deliveredBy ofBits whole inUnsigned toUnsigned bayTickOf following bayReleaseOf bayAdmitOf baySaveOf bayForgetOf bayRestoreOf saveOf forgetOf lookup place put zeros leBytes leNumber tickBy checked read front commandOf distinct wellFormed before everyLabel labelsOf subset disjoint valid active activeLabels membersFrom declaredBy commands loopNesting signalNesting ceiling encodeState decodeState encodeAnswer expand reactBy errorsBy reactionsBy Sets.none only member join insert remove
+not-changesEmission h =
+    let small : (0 < 4294967296) × (0 < 4294967296) = (omega arith, omega arith) in
+    let e : _≡_ {A = ℕ} 9 8 = ap (λ (t : Terms). getD (t .sequence) 5 0) (h emptyBox 0 eight small refl bothSaved stays) in omega arith
+
+-- back to label 0, it emits 9
+abbrev come : List ℕ
+come = memoryAfter (changesEmission (boxAfter changesEmission opened bothSaved) 0 (restore 1))
+
+abbrev firstEmitted : List Outcome → ℕ
+firstEmitted [] = 0
+firstEmitted (outcome n state answer ∷ os) = emittedIn answer
+
+abbrev emittedFrom : (labels : ℕ) → ℕ
+emittedFrom labels = firstEmitted (outcomes tickOf eightFirst 0 (encodeState (State.waits labels)) (callOn 0 ∷ []))
+
+pub no-ticks-changesEmission : ¬ TicksFromPosition changesEmission
+unfolding overBay outcomes savedIn saveNamed find Names.without boxAfter callOf emptyBox present partOf vacated filled bayStepOf bayChargedOf wouldPass totalIn addedBelow deliveredBy ofBits whole inUnsigned toUnsigned bayTickOf following bayReleaseOf bayAdmitOf baySaveOf bayForgetOf bayRestoreOf saveOf forgetOf lookup place put zeros leBytes leNumber tickBy checked read front commandOf distinct wellFormed before everyLabel labelsOf subset disjoint valid active activeLabels membersFrom declaredBy commands loopNesting signalNesting ceiling encodeState decodeState encodeAnswer expand reactBy errorsBy reactionsBy Sets.none only member join insert remove
+no-ticks-changesEmission h =
+    let small : (0 < 4294967296) × (0 < 4294967296) = (omega arith, omega arith) in
+    let one : 1 < 4294967296 = omega arith in
+    let two : 2 < 4294967296 = omega arith in
+    let r = h [] Shares.none 0 eight small refl bothSaved (each tt (each one (each tt (each two Shares.none)))) stays 1 refl in
+    let onward : Onwards changesEmission 0 come (ticked 0 ∷ []) =
+    Onwards.more (λ q. tick-onward (ticked 0 .call) refl (changesEmission come 0 (ticked 0 .call))) Onwards.done in
+    let e : 512 ≡ emittedFrom (r .0) = ap firstEmitted (r .2 (ticked 0 ∷ []) onward .0 .instants) in
+    let l : 1 ≡ r .0 = ap labelsOrNone (r .1) in
+    let z : _≡_ {A = ℕ} 512 256 = e ∙ ap emittedFrom (sym l) in
+    omega arith
