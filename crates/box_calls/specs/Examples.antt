@@ -1,9 +1,9 @@
 -- The first steps of a call on a box worked by hand: which bay is there for it, whose stretch it reads, and the order of its errors.
--- Boxes with bays in them are worked in box_examples.
+-- Boxes with bays in them are worked in box_examples. Then what counts in a list of calls.
 use Prim.Native.Nat.{ℕ, _*_, _-_}
 use mathlib.Core.Path.{_≡_, refl}
 use mathlib.Core.Bool.{true, false}
-use mathlib.Core.List.{List, [], _∷_, _++_}
+use mathlib.Core.List.{List, [], _∷_, _++_, map}
 use lib.ListN.{replicate, getD}
 use Rattle.sets.specs.Sets.{member, none, only, join, insert, remove, subset, disjoint, membersFrom}
 use Rattle.esterel.specs.LabelTests.{labelsOf, everyLabel, distinct, before, wellFormed}
@@ -15,10 +15,13 @@ use Rattle.sequence.specs.Reader.{front, read}
 use Rattle.sequence.specs.Check.{checked}
 use Rattle.numbers.specs.Bytes.{leBytes, leNumber}
 use Rattle.box_parts.specs.Parts.{put, zeros}
-use Rattle.box_stretches.specs.Called.{number}
+use Rattle.tick.specs.Paper as Paper
+use Rattle.box_stretches.specs.Called.{called, number}
 use Rattle.box_stretches.specs.Stretch.{stretchLength, partOf, vacated, terms, filled}
 use Rattle.box_stretches.specs.BayCalls.{bayAdmitOf}
-use Rattle.box_calls.specs.Box.{stretchOf, present, admit, release, ledger, isFor, callOf}
+use Rattle.box_calls.specs.Box.{stretchOf, present, Call, admit, release, tick, restore, service, ledger, onTick, buffers, isFor, callOf}
+use Rattle.box_calls.specs.Lists.{Calling, Request, overBay, blanked}
+use Rattle.box_calls.specs.BayRuns.{ticksTo, inputsIn, Stays, Onward}
 
 -- ends at once: ceiling 1
 abbrev ends : List ℕ
@@ -49,3 +52,41 @@ own-stretch = refl
 last-counts : number (callOf (zeros (7 * stretchLength) ++ filled (terms ends 0 0) 65536 (zeros stretchLength)) 0 (admit (terms ends 0 0))) ≡ 14
 unfolding callOf present partOf filled vacated bayAdmitOf put zeros leBytes leNumber checked read front commandOf distinct wellFormed before everyLabel labelsOf subset disjoint membersFrom declaredBy commands loopNesting signalNesting ceiling none only member join insert remove
 last-counts = refl
+
+-- ---- a list of calls
+-- a box that answers a tick with its input as the number
+abbrev inputAsNumber : Calling
+inputAsNumber box bay c = called (onTick 0 (λ e answer trace. e) c) box (buffers c)
+
+abbrev toBay : (bay : ℕ) → Call → Request
+toBay bay c = record { bay = bay; call = c }
+
+abbrev calls : List Request
+calls =
+    toBay 0 (tick 0 [] [])
+    ∷ toBay 1 (tick 3 [] [])
+    ∷ toBay 0 (service [] [])
+    ∷ toBay 0 (tick 12 [] [])
+    ∷ toBay 0 (tick 19 [] [])
+    ∷ []
+
+-- ticks answered 0 are instants; one answered 19 is no tick; neither a reader nor another bay's tick counts
+instants-counted : inputsIn inputAsNumber 0 [] calls ≡ 0 ∷ []
+unfolding overBay
+instants-counted = refl
+
+ticks-counted : map (λ (c : Paper.Call). c .input) (ticksTo inputAsNumber 0 [] calls) ≡ 0 ∷ 12 ∷ []
+unfolding overBay
+ticks-counted = refl
+
+-- of the buffers of a tick the lengths count
+lengths-kept : blanked (tick 0 (5 ∷ []) (6 ∷ 7 ∷ [])) ≡ tick 0 (0 ∷ []) (0 ∷ 0 ∷ [])
+unfolding zeros leBytes
+lengths-kept = refl
+
+-- a bay taken out does not stay, and a run does not go on with a coming back
+taken-out : ¬ Stays release (called 0 [] [])
+taken-out h = h refl refl
+
+coming-back : ¬ Onward (restore 1) (called 0 [] [])
+coming-back h = h .1 1 refl refl
