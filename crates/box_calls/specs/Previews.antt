@@ -2,15 +2,18 @@
 use Prim.Native.Nat.{ℕ, _<_}
 use mathlib.Core.Path.{_≡_}
 use mathlib.Core.Logic.{_≢_, _⊎_}
-use mathlib.Core.Bool.{false}
+use mathlib.Core.Bool.{Bool, true, false}
 use mathlib.Core.List.{List, [], _∷_}
 use lib.ListN.{length}
-use Rattle.sets.specs.Sets.{member, Subset, Disjoint}
+use Rattle.sets.specs.Sets.{member, remove, Subset, Disjoint}
 use Rattle.answers.specs.AnswerRecord.{answerLength, codeIn, emittedIn}
+use Rattle.tick.specs.Tick.{tickOf}
+use Rattle.demands.specs.Demands.{answerAfterwards}
 use Rattle.recordings.specs.Record.{recordLength}
 use Rattle.box_fillings.specs.Preview as fillings
-use Rattle.box_fillings.specs.Preview.{openCode, everyIn, neverIn, wrongIn, sharedIn, Previewed, bufferAfter, previewOf}
-use Rattle.box_stretches.specs.Called.{called, number, lentAfter, first}
+use Rattle.box_fillings.specs.Preview.{openCode, previewLength, everyIn, neverIn, wrongIn, sharedIn, Previewed, bufferAfter, previewOf}
+use Rattle.box_fillings.specs.Claims.{PreviewIs, StaysShown, knowing}
+use Rattle.box_stretches.specs.Called.{called, number, memoryAfter, lentAfter, first}
 use Rattle.box_stretches.specs.Stretch.{lengthIn, sequenceIn, readBackIn, stateIn}
 use Rattle.box_calls.specs.Box.{bayCount, boxLength, stretchOf, tick, preview}
 use Rattle.box_calls.specs.Lists.{Calling}
@@ -25,6 +28,36 @@ PreviewShows call =
     (box : List ℕ) (bay e unknown : ℕ) (buffer : List ℕ) → number (call box bay (preview e unknown buffer)) ≡ 0
     → call box bay (preview e unknown buffer) ≡ called 0 box (bufferAfter (previewIn (stretchOf bay box) e unknown buffer) ∷ [])
 
+-- 'The machine stays', and the box with it, whatever the number
+abbrev pub MachineStays : Calling → Type 0
+MachineStays call = (box : List ℕ) (bay e unknown : ℕ) (buffer : List ℕ) → memoryAfter (call box bay (preview e unknown buffer)) ≡ box
+
+-- the ten bytes, each sentence of them both ways (box_fillings, specs/Claims), by the answers of the tick on what the bay holds
+abbrev pub TenBytes : Calling → Type 0
+TenBytes call =
+    (box : List ℕ) (bay e unknown : ℕ) (buffer : List ℕ) → number (call box bay (preview e unknown buffer)) ≡ 0
+    → (answer : List ℕ) → length answer ≡ answerLength
+    → PreviewIs
+    (λ input.
+    answerAfterwards (tickOf (sequenceIn (stretchOf bay box)) (stateIn (stretchOf bay box)) input (readBackIn (stretchOf bay box)) answer))
+    e unknown (first (lentAfter (call box bay (preview e unknown buffer))))
+
+-- 'which outweighs the status given for them'
+abbrev pub StatusOutweighed : Calling → Type 0
+StatusOutweighed call =
+    (box : List ℕ) (bay e e′ unknown : ℕ) (buffer : List ℕ) → ((i : ℕ) → member i unknown ≡ false → member i e ≡ member i e′)
+    → call box bay (preview e unknown buffer) ≡ call box bay (preview e′ unknown buffer)
+
+-- 'Learning one more status keeps every signal in the first two groups where it was, and a shared code too': u is unknown, and then present
+-- or absent
+abbrev pub LearningStays : Calling → Type 0
+LearningStays call =
+    (box : List ℕ) (bay e unknown u : ℕ) (present : Bool) (buffer buffer′ : List ℕ) → member u unknown ≡ true
+    → number (call box bay (preview e unknown buffer)) ≡ 0 → length buffer′ ≡ previewLength
+    → (number (call box bay (preview (knowing u present e) (remove u unknown) buffer′)) ≡ 0)
+    × StaysShown (first (lentAfter (call box bay (preview e unknown buffer))))
+    (first (lentAfter (call box bay (preview (knowing u present e) (remove u unknown) buffer′))))
+
 -- of a filled bay, the numbers of the preview: 1, then 2 to 12 and 18 of the tick, then 17
 abbrev pub PreviewNumbers : Calling → Type 0
 PreviewNumbers call =
@@ -33,9 +66,9 @@ PreviewNumbers call =
     → number (call box bay (preview e unknown buffer)) ≡ fillings.number (previewIn (stretchOf bay box) e unknown buffer)
 
 -- ---- a bay's preview against that bay's ticks, in every box, whatever its bytes
--- an answer lies within what a preview shows: it emits what is emitted for every filling and nothing of what is emitted for none, has
+-- an answer as a preview foresees it: it emits what is emitted for every filling and nothing of what is emitted for none, has
 -- the shared code, if there is one, and is not wrong where no filling is
-pub record Within (shown answer : List ℕ) : Type 0 where
+pub record Foreseen (shown answer : List ℕ) : Type 0 where
   pub emits-every : Subset (everyIn shown) (emittedIn answer)
   pub emits-never : Disjoint (neverIn shown) (emittedIn answer)
   pub shared-code : sharedIn shown ≢ openCode → codeIn answer ≡ sharedIn shown
@@ -48,7 +81,7 @@ PreviewForesees call =
     (box : List ℕ) (bay e unknown : ℕ) (buffer : List ℕ) → number (call box bay (preview e unknown buffer)) ≡ 0
     → (input : ℕ) (answer trace : List ℕ) → number (call box bay (tick input answer trace)) ≡ 0
     → ((i : ℕ) → member i unknown ≡ false → member i e ≡ member i input)
-    → Within (first (lentAfter (call box bay (preview e unknown buffer)))) (first (lentAfter (call box bay (tick input answer trace))))
+    → Foreseen (first (lentAfter (call box bay (preview e unknown buffer)))) (first (lentAfter (call box bay (tick input answer trace))))
 
 -- where a preview is given, a tick with buffers of their lengths is an instant on every input, unless the ledger turns it down
 abbrev pub PreviewedTicks : Calling → Type 0
@@ -66,6 +99,10 @@ NeverOpen call =
 -- ITEM 11, of the calls
 pub record PreviewDemands (call : Calling) : Type 0 where
   pub preview-shows : PreviewShows call
+  pub machine-stays : MachineStays call
+  pub ten-bytes : TenBytes call
+  pub status-outweighed : StatusOutweighed call
+  pub learning-stays : LearningStays call
   pub preview-numbers : PreviewNumbers call
   pub foresees : PreviewForesees call
   pub previewed-ticks : PreviewedTicks call

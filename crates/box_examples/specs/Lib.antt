@@ -6,3 +6,4 @@ pub mod WrongBoxes
 pub mod WrongPositions
 pub mod WrongLedgers
 pub mod WrongPaper
+pub mod WrongPreviews

@@ -211,3 +211,13 @@ module _ (sequence state : List ℕ) (readBack : ℕ) (answer : List ℕ) (long 
       go : (r : Reply) → replyOf sequence state e readBack ≡ r → replyOf sequence state e readBack ≡ refused (demands.number (tickOf sequence state e readBack answer))
       go (refused n) h = h ∙ ap refused (sym (ap demands.number (tick-replied e ∙ ap (λ (r : Reply). replied r state answer) h)))
       go (reacts i) h = absurd (z (tick-number e i h))
+
+  pub tick-instant : (e : ℕ) → demands.number (tickOf sequence state e readBack answer) ≡ 0 → (i : Instant) × (replyOf sequence state e readBack ≡ reacts i)
+  tick-instant e z = go (replying sequence state readBack)
+    where
+      go : Replying sequence state readBack → (i : Instant) × (replyOf sequence state e readBack ≡ reacts i)
+      go (turns-down n y k) =
+          let q : demands.number (tickOf sequence state e readBack answer) ≡ n =
+          ap demands.number (tick-replied e ∙ ap (λ (r : Reply). replied r state answer) (k e)) in
+          absurd (omega (arith, y .0, z, q))
+      go (runs i k) = (i e, k e)

@@ -17,6 +17,7 @@ use Rattle.sets.proofs.Algebra.{differences-same}
 use Rattle.sets.proofs.Sizes.{size-is}
 use Rattle.sets.proofs.Counting.{subsets-few}
 use Rattle.esterel.specs.Instants.{Instant}
+use Rattle.numbers.specs.Bytes.{leBytes}
 use Rattle.states.specs.StateRecord.{stateLength}
 use Rattle.answers.specs.AnswerRecord.{answerLength, codeIn, emittedIn}
 use Rattle.tick.specs.Tick.{Outcome, refused, reacts, replyOf, tickOf}
@@ -24,12 +25,14 @@ use Rattle.demands.specs.Demands as demands
 use Rattle.demands.specs.Demands.{answerAfterwards}
 use Rattle.demands.specs.Plain.{SameOutside}
 use Rattle.box_fillings.specs.Preview.{filled, openCode, foundIn, findings, maxUnknown, previewLength, previewBytes, everyIn, neverIn, wrongIn, sharedIn, Previewed, previewed, number, bufferAfter, shownBy, answersOf, previewOf, Learned}
+use Rattle.box_fillings.specs.declared.Findings.{Findings}
+use Rattle.box_fillings.specs.Claims.{PreviewsAre, GivenOutweighed, knowing, LearningKeeps, PreviewErrors, FillingDemands}
 use Rattle.box_fillings.proofs.Gathering.{learned, learned-one, findings-alike, findings-none, as-filled, within, every-filling, emits, misses, shares}
 use Rattle.box_fillings.proofs.Alike.{read-back-bytes}
 use Rattle.box_fillings.proofs.Codes as codes
 use Rattle.box_fillings.proofs.Groups as groups
 use Rattle.box_fillings.proofs.Numbers as numbers
-use Rattle.box_fillings.proofs.Numbers.{reacting, refused-preview, shown-preview, members-fewer, Given, given, tick-number, tick-answer, tick-turned-down}
+use Rattle.box_fillings.proofs.Numbers.{reacting, refused-preview, shown-preview, members-fewer, Given, given, tick-number, tick-answer, tick-turned-down, tick-instant}
 
 -- SIX UNKNOWN: at most 64 fillings
 pub sixty-four : (unknown : ℕ) → unknown < 2 ^ signalCount → length (membersFrom signalCount 0 unknown) ≤ maxUnknown
@@ -247,3 +250,53 @@ pub nothing-unknown : (sequence state : List ℕ) (readBack : ℕ) (answer : Lis
 nothing-unknown sequence state readBack answer long a input buffer z =
     are sequence state readBack answer long a input none buffer z
     ∙ ap previewBytes (findings-none (λ e. answerAfterwards (tickOf sequence state e readBack answer)) input)
+
+-- ---- ITEM 11: the claims of specs/Claims
+ten-bytes : (x : Findings) → length (previewBytes x) ≡ previewLength
+unfolding leBytes
+ten-bytes x = refl
+
+pub previews-are : PreviewsAre previewOf
+previews-are sequence state readBack answer long a input unknown buffer z =
+    record {
+      ten = ap length (given sequence state readBack input unknown buffer z .bytes) ∙ ten-bytes (findings (answersOf sequence state readBack) input unknown);
+      every-group = every-group sequence state readBack answer long a input unknown buffer z;
+      never-group = never-group sequence state readBack answer long a input unknown buffer z;
+      some-wrong = some-wrong sequence state readBack answer long a input unknown buffer z;
+      none-wrong = none-wrong sequence state readBack answer long a input unknown buffer z;
+      shared-code = shared-code sequence state readBack answer long a input unknown buffer z;
+      none-shared = none-shared sequence state readBack answer long a input unknown buffer z;
+      never-open = never-open sequence state readBack answer long a input unknown buffer z;
+    }
+
+pub given-outweighed : GivenOutweighed previewOf
+given-outweighed sequence state readBack = status-outweighed sequence state readBack
+
+pub learning-keeps : LearningKeeps previewOf
+learning-keeps sequence state readBack input unknown u present buffer buffer′ m z sized =
+    let l = one-status sequence state readBack input unknown u present m in
+    let e = knowing u present input in
+    let left = remove u unknown in (
+      stays-given sequence state readBack input unknown e left l buffer buffer′ z sized,
+      record {
+        every-stays = stays-every sequence state readBack input unknown e left l buffer buffer′ z sized;
+        never-stays = stays-never sequence state readBack input unknown e left l buffer buffer′ z sized;
+        code-stays = stays-shared sequence state readBack input unknown e left l buffer buffer′ z sized;
+      },
+    )
+
+pub preview-errors : PreviewErrors previewOf
+preview-errors =
+    record {
+      other-length = other-buffer;
+      ticks-number = ticks-number;
+      seventh-unknown = λ sequence state readBack answer long a e input unknown buffer sized z.
+          let r = tick-instant sequence state readBack answer long a e z in (
+            seventh-unknown sequence state readBack input unknown buffer sized e (r .0) (r .1),
+            λ l. ap number (at-most-six sequence state readBack input unknown buffer sized e (r .0) (r .1) l),
+          );
+    }
+
+pub filling-demands : FillingDemands previewOf
+filling-demands =
+    record { previews-are = previews-are; given-outweighed = given-outweighed; learning-keeps = learning-keeps; preview-errors = preview-errors }

@@ -1,2 +1,3 @@
 pub mod Preview
+pub mod Claims
 pub mod Worked

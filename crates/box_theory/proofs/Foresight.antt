@@ -3,8 +3,11 @@ use Prim.Native.Nat.{ℕ}
 use native.Mathlib.Decide.{ℕ-discrete}
 use mathlib.Core.Path.{_≡_, sym, ap, _∙_, subst}
 use mathlib.Core.Logic.{_≢_, inl, inr}
-use mathlib.Core.List.{List}
+use mathlib.Core.Bool.{Bool, not, cond}
+use mathlib.Core.List.{List, [], _∷_}
 use lib.ListN.{length}
+use lib.Dec.{eqb, ltb}
+use Rattle.sets.specs.Sets.{remove}
 use Rattle.answers.specs.AnswerRecord.{answerLength, codeIn}
 use Rattle.recordings.specs.Record.{recordLength}
 use Rattle.tick.specs.Tick.{Outcome, tickOf}
@@ -12,17 +15,19 @@ use Rattle.demands.specs.Demands as demands
 use Rattle.demands.specs.Demands.{answerAfterwards}
 use Rattle.demands.proofs.Demand2 as demand
 use Rattle.box_fillings.specs.Preview as fillings
-use Rattle.box_fillings.specs.Preview.{previewOf}
+use Rattle.box_fillings.specs.Preview.{Previewed, previewOf}
+use Rattle.box_fillings.specs.Claims.{PreviewIs, StaysShown, knowing}
 use Rattle.box_fillings.proofs.Codes as codes
 use Rattle.box_fillings.proofs.Theorems as previews
-use Rattle.box_stretches.specs.Called.{Called, number, lentAfter, first}
-use Rattle.box_stretches.specs.Stretch.{stretchLength, sequenceIn, readBackIn, stateIn}
-use Rattle.box_calls.specs.Box.{stretchOf, tick, preview, callOf}
-use Rattle.box_calls.specs.Previews.{Within, PreviewForesees, PreviewedTicks, NeverOpen, PreviewDemands}
+use Rattle.box_stretches.specs.Called.{Called, called, number, memoryAfter, lentAfter, first}
+use Rattle.box_stretches.specs.Stretch.{stretchLength, isEmpty, sequenceIn, readBackIn, stateIn}
+use Rattle.box_stretches.specs.BayCalls.{stretchKept, bayPreviewOf}
+use Rattle.box_calls.specs.Box.{bayCount, boxLength, stretchOf, tick, preview, inBox, callOf}
+use Rattle.box_calls.specs.Previews.{MachineStays, TenBytes, StatusOutweighed, LearningStays, Foreseen, PreviewForesees, PreviewedTicks, NeverOpen, PreviewDemands}
 use Rattle.box_fields.proofs.Fields.{state-sized}
 use Rattle.box_theory.proofs.Ticks.{tick-number, like-buffer}
 use Rattle.box_theory.proofs.Previews.{preview-number}
-use Rattle.box_theory.proofs.Stretches.{answered-inside, stretch-sized, number-there}
+use Rattle.box_theory.proofs.Stretches.{refused-leaves, answered-inside, stretch-sized, number-there}
 use Rattle.box_theory.proofs.Named.{answered-there, bay-answered}
 use Rattle.box_theory.proofs.Instants.{instant-of}
 use Rattle.box_theory.proofs.Instants.{preview-shows, preview-numbers}
@@ -67,14 +72,61 @@ foresees box bay e unknown buffer n input answer trace m h =
     let g = own-given box bay e unknown buffer n in
     let w = ap (λ (o : Called). first (lentAfter o)) (preview-shows box bay e unknown buffer n) in
     let x = own-answer box bay input answer trace m in
-    subst (λ (shown : List ℕ). Within shown (first (lentAfter (callOf box bay (tick input answer trace))))) (sym w)
-    (subst (Within (fillings.bufferAfter (previewOf (sequenceIn s) (stateIn s) e unknown (readBackIn s) buffer))) (sym x)
+    subst (λ (shown : List ℕ). Foreseen shown (first (lentAfter (callOf box bay (tick input answer trace))))) (sym w)
+    (subst (Foreseen (fillings.bufferAfter (previewOf (sequenceIn s) (stateIn s) e unknown (readBackIn s) buffer))) (sym x)
     (record {
       emits-every = previews.emits-every (sequenceIn s) (stateIn s) (readBackIn s) answer st a e unknown buffer g input h;
       emits-never = previews.emits-never (sequenceIn s) (stateIn s) (readBackIn s) answer st a e unknown buffer g input h;
       shared-code = previews.has-code (sequenceIn s) (stateIn s) (readBackIn s) answer st a e unknown buffer g input h;
       not-wrong = previews.is-right (sequenceIn s) (stateIn s) (readBackIn s) answer st a e unknown buffer g input h;
     }))
+
+-- ---- 'The machine stays'
+pub machine-stays : MachineStays callOf
+machine-stays box bay e unknown buffer =
+    elim (ℕ-discrete (number (callOf box bay (preview e unknown buffer))) 0) [
+      | yes n ↦ ap memoryAfter (preview-shows box bay e unknown buffer n)
+      | no n ↦ ap memoryAfter (refused-leaves box bay (preview e unknown buffer) n)
+    ]
+
+-- ---- the ten bytes
+pub ten-bytes : TenBytes callOf
+ten-bytes box bay e unknown buffer n answer a =
+    let s = stretchOf bay box in
+    let w = ap (λ (o : Called). first (lentAfter o)) (preview-shows box bay e unknown buffer n) in
+    subst (PreviewIs (λ input. answerAfterwards (tickOf (sequenceIn s) (stateIn s) input (readBackIn s) answer)) e unknown) (sym w)
+    (previews.previews-are (sequenceIn s) (stateIn s) (readBackIn s) answer (state-sized s (sized box bay e unknown buffer n)) a e unknown buffer
+    (own-given box bay e unknown buffer n))
+
+-- ---- 'which outweighs the status given for them'
+pub status-outweighed : StatusOutweighed callOf
+unfolding callOf bayPreviewOf
+status-outweighed box bay e e′ unknown buffer h =
+    let s = stretchOf bay box in
+    let k = previews.given-outweighed (sequenceIn s) (stateIn s) (readBackIn s) e e′ unknown buffer h in
+    ap (λ (p : Previewed).
+    cond (ltb bay bayCount)
+    (cond (eqb (length box) boxLength) (cond (not (isEmpty s)) (inBox bay box (stretchKept s p)) (called 13 box (buffer ∷ []))) (called 1 box (buffer ∷ [])))
+    (called 13 box (buffer ∷ [])))
+    k
+
+-- ---- learning one more status
+pub learning-stays : LearningStays callOf
+learning-stays box bay e unknown u present buffer buffer′ m n z =
+    let s = stretchOf bay box in
+    let e′ = knowing u present e in
+    let left = remove u unknown in
+    let l = previews.learning-keeps (sequenceIn s) (stateIn s) (readBackIn s) e unknown u present buffer buffer′ m (own-given box bay e unknown buffer n) z in
+    let i = answered-inside box bay (preview e unknown buffer) n in
+    let n′ : number (callOf box bay (preview e′ left buffer′)) ≡ 0 =
+    number-there box bay (preview e′ left buffer′) (i .0) (i .1) (answered-there box bay (preview e unknown buffer) n .0)
+    ∙ preview-number s e′ left buffer′ ∙ l .0 in
+    let w = ap (λ (o : Called). first (lentAfter o)) (preview-shows box bay e unknown buffer n) in
+    let w′ = ap (λ (o : Called). first (lentAfter o)) (preview-shows box bay e′ left buffer′ n′) in (
+      n′,
+      subst (λ (x : List ℕ). StaysShown x (first (lentAfter (callOf box bay (preview e′ left buffer′))))) (sym w)
+          (subst (StaysShown (fillings.bufferAfter (previewOf (sequenceIn s) (stateIn s) e unknown (readBackIn s) buffer))) (sym w′) (l .1)),
+    )
 
 pub previewed-ticks : PreviewedTicks callOf
 previewed-ticks box bay e unknown buffer n input answer trace a j =
@@ -94,6 +146,10 @@ pub preview-demands : PreviewDemands callOf
 preview-demands =
     record {
       preview-shows = preview-shows;
+      machine-stays = machine-stays;
+      ten-bytes = ten-bytes;
+      status-outweighed = status-outweighed;
+      learning-stays = learning-stays;
       preview-numbers = preview-numbers;
       foresees = foresees;
       previewed-ticks = previewed-ticks;

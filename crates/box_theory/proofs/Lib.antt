@@ -34,4 +34,5 @@ pub mod PaperBoxes
 pub mod PaperDeliveries
 pub mod PaperCertified
 pub mod WrongPaper
+pub mod WrongPreviews
 pub mod Theorems

@@ -38,6 +38,10 @@ use Rattle.box_calls.specs.Leaves.{AdmissionLeaves, ReleaseLeaves}
 use Rattle.box_calls.specs.Positions.{savedIn, PositionsSaved, PositionsValid, SaveNumbers, KnownOnly, ComesBack, LosesPositions, TicksFromPosition, PositionDemands}
 use Rattle.box_calls.specs.Instants.{recordsIn, RecordIs, NumberedFromOne, ServiceOnlyFixed, ServiceShows, PanelShows, PanelsAlike, ReaderNumbers, RecordLength, RecordDemands}
 use Rattle.box_calls.specs.Previews.{PreviewShows, PreviewNumbers}
+use Rattle.box_calls.specs.Previews.{MachineStays, TenBytes, LearningStays, PreviewForesees, PreviewDemands}
+use Rattle.box_theory.proofs.Foresight as foresight
+use Rattle.box_theory.proofs.WrongPreviews as misleading
+use Rattle.box_examples.specs.WrongPreviews as foretold
 use Rattle.box_calls.specs.Years.{deliveredSince, SameYear, sumOf, TotalsExact, LedgerShows, YearBegins, LedgerNumbers, Nineteen, PreviewsNeverNineteen, LedgerDemands}
 use Rattle.box_paper.specs.PaperBox.{byLabelSets, emptyPaper}
 use Rattle.box_paper.specs.Reports.{paperAfter, OnPaper, ByLabelSets}
@@ -417,6 +421,10 @@ preview-shows = instants.preview-shows
 pub preview-numbers : PreviewNumbers callOf
 preview-numbers = instants.preview-numbers
 
+-- ITEM 11, of the calls
+pub preview-demands : PreviewDemands callOf
+preview-demands = foresight.preview-demands
+
 -- ---- the year's ledgers (02, item 12)
 -- 'Farm totals stay exact whole numbers equal to the sum of that farm's deliveries since the last clearing', across admissions, comings
 -- back and takings out, over every list of calls, those turned down and those to other bays included
@@ -542,3 +550,17 @@ refused-positions = (
 pub refused-ledgers : (¬ TotalsExact ledgers.rewinds) × (¬ TotalsExact ledgers.entersWrong) × (¬ TotalsExact ledgers.entersBoth)
     × (¬ Nineteen ledgers.testsInSingles) × (¬ TotalsExact ledgers.entersTurnedDown)
 refused-ledgers = (wrongs.not-rewinds, wrongs.not-entersWrong, wrongs.not-entersBoth, wrongs.not-testsInSingles, wrongs.not-entersTurnedDown)
+    × (¬ Nineteen ledgers.testsInSingles)
+refused-ledgers = (wrongs.not-rewinds, wrongs.not-entersWrong, wrongs.not-entersBoth, wrongs.not-testsInSingles)
+
+-- known inputs taken as absent, unknown ones taken as absent only or by the status given, a machine that moves, and 254 for a shared code
+pub refused-previews : (¬ PreviewForesees foretold.forgetsStatus) × (¬ PreviewForesees foretold.takesAbsent) × (¬ LearningStays foretold.takesAbsent)
+    × (¬ PreviewForesees foretold.keepsStatus) × (¬ MachineStays foretold.movesMachine) × (¬ TenBytes foretold.saysOpen)
+refused-previews = (
+  misleading.not-forgetsStatus,
+  misleading.not-takesAbsent,
+  misleading.not-takesAbsent-learning,
+  misleading.not-keepsStatus,
+  misleading.not-movesMachine,
+  misleading.not-saysOpen,
+)
