@@ -9,4 +9,4 @@ pub mod Positions
 pub mod Instants
 pub mod Previews
 pub mod Years
-pub mod Numbers
+pub mod Leaves

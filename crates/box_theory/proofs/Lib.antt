@@ -20,8 +20,6 @@ pub mod WrongBoxes
 pub mod WrongPositions
 pub mod WrongLedgers
 pub mod Leaves
-pub mod NumberLists
-pub mod NumberTable
 pub mod Foresight
 pub mod PaperNames
 pub mod PaperMachines

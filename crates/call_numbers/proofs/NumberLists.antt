@@ -9,7 +9,7 @@ use lib.Dec.{ltb}
 use borrow.Author.Tests.{le-ltb}
 use Rattle.sequence.specs.Rows.{Row, rank}
 use Rattle.sequence.proofs.Rows.{row-range, row-rank}
-use Rattle.box_calls.specs.Numbers.{oneOf}
+use Rattle.call_numbers.specs.Numbers.{oneOf}
 
 unfoldable pub all : (n : ℕ) → (ℕ → Bool) → Bool
 all zero P = true

@@ -24,6 +24,14 @@ use Rattle.tick.specs.Tick.{Reply, tickOf}
 use Rattle.tick.specs.TickRows.{TickRow, row-1, row-2-to-10, row-11, row-12}
 use Rattle.demands.specs.Demands as demands
 use Rattle.demands.proofs.Demand1.{demand-1}
+use Rattle.unrolled.specs.Call as unrolled
+use Rattle.unrolled.specs.Call.{unrollOf}
+use Rattle.unrolled.specs.Rows as unrolled-rows
+use Rattle.unrolled.specs.Rows.{UnrollRow}
+use Rattle.unrolled_theory.proofs.Theorems.{unroll-by-rows}
+use Rattle.replays.specs.Replay as replays
+use Rattle.replays.specs.Replay.{replayOf}
+use Rattle.replays.proofs.Numbers.{Verdict, refused, cut, compared, verdict}
 use Rattle.box_parts.specs.Parts.{zeros}
 use Rattle.box_parts.proofs.Zeros.{length-zeros}
 use Rattle.box_positions.specs.Table.{lookup, Kept, kept, numberKept, saveOf, forgetOf}
@@ -35,21 +43,42 @@ use Rattle.box_stretches.specs.Called.{Called, called, number}
 use Rattle.box_stretches.specs.Stretch.{stretchLength, sequenceIn, readBackIn, stateIn, positionsIn, Terms, filled}
 use Rattle.box_stretches.specs.BayCalls.{sharedCeiling, byCheck, positionsKept, restored, bayTickOf, bayReleaseOf, bayAdmitOf, baySaveOf, bayForgetOf, bayRestoreOf, bayServiceOf, bayPanelOf, bayPreviewOf, bayLedgerOf, bayNewYearOf}
 use Rattle.box_calls.specs.Box.{bayCount, boxLength, emptyBox, stretchOf, present, Call, admit, release, tick, save, restore, forget, service, panel, preview, ledger, newYear, buffers, bayCall, isFor, callOf}
-use Rattle.box_calls.specs.Lists.{boxAfter}
+use Rattle.box_calls.specs.Lists.{Request, boxAfter}
+use Rattle.box_calls.specs.Shares.{AllSendable}
 use Rattle.box_calls.specs.BayRuns.{paperBuffer}
 use Rattle.box_fields.proofs.Fields.{state-sized}
 use Rattle.box_theory.proofs.Ticks.{inner, Ticked, down, full, instant, ticked, like-buffer, own-below}
 use Rattle.box_theory.proofs.Readers.{service-reads, panel-reads, ledger-reads}
 use Rattle.box_theory.proofs.Previews.{preview-number}
 use Rattle.box_theory.proofs.Standing.{Standing, sequence-held, inner-is, tick-told}
 use Rattle.box_theory.proofs.Stretches.{no-bay, other-box, stretch-sized, own}
 use Rattle.box_theory.proofs.Reached as reached
-use Rattle.box_calls.specs.Numbers.{oneOf, checkNumbers, tickNumbers, numbersOf, anyNumbersOf, Numbered, NumberedAnywhere}
-use Rattle.box_theory.proofs.NumberLists.{all, is, HasRefusals, refusal-in}
+use Rattle.call_numbers.specs.Numbers.{CallName, intake-check, intake-ceiling, intake-tick, intake-unroll, intake-replay, intake-box-admit, intake-box-release, intake-box-tick, intake-box-save, intake-box-restore, intake-box-forget, intake-box-service, intake-box-panel, intake-box-preview, intake-box-ledger, intake-box-new-year, rowFor, alsoAnywhere, rowAnywhere, oneOf}
+use Rattle.call_numbers.proofs.NumberLists.{all, is, HasRefusals, refusal-in}
 
--- ---- the check and the tick on their own
+-- ---- the row of a call on a box
+abbrev nameOf : Call → CallName
+nameOf (admit t) = intake-box-admit
+nameOf release = intake-box-release
+nameOf (tick e answer trace) = intake-box-tick
+nameOf (save name) = intake-box-save
+nameOf (restore name) = intake-box-restore
+nameOf (forget name) = intake-box-forget
+nameOf (service trace view) = intake-box-service
+nameOf (panel trace view) = intake-box-panel
+nameOf (preview e u buffer) = intake-box-preview
+nameOf (ledger totals) = intake-box-ledger
+nameOf newYear = intake-box-new-year
+
+abbrev pub callRow : Call → List ℕ
+callRow c = rowFor (nameOf c)
+
+abbrev pub anyCallRow : Call → List ℕ
+anyCallRow c = rowAnywhere (nameOf c)
+
+-- ---- the calls that know no box
 module _ (l : List ℕ) (h : HasRefusals l) where
-  check-in : oneOf 0 l ≡ true → (sequence : List ℕ) (readBack : ℕ) → oneOf (checkOf sequence readBack) l ≡ true
+  pub check-in : oneOf 0 l ≡ true → (sequence : List ℕ) (readBack : ℕ) → oneOf (checkOf sequence readBack) l ≡ true
   check-in h0 sequence readBack =
       elim (ℕ-discrete (checkOf sequence readBack) 0) [
         | yes e ↦ is 0 l h0 e
@@ -63,27 +92,45 @@ module _ (l : List ℕ) (h : HasRefusals l) where
   row-in h1 h11 h12 k (row-11 s m) = h11
   row-in h1 h11 h12 k (row-12 e) = h12
 
-pub check-numbers : (sequence : List ℕ) (readBack : ℕ) → oneOf (checkOf sequence readBack) checkNumbers ≡ true
-unfolding all oneOf
-check-numbers = check-in checkNumbers refl refl
-
 tick-row : (sequence state : List ℕ) (e readBack : ℕ) (answer : List ℕ) → demands.number (tickOf sequence state e readBack answer) ≢ 0
     → TickRow sequence readBack state answer (demands.number (tickOf sequence state e readBack answer))
 tick-row sequence state e readBack answer n =
     demand-1 .tick-by-rows sequence state e readBack answer .refusal (demands.number (tickOf sequence state e readBack answer)) n .0 refl .0
 
-pub tick-numbers : (sequence state : List ℕ) (e readBack : ℕ) (answer : List ℕ) → oneOf (demands.number (tickOf sequence state e readBack answer)) tickNumbers ≡ true
-unfolding all oneOf
-tick-numbers sequence state e readBack answer =
-    elim (ℕ-discrete (demands.number (tickOf sequence state e readBack answer)) 0) [
-      | yes q ↦ is 0 tickNumbers refl q
-      | no q ↦ row-in tickNumbers refl refl refl refl (demands.number (tickOf sequence state e readBack answer)) (tick-row sequence state e readBack answer q)
-    ]
+module _ (l : List ℕ) (h : HasRefusals l) (h0 : oneOf 0 l ≡ true) (h1 : oneOf 1 l ≡ true) where
+  pub own-in : oneOf 11 l ≡ true → oneOf 12 l ≡ true → (sequence state : List ℕ) (e readBack : ℕ) (answer : List ℕ)
+      → oneOf (demands.number (tickOf sequence state e readBack answer)) l ≡ true
+  own-in h11 h12 sequence state e readBack answer =
+      elim (ℕ-discrete (demands.number (tickOf sequence state e readBack answer)) 0) [
+        | yes q ↦ is 0 l h0 q
+        | no q ↦ row-in l h h1 h11 h12 (demands.number (tickOf sequence state e readBack answer)) (tick-row sequence state e readBack answer q)
+      ]
 
--- 'The tick on its own knows no ledger and never gives 19'
-pub tick-never-nineteen : (sequence state : List ℕ) (e readBack : ℕ) (answer : List ℕ) → demands.number (tickOf sequence state e readBack answer) ≢ 19
-tick-never-nineteen sequence state e readBack answer =
-    own-below sequence state e readBack answer 19 (λ z. omega arith) (omega arith)
+  pub unroll-in : oneOf 20 l ≡ true → oneOf 21 l ≡ true → (sequence : List ℕ) (readBack : ℕ) (buffer : List ℕ)
+      → oneOf (unrolled.number (unrollOf sequence readBack buffer)) l ≡ true
+  unroll-in h20 h21 sequence readBack buffer =
+      elim (ℕ-discrete n 0) [
+        | yes q ↦ is 0 l h0 q
+        | no q ↦ go n (unroll-by-rows sequence readBack buffer .refusal n q .0 refl .0)
+      ]
+    where
+      n : ℕ
+      n = unrolled.number (unrollOf sequence readBack buffer)
+
+      go : (k : ℕ) → UnrollRow sequence readBack buffer k → oneOf k l ≡ true
+      go k (unrolled-rows.row-1 x) = h1
+      go k (unrolled-rows.row-2-to-10 r) = refusal-in l h sequence readBack k r
+      go k (unrolled-rows.row-20 s p) = h20
+      go k (unrolled-rows.row-21 s p) = h21
+
+pub replay-in : (l : List ℕ) → HasRefusals l → oneOf 0 l ≡ true → oneOf 22 l ≡ true → (sequence : List ℕ) (readBack : ℕ) (recording : List ℕ)
+    → oneOf (replays.number (replayOf sequence readBack recording)) l ≡ true
+replay-in l h h0 h22 sequence readBack recording = go (verdict sequence readBack recording)
+  where
+    go : Verdict sequence readBack recording → oneOf (replays.number (replayOf sequence readBack recording)) l ≡ true
+    go (refused z e) = is (checkOf sequence readBack) l (check-in l h h0 sequence readBack) (ap replays.number e)
+    go (cut c z e) = is 22 l h22 (ap replays.number e)
+    go (compared c m e) = is 0 l h0 (ap replays.number e)
 
 -- ---- the tick on what a bay holds that stands in a state of its sequence: 0, 1 and 12
 module _ (t : Terms) (s : List ℕ) (h : Standing t s) where
@@ -191,65 +238,55 @@ module _ (s : List ℕ) (z : length s ≡ stretchLength) (l : List ℕ) (h0 : on
           (shown-preview (sequenceIn s) (stateIn s) (readBackIn s) e u buffer w (i (difference e u)) (q (difference e u)))
           ∙ given w (leb (length (membersFrom signalCount 0 u)) maxUnknown) (previewBytes (findings (answersOf (sequenceIn s) (stateIn s) (readBackIn s)) e u))
 
--- a longer list
-wider : (n m : ℕ) → oneOf n tickNumbers ≡ true → oneOf n (13 ∷ m ∷ tickNumbers) ≡ true
-unfolding oneOf
-wider n m h = rw h (go (eqb n 13) (eqb n m))
-  where
-    go : (a b : Bool) → (a || (b || true)) ≡ true
-    go true b = refl
-    go false true = refl
-    go false false = refl
-
 -- ---- every call on a stretch of any bytes
-any-in : (k : ℕ) (s : List ℕ) → length s ≡ stretchLength → (c : Call) → oneOf (number (bayCall k c s)) (anyNumbersOf c) ≡ true
+any-in : (k : ℕ) (s : List ℕ) → length s ≡ stretchLength → (c : Call) → oneOf (number (bayCall k c s)) (anyCallRow c) ≡ true
 unfolding all oneOf bayReleaseOf bayNewYearOf
-any-in k s z (admit t) = admit-in s z (anyNumbersOf (admit t)) refl refl refl k t
+any-in k s z (admit t) = admit-in s z (anyCallRow (admit t)) refl refl refl k t
 any-in k s z release = refl
 any-in k s z (tick e answer trace) =
-    tick-in s z (13 ∷ 19 ∷ tickNumbers) refl refl e answer trace
-    (wider (demands.number (inner s z e answer trace)) 19 (tick-numbers (sequenceIn s) (stateIn s) e (readBackIn s) (paperBuffer trace answer)))
-any-in k s z (save name) = save-in s z (anyNumbersOf (save name)) refl refl refl name
-any-in k s z (restore name) = restore-in s z (anyNumbersOf (restore name)) refl refl name
-any-in k s z (forget name) = forget-in s z (anyNumbersOf (forget name)) refl refl name
-any-in k s z (service trace view) = low-in s z (anyNumbersOf (service trace view)) refl refl (number (bayServiceOf s trace view)) (service-reads s trace view .low)
-any-in k s z (panel trace view) = low-in s z (anyNumbersOf (panel trace view)) refl refl (number (bayPanelOf s trace view)) (panel-reads s trace view .low)
+    let l = rowAnywhere intake-box-tick in
+    tick-in s z l refl refl e answer trace
+    (own-in l refl refl refl refl refl (sequenceIn s) (stateIn s) e (readBackIn s) (paperBuffer trace answer))
+any-in k s z (save name) = save-in s z (anyCallRow (save name)) refl refl refl name
+any-in k s z (restore name) = restore-in s z (anyCallRow (restore name)) refl refl name
+any-in k s z (forget name) = forget-in s z (anyCallRow (forget name)) refl refl name
+any-in k s z (service trace view) = low-in s z (anyCallRow (service trace view)) refl refl (number (bayServiceOf s trace view)) (service-reads s trace view .low)
+any-in k s z (panel trace view) = low-in s z (anyCallRow (panel trace view)) refl refl (number (bayPanelOf s trace view)) (panel-reads s trace view .low)
 any-in k s z (preview e u buffer) =
-    preview-in s z (13 ∷ 17 ∷ tickNumbers) refl refl refl
-    (λ e. wider (demands.number (tickOf (sequenceIn s) (stateIn s) e (readBackIn s) blank)) 17 (tick-numbers (sequenceIn s) (stateIn s) e (readBackIn s) blank))
-    e u buffer
-any-in k s z (ledger totals) = low-in s z (anyNumbersOf (ledger totals)) refl refl (number (bayLedgerOf s totals)) (ledger-reads s totals .low)
+    let l = rowAnywhere intake-box-preview in
+    preview-in s z l refl refl refl (λ e. own-in l refl refl refl refl refl (sequenceIn s) (stateIn s) e (readBackIn s) blank) e u buffer
+any-in k s z (ledger totals) = low-in s z (anyCallRow (ledger totals)) refl refl (number (bayLedgerOf s totals)) (ledger-reads s totals .low)
 any-in k s z newYear = refl
 
 -- ---- and on one that calls reached
-held-in : (k : ℕ) (s : List ℕ) → length s ≡ stretchLength → reached.Sound s → (c : Call) → isFor c s ≡ true → oneOf (number (bayCall k c s)) (numbersOf c) ≡ true
+held-in : (k : ℕ) (s : List ℕ) → length s ≡ stretchLength → reached.Sound s → (c : Call) → isFor c s ≡ true → oneOf (number (bayCall k c s)) (callRow c) ≡ true
 unfolding all oneOf bayReleaseOf bayNewYearOf
-held-in k s z d (admit t) i = admit-in s z (numbersOf (admit t)) refl refl refl k t
+held-in k s z d (admit t) i = admit-in s z (callRow (admit t)) refl refl refl k t
 held-in k s z d release i = refl
 held-in k s z d (tick e answer trace) i =
     let f = reached.filled-bay s d i in
-    tick-in s (f .1 .holds .sized) (0 ∷ 1 ∷ 12 ∷ 13 ∷ 19 ∷ []) refl refl e answer trace
-    (held-tick (f .0) s (f .1) (0 ∷ 1 ∷ 12 ∷ 13 ∷ 19 ∷ []) refl refl refl e answer trace)
-held-in k s z d (save name) i = save-in s z (numbersOf (save name)) refl refl refl name
-held-in k s z d (restore name) i = restore-in s z (numbersOf (restore name)) refl refl name
-held-in k s z d (forget name) i = forget-in s z (numbersOf (forget name)) refl refl name
+    tick-in s (f .1 .holds .sized) (rowFor intake-box-tick) refl refl e answer trace
+    (held-tick (f .0) s (f .1) (rowFor intake-box-tick) refl refl refl e answer trace)
+held-in k s z d (save name) i = save-in s z (callRow (save name)) refl refl refl name
+held-in k s z d (restore name) i = restore-in s z (callRow (restore name)) refl refl name
+held-in k s z d (forget name) i = forget-in s z (callRow (forget name)) refl refl name
 held-in k s z d (service trace view) i =
-    low-in s z (numbersOf (service trace view)) refl refl (number (bayServiceOf s trace view)) (service-reads s trace view .low)
-held-in k s z d (panel trace view) i = low-in s z (numbersOf (panel trace view)) refl refl (number (bayPanelOf s trace view)) (panel-reads s trace view .low)
+    low-in s z (callRow (service trace view)) refl refl (number (bayServiceOf s trace view)) (service-reads s trace view .low)
+held-in k s z d (panel trace view) i = low-in s z (callRow (panel trace view)) refl refl (number (bayPanelOf s trace view)) (panel-reads s trace view .low)
 held-in k s z d (preview e u buffer) i =
     let f = reached.filled-bay s d i in
-    preview-in s z (0 ∷ 1 ∷ 12 ∷ 13 ∷ 17 ∷ []) refl refl refl
+    preview-in s z (rowFor intake-box-preview) refl refl refl
     (λ e.
     let trace = zeros recordLength in
-    sym (ap (λ (b : List ℕ). oneOf (demands.number (tickOf (sequenceIn s) (stateIn s) e (readBackIn s) b)) (0 ∷ 1 ∷ 12 ∷ 13 ∷ 17 ∷ []))
+    sym (ap (λ (b : List ℕ). oneOf (demands.number (tickOf (sequenceIn s) (stateIn s) e (readBackIn s) b)) (rowFor intake-box-preview))
     (like-buffer s (f .1 .holds .sized) e blank trace (length-zeros recordLength) blank))
-    ∙ held-tick (f .0) s (f .1) (0 ∷ 1 ∷ 12 ∷ 13 ∷ 17 ∷ []) refl refl refl e blank trace)
+    ∙ held-tick (f .0) s (f .1) (rowFor intake-box-preview) refl refl refl e blank trace)
     e u buffer
-held-in k s z d (ledger totals) i = low-in s z (numbersOf (ledger totals)) refl refl (number (bayLedgerOf s totals)) (ledger-reads s totals .low)
+held-in k s z d (ledger totals) i = low-in s z (callRow (ledger totals)) refl refl (number (bayLedgerOf s totals)) (ledger-reads s totals .low)
 held-in k s z d newYear i = refl
 
 -- ---- 13 is in every list, and 1 in every one for boxes of any bytes
-thirteen-in : (c : Call) → oneOf 13 (numbersOf c) ≡ true
+thirteen-in : (c : Call) → oneOf 13 (callRow c) ≡ true
 unfolding oneOf
 thirteen-in (admit t) = refl
 thirteen-in release = refl
@@ -263,7 +300,7 @@ thirteen-in (preview e u buffer) = refl
 thirteen-in (ledger totals) = refl
 thirteen-in newYear = refl
 
-any-thirteen : (c : Call) → (oneOf 13 (anyNumbersOf c) ≡ true) × (oneOf 1 (anyNumbersOf c) ≡ true)
+any-thirteen : (c : Call) → (oneOf 13 (anyCallRow c) ≡ true) × (oneOf 1 (anyCallRow c) ≡ true)
 unfolding oneOf
 any-thirteen (admit t) = (refl, refl)
 any-thirteen release = (refl, refl)
@@ -293,24 +330,24 @@ module _ (box : List ℕ) (bay : ℕ) (c : Call) (l : List ℕ) (h13 : oneOf 13 
   outside-in b = ap (λ (o : Called). oneOf (number o) l) (no-bay box bay c b) ∙ h13
 
 -- NUMBERS, in the boxes that calls reach from the empty one
-pub numbered : Numbered callOf
+pub numbered : (xs : List Request) → AllSendable xs → (bay : ℕ) (c : Call) → oneOf (number (callOf (boxAfter callOf emptyBox xs) bay c)) (callRow c) ≡ true
 numbered xs k bay c =
     let box = boxAfter callOf emptyBox xs in
     let h = reached.kept xs k in
     elim (decLt bay bayCount) [
-      | yes b ↦ inside-in box bay c (numbersOf c) (thirteen-in c) b (h .sized-box)
+      | yes b ↦ inside-in box bay c (callRow c) (thirteen-in c) b (h .sized-box)
           (held-in (present bayCount box) (stretchOf bay box) (stretch-sized box bay c b (h .sized-box)) (h .sound bay b) c)
-      | no b ↦ outside-in box bay c (numbersOf c) (thirteen-in c) (omega arith)
+      | no b ↦ outside-in box bay c (callRow c) (thirteen-in c) (omega arith)
     ]
 
 -- and in every box, whatever its bytes
-pub numbered-anywhere : NumberedAnywhere callOf
+pub numbered-anywhere : (box : List ℕ) (bay : ℕ) (c : Call) → oneOf (number (callOf box bay c)) (anyCallRow c) ≡ true
 numbered-anywhere box bay c =
     elim (decLt bay bayCount) [
       | yes b ↦ elim (ℕ-discrete (length box) boxLength) [
-        | yes z ↦ inside-in box bay c (anyNumbersOf c) (any-thirteen c .0) b z
+        | yes z ↦ inside-in box bay c (anyCallRow c) (any-thirteen c .0) b z
             (λ i. any-in (present bayCount box) (stretchOf bay box) (stretch-sized box bay c b z) c)
-        | no z ↦ ap (λ (o : Called). oneOf (number o) (anyNumbersOf c)) (other-box box bay c b z) ∙ any-thirteen c .1
+        | no z ↦ ap (λ (o : Called). oneOf (number o) (anyCallRow c)) (other-box box bay c b z) ∙ any-thirteen c .1
       ]
-      | no b ↦ outside-in box bay c (anyNumbersOf c) (any-thirteen c .0) (omega arith)
+      | no b ↦ outside-in box bay c (anyCallRow c) (any-thirteen c .0) (omega arith)
     ]

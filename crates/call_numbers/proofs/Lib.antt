@@ -1,0 +1,4 @@
+pub mod NumberLists
+pub mod NumberTable
+pub mod Witnesses
+pub mod Theorems
