@@ -9,4 +9,3 @@ pub mod Positions
 pub mod Instants
 pub mod Previews
 pub mod Years
-pub mod Leaves

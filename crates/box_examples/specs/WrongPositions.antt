@@ -1,4 +1,4 @@
--- Boxes with one slip each in the calls of positions (02, item 9), which break a claim of Positions.
+-- Boxes with one slip each in the calls of positions (02, item 9), which break a claim of Positions or of BayRuns.
 use Prim.Native.Nat.{ℕ, _+_, _*_}
 use mathlib.Core.Bool.{_&&_, cond}
 use mathlib.Core.List.{List, [], _∷_}

@@ -387,8 +387,8 @@ module _ (bay : ℕ) (b : bay < bayCount) (t : Terms) where
         ap (λ (state : List ℕ). map report (From state calls)) (h .1 .bytes)
         ∙ all-ticks (t .sequence) (t .readBack) (h .1 .accepted) plain calls (h .1 .state) w i (h .1 .recorded)
 
-    pub rewrites-from : RewritesAs callOf bay w box xs
-    rewrites-from =
+    pub agrees-from : RewritesAs callOf bay w box xs
+    agrees-from =
         let r = runs box h xs k .told in
         record {
           ticks = ap (map report) (r .ticks) ∙ reports (ticksTo callOf bay box xs);
@@ -465,6 +465,6 @@ module _ (box : List ℕ) (bay : ℕ) (t : Terms) (small : Sendable (admit t)) (
         rewrites p q plain =
             let a = begun .here .1 .accepted in
             let same = same-statement (t .sequence) p (a .statement) q (a .spelled) in
-            rewrites-from bay is-bay t begins (begun .here) xs k (subst NoSetpause same plain) (Rewriting.fresh (program (t .readBack) p))
+            agrees-from bay is-bay t begins (begun .here) xs k (subst NoSetpause same plain) (Rewriting.fresh (program (t .readBack) p))
             (subst (λ (st : State). TermOf (program (t .readBack) (a .statement)) st (Rewriting.fresh (program (t .readBack) p))) (sym (begun .from-fresh))
             (ap (program (t .readBack)) same))

@@ -1,4 +1,4 @@
--- The instants of a bay from its admission on: their records, the numbers in them, and the service-only set.
+-- The instants of a bay from its admission on: their records, the numbers in them, and the terms that were admitted.
 use Prim.Native.Nat.{ℕ, zero, suc, _+_, _*_, _≤_, _<_, min}
 use native.Mathlib.Omega.{arith}
 use native.Mathlib.Decide.{ℕ-discrete}

@@ -27,7 +27,7 @@ use Rattle.box_theory.proofs.Stretches.{answered-inside, same-length}
 use Rattle.box_theory.proofs.Reached.{filled-bay, Kept, kept, kept-call, kept-list}
 use Rattle.box_theory.proofs.Named.{answered-there, comes-back, named-from-admission}
 use Rattle.box_theory.proofs.Instants.{terms-fixed}
-use Rattle.box_theory.proofs.BayRuns.{Here, Run, runs, rewrites-from}
+use Rattle.box_theory.proofs.BayRuns.{Here, Run, runs, agrees-from}
 
 as-held : (t : Terms) (s : List ℕ) → Standing t s → Positioned t (positionsIn s) → Standing (termsIn s) s × Positioned (termsIn s) (positionsIn s)
 as-held t s h v =
@@ -92,7 +92,7 @@ module _ (box : List ℕ) (h : Kept box) (bay name : ℕ) (back : number (callOf
         let a = returned .here .1 .accepted in
         let same = same-statement (sequenceIn s) p (a .statement) q (a .spelled) in
         let w : Rewriting = Rewriting.waits (expand (program (readBackIn s) p) (returned .labels)) in
-        rewrites-from bay is-bay (termsIn s) again (returned .here) xs k (subst NoSetpause same plain) w
+        agrees-from bay is-bay (termsIn s) again (returned .here) xs k (subst NoSetpause same plain) w
         (subst (λ (st : State). TermOf (program (readBackIn s) (a .statement)) st w) (sym (returned .at-labels))
         (ap (λ (r : Statement). expand (program (readBackIn s) r) (returned .labels)) same))
 

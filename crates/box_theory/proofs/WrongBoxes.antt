@@ -1,4 +1,4 @@
--- Each box of specs/WrongBoxes breaks a claim of specs/Claims, by computation.
+-- Each box of specs/WrongBoxes breaks a claim of box_calls/specs/Claims, by computation.
 use Prim.Native.Nat.{ℕ, zero, suc, _≤_, _<_}
 use native.Mathlib.Omega.{arith}
 use mathlib.Core.Path.{_≡_, refl, sym, ap, _∙_}

@@ -1,4 +1,4 @@
--- Each box of box_examples/specs/WrongPositions breaks a claim of box_calls/specs/Positions, by computation.
+-- Each box of box_examples/specs/WrongPositions breaks a claim of box_calls/specs/Positions or BayRuns, by computation.
 use Prim.Native.Nat.{ℕ, zero, suc, _≤_, _<_}
 use native.Mathlib.Omega.{arith}
 use mathlib.Core.Path.{_≡_, refl, sym, ap, _∙_}
