@@ -193,12 +193,6 @@ module _ (sequence : List ℕ) (readBack : ℕ) where
       remade-place =
           none-differs (recordsIn recording) remade .1 (λ i h. ap (λ (l : List (List ℕ)). getElem? l i) remade-records)
 
-      pub remade-ends : (i : ℕ) (r : List ℕ) → getElem? (recordsIn recording) i ≡ some r → phaseIn (stateIn r) ≡ 2
-          → getElem? (recordsIn recording) (suc i) ≡ none
-      remade-ends i r h p =
-          ap (λ (l : List (List ℕ)). getElem? l (suc i)) remade-records
-          ∙ none-after (inputsIn recording) 1 cleared refl i r (sym (ap (λ (l : List (List ℕ)). getElem? l i) remade-records) ∙ h) p
-
     -- place 0: it is
     pub place-remade : length recording % recordLength ≡ 0 → placeOf sequence readBack recording ≡ 0 → recording ≡ joined remade
     unfolding placeOf

@@ -3,18 +3,20 @@
 -- accepted is box_theory's.
 use Prim.Native.Nat.{ℕ, zero, suc, _+_, _<_}
 use native.Mathlib.Omega.{arith}
-use mathlib.Core.Path.{_≡_, refl, sym, ap, ap₂, _∙_}
-use mathlib.Core.Option.{Option, some, none, Option·none-ne-some}
+use mathlib.Core.Path.{_≡_, refl, sym, ap, ap₂, _∙_, subst, fun-ext}
+use mathlib.Core.Option.{some, Option·none-ne-some}
 use mathlib.Core.List.{List, [], _∷_, map}
 use lib.ListN.{length, getElem?}
 use Rattle.recordings.specs.Recording.{recordsFrom, recordingOf, joined}
 use Rattle.replays.specs.Replay.{firstRecords, recordsIn, inputsIn, placeOf, Replayed, replayed, number, place, replayOf}
-use Rattle.replays.specs.Claims.{Replay, Refuses, TwentyTwo, NoPlace, Accepts, Differs, EmptyAccepted, NothingAfterTheEnd, DiffersAfterTheEnd, AcceptsRecordings, ByPaper, ReplayDemands}
+use Rattle.replays.specs.Claims.{Replay, Refuses, TwentyTwo, NoPlace, Accepts, Differs, EmptyAccepted, NothingAfterTheEnd, AcceptsRecordings, ByPaper, Decides, ReplayDemands}
 use Rattle.replays.specs.Worked.{Case, cases}
 use Rattle.replays.proofs.Differences.{first-differs}
 use Rattle.replays.proofs.Recordings as recordings
 use Rattle.replays.proofs.Numbers as numbers
 use Rattle.replays.proofs.Paper as paper
+use Rattle.replays.specs.Replacements.{acceptsAfterTheEnd}
+use Rattle.replays.proofs.Replacements as wrong
 use Rattle.replays.proofs.Worked as by-hand
 
 -- an index below the length has a record
@@ -59,14 +61,9 @@ pub empty-accepted : EmptyAccepted replayOf
 unfolding joined recordsFrom firstRecords
 empty-accepted sequence readBack h = accepts sequence readBack [] .1 (h, refl)
 
--- 'and a record after the machine is over differs': an accepted recording has none
+-- 'and a record after the machine is over differs', and is the first that does
 pub nothing-after-the-end : NothingAfterTheEnd replayOf
-nothing-after-the-end sequence readBack recording h =
-    recordings.remade-ends sequence readBack recording (accepts sequence readBack recording .0 h .1)
-
--- and so the sentence: the first record after the end is the first that differs
-pub differs-after-the-end : DiffersAfterTheEnd replayOf
-differs-after-the-end sequence readBack recording c m i r h over right more =
+nothing-after-the-end sequence readBack recording c m i right r h over more =
     let given = recordsIn recording in
     let made = recordingOf sequence readBack (inputsIn recording) in
     let none-made = recordings.made-ends sequence readBack recording i r (sym (right i (omega arith)) ∙ h) over in
@@ -89,27 +86,29 @@ by-paper sequence readBack recording h p s plain =
     let a = accepts sequence readBack recording .0 h in
     paper.by-paper sequence readBack (a .0) recording (recordings.remade-records sequence readBack recording (a .1)) p s plain
 
--- DECIDED: a replay that refuses by the check, gives 22 by the length and no place with an error, accepts and differs where it should, is
--- replayOf, for all arguments
-pub replay-decided : (replay : Replay) → Refuses replay → TwentyTwo replay → NoPlace replay → Accepts replay → Differs replay
+-- DECIDED: a replay whose numbers, acceptance and first difference are these is replayOf, for all arguments, and so meets the others
+pub decides : Decides replayOf
+decides = record { refuses = refuses; twenty-two = twenty-two; no-place = no-place; accepts = accepts; differs = differs }
+
+pub replay-decided : (replay : Replay) → Decides replay
     → (sequence : List ℕ) (readBack : ℕ) (recording : List ℕ) → replay sequence readBack recording ≡ replayOf sequence readBack recording
-replay-decided replay f t n a d sequence readBack recording = go (numbers.verdict sequence readBack recording)
+replay-decided replay d sequence readBack recording = go (numbers.verdict sequence readBack recording)
   where
     eta : (o : Replayed) → o ≡ replayed (number o) (place o)
     eta (replayed n k) = refl
 
     compared : (k : ℕ) → replayOf sequence readBack recording ≡ replayed 0 k → replay sequence readBack recording ≡ replayed 0 k
-    compared zero e = a sequence readBack recording .1 (accepts sequence readBack recording .0 e)
+    compared zero e = d .accepts sequence readBack recording .1 (accepts sequence readBack recording .0 e)
     compared (suc j) e =
         let q : suc j ≡ j + 1 = omega arith in
-        d sequence readBack recording j .1 (differs sequence readBack recording j .0 (e ∙ ap (replayed 0) q)) ∙ sym (ap (replayed 0) q)
+        d .differs sequence readBack recording j .1 (differs sequence readBack recording j .0 (e ∙ ap (replayed 0) q)) ∙ sym (ap (replayed 0) q)
 
     go : numbers.Verdict sequence readBack recording → replay sequence readBack recording ≡ replayOf sequence readBack recording
-    go (numbers.refused z e) = f sequence readBack recording z ∙ sym e
+    go (numbers.refused z e) = d .refuses sequence readBack recording z ∙ sym e
     go (numbers.cut c z e) =
-        let w : number (replay sequence readBack recording) ≡ 22 = t sequence readBack recording .1 (c, z) in
+        let w : number (replay sequence readBack recording) ≡ 22 = d .twenty-two sequence readBack recording .1 (c, z) in
         eta (replay sequence readBack recording)
-        ∙ ap₂ replayed w (n sequence readBack recording (λ y. omega (arith, w, y)))
+        ∙ ap₂ replayed w (d .no-place sequence readBack recording (λ y. omega (arith, w, y)))
         ∙ sym e
     go (numbers.compared c m e) = compared (placeOf sequence readBack recording) e ∙ sym e
 
@@ -117,17 +116,22 @@ replay-decided replay f t n a d sequence readBack recording = go (numbers.verdic
 pub replay-demands : ReplayDemands replayOf
 replay-demands =
     record {
-      refuses = refuses;
-      twenty-two = twenty-two;
-      no-place = no-place;
-      accepts = accepts;
-      differs = differs;
+      decides = decides;
       empty-accepted = empty-accepted;
       nothing-after-the-end = nothing-after-the-end;
-      differs-after-the-end = differs-after-the-end;
       accepts-recordings = accepts-recordings;
       by-paper = by-paper;
     }
+
+-- so does every replay that Decides has: it is decided, and meets the others
+pub replay-demands-decided : (replay : Replay) → Decides replay → ReplayDemands replay
+replay-demands-decided replay d =
+    subst ReplayDemands (sym (fun-ext (λ sequence. fun-ext (λ readBack. fun-ext (λ recording. replay-decided replay d sequence readBack recording)))))
+    replay-demands
+
+-- REFUSED: a replay that accepts a record after the machine is over
+pub refused-after-the-end : ¬ NothingAfterTheEnd acceptsAfterTheEnd
+refused-after-the-end = wrong.not-acceptsAfterTheEnd
 
 -- WORKED by hand
 pub worked : map (λ (c : Case). replayOf (c .sequence) (c .readBack) (c .recording)) cases ≡ map (λ (c : Case). c .shows) cases

@@ -2,7 +2,7 @@
 use Prim.Native.Nat.{ℕ, suc, _+_, _%_, _≤_, _<_}
 use mathlib.Core.Path.{_≡_}
 use mathlib.Core.Logic.{_≢_, _↔_}
-use mathlib.Core.Option.{none, some}
+use mathlib.Core.Option.{some}
 use mathlib.Core.List.{List, [], map}
 use lib.ListN.{length, getElem?}
 use Rattle.esterel.specs.Statement.{Statement}
@@ -68,20 +68,12 @@ abbrev pub EmptyAccepted : Replay → Type 0
 EmptyAccepted replay =
     (sequence : List ℕ) (readBack : ℕ) → checkOf sequence readBack ≡ 0 → replay sequence readBack [] ≡ replayed 0 0
 
+-- records 0 to i are what a fresh machine gives, it is over with record i, and another record follows: that is the first that differs
 abbrev pub NothingAfterTheEnd : Replay → Type 0
 NothingAfterTheEnd replay =
-    (sequence : List ℕ) (readBack : ℕ) (recording : List ℕ) → replay sequence readBack recording ≡ replayed 0 0
-    → (i : ℕ) (r : List ℕ) → getElem? (recordsIn recording) i ≡ some r → phaseIn (stateIn r) ≡ 2
-    → getElem? (recordsIn recording) (suc i) ≡ none
-
--- the sentence: records 0 to i are what a fresh machine gives, the machine is over with record i, and another record follows: that one
--- differs, at place i + 2, counted from 1
-abbrev pub DiffersAfterTheEnd : Replay → Type 0
-DiffersAfterTheEnd replay =
     (sequence : List ℕ) (readBack : ℕ) (recording : List ℕ) → checkOf sequence readBack ≡ 0 → length recording % recordLength ≡ 0
-    → (i : ℕ) (r : List ℕ) → getElem? (recordsIn recording) i ≡ some r → phaseIn (stateIn r) ≡ 2
-    → ((j : ℕ) → j ≤ i → SameAt j (recordsIn recording) (recordingOf sequence readBack (inputsIn recording)))
-    → suc i < length (recordsIn recording)
+    → (i : ℕ) → ((j : ℕ) → j ≤ i → SameAt j (recordsIn recording) (recordingOf sequence readBack (inputsIn recording)))
+    → (r : List ℕ) → getElem? (recordsIn recording) i ≡ some r → phaseIn (stateIn r) ≡ 2 → suc i < length (recordsIn recording)
     → replay sequence readBack recording ≡ replayed 0 (i + 2)
 
 -- ---- what a fresh machine gives is accepted
@@ -103,15 +95,18 @@ ByPaper replay =
     → (p : Statement) → Spells sequence p → NoSetpause p
     → map reportIn (recordsIn recording) ≡ paper (Rewriting.fresh (program readBack p)) (map callOn (inputsIn recording))
 
--- ITEM 14
-pub record ReplayDemands (replay : Replay) : Type 0 where
+-- ---- what decides a replay: its numbers, and with number 0 its place
+pub record Decides (replay : Replay) : Type 0 where
   pub refuses : Refuses replay
   pub twenty-two : TwentyTwo replay
   pub no-place : NoPlace replay
   pub accepts : Accepts replay
   pub differs : Differs replay
+
+-- ITEM 14
+pub record ReplayDemands (replay : Replay) : Type 0 where
+  pub decides : Decides replay
   pub empty-accepted : EmptyAccepted replay
   pub nothing-after-the-end : NothingAfterTheEnd replay
-  pub differs-after-the-end : DiffersAfterTheEnd replay
   pub accepts-recordings : AcceptsRecordings replay
   pub by-paper : ByPaper replay

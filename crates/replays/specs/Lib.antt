@@ -1,3 +1,4 @@
 pub mod Replay
 pub mod Claims
 pub mod Worked
+pub mod Replacements

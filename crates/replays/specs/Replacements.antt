@@ -1,0 +1,19 @@
+-- A wrong replay, for which proofs/Replacements refutes a claim: it stops where the machine is over, and accepts what comes after.
+use Prim.Native.Nat.{ℕ, _+_}
+use mathlib.Core.Bool.{cond}
+use mathlib.Core.List.{List, [], _∷_}
+use Rattle.sequence.specs.Check.{checkOf}
+use Rattle.recordings.specs.Recording.{recordingOf}
+use Rattle.replays.specs.Replay.{recordsIn, inputsIn, same, byLength, byCheck}
+use Rattle.replays.specs.Claims.{Replay}
+
+-- the first record that differs from the one made for it, among those that one was made for
+unfoldable pub firstUpToTheEnd : (k : ℕ) → (given made : List (List ℕ)) → ℕ
+firstUpToTheEnd k [] made = 0
+firstUpToTheEnd k (r ∷ given) [] = 0
+firstUpToTheEnd k (r ∷ given) (m ∷ made) = cond (same r m) (firstUpToTheEnd (k + 1) given made) k
+
+abbrev pub acceptsAfterTheEnd : Replay
+acceptsAfterTheEnd sequence readBack recording =
+    byCheck (checkOf sequence readBack)
+    (byLength recording (firstUpToTheEnd 1 (recordsIn recording) (recordingOf sequence readBack (inputsIn recording))))
