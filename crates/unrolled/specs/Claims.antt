@@ -1,6 +1,7 @@
--- What is said of a call that gave 0 (02, item 13).
+-- What 02, item 13, says of the call that writes loops out, and what is said of one that gave 0.
 use Prim.Native.Nat.{ℕ}
 use mathlib.Core.Path.{_≡_}
+use mathlib.Core.Logic.{_≢_}
 use mathlib.Core.Bool.{false}
 use mathlib.Core.List.{List}
 use lib.ListN.{take, drop}
@@ -9,9 +10,11 @@ use Rattle.esterel.specs.Machines.{State, byLabels}
 use Rattle.sequence.specs.Writer.{bytesOf, size}
 use Rattle.sequence.specs.Program.{program}
 use Rattle.sequence.specs.Check.{checkOf}
-use Rattle.sequence.specs.Rows.{Spells}
+use Rattle.sequence.specs.Rows.{Spells, ByRows}
 use Rattle.tick.specs.Tick.{tickOf}
 use Rattle.unrolled.specs.Unrolled.{unrolled, resultOf}
+use Rattle.unrolled.specs.Call.{Unrolling, unrolling, number, refused}
+use Rattle.unrolled.specs.Rows.{UnrollRow}
 use Rattle.unrolled.specs.Runs.{SameUntilWrong, SameLitresUntilWrong, showsWrong}
 use Rattle.unrolled.specs.Entries.{Counting, OneRun, AtMostOnce}
 
@@ -31,3 +34,19 @@ pub record Written (sequence : List ℕ) (readBack : ℕ) (buffer : List ℕ) (n
   -- loop and of its body as a whole only the beginnings count (Entries)
   pub once : (q : Statement) → Spells (take n out) q → (c : Counting) → OneRun c → (s : State) (e : ℕ)
       → showsWrong (byLabels (program readBack q) s e .0) ≡ false → AtMostOnce c (program readBack q) s e
+
+-- ---- what decides a call: its numbers, and what it leaves
+-- sequence, read-back set, lent buffer
+abbrev pub Unroll : Type 0
+Unroll = List ℕ → ℕ → List ℕ → Unrolling
+
+pub record Decides (unroll : Unroll) : Type 0 where
+  -- each number exactly if its row holds and no row before it does
+  pub by-rows : (sequence : List ℕ) (readBack : ℕ) (buffer : List ℕ)
+      → ByRows (number (unroll sequence readBack buffer)) (UnrollRow sequence readBack buffer)
+  -- after an error the length is 0 and every byte keeps its value
+  pub refusal-writes-nothing : (sequence : List ℕ) (readBack : ℕ) (buffer : List ℕ) → number (unroll sequence readBack buffer) ≢ 0
+      → unroll sequence readBack buffer ≡ refused (number (unroll sequence readBack buffer)) buffer
+  -- with number 0, the result
+  pub result-written : (sequence : List ℕ) (readBack : ℕ) (buffer : List ℕ) (n : ℕ) (out : List ℕ)
+      → unroll sequence readBack buffer ≡ unrolling 0 n out → Written sequence readBack buffer n out

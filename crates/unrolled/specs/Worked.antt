@@ -1,9 +1,11 @@
 -- Loops written out by hand, by computation (02, item 13).
 use Prim.Native.Nat.{ℕ, zero, suc}
 use native.Mathlib.Omega.{arith}
-use mathlib.Core.Path.{_≡_, refl}
+use mathlib.Core.Path.{_≡_, refl, ap}
+use mathlib.Core.Bool.{cond}
 use mathlib.Core.List.{List, [], _∷_}
-use lib.ListN.{replicate}
+use lib.ListN.{length, replicate}
+use lib.Dec.{eqb}
 use lib.Ieee.{toBits, ofInt}
 use Rattle.sets.specs.Sets.{member, none, only, join, insert, remove, subset, disjoint, membersFrom}
 use Rattle.esterel.specs.Statement.{local, pure, litres, Statement, nothing, pause, emit, exit, seq, par, loop, present, signal, try, setpause, suspend}
@@ -27,7 +29,8 @@ use Rattle.answers.specs.AnswerRecord.{answerLength, encodeAnswer}
 use Rattle.tick.specs.Tick.{tickBy, tickOf}
 use Rattle.demands.specs.Demands.{cleared}
 use Rattle.unrolled.specs.Unrolled.{copied, unrolled, placed, resultOf}
-use Rattle.unrolled.specs.Call.{unrolling, ofStatement, unrollOf}
+use Rattle.unrolled.specs.Call.{Unrolling, unrolling, number, ofStatement, unrollOf}
+use Rattle.unrolled.specs.Claims.{Unroll, Decides}
 use Rattle.unrolled.specs.Runs.{beforeWrong, untilWrong}
 use Rattle.unrolled.specs.Entries.{at, chosenRun, bothRuns, OneRun, reacting, carried, resuming, reactsAt, entersAt}
 
@@ -73,6 +76,21 @@ whole-call : (unrollOf (0x06 ∷ 0x01 ∷ 0x00 ∷ []) 0 lent ≡ unrolling 0 6 
     × (unrollOf (0x06 ∷ []) 0 lent ≡ unrolling 4 0 lent)
 unfolding unrollOf checked read front commandOf signalNesting declaredBy membersFrom distinct wellFormed everyLabel before labelsOf subset disjoint member none only join copied unrolled bytesOf depthOf
 whole-call = (refl, refl, refl)
+
+-- a call that empties the buffer after an error is not one that its claims decide: a buffer of one byte is turned down
+abbrev emptiesAfterError : Unroll
+emptiesAfterError sequence readBack buffer =
+    unrolling (number (unrollOf sequence readBack buffer)) 0 (cond (eqb (number (unrollOf sequence readBack buffer)) 0) buffer [])
+
+emptied-refused : ¬ Decides emptiesAfterError
+unfolding unrollOf
+emptied-refused d =
+    let e = d .refusal-writes-nothing [] 0 (0xAA ∷ []) (λ z. let y : _≡_ {A = ℕ} 1 0 = z in omega arith) in
+    let n : _≡_ {A = ℕ} 0 1 = ap (λ (u : Unrolling). length (buffer u)) e in
+    omega arith
+  where
+    buffer : Unrolling → List ℕ
+    buffer (unrolling n count out) = out
 
 -- with any buffer: 31 loops around a pause give a result of depth 63, 32 one of depth 65
 depth-counted : (b : List ℕ) → (depthOf (unrolled (inLoops 31 (pause 0))) ≡ 63) × (ofStatement (inLoops 32 (pause 0)) b ≡ unrolling 21 0 b)

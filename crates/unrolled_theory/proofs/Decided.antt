@@ -1,4 +1,4 @@
--- A call that goes by the rows, writes nothing after an error and else writes the result is `unrollOf`, for all arguments.
+-- A call that its claims decide is `unrollOf`, for all arguments.
 use Prim.Native.Nat.{ℕ, zero, suc}
 use native.Mathlib.Omega.{arith}
 use native.Mathlib.Decide.{ℕ-discrete}
@@ -12,7 +12,7 @@ use Rattle.sequence.proofs.Rows.{check-by-rows}
 use Rattle.demands.proofs.Sequence.{accepted}
 use Rattle.unrolled.specs.Call.{Unrolling, unrolling, number, refused, unrollOf}
 use Rattle.unrolled.specs.Rows.{UnrollRow, row-2-to-10}
-use Rattle.unrolled.specs.Claims.{Written}
+use Rattle.unrolled.specs.Claims.{Written, Unroll, Decides}
 use Rattle.unrolled_theory.proofs.Rows as rows
 use Rattle.unrolled_theory.proofs.Results as results
 
@@ -37,8 +37,8 @@ module _ (sequence : List ℕ) (readBack : ℕ) (buffer : List ℕ) where
 
   module _ (u : Unrolling) (goes : ByRows (number u) (UnrollRow sequence readBack buffer)) (leaves : number u ≢ 0 → u ≡ refused (number u) buffer)
       (writes : (n : ℕ) (out : List ℕ) → u ≡ unrolling 0 n out → Written sequence readBack buffer n out) where
-    pub unroll-is : u ≡ unrollOf sequence readBack buffer
-    unroll-is =
+    is-unrollOf : u ≡ unrollOf sequence readBack buffer
+    is-unrollOf =
         elim (ℕ-discrete (number u) 0) [
           | yes z ↦ both u (unrollOf sequence readBack buffer) refl refl z (sym same ∙ z)
           | no z ↦ leaves z ∙ ap (λ (n : ℕ). refused n buffer) same ∙ sym (rows.refusal-writes-nothing sequence readBack buffer (λ y. z (same ∙ y)))
@@ -58,3 +58,9 @@ module _ (sequence : List ℕ) (readBack : ℕ) (buffer : List ℕ) where
             ap (λ (k : ℕ). unrolling k count out) z
             ∙ same-written (passed (ap number e0)) count count′ out out′ (writes count out e0) (results.written sequence readBack buffer count′ out′ f0)
             ∙ sym (ap (λ (k : ℕ). unrolling k count′ out′) y)
+
+pub unroll-is : (unroll : Unroll) → Decides unroll
+    → (sequence : List ℕ) (readBack : ℕ) (buffer : List ℕ) → unroll sequence readBack buffer ≡ unrollOf sequence readBack buffer
+unroll-is unroll d sequence readBack buffer =
+    is-unrollOf sequence readBack buffer (unroll sequence readBack buffer) (d .by-rows sequence readBack buffer)
+    (d .refusal-writes-nothing sequence readBack buffer) (d .result-written sequence readBack buffer)

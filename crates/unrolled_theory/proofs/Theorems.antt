@@ -19,11 +19,11 @@ use Rattle.sequence.specs.Check.{sound, checked, checkOf}
 use Rattle.sequence.specs.Rows.{Spells, ByRows}
 use Rattle.tick.specs.Tick.{tickBy, tickOf}
 use Rattle.unrolled.specs.Unrolled.{unrolled, resultOf}
-use Rattle.unrolled.specs.Call.{Unrolling, unrolling, number, refused, unrollOf}
+use Rattle.unrolled.specs.Call.{unrolling, number, refused, unrollOf}
 use Rattle.unrolled.specs.Rows.{UnrollRow, Fits}
 use Rattle.unrolled.specs.Runs.{SameUntilWrong, SameLitresUntilWrong, tellsAll, showsWrong, untilWrong, InEach}
 use Rattle.unrolled.specs.Entries.{Counting, chosenRun, anyRun, bothRuns, OneRun, everywhere, reacting, carried, AtLoop, Stands, Origin, beginsAt, AtMostOnce}
-use Rattle.unrolled.specs.Claims.{Written}
+use Rattle.unrolled.specs.Claims.{Written, Unroll, Decides}
 use Rattle.unrolled_theory.proofs.Forms.{Forms, declared-forms}
 use Rattle.unrolled_theory.proofs.Marked as marked
 use Rattle.unrolled_theory.proofs.Labels as labels
@@ -50,17 +50,13 @@ module _ (sequence : List ℕ) (readBack : ℕ) (buffer : List ℕ) where
   pub result-written : (n : ℕ) (out : List ℕ) → unrollOf sequence readBack buffer ≡ unrolling 0 n out → Written sequence readBack buffer n out
   result-written = results.written sequence readBack buffer
 
--- DECIDED: a call that goes by the rows, writes nothing after an error and whose result is as Written says is unrollOf, for all arguments
-pub unroll-decided : (unroll : List ℕ → ℕ → List ℕ → Unrolling)
-    → ((sequence : List ℕ) (readBack : ℕ) (buffer : List ℕ) → ByRows (number (unroll sequence readBack buffer)) (UnrollRow sequence readBack buffer))
-    → ((sequence : List ℕ) (readBack : ℕ) (buffer : List ℕ) → number (unroll sequence readBack buffer) ≢ 0
-    → unroll sequence readBack buffer ≡ refused (number (unroll sequence readBack buffer)) buffer)
-    → ((sequence : List ℕ) (readBack : ℕ) (buffer : List ℕ) (n : ℕ) (out : List ℕ) → unroll sequence readBack buffer ≡ unrolling 0 n out
-    → Written sequence readBack buffer n out)
+-- DECIDED: a call with these numbers and results is unrollOf, for all arguments
+pub decides : Decides unrollOf
+decides = record { by-rows = unroll-by-rows; refusal-writes-nothing = refusal-writes-nothing; result-written = result-written }
+
+pub unroll-decided : (unroll : Unroll) → Decides unroll
     → (sequence : List ℕ) (readBack : ℕ) (buffer : List ℕ) → unroll sequence readBack buffer ≡ unrollOf sequence readBack buffer
-unroll-decided unroll goes leaves writes sequence readBack buffer =
-    decided.unroll-is sequence readBack buffer (unroll sequence readBack buffer) (goes sequence readBack buffer) (leaves sequence readBack buffer)
-    (writes sequence readBack buffer)
+unroll-decided = decided.unroll-is
 
 -- ---- the result is accepted
 -- with the original's read-back set, and spells p worked through with its own offsets as places
