@@ -17,7 +17,7 @@ use borrow.Author.Tests.{ltb-true, lt-ltb, le-leb, leb-true}
 use Rattle.limits.specs.Limits.{litresLimit}
 use Rattle.numbers.specs.Bytes.{leBytes, leNumber}
 use Rattle.numbers.proofs.Bytes.{le-round-trip}
-use Rattle.sequence.specs.Amounts.{amountSize, floatIn, areBytes, isAmount, amountIn, amountBytes}
+use Rattle.sequence.specs.Amounts.{amountSize, floatIn, areBytes, IsAmount, isAmount, amountIn, amountBytes}
 
 holds : (b : Bool) → b ≡ true → T b
 holds true h = tt
@@ -88,13 +88,13 @@ amount-read xs n h =
     most : (k : ℕ) → T (inFloat binary32 (pos k)) → k ≤ litresLimit
     most k t = unfold inFloat in leb-true k 16777216 (is-true (leb k 16777216) t)
 
--- TAKEN: the bytes that 18 does not turn down are those of the whole numbers up to the limit
-pub litres-taken : (xs : List ℕ) → length xs ≡ amountSize
-    → (isAmount xs ≡ true) ↔ ((n : ℕ) × ((n ≤ litresLimit) × (xs ≡ amountBytes n) × (floatIn xs ≡ ofInt binary32 (pos n))))
-litres-taken xs l = (λ h. from h, λ q. ap isAmount (q .1 .1) ∙ amount-written (q .0) (q .1 .0) .0)
-  where
-    from : isAmount xs ≡ true → (n : ℕ) × ((n ≤ litresLimit) × (xs ≡ amountBytes n) × (floatIn xs ≡ ofInt binary32 (pos n)))
-    from h =
-        let r = amount-read xs l h in
-        let n = amountIn xs in
-        (n, (r .0, sym (r .1), ap floatIn (sym (r .1)) ∙ float-written n))
+-- TAKEN: the reader's test is that the bytes are a whole number of litres up to the limit
+pub amount-passes : (xs : List ℕ) → IsAmount xs → isAmount xs ≡ true
+amount-passes xs a = ap isAmount (a .bytes) ∙ amount-written (a .number) (a .at-most) .0
+
+pub litres-taken : (xs : List ℕ) → length xs ≡ amountSize → (isAmount xs ≡ true) ↔ IsAmount xs
+litres-taken xs l = (λ h. let r = amount-read xs l h in record { number = amountIn xs; at-most = r .0; bytes = sym (r .1) }, amount-passes xs)
+
+-- and the number read is that one
+pub litres-read : (xs : List ℕ) (a : IsAmount xs) → (amountIn xs ≡ a .number) × (floatIn xs ≡ ofInt binary32 (pos (a .number)))
+litres-read xs a = (ap amountIn (a .bytes) ∙ amount-written (a .number) (a .at-most) .1, ap floatIn (a .bytes) ∙ float-written (a .number))

@@ -1,6 +1,6 @@
 -- The theorems of this crate: the check finds the first row that holds, the reader accepts what the writer writes, no bytes
 -- spell a held suspend, and litres are the whole numbers up to the limit.
-use Prim.Native.Nat.{ℕ, _≤_}
+use Prim.Native.Nat.{ℕ}
 use mathlib.Core.Path.{_≡_}
 use mathlib.Core.Logic.{_↔_}
 use mathlib.Core.Bool.{true}
@@ -10,8 +10,8 @@ use lib.IntN.{pos}
 use lib.Ieee.{binary32, ofInt}
 use Rattle.esterel.specs.Statement.{Statement}
 use Rattle.esterel.specs.States.{Source}
-use Rattle.limits.specs.Limits.{maxDepth, maxSignals, litresLimit}
-use Rattle.sequence.specs.Amounts.{amountSize, isAmount, floatIn, amountBytes}
+use Rattle.limits.specs.Limits.{maxDepth, maxSignals}
+use Rattle.sequence.specs.Amounts.{amountSize, IsAmount, isAmount, amountIn, floatIn}
 use Rattle.sequence.specs.Reader.{accepted, read}
 use Rattle.sequence.specs.Check.{checkOf}
 use Rattle.sequence.specs.Rows.{Spells, Row, ByRows}
@@ -32,7 +32,10 @@ reads-what-is-written = writer.reads-what-is-written
 pub spells-source : (bs : List ℕ) (p : Statement) → Spells bs p → Source p
 spells-source = source.spells-source
 
--- 02, item 12, row 18: four bytes are litres exactly if they are the single-precision number of a whole number from 0 to 16,777,216
-pub litres-taken : (xs : List ℕ) → length xs ≡ amountSize
-    → (isAmount xs ≡ true) ↔ ((n : ℕ) × ((n ≤ litresLimit) × (xs ≡ amountBytes n) × (floatIn xs ≡ ofInt binary32 (pos n))))
+-- 02, item 12, row 18: what the reader tests is that four bytes are a whole number of litres from 0 to 16,777,216
+pub litres-taken : (xs : List ℕ) → length xs ≡ amountSize → (isAmount xs ≡ true) ↔ IsAmount xs
 litres-taken = amounts.litres-taken
+
+-- and the number that it reads is that one
+pub litres-read : (xs : List ℕ) (a : IsAmount xs) → (amountIn xs ≡ a .number) × (floatIn xs ≡ ofInt binary32 (pos (a .number)))
+litres-read = amounts.litres-read

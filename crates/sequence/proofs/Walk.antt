@@ -6,24 +6,53 @@ use mathlib.Core.Bool.{Bool, true, false, _&&_, cond}
 use mathlib.Core.Option.{Option, none, some, Option·some-injective}
 use mathlib.Core.List.{List, [], _∷_, _++_}
 use mathlib.Core.Logic.{_↔_}
-use lib.ListN.{drop, replicate}
+use lib.ListN.{length, drop, replicate}
 use lib.Seq.{drop-drop}
 use lib.Dec.{leb, ltb}
 use borrow.Author.Tests.{ltb-false, leb-false, le-ltb, lt-ltb, le-leb, lt-leb}
 use Rattle.esterel.specs.Statement.{Statement}
 use Rattle.limits.specs.Limits.{maxDepth, maxSignals}
-use Rattle.sequence.specs.Commands.{Command, partCount, headLength, declares}
+use Rattle.sequence.specs.Amounts.{amountSize, IsAmount, isAmount}
+use Rattle.sequence.specs.Commands.{Command, nothing, pause, emit, exit, seq, par, loop, present, signal, try, setpause, suspend, deliver, commandOf, operandCount, operandsOf, partCount, inRange, litresFit, headLength, declares}
 use Rattle.sequence.specs.Reader.{Read, accepted, refused, Front, command, bad, front, read}
 use Rattle.sequence.specs.Rows.{Awaited, awaits, at, Fault, unknown, no-statement, no-operand, out-of-range, no-litres, too-deep, too-many-signals, walk}
+use Rattle.sequence.proofs.Amounts.{amount-passes, litres-taken}
 use Rattle.sequence.proofs.Front.{Fronts, fronts, front-is}
 use Rattle.sequence.proofs.Inversion.{Stops, stops, Allowed, Meets, meets}
+
+true-false : true ≡ false → ⊥
+true-false e = let z : _≡_ {A = ℕ} 0 1 = cc in omega arith
 
 -- ---- the fault at one command, from what stands at the front
 abbrev pub faultOf : Awaited → Front → Option ℕ
 faultOf s (bad number) = some number
 faultOf (awaits d g) (command c xs) = cond (ltb d maxDepth && leb (g + declares c) maxSignals) none (some 6)
 
--- rows 3, 4 and 5
+-- row 18: only a 0C has litres
+litres-fault : (s : Awaited) (b : ℕ) (bs : List ℕ) (c : Command) → commandOf b ≡ some c → operandCount c ≤ length bs
+    → inRange c (operandsOf c (b ∷ bs)) ≡ true → litresFit c (operandsOf c (b ∷ bs)) ≡ false → Fault (b ∷ bs) s 18
+litres-fault s b bs nothing e l r i = absurd (true-false i)
+litres-fault s b bs pause e l r i = absurd (true-false i)
+litres-fault s b bs emit e l r i = absurd (true-false i)
+litres-fault s b bs exit e l r i = absurd (true-false i)
+litres-fault s b bs seq e l r i = absurd (true-false i)
+litres-fault s b bs par e l r i = absurd (true-false i)
+litres-fault s b bs loop e l r i = absurd (true-false i)
+litres-fault s b bs present e l r i = absurd (true-false i)
+litres-fault s b bs signal e l r i = absurd (true-false i)
+litres-fault s b bs try e l r i = absurd (true-false i)
+litres-fault s b bs setpause e l r i = absurd (true-false i)
+litres-fault s b bs suspend e l r i = absurd (true-false i)
+litres-fault s b bs deliver e l r i = no-litres {bs = bs} e l r (λ a. true-false (sym (amount-passes (drop 1 (operandsOf deliver (b ∷ bs))) a) ∙ i))
+
+no-amount : (xs : List ℕ) → length xs ≡ amountSize → ¬ IsAmount xs → isAmount xs ≡ false
+no-amount xs l k = go (isAmount xs) refl
+  where
+    go : (t : Bool) → isAmount xs ≡ t → isAmount xs ≡ false
+    go true e = absurd (k (litres-taken xs l .0 e))
+    go false e = e
+
+-- rows 3, 4, 5 and 18
 fronts-fault : (s : Awaited) (bs : List ℕ) (k : ℕ) → Fronts bs (bad k) → Fault bs s k
 fronts-fault s [] k (Fronts.empty e) = no-statement
 fronts-fault s [] k (Fronts.unknown l h) = absurd (omega arith)
@@ -34,7 +63,7 @@ fronts-fault s (b ∷ bs) k (Fronts.empty e) = absurd (omega arith)
 fronts-fault s (b ∷ bs) k (Fronts.unknown l h) = unknown h
 fronts-fault s (b ∷ bs) k (Fronts.short c l e h) = no-operand {bs = bs} e (omega arith)
 fronts-fault s (b ∷ bs) k (Fronts.outside c e l r) = out-of-range {bs = bs} e (omega arith) r
-fronts-fault s (b ∷ bs) k (Fronts.unfit c e l r i) = no-litres {bs = bs} e (omega arith) r i
+fronts-fault s (b ∷ bs) k (Fronts.unfit c e l r i) = litres-fault s b bs c e (omega arith) r i
 
 front-fault : (s : Awaited) (bs : List ℕ) (k : ℕ) → front bs ≡ bad k → Fault bs s k
 front-fault s bs k e = fronts-fault s bs k (fronts bs (bad k) e)
@@ -65,8 +94,8 @@ fault-to {s = awaits d g} {bs = bs} (no-operand {c = c} e l) =
     ap (faultOf (awaits d g)) (front-is bs _ (Fronts.short c (omega arith) e (omega arith)))
 fault-to {s = awaits d g} {bs = bs} (out-of-range {c = c} e l r) =
     ap (faultOf (awaits d g)) (front-is bs _ (Fronts.outside c e (omega arith) r))
-fault-to {s = awaits d g} {bs = bs} (no-litres {c = c} e l r i) =
-    ap (faultOf (awaits d g)) (front-is bs _ (Fronts.unfit c e (omega arith) r i))
+fault-to {s = awaits d g} {bs = bs} (no-litres e l r i) =
+    ap (faultOf (awaits d g)) (front-is bs _ (Fronts.unfit deliver e (omega arith) r (no-amount (drop 1 (operandsOf deliver bs)) refl i)))
 fault-to (too-deep {d = d} f h) = rw (f, le-ltb d maxDepth h)
 fault-to (too-many-signals {d = d} {g = g} {c = c} f h) = rw (f, lt-leb (g + declares c) maxSignals h) (go (ltb d maxDepth))
   where

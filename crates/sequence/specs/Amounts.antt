@@ -1,15 +1,28 @@
 -- The litres of a command 0C as bytes (02, item 12): 'a single-precision number in 4 bytes, lowest first', by the kit's floats.
-use Prim.Native.Nat.{ℕ}
+use Prim.Native.Nat.{ℕ, _≤_}
+use mathlib.Core.Path.{_≡_}
 use mathlib.Core.Bool.{Bool, true, _&&_}
 use mathlib.Core.List.{List, [], _∷_}
 use lib.Dec.{ltb}
 use lib.IntN.{pos}
 use lib.Ieee.{Float, binary32, ofBits, toBits, ofInt, inUnsigned, toUnsigned}
+use Rattle.limits.specs.Limits.{litresLimit}
 use Rattle.numbers.specs.Bytes.{leBytes, leNumber}
 
 abbrev pub amountSize : ℕ
 amountSize = 4
 
+-- n as a single-precision number in 4 bytes
+abbrev pub amountBytes : ℕ → List ℕ
+amountBytes n = leBytes amountSize (toBits binary32 (ofInt binary32 (pos n)))
+
+-- these bytes are a whole number of litres from 0 to 16,777,216. All others, minus zero's among them, are turned down with 18
+pub record IsAmount (xs : List ℕ) : Type 0 where
+  pub number : ℕ
+  pub at-most : number ≤ litresLimit
+  pub bytes : xs ≡ amountBytes number
+
+-- ---- as the reader tests it
 abbrev pub floatIn : List ℕ → Float
 floatIn xs = ofBits binary32 (leNumber xs)
 
@@ -18,12 +31,8 @@ abbrev pub areBytes : List ℕ → Bool
 areBytes [] = true
 areBytes (x ∷ xs) = ltb x 256 && areBytes xs
 
--- not 18: a whole number from 0 to 16,777,216, and not minus zero
 abbrev pub isAmount : List ℕ → Bool
 isAmount xs = areBytes xs && inUnsigned binary32 32 (floatIn xs)
 
 abbrev pub amountIn : List ℕ → ℕ
 amountIn xs = toUnsigned 32 (floatIn xs)
-
-abbrev pub amountBytes : ℕ → List ℕ
-amountBytes n = leBytes amountSize (toBits binary32 (ofInt binary32 (pos n)))

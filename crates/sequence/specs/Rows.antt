@@ -10,7 +10,8 @@ use lib.Dec.{leb, ltb, eqb}
 use Rattle.esterel.specs.Statement.{Statement}
 use Rattle.esterel.specs.States.{Distinct, Targeted, WellFormed}
 use Rattle.limits.specs.Limits.{lastCommand, maxBytes, maxDepth, maxSignals}
-use Rattle.sequence.specs.Commands.{Command, commandOf, operandCount, operandsOf, partCount, inRange, litresFit, headLength, declares}
+use Rattle.sequence.specs.Amounts.{IsAmount}
+use Rattle.sequence.specs.Commands.{Command, deliver, commandOf, operandCount, operandsOf, partCount, inRange, headLength, declares}
 use Rattle.sequence.specs.Reader.{Front, command, bad, front}
 use Rattle.esterel.specs.Sizes.{signalNesting}
 use Rattle.sequence.specs.Program.{program}
@@ -34,9 +35,9 @@ pub data Fault : List ℕ → Awaited → (number : ℕ) → Type 0 where
   -- operand outside its range
   out-of-range : {s : Awaited} {b : ℕ} {bs : List ℕ} {c : Command} → commandOf b ≡ some c → operandCount c ≤ length bs
       → inRange c (operandsOf c (b ∷ bs)) ≡ false → Fault (b ∷ bs) s 5
-  -- 02, item 12: at its command right after 5
-  no-litres : {s : Awaited} {b : ℕ} {bs : List ℕ} {c : Command} → commandOf b ≡ some c → operandCount c ≤ length bs
-      → inRange c (operandsOf c (b ∷ bs)) ≡ true → litresFit c (operandsOf c (b ∷ bs)) ≡ false → Fault (b ∷ bs) s 18
+  -- 02, item 12: 'at its command right after 5, for v not whole, below 0, minus zero or above 16,777,216'
+  no-litres : {s : Awaited} {b : ℕ} {bs : List ℕ} → commandOf b ≡ some deliver → operandCount deliver ≤ length bs
+      → inRange deliver (operandsOf deliver (b ∷ bs)) ≡ true → ¬ IsAmount (drop 1 (operandsOf deliver (b ∷ bs))) → Fault (b ∷ bs) s 18
   -- depth over 64, or a seventh signal inside six; the command has passed 3, 4, 5 and 18
   too-deep : {d g : ℕ} {bs xs : List ℕ} {c : Command} → front bs ≡ command c xs → maxDepth ≤ d → Fault bs (awaits d g) 6
   too-many-signals : {d g : ℕ} {bs xs : List ℕ} {c : Command} → front bs ≡ command c xs → maxSignals < g + declares c
