@@ -1,10 +1,9 @@
 // The reading of a ledger (02, item 12): the 32 totals, then the ledger's total, in 132 lent bytes.
 ghost use mathlib.Core.Path.{_≡_};
 ghost use Prim.Native.Nat.{_*_, _<_};
-ghost use lib.Dec.{T};
 ghost use lib.ListN.{length};
 ghost use lib.Seq.{sets};
-ghost use Rattle.litres.specs.Litres.{within};
+ghost use Rattle.litres.specs.Litres.{Near};
 ghost use Rattle.sequence.specs.Amounts.{amountBytes};
 ghost use Rattle.box_ledgers.specs.Ledgers.{farmCount, readingLength, totalIn, exactTotal, shownTotal, readingOf};
 use box_ledgers::FARMS;
@@ -14,7 +13,7 @@ use box_ledgers_totals::total;
 // The ledger's total, added over the farms in their order.
 pub fn sum(ledger: &[u8]) -> f32
     ensures { λ r. ⌜ r ≡ shownTotal (now (ledger .entry)) ⌝ }
-    ensures { λ r. ⌜ T (within 496 r (exactTotal farmCount (now (ledger .entry)))) ⌝ }
+    ensures { λ r. ⌜ Near 496 r (exactTotal farmCount (now (ledger .entry))) ⌝ }
 {
     let mut t = total(ledger, 0);
     let mut farm: usize = 1;

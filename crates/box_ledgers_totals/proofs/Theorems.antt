@@ -20,8 +20,8 @@ use Rattle.numbers.specs.Bytes.{leBytes, leNumber}
 use Rattle.numbers.proofs.Bytes.{length-leBytes, le-round-trip}
 use Rattle.sequence.specs.Amounts.{amountSize, amountBytes, areBytes, floatIn}
 use Rattle.sequence.proofs.Amounts.{amount-written}
-use Rattle.litres.specs.Litres.{whole, litres, ordered, within}
-use Rattle.litres.proofs.Sums.{Running, Added, added-first, added-next, added-all}
+use Rattle.litres.specs.Litres.{whole, litres, ordered, Near}
+use Rattle.litres.proofs.Sums.{Running, last, Added, added-first, added-next}
 use Rattle.box_ledgers.specs.Ledgers.{farmCount, ledgerLength, fieldIn, totalIn, totalFloat, Exact, totalsBytes, cleared, NoneOutside, wouldPass, passes, addedBelow, added, exactTotal, shownTotal, readingOf, totalRead}
 use Rattle.box_ledgers_totals.proofs.Totals as totals
 use Rattle.box_ledgers_totals.proofs.Fields as fields
@@ -52,14 +52,12 @@ running bs (suc n) h =
     added-next (λ f. totalFloat f bs) (ordered n (λ f. totalFloat f bs)) (suc n) (totals.totals-whole bs) h
     (subst (λ (i : ℕ). Added (λ f. totalFloat f bs) (ordered n (λ f. totalFloat f bs)) i) (add-one n) (running bs n (omega arith)))
 
--- it is a whole number, not above the exact sum by more than 496, nor below it
 pub shown-running : (bs : List ℕ) → Running (shownTotal bs) 32 (exactTotal farmCount bs)
 shown-running bs = subst (Running (shownTotal bs) 32) (totals.exact-is bs farmCount) (running bs 31 (lit< tt) .2)
 
-pub shown-within : (bs : List ℕ) → T (within 496 (shownTotal bs) (exactTotal farmCount bs))
-shown-within bs =
-    subst (λ (n : ℕ). T (within 496 (shownTotal bs) n)) (totals.exact-is bs farmCount)
-    (added-all (λ f. totalFloat f bs) (shownTotal bs) 32 (omega arith) (running bs 31 (lit< tt)) .1)
+-- it is a whole number, not above the exact sum by more than 496, nor below it
+pub shown-within : (bs : List ℕ) → Near 496 (shownTotal bs) (exactTotal farmCount bs)
+shown-within bs = last (shownTotal bs) (exactTotal farmCount bs) (shown-running bs)
 
 -- ---- totals written
 field-of : (n : ℕ) (t : ℕ → ℕ) (r : List ℕ) (f : ℕ) → f < n → take 4 (drop (f * 4) (totalsBytes n t ++ r)) ≡ amountBytes (t f)
@@ -108,8 +106,8 @@ reading-shows bs =
     ap (λ (l : List ℕ). ofBits binary32 (leNumber l)) at
     ∙ ap (ofBits binary32) (le-round-trip 4 (toBits binary32 x) (toBits-lt binary32 x fit)) ∙ ofBits-toBits binary32 x fit
 
-pub reading-within : (bs : List ℕ) → T (within 496 (totalRead (readingOf bs)) (exactTotal farmCount bs))
-reading-within bs = subst (λ (x : Float). T (within 496 x (exactTotal farmCount bs))) (sym (reading-shows bs)) (shown-within bs)
+pub reading-within : (bs : List ℕ) → Near 496 (totalRead (readingOf bs)) (exactTotal farmCount bs)
+reading-within bs = subst (λ (x : Float). Near 496 x (exactTotal farmCount bs)) (sym (reading-shows bs)) (shown-within bs)
 
 -- ---- the new year
 pub cleared-total : (f : ℕ) → f < farmCount → totalIn f cleared ≡ 0

@@ -22,7 +22,7 @@ use Rattle.numbers.specs.Bytes.{leBytes, numberAt}
 use Rattle.numbers.proofs.Bytes.{length-leBytes}
 use Rattle.numbers.proofs.Writing.{sets-append, sets-whole}
 use Rattle.sequence.specs.Amounts.{amountBytes}
-use Rattle.litres.specs.Litres.{whole, litres, exact, ordered, Whole, within}
+use Rattle.litres.specs.Litres.{whole, litres, exact, ordered, Whole, IsNumber, Near}
 use Rattle.litres.proofs.Sums.{value-of, sum-is, int-is, to-float, whole-no-nan}
 use Rattle.box_ledgers.specs.Ledgers.{farmCount, readingLength, fieldIn, totalIn, totalFloat, totalsBytes, wouldPass, exactTotal, shownTotal}
 
@@ -203,11 +203,14 @@ ordered-fits bs (suc n) = add-fits binary32 (ordered n (λ f. totalFloat f bs)) 
 pub shown-bits : (bs : List ℕ) → toBits binary32 (shownTotal bs) < 4294967296
 shown-bits bs = toBits-lt binary32 (shownTotal bs) (ordered-fits bs 31)
 
-pub near-no-nan : (k : ℕ) (x : Float) (n : ℕ) → T (within k x n) → T (not (isNan x))
-unfolding within isNan
-near-no-nan k Ieee.nan n h = absurd h
-near-no-nan k (Ieee.inf s) n h = tt
-near-no-nan k (Ieee.fin s m e) n h = tt
+number-no-nan : (x : Float) (n : ℕ) → IsNumber x n → T (not (isNan x))
+unfolding isNan
+number-no-nan Ieee.nan n v = absurd v
+number-no-nan (Ieee.inf s) n v = absurd v
+number-no-nan (Ieee.fin s m e) n v = tt
+
+pub near-no-nan : (k : ℕ) (x : Float) (n : ℕ) → Near k x n → T (not (isNan x))
+near-no-nan k x n h = number-no-nan x (h .number) (h .is-number)
 
 -- ---- would a farm pass the limit?
 pub passes-is : (f : ℕ) (bs : List ℕ) (n : ℕ) {t : Float} → t ≡ totalFloat f bs → ltb litresLimit (litres t + n) ≡ ltb litresLimit (totalIn f bs + n)

@@ -16,7 +16,7 @@ use lib.Ieee.Casts.{toUnsigned-cut}
 use lib.Ieee as Ieee
 use lib.Ieee.Scale.{round-same}
 use Rattle.litres.proofs.Rounding.{rounded}
-use Rattle.litres.specs.Litres.{whole, litres, exact, ordered, Whole, within}
+use Rattle.litres.specs.Litres.{whole, litres, exact, ordered, Whole, IsNumber, Near, within}
 
 -- ---- the sum of two whole numbers is their exact sum, rounded
 cross : (m u d n v e a b : ℕ) → m * u * 1 ≡ a * d → n * v * 1 ≡ b * e → (m * u * e + n * v * d) * 1 ≡ (a + b) * (d * e)
@@ -99,19 +99,30 @@ step t x i S p h r w =
       omega (arith, r .3, r .4, z .2, z .3),
     )
 
-near-value : (x : Float) (R S k : ℕ) → HasValue x false R 1 → R ≤ S + k → S ≤ R + k → T (within k x S)
-unfolding within
-near-value nan R S k v a b = absurd v
-near-value (inf s) R S k v a b = absurd v
-near-value (fin true m e) R S k v a b = absurd (let z : true ≡ false = v .0 in let o : _≡_ {A = ℕ} 0 1 = cc in omega arith)
-near-value (fin false m e) R S k v a b =
-    let q : m * up e ≡ R * down e = sym (mul-one (m * up e)) ∙ v .1 in
-    and-i (leb (m * up e) ((S + k) * down e)) (leb (S * down e) (m * up e + k * down e))
-    (le→leb (m * up e) ((S + k) * down e) (subst (λ (y : ℕ). y ≤ (S + k) * down e) (sym q) (mul-le-mul-right (down e) a)))
-    (le→leb (S * down e) (m * up e + k * down e) (subst (λ (y : ℕ). S * down e ≤ y + k * down e) (sym q) (subst (λ (y : ℕ). S * down e ≤ y) (add-mul R k (down e)) (mul-le-mul-right (down e) b))))
+pub is-number : (x : Float) (n : ℕ) → HasValue x false n 1 → IsNumber x n
+is-number nan n v = v
+is-number (inf s) n v = v
+is-number (fin s m e) n v = (v .0, sym (mul-one (m * up e)) ∙ v .1)
 
-pub last : (t : Float) (S : ℕ) → Running t 32 S → T (within 496 t S)
-last t S r = near-value t (r .0) S 496 (r .1) (r .3) (r .4)
+-- what is near passes the test
+number-within : (k n : ℕ) (x : Float) (R : ℕ) → IsNumber x R → R ≤ n + k → n ≤ R + k → T (within k x n)
+unfolding within
+number-within k n nan R v a b = absurd v
+number-within k n (inf s) R v a b = absurd v
+number-within k n (fin true m e) R v a b = absurd (let z : true ≡ false = v .0 in let o : _≡_ {A = ℕ} 0 1 = cc in omega arith)
+number-within k n (fin false m e) R v a b =
+    let q : m * up e ≡ R * down e = v .1 in
+    and-i (leb (m * up e) ((n + k) * down e)) (leb (n * down e) (m * up e + k * down e))
+    (le→leb (m * up e) ((n + k) * down e) (subst (λ (y : ℕ). y ≤ (n + k) * down e) (sym q) (mul-le-mul-right (down e) a)))
+    (le→leb (n * down e) (m * up e + k * down e)
+    (subst (λ (y : ℕ). n * down e ≤ y + k * down e) (sym q)
+    (subst (λ (y : ℕ). n * down e ≤ y) (add-mul R k (down e)) (mul-le-mul-right (down e) b))))
+
+pub near-within : (k : ℕ) (x : Float) (n : ℕ) → Near k x n → T (within k x n)
+near-within k x n h = number-within k n x (h .number) (h .is-number) (h .not-above) (h .not-below)
+
+pub last : (t : Float) (S : ℕ) → Running t 32 S → Near 496 t S
+last t S r = record { number = r .0; is-number = is-number t (r .0) (r .1); not-above = r .3; not-below = r .4 }
 
 -- the same with the totals numbered
 abbrev pub Added : (ℕ → Float) → Float → ℕ → Type 0
@@ -133,7 +144,7 @@ added-next f t i w h a =
     subst (λ (n : ℕ). Added f (add binary32 t (f i)) n) (sym (add-one i))
     (zero-lt-suc i, h, step t (f i) i (exact i f) (a .0) h (a .2) (w i h), ap (λ (x : Float). add binary32 x (f i)) (a .3) ∙ ordered-next f i (a .0) ∙ ap (λ (n : ℕ). ordered n f) e)
 
-pub added-all : (f : ℕ → Float) (t : Float) (i : ℕ) → 32 ≤ i → Added f t i → (t ≡ ordered 31 f) × T (within 496 t (exact 32 f))
+pub added-all : (f : ℕ → Float) (t : Float) (i : ℕ) → 32 ≤ i → Added f t i → (t ≡ ordered 31 f) × Near 496 t (exact 32 f)
 added-all f t i h a =
     let e : i ≡ 32 = omega arith in
     (subst (λ (n : ℕ). t ≡ ordered (n - 1) f) e (a .3), last t (exact 32 f) (subst (λ (n : ℕ). Running t n (exact n f)) e (a .2)))

@@ -1,5 +1,6 @@
 -- Litres as single-precision numbers, over the values of the kit's `lib.Ieee`. Definitions only.
-use Prim.Native.Nat.{ℕ, zero, suc, _+_, _*_, _<_}
+use Prim.Native.Nat.{ℕ, zero, suc, _+_, _*_, _≤_, _<_}
+use mathlib.Core.Path.{_≡_}
 use mathlib.Core.Bool.{Bool, false, not, _&&_}
 use lib.Dec.{T, leb}
 use lib.Ieee.{Float, nan, inf, fin, binary32, up, down, inUnsigned, toUnsigned, add}
@@ -26,7 +27,21 @@ ordered (suc n) f = add binary32 (ordered n f) (f (suc n))
 abbrev pub Whole : ℕ → (ℕ → Float) → Type 0
 Whole n f = (i : ℕ) → i < n → T (whole (f i))
 
--- x is finite, not below zero, and at most k away from n
+-- x is the whole number n: finite, without a minus sign, and with no fraction (a finite x is m times 2 to the power e, which is
+-- the fraction up e / down e)
+abbrev pub IsNumber : Float → (n : ℕ) → Type 0
+IsNumber nan n = ⊥
+IsNumber (inf minus) n = ⊥
+IsNumber (fin minus m e) n = (minus ≡ false) × (m * up e ≡ n * down e)
+
+-- x 'lies within' k litres of n: it is a whole number, at most k above n and at most k below it
+pub record Near (k : ℕ) (x : Float) (n : ℕ) : Type 0 where
+  pub number : ℕ
+  pub is-number : IsNumber x number
+  pub not-above : number ≤ n + k
+  pub not-below : n ≤ number + k
+
+-- the same as a test, of numbers with a fraction too: x is finite, without a minus sign, and at most k away from n
 unfoldable pub within : ℕ → Float → ℕ → Bool
 within k nan n = false
 within k (inf s) n = false

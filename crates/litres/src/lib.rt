@@ -3,9 +3,8 @@ ghost use mathlib.Core.Path.{_≡_};
 ghost use Prim.Native.Nat.{_+_, _≤_};
 ghost use lib.ListN.{length};
 ghost use Rattle.numbers.specs.Bytes.{numberAt};
-ghost use lib.Dec.{T};
 ghost use lib.Ieee.{binary32, ofBits};
-ghost use Rattle.litres.specs.Litres.{whole, litres};
+ghost use Rattle.litres.specs.Litres.{whole};
 
 // Whether the bit pattern v is a whole number from 0 to 2^24, and not minus zero. Decided on the bits as an integer: no NaN is ever made.
 pub fn is_whole(v: u32) -> bool
@@ -19,14 +18,6 @@ pub fn is_whole(v: u32) -> bool
     }
     let unit: u32 = 1 << (150 - v / 0x80_0000);
     (0x80_0000 + v % 0x80_0000) % unit == 0
-}
-
-// The litres that a pattern stands for.
-pub fn litres_of(v: u32) -> u32
-    requires { ⌜ T (whole (ofBits binary32 v)) ⌝ }
-    ensures { λ r. ⌜ r ≡ litres (ofBits binary32 v) ⌝ }
-{
-    f32::from_bits(v) as u32
 }
 
 // The four bytes at an offset as a pattern, lowest first. Written out, so that it is one load.

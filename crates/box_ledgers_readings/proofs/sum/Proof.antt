@@ -1,10 +1,9 @@
 use Prim.Native.Nat.{ℕ, _+_, _-_}
 use mathlib.Core.Path.{sym, subst}
-use lib.Dec.{T}
 use lib.Ieee.{Float, binary32, add}
 use borrow.Author.Needs.{needs}
 use borrow.Author.Count.{falls}
-use Rattle.litres.specs.Litres.{within}
+use Rattle.litres.specs.Litres.{Near}
 use Rattle.litres.proofs.Sums.{Added, added-first, added-next, added-all}
 use Rattle.box_ledgers.specs.Ledgers.{farmCount, totalFloat}
 use Rattle.box_ledgers_totals.proofs.Totals.{totals-whole, exact-is}
@@ -46,7 +45,7 @@ returns c =
     let bs = c .before .before .before .before .args .ledger .now in
     let l = c .before .loop in
     let r = added-all (λ f. totalFloat f bs) (l .t) (l .farm) (c .loop-test .left) (l .inv) in
-    (r .0, subst (λ (n : ℕ). T (within 496 (l .t) n)) (exact-is bs farmCount) (r .1))
+    (r .0, subst (λ (n : ℕ). Near 496 (l .t) n) (exact-is bs farmCount) (r .1))
 
 pub sum-spec : {M : Type 1} → statement M
 sum-spec =
