@@ -6,9 +6,9 @@ use mathlib.Core.Logic.{_≢_, _↔_}
 use mathlib.Core.Bool.{true, _&&_, cond}
 use mathlib.Core.List.{List, [], _∷_}
 use lib.ListN.{length}
-use lib.Dec.{T, eqb}
+use lib.Dec.{eqb}
 use Rattle.limits.specs.Limits.{litresLimit}
-use Rattle.litres.specs.Litres.{whole, within}
+use Rattle.litres.specs.Litres.{whole, Near}
 use Rattle.box_ledgers.specs.Ledgers as Ledgers
 use Rattle.box_ledgers.specs.Ledgers.{farmCount, readingLength, fieldIn, totalIn, exactTotal, readingOf, totalRead}
 use Rattle.tick.specs.Tick.{tickOf}
@@ -62,7 +62,7 @@ TotalsExact call =
 pub record ReadingIs (held reading : List ℕ) : Type 0 where
   pub bytes : reading ≡ readingOf held
   pub each : (farm : ℕ) → farm < farmCount → totalIn farm reading ≡ totalIn farm held
-  pub near : T (within 496 (totalRead reading) (exactTotal farmCount reading))
+  pub near : Near 496 (totalRead reading) (exactTotal farmCount reading)
 
 abbrev pub LedgerShows : Calling → Type 0
 LedgerShows call =

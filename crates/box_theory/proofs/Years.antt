@@ -9,7 +9,7 @@ use mathlib.Core.Bool.{Bool, true, false, _||_, cond, true≢false}
 use mathlib.Core.Option.{Option, some, none}
 use mathlib.Core.List.{List, [], _∷_}
 use lib.ListN.{length}
-use lib.Dec.{T, eqb, ltb}
+use lib.Dec.{eqb, ltb}
 use borrow.Author.Tests.{eq-eqb, ne-eqb, ltb-true}
 use Rattle.limits.specs.Limits.{numberBytes, litresLimit}
 use Rattle.numbers.specs.Bytes.{leBytes}
@@ -21,7 +21,7 @@ use Rattle.box_parts.proofs.Parts.{slot-put, put-behind}
 use Rattle.box_parts.proofs.Zeros.{slot-zeros}
 use Rattle.box_positions.specs.Table.{tableLength, lookup, Kept, kept, tableKept, saveOf, forgetOf}
 use Rattle.box_positions_table.proofs.TableLaws.{save-sized, forget-sized}
-use Rattle.litres.specs.Litres.{within}
+use Rattle.litres.specs.Litres.{Near}
 use Rattle.box_ledgers.specs.Ledgers.{farmCount, ledgerLength, exactTotal, readingOf, totalRead, totalIn, Exact, cleared, wouldPass, passes, added}
 use Rattle.box_ledgers_totals.proofs.Totals.{passes-not}
 use Rattle.box_ledgers_totals.proofs.Theorems.{added-total, added-stays-exact, total-most, reading-total, reading-within, cleared-total, cleared-exact, cleared-sized, cleared-is}
@@ -313,7 +313,7 @@ ledger-shows box bay totals n =
       record {
         bytes = refl;
         each = reading-total held;
-        near = subst (λ (n : ℕ). T (within 496 (totalRead (readingOf held)) n)) (sym (same-exact held farmCount (omega arith))) (reading-within held);
+        near = subst (Near 496 (totalRead (readingOf held))) (sym (same-exact held farmCount (omega arith))) (reading-within held);
       },
     )
 
