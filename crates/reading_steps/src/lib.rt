@@ -1,16 +1,14 @@
 // Steps of the reading walk at one command (01, 'Commands' and rows 3 to 6), outside its recursion.
 ghost use mathlib.Core.Path.{_≡_};
-ghost use mathlib.Core.Bool.{_&&_};
 ghost use mathlib.Core.List.{List, _∷_};
-ghost use mathlib.Core.Option.{some};
 ghost use Prim.Native.Nat.{ℕ, _≤_, _<_};
 ghost use lib.Dec.{eqb};
 ghost use lib.ListN.{set};
 ghost use Rattle.limits.specs.Limits.{maxBytes, maxSignals};
-ghost use Rattle.sequence.specs.Commands.{Command, commandOf, operandCount, partCount, inRange, declares};
+ghost use Rattle.sequence.specs.Commands.{Command, commandOf, inRange};
 ghost use Rattle.layout.specs.Layout.{entry};
 ghost use Rattle.layout.specs.Notes.{pausesCounted};
-ghost use Rattle.reading_steps.specs.Steps.{Declared};
+ghost use Rattle.reading_steps.specs.Steps.{isChoice, isDeclaration, Declared};
 use layout::SecondParts;
 use notes::Notes;
 
@@ -29,14 +27,14 @@ pub fn is_exit(x: u8) -> bool
 
 // Has the command b two parts behind an operand?
 pub fn is_choice(b: u8) -> bool
-    ensures { λ r. ⌜ ((c : Command) → commandOf b ≡ some c → r ≡ (eqb (partCount c) 2 && eqb (operandCount c) 1)) ⌝ }
+    ensures { λ r. ⌜ r ≡ isChoice (commandOf b) ⌝ }
 {
     b == limits::PRESENT
 }
 
 // Does the command b declare a signal?
 pub fn declares(b: u8) -> bool
-    ensures { λ r. ⌜ ((c : Command) → commandOf b ≡ some c → r ≡ eqb (declares c) 1) ⌝ }
+    ensures { λ r. ⌜ r ≡ isDeclaration (commandOf b) ⌝ }
 {
     b == limits::SIGNAL
 }

@@ -31,6 +31,7 @@ use Rattle.reading_heads.proofs.width.Reads as width-reads
 use Rattle.reading_leaves.proofs.ahead.Reads as ahead-reads
 use Rattle.reading_leaves.proofs.leaf.Reads as leaf-reads
 use Rattle.reading_steps.proofs.declare.Reads as declare-reads
+use Rattle.reading_steps.specs.Steps.{isChoice, isDeclaration}
 use Rattle.reading_steps.proofs.declares.Reads as declares-reads
 use Rattle.reading_steps.proofs.is_choice.Reads as is-choice-reads
 use Rattle.reading_steps.proofs.is_deep.Reads as is-deep-reads
@@ -156,11 +157,11 @@ wide-fits t q e = omega (arith, e, head-of t q .wide, head-fits (head-of t q))
 
 chosen : (t : ℕ) (q : read-lts.After-declares (read-claims t) (read-at t) read.Post) → q .before .is-choice .result ≡ true
     → (partCount (head-of t q .of) ≡ 2) × (2 ≡ headLength (head-of t q .of))
-chosen t q e = choice (head-of t q .of) (parted t q) (sym (q .before .is-choice .ensures (head-of t q .of) (byte (head-of t q))) ∙ e)
+chosen t q e = choice (head-of t q .of) (parted t q) (sym (q .before .is-choice .ensures ∙ ap isChoice (byte (head-of t q))) ∙ e)
 
 declared : (t : ℕ) (q : read-lts.After-declares (read-claims t) (read-at t) read.Post) → q .declares .result ≡ true
     → (partCount (head-of t q .of) ≡ 1) × (2 ≡ headLength (head-of t q .of)) × (declares (head-of t q .of) ≡ 1)
-declared t q e = declaration (head-of t q .of) (parted t q) (sym (q .declares .ensures (head-of t q .of) (byte (head-of t q))) ∙ e)
+declared t q e = declaration (head-of t q .of) (parted t q) (sym (q .declares .ensures ∙ ap isDeclaration (byte (head-of t q))) ∙ e)
 
 read-mul-result : (t : ℕ) → read-lts.Need-mul-result (read-claims t) (read-at t) read.Post
 read-mul-result t c = search needs
@@ -326,8 +327,8 @@ read-returns-9 t c =
     let q = c .before .before .before .before .before .before .before in
     let h = head-of t q in
     let k = h .of in
-    done-one h _ _ _ (level t q) (one-part k (parted t q) (omega (arith, byte-at t q, c .before .before .before .before .before .before .if5 .left)) (sym (c .before .before .before .before .before .before .before .before .is-choice .ensures k (byte h)) ∙ c .before .before .before .before .before .if6 .left))
-    (plain k (parted t q) (sym (c .before .before .before .before .before .before .before .declares .ensures k (byte h)) ∙ c .before .before .before .before .if7 .left)) _ (rest-is _ (c .before .before .before .before .before .before .before .before .before .before .before .before .before .before .before .before .before .before .args .s .now)) _ _ _ _ _ (c .read2 .ensures)
+    done-one h _ _ _ (level t q) (one-part k (parted t q) (omega (arith, byte-at t q, c .before .before .before .before .before .before .if5 .left)) (sym (c .before .before .before .before .before .before .before .before .is-choice .ensures ∙ ap isChoice (byte h)) ∙ c .before .before .before .before .before .if6 .left))
+    (plain k (parted t q) (sym (c .before .before .before .before .before .before .before .declares .ensures ∙ ap isDeclaration (byte h)) ∙ c .before .before .before .before .if7 .left)) _ (rest-is _ (c .before .before .before .before .before .before .before .before .before .before .before .before .before .before .before .before .before .before .args .s .now)) _ _ _ _ _ (c .read2 .ensures)
 
 -- ---- the first part, of the bytes behind the command
 first-told : (t : ℕ) (c : two-lts.After-first (two-claims t) (two-at t) two.Post)
