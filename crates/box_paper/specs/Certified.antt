@@ -1,17 +1,17 @@
 -- THE CERTIFICATE: tank and ledger agree within limits (02, item 12). Whatever calls a box was given since it was empty, a reading of the
 -- ledger of a bay number says what the machines on paper delivered to each farm since that bay number's last new year.
-use Prim.Native.Nat.{ℕ, zero, suc, _+_, _*_, _≤_, _<_}
+use Prim.Native.Nat.{ℕ, zero, suc, _+_, _≤_, _<_}
 use mathlib.Core.Path.{_≡_}
-use mathlib.Core.Bool.{Bool, false, cond}
+use mathlib.Core.Bool.{cond}
 use mathlib.Core.Option.{Option, some, none}
 use mathlib.Core.List.{List, [], _∷_}
 use lib.Dec.{eqb}
-use lib.Ieee.{Float, nan, inf, fin, up, down}
 use Rattle.limits.specs.Limits.{litresLimit}
+use Rattle.litres.specs.Litres.{IsNumber, Near}
 use Rattle.esterel.specs.States.{NoSetpause}
 use Rattle.box_ledgers.specs.Ledgers.{farmCount, fieldIn, readingFor, totalRead}
 use Rattle.box_stretches.specs.Called.{number, lentAfter, first}
-use Rattle.box_calls.specs.Box.{emptyBox, Call, admit, release, tick, save, restore, forget, service, panel, preview, ledger, newYear}
+use Rattle.box_calls.specs.Box.{emptyBox, Call, ledger, onTick, onNewYear}
 use Rattle.box_calls.specs.Lists.{Calling, Request, boxAfter}
 use Rattle.box_calls.specs.Shares.{AllSendable}
 use Rattle.box_calls.specs.Years.{sumOf}
@@ -33,17 +33,7 @@ module _ {S T R : Type 0} (m : BayMachine S T R) where
   -- the deliveries of a bay number to a farm after a call to it: a new year begins anew; an admission, a coming back and a taking out leave
   -- them like every other call
   abbrev pub deliveriesAfter : (farm : ℕ) → Call → Reported R → Option (PaperBay S T) → List ℕ → List ℕ
-  deliveriesAfter f (admit t) o b ds = ds
-  deliveriesAfter f release o b ds = ds
-  deliveriesAfter f (tick e answer trace) o b ds = withDelivery o (delivery b e f) ds
-  deliveriesAfter f (save name) o b ds = ds
-  deliveriesAfter f (restore name) o b ds = ds
-  deliveriesAfter f (forget name) o b ds = ds
-  deliveriesAfter f (service trace view) o b ds = ds
-  deliveriesAfter f (panel trace view) o b ds = ds
-  deliveriesAfter f (preview e unknown buffer) o b ds = ds
-  deliveriesAfter f (ledger buffer) o b ds = ds
-  deliveriesAfter f newYear o b ds = []
+  deliveriesAfter f c o b ds = onTick (onNewYear ds [] c) (λ e answer trace. withDelivery o (delivery b e f) ds) c
 
   -- over a list of calls, the latest first; a call to another bay number leaves them
   unfoldable pub deliveriesOver : (bay farm : ℕ) → PaperBox S T → List ℕ → List Request → List ℕ
@@ -57,12 +47,6 @@ module _ {S T R : Type 0} (m : BayMachine S T R) where
   deliveredOn bay xs farm = sumOf (deliveriesOver bay farm emptyPaper [] xs)
 
 -- ---- what is read
--- x is the whole number n: finite, with no minus sign and no fraction. A finite x is m times 2 to the power e, or m * up e / down e
-abbrev pub IsNumber : Float → (n : ℕ) → Type 0
-IsNumber nan n = ⊥
-IsNumber (inf minus) n = ⊥
-IsNumber (fin minus m e) n = (minus ≡ false) × (m * up e ≡ n * down e)
-
 -- the exact sum over the first n farms
 unfoldable pub overFarms : (n : ℕ) → (litres : (farm : ℕ) → ℕ) → ℕ
 overFarms zero litres = 0
@@ -74,12 +58,9 @@ pub record Certified (delivered : (farm : ℕ) → ℕ) (reading : List ℕ) : T
   pub farm-exact : (farm : ℕ) → farm < farmCount → IsNumber (fieldIn farm reading) (delivered farm)
   -- it is at most 16,777,216 litres
   pub farm-at-most : (farm : ℕ) → farm < farmCount → delivered farm ≤ litresLimit
-  -- the ledger's total is a whole number too
-  pub total : ℕ
-  pub total-exact : IsNumber (totalRead reading) total
-  -- it 'lies within 496 litres of the exact sum' of what was delivered to the 32 farms
-  pub not-above : total ≤ overFarms farmCount delivered + 496
-  pub not-below : overFarms farmCount delivered ≤ total + 496
+  -- the ledger's total is a whole number too, and 'lies within 496 litres of the exact sum' of what was delivered to the 32 farms: at most 496
+  -- above it and at most 496 below it
+  pub total-near : Near 496 (totalRead reading) (overFarms farmCount delivered)
   -- and nothing else is in the reading: its 132 bytes go by what was delivered
   pub bytes : reading ≡ readingFor delivered
 

@@ -10,24 +10,14 @@ use Rattle.sequence.specs.Check.{checkOf}
 use Rattle.sequence.specs.Rows.{Spells}
 use Rattle.box_stretches.specs.Called.{Called, number, lentAfter, first}
 use Rattle.box_stretches.specs.Stretch.{Terms}
-use Rattle.box_calls.specs.Box.{emptyBox, Call, admit, release, tick, save, restore, forget, service, panel, preview, ledger, newYear}
+use Rattle.box_calls.specs.Box.{emptyBox, Call, admit, onTick}
 use Rattle.box_calls.specs.Lists.{Calling, Request, afterCall}
 use Rattle.box_calls.specs.Instants.{second}
 use Rattle.box_calls.specs.Shares.{AllSendable}
 use Rattle.box_paper.specs.PaperBox.{BayMachine, byTerms, byLabelSets, PaperBox, emptyPaper, Reported, ticked, replies, paperCall}
 
 abbrev pub isTick : Call → Bool
-isTick (admit t) = false
-isTick release = false
-isTick (tick e answer trace) = true
-isTick (save name) = false
-isTick (restore name) = false
-isTick (forget name) = false
-isTick (service trace view) = false
-isTick (panel trace view) = false
-isTick (preview e unknown buffer) = false
-isTick (ledger buffer) = false
-isTick newYear = false
+isTick = onTick false (λ e answer trace. true)
 
 -- a tick answered 0 is an instant, of which answer and record tell
 abbrev pub reported : {R : Type 0} → (reads : (answer trace : List ℕ) → R) → Call → Called → Reported R

@@ -1,7 +1,7 @@
 -- The certificate: a reading has the paper's totals, which are what the paper delivered, and a whole number near their sum.
 use Prim.Native.Nat.{ℕ, zero, suc, _+_, _*_, _≤_, _<_}
 use native.Mathlib.Omega.{arith}
-use native.Mathlib.Nat.{mul-one, eq-of-mul-eq-mul-right}
+use native.Mathlib.Nat.{eq-of-mul-eq-mul-right}
 use mathlib.Core.Path.{_≡_, refl, sym, ap, ap₂, _∙_, subst}
 use mathlib.Core.Bool.{false}
 use mathlib.Core.List.{List, []}
@@ -10,11 +10,12 @@ use lib.Ieee.Exact.{HasValue}
 use lib.Ieee.Fits.{down-pos}
 use Rattle.numbers.specs.Bytes.{leBytes}
 use Rattle.limits.specs.Limits.{litresLimit}
-use Rattle.litres.proofs.Sums.{value-of}
+use Rattle.litres.specs.Litres.{IsNumber, Near}
+use Rattle.litres.proofs.Sums.{is-number, value-of}
 use Rattle.sequence.specs.Amounts.{amountSize}
-use Rattle.box_ledgers.specs.Ledgers.{farmCount, fieldIn, totalIn, exactTotal, shownTotal, readingOf}
+use Rattle.box_ledgers.specs.Ledgers.{farmCount, fieldIn, totalIn, exactTotal, shownTotal, readingOf, totalRead}
 use Rattle.box_ledgers_totals.proofs.Totals.{holds}
-use Rattle.box_ledgers_totals.proofs.Theorems.{written, total-most, shown-running, reading-shows}
+use Rattle.box_ledgers_totals.proofs.Theorems.{written, total-most, reading-within}
 use Rattle.box_stretches.specs.Called.{Called, number, lentAfter, first}
 use Rattle.box_stretches.specs.Stretch.{ledgerIn}
 use Rattle.box_calls.specs.Box.{bayCount, emptyBox, stretchOf, ledger, callOf}
@@ -25,18 +26,13 @@ use Rattle.box_theory.proofs.Years.{ledger-shows}
 use Rattle.box_paper.specs.PaperBox.{emptyPaper}
 use Rattle.box_paper.specs.Reports.{Admitting}
 use Rattle.box_calls.specs.Shares.{AllSendable}
-use Rattle.box_paper.specs.Certified.{deliveredOn, IsNumber, overFarms, Certified, ReadingsCertified, ReadingsCertifiedByLabels}
+use Rattle.box_paper.specs.Certified.{deliveredOn, overFarms, Certified, ReadingsCertified, ReadingsCertifiedByLabels}
 use Rattle.box_theory.proofs.PaperMachines.{Follows, terms-follow, labels-follow}
 use Rattle.box_theory.proofs.PaperBoxes.{totals-on, every-sequence}
 use Rattle.box_theory.proofs.PaperAdmissions.{same-reading}
 use Rattle.box_theory.proofs.PaperDeliveries.{totals-are-sums}
 
 -- ---- whole numbers
-is-number : (x : Float) (n : ℕ) → HasValue x false n 1 → IsNumber x n
-is-number nan n v = v
-is-number (inf s) n v = v
-is-number (fin s m e) n v = (v .0, sym (mul-one (m * up e)) ∙ v .1)
-
 -- a single-precision number is no two of them
 pub one-number : (x : Float) (n k : ℕ) → IsNumber x n → IsNumber x k → n ≡ k
 one-number nan n k v w = absurd v
@@ -51,18 +47,13 @@ same-exact held t h (suc n) l = ap₂ _+_ (same-exact held t h n (omega arith)) 
 
 pub reading-certified : (held : List ℕ) (t : ℕ → ℕ) → ((f : ℕ) → f < farmCount → totalIn f held ≡ t f) → Certified t (readingOf held)
 reading-certified held t h =
-    let r = shown-running held in
-    let e = same-exact held t h farmCount (omega arith) in
     record {
       farm-exact = λ f l.
           let w = written (λ g. totalIn g held) (leBytes amountSize (toBits binary32 (shownTotal held))) f l (total-most f held) in
           let x : Float = fieldIn f (readingOf held) in
           is-number x (t f) (subst (λ (n : ℕ). HasValue x false n 1) (w .1 ∙ h f l) (value-of x (holds _ (w .0)) .0));
       farm-at-most = λ f l. subst (λ (n : ℕ). n ≤ litresLimit) (h f l) (total-most f held);
-      total = r .0;
-      total-exact = subst (λ (x : Float). IsNumber x (r .0)) (sym (reading-shows held)) (is-number (shownTotal held) (r .0) (r .1));
-      not-above = let a = r .3 in omega (arith, a, e);
-      not-below = let a = r .4 in omega (arith, a, e);
+      total-near = subst (Near 496 (totalRead (readingOf held))) (same-exact held t h farmCount (omega arith)) (reading-within held);
       bytes = same-reading (λ g. totalIn g held) t h;
     }
 

@@ -550,8 +550,6 @@ refused-positions = (
 pub refused-ledgers : (¬ TotalsExact ledgers.rewinds) × (¬ TotalsExact ledgers.entersWrong) × (¬ TotalsExact ledgers.entersBoth)
     × (¬ Nineteen ledgers.testsInSingles) × (¬ TotalsExact ledgers.entersTurnedDown)
 refused-ledgers = (wrongs.not-rewinds, wrongs.not-entersWrong, wrongs.not-entersBoth, wrongs.not-testsInSingles, wrongs.not-entersTurnedDown)
-    × (¬ Nineteen ledgers.testsInSingles)
-refused-ledgers = (wrongs.not-rewinds, wrongs.not-entersWrong, wrongs.not-entersBoth, wrongs.not-testsInSingles)
 
 -- known inputs taken as absent, unknown ones taken as absent only or by the status given, a machine that moves, and 254 for a shared code
 pub refused-previews : (¬ PreviewForesees foretold.forgetsStatus) × (¬ PreviewForesees foretold.takesAbsent) × (¬ LearningStays foretold.takesAbsent)

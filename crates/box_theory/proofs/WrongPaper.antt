@@ -41,7 +41,7 @@ use Rattle.demands.proofs.Sequence.{accepted, same-statement}
 use Rattle.box_stretches.specs.Called.{lentAfter, first}
 use Rattle.box_stretches.specs.Stretch.{partOf, vacated, filled, Terms}
 use Rattle.box_stretches.specs.BayCalls.{bayStepOf, bayChargedOf, bayTickOf, bayReleaseOf, bayAdmitOf, baySaveOf, bayForgetOf, bayRestoreOf, bayLedgerOf}
-use Rattle.box_calls.specs.Box.{emptyBox, present, Call, admit, release, tick, save, restore, forget, service, panel, preview, ledger, newYear, callOf}
+use Rattle.box_calls.specs.Box.{emptyBox, present, Call, admit, release, save, restore, onAdmit, callOf}
 use Rattle.box_calls.specs.Lists.{Request, boxAfter}
 use Rattle.box_calls.specs.Shares.{AllSendable, none, each}
 use Rattle.box_calls.specs.Years.{sumOf}
@@ -95,17 +95,7 @@ plain sequence readBack c e p s l n =
     true≢false (sym (setpauses-is p l .1 n) ∙ ap (λ (q : Statement). member l (setpauses q)) (sym same) ∙ ap (member l) e ∙ member-none l)
 
 abbrev termsOf : Terms → Call → Terms
-termsOf x (admit t) = t
-termsOf x release = x
-termsOf x (tick e answer trace) = x
-termsOf x (save name) = x
-termsOf x (restore name) = x
-termsOf x (forget name) = x
-termsOf x (service trace view) = x
-termsOf x (panel trace view) = x
-termsOf x (preview e unknown buffer) = x
-termsOf x (ledger buffer) = x
-termsOf x newYear = x
+termsOf x = onAdmit x (λ t. t)
 
 no-call : Admitting NoSetpause []
 no-call x i = absurd (List·Memᴰ·not-nil i)
@@ -121,17 +111,7 @@ admitting bay u xs f =
     more (record { bay = bay; call = admit u }) xs (λ t e p s. f p (subst (λ (x : Terms). Spells (x .sequence) p) (sym (ap (termsOf u) e)) s))
 
 abbrev isAdmission : Call → Bool
-isAdmission (admit t) = true
-isAdmission release = false
-isAdmission (tick e answer trace) = false
-isAdmission (save name) = false
-isAdmission (restore name) = false
-isAdmission (forget name) = false
-isAdmission (service trace view) = false
-isAdmission (panel trace view) = false
-isAdmission (preview e unknown buffer) = false
-isAdmission (ledger buffer) = false
-isAdmission newYear = false
+isAdmission = onAdmit false (λ t. true)
 
 other : (c : Call) (xs : List Request) → isAdmission c ≡ false → Admitting NoSetpause xs → Admitting NoSetpause (to c ∷ xs)
 other c xs n = more (to c) xs (λ t e p s. absurd (true≢false (sym (ap isAdmission e) ∙ n)))

@@ -37,34 +37,34 @@ cmp a b = go (compare a b) (leb→le a b) (nleb→lt a b) (eqb→eq a b) (λ (e 
     go Ordering·gt h k e n = k tt
 
 -- c is at most h away from n
-abbrev pub Near : ℕ → ℕ → ℕ → Type 0
-Near h c n = (c ≤ n + h) × (n ≤ c + h)
+abbrev pub Close : ℕ → ℕ → ℕ → Type 0
+Close h c n = (c ≤ n + h) × (n ≤ c + h)
 
 -- p stands for q * b
 module _ (p r b h n : ℕ) (e : p + r ≡ n) (l : r < b) (u : b ≤ 2 * h) where
-  near-low : r * 2 ≤ b → Near h p n
+  near-low : r * 2 ≤ b → Close h p n
   near-low k = (omega arith, omega arith)
 
-  near-high : b ≤ r * 2 → Near h (p + b) n
+  near-high : b ≤ r * 2 → Close h (p + b) n
   near-high k = (omega arith, omega arith)
 
 next : (q b : ℕ) → suc q * b ≡ q * b + b
 next q b = suc-mul q b
 
-near-tie : (q m r b h n : ℕ) → m < 2 → q * b + r ≡ n → r < b → b ≤ 2 * h → r * 2 ≡ b → Near h ((q + m) * b) n
-near-tie q zero r b h n s e l u k = subst (λ (z : ℕ). Near h (z * b) n) (sym (add-zero q)) (near-low (q * b) r b h n e l u (le-of-eq k))
-near-tie q (suc zero) r b h n s e l u k = subst (λ (z : ℕ). Near h z n) (sym (next q b) ∙ ap (λ (z : ℕ). z * b) one) (near-high (q * b) r b h n e l u (le-of-eq (sym k)))
+near-tie : (q m r b h n : ℕ) → m < 2 → q * b + r ≡ n → r < b → b ≤ 2 * h → r * 2 ≡ b → Close h ((q + m) * b) n
+near-tie q zero r b h n s e l u k = subst (λ (z : ℕ). Close h (z * b) n) (sym (add-zero q)) (near-low (q * b) r b h n e l u (le-of-eq k))
+near-tie q (suc zero) r b h n s e l u k = subst (λ (z : ℕ). Close h z n) (sym (next q b) ∙ ap (λ (z : ℕ). z * b) one) (near-high (q * b) r b h n e l u (le-of-eq (sym k)))
   where
     one : suc q ≡ q + 1
     one = omega arith
 near-tie q (suc (suc m)) r b h n s e l u k = absurd (omega arith)
 
-near-by : (q r b h n : ℕ) (o : Ordering) → Cmp o (r * 2) b → q * b + r ≡ n → r < b → b ≤ 2 * h → Near h (nearest q o * b) n
+near-by : (q r b h n : ℕ) (o : Ordering) → Cmp o (r * 2) b → q * b + r ≡ n → r < b → b ≤ 2 * h → Close h (nearest q o * b) n
 near-by q r b h n Ordering·lt k e l u = near-low (q * b) r b h n e l u (le-of-lt k)
 near-by q r b h n Ordering·eq k e l u = near-tie q (q % 2) r b h n (omega arith) e l u k
-near-by q r b h n Ordering·gt k e l u = subst (λ (z : ℕ). Near h z n) (sym (next q b)) (near-high (q * b) r b h n e l u (le-of-lt k))
+near-by q r b h n Ordering·gt k e l u = subst (λ (z : ℕ). Close h z n) (sym (next q b)) (near-high (q * b) r b h n e l u (le-of-lt k))
 
-pub near-closest : (a b h : ℕ) → 0 < b → b ≤ 2 * h → Near h (closest a b * b) a
+pub near-closest : (a b h : ℕ) → 0 < b → b ≤ 2 * h → Close h (closest a b * b) a
 near-closest a b h B u = near-by (a / b) (a % b) b h a (compare (a % b * 2) b) (cmp (a % b * 2) b) (div-add-mod' a b) (mod-lt a B) u
 
 -- what does not pass a multiple of b = 2 * h does not pass it when it is rounded to a multiple of b
