@@ -9,7 +9,7 @@ use mathlib.Core.List.{List, [], _∷_, map}
 use lib.ListN.{length, getElem?}
 use Rattle.recordings.specs.Recording.{recordsFrom, recordingOf, joined}
 use Rattle.replays.specs.Replay.{firstRecords, recordsIn, inputsIn, placeOf, Replayed, replayed, number, place, replayOf}
-use Rattle.replays.specs.Claims.{Replay, Refuses, TwentyTwo, NoPlace, Accepts, Differs, EmptyAccepted, NothingAfterTheEnd, AcceptsRecordings, ByPaper, Decides, ReplayDemands}
+use Rattle.replays.specs.Claims.{Replay, Refuses, TwentyTwo, NoPlace, Accepts, Differs, EmptyAccepted, NothingAfterTheEnd, AcceptsRecordings, ByPaper, DecidesReplay, ReplayDemands}
 use Rattle.replays.specs.Worked.{Case, cases}
 use Rattle.replays.proofs.Differences.{first-differs}
 use Rattle.replays.proofs.Recordings as recordings
@@ -86,11 +86,11 @@ by-paper sequence readBack recording h p s plain =
     let a = accepts sequence readBack recording .0 h in
     paper.by-paper sequence readBack (a .0) recording (recordings.remade-records sequence readBack recording (a .1)) p s plain
 
--- DECIDED: a replay whose numbers, acceptance and first difference are these is replayOf, for all arguments, and so meets the others
-pub decides : Decides replayOf
+-- DECIDED: a replay whose numbers, acceptance and first difference are these is replayOf, for all arguments
+pub decides : DecidesReplay replayOf
 decides = record { refuses = refuses; twenty-two = twenty-two; no-place = no-place; accepts = accepts; differs = differs }
 
-pub replay-decided : (replay : Replay) → Decides replay
+pub replay-decided : (replay : Replay) → DecidesReplay replay
     → (sequence : List ℕ) (readBack : ℕ) (recording : List ℕ) → replay sequence readBack recording ≡ replayOf sequence readBack recording
 replay-decided replay d sequence readBack recording = go (numbers.verdict sequence readBack recording)
   where
@@ -123,8 +123,8 @@ replay-demands =
       by-paper = by-paper;
     }
 
--- so does every replay that Decides has: it is decided, and meets the others
-pub replay-demands-decided : (replay : Replay) → Decides replay → ReplayDemands replay
+-- and so has every replay that these claims decide
+pub replay-demands-decided : (replay : Replay) → DecidesReplay replay → ReplayDemands replay
 replay-demands-decided replay d =
     subst ReplayDemands (sym (fun-ext (λ sequence. fun-ext (λ readBack. fun-ext (λ recording. replay-decided replay d sequence readBack recording)))))
     replay-demands

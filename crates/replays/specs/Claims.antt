@@ -96,7 +96,7 @@ ByPaper replay =
     → map reportIn (recordsIn recording) ≡ paper (Rewriting.fresh (program readBack p)) (map callOn (inputsIn recording))
 
 -- ---- what decides a replay: its numbers, and with number 0 its place
-pub record Decides (replay : Replay) : Type 0 where
+pub record DecidesReplay (replay : Replay) : Type 0 where
   pub refuses : Refuses replay
   pub twenty-two : TwentyTwo replay
   pub no-place : NoPlace replay
@@ -105,7 +105,7 @@ pub record Decides (replay : Replay) : Type 0 where
 
 -- ITEM 14
 pub record ReplayDemands (replay : Replay) : Type 0 where
-  pub decides : Decides replay
+  pub decides : DecidesReplay replay
   pub empty-accepted : EmptyAccepted replay
   pub nothing-after-the-end : NothingAfterTheEnd replay
   pub accepts-recordings : AcceptsRecordings replay

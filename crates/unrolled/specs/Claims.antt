@@ -40,7 +40,7 @@ pub record Written (sequence : List ℕ) (readBack : ℕ) (buffer : List ℕ) (n
 abbrev pub Unroll : Type 0
 Unroll = List ℕ → ℕ → List ℕ → Unrolling
 
-pub record Decides (unroll : Unroll) : Type 0 where
+pub record DecidesUnroll (unroll : Unroll) : Type 0 where
   -- each number exactly if its row holds and no row before it does
   pub by-rows : (sequence : List ℕ) (readBack : ℕ) (buffer : List ℕ)
       → ByRows (number (unroll sequence readBack buffer)) (UnrollRow sequence readBack buffer)

@@ -30,7 +30,7 @@ use Rattle.tick.specs.Tick.{tickBy, tickOf}
 use Rattle.demands.specs.Demands.{cleared}
 use Rattle.unrolled.specs.Unrolled.{copied, unrolled, placed, resultOf}
 use Rattle.unrolled.specs.Call.{Unrolling, unrolling, number, ofStatement, unrollOf}
-use Rattle.unrolled.specs.Claims.{Unroll, Decides}
+use Rattle.unrolled.specs.Claims.{Unroll, DecidesUnroll}
 use Rattle.unrolled.specs.Runs.{beforeWrong, untilWrong}
 use Rattle.unrolled.specs.Entries.{at, chosenRun, bothRuns, OneRun, reacting, carried, resuming, reactsAt, entersAt}
 
@@ -82,7 +82,7 @@ abbrev emptiesAfterError : Unroll
 emptiesAfterError sequence readBack buffer =
     unrolling (number (unrollOf sequence readBack buffer)) 0 (cond (eqb (number (unrollOf sequence readBack buffer)) 0) buffer [])
 
-emptied-refused : ¬ Decides emptiesAfterError
+emptied-refused : ¬ DecidesUnroll emptiesAfterError
 unfolding unrollOf
 emptied-refused d =
     let e = d .refusal-writes-nothing [] 0 (0xAA ∷ []) (λ z. let y : _≡_ {A = ℕ} 1 0 = z in omega arith) in

@@ -12,7 +12,7 @@ use Rattle.sequence.proofs.Rows.{check-by-rows}
 use Rattle.demands.proofs.Sequence.{accepted}
 use Rattle.unrolled.specs.Call.{Unrolling, unrolling, number, refused, unrollOf}
 use Rattle.unrolled.specs.Rows.{UnrollRow, row-2-to-10}
-use Rattle.unrolled.specs.Claims.{Written, Unroll, Decides}
+use Rattle.unrolled.specs.Claims.{Written, Unroll, DecidesUnroll}
 use Rattle.unrolled_theory.proofs.Rows as rows
 use Rattle.unrolled_theory.proofs.Results as results
 
@@ -59,7 +59,7 @@ module _ (sequence : List ℕ) (readBack : ℕ) (buffer : List ℕ) where
             ∙ same-written (passed (ap number e0)) count count′ out out′ (writes count out e0) (results.written sequence readBack buffer count′ out′ f0)
             ∙ sym (ap (λ (k : ℕ). unrolling k count′ out′) y)
 
-pub unroll-is : (unroll : Unroll) → Decides unroll
+pub unroll-is : (unroll : Unroll) → DecidesUnroll unroll
     → (sequence : List ℕ) (readBack : ℕ) (buffer : List ℕ) → unroll sequence readBack buffer ≡ unrollOf sequence readBack buffer
 unroll-is unroll d sequence readBack buffer =
     is-unrollOf sequence readBack buffer (unroll sequence readBack buffer) (d .by-rows sequence readBack buffer)

@@ -23,7 +23,7 @@ use Rattle.unrolled.specs.Call.{unrolling, number, refused, unrollOf}
 use Rattle.unrolled.specs.Rows.{UnrollRow, Fits}
 use Rattle.unrolled.specs.Runs.{SameUntilWrong, SameLitresUntilWrong, tellsAll, showsWrong, untilWrong, InEach}
 use Rattle.unrolled.specs.Entries.{Counting, chosenRun, anyRun, bothRuns, OneRun, everywhere, reacting, carried, AtLoop, Stands, Origin, beginsAt, AtMostOnce}
-use Rattle.unrolled.specs.Claims.{Written, Unroll, Decides}
+use Rattle.unrolled.specs.Claims.{Written, Unroll, DecidesUnroll}
 use Rattle.unrolled_theory.proofs.Forms.{Forms, declared-forms}
 use Rattle.unrolled_theory.proofs.Marked as marked
 use Rattle.unrolled_theory.proofs.Labels as labels
@@ -51,10 +51,10 @@ module _ (sequence : List ℕ) (readBack : ℕ) (buffer : List ℕ) where
   result-written = results.written sequence readBack buffer
 
 -- DECIDED: a call with these numbers and results is unrollOf, for all arguments
-pub decides : Decides unrollOf
+pub decides : DecidesUnroll unrollOf
 decides = record { by-rows = unroll-by-rows; refusal-writes-nothing = refusal-writes-nothing; result-written = result-written }
 
-pub unroll-decided : (unroll : Unroll) → Decides unroll
+pub unroll-decided : (unroll : Unroll) → DecidesUnroll unroll
     → (sequence : List ℕ) (readBack : ℕ) (buffer : List ℕ) → unroll sequence readBack buffer ≡ unrollOf sequence readBack buffer
 unroll-decided = decided.unroll-is
 
