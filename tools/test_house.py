@@ -1,8 +1,8 @@
 #!/usr/bin/env python3
 """Holds the pages about the house to the crates: the wings and floors of docs/ARCHITECTURE.md to crates.txt, docs/DEFINITIONS.md to the
-files of specs, the predicates and steps of docs/WALKS.md and the functions that docs/DECISIONS.md names for their requires to the
-contracts, the words of docs/GLOSSARY.md to the definitions; and every page to its length, its links, and the crates, files and functions
-that it names.
+files of specs, the predicates and steps of docs/WALKS.md and the functions that docs/DECISIONS.md names for their requires and ensures
+to the contracts, the words of docs/GLOSSARY.md to the definitions; and every page to its length, its links, and the crates, files and
+functions that it names.
 
 Each check is a function of a house, which is the text of every page and of crates.txt by path, and gives its faults. The house itself must
 have none, and a house with one line, name or link changed must have some. The last line is 'N passed, M failed'.
@@ -25,6 +25,8 @@ PROSE = {"edits", "edit"}  # words that stand before an edit and name no crate
 FOLDERS = ["", "docs", "docs/decisions", "docs/demands", "docs/landings", "examples"]
 MOST_LINES = 300
 LIBRARIES = {"std", "check", "libc", "io", "os", "bytes"}  # of the toolchain
+SIGNATURE = r"^pub (?:extern \"C\" )?fn (\w+)((?:\([^\n]*|\((?:\n    [^\n]*)+\n\)[^\n]*) \{$|.*?^\{)"  # up to a body
+BINDER = r"[({][^(){}:]+ : "
 DECLARED = r"^\s*(?:abbrev |unfoldable )?pub (?:data |record )?{}(?=[\s:(])"
 
 passed = failed = 0
@@ -290,19 +292,71 @@ def steps(texts):
         yield "the calls of a box"
 
 
-def requirements(texts):
-    """The functions open to other crates that require something are those that the decision about them names."""
-    entry = re.search(r"Functions open to another crate with a `requires`\.\*\*(.*?)\n\n", texts[DECISIONS], re.S)
-    there = set()
+@functools.cache
+def signatures():
+    """The functions marked pub, by name: what stands before the body, and whether the file is open to other crates."""
+    found = {}
     for crate in crates():
         closed = set(re.findall(r"^mod (\w+);", "\n".join(sources(crate).values()), re.M))  # files of the crate alone
         for file, text in sources(crate).items():
-            for name, head in re.findall(r"^pub fn (\w+)(.*?)^\{", text, re.M | re.S):
-                if "requires {" in head and file not in closed:
-                    there.add("::".join([crate, *([file] if file not in ("lib", "main") else []), name]))
-    named = set(re.findall(r"`(\w+(?:::\w+)+)`", entry[1] if entry else ""))
+            for name, head in re.findall(SIGNATURE, text, re.M | re.S):
+                whole = "::".join([crate, *([file] if file not in ("lib", "main") else []), name])
+                found[whole] = (head, file not in closed)
+    return found
+
+
+def listed(texts, title):
+    """The functions that a decision names."""
+    entry = re.search(rf"{re.escape(title)}\*\*(.*?)\n\n", texts[DECISIONS], re.S)
+    return set(re.findall(r"`(\w+(?:::\w+)+)`", entry[1] if entry else ""))
+
+
+def requirements(texts):
+    """The functions open to other crates that require something are those that the decision about them names."""
+    named = listed(texts, "Functions open to another crate with a `requires`.")
+    there = {name for name, (head, is_open) in signatures().items() if is_open and "requires {" in head}
     if named != there:
         yield f"functions with a requires: {sorted(named ^ there)}"
+
+
+def has_premise(text):
+    """Whether a proposition has an arrow with more on its left than what it is said of, as '(u : Statement)' is."""
+    starts, groups = [0], [""]  # of what stands left of an arrow, and how each bracket that is open goes on
+    for at, sign in enumerate(text):
+        if sign in "({":
+            starts.append(at + 1)
+            groups.append(text[at:])
+        elif sign in ")}":
+            starts.pop()
+            groups.pop()
+        elif sign == "×":
+            starts[-1] = at + 1
+        elif sign == "→":
+            left = re.sub(rf"{BINDER}[^(){{}}]*[)}}]", "", text[starts[-1] : at])
+            starts[-1] = at + 1
+            if left.strip() and not re.match(BINDER, groups[-1]):
+                return True
+    return False
+
+
+def premises(texts):
+    """The functions open to other crates whose ensures has a premise, of its own or of FromOne and FromTwo, are those that are named."""
+    named = listed(texts, "Functions open to another crate whose `ensures` has a premise.")
+    there = set()
+    for name, (head, is_open) in signatures().items():
+        told = re.findall(r"ensures (?:\w+ )?\{ λ \S+ ⌜(.*?)⌝", head, re.S)
+        if is_open and any(has_premise(text) or re.search(r"\bFrom(One|Two)\b", text) for text in told):
+            there.add(name)
+    if named != there:
+        yield f"functions with a premise in their ensures: {sorted(named ^ there)}"
+
+
+def silent(texts):
+    """The functions marked pub without an ensures are those that the decision about them names."""
+    named = listed(texts, "What only prints states no result.")
+    there = {name for name, (head, _) in signatures().items() if "ensures" not in head}
+    if named != there:
+        yield f"functions without an ensures: {sorted(named ^ there)}"
 
 
 def words(texts):
@@ -321,7 +375,7 @@ def words(texts):
                 yield f"{row[0]} in {path}"
 
 
-CHECKS = [wings, pictures, tables, lengths, links, functions, files, cited, edited, definitions, language, predicates, steps, requirements, words]
+CHECKS = [wings, pictures, tables, lengths, links, functions, files, cited, edited, definitions, language, predicates, steps, requirements, premises, silent, words]
 
 
 # Houses with one thing changed
@@ -352,6 +406,8 @@ def changed(texts):
         (WALKS, steps, r"^\| \d+ \| `\w+::([\w:]+)`.*\n", "nobody"),
         (WALKS, steps, r"^\| (`intake::intake_box_\w+`) \| `\w+::", "`intake::intake_tick`"),
         (DECISIONS, requirements, r"(`\w+::put_\w+`)", "nothing"),
+        (DECISIONS, premises, r"(`rules\w*::in_\w+`)", "nothing"),
+        (DECISIONS, silent, r"(`vectors\w*::\w+::(?:text|all)`)", "nothing"),
         (DEMANDS, edited, r"\b(reading_heads|esterel) `\w+`", "limits"),
         (WORDS, cited, r"`[A-Z]\w+\.(\w+)`", "nonesuch"),
         (DEFINITIONS, definitions, r"^(\| \[.*\n)", ""),
