@@ -52,11 +52,11 @@ forgetsAtRelease box bay c =
     (called (number o) (put (bay * stretchLength + bayLength) ledgerLength (zeros ledgerLength) (memoryAfter o)) (lentAfter o)) o
 
 -- 5 litres for farm 2
-abbrev pub delivers : List ℕ
-delivers = 0x0C ∷ 0x02 ∷ 0x00 ∷ 0x00 ∷ 0xA0 ∷ 0x40 ∷ []
+abbrev pub deliversFive : List ℕ
+deliversFive = 0x0C ∷ 0x02 ∷ 0x00 ∷ 0x00 ∷ 0xA0 ∷ 0x40 ∷ []
 
 abbrev pub takenOut : List Request
-takenOut = to (admit (alone delivers)) ∷ to instant ∷ to release ∷ to reading ∷ []
+takenOut = to (admit (alone deliversFive)) ∷ to instant ∷ to release ∷ to reading ∷ []
 
 -- ---- a bay reads back what the next bay number does
 abbrev pub readsBackNeighbour : Calling

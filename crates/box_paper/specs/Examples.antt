@@ -32,7 +32,7 @@ use Rattle.box_ledgers.specs.Ledgers.{readingLength, totalsBytes, wouldPass}
 use Rattle.box_fillings.specs.Preview.{both, gathered, findings}
 use Rattle.box_calls.specs.Box.{Call, admit, release, tick, save, restore, forget, service, panel, preview, ledger, newYear}
 use Rattle.box_calls.specs.Lists.{Request}
-use Rattle.box_paper.specs.PaperBox.{byTerms, byLabelSets, emptyPaper, Told, told, Reported, ticked, replies, presentOn}
+use Rattle.box_paper.specs.PaperBox.{byTerms, byLabelSets, emptyPaper, InstantTold, told, Reported, ticked, replies, presentOn}
 use Rattle.box_paper.specs.Reports.{paperReports}
 use Rattle.box_paper.specs.Certified.{deliveriesOver, deliveredOn}
 
@@ -69,7 +69,7 @@ abbrev shown : {R : Type 0} → (bytes : List ℕ) → Reported R
 shown bytes = replies 0 (bytes ∷ [])
 
 -- an instant by rewriting
-abbrev runs : (number input : ℕ) → Report → Reported Told
+abbrev runs : (number input : ℕ) → Report → Reported InstantTold
 runs n e r = ticked (told r n e r)
 
 -- a reading in which farm 2 and the ledger's total have these bytes

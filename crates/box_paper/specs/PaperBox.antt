@@ -42,21 +42,21 @@ pub record BayMachine (S T R : Type 0) : Type 0 where
   pub reads : (answer trace : List ℕ) → R
 
 -- the answer record of what is seen (02, item 6)
-abbrev pub answerOf : Seen → List ℕ
-answerOf (instant k x o n after) = answerRecord (codeByte k) (x .kind) (x .place) o n
-answerOf refused = []
+abbrev pub answerSeen : Seen → List ℕ
+answerSeen (instant k x o n after) = answerRecord (codeByte k) (x .kind) (x .place) o n
+answerSeen refused = []
 
--- by rewriting: a position keeps the term. Told is what demand 3 compares, once by the answer and once by the record, and between them
+-- by rewriting: a position keeps the term. InstantTold is what demand 3 compares, once by the answer and once by the record, and between them
 -- the number and the inputs of the record
-pub data Told : Type 0 where
-  told : (answer : Report) (number inputs : ℕ) (recorded : Report) → Told
+pub data InstantTold : Type 0 where
+  told : (answer : Report) (number inputs : ℕ) (recorded : Report) → InstantTold
 
 abbrev pub termKept : Rewriting → Option Statement
 termKept (Rewriting.fresh t) = none
 termKept (Rewriting.waits t) = some t
 termKept Rewriting.over = none
 
-abbrev pub byTerms : BayMachine Rewriting Statement Told
+abbrev pub byTerms : BayMachine Rewriting Statement InstantTold
 byTerms =
     record {
       fresh = Rewriting.fresh;
@@ -69,7 +69,7 @@ byTerms =
           told (report (outcome 0 (stateIn trace) answer)) (numberIn trace) (inputIn trace) (report (outcome 0 (stateIn trace) (answerIn trace)));
     }
 
--- by labels: a position keeps the label set. Told are both buffers whole, the answer and the record
+-- by labels: a position keeps the label set. InstantTold are both buffers whole, the answer and the record
 abbrev pub labelsKept : State → Option ℕ
 labelsKept State.fresh = none
 labelsKept (State.waits L) = some L
@@ -83,7 +83,7 @@ byLabelSets =
       adds = λ p f st e. addsByLabels f p st e;
       kept = labelsKept;
       back = State.waits;
-      tells = λ x st n e. answerOf x ∷ recordOf n e (answerOf x) (encodeState st) ∷ [];
+      tells = λ x st n e. answerSeen x ∷ recordOf n e (answerSeen x) (encodeState st) ∷ [];
       reads = λ answer trace. answer ∷ trace ∷ [];
     }
 
@@ -205,7 +205,7 @@ module _ {S T R : Type 0} (m : BayMachine S T R) where
   abbrev pub previewOn : PaperPlace S T → PaperBay S T → (e unknown : ℕ) (buffer : List ℕ) → Seen → PaperReply S T R
   previewOn z b e unknown buffer refused = down 12 (buffer ∷ []) z
   previewOn z b e unknown buffer (instant k x o n after) =
-      previewedOn z (shownBy (λ i. answerOf (m .react (programOf b) (b .machine) i .0)) e unknown buffer)
+      previewedOn z (shownBy (λ i. answerSeen (m .react (programOf b) (b .machine) i .0)) e unknown buffer)
 
   -- number 1 for a buffer of another length
   abbrev pub sized : Bool → (lent : List (List ℕ)) → PaperPlace S T → PaperReply S T R → PaperReply S T R

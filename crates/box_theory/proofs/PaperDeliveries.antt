@@ -25,7 +25,7 @@ use Rattle.box_stretches.specs.BayCalls.{sharedCeiling}
 use Rattle.box_calls.specs.Box.{bayCount, Call, admit, release, tick, save, restore, forget, service, panel, preview, ledger, newYear, buffers}
 use Rattle.box_calls.specs.Lists.{Request}
 use Rattle.box_calls.specs.Years.{sumOf}
-use Rattle.box_paper.specs.PaperBox.{BayMachine, PaperBay, PaperPlace, PaperBox, PaperReply, Reported, ticked, replies, down, holds, shows, withMachine, presentOn, programOf, freshBay, admitOn, addsOn, tickOn, renamedOn, saveOn, restoreOn, previewedOn, previewOn, sized, placeCall, withPlace, paperCall, answerOf}
+use Rattle.box_paper.specs.PaperBox.{BayMachine, PaperBay, PaperPlace, PaperBox, PaperReply, Reported, ticked, replies, down, holds, shows, withMachine, presentOn, programOf, freshBay, admitOn, addsOn, tickOn, renamedOn, saveOn, restoreOn, previewedOn, previewOn, sized, placeCall, withPlace, paperCall, answerSeen}
 use Rattle.box_paper.specs.Reports.{paperAfter}
 use Rattle.box_paper.specs.Certified.{deliveriesAfter, deliveriesOver}
 
@@ -106,7 +106,7 @@ module _ {S T R : Type 0} (m : BayMachine S T R) (f k : ℕ) (totals : ℕ → �
       ≡ sumOf ds
   preview-told b e u buffer false x = h
   preview-told b e u buffer true refused = h
-  preview-told b e u buffer true (instant k x o n after) = go (shownBy (λ i. answerOf (m .react (programOf b) (b .machine) i .0)) e u buffer)
+  preview-told b e u buffer true (instant k x o n after) = go (shownBy (λ i. answerSeen (m .react (programOf b) (b .machine) i .0)) e u buffer)
     where
       go : (x : Previewed) → previewedOn m (record { bay = some b; totals = totals }) x .1 .totals f ≡ sumOf ds
       go (previewed n bytes) = h

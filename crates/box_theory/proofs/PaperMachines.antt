@@ -39,7 +39,7 @@ use Rattle.demands.proofs.Sequence.{Accepted, tick-at, term-source, term-distin
 use Rattle.box_fillings.specs.Preview.{answerIn}
 use Rattle.numbers.specs.Bytes.{leBytes}
 use Rattle.numbers.proofs.Bytes.{le-low}
-use Rattle.box_paper.specs.PaperBox.{BayMachine, answerOf, Told, told, byTerms, byLabelSets}
+use Rattle.box_paper.specs.PaperBox.{BayMachine, answerSeen, InstantTold, told, byTerms, byLabelSets}
 
 -- ---- an instant of the machine by labels: the reaction of a term, whose answer fits its record
 module _ (sequence : List ℕ) (readBack : ℕ) (a : Accepted sequence readBack) (st : State) (e : ℕ) where
@@ -144,7 +144,7 @@ terms-told (gives o k L t) x n b d f i e l =
     rw (answer-field i e answer state a s, state-field i e answer state a s, number-field i e answer state l, inputs-in i e answer state)
     (ap (λ (y : Report). told y i (e % 256 ^ signalBytes) y) (report-written (gives o k L t) x n b d f))
 
-abbrev pub terms-follow : Follows Rewriting Statement Told
+abbrev pub terms-follow : Follows Rewriting Statement InstantTold
 terms-follow =
     record {
       kind = byTerms;
@@ -239,12 +239,12 @@ module _ {S T R : Type 0} (m : Follows S T R) (sequence : List ℕ) (readBack : 
 
   -- what it answers
   pub answer-is : answerIn (byState inheritanceFirst (program readBack (a .statement)) (holds st) e)
-      ≡ answerOf (m .kind .react (program readBack (a .statement)) w e .0)
+      ≡ answerSeen (m .kind .react (program readBack (a .statement)) w e .0)
   unfolding encodeAnswer
   answer-is = go (labelled sequence readBack a st r e)
     where
       go : Labelled sequence readBack a st e
           → answerIn (byState inheritanceFirst (program readBack (a .statement)) (holds st) e)
-          ≡ answerOf (m .kind .react (program readBack (a .statement)) w e .0)
-      go (over i j) = ap answerIn i ∙ ap answerOf (sym j ∙ follows .0)
-      go (runs (gives o k L t) x n i j g c b d f) = ap answerIn i ∙ ap answerOf (sym j ∙ follows .0)
+          ≡ answerSeen (m .kind .react (program readBack (a .statement)) w e .0)
+      go (over i j) = ap answerIn i ∙ ap answerSeen (sym j ∙ follows .0)
+      go (runs (gives o k L t) x n i j g c b d f) = ap answerIn i ∙ ap answerSeen (sym j ∙ follows .0)

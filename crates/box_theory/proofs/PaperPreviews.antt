@@ -27,7 +27,7 @@ use Rattle.box_stretches.specs.Stretch.{stateIn}
 use Rattle.box_stretches.specs.BayCalls.{stretchKept, bayPreviewOf}
 use Rattle.box_calls.specs.Box.{preview}
 use Rattle.box_theory.proofs.Standing.{sequence-held}
-use Rattle.box_paper.specs.PaperBox.{answerOf, PaperBay, PaperPlace, previewedOn, previewOn, sized}
+use Rattle.box_paper.specs.PaperBox.{answerSeen, PaperBay, PaperPlace, previewedOn, previewOn, sized}
 use Rattle.box_theory.proofs.PaperMachines.{Follows, answer-is}
 use Rattle.box_theory.proofs.PaperAlike.{Present, standing, bayOf, SameTotals, present, Same}
 
@@ -53,7 +53,7 @@ module _ {S T R : Type 0} (m : Follows S T R) (s : List ℕ) (z : PaperPlace S T
       ∙ ap (λ (d : Decoded). byState inheritanceFirst q d i) (decode-encode (h .accepted .statement) (h .state) (h .recorded))
 
   answers-are : answersOf (h .terms .sequence) (encodeState (h .state)) (h .terms .readBack)
-      ≡ (λ i. answerOf (m .kind .react (program (h .terms .readBack) (h .accepted .statement)) (h .machine) i .0))
+      ≡ (λ i. answerSeen (m .kind .react (program (h .terms .readBack) (h .accepted .statement)) (h .machine) i .0))
   answers-are =
       fun-ext (λ i. ap answerIn (reply-at i)
       ∙ answer-is m sequence set (h .accepted) (h .fine) (h .state) (h .machine) (h .at) (h .recorded) i)
@@ -81,7 +81,7 @@ module _ {S T R : Type 0} (m : Follows S T R) (s : List ℕ) (z : PaperPlace S T
         → (r : Reaction) (y : Option Error) (n : ℕ)
         → Same m (preview e u buffer) (bayPreviewOf s e u buffer) (previewOn (m .kind) z (bayOf m h) e u buffer (seen r y n))
     running x i (gives o k l t) y n =
-        previewed-same (shownBy (λ i. answerOf (m .kind .react (program (h .terms .readBack) (h .accepted .statement)) (h .machine) i .0)) e u buffer)
+        previewed-same (shownBy (λ i. answerSeen (m .kind .react (program (h .terms .readBack) (h .accepted .statement)) (h .machine) i .0)) e u buffer)
         (shown-preview sequence (encodeState (h .state)) set e u buffer right x (reply-at (difference e u) ∙ i)
         ∙ ap (λ (answers : ℕ → List ℕ). shownBy answers e u buffer) answers-are)
 

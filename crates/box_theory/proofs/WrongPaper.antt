@@ -45,9 +45,9 @@ use Rattle.box_calls.specs.Box.{emptyBox, present, Call, admit, release, save, 
 use Rattle.box_calls.specs.Lists.{Request, boxAfter}
 use Rattle.box_calls.specs.Shares.{AllSendable, none, each}
 use Rattle.box_calls.specs.Years.{sumOf}
-use Rattle.box_examples.specs.WrongPaper.{to, instant, reading, alone, emitsZero, changesSequence, backBefore, forgetsAtRelease, delivers, takenOut, readsBackNeighbour, waitsIfRead, besideReader, delivered, backBehind}
+use Rattle.box_examples.specs.WrongPaper.{to, instant, reading, alone, emitsZero, changesSequence, backBefore, forgetsAtRelease, deliversFive, takenOut, readsBackNeighbour, waitsIfRead, besideReader, delivered, backBehind}
 use Rattle.box_examples.specs.WrongLedgers.{rewinds}
-use Rattle.box_paper.specs.PaperBox.{Told, told, Reported, ticked, replies, presentOn}
+use Rattle.box_paper.specs.PaperBox.{InstantTold, told, Reported, ticked, replies, presentOn}
 use Rattle.box_paper.specs.Reports.{reports, paperReports, Admitting, OnPaper, ByLabelSets}
 use Rattle.box_paper.specs.Certified.{deliveriesOver, ReadingsCertified, ReadingsCertifiedByLabels}
 use Rattle.box_theory.proofs.PaperCertified.{one-number}
@@ -59,13 +59,13 @@ bufferAt zero (ticked bs ∷ rs) = first bs
 bufferAt zero (replies n lent ∷ rs) = first lent
 bufferAt (suc i) (r ∷ rs) = bufferAt i rs
 
-abbrev shownAt : ℕ → List (Reported Told) → List ℕ
+abbrev shownAt : ℕ → List (Reported InstantTold) → List ℕ
 shownAt i [] = []
 shownAt zero (ticked x ∷ rs) = []
 shownAt zero (replies n lent ∷ rs) = first lent
 shownAt (suc i) (r ∷ rs) = shownAt i rs
 
-abbrev reportIn : Told → Report
+abbrev reportIn : InstantTold → Report
 reportIn (told answer number inputs recorded) = answer
 
 abbrev emittedOf : Report → ℕ
@@ -76,7 +76,7 @@ abbrev codeOf : Report → ℕ
 codeOf (turnedDown n phase) = 0
 codeOf (reacted code kind place emitted reactions phase) = code
 
-abbrev reportAt : ℕ → List (Reported Told) → Report
+abbrev reportAt : ℕ → List (Reported InstantTold) → Report
 reportAt i [] = turnedDown 0 0
 reportAt zero (ticked x ∷ rs) = reportIn x
 reportAt zero (replies n lent ∷ rs) = turnedDown 0 0
@@ -134,26 +134,26 @@ plain-back =
 pub not-changesSequence : (¬ OnPaper changesSequence) × (¬ ByLabelSets changesSequence)
 unfolding reports paperReports presentOn find without saveNamed callOf emptyBox present partOf vacated filled bayStepOf bayChargedOf wouldPass totalIn addedBelow deliveredBy ofBits whole inUnsigned toUnsigned bayTickOf following bayReleaseOf bayAdmitOf baySaveOf bayRestoreOf bayLedgerOf saveOf lookup place put zeros totalsBytes ordered add toBits ofInt leBytes leNumber tickBy checked read front commandOf distinct wellFormed before everyLabel labelsOf subset disjoint valid active activeLabels membersFrom declaredBy commands loopNesting signalNesting ceiling encodeState decodeState encodeAnswer expand reactBy errorsBy reactionsBy Sets.none only member join insert remove
 not-changesSequence = (
-  λ h. let e : _≡_ {A = ℕ} 2 1 = ap (λ (rs : List (Reported Told)). emittedOf (reportAt 6 rs)) (h backBefore sent-back plain-back) in omega arith,
+  λ h. let e : _≡_ {A = ℕ} 2 1 = ap (λ (rs : List (Reported InstantTold)). emittedOf (reportAt 6 rs)) (h backBefore sent-back plain-back) in omega arith,
   λ h. let e : _≡_ {A = ℕ} 2 1 = ap (λ (rs : List (Reported (List (List ℕ)))). emittedIn (bufferAt 6 rs)) (h backBefore sent-back) in omega arith,
 )
 
 -- ---- a reading after the taking out has 0 litres of farm 2, where the paper has 5: of 5.0, 0x40A00000, the third byte is 0xA0
-delivers-plain : (p : Statement) → Spells delivers p → NoSetpause p
+delivers-plain : (p : Statement) → Spells deliversFive p → NoSetpause p
 unfolding checkOf checked read front commandOf distinct wellFormed before everyLabel labelsOf subset disjoint membersFrom declaredBy signalNesting ofBits whole inUnsigned toUnsigned leNumber Sets.none only member join insert remove
-delivers-plain = plain delivers 0 refl refl
+delivers-plain = plain deliversFive 0 refl refl
 
 sent-out : AllSendable takenOut
 sent-out =
-    each {x = to (admit (alone delivers))} (omega arith, omega arith) (each {x = to instant} tt (each {x = to release} tt (each {x = to reading} tt none)))
+    each {x = to (admit (alone deliversFive))} (omega arith, omega arith) (each {x = to instant} tt (each {x = to release} tt (each {x = to reading} tt none)))
 
 plain-out : Admitting NoSetpause takenOut
-plain-out = admitting 0 (alone delivers) _ delivers-plain (other instant _ refl (other release _ refl (other reading _ refl no-call)))
+plain-out = admitting 0 (alone deliversFive) _ delivers-plain (other instant _ refl (other release _ refl (other reading _ refl no-call)))
 
 pub not-forgetsAtRelease : (¬ OnPaper forgetsAtRelease) × (¬ ByLabelSets forgetsAtRelease)
 unfolding reports paperReports presentOn find without saveNamed callOf emptyBox present partOf vacated filled bayStepOf bayChargedOf wouldPass totalIn addedBelow deliveredBy ofBits whole inUnsigned toUnsigned bayTickOf following bayReleaseOf bayAdmitOf baySaveOf bayRestoreOf bayLedgerOf saveOf lookup place put zeros totalsBytes ordered add toBits ofInt leBytes leNumber tickBy checked read front commandOf distinct wellFormed before everyLabel labelsOf subset disjoint valid active activeLabels membersFrom declaredBy commands loopNesting signalNesting ceiling encodeState decodeState encodeAnswer expand reactBy errorsBy reactionsBy Sets.none only member join insert remove
 not-forgetsAtRelease = (
-  λ h. let e : _≡_ {A = ℕ} 0 0xA0 = ap (λ (rs : List (Reported Told)). getD (shownAt 3 rs) 10 0) (h takenOut sent-out plain-out) in omega arith,
+  λ h. let e : _≡_ {A = ℕ} 0 0xA0 = ap (λ (rs : List (Reported InstantTold)). getD (shownAt 3 rs) 10 0) (h takenOut sent-out plain-out) in omega arith,
   λ h. let e : _≡_ {A = ℕ} 0 0xA0 = ap (λ (rs : List (Reported (List (List ℕ)))). getD (bufferAt 3 rs) 10 0) (h takenOut sent-out) in omega arith,
 )
 
@@ -176,7 +176,7 @@ plain-beside =
 pub not-readsBackNeighbour : (¬ OnPaper readsBackNeighbour) × (¬ ByLabelSets readsBackNeighbour)
 unfolding reports paperReports presentOn find without saveNamed callOf emptyBox present partOf vacated filled bayStepOf bayChargedOf wouldPass totalIn addedBelow deliveredBy ofBits whole inUnsigned toUnsigned bayTickOf following bayReleaseOf bayAdmitOf baySaveOf bayRestoreOf bayLedgerOf saveOf lookup place put zeros totalsBytes ordered add toBits ofInt leBytes leNumber tickBy checked read front commandOf distinct wellFormed before everyLabel labelsOf subset disjoint valid active activeLabels membersFrom declaredBy commands loopNesting signalNesting ceiling encodeState decodeState encodeAnswer expand reactBy errorsBy reactionsBy Sets.none only member join insert remove
 not-readsBackNeighbour = (
-  λ h. let e : _≡_ {A = ℕ} 1 0 = ap (λ (rs : List (Reported Told)). codeOf (reportAt 2 rs)) (h besideReader sent-beside plain-beside) in omega arith,
+  λ h. let e : _≡_ {A = ℕ} 1 0 = ap (λ (rs : List (Reported InstantTold)). codeOf (reportAt 2 rs)) (h besideReader sent-beside plain-beside) in omega arith,
   λ h. let e : _≡_ {A = ℕ} 1 0 = ap (λ (rs : List (Reported (List (List ℕ)))). codeIn (bufferAt 2 rs)) (h besideReader sent-beside) in omega arith,
 )
 
@@ -195,7 +195,7 @@ plain-behind = admitting 0 (alone delivered) _ delivered-plain (other instant _ 
 pub not-rewinds-on-paper : (¬ OnPaper rewinds) × (¬ ByLabelSets rewinds)
 unfolding reports paperReports presentOn find without saveNamed callOf emptyBox present partOf vacated filled bayStepOf bayChargedOf wouldPass totalIn addedBelow deliveredBy ofBits whole inUnsigned toUnsigned bayTickOf following bayReleaseOf bayAdmitOf baySaveOf bayRestoreOf bayLedgerOf saveOf lookup place put zeros totalsBytes ordered add toBits ofInt leBytes leNumber tickBy checked read front commandOf distinct wellFormed before everyLabel labelsOf subset disjoint valid active activeLabels membersFrom declaredBy commands loopNesting signalNesting ceiling encodeState decodeState encodeAnswer expand reactBy errorsBy reactionsBy Sets.none only member join insert remove
 not-rewinds-on-paper = (
-  λ h. let e : _≡_ {A = ℕ} 0 0xA0 = ap (λ (rs : List (Reported Told)). getD (shownAt 4 rs) 10 0) (h backBehind sent-behind plain-behind) in omega arith,
+  λ h. let e : _≡_ {A = ℕ} 0 0xA0 = ap (λ (rs : List (Reported InstantTold)). getD (shownAt 4 rs) 10 0) (h backBehind sent-behind plain-behind) in omega arith,
   λ h. let e : _≡_ {A = ℕ} 0 0xA0 = ap (λ (rs : List (Reported (List (List ℕ)))). getD (bufferAt 4 rs) 10 0) (h backBehind sent-behind) in omega arith,
 )
 
