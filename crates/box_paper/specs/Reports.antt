@@ -1,20 +1,26 @@
 -- What the calls of a list report, for any function in the place of `callOf`, and on paper; and that the two are the same.
-use Prim.Native.Nat.{ℕ}
+use Prim.Native.Nat.{ℕ, _<_}
 use mathlib.Core.Path.{_≡_}
 use mathlib.Core.Bool.{Bool, true, false, _&&_, cond}
+use mathlib.Core.Option.{Option, some, none}
 use mathlib.Core.List.{List, [], _∷_, List·Memᴰ}
 use lib.Dec.{eqb}
 use Rattle.esterel.specs.Statement.{Statement}
 use Rattle.esterel.specs.States.{NoSetpause}
+use Rattle.esterel.specs.Machines.{State}
 use Rattle.sequence.specs.Check.{checkOf}
 use Rattle.sequence.specs.Rows.{Spells}
+use Rattle.states.specs.StateRecord.{encodeState}
+use Rattle.box_positions.specs.Names.{find}
+use Rattle.box_positions.specs.Table.{lookup}
+use Rattle.box_ledgers.specs.Ledgers.{farmCount, totalIn}
 use Rattle.box_stretches.specs.Called.{Called, number, lentAfter, first}
-use Rattle.box_stretches.specs.Stretch.{Terms}
-use Rattle.box_calls.specs.Box.{emptyBox, Call, admit, onTick}
-use Rattle.box_calls.specs.Lists.{Calling, Request, afterCall}
+use Rattle.box_stretches.specs.Stretch.{lengthIn, sequenceIn, readBackIn, serviceOnlyIn, stateIn, lastNumberIn, positionsIn, ledgerIn, Terms}
+use Rattle.box_calls.specs.Box.{bayCount, emptyBox, stretchOf, Call, admit, onTick}
+use Rattle.box_calls.specs.Lists.{Calling, Request, afterCall, boxAfter}
 use Rattle.box_calls.specs.Instants.{second}
 use Rattle.box_calls.specs.Shares.{AllSendable}
-use Rattle.box_paper.specs.PaperBox.{BayMachine, byTerms, byLabelSets, PaperBox, emptyPaper, Reported, ticked, replies, paperCall}
+use Rattle.box_paper.specs.PaperBox.{BayMachine, byTerms, byLabelSets, PaperBay, PaperBox, emptyPaper, Reported, ticked, replies, paperCall}
 
 abbrev pub isTick : Call → Bool
 isTick = onTick false (λ e answer trace. true)
@@ -59,3 +65,24 @@ OnPaper call =
 abbrev pub ByLabelSets : Calling → Type 0
 ByLabelSets call =
     (xs : List Request) → AllSendable xs → reports (byLabelSets .reads) call emptyBox xs ≡ paperReports byLabelSets emptyPaper xs
+
+-- ---- what is held: a stretch of the box holds what stands under its bay number on that paper
+pub record BayHeld (s : List ℕ) (b : PaperBay State ℕ) : Type 0 where
+  pub sequence : Spells (sequenceIn s) (b .statement)
+  pub read-back : readBackIn s ≡ b .readBack
+  pub service-only : serviceOnlyIn s ≡ b .serviceOnly
+  pub state : stateIn s ≡ encodeState (b .machine)
+  pub last : lastNumberIn s ≡ b .last
+  pub positions : (name : ℕ) → lookup name (positionsIn s) ≡ find name (b .positions)
+
+abbrev pub HeldIf : List ℕ → Option (PaperBay State ℕ) → Type 0
+HeldIf s none = lengthIn s ≡ 0
+HeldIf s (some b) = BayHeld s b
+
+-- after every list of calls from the empty box: the bay, if there is one, and each farm's total
+abbrev pub HeldOnPaper : Calling → Type 0
+HeldOnPaper call =
+    (xs : List Request) → AllSendable xs → (bay : ℕ) → bay < bayCount
+    → HeldIf (stretchOf bay (boxAfter call emptyBox xs)) (paperAfter byLabelSets emptyPaper xs bay .bay)
+    × ((farm : ℕ) → farm < farmCount
+    → totalIn farm (ledgerIn (stretchOf bay (boxAfter call emptyBox xs))) ≡ paperAfter byLabelSets emptyPaper xs bay .totals farm)

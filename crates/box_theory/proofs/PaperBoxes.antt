@@ -33,8 +33,10 @@ use Rattle.box_theory.proofs.Reached.{part-vacant, part-held, empty-str
 use Rattle.box_theory.proofs.Years.{at-first}
 use Rattle.box_theory.proofs.Stretches.{result, no-bay, own, own-stretch, same-length, others-stay}
 use Rattle.box_paper.specs.PaperBox.{PaperBay, PaperPlace, PaperBox, emptyPaper, Reported, replies, PaperReply, down, partOn, presentOn, placeCall, withPlace, paperCall, byTerms, byLabelSets}
-use Rattle.box_paper.specs.Reports.{reported, reports, paperReports, paperAfter, Admitting, OnPaper, ByLabelSets}
+use Rattle.box_paper.specs.Reports.{reported, reports, paperReports, paperAfter, Admitting, OnPaper, ByLabelSets, HeldIf, HeldOnPaper}
 use Rattle.box_theory.proofs.PaperMachines.{Follows, terms-follow, labels-follow}
+use Rattle.box_positions.specs.Names.{find}
+use Rattle.box_theory.proofs.PaperNames.{keptIf, find-kept}
 use Rattle.box_theory.proofs.PaperAlike as alike
 use Rattle.box_theory.proofs.PaperAlike.{Present, standing, bayOf, SameTotals, Alike, Same, refusal-reported, same-down}
 use Rattle.box_theory.proofs.PaperMoves.{release-same, year-same, service-same, panel-same, save-same, forget-same, restore-same}
@@ -223,26 +225,32 @@ totals-on m xs k a bay b =
     same-total m (stretchOf bay (boxAfter callOf emptyBox xs)) (paperAfter (m .kind) emptyPaper xs bay)
     (simulates-after m emptyBox emptyPaper (empty-simulates m) xs k a .places bay b)
 
--- the sequence that the box holds spells the statement that the paper was given at the admission, and the sets are the same
-abbrev pub Held : List ℕ → Option (PaperBay State ℕ) → Type 0
-Held s Option.none = lengthIn s ≡ 0
-Held s (some b) = Spells (sequenceIn s) (b .statement) × (readBackIn s ≡ b .readBack) × (serviceOnlyIn s ≡ b .serviceOnly) × (stateIn s ≡ encodeState (b .machine))
+-- the bay that the box holds is the paper's
+same-positions : (o : Option ℕ) → keptIf (λ L. L) o ≡ o
+same-positions Option.none = refl
+same-positions (some L) = refl
 
-same-held : (s : List ℕ) (z : PaperPlace State ℕ) → Alike labels-follow s z → Held s (z .bay)
-same-held s z (alike.vacant sized empty e t) = subst (Held s) (sym e) empty
+same-held : (s : List ℕ) (z : PaperPlace State ℕ) → Alike labels-follow s z → HeldIf s (z .bay)
+same-held s z (alike.vacant sized empty e t) = subst (HeldIf s) (sym e) empty
 same-held s z (alike.present h e t) =
-    subst (Held s) (sym e) (
-      subst (λ (x : List ℕ). Spells x (h .accepted .statement)) (sym (sequence-held (h .terms) s (standing labels-follow h))) (h .accepted .spelled),
-      h .holds .set,
-      h .holds .service,
-      h .bytes ∙ ap encodeState (sym (h .at)),
-    )
+    subst (HeldIf s) (sym e)
+    (record {
+      sequence = subst (λ (x : List ℕ). Spells x (h .accepted .statement)) (sym (sequence-held (h .terms) s (standing labels-follow h))) (h .accepted .spelled);
+      read-back = h .holds .set;
+      service-only = h .holds .service;
+      state = h .bytes ∙ ap encodeState (sym (h .at));
+      last = h .count;
+      positions = λ name.
+          h .agrees .alike name
+          ∙ sym (ap (find name) (h .saved) ∙ find-kept (λ L. L) name (h .names) ∙ same-positions (find name (h .names)));
+    })
 
-pub held-on-paper : (xs : List Request) → AllSendable xs → (bay : ℕ) → bay < bayCount
-    → Held (stretchOf bay (boxAfter callOf emptyBox xs)) (paperAfter byLabelSets emptyPaper xs bay .bay)
-held-on-paper xs k bay b =
-    same-held (stretchOf bay (boxAfter callOf emptyBox xs)) (paperAfter byLabelSets emptyPaper xs bay)
-    (simulates-after labels-follow emptyBox emptyPaper (empty-simulates labels-follow) xs k (every xs) .places bay b)
+pub held-on-paper : HeldOnPaper callOf
+held-on-paper xs k bay b = (
+  same-held (stretchOf bay (boxAfter callOf emptyBox xs)) (paperAfter byLabelSets emptyPaper xs bay)
+      (simulates-after labels-follow emptyBox emptyPaper (empty-simulates labels-follow) xs k (every xs) .places bay b),
+  totals-on labels-follow xs k (every xs) bay b,
+)
 
 pub every-sequence : (xs : List Request) → Admitting (λ p. Unit {0}) xs
 every-sequence = every

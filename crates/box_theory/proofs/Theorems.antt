@@ -43,11 +43,9 @@ use Rattle.box_theory.proofs.Foresight as foresight
 use Rattle.box_theory.proofs.WrongPreviews as misleading
 use Rattle.box_examples.specs.WrongPreviews as foretold
 use Rattle.box_calls.specs.Years.{deliveredSince, SameYear, sumOf, TotalsExact, LedgerShows, YearBegins, LedgerNumbers, Nineteen, PreviewsNeverNineteen, LedgerDemands}
-use Rattle.box_paper.specs.PaperBox.{byLabelSets, emptyPaper}
-use Rattle.box_paper.specs.Reports.{paperAfter, OnPaper, ByLabelSets}
+use Rattle.box_paper.specs.Reports.{OnPaper, ByLabelSets, HeldOnPaper}
 use Rattle.box_paper.specs.Certified.{ReadingsCertified, ReadingsCertifiedByLabels}
 use Rattle.box_theory.proofs.PaperBoxes as paper-boxes
-use Rattle.box_theory.proofs.PaperBoxes.{Held}
 use Rattle.box_theory.proofs.PaperCertified as certificates
 use Rattle.box_examples.specs.WrongPaper as papers
 use Rattle.box_theory.proofs.WrongPaper as off-paper
@@ -80,9 +78,9 @@ box-on-paper = paper-boxes.box-on-paper
 pub box-by-labels : ByLabelSets callOf
 box-by-labels = paper-boxes.box-by-labels
 
--- what the box holds is what that paper holds: the statement that was admitted, both sets, and the machine
-pub held-on-paper : (xs : List Request) → AllSendable xs → (bay : ℕ) → bay < bayCount
-    → Held (stretchOf bay (boxAfter callOf emptyBox xs)) (paperAfter byLabelSets emptyPaper xs bay .bay)
+-- what the box holds is what that paper holds: the statement that was admitted, both sets, the machine, the number of the last instant, the
+-- positions by name, and each farm's total
+pub held-on-paper : HeldOnPaper callOf
 held-on-paper = paper-boxes.held-on-paper
 
 -- THE CERTIFICATE, 'tank and ledger agree within limits': every reading of a ledger is certified for what the paper delivered
