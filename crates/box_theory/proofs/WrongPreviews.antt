@@ -2,7 +2,7 @@
 use Prim.Native.Nat.{ℕ}
 use native.Mathlib.Omega.{arith}
 use mathlib.Core.Path.{_≡_, refl, sym, ap, _∙_}
-use mathlib.Core.Bool.{true, false, true≢false}
+use mathlib.Core.Bool.{true, true≢false}
 use mathlib.Core.List.{List, [], _∷_}
 use lib.ListN.{replicate}
 use lib.Ieee.{ofBits, whole, inUnsigned, toUnsigned}
@@ -36,7 +36,7 @@ use Rattle.box_stretches.specs.Stretch.{lastNumberIn, partOf, vacated, filled}
 use Rattle.box_stretches.specs.BayCalls.{bayStepOf, bayChargedOf, bayTickOf, bayReleaseOf, bayAdmitOf, bayPreviewOf}
 use Rattle.box_calls.specs.Box.{emptyBox, stretchOf, present, callOf}
 use Rattle.box_calls.specs.Lists.{boxAfter}
-use Rattle.box_calls.specs.Previews.{MachineStays, TenBytes, StatusOutweighed, LearningStays, PreviewForesees}
+use Rattle.box_calls.specs.Previews.{MachineStays, TenBytes, LearningStays, PreviewForesees}
 use Rattle.box_examples.specs.Worked.{admitted, ends}
 use Rattle.box_examples.specs.WrongPreviews.{forgetsStatus, takesAbsent, keepsStatus, movesMachine, saysOpen}
 

@@ -4,9 +4,9 @@ use native.Mathlib.Omega.{arith}
 use native.Mathlib.Decide.{ℕ-discrete, decLt}
 use mathlib.Core.Path.{_≡_, refl, sym, ap, _∙_, subst}
 use mathlib.Core.Logic.{_≢_, ⊎-elim}
-use mathlib.Core.Bool.{Bool, true, false, _||_, cond}
+use mathlib.Core.Bool.{Bool, true, false, cond}
 use mathlib.Core.Option.{Option, some, none}
-use mathlib.Core.List.{List, [], _∷_}
+use mathlib.Core.List.{List, []}
 use lib.ListN.{length}
 use lib.Dec.{eqb, leb}
 use Rattle.limits.specs.Limits.{signalCount}
@@ -47,13 +47,13 @@ use Rattle.box_calls.specs.Lists.{Request, boxAfter}
 use Rattle.box_calls.specs.Shares.{AllSendable}
 use Rattle.box_calls.specs.BayRuns.{paperBuffer}
 use Rattle.box_fields.proofs.Fields.{state-sized}
-use Rattle.box_theory.proofs.Ticks.{inner, Ticked, down, full, instant, ticked, like-buffer, own-below}
+use Rattle.box_theory.proofs.Ticks.{inner, Ticked, down, full, instant, ticked, like-buffer}
 use Rattle.box_theory.proofs.Readers.{service-reads, panel-reads, ledger-reads}
 use Rattle.box_theory.proofs.Previews.{preview-number}
 use Rattle.box_theory.proofs.Standing.{Standing, sequence-held, inner-is, tick-told}
 use Rattle.box_theory.proofs.Stretches.{no-bay, other-box, stretch-sized, own}
 use Rattle.box_theory.proofs.Reached as reached
-use Rattle.call_numbers.specs.Numbers.{CallName, intake-check, intake-ceiling, intake-tick, intake-unroll, intake-replay, intake-box-admit, intake-box-release, intake-box-tick, intake-box-save, intake-box-restore, intake-box-forget, intake-box-service, intake-box-panel, intake-box-preview, intake-box-ledger, intake-box-new-year, rowFor, alsoAnywhere, rowAnywhere, oneOf}
+use Rattle.call_numbers.specs.Numbers.{CallName, intake-box-admit, intake-box-release, intake-box-tick, intake-box-save, intake-box-restore, intake-box-forget, intake-box-service, intake-box-panel, intake-box-preview, intake-box-ledger, intake-box-new-year, rowFor, rowAnywhere, oneOf}
 use Rattle.call_numbers.proofs.NumberLists.{all, is, HasRefusals, refusal-in}
 
 -- ---- the row of a call on a box

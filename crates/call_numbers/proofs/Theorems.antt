@@ -22,10 +22,10 @@ use Rattle.sequence.proofs.Rows.{Decides, decided, row-range}
 use Rattle.tick.specs.Tick.{tickOf}
 use Rattle.demands.specs.Demands as demands
 use Rattle.box_calls.specs.Box.{admit, release, tick, save, restore, forget, service, panel, preview, ledger, newYear}
-use Rattle.call_numbers.specs.Numbers.{CallName, intake-check, intake-ceiling, intake-tick, intake-unroll, intake-replay, intake-box-admit, intake-box-release, intake-box-tick, intake-box-save, intake-box-restore, intake-box-forget, intake-box-service, intake-box-panel, intake-box-preview, intake-box-ledger, intake-box-new-year, HostCall, checks, measures, ticks, unrolls, replays, admits, releases, ticksBay, saves, restores, forgets, showsService, showsPanel, previews, readsLedger, beginsYear, given, rowFor, alsoAnywhere, rowAnywhere, oneOf, ReachedBox, reachedBytes, NumberGiven, CeilingRefuses, TableExact}
+use Rattle.call_numbers.specs.Numbers.{CallName, intake-check, intake-tick, intake-unroll, intake-replay, HostCall, checks, measures, ticks, unrolls, replays, admits, releases, ticksBay, saves, restores, forgets, showsService, showsPanel, previews, readsLedger, beginsYear, callGives, passable, rowFor, alsoAnywhere, rowAnywhere, oneOf, ReachedBox, reachedBytes, GivesOnly, GivesEach, RowsExact, CeilingRefuses, TableExact}
 use Rattle.call_numbers.proofs.NumberLists.{all}
 use Rattle.call_numbers.proofs.NumberTable.{check-in, own-in, unroll-in, replay-in, numbered, numbered-anywhere}
-use Rattle.call_numbers.proofs.Witnesses.{witnesses, all-given, anyWitnesses, any-given}
+use Rattle.call_numbers.proofs.Witnesses.{witnesses, all-given, all-passable, anyWitnesses, any-given, any-passable}
 
 -- ---- a number that is given is in the row
 -- the number of a call, if it gives one, is in a list
@@ -33,7 +33,7 @@ abbrev OneIn : List ℕ → Option ℕ → Type 0
 OneIn l none = Unit {0}
 OneIn l (some n) = oneOf n l ≡ true
 
-reached-in : {name : CallName} (c : HostCall ReachedBox name) → OneIn (rowFor name) (given reachedBytes c)
+reached-in : {name : CallName} (c : HostCall ReachedBox name) → OneIn (rowFor name) (callGives reachedBytes c)
 unfolding all oneOf
 reached-in (checks sequence readBack) = check-in (rowFor intake-check) refl refl sequence readBack
 reached-in (measures sequence readBack) = tt
@@ -52,7 +52,7 @@ reached-in (previews box bay e u buffer) = numbered (box .before) (box .sendable
 reached-in (readsLedger box bay totals) = numbered (box .before) (box .sendable) bay (ledger totals)
 reached-in (beginsYear box bay) = numbered (box .before) (box .sendable) bay newYear
 
-anywhere-in : {name : CallName} (c : HostCall (List ℕ) name) → OneIn (rowAnywhere name) (given (λ (box : List ℕ). box) c)
+anywhere-in : {name : CallName} (c : HostCall (List ℕ) name) → OneIn (rowAnywhere name) (callGives (λ (box : List ℕ). box) c)
 unfolding all oneOf
 anywhere-in (checks sequence readBack) = check-in (rowAnywhere intake-check) refl refl sequence readBack
 anywhere-in (measures sequence readBack) = tt
@@ -72,27 +72,29 @@ anywhere-in (readsLedger box bay totals) = numbered-anywhere box bay (ledger tot
 anywhere-in (beginsYear box bay) = numbered-anywhere box bay newYear
 
 -- ---- a number of the row is given
-headOf : List (Option ℕ) → Option ℕ
-headOf [] = none
-headOf (x ∷ xs) = x
+headOf : {A : Type 0} (a : A) → List A → A
+headOf a [] = a
+headOf a (x ∷ xs) = x
 
-tailOf : List (Option ℕ) → List (Option ℕ)
+tailOf : {A : Type 0} → List A → List A
 tailOf [] = []
 tailOf (x ∷ xs) = xs
 
-isNil : List (Option ℕ) → ℕ
+isNil : {A : Type 0} → List A → ℕ
 isNil [] = 0
 isNil (x ∷ xs) = 1
 
-module _ {A : Type 0} (f : A → Option ℕ) where
-  picked : (ws : List A) (l : List ℕ) → map f ws ≡ map some l → (n : ℕ) → oneOf n l ≡ true → (a : A) × (f a ≡ some n)
+-- of witnesses whose numbers are those of a list, one for each number
+module _ {A : Type 0} (f : A → Option ℕ) (g : A → Bool) where
+  picked : (ws : List A) (l : List ℕ) → map f ws ≡ map some l → map g ws ≡ map (λ (n : ℕ). true) l → (n : ℕ) → oneOf n l ≡ true
+      → (a : A) × (g a ≡ true) × (f a ≡ some n)
   unfolding oneOf headOf tailOf isNil
-  picked ws [] e n h = absurd (let z : _≡_ {A = ℕ} 0 1 = cc in omega arith)
-  picked [] (k ∷ ks) e n h = absurd (let z : _≡_ {A = ℕ} 0 1 = ap isNil e in omega arith)
-  picked (w ∷ ws) (k ∷ ks) e n h =
+  picked ws [] e p n h = absurd (let z : _≡_ {A = ℕ} 0 1 = cc in omega arith)
+  picked [] (k ∷ ks) e p n h = absurd (let z : _≡_ {A = ℕ} 0 1 = ap isNil e in omega arith)
+  picked (w ∷ ws) (k ∷ ks) e p n h =
       elim (ℕ-discrete n k) [
-        | yes q ↦ (w, ap headOf e ∙ ap some (sym q))
-        | no q ↦ picked ws ks (ap tailOf e) n (other (eqb n k) refl h q)
+        | yes q ↦ (w, ap (headOf true) p, ap (headOf none) e ∙ ap some (sym q))
+        | no q ↦ picked ws ks (ap tailOf e) (ap tailOf p) n (other (eqb n k) refl h q)
       ]
     where
       other : (b : Bool) → eqb n k ≡ b → (b || oneOf n ks) ≡ true → n ≢ k → oneOf n ks ≡ true
@@ -100,12 +102,20 @@ module _ {A : Type 0} (f : A → Option ℕ) where
       other false i h q = h
 
 -- ---- THE TABLE IS EXACT
+exact : {Box : Type 0} (bytes : Box → List ℕ) (row : CallName → List ℕ) → GivesOnly bytes row → GivesEach bytes row → RowsExact bytes row
+exact bytes row only each =
+    record {
+      gives-only = only;
+      gives-each = each;
+      number-given = λ name n. (λ h. let r = each name n h in (r .0, r .2), λ r. only name (r .0) n (r .1));
+    }
+
 -- in the boxes that calls reach from the empty one
-pub numbers-given : NumberGiven reachedBytes rowFor
-numbers-given name n = (
-  picked (given reachedBytes) (witnesses name) (rowFor name) (all-given name) n,
-  λ r. subst (OneIn (rowFor name)) (r .1) (reached-in (r .0)),
-)
+pub each-given : GivesEach reachedBytes rowFor
+each-given name = picked (callGives reachedBytes) (passable reachedBytes) (witnesses name) (rowFor name) (all-given name) (all-passable name)
+
+pub from-empty : RowsExact reachedBytes rowFor
+from-empty = exact reachedBytes rowFor (λ name c n e. subst (OneIn (rowFor name)) e (reached-in c)) each-given
 
 -- such a box is one of any bytes
 inBytes : {name : CallName} → HostCall ReachedBox name → HostCall (List ℕ) name
@@ -126,7 +136,7 @@ inBytes (previews box bay e u buffer) = previews (reachedBytes box) bay e u buff
 inBytes (readsLedger box bay totals) = readsLedger (reachedBytes box) bay totals
 inBytes (beginsYear box bay) = beginsYear (reachedBytes box) bay
 
-same-given : {name : CallName} (c : HostCall ReachedBox name) → given (λ (box : List ℕ). box) (inBytes c) ≡ given reachedBytes c
+same-given : {name : CallName} (c : HostCall ReachedBox name) → callGives (λ (box : List ℕ). box) (inBytes c) ≡ callGives reachedBytes c
 unfolding inBytes
 same-given (checks sequence readBack) = refl
 same-given (measures sequence readBack) = refl
@@ -145,6 +155,25 @@ same-given (previews box bay e u buffer) = refl
 same-given (readsLedger box bay totals) = refl
 same-given (beginsYear box bay) = refl
 
+same-passable : {name : CallName} (c : HostCall ReachedBox name) → passable (λ (box : List ℕ). box) (inBytes c) ≡ passable reachedBytes c
+unfolding inBytes
+same-passable (checks sequence readBack) = refl
+same-passable (measures sequence readBack) = refl
+same-passable (ticks sequence state e readBack answer) = refl
+same-passable (unrolls sequence readBack buffer) = refl
+same-passable (replays sequence readBack recording) = refl
+same-passable (admits box bay t) = refl
+same-passable (releases box bay) = refl
+same-passable (ticksBay box bay e answer trace) = refl
+same-passable (saves box bay n) = refl
+same-passable (restores box bay n) = refl
+same-passable (forgets box bay n) = refl
+same-passable (showsService box bay trace view) = refl
+same-passable (showsPanel box bay trace view) = refl
+same-passable (previews box bay e u buffer) = refl
+same-passable (readsLedger box bay totals) = refl
+same-passable (beginsYear box bay) = refl
+
 either : (n : ℕ) (a b : List ℕ) → oneOf n (a ++ b) ≡ true → (oneOf n a ≡ true) ⊎ (oneOf n b ≡ true)
 unfolding oneOf
 either n [] b h = inr h
@@ -156,13 +185,16 @@ either n (k ∷ a) b h = go (eqb n k) h (either n a b)
     go false h k = k h
 
 -- and in every box, whatever its bytes
-pub numbers-anywhere : NumberGiven (λ (box : List ℕ). box) rowAnywhere
-numbers-anywhere name n = (
-  λ h. ⊎-elim (picked (given (λ (box : List ℕ). box)) (anyWitnesses name) (alsoAnywhere name) (any-given name) n)
-      (λ i. let r = numbers-given name n .0 i in (inBytes (r .0), same-given (r .0) ∙ r .1))
-      (either n (alsoAnywhere name) (rowFor name) h),
-  λ r. subst (OneIn (rowAnywhere name)) (r .1) (anywhere-in (r .0)),
-)
+pub each-given-anywhere : GivesEach (λ (box : List ℕ). box) rowAnywhere
+each-given-anywhere name n h =
+    ⊎-elim
+    (picked (callGives (λ (box : List ℕ). box)) (passable (λ (box : List ℕ). box)) (anyWitnesses name) (alsoAnywhere name) (any-given name) (any-passable name) n)
+    (λ i. let r = each-given name n i in (inBytes (r .0), same-passable (r .0) ∙ r .1, same-given (r .0) ∙ r .2))
+    (either n (alsoAnywhere name) (rowFor name) h)
+
+pub anywhere : RowsExact (λ (box : List ℕ). box) rowAnywhere
+anywhere =
+    exact (λ (box : List ℕ). box) rowAnywhere (λ name c n e. subst (OneIn (rowAnywhere name)) e (anywhere-in c)) each-given-anywhere
 
 -- ---- the ceiling
 ceiling-positive : (p : Statement) → 0 < ceiling p
@@ -179,11 +211,11 @@ ceiling-refuses sequence readBack = go (checked sequence readBack) (decided sequ
 
 -- ALL OF IT
 pub table-exact : TableExact
-table-exact = record { numbers-given = numbers-given; numbers-anywhere = numbers-anywhere; ceiling-refuses = ceiling-refuses }
+table-exact = record { from-empty = from-empty; anywhere = anywhere; ceiling-refuses = ceiling-refuses }
 
 -- ---- corollaries
 -- 'The tick on its own knows no ledger and never gives 19'
 pub tick-never-nineteen : (sequence state : List ℕ) (e readBack : ℕ) (answer : List ℕ) → demands.number (tickOf sequence state e readBack answer) ≢ 19
 unfolding oneOf
 tick-never-nineteen sequence state e readBack answer h =
-    true≢false (sym (numbers-anywhere intake-tick 19 .1 (ticks sequence state e readBack answer, ap some h)))
+    true≢false (sym (anywhere .gives-only intake-tick (ticks sequence state e readBack answer) 19 (ap some h)))

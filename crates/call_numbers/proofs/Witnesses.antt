@@ -1,10 +1,10 @@
 -- A call for each number of each row of the table, the calls that reach its box before it, and their numbers by computation.
-use Prim.Native.Nat.{ℕ, zero, suc, _+_, _*_, _^_, _<_}
-use mathlib.Core.Path.{_≡_, refl, sym, ap}
-use mathlib.Core.Bool.{Bool, true, false, _&&_, and-eq-true-iff}
-use mathlib.Core.Option.{Option, some, none}
+use Prim.Native.Nat.{ℕ, zero, suc, _^_}
+use mathlib.Core.Path.{_≡_, refl}
+use mathlib.Core.Bool.{Bool, true, _&&_, and-eq-true-iff}
+use mathlib.Core.Option.{some, none}
 use mathlib.Core.List.{List, [], _∷_, _++_, map}
-use lib.ListN.{length, replicate}
+use lib.ListN.{replicate}
 use lib.Dec.{ltb}
 use lib.Ieee.{ofBits, ofFields, odd, toBits, ofInt, whole, inUnsigned, toUnsigned}
 use borrow.Author.Tests.{ltb-true}
@@ -41,13 +41,13 @@ use Rattle.box_parts.specs.Parts.{put, zeros}
 use Rattle.box_positions.specs.Table.{place, lookup, saveOf, forgetOf}
 use Rattle.box_ledgers.specs.Ledgers.{readingLength, totalIn, totalsBytes, wouldPass, addedBelow}
 use Rattle.box_fillings.specs.Preview.{previewLength, both, gathered, findings, previewOf}
-use Rattle.box_stretches.specs.Stretch.{stretchLength, stateAt, partOf, vacated, Terms, terms, filled}
+use Rattle.box_stretches.specs.Stretch.{stateAt, partOf, vacated, terms, filled}
 use Rattle.box_stretches.specs.BayCalls.{bayStepOf, bayChargedOf, bayTickOf, bayReleaseOf, bayAdmitOf, baySaveOf, bayForgetOf, bayRestoreOf, bayServiceOf, bayPanelOf, bayPreviewOf, bayLedgerOf, bayNewYearOf}
 use Rattle.box_calls.specs.Box.{boxLength, emptyBox, present, Call, admit, release, tick, save, restore, forget, service, panel, preview, ledger, newYear, callOf}
 use Rattle.box_calls.specs.Lists.{Request, boxAfter}
 use Rattle.box_calls.specs.Shares as Shares
 use Rattle.box_calls.specs.Shares.{Sendable, AllSendable, each}
-use Rattle.call_numbers.specs.Numbers.{CallName, intake-check, intake-ceiling, intake-tick, intake-unroll, intake-replay, intake-box-admit, intake-box-release, intake-box-tick, intake-box-save, intake-box-restore, intake-box-forget, intake-box-service, intake-box-panel, intake-box-preview, intake-box-ledger, intake-box-new-year, HostCall, checks, measures, ticks, unrolls, replays, admits, releases, ticksBay, saves, restores, forgets, showsService, showsPanel, previews, readsLedger, beginsYear, given, refusals, rowFor, alsoAnywhere, ReachedBox, reachedBytes}
+use Rattle.call_numbers.specs.Numbers.{CallName, intake-check, intake-ceiling, intake-tick, intake-unroll, intake-replay, intake-box-admit, intake-box-release, intake-box-tick, intake-box-save, intake-box-restore, intake-box-forget, intake-box-service, intake-box-panel, intake-box-preview, intake-box-ledger, intake-box-new-year, HostCall, checks, ticks, unrolls, replays, admits, releases, ticksBay, saves, restores, forgets, showsService, showsPanel, previews, readsLedger, beginsYear, callGives, passable, rowFor, alsoAnywhere, ReachedBox, reachedBytes}
 
 -- ---- sequences
 abbrev ends : List ℕ
@@ -226,7 +226,7 @@ witnesses intake-box-ledger =
     readsLedger fromStart 0 (zeros readingLength) ∷ readsLedger fromStart 0 [] ∷ readsLedger fromStart 8 (zeros readingLength) ∷ []
 witnesses intake-box-new-year = beginsYear fromStart 0 ∷ beginsYear fromStart 8 ∷ []
 
-pub all-given : (name : CallName) → map (given reachedBytes) (witnesses name) ≡ map some (rowFor name)
+pub all-given : (name : CallName) → map (callGives reachedBytes) (witnesses name) ≡ map some (rowFor name)
 unfolding witnesses fromStart fresh over overfull waiting named full reached unrollOf copied unrolled bytesOf depthOf replayOf placeOf firstDifference same firstRecords recordsFrom boxAfter callOf emptyBox present partOf vacated filled bayStepOf bayChargedOf wouldPass totalIn addedBelow deliveredBy ofBits ofFields odd whole inUnsigned toUnsigned bayTickOf following bayReleaseOf bayAdmitOf baySaveOf bayForgetOf bayRestoreOf bayServiceOf bayPanelOf panelOf bayPreviewOf previewOf findings gathered both subsetsBelow common difference allBelow bayLedgerOf bayNewYearOf totalsBytes toBits ofInt saveOf forgetOf lookup place put zeros leBytes leNumber tickBy checkOf checked read front commandOf distinct wellFormed before everyLabel labelsOf subset disjoint valid active activeLabels membersFrom declaredBy commands loopNesting signalNesting ceiling encodeState decodeState encodeAnswer expand reactBy errorsBy reactionsBy Sets.none only member join insert remove
 all-given intake-check = refl
 all-given intake-ceiling = refl
@@ -244,6 +244,25 @@ all-given intake-box-panel = refl
 all-given intake-box-preview = refl
 all-given intake-box-ledger = refl
 all-given intake-box-new-year = refl
+
+pub all-passable : (name : CallName) → map (passable reachedBytes) (witnesses name) ≡ map (λ (n : ℕ). true) (rowFor name)
+unfolding witnesses fromStart fresh over overfull waiting named full reached unrollOf copied unrolled bytesOf depthOf replayOf placeOf firstDifference same firstRecords recordsFrom boxAfter callOf emptyBox present partOf vacated filled bayStepOf bayChargedOf wouldPass totalIn addedBelow deliveredBy ofBits ofFields odd whole inUnsigned toUnsigned bayTickOf following bayReleaseOf bayAdmitOf baySaveOf bayForgetOf bayRestoreOf bayServiceOf bayPanelOf panelOf bayPreviewOf previewOf findings gathered both subsetsBelow common difference allBelow bayLedgerOf bayNewYearOf totalsBytes toBits ofInt saveOf forgetOf lookup place put zeros leBytes leNumber tickBy checkOf checked read front commandOf distinct wellFormed before everyLabel labelsOf subset disjoint valid active activeLabels membersFrom declaredBy commands loopNesting signalNesting ceiling encodeState decodeState encodeAnswer expand reactBy errorsBy reactionsBy Sets.none only member join insert remove
+all-passable intake-check = refl
+all-passable intake-ceiling = refl
+all-passable intake-tick = refl
+all-passable intake-unroll = refl
+all-passable intake-replay = refl
+all-passable intake-box-admit = refl
+all-passable intake-box-release = refl
+all-passable intake-box-tick = refl
+all-passable intake-box-save = refl
+all-passable intake-box-restore = refl
+all-passable intake-box-forget = refl
+all-passable intake-box-service = refl
+all-passable intake-box-panel = refl
+all-passable intake-box-preview = refl
+all-passable intake-box-ledger = refl
+all-passable intake-box-new-year = refl
 
 -- ---- in boxes of any bytes: no bytes at all, and bytes in which bay 0 holds a sequence, at most one byte too long, and a state
 unfoldable pub holding : (sequence state : List ℕ) → List ℕ
@@ -285,7 +304,7 @@ anyWitnesses intake-box-preview =
 anyWitnesses intake-box-ledger = []
 anyWitnesses intake-box-new-year = beginsYear [] 0 ∷ []
 
-pub any-given : (name : CallName) → map (given (λ (box : List ℕ). box)) (anyWitnesses name) ≡ map some (alsoAnywhere name)
+pub any-given : (name : CallName) → map (callGives (λ (box : List ℕ). box)) (anyWitnesses name) ≡ map some (alsoAnywhere name)
 unfolding anyWitnesses holding unrollOf copied unrolled bytesOf depthOf replayOf placeOf firstDifference same firstRecords recordsFrom boxAfter callOf emptyBox present partOf vacated filled bayStepOf bayChargedOf wouldPass totalIn addedBelow deliveredBy ofBits ofFields odd whole inUnsigned toUnsigned bayTickOf following bayReleaseOf bayAdmitOf baySaveOf bayForgetOf bayRestoreOf bayServiceOf bayPanelOf panelOf bayPreviewOf previewOf findings gathered both subsetsBelow common difference allBelow bayLedgerOf bayNewYearOf totalsBytes toBits ofInt saveOf forgetOf lookup place put zeros leBytes leNumber tickBy checkOf checked read front commandOf distinct wellFormed before everyLabel labelsOf subset disjoint valid active activeLabels membersFrom declaredBy commands loopNesting signalNesting ceiling encodeState decodeState encodeAnswer expand reactBy errorsBy reactionsBy Sets.none only member join insert remove
 any-given intake-check = refl
 any-given intake-ceiling = refl
@@ -303,3 +322,22 @@ any-given intake-box-panel = refl
 any-given intake-box-preview = refl
 any-given intake-box-ledger = refl
 any-given intake-box-new-year = refl
+
+pub any-passable : (name : CallName) → map (passable (λ (box : List ℕ). box)) (anyWitnesses name) ≡ map (λ (n : ℕ). true) (alsoAnywhere name)
+unfolding anyWitnesses holding unrollOf copied unrolled bytesOf depthOf replayOf placeOf firstDifference same firstRecords recordsFrom boxAfter callOf emptyBox present partOf vacated filled bayStepOf bayChargedOf wouldPass totalIn addedBelow deliveredBy ofBits ofFields odd whole inUnsigned toUnsigned bayTickOf following bayReleaseOf bayAdmitOf baySaveOf bayForgetOf bayRestoreOf bayServiceOf bayPanelOf panelOf bayPreviewOf previewOf findings gathered both subsetsBelow common difference allBelow bayLedgerOf bayNewYearOf totalsBytes toBits ofInt saveOf forgetOf lookup place put zeros leBytes leNumber tickBy checkOf checked read front commandOf distinct wellFormed before everyLabel labelsOf subset disjoint valid active activeLabels membersFrom declaredBy commands loopNesting signalNesting ceiling encodeState decodeState encodeAnswer expand reactBy errorsBy reactionsBy Sets.none only member join insert remove
+any-passable intake-check = refl
+any-passable intake-ceiling = refl
+any-passable intake-tick = refl
+any-passable intake-unroll = refl
+any-passable intake-replay = refl
+any-passable intake-box-admit = refl
+any-passable intake-box-release = refl
+any-passable intake-box-tick = refl
+any-passable intake-box-save = refl
+any-passable intake-box-restore = refl
+any-passable intake-box-forget = refl
+any-passable intake-box-service = refl
+any-passable intake-box-panel = refl
+any-passable intake-box-preview = refl
+any-passable intake-box-ledger = refl
+any-passable intake-box-new-year = refl

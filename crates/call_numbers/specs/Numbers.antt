@@ -1,12 +1,13 @@
 -- The numbers that a call can give: the 16 calls of a host (include/intake.h) with all their arguments, the number that each gives by its
 -- definition, and one table of rows. A number is in a call's row exactly if some arguments give it.
-use Prim.Native.Nat.{ℕ}
+use Prim.Native.Nat.{ℕ, _^_}
 use mathlib.Core.Path.{_≡_}
 use mathlib.Core.Logic.{_≢_, _↔_}
-use mathlib.Core.Bool.{Bool, true, false, _||_}
+use mathlib.Core.Bool.{Bool, true, false, _&&_, _||_}
 use mathlib.Core.Option.{Option, some, none}
 use mathlib.Core.List.{List, [], _∷_, _++_}
-use lib.Dec.{eqb}
+use lib.Dec.{eqb, ltb}
+use Rattle.sequence.specs.Amounts.{areBytes}
 use Rattle.sequence.specs.Check.{checked, checkOf}
 use Rattle.sequence.specs.Ceilings.{ceilingOf}
 use Rattle.tick.specs.Tick.{tickOf}
@@ -60,23 +61,49 @@ pub data HostCall (Box : Type 0) : CallName → Type 0 where
   beginsYear : (box : Box) (bay : ℕ) → HostCall Box intake-box-new-year
 
 -- the number that it gives; intake_ceiling gives a ceiling and no number
-abbrev pub given : {Box : Type 0} (bytes : Box → List ℕ) {name : CallName} → HostCall Box name → Option ℕ
-given bytes (checks sequence readBack) = some (checkOf sequence readBack)
-given bytes (measures sequence readBack) = none
-given bytes (ticks sequence state e readBack answer) = some (demands.number (tickOf sequence state e readBack answer))
-given bytes (unrolls sequence readBack buffer) = some (unrolled.number (unrollOf sequence readBack buffer))
-given bytes (replays sequence readBack recording) = some (replayed.number (replayOf sequence readBack recording))
-given bytes (admits box bay t) = some (number (callOf (bytes box) bay (admit t)))
-given bytes (releases box bay) = some (number (callOf (bytes box) bay release))
-given bytes (ticksBay box bay e answer trace) = some (number (callOf (bytes box) bay (tick e answer trace)))
-given bytes (saves box bay name) = some (number (callOf (bytes box) bay (save name)))
-given bytes (restores box bay name) = some (number (callOf (bytes box) bay (restore name)))
-given bytes (forgets box bay name) = some (number (callOf (bytes box) bay (forget name)))
-given bytes (showsService box bay trace view) = some (number (callOf (bytes box) bay (service trace view)))
-given bytes (showsPanel box bay trace view) = some (number (callOf (bytes box) bay (panel trace view)))
-given bytes (previews box bay e unknown buffer) = some (number (callOf (bytes box) bay (preview e unknown buffer)))
-given bytes (readsLedger box bay totals) = some (number (callOf (bytes box) bay (ledger totals)))
-given bytes (beginsYear box bay) = some (number (callOf (bytes box) bay newYear))
+abbrev pub callGives : {Box : Type 0} (bytes : Box → List ℕ) {name : CallName} → HostCall Box name → Option ℕ
+callGives bytes (checks sequence readBack) = some (checkOf sequence readBack)
+callGives bytes (measures sequence readBack) = none
+callGives bytes (ticks sequence state e readBack answer) = some (demands.number (tickOf sequence state e readBack answer))
+callGives bytes (unrolls sequence readBack buffer) = some (unrolled.number (unrollOf sequence readBack buffer))
+callGives bytes (replays sequence readBack recording) = some (replayed.number (replayOf sequence readBack recording))
+callGives bytes (admits box bay t) = some (number (callOf (bytes box) bay (admit t)))
+callGives bytes (releases box bay) = some (number (callOf (bytes box) bay release))
+callGives bytes (ticksBay box bay e answer trace) = some (number (callOf (bytes box) bay (tick e answer trace)))
+callGives bytes (saves box bay name) = some (number (callOf (bytes box) bay (save name)))
+callGives bytes (restores box bay name) = some (number (callOf (bytes box) bay (restore name)))
+callGives bytes (forgets box bay name) = some (number (callOf (bytes box) bay (forget name)))
+callGives bytes (showsService box bay trace view) = some (number (callOf (bytes box) bay (service trace view)))
+callGives bytes (showsPanel box bay trace view) = some (number (callOf (bytes box) bay (panel trace view)))
+callGives bytes (previews box bay e unknown buffer) = some (number (callOf (bytes box) bay (preview e unknown buffer)))
+callGives bytes (readsLedger box bay totals) = some (number (callOf (bytes box) bay (ledger totals)))
+callGives bytes (beginsYear box bay) = some (number (callOf (bytes box) bay newYear))
+
+-- ---- what a host can pass: bytes, and numbers of 32 bits
+abbrev pub isWord : ℕ → Bool
+isWord n = ltb n (256 ^ 4)
+
+-- a bay number and the bytes of its box
+abbrev placed : (box : List ℕ) (bay : ℕ) → Bool
+placed box bay = areBytes box && isWord bay
+
+abbrev pub passable : {Box : Type 0} (bytes : Box → List ℕ) {name : CallName} → HostCall Box name → Bool
+passable bytes (checks sequence readBack) = areBytes sequence && isWord readBack
+passable bytes (measures sequence readBack) = areBytes sequence && isWord readBack
+passable bytes (ticks sequence state e readBack answer) = areBytes sequence && areBytes state && isWord e && isWord readBack && areBytes answer
+passable bytes (unrolls sequence readBack buffer) = areBytes sequence && isWord readBack && areBytes buffer
+passable bytes (replays sequence readBack recording) = areBytes sequence && isWord readBack && areBytes recording
+passable bytes (admits box bay t) = placed (bytes box) bay && areBytes (t .sequence) && isWord (t .readBack) && isWord (t .serviceOnly)
+passable bytes (releases box bay) = placed (bytes box) bay
+passable bytes (ticksBay box bay e answer trace) = placed (bytes box) bay && isWord e && areBytes answer && areBytes trace
+passable bytes (saves box bay name) = placed (bytes box) bay && isWord name
+passable bytes (restores box bay name) = placed (bytes box) bay && isWord name
+passable bytes (forgets box bay name) = placed (bytes box) bay && isWord name
+passable bytes (showsService box bay trace view) = placed (bytes box) bay && areBytes trace && areBytes view
+passable bytes (showsPanel box bay trace view) = placed (bytes box) bay && areBytes trace && areBytes view
+passable bytes (previews box bay e unknown buffer) = placed (bytes box) bay && isWord e && isWord unknown && areBytes buffer
+passable bytes (readsLedger box bay totals) = placed (bytes box) bay && areBytes totals
+passable bytes (beginsYear box bay) = placed (bytes box) bay
 
 -- ---- THE TABLE
 -- a sequence that is turned down: 01, 'the check 2 to 10', and 02, item 12, '18, at its command right after 5'
@@ -148,17 +175,33 @@ pub record ReachedBox : Type 0 where
 abbrev pub reachedBytes : ReachedBox → List ℕ
 reachedBytes box = boxAfter callOf emptyBox (box .before)
 
--- a number is in a call's row exactly if some arguments give it
+-- no arguments give another number
+abbrev pub GivesOnly : {Box : Type 0} (bytes : Box → List ℕ) (row : CallName → List ℕ) → Type 0
+GivesOnly {Box} bytes row =
+    (name : CallName) (c : HostCall Box name) (n : ℕ) → callGives bytes c ≡ some n → oneOf n (row name) ≡ true
+
+-- and each number of a row is given, by arguments that a host can pass
+abbrev pub GivesEach : {Box : Type 0} (bytes : Box → List ℕ) (row : CallName → List ℕ) → Type 0
+GivesEach {Box} bytes row =
+    (name : CallName) (n : ℕ) → oneOf n (row name) ≡ true
+    → (c : HostCall Box name) × (passable bytes c ≡ true) × (callGives bytes c ≡ some n)
+
+-- so a number is in a call's row exactly if some arguments give it
 abbrev pub NumberGiven : {Box : Type 0} (bytes : Box → List ℕ) (row : CallName → List ℕ) → Type 0
 NumberGiven {Box} bytes row =
-    (name : CallName) (n : ℕ) → (oneOf n (row name) ≡ true) ↔ ((c : HostCall Box name) × (given bytes c ≡ some n))
+    (name : CallName) (n : ℕ) → (oneOf n (row name) ≡ true) ↔ ((c : HostCall Box name) × (callGives bytes c ≡ some n))
+
+pub record RowsExact {Box : Type 0} (bytes : Box → List ℕ) (row : CallName → List ℕ) : Type 0 where
+  pub gives-only : GivesOnly bytes row
+  pub gives-each : GivesEach bytes row
+  pub number-given : NumberGiven bytes row
 
 -- the ceiling is 0 exactly if the check turns the sequence down
 abbrev pub CeilingRefuses : Type 0
 CeilingRefuses = (sequence : List ℕ) (readBack : ℕ) → (ceilingOf readBack (checked sequence readBack) ≡ 0) ↔ (checkOf sequence readBack ≢ 0)
 
--- THE NUMBERS of the 16 calls
+-- THE NUMBERS of the 16 calls: in boxes that calls reach from the empty one, and in every box, whatever its bytes
 pub record TableExact : Type 0 where
-  pub numbers-given : NumberGiven reachedBytes rowFor
-  pub numbers-anywhere : NumberGiven (λ (box : List ℕ). box) rowAnywhere
+  pub from-empty : RowsExact reachedBytes rowFor
+  pub anywhere : RowsExact (λ (box : List ℕ). box) rowAnywhere
   pub ceiling-refuses : CeilingRefuses
