@@ -11,7 +11,7 @@ use Rattle.tick.specs.Tick.{tickOf}
 use Rattle.demands.specs.Demands.{answerAfterwards}
 use Rattle.recordings.specs.Record.{recordLength}
 use Rattle.box_fillings.specs.Preview as fillings
-use Rattle.box_fillings.specs.Preview.{openCode, previewLength, everyIn, neverIn, wrongIn, sharedIn, Previewed, bufferAfter, previewOf}
+use Rattle.box_fillings.specs.Preview.{filled, openCode, previewLength, everyIn, neverIn, wrongIn, sharedIn, Previewed, bufferAfter, previewOf}
 use Rattle.box_fillings.specs.Claims.{PreviewIs, StaysShown, knowing}
 use Rattle.box_stretches.specs.Called.{called, number, memoryAfter, lentAfter, first}
 use Rattle.box_stretches.specs.Stretch.{lengthIn, sequenceIn, readBackIn, stateIn}
@@ -83,6 +83,15 @@ PreviewForesees call =
     → ((i : ℕ) → member i unknown ≡ false → member i e ≡ member i input)
     → Foreseen (first (lentAfter (call box bay (preview e unknown buffer)))) (first (lentAfter (call box bay (tick input answer trace))))
 
+-- both ways: where the tick of no filling is answered 19, the ten bytes are those of the bay's ticks on the fillings
+abbrev pub PreviewsTicks : Calling → Type 0
+PreviewsTicks call =
+    (box : List ℕ) (bay e unknown : ℕ) (buffer : List ℕ) → number (call box bay (preview e unknown buffer)) ≡ 0
+    → (answer trace : List ℕ) → length answer ≡ answerLength
+    → ((f : ℕ) → Subset f unknown → number (call box bay (tick (filled e unknown f) answer trace)) ≡ 0)
+    → PreviewIs (λ input. first (lentAfter (call box bay (tick input answer trace)))) e unknown
+    (first (lentAfter (call box bay (preview e unknown buffer))))
+
 -- where a preview is given, a tick with buffers of their lengths is an instant on every input, unless the ledger turns it down
 abbrev pub PreviewedTicks : Calling → Type 0
 PreviewedTicks call =
@@ -105,5 +114,6 @@ pub record PreviewDemands (call : Calling) : Type 0 where
   pub learning-stays : LearningStays call
   pub preview-numbers : PreviewNumbers call
   pub foresees : PreviewForesees call
+  pub previews-ticks : PreviewsTicks call
   pub previewed-ticks : PreviewedTicks call
   pub never-open : NeverOpen call

@@ -26,7 +26,7 @@ use Rattle.demands.specs.Demands.{answerAfterwards}
 use Rattle.demands.specs.Plain.{SameOutside}
 use Rattle.box_fillings.specs.Preview.{filled, openCode, foundIn, findings, maxUnknown, previewLength, previewBytes, everyIn, neverIn, wrongIn, sharedIn, Previewed, previewed, number, bufferAfter, shownBy, answersOf, previewOf, Learned}
 use Rattle.box_fillings.specs.declared.Findings.{Findings}
-use Rattle.box_fillings.specs.Claims.{PreviewsAre, GivenOutweighed, knowing, LearningKeeps, PreviewErrors, FillingDemands}
+use Rattle.box_fillings.specs.Claims.{EachFilling, PreviewIs, PreviewsAre, GivenOutweighed, knowing, LearningKeeps, PreviewErrors, FillingDemands}
 use Rattle.box_fillings.proofs.Gathering.{learned, learned-one, findings-alike, findings-none, as-filled, within, every-filling, emits, misses, shares}
 use Rattle.box_fillings.proofs.Alike.{read-back-bytes}
 use Rattle.box_fillings.proofs.Codes as codes
@@ -266,8 +266,45 @@ previews-are sequence state readBack answer long a input unknown buffer z =
       none-wrong = none-wrong sequence state readBack answer long a input unknown buffer z;
       shared-code = shared-code sequence state readBack answer long a input unknown buffer z;
       none-shared = none-shared sequence state readBack answer long a input unknown buffer z;
-      never-open = never-open sequence state readBack answer long a input unknown buffer z;
+      never-open = λ f s. never-open sequence state readBack answer long a input unknown buffer z (filled input unknown f);
     }
+
+-- the claims go by the answers to fillings alone
+module _ (answers answers′ : ℕ → List ℕ) (input unknown : ℕ) {shown : List ℕ}
+    (same : (f : ℕ) → Subset f unknown → answers (filled input unknown f) ≡ answers′ (filled input unknown f)) (p : PreviewIs answers input unknown shown) where
+  to : (P : List ℕ → Type 0) → EachFilling answers input unknown P → EachFilling answers′ input unknown P
+  to P k f s = subst P (same f s) (k f s)
+
+  fro : (P : List ℕ → Type 0) → EachFilling answers′ input unknown P → EachFilling answers input unknown P
+  fro P k f s = subst P (sym (same f s)) (k f s)
+
+  pub shown-alike : PreviewIs answers′ input unknown shown
+  shown-alike =
+      record {
+        ten = p .ten;
+        every-group = λ i. (
+          λ h. let w = p .every-group i .0 h in (w .0, to (λ x. member i (emittedIn x) ≡ true) (w .1)),
+          λ w. p .every-group i .1 (w .0, fro (λ x. member i (emittedIn x) ≡ true) (w .1)),
+        );
+        never-group = λ i. (
+          λ h. let w = p .never-group i .0 h in (w .0, to (λ x. member i (emittedIn x) ≡ false) (w .1)),
+          λ w. p .never-group i .1 (w .0, fro (λ x. member i (emittedIn x) ≡ false) (w .1)),
+        );
+        some-wrong = (
+          λ h. let r = p .some-wrong .0 h in (r .0, r .1, ap codeIn (sym (same (r .0) (r .1))) ∙ r .2),
+          λ r. p .some-wrong .1 (r .0, r .1, ap codeIn (same (r .0) (r .1)) ∙ r .2),
+        );
+        none-wrong = (λ h. to (λ x. codeIn x ≢ 255) (p .none-wrong .0 h), λ w. p .none-wrong .1 (fro (λ x. codeIn x ≢ 255) w));
+        shared-code = λ k o. (
+          λ h. to (λ x. codeIn x ≡ k) (p .shared-code k o .0 h),
+          λ w. p .shared-code k o .1 (fro (λ x. codeIn x ≡ k) w),
+        );
+        none-shared = (
+          λ h s. p .none-shared .0 h (s .0, fro (λ x. codeIn x ≡ s .0) (s .1)),
+          λ n. p .none-shared .1 (λ s. n (s .0, to (λ x. codeIn x ≡ s .0) (s .1))),
+        );
+        never-open = to (λ x. codeIn x ≢ openCode) (p .never-open);
+      }
 
 pub given-outweighed : GivenOutweighed previewOf
 given-outweighed sequence state readBack = status-outweighed sequence state readBack
@@ -299,4 +336,4 @@ preview-errors =
 
 pub filling-demands : FillingDemands previewOf
 filling-demands =
-    record { previews-are = previews-are; given-outweighed = given-outweighed; learning-keeps = learning-keeps; preview-errors = preview-errors }
+    record { previews-are = previews-are; given-outweighed = given-outweighed; learning-keeps = learning-keeps; preview-errors = preview-errors; no-instant-open = codes.never-open }

@@ -36,7 +36,7 @@ pub record PreviewIs (answers : ℕ → List ℕ) (input unknown : ℕ) (shown :
   -- 'the code if all fillings share it, else 254 for "open"': no answer has the code 254
   pub shared-code : (k : ℕ) → k ≢ openCode → (sharedIn shown ≡ k) ↔ EachFilling answers input unknown (λ x. codeIn x ≡ k)
   pub none-shared : (sharedIn shown ≡ openCode) ↔ (¬ ((k : ℕ) × EachFilling answers input unknown (λ x. codeIn x ≡ k)))
-  pub never-open : (e : ℕ) → codeIn (answers e) ≢ openCode
+  pub never-open : EachFilling answers input unknown (λ x. codeIn x ≢ openCode)
 
 -- with the answers of the tick from the same state
 abbrev pub PreviewsAre : Previewing → Type 0
@@ -84,9 +84,16 @@ pub record PreviewErrors (preview : Previewing) : Type 0 where
       → (maxUnknown < length (membersFrom signalCount 0 unknown) → preview sequence state input unknown readBack buffer ≡ previewed 17 buffer)
       × (length (membersFrom signalCount 0 unknown) ≤ maxUnknown → number (preview sequence state input unknown readBack buffer) ≡ 0)
 
+-- no instant has the code 254
+abbrev pub NoInstantOpen : Type 0
+NoInstantOpen =
+    (sequence state : List ℕ) (e readBack : ℕ) (answer : List ℕ) → demands.number (tickOf sequence state e readBack answer) ≡ 0
+    → codeIn (answerAfterwards (tickOf sequence state e readBack answer)) ≢ openCode
+
 -- ITEM 11
 pub record FillingDemands (preview : Previewing) : Type 0 where
   pub previews-are : PreviewsAre preview
   pub given-outweighed : GivenOutweighed preview
   pub learning-keeps : LearningKeeps preview
   pub preview-errors : PreviewErrors preview
+  pub no-instant-open : NoInstantOpen

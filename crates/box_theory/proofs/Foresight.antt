@@ -15,7 +15,7 @@ use Rattle.demands.specs.Demands as demands
 use Rattle.demands.specs.Demands.{answerAfterwards}
 use Rattle.demands.proofs.Demand2 as demand
 use Rattle.box_fillings.specs.Preview as fillings
-use Rattle.box_fillings.specs.Preview.{Previewed, previewOf}
+use Rattle.box_fillings.specs.Preview.{filled, Previewed, previewOf}
 use Rattle.box_fillings.specs.Claims.{PreviewIs, StaysShown, knowing}
 use Rattle.box_fillings.proofs.Codes as codes
 use Rattle.box_fillings.proofs.Theorems as previews
@@ -23,7 +23,7 @@ use Rattle.box_stretches.specs.Called.{Called, called, number, memoryAfter, len
 use Rattle.box_stretches.specs.Stretch.{stretchLength, isEmpty, sequenceIn, readBackIn, stateIn}
 use Rattle.box_stretches.specs.BayCalls.{stretchKept, bayPreviewOf}
 use Rattle.box_calls.specs.Box.{bayCount, boxLength, stretchOf, tick, preview, inBox, callOf}
-use Rattle.box_calls.specs.Previews.{MachineStays, TenBytes, StatusOutweighed, LearningStays, Foreseen, PreviewForesees, PreviewedTicks, NeverOpen, PreviewDemands}
+use Rattle.box_calls.specs.Previews.{MachineStays, TenBytes, StatusOutweighed, LearningStays, Foreseen, PreviewForesees, PreviewsTicks, PreviewedTicks, NeverOpen, PreviewDemands}
 use Rattle.box_fields.proofs.Fields.{state-sized}
 use Rattle.box_theory.proofs.Ticks.{tick-number, like-buffer}
 use Rattle.box_theory.proofs.Previews.{preview-number}
@@ -98,6 +98,15 @@ ten-bytes box bay e unknown buffer n answer a =
     (previews.previews-are (sequenceIn s) (stateIn s) (readBackIn s) answer (state-sized s (sized box bay e unknown buffer n)) a e unknown buffer
     (own-given box bay e unknown buffer n))
 
+-- and by the bay's own ticks
+pub previews-ticks : PreviewsTicks callOf
+previews-ticks box bay e unknown buffer n answer trace a all =
+    let s = stretchOf bay box in
+    previews.shown-alike (λ input. answerAfterwards (tickOf (sequenceIn s) (stateIn s) input (readBackIn s) answer))
+    (λ input. first (lentAfter (callOf box bay (tick input answer trace)))) e unknown
+    (λ f m. sym (own-answer box bay (filled e unknown f) answer trace (all f m)))
+    (ten-bytes box bay e unknown buffer n answer a)
+
 -- ---- 'which outweighs the status given for them'
 pub status-outweighed : StatusOutweighed callOf
 unfolding callOf bayPreviewOf
@@ -152,6 +161,7 @@ preview-demands =
       learning-stays = learning-stays;
       preview-numbers = preview-numbers;
       foresees = foresees;
+      previews-ticks = previews-ticks;
       previewed-ticks = previewed-ticks;
       never-open = never-open;
     }
