@@ -13,11 +13,11 @@ from pathlib import Path
 
 ROOT = Path(__file__).resolve().parent.parent
 FIRST, FOLDER = "docs/DEMANDS.md", "docs/demands"
-NAME = r"(?:D[1-3]|I(?:1[0-4]|[1-9])|U[1-4]|[RFCSP])\.\d+"
+NAME = r"(?:D[1-3]|I(?:1[0-4]|[1-9])|U[1-4]|[RFCSPBN])\.\d+"
 CITED = re.compile(rf"(?<![\w.]){NAME}(?![\w.]*\w)")
 LETTERS = {  # how a heading begins, and the letter and number of its rows
     "Demand 1": "D1", "Demand 2": "D2", "Demand 3": "D3", "The rows of 'Turned down'": "R", "The language forms": "F",
-    "01's checklist": "C", "Second runs": "S", "The run program": "P", "In the users' hands": "U1", "The fitter": "U2",
+    "01's checklist": "C", "The box on paper": "B", "The numbers that a call can give": "N", "Second runs": "S", "The run program": "P", "In the users' hands": "U1", "The fitter": "U2",
     "The planner": "U3", "Who carries on": "U4", **{f"02, item {number}:": f"I{number}" for number in range(1, 15)},
 }
 ROWS = [1, 2, 3, 4, 5, 18, 6, 7, 8, 9, 10, 11, 12]  # of 'Turned down', in the order in which they are checked

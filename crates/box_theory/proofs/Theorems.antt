@@ -83,7 +83,7 @@ box-by-labels = paper-boxes.box-by-labels
 pub held-on-paper : HeldOnPaper callOf
 held-on-paper = paper-boxes.held-on-paper
 
--- THE CERTIFICATE, 'tank and ledger agree within limits': every reading of a ledger is certified for what the paper delivered
+-- THE CERTIFICATE, "tank and ledger agree within limits": every reading of a ledger is certified for what the paper delivered
 pub readings-certified : ReadingsCertified callOf
 readings-certified = certificates.readings-certified
 
