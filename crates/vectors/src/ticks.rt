@@ -1,4 +1,7 @@
 // Machines that tick on given inputs, and the lines of their calls.
+ghost use mathlib.Core.Path.{_≡_};
+ghost use mathlib.Core.Logic.{_⊎_};
+ghost use Rattle.vectors_room.specs.Room.{holds, zeroed, malformedCount};
 use crate::vector::Vector;
 use crate::vector::malformed;
 use vectors_digits::NONE;
@@ -87,13 +90,9 @@ fn tick(vector: Vector, before: Bytes, answer_length: usize, instant: u64, input
 
 // A machine: a call for each input that the line names from `from` on. Answers the vector, or a
 // malformed one where one of them is no input.
-pub fn run(
-    line: &[u8],
-    from: usize,
-    vector: Vector,
-    record: Bytes,
-    answer_length: usize,
-) -> Vector {
+pub fn run(line: &[u8], from: usize, vector: Vector, record: Bytes, answer_length: usize) -> Vector
+    ensures { λ r. ⌜ (r ≡ vector) ⊎ (holds (r .sequence) ≡ zeroed malformedCount) ⌝ }
+{
     let mut state = record;
     let mut at = from;
     let mut instant: u64 = 0;

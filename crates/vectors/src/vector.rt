@@ -1,4 +1,6 @@
 // What the lines of a vector gave so far.
+ghost use mathlib.Core.Path.{_≡_};
+ghost use Rattle.vectors_room.specs.Room.{holds, zeroed, malformedCount};
 use vectors_room::Bytes;
 use vectors_room::MALFORMED;
 use vectors_room::zeros;
@@ -10,7 +12,9 @@ pub struct Vector {
 }
 
 // A vector before its first line: no bytes, and nothing is read back.
-pub fn fresh() -> Vector {
+pub fn fresh() -> Vector
+    ensures { λ r. ⌜ (holds (r .sequence) ≡ zeroed 0) × (r .«read_back» ≡ 0) ⌝ }
+{
     Vector {
         sequence: zeros(0),
         read_back: 0,
@@ -18,7 +22,9 @@ pub fn fresh() -> Vector {
 }
 
 // What a malformed line leaves.
-pub fn malformed() -> Vector {
+pub fn malformed() -> Vector
+    ensures { λ r. ⌜ (holds (r .sequence) ≡ zeroed malformedCount) × (r .«read_back» ≡ 0) ⌝ }
+{
     Vector {
         sequence: zeros(MALFORMED),
         read_back: 0,
@@ -26,7 +32,9 @@ pub fn malformed() -> Vector {
 }
 
 // The vector with another sequence.
-pub fn spelled(vector: Vector, sequence: Bytes) -> Vector {
+pub fn spelled(vector: Vector, sequence: Bytes) -> Vector
+    ensures { λ r. ⌜ (r .sequence ≡ sequence) × (r .«read_back» ≡ vector .«read_back») ⌝ }
+{
     Vector {
         sequence: sequence,
         read_back: vector.read_back,

@@ -1,5 +1,7 @@
 use borrow.Author.Needs.{needs}
 use Prim.Native.Nat.{_-_, _≤_}
+use mathlib.Core.Path.{refl}
+use mathlib.Core.Logic.{inl, inr}
 use lib.ListN.{length}
 use Rattle.vectors.proofs.ticks.run.Statement.{statement}
 use Rattle.vectors.proofs.ticks.run.Tie as tie
@@ -20,7 +22,7 @@ malformed-requires : tie.Need-malformed-requires Inv-loop μ-loop
 malformed-requires c κs = search needs
 
 returns : tie.Need-returns Inv-loop μ-loop
-returns c = search needs
+returns c = inr (c .malformed .ensures .0)
 
 add-instant : tie.Need-add-instant Inv-loop μ-loop
 add-instant c = search needs
@@ -38,7 +40,7 @@ loop-again : tie.Need-loop-again Inv-loop μ-loop
 loop-again c = search needs
 
 returns-2 : tie.Need-returns-2 Inv-loop μ-loop
-returns-2 c = search needs
+returns-2 c = inl refl
 
 pub run-spec : {M : Type 1} → statement M
 run-spec =
