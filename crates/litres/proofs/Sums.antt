@@ -16,7 +16,7 @@ use lib.Ieee.Casts.{toUnsigned-cut}
 use lib.Ieee as Ieee
 use lib.Ieee.Scale.{round-same}
 use Rattle.litres.proofs.Rounding.{rounded}
-use Rattle.litres.specs.Litres.{whole, litres, exact, ordered, Whole, IsNumber, Near, within}
+use Rattle.litres.specs.Litres.{whole, litres, exact, ordered, Whole, IsNumber, Near}
 
 -- ---- the sum of two whole numbers is their exact sum, rounded
 cross : (m u d n v e a b : ℕ) → m * u * 1 ≡ a * d → n * v * 1 ≡ b * e → (m * u * e + n * v * d) * 1 ≡ (a + b) * (d * e)
@@ -103,23 +103,6 @@ pub is-number : (x : Float) (n : ℕ) → HasValue x false n 1 → IsNumber x n
 is-number nan n v = v
 is-number (inf s) n v = v
 is-number (fin s m e) n v = (v .0, sym (mul-one (m * up e)) ∙ v .1)
-
--- what is near passes the test
-number-within : (k n : ℕ) (x : Float) (R : ℕ) → IsNumber x R → R ≤ n + k → n ≤ R + k → T (within k x n)
-unfolding within
-number-within k n nan R v a b = absurd v
-number-within k n (inf s) R v a b = absurd v
-number-within k n (fin true m e) R v a b = absurd (let z : true ≡ false = v .0 in let o : _≡_ {A = ℕ} 0 1 = cc in omega arith)
-number-within k n (fin false m e) R v a b =
-    let q : m * up e ≡ R * down e = v .1 in
-    and-i (leb (m * up e) ((n + k) * down e)) (leb (n * down e) (m * up e + k * down e))
-    (le→leb (m * up e) ((n + k) * down e) (subst (λ (y : ℕ). y ≤ (n + k) * down e) (sym q) (mul-le-mul-right (down e) a)))
-    (le→leb (n * down e) (m * up e + k * down e)
-    (subst (λ (y : ℕ). n * down e ≤ y + k * down e) (sym q)
-    (subst (λ (y : ℕ). n * down e ≤ y) (add-mul R k (down e)) (mul-le-mul-right (down e) b))))
-
-pub near-within : (k : ℕ) (x : Float) (n : ℕ) → Near k x n → T (within k x n)
-near-within k x n h = number-within k n x (h .number) (h .is-number) (h .not-above) (h .not-below)
 
 pub last : (t : Float) (S : ℕ) → Running t 32 S → Near 496 t S
 last t S r = record { number = r .0; is-number = is-number t (r .0) (r .1); not-above = r .3; not-below = r .4 }

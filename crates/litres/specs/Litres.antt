@@ -1,8 +1,8 @@
 -- Litres as single-precision numbers, over the values of the kit's `lib.Ieee`. Definitions only.
 use Prim.Native.Nat.{ℕ, zero, suc, _+_, _*_, _≤_, _<_}
 use mathlib.Core.Path.{_≡_}
-use mathlib.Core.Bool.{Bool, false, not, _&&_}
-use lib.Dec.{T, leb}
+use mathlib.Core.Bool.{Bool, false}
+use lib.Dec.{T}
 use lib.Ieee.{Float, nan, inf, fin, binary32, up, down, inUnsigned, toUnsigned, add}
 
 -- x is a whole number from 0 to 2 ^ 24, and not minus zero
@@ -27,8 +27,7 @@ ordered (suc n) f = add binary32 (ordered n f) (f (suc n))
 abbrev pub Whole : ℕ → (ℕ → Float) → Type 0
 Whole n f = (i : ℕ) → i < n → T (whole (f i))
 
--- x is the whole number n: finite, without a minus sign, and with no fraction (a finite x is m times 2 to the power e, which is
--- the fraction up e / down e)
+-- x is the whole number n: finite, with no minus sign and no fraction. A finite x is m times 2 to the power e, which is m * up e / down e
 abbrev pub IsNumber : Float → (n : ℕ) → Type 0
 IsNumber nan n = ⊥
 IsNumber (inf minus) n = ⊥
@@ -40,9 +39,3 @@ pub record Near (k : ℕ) (x : Float) (n : ℕ) : Type 0 where
   pub is-number : IsNumber x number
   pub not-above : number ≤ n + k
   pub not-below : n ≤ number + k
-
--- the same as a test, of numbers with a fraction too: x is finite, without a minus sign, and at most k away from n
-unfoldable pub within : ℕ → Float → ℕ → Bool
-within k nan n = false
-within k (inf s) n = false
-within k (fin s m e) n = not s && leb (m * up e) ((n + k) * down e) && leb (n * down e) (m * up e + k * down e)
