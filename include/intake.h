@@ -502,7 +502,8 @@ uint8_t intake_box_preview(const uint8_t *box, size_t box_length, uint32_t bay, 
  * intake_box_new_year clears it. In a box that these calls alone have written, a farm's total is the exact sum of its
  * deliveries since the last clearing, a whole number of at most INTAKE_FARM_LIMIT litres. A tick that would let the total of a
  * farm pass that gives INTAKE_ABOVE_FARM_LIMIT: it is no instant, and nothing is written, neither the state nor any farm's
- * total. The host may tick again with other inputs, or after a new year. Where the litres of one farm in one instant are more
+ * total. The host switches its outputs off, the pump first, since what is pumped then is in no ledger; it may tick again with
+ * other inputs, or after a new year. Where the litres of one farm in one instant are more
  * than INTAKE_FARM_LIMIT by themselves, no new year helps: from this state every tick with inputs that give those litres gives
  * it. If no other inputs are to be had, mend the sequence.
  *

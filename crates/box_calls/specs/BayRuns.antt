@@ -39,7 +39,8 @@ overTicks counts taken call bay =
     onTick rest (λ e answer trace. cond (counts (number (call box bay c))) (taken box e answer trace (call box bay c) ∷ rest) rest) c)
     call bay
 
--- 'In a bay a call answered 19 is no instant', and leaves all as it was: it is no tick of the list
+-- 'In a bay a call answered 19 is no instant', and leaves all as it was: it is no tick of the list; which
+-- ticks are answered 19 is Nineteen (Years)
 abbrev pub countsAsTick : (number : ℕ) → Bool
 countsAsTick n = not (eqb n 19)
 

@@ -37,7 +37,7 @@ Isolated call =
     × (stretchOf bay (boxAfter call emptyBox xs) ≡ stretchOf bay (boxAfter call emptyBox ys))
 
 -- 'only admission depends on them, through that sum': in two boxes with the same stretch of the bay, and for an admission the same
--- sum of the others' ceilings and its own, a call to the bay gives the same answer and stretch
+-- sum of the ceilings of those present, a call to the bay gives the same answer and stretch
 abbrev pub SumAlike : Call → (box box′ : List ℕ) → Type 0
 SumAlike c box box′ = (t : Terms) → c ≡ admit t → present bayCount box ≡ present bayCount box′
 

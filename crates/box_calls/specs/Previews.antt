@@ -58,7 +58,7 @@ LearningStays call =
     × StaysShown (first (lentAfter (call box bay (preview e unknown buffer))))
     (first (lentAfter (call box bay (preview (knowing u present e) (remove u unknown) buffer′))))
 
--- of a filled bay, the numbers of the preview: 1, then 2 to 12 and 18 of the tick, then 17
+-- of a filled bay, the number is that of previewOf, whose order is PreviewErrors: 1, then 2 to 12 and 18 of the tick, then 17
 abbrev pub PreviewNumbers : Calling → Type 0
 PreviewNumbers call =
     (box : List ℕ) → length box ≡ boxLength → (bay : ℕ) → bay < bayCount → lengthIn (stretchOf bay box) ≢ 0
@@ -83,7 +83,7 @@ PreviewForesees call =
     → ((i : ℕ) → member i unknown ≡ false → member i e ≡ member i input)
     → Foreseen (first (lentAfter (call box bay (preview e unknown buffer)))) (first (lentAfter (call box bay (tick input answer trace))))
 
--- both ways: where the tick of no filling is answered 19, the ten bytes are those of the bay's ticks on the fillings
+-- both ways: where the ticks of all fillings are answered 0, the ten bytes are those of their answers
 abbrev pub PreviewsTicks : Calling → Type 0
 PreviewsTicks call =
     (box : List ℕ) (bay e unknown : ℕ) (buffer : List ℕ) → number (call box bay (preview e unknown buffer)) ≡ 0

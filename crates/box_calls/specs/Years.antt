@@ -69,7 +69,7 @@ LedgerShows call =
     (box : List ℕ) (bay : ℕ) (totals : List ℕ) → number (call box bay (ledger totals)) ≡ 0
     → (reading : List ℕ) × (call box bay (ledger totals) ≡ called 0 box (reading ∷ [])) × ReadingIs (ledgerIn (stretchOf bay box)) reading
 
--- 'cleared only by a call for the new year', which clears the bay number's ledger and nothing else
+-- a new year clears the bay number's ledger and nothing else of its stretch; that it is 'cleared only by a call for the new year' is TotalsExact
 abbrev pub YearBegins : Calling → Type 0
 YearBegins call =
     (box : List ℕ) (bay : ℕ) → number (call box bay newYear) ≡ 0
@@ -102,7 +102,7 @@ Nineteen call =
     × (number (call box bay (tick e answer trace)) ≢ 19
     → number (call box bay (tick e answer trace)) ≡ ownNumber (stretchOf bay box) e answer trace)
 
--- 'Previews add nothing and never give 19': that they leave the box is PreviewShows
+-- 'Previews add nothing and never give 19': that they leave the box is MachineStays (Previews)
 abbrev pub PreviewsNeverNineteen : Calling → Type 0
 PreviewsNeverNineteen call =
     (box : List ℕ) (bay e unknown : ℕ) (buffer : List ℕ) → number (call box bay (preview e unknown buffer)) ≢ 19

@@ -2,17 +2,19 @@
 use Prim.Native.Nat.{ℕ, suc, _+_, _*_, _%_}
 use mathlib.Core.Bool.{not, _&&_, cond}
 use mathlib.Core.List.{List, [], _∷_}
-use lib.ListN.{replicate}
+use lib.ListN.{length, replicate}
+use lib.Dec.{eqb}
 use Rattle.limits.specs.Limits.{signalBytes}
+use Rattle.answers.specs.AnswerRecord.{answerLength}
 use Rattle.recordings.specs.Record.{recordLength}
 use Rattle.recordings.specs.Recording.{blank}
 use Rattle.box_parts.specs.Parts.{slot, put, zeros}
 use Rattle.box_positions.specs.Names.{isKnown}
 use Rattle.box_positions.specs.Table.{lookup}
 use Rattle.box_ledgers.specs.Ledgers.{ledgerLength, readingLength}
-use Rattle.box_stretches.specs.Called.{Called, called, number, memoryAfter, lentAfter}
+use Rattle.box_stretches.specs.Called.{Called, called, number, memoryAfter, lentAfter, first}
 use Rattle.box_stretches.specs.Stretch.{sequenceAt, readBackAt, bayLength, stretchLength, isEmpty, positionsIn, Terms}
-use Rattle.box_calls.specs.Box.{bayCount, stretchOf, Call, admit, release, tick, save, restore, ledger, callOf}
+use Rattle.box_calls.specs.Box.{bayCount, stretchOf, Call, admit, release, tick, save, restore, ledger, buffers, callOf}
 use Rattle.box_calls.specs.Lists.{Calling, Request}
 
 -- ---- calls to bay 0
@@ -73,6 +75,18 @@ besideReader =
     ∷ to (admit (alone waitsIfRead))
     ∷ to instant
     ∷ []
+
+-- ---- a ledger that nobody can read: each reading is turned down
+abbrev pub hidesLedger : Calling
+hidesLedger box bay c =
+    let o = callOf box bay c in cond (eqb (length (first (lentAfter o))) readingLength) (called 1 box (buffers c)) o
+
+-- ---- instants that tell the plant nothing: answer and record are 00, and the ledger is right
+abbrev pub tellsNothing : Calling
+tellsNothing box bay c =
+    let o = callOf box bay c in
+    cond (eqb (number o) 0 && eqb (length (first (lentAfter o))) answerLength)
+    (called 0 (memoryAfter o) (zeros answerLength ∷ zeros recordLength ∷ [])) o
 
 -- ---- a position after the delivery, and back to it: the total of a box that rewinds its ledger is then 0 (WrongLedgers)
 abbrev pub delivered : List ℕ

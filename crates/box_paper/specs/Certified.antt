@@ -5,18 +5,19 @@ use mathlib.Core.Path.{_≡_}
 use mathlib.Core.Bool.{cond}
 use mathlib.Core.Option.{Option, some, none}
 use mathlib.Core.List.{List, [], _∷_}
+use lib.ListN.{length}
 use lib.Dec.{eqb}
 use Rattle.limits.specs.Limits.{litresLimit}
 use Rattle.litres.specs.Litres.{IsNumber, Near}
 use Rattle.esterel.specs.States.{NoSetpause}
-use Rattle.box_ledgers.specs.Ledgers.{farmCount, fieldIn, readingFor, totalRead}
+use Rattle.box_ledgers.specs.Ledgers.{farmCount, readingLength, fieldIn, readingFor, totalRead}
 use Rattle.box_stretches.specs.Called.{number, lentAfter, first}
-use Rattle.box_calls.specs.Box.{emptyBox, Call, ledger, onTick, onNewYear}
+use Rattle.box_calls.specs.Box.{bayCount, emptyBox, Call, ledger, onTick, onNewYear}
 use Rattle.box_calls.specs.Lists.{Calling, Request, boxAfter}
 use Rattle.box_calls.specs.Shares.{AllSendable}
 use Rattle.box_calls.specs.Years.{sumOf}
 use Rattle.box_paper.specs.PaperBox.{BayMachine, byTerms, byLabelSets, PaperBay, PaperPlace, PaperBox, emptyPaper, Reported, ticked, replies, addsOn, paperCall}
-use Rattle.box_paper.specs.Reports.{Admitting}
+use Rattle.box_paper.specs.Reports.{Admitting, OnPaper, ByLabelSets}
 
 -- ---- what was delivered, on paper
 module _ {S T R : Type 0} (m : BayMachine S T R) where
@@ -66,7 +67,7 @@ pub record Certified (delivered : (farm : ℕ) → ℕ) (reading : List ℕ) : T
 
 -- AFTER EVERY LIST OF CALLS from the empty box, to whichever bays and turned down or not, with comings back, takings out, admissions, calls
 -- answered 19 and new years among them, every reading that is answered 0 is certified for what the paper delivered that rewrites; the
--- list's sequences are without setpause, sets and names are of 32 bits
+-- list's sequences that pass the check are without setpause, sets and saved names are of 32 bits
 abbrev pub ReadingsCertified : Calling → Type 0
 ReadingsCertified call =
     (xs : List Request) → AllSendable xs → Admitting NoSetpause xs → (bay : ℕ) (buffer : List ℕ)
@@ -79,3 +80,22 @@ ReadingsCertifiedByLabels call =
     (xs : List Request) → AllSendable xs → (bay : ℕ) (buffer : List ℕ)
     → number (call (boxAfter call emptyBox xs) bay (ledger buffer)) ≡ 0
     → Certified (deliveredOn byLabelSets bay xs) (first (lentAfter (call (boxAfter call emptyBox xs) bay (ledger buffer))))
+
+-- ---- THE CERTIFICATE
+-- the ledger of every bay number can be read at any time, filled or empty
+abbrev pub LedgersReadable : Calling → Type 0
+LedgersReadable call =
+    (xs : List Request) (bay : ℕ) → bay < bayCount → (buffer : List ℕ) → length buffer ≡ readingLength
+    → number (call (boxAfter call emptyBox xs) bay (ledger buffer)) ≡ 0
+
+-- the plant is told what the paper tells, a ledger can always be read, and every reading has what the paper delivered
+pub record Certificate (call : Calling) : Type 0 where
+  pub on-paper : OnPaper call
+  pub readable : LedgersReadable call
+  pub certified : ReadingsCertified call
+
+-- with setpause too
+pub record CertificateByLabels (call : Calling) : Type 0 where
+  pub by-labels : ByLabelSets call
+  pub readable : LedgersReadable call
+  pub certified : ReadingsCertifiedByLabels call

@@ -203,8 +203,8 @@ previewed-and-shown : paperReports byTerms emptyPaper (
 unfolding paperReports gathered findings both subsetsBelow allBelow difference common panelOf presentOn find without saveNamed forgetNamed ordered totalsBytes toBits ofInt add wouldPass following deliveredBy ofBits whole inUnsigned toUnsigned leBytes leNumber checked read front commandOf distinct wellFormed before everyLabel labelsOf subset disjoint membersFrom declaredBy commands loopNesting signalNesting ceiling reactBy errorsBy reactionsBy none only member join insert remove
 previewed-and-shown = refl
 
--- ---- item 12: 16,777,216 litres in every instant, then a pause: the second would pass the limit, and is no instant; nor is the tick of another
--- bay, nor that of a machine that is over. After the new year the second instant is the bay's number 2
+-- ---- item 12: 16,777,216 litres in every instant, then a pause: the second would pass the limit and is no instant; a preview does not ask the
+-- ledger. After the new year the second instant is the bay's number 2
 abbrev fills : List ℕ
 fills = 0x06 ∷ 0x04 ∷ 0x0C ∷ 0x02 ∷ 0x00 ∷ 0x00 ∷ 0x80 ∷ 0x4B ∷ 0x01 ∷ 0x00 ∷ []
 
@@ -266,7 +266,7 @@ unfolding paperReports presentOn find without saveNamed forgetNamed ordered tota
 shared = refl
 
 -- ---- the certificate: what was delivered to farm 2 since the last new year, across a coming back, a taking out and an admission; nothing by a
--- tick answered 19, 12 or 13, nothing under another bay number, and nothing of the year before
+-- tick answered 19 or 13, nothing under another bay number, and nothing of the year before
 abbrev sinceAdmission : List Request
 sinceAdmission =
     to 3 (instant 0)

@@ -46,8 +46,9 @@ abbrev pub answerSeen : Seen → List ℕ
 answerSeen (instant k x o n after) = answerRecord (codeByte k) (x .kind) (x .place) o n
 answerSeen refused = []
 
--- by rewriting: a position keeps the term. InstantTold is what demand 3 compares, once by the answer and once by the record, and between them
--- the number and the inputs of the record
+-- by rewriting: a position keeps the term that stands there when it is saved; 02 has 'rewriting started from the expansion of that set', which
+-- gives the same (TicksFromPosition). Told is what demand 3 compares, once by the answer and once by the record, and between them the number
+-- and the inputs of the record; the phase is in both that of the record's state, and labels are not compared
 pub data InstantTold : Type 0 where
   told : (answer : Report) (number inputs : ℕ) (recorded : Report) → InstantTold
 
@@ -56,6 +57,7 @@ termKept (Rewriting.fresh t) = none
 termKept (Rewriting.waits t) = some t
 termKept Rewriting.over = none
 
+-- a record has four bytes for the inputs; no signal is above 31
 abbrev pub byTerms : BayMachine Rewriting Statement InstantTold
 byTerms =
     record {
@@ -69,7 +71,7 @@ byTerms =
           told (report (outcome 0 (stateIn trace) answer)) (numberIn trace) (inputIn trace) (report (outcome 0 (stateIn trace) (answerIn trace)));
     }
 
--- by labels: a position keeps the label set. InstantTold are both buffers whole, the answer and the record
+-- by labels: a position keeps the label set, and what is told of an instant are both buffers whole, the answer and the record
 abbrev pub labelsKept : State → Option ℕ
 labelsKept State.fresh = none
 labelsKept (State.waits L) = some L

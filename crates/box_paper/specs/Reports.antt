@@ -15,12 +15,12 @@ use Rattle.box_positions.specs.Names.{find}
 use Rattle.box_positions.specs.Table.{lookup}
 use Rattle.box_ledgers.specs.Ledgers.{farmCount, totalIn}
 use Rattle.box_stretches.specs.Called.{Called, number, lentAfter, first}
-use Rattle.box_stretches.specs.Stretch.{lengthIn, sequenceIn, readBackIn, serviceOnlyIn, stateIn, lastNumberIn, positionsIn, ledgerIn, Terms}
+use Rattle.box_stretches.specs.Stretch.{lengthIn, sequenceIn, readBackIn, ceilingIn, serviceOnlyIn, stateIn, lastNumberIn, positionsIn, ledgerIn, Terms}
 use Rattle.box_calls.specs.Box.{bayCount, emptyBox, stretchOf, Call, admit, onTick}
 use Rattle.box_calls.specs.Lists.{Calling, Request, afterCall, boxAfter}
 use Rattle.box_calls.specs.Instants.{second}
 use Rattle.box_calls.specs.Shares.{AllSendable}
-use Rattle.box_paper.specs.PaperBox.{BayMachine, byTerms, byLabelSets, PaperBay, PaperBox, emptyPaper, Reported, ticked, replies, paperCall}
+use Rattle.box_paper.specs.PaperBox.{BayMachine, byTerms, byLabelSets, PaperBay, PaperBox, emptyPaper, Reported, ticked, replies, partOn, paperCall}
 
 abbrev pub isTick : Call → Bool
 isTick = onTick false (λ e answer trace. true)
@@ -54,8 +54,9 @@ Admitting For xs =
     (x : Request) → List·Memᴰ x xs → (t : Terms) → x .call ≡ admit t → checkOf (t .sequence) (t .readBack) ≡ 0
     → (p : Statement) → Spells (t .sequence) p → For p
 
--- THE BOX IS THE BOX ON PAPER: every call of every list from the empty box, turned down or not, to whichever bay, reports what the paper
--- does that rewrites a term for each bay. The list's sequences are without setpause; sets and names are of 32 bits
+-- EVERY CALL REPORTS WHAT THE PAPER REPORTS: every call of every list from the empty box, turned down or not, to whichever bay; the paper
+-- rewrites a term for each bay. The list's sequences that pass the check are without setpause; sets and saved names are of 32 bits. The
+-- labels in a record are compared in ByLabelSets alone
 abbrev pub OnPaper : Calling → Type 0
 OnPaper call =
     (xs : List Request) → AllSendable xs → Admitting NoSetpause xs
@@ -72,6 +73,7 @@ pub record BayHeld (s : List ℕ) (b : PaperBay State ℕ) : Type 0 where
   pub read-back : readBackIn s ≡ b .readBack
   pub service-only : serviceOnlyIn s ≡ b .serviceOnly
   pub state : stateIn s ≡ encodeState (b .machine)
+  pub part : ceilingIn s ≡ partOn (some b)
   pub last : lastNumberIn s ≡ b .last
   pub positions : (name : ℕ) → lookup name (positionsIn s) ≡ find name (b .positions)
 

@@ -239,6 +239,7 @@ same-held s z (alike.present h e t) =
       read-back = h .holds .set;
       service-only = h .holds .service;
       state = h .bytes ∙ ap encodeState (sym (h .at));
+      part = h .holds .part ∙ ap (ceilingOf (h .terms .readBack)) (h .accepted .is-checked);
       last = h .count;
       positions = λ name.
           h .agrees .alike name

@@ -22,13 +22,13 @@ use Rattle.box_calls.specs.Box.{bayCount, emptyBox, stretchOf, ledger, callOf}
 use Rattle.box_calls.specs.Lists.{Request, boxAfter}
 use Rattle.box_calls.specs.Years.{sumOf}
 use Rattle.box_theory.proofs.Stretches.{answered-inside}
-use Rattle.box_theory.proofs.Years.{ledger-shows}
+use Rattle.box_theory.proofs.Years.{ledger-shows, ledger-numbers, sized-after}
 use Rattle.box_paper.specs.PaperBox.{emptyPaper}
 use Rattle.box_paper.specs.Reports.{Admitting}
 use Rattle.box_calls.specs.Shares.{AllSendable}
-use Rattle.box_paper.specs.Certified.{deliveredOn, overFarms, Certified, ReadingsCertified, ReadingsCertifiedByLabels}
+use Rattle.box_paper.specs.Certified.{deliveredOn, overFarms, Certified, ReadingsCertified, ReadingsCertifiedByLabels, LedgersReadable, Certificate, CertificateByLabels}
 use Rattle.box_theory.proofs.PaperMachines.{Follows, terms-follow, labels-follow}
-use Rattle.box_theory.proofs.PaperBoxes.{totals-on, every-sequence}
+use Rattle.box_theory.proofs.PaperBoxes.{totals-on, every-sequence, box-on-paper, box-by-labels}
 use Rattle.box_theory.proofs.PaperAdmissions.{same-reading}
 use Rattle.box_theory.proofs.PaperDeliveries.{totals-are-sums}
 
@@ -79,3 +79,12 @@ readings-certified = certified terms-follow
 
 pub readings-certified-by-labels : ReadingsCertifiedByLabels callOf
 readings-certified-by-labels xs k = certified labels-follow xs k (every-sequence xs)
+
+readable : LedgersReadable callOf
+readable xs bay b buffer l = ledger-numbers (boxAfter callOf emptyBox xs) (sized-after xs) bay b .1 buffer .0 .1 l
+
+pub certificate : Certificate callOf
+certificate = record { on-paper = box-on-paper; readable = readable; certified = readings-certified }
+
+pub certificate-by-labels : CertificateByLabels callOf
+certificate-by-labels = record { by-labels = box-by-labels; readable = readable; certified = readings-certified-by-labels }

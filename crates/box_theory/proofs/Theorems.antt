@@ -44,7 +44,7 @@ use Rattle.box_theory.proofs.WrongPreviews as misleading
 use Rattle.box_examples.specs.WrongPreviews as foretold
 use Rattle.box_calls.specs.Years.{deliveredSince, SameYear, sumOf, TotalsExact, LedgerShows, YearBegins, LedgerNumbers, Nineteen, PreviewsNeverNineteen, LedgerDemands}
 use Rattle.box_paper.specs.Reports.{OnPaper, ByLabelSets, HeldOnPaper}
-use Rattle.box_paper.specs.Certified.{ReadingsCertified, ReadingsCertifiedByLabels}
+use Rattle.box_paper.specs.Certified.{ReadingsCertified, ReadingsCertifiedByLabels, Certificate, CertificateByLabels}
 use Rattle.box_theory.proofs.PaperBoxes as paper-boxes
 use Rattle.box_theory.proofs.PaperCertified as certificates
 use Rattle.box_examples.specs.WrongPaper as papers
@@ -68,9 +68,9 @@ use Rattle.box_theory.proofs.Returns as returns
 use Rattle.box_theory.proofs.Instants as instants
 use Rattle.box_theory.proofs.Years as years
 
--- ---- THE BOX IS THE BOX ON PAPER (box_paper/specs/PaperBox): over every list of calls from the empty box, those turned down and those to
--- all bays included
--- what every call reports is what the paper reports that rewrites a term for each bay; sequences without setpause
+-- ---- THE BOX ON PAPER (box_paper/specs/PaperBox): over every list of calls from the empty box, those turned down and those to all bays
+-- included
+-- what every call reports is what the paper reports that rewrites a term for each bay; sequences that pass the check are without setpause
 pub box-on-paper : OnPaper callOf
 box-on-paper = paper-boxes.box-on-paper
 
@@ -78,12 +78,12 @@ box-on-paper = paper-boxes.box-on-paper
 pub box-by-labels : ByLabelSets callOf
 box-by-labels = paper-boxes.box-by-labels
 
--- what the box holds is what that paper holds: the statement that was admitted, both sets, the machine, the number of the last instant, the
--- positions by name, and each farm's total
+-- what the box holds is what that paper holds: the statement that was admitted, both sets, its part of the ceiling, the machine, the number of
+-- the last instant, the positions by name, and each farm's total
 pub held-on-paper : HeldOnPaper callOf
 held-on-paper = paper-boxes.held-on-paper
 
--- THE CERTIFICATE, "tank and ledger agree within limits": every reading of a ledger is certified for what the paper delivered
+-- every reading of a ledger is certified for what the paper delivered
 pub readings-certified : ReadingsCertified callOf
 readings-certified = certificates.readings-certified
 
@@ -101,6 +101,19 @@ not-by-labels = (off-paper.not-changesSequence .1, off-paper.not-rewinds-on-pape
 
 pub not-certified : (¬ ReadingsCertified ledgers.rewinds) × (¬ ReadingsCertifiedByLabels ledgers.rewinds)
 not-certified = off-paper.not-rewinds-certified
+
+-- THE CERTIFICATE, "tank and ledger agree within limits": the plant is told what the paper tells, a ledger can always be read, and every
+-- reading has what the paper delivered; by rewriting where the sequences that pass the check are without setpause, and by labels of every list
+pub certificate : Certificate callOf
+certificate = certificates.certificate
+
+pub certificate-by-labels : CertificateByLabels callOf
+certificate-by-labels = certificates.certificate-by-labels
+
+-- refused: a ledger that nobody can read, and instants that tell the plant nothing
+pub no-certificate : (¬ Certificate papers.hidesLedger) × (¬ CertificateByLabels papers.hidesLedger) × (¬ Certificate papers.tellsNothing)
+    × (¬ CertificateByLabels papers.tellsNothing)
+no-certificate = (off-paper.not-hidesLedger .0, off-paper.not-hidesLedger .1, off-paper.not-tellsNothing .0, off-paper.not-tellsNothing .1)
 
 -- ---- every box, whatever its bytes
 -- 'A refused call changes nothing in the box', nor in the buffers that it was lent

@@ -45,11 +45,11 @@ use Rattle.box_calls.specs.Box.{emptyBox, present, Call, admit, release, save, 
 use Rattle.box_calls.specs.Lists.{Request, boxAfter}
 use Rattle.box_calls.specs.Shares.{AllSendable, none, each}
 use Rattle.box_calls.specs.Years.{sumOf}
-use Rattle.box_examples.specs.WrongPaper.{to, instant, reading, alone, emitsZero, changesSequence, backBefore, forgetsAtRelease, deliversFive, takenOut, readsBackNeighbour, waitsIfRead, besideReader, delivered, backBehind}
+use Rattle.box_examples.specs.WrongPaper.{to, instant, reading, alone, emitsZero, changesSequence, backBefore, forgetsAtRelease, deliversFive, takenOut, readsBackNeighbour, waitsIfRead, besideReader, hidesLedger, tellsNothing, delivered, backBehind}
 use Rattle.box_examples.specs.WrongLedgers.{rewinds}
 use Rattle.box_paper.specs.PaperBox.{InstantTold, told, Reported, ticked, replies, presentOn}
 use Rattle.box_paper.specs.Reports.{reports, paperReports, Admitting, OnPaper, ByLabelSets}
-use Rattle.box_paper.specs.Certified.{deliveriesOver, ReadingsCertified, ReadingsCertifiedByLabels}
+use Rattle.box_paper.specs.Certified.{deliveriesOver, ReadingsCertified, ReadingsCertifiedByLabels, Certificate, CertificateByLabels}
 use Rattle.box_theory.proofs.PaperCertified.{one-number}
 
 -- ---- what is reported of call i: the first buffer that an instant or a reader leaves, and the set that an instant emits by rewriting
@@ -211,3 +211,18 @@ not-rewinds-certified =
           let e : _≡_ {A = ℕ} 5 0 = one-number x 5 0 (h backBehind sent-behind 0 (replicate readingLength 0) refl .farm-exact 2 (omega arith)) (refl, refl) in
           omega arith,
     )
+
+-- ---- no certificate: a ledger that nobody can read, and instants that tell the plant nothing
+pub not-hidesLedger : (¬ Certificate hidesLedger) × (¬ CertificateByLabels hidesLedger)
+unfolding reports paperReports presentOn find without saveNamed callOf emptyBox present partOf vacated filled bayStepOf bayChargedOf wouldPass totalIn addedBelow deliveredBy ofBits whole inUnsigned toUnsigned bayTickOf following bayReleaseOf bayAdmitOf baySaveOf bayRestoreOf bayLedgerOf saveOf lookup place put zeros totalsBytes ordered add toBits ofInt leBytes leNumber tickBy checked read front commandOf distinct wellFormed before everyLabel labelsOf subset disjoint valid active activeLabels membersFrom declaredBy commands loopNesting signalNesting ceiling encodeState decodeState encodeAnswer expand reactBy errorsBy reactionsBy Sets.none only member join insert remove boxAfter
+not-hidesLedger = (
+  λ h. let e : _≡_ {A = ℕ} 1 0 = h .readable [] 0 (omega arith) (replicate readingLength 0) refl in omega arith,
+  λ h. let e : _≡_ {A = ℕ} 1 0 = h .readable [] 0 (omega arith) (replicate readingLength 0) refl in omega arith,
+)
+
+pub not-tellsNothing : (¬ Certificate tellsNothing) × (¬ CertificateByLabels tellsNothing)
+unfolding reports paperReports presentOn find without saveNamed callOf emptyBox present partOf vacated filled bayStepOf bayChargedOf wouldPass totalIn addedBelow deliveredBy ofBits whole inUnsigned toUnsigned bayTickOf following bayReleaseOf bayAdmitOf baySaveOf bayRestoreOf bayLedgerOf saveOf lookup place put zeros totalsBytes ordered add toBits ofInt leBytes leNumber tickBy checked read front commandOf distinct wellFormed before everyLabel labelsOf subset disjoint valid active activeLabels membersFrom declaredBy commands loopNesting signalNesting ceiling encodeState decodeState encodeAnswer expand reactBy errorsBy reactionsBy Sets.none only member join insert remove
+not-tellsNothing = (
+  λ h. let e : _≡_ {A = ℕ} 0 4 = ap (λ (rs : List (Reported InstantTold)). emittedOf (reportAt 1 rs)) (h .on-paper takenOut sent-out plain-out) in omega arith,
+  λ h. let e : _≡_ {A = ℕ} 0 4 = ap (λ (rs : List (Reported (List (List ℕ)))). emittedIn (bufferAt 1 rs)) (h .by-labels takenOut sent-out) in omega arith,
+)

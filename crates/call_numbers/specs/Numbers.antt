@@ -180,7 +180,7 @@ abbrev pub GivesOnly : {Box : Type 0} (bytes : Box → List ℕ) (row : CallName
 GivesOnly {Box} bytes row =
     (name : CallName) (c : HostCall Box name) (n : ℕ) → callGives bytes c ≡ some n → oneOf n (row name) ≡ true
 
--- and each number of a row is given, by arguments that a host can pass
+-- and each number of a row is given, by arguments that a host can pass; of the calls that made a box, what AllSendable asks
 abbrev pub GivesEach : {Box : Type 0} (bytes : Box → List ℕ) (row : CallName → List ℕ) → Type 0
 GivesEach {Box} bytes row =
     (name : CallName) (n : ℕ) → oneOf n (row name) ≡ true

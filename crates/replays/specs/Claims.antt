@@ -76,7 +76,7 @@ NothingAfterTheEnd replay =
     → (r : List ℕ) → getElem? (recordsIn recording) i ≡ some r → phaseIn (stateIn r) ≡ 2 → suc i < length (recordsIn recording)
     → replay sequence readBack recording ≡ replayed 0 (i + 2)
 
--- ---- what a fresh machine gives is accepted
+-- ---- what a fresh machine gives on inputs of 32 bits is accepted
 abbrev pub AcceptsRecordings : Replay → Type 0
 AcceptsRecordings replay =
     (sequence : List ℕ) (readBack : ℕ) → checkOf sequence readBack ≡ 0 → (inputs : List ℕ) → Inputs inputs

@@ -25,7 +25,7 @@ pub data Awaited : Type 0 where
 pub data Reached : Type 0 where
   at : (offset : ℕ) (awaited : List Awaited) → Reached
 
--- ---- rows 3 to 6 at one command: what is wrong where a statement is awaited and these bytes are left
+-- ---- rows 3 to 6 and 18 at one command: what is wrong where a statement is awaited and these bytes are left
 pub data Fault : List ℕ → Awaited → (number : ℕ) → Type 0 where
   -- command byte above 0C
   unknown : {s : Awaited} {b : ℕ} {bs : List ℕ} → lastCommand < b → Fault (b ∷ bs) s 3
@@ -70,7 +70,7 @@ Spells bs p = (bs ≡ bytesOf p) × Within maxDepth maxSignals p × PlacedAt 0 p
 pub data Row (bs : List ℕ) (readBack : ℕ) : (number : ℕ) → Type 0 where
   -- no bytes or over 1,024
   row-2 : (length bs ≡ 0) ⊎ (maxBytes < length bs) → Row bs readBack 2
-  -- rows 3 to 6 at the first command that is not sound
+  -- rows 3 to 6 and 18 at the first command that is not sound
   row-3-to-6 : (n : ℕ) {a number : ℕ} {s : Awaited} {awaited : List Awaited} → walk n bs ≡ some (at a (s ∷ awaited))
       → Fault (drop a bs) s number → Row bs readBack number
   -- 02, item 5: the bytes begin with a whole statement, and 'the declarations make the nesting of signals exceed six'
