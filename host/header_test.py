@@ -57,7 +57,8 @@ the machine is over
 the sequence ends within a command
 acted 1, stopped 1
 """
-# Around the page's host with a box: a bay that waits, then is wrong, beside one that ends; then each is over.
+# Around the page's host with a box: a bay that waits, then is wrong, beside one that ends; then each is over, and its outputs are off. A third
+# bay delivers 16,777,216 litres in each instant: the second is turned down, reported, and its outputs are off too.
 BOX_SURROUNDINGS = """
 #include "intake.h"
 #include <stdio.h>
@@ -73,6 +74,7 @@ int main(void)
 {{
     static const uint8_t wrong[] = {{0x04, 0x02, 0x01, 0x04, 0x01, 0x00, 0x08, 0x00, 0x07, 0x00, 0x00, 0x02, 0x00}};
     static const uint8_t ends[] = {{0x04, 0x01, 0x00, 0x02, 0x03}};
+    static const uint8_t fills[] = {{0x06, 0x04, 0x0C, 0x02, 0x00, 0x00, 0x80, 0x4B, 0x01, 0x00}};
     unsigned i;
     begin(0, wrong, sizeof wrong, 0);
     begin(1, ends, sizeof ends, 0);
@@ -84,6 +86,9 @@ int main(void)
     begin(0, wrong, sizeof wrong - 1, 0);
     begin(1, ends, sizeof ends, 0);
     instant(1);
+    begin(2, fills, sizeof fills, 0);
+    instant(2);
+    instant(2);
     return 0;
 }}
 """
@@ -93,8 +98,13 @@ BOX_SAID = """\
 1: emitted 0
 0: a signal that is emitted only if absent, place 6
 1: emitted 8
+0: emitted 0
+1: emitted 0
 0: the sequence ends within a command
 1: emitted 0
+2: emitted 4
+2: emitted 0
+2: the year total of a farm would pass 16,777,216 litres
 """
 
 # Around the page's store: a machine of two pauses in turn that is cut after each instant, the second time in the write itself.
