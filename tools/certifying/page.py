@@ -63,6 +63,21 @@ says what it means, and what it leaves open. The page is committed after the run
 | comparisons of the tests | {sum(count for name, count in gate.tests.items() if name != "rt"):,} |
 | last line of the gate | `{gate.last}` |
 
+## What is certified
+
+"tank and ledger agree within limits": the record `Certificate` (crates/box_paper/specs/Certified) and the theorem `certificate`
+(crates/box_theory/proofs/Theorems), over every list of calls from the empty box, those turned down and those to all bays included.
+
+- The plant is told what the paper of the fitters tells: every call reports what that paper reports.
+- The ledger of every bay number, filled or empty, can be read at any time.
+- In every reading answered 0 each farm's total is a whole number, exactly what the paper delivered to that farm since the bay number's last new
+  year, across comings back to a position, takings out, admissions and calls answered 19; it is at most 16,777,216 litres.
+- The ledger's total is a whole number within 496 litres of the exact sum of the 32 farms' totals.
+
+It is of lists whose accepted sequences have no setpause; `certificate-by-labels` says the same of every list, for what the machine that keeps a label
+set tells and delivers. An instant that is wrong delivers nothing. A call answered 19 is no instant: its litres are in no ledger, and the host must switch
+the outputs off, the pump first. That a litre on a signal is a litre in the tank is the plant's part, and no theorem's.
+
 ## The law
 
 01 as 02 changes it, over 003 and 002; [papers.txt](papers.txt) has their sums, and the run says whether it had the files beside it.
@@ -71,8 +86,8 @@ says what it means, and what it leaves open. The page is committed after the run
 |---|---|---|---|
 {law}
 
-Every sentence of them has a row in [DEMANDS](DEMANDS.md), with its definition, theorem, must-fail edit and test. A row is cited by its
-name:
+Every sentence of them has a row in [DEMANDS](DEMANDS.md), with its definition, theorem, must-fail edit and test; where a cell is empty there is
+none. A row is cited by its name:
 
 | Rows | Of | How many |
 |---|---|---|
