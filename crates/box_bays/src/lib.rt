@@ -17,9 +17,9 @@ use box_bays_fields::BAY_LENGTH;
 use box_bays_fields::COUNT_AT;
 use box_bays_fields::STATE_AT;
 use box_bays_fields::STRETCH_LENGTH;
-use box_ledgers::Deliveries;
 use instants::Reply;
 use limits::NUMBER_BYTES;
+use reaction::Deliveries;
 use reaction::Reaction;
 use recordings::PANEL_LENGTH;
 use recordings::RECORD_LENGTH;
@@ -73,7 +73,7 @@ fn step(stretch: &mut [u8], input: u32, answer: &mut [u8]) -> u8
         return 1;
     }
     let mut named: u32 = 0;
-    let mut litres: Deliveries = [0; box_ledgers::FARMS];
+    let mut litres: Deliveries = [0; limits::FARMS];
     match reply_with(stretch, input, &mut named, &mut litres) {
         Reply::Refused(number) => number,
         Reply::Reacted(reaction) => settle(stretch, answer, reaction, named, &litres),

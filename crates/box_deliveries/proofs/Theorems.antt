@@ -48,7 +48,7 @@ module _ (sequence state : List ℕ) (e readBack farms : ℕ) (litres bs : List 
   abbrev told : ℕ → ℕ
   told f = getD litres f 0
 
-  -- 19 is given by the exact sums
+  -- 19 is given by the exact litres
   pub passes-exactly : passes bs told ≡ passes bs exact
   passes-exactly = same-passes exact told farmCount (λ f. totalIn f bs) (d .1)
 

@@ -5,12 +5,12 @@ ghost use lib.ListN.{replicate};
 ghost use Rattle.instants.specs.Replies.{Replies};
 ghost use Rattle.box_ledgers.specs.Ledgers.{farmCount};
 ghost use Rattle.box_deliveries.specs.Delivering.{Delivers};
-use box_ledgers::Deliveries;
 use instants::Reply;
 use instants::Standing;
 use layout::SecondParts;
 use notes::Notes;
 use program::Start;
+use reaction::Deliveries;
 
 // What a call comes to before anything is written, the farms that its sequence names, and the litres of each farm, up to one more than
 // the limit. A call that is turned down by its check leaves `farms` as it was.
@@ -43,7 +43,6 @@ pub fn reply_with(
             Start::Fresh,
             input,
             read_back,
-            named,
             &second,
             litres,
         )),
@@ -52,7 +51,6 @@ pub fn reply_with(
             Start::Waiting(active),
             input,
             read_back,
-            named,
             &second,
             litres,
         )),

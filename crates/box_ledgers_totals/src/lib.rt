@@ -6,7 +6,6 @@ ghost use lib.Dec.{ltb};
 ghost use lib.ListN.{length, getD};
 ghost use Rattle.limits.specs.Limits.{litresLimit};
 ghost use Rattle.box_ledgers.specs.Ledgers.{farmCount, ledgerLength, totalIn, totalFloat, cleared, NoneOutside, passes, addedTo, added};
-use box_ledgers::Deliveries;
 use box_ledgers::FARMS;
 
 // A farm's total.
@@ -35,7 +34,7 @@ fn passes_at(ledger: &[u8], farm: usize, more: u32) -> bool
 }
 
 // Would a farm's total with its litres? Only the farms of a set have any.
-pub fn would_pass(ledger: &[u8], litres: &Deliveries, farms: u32) -> bool
+pub fn would_pass(ledger: &[u8], litres: &[u32; FARMS], farms: u32) -> bool
     requires { ⌜ NoneOutside farms (λ f. getD (now litres) f 0) ⌝ }
     ensures { λ r. ⌜ r ≡ passes (now (ledger .entry)) (λ f. getD (now (litres .entry)) f 0) ⌝ }
 {
@@ -65,7 +64,7 @@ fn add_to(ledger: &mut [u8], farm: usize, more: u32)
 }
 
 // The litres of an instant that pass no limit; only the farms of a set have any.
-pub fn add(ledger: &mut [u8], litres: &Deliveries, farms: u32)
+pub fn add(ledger: &mut [u8], litres: &[u32; FARMS], farms: u32)
     requires { ⌜ length (now ledger) ≡ ledgerLength ⌝ }
     requires { ⌜ passes (now ledger) (λ f. getD (now litres) f 0) ≡ false ⌝ }
     requires { ⌜ NoneOutside farms (λ f. getD (now litres) f 0) ⌝ }

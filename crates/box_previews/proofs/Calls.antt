@@ -6,7 +6,7 @@ use mathlib.Core.Logic.{_≢_}
 use mathlib.Core.List.{List}
 use lib.ListN.{length}
 use borrow.Author.Tests.{le-leb, lt-leb}
-use Rattle.limits.specs.Limits.{signalCount, noFarm}
+use Rattle.limits.specs.Limits.{signalCount}
 use Rattle.sets.specs.Sets.{difference, membersFrom}
 use Rattle.esterel.specs.Traced.{startTraced, instantOf}
 use Rattle.sequence.specs.Program.{program}
@@ -44,13 +44,13 @@ module _ (answers : ℕ → List ℕ) (input unknown : ℕ) (buffer : List ℕ) 
 -- ---- from an origin, whatever the input, the machine reacts
 module _ (sequence state : List ℕ) (readBack : ℕ) {second notes : List ℕ} (a : Passed sequence readBack second notes) where
   abbrev pub Reacts : Start → Type 0
-  Reacts origin = (e : ℕ) → Replies sequence state e readBack (Reacted (reactionOf (startTraced noFarm (program readBack (termAt origin (a .p))) e)))
+  Reacts origin = (e : ℕ) → Replies sequence state e readBack (Reacted (reactionOf (startTraced 0 (program readBack (termAt origin (a .p))) e)))
 
   pub from-fresh : Decodes (a .p) state stands.Fresh → Reacts Fresh
-  from-fresh d e = fresh-reply sequence state e readBack (a .p) (a .is) (a .ranged) noFarm _ d refl
+  from-fresh d e = fresh-reply sequence state e readBack (a .p) (a .is) (a .ranged) 0 _ d refl
 
   pub from-waiting : (m : Labels) → Decodes (a .p) state (stands.Waiting m) → Reacts (Waiting m)
-  from-waiting m d e = waiting-reply sequence state e readBack (a .p) (a .is) (a .ranged) noFarm _ m d refl
+  from-waiting m d e = waiting-reply sequence state e readBack (a .p) (a .is) (a .ranged) 0 _ m d refl
 
   pub stands-at : (origin : Start) → Reacts origin → Stands second sequence origin readBack
   stands-at origin r = record { p = a .p; lies = a .known .lies; ready = as-ready a; writable = λ e. r e .writable }
@@ -59,35 +59,35 @@ module _ (sequence state : List ℕ) (readBack : ℕ) {second notes : List ℕ} 
     -- what is written from the code's instant and from the reply's is one record
     answers-from : answersAt origin (a .p) readBack e ≡ answersOf sequence state readBack e
     answers-from =
-        let t = startTraced noFarm (program readBack (termAt origin (a .p))) e in
+        let t = startTraced 0 (program readBack (termAt origin (a .p))) e in
         let (t′, h, k) = r e .is in
         sym (written-answer (instantOf t)) ∙ ap answerAfterwards (sym (written-from t) ∙ ap writtenFrom h ∙ written-from t′)
         ∙ written-answer (instantOf t′) ∙ sym (ap answerIn k)
 
 -- ---- the call
 module _ (sequence state : List ℕ) (input unknown readBack : ℕ) (buffer : List ℕ) where
-  abbrev Gives : Previewed → Type 0
-  Gives o = o ≡ previewOf sequence state input unknown readBack buffer
+  abbrev Represents : Previewed → Type 0
+  Represents o = o ≡ previewOf sequence state input unknown readBack buffer
 
-  pub other-buffer : length buffer ≢ previewLength → Gives (previewed 1 buffer)
+  pub other-buffer : length buffer ≢ previewLength → Represents (previewed 1 buffer)
   other-buffer z = sym (numbers.other-buffer sequence state readBack input unknown buffer z)
 
   module _ (sized : length buffer ≡ previewLength) where
-    turned-down : (n : ℕ) → Replies sequence state (difference input unknown) readBack (Refused n) → Gives (previewed n buffer)
+    turned-down : (n : ℕ) → Replies sequence state (difference input unknown) readBack (Refused n) → Represents (previewed n buffer)
     turned-down n h = sym (refused-preview sequence state readBack input unknown buffer sized n (h .is))
 
-    pub unchecked-preview : (n : ℕ) → n ≡ checkOf sequence readBack → n ≢ 0 → Gives (previewed n buffer)
+    pub unchecked-preview : (n : ℕ) → n ≡ checkOf sequence readBack → n ≢ 0 → Represents (previewed n buffer)
     unchecked-preview n h z = turned-down n (refused sequence state (difference input unknown) readBack n h z)
 
     module _ {second notes : List ℕ} (a : Passed sequence readBack second notes) where
-      pub malformed-preview : Decodes (a .p) state stands.Malformed → Gives (previewed 11 buffer)
+      pub malformed-preview : Decodes (a .p) state stands.Malformed → Represents (previewed 11 buffer)
       malformed-preview d = turned-down 11 (malformed-reply sequence state (difference input unknown) readBack (a .p) (a .is) (a .ranged) d)
 
-      pub over-preview : Decodes (a .p) state stands.Over → Gives (previewed 12 buffer)
+      pub over-preview : Decodes (a .p) state stands.Over → Represents (previewed 12 buffer)
       over-preview d = turned-down 12 (over-reply sequence state (difference input unknown) readBack (a .p) (a .is) (a .ranged) d)
 
       pub shown-preview : (origin : Start) → Reacts sequence state readBack a origin → (o : Previewed)
-          → o ≡ shownBy (answersAt origin (a .p) readBack) input unknown buffer → Gives o
+          → o ≡ shownBy (answersAt origin (a .p) readBack) input unknown buffer → Represents o
       shown-preview origin r o h =
           let (t, e, k) = r (difference input unknown) .is in
           h ∙ ap (λ (f : ℕ → List ℕ). shownBy f input unknown buffer) (λ i e. answers-from sequence state readBack a origin r e i)

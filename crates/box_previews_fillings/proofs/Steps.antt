@@ -3,7 +3,7 @@ use Prim.Native.Nat.{ℕ, _+_, _^_, _≤_, _<_}
 use native.Mathlib.Omega.{arith}
 use mathlib.Core.Path.{_≡_, sym, ap, ap₂, _∙_, subst}
 use mathlib.Core.List.{List}
-use Rattle.limits.specs.Limits.{signalBytes, noFarm}
+use Rattle.limits.specs.Limits.{signalBytes}
 use Rattle.sets.specs.Sets.{join, difference}
 use Rattle.sets.specs.Subsets.{nextSubset, subsetsBelow}
 use Rattle.sets.proofs.Subsets.{subsets-step, subsets-end}
@@ -52,12 +52,12 @@ module _ (o L m : ℕ) (h : o < 256 ^ signalBytes) where
 
 -- a reaction of the program from an origin
 pub tried-is : (origin : Start) (p : Statement) (readBack e : ℕ) (r : Reaction) (x : Findings)
-    → r ≡ reactionOf (startTraced noFarm (program readBack (termAt origin p)) e) → x ≡ foundIn (answerAfterwards (writtenFrom r))
+    → r ≡ reactionOf (startTraced 0 (program readBack (termAt origin p)) e) → x ≡ foundIn (answerAfterwards (writtenFrom r))
     → x ≡ foundIn (answersAt origin p readBack e)
 tried-is origin p readBack e r x h q =
     let t = program readBack (termAt origin p) in
     q ∙ ap (λ (w : Reaction). foundIn (answerAfterwards (writtenFrom w))) h
-    ∙ ap (λ (o : Outcome). foundIn (answerAfterwards o)) (written-from (startTraced noFarm t e))
+    ∙ ap (λ (o : Outcome). foundIn (answerAfterwards o)) (written-from (startTraced 0 t e))
     ∙ ap foundIn (written-answer (start t e))
 
 -- ---- the loop

@@ -1,15 +1,14 @@
 -- A preview from an origin of the statement that lies in the bytes (program, specs/Program): the form for the code.
 use Prim.Native.Nat.{ℕ}
 use mathlib.Core.List.{List}
-use Rattle.limits.specs.Limits.{maxDepth, noFarm}
+use Rattle.limits.specs.Limits.{maxDepth}
 use Rattle.esterel.specs.Statement.{Statement}
 use Rattle.esterel.specs.Instants.{start}
-use Rattle.esterel.specs.Traced.{startTraced}
 use Rattle.sequence.specs.Program.{program}
 use Rattle.layout.specs.Layout.{Lies, Ready}
 use Rattle.program.specs.declared.Start.{Start}
 use Rattle.program.specs.Program.{termAt}
-use Rattle.reaction.specs.Reactions.{reactionOf}
+use Rattle.reaction.specs.Reactions.{reactionTo}
 use Rattle.writing.specs.Written.{Writable}
 use Rattle.answers.specs.AnswerRecord.{encodeAnswer}
 
@@ -21,7 +20,7 @@ pub record Stands (t bs : List ℕ) (origin : Start) (readBack : ℕ) : Type 0 w
   pub p : Statement
   pub lies : Lies t maxDepth 0 0 bs p
   pub ready : Ready t maxDepth 0 bs
-  pub writable : (e : ℕ) → Writable (reactionOf (startTraced noFarm (program readBack (termAt origin p)) e))
+  pub writable : (e : ℕ) → Writable (reactionTo (program readBack (termAt origin p)) e)
 
 -- something of every statement that lies there
 abbrev pub OfEach : (t bs : List ℕ) → (Statement → Type 0) → Type 0

@@ -29,7 +29,7 @@ fn tried(sequence: &[u8], second: &SecondParts, origin: Start, e: u32, read_back
     requires { ⌜ Stands (now second) (now sequence) origin «read_back» ⌝ }
     ensures { λ r. ⌜ OfEach (now (second .entry)) (now (sequence .entry)) (λ p. r ≡ foundIn (answersAt origin p «read_back» e)) ⌝ }
 {
-    found(program::react(sequence, origin, e, read_back, limits::NO_FARM, second))
+    found(program::react_without_litres(sequence, origin, e, read_back, second))
 }
 
 // Every filling, from the greatest down.

@@ -16,7 +16,6 @@ use Rattle.esterel.specs.Traced as Traces
 use Rattle.esterel.specs.Instants.{instant, ifWrong, signalNames}
 use Rattle.esterel.specs.Traced.{traced, signalTraced}
 use Rattle.theory.proofs.Rules.{either-wrong}
-use Rattle.theory.proofs.Litres.{passing-none}
 use Rattle.reaction.specs.declared.Reaction.{Reaction}
 use Rattle.declarations_cases.specs.declared.Choice.{Choice}
 use Rattle.declarations_cases.specs.declared.Choice.the-variants.{Both, Neither, OnlyMinus, OnlyPlus, Inherited}
@@ -25,7 +24,7 @@ use Rattle.completions.proofs.Completions.{code-of, greater-of}
 use Rattle.reaction.specs.Reactions.{reactionOf, failedWith}
 use Rattle.declarations_cases.specs.Choices.{choiceOf, caseIn}
 use Rattle.declarations_cases.proofs.Cases.{caseOf, same-case}
-use Rattle.declarations_runs.proofs.Runs.{unmoved, Counted, Noted, Passes, passed, none-passed}
+use Rattle.declarations_runs.proofs.Runs.{unmoved, Counted, Noted}
 use Rattle.reaction.proofs.Values.{kept-two, made}
 
 -- the tree of a case
@@ -66,36 +65,36 @@ Runs s p q b = isInherited (caseIn s p q) ≡ b
 
 abbrev InBoth : (f : ℕ) (sc : Scope) (b s : ℕ) (t u : Traces.Traced) (p q : Reaction) → Type 0
 InBoth f sc b s t u p q =
-    (o m a : ℕ) (g : Bool) → Runs s p q false → o ≡ outside sc s (q .emitted) → Counted p q m → Noted s p q a → Passes f sc s g
-    → _≡_ {A = Reaction} (record { emitted = o; labels = q .labels; completion = q .completion; reactions = m; asked = a; delivered = cond g 0 (q .delivered) })
+    (o m a : ℕ) → Runs s p q false → o ≡ outside sc s (q .emitted) → Counted p q m → Noted s p q a
+    → _≡_ {A = Reaction} (record { emitted = o; labels = q .labels; completion = q .completion; reactions = m; asked = a })
     (reactionOf (inCase both f sc b s t u))
 
 in-both : (f : ℕ) (sc : Scope) (b s : ℕ) (t u : Traces.Traced) → InBoth f sc b s t u (reactionOf t) (reactionOf u)
-in-both f sc b s (traced (instant (gives o− k− l− t−) x− n−) a− y−) (traced (instant (gives o+ k+ l+ t+) x+ n+) a+ y+) o m a g h e w i d =
+in-both f sc b s (traced (instant (gives o− k− l− t−) x− n−) a− y−) (traced (instant (gives o+ k+ l+ t+) x+ n+) a+ y+) o m a h e w i =
     made k+ Option.none (1 + n− + n+) (remove s (join a− a+)) (passing sc f s y+) e (stands-of l+)
     (unmoved k+ x+ Option.none
     (right-runs (member s o−) (member s o+) (isWrong k−) (isWrong k+) (rw (code-of k− x−, code-of k+ x+) at h) .1))
-    (w ∙ kept-two n− n+) i (passed f sc s g y+ d)
+    (w ∙ kept-two n− n+) i
 
 abbrev InNeither : (f : ℕ) (sc : Scope) (b s : ℕ) (t u : Traces.Traced) (p q : Reaction) → Type 0
 InNeither f sc b s t u p q =
-    (m a : ℕ) (g : Bool) → Runs s p q false → Counted p q m → Noted s p q a → Passes f sc s g
+    (m a : ℕ) → Runs s p q false → Counted p q m → Noted s p q a
     → _≡_ {A = Reaction}
-    (record { emitted = p .emitted; labels = p .labels; completion = p .completion; reactions = m; asked = a; delivered = cond g 0 (p .delivered) })
+    (record { emitted = p .emitted; labels = p .labels; completion = p .completion; reactions = m; asked = a })
     (reactionOf (inCase neither f sc b s t u))
 
 in-neither : (f : ℕ) (sc : Scope) (b s : ℕ) (t u : Traces.Traced) → InNeither f sc b s t u (reactionOf t) (reactionOf u)
-in-neither f sc b s (traced (instant (gives o− k− l− t−) x− n−) a− y−) (traced (instant (gives o+ k+ l+ t+) x+ n+) a+ y+) m a g h w i d =
+in-neither f sc b s (traced (instant (gives o− k− l− t−) x− n−) a− y−) (traced (instant (gives o+ k+ l+ t+) x+ n+) a+ y+) m a h w i =
     made k− Option.none (1 + n− + n+) (remove s (join a− a+)) (passing sc f s y−) refl (stands-of l−)
     (unmoved k− x− Option.none
     (right-runs (member s o−) (member s o+) (isWrong k−) (isWrong k+) (rw (code-of k− x−, code-of k+ x+) at h) .0))
-    (w ∙ kept-two n− n+) i (passed f sc s g y− d)
+    (w ∙ kept-two n− n+) i
 
 abbrev InInherited : (f : ℕ) (sc : Scope) (b s : ℕ) (t u : Traces.Traced) (p q : Reaction) → Type 0
 InInherited f sc b s t u p q =
     (m a : ℕ) → Runs s p q true → Counted p q m → Noted s p q a
     → _≡_ {A = Reaction}
-    (record { emitted = none; labels = labelsWith none; completion = greaterOf (p .completion) (q .completion); reactions = m; asked = a; delivered = 0 })
+    (record { emitted = none; labels = labelsWith none; completion = greaterOf (p .completion) (q .completion); reactions = m; asked = a })
     (reactionOf (inCase inherited f sc b s t u))
 
 in-inherited : (f : ℕ) (sc : Scope) (b s : ℕ) (t u : Traces.Traced) → InInherited f sc b s t u (reactionOf t) (reactionOf u)
@@ -103,17 +102,17 @@ in-inherited f sc b s (traced (instant (gives o− k− l− t−) x− n−) a�
     let v = wrong-runs (member s o−) (member s o+) (isWrong k−) (isWrong k+) (rw (code-of k− x−, code-of k+ x+) at h) in
     made wrong (ifWrong k− x− x+) (1 + n− + n+) (remove s (join a− a+)) (passing sc f s 0) refl (stands-of none)
     (greater-of k− k+ x− x+ ∙ ap (λ (k : Code). completionOf k (ifWrong k− x− x+)) (either-wrong k− k+ v))
-    (w ∙ kept-two n− n+) i (none-passed f sc s)
+    (w ∙ kept-two n− n+) i
 
 -- a case of the signal's own error
 abbrev InFailed : (d : Case) (f : ℕ) (sc : Scope) (b s : ℕ) (t u : Traces.Traced) (p q : Reaction) → Type 0
 InFailed d f sc b s t u p q =
     (x : Error) (m a : ℕ) → ((r− r+ : rules.Reaction) → answer d sc b s r− r+ ≡ failed) → ((y : Option Error) → signalNames d b y ≡ some x)
-    → ((y− y+ : ℕ) → litres.chosen d y− y+ ≡ 0) → Counted p q m → Noted s p q a → failedWith x m a ≡ reactionOf (inCase d f sc b s t u)
+    → Counted p q m → Noted s p q a → failedWith x m a ≡ reactionOf (inCase d f sc b s t u)
 
 in-failed : (d : Case) (f : ℕ) (sc : Scope) (b s : ℕ) (t u : Traces.Traced) → InFailed d f sc b s t u (reactionOf t) (reactionOf u)
-in-failed d f sc b s (traced (instant (gives o− k− l− t−) x− n−) a− y−) (traced (instant r+ x+ n+) a+ y+) x m a h n z w i =
-    rw (h (gives o− k− l− t−) r+, n (ifWrong k− x− x+), z y− y+, passing-none sc f s, w, kept-two n− n+, i)
+in-failed d f sc b s (traced (instant (gives o− k− l− t−) x− n−) a− y−) (traced (instant r+ x+ n+) a+ y+) x m a h n w i =
+    rw (h (gives o− k− l− t−) r+, n (ifWrong k− x− x+), w, kept-two n− n+, i)
 
 module _ (f : ℕ) (sc : Scope) (b s : ℕ) (t u : Traces.Traced) (p q : Reaction) (p-is : p ≡ reactionOf t) (q-is : q ≡ reactionOf u)
     (v : Choice) (fits : v ≡ choiceOf (caseIn s p q)) (m a : ℕ) (counted : Counted p q m) (noted : Noted s p q a) where
@@ -124,22 +123,22 @@ module _ (f : ℕ) (sc : Scope) (b s : ℕ) (t u : Traces.Traced) (p q : Reactio
   chosen d h =
       sym (ap reactionOf (as-fits f sc b s t u ∙ ap (λ (c : Case). inCase c f sc b s t u) (rw (p-is, q-is) at (fit-is d h))))
 
-  pub signal-both : v ≡ Both → (g : Bool) {o d : ℕ} {r : Reaction} → o ≡ outside sc s (q .emitted) → Passes f sc s g → d ≡ cond g 0 (q .delivered)
-      → r ≡ record { emitted = o; labels = q .labels; completion = q .completion; reactions = m; asked = a; delivered = d }
+  pub signal-both : v ≡ Both → {o : ℕ} {r : Reaction} → o ≡ outside sc s (q .emitted)
+      → r ≡ record { emitted = o; labels = q .labels; completion = q .completion; reactions = m; asked = a }
       → r ≡ reactionOf (signalTraced f sc b s t u)
-  signal-both h g {o} e i j k =
+  signal-both h {o} e k =
       let law : InBoth f sc b s t u p q = rw (p-is, q-is) (in-both f sc b s t u) in
-      rw j at k ∙ law o m a g (ap isInherited (fit-is both h)) e counted noted i ∙ chosen both h
+      k ∙ law o m a (ap isInherited (fit-is both h)) e counted noted ∙ chosen both h
 
-  pub signal-neither : v ≡ Neither → (g : Bool) {d : ℕ} {r : Reaction} → Passes f sc s g → d ≡ cond g 0 (p .delivered)
-      → r ≡ record { emitted = p .emitted; labels = p .labels; completion = p .completion; reactions = m; asked = a; delivered = d }
+  pub signal-neither : v ≡ Neither → {r : Reaction}
+      → r ≡ record { emitted = p .emitted; labels = p .labels; completion = p .completion; reactions = m; asked = a }
       → r ≡ reactionOf (signalTraced f sc b s t u)
-  signal-neither h g i j k =
+  signal-neither h k =
       let law : InNeither f sc b s t u p q = rw (p-is, q-is) (in-neither f sc b s t u) in
-      rw j at k ∙ law m a g (ap isInherited (fit-is neither h)) counted noted i ∙ chosen neither h
+      k ∙ law m a (ap isInherited (fit-is neither h)) counted noted ∙ chosen neither h
 
   pub signal-inherits : v ≡ Inherited → {r : Reaction}
-      → r ≡ record { emitted = none; labels = labelsWith none; completion = greaterOf (p .completion) (q .completion); reactions = m; asked = a; delivered = 0 }
+      → r ≡ record { emitted = none; labels = labelsWith none; completion = greaterOf (p .completion) (q .completion); reactions = m; asked = a }
       → r ≡ reactionOf (signalTraced f sc b s t u)
   signal-inherits h k =
       let law : InInherited f sc b s t u p q = rw (p-is, q-is) (in-inherited f sc b s t u) in
@@ -149,7 +148,7 @@ module _ (f : ℕ) (sc : Scope) (b s : ℕ) (t u : Traces.Traced) (p q : Reactio
   failed-as d = rw (p-is, q-is) (in-failed d f sc b s t u)
 
   pub signal-unreactive : v ≡ OnlyMinus → failedWith (notReactive b) m a ≡ reactionOf (signalTraced f sc b s t u)
-  signal-unreactive h = failed-as only− (notReactive b) m a (λ r− r+. refl) (λ y. refl) (λ y− y+. refl) counted noted ∙ chosen only− h
+  signal-unreactive h = failed-as only− (notReactive b) m a (λ r− r+. refl) (λ y. refl) counted noted ∙ chosen only− h
 
   pub signal-undetermined : v ≡ OnlyPlus → failedWith (notDeterministic b) m a ≡ reactionOf (signalTraced f sc b s t u)
-  signal-undetermined h = failed-as only+ (notDeterministic b) m a (λ r− r+. refl) (λ y. refl) (λ y− y+. refl) counted noted ∙ chosen only+ h
+  signal-undetermined h = failed-as only+ (notDeterministic b) m a (λ r− r+. refl) (λ y. refl) counted noted ∙ chosen only+ h

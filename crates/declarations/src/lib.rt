@@ -3,26 +3,16 @@ ghost use mathlib.Core.Path.{_≡_};
 ghost use Prim.Native.Nat.{ℕ};
 ghost use Rattle.limits.specs.Limits.{readBackPlace};
 ghost use Rattle.esterel.specs.Statement.{Scope, local, reported};
-ghost use mathlib.Core.Bool.{cond};
 ghost use Rattle.esterel.specs.Reaction.{outside};
-ghost use Rattle.esterel.specs.Litres.{passing};
 ghost use Rattle.esterel.specs.Traced.{signalTraced, signalOnce};
 ghost use Rattle.reaction.specs.Reactions.{FromOne, FromTwo};
 use declarations_cases::Choice;
 use reaction::Reaction;
 
 // A declaration of s at the offset `place`, from the runs of its body without s and with it. Where both runs emit s, it emits
-// the set `kept`. Both runs count and ask, whichever answers; what asks inside for s does not ask outside. The litres are those
-// of the run that answers; `dropped` says that they are a local signal's own.
-fn declaring(
-    place: u16,
-    s: u8,
-    kept: u32,
-    dropped: bool,
-    minus: Reaction,
-    plus: Reaction,
-) -> Reaction
-    ensures { λ r. ⌜ ((f : ℕ) (sc : Scope) → kept ≡ outside sc s (plus .emitted) → ((x : ℕ) → passing sc f s x ≡ cond dropped 0 x)
+// the set `kept`. Both runs count and ask, whichever answers; what asks inside for s does not ask outside.
+fn declaring(place: u16, s: u8, kept: u32, minus: Reaction, plus: Reaction) -> Reaction
+    ensures { λ r. ⌜ ((f : ℕ) (sc : Scope) → kept ≡ outside sc s (plus .emitted)
         → FromTwo (signalTraced f sc place s) minus plus r) ⌝ }
 {
     let k = minus.completion;
@@ -32,59 +22,38 @@ fn declaring(
     let reactions = declarations_runs::counted(minus, plus);
     let asked = declarations_runs::asked(s, minus, plus);
     match declarations_cases::choose(s, minus, plus) {
-        Choice::Both => reaction::made(
-            kept,
-            plus_labels,
-            l,
-            reactions,
-            asked,
-            declarations_runs::passed(dropped, plus.delivered),
-        ),
-        Choice::Neither => reaction::made(
-            minus.emitted,
-            minus_labels,
-            k,
-            reactions,
-            asked,
-            declarations_runs::passed(dropped, minus.delivered),
-        ),
+        Choice::Both => reaction::made(kept, plus_labels, l, reactions, asked),
+        Choice::Neither => reaction::made(minus.emitted, minus_labels, k, reactions, asked),
         Choice::OnlyMinus => reaction::failing(2, place, reactions, asked),
         Choice::OnlyPlus => reaction::failing(3, place, reactions, asked),
         Choice::Inherited => declarations_runs::inherited(minus, plus, reactions, asked),
     }
 }
 
-// signal s at the offset `place`: s stays inside, with its litres
-pub fn in_signal(place: u16, s: u8, farm: u8, minus: Reaction, plus: Reaction) -> Reaction
-    ensures { λ r. ⌜ FromTwo (signalTraced farm local place s) minus plus r ⌝ }
+// signal s at the offset `place`: s stays inside
+pub fn in_signal(place: u16, s: u8, minus: Reaction, plus: Reaction) -> Reaction
+    ensures { λ r. ⌜ ((f : ℕ) → FromTwo (signalTraced f local place s) minus plus r) ⌝ }
 {
-    declaring(
-        place,
-        s,
-        signals::without(plus.emitted, s),
-        s == farm,
-        minus,
-        plus,
-    )
+    declaring(place, s, signals::without(plus.emitted, s), minus, plus)
 }
 
 // signal s at any place, from one run that stands for both
-pub fn in_signal_once(s: u8, farm: u8, p: Reaction) -> Reaction
-    ensures { λ r. ⌜ ((a : ℕ) → FromOne (signalOnce farm local a s) p r) ⌝ }
+pub fn in_signal_once(s: u8, p: Reaction) -> Reaction
+    ensures { λ r. ⌜ ((f a : ℕ) → FromOne (signalOnce f local a s) p r) ⌝ }
 {
-    declarations_once::declaring_once(signals::without(p.emitted, s), s == farm, p)
+    declarations_once::declaring_once(signals::without(p.emitted, s), p)
 }
 
-// The read-back declaration of s (02, items 5 and 12): s is reported all the same, and its litres are kept.
+// The read-back declaration of s (02, items 5 and 12): s is reported all the same.
 pub fn in_read_back(s: u8, minus: Reaction, plus: Reaction) -> Reaction
     ensures { λ r. ⌜ ((f : ℕ) → FromTwo (signalTraced f reported readBackPlace s) minus plus r) ⌝ }
 {
-    declaring(limits::READ_BACK_PLACE, s, plus.emitted, false, minus, plus)
+    declaring(limits::READ_BACK_PLACE, s, plus.emitted, minus, plus)
 }
 
 // The read-back declaration of any signal, from one run that stands for both.
 pub fn in_read_back_once(p: Reaction) -> Reaction
     ensures { λ r. ⌜ ((f s : ℕ) → FromOne (signalOnce f reported readBackPlace s) p r) ⌝ }
 {
-    declarations_once::declaring_once(p.emitted, false, p)
+    declarations_once::declaring_once(p.emitted, p)
 }

@@ -19,7 +19,7 @@ use Rattle.completions.specs.Completions.{codeOf}
 use Rattle.completions.proofs.Completions.{code-of}
 use Rattle.reaction.specs.Reactions.{reactionOf}
 use Rattle.reaction.proofs.Values.{kept-two, made}
-use Rattle.declarations_runs.proofs.Runs.{unmoved, Counted, Passes, passed, none-passed}
+use Rattle.declarations_runs.proofs.Runs.{unmoved, Counted}
 
 absent-outside : (sc : Scope) (s o : ℕ) → member s o ≡ false → outside sc s o ≡ o
 absent-outside local s o h = remove-absent s o h
@@ -28,42 +28,41 @@ absent-outside reported s o h = refl
 module _ (f : ℕ) (sc : Scope) (b s : ℕ) where
   abbrev OnceRight : Traces.Traced → Reaction → Type 0
   OnceRight t p =
-      (o m : ℕ) (g : Bool) → isWrong (codeOf (p .completion)) ≡ false → o ≡ outside sc s (p .emitted) → Counted p p m → Passes f sc s g
+      (o m : ℕ) → isWrong (codeOf (p .completion)) ≡ false → o ≡ outside sc s (p .emitted) → Counted p p m
       → _≡_ {A = Reaction}
-      (record { emitted = o; labels = p .labels; completion = p .completion; reactions = m; asked = p .asked; delivered = cond g 0 (p .delivered) })
+      (record { emitted = o; labels = p .labels; completion = p .completion; reactions = m; asked = p .asked })
       (reactionOf (signalOnce f sc b s t))
 
   right-by-member : (c : Bool) (o₁ : ℕ) (k : Code) (l : ℕ) (t₁ : Statement) (x : Option Error) (n a y : ℕ) → member s o₁ ≡ c
       → isWrong k ≡ false → OnceRight (traced (instant (gives o₁ k l t₁) x n) a y) (reactionOf (traced (instant (gives o₁ k l t₁) x n) a y))
-  right-by-member true o₁ k l t₁ x n a y i r o m g h e w d =
-      rw (i, r, e, w, kept-two n n, unmoved k x Option.none r, passed f sc s g y d)
-  right-by-member false o₁ k l t₁ x n a y i r o m g h e w d =
-      rw (i, r, e, absent-outside sc s o₁ i, w, kept-two n n, unmoved k x Option.none r, passed f sc s g y d)
+  right-by-member true o₁ k l t₁ x n a y i r o m h e w =
+      rw (i, r, e, w, kept-two n n, unmoved k x Option.none r)
+  right-by-member false o₁ k l t₁ x n a y i r o m h e w =
+      rw (i, r, e, absent-outside sc s o₁ i, w, kept-two n n, unmoved k x Option.none r)
 
   right-run : (t : Traces.Traced) → OnceRight t (reactionOf t)
-  right-run (traced (instant (gives o₁ k l t₁) x n) a y) o m g h =
-      right-by-member (member s o₁) o₁ k l t₁ x n a y refl (rw (code-of k x) at h) o m g h
+  right-run (traced (instant (gives o₁ k l t₁) x n) a y) o m h =
+      right-by-member (member s o₁) o₁ k l t₁ x n a y refl (rw (code-of k x) at h) o m h
 
   abbrev OnceWrong : Traces.Traced → Reaction → Type 0
   OnceWrong t p =
       (l : Labels) (m : ℕ) → isWrong (codeOf (p .completion)) ≡ true → Represents l none → Counted p p m
-      → _≡_ {A = Reaction} (record { emitted = none; labels = l; completion = p .completion; reactions = m; asked = p .asked; delivered = 0 })
+      → _≡_ {A = Reaction} (record { emitted = none; labels = l; completion = p .completion; reactions = m; asked = p .asked })
       (reactionOf (signalOnce f sc b s t))
 
   wrong-run : (t : Traces.Traced) → OnceWrong t (reactionOf t)
   wrong-run (traced (instant (gives o₁ ended l₁ t₁) x n) a y) l m h e w = absurd (false≢true h)
   wrong-run (traced (instant (gives o₁ waiting l₁ t₁) x n) a y) l m h e w = absurd (false≢true h)
   wrong-run (traced (instant (gives o₁ (leaving k) l₁ t₁) x n) a y) l m h e w = absurd (false≢true h)
-  wrong-run (traced (instant (gives o₁ wrong l₁ t₁) x n) a y) l m h e w = made wrong x (1 + n + n) a (passing sc f s 0) refl e refl (w ∙ kept-two n n) refl (none-passed f sc s)
+  wrong-run (traced (instant (gives o₁ wrong l₁ t₁) x n) a y) l m h e w = made wrong x (1 + n + n) a (passing sc f s 0) refl e refl (w ∙ kept-two n n) refl
 
   module _ (t : Traces.Traced) (p : Reaction) (p-is : p ≡ reactionOf t) {m : ℕ} (counted : Counted p p m) {r : Reaction} where
-    pub once-right : isWrong (codeOf (p .completion)) ≡ false → (g : Bool) {o d : ℕ} → o ≡ outside sc s (p .emitted)
-        → Passes f sc s g → d ≡ cond g 0 (p .delivered)
-        → r ≡ record { emitted = o; labels = p .labels; completion = p .completion; reactions = m; asked = p .asked; delivered = d }
+    pub once-right : isWrong (codeOf (p .completion)) ≡ false → {o : ℕ} → o ≡ outside sc s (p .emitted)
+        → r ≡ record { emitted = o; labels = p .labels; completion = p .completion; reactions = m; asked = p .asked }
         → r ≡ reactionOf (signalOnce f sc b s t)
-    once-right h g {o} e i j k = let law : OnceRight t p = rw p-is (right-run t) in rw j at k ∙ law o m g h e counted i
+    once-right h {o} e k = let law : OnceRight t p = rw p-is (right-run t) in k ∙ law o m h e counted
 
     pub once-wrong : isWrong (codeOf (p .completion)) ≡ true → {l : Labels} → Represents l none
-        → r ≡ record { emitted = none; labels = l; completion = p .completion; reactions = m; asked = p .asked; delivered = 0 }
+        → r ≡ record { emitted = none; labels = l; completion = p .completion; reactions = m; asked = p .asked }
         → r ≡ reactionOf (signalOnce f sc b s t)
     once-wrong h {l} e k = let law : OnceWrong t p = rw p-is (wrong-run t) in k ∙ law l m h e counted

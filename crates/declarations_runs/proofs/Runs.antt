@@ -1,21 +1,18 @@
 -- What is said of both runs, whichever of them answers.
 use Prim.Native.Nat.{ℕ, _+_}
-use mathlib.Core.Path.{_≡_, refl, sym, ap, _∙_}
-use mathlib.Core.Bool.{Bool, true, false, cond, true≢false}
+use mathlib.Core.Path.{_≡_, refl}
+use mathlib.Core.Bool.{false, true≢false}
 use mathlib.Core.Option.{Option}
 use Rattle.sets.specs.Sets.{none, join, remove}
 use Rattle.labels.specs.declared.Labels.{Labels}
 use Rattle.labels.specs.Labels.{labelsWith, Represents}
 use Rattle.labels.proofs.LabelValues.{labels-of}
-use Rattle.esterel.specs.Statement.{Scope}
 use Rattle.esterel.specs.Reaction.{Code, ended, waiting, leaving, wrong, isWrong}
 use Rattle.esterel.specs.Errors.{Error}
-use Rattle.esterel.specs.Litres.{passing}
-use Rattle.theory.proofs.Litres.{passing-none}
 use Rattle.completions.specs.declared.Completion.{Completion}
 use Rattle.completions.specs.Completions.{completionOf}
 use Rattle.reaction.specs.declared.Reaction.{Reaction}
-use Rattle.reaction.specs.Reactions.{keptOf, cappedOf}
+use Rattle.reaction.specs.Reactions.{keptOf}
 
 -- only a wrong completion shows the error
 pub unmoved : (k : Code) (x y : Option Error) → isWrong k ≡ false → completionOf k x ≡ completionOf k y
@@ -31,22 +28,8 @@ Counted p q m = m ≡ keptOf (1 + p .reactions + q .reactions)
 abbrev pub Noted : (s : ℕ) (p q : Reaction) (a : ℕ) → Type 0
 Noted s p q a = a ≡ remove s (join (p .asked) (q .asked))
 
--- what passes of the litres of a run
-abbrev pub Passes : (f : ℕ) → Scope → (s : ℕ) → Bool → Type 0
-Passes f sc s b = (x : ℕ) → passing sc f s x ≡ cond b 0 x
-
-pub passed : (f : ℕ) (sc : Scope) (s : ℕ) (b : Bool) (x : ℕ) → Passes f sc s b → cond b 0 (cappedOf x) ≡ cappedOf (passing sc f s x)
-passed f sc s b x h = go b ∙ ap cappedOf (sym (h x))
-  where
-    go : (c : Bool) → cond c 0 (cappedOf x) ≡ cappedOf (cond c 0 x)
-    go true = refl
-    go false = refl
-
-pub none-passed : (f : ℕ) (sc : Scope) (s : ℕ) → 0 ≡ cappedOf (passing sc f s 0)
-none-passed f sc s = ap cappedOf (sym (passing-none sc f s))
-
 -- a wrong run that is inherited
 pub inherited-made : (c : Completion) (m a : ℕ) (l : Labels) → Represents l none
-    → _≡_ {A = Reaction} (record { emitted = none; labels = l; completion = c; reactions = m; asked = a; delivered = 0 })
-    (record { emitted = none; labels = labelsWith none; completion = c; reactions = m; asked = a; delivered = 0 })
+    → _≡_ {A = Reaction} (record { emitted = none; labels = l; completion = c; reactions = m; asked = a })
+    (record { emitted = none; labels = labelsWith none; completion = c; reactions = m; asked = a })
 inherited-made c m a l b = rw (← labels-of l b)

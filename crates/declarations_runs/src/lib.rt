@@ -1,6 +1,5 @@
-// What a declaration makes of both runs of its body, whichever of them answers (01, 'One reaction', and 02, items 4, 6 and 12).
+// What a declaration makes of both runs of its body, whichever of them answers (01, 'One reaction', and 02, items 4 and 6).
 ghost use mathlib.Core.Path.{_≡_};
-ghost use mathlib.Core.Bool.{cond};
 ghost use Prim.Native.Nat.{_+_};
 ghost use Rattle.sets.specs.Sets.{none, join, remove};
 ghost use Rattle.labels.specs.Labels.{labelsWith};
@@ -30,7 +29,6 @@ pub fn inherited(minus: Reaction, plus: Reaction, reactions: u32, asked: u32) ->
       completion = greaterOf (minus .completion) (plus .completion);
       reactions = reactions;
       asked = asked;
-      delivered = 0;
     } ⌝ }
 {
     let k = minus.completion;
@@ -41,13 +39,5 @@ pub fn inherited(minus: Reaction, plus: Reaction, reactions: u32, asked: u32) ->
         completion: completions::greater_of(k, l),
         reactions,
         asked,
-        delivered: 0,
     }
-}
-
-// What passes of a run's litres (02, item 12): none of those that the declaration drops.
-pub fn passed(dropped: bool, litres: u32) -> u32
-    ensures { λ r. ⌜ r ≡ cond dropped 0 litres ⌝ }
-{
-    if dropped { 0 } else { litres }
 }

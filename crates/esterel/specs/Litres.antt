@@ -163,8 +163,3 @@ wrongs : (delivered 2 (loop 0 (emit 2 (litres 5))) 0 ≡ 0)
     × (delivered 2 (par (emit 2 (litres 5)) (loop 7 nothing)) 0 ≡ 5)
 unfolding deliveredBy reactBy member none only join insert remove
 wrongs = (refl, refl, refl)
-
--- 32 is no farm: whoever asks for it is told none.
-no-farm : (delivered 32 (seq (emit 31 (litres 5)) (emit 0 (litres 7))) 0 ≡ 0)
-unfolding deliveredBy reactBy none only join
-no-farm = refl

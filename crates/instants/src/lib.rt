@@ -63,20 +63,18 @@ pub fn reply_of(
     match decode(sequence, second, notes, state) {
         Standing::Malformed => Reply::Refused(11),
         Standing::Over => Reply::Refused(12),
-        Standing::Fresh => Reply::Reacted(program::react(
+        Standing::Fresh => Reply::Reacted(program::react_without_litres(
             sequence,
             Start::Fresh,
             input,
             read_back,
-            limits::NO_FARM,
             second,
         )),
-        Standing::Waiting(active) => Reply::Reacted(program::react(
+        Standing::Waiting(active) => Reply::Reacted(program::react_without_litres(
             sequence,
             Start::Waiting(active),
             input,
             read_back,
-            limits::NO_FARM,
             second,
         )),
     }

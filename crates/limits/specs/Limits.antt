@@ -38,10 +38,6 @@ readBackPlace = 65535
 abbrev pub litresLimit : ℕ
 litresLimit = 16777216
 
--- no farm: the number of none of the signals
-abbrev pub noFarm : ℕ
-noFarm = 32
-
 -- ---- 01, 'States and resuming', and 02, items 6 and 7: the bytes of a word of labels, of a label set, of a place, of a signal
 -- set and of a number of reactions
 abbrev pub wordBytes : ℕ

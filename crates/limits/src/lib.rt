@@ -56,8 +56,8 @@ pub const LITRES_LIMIT: u32 = 16777216;
 
 pub const LITRES_OVER: u64 = 16777217;
 
-// No farm: the number of none of the signals 0 to 31.
-pub const NO_FARM: u8 = 32;
+// A signal's number is its farm's (02, item 12).
+pub const FARMS: usize = 32;
 
 // The bytes of a word of labels, of a label set, of a place, of a signal set and of a number of reactions, and how many numbers
 // the last can hold.

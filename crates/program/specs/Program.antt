@@ -10,7 +10,7 @@ use Rattle.esterel.specs.RankedExpansion.{expandBy}
 use Rattle.sequence.specs.Program.{program}
 use Rattle.layout.specs.Layout.{Lies}
 use Rattle.reaction.specs.declared.Reaction.{Reaction}
-use Rattle.reaction.specs.Reactions.{reactionOf}
+use Rattle.reaction.specs.Reactions.{reactionTo, Realizes}
 use Rattle.program.specs.declared.Start.{Start}
 use Rattle.program.specs.declared.Start.the-variants.{Fresh, Waiting}
 
@@ -19,11 +19,16 @@ abbrev pub termAt : Start → Statement → Statement
 termAt Fresh p = p
 termAt (Waiting m) p = expandBy 0 p (labelSet m)
 
--- with the litres of the farm f
-abbrev pub Inside : (t bs : List ℕ) (origin : Start) (e f : ℕ) (r : Reaction) → Type 0
-Inside t bs origin e f r = (p : Statement) → Lies t maxDepth 0 0 bs p → r ≡ reactionOf (startTraced f (termAt origin p) e)
+-- and the litres x of all farms become y by it
+abbrev pub Inside : (t bs : List ℕ) (origin : Start) (e : ℕ) (x y : List ℕ) (r : Reaction) → Type 0
+Inside t bs origin e x y r = (p : Statement) → Lies t maxDepth 0 0 bs p → (f : ℕ) → Realizes f x y r (startTraced f (termAt origin p) e)
 
 -- and under the declarations
-abbrev pub Reacted : (t bs : List ℕ) (origin : Start) (e readBack f : ℕ) (r : Reaction) → Type 0
-Reacted t bs origin e readBack f r =
-    (p : Statement) → Lies t maxDepth 0 0 bs p → r ≡ reactionOf (startTraced f (program readBack (termAt origin p)) e)
+abbrev pub Reacted : (t bs : List ℕ) (origin : Start) (e readBack : ℕ) (x y : List ℕ) (r : Reaction) → Type 0
+Reacted t bs origin e readBack x y r =
+    (p : Statement) → Lies t maxDepth 0 0 bs p → (f : ℕ) → Realizes f x y r (startTraced f (program readBack (termAt origin p)) e)
+
+-- the reaction alone
+abbrev pub ReactedWithoutLitres : (t bs : List ℕ) (origin : Start) (e readBack : ℕ) (r : Reaction) → Type 0
+ReactedWithoutLitres t bs origin e readBack r =
+    (p : Statement) → Lies t maxDepth 0 0 bs p → r ≡ reactionTo (program readBack (termAt origin p)) e

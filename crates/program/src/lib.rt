@@ -3,9 +3,10 @@
 ghost use mathlib.Core.Path.{_≡_};
 ghost use Rattle.limits.specs.Limits.{maxDepth};
 ghost use Rattle.layout.specs.Layout.{Ready};
-ghost use Rattle.program.specs.Program.{Inside, Reacted};
+ghost use Rattle.program.specs.Program.{Inside, Reacted, ReactedWithoutLitres};
 use labels::Labels;
 use layout::SecondParts;
+use reaction::Deliveries;
 use reaction::Reaction;
 
 // Where a sequence stands: at its beginning, or at its active pauses, by their ranks.
@@ -15,18 +16,24 @@ pub enum Start {
 }
 
 // The sequence itself, with no declaration left around it.
-fn inside(s: &[u8], origin: Start, input: u32, farm: u8, second: &SecondParts) -> Reaction
+fn inside(
+    s: &[u8],
+    origin: Start,
+    input: u32,
+    litres: &mut Deliveries,
+    second: &SecondParts,
+) -> Reaction
     requires { ⌜ Ready (now second) maxDepth 0 (now s) ⌝ }
-    ensures { λ r. ⌜ Inside (now (second .entry)) (now (s .entry)) origin input farm r ⌝ }
+    ensures { λ r. ⌜ Inside (now (second .entry)) (now (s .entry)) origin input (now (litres .entry)) (now (litres .exit)) r ⌝ }
 {
     match origin {
-        Start::Fresh => react::react(s, 0, limits::MAX_DEPTH, input, farm, second),
+        Start::Fresh => react::react(s, 0, limits::MAX_DEPTH, input, litres, second),
         Start::Waiting(active) => resume::resume(
             s,
             0,
             limits::MAX_DEPTH,
             input,
-            farm,
+            litres,
             active,
             second,
         ),
@@ -34,30 +41,47 @@ fn inside(s: &[u8], origin: Start, input: u32, farm: u8, second: &SecondParts) -
 }
 
 // The sequence under a declaration of each read-back signal, which is a signal's: it reacts with the signal where the run without it
-// asked.
+// asked. The litres are those of the run that answers, the signal's own too (02, item 12).
 pub fn react(
     s: &[u8],
     origin: Start,
     input: u32,
     read_back: u32,
-    farm: u8,
+    litres: &mut Deliveries,
     second: &SecondParts,
 ) -> Reaction
     requires { ⌜ Ready (now second) maxDepth 0 (now s) ⌝ }
-    ensures { λ r. ⌜ Reacted (now (second .entry)) (now (s .entry)) origin input «read_back» farm r ⌝ }
+    ensures { λ r. ⌜ Reacted (now (second .entry)) (now (s .entry)) origin input «read_back» (now (litres .entry)) (now (litres .exit)) r ⌝ }
 {
     if signals::is_empty(read_back) {
-        return inside(s, origin, input, farm, second);
+        return inside(s, origin, input, litres, second);
     }
     let x = signals::lowest(read_back);
     let others = signals::without(read_back, x);
     let without = signals::without(input, x);
     let with = signals::with(input, x);
-    let p = react(s, origin, without, others, farm, second);
+    let mut other: Deliveries = *litres;
+    let p = react(s, origin, without, others, litres, second);
     if signals::member(p.asked, x) {
-        let q = react(s, origin, with, others, farm, second);
+        let q = react(s, origin, with, others, &mut other, second);
+        reaction::select(litres, &other, signals::member(q.emitted, x));
         declarations::in_read_back(x, p, q)
     } else {
         declarations::in_read_back_once(p)
     }
+}
+
+// The reaction alone, for a caller that keeps no ledger.
+pub fn react_without_litres(
+    s: &[u8],
+    origin: Start,
+    input: u32,
+    read_back: u32,
+    second: &SecondParts,
+) -> Reaction
+    requires { ⌜ Ready (now second) maxDepth 0 (now s) ⌝ }
+    ensures { λ r. ⌜ ReactedWithoutLitres (now (second .entry)) (now (s .entry)) origin input «read_back» r ⌝ }
+{
+    let mut litres: Deliveries = [0; limits::FARMS];
+    react(s, origin, input, read_back, &mut litres, second)
 }

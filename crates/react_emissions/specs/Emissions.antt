@@ -1,11 +1,12 @@
 -- The values of emissions, as the code has them (02, item 12), from the bytes of the command.
-use Prim.Native.Nat.{ℕ, _≤_}
+use Prim.Native.Nat.{ℕ, _≤_, _<_}
 use mathlib.Core.Path.{_≡_}
 use mathlib.Core.Bool.{cond}
 use mathlib.Core.List.{List}
 use lib.ListN.{getD, length}
 use lib.Dec.{T, eqb}
 use lib.Ieee.{binary32, ofBits}
+use Rattle.limits.specs.Limits.{signalCount}
 use Rattle.numbers.specs.Bytes.{numberAt}
 use Rattle.litres.specs.Litres.{whole, litres}
 use Rattle.esterel.specs.Statement as Esterel
@@ -30,7 +31,8 @@ abbrev pub Whole : Value → Type 0
 Whole Pure = Unit {0}
 Whole (Litres x) = T (whole x)
 
--- an emission's bytes: its signal is there, and so are the litres of a 0C, which are such a number
+-- an emission's bytes: its signal is there and is one, and so are the litres of a 0C, which are such a number
 pub record Emission (bs : List ℕ) : Type 0 where
   pub there : 2 ≤ length bs
+  pub small : getD bs 1 0 < signalCount
   pub fit : getD bs 0 0 ≡ 12 → (6 ≤ length bs) × T (whole (ofBits binary32 (numberAt 2 4 bs)))

@@ -1,5 +1,6 @@
 // An emission (01, 'Commands'; 02, item 12): its value, read from its bytes, and its reaction.
 ghost use mathlib.Core.Path.{_≡_};
+ghost use Prim.Native.Nat.{ℕ, _<_};
 ghost use lib.ListN.{getD};
 ghost use Rattle.limits.specs.Limits.{signalCount};
 ghost use Rattle.sets.specs.Sets.{none};
@@ -7,8 +8,9 @@ ghost use Rattle.sets.specs.Widths.{onlyBelow};
 ghost use Rattle.esterel.specs.Statement.{nothing};
 ghost use Rattle.esterel.specs.Reaction.{ended, gives};
 ghost use Rattle.esterel.specs.Litres.{brought};
-ghost use Rattle.reaction.specs.Reactions.{alone, reactionOf};
+ghost use Rattle.reaction.specs.Reactions.{alone, AccumulatesAt, Realizes};
 ghost use Rattle.react_emissions.specs.Emissions.{Emission, Whole, valueIn, meant, amountOf};
+use reaction::Deliveries;
 use reaction::Reaction;
 
 // What an emission carries: 02 nothing, 0C litres.
@@ -40,16 +42,26 @@ pub fn amount(v: Value) -> u32
     }
 }
 
-// An emission reacts. Its litres count where its signal is the farm that is asked for.
-pub fn emitting(s: &[u8], farm: u8) -> Reaction
+// What the emission at the front of s, whose signal is x, delivers is added to the litres of its farm.
+fn deliver(s: &[u8], litres: &mut Deliveries, x: u8)
     requires { ⌜ Emission (now s) ⌝ }
-    ensures { λ r. ⌜ r ≡ reactionOf (alone (gives (onlyBelow signalCount (getD (now (s .entry)) 1 0)) ended none nothing) none
-        (brought farm (getD (now (s .entry)) 1 0) (meant (valueIn (now (s .entry)))))) ⌝ }
+    requires { ⌜ x < signalCount ⌝ }
+    ensures { λ _. ⌜ ((f : ℕ) (o : ℕ) → AccumulatesAt f (now (litres .entry)) (now (litres .exit))
+        (alone (gives o ended none nothing) none (brought f x (meant (valueIn (now (s .entry))))))) ⌝ }
+{
+    if s[0] == limits::DELIVER {
+        reaction::add(litres, x, amount(carried(s)));
+    }
+}
+
+// An emission reacts, and what it delivers is added.
+pub fn emitting(s: &[u8], litres: &mut Deliveries) -> Reaction
+    requires { ⌜ Emission (now s) ⌝ }
+    ensures { λ r. ⌜ ((f : ℕ) → Realizes f (now (litres .entry)) (now (litres .exit)) r
+        (alone (gives (onlyBelow signalCount (getD (now (s .entry)) 1 0)) ended none nothing) none
+        (brought f (getD (now (s .entry)) 1 0) (meant (valueIn (now (s .entry))))))) ⌝ }
 {
     let x = s[1];
-    if x == farm {
-        reaction::ending(signals::single(x), amount(carried(s)))
-    } else {
-        reaction::ending(signals::single(x), 0)
-    }
+    deliver(s, litres, x);
+    reaction::ending(signals::single(x))
 }

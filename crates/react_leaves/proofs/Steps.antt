@@ -17,31 +17,32 @@ use Rattle.esterel.specs.Traced.{startTraced}
 use Rattle.layout.specs.Layout.{Ready}
 use Rattle.layout.proofs.Laid.{last-one}
 use Rattle.reaction.specs.declared.Reaction.{Reaction}
-use Rattle.reaction.specs.Reactions.{alone, reactionOf}
+use Rattle.reaction.specs.Reactions.{alone, reactionOf, Realizes}
+use Rattle.reaction.proofs.Accumulating.{farms-none}
 use Rattle.react_leaves.specs.Started.{Without, Partless}
 
-module _ (f : ℕ) (p : Statement) (e : ℕ) (r : Reaction) where
-  pub nothing-step : p ≡ nothing → r ≡ reactionOf (alone (gives none ended none nothing) none 0) → r ≡ reactionOf (startTraced f p e)
+module _ (f : ℕ) (p : Statement) (e : ℕ) (b : List ℕ) (r : Reaction) where
+  pub nothing-step : p ≡ nothing → r ≡ reactionOf (alone (gives none ended none nothing) none 0) → Realizes f b b r (startTraced f p e)
   unfolding reactBy errorsBy reactionsBy askedBy deliveredBy
-  nothing-step h k = rw h k
+  nothing-step h k = rw h (k, farms-none _ _ _ _)
 
-  pub emit-step : (s : ℕ) (v : Value) → p ≡ emit s v → s < signalCount
-      → r ≡ reactionOf (alone (gives (onlyBelow signalCount s) ended none nothing) none (brought f s v)) → r ≡ reactionOf (startTraced f p e)
+  pub emit-step : (a : List ℕ) (s : ℕ) (v : Value) → p ≡ emit s v → s < signalCount
+      → Realizes f b a r (alone (gives (onlyBelow signalCount s) ended none nothing) none (brought f s v)) → Realizes f b a r (startTraced f p e)
   unfolding reactBy errorsBy reactionsBy askedBy deliveredBy
-  emit-step s v h l i = rw h (i ∙ rw (lt-ltb s signalCount l))
+  emit-step a s v h l i = rw h (rw (lt-ltb s signalCount l) at i)
 
-  pub exit-step : (n : ℕ) → p ≡ exit n → r ≡ reactionOf (alone (gives none (leaving n) none nothing) none 0) → r ≡ reactionOf (startTraced f p e)
+  pub exit-step : (n : ℕ) → p ≡ exit n → r ≡ reactionOf (alone (gives none (leaving n) none nothing) none 0) → Realizes f b b r (startTraced f p e)
   unfolding reactBy errorsBy reactionsBy askedBy deliveredBy
-  exit-step n h k = rw h k
+  exit-step n h k = rw h (k, farms-none _ _ _ _)
 
   module _ (l : ℕ) (small : l < labelCount) (h : r ≡ reactionOf (alone (gives none waiting (onlyBelow labelCount l) nothing) none 0)) where
-    pub pause-step : p ≡ pause l → r ≡ reactionOf (startTraced f p e)
+    pub pause-step : p ≡ pause l → Realizes f b b r (startTraced f p e)
     unfolding reactBy errorsBy reactionsBy askedBy deliveredBy
-    pause-step k = rw k (h ∙ rw (lt-ltb l labelCount small))
+    pause-step k = rw k (h ∙ rw (lt-ltb l labelCount small), farms-none _ _ _ _)
 
-    pub setpause-step : p ≡ setpause l → r ≡ reactionOf (startTraced f p e)
+    pub setpause-step : p ≡ setpause l → Realizes f b b r (startTraced f p e)
     unfolding reactBy errorsBy reactionsBy askedBy deliveredBy
-    setpause-step k = rw k (h ∙ rw (lt-ltb l labelCount small))
+    setpause-step k = rw k (h ∙ rw (lt-ltb l labelCount small), farms-none _ _ _ _)
 
 -- what is neither of the others nor has parts is 0C
 pub last-leaf : {t : List ℕ} {d a : ℕ} {bs : List ℕ} → Ready t d a bs → Partless (getD bs 0 0) → Without (getD bs 0 0) 0 4 × (getD bs 0 0 ≡ 10 → ⊥)

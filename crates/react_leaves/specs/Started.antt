@@ -7,11 +7,11 @@ use Rattle.esterel.specs.Statement.{Statement}
 use Rattle.esterel.specs.Traced.{startTraced}
 use Rattle.layout.specs.Layout.{Lies, Ready}
 use Rattle.reaction.specs.declared.Reaction.{Reaction}
-use Rattle.reaction.specs.Reactions.{reactionOf}
+use Rattle.reaction.specs.Reactions.{Realizes}
 
--- r is the tree of the statement that lies there, with the litres of the farm f
-abbrev pub Started : (t : List ℕ) (d a : ℕ) (bs : List ℕ) (e f : ℕ) (r : Reaction) → Type 0
-Started t d a bs e f r = (base : ℕ) (p : Statement) → Lies t d base a bs p → r ≡ reactionOf (startTraced f p e)
+-- r is the tree of the statement that lies there, and the litres x of all farms become y by it
+abbrev pub Started : (t : List ℕ) (d a : ℕ) (bs : List ℕ) (e : ℕ) (x y : List ℕ) (r : Reaction) → Type 0
+Started t d a bs e x y r = (base : ℕ) (p : Statement) → Lies t d base a bs p → (f : ℕ) → Realizes f x y r (startTraced f p e)
 
 -- b is none of the n bytes from `low` on
 abbrev pub Without : (b low n : ℕ) → Type 0

@@ -5,6 +5,7 @@ ghost use Prim.Native.Nat.{ℕ, _<_};
 ghost use lib.ListN.{length, getD};
 ghost use lib.Dec.{eqb};
 ghost use Rattle.react_leaves.specs.Started.{Started, Leaf};
+use reaction::Deliveries;
 use reaction::Reaction;
 
 // Whether a nothing stands at index n of s.
@@ -24,17 +25,17 @@ pub fn is_pause(s: &[u8], n: usize) -> bool
 }
 
 // The reaction of the command at the front of s, which has no parts.
-pub fn alone(s: &[u8], farm: u8) -> Reaction
+pub fn alone(s: &[u8], litres: &mut Deliveries) -> Reaction
     requires { ⌜ Leaf (now s) ⌝ }
-    ensures { λ r. ⌜ ((t : List ℕ) (d a e : ℕ) → Started t d a (now (s .entry)) e farm r) ⌝ }
+    ensures { λ r. ⌜ ((t : List ℕ) (d a e : ℕ) → Started t d a (now (s .entry)) e (now (litres .entry)) (now (litres .exit)) r) ⌝ }
 {
     let command = s[0];
     match command {
         limits::NOTHING => reaction::nothing(),
         limits::PAUSE => reaction::pausing(s[1]),
-        limits::EMIT => react_emissions::emitting(s, farm),
+        limits::EMIT => react_emissions::emitting(s, litres),
         limits::EXIT => reaction::leaving(s[1]),
         limits::SETPAUSE => reaction::pausing(s[1]),
-        _ => react_emissions::emitting(s, farm),
+        _ => react_emissions::emitting(s, litres),
     }
 }

@@ -1,1 +1,2 @@
+pub mod Accumulating
 pub mod Values

@@ -18,7 +18,7 @@ use Rattle.esterel.specs.Traced.{traced}
 use Rattle.completions.specs.declared.Completion.{Completion}
 use Rattle.completions.specs.Completions.{completionOf}
 use Rattle.reaction.specs.declared.Reaction.{Reaction}
-use Rattle.reaction.specs.Reactions.{keptOf, cappedOf, reactionOf, failedWith, countedAround}
+use Rattle.reaction.specs.Reactions.{keptOf, reactionOf, failedWith, countedAround}
 
 -- what is kept of a sum is that of what was kept of its parts
 pub kept-two : (n m : ℕ) → keptOf (1 + keptOf n + keptOf m) ≡ keptOf (1 + n + m)
@@ -27,26 +27,22 @@ kept-two n m = omega arith
 pub kept-one : (n : ℕ) → keptOf (1 + keptOf n) ≡ keptOf (1 + n)
 kept-one n = omega arith
 
--- what is held of a sum of litres is that of what was held of its parts
-pub capped-two : (n m : ℕ) → cappedOf (cappedOf n + cappedOf m) ≡ cappedOf (n + m)
-capped-two n m = omega arith
-
--- a reaction is that of its six values
-module _ (k : Code) (x : Option Error) (n a y : ℕ) {o o′ : ℕ} {l : Labels} {l′ : ℕ} {c : Completion} {m b z : ℕ} where
-  pub made : o ≡ o′ → Represents l l′ → c ≡ completionOf k x → m ≡ keptOf n → b ≡ a → z ≡ cappedOf y
-      → _≡_ {A = Reaction} (record { emitted = o; labels = l; completion = c; reactions = m; asked = b; delivered = z })
+-- a reaction is that of its five values
+module _ (k : Code) (x : Option Error) (n a y : ℕ) {o o′ : ℕ} {l : Labels} {l′ : ℕ} {c : Completion} {m b : ℕ} where
+  pub made : o ≡ o′ → Represents l l′ → c ≡ completionOf k x → m ≡ keptOf n → b ≡ a
+      → _≡_ {A = Reaction} (record { emitted = o; labels = l; completion = c; reactions = m; asked = b })
       (reactionOf (traced (instant (gives o′ k l′ nothing) x n) a y))
-  made h b d e f g = rw (← h, ← labels-of l b, ← d, ← e, ← f, ← g)
+  made h b d e f = rw (← h, ← labels-of l b, ← d, ← e, ← f)
 
 -- one that fails, whatever was taken and asked for
 pub failed-made : (x : Error) (m a : ℕ) (l : Labels) → Represents l none
-    → _≡_ {A = Reaction} (record { emitted = none; labels = l; completion = completionOf wrong (some x); reactions = m; asked = a; delivered = 0 })
+    → _≡_ {A = Reaction} (record { emitted = none; labels = l; completion = completionOf wrong (some x); reactions = m; asked = a })
     (failedWith x m a)
 failed-made x m a l b = rw (← labels-of l b)
 
 -- ---- a command that only counts, and asks for the signals b
 pub around-reaction : (t : Traces.Traced) (p : Reaction) (m a b : ℕ) → p ≡ reactionOf t → m ≡ keptOf (1 + p .reactions) → a ≡ join (p .asked) b
-    → _≡_ {A = Reaction} (record { emitted = p .emitted; labels = p .labels; completion = p .completion; reactions = m; asked = a; delivered = p .delivered })
+    → _≡_ {A = Reaction} (record { emitted = p .emitted; labels = p .labels; completion = p .completion; reactions = m; asked = a })
     (reactionOf (countedAround b t))
 around-reaction (traced (instant (gives o k l t) x n) a₁ y) p m a b h e f = rw (e, f, h, kept-one n)
 

@@ -1,13 +1,17 @@
 -- The values by which the code answers, case by case, from the terms of esterel. The residual is forgotten, and so is an error
 -- beside a code that is not wrong: there is none (theory, wrong-is-error).
-use Prim.Native.Nat.{ℕ, _+_, _%_, min}
+use Prim.Native.Nat.{ℕ, _+_, _%_, _≤_, _<_, min}
 use mathlib.Core.Path.{_≡_}
+use mathlib.Core.Bool.{false}
+use mathlib.Core.List.{List}
+use lib.ListN.{length, getD}
 use mathlib.Core.Option.{none, some}
 use Rattle.limits.specs.Limits.{reactionsCount, litresLimit}
 use Rattle.sets.specs.Sets.{join}
 use Rattle.labels.specs.Labels.{labelsWith}
-use Rattle.esterel.specs.Reaction.{emitted, code, labels, failed}
+use Rattle.esterel.specs.Reaction.{isWrong, emitted, code, labels, failed}
 use Rattle.esterel.specs.Errors.{Error}
+use Rattle.esterel.specs.Statement.{Statement}
 use Rattle.esterel.specs.Instants as Instants
 use Rattle.esterel.specs.Traced as Traces
 use Rattle.esterel.specs.Reaction as rules
@@ -30,8 +34,11 @@ reactionOf (Traces.traced (Instants.instant r x n) a y) =
       completion = completionOf (code r) x;
       reactions = keptOf n;
       asked = a;
-      delivered = cappedOf y;
     }
+
+-- the reaction of p in an instant; it holds no litres, so any farm will do
+abbrev pub reactionTo : Statement → (e : ℕ) → Reaction
+reactionTo p e = reactionOf (Traces.startTraced 0 p e)
 
 -- the reaction of a command without parts, which asks for the signals a and delivers y litres
 abbrev pub alone : rules.Reaction → (a y : ℕ) → Traces.Traced
@@ -46,7 +53,6 @@ failedWith x n a =
       completion = completionOf (code failed) (some x);
       reactions = n;
       asked = a;
-      delivered = 0;
     }
 
 -- a command that changes nothing of its part but the number of reactions, and the signals asked for by b
@@ -59,3 +65,18 @@ FromOne f p r = (t : Traces.Traced) → p ≡ reactionOf t → r ≡ reactionOf 
 
 abbrev pub FromTwo : (f : Traces.Traced → Traces.Traced → Traces.Traced) (p q r : Reaction) → Type 0
 FromTwo f p q r = (t u : Traces.Traced) → p ≡ reactionOf t → q ≡ reactionOf u → r ≡ reactionOf (f t u)
+
+-- ---- the litres of a farm, b before a tree reacts and a behind it
+-- they stay within what is kept of litres; where the tree is not wrong, they are the sum with what it delivers, so kept
+pub record Accumulates (b a : ℕ) (t : Traces.Traced) : Type 0 where
+  pub bounded : b ≤ litresLimit + 1 → a ≤ litresLimit + 1
+  pub summed : b ≤ litresLimit + 1 → isWrong (Instants.codeTold (Traces.instantOf t)) ≡ false → a ≡ cappedOf (b + Traces.deliveredOf t)
+
+-- the same of the farm f in the lists of all farms' litres
+pub record AccumulatesAt (f : ℕ) (b a : List ℕ) (t : Traces.Traced) : Type 0 where
+  pub long : length a ≡ length b
+  pub accumulates : f < length b → Accumulates (getD b f 0) (getD a f 0) t
+
+-- r is the tree t, and the litres of the farm f go with it
+abbrev pub Realizes : (f : ℕ) (b a : List ℕ) (r : Reaction) (t : Traces.Traced) → Type 0
+Realizes f b a r t = (r ≡ reactionOf t) × AccumulatesAt f b a t

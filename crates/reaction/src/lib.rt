@@ -1,8 +1,10 @@
 // What one reaction gives (01, 'One reaction'), the reactions of commands without parts, the number of reactions of a tree
-// from those of its parts (02, item 6), the signals that a tree asks for, and the litres of the farm that is asked for (02, item 12).
+// from those of its parts (02, item 6), the signals that a tree asks for, and the litres of each farm (02, item 12).
 ghost use mathlib.Core.Path.{_≡_};
-ghost use Prim.Native.Nat.{ℕ, _+_};
-ghost use Rattle.limits.specs.Limits.{labelCount};
+ghost use mathlib.Core.Bool.{cond};
+ghost use Prim.Native.Nat.{_+_, _<_};
+ghost use lib.ListN.{getD, set};
+ghost use Rattle.limits.specs.Limits.{signalCount, labelCount};
 ghost use Rattle.sets.specs.Sets.{member, none};
 ghost use Rattle.sets.specs.Widths.{onlyBelow};
 ghost use Rattle.labels.specs.Labels.{labelSet};
@@ -13,16 +15,17 @@ use completions::Completion;
 use labels::Labels;
 
 // The greatest field first, so that no room is lost between two. `asked` are the signals whose status its tree asked for: where
-// a run of a signal's body did not ask for it, the other run is the same. `delivered` are the litres of the one farm that the caller
-// asked for; all numbers above the limit are held as the one behind it.
+// a run of a signal's body did not ask for it, the other run is the same.
 pub struct Reaction {
     pub labels: Labels,
     pub emitted: u32,
     pub completion: Completion,
     pub reactions: u32,
     pub asked: u32,
-    pub delivered: u32,
 }
+
+// The litres of each farm so far in an instant, each up to one more than the limit, which stands for all above it.
+pub type Deliveries = [u32; limits::FARMS];
 
 // The reactions of a command over two parts. The sum is in range whatever they are, and keeps 32 bits, as the answer does; that
 // no accepted program takes more is part of demand 2 (demands, Shows.counted).
@@ -39,7 +42,7 @@ pub fn over_one(n: u32) -> u32
     over_two(n, 0)
 }
 
-// The litres of two parts together. The sum is in range whatever they are.
+// The sum of two numbers of litres. It is in range whatever they are.
 pub fn together(n: u32, m: u32) -> u32
     ensures { λ r. ⌜ r ≡ cappedOf (n + m) ⌝ }
 {
@@ -51,6 +54,33 @@ pub fn together(n: u32, m: u32) -> u32
     }
 }
 
+// The farm x is delivered some litres more.
+pub fn add(litres: &mut Deliveries, x: u8, more: u32)
+    requires { ⌜ x < signalCount ⌝ }
+    ensures { λ _. ⌜ now (litres .exit) ≡ set (now (litres .entry)) x (cappedOf (getD (now (litres .entry)) x 0 + more)) ⌝ }
+{
+    let n = x as usize;
+    litres[n] = together(litres[n], more);
+}
+
+// The litres of the farm x are again what they were before.
+pub fn restore(litres: &mut Deliveries, x: u8, before: u32)
+    requires { ⌜ x < signalCount ⌝ }
+    ensures { λ _. ⌜ now (litres .exit) ≡ set (now (litres .entry)) x before ⌝ }
+{
+    let n = x as usize;
+    litres[n] = before;
+}
+
+// Of the litres of two runs those of the one that answers: the other's where it is chosen.
+pub fn select(litres: &mut Deliveries, other: &Deliveries, chosen: bool)
+    ensures { λ _. ⌜ now (litres .exit) ≡ cond chosen (now (other .entry)) (now (litres .entry)) ⌝ }
+{
+    if chosen {
+        *litres = *other;
+    }
+}
+
 // A reaction from its values. The completion comes in one register: stored in pieces, it could not be read back whole before they
 // have all reached memory.
 pub fn made(
@@ -59,7 +89,6 @@ pub fn made(
     completion: Completion,
     reactions: u32,
     asked: u32,
-    delivered: u32,
 ) -> Reaction
     ensures { λ r. ⌜ r ≡ record {
       emitted = emitted;
@@ -67,7 +96,6 @@ pub fn made(
       completion = completion;
       reactions = reactions;
       asked = asked;
-      delivered = delivered;
     } ⌝ }
 {
     Reaction {
@@ -76,7 +104,6 @@ pub fn made(
         completion,
         reactions,
         asked,
-        delivered,
     }
 }
 
@@ -88,17 +115,17 @@ pub fn asks(p: Reaction, s: u8) -> bool
 }
 
 // A command that ends at once.
-pub fn ending(emitted: u32, delivered: u32) -> Reaction
-    ensures { λ r. ⌜ ((x : ℕ) → delivered ≡ cappedOf x → r ≡ reactionOf (alone (gives emitted ended none nothing) none x)) ⌝ }
+pub fn ending(emitted: u32) -> Reaction
+    ensures { λ r. ⌜ r ≡ reactionOf (alone (gives emitted ended none nothing) none 0) ⌝ }
 {
-    made(emitted, labels::empty(), Completion::Ended, 1, 0, delivered)
+    made(emitted, labels::empty(), Completion::Ended, 1, 0)
 }
 
 // A nothing, and whatever has ended at once.
 pub fn nothing() -> Reaction
     ensures { λ r. ⌜ r ≡ reactionOf (alone (gives none ended none nothing) none 0) ⌝ }
 {
-    ending(0, 0)
+    ending(0)
 }
 
 // A command that waits: a pause with its label, a stopped suspend with the active labels inside it. A stopped suspend asked for
@@ -106,7 +133,7 @@ pub fn nothing() -> Reaction
 pub fn waiting(labels: Labels, asked: u32) -> Reaction
     ensures { λ r. ⌜ r ≡ reactionOf (alone (gives none waiting (labelSet labels) nothing) asked 0) ⌝ }
 {
-    made(0, labels, Completion::Waiting, 1, asked, 0)
+    made(0, labels, Completion::Waiting, 1, asked)
 }
 
 pub fn pausing(l: u8) -> Reaction
@@ -118,7 +145,7 @@ pub fn pausing(l: u8) -> Reaction
 pub fn leaving(n: u8) -> Reaction
     ensures { λ r. ⌜ r ≡ reactionOf (alone (gives none (leaving n) none nothing) none 0) ⌝ }
 {
-    made(0, labels::empty(), Completion::Leaving(n), 1, 0, 0)
+    made(0, labels::empty(), Completion::Leaving(n), 1, 0)
 }
 
 // Wrong, with nothing emitted.
@@ -131,7 +158,6 @@ pub fn failing(kind: u8, place: u16, reactions: u32, asked: u32) -> Reaction
         Completion::Wrong(kind, place),
         reactions,
         asked,
-        0,
     )
 }
 
@@ -148,6 +174,5 @@ pub fn around(p: Reaction, asked: u32) -> Reaction
         k,
         over_one(p.reactions),
         signals::union(p.asked, asked),
-        p.delivered,
     )
 }

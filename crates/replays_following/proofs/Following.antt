@@ -7,7 +7,6 @@ use mathlib.Core.Bool.{Bool, false, _&&_}
 use mathlib.Core.List.{List}
 use lib.Dec.{eqb}
 use borrow.Author.Tests.{ne-eqb}
-use Rattle.limits.specs.Limits.{noFarm}
 use Rattle.esterel.specs.Instants as Instants
 use Rattle.esterel.specs.Instants.{Instant}
 use Rattle.esterel.specs.Traced.{instantOf, startTraced}
@@ -60,13 +59,13 @@ module _ (sequence : List ℕ) (readBack : ℕ) {second notes : List ℕ} (h : P
   stood : Decodes (h .p) state standing
   stood = k .decodes
 
-  pub fresh-replies : standing ≡ stands.Fresh → (e : ℕ) (i : Reaction) → i ≡ reactionOf (startTraced noFarm (program readBack (h .p)) e)
+  pub fresh-replies : standing ≡ stands.Fresh → (e : ℕ) (i : Reaction) → i ≡ reactionOf (startTraced 0 (program readBack (h .p)) e)
       → Replies sequence state e readBack (Reacted i)
-  fresh-replies q e i w = fresh-reply sequence state e readBack (h .p) (h .is) (h .ranged) noFarm i (subst (Decodes (h .p) state) q stood) w
+  fresh-replies q e i w = fresh-reply sequence state e readBack (h .p) (h .is) (h .ranged) 0 i (subst (Decodes (h .p) state) q stood) w
 
   pub waiting-replies : (m : Labels) → standing ≡ stands.Waiting m → (e : ℕ) (i : Reaction)
-      → i ≡ reactionOf (startTraced noFarm (program readBack (expandBy 0 (h .p) (labelSet m))) e) → Replies sequence state e readBack (Reacted i)
-  waiting-replies m q e i w = waiting-reply sequence state e readBack (h .p) (h .is) (h .ranged) noFarm i m (subst (Decodes (h .p) state) q stood) w
+      → i ≡ reactionOf (startTraced 0 (program readBack (expandBy 0 (h .p) (labelSet m))) e) → Replies sequence state e readBack (Reacted i)
+  waiting-replies m q e i w = waiting-reply sequence state e readBack (h .p) (h .is) (h .ranged) 0 i m (subst (Decodes (h .p) state) q stood) w
 
   -- what the comparison asks of an instant
   pub comparable : (e : ℕ) (i : Reaction) → Replies sequence state e readBack (Reacted i)

@@ -1,8 +1,8 @@
 // One record of a recording (02, item 14): the instant on its input from where the machine stands, compared. Nothing of the record is
 // believed but its input.
-ghost use Rattle.limits.specs.Limits.{maxDepth, noFarm};
+ghost use Rattle.limits.specs.Limits.{maxDepth};
 ghost use Rattle.layout.specs.Layout.{Ready};
-ghost use Rattle.program.specs.Program.{Reacted};
+ghost use Rattle.program.specs.Program.{ReactedWithoutLitres};
 ghost use Rattle.replays_following.specs.Following.{Stood, Follows};
 use instants::Standing;
 use layout::SecondParts;
@@ -20,9 +20,9 @@ fn instant(
     second: &SecondParts,
 ) -> Reaction
     requires { ⌜ Ready (now second) maxDepth 0 (now sequence) ⌝ }
-    ensures { λ r. ⌜ Reacted (now (second .entry)) (now (sequence .entry)) origin input «read_back» noFarm r ⌝ }
+    ensures { λ r. ⌜ ReactedWithoutLitres (now (second .entry)) (now (sequence .entry)) origin input «read_back» r ⌝ }
 {
-    program::react(sequence, origin, input, read_back, limits::NO_FARM, second)
+    program::react_without_litres(sequence, origin, input, read_back, second)
 }
 
 // The record of an instant on the input recorded, from where the machine stands.

@@ -4,7 +4,7 @@ use mathlib.Core.Path.{_≡_, refl, sym, ap, _∙_}
 use mathlib.Core.Bool.{Bool, true, false, cond}
 use mathlib.Core.Option.{Option, none, some}
 use mathlib.Core.List.{List}
-use lib.ListN.{getD}
+use lib.ListN.{getD, set}
 use Rattle.limits.specs.Limits.{signalCount}
 use Rattle.sets.specs.Sets.{member, empty, remove, below, from}
 use Rattle.sets.specs.Widths.{insertBelow}
@@ -19,7 +19,8 @@ use Rattle.layout.specs.Layout.{Form, Lies}
 use Rattle.sequence.proofs.Table.{byteOf, byte-is}
 use Rattle.layout.proofs.Laid.{opened, by-command}
 use Rattle.reaction.specs.declared.Reaction.{Reaction}
-use Rattle.reaction.specs.Reactions.{reactionOf, FromOne, FromTwo}
+use Rattle.reaction.specs.Reactions.{reactionOf, FromOne, FromTwo, Realizes}
+use Rattle.reaction.proofs.Accumulating.{held-accumulates, farms-none, farms-one}
 use Rattle.react_leaves.specs.Started.{Partless}
 use Rattle.react.proofs.Steps as fresh
 use Rattle.resume.specs.Resumed.{sideBy}
@@ -43,34 +44,36 @@ module _ (base m : ℕ) (p q : Statement) where
   unfolding expandBy
   loop-expands h = rw h
 
-module _ (farm base m e : ℕ) {r : Reaction} where
+module _ (farm base m e : ℕ) {b a : List ℕ} {r : Reaction} where
   -- what is said of a command is said of the statement that it is
-  pub here : (t p : Statement) → p ≡ t → r ≡ reactionOf (resumeTraced farm base t m e) → r ≡ reactionOf (resumeTraced farm base p m e)
+  pub here : (t p : Statement) → p ≡ t → Realizes farm b a r (resumeTraced farm base t m e) → Realizes farm b a r (resumeTraced farm base p m e)
   here t p h = fresh.here farm (expandBy base t m) (expandBy base p m) e (ap (λ (z : Statement). expandBy base z m) h)
 
   -- ---- two parts; the first rank of the second part is k
   module _ (p q : Statement) (k f : ℕ) (hk : k ≡ middle base p) (hf : f ≡ below k m) where
-    pub seq-first : {u : Reaction} → empty f ≡ false → u ≡ reactionOf (resumeTraced farm base p f e)
-        → FromOne (λ (t : Traces.Traced). seqTraced q t (startTraced farm q e)) u r → r ≡ reactionOf (resumeTraced farm base (seq p q) m e)
+    pub seq-first : {n : List ℕ} {u : Reaction} → empty f ≡ false → Realizes farm b n u (resumeTraced farm base p f e)
+        → ((t : Traces.Traced) (w : List ℕ) → Realizes farm w n u t → Realizes farm w a r (seqTraced q t (startTraced farm q e)))
+        → Realizes farm b a r (resumeTraced farm base (seq p q) m e)
     seq-first z h g =
         fresh.here farm (seq (expandBy base p f) q) (expandBy base (seq p q) m) e (seq-expands base m p q hk hf z) (fresh.seq-step farm e (expandBy base p f) q h g)
 
-    pub present-first : (x : ℕ) → empty f ≡ false → r ≡ reactionOf (resumeTraced farm base p f e) → r ≡ reactionOf (resumeTraced farm base (present x p q) m e)
+    pub present-first : (x : ℕ) → empty f ≡ false → Realizes farm b a r (resumeTraced farm base p f e) → Realizes farm b a r (resumeTraced farm base (present x p q) m e)
     unfolding expandBy
     present-first x z h = rw (← moved below m hk hf, z) h
 
     module _ (g : ℕ) (hg : g ≡ from k m) where
-      pub seq-second : empty f ≡ true → r ≡ reactionOf (resumeTraced farm (middle base p) q g e) → r ≡ reactionOf (resumeTraced farm base (seq p q) m e)
+      pub seq-second : empty f ≡ true → Realizes farm b a r (resumeTraced farm (middle base p) q g e) → Realizes farm b a r (resumeTraced farm base (seq p q) m e)
       unfolding expandBy
       seq-second z h = rw (← moved below m hk hf, ← moved from m hk hg, z) h
 
-      pub present-second : (x : ℕ) → empty f ≡ true → r ≡ reactionOf (resumeTraced farm (middle base p) q g e)
-          → r ≡ reactionOf (resumeTraced farm base (present x p q) m e)
+      pub present-second : (x : ℕ) → empty f ≡ true → Realizes farm b a r (resumeTraced farm (middle base p) q g e)
+          → Realizes farm b a r (resumeTraced farm base (present x p q) m e)
       unfolding expandBy
       present-second x z h = rw (← moved below m hk hf, ← moved from m hk hg, z) h
 
-      pub par-step : {u v : Reaction} → u ≡ reactionOf (startTraced farm (sideBy base p f) e)
-          → v ≡ reactionOf (startTraced farm (sideBy (middle base p) q g) e) → FromTwo parTraced u v r → r ≡ reactionOf (resumeTraced farm base (par p q) m e)
+      pub par-step : {n : List ℕ} {u v : Reaction} → Realizes farm b n u (startTraced farm (sideBy base p f) e)
+          → Realizes farm n a v (startTraced farm (sideBy (middle base p) q g) e) → FromTwo parTraced u v r
+          → Realizes farm b a r (resumeTraced farm base (par p q) m e)
       par-step h i w =
           let x = sideBy base p f in
           let y = sideBy (middle base p) q g in
@@ -78,62 +81,66 @@ module _ (farm base m e : ℕ) {r : Reaction} where
 
   -- ---- one part, which resumed as u
   module _ (p : Statement) {u : Reaction} where
-    pub loop-step : (a : ℕ) (q : Statement) → q ≡ loop a p → u ≡ reactionOf (resumeTraced farm base p m e)
-        → FromOne (λ (t : Traces.Traced). seqTraced q t (startTraced farm q e)) u r → r ≡ reactionOf (resumeTraced farm base q m e)
-    loop-step a q h k w =
+    pub loop-step : {n : List ℕ} (pl : ℕ) (q : Statement) → q ≡ loop pl p → Realizes farm b n u (resumeTraced farm base p m e)
+        → ((t : Traces.Traced) (w : List ℕ) → Realizes farm w n u t → Realizes farm w a r (seqTraced q t (startTraced farm q e)))
+        → Realizes farm b a r (resumeTraced farm base q m e)
+    loop-step pl q h k w =
         fresh.here farm (seq (expandBy base p m) q) (expandBy base q m) e (loop-expands base m p q h) (fresh.seq-step farm e (expandBy base p m) q k w)
 
-    pub try-step : u ≡ reactionOf (resumeTraced farm base p m e) → FromOne tryTraced u r → r ≡ reactionOf (resumeTraced farm base (try p) m e)
+    pub try-step : Realizes farm b a u (resumeTraced farm base p m e) → FromOne tryTraced u r → Realizes farm b a r (resumeTraced farm base (try p) m e)
     unfolding expandBy
     try-step = fresh.try-step farm e (expandBy base p m)
 
-    module _ (a x : ℕ) (small : x < signalCount) {e− : ℕ} (less : e− ≡ remove x e) (u-is : u ≡ reactionOf (resumeTraced farm base p m e−)) where
-      pub signal-step : {v : Reaction} {e+ : ℕ} → e+ ≡ insertBelow signalCount x e → v ≡ reactionOf (resumeTraced farm base p m e+)
-          → FromTwo (signalTraced farm local a x) u v r → r ≡ reactionOf (resumeTraced farm base (signal local a x p) m e)
-      unfolding expandBy
-      signal-step = fresh.signal-step farm e local a x (expandBy base p m) small less u-is
+-- ---- a local signal x at place pl, whose run without it is u
+module _ (farm base m e : ℕ) {b n : List ℕ} {r : Reaction} (p : Statement) {u : Reaction} (pl x : ℕ) (small : x < signalCount) {e− : ℕ} (less : e− ≡ remove x e)
+    (u-is : Realizes farm b n u (resumeTraced farm base p m e−)) where
+  pub signal-step : {v : Reaction} {o k a : List ℕ} {e+ : ℕ} {c : Bool} → e+ ≡ insertBelow signalCount x e → Realizes farm b o v (resumeTraced farm base p m e+)
+      → c ≡ member x (v .emitted) → k ≡ cond c o n → a ≡ set k x (getD b x 0)
+      → FromTwo (signalTraced farm local pl x) u v r → Realizes farm b a r (resumeTraced farm base (signal local pl x p) m e)
+  unfolding expandBy
+  signal-step = fresh.signal-step farm e pl x (expandBy base p m) small less u-is
 
-      pub signal-once-step : member x (u .asked) ≡ false → FromOne (signalOnce farm local a x) u r
-          → r ≡ reactionOf (resumeTraced farm base (signal local a x p) m e)
-      unfolding expandBy
-      signal-once-step = fresh.signal-once-step farm e local a x (expandBy base p m) small less u-is
+  pub signal-once-step : {a : List ℕ} → member x (u .asked) ≡ false → a ≡ set n x (getD b x 0) → FromOne (signalOnce farm local pl x) u r
+      → Realizes farm b a r (resumeTraced farm base (signal local pl x p) m e)
+  unfolding expandBy
+  signal-once-step = fresh.signal-once-step farm e pl x (expandBy base p m) small less u-is
 
 -- ---- a suspend, held with the labels of its active pauses
-module _ (farm base m e s : ℕ) (p : Statement) {r : Reaction} where
+module _ (farm base m e s : ℕ) (p : Statement) {b a : List ℕ} {r : Reaction} where
   as-held : (c : Bool) → member s e ≡ c
-      → r ≡ reactionOf (cond c (stoppedTraced s (labelsBy base p m) (expandBy base p m)) (heldTraced s (resumeTraced farm base p m e)))
-      → r ≡ reactionOf (resumeTraced farm base (suspend s p) m e)
+      → Realizes farm b a r (cond c (stoppedTraced s (labelsBy base p m) (expandBy base p m)) (heldTraced s (resumeTraced farm base p m e)))
+      → Realizes farm b a r (resumeTraced farm base (suspend s p) m e)
   unfolding expandBy
   as-held c i h =
-      h ∙ ap reactionOf (sym (start-traced-held farm s (labelsBy base p m) (expandBy base p m) e
-      ∙ ap (λ (x : Bool). cond x (stoppedTraced s (labelsBy base p m) (expandBy base p m)) (heldTraced s (resumeTraced farm base p m e))) i))
+      fresh.of-tree (start-traced-held farm s (labelsBy base p m) (expandBy base p m) e
+      ∙ ap (λ (x : Bool). cond x (stoppedTraced s (labelsBy base p m) (expandBy base p m)) (heldTraced s (resumeTraced farm base p m e))) i) h
 
-  -- it keeps the labels K
-  pub suspend-stopped : {K : ℕ} → member s e ≡ true → K ≡ labelsBy base p m → ((u : Statement) → r ≡ reactionOf (stoppedTraced s K u))
-      → r ≡ reactionOf (resumeTraced farm base (suspend s p) m e)
-  suspend-stopped i k h = as-held true i (rw k at h (expandBy base p m))
+  pub suspend-resumed : {u : Reaction} → member s e ≡ false → Realizes farm b a u (resumeTraced farm base p m e) → FromOne (heldTraced s) u r
+      → Realizes farm b a r (resumeTraced farm base (suspend s p) m e)
+  suspend-resumed i h k = as-held false i (k (resumeTraced farm base p m e) (h .0), farms-one (λ x y. held-accumulates s (resumeTraced farm base p m e)) (h .1))
 
-  pub suspend-resumed : {u : Reaction} → member s e ≡ false → u ≡ reactionOf (resumeTraced farm base p m e) → FromOne (heldTraced s) u r
-      → r ≡ reactionOf (resumeTraced farm base (suspend s p) m e)
-  suspend-resumed i h k = as-held false i (k (resumeTraced farm base p m e) h)
+-- it keeps the labels K
+pub suspend-stopped : (farm base m e s : ℕ) (p : Statement) (b : List ℕ) {r : Reaction} {K : ℕ} → member s e ≡ true → K ≡ labelsBy base p m
+    → ((u : Statement) → r ≡ reactionOf (stoppedTraced s K u)) → Realizes farm b b r (resumeTraced farm base (suspend s p) m e)
+suspend-stopped farm base m e s p b i k h = as-held farm base m e s p true i (rw k at h (expandBy base p m), farms-none _ _ _ _)
 
 -- ---- a side of a parallel
-module _ (farm base m e : ℕ) (p : Statement) {r : Reaction} where
-  pub side-ended : empty m ≡ true → r ≡ reactionOf (startTraced farm nothing e)
-      → r ≡ reactionOf (startTraced farm (sideBy base p m) e)
+module _ (farm base m e : ℕ) (p : Statement) {b a : List ℕ} {r : Reaction} where
+  pub side-ended : empty m ≡ true → Realizes farm b a r (startTraced farm nothing e)
+      → Realizes farm b a r (startTraced farm (sideBy base p m) e)
   side-ended z h = rw z h
 
-  pub side-active : empty m ≡ false → r ≡ reactionOf (resumeTraced farm base p m e)
-      → r ≡ reactionOf (startTraced farm (sideBy base p m) e)
+  pub side-active : empty m ≡ false → Realizes farm b a r (resumeTraced farm base p m e)
+      → Realizes farm b a r (startTraced farm (sideBy base p m) e)
   side-active z h = rw z h
 
 -- ---- a command without parts
-pub leaf-step : (t : List ℕ) (d base a : ℕ) (bs : List ℕ) (p : Statement) (farm m e : ℕ) {r : Reaction} → Lies t d base a bs p → Partless (getD bs 0 0)
-    → r ≡ reactionOf (startTraced farm nothing e) → r ≡ reactionOf (resumeTraced farm base p m e)
+pub leaf-step : (t : List ℕ) (d base a : ℕ) (bs : List ℕ) (p : Statement) (farm m e : ℕ) {x y : List ℕ} {r : Reaction} → Lies t d base a bs p → Partless (getD bs 0 0)
+    → Realizes farm x y r (startTraced farm nothing e) → Realizes farm x y r (resumeTraced farm base p m e)
 unfolding expandBy
-leaf-step t d base a bs p farm m e {r} l w h = go (commandOf (getD bs 0 0)) refl (opened t d base a bs p l .1 .form)
+leaf-step t d base a bs p farm m e {x} {y} {r} l w h = go (commandOf (getD bs 0 0)) refl (opened t d base a bs p l .1 .form)
   where
-    go : (o : Option Command) → commandOf (getD bs 0 0) ≡ o → Form (Lies t (d - 1)) t base a bs p o → r ≡ reactionOf (resumeTraced farm base p m e)
+    go : (o : Option Command) → commandOf (getD bs 0 0) ≡ o → Form (Lies t (d - 1)) t base a bs p o → Realizes farm x y r (resumeTraced farm base p m e)
     go none q f = absurd f
     go (some Command.nothing) q f = rw (f .parts) h
     go (some Command.pause) q f = rw (f .parts) h
@@ -150,7 +157,7 @@ leaf-step t d base a bs p farm m e {r} l w h = go (commandOf (getD bs 0 0)) refl
     go (some Command.deliver) q f = rw (f .parts) h
 
 -- an active pause
-pub pause-step : (t : List ℕ) (d base a : ℕ) (bs : List ℕ) (p : Statement) (farm m e : ℕ) {r : Reaction} → Lies t d base a bs p → getD bs 0 0 ≡ byteOf Command.pause
-    → r ≡ reactionOf (startTraced farm nothing e) → r ≡ reactionOf (resumeTraced farm base p m e)
+pub pause-step : (t : List ℕ) (d base a : ℕ) (bs : List ℕ) (p : Statement) (farm m e : ℕ) {x y : List ℕ} {r : Reaction} → Lies t d base a bs p → getD bs 0 0 ≡ byteOf Command.pause
+    → Realizes farm x y r (startTraced farm nothing e) → Realizes farm x y r (resumeTraced farm base p m e)
 unfolding expandBy
 pause-step t d base a bs p farm m e l b h = rw (by-command t d base a bs p l Command.pause b .parts) h

@@ -8,34 +8,36 @@ ghost use Rattle.layout.specs.Layout.{rest, Ready};
 ghost use Rattle.resume.specs.Resumed.{Resumed, ResumedSide};
 use labels::Labels;
 use layout::SecondParts;
+use reaction::Deliveries;
 use reaction::Reaction;
 
-// The reaction of the statement at the front of s, which stands at the offset `at`, by the ranks of its active pauses.
+// The reaction of the statement at the front of s, which stands at the offset `at`, by the ranks of its active pauses. What it
+// delivers is added to `litres`.
 pub fn resume(
     s: &[u8],
     at: usize,
     depth: u8,
     input: u32,
-    farm: u8,
+    litres: &mut Deliveries,
     active: Labels,
     second: &SecondParts,
 ) -> Reaction
     requires { ⌜ Ready (now second) depth at (now s) ⌝ }
-    ensures { λ r. ⌜ Resumed (now (second .entry)) depth at (now (s .entry)) (labelSet active) input farm r ⌝ }
+    ensures { λ r. ⌜ Resumed (now (second .entry)) depth at (now (s .entry)) (labelSet active) input (now (litres .entry)) (now (litres .exit)) r ⌝ }
 {
     let command = s[0];
     match command {
-        limits::SEQUENCE => seq_parts(s, at, depth, input, farm, active, second),
-        limits::PARALLEL => par_parts(s, at, depth, input, farm, active, second),
+        limits::SEQUENCE => seq_parts(s, at, depth, input, litres, active, second),
+        limits::PARALLEL => par_parts(s, at, depth, input, litres, active, second),
         // the loop begins again where its body has ended
         limits::LOOP => {
-            let p = part(s, 1, at + 1, depth - 1, input, farm, active, second);
-            react::after(p, s, 0, at, depth, input, farm, second)
+            let p = part(s, 1, at + 1, depth - 1, input, litres, active, second);
+            react::after(p, s, 0, at, depth, input, litres, second)
         }
-        limits::PRESENT => present_parts(s, at, depth, input, farm, active, second),
-        limits::SIGNAL => declaration(s, at, depth, input, farm, active, second),
-        limits::TRY => rules::in_try(part(s, 1, at + 1, depth - 1, input, farm, active, second)),
-        limits::SUSPEND => suspend_part(s, at, depth, input, farm, active, second),
+        limits::PRESENT => present_parts(s, at, depth, input, litres, active, second),
+        limits::SIGNAL => declaration(s, at, depth, input, litres, active, second),
+        limits::TRY => rules::in_try(part(s, 1, at + 1, depth - 1, input, litres, active, second)),
+        limits::SUSPEND => suspend_part(s, at, depth, input, litres, active, second),
         _ => reaction::nothing(),
     }
 }
@@ -48,18 +50,18 @@ fn part(
     at: usize,
     depth: u8,
     input: u32,
-    farm: u8,
+    litres: &mut Deliveries,
     active: Labels,
     second: &SecondParts,
 ) -> Reaction
     requires { ⌜ n ≤ length (now s) ⌝ }
     requires { ⌜ Ready (now second) depth at (rest n (now s)) ⌝ }
-    ensures { λ r. ⌜ Resumed (now (second .entry)) depth at (rest n (now (s .entry))) (labelSet active) input farm r ⌝ }
+    ensures { λ r. ⌜ Resumed (now (second .entry)) depth at (rest n (now (s .entry))) (labelSet active) input (now (litres .entry)) (now (litres .exit)) r ⌝ }
 {
     if react_leaves::is_pause(s, n) {
         return reaction::nothing();
     }
-    resume(&s[n..], at, depth, input, farm, active, second)
+    resume(&s[n..], at, depth, input, litres, active, second)
 }
 
 fn seq_parts(
@@ -67,12 +69,12 @@ fn seq_parts(
     at: usize,
     depth: u8,
     input: u32,
-    farm: u8,
+    litres: &mut Deliveries,
     active: Labels,
     second: &SecondParts,
 ) -> Reaction
     requires { ⌜ Ready (now second) depth at (now s) × (getD (now s) 0 0 ≡ 4) ⌝ }
-    ensures { λ r. ⌜ Resumed (now (second .entry)) depth at (now (s .entry)) (labelSet active) input farm r ⌝ }
+    ensures { λ r. ⌜ Resumed (now (second .entry)) depth at (now (s .entry)) (labelSet active) input (now (litres .entry)) (now (litres .exit)) r ⌝ }
 {
     let entry = second[at];
     let m = (entry % layout::BEFORE_UNIT) as usize;
@@ -80,10 +82,10 @@ fn seq_parts(
     if labels::is_empty(first) {
         // the expansion is that of the second part
         let others = labels::from(active, entry / layout::BEFORE_UNIT);
-        return part(s, m - at, m, depth - 1, input, farm, others, second);
+        return part(s, m - at, m, depth - 1, input, litres, others, second);
     }
-    let p = part(s, 1, at + 1, depth - 1, input, farm, first, second);
-    react::after(p, s, m - at, m, depth - 1, input, farm, second)
+    let p = part(s, 1, at + 1, depth - 1, input, litres, first, second);
+    react::after(p, s, m - at, m, depth - 1, input, litres, second)
 }
 
 // A side of a parallel, which begins at index n of s: it has ended where none of its pauses is active.
@@ -93,18 +95,18 @@ fn side(
     at: usize,
     depth: u8,
     input: u32,
-    farm: u8,
+    litres: &mut Deliveries,
     active: Labels,
     second: &SecondParts,
 ) -> Reaction
     requires { ⌜ n ≤ length (now s) ⌝ }
     requires { ⌜ Ready (now second) depth at (rest n (now s)) ⌝ }
-    ensures { λ r. ⌜ ResumedSide (now (second .entry)) depth at (rest n (now (s .entry))) (labelSet active) input farm r ⌝ }
+    ensures { λ r. ⌜ ResumedSide (now (second .entry)) depth at (rest n (now (s .entry))) (labelSet active) input (now (litres .entry)) (now (litres .exit)) r ⌝ }
 {
     if labels::is_empty(active) {
         return reaction::nothing();
     }
-    part(s, n, at, depth, input, farm, active, second)
+    part(s, n, at, depth, input, litres, active, second)
 }
 
 fn par_parts(
@@ -112,19 +114,19 @@ fn par_parts(
     at: usize,
     depth: u8,
     input: u32,
-    farm: u8,
+    litres: &mut Deliveries,
     active: Labels,
     second: &SecondParts,
 ) -> Reaction
     requires { ⌜ Ready (now second) depth at (now s) × (getD (now s) 0 0 ≡ 5) ⌝ }
-    ensures { λ r. ⌜ Resumed (now (second .entry)) depth at (now (s .entry)) (labelSet active) input farm r ⌝ }
+    ensures { λ r. ⌜ Resumed (now (second .entry)) depth at (now (s .entry)) (labelSet active) input (now (litres .entry)) (now (litres .exit)) r ⌝ }
 {
     let entry = second[at];
     let m = (entry % layout::BEFORE_UNIT) as usize;
     let first = labels::below(active, entry / layout::BEFORE_UNIT);
-    let p = side(s, 1, at + 1, depth - 1, input, farm, first, second);
+    let p = side(s, 1, at + 1, depth - 1, input, litres, first, second);
     let others = labels::from(active, entry / layout::BEFORE_UNIT);
-    let q = side(s, m - at, m, depth - 1, input, farm, others, second);
+    let q = side(s, m - at, m, depth - 1, input, litres, others, second);
     rules_two::in_parallel(p, q)
 }
 
@@ -134,21 +136,21 @@ fn present_parts(
     at: usize,
     depth: u8,
     input: u32,
-    farm: u8,
+    litres: &mut Deliveries,
     active: Labels,
     second: &SecondParts,
 ) -> Reaction
     requires { ⌜ Ready (now second) depth at (now s) × (getD (now s) 0 0 ≡ 7) ⌝ }
-    ensures { λ r. ⌜ Resumed (now (second .entry)) depth at (now (s .entry)) (labelSet active) input farm r ⌝ }
+    ensures { λ r. ⌜ Resumed (now (second .entry)) depth at (now (s .entry)) (labelSet active) input (now (litres .entry)) (now (litres .exit)) r ⌝ }
 {
     let entry = second[at];
     let first = labels::below(active, entry / layout::BEFORE_UNIT);
     if labels::is_empty(first) {
         let m = (entry % layout::BEFORE_UNIT) as usize;
         let others = labels::from(active, entry / layout::BEFORE_UNIT);
-        return part(s, m - at, m, depth - 1, input, farm, others, second);
+        return part(s, m - at, m, depth - 1, input, litres, others, second);
     }
-    part(s, 2, at + 2, depth - 1, input, farm, first, second)
+    part(s, 2, at + 2, depth - 1, input, litres, first, second)
 }
 
 // A declaration, as in `react`.
@@ -157,39 +159,45 @@ fn declaration(
     at: usize,
     depth: u8,
     input: u32,
-    farm: u8,
+    litres: &mut Deliveries,
     active: Labels,
     second: &SecondParts,
 ) -> Reaction
     requires { ⌜ Ready (now second) depth at (now s) × (getD (now s) 0 0 ≡ 8) ⌝ }
-    ensures { λ r. ⌜ Resumed (now (second .entry)) depth at (now (s .entry)) (labelSet active) input farm r ⌝ }
+    ensures { λ r. ⌜ Resumed (now (second .entry)) depth at (now (s .entry)) (labelSet active) input (now (litres .entry)) (now (litres .exit)) r ⌝ }
 {
-    signal_rule(&s[0..], at, depth, input, farm, active, second)
+    signal_rule(&s[0..], at, depth, input, litres, active, second)
 }
 
-// The signal rule: the body resumes without the signal, and with it where that run asked for the signal; else the second run would repeat the first.
-// It has a frame of its own, as in `react`.
+// The signal rule: the body resumes without the signal, and with it where that run asked for the signal; else the second run would
+// repeat the first. It has a frame of its own and treats the litres as in `react`.
 fn signal_rule(
     s: &[u8],
     at: usize,
     depth: u8,
     input: u32,
-    farm: u8,
+    litres: &mut Deliveries,
     active: Labels,
     second: &SecondParts,
 ) -> Reaction
     requires { ⌜ Ready (now second) depth at (now s) × (getD (now s) 0 0 ≡ 8) ⌝ }
-    ensures { λ r. ⌜ Resumed (now (second .entry)) depth at (now (s .entry)) (labelSet active) input farm r ⌝ }
+    ensures { λ r. ⌜ Resumed (now (second .entry)) depth at (now (s .entry)) (labelSet active) input (now (litres .entry)) (now (litres .exit)) r ⌝ }
 {
     let x = s[1];
+    let n = x as usize;
     let without = signals::without(input, x);
     let with = signals::with(input, x);
-    let p = body(s, 2, at + 2, depth - 1, without, farm, active, second);
+    let before = litres[n];
+    let mut other: Deliveries = *litres;
+    let p = body(s, 2, at + 2, depth - 1, without, litres, active, second);
     if reaction::asks(p, x) {
-        let q = body(s, 2, at + 2, depth - 1, with, farm, active, second);
-        declarations::in_signal(at as u16, x, farm, p, q)
+        let q = body(s, 2, at + 2, depth - 1, with, &mut other, active, second);
+        reaction::select(litres, &other, signals::member(q.emitted, x));
+        reaction::restore(litres, x, before);
+        declarations::in_signal(at as u16, x, p, q)
     } else {
-        declarations::in_signal_once(x, farm, p)
+        reaction::restore(litres, x, before);
+        declarations::in_signal_once(x, p)
     }
 }
 
@@ -200,18 +208,18 @@ fn body(
     at: usize,
     depth: u8,
     input: u32,
-    farm: u8,
+    litres: &mut Deliveries,
     active: Labels,
     second: &SecondParts,
 ) -> Reaction
     requires { ⌜ n ≤ length (now s) ⌝ }
     requires { ⌜ Ready (now second) depth at (rest n (now s)) ⌝ }
-    ensures { λ r. ⌜ Resumed (now (second .entry)) depth at (rest n (now (s .entry))) (labelSet active) input farm r ⌝ }
+    ensures { λ r. ⌜ Resumed (now (second .entry)) depth at (rest n (now (s .entry))) (labelSet active) input (now (litres .entry)) (now (litres .exit)) r ⌝ }
 {
     if s[n] == limits::SIGNAL {
-        return signal_rule(&s[n..], at, depth, input, farm, active, second);
+        return signal_rule(&s[n..], at, depth, input, litres, active, second);
     }
-    part(s, n, at, depth, input, farm, active, second)
+    part(s, n, at, depth, input, litres, active, second)
 }
 
 // The signal is tested first. Where it is present nothing inside reacts, and the active labels inside are kept.
@@ -220,12 +228,12 @@ fn suspend_part(
     at: usize,
     depth: u8,
     input: u32,
-    farm: u8,
+    litres: &mut Deliveries,
     active: Labels,
     second: &SecondParts,
 ) -> Reaction
     requires { ⌜ Ready (now second) depth at (now s) × (getD (now s) 0 0 ≡ 11) ⌝ }
-    ensures { λ r. ⌜ Resumed (now (second .entry)) depth at (now (s .entry)) (labelSet active) input farm r ⌝ }
+    ensures { λ r. ⌜ Resumed (now (second .entry)) depth at (now (s .entry)) (labelSet active) input (now (litres .entry)) (now (litres .exit)) r ⌝ }
 {
     let x = s[1];
     if signals::member(input, x) {
@@ -235,7 +243,7 @@ fn suspend_part(
         let absent = signals::single(x);
         rules::in_held(
             absent,
-            part(s, 2, at + 2, depth - 1, input, farm, active, second),
+            part(s, 2, at + 2, depth - 1, input, litres, active, second),
         )
     }
 }

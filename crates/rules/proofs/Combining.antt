@@ -19,7 +19,7 @@ use Rattle.esterel.specs.Traced.{traced, loopTraced, presentTraced, tryTraced, 
 use Rattle.completions.specs.declared.Completion.{Completion}
 use Rattle.reaction.specs.declared.Reaction.{Reaction}
 use Rattle.completions.specs.Completions.{completionOf, isEnded, caught}
-use Rattle.reaction.specs.Reactions.{keptOf, cappedOf, alone, reactionOf, failedWith, countedAround}
+use Rattle.reaction.specs.Reactions.{keptOf, alone, reactionOf, failedWith, countedAround}
 use Rattle.reaction.proofs.Values.{kept-one, counts-only}
 
 -- ---- loop p at the offset b
@@ -48,7 +48,7 @@ module _ (b : ℕ) (u : Statement) (t : Traces.Traced) (p : Reaction) (p-is : p 
 abbrev TryCatches : Traces.Traced → Reaction → Type 0
 TryCatches t p =
     (c : Completion) (m : ℕ) → c ≡ caught (p .completion) → m ≡ keptOf (1 + p .reactions)
-    → _≡_ {A = Reaction} (record { emitted = p .emitted; labels = p .labels; completion = c; reactions = m; asked = p .asked; delivered = p .delivered })
+    → _≡_ {A = Reaction} (record { emitted = p .emitted; labels = p .labels; completion = c; reactions = m; asked = p .asked })
     (reactionOf (tryTraced t))
 
 pub try-catches : (t : Traces.Traced) (p : Reaction) → p ≡ reactionOf t → TryCatches t p
@@ -56,7 +56,7 @@ try-catches t p p-is = rw p-is (go t)
   where
     leaves : (b : Bool) (o l n : ℕ) (t : Statement) (x : Option Error) (n₁ a z : ℕ) (c : Completion) (m : ℕ)
         → c ≡ cond b (completionOf ended x) (completionOf (leaving (n - 1)) x) → m ≡ keptOf (1 + n₁)
-        → _≡_ {A = Reaction} (record { emitted = o; labels = labelsWith l; completion = c; reactions = m; asked = a; delivered = cappedOf z })
+        → _≡_ {A = Reaction} (record { emitted = o; labels = labelsWith l; completion = c; reactions = m; asked = a })
         (reactionOf (traced (instant (cond b (gives o ended l nothing) (gives o (leaving (n - 1)) l (try t))) x (1 + n₁)) a z))
     leaves true o l n t x n₁ a z c m h e = rw (h, e)
     leaves false o l n t x n₁ a z c m h e = rw (h, e)

@@ -43,7 +43,6 @@ pub fn in_try(p: Reaction) -> Reaction
         completion: completions::caught(k),
         reactions: reaction::over_one(p.reactions),
         asked: p.asked,
-        delivered: p.delivered,
     }
 }
 

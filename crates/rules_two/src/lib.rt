@@ -38,7 +38,6 @@ pub fn in_sequence(p: Reaction, q: Reaction) -> Reaction
             completion: l,
             reactions: reaction::over_two(p.reactions, q.reactions),
             asked: signals::union(p.asked, q.asked),
-            delivered: reaction::together(p.delivered, q.delivered),
         }
     } else {
         in_first(p)
@@ -66,6 +65,5 @@ pub fn in_parallel(p: Reaction, q: Reaction) -> Reaction
         completion: code,
         reactions: reaction::over_two(p.reactions, q.reactions),
         asked: signals::union(p.asked, q.asked),
-        delivered: reaction::together(p.delivered, q.delivered),
     }
 }

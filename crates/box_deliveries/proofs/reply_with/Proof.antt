@@ -57,9 +57,9 @@ returns-4 c =
     let d = subst (Decodes (h .p) _) (c .before .before .before .enum-told3 .given .1) (c .before .before .before .before .before .decode .ensures (h .p) (h .known)) in
     let f = c .before .before .before .before .before .before .before .before .farms in
     let n = subst (λ (s : ℕ). HasNamed s (h .p)) (sym (f .ensures)) (has-named (h .known .noted)) in
-    let i = c .instant .ensures .1 (h .p) (h .known .lies) n in (
-      fresh-reply _ _ _ _ (h .p) (h .is) (h .ranged) _ _ d (i .0 .1),
-      fresh-delivers (a .sequence .now) (a .state .now) (a .input) (a .read-back) (f .result) (c .instant .last .1 .1 .1 .1 .1 .1 .0) (h .p) (h .is) d (c .instant .ensures .0) (i .1),
+    let i = c .instant .ensures (h .p) (h .known .lies) in (
+      fresh-reply _ _ _ _ (h .p) (h .is) (h .ranged) 0 _ d (i .0),
+      fresh-delivers (a .sequence .now) (a .state .now) (a .input) (a .read-back) (f .result) (c .instant .last .1 .1 .1 .1 .1 .0) (h .p) (h .is) d (i .2 _ n) (i .1),
     )
 
 returns-5 : tie.Need-returns-5
@@ -70,9 +70,9 @@ returns-5 c =
     let d = subst (Decodes (h .p) _) (c .before .before .before .before .active .given .1) (c .before .before .before .before .before .before .decode .ensures (h .p) (h .known)) in
     let f = c .before .before .before .before .before .before .before .before .before .farms in
     let n = subst (λ (s : ℕ). HasNamed s (h .p)) (sym (f .ensures)) (has-named (h .known .noted)) in
-    let i = c .instant2 .ensures .1 (h .p) (h .known .lies) n in (
-      waiting-reply _ _ _ _ (h .p) (h .is) (h .ranged) _ _ _ d (i .0 .1),
-      waiting-delivers (a .sequence .now) (a .state .now) (a .input) (a .read-back) (f .result) (c .instant2 .last .1 .1 .1 .1 .1 .1 .0) (h .p) (h .is) (h .ranged) _ d (c .instant2 .ensures .0) (i .1),
+    let i = c .instant2 .ensures (h .p) (h .known .lies) in (
+      waiting-reply _ _ _ _ (h .p) (h .is) (h .ranged) 0 _ _ d (i .0),
+      waiting-delivers (a .sequence .now) (a .state .now) (a .input) (a .read-back) (f .result) (c .instant2 .last .1 .1 .1 .1 .1 .0) (h .p) (h .is) (h .ranged) _ d (i .2 _ n) (i .1),
     )
 
 pub reply-with-spec : {M : Type 1} → statement M

@@ -16,17 +16,11 @@ choose-requires c κs = search needs
 enum-told : tie.Need-enum-told
 enum-told c = search needs
 
-passed-requires : tie.Need-passed-requires
-passed-requires c κs = search needs
-
 made-requires : tie.Need-made-requires
 made-requires c κs = search needs
 
 enum-told-2 : tie.Need-enum-told-2
 enum-told-2 c = search needs
-
-passed-requires-2 : tie.Need-passed-requires-2
-passed-requires-2 c κs = search needs
 
 made-requires-2 : tie.Need-made-requires-2
 made-requires-2 c κs = search needs
@@ -50,30 +44,29 @@ inherited-requires : tie.Need-inherited-requires
 inherited-requires c κs = search needs
 
 returns : tie.Need-returns
-returns c f sc w i t u a b =
-    let d = c .before .before .before .before in
-    signal-both f sc _ _ t u _ _ a b _ (d .choose .ensures) _ _ (d .before .before .counted .ensures) (d .before .asked .ensures) (c .before .before .enum-told .given .1) (d .before .before .before .before .before .args .dropped) w i (c .before .passed .ensures) (c .made .ensures)
+returns c f sc w t u a b =
+    let d = c .before .before .before in
+    signal-both f sc _ _ t u _ _ a b _ (d .choose .ensures) _ _ (d .before .before .counted .ensures) (d .before .asked .ensures) (c .before .enum-told .given .1) w (c .made .ensures)
 
 returns-2 : tie.Need-returns-2
-returns-2 c f sc w i t u a b =
-    let d = c .before .before .before .before in
-    signal-neither f sc _ _ t u _ _ a b _ (d .choose .ensures) _ _ (d .before .before .counted .ensures) (d .before .asked .ensures) (c .before .before .enum-told2 .given .1) (d .before .before .before .before .before .args .dropped) i
-    (c .before .passed2 .ensures) (c .made2 .ensures)
+returns-2 c f sc w t u a b =
+    let d = c .before .before .before in
+    signal-neither f sc _ _ t u _ _ a b _ (d .choose .ensures) _ _ (d .before .before .counted .ensures) (d .before .asked .ensures) (c .before .enum-told2 .given .1) (c .made2 .ensures)
 
 returns-3 : tie.Need-returns-3
-returns-3 c f sc w i t u a b =
+returns-3 c f sc w t u a b =
     let d = c .before .before .before in
     c .failing .ensures
     ∙ signal-unreactive f sc _ _ t u _ _ a b _ (d .choose .ensures) _ _ (d .before .before .counted .ensures) (d .before .asked .ensures) (c .before .enum-told3 .given .1)
 
 returns-4 : tie.Need-returns-4
-returns-4 c f sc w i t u a b =
+returns-4 c f sc w t u a b =
     let d = c .before .before .before in
     c .failing2 .ensures
     ∙ signal-undetermined f sc _ _ t u _ _ a b _ (d .choose .ensures) _ _ (d .before .before .counted .ensures) (d .before .asked .ensures) (c .before .enum-told4 .given .1)
 
 returns-5 : tie.Need-returns-5
-returns-5 c f sc w i t u a b =
+returns-5 c f sc w t u a b =
     let d = c .before .before .before in
     signal-inherits f sc _ _ t u _ _ a b _ (d .choose .ensures) _ _ (d .before .before .counted .ensures) (d .before .asked .ensures) (c .before .enum-told5 .given .1) (c .inherited .ensures)
 
@@ -85,10 +78,8 @@ declaring-spec =
     asked-requires
     choose-requires
     enum-told
-    passed-requires
     made-requires
     enum-told-2
-    passed-requires-2
     made-requires-2
     enum-told-3
     failing-requires

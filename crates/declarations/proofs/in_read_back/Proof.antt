@@ -8,7 +8,7 @@ declaring-requires : tie.Need-declaring-requires
 declaring-requires c κs = search needs
 
 returns : tie.Need-returns
-returns c f = c .declaring .ensures f reported refl (λ x. refl)
+returns c f = c .declaring .ensures f reported refl
 
 pub in-read-back-spec : {M : Type 1} → statement M
 in-read-back-spec = tie.close (tie.spec declaring-requires returns)

@@ -9,7 +9,7 @@ declaring-once-requires : tie.Need-declaring-once-requires
 declaring-once-requires c κs = search needs
 
 returns : tie.Need-returns
-returns c f s = c .declaring-once .ensures f reported readBackPlace s refl (λ x. refl)
+returns c f s = c .declaring-once .ensures f reported readBackPlace s refl
 
 pub in-read-back-once-spec : {M : Type 1} → statement M
 in-read-back-once-spec = tie.close (tie.spec declaring-once-requires returns)

@@ -1,4 +1,3 @@
-use mathlib.Core.Path.{refl}
 use Rattle.esterel.specs.Statement.{local}
 use borrow.Author.Needs.{needs}
 use Rattle.declarations.proofs.in_signal.Statement.{statement}
@@ -11,7 +10,7 @@ declaring-requires : tie.Need-declaring-requires
 declaring-requires c κs = search needs
 
 returns : tie.Need-returns
-returns c = c .declaring .ensures (c .before .before .args .farm) local (c .before .without .ensures) (λ x. refl)
+returns c f = c .declaring .ensures f local (c .before .without .ensures)
 
 pub in-signal-spec : {M : Type 1} → statement M
 in-signal-spec = tie.close (tie.spec without-requires declaring-requires returns)

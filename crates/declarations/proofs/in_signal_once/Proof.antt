@@ -1,4 +1,3 @@
-use mathlib.Core.Path.{refl}
 use Rattle.esterel.specs.Statement.{local}
 use borrow.Author.Needs.{needs}
 use Rattle.declarations.proofs.in_signal_once.Statement.{statement}
@@ -11,7 +10,7 @@ declaring-once-requires : tie.Need-declaring-once-requires
 declaring-once-requires c κs = search needs
 
 returns : tie.Need-returns
-returns c a = c .declaring-once .ensures (c .before .before .args .farm) local a _ (c .before .without .ensures) (λ x. refl)
+returns c f a = c .declaring-once .ensures f local a _ (c .before .without .ensures)
 
 pub in-signal-once-spec : {M : Type 1} → statement M
 in-signal-once-spec = tie.close (tie.spec without-requires declaring-once-requires returns)

@@ -17,23 +17,20 @@ empty-requires c κs = search needs
 made-requires : tie.Need-made-requires
 made-requires c κs = search needs
 
-passed-requires : tie.Need-passed-requires
-passed-requires c κs = search needs
-
 made-requires-2 : tie.Need-made-requires-2
 made-requires-2 c κs = search needs
 
 returns : tie.Need-returns
 unfolding none
-returns c f sc a s w i t h =
+returns c f sc a s w t h =
     let d = c .before .before .before in
     once-wrong f sc a s t _ h (d .before .over-two .ensures) (sym (d .is-wrong .ensures) ∙ c .before .before .if1 .taken) (search needs, c .before .empty .ensures)
     (c .made .ensures)
 
 returns-2 : tie.Need-returns-2
-returns-2 c f sc a s w i t h =
-    let d = c .before .before .before in
-    once-right f sc a s t _ h (d .before .over-two .ensures) (sym (d .is-wrong .ensures) ∙ c .before .before .if1 .left) (d .before .before .before .args .dropped) w i (c .before .passed .ensures)
+returns-2 c f sc a s w t h =
+    let d = c .before .before in
+    once-right f sc a s t _ h (d .before .over-two .ensures) (sym (d .is-wrong .ensures) ∙ c .before .if1 .left) w
     (c .made2 .ensures)
 
 pub declaring-once-spec : {M : Type 1} → statement M
@@ -44,7 +41,6 @@ declaring-once-spec =
     is-wrong-requires
     empty-requires
     made-requires
-    passed-requires
     made-requires-2
     returns
     returns-2)

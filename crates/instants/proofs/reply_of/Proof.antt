@@ -1,6 +1,5 @@
 use mathlib.Core.Path.{subst}
 use borrow.Author.Needs.{needs}
-use Rattle.limits.specs.Limits.{noFarm}
 use Rattle.instants.specs.Replies.{Decodes}
 use Rattle.checks.proofs.Passing.{as-sound, as-ready}
 use Rattle.instants.proofs.Replying.{malformed-reply, over-reply, fresh-reply, waiting-reply}
@@ -24,16 +23,16 @@ enum-told-3 : tie.Need-enum-told-3
 enum-told-3 c = search needs
 
 -- src/lib.rt:58:43
-react-requires : tie.Need-react-requires
-react-requires c κs = as-ready (c .before .before .before .before .before .pre)
+react-without-litres-requires : tie.Need-react-without-litres-requires
+react-without-litres-requires c κs = as-ready (c .before .before .before .before .before .pre)
 
 -- src/lib.rt:65:27
 enum-known-active : tie.Need-enum-known-active
 enum-known-active c = search needs
 
 -- src/lib.rt:65:53
-react-requires-2 : tie.Need-react-requires-2
-react-requires-2 c κs = as-ready (c .before .before .before .before .before .before .pre)
+react-without-litres-requires-2 : tie.Need-react-without-litres-requires-2
+react-without-litres-requires-2 c κs = as-ready (c .before .before .before .before .before .before .pre)
 
 -- src/lib.rt:51:1
 returns : tie.Need-returns
@@ -51,13 +50,13 @@ returns-2 c =
 returns-3 : tie.Need-returns-3
 returns-3 c =
     let h = c .before .before .before .before .before .before .pre in
-    fresh-reply _ _ _ _ (h .p) (h .is) (h .ranged) noFarm _ (subst (Decodes (h .p) _) (c .before .enum-told3 .given .1) (c .before .before .before .decode .ensures (h .p) (h .known))) (c .react .ensures (h .p) (h .known .lies))
+    fresh-reply _ _ _ _ (h .p) (h .is) (h .ranged) 0 _ (subst (Decodes (h .p) _) (c .before .enum-told3 .given .1) (c .before .before .before .decode .ensures (h .p) (h .known))) (c .react-without-litres .ensures (h .p) (h .known .lies))
 
 -- src/lib.rt:51:1
 returns-4 : tie.Need-returns-4
 returns-4 c =
     let h = c .before .before .before .before .before .before .before .pre in
-    waiting-reply _ _ _ _ (h .p) (h .is) (h .ranged) noFarm _ _ (subst (Decodes (h .p) _) (c .before .before .active .given .1) (c .before .before .before .before .decode .ensures (h .p) (h .known))) (c .react2 .ensures (h .p) (h .known .lies))
+    waiting-reply _ _ _ _ (h .p) (h .is) (h .ranged) 0 _ _ (subst (Decodes (h .p) _) (c .before .before .active .given .1) (c .before .before .before .before .decode .ensures (h .p) (h .known))) (c .react-without-litres2 .ensures (h .p) (h .known .lies))
 
 pub reply-of-spec : {M : Type 1} → statement M
 reply-of-spec =
@@ -67,9 +66,9 @@ reply-of-spec =
     enum-told
     enum-told-2
     enum-told-3
-    react-requires
+    react-without-litres-requires
     enum-known-active
-    react-requires-2
+    react-without-litres-requires-2
     returns
     returns-2
     returns-3

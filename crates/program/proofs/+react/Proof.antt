@@ -11,6 +11,7 @@ use Rattle.program.proofs.react.Reads as react
 use Rattle.program.proofs.react.Kinds as react-kinds
 use Rattle.program.proofs.+react.Lts-react as react-lts
 use Rattle.program.proofs.inside.Reads as inside-reads
+use Rattle.reaction.proofs.select.Reads as select-reads
 use Rattle.declarations.proofs.in_read_back.Reads as in-read-back-reads
 use Rattle.declarations.proofs.in_read_back_once.Reads as in-read-back-once-reads
 use Rattle.signals.proofs.is_empty.Reads as is-empty-reads
@@ -22,14 +23,14 @@ use Rattle.program.proofs.+react.{statement}
 use Rattle.program.proofs.+react.Tie.{close}
 
 -- the read-back set loses its lowest signal at each level
-abbrev μ-react : Measures 2 react-kinds.ps ℕ
+abbrev μ-react : Measures 3 react-kinds.ps ℕ
 μ-react κs a = a .1 .1 .1 .0
 
-abbrev react-at : ℕ → In 2 react-kinds.ps
-react-at t = and 2 react-kinds.ps (is 2 react-kinds.ps μ-react t) react.Pre
+abbrev react-at : ℕ → In 3 react-kinds.ps
+react-at t = and 3 react-kinds.ps (is 3 react-kinds.ps μ-react t) react.Pre
 
-abbrev react-below : ℕ → In 2 react-kinds.ps
-react-below t = and 2 react-kinds.ps (falls 2 react-kinds.ps _<_ μ-react t) react.Pre
+abbrev react-below : ℕ → In 3 react-kinds.ps
+react-below t = and 3 react-kinds.ps (falls 3 react-kinds.ps _<_ μ-react t) react.Pre
 
 abbrev claims : ℕ → react-lts.Claims
 claims t = (
@@ -47,6 +48,8 @@ claims t = (
   react.Post,
   member-reads.Asked,
   member-reads.Learnt,
+  select-reads.Asked,
+  select-reads.Learnt,
   in-read-back-reads.Asked,
   in-read-back-reads.Learnt,
   in-read-back-once-reads.Asked,
@@ -60,9 +63,9 @@ react-inside-requires : (t : ℕ) → react-lts.Need-inside-requires (claims t) 
 react-inside-requires t c κs = search needs
 
 react-returns : (t : ℕ) → react-lts.Need-returns (claims t) (react-at t) react.Post
-react-returns t c p l =
-    let a = c .before .before .before .before .args in
-    none-left (a .farm) (a .read-back) (termAt (a .origin) p) (a .input) (sym (c .before .before .is-empty .ensures) ∙ c .before .if1 .taken) (c .inside .ensures p l)
+react-returns t c p l f =
+    let a = c .before .before .before .before .before .args in
+    none-left f (a .read-back) (termAt (a .origin) p) (a .input) (sym (c .before .before .before .is-empty .ensures) ∙ c .before .before .if1 .taken) (c .inside .ensures p l f)
 
 react-lowest-requires : (t : ℕ) → react-lts.Need-lowest-requires (claims t) (react-at t) react.Post
 react-lowest-requires t c κs = search needs
@@ -78,22 +81,22 @@ react-with-requires t c κs = search needs
 
 react-react-requires : (t : ℕ) → react-lts.Need-react-requires (claims t) (react-at t) react.Post
 react-react-requires t c κs =
-    let w = c .before .before .before in
-    let i = w .before .before .before .before in
-    let less = remove-less _ (i .args .read-back)
-    (found (i .args .read-back) _ (search needs) (sym (w .before .before .is-empty .ensures) ∙ w .before .if1 .left) (w .lowest .ensures)) in
-    (omega (arith, less, i .pre .0, c .before .before .without .ensures), i .pre .1)
+    let a = c .before .before .before .before .before .before .before .before .before .args in
+    let h = c .before .before .before .before .before .before .before .before .before .pre in
+    let less = remove-less _ (a .read-back)
+    (found (a .read-back) _ (search needs) (sym (c .before .before .before .before .before .before .before .is-empty .ensures) ∙ c .before .before .before .before .before .before .if1 .left) (c .before .before .before .before .before .lowest .ensures)) in
+    (omega (arith, less, h .0, c .before .before .before .before .without .ensures), h .1)
 
 react-member-requires : (t : ℕ) → react-lts.Need-member-requires (claims t) (react-at t) react.Post
 react-member-requires t c κs = search needs
 
 react-react-requires-2 : (t : ℕ) → react-lts.Need-react-requires-2 (claims t) (react-at t) react.Post
 react-react-requires-2 t c κs =
-    let w = c .before .before .before .before .before .before in
-    let i = w .before .before .before .before in
-    let less = remove-less _ (i .args .read-back)
-    (found (i .args .read-back) _ (search needs) (sym (w .before .before .is-empty .ensures) ∙ w .before .if1 .left) (w .lowest .ensures)) in
-    (omega (arith, less, i .pre .0, c .before .before .before .before .before .without .ensures), i .pre .1)
+    let a = c .before .before .before .before .before .before .before .before .before .before .before .before .before .args in
+    let h = c .before .before .before .before .before .before .before .before .before .before .before .before .before .pre in
+    let less = remove-less _ (a .read-back)
+    (found (a .read-back) _ (search needs) (sym (c .before .before .before .before .before .before .before .before .before .before .before .is-empty .ensures) ∙ c .before .before .before .before .before .before .before .before .before .before .if1 .left) (c .before .before .before .before .before .before .before .before .before .lowest .ensures)) in
+    (omega (arith, less, h .0, c .before .before .before .before .before .before .before .before .without .ensures), h .1)
 
 react-in-read-back-requires : (t : ℕ) → react-lts.Need-in-read-back-requires (claims t) (react-at t) react.Post
 react-in-read-back-requires t c κs = search needs
@@ -102,22 +105,18 @@ react-in-read-back-once-requires : (t : ℕ) → react-lts.Need-in-read-back-onc
 react-in-read-back-once-requires t c κs = search needs
 
 react-returns-2 : (t : ℕ) → react-lts.Need-returns-2 (claims t) (react-at t) react.Post
-react-returns-2 t c p l =
-    let d = c .before .before .before .before in
-    let w = d .before .before .before .before in
-    let a = w .before .before .before .before .args in
-    one-more (a .read-back) _ (search needs) (sym (w .before .before .is-empty .ensures) ∙ w .before .if1 .left) (w .lowest .ensures)
-    (a .farm) (termAt (a .origin) p) (a .input) (d .before .before .before .without .ensures) (d .before .before .without2 .ensures) (d .react .ensures p l)
-    (d .before .with .ensures) (c .before .react2 .ensures p l) (c .in-read-back .ensures _)
+react-returns-2 t c p l f =
+    let a = c .before .before .before .before .before .before .before .before .before .before .before .before .before .before .before .before .before .before .before .args in
+    one-more (a .read-back) _ (omega (arith, c .before .before .before .before .before .before .before .before .before .before .before .before .before .before .before .before .before .before .before .fits .read-back)) (sym (c .before .before .before .before .before .before .before .before .before .before .before .before .before .before .before .before .before .is-empty .ensures) ∙ c .before .before .before .before .before .before .before .before .before .before .before .before .before .before .before .before .if1 .left) (c .before .before .before .before .before .before .before .before .before .before .before .before .before .before .before .lowest .ensures)
+    f (termAt (a .origin) p) (a .input) (c .before .before .before .before .before .before .before .before .before .before .before .before .before .before .without .ensures) (c .before .before .before .before .before .before .before .before .before .before .before .before .before .without2 .ensures) (c .before .before .before .before .before .before .before .before .before .react .ensures p l f)
+    (c .before .before .before .before .before .before .before .before .before .before .before .before .with .ensures) (c .before .before .before .before .before .react2 .ensures p l f) (c .before .before .member2 .ensures) (c .before .select .ensures) (c .in-read-back .ensures f)
 
 react-returns-3 : (t : ℕ) → react-lts.Need-returns-3 (claims t) (react-at t) react.Post
-react-returns-3 t c p l =
-    let d = c .before .before .before in
-    let w = d .before .before .before .before in
-    let a = w .before .before .before .before .args in
-    one-more-once (a .read-back) _ (search needs) (sym (w .before .before .is-empty .ensures) ∙ w .before .if1 .left) (w .lowest .ensures)
-    (a .farm) (termAt (a .origin) p) (a .input) (d .before .before .before .without .ensures) (d .before .before .without2 .ensures) (d .react .ensures p l)
-    (sym (c .before .before .member .ensures) ∙ c .before .if2 .left) (c .in-read-back-once .ensures _ _)
+react-returns-3 t c p l f =
+    let a = c .before .before .before .before .before .before .before .before .before .before .before .before .before .args in
+    one-more-once (a .read-back) _ (omega (arith, c .before .before .before .before .before .before .before .before .before .before .before .before .before .fits .read-back)) (sym (c .before .before .before .before .before .before .before .before .before .before .before .is-empty .ensures) ∙ c .before .before .before .before .before .before .before .before .before .before .if1 .left) (c .before .before .before .before .before .before .before .before .before .lowest .ensures)
+    f (termAt (a .origin) p) (a .input) (c .before .before .before .before .before .before .before .before .without .ensures) (c .before .before .before .before .before .before .before .without2 .ensures) (c .before .before .before .react .ensures p l f)
+    (sym (c .before .before .member .ensures) ∙ c .before .if2 .left) (c .in-read-back-once .ensures f _)
 
 pub +react-spec : {M : Type 1} → statement M
 +react-spec = close μ-react λ t. react-lts.spec (claims t)
@@ -133,6 +132,7 @@ pub +react-spec : {M : Type 1} → statement M
     (react-react-requires t)
     (react-member-requires t)
     (react-react-requires-2 t)
+    (λ c κs. search needs) (λ c κs. search needs)
     (react-in-read-back-requires t)
     (react-in-read-back-once-requires t)
     (react-returns-2 t)

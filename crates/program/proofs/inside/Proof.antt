@@ -15,10 +15,10 @@ resume-requires : tie.Need-resume-requires
 resume-requires c κs = search needs
 
 returns : tie.Need-returns
-returns c p l = rw (c .before .enum-told .given .1) (c .react .ensures 0 p l)
+returns c p l f = rw (c .before .before .enum-told .given .1) (c .react .ensures 0 p l f)
 
 returns-2 : tie.Need-returns-2
-returns-2 c p l = rw (c .before .before .origin .given .1) (c .resume .ensures 0 p l)
+returns-2 c p l f = rw (c .before .before .before .origin .given .1) (c .resume .ensures 0 p l f)
 
 pub inside-spec : {M : Type 1} → statement M
 inside-spec =

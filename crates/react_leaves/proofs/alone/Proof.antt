@@ -20,7 +20,7 @@ pausing-requires : tie.Need-pausing-requires
 pausing-requires c κs = search needs
 
 emitting-requires : tie.Need-emitting-requires
-emitting-requires c κs = pure-emission (c .match .keys3) (begins (c .before .before .before .pre .ready) Command.emit (c .match .keys3)) .0
+emitting-requires c κs = pure-emission (c .before .match .keys3) (begins (c .before .before .before .before .pre .ready) Command.emit (c .before .match .keys3)) .0
 
 shared-slice-read-leaving : tie.Need-shared-slice-read-leaving
 shared-slice-read-leaving c = begins (c .before .before .before .before .pre .ready) Command.exit (c .before .match .keys4) .there
@@ -36,37 +36,37 @@ pausing-requires-2 c κs = search needs
 
 emitting-requires-2 : tie.Need-emitting-requires-2
 emitting-requires-2 c κs =
-    let f = c .before .before .before .pre in
-    let e = last-leaf (f .ready) (f .partless) (c .match .rest) in
+    let f = c .before .before .before .before .pre in
+    let e = last-leaf (f .ready) (f .partless) (c .before .match .rest) in
     litres-emission e (begins (f .ready) Command.deliver e) .0
 
 returns : tie.Need-returns
-returns c t d a e base p l = nothing-step _ p _ _ (by-command t d base a _ p l Command.nothing (c .before .match .keys1) .parts) (c .nothing .ensures)
+returns c t d a e base p l f = nothing-step f p _ _ _ (by-command t d base a _ p l Command.nothing (c .before .match .keys1) .parts) (c .nothing .ensures)
 
 returns-2 : tie.Need-returns-2
-returns-2 c t d a e base p l =
+returns-2 c t d a e base p l f =
     let y = by-command t d base a _ p l Command.pause (c .before .before .match .keys2) in
-    pause-step _ p _ _ _ (ltb-true _ _ (y .ranged)) (c .pausing .ensures) (y .parts)
+    pause-step f p _ _ _ _ (ltb-true _ _ (y .ranged)) (c .pausing .ensures) (y .parts)
 
 returns-3 : tie.Need-returns-3
-returns-3 c t d a e base p l =
-    let y = by-command t d base a _ p l Command.emit (c .before .match .keys3) in
-    emit-step _ p _ _ _ _ (pure-emission (c .before .match .keys3) y .1) (ltb-true _ _ (y .ranged)) (c .emitting .ensures)
+returns-3 c t d a e base p l f =
+    let y = by-command t d base a _ p l Command.emit (c .before .before .match .keys3) in
+    emit-step f p _ _ _ _ _ _ (pure-emission (c .before .before .match .keys3) y .1) (ltb-true _ _ (y .ranged)) (c .emitting .ensures f)
 
 returns-4 : tie.Need-returns-4
-returns-4 c t d a e base p l = exit-step _ p _ _ _ (by-command t d base a _ p l Command.exit (c .before .before .match .keys4) .parts) (c .leaving .ensures)
+returns-4 c t d a e base p l f = exit-step f p _ _ _ _ (by-command t d base a _ p l Command.exit (c .before .before .match .keys4) .parts) (c .leaving .ensures)
 
 returns-5 : tie.Need-returns-5
-returns-5 c t d a e base p l =
+returns-5 c t d a e base p l f =
     let y = by-command t d base a _ p l Command.setpause (c .before .before .match .keys5) in
-    setpause-step _ p _ _ _ (ltb-true _ _ (y .ranged)) (c .pausing2 .ensures) (y .parts)
+    setpause-step f p _ _ _ _ (ltb-true _ _ (y .ranged)) (c .pausing2 .ensures) (y .parts)
 
 returns-6 : tie.Need-returns-6
-returns-6 c t d a e base p l =
-    let f = c .before .before .before .before .pre in
-    let b = last-leaf (f .ready) (f .partless) (c .before .match .rest) in
+returns-6 c t d a e base p l f =
+    let g = c .before .before .before .before .before .pre in
+    let b = last-leaf (g .ready) (g .partless) (c .before .before .match .rest) in
     let y = by-command t d base a _ p l Command.deliver b in
-    emit-step _ p _ _ _ _ (litres-emission b y .1) (ltb-true _ _ (y .ranged)) (c .emitting2 .ensures)
+    emit-step f p _ _ _ _ _ _ (litres-emission b y .1) (ltb-true _ _ (y .ranged)) (c .emitting2 .ensures f)
 
 pub alone-spec : {M : Type 1} → statement M
 alone-spec =

@@ -15,7 +15,7 @@ made-requires c κs = search needs
 
 returns : tie.Need-returns
 unfolding none
-returns c x h = c .made .ensures ∙ made ended Option.none 1 none x refl (search needs, c .before .empty .ensures) refl refl refl h
+returns c = c .made .ensures ∙ made ended Option.none 1 none 0 refl (search needs, c .before .empty .ensures) refl refl refl
 
 pub ending-spec : {M : Type 1} → statement M
 ending-spec = tie.close (tie.spec empty-requires made-requires returns)

@@ -15,7 +15,7 @@ made-requires c κs = search needs
 
 returns : tie.Need-returns
 unfolding none
-returns c = c .made .ensures ∙ made (leaving _) Option.none 1 none 0 refl (search needs, c .before .empty .ensures) refl refl refl refl
+returns c = c .made .ensures ∙ made (leaving _) Option.none 1 none 0 refl (search needs, c .before .empty .ensures) refl refl refl
 
 pub leaving-spec : {M : Type 1} → statement M
 leaving-spec = tie.close (tie.spec empty-requires made-requires returns)

@@ -1,4 +1,3 @@
-use mathlib.Core.Path.{refl}
 use borrow.Author.Needs.{needs}
 use Rattle.sets.specs.Sets.{none}
 use Rattle.reaction.proofs.nothing.Statement.{statement}
@@ -9,7 +8,7 @@ ending-requires c κs = search needs
 
 returns : tie.Need-returns
 unfolding none
-returns c = c .ending .ensures 0 refl
+returns c = c .ending .ensures
 
 pub nothing-spec : {M : Type 1} → statement M
 nothing-spec = tie.close (tie.spec ending-requires returns)

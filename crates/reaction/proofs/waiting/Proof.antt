@@ -12,7 +12,7 @@ made-requires c κs = search needs
 
 returns : tie.Need-returns
 unfolding none
-returns c = c .made .ensures ∙ made waiting Option.none 1 _ 0 refl (search needs, refl) refl refl refl refl
+returns c = c .made .ensures ∙ made waiting Option.none 1 _ 0 refl (search needs, refl) refl refl refl
 
 pub waiting-spec : {M : Type 1} → statement M
 waiting-spec = tie.close (tie.spec made-requires returns)

@@ -21,16 +21,13 @@ over-two-requires c κs = search needs
 union-requires-3 : tie.Need-union-requires-3
 union-requires-3 c κs = search needs
 
-together-requires : tie.Need-together-requires
-together-requires c κs = search needs
-
 returns : tie.Need-returns
 returns c t v a b =
-    let d = c .before .before in
-    par-joins t v _ _ a b _ _ _ _ _ _ _ (d .before .before .before .union .ensures) (d .before .before .before .before .greater-of .ensures) (d .over-two .ensures)
-    (c .before .union3 .ensures) (c .together .ensures) (d .before .before .union2 .ensures) (search needs, d .before .if-waiting .ensures)
+    let d = c .before in
+    par-joins t v _ _ a b _ _ _ _ _ _ (d .before .before .before .union .ensures) (d .before .before .before .before .greater-of .ensures) (d .over-two .ensures)
+    (c .union3 .ensures) (d .before .before .union2 .ensures) (search needs, d .before .if-waiting .ensures)
 
 pub in-parallel-spec : {M : Type 1} → statement M
 in-parallel-spec =
     tie.close
-    (tie.spec greater-of-requires union-requires union-requires-2 if-waiting-requires over-two-requires union-requires-3 together-requires returns)
+    (tie.spec greater-of-requires union-requires union-requires-2 if-waiting-requires over-two-requires union-requires-3 returns)

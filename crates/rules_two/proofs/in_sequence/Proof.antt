@@ -16,20 +16,17 @@ over-two-requires c κs = search needs
 union-requires-2 : tie.Need-union-requires-2
 union-requires-2 c κs = search needs
 
-together-requires : tie.Need-together-requires
-together-requires c κs = search needs
-
 in-first-requires : tie.Need-in-first-requires
 in-first-requires c κs = search needs
 
 returns : tie.Need-returns
 returns c u t v a b =
-    let d = c .before .before .before .before .before in
-    seq-goes-on u t v _ a _ b _ _ _ _ (sym (d .before .is-ended .ensures) ∙ d .if1 .taken) (c .before .before .before .union .ensures)
-    (c .before .before .over-two .ensures) (c .before .union2 .ensures) (c .together .ensures)
+    let d = c .before .before .before .before in
+    seq-goes-on u t v _ a _ b _ _ _ (sym (d .before .is-ended .ensures) ∙ d .if1 .taken) (c .before .before .union .ensures)
+    (c .before .over-two .ensures) (c .union2 .ensures)
 
 returns-2 : tie.Need-returns-2
 returns-2 c u t v a b = c .in-first .ensures u v (sym (c .before .before .is-ended .ensures) ∙ c .before .if1 .left) t a
 
 pub in-sequence-spec : {M : Type 1} → statement M
-in-sequence-spec = tie.close (tie.spec is-ended-requires union-requires over-two-requires union-requires-2 together-requires in-first-requires returns returns-2)
+in-sequence-spec = tie.close (tie.spec is-ended-requires union-requires over-two-requires union-requires-2 in-first-requires returns returns-2)
