@@ -160,6 +160,7 @@ pub fn preview(stretch: &[u8], input: u32, unknown: u32, buffer: &mut [u8]) -> u
 
 // The 32 totals of the bay number's ledger and the ledger's total (02, item 12).
 pub fn read_ledger(stretch: &[u8], totals: &mut [u8]) -> u8
+    requires { ⌜ length (now stretch) ≡ stretchLength ⌝ }
     ensures { λ r. ⌜ called r (now (stretch .entry)) (now (totals .exit) ∷ [])
         ≡ bayLedgerOf (now (stretch .entry)) (now (totals .entry)) ⌝ }
 {

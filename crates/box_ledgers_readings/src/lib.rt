@@ -5,44 +5,35 @@ ghost use lib.ListN.{length};
 ghost use lib.Seq.{sets};
 ghost use Rattle.litres.specs.Litres.{Near};
 ghost use Rattle.sequence.specs.Amounts.{amountBytes};
-ghost use Rattle.box_ledgers.specs.Ledgers.{farmCount, readingLength, totalIn, exactTotal, shownTotal, readingOf};
+ghost use Rattle.box_ledgers.specs.Ledgers.{farmCount, ledgerLength, readingLength, totalIn, totalFloat, exactTotal, readingOf, totalRead};
 use box_ledgers::FARMS;
 use box_ledgers::LENGTH;
+use box_ledgers_totals::put_four;
 use box_ledgers_totals::total;
 
-// The ledger's total, added over the farms in their order.
-pub fn sum(ledger: &[u8]) -> f32
-    ensures { λ r. ⌜ r ≡ shownTotal (now (ledger .entry)) ⌝ }
-    ensures { λ r. ⌜ Near 496 r (exactTotal farmCount (now (ledger .entry))) ⌝ }
-{
-    let mut t = total(ledger, 0);
-    let mut farm: usize = 1;
-    while farm < FARMS {
-        t = t + total(ledger, farm);
-        farm += 1;
-    }
-    t
-}
-
-// A farm's total, as a whole number up to the limit.
-fn show(ledger: &[u8], farm: usize, reading: &mut [u8])
-    requires { ⌜ (length (now reading) ≡ readingLength) × (farm < farmCount) ⌝ }
+// A farm's total, as a whole number up to the limit; and the same as a number.
+fn show(ledger: &[u8], farm: usize, reading: &mut [u8]) -> f32
+    requires { ⌜ (length (now ledger) ≡ ledgerLength) × (length (now reading) ≡ readingLength) × (farm < farmCount) ⌝ }
+    ensures { λ r. ⌜ r ≡ totalFloat farm (now (ledger .entry)) ⌝ }
     ensures { λ _. ⌜ now (reading .exit) ≡ sets (now (reading .entry)) (farm * 4) (amountBytes (totalIn farm (now (ledger .entry)))) ⌝ }
 {
     let t = total(ledger, farm);
-    numbers::put_le(reading, farm * 4, 4, f32::to_bits(t) as u64);
+    put_four(reading, farm * 4, f32::to_bits(t));
+    t
 }
 
-// The 32 totals, then the ledger's total.
+// The 32 totals, then the ledger's total, added over the farms in their order.
 pub fn read(ledger: &[u8], reading: &mut [u8])
-    requires { ⌜ length (now reading) ≡ readingLength ⌝ }
+    requires { ⌜ (length (now ledger) ≡ ledgerLength) × (length (now reading) ≡ readingLength) ⌝ }
     ensures { λ _. ⌜ now (reading .exit) ≡ readingOf (now (ledger .entry)) ⌝ }
+    ensures { λ _. ⌜ Near 496 (totalRead (now (reading .exit))) (exactTotal farmCount (now (ledger .entry))) ⌝ }
 {
-    let mut farm: usize = 0;
+    let mut t = show(ledger, 0, reading);
+    let mut farm: usize = 1;
     while farm < FARMS {
-        show(ledger, farm, reading);
+        let x = show(ledger, farm, reading);
+        t = t + x;
         farm += 1;
     }
-    let t = sum(ledger);
-    numbers::put_le(reading, LENGTH, 4, f32::to_bits(t) as u64);
+    put_four(reading, LENGTH, f32::to_bits(t));
 }

@@ -1,8 +1,8 @@
 -- A farm's field written: its total is the number written, and the others stay.
-use Prim.Native.Nat.{ℕ, zero, suc, _+_, _*_, _≤_, _<_}
+use Prim.Native.Nat.{ℕ, zero, suc, _+_, _*_, _^_, _≤_, _<_}
 use mathlib.Core.Path.{_≡_, refl, sym, ap, ap₂, _∙_, subst}
 use mathlib.Core.Logic.{_≢_, _⊎_, inl, inr}
-use mathlib.Core.Bool.{Bool, true, false, cond, and-eq-true-iff}
+use mathlib.Core.Bool.{Bool, true, false, not, _&&_, cond, and-eq-true-iff, and-true, and-false}
 use mathlib.Core.List.{List, [], _∷_, _++_}
 use native.Mathlib.Omega.{arith}
 use native.Mathlib.Numerals.{add-one}
@@ -12,8 +12,12 @@ use lib.Seq.{sets, sets-eq, length-sets, length-take-le, getD-set-other, take-at
 use lib.IntN.{pos}
 use lib.Dec.{eqb}
 use lib.Ieee.{Float, binary32, ofBits, toBits, ofInt, inUnsigned}
-use borrow.Author.Tests.{eqb-true}
-use Rattle.limits.specs.Limits.{litresLimit}
+use borrow.Author.Tests.{eqb-true, eq-eqb, ne-eqb}
+use Rattle.limits.specs.Limits.{signalCount, litresLimit}
+use Rattle.sets.specs.Sets.{member, none, remove}
+use Rattle.sets.specs.Widths.{Lowest}
+use Rattle.sets.proofs.Booleans.{clash}
+use Rattle.sets.proofs.Members.{member-none, member-remove, member-lt}
 use Rattle.numbers.specs.Bytes.{leNumber, numberAt}
 use Rattle.numbers.proofs.Bytes.{length-leBytes}
 use Rattle.sequence.specs.Amounts.{amountBytes, areBytes, floatIn}
@@ -21,7 +25,7 @@ use Rattle.sequence.specs.Commands.{bytesAt}
 use Rattle.sequence.proofs.Amounts.{amount-written}
 use Rattle.sequence.proofs.Front.{bytes-taken}
 use Rattle.litres.specs.Litres.{whole, litres}
-use Rattle.box_ledgers.specs.Ledgers.{farmCount, ledgerLength, fieldIn, totalIn, Exact, passes, addedTo, addedBelow}
+use Rattle.box_ledgers.specs.Ledgers.{farmCount, ledgerLength, fieldIn, totalIn, Exact, NoneOutside, passes, addedTo, addedBelow, added}
 use Rattle.box_ledgers_totals.proofs.Totals.{total-whole, passes-not}
 
 -- ---- bytes elsewhere
@@ -172,3 +176,72 @@ next-most x l₀ l n z p e small =
 pub added-skip : (x : ℕ → ℕ) (bs : List ℕ) (n : ℕ) → x n ≡ 0 → addedBelow (suc n) x bs ≡ addedBelow n x bs
 unfolding addedBelow
 added-skip x bs n e = ap (λ (k : ℕ). addedTo n k (addedBelow n x bs)) e
+
+-- ---- the farms of a set, the lowest first: the litres of those that are not left are added
+pub record Adding (x : ℕ → ℕ) (farms left : ℕ) (l₀ l : List ℕ) : Type 0 where
+  pub sized : length l ≡ ledgerLength
+  pub upTo : ℕ
+  pub most : upTo ≤ farmCount
+  pub sum : l ≡ addedBelow upTo x l₀
+  pub gone : (f : ℕ) → f < upTo → member f left ≡ false
+  pub rest : (f : ℕ) → upTo ≤ f → member f left ≡ member f farms
+
+pub adding-none : (x : ℕ → ℕ) (farms : ℕ) (l₀ : List ℕ) → length l₀ ≡ ledgerLength → Adding x farms farms l₀ l₀
+adding-none x farms l₀ z =
+    record {
+      sized = z;
+      upTo = 0;
+      most = omega arith;
+      sum = added-start x l₀;
+      gone = λ f h. absurd (omega arith);
+      rest = λ f h. refl;
+    }
+
+module _ (x : ℕ → ℕ) (farms : ℕ) (outside : NoneOutside farms x) where
+  skipped : (l₀ : List ℕ) (n m : ℕ) → n ≤ m → m ≤ farmCount → ((f : ℕ) → n ≤ f → f < m → member f farms ≡ false) → addedBelow m x l₀ ≡ addedBelow n x l₀
+  skipped l₀ n zero a b h = let e : 0 ≡ n = omega arith in ap (λ (k : ℕ). addedBelow k x l₀) e
+  skipped l₀ n (suc m) a b h =
+      elim (ℕ-discrete n (suc m)) [
+        | yes e ↦ ap (λ (k : ℕ). addedBelow k x l₀) (sym e)
+        | no e ↦ added-skip x l₀ m (outside m (omega arith) (h m (omega arith) (omega arith)))
+            ∙ skipped l₀ n m (omega arith) (omega arith) (λ f i j. h f i (omega arith))
+      ]
+
+  module _ (few : farms < 2 ^ signalCount) {left : ℕ} {l₀ l : List ℕ} (a : Adding x farms left l₀ l) {f : ℕ} (low : Lowest signalCount left f) (some : left ≡ none → ⊥) where
+    reached : a .upTo ≤ f
+    reached =
+        elim (decLt f (a .upTo)) [
+          | yes h ↦ clash (member f left) (low .found some) (a .gone f h)
+          | no h ↦ omega arith
+        ]
+
+    pub adding-at : (f < farmCount) × (l ≡ addedBelow f x l₀)
+    adding-at =
+        let r = reached in
+        let m : f < 32 = member-lt {w = signalCount} f few (sym (a .rest f r) ∙ low .found some) in
+        (m, a .sum ∙ sym (skipped l₀ (a .upTo) f r (omega arith) (λ g i j. sym (a .rest g i) ∙ low .least g j)))
+
+    pub adding-next : {next : ℕ} {after : List ℕ} → next ≡ remove f left → after ≡ addedTo f (x f) l → Adding x farms next l₀ after
+    adding-next {next} {after} e h =
+        let r = reached in
+        let k = adding-at in
+        let w = added-next x l₀ l after f (a .sized) (k .1) h in
+        subst (λ (s : ℕ). Adding x farms s l₀ after) (sym e)
+        (record {
+          sized = w .0;
+          upTo = f + 1;
+          most = let m = k .0 in omega arith;
+          sum = w .1;
+          gone = λ g i. member-remove f left g ∙ without g i (ℕ-discrete f g);
+          rest = λ g i. member-remove f left g
+              ∙ ap (λ (b : Bool). member g left && not b) (ne-eqb f g (λ q. omega arith))
+              ∙ and-true (member g left) ∙ a .rest g (omega arith);
+        })
+      where
+        without : (g : ℕ) → g < f + 1 → Dec (f ≡ g) → (member g left && not (eqb f g)) ≡ false
+        without g i (yes q) = ap (λ (b : Bool). member g left && not b) (eq-eqb f g q) ∙ and-false (member g left)
+        without g i (no q) = ap (λ (b : Bool). b && not (eqb f g)) (low .least g (omega arith))
+
+  pub adding-all : {left : ℕ} {l₀ l : List ℕ} → Adding x farms left l₀ l → left ≡ none → l ≡ added x l₀
+  adding-all {left} {l₀} a e =
+      a .sum ∙ sym (skipped l₀ (a .upTo) farmCount (a .most) (omega arith) (λ g i j. sym (a .rest g i) ∙ ap (member g) e ∙ member-none g))

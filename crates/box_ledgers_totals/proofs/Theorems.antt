@@ -14,15 +14,15 @@ use lib.Ieee.{Float, binary32, ofBits, toBits, ofInt, inUnsigned, fits}
 use lib.Ieee.Bits.{ofBits-toBits, toBits-lt}
 use lib.Ieee.Fits.{add-fits}
 use Rattle.limits.specs.Limits.{litresLimit}
-use Rattle.sets.specs.Sets.{member, none}
-use Rattle.sets.proofs.Members.{member-none}
+use Rattle.sets.specs.Sets.{member}
+use Rattle.sets.proofs.Booleans.{Tested, tested}
 use Rattle.numbers.specs.Bytes.{leBytes, leNumber}
 use Rattle.numbers.proofs.Bytes.{length-leBytes, le-round-trip}
 use Rattle.sequence.specs.Amounts.{amountSize, amountBytes, areBytes, floatIn}
 use Rattle.sequence.proofs.Amounts.{amount-written}
 use Rattle.litres.specs.Litres.{whole, litres, ordered, Near}
 use Rattle.litres.proofs.Sums.{Running, last, Added, added-first, added-next}
-use Rattle.box_ledgers.specs.Ledgers.{farmCount, ledgerLength, fieldIn, totalIn, totalFloat, Exact, totalsBytes, cleared, NoneOutside, wouldPass, passes, addedBelow, added, exactTotal, shownTotal, readingOf, totalRead}
+use Rattle.box_ledgers.specs.Ledgers.{farmCount, ledgerLength, fieldIn, totalIn, totalFloat, Exact, totalsBytes, cleared, NoneOutside, wouldPass, passes, added, exactTotal, shownTotal, readingOf, totalRead}
 use Rattle.box_ledgers_totals.proofs.Totals as totals
 use Rattle.box_ledgers_totals.proofs.Fields as fields
 
@@ -124,27 +124,17 @@ pub cleared-is : cleared ≡ replicate ledgerLength 0
 unfolding totalsBytes leBytes toBits ofInt
 cleared-is = refl
 
--- ---- an instant without litres: it passes no limit and leaves the bytes
-module _ (x : ℕ → ℕ) (bs : List ℕ) (none : (f : ℕ) → f < farmCount → x f ≡ 0) where
-  pub nothing-passes : passes bs x ≡ false
-  nothing-passes = go farmCount (omega arith)
-    where
-      go : (n : ℕ) → n ≤ farmCount → wouldPass n (λ f. totalIn f bs) x ≡ false
-      go zero l = totals.passes-none (λ f. totalIn f bs) x
-      go (suc n) l =
-          let e = none n (omega arith) in
-          let m = total-most n bs in
-          ap (λ (k : ℕ). wouldPass k (λ f. totalIn f bs) x) (sym (add-one n))
-          ∙ totals.passes-next (λ f. totalIn f bs) x n (go n (omega arith)) (omega (arith, e, m))
+-- ---- only the farms of a set have litres, and none of these passes the limit
+pub none-passes : (x : ℕ → ℕ) (bs : List ℕ) (farms : ℕ) → NoneOutside farms x
+    → ((f : ℕ) → member f farms ≡ true → totalIn f bs + x f ≤ litresLimit) → passes bs x ≡ false
+none-passes x bs farms outside below = go farmCount (omega arith)
+  where
+    most : (n : ℕ) → n < farmCount → Tested (member n farms) → totalIn n bs + x n ≤ litresLimit
+    most n l (Tested.yes h) = below n h
+    most n l (Tested.no h) = let e = outside n l h in let m = total-most n bs in omega (arith, e, m)
 
-  pub nothing-added : added x bs ≡ bs
-  nothing-added = below farmCount (omega arith)
-    where
-      below : (n : ℕ) → n ≤ farmCount → addedBelow n x bs ≡ bs
-      below zero l = sym (fields.added-start x bs)
-      below (suc n) l = fields.added-skip x bs n (none n (omega arith)) ∙ below n (omega arith)
-
--- no farm is in the empty set
-pub none-at-all : (x : ℕ → ℕ) {farms : ℕ} → farms ≡ 0 → NoneOutside farms x → (f : ℕ) → f < farmCount → x f ≡ 0
-unfolding none
-none-at-all x e h f l = h f l (ap (member f) e ∙ member-none f)
+    go : (n : ℕ) → n ≤ farmCount → wouldPass n (λ f. totalIn f bs) x ≡ false
+    go zero l = totals.passes-none (λ f. totalIn f bs) x
+    go (suc n) l =
+        ap (λ (k : ℕ). wouldPass k (λ f. totalIn f bs) x) (sym (add-one n))
+        ∙ totals.passes-next (λ f. totalIn f bs) x n (go n (omega arith)) (most n (omega arith) (tested (member n farms)))

@@ -1,30 +1,33 @@
 -- A farm's total as the code has it: in single precision, exact up to the limit; and sums of totals.
-use Prim.Native.Nat.{ℕ, zero, suc, _+_, _-_, _*_, _≤_, _<_}
+use Prim.Native.Nat.{ℕ, zero, suc, _+_, _*_, _/_, _%_, _^_, _≤_, _<_}
 use mathlib.Core.Path.{_≡_, refl, sym, ap, ap₂, _∙_, subst}
 use mathlib.Core.Bool.{Bool, true, false, not, cond}
 use native.Mathlib.Decide.{ℕ-discrete}
 use mathlib.Core.List.{List, _++_}
 use native.Mathlib.Omega.{arith}
 use native.Mathlib.Numerals.{add-one}
-use lib.ListN.{length, length-append}
+use lib.ListN.{length, set, length-append}
 use lib.Seq.{sets, length-sets}
 use lib.IntN.{pos}
 use lib.Dec.{T, ltb}
-use lib.Ieee.{Float, binary32, ofBits, toBits, ofInt, add, isNan, fits, inFloat}
+use lib.Ieee.{Float, binary32, ofBits, toBits, ofInt, add, isNan, inFloat}
 use lib.Ieee as Ieee
-use lib.Ieee.Bits.{ofBits-fits, toBits-lt}
-use lib.Ieee.Fits.{ofInt-fits, add-fits}
+use lib.Ieee.Bits.{ofBits-fits}
 use lib.Ieee.Back.{float-back-unsigned}
 use borrow.Author.Tests.{ltb-false, lt-ltb, le-ltb}
 use Rattle.sets.proofs.Booleans.{or-l, or-r, or-first, or-second}
-use Rattle.limits.specs.Limits.{litresLimit}
+use Rattle.limits.specs.Limits.{signalCount, litresLimit}
+use Rattle.sets.specs.Sets.{none}
+use Rattle.sets.specs.Widths.{Lowest}
+use Rattle.sets.proofs.Members.{member-lt}
+use Rattle.sets.proofs.Loops.{Seeking, seek-hit}
 use Rattle.numbers.specs.Bytes.{leBytes, numberAt}
 use Rattle.numbers.proofs.Bytes.{length-leBytes}
 use Rattle.numbers.proofs.Writing.{sets-append, sets-whole}
 use Rattle.sequence.specs.Amounts.{amountBytes}
-use Rattle.litres.specs.Litres.{whole, litres, exact, ordered, Whole, IsNumber, Near}
+use Rattle.litres.specs.Litres.{whole, litres, exact, Whole}
 use Rattle.litres.proofs.Sums.{value-of, sum-is, int-is, to-float, whole-no-nan}
-use Rattle.box_ledgers.specs.Ledgers.{farmCount, readingLength, fieldIn, totalIn, totalFloat, totalsBytes, wouldPass, exactTotal, shownTotal}
+use Rattle.box_ledgers.specs.Ledgers.{farmCount, readingLength, fieldIn, totalIn, totalFloat, totalsBytes, wouldPass, exactTotal}
 
 pub holds : (b : Bool) → b ≡ true → T b
 holds true h = tt
@@ -75,9 +78,6 @@ module _ (f : ℕ) (bs : List ℕ) where
   float-total = int-is (totalIn f bs) total-most
 
 -- ---- sums
-pub int-bits : (n : ℕ) → toBits binary32 (ofInt binary32 (pos n)) < 4294967296
-int-bits n = toBits-lt binary32 (ofInt binary32 (pos n)) (ofInt-fits binary32 (pos n))
-
 -- n litres more, below the limit
 pub float-in : (n : ℕ) → n ≤ litresLimit → T (inFloat binary32 (pos n))
 float-in = to-float
@@ -100,9 +100,6 @@ module _ (f : ℕ) (bs : List ℕ) (n : ℕ) (small : totalIn f bs + n ≤ litre
 
     pub sum-bits : toBits binary32 (add binary32 t (ofInt binary32 (pos n))) ≡ toBits binary32 (ofInt binary32 (pos (totalIn f bs + n)))
     sum-bits = ap (toBits binary32) sum-is-total
-
-    pub sum-bits-small : toBits binary32 (add binary32 t (ofInt binary32 (pos n))) < 4294967296
-    sum-bits-small = subst (λ (k : ℕ). k < 4294967296) (sym sum-bits) (int-bits (totalIn f bs + n))
 
 pub int-no-nan : (n : ℕ) → n ≤ litresLimit → T (not (isNan (ofInt binary32 (pos n))))
 int-no-nan n h = whole-no-nan (ofInt binary32 (pos n)) (int-is n h .0)
@@ -194,23 +191,21 @@ written-all t vs l₀ l z v e =
     ∙ sets-append l₀ 0 (totalsBytes farmCount t) vs
     ∙ sets-whole l₀ (totalsBytes farmCount t ++ vs) (omega (arith, a, b, z, v))
 
--- ---- the ledger's total fits
-ordered-fits : (bs : List ℕ) (n : ℕ) → T (fits binary32 (ordered n (λ f. totalFloat f bs)))
-unfolding ordered
-ordered-fits bs zero = ofInt-fits binary32 (pos (totalIn 0 bs))
-ordered-fits bs (suc n) = add-fits binary32 (ordered n (λ f. totalFloat f bs)) (totalFloat (suc n) bs)
+-- ---- four bytes, one by one
+pub four-written : (b : List ℕ) (i x : ℕ) → x < 4294967296
+    → set (set (set (set b i (x % 256)) (i + 1) (x / 256 % 256)) (i + 2) (x / 65536 % 256)) (i + 3) (x / 16777216) ≡ sets b i (leBytes 4 x)
+unfolding leBytes
+four-written b i x h =
+    let one : i + 1 ≡ suc i = omega arith in
+    let two : i + 2 ≡ suc (suc i) = omega arith in
+    let three : i + 3 ≡ suc (suc (suc i)) = omega arith in
+    let d : x / 65536 % 256 ≡ x / 256 / 256 % 256 = omega arith in
+    let t : x / 16777216 ≡ x / 256 / 256 / 256 % 256 = omega arith in
+    rw (one, two, three, d, t)
 
-pub shown-bits : (bs : List ℕ) → toBits binary32 (shownTotal bs) < 4294967296
-shown-bits bs = toBits-lt binary32 (shownTotal bs) (ordered-fits bs 31)
-
-number-no-nan : (x : Float) (n : ℕ) → IsNumber x n → T (not (isNan x))
-unfolding isNan
-number-no-nan Ieee.nan n v = absurd v
-number-no-nan (Ieee.inf s) n v = absurd v
-number-no-nan (Ieee.fin s m e) n v = tt
-
-pub near-no-nan : (k : ℕ) (x : Float) (n : ℕ) → Near k x n → T (not (isNan x))
-near-no-nan k x n h = number-no-nan x (h .number) (h .is-number)
+-- ---- the lowest farm that is left
+pub farm-below : {P : ℕ → Type 0} {farms left f : ℕ} → farms < 2 ^ signalCount → Seeking P farms left → Lowest signalCount left f → (left ≡ none → ⊥) → f < farmCount
+farm-below {P} {farms} {left} {f} h s low g = member-lt {w = signalCount} f h (seek-hit P farms left s signalCount f low g)
 
 -- ---- would a farm pass the limit?
 pub passes-is : (f : ℕ) (bs : List ℕ) (n : ℕ) {t : Float} → t ≡ totalFloat f bs → ltb litresLimit (litres t + n) ≡ ltb litresLimit (totalIn f bs + n)

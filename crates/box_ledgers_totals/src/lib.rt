@@ -4,16 +4,29 @@ ghost use mathlib.Core.Bool.{false};
 ghost use Prim.Native.Nat.{_+_, _≤_, _<_};
 ghost use lib.Dec.{ltb};
 ghost use lib.ListN.{length, getD};
+ghost use lib.Seq.{sets};
+ghost use Rattle.numbers.specs.Bytes.{leBytes};
 ghost use Rattle.limits.specs.Limits.{litresLimit};
 ghost use Rattle.box_ledgers.specs.Ledgers.{farmCount, ledgerLength, totalIn, totalFloat, cleared, NoneOutside, passes, addedTo, added};
 use box_ledgers::FARMS;
 
+// Four bytes, lowest first. Written out, so that it is one store.
+pub fn put_four(b: &mut [u8], at: usize, x: u32)
+    requires { ⌜ at + 4 ≤ length (now b) ⌝ }
+    ensures { λ _. ⌜ now (b .exit) ≡ sets (now (b .entry)) at (leBytes 4 x) ⌝ }
+{
+    b[at] = (x % 256) as u8;
+    b[at + 1] = (x / 256 % 256) as u8;
+    b[at + 2] = (x / 65536 % 256) as u8;
+    b[at + 3] = (x / 16777216) as u8;
+}
+
 // A farm's total.
 pub fn total(ledger: &[u8], farm: usize) -> f32
-    requires { ⌜ farm < farmCount ⌝ }
+    requires { ⌜ (length (now ledger) ≡ ledgerLength) × (farm < farmCount) ⌝ }
     ensures { λ r. ⌜ r ≡ totalFloat farm (now (ledger .entry)) ⌝ }
 {
-    let bits = numbers::get_le(ledger, farm * 4, 4) as u32;
+    let bits = litres::bits(ledger, farm * 4);
     if litres::is_whole(bits) {
         f32::from_bits(bits)
     } else {
@@ -23,7 +36,7 @@ pub fn total(ledger: &[u8], farm: usize) -> f32
 
 // Would a farm's total with so many litres more pass the limit? The sum is exact, in whole numbers.
 fn passes_at(ledger: &[u8], farm: usize, more: u32) -> bool
-    requires { ⌜ farm < farmCount ⌝ }
+    requires { ⌜ (length (now ledger) ≡ ledgerLength) × (farm < farmCount) ⌝ }
     ensures { λ r. ⌜ r ≡ ltb litresLimit (totalIn farm (now (ledger .entry)) + more) ⌝ }
 {
     if more == 0 {
@@ -35,18 +48,18 @@ fn passes_at(ledger: &[u8], farm: usize, more: u32) -> bool
 
 // Would a farm's total with its litres? Only the farms of a set have any.
 pub fn would_pass(ledger: &[u8], litres: &[u32; FARMS], farms: u32) -> bool
+    requires { ⌜ length (now ledger) ≡ ledgerLength ⌝ }
     requires { ⌜ NoneOutside farms (λ f. getD (now litres) f 0) ⌝ }
     ensures { λ r. ⌜ r ≡ passes (now (ledger .entry)) (λ f. getD (now (litres .entry)) f 0) ⌝ }
 {
-    if farms == 0 {
-        return false;
-    }
-    let mut farm: usize = 0;
-    while farm < FARMS {
+    let mut left = farms;
+    while !signals::is_empty(left) {
+        let x = signals::lowest(left);
+        let farm = x as usize;
         if passes_at(ledger, farm, litres[farm]) {
             return true;
         }
-        farm += 1;
+        left = signals::without(left, x);
     }
     false
 }
@@ -60,7 +73,7 @@ fn add_to(ledger: &mut [u8], farm: usize, more: u32)
         return;
     }
     let sum = total(ledger, farm) + more as f32;
-    numbers::put_le(ledger, farm * 4, 4, f32::to_bits(sum) as u64);
+    put_four(ledger, farm * 4, f32::to_bits(sum));
 }
 
 // The litres of an instant that pass no limit; only the farms of a set have any.
@@ -70,13 +83,12 @@ pub fn add(ledger: &mut [u8], litres: &[u32; FARMS], farms: u32)
     requires { ⌜ NoneOutside farms (λ f. getD (now litres) f 0) ⌝ }
     ensures { λ _. ⌜ now (ledger .exit) ≡ added (λ f. getD (now (litres .entry)) f 0) (now (ledger .entry)) ⌝ }
 {
-    if farms == 0 {
-        return;
-    }
-    let mut farm: usize = 0;
-    while farm < FARMS {
+    let mut left = farms;
+    while !signals::is_empty(left) {
+        let x = signals::lowest(left);
+        let farm = x as usize;
         add_to(ledger, farm, litres[farm]);
-        farm += 1;
+        left = signals::without(left, x);
     }
 }
 

@@ -30,14 +30,17 @@ cut bay = bay * stretchLength + stretchLength - bay * stretchLength
 whole : (bay : ℕ) → cut bay ≡ stretchLength
 whole bay = omega arith
 
-pub lent-sized : (box : List ℕ) (bay : ℕ) (wanted : List ℕ → Bool) {n : ℕ} → n ≡ entryOf box bay wanted → n ≡ 0
-    → length (slot (bay * stretchLength) (cut bay) box) ≡ stretchLength
-lent-sized box bay wanted h z =
+pub stretch-sized : (box : List ℕ) (bay : ℕ) (wanted : List ℕ → Bool) {n : ℕ} → n ≡ entryOf box bay wanted → n ≡ 0 → length (stretchOf bay box) ≡ stretchLength
+stretch-sized box bay wanted h z =
     let x = entered box bay wanted h z in
     let b = x .there in
     let l = x .sized in
-    ap (λ (i : ℕ). length (slot (bay * stretchLength) i box)) (whole bay)
-    ∙ length-take-le stretchLength (drop (bay * stretchLength) box) (omega (arith, length-drop (bay * stretchLength) box))
+    length-take-le stretchLength (drop (bay * stretchLength) box) (omega (arith, length-drop (bay * stretchLength) box))
+
+pub lent-sized : (box : List ℕ) (bay : ℕ) (wanted : List ℕ → Bool) {n : ℕ} → n ≡ entryOf box bay wanted → n ≡ 0
+    → length (slot (bay * stretchLength) (cut bay) box) ≡ stretchLength
+lent-sized box bay wanted h z =
+    ap (λ (i : ℕ). length (slot (bay * stretchLength) i box)) (whole bay) ∙ stretch-sized box bay wanted h z
 
 module _ (box : List ℕ) (bay : ℕ) (wanted : List ℕ → Bool) (c : Call) (wants : (s : List ℕ) → isFor c s ≡ wanted s) where
   pub turned-down : {n : ℕ} → n ≡ entryOf box bay wanted → n ≢ 0 → called n box (buffers c) ≡ callOf box bay c

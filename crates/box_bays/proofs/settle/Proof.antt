@@ -1,7 +1,9 @@
 use Prim.Native.Nat.{ℕ}
-use lib.ListN.{getD}
+use mathlib.Core.Path.{ap, _∙_}
+use lib.ListN.{length, getD}
 use borrow.Author.Needs.{needs}
 use Rattle.writing.specs.Written.{writtenFrom}
+use Rattle.box_fields.proofs.Fields.{ledger-sized}
 use Rattle.box_bays.proofs.Charging.{written-0, passing, gives-19, still-below, settled}
 use Rattle.box_bays.proofs.settle.Statement.{statement}
 use Rattle.box_bays.proofs.settle.Tie as tie
@@ -10,7 +12,8 @@ ledger-requires : tie.Need-ledger-requires
 ledger-requires c κs = search needs
 
 would-pass-requires : tie.Need-would-pass-requires
-would-pass-requires c κs = search needs
+would-pass-requires c κs =
+    let s = c .before .before .before .before in (ap length (c .ledger .ensures) ∙ ledger-sized (s .args .stretch .now) (s .pre .0 .0), s .pre .1)
 
 same-length : tie.Need-same-length
 same-length c = search needs

@@ -1,67 +1,53 @@
-use Prim.Native.Nat.{ℕ, _-_, _≤_, _<_}
-use mathlib.Core.Path.{_≡_, sym, ap, _∙_, subst}
+use Prim.Native.Nat.{_-_}
 use native.Mathlib.Omega.{arith}
-use lib.ListN.{length}
-use lib.Seq.{sets}
-use lib.Ieee.{Float, binary32, toBits}
+use mathlib.Core.Path.{sym, _∙_}
 use borrow.Author.Needs.{needs}
-use Rattle.numbers.specs.Bytes.{leBytes}
-use Rattle.numbers.proofs.Bytes.{length-leBytes}
-use Rattle.box_ledgers.specs.Ledgers.{readingLength, totalIn, totalsBytes, shownTotal}
-use Rattle.box_ledgers_totals.proofs.Totals.{totals-none, written-next, written-all, shown-bits, near-no-nan}
+use borrow.Author.Count.{falls}
+use Rattle.box_ledgers_readings.proofs.Showing.{Showing, show-first, show-next, sum-no-nan, show-all}
 use Rattle.box_ledgers_readings.proofs.read.Statement.{statement}
 use Rattle.box_ledgers_readings.proofs.read.Tie as tie
 
 abbrev Inv-loop : tie.InvT-loop
-Inv-loop ledger reading₀ farm₀ reading farm = (farm ≤ 32) × (length reading ≡ readingLength) × (reading ≡ sets reading₀ 0 (totalsBytes farm (λ f. totalIn f ledger)))
+Inv-loop ledger reading₀ t₀ farm₀ reading t farm = Showing ledger farm t reading
 
 abbrev μ-loop : tie.MeasureT-loop
-μ-loop ledger reading₀ farm₀ reading farm = 32 - farm
-
-loop-holds : tie.Need-loop-holds Inv-loop μ-loop
-loop-holds c = (omega arith, c .before .before .pre, totals-none _ _)
+μ-loop ledger reading₀ t₀ farm₀ reading t farm = 32 - farm
 
 show-requires : tie.Need-show-requires Inv-loop μ-loop
-show-requires c κs = let l = c .before .before .loop .inv in (l .1, c .before .loop-test .taken)
+show-requires c κs = search needs
+
+loop-holds : tie.Need-loop-holds Inv-loop μ-loop
+loop-holds c =
+    let k = c .before .before .before .before .before .before in
+    show-first _ (k .args .reading .now) (k .pre .1) (c .before .before .show .ensures .0) (c .before .before .show .ensures .1)
+
+show-requires-2 : tie.Need-show-requires-2 Inv-loop μ-loop
+show-requires-2 c κs =
+    (c .before .before .before .before .before .before .before .before .before .pre .0, c .before .before .loop .inv .sized, c .before .loop-test .taken)
 
 add-farm : tie.Need-add-farm Inv-loop μ-loop
 add-farm c = search needs
 
 loop-less : tie.Need-loop-less Inv-loop μ-loop
-loop-less c = search needs
+loop-less c = falls 32 (c .before .before .before .before .before .loop .farm) (c .before .before .before .before .loop-test .taken)
 
 loop-again : tie.Need-loop-again Inv-loop μ-loop
 loop-again c =
-    let k = c .before .before .before .before .before .before .before .before .args in
-    let l = c .before .before .before .before .before .loop in
-    let w = written-next (λ f. totalIn f (k .ledger .now)) readingLength (l .farm) (k .reading .now) (l .reading) _ (l .inv .1) (l .inv .2) (c .before .before .show .ensures) in
-    (search needs, w .0, w .1)
+    show-next _ (c .before .before .before .before .before .loop .inv) (c .before .before .before .before .loop-test .taken)
+    (c .before .before .show2 .ensures .0) (c .before .before .show2 .ensures .1)
 
-sum-requires : tie.Need-sum-requires Inv-loop μ-loop
-sum-requires c κs = search needs
+float-to-bits-put-four : tie.Need-float-to-bits-put-four Inv-loop μ-loop
+float-to-bits-put-four c = sum-no-nan _ (c .before .before .loop .inv)
 
-float-to-bits-put-le : tie.Need-float-to-bits-put-le Inv-loop μ-loop
-float-to-bits-put-le c = near-no-nan 496 _ _ (c .before .sum .ensures .1)
-
-cast-put-le : tie.Need-cast-put-le Inv-loop μ-loop
-cast-put-le c = let l = subst (λ (x : Float). toBits binary32 x < 4294967296) (sym (c .before .sum .ensures .0)) (shown-bits _) in omega (arith, l)
-
-put-le-requires : tie.Need-put-le-requires Inv-loop μ-loop
-put-le-requires c κs = let l = c .before .before .before .loop .inv .1 in omega (arith, l)
+put-four-requires : tie.Need-put-four-requires Inv-loop μ-loop
+put-four-requires c κs = let z = c .before .before .loop .inv .sized in omega (arith, z)
 
 same-length : tie.Need-same-length Inv-loop μ-loop
-same-length c = search needs
+same-length c = c .before .before .put-four .kept .0 ∙ c .before .before .before .before .before .loop .inv .sized ∙ sym (c .before .before .before .before .before .before .before .before .before .before .before .before .pre .1)
 
 returns : tie.Need-returns Inv-loop μ-loop
 returns c =
-    let k = c .before .before .before .before .before .before .before .before .before in
-    let l = c .before .before .before .before .before .before .loop in
-    let t : ℕ → ℕ = λ f. totalIn f (k .args .ledger .now) in
-    let e : l .farm ≡ 32 = let u = c .before .before .before .before .before .loop-test .left in let i = l .inv .0 in omega (arith, u, i) in
-    c .before .before .put-le .ensures
-    ∙ ap (λ (x : Float). sets (l .reading) 128 (leBytes 4 (toBits binary32 x))) (c .before .before .before .before .sum .ensures .0)
-    ∙ written-all t (leBytes 4 (toBits binary32 (shownTotal (k .args .ledger .now)))) (k .args .reading .now) (l .reading) (k .pre) (length-leBytes 4 (toBits binary32 (shownTotal (k .args .ledger .now))))
-    (l .inv .2 ∙ ap (λ (n : ℕ). sets (k .args .reading .now) 0 (totalsBytes n t)) e)
+    show-all _ (c .before .before .before .before .before .loop .inv) (c .before .before .before .before .loop-test .left) (c .before .before .put-four .ensures)
 
 pub read-spec : {M : Type 1} → statement M
 read-spec =
@@ -69,14 +55,13 @@ read-spec =
     (tie.spec
     Inv-loop
     μ-loop
-    loop-holds
     show-requires
+    loop-holds
+    show-requires-2
     add-farm
     loop-less
     loop-again
-    sum-requires
-    float-to-bits-put-le
-    cast-put-le
-    put-le-requires
+    float-to-bits-put-four
+    put-four-requires
     same-length
     returns)

@@ -7,7 +7,7 @@ use borrow.Author.Tests.{eq-eqb, ne-eqb}
 use Rattle.numbers.specs.Bytes.{leBytes}
 use Rattle.sequence.specs.Amounts.{amountBytes}
 use Rattle.box_ledgers.specs.Ledgers.{totalIn}
-use Rattle.box_ledgers_totals.proofs.Totals.{float-in, sum-no-nan, sum-bits, sum-bits-small}
+use Rattle.box_ledgers_totals.proofs.Totals.{float-in, sum-no-nan, sum-bits}
 use borrow.Author.Needs.{needs}
 use Rattle.box_ledgers_totals.proofs.add_to.Statement.{statement}
 use Rattle.box_ledgers_totals.proofs.add_to.Tie as tie
@@ -23,22 +23,16 @@ total-requires c κs = search needs
 int-to-float-sum : tie.Need-int-to-float-sum
 int-to-float-sum c = let p = c .before .before .before .before .before .pre .2 in float-in _ (omega (arith, p))
 
-mul-put-le : tie.Need-mul-put-le
-mul-put-le c = search needs
+mul-put-four : tie.Need-mul-put-four
+mul-put-four c = search needs
 
-float-to-bits-put-le : tie.Need-float-to-bits-put-le
-float-to-bits-put-le c =
+float-to-bits-put-four : tie.Need-float-to-bits-put-four
+float-to-bits-put-four c =
     let a = c .before .before .before .before .before .before .args in
     sum-no-nan (a .farm) (a .ledger .now) (a .more) (c .before .before .before .before .before .before .pre .2) (c .before .before .total .ensures)
 
-cast-put-le : tie.Need-cast-put-le
-cast-put-le c =
-    let a = c .before .before .before .before .before .before .args in
-    let l = sum-bits-small (a .farm) (a .ledger .now) (a .more) (c .before .before .before .before .before .before .pre .2) (c .before .before .total .ensures) in
-    omega (arith, l)
-
-put-le-requires : tie.Need-put-le-requires
-put-le-requires c κs = search needs
+put-four-requires : tie.Need-put-four-requires
+put-four-requires c κs = search needs
 
 same-length : tie.Need-same-length
 same-length c = search needs
@@ -47,7 +41,7 @@ returns-2 : tie.Need-returns-2
 returns-2 c =
     let k = c .before .before .before .before .before .before .before .before .before in
     let a = k .args in
-    c .before .before .put-le .ensures
+    c .before .before .put-four .ensures
     ∙ ap (λ (n : ℕ). sets (a .ledger .now) (a .farm * 4) (leBytes 4 n)) (sum-bits (a .farm) (a .ledger .now) (a .more) (k .pre .2) (c .before .before .before .before .before .total .ensures))
     ∙ ap (λ (b : Bool). cond b (a .ledger .now) (sets (a .ledger .now) (a .farm * 4) (amountBytes (totalIn (a .farm) (a .ledger .now) + a .more)))) (sym (ne-eqb (a .more) 0 (c .before .before .before .before .before .before .before .if1 .left)))
 
@@ -58,9 +52,8 @@ add-to-spec =
     returns
     total-requires
     int-to-float-sum
-    mul-put-le
-    float-to-bits-put-le
-    cast-put-le
-    put-le-requires
+    mul-put-four
+    float-to-bits-put-four
+    put-four-requires
     same-length
     returns-2)

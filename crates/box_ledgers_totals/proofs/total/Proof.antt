@@ -7,21 +7,18 @@ use borrow.Author.Needs.{needs}
 use Rattle.box_ledgers_totals.proofs.total.Statement.{statement}
 use Rattle.box_ledgers_totals.proofs.total.Tie as tie
 
-mul-get-le : tie.Need-mul-get-le
-mul-get-le c = search needs
+mul-bits : tie.Need-mul-bits
+mul-bits c = search needs
 
-get-le-requires : tie.Need-get-le-requires
-get-le-requires c κs = search needs
-
-cast-bits : tie.Need-cast-bits
-cast-bits c = search needs
+bits-requires : tie.Need-bits-requires
+bits-requires c κs = search needs
 
 is-whole-requires : tie.Need-is-whole-requires
 is-whole-requires c κs = search needs
 
 float-from-bits-result : tie.Need-float-from-bits-result
 float-from-bits-result c =
-    let n = c .before .before .get-le .result in
+    let n = c .before .before .bits .result in
     whole-pattern n (holds (whole (ofBits binary32 n)) (sym (c .before .is-whole .ensures) ∙ c .if1 .taken))
 
 float-from-bits-result-2 : tie.Need-float-from-bits-result-2
@@ -30,20 +27,19 @@ float-from-bits-result-2 c = whole-pattern 0 zero-whole
 returns : tie.Need-returns
 returns c =
     let a = c .before .before .before .before .args in
-    read-whole (a .farm) (a .ledger .now) (c .before .before .get-le .ensures .0) (sym (c .before .is-whole .ensures) ∙ c .if1 .taken)
+    read-whole (a .farm) (a .ledger .now) (c .before .before .bits .ensures) (sym (c .before .is-whole .ensures) ∙ c .if1 .taken)
 
 returns-2 : tie.Need-returns-2
 returns-2 c =
     let a = c .before .before .before .before .args in
-    read-other (a .farm) (a .ledger .now) (c .before .before .get-le .ensures .0) (sym (c .before .is-whole .ensures) ∙ c .if1 .left)
+    read-other (a .farm) (a .ledger .now) (c .before .before .bits .ensures) (sym (c .before .is-whole .ensures) ∙ c .if1 .left)
 
 pub total-spec : {M : Type 1} → statement M
 total-spec =
     tie.close
     (tie.spec
-    mul-get-le
-    get-le-requires
-    cast-bits
+    mul-bits
+    bits-requires
     is-whole-requires
     float-from-bits-result
     float-from-bits-result-2

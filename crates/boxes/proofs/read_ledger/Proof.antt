@@ -1,7 +1,8 @@
-use mathlib.Core.Path.{refl}
+use mathlib.Core.Path.{refl, ap, _∙_}
+use lib.ListN.{length}
 use Rattle.box_calls.specs.Box.{ledger}
 use Rattle.box_entry.specs.Entries.{either}
-use Rattle.boxes.proofs.Calling.{turned-down, read-call}
+use Rattle.boxes.proofs.Calling.{stretch-sized, turned-down, read-call}
 use borrow.Author.Needs.{needs}
 use Rattle.boxes.proofs.read_ledger.Statement.{statement}
 use Rattle.boxes.proofs.read_ledger.Tie as tie
@@ -19,7 +20,9 @@ part-requires : tie.Need-part-requires
 part-requires c κs = search needs
 
 read-ledger-requires : tie.Need-read-ledger-requires
-read-ledger-requires c κs = search needs
+read-ledger-requires c κs =
+    let cut = c .before in
+    ap length (cut .part .ensures) ∙ stretch-sized _ _ either (cut .before .before .reach .ensures) (cut .before .if1 .left)
 
 same-length : tie.Need-same-length
 same-length c = search needs
