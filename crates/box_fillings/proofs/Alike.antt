@@ -42,8 +42,8 @@ module _ (x y : Findings) (there : (Says : Findings → Type 0) → Said Says �
         ]
       ]
 
-  pub same-bytes : previewBytes x ≡ previewBytes y
-  same-bytes = rw (same-every, same-some, same-wrong, same-code)
+  pub same-findings : x ≡ y
+  same-findings = λ i. record { every = same-every i; some = same-some i; wrong = same-wrong i; code = same-code i }
 
 -- ---- inputs and unknown sets that agree on every signal that is not read back
 digit : (I U f : Bool) → (f ≡ true → U ≡ true) → ((I && not U) || f) ≡ ((I && not U) || (f && U))
@@ -79,6 +79,7 @@ pub read-back-bytes : (sequence state : List ℕ) (readBack input unknown input�
     → SameOutside readBack unknown unknown′
     → previewBytes (findings (answersOf sequence state readBack) input unknown) ≡ previewBytes (findings (answersOf sequence state readBack) input′ unknown′)
 read-back-bytes sequence state readBack input unknown input′ unknown′ hi hu =
-    same-bytes (findings (answersOf sequence state readBack) input unknown) (findings (answersOf sequence state readBack) input′ unknown′)
+    ap previewBytes
+    (same-findings (findings (answersOf sequence state readBack) input unknown) (findings (answersOf sequence state readBack) input′ unknown′)
     (said-alike sequence state readBack input unknown input′ unknown′ hi hu)
-    (said-alike sequence state readBack input′ unknown′ input unknown (λ i n. sym (hi i n)) (λ i n. sym (hu i n)))
+    (said-alike sequence state readBack input′ unknown′ input unknown (λ i n. sym (hi i n)) (λ i n. sym (hu i n))))

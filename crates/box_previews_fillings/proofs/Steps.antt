@@ -1,14 +1,18 @@
--- Laws for the code: what one filling comes to, and the loop over the fillings.
-use Prim.Native.Nat.{ℕ, _+_, _^_, _≤_, _<_}
+-- Laws for the code: what one filling comes to, and the fillings by the signals asked for.
+use Prim.Native.Nat.{ℕ, _+_, _^_, _<_}
 use native.Mathlib.Omega.{arith}
-use mathlib.Core.Path.{_≡_, sym, ap, ap₂, _∙_, subst}
-use mathlib.Core.List.{List}
-use Rattle.limits.specs.Limits.{signalBytes}
-use Rattle.sets.specs.Sets.{join, difference}
-use Rattle.sets.specs.Subsets.{nextSubset, subsetsBelow}
-use Rattle.sets.proofs.Subsets.{subsets-step, subsets-end}
+use mathlib.Core.Path.{_≡_, refl, sym, ap, ap₂, _∙_, subst}
+use mathlib.Core.Bool.{Bool, true, false, _&&_, and-eq-true-iff, or-false}
+use mathlib.Core.List.{List, []}
+use borrow.Author.Tests.{lt-ltb}
+use Rattle.limits.specs.Limits.{signalCount, signalBytes}
+use Rattle.sets.specs.Sets.{member, none, join, common, insert, remove, Subset, Disjoint}
+use Rattle.sets.specs.Widths.{insertBelow, Lowest}
+use Rattle.sets.proofs.Booleans.{clash}
+use Rattle.sets.proofs.Members.{member-none, member-join, member-common, member-lt}
 use Rattle.esterel.specs.Statement.{Statement}
-use Rattle.esterel.specs.Traced.{startTraced}
+use Rattle.esterel.specs.Asked as Asked
+use Rattle.esterel.specs.Traced.{Traced, instantOf, startTraced}
 use Rattle.esterel.specs.Instants.{start}
 use Rattle.sequence.specs.Program.{program}
 use Rattle.completions.specs.declared.Completion.{Completion}
@@ -18,16 +22,18 @@ use Rattle.reaction.specs.Reactions.{reactionOf}
 use Rattle.writing.specs.Written.{writtenBy, writtenFrom}
 use Rattle.numbers.specs.Bytes.{leBytes}
 use Rattle.numbers.proofs.Bytes.{le-round-trip}
-use Rattle.answers.specs.AnswerRecord.{answerRecord}
+use Rattle.answers.specs.AnswerRecord.{answerRecord, encodeAnswer}
 use Rattle.tick.specs.Tick.{Outcome}
 use Rattle.demands.specs.Demands.{answerAfterwards}
 use Rattle.program.specs.declared.Start.{Start}
 use Rattle.program.specs.Program.{termAt}
 use Rattle.instants.proofs.Replying.{written-from}
 use Rattle.box_fillings.specs.declared.Findings.{Findings}
-use Rattle.box_fillings.specs.Preview.{filled, alone, foundIn, both, gathered, findings}
+use Rattle.box_fillings.specs.Preview.{alone, foundIn, both, findings}
 use Rattle.box_previews_fillings.specs.Standing.{answersAt}
 use Rattle.box_fillings.proofs.Numbers.{written-answer}
+use Rattle.theory.proofs.Asked.{unasked-traced}
+use Rattle.box_previews_fillings.proofs.Splitting.{one-for-all, apart-without, apart-with, split-at}
 
 -- ---- one filling
 alone-in : (k kind place o m : ℕ) → o < 256 ^ signalBytes → alone o k ≡ foundIn (answerRecord k kind place o m)
@@ -50,7 +56,7 @@ module _ (o L m : ℕ) (h : o < 256 ^ signalBytes) where
   pub wrong-found : {c : Completion} {x : Findings} {kind place : ℕ} → c ≡ Wrong kind place → x ≡ alone 0 255 → In c x
   wrong-found {c} {x} {kind} {place} e q = subst (λ (k : Completion). In k x) (sym e) (q ∙ alone-in 255 kind place 0 m (omega arith))
 
--- a reaction of the program from an origin
+-- a reaction of the program from a origin
 pub tried-is : (origin : Start) (p : Statement) (readBack e : ℕ) (r : Reaction) (x : Findings)
     → r ≡ reactionOf (startTraced 0 (program readBack (termAt origin p)) e) → x ≡ foundIn (answerAfterwards (writtenFrom r))
     → x ≡ foundIn (answersAt origin p readBack e)
@@ -60,29 +66,50 @@ tried-is origin p readBack e r x h q =
     ∙ ap (λ (o : Outcome). foundIn (answerAfterwards o)) (written-from (startTraced 0 t e))
     ∙ ap foundIn (written-answer (start t e))
 
--- ---- the loop
--- the input that a filling makes
-pub made : (input unknown f : ℕ) {known e : ℕ} → known ≡ difference input unknown → e ≡ join known f → e ≡ filled input unknown f
-made input unknown f h q = q ∙ ap (λ (x : ℕ). join x f) h
+-- ---- the fillings of the unknown signals `free`, by those of them that the instant of e asked for
+not-in : (a b : Bool) → (a ≡ true → b ≡ true) → b ≡ false → a ≡ false
+not-in true b h e = clash b (h refl) e
+not-in false b h e = refl
 
-module _ (answers : ℕ → List ℕ) (input unknown : ℕ) where
-  -- what is left to gather below f
-  abbrev pub Left : (x : Findings) (f : ℕ) → Type 0
-  Left x f = gathered answers input unknown x (subsetsBelow f f unknown) ≡ findings answers input unknown
+and-in : (a b c : Bool) → c ≡ (a && b) → c ≡ false → a ≡ true → b ≡ false
+and-in true b c e z h = sym e ∙ z
+and-in false b c e z h = clash false h refl
 
-  pub begin : (x : Findings) (e : ℕ) → e ≡ filled input unknown unknown → x ≡ foundIn (answers e) → Left x unknown
-  unfolding findings
-  begin x e h q = ap (λ (y : Findings). gathered answers input unknown y (subsetsBelow unknown unknown unknown)) (q ∙ ap (λ (d : ℕ). foundIn (answers d)) h)
+-- where it asked for none, the instant stands for every filling
+pub stands-for-all : (origin : Start) (p : Statement) (readBack e free : ℕ) {r : Reaction} {x : Findings} {asked : ℕ} → Disjoint e free
+    → r ≡ reactionOf (startTraced 0 (program readBack (termAt origin p)) e) → asked ≡ common (r .asked) free → asked ≡ none
+    → x ≡ foundIn (answerAfterwards (writtenFrom r)) → x ≡ findings (answersAt origin p readBack) e free
+stands-for-all origin p readBack e free {r} {x} {asked} d h a z q =
+    tried-is origin p readBack e r x h q
+    ∙ sym (one-for-all (answersAt origin p readBack) e free d
+    (λ f m. ap (λ (t : Traced). encodeAnswer (instantOf t))
+    (unasked-traced 0 (program readBack (termAt origin p)) e (join e f) (agree f m))))
+  where
+    agree : (f : ℕ) → Subset f free → (i : ℕ) → member i (Asked.asked (program readBack (termAt origin p)) e) ≡ true → member i e ≡ member i (join e f)
+    agree f m i k =
+        let u : member i free ≡ false =
+        and-in (member i (r .asked)) (member i free) (member i (common (r .asked) free)) (member-common i (r .asked) free)
+        (ap (member i) (sym a ∙ z) ∙ member-none i) (ap (λ (y : Reaction). member i (y .asked)) h ∙ k) in
+        sym (member-join i e f ∙ rw (not-in (member i f) (member i free) (m i) u) (or-false (member i e)))
 
-  pub again : (x y z : Findings) (f g e : ℕ) → 0 < f → g ≡ nextSubset f unknown → e ≡ filled input unknown g → y ≡ foundIn (answers e)
-      → z ≡ both x y → Left x f → Left z g
-  unfolding gathered
-  again x y z f g e pos hg he hy hz h =
-      let w : z ≡ both x (foundIn (answers (filled input unknown (nextSubset f unknown)))) =
-      hz ∙ ap (both x) (hy ∙ ap (λ (d : ℕ). foundIn (answers d)) (he ∙ ap (filled input unknown) hg)) in
-      ap₂ (λ (v : Findings) (k : ℕ). gathered answers input unknown v (subsetsBelow k k unknown)) w hg
-      ∙ sym (ap (gathered answers input unknown x) (subsets-step f unknown pos)) ∙ h
+-- else they are those without one that it asked for, and those with it
+module _ (asks free : ℕ) {asked x : ℕ} (a : asked ≡ common asks free) (some : asked ≡ none → ⊥) (low : Lowest signalCount asked x) where
+  pub hit : member x free ≡ true
+  hit = and-eq-true-iff (member x asks) (member x free) .0 (sym (ap (member x) a ∙ member-common x asks free) ∙ low .found some) .1
 
-  pub finish : (x : Findings) (f : ℕ) → f ≤ 0 → Left x f → x ≡ findings answers input unknown
-  unfolding gathered
-  finish x f z h = sym (ap (gathered answers input unknown x) (subsets-end f unknown z)) ∙ h
+  module _ (few : free < 2 ^ signalCount) (e : ℕ) {others present : ℕ} (o : others ≡ remove x free) (w : present ≡ insertBelow signalCount x e) where
+    inserted : present ≡ insert x e
+    inserted = w ∙ rw (lt-ltb x signalCount (member-lt {w = signalCount} x few hit))
+
+    pub still-apart : Disjoint e free → Disjoint e others × Disjoint present others
+    still-apart d = (
+      subst (Disjoint e) (sym o) (apart-without (λ i. []) e free d x hit),
+      subst (λ (k : ℕ). Disjoint k others) (sym inserted) (subst (Disjoint (insert x e)) (sym o) (apart-with (λ i. []) e free d x hit)),
+    )
+
+    pub together : (answers : ℕ → List ℕ) {y z t : Findings} → Disjoint e free → y ≡ findings answers e others → z ≡ findings answers present others → t ≡ both y z
+        → t ≡ findings answers e free
+    together answers d hy hz ht =
+        ht
+        ∙ ap₂ both (hy ∙ ap (findings answers e) o) (hz ∙ ap₂ (findings answers) inserted o)
+        ∙ sym (split-at answers e free d x hit)

@@ -1,4 +1,4 @@
--- The list of the subsets of a set has each of them once and nothing else, and a loop over it takes them from the greatest down.
+-- The list of the subsets of a set has each of them once and nothing else, from the greatest down.
 use Prim.Native.Nat.{ℕ, zero, suc, _+_, _*_, _-_, _/_, _%_, _^_, _≤_, _<_, min}
 use native.Mathlib.Decide.{ℕ-discrete}
 use native.Mathlib.Omega.{arith}
@@ -60,34 +60,6 @@ next-within f u =
     to-within (bitAnd (f - 1) u) u (λ i h. and-eq-true-iff (member i (f - 1)) (member i u) .0 (sym (member-common i (f - 1) u) ∙ h) .1)
 
 -- ---- the list
--- more than f of them are not below f
-enough : (n m f u : ℕ) → f ≤ n → f ≤ m → subsetsBelow n f u ≡ subsetsBelow m f u
-unfolding subsetsBelow common
-enough zero zero f u a b = refl
-enough zero (suc m) f u a b = rw (eq-eqb f 0 (omega arith))
-enough (suc n) zero f u a b = rw (eq-eqb f 0 (omega arith))
-enough (suc n) (suc m) f u a b = go (eqb f 0) refl (λ x y. enough n m (nextSubset f u) u x y)
-  where
-    go : (x : Bool) → eqb f 0 ≡ x → (nextSubset f u ≤ n → nextSubset f u ≤ m → subsetsBelow n (nextSubset f u) u ≡ subsetsBelow m (nextSubset f u) u)
-        → cond x [] (nextSubset f u ∷ subsetsBelow n (nextSubset f u) u) ≡ cond x [] (nextSubset f u ∷ subsetsBelow m (nextSubset f u) u)
-    go true e ih = refl
-    go false e ih =
-        let z : f ≢ 0 = λ q. eqb-false f 0 e q in
-        ap (λ (l : List ℕ). nextSubset f u ∷ l) (ih (omega (arith, and-le-l (f - 1) u)) (omega (arith, and-le-l (f - 1) u)))
-
--- ---- a loop: the next one, and the end
-pub subsets-step : (f u : ℕ) → 0 < f → subsetsBelow f f u ≡ nextSubset f u ∷ subsetsBelow (nextSubset f u) (nextSubset f u) u
-unfolding subsetsBelow common
-subsets-step zero u h = absurd (omega arith)
-subsets-step (suc f) u h =
-    rw (ne-eqb (suc f) 0 (λ e. omega arith))
-    (ap (λ (l : List ℕ). nextSubset (suc f) u ∷ l) (enough f (nextSubset (suc f) u) (nextSubset (suc f) u) u (omega (arith, and-le-l (suc f - 1) u)) (omega arith)))
-
-pub subsets-end : (f u : ℕ) → f ≤ 0 → subsetsBelow f f u ≡ []
-unfolding subsetsBelow
-subsets-end zero u h = refl
-subsets-end (suc f) u h = absurd (omega arith)
-
 module _ (u : ℕ) where
   below-within : (n f : ℕ) (g : ℕ) → List·Memᴰ g (subsetsBelow n f u) → Within g u
   unfolding subsetsBelow common

@@ -5,7 +5,6 @@ ghost use lib.ListN.{length};
 ghost use Rattle.limits.specs.Limits.{signalCount};
 ghost use Rattle.sets.specs.Sets.{member, empty, join, common, difference, remove, membersFrom};
 ghost use Rattle.sets.specs.Widths.{onlyBelow, insertBelow, complement, Lowest};
-ghost use Rattle.sets.specs.Subsets.{nextSubset};
 
 pub fn member(s: u32, i: u8) -> bool
     ensures { λ r. ⌜ r ≡ member i s ⌝ }
@@ -80,14 +79,4 @@ pub fn complement(s: u32) -> u32
     ensures { λ r. ⌜ r ≡ complement signalCount s ⌝ }
 {
     difference(0xFFFFFFFF, s)
-}
-
-// The greatest subset of u below f, as numbers; of none, none.
-pub fn next_subset(f: u32, u: u32) -> u32
-    ensures { λ r. ⌜ r ≡ nextSubset f u ⌝ }
-{
-    if f == 0 {
-        return common(0, u);
-    }
-    common(f - 1, u)
 }
