@@ -1,9 +1,10 @@
-// The own bytes of a command put into a buffer (02, item 13), and a pause as the setpause of a copy.
+// The own bytes of a command put into a buffer (02, item 13), as they are or as a copy has them.
+ghost use mathlib.Core.Path.{_≡_};
 ghost use mathlib.Core.List.{[], _∷_};
-ghost use Prim.Native.Nat.{_≤_};
+ghost use Prim.Native.Nat.{_+_, _≤_};
 ghost use lib.ListN.{length, getD};
 ghost use Rattle.sequence.specs.Commands.{bytesAt};
-ghost use Rattle.unrolled_heads.specs.Putting.{Put, Room, pauseBytes};
+ghost use Rattle.unrolled_heads.specs.Putting.{Put, Room, copiedByte, copiedHead, Operands, Copyable};
 
 // Puts one byte at index i, and answers the index behind it.
 fn put_one(x: u8, i: usize, buffer: &mut [u8]) -> usize
@@ -51,15 +52,43 @@ pub fn six(s: &[u8], i: usize, buffer: &mut [u8]) -> usize
     put_two(s[4], s[5], k, buffer)
 }
 
-// Puts the pause at the front of s, or the setpause of a copy.
-pub fn pause(s: &[u8], copying: bool, i: usize, buffer: &mut [u8]) -> usize
-    requires { ⌜ 2 ≤ length (now s) ⌝ }
-    requires { ⌜ Room i 2 (now buffer) ⌝ }
-    ensures { λ r. ⌜ Put i (pauseBytes copying (getD (now (s .entry)) 1 0)) (now (buffer .entry)) (now (buffer .exit)) r ⌝ }
+// The command byte b in a copy: that of a setpause for a pause.
+fn copied_byte(b: u8) -> u8
+    ensures { λ r. ⌜ r ≡ copiedByte b ⌝ }
 {
-    if copying {
-        put_two(10, s[1], i, buffer)
+    if b == limits::PAUSE {
+        limits::SETPAUSE
     } else {
-        put_two(1, s[1], i, buffer)
+        b
     }
+}
+
+// Puts the n operand bytes of a command from s[at] on.
+fn operands(s: &[u8], at: usize, n: usize, i: usize, buffer: &mut [u8]) -> usize
+    requires { ⌜ Operands at n (now s) i (now buffer) ⌝ }
+    ensures { λ r. ⌜ Put i (bytesAt at n (now (s .entry))) (now (buffer .entry)) (now (buffer .exit)) r ⌝ }
+{
+    if n == 0 {
+        return i;
+    }
+    let j = put_one(s[at], i, buffer);
+    if n == 1 {
+        return j;
+    }
+    let k = put_two(s[at + 1], s[at + 2], j, buffer);
+    put_two(s[at + 3], s[at + 4], k, buffer)
+}
+
+// Puts the own bytes of the command at s[at], with n operand bytes, as a copy has them: none of a loop.
+pub fn copied(s: &[u8], at: usize, n: usize, i: usize, buffer: &mut [u8]) -> usize
+    requires { ⌜ Copyable at n (now s) i (now buffer) ⌝ }
+    ensures { λ r. ⌜ Put i (copiedHead (getD (now (s .entry)) at 0) (bytesAt (at + 1) n (now (s .entry))))
+        (now (buffer .entry)) (now (buffer .exit)) r ⌝ }
+{
+    let b = s[at];
+    if b == limits::LOOP {
+        return i;
+    }
+    let j = put_one(copied_byte(b), i, buffer);
+    operands(s, at + 1, n, j, buffer)
 }

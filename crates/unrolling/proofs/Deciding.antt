@@ -68,7 +68,7 @@ module _ (p : Statement) {n : Sizes} (h : Has p n) (b : List ℕ) where
         rw (le-leb (size (unrolled p)) maxBytes short-enough, le-leb (depthOf (unrolled p)) maxDepth shallow-enough, e, f)
 
 pub writable : {t : List ℕ} {bs b : List ℕ} {n : Sizes} (r : Ready t maxDepth 0 bs) → Has (r .p) n
-    → n .whole ≤ maxBytes → n .depth ≤ maxDepth → length b ≡ maxBytes → Writable false t maxDepth 0 bs 0 b
+    → n .whole ≤ maxBytes → n .depth ≤ maxDepth → length b ≡ maxBytes → Writable t maxDepth 0 bs 0 b
 writable {b = b} r h l d z =
     record { ready = r; base = r .base; p = r .p; lies = r .lies; room = room (r .p) h b l d z }
 

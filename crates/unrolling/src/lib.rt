@@ -36,7 +36,7 @@ fn of_plain(sequence: &[u8], second: &SecondParts, buffer: &mut [u8]) -> Result
     if n.depth > MAX_DEPTH {
         return refused(21);
     }
-    let count = unrolled_writer::write(sequence, 0, limits::MAX_DEPTH, false, second, 0, buffer);
+    let count = unrolled_writer::write(sequence, 0, limits::MAX_DEPTH, second, 0, buffer);
     Result { number: 0, count }
 }
 

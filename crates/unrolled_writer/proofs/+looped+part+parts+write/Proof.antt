@@ -3,7 +3,7 @@ use native.Mathlib.Omega.{arith}
 use borrow.Author.Needs.{needs}
 use Rattle.sequence.specs.Commands.{Command}
 use Rattle.unrolled_heads.proofs.Putting.{put-then}
-use Rattle.unrolled_writer.proofs.Writing.{own-nothing, own-deliver, own-signal, own-try, own-suspend, own-seq, own-par, own-present, leaf-room, leaf-writes, pause-room, pause-writes, one-head, one-writable, one-writes, loop-writable, loop-writes, two-head, two-writable, two-writes, other, first-writable, second-writable, loop-room, copy-writable, whole-writable, body-writable}
+use Rattle.unrolled_writer.proofs.Writing.{own-nothing, own-deliver, own-signal, own-try, own-suspend, own-seq, own-par, own-present, leaf-room, leaf-writes, one-head, one-writable, one-writes, loop-writable, loop-writes, two-head, two-writable, two-writes, other, first-writable, second-writable, loop-room, copy-ready, whole-writable, whole-writes}
 use Prim.Native.Nat.{ℕ, _+_, _*_, _<_}
 use borrow.Fn.Kinds.{In}
 use borrow.Fn.PlainCycle.{Measures, is, falls, and}
@@ -22,7 +22,7 @@ use Rattle.unrolled_writer.proofs.+looped+part+parts+write.Lts-write as
 use Rattle.unrolled_heads.proofs.one.Reads as one-reads
 use Rattle.unrolled_heads.proofs.two.Reads as two-reads
 use Rattle.unrolled_heads.proofs.six.Reads as six-reads
-use Rattle.unrolled_heads.proofs.pause.Reads as pause-reads
+use Rattle.unrolled_writer.proofs.copy.Reads as copy-reads
 use Rattle.unrolled_heads.proofs.put_two.Reads as put-two-reads
 use Rattle.unrolled_writer.proofs.+looped+part+parts+write.{statement}
 use Rattle.unrolled_writer.proofs.+looped+part+parts+write.Tie.{close}
@@ -64,7 +64,7 @@ abbrev write-below : ℕ → In 3 write-kinds.ps
 write-below t = and 3 write-kinds.ps (falls 3 write-kinds.ps _<_ μ-write t) write.Pre
 
 abbrev looped-claims : ℕ → looped-lts.Claims
-looped-claims t = (part-below t, part.Post, put-two-reads.Asked, put-two-reads.Learnt)
+looped-claims t = (put-two-reads.Asked, put-two-reads.Learnt, copy-reads.Asked, copy-reads.Learnt, part-below t, part.Post)
 
 abbrev part-claims : ℕ → part-lts.Claims
 part-claims t = (write-below t, write.Post)
@@ -73,25 +73,19 @@ abbrev parts-claims : ℕ → parts-lts.Claims
 parts-claims t = (part-below t, part.Post)
 
 abbrev write-claims : ℕ → write-lts.Claims
-write-claims t = (one-reads.Asked, one-reads.Learnt, pause-reads.Asked, pause-reads.Learnt, parts-below t, parts.Post, looped-below t, looped.Post, two-reads.Asked, two-reads.Learnt, part-below t, part.Post, six-reads.Asked, six-reads.Learnt)
-
-looped-part-requires : (t : ℕ) → looped-lts.Need-part-requires (looped-claims t) (looped-at t) looped.Post
-looped-part-requires t c κs = (search needs, ((c .before .before .before .before .pre .1 .0), body-writable (rw (c .before .if1 .taken) at (c .before .before .before .before .pre .1 .1))))
-
-looped-returns : (t : ℕ) → looped-lts.Need-returns (looped-claims t) (looped-at t) looped.Post
-looped-returns t c = rw (c .before .before .before .before .if1 .taken) (c .before .before .part .ensures)
+write-claims t = (one-reads.Asked, one-reads.Learnt, parts-below t, parts.Post, looped-below t, looped.Post, two-reads.Asked, two-reads.Learnt, part-below t, part.Post, six-reads.Asked, six-reads.Learnt)
 
 looped-put-two-requires : (t : ℕ) → looped-lts.Need-put-two-requires (looped-claims t) (looped-at t) looped.Post
-looped-put-two-requires t c κs = loop-room (rw (c .before .if1 .left) at (c .before .before .before .before .pre .1 .1))
+looped-put-two-requires t c κs = loop-room (c .before .before .before .pre .1 .1)
 
-looped-part-requires-2 : (t : ℕ) → looped-lts.Need-part-requires-2 (looped-claims t) (looped-at t) looped.Post
-looped-part-requires-2 t c κs = (search needs, ((c .before .before .before .before .before .before .before .before .pre .1 .0), copy-writable (rw (c .before .before .before .before .before .if1 .left) at (c .before .before .before .before .before .before .before .before .pre .1 .1)) (c .before .before .before .put-two .ensures)))
+looped-copy-requires : (t : ℕ) → looped-lts.Need-copy-requires (looped-claims t) (looped-at t) looped.Post
+looped-copy-requires t c κs = copy-ready (c .before .before .before .before .before .before .before .pre .1 .1) (c .before .before .before .put-two .ensures)
 
-looped-part-requires-3 : (t : ℕ) → looped-lts.Need-part-requires-3 (looped-claims t) (looped-at t) looped.Post
-looped-part-requires-3 t c κs = (search needs, ((c .before .before .before .before .before .before .before .before .before .before .before .before .pre .1 .0), whole-writable (rw (c .before .before .before .before .before .before .before .before .before .if1 .left) at (c .before .before .before .before .before .before .before .before .before .before .before .before .pre .1 .1)) (c .before .before .before .before .before .before .before .put-two .ensures) (c .before .before .before .part2 .ensures)))
+looped-part-requires : (t : ℕ) → looped-lts.Need-part-requires (looped-claims t) (looped-at t) looped.Post
+looped-part-requires t c κs = (search needs, (c .before .before .before .before .before .before .before .before .before .before .before .pre .1 .0, whole-writable (c .before .before .before .before .before .before .before .before .before .before .before .pre .1 .1) (c .before .before .before .before .before .before .before .put-two .ensures) (c .before .before .before .copy .ensures)))
 
-looped-returns-2 : (t : ℕ) → looped-lts.Need-returns-2 (looped-claims t) (looped-at t) looped.Post
-looped-returns-2 t c = rw (c .before .before .before .before .before .before .before .before .before .before .before .before .if1 .left) (λ base p l. put-then (c .before .before .before .before .before .before .before .before .before .before .put-two .ensures) (put-then ((c .before .before .before .before .before .before .part2 .ensures) base p l) ((c .before .before .part3 .ensures) base p l)))
+looped-returns : (t : ℕ) → looped-lts.Need-returns (looped-claims t) (looped-at t) looped.Post
+looped-returns t c = whole-writes (c .before .before .before .before .before .before .before .before .before .before .before .before .before .before .pre .1 .1) (c .before .before .before .before .before .before .before .before .before .before .put-two .ensures) (c .before .before .before .before .before .before .copy .ensures) (c .before .before .part .ensures)
 
 part-write-requires : (t : ℕ) → part-lts.Need-write-requires (part-claims t) (part-at t) part.Post
 part-write-requires t c κs = (search needs, (c .before .before .before .before .pre .1 .1))
@@ -123,50 +117,47 @@ parts-returns t c = λ base p q l. put-then ((c .before .before .before .before 
 write-one-requires : (t : ℕ) → write-lts.Need-one-requires (write-claims t) (write-at t) write.Post
 write-one-requires t c κs = leaf-room (c .before .before .before .before .before .pre .1) Command.nothing refl (c .before .match .keys1) own-nothing
 
-write-pause-requires : (t : ℕ) → write-lts.Need-pause-requires (write-claims t) (write-at t) write.Post
-write-pause-requires t c κs = pause-room (c .before .before .before .before .before .pre .1) (c .before .match .keys2)
-
 write-one-requires-2 : (t : ℕ) → write-lts.Need-one-requires-2 (write-claims t) (write-at t) write.Post
-write-one-requires-2 t c κs = two-head (c .before .before .before .before .before .pre .1) Command.seq refl (c .before .match .keys3) own-seq
+write-one-requires-2 t c κs = two-head (c .before .before .before .before .before .pre .1) Command.seq refl (c .before .match .keys2) own-seq
 
 write-parts-requires : (t : ℕ) → write-lts.Need-parts-requires (write-claims t) (write-at t) write.Post
-write-parts-requires t c κs = (search needs, two-writable (c .before .before .before .before .before .before .before .before .before .pre .1) Command.seq refl (c .before .before .before .before .before .match .keys3) own-seq (c .before .before .before .one2 .ensures))
+write-parts-requires t c κs = (search needs, two-writable (c .before .before .before .before .before .before .before .before .before .pre .1) Command.seq refl (c .before .before .before .before .before .match .keys2) own-seq (c .before .before .before .one2 .ensures))
 
 write-one-requires-3 : (t : ℕ) → write-lts.Need-one-requires-3 (write-claims t) (write-at t) write.Post
-write-one-requires-3 t c κs = two-head (c .before .before .before .before .before .pre .1) Command.par refl (c .before .match .keys4) own-par
+write-one-requires-3 t c κs = two-head (c .before .before .before .before .before .pre .1) Command.par refl (c .before .match .keys3) own-par
 
 write-parts-requires-2 : (t : ℕ) → write-lts.Need-parts-requires-2 (write-claims t) (write-at t) write.Post
-write-parts-requires-2 t c κs = (search needs, two-writable (c .before .before .before .before .before .before .before .before .before .pre .1) Command.par refl (c .before .before .before .before .before .match .keys4) own-par (c .before .before .before .one3 .ensures))
+write-parts-requires-2 t c κs = (search needs, two-writable (c .before .before .before .before .before .before .before .before .before .pre .1) Command.par refl (c .before .before .before .before .before .match .keys3) own-par (c .before .before .before .one3 .ensures))
 
 write-looped-requires : (t : ℕ) → write-lts.Need-looped-requires (write-claims t) (write-at t) write.Post
-write-looped-requires t c κs = (search needs, loop-writable (c .before .before .before .before .before .pre .1) (c .before .match .keys5))
+write-looped-requires t c κs = (search needs, loop-writable (c .before .before .before .before .before .pre .1) (c .before .match .keys4))
 
 write-two-requires : (t : ℕ) → write-lts.Need-two-requires (write-claims t) (write-at t) write.Post
-write-two-requires t c κs = two-head (c .before .before .before .before .before .pre .1) Command.present refl (c .before .match .keys6) own-present
+write-two-requires t c κs = two-head (c .before .before .before .before .before .pre .1) Command.present refl (c .before .match .keys5) own-present
 
 write-parts-requires-3 : (t : ℕ) → write-lts.Need-parts-requires-3 (write-claims t) (write-at t) write.Post
-write-parts-requires-3 t c κs = (search needs, two-writable (c .before .before .before .before .before .before .before .before .before .pre .1) Command.present refl (c .before .before .before .before .before .match .keys6) own-present (c .before .before .before .two .ensures))
+write-parts-requires-3 t c κs = (search needs, two-writable (c .before .before .before .before .before .before .before .before .before .pre .1) Command.present refl (c .before .before .before .before .before .match .keys5) own-present (c .before .before .before .two .ensures))
 
 write-two-requires-2 : (t : ℕ) → write-lts.Need-two-requires-2 (write-claims t) (write-at t) write.Post
-write-two-requires-2 t c κs = one-head (c .before .before .before .before .before .pre .1) Command.signal refl (c .before .match .keys7) own-signal
+write-two-requires-2 t c κs = one-head (c .before .before .before .before .before .pre .1) Command.signal refl (c .before .match .keys6) own-signal
 
 write-part-requires : (t : ℕ) → write-lts.Need-part-requires (write-claims t) (write-at t) write.Post
-write-part-requires t c κs = (search needs, one-writable (c .before .before .before .before .before .before .before .before .before .pre .1) Command.signal refl (c .before .before .before .before .before .match .keys7) own-signal (c .before .before .before .two2 .ensures))
+write-part-requires t c κs = (search needs, one-writable (c .before .before .before .before .before .before .before .before .before .pre .1) Command.signal refl (c .before .before .before .before .before .match .keys6) own-signal (c .before .before .before .two2 .ensures))
 
 write-one-requires-4 : (t : ℕ) → write-lts.Need-one-requires-4 (write-claims t) (write-at t) write.Post
-write-one-requires-4 t c κs = one-head (c .before .before .before .before .before .pre .1) Command.try refl (c .before .match .keys8) own-try
+write-one-requires-4 t c κs = one-head (c .before .before .before .before .before .pre .1) Command.try refl (c .before .match .keys7) own-try
 
 write-part-requires-2 : (t : ℕ) → write-lts.Need-part-requires-2 (write-claims t) (write-at t) write.Post
-write-part-requires-2 t c κs = (search needs, one-writable (c .before .before .before .before .before .before .before .before .before .pre .1) Command.try refl (c .before .before .before .before .before .match .keys8) own-try (c .before .before .before .one4 .ensures))
+write-part-requires-2 t c κs = (search needs, one-writable (c .before .before .before .before .before .before .before .before .before .pre .1) Command.try refl (c .before .before .before .before .before .match .keys7) own-try (c .before .before .before .one4 .ensures))
 
 write-two-requires-3 : (t : ℕ) → write-lts.Need-two-requires-3 (write-claims t) (write-at t) write.Post
-write-two-requires-3 t c κs = one-head (c .before .before .before .before .before .pre .1) Command.suspend refl (c .before .match .keys9) own-suspend
+write-two-requires-3 t c κs = one-head (c .before .before .before .before .before .pre .1) Command.suspend refl (c .before .match .keys8) own-suspend
 
 write-part-requires-3 : (t : ℕ) → write-lts.Need-part-requires-3 (write-claims t) (write-at t) write.Post
-write-part-requires-3 t c κs = (search needs, one-writable (c .before .before .before .before .before .before .before .before .before .pre .1) Command.suspend refl (c .before .before .before .before .before .match .keys9) own-suspend (c .before .before .before .two3 .ensures))
+write-part-requires-3 t c κs = (search needs, one-writable (c .before .before .before .before .before .before .before .before .before .pre .1) Command.suspend refl (c .before .before .before .before .before .match .keys8) own-suspend (c .before .before .before .two3 .ensures))
 
 write-six-requires : (t : ℕ) → write-lts.Need-six-requires (write-claims t) (write-at t) write.Post
-write-six-requires t c κs = leaf-room (c .before .before .before .before .before .pre .1) Command.deliver refl (c .before .match .keys10) own-deliver
+write-six-requires t c κs = leaf-room (c .before .before .before .before .before .pre .1) Command.deliver refl (c .before .match .keys9) own-deliver
 
 write-two-requires-4 : (t : ℕ) → write-lts.Need-two-requires-4 (write-claims t) (write-at t) write.Post
 write-two-requires-4 t c κs = let o = other (c .before .before .before .before .before .pre .1) (c .before .match .rest) in (o .there, o .room)
@@ -175,46 +166,40 @@ write-returns : (t : ℕ) → write-lts.Need-returns (write-claims t) (write-at 
 write-returns t c = leaf-writes (c .before .before .before .before .before .before .before .before .pre .1) Command.nothing refl (c .before .before .before .before .match .keys1) own-nothing (c .before .before .one .ensures)
 
 write-returns-2 : (t : ℕ) → write-lts.Need-returns-2 (write-claims t) (write-at t) write.Post
-write-returns-2 t c = pause-writes (c .before .before .before .before .before .before .before .before .pre .1) (c .before .before .before .before .match .keys2) (c .before .before .pause .ensures)
+write-returns-2 t c = two-writes (c .before .before .before .before .before .before .before .before .before .before .before .before .pre .1) Command.seq refl (c .before .before .before .before .before .before .before .before .match .keys2) own-seq (c .before .before .before .before .before .before .one2 .ensures) (c .before .before .parts .ensures)
 
 write-returns-3 : (t : ℕ) → write-lts.Need-returns-3 (write-claims t) (write-at t) write.Post
-write-returns-3 t c = two-writes (c .before .before .before .before .before .before .before .before .before .before .before .before .pre .1) Command.seq refl (c .before .before .before .before .before .before .before .before .match .keys3) own-seq (c .before .before .before .before .before .before .one2 .ensures) (c .before .before .parts .ensures)
+write-returns-3 t c = two-writes (c .before .before .before .before .before .before .before .before .before .before .before .before .pre .1) Command.par refl (c .before .before .before .before .before .before .before .before .match .keys3) own-par (c .before .before .before .before .before .before .one3 .ensures) (c .before .before .parts2 .ensures)
 
 write-returns-4 : (t : ℕ) → write-lts.Need-returns-4 (write-claims t) (write-at t) write.Post
-write-returns-4 t c = two-writes (c .before .before .before .before .before .before .before .before .before .before .before .before .pre .1) Command.par refl (c .before .before .before .before .before .before .before .before .match .keys4) own-par (c .before .before .before .before .before .before .one3 .ensures) (c .before .before .parts2 .ensures)
+write-returns-4 t c = loop-writes (c .before .before .before .before .before .before .before .before .pre .1) (c .before .before .before .before .match .keys4) (c .before .before .looped .ensures)
 
 write-returns-5 : (t : ℕ) → write-lts.Need-returns-5 (write-claims t) (write-at t) write.Post
-write-returns-5 t c = loop-writes (c .before .before .before .before .before .before .before .before .pre .1) (c .before .before .before .before .match .keys5) (c .before .before .looped .ensures)
+write-returns-5 t c = two-writes (c .before .before .before .before .before .before .before .before .before .before .before .before .pre .1) Command.present refl (c .before .before .before .before .before .before .before .before .match .keys5) own-present (c .before .before .before .before .before .before .two .ensures) (c .before .before .parts3 .ensures)
 
 write-returns-6 : (t : ℕ) → write-lts.Need-returns-6 (write-claims t) (write-at t) write.Post
-write-returns-6 t c = two-writes (c .before .before .before .before .before .before .before .before .before .before .before .before .pre .1) Command.present refl (c .before .before .before .before .before .before .before .before .match .keys6) own-present (c .before .before .before .before .before .before .two .ensures) (c .before .before .parts3 .ensures)
+write-returns-6 t c = one-writes (c .before .before .before .before .before .before .before .before .before .before .before .before .pre .1) Command.signal refl (c .before .before .before .before .before .before .before .before .match .keys6) own-signal (c .before .before .before .before .before .before .two2 .ensures) (c .before .before .part .ensures)
 
 write-returns-7 : (t : ℕ) → write-lts.Need-returns-7 (write-claims t) (write-at t) write.Post
-write-returns-7 t c = one-writes (c .before .before .before .before .before .before .before .before .before .before .before .before .pre .1) Command.signal refl (c .before .before .before .before .before .before .before .before .match .keys7) own-signal (c .before .before .before .before .before .before .two2 .ensures) (c .before .before .part .ensures)
+write-returns-7 t c = one-writes (c .before .before .before .before .before .before .before .before .before .before .before .before .pre .1) Command.try refl (c .before .before .before .before .before .before .before .before .match .keys7) own-try (c .before .before .before .before .before .before .one4 .ensures) (c .before .before .part2 .ensures)
 
 write-returns-8 : (t : ℕ) → write-lts.Need-returns-8 (write-claims t) (write-at t) write.Post
-write-returns-8 t c = one-writes (c .before .before .before .before .before .before .before .before .before .before .before .before .pre .1) Command.try refl (c .before .before .before .before .before .before .before .before .match .keys8) own-try (c .before .before .before .before .before .before .one4 .ensures) (c .before .before .part2 .ensures)
+write-returns-8 t c = one-writes (c .before .before .before .before .before .before .before .before .before .before .before .before .pre .1) Command.suspend refl (c .before .before .before .before .before .before .before .before .match .keys8) own-suspend (c .before .before .before .before .before .before .two3 .ensures) (c .before .before .part3 .ensures)
 
 write-returns-9 : (t : ℕ) → write-lts.Need-returns-9 (write-claims t) (write-at t) write.Post
-write-returns-9 t c = one-writes (c .before .before .before .before .before .before .before .before .before .before .before .before .pre .1) Command.suspend refl (c .before .before .before .before .before .before .before .before .match .keys9) own-suspend (c .before .before .before .before .before .before .two3 .ensures) (c .before .before .part3 .ensures)
+write-returns-9 t c = leaf-writes (c .before .before .before .before .before .before .before .before .pre .1) Command.deliver refl (c .before .before .before .before .match .keys9) own-deliver (c .before .before .six .ensures)
 
 write-returns-10 : (t : ℕ) → write-lts.Need-returns-10 (write-claims t) (write-at t) write.Post
-write-returns-10 t c = leaf-writes (c .before .before .before .before .before .before .before .before .pre .1) Command.deliver refl (c .before .before .before .before .match .keys10) own-deliver (c .before .before .six .ensures)
-
-write-returns-11 : (t : ℕ) → write-lts.Need-returns-11 (write-claims t) (write-at t) write.Post
-write-returns-11 t c = other (c .before .before .before .before .before .before .before .before .pre .1) (c .before .before .before .before .match .rest) .writes (c .before .before .two4 .ensures)
+write-returns-10 t c = other (c .before .before .before .before .before .before .before .before .pre .1) (c .before .before .before .before .match .rest) .writes (c .before .before .two4 .ensures)
 
 pub +looped+part+parts+write-spec : {M : Type 1} → statement M
 +looped+part+parts+write-spec = close μ-looped μ-part μ-parts μ-write (λ t. looped-lts.spec (looped-claims t) (looped-at t)
     looped.Post
+    (looped-put-two-requires t)
+    (looped-copy-requires t)
     (looped-part-requires t)
     (λ c. search needs)
-    (looped-returns t)
-    (looped-put-two-requires t)
-    (looped-part-requires-2 t)
-    (looped-part-requires-3 t)
-    (λ c. search needs)
-    (looped-returns-2 t))
+    (looped-returns t))
     (λ t. part-lts.spec
     (write-below t, write.Post)
     (part-at t)
@@ -244,7 +229,6 @@ pub +looped+part+parts+write-spec : {M : Type 1} → statement M
     write.Post
     (λ c. search needs)
     (write-one-requires t)
-    (write-pause-requires t)
     (write-one-requires-2 t)
     (write-parts-requires t)
     (write-one-requires-3 t)
@@ -288,5 +272,3 @@ pub +looped+part+parts+write-spec : {M : Type 1} → statement M
     (write-returns-9 t)
     (λ c. search needs)
     (write-returns-10 t)
-    (λ c. search needs)
-    (write-returns-11 t)
