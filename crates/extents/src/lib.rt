@@ -86,7 +86,7 @@ fn of_parts(s: &[u8], at: usize, w: usize, depth: u8, second: &SecondParts) -> E
     requires { ⌜ Pair (now second) (depth - 1) at w (now s) ⌝ }
     ensures { λ r. ⌜ NumberedTwo (now (second .entry)) (depth - 1) at w (now (s .entry)) r ⌝ }
 {
-    let m = (second[at] % layout::BEFORE_UNIT) as usize;
+    let m = second[at] as usize;
     let p = of_part(s, w, at + w, depth - 1, second);
     let q = of_part(s, m - at, m, depth - 1, second);
     around_two(p, q)

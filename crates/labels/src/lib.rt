@@ -113,19 +113,19 @@ pub fn lowest(s: Labels) -> u8
 }
 
 // The members below k.
-pub fn below(s: Labels, k: u32) -> Labels
+pub fn below(s: Labels, k: u16) -> Labels
     ensures { λ r. ⌜ labelSet r ≡ below k (labelSet s) ⌝ }
 {
-    if k < WORD_LABELS as u32 {
+    if k < WORD_LABELS as u16 {
         return Labels {
             low: s.low & ((1u64 << k) - 1),
             high: 0,
         };
     }
-    if k < LABELS as u32 {
+    if k < LABELS as u16 {
         Labels {
             low: s.low,
-            high: s.high & ((1u64 << (k - WORD_LABELS as u32)) - 1),
+            high: s.high & ((1u64 << (k - WORD_LABELS as u16)) - 1),
         }
     } else {
         s
@@ -133,7 +133,7 @@ pub fn below(s: Labels, k: u32) -> Labels
 }
 
 // The members from k on.
-pub fn from(s: Labels, k: u32) -> Labels
+pub fn from(s: Labels, k: u16) -> Labels
     ensures { λ r. ⌜ labelSet r ≡ from k (labelSet s) ⌝ }
 {
     let t = below(s, k);

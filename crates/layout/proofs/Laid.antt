@@ -64,7 +64,7 @@ module _ (t : List ℕ) (d : ℕ)
         let y : Marks t base a xs c q r = marked-two t base a xs c z q r .1 m in
         let u : i ≡ size q = sound d (g - declares c) (a + headLength c) (drop (headLength c) bs) q i h .count in
         let v : i ≤ length (drop (headLength c) bs) = count-within d (g - declares c) (a + headLength c) (drop (headLength c) bs) q i h in
-        let w : secondAt t a ≡ a + (headLength c + i) = omega (arith, y .0, u, v, fits, f .long, length-drop (headLength c) bs) in
+        let w : secondAt t a ≡ a + (headLength c + i) = y .0 .0 ∙ ap (λ (o : ℕ). a + (headLength c + o)) (sym u) in
         let s : rest (secondAt t a - a) bs ≡ drop (headLength c + i) bs
         = ap (λ (o : ℕ). rest o bs) (let o : secondAt t a - a ≡ headLength c + i = omega (arith, w) in o) ∙ rest-is (headLength c + i) bs in
         let two : Two (Lies t d) t base a (headLength c) bs q r = record {
@@ -75,7 +75,9 @@ module _ (t : List ℕ) (d : ℕ)
               (subst (λ (o : ℕ). Marked t (middle base q) (a + (headLength c + o)) r) (sym u) (y .2))
               (omega (arith, fits, f .long, v, length-drop (headLength c) bs, length-drop (headLength c + i) bs));
           place = w ∙ ap (λ (o : ℕ). a + (headLength c + o)) u;
-          before = omega (arith, y .0, u, v, fits, f .long, length-drop (headLength c) bs);
+          before = ap (λ (o : ℕ). getD t (o - 1) 0) (y .0 .0) ∙ y .0 .1;
+          behind = omega (arith, w);
+          room = omega (arith, w, v, fits, f .long, length-drop (headLength c) bs);
           within = omega (arith, w, v, length-drop (headLength c) bs, f .long);
         } in
         front-of c xs p f

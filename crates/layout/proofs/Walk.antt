@@ -4,15 +4,15 @@ use mathlib.Core.Path.{_≡_, refl, sym, ap, _∙_}
 use mathlib.Core.Option.{some}
 use mathlib.Core.List.{List}
 use native.Mathlib.Omega.{arith}
-use lib.ListN.{length, getD, drop, set, length-set, length-drop}
+use lib.ListN.{length, getD, drop, length-set, length-drop}
 use lib.Seq.{drop-drop, getD-set-other}
 use Rattle.esterel.specs.Statement.{Statement, nothing}
 use Rattle.esterel.specs.Ranks.{middle}
 use Rattle.limits.specs.Limits.{maxBytes, maxSignals}
 use Rattle.sequence.specs.Commands.{Command, commandOf, operandCount, bytesAt, firstOperand, partCount, headLength, declares, build}
 use Rattle.sequence.specs.Reader.{Read, accepted, refused, Front, command, bad, front, lastPart, firstPart, readParts, read}
-use Rattle.sequence.specs.Writer.{size}
-use Rattle.layout.specs.Layout.{rest, entry}
+use Rattle.sequence.specs.Writer.{size, Ranged}
+use Rattle.layout.specs.Layout.{rest, enter}
 use Rattle.layout.specs.Notes.{pausesCounted, noteCount, noteSignals, noteWithin}
 use Rattle.layout.specs.Walk.{rowUnit, headOf, Readable, Notable, LeafNoted, Entered, Done, Fitting, LeafRead, pairRead}
 use Rattle.sequence.proofs.Table.{byteOf, command-of-byte, command-at, leaves, ones, twos, undeclared}
@@ -237,6 +237,7 @@ pub record Firsts (d g b : ℕ) (s t u m n : List ℕ) (r : ℕ) : Type 0 where
   pub place : r ≡ b + count
   pub within : count ≤ length s
   pub sized : count ≡ size part
+  pub ranged : Ranged part
   pub entered : Entered t u (pausesCounted m) b count part
   pub notes : n ≡ noteWithin (maxSignals - g) part m
   pub counted : pausesCounted n ≡ middle (pausesCounted m) part
@@ -259,6 +260,7 @@ module _ (d g b : ℕ) (s t u m n : List ℕ) (r : ℕ) (can : Readable g b s t 
             place = i .0;
             within = count-within d g b s p k q;
             sized = w .count;
+            ranged = w .within .ranged;
             entered = i .1 .0;
             notes = i .1 .1;
             counted = c;
@@ -276,28 +278,28 @@ module _ (d g b : ℕ) (s t u m n : List ℕ) (r : ℕ) (can : Readable g b s t 
           let q' : read d g (a + headLength c) s ≡ refused k = rw e at q in
           done-refused g a t u m n (pairRead (read d g) c a xs s) k r (rw q') (i .0)
 
-  -- the entry o is written at offset a, and z is the answer for the second part, of the bytes l
-  pub both : (a : ℕ) (xs : List ℕ) (c : Command) → b ≡ a + headLength c → partCount c ≡ 2 → Firsts d g b s t u m n r → a < length u → (o : ℕ)
-      → o ≡ entry r (pausesCounted n) → (l : List ℕ) → l ≡ drop (r - b) s → (v j : List ℕ) (z : ℕ)
-      → Done g r (set u a o) v n j (read d g r l) z → Done g a t v m j (pairRead (read d g) c a xs s) z
-  both a xs c e two f inside o w l here v j z i =
+  -- the entries of the second part are written, and z is the answer for it, of the bytes l
+  pub both : (a : ℕ) (xs : List ℕ) (c : Command) → b ≡ a + headLength c → partCount c ≡ 2 → Firsts d g b s t u m n r → r ≤ length u
+      → (l : List ℕ) → l ≡ drop (r - b) s → (v j : List ℕ) (z : ℕ)
+      → Done g r (enter u a r (pausesCounted n)) v n j (read d g r l) z → Done g a t v m j (pairRead (read d g) c a xs s) z
+  both a xs c e two f inside l here v j z i =
       let k = f .count in
       let q : read d g (a + headLength c) s ≡ accepted (f .part) k = rw e at (f .reads) in
       let place : r ≡ a + (headLength c + k) = omega (arith, f .place) in
       let gone : r - b ≡ k = omega (arith, f .place) in
       let same : read d g r l ≡ read d g (a + (headLength c + k)) (drop k s) = rw (here, gone, place) in
       let fore : Entered t u (pausesCounted m) (a + headLength c) k (f .part) = rw e at (f .entered) in
-      let noted : o ≡ entry r (middle (pausesCounted m) (f .part)) = w ∙ ap (entry r) (f .counted) in
-      rw q (go fore place noted (read d g (a + (headLength c + k)) (drop k s)) (rw same at i))
+      rw q (go fore place (read d g (a + (headLength c + k)) (drop k s)) (rw same at i))
     where
-      go : Entered t u (pausesCounted m) (a + headLength c) (f .count) (f .part) → r ≡ a + (headLength c + f .count) → o ≡ entry r (middle (pausesCounted m) (f .part)) → (y : Read)
-          → Done g r (set u a o) v n j y z → Done g a t v m j (lastPart (λ q. build c a xs (f .part) q) (headLength c + f .count) y) z
-      go fore place noted (accepted p k) i =
-          let back : Entered (set u a o) v (middle (pausesCounted m) (f .part)) r k p = rw (f .counted) at (i .1 .0) in (
+      go : Entered t u (pausesCounted m) (a + headLength c) (f .count) (f .part) → r ≡ a + (headLength c + f .count) → (y : Read)
+          → Done g r (enter u a r (pausesCounted n)) v n j y z
+          → Done g a t v m j (lastPart (λ q. build c a xs (f .part) q) (headLength c + f .count) y) z
+      go fore place (accepted p k) i =
+          let back : Entered (enter u a r (middle (pausesCounted m) (f .part))) v (middle (pausesCounted m) (f .part)) r k p = rw (f .counted) at (i .1 .0) in (
             omega (arith, i .0),
             (
-              entered-two t u v (pausesCounted m) a xs r o c (f .part) p (f .count) k two (f .sized) place noted inside fore back,
+              entered-two t u v (pausesCounted m) a xs r c (f .part) p (f .count) k two (f .ranged) (f .sized) place inside fore back,
               i .1 .1 ∙ ap (noteWithin (maxSignals - g) p) (f .notes) ∙ sym (note-two (maxSignals - g) a xs m c two (f .part) p),
             ),
           )
-      go fore place noted (refused k) i = (i .0, tt)
+      go fore place (refused k) i = (i .0, tt)

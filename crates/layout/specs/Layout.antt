@@ -1,11 +1,11 @@
 -- How an accepted statement lies in the bytes, with what reading noted of second parts: what the later walks go by.
 -- Offsets are those of the whole sequence.
-use Prim.Native.Nat.{ℕ, zero, suc, _+_, _-_, _*_, _/_, _%_, _≤_, _<_}
+use Prim.Native.Nat.{ℕ, zero, suc, _+_, _-_, _≤_, _<_}
 use mathlib.Core.Path.{_≡_}
 use mathlib.Core.Bool.{true}
 use mathlib.Core.Option.{Option, none, some}
 use mathlib.Core.List.{List}
-use lib.ListN.{getD, length, take, drop}
+use lib.ListN.{getD, length, take, drop, set}
 use Rattle.esterel.specs.Statement.{Statement, nothing, pause, emit, exit, seq, par, loop, present, signal, try, setpause, suspend, held}
 use Rattle.esterel.specs.Ranks.{middle}
 use Rattle.limits.specs.Limits.{maxBytes}
@@ -16,33 +16,35 @@ use Rattle.sequence.specs.Writer.{size}
 abbrev pub rest : ℕ → List ℕ → List ℕ
 rest n bs = take (length bs - n) (drop n bs)
 
--- ---- the table of second parts: at the offset of a command of two parts, one number
--- where its second part begins, below beforeUnit, and how many pauses stand before that, times beforeUnit
-abbrev pub beforeUnit : ℕ
-beforeUnit = 2048
-
-abbrev pub entry : (second before : ℕ) → ℕ
-entry second before = second + beforeUnit * before
-
+-- ---- the table of second parts: where the second part of a command begins, at the command's offset, and how many pauses stand
+-- before it, at the byte before it, which is the last one of a command without parts
 abbrev pub secondAt : List ℕ → ℕ → ℕ
-secondAt t a = getD t a 0 % beforeUnit
+secondAt t a = getD t a 0
 
 abbrev pub beforeAt : List ℕ → ℕ → ℕ
-beforeAt t a = getD t a 0 / beforeUnit
+beforeAt t a = getD t (secondAt t a - 1) 0
 
--- t has the entry of each command of two parts in p, which stands at offset a with `base` pauses before it
+-- t has this of the command at offset a
+abbrev pub Entry : (t : List ℕ) (a second before : ℕ) → Type 0
+Entry t a second before = (getD t a 0 ≡ second) × (getD t (second - 1) 0 ≡ before)
+
+-- t with that
+abbrev pub enter : (t : List ℕ) (a second before : ℕ) → List ℕ
+enter t a second before = set (set t a second) (second - 1) before
+
+-- t has the entries of each command of two parts in p, which stands at offset a with `base` pauses before it
 abbrev pub Marked : (t : List ℕ) (base a : ℕ) → Statement → Type 0
 Marked t base a nothing = Unit {0}
 Marked t base a (pause l) = Unit {0}
 Marked t base a (emit s v) = Unit {0}
 Marked t base a (exit n) = Unit {0}
 Marked t base a (seq p q) =
-    (getD t a 0 ≡ entry (a + (1 + size p)) (middle base p)) × Marked t base (a + 1) p × Marked t (middle base p) (a + (1 + size p)) q
+    Entry t a (a + (1 + size p)) (middle base p) × Marked t base (a + 1) p × Marked t (middle base p) (a + (1 + size p)) q
 Marked t base a (par p q) =
-    (getD t a 0 ≡ entry (a + (1 + size p)) (middle base p)) × Marked t base (a + 1) p × Marked t (middle base p) (a + (1 + size p)) q
+    Entry t a (a + (1 + size p)) (middle base p) × Marked t base (a + 1) p × Marked t (middle base p) (a + (1 + size p)) q
 Marked t base a (loop b p) = Marked t base (a + 1) p
 Marked t base a (present s p q) =
-    (getD t a 0 ≡ entry (a + (2 + size p)) (middle base p)) × Marked t base (a + 2) p × Marked t (middle base p) (a + (2 + size p)) q
+    Entry t a (a + (2 + size p)) (middle base p) × Marked t base (a + 2) p × Marked t (middle base p) (a + (2 + size p)) q
 Marked t base a (signal sc b s p) = Marked t base (a + 2) p
 Marked t base a (try p) = Marked t base (a + 1) p
 Marked t base a (setpause l) = Unit {0}
@@ -57,6 +59,8 @@ pub record Two (L : (base a : ℕ) → List ℕ → Statement → Type 0) (t : L
   pub second : L (middle base p) (secondAt t a) (rest (secondAt t a - a) bs) q
   pub place : secondAt t a ≡ a + (w + size p)
   pub before : beforeAt t a ≡ middle base p
+  pub behind : a < secondAt t a
+  pub room : secondAt t a ≤ maxBytes
   pub within : secondAt t a - a ≤ length bs
 
 -- the statement p by the parts of the command c at offset a

@@ -3,10 +3,9 @@ ghost use mathlib.Core.Path.{_≡_};
 ghost use mathlib.Core.List.{List, _∷_};
 ghost use Prim.Native.Nat.{ℕ, _≤_, _<_};
 ghost use lib.Dec.{eqb};
-ghost use lib.ListN.{set};
 ghost use Rattle.limits.specs.Limits.{maxBytes, maxSignals};
 ghost use Rattle.sequence.specs.Commands.{Command, commandOf, inRange};
-ghost use Rattle.layout.specs.Layout.{entry};
+ghost use Rattle.layout.specs.Layout.{enter};
 ghost use Rattle.layout.specs.Notes.{pausesCounted};
 ghost use Rattle.reading_steps.specs.Steps.{isChoice, isDeclaration, Declared};
 use layout::SecondParts;
@@ -59,19 +58,11 @@ pub fn declare(signals: u8, notes: &mut Notes) -> u8
     left
 }
 
-// The entry of a second part at offset m with n pauses before it.
-fn entry(m: usize, n: u64) -> u32
-    requires { ⌜ m ≤ maxBytes ⌝ }
-    requires { ⌜ n ≤ maxBytes ⌝ }
-    ensures { λ r. ⌜ r ≡ entry m n ⌝ }
-{
-    (m as u32) + layout::BEFORE_UNIT * (n as u32)
-}
-
-// The second part, at offset m, of the command at offset `at`: its entry, by the pauses noted so far.
+// The second part, at offset m, of the command at offset `at`: where it begins, and the pauses noted so far at the byte before it.
 pub fn mark(at: usize, m: usize, notes: &Notes, second: &mut SecondParts)
-    requires { ⌜ (at < maxBytes) × (m ≤ maxBytes) × (pausesCounted (now notes) ≤ maxBytes) ⌝ }
-    ensures { λ _. ⌜ now (second .exit) ≡ set (now (second .entry)) at (entry m (pausesCounted (now (notes .entry)))) ⌝ }
+    requires { ⌜ (at < maxBytes) × (0 < m) × (m ≤ maxBytes) × (pausesCounted (now notes) ≤ maxBytes) ⌝ }
+    ensures { λ _. ⌜ now (second .exit) ≡ enter (now (second .entry)) at m (pausesCounted (now (notes .entry))) ⌝ }
 {
-    second[at] = entry(m, notes::count(notes));
+    second[at] = m as u16;
+    second[m - 1] = notes::count(notes) as u16;
 }

@@ -76,12 +76,12 @@ fn seq_parts(
     requires { ⌜ Ready (now second) depth at (now s) × (getD (now s) 0 0 ≡ 4) ⌝ }
     ensures { λ r. ⌜ Resumed (now (second .entry)) depth at (now (s .entry)) (labelSet active) input (now (litres .entry)) (now (litres .exit)) r ⌝ }
 {
-    let entry = second[at];
-    let m = (entry % layout::BEFORE_UNIT) as usize;
-    let first = labels::below(active, entry / layout::BEFORE_UNIT);
+    let m = second[at] as usize;
+    let pauses = second[m - 1];
+    let first = labels::below(active, pauses);
     if labels::is_empty(first) {
         // the expansion is that of the second part
-        let others = labels::from(active, entry / layout::BEFORE_UNIT);
+        let others = labels::from(active, pauses);
         return part(s, m - at, m, depth - 1, input, litres, others, second);
     }
     let p = part(s, 1, at + 1, depth - 1, input, litres, first, second);
@@ -121,11 +121,11 @@ fn par_parts(
     requires { ⌜ Ready (now second) depth at (now s) × (getD (now s) 0 0 ≡ 5) ⌝ }
     ensures { λ r. ⌜ Resumed (now (second .entry)) depth at (now (s .entry)) (labelSet active) input (now (litres .entry)) (now (litres .exit)) r ⌝ }
 {
-    let entry = second[at];
-    let m = (entry % layout::BEFORE_UNIT) as usize;
-    let first = labels::below(active, entry / layout::BEFORE_UNIT);
+    let m = second[at] as usize;
+    let pauses = second[m - 1];
+    let first = labels::below(active, pauses);
     let p = side(s, 1, at + 1, depth - 1, input, litres, first, second);
-    let others = labels::from(active, entry / layout::BEFORE_UNIT);
+    let others = labels::from(active, pauses);
     let q = side(s, m - at, m, depth - 1, input, litres, others, second);
     rules_two::in_parallel(p, q)
 }
@@ -143,11 +143,11 @@ fn present_parts(
     requires { ⌜ Ready (now second) depth at (now s) × (getD (now s) 0 0 ≡ 7) ⌝ }
     ensures { λ r. ⌜ Resumed (now (second .entry)) depth at (now (s .entry)) (labelSet active) input (now (litres .entry)) (now (litres .exit)) r ⌝ }
 {
-    let entry = second[at];
-    let first = labels::below(active, entry / layout::BEFORE_UNIT);
+    let m = second[at] as usize;
+    let pauses = second[m - 1];
+    let first = labels::below(active, pauses);
     if labels::is_empty(first) {
-        let m = (entry % layout::BEFORE_UNIT) as usize;
-        let others = labels::from(active, entry / layout::BEFORE_UNIT);
+        let others = labels::from(active, pauses);
         return part(s, m - at, m, depth - 1, input, litres, others, second);
     }
     part(s, 2, at + 2, depth - 1, input, litres, first, second)

@@ -85,12 +85,12 @@ fn parts(
     requires { ⌜ Pair (now second) (depth - 1) at w (now s) ⌝ }
     ensures { λ _. ⌜ FoundTwo (now (second .entry)) (depth - 1) at w (now (s .entry)) low high (now (found .entry)) (now (found .exit)) ⌝ }
 {
-    let entry = second[at];
-    let m = (entry % layout::BEFORE_UNIT) as usize;
+    let m = second[at] as usize;
+    let pauses = second[m - 1];
     let n = m - at;
     let active = labels::from_words(low, high);
-    let first = labels::below(active, entry / layout::BEFORE_UNIT);
-    let others = labels::from(active, entry / layout::BEFORE_UNIT);
+    let first = labels::below(active, pauses);
+    let others = labels::from(active, pauses);
     let low_others = labels::low_word(others);
     let high_others = labels::high_word(others);
     if labels::is_empty(first) {

@@ -110,7 +110,7 @@ fn parts(
     ensures { λ r. ⌜ WritesTwo (now (second .entry)) (depth - 1) at w (now (s .entry))
         i (now (buffer .entry)) (now (buffer .exit)) r ⌝ }
 {
-    let m = (second[at] % layout::BEFORE_UNIT) as usize;
+    let m = second[at] as usize;
     let j = part(s, w, at + w, depth - 1, second, i, buffer);
     part(s, m - at, m, depth - 1, second, j, buffer)
 }

@@ -57,11 +57,11 @@ fn compatible_parts(
     requires { ⌜ Pair (now second) (depth - 1) at w (now s) ⌝ }
     ensures { λ r. ⌜ TellsCompatibleTwo (now (second .entry)) (depth - 1) at w (now (s .entry)) parallel (labelSet active) r ⌝ }
 {
-    let entry = second[at];
-    let m = (entry % layout::BEFORE_UNIT) as usize;
+    let m = second[at] as usize;
+    let pauses = second[m - 1];
     let n = m - at;
-    let p = labels::below(active, entry / layout::BEFORE_UNIT);
-    let q = labels::from(active, entry / layout::BEFORE_UNIT);
+    let p = labels::below(active, pauses);
+    let q = labels::from(active, pauses);
     if labels::is_empty(p) {
         return compatible_part(s, n, m, depth - 1, second, q);
     }

@@ -237,6 +237,11 @@ declaration-returns t c base p l = c .signal-rule .ensures base p (whole-lies _ 
 par-parts-element-copy-out-m : (t : ℕ) → par-parts-lts.Need-element-copy-out-m (par-parts-claims t) (par-parts-at t) par-parts.Post
 par-parts-element-copy-out-m t c = omega (arith, c .before .pre .1 .0 .long, c .before .pre .1 .0 .fits, c .before .pre .1 .0 .bytes)
 
+par-parts-cast-m : (t : ℕ) → par-parts-lts.Need-cast-m (par-parts-claims t) (par-parts-at t) par-parts.Post
+par-parts-cast-m t c =
+    let f = c .before .before .pre .1 in
+    record { fits = omega (arith, begins (f .0) Command.par (f .1) .parts .2 .1 .room) }
+
 par-parts-part-requires : (t : ℕ) → par-parts-lts.Need-part-requires (par-parts-claims t) (par-parts-at t) par-parts.Post
 par-parts-part-requires t c κs = let y = begins (c .before .before .before .pre .1 .0) Command.par (c .before .before .before .pre .1 .1) in (search needs, (y .there, ready _ (y .parts .0) (c .before .before .before .pre .1 .0 .long) (y .parts .2 .1 .first)))
 
@@ -279,6 +284,11 @@ present-parts-element-copy-out-m : (t : ℕ) → present-parts-lts.Need-element-
 present-parts-element-copy-out-m t c =
     let f = c .before .before .before .before .pre .1 .0 in
     omega (arith, f .long, f .fits, f .bytes)
+
+present-parts-cast-m : (t : ℕ) → present-parts-lts.Need-cast-m (present-parts-claims t) (present-parts-at t) present-parts.Post
+present-parts-cast-m t c =
+    let f = c .before .before .before .before .before .pre .1 in
+    record { fits = omega (arith, begins (f .0) Command.present (f .1) .parts .2 .1 .room) }
 
 present-parts-sub-part-2 : (t : ℕ) → present-parts-lts.Need-sub-part-2 (present-parts-claims t) (present-parts-at t) present-parts.Post
 present-parts-sub-part-2 t c =
@@ -374,6 +384,11 @@ react-returns-8 t c base p l = c .alone .ensures _ _ _ _ base p l
 
 seq-parts-element-copy-out-m : (t : ℕ) → seq-parts-lts.Need-element-copy-out-m (seq-parts-claims t) (seq-parts-at t) seq-parts.Post
 seq-parts-element-copy-out-m t c = omega (arith, c .before .pre .1 .0 .long, c .before .pre .1 .0 .fits, c .before .pre .1 .0 .bytes)
+
+seq-parts-cast-m : (t : ℕ) → seq-parts-lts.Need-cast-m (seq-parts-claims t) (seq-parts-at t) seq-parts.Post
+seq-parts-cast-m t c =
+    let f = c .before .before .pre .1 in
+    record { fits = omega (arith, begins (f .0) Command.seq (f .1) .parts .2 .1 .room) }
 
 seq-parts-part-requires : (t : ℕ) → seq-parts-lts.Need-part-requires (seq-parts-claims t) (seq-parts-at t) seq-parts.Post
 seq-parts-part-requires t c κs = let y = begins (c .before .before .before .pre .1 .0) Command.seq (c .before .before .before .pre .1 .1) in (search needs, (y .there, ready _ (y .parts .0) (c .before .before .before .pre .1 .0 .long) (y .parts .2 .1 .first)))
@@ -487,7 +502,8 @@ pub +after+body+declaration+par-parts+part+present-parts+react+seq-parts+signal-
     par-parts.Post
     (λ c. search needs)
     (par-parts-element-copy-out-m t)
-    (λ c. search needs) (λ c. search needs) (λ c. search needs)
+    (par-parts-cast-m t)
+    (λ c. search needs) (λ c. search needs)
     (par-parts-part-requires t)
     (par-parts-sub-part-2 t)
     (λ c. search needs)
@@ -509,7 +525,7 @@ pub +after+body+declaration+par-parts+part+present-parts+react+seq-parts+signal-
     (present-parts-part-requires t)
     (λ c κs. search needs) (λ c. search needs)
     (present-parts-element-copy-out-m t)
-    (λ c. search needs)
+    (present-parts-cast-m t)
     (present-parts-sub-part-2 t)
     (λ c. search needs)
     (present-parts-part-requires-2 t)
@@ -545,7 +561,8 @@ pub +after+body+declaration+par-parts+part+present-parts+react+seq-parts+signal-
     seq-parts.Post
     (λ c. search needs)
     (seq-parts-element-copy-out-m t)
-    (λ c. search needs) (λ c. search needs) (λ c. search needs)
+    (seq-parts-cast-m t)
+    (λ c. search needs) (λ c. search needs)
     (seq-parts-part-requires t)
     (seq-parts-sub-after t)
     (λ c. search needs)

@@ -243,21 +243,36 @@ declaration-signal-rule-requires t c κs =
 declaration-returns : (t : ℕ) → declaration-lts.Need-returns (declaration-claims t) (declaration-at t) declaration.Post
 declaration-returns t c base p l = c .signal-rule .ensures base p (whole-lies _ _ _ _ _ p l)
 
-par-parts-element-copy-out-entry : (t : ℕ) → par-parts-lts.Need-element-copy-out-entry (par-parts-claims t) (par-parts-at t) par-parts.Post
-par-parts-element-copy-out-entry t c = omega (arith, c .before .pre .1 .0 .long, c .before .pre .1 .0 .fits, c .before .pre .1 .0 .bytes)
+par-parts-mul-m : (t : ℕ) → par-parts-lts.Need-mul-m (par-parts-claims t) (par-parts-at t) par-parts.Post
+par-parts-mul-m t c = record { fits = omega (arith, c .before .pre .1 .0 .fits) }
+
+par-parts-element-copy-out-m : (t : ℕ) → par-parts-lts.Need-element-copy-out-m (par-parts-claims t) (par-parts-at t) par-parts.Post
+par-parts-element-copy-out-m t c = omega (arith, c .before .pre .1 .0 .long, c .before .pre .1 .0 .fits, c .before .pre .1 .0 .bytes)
+
+par-parts-cast-m : (t : ℕ) → par-parts-lts.Need-cast-m (par-parts-claims t) (par-parts-at t) par-parts.Post
+par-parts-cast-m t c = record { fits = omega (arith, begins (c .before .before .pre .1 .0) Command.par (c .before .before .pre .1 .1) .parts .2 .1 .room) }
+
+par-parts-sub-pauses : (t : ℕ) → par-parts-lts.Need-sub-pauses (par-parts-claims t) (par-parts-at t) par-parts.Post
+par-parts-sub-pauses t c = omega (arith, begins (c .before .before .pre .1 .0) Command.par (c .before .before .pre .1 .1) .parts .2 .1 .behind)
+
+par-parts-mul-pauses : (t : ℕ) → par-parts-lts.Need-mul-pauses (par-parts-claims t) (par-parts-at t) par-parts.Post
+par-parts-mul-pauses t c = record { fits = omega (arith, begins (c .before .before .pre .1 .0) Command.par (c .before .before .pre .1 .1) .parts .2 .1 .room) }
+
+par-parts-element-copy-out-pauses : (t : ℕ) → par-parts-lts.Need-element-copy-out-pauses (par-parts-claims t) (par-parts-at t) par-parts.Post
+par-parts-element-copy-out-pauses t c = omega (arith, begins (c .before .before .pre .1 .0) Command.par (c .before .before .pre .1 .1) .parts .2 .1 .behind, begins (c .before .before .pre .1 .0) Command.par (c .before .before .pre .1 .1) .parts .2 .1 .room, c .before .before .pre .1 .0 .long)
 
 par-parts-side-requires : (t : ℕ) → par-parts-lts.Need-side-requires (par-parts-claims t) (par-parts-at t) par-parts.Post
-par-parts-side-requires t c κs = let y = begins (c .before .before .before .before .pre .1 .0) Command.par (c .before .before .before .before .pre .1 .1) in (search needs, (y .there, ready _ (y .parts .0) (c .before .before .before .before .pre .1 .0 .long) (y .parts .2 .1 .first)))
+par-parts-side-requires t c κs = let y = begins (c .before .before .before .before .before .pre .1 .0) Command.par (c .before .before .before .before .before .pre .1 .1) in (search needs, (y .there, ready _ (y .parts .0) (c .before .before .before .before .before .pre .1 .0 .long) (y .parts .2 .1 .first)))
 
 par-parts-sub-side-2 : (t : ℕ) → par-parts-lts.Need-sub-side-2 (par-parts-claims t) (par-parts-at t) par-parts.Post
-par-parts-sub-side-2 t c = omega (arith, begins (c .before .before .before .before .before .before .pre .1 .0) Command.par (c .before .before .before .before .before .before .pre .1 .1) .parts .2 .1 .place)
+par-parts-sub-side-2 t c = omega (arith, begins (c .before .before .before .before .before .before .before .pre .1 .0) Command.par (c .before .before .before .before .before .before .before .pre .1 .1) .parts .2 .1 .place)
 
 par-parts-side-requires-2 : (t : ℕ) → par-parts-lts.Need-side-requires-2 (par-parts-claims t) (par-parts-at t) par-parts.Post
-par-parts-side-requires-2 t c κs = let y = begins (c .before .before .before .before .before .before .before .pre .1 .0) Command.par (c .before .before .before .before .before .before .before .pre .1 .1) in (search needs, (y .parts .2 .1 .within, ready _ (y .parts .1) (c .before .before .before .before .before .before .before .pre .1 .0 .long) (y .parts .2 .1 .second)))
+par-parts-side-requires-2 t c κs = let y = begins (c .before .before .before .before .before .before .before .before .pre .1 .0) Command.par (c .before .before .before .before .before .before .before .before .pre .1 .1) in (search needs, (y .parts .2 .1 .within, ready _ (y .parts .1) (c .before .before .before .before .before .before .before .before .pre .1 .0 .long) (y .parts .2 .1 .second)))
 
 par-parts-returns : (t : ℕ) → par-parts-lts.Need-returns (par-parts-claims t) (par-parts-at t) par-parts.Post
 par-parts-returns t c base p l f =
-    let y = taken-apart (c .before .before .before .before .before .before .before .before .before .pre .1 .0) base p l Command.par (c .before .before .before .before .before .before .before .before .before .pre .1 .1) .parts in
+    let y = taken-apart (c .before .before .before .before .before .before .before .before .before .before .pre .1 .0) base p l Command.par (c .before .before .before .before .before .before .before .before .before .before .pre .1 .1) .parts in
     here f base _ _ (par (y .0) (y .1)) p (y .2 .0)
     (par-step _ base _ _ (y .0) (y .1) _ _ (y .2 .1 .before) (c .before .before .before .before .before .before .below .ensures) _ (c .before .before .before .from .ensures) (c .before .before .before .before .side .ensures base (y .0) (y .2 .1 .first) f) (c .before .side2 .ensures _ (y .1) (y .2 .1 .second) f) (c .in-parallel .ensures))
 
@@ -275,27 +290,42 @@ part-resume-requires t c κs = (search needs, c .before .before .before .before 
 part-returns-2 : (t : ℕ) → part-lts.Need-returns-2 (part-claims t) (part-at t) part.Post
 part-returns-2 t c base p l = c .resume .ensures base p l
 
-present-parts-element-copy-out-entry : (t : ℕ) → present-parts-lts.Need-element-copy-out-entry (present-parts-claims t) (present-parts-at t) present-parts.Post
-present-parts-element-copy-out-entry t c = omega (arith, c .before .pre .1 .0 .long, c .before .pre .1 .0 .fits, c .before .pre .1 .0 .bytes)
+present-parts-mul-m : (t : ℕ) → present-parts-lts.Need-mul-m (present-parts-claims t) (present-parts-at t) present-parts.Post
+present-parts-mul-m t c = record { fits = omega (arith, c .before .pre .1 .0 .fits) }
+
+present-parts-element-copy-out-m : (t : ℕ) → present-parts-lts.Need-element-copy-out-m (present-parts-claims t) (present-parts-at t) present-parts.Post
+present-parts-element-copy-out-m t c = omega (arith, c .before .pre .1 .0 .long, c .before .pre .1 .0 .fits, c .before .pre .1 .0 .bytes)
+
+present-parts-cast-m : (t : ℕ) → present-parts-lts.Need-cast-m (present-parts-claims t) (present-parts-at t) present-parts.Post
+present-parts-cast-m t c = record { fits = omega (arith, begins (c .before .before .pre .1 .0) Command.present (c .before .before .pre .1 .1) .parts .2 .1 .room) }
+
+present-parts-sub-pauses : (t : ℕ) → present-parts-lts.Need-sub-pauses (present-parts-claims t) (present-parts-at t) present-parts.Post
+present-parts-sub-pauses t c = omega (arith, begins (c .before .before .pre .1 .0) Command.present (c .before .before .pre .1 .1) .parts .2 .1 .behind)
+
+present-parts-mul-pauses : (t : ℕ) → present-parts-lts.Need-mul-pauses (present-parts-claims t) (present-parts-at t) present-parts.Post
+present-parts-mul-pauses t c = record { fits = omega (arith, begins (c .before .before .pre .1 .0) Command.present (c .before .before .pre .1 .1) .parts .2 .1 .room) }
+
+present-parts-element-copy-out-pauses : (t : ℕ) → present-parts-lts.Need-element-copy-out-pauses (present-parts-claims t) (present-parts-at t) present-parts.Post
+present-parts-element-copy-out-pauses t c = omega (arith, begins (c .before .before .pre .1 .0) Command.present (c .before .before .pre .1 .1) .parts .2 .1 .behind, begins (c .before .before .pre .1 .0) Command.present (c .before .before .pre .1 .1) .parts .2 .1 .room, c .before .before .pre .1 .0 .long)
 
 present-parts-sub-part : (t : ℕ) → present-parts-lts.Need-sub-part (present-parts-claims t) (present-parts-at t) present-parts.Post
-present-parts-sub-part t c = omega (arith, begins (c .before .before .before .before .before .before .pre .1 .0) Command.present (c .before .before .before .before .before .before .pre .1 .1) .parts .2 .1 .place)
+present-parts-sub-part t c = omega (arith, begins (c .before .before .before .before .before .before .before .pre .1 .0) Command.present (c .before .before .before .before .before .before .before .pre .1 .1) .parts .2 .1 .place)
 
 present-parts-part-requires : (t : ℕ) → present-parts-lts.Need-part-requires (present-parts-claims t) (present-parts-at t) present-parts.Post
-present-parts-part-requires t c κs = let y = begins (c .before .before .before .before .before .before .before .pre .1 .0) Command.present (c .before .before .before .before .before .before .before .pre .1 .1) in (search needs, (y .parts .2 .1 .within, ready _ (y .parts .1) (c .before .before .before .before .before .before .before .pre .1 .0 .long) (y .parts .2 .1 .second)))
+present-parts-part-requires t c κs = let y = begins (c .before .before .before .before .before .before .before .before .pre .1 .0) Command.present (c .before .before .before .before .before .before .before .before .pre .1 .1) in (search needs, (y .parts .2 .1 .within, ready _ (y .parts .1) (c .before .before .before .before .before .before .before .before .pre .1 .0 .long) (y .parts .2 .1 .second)))
 
 present-parts-returns : (t : ℕ) → present-parts-lts.Need-returns (present-parts-claims t) (present-parts-at t) present-parts.Post
 present-parts-returns t c base p l f =
-    let y = taken-apart (c .before .before .before .before .before .before .before .before .pre .1 .0) base p l Command.present (c .before .before .before .before .before .before .before .before .pre .1 .1) .parts in
+    let y = taken-apart (c .before .before .before .before .before .before .before .before .before .pre .1 .0) base p l Command.present (c .before .before .before .before .before .before .before .before .before .pre .1 .1) .parts in
     here f base _ _ (present _ (y .0) (y .1)) p (y .2 .0)
     (present-second _ base _ _ (y .0) (y .1) _ _ (y .2 .1 .before) (c .before .before .before .before .before .below .ensures) _ (c .before .before .from .ensures) _ (sym (c .before .before .before .before .is-empty .ensures) ∙ c .before .before .before .if1 .taken) (c .part .ensures _ (y .1) (y .2 .1 .second) f))
 
 present-parts-part-requires-2 : (t : ℕ) → present-parts-lts.Need-part-requires-2 (present-parts-claims t) (present-parts-at t) present-parts.Post
-present-parts-part-requires-2 t c κs = let y = begins (c .before .before .before .before .before .before .pre .1 .0) Command.present (c .before .before .before .before .before .before .pre .1 .1) in (search needs, (y .there, ready _ (y .parts .0) (c .before .before .before .before .before .before .pre .1 .0 .long) (y .parts .2 .1 .first)))
+present-parts-part-requires-2 t c κs = let y = begins (c .before .before .before .before .before .before .before .pre .1 .0) Command.present (c .before .before .before .before .before .before .before .pre .1 .1) in (search needs, (y .there, ready _ (y .parts .0) (c .before .before .before .before .before .before .before .pre .1 .0 .long) (y .parts .2 .1 .first)))
 
 present-parts-returns-2 : (t : ℕ) → present-parts-lts.Need-returns-2 (present-parts-claims t) (present-parts-at t) present-parts.Post
 present-parts-returns-2 t c base p l f =
-    let y = taken-apart (c .before .before .before .before .before .before .before .pre .1 .0) base p l Command.present (c .before .before .before .before .before .before .before .pre .1 .1) .parts in
+    let y = taken-apart (c .before .before .before .before .before .before .before .before .pre .1 .0) base p l Command.present (c .before .before .before .before .before .before .before .before .pre .1 .1) .parts in
     here f base _ _ (present _ (y .0) (y .1)) p (y .2 .0)
     (present-first _ base _ _ (y .0) (y .1) _ _ (y .2 .1 .before) (c .before .before .before .before .below .ensures) _ (sym (c .before .before .before .is-empty .ensures) ∙ c .before .before .if1 .left) (c .part2 .ensures base (y .0) (y .2 .1 .first) f))
 
@@ -357,33 +387,48 @@ resume-returns-7 t c base p l = c .suspend-part .ensures base p l
 resume-returns-8 : (t : ℕ) → resume-lts.Need-returns-8 (resume-claims t) (resume-at t) resume.Post
 resume-returns-8 t c base p l f = leaf-step _ _ base _ _ p _ _ _ l (c .before .match .rest) (nothing-step f nothing _ _ _ refl (c .nothing .ensures))
 
-seq-parts-element-copy-out-entry : (t : ℕ) → seq-parts-lts.Need-element-copy-out-entry (seq-parts-claims t) (seq-parts-at t) seq-parts.Post
-seq-parts-element-copy-out-entry t c = omega (arith, c .before .pre .1 .0 .long, c .before .pre .1 .0 .fits, c .before .pre .1 .0 .bytes)
+seq-parts-mul-m : (t : ℕ) → seq-parts-lts.Need-mul-m (seq-parts-claims t) (seq-parts-at t) seq-parts.Post
+seq-parts-mul-m t c = record { fits = omega (arith, c .before .pre .1 .0 .fits) }
+
+seq-parts-element-copy-out-m : (t : ℕ) → seq-parts-lts.Need-element-copy-out-m (seq-parts-claims t) (seq-parts-at t) seq-parts.Post
+seq-parts-element-copy-out-m t c = omega (arith, c .before .pre .1 .0 .long, c .before .pre .1 .0 .fits, c .before .pre .1 .0 .bytes)
+
+seq-parts-cast-m : (t : ℕ) → seq-parts-lts.Need-cast-m (seq-parts-claims t) (seq-parts-at t) seq-parts.Post
+seq-parts-cast-m t c = record { fits = omega (arith, begins (c .before .before .pre .1 .0) Command.seq (c .before .before .pre .1 .1) .parts .2 .1 .room) }
+
+seq-parts-sub-pauses : (t : ℕ) → seq-parts-lts.Need-sub-pauses (seq-parts-claims t) (seq-parts-at t) seq-parts.Post
+seq-parts-sub-pauses t c = omega (arith, begins (c .before .before .pre .1 .0) Command.seq (c .before .before .pre .1 .1) .parts .2 .1 .behind)
+
+seq-parts-mul-pauses : (t : ℕ) → seq-parts-lts.Need-mul-pauses (seq-parts-claims t) (seq-parts-at t) seq-parts.Post
+seq-parts-mul-pauses t c = record { fits = omega (arith, begins (c .before .before .pre .1 .0) Command.seq (c .before .before .pre .1 .1) .parts .2 .1 .room) }
+
+seq-parts-element-copy-out-pauses : (t : ℕ) → seq-parts-lts.Need-element-copy-out-pauses (seq-parts-claims t) (seq-parts-at t) seq-parts.Post
+seq-parts-element-copy-out-pauses t c = omega (arith, begins (c .before .before .pre .1 .0) Command.seq (c .before .before .pre .1 .1) .parts .2 .1 .behind, begins (c .before .before .pre .1 .0) Command.seq (c .before .before .pre .1 .1) .parts .2 .1 .room, c .before .before .pre .1 .0 .long)
 
 seq-parts-sub-part : (t : ℕ) → seq-parts-lts.Need-sub-part (seq-parts-claims t) (seq-parts-at t) seq-parts.Post
-seq-parts-sub-part t c = omega (arith, begins (c .before .before .before .before .before .before .pre .1 .0) Command.seq (c .before .before .before .before .before .before .pre .1 .1) .parts .2 .1 .place)
+seq-parts-sub-part t c = omega (arith, begins (c .before .before .before .before .before .before .before .pre .1 .0) Command.seq (c .before .before .before .before .before .before .before .pre .1 .1) .parts .2 .1 .place)
 
 seq-parts-part-requires : (t : ℕ) → seq-parts-lts.Need-part-requires (seq-parts-claims t) (seq-parts-at t) seq-parts.Post
-seq-parts-part-requires t c κs = let y = begins (c .before .before .before .before .before .before .before .pre .1 .0) Command.seq (c .before .before .before .before .before .before .before .pre .1 .1) in (search needs, (y .parts .2 .1 .within, ready _ (y .parts .1) (c .before .before .before .before .before .before .before .pre .1 .0 .long) (y .parts .2 .1 .second)))
+seq-parts-part-requires t c κs = let y = begins (c .before .before .before .before .before .before .before .before .pre .1 .0) Command.seq (c .before .before .before .before .before .before .before .before .pre .1 .1) in (search needs, (y .parts .2 .1 .within, ready _ (y .parts .1) (c .before .before .before .before .before .before .before .before .pre .1 .0 .long) (y .parts .2 .1 .second)))
 
 seq-parts-returns : (t : ℕ) → seq-parts-lts.Need-returns (seq-parts-claims t) (seq-parts-at t) seq-parts.Post
 seq-parts-returns t c base p l f =
-    let y = taken-apart (c .before .before .before .before .before .before .before .before .pre .1 .0) base p l Command.seq (c .before .before .before .before .before .before .before .before .pre .1 .1) .parts in
+    let y = taken-apart (c .before .before .before .before .before .before .before .before .before .pre .1 .0) base p l Command.seq (c .before .before .before .before .before .before .before .before .before .pre .1 .1) .parts in
     here f base _ _ (seq (y .0) (y .1)) p (y .2 .0)
     (seq-second _ base _ _ (y .0) (y .1) _ _ (y .2 .1 .before) (c .before .before .before .before .before .below .ensures) _ (c .before .before .from .ensures) (sym (c .before .before .before .before .is-empty .ensures) ∙ c .before .before .before .if1 .taken) (c .part .ensures _ (y .1) (y .2 .1 .second) f))
 
 seq-parts-part-requires-2 : (t : ℕ) → seq-parts-lts.Need-part-requires-2 (seq-parts-claims t) (seq-parts-at t) seq-parts.Post
-seq-parts-part-requires-2 t c κs = let y = begins (c .before .before .before .before .before .before .pre .1 .0) Command.seq (c .before .before .before .before .before .before .pre .1 .1) in (search needs, (y .there, ready _ (y .parts .0) (c .before .before .before .before .before .before .pre .1 .0 .long) (y .parts .2 .1 .first)))
+seq-parts-part-requires-2 t c κs = let y = begins (c .before .before .before .before .before .before .before .pre .1 .0) Command.seq (c .before .before .before .before .before .before .before .pre .1 .1) in (search needs, (y .there, ready _ (y .parts .0) (c .before .before .before .before .before .before .before .pre .1 .0 .long) (y .parts .2 .1 .first)))
 
 seq-parts-sub-after : (t : ℕ) → seq-parts-lts.Need-sub-after (seq-parts-claims t) (seq-parts-at t) seq-parts.Post
-seq-parts-sub-after t c = omega (arith, begins (c .before .before .before .before .before .before .before .pre .1 .0) Command.seq (c .before .before .before .before .before .before .before .pre .1 .1) .parts .2 .1 .place)
+seq-parts-sub-after t c = omega (arith, begins (c .before .before .before .before .before .before .before .before .pre .1 .0) Command.seq (c .before .before .before .before .before .before .before .before .pre .1 .1) .parts .2 .1 .place)
 
 seq-parts-after-requires : (t : ℕ) → seq-parts-lts.Need-after-requires (seq-parts-claims t) (seq-parts-at t) seq-parts.Post
-seq-parts-after-requires t c κs = let y = begins (c .before .before .before .before .before .before .before .before .pre .1 .0) Command.seq (c .before .before .before .before .before .before .before .before .pre .1 .1) in (y .parts .2 .1 .within, ready _ (y .parts .1) (c .before .before .before .before .before .before .before .before .pre .1 .0 .long) (y .parts .2 .1 .second))
+seq-parts-after-requires t c κs = let y = begins (c .before .before .before .before .before .before .before .before .before .pre .1 .0) Command.seq (c .before .before .before .before .before .before .before .before .before .pre .1 .1) in (y .parts .2 .1 .within, ready _ (y .parts .1) (c .before .before .before .before .before .before .before .before .before .pre .1 .0 .long) (y .parts .2 .1 .second))
 
 seq-parts-returns-2 : (t : ℕ) → seq-parts-lts.Need-returns-2 (seq-parts-claims t) (seq-parts-at t) seq-parts.Post
 seq-parts-returns-2 t c base p l f =
-    let y = taken-apart (c .before .before .before .before .before .before .before .before .before .pre .1 .0) base p l Command.seq (c .before .before .before .before .before .before .before .before .before .pre .1 .1) .parts in
+    let y = taken-apart (c .before .before .before .before .before .before .before .before .before .before .pre .1 .0) base p l Command.seq (c .before .before .before .before .before .before .before .before .before .before .pre .1 .1) .parts in
     here f base _ _ (seq (y .0) (y .1)) p (y .2 .0)
     (seq-first _ base _ _ (y .0) (y .1) _ _ (y .2 .1 .before) (c .before .before .before .before .before .before .below .ensures) (sym (c .before .before .before .before .before .is-empty .ensures) ∙ c .before .before .before .before .if1 .left) (c .before .before .part2 .ensures base (y .0) (y .2 .1 .first) f) (λ i w h. c .after .ensures _ (y .1) (y .2 .1 .second) f i w h))
 
@@ -518,9 +563,13 @@ pub +body+declaration+par-parts+part+present-parts+resume+seq-parts+side+signal-
     (declaration-returns t))
     (λ t. par-parts-lts.spec (par-parts-claims t) (par-parts-at t)
     par-parts.Post
-    (λ c. search needs)
-    (par-parts-element-copy-out-entry t)
-    (λ c. search needs) (λ c κs. search needs) (λ c. search needs) (λ c. search needs)
+    (par-parts-mul-m t)
+    (par-parts-element-copy-out-m t)
+    (par-parts-cast-m t)
+    (par-parts-sub-pauses t)
+    (par-parts-mul-pauses t)
+    (par-parts-element-copy-out-pauses t)
+    (λ c κs. search needs) (λ c. search needs) (λ c. search needs)
     (par-parts-side-requires t)
     (λ c κs. search needs)
     (par-parts-sub-side-2 t)
@@ -538,9 +587,13 @@ pub +body+declaration+par-parts+part+present-parts+resume+seq-parts+side+signal-
     (part-returns-2 t))
     (λ t. present-parts-lts.spec (present-parts-claims t) (present-parts-at t)
     present-parts.Post
-    (λ c. search needs)
-    (present-parts-element-copy-out-entry t)
-    (λ c κs. search needs) (λ c κs. search needs) (λ c. search needs) (λ c κs. search needs)
+    (present-parts-mul-m t)
+    (present-parts-element-copy-out-m t)
+    (present-parts-cast-m t)
+    (present-parts-sub-pauses t)
+    (present-parts-mul-pauses t)
+    (present-parts-element-copy-out-pauses t)
+    (λ c κs. search needs) (λ c κs. search needs) (λ c κs. search needs)
     (present-parts-sub-part t)
     (λ c. search needs)
     (present-parts-part-requires t)
@@ -573,9 +626,13 @@ pub +body+declaration+par-parts+part+present-parts+resume+seq-parts+side+signal-
     (resume-returns-8 t))
     (λ t. seq-parts-lts.spec (seq-parts-claims t) (seq-parts-at t)
     seq-parts.Post
-    (λ c. search needs)
-    (seq-parts-element-copy-out-entry t)
-    (λ c. search needs) (λ c κs. search needs) (λ c κs. search needs) (λ c κs. search needs)
+    (seq-parts-mul-m t)
+    (seq-parts-element-copy-out-m t)
+    (seq-parts-cast-m t)
+    (seq-parts-sub-pauses t)
+    (seq-parts-mul-pauses t)
+    (seq-parts-element-copy-out-pauses t)
+    (λ c κs. search needs) (λ c κs. search needs) (λ c κs. search needs)
     (seq-parts-sub-part t)
     (λ c. search needs)
     (seq-parts-part-requires t)

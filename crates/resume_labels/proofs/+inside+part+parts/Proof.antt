@@ -158,17 +158,32 @@ part-inside-requires t c κs = (search needs, c .before .before .before .pre .1 
 part-returns : (t : ℕ) → part-lts.Need-returns (part-claims t) (part-at t) part.Post
 part-returns t c = c .inside .ensures
 
-parts-element-copy-out-entry : (t : ℕ) → parts-lts.Need-element-copy-out-entry (parts-claims t) (parts-at t) parts.Post
-parts-element-copy-out-entry t c = let r = first-ready (c .before .pre .1) in omega (arith, r .fits, r .bytes, c .before .pre .1 .long)
+parts-mul-m : (t : ℕ) → parts-lts.Need-mul-m (parts-claims t) (parts-at t) parts.Post
+parts-mul-m t c = record { fits = omega (arith, first-ready (c .before .pre .1) .fits) }
+
+parts-element-copy-out-m : (t : ℕ) → parts-lts.Need-element-copy-out-m (parts-claims t) (parts-at t) parts.Post
+parts-element-copy-out-m t c = let r = first-ready (c .before .pre .1) in omega (arith, r .fits, r .bytes, c .before .pre .1 .long)
+
+parts-cast-m : (t : ℕ) → parts-lts.Need-cast-m (parts-claims t) (parts-at t) parts.Post
+parts-cast-m t c = record { fits = omega (arith, c .before .before .pre .1 .two .room) }
+
+parts-sub-pauses : (t : ℕ) → parts-lts.Need-sub-pauses (parts-claims t) (parts-at t) parts.Post
+parts-sub-pauses t c = omega (arith, c .before .before .pre .1 .two .behind)
+
+parts-mul-pauses : (t : ℕ) → parts-lts.Need-mul-pauses (parts-claims t) (parts-at t) parts.Post
+parts-mul-pauses t c = record { fits = omega (arith, c .before .before .pre .1 .two .room) }
+
+parts-element-copy-out-pauses : (t : ℕ) → parts-lts.Need-element-copy-out-pauses (parts-claims t) (parts-at t) parts.Post
+parts-element-copy-out-pauses t c = omega (arith, c .before .before .pre .1 .two .behind, c .before .before .pre .1 .two .room, c .before .before .pre .1 .long)
 
 parts-sub-n : (t : ℕ) → parts-lts.Need-sub-n (parts-claims t) (parts-at t) parts.Post
-parts-sub-n t c = omega (arith, c .before .before .pre .1 .two .place)
+parts-sub-n t c = omega (arith, c .before .before .before .pre .1 .two .place)
 
 parts-sub-part : (t : ℕ) → parts-lts.Need-sub-part (parts-claims t) (parts-at t) parts.Post
-parts-sub-part t c = omega (arith, first-ready (c .before .before .before .before .before .before .before .before .before .pre .1) .levels)
+parts-sub-part t c = omega (arith, first-ready (c .before .before .before .before .before .before .before .before .before .before .pre .1) .levels)
 
 parts-part-requires : (t : ℕ) → parts-lts.Need-part-requires (parts-claims t) (parts-at t) parts.Post
-parts-part-requires t c κs = (omega (arith, first-ready (c .before .before .before .before .before .before .before .before .before .before .pre .1) .levels), (c .before .before .before .before .before .before .before .before .before .before .pre .1 .two .within, second-ready (c .before .before .before .before .before .before .before .before .before .before .pre .1)))
+parts-part-requires t c κs = (omega (arith, first-ready (c .before .before .before .before .before .before .before .before .before .before .before .pre .1) .levels), (c .before .before .before .before .before .before .before .before .before .before .before .pre .1 .two .within, second-ready (c .before .before .before .before .before .before .before .before .before .before .before .pre .1)))
 
 parts-returns : (t : ℕ) → parts-lts.Need-returns (parts-claims t) (parts-at t) parts.Post
 parts-returns t c base p q l =
@@ -178,10 +193,10 @@ parts-returns t c base p q l =
     (empty-step base _ p (sym (c .before .before .before .is-empty .ensures) ∙ c .before .before .if1 .taken)) (c .part .ensures _ q (l .second))
 
 parts-sub-part-2 : (t : ℕ) → parts-lts.Need-sub-part-2 (parts-claims t) (parts-at t) parts.Post
-parts-sub-part-2 t c = omega (arith, first-ready (c .before .before .before .before .before .before .before .before .before .before .before .pre .1) .levels)
+parts-sub-part-2 t c = omega (arith, first-ready (c .before .before .before .before .before .before .before .before .before .before .before .before .pre .1) .levels)
 
 parts-part-requires-2 : (t : ℕ) → parts-lts.Need-part-requires-2 (parts-claims t) (parts-at t) parts.Post
-parts-part-requires-2 t c κs = (omega (arith, first-ready (c .before .before .before .before .before .before .before .before .before .before .before .before .pre .1) .levels), (c .before .before .before .before .before .before .before .before .before .before .before .before .pre .1 .there, first-ready (c .before .before .before .before .before .before .before .before .before .before .before .before .pre .1)))
+parts-part-requires-2 t c κs = (omega (arith, first-ready (c .before .before .before .before .before .before .before .before .before .before .before .before .before .pre .1) .levels), (c .before .before .before .before .before .before .before .before .before .before .before .before .before .pre .1 .there, first-ready (c .before .before .before .before .before .before .before .before .before .before .before .before .before .pre .1)))
 
 parts-returns-2 : (t : ℕ) → parts-lts.Need-returns-2 (parts-claims t) (parts-at t) parts.Post
 parts-returns-2 t c base p q l =
@@ -192,10 +207,10 @@ parts-returns-2 t c base p q l =
     (empty-step _ _ q (sym (c .before .is-empty2 .ensures) ∙ c .if2 .taken))
 
 parts-sub-part-3 : (t : ℕ) → parts-lts.Need-sub-part-3 (parts-claims t) (parts-at t) parts.Post
-parts-sub-part-3 t c = omega (arith, first-ready (c .before .before .before .before .before .before .before .before .before .before .before .before .before .before .before .pre .1) .levels)
+parts-sub-part-3 t c = omega (arith, first-ready (c .before .before .before .before .before .before .before .before .before .before .before .before .before .before .before .before .pre .1) .levels)
 
 parts-part-requires-3 : (t : ℕ) → parts-lts.Need-part-requires-3 (parts-claims t) (parts-at t) parts.Post
-parts-part-requires-3 t c κs = (omega (arith, first-ready (c .before .before .before .before .before .before .before .before .before .before .before .before .before .before .before .before .pre .1) .levels), (c .before .before .before .before .before .before .before .before .before .before .before .before .before .before .before .before .pre .1 .two .within, second-ready (c .before .before .before .before .before .before .before .before .before .before .before .before .before .before .before .before .pre .1)))
+parts-part-requires-3 t c κs = (omega (arith, first-ready (c .before .before .before .before .before .before .before .before .before .before .before .before .before .before .before .before .before .pre .1) .levels), (c .before .before .before .before .before .before .before .before .before .before .before .before .before .before .before .before .before .pre .1 .two .within, second-ready (c .before .before .before .before .before .before .before .before .before .before .before .before .before .before .before .before .before .pre .1)))
 
 parts-returns-3 : (t : ℕ) → parts-lts.Need-returns-3 (parts-claims t) (parts-at t) parts.Post
 parts-returns-3 t c base p q l =
@@ -248,9 +263,12 @@ pub +inside+part+parts-spec : {M : Type 1} → statement M
     (part-returns t))
     λ t. parts-lts.spec (parts-claims t) (parts-at t)
     parts.Post
-    (λ c. search needs)
-    (parts-element-copy-out-entry t)
-    (λ c. search needs)
+    (parts-mul-m t)
+    (parts-element-copy-out-m t)
+    (parts-cast-m t)
+    (parts-sub-pauses t)
+    (parts-mul-pauses t)
+    (parts-element-copy-out-pauses t)
     (parts-sub-n t)
     (λ c κs. search needs) (λ c κs. search needs) (λ c κs. search needs)
     (λ c κs. search needs) (λ c κs. search needs) (λ c κs. search needs)

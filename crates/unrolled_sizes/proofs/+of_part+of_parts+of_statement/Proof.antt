@@ -74,8 +74,14 @@ of-part-of-statement-requires t c κs = (search needs, c .before .before .pre .1
 of-part-returns : (t : ℕ) → of-part-lts.Need-returns (of-part-claims t) (of-part-at t) of-part.Post
 of-part-returns t c = c .of-statement .ensures
 
+of-parts-mul-m : (t : ℕ) → of-parts-lts.Need-mul-m (of-parts-claims t) (of-parts-at t) of-parts.Post
+of-parts-mul-m t c = record { fits = omega (arith, first-ready (c .before .pre .1 .1) .fits) }
+
 of-parts-element-copy-out-m : (t : ℕ) → of-parts-lts.Need-element-copy-out-m (of-parts-claims t) (of-parts-at t) of-parts.Post
 of-parts-element-copy-out-m t c = let r = first-ready (c .before .pre .1 .1) in omega (arith, r .fits, r .bytes, c .before .pre .1 .1 .long)
+
+of-parts-cast-m : (t : ℕ) → of-parts-lts.Need-cast-m (of-parts-claims t) (of-parts-at t) of-parts.Post
+of-parts-cast-m t c = record { fits = omega (arith, c .before .before .pre .1 .1 .two .room) }
 
 of-parts-sub-of-part : (t : ℕ) → of-parts-lts.Need-sub-of-part (of-parts-claims t) (of-parts-at t) of-parts.Post
 of-parts-sub-of-part t c = omega (arith, first-ready (c .before .before .pre .1 .1) .levels)
@@ -192,9 +198,9 @@ pub +of-part+of-parts+of-statement-spec : {M : Type 1} → statement M
     (of-part-returns t))
     (λ t. of-parts-lts.spec (of-parts-claims t) (of-parts-at t)
     of-parts.Post
-    (λ c. search needs)
+    (of-parts-mul-m t)
     (of-parts-element-copy-out-m t)
-    (λ c. search needs)
+    (of-parts-cast-m t)
     (λ c. search needs)
     (of-parts-sub-of-part t)
     (of-parts-of-part-requires t)

@@ -93,8 +93,14 @@ part-write-requires t c κs = (search needs, (c .before .before .before .before 
 part-returns : (t : ℕ) → part-lts.Need-returns (part-claims t) (part-at t) part.Post
 part-returns t c = (c .before .before .write .ensures)
 
+parts-mul-m : (t : ℕ) → parts-lts.Need-mul-m (parts-claims t) (parts-at t) parts.Post
+parts-mul-m t c = record { fits = omega (arith, first-writable (c .before .before .pre .1) .1 .ready .fits) }
+
 parts-element-copy-out-m : (t : ℕ) → parts-lts.Need-element-copy-out-m (parts-claims t) (parts-at t) parts.Post
 parts-element-copy-out-m t c = let r = first-writable ((c .before .before .pre .1)) .1 .ready in omega (arith, r .fits, r .bytes, r .long)
+
+parts-cast-m : (t : ℕ) → parts-lts.Need-cast-m (parts-claims t) (parts-at t) parts.Post
+parts-cast-m t c = record { fits = omega (arith, c .before .before .before .pre .1 .pair .two .room) }
 
 parts-sub-part : (t : ℕ) → parts-lts.Need-sub-part (parts-claims t) (parts-at t) parts.Post
 parts-sub-part t c = omega (arith, first-writable ((c .before .before .before .pre .1)) .1 .ready .levels)
@@ -214,9 +220,9 @@ pub +looped+part+parts+write-spec : {M : Type 1} → statement M
     (part-below t, part.Post)
     (parts-at t)
     parts.Post
-    (λ c. search needs)
+    (parts-mul-m t)
     (parts-element-copy-out-m t)
-    (λ c. search needs)
+    (parts-cast-m t)
     (λ c. search needs)
     (parts-sub-part t)
     (parts-part-requires t)

@@ -171,22 +171,26 @@ compatible-part-compatible-requires t c κs = (search needs, c .before .before .
 compatible-part-returns : (t : ℕ) → compatible-part-lts.Need-returns (compatible-part-claims t) (compatible-part-at t) compatible-part.Post
 compatible-part-returns t c = c .compatible .ensures
 
-compatible-parts-element-copy-out-entry :
-    (t : ℕ) → compatible-parts-lts.Need-element-copy-out-entry (
-      below-reads.Asked,
-      below-reads.Learnt,
-      from-reads.Asked,
-      from-reads.Learnt,
-      is-empty-reads.Asked,
-      is-empty-reads.Learnt,
-      compatible-part-below t,
-      compatible-part.Post,
-    ) (compatible-parts-at t) compatible-parts.Post
-compatible-parts-element-copy-out-entry t c =
-    let r = first-ready (c .before .pre .1) in omega (arith, r .fits, r .bytes, c .before .pre .1 .long)
+compatible-parts-mul-m : (t : ℕ) → compatible-parts-lts.Need-mul-m (compatible-parts-claims t) (compatible-parts-at t) compatible-parts.Post
+compatible-parts-mul-m t c = record { fits = omega (arith, first-ready (c .before .pre .1) .fits) }
+
+compatible-parts-element-copy-out-m : (t : ℕ) → compatible-parts-lts.Need-element-copy-out-m (compatible-parts-claims t) (compatible-parts-at t) compatible-parts.Post
+compatible-parts-element-copy-out-m t c = let r = first-ready (c .before .pre .1) in omega (arith, r .fits, r .bytes, c .before .pre .1 .long)
+
+compatible-parts-cast-m : (t : ℕ) → compatible-parts-lts.Need-cast-m (compatible-parts-claims t) (compatible-parts-at t) compatible-parts.Post
+compatible-parts-cast-m t c = record { fits = omega (arith, c .before .before .pre .1 .two .room) }
+
+compatible-parts-sub-pauses : (t : ℕ) → compatible-parts-lts.Need-sub-pauses (compatible-parts-claims t) (compatible-parts-at t) compatible-parts.Post
+compatible-parts-sub-pauses t c = omega (arith, c .before .before .pre .1 .two .behind)
+
+compatible-parts-mul-pauses : (t : ℕ) → compatible-parts-lts.Need-mul-pauses (compatible-parts-claims t) (compatible-parts-at t) compatible-parts.Post
+compatible-parts-mul-pauses t c = record { fits = omega (arith, c .before .before .pre .1 .two .room) }
+
+compatible-parts-element-copy-out-pauses : (t : ℕ) → compatible-parts-lts.Need-element-copy-out-pauses (compatible-parts-claims t) (compatible-parts-at t) compatible-parts.Post
+compatible-parts-element-copy-out-pauses t c = omega (arith, c .before .before .pre .1 .two .behind, c .before .before .pre .1 .two .room, c .before .before .pre .1 .long)
 
 compatible-parts-sub-compatible-part : (t : ℕ) → compatible-parts-lts.Need-sub-compatible-part (compatible-parts-claims t) (compatible-parts-at t) compatible-parts.Post
-compatible-parts-sub-compatible-part t c = omega (arith, first-ready (c .before .before .before .before .before .before .pre .1) .levels)
+compatible-parts-sub-compatible-part t c = omega (arith, first-ready (c .before .before .before .before .before .before .before .pre .1) .levels)
 
 compatible-parts-compatible-part-requires :
     (t : ℕ) → compatible-parts-lts.Need-compatible-part-requires (
@@ -199,15 +203,15 @@ compatible-parts-compatible-part-requires :
       compatible-part-below t,
       compatible-part.Post,
     ) (compatible-parts-at t) compatible-parts.Post
-compatible-parts-compatible-part-requires t c κs = (omega (arith, first-ready (c .before .before .before .before .before .before .pre .1) .levels), (c .before .before .before .before .before .before .pre .1 .two .within, second-ready (c .before .before .before .before .before .before .pre .1)))
+compatible-parts-compatible-part-requires t c κs = (omega (arith, first-ready (c .before .before .before .before .before .before .before .pre .1) .levels), (c .before .before .before .before .before .before .before .pre .1 .two .within, second-ready (c .before .before .before .before .before .before .before .pre .1)))
 
 compatible-parts-returns : (t : ℕ) → compatible-parts-lts.Need-returns (compatible-parts-claims t) (compatible-parts-at t) compatible-parts.Post
 compatible-parts-returns t c base p q l =
-    second-only base _ p q (c .before .before .before .before .before .before .before .args .parallel) _ _ _ (l .before) (c .before .before .before .before .below .ensures) (c .before .before .before .from .ensures) (sym (c .before .before .is-empty .ensures) ∙ c .before .if1 .taken)
+    second-only base _ p q (c .before .before .before .before .before .before .before .before .args .parallel) _ _ _ (l .before) (c .before .before .before .before .below .ensures) (c .before .before .before .from .ensures) (sym (c .before .before .is-empty .ensures) ∙ c .before .if1 .taken)
     (c .compatible-part .ensures _ q (l .second))
 
 compatible-parts-sub-compatible-part-2 : (t : ℕ) → compatible-parts-lts.Need-sub-compatible-part-2 (compatible-parts-claims t) (compatible-parts-at t) compatible-parts.Post
-compatible-parts-sub-compatible-part-2 t c = omega (arith, first-ready (c .before .before .before .before .before .before .before .before .pre .1) .levels)
+compatible-parts-sub-compatible-part-2 t c = omega (arith, first-ready (c .before .before .before .before .before .before .before .before .before .pre .1) .levels)
 
 compatible-parts-compatible-part-requires-2 :
     (t : ℕ) → compatible-parts-lts.Need-compatible-part-requires-2 (
@@ -220,20 +224,20 @@ compatible-parts-compatible-part-requires-2 :
       compatible-part-below t,
       compatible-part.Post,
     ) (compatible-parts-at t) compatible-parts.Post
-compatible-parts-compatible-part-requires-2 t c κs = (omega (arith, first-ready (c .before .before .before .before .before .before .before .before .pre .1) .levels), (c .before .before .before .before .before .before .before .before .pre .1 .there, first-ready (c .before .before .before .before .before .before .before .before .pre .1)))
+compatible-parts-compatible-part-requires-2 t c κs = (omega (arith, first-ready (c .before .before .before .before .before .before .before .before .before .pre .1) .levels), (c .before .before .before .before .before .before .before .before .before .pre .1 .there, first-ready (c .before .before .before .before .before .before .before .before .before .pre .1)))
 
 compatible-parts-returns-2 : (t : ℕ) → compatible-parts-lts.Need-returns-2 (compatible-parts-claims t) (compatible-parts-at t) compatible-parts.Post
 compatible-parts-returns-2 t c base p q l =
-    first-only base _ p q (c .before .before .before .before .before .before .before .before .before .args .parallel) _ _ _ (l .before) (c .before .before .before .before .before .before .below .ensures) (c .before .before .before .before .before .from .ensures) (sym (c .before .before .before .before .is-empty .ensures) ∙ c .before .before .before .if1 .left)
+    first-only base _ p q (c .before .before .before .before .before .before .before .before .before .before .args .parallel) _ _ _ (l .before) (c .before .before .before .before .before .before .below .ensures) (c .before .before .before .before .before .from .ensures) (sym (c .before .before .before .before .is-empty .ensures) ∙ c .before .before .before .if1 .left)
     (sym (c .before .before .is-empty2 .ensures) ∙ c .before .if2 .taken) (c .compatible-part2 .ensures _ p (l .first))
 
 compatible-parts-returns-3 : (t : ℕ) → compatible-parts-lts.Need-returns-3 (compatible-parts-claims t) (compatible-parts-at t) compatible-parts.Post
 compatible-parts-returns-3 t c base p q l =
-    both-active base _ p q (c .before .before .before .before .before .before .before .before .before .args .parallel) _ _ _ (l .before) (c .before .before .before .before .before .before .below .ensures) (c .before .before .before .before .before .from .ensures) (sym (c .before .before .before .before .is-empty .ensures) ∙ c .before .before .before .if1 .left)
+    both-active base _ p q (c .before .before .before .before .before .before .before .before .before .before .args .parallel) _ _ _ (l .before) (c .before .before .before .before .before .before .below .ensures) (c .before .before .before .before .before .from .ensures) (sym (c .before .before .before .before .is-empty .ensures) ∙ c .before .before .before .if1 .left)
     (sym (c .before .before .is-empty2 .ensures) ∙ c .before .if2 .left) (not-true _ (c .if3 .taken)) refl
 
 compatible-parts-sub-compatible-part-3 : (t : ℕ) → compatible-parts-lts.Need-sub-compatible-part-3 (compatible-parts-claims t) (compatible-parts-at t) compatible-parts.Post
-compatible-parts-sub-compatible-part-3 t c = omega (arith, first-ready (c .before .before .before .before .before .before .before .before .before .pre .1) .levels)
+compatible-parts-sub-compatible-part-3 t c = omega (arith, first-ready (c .before .before .before .before .before .before .before .before .before .before .pre .1) .levels)
 
 compatible-parts-compatible-part-requires-3 :
     (t : ℕ) → compatible-parts-lts.Need-compatible-part-requires-3 (
@@ -246,10 +250,10 @@ compatible-parts-compatible-part-requires-3 :
       compatible-part-below t,
       compatible-part.Post,
     ) (compatible-parts-at t) compatible-parts.Post
-compatible-parts-compatible-part-requires-3 t c κs = (omega (arith, first-ready (c .before .before .before .before .before .before .before .before .before .pre .1) .levels), (c .before .before .before .before .before .before .before .before .before .pre .1 .there, first-ready (c .before .before .before .before .before .before .before .before .before .pre .1)))
+compatible-parts-compatible-part-requires-3 t c κs = (omega (arith, first-ready (c .before .before .before .before .before .before .before .before .before .before .pre .1) .levels), (c .before .before .before .before .before .before .before .before .before .before .pre .1 .there, first-ready (c .before .before .before .before .before .before .before .before .before .before .pre .1)))
 
 compatible-parts-sub-compatible-part-4 : (t : ℕ) → compatible-parts-lts.Need-sub-compatible-part-4 (compatible-parts-claims t) (compatible-parts-at t) compatible-parts.Post
-compatible-parts-sub-compatible-part-4 t c = omega (arith, first-ready (c .before .before .before .before .before .before .before .before .before .before .before .pre .1) .levels)
+compatible-parts-sub-compatible-part-4 t c = omega (arith, first-ready (c .before .before .before .before .before .before .before .before .before .before .before .before .pre .1) .levels)
 
 compatible-parts-compatible-part-requires-4 :
     (t : ℕ) → compatible-parts-lts.Need-compatible-part-requires-4 (
@@ -262,17 +266,17 @@ compatible-parts-compatible-part-requires-4 :
       compatible-part-below t,
       compatible-part.Post,
     ) (compatible-parts-at t) compatible-parts.Post
-compatible-parts-compatible-part-requires-4 t c κs = (omega (arith, first-ready (c .before .before .before .before .before .before .before .before .before .before .before .pre .1) .levels), (c .before .before .before .before .before .before .before .before .before .before .before .pre .1 .two .within, second-ready (c .before .before .before .before .before .before .before .before .before .before .before .pre .1)))
+compatible-parts-compatible-part-requires-4 t c κs = (omega (arith, first-ready (c .before .before .before .before .before .before .before .before .before .before .before .before .pre .1) .levels), (c .before .before .before .before .before .before .before .before .before .before .before .before .pre .1 .two .within, second-ready (c .before .before .before .before .before .before .before .before .before .before .before .before .pre .1)))
 
 compatible-parts-returns-4 : (t : ℕ) → compatible-parts-lts.Need-returns-4 (compatible-parts-claims t) (compatible-parts-at t) compatible-parts.Post
 compatible-parts-returns-4 t c base p q l =
-    both-parts base _ p q (c .before .before .before .before .before .before .before .before .before .before .before .before .args .parallel) _ _ _ (l .before) (c .before .before .before .before .before .before .before .before .before .below .ensures) (c .before .before .before .before .before .before .before .before .from .ensures) (sym (c .before .before .before .before .before .before .before .is-empty .ensures) ∙ c .before .before .before .before .before .before .if1 .left)
+    both-parts base _ p q (c .before .before .before .before .before .before .before .before .before .before .before .before .before .args .parallel) _ _ _ (l .before) (c .before .before .before .before .before .before .before .before .before .below .ensures) (c .before .before .before .before .before .before .before .before .from .ensures) (sym (c .before .before .before .before .before .before .before .is-empty .ensures) ∙ c .before .before .before .before .before .before .if1 .left)
     (sym (c .before .before .before .before .before .is-empty2 .ensures) ∙ c .before .before .before .before .if2 .left) (not-false _ (c .before .before .before .if3 .left))
     (both (sym (c .before .before .compatible-part3 .ensures _ p (l .first)) ∙ c .before .if4 .taken) (c .compatible-part4 .ensures _ q (l .second)))
 
 compatible-parts-returns-5 : (t : ℕ) → compatible-parts-lts.Need-returns-5 (compatible-parts-claims t) (compatible-parts-at t) compatible-parts.Post
 compatible-parts-returns-5 t c base p q l =
-    both-parts base _ p q (c .before .before .before .before .before .before .before .before .before .before .before .args .parallel) _ _ _ (l .before) (c .before .before .before .before .before .before .before .before .below .ensures) (c .before .before .before .before .before .before .before .from .ensures) (sym (c .before .before .before .before .before .before .is-empty .ensures) ∙ c .before .before .before .before .before .if1 .left)
+    both-parts base _ p q (c .before .before .before .before .before .before .before .before .before .before .before .before .args .parallel) _ _ _ (l .before) (c .before .before .before .before .before .before .before .before .below .ensures) (c .before .before .before .before .before .before .before .from .ensures) (sym (c .before .before .before .before .before .before .is-empty .ensures) ∙ c .before .before .before .before .before .if1 .left)
     (sym (c .before .before .before .before .is-empty2 .ensures) ∙ c .before .before .before .if2 .left) (not-false _ (c .before .before .if3 .left))
     (neither _ (sym (c .before .compatible-part3 .ensures _ p (l .first)) ∙ c .if4 .left))
 
@@ -311,9 +315,13 @@ pub +compatible+compatible-part+compatible-parts-spec : {M : Type 1} → stateme
     (compatible-part-returns t))
     λ t. compatible-parts-lts.spec (compatible-parts-claims t) (compatible-parts-at t)
     compatible-parts.Post
-    (λ c. search needs)
-    (compatible-parts-element-copy-out-entry t)
-    (λ c. search needs) (λ c. search needs) (λ c κs. search needs) (λ c κs. search needs) (λ c κs. search needs)
+    (compatible-parts-mul-m t)
+    (compatible-parts-element-copy-out-m t)
+    (compatible-parts-cast-m t)
+    (compatible-parts-sub-pauses t)
+    (compatible-parts-mul-pauses t)
+    (compatible-parts-element-copy-out-pauses t)
+    (λ c. search needs) (λ c κs. search needs) (λ c κs. search needs) (λ c κs. search needs)
     (compatible-parts-sub-compatible-part t)
     (compatible-parts-compatible-part-requires t)
     (compatible-parts-returns t)

@@ -2,7 +2,7 @@ use Prim.Native.Nat.{ℕ, _+_, _-_, _*_, _≤_, _<_}
 use mathlib.Core.Path.{_≡_, refl, sym, ap, _∙_, subst, subst₂}
 use mathlib.Core.Bool.{true}
 use mathlib.Core.List.{List}
-use lib.ListN.{length, getD, drop, length-set}
+use lib.ListN.{length, getD, drop, set, length-set}
 use native.Mathlib.Omega.{arith}
 use borrow.Author.Needs.{needs}
 use borrow.Author.Tests.{eqb-true, eqb-false}
@@ -10,7 +10,7 @@ use borrow.Fn.Kinds.{In}
 use borrow.Fn.PlainCycle.{Measures, is, falls, and}
 use Rattle.sequence.specs.Commands.{partCount, headLength, declares}
 use Rattle.sequence.specs.Reader.{read as reads}
-use Rattle.layout.specs.Layout.{rest, entry}
+use Rattle.layout.specs.Layout.{rest}
 use Rattle.layout.specs.Walk.{Readable, Done}
 use Rattle.sequence.proofs.Table.{byteOf, byte-is}
 use Rattle.commands.proofs.Counts.{with-parts}
@@ -374,7 +374,7 @@ two-mark-requires : (t : ℕ) → two-lts.Need-mark-requires (two-claims t) (two
 two-mark-requires t c κs =
     let i = c .before .before .before .before .before .before .before .before in
     let f = first-is t (c .before .before) in
-    (omega (arith, i .pre .1 .0, i .pre .1 .1 .fits), omega (arith, f .place, f .within, i .pre .1 .1 .fits), omega (arith, f .place, f .within, f .few, i .pre .1 .1 .fits))
+    (omega (arith, i .pre .1 .0, i .pre .1 .1 .fits), omega (arith, f .place, i .pre .1 .0), omega (arith, f .place, f .within, i .pre .1 .1 .fits), omega (arith, f .place, f .within, f .few, i .pre .1 .1 .fits))
 
 two-sub-n : (t : ℕ) → two-lts.Need-sub-n (two-claims t) (two-at t) two.Post
 two-sub-n t c = let f = first-is t (c .before .before .before) in omega (arith, f .place, f .within)
@@ -397,7 +397,7 @@ two-read-requires t c κs =
     let f = first-is t (c .before .before .before .before .before .before) in
     let x = c .before .before .before .before .before .before .before .first .result in
     let u = c .before .before .before .before .before .before .before .first .last .1 .1 .1 .1 .0 in
-    (omega (arith, i .pre .0), onward _ (i .args .at + i .args .w) x (x - i .args .at - i .args .w) (i .args .s .now) _ _ (omega (arith, f .place)) (omega (arith, f .place, f .within)) (i .pre .1 .1 .fits) (f .few) (ap length (c .before .before .before .mark .ensures) ∙ length-set u (i .args .at) _ ∙ f .entered .long ∙ i .pre .1 .1 .long) (f .noted) (i .pre .1 .1 .allowed))
+    (omega (arith, i .pre .0), onward _ (i .args .at + i .args .w) x (x - i .args .at - i .args .w) (i .args .s .now) _ _ (omega (arith, f .place)) (omega (arith, f .place, f .within)) (i .pre .1 .1 .fits) (f .few) (ap length (c .before .before .before .mark .ensures) ∙ length-set (set u (i .args .at) x) (x - 1) _ ∙ length-set u (i .args .at) x ∙ f .entered .long ∙ i .pre .1 .1 .long) (f .noted) (i .pre .1 .1 .allowed))
 
 two-returns-2 : (t : ℕ) → two-lts.Need-returns-2 (two-claims t) (two-at t) two.Post
 two-returns-2 t c k x p e =
@@ -407,7 +407,7 @@ two-returns-2 t c k x p e =
     let n = m - i .args .at - i .args .w in
     let skipped : n ≡ m - (i .args .at + i .args .w) = omega arith in
     both _ _ _ _ _ _ _ _ _ (i .pre .1 .1) (first-told t (c .before .before .before .before .before .before .before .before)) (i .args .at) x k (ap (λ (w : ℕ). i .args .at + w) e) p f
-    (omega (arith, i .pre .1 .0, i .pre .1 .1 .fits, i .pre .1 .1 .long, f .entered .long)) _ refl
+    (omega (arith, f .place, f .within, i .pre .1 .1 .fits, i .pre .1 .1 .long, f .entered .long))
     _ (rest-is n (i .args .s .now) ∙ ap (λ (j : ℕ). drop j (i .args .s .now)) skipped) _ _ _ (rw (c .before .before .before .before .mark .ensures) at (c .read .ensures))
 
 pub +first+read+two-spec : {M : Type 1} → statement M
