@@ -33,7 +33,7 @@ HOST_TESTS = host-rust host-c host-tick-rust host-tick-c host-box-rust host-box-
 # The two programs are built anew for whatever archive is named.
 .PHONY: help run show paper page unroll replay vectors-diff test lib install uninstall clean certificate host $(HOST_TESTS) host-plain \
 	show-test format-test house-test certificate-test demands-test quotes-test bench bench-check bench-tick bench-box bench-unroll bench-replay \
-	bench-run target/host/stack target/host/dearest
+	bench-growth bench-run search target/host/stack target/host/dearest
 
 help: # lists the targets
 	@sed -n 's/^\([a-z-]*\):[^#]*# /\1: /p' Makefile
@@ -210,7 +210,7 @@ format-test: # holds the tables of docs/FORMAT.md, FILES.md and GLOSSARY.md, and
 house-test: # holds docs/ARCHITECTURE.md, WALKS.md and GLOSSARY.md to the crates, and every page to its length and links
 	tools/test_house.py
 
-bench: bench-check bench-tick bench-box bench-unroll bench-replay # times all of it against plain C
+bench: bench-check bench-tick bench-box bench-unroll bench-replay bench-growth # times all of it against plain C
 
 bench-check: $(INTAKE_ARCHIVE) # times the check
 	@mkdir -p target/bench
@@ -237,6 +237,16 @@ bench-replay: $(INTAKE_ARCHIVE) # times the replay of a day's recording
 	@mkdir -p target/bench
 	$(TIMED) -Iinclude bench/replay.c bench/plain.c $(INTAKE_ARCHIVE) -lm -o target/bench/replay
 	@target/bench/replay $(BAYS)
+
+bench-growth: $(INTAKE_ARCHIVE) # times ticks, rounds and previews that grow in one measure
+	@mkdir -p target/bench
+	$(OPTIMIZED) -Iinclude bench/growth.c bench/plain.c $(INTAKE_ARCHIVE) -lm -o target/bench/growth
+	@target/bench/growth
+
+search: $(INTAKE_ARCHIVE) # searches anew for the dearest round of a box and the dearest preview, for some minutes
+	@mkdir -p target/bench
+	$(OPTIMIZED) -Iinclude bench/search.c $(INTAKE_ARCHIVE) -lm -o target/bench/search
+	@target/bench/search
 
 bench-run: $(RUN_PROGRAM) # times the run program on its greatest input, for some minutes
 	@mkdir -p target/bench

@@ -3,8 +3,10 @@
  * plain C that does the same: in turn within each round, caches and branch predictors warm. The other seven bays are
  * filled. The run files that are named are run whole, the sequences made by rule for up to two instants. Then the calls on
  * positions, of a bay that keeps sixteen, and the readers of a record, against plain C; and previews of the next instant
- * against as many ticks of plain C as there are fillings. Last the litres: the tick of a bay in which one emission carries
- * litres, and of one in which all do, against the same bay without, of the archive and of plain C; and the ledger's calls.
+ * against as many ticks of plain C as there are fillings, at last of unknown inputs that are all asked for and of such that
+ * are not. Then the litres: the tick of a bay in which one emission carries litres, and of one in which all do, against the
+ * same bay without, of the archive and of plain C; a dear bay that delivers to more and more farms, against plain C; and the
+ * ledger's calls.
  */
 #include "timing.h"
 
@@ -297,10 +299,33 @@ static void preview_row(const struct bay *bay, const char *name, double *logarit
     fflush(stdout);
 }
 
+/* Six signals from one on tested, read back or inputs, then 32 emissions beside each other; one instant. */
+static void build_tested(struct bay *bay, unsigned first, uint32_t read_back)
+{
+    enum { EMISSIONS = 32 };
+    memset(bay, 0, sizeof *bay);
+    uint8_t *to = bay->file + 2;
+    for (unsigned s = first; s < first + SIGNALS; s++) {
+        const uint8_t test[] = {0x04, 0x07, (uint8_t)s, 0x00, 0x00};
+        memcpy(to, test, sizeof test);
+        to += sizeof test;
+    }
+    for (unsigned i = 0; i < EMISSIONS; i++) {
+        if (i + 1 < EMISSIONS)
+            *to++ = 0x05;
+        *to++ = 0x02;
+        *to++ = (uint8_t)i;
+    }
+    bay->length = (size_t)(to - bay->file) - 2;
+    bay->file[0] = (uint8_t)bay->length;
+    *to = (uint8_t)read_back;
+    bay->size = 2 + bay->length + 2 * 4;
+}
+
 static void previews(size_t length, int count, char **paths)
 {
     static struct bay bay;
-    double logarithms[UNKNOWN_COUNTS] = {0};
+    double logarithms[UNKNOWN_COUNTS] = {0}, apart[UNKNOWN_COUNTS] = {0};
     unsigned rows = 0;
     printf("%-36s %-26s %-26s %-26s\n", "ns a preview, against plain ticks", "   0 unknown, 1 tick", "   3 unknown, 8 ticks",
            "   6 unknown, 64 ticks");
@@ -315,6 +340,10 @@ static void previews(size_t length, int count, char **paths)
     }
     printf("geometric means of the ratios: %.2f, %.2f and %.2f\n", exp(logarithms[0] / rows), exp(logarithms[1] / rows),
            exp(logarithms[2] / rows));
+    build_tested(&bay, 0, 0);
+    preview_row(&bay, "all unknown inputs asked for", apart);
+    build_tested(&bay, 8, 0);
+    preview_row(&bay, "none of them asked for", apart);
 }
 
 /* The bytes of a command with its operands. */
@@ -463,6 +492,51 @@ static void deliveries(int count, char **paths)
     }
 }
 
+/* Processor nanoseconds of an instant of a bay with litres. */
+static double sample_dear(const void *what, int plain)
+{
+    const struct bay *bay = what;
+    uint8_t answer[INTAKE_ANSWER_LENGTH];
+    plain_box_new_year(boxes[plain], sizeof *boxes, BAY);
+    double start = nanoseconds();
+    for (unsigned i = 0; i < bay->runs; i++)
+        run_in(plain ? plain_box_tick : intake_box_tick, boxes[plain], bay, answer);
+    return (nanoseconds() - start) / bay->runs;
+}
+
+/* The rows of a bay whose emissions carry litres, to none, one, eight and all of its farms. */
+static void dear_rows(const struct bay *bay, const char *name)
+{
+    static const unsigned emissions[] = {0, 1, 8, BAY_SIZE};
+    static struct bay litres;
+    enum { RUNS = 5, DEAR_ROUNDS = 101 };
+    for (unsigned i = 0; i < sizeof emissions / sizeof *emissions; i++) {
+        unsigned farms = with_litres(bay, &litres, emissions[i]);
+        if (admit(intake_box_admit, boxes[0], &litres) != 0 || admit(plain_box_admit, boxes[1], &litres) != 0)
+            give_up(name, "not admitted");
+        litres.runs = RUNS;
+        struct comparison row = compare(sample_dear, &litres, DEAR_ROUNDS);
+        if (memcmp(boxes[0] + AT_LEDGER, boxes[1] + AT_LEDGER, INTAKE_FARM_COUNT * 4) != 0)
+            give_up(name, "not the same ledger");
+        printf("%-30s %5zu %5u %8.0f %8.0f %6.2f\n", name, litres.length, farms, row.intake, row.plain, row.ratio);
+        fflush(stdout);
+    }
+}
+
+/* Six read-back signals around emissions: all tested in each run, or in tests inside each other, so that runs are left out. */
+static void dear_deliveries(void)
+{
+    static const struct shape tests = {"", "\x04\x07", "", "\x02", "\x02", 2, false, false, SIGNALS};
+    static struct bay bay;
+    printf("%-30s %5s %5s %8s %8s %6s\n", "ns an instant, six read back", "bytes", "farms", "intake", "plain", "ratio");
+    build_tested(&bay, 0, (UINT32_C(1) << SIGNALS) - 1);
+    dear_rows(&bay, "tested one after the other");
+    build(&bay, &tests, 340);
+    bay.file[2 + bay.length] = (1 << SIGNALS) - 1;
+    bay.size = 2 + bay.length + 2 * 4;
+    dear_rows(&bay, "tested inside each other");
+}
+
 /* Processor nanoseconds of reading a ledger in which every farm has a total, and of a new year. */
 static double sample_ledger(const void *what, int plain)
 {
@@ -530,5 +604,6 @@ int main(int count, char **paths)
     readings();
     previews(256, count, paths);
     deliveries(count, paths);
+    dear_deliveries();
     ledgers();
 }
