@@ -1,11 +1,13 @@
 #!/usr/bin/env python3
-"""Holds what include/intake.h and docs/HOST.md say that the archive requires to what is measured.
+"""Holds what include/intake.h, docs/HOST.md, docs/CEILING.md and the fit sheet say that the archive takes to what is measured.
 
   host/figures.py ARCHIVE STACK-PROGRAM DEAREST-PROGRAM    compares, and prints both
   host/figures.py --write                                  writes the page's table from the header
 
-The figures stand in the header alone. The programs are those of host/stack.c and host/dearest.c. A control object shows
-that a further function, a variable or a later instruction would be noticed. The last line is 'N passed, M failed'.
+The figures stand in the header, and pages and fit sheet repeat them. The programs are those of host/stack.c and
+host/dearest.c. Numbers of reactions are compared on every machine, times on the processor that the header names, where they
+may not be twice as long. A control object shows that a further function, a variable or a later instruction would be
+noticed. The last line is 'N passed, M failed'.
 """
 import re
 import subprocess
@@ -14,7 +16,8 @@ import tempfile
 from pathlib import Path
 
 ROOT = Path(__file__).resolve().parent.parent
-HEADER, PAGE = ROOT / "include/intake.h", ROOT / "docs/HOST.md"
+HEADER, PAGE, CEILING = ROOT / "include/intake.h", ROOT / "docs/HOST.md", ROOT / "docs/CEILING.md"
+FIT, PROCESSOR = ROOT / "tools/showing/fit.py", Path("/proc/cpuinfo")
 EXPORTED = [f"intake_{call}" for call in ("box_admit", "box_forget", "box_ledger", "box_new_year", "box_panel", "box_preview",
                                         "box_release", "box_restore", "box_save", "box_service", "box_tick", "ceiling", "check",
                                         "replay", "tick", "unroll")]
@@ -27,6 +30,15 @@ VECTOR = set("""movaps movups movapd movupd movlps movdqa movdqu movd movq movss
     pmovmskb movmskps movhlps movlhps shufps shufpd unpcklps unpcklpd addss addps subss mulss ucomiss comiss cmpss andnps cvttss2si
     cvtsi2ss cvtsi2ssl cvtsi2ssq cvtdq2ps cvttps2dq pmaxub pminub pmaxsw pminsw pextrw pinsrw""".split())
 STEP = 1024  # a promise is the next multiple above what is measured
+TIMES_STATED = 2  # so many times what is stated is too long, on the processor that is named
+BAYS, SHARED_CEILING = 8, 65536  # of a box (02, item 8)
+LINES = {"functions": "Functions of C", "dearest": "Dearest instant found", "round": "Dearest round of a box found",
+         "litres": "The same with litres to 32 farms in every bay", "preview": "Dearest preview found", "planned": "To plan with"}
+COSTS = r"""^dearest instant: (\S+) ms, (\d+) reactions
+dearest round: (\S+) ms, (\d+) reactions
+dearest round with litres: (\S+) ms, (\d+) reactions, without them (\S+) ms
+dearest preview: (\S+) ms, (\d+) reactions, of inputs not asked for (\S+) ms
+(\d+) passed, 0 failed$"""
 CONTROL = """
 #include <stdlib.h>
 int kept;
@@ -65,9 +77,45 @@ def stated():
     """What the header states."""
     text = HEADER.read_text(encoding="utf-8")
     figures = {name: int(value) for name, value in re.findall(r"^#define INTAKE_(\w+) (\d+)$", text, re.M)}
-    for name, what in ("functions", "Functions of C"), ("dearest", "Dearest instant found"):
+    for name, what in LINES.items():
         figures[name] = re.search(rf"^ \* - {what}: (.*)$", text, re.M)[1]
     return figures
+
+
+def quoted(line):
+    """A line of the header as a page has it: commands in backquotes."""
+    return re.sub(r"\bmake [a-z-]+", lambda found: f"`{found[0]}`", line)
+
+
+def planned(figures):
+    """Microseconds of an instant and nanoseconds of a reaction, with which a planner counts."""
+    return tuple(int(number) for number in re.match(r"(\d+) us an instant and (\d+) ns a reaction", figures["planned"]).groups())
+
+
+def named_processor(figures):
+    """Whether this machine has the processor that the header names."""
+    family = re.search(r"family (\d+) model (\d+)", figures["dearest"])
+    text = PROCESSOR.read_text(encoding="utf-8") if PROCESSOR.exists() else ""
+    here = re.search(r"^cpu family\s*: (\d+)\nmodel\s*: (\d+)$", text, re.M)
+    return here is not None and here.groups() == family.groups()
+
+
+def ceiling_rows(figures):
+    """What docs/CEILING.md says by the same figures: its formula and rows of its table."""
+    base, each = planned(figures)
+    most = (BAYS * base + SHARED_CEILING * each / 1000) / 1000
+    time, count = figures["round"].split(" (")[0].split(", ")
+    litres, litres_count = figures["litres"].split(" (")[0].split(", ")
+    preview = figures["preview"].split(", ")[0]
+    return [
+        f"    time of an instant ≤ {base} µs + {each} ns × reactions, and the reactions by the ceiling\n",
+        f"| the dearest round of any box, litres or not | at most {SHARED_CEILING:,} | at most {BAYS} × {base} µs + "
+        f"{SHARED_CEILING:,} × {each} ns = {most:.2f} ms |\n",
+        f"| the dearest round found (`make figures`) | {count.split()[0]} | {time} |\n",
+        f"| the dearest found with litres to 32 farms in every bay (`make figures`) | {litres_count.split()[0]} | {litres} |\n",
+        f"| the dearest preview found, six unknown inputs that are all asked for (`make figures`) | {figures['preview'].split(', ')[1].split()[0]} "
+        f"in 64 instants | {preview} |\n",
+    ]
 
 
 def table(figures):
@@ -87,7 +135,11 @@ def table(figures):
 | a thread that only ticks | give it {figures["STACK_THREAD"]:,} bytes; with {figures["STACK_THREAD"] // 2:,} it crashes |
 | code and jump tables | at most {figures["CODE_LENGTH"]:,} bytes |
 | heap, variables outside the stack, files | none |
-| the dearest instant found | {figures["dearest"].replace("make bench-tick", "`make bench-tick`")} |
+| the dearest instant found | {quoted(figures["dearest"])} |
+| the dearest round of a box found | {quoted(figures["round"])} |
+| the same with litres to 32 farms in every bay | {quoted(figures["litres"])} |
+| the dearest preview found | {quoted(figures["preview"])} |
+| to plan with | {quoted(figures["planned"]).replace(" us ", " µs ")} |
 """
 
 
@@ -124,6 +176,42 @@ def control_noticed():
         return undefined(control) == ["malloc"] and sum(sizes(control)[1:]) == 4 and later(control) == ["popcnt"]
 
 
+def timed(what, stated_line, time, reactions, most, named):
+    """Holds reactions to what is stated, and the time, on the processor that is named, to twice that and to the plan."""
+    said = f"{time} ms, {int(reactions):,} reactions"
+    told = re.match(r"(\S+) ms, ([\d,]+) reactions", stated_line)
+    holds = told and told[2] == f"{int(reactions):,}"
+    if named:
+        holds = holds and float(time) <= TIMES_STATED * float(told[1]) and float(time) <= most
+    expect(holds, what, told[0] if told else stated_line, said)
+
+
+def compare_times(figures, dearest):
+    """The dearest instant, rounds and preview against header, pages and fit sheet."""
+    cost = measured(dearest, COSTS)
+    if not cost:
+        expect(False, "dearest instant, round, preview", figures["dearest"], "over 100 ms, or not as host/dearest.c has it")
+        return
+    base, each = planned(figures)
+    named = named_processor(figures)
+
+    def most(instants, reactions):
+        return (instants * base + int(reactions) * each / 1000) / 1000
+
+    timed("dearest instant", figures["dearest"], cost[1], cost[2], most(1, cost[2]), named)
+    timed("dearest round", figures["round"], cost[3], cost[4], most(BAYS, cost[4]), named)
+    timed("dearest round with litres", figures["litres"], cost[5], cost[6], most(BAYS, cost[6]), named)
+    print(f"{'its bays without litres':32} {'':>40} {cost[7] + ' ms':>40}")
+    timed("dearest preview", figures["preview"], cost[8], cost[9], most(64, cost[9]), named)
+    print(f"{'of inputs not asked for':32} {'':>40} {cost[10] + ' ms':>40}")
+    text = CEILING.read_text(encoding="utf-8")
+    for row in ceiling_rows(figures):
+        expect(row in text, "docs/CEILING.md", row.strip(), "there" if row in text else "not there")
+    fit = re.search(r"^INSTANT, REACTION = (\d+), (\d+) ", FIT.read_text(encoding="utf-8"), re.M)
+    expect(fit and fit.groups() == (str(base), str(each)), "the fit sheet's plan", f"{base} us, {each} ns",
+           f"{fit[1]} us, {fit[2]} ns" if fit else "none")
+
+
 def compare(archive, stack, dearest):
     figures = stated()
     print(f"{'':32} {'stated':>40} {'measured':>40}")
@@ -140,9 +228,7 @@ def compare(archive, stack, dearest):
     most = measured(stack, ".*".join(rf"^{what}: the most is (\d+) bytes" for what in promises))
     for place, (what, name) in enumerate(promises.items(), 1):
         promised(f"stack of {what}", name, figures, int(most[place]) if most else 0)
-    cost = measured(dearest, r"^dearest instant: (\S+ ms), (\d+) reactions$.*^(\d+) passed, 0 failed$")
-    said = f"{cost[1]}, {int(cost[2]):,} reactions" if cost else "over 100 ms"
-    expect(cost and said.split(", ", 1)[1] in figures["dearest"], "dearest instant", figures["dearest"].split(" (")[0], said)
+    compare_times(figures, dearest)
     expect(table(figures) in PAGE.read_text(encoding="utf-8"), "the page's table", "as the header has it",
            "--write makes it so")
     expect(control_noticed(), "a control object is noticed", "", "")

@@ -8,7 +8,11 @@
  * - Stack: INTAKE_STACK_CHECK, INTAKE_STACK_TICK, INTAKE_STACK_REPLAY, INTAKE_STACK_BOX and INTAKE_STACK_UNROLL bytes below the caller's frame at
  *   the greatest depth, as measured.
  * - Code and jump tables: INTAKE_CODE_LENGTH bytes at most. No heap, no variable outside the stack, no other file.
- * - Dearest instant found: 3.3 ms, 1,061,695 reactions (AMD EPYC, family 25 model 17, 2.6 GHz; make bench-tick)
+ * - Dearest instant found: 2.9 ms, 1,061,695 reactions (AMD EPYC, family 25 model 17, 2.6 GHz; make bench-tick)
+ * - Dearest round of a box found: 0.40 ms, 63,944 reactions (the same processor; make search, make figures)
+ * - The same with litres to 32 farms in every bay: 0.40 ms, 63,944 reactions (the same)
+ * - Dearest preview found: 15.7 ms, 3,761,088 reactions of 64 instants, six unknown inputs all asked for (the same)
+ * - To plan with: 20 us an instant and 10 ns a reaction on that processor, with litres or without (docs/CEILING.md)
  */
 #ifndef INTAKE_H
 #define INTAKE_H
@@ -365,8 +369,9 @@ uint8_t intake_replay(const uint8_t *sequence, size_t sequence_length, uint32_t 
  *
  * The bays share a ceiling: what the instants of all bays present can take, one of each, sums to INTAKE_SHARED_CEILING
  * reactions at most. The part of a bay is fixed on admission: what intake_ceiling gives for its sequence and read-back set.
- * A release gives it back. The ceiling speaks of instants: a preview, which is none, reacts up
- * to 64 times and may take up to 64 times the bay's part.
+ * A release gives it back. Litres take no further part: those of all farms are found while the instant reacts. The ceiling
+ * speaks of instants: a preview, which is none, takes one of them where no unknown input is asked for and up to 64 where six
+ * are, each within the bay's part.
  *
  * Nothing that is done with one bay changes what another one answers or holds; only whether a bay is admitted depends on the
  * other bays, by their parts of the ceiling.
@@ -482,8 +487,8 @@ uint8_t intake_box_panel(const uint8_t *box, size_t box_length, uint32_t bay, co
  * INTAKE_ABOVE_FARM_LIMIT, where the tick may. After the numbers of every call on a box come
  * INTAKE_BUFFER_LENGTH for a preview of another length, then those of intake_tick on the bay's sequence, state record and
  * read-back set, and then INTAKE_SEVENTH_UNKNOWN for more than INTAKE_UNKNOWN_COUNT unknown inputs. In a box that these
- * calls alone have written those of intake_tick are INTAKE_ACCEPTED and INTAKE_OVER. A preview of k unknown inputs may take
- * as long as 2^k ticks of the bay.
+ * calls alone have written those of intake_tick are INTAKE_ACCEPTED and INTAKE_OVER. A preview takes as long as one instant of
+ * the bay where no unknown input is asked for, and as 2^k only where all k are asked for, whatever the status of the others.
  */
 #define INTAKE_UNKNOWN_COUNT 6
 

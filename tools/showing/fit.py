@@ -4,6 +4,7 @@ from showing.reactions import share_of
 from showing.sequences import (COMMANDS, LABELS, MAX_DEPTH, MAX_SEQUENCE, MAX_SIGNALS, PAUSE, SIGNALS, ceiling_of, members_of)
 
 BAYS, SHARED_CEILING = 8, 65536  # of a box (02, item 8)
+INSTANT, REACTION = 20, 10  # microseconds and nanoseconds, with which a planner counts (docs/CEILING.md)
 
 
 def used_of(commands, operand):
@@ -35,3 +36,5 @@ def add_fit(commands, read_back, out):
     fits = f"a box takes {counted(bays, 'such bay')}" if bays else "no box takes such a bay (row 14)"
     part = ", each with its part of the shared ceiling" if bays else ": its ceiling is above the one that the bays of a box share"
     out += [fits + part]
+    out += [f"plan {INSTANT + count * REACTION / 1000:,.1f} µs for an instant, with litres or without: {INSTANT} µs and {REACTION} ns a reaction;"
+            " docs/CEILING.md names the processor"]

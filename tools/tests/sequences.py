@@ -41,9 +41,13 @@ def fit(lines, declared=()):
     ]:
         sheet += f"{what:25}{count:11,}{limit:8,}{ceil(Fraction(100 * count, limit)):5,} %\n"
     bays = [bays for bays in range(1, 9) if bays * most <= 65536]
-    if not bays:
-        return sheet + "no box takes such a bay (row 14): its ceiling is above the one that the bays of a box share\n"
-    return sheet + f"a box takes {many(max(bays), 'such bay')}, each with its part of the shared ceiling\n"
+    if bays:
+        sheet += f"a box takes {many(max(bays), 'such bay')}, each with its part of the shared ceiling\n"
+    else:
+        sheet += "no box takes such a bay (row 14): its ceiling is above the one that the bays of a box share\n"
+    plan = Fraction(2000 + most, 100)
+    return sheet + (f"plan {float(plan):,.1f} µs for an instant, with litres or without: 20 µs and 10 ns a reaction; "
+                    "docs/CEILING.md names the processor\n")
 
 
 def table(lines):
