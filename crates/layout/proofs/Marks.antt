@@ -10,7 +10,7 @@ use Rattle.esterel.specs.Statement.{pure, litres, Statement, nothing, pause, em
 use Rattle.esterel.specs.Ranks.{middle}
 use Rattle.sequence.specs.Commands.{Command, partCount, headLength, build}
 use Rattle.sequence.specs.Writer.{bytesOf, size, Ranged}
-use Rattle.layout.specs.Layout.{Entry, enter, Marked}
+use Rattle.layout.specs.Layout.{HasSecond, putSecond, Marked}
 use Rattle.layout.specs.Walk.{Entered}
 use Rattle.sequence.proofs.Table.{leaves, ones, twos}
 
@@ -87,7 +87,7 @@ module _ (t : List ℕ) (base a : ℕ) (xs : List ℕ) where
   -- the entry of the command, and those of its parts
   abbrev pub Marks : Command → (p q : Statement) → Type 0
   Marks c p q =
-      Entry t a (a + (headLength c + size p)) (middle base p) × Marked t base (a + headLength c) p × Marked t (middle base p) (a + (headLength c + size p)) q
+      HasSecond t a (a + (headLength c + size p)) (middle base p) × Marked t base (a + headLength c) p × Marked t (middle base p) (a + (headLength c + size p)) q
 
   pub marked-two : (c : Command) → partCount c ≡ 2 → (p q : Statement) → Marks c p q ↔ Marked t base a (build c a xs p q)
   marked-two =
@@ -111,7 +111,7 @@ entered-one t u base a xs c p n e h =
 -- the first part is read, the entries of the offset b behind it are written, and the second part is read there
 pub entered-two : (t u v : List ℕ) (base a : ℕ) (xs : List ℕ) (b : ℕ) (c : Command) (p q : Statement) (m n : ℕ) → partCount c ≡ 2 → Ranged p → m ≡ size p
     → b ≡ a + (headLength c + m) → b ≤ length u → Entered t u base (a + headLength c) m p
-    → Entered (enter u a b (middle base p)) v (middle base p) b n q → Entered t v base a (headLength c + m + n) (build c a xs p q)
+    → Entered (putSecond u a b (middle base p)) v (middle base p) b n q → Entered t v base a (headLength c + m + n) (build c a xs p q)
 entered-two t u v base a xs b c p q m n e r z y l f g =
     let o = middle base p in
     let w = some-bytes p r in

@@ -12,7 +12,7 @@ use Rattle.limits.specs.Limits.{maxBytes, maxSignals}
 use Rattle.sequence.specs.Commands.{Command, commandOf, operandCount, bytesAt, firstOperand, partCount, headLength, declares, build}
 use Rattle.sequence.specs.Reader.{Read, accepted, refused, Front, command, bad, front, lastPart, firstPart, readParts, read}
 use Rattle.sequence.specs.Writer.{size, Ranged}
-use Rattle.layout.specs.Layout.{rest, enter}
+use Rattle.layout.specs.Layout.{rest, putSecond}
 use Rattle.layout.specs.Notes.{pausesCounted, noteCount, noteSignals, noteWithin}
 use Rattle.layout.specs.Walk.{rowUnit, headOf, Readable, Notable, LeafNoted, Entered, Done, Fitting, LeafRead, pairRead}
 use Rattle.sequence.proofs.Table.{byteOf, command-of-byte, command-at, leaves, ones, twos, undeclared}
@@ -281,7 +281,7 @@ module _ (d g b : ℕ) (s t u m n : List ℕ) (r : ℕ) (can : Readable g b s t 
   -- the entries of the second part are written, and z is the answer for it, of the bytes l
   pub both : (a : ℕ) (xs : List ℕ) (c : Command) → b ≡ a + headLength c → partCount c ≡ 2 → Firsts d g b s t u m n r → r ≤ length u
       → (l : List ℕ) → l ≡ drop (r - b) s → (v j : List ℕ) (z : ℕ)
-      → Done g r (enter u a r (pausesCounted n)) v n j (read d g r l) z → Done g a t v m j (pairRead (read d g) c a xs s) z
+      → Done g r (putSecond u a r (pausesCounted n)) v n j (read d g r l) z → Done g a t v m j (pairRead (read d g) c a xs s) z
   both a xs c e two f inside l here v j z i =
       let k = f .count in
       let q : read d g (a + headLength c) s ≡ accepted (f .part) k = rw e at (f .reads) in
@@ -292,10 +292,10 @@ module _ (d g b : ℕ) (s t u m n : List ℕ) (r : ℕ) (can : Readable g b s t 
       rw q (go fore place (read d g (a + (headLength c + k)) (drop k s)) (rw same at i))
     where
       go : Entered t u (pausesCounted m) (a + headLength c) (f .count) (f .part) → r ≡ a + (headLength c + f .count) → (y : Read)
-          → Done g r (enter u a r (pausesCounted n)) v n j y z
+          → Done g r (putSecond u a r (pausesCounted n)) v n j y z
           → Done g a t v m j (lastPart (λ q. build c a xs (f .part) q) (headLength c + f .count) y) z
       go fore place (accepted p k) i =
-          let back : Entered (enter u a r (middle (pausesCounted m) (f .part))) v (middle (pausesCounted m) (f .part)) r k p = rw (f .counted) at (i .1 .0) in (
+          let back : Entered (putSecond u a r (middle (pausesCounted m) (f .part))) v (middle (pausesCounted m) (f .part)) r k p = rw (f .counted) at (i .1 .0) in (
             omega (arith, i .0),
             (
               entered-two t u v (pausesCounted m) a xs r c (f .part) p (f .count) k two (f .ranged) (f .sized) place inside fore back,

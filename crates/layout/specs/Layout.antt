@@ -25,12 +25,12 @@ abbrev pub beforeAt : List ℕ → ℕ → ℕ
 beforeAt t a = getD t (secondAt t a - 1) 0
 
 -- t has this of the command at offset a
-abbrev pub Entry : (t : List ℕ) (a second before : ℕ) → Type 0
-Entry t a second before = (getD t a 0 ≡ second) × (getD t (second - 1) 0 ≡ before)
+abbrev pub HasSecond : (t : List ℕ) (a second before : ℕ) → Type 0
+HasSecond t a second before = (getD t a 0 ≡ second) × (getD t (second - 1) 0 ≡ before)
 
 -- t with that
-abbrev pub enter : (t : List ℕ) (a second before : ℕ) → List ℕ
-enter t a second before = set (set t a second) (second - 1) before
+abbrev pub putSecond : (t : List ℕ) (a second before : ℕ) → List ℕ
+putSecond t a second before = set (set t a second) (second - 1) before
 
 -- t has the entries of each command of two parts in p, which stands at offset a with `base` pauses before it
 abbrev pub Marked : (t : List ℕ) (base a : ℕ) → Statement → Type 0
@@ -39,12 +39,12 @@ Marked t base a (pause l) = Unit {0}
 Marked t base a (emit s v) = Unit {0}
 Marked t base a (exit n) = Unit {0}
 Marked t base a (seq p q) =
-    Entry t a (a + (1 + size p)) (middle base p) × Marked t base (a + 1) p × Marked t (middle base p) (a + (1 + size p)) q
+    HasSecond t a (a + (1 + size p)) (middle base p) × Marked t base (a + 1) p × Marked t (middle base p) (a + (1 + size p)) q
 Marked t base a (par p q) =
-    Entry t a (a + (1 + size p)) (middle base p) × Marked t base (a + 1) p × Marked t (middle base p) (a + (1 + size p)) q
+    HasSecond t a (a + (1 + size p)) (middle base p) × Marked t base (a + 1) p × Marked t (middle base p) (a + (1 + size p)) q
 Marked t base a (loop b p) = Marked t base (a + 1) p
 Marked t base a (present s p q) =
-    Entry t a (a + (2 + size p)) (middle base p) × Marked t base (a + 2) p × Marked t (middle base p) (a + (2 + size p)) q
+    HasSecond t a (a + (2 + size p)) (middle base p) × Marked t base (a + 2) p × Marked t (middle base p) (a + (2 + size p)) q
 Marked t base a (signal sc b s p) = Marked t base (a + 2) p
 Marked t base a (try p) = Marked t base (a + 1) p
 Marked t base a (setpause l) = Unit {0}

@@ -5,7 +5,7 @@ ghost use Prim.Native.Nat.{ℕ, _≤_, _<_};
 ghost use lib.Dec.{eqb};
 ghost use Rattle.limits.specs.Limits.{maxBytes, maxSignals};
 ghost use Rattle.sequence.specs.Commands.{Command, commandOf, inRange};
-ghost use Rattle.layout.specs.Layout.{enter};
+ghost use Rattle.layout.specs.Layout.{putSecond};
 ghost use Rattle.layout.specs.Notes.{pausesCounted};
 ghost use Rattle.reading_steps.specs.Steps.{isChoice, isDeclaration, Declared};
 use layout::SecondParts;
@@ -61,7 +61,7 @@ pub fn declare(signals: u8, notes: &mut Notes) -> u8
 // The second part, at offset m, of the command at offset `at`: where it begins, and the pauses noted so far at the byte before it.
 pub fn mark(at: usize, m: usize, notes: &Notes, second: &mut SecondParts)
     requires { ⌜ (at < maxBytes) × (0 < m) × (m ≤ maxBytes) × (pausesCounted (now notes) ≤ maxBytes) ⌝ }
-    ensures { λ _. ⌜ now (second .exit) ≡ enter (now (second .entry)) at m (pausesCounted (now (notes .entry))) ⌝ }
+    ensures { λ _. ⌜ now (second .exit) ≡ putSecond (now (second .entry)) at m (pausesCounted (now (notes .entry))) ⌝ }
 {
     second[at] = m as u16;
     second[m - 1] = notes::count(notes) as u16;
