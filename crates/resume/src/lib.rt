@@ -23,7 +23,8 @@ pub fn resume(
     second: &SecondParts,
 ) -> Reaction
     requires { ⌜ Ready (now second) depth at (now s) ⌝ }
-    ensures { λ r. ⌜ Resumed (now (second .entry)) depth at (now (s .entry)) (labelSet active) input (now (litres .entry)) (now (litres .exit)) r ⌝ }
+    ensures { λ r. ⌜ Resumed (now (second .entry)) depth at (now (s .entry)) (labelSet active) input
+        (now (litres .entry)) (now (litres .exit)) r ⌝ }
 {
     let command = s[0];
     match command {
@@ -56,7 +57,8 @@ fn part(
 ) -> Reaction
     requires { ⌜ n ≤ length (now s) ⌝ }
     requires { ⌜ Ready (now second) depth at (rest n (now s)) ⌝ }
-    ensures { λ r. ⌜ Resumed (now (second .entry)) depth at (rest n (now (s .entry))) (labelSet active) input (now (litres .entry)) (now (litres .exit)) r ⌝ }
+    ensures { λ r. ⌜ Resumed (now (second .entry)) depth at (rest n (now (s .entry))) (labelSet active) input
+        (now (litres .entry)) (now (litres .exit)) r ⌝ }
 {
     if react_leaves::is_pause(s, n) {
         return reaction::nothing();
@@ -74,7 +76,8 @@ fn seq_parts(
     second: &SecondParts,
 ) -> Reaction
     requires { ⌜ Ready (now second) depth at (now s) × (getD (now s) 0 0 ≡ 4) ⌝ }
-    ensures { λ r. ⌜ Resumed (now (second .entry)) depth at (now (s .entry)) (labelSet active) input (now (litres .entry)) (now (litres .exit)) r ⌝ }
+    ensures { λ r. ⌜ Resumed (now (second .entry)) depth at (now (s .entry)) (labelSet active) input
+        (now (litres .entry)) (now (litres .exit)) r ⌝ }
 {
     let m = second[at] as usize;
     let pauses = second[m - 1];
@@ -101,7 +104,8 @@ fn side(
 ) -> Reaction
     requires { ⌜ n ≤ length (now s) ⌝ }
     requires { ⌜ Ready (now second) depth at (rest n (now s)) ⌝ }
-    ensures { λ r. ⌜ ResumedSide (now (second .entry)) depth at (rest n (now (s .entry))) (labelSet active) input (now (litres .entry)) (now (litres .exit)) r ⌝ }
+    ensures { λ r. ⌜ ResumedSide (now (second .entry)) depth at (rest n (now (s .entry))) (labelSet active) input
+        (now (litres .entry)) (now (litres .exit)) r ⌝ }
 {
     if labels::is_empty(active) {
         return reaction::nothing();
@@ -119,7 +123,8 @@ fn par_parts(
     second: &SecondParts,
 ) -> Reaction
     requires { ⌜ Ready (now second) depth at (now s) × (getD (now s) 0 0 ≡ 5) ⌝ }
-    ensures { λ r. ⌜ Resumed (now (second .entry)) depth at (now (s .entry)) (labelSet active) input (now (litres .entry)) (now (litres .exit)) r ⌝ }
+    ensures { λ r. ⌜ Resumed (now (second .entry)) depth at (now (s .entry)) (labelSet active) input
+        (now (litres .entry)) (now (litres .exit)) r ⌝ }
 {
     let m = second[at] as usize;
     let pauses = second[m - 1];
@@ -141,7 +146,8 @@ fn present_parts(
     second: &SecondParts,
 ) -> Reaction
     requires { ⌜ Ready (now second) depth at (now s) × (getD (now s) 0 0 ≡ 7) ⌝ }
-    ensures { λ r. ⌜ Resumed (now (second .entry)) depth at (now (s .entry)) (labelSet active) input (now (litres .entry)) (now (litres .exit)) r ⌝ }
+    ensures { λ r. ⌜ Resumed (now (second .entry)) depth at (now (s .entry)) (labelSet active) input
+        (now (litres .entry)) (now (litres .exit)) r ⌝ }
 {
     let m = second[at] as usize;
     let pauses = second[m - 1];
@@ -164,7 +170,8 @@ fn declaration(
     second: &SecondParts,
 ) -> Reaction
     requires { ⌜ Ready (now second) depth at (now s) × (getD (now s) 0 0 ≡ 8) ⌝ }
-    ensures { λ r. ⌜ Resumed (now (second .entry)) depth at (now (s .entry)) (labelSet active) input (now (litres .entry)) (now (litres .exit)) r ⌝ }
+    ensures { λ r. ⌜ Resumed (now (second .entry)) depth at (now (s .entry)) (labelSet active) input
+        (now (litres .entry)) (now (litres .exit)) r ⌝ }
 {
     signal_rule(&s[0..], at, depth, input, litres, active, second)
 }
@@ -181,7 +188,8 @@ fn signal_rule(
     second: &SecondParts,
 ) -> Reaction
     requires { ⌜ Ready (now second) depth at (now s) × (getD (now s) 0 0 ≡ 8) ⌝ }
-    ensures { λ r. ⌜ Resumed (now (second .entry)) depth at (now (s .entry)) (labelSet active) input (now (litres .entry)) (now (litres .exit)) r ⌝ }
+    ensures { λ r. ⌜ Resumed (now (second .entry)) depth at (now (s .entry)) (labelSet active) input
+        (now (litres .entry)) (now (litres .exit)) r ⌝ }
 {
     let x = s[1];
     let n = x as usize;
@@ -214,7 +222,8 @@ fn body(
 ) -> Reaction
     requires { ⌜ n ≤ length (now s) ⌝ }
     requires { ⌜ Ready (now second) depth at (rest n (now s)) ⌝ }
-    ensures { λ r. ⌜ Resumed (now (second .entry)) depth at (rest n (now (s .entry))) (labelSet active) input (now (litres .entry)) (now (litres .exit)) r ⌝ }
+    ensures { λ r. ⌜ Resumed (now (second .entry)) depth at (rest n (now (s .entry))) (labelSet active) input
+        (now (litres .entry)) (now (litres .exit)) r ⌝ }
 {
     if s[n] == limits::SIGNAL {
         return signal_rule(&s[n..], at, depth, input, litres, active, second);
@@ -233,7 +242,8 @@ fn suspend_part(
     second: &SecondParts,
 ) -> Reaction
     requires { ⌜ Ready (now second) depth at (now s) × (getD (now s) 0 0 ≡ 11) ⌝ }
-    ensures { λ r. ⌜ Resumed (now (second .entry)) depth at (now (s .entry)) (labelSet active) input (now (litres .entry)) (now (litres .exit)) r ⌝ }
+    ensures { λ r. ⌜ Resumed (now (second .entry)) depth at (now (s .entry)) (labelSet active) input
+        (now (litres .entry)) (now (litres .exit)) r ⌝ }
 {
     let x = s[1];
     if signals::member(input, x) {
