@@ -1,1 +1,1 @@
-// The box on paper (02, items 5 to 12): its definition in specs/, and in proofs/ that every list of calls to a box is answered as it says; no code.
+// The box on paper (02, items 8 to 12), and what a reading of a ledger certifies: definitions in specs/, no code. The theorems are box_theory's.
