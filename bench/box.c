@@ -5,12 +5,14 @@
  * positions, of a bay that keeps sixteen, and the readers of a record, against plain C; and previews of the next instant
  * against as many ticks of plain C as there are fillings, at last of unknown inputs that are all asked for and of such that
  * are not. Then the litres: the tick of a bay in which one emission carries litres, and of one in which all do, against the
- * same bay without, of the archive and of plain C; a dear bay that delivers to more and more farms, against plain C; and the
- * ledger's calls.
+ * same bay without, of the archive and of plain C; dear instants, of a bay that delivers to more and more farms and of bays
+ * that deliver to all, against plain C; and the ledger's calls.
  */
 #include "timing.h"
 
 #include "bays.h"
+#include "dear_litres.h"
+#include "found.h"
 #include "intake.h"
 #include "plain_box.h"
 #include "shapes.h"
@@ -346,17 +348,11 @@ static void previews(size_t length, int count, char **paths)
     preview_row(&bay, "none of them asked for", apart);
 }
 
-/* The bytes of a command with its operands. */
-static size_t bytes_of(uint8_t command)
-{
-    return command == 0x0C ? 6 : 1 + (strchr("\x01\x02\x03\x07\x08\x0A\x0B", command) != NULL && command != 0);
-}
-
 /* Whether a signal command declares the farm, whose litres are dropped then. */
 static bool declared(const struct bay *bay, uint8_t farm)
 {
     const uint8_t *end = bay->file + 2 + bay->length;
-    for (const uint8_t *at = bay->file + 2; at < end; at += bytes_of(*at))
+    for (const uint8_t *at = bay->file + 2; at < end; at += command_bytes(*at))
         if (*at == 0x08 && at[1] == farm)
             return true;
     return false;
@@ -369,9 +365,9 @@ static unsigned with_litres(const struct bay *bay, struct bay *litres, unsigned 
     const uint8_t *end = bay->file + 2 + bay->length;
     uint8_t *to = litres->file + 2;
     uint32_t farms = 0;
-    for (const uint8_t *at = bay->file + 2; at < end; at += bytes_of(*at)) {
-        memcpy(to, at, bytes_of(*at));
-        to += bytes_of(*at);
+    for (const uint8_t *at = bay->file + 2; at < end; at += command_bytes(*at)) {
+        memcpy(to, at, command_bytes(*at));
+        to += command_bytes(*at);
         if (*at != 0x02 || most == 0 || declared(bay, at[1]) || (to - litres->file) + (end - at) > 1024)
             continue;
         to[-2] = 0x0C;
@@ -492,49 +488,156 @@ static void deliveries(int count, char **paths)
     }
 }
 
-/* Processor nanoseconds of an instant of a bay with litres. */
+/* A dear instant of a bay, and the state record before it. */
+struct dear_instant {
+    struct dear_bay bay;
+    uint8_t state[INTAKE_STATE_LENGTH];
+};
+
+static ticks_bay *const tick_of[2] = {intake_box_tick, plain_box_tick};
+
+/* Processor nanoseconds of a dear instant. */
 static double sample_dear(const void *what, int plain)
 {
-    const struct bay *bay = what;
-    uint8_t answer[INTAKE_ANSWER_LENGTH];
-    plain_box_new_year(boxes[plain], sizeof *boxes, BAY);
+    enum { RUNS = 5 };
+    static volatile uint8_t sink;
+    const struct dear_instant *t = what;
+    uint8_t answer[INTAKE_ANSWER_LENGTH], record[INTAKE_RECORD_LENGTH], *box = boxes[plain];
+    plain_box_new_year(box, sizeof *boxes, BAY);
     double start = nanoseconds();
-    for (unsigned i = 0; i < bay->runs; i++)
-        run_in(plain ? plain_box_tick : intake_box_tick, boxes[plain], bay, answer);
-    return (nanoseconds() - start) / bay->runs;
+    for (unsigned i = 0; i < RUNS; i++) {
+        memcpy(box + AT_STATE, t->state, sizeof t->state);
+        sink = tick_of[plain](box, sizeof *boxes, BAY, t->bay.input, answer, sizeof answer, record, sizeof record);
+    }
+    (void)sink;
+    return (nanoseconds() - start) / RUNS;
 }
 
-/* The rows of a bay whose emissions carry litres, to none, one, eight and all of its farms. */
-static void dear_rows(const struct bay *bay, const char *name)
+/* Admits a dear bay to a box; its ledger is empty then. */
+static uint8_t admit_dear(admits *call, uint8_t *box, const struct dear_bay *bay)
+{
+    memset(box + AT_LENGTH, 0, LENGTH_BYTES); /* the bay is empty */
+    plain_box_new_year(box, INTAKE_BOX_LENGTH, BAY);
+    return call(box, INTAKE_BOX_LENGTH, BAY, bay->bytes, bay->length, bay->read_back, 0);
+}
+
+/* Admits the bay to both boxes and ticks it up to the dear instant and through it: the same answers, records and boxes. */
+static void prepare_dear(struct dear_instant *t, const char *name)
+{
+    uint8_t answers[2][INTAKE_ANSWER_LENGTH], records[2][INTAKE_RECORD_LENGTH];
+    bool accepted = admit_dear(intake_box_admit, boxes[0], &t->bay) == 0 && admit_dear(plain_box_admit, boxes[1], &t->bay) == 0;
+    for (unsigned i = 0; i <= t->bay.before && accepted; i++) {
+        memcpy(t->state, boxes[0] + AT_STATE, sizeof t->state);
+        for (int plain = 0; plain < 2; plain++) {
+            plain_box_new_year(boxes[plain], sizeof *boxes, BAY);
+            accepted = accepted && tick_of[plain](boxes[plain], sizeof *boxes, BAY, t->bay.input, answers[plain], sizeof *answers,
+                                                  records[plain], sizeof *records) == 0;
+        }
+    }
+    if (!accepted || answers[0][0] == INTAKE_WRONG || memcmp(answers[0], answers[1], sizeof *answers) != 0 ||
+        memcmp(records[0], records[1], sizeof *records) != 0 || memcmp(boxes[0], boxes[1], sizeof *boxes) != 0)
+        give_up(name, "not accepted by both, or not the same");
+}
+
+/* The farms whose totals in the first box are not zero. */
+static unsigned farms_paid(void)
+{
+    unsigned farms = 0;
+    for (const uint8_t *total = boxes[0] + AT_LEDGER; total < boxes[0] + AT_LEDGER + 4 * INTAKE_FARM_COUNT; total += 4)
+        farms += word_at(total) != 0;
+    return farms;
+}
+
+/* Prints the row of a dear bay: the farms that its emissions name and those that the instant pays. Returns the ratio. */
+static double dear_row(const struct dear_bay *bay, const char *name)
+{
+    enum { DEAR_ROUNDS = 101 };
+    static struct dear_instant t;
+    t.bay = *bay;
+    prepare_dear(&t, name);
+    unsigned paid = farms_paid();
+    struct comparison row = compare(sample_dear, &t, DEAR_ROUNDS);
+    printf("%-30s %5zu %5u %5u %8.0f %8.0f %6.2f\n", name, bay->length, farms_named(bay), paid, row.intake, row.plain, row.ratio);
+    fflush(stdout);
+    return row.ratio;
+}
+
+/* The rows of a bay whose emissions carry litres, to none, one, eight and all of its farms; returns the last ratio. */
+static double farm_rows(const struct bay *bay, const char *name)
 {
     static const unsigned emissions[] = {0, 1, 8, BAY_SIZE};
     static struct bay litres;
-    enum { RUNS = 5, DEAR_ROUNDS = 101 };
+    double ratio = 0;
     for (unsigned i = 0; i < sizeof emissions / sizeof *emissions; i++) {
-        unsigned farms = with_litres(bay, &litres, emissions[i]);
-        if (admit(intake_box_admit, boxes[0], &litres) != 0 || admit(plain_box_admit, boxes[1], &litres) != 0)
-            give_up(name, "not admitted");
-        litres.runs = RUNS;
-        struct comparison row = compare(sample_dear, &litres, DEAR_ROUNDS);
-        if (memcmp(boxes[0] + AT_LEDGER, boxes[1] + AT_LEDGER, INTAKE_FARM_COUNT * 4) != 0)
-            give_up(name, "not the same ledger");
-        printf("%-30s %5zu %5u %8.0f %8.0f %6.2f\n", name, litres.length, farms, row.intake, row.plain, row.ratio);
-        fflush(stdout);
+        with_litres(bay, &litres, emissions[i]);
+        struct dear_bay dear = {.length = litres.length, .read_back = read_back_of(&litres)};
+        memcpy(dear.bytes, litres.file + 2, litres.length);
+        ratio = dear_row(&dear, name);
     }
+    return ratio;
 }
 
 /* Six read-back signals around emissions: all tested in each run, or in tests inside each other, so that runs are left out. */
-static void dear_deliveries(void)
+static double read_back_rows(void)
 {
     static const struct shape tests = {"", "\x04\x07", "", "\x02", "\x02", 2, false, false, SIGNALS};
     static struct bay bay;
-    printf("%-30s %5s %5s %8s %8s %6s\n", "ns an instant, six read back", "bytes", "farms", "intake", "plain", "ratio");
-    build_tested(&bay, 0, (UINT32_C(1) << SIGNALS) - 1);
-    dear_rows(&bay, "tested one after the other");
+    build_tested(&bay, 0, first_signals(SIGNALS));
+    double logarithm = log(farm_rows(&bay, "tested one after the other"));
     build(&bay, &tests, 340);
-    bay.file[2 + bay.length] = (1 << SIGNALS) - 1;
-    bay.size = 2 + bay.length + 2 * 4;
-    dear_rows(&bay, "tested inside each other");
+    bay.file[2 + bay.length] = (uint8_t)first_signals(SIGNALS);
+    return logarithm + log(farm_rows(&bay, "tested inside each other"));
+}
+
+/* The row of a kind of the tick's benchmark, with as many of its loops as the box admits. */
+static double dear_kind_row(struct kind kind, size_t length)
+{
+    struct dear_bay bay = kind_with_litres(&kind, length);
+    for (; admit_dear(plain_box_admit, boxes[1], &bay) == INTAKE_ABOVE_CEILING && kind.loops > 0; kind.loops--)
+        bay = kind_with_litres(&kind, length);
+    return dear_row(&bay, kind.name);
+}
+
+/* The row of a dearest instant of the tick's benchmark, with fewer loops and as long as the box admits. */
+static double dearest_row(const struct shape_of_dearest *shape)
+{
+    size_t length = CAPACITY;
+    struct dear_bay bay = dearest_with_litres(shape, length);
+    while (admit_dear(plain_box_admit, boxes[1], &bay) != INTAKE_ACCEPTED)
+        bay = dearest_with_litres(shape, --length);
+    char name[64];
+    snprintf(name, sizeof name, "%u loops, %s%s", shape->loops, shape->join == 0x04 ? "sequences" : "parallels",
+             shape->signals == 0 ? ", read back" : "");
+    return dear_row(&bay, name);
+}
+
+/* Adds a group of rows to all, and prints its mean. */
+static void add_group(double *logarithms, unsigned *rows, double logarithm, unsigned count)
+{
+    printf("geometric mean of %u rows %.2f\n", count, exp(logarithm / count));
+    *logarithms += logarithm;
+    *rows += count;
+}
+
+/* The dear rows. A box admits 65,536 reactions, and so fewer loops than the tick's benchmark has. */
+static void dear_deliveries(void)
+{
+    static const size_t lengths[] = {256, 400};
+    double logarithms = 0, group = 0;
+    unsigned rows = 0, count = 0;
+    printf("%-30s %5s %5s %5s %8s %8s %6s\n", "ns a dear instant in a box", "bytes", "farms", "paid", "intake", "plain", "ratio");
+    add_group(&logarithms, &rows, read_back_rows(), 2); /* the last of each */
+    for (unsigned i = 0; i < KINDS; i++)
+        for (unsigned j = 0; j < 2 && kinds[i].signals + kinds[i].read_back == SIGNALS; j++, count++)
+            group += log(dear_kind_row(kinds[i], lengths[j]));
+    add_group(&logarithms, &rows, group, count);
+    group = count = 0;
+    for (unsigned i = 0; i < DEAREST_SHAPES; i++, count++)
+        group += log(dearest_row(&(struct shape_of_dearest){dearest_shapes[i].join, 4 + i % 3, dearest_shapes[i].signals}));
+    add_group(&logarithms, &rows, group, count);
+    group = log(dear_row(&found_with_litres.bays[0], "dearest round, its first bay"));
+    add_group(&logarithms, &rows, group + log(dear_row(&found_with_litres.bays[1], "dearest round, the others")), 2);
+    printf("geometric mean of the ratios of the %u dear rows %.2f\n", rows, exp(logarithms / rows));
 }
 
 /* Processor nanoseconds of reading a ledger in which every farm has a total, and of a new year. */
