@@ -33,7 +33,7 @@ HOST_TESTS = host-rust host-c host-tick-rust host-tick-c host-box-rust host-box-
 # The two programs are built anew for whatever archive is named.
 .PHONY: help run show paper page unroll replay vectors-diff test lib install uninstall clean certificate host $(HOST_TESTS) host-plain \
 	show-test format-test house-test certificate-test demands-test quotes-test bench bench-check bench-tick bench-box bench-unroll bench-replay \
-	bench-growth bench-run search target/host/stack target/host/dearest
+	bench-growth bench-steps bench-run search target/host/stack target/host/dearest
 
 help: # lists the targets
 	@sed -n 's/^\([a-z-]*\):[^#]*# /\1: /p' Makefile
@@ -222,7 +222,7 @@ bench-tick: $(INTAKE_ARCHIVE) # times the tick, and the dearest instant
 	$(TIMED) -Iinclude bench/tick.c bench/plain.c $(INTAKE_ARCHIVE) -lm -o target/bench/tick
 	@target/bench/tick $(BAYS)
 
-bench-box: $(INTAKE_ARCHIVE) # times the tick of a bay against intake_tick, and admission and previews against plain C
+bench-box: $(INTAKE_ARCHIVE) # times the tick of a bay against intake_tick, and admission, previews and dear instants against plain C
 	@mkdir -p target/bench
 	$(TIMED) -Iinclude bench/box.c bench/plain.c bench/plain_box.c $(INTAKE_ARCHIVE) -lm -o target/bench/box
 	@target/bench/box $(BAYS)
@@ -242,6 +242,13 @@ bench-growth: $(INTAKE_ARCHIVE) # times ticks, rounds and previews that grow in 
 	@mkdir -p target/bench
 	$(OPTIMIZED) -Iinclude bench/growth.c bench/plain.c $(INTAKE_ARCHIVE) -lm -o target/bench/growth
 	@target/bench/growth
+
+bench-steps: $(INTAKE_ARCHIVE) # times the archive against another one with the same calls; BEFORE=file
+	@mkdir -p target/bench
+	@test -f '$(BEFORE)' || { echo 'BEFORE=file: the archive to compare with'; exit 1; }
+	objcopy $(foreach call, $(PLAIN_CALLS), --redefine-sym intake_$(call)=before_$(call)) '$(BEFORE)' target/bench/before.a
+	$(OPTIMIZED) -Iinclude bench/steps.c bench/plain.c $(INTAKE_ARCHIVE) target/bench/before.a -lm -o target/bench/steps
+	@target/bench/steps $(BAYS)
 
 search: $(INTAKE_ARCHIVE) # searches anew for the dearest round of a box and the dearest preview, for some minutes
 	@mkdir -p target/bench
