@@ -1,5 +1,5 @@
 -- The ceiling of a program by the numbers of its statement and the number of its declarations.
-use Prim.Native.Nat.{ℕ, _+_, _*_, _^_}
+use Prim.Native.Nat.{ℕ, _+_, _*_, _^_, _≤_}
 use mathlib.Core.Path.{_≡_, refl, sym, ap, _∙_}
 use mathlib.Core.List.{List}
 use native.Mathlib.Omega.{arith}
@@ -8,14 +8,15 @@ use Rattle.esterel.specs.Statement.{Statement}
 use Rattle.esterel.specs.Sizes.{commands, loopNesting, signalNesting}
 use Rattle.esterel.specs.Ceiling.{ceiling}
 use Rattle.theory.proofs.Ceiling.{commands-declared, loops-declared, nesting-declared}
-use Rattle.limits.specs.Limits.{maxDepth, readBackPlace}
+use Rattle.limits.specs.Limits.{maxDepth, maxSignals, readBackPlace}
 use Rattle.sequence.specs.Program.{readBackSignals, program}
 use Rattle.sequence.specs.Check.{Checked, sound, bad, checked, numberOf, checkOf}
 use Rattle.sequence.proofs.Extents.{few-signals}
+use Rattle.layout.specs.Notes.{mostIn}
 use Rattle.checks.specs.Verdict.{Judged, Passed}
 use Rattle.checks.proofs.Passing.{as-ready}
 use Rattle.extents.specs.declared.Extent.{Extent}
-use Rattle.extents.specs.Extents.{Has}
+use Rattle.extents.specs.Extents.{Has, Whole, Counted}
 use Rattle.sequence.specs.Ceilings.{ceilingOf}
 use Rattle.ceilings_products.specs.Ceilings.{Plannable, product}
 use Rattle.ceilings.specs.declared.Plan.the-variants.{Refused, Takes}
@@ -33,6 +34,19 @@ ceiling-is readBack k p e =
 -- ---- a sequence that the check has judged
 module _ (bs : List ℕ) (readBack : ℕ) where
   module _ (t notes : List ℕ) (a : Passed bs readBack t notes) where
+    pub whole : Whole bs
+    whole = record { t = t; p = a .p; lies = a .known .lies; short = omega (arith, as-ready a .fits) }
+
+    -- the most signal commands around a command, as the check noted it
+    pub few-around : mostIn notes ≤ maxSignals
+    few-around =
+        let g = few-signals bs readBack (a .p) (a .is) in
+        let f = nesting-declared readBackPlace (readBackSignals readBack) (a .p) in
+        omega (arith, g, f, a .known .noted .most)
+
+    pub numbers : {x : ℕ} {n : Extent} → Counted bs x n → x ≡ mostIn notes → Has (a .p) n
+    numbers h e = h t (a .p) (a .known .lies) (e ∙ a .known .noted .most)
+
     -- the numbers n that the walk finds, with k signals read back
     module _ {n : Extent} (h : Has (a .p) n) where
       pub plannable : Plannable n (length (readBackSignals readBack))

@@ -9,12 +9,12 @@ ghost use Rattle.ceilings.specs.Plans.{planOf};
 use layout::SecondParts;
 use notes::Notes;
 
-// The ceiling of a sequence that the check has passed, with the table of second parts that it left.
-pub fn of_accepted(sequence: &[u8], read_back: u32, second: &SecondParts) -> u32
-    requires { ⌜ ((notes : List ℕ) × Passed (now sequence) «read_back» (now second) notes) ⌝ }
+// The ceiling of a sequence that the check has passed, with the notes that it left.
+pub fn of_accepted(sequence: &[u8], read_back: u32, notes: &Notes) -> u32
+    requires { ⌜ ((second : List ℕ) × Passed (now sequence) «read_back» second (now notes)) ⌝ }
     ensures { λ r. ⌜ r ≡ ceilingOf «read_back» (checked (now (sequence .entry)) «read_back») ⌝ }
 {
-    let n = extents::of_statement(sequence, 0, limits::MAX_DEPTH, second);
+    let n = extents::of_sequence(sequence, notes::most(notes) as u32);
     ceilings_products::under(n, read_back)
 }
 
@@ -33,7 +33,7 @@ pub fn planned(sequence: &[u8], read_back: u32) -> Plan
     if number != 0 {
         return Plan::Refused(number);
     }
-    Plan::Takes(of_accepted(sequence, read_back, &second))
+    Plan::Takes(of_accepted(sequence, read_back, &notes))
 }
 
 // The ceiling of a sequence with a read-back set; of one that is turned down, 0.

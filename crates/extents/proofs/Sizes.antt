@@ -11,10 +11,8 @@ use Rattle.sequence.specs.Commands.{Command, commandOf, operandsOf, partCount, 
 use Rattle.numbers.specs.Bytes.{leBytes}
 use Rattle.sequence.specs.Writer.{bytesOf, size}
 use Rattle.sequence.proofs.Table.{leaves, ones, twos, at-most-two}
-use Rattle.layout.specs.Layout.{rest, Parts, Form, Lies, Ready}
+use Rattle.layout.specs.Layout.{rest, Parts, Form, Lies}
 use Rattle.layout.proofs.Parts.{rest-is}
-use Rattle.extents.specs.declared.Extent.{Extent}
-use Rattle.extents.specs.Extents.{Numbered, Few}
 
 -- in n bytes, with at most d levels
 pub record Sized (d n : ℕ) (p : Statement) : Type 0 where
@@ -23,30 +21,30 @@ pub record Sized (d n : ℕ) (p : Statement) : Type 0 where
   pub loops : loopNesting p < d
 
 -- ---- the shapes of commands
-abbrev Leaf : (w : ℕ) → Statement → Type 0
+abbrev pub Leaf : (w : ℕ) → Statement → Type 0
 Leaf w p = (size p ≡ w) × (commands p ≡ 1) × (loopNesting p ≡ 0)
 
-abbrev One : (w : ℕ) (p q : Statement) → Type 0
+abbrev pub One : (w : ℕ) (p q : Statement) → Type 0
 One w p q = (size p ≡ w + size q) × (commands p ≡ 1 + commands q) × (loopNesting p ≤ 1 + loopNesting q)
 
-abbrev Two : (w : ℕ) (p q r : Statement) → Type 0
+abbrev pub Two : (w : ℕ) (p q r : Statement) → Type 0
 Two w p q r =
     (size p ≡ w + (size q + size r)) × (commands p ≡ 1 + commands q + commands r) × (loopNesting p ≡ max (loopNesting q) (loopNesting r))
 
 module _ (a : ℕ) (xs : List ℕ) where
-  leaf-shape : (c : Command) → partCount c ≡ 0 → Leaf (headLength c) (build c a xs nothing nothing)
+  pub leaf-shape : (c : Command) → partCount c ≡ 0 → Leaf (headLength c) (build c a xs nothing nothing)
   unfolding bytesOf leBytes commands loopNesting
   leaf-shape =
       leaves (λ (c : Command). Leaf (headLength c) (build c a xs nothing nothing))
       (refl, refl, refl) (refl, refl, refl) (refl, refl, refl) (refl, refl, refl) (refl, refl, refl) (refl, refl, refl)
 
-  one-shape : (c : Command) → partCount c ≡ 1 → (q : Statement) → One (headLength c) (build c a xs q nothing) q
+  pub one-shape : (c : Command) → partCount c ≡ 1 → (q : Statement) → One (headLength c) (build c a xs q nothing) q
   unfolding bytesOf commands loopNesting
   one-shape =
       ones (λ (c : Command). (q : Statement) → One (headLength c) (build c a xs q nothing) q)
       (λ q. omega arith) (λ q. omega arith) (λ q. omega arith) (λ q. omega arith)
 
-  two-shape : (c : Command) → partCount c ≡ 2 → (q r : Statement) → Two (headLength c) (build c a xs q r) q r
+  pub two-shape : (c : Command) → partCount c ≡ 2 → (q r : Statement) → Two (headLength c) (build c a xs q r) q r
   unfolding bytesOf commands loopNesting
   two-shape =
       twos (λ (c : Command). (q r : Statement) → Two (headLength c) (build c a xs q r) q r)
@@ -104,11 +102,3 @@ nested (try p) = omega (arith, nested p)
 nested (setpause l) = omega arith
 nested (suspend s p) = omega (arith, nested p)
 nested (held s K p) = omega (arith, nested p)
-
--- what a walk finds is at most 1,024
-pub few : {t : List ℕ} {d a : ℕ} {bs : List ℕ} {n : Extent} → Ready t d a bs → Numbered t d a bs n → Few n
-few {t} {d} {a} {bs} r h =
-    let k = h (r .base) (r .p) (r .lies) in
-    let s = sized t d (r .base) a bs (r .p) (r .lies) in
-    let b = nested (r .p) in
-    record { count = omega (arith, r .fits); loops = omega (arith, r .fits); signals = omega (arith, r .fits) }

@@ -1,10 +1,8 @@
-// The extent of a statement that lies in accepted bytes: how many commands it has, and how many loops and signals stand around one.
+// The extent of an accepted sequence, of which its ceiling is made (02, item 6): how many commands it has, and how many loops and signals
+// stand around one. Command by command from the left, without a walk into parts.
 ghost use mathlib.Core.Path.{_≡_};
-ghost use Prim.Native.Nat.{_-_, _≤_, max};
-ghost use lib.ListN.{length};
-ghost use Rattle.layout.specs.Layout.{rest, Ready, Pair};
-ghost use Rattle.extents.specs.Extents.{Around, AroundTwo, Numbered, NumberedTwo, Few};
-use layout::SecondParts;
+ghost use Prim.Native.Nat.{max};
+ghost use Rattle.extents.specs.Extents.{HeadAt, Whole, Counted};
 
 // Of a statement: its commands, and the greatest numbers of loops and of signals around one.
 pub struct Extent {
@@ -13,81 +11,83 @@ pub struct Extent {
     pub signals: u32,
 }
 
-// Those of a command without parts.
-fn single() -> Extent
-    ensures { λ r. ⌜ (r .commands ≡ 1) × (r .loops ≡ 0) × (r .signals ≡ 0) ⌝ }
-{
-    Extent {
-        commands: 1,
-        loops: 0,
-        signals: 0,
-    }
+// No more statements than the levels of a sequence are ever left to come.
+const LEVELS: usize = limits::MAX_DEPTH as usize;
+
+// A command: its own bytes and its parts, counted.
+pub struct Head {
+    pub bytes: usize,
+    pub parts: u8,
 }
 
-// Those of a command around a part with the numbers n.
-fn around(n: Extent, loops: u32, signals: u32) -> Extent
-    requires { ⌜ Few n × (loops ≤ 1) × (signals ≤ 1) ⌝ }
-    ensures { λ r. ⌜ Around loops signals n r ⌝ }
+// The command b. One tree of comparisons for both counts: each command takes one way through it.
+fn opens(b: u8) -> Head
+    ensures { λ r. ⌜ HeadAt b r ⌝ }
 {
-    Extent {
-        commands: 1 + n.commands,
-        loops: loops + n.loops,
-        signals: signals + n.signals,
+    if b < limits::SEQUENCE {
+        if b == limits::NOTHING {
+            return Head { bytes: 1, parts: 0 };
+        }
+        return Head { bytes: 2, parts: 0 };
     }
+    if b < limits::LOOP {
+        return Head { bytes: 1, parts: 2 };
+    }
+    if b == limits::LOOP {
+        return Head { bytes: 1, parts: 1 };
+    }
+    if b == limits::PRESENT {
+        return Head { bytes: 2, parts: 2 };
+    }
+    if b == limits::TRY {
+        return Head { bytes: 1, parts: 1 };
+    }
+    if b == limits::SETPAUSE {
+        return Head { bytes: 2, parts: 0 };
+    }
+    if b == limits::DELIVER {
+        return Head { bytes: 6, parts: 0 };
+    }
+    Head { bytes: 2, parts: 1 }
 }
 
-fn greater(x: u32, y: u32) -> u32
+fn greater(x: u8, y: u8) -> u8
     ensures { λ r. ⌜ r ≡ max x y ⌝ }
 {
     if x < y { y } else { x }
 }
 
-// Those of a command around two parts.
-fn around_two(p: Extent, q: Extent) -> Extent
-    requires { ⌜ Few p × Few q ⌝ }
-    ensures { λ r. ⌜ AroundTwo p q r ⌝ }
+// The extent of the sequence s, in which so many signals stand around a command. `left` statements are still to come: `loops` loops stand
+// around the first, which begins at s[at], and those around the others are in `around`, the next one's last.
+pub fn of_sequence(s: &[u8], signals: u32) -> Extent
+    requires { ⌜ Whole (now s) ⌝ }
+    ensures { λ r. ⌜ Counted (now (s .entry)) signals r ⌝ }
 {
+    let mut around: [u8; LEVELS] = [0; LEVELS];
+    let mut at: usize = 0;
+    let mut left: usize = 1;
+    let mut loops: u8 = 0;
+    let mut most: u8 = 0;
+    let mut commands: u32 = 0;
+    while 0 < left {
+        let b = s[at];
+        let h = opens(b);
+        commands = commands + 1;
+        at = at + h.bytes;
+        if h.parts == 0 {
+            left = left - 1;
+            loops = around[left];
+        } else if h.parts == 2 {
+            around[left] = loops;
+            left = left + 1;
+        } else if b == limits::LOOP {
+            loops = loops + 1;
+            most = greater(most, loops);
+        }
+    }
     Extent {
-        commands: 1 + p.commands + q.commands,
-        loops: greater(p.loops, q.loops),
-        signals: greater(p.signals, q.signals),
+        commands: commands,
+        loops: most as u32,
+        signals: signals,
     }
-}
-
-// The numbers of the statement at the front of s, which stands at the offset `at`.
-pub fn of_statement(s: &[u8], at: usize, depth: u8, second: &SecondParts) -> Extent
-    requires { ⌜ Ready (now second) depth at (now s) ⌝ }
-    ensures { λ r. ⌜ Numbered (now (second .entry)) depth at (now (s .entry)) r ⌝ }
-{
-    let command = s[0];
-    match command {
-        limits::SEQUENCE => of_parts(s, at, 1, depth, second),
-        limits::PARALLEL => of_parts(s, at, 1, depth, second),
-        limits::LOOP => around(of_part(s, 1, at + 1, depth - 1, second), 1, 0),
-        limits::PRESENT => of_parts(s, at, 2, depth, second),
-        limits::SIGNAL => around(of_part(s, 2, at + 2, depth - 1, second), 0, 1),
-        limits::TRY => around(of_part(s, 1, at + 1, depth - 1, second), 0, 0),
-        limits::SUSPEND => around(of_part(s, 2, at + 2, depth - 1, second), 0, 0),
-        _ => single(),
-    }
-}
-
-// The same of the part from s[n] on, which stands at the offset `at`.
-fn of_part(s: &[u8], n: usize, at: usize, depth: u8, second: &SecondParts) -> Extent
-    requires { ⌜ n ≤ length (now s) ⌝ }
-    requires { ⌜ Ready (now second) depth at (rest n (now s)) ⌝ }
-    ensures { λ r. ⌜ Numbered (now (second .entry)) depth at (rest n (now (s .entry))) r ⌝ }
-{
-    of_statement(&s[n..], at, depth, second)
-}
-
-// The same of the command of w bytes and two parts at the front of s, which stands at the offset `at`.
-fn of_parts(s: &[u8], at: usize, w: usize, depth: u8, second: &SecondParts) -> Extent
-    requires { ⌜ Pair (now second) (depth - 1) at w (now s) ⌝ }
-    ensures { λ r. ⌜ NumberedTwo (now (second .entry)) (depth - 1) at w (now (s .entry)) r ⌝ }
-{
-    let m = second[at] as usize;
-    let p = of_part(s, w, at + w, depth - 1, second);
-    let q = of_part(s, m - at, m, depth - 1, second);
-    around_two(p, q)
 }

@@ -6,12 +6,12 @@ use native.Mathlib.Omega.{arith}
 use lib.ListN.{length, getD, length-append}
 use Rattle.esterel.specs.Statement.{local, litres, Statement, nothing, pause, emit, exit, seq, par, loop, present, signal, try, setpause, suspend, held}
 use Rattle.numbers.specs.Bytes.{leBytes}
-use Rattle.sequence.specs.Commands.{Command}
+use Rattle.sequence.specs.Commands.{Command, partCount, headLength}
 use Rattle.sequence.specs.Writer.{bytesOf, size}
 use Rattle.esterel.specs.Sizes.{depthOf}
 use Rattle.sequence.proofs.Table.{byteOf}
-use Rattle.layout.specs.Layout.{Lies, Ready}
-use Rattle.layout.proofs.Laid.{taken-apart, command}
+use Rattle.layout.specs.Layout.{rest, Parts, Lies, Ready, Pair}
+use Rattle.layout.proofs.Laid.{ready, taken-apart, begins, command}
 use Rattle.unrolled.specs.Unrolled.{copied, unrolled}
 use Rattle.unrolled_sizes.specs.declared.Sizes.{Sizes}
 use Rattle.unrolled_sizes.specs.Measured.{cappedBytes, cappedDepth, SizesOf, Has, HasTwo, Measured, Few}
@@ -21,6 +21,20 @@ pub few : {t : List ℕ} {d a : ℕ} {bs : List ℕ} {n : Sizes} → Ready t d a
 few r h =
     let k = h (r .base) (r .p) (r .lies) in
     record { copies = omega arith; wholes = omega arith; depths = omega arith }
+
+-- ---- the parts of a command lie in the bytes behind it
+module _ {t : List ℕ} {d a : ℕ} {bs : List ℕ} (r : Ready t d a bs) (c : Command) where
+  pub part-ready : partCount c ≡ 1 → getD bs 0 0 ≡ byteOf c → (headLength c ≤ length bs) × Ready t (d - 1) (a + headLength c) (rest (headLength c) bs)
+  part-ready z b =
+      let y = begins r c b in
+      let q = subst (λ (n : ℕ). Parts (Lies t (d - 1)) t (r .base) a bs (r .p) c n) z (y .parts) in
+      (y .there, ready (r .base) (q .0) (r .long) (q .1 .1))
+
+  pub pair-ready : partCount c ≡ 2 → getD bs 0 0 ≡ byteOf c → Pair t (d - 1) a (headLength c) bs
+  pair-ready z b =
+      let y = begins r c b in
+      let q = subst (λ (n : ℕ). Parts (Lies t (d - 1)) t (r .base) a bs (r .p) c n) z (y .parts) in
+      record { base = r .base; p = q .0; q = q .1; two = q .2 .1; there = y .there; long = r .long }
 
 -- what is said of a command is said of the statement that it is
 pub here : (t : Statement) {p : Statement} {r : Sizes} → p ≡ t → Has t r → Has p r

@@ -4,8 +4,7 @@ use borrow.Author.Needs.{needs}
 use Rattle.esterel.specs.Statement.{local, litres, nothing, emit, seq, par, loop, present, signal, try, suspend}
 use Rattle.sequence.specs.Commands.{Command}
 use Rattle.layout.proofs.Laid.{taken-apart, first-ready, second-ready}
-use Rattle.extents.proofs.Steps.{part-ready, pair-ready}
-use Rattle.unrolled_sizes.proofs.Steps.{few, here, loop-step, signal-step, try-step, suspend-step, parts-step, seq-step, par-step, present-step, nothing-step, deliver-step, leaf-step}
+use Rattle.unrolled_sizes.proofs.Steps.{few, part-ready, pair-ready, here, loop-step, signal-step, try-step, suspend-step, parts-step, seq-step, par-step, present-step, nothing-step, deliver-step, leaf-step}
 use Prim.Native.Nat.{ℕ, _+_, _*_, _<_}
 use borrow.Fn.Kinds.{In}
 use borrow.Fn.PlainCycle.{Measures, is, falls, and}
