@@ -16,7 +16,7 @@ use Rattle.layout.specs.Notes.{mostIn}
 use Rattle.checks.specs.Verdict.{Judged, Passed}
 use Rattle.checks.proofs.Passing.{as-ready}
 use Rattle.extents.specs.declared.Extent.{Extent}
-use Rattle.extents.specs.Extents.{Has, Whole, Counted}
+use Rattle.extents.specs.Extents.{Has, Countable, HasWith}
 use Rattle.sequence.specs.Ceilings.{ceilingOf}
 use Rattle.ceilings_products.specs.Ceilings.{Plannable, product}
 use Rattle.ceilings.specs.declared.Plan.the-variants.{Refused, Takes}
@@ -34,8 +34,19 @@ ceiling-is readBack k p e =
 -- ---- a sequence that the check has judged
 module _ (bs : List ℕ) (readBack : ℕ) where
   module _ (t notes : List ℕ) (a : Passed bs readBack t notes) where
-    pub whole : Whole bs
-    whole = record { t = t; p = a .p; lies = a .known .lies; short = omega (arith, as-ready a .fits) }
+    pub whole : Countable maxDepth bs
+    whole =
+        record {
+          t = t;
+          d = maxDepth;
+          base = 0;
+          a = 0;
+          p = a .p;
+          lies = a .known .lies;
+          levels = omega arith;
+          low = omega arith;
+          short = omega (arith, as-ready a .fits);
+        }
 
     -- the most signal commands around a command, as the check noted it
     pub few-around : mostIn notes ≤ maxSignals
@@ -44,8 +55,8 @@ module _ (bs : List ℕ) (readBack : ℕ) where
         let f = nesting-declared readBackPlace (readBackSignals readBack) (a .p) in
         omega (arith, g, f, a .known .noted .most)
 
-    pub numbers : {x : ℕ} {n : Extent} → Counted bs x n → x ≡ mostIn notes → Has (a .p) n
-    numbers h e = h t (a .p) (a .known .lies) (e ∙ a .known .noted .most)
+    pub numbers : {x : ℕ} {n : Extent} → HasWith bs x n → x ≡ mostIn notes → Has (a .p) n
+    numbers h e = h t maxDepth 0 0 (a .p) (a .known .lies) (e ∙ a .known .noted .most)
 
     -- the numbers n that the walk finds, with k signals read back
     module _ {n : Extent} (h : Has (a .p) n) where

@@ -3,135 +3,154 @@ use Prim.Native.Nat.{ℕ, zero, suc, _+_, _-_, _≤_, _<_, max}
 use mathlib.Core.Path.{_≡_, refl, sym, ap, _∙_, subst, subst₂}
 use mathlib.Core.Logic.{_≢_}
 use mathlib.Core.Option.{some}
-use mathlib.Core.List.{List, [], _∷_, _++_}
+use mathlib.Core.List.{List}
 use native.Mathlib.Omega.{arith}
-use lib.ListN.{length, getD, drop, set, replicate, length-drop, length-set}
-use lib.Seq.{getD-drop, drop-drop, getD-set-same, getD-set-other}
+use lib.ListN.{length, getD, drop, length-drop}
+use lib.Seq.{getD-drop, drop-drop}
 use Rattle.limits.specs.Limits.{maxBytes, maxDepth}
-use Rattle.esterel.specs.Sizes.{commands, loopNesting, signalNesting}
+use Rattle.esterel.specs.Statement.{Statement}
+use Rattle.esterel.specs.Sizes.{commands, loopNesting}
 use Rattle.sequence.specs.Commands.{Command, commandOf, partCount, headLength}
-use Rattle.sequence.proofs.Table.{byteOf, byte-is, command-at, ones, at-most-two}
+use Rattle.sequence.specs.Writer.{size}
+use Rattle.sequence.proofs.Table.{byteOf, byte-is, command-at, at-most-two}
+use Rattle.layout.specs.Layout.{rest, Lies}
+use Rattle.layout.proofs.Parts.{rest-is}
+use Rattle.extents.specs.declared.Tally.{Tally}
 use Rattle.extents.specs.declared.Extent.{Extent}
 use Rattle.extents.specs.declared.Head.{Head}
-use Rattle.extents.specs.Extents.{Has, HeadOf, HeadAt, repeats, Tally, Whole, Counted}
+use Rattle.extents.specs.Extents.{Has, HeadOf, HeadAt, Countable, TallyOf, Tallied, HasWith}
 use Rattle.extents.proofs.Sizes.{sized}
-use Rattle.extents.proofs.Tallies.{leaf-repeats, two-repeats, lies-tallied, same-tally}
-
--- ---- the loops around the statements left, as the code keeps them
--- those behind the first, in the array, none of them more than the most so far
-abbrev Behind : (around : List ℕ) (most : ℕ) → List ℕ → Type 0
-Behind around most [] = Unit {0}
-Behind around most (l ∷ ls) = (getD around (suc (length ls)) 0 ≡ l) × (l ≤ most) × Behind around most ls
-
-abbrev Kept : (around : List ℕ) (left loops most : ℕ) → List ℕ → Type 0
-Kept around left loops most [] = left ≡ 0
-Kept around left loops most (l ∷ ls) = (left ≡ suc (length ls)) × (loops ≡ l) × (l ≤ most) × Behind around most ls
-
-still : (around : List ℕ) (most i x : ℕ) (ls : List ℕ) → length ls < i → Behind around most ls → Behind (set around i x) most ls
-still around most i x [] h b = tt
-still around most i x (l ∷ ls) h b =
-    (getD-set-other around i (suc (length ls)) x 0 (λ z. absurd (omega (arith, h, z))) ∙ b .0, b .1, still around most i x ls (omega arith) (b .2))
-
-more : (around : List ℕ) (most k : ℕ) (ls : List ℕ) → most ≤ k → Behind around most ls → Behind around k ls
-more around most k [] h b = tt
-more around most k (l ∷ ls) h b = (b .0, omega arith, more around most k ls h (b .2))
+use Rattle.extents.proofs.Passing.{repeats, same, Pass, lies-passed}
 
 -- ---- the invariant
-pub record Left (s : List ℕ) (around : List ℕ) (at left loops most count : ℕ) : Type 0 where
-  pub all : ℕ
-  pub deepest : ℕ
-  pub whole : Tally (0 ∷ []) s all deepest
-  pub ls : List ℕ
+pub record Left (s : List ℕ) (depth at left count loops : ℕ) : Type 0 where
+  pub whole : Countable depth s
+  pub z : ℕ
   pub n : ℕ
   pub m : ℕ
-  pub tally : Tally ls (drop at s) n m
-  pub kept : Kept around left loops most ls
-  pub counted : count + n ≡ all
-  pub deep : max most m ≡ deepest
-  pub long : length around ≡ maxDepth
-  pub few : all ≤ maxBytes
-  pub low : deepest ≤ maxDepth
-  pub short : length s ≤ maxBytes
+  pub pass : Pass depth left (drop at s) z n m
+  pub ended : at + z ≡ size (whole .p)
+  pub counted : count + n ≡ commands (whole .p)
+  pub deep : max loops m ≡ loopNesting (whole .p)
+  pub fits : size (whole .p) ≤ length s
+  pub few : commands (whole .p) ≤ maxBytes
+  pub low : loopNesting (whole .p) < maxDepth
 
-pub starts : {s : List ℕ} → Whole s → Left s (replicate maxDepth 0) 0 1 0 0 0
-starts {s} w =
-    let z = sized (w .t) maxDepth 0 0 s (w .p) (w .lies) in
-    let y = lies-tallied (w .t) 0 0 s (w .p) (w .lies) in
+pub starts : {s : List ℕ} {depth : ℕ} → Countable depth s → Left s depth 0 1 0 0
+starts {s} {depth} w =
+    let y = sized (w .t) (w .d) (w .base) (w .a) s (w .p) (w .lies) in
     record {
-      all = commands (w .p);
-      deepest = loopNesting (w .p);
-      whole = y;
-      ls = 0 ∷ [];
+      whole = w;
+      z = size (w .p);
       n = commands (w .p);
       m = loopNesting (w .p);
-      tally = y;
-      kept = (refl, refl, omega arith, tt);
+      pass = lies-passed depth (w .t) (w .d) (w .base) (w .a) s (w .p) (w .levels) (w .lies);
+      ended = omega arith;
       counted = omega arith;
       deep = omega arith;
-      long = refl;
-      few = omega (arith, z .bytes, z .count, w .short);
-      low = omega (arith, z .loops);
-      short = w .short;
+      fits = y .bytes;
+      few = omega (arith, y .bytes, y .count, w .short);
+      low = omega (arith, y .loops, w .levels, w .low);
     }
 
--- ---- the next command
-record Next (around : List ℕ) (left loops most : ℕ) (bs : List ℕ) (n m : ℕ) : Type 0 where
+-- each statement has a byte
+enough : {depth k : ℕ} {bs : List ℕ} {z n m : ℕ} → Pass depth k bs z n m → k ≤ z
+enough Pass.done = omega arith
+enough (Pass.next c e r t x) = omega (arith, enough x)
+enough (Pass.into e h t d base a q i l x) = omega (arith, enough x)
+
+-- and each statement is a command
+some-more : {depth k : ℕ} {bs : List ℕ} {z n m : ℕ} → Pass depth k bs z n m → 0 < k → 0 < n
+some-more Pass.done h = absurd (omega arith)
+some-more (Pass.next c e r t x) h = omega arith
+some-more (Pass.into e t o d base a q i l x) h = omega arith
+
+-- ---- the next command, a loop or none
+record Front (bs : List ℕ) : Type 0 where
   pub c : Command
-  pub ks : List ℕ
   pub byte : commandOf (getD bs 0 0) ≡ some c
   pub there : headLength c ≤ length bs
-  pub room : suc (length ks) ≤ maxDepth
-  pub is : left ≡ suc (length ks)
-  pub least : loops ≤ most
-  pub behind : Behind around most ks
+
+front : {depth k : ℕ} {bs : List ℕ} {z n m : ℕ} → 0 < k → Pass depth k bs z n m → Front bs
+front h Pass.done = absurd (omega arith)
+front h (Pass.next c e r t x) = record { c = c; byte = e; there = t }
+front h (Pass.into e t o d base a q i l x) = record { c = Command.loop; byte = e; there = t }
+
+-- one that is no loop
+record Flat (depth k : ℕ) (bs : List ℕ) (z n m : ℕ) : Type 0 where
+  pub c : Command
+  pub byte : commandOf (getD bs 0 0) ≡ some c
   pub i : ℕ
   pub j : ℕ
-  pub tally : Tally (replicate (partCount c) (loops + repeats c) ++ ks) (drop (headLength c) bs) i j
-  pub count : n ≡ suc i
-  pub deep : m ≡ max (loops + repeats c) j
+  pub pass : Pass depth (partCount c + (k - 1)) (drop (headLength c) bs) i j m
+  pub ended : z ≡ headLength c + i
+  pub counted : n ≡ suc j
 
-next : {around : List ℕ} {left loops most : ℕ} {ls bs : List ℕ} {n m : ℕ} → 0 < left → Kept around left loops most ls → Tally ls bs n m
-    → Next around left loops most bs n m
-next h k Tally.done = absurd (omega arith)
-next {around} {left} {loops} {most} {bs = bs} h k (Tally.next {l} {ls} {n = i} {m = j} c e t r x) =
+flat : {depth k : ℕ} {bs : List ℕ} {z n m : ℕ} → 0 < k → getD bs 0 0 ≢ 6 → Pass depth k bs z n m → Flat depth k bs z n m
+flat h f Pass.done = absurd (omega arith)
+flat {depth} h f (Pass.next {k = k} {bs} {z} {n} {m} c e r t x) =
+    let g : partCount c + k ≡ partCount c + (suc k - 1) = omega arith in
+    record { c = c; byte = e; i = z; j = n; pass = subst (λ (o : ℕ). Pass depth o (drop (headLength c) bs) z n m) g x; ended = refl; counted = refl }
+flat {bs = bs} h f (Pass.into e t o d base a q i l x) = absurd (f (byte-is (getD bs 0 0) Command.loop e))
+
+-- a loop
+record Loop (depth k : ℕ) (bs : List ℕ) (z n m : ℕ) : Type 0 where
+  pub t : List ℕ
+  pub d : ℕ
+  pub base : ℕ
+  pub a : ℕ
+  pub q : Statement
+  pub less : d < depth
+  pub lies : Lies t d base a (rest 1 bs) q
+  pub i : ℕ
+  pub j : ℕ
+  pub l : ℕ
+  pub pass : Pass depth (k - 1) (drop (1 + size q) bs) i j l
+  pub ended : z ≡ 1 + size q + i
+  pub counted : n ≡ 1 + commands q + j
+  pub deep : m ≡ max (1 + loopNesting q) l
+
+looped : {depth k : ℕ} {bs : List ℕ} {z n m : ℕ} → 0 < k → getD bs 0 0 ≡ 6 → Pass depth k bs z n m → Loop depth k bs z n m
+looped h f Pass.done = absurd (omega arith)
+looped {bs = bs} h f (Pass.next c e r t x) =
+    absurd (let g : repeats c ≡ 1 = ap repeats (command-at (getD bs 0 0) c Command.loop e f) in omega (arith, r, g))
+looped {depth} h f (Pass.into {k = k} {bs} {z} {n} {m} e t o d base a q i l x) =
+    let g : k ≡ suc k - 1 = omega arith in
     record {
-      c = c;
-      ks = ls;
-      byte = e;
-      there = t;
-      room = omega arith;
-      is = k .0;
-      least = omega (arith, k .1, k .2);
-      behind = k .3;
-      i = i;
-      j = j;
-      tally = subst (λ (o : ℕ). Tally (replicate (partCount c) (o + repeats c) ++ ls) (drop (headLength c) bs) i j) (sym (k .1)) x;
-      count = refl;
-      deep = ap (λ (o : ℕ). max (o + repeats c) j) (sym (k .1));
+      t = o;
+      d = d;
+      base = base;
+      a = a;
+      q = q;
+      less = i;
+      lies = l;
+      i = z;
+      j = n;
+      l = m;
+      pass = subst (λ (u : ℕ). Pass depth u (drop (1 + size q) bs) z n m) g x;
+      ended = refl;
+      counted = refl;
+      deep = refl;
     }
 
--- no more statements are left than the levels
-held : {l : ℕ} {ls bs : List ℕ} {n m : ℕ} → Tally (l ∷ ls) bs n m → suc (length ls) ≤ maxDepth
-held (Tally.next c e t r x) = omega arith
+module _ {s : List ℕ} {depth at left count loops : ℕ} (w : Left s depth at left count loops) (l : 0 < left) where
+  abbrev y : Front (drop at s)
+  y = front l (w .pass)
 
-other : (c : Command) → partCount c ≡ 1 → (byteOf c ≡ 6 → ⊥) → repeats c ≡ 0
-other = ones (λ (c : Command). (byteOf c ≡ 6 → ⊥) → repeats c ≡ 0) (λ f. absurd (f refl)) (λ f. refl) (λ f. refl) (λ f. refl)
-
-module _ {s around : List ℕ} {at left loops most count : ℕ} (w : Left s around at left loops most count) (l : 0 < left) where
-  abbrev y : Next around left loops most (drop at s) (w .n) (w .m)
-  y = next l (w .kept) (w .tally)
+  first : getD (drop at s) 0 0 ≡ getD s at 0
+  first = getD-drop at s 0 0 ∙ ap (λ (k : ℕ). getD s k 0) (let e : at + 0 ≡ at = omega arith in e)
 
   command : commandOf (getD s at 0) ≡ some (y .c)
-  command = ap commandOf (sym (getD-drop at s 0 0 ∙ ap (λ (k : ℕ). getD s k 0) (let e : at + 0 ≡ at = omega arith in e))) ∙ y .byte
+  command = ap commandOf (sym first) ∙ y .byte
 
   pub here : at < length s
   here = omega (arith, y .there, length-drop at s)
 
   pub one-more : count < maxBytes
-  one-more = omega (arith, w .counted, w .few, y .count)
+  one-more = omega (arith, w .counted, w .few, some-more (w .pass) l)
 
-  pub held-left : left ≤ maxDepth
-  held-left = omega (arith, y .room, y .is)
+  pub few-left : left ≤ maxBytes
+  few-left = omega (arith, enough (w .pass), w .ended, w .fits, w .whole .short)
 
   -- with what the code found of the command
   module _ {h : Head} (f : HeadAt (getD s at 0) h) where
@@ -144,128 +163,127 @@ module _ {s around : List ℕ} {at left loops most count : ℕ} (w : Left s arou
     pub on : 0 < h .bytes
     on = omega (arith, own .0)
 
-    -- what is left behind it
-    left-over : (k : ℕ) → h .parts ≡ k → (o : ℕ) → repeats (y .c) ≡ o → Tally (replicate k (loops + o) ++ y .ks) (drop (at + h .bytes) s) (y .i) (y .j)
-    left-over k e o z =
-        let p : partCount (y .c) ≡ k = sym (own .1) ∙ e in
-        let q : drop (headLength (y .c)) (drop at s) ≡ drop (at + h .bytes) s =
-        drop-drop (headLength (y .c)) at s ∙ ap (λ (i : ℕ). drop (at + i) s) (sym (own .0)) in
-        subst (λ (b : List ℕ). Tally (replicate k (loops + o) ++ y .ks) b (y .i) (y .j)) q
-        (subst₂ (λ (i u : ℕ). Tally (replicate i (loops + u) ++ y .ks) (drop (headLength (y .c)) (drop at s)) (y .i) (y .j)) p z (y .tally))
+    -- ---- one that is no loop
+    module _ (b : getD s at 0 ≢ 6) where
+      abbrev x : Flat depth left (drop at s) (w .z) (w .n) (w .m)
+      x = flat l (λ e. b (sym first ∙ e)) (w .pass)
 
-    abbrev After : (around : List ℕ) (left loops most : ℕ) → Type 0
-    After a k o b = Left s a (at + h .bytes) k o b (count + 1)
+      its : HeadOf (x .c) h
+      its = f (x .c) (ap commandOf (sym first) ∙ x .byte)
 
-    -- one without parts: the next statement behind it
-    pub leaf-done : h .parts ≡ 0 → After around (left - 1) (getD around (left - 1) 0) most
-    leaf-done e =
-        let z = leaf-repeats (y .c) (sym (own .1) ∙ e) in
-        let x : Tally (y .ks) (drop (at + h .bytes) s) (y .i) (y .j) = left-over 0 e 0 z in
-        record {
-          all = w .all;
-          deepest = w .deepest;
-          whole = w .whole;
-          ls = y .ks;
-          n = y .i;
-          m = y .j;
-          tally = x;
-          kept = popped (y .ks) (y .is) (y .behind);
-          counted = omega (arith, w .counted, y .count);
-          deep = omega (arith, w .deep, y .deep, y .least, z);
-          long = w .long;
-          few = w .few;
-          low = w .low;
-          short = w .short;
-        }
-      where
-        popped : (ks : List ℕ) → left ≡ suc (length ks) → Behind around most ks → Kept around (left - 1) (getD around (left - 1) 0) most ks
-        popped [] i b = omega arith
-        popped (k ∷ ks) i b =
-            let q : left - 1 ≡ suc (length ks) = omega arith in
-            (q, ap (λ (o : ℕ). getD around o 0) q ∙ b .0, b .1, b .2)
-
-    -- with two: the first of them, and the second before those behind
-    pub two-room : h .parts ≡ 2 → left < maxDepth
-    two-room e =
-        let z = two-repeats (y .c) (sym (own .1) ∙ e) in
-        omega (arith, held (left-over 2 e 0 z), y .is)
-
-    pub two-done : h .parts ≡ 2 → After (set around left loops) (left + 1) loops most
-    two-done e =
-        let z = two-repeats (y .c) (sym (own .1) ∙ e) in
-        let v : loops + 0 ≡ loops = omega arith in
-        let x : Tally (loops ∷ loops ∷ y .ks) (drop (at + h .bytes) s) (y .i) (y .j) =
-        subst (λ (o : ℕ). Tally (o ∷ o ∷ y .ks) (drop (at + h .bytes) s) (y .i) (y .j)) v (left-over 2 e 0 z) in
-        let put : getD (set around left loops) (suc (length (y .ks))) 0 ≡ loops =
-        ap (λ (o : ℕ). getD (set around left loops) o 0) (sym (y .is)) ∙ getD-set-same around left loops 0 (omega (arith, two-room e, w .long)) in
-        record {
-          all = w .all;
-          deepest = w .deepest;
-          whole = w .whole;
-          ls = loops ∷ loops ∷ y .ks;
-          n = y .i;
-          m = y .j;
-          tally = x;
-          kept = (omega (arith, y .is), refl, y .least, (put, y .least, still around most left loops (y .ks) (omega (arith, y .is)) (y .behind)));
-          counted = omega (arith, w .counted, y .count);
-          deep = omega (arith, w .deep, y .deep, y .least, z);
-          long = length-set around left loops ∙ w .long;
-          few = w .few;
-          low = w .low;
-          short = w .short;
-        }
-
-    -- with one: its part, with one loop more around it if it is a loop
-    module _ (e : h .parts ≢ 0) (g : h .parts ≢ 2) where
-      single : h .parts ≡ 1
-      single = omega (arith, e, g, own .1, at-most-two (y .c))
-
-      part-done : (o b : ℕ) → repeats (y .c) ≡ o → b ≡ max most (loops + o) → After around left (loops + o) b
-      part-done o b z v =
+      flat-done : (k : ℕ) → partCount (x .c) + (left - 1) ≡ k → Left s depth (at + h .bytes) k (count + 1) loops
+      flat-done k e =
+          let q : drop (headLength (x .c)) (drop at s) ≡ drop (at + h .bytes) s =
+          drop-drop (headLength (x .c)) at s ∙ ap (λ (i : ℕ). drop (at + i) s) (sym (its .0)) in
           record {
-            all = w .all;
-            deepest = w .deepest;
             whole = w .whole;
-            ls = (loops + o) ∷ y .ks;
-            n = y .i;
-            m = y .j;
-            tally = left-over 1 single o z;
-            kept = (y .is, refl, omega (arith, v), more around most b (y .ks) (omega (arith, v)) (y .behind));
-            counted = omega (arith, w .counted, y .count);
-            deep = omega (arith, w .deep, y .deep, z, v);
-            long = w .long;
+            z = x .i;
+            n = x .j;
+            m = w .m;
+            pass = subst₂ (λ (i : ℕ) (o : List ℕ). Pass depth i o (x .i) (x .j) (w .m)) e q (x .pass);
+            ended = omega (arith, w .ended, x .ended, its .0);
+            counted = omega (arith, w .counted, x .counted);
+            deep = w .deep;
+            fits = w .fits;
             few = w .few;
             low = w .low;
-            short = w .short;
           }
 
-      one-loop : getD s at 0 ≡ 6 → repeats (y .c) ≡ 1
-      one-loop b = ap repeats (command-at (getD s at 0) (y .c) Command.loop command b)
+    no-loop : h .parts ≢ 1 → getD s at 0 ≢ 6
+    no-loop z e = z (own .1 ∙ ap partCount (command-at (getD s at 0) (y .c) Command.loop command e))
 
-      pub loop-low : getD s at 0 ≡ 6 → loops < maxDepth
-      loop-low b = omega (arith, w .low, w .deep, y .deep, one-loop b)
+    pub leaf-done : h .parts ≡ 0 → Left s depth (at + h .bytes) (left - 1) (count + 1) loops
+    leaf-done z = let b = no-loop (λ e. absurd (omega (arith, z, e))) in flat-done b (left - 1) (omega (arith, its b .1, z))
 
-      pub loop-done : getD s at 0 ≡ 6 → {b : ℕ} → b ≡ max most (loops + 1) → After around left (loops + 1) b
-      loop-done b v = part-done 1 _ (one-loop b) v
+    pub two-done : h .parts ≡ 2 → Left s depth (at + h .bytes) (left + 1) (count + 1) loops
+    two-done z = let b = no-loop (λ e. absurd (omega (arith, z, e))) in flat-done b (left + 1) (omega (arith, its b .1, z, l))
 
-      pub other-done : getD s at 0 ≢ 6 → After around left loops most
-      other-done b =
-          let z = other (y .c) (sym (own .1) ∙ single) (λ q. b (byte-is (getD s at 0) (y .c) command ∙ q)) in
-          let v : loops + 0 ≡ loops = omega arith in
-          subst (λ (o : ℕ). After around left o most) v (part-done 0 most z (omega (arith, y .least)))
+    pub one-done : h .parts ≢ 0 → h .parts ≢ 2 → getD s at 0 ≢ 6 → Left s depth (at + h .bytes) left (count + 1) loops
+    one-done z z′ b = flat-done b left (omega (arith, its b .1, z, z′, l, at-most-two (x b .c)))
+
+    -- ---- a loop
+    module _ (b : getD s at 0 ≡ 6) where
+      abbrev v : Loop depth left (drop at s) (w .z) (w .n) (w .m)
+      v = looped l (first ∙ b) (w .pass)
+
+      one : h .bytes ≡ 1
+      one = own .0 ∙ ap headLength (command-at (getD s at 0) (y .c) Command.loop command b)
+
+      pub levels : 0 < depth
+      levels = omega (arith, v .less)
+
+      same-bytes : rest 1 (drop at s) ≡ rest (at + h .bytes) s
+      same-bytes = rest-is 1 (drop at s) ∙ drop-drop 1 at s ∙ ap (λ (i : ℕ). drop (at + i) s) (sym one) ∙ sym (rest-is (at + h .bytes) s)
+
+      lies-there : Lies (v .t) (v .d) (v .base) (v .a) (rest (at + h .bytes) s) (v .q)
+      lies-there = subst (λ (o : List ℕ). Lies (v .t) (v .d) (v .base) (v .a) o (v .q)) same-bytes (v .lies)
+
+      pub part : Countable (depth - 1) (rest (at + h .bytes) s)
+      part =
+          record {
+            t = v .t;
+            d = v .d;
+            base = v .base;
+            a = v .a;
+            p = v .q;
+            lies = lies-there;
+            levels = omega (arith, v .less);
+            low = omega (arith, w .whole .low);
+            short = rw (rest-is (at + h .bytes) s) (omega (arith, length-drop (at + h .bytes) s, w .whole .short));
+          }
+
+      -- with what the code found of its part
+      module _ {r : Tally} (g : Tallied (rest (at + h .bytes) s) r) where
+        k : TallyOf (v .q) r
+        k = g (v .t) (v .d) (v .base) (v .a) (v .q) lies-there
+
+        pub part-inside : at + h .bytes + r .bytes ≤ length s
+        part-inside = omega (arith, w .ended, v .ended, one, k .bytes, w .fits)
+
+        pub part-few : count + 1 + r .commands ≤ maxBytes
+        part-few = omega (arith, w .counted, v .counted, k .count, w .few)
+
+        pub part-low : r .loops < maxDepth
+        part-low = omega (arith, w .deep, v .deep, k .loops, w .low)
+
+        pub loop-done : {o : ℕ} → o ≡ max loops (1 + r .loops) → Left s depth (at + h .bytes + r .bytes) (left - 1) (count + 1 + r .commands) o
+        loop-done e =
+            let q : drop (1 + size (v .q)) (drop at s) ≡ drop (at + h .bytes + r .bytes) s =
+            drop-drop (1 + size (v .q)) at s ∙ ap (λ (i : ℕ). drop i s) (let u : at + (1 + size (v .q)) ≡ at + h .bytes + r .bytes = omega (arith, one, k .bytes) in u) in
+            record {
+              whole = w .whole;
+              z = v .i;
+              n = v .j;
+              m = v .l;
+              pass = subst (λ (o : List ℕ). Pass depth (left - 1) o (v .i) (v .j) (v .l)) q (v .pass);
+              ended = omega (arith, w .ended, v .ended, one, k .bytes);
+              counted = omega (arith, w .counted, v .counted, k .count);
+              deep = omega (arith, w .deep, v .deep, k .loops, e);
+              fits = w .fits;
+              few = w .few;
+              low = w .low;
+            }
 
 -- ---- no statement is left
-none-left : (around : List ℕ) (left loops most : ℕ) {bs ls : List ℕ} {n m : ℕ} → left ≤ 0 → Kept around left loops most ls → Tally ls bs n m → (n ≡ 0) × (m ≡ 0)
-none-left around left loops most l k Tally.done = (refl, refl)
-none-left around left loops most l k (Tally.next c e t r x) = absurd (omega (arith, l, k .0))
+none-left : {depth left : ℕ} {bs : List ℕ} {z n m : ℕ} → left ≤ 0 → Pass depth left bs z n m → (z ≡ 0) × (n ≡ 0) × (m ≡ 0)
+none-left l Pass.done = (refl, refl, refl)
+none-left l (Pass.next c e r t x) = absurd (omega arith)
+none-left l (Pass.into e t o d base a q i h x) = absurd (omega arith)
 
-pub ends : {s around : List ℕ} {at left loops most count signals : ℕ} → Left s around at left loops most count → left ≤ 0
-    → {r : Extent} → r .commands ≡ count → r .loops ≡ most → r .signals ≡ signals → Counted s signals r
-ends {around = around} {left = left} {loops = loops} {most = most} w l e f g t p lies z =
-    let v = none-left around left loops most l (w .kept) (w .tally) in
-    let q = same-tally (w .whole) (lies-tallied t 0 0 _ p lies) in
+pub ends : {s : List ℕ} {depth at left count loops : ℕ} → Left s depth at left count loops → left ≤ 0
+    → {r : Tally} → r .bytes ≡ at → r .commands ≡ count → r .loops ≡ loops → Tallied s r
+ends {s} w l e f g t d base a p lies =
+    let v = none-left l (w .pass) in
+    let o = w .whole in
+    let q = same (o .t) (o .d) (o .base) (o .a) s (o .p) (o .lies) t d base a p lies in
     record {
-      count = omega (arith, e, w .counted, v .0, q .0);
-      loops = omega (arith, f, w .deep, v .1, q .1);
-      signals = g ∙ z;
+      bytes = omega (arith, e, w .ended, v .0, q .bytes);
+      count = omega (arith, f, w .counted, v .1, q .count);
+      loops = omega (arith, g, w .deep, v .2, q .loops);
     }
+
+-- the extent, by the count and the signals
+pub extent : (s : List ℕ) {x : ℕ} {n : Tally} {r : Extent} → Tallied s n → r .commands ≡ n .commands → r .loops ≡ n .loops → r .signals ≡ x → HasWith s x r
+extent s c e f g t d base a p lies z =
+    let k = c t d base a p lies in
+    record { count = e ∙ k .count; loops = f ∙ k .loops; signals = g ∙ z }

@@ -1,3 +1,3 @@
 pub mod Sizes
-pub mod Tallies
+pub mod Passing
 pub mod Counting

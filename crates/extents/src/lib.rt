@@ -1,8 +1,9 @@
 // The extent of an accepted sequence, of which its ceiling is made (02, item 6): how many commands it has, and how many loops and signals
-// stand around one. Command by command from the left, without a walk into parts.
+// stand around one. Commands are taken from the left in their order; only the part of a loop is gone into.
 ghost use mathlib.Core.Path.{_≡_};
 ghost use Prim.Native.Nat.{max};
-ghost use Rattle.extents.specs.Extents.{HeadAt, Whole, Counted};
+ghost use Rattle.limits.specs.Limits.{maxDepth};
+ghost use Rattle.extents.specs.Extents.{HeadAt, Countable, Tallied, HasWith};
 
 // Of a statement: its commands, and the greatest numbers of loops and of signals around one.
 pub struct Extent {
@@ -10,9 +11,6 @@ pub struct Extent {
     pub loops: u32,
     pub signals: u32,
 }
-
-// No more statements than the levels of a sequence are ever left to come.
-const LEVELS: usize = limits::MAX_DEPTH as usize;
 
 // A command: its own bytes and its parts, counted.
 pub struct Head {
@@ -51,24 +49,29 @@ fn opens(b: u8) -> Head
     Head { bytes: 2, parts: 1 }
 }
 
-fn greater(x: u8, y: u8) -> u8
+fn greater(x: u32, y: u32) -> u32
     ensures { λ r. ⌜ r ≡ max x y ⌝ }
 {
     if x < y { y } else { x }
 }
 
-// The extent of the sequence s, in which so many signals stand around a command. `left` statements are still to come: `loops` loops stand
-// around the first, which begins at s[at], and those around the others are in `around`, the next one's last.
-pub fn of_sequence(s: &[u8], signals: u32) -> Extent
-    requires { ⌜ Whole (now s) ⌝ }
-    ensures { λ r. ⌜ Counted (now (s .entry)) signals r ⌝ }
+// Of a statement: its bytes, its commands, and the greatest number of loops around one.
+pub struct Tally {
+    pub bytes: usize,
+    pub commands: u32,
+    pub loops: u32,
+}
+
+// Those of the statement at the front of s. `left` statements are still to come, one behind the other from s[at] on; the part of a loop is
+// counted by a call of its own, with one level less.
+fn of_statement(s: &[u8], depth: u8) -> Tally
+    requires { ⌜ Countable depth (now s) ⌝ }
+    ensures { λ r. ⌜ Tallied (now (s .entry)) r ⌝ }
 {
-    let mut around: [u8; LEVELS] = [0; LEVELS];
     let mut at: usize = 0;
     let mut left: usize = 1;
-    let mut loops: u8 = 0;
-    let mut most: u8 = 0;
     let mut commands: u32 = 0;
+    let mut loops: u32 = 0;
     while 0 < left {
         let b = s[at];
         let h = opens(b);
@@ -76,18 +79,32 @@ pub fn of_sequence(s: &[u8], signals: u32) -> Extent
         at = at + h.bytes;
         if h.parts == 0 {
             left = left - 1;
-            loops = around[left];
         } else if h.parts == 2 {
-            around[left] = loops;
             left = left + 1;
         } else if b == limits::LOOP {
-            loops = loops + 1;
-            most = greater(most, loops);
+            let body = of_statement(&s[at..], depth - 1);
+            at = at + body.bytes;
+            commands = commands + body.commands;
+            loops = greater(loops, 1 + body.loops);
+            left = left - 1;
         }
     }
-    Extent {
+    Tally {
+        bytes: at,
         commands: commands,
-        loops: most as u32,
+        loops: loops,
+    }
+}
+
+// The extent of the sequence s, in which so many signals stand around a command.
+pub fn of_sequence(s: &[u8], signals: u32) -> Extent
+    requires { ⌜ Countable maxDepth (now s) ⌝ }
+    ensures { λ r. ⌜ HasWith (now (s .entry)) signals r ⌝ }
+{
+    let n = of_statement(s, limits::MAX_DEPTH);
+    Extent {
+        commands: n.commands,
+        loops: n.loops,
         signals: signals,
     }
 }
