@@ -8,13 +8,13 @@ use crate::vector::malformed;
 use crate::vector::spelled;
 use answers::ANSWER_LENGTH;
 use states::STATE_LENGTH;
-use vectors_digits::NONE;
+use vectors_notation::NONE;
+use vectors_notation::ROOM;
+use vectors_notation::append;
 use vectors_notation::print;
-use vectors_room::ROOM;
-use vectors_room::append;
-use vectors_room::repeat;
-use vectors_room::zeros;
-use vectors_words::word;
+use vectors_notation::repeat;
+use vectors_notation::word;
+use vectors_notation::zeros;
 
 // The read-back set that the line names, for the calls after it.
 fn declared(line: &[u8], from: usize, vector: Vector) -> Vector {

@@ -1,14 +1,14 @@
 // Machines that tick on given inputs, and the lines of their calls.
 ghost use mathlib.Core.Path.{_≡_};
 ghost use mathlib.Core.Logic.{_⊎_};
-ghost use Rattle.vectors_room.specs.Room.{holds, zeroed, malformedCount};
+ghost use Rattle.vectors_notation.specs.Room.{holds, zeroed, malformedCount};
 use crate::vector::Vector;
 use crate::vector::malformed;
-use vectors_digits::NONE;
+use vectors_notation::Bytes;
+use vectors_notation::NONE;
+use vectors_notation::ROOM;
 use vectors_notation::print;
-use vectors_room::Bytes;
-use vectors_room::ROOM;
-use vectors_words::word;
+use vectors_notation::word;
 
 // What stands in an answer record before a call.
 const UNWRITTEN: u8 = 0xA5;

@@ -1,9 +1,9 @@
 // What the lines of a vector gave so far.
 ghost use mathlib.Core.Path.{_≡_};
-ghost use Rattle.vectors_room.specs.Room.{holds, zeroed, malformedCount};
-use vectors_room::Bytes;
-use vectors_room::MALFORMED;
-use vectors_room::zeros;
+ghost use Rattle.vectors_notation.specs.Room.{holds, zeroed, malformedCount};
+use vectors_notation::Bytes;
+use vectors_notation::MALFORMED;
+use vectors_notation::zeros;
 
 // The sequence, and the read-back set of the calls that follow.
 pub struct Vector {
