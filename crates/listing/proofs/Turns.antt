@@ -7,11 +7,11 @@ use mathlib.Core.List.{List, [], _∷_}
 use Rattle.runs.specs.Text.{ending}
 use Rattle.runs.specs.File.{fileOf, first}
 use Rattle.runs.specs.Stages as Listing
-use Rattle.listing_stages.specs.declared.Stage.{Stage}
-use Rattle.listing_stages.specs.declared.Run.{Run}
-use Rattle.listing_stages.specs.Answers.{stageBy, stageIn}
-use Rattle.listing_openings.specs.declared.Opened.{Opened}
-use Rattle.listing_openings.specs.Opened.{fileBy}
+use Rattle.listing.specs.declared.Stage.{Stage}
+use Rattle.listing.specs.declared.Run.{Run}
+use Rattle.listing.specs.Stages.{stageBy, stageIn}
+use Rattle.listing.specs.declared.Opened.{Opened}
+use Rattle.listing.specs.Opened.{fileBy}
 
 pub no-turn : (s : List ℕ) (b : ℕ) (state : List ℕ) (j : ℕ) (es : List ℕ) → first es ≡ none
     → Listing.turn ending Listing.finished ≡ Listing.turnOf (Listing.running s b state j es)

@@ -1,21 +1,116 @@
-// What the run program does, as a library over slices (01, 'Bays to run'): the listing of a file, piece by piece.
+// What the run program does, as a library over slices (01, 'Bays to run'): what the file of a run comes to, and its listing piece by
+// piece.
 ghost use Prim.Native.Nat.{ℕ};
+ghost use mathlib.Core.Path.{_≡_};
 ghost use mathlib.Core.List.{List};
+ghost use Rattle.runs.specs.Stages.{opening, isFinished, running, finished, opened, turnOf, turn as Stages·turn};
+ghost use Rattle.listing.specs.Stages.{stageIn, stageAfter};
+ghost use Rattle.runs.specs.File.{fileOf, inputsIn, first, sequenceIn, readBackIn};
+ghost use Rattle.listing.specs.Opened.{fileBy};
+ghost use mathlib.Core.Option.{some};
+ghost use lib.ListN.{drop};
+ghost use Rattle.listing.specs.Pieces.{turnAt, Prints};
 ghost use Rattle.demands.specs.Demands.{cleared};
 ghost use Rattle.runs.specs.Text.{heading as Text·heading};
-ghost use Rattle.runs.specs.File.{fileOf, sequenceIn, readBackIn, inputsIn};
-ghost use Rattle.runs.specs.Stages.{running, finished, opened, turnOf};
-ghost use Rattle.runs.specs.Stages.{turn as Stages·turn};
 ghost use Rattle.lines.specs.Shown.{Displays};
-ghost use Rattle.listing_stages.specs.Answers.{stageIn};
-ghost use Rattle.listing_pieces.specs.Answers.{turnAt, Prints};
+use answers::ANSWER_LENGTH;
 use files::Input;
 use lines::Line;
-use listing_openings::Opened;
-use listing_pieces::Piece;
-use listing_stages::Run;
-use listing_stages::Stage;
 use states::STATE_LENGTH;
+
+// Before the first line, before the instant that so many inputs precede, before `end`, or after it.
+pub enum Stage {
+    Opening,
+    Running(usize),
+    Closing,
+    Finished,
+}
+
+// A run under way: its stage, and the machine's state record.
+pub struct Run {
+    pub stage: Stage,
+    pub state: [u8; STATE_LENGTH],
+}
+
+// A run before its first line.
+pub fn start() -> Run
+    ensures { λ r. ⌜ ((file : List ℕ) → stageIn file r ≡ opening file) ⌝ }
+{
+    Run {
+        stage: Stage::Opening,
+        state: [0; STATE_LENGTH],
+    }
+}
+
+// Whether a run is after its last piece.
+pub fn is_finished(run: Run) -> bool
+    ensures { λ r. ⌜ ((file : List ℕ) → r ≡ isFinished (stageIn file run)) ⌝ }
+{
+    let stage = run.stage;
+    match stage {
+        Stage::Opening => false,
+        Stage::Running(_) => false,
+        Stage::Closing => false,
+        Stage::Finished => true,
+    }
+}
+
+// The stage after an instant: a machine that is over ends the run, or else i inputs precede the next instant.
+pub fn following(phase: u8, i: usize) -> Stage
+    ensures { λ r. ⌜ r ≡ stageAfter phase i ⌝ }
+{
+    if phase == states::OVER {
+        Stage::Closing
+    } else {
+        Stage::Running(i)
+    }
+}
+
+pub enum Opened {
+    Cut,
+    Refused(u8),
+    Runs,
+}
+
+pub fn open(file: &[u8]) -> Opened
+    ensures { λ r. ⌜ fileBy (now (file .entry)) r ≡ fileOf (now (file .entry)) ⌝ }
+{
+    if !files::is_whole(file) {
+        return Opened::Cut;
+    }
+    let read_back = files::read_back(file);
+    let number = intake::intake_check(files::sequence(file), read_back);
+    if number == 0 {
+        return Opened::Runs;
+    }
+    Opened::Refused(number)
+}
+
+// A piece of a listing, and the run after it.
+pub struct Piece {
+    pub line: Line,
+    pub run: Run,
+}
+
+// The instant on the input e: a tick, and its line.
+pub fn instant(file: &[u8], i: usize, e: u32, state: [u8; STATE_LENGTH]) -> Piece
+    requires { ⌜ first (drop i (inputsIn (now file))) ≡ some e ⌝ }
+    ensures { λ r. ⌜ Prints (now (file .entry)) (turnAt (now (file .entry)) state i) r ⌝ }
+{
+    let mut after = state;
+    let mut answer = [0u8; ANSWER_LENGTH];
+    let read_back = files::read_back(file);
+    intake::intake_tick(files::sequence(file), &mut after, e, read_back, &mut answer);
+    let line = lines_instants::line_behind(i, &after, &answer);
+    let run = Run {
+        stage: following(states::phase(&after), i + 1),
+        state: after,
+    };
+    Piece {
+        line: line,
+        run: run,
+    }
+}
 
 // The next piece of the listing of a file; after the last one all are empty.
 pub fn turn(file: &[u8], run: Run) -> Piece
@@ -23,7 +118,7 @@ pub fn turn(file: &[u8], run: Run) -> Piece
 {
     let stage = run.stage;
     match stage {
-        Stage::Opening => open(file),
+        Stage::Opening => opening(file),
         Stage::Running(i) => {
             let state = run.state;
             step(file, i, state)
@@ -48,10 +143,10 @@ fn last(line: Line) -> Piece
 }
 
 // The first piece: the heading, or why there is no run.
-fn open(file: &[u8]) -> Piece
+fn opening(file: &[u8]) -> Piece
     ensures { λ r. ⌜ Prints (now (file .entry)) (opened (fileOf (now (file .entry)))) r ⌝ }
 {
-    match listing_openings::open(file) {
+    match open(file) {
         Opened::Cut => last(lines::cut()),
         Opened::Refused(number) => last(lines::refusal(number)),
         Opened::Runs => heading(),
@@ -79,6 +174,6 @@ fn step(file: &[u8], i: usize, state: [u8; STATE_LENGTH]) -> Piece
 {
     match files::input_at(file, i) {
         Input::Nothing => last(lines::ending()),
-        Input::Word(e) => listing_pieces::instant(file, i, e, state),
+        Input::Word(e) => instant(file, i, e, state),
     }
 }

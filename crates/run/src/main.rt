@@ -3,7 +3,7 @@
 // The listing is the library's, piece by piece; this program only reads, writes and counts its turns.
 use libc::STDIN_FILENO;
 use libc::STDOUT_FILENO;
-use listing_stages::Run;
+use listing::Run;
 
 // One byte more than a file may have, so that a longer one is seen.
 const ROOM: usize = 65537;
@@ -22,9 +22,9 @@ fn print_piece(file: &[u8], run: Run) -> Run {
 }
 
 fn print_listing(file: &[u8]) {
-    let mut run = listing_stages::start();
+    let mut run = listing::start();
     let mut turns = TURNS;
-    while turns > 0 && !listing_stages::is_finished(run) {
+    while turns > 0 && !listing::is_finished(run) {
         run = print_piece(file, run);
         turns -= 1;
     }

@@ -2,7 +2,7 @@ use mathlib.Core.Path.{refl}
 use Rattle.demands.specs.Demands.{cleared}
 use Rattle.runs.specs.File.{sequenceIn, readBackIn, inputsIn}
 use Rattle.runs.specs.Stages as Listing
-use Rattle.listing_pieces.proofs.Pieces.{printed}
+use Rattle.listing.proofs.Pieces.{printed}
 use borrow.Author.Needs.{needs}
 use Rattle.listing.proofs.heading.Statement.{statement}
 use Rattle.listing.proofs.heading.Tie as tie

@@ -1,6 +1,6 @@
 use mathlib.Core.Path.{refl}
 use Rattle.runs.specs.Stages as Listing
-use Rattle.listing_pieces.proofs.Pieces.{printed}
+use Rattle.listing.proofs.Pieces.{printed}
 use Rattle.listing.proofs.last.Statement.{statement}
 use Rattle.listing.proofs.last.Tie as tie
 

@@ -1,72 +1,58 @@
-use mathlib.Core.Path.{subst}
-use Rattle.runs.specs.Text.{inputCut, refusal}
-use Rattle.runs.specs.Stages as Listing
-use Rattle.listing_pieces.specs.Answers.{Prints}
-use Rattle.listing_openings.specs.declared.Opened.the-variants as opens
-use Rattle.listing.proofs.Turns.{opened-by}
+use borrow.Author.Tests.{not-true, not-false}
+use Rattle.runs.specs.File.{whole, sequenceIn, readBackIn}
+use Prim.Native.Nat.{ℕ}
+use mathlib.Core.Bool.{true}
+use mathlib.Core.List.{List}
+use mathlib.Core.Path.{_≡_, sym, ap₂, _∙_}
+use Rattle.sequence.specs.Check.{checkOf}
+use Rattle.runs.proofs.Files.{file-cut, file-runs, file-refused}
 use borrow.Author.Needs.{needs}
 use Rattle.listing.proofs.open.Statement.{statement}
 use Rattle.listing.proofs.open.Tie as tie
 
-open-requires : tie.Need-open-requires
-open-requires c κs = search needs
-
-enum-told : tie.Need-enum-told
-enum-told c = search needs
-
-cut-requires : tie.Need-cut-requires
-cut-requires c κs = search needs
-
-last-requires : tie.Need-last-requires
-last-requires c κs = search needs
-
-enum-known-number : tie.Need-enum-known-number
-enum-known-number c = search needs
-
-refusal-requires : tie.Need-refusal-requires
-refusal-requires c κs = search needs
-
-last-requires-2 : tie.Need-last-requires-2
-last-requires-2 c κs = search needs
-
-enum-told-2 : tie.Need-enum-told-2
-enum-told-2 c = search needs
-
-heading-requires : tie.Need-heading-requires
-heading-requires c κs = search needs
+is-whole-requires : tie.Need-is-whole-requires
+is-whole-requires c κs = search needs
 
 returns : tie.Need-returns
-returns c =
-    let o = c .before .before .before .before in
-    let f = o .before .before .args .file .now in
-    subst (λ (t : Listing.Turn). Prints f t (c .last .result)) (opened-by f (o .«open» .result) opens.Cut (o .«open» .ensures) (c .before .before .enum-told .given .1)) (c .last .ensures f inputCut (c .before .cut .ensures))
+returns c = file-cut (c .before .before .before .args .file .now) (sym (c .before .is-whole .ensures) ∙ not-true (c .before .is-whole .result) (c .if1 .taken))
+
+read-back-requires : tie.Need-read-back-requires
+read-back-requires c κs = search needs
+
+sequence-requires : tie.Need-sequence-requires
+sequence-requires c κs = search needs
+
+intake-check-requires : tie.Need-intake-check-requires
+intake-check-requires c κs = search needs
+
+abbrev bytes : tie.After-intake-check → List ℕ
+bytes c = c .before .before .before .before .before .before .args .file .now
+
+-- past the test for a whole file: the check's number for the sequence with the read-back set
+is-whole : (c : tie.After-intake-check) → whole (bytes c) ≡ true
+is-whole c =
+    let w = c .before .before .before .before in
+    sym (w .is-whole .ensures) ∙ not-false (w .is-whole .result) (c .before .before .before .if1 .left)
+
+number : (c : tie.After-intake-check) → c .intake-check .result ≡ checkOf (sequenceIn (bytes c)) (readBackIn (bytes c))
+number c = c .intake-check .ensures ∙ ap₂ checkOf (c .before .sequence .ensures) (c .before .before .read-back .ensures)
 
 returns-2 : tie.Need-returns-2
 returns-2 c =
-    let o = c .before .before .before .before .before in
-    let f = o .before .before .args .file .now in
-    let n = c .before .before .before .number .given in
-    subst (λ (t : Listing.Turn). Prints f t (c .last2 .result)) (opened-by f (o .«open» .result) (opens.Refused (n .0 .0)) (o .«open» .ensures) (n .1)) (c .last2 .ensures f (refusal (n .0 .0)) (c .before .refusal .ensures))
+    file-runs (bytes (c .before)) (c .before .intake-check .result) (is-whole (c .before)) (number (c .before)) (c .if2 .taken)
 
 returns-3 : tie.Need-returns-3
 returns-3 c =
-    let o = c .before .before .before in
-    let f = o .before .before .args .file .now in
-    subst (λ (t : Listing.Turn). Prints f t (c .heading .result)) (opened-by f (o .«open» .result) opens.Runs (o .«open» .ensures) (c .before .enum-told2 .given .1)) (c .heading .ensures f)
+    file-refused (bytes (c .before)) (c .before .intake-check .result) (is-whole (c .before)) (number (c .before)) (c .if2 .left)
 
 pub open-spec : {M : Type 1} → statement M
 open-spec =
     tie.close
     (tie.spec
-    open-requires
-    enum-told
-    cut-requires
-    last-requires
-    enum-known-number
-    refusal-requires
-    last-requires-2
-    enum-told-2
-    heading-requires
+    is-whole-requires
     returns
+    read-back-requires
+    sequence-requires
+    intake-check-requires
     returns-2
     returns-3)

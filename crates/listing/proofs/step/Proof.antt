@@ -5,7 +5,7 @@ use Rattle.runs.specs.Text.{ending}
 use Rattle.runs.specs.File.{sequenceIn, readBackIn, inputsIn}
 use Rattle.runs.specs.Stages as Listing
 use Rattle.files.specs.Answers.{inputBy}
-use Rattle.listing_pieces.specs.Answers.{Prints}
+use Rattle.listing.specs.Pieces.{Prints}
 use Rattle.listing.proofs.Turns.{no-turn}
 use borrow.Author.Needs.{needs}
 use Rattle.listing.proofs.step.Statement.{statement}

@@ -2,8 +2,8 @@ use mathlib.Core.Path.{_∙_, subst}
 use mathlib.Core.List.{[]}
 use Rattle.runs.specs.Text.{ending}
 use Rattle.runs.specs.Stages as Listing
-use Rattle.listing_stages.specs.declared.Stage.the-variants as stages
-use Rattle.listing_pieces.specs.Answers.{Prints}
+use Rattle.listing.specs.declared.Stage.the-variants as stages
+use Rattle.listing.specs.Pieces.{Prints}
 use Rattle.listing.proofs.Turns.{turn-by, turn-opening, turn-closing, turn-finished}
 use borrow.Author.Needs.{needs}
 use Rattle.listing.proofs.turn.Statement.{statement}
@@ -12,8 +12,8 @@ use Rattle.listing.proofs.turn.Tie as tie
 enum-told : tie.Need-enum-told
 enum-told c = search needs
 
-open-requires : tie.Need-open-requires
-open-requires c κs = search needs
+opening-requires : tie.Need-opening-requires
+opening-requires c κs = search needs
 
 enum-known-stage : tie.Need-enum-known-stage
 enum-known-stage c = search needs
@@ -43,7 +43,7 @@ returns : tie.Need-returns
 returns c =
     let a = c .before .before .before .before .args in
     let f = a .file .now in
-    subst (λ (t : Listing.Turn). Prints f t (c .«open» .result)) (turn-opening f ∙ turn-by f (a .run) stages.Opening (c .before .enum-told .given .1)) (c .«open» .ensures)
+    subst (λ (t : Listing.Turn). Prints f t (c .opening .result)) (turn-opening f ∙ turn-by f (a .run) stages.Opening (c .before .enum-told .given .1)) (c .opening .ensures)
 
 returns-2 : tie.Need-returns-2
 returns-2 c =
@@ -68,7 +68,7 @@ turn-spec =
     tie.close
     (tie.spec
     enum-told
-    open-requires
+    opening-requires
     enum-known-stage
     step-requires
     enum-told-2

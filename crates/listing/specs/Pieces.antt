@@ -4,10 +4,10 @@ use mathlib.Core.Path.{_≡_}
 use mathlib.Core.List.{List}
 use lib.ListN.{length, drop}
 use Rattle.runs.specs.Stages as Listing
-use Rattle.listing_stages.specs.declared.Stage.the-variants as stages
-use Rattle.listing_stages.specs.Answers.{stageBy, stageIn}
+use Rattle.listing.specs.declared.Stage.the-variants as stages
+use Rattle.listing.specs.Stages.{stageBy, stageIn}
 use Rattle.lines.specs.Shown.{lineLength}
-use Rattle.listing_pieces.specs.declared.Piece.{Piece}
+use Rattle.listing.specs.declared.Piece.{Piece}
 
 -- the turn of a run before the instant that i inputs precede
 abbrev pub turnAt : (file state : List ℕ) (i : ℕ) → Listing.Turn

@@ -2,8 +2,8 @@
 use Prim.Native.Nat.{ℕ}
 use mathlib.Core.List.{List}
 use Rattle.runs.specs.File.{File, cut, refused, runs, sequenceIn, readBackIn, inputsIn}
-use Rattle.listing_openings.specs.declared.Opened.{Opened}
-use Rattle.listing_openings.specs.declared.Opened.the-variants as opens
+use Rattle.listing.specs.declared.Opened.{Opened}
+use Rattle.listing.specs.declared.Opened.the-variants as opens
 
 abbrev pub fileBy : List ℕ → Opened → File
 fileBy file opens.Cut = cut

@@ -6,14 +6,14 @@ use Rattle.runs.specs.File.{sequenceIn, readBackIn}
 use Rattle.runs.specs.Listing.{ticked}
 use Rattle.runs.specs.Stages as Listing
 use Rattle.runs.proofs.Files.{input-within}
-use Rattle.listing_stages.specs.declared.Stage.{Stage}
-use Rattle.listing_stages.specs.Answers.{stageBy, stageAfter}
-use Rattle.listing_pieces.specs.declared.Piece.{Piece}
-use Rattle.listing_pieces.specs.Answers.{Prints}
-use Rattle.listing_pieces.proofs.Pieces.{printed, ticked-at, instant-turn}
+use Rattle.listing.specs.declared.Stage.{Stage}
+use Rattle.listing.specs.Stages.{stageBy, stageAfter}
+use Rattle.listing.specs.declared.Piece.{Piece}
+use Rattle.listing.specs.Pieces.{Prints}
+use Rattle.listing.proofs.Pieces.{printed, ticked-at, instant-turn}
 use borrow.Author.Needs.{needs}
-use Rattle.listing_pieces.proofs.instant.Statement.{statement}
-use Rattle.listing_pieces.proofs.instant.Tie as tie
+use Rattle.listing.proofs.instant.Statement.{statement}
+use Rattle.listing.proofs.instant.Tie as tie
 
 read-back-requires : tie.Need-read-back-requires
 read-back-requires c κs = search needs

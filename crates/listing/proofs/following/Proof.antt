@@ -1,7 +1,7 @@
 use mathlib.Core.Path.{refl}
 use borrow.Author.Tests.{eq-eqb, ne-eqb}
-use Rattle.listing_stages.proofs.following.Statement.{statement}
-use Rattle.listing_stages.proofs.following.Tie as tie
+use Rattle.listing.proofs.following.Statement.{statement}
+use Rattle.listing.proofs.following.Tie as tie
 
 returns : tie.Need-returns
 returns c = rw (eq-eqb (c .before .args .phase) 2 (c .if1 .taken)) refl

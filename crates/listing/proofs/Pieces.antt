@@ -13,11 +13,11 @@ use Rattle.runs.specs.File.{sequenceIn, readBackIn, inputsIn, first}
 use Rattle.runs.specs.Listing.{lineOf, entryRead, entryFrom, ticked, isOver}
 use Rattle.runs.specs.Stages as Listing
 use Rattle.runs.proofs.Files.{input-next}
-use Rattle.listing_stages.specs.declared.Stage.the-variants as stages
-use Rattle.listing_stages.specs.Answers.{stageBy, stageIn, stageAfter}
-use Rattle.listing_pieces.specs.declared.Piece.{Piece}
+use Rattle.listing.specs.declared.Stage.the-variants as stages
+use Rattle.listing.specs.Stages.{stageBy, stageIn, stageAfter}
+use Rattle.listing.specs.declared.Piece.{Piece}
 use Rattle.lines.specs.Shown.{Displays}
-use Rattle.listing_pieces.specs.Answers.{Prints}
+use Rattle.listing.specs.Pieces.{Prints}
 
 -- a line with the text, and a run at the next stage
 pub printed : {text : List ℕ} (file : List ℕ) (piece : Piece) (next : Listing.Stage) → Displays (piece .line) text → stageIn file (piece .run) ≡ next

@@ -6,9 +6,9 @@ use lib.ListN.{drop}
 use lib.Dec.{eqb}
 use Rattle.runs.specs.File.{sequenceIn, readBackIn, inputsIn}
 use Rattle.runs.specs.Stages as Listing
-use Rattle.listing_stages.specs.declared.Stage.{Stage}
-use Rattle.listing_stages.specs.declared.Stage.the-variants as stages
-use Rattle.listing_stages.specs.declared.Run.{Run}
+use Rattle.listing.specs.declared.Stage.{Stage}
+use Rattle.listing.specs.declared.Stage.the-variants as stages
+use Rattle.listing.specs.declared.Run.{Run}
 
 -- an instant's number is one more than the inputs before it
 abbrev pub stageBy : List ℕ → Stage → (state : List ℕ) → Listing.Stage

@@ -1,10 +1,10 @@
 use mathlib.Core.Path.{sym, ap}
 use Rattle.runs.specs.Stages.{isFinished}
-use Rattle.listing_stages.specs.declared.Stage.{Stage}
-use Rattle.listing_stages.specs.Answers.{stageBy}
+use Rattle.listing.specs.declared.Stage.{Stage}
+use Rattle.listing.specs.Stages.{stageBy}
 use borrow.Author.Needs.{needs}
-use Rattle.listing_stages.proofs.is_finished.Statement.{statement}
-use Rattle.listing_stages.proofs.is_finished.Tie as tie
+use Rattle.listing.proofs.is_finished.Statement.{statement}
+use Rattle.listing.proofs.is_finished.Tie as tie
 
 enum-told : tie.Need-enum-told
 enum-told c = search needs
