@@ -1,1 +1,5 @@
+pub mod Buffers
+pub mod Fields
 pub mod Lines
+pub mod Numerals
+pub mod Sets

@@ -4,7 +4,7 @@ use Prim.Native.Nat.{ℕ}
 use mathlib.Core.Path.{_≡_, ap, _∙_}
 use mathlib.Core.List.{List, _++_, append-nil}
 use lib.ListN.{length, drop, drop-of-length-le}
-use Rattle.lines_text.specs.Buffer.{Prepended}
+use Rattle.lines.specs.Buffer.{Prepended}
 use Rattle.lines.specs.declared.Line.{Line}
 use Rattle.lines.specs.Shown.{lineLength, Displays}
 

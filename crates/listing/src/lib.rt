@@ -101,7 +101,7 @@ pub fn instant(file: &[u8], i: usize, e: u32, state: [u8; STATE_LENGTH]) -> Piec
     let mut answer = [0u8; ANSWER_LENGTH];
     let read_back = files::read_back(file);
     intake::intake_tick(files::sequence(file), &mut after, e, read_back, &mut answer);
-    let line = lines_instants::line_behind(i, &after, &answer);
+    let line = lines::line_behind(i, &after, &answer);
     let run = Run {
         stage: following(states::phase(&after), i + 1),
         state: after,

@@ -18,7 +18,7 @@ fn decimal(number: u64) {
 
 // The line of an instant, behind the number of its reactions.
 pub fn instant(number: u64, state: &[u8], answer: &[u8]) {
-    let line = lines_instants::instant_line(number, state, answer);
+    let line = lines::instant_line(number, state, answer);
     let bytes = line.bytes;
     let from = line.from;
     text(b" ");

@@ -1,5 +1,5 @@
 use mathlib.Core.Path.{refl, _∙_}
-use Rattle.lines_text.proofs.Buffers.{before}
+use Rattle.lines.proofs.Buffers.{before}
 use Rattle.lines.proofs.Lines.{shown}
 use borrow.Author.Needs.{needs}
 use Rattle.lines.proofs.numbered.Statement.{statement}

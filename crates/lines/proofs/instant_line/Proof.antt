@@ -3,10 +3,10 @@ use Rattle.limits.specs.Limits.{wordLabels}
 use Rattle.sets.specs.Widths.{twoWords}
 use Rattle.sets.proofs.Words.{words-of}
 use Rattle.labels.specs.Labels.{labelSet}
-use Rattle.lines_instants.proofs.Fields.{Fields, shown-row}
+use Rattle.lines.proofs.Fields.{Fields, shown-row}
 use borrow.Author.Needs.{needs}
-use Rattle.lines_instants.proofs.instant_line.Statement.{statement}
-use Rattle.lines_instants.proofs.instant_line.Tie as tie
+use Rattle.lines.proofs.instant_line.Statement.{statement}
+use Rattle.lines.proofs.instant_line.Tie as tie
 
 labels-requires : tie.Need-labels-requires
 labels-requires c κs = search needs

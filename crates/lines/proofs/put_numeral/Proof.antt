@@ -7,10 +7,10 @@ use mathlib.Core.Logic.{⊎-elim}
 use mathlib.Core.Path.{_≡_, refl}
 use lib.ListN.{length, length-set}
 use Rattle.runs.specs.Text.{numeral}
-use Rattle.lines_text.proofs.Buffers.{Filling, begin, under}
-use Rattle.lines_text.proofs.Numerals.{measure-falls, numeral-room, numeral-again, numeral-end}
-use Rattle.lines_text.proofs.put_numeral.Statement.{statement}
-use Rattle.lines_text.proofs.put_numeral.Tie as tie
+use Rattle.lines.proofs.Buffers.{Filling, begin, under}
+use Rattle.lines.proofs.Numerals.{measure-falls, numeral-room, numeral-again, numeral-end}
+use Rattle.lines.proofs.put_numeral.Statement.{statement}
+use Rattle.lines.proofs.put_numeral.Tie as tie
 
 abbrev Inv-loop : tie.InvT-loop
 Inv-loop line₀ end base width x from₀ left₀ rest₀ line from left rest = (length line ≡ length line₀) × Filling line₀ end (numeral base width x) line from (numeral base left rest)

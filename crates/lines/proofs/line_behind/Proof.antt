@@ -1,6 +1,6 @@
 use borrow.Author.Needs.{needs}
-use Rattle.lines_instants.proofs.line_behind.Statement.{statement}
-use Rattle.lines_instants.proofs.line_behind.Tie as tie
+use Rattle.lines.proofs.line_behind.Statement.{statement}
+use Rattle.lines.proofs.line_behind.Tie as tie
 
 add-instant-line : tie.Need-add-instant-line
 add-instant-line c = search needs

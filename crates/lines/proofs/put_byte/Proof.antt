@@ -3,11 +3,11 @@ use native.Mathlib.Omega.{arith}
 use mathlib.Core.Path.{_≡_, subst}
 use mathlib.Core.List.{[], _∷_}
 use lib.ListN.{set}
-use Rattle.lines_text.specs.Buffer.{Prepended}
-use Rattle.lines_text.proofs.Buffers.{one}
+use Rattle.lines.specs.Buffer.{Prepended}
+use Rattle.lines.proofs.Buffers.{one}
 use borrow.Author.Needs.{needs}
-use Rattle.lines_text.proofs.put_byte.Statement.{statement}
-use Rattle.lines_text.proofs.put_byte.Tie as tie
+use Rattle.lines.proofs.put_byte.Statement.{statement}
+use Rattle.lines.proofs.put_byte.Tie as tie
 
 sub-from : tie.Need-sub-from
 sub-from c = search needs

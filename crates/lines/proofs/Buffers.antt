@@ -5,7 +5,7 @@ use mathlib.Core.Path.{_≡_, refl, sym, ap, ap₂, _∙_, subst}
 use mathlib.Core.List.{List, [], _∷_, _++_, append-nil, append-assoc}
 use lib.ListN.{length, getD, take, drop, set, length-append, length-set}
 use lib.Seq.{take-set-le, drop-set-lt, drop-cons, getD-set-same, take-take, take-suc}
-use Rattle.lines_text.specs.Buffer.{Prepended}
+use Rattle.lines.specs.Buffer.{Prepended}
 
 pub one : (l : List ℕ) (i x : ℕ) → i < length l → Prepended l (suc i) (x ∷ []) (set l i x) i
 one l i x h =

@@ -1,7 +1,7 @@
-use Rattle.lines_text.proofs.Buffers.{before}
+use Rattle.lines.proofs.Buffers.{before}
 use borrow.Author.Needs.{needs}
-use Rattle.lines_fields.proofs.put_numbers.Statement.{statement}
-use Rattle.lines_fields.proofs.put_numbers.Tie as tie
+use Rattle.lines.proofs.put_numbers.Statement.{statement}
+use Rattle.lines.proofs.put_numbers.Tie as tie
 
 put-field-requires : tie.Need-put-field-requires
 put-field-requires c κs = search needs

@@ -5,9 +5,9 @@ use mathlib.Core.Path.{_≡_, refl, sym, subst}
 use mathlib.Core.List.{List}
 use lib.ListN.{length, take, length-set}
 use lib.Seq.{take-length, length-take-le}
-use Rattle.lines_text.proofs.Buffers.{Filling, begin, room, under, text-again, end-filling}
-use Rattle.lines_text.proofs.put_text.Statement.{statement}
-use Rattle.lines_text.proofs.put_text.Tie as tie
+use Rattle.lines.proofs.Buffers.{Filling, begin, room, under, text-again, end-filling}
+use Rattle.lines.proofs.put_text.Statement.{statement}
+use Rattle.lines.proofs.put_text.Tie as tie
 
 abbrev Inv-loop : tie.InvT-loop
 Inv-loop line₀ end text from₀ left₀ line from left = (left ≤ length text) × (length line ≡ length line₀) × Filling line₀ end text line from (take left text)

@@ -1,8 +1,8 @@
 use borrow.Author.Tests.{lt-ltb, le-ltb}
 use mathlib.Core.Path.{refl}
 use borrow.Author.Needs.{needs}
-use Rattle.lines_text.proofs.digit.Statement.{statement}
-use Rattle.lines_text.proofs.digit.Tie as tie
+use Rattle.lines.proofs.digit.Statement.{statement}
+use Rattle.lines.proofs.digit.Tie as tie
 
 cast-result : tie.Need-cast-result
 cast-result c = search needs

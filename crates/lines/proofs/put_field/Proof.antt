@@ -2,10 +2,10 @@ use Prim.Native.Nat.{_≤_}
 use native.Mathlib.Omega.{arith}
 use lib.ListN.{length}
 use Rattle.runs.specs.Text.{numeral}
-use Rattle.lines_text.proofs.Numerals.{field-fits, field}
+use Rattle.lines.proofs.Numerals.{field-fits, field}
 use borrow.Author.Needs.{needs}
-use Rattle.lines_text.proofs.put_field.Statement.{statement}
-use Rattle.lines_text.proofs.put_field.Tie as tie
+use Rattle.lines.proofs.put_field.Statement.{statement}
+use Rattle.lines.proofs.put_field.Tie as tie
 
 put-byte-requires : tie.Need-put-byte-requires
 put-byte-requires c κs = search needs

@@ -10,12 +10,12 @@ use Rattle.states.specs.StateRecord.{labelsIn}
 use Rattle.answers.specs.AnswerRecord.{codeIn, kindIn, placeIn, emittedIn}
 use Rattle.runs.specs.Text.{numeral, space, newline}
 use Rattle.runs.specs.Listing.{numbersOf, setsOf, lineOf, entryRead}
 use Rattle.lines.specs.declared.Line.{Line}
-use Rattle.lines_text.specs.Buffer.{Prepended}
+use Rattle.lines.specs.Buffer.{Prepended}
 use Rattle.lines.specs.Shown.{lineLength, Displays}
 use Rattle.lines.proofs.Lines.{shown}
-use Rattle.lines_text.proofs.Buffers.{before}
-use Rattle.lines_text.proofs.Numerals.{numeral-split}
+use Rattle.lines.proofs.Buffers.{before}
+use Rattle.lines.proofs.Numerals.{numeral-split}
 
 -- what a row reads of the records
 pub record Fields (state answer : List ℕ) (labels emitted place kind code : ℕ) : Type 0 where

@@ -7,8 +7,8 @@ use mathlib.Core.List.{List, [], _∷_, _++_, append-nil, append-assoc}
 use lib.ListN.{length, set, length-append}
 use lib.Dec.{eqb·suc-zero}
 use Rattle.runs.specs.Text.{digit, numeralIn, numeral}
-use Rattle.lines_text.specs.Buffer.{Prepended}
-use Rattle.lines_text.proofs.Buffers.{before, Filling, room, again, end-filling}
+use Rattle.lines.specs.Buffer.{Prepended}
+use Rattle.lines.proofs.Buffers.{before, Filling, room, again, end-filling}
 
 fewer : (base width x n : ℕ) → 1 < base → 0 < width + x → width + x ≤ suc n → width - 1 + x / base ≤ n
 fewer base zero zero n h pos le = omega arith

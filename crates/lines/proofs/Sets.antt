@@ -7,9 +7,9 @@ use Rattle.limits.specs.Limits.{wordLabels}
 use Rattle.sets.specs.Widths.{twoWords}
 use Rattle.runs.specs.Text.{numeral, space, newline}
 use Rattle.runs.specs.Listing.{setsOf}
-use Rattle.lines_text.specs.Buffer.{Prepended}
-use Rattle.lines_text.proofs.Buffers.{before}
-use Rattle.lines_text.proofs.Numerals.{numeral-split}
+use Rattle.lines.specs.Buffer.{Prepended}
+use Rattle.lines.proofs.Buffers.{before}
+use Rattle.lines.proofs.Numerals.{numeral-split}
 
 -- the labels from 64 on stand before the others
 sets-text : (emitted low high : ℕ) → low < 2 ^ wordLabels
