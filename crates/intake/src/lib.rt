@@ -183,7 +183,7 @@ pub extern "C" fn intake_unroll(
     ensures { λ r. ⌜ unrolling r (now («result_length» .exit)) (now (result .exit))
         ≡ unrollOf (now (sequence .entry)) «read_back» (now (result .entry)) ⌝ }
 {
-    let w = unrolling::unroll(sequence, read_back, result);
+    let w = unroll_call::unroll(sequence, read_back, result);
     *result_length = w.count;
     w.number
 }
