@@ -57,7 +57,7 @@ pub extern "C" fn intake_replay(
 ) -> u8
     ensures { λ r. ⌜ replayed r (now (place .exit)) ≡ replayOf (now (sequence .entry)) «read_back» (now (recording .entry)) ⌝ }
 {
-    replays_comparison::replay(sequence, read_back, recording, place)
+    replay_call::replay(sequence, read_back, recording, place)
 }
 
 // A bay is admitted, fresh: 0, or the number that turns the call down.
