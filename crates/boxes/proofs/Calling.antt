@@ -19,8 +19,8 @@ use Rattle.box_bays_positions.specs.declared.Naming.the-variants.{Save, Restore
 use Rattle.box_bays_moves.specs.Moves.{bayMovedOf}
 use Rattle.box_bays_moves.specs.declared.Moving.{Moving}
 use Rattle.box_bays_moves.specs.declared.Moving.the-variants.{Release, Named}
-use Rattle.box_entry.specs.Entries.{fits, entryOf}
-use Rattle.box_entry.proofs.Entering.{entered}
+use Rattle.boxes.specs.Entries.{fits, entryOf}
+use Rattle.boxes.proofs.Entering.{entered}
 use Rattle.boxes.specs.Moving.{callBy}
 
 -- the stretch that is lent, as the code cuts it out of the box

@@ -1,23 +1,63 @@
-// Eight bays in one box (02, items 8 to 12).
+// The calls on a box of eight bays (02, items 8 to 12): which bay a call is for and whether it is there, then the call on that bay's part
+// of the box.
 ghost use mathlib.Core.Path.{_≡_};
+ghost use Rattle.boxes.specs.Entries.{fits, either, entryOf};
 ghost use mathlib.Core.List.{[], _∷_};
 ghost use Prim.Native.Nat.{_*_, _^_, _≤_};
 ghost use lib.ListN.{length};
 ghost use Rattle.box_stretches.specs.Called.{called};
 ghost use Rattle.box_stretches.specs.Stretch.{terms};
-ghost use Rattle.box_calls.specs.Box.{bayCount, boxLength, present, callOf};
-ghost use Rattle.box_calls.specs.Box.{release, tick, admit, save, restore, forget, service, panel, preview, ledger, newYear};
+ghost use Rattle.box_calls.specs.Box.{bayCount, boxLength, present, callOf, release, tick, admit, save, restore, forget, service, panel, preview, ledger, newYear};
 ghost use Rattle.boxes.specs.Moving.{callBy};
 use box_bays_fields::STRETCH_LENGTH;
 use box_bays_moves::Moving;
 use box_bays_positions::Naming;
-use box_entry::BAY_COUNT;
+
+pub const BAY_COUNT: usize = 8;
+
+pub const BOX_LENGTH: usize = BAY_COUNT * STRETCH_LENGTH;
+
+// The number that turns a call down before any bay is looked at, or 0.
+pub fn reach(memory: &[u8], bay: u32) -> u8
+    ensures { λ r. ⌜ r ≡ entryOf (now (memory .entry)) bay either ⌝ }
+{
+    let at = bay as usize;
+    if BAY_COUNT <= at {
+        return 13;
+    }
+    if memory.len() != BOX_LENGTH {
+        return 1;
+    }
+    0
+}
+
+// The number that turns a call down before its bay is touched, or 0: `vacant` says whether the call wants an empty bay.
+pub fn entry(memory: &[u8], bay: u32, vacant: bool) -> u8
+    ensures { λ r. ⌜ r ≡ entryOf (now (memory .entry)) bay (fits vacant) ⌝ }
+{
+    let number = reach(memory, bay);
+    if number != 0 {
+        return number;
+    }
+    let from = bay as usize * STRETCH_LENGTH;
+    let empty = box_bays_fields::is_empty(numbers::part(memory, from, STRETCH_LENGTH));
+    if vacant {
+        if empty {
+            return 0;
+        }
+        return 13;
+    }
+    if empty {
+        return 13;
+    }
+    0
+}
 
 pub fn tick(memory: &mut [u8], bay: u32, input: u32, answer: &mut [u8], trace: &mut [u8]) -> u8
     ensures { λ r. ⌜ called r (now (memory .exit)) (now (answer .exit) ∷ now (trace .exit) ∷ [])
         ≡ callOf (now (memory .entry)) bay (tick input (now (answer .entry)) (now (trace .entry))) ⌝ }
 {
-    let number = box_entry::entry(memory, bay, false);
+    let number = entry(memory, bay, false);
     if number != 0 {
         return number;
     }
@@ -30,7 +70,7 @@ pub fn tick(memory: &mut [u8], bay: u32, input: u32, answer: &mut [u8], trace: &
 fn moved(memory: &mut [u8], bay: u32, call: Moving) -> u8
     ensures { λ r. ⌜ called r (now (memory .exit)) [] ≡ callOf (now (memory .entry)) bay (callBy call) ⌝ }
 {
-    let number = box_entry::entry(memory, bay, false);
+    let number = entry(memory, bay, false);
     if number != 0 {
         return number;
     }
@@ -64,7 +104,7 @@ pub fn admit(memory: &mut [u8], bay: u32, sequence: &[u8], read_back: u32, servi
     ensures { λ r. ⌜ called r (now (memory .exit)) []
         ≡ callOf (now (memory .entry)) bay (admit (terms (now (sequence .entry)) «read_back» «service_only»)) ⌝ }
 {
-    let number = box_entry::entry(memory, bay, true);
+    let number = entry(memory, bay, true);
     if number != 0 {
         return number;
     }
@@ -102,7 +142,7 @@ pub fn service(memory: &[u8], bay: u32, trace: &[u8], view: &mut [u8]) -> u8
     ensures { λ r. ⌜ called r (now (memory .entry)) (now (view .exit) ∷ [])
         ≡ callOf (now (memory .entry)) bay (service (now (trace .entry)) (now (view .entry))) ⌝ }
 {
-    let number = box_entry::entry(memory, bay, false);
+    let number = entry(memory, bay, false);
     if number != 0 {
         return number;
     }
@@ -114,7 +154,7 @@ pub fn panel(memory: &[u8], bay: u32, trace: &[u8], view: &mut [u8]) -> u8
     ensures { λ r. ⌜ called r (now (memory .entry)) (now (view .exit) ∷ [])
         ≡ callOf (now (memory .entry)) bay (panel (now (trace .entry)) (now (view .entry))) ⌝ }
 {
-    let number = box_entry::entry(memory, bay, false);
+    let number = entry(memory, bay, false);
     if number != 0 {
         return number;
     }
@@ -126,7 +166,7 @@ pub fn preview(memory: &[u8], bay: u32, input: u32, unknown: u32, buffer: &mut [
     ensures { λ r. ⌜ called r (now (memory .entry)) (now (buffer .exit) ∷ [])
         ≡ callOf (now (memory .entry)) bay (preview input unknown (now (buffer .entry))) ⌝ }
 {
-    let number = box_entry::entry(memory, bay, false);
+    let number = entry(memory, bay, false);
     if number != 0 {
         return number;
     }
@@ -144,7 +184,7 @@ pub fn read_ledger(memory: &[u8], bay: u32, totals: &mut [u8]) -> u8
     ensures { λ r. ⌜ called r (now (memory .entry)) (now (totals .exit) ∷ [])
         ≡ callOf (now (memory .entry)) bay (ledger (now (totals .entry))) ⌝ }
 {
-    let number = box_entry::reach(memory, bay);
+    let number = reach(memory, bay);
     if number != 0 {
         return number;
     }
@@ -155,7 +195,7 @@ pub fn read_ledger(memory: &[u8], bay: u32, totals: &mut [u8]) -> u8
 pub fn new_year(memory: &mut [u8], bay: u32) -> u8
     ensures { λ r. ⌜ called r (now (memory .exit)) [] ≡ callOf (now (memory .entry)) bay newYear ⌝ }
 {
-    let number = box_entry::reach(memory, bay);
+    let number = reach(memory, bay);
     if number != 0 {
         return number;
     }

@@ -1,8 +1,8 @@
 use mathlib.Core.Path.{refl}
 use mathlib.Core.Bool.{true}
 use Rattle.box_calls.specs.Box.{admit}
-use Rattle.box_entry.specs.Entries.{fits}
-use Rattle.box_entry.proofs.Entering.{entered}
+use Rattle.boxes.specs.Entries.{fits}
+use Rattle.boxes.proofs.Entering.{entered}
 use Rattle.boxes.proofs.Calling.{turned-down, admit-call}
 use borrow.Author.Needs.{needs}
 use Rattle.boxes.proofs.admit.Statement.{statement}

@@ -1,4 +1,4 @@
-use Rattle.box_entry.proofs.Entering.{entered}
+use Rattle.boxes.proofs.Entering.{entered}
 use Rattle.boxes.proofs.Calling.{move-refused, move-made}
 use borrow.Author.Needs.{needs}
 use Rattle.boxes.proofs.moved.Statement.{statement}

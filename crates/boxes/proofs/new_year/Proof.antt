@@ -1,7 +1,7 @@
 use mathlib.Core.Path.{refl}
 use Rattle.box_calls.specs.Box.{newYear}
-use Rattle.box_entry.specs.Entries.{either}
-use Rattle.box_entry.proofs.Entering.{entered}
+use Rattle.boxes.specs.Entries.{either}
+use Rattle.boxes.proofs.Entering.{entered}
 use Rattle.boxes.proofs.Calling.{turned-down, lent-call}
 use borrow.Author.Needs.{needs}
 use Rattle.boxes.proofs.new_year.Statement.{statement}

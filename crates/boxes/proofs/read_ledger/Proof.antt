@@ -1,7 +1,7 @@
 use mathlib.Core.Path.{refl, ap, _∙_}
 use lib.ListN.{length}
 use Rattle.box_calls.specs.Box.{ledger}
-use Rattle.box_entry.specs.Entries.{either}
+use Rattle.boxes.specs.Entries.{either}
 use Rattle.boxes.proofs.Calling.{stretch-sized, turned-down, read-call}
 use borrow.Author.Needs.{needs}
 use Rattle.boxes.proofs.read_ledger.Statement.{statement}

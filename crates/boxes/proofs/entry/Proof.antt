@@ -1,7 +1,7 @@
 use borrow.Author.Needs.{needs}
-use Rattle.box_entry.proofs.Entering.{turned-away, by-bay}
-use Rattle.box_entry.proofs.entry.Statement.{statement}
-use Rattle.box_entry.proofs.entry.Tie as tie
+use Rattle.boxes.proofs.Entering.{turned-away, by-bay}
+use Rattle.boxes.proofs.entry.Statement.{statement}
+use Rattle.boxes.proofs.entry.Tie as tie
 
 reach-requires : tie.Need-reach-requires
 reach-requires c κs = search needs

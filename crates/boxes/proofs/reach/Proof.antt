@@ -1,6 +1,6 @@
-use Rattle.box_entry.proofs.Entering.{no-bay, other-box, any-bay}
-use Rattle.box_entry.proofs.reach.Statement.{statement}
-use Rattle.box_entry.proofs.reach.Tie as tie
+use Rattle.boxes.proofs.Entering.{no-bay, other-box, any-bay}
+use Rattle.boxes.proofs.reach.Statement.{statement}
+use Rattle.boxes.proofs.reach.Tie as tie
 
 returns : tie.Need-returns
 returns c = no-bay _ _ (c .if1 .taken)

@@ -10,7 +10,7 @@ use lib.Dec.{eqb, ltb}
 use borrow.Author.Tests.{lt-ltb, le-ltb, eq-eqb, ne-eqb, ltb-true, eqb-true}
 use Rattle.box_stretches.specs.Stretch.{isEmpty}
 use Rattle.box_calls.specs.Box.{bayCount, boxLength, stretchOf}
-use Rattle.box_entry.specs.Entries.{fits, either, entryOf}
+use Rattle.boxes.specs.Entries.{fits, either, entryOf}
 
 -- ---- the number that turns a call down, by the tests of the code
 module _ (box : List ℕ) (bay : ℕ) where
