@@ -1,4 +1,8 @@
-pub mod Ticking
+pub mod Admitting
 pub mod Charging
-pub mod Recording
+pub mod Moves
+pub mod Positioning
 pub mod Previewing
+pub mod Recording
+pub mod Storing
+pub mod Ticking

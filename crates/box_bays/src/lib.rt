@@ -1,4 +1,10 @@
-// The calls on the stretch of a bay (02, items 8 to 12).
+// The calls of one bay on its part of a box (02, items 8 to 12).
+pub mod admission;
+pub mod bufferless;
+pub mod fields;
+pub mod filling;
+pub mod naming;
+
 ghost use mathlib.Core.Path.{_≡_};
 ghost use mathlib.Core.List.{[], _∷_};
 ghost use lib.ListN.{length, replicate, getD};
@@ -10,13 +16,12 @@ ghost use Rattle.box_ledgers.specs.Ledgers.{farmCount, NoneOutside};
 ghost use Rattle.box_deliveries.specs.Delivering.{Delivers};
 ghost use Rattle.box_stretches.specs.Called.{called};
 ghost use Rattle.box_stretches.specs.Stretch.{stretchLength, sequenceIn, readBackIn, stateIn};
-ghost use Rattle.box_stretches.specs.BayCalls.{stateKept, charged, bayChargedOf, recorded, bayTickOf, bayServiceOf, bayPanelOf, bayPreviewOf};
-ghost use Rattle.box_stretches.specs.BayCalls.{bayLedgerOf, bayNewYearOf};
+ghost use Rattle.box_stretches.specs.BayCalls.{stateKept, charged, bayChargedOf, recorded, bayTickOf, bayServiceOf, bayPanelOf, bayPreviewOf, bayLedgerOf, bayNewYearOf};
+use crate::fields::BAY_LENGTH;
+use crate::fields::COUNT_AT;
+use crate::fields::STATE_AT;
+use crate::fields::STRETCH_LENGTH;
 use answers::ANSWER_LENGTH;
-use box_bays_fields::BAY_LENGTH;
-use box_bays_fields::COUNT_AT;
-use box_bays_fields::STATE_AT;
-use box_bays_fields::STRETCH_LENGTH;
 use instants::Reply;
 use limits::NUMBER_BYTES;
 use reaction::Deliveries;
@@ -32,10 +37,10 @@ fn reply_with(stretch: &[u8], input: u32, named: &mut u32, litres: &mut Deliveri
         (readBackIn (now (stretch .entry))) (now (named .exit)) (now (litres .exit)) ⌝ }
 {
     box_deliveries::reply_with(
-        box_bays_fields::sequence(stretch),
-        box_bays_fields::state(stretch),
+        crate::fields::sequence(stretch),
+        crate::fields::state(stretch),
         input,
-        box_bays_fields::read_back(stretch),
+        crate::fields::read_back(stretch),
         named,
         litres,
     )
@@ -55,7 +60,7 @@ fn settle(
         ≡ charged (now (stretch .entry)) (λ f. getD (now (litres .entry)) f 0) (now (answer .entry))
         (stateKept (now (stretch .entry)) (writtenFrom reaction)) ⌝ }
 {
-    if box_ledgers_totals::would_pass(box_bays_fields::ledger(stretch), litres, farms) {
+    if box_ledgers_totals::would_pass(crate::fields::ledger(stretch), litres, farms) {
         return 19;
     }
     let number = writing::finish(&mut stretch[STATE_AT..COUNT_AT], answer, reaction);
@@ -86,14 +91,8 @@ fn note(stretch: &mut [u8], input: u32, answer: &[u8], trace: &mut [u8])
     ensures { λ _. ⌜ called 0 (now (stretch .exit)) (now (answer .entry) ∷ now (trace .exit) ∷ [])
         ≡ recorded input (now (trace .entry)) (called 0 (now (stretch .entry)) (now (answer .entry) ∷ [])) ⌝ }
 {
-    let number = recordings_writer::following(box_bays_fields::count(stretch));
-    recordings_writer::write_record(
-        trace,
-        number,
-        input,
-        answer,
-        box_bays_fields::state(stretch),
-    );
+    let number = recordings_writer::following(crate::fields::count(stretch));
+    recordings_writer::write_record(trace, number, input, answer, crate::fields::state(stretch));
     numbers::put_le(stretch, COUNT_AT, NUMBER_BYTES, number as u64);
 }
 
@@ -139,7 +138,7 @@ pub fn panel(stretch: &[u8], trace: &[u8], view: &mut [u8]) -> u8
     if view.len() != PANEL_LENGTH {
         return 1;
     }
-    recordings_writer::write_panel(view, trace, box_bays_fields::service_only(stretch));
+    recordings_writer::write_panel(view, trace, crate::fields::service_only(stretch));
     0
 }
 
@@ -149,11 +148,11 @@ pub fn preview(stretch: &[u8], input: u32, unknown: u32, buffer: &mut [u8]) -> u
         ≡ bayPreviewOf (now (stretch .entry)) input unknown (now (buffer .entry)) ⌝ }
 {
     box_previews::preview(
-        box_bays_fields::sequence(stretch),
-        box_bays_fields::state(stretch),
+        crate::fields::sequence(stretch),
+        crate::fields::state(stretch),
         input,
         unknown,
-        box_bays_fields::read_back(stretch),
+        crate::fields::read_back(stretch),
         buffer,
     )
 }
@@ -167,7 +166,7 @@ pub fn read_ledger(stretch: &[u8], totals: &mut [u8]) -> u8
     if totals.len() != box_ledgers::READING_LENGTH {
         return 1;
     }
-    box_ledgers_readings::read(box_bays_fields::ledger(stretch), totals);
+    box_ledgers_readings::read(crate::fields::ledger(stretch), totals);
     0
 }
 

@@ -15,10 +15,10 @@ use Rattle.box_stretches.specs.Called.{called}
 use Rattle.box_stretches.specs.Stretch.{stretchLength, Terms}
 use Rattle.box_stretches.specs.BayCalls.{bayAdmitOf}
 use Rattle.box_calls.specs.Box.{bayCount, boxLength, stretchOf, present, Call, admit, buffers, bayCall, isFor, inBox, callOf}
-use Rattle.box_bays_positions.specs.declared.Naming.the-variants.{Save, Restore, Forget}
-use Rattle.box_bays_moves.specs.Moves.{bayMovedOf}
-use Rattle.box_bays_moves.specs.declared.Moving.{Moving}
-use Rattle.box_bays_moves.specs.declared.Moving.the-variants.{Release, Named}
+use Rattle.box_bays.specs.declared.naming.Naming.the-variants.{Save, Restore, Forget}
+use Rattle.box_bays.specs.Moves.{bayMovedOf}
+use Rattle.box_bays.specs.declared.bufferless.Moving.{Moving}
+use Rattle.box_bays.specs.declared.bufferless.Moving.the-variants.{Release, Named}
 use Rattle.boxes.specs.Entries.{fits, entryOf}
 use Rattle.boxes.proofs.Entering.{entered}
 use Rattle.boxes.specs.Moving.{callBy}

@@ -1,8 +1,8 @@
 -- The call on a box that a value of the code names.
 use Rattle.box_calls.specs.Box.{Call, release, save, restore, forget}
-use Rattle.box_bays_positions.specs.declared.Naming.the-variants.{Save, Restore, Forget}
-use Rattle.box_bays_moves.specs.declared.Moving.{Moving}
-use Rattle.box_bays_moves.specs.declared.Moving.the-variants.{Release, Named}
+use Rattle.box_bays.specs.declared.naming.Naming.the-variants.{Save, Restore, Forget}
+use Rattle.box_bays.specs.declared.bufferless.Moving.{Moving}
+use Rattle.box_bays.specs.declared.bufferless.Moving.the-variants.{Release, Named}
 
 abbrev pub callBy : Moving → Call
 callBy Release = release

@@ -9,9 +9,9 @@ ghost use Rattle.box_stretches.specs.Called.{called};
 ghost use Rattle.box_stretches.specs.Stretch.{terms};
 ghost use Rattle.box_calls.specs.Box.{bayCount, boxLength, present, callOf, release, tick, admit, save, restore, forget, service, panel, preview, ledger, newYear};
 ghost use Rattle.boxes.specs.Moving.{callBy};
-use box_bays_fields::STRETCH_LENGTH;
-use box_bays_moves::Moving;
-use box_bays_positions::Naming;
+use box_bays::bufferless::Moving;
+use box_bays::fields::STRETCH_LENGTH;
+use box_bays::naming::Naming;
 
 pub const BAY_COUNT: usize = 8;
 
@@ -40,7 +40,7 @@ pub fn entry(memory: &[u8], bay: u32, vacant: bool) -> u8
         return number;
     }
     let from = bay as usize * STRETCH_LENGTH;
-    let empty = box_bays_fields::is_empty(numbers::part(memory, from, STRETCH_LENGTH));
+    let empty = box_bays::fields::is_empty(numbers::part(memory, from, STRETCH_LENGTH));
     if vacant {
         if empty {
             return 0;
@@ -76,7 +76,7 @@ fn moved(memory: &mut [u8], bay: u32, call: Moving) -> u8
     }
     let from = bay as usize * STRETCH_LENGTH;
     let end = from + STRETCH_LENGTH;
-    box_bays_moves::moved(&mut memory[from..end], call)
+    box_bays::bufferless::moved(&mut memory[from..end], call)
 }
 
 pub fn release(memory: &mut [u8], bay: u32) -> u8
@@ -94,7 +94,7 @@ fn present_in(memory: &[u8]) -> u64
     let mut i = 0;
     while i < BAY_COUNT {
         let from = i * STRETCH_LENGTH;
-        sum += box_bays_fields::part(numbers::part(memory, from, STRETCH_LENGTH)) as u64;
+        sum += box_bays::fields::part(numbers::part(memory, from, STRETCH_LENGTH)) as u64;
         i += 1;
     }
     sum
@@ -111,7 +111,7 @@ pub fn admit(memory: &mut [u8], bay: u32, sequence: &[u8], read_back: u32, servi
     let present = present_in(memory);
     let from = bay as usize * STRETCH_LENGTH;
     let end = from + STRETCH_LENGTH;
-    box_bays_admission::admit(
+    box_bays::admission::admit(
         &mut memory[from..end],
         present,
         sequence,

@@ -1,0 +1,36 @@
+// A bay admitted (02, items 6 and 8), on its stretch.
+ghost use mathlib.Core.Path.{_≡_};
+ghost use Prim.Native.Nat.{_^_, _≤_};
+ghost use mathlib.Core.List.{[]};
+ghost use lib.ListN.{length};
+ghost use Rattle.box_stretches.specs.Called.{called};
+ghost use Rattle.box_stretches.specs.Stretch.{stretchLength, terms};
+ghost use Rattle.box_stretches.specs.BayCalls.{bayAdmitOf};
+use ceilings::Plan;
+
+// The reactions of an instant that the bays share.
+const SHARED_CEILING: u64 = 65536;
+
+// `present` is what the bays present have of the shared ceiling.
+pub fn admit(
+    stretch: &mut [u8],
+    present: u64,
+    sequence: &[u8],
+    read_back: u32,
+    service_only: u32,
+) -> u8
+    requires { ⌜ (length (now stretch) ≡ stretchLength) × (present ≤ 2 ^ 40) ⌝ }
+    ensures { λ r. ⌜ called r (now (stretch .exit)) []
+        ≡ bayAdmitOf present (now (stretch .entry)) (terms (now (sequence .entry)) «read_back» «service_only») ⌝ }
+{
+    match ceilings::planned(sequence, read_back) {
+        Plan::Refused(number) => number,
+        Plan::Takes(ceiling) => {
+            if SHARED_CEILING < present + ceiling as u64 {
+                return 14;
+            }
+            crate::filling::fill(stretch, sequence, read_back, service_only, ceiling);
+            0
+        }
+    }
+}

@@ -1,0 +1,65 @@
+// The positions of a bay (02, item 9), on its stretch.
+ghost use mathlib.Core.Path.{_≡_};
+ghost use mathlib.Core.List.{[]};
+ghost use lib.ListN.{length};
+ghost use Rattle.box_positions.specs.Table.{placeOf, labelsFound};
+ghost use Rattle.box_stretches.specs.Called.{called};
+ghost use Rattle.box_stretches.specs.Stretch.{stretchLength, positionsIn};
+ghost use Rattle.box_stretches.specs.BayCalls.{baySaveOf, restored};
+ghost use Rattle.box_bays.specs.Names.{bayNamedOf};
+use crate::fields::BAY_LENGTH;
+use crate::fields::COUNT_AT;
+use crate::fields::POSITIONS_AT;
+use crate::fields::STATE_AT;
+use limits::MAX_POSITIONS;
+
+// What is done with a name.
+pub enum Naming {
+    Save,
+    Restore,
+    Forget,
+}
+
+// The labels of a waiting machine, saved under a name.
+fn save(stretch: &mut [u8], known: usize, name: u32) -> u8
+    requires { ⌜ (length (now stretch) ≡ stretchLength) × (known ≡ placeOf name (positionsIn (now stretch))) ⌝ }
+    ensures { λ r. ⌜ called r (now (stretch .exit)) [] ≡ baySaveOf (now (stretch .entry)) name ⌝ }
+{
+    let held = crate::fields::state(stretch);
+    if states::phase(held) != 1 {
+        return 15;
+    }
+    let labels = states::labels(held);
+    box_positions_table::save(&mut stretch[POSITIONS_AT..BAY_LENGTH], known, name, labels)
+}
+
+// The machine waits at the labels saved in an entry.
+fn restore(stretch: &mut [u8], known: usize) -> u8
+    requires { ⌜ length (now stretch) ≡ stretchLength ⌝ }
+    ensures { λ r. ⌜ called r (now (stretch .exit)) []
+        ≡ restored (now (stretch .entry)) (labelsFound known (positionsIn (now (stretch .entry)))) ⌝ }
+{
+    if MAX_POSITIONS <= known {
+        return 15;
+    }
+    let saved = crate::fields::table(stretch);
+    let labels = box_positions_table::saved_labels(saved, known);
+    states::write_state(&mut stretch[STATE_AT..COUNT_AT], states::WAITING, labels);
+    0
+}
+
+// The three calls look a name up by one search, which keeps the code small.
+pub fn named(stretch: &mut [u8], call: Naming, name: u32) -> u8
+    requires { ⌜ length (now stretch) ≡ stretchLength ⌝ }
+    ensures { λ r. ⌜ called r (now (stretch .exit)) [] ≡ bayNamedOf call name (now (stretch .entry)) ⌝ }
+{
+    let known = box_positions_table::place_of(crate::fields::table(stretch), name);
+    match call {
+        Naming::Save => save(stretch, known, name),
+        Naming::Restore => restore(stretch, known),
+        Naming::Forget => box_positions_table::forget(
+            &mut stretch[POSITIONS_AT..BAY_LENGTH],
+            known,
+        ),
+    }
+}
