@@ -27,7 +27,7 @@ use Rattle.instants.specs.Replies.{Decodes, Replies}
 use Rattle.instants.proofs.Replying.{written-from, refused, malformed-reply, over-reply, fresh-reply, waiting-reply}
 use Rattle.box_fillings.specs.declared.Findings.{Findings}
 use Rattle.box_fillings.specs.Preview.{findings, maxUnknown, previewLength, previewBytes, shownBy, Previewed, previewed, answerIn, answersOf, previewOf}
-use Rattle.box_previews_fillings.specs.Standing.{answersAt, Stands}
+use Rattle.box_previews.specs.Standing.{answersAt, Stands}
 use Rattle.box_fillings.proofs.Numbers as numbers
 use Rattle.box_fillings.proofs.Numbers.{written-answer, refused-preview}
 

@@ -1,4 +1,4 @@
-use Rattle.box_previews_fillings.specs.Standing.{answersAt}
+use Rattle.box_previews.specs.Standing.{answersAt}
 use Rattle.box_previews.proofs.Calls.{too-many, shown-bytes}
 use borrow.Author.Needs.{needs}
 use Rattle.box_previews.proofs.show.Statement.{statement}

@@ -30,10 +30,10 @@ use Rattle.program.specs.Program.{termAt}
 use Rattle.instants.proofs.Replying.{written-from}
 use Rattle.box_fillings.specs.declared.Findings.{Findings}
 use Rattle.box_fillings.specs.Preview.{alone, foundIn, both, findings}
-use Rattle.box_previews_fillings.specs.Standing.{answersAt}
+use Rattle.box_previews.specs.Standing.{answersAt}
 use Rattle.box_fillings.proofs.Numbers.{written-answer}
 use Rattle.theory.proofs.Asked.{unasked-traced}
-use Rattle.box_previews_fillings.proofs.Splitting.{one-for-all, apart-without, apart-with, split-at}
+use Rattle.box_previews.proofs.Splitting.{one-for-all, apart-without, apart-with, split-at}
 
 -- ---- one filling
 alone-in : (k kind place o m : ℕ) → o < 256 ^ signalBytes → alone o k ≡ foundIn (answerRecord k kind place o m)

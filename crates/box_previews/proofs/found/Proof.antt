@@ -1,10 +1,10 @@
 use native.Mathlib.Omega.{arith}
 use mathlib.Core.Path.{subst}
 use Rattle.writing.specs.Written.{WritableCode}
-use Rattle.box_previews_fillings.proofs.Steps.{ended-found, waiting-found, leaving-found, wrong-found}
+use Rattle.box_previews.proofs.Steps.{ended-found, waiting-found, leaving-found, wrong-found}
 use borrow.Author.Needs.{needs}
-use Rattle.box_previews_fillings.proofs.found.Statement.{statement}
-use Rattle.box_previews_fillings.proofs.found.Tie as tie
+use Rattle.box_previews.proofs.found.Statement.{statement}
+use Rattle.box_previews.proofs.found.Tie as tie
 
 enum-told : tie.Need-enum-told
 enum-told c = search needs

@@ -1,7 +1,7 @@
 use Rattle.box_fillings.specs.Preview.{both}
 use borrow.Author.Needs.{needs}
-use Rattle.box_fillings_findings.proofs.both.Statement.{statement}
-use Rattle.box_fillings_findings.proofs.both.Tie as tie
+use Rattle.box_previews.proofs.both.Statement.{statement}
+use Rattle.box_previews.proofs.both.Tie as tie
 
 common-requires : tie.Need-common-requires
 common-requires c κs = search needs

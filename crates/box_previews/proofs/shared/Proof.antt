@@ -1,6 +1,6 @@
 use borrow.Author.Tests.{eq-eqb, ne-eqb}
-use Rattle.box_fillings_findings.proofs.shared.Statement.{statement}
-use Rattle.box_fillings_findings.proofs.shared.Tie as tie
+use Rattle.box_previews.proofs.shared.Statement.{statement}
+use Rattle.box_previews.proofs.shared.Tie as tie
 
 returns : tie.Need-returns
 returns c = rw (eq-eqb _ _ (c .if1 .taken))

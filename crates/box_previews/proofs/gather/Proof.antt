@@ -2,10 +2,10 @@ use mathlib.Core.Path.{sym, subst}
 use borrow.Author.Needs.{needs}
 use Prim.Native.Nat.{ℕ}
 use Rattle.sets.specs.Sets.{Disjoint}
-use Rattle.box_previews_fillings.specs.Standing.{answersAt}
-use Rattle.box_previews_fillings.proofs.Splitting.{known-apart, known-findings}
-use Rattle.box_previews_fillings.proofs.gather.Statement.{statement}
-use Rattle.box_previews_fillings.proofs.gather.Tie as tie
+use Rattle.box_previews.specs.Standing.{answersAt}
+use Rattle.box_previews.proofs.Splitting.{known-apart, known-findings}
+use Rattle.box_previews.proofs.gather.Statement.{statement}
+use Rattle.box_previews.proofs.gather.Tie as tie
 
 difference-requires : tie.Need-difference-requires
 difference-requires c κs = search needs

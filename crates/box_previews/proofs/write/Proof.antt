@@ -7,10 +7,10 @@ use lib.Seq.{sets}
 use Rattle.limits.specs.Limits.{signalBytes}
 use Rattle.numbers.specs.Bytes.{leBytes}
 use Rattle.box_fillings.specs.Preview.{neverAt, wrongAt}
-use Rattle.box_fillings_findings.proofs.Stores.{preview-stored}
+use Rattle.box_previews.proofs.Stores.{preview-stored}
 use borrow.Author.Needs.{needs}
-use Rattle.box_fillings_findings.proofs.write.Statement.{statement}
-use Rattle.box_fillings_findings.proofs.write.Tie as tie
+use Rattle.box_previews.proofs.write.Statement.{statement}
+use Rattle.box_previews.proofs.write.Tie as tie
 
 complement-requires : tie.Need-complement-requires
 complement-requires c κs = search needs

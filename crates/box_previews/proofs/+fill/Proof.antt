@@ -7,21 +7,21 @@ use borrow.Fn.Kinds.{In}
 use borrow.Fn.PlainCycle.{Measures, is, falls, and}
 use Rattle.sets.proofs.Lowest.{remove-less}
 use Rattle.writing.specs.Written.{Writable}
-use Rattle.box_previews_fillings.specs.Standing.{answersAt}
-use Rattle.box_previews_fillings.proofs.Steps.{stands-for-all, hit, still-apart, together}
-use Rattle.box_previews_fillings.proofs.fill.Reads as fill
-use Rattle.box_previews_fillings.proofs.fill.Kinds as fill-kinds
-use Rattle.box_previews_fillings.proofs.+fill.Lts-fill as fill-lts
-use Rattle.box_fillings_findings.proofs.both.Reads as both-reads
-use Rattle.box_previews_fillings.proofs.found.Reads as found-reads
+use Rattle.box_previews.specs.Standing.{answersAt}
+use Rattle.box_previews.proofs.Steps.{stands-for-all, hit, still-apart, together}
+use Rattle.box_previews.proofs.fill.Reads as fill
+use Rattle.box_previews.proofs.fill.Kinds as fill-kinds
+use Rattle.box_previews.proofs.+fill.Lts-fill as fill-lts
+use Rattle.box_previews.proofs.both.Reads as both-reads
+use Rattle.box_previews.proofs.found.Reads as found-reads
 use Rattle.program.proofs.react_without_litres.Reads as react-without-litres-reads
 use Rattle.signals.proofs.common.Reads as common-reads
 use Rattle.signals.proofs.is_empty.Reads as is-empty-reads
 use Rattle.signals.proofs.lowest.Reads as lowest-reads
 use Rattle.signals.proofs.with.Reads as with-reads
 use Rattle.signals.proofs.without.Reads as without-reads
-use Rattle.box_previews_fillings.proofs.+fill.{statement}
-use Rattle.box_previews_fillings.proofs.+fill.Tie.{close}
+use Rattle.box_previews.proofs.+fill.{statement}
+use Rattle.box_previews.proofs.+fill.Tie.{close}
 
 -- the open signals lose one at each level
 abbrev μ-fill : Measures 2 fill-kinds.ps ℕ
