@@ -25,9 +25,9 @@ use Rattle.demands.specs.Deliveries.{deliveredBy, deliveredIf, deliveries}
 use Rattle.instants.specs.declared.Standing.the-variants as stands
 use Rattle.instants.specs.Replies.{Decodes}
 use Rattle.instants.proofs.Replying.{expanded}
-use Rattle.box_deliveries_walks.specs.Walks.{HasNamed}
+use Rattle.box_deliveries.specs.Walks.{HasNamed}
 use Rattle.box_deliveries.specs.Delivering.{Delivers}
-use Rattle.box_deliveries_walks.proofs.Walking.{none-capped, none-held}
+use Rattle.box_deliveries.proofs.Walking.{none-capped, none-held}
 
 -- the farms noted are those that the statement names
 module _ {p : Statement} {notes : List ℕ} (n : Noted p notes) where

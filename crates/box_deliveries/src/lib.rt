@@ -1,9 +1,12 @@
-// The core of a bay's tick (02, item 12): the instant by value, and the litres of each farm in it. The check and the table of second
-// parts are made once.
+// The core of a bay's tick (02, item 12): the instant by value, and the litres of each farm in it, in one traversal. The check and the
+// table of second parts are made once.
 ghost use mathlib.Core.Path.{_≡_};
 ghost use lib.ListN.{replicate};
-ghost use Rattle.instants.specs.Replies.{Replies};
+ghost use Rattle.limits.specs.Limits.{maxDepth};
+ghost use Rattle.layout.specs.Layout.{Ready};
 ghost use Rattle.box_ledgers.specs.Ledgers.{farmCount};
+ghost use Rattle.box_deliveries.specs.Walks.{Instant};
+ghost use Rattle.instants.specs.Replies.{Replies};
 ghost use Rattle.box_deliveries.specs.Delivering.{Delivers};
 use instants::Reply;
 use instants::Standing;
@@ -11,6 +14,29 @@ use layout::SecondParts;
 use notes::Notes;
 use program::Start;
 use reaction::Deliveries;
+use reaction::Reaction;
+
+// An instant with the litres of each farm; a wrong one delivers nothing.
+pub fn instant(
+    s: &[u8],
+    origin: Start,
+    input: u32,
+    read_back: u32,
+    second: &SecondParts,
+    litres: &mut Deliveries,
+) -> Reaction
+    requires { ⌜ Ready (now second) maxDepth 0 (now s) ⌝ }
+    requires { ⌜ now litres ≡ replicate farmCount 0 ⌝ }
+    ensures { λ r. ⌜ Instant (now (second .entry)) (now (s .entry)) origin input «read_back» r (now (litres .exit)) ⌝ }
+{
+    let r = program::react(s, origin, input, read_back, litres, second);
+    let k = r.completion;
+    if completions::is_wrong(k) {
+        *litres = [0; limits::FARMS];
+        return r;
+    }
+    r
+}
 
 // What a call comes to before anything is written, the farms that its sequence names, and the litres of each farm, up to one more than
 // the limit. A call that is turned down by its check leaves `farms` as it was.
@@ -38,7 +64,7 @@ pub fn reply_with(
     match instants::decode(sequence, &second, &notes, state) {
         Standing::Malformed => Reply::Refused(11),
         Standing::Over => Reply::Refused(12),
-        Standing::Fresh => Reply::Reacted(box_deliveries_walks::instant(
+        Standing::Fresh => Reply::Reacted(instant(
             sequence,
             Start::Fresh,
             input,
@@ -46,7 +72,7 @@ pub fn reply_with(
             &second,
             litres,
         )),
-        Standing::Waiting(active) => Reply::Reacted(box_deliveries_walks::instant(
+        Standing::Waiting(active) => Reply::Reacted(instant(
             sequence,
             Start::Waiting(active),
             input,

@@ -4,7 +4,7 @@ use borrow.Author.Needs.{needs}
 use Rattle.checks.proofs.Passing.{passed, as-sound, as-ready}
 use Rattle.instants.specs.Replies.{Decodes}
 use Rattle.instants.proofs.Replying.{refused, malformed-reply, over-reply, fresh-reply, waiting-reply}
-use Rattle.box_deliveries_walks.specs.Walks.{HasNamed}
+use Rattle.box_deliveries.specs.Walks.{HasNamed}
 use Rattle.box_deliveries.proofs.Delivering.{has-named, few-farms, refused-delivers, malformed-delivers, over-delivers, fresh-delivers, waiting-delivers}
 use Rattle.box_deliveries.proofs.reply_with.Statement.{statement}
 use Rattle.box_deliveries.proofs.reply_with.Tie as tie

@@ -28,7 +28,7 @@ use Rattle.box_ledgers.specs.Ledgers.{farmCount}
 use Rattle.esterel.specs.Errors.{firstError}
 use Rattle.completions.specs.Completions.{codeOf}
 use Rattle.completions.proofs.Completions.{code-of}
-use Rattle.box_deliveries_walks.specs.Walks.{termOf, HasNamed, Instant}
+use Rattle.box_deliveries.specs.Walks.{termOf, HasNamed, Instant}
 
 -- ---- a term has the emissions of its statement
 module _ (f c : ℕ) where
