@@ -60,11 +60,11 @@ fn settle(
         ≡ charged (now (stretch .entry)) (λ f. getD (now (litres .entry)) f 0) (now (answer .entry))
         (stateKept (now (stretch .entry)) (writtenFrom reaction)) ⌝ }
 {
-    if box_ledgers_totals::would_pass(crate::fields::ledger(stretch), litres, farms) {
+    if box_ledgers::would_pass(crate::fields::ledger(stretch), litres, farms) {
         return 19;
     }
     let number = writing::finish(&mut stretch[STATE_AT..COUNT_AT], answer, reaction);
-    box_ledgers_totals::add(&mut stretch[BAY_LENGTH..STRETCH_LENGTH], litres, farms);
+    box_ledgers::add(&mut stretch[BAY_LENGTH..STRETCH_LENGTH], litres, farms);
     number
 }
 
@@ -166,7 +166,7 @@ pub fn read_ledger(stretch: &[u8], totals: &mut [u8]) -> u8
     if totals.len() != box_ledgers::READING_LENGTH {
         return 1;
     }
-    box_ledgers_readings::read(crate::fields::ledger(stretch), totals);
+    box_ledgers::read(crate::fields::ledger(stretch), totals);
     0
 }
 
@@ -175,6 +175,6 @@ pub fn new_year(stretch: &mut [u8]) -> u8
     requires { ⌜ length (now stretch) ≡ stretchLength ⌝ }
     ensures { λ r. ⌜ called r (now (stretch .exit)) [] ≡ bayNewYearOf (now (stretch .entry)) ⌝ }
 {
-    box_ledgers_totals::clear(&mut stretch[BAY_LENGTH..STRETCH_LENGTH]);
+    box_ledgers::clear(&mut stretch[BAY_LENGTH..STRETCH_LENGTH]);
     0
 }

@@ -11,8 +11,8 @@ use borrow.Author.Tests.{lt-ltb, le-ltb}
 use Rattle.limits.specs.Limits.{litresLimit}
 use Rattle.reaction.specs.Reactions.{cappedOf}
 use Rattle.box_ledgers.specs.Ledgers.{farmCount, ledgerLength, totalIn, wouldPass, passes, addedTo, addedBelow, added}
-use Rattle.box_ledgers_totals.proofs.Totals.{passes-not}
-use Rattle.box_ledgers_totals.proofs.Theorems as ledgers
+use Rattle.box_ledgers.proofs.Totals.{passes-not}
+use Rattle.box_ledgers.proofs.Theorems as ledgers
 use Rattle.demands.specs.Deliveries.{deliveries}
 use Rattle.box_deliveries.specs.Delivering.{Delivers}
 

@@ -1,2 +1,2 @@
-pub mod Ledgers
 pub mod Examples
+pub mod Ledgers

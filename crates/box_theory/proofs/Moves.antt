@@ -17,7 +17,7 @@ use Rattle.box_positions.specs.Table.{tableLength, lookup, Kept, kept, numberKe
 use Rattle.box_positions_table.proofs.Theorems.{save-number, forget-number, save-refused, forget-refused}
 use Rattle.box_positions_table.proofs.TableLaws.{save-sized, forget-sized}
 use Rattle.box_ledgers.specs.Ledgers.{ledgerLength, cleared}
-use Rattle.box_ledgers_totals.proofs.Theorems.{cleared-sized}
+use Rattle.box_ledgers.proofs.Theorems.{cleared-sized}
 use Rattle.box_stretches.specs.Called.{Called, called, number, memoryAfter}
 use Rattle.box_stretches.specs.Stretch.{stateAt, positionsAt, bayLength, stretchLength, stateIn, positionsIn}
 use Rattle.box_stretches.specs.BayCalls.{positionsKept, restored, baySaveOf, bayForgetOf, bayRestoreOf, bayNewYearOf}

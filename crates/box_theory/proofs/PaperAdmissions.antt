@@ -28,7 +28,7 @@ use Rattle.box_positions.specs.Table.{tableLength, Agrees}
 use Rattle.box_positions_table.proofs.Theorems.{cleared-agrees}
 use Rattle.box_ledgers.specs.Ledgers as Ledgers
 use Rattle.box_ledgers.specs.Ledgers.{farmCount, ledgerLength, readingLength, totalIn, totalsBytes, readingFor, readingOf}
-use Rattle.box_ledgers_totals.proofs.Theorems.{cleared-sized}
+use Rattle.box_ledgers.proofs.Theorems.{cleared-sized}
 use Rattle.box_stretches.specs.Called.{Called, called, number, memoryAfter}
 use Rattle.box_stretches.specs.Stretch.{lengthBytes, countAt, positionsAt, bayLength, stretchLength, lengthIn, ledgerIn, Terms, filled}
 use Rattle.box_stretches.specs.BayCalls.{sharedCeiling, bayAdmitOf, bayLedgerOf, bayNewYearOf}

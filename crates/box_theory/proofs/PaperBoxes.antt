@@ -21,7 +21,7 @@ use Rattle.numbers.specs.Bytes.{leNumber}
 use Rattle.box_parts.specs.Parts.{zeros}
 use Rattle.box_parts.proofs.Zeros.{length-zeros, slot-zeros, zeros-number}
 use Rattle.box_ledgers.specs.Ledgers.{farmCount, totalIn}
-use Rattle.box_ledgers_totals.proofs.Theorems.{cleared-total}
+use Rattle.box_ledgers.proofs.Theorems.{cleared-total}
 use Rattle.box_stretches.specs.Called.{Called, memoryAfter}
 use Rattle.box_stretches.specs.Stretch.{stretchLength, lengthIn, isEmpty, sequenceIn, readBackIn, serviceOnlyIn, stateIn, ledgerIn, partOf, Terms}
 use Rattle.box_calls.specs.Box.{bayCount, boxLength, emptyBox, stretchOf, present, Call, admit, release, tick, save, restore, forget, service, panel, preview, ledger, newYear, buffers, isFor, callOf}

@@ -14,8 +14,8 @@ use Rattle.litres.specs.Litres.{IsNumber, Near}
 use Rattle.litres.proofs.Sums.{is-number, value-of}
 use Rattle.sequence.specs.Amounts.{amountSize}
 use Rattle.box_ledgers.specs.Ledgers.{farmCount, fieldIn, totalIn, exactTotal, shownTotal, readingOf, totalRead}
-use Rattle.box_ledgers_totals.proofs.Totals.{holds}
-use Rattle.box_ledgers_totals.proofs.Theorems.{written, total-most, reading-within}
+use Rattle.box_ledgers.proofs.Totals.{holds}
+use Rattle.box_ledgers.proofs.Theorems.{written, total-most, reading-within}
 use Rattle.box_stretches.specs.Called.{Called, number, lentAfter, first}
 use Rattle.box_stretches.specs.Stretch.{ledgerIn}
 use Rattle.box_calls.specs.Box.{bayCount, emptyBox, stretchOf, ledger, callOf}

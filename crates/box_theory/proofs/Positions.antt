@@ -23,7 +23,7 @@ use Rattle.box_parts.specs.Parts.{put, zeros}
 use Rattle.box_parts.proofs.Parts.{slot-put, put-before, put-behind}
 use Rattle.box_ledgers.specs.Ledgers as Ledgers
 use Rattle.box_ledgers.specs.Ledgers.{ledgerLength}
-use Rattle.box_ledgers_totals.proofs.Theorems.{cleared-sized}
+use Rattle.box_ledgers.proofs.Theorems.{cleared-sized}
 use Rattle.box_positions.specs.Table.{tableLength, lookup, Kept, kept, numberKept, tableKept, saveOf, forgetOf, Formed}
 use Rattle.box_positions_table.proofs.Theorems.{lookup-saved, lookup-others-saved, lookup-forgotten, lookup-others-forgotten, lookup-zeros, formed-zeros, formed-saved, formed-forgotten, save-refused}
 use Rattle.box_positions_table.proofs.TableLaws.{save-sized, forget-sized}

@@ -15,7 +15,7 @@ use Rattle.box_parts.specs.Parts.{slot, zeros}
 use Rattle.box_parts.proofs.Parts.{length-put, put-before}
 use Rattle.box_ledgers.specs.Ledgers as Ledgers
 use Rattle.box_ledgers.specs.Ledgers.{ledgerLength}
-use Rattle.box_ledgers_totals.proofs.Theorems.{cleared-sized}
+use Rattle.box_ledgers.proofs.Theorems.{cleared-sized}
 use Rattle.box_parts.proofs.Zeros.{length-zeros, slot-zeros, zeros-number}
 use Rattle.box_positions.specs.Table.{tableLength}
 use Rattle.demands.specs.Demands as demands

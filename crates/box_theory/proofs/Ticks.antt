@@ -28,7 +28,7 @@ use Rattle.recordings.specs.Recording.{following}
 use Rattle.box_parts.specs.Parts.{slot, put}
 use Rattle.box_parts.proofs.Parts.{put-slot, length-put, slot-put, put-before, put-behind}
 use Rattle.box_ledgers.specs.Ledgers.{ledgerLength, passes, added}
-use Rattle.box_ledgers_totals.proofs.Theorems.{added-sized}
+use Rattle.box_ledgers.proofs.Theorems.{added-sized}
 use Rattle.tick.specs.Tick as Tick
 use Rattle.tick.specs.Tick.{Outcome, outcome, byState, replied, tickBy, tickOf}
 use Rattle.tick.specs.TickRows.{TickRow, row-1, row-2-to-10, row-11, row-12}

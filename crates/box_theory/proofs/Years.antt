@@ -23,8 +23,8 @@ use Rattle.box_positions.specs.Table.{tableLength, lookup, Kept, kept, tableKep
 use Rattle.box_positions_table.proofs.TableLaws.{save-sized, forget-sized}
 use Rattle.litres.specs.Litres.{Near}
 use Rattle.box_ledgers.specs.Ledgers.{farmCount, ledgerLength, exactTotal, readingOf, totalRead, totalIn, Exact, cleared, wouldPass, passes, added}
-use Rattle.box_ledgers_totals.proofs.Totals.{passes-not}
-use Rattle.box_ledgers_totals.proofs.Theorems.{added-total, added-stays-exact, total-most, reading-total, reading-within, cleared-total, cleared-exact, cleared-sized, cleared-is}
+use Rattle.box_ledgers.proofs.Totals.{passes-not}
+use Rattle.box_ledgers.proofs.Theorems.{added-total, added-stays-exact, total-most, reading-total, reading-within, cleared-total, cleared-exact, cleared-sized, cleared-is}
 use Rattle.demands.specs.Demands as demands
 use Rattle.demands.proofs.Sequence.{accepted}
 use Rattle.box_stretches.specs.Called.{Called, called, number, memoryAfter}

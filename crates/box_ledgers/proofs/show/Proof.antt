@@ -5,10 +5,10 @@ use lib.Seq.{sets}
 use lib.Dec.{T}
 use lib.Ieee.{Float, binary32, toBits, isNan}
 use Rattle.numbers.specs.Bytes.{leBytes}
-use Rattle.box_ledgers_totals.proofs.Totals.{total-most, int-no-nan}
+use Rattle.box_ledgers.proofs.Totals.{total-most, int-no-nan}
 use borrow.Author.Needs.{needs}
-use Rattle.box_ledgers_readings.proofs.show.Statement.{statement}
-use Rattle.box_ledgers_readings.proofs.show.Tie as tie
+use Rattle.box_ledgers.proofs.show.Statement.{statement}
+use Rattle.box_ledgers.proofs.show.Tie as tie
 
 total-requires : tie.Need-total-requires
 total-requires c κs = search needs

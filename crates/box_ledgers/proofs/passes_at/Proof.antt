@@ -4,10 +4,10 @@ use borrow.Author.Needs.{needs}
 use borrow.Author.Tests.{le-ltb}
 use Prim.Native.Nat.{_+_}
 use Rattle.limits.specs.Limits.{litresLimit}
 use Rattle.box_ledgers.specs.Ledgers.{totalIn}
-use Rattle.box_ledgers_totals.proofs.Totals.{total-most, passes-is, held-whole}
-use Rattle.box_ledgers_totals.proofs.passes_at.Statement.{statement}
-use Rattle.box_ledgers_totals.proofs.passes_at.Tie as tie
+use Rattle.box_ledgers.proofs.Totals.{total-most, passes-is, held-whole}
+use Rattle.box_ledgers.proofs.passes_at.Statement.{statement}
+use Rattle.box_ledgers.proofs.passes_at.Tie as tie
 
 returns : tie.Need-returns
 returns c =

@@ -6,11 +6,11 @@ use lib.Seq.{sets}
 use borrow.Author.Tests.{eq-eqb, ne-eqb}
 use Rattle.numbers.specs.Bytes.{leBytes}
 use Rattle.sequence.specs.Amounts.{amountBytes}
 use Rattle.box_ledgers.specs.Ledgers.{totalIn}
-use Rattle.box_ledgers_totals.proofs.Totals.{float-in, sum-no-nan, sum-bits}
+use Rattle.box_ledgers.proofs.Totals.{float-in, sum-no-nan, sum-bits}
 use borrow.Author.Needs.{needs}
-use Rattle.box_ledgers_totals.proofs.add_to.Statement.{statement}
-use Rattle.box_ledgers_totals.proofs.add_to.Tie as tie
+use Rattle.box_ledgers.proofs.add_to.Statement.{statement}
+use Rattle.box_ledgers.proofs.add_to.Tie as tie
 
 returns : tie.Need-returns
 returns c =

@@ -1,9 +1,9 @@
 use native.Mathlib.Omega.{arith}
 use lib.ListN.{length-set}
 use borrow.Author.Needs.{needs}
-use Rattle.box_ledgers_totals.proofs.Totals.{four-written}
-use Rattle.box_ledgers_totals.proofs.put_four.Statement.{statement}
-use Rattle.box_ledgers_totals.proofs.put_four.Tie as tie
+use Rattle.box_ledgers.proofs.Totals.{four-written}
+use Rattle.box_ledgers.proofs.put_four.Statement.{statement}
+use Rattle.box_ledgers.proofs.put_four.Tie as tie
 
 cast-b : tie.Need-cast-b
 cast-b c = search needs

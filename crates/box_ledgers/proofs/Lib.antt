@@ -1,3 +1,4 @@
-pub mod Totals
 pub mod Fields
+pub mod Showing
 pub mod Theorems
+pub mod Totals

@@ -2,10 +2,10 @@ use mathlib.Core.Path.{sym, _∙_}
 use lib.Ieee.{binary32, ofBits}
 use Rattle.litres.specs.Litres.{whole}
 use Rattle.litres.proofs.Sums.{whole-pattern}
-use Rattle.box_ledgers_totals.proofs.Totals.{holds, zero-whole, read-whole, read-other}
+use Rattle.box_ledgers.proofs.Totals.{holds, zero-whole, read-whole, read-other}
 use borrow.Author.Needs.{needs}
-use Rattle.box_ledgers_totals.proofs.total.Statement.{statement}
-use Rattle.box_ledgers_totals.proofs.total.Tie as tie
+use Rattle.box_ledgers.proofs.total.Statement.{statement}
+use Rattle.box_ledgers.proofs.total.Tie as tie
 
 mul-bits : tie.Need-mul-bits
 mul-bits c = search needs

@@ -25,8 +25,8 @@ use Rattle.sequence.specs.Commands.{bytesAt}
 use Rattle.sequence.proofs.Amounts.{amount-written}
 use Rattle.sequence.proofs.Front.{bytes-taken}
 use Rattle.litres.specs.Litres.{whole, litres}
 use Rattle.box_ledgers.specs.Ledgers.{farmCount, ledgerLength, fieldIn, totalIn, Exact, NoneOutside, passes, addedTo, addedBelow, added}
-use Rattle.box_ledgers_totals.proofs.Totals.{total-whole, passes-not}
+use Rattle.box_ledgers.proofs.Totals.{total-whole, passes-not}
 
 -- ---- bytes elsewhere
 getD-sets : (vs l : List ℕ) (i k : ℕ) → (k < i) ⊎ (i + length vs ≤ k) → getD (sets l i vs) k 0 ≡ getD l k 0

@@ -4,9 +4,9 @@ use lib.ListN.{getD}
 use borrow.Author.Needs.{needs}
 use Rattle.sets.proofs.Loops.{some-left, none-left}
 use Rattle.sets.proofs.Lowest.{remove-less}
-use Rattle.box_ledgers_totals.proofs.Fields.{Adding, adding-none, adding-at, adding-next, adding-all, next-most}
-use Rattle.box_ledgers_totals.proofs.add.Statement.{statement}
-use Rattle.box_ledgers_totals.proofs.add.Tie as tie
+use Rattle.box_ledgers.proofs.Fields.{Adding, adding-none, adding-at, adding-next, adding-all, next-most}
+use Rattle.box_ledgers.proofs.add.Statement.{statement}
+use Rattle.box_ledgers.proofs.add.Tie as tie
 
 abbrev Inv-loop : tie.InvT-loop
 Inv-loop ledger₀ litres farms left₀ ledger left = Adding (λ f. getD litres f 0) farms left ledger₀ ledger

@@ -5,10 +5,10 @@ use native.Mathlib.Omega.{arith}
 use lib.ListN.{length}
 use lib.Seq.{sets}
 use borrow.Author.Needs.{needs}
 use Rattle.box_ledgers.specs.Ledgers.{ledgerLength, totalsBytes}
-use Rattle.box_ledgers_totals.proofs.Totals.{totals-none, totals-all, written-next, zero-bytes}
-use Rattle.box_ledgers_totals.proofs.clear.Statement.{statement}
-use Rattle.box_ledgers_totals.proofs.clear.Tie as tie
+use Rattle.box_ledgers.proofs.Totals.{totals-none, totals-all, written-next, zero-bytes}
+use Rattle.box_ledgers.proofs.clear.Statement.{statement}
+use Rattle.box_ledgers.proofs.clear.Tie as tie
 
 abbrev Inv-loop : tie.InvT-loop
 Inv-loop ledger₀ farm₀ ledger farm = (farm ≤ 32) × (length ledger ≡ ledgerLength) × (ledger ≡ sets ledger₀ 0 (totalsBytes farm (λ f. 0)))

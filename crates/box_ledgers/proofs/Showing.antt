@@ -13,9 +13,9 @@ use Rattle.numbers.proofs.Bytes.{length-leBytes}
 use Rattle.sequence.specs.Amounts.{amountBytes}
 use Rattle.litres.specs.Litres.{Near}
 use Rattle.litres.proofs.Sums.{Added, added-first, added-next, added-all, added-no-nan}
 use Rattle.box_ledgers.specs.Ledgers.{farmCount, readingLength, totalIn, totalFloat, totalsBytes, exactTotal, shownTotal, readingOf, totalRead}
-use Rattle.box_ledgers_totals.proofs.Totals.{totals-whole, totals-none, written-next, written-all}
-use Rattle.box_ledgers_totals.proofs.Theorems.{reading-within}
+use Rattle.box_ledgers.proofs.Totals.{totals-whole, totals-none, written-next, written-all}
+use Rattle.box_ledgers.proofs.Theorems.{reading-within}
 
 module _ (bs : List ℕ) where
   pub record Showing (n : ℕ) (t : Float) (l : List ℕ) : Type 0 where

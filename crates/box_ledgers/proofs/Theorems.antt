@@ -22,9 +22,9 @@ use Rattle.sequence.specs.Amounts.{amountSize, amountBytes, areBytes, floatIn}
 use Rattle.sequence.proofs.Amounts.{amount-written}
 use Rattle.litres.specs.Litres.{whole, litres, ordered, Near}
 use Rattle.litres.proofs.Sums.{Running, last, Added, added-first, added-next}
 use Rattle.box_ledgers.specs.Ledgers.{farmCount, ledgerLength, fieldIn, totalIn, totalFloat, Exact, totalsBytes, cleared, NoneOutside, wouldPass, passes, added, exactTotal, shownTotal, readingOf, totalRead}
-use Rattle.box_ledgers_totals.proofs.Totals as totals
-use Rattle.box_ledgers_totals.proofs.Fields as fields
+use Rattle.box_ledgers.proofs.Totals as totals
+use Rattle.box_ledgers.proofs.Fields as fields
 
 -- ---- adding an instant's litres x that pass no limit: 'Farm totals stay exact whole numbers'
 module _ (x : ℕ → ℕ) (bs : List ℕ) (sized : length bs ≡ ledgerLength) (below : passes bs x ≡ false) where

@@ -6,11 +6,11 @@ use borrow.Author.Needs.{needs}
 use borrow.Author.Tests.{ltb-true, ltb-false}
 use Rattle.limits.specs.Limits.{signalCount, litresLimit}
 use Rattle.sets.proofs.Loops.{Seeking, seek, seek-on, seek-end, seek-less, some-left, none-left}
 use Rattle.box_ledgers.specs.Ledgers.{totalIn}
-use Rattle.box_ledgers_totals.proofs.Theorems.{none-passes}
-use Rattle.box_ledgers_totals.proofs.Totals.{passes-at, farm-below}
-use Rattle.box_ledgers_totals.proofs.would_pass.Statement.{statement}
-use Rattle.box_ledgers_totals.proofs.would_pass.Tie as tie
+use Rattle.box_ledgers.proofs.Theorems.{none-passes}
+use Rattle.box_ledgers.proofs.Totals.{passes-at, farm-below}
+use Rattle.box_ledgers.proofs.would_pass.Statement.{statement}
+use Rattle.box_ledgers.proofs.would_pass.Tie as tie
 
 abbrev Inv-loop : tie.InvT-loop
 Inv-loop ledger litres farms left₀ left = Seeking (λ f. totalIn f ledger + getD litres f 0 ≤ litresLimit) farms left

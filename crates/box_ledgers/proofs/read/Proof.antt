@@ -3,9 +3,9 @@ use native.Mathlib.Omega.{arith}
 use mathlib.Core.Path.{sym, _∙_}
 use borrow.Author.Needs.{needs}
 use borrow.Author.Count.{falls}
-use Rattle.box_ledgers_readings.proofs.Showing.{Showing, show-first, show-next, sum-no-nan, show-all}
-use Rattle.box_ledgers_readings.proofs.read.Statement.{statement}
-use Rattle.box_ledgers_readings.proofs.read.Tie as tie
+use Rattle.box_ledgers.proofs.Showing.{Showing, show-first, show-next, sum-no-nan, show-all}
+use Rattle.box_ledgers.proofs.read.Statement.{statement}
+use Rattle.box_ledgers.proofs.read.Tie as tie
 
 abbrev Inv-loop : tie.InvT-loop
 Inv-loop ledger reading₀ t₀ farm₀ reading t farm = Showing ledger farm t reading
