@@ -30,7 +30,7 @@ fn save(stretch: &mut [u8], known: usize, name: u32) -> u8
         return 15;
     }
     let labels = states::labels(held);
-    box_positions_table::save(&mut stretch[POSITIONS_AT..BAY_LENGTH], known, name, labels)
+    box_positions::save(&mut stretch[POSITIONS_AT..BAY_LENGTH], known, name, labels)
 }
 
 // The machine waits at the labels saved in an entry.
@@ -43,7 +43,7 @@ fn restore(stretch: &mut [u8], known: usize) -> u8
         return 15;
     }
     let saved = crate::fields::table(stretch);
-    let labels = box_positions_table::saved_labels(saved, known);
+    let labels = box_positions::saved_labels(saved, known);
     states::write_state(&mut stretch[STATE_AT..COUNT_AT], states::WAITING, labels);
     0
 }
@@ -53,13 +53,10 @@ pub fn named(stretch: &mut [u8], call: Naming, name: u32) -> u8
     requires { ⌜ length (now stretch) ≡ stretchLength ⌝ }
     ensures { λ r. ⌜ called r (now (stretch .exit)) [] ≡ bayNamedOf call name (now (stretch .entry)) ⌝ }
 {
-    let known = box_positions_table::place_of(crate::fields::table(stretch), name);
+    let known = box_positions::place_of(crate::fields::table(stretch), name);
     match call {
         Naming::Save => save(stretch, known, name),
         Naming::Restore => restore(stretch, known),
-        Naming::Forget => box_positions_table::forget(
-            &mut stretch[POSITIONS_AT..BAY_LENGTH],
-            known,
-        ),
+        Naming::Forget => box_positions::forget(&mut stretch[POSITIONS_AT..BAY_LENGTH], known),
     }
 }

@@ -14,8 +14,8 @@ use Rattle.states.proofs.StateLaws.{state-sized}
 use Rattle.box_parts.specs.Parts.{put}
 use Rattle.box_parts.proofs.Parts.{put-slot, length-put}
 use Rattle.box_positions.specs.Table.{tableLength, lookup, Kept, kept, numberKept, tableKept, saveOf, forgetOf}
-use Rattle.box_positions_table.proofs.Theorems.{save-number, forget-number, save-refused, forget-refused}
-use Rattle.box_positions_table.proofs.TableLaws.{save-sized, forget-sized}
+use Rattle.box_positions.proofs.Theorems.{save-number, forget-number, save-refused, forget-refused}
+use Rattle.box_positions.proofs.TableLaws.{save-sized, forget-sized}
 use Rattle.box_ledgers.specs.Ledgers.{ledgerLength, cleared}
 use Rattle.box_ledgers.proofs.Theorems.{cleared-sized}
 use Rattle.box_stretches.specs.Called.{Called, called, number, memoryAfter}

@@ -17,8 +17,8 @@ use Rattle.states.specs.StateRecord.{stateLength, phaseIn, labelsIn, encodeStat
 use Rattle.box_parts.specs.Parts.{put, zeros}
 use Rattle.box_positions.specs.Names.{Position}
 use Rattle.box_positions.specs.Table.{tableLength, lookup, numberKept, saveOf, forgetOf, SixteenKnown, Agrees}
-use Rattle.box_positions_table.proofs.Theorems as table
-use Rattle.box_positions_table.proofs.Theorems.{cleared-agrees, save-agrees, forget-agrees, lookup-zeros}
+use Rattle.box_positions.proofs.Theorems as table
+use Rattle.box_positions.proofs.Theorems.{cleared-agrees, save-agrees, forget-agrees, lookup-zeros}
 use Rattle.box_stretches.specs.Called.{called, number, memoryAfter}
 use Rattle.box_stretches.specs.Stretch.{stateAt, lengthIn, isEmpty, sequenceIn, stateIn, positionsIn, Terms}
 use Rattle.box_calls.specs.Box.{bayCount, boxLength, emptyBox, stretchOf, present, Call, admit, release, tick, save, restore, forget, service, panel, preview, ledger, newYear, buffers, bayCall, isFor, callOf}

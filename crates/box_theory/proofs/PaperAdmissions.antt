@@ -25,7 +25,7 @@ use Rattle.demands.proofs.Sequence.{Accepted, accepted}
 use Rattle.box_parts.proofs.Parts.{length-put, put-before}
 use Rattle.box_parts.proofs.Zeros.{zeros-number}
 use Rattle.box_positions.specs.Table.{tableLength, Agrees}
-use Rattle.box_positions_table.proofs.Theorems.{cleared-agrees}
+use Rattle.box_positions.proofs.Theorems.{cleared-agrees}
 use Rattle.box_ledgers.specs.Ledgers as Ledgers
 use Rattle.box_ledgers.specs.Ledgers.{farmCount, ledgerLength, readingLength, totalIn, totalsBytes, readingFor, readingOf}
 use Rattle.box_ledgers.proofs.Theorems.{cleared-sized}

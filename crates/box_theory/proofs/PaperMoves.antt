@@ -20,7 +20,7 @@ use Rattle.box_parts.specs.Parts.{put}
 use Rattle.box_parts.proofs.Parts.{put-before, put-behind}
 use Rattle.box_positions.specs.Names.{Position, position, find, without, isKnown, Answered, answered, saveNamed, forgetNamed, numberAnswered, positionsAfter}
 use Rattle.box_positions.specs.Table.{lookup, kept, numberKept, tableKept, saveOf, forgetOf, Agrees}
-use Rattle.box_positions_table.proofs.Theorems.{save-agrees, forget-agrees}
+use Rattle.box_positions.proofs.Theorems.{save-agrees, forget-agrees}
 use Rattle.box_ledgers.specs.Ledgers.{totalIn}
 use Rattle.recordings.specs.Record.{recordLength, panelLength, panelOf}
 use Rattle.box_stretches.specs.Called.{Called, called, number, memoryAfter, lentAfter}

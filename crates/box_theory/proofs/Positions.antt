@@ -25,8 +25,8 @@ use Rattle.box_ledgers.specs.Ledgers as Ledgers
 use Rattle.box_ledgers.specs.Ledgers.{ledgerLength}
 use Rattle.box_ledgers.proofs.Theorems.{cleared-sized}
 use Rattle.box_positions.specs.Table.{tableLength, lookup, Kept, kept, numberKept, tableKept, saveOf, forgetOf, Formed}
-use Rattle.box_positions_table.proofs.Theorems.{lookup-saved, lookup-others-saved, lookup-forgotten, lookup-others-forgotten, lookup-zeros, formed-zeros, formed-saved, formed-forgotten, save-refused}
-use Rattle.box_positions_table.proofs.TableLaws.{save-sized, forget-sized}
+use Rattle.box_positions.proofs.Theorems.{lookup-saved, lookup-others-saved, lookup-forgotten, lookup-others-forgotten, lookup-zeros, formed-zeros, formed-saved, formed-forgotten, save-refused}
+use Rattle.box_positions.proofs.TableLaws.{save-sized, forget-sized}
 use Rattle.demands.proofs.Sequence.{accepted, same-statement}
 use Rattle.box_stretches.specs.Called.{Called, called, number, memoryAfter}
 use Rattle.box_stretches.specs.Stretch.{stateAt, countAt, positionsAt, bayLength, stretchLength, stateIn, positionsIn, Terms}

@@ -20,7 +20,7 @@ use Rattle.box_parts.specs.Parts.{put, zeros}
 use Rattle.box_parts.proofs.Parts.{slot-put, put-behind}
 use Rattle.box_parts.proofs.Zeros.{slot-zeros}
 use Rattle.box_positions.specs.Table.{tableLength, lookup, Kept, kept, tableKept, saveOf, forgetOf}
-use Rattle.box_positions_table.proofs.TableLaws.{save-sized, forget-sized}
+use Rattle.box_positions.proofs.TableLaws.{save-sized, forget-sized}
 use Rattle.litres.specs.Litres.{Near}
 use Rattle.box_ledgers.specs.Ledgers.{farmCount, ledgerLength, exactTotal, readingOf, totalRead, totalIn, Exact, cleared, wouldPass, passes, added}
 use Rattle.box_ledgers.proofs.Totals.{passes-not}

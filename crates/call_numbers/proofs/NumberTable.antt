@@ -35,7 +35,7 @@ use Rattle.replays.proofs.Numbers.{Verdict, refused, cut, compared, verdict}
 use Rattle.box_parts.specs.Parts.{zeros}
 use Rattle.box_parts.proofs.Zeros.{length-zeros}
 use Rattle.box_positions.specs.Table.{lookup, Kept, kept, numberKept, saveOf, forgetOf}
-use Rattle.box_positions_table.proofs.Theorems.{save-number, forget-number}
+use Rattle.box_positions.proofs.Theorems.{save-number, forget-number}
 use Rattle.box_fillings.specs.Preview as fillings
 use Rattle.box_fillings.specs.Preview.{Previewed, previewed, previewLength, maxUnknown, answersOf, previewBytes, findings, previewOf}
 use Rattle.box_fillings.proofs.Numbers.{Replying, turns-down, runs, replying, other-buffer, refused-preview, shown-preview, tick-replied}

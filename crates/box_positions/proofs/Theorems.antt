@@ -7,11 +7,11 @@ use mathlib.Core.List.{List, [], List·Memᴰ}
 use lib.ListN.{length}
 use Rattle.limits.specs.Limits.{labelBytes, maxPositions, nameBytes}
 use Rattle.box_parts.specs.Parts.{zeros}
 use Rattle.box_positions.specs.Names.{Position, saveNamed, forgetNamed, numberAnswered, positionsAfter, Once}
 use Rattle.box_positions.specs.Table.{tableLength, lookup, numberKept, tableKept, saveOf, forgetOf, names, SixteenKnown, Formed, Agrees}
-use Rattle.box_positions_table.proofs.TableLaws as laws
-use Rattle.box_positions_table.proofs.Known as known
-use Rattle.box_positions_table.proofs.ByNames as by-names
+use Rattle.box_positions.proofs.TableLaws as laws
+use Rattle.box_positions.proofs.Known as known
+use Rattle.box_positions.proofs.ByNames as by-names
 
 -- THE TABLE AND THE POSITIONS BY NAME are the same when it is cleared, and stay so over a save and a forget, with the same numbers
 pub cleared-agrees : Agrees (zeros tableLength) []

@@ -1,8 +1,8 @@
 use borrow.Author.Needs.{needs}
 use mathlib.Core.Path.{_∙_}
-use Rattle.box_positions_table.proofs.Placing.{forgotten, not-forgotten, entry-cleared}
-use Rattle.box_positions_table.proofs.forget.Statement.{statement}
-use Rattle.box_positions_table.proofs.forget.Tie as tie
+use Rattle.box_positions.proofs.Placing.{forgotten, not-forgotten, entry-cleared}
+use Rattle.box_positions.proofs.forget.Statement.{statement}
+use Rattle.box_positions.proofs.forget.Tie as tie
 
 mul-put-le : tie.Need-mul-put-le
 mul-put-le c = search needs

@@ -1,7 +1,7 @@
 use borrow.Author.Needs.{needs}
-use Rattle.box_positions_table.proofs.Placing.{entry-written}
-use Rattle.box_positions_table.proofs.write.Statement.{statement}
-use Rattle.box_positions_table.proofs.write.Tie as tie
+use Rattle.box_positions.proofs.Placing.{entry-written}
+use Rattle.box_positions.proofs.write.Statement.{statement}
+use Rattle.box_positions.proofs.write.Tie as tie
 
 mul-at : tie.Need-mul-at
 mul-at c = search needs

@@ -1,8 +1,8 @@
 use borrow.Author.Needs.{needs}
 use mathlib.Core.Path.{ap, _∙_}
 use Rattle.states.specs.StateRecord.{labelsIn}
-use Rattle.box_positions_table.proofs.saved_labels.Statement.{statement}
-use Rattle.box_positions_table.proofs.saved_labels.Tie as tie
+use Rattle.box_positions.proofs.saved_labels.Statement.{statement}
+use Rattle.box_positions.proofs.saved_labels.Tie as tie
 
 mul-part : tie.Need-mul-part
 mul-part c = search needs

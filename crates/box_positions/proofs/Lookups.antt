@@ -13,8 +13,8 @@ use Rattle.limits.specs.Limits.{maxPositions, nameBytes}
 use Rattle.numbers.specs.Bytes.{leNumber}
 use Rattle.states.specs.StateRecord.{stateLength, labelsIn}
 use Rattle.box_parts.specs.Parts.{slot, put}
 use Rattle.box_positions.specs.Table.{keyBytes, entryLength, keyOf, keyIn, savedLabels, placeOf, labelsFound, lookup, FreeOrNamed, Formed}
-use Rattle.box_positions_table.proofs.Entries.{length-entry, own-key, own-labels, other-key, other-labels, found, missing, only, same-place}
+use Rattle.box_positions.proofs.Entries.{length-entry, own-key, own-labels, other-key, other-labels, found, missing, only, same-place}
 
 module _ (name : ℕ) (t : List ℕ) where
   pub lookup-at : (i : ℕ) → placeOf name t ≡ i → i < maxPositions → lookup name t ≡ some (savedLabels i t)

@@ -1,7 +1,7 @@
 use borrow.Author.Needs.{needs}
-use Rattle.box_positions_table.proofs.Placing.{saved, not-saved}
-use Rattle.box_positions_table.proofs.save.Statement.{statement}
-use Rattle.box_positions_table.proofs.save.Tie as tie
+use Rattle.box_positions.proofs.Placing.{saved, not-saved}
+use Rattle.box_positions.proofs.save.Statement.{statement}
+use Rattle.box_positions.proofs.save.Tie as tie
 
 place-for-requires : tie.Need-place-for-requires
 place-for-requires c κs = search needs

@@ -3,10 +3,10 @@ use native.Mathlib.Omega.{arith}
 use mathlib.Core.Path.{_≡_, refl}
 use borrow.Author.Needs.{needs}
 use Rattle.limits.specs.Limits.{maxPositions}
 use Rattle.box_positions.specs.Table.{place}
-use Rattle.box_positions_table.proofs.Placing.{hit, missed, nowhere}
-use Rattle.box_positions_table.proofs.place.Statement.{statement}
-use Rattle.box_positions_table.proofs.place.Tie as tie
+use Rattle.box_positions.proofs.Placing.{hit, missed, nowhere}
+use Rattle.box_positions.proofs.place.Statement.{statement}
+use Rattle.box_positions.proofs.place.Tie as tie
 
 abbrev Inv-loop : tie.InvT-loop
 Inv-loop table key i₀ i = (place maxPositions key table ≡ place i key table) × (i ≤ maxPositions)

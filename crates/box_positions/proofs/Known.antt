@@ -11,11 +11,11 @@ use lib.ListN.{length}
 use lib.Dec.{eqb}
 use borrow.Author.Tests.{eq-eqb, ne-eqb}
 use Rattle.limits.specs.Limits.{maxPositions}
 use Rattle.box_positions.specs.Names.{Once}
 use Rattle.box_positions.specs.Table.{keyOf, nameOf, keyIn, savedLabels, placeOf, lookup, numberKept, saveOf, forgetOf, namesBelow, names, SixteenKnown, Formed}
-use Rattle.box_positions_table.proofs.Lookups.{lookup-at, lookup-none, key-found, present}
-use Rattle.box_positions_table.proofs.Once.{fewer}
-use Rattle.box_positions_table.proofs.TableLaws.{Saving, placed, full, saving, Forgetting, known, unknown, forgetting}
+use Rattle.box_positions.proofs.Lookups.{lookup-at, lookup-none, key-found, present}
+use Rattle.box_positions.proofs.Once.{fewer}
+use Rattle.box_positions.proofs.TableLaws.{Saving, placed, full, saving, Forgetting, known, unknown, forgetting}
 
 -- ---- which entries are listed
 module _ (t : List ℕ) where

@@ -1,7 +1,7 @@
 use borrow.Author.Needs.{needs}
-use Rattle.box_positions_table.proofs.Placing.{known-place, free-place}
-use Rattle.box_positions_table.proofs.place_for.Statement.{statement}
-use Rattle.box_positions_table.proofs.place_for.Tie as tie
+use Rattle.box_positions.proofs.Placing.{known-place, free-place}
+use Rattle.box_positions.proofs.place_for.Statement.{statement}
+use Rattle.box_positions.proofs.place_for.Tie as tie
 
 returns : tie.Need-returns
 returns c = known-place _ (c .if1 .taken)
