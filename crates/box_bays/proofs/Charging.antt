@@ -18,8 +18,8 @@ use Rattle.states.specs.StateRecord.{stateLength, Decoded, holds, malformed, de
 use Rattle.states.proofs.StateLaws as records
 use Rattle.answers.specs.AnswerRecord.{answerLength}
 use Rattle.reaction.specs.declared.Reaction.{Reaction}
-use Rattle.writing.specs.Written.{writtenFrom}
-use Rattle.writing.proofs.Lengths.{writes}
+use Rattle.instants.specs.Written.{writtenFrom}
+use Rattle.instants.proofs.Lengths.{writes}
 use Rattle.tick.specs.Tick as Tick
 use Rattle.tick.specs.Tick.{Outcome, outcome}
 use Rattle.demands.specs.Demands as demands

@@ -10,7 +10,7 @@ use Rattle.answers.specs.AnswerRecord.{answerLength}
 use Rattle.tick.specs.Tick.{Outcome, outcome, tickBy, tickOf, replyOf}
 use Rattle.demands.proofs.Sequence.{tick-short}
 use Rattle.reaction.specs.declared.Reaction.{Reaction}
-use Rattle.writing.specs.Written.{writtenFrom}
+use Rattle.instants.specs.Written.{writtenFrom}
 use Rattle.instants.specs.declared.Reply.{Reply}
 use Rattle.instants.specs.declared.Reply.the-variants.{Refused, Reacted}
 use Rattle.instants.specs.Replies.{repliedFrom, Replies}

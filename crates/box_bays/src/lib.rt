@@ -10,7 +10,7 @@ ghost use mathlib.Core.List.{[], _∷_};
 ghost use lib.ListN.{length, replicate, getD};
 ghost use Rattle.answers.specs.AnswerRecord.{answerLength};
 ghost use Rattle.recordings.specs.Record.{recordLength};
-ghost use Rattle.writing.specs.Written.{Writable, writtenFrom};
+ghost use Rattle.instants.specs.Written.{Writable, writtenFrom};
 ghost use Rattle.instants.specs.Replies.{Replies};
 ghost use Rattle.box_ledgers.specs.Ledgers.{farmCount, NoneOutside};
 ghost use Rattle.box_deliveries.specs.Delivering.{Delivers};
@@ -63,7 +63,7 @@ fn settle(
     if box_ledgers::would_pass(crate::fields::ledger(stretch), litres, farms) {
         return 19;
     }
-    let number = writing::finish(&mut stretch[STATE_AT..COUNT_AT], answer, reaction);
+    let number = instants::finish(&mut stretch[STATE_AT..COUNT_AT], answer, reaction);
     box_ledgers::add(&mut stretch[BAY_LENGTH..STRETCH_LENGTH], litres, farms);
     number
 }

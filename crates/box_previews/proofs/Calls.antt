@@ -18,7 +18,7 @@ use Rattle.program.specs.declared.Start.{Start}
 use Rattle.program.specs.declared.Start.the-variants.{Fresh, Waiting}
 use Rattle.program.specs.Program.{termAt}
 use Rattle.reaction.specs.Reactions.{reactionOf}
-use Rattle.writing.specs.Written.{writtenFrom}
+use Rattle.instants.specs.Written.{writtenFrom}
 use Rattle.tick.specs.Tick.{reacts}
 use Rattle.demands.specs.Demands.{answerAfterwards}
 use Rattle.instants.specs.declared.Standing.the-variants as stands

@@ -19,7 +19,7 @@ use Rattle.completions.specs.declared.Completion.{Completion}
 use Rattle.completions.specs.declared.Completion.the-variants.{Ended, Waiting, Leaving, Wrong}
 use Rattle.reaction.specs.declared.Reaction.{Reaction}
 use Rattle.reaction.specs.Reactions.{reactionOf}
-use Rattle.writing.specs.Written.{writtenBy, writtenFrom}
+use Rattle.instants.specs.Written.{writtenBy, writtenFrom}
 use Rattle.numbers.specs.Bytes.{leBytes}
 use Rattle.numbers.proofs.Bytes.{le-round-trip}
 use Rattle.answers.specs.AnswerRecord.{answerRecord, encodeAnswer}

@@ -9,7 +9,7 @@ use Rattle.layout.specs.Layout.{Lies, Ready}
 use Rattle.program.specs.declared.Start.{Start}
 use Rattle.program.specs.Program.{termAt}
 use Rattle.reaction.specs.Reactions.{reactionTo}
-use Rattle.writing.specs.Written.{Writable}
+use Rattle.instants.specs.Written.{Writable}
 use Rattle.answers.specs.AnswerRecord.{encodeAnswer}
 
 abbrev pub answersAt : Start → Statement → (readBack e : ℕ) → List ℕ

@@ -7,7 +7,7 @@ ghost use Rattle.box_fillings.specs.Preview.{alone, sharedBy, both, bit, previe
 ghost use Rattle.sets.specs.Sets.{Disjoint};
 ghost use Rattle.demands.specs.Demands.{answerAfterwards};
 ghost use Rattle.program.specs.Program.{ReactedWithoutLitres};
-ghost use Rattle.writing.specs.Written.{Writable, writtenFrom};
+ghost use Rattle.instants.specs.Written.{Writable, writtenFrom};
 ghost use Rattle.box_previews.specs.Standing.{answersAt, Stands, OfEach};
 use box_fillings::Findings;
 use box_fillings::NEVER_AT;

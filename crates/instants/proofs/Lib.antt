@@ -1,2 +1,5 @@
+pub mod Arms
 pub mod Decoding
+pub mod Lengths
 pub mod Replying
+pub mod Ticking

@@ -40,7 +40,7 @@ use Rattle.tick.specs.Tick.{written, reacts, byState, byCheck, replyOf, replied
 use Rattle.instants.specs.declared.Standing.the-variants as stands
 use Rattle.instants.specs.declared.Reply.{Reply}
 use Rattle.instants.specs.declared.Reply.the-variants.{Refused, Reacted}
-use Rattle.writing.specs.Written.{WritableCode, Writable, writtenFrom}
+use Rattle.instants.specs.Written.{WritableCode, Writable, writtenFrom}
 use Rattle.instants.specs.Replies.{Decodes, StandsFor, repliedFrom, Replies}
 use Rattle.demands.proofs.Bounds.{Bounded, Exits, ranged-bounded, bounded-expand, bounded-declared, code-exits}
 

@@ -15,7 +15,7 @@ use Rattle.instants.specs.declared.Standing.the-variants as stands
 use Rattle.instants.specs.declared.Reply.{Reply}
 use Rattle.instants.specs.declared.Reply.the-variants.{Refused, Reacted}
 use Rattle.reaction.specs.Reactions.{reactionOf}
-use Rattle.writing.specs.Written.{Writable, writtenFrom}
+use Rattle.instants.specs.Written.{Writable, writtenFrom}
 use Rattle.states.specs.StateRecord.{labelsIn, holds, malformed, decodeState}
 use Rattle.tick.specs.Tick as tick
 use Rattle.tick.specs.Tick.{Outcome, outcome, refused, reacts, replyOf}

@@ -1,14 +1,53 @@
-// The core of a tick: what a state record holds, and what a call comes to before anything is written. It answers by value and
-// writes nothing.
+// A call of the tick (01): the lengths of its buffers, what a state record holds, the reply of the core, which answers by value, and
+// both records written last.
+ghost use mathlib.Core.Path.{_≡_};
+ghost use lib.ListN.{length};
+ghost use Rattle.states.specs.StateRecord.{stateLength};
+ghost use Rattle.answers.specs.AnswerRecord.{answerLength};
+ghost use Rattle.tick.specs.Tick.{outcome};
+ghost use Rattle.instants.specs.Written.{Writable, writtenFrom};
 ghost use Rattle.layout.specs.Known.{Sound};
 ghost use Rattle.checks.specs.Verdict.{Passed};
 ghost use Rattle.instants.specs.Replies.{DecodesRead, Replies};
+ghost use mathlib.Core.Bool.{_&&_};
+ghost use lib.Dec.{eqb};
+ghost use Rattle.demands.specs.Demands.{TickMeets};
+use answers::ANSWER_LENGTH;
+use completions::Completion;
 use labels::Labels;
 use layout::SecondParts;
 use notes::Notes;
 use program::Start;
 use reaction::Reaction;
+use states::STATE_LENGTH;
 use validity::Validity;
+
+// Writes both records of an instant.
+pub fn finish(state: &mut [u8], answer: &mut [u8], r: Reaction) -> u8
+    requires { ⌜ (length (now state) ≡ stateLength) × (length (now answer) ≡ answerLength) × Writable r ⌝ }
+    ensures { λ n. ⌜ outcome n (now (state .exit)) (now (answer .exit)) ≡ writtenFrom r ⌝ }
+{
+    let k = r.completion;
+    match k {
+        Completion::Ended => {
+            states::write_state(state, states::OVER, labels::empty());
+            answers::write_answer(answer, 0, 0, 0, r.emitted, r.reactions);
+        }
+        Completion::Waiting => {
+            states::write_state(state, states::WAITING, r.labels);
+            answers::write_answer(answer, 1, 0, 0, r.emitted, r.reactions);
+        }
+        Completion::Leaving(n) => {
+            states::write_state(state, states::OVER, labels::empty());
+            answers::write_answer(answer, n + 1, 0, 0, r.emitted, r.reactions);
+        }
+        Completion::Wrong(kind, place) => {
+            states::write_state(state, states::OVER, labels::empty());
+            answers::write_answer(answer, answers::WRONG, kind, place, 0, r.reactions);
+        }
+    }
+    0
+}
 
 // What a state record holds for an accepted sequence. A waiting machine has the ranks of its active pauses.
 pub enum Standing {
@@ -91,4 +130,27 @@ pub fn reply_to(sequence: &[u8], state: &[u8], input: u32, read_back: u32) -> Re
         return Reply::Refused(number);
     }
     reply_of(sequence, &second, &notes, state, input, read_back)
+}
+
+// Have the state and the answer record their lengths?
+pub fn fit(state: usize, answer: usize) -> bool
+    ensures { λ r. ⌜ r ≡ (eqb state stateLength && eqb answer answerLength) ⌝ }
+{
+    if state != STATE_LENGTH {
+        return false;
+    }
+    answer == ANSWER_LENGTH
+}
+
+pub fn tick(sequence: &[u8], state: &mut [u8], input: u32, read_back: u32, answer: &mut [u8]) -> u8
+    ensures { λ r. ⌜ TickMeets r (now (state .exit)) (now (answer .exit))
+        (now (sequence .entry)) (now (state .entry)) input «read_back» (now (answer .entry)) ⌝ }
+{
+    if fit(state.len(), answer.len()) {
+        return match reply_to(sequence, state, input, read_back) {
+            Reply::Refused(number) => number,
+            Reply::Reacted(reaction) => finish(state, answer, reaction),
+        };
+    }
+    1
 }

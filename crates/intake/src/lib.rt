@@ -43,7 +43,7 @@ pub extern "C" fn intake_tick(
     ensures { λ r. ⌜ TickMeets r (now (state .exit)) (now (answer .exit))
         (now (sequence .entry)) (now (state .entry)) input «read_back» (now (answer .entry)) ⌝ }
 {
-    intake_ticks::tick(sequence, state, input, read_back, answer)
+    instants::tick(sequence, state, input, read_back, answer)
 }
 
 // A recording checked against a sequence (02, item 14): 0 and a place, 0 if the recording is accepted and else that of the first record

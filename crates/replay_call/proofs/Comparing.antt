@@ -9,8 +9,8 @@ use Rattle.reaction.specs.declared.Reaction.{Reaction}
 use Rattle.completions.specs.declared.Completion.{Completion}
 use Rattle.completions.specs.declared.Completion.the-variants.{Ended, Waiting, Leaving, Wrong}
 use Rattle.validity.specs.Activity.{Ranked, Masked}
-use Rattle.writing.specs.Written.{writtenFrom}
-use Rattle.writing.proofs.Lengths.{writes}
+use Rattle.instants.specs.Written.{writtenFrom}
+use Rattle.instants.proofs.Lengths.{writes}
 use Rattle.numbers.specs.Bytes.{replaced}
 use Rattle.numbers.proofs.Writing.{replaced-by}
 use Rattle.states.proofs.StateLaws.{state-sized}

@@ -20,7 +20,7 @@ use Rattle.reaction.specs.declared.Reaction.{Reaction}
 use Rattle.reaction.specs.Reactions.{reactionOf}
 use Rattle.completions.specs.declared.Completion.{Completion}
 use Rattle.completions.specs.declared.Completion.the-variants.{Ended, Waiting, Leaving, Wrong}
-use Rattle.writing.specs.Written.{Writable, writtenBy, writtenFrom}
+use Rattle.instants.specs.Written.{Writable, writtenBy, writtenFrom}
 use Rattle.states.specs.StateRecord.{encodeState}
 use Rattle.states.proofs.StateLaws.{length-state}
 use Rattle.tick.specs.Tick as tick

@@ -9,7 +9,7 @@ use Rattle.completions.specs.declared.Completion.{Completion}
 use Rattle.completions.specs.declared.Completion.the-variants.{Ended, Waiting, Leaving, Wrong}
 use Rattle.reaction.specs.declared.Reaction.{Reaction}
 use Rattle.validity.specs.Activity.{Ranked, Masked}
-use Rattle.writing.specs.Written.{writtenFrom}
+use Rattle.instants.specs.Written.{writtenFrom}
 use Rattle.instants.specs.declared.Standing.{Standing}
 use Rattle.instants.specs.declared.Standing.the-variants as stands
 use Rattle.recordings.specs.Recording.{recordFrom}

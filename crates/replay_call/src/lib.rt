@@ -2,7 +2,7 @@
 // 37 compared bytes. Nothing of the recording is believed but its inputs: the machine goes on from its own states, which need no row 11.
 ghost use mathlib.Core.Path.{_≡_};
 ghost use Rattle.labels.specs.Labels.{labelSet};
-ghost use Rattle.writing.specs.Written.{Writable};
+ghost use Rattle.instants.specs.Written.{Writable};
 ghost use Rattle.replays.specs.Replay.{same as Replay·same, placeOf, replayed, replayOf};
 ghost use Rattle.replay_call.specs.Comparing.{RankedAfter, StandsAfter, Compared};
 ghost use Rattle.limits.specs.Limits.{maxDepth};
@@ -69,7 +69,7 @@ pub fn compare(notes: &Notes, number: u32, input: u32, trace: &[u8], r: Reaction
     let mut state = [0u8; STATE_LENGTH];
     let mut answer = [0u8; ANSWER_LENGTH];
     let mut made = [0u8; RECORD_LENGTH];
-    writing::finish(&mut state, &mut answer, r);
+    instants::finish(&mut state, &mut answer, r);
     recordings_writer::write_record(&mut made, number, input, &answer, &state);
     if same(trace, &made) {
         Next::Stands(after(r, notes))

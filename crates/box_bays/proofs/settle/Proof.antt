@@ -2,7 +2,7 @@ use Prim.Native.Nat.{ℕ}
 use mathlib.Core.Path.{ap, _∙_}
 use lib.ListN.{length, getD}
 use borrow.Author.Needs.{needs}
-use Rattle.writing.specs.Written.{writtenFrom}
+use Rattle.instants.specs.Written.{writtenFrom}
 use Rattle.box_fields.proofs.Fields.{ledger-sized}
 use Rattle.box_bays.proofs.Charging.{written-0, passing, gives-19, still-below, settled}
 use Rattle.box_bays.proofs.settle.Statement.{statement}

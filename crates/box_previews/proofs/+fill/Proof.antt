@@ -6,7 +6,7 @@ use borrow.Author.Tests.{eqb-true, eqb-false}
 use borrow.Fn.Kinds.{In}
 use borrow.Fn.PlainCycle.{Measures, is, falls, and}
 use Rattle.sets.proofs.Lowest.{remove-less}
-use Rattle.writing.specs.Written.{Writable}
+use Rattle.instants.specs.Written.{Writable}
 use Rattle.box_previews.specs.Standing.{answersAt}
 use Rattle.box_previews.proofs.Steps.{stands-for-all, hit, still-apart, together}
 use Rattle.box_previews.proofs.fill.Reads as fill

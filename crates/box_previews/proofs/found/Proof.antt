@@ -1,6 +1,6 @@
 use native.Mathlib.Omega.{arith}
 use mathlib.Core.Path.{subst}
-use Rattle.writing.specs.Written.{WritableCode}
+use Rattle.instants.specs.Written.{WritableCode}
 use Rattle.box_previews.proofs.Steps.{ended-found, waiting-found, leaving-found, wrong-found}
 use borrow.Author.Needs.{needs}
 use Rattle.box_previews.proofs.found.Statement.{statement}

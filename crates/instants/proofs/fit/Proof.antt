@@ -1,7 +1,7 @@
 use borrow.Author.Tests.{eq-eqb, ne-eqb}
 use Rattle.states.specs.StateRecord.{stateLength}
-use Rattle.intake_lengths.proofs.fit.Statement.{statement}
-use Rattle.intake_lengths.proofs.fit.Tie as tie
+use Rattle.instants.proofs.fit.Statement.{statement}
+use Rattle.instants.proofs.fit.Tie as tie
 
 returns : tie.Need-returns
 returns c = rw (ne-eqb (c .before .args .state) stateLength (c .if1 .taken))

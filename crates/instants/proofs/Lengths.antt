@@ -13,7 +13,7 @@ use Rattle.states.proofs.StateLaws.{state-sized}
 use Rattle.answers.specs.AnswerRecord.{answerLength, answerRecord}
 use Rattle.answers.proofs.AnswerLaws.{answer-sized}
 use Rattle.tick.specs.Tick.{Outcome, outcome}
-use Rattle.writing.specs.Written.{writtenBy, writtenFrom}
+use Rattle.instants.specs.Written.{writtenBy, writtenFrom}
 
 pub record Writes (o : Outcome) : Type 0 where
   pub state : List ℕ

@@ -1,10 +1,10 @@
 use mathlib.Core.Path.{sym, _∙_, subst}
 use borrow.Author.Needs.{needs}
 use Rattle.instants.specs.declared.Reply.the-variants.{Refused, Reacted}
 use Rattle.instants.specs.Replies.{Replies}
-use Rattle.intake_ticks.proofs.Ticking.{lengths, unfit, as-replied}
-use Rattle.intake_ticks.proofs.tick.Statement.{statement}
-use Rattle.intake_ticks.proofs.tick.Tie as tie
+use Rattle.instants.proofs.Ticking.{lengths, unfit, as-replied}
+use Rattle.instants.proofs.tick.Statement.{statement}
+use Rattle.instants.proofs.tick.Tie as tie
 
 fit-requires : tie.Need-fit-requires
 fit-requires c κs = search needs

@@ -2,13 +2,13 @@ use native.Mathlib.Omega.{arith}
 use mathlib.Core.Path.{refl, ap₂, subst}
 use Rattle.completions.specs.declared.Completion.the-variants.{Ended, Waiting, Leaving, Wrong}
 use Rattle.tick.specs.Tick.{outcome}
-use Rattle.writing.specs.Written.{WritableCode}
-use Rattle.writing.proofs.Arms.{arm}
+use Rattle.instants.specs.Written.{WritableCode}
+use Rattle.instants.proofs.Arms.{arm}
 use Rattle.states.proofs.Stores.{state-written}
 use Rattle.answers.proofs.Stores.{answer-written}
 use borrow.Author.Needs.{needs}
-use Rattle.writing.proofs.finish.Statement.{statement}
-use Rattle.writing.proofs.finish.Tie as tie
+use Rattle.instants.proofs.finish.Statement.{statement}
+use Rattle.instants.proofs.finish.Tie as tie
 
 enum-told : tie.Need-enum-told
 enum-told c = search needs
