@@ -1,2 +1,4 @@
 pub mod Ranking
+pub mod Single
+pub mod Steps
 pub mod Validities

@@ -1,1 +1,2 @@
 pub mod Activity
+pub mod Compatibility

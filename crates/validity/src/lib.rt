@@ -1,10 +1,85 @@
-// Row 11: is a set of labels valid? Its active pauses are a mask of ranks.
+// Row 11: is a set of labels valid? Its active pauses are a mask of ranks, and only parts with two of them or more are visited.
+ghost use Prim.Native.Nat.{_-_, _≤_};
+ghost use lib.ListN.{length};
 ghost use Rattle.labels.specs.Labels.{labelSet};
+ghost use Rattle.layout.specs.Layout.{rest, Ready, Pair};
+ghost use Rattle.validity.specs.Compatibility.{TellsCompatible, TellsCompatibleTwo};
 ghost use Rattle.validity.specs.Activity.{Ranked, Masked, Judges};
 ghost use Rattle.layout.specs.Known.{Sound};
 use labels::Labels;
 use layout::SecondParts;
 use notes::Notes;
+
+// Are the active pauses pairwise compatible? The statement at the front of s stands at the offset `at`.
+pub fn compatible(s: &[u8], at: usize, depth: u8, second: &SecondParts, active: Labels) -> bool
+    requires { ⌜ Ready (now second) depth at (now s) ⌝ }
+    ensures { λ r. ⌜ TellsCompatible (now (second .entry)) depth at (now (s .entry)) (labelSet active) r ⌝ }
+{
+    if labels::is_empty(labels::without(active, labels::lowest(active))) {
+        return true;
+    }
+    let command = s[0];
+    match command {
+        limits::SEQUENCE => compatible_parts(&s[0..], at, 1, false, depth, second, active),
+        limits::PARALLEL => compatible_parts(&s[0..], at, 1, true, depth, second, active),
+        limits::LOOP => compatible_part(s, 1, at + 1, depth - 1, second, active),
+        limits::PRESENT => compatible_parts(&s[0..], at, 2, false, depth, second, active),
+        limits::SIGNAL => compatible_part(s, 2, at + 2, depth - 1, second, active),
+        limits::TRY => compatible_part(s, 1, at + 1, depth - 1, second, active),
+        limits::SUSPEND => compatible_part(s, 2, at + 2, depth - 1, second, active),
+        _ => true,
+    }
+}
+
+// The same of the part from s[n] on, which stands at the offset `at`.
+fn compatible_part(
+    s: &[u8],
+    n: usize,
+    at: usize,
+    depth: u8,
+    second: &SecondParts,
+    active: Labels,
+) -> bool
+    requires { ⌜ n ≤ length (now s) ⌝ }
+    requires { ⌜ Ready (now second) depth at (rest n (now s)) ⌝ }
+    ensures { λ r. ⌜ TellsCompatible (now (second .entry)) depth at (rest n (now (s .entry))) (labelSet active) r ⌝ }
+{
+    compatible(&s[n..], at, depth, second, active)
+}
+
+// The same of the two parts of the command of w bytes at the front of s, which stands at the offset `at`.
+fn compatible_parts(
+    s: &[u8],
+    at: usize,
+    w: usize,
+    parallel: bool,
+    depth: u8,
+    second: &SecondParts,
+    active: Labels,
+) -> bool
+    requires { ⌜ Pair (now second) (depth - 1) at w (now s) ⌝ }
+    ensures { λ r. ⌜ TellsCompatibleTwo (now (second .entry)) (depth - 1) at w (now (s .entry)) parallel (labelSet active) r ⌝ }
+{
+    let m = second[at] as usize;
+    let pauses = second[m - 1];
+    let n = m - at;
+    let p = labels::below(active, pauses);
+    let q = labels::from(active, pauses);
+    if labels::is_empty(p) {
+        return compatible_part(s, n, m, depth - 1, second, q);
+    }
+    if labels::is_empty(q) {
+        return compatible_part(s, w, at + w, depth - 1, second, p);
+    }
+    if !parallel {
+        return false;
+    }
+    if compatible_part(s, w, at + w, depth - 1, second, p) {
+        compatible_part(s, n, m, depth - 1, second, q)
+    } else {
+        false
+    }
+}
 
 // The ranks of the pauses with these labels.
 pub fn ranks(labels: Labels, notes: &Notes) -> Labels
@@ -40,7 +115,7 @@ pub fn validity_of(s: &[u8], second: &SecondParts, notes: &Notes, labels: Labels
         return Validity::Invalid;
     }
     let active = ranks(labels, notes);
-    if validity_compatibility::compatible(&s[0..], 0, limits::MAX_DEPTH, second, active) {
+    if compatible(&s[0..], 0, limits::MAX_DEPTH, second, active) {
         Validity::Valid(active)
     } else {
         Validity::Invalid

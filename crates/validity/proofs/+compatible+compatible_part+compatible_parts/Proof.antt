@@ -5,7 +5,7 @@ use borrow.Author.Tests.{not-true, not-false}
 use Rattle.esterel.specs.Statement.{local, seq, par, loop, present, signal, try, suspend}
 use Rattle.sequence.specs.Commands.{Command}
 use Rattle.layout.proofs.Laid.{ready, taken-apart, begins, first-ready, second-ready}
-use Rattle.validity_compatibility.proofs.Steps.{
+use Rattle.validity.proofs.Steps.{
   here,
   loop-step,
   signal-step,
@@ -24,26 +24,26 @@ use Rattle.validity_compatibility.proofs.Steps.{
   whole-pair,
   whole-two,
 }
-use Rattle.validity_compatibility.proofs.Single.{single-step}
+use Rattle.validity.proofs.Single.{single-step}
 use Prim.Native.Nat.{ℕ, _+_, _*_, _<_}
 use borrow.Fn.Kinds.{In}
 use borrow.Fn.PlainCycle.{Measures, is, falls, and}
-use Rattle.validity_compatibility.proofs.compatible.Reads as compatible
-use Rattle.validity_compatibility.proofs.compatible.Kinds as compatible-kinds
-use Rattle.validity_compatibility.proofs.+compatible+compatible_part+compatible_parts.Lts-compatible as compatible-lts
-use Rattle.validity_compatibility.proofs.compatible_part.Reads as compatible-part
-use Rattle.validity_compatibility.proofs.compatible_part.Kinds as compatible-part-kinds
-use Rattle.validity_compatibility.proofs.+compatible+compatible_part+compatible_parts.Lts-compatible_part as compatible-part-lts
-use Rattle.validity_compatibility.proofs.compatible_parts.Reads as compatible-parts
-use Rattle.validity_compatibility.proofs.compatible_parts.Kinds as compatible-parts-kinds
-use Rattle.validity_compatibility.proofs.+compatible+compatible_part+compatible_parts.Lts-compatible_parts as compatible-parts-lts
+use Rattle.validity.proofs.compatible.Reads as compatible
+use Rattle.validity.proofs.compatible.Kinds as compatible-kinds
+use Rattle.validity.proofs.+compatible+compatible_part+compatible_parts.Lts-compatible as compatible-lts
+use Rattle.validity.proofs.compatible_part.Reads as compatible-part
+use Rattle.validity.proofs.compatible_part.Kinds as compatible-part-kinds
+use Rattle.validity.proofs.+compatible+compatible_part+compatible_parts.Lts-compatible_part as compatible-part-lts
+use Rattle.validity.proofs.compatible_parts.Reads as compatible-parts
+use Rattle.validity.proofs.compatible_parts.Kinds as compatible-parts-kinds
+use Rattle.validity.proofs.+compatible+compatible_part+compatible_parts.Lts-compatible_parts as compatible-parts-lts
 use Rattle.labels.proofs.below.Reads as below-reads
 use Rattle.labels.proofs.from.Reads as from-reads
 use Rattle.labels.proofs.is_empty.Reads as is-empty-reads
 use Rattle.labels.proofs.lowest.Reads as lowest-reads
 use Rattle.labels.proofs.without.Reads as without-reads
-use Rattle.validity_compatibility.proofs.+compatible+compatible_part+compatible_parts.{statement}
-use Rattle.validity_compatibility.proofs.+compatible+compatible_part+compatible_parts.Tie.{close}
+use Rattle.validity.proofs.+compatible+compatible_part+compatible_parts.{statement}
+use Rattle.validity.proofs.+compatible+compatible_part+compatible_parts.Tie.{close}
 
 abbrev μ-compatible : Measures 2 compatible-kinds.ps ℕ
 μ-compatible κs a = 3 * (a .1 .1 .0) + 1
