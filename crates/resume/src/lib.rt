@@ -1,5 +1,7 @@
-// A waiting statement resumes by the ranks of its active pauses, and no expansion is built. Only parts with an active pause
-// are entered; `second` says where second parts begin and how many pauses stand before, which splits the ranks.
+// A waiting statement resumes by the ranks of its active pauses, and no expansion is built. Only parts with an active pause are
+// entered; `second` says where second parts begin and how many pauses stand before, which splits the ranks.
+pub mod kept;
+
 ghost use mathlib.Core.Path.{_≡_};
 ghost use Prim.Native.Nat.{_≤_};
 ghost use lib.ListN.{length, getD};
@@ -247,7 +249,7 @@ fn suspend_part(
 {
     let x = s[1];
     if signals::member(input, x) {
-        let labels = resume_labels::of_part(s, 2, at + 2, depth - 1, active, second);
+        let labels = crate::kept::of_part(s, 2, at + 2, depth - 1, active, second);
         rules::stopped(x, labels)
     } else {
         let absent = signals::single(x);

@@ -69,7 +69,7 @@ use Rattle.declarations.proofs.in_signal_once.Reads as in-signal-once-reads
 use Rattle.rules.proofs.in_try.Reads as in-try-reads
 use Rattle.rules.proofs.in_held.Reads as in-held-reads
 use Rattle.rules.proofs.stopped.Reads as stopped-reads
-use Rattle.resume_labels.proofs.of_part.Reads as of-part-reads
+use Rattle.resume.proofs.kept.of_part.Reads as of-part-reads
 use Rattle.labels.proofs.below.Reads as below-reads
 use Rattle.labels.proofs.from.Reads as from-reads
 use Rattle.labels.proofs.is_empty.Reads as is-empty-reads

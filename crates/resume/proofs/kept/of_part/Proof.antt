@@ -1,9 +1,9 @@
 use mathlib.Core.Path.{ap, _∙_}
 use Rattle.esterel.specs.Ranks.{labelsBy}
-use Rattle.resume_labels.proofs.Steps.{words-mask, from-none}
+use Rattle.resume.proofs.KeptSteps.{words-mask, from-none}
 use borrow.Author.Needs.{needs}
-use Rattle.resume_labels.proofs.of_part.Statement.{statement}
-use Rattle.resume_labels.proofs.of_part.Tie as tie
+use Rattle.resume.proofs.kept.of_part.Statement.{statement}
+use Rattle.resume.proofs.kept.of_part.Tie as tie
 
 returns : tie.Need-returns
 returns c base p l =

@@ -1,9 +1,9 @@
 use mathlib.Core.Path.{ap₂, _∙_}
 use Rattle.sets.specs.Sets.{join}
-use Rattle.resume_labels.proofs.Steps.{words-stored}
+use Rattle.resume.proofs.KeptSteps.{words-stored}
 use borrow.Author.Needs.{needs}
-use Rattle.resume_labels.proofs.add.Statement.{statement}
-use Rattle.resume_labels.proofs.add.Tie as tie
+use Rattle.resume.proofs.kept.add.Statement.{statement}
+use Rattle.resume.proofs.kept.add.Tie as tie
 
 returns : tie.Need-returns
 returns c =

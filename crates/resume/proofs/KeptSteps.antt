@@ -18,7 +18,7 @@ use Rattle.sequence.specs.Commands.{Command}
 use Rattle.sequence.proofs.Table.{byteOf}
 use Rattle.layout.specs.Layout.{Lies, Ready}
 use Rattle.layout.proofs.Laid.{taken-apart, command}
-use Rattle.resume_labels.specs.Labelled.{Joined}
+use Rattle.resume.specs.Labelled.{Joined}
 
 -- ---- a mask m, the set a that the code makes of its words, and the words of a part of it
 pub tested : {a m : ℕ} {r x : Bool} → a ≡ m → r ≡ empty a → r ≡ x → empty m ≡ x

@@ -6,7 +6,7 @@ use Rattle.sets.specs.Sets.{below, from}
 use Rattle.esterel.specs.Statement.{local, pause, seq, par, loop, present, signal, try, suspend}
 use Rattle.sequence.specs.Commands.{Command}
 use Rattle.layout.proofs.Laid.{ready, taken-apart, begins, first-ready, second-ready}
-use Rattle.resume_labels.proofs.Steps.{
+use Rattle.resume.proofs.KeptSteps.{
   tested,
   part-mask,
   here,
@@ -25,24 +25,24 @@ use Rattle.resume_labels.proofs.Steps.{
 use Prim.Native.Nat.{ℕ, _+_, _*_, _<_}
 use borrow.Fn.Kinds.{In}
 use borrow.Fn.PlainCycle.{Measures, is, falls, and}
-use Rattle.resume_labels.proofs.inside.Reads as inside
-use Rattle.resume_labels.proofs.inside.Kinds as inside-kinds
-use Rattle.resume_labels.proofs.+inside+part+parts.Lts-inside as inside-lts
-use Rattle.resume_labels.proofs.part.Reads as part
-use Rattle.resume_labels.proofs.part.Kinds as part-kinds
-use Rattle.resume_labels.proofs.+inside+part+parts.Lts-part as part-lts
-use Rattle.resume_labels.proofs.parts.Reads as parts
-use Rattle.resume_labels.proofs.parts.Kinds as parts-kinds
-use Rattle.resume_labels.proofs.+inside+part+parts.Lts-parts as parts-lts
-use Rattle.resume_labels.proofs.add.Reads as add-reads
+use Rattle.resume.proofs.kept.inside.Reads as inside
+use Rattle.resume.proofs.kept.inside.Kinds as inside-kinds
+use Rattle.resume.proofs.kept.+inside+part+parts.Lts-inside as inside-lts
+use Rattle.resume.proofs.kept.part.Reads as part
+use Rattle.resume.proofs.kept.part.Kinds as part-kinds
+use Rattle.resume.proofs.kept.+inside+part+parts.Lts-part as part-lts
+use Rattle.resume.proofs.kept.parts.Reads as parts
+use Rattle.resume.proofs.kept.parts.Kinds as parts-kinds
+use Rattle.resume.proofs.kept.+inside+part+parts.Lts-parts as parts-lts
+use Rattle.resume.proofs.kept.add.Reads as add-reads
 use Rattle.labels.proofs.below.Reads as below-reads
 use Rattle.labels.proofs.from.Reads as from-reads
 use Rattle.labels.proofs.from_words.Reads as from-words-reads
 use Rattle.labels.proofs.high_word.Reads as high-word-reads
 use Rattle.labels.proofs.is_empty.Reads as is-empty-reads
 use Rattle.labels.proofs.low_word.Reads as low-word-reads
-use Rattle.resume_labels.proofs.+inside+part+parts.{statement}
-use Rattle.resume_labels.proofs.+inside+part+parts.Tie.{close}
+use Rattle.resume.proofs.kept.+inside+part+parts.{statement}
+use Rattle.resume.proofs.kept.+inside+part+parts.Tie.{close}
 
 abbrev μ-inside : Measures 3 inside-kinds.ps ℕ
 μ-inside κs a = 3 * (a .1 .1 .0) + 1

@@ -6,7 +6,7 @@ ghost use Rattle.limits.specs.Limits.{labelCount};
 ghost use Rattle.sets.specs.Widths.{onlyBelow};
 ghost use Rattle.labels.specs.Labels.{labelSet};
 ghost use Rattle.layout.specs.Layout.{rest, Ready, Pair};
-ghost use Rattle.resume_labels.specs.Labelled.{Joined, Labelled, Found, FoundTwo};
+ghost use Rattle.resume.specs.Labelled.{Joined, Labelled, Found, FoundTwo};
 use labels::Labels;
 use layout::SecondParts;
 
