@@ -1,12 +1,74 @@
-// Commands without parts: two that a walk answers at once, and the reaction of each that is started fresh.
+// Commands without parts: two that a traversal answers at once, the value of an emission from its bytes (02, item 12), and the reaction
+// of each that is started fresh.
 ghost use mathlib.Core.Path.{_≡_};
-ghost use mathlib.Core.List.{List};
 ghost use Prim.Native.Nat.{ℕ, _<_};
-ghost use lib.ListN.{length, getD};
+ghost use lib.ListN.{getD, length};
+ghost use Rattle.limits.specs.Limits.{signalCount};
+ghost use Rattle.sets.specs.Sets.{none};
+ghost use Rattle.sets.specs.Widths.{onlyBelow};
+ghost use Rattle.esterel.specs.Statement.{nothing};
+ghost use Rattle.esterel.specs.Reaction.{ended, gives};
+ghost use Rattle.esterel.specs.Litres.{brought};
+ghost use Rattle.reaction.specs.Reactions.{alone, AccumulatesAt, Realizes};
+ghost use Rattle.react_leaves.specs.Emissions.{Emission, Whole, valueIn, meant, amountOf};
+ghost use mathlib.Core.List.{List};
 ghost use lib.Dec.{eqb};
 ghost use Rattle.react_leaves.specs.Started.{Started, Leaf};
 use reaction::Deliveries;
 use reaction::Reaction;
+
+// What an emission carries: 02 nothing, 0C litres.
+pub enum Value {
+    Pure,
+    Litres(f32),
+}
+
+// The value of the emission at the front of s.
+pub fn carried(s: &[u8]) -> Value
+    requires { ⌜ Emission (now s) ⌝ }
+    ensures { λ r. ⌜ (r ≡ valueIn (now (s .entry))) × Whole r ⌝ }
+{
+    if s[0] == limits::DELIVER {
+        Value::Litres(f32::from_bits(litres::bits(s, 2)))
+    } else {
+        Value::Pure
+    }
+}
+
+// The litres of a value.
+pub fn amount(v: Value) -> u32
+    requires { ⌜ Whole v ⌝ }
+    ensures { λ r. ⌜ r ≡ amountOf v ⌝ }
+{
+    match v {
+        Value::Pure => 0,
+        Value::Litres(x) => x as u32,
+    }
+}
+
+// What the emission at the front of s, whose signal is x, delivers is added to the litres of its farm.
+fn deliver(s: &[u8], litres: &mut Deliveries, x: u8)
+    requires { ⌜ Emission (now s) ⌝ }
+    requires { ⌜ x < signalCount ⌝ }
+    ensures { λ _. ⌜ ((f : ℕ) (o : ℕ) → AccumulatesAt f (now (litres .entry)) (now (litres .exit))
+        (alone (gives o ended none nothing) none (brought f x (meant (valueIn (now (s .entry))))))) ⌝ }
+{
+    if s[0] == limits::DELIVER {
+        reaction::add(litres, x, amount(carried(s)));
+    }
+}
+
+// An emission reacts, and what it delivers is added.
+pub fn emitting(s: &[u8], litres: &mut Deliveries) -> Reaction
+    requires { ⌜ Emission (now s) ⌝ }
+    ensures { λ r. ⌜ ((f : ℕ) → Realizes f (now (litres .entry)) (now (litres .exit)) r
+        (alone (gives (onlyBelow signalCount (getD (now (s .entry)) 1 0)) ended none nothing) none
+        (brought f (getD (now (s .entry)) 1 0) (meant (valueIn (now (s .entry))))))) ⌝ }
+{
+    let x = s[1];
+    deliver(s, litres, x);
+    reaction::ending(signals::single(x))
+}
 
 // Whether a nothing stands at index n of s.
 pub fn is_nothing(s: &[u8], n: usize) -> bool
@@ -33,9 +95,9 @@ pub fn alone(s: &[u8], litres: &mut Deliveries) -> Reaction
     match command {
         limits::NOTHING => reaction::nothing(),
         limits::PAUSE => reaction::pausing(s[1]),
-        limits::EMIT => react_emissions::emitting(s, litres),
+        limits::EMIT => emitting(s, litres),
         limits::EXIT => reaction::leaving(s[1]),
         limits::SETPAUSE => reaction::pausing(s[1]),
-        _ => react_emissions::emitting(s, litres),
+        _ => emitting(s, litres),
     }
 }

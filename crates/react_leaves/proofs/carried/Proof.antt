@@ -4,10 +4,10 @@ use lib.Dec.{T}
 use lib.Ieee.{binary32, ofBits}
 use Rattle.litres.specs.Litres.{whole}
 use Rattle.litres.proofs.Sums.{whole-pattern}
-use Rattle.react_emissions.proofs.Values.{with-litres, without}
+use Rattle.react_leaves.proofs.Values.{with-litres, without}
 use borrow.Author.Needs.{needs}
-use Rattle.react_emissions.proofs.carried.Statement.{statement}
-use Rattle.react_emissions.proofs.carried.Tie as tie
+use Rattle.react_leaves.proofs.carried.Statement.{statement}
+use Rattle.react_leaves.proofs.carried.Tie as tie
 
 shared-slice-read-if1 : tie.Need-shared-slice-read-if1
 shared-slice-read-if1 c = search needs

@@ -23,9 +23,9 @@ use Rattle.sequence.proofs.Front.{bytes-taken}
 use Rattle.layout.specs.Layout.{Begins}
 use Rattle.reaction.specs.Reactions.{cappedOf, alone, AccumulatesAt}
 use Rattle.reaction.proofs.Accumulating.{farms-more, farms-none}
-use Rattle.react_emissions.specs.declared.Value.{Value}
-use Rattle.react_emissions.specs.declared.Value.the-variants.{Pure, Litres}
-use Rattle.react_emissions.specs.Emissions.{valueIn, amountOf, meant, Whole, Emission}
+use Rattle.react_leaves.specs.declared.Value.{Value}
+use Rattle.react_leaves.specs.declared.Value.the-variants.{Pure, Litres}
+use Rattle.react_leaves.specs.Emissions.{valueIn, amountOf, meant, Whole, Emission}
 
 -- ---- the value by the first byte
 pub with-litres : (bs : List ℕ) {n : ℕ} → n ≡ numberAt 2 4 bs → getD bs 0 0 ≡ 12 → Litres (ofBits binary32 n) ≡ valueIn bs

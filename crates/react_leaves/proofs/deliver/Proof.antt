@@ -1,7 +1,7 @@
-use Rattle.react_emissions.proofs.Values.{brings, brings-none}
+use Rattle.react_leaves.proofs.Values.{brings, brings-none}
 use borrow.Author.Needs.{needs}
-use Rattle.react_emissions.proofs.deliver.Statement.{statement}
-use Rattle.react_emissions.proofs.deliver.Tie as tie
+use Rattle.react_leaves.proofs.deliver.Statement.{statement}
+use Rattle.react_leaves.proofs.deliver.Tie as tie
 
 shared-slice-read-if1 : tie.Need-shared-slice-read-if1
 shared-slice-read-if1 c = search needs

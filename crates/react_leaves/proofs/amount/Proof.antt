@@ -1,8 +1,8 @@
 use mathlib.Core.Path.{sym, ap, subst}
-use Rattle.react_emissions.specs.Emissions.{amountOf, Whole}
+use Rattle.react_leaves.specs.Emissions.{amountOf, Whole}
 use borrow.Author.Needs.{needs}
-use Rattle.react_emissions.proofs.amount.Statement.{statement}
-use Rattle.react_emissions.proofs.amount.Tie as tie
+use Rattle.react_leaves.proofs.amount.Statement.{statement}
+use Rattle.react_leaves.proofs.amount.Tie as tie
 
 enum-told : tie.Need-enum-told
 enum-told c = search needs

@@ -10,8 +10,8 @@ use Rattle.limits.specs.Limits.{signalCount}
 use Rattle.numbers.specs.Bytes.{numberAt}
 use Rattle.litres.specs.Litres.{whole, litres}
 use Rattle.esterel.specs.Statement as Esterel
-use Rattle.react_emissions.specs.declared.Value.{Value}
-use Rattle.react_emissions.specs.declared.Value.the-variants.{Pure, Litres}
+use Rattle.react_leaves.specs.declared.Value.{Value}
+use Rattle.react_leaves.specs.declared.Value.the-variants.{Pure, Litres}
 
 -- 02: 'An emission by 02 carries no litres'; 0C does
 abbrev pub valueIn : List ℕ → Value

@@ -5,8 +5,8 @@ use Rattle.esterel.specs.Statement.{nothing}
 use Rattle.esterel.specs.Reaction.{ended, gives}
 use Rattle.reaction.specs.Reactions.{alone, reactionOf}
 use borrow.Author.Needs.{needs}
-use Rattle.react_emissions.proofs.emitting.Statement.{statement}
-use Rattle.react_emissions.proofs.emitting.Tie as tie
+use Rattle.react_leaves.proofs.emitting.Statement.{statement}
+use Rattle.react_leaves.proofs.emitting.Tie as tie
 
 shared-slice-read-x : tie.Need-shared-slice-read-x
 shared-slice-read-x c = search needs
