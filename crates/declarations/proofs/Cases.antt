@@ -17,14 +17,14 @@ use Rattle.esterel.specs.Instants.{instant, ifWrong, signalNames}
 use Rattle.esterel.specs.Traced.{traced, signalTraced}
 use Rattle.theory.proofs.Rules.{either-wrong}
 use Rattle.reaction.specs.declared.Reaction.{Reaction}
-use Rattle.declarations_cases.specs.declared.Choice.{Choice}
-use Rattle.declarations_cases.specs.declared.Choice.the-variants.{Both, Neither, OnlyMinus, OnlyPlus, Inherited}
+use Rattle.declarations.specs.declared.Choice.{Choice}
+use Rattle.declarations.specs.declared.Choice.the-variants.{Both, Neither, OnlyMinus, OnlyPlus, Inherited}
 use Rattle.completions.specs.Completions.{completionOf, greaterOf}
 use Rattle.completions.proofs.Completions.{code-of, greater-of}
 use Rattle.reaction.specs.Reactions.{reactionOf, failedWith}
-use Rattle.declarations_cases.specs.Choices.{choiceOf, caseIn}
-use Rattle.declarations_cases.proofs.Cases.{caseOf, same-case}
-use Rattle.declarations_runs.proofs.Runs.{unmoved, Counted, Noted}
+use Rattle.declarations.specs.Choices.{choiceOf, caseIn}
+use Rattle.declarations.proofs.Fitting.{caseOf, same-case}
+use Rattle.declarations.proofs.Runs.{unmoved, Counted, Noted}
 use Rattle.reaction.proofs.Values.{kept-two, made}
 
 -- the tree of a case

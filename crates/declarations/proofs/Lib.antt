@@ -1,1 +1,4 @@
 pub mod Cases
+pub mod Fitting
+pub mod Once
+pub mod Runs

@@ -1,13 +1,105 @@
-// The signal rules (01, 'One reaction', and 02, items 4 and 5): what a declaration makes of the two runs of its body.
+// The signal rules (01, 'One reaction', and 02, items 4 to 6): which of the five cases fits the two runs of a declaration's body, and
+// what the declaration makes of them, or of one run that stands for both.
 ghost use mathlib.Core.Path.{_≡_};
-ghost use Prim.Native.Nat.{ℕ};
-ghost use Rattle.limits.specs.Limits.{readBackPlace};
+ghost use Rattle.declarations.specs.Choices.{choiceOf, caseIn};
+ghost use Prim.Native.Nat.{_+_, ℕ};
+ghost use Rattle.sets.specs.Sets.{none, join, remove};
+ghost use Rattle.labels.specs.Labels.{labelsWith};
+ghost use Rattle.completions.specs.Completions.{greaterOf};
+ghost use Rattle.reaction.specs.Reactions.{keptOf, FromOne, FromTwo};
 ghost use Rattle.esterel.specs.Statement.{Scope, local, reported};
 ghost use Rattle.esterel.specs.Reaction.{outside};
-ghost use Rattle.esterel.specs.Traced.{signalTraced, signalOnce};
-ghost use Rattle.reaction.specs.Reactions.{FromOne, FromTwo};
-use declarations_cases::Choice;
+ghost use Rattle.esterel.specs.Traced.{signalOnce, signalTraced};
+ghost use Rattle.limits.specs.Limits.{readBackPlace};
 use reaction::Reaction;
+
+// The five signal cases of 01.
+pub enum Choice {
+    Both,
+    Neither,
+    OnlyMinus,
+    OnlyPlus,
+    Inherited,
+}
+
+// The first that fits the runs without the signal s and with it, inheritance before the other four (02, item 4).
+pub fn choose(s: u8, minus: Reaction, plus: Reaction) -> Choice
+    ensures { λ r. ⌜ r ≡ choiceOf (caseIn s minus plus) ⌝ }
+{
+    let k = minus.completion;
+    let l = plus.completion;
+    let wrong_minus = completions::is_wrong(k);
+    let wrong_plus = completions::is_wrong(l);
+    if wrong_minus | wrong_plus {
+        return Choice::Inherited;
+    }
+    let in_minus = signals::member(minus.emitted, s);
+    let in_plus = signals::member(plus.emitted, s);
+    if in_minus {
+        if in_plus {
+            Choice::Both
+        } else {
+            Choice::OnlyMinus
+        }
+    } else {
+        if in_plus {
+            Choice::OnlyPlus
+        } else {
+            Choice::Neither
+        }
+    }
+}
+
+// Both runs count.
+pub fn counted(minus: Reaction, plus: Reaction) -> u32
+    ensures { λ r. ⌜ r ≡ keptOf (1 + minus .reactions + plus .reactions) ⌝ }
+{
+    reaction::over_two(minus.reactions, plus.reactions)
+}
+
+// Both runs ask; what asks inside for s does not ask outside.
+pub fn asked(s: u8, minus: Reaction, plus: Reaction) -> u32
+    ensures { λ r. ⌜ r ≡ remove s (join (minus .asked) (plus .asked)) ⌝ }
+{
+    signals::without(signals::union(minus.asked, plus.asked), s)
+}
+
+// A wrong run is inherited: of two, that without the signal. What it emitted is not kept.
+pub fn inherited(minus: Reaction, plus: Reaction, reactions: u32, asked: u32) -> Reaction
+    ensures { λ r. ⌜ r ≡ record {
+      emitted = none;
+      labels = labelsWith none;
+      completion = greaterOf (minus .completion) (plus .completion);
+      reactions = reactions;
+      asked = asked;
+    } ⌝ }
+{
+    let k = minus.completion;
+    let l = plus.completion;
+    Reaction {
+        emitted: 0,
+        labels: labels::empty(),
+        completion: completions::greater_of(k, l),
+        reactions,
+        asked,
+    }
+}
+
+// A declaration whose run p without the signal s did not ask for s: p stands for both runs, and counts twice. It emits the set
+// `kept`.
+pub fn declaring_once(kept: u32, p: Reaction) -> Reaction
+    ensures { λ r. ⌜ ((f : ℕ) (sc : Scope) (a s : ℕ) → kept ≡ outside sc s (p .emitted)
+        → FromOne (signalOnce f sc a s) p r) ⌝ }
+{
+    let k = p.completion;
+    let labels = p.labels;
+    let reactions = reaction::over_two(p.reactions, p.reactions);
+    if completions::is_wrong(k) {
+        reaction::made(0, labels::empty(), k, reactions, p.asked)
+    } else {
+        reaction::made(kept, labels, k, reactions, p.asked)
+    }
+}
 
 // A declaration of s at the offset `place`, from the runs of its body without s and with it. Where both runs emit s, it emits
 // the set `kept`. Both runs count and ask, whichever answers; what asks inside for s does not ask outside.
@@ -19,14 +111,14 @@ fn declaring(place: u16, s: u8, kept: u32, minus: Reaction, plus: Reaction) -> R
     let l = plus.completion;
     let minus_labels = minus.labels;
     let plus_labels = plus.labels;
-    let reactions = declarations_runs::counted(minus, plus);
-    let asked = declarations_runs::asked(s, minus, plus);
-    match declarations_cases::choose(s, minus, plus) {
+    let reactions = counted(minus, plus);
+    let asked = asked(s, minus, plus);
+    match choose(s, minus, plus) {
         Choice::Both => reaction::made(kept, plus_labels, l, reactions, asked),
         Choice::Neither => reaction::made(minus.emitted, minus_labels, k, reactions, asked),
         Choice::OnlyMinus => reaction::failing(2, place, reactions, asked),
         Choice::OnlyPlus => reaction::failing(3, place, reactions, asked),
-        Choice::Inherited => declarations_runs::inherited(minus, plus, reactions, asked),
+        Choice::Inherited => inherited(minus, plus, reactions, asked),
     }
 }
 
@@ -41,7 +133,7 @@ pub fn in_signal(place: u16, s: u8, minus: Reaction, plus: Reaction) -> Reaction
 pub fn in_signal_once(s: u8, p: Reaction) -> Reaction
     ensures { λ r. ⌜ ((f a : ℕ) → FromOne (signalOnce f local a s) p r) ⌝ }
 {
-    declarations_once::declaring_once(signals::without(p.emitted, s), p)
+    declaring_once(signals::without(p.emitted, s), p)
 }
 
 // The read-back declaration of s (02, items 5 and 12): s is reported all the same.
@@ -55,5 +147,5 @@ pub fn in_read_back(s: u8, minus: Reaction, plus: Reaction) -> Reaction
 pub fn in_read_back_once(p: Reaction) -> Reaction
     ensures { λ r. ⌜ ((f s : ℕ) → FromOne (signalOnce f reported readBackPlace s) p r) ⌝ }
 {
-    declarations_once::declaring_once(p.emitted, p)
+    declaring_once(p.emitted, p)
 }

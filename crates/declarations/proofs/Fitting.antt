@@ -6,9 +6,9 @@ use Rattle.sets.specs.Sets.{member}
 use Rattle.esterel.specs.Reaction.{isWrong, Case, both, neither, only−, only+, inherited, inheritanceFirst, firstFit}
 use Rattle.reaction.specs.declared.Reaction.{Reaction}
 use Rattle.completions.specs.Completions.{codeOf}
-use Rattle.declarations_cases.specs.declared.Choice.{Choice}
-use Rattle.declarations_cases.specs.declared.Choice.the-variants.{Both, Neither, OnlyMinus, OnlyPlus, Inherited}
-use Rattle.declarations_cases.specs.Choices.{choiceOf, caseIn}
+use Rattle.declarations.specs.declared.Choice.{Choice}
+use Rattle.declarations.specs.declared.Choice.the-variants.{Both, Neither, OnlyMinus, OnlyPlus, Inherited}
+use Rattle.declarations.specs.Choices.{choiceOf, caseIn}
 
 abbrev pub caseOf : Choice → Case
 caseOf Both = both

@@ -1,8 +1,8 @@
 use Rattle.sets.specs.Sets.{none}
-use Rattle.declarations_runs.proofs.Runs.{inherited-made}
+use Rattle.declarations.proofs.Runs.{inherited-made}
 use borrow.Author.Needs.{needs}
-use Rattle.declarations_runs.proofs.inherited.Statement.{statement}
-use Rattle.declarations_runs.proofs.inherited.Tie as tie
+use Rattle.declarations.proofs.inherited.Statement.{statement}
+use Rattle.declarations.proofs.inherited.Tie as tie
 
 empty-requires : tie.Need-empty-requires
 empty-requires c κs = search needs

@@ -1,7 +1,7 @@
-use Rattle.declarations_cases.proofs.Cases.{chosen-by}
+use Rattle.declarations.proofs.Fitting.{chosen-by}
 use borrow.Author.Needs.{needs}
-use Rattle.declarations_cases.proofs.choose.Statement.{statement}
-use Rattle.declarations_cases.proofs.choose.Tie as tie
+use Rattle.declarations.proofs.choose.Statement.{statement}
+use Rattle.declarations.proofs.choose.Tie as tie
 
 is-wrong-requires : tie.Need-is-wrong-requires
 is-wrong-requires c κs = search needs

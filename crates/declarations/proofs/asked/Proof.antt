@@ -1,8 +1,8 @@
 use mathlib.Core.Path.{ap, _∙_}
 use borrow.Author.Needs.{needs}
 use Rattle.sets.specs.Sets.{remove}
-use Rattle.declarations_runs.proofs.asked.Statement.{statement}
-use Rattle.declarations_runs.proofs.asked.Tie as tie
+use Rattle.declarations.proofs.asked.Statement.{statement}
+use Rattle.declarations.proofs.asked.Tie as tie
 
 union-requires : tie.Need-union-requires
 union-requires c κs = search needs

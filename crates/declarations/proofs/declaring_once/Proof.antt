@@ -1,9 +1,9 @@
 use mathlib.Core.Path.{sym, _∙_}
 use Rattle.sets.specs.Sets.{none}
-use Rattle.declarations_once.proofs.Once.{once-right, once-wrong}
+use Rattle.declarations.proofs.Once.{once-right, once-wrong}
 use borrow.Author.Needs.{needs}
-use Rattle.declarations_once.proofs.declaring_once.Statement.{statement}
-use Rattle.declarations_once.proofs.declaring_once.Tie as tie
+use Rattle.declarations.proofs.declaring_once.Statement.{statement}
+use Rattle.declarations.proofs.declaring_once.Tie as tie
 
 over-two-requires : tie.Need-over-two-requires
 over-two-requires c κs = search needs

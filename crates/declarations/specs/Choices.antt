@@ -4,8 +4,8 @@ use Rattle.sets.specs.Sets.{member}
 use Rattle.esterel.specs.Reaction as rules
 use Rattle.completions.specs.Completions.{codeOf}
 use Rattle.reaction.specs.declared.Reaction.{Reaction}
-use Rattle.declarations_cases.specs.declared.Choice.{Choice}
-use Rattle.declarations_cases.specs.declared.Choice.the-variants.{Both, Neither, OnlyMinus, OnlyPlus, Inherited}
+use Rattle.declarations.specs.declared.Choice.{Choice}
+use Rattle.declarations.specs.declared.Choice.the-variants.{Both, Neither, OnlyMinus, OnlyPlus, Inherited}
 
 abbrev pub choiceOf : rules.Case → Choice
 choiceOf rules.both = Both

@@ -19,7 +19,7 @@ use Rattle.completions.specs.Completions.{codeOf}
 use Rattle.completions.proofs.Completions.{code-of}
 use Rattle.reaction.specs.Reactions.{reactionOf}
 use Rattle.reaction.proofs.Values.{kept-two, made}
-use Rattle.declarations_runs.proofs.Runs.{unmoved, Counted}
+use Rattle.declarations.proofs.Runs.{unmoved, Counted}
 
 absent-outside : (sc : Scope) (s o : ℕ) → member s o ≡ false → outside sc s o ≡ o
 absent-outside local s o h = remove-absent s o h
