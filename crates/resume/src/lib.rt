@@ -134,7 +134,7 @@ fn par_parts(
     let p = side(s, 1, at + 1, depth - 1, input, litres, first, second);
     let others = labels::from(active, pauses);
     let q = side(s, m - at, m, depth - 1, input, litres, others, second);
-    rules_two::in_parallel(p, q)
+    rules::in_parallel(p, q)
 }
 
 // Of a test the active branch goes on, whatever its signal is now.

@@ -1,13 +1,18 @@
-// The rules of commands with one part (01, 'One reaction', and 02, item 1): what a command makes of the reaction of its part.
-// Those of two parts are in rules_two, those of a declaration in declarations.
+// The rules of commands with parts (01, 'One reaction', and 02, item 1): what a command makes of the reaction of its part, or of its two
+// parts. Those of a declaration are in declarations.
 ghost use mathlib.Core.Path.{_≡_};
 ghost use Prim.Native.Nat.{ℕ, _<_};
 ghost use Rattle.limits.specs.Limits.{signalCount};
 ghost use Rattle.sets.specs.Sets.{only};
 ghost use Rattle.labels.specs.Labels.{labelSet};
 ghost use Rattle.esterel.specs.Statement.{Statement};
-ghost use Rattle.esterel.specs.Traced.{loopTraced, presentTraced, tryTraced, suspendTraced, heldTraced, stoppedTraced};
-ghost use Rattle.reaction.specs.Reactions.{reactionOf, FromOne};
+ghost use Rattle.esterel.specs.Traced.{loopTraced, presentTraced, tryTraced, suspendTraced, heldTraced, stoppedTraced, seqTraced, parTraced};
+ghost use Rattle.reaction.specs.Reactions.{reactionOf, FromOne, FromTwo};
+ghost use mathlib.Core.Bool.{false};
+ghost use Rattle.esterel.specs.Reaction.{ifWaiting};
+ghost use Rattle.completions.specs.Completions.{codeOf, isEnded};
+ghost use Rattle.esterel.specs.Traced as Traces;
+use completions::Completion;
 use labels::Labels;
 use reaction::Reaction;
 
@@ -67,4 +72,60 @@ pub fn stopped(s: u8, labels: Labels) -> Reaction
 {
     let present = signals::single(s);
     reaction::waiting(labels, present)
+}
+
+// Labels are kept only with code 1.
+fn if_waiting(k: Completion, labels: Labels) -> Labels
+    ensures { λ r. ⌜ labelSet r ≡ ifWaiting (codeOf k) (labelSet labels) ⌝ }
+{
+    match k {
+        Completion::Waiting => labels,
+        Completion::Ended => labels::empty(),
+        Completion::Leaving(_) => labels::empty(),
+        Completion::Wrong(_, _) => labels::empty(),
+    }
+}
+
+// p; q
+pub fn in_sequence(p: Reaction, q: Reaction) -> Reaction
+    ensures { λ r. ⌜ ((u : Statement) → FromTwo (seqTraced u) p q r) ⌝ }
+{
+    let k = p.completion;
+    if completions::is_ended(k) {
+        let labels = q.labels;
+        let l = q.completion;
+        Reaction {
+            emitted: signals::union(p.emitted, q.emitted),
+            labels,
+            completion: l,
+            reactions: reaction::over_two(p.reactions, q.reactions),
+            asked: signals::union(p.asked, q.asked),
+        }
+    } else {
+        in_first(p)
+    }
+}
+
+// p; q where p has not ended: q does not react
+pub fn in_first(p: Reaction) -> Reaction
+    ensures { λ r. ⌜ ((u : Statement) (v : Traces.Traced) → isEnded (p .completion) ≡ false
+        → FromOne (λ (t : Traces.Traced). seqTraced u t v) p r) ⌝ }
+{
+    reaction::around(p, 0)
+}
+
+// p in parallel with q
+pub fn in_parallel(p: Reaction, q: Reaction) -> Reaction
+    ensures { λ r. ⌜ FromTwo parTraced p q r ⌝ }
+{
+    let k = p.completion;
+    let l = q.completion;
+    let code = completions::greater_of(k, l);
+    Reaction {
+        emitted: signals::union(p.emitted, q.emitted),
+        labels: if_waiting(code, labels::union(p.labels, q.labels)),
+        completion: code,
+        reactions: reaction::over_two(p.reactions, q.reactions),
+        asked: signals::union(p.asked, q.asked),
+    }
 }

@@ -56,14 +56,14 @@ use Rattle.react.proofs.signal_rule.Reads as signal-rule
 use Rattle.react.proofs.signal_rule.Kinds as signal-rule-kinds
 use Rattle.react.proofs.+after+body+declaration+par_parts+part+present_parts+react+seq_parts+signal_rule.Lts-signal_rule as signal-rule-lts
 use Rattle.reaction.proofs.nothing.Reads as nothing-reads
-use Rattle.rules_two.proofs.in_first.Reads as in-first-reads
+use Rattle.rules.proofs.in_first.Reads as in-first-reads
 use Rattle.rules.proofs.in_present.Reads as in-present-reads
 use Rattle.rules.proofs.in_suspend.Reads as in-suspend-reads
 use Rattle.react_leaves.proofs.alone.Reads as alone-reads
 use Rattle.react_leaves.proofs.is_nothing.Reads as is-nothing-reads
 use Rattle.rules.proofs.in_loop.Reads as in-loop-reads
-use Rattle.rules_two.proofs.in_parallel.Reads as in-parallel-reads
-use Rattle.rules_two.proofs.in_sequence.Reads as in-sequence-reads
+use Rattle.rules.proofs.in_parallel.Reads as in-parallel-reads
+use Rattle.rules.proofs.in_sequence.Reads as in-sequence-reads
 use Rattle.declarations.proofs.in_signal.Reads as in-signal-reads
 use Rattle.declarations.proofs.in_signal_once.Reads as in-signal-once-reads
 use Rattle.rules.proofs.in_try.Reads as in-try-reads

@@ -63,7 +63,7 @@ use Rattle.resume.proofs.suspend_part.Kinds as suspend-part-kinds
 use Rattle.resume.proofs.+body+declaration+par_parts+part+present_parts+resume+seq_parts+side+signal_rule+suspend_part.Lts-suspend_part as suspend-part-lts
 use Rattle.react.proofs.after.Reads as after-reads
 use Rattle.reaction.proofs.nothing.Reads as nothing-reads
-use Rattle.rules_two.proofs.in_parallel.Reads as in-parallel-reads
+use Rattle.rules.proofs.in_parallel.Reads as in-parallel-reads
 use Rattle.declarations.proofs.in_signal.Reads as in-signal-reads
 use Rattle.declarations.proofs.in_signal_once.Reads as in-signal-once-reads
 use Rattle.rules.proofs.in_try.Reads as in-try-reads

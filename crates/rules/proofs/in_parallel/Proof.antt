@@ -1,7 +1,7 @@
-use Rattle.rules_two.proofs.Combining.{par-joins}
+use Rattle.rules.proofs.CombiningTwo.{par-joins}
 use borrow.Author.Needs.{needs}
-use Rattle.rules_two.proofs.in_parallel.Statement.{statement}
-use Rattle.rules_two.proofs.in_parallel.Tie as tie
+use Rattle.rules.proofs.in_parallel.Statement.{statement}
+use Rattle.rules.proofs.in_parallel.Tie as tie
 
 greater-of-requires : tie.Need-greater-of-requires
 greater-of-requires c κs = search needs

@@ -1,6 +1,6 @@
 use borrow.Author.Needs.{needs}
-use Rattle.rules_two.proofs.if_waiting.Statement.{statement}
-use Rattle.rules_two.proofs.if_waiting.Tie as tie
+use Rattle.rules.proofs.if_waiting.Statement.{statement}
+use Rattle.rules.proofs.if_waiting.Tie as tie
 
 enum-told : tie.Need-enum-told
 enum-told c = search needs

@@ -1,8 +1,8 @@
 use mathlib.Core.Path.{sym, _∙_}
-use Rattle.rules_two.proofs.Combining.{seq-goes-on}
+use Rattle.rules.proofs.CombiningTwo.{seq-goes-on}
 use borrow.Author.Needs.{needs}
-use Rattle.rules_two.proofs.in_sequence.Statement.{statement}
-use Rattle.rules_two.proofs.in_sequence.Tie as tie
+use Rattle.rules.proofs.in_sequence.Statement.{statement}
+use Rattle.rules.proofs.in_sequence.Tie as tie
 
 is-ended-requires : tie.Need-is-ended-requires
 is-ended-requires c κs = search needs

@@ -1,8 +1,8 @@
 use Rattle.sets.specs.Sets.{none}
-use Rattle.rules_two.proofs.Combining.{seq-stops}
+use Rattle.rules.proofs.CombiningTwo.{seq-stops}
 use borrow.Author.Needs.{needs}
-use Rattle.rules_two.proofs.in_first.Statement.{statement}
-use Rattle.rules_two.proofs.in_first.Tie as tie
+use Rattle.rules.proofs.in_first.Statement.{statement}
+use Rattle.rules.proofs.in_first.Tie as tie
 
 around-requires : tie.Need-around-requires
 around-requires c κs = search needs
