@@ -26,8 +26,8 @@ use Rattle.program.specs.declared.Start.the-variants.{Fresh, Waiting}
 use Rattle.program.specs.Program.{Reacted}
 use Rattle.box_ledgers.specs.Ledgers.{farmCount}
 use Rattle.esterel.specs.Errors.{firstError}
-use Rattle.completions.specs.Completions.{codeOf}
-use Rattle.completions.proofs.Completions.{code-of}
+use Rattle.reaction.specs.Completions.{codeOf}
+use Rattle.reaction.proofs.Completions.{code-of}
 use Rattle.box_deliveries.specs.Walks.{termOf, HasNamed, Instant}
 
 -- ---- a term has the emissions of its statement

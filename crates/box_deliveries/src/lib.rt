@@ -31,7 +31,7 @@ pub fn instant(
 {
     let r = program::react(s, origin, input, read_back, litres, second);
     let k = r.completion;
-    if completions::is_wrong(k) {
+    if reaction::is_wrong(k) {
         *litres = [0; limits::FARMS];
         return r;
     }

@@ -15,8 +15,8 @@ use Rattle.esterel.specs.Asked as Asked
 use Rattle.esterel.specs.Traced.{Traced, instantOf, startTraced}
 use Rattle.esterel.specs.Instants.{start}
 use Rattle.sequence.specs.Program.{program}
-use Rattle.completions.specs.declared.Completion.{Completion}
-use Rattle.completions.specs.declared.Completion.the-variants.{Ended, Waiting, Leaving, Wrong}
+use Rattle.reaction.specs.declared.Completion.{Completion}
+use Rattle.reaction.specs.declared.Completion.the-variants.{Ended, Waiting, Leaving, Wrong}
 use Rattle.reaction.specs.declared.Reaction.{Reaction}
 use Rattle.reaction.specs.Reactions.{reactionOf}
 use Rattle.instants.specs.Written.{writtenBy, writtenFrom}

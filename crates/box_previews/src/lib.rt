@@ -12,12 +12,12 @@ ghost use Rattle.box_previews.specs.Standing.{answersAt, Stands, OfEach}
 use box_fillings::Findings;
 use box_fillings::NEVER_AT;
 use box_fillings::WRONG_AT;
-use completions::Completion;
 use instants::Standing;
 use layout::SecondParts;
 use limits::SIGNAL_BYTES;
 use notes::Notes;
 use program::Start;
+use reaction::Completion;
 use reaction::Reaction;
 
 // The code of fillings that do not share one.

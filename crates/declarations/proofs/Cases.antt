@@ -19,8 +19,8 @@ use Rattle.theory.proofs.Rules.{either-wrong}
 use Rattle.reaction.specs.declared.Reaction.{Reaction}
 use Rattle.declarations.specs.declared.Choice.{Choice}
 use Rattle.declarations.specs.declared.Choice.the-variants.{Both, Neither, OnlyMinus, OnlyPlus, Inherited}
-use Rattle.completions.specs.Completions.{completionOf, greaterOf}
-use Rattle.completions.proofs.Completions.{code-of, greater-of}
+use Rattle.reaction.specs.Completions.{completionOf, greaterOf}
+use Rattle.reaction.proofs.Completions.{code-of, greater-of}
 use Rattle.reaction.specs.Reactions.{reactionOf, failedWith}
 use Rattle.declarations.specs.Choices.{choiceOf, caseIn}
 use Rattle.declarations.proofs.Fitting.{caseOf, same-case}

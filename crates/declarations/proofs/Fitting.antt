@@ -5,7 +5,7 @@ use mathlib.Core.Bool.{Bool, true, false, _||_, cond, true≢false}
 use Rattle.sets.specs.Sets.{member}
 use Rattle.esterel.specs.Reaction.{isWrong, Case, both, neither, only−, only+, inherited, inheritanceFirst, firstFit}
 use Rattle.reaction.specs.declared.Reaction.{Reaction}
-use Rattle.completions.specs.Completions.{codeOf}
+use Rattle.reaction.specs.Completions.{codeOf}
 use Rattle.declarations.specs.declared.Choice.{Choice}
 use Rattle.declarations.specs.declared.Choice.the-variants.{Both, Neither, OnlyMinus, OnlyPlus, Inherited}
 use Rattle.declarations.specs.Choices.{choiceOf, caseIn}

@@ -15,8 +15,8 @@ use Rattle.esterel.specs.Traced as Traces
 use Rattle.esterel.specs.Instants.{instant}
 use Rattle.esterel.specs.Traced.{traced, signalOnce}
 use Rattle.reaction.specs.declared.Reaction.{Reaction}
-use Rattle.completions.specs.Completions.{codeOf}
-use Rattle.completions.proofs.Completions.{code-of}
+use Rattle.reaction.specs.Completions.{codeOf}
+use Rattle.reaction.proofs.Completions.{code-of}
 use Rattle.reaction.specs.Reactions.{reactionOf}
 use Rattle.reaction.proofs.Values.{kept-two, made}
 use Rattle.declarations.proofs.Runs.{unmoved, Counted}

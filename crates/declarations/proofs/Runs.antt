@@ -9,8 +9,8 @@ use Rattle.labels.specs.Labels.{labelsWith, Represents}
 use Rattle.labels.proofs.LabelValues.{labels-of}
 use Rattle.esterel.specs.Reaction.{Code, ended, waiting, leaving, wrong, isWrong}
 use Rattle.esterel.specs.Errors.{Error}
-use Rattle.completions.specs.declared.Completion.{Completion}
-use Rattle.completions.specs.Completions.{completionOf}
+use Rattle.reaction.specs.declared.Completion.{Completion}
+use Rattle.reaction.specs.Completions.{completionOf}
 use Rattle.reaction.specs.declared.Reaction.{Reaction}
 use Rattle.reaction.specs.Reactions.{keptOf}
 

@@ -2,7 +2,7 @@
 use Prim.Native.Nat.{ℕ}
 use Rattle.sets.specs.Sets.{member}
 use Rattle.esterel.specs.Reaction as rules
-use Rattle.completions.specs.Completions.{codeOf}
+use Rattle.reaction.specs.Completions.{codeOf}
 use Rattle.reaction.specs.declared.Reaction.{Reaction}
 use Rattle.declarations.specs.declared.Choice.{Choice}
 use Rattle.declarations.specs.declared.Choice.the-variants.{Both, Neither, OnlyMinus, OnlyPlus, Inherited}

@@ -5,7 +5,7 @@ ghost use Rattle.declarations.specs.Choices.{choiceOf, caseIn};
 ghost use Prim.Native.Nat.{_+_, ℕ};
 ghost use Rattle.sets.specs.Sets.{none, join, remove};
 ghost use Rattle.labels.specs.Labels.{labelsWith};
-ghost use Rattle.completions.specs.Completions.{greaterOf};
+ghost use Rattle.reaction.specs.Completions.{greaterOf};
 ghost use Rattle.reaction.specs.Reactions.{keptOf, FromOne, FromTwo};
 ghost use Rattle.esterel.specs.Statement.{Scope, local, reported};
 ghost use Rattle.esterel.specs.Reaction.{outside};
@@ -28,8 +28,8 @@ pub fn choose(s: u8, minus: Reaction, plus: Reaction) -> Choice
 {
     let k = minus.completion;
     let l = plus.completion;
-    let wrong_minus = completions::is_wrong(k);
-    let wrong_plus = completions::is_wrong(l);
+    let wrong_minus = reaction::is_wrong(k);
+    let wrong_plus = reaction::is_wrong(l);
     if wrong_minus | wrong_plus {
         return Choice::Inherited;
     }
@@ -79,7 +79,7 @@ pub fn inherited(minus: Reaction, plus: Reaction, reactions: u32, asked: u32) ->
     Reaction {
         emitted: 0,
         labels: labels::empty(),
-        completion: completions::greater_of(k, l),
+        completion: reaction::greater_of(k, l),
         reactions,
         asked,
     }
@@ -94,7 +94,7 @@ pub fn declaring_once(kept: u32, p: Reaction) -> Reaction
     let k = p.completion;
     let labels = p.labels;
     let reactions = reaction::over_two(p.reactions, p.reactions);
-    if completions::is_wrong(k) {
+    if reaction::is_wrong(k) {
         reaction::made(0, labels::empty(), k, reactions, p.asked)
     } else {
         reaction::made(kept, labels, k, reactions, p.asked)

@@ -1,7 +1,7 @@
 -- An instant's records by its completion: what each arm of the code writes.
 use Prim.Native.Nat.{ℕ}
 use mathlib.Core.Path.{_≡_, sym, ap, _∙_}
-use Rattle.completions.specs.declared.Completion.{Completion}
+use Rattle.reaction.specs.declared.Completion.{Completion}
 use Rattle.tick.specs.Tick.{Outcome}
 use Rattle.instants.specs.Written.{writtenBy}
 

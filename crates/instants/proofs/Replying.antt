@@ -29,7 +29,7 @@ use Rattle.labels.proofs.LabelValues.{labelSet-of}
 use Rattle.labels.specs.declared.Labels.{Labels}
 use Rattle.sequence.specs.Writer.{Ranged}
 use Rattle.sequence.specs.Check.{Checked, sound, bad, checked, numberOf, checkOf}
-use Rattle.completions.specs.Completions.{completionOf}
+use Rattle.reaction.specs.Completions.{completionOf}
 use Rattle.reaction.specs.Reactions.{reactionOf}
 use Rattle.reaction.specs.declared.Reaction.{Reaction}
 use Rattle.numbers.proofs.Bytes.{le-low}

@@ -17,7 +17,7 @@ use Rattle.theory.proofs.Trees.{start-traced-seq, start-traced-par, start-trace
 use Rattle.theory.proofs.Asked.{one-run-signal}
 use Rattle.layout.specs.Layout.{rest, Ready}
 use Rattle.layout.proofs.Parts.{rest-is}
-use Rattle.completions.specs.Completions.{isEnded}
+use Rattle.reaction.specs.Completions.{isEnded}
 use Rattle.reaction.specs.declared.Reaction.{Reaction}
 use Rattle.reaction.specs.Reactions.{reactionOf, FromOne, FromTwo, Realizes}
 use Rattle.reaction.proofs.Accumulating.{seq-accumulates, first-accumulates, par-accumulates, loop-accumulates, present-accumulates, try-accumulates, suspend-accumulates, farms-one, farms-two, farms-signal, farms-once}

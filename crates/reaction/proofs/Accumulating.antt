@@ -18,7 +18,7 @@ use Rattle.esterel.specs.Errors.{Error}
 use Rattle.esterel.specs.Litres.{brought, chosen, passing}
 use Rattle.esterel.specs.Instants.{instant, codeTold}
 use Rattle.esterel.specs.Traced.{Traced, traced, instantOf, seqTraced, parTraced, loopTraced, presentTraced, tryTraced, suspendTraced, heldTraced, stoppedTraced, signalTraced, signalOnce}
-use Rattle.completions.specs.Completions.{isEnded}
+use Rattle.reaction.specs.Completions.{isEnded}
 use Rattle.reaction.specs.Reactions.{cappedOf, alone, reactionOf, countedAround, Accumulates, AccumulatesAt}
 
 -- what delivers none changes nothing

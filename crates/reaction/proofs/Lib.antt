@@ -1,2 +1,3 @@
 pub mod Accumulating
+pub mod Completions
 pub mod Values

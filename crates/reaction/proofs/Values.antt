@@ -15,8 +15,8 @@ use Rattle.esterel.specs.Instants as Instants
 use Rattle.esterel.specs.Traced as Traces
 use Rattle.esterel.specs.Instants.{instant, presentInstant}
 use Rattle.esterel.specs.Traced.{traced}
-use Rattle.completions.specs.declared.Completion.{Completion}
-use Rattle.completions.specs.Completions.{completionOf}
+use Rattle.reaction.specs.declared.Completion.{Completion}
+use Rattle.reaction.specs.Completions.{completionOf}
 use Rattle.reaction.specs.declared.Reaction.{Reaction}
 use Rattle.reaction.specs.Reactions.{keptOf, reactionOf, failedWith, countedAround}
 

@@ -1,1 +1,2 @@
+pub mod Completions
 pub mod Reactions

@@ -15,7 +15,7 @@ use Rattle.esterel.specs.Statement.{Statement}
 use Rattle.esterel.specs.Instants as Instants
 use Rattle.esterel.specs.Traced as Traces
 use Rattle.esterel.specs.Reaction as rules
-use Rattle.completions.specs.Completions.{completionOf}
+use Rattle.reaction.specs.Completions.{completionOf}
 use Rattle.reaction.specs.declared.Reaction.{Reaction}
 
 -- what 32 bits keep of a number: no accepted program takes more reactions (demands, Shows.counted)

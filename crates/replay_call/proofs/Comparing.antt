@@ -6,8 +6,8 @@ use lib.ListN.{length}
 use Rattle.labels.specs.Labels.{labelSet}
 use Rattle.labels.specs.declared.Labels.{Labels}
 use Rattle.reaction.specs.declared.Reaction.{Reaction}
-use Rattle.completions.specs.declared.Completion.{Completion}
-use Rattle.completions.specs.declared.Completion.the-variants.{Ended, Waiting, Leaving, Wrong}
+use Rattle.reaction.specs.declared.Completion.{Completion}
+use Rattle.reaction.specs.declared.Completion.the-variants.{Ended, Waiting, Leaving, Wrong}
 use Rattle.validity.specs.Activity.{Ranked, Masked}
 use Rattle.instants.specs.Written.{writtenFrom}
 use Rattle.instants.proofs.Lengths.{writes}

@@ -18,8 +18,8 @@ use Rattle.sequence.specs.Program.{program}
 use Rattle.checks.specs.Verdict.{Passed}
 use Rattle.reaction.specs.declared.Reaction.{Reaction}
 use Rattle.reaction.specs.Reactions.{reactionOf}
-use Rattle.completions.specs.declared.Completion.{Completion}
-use Rattle.completions.specs.declared.Completion.the-variants.{Ended, Waiting, Leaving, Wrong}
+use Rattle.reaction.specs.declared.Completion.{Completion}
+use Rattle.reaction.specs.declared.Completion.the-variants.{Ended, Waiting, Leaving, Wrong}
 use Rattle.instants.specs.Written.{Writable, writtenBy, writtenFrom}
 use Rattle.states.specs.StateRecord.{encodeState}
 use Rattle.states.proofs.StateLaws.{length-state}

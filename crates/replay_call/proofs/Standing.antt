@@ -31,7 +31,7 @@ use Rattle.labels.proofs.LabelValues.{labelSet-of}
 use Rattle.layout.specs.Known.{Known}
 use Rattle.checks.specs.Verdict.{Passed}
 use Rattle.validity.specs.Activity.{Ranked, Masked}
-use Rattle.completions.specs.declared.Completion.the-variants.{Waiting}
+use Rattle.reaction.specs.declared.Completion.the-variants.{Waiting}
 use Rattle.reaction.specs.declared.Reaction.{Reaction}
 use Rattle.reaction.specs.Reactions.{reactionOf}
 use Rattle.numbers.specs.Bytes.{leBytes}

@@ -5,8 +5,8 @@ use mathlib.Core.Bool.{true, false}
 use mathlib.Core.List.{List}
 use Rattle.labels.specs.Labels.{labelSet}
 use Rattle.labels.specs.declared.Labels.{Labels}
-use Rattle.completions.specs.declared.Completion.{Completion}
-use Rattle.completions.specs.declared.Completion.the-variants.{Ended, Waiting, Leaving, Wrong}
+use Rattle.reaction.specs.declared.Completion.{Completion}
+use Rattle.reaction.specs.declared.Completion.the-variants.{Ended, Waiting, Leaving, Wrong}
 use Rattle.reaction.specs.declared.Reaction.{Reaction}
 use Rattle.validity.specs.Activity.{Ranked, Masked}
 use Rattle.instants.specs.Written.{writtenFrom}

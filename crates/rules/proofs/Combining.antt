@@ -16,9 +16,9 @@ use Rattle.esterel.specs.Errors.{Error, instantaneous}
 use Rattle.esterel.specs.Traced as Traces
 use Rattle.esterel.specs.Instants.{instant}
 use Rattle.esterel.specs.Traced.{traced, loopTraced, presentTraced, tryTraced, suspendTraced, heldTraced, stoppedTraced}
-use Rattle.completions.specs.declared.Completion.{Completion}
+use Rattle.reaction.specs.declared.Completion.{Completion}
 use Rattle.reaction.specs.declared.Reaction.{Reaction}
-use Rattle.completions.specs.Completions.{completionOf, isEnded, caught}
+use Rattle.reaction.specs.Completions.{completionOf, isEnded, caught}
 use Rattle.reaction.specs.Reactions.{keptOf, alone, reactionOf, failedWith, countedAround}
 use Rattle.reaction.proofs.Values.{kept-one, counts-only}
 

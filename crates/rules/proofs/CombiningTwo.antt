@@ -12,10 +12,10 @@ use Rattle.esterel.specs.Reaction.{Code, ended, waiting, leaving, wrong, greate
 use Rattle.esterel.specs.Traced as Traces
 use Rattle.esterel.specs.Instants.{instant, ifWrong}
 use Rattle.esterel.specs.Traced.{traced, seqTraced, parTraced}
-use Rattle.completions.specs.declared.Completion.{Completion}
+use Rattle.reaction.specs.declared.Completion.{Completion}
 use Rattle.reaction.specs.declared.Reaction.{Reaction}
-use Rattle.completions.specs.Completions.{completionOf, codeOf, greaterOf, isEnded}
-use Rattle.completions.proofs.Completions.{code-of, greater-of}
+use Rattle.reaction.specs.Completions.{completionOf, codeOf, greaterOf, isEnded}
+use Rattle.reaction.proofs.Completions.{code-of, greater-of}
 use Rattle.reaction.specs.Reactions.{keptOf, reactionOf, countedAround}
 use Rattle.reaction.proofs.Values.{kept-two, made}
 

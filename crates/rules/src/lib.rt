@@ -10,10 +10,10 @@ ghost use Rattle.esterel.specs.Traced.{loopTraced, presentTraced, tryTraced, su
 ghost use Rattle.reaction.specs.Reactions.{reactionOf, FromOne, FromTwo};
 ghost use mathlib.Core.Bool.{false};
 ghost use Rattle.esterel.specs.Reaction.{ifWaiting};
-ghost use Rattle.completions.specs.Completions.{codeOf, isEnded};
+ghost use Rattle.reaction.specs.Completions.{codeOf, isEnded};
 ghost use Rattle.esterel.specs.Traced as Traces;
-use completions::Completion;
 use labels::Labels;
+use reaction::Completion;
 use reaction::Reaction;
 
 // loop p at the offset `place`
@@ -21,7 +21,7 @@ pub fn in_loop(place: u16, p: Reaction) -> Reaction
     ensures { λ r. ⌜ ((u : Statement) → FromOne (loopTraced place u) p r) ⌝ }
 {
     let k = p.completion;
-    if completions::is_ended(k) {
+    if reaction::is_ended(k) {
         reaction::failing(1, place, reaction::over_one(p.reactions), p.asked)
     } else {
         reaction::around(p, 0)
@@ -45,7 +45,7 @@ pub fn in_try(p: Reaction) -> Reaction
     Reaction {
         emitted: p.emitted,
         labels,
-        completion: completions::caught(k),
+        completion: reaction::caught(k),
         reactions: reaction::over_one(p.reactions),
         asked: p.asked,
     }
@@ -91,7 +91,7 @@ pub fn in_sequence(p: Reaction, q: Reaction) -> Reaction
     ensures { λ r. ⌜ ((u : Statement) → FromTwo (seqTraced u) p q r) ⌝ }
 {
     let k = p.completion;
-    if completions::is_ended(k) {
+    if reaction::is_ended(k) {
         let labels = q.labels;
         let l = q.completion;
         Reaction {
@@ -120,7 +120,7 @@ pub fn in_parallel(p: Reaction, q: Reaction) -> Reaction
 {
     let k = p.completion;
     let l = q.completion;
-    let code = completions::greater_of(k, l);
+    let code = reaction::greater_of(k, l);
     Reaction {
         emitted: signals::union(p.emitted, q.emitted),
         labels: if_waiting(code, labels::union(p.labels, q.labels)),

@@ -1,6 +1,6 @@
 use native.Mathlib.Omega.{arith}
 use mathlib.Core.Path.{refl, ap₂, subst}
-use Rattle.completions.specs.declared.Completion.the-variants.{Ended, Waiting, Leaving, Wrong}
+use Rattle.reaction.specs.declared.Completion.the-variants.{Ended, Waiting, Leaving, Wrong}
 use Rattle.tick.specs.Tick.{outcome}
 use Rattle.instants.specs.Written.{WritableCode}
 use Rattle.instants.proofs.Arms.{arm}

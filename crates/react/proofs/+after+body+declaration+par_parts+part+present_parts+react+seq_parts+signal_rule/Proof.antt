@@ -67,7 +67,7 @@ use Rattle.rules.proofs.in_sequence.Reads as in-sequence-reads
 use Rattle.declarations.proofs.in_signal.Reads as in-signal-reads
 use Rattle.declarations.proofs.in_signal_once.Reads as in-signal-once-reads
 use Rattle.rules.proofs.in_try.Reads as in-try-reads
-use Rattle.completions.proofs.is_ended.Reads as is-ended-reads
+use Rattle.reaction.proofs.is_ended.Reads as is-ended-reads
 use Rattle.signals.proofs.member.Reads as member-reads
 use Rattle.reaction.proofs.asks.Reads as asks-reads
 use Rattle.reaction.proofs.restore.Reads as restore-reads

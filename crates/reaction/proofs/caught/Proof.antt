@@ -1,10 +1,10 @@
 use mathlib.Core.Path.{ap}
 use native.Mathlib.Omega.{arith}
 use borrow.Author.Tests.{ne-eqb}
-use Rattle.completions.specs.declared.Completion.the-variants.{Leaving}
+use Rattle.reaction.specs.declared.Completion.the-variants.{Leaving}
 use borrow.Author.Needs.{needs}
-use Rattle.completions.proofs.caught.Statement.{statement}
-use Rattle.completions.proofs.caught.Tie as tie
+use Rattle.reaction.proofs.caught.Statement.{statement}
+use Rattle.reaction.proofs.caught.Tie as tie
 
 enum-told : tie.Need-enum-told
 enum-told c = search needs

@@ -5,8 +5,8 @@ use mathlib.Core.Option.{Option}
 use lib.Dec.{eqb}
 use Rattle.esterel.specs.Reaction.{Code, ended, waiting, leaving, wrong}
 use Rattle.esterel.specs.Errors.{Error, blame}
-use Rattle.completions.specs.declared.Completion.{Completion}
-use Rattle.completions.specs.declared.Completion.the-variants.{Ended, Waiting, Leaving, Wrong}
+use Rattle.reaction.specs.declared.Completion.{Completion}
+use Rattle.reaction.specs.declared.Completion.the-variants.{Ended, Waiting, Leaving, Wrong}
 
 -- 01: 'wrong with kind and place'
 abbrev pub completionOf : Code → Option Error → Completion

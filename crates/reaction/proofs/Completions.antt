@@ -4,7 +4,7 @@ use mathlib.Core.Option.{Option}
 use Rattle.esterel.specs.Reaction.{Code, ended, waiting, leaving, wrong, greater}
 use Rattle.esterel.specs.Errors.{Error}
 use Rattle.esterel.specs.Instants.{ifWrong}
-use Rattle.completions.specs.Completions.{completionOf, codeOf, greaterOf}
+use Rattle.reaction.specs.Completions.{completionOf, codeOf, greaterOf}
 
 pub code-of : (k : Code) (x : Option Error) → codeOf (completionOf k x) ≡ k
 code-of ended x = refl
