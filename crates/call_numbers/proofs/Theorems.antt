@@ -14,7 +14,7 @@ use borrow.Author.Tests.{eqb-true}
 use Rattle.esterel.specs.Statement.{Statement}
 use Rattle.esterel.specs.Sizes.{signalNesting}
 use Rattle.esterel.specs.Ceiling.{ceiling}
-use Rattle.extents.proofs.Sizes.{nested}
+use Rattle.ceilings.proofs.Sizes.{nested}
 use Rattle.sequence.specs.Program.{program}
 use Rattle.sequence.specs.Check.{Checked, sound, bad, checked, numberOf, checkOf}
 use Rattle.sequence.specs.Ceilings.{ceilingOf}

@@ -15,13 +15,13 @@ use Rattle.sequence.proofs.Extents.{few-signals}
 use Rattle.layout.specs.Notes.{mostIn}
 use Rattle.checks.specs.Verdict.{Judged, Passed}
 use Rattle.checks.proofs.Passing.{as-ready}
-use Rattle.extents.specs.declared.Extent.{Extent}
-use Rattle.extents.specs.Extents.{Has, Countable, HasWith}
+use Rattle.ceilings.specs.declared.Extent.{Extent}
+use Rattle.ceilings.specs.Extents.{Has, Countable, HasWith}
 use Rattle.sequence.specs.Ceilings.{ceilingOf}
-use Rattle.ceilings_products.specs.Ceilings.{Plannable, product}
+use Rattle.ceilings.specs.Ceilings.{Plannable, product}
 use Rattle.ceilings.specs.declared.Plan.the-variants.{Refused, Takes}
 use Rattle.ceilings.specs.Plans.{planOf}
-use Rattle.extents.proofs.Sizes.{sized}
+use Rattle.ceilings.proofs.Sizes.{sized}
 
 -- ---- the product
 pub ceiling-is : (readBack k : ℕ) (p : Statement) → k ≡ length (readBackSignals readBack)

@@ -1,1 +1,3 @@
+pub mod Ceilings
+pub mod Extents
 pub mod Plans

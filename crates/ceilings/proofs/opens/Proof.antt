@@ -5,8 +5,8 @@ use mathlib.Core.Option.{some}
 use native.Mathlib.Omega.{arith}
 use Rattle.sequence.specs.Commands.{Command, commandOf, partCount, headLength}
 use Rattle.sequence.proofs.Table.{between, valued, last-byte}
-use Rattle.extents.proofs.opens.Statement.{statement}
-use Rattle.extents.proofs.opens.Tie as tie
+use Rattle.ceilings.proofs.opens.Statement.{statement}
+use Rattle.ceilings.proofs.opens.Tie as tie
 
 abbrev Opens : (bytes parts b : ℕ) → Type 0
 Opens n m b = (c : Command) → commandOf b ≡ some c → (n ≡ headLength c) × (m ≡ partCount c)

@@ -15,12 +15,12 @@ use Rattle.sequence.specs.Writer.{size}
 use Rattle.sequence.proofs.Table.{byteOf, byte-is, command-at, at-most-two}
 use Rattle.layout.specs.Layout.{rest, Lies}
 use Rattle.layout.proofs.Parts.{rest-is}
-use Rattle.extents.specs.declared.Tally.{Tally}
-use Rattle.extents.specs.declared.Extent.{Extent}
-use Rattle.extents.specs.declared.Head.{Head}
-use Rattle.extents.specs.Extents.{Has, HeadOf, HeadAt, Countable, TallyOf, Tallied, HasWith}
-use Rattle.extents.proofs.Sizes.{sized}
-use Rattle.extents.proofs.Passing.{repeats, same, Pass, lies-passed}
+use Rattle.ceilings.specs.declared.Tally.{Tally}
+use Rattle.ceilings.specs.declared.Extent.{Extent}
+use Rattle.ceilings.specs.declared.Head.{Head}
+use Rattle.ceilings.specs.Extents.{Has, HeadOf, HeadAt, Countable, TallyOf, Tallied, HasWith}
+use Rattle.ceilings.proofs.Sizes.{sized}
+use Rattle.ceilings.proofs.Passing.{repeats, same, Pass, lies-passed}
 
 -- ---- the invariant
 pub record Left (s : List ℕ) (depth at left count loops : ℕ) : Type 0 where

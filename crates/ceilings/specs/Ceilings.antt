@@ -1,7 +1,7 @@
 -- What the ceiling of a sequence with a read-back set is made of (02, item 6).
 use Prim.Native.Nat.{ℕ, _+_, _*_, _^_, _≤_, _<_}
 use Rattle.limits.specs.Limits.{maxBytes, maxDepth, maxSignals}
-use Rattle.extents.specs.declared.Extent.{Extent}
+use Rattle.ceilings.specs.declared.Extent.{Extent}
 
 -- numbers of a whole sequence whose signals leave room for k declarations
 pub record Plannable (n : Extent) (k : ℕ) : Type 0 where

@@ -10,9 +10,9 @@ use Rattle.limits.specs.Limits.{maxBytes, maxDepth}
 use Rattle.sequence.specs.Commands.{Command, commandOf, partCount, headLength}
 use Rattle.sequence.specs.Writer.{size}
 use Rattle.layout.specs.Layout.{Lies}
-use Rattle.extents.specs.declared.Extent.{Extent}
-use Rattle.extents.specs.declared.Head.{Head}
-use Rattle.extents.specs.declared.Tally.{Tally}
+use Rattle.ceilings.specs.declared.Extent.{Extent}
+use Rattle.ceilings.specs.declared.Head.{Head}
+use Rattle.ceilings.specs.declared.Tally.{Tally}
 
 -- n has the numbers of p
 pub record Has (p : Statement) (n : Extent) : Type 0 where

@@ -1,7 +1,7 @@
 use borrow.Author.Needs.{needs}
-use Rattle.ceilings_products.proofs.Products.{power, product-fits, ceiling-fits}
-use Rattle.ceilings_products.proofs.under.Statement.{statement}
-use Rattle.ceilings_products.proofs.under.Tie as tie
+use Rattle.ceilings.proofs.Products.{power, product-fits, ceiling-fits}
+use Rattle.ceilings.proofs.under.Statement.{statement}
+use Rattle.ceilings.proofs.under.Tie as tie
 
 size-requires : tie.Need-size-requires
 size-requires c κs = search needs

@@ -15,7 +15,7 @@ use Rattle.sequence.specs.Writer.{size}
 use Rattle.sequence.proofs.Table.{leaves, ones, twos, at-most-two}
 use Rattle.layout.specs.Layout.{rest, secondAt, Two, Parts, Begins, Form, Lies}
 use Rattle.layout.proofs.Parts.{rest-is}
-use Rattle.extents.proofs.Sizes.{leaf-shape, one-shape, two-shape}
+use Rattle.ceilings.proofs.Sizes.{leaf-shape, one-shape, two-shape}
 
 -- ---- the loops that a command puts around its part
 abbrev pub repeats : Command → ℕ

@@ -1,8 +1,8 @@
 use mathlib.Core.Path.{refl}
 use borrow.Author.Needs.{needs}
-use Rattle.extents.proofs.Counting.{extent}
-use Rattle.extents.proofs.of_sequence.Statement.{statement}
-use Rattle.extents.proofs.of_sequence.Tie as tie
+use Rattle.ceilings.proofs.Counting.{extent}
+use Rattle.ceilings.proofs.of_sequence.Statement.{statement}
+use Rattle.ceilings.proofs.of_sequence.Tie as tie
 
 of-statement-requires : tie.Need-of-statement-requires
 of-statement-requires c κs = search needs

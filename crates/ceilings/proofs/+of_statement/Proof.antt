@@ -5,14 +5,14 @@ use lib.ListN.{length}
 use borrow.Author.Needs.{needs}
 use borrow.Fn.Kinds.{In}
 use borrow.Fn.PlainCycle.{Measures, is, falls, and}
-use Rattle.extents.proofs.Counting.{Left, starts, here, few-left, one-more, inside, on, leaf-done, two-done, one-done, levels, part, part-inside, part-few, part-low, loop-done, ends}
-use Rattle.extents.proofs.of_statement.Reads as of-statement
-use Rattle.extents.proofs.of_statement.Kinds as of-statement-kinds
-use Rattle.extents.proofs.+of_statement.Lts-of_statement as of-statement-lts
-use Rattle.extents.proofs.greater.Reads as greater-reads
-use Rattle.extents.proofs.opens.Reads as opens-reads
-use Rattle.extents.proofs.+of_statement.{statement}
-use Rattle.extents.proofs.+of_statement.Tie.{close}
+use Rattle.ceilings.proofs.Counting.{Left, starts, here, few-left, one-more, inside, on, leaf-done, two-done, one-done, levels, part, part-inside, part-few, part-low, loop-done, ends}
+use Rattle.ceilings.proofs.of_statement.Reads as of-statement
+use Rattle.ceilings.proofs.of_statement.Kinds as of-statement-kinds
+use Rattle.ceilings.proofs.+of_statement.Lts-of_statement as of-statement-lts
+use Rattle.ceilings.proofs.greater.Reads as greater-reads
+use Rattle.ceilings.proofs.opens.Reads as opens-reads
+use Rattle.ceilings.proofs.+of_statement.{statement}
+use Rattle.ceilings.proofs.+of_statement.Tie.{close}
 
 abbrev μ-of-statement : Measures 1 of-statement-kinds.ps ℕ
 μ-of-statement κs a = a .1 .0

@@ -1,3 +1,0 @@
-pub mod Sizes
-pub mod Passing
-pub mod Counting
