@@ -1,2 +1,3 @@
+pub mod LabelRow
 pub mod Passing
 pub mod Verdicts

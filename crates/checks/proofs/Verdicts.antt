@@ -27,7 +27,7 @@ use Rattle.layout.proofs.Noting as Noting
 use Rattle.layout.proofs.Laid.{lies, ready}
 use Rattle.layout.specs.Known.{Known}
 use Rattle.wellformed.specs.Survey.{Standing}
-use Rattle.checks_labels.specs.Labelling.{ByLabels}
+use Rattle.checks.specs.Labelling.{ByLabels}
 use Rattle.checks.specs.Verdict.{Judged}
 
 never-sound {ℓ} : {A : Type ℓ} {k : ℕ} {p : Statement} → bad k ≡ sound p → A

@@ -1,13 +1,64 @@
 // The check of a sequence with a read-back set (01, rows 2 to 10; 02, row 18). Of a sound one it leaves the table of second parts and
 // the notes of labels.
+ghost use Rattle.limits.specs.Limits.{maxDepth, maxBytes, signalCount};
+ghost use Rattle.wellformed.specs.Survey.{Standing};
+ghost use Rattle.checks.specs.Labelling.{ByLabels};
 ghost use mathlib.Core.Path.{_≡_};
+ghost use mathlib.Core.Bool.{_&&_, cond};
+ghost use lib.Dec.{leb, ltb};
 ghost use lib.ListN.{length};
-ghost use Rattle.limits.specs.Limits.{maxBytes};
+ghost use Rattle.sets.specs.Sets.{membersFrom};
 ghost use Rattle.layout.specs.Notes.{noNotes};
 ghost use Rattle.checks.specs.Verdict.{Judged};
 use layout::SecondParts;
 use notes::Notes;
 use reading::reader::Reading;
+
+// The first of rows 8, 9 and 10 that holds, or 0. Without setpauses neither row 9 nor row 10 can.
+pub fn label_row(s: &[u8], notes: &Notes) -> u8
+    requires { ⌜ Standing maxDepth 0 (now s) ⌝ }
+    ensures { λ r. ⌜ ByLabels (now (s .entry)) (now (notes .entry)) r ⌝ }
+{
+    if !notes::is_distinct(notes) {
+        return 8;
+    }
+    let setpauses = notes::setpauses(notes);
+    if labels::is_empty(setpauses) {
+        return 0;
+    }
+    let pauses = notes::pauses(notes);
+    if !labels::subset(setpauses, pauses) {
+        return 9;
+    }
+    if wellformed::triggers::is_well_formed(s, pauses) {
+        0
+    } else {
+        10
+    }
+}
+
+// Has a sequence of n bytes one, and no more than are allowed?
+pub fn is_sized(n: usize) -> bool
+    ensures { λ r. ⌜ r ≡ (leb 1 n && leb n maxBytes) ⌝ }
+{
+    if n == 0 {
+        return false;
+    }
+    n <= limits::MAX_BYTES
+}
+
+// Row 6 or 7, or 0, of a sequence of `bytes` bytes whose statement has n; `left` more signals may stand around it.
+pub fn after_reading(n: usize, left: u8, bytes: usize, read_back: u32) -> u8
+    ensures { λ r. ⌜ r ≡ cond (ltb left (length (membersFrom signalCount 0 «read_back»))) 6 (cond (ltb n bytes) 7 0) ⌝ }
+{
+    if left < signals::size(read_back) {
+        return 6;
+    }
+    if n < bytes {
+        return 7;
+    }
+    0
+}
 
 // The row that turns the sequence down, or 0.
 pub fn check(s: &[u8], read_back: u32, second: &mut SecondParts, notes: &mut Notes) -> u8
@@ -15,15 +66,15 @@ pub fn check(s: &[u8], read_back: u32, second: &mut SecondParts, notes: &mut Not
     requires { ⌜ now notes ≡ noNotes ⌝ }
     ensures { λ r. ⌜ Judged (now (s .entry)) «read_back» (now (second .exit)) (now (notes .exit)) r ⌝ }
 {
-    if !checks_rows::is_sized(s.len()) {
+    if !is_sized(s.len()) {
         return 2;
     }
     match reading::reader::read_sequence(s, second, notes) {
         Reading::Refused(row) => row,
         Reading::Accepted(n, left) => {
-            let row = checks_rows::after_reading(n, left, s.len(), read_back);
+            let row = after_reading(n, left, s.len(), read_back);
             if row == 0 {
-                return checks_labels::label_row(s, notes);
+                return label_row(s, notes);
             }
             row
         }

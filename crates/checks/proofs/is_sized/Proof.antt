@@ -1,7 +1,7 @@
 use native.Mathlib.Omega.{arith}
 use borrow.Author.Tests.{le-leb, lt-leb}
-use Rattle.checks_rows.proofs.is_sized.Statement.{statement}
-use Rattle.checks_rows.proofs.is_sized.Tie as tie
+use Rattle.checks.proofs.is_sized.Statement.{statement}
+use Rattle.checks.proofs.is_sized.Tie as tie
 
 returns : tie.Need-returns
 returns c = rw (lt-leb 1 (c .before .args .n) (omega (arith, c .if1 .taken)))

@@ -1,7 +1,7 @@
 use borrow.Author.Needs.{needs}
 use borrow.Author.Tests.{lt-ltb, le-ltb}
-use Rattle.checks_rows.proofs.after_reading.Statement.{statement}
-use Rattle.checks_rows.proofs.after_reading.Tie as tie
+use Rattle.checks.proofs.after_reading.Statement.{statement}
+use Rattle.checks.proofs.after_reading.Tie as tie
 
 size-requires : tie.Need-size-requires
 size-requires c κs = search needs

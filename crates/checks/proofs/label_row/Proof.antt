@@ -1,8 +1,8 @@
 use borrow.Author.Tests.{not-true, not-false}
-use Rattle.checks_labels.proofs.LabelRow.{eight, without-setpauses, nine, sound, ten}
+use Rattle.checks.proofs.LabelRow.{eight, without-setpauses, nine, sound, ten}
 use borrow.Author.Needs.{needs}
-use Rattle.checks_labels.proofs.label_row.Statement.{statement}
-use Rattle.checks_labels.proofs.label_row.Tie as tie
+use Rattle.checks.proofs.label_row.Statement.{statement}
+use Rattle.checks.proofs.label_row.Tie as tie
 
 is-distinct-requires : tie.Need-is-distinct-requires
 is-distinct-requires c κs = search needs
