@@ -10,9 +10,9 @@ use Rattle.esterel.specs.Statement.{Statement}
 use Rattle.esterel.specs.LabelTests as Esterel
 use Rattle.esterel.specs.LabelTests.{pauses, targeted, exclusiveWith, concurrentWith, wellFormed}
 use Rattle.theory.proofs.LabelTests.{rivals-paused, aside-paused, unmixed-is}
-use Rattle.wellformed_matrix.specs.Rows.{rowOf}
-use Rattle.wellformed_clashes.specs.Clashes.{RowsWithin, Clash, Clashes}
-use Rattle.wellformed_clashes.proofs.Clashes.{clashes-of-all}
+use Rattle.wellformed.specs.Rows.{rowOf}
+use Rattle.wellformed.specs.Clashes.{RowsWithin, Clash, Clashes}
+use Rattle.wellformed.proofs.Clashes.{clashes-of-all}
 
 module _ (p : Statement) (exclusive concurrent : List ℕ) (er : (k : ℕ) → rowOf exclusive k ≡ exclusiveWith p k) (es : (k : ℕ) → rowOf concurrent k ≡ concurrentWith p k) where
   pair-is : (k l : ℕ) → (member l (rowOf exclusive k) || member k (rowOf exclusive l)) ≡ Esterel.exclusive p k l

@@ -1,3 +1,5 @@
-pub mod Passing
-pub mod Surveyed
+pub mod Clashes
 pub mod Formed
+pub mod Passing
+pub mod Rows
+pub mod Surveyed

@@ -14,7 +14,7 @@ use Rattle.esterel.specs.LabelTests.{labelsOf, alternative, parallel}
 use Rattle.esterel.specs.LabelRows.{addRow, further, fill}
 use Rattle.esterel.specs.Ranks.{middle}
 use Rattle.labels.specs.Labels.{labelSet}
-use Rattle.wellformed_matrix.specs.Rows.{rowOf, addRowBelow, Updates}
+use Rattle.wellformed.specs.Rows.{rowOf, addRowBelow, Updates}
 use Rattle.numbers.specs.Bytes.{leBytes}
 use Rattle.sequence.specs.Writer.{bytesOf, size}
 use Rattle.sequence.specs.Commands.{Command}
@@ -22,9 +22,9 @@ use Rattle.layout.specs.Layout.{rest, secondAt, Two, Lies, Ready}
 use Rattle.sequence.proofs.Table.{byteOf}
 use Rattle.layout.proofs.Laid.{ready, by-command, command, first-ready}
 use Rattle.layout.specs.Joints.{jointOf}
-use Rattle.wellformed_exclusion.specs.declared.Before.{Before}
-use Rattle.wellformed_exclusion.specs.declared.Walked.{Walked}
-use Rattle.wellformed_exclusion.specs.Exclusion.{Carries, Joins, BeginsSecond}
+use Rattle.wellformed.specs.declared.exclusion.Before.{Before}
+use Rattle.wellformed.specs.declared.exclusion.Walked.{Walked}
+use Rattle.wellformed.specs.Exclusion.{Carries, Joins, BeginsSecond}
 use Rattle.wellformed.specs.Survey.{Standing, StandingTwo, Past, Passes, PastTwo}
 
 -- ---- rows

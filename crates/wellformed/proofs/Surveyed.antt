@@ -17,7 +17,7 @@ use Rattle.esterel.specs.Statement.{Statement}
 use Rattle.esterel.specs.LabelTests.{labelsOf, Joint, before}
 use Rattle.esterel.specs.LabelRows.{fill}
 use Rattle.theory.proofs.LabelRows.{fill-is}
-use Rattle.wellformed_matrix.specs.Rows.{rowBelow, rowOf, Updates}
+use Rattle.wellformed.specs.Rows.{rowBelow, rowOf, Updates}
 
 pub nothing-before : (x y : Bool) (j : Joint) (p : Statement) {s : ℕ} {m n : List ℕ} → s ≡ none → Updates (fill x y j p s) m n → Updates (fill x y j p none) m n
 nothing-before x y j p {s} {m} {n} e t = subst (λ (k : ℕ). Updates (fill x y j p k) m n) e t

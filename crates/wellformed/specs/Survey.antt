@@ -10,13 +10,13 @@ use Rattle.esterel.specs.Statement.{Statement}
 use Rattle.esterel.specs.LabelTests.{labelsOf, pauses, triggers, Joint, alternative, parallel}
 use Rattle.esterel.specs.LabelRows.{further, fill}
 use Rattle.labels.specs.Labels.{labelSet}
-use Rattle.wellformed_matrix.specs.Rows.{Updates}
+use Rattle.wellformed.specs.Rows.{Updates}
 use Rattle.sequence.specs.Writer.{size}
 use Rattle.layout.specs.Layout.{Two, Lies, Ready, Pair}
 use Rattle.layout.specs.Joints.{jointOf}
-use Rattle.wellformed_exclusion.specs.declared.Before.{Before}
-use Rattle.wellformed_exclusion.specs.declared.Walked.{Walked}
-use Rattle.wellformed_exclusion.specs.Exclusion.{Carries}
+use Rattle.wellformed.specs.declared.exclusion.Before.{Before}
+use Rattle.wellformed.specs.declared.exclusion.Walked.{Walked}
+use Rattle.wellformed.specs.Exclusion.{Carries}
 
 -- ---- what the walk requires
 pub record Standing (d a : ℕ) (bs : List ℕ) : Type 0 where

@@ -5,9 +5,9 @@ ghost use lib.ListN.{length};
 ghost use Rattle.limits.specs.Limits.{maxDepth};
 ghost use Rattle.layout.specs.Layout.{rest};
 ghost use Rattle.wellformed.specs.Survey.{Standing, StandingTwo, Passes, PassesTwo, Surveys};
-use wellformed_exclusion::Before;
-use wellformed_exclusion::Walked;
-use wellformed_matrix::Matrix;
+use crate::exclusion::Before;
+use crate::exclusion::Walked;
+use crate::matrix::Matrix;
 
 // Past the statement at the front of s, which stands at the offset `at`.
 fn pass(
@@ -24,24 +24,18 @@ fn pass(
 {
     let command = s[0];
     match command {
-        limits::NOTHING => wellformed_exclusion::at_other(at + 1),
-        limits::PAUSE => wellformed_exclusion::at_pause(
-            s[1],
-            at + 2,
-            before,
-            exclusive,
-            concurrent,
-        ),
+        limits::NOTHING => crate::exclusion::at_other(at + 1),
+        limits::PAUSE => crate::exclusion::at_pause(s[1], at + 2, before, exclusive, concurrent),
         limits::SEQUENCE => pass_parts(s, at, 1, false, depth, before, exclusive, concurrent),
         limits::PARALLEL => pass_parts(s, at, 1, true, depth, before, exclusive, concurrent),
         limits::LOOP => pass_part(s, 1, at + 1, depth - 1, before, exclusive, concurrent),
         limits::PRESENT => pass_parts(s, at, 2, false, depth, before, exclusive, concurrent),
         limits::SIGNAL => pass_part(s, 2, at + 2, depth - 1, before, exclusive, concurrent),
         limits::TRY => pass_part(s, 1, at + 1, depth - 1, before, exclusive, concurrent),
-        limits::SETPAUSE => wellformed_exclusion::at_setpause(s[1], at + 2, before, concurrent),
+        limits::SETPAUSE => crate::exclusion::at_setpause(s[1], at + 2, before, concurrent),
         limits::SUSPEND => pass_part(s, 2, at + 2, depth - 1, before, exclusive, concurrent),
-        limits::DELIVER => wellformed_exclusion::at_other(at + 6),
-        _ => wellformed_exclusion::at_other(at + 2),
+        limits::DELIVER => crate::exclusion::at_other(at + 6),
+        _ => crate::exclusion::at_other(at + 2),
     }
 }
 
@@ -81,9 +75,9 @@ fn pass_parts(
     let p = pass_part(s, w, at + w, depth - 1, before, exclusive, concurrent);
     let m = p.end;
     let n = m - at;
-    let beyond = wellformed_exclusion::before_second(parallel, before, p);
+    let beyond = crate::exclusion::before_second(parallel, before, p);
     let q = pass_part(s, n, m, depth - 1, beyond, exclusive, concurrent);
-    wellformed_exclusion::joined(p, q)
+    crate::exclusion::joined(p, q)
 }
 
 // What the labels of the whole statement add to the two matrices.

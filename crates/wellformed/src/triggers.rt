@@ -3,16 +3,16 @@ ghost use Rattle.labels.specs.Labels.{labelSet};
 ghost use Rattle.limits.specs.Limits.{maxDepth};
 ghost use Rattle.wellformed.specs.Survey.{Standing};
 ghost use Rattle.wellformed.specs.Triggers.{TellsWellFormed};
+use crate::matrix::Matrix;
 use labels::Labels;
-use wellformed_matrix::Matrix;
 
 // Is the statement that lies in s well-formed? Its pauses are known, and row 9 does not hold of it.
 pub fn is_well_formed(s: &[u8], pauses: Labels) -> bool
     requires { ⌜ Standing maxDepth 0 (now s) ⌝ }
     ensures { λ r. ⌜ TellsWellFormed (now (s .entry)) (labelSet pauses) r ⌝ }
 {
-    let mut exclusive: Matrix = [0; wellformed_matrix::LENGTH];
-    let mut concurrent: Matrix = [0; wellformed_matrix::LENGTH];
+    let mut exclusive: Matrix = [0; crate::matrix::LENGTH];
+    let mut concurrent: Matrix = [0; crate::matrix::LENGTH];
     crate::survey::survey(s, &mut exclusive, &mut concurrent);
-    !wellformed_clashes::any_clash(&exclusive, &concurrent, pauses)
+    !crate::clash::any_clash(&exclusive, &concurrent, pauses)
 }

@@ -37,11 +37,11 @@ use Rattle.wellformed.proofs.survey.+pass+pass_part+pass_parts.Lts-pass
 use Rattle.wellformed.proofs.survey.pass_parts.Reads as pass-parts
 use Rattle.wellformed.proofs.survey.pass_parts.Kinds as pass-parts-kinds
 use Rattle.wellformed.proofs.survey.+pass+pass_part+pass_parts.Lts-pass_parts as pass-parts-lts
-use Rattle.wellformed_exclusion.proofs.at_other.Reads as at-other-reads
-use Rattle.wellformed_exclusion.proofs.at_pause.Reads as at-pause-reads
-use Rattle.wellformed_exclusion.proofs.at_setpause.Reads as at-setpause-reads
-use Rattle.wellformed_exclusion.proofs.before_second.Reads as before-second-reads
-use Rattle.wellformed_exclusion.proofs.joined.Reads as joined-reads
+use Rattle.wellformed.proofs.exclusion.at_other.Reads as at-other-reads
+use Rattle.wellformed.proofs.exclusion.at_pause.Reads as at-pause-reads
+use Rattle.wellformed.proofs.exclusion.at_setpause.Reads as at-setpause-reads
+use Rattle.wellformed.proofs.exclusion.before_second.Reads as before-second-reads
+use Rattle.wellformed.proofs.exclusion.joined.Reads as joined-reads
 use Rattle.wellformed.proofs.survey.+pass+pass_part+pass_parts.{statement}
 use Rattle.wellformed.proofs.survey.+pass+pass_part+pass_parts.Tie.{close}
 
