@@ -1,2 +1,4 @@
-pub mod Reading
+pub mod Bytes
+pub mod Leaving
 pub mod Parting
+pub mod Reading

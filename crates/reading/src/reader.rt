@@ -10,16 +10,16 @@ ghost use Rattle.sequence.specs.Reader.{read};
 ghost use Rattle.layout.specs.Notes.{noNotes};
 ghost use Rattle.layout.specs.Walk.{pairRead, Readable, Done};
 ghost use Rattle.reading.specs.Reading.{Reads};
+use crate::leaves::ahead;
+use crate::leaves::leaf;
+use crate::steps::CROWDED;
+use crate::steps::declare;
+use crate::steps::declares;
+use crate::steps::is_choice;
+use crate::steps::is_deep;
+use crate::steps::mark;
 use layout::SecondParts;
 use notes::Notes;
-use reading_leaves::ahead;
-use reading_leaves::leaf;
-use reading_steps::CROWDED;
-use reading_steps::declare;
-use reading_steps::declares;
-use reading_steps::is_choice;
-use reading_steps::is_deep;
-use reading_steps::mark;
 
 // A statement: the count of its bytes and how many more signals may stand around it, or the row that turns it down.
 pub enum Reading {

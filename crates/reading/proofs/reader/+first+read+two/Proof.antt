@@ -28,14 +28,14 @@ use Rattle.reading.proofs.reader.two.Kinds as two-kinds
 use Rattle.reading.proofs.reader.+first+read+two.Lts-two as two-lts
 use Rattle.reading_heads.proofs.is_leaf.Reads as is-leaf-reads
 use Rattle.reading_heads.proofs.width.Reads as width-reads
-use Rattle.reading_leaves.proofs.ahead.Reads as ahead-reads
-use Rattle.reading_leaves.proofs.leaf.Reads as leaf-reads
-use Rattle.reading_steps.proofs.declare.Reads as declare-reads
-use Rattle.reading_steps.specs.Steps.{isChoice, isDeclaration}
-use Rattle.reading_steps.proofs.declares.Reads as declares-reads
-use Rattle.reading_steps.proofs.is_choice.Reads as is-choice-reads
-use Rattle.reading_steps.proofs.is_deep.Reads as is-deep-reads
-use Rattle.reading_steps.proofs.mark.Reads as mark-reads
+use Rattle.reading.proofs.leaves.ahead.Reads as ahead-reads
+use Rattle.reading.proofs.leaves.leaf.Reads as leaf-reads
+use Rattle.reading.proofs.steps.declare.Reads as declare-reads
+use Rattle.reading.specs.Steps.{isChoice, isDeclaration}
+use Rattle.reading.proofs.steps.declares.Reads as declares-reads
+use Rattle.reading.proofs.steps.is_choice.Reads as is-choice-reads
+use Rattle.reading.proofs.steps.is_deep.Reads as is-deep-reads
+use Rattle.reading.proofs.steps.mark.Reads as mark-reads
 use Rattle.reading.proofs.reader.+first+read+two.{statement}
 use Rattle.reading.proofs.reader.+first+read+two.Tie.{close}
 

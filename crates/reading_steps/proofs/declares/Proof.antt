@@ -1,9 +1,0 @@
-use Rattle.reading_steps.proofs.Bytes.{is-declaration}
-use Rattle.reading_steps.proofs.declares.Statement.{statement}
-use Rattle.reading_steps.proofs.declares.Tie as tie
-
-returns : tie.Need-returns
-returns c = is-declaration _
-
-pub declares-spec : {M : Type 1} → statement M
-declares-spec = tie.close (tie.spec returns)
