@@ -1,27 +1,82 @@
-// What reading notes of a statement, in an array that the caller lends (layout, specs/Notes).
+// What reading notes of a statement, in an array of words that the caller lends (layout, specs/Notes).
 ghost use mathlib.Core.Path.{_≡_};
+ghost use Prim.Native.Nat.{_<_, _-_, _≤_, max, _^_};
+ghost use Rattle.limits.specs.Limits.{labelCount, maxBytes, signalCount, maxSignals};
+ghost use Rattle.layout.specs.Notes.{pausesCounted, notePause, noteSetpause, noteFarm, noteSignals, pausesIn, setpausesIn, twiceIn, mostIn, farmsIn, rankIn};
 ghost use mathlib.Core.Bool.{cond};
-ghost use Prim.Native.Nat.{_^_, _≤_, _<_};
 ghost use lib.Dec.{ltb};
-ghost use Rattle.limits.specs.Limits.{labelCount, signalCount, maxSignals};
 ghost use Rattle.sets.specs.Sets.{empty};
 ghost use Rattle.labels.specs.Labels.{labelSet};
-ghost use Rattle.layout.specs.Notes.{pausesIn, setpausesIn, twiceIn, pausesCounted, mostIn, farmsIn, rankIn};
 ghost use Rattle.layout.specs.Walk.{Notable, LeafNoted};
-use notes_fields::COUNT;
-use notes_fields::FARMS;
-use notes_fields::MOST;
-use notes_fields::PAUSES;
-use notes_fields::RANKS;
-use notes_fields::SETPAUSES;
-use notes_fields::TWICE;
-use notes_pauses::note_pause;
-use notes_pauses::note_setpause;
-use notes_signals::note_farm;
+use limits::WORD_LABELS;
 
-pub const LENGTH: usize = notes_fields::LENGTH;
+// The fields of the notes (layout, specs/Notes), each by its index.
+// The labels of pauses and of setpauses in two words each, what came twice, the number of pauses, the most signal commands around a
+// command, the farms named, then a rank for each label.
+pub const LENGTH: usize = RANKS + limits::LABEL_COUNT;
 
-pub type Notes = notes_fields::Notes;
+pub type Notes = [u64; LENGTH];
+
+pub const PAUSES: usize = 0;
+
+pub const SETPAUSES: usize = 2;
+
+pub const TWICE: usize = 4;
+
+pub const COUNT: usize = 5;
+
+pub const MOST: usize = 6;
+
+pub const FARMS: usize = 7;
+
+pub const RANKS: usize = 8;
+
+// A pause with label l was read.
+pub fn note_pause(l: u8, notes: &mut Notes)
+    requires { ⌜ (l < labelCount) × (pausesCounted (now notes) < maxBytes) ⌝ }
+    ensures { λ _. ⌜ now (notes .exit) ≡ notePause l (now (notes .entry)) ⌝ }
+{
+    let word = PAUSES + (l / WORD_LABELS) as usize;
+    let bit = 1u64 << (l % WORD_LABELS);
+    let seen = notes[word];
+    let count = notes[COUNT];
+    notes[TWICE] = notes[TWICE] | (seen & bit);
+    notes[word] = seen | bit;
+    notes[RANKS + l as usize] = count;
+    notes[COUNT] = count + 1;
+}
+
+// A setpause with label l was read.
+pub fn note_setpause(l: u8, notes: &mut Notes)
+    requires { ⌜ l < labelCount ⌝ }
+    ensures { λ _. ⌜ now (notes .exit) ≡ noteSetpause l (now (notes .entry)) ⌝ }
+{
+    let word = SETPAUSES + (l / WORD_LABELS) as usize;
+    notes[word] = notes[word] | (1u64 << (l % WORD_LABELS));
+}
+
+// An emission of s with litres was read.
+pub fn note_farm(s: u8, notes: &mut Notes)
+    requires { ⌜ s < signalCount ⌝ }
+    ensures { λ _. ⌜ now (notes .exit) ≡ noteFarm s (now (notes .entry)) ⌝ }
+{
+    notes[FARMS] = notes[FARMS] | (1u64 << s);
+}
+
+fn greater(a: u64, b: u64) -> u64
+    ensures { λ r. ⌜ r ≡ max a b ⌝ }
+{
+    if a < b { b } else { a }
+}
+
+// A signal command was read, inside which so many more are allowed.
+pub fn signal(left: u8, notes: &mut Notes)
+    requires { ⌜ left ≤ maxSignals ⌝ }
+    ensures { λ _. ⌜ now (notes .exit) ≡ noteSignals (maxSignals - left) (now (notes .entry)) ⌝ }
+{
+    let around = limits::MAX_SIGNALS - left;
+    notes[MOST] = greater(notes[MOST], around as u64);
+}
 
 // The command b without parts was read, whose first operand byte is x; one without a label and without litres leaves no note.
 pub fn leaf(b: u8, x: u8, notes: &mut Notes)

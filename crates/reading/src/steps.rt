@@ -54,7 +54,7 @@ pub fn declare(signals: u8, notes: &mut Notes) -> u8
         return CROWDED;
     }
     let left = signals - 1;
-    notes_signals::signal(left, notes);
+    notes::signal(left, notes);
     left
 }
 

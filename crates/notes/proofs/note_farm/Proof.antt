@@ -5,8 +5,8 @@ use Rattle.sets.specs.Sets.{only, join}
 use Rattle.sets.proofs.Widths.{shifted}
 use Rattle.layout.specs.Notes.{noteFarm}
 use borrow.Author.Needs.{needs}
-use Rattle.notes_signals.proofs.note_farm.Statement.{statement}
-use Rattle.notes_signals.proofs.note_farm.Tie as tie
+use Rattle.notes.proofs.note_farm.Statement.{statement}
+use Rattle.notes.proofs.note_farm.Tie as tie
 
 element-copy-out-notes : tie.Need-element-copy-out-notes
 element-copy-out-notes c = search needs

@@ -5,8 +5,8 @@ use Rattle.sets.specs.Sets.{only, join}
 use Rattle.sets.proofs.Widths.{shifted}
 use Rattle.layout.specs.Notes.{noteSetpause}
 use borrow.Author.Needs.{needs}
-use Rattle.notes_pauses.proofs.note_setpause.Statement.{statement}
-use Rattle.notes_pauses.proofs.note_setpause.Tie as tie
+use Rattle.notes.proofs.note_setpause.Statement.{statement}
+use Rattle.notes.proofs.note_setpause.Tie as tie
 
 cast-word : tie.Need-cast-word
 cast-word c = search needs

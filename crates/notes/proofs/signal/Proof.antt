@@ -1,7 +1,7 @@
 use Rattle.layout.specs.Notes.{noteSignals}
 use borrow.Author.Needs.{needs}
-use Rattle.notes_signals.proofs.signal.Statement.{statement}
-use Rattle.notes_signals.proofs.signal.Tie as tie
+use Rattle.notes.proofs.signal.Statement.{statement}
+use Rattle.notes.proofs.signal.Tie as tie
 
 sub-around : tie.Need-sub-around
 sub-around c = search needs
