@@ -408,7 +408,7 @@ def changed(texts):
         (DECISIONS, requirements, r"(`\w+::put_\w+`)", "nothing"),
         (DECISIONS, premises, r"(`rules\w*::in_\w+`)", "nothing"),
         (DECISIONS, silent, r"(`vectors\w*::\w+::(?:text|all)`)", "nothing"),
-        (DEMANDS, edited, r"\b(reading_heads|esterel) `\w+`", "limits"),
+        (DEMANDS, edited, r"\b(commands|esterel) `\w+`", "limits"),
         (WORDS, cited, r"`[A-Z]\w+\.(\w+)`", "nonesuch"),
         (DEFINITIONS, definitions, r"^(\| \[.*\n)", ""),
         (LANGUAGE, language, r"^\| (`[A-Z]\w+`.*?) \|.*\n", "`Nobody`"),

@@ -1,8 +1,13 @@
-// The table of commands (01, 'Commands'; 02, items 1 and 2) by cases on the command byte, with no constant array. Comparisons in
-// this order cost less than a table: where the next command stands does not wait for a look into memory.
+// The table of commands (01, 'Commands'; 02, items 1 and 2) by cases on the command byte, with no constant array, and the head of a
+// command: its own bytes, or so many units for the row that turns it down (rows 3 to 5 and 18).
 ghost use mathlib.Core.Path.{_≡_};
 ghost use Rattle.sequence.specs.Commands.{commandOf};
-ghost use Rattle.commands.specs.Counts.{countOf, operandsAt, partsAt, operandInRange};
+ghost use Rattle.commands.specs.Counts.{countOf, operandsAt, partsAt, operandInRange, isLeaf};
+ghost use mathlib.Core.Bool.{true, false};
+ghost use Prim.Native.Nat.{_<_};
+ghost use lib.ListN.{length, getD};
+ghost use Rattle.sequence.specs.Reader.{front};
+ghost use Rattle.layout.specs.Walk.{headOf};
 
 // A count, or that the byte has no command.
 pub enum Count {
@@ -77,4 +82,77 @@ pub fn in_range(b: u8, x: u8) -> bool
         return x < limits::LABELS;
     }
     x < limits::SIGNALS
+}
+
+// Has the command b no parts? A byte without a command is none.
+pub fn is_leaf(b: u8) -> bool
+    ensures { λ r. ⌜ r ≡ isLeaf (partsAt b) ⌝ }
+{
+    match part_count(b) {
+        Count::NoCommand => false,
+        Count::Of(n) => n == 0,
+    }
+}
+
+// The command 0C at the front of s.
+fn delivery(s: &[u8]) -> usize
+    requires { ⌜ (0 < length (now s)) × (getD (now s) 0 0 ≡ 12) ⌝ }
+    ensures { λ r. ⌜ r ≡ headOf (front (now (s .entry))) ⌝ }
+{
+    if s.len() <= 5 {
+        return 4 * layout::ROW_UNIT;
+    }
+    if limits::SIGNALS <= s[1] {
+        return 5 * layout::ROW_UNIT;
+    }
+    if litres::is_whole(litres::bits(s, 2)) {
+        6
+    } else {
+        18 * layout::ROW_UNIT
+    }
+}
+
+// The command b at the front of s, which has no parts.
+pub fn leaf(s: &[u8], b: u8) -> usize
+    requires { ⌜ (0 < length (now s)) × (b ≡ getD (now s) 0 0) ⌝ }
+    requires { ⌜ isLeaf (partsAt b) ≡ true ⌝ }
+    ensures { λ r. ⌜ r ≡ headOf (front (now (s .entry))) ⌝ }
+{
+    if b == limits::NOTHING {
+        return 1;
+    }
+    if s.len() <= 1 {
+        return 4 * layout::ROW_UNIT;
+    }
+    if b == limits::DELIVER {
+        return delivery(&s[0..]);
+    }
+    if in_range(b, s[1]) {
+        2
+    } else {
+        5 * layout::ROW_UNIT
+    }
+}
+
+// The command at the front of s, whose byte b is that of a command with parts or of none.
+pub fn width(s: &[u8], b: u8) -> usize
+    requires { ⌜ (0 < length (now s)) × (b ≡ getD (now s) 0 0) ⌝ }
+    requires { ⌜ isLeaf (partsAt b) ≡ false ⌝ }
+    ensures { λ r. ⌜ r ≡ headOf (front (now (s .entry))) ⌝ }
+{
+    match operand_count(b) {
+        Count::NoCommand => 3 * layout::ROW_UNIT,
+        Count::Of(n) => {
+            if n == 0 {
+                return 1;
+            }
+            if s.len() < 2 {
+                return 4 * layout::ROW_UNIT;
+            }
+            if limits::SIGNALS <= s[1] {
+                return 5 * layout::ROW_UNIT;
+            }
+            2
+        }
+    }
 }

@@ -12,7 +12,7 @@ use Rattle.commands.specs.Counts.{partsAt, isLeaf}
 use Rattle.commands.proofs.Counts.{without-parts}
 use Rattle.layout.specs.Walk.{Notable, LeafNoted, Fitting, Ahead}
 use Rattle.layout.proofs.Walk.{Heading, heading, byte, can-note, read-bare, read-noted}
-use Rattle.reading_heads.proofs.Fronting.{bare, one}
+use Rattle.commands.proofs.Fronting.{bare, one}
 
 -- nothing is read ahead
 pub not-ahead : (d a : ℕ) (s m : List ℕ) → Ahead d a s m m 0

@@ -15,7 +15,7 @@ pub fn leaf(s: &[u8], at: usize, b: u8, depth: u8, notes: &mut Notes) -> usize
     requires { ⌜ Fitting at (now s) (now notes) ⌝ }
     ensures { λ r. ⌜ LeafRead depth at (now (s .entry)) (now (notes .entry)) (now (notes .exit)) r ⌝ }
 {
-    let w = reading_heads::leaf(s, b);
+    let w = commands::leaf(s, b);
     if layout::ROW_UNIT <= w {
         return w;
     }

@@ -90,10 +90,10 @@ fn read(
         return 4 * layout::ROW_UNIT;
     }
     let b = s[0];
-    if reading_heads::is_leaf(b) {
+    if commands::is_leaf(b) {
         return leaf(s, at, b, depth, notes);
     }
-    let w = reading_heads::width(s, b);
+    let w = commands::width(s, b);
     if layout::ROW_UNIT <= w {
         return w;
     }

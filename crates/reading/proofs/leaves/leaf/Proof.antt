@@ -6,7 +6,7 @@ use Rattle.sequence.specs.Reader.{front}
 use Rattle.layout.specs.Walk.{headOf, Notable, LeafNoted, LeafRead}
 use Rattle.layout.proofs.Walk.{Heading, heading, head-fits, done-bad, done-deep, can-note, read-bare, read-noted}
 use Rattle.reading.proofs.Leaving.{whole}
-use Rattle.reading_heads.proofs.leaf.Reads as leaf-reads
+use Rattle.commands.proofs.leaf.Reads as leaf-reads
 use Rattle.notes.proofs.leaf.Reads as leaf-reads-2
 use borrow.Author.Needs.{needs}
 use Rattle.reading.proofs.leaves.leaf.Statement.{statement}

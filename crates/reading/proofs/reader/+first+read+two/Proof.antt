@@ -26,8 +26,8 @@ use Rattle.reading.proofs.reader.+first+read+two.Lts-read as read-lts
 use Rattle.reading.proofs.reader.two.Reads as two
 use Rattle.reading.proofs.reader.two.Kinds as two-kinds
 use Rattle.reading.proofs.reader.+first+read+two.Lts-two as two-lts
-use Rattle.reading_heads.proofs.is_leaf.Reads as is-leaf-reads
-use Rattle.reading_heads.proofs.width.Reads as width-reads
+use Rattle.commands.proofs.is_leaf.Reads as is-leaf-reads
+use Rattle.commands.proofs.width.Reads as width-reads
 use Rattle.reading.proofs.leaves.ahead.Reads as ahead-reads
 use Rattle.reading.proofs.leaves.leaf.Reads as leaf-reads
 use Rattle.reading.proofs.steps.declare.Reads as declare-reads

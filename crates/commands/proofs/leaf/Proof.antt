@@ -7,16 +7,16 @@ use native.Mathlib.Omega.{arith}
 use lib.ListN.{length, getD}
 use Rattle.sequence.specs.Commands.{Command, commandOf, operandCount}
 use Rattle.sequence.proofs.Table.{byteOf, byte-is, command-of-byte}
 use Rattle.commands.specs.Counts.{partsAt, isLeaf}
 use Rattle.commands.proofs.Counts.{some-leaf, operand-of}
 use Rattle.sequence.specs.Reader.{front}
 use Rattle.layout.specs.Layout.{rest}
 use Rattle.layout.specs.Walk.{headOf}
 use Rattle.layout.proofs.Parts.{rest-is}
-use Rattle.reading_heads.proofs.Fronting.{short, bare, outside, one, leaf-operands}
+use Rattle.commands.proofs.Fronting.{short, bare, outside, one, leaf-operands}
 use borrow.Author.Needs.{needs}
-use Rattle.reading_heads.proofs.leaf.Statement.{statement}
-use Rattle.reading_heads.proofs.leaf.Tie as tie
+use Rattle.commands.proofs.leaf.Statement.{statement}
+use Rattle.commands.proofs.leaf.Tie as tie
 
 -- the command of the byte
 record Found (b : ℕ) (s : List ℕ) : Type 0 where

@@ -1,9 +1,9 @@
 use mathlib.Core.Path.{sym, _∙_}
 use borrow.Author.Needs.{needs}
 use Rattle.commands.specs.Counts.{partsAt}
 use Rattle.commands.proofs.Counts.{leaf-none, leaf-of}
-use Rattle.reading_heads.proofs.is_leaf.Statement.{statement}
-use Rattle.reading_heads.proofs.is_leaf.Tie as tie
+use Rattle.commands.proofs.is_leaf.Statement.{statement}
+use Rattle.commands.proofs.is_leaf.Tie as tie
 
 part-count-requires : tie.Need-part-count-requires
 part-count-requires c κs = search needs

@@ -1,8 +1,8 @@
 use native.Mathlib.Omega.{arith}
-use Rattle.reading_heads.proofs.Fronting.{deliver-short, deliver-outside, deliver-whole, deliver-unfit}
+use Rattle.commands.proofs.Fronting.{deliver-short, deliver-outside, deliver-whole, deliver-unfit}
 use borrow.Author.Needs.{needs}
-use Rattle.reading_heads.proofs.delivery.Statement.{statement}
-use Rattle.reading_heads.proofs.delivery.Tie as tie
+use Rattle.commands.proofs.delivery.Statement.{statement}
+use Rattle.commands.proofs.delivery.Tie as tie
 
 mul-result : tie.Need-mul-result
 mul-result c = search needs

@@ -10,13 +10,13 @@ use Rattle.limits.specs.Limits.{signalCount}
 use Rattle.sequence.specs.Commands.{Command, commandOf, operandCount, partCount}
 use Rattle.sequence.proofs.Table.{unnamed}
 use Rattle.sequence.proofs.Front.{Fronts}
 use Rattle.commands.specs.declared.Count.the-variants.{Of}
 use Rattle.commands.specs.Counts.{countOf, operandsAt, partsAt, isLeaf}
 use Rattle.commands.proofs.Counts.{of-command, of-none, with-parts}
-use Rattle.reading_heads.proofs.Fronting.{heads, short, bare, outside, one, signal-operand}
+use Rattle.commands.proofs.Fronting.{heads, short, bare, outside, one, signal-operand}
 use borrow.Author.Needs.{needs}
-use Rattle.reading_heads.proofs.width.Statement.{statement}
-use Rattle.reading_heads.proofs.width.Tie as tie
+use Rattle.commands.proofs.width.Statement.{statement}
+use Rattle.commands.proofs.width.Tie as tie
 
 -- the command of the byte, and its operand bytes
 record Found (b : ℕ) (s : List ℕ) (n : ℕ) : Type 0 where
