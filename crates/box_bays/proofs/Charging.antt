@@ -29,8 +29,8 @@ use Rattle.instants.specs.Replies.{Replies}
 use Rattle.box_ledgers.specs.Ledgers.{ledgerLength, readingLength, passes, added, readingOf, cleared}
 use Rattle.box_deliveries.specs.Delivering.{Delivers}
 use Rattle.box_deliveries.proofs.Theorems.{passes-exactly, adds-exactly}
-use Rattle.box_parts.specs.Parts.{slot, put}
-use Rattle.box_parts.proofs.Parts.{put-behind}
+use Rattle.numbers.specs.Parts.{slot, put}
+use Rattle.numbers.proofs.Putting.{put-behind}
 use Rattle.box_stretches.specs.Called.{Called, called, number}
 use Rattle.box_stretches.specs.Stretch.{stateAt, countAt, bayLength, stretchLength, sequenceIn, readBackIn, stateIn, ledgerIn, withLedger}
 use Rattle.box_stretches.specs.BayCalls.{stateKept, delivering, charged, bayStepOf, bayChargedOf, bayLedgerOf, bayNewYearOf}

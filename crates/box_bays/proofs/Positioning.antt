@@ -10,7 +10,7 @@ use lib.Dec.{ltb}
 use borrow.Author.Tests.{eq-eqb, ne-eqb, lt-ltb, le-ltb}
 use Rattle.limits.specs.Limits.{maxPositions}
 use Rattle.numbers.specs.Bytes.{replaced}
-use Rattle.box_parts.specs.Parts.{slot, put}
+use Rattle.numbers.specs.Parts.{slot, put}
 use Rattle.states.specs.StateRecord.{stateLength, stateRecord, phaseIn, labelsIn}
 use Rattle.states.proofs.Stores.{state-written}
 use Rattle.box_positions.specs.Table.{savedLabels, placeOf, labelsFound, lookup, cleared, kept, saveOf, forgetOf}

@@ -16,7 +16,7 @@ use Rattle.recordings.specs.Record.{recordLength, recordOf, panelLength, panelO
 use Rattle.recordings.specs.Recording.{following}
 use Rattle.recordings_writer.proofs.Records.{record-sized}
 use Rattle.recordings_writer.proofs.Panels.{length-panel}
-use Rattle.box_parts.proofs.Parts.{stored}
+use Rattle.numbers.proofs.Putting.{stored}
 use Rattle.box_stretches.specs.Called.{called}
 use Rattle.box_stretches.specs.Stretch.{countAt, stretchLength, stateIn, lastNumberIn, serviceOnlyIn}
 use Rattle.box_stretches.specs.BayCalls.{counted, recorded, showing, bayChargedOf, bayTickOf, bayServiceOf, bayPanelOf}

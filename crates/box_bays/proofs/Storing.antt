@@ -8,8 +8,8 @@ use lib.Seq.{sets}
 use Rattle.limits.specs.Limits.{maxBytes, signalBytes, reactionsBytes}
 use Rattle.numbers.specs.Bytes.{leBytes}
 use Rattle.numbers.proofs.Bytes.{length-leBytes}
-use Rattle.box_parts.specs.Parts.{put, zeros}
-use Rattle.box_parts.proofs.Parts.{stored}
+use Rattle.numbers.specs.Parts.{put, zeros}
+use Rattle.numbers.proofs.Putting.{stored}
 use Rattle.box_stretches.specs.Called.{called}
 use Rattle.box_stretches.specs.Stretch.{lengthBytes, sequenceAt, readBackAt, ceilingAt, serviceAt, bayLength, stretchLength, vacated, Terms, filled}
 use Rattle.box_stretches.specs.BayCalls.{bayReleaseOf}

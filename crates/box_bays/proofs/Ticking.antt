@@ -15,7 +15,7 @@ use Rattle.instants.specs.declared.Reply.{Reply}
 use Rattle.instants.specs.declared.Reply.the-variants.{Refused, Reacted}
 use Rattle.instants.specs.Replies.{repliedFrom, Replies}
 use Rattle.instants.proofs.Replying.{replied-from}
-use Rattle.box_parts.proofs.Parts.{put-slot}
+use Rattle.numbers.proofs.Putting.{put-slot}
 use Rattle.box_stretches.specs.Called.{called}
 use Rattle.box_stretches.specs.Stretch.{stateAt, stretchLength, sequenceIn, readBackIn, stateIn}
 use Rattle.box_stretches.specs.BayCalls.{stateKept, bayStepOf}

@@ -14,7 +14,7 @@ use Rattle.sequence.specs.Commands.{commandOf}
 use Rattle.sequence.specs.Reader.{front, read}
 use Rattle.sequence.specs.Check.{checked}
 use Rattle.numbers.specs.Bytes.{leBytes, leNumber}
-use Rattle.box_parts.specs.Parts.{put, zeros}
+use Rattle.numbers.specs.Parts.{put, zeros}
 use Rattle.tick.specs.Paper as Paper
 use Rattle.box_stretches.specs.Called.{called, number}
 use Rattle.box_stretches.specs.Stretch.{stretchLength, partOf, vacated, terms, filled}

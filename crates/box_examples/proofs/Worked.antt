@@ -20,7 +20,7 @@ use Rattle.sequence.specs.Check.{checked}
 use Rattle.numbers.specs.Bytes.{leBytes, leNumber}
 use Rattle.states.specs.StateRecord.{encodeState, decodeState}
 use Rattle.answers.specs.AnswerRecord.{encodeAnswer}
-use Rattle.box_parts.specs.Parts.{put, zeros}
+use Rattle.numbers.specs.Parts.{put, zeros}
 use Rattle.box_ledgers.specs.Ledgers.{totalIn, totalsBytes, wouldPass, addedBelow}
 use Rattle.tick.specs.Tick.{tickBy}
 use Rattle.recordings.specs.Record.{recordLength, panelOf}

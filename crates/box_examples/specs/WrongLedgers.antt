@@ -11,7 +11,7 @@ use Rattle.esterel.specs.Statement.{Statement, nothing, pause, emit, exit, seq,
 use Rattle.esterel.specs.Litres.{delivered}
 use Rattle.sequence.specs.Program.{program}
 use Rattle.sequence.specs.Check.{Checked, sound, bad, checked}
-use Rattle.box_parts.specs.Parts.{put}
+use Rattle.numbers.specs.Parts.{put}
 use Rattle.litres.specs.Litres.{litres}
 use Rattle.box_ledgers.specs.Ledgers as Ledgers
 use Rattle.box_ledgers.specs.Ledgers.{farmCount, totalIn, totalFloat, added}

@@ -8,7 +8,7 @@ use Rattle.limits.specs.Limits.{signalBytes}
 use Rattle.answers.specs.AnswerRecord.{answerLength}
 use Rattle.recordings.specs.Record.{recordLength}
 use Rattle.recordings.specs.Recording.{blank}
-use Rattle.box_parts.specs.Parts.{slot, put, zeros}
+use Rattle.numbers.specs.Parts.{slot, put, zeros}
 use Rattle.box_positions.specs.Names.{isKnown}
 use Rattle.box_positions.specs.Table.{lookup}
 use Rattle.box_ledgers.specs.Ledgers.{ledgerLength, readingLength}

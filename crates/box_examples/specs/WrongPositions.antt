@@ -7,7 +7,7 @@ use lib.Dec.{eqb, leb}
 use Rattle.limits.specs.Limits.{maxPositions}
 use Rattle.numbers.specs.Bytes.{leNumber}
 use Rattle.states.specs.StateRecord.{labelsAt, labelsIn}
-use Rattle.box_parts.specs.Parts.{slot, put}
+use Rattle.numbers.specs.Parts.{slot, put}
 use Rattle.box_positions.specs.Names.{isKnown}
 use Rattle.box_positions.specs.Table.{tableLength, lookup, names}
 use Rattle.box_stretches.specs.Called.{called, memoryAfter}

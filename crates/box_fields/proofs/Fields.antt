@@ -10,11 +10,11 @@ use Rattle.numbers.specs.Bytes.{leBytes, leNumber}
 use Rattle.numbers.proofs.Bytes.{length-leBytes, le-round-trip}
 use Rattle.states.specs.StateRecord.{stateLength}
 use Rattle.demands.specs.Demands.{cleared}
-use Rattle.box_parts.specs.Parts.{slot, put, zeros}
+use Rattle.numbers.specs.Parts.{slot, put, zeros}
 use Rattle.box_ledgers.specs.Ledgers.{ledgerLength}
 use Rattle.box_stretches.specs.Stretch.{lengthBytes, sequenceAt, readBackAt, ceilingAt, serviceAt, stateAt, bayLength, stretchLength, lengthIn, readBackIn, ceilingIn, serviceOnlyIn, stateIn, ledgerIn, vacated, Terms, filled}
-use Rattle.box_parts.proofs.Zeros.{length-zeros, slot-zeros, zeros-number}
-use Rattle.box_parts.proofs.Parts.{slot-front, length-put, slot-put, put-before, put-behind}
+use Rattle.numbers.proofs.Zeros.{length-zeros, slot-zeros, zeros-number}
+use Rattle.numbers.proofs.Putting.{slot-front, length-put, slot-put, put-before, put-behind}
 
 pub ledger-sized : (s : List ℕ) → length s ≡ stretchLength → length (ledgerIn s) ≡ ledgerLength
 ledger-sized s z = length-take-le ledgerLength (drop bayLength s) (omega (arith, length-drop bayLength s))

@@ -11,7 +11,7 @@ use lib.ListN.{length}
 use lib.Dec.{eqb}
 use borrow.Author.Tests.{eq-eqb, ne-eqb, lt-ltb, le-ltb}
 use Rattle.limits.specs.Limits.{labelBytes, maxPositions, nameBytes}
-use Rattle.box_parts.specs.Parts.{zeros}
+use Rattle.numbers.specs.Parts.{zeros}
 use Rattle.box_positions.specs.Names.{Position, position, find, without, Answered, answered, saveNamed, forgetNamed, numberAnswered, positionsAfter, namesOf, Once}
 use Rattle.box_positions.specs.Table.{tableLength, keyIn, placeOf, lookup, numberKept, tableKept, saveOf, forgetOf, names, Agrees}
 use Rattle.box_positions.proofs.Lookups.{lookup-at, lookup-none, present}

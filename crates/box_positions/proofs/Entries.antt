@@ -15,8 +15,8 @@ use Rattle.numbers.specs.Bytes.{leBytes, leNumber}
 use Rattle.numbers.proofs.Bytes.{length-leBytes, le-round-trip, le-behind}
 use Rattle.states.specs.StateRecord.{stateLength, stateRecord, labelsIn}
 use Rattle.states.proofs.StateLaws.{state-sized}
-use Rattle.box_parts.specs.Parts.{slot, put}
-use Rattle.box_parts.proofs.Parts.{put-before, put-behind, put-within, length-put}
+use Rattle.numbers.specs.Parts.{slot, put}
+use Rattle.numbers.proofs.Putting.{put-before, put-behind, put-within, length-put}
 use Rattle.box_positions.specs.Table.{keyBytes, entryLength, tableLength, entryOf, keyOf, keyIn, savedLabels, place}
 
 -- ---- an entry

@@ -15,8 +15,8 @@ use Rattle.numbers.proofs.Bytes.{length-leBytes}
 use Rattle.numbers.proofs.Writing.{replaced-by}
 use Rattle.states.specs.StateRecord.{stateLength, stateRecord}
 use Rattle.states.proofs.StateLaws.{state-sized}
-use Rattle.box_parts.specs.Parts.{slot, put, zeros}
-use Rattle.box_parts.proofs.Parts.{length-put, stored, put-next}
+use Rattle.numbers.specs.Parts.{slot, put, zeros}
+use Rattle.numbers.proofs.Putting.{length-put, stored, put-next}
 use Rattle.box_positions.specs.Table.{entryLength, tableLength, keyIn, place, placeOf, placeFor, written, cleared, kept, saveOf}
 
 place-step : (n key : ℕ) (t : List ℕ) → 0 < n → place n key t ≡ cond (eqb (keyIn (n - 1) t) key) (n - 1) (place (n - 1) key t)

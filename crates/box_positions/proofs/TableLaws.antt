@@ -10,8 +10,8 @@ use lib.ListN.{length}
 use borrow.Author.Tests.{lt-ltb, le-ltb}
 use Rattle.limits.specs.Limits.{labelBytes, maxPositions, nameBytes}
 use Rattle.numbers.specs.Bytes.{leNumber}
-use Rattle.box_parts.specs.Parts.{slot, zeros}
-use Rattle.box_parts.proofs.Zeros.{length-zeros, slot-zeros, zeros-number}
+use Rattle.numbers.specs.Parts.{slot, zeros}
+use Rattle.numbers.proofs.Zeros.{length-zeros, slot-zeros, zeros-number}
 use Rattle.box_positions.specs.Table.{keyBytes, entryLength, tableLength, entryOf, keyOf, keyIn, place, placeOf, placeFor, lookup, Kept, kept, numberKept, tableKept, written, cleared, saveOf, forgetOf, Formed}
 use Rattle.box_positions.proofs.Entries.{entry-sized, entry-key, entry-labels, length-entry, found, missing}
 use Rattle.box_positions.proofs.Lookups.{lookup-none, key-found, key-missing, absent, lookup-apart, lookup-own, formed-named, formed-free, lookup-gone}

@@ -6,7 +6,7 @@ use mathlib.Core.Option.{some, none}
 use mathlib.Core.List.{List, [], List·Memᴰ}
 use lib.ListN.{length}
 use Rattle.limits.specs.Limits.{labelBytes, maxPositions, nameBytes}
-use Rattle.box_parts.specs.Parts.{zeros}
+use Rattle.numbers.specs.Parts.{zeros}
 use Rattle.box_positions.specs.Names.{Position, saveNamed, forgetNamed, numberAnswered, positionsAfter, Once}
 use Rattle.box_positions.specs.Table.{tableLength, lookup, numberKept, tableKept, saveOf, forgetOf, names, SixteenKnown, Formed, Agrees}
 use Rattle.box_positions.proofs.TableLaws as laws

@@ -11,7 +11,7 @@ use lib.Dec.{eqb, ltb}
 use Rattle.limits.specs.Limits.{maxPositions, nameBytes}
 use Rattle.numbers.specs.Bytes.{leBytes, leNumber}
 use Rattle.states.specs.StateRecord.{stateLength, labelsIn, stateRecord}
-use Rattle.box_parts.specs.Parts.{slot, put, zeros}
+use Rattle.numbers.specs.Parts.{slot, put, zeros}
 use Rattle.box_positions.specs.Names.{Position, find, namesOf, Once}
 
 -- name and phase

@@ -7,7 +7,7 @@ use lib.Dec.{eqb, leb}
 use Rattle.esterel.specs.Ceiling.{ceiling}
 use Rattle.sequence.specs.Program.{program}
 use Rattle.sequence.specs.Check.{Checked, sound, bad, checked}
-use Rattle.box_parts.specs.Parts.{put}
+use Rattle.numbers.specs.Parts.{put}
 use Rattle.states.specs.StateRecord.{stateLength, stateRecord, phaseIn, labelsIn}
 use Rattle.box_positions.specs.Table.{tableLength, lookup, Kept, kept, saveOf, forgetOf}
 use Rattle.numbers.specs.Bytes.{leBytes}

@@ -26,7 +26,7 @@ use Rattle.sequence.specs.Check.{checked}
 use Rattle.numbers.specs.Bytes.{leBytes, leNumber}
 use Rattle.states.specs.StateRecord.{stateLength, stateRecord, phaseIn, labelsIn, encodeState, decodeState}
 use Rattle.answers.specs.AnswerRecord.{answerLength, codeIn, answerRecord, encodeAnswer}
-use Rattle.box_parts.specs.Parts.{put, zeros}
+use Rattle.numbers.specs.Parts.{put, zeros}
 use Rattle.box_positions.specs.Table.{tableLength, entryLength, entryOf, place, lookup, saveOf}
 use Rattle.box_ledgers.specs.Ledgers.{totalIn, totalsBytes, wouldPass, addedBelow}
 use Rattle.recordings.specs.Record.{recordOf, numberIn, panelLength, panelOf}

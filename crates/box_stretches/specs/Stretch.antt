@@ -7,7 +7,7 @@ use lib.ListN.{length}
 use lib.Dec.{eqb}
 use Rattle.limits.specs.Limits.{maxBytes, signalBytes, reactionsBytes, numberBytes}
 use Rattle.numbers.specs.Bytes.{leBytes, leNumber}
-use Rattle.box_parts.specs.Parts.{slot, put, zeros}
+use Rattle.numbers.specs.Parts.{slot, put, zeros}
 use Rattle.states.specs.StateRecord.{stateLength}
 use Rattle.box_positions.specs.Table.{tableLength}
 use Rattle.box_ledgers.specs.Ledgers.{ledgerLength}

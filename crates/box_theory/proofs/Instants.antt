@@ -20,9 +20,9 @@ use Rattle.recordings.specs.Record.{recordLength, recordOf, numberIn, panelLeng
 use Rattle.recordings.specs.Recording.{following, tickOn, recordFrom, recordsFrom, recordingOf}
 use Rattle.recordings_writer.proofs.Records.{number-field}
 use Rattle.recordings_writer.proofs.Theorems.{following-is, panel-alike}
-use Rattle.box_parts.specs.Parts.{slot, put}
-use Rattle.box_parts.proofs.Parts.{put-slot, slot-put, put-before, put-behind}
-use Rattle.box_parts.proofs.Zeros.{zeros-number}
+use Rattle.numbers.specs.Parts.{slot, put}
+use Rattle.numbers.proofs.Putting.{put-slot, slot-put, put-before, put-behind}
+use Rattle.numbers.proofs.Zeros.{zeros-number}
 use Rattle.box_ledgers.specs.Ledgers.{ledgerLength, passes, added}
 use Rattle.tick.specs.Tick.{Outcome, outcome, tickOf}
 use Rattle.demands.specs.Demands as demands

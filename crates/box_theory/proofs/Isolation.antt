@@ -15,8 +15,8 @@ use Rattle.sets.specs.Sets.{difference, membersFrom}
 use Rattle.states.specs.StateRecord.{stateLength}
 use Rattle.answers.specs.AnswerRecord.{answerLength}
 use Rattle.recordings.specs.Record.{recordLength, panelLength, panelOf}
-use Rattle.box_parts.specs.Parts.{put, zeros}
-use Rattle.box_parts.proofs.Zeros.{length-zeros}
+use Rattle.numbers.specs.Parts.{put, zeros}
+use Rattle.numbers.proofs.Zeros.{length-zeros}
 use Rattle.tick.specs.Tick.{Outcome, outcome, Reply, refused, reacts, replyOf, replied, tickBy, tickOf}
 use Rattle.demands.specs.Demands as demands
 use Rattle.demands.specs.Demands.{stateAfterwards}

@@ -7,7 +7,7 @@ use lib.ListN.{length}
 use Rattle.limits.specs.Limits.{numberBytes}
 use Rattle.numbers.specs.Bytes.{leNumber}
 use Rattle.demands.proofs.Sequence.{accepted}
-use Rattle.box_parts.proofs.Zeros.{zeros-number}
+use Rattle.numbers.proofs.Zeros.{zeros-number}
 use Rattle.box_stretches.specs.Called.{Called, number, memoryAfter}
 use Rattle.box_stretches.specs.Stretch.{countAt, bayLength, stretchLength, sequenceIn, readBackIn, ceilingIn, serviceOnlyIn, stateIn, lastNumberIn, positionsIn, ledgerIn, filled}
 use Rattle.box_positions.specs.Table.{lookup}

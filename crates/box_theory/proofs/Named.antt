@@ -14,7 +14,7 @@ use Rattle.esterel.specs.States.{Valid}
 use Rattle.esterel.specs.Machines.{State}
 use Rattle.sequence.specs.Rows.{Spells}
 use Rattle.states.specs.StateRecord.{stateLength, phaseIn, labelsIn, encodeState}
-use Rattle.box_parts.specs.Parts.{put, zeros}
+use Rattle.numbers.specs.Parts.{put, zeros}
 use Rattle.box_positions.specs.Names.{Position}
 use Rattle.box_positions.specs.Table.{tableLength, lookup, numberKept, saveOf, forgetOf, SixteenKnown, Agrees}
 use Rattle.box_positions.proofs.Theorems as table

@@ -22,8 +22,8 @@ use Rattle.numbers.specs.Bytes.{leBytes, leNumber}
 use Rattle.litres.specs.Litres.{ordered}
 use Rattle.sequence.specs.Amounts.{amountSize, amountBytes}
 use Rattle.demands.proofs.Sequence.{Accepted, accepted}
-use Rattle.box_parts.proofs.Parts.{length-put, put-before}
-use Rattle.box_parts.proofs.Zeros.{zeros-number}
+use Rattle.numbers.proofs.Putting.{length-put, put-before}
+use Rattle.numbers.proofs.Zeros.{zeros-number}
 use Rattle.box_positions.specs.Table.{tableLength, Agrees}
 use Rattle.box_positions.proofs.Theorems.{cleared-agrees}
 use Rattle.box_ledgers.specs.Ledgers as Ledgers

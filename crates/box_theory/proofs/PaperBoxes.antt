@@ -18,8 +18,8 @@ use Rattle.sequence.specs.Rows.{Spells}
 use Rattle.states.specs.StateRecord.{encodeState}
 use Rattle.sequence.specs.Ceilings.{ceilingOf}
 use Rattle.numbers.specs.Bytes.{leNumber}
-use Rattle.box_parts.specs.Parts.{zeros}
-use Rattle.box_parts.proofs.Zeros.{length-zeros, slot-zeros, zeros-number}
+use Rattle.numbers.specs.Parts.{zeros}
+use Rattle.numbers.proofs.Zeros.{length-zeros, slot-zeros, zeros-number}
 use Rattle.box_ledgers.specs.Ledgers.{farmCount, totalIn}
 use Rattle.box_ledgers.proofs.Theorems.{cleared-total}
 use Rattle.box_stretches.specs.Called.{Called, memoryAfter}

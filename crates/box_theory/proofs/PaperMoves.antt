@@ -16,8 +16,8 @@ use Rattle.numbers.specs.Bytes.{leBytes, leNumber}
 use Rattle.numbers.proofs.Bytes.{le-round-trip}
 use Rattle.states.specs.StateRecord.{stateLength, phaseIn, labelsIn, encodeState, Recorded}
 use Rattle.states.proofs.StateLaws.{length-state}
-use Rattle.box_parts.specs.Parts.{put}
-use Rattle.box_parts.proofs.Parts.{put-before, put-behind}
+use Rattle.numbers.specs.Parts.{put}
+use Rattle.numbers.proofs.Putting.{put-before, put-behind}
 use Rattle.box_positions.specs.Names.{Position, position, find, without, isKnown, Answered, answered, saveNamed, forgetNamed, numberAnswered, positionsAfter}
 use Rattle.box_positions.specs.Table.{lookup, kept, numberKept, tableKept, saveOf, forgetOf, Agrees}
 use Rattle.box_positions.proofs.Theorems.{save-agrees, forget-agrees}

@@ -22,7 +22,7 @@ use Rattle.answers.specs.AnswerRecord.{answerLength}
 use Rattle.recordings.specs.Record.{recordLength, recordOf}
 use Rattle.recordings.specs.Recording.{following}
 use Rattle.recordings_writer.proofs.Theorems.{following-is}
-use Rattle.box_parts.proofs.Parts.{slot-put}
+use Rattle.numbers.proofs.Putting.{slot-put}
 use Rattle.box_positions.specs.Table.{Agrees}
 use Rattle.box_ledgers.specs.Ledgers.{farmCount, wouldPass, passes}
 use Rattle.tick.specs.Tick.{Outcome, outcome, tickOf}

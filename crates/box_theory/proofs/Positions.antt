@@ -19,8 +19,8 @@ use Rattle.numbers.specs.Bytes.{leBytes}
 use Rattle.numbers.proofs.Bytes.{length-leBytes, le-round-trip}
 use Rattle.states.specs.StateRecord.{stateLength, stateRecord, phaseIn, labelsIn, encodeState, Recorded}
 use Rattle.states.proofs.StateLaws.{state-sized}
-use Rattle.box_parts.specs.Parts.{put, zeros}
-use Rattle.box_parts.proofs.Parts.{slot-put, put-before, put-behind}
+use Rattle.numbers.specs.Parts.{put, zeros}
+use Rattle.numbers.proofs.Putting.{slot-put, put-before, put-behind}
 use Rattle.box_ledgers.specs.Ledgers as Ledgers
 use Rattle.box_ledgers.specs.Ledgers.{ledgerLength}
 use Rattle.box_ledgers.proofs.Theorems.{cleared-sized}

@@ -11,12 +11,12 @@ use lib.ListN.{length}
 use borrow.Author.Tests.{eq-eqb, ne-eqb}
 use Rattle.numbers.specs.Bytes.{leNumber}
 use Rattle.sequence.specs.Check.{checkOf}
-use Rattle.box_parts.specs.Parts.{slot, zeros}
-use Rattle.box_parts.proofs.Parts.{length-put, put-before}
+use Rattle.numbers.specs.Parts.{slot, zeros}
+use Rattle.numbers.proofs.Putting.{length-put, put-before}
 use Rattle.box_ledgers.specs.Ledgers as Ledgers
 use Rattle.box_ledgers.specs.Ledgers.{ledgerLength}
 use Rattle.box_ledgers.proofs.Theorems.{cleared-sized}
-use Rattle.box_parts.proofs.Zeros.{length-zeros, slot-zeros, zeros-number}
+use Rattle.numbers.proofs.Zeros.{length-zeros, slot-zeros, zeros-number}
 use Rattle.box_positions.specs.Table.{tableLength}
 use Rattle.demands.specs.Demands as demands
 use Rattle.demands.proofs.Sequence.{accepted}

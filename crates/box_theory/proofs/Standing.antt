@@ -19,14 +19,14 @@ use Rattle.numbers.proofs.Bytes.{length-leBytes}
 use Rattle.states.specs.StateRecord.{stateLength, encodeState, holds, Recorded}
 use Rattle.states.proofs.StateLaws.{length-state, decode-encode}
 use Rattle.answers.specs.AnswerRecord.{answerLength}
-use Rattle.box_parts.specs.Parts.{slot, put}
+use Rattle.numbers.specs.Parts.{slot, put}
 use Rattle.tick.specs.Tick as Tick
 use Rattle.tick.specs.Tick.{Outcome, tickOf}
 use Rattle.demands.specs.Demands as demands
 use Rattle.demands.specs.Demands.{stateAfterwards, cleared}
 use Rattle.demands.proofs.Sequence.{Accepted, tick-at, tick-short, recorded-fresh, recorded-resumed}
 use Rattle.demands.proofs.Ceiling.{most}
-use Rattle.box_parts.proofs.Parts.{put-before}
+use Rattle.numbers.proofs.Putting.{put-before}
 use Rattle.box_ledgers.specs.Ledgers.{ledgerLength, added}
 use Rattle.box_stretches.specs.Called.{Called, number, memoryAfter}
 use Rattle.box_stretches.specs.Stretch.{sequenceAt, stateAt, countAt, positionsAt, bayLength, stretchLength, lengthIn, isEmpty, sequenceIn, stateIn, ledgerIn, Terms, filled}

@@ -9,8 +9,8 @@ use mathlib.Core.List.{List, []}
 use lib.ListN.{length, drop, length-drop}
 use lib.Seq.{length-take-le}
 use borrow.Author.Tests.{lt-ltb, le-ltb, eq-eqb, ne-eqb}
-use Rattle.box_parts.specs.Parts.{put}
-use Rattle.box_parts.proofs.Parts.{put-slot, length-put, slot-put, put-before, put-behind}
+use Rattle.numbers.specs.Parts.{put}
+use Rattle.numbers.proofs.Putting.{put-slot, length-put, slot-put, put-before, put-behind}
 use Rattle.box_stretches.specs.Called.{Called, called, number, memoryAfter, lentAfter}
 use Rattle.box_stretches.specs.Stretch.{stretchLength, isEmpty, Terms}
 use Rattle.box_calls.specs.Box.{bayCount, boxLength, stretchOf, present, Call, admit, buffers, bayCall, isFor, inBox, callOf}

@@ -25,8 +25,8 @@ use Rattle.states.proofs.StateLaws.{length-state}
 use Rattle.answers.specs.AnswerRecord.{answerLength}
 use Rattle.recordings.specs.Record.{recordLength, recordOf}
 use Rattle.recordings.specs.Recording.{following}
-use Rattle.box_parts.specs.Parts.{slot, put}
-use Rattle.box_parts.proofs.Parts.{put-slot, length-put, slot-put, put-before, put-behind}
+use Rattle.numbers.specs.Parts.{slot, put}
+use Rattle.numbers.proofs.Putting.{put-slot, length-put, slot-put, put-before, put-behind}
 use Rattle.box_ledgers.specs.Ledgers.{ledgerLength, passes, added}
 use Rattle.box_ledgers.proofs.Theorems.{added-sized}
 use Rattle.tick.specs.Tick as Tick

@@ -23,7 +23,7 @@ use Rattle.sequence.specs.Check.{checked, checkOf}
 use Rattle.numbers.specs.Bytes.{leBytes, leNumber}
 use Rattle.states.specs.StateRecord.{phaseIn, encodeState, decodeState}
 use Rattle.answers.specs.AnswerRecord.{encodeAnswer}
-use Rattle.box_parts.specs.Parts.{put, zeros}
+use Rattle.numbers.specs.Parts.{put, zeros}
 use Rattle.box_ledgers.specs.Ledgers.{totalIn, wouldPass, addedBelow}
 use Rattle.tick.specs.Tick.{Outcome, outcome, tickBy}
 use Rattle.demands.specs.Demands.{outcomes}

@@ -30,7 +30,7 @@ use Rattle.sequence.specs.Rows.{Spells}
 use Rattle.numbers.specs.Bytes.{leBytes, leNumber}
 use Rattle.states.specs.StateRecord.{encodeState, decodeState}
 use Rattle.answers.specs.AnswerRecord.{codeIn, emittedIn, encodeAnswer}
-use Rattle.box_parts.specs.Parts.{put, zeros}
+use Rattle.numbers.specs.Parts.{put, zeros}
 use Rattle.box_positions.specs.Names.{find, without, saveNamed}
 use Rattle.box_positions.specs.Table.{saveOf, forgetOf, lookup, place}
 use Rattle.box_ledgers.specs.Ledgers.{readingLength, fieldIn, totalIn, totalsBytes, wouldPass, addedBelow}

@@ -25,7 +25,7 @@ use Rattle.sequence.specs.Check.{checked}
 use Rattle.numbers.specs.Bytes.{leBytes, leNumber}
 use Rattle.states.specs.StateRecord.{phaseIn, encodeState, decodeState}
 use Rattle.answers.specs.AnswerRecord.{emittedIn, encodeAnswer}
-use Rattle.box_parts.specs.Parts.{put, zeros}
+use Rattle.numbers.specs.Parts.{put, zeros}
 use Rattle.box_positions.specs.Names as Names
 use Rattle.box_positions.specs.Names.{find, saveNamed}
 use Rattle.box_positions.specs.Table.{place, lookup, saveOf, forgetOf, namesBelow}

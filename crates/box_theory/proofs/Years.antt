@@ -16,9 +16,9 @@ use Rattle.numbers.specs.Bytes.{leBytes}
 use Rattle.numbers.proofs.Bytes.{length-leBytes}
 use Rattle.states.specs.StateRecord.{stateLength, stateRecord, phaseIn, labelsIn}
 use Rattle.states.proofs.StateLaws.{state-sized}
-use Rattle.box_parts.specs.Parts.{put, zeros}
-use Rattle.box_parts.proofs.Parts.{slot-put, put-behind}
-use Rattle.box_parts.proofs.Zeros.{slot-zeros}
+use Rattle.numbers.specs.Parts.{put, zeros}
+use Rattle.numbers.proofs.Putting.{slot-put, put-behind}
+use Rattle.numbers.proofs.Zeros.{slot-zeros}
 use Rattle.box_positions.specs.Table.{tableLength, lookup, Kept, kept, tableKept, saveOf, forgetOf}
 use Rattle.box_positions.proofs.TableLaws.{save-sized, forget-sized}
 use Rattle.litres.specs.Litres.{Near}

@@ -9,8 +9,8 @@ use lib.ListN.{length, take, drop, length-drop}
 use lib.Dec.{eqb, ltb}
 use lib.Seq.{length-take-le}
 use borrow.Author.Tests.{lt-ltb, eq-eqb}
-use Rattle.box_parts.specs.Parts.{slot, put}
-use Rattle.box_parts.proofs.Parts.{put-slot}
+use Rattle.numbers.specs.Parts.{slot, put}
+use Rattle.numbers.proofs.Putting.{put-slot}
 use Rattle.box_stretches.specs.Called.{called}
 use Rattle.box_stretches.specs.Stretch.{stretchLength, Terms}
 use Rattle.box_stretches.specs.BayCalls.{bayAdmitOf}

@@ -32,8 +32,8 @@ use Rattle.unrolled_theory.proofs.Theorems.{unroll-by-rows}
 use Rattle.replays.specs.Replay as replays
 use Rattle.replays.specs.Replay.{replayOf}
 use Rattle.replays.proofs.Numbers.{Verdict, refused, cut, compared, verdict}
-use Rattle.box_parts.specs.Parts.{zeros}
-use Rattle.box_parts.proofs.Zeros.{length-zeros}
+use Rattle.numbers.specs.Parts.{zeros}
+use Rattle.numbers.proofs.Zeros.{length-zeros}
 use Rattle.box_positions.specs.Table.{lookup, Kept, kept, numberKept, saveOf, forgetOf}
 use Rattle.box_positions.proofs.Theorems.{save-number, forget-number}
 use Rattle.box_fillings.specs.Preview as fillings

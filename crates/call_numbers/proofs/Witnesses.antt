@@ -37,7 +37,7 @@ use Rattle.recordings.specs.Recording.{following, recordsFrom}
 use Rattle.replays.specs.Replay.{firstRecords, same, firstDifference, placeOf, replayOf}
 use Rattle.unrolled.specs.Unrolled.{copied, unrolled}
 use Rattle.unrolled.specs.Call.{unrollOf}
-use Rattle.box_parts.specs.Parts.{put, zeros}
+use Rattle.numbers.specs.Parts.{put, zeros}
 use Rattle.box_positions.specs.Table.{place, lookup, saveOf, forgetOf}
 use Rattle.box_ledgers.specs.Ledgers.{readingLength, totalIn, totalsBytes, wouldPass, addedBelow}
 use Rattle.box_fillings.specs.Preview.{previewLength, both, gathered, findings, previewOf}

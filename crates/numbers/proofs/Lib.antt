@@ -1,6 +1,8 @@
 pub mod Bytes
-pub mod Reading
-pub mod Parts
-pub mod Writing
 pub mod Copies
+pub mod Parts
+pub mod Putting
+pub mod Reading
 pub mod Theorems
+pub mod Writing
+pub mod Zeros

@@ -1,11 +1,11 @@
-// Numbers as bytes, lowest first (01): how they are read and written.
+// Numbers as bytes, lowest first (01): how they are read and written; bytes at an offset, and bytes put in their place.
+pub mod copying;
+
 ghost use mathlib.Core.Path.{_≡_};
 ghost use Prim.Native.Nat.{_+_, _^_, _≤_, _<_};
 ghost use lib.ListN.{length, getD, take, drop};
 ghost use lib.Seq.{sets};
 ghost use Rattle.numbers.specs.Bytes.{leBytes, leNumber, atMost8, numberAt};
-
-pub mod copying;
 
 fn wide(x: u8) -> u64
     ensures { λ r. ⌜ r ≡ x ⌝ }

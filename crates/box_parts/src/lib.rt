@@ -1,1 +1,0 @@
-// Bytes at an offset, and bytes put in their place: specs/ and proofs/, no code.
