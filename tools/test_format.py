@@ -296,12 +296,12 @@ def example(page):
 
 
 def glossary(page):
-    """Each definition that is named: a file of esterel/specs, or of the specs that its path names, that declares it."""
+    """Each definition that is named: a file of spec_language/specs, or of the specs that its path names, that declares it."""
     table = rows(page, "Term")
     for row in table:
         for name in re.findall(r"`([\w/]+\.\w+)`", row[3]):
             file, _, declared = name.partition(".")
-            path = f"crates/{file}.antt" if "/" in file else f"crates/esterel/specs/{file}.antt"
+            path = f"crates/{file}.antt" if "/" in file else f"crates/spec_language/specs/{file}.antt"
             line = rf"^(abbrev |unfoldable )?pub (data |record )?{declared}\b"
             if not (ROOT / path).exists() or not re.search(line, text_of(path), re.M):
                 yield f"{name} of the glossary"

@@ -251,7 +251,7 @@ def definitions(texts):
 
 def language(texts):
     """The page about the language has every file of its definitions and of its theorems, and of sets and their laws."""
-    for first, cell, folder in (("specs/", 0, "crates/esterel/specs"), ("proofs/", 0, "crates/theory/proofs"),
+    for first, cell, folder in (("specs/", 0, "crates/spec_language/specs"), ("proofs/", 0, "crates/theory_language/proofs"),
                                 ("sets/specs", 0, "crates/sets/specs"), ("sets/specs", 2, "crates/sets/proofs")):
         given = {name for row in rows(texts[LANGUAGE], first) for name in quoted(row[cell])}
         there = {path.stem for path in (ROOT / folder).glob("*.antt")} - {"Lib", "Theorems"}
@@ -408,7 +408,7 @@ def changed(texts):
         (DECISIONS, requirements, r"(`\w+::put_\w+`)", "nothing"),
         (DECISIONS, premises, r"(`rules\w*::in_\w+`)", "nothing"),
         (DECISIONS, silent, r"(`vectors\w*::\w+::(?:text|all)`)", "nothing"),
-        (DEMANDS, edited, r"\b(commands|esterel) `\w+`", "limits"),
+        (DEMANDS, edited, r"\b(commands|spec_language) `\w+`", "limits"),
         (WORDS, cited, r"`[A-Z]\w+\.(\w+)`", "nonesuch"),
         (DEFINITIONS, definitions, r"^(\| \[.*\n)", ""),
         (LANGUAGE, language, r"^\| (`[A-Z]\w+`.*?) \|.*\n", "`Nobody`"),

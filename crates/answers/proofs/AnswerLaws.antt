@@ -4,11 +4,11 @@ use mathlib.Core.Path.{_≡_, refl}
 use mathlib.Core.Logic.{_≢_}
 use mathlib.Core.Option.{Option, some}
 use lib.ListN.{length}
-use Rattle.esterel.specs.Statement.{Statement}
-use Rattle.esterel.specs.Reaction.{Code, ended, waiting, leaving, wrong, gives}
-use Rattle.esterel.specs.Errors.{Error, noError, blame}
-use Rattle.esterel.specs.Instants.{instant}
-use Rattle.esterel.specs.Machines.{shown}
+use Rattle.spec_language.specs.Statement.{Statement}
+use Rattle.spec_language.specs.Reaction.{Code, ended, waiting, leaving, wrong, gives}
+use Rattle.spec_language.specs.Errors.{Error, noError, blame}
+use Rattle.spec_language.specs.Instants.{instant}
+use Rattle.spec_language.specs.Machines.{shown}
 use Rattle.limits.specs.Limits.{placeBytes, signalBytes, reactionsBytes}
 use Rattle.numbers.specs.Bytes.{leBytes}
 use Rattle.numbers.proofs.Bytes.{le-round-trip}

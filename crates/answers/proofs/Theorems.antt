@@ -3,11 +3,11 @@ use Prim.Native.Nat.{ℕ, _^_, _<_}
 use mathlib.Core.Path.{_≡_}
 use mathlib.Core.Option.{Option}
 use lib.ListN.{length}
-use Rattle.esterel.specs.Statement.{Statement}
-use Rattle.esterel.specs.Reaction.{Code, gives}
-use Rattle.esterel.specs.Errors.{Error, blame}
-use Rattle.esterel.specs.Instants.{instant}
-use Rattle.esterel.specs.Machines.{shown}
+use Rattle.spec_language.specs.Statement.{Statement}
+use Rattle.spec_language.specs.Reaction.{Code, gives}
+use Rattle.spec_language.specs.Errors.{Error, blame}
+use Rattle.spec_language.specs.Instants.{instant}
+use Rattle.spec_language.specs.Machines.{shown}
 use Rattle.limits.specs.Limits.{placeBytes, signalBytes, reactionsBytes}
 use Rattle.answers.specs.AnswerRecord.{answerLength, codeByte, codeIn, kindIn, placeIn, emittedIn, reactionsIn, encodeAnswer}
 use Rattle.answers.proofs.AnswerLaws as laws

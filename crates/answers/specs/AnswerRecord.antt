@@ -2,10 +2,10 @@
 use Prim.Native.Nat.{ℕ, _+_}
 use mathlib.Core.List.{List, _∷_, _++_}
 use lib.ListN.{getD, take, drop}
-use Rattle.esterel.specs.Reaction.{Code, ended, waiting, leaving, wrong, gives}
-use Rattle.esterel.specs.Errors.{blame}
-use Rattle.esterel.specs.Instants.{Instant, instant}
-use Rattle.esterel.specs.Machines.{shown}
+use Rattle.spec_language.specs.Reaction.{Code, ended, waiting, leaving, wrong, gives}
+use Rattle.spec_language.specs.Errors.{blame}
+use Rattle.spec_language.specs.Instants.{Instant, instant}
+use Rattle.spec_language.specs.Machines.{shown}
 use Rattle.limits.specs.Limits.{placeBytes, signalBytes, reactionsBytes}
 use Rattle.numbers.specs.Bytes.{leBytes, leNumber}
 

@@ -6,10 +6,10 @@ use mathlib.Core.Bool.{true, false}
 use mathlib.Core.List.{List, [], _∷_, _++_, map}
 use lib.ListN.{replicate, getD}
 use Rattle.sets.specs.Sets.{member, none, only, join, insert, remove, subset, disjoint, membersFrom}
-use Rattle.esterel.specs.LabelTests.{labelsOf, everyLabel, distinct, before, wellFormed}
-use Rattle.esterel.specs.ReadBack.{declaredBy}
-use Rattle.esterel.specs.Sizes.{commands, loopNesting, signalNesting}
-use Rattle.esterel.specs.Ceiling.{ceiling}
+use Rattle.spec_language.specs.LabelTests.{labelsOf, everyLabel, distinct, before, wellFormed}
+use Rattle.spec_language.specs.ReadBack.{declaredBy}
+use Rattle.spec_language.specs.Sizes.{commands, loopNesting, signalNesting}
+use Rattle.spec_language.specs.Ceiling.{ceiling}
 use Rattle.sequence.specs.Commands.{commandOf}
 use Rattle.sequence.specs.Reader.{front, read}
 use Rattle.sequence.specs.Check.{checked}

@@ -7,10 +7,10 @@ use mathlib.Core.Bool.{_&&_, cond}
 use mathlib.Core.Option.{some, none}
 use mathlib.Core.List.{List, [], _∷_}
 use lib.Dec.{eqb}
-use Rattle.esterel.specs.Statement.{Statement}
-use Rattle.esterel.specs.States.{Valid}
-use Rattle.esterel.specs.Expansion.{expand}
-use Rattle.esterel.specs.Machines.{State, Rewriting}
+use Rattle.spec_language.specs.Statement.{Statement}
+use Rattle.spec_language.specs.States.{Valid}
+use Rattle.spec_language.specs.Expansion.{expand}
+use Rattle.spec_language.specs.Machines.{State, Rewriting}
 use Rattle.sequence.specs.Rows.{Spells}
 use Rattle.states.specs.StateRecord.{stateLength, phaseIn, labelsIn, encodeState}
 use Rattle.numbers.specs.Parts.{put}

@@ -5,18 +5,18 @@ use mathlib.Core.List.{List}
 use lib.ListN.{getD, replicate}
 use Rattle.limits.specs.Limits.{signalCount}
 use Rattle.sets.specs.Sets.{member}
-use Rattle.esterel.specs.Statement.{Statement}
-use Rattle.esterel.specs.RankedExpansion.{expandBy}
-use Rattle.esterel.specs.Machines.{adds, State}
+use Rattle.spec_language.specs.Statement.{Statement}
+use Rattle.theory_language.specs.RankedExpansion.{expandBy}
+use Rattle.spec_language.specs.Machines.{adds, State}
 use Rattle.labels.specs.Labels.{labelSet}
 use Rattle.sequence.specs.Program.{program}
 use Rattle.reaction.specs.Reactions.{cappedOf}
 use Rattle.program.specs.declared.Start.the-variants.{Fresh, Waiting}
-use Rattle.farms.proofs.Theorems.{unnamed-none}
+use Rattle.theory_language.proofs.Farms.{unnamed-none}
 use Rattle.layout.specs.Notes.{farmsIn, Noted}
 use Rattle.layout.proofs.Noting.{farms-below}
 use Rattle.box_ledgers.specs.Ledgers.{farmCount, NoneOutside}
-use Rattle.theory.proofs.LabelTests.{valid-is}
+use Rattle.theory_language.proofs.LabelTests.{valid-is}
 use Rattle.labels.specs.declared.Labels.{Labels}
 use Rattle.sequence.specs.Writer.{Ranged}
 use Rattle.sequence.specs.Check.{Checked, sound, bad, checked, numberOf, checkOf}

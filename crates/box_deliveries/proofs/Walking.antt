@@ -7,15 +7,15 @@ use native.Mathlib.Omega.{arith}
 use lib.ListN.{length, getD, replicate, length-replicate}
 use Rattle.limits.specs.Limits.{maxDepth, readBackPlace}
 use Rattle.sets.specs.Sets.{empty, below, from}
-use Rattle.esterel.specs.Statement.{Statement, nothing, pause, emit, exit, seq, par, loop, present, signal, try, setpause, suspend, held}
-use Rattle.esterel.specs.Reaction.{code, react, isWrong}
-use Rattle.esterel.specs.Ranks.{middle}
-use Rattle.esterel.specs.RankedExpansion.{expandBy}
-use Rattle.esterel.specs.ReadBack.{declaredBy, declared}
-use Rattle.esterel.specs.Litres.{AtMost, delivered}
-use Rattle.esterel.specs.Machines.{adds}
-use Rattle.theory.proofs.Ceiling.{chosen}
-use Rattle.theory.proofs.Theorems.{unnamed-no-litres}
+use Rattle.spec_language.specs.Statement.{Statement, nothing, pause, emit, exit, seq, par, loop, present, signal, try, setpause, suspend, held}
+use Rattle.spec_language.specs.Reaction.{code, react, isWrong}
+use Rattle.theory_language.specs.Ranks.{middle}
+use Rattle.theory_language.specs.RankedExpansion.{expandBy}
+use Rattle.spec_language.specs.ReadBack.{declaredBy, declared}
+use Rattle.spec_language.specs.Litres.{AtMost, delivered}
+use Rattle.spec_language.specs.Machines.{adds}
+use Rattle.theory_language.proofs.Ceiling.{chosen}
+use Rattle.theory_language.proofs.Theorems.{unnamed-no-litres}
 use Rattle.labels.specs.Labels.{labelSet}
 use Rattle.sequence.specs.Program.{readBackSignals}
 use Rattle.layout.specs.Layout.{Lies}
@@ -25,7 +25,7 @@ use Rattle.program.specs.declared.Start.{Start}
 use Rattle.program.specs.declared.Start.the-variants.{Fresh, Waiting}
 use Rattle.program.specs.Program.{Reacted}
 use Rattle.box_ledgers.specs.Ledgers.{farmCount}
-use Rattle.esterel.specs.Errors.{firstError}
+use Rattle.spec_language.specs.Errors.{firstError}
 use Rattle.reaction.specs.Completions.{codeOf}
 use Rattle.reaction.proofs.Completions.{code-of}
 use Rattle.box_deliveries.specs.Walks.{termOf, HasNamed, Instant}

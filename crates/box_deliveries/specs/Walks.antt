@@ -6,9 +6,9 @@ use mathlib.Core.List.{List}
 use lib.ListN.{getD}
 use Rattle.limits.specs.Limits.{maxDepth}
 use Rattle.sets.specs.Sets.{member}
-use Rattle.esterel.specs.Statement.{Statement}
-use Rattle.esterel.specs.Litres.{AtMost}
-use Rattle.esterel.specs.Machines.{adds}
+use Rattle.spec_language.specs.Statement.{Statement}
+use Rattle.spec_language.specs.Litres.{AtMost}
+use Rattle.spec_language.specs.Machines.{adds}
 use Rattle.sequence.specs.Program.{program}
 use Rattle.layout.specs.Layout.{Lies}
 use Rattle.reaction.specs.declared.Reaction.{Reaction}

@@ -7,8 +7,8 @@ use lib.IntN.{pos}
 use lib.Ieee.{binary32, ofInt, add}
 use Rattle.limits.specs.Limits.{litresLimit}
 use Rattle.sets.specs.Sets.{insert, remove}
-use Rattle.esterel.specs.Statement.{Statement, nothing, pause, emit, exit, seq, par, loop, present, signal, try, setpause, suspend, held}
-use Rattle.esterel.specs.Litres.{delivered}
+use Rattle.spec_language.specs.Statement.{Statement, nothing, pause, emit, exit, seq, par, loop, present, signal, try, setpause, suspend, held}
+use Rattle.spec_language.specs.Litres.{delivered}
 use Rattle.sequence.specs.Program.{program}
 use Rattle.sequence.specs.Check.{Checked, sound, bad, checked}
 use Rattle.numbers.specs.Parts.{put}

@@ -5,9 +5,9 @@ use mathlib.Core.Path.{_≡_, refl, sym, ap, _∙_, subst}
 use mathlib.Core.Logic.{_≢_, _⊎_, inl, inr, ⊎-elim}
 use mathlib.Core.Option.{Option}
 use mathlib.Core.List.{List}
-use Rattle.esterel.specs.Reaction.{Code, ended, waiting, leaving, wrong, Reaction, gives, code, reactBy, inheritanceFirst}
-use Rattle.esterel.specs.Errors.{Error}
-use Rattle.esterel.specs.Instants.{instant}
+use Rattle.spec_language.specs.Reaction.{Code, ended, waiting, leaving, wrong, Reaction, gives, code, reactBy, inheritanceFirst}
+use Rattle.spec_language.specs.Errors.{Error}
+use Rattle.spec_language.specs.Instants.{instant}
 use Rattle.answers.specs.AnswerRecord.{codeByte, codeIn, encodeAnswer}
 use Rattle.answers.proofs.AnswerLaws.{code-field}
 use Rattle.tick.specs.Tick.{Outcome, tickOf}

@@ -11,11 +11,11 @@ use lib.Dec.{eqb, leb}
 use borrow.Author.Tests.{eq-eqb, ne-eqb, leb-true}
 use Rattle.limits.specs.Limits.{signalCount}
 use Rattle.sets.specs.Sets.{member, difference, Subset, keepIf, membersFrom}
-use Rattle.esterel.specs.Statement.{Statement}
-use Rattle.esterel.specs.Reaction.{inheritanceFirst}
-use Rattle.esterel.specs.Expansion.{expand}
-use Rattle.esterel.specs.Instants.{Instant, instant, start}
-use Rattle.esterel.specs.Machines.{State}
+use Rattle.spec_language.specs.Statement.{Statement}
+use Rattle.spec_language.specs.Reaction.{inheritanceFirst}
+use Rattle.spec_language.specs.Expansion.{expand}
+use Rattle.spec_language.specs.Instants.{Instant, instant, start}
+use Rattle.spec_language.specs.Machines.{State}
 use Rattle.sequence.specs.Program.{program}
 use Rattle.sequence.specs.Check.{Checked, sound, bad, checked}
 use Rattle.sequence.specs.Rows.{rank}

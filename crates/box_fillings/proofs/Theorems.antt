@@ -16,7 +16,7 @@ use Rattle.sets.specs.Subsets.{subsetsOf}
 use Rattle.sets.proofs.Algebra.{differences-same}
 use Rattle.sets.proofs.Sizes.{size-is}
 use Rattle.sets.proofs.Counting.{subsets-few}
-use Rattle.esterel.specs.Instants.{Instant}
+use Rattle.spec_language.specs.Instants.{Instant}
 use Rattle.numbers.specs.Bytes.{leBytes}
 use Rattle.states.specs.StateRecord.{stateLength}
 use Rattle.answers.specs.AnswerRecord.{answerLength, codeIn, emittedIn}

@@ -9,7 +9,7 @@ use lib.ListN.{length}
 use lib.Dec.{eqb}
 use Rattle.limits.specs.Limits.{litresLimit}
 use Rattle.litres.specs.Litres.{IsNumber, Near}
-use Rattle.esterel.specs.States.{NoSetpause}
+use Rattle.spec_language.specs.States.{NoSetpause}
 use Rattle.box_ledgers.specs.Ledgers.{farmCount, readingLength, fieldIn, readingFor, totalRead}
 use Rattle.box_stretches.specs.Called.{number, lentAfter, first}
 use Rattle.box_calls.specs.Box.{bayCount, emptyBox, Call, ledger, onTick, onNewYear}

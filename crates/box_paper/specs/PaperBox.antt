@@ -9,9 +9,9 @@ use mathlib.Core.List.{List, [], _∷_}
 use lib.ListN.{length}
 use lib.Dec.{eqb, leb, ltb}
 use Rattle.limits.specs.Limits.{signalBytes}
-use Rattle.esterel.specs.Statement.{Statement}
-use Rattle.esterel.specs.Ceiling.{ceiling}
-use Rattle.esterel.specs.Machines.{Seen, instant, refused, Machine, State, byLabels, addsByLabels, Rewriting, byRewriting, addsByRewriting}
+use Rattle.spec_language.specs.Statement.{Statement}
+use Rattle.spec_language.specs.Ceiling.{ceiling}
+use Rattle.spec_language.specs.Machines.{Seen, instant, refused, Machine, State, byLabels, addsByLabels, Rewriting, byRewriting, addsByRewriting}
 use Rattle.sequence.specs.Program.{program}
 use Rattle.sequence.specs.Check.{Checked, sound, bad, checked}
 use Rattle.states.specs.StateRecord.{encodeState}

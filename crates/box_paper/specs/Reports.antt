@@ -5,9 +5,9 @@ use mathlib.Core.Bool.{Bool, true, false, _&&_, cond}
 use mathlib.Core.Option.{Option, some, none}
 use mathlib.Core.List.{List, [], _∷_, List·Memᴰ}
 use lib.Dec.{eqb}
-use Rattle.esterel.specs.Statement.{Statement}
-use Rattle.esterel.specs.States.{NoSetpause}
-use Rattle.esterel.specs.Machines.{State}
+use Rattle.spec_language.specs.Statement.{Statement}
+use Rattle.spec_language.specs.States.{NoSetpause}
+use Rattle.spec_language.specs.Machines.{State}
 use Rattle.sequence.specs.Check.{checkOf}
 use Rattle.sequence.specs.Rows.{Spells}
 use Rattle.states.specs.StateRecord.{encodeState}

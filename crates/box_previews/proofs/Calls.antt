@@ -8,7 +8,7 @@ use lib.ListN.{length}
 use borrow.Author.Tests.{le-leb, lt-leb}
 use Rattle.limits.specs.Limits.{signalCount}
 use Rattle.sets.specs.Sets.{difference, membersFrom}
-use Rattle.esterel.specs.Traced.{startTraced, instantOf}
+use Rattle.theory_language.specs.Traced.{startTraced, instantOf}
 use Rattle.sequence.specs.Program.{program}
 use Rattle.sequence.specs.Check.{checkOf}
 use Rattle.checks.specs.Verdict.{Passed}

@@ -10,10 +10,10 @@ use Rattle.sets.specs.Sets.{member, none, join, common, insert, remove, Subset,
 use Rattle.sets.specs.Widths.{insertBelow, Lowest}
 use Rattle.sets.proofs.Booleans.{clash}
 use Rattle.sets.proofs.Members.{member-none, member-join, member-common, member-lt}
-use Rattle.esterel.specs.Statement.{Statement}
-use Rattle.esterel.specs.Asked as Asked
-use Rattle.esterel.specs.Traced.{Traced, instantOf, startTraced}
-use Rattle.esterel.specs.Instants.{start}
+use Rattle.spec_language.specs.Statement.{Statement}
+use Rattle.theory_language.specs.Asked as Asked
+use Rattle.theory_language.specs.Traced.{Traced, instantOf, startTraced}
+use Rattle.spec_language.specs.Instants.{start}
 use Rattle.sequence.specs.Program.{program}
 use Rattle.reaction.specs.declared.Completion.{Completion}
 use Rattle.reaction.specs.declared.Completion.the-variants.{Ended, Waiting, Leaving, Wrong}
@@ -32,7 +32,7 @@ use Rattle.box_fillings.specs.declared.Findings.{Findings}
 use Rattle.box_fillings.specs.Preview.{alone, foundIn, both, findings}
 use Rattle.box_previews.specs.Standing.{answersAt}
 use Rattle.box_fillings.proofs.Numbers.{written-answer}
-use Rattle.theory.proofs.Asked.{unasked-traced}
+use Rattle.theory_language.proofs.Asked.{unasked-traced}
 use Rattle.box_previews.proofs.Splitting.{one-for-all, apart-without, apart-with, split-at}
 
 -- ---- one filling

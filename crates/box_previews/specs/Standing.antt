@@ -2,8 +2,8 @@
 use Prim.Native.Nat.{ℕ}
 use mathlib.Core.List.{List}
 use Rattle.limits.specs.Limits.{maxDepth}
-use Rattle.esterel.specs.Statement.{Statement}
-use Rattle.esterel.specs.Instants.{start}
+use Rattle.spec_language.specs.Statement.{Statement}
+use Rattle.spec_language.specs.Instants.{start}
 use Rattle.sequence.specs.Program.{program}
 use Rattle.layout.specs.Layout.{Lies, Ready}
 use Rattle.program.specs.declared.Start.{Start}

@@ -4,7 +4,7 @@ use mathlib.Core.Bool.{_&&_, cond}
 use mathlib.Core.List.{List, [], _∷_}
 use mathlib.Core.Option.{Option, some, none}
 use lib.Dec.{eqb, leb}
-use Rattle.esterel.specs.Ceiling.{ceiling}
+use Rattle.spec_language.specs.Ceiling.{ceiling}
 use Rattle.sequence.specs.Program.{program}
 use Rattle.sequence.specs.Check.{Checked, sound, bad, checked}
 use Rattle.numbers.specs.Parts.{put}

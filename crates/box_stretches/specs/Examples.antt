@@ -11,15 +11,15 @@ use lib.Dec.{eqb}
 use lib.Ieee.{ofBits, toBits, ofInt, whole, inUnsigned, toUnsigned}
 use Rattle.limits.specs.Limits.{numberBytes}
 use Rattle.sets.specs.Sets.{member, none, only, join, difference, insert, remove, subset, disjoint, membersFrom}
-use Rattle.esterel.specs.Reaction.{reactBy}
-use Rattle.esterel.specs.Errors.{errorsBy}
-use Rattle.esterel.specs.Reactions.{reactionsBy}
-use Rattle.esterel.specs.LabelTests.{labelsOf, activeLabels, everyLabel, distinct, before, wellFormed, valid}
-use Rattle.esterel.specs.States.{active}
-use Rattle.esterel.specs.Expansion.{expand}
-use Rattle.esterel.specs.ReadBack.{declaredBy}
-use Rattle.esterel.specs.Sizes.{commands, loopNesting, signalNesting}
-use Rattle.esterel.specs.Ceiling.{ceiling}
+use Rattle.spec_language.specs.Reaction.{reactBy}
+use Rattle.spec_language.specs.Errors.{errorsBy}
+use Rattle.spec_language.specs.Reactions.{reactionsBy}
+use Rattle.spec_language.specs.LabelTests.{labelsOf, activeLabels, everyLabel, distinct, before, wellFormed, valid}
+use Rattle.spec_language.specs.States.{active}
+use Rattle.spec_language.specs.Expansion.{expand}
+use Rattle.spec_language.specs.ReadBack.{declaredBy}
+use Rattle.spec_language.specs.Sizes.{commands, loopNesting, signalNesting}
+use Rattle.spec_language.specs.Ceiling.{ceiling}
 use Rattle.sequence.specs.Commands.{commandOf}
 use Rattle.sequence.specs.Reader.{front, read}
 use Rattle.sequence.specs.Check.{checked}

@@ -10,12 +10,12 @@ use mathlib.Core.List.{List, [], _∷_, map, List·Memᴰ, List·Memᴰ·not-nil
 use lib.ListN.{length}
 use lib.Dec.{eqb}
 use borrow.Author.Tests.{eq-eqb, ne-eqb}
-use Rattle.esterel.specs.Statement.{Statement}
-use Rattle.esterel.specs.Reaction.{Code, gives, inheritanceFirst}
-use Rattle.esterel.specs.Rules.{Reacts}
-use Rattle.esterel.specs.States.{NoSetpause}
-use Rattle.esterel.specs.Machines.{State, Rewriting}
-use Rattle.theory.proofs.Agreement.{TermOf}
+use Rattle.spec_language.specs.Statement.{Statement}
+use Rattle.spec_language.specs.Reaction.{Code, gives, inheritanceFirst}
+use Rattle.spec_language.specs.Rules.{Reacts}
+use Rattle.spec_language.specs.States.{NoSetpause}
+use Rattle.spec_language.specs.Machines.{State, Rewriting}
+use Rattle.theory_language.proofs.Agreement.{TermOf}
 use Rattle.sequence.specs.Program.{program}
 use Rattle.sequence.specs.Rows.{ByRows}
 use Rattle.sequence.specs.Check.{Checked, sound, bad, checked}

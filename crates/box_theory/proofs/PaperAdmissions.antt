@@ -10,9 +10,9 @@ use lib.Dec.{eqb, leb}
 use lib.IntN.{pos}
 use lib.Ieee.{Float, binary32, add, toBits, ofInt}
 use Rattle.limits.specs.Limits.{numberBytes}
-use Rattle.esterel.specs.Statement.{Statement}
-use Rattle.esterel.specs.Ceiling.{ceiling}
-use Rattle.esterel.specs.Machines.{State}
+use Rattle.spec_language.specs.Statement.{Statement}
+use Rattle.spec_language.specs.Ceiling.{ceiling}
+use Rattle.spec_language.specs.Machines.{State}
 use Rattle.sequence.specs.Program.{program}
 use Rattle.sequence.specs.Check.{Checked, sound, bad, checked, checkOf}
 use Rattle.sequence.specs.Ceilings.{ceilingOf}

@@ -9,7 +9,7 @@ use mathlib.Core.List.{List}
 use lib.ListN.{length}
 use borrow.Author.Tests.{ne-eqb}
 use Rattle.limits.specs.Limits.{lastNumber}
-use Rattle.esterel.specs.Machines.{State}
+use Rattle.spec_language.specs.Machines.{State}
 use Rattle.sequence.specs.Program.{program}
 use Rattle.states.specs.StateRecord.{encodeState, Recorded}
 use Rattle.demands.proofs.Sequence.{Accepted}

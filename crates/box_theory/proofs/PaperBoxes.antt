@@ -9,10 +9,10 @@ use mathlib.Core.Option as Option
 use mathlib.Core.List.{List, [], _∷_, List·Memᴰ, List·Memᴰ·head, List·Memᴰ·tail}
 use lib.ListN.{length}
 use borrow.Author.Tests.{eq-eqb, ne-eqb, lt-ltb, le-ltb}
-use Rattle.esterel.specs.Ceiling.{ceiling}
-use Rattle.esterel.specs.States.{NoSetpause}
-use Rattle.esterel.specs.Machines.{State}
-use Rattle.esterel.specs.Statement.{Statement}
+use Rattle.spec_language.specs.Ceiling.{ceiling}
+use Rattle.spec_language.specs.States.{NoSetpause}
+use Rattle.spec_language.specs.Machines.{State}
+use Rattle.spec_language.specs.Statement.{Statement}
 use Rattle.sequence.specs.Check.{checkOf}
 use Rattle.sequence.specs.Rows.{Spells}
 use Rattle.states.specs.StateRecord.{encodeState}

@@ -8,17 +8,17 @@ use mathlib.Core.Option as Option
 use mathlib.Core.List.{List, [], _∷_, _++_}
 use lib.ListN.{length, getD}
 use Rattle.limits.specs.Limits.{signalCount, signalBytes, numberBytes, placeBytes, reactionsBytes, readBackPlace}
-use Rattle.esterel.specs.Statement.{Statement}
-use Rattle.esterel.specs.Reaction.{Code, Reaction, gives, emitted, code, react, inheritanceFirst}
-use Rattle.esterel.specs.Errors.{Error, blame, firstError}
-use Rattle.esterel.specs.Reactions.{reactions}
-use Rattle.esterel.specs.Expansion.{expand}
-use Rattle.esterel.specs.Instants as Instants
-use Rattle.esterel.specs.States.{NoSetpause}
-use Rattle.esterel.specs.Machines.{Phase, phaseAfter, shown, Seen, instant, refused, seen, State, stateAfter, byLabels, addsByLabels, Rewriting, addsByRewriting, added}
-use Rattle.theory.proofs.Agreement.{TermOf, step}
-use Rattle.theory.proofs.ReadBack.{noSetpause-declared}
-use Rattle.theory.proofs.Litres.{agree-added}
+use Rattle.spec_language.specs.Statement.{Statement}
+use Rattle.spec_language.specs.Reaction.{Code, Reaction, gives, emitted, code, react, inheritanceFirst}
+use Rattle.spec_language.specs.Errors.{Error, blame, firstError}
+use Rattle.spec_language.specs.Reactions.{reactions}
+use Rattle.spec_language.specs.Expansion.{expand}
+use Rattle.spec_language.specs.Instants as Instants
+use Rattle.spec_language.specs.States.{NoSetpause}
+use Rattle.spec_language.specs.Machines.{Phase, phaseAfter, shown, Seen, instant, refused, seen, State, stateAfter, byLabels, addsByLabels, Rewriting, addsByRewriting, added}
+use Rattle.theory_language.proofs.Agreement.{TermOf, step}
+use Rattle.theory_language.proofs.ReadBack.{noSetpause-declared}
+use Rattle.theory_language.proofs.Litres.{agree-added}
 use Rattle.sequence.specs.Program.{program, readBackSignals}
 use Rattle.sequence.specs.Check.{Checked}
 use Rattle.states.specs.StateRecord.{Decoded, encodeState, holds, Recorded}

@@ -9,8 +9,8 @@ use mathlib.Core.List.{List, [], _∷_}
 use lib.ListN.{length}
 use lib.Dec.{eqb, ltb}
 use Rattle.limits.specs.Limits.{labelBytes, numberBytes, maxPositions}
-use Rattle.esterel.specs.Statement.{Statement}
-use Rattle.esterel.specs.Machines.{State}
+use Rattle.spec_language.specs.Statement.{Statement}
+use Rattle.spec_language.specs.Machines.{State}
 use Rattle.sequence.specs.Program.{program}
 use Rattle.numbers.specs.Bytes.{leBytes, leNumber}
 use Rattle.numbers.proofs.Bytes.{le-round-trip}

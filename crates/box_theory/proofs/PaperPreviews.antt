@@ -8,13 +8,13 @@ use lib.ListN.{length}
 use lib.Dec.{eqb}
 use borrow.Author.Tests.{eq-eqb, ne-eqb}
 use Rattle.sets.specs.Sets.{difference}
-use Rattle.esterel.specs.Statement.{Statement}
-use Rattle.esterel.specs.Reaction.{Reaction, gives, react, inheritanceFirst}
-use Rattle.esterel.specs.Expansion.{expand}
-use Rattle.esterel.specs.Instants.{Instant, start}
-use Rattle.esterel.specs.Machines.{Seen, seen, State, byLabels}
-use Rattle.esterel.specs.Errors.{Error, firstError}
-use Rattle.esterel.specs.Reactions.{reactions}
+use Rattle.spec_language.specs.Statement.{Statement}
+use Rattle.spec_language.specs.Reaction.{Reaction, gives, react, inheritanceFirst}
+use Rattle.spec_language.specs.Expansion.{expand}
+use Rattle.spec_language.specs.Instants.{Instant, start}
+use Rattle.spec_language.specs.Machines.{Seen, seen, State, byLabels}
+use Rattle.spec_language.specs.Errors.{Error, firstError}
+use Rattle.spec_language.specs.Reactions.{reactions}
 use Rattle.sequence.specs.Program.{program}
 use Rattle.sequence.specs.Check.{Checked}
 use Rattle.states.specs.StateRecord.{Decoded, holds, encodeState}

@@ -11,9 +11,9 @@ use lib.Dec.{eqb, ltb}
 use borrow.Author.Tests.{eq-eqb, ne-eqb}
 use Rattle.limits.specs.Limits.{numberBytes, litresLimit}
 use native.Mathlib.Decide.{ℕ-discrete}
-use Rattle.esterel.specs.Reaction.{Code}
-use Rattle.esterel.specs.Errors.{Error}
-use Rattle.esterel.specs.Machines.{Phase, Seen, instant, refused}
+use Rattle.spec_language.specs.Reaction.{Code}
+use Rattle.spec_language.specs.Errors.{Error}
+use Rattle.spec_language.specs.Machines.{Phase, Seen, instant, refused}
 use Rattle.sequence.specs.Program.{program}
 use Rattle.numbers.specs.Bytes.{leBytes, leNumber}
 use Rattle.numbers.proofs.Bytes.{length-leBytes, le-round-trip}

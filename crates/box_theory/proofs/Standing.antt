@@ -10,9 +10,9 @@ use lib.ListN.{length}
 use borrow.Author.Tests.{ne-eqb}
 use Rattle.limits.specs.Limits.{numberBytes}
 use Rattle.sets.specs.Sets as Sets
-use Rattle.esterel.specs.Reaction.{react, inheritanceFirst}
-use Rattle.esterel.specs.Expansion.{expand}
-use Rattle.esterel.specs.Machines.{State, stateAfter}
+use Rattle.spec_language.specs.Reaction.{react, inheritanceFirst}
+use Rattle.spec_language.specs.Expansion.{expand}
+use Rattle.spec_language.specs.Machines.{State, stateAfter}
 use Rattle.sequence.specs.Program.{program}
 use Rattle.numbers.specs.Bytes.{leBytes}
 use Rattle.numbers.proofs.Bytes.{length-leBytes}

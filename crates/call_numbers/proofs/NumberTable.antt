@@ -11,7 +11,7 @@ use lib.ListN.{length}
 use lib.Dec.{eqb, leb}
 use Rattle.limits.specs.Limits.{signalCount}
 use Rattle.sets.specs.Sets.{difference, membersFrom}
-use Rattle.esterel.specs.Ceiling.{ceiling}
+use Rattle.spec_language.specs.Ceiling.{ceiling}
 use Rattle.sequence.specs.Program.{program}
 use Rattle.sequence.specs.Rows.{Row}
 use Rattle.sequence.specs.Check.{Checked, sound, bad, checked, checkOf}

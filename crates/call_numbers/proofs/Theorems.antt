@@ -11,9 +11,9 @@ use mathlib.Core.List.{List, [], _∷_, _++_, map}
 use lib.Dec.{eqb}
 use lib.Pow.{pow-pos}
 use borrow.Author.Tests.{eqb-true}
-use Rattle.esterel.specs.Statement.{Statement}
-use Rattle.esterel.specs.Sizes.{signalNesting}
-use Rattle.esterel.specs.Ceiling.{ceiling}
+use Rattle.spec_language.specs.Statement.{Statement}
+use Rattle.spec_language.specs.Sizes.{signalNesting}
+use Rattle.spec_language.specs.Ceiling.{ceiling}
 use Rattle.ceilings.proofs.Sizes.{nested}
 use Rattle.sequence.specs.Program.{program}
 use Rattle.sequence.specs.Check.{Checked, sound, bad, checked, numberOf, checkOf}

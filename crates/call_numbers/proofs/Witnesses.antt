@@ -13,16 +13,16 @@ use Rattle.sets.specs.Sets as Sets
 use Rattle.sets.specs.Sets.{member, only, join, common, difference, insert, remove, subset, disjoint, membersFrom}
 use Rattle.sets.specs.Widths.{allBelow}
 use Rattle.sets.specs.Subsets.{subsetsBelow}
-use Rattle.esterel.specs.Reaction.{reactBy}
-use Rattle.esterel.specs.Errors.{errorsBy}
-use Rattle.esterel.specs.Reactions.{reactionsBy}
-use Rattle.esterel.specs.Litres.{deliveredBy}
-use Rattle.esterel.specs.LabelTests.{labelsOf, activeLabels, everyLabel, distinct, before, wellFormed, valid}
-use Rattle.esterel.specs.States.{active}
-use Rattle.esterel.specs.Expansion.{expand}
-use Rattle.esterel.specs.ReadBack.{declaredBy}
-use Rattle.esterel.specs.Sizes.{commands, loopNesting, signalNesting, depthOf}
-use Rattle.esterel.specs.Ceiling.{ceiling}
+use Rattle.spec_language.specs.Reaction.{reactBy}
+use Rattle.spec_language.specs.Errors.{errorsBy}
+use Rattle.spec_language.specs.Reactions.{reactionsBy}
+use Rattle.spec_language.specs.Litres.{deliveredBy}
+use Rattle.spec_language.specs.LabelTests.{labelsOf, activeLabels, everyLabel, distinct, before, wellFormed, valid}
+use Rattle.spec_language.specs.States.{active}
+use Rattle.spec_language.specs.Expansion.{expand}
+use Rattle.spec_language.specs.ReadBack.{declaredBy}
+use Rattle.spec_language.specs.Sizes.{commands, loopNesting, signalNesting, depthOf}
+use Rattle.spec_language.specs.Ceiling.{ceiling}
 use Rattle.sequence.specs.Commands.{commandOf}
 use Rattle.sequence.specs.Reader.{front, read}
 use Rattle.sequence.specs.Writer.{bytesOf}

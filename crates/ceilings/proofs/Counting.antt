@@ -8,8 +8,8 @@ use native.Mathlib.Omega.{arith}
 use lib.ListN.{length, getD, drop, length-drop}
 use lib.Seq.{getD-drop, drop-drop}
 use Rattle.limits.specs.Limits.{maxBytes, maxDepth}
-use Rattle.esterel.specs.Statement.{Statement}
-use Rattle.esterel.specs.Sizes.{commands, loopNesting}
+use Rattle.spec_language.specs.Statement.{Statement}
+use Rattle.spec_language.specs.Sizes.{commands, loopNesting}
 use Rattle.sequence.specs.Commands.{Command, commandOf, partCount, headLength}
 use Rattle.sequence.specs.Writer.{size}
 use Rattle.sequence.proofs.Table.{byteOf, byte-is, command-at, at-most-two}

@@ -7,9 +7,9 @@ use mathlib.Core.List.{List}
 use native.Mathlib.Omega.{arith}
 use lib.ListN.{length, getD, drop}
 use lib.Seq.{drop-drop}
-use Rattle.esterel.specs.Statement.{Statement, nothing}
-use Rattle.esterel.specs.Ranks.{middle}
-use Rattle.esterel.specs.Sizes.{commands, loopNesting}
+use Rattle.spec_language.specs.Statement.{Statement, nothing}
+use Rattle.theory_language.specs.Ranks.{middle}
+use Rattle.spec_language.specs.Sizes.{commands, loopNesting}
 use Rattle.sequence.specs.Commands.{Command, commandOf, operandsOf, partCount, headLength, build}
 use Rattle.sequence.specs.Writer.{size}
 use Rattle.sequence.proofs.Table.{leaves, ones, twos, at-most-two}

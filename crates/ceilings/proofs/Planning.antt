@@ -4,10 +4,10 @@ use mathlib.Core.Path.{_≡_, refl, sym, ap, _∙_}
 use mathlib.Core.List.{List}
 use native.Mathlib.Omega.{arith}
 use lib.ListN.{length}
-use Rattle.esterel.specs.Statement.{Statement}
-use Rattle.esterel.specs.Sizes.{commands, loopNesting, signalNesting}
-use Rattle.esterel.specs.Ceiling.{ceiling}
-use Rattle.theory.proofs.Ceiling.{commands-declared, loops-declared, nesting-declared}
+use Rattle.spec_language.specs.Statement.{Statement}
+use Rattle.spec_language.specs.Sizes.{commands, loopNesting, signalNesting}
+use Rattle.spec_language.specs.Ceiling.{ceiling}
+use Rattle.theory_language.proofs.Ceiling.{commands-declared, loops-declared, nesting-declared}
 use Rattle.limits.specs.Limits.{maxDepth, maxSignals, readBackPlace}
 use Rattle.sequence.specs.Program.{readBackSignals, program}
 use Rattle.sequence.specs.Check.{Checked, sound, bad, checked, numberOf, checkOf}

@@ -4,9 +4,9 @@ use native.Mathlib.Omega.{arith}
 use mathlib.Core.Path.{_≡_, refl}
 use mathlib.Core.Logic.{_≢_}
 use mathlib.Core.List.{List}
-use Rattle.esterel.specs.Statement.{Statement}
-use Rattle.theory.proofs.Reactions.{some-reaction}
-use Rattle.theory.proofs.Theorems.{ceiling-holds}
+use Rattle.spec_language.specs.Statement.{Statement}
+use Rattle.theory_language.proofs.Reactions.{some-reaction}
+use Rattle.theory_language.proofs.Theorems.{ceiling-holds}
 use Rattle.sequence.specs.Program.{program}
 use Rattle.sequence.specs.Check.{Checked, sound, bad, checked, numberOf, checkOf}
 use Rattle.sequence.specs.Ceilings.{ceilingOf}

@@ -4,8 +4,8 @@ use mathlib.Core.Path.{_≡_}
 use mathlib.Core.Option.{some}
 use mathlib.Core.List.{List}
 use lib.ListN.{length}
-use Rattle.esterel.specs.Statement.{Statement}
-use Rattle.esterel.specs.Sizes.{commands, loopNesting, signalNesting}
+use Rattle.spec_language.specs.Statement.{Statement}
+use Rattle.spec_language.specs.Sizes.{commands, loopNesting, signalNesting}
 use Rattle.limits.specs.Limits.{maxBytes, maxDepth}
 use Rattle.sequence.specs.Commands.{Command, commandOf, partCount, headLength}
 use Rattle.sequence.specs.Writer.{size}

@@ -8,9 +8,9 @@ use borrow.Author.Tests.{eqb-true}
 use Rattle.sets.specs.Sets.{member, none, empty, Subset, subset}
 use Rattle.sets.proofs.Members.{in-none}
 use Rattle.sets.proofs.Tests.{subset-is, subset-by}
-use Rattle.esterel.specs.Statement.{Statement}
-use Rattle.esterel.specs.LabelTests.{pauses, setpauses, distinct, targeted, wellFormed}
-use Rattle.theory.proofs.LabelTests.{setpauses-is, distinct-is, wellFormed-is, noSetpause-formed}
+use Rattle.spec_language.specs.Statement.{Statement}
+use Rattle.spec_language.specs.LabelTests.{pauses, setpauses, distinct, targeted, wellFormed}
+use Rattle.theory_language.proofs.LabelTests.{setpauses-is, distinct-is, wellFormed-is, noSetpause-formed}
 use Rattle.layout.specs.Notes.{Noted, pausesIn, setpausesIn, twiceIn}
 use Rattle.sequence.specs.Check.{labelRules, numberOf}
 

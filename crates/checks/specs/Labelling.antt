@@ -2,7 +2,7 @@
 use Prim.Native.Nat.{ℕ}
 use mathlib.Core.Path.{_≡_}
 use mathlib.Core.List.{List}
-use Rattle.esterel.specs.Statement.{Statement}
+use Rattle.spec_language.specs.Statement.{Statement}
 use Rattle.limits.specs.Limits.{maxDepth}
 use Rattle.layout.specs.Layout.{Lies}
 use Rattle.layout.specs.Notes.{Noted}

@@ -2,7 +2,7 @@
 use Prim.Native.Nat.{ℕ}
 use mathlib.Core.Path.{_≡_}
 use mathlib.Core.List.{List}
-use Rattle.esterel.specs.Statement.{Statement}
+use Rattle.spec_language.specs.Statement.{Statement}
 use Rattle.sequence.specs.Writer.{Ranged}
 use Rattle.sequence.specs.Check.{sound, checked, checkOf}
 use Rattle.layout.specs.Known.{Known}

@@ -6,16 +6,17 @@ use mathlib.Core.Option.{Option, some}
 use Rattle.sets.specs.Sets.{member, none, join, remove}
 use Rattle.labels.specs.Labels.{labelsWith}
 use Rattle.labels.proofs.LabelValues.{stands-of}
-use Rattle.esterel.specs.Statement.{Scope}
-use Rattle.esterel.specs.Reaction.{Code, wrong, isWrong, gives, failed, outside, Case, both, neither, only−, only+, inherited, inheritanceFirst, firstFit, answer}
-use Rattle.esterel.specs.Reaction as rules
-use Rattle.esterel.specs.Errors.{Error, notReactive, notDeterministic}
-use Rattle.esterel.specs.Litres as litres
-use Rattle.esterel.specs.Litres.{passing}
-use Rattle.esterel.specs.Traced as Traces
-use Rattle.esterel.specs.Instants.{instant, ifWrong, signalNames}
-use Rattle.esterel.specs.Traced.{traced, signalTraced}
-use Rattle.theory.proofs.Rules.{either-wrong}
+use Rattle.spec_language.specs.Statement.{Scope}
+use Rattle.spec_language.specs.Reaction.{Code, wrong, isWrong, gives, failed, outside, Case, both, neither, only−, only+, inherited, inheritanceFirst, firstFit, answer}
+use Rattle.spec_language.specs.Reaction as rules
+use Rattle.spec_language.specs.Errors.{Error, notReactive, notDeterministic}
+use Rattle.spec_language.specs.Litres as litres
+use Rattle.spec_language.specs.Litres.{passing}
+use Rattle.theory_language.specs.Traced as Traces
+use Rattle.spec_language.specs.Instants.{instant}
+use Rattle.theory_language.specs.InstantRules.{ifWrong, signalNames}
+use Rattle.theory_language.specs.Traced.{traced, signalTraced}
+use Rattle.theory_language.proofs.Rules.{either-wrong}
 use Rattle.reaction.specs.declared.Reaction.{Reaction}
 use Rattle.declarations.specs.declared.Choice.{Choice}
 use Rattle.declarations.specs.declared.Choice.the-variants.{Both, Neither, OnlyMinus, OnlyPlus, Inherited}

@@ -7,13 +7,13 @@ use Rattle.sets.specs.Sets.{member, none}
 use Rattle.sets.proofs.Algebra.{remove-absent}
 use Rattle.labels.specs.declared.Labels.{Labels}
 use Rattle.labels.specs.Labels.{Represents}
-use Rattle.esterel.specs.Statement.{Scope, local, reported, Statement}
-use Rattle.esterel.specs.Reaction.{Code, ended, waiting, leaving, wrong, isWrong, gives, outside}
-use Rattle.esterel.specs.Errors.{Error}
-use Rattle.esterel.specs.Litres.{passing}
-use Rattle.esterel.specs.Traced as Traces
-use Rattle.esterel.specs.Instants.{instant}
-use Rattle.esterel.specs.Traced.{traced, signalOnce}
+use Rattle.spec_language.specs.Statement.{Scope, local, reported, Statement}
+use Rattle.spec_language.specs.Reaction.{Code, ended, waiting, leaving, wrong, isWrong, gives, outside}
+use Rattle.spec_language.specs.Errors.{Error}
+use Rattle.spec_language.specs.Litres.{passing}
+use Rattle.theory_language.specs.Traced as Traces
+use Rattle.spec_language.specs.Instants.{instant}
+use Rattle.theory_language.specs.Traced.{traced, signalOnce}
 use Rattle.reaction.specs.declared.Reaction.{Reaction}
 use Rattle.reaction.specs.Completions.{codeOf}
 use Rattle.reaction.proofs.Completions.{code-of}

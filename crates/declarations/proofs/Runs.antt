@@ -7,8 +7,8 @@ use Rattle.sets.specs.Sets.{none, join, remove}
 use Rattle.labels.specs.declared.Labels.{Labels}
 use Rattle.labels.specs.Labels.{labelsWith, Represents}
 use Rattle.labels.proofs.LabelValues.{labels-of}
-use Rattle.esterel.specs.Reaction.{Code, ended, waiting, leaving, wrong, isWrong}
-use Rattle.esterel.specs.Errors.{Error}
+use Rattle.spec_language.specs.Reaction.{Code, ended, waiting, leaving, wrong, isWrong}
+use Rattle.spec_language.specs.Errors.{Error}
 use Rattle.reaction.specs.declared.Completion.{Completion}
 use Rattle.reaction.specs.Completions.{completionOf}
 use Rattle.reaction.specs.declared.Reaction.{Reaction}

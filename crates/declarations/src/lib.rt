@@ -7,9 +7,9 @@ ghost use Rattle.sets.specs.Sets.{none, join, remove};
 ghost use Rattle.labels.specs.Labels.{labelsWith};
 ghost use Rattle.reaction.specs.Completions.{greaterOf};
 ghost use Rattle.reaction.specs.Reactions.{keptOf, FromOne, FromTwo};
-ghost use Rattle.esterel.specs.Statement.{Scope, local, reported};
-ghost use Rattle.esterel.specs.Reaction.{outside};
-ghost use Rattle.esterel.specs.Traced.{signalOnce, signalTraced};
+ghost use Rattle.spec_language.specs.Statement.{Scope, local, reported};
+ghost use Rattle.spec_language.specs.Reaction.{outside};
+ghost use Rattle.theory_language.specs.Traced.{signalOnce, signalTraced};
 ghost use Rattle.limits.specs.Limits.{readBackPlace};
 use reaction::Reaction;
 

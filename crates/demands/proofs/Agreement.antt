@@ -10,16 +10,16 @@ use lib.Dec.{eqb}
 use borrow.Author.Tests.{eqb-true, eqb-false}
 use Rattle.limits.specs.Limits.{placeBytes, readBackPlace}
 use Rattle.sets.specs.Sets.{none}
-use Rattle.esterel.specs.Statement.{Statement}
-use Rattle.esterel.specs.Reaction.{code, react, inheritanceFirst}
-use Rattle.esterel.specs.Errors.{firstError}
-use Rattle.esterel.specs.Reactions.{reactions}
-use Rattle.esterel.specs.States.{NoSetpause, Valid}
-use Rattle.esterel.specs.Expansion.{expand}
-use Rattle.esterel.specs.Machines.{State, stateAfter, byLabels, addsByLabels, Rewriting, byRewriting, addsByRewriting, added}
-use Rattle.theory.proofs.Agreement.{TermOf, step}
-use Rattle.theory.proofs.ReadBack.{noSetpause-declared}
-use Rattle.theory.proofs.Litres.{agree-added}
+use Rattle.spec_language.specs.Statement.{Statement}
+use Rattle.spec_language.specs.Reaction.{code, react, inheritanceFirst}
+use Rattle.spec_language.specs.Errors.{firstError}
+use Rattle.spec_language.specs.Reactions.{reactions}
+use Rattle.spec_language.specs.States.{NoSetpause, Valid}
+use Rattle.spec_language.specs.Expansion.{expand}
+use Rattle.spec_language.specs.Machines.{State, stateAfter, byLabels, addsByLabels, Rewriting, byRewriting, addsByRewriting, added}
+use Rattle.theory_language.proofs.Agreement.{TermOf, step}
+use Rattle.theory_language.proofs.ReadBack.{noSetpause-declared}
+use Rattle.theory_language.proofs.Litres.{agree-added}
 use Rattle.sequence.specs.Program.{readBackSignals, program}
 use Rattle.sequence.specs.Check.{Checked, checkOf}
 use Rattle.sequence.specs.Rows.{Spells}

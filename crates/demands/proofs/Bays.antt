@@ -5,12 +5,12 @@ use mathlib.Core.Logic.{⊎-elim}
 use mathlib.Core.List.{List, [], _∷_, map, List·Memᴰ, List·Memᴰ·not-nil, List·Memᴰ·cases-cons}
 use lib.ListN.{length, replicate}
 use Rattle.sets.specs.Sets.{member, none, only, join, insert, remove, subset, disjoint}
-use Rattle.esterel.specs.Reaction.{reactBy}
-use Rattle.esterel.specs.Errors.{errorsBy}
-use Rattle.esterel.specs.Reactions.{reactionsBy}
-use Rattle.esterel.specs.LabelTests.{labelsOf, everyLabel, distinct, before, wellFormed, valid}
-use Rattle.esterel.specs.States.{active}
-use Rattle.esterel.specs.Expansion.{expand}
+use Rattle.spec_language.specs.Reaction.{reactBy}
+use Rattle.spec_language.specs.Errors.{errorsBy}
+use Rattle.spec_language.specs.Reactions.{reactionsBy}
+use Rattle.spec_language.specs.LabelTests.{labelsOf, everyLabel, distinct, before, wellFormed, valid}
+use Rattle.spec_language.specs.States.{active}
+use Rattle.spec_language.specs.Expansion.{expand}
 use Rattle.sequence.specs.Commands.{commandOf}
 use Rattle.sequence.specs.Reader.{front, read}
 use Rattle.numbers.specs.Bytes.{leBytes, leNumber}

@@ -7,12 +7,12 @@ use lib.Dec.{eqb}
 use Rattle.limits.specs.Limits.{labelCount, signalCount, maxExit}
 use Rattle.sets.specs.Sets.{member, insert, remove}
 use Rattle.sets.proofs.Widths.{none-lt, only-lt, join-lt, remove-lt, members-lt}
-use Rattle.esterel.specs.Statement.{Scope, local, reported, Statement, nothing, pause, emit, exit, seq, par, loop, present, signal, try, setpause, suspend, held}
-use Rattle.esterel.specs.Reaction.{ended, waiting, leaving, wrong, Reaction, gives, emitted, inSeq, inPar, inLoop, inTry, inSuspend, stopped, Case, both, neither, only−, only+, inherited, caseOf, answer, react, Code, code, greater, inheritanceFirst, reactBy, Order}
-use Rattle.esterel.specs.States.{active, Valid}
-use Rattle.esterel.specs.LabelTests.{activeLabels}
-use Rattle.esterel.specs.Expansion.{expand}
-use Rattle.esterel.specs.ReadBack.{declaredBy, declared}
+use Rattle.spec_language.specs.Statement.{Scope, local, reported, Statement, nothing, pause, emit, exit, seq, par, loop, present, signal, try, setpause, suspend, held}
+use Rattle.spec_language.specs.Reaction.{ended, waiting, leaving, wrong, Reaction, gives, emitted, inSeq, inPar, inLoop, inTry, inSuspend, stopped, Case, both, neither, only−, only+, inherited, caseOf, answer, react, Code, code, greater, inheritanceFirst, reactBy, Order}
+use Rattle.spec_language.specs.States.{active, Valid}
+use Rattle.spec_language.specs.LabelTests.{activeLabels}
+use Rattle.spec_language.specs.Expansion.{expand}
+use Rattle.spec_language.specs.ReadBack.{declaredBy, declared}
 use Rattle.sequence.specs.Writer.{Ranged}
 use Rattle.sequence.proofs.Source.{ranged-at}
 

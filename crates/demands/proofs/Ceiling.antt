@@ -7,17 +7,17 @@ use mathlib.Core.List.{List}
 use lib.ListN.{length}
 use Rattle.limits.specs.Limits.{reactionsBytes}
 use Rattle.sets.specs.Sets.{member, none, only, join, subset, disjoint, membersFrom}
-use Rattle.esterel.specs.Statement.{Statement}
-use Rattle.esterel.specs.Reaction.{Reaction, gives, react, inheritanceFirst}
-use Rattle.esterel.specs.Errors.{Error, firstError}
-use Rattle.esterel.specs.Reactions.{reactions}
-use Rattle.esterel.specs.Sizes.{commands, signalNesting}
-use Rattle.esterel.specs.Ceiling.{ceiling, LoopFree, tries, triesButOne, hundred, hundred-takes}
-use Rattle.esterel.specs.LabelTests.{labelsOf, everyLabel, distinct, before, wellFormed}
-use Rattle.esterel.specs.ReadBack.{declaredBy}
-use Rattle.esterel.specs.Instants.{instant}
-use Rattle.theory.proofs.Ceiling.{fresh-below, resumed-below}
-use Rattle.theory.proofs.Dearest.{hundred-fresh, hundred-resumed, hundred-free}
+use Rattle.spec_language.specs.Statement.{Statement}
+use Rattle.spec_language.specs.Reaction.{Reaction, gives, react, inheritanceFirst}
+use Rattle.spec_language.specs.Errors.{Error, firstError}
+use Rattle.spec_language.specs.Reactions.{reactions}
+use Rattle.spec_language.specs.Sizes.{commands, signalNesting}
+use Rattle.spec_language.specs.Ceiling.{ceiling, LoopFree, tries, triesButOne, hundred, hundred-takes}
+use Rattle.spec_language.specs.LabelTests.{labelsOf, everyLabel, distinct, before, wellFormed}
+use Rattle.spec_language.specs.ReadBack.{declaredBy}
+use Rattle.spec_language.specs.Instants.{instant}
+use Rattle.theory_language.proofs.Ceiling.{fresh-below, resumed-below}
+use Rattle.theory_language.proofs.Dearest.{hundred-fresh, hundred-resumed, hundred-free}
 use Rattle.sequence.specs.Commands.{commandOf}
 use Rattle.sequence.specs.Reader.{front, read}
 use Rattle.sequence.specs.Program.{program}

@@ -4,10 +4,10 @@ use Prim.Native.Nat.{ℕ, zero, suc}
 use native.Mathlib.Omega.{arith}
 use mathlib.Core.Path.{_≡_, refl, sym, ap, _∙_}
 use mathlib.Core.List.{List, [], _∷_, map}
-use Rattle.esterel.specs.Statement.{Statement}
-use Rattle.esterel.specs.Reaction.{Code, Reaction, gives, react}
-use Rattle.esterel.specs.Rules.{Reacts}
-use Rattle.theory.proofs.Rules.{reacts-is}
+use Rattle.spec_language.specs.Statement.{Statement}
+use Rattle.spec_language.specs.Reaction.{Code, Reaction, gives, react}
+use Rattle.spec_language.specs.Rules.{Reacts}
+use Rattle.theory_language.proofs.Rules.{reacts-is}
 use Rattle.sequence.specs.Check.{checkOf}
 use Rattle.sequence.specs.Rows.{Row, ByRows}
 use Rattle.tick.specs.Tick.{Outcome, outcome, tickOf}

@@ -9,20 +9,20 @@ use mathlib.Core.List.{List, head?}
 use lib.ListN.{length}
 use Rattle.limits.specs.Limits.{signalCount, signalBytes, placeBytes, reactionsBytes}
 use Rattle.sets.specs.Sets.{none}
-use Rattle.esterel.specs.Statement.{Statement}
-use Rattle.esterel.specs.Reaction.{Code, ended, waiting, leaving, wrong, Reaction, gives, emitted, code, react, Order, inheritanceFirst}
-use Rattle.esterel.specs.Errors.{Error, firstError, uses}
-use Rattle.esterel.specs.Reactions.{reactions}
-use Rattle.esterel.specs.States.{Valid}
-use Rattle.esterel.specs.Expansion.{expand}
-use Rattle.esterel.specs.Instants.{instant, startBy}
-use Rattle.esterel.specs.Machines.{shown, State}
-use Rattle.esterel.specs.Rules.{Reacts}
-use Rattle.theory.proofs.Rules.{reacts-is}
-use Rattle.theory.proofs.SignalOrders.{wrong-named}
-use Rattle.theory.proofs.Derivations.{first-use}
-use Rattle.theory.proofs.Reactions.{rules-used}
-use Rattle.theory.proofs.LabelTests.{valid-is}
+use Rattle.spec_language.specs.Statement.{Statement}
+use Rattle.spec_language.specs.Reaction.{Code, ended, waiting, leaving, wrong, Reaction, gives, emitted, code, react, Order, inheritanceFirst}
+use Rattle.spec_language.specs.Errors.{Error, firstError, uses}
+use Rattle.spec_language.specs.Reactions.{reactions}
+use Rattle.spec_language.specs.States.{Valid}
+use Rattle.spec_language.specs.Expansion.{expand}
+use Rattle.spec_language.specs.Instants.{instant, startBy}
+use Rattle.spec_language.specs.Machines.{shown, State}
+use Rattle.spec_language.specs.Rules.{Reacts}
+use Rattle.theory_language.proofs.Rules.{reacts-is}
+use Rattle.theory_language.proofs.SignalOrders.{wrong-named}
+use Rattle.theory_language.proofs.Derivations.{first-use}
+use Rattle.theory_language.proofs.Reactions.{rules-used}
+use Rattle.theory_language.proofs.LabelTests.{valid-is}
 use Rattle.sequence.specs.Program.{program}
 use Rattle.sequence.specs.Check.{checkOf}
 use Rattle.sequence.proofs.Rows.{check-by-rows}

@@ -10,13 +10,13 @@ use mathlib.Core.List.{List, [], _∷_, _++_, head?, List·Memᴰ, List·Memᴰ�
 use lib.ListN.{length}
 use Rattle.limits.specs.Limits.{placeBytes}
 use Rattle.sets.specs.Sets.{member, insert, remove}
-use Rattle.esterel.specs.Statement.{Statement, nothing, pause, emit, exit, seq, par, loop, present, signal, try, setpause, suspend, held}
-use Rattle.esterel.specs.Reaction.{Code, ended, waiting, leaving, wrong, code, Case, both, neither, only−, only+, inherited, caseOf, react, inheritanceFirst}
-use Rattle.esterel.specs.Errors.{Error, instantaneous, notReactive, notDeterministic, ifEnded, loopErrors, signalErrors, errors, firstError, blame, errorsBy}
-use Rattle.esterel.specs.States.{active}
-use Rattle.esterel.specs.LabelTests.{activeLabels}
-use Rattle.esterel.specs.Expansion.{expand}
-use Rattle.esterel.specs.ReadBack.{declaredBy, declared}
+use Rattle.spec_language.specs.Statement.{Statement, nothing, pause, emit, exit, seq, par, loop, present, signal, try, setpause, suspend, held}
+use Rattle.spec_language.specs.Reaction.{Code, ended, waiting, leaving, wrong, code, Case, both, neither, only−, only+, inherited, caseOf, react, inheritanceFirst}
+use Rattle.spec_language.specs.Errors.{Error, instantaneous, notReactive, notDeterministic, ifEnded, loopErrors, signalErrors, errors, firstError, blame, errorsBy}
+use Rattle.spec_language.specs.States.{active}
+use Rattle.spec_language.specs.LabelTests.{activeLabels}
+use Rattle.spec_language.specs.Expansion.{expand}
+use Rattle.spec_language.specs.ReadBack.{declaredBy, declared}
 
 -- P holds of each error that a loop or a signal of p may make
 abbrev pub AllErrors : (Error → Type 0) → Statement → Type 0

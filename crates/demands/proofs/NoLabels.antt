@@ -7,12 +7,12 @@ use mathlib.Core.Option.{Option}
 use mathlib.Core.List.{List, [], _∷_, head-eq-of-cons-eq, tail-eq-of-cons-eq}
 use lib.ListN.{length}
 use lib.Dec.{eqb}
-use Rattle.esterel.specs.Statement.{Statement}
-use Rattle.esterel.specs.Reaction.{ended, waiting, leaving, wrong, Reaction, gives, react}
-use Rattle.esterel.specs.Errors.{Error, firstError}
-use Rattle.esterel.specs.Reactions.{reactions}
-use Rattle.esterel.specs.Machines.{Seen, instant, refused, seen, run, Rewriting, termAfter, byRewriting, erase}
-use Rattle.theory.proofs.Erasure.{erased-run}
+use Rattle.spec_language.specs.Statement.{Statement}
+use Rattle.spec_language.specs.Reaction.{ended, waiting, leaving, wrong, Reaction, gives, react}
+use Rattle.spec_language.specs.Errors.{Error, firstError}
+use Rattle.spec_language.specs.Reactions.{reactions}
+use Rattle.spec_language.specs.Machines.{Seen, instant, refused, seen, run, Rewriting, termAfter, byRewriting, erase}
+use Rattle.theory_language.proofs.Erasure.{erased-run}
 use Rattle.answers.specs.AnswerRecord.{answerLength}
 use Rattle.tick.specs.Paper.{Call, Report, turnedDown, phaseNumber, phaseOf, reportOf, paperTick, paper}
 

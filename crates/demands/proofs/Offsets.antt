@@ -9,9 +9,9 @@ use lib.Seq.{getD-append-add}
 use Rattle.limits.specs.Limits.{signalCount, readBackPlace}
 use Rattle.sets.specs.Sets.{none}
 use Rattle.sets.proofs.Lists.{members-none}
-use Rattle.esterel.specs.Statement.{Scope, local, Statement, nothing, pause, emit, exit, seq, par, loop, present, signal, try, setpause, suspend, held}
-use Rattle.esterel.specs.Errors.{Error, instantaneous, notReactive, notDeterministic}
-use Rattle.esterel.specs.Places.{Part, PartOf, seq₁, seq₂, par₁, par₂, loop₁, present₁, present₂, signal₁, try₁, suspend₁, Place, At}
+use Rattle.spec_language.specs.Statement.{Scope, local, Statement, nothing, pause, emit, exit, seq, par, loop, present, signal, try, setpause, suspend, held}
+use Rattle.spec_language.specs.Errors.{Error, instantaneous, notReactive, notDeterministic}
+use Rattle.spec_language.specs.Places.{Part, PartOf, seq₁, seq₂, par₁, par₂, loop₁, present₁, present₂, signal₁, try₁, suspend₁, Place, At}
 use Rattle.sequence.specs.Writer.{bytesOf, size, Ranged, PlacedAt}
 use Rattle.sequence.specs.Program.{readBackSignals, program}
 use Rattle.sequence.specs.Rows.{Spells}

@@ -2,8 +2,8 @@
 use Prim.Native.Nat.{ℕ}
 use mathlib.Core.Path.{_≡_, sym, ap, _∙_, subst}
 use mathlib.Core.List.{List}
-use Rattle.esterel.specs.Statement.{Statement}
-use Rattle.esterel.specs.Errors.{Error}
+use Rattle.spec_language.specs.Statement.{Statement}
+use Rattle.spec_language.specs.Errors.{Error}
 use Rattle.sequence.specs.Program.{program}
 use Rattle.states.specs.StateRecord.{labelsIn}
 use Rattle.answers.specs.AnswerRecord.{codeIn, kindIn, placeIn}

@@ -9,15 +9,15 @@ use borrow.Author.Tests.{le-ltb}
 use Rattle.limits.specs.Limits.{maxBytes, maxDepth, maxSignals, signalCount, readBackPlace}
 use Rattle.sets.specs.Sets.{none}
 use Rattle.sets.proofs.Lists.{members-none}
-use Rattle.esterel.specs.Statement.{Statement}
-use Rattle.esterel.specs.Reaction.{inheritanceFirst}
-use Rattle.esterel.specs.Expansion.{expand}
-use Rattle.esterel.specs.Instants.{start}
-use Rattle.esterel.specs.Machines.{State}
-use Rattle.esterel.specs.ReadBack.{declaredBy, declared}
-use Rattle.theory.proofs.ReadBack.{expand-declared, declared-unread}
+use Rattle.spec_language.specs.Statement.{Statement}
+use Rattle.spec_language.specs.Reaction.{inheritanceFirst}
+use Rattle.spec_language.specs.Expansion.{expand}
+use Rattle.spec_language.specs.Instants.{start}
+use Rattle.spec_language.specs.Machines.{State}
+use Rattle.spec_language.specs.ReadBack.{declaredBy, declared}
+use Rattle.theory_language.proofs.ReadBack.{expand-declared, declared-unread}
 use Rattle.sequence.specs.Reader.{Read, accepted, refused, read}
-use Rattle.esterel.specs.Sizes.{signalNesting}
+use Rattle.spec_language.specs.Sizes.{signalNesting}
 use Rattle.sequence.specs.Program.{readBackSignals, program}
 use Rattle.sequence.specs.Check.{Checked, sound, bad, afterRead, checked, checkOf, numberOf}
 use Rattle.sequence.proofs.Sound as reader

@@ -6,23 +6,23 @@ use mathlib.Core.List.{List, [], _∷_, _++_}
 use lib.ListN.{length, take, drop, replicate}
 use borrow.Author.Tests.{eq-eqb}
 use Rattle.sets.specs.Sets.{member, none, only, join, subset, disjoint, membersFrom}
-use Rattle.esterel.specs.Statement.{pure, nothing, pause, emit, seq, setpause}
-use Rattle.esterel.specs.Reaction.{ended, waiting, gives, reactBy}
-use Rattle.esterel.specs.Rules.{ReactsBy}
-use Rattle.esterel.specs.Errors.{errorsBy}
-use Rattle.esterel.specs.Reactions.{reactionsBy}
-use Rattle.esterel.specs.Places.{seq₁, seq₂, Place, At}
-use Rattle.esterel.specs.States.{NoSetpause}
-use Rattle.esterel.specs.LabelTests.{labelsOf, everyLabel, distinct, before, wellFormed}
+use Rattle.spec_language.specs.Statement.{pure, nothing, pause, emit, seq, setpause}
+use Rattle.spec_language.specs.Reaction.{ended, waiting, gives, reactBy}
+use Rattle.spec_language.specs.Rules.{ReactsBy}
+use Rattle.spec_language.specs.Errors.{errorsBy}
+use Rattle.spec_language.specs.Reactions.{reactionsBy}
+use Rattle.spec_language.specs.Places.{seq₁, seq₂, Place, At}
+use Rattle.spec_language.specs.States.{NoSetpause}
+use Rattle.spec_language.specs.LabelTests.{labelsOf, everyLabel, distinct, before, wellFormed}
 use Rattle.sequence.specs.Commands.{commandOf}
-use Rattle.esterel.specs.ReadBack.{declaredBy}
+use Rattle.spec_language.specs.ReadBack.{declaredBy}
 use Rattle.sequence.specs.Reader.{front, read}
-use Rattle.esterel.specs.Sizes.{signalNesting}
+use Rattle.spec_language.specs.Sizes.{signalNesting}
 use Rattle.sequence.specs.Check.{checkOf, checked}
 use Rattle.sequence.specs.Rows.{Spells, rank}
 use Rattle.sequence.specs.Program.{program}
 use Rattle.sequence.proofs.Rows.{row-rank}
-use Rattle.esterel.specs.Machines.{stateAfter, Rewriting}
+use Rattle.spec_language.specs.Machines.{stateAfter, Rewriting}
 use Rattle.sequence.proofs.Writer.{reads-what-is-written}
 use Rattle.numbers.specs.Bytes.{leBytes, leNumber}
 use Rattle.states.proofs.StateLaws.{length-state}

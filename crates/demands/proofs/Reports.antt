@@ -5,11 +5,11 @@ use mathlib.Core.Path.{_≡_, refl}
 use mathlib.Core.Option.{Option}
 use Rattle.limits.specs.Limits.{signalCount, placeBytes, reactionsBytes}
 use Rattle.sets.specs.Sets.{none}
-use Rattle.esterel.specs.Statement.{Statement}
-use Rattle.esterel.specs.Reaction.{Code, ended, waiting, leaving, wrong, Reaction, gives, emitted, code}
-use Rattle.esterel.specs.Errors.{Error, blame}
-use Rattle.esterel.specs.Instants.{instant}
-use Rattle.esterel.specs.Machines.{shown, phaseAfter, seen, stateAfter}
+use Rattle.spec_language.specs.Statement.{Statement}
+use Rattle.spec_language.specs.Reaction.{Code, ended, waiting, leaving, wrong, Reaction, gives, emitted, code}
+use Rattle.spec_language.specs.Errors.{Error, blame}
+use Rattle.spec_language.specs.Instants.{instant}
+use Rattle.spec_language.specs.Machines.{shown, phaseAfter, seen, stateAfter}
 use Rattle.states.specs.StateRecord.{encodeState, phaseIn}
 use Rattle.answers.proofs.AnswerLaws.{code-field, kind-field, place-field, emitted-field, reactions-field}
 use Rattle.tick.specs.Tick.{written}

@@ -9,20 +9,20 @@ use mathlib.Core.List.{List}
 use lib.ListN.{length}
 use lib.Dec.{eqb}
 use borrow.Author.Tests.{eq-eqb, ne-eqb}
-use Rattle.esterel.specs.Statement.{Statement}
-use Rattle.esterel.specs.Reaction.{Reaction, gives, ended, waiting, leaving, wrong, react, Order}
-use Rattle.esterel.specs.States.{Valid, Distinct, Targeted, Source, WellFormed}
-use Rattle.esterel.specs.Expansion.{expand}
-use Rattle.esterel.specs.Errors.{Error}
-use Rattle.esterel.specs.Reactions.{reactions}
-use Rattle.esterel.specs.Sizes.{commands, loopNesting}
-use Rattle.esterel.specs.Ceiling.{ceiling}
-use Rattle.esterel.specs.Machines.{State, stateAfter, ReactionOf, of-statement, of-expansion, FromValid}
-use Rattle.theory.proofs.Theorems.{stable}
+use Rattle.spec_language.specs.Statement.{Statement}
+use Rattle.spec_language.specs.Reaction.{Reaction, gives, ended, waiting, leaving, wrong, react, Order}
+use Rattle.spec_language.specs.States.{Valid, Distinct, Targeted, Source, WellFormed}
+use Rattle.spec_language.specs.Expansion.{expand}
+use Rattle.spec_language.specs.Errors.{Error}
+use Rattle.spec_language.specs.Reactions.{reactions}
+use Rattle.spec_language.specs.Sizes.{commands, loopNesting}
+use Rattle.spec_language.specs.Ceiling.{ceiling}
+use Rattle.spec_language.specs.Machines.{State, stateAfter, ReactionOf, of-statement, of-expansion, FromValid}
+use Rattle.theory_language.proofs.Theorems.{stable}
 use Rattle.limits.specs.Limits.{maxBytes, maxDepth, maxSignals, placeBytes, reactionsBytes, readBackPlace}
-use Rattle.theory.proofs.ReadBack.{source-declared, distinct-declared, targeted-declared, wellFormed-declared, valid-declared}
-use Rattle.theory.proofs.Ceiling.{fresh-below, resumed-below, ceiling-within, commands-declared, loops-declared, nesting-declared}
-use Rattle.theory.proofs.LabelTests.{distinct-is, targeted-is, wellFormed-is, valid-is}
+use Rattle.theory_language.proofs.ReadBack.{source-declared, distinct-declared, targeted-declared, wellFormed-declared, valid-declared}
+use Rattle.theory_language.proofs.Ceiling.{fresh-below, resumed-below, ceiling-within, commands-declared, loops-declared, nesting-declared}
+use Rattle.theory_language.proofs.LabelTests.{distinct-is, targeted-is, wellFormed-is, valid-is}
 use Rattle.sequence.specs.Reader as Reader
 use Rattle.sequence.specs.Writer.{Ranged}
 use Rattle.sequence.specs.Program.{readBackSignals, program}

@@ -9,16 +9,16 @@ use mathlib.Core.List.{List, [], _∷_, List·Memᴰ}
 use lib.ListN.{length}
 use lib.Dec.{eqb}
 use Rattle.sets.proofs.Booleans.{Tested, tested}
-use Rattle.esterel.specs.Statement.{Statement}
-use Rattle.esterel.specs.Reaction.{wrong, isWrong, Reaction, gives, code, Order, printed, inheritanceFirst, reactBy, react}
-use Rattle.esterel.specs.Errors.{Error, firstErrorBy, firstError}
-use Rattle.esterel.specs.Reactions.{reactionsBy, reactions}
-use Rattle.esterel.specs.SignalOrders.{overlap}
-use Rattle.esterel.specs.Instants.{instant, startBy, start}
-use Rattle.esterel.specs.Machines.{State}
-use Rattle.theory.proofs.Rules.{wrong-is}
-use Rattle.theory.proofs.SignalOrders as orders
-use Rattle.theory.proofs.Reactions.{reactions-unchanged, reactions-kept}
+use Rattle.spec_language.specs.Statement.{Statement}
+use Rattle.spec_language.specs.Reaction.{wrong, isWrong, Reaction, gives, code, Order, printed, inheritanceFirst, reactBy, react}
+use Rattle.spec_language.specs.Errors.{Error, firstErrorBy, firstError}
+use Rattle.spec_language.specs.Reactions.{reactionsBy, reactions}
+use Rattle.spec_language.specs.SignalOrders.{overlap}
+use Rattle.spec_language.specs.Instants.{instant, startBy, start}
+use Rattle.spec_language.specs.Machines.{State}
+use Rattle.theory_language.proofs.Rules.{wrong-is}
+use Rattle.theory_language.proofs.SignalOrders as orders
+use Rattle.theory_language.proofs.Reactions.{reactions-unchanged, reactions-kept}
 use Rattle.numbers.specs.Bytes.{leBytes}
 use Rattle.sequence.specs.Program.{program}
 use Rattle.sequence.specs.Check.{Checked, sound, bad, checked, checkOf}

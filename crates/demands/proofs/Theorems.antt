@@ -8,16 +8,16 @@ use mathlib.Core.Bool.{true}
 use mathlib.Core.List.{List, map, List·Memᴰ}
 use lib.ListN.{length}
 use Rattle.sets.specs.Sets.{none}
-use Rattle.esterel.specs.Statement.{Statement}
-use Rattle.esterel.specs.Reaction.{Code, gives, printed}
-use Rattle.esterel.specs.SignalOrders.{overlap}
-use Rattle.esterel.specs.Rules.{Reacts}
-use Rattle.esterel.specs.Sizes.{commands}
-use Rattle.esterel.specs.Ceiling.{LoopFree, hundred}
+use Rattle.spec_language.specs.Statement.{Statement}
+use Rattle.spec_language.specs.Reaction.{Code, gives, printed}
+use Rattle.spec_language.specs.SignalOrders.{overlap}
+use Rattle.spec_language.specs.Rules.{Reacts}
+use Rattle.spec_language.specs.Sizes.{commands}
+use Rattle.spec_language.specs.Ceiling.{LoopFree, hundred}
 use Rattle.sequence.specs.Ceilings.{ceilingOf}
-use Rattle.esterel.specs.States.{NoSetpause, Valid}
-use Rattle.esterel.specs.Expansion.{expand}
-use Rattle.esterel.specs.Machines.{State, Rewriting, erase}
+use Rattle.spec_language.specs.States.{NoSetpause, Valid}
+use Rattle.spec_language.specs.Expansion.{expand}
+use Rattle.spec_language.specs.Machines.{State, Rewriting, erase}
 use Rattle.sequence.specs.Program.{program}
 use Rattle.sequence.specs.Check.{numberOf, checked, checkOf}
 use Rattle.sequence.specs.Rows.{Spells}

@@ -9,12 +9,12 @@ use lib.ListN.{length}
 use lib.Dec.{eqb}
 use borrow.Author.Tests.{eqb-true, eqb-false}
 use Rattle.sets.specs.Sets.{none}
-use Rattle.esterel.specs.Reaction.{inheritanceFirst}
-use Rattle.esterel.specs.Statement.{Statement}
-use Rattle.esterel.specs.States.{Valid}
-use Rattle.esterel.specs.LabelTests.{valid}
-use Rattle.esterel.specs.Machines.{State}
-use Rattle.theory.proofs.LabelTests.{valid-is}
+use Rattle.spec_language.specs.Reaction.{inheritanceFirst}
+use Rattle.spec_language.specs.Statement.{Statement}
+use Rattle.spec_language.specs.States.{Valid}
+use Rattle.spec_language.specs.LabelTests.{valid}
+use Rattle.spec_language.specs.Machines.{State}
+use Rattle.theory_language.proofs.LabelTests.{valid-is}
 use Rattle.sequence.specs.Program.{program}
 use Rattle.sequence.specs.Check.{Checked, sound, bad, checked}
 use Rattle.sequence.specs.Rows.{Spells, rank, ByRows}

@@ -4,8 +4,8 @@ use mathlib.Core.Bool.{_&&_, cond}
 use mathlib.Core.List.{List, [], _∷_}
 use lib.ListN.{length}
 use lib.Dec.{eqb}
-use Rattle.esterel.specs.Statement.{Statement}
-use Rattle.esterel.specs.Machines.{addsByLabels, Rewriting, addsByRewriting}
+use Rattle.spec_language.specs.Statement.{Statement}
+use Rattle.spec_language.specs.Machines.{addsByLabels, Rewriting, addsByRewriting}
 use Rattle.sequence.specs.Program.{program}
 use Rattle.sequence.specs.Check.{Checked, sound, bad, checked}
 use Rattle.states.specs.StateRecord.{stateLength, Decoded, holds, malformed, decodeState}

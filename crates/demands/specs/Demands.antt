@@ -7,14 +7,14 @@ use mathlib.Core.Option.{some}
 use mathlib.Core.List.{List, [], _∷_, map, head?, List·Memᴰ}
 use lib.ListN.{length, take, replicate}
 use Rattle.sets.specs.Sets.{none}
-use Rattle.esterel.specs.Statement.{Statement}
-use Rattle.esterel.specs.Reaction.{Code, wrong, gives}
-use Rattle.esterel.specs.Rules.{Reacts}
-use Rattle.esterel.specs.Errors.{Error, firstError, blame, uses}
-use Rattle.esterel.specs.Reactions.{reactions, rulesUsed}
-use Rattle.esterel.specs.States.{NoSetpause, Valid}
-use Rattle.esterel.specs.Expansion.{expand}
-use Rattle.esterel.specs.Machines.{shown, stateAfter, Rewriting}
+use Rattle.spec_language.specs.Statement.{Statement}
+use Rattle.spec_language.specs.Reaction.{Code, wrong, gives}
+use Rattle.spec_language.specs.Rules.{Reacts}
+use Rattle.spec_language.specs.Errors.{Error, firstError, blame, uses}
+use Rattle.spec_language.specs.Reactions.{reactions, rulesUsed}
+use Rattle.spec_language.specs.States.{NoSetpause, Valid}
+use Rattle.spec_language.specs.Expansion.{expand}
+use Rattle.spec_language.specs.Machines.{shown, stateAfter, Rewriting}
 use Rattle.sequence.specs.Program.{program}
 use Rattle.sequence.specs.Rows.{Spells, Row, ByRows}
 use Rattle.states.specs.StateRecord.{stateLength, phaseIn, labelsIn, encodeState}

@@ -6,8 +6,8 @@ use mathlib.Core.List.{List}
 use lib.ListN.{length, getD}
 use Rattle.limits.specs.Limits.{readBackPlace}
 use Rattle.sets.specs.Sets.{none}
-use Rattle.esterel.specs.Statement.{local, Statement, loop, signal}
-use Rattle.esterel.specs.Places.{Place, At}
+use Rattle.spec_language.specs.Statement.{local, Statement, loop, signal}
+use Rattle.spec_language.specs.Places.{Place, At}
 use Rattle.sequence.specs.Rows.{Spells}
 
 pub data PlaceNamed (sequence : List ℕ) (readBack kind place : ℕ) : Type 0 where

@@ -5,8 +5,8 @@ use mathlib.Core.Bool.{_&&_, cond}
 use mathlib.Core.List.{List}
 use lib.ListN.{length}
 use lib.Dec.{eqb, leb, ltb}
-use Rattle.esterel.specs.Reaction.{inheritanceFirst}
-use Rattle.esterel.specs.ReadBack.{AgreeOutside}
+use Rattle.spec_language.specs.Reaction.{inheritanceFirst}
+use Rattle.spec_language.specs.ReadBack.{AgreeOutside}
 use Rattle.limits.specs.Limits.{maxBytes}
 use Rattle.sequence.specs.Reader as Reader
 use Rattle.sequence.specs.Reader.{Read, accepted, readAll}

@@ -7,22 +7,22 @@ use mathlib.Core.Option.{Option}
 use mathlib.Core.List.{List}
 use Rattle.limits.specs.Limits.{readBackPlace, reactionsBytes}
 use Rattle.sets.specs.Sets.{none}
-use Rattle.esterel.specs.Statement.{Statement}
-use Rattle.esterel.specs.Reaction.{Code, ended, waiting, leaving, wrong, gives, code, react, inheritanceFirst}
-use Rattle.esterel.specs.Errors.{Error, firstError}
-use Rattle.esterel.specs.Ranks.{mask}
-use Rattle.esterel.specs.Expansion.{expand}
-use Rattle.esterel.specs.Instants as Instants
-use Rattle.esterel.specs.Traced as Traces
-use Rattle.esterel.specs.Traced.{traced, instantOf, startTraced}
-use Rattle.esterel.specs.Instants.{start}
-use Rattle.esterel.specs.RankedExpansion.{expandBy}
-use Rattle.esterel.specs.Machines.{State}
-use Rattle.theory.proofs.LabelTests.{valid-is}
-use Rattle.theory.proofs.Figure5.{valid-active}
-use Rattle.theory.proofs.Resume.{expand-by}
-use Rattle.esterel.specs.States.{Valid}
-use Rattle.theory.proofs.ReadBack.{expand-declared}
+use Rattle.spec_language.specs.Statement.{Statement}
+use Rattle.spec_language.specs.Reaction.{Code, ended, waiting, leaving, wrong, gives, code, react, inheritanceFirst}
+use Rattle.spec_language.specs.Errors.{Error, firstError}
+use Rattle.theory_language.specs.Ranks.{mask}
+use Rattle.spec_language.specs.Expansion.{expand}
+use Rattle.spec_language.specs.Instants as Instants
+use Rattle.theory_language.specs.Traced as Traces
+use Rattle.theory_language.specs.Traced.{traced, instantOf, startTraced}
+use Rattle.spec_language.specs.Instants.{start}
+use Rattle.theory_language.specs.RankedExpansion.{expandBy}
+use Rattle.spec_language.specs.Machines.{State}
+use Rattle.theory_language.proofs.LabelTests.{valid-is}
+use Rattle.theory_language.proofs.Figure5.{valid-active}
+use Rattle.theory_language.proofs.Resume.{expand-by}
+use Rattle.spec_language.specs.States.{Valid}
+use Rattle.theory_language.proofs.ReadBack.{expand-declared}
 use Rattle.sequence.specs.Program.{readBackSignals, program}
 use Rattle.labels.specs.Labels.{labelSet}
 use Rattle.labels.proofs.LabelValues.{labelSet-of}

@@ -4,11 +4,11 @@ use mathlib.Core.Path.{_≡_}
 use mathlib.Core.Bool.{true}
 use mathlib.Core.List.{List}
 use Rattle.layout.specs.Known.{Known}
-use Rattle.esterel.specs.Statement.{Statement}
-use Rattle.esterel.specs.LabelTests.{valid}
-use Rattle.esterel.specs.Ranks.{mask}
-use Rattle.esterel.specs.Traced.{Traced, instantOf}
-use Rattle.esterel.specs.Machines.{State}
+use Rattle.spec_language.specs.Statement.{Statement}
+use Rattle.spec_language.specs.LabelTests.{valid}
+use Rattle.theory_language.specs.Ranks.{mask}
+use Rattle.theory_language.specs.Traced.{Traced, instantOf}
+use Rattle.spec_language.specs.Machines.{State}
 use Rattle.labels.specs.Labels.{labelSet}
 use Rattle.instants.specs.declared.Standing.{Standing}
 use Rattle.instants.specs.declared.Standing.the-variants as stands

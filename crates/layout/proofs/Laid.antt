@@ -7,8 +7,8 @@ use mathlib.Core.List.{List}
 use native.Mathlib.Omega.{arith}
 use native.Mathlib.Numerals.{sub-one}
 use lib.ListN.{length, drop, getD, length-drop}
-use Rattle.esterel.specs.Statement.{Statement, nothing}
-use Rattle.esterel.specs.Ranks.{middle}
+use Rattle.spec_language.specs.Statement.{Statement, nothing}
+use Rattle.theory_language.specs.Ranks.{middle}
 use Rattle.sequence.specs.Commands.{Command, commandOf, partCount, inRange, litresFit, headLength, declares, build}
 use Rattle.limits.specs.Limits.{lastCommand, maxBytes}
 use Rattle.sequence.specs.Reader.{accepted, read}

@@ -6,8 +6,8 @@ use mathlib.Core.List.{List}
 use native.Mathlib.Omega.{arith}
 use lib.ListN.{getD, length, set, length-append, length-set}
 use lib.Seq.{getD-set-same, getD-set-other}
-use Rattle.esterel.specs.Statement.{pure, litres, Statement, nothing, pause, emit, exit, seq, par, loop, present, signal, try, setpause, suspend, held}
-use Rattle.esterel.specs.Ranks.{middle}
+use Rattle.spec_language.specs.Statement.{pure, litres, Statement, nothing, pause, emit, exit, seq, par, loop, present, signal, try, setpause, suspend, held}
+use Rattle.theory_language.specs.Ranks.{middle}
 use Rattle.sequence.specs.Commands.{Command, partCount, headLength, build}
 use Rattle.sequence.specs.Writer.{bytesOf, size, Ranged}
 use Rattle.layout.specs.Layout.{HasSecond, putSecond, Marked}

@@ -21,12 +21,12 @@ use Rattle.sets.proofs.Algebra.{join-none-l, join-none-r, join-assoc, empty-joi
 use Rattle.sets.proofs.Tests.{disjoint-is, disjoint-none, none-disjoint}
 use Rattle.sets.proofs.Widths.{none-lt, only-lt, join-lt}
 use Rattle.sets.proofs.Words.{words-none, one-low, one-high, common-low, common-high}
-use Rattle.esterel.specs.Statement.{Value, pure, litres, Statement, nothing, pause, emit, exit, seq, par, loop, present, signal, try, setpause, suspend, held}
-use Rattle.esterel.specs.LabelTests.{labelsOf, pauses, setpauses, distinct}
-use Rattle.esterel.specs.Ranks.{pauseCount, rank}
-use Rattle.esterel.specs.Sizes.{signalNesting}
-use Rattle.theory.proofs.LabelTests.{once-both}
-use Rattle.farms.specs.Farms.{farmOf, farmsOf}
+use Rattle.spec_language.specs.Statement.{Value, pure, litres, Statement, nothing, pause, emit, exit, seq, par, loop, present, signal, try, setpause, suspend, held}
+use Rattle.spec_language.specs.LabelTests.{labelsOf, pauses, setpauses, distinct}
+use Rattle.theory_language.specs.Ranks.{pauseCount, rank}
+use Rattle.spec_language.specs.Sizes.{signalNesting}
+use Rattle.theory_language.proofs.LabelTests.{once-both}
+use Rattle.theory_language.specs.Farms.{farmOf, farmsOf}
 use Rattle.sequence.specs.Writer.{bytesOf, size, Ranged}
 use Rattle.layout.specs.Notes.{pausesIn, setpausesIn, twiceIn, pausesCounted, mostIn, farmsIn, rankIn, noteCount, noNotes, wordAt, inWord, notePause, noteSetpause, noteFarm, noteEmission, noteSignals, noteWithin, note, Noted}
 

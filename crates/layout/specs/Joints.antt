@@ -1,6 +1,6 @@
 -- What two parts of a command are to each other (esterel, specs/LabelTests), as the code says it.
 use mathlib.Core.Bool.{Bool, true, false}
-use Rattle.esterel.specs.LabelTests.{Joint, alternative, parallel}
+use Rattle.spec_language.specs.LabelTests.{Joint, alternative, parallel}
 
 abbrev pub jointOf : (parallel : Bool) → Joint
 jointOf true = parallel

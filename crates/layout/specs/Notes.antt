@@ -10,11 +10,11 @@ use lib.Bits.{bitAnd}
 use Rattle.limits.specs.Limits.{labelCount, wordLabels}
 use Rattle.sets.specs.Sets.{member, empty, only, join}
 use Rattle.sets.specs.Widths.{setAt}
-use Rattle.esterel.specs.Statement.{Value, pure, litres, Statement, nothing, pause, emit, exit, seq, par, loop, present, signal, try, setpause, suspend, held}
-use Rattle.esterel.specs.LabelTests.{pauses, setpauses, distinct}
-use Rattle.esterel.specs.Ranks.{rank}
-use Rattle.esterel.specs.Sizes.{signalNesting}
-use Rattle.farms.specs.Farms.{farmsOf}
+use Rattle.spec_language.specs.Statement.{Value, pure, litres, Statement, nothing, pause, emit, exit, seq, par, loop, present, signal, try, setpause, suspend, held}
+use Rattle.spec_language.specs.LabelTests.{pauses, setpauses, distinct}
+use Rattle.theory_language.specs.Ranks.{rank}
+use Rattle.spec_language.specs.Sizes.{signalNesting}
+use Rattle.theory_language.specs.Farms.{farmsOf}
 
 -- ---- the fields
 abbrev pub pausesIn : List ℕ → ℕ

@@ -10,16 +10,16 @@ use Rattle.sets.specs.Sets.{member, none, empty, insert, remove, membersFrom}
 use Rattle.sets.specs.Widths.{insertBelow, Lowest}
 use Rattle.sets.proofs.Members.{member-lt}
 use Rattle.sets.proofs.Lists.{members-none, members-lowest}
-use Rattle.esterel.specs.Statement.{Statement, reported, signal}
-use Rattle.esterel.specs.Traced.{startTraced, signalTraced, signalOnce}
-use Rattle.esterel.specs.ReadBack.{declaredBy, declared}
+use Rattle.spec_language.specs.Statement.{Statement, reported, signal}
+use Rattle.theory_language.specs.Traced.{startTraced, signalTraced, signalOnce}
+use Rattle.spec_language.specs.ReadBack.{declaredBy, declared}
 use Rattle.sequence.specs.Program.{readBackSignals, program}
 use Rattle.reaction.specs.declared.Reaction.{Reaction}
 use Rattle.reaction.specs.Reactions.{FromOne, FromTwo, Realizes}
 use Rattle.reaction.proofs.Accumulating.{farms-reported, farms-reported-once}
 use Rattle.react.proofs.Steps.{here, of-tree}
-use Rattle.theory.proofs.Trees.{start-traced-signal}
-use Rattle.theory.proofs.Asked.{one-run-signal}
+use Rattle.theory_language.proofs.Trees.{start-traced-signal}
+use Rattle.theory_language.proofs.Asked.{one-run-signal}
 
 none-declared : (readBack : ℕ) (t : Statement) → empty readBack ≡ true → program readBack t ≡ t
 unfolding declaredBy

@@ -4,9 +4,9 @@ use mathlib.Core.Path.{_≡_}
 use mathlib.Core.List.{List}
 use Rattle.limits.specs.Limits.{maxDepth}
 use Rattle.labels.specs.Labels.{labelSet}
-use Rattle.esterel.specs.Statement.{Statement}
-use Rattle.esterel.specs.Traced.{startTraced}
-use Rattle.esterel.specs.RankedExpansion.{expandBy}
+use Rattle.spec_language.specs.Statement.{Statement}
+use Rattle.theory_language.specs.Traced.{startTraced}
+use Rattle.theory_language.specs.RankedExpansion.{expandBy}
 use Rattle.sequence.specs.Program.{program}
 use Rattle.layout.specs.Layout.{Lies}
 use Rattle.reaction.specs.declared.Reaction.{Reaction}

@@ -10,11 +10,11 @@ use borrow.Author.Tests.{lt-ltb}
 use Rattle.limits.specs.Limits.{signalCount}
 use Rattle.sets.specs.Sets.{member, insert, remove}
 use Rattle.sets.specs.Widths.{insertBelow}
-use Rattle.esterel.specs.Statement.{local, Statement, seq, par, loop, present, signal, try, suspend}
-use Rattle.esterel.specs.Traced as Traces
-use Rattle.esterel.specs.Traced.{startTraced, seqTraced, parTraced, loopTraced, presentTraced, tryTraced, suspendTraced, signalTraced, signalOnce}
-use Rattle.theory.proofs.Trees.{start-traced-seq, start-traced-par, start-traced-loop, start-traced-present, start-traced-signal, start-traced-try, start-traced-suspend}
-use Rattle.theory.proofs.Asked.{one-run-signal}
+use Rattle.spec_language.specs.Statement.{local, Statement, seq, par, loop, present, signal, try, suspend}
+use Rattle.theory_language.specs.Traced as Traces
+use Rattle.theory_language.specs.Traced.{startTraced, seqTraced, parTraced, loopTraced, presentTraced, tryTraced, suspendTraced, signalTraced, signalOnce}
+use Rattle.theory_language.proofs.Trees.{start-traced-seq, start-traced-par, start-traced-loop, start-traced-present, start-traced-signal, start-traced-try, start-traced-suspend}
+use Rattle.theory_language.proofs.Asked.{one-run-signal}
 use Rattle.layout.specs.Layout.{rest, Ready}
 use Rattle.layout.proofs.Parts.{rest-is}
 use Rattle.reaction.specs.Completions.{isEnded}

@@ -1,9 +1,9 @@
 -- What a fresh statement answers behind one that reacted, for whatever statement lies in the bytes (layout, specs/Layout).
 use Prim.Native.Nat.{ℕ}
 use mathlib.Core.List.{List}
-use Rattle.esterel.specs.Statement.{Statement}
-use Rattle.esterel.specs.Traced as Traces
-use Rattle.esterel.specs.Traced.{startTraced, seqTraced}
+use Rattle.spec_language.specs.Statement.{Statement}
+use Rattle.theory_language.specs.Traced as Traces
+use Rattle.theory_language.specs.Traced.{startTraced, seqTraced}
 use Rattle.layout.specs.Layout.{Lies}
 use Rattle.reaction.specs.declared.Reaction.{Reaction}
 use Rattle.reaction.specs.Reactions.{Realizes}

@@ -7,13 +7,13 @@ use borrow.Author.Tests.{lt-ltb}
 use Rattle.limits.specs.Limits.{signalCount, labelCount}
 use Rattle.sets.specs.Sets.{none}
 use Rattle.sets.specs.Widths.{onlyBelow}
-use Rattle.esterel.specs.Statement.{Value, Statement, nothing, pause, emit, exit, setpause}
-use Rattle.esterel.specs.Reaction.{ended, waiting, leaving, gives, reactBy}
-use Rattle.esterel.specs.Errors.{errorsBy}
-use Rattle.esterel.specs.Reactions.{reactionsBy}
-use Rattle.esterel.specs.Asked.{askedBy}
-use Rattle.esterel.specs.Litres.{brought, deliveredBy}
-use Rattle.esterel.specs.Traced.{startTraced}
+use Rattle.spec_language.specs.Statement.{Value, Statement, nothing, pause, emit, exit, setpause}
+use Rattle.spec_language.specs.Reaction.{ended, waiting, leaving, gives, reactBy}
+use Rattle.spec_language.specs.Errors.{errorsBy}
+use Rattle.spec_language.specs.Reactions.{reactionsBy}
+use Rattle.theory_language.specs.Asked.{askedBy}
+use Rattle.spec_language.specs.Litres.{brought, deliveredBy}
+use Rattle.theory_language.specs.Traced.{startTraced}
 use Rattle.layout.specs.Layout.{Ready}
 use Rattle.layout.proofs.Laid.{last-one}
 use Rattle.reaction.specs.declared.Reaction.{Reaction}

@@ -12,10 +12,10 @@ use borrow.Author.Tests.{eq-eqb, ne-eqb, ltb-true}
 use Rattle.numbers.specs.Bytes.{leNumber, numberAt}
 use Rattle.litres.specs.Litres.{whole, litres}
 use Rattle.sets.specs.Sets.{none}
-use Rattle.esterel.specs.Statement as Esterel
-use Rattle.esterel.specs.Statement.{nothing}
-use Rattle.esterel.specs.Reaction.{ended, gives}
-use Rattle.esterel.specs.Litres.{amount, brought}
+use Rattle.spec_language.specs.Statement as Esterel
+use Rattle.spec_language.specs.Statement.{nothing}
+use Rattle.spec_language.specs.Reaction.{ended, gives}
+use Rattle.spec_language.specs.Litres.{amount, brought}
 use Rattle.sequence.specs.Amounts.{areBytes, floatIn}
 use Rattle.sequence.specs.Commands.{Command, bytesAt}
 use Rattle.sequence.proofs.Table.{byteOf}

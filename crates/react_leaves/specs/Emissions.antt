@@ -9,7 +9,7 @@ use lib.Ieee.{binary32, ofBits}
 use Rattle.limits.specs.Limits.{signalCount}
 use Rattle.numbers.specs.Bytes.{numberAt}
 use Rattle.litres.specs.Litres.{whole, litres}
-use Rattle.esterel.specs.Statement as Esterel
+use Rattle.spec_language.specs.Statement as Esterel
 use Rattle.react_leaves.specs.declared.Value.{Value}
 use Rattle.react_leaves.specs.declared.Value.the-variants.{Pure, Litres}
 

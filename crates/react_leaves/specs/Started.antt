@@ -3,8 +3,8 @@ use Prim.Native.Nat.{ℕ, zero, suc, _+_}
 use mathlib.Core.Path.{_≡_}
 use mathlib.Core.List.{List}
 use lib.ListN.{getD}
-use Rattle.esterel.specs.Statement.{Statement}
-use Rattle.esterel.specs.Traced.{startTraced}
+use Rattle.spec_language.specs.Statement.{Statement}
+use Rattle.theory_language.specs.Traced.{startTraced}
 use Rattle.layout.specs.Layout.{Lies, Ready}
 use Rattle.reaction.specs.declared.Reaction.{Reaction}
 use Rattle.reaction.specs.Reactions.{Realizes}

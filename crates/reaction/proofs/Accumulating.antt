@@ -12,12 +12,13 @@ use lib.Seq.{getD-set-same, getD-set-other}
 use borrow.Author.Tests.{eqb-true, eq-eqb}
 use Rattle.limits.specs.Limits.{litresLimit}
 use Rattle.sets.specs.Sets.{member, none}
-use Rattle.esterel.specs.Statement.{Scope, local, reported, Value, Statement}
-use Rattle.esterel.specs.Reaction.{Code, ended, waiting, leaving, wrong, isWrong, greater, Reaction, gives, inheritanceFirst, firstFit, answer, code}
-use Rattle.esterel.specs.Errors.{Error}
-use Rattle.esterel.specs.Litres.{brought, chosen, passing}
-use Rattle.esterel.specs.Instants.{instant, codeTold}
-use Rattle.esterel.specs.Traced.{Traced, traced, instantOf, seqTraced, parTraced, loopTraced, presentTraced, tryTraced, suspendTraced, heldTraced, stoppedTraced, signalTraced, signalOnce}
+use Rattle.spec_language.specs.Statement.{Scope, local, reported, Value, Statement}
+use Rattle.spec_language.specs.Reaction.{Code, ended, waiting, leaving, wrong, isWrong, greater, Reaction, gives, inheritanceFirst, firstFit, answer, code}
+use Rattle.spec_language.specs.Errors.{Error}
+use Rattle.spec_language.specs.Litres.{brought, chosen, passing}
+use Rattle.spec_language.specs.Instants.{instant}
+use Rattle.theory_language.specs.InstantRules.{codeTold}
+use Rattle.theory_language.specs.Traced.{Traced, traced, instantOf, seqTraced, parTraced, loopTraced, presentTraced, tryTraced, suspendTraced, heldTraced, stoppedTraced, signalTraced, signalOnce}
 use Rattle.reaction.specs.Completions.{isEnded}
 use Rattle.reaction.specs.Reactions.{cappedOf, alone, reactionOf, countedAround, Accumulates, AccumulatesAt}
 

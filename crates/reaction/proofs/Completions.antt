@@ -1,9 +1,9 @@
 -- A completion stands for its code, and the greater of two for the greater code with the error of the first that is wrong.
 use mathlib.Core.Path.{_≡_, refl}
 use mathlib.Core.Option.{Option}
-use Rattle.esterel.specs.Reaction.{Code, ended, waiting, leaving, wrong, greater}
-use Rattle.esterel.specs.Errors.{Error}
-use Rattle.esterel.specs.Instants.{ifWrong}
+use Rattle.spec_language.specs.Reaction.{Code, ended, waiting, leaving, wrong, greater}
+use Rattle.spec_language.specs.Errors.{Error}
+use Rattle.theory_language.specs.InstantRules.{ifWrong}
 use Rattle.reaction.specs.Completions.{completionOf, codeOf, greaterOf}
 
 pub code-of : (k : Code) (x : Option Error) → codeOf (completionOf k x) ≡ k

@@ -8,13 +8,14 @@ use Rattle.sets.proofs.Algebra.{join-none-r}
 use Rattle.labels.specs.declared.Labels.{Labels}
 use Rattle.labels.specs.Labels.{Represents}
 use Rattle.labels.proofs.LabelValues.{labels-of}
-use Rattle.esterel.specs.Statement.{nothing}
-use Rattle.esterel.specs.Reaction.{Code, wrong, gives}
-use Rattle.esterel.specs.Errors.{Error}
-use Rattle.esterel.specs.Instants as Instants
-use Rattle.esterel.specs.Traced as Traces
-use Rattle.esterel.specs.Instants.{instant, presentInstant}
-use Rattle.esterel.specs.Traced.{traced}
+use Rattle.spec_language.specs.Statement.{nothing}
+use Rattle.spec_language.specs.Reaction.{Code, wrong, gives}
+use Rattle.spec_language.specs.Errors.{Error}
+use Rattle.spec_language.specs.Instants as Instants
+use Rattle.theory_language.specs.Traced as Traces
+use Rattle.spec_language.specs.Instants.{instant}
+use Rattle.theory_language.specs.InstantRules.{presentInstant}
+use Rattle.theory_language.specs.Traced.{traced}
 use Rattle.reaction.specs.declared.Completion.{Completion}
 use Rattle.reaction.specs.Completions.{completionOf}
 use Rattle.reaction.specs.declared.Reaction.{Reaction}

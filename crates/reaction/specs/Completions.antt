@@ -3,8 +3,8 @@ use Prim.Native.Nat.{_-_, max}
 use mathlib.Core.Bool.{Bool, true, false, cond}
 use mathlib.Core.Option.{Option}
 use lib.Dec.{eqb}
-use Rattle.esterel.specs.Reaction.{Code, ended, waiting, leaving, wrong}
-use Rattle.esterel.specs.Errors.{Error, blame}
+use Rattle.spec_language.specs.Reaction.{Code, ended, waiting, leaving, wrong}
+use Rattle.spec_language.specs.Errors.{Error, blame}
 use Rattle.reaction.specs.declared.Completion.{Completion}
 use Rattle.reaction.specs.declared.Completion.the-variants.{Ended, Waiting, Leaving, Wrong}
 

@@ -9,12 +9,13 @@ use mathlib.Core.Option.{none, some}
 use Rattle.limits.specs.Limits.{reactionsCount, litresLimit}
 use Rattle.sets.specs.Sets.{join}
 use Rattle.labels.specs.Labels.{labelsWith}
-use Rattle.esterel.specs.Reaction.{isWrong, emitted, code, labels, failed}
-use Rattle.esterel.specs.Errors.{Error}
-use Rattle.esterel.specs.Statement.{Statement}
-use Rattle.esterel.specs.Instants as Instants
-use Rattle.esterel.specs.Traced as Traces
-use Rattle.esterel.specs.Reaction as rules
+use Rattle.spec_language.specs.Reaction.{isWrong, emitted, code, labels, failed}
+use Rattle.spec_language.specs.Errors.{Error}
+use Rattle.spec_language.specs.Statement.{Statement}
+use Rattle.spec_language.specs.Instants as Instants
+use Rattle.theory_language.specs.InstantRules.{codeTold, presentInstant}
+use Rattle.theory_language.specs.Traced as Traces
+use Rattle.spec_language.specs.Reaction as rules
 use Rattle.reaction.specs.Completions.{completionOf}
 use Rattle.reaction.specs.declared.Reaction.{Reaction}
 
@@ -57,7 +58,7 @@ failedWith x n a =
 
 -- a command that changes nothing of its part but the number of reactions, and the signals asked for by b
 abbrev pub countedAround : (b : ℕ) → Traces.Traced → Traces.Traced
-countedAround b (Traces.traced i a y) = Traces.traced (Instants.presentInstant i) (join a b) y
+countedAround b (Traces.traced i a y) = Traces.traced (presentInstant i) (join a b) y
 
 -- r is f of whatever trees the values stand for
 abbrev pub FromOne : (f : Traces.Traced → Traces.Traced) (p r : Reaction) → Type 0
@@ -70,7 +71,7 @@ FromTwo f p q r = (t u : Traces.Traced) → p ≡ reactionOf t → q ≡ reactio
 -- they stay within what is kept of litres; where the tree is not wrong, they are the sum with what it delivers, so kept
 pub record Accumulates (b a : ℕ) (t : Traces.Traced) : Type 0 where
   pub bounded : b ≤ litresLimit + 1 → a ≤ litresLimit + 1
-  pub summed : b ≤ litresLimit + 1 → isWrong (Instants.codeTold (Traces.instantOf t)) ≡ false → a ≡ cappedOf (b + Traces.deliveredOf t)
+  pub summed : b ≤ litresLimit + 1 → isWrong (codeTold (Traces.instantOf t)) ≡ false → a ≡ cappedOf (b + Traces.deliveredOf t)
 
 -- the same of the farm f in the lists of all farms' litres
 pub record AccumulatesAt (f : ℕ) (b a : List ℕ) (t : Traces.Traced) : Type 0 where

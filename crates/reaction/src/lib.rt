@@ -1,7 +1,7 @@
 // What one reaction gives (01, 'One reaction'): completions and their codes, the reactions of commands without parts, the number of
 // reactions of a tree from those of its parts (02, item 6), the signals that a tree asks for, and the litres of each farm (02, item 12).
 ghost use mathlib.Core.Path.{_≡_};
-ghost use Rattle.esterel.specs.Reaction.{isWrong, ended, waiting, leaving, gives};
+ghost use Rattle.spec_language.specs.Reaction.{isWrong, ended, waiting, leaving, gives};
 ghost use Rattle.reaction.specs.Completions.{codeOf, greaterOf, isEnded, caught};
 ghost use mathlib.Core.Bool.{cond};
 ghost use Prim.Native.Nat.{_+_, _<_};
@@ -10,7 +10,7 @@ ghost use Rattle.limits.specs.Limits.{signalCount, labelCount};
 ghost use Rattle.sets.specs.Sets.{member, none};
 ghost use Rattle.sets.specs.Widths.{onlyBelow};
 ghost use Rattle.labels.specs.Labels.{labelSet};
-ghost use Rattle.esterel.specs.Statement.{nothing};
+ghost use Rattle.spec_language.specs.Statement.{nothing};
 ghost use Rattle.reaction.specs.Reactions.{keptOf, cappedOf, alone, reactionOf, failedWith, countedAround, FromOne};
 use labels::Labels;
 

@@ -4,10 +4,10 @@ use mathlib.Core.Path.{_≡_, refl, sym, ap, _∙_, subst}
 use mathlib.Core.List.{List}
 use native.Mathlib.Omega.{arith}
 use lib.ListN.{length, length-replicate}
-use Rattle.esterel.specs.Statement.{Statement}
+use Rattle.spec_language.specs.Statement.{Statement}
 use Rattle.limits.specs.Limits.{maxBytes, maxDepth, maxSignals}
 use Rattle.sequence.specs.Reader.{Read, accepted, refused, read}
-use Rattle.esterel.specs.Sizes.{signalNesting}
+use Rattle.spec_language.specs.Sizes.{signalNesting}
 use Rattle.sequence.proofs.Refusals.{Small, Rowed, rowed}
 use Rattle.sequence.proofs.Sound.{sound, count-within}
 use Rattle.layout.specs.Layout.{rest, Marked}

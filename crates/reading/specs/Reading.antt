@@ -3,10 +3,10 @@ use Prim.Native.Nat.{ℕ, _-_}
 use mathlib.Core.Path.{_≡_}
 use mathlib.Core.List.{List}
 use lib.ListN.{length}
-use Rattle.esterel.specs.Statement.{Statement}
+use Rattle.spec_language.specs.Statement.{Statement}
 use Rattle.limits.specs.Limits.{maxBytes, maxSignals}
 use Rattle.sequence.specs.Reader.{Read, accepted, refused, readAll}
-use Rattle.esterel.specs.Sizes.{signalNesting}
+use Rattle.spec_language.specs.Sizes.{signalNesting}
 use Rattle.layout.specs.Layout.{Marked}
 use Rattle.layout.specs.Notes.{noNotes, note}
 use Rattle.reading.specs.declared.reader.Reading.{Reading}

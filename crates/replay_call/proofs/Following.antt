@@ -7,11 +7,11 @@ use mathlib.Core.Bool.{Bool, false, _&&_}
 use mathlib.Core.List.{List}
 use lib.Dec.{eqb}
 use borrow.Author.Tests.{ne-eqb}
-use Rattle.esterel.specs.Instants as Instants
-use Rattle.esterel.specs.Instants.{Instant}
-use Rattle.esterel.specs.Traced.{instantOf, startTraced}
-use Rattle.esterel.specs.RankedExpansion.{expandBy}
-use Rattle.esterel.specs.Machines.{State}
+use Rattle.spec_language.specs.Instants as Instants
+use Rattle.spec_language.specs.Instants.{Instant}
+use Rattle.theory_language.specs.Traced.{instantOf, startTraced}
+use Rattle.theory_language.specs.RankedExpansion.{expandBy}
+use Rattle.spec_language.specs.Machines.{State}
 use Rattle.labels.specs.Labels.{labelSet}
 use Rattle.labels.specs.declared.Labels.{Labels}
 use Rattle.sequence.specs.Program.{program}

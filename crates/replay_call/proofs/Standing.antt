@@ -8,19 +8,19 @@ use Rattle.limits.specs.Limits.{labelCount, labelBytes}
 use Rattle.sets.specs.Sets.{member}
 use Rattle.sets.proofs.Members.{member-lt}
 use Rattle.sets.proofs.Widths.{members-lt}
-use Rattle.esterel.specs.Statement.{Statement}
-use Rattle.esterel.specs.Reaction.{gives, ended, waiting, leaving, wrong, inheritanceFirst}
-use Rattle.esterel.specs.States.{Valid}
-use Rattle.esterel.specs.LabelTests.{pauses, valid}
-use Rattle.esterel.specs.Ranks.{mask, pauseCount}
-use Rattle.esterel.specs.Instants as Instants
-use Rattle.esterel.specs.Instants.{Instant, start}
-use Rattle.esterel.specs.Traced.{Traced, traced, instantOf}
-use Rattle.esterel.specs.Machines.{State, stateAfter}
-use Rattle.esterel.specs.Expansion.{expand}
-use Rattle.theory.proofs.LabelTests.{valid-is, distinct-is, pauses-is}
-use Rattle.theory.proofs.Ranks.{rank-lt}
-use Rattle.theory.proofs.Counts.{few-pauses}
+use Rattle.spec_language.specs.Statement.{Statement}
+use Rattle.spec_language.specs.Reaction.{gives, ended, waiting, leaving, wrong, inheritanceFirst}
+use Rattle.spec_language.specs.States.{Valid}
+use Rattle.spec_language.specs.LabelTests.{pauses, valid}
+use Rattle.theory_language.specs.Ranks.{mask, pauseCount}
+use Rattle.spec_language.specs.Instants as Instants
+use Rattle.spec_language.specs.Instants.{Instant, start}
+use Rattle.theory_language.specs.Traced.{Traced, traced, instantOf}
+use Rattle.spec_language.specs.Machines.{State, stateAfter}
+use Rattle.spec_language.specs.Expansion.{expand}
+use Rattle.theory_language.proofs.LabelTests.{valid-is, distinct-is, pauses-is}
+use Rattle.theory_language.proofs.Ranks.{rank-lt}
+use Rattle.theory_language.proofs.Counts.{few-pauses}
 use Rattle.sequence.proofs.Source.{ranged-at}
 use Rattle.sequence.specs.Writer.{Ranged}
 use Rattle.sequence.specs.Program.{program}

@@ -4,8 +4,8 @@ use mathlib.Core.Path.{_≡_}
 use mathlib.Core.Bool.{Bool, true, false, _&&_}
 use mathlib.Core.List.{List, map}
 use lib.Dec.{eqb}
-use Rattle.esterel.specs.Statement.{Statement}
-use Rattle.esterel.specs.Machines.{State}
+use Rattle.spec_language.specs.Statement.{Statement}
+use Rattle.spec_language.specs.Machines.{State}
 use Rattle.checks.specs.Verdict.{Passed}
 use Rattle.states.specs.StateRecord.{encodeState, Recorded}
 use Rattle.instants.specs.declared.Standing.{Standing}

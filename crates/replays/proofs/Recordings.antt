@@ -10,9 +10,9 @@ use lib.ListN.{length, getElem?, take, drop, length-append, length-drop, length-
 use lib.Seq.{take-at, drop-at}
 use lib.Dec.{eqb}
 use borrow.Author.Tests.{ne-eqb}
-use Rattle.esterel.specs.Reaction.{gives}
-use Rattle.esterel.specs.Instants.{Instant, instant}
-use Rattle.esterel.specs.Machines.{stateAfter}
+use Rattle.spec_language.specs.Reaction.{gives}
+use Rattle.spec_language.specs.Instants.{Instant, instant}
+use Rattle.spec_language.specs.Machines.{stateAfter}
 use Rattle.states.specs.StateRecord.{stateLength, phaseIn}
 use Rattle.states.proofs.StateLaws.{length-state}
 use Rattle.answers.specs.AnswerRecord.{answerLength}

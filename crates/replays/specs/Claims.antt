@@ -5,9 +5,9 @@ use mathlib.Core.Logic.{_≢_, _↔_}
 use mathlib.Core.Option.{some}
 use mathlib.Core.List.{List, [], map}
 use lib.ListN.{length, getElem?}
-use Rattle.esterel.specs.Statement.{Statement}
-use Rattle.esterel.specs.States.{NoSetpause}
-use Rattle.esterel.specs.Machines.{Rewriting}
+use Rattle.spec_language.specs.Statement.{Statement}
+use Rattle.spec_language.specs.States.{NoSetpause}
+use Rattle.spec_language.specs.Machines.{Rewriting}
 use Rattle.sequence.specs.Program.{program}
 use Rattle.sequence.specs.Check.{checkOf}
 use Rattle.sequence.specs.Rows.{Spells}

@@ -11,9 +11,9 @@ use Rattle.sets.specs.Sets.{none, empty, join, below, from}
 use Rattle.sets.specs.Widths.{onlyBelow, twoWords, setAt}
 use Rattle.sets.proofs.Algebra.{join-none-l, join-none-r, join-assoc}
 use Rattle.sets.proofs.Words.{words-of, words-none, stored-here}
-use Rattle.esterel.specs.Statement.{local, Statement, pause, seq, par, loop, present, signal, try, suspend}
-use Rattle.esterel.specs.Ranks.{middle, labelsBy}
-use Rattle.theory.proofs.Ranks.{labels-by-none}
+use Rattle.spec_language.specs.Statement.{local, Statement, pause, seq, par, loop, present, signal, try, suspend}
+use Rattle.theory_language.specs.Ranks.{middle, labelsBy}
+use Rattle.theory_language.proofs.Ranks.{labels-by-none}
 use Rattle.sequence.specs.Commands.{Command}
 use Rattle.sequence.proofs.Table.{byteOf}
 use Rattle.layout.specs.Layout.{Lies, Ready}

@@ -8,12 +8,12 @@ use lib.ListN.{getD, set}
 use Rattle.limits.specs.Limits.{signalCount}
 use Rattle.sets.specs.Sets.{member, empty, remove, below, from}
 use Rattle.sets.specs.Widths.{insertBelow}
-use Rattle.esterel.specs.Statement.{local, Statement, nothing, seq, par, loop, present, signal, try, suspend}
-use Rattle.esterel.specs.Ranks.{middle, labelsBy}
-use Rattle.esterel.specs.Traced as Traces
-use Rattle.esterel.specs.Traced.{startTraced, seqTraced, parTraced, tryTraced, signalTraced, signalOnce, heldTraced, stoppedTraced}
-use Rattle.esterel.specs.RankedExpansion.{expandBy, resumeTraced}
-use Rattle.theory.proofs.Trees.{start-traced-held}
+use Rattle.spec_language.specs.Statement.{local, Statement, nothing, seq, par, loop, present, signal, try, suspend}
+use Rattle.theory_language.specs.Ranks.{middle, labelsBy}
+use Rattle.theory_language.specs.Traced as Traces
+use Rattle.theory_language.specs.Traced.{startTraced, seqTraced, parTraced, tryTraced, signalTraced, signalOnce, heldTraced, stoppedTraced}
+use Rattle.theory_language.specs.RankedExpansion.{expandBy, resumeTraced}
+use Rattle.theory_language.proofs.Trees.{start-traced-held}
 use Rattle.sequence.specs.Commands.{Command, commandOf}
 use Rattle.layout.specs.Layout.{Form, Lies}
 use Rattle.sequence.proofs.Table.{byteOf, byte-is}

@@ -6,8 +6,8 @@ use lib.ListN.{length}
 use Rattle.limits.specs.Limits.{wordLabels}
 use Rattle.sets.specs.Sets.{join, below, from}
 use Rattle.sets.specs.Widths.{twoWords, setAt}
-use Rattle.esterel.specs.Statement.{Statement}
-use Rattle.esterel.specs.Ranks.{middle, labelsBy}
+use Rattle.spec_language.specs.Statement.{Statement}
+use Rattle.theory_language.specs.Ranks.{middle, labelsBy}
 use Rattle.labels.specs.declared.Labels.{Labels}
 use Rattle.labels.specs.Labels.{labelSet}
 use Rattle.layout.specs.Layout.{Two, Lies}

@@ -4,9 +4,9 @@ use Prim.Native.Nat.{ℕ}
 use mathlib.Core.Bool.{cond}
 use mathlib.Core.List.{List}
 use Rattle.sets.specs.Sets.{empty}
-use Rattle.esterel.specs.Statement.{Statement, nothing}
-use Rattle.esterel.specs.Traced.{startTraced}
-use Rattle.esterel.specs.RankedExpansion.{expandBy, resumeTraced}
+use Rattle.spec_language.specs.Statement.{Statement, nothing}
+use Rattle.theory_language.specs.Traced.{startTraced}
+use Rattle.theory_language.specs.RankedExpansion.{expandBy, resumeTraced}
 use Rattle.layout.specs.Layout.{Lies}
 use Rattle.reaction.specs.declared.Reaction.{Reaction}
 use Rattle.reaction.specs.Reactions.{Realizes}

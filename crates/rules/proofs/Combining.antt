@@ -10,12 +10,12 @@ use Rattle.sets.specs.Sets.{none, only, join, insert}
 use Rattle.sets.specs.Widths.{onlyBelow}
 use Rattle.sets.proofs.Algebra.{join-none-l, join-none-r}
 use Rattle.labels.specs.Labels.{labelsWith}
-use Rattle.esterel.specs.Statement.{Statement, nothing, try}
-use Rattle.esterel.specs.Reaction.{ended, waiting, leaving, wrong, gives}
-use Rattle.esterel.specs.Errors.{Error, instantaneous}
-use Rattle.esterel.specs.Traced as Traces
-use Rattle.esterel.specs.Instants.{instant}
-use Rattle.esterel.specs.Traced.{traced, loopTraced, presentTraced, tryTraced, suspendTraced, heldTraced, stoppedTraced}
+use Rattle.spec_language.specs.Statement.{Statement, nothing, try}
+use Rattle.spec_language.specs.Reaction.{ended, waiting, leaving, wrong, gives}
+use Rattle.spec_language.specs.Errors.{Error, instantaneous}
+use Rattle.theory_language.specs.Traced as Traces
+use Rattle.spec_language.specs.Instants.{instant}
+use Rattle.theory_language.specs.Traced.{traced, loopTraced, presentTraced, tryTraced, suspendTraced, heldTraced, stoppedTraced}
 use Rattle.reaction.specs.declared.Completion.{Completion}
 use Rattle.reaction.specs.declared.Reaction.{Reaction}
 use Rattle.reaction.specs.Completions.{completionOf, isEnded, caught}

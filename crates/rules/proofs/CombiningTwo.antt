@@ -7,11 +7,12 @@ use Rattle.sets.specs.Sets.{none, join}
 use Rattle.labels.specs.declared.Labels.{Labels}
 use Rattle.labels.specs.Labels.{labelSet, labelsWith, Represents}
 use Rattle.labels.proofs.LabelValues.{labelSet-of, stands-of}
-use Rattle.esterel.specs.Statement.{Statement}
-use Rattle.esterel.specs.Reaction.{Code, ended, waiting, leaving, wrong, greater, gives, ifWaiting}
-use Rattle.esterel.specs.Traced as Traces
-use Rattle.esterel.specs.Instants.{instant, ifWrong}
-use Rattle.esterel.specs.Traced.{traced, seqTraced, parTraced}
+use Rattle.spec_language.specs.Statement.{Statement}
+use Rattle.spec_language.specs.Reaction.{Code, ended, waiting, leaving, wrong, greater, gives, ifWaiting}
+use Rattle.theory_language.specs.Traced as Traces
+use Rattle.spec_language.specs.Instants.{instant}
+use Rattle.theory_language.specs.InstantRules.{ifWrong}
+use Rattle.theory_language.specs.Traced.{traced, seqTraced, parTraced}
 use Rattle.reaction.specs.declared.Completion.{Completion}
 use Rattle.reaction.specs.declared.Reaction.{Reaction}
 use Rattle.reaction.specs.Completions.{completionOf, codeOf, greaterOf, isEnded}

@@ -2,8 +2,8 @@
 -- every field of a listing but the labels, which the paper does not know. A listing does not print the number of reactions.
 use Prim.Native.Nat.{ℕ, suc}
 use mathlib.Core.List.{List, [], _∷_}
-use Rattle.esterel.specs.Statement.{Statement}
-use Rattle.esterel.specs.Machines.{Seen, instant, refused, Rewriting, byRewriting, run}
+use Rattle.spec_language.specs.Statement.{Statement}
+use Rattle.spec_language.specs.Machines.{Seen, instant, refused, Rewriting, byRewriting, run}
 use Rattle.answers.specs.AnswerRecord.{codeByte}
 use Rattle.runs.specs.Listing.{Entry}
 

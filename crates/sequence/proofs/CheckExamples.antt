@@ -7,11 +7,11 @@ use lib.ListN.{replicate}
 use lib.Ieee.{ofBits, ofFields, odd, inUnsigned, whole}
 use Rattle.sets.specs.Sets.{member, none, only, join, subset, disjoint, membersFrom}
 use Rattle.numbers.specs.Bytes.{leNumber}
-use Rattle.esterel.specs.ReadBack.{declaredBy}
-use Rattle.esterel.specs.LabelTests.{labelsOf, everyLabel, distinct, before, wellFormed}
+use Rattle.spec_language.specs.ReadBack.{declaredBy}
+use Rattle.spec_language.specs.LabelTests.{labelsOf, everyLabel, distinct, before, wellFormed}
 use Rattle.sequence.specs.Commands.{commandOf}
 use Rattle.sequence.specs.Reader.{front, read}
-use Rattle.esterel.specs.Sizes.{signalNesting}
+use Rattle.spec_language.specs.Sizes.{signalNesting}
 use Rattle.sequence.specs.Check.{checked, checkOf}
 
 -- n times

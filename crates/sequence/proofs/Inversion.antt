@@ -7,7 +7,7 @@ use native.Mathlib.Omega.{arith}
 use lib.ListN.{drop}
 use lib.Dec.{ltb}
 use borrow.Author.Tests.{ltb-true, ltb-false, lt-ltb, le-ltb}
-use Rattle.esterel.specs.Statement.{Statement, nothing}
+use Rattle.spec_language.specs.Statement.{Statement, nothing}
 use Rattle.sequence.specs.Commands.{Command, partCount, headLength, declares, build}
 use Rattle.sequence.specs.Reader.{Read, accepted, refused, Front, command, bad, front, lastPart, firstPart, readParts, tooDeep, readCommand, read}
 use Rattle.sequence.proofs.Table.{at-most-two}

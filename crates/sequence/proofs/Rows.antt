@@ -10,14 +10,14 @@ use mathlib.Core.Logic.{_⊎_, inl, inr}
 use lib.ListN.{length, drop}
 use lib.Dec.{leb, ltb}
 use borrow.Author.Tests.{ltb-true, ltb-false, leb-true, le-leb}
-use Rattle.esterel.specs.Statement.{Statement}
-use Rattle.esterel.specs.States.{Distinct, Targeted, WellFormed}
-use Rattle.esterel.specs.LabelTests.{distinct, targeted, wellFormed}
-use Rattle.theory.proofs.LabelTests.{distinct-is, targeted-is, wellFormed-is}
+use Rattle.spec_language.specs.Statement.{Statement}
+use Rattle.spec_language.specs.States.{Distinct, Targeted, WellFormed}
+use Rattle.spec_language.specs.LabelTests.{distinct, targeted, wellFormed}
+use Rattle.theory_language.proofs.LabelTests.{distinct-is, targeted-is, wellFormed-is}
 use Rattle.limits.specs.Limits.{maxBytes, maxDepth, maxSignals}
 use Rattle.sequence.specs.Commands.{declares}
 use Rattle.sequence.specs.Reader.{Read, accepted, refused, Front, command, front, read}
-use Rattle.esterel.specs.Sizes.{signalNesting}
+use Rattle.spec_language.specs.Sizes.{signalNesting}
 use Rattle.sequence.specs.Program.{program}
 use Rattle.sequence.specs.Writer.{Written}
 use Rattle.sequence.specs.Check.{Checked, sound, bad, labelRules, afterRead, checked, numberOf, checkOf}

@@ -5,9 +5,9 @@ use mathlib.Core.List.{List, [], _∷_, _++_}
 use Prim.Native.Nat.{ℕ, _+_, _<_, max}
 use native.Mathlib.Omega.{arith}
 use lib.ListN.{length}
-use Rattle.esterel.specs.Statement.{local, Statement, seq, par, loop, present, signal, try, suspend}
+use Rattle.spec_language.specs.Statement.{local, Statement, seq, par, loop, present, signal, try, suspend}
 use Rattle.limits.specs.Limits.{signalCount}
-use Rattle.esterel.specs.Sizes.{signalNesting, depthOf}
+use Rattle.spec_language.specs.Sizes.{signalNesting, depthOf}
 use Rattle.sequence.specs.Writer.{bytesOf, size, Ranged, PlacedAt}
 
 pub record OnePart (h : List ℕ) (a declared : ℕ) (f : Statement → Statement) : Type 0 where

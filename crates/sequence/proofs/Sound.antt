@@ -8,11 +8,11 @@ use lib.ListN.{length, getD, drop, length-append}
 use lib.Seq.{drop-at, drop-drop}
 use lib.Dec.{leb}
 use borrow.Author.Tests.{ltb-true, leb-true}
-use Rattle.esterel.specs.Statement.{local, pure, litres, Statement, nothing, pause, emit, exit, seq, par, loop, present, signal, try, setpause, suspend}
+use Rattle.spec_language.specs.Statement.{local, pure, litres, Statement, nothing, pause, emit, exit, seq, par, loop, present, signal, try, setpause, suspend}
 use Rattle.limits.specs.Limits.{labelCount, signalCount, maxExit}
 use Rattle.sequence.specs.Commands.{Command, partCount, bytesAt, operandsOf, inRange, litresFit, headLength, declares, build}
 use Rattle.sequence.specs.Reader.{accepted, read}
-use Rattle.esterel.specs.Sizes.{signalNesting, depthOf}
+use Rattle.spec_language.specs.Sizes.{signalNesting, depthOf}
 use Rattle.sequence.specs.Writer.{bytesOf, Ranged, PlacedAt, Written}
 use Rattle.sequence.specs.Amounts.{amountIn}
 use Rattle.sequence.proofs.Amounts.{amount-read}

@@ -1,9 +1,9 @@
 -- What stands in a statement within the limits is within them; so no bytes spell a held suspend.
 use Prim.Native.Nat.{ℕ}
 use mathlib.Core.List.{List}
-use Rattle.esterel.specs.Statement.{Statement}
-use Rattle.esterel.specs.Places.{Part, PartOf, seq₁, seq₂, par₁, par₂, loop₁, present₁, present₂, signal₁, try₁, suspend₁, Place, At}
-use Rattle.esterel.specs.States.{Source}
+use Rattle.spec_language.specs.Statement.{Statement}
+use Rattle.spec_language.specs.Places.{Part, PartOf, seq₁, seq₂, par₁, par₂, loop₁, present₁, present₂, signal₁, try₁, suspend₁, Place, At}
+use Rattle.spec_language.specs.States.{Source}
 use Rattle.sequence.specs.Writer.{Ranged}
 use Rattle.sequence.specs.Rows.{Spells}
 

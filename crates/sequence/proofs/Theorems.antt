@@ -8,8 +8,8 @@ use mathlib.Core.List.{List}
 use lib.ListN.{length}
 use lib.IntN.{pos}
 use lib.Ieee.{binary32, ofInt}
-use Rattle.esterel.specs.Statement.{Statement}
-use Rattle.esterel.specs.States.{Source}
+use Rattle.spec_language.specs.Statement.{Statement}
+use Rattle.spec_language.specs.States.{Source}
 use Rattle.limits.specs.Limits.{maxDepth, maxSignals}
 use Rattle.sequence.specs.Amounts.{amountSize, IsAmount, isAmount, amountIn, floatIn}
 use Rattle.sequence.specs.Reader.{accepted, read}

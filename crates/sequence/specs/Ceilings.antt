@@ -1,6 +1,6 @@
 -- The ceiling of a sequence with a read-back set (02, item 6): that of the program; of a sequence that is turned down, 0.
 use Prim.Native.Nat.{ℕ}
-use Rattle.esterel.specs.Ceiling.{ceiling}
+use Rattle.spec_language.specs.Ceiling.{ceiling}
 use Rattle.sequence.specs.Program.{program}
 use Rattle.sequence.specs.Check.{Checked, sound, bad}
 

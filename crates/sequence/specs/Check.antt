@@ -5,11 +5,11 @@ use mathlib.Core.Bool.{_&&_, cond}
 use mathlib.Core.List.{List}
 use lib.ListN.{length}
 use lib.Dec.{leb, ltb}
-use Rattle.esterel.specs.Statement.{Statement}
-use Rattle.esterel.specs.LabelTests.{distinct, targeted, wellFormed}
+use Rattle.spec_language.specs.Statement.{Statement}
+use Rattle.spec_language.specs.LabelTests.{distinct, targeted, wellFormed}
 use Rattle.limits.specs.Limits.{maxBytes, maxSignals}
 use Rattle.sequence.specs.Reader.{Read, accepted, refused, readAll}
-use Rattle.esterel.specs.Sizes.{signalNesting}
+use Rattle.spec_language.specs.Sizes.{signalNesting}
 use Rattle.sequence.specs.Program.{program}
 
 pub data Checked : Type 0 where

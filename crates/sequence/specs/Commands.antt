@@ -5,7 +5,7 @@ use mathlib.Core.Option.{Option, none, some}
 use mathlib.Core.List.{List, [], _∷_}
 use lib.ListN.{getD, drop}
 use lib.Dec.{leb, ltb}
-use Rattle.esterel.specs.Statement.{local, pure, litres, Statement}
+use Rattle.spec_language.specs.Statement.{local, pure, litres, Statement}
 use Rattle.limits.specs.Limits.{labelCount, signalCount, maxExit}
 use Rattle.sequence.specs.Amounts.{amountSize, isAmount, amountIn}
 

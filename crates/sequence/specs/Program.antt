@@ -3,8 +3,8 @@ use Prim.Native.Nat.{ℕ}
 use mathlib.Core.List.{List}
 use Rattle.limits.specs.Limits.{signalCount, readBackPlace}
 use Rattle.sets.specs.Sets.{membersFrom}
-use Rattle.esterel.specs.Statement.{Statement}
-use Rattle.esterel.specs.ReadBack.{declared}
+use Rattle.spec_language.specs.Statement.{Statement}
+use Rattle.spec_language.specs.ReadBack.{declared}
 
 -- the signals of a read-back set, lowest first
 abbrev pub readBackSignals : (readBack : ℕ) → List ℕ

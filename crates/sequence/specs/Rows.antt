@@ -7,13 +7,13 @@ use mathlib.Core.Option.{Option, none, some}
 use mathlib.Core.List.{List, [], _∷_, _++_}
 use lib.ListN.{length, drop, replicate}
 use lib.Dec.{leb, ltb, eqb}
-use Rattle.esterel.specs.Statement.{Statement}
-use Rattle.esterel.specs.States.{Distinct, Targeted, WellFormed}
+use Rattle.spec_language.specs.Statement.{Statement}
+use Rattle.spec_language.specs.States.{Distinct, Targeted, WellFormed}
 use Rattle.limits.specs.Limits.{lastCommand, maxBytes, maxDepth, maxSignals}
 use Rattle.sequence.specs.Amounts.{IsAmount}
 use Rattle.sequence.specs.Commands.{Command, deliver, commandOf, operandCount, operandsOf, partCount, inRange, headLength, declares}
 use Rattle.sequence.specs.Reader.{Front, command, bad, front}
-use Rattle.esterel.specs.Sizes.{signalNesting}
+use Rattle.spec_language.specs.Sizes.{signalNesting}
 use Rattle.sequence.specs.Program.{program}
 use Rattle.sequence.specs.Writer.{bytesOf, Within, PlacedAt, Written}
 

@@ -3,11 +3,11 @@ use Prim.Native.Nat.{ℕ, _+_, _≤_, _<_}
 use mathlib.Core.Path.{_≡_}
 use mathlib.Core.List.{List, [], _∷_, _++_}
 use lib.ListN.{length}
-use Rattle.esterel.specs.Statement.{local, pure, litres, Statement, nothing, pause, emit, exit, seq, par, loop, present, signal, try, setpause, suspend, held}
+use Rattle.spec_language.specs.Statement.{local, pure, litres, Statement, nothing, pause, emit, exit, seq, par, loop, present, signal, try, setpause, suspend, held}
 use Rattle.limits.specs.Limits.{labelCount, signalCount, maxExit, litresLimit}
-use Rattle.esterel.specs.Litres.{amount}
+use Rattle.spec_language.specs.Litres.{amount}
 use Rattle.sequence.specs.Amounts.{amountBytes}
-use Rattle.esterel.specs.Sizes.{signalNesting, depthOf}
+use Rattle.spec_language.specs.Sizes.{signalNesting, depthOf}
 
 -- no bytes spell a held suspend (02)
 unfoldable pub bytesOf : Statement → List ℕ

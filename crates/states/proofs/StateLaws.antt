@@ -5,10 +5,10 @@ use mathlib.Core.Bool.{cond}
 use lib.ListN.{length}
 use Rattle.limits.specs.Limits.{labelBytes}
 use Rattle.sets.specs.Sets.{none}
-use Rattle.esterel.specs.Statement.{Statement}
-use Rattle.esterel.specs.LabelTests.{valid}
-use Rattle.esterel.specs.Machines.{State}
-use Rattle.theory.proofs.LabelTests.{valid-is}
+use Rattle.spec_language.specs.Statement.{Statement}
+use Rattle.spec_language.specs.LabelTests.{valid}
+use Rattle.spec_language.specs.Machines.{State}
+use Rattle.theory_language.proofs.LabelTests.{valid-is}
 use Rattle.numbers.specs.Bytes.{leBytes, leNumber}
 use Rattle.numbers.proofs.Bytes.{length-leBytes, le-round-trip}
 use Rattle.states.specs.StateRecord.{stateLength, stateRecord, encodeState, holds, malformed, decodeState, Recorded}

@@ -1,8 +1,8 @@
 -- The theorems of this crate: a state that was written is what is read, and the length of its record.
 use mathlib.Core.Path.{_≡_}
 use lib.ListN.{length}
-use Rattle.esterel.specs.Statement.{Statement}
-use Rattle.esterel.specs.Machines.{State}
+use Rattle.spec_language.specs.Statement.{Statement}
+use Rattle.spec_language.specs.Machines.{State}
 use Rattle.states.specs.StateRecord.{stateLength, encodeState, holds, decodeState, Recorded}
 use Rattle.states.proofs.StateLaws as laws
 

@@ -6,10 +6,10 @@ use lib.ListN.{getD, take, drop}
 use lib.Dec.{eqb}
 use Rattle.limits.specs.Limits.{labelBytes}
 use Rattle.sets.specs.Sets.{none}
-use Rattle.esterel.specs.Statement.{Statement}
-use Rattle.esterel.specs.States.{Valid}
-use Rattle.esterel.specs.LabelTests.{valid}
-use Rattle.esterel.specs.Machines.{State}
+use Rattle.spec_language.specs.Statement.{Statement}
+use Rattle.spec_language.specs.States.{Valid}
+use Rattle.spec_language.specs.LabelTests.{valid}
+use Rattle.spec_language.specs.Machines.{State}
 use Rattle.numbers.specs.Bytes.{leBytes, leNumber}
 
 -- where the label set begins, and the length

@@ -6,7 +6,7 @@ use mathlib.Core.Bool.{cond}
 use mathlib.Core.List.{List, [], _∷_}
 use lib.ListN.{length}
 use lib.Dec.{eqb}
-use Rattle.esterel.specs.Machines.{Phase, fresh, waits, over, Seen, instant, refused, Rewriting, byRewriting}
+use Rattle.spec_language.specs.Machines.{Phase, fresh, waits, over, Seen, instant, refused, Rewriting, byRewriting}
 use Rattle.answers.specs.AnswerRecord.{answerLength, codeByte}
 
 -- a tick of a list: its input and its answer buffer

@@ -5,11 +5,11 @@ use mathlib.Core.Bool.{_&&_, cond}
 use mathlib.Core.List.{List}
 use lib.ListN.{length}
 use lib.Dec.{eqb}
-use Rattle.esterel.specs.Statement.{Statement}
-use Rattle.esterel.specs.Reaction.{Order, inheritanceFirst}
-use Rattle.esterel.specs.Expansion.{expand}
-use Rattle.esterel.specs.Instants.{Instant, instant, startBy}
-use Rattle.esterel.specs.Machines.{State, stateAfter}
+use Rattle.spec_language.specs.Statement.{Statement}
+use Rattle.spec_language.specs.Reaction.{Order, inheritanceFirst}
+use Rattle.spec_language.specs.Expansion.{expand}
+use Rattle.spec_language.specs.Instants.{Instant, instant, startBy}
+use Rattle.spec_language.specs.Machines.{State, stateAfter}
 use Rattle.sequence.specs.Program.{program}
 use Rattle.sequence.specs.Check.{Checked, sound, bad, checked}
 use Rattle.states.specs.StateRecord.{stateLength, Decoded, holds, malformed, encodeState, decodeState}

@@ -5,8 +5,8 @@ use mathlib.Core.Logic.{_≢_, _⊎_}
 use mathlib.Core.List.{List}
 use lib.ListN.{length}
 use Rattle.sets.specs.Sets.{none}
-use Rattle.esterel.specs.Statement.{Statement}
-use Rattle.esterel.specs.States.{Valid}
+use Rattle.spec_language.specs.Statement.{Statement}
+use Rattle.spec_language.specs.States.{Valid}
 use Rattle.sequence.specs.Rows.{Spells, Row}
 use Rattle.states.specs.StateRecord.{stateLength, phaseIn, labelsIn}
 use Rattle.answers.specs.AnswerRecord.{answerLength}

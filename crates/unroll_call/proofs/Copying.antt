@@ -9,7 +9,7 @@ use lib.ListN.{length, getD, drop, length-drop, length-append}
 use lib.Seq.{getD-drop, drop-drop}
 use Rattle.limits.specs.Limits.{maxBytes}
 use Rattle.numbers.specs.Bytes.{leBytes}
-use Rattle.esterel.specs.Statement.{Statement, nothing}
+use Rattle.spec_language.specs.Statement.{Statement, nothing}
 use Rattle.sequence.specs.Commands.{Command, commandOf, operandCount, partCount, operandsOf, litresFit, headLength, bytesAt, build}
 use Rattle.sequence.specs.Amounts.{amountIn, amountBytes}
 use Rattle.sequence.specs.Writer.{bytesOf, size}

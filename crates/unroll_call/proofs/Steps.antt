@@ -4,11 +4,11 @@ use mathlib.Core.Path.{_≡_, sym, subst}
 use mathlib.Core.List.{List, _++_}
 use native.Mathlib.Omega.{arith}
 use lib.ListN.{length, getD, length-append}
-use Rattle.esterel.specs.Statement.{local, litres, Statement, nothing, pause, emit, exit, seq, par, loop, present, signal, try, setpause, suspend, held}
+use Rattle.spec_language.specs.Statement.{local, litres, Statement, nothing, pause, emit, exit, seq, par, loop, present, signal, try, setpause, suspend, held}
 use Rattle.numbers.specs.Bytes.{leBytes}
 use Rattle.sequence.specs.Commands.{Command, partCount, headLength}
 use Rattle.sequence.specs.Writer.{bytesOf, size}
-use Rattle.esterel.specs.Sizes.{depthOf}
+use Rattle.spec_language.specs.Sizes.{depthOf}
 use Rattle.sequence.proofs.Table.{byteOf}
 use Rattle.layout.specs.Layout.{rest, Parts, Lies, Ready, Pair}
 use Rattle.layout.proofs.Laid.{ready, taken-apart, begins, command}

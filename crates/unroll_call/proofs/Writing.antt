@@ -5,14 +5,14 @@ use mathlib.Core.Bool.{true}
 use mathlib.Core.List.{List, [], _∷_, _++_}
 use native.Mathlib.Omega.{arith}
 use lib.ListN.{length, getD}
-use Rattle.esterel.specs.Statement.{Statement, nothing, pause, emit, exit, seq, par, loop, present, signal, try, setpause, suspend}
+use Rattle.spec_language.specs.Statement.{Statement, nothing, pause, emit, exit, seq, par, loop, present, signal, try, setpause, suspend}
 use Rattle.sequence.specs.Commands.{Command, operandsOf, partCount, litresFit, headLength, build, bytesAt}
 use Rattle.sequence.specs.Amounts.{amountIn, amountBytes}
 use Rattle.sequence.specs.Writer.{bytesOf}
 use Rattle.sequence.proofs.Amounts.{amount-read}
 use Rattle.sequence.proofs.Table.{byteOf}
 use Rattle.layout.specs.Layout.{rest, secondAt, Parts, Two, Lies, Ready, Pair}
-use Rattle.esterel.specs.Ranks.{middle}
+use Rattle.theory_language.specs.Ranks.{middle}
 use Rattle.layout.proofs.Laid.{ready, taken-apart, begins, command, first-ready, second-ready}
 use Rattle.unrolled.specs.Unrolled.{copied, unrolled}
 use Rattle.unroll_call.specs.Putting.{Put, Room}

@@ -3,10 +3,10 @@
 use Prim.Native.Nat.{ℕ, _+_, _≤_, min, max}
 use mathlib.Core.Path.{_≡_}
 use mathlib.Core.List.{List}
-use Rattle.esterel.specs.Statement.{Statement}
+use Rattle.spec_language.specs.Statement.{Statement}
 use Rattle.limits.specs.Limits.{maxBytes, maxDepth}
 use Rattle.sequence.specs.Writer.{size}
-use Rattle.esterel.specs.Sizes.{depthOf}
+use Rattle.spec_language.specs.Sizes.{depthOf}
 use Rattle.layout.specs.Layout.{Two, Lies}
 use Rattle.unrolled.specs.Unrolled.{copied, unrolled}
 use Rattle.unroll_call.specs.declared.sizes.Sizes.{Sizes}

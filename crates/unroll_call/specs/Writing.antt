@@ -2,7 +2,7 @@
 use Prim.Native.Nat.{ℕ}
 use mathlib.Core.List.{List, _∷_, _++_}
 use lib.ListN.{length}
-use Rattle.esterel.specs.Statement.{Statement}
+use Rattle.spec_language.specs.Statement.{Statement}
 use Rattle.layout.specs.Layout.{Two, Lies, Ready, Pair}
 use Rattle.sequence.specs.Writer.{bytesOf}
 use Rattle.unrolled.specs.Unrolled.{copied, unrolled}

@@ -6,10 +6,10 @@ use lib.ListN.{length, drop}
 use lib.Dec.{eqb, leb}
 use Rattle.limits.specs.Limits.{maxBytes, maxDepth}
 use Rattle.sets.specs.Sets.{empty}
-use Rattle.esterel.specs.Statement.{Statement}
-use Rattle.esterel.specs.LabelTests.{setpauses}
+use Rattle.spec_language.specs.Statement.{Statement}
+use Rattle.spec_language.specs.LabelTests.{setpauses}
 use Rattle.sequence.specs.Writer.{bytesOf, size}
-use Rattle.esterel.specs.Sizes.{depthOf}
+use Rattle.spec_language.specs.Sizes.{depthOf}
 use Rattle.sequence.specs.Check.{Checked, sound, bad, checked}
 use Rattle.unrolled.specs.Unrolled.{unrolled}
 

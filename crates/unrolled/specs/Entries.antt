@@ -6,13 +6,13 @@ use mathlib.Core.Path.{_≡_}
 use mathlib.Core.Bool.{Bool, true, false, _&&_, cond}
 use mathlib.Core.List.{[], _∷_}
 use Rattle.sets.specs.Sets.{member, insert, remove}
-use Rattle.esterel.specs.Statement.{Statement, nothing, pause, emit, exit, seq, par, loop, present, signal, try, setpause, suspend, held}
-use Rattle.esterel.specs.Places.{Part, first, second, PartOf, Place}
-use Rattle.esterel.specs.Reaction.{code, Case, both, neither, only−, only+, inherited, inheritanceFirst, caseOf, react}
-use Rattle.esterel.specs.Errors.{ifEnded}
-use Rattle.esterel.specs.States.{active}
-use Rattle.esterel.specs.Expansion.{expand}
-use Rattle.esterel.specs.Machines.{State}
+use Rattle.spec_language.specs.Statement.{Statement, nothing, pause, emit, exit, seq, par, loop, present, signal, try, setpause, suspend, held}
+use Rattle.spec_language.specs.Places.{Part, first, second, PartOf, Place}
+use Rattle.spec_language.specs.Reaction.{code, Case, both, neither, only−, only+, inherited, inheritanceFirst, caseOf, react}
+use Rattle.spec_language.specs.Errors.{ifEnded}
+use Rattle.spec_language.specs.States.{active}
+use Rattle.spec_language.specs.Expansion.{expand}
+use Rattle.spec_language.specs.Machines.{State}
 
 -- ---- marks on the commands of a statement, by their places
 abbrev pub Marks : Type 0

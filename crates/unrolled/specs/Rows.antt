@@ -3,11 +3,11 @@ use Prim.Native.Nat.{ℕ, _≤_, _<_}
 use mathlib.Core.Logic.{_⊎_, _≢_}
 use mathlib.Core.List.{List}
 use lib.ListN.{length}
-use Rattle.esterel.specs.Statement.{Statement}
-use Rattle.esterel.specs.States.{NoSetpause}
+use Rattle.spec_language.specs.Statement.{Statement}
+use Rattle.spec_language.specs.States.{NoSetpause}
 use Rattle.limits.specs.Limits.{maxBytes, maxDepth}
 use Rattle.sequence.specs.Writer.{size}
-use Rattle.esterel.specs.Sizes.{depthOf}
+use Rattle.spec_language.specs.Sizes.{depthOf}
 use Rattle.sequence.specs.Rows.{Spells, Row}
 use Rattle.unrolled.specs.Unrolled.{unrolled}
 

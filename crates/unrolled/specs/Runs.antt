@@ -5,9 +5,9 @@ use mathlib.Core.Path.{_≡_}
 use mathlib.Core.Bool.{Bool, false, cond}
 use mathlib.Core.List.{List, [], _∷_, map}
 use lib.Dec.{eqb}
-use Rattle.esterel.specs.Reaction.{Code, isWrong}
-use Rattle.esterel.specs.Statement.{Statement}
-use Rattle.esterel.specs.Machines.{Seen, instant, State, byLabels, addsByLabels}
+use Rattle.spec_language.specs.Reaction.{Code, isWrong}
+use Rattle.spec_language.specs.Statement.{Statement}
+use Rattle.spec_language.specs.Machines.{Seen, instant, State, byLabels, addsByLabels}
 use Rattle.answers.specs.AnswerRecord.{codeIn}
 use Rattle.tick.specs.Tick.{Outcome, outcome, tickOf}
 use Rattle.tick.specs.Paper.{Call}

@@ -1,7 +1,7 @@
 -- Loops written out (02, item 13; 002, section 5): 'each loop p becomes a loop over a copy of the original p followed by p worked
 -- through; in the copy, pauses become setpauses and loops become their bodies'.
 use Prim.Native.Nat.{ℕ, _+_}
-use Rattle.esterel.specs.Statement.{Statement, nothing, pause, emit, exit, seq, par, loop, present, signal, try, setpause, suspend, held}
+use Rattle.spec_language.specs.Statement.{Statement, nothing, pause, emit, exit, seq, par, loop, present, signal, try, setpause, suspend, held}
 use Rattle.sequence.specs.Writer.{size}
 
 -- the copy

@@ -8,17 +8,17 @@ use lib.ListN.{length, replicate}
 use lib.Dec.{eqb}
 use lib.Ieee.{toBits, ofInt}
 use Rattle.sets.specs.Sets.{member, none, only, join, insert, remove, subset, disjoint, membersFrom}
-use Rattle.esterel.specs.Statement.{local, pure, litres, Statement, nothing, pause, emit, exit, seq, par, loop, present, signal, try, setpause, suspend}
-use Rattle.esterel.specs.Places.{first, second}
-use Rattle.esterel.specs.Reaction.{waiting, wrong, code, reactBy, react}
-use Rattle.esterel.specs.Errors.{errorsBy}
-use Rattle.esterel.specs.Reactions.{reactionsBy}
-use Rattle.esterel.specs.States.{active}
-use Rattle.esterel.specs.LabelTests.{labelsOf, activeLabels, everyLabel, distinct, before, wellFormed}
-use Rattle.esterel.specs.Sizes.{signalNesting, depthOf}
-use Rattle.esterel.specs.ReadBack.{declaredBy}
-use Rattle.esterel.specs.Expansion.{expand}
-use Rattle.esterel.specs.Machines.{State}
+use Rattle.spec_language.specs.Statement.{local, pure, litres, Statement, nothing, pause, emit, exit, seq, par, loop, present, signal, try, setpause, suspend}
+use Rattle.spec_language.specs.Places.{first, second}
+use Rattle.spec_language.specs.Reaction.{waiting, wrong, code, reactBy, react}
+use Rattle.spec_language.specs.Errors.{errorsBy}
+use Rattle.spec_language.specs.Reactions.{reactionsBy}
+use Rattle.spec_language.specs.States.{active}
+use Rattle.spec_language.specs.LabelTests.{labelsOf, activeLabels, everyLabel, distinct, before, wellFormed}
+use Rattle.spec_language.specs.Sizes.{signalNesting, depthOf}
+use Rattle.spec_language.specs.ReadBack.{declaredBy}
+use Rattle.spec_language.specs.Expansion.{expand}
+use Rattle.spec_language.specs.Machines.{State}
 use Rattle.numbers.specs.Bytes.{leBytes, leNumber}
 use Rattle.sequence.specs.Commands.{commandOf}
 use Rattle.sequence.specs.Reader.{front, read}

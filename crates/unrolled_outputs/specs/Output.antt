@@ -6,9 +6,9 @@ use mathlib.Core.Bool.{cond}
 use mathlib.Core.List.{List, [], _∷_, _++_}
 use lib.ListN.{take, drop, replicate}
 use Rattle.sets.specs.Sets.{member, none, only, join, subset, disjoint, membersFrom}
-use Rattle.esterel.specs.LabelTests.{labelsOf, everyLabel, distinct, before, wellFormed}
-use Rattle.esterel.specs.Sizes.{signalNesting, depthOf}
-use Rattle.esterel.specs.ReadBack.{declaredBy}
+use Rattle.spec_language.specs.LabelTests.{labelsOf, everyLabel, distinct, before, wellFormed}
+use Rattle.spec_language.specs.Sizes.{signalNesting, depthOf}
+use Rattle.spec_language.specs.ReadBack.{declaredBy}
 use Rattle.sequence.specs.Commands.{commandOf}
 use Rattle.sequence.specs.Reader.{front, read}
 use Rattle.sequence.specs.Writer.{bytesOf}

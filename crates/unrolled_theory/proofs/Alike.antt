@@ -6,13 +6,13 @@ use native.Mathlib.Omega.{arith}
 use lib.Dec.{eqb}
 use Rattle.sets.specs.Sets.{member, none, only, join, insert, remove}
 use Rattle.sets.proofs.Algebra.{join-none-l}
-use Rattle.esterel.specs.Statement.{Scope, Statement, nothing, pause, emit, exit, seq, par, loop, present, signal, try, setpause, suspend, held}
-use Rattle.esterel.specs.Reaction.{Code, ended, waiting, leaving, wrong, isWrong, greater, ifWaiting, side, remains, Reaction, gives, code, inSeq, inPar, inLoop, inTry, inSuspend, outside, Case, both, neither, only−, only+, inherited, inheritanceFirst, firstFit, caseOf, answer, inSignal, reactBy, react}
-use Rattle.esterel.specs.Errors.{ifEnded}
-use Rattle.esterel.specs.States.{active}
-use Rattle.esterel.specs.Expansion.{expand}
-use Rattle.esterel.specs.LabelTests.{labelsOf, pauses, activeLabels}
-use Rattle.esterel.specs.Litres.{brought, chosen, passing, deliveredBy, delivered}
+use Rattle.spec_language.specs.Statement.{Scope, Statement, nothing, pause, emit, exit, seq, par, loop, present, signal, try, setpause, suspend, held}
+use Rattle.spec_language.specs.Reaction.{Code, ended, waiting, leaving, wrong, isWrong, greater, ifWaiting, side, remains, Reaction, gives, code, inSeq, inPar, inLoop, inTry, inSuspend, outside, Case, both, neither, only−, only+, inherited, inheritanceFirst, firstFit, caseOf, answer, inSignal, reactBy, react}
+use Rattle.spec_language.specs.Errors.{ifEnded}
+use Rattle.spec_language.specs.States.{active}
+use Rattle.spec_language.specs.Expansion.{expand}
+use Rattle.spec_language.specs.LabelTests.{labelsOf, pauses, activeLabels}
+use Rattle.spec_language.specs.Litres.{brought, chosen, passing, deliveredBy, delivered}
 use Rattle.unrolled_theory.proofs.Forms.{Forms}
 
 -- ---- the invariant: two reactions and the litres of a farm in each are the same but for the residual, or the first is wrong

@@ -2,8 +2,8 @@
 use Prim.Native.Nat.{ℕ, _+_}
 use mathlib.Core.Bool.{Bool, true, false}
 use mathlib.Core.List.{List, [], _∷_}
-use Rattle.esterel.specs.Statement.{Scope, Value, Statement}
-use Rattle.esterel.specs.ReadBack.{declaredBy, declared}
+use Rattle.spec_language.specs.Statement.{Scope, Value, Statement}
+use Rattle.spec_language.specs.ReadBack.{declaredBy, declared}
 use Rattle.sequence.specs.Writer.{size}
 use Rattle.unrolled.specs.Unrolled.{copied, unrolled, placed}
 

@@ -9,12 +9,12 @@ use Rattle.sets.proofs.Booleans.{same-test}
 use Rattle.sets.proofs.Members.{in-r, in-join}
 use Rattle.sets.proofs.Algebra.{join-none-l, join-self}
 use Rattle.sets.proofs.Tests.{none-disjoint}
-use Rattle.esterel.specs.Statement.{Statement, pause, setpause}
-use Rattle.esterel.specs.Sizes.{signalNesting}
-use Rattle.esterel.specs.States.{Holds, Valid, Distinct, Targeted, NoSetpause, WellFormed}
-use Rattle.esterel.specs.LabelTests.{labelsOf, pauses, setpauses, triggers, distinct, targeted, ifMember, before, exclusiveWith, concurrentWith, exclusive, wellFormed, valid}
-use Rattle.theory.proofs.LabelSets.{triggers-are}
-use Rattle.theory.proofs.LabelTests.{pauses-is, setpauses-is, targeted-is, distinct-is, exclusive-is, Unmixed, unmixed-is, wellFormed-is, noSetpause-formed, valid-is}
+use Rattle.spec_language.specs.Statement.{Statement, pause, setpause}
+use Rattle.spec_language.specs.Sizes.{signalNesting}
+use Rattle.spec_language.specs.States.{Holds, Valid, Distinct, Targeted, NoSetpause, WellFormed}
+use Rattle.spec_language.specs.LabelTests.{labelsOf, pauses, setpauses, triggers, distinct, targeted, ifMember, before, exclusiveWith, concurrentWith, exclusive, wellFormed, valid}
+use Rattle.theory_language.proofs.LabelSets.{triggers-are}
+use Rattle.theory_language.proofs.LabelTests.{pauses-is, setpauses-is, targeted-is, distinct-is, exclusive-is, Unmixed, unmixed-is, wellFormed-is, noSetpause-formed, valid-is}
 use Rattle.unrolled_theory.proofs.Forms.{Forms}
 use Rattle.unrolled_theory.proofs.Alike.{copy-pauses, pauses-same}
 

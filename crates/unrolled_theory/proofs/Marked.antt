@@ -6,11 +6,11 @@ use mathlib.Core.Bool.{Bool, true, false, _&&_, cond}
 use mathlib.Core.List.{[], _∷_}
 use native.Mathlib.Omega.{arith}
 use Rattle.sets.specs.Sets.{insert, remove}
-use Rattle.esterel.specs.Statement.{Scope, Statement, nothing, pause, emit, exit, seq, par, loop, present, signal, try, setpause, suspend, held}
-use Rattle.esterel.specs.Places.{Part, second, PartOf, seq₁, seq₂, par₁, par₂, loop₁, present₁, present₂, signal₁, try₁, suspend₁, Place}
-use Rattle.esterel.specs.Reactions.{reactionsBy, reactions}
-use Rattle.esterel.specs.States.{active}
-use Rattle.esterel.specs.Expansion.{expand}
+use Rattle.spec_language.specs.Statement.{Scope, Statement, nothing, pause, emit, exit, seq, par, loop, present, signal, try, setpause, suspend, held}
+use Rattle.spec_language.specs.Places.{Part, second, PartOf, seq₁, seq₂, par₁, par₂, loop₁, present₁, present₂, signal₁, try₁, suspend₁, Place}
+use Rattle.spec_language.specs.Reactions.{reactionsBy, reactions}
+use Rattle.spec_language.specs.States.{active}
+use Rattle.spec_language.specs.Expansion.{expand}
 use Rattle.unrolled.specs.Entries.{Marks, nowhere, everywhere, marks, own, inFirst, inSecond, chosen, chosenRun, anyRun, bothRuns, OneRun, reacting, carried, Stands, Origin}
 
 pub all-reactions : (p : Statement) (e : ℕ) → reacting bothRuns p e everywhere ≡ reactions p e

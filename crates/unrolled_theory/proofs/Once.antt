@@ -6,13 +6,13 @@ use mathlib.Core.List.{[], _∷_}
 use native.Mathlib.Omega.{arith}
 use Rattle.sets.specs.Sets.{member, insert, remove}
 use Rattle.sets.proofs.Booleans.{clash}
-use Rattle.esterel.specs.Statement.{Scope, Statement, nothing, pause, emit, exit, seq, par, loop, present, signal, try, setpause, suspend, held}
-use Rattle.esterel.specs.Places.{first, second, Place}
-use Rattle.esterel.specs.Reaction.{Code, ended, waiting, leaving, wrong, isWrong, greater, Reaction, gives, emitted, code, inSeq, inPar, inLoop, inTry, inSuspend, stopped, inheritanceFirst, firstFit, answer, inSignal, reactBy, react}
-use Rattle.esterel.specs.Errors.{ifEnded}
-use Rattle.esterel.specs.States.{active}
-use Rattle.esterel.specs.Expansion.{expand, ifActive}
-use Rattle.esterel.specs.LabelTests.{activeLabels}
+use Rattle.spec_language.specs.Statement.{Scope, Statement, nothing, pause, emit, exit, seq, par, loop, present, signal, try, setpause, suspend, held}
+use Rattle.spec_language.specs.Places.{first, second, Place}
+use Rattle.spec_language.specs.Reaction.{Code, ended, waiting, leaving, wrong, isWrong, greater, Reaction, gives, emitted, code, inSeq, inPar, inLoop, inTry, inSuspend, stopped, inheritanceFirst, firstFit, answer, inSignal, reactBy, react}
+use Rattle.spec_language.specs.Errors.{ifEnded}
+use Rattle.spec_language.specs.States.{active}
+use Rattle.spec_language.specs.Expansion.{expand, ifActive}
+use Rattle.spec_language.specs.LabelTests.{activeLabels}
 use Rattle.unrolled.specs.Entries.{Marks, nowhere, marks, own, inFirst, inSecond, at, Counting, OneRun, one, reacting, carried, resuming}
 use Rattle.unrolled_theory.proofs.Forms.{Forms}
 use Rattle.unrolled_theory.proofs.Alike.{Alike, RunsAlike, copy-follows, copy-inactive}

@@ -6,14 +6,14 @@ use mathlib.Core.Path.{_≡_, refl, ap, subst}
 use mathlib.Core.List.{List, [], _∷_}
 use lib.ListN.{replicate}
 use Rattle.sets.specs.Sets.{member, none, only, join, insert, remove, subset, disjoint, membersFrom}
-use Rattle.esterel.specs.Statement.{local, pure, Statement, nothing, emit, exit, seq, loop, present, signal, try}
-use Rattle.esterel.specs.Reaction.{printed, reactBy}
-use Rattle.esterel.specs.Errors.{errorsBy}
-use Rattle.esterel.specs.Reactions.{reactionsBy}
-use Rattle.esterel.specs.States.{NoSetpause}
-use Rattle.esterel.specs.LabelTests.{labelsOf, everyLabel, distinct, before, wellFormed}
-use Rattle.esterel.specs.Sizes.{signalNesting, depthOf}
-use Rattle.esterel.specs.ReadBack.{declaredBy}
+use Rattle.spec_language.specs.Statement.{local, pure, Statement, nothing, emit, exit, seq, loop, present, signal, try}
+use Rattle.spec_language.specs.Reaction.{printed, reactBy}
+use Rattle.spec_language.specs.Errors.{errorsBy}
+use Rattle.spec_language.specs.Reactions.{reactionsBy}
+use Rattle.spec_language.specs.States.{NoSetpause}
+use Rattle.spec_language.specs.LabelTests.{labelsOf, everyLabel, distinct, before, wellFormed}
+use Rattle.spec_language.specs.Sizes.{signalNesting, depthOf}
+use Rattle.spec_language.specs.ReadBack.{declaredBy}
 use Rattle.sequence.specs.Commands.{commandOf}
 use Rattle.sequence.specs.Reader.{front, read}
 use Rattle.sequence.specs.Writer.{bytesOf}

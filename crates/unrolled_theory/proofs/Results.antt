@@ -7,8 +7,8 @@ use mathlib.Core.Bool.{false}
 use mathlib.Core.List.{List, _++_}
 use lib.ListN.{length, take, drop}
 use lib.Seq.{take-at, drop-at}
-use Rattle.esterel.specs.Statement.{Statement}
-use Rattle.esterel.specs.Machines.{State, byLabels}
+use Rattle.spec_language.specs.Statement.{Statement}
+use Rattle.spec_language.specs.Machines.{State, byLabels}
 use Rattle.limits.specs.Limits.{readBackPlace}
 use Rattle.sequence.specs.Writer.{bytesOf, size}
 use Rattle.sequence.specs.Program.{readBackSignals, program}

@@ -6,11 +6,11 @@ use mathlib.Core.Bool.{true, false, false≢true}
 use mathlib.Core.List.{[], _∷_}
 use native.Mathlib.Omega.{arith}
 use Rattle.sets.proofs.Booleans.{never}
-use Rattle.esterel.specs.Statement.{Statement, nothing, pause, emit, exit, seq, par, loop, present, signal, try, setpause, suspend, held}
-use Rattle.esterel.specs.Places.{Part, first, second, PartOf, seq₁, seq₂, par₁, par₂, loop₁, present₁, present₂, signal₁, try₁, suspend₁, Place, At, Alternative, Exclusive}
-use Rattle.esterel.specs.States.{active}
-use Rattle.theory.proofs.Activity.{active-is, active-part}
-use Rattle.theory.proofs.Places.{Together, together-part}
+use Rattle.spec_language.specs.Statement.{Statement, nothing, pause, emit, exit, seq, par, loop, present, signal, try, setpause, suspend, held}
+use Rattle.spec_language.specs.Places.{Part, first, second, PartOf, seq₁, seq₂, par₁, par₂, loop₁, present₁, present₂, signal₁, try₁, suspend₁, Place, At, Alternative, Exclusive}
+use Rattle.spec_language.specs.States.{active}
+use Rattle.theory_language.proofs.Activity.{active-is, active-part}
+use Rattle.theory_language.proofs.Places.{Together, together-part}
 use Rattle.unrolled.specs.Entries.{at, resuming, AtLoop}
 
 active-at : {y : Statement} {a : Place} {p : Statement} (L : ℕ) → At y a p → active y L ≡ true → active p L ≡ true

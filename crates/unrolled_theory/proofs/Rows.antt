@@ -13,12 +13,12 @@ use Rattle.sets.specs.Sets.{member, none, empty}
 use Rattle.sets.proofs.Booleans.{clash, Tested, tested}
 use Rattle.sets.proofs.Members.{in-none}
 use Rattle.sets.proofs.Lowest.{some-member}
-use Rattle.esterel.specs.Statement.{Statement}
-use Rattle.esterel.specs.States.{NoSetpause}
-use Rattle.esterel.specs.LabelTests.{setpauses}
-use Rattle.theory.proofs.LabelTests.{setpauses-is}
+use Rattle.spec_language.specs.Statement.{Statement}
+use Rattle.spec_language.specs.States.{NoSetpause}
+use Rattle.spec_language.specs.LabelTests.{setpauses}
+use Rattle.theory_language.proofs.LabelTests.{setpauses-is}
 use Rattle.sequence.specs.Writer.{bytesOf, size}
-use Rattle.esterel.specs.Sizes.{depthOf}
+use Rattle.spec_language.specs.Sizes.{depthOf}
 use Rattle.sequence.specs.Check.{Checked, sound, bad, checked}
 use Rattle.sequence.specs.Rows.{rank, ByRows}
 use Rattle.sequence.proofs.ByRows.{rank-least, refused-by, accepted-by}

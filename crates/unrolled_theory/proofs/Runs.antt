@@ -7,15 +7,15 @@ use mathlib.Core.Bool.{Bool, true, false, cond}
 use mathlib.Core.Option.{Option}
 use mathlib.Core.List.{List, [], _∷_}
 use Rattle.sets.proofs.Booleans.{clash, Tested, tested}
-use Rattle.esterel.specs.Statement.{Statement}
-use Rattle.esterel.specs.Reaction.{Code, ended, waiting, leaving, wrong, Reaction, react, isWrong, code, gives}
-use Rattle.esterel.specs.Errors.{Error, firstError}
-use Rattle.esterel.specs.Reactions.{reactions}
-use Rattle.esterel.specs.Places.{Place, At}
-use Rattle.esterel.specs.States.{active}
-use Rattle.esterel.specs.Expansion.{expand}
-use Rattle.esterel.specs.Machines.{Seen, instant, seen, State, stateAfter, byLabels, addsByLabels}
-use Rattle.theory.proofs.Places.{Together}
+use Rattle.spec_language.specs.Statement.{Statement}
+use Rattle.spec_language.specs.Reaction.{Code, ended, waiting, leaving, wrong, Reaction, react, isWrong, code, gives}
+use Rattle.spec_language.specs.Errors.{Error, firstError}
+use Rattle.spec_language.specs.Reactions.{reactions}
+use Rattle.spec_language.specs.Places.{Place, At}
+use Rattle.spec_language.specs.States.{active}
+use Rattle.spec_language.specs.Expansion.{expand}
+use Rattle.spec_language.specs.Machines.{Seen, instant, seen, State, stateAfter, byLabels, addsByLabels}
+use Rattle.theory_language.proofs.Places.{Together}
 use Rattle.unrolled.specs.Runs.{Told, told, turnedDown, tells, tellsAll, showsWrong, untilWrong, InEach}
 use Rattle.unrolled.specs.Entries.{at, Counting, OneRun, resuming, AtLoop, beginsAt, AtMostOnce}
 use Rattle.unrolled_theory.proofs.Forms.{Forms}

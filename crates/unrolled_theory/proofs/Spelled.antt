@@ -6,10 +6,10 @@ use mathlib.Core.Bool.{Bool, true, false}
 use mathlib.Core.List.{List}
 use lib.ListN.{length}
 use borrow.Author.Tests.{le-leb, le-ltb}
-use Rattle.esterel.specs.Statement.{pure, litres, Statement, nothing, pause, emit, exit, seq, par, loop, present, signal, try, setpause, suspend, held}
-use Rattle.esterel.specs.Sizes.{signalNesting, depthOf}
-use Rattle.esterel.specs.LabelTests.{distinct, targeted, wellFormed}
-use Rattle.theory.proofs.LabelTests.{distinct-is, targeted-is, wellFormed-is}
+use Rattle.spec_language.specs.Statement.{pure, litres, Statement, nothing, pause, emit, exit, seq, par, loop, present, signal, try, setpause, suspend, held}
+use Rattle.spec_language.specs.Sizes.{signalNesting, depthOf}
+use Rattle.spec_language.specs.LabelTests.{distinct, targeted, wellFormed}
+use Rattle.theory_language.proofs.LabelTests.{distinct-is, targeted-is, wellFormed-is}
 use Rattle.limits.specs.Limits.{maxBytes, maxDepth, maxSignals, readBackPlace}
 use Rattle.sequence.specs.Reader.{accepted, readAll}
 use Rattle.sequence.specs.Writer.{bytesOf, size, Ranged, Within, PlacedAt}

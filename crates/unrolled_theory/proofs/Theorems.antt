@@ -4,14 +4,14 @@ use mathlib.Core.Path.{_≡_}
 use mathlib.Core.Logic.{_≢_}
 use mathlib.Core.Bool.{Bool, true, false}
 use mathlib.Core.List.{List}
-use Rattle.esterel.specs.Statement.{Statement}
-use Rattle.esterel.specs.Places.{Place, At}
-use Rattle.esterel.specs.Reaction.{printed}
-use Rattle.esterel.specs.Reactions.{reactions}
-use Rattle.esterel.specs.Expansion.{expand}
-use Rattle.esterel.specs.Sizes.{signalNesting}
-use Rattle.esterel.specs.States.{active, Valid, Distinct, Targeted, NoSetpause, WellFormed}
-use Rattle.esterel.specs.Machines.{State, byLabels}
+use Rattle.spec_language.specs.Statement.{Statement}
+use Rattle.spec_language.specs.Places.{Place, At}
+use Rattle.spec_language.specs.Reaction.{printed}
+use Rattle.spec_language.specs.Reactions.{reactions}
+use Rattle.spec_language.specs.Expansion.{expand}
+use Rattle.spec_language.specs.Sizes.{signalNesting}
+use Rattle.spec_language.specs.States.{active, Valid, Distinct, Targeted, NoSetpause, WellFormed}
+use Rattle.spec_language.specs.Machines.{State, byLabels}
 use Rattle.limits.specs.Limits.{readBackPlace}
 use Rattle.sequence.specs.Writer.{bytesOf}
 use Rattle.sequence.specs.Program.{readBackSignals, program}

@@ -10,13 +10,13 @@ use borrow.Author.Tests.{eqb-true, eqb-false}
 use Rattle.limits.specs.Limits.{readBackPlace}
 use Rattle.sets.specs.Sets.{none}
 use Rattle.sets.proofs.Booleans.{clash, Tested, tested}
-use Rattle.esterel.specs.Statement.{Statement}
-use Rattle.esterel.specs.Reaction.{ended, waiting, leaving, wrong, isWrong, Reaction, code, react, inheritanceFirst}
-use Rattle.esterel.specs.Errors.{Error, firstError}
-use Rattle.esterel.specs.Reactions.{reactions}
-use Rattle.esterel.specs.Expansion.{expand}
-use Rattle.esterel.specs.Instants.{instant}
-use Rattle.esterel.specs.Machines.{State, stateAfter, addsByLabels}
+use Rattle.spec_language.specs.Statement.{Statement}
+use Rattle.spec_language.specs.Reaction.{ended, waiting, leaving, wrong, isWrong, Reaction, code, react, inheritanceFirst}
+use Rattle.spec_language.specs.Errors.{Error, firstError}
+use Rattle.spec_language.specs.Reactions.{reactions}
+use Rattle.spec_language.specs.Expansion.{expand}
+use Rattle.spec_language.specs.Instants.{instant}
+use Rattle.spec_language.specs.Machines.{State, stateAfter, addsByLabels}
 use Rattle.numbers.specs.Bytes.{leBytes}
 use Rattle.sequence.specs.Writer.{bytesOf}
 use Rattle.sequence.specs.Program.{readBackSignals, program}

@@ -13,12 +13,12 @@ use Rattle.sets.specs.Widths.{onlyBelow}
 use Rattle.sets.proofs.Booleans.{clash, Tested, tested}
 use Rattle.sets.proofs.Members.{member-join, member-high, member-only, member-remove, ext}
 use Rattle.sets.proofs.Algebra.{join-none-l, join-none-r, join-assoc}
-use Rattle.esterel.specs.Statement.{Statement}
-use Rattle.esterel.specs.LabelTests.{pauses, distinct}
-use Rattle.esterel.specs.Ranks.{pauseCount, mask}
-use Rattle.theory.proofs.LabelTests.{distinct-is}
-use Rattle.theory.proofs.Ranks.{mask-none, mask-join, mask-only, rank-lt}
-use Rattle.theory.proofs.Counts.{few-pauses}
+use Rattle.spec_language.specs.Statement.{Statement}
+use Rattle.spec_language.specs.LabelTests.{pauses, distinct}
+use Rattle.theory_language.specs.Ranks.{pauseCount, mask}
+use Rattle.theory_language.proofs.LabelTests.{distinct-is}
+use Rattle.theory_language.proofs.Ranks.{mask-none, mask-join, mask-only, rank-lt}
+use Rattle.theory_language.proofs.Counts.{few-pauses}
 use Rattle.layout.specs.Notes.{Noted, pausesIn, rankIn}
 use Rattle.validity.specs.Activity.{Ranked, Masked}
 

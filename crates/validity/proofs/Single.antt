@@ -13,9 +13,9 @@ use Rattle.sets.proofs.Members.{member-none, member-only, member-remove, ext}
 use Rattle.sets.proofs.Algebra.{remove-absent}
 use Rattle.sets.proofs.Halves.{below-all}
 use Rattle.sets.proofs.Widths.{none-lt}
-use Rattle.esterel.specs.Statement.{Statement, nothing, pause, emit, exit, seq, par, loop, present, signal, try, setpause, suspend, held}
-use Rattle.esterel.specs.LabelTests.{Joint, alternative, parallel}
-use Rattle.esterel.specs.Ranks.{middle, ofParts, compatible}
+use Rattle.spec_language.specs.Statement.{Statement, nothing, pause, emit, exit, seq, par, loop, present, signal, try, setpause, suspend, held}
+use Rattle.spec_language.specs.LabelTests.{Joint, alternative, parallel}
+use Rattle.theory_language.specs.Ranks.{middle, ofParts, compatible}
 
 -- ---- sets that no number divides in two
 data Whole (k m : ℕ) : Type 0 where

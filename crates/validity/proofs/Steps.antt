@@ -5,8 +5,8 @@ use mathlib.Core.Bool.{Bool, true, false, _&&_}
 use mathlib.Core.List.{List}
 use lib.ListN.{getD}
 use Rattle.sets.specs.Sets.{empty, below, from}
-use Rattle.esterel.specs.Statement.{local, Statement, seq, par, loop, present, signal, try, suspend}
-use Rattle.esterel.specs.Ranks.{middle, ofParts, compatible}
+use Rattle.spec_language.specs.Statement.{local, Statement, seq, par, loop, present, signal, try, suspend}
+use Rattle.theory_language.specs.Ranks.{middle, ofParts, compatible}
 use Rattle.sequence.specs.Commands.{Command}
 use Rattle.layout.specs.Layout.{rest, Two, Lies, Ready, Pair}
 use Rattle.sequence.proofs.Table.{byteOf}

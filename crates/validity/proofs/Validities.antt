@@ -6,10 +6,10 @@ use mathlib.Core.Logic.{_↔_}
 use lib.Dec.{eqb}
 use Rattle.sets.specs.Sets.{none, empty, Subset, subset}
 use Rattle.sets.proofs.Tests.{subset-by}
-use Rattle.esterel.specs.Statement.{Statement}
-use Rattle.esterel.specs.LabelTests.{pauses, valid}
-use Rattle.esterel.specs.Ranks.{mask, compatible}
-use Rattle.theory.proofs.Compatible.{valid-by}
+use Rattle.spec_language.specs.Statement.{Statement}
+use Rattle.spec_language.specs.LabelTests.{pauses, valid}
+use Rattle.theory_language.specs.Ranks.{mask, compatible}
+use Rattle.theory_language.proofs.Compatible.{valid-by}
 
 module _ (p : Statement) (L : ℕ) where
   pub none-invalid : {b : Bool} → b ≡ empty L → b ≡ true → valid p L ≡ false

@@ -5,9 +5,9 @@ use mathlib.Core.Bool.{true, false}
 use mathlib.Core.List.{List}
 use Rattle.limits.specs.Limits.{labelCount}
 use Rattle.sets.specs.Sets.{member, Subset}
-use Rattle.esterel.specs.Statement.{Statement}
-use Rattle.esterel.specs.LabelTests.{pauses, distinct, valid}
-use Rattle.esterel.specs.Ranks.{mask}
+use Rattle.spec_language.specs.Statement.{Statement}
+use Rattle.spec_language.specs.LabelTests.{pauses, distinct, valid}
+use Rattle.theory_language.specs.Ranks.{mask}
 use Rattle.labels.specs.Labels.{labelSet}
 use Rattle.layout.specs.Notes.{Noted, rankIn}
 use Rattle.layout.specs.Known.{Known}

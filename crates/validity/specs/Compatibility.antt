@@ -4,8 +4,8 @@ use mathlib.Core.Path.{_≡_}
 use mathlib.Core.Bool.{Bool}
 use mathlib.Core.List.{List}
 use Rattle.sets.specs.Sets.{empty, below, from}
-use Rattle.esterel.specs.Statement.{Statement}
-use Rattle.esterel.specs.Ranks.{middle, ofParts, compatible}
+use Rattle.spec_language.specs.Statement.{Statement}
+use Rattle.theory_language.specs.Ranks.{middle, ofParts, compatible}
 use Rattle.layout.specs.Layout.{Two, Lies}
 use Rattle.layout.specs.Joints.{jointOf}
 

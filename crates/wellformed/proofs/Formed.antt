@@ -6,10 +6,10 @@ use mathlib.Core.Logic.{_↔_}
 use mathlib.Core.List.{List}
 use Rattle.sets.specs.Sets.{member}
 use Rattle.sets.proofs.Booleans.{never}
-use Rattle.esterel.specs.Statement.{Statement}
-use Rattle.esterel.specs.LabelTests as Esterel
-use Rattle.esterel.specs.LabelTests.{pauses, targeted, exclusiveWith, concurrentWith, wellFormed}
-use Rattle.theory.proofs.LabelTests.{rivals-paused, aside-paused, unmixed-is}
+use Rattle.spec_language.specs.Statement.{Statement}
+use Rattle.spec_language.specs.LabelTests as Esterel
+use Rattle.spec_language.specs.LabelTests.{pauses, targeted, exclusiveWith, concurrentWith, wellFormed}
+use Rattle.theory_language.proofs.LabelTests.{rivals-paused, aside-paused, unmixed-is}
 use Rattle.wellformed.specs.Rows.{rowOf}
 use Rattle.wellformed.specs.Clashes.{RowsWithin, Clash, Clashes}
 use Rattle.wellformed.proofs.Clashes.{clashes-of-all}

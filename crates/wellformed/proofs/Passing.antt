@@ -9,10 +9,10 @@ use borrow.Author.Tests.{lt-ltb}
 use Rattle.limits.specs.Limits.{labelCount}
 use Rattle.sets.specs.Sets.{none, only, join}
 use Rattle.sets.specs.Widths.{onlyBelow}
-use Rattle.esterel.specs.Statement.{pure, litres, local, Statement, nothing, pause, emit, exit, seq, par, loop, present, signal, try, setpause, suspend}
-use Rattle.esterel.specs.LabelTests.{labelsOf, alternative, parallel}
-use Rattle.esterel.specs.LabelRows.{addRow, further, fill}
-use Rattle.esterel.specs.Ranks.{middle}
+use Rattle.spec_language.specs.Statement.{pure, litres, local, Statement, nothing, pause, emit, exit, seq, par, loop, present, signal, try, setpause, suspend}
+use Rattle.spec_language.specs.LabelTests.{labelsOf, alternative, parallel}
+use Rattle.theory_language.specs.LabelRows.{addRow, further, fill}
+use Rattle.theory_language.specs.Ranks.{middle}
 use Rattle.labels.specs.Labels.{labelSet}
 use Rattle.wellformed.specs.Rows.{rowOf, addRowBelow, Updates}
 use Rattle.numbers.specs.Bytes.{leBytes}

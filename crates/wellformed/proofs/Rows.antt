@@ -11,7 +11,7 @@ use Rattle.limits.specs.Limits.{wordLabels}
 use Rattle.sets.specs.Sets.{none, join}
 use Rattle.sets.specs.Widths.{setAt}
 use Rattle.sets.proofs.Words.{stored, stored-here, stored-elsewhere}
-use Rattle.esterel.specs.LabelRows.{addRow}
+use Rattle.theory_language.specs.LabelRows.{addRow}
 use Rattle.wellformed.specs.Rows.{rowBelow, addRowBelow, UpdatesBelow}
 
 pub row-here : (w k : ℕ) (m : List ℕ) → k < w → setAt (2 * k) m ≡ rowBelow w m k

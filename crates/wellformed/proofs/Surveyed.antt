@@ -13,10 +13,10 @@ use Rattle.sets.specs.Widths.{twoWords, setAt}
 use Rattle.sets.proofs.Booleans.{Tested, tested}
 use Rattle.sets.proofs.Algebra.{join-none-l}
 use Rattle.sets.proofs.Words.{words-none}
-use Rattle.esterel.specs.Statement.{Statement}
-use Rattle.esterel.specs.LabelTests.{labelsOf, Joint, before}
-use Rattle.esterel.specs.LabelRows.{fill}
-use Rattle.theory.proofs.LabelRows.{fill-is}
+use Rattle.spec_language.specs.Statement.{Statement}
+use Rattle.spec_language.specs.LabelTests.{labelsOf, Joint, before}
+use Rattle.theory_language.specs.LabelRows.{fill}
+use Rattle.theory_language.proofs.LabelRows.{fill-is}
 use Rattle.wellformed.specs.Rows.{rowBelow, rowOf, Updates}
 
 pub nothing-before : (x y : Bool) (j : Joint) (p : Statement) {s : ℕ} {m n : List ℕ} → s ≡ none → Updates (fill x y j p s) m n → Updates (fill x y j p none) m n

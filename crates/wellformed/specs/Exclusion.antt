@@ -3,8 +3,8 @@ use Prim.Native.Nat.{ℕ}
 use mathlib.Core.Path.{_≡_}
 use mathlib.Core.Bool.{Bool}
 use Rattle.sets.specs.Sets.{join}
-use Rattle.esterel.specs.LabelTests.{alternative, parallel}
-use Rattle.esterel.specs.LabelRows.{further}
+use Rattle.spec_language.specs.LabelTests.{alternative, parallel}
+use Rattle.theory_language.specs.LabelRows.{further}
 use Rattle.labels.specs.Labels.{labelSet}
 use Rattle.layout.specs.Joints.{jointOf}
 use Rattle.wellformed.specs.declared.exclusion.Before.{Before}

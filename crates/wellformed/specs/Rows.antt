@@ -8,7 +8,7 @@ use lib.Dec.{ltb}
 use Rattle.limits.specs.Limits.{labelCount}
 use Rattle.sets.specs.Sets.{none}
 use Rattle.sets.specs.Widths.{setAt}
-use Rattle.esterel.specs.LabelRows.{addRow}
+use Rattle.theory_language.specs.LabelRows.{addRow}
 
 -- the row of k, for labels below w: no other label has one
 unfoldable pub rowBelow : (w : ℕ) → List ℕ → ℕ → ℕ

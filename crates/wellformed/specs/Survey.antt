@@ -6,9 +6,9 @@ use mathlib.Core.Bool.{Bool, true, false}
 use mathlib.Core.List.{List}
 use Rattle.limits.specs.Limits.{maxDepth}
 use Rattle.sets.specs.Sets.{none, join}
-use Rattle.esterel.specs.Statement.{Statement}
-use Rattle.esterel.specs.LabelTests.{labelsOf, pauses, triggers, Joint, alternative, parallel}
-use Rattle.esterel.specs.LabelRows.{further, fill}
+use Rattle.spec_language.specs.Statement.{Statement}
+use Rattle.spec_language.specs.LabelTests.{labelsOf, pauses, triggers, Joint, alternative, parallel}
+use Rattle.theory_language.specs.LabelRows.{further, fill}
 use Rattle.labels.specs.Labels.{labelSet}
 use Rattle.wellformed.specs.Rows.{Updates}
 use Rattle.sequence.specs.Writer.{size}

@@ -1,5 +1,5 @@
 use mathlib.Core.Path.{refl}
-use Rattle.esterel.specs.Statement.{reported}
+use Rattle.spec_language.specs.Statement.{reported}
 use borrow.Author.Needs.{needs}
 use Rattle.declarations.proofs.in_read_back.Statement.{statement}
 use Rattle.declarations.proofs.in_read_back.Tie as tie

@@ -1,6 +1,6 @@
 use mathlib.Core.Path.{refl}
 use Rattle.limits.specs.Limits.{readBackPlace}
-use Rattle.esterel.specs.Statement.{reported}
+use Rattle.spec_language.specs.Statement.{reported}
 use borrow.Author.Needs.{needs}
 use Rattle.declarations.proofs.in_read_back_once.Statement.{statement}
 use Rattle.declarations.proofs.in_read_back_once.Tie as tie

@@ -1,4 +1,4 @@
-use Rattle.esterel.specs.Statement.{local}
+use Rattle.spec_language.specs.Statement.{local}
 use borrow.Author.Needs.{needs}
 use Rattle.declarations.proofs.in_signal.Statement.{statement}
 use Rattle.declarations.proofs.in_signal.Tie as tie

@@ -4,8 +4,8 @@ use lib.ListN.{getD}
 use borrow.Author.Needs.{needs}
 use borrow.Author.Tests.{eqb-true, ltb-true}
 use Rattle.limits.specs.Limits.{signalCount}
-use Rattle.esterel.specs.Statement.{local, seq, par, loop, present, signal, try, suspend}
-use Rattle.esterel.specs.Traced.{startTraced}
+use Rattle.spec_language.specs.Statement.{local, seq, par, loop, present, signal, try, suspend}
+use Rattle.theory_language.specs.Traced.{startTraced}
 use Rattle.sequence.specs.Commands.{Command}
 use Rattle.layout.proofs.Laid.{ready, taken-apart, begins, whole, whole-lies}
 use Rattle.react_leaves.proofs.Steps.{nothing-step}

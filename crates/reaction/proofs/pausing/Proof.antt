@@ -1,8 +1,8 @@
 use Prim.Native.Nat.{ℕ}
 use mathlib.Core.Path.{ap, _∙_}
 use Rattle.sets.specs.Sets.{none}
-use Rattle.esterel.specs.Statement.{nothing}
-use Rattle.esterel.specs.Reaction.{waiting, gives}
+use Rattle.spec_language.specs.Statement.{nothing}
+use Rattle.spec_language.specs.Reaction.{waiting, gives}
 use Rattle.reaction.specs.Reactions.{alone, reactionOf}
 use borrow.Author.Needs.{needs}
 use Rattle.reaction.proofs.pausing.Statement.{statement}

@@ -3,7 +3,7 @@ use native.Mathlib.Omega.{arith}
 use mathlib.Core.Path.{_≡_, subst}
 use lib.ListN.{length, drop}
 use borrow.Author.Needs.{needs}
-use Rattle.esterel.specs.Machines.{State}
+use Rattle.spec_language.specs.Machines.{State}
 use Rattle.checks.specs.Verdict.{Passed}
 use Rattle.states.specs.StateRecord.{encodeState}
 use Rattle.recordings.specs.Record.{recordLength}

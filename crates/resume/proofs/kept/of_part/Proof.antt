@@ -1,5 +1,5 @@
 use mathlib.Core.Path.{ap, _∙_}
-use Rattle.esterel.specs.Ranks.{labelsBy}
+use Rattle.theory_language.specs.Ranks.{labelsBy}
 use Rattle.resume.proofs.KeptSteps.{words-mask, from-none}
 use borrow.Author.Needs.{needs}
 use Rattle.resume.proofs.kept.of_part.Statement.{statement}

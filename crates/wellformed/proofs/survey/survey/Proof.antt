@@ -1,5 +1,5 @@
 use mathlib.Core.Bool.{true, false}
-use Rattle.esterel.specs.LabelTests.{alternative, parallel}
+use Rattle.spec_language.specs.LabelTests.{alternative, parallel}
 use Rattle.layout.proofs.Laid.{whole, whole-lies}
 use Rattle.wellformed.proofs.Surveyed.{nothing-before}
 use borrow.Author.Needs.{needs}

@@ -1,6 +1,6 @@
 use mathlib.Core.Path.{refl}
 use mathlib.Core.Bool.{true, false}
-use Rattle.esterel.specs.LabelTests.{alternative, parallel}
+use Rattle.spec_language.specs.LabelTests.{alternative, parallel}
 use Rattle.wellformed.proofs.Surveyed.{fresh-rows}
 use Rattle.wellformed.proofs.Formed.{formed-is}
 use borrow.Author.Needs.{needs}

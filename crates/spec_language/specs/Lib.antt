@@ -1,0 +1,17 @@
+pub mod Ceiling
+pub mod Errors
+pub mod Examples
+pub mod Expansion
+pub mod Instants
+pub mod LabelTests
+pub mod Litres
+pub mod Machines
+pub mod Places
+pub mod Reaction
+pub mod Reactions
+pub mod ReadBack
+pub mod Rules
+pub mod SignalOrders
+pub mod Sizes
+pub mod Statement
+pub mod States

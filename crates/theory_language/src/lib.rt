@@ -1,0 +1,2 @@
+// The theorems about kernel Pure Esterel, and the definitions that only they and the code go by: what a tree of reactions asks for, ranks
+// of active pauses, an instant from those of the parts, the farms that a statement names.
