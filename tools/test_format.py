@@ -61,8 +61,8 @@ def number(cell):
 
 
 def limits():
-    """The numbers of crates/limits/specs/Limits, by name."""
-    return {name: int(value) for name, value in re.findall(r"^(\w+) = (\d+)$", text_of("crates/limits/specs/Limits.antt"), re.M)}
+    """The numbers of crates/spec_base/specs/Limits, by name."""
+    return {name: int(value) for name, value in re.findall(r"^(\w+) = (\d+)$", text_of("crates/spec_base/specs/Limits.antt"), re.M)}
 
 
 def printed():

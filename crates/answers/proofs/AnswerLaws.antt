@@ -9,8 +9,8 @@ use Rattle.spec_language.specs.Reaction.{Code, ended, waiting, leaving, wrong, 
 use Rattle.spec_language.specs.Errors.{Error, noError, blame}
 use Rattle.spec_language.specs.Instants.{instant}
 use Rattle.spec_language.specs.Machines.{shown}
-use Rattle.limits.specs.Limits.{placeBytes, signalBytes, reactionsBytes}
-use Rattle.numbers.specs.Bytes.{leBytes}
+use Rattle.spec_base.specs.Limits.{placeBytes, signalBytes, reactionsBytes}
+use Rattle.spec_base.specs.Bytes.{leBytes}
 use Rattle.numbers.proofs.Bytes.{le-round-trip}
 use Rattle.answers.specs.AnswerRecord.{answerLength, codeByte, answerRecord, codeIn, kindIn, placeIn, emittedIn, reactionsIn, encodeAnswer}
 

@@ -5,8 +5,8 @@ use mathlib.Core.Path.{_≡_, sym, ap, _∙_}
 use mathlib.Core.List.{List, _∷_, _++_}
 use lib.ListN.{length}
 use lib.Seq.{sets}
-use Rattle.limits.specs.Limits.{placeBytes, signalBytes, reactionsBytes}
-use Rattle.numbers.specs.Bytes.{leBytes, replaced}
+use Rattle.spec_base.specs.Limits.{placeBytes, signalBytes, reactionsBytes}
+use Rattle.spec_base.specs.Bytes.{leBytes, replaced}
 use Rattle.numbers.proofs.Writing.{sets-whole, sets-append, replaced-by}
 use Rattle.answers.specs.AnswerRecord.{answerLength, emittedAt, reactionsAt, answerRecord}
 use Rattle.answers.proofs.AnswerLaws.{answer-sized}

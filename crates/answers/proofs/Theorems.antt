@@ -8,7 +8,7 @@ use Rattle.spec_language.specs.Reaction.{Code, gives}
 use Rattle.spec_language.specs.Errors.{Error, blame}
 use Rattle.spec_language.specs.Instants.{instant}
 use Rattle.spec_language.specs.Machines.{shown}
-use Rattle.limits.specs.Limits.{placeBytes, signalBytes, reactionsBytes}
+use Rattle.spec_base.specs.Limits.{placeBytes, signalBytes, reactionsBytes}
 use Rattle.answers.specs.AnswerRecord.{answerLength, codeByte, codeIn, kindIn, placeIn, emittedIn, reactionsIn, encodeAnswer}
 use Rattle.answers.proofs.AnswerLaws as laws
 

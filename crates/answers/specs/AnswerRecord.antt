@@ -6,8 +6,8 @@ use Rattle.spec_language.specs.Reaction.{Code, ended, waiting, leaving, wrong, 
 use Rattle.spec_language.specs.Errors.{blame}
 use Rattle.spec_language.specs.Instants.{Instant, instant}
 use Rattle.spec_language.specs.Machines.{shown}
-use Rattle.limits.specs.Limits.{placeBytes, signalBytes, reactionsBytes}
-use Rattle.numbers.specs.Bytes.{leBytes, leNumber}
+use Rattle.spec_base.specs.Limits.{placeBytes, signalBytes, reactionsBytes}
+use Rattle.spec_base.specs.Bytes.{leBytes, leNumber}
 
 -- where a field of several bytes begins, and the length
 abbrev pub placeAt : ℕ

@@ -1,6 +1,6 @@
 // The answer record that a host lends: code, kind and place of an error, emitted set, number of reactions.
 ghost use mathlib.Core.Path.{_≡_};
-ghost use Rattle.numbers.specs.Bytes.{replaced};
+ghost use Rattle.spec_base.specs.Bytes.{replaced};
 ghost use Rattle.answers.specs.AnswerRecord.{codeIn, kindIn, placeIn, emittedIn, reactionsIn, answerRecord};
 use limits::PLACE_BYTES;
 use limits::REACTIONS_BYTES;

@@ -11,7 +11,7 @@ use Rattle.spec_language.specs.Ceiling.{ceiling}
 use Rattle.sequence.specs.Program.{program}
 use Rattle.sequence.specs.Check.{Checked, sound, bad, checked, numberOf, checkOf}
 use Rattle.sequence.specs.Rows.{row-2}
-use Rattle.limits.specs.Limits.{maxBytes}
+use Rattle.spec_base.specs.Limits.{maxBytes}
 use Rattle.demands.proofs.Sequence.{accepted}
 use Rattle.ceilings.specs.declared.Plan.{Plan}
 use Rattle.ceilings.specs.declared.Plan.the-variants.{Refused, Takes}

@@ -29,7 +29,7 @@ use Rattle.instants.specs.Replies.{Replies}
 use Rattle.box_ledgers.specs.Ledgers.{ledgerLength, readingLength, passes, added, readingOf, cleared}
 use Rattle.box_deliveries.specs.Delivering.{Delivers}
 use Rattle.box_deliveries.proofs.Theorems.{passes-exactly, adds-exactly}
-use Rattle.numbers.specs.Parts.{slot, put}
+use Rattle.spec_base.specs.Parts.{slot, put}
 use Rattle.numbers.proofs.Putting.{put-behind}
 use Rattle.box_stretches.specs.Called.{Called, called, number}
 use Rattle.box_stretches.specs.Stretch.{stateAt, countAt, bayLength, stretchLength, sequenceIn, readBackIn, stateIn, ledgerIn, withLedger}

@@ -8,9 +8,9 @@ use mathlib.Core.List.{List, [], _++_}
 use lib.ListN.{length, take, drop}
 use lib.Dec.{ltb}
 use borrow.Author.Tests.{eq-eqb, ne-eqb, lt-ltb, le-ltb}
-use Rattle.limits.specs.Limits.{maxPositions}
-use Rattle.numbers.specs.Bytes.{replaced}
-use Rattle.numbers.specs.Parts.{slot, put}
+use Rattle.spec_base.specs.Limits.{maxPositions}
+use Rattle.spec_base.specs.Bytes.{replaced}
+use Rattle.spec_base.specs.Parts.{slot, put}
 use Rattle.states.specs.StateRecord.{stateLength, stateRecord, phaseIn, labelsIn}
 use Rattle.states.proofs.Stores.{state-written}
 use Rattle.box_positions.specs.Table.{savedLabels, placeOf, labelsFound, lookup, cleared, kept, saveOf, forgetOf}

@@ -7,8 +7,8 @@ use mathlib.Core.List.{List, [], _∷_}
 use lib.ListN.{length}
 use lib.Seq.{sets}
 use borrow.Author.Tests.{eq-eqb, ne-eqb}
-use Rattle.limits.specs.Limits.{numberBytes}
-use Rattle.numbers.specs.Bytes.{leBytes, replaced}
+use Rattle.spec_base.specs.Limits.{numberBytes}
+use Rattle.spec_base.specs.Bytes.{leBytes, replaced}
 use Rattle.numbers.proofs.Bytes.{length-leBytes}
 use Rattle.numbers.proofs.Writing.{replaced-by}
 use Rattle.answers.specs.AnswerRecord.{answerLength}

@@ -5,10 +5,10 @@ use mathlib.Core.Path.{_≡_, refl, ap, _∙_}
 use mathlib.Core.List.{List, []}
 use lib.ListN.{length}
 use lib.Seq.{sets}
-use Rattle.limits.specs.Limits.{maxBytes, signalBytes, reactionsBytes}
-use Rattle.numbers.specs.Bytes.{leBytes}
+use Rattle.spec_base.specs.Limits.{maxBytes, signalBytes, reactionsBytes}
+use Rattle.spec_base.specs.Bytes.{leBytes}
 use Rattle.numbers.proofs.Bytes.{length-leBytes}
-use Rattle.numbers.specs.Parts.{put, zeros}
+use Rattle.spec_base.specs.Parts.{put, zeros}
 use Rattle.numbers.proofs.Putting.{stored}
 use Rattle.box_stretches.specs.Called.{called}
 use Rattle.box_stretches.specs.Stretch.{lengthBytes, sequenceAt, readBackAt, ceilingAt, serviceAt, bayLength, stretchLength, vacated, Terms, filled}

@@ -3,7 +3,7 @@ ghost use mathlib.Core.Path.{_≡_};
 ghost use Prim.Native.Nat.{_≤_};
 ghost use mathlib.Core.List.{[]};
 ghost use lib.ListN.{length};
-ghost use Rattle.limits.specs.Limits.{maxBytes};
+ghost use Rattle.spec_base.specs.Limits.{maxBytes};
 ghost use Rattle.box_stretches.specs.Called.{called};
 ghost use Rattle.box_stretches.specs.Stretch.{stretchLength, vacated, terms, filled};
 ghost use Rattle.box_stretches.specs.BayCalls.{bayReleaseOf};

@@ -5,7 +5,7 @@ use mathlib.Core.Bool.{Bool, true, not, cond}
 use mathlib.Core.List.{List, [], _∷_}
 use lib.ListN.{length}
 use lib.Dec.{eqb, ltb}
-use Rattle.numbers.specs.Parts.{slot, put, zeros}
+use Rattle.spec_base.specs.Parts.{slot, put, zeros}
 use Rattle.box_stretches.specs.Called.{Called, called}
 use Rattle.box_stretches.specs.Stretch.{stretchLength, isEmpty, partOf, Terms}
 use Rattle.box_stretches.specs.BayCalls.{bayTickOf, bayReleaseOf, bayAdmitOf, baySaveOf, bayForgetOf, bayRestoreOf, bayServiceOf, bayPanelOf, bayPreviewOf, bayLedgerOf, bayNewYearOf}

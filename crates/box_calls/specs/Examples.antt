@@ -5,7 +5,7 @@ use mathlib.Core.Path.{_≡_, refl}
 use mathlib.Core.Bool.{true, false}
 use mathlib.Core.List.{List, [], _∷_, _++_, map}
 use lib.ListN.{replicate, getD}
-use Rattle.sets.specs.Sets.{member, none, only, join, insert, remove, subset, disjoint, membersFrom}
+use Rattle.spec_base.specs.Sets.{member, none, only, join, insert, remove, subset, disjoint, membersFrom}
 use Rattle.spec_language.specs.LabelTests.{labelsOf, everyLabel, distinct, before, wellFormed}
 use Rattle.spec_language.specs.ReadBack.{declaredBy}
 use Rattle.spec_language.specs.Sizes.{commands, loopNesting, signalNesting}
@@ -13,8 +13,8 @@ use Rattle.spec_language.specs.Ceiling.{ceiling}
 use Rattle.sequence.specs.Commands.{commandOf}
 use Rattle.sequence.specs.Reader.{front, read}
 use Rattle.sequence.specs.Check.{checked}
-use Rattle.numbers.specs.Bytes.{leBytes, leNumber}
-use Rattle.numbers.specs.Parts.{put, zeros}
+use Rattle.spec_base.specs.Bytes.{leBytes, leNumber}
+use Rattle.spec_base.specs.Parts.{put, zeros}
 use Rattle.tick.specs.Paper as Paper
 use Rattle.box_stretches.specs.Called.{called, number}
 use Rattle.box_stretches.specs.Stretch.{stretchLength, partOf, vacated, terms, filled}

@@ -6,7 +6,7 @@ use mathlib.Core.Logic.{_≢_, _↔_}
 use mathlib.Core.Option.{some}
 use mathlib.Core.List.{List, [], _∷_}
 use lib.ListN.{length, getElem?}
-use Rattle.limits.specs.Limits.{lastNumber}
+use Rattle.spec_base.specs.Limits.{lastNumber}
 use Rattle.recordings.specs.Record.{recordLength, recordOf, numberIn, panelLength, panelOf, Bytes, Agree}
 use Rattle.recordings.specs.Recording.{following}
 use Rattle.box_stretches.specs.Called.{called, number, memoryAfter, lentAfter, first}

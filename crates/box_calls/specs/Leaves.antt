@@ -7,7 +7,7 @@ use mathlib.Core.List.{List}
 use Rattle.sequence.specs.Check.{checked, checkOf}
 use Rattle.sequence.specs.Ceilings.{ceilingOf}
 use Rattle.demands.specs.Demands.{cleared}
-use Rattle.numbers.specs.Parts.{slot, zeros}
+use Rattle.spec_base.specs.Parts.{slot, zeros}
 use Rattle.box_positions.specs.Table.{lookup}
 use Rattle.box_stretches.specs.Called.{number, memoryAfter}
 use Rattle.box_stretches.specs.Stretch.{bayLength, lengthIn, sequenceIn, readBackIn, ceilingIn, serviceOnlyIn, stateIn, lastNumberIn, positionsIn, ledgerIn, Terms}

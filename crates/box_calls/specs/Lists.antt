@@ -5,7 +5,7 @@ use mathlib.Core.Bool.{cond}
 use mathlib.Core.List.{List, [], _∷_}
 use lib.ListN.{length}
 use lib.Dec.{eqb}
-use Rattle.numbers.specs.Parts.{zeros}
+use Rattle.spec_base.specs.Parts.{zeros}
 use Rattle.box_stretches.specs.Called.{Called, number, memoryAfter, lentAfter}
 use Rattle.box_stretches.specs.Stretch.{Terms}
 use Rattle.box_calls.specs.Box.{Call, admit, release, tick, save, restore, forget, service, panel, preview, ledger, newYear, onAdmit}

@@ -13,7 +13,7 @@ use Rattle.spec_language.specs.Expansion.{expand}
 use Rattle.spec_language.specs.Machines.{State, Rewriting}
 use Rattle.sequence.specs.Rows.{Spells}
 use Rattle.states.specs.StateRecord.{stateLength, phaseIn, labelsIn, encodeState}
-use Rattle.numbers.specs.Parts.{put}
+use Rattle.spec_base.specs.Parts.{put}
 use Rattle.box_positions.specs.Names.{Position, find, saveNamed, forgetNamed, positionsAfter}
 use Rattle.box_positions.specs.Table.{lookup, SixteenKnown}
 use Rattle.box_stretches.specs.Called.{number, memoryAfter}

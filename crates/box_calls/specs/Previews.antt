@@ -5,7 +5,7 @@ use mathlib.Core.Logic.{_≢_, _⊎_}
 use mathlib.Core.Bool.{Bool, true, false}
 use mathlib.Core.List.{List, [], _∷_}
 use lib.ListN.{length}
-use Rattle.sets.specs.Sets.{member, remove, Subset, Disjoint}
+use Rattle.spec_base.specs.Sets.{member, remove, Subset, Disjoint}
 use Rattle.answers.specs.AnswerRecord.{answerLength, codeIn, emittedIn}
 use Rattle.tick.specs.Tick.{tickOf}
 use Rattle.demands.specs.Demands.{answerAfterwards}

@@ -7,8 +7,8 @@ use mathlib.Core.Bool.{true, _&&_, cond}
 use mathlib.Core.List.{List, [], _∷_}
 use lib.ListN.{length}
 use lib.Dec.{eqb}
-use Rattle.limits.specs.Limits.{litresLimit}
-use Rattle.litres.specs.Litres.{whole, Near}
+use Rattle.spec_base.specs.Limits.{litresLimit}
+use Rattle.spec_base.specs.WholeLitres.{whole, Near}
 use Rattle.box_ledgers.specs.Ledgers as Ledgers
 use Rattle.box_ledgers.specs.Ledgers.{farmCount, readingLength, fieldIn, totalIn, exactTotal, readingOf, totalRead}
 use Rattle.tick.specs.Tick.{tickOf}

@@ -8,7 +8,7 @@ use native.Mathlib.Decide.{decLt}
 use lib.ListN.{length, getD}
 use lib.Dec.{ltb}
 use borrow.Author.Tests.{lt-ltb, le-ltb}
-use Rattle.limits.specs.Limits.{litresLimit}
+use Rattle.spec_base.specs.Limits.{litresLimit}
 use Rattle.reaction.specs.Reactions.{cappedOf}
 use Rattle.box_ledgers.specs.Ledgers.{farmCount, ledgerLength, totalIn, wouldPass, passes, addedTo, addedBelow, added}
 use Rattle.box_ledgers.proofs.Totals.{passes-not}

@@ -5,8 +5,8 @@ use mathlib.Core.Bool.{Bool, true, false, cond}
 use mathlib.Core.List.{List, [], _∷_}
 use native.Mathlib.Omega.{arith}
 use lib.ListN.{length, getD, replicate, length-replicate}
-use Rattle.limits.specs.Limits.{maxDepth, readBackPlace}
-use Rattle.sets.specs.Sets.{empty, below, from}
+use Rattle.spec_base.specs.Limits.{maxDepth, readBackPlace}
+use Rattle.spec_base.specs.Sets.{empty, below, from}
 use Rattle.spec_language.specs.Statement.{Statement, nothing, pause, emit, exit, seq, par, loop, present, signal, try, setpause, suspend, held}
 use Rattle.spec_language.specs.Reaction.{code, react, isWrong}
 use Rattle.theory_language.specs.Ranks.{middle}

@@ -4,8 +4,8 @@ use mathlib.Core.Path.{_≡_}
 use mathlib.Core.Bool.{false}
 use mathlib.Core.List.{List}
 use lib.ListN.{getD}
-use Rattle.limits.specs.Limits.{maxDepth}
-use Rattle.sets.specs.Sets.{member}
+use Rattle.spec_base.specs.Limits.{maxDepth}
+use Rattle.spec_base.specs.Sets.{member}
 use Rattle.spec_language.specs.Statement.{Statement}
 use Rattle.spec_language.specs.Litres.{AtMost}
 use Rattle.spec_language.specs.Machines.{adds}

@@ -2,7 +2,7 @@
 // table of second parts are made once.
 ghost use mathlib.Core.Path.{_≡_};
 ghost use lib.ListN.{replicate};
-ghost use Rattle.limits.specs.Limits.{maxDepth};
+ghost use Rattle.spec_base.specs.Limits.{maxDepth};
 ghost use Rattle.layout.specs.Layout.{Ready};
 ghost use Rattle.box_ledgers.specs.Ledgers.{farmCount};
 ghost use Rattle.box_deliveries.specs.Walks.{Instant};

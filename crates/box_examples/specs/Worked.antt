@@ -7,7 +7,7 @@ use lib.ListN.{replicate}
 use lib.Dec.{eqb}
 use Rattle.answers.specs.AnswerRecord.{answerLength, codeIn}
 use Rattle.recordings.specs.Record.{recordLength}
-use Rattle.numbers.specs.Parts.{zeros}
+use Rattle.spec_base.specs.Parts.{zeros}
 use Rattle.box_stretches.specs.Called.{Called, called, number, lentAfter, first}
 use Rattle.box_stretches.specs.Stretch.{stretchLength}
 use Rattle.box_calls.specs.Box.{admit, release, tick, buffers, bayCall, isFor}

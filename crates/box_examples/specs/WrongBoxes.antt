@@ -4,7 +4,7 @@ use mathlib.Core.Bool.{cond}
 use mathlib.Core.List.{List, [], _∷_}
 use lib.Dec.{eqb}
 use Rattle.states.specs.StateRecord.{stateLength}
-use Rattle.numbers.specs.Parts.{put, zeros}
+use Rattle.spec_base.specs.Parts.{put, zeros}
 use Rattle.tick.specs.Tick.{tickOf}
 use Rattle.box_stretches.specs.Called.{Called, called, number, memoryAfter}
 use Rattle.box_stretches.specs.Stretch.{lengthBytes, stateAt, sequenceIn, readBackIn, ceilingIn, stateIn}

@@ -5,14 +5,14 @@ use mathlib.Core.List.{List, [], _∷_}
 use lib.Dec.{eqb, ltb}
 use lib.IntN.{pos}
 use lib.Ieee.{binary32, ofInt, add}
-use Rattle.limits.specs.Limits.{litresLimit}
-use Rattle.sets.specs.Sets.{insert, remove}
+use Rattle.spec_base.specs.Limits.{litresLimit}
+use Rattle.spec_base.specs.Sets.{insert, remove}
 use Rattle.spec_language.specs.Statement.{Statement, nothing, pause, emit, exit, seq, par, loop, present, signal, try, setpause, suspend, held}
 use Rattle.spec_language.specs.Litres.{delivered}
 use Rattle.sequence.specs.Program.{program}
 use Rattle.sequence.specs.Check.{Checked, sound, bad, checked}
-use Rattle.numbers.specs.Parts.{put}
-use Rattle.litres.specs.Litres.{litres}
+use Rattle.spec_base.specs.Parts.{put}
+use Rattle.spec_base.specs.WholeLitres.{litres}
 use Rattle.box_ledgers.specs.Ledgers as Ledgers
 use Rattle.box_ledgers.specs.Ledgers.{farmCount, totalIn, totalFloat, added}
 use Rattle.box_stretches.specs.Called.{Called, called, number, memoryAfter, lentAfter}

@@ -4,11 +4,11 @@ use mathlib.Core.Bool.{not, _&&_, cond}
 use mathlib.Core.List.{List, [], _∷_}
 use lib.ListN.{length, replicate}
 use lib.Dec.{eqb}
-use Rattle.limits.specs.Limits.{signalBytes}
+use Rattle.spec_base.specs.Limits.{signalBytes}
 use Rattle.answers.specs.AnswerRecord.{answerLength}
 use Rattle.recordings.specs.Record.{recordLength}
 use Rattle.recordings.specs.Recording.{blank}
-use Rattle.numbers.specs.Parts.{slot, put, zeros}
+use Rattle.spec_base.specs.Parts.{slot, put, zeros}
 use Rattle.box_positions.specs.Names.{isKnown}
 use Rattle.box_positions.specs.Table.{lookup}
 use Rattle.box_ledgers.specs.Ledgers.{ledgerLength, readingLength}

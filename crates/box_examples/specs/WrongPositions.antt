@@ -4,10 +4,10 @@ use mathlib.Core.Bool.{_&&_, cond}
 use mathlib.Core.List.{List, [], _∷_}
 use lib.ListN.{length}
 use lib.Dec.{eqb, leb}
-use Rattle.limits.specs.Limits.{maxPositions}
-use Rattle.numbers.specs.Bytes.{leNumber}
+use Rattle.spec_base.specs.Limits.{maxPositions}
+use Rattle.spec_base.specs.Bytes.{leNumber}
 use Rattle.states.specs.StateRecord.{labelsAt, labelsIn}
-use Rattle.numbers.specs.Parts.{slot, put}
+use Rattle.spec_base.specs.Parts.{slot, put}
 use Rattle.box_positions.specs.Names.{isKnown}
 use Rattle.box_positions.specs.Table.{tableLength, lookup, names}
 use Rattle.box_stretches.specs.Called.{called, memoryAfter}

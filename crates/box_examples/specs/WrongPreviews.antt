@@ -1,10 +1,10 @@
 -- Boxes with one slip each in their previews (02, item 11), which break a claim of Previews.
 use Prim.Native.Nat.{ℕ, _-_}
 use mathlib.Core.List.{List, [], _∷_}
-use Rattle.sets.specs.Sets.{none, difference}
+use Rattle.spec_base.specs.Sets.{none, difference}
 use Rattle.answers.specs.AnswerRecord.{answerLength}
 use Rattle.recordings.specs.Record.{recordLength}
-use Rattle.numbers.specs.Parts.{put, zeros}
+use Rattle.spec_base.specs.Parts.{put, zeros}
 use Rattle.box_fillings.specs.Preview.{openCode, previewLength}
 use Rattle.box_stretches.specs.Called.{Called, called, number, memoryAfter, lentAfter, first}
 use Rattle.box_calls.specs.Box.{Call, admit, release, tick, save, restore, forget, service, panel, preview, ledger, newYear, callOf}

@@ -5,12 +5,12 @@ use mathlib.Core.Path.{_≡_, refl, ap, _∙_}
 use mathlib.Core.List.{List}
 use lib.ListN.{length, drop, length-drop}
 use lib.Seq.{length-take-le}
-use Rattle.limits.specs.Limits.{maxBytes, signalBytes, reactionsBytes}
-use Rattle.numbers.specs.Bytes.{leBytes, leNumber}
+use Rattle.spec_base.specs.Limits.{maxBytes, signalBytes, reactionsBytes}
+use Rattle.spec_base.specs.Bytes.{leBytes, leNumber}
 use Rattle.numbers.proofs.Bytes.{length-leBytes, le-round-trip}
 use Rattle.states.specs.StateRecord.{stateLength}
 use Rattle.demands.specs.Demands.{cleared}
-use Rattle.numbers.specs.Parts.{slot, put, zeros}
+use Rattle.spec_base.specs.Parts.{slot, put, zeros}
 use Rattle.box_ledgers.specs.Ledgers.{ledgerLength}
 use Rattle.box_stretches.specs.Stretch.{lengthBytes, sequenceAt, readBackAt, ceilingAt, serviceAt, stateAt, bayLength, stretchLength, lengthIn, readBackIn, ceilingIn, serviceOnlyIn, stateIn, ledgerIn, vacated, Terms, filled}
 use Rattle.numbers.proofs.Zeros.{length-zeros, slot-zeros, zeros-number}

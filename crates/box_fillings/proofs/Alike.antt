@@ -4,7 +4,7 @@ use native.Mathlib.Decide.{ℕ-discrete}
 use mathlib.Core.Path.{_≡_, refl, sym, ap, ap₂, _∙_, subst}
 use mathlib.Core.Bool.{Bool, true, false, not, _&&_, _||_}
 use mathlib.Core.List.{List}
-use Rattle.sets.specs.Sets.{member, common, Subset}
+use Rattle.spec_base.specs.Sets.{member, common, Subset}
 use Rattle.sets.proofs.Booleans.{same-test}
 use Rattle.sets.proofs.Members.{member-common, ext}
 use Rattle.demands.specs.Plain.{SameOutside}

@@ -7,8 +7,8 @@ use mathlib.Core.Bool.{Bool, true, false, not, _&&_, _||_, cond, and-eq-true-iff
 use mathlib.Core.List.{List, [], _∷_, List·Memᴰ, List·Memᴰ·head, List·Memᴰ·tail, List·Memᴰ·not-nil, List·Memᴰ·cases-cons}
 use lib.Dec.{eqb}
 use borrow.Author.Tests.{eq-eqb, eqb-true, ne-eqb}
-use Rattle.sets.specs.Sets.{member, none, join, common, difference, insert, remove, Subset}
-use Rattle.sets.specs.Subsets.{subsetsBelow}
+use Rattle.spec_base.specs.Sets.{member, none, join, common, difference, insert, remove, Subset}
+use Rattle.spec_base.specs.Subsets.{subsetsBelow}
 use Rattle.sets.proofs.Booleans.{or-first, or-second, clash}
 use Rattle.sets.proofs.Members.{member-join, member-common, member-none, member-insert, member-difference, member-remove, ext}
 use Rattle.sets.proofs.Subsets.{subsets-are}

@@ -9,13 +9,13 @@ use mathlib.Core.Bool.{Bool, true, false, not, _&&_, true≢false, false≢true}
 use mathlib.Core.List.{List}
 use lib.Dec.{ltb}
 use borrow.Author.Tests.{eqb-true, eqb-false, ne-eqb, lt-ltb}
-use Rattle.limits.specs.Limits.{signalCount, signalBytes}
-use Rattle.sets.specs.Sets.{member, Subset}
-use Rattle.sets.specs.Widths.{allBelow, complement}
+use Rattle.spec_base.specs.Limits.{signalCount, signalBytes}
+use Rattle.spec_base.specs.Sets.{member, Subset}
+use Rattle.spec_base.specs.Widths.{allBelow, complement}
 use Rattle.sets.proofs.Members.{member-lt}
 use Rattle.sets.proofs.Widths.{difference-lt, all-lt, member-complement}
 use Rattle.sets.proofs.Words.{words-of, low-fits, member-low}
-use Rattle.numbers.specs.Bytes.{leBytes, leNumber}
+use Rattle.spec_base.specs.Bytes.{leBytes, leNumber}
 use Rattle.numbers.proofs.Bytes.{le-low, le-round-trip}
 use Rattle.answers.specs.AnswerRecord.{codeIn, emittedIn}
 use Rattle.box_fillings.specs.declared.Findings.{Findings}

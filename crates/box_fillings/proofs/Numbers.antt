@@ -9,8 +9,8 @@ use mathlib.Core.List.{List}
 use lib.ListN.{length}
 use lib.Dec.{eqb, leb}
 use borrow.Author.Tests.{eq-eqb, ne-eqb, leb-true}
-use Rattle.limits.specs.Limits.{signalCount}
-use Rattle.sets.specs.Sets.{member, difference, Subset, keepIf, membersFrom}
+use Rattle.spec_base.specs.Limits.{signalCount}
+use Rattle.spec_base.specs.Sets.{member, difference, Subset, keepIf, membersFrom}
 use Rattle.spec_language.specs.Statement.{Statement}
 use Rattle.spec_language.specs.Reaction.{inheritanceFirst}
 use Rattle.spec_language.specs.Expansion.{expand}

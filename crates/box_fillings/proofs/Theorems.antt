@@ -10,14 +10,14 @@ use lib.ListN.{length}
 use lib.Pow.{pow-mono}
 use lib.Count.{ones}
 use borrow.Author.Tests.{le-leb, lt-leb}
-use Rattle.limits.specs.Limits.{signalCount}
-use Rattle.sets.specs.Sets.{member, none, common, difference, insert, remove, Subset, Disjoint, membersFrom}
-use Rattle.sets.specs.Subsets.{subsetsOf}
+use Rattle.spec_base.specs.Limits.{signalCount}
+use Rattle.spec_base.specs.Sets.{member, none, common, difference, insert, remove, Subset, Disjoint, membersFrom}
+use Rattle.spec_base.specs.Subsets.{subsetsOf}
 use Rattle.sets.proofs.Algebra.{differences-same}
 use Rattle.sets.proofs.Sizes.{size-is}
 use Rattle.sets.proofs.Counting.{subsets-few}
 use Rattle.spec_language.specs.Instants.{Instant}
-use Rattle.numbers.specs.Bytes.{leBytes}
+use Rattle.spec_base.specs.Bytes.{leBytes}
 use Rattle.states.specs.StateRecord.{stateLength}
 use Rattle.answers.specs.AnswerRecord.{answerLength, codeIn, emittedIn}
 use Rattle.tick.specs.Tick.{Outcome, refused, reacts, replyOf, tickOf}

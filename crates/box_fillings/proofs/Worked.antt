@@ -1,9 +1,9 @@
 -- The previews worked by hand, by computation.
 use mathlib.Core.Path.{_≡_, refl}
 use mathlib.Core.List.{map}
-use Rattle.sets.specs.Sets.{member, none, only, join, common, difference, insert, remove, subset, disjoint, membersFrom}
-use Rattle.sets.specs.Widths.{allBelow}
-use Rattle.sets.specs.Subsets.{subsetsBelow}
+use Rattle.spec_base.specs.Sets.{member, none, only, join, common, difference, insert, remove, subset, disjoint, membersFrom}
+use Rattle.spec_base.specs.Widths.{allBelow}
+use Rattle.spec_base.specs.Subsets.{subsetsBelow}
 use Rattle.spec_language.specs.Reaction.{reactBy}
 use Rattle.spec_language.specs.Errors.{errorsBy}
 use Rattle.spec_language.specs.Reactions.{reactionsBy}
@@ -13,7 +13,7 @@ use Rattle.spec_language.specs.ReadBack.{declaredBy}
 use Rattle.sequence.specs.Commands.{commandOf}
 use Rattle.sequence.specs.Reader.{front, read}
 use Rattle.sequence.specs.Check.{checked}
-use Rattle.numbers.specs.Bytes.{leBytes, leNumber}
+use Rattle.spec_base.specs.Bytes.{leBytes, leNumber}
 use Rattle.states.specs.StateRecord.{decodeState}
 use Rattle.answers.specs.AnswerRecord.{encodeAnswer}
 use Rattle.box_fillings.specs.Preview.{both, gathered, findings, previewOf}

@@ -5,8 +5,8 @@ use mathlib.Core.Logic.{_≢_, _↔_}
 use mathlib.Core.Bool.{Bool, true, false, cond}
 use mathlib.Core.List.{List}
 use lib.ListN.{length}
-use Rattle.limits.specs.Limits.{signalCount}
-use Rattle.sets.specs.Sets.{member, insert, remove, Subset, membersFrom}
+use Rattle.spec_base.specs.Limits.{signalCount}
+use Rattle.spec_base.specs.Sets.{member, insert, remove, Subset, membersFrom}
 use Rattle.states.specs.StateRecord.{stateLength}
 use Rattle.answers.specs.AnswerRecord.{answerLength, codeIn, emittedIn}
 use Rattle.tick.specs.Tick.{tickOf}

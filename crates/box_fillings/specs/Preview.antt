@@ -6,11 +6,11 @@ use mathlib.Core.Bool.{Bool, false, _||_, cond}
 use mathlib.Core.List.{List, [], _∷_, _++_}
 use lib.ListN.{length, getD, take, drop}
 use lib.Dec.{eqb, leb}
-use Rattle.limits.specs.Limits.{signalCount, signalBytes}
-use Rattle.sets.specs.Sets.{member, join, common, difference, Subset, membersFrom}
-use Rattle.sets.specs.Widths.{complement}
-use Rattle.sets.specs.Subsets.{subsetsBelow}
-use Rattle.numbers.specs.Bytes.{leBytes, leNumber}
+use Rattle.spec_base.specs.Limits.{signalCount, signalBytes}
+use Rattle.spec_base.specs.Sets.{member, join, common, difference, Subset, membersFrom}
+use Rattle.spec_base.specs.Widths.{complement}
+use Rattle.spec_base.specs.Subsets.{subsetsBelow}
+use Rattle.spec_base.specs.Bytes.{leBytes, leNumber}
 use Rattle.answers.specs.AnswerRecord.{codeIn, emittedIn, encodeAnswer}
 use Rattle.tick.specs.Tick.{Reply, refused, reacts, replyOf}
 use Rattle.box_fillings.specs.declared.Findings.{Findings}

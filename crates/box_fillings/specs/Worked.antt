@@ -2,7 +2,7 @@
 use Prim.Native.Nat.{ℕ}
 use mathlib.Core.List.{List, [], _∷_}
 use lib.ListN.{replicate}
-use Rattle.sets.specs.Sets.{none}
+use Rattle.spec_base.specs.Sets.{none}
 use Rattle.states.specs.StateRecord.{stateRecord}
 use Rattle.demands.specs.Demands.{cleared}
 use Rattle.box_fillings.specs.Preview.{previewLength, Previewed, previewed}

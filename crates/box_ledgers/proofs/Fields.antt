@@ -13,18 +13,18 @@ use lib.IntN.{pos}
 use lib.Dec.{eqb}
 use lib.Ieee.{Float, binary32, ofBits, toBits, ofInt, inUnsigned}
 use borrow.Author.Tests.{eqb-true, eq-eqb, ne-eqb}
-use Rattle.limits.specs.Limits.{signalCount, litresLimit}
-use Rattle.sets.specs.Sets.{member, none, remove}
-use Rattle.sets.specs.Widths.{Lowest}
+use Rattle.spec_base.specs.Limits.{signalCount, litresLimit}
+use Rattle.spec_base.specs.Sets.{member, none, remove}
+use Rattle.spec_base.specs.Widths.{Lowest}
 use Rattle.sets.proofs.Booleans.{clash}
 use Rattle.sets.proofs.Members.{member-none, member-remove, member-lt}
-use Rattle.numbers.specs.Bytes.{leNumber, numberAt}
+use Rattle.spec_base.specs.Bytes.{leNumber, numberAt}
 use Rattle.numbers.proofs.Bytes.{length-leBytes}
 use Rattle.sequence.specs.Amounts.{amountBytes, areBytes, floatIn}
 use Rattle.sequence.specs.Commands.{bytesAt}
 use Rattle.sequence.proofs.Amounts.{amount-written}
 use Rattle.sequence.proofs.Front.{bytes-taken}
-use Rattle.litres.specs.Litres.{whole, litres}
+use Rattle.spec_base.specs.WholeLitres.{whole, litres}
 use Rattle.box_ledgers.specs.Ledgers.{farmCount, ledgerLength, fieldIn, totalIn, Exact, NoneOutside, passes, addedTo, addedBelow, added}
 use Rattle.box_ledgers.proofs.Totals.{total-whole, passes-not}
 

@@ -13,14 +13,14 @@ use lib.IntN.{pos}
 use lib.Ieee.{Float, binary32, ofBits, toBits, ofInt, inUnsigned, fits}
 use lib.Ieee.Bits.{ofBits-toBits, toBits-lt}
 use lib.Ieee.Fits.{add-fits}
-use Rattle.limits.specs.Limits.{litresLimit}
-use Rattle.sets.specs.Sets.{member}
+use Rattle.spec_base.specs.Limits.{litresLimit}
+use Rattle.spec_base.specs.Sets.{member}
 use Rattle.sets.proofs.Booleans.{Tested, tested}
-use Rattle.numbers.specs.Bytes.{leBytes, leNumber}
+use Rattle.spec_base.specs.Bytes.{leBytes, leNumber}
 use Rattle.numbers.proofs.Bytes.{length-leBytes, le-round-trip}
 use Rattle.sequence.specs.Amounts.{amountSize, amountBytes, areBytes, floatIn}
 use Rattle.sequence.proofs.Amounts.{amount-written}
-use Rattle.litres.specs.Litres.{whole, litres, ordered, Near}
+use Rattle.spec_base.specs.WholeLitres.{whole, litres, ordered, Near}
 use Rattle.litres.proofs.Sums.{Running, last, Added, added-first, added-next}
 use Rattle.box_ledgers.specs.Ledgers.{farmCount, ledgerLength, fieldIn, totalIn, totalFloat, Exact, totalsBytes, cleared, NoneOutside, wouldPass, passes, added, exactTotal, shownTotal, readingOf, totalRead}
 use Rattle.box_ledgers.proofs.Totals as totals

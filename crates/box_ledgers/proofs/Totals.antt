@@ -16,16 +16,16 @@ use lib.Ieee.Bits.{ofBits-fits}
 use lib.Ieee.Back.{float-back-unsigned}
 use borrow.Author.Tests.{ltb-false, lt-ltb, le-ltb}
 use Rattle.sets.proofs.Booleans.{or-l, or-r, or-first, or-second}
-use Rattle.limits.specs.Limits.{signalCount, litresLimit}
-use Rattle.sets.specs.Sets.{none}
-use Rattle.sets.specs.Widths.{Lowest}
+use Rattle.spec_base.specs.Limits.{signalCount, litresLimit}
+use Rattle.spec_base.specs.Sets.{none}
+use Rattle.spec_base.specs.Widths.{Lowest}
 use Rattle.sets.proofs.Members.{member-lt}
 use Rattle.sets.proofs.Loops.{Seeking, seek-hit}
-use Rattle.numbers.specs.Bytes.{leBytes, numberAt}
+use Rattle.spec_base.specs.Bytes.{leBytes, numberAt}
 use Rattle.numbers.proofs.Bytes.{length-leBytes}
 use Rattle.numbers.proofs.Writing.{sets-append, sets-whole}
 use Rattle.sequence.specs.Amounts.{amountBytes}
-use Rattle.litres.specs.Litres.{whole, litres, exact, Whole}
+use Rattle.spec_base.specs.WholeLitres.{whole, litres, exact, Whole}
 use Rattle.litres.proofs.Sums.{value-of, sum-is, int-is, to-float, whole-no-nan}
 use Rattle.box_ledgers.specs.Ledgers.{farmCount, readingLength, fieldIn, totalIn, totalFloat, totalsBytes, wouldPass, exactTotal}
 

@@ -3,8 +3,8 @@ use mathlib.Core.Path.{_≡_, refl}
 use mathlib.Core.Bool.{true, false}
 use mathlib.Core.List.{_++_}
 use lib.Ieee.{binary32, ofBits, toBits, ofInt, add, whole, inUnsigned, toUnsigned}
-use Rattle.numbers.specs.Bytes.{leBytes, leNumber}
-use Rattle.litres.specs.Litres.{ordered}
+use Rattle.spec_base.specs.Bytes.{leBytes, leNumber}
+use Rattle.spec_base.specs.WholeLitres.{ordered}
 use Rattle.sequence.specs.Amounts.{amountBytes}
 use Rattle.box_ledgers.specs.Ledgers.{totalIn, wouldPass, shownTotal}
 

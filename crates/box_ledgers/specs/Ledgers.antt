@@ -7,10 +7,10 @@ use lib.Seq.{sets}
 use lib.IntN.{pos}
 use lib.Dec.{eqb, ltb}
 use lib.Ieee.{Float, binary32, ofBits, toBits, ofInt}
-use Rattle.limits.specs.Limits.{signalCount, litresLimit}
-use Rattle.sets.specs.Sets.{member}
-use Rattle.numbers.specs.Bytes.{leBytes, numberAt}
-use Rattle.litres.specs.Litres.{whole, litres, ordered}
+use Rattle.spec_base.specs.Limits.{signalCount, litresLimit}
+use Rattle.spec_base.specs.Sets.{member}
+use Rattle.spec_base.specs.Bytes.{leBytes, numberAt}
+use Rattle.spec_base.specs.WholeLitres.{whole, litres, ordered}
 use Rattle.sequence.specs.Amounts.{amountSize, amountBytes}
 
 -- a signal's number is its farm's

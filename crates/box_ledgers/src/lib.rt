@@ -6,10 +6,10 @@ ghost use Prim.Native.Nat.{_+_, _≤_, _<_, _*_};
 ghost use lib.Dec.{ltb};
 ghost use lib.ListN.{length, getD};
 ghost use lib.Seq.{sets};
-ghost use Rattle.numbers.specs.Bytes.{leBytes};
-ghost use Rattle.limits.specs.Limits.{litresLimit};
+ghost use Rattle.spec_base.specs.Bytes.{leBytes};
+ghost use Rattle.spec_base.specs.Limits.{litresLimit};
 ghost use Rattle.box_ledgers.specs.Ledgers.{farmCount, ledgerLength, totalIn, totalFloat, cleared, NoneOutside, passes, addedTo, added, readingLength, exactTotal, readingOf, totalRead};
-ghost use Rattle.litres.specs.Litres.{Near};
+ghost use Rattle.spec_base.specs.WholeLitres.{Near};
 ghost use Rattle.sequence.specs.Amounts.{amountBytes};
 
 // The year's ledger of a bay number (02, item 12): definitions in specs/, and the sizes for the code. No box is known here.

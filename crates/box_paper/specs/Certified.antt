@@ -7,8 +7,8 @@ use mathlib.Core.Option.{Option, some, none}
 use mathlib.Core.List.{List, [], _∷_}
 use lib.ListN.{length}
 use lib.Dec.{eqb}
-use Rattle.limits.specs.Limits.{litresLimit}
-use Rattle.litres.specs.Litres.{IsNumber, Near}
+use Rattle.spec_base.specs.Limits.{litresLimit}
+use Rattle.spec_base.specs.WholeLitres.{IsNumber, Near}
 use Rattle.spec_language.specs.States.{NoSetpause}
 use Rattle.box_ledgers.specs.Ledgers.{farmCount, readingLength, fieldIn, readingFor, totalRead}
 use Rattle.box_stretches.specs.Called.{number, lentAfter, first}

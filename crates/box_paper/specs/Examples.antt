@@ -5,9 +5,9 @@ use mathlib.Core.List.{List, [], _∷_, _++_}
 use Rattle.box_calls.specs.Years.{sumOf}
 use lib.ListN.{replicate}
 use lib.Ieee.{ofBits, toBits, ofInt, add, whole, inUnsigned, toUnsigned}
-use Rattle.sets.specs.Sets.{member, none, only, join, common, difference, insert, remove, subset, disjoint, membersFrom}
-use Rattle.sets.specs.Widths.{allBelow}
-use Rattle.sets.specs.Subsets.{subsetsBelow}
+use Rattle.spec_base.specs.Sets.{member, none, only, join, common, difference, insert, remove, subset, disjoint, membersFrom}
+use Rattle.spec_base.specs.Widths.{allBelow}
+use Rattle.spec_base.specs.Subsets.{subsetsBelow}
 use Rattle.spec_language.specs.Reaction.{reactBy}
 use Rattle.spec_language.specs.Errors.{errorsBy}
 use Rattle.spec_language.specs.Reactions.{reactionsBy}
@@ -22,11 +22,11 @@ use Rattle.sequence.specs.Commands.{commandOf}
 use Rattle.sequence.specs.Reader.{front, read}
 use Rattle.sequence.specs.Check.{checked}
 use Rattle.states.specs.StateRecord.{encodeState}
-use Rattle.numbers.specs.Bytes.{leBytes, leNumber}
+use Rattle.spec_base.specs.Bytes.{leBytes, leNumber}
 use Rattle.recordings.specs.Record.{recordLength, panelOf}
 use Rattle.recordings.specs.Recording.{following}
 use Rattle.tick.specs.Paper.{Report, reacted}
-use Rattle.litres.specs.Litres.{ordered}
+use Rattle.spec_base.specs.WholeLitres.{ordered}
 use Rattle.box_positions.specs.Names.{find, without, saveNamed, forgetNamed}
 use Rattle.box_ledgers.specs.Ledgers.{readingLength, totalsBytes, wouldPass}
 use Rattle.box_fillings.specs.Preview.{both, gathered, findings}

@@ -8,7 +8,7 @@ use mathlib.Core.Option.{Option, some, none}
 use mathlib.Core.List.{List, [], _∷_}
 use lib.ListN.{length}
 use lib.Dec.{eqb, leb, ltb}
-use Rattle.limits.specs.Limits.{signalBytes}
+use Rattle.spec_base.specs.Limits.{signalBytes}
 use Rattle.spec_language.specs.Statement.{Statement}
 use Rattle.spec_language.specs.Ceiling.{ceiling}
 use Rattle.spec_language.specs.Machines.{Seen, instant, refused, Machine, State, byLabels, addsByLabels, Rewriting, byRewriting, addsByRewriting}

@@ -10,8 +10,8 @@ use mathlib.Core.List.{List, [], _∷_, List·Memᴰ, List·Memᴰ·head, List·
 use lib.ListN.{length}
 use lib.Dec.{eqb}
 use borrow.Author.Tests.{eq-eqb, ne-eqb, lt-ltb, le-ltb}
-use Rattle.limits.specs.Limits.{labelBytes, maxPositions, nameBytes}
-use Rattle.numbers.specs.Parts.{zeros}
+use Rattle.spec_base.specs.Limits.{labelBytes, maxPositions, nameBytes}
+use Rattle.spec_base.specs.Parts.{zeros}
 use Rattle.box_positions.specs.Names.{Position, position, find, without, Answered, answered, saveNamed, forgetNamed, numberAnswered, positionsAfter, namesOf, Once}
 use Rattle.box_positions.specs.Table.{tableLength, keyIn, placeOf, lookup, numberKept, tableKept, saveOf, forgetOf, names, Agrees}
 use Rattle.box_positions.proofs.Lookups.{lookup-at, lookup-none, present}

@@ -10,12 +10,12 @@ use lib.ListN.{length, take, drop, length-append}
 use lib.Seq.{take-at, drop-at}
 use lib.Dec.{eqb}
 use borrow.Author.Tests.{eq-eqb, ne-eqb}
-use Rattle.limits.specs.Limits.{labelBytes, maxPositions, nameBytes}
-use Rattle.numbers.specs.Bytes.{leBytes, leNumber}
+use Rattle.spec_base.specs.Limits.{labelBytes, maxPositions, nameBytes}
+use Rattle.spec_base.specs.Bytes.{leBytes, leNumber}
 use Rattle.numbers.proofs.Bytes.{length-leBytes, le-round-trip, le-behind}
 use Rattle.states.specs.StateRecord.{stateLength, stateRecord, labelsIn}
 use Rattle.states.proofs.StateLaws.{state-sized}
-use Rattle.numbers.specs.Parts.{slot, put}
+use Rattle.spec_base.specs.Parts.{slot, put}
 use Rattle.numbers.proofs.Putting.{put-before, put-behind, put-within, length-put}
 use Rattle.box_positions.specs.Table.{keyBytes, entryLength, tableLength, entryOf, keyOf, keyIn, savedLabels, place}
 

@@ -10,7 +10,7 @@ use mathlib.Core.List.{List, _∷_, List·Memᴰ, List·Memᴰ·head, List·Mem�
 use lib.ListN.{length}
 use lib.Dec.{eqb}
 use borrow.Author.Tests.{eq-eqb, ne-eqb}
-use Rattle.limits.specs.Limits.{maxPositions}
+use Rattle.spec_base.specs.Limits.{maxPositions}
 use Rattle.box_positions.specs.Names.{Once}
 use Rattle.box_positions.specs.Table.{keyOf, nameOf, keyIn, savedLabels, placeOf, lookup, numberKept, saveOf, forgetOf, namesBelow, names, SixteenKnown, Formed}
 use Rattle.box_positions.proofs.Lookups.{lookup-at, lookup-none, key-found, present}

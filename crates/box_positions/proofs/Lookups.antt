@@ -9,10 +9,10 @@ use mathlib.Core.List.{List}
 use lib.ListN.{length}
 use lib.Dec.{eqb}
 use borrow.Author.Tests.{ne-eqb, lt-ltb, le-ltb}
-use Rattle.limits.specs.Limits.{maxPositions, nameBytes}
-use Rattle.numbers.specs.Bytes.{leNumber}
+use Rattle.spec_base.specs.Limits.{maxPositions, nameBytes}
+use Rattle.spec_base.specs.Bytes.{leNumber}
 use Rattle.states.specs.StateRecord.{stateLength, labelsIn}
-use Rattle.numbers.specs.Parts.{slot, put}
+use Rattle.spec_base.specs.Parts.{slot, put}
 use Rattle.box_positions.specs.Table.{keyBytes, entryLength, keyOf, keyIn, savedLabels, placeOf, labelsFound, lookup, FreeOrNamed, Formed}
 use Rattle.box_positions.proofs.Entries.{length-entry, own-key, own-labels, other-key, other-labels, found, missing, only, same-place}
 

@@ -9,13 +9,13 @@ use lib.ListN.{length, take, drop, length-drop}
 use lib.Seq.{sets, length-take-le}
 use lib.Dec.{eqb, ltb}
 use borrow.Author.Tests.{eq-eqb, ne-eqb, lt-ltb, le-ltb}
-use Rattle.limits.specs.Limits.{maxPositions, nameBytes}
-use Rattle.numbers.specs.Bytes.{leBytes, replaced}
+use Rattle.spec_base.specs.Limits.{maxPositions, nameBytes}
+use Rattle.spec_base.specs.Bytes.{leBytes, replaced}
 use Rattle.numbers.proofs.Bytes.{length-leBytes}
 use Rattle.numbers.proofs.Writing.{replaced-by}
 use Rattle.states.specs.StateRecord.{stateLength, stateRecord}
 use Rattle.states.proofs.StateLaws.{state-sized}
-use Rattle.numbers.specs.Parts.{slot, put, zeros}
+use Rattle.spec_base.specs.Parts.{slot, put, zeros}
 use Rattle.numbers.proofs.Putting.{length-put, stored, put-next}
 use Rattle.box_positions.specs.Table.{entryLength, tableLength, keyIn, place, placeOf, placeFor, written, cleared, kept, saveOf}
 

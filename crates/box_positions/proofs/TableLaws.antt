@@ -8,9 +8,9 @@ use mathlib.Core.Option.{some, none}
 use mathlib.Core.List.{List}
 use lib.ListN.{length}
 use borrow.Author.Tests.{lt-ltb, le-ltb}
-use Rattle.limits.specs.Limits.{labelBytes, maxPositions, nameBytes}
-use Rattle.numbers.specs.Bytes.{leNumber}
-use Rattle.numbers.specs.Parts.{slot, zeros}
+use Rattle.spec_base.specs.Limits.{labelBytes, maxPositions, nameBytes}
+use Rattle.spec_base.specs.Bytes.{leNumber}
+use Rattle.spec_base.specs.Parts.{slot, zeros}
 use Rattle.numbers.proofs.Zeros.{length-zeros, slot-zeros, zeros-number}
 use Rattle.box_positions.specs.Table.{keyBytes, entryLength, tableLength, entryOf, keyOf, keyIn, place, placeOf, placeFor, lookup, Kept, kept, numberKept, tableKept, written, cleared, saveOf, forgetOf, Formed}
 use Rattle.box_positions.proofs.Entries.{entry-sized, entry-key, entry-labels, length-entry, found, missing}

@@ -3,8 +3,8 @@ use Prim.Native.Nat.{ℕ, zero, suc}
 use mathlib.Core.Path.{_≡_, refl}
 use mathlib.Core.Option.{some, none}
 use mathlib.Core.List.{List, [], _∷_}
-use Rattle.numbers.specs.Bytes.{leBytes, leNumber}
-use Rattle.numbers.specs.Parts.{put, zeros}
+use Rattle.spec_base.specs.Bytes.{leBytes, leNumber}
+use Rattle.spec_base.specs.Parts.{put, zeros}
 use Rattle.box_positions.specs.Names.{Position, find, without, answered, saveNamed, forgetNamed, numberAnswered, positionsAfter, namesOf}
 use Rattle.box_positions.specs.Table.{tableLength, place, lookup, numberKept, tableKept, saveOf, forgetOf}
 

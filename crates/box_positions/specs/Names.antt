@@ -6,7 +6,7 @@ use mathlib.Core.Option.{Option, some, none}
 use mathlib.Core.List.{List, [], _∷_, List·Memᴰ}
 use lib.ListN.{length}
 use lib.Dec.{eqb, ltb}
-use Rattle.limits.specs.Limits.{maxPositions}
+use Rattle.spec_base.specs.Limits.{maxPositions}
 
 pub data Position (T : Type 0) : Type 0 where
   position : (name : ℕ) (kept : T) → Position T

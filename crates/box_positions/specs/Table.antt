@@ -8,10 +8,10 @@ use mathlib.Core.Option.{Option, some, none}
 use mathlib.Core.List.{List, [], _∷_, _++_, List·Memᴰ}
 use lib.ListN.{length}
 use lib.Dec.{eqb, ltb}
-use Rattle.limits.specs.Limits.{maxPositions, nameBytes}
-use Rattle.numbers.specs.Bytes.{leBytes, leNumber}
+use Rattle.spec_base.specs.Limits.{maxPositions, nameBytes}
+use Rattle.spec_base.specs.Bytes.{leBytes, leNumber}
 use Rattle.states.specs.StateRecord.{stateLength, labelsIn, stateRecord}
-use Rattle.numbers.specs.Parts.{slot, put, zeros}
+use Rattle.spec_base.specs.Parts.{slot, put, zeros}
 use Rattle.box_positions.specs.Names.{Position, find, namesOf, Once}
 
 -- name and phase

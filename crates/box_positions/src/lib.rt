@@ -4,7 +4,7 @@ ghost use mathlib.Core.Bool.{cond};
 ghost use Prim.Native.Nat.{_<_};
 ghost use lib.ListN.{length};
 ghost use lib.Dec.{ltb};
-ghost use Rattle.limits.specs.Limits.{maxPositions};
+ghost use Rattle.spec_base.specs.Limits.{maxPositions};
 ghost use Rattle.labels.specs.Labels.{labelSet};
 ghost use Rattle.box_positions.specs.Table.{tableLength, place, placeOf, savedLabels, written, cleared, kept, saveOf};
 use labels::Labels;

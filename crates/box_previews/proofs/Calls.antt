@@ -6,8 +6,8 @@ use mathlib.Core.Logic.{_≢_}
 use mathlib.Core.List.{List}
 use lib.ListN.{length}
 use borrow.Author.Tests.{le-leb, lt-leb}
-use Rattle.limits.specs.Limits.{signalCount}
-use Rattle.sets.specs.Sets.{difference, membersFrom}
+use Rattle.spec_base.specs.Limits.{signalCount}
+use Rattle.spec_base.specs.Sets.{difference, membersFrom}
 use Rattle.theory_language.specs.Traced.{startTraced, instantOf}
 use Rattle.sequence.specs.Program.{program}
 use Rattle.sequence.specs.Check.{checkOf}

@@ -6,7 +6,7 @@ use mathlib.Core.Bool.{Bool, true, false, not, _&&_, _||_, or-false, and-false}
 use mathlib.Core.List.{List}
 use lib.Dec.{eqb}
 use borrow.Author.Tests.{eqb-true, ne-eqb}
-use Rattle.sets.specs.Sets.{member, none, join, difference, insert, remove, Subset, Disjoint}
+use Rattle.spec_base.specs.Sets.{member, none, join, difference, insert, remove, Subset, Disjoint}
 use Rattle.sets.proofs.Booleans.{clash, Tested, tested}
 use Rattle.sets.proofs.Members.{member-join, member-insert, member-difference, member-remove, in-remove, in-none, ext}
 use Rattle.box_fillings.specs.declared.Findings.{Findings}

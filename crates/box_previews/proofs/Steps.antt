@@ -5,9 +5,9 @@ use mathlib.Core.Path.{_≡_, refl, sym, ap, ap₂, _∙_, subst}
 use mathlib.Core.Bool.{Bool, true, false, _&&_, and-eq-true-iff, or-false}
 use mathlib.Core.List.{List, []}
 use borrow.Author.Tests.{lt-ltb}
-use Rattle.limits.specs.Limits.{signalCount, signalBytes}
-use Rattle.sets.specs.Sets.{member, none, join, common, insert, remove, Subset, Disjoint}
-use Rattle.sets.specs.Widths.{insertBelow, Lowest}
+use Rattle.spec_base.specs.Limits.{signalCount, signalBytes}
+use Rattle.spec_base.specs.Sets.{member, none, join, common, insert, remove, Subset, Disjoint}
+use Rattle.spec_base.specs.Widths.{insertBelow, Lowest}
 use Rattle.sets.proofs.Booleans.{clash}
 use Rattle.sets.proofs.Members.{member-none, member-join, member-common, member-lt}
 use Rattle.spec_language.specs.Statement.{Statement}
@@ -20,7 +20,7 @@ use Rattle.reaction.specs.declared.Completion.the-variants.{Ended, Waiting, Lea
 use Rattle.reaction.specs.declared.Reaction.{Reaction}
 use Rattle.reaction.specs.Reactions.{reactionOf}
 use Rattle.instants.specs.Written.{writtenBy, writtenFrom}
-use Rattle.numbers.specs.Bytes.{leBytes}
+use Rattle.spec_base.specs.Bytes.{leBytes}
 use Rattle.numbers.proofs.Bytes.{le-round-trip}
 use Rattle.answers.specs.AnswerRecord.{answerRecord, encodeAnswer}
 use Rattle.tick.specs.Tick.{Outcome}

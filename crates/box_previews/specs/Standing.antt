@@ -1,7 +1,7 @@
 -- A preview from an origin of the statement that lies in the bytes (program, specs/Program): the form for the code.
 use Prim.Native.Nat.{ℕ}
 use mathlib.Core.List.{List}
-use Rattle.limits.specs.Limits.{maxDepth}
+use Rattle.spec_base.specs.Limits.{maxDepth}
 use Rattle.spec_language.specs.Statement.{Statement}
 use Rattle.spec_language.specs.Instants.{start}
 use Rattle.sequence.specs.Program.{program}

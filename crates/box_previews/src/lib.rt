@@ -4,7 +4,7 @@ ghost use mathlib.Core.Path.{_≡_};
 ghost use mathlib.Core.Bool.{_||_};
 ghost use lib.ListN.{length};
 ghost use Rattle.box_fillings.specs.Preview.{alone, sharedBy, both, bit, previewLength, previewBytes, foundIn, findings, previewed, shownBy, previewOf};
-ghost use Rattle.sets.specs.Sets.{Disjoint};
+ghost use Rattle.spec_base.specs.Sets.{Disjoint};
 ghost use Rattle.demands.specs.Demands.{answerAfterwards};
 ghost use Rattle.program.specs.Program.{ReactedWithoutLitres};
 ghost use Rattle.instants.specs.Written.{Writable, writtenFrom};

@@ -7,11 +7,11 @@ use lib.Dec.{eqb, leb}
 use Rattle.spec_language.specs.Ceiling.{ceiling}
 use Rattle.sequence.specs.Program.{program}
 use Rattle.sequence.specs.Check.{Checked, sound, bad, checked}
-use Rattle.numbers.specs.Parts.{put}
+use Rattle.spec_base.specs.Parts.{put}
 use Rattle.states.specs.StateRecord.{stateLength, stateRecord, phaseIn, labelsIn}
 use Rattle.box_positions.specs.Table.{tableLength, lookup, Kept, kept, saveOf, forgetOf}
-use Rattle.numbers.specs.Bytes.{leBytes}
-use Rattle.limits.specs.Limits.{numberBytes}
+use Rattle.spec_base.specs.Bytes.{leBytes}
+use Rattle.spec_base.specs.Limits.{numberBytes}
 use Rattle.recordings.specs.Record.{recordLength, recordOf, panelLength, panelOf}
 use Rattle.recordings.specs.Recording.{following}
 use lib.ListN.{length}

@@ -9,8 +9,8 @@ use mathlib.Core.List.{List, [], _∷_}
 use lib.ListN.{replicate}
 use lib.Dec.{eqb}
 use lib.Ieee.{ofBits, toBits, ofInt, whole, inUnsigned, toUnsigned}
-use Rattle.limits.specs.Limits.{numberBytes}
-use Rattle.sets.specs.Sets.{member, none, only, join, difference, insert, remove, subset, disjoint, membersFrom}
+use Rattle.spec_base.specs.Limits.{numberBytes}
+use Rattle.spec_base.specs.Sets.{member, none, only, join, difference, insert, remove, subset, disjoint, membersFrom}
 use Rattle.spec_language.specs.Reaction.{reactBy}
 use Rattle.spec_language.specs.Errors.{errorsBy}
 use Rattle.spec_language.specs.Reactions.{reactionsBy}
@@ -23,10 +23,10 @@ use Rattle.spec_language.specs.Ceiling.{ceiling}
 use Rattle.sequence.specs.Commands.{commandOf}
 use Rattle.sequence.specs.Reader.{front, read}
 use Rattle.sequence.specs.Check.{checked}
-use Rattle.numbers.specs.Bytes.{leBytes, leNumber}
+use Rattle.spec_base.specs.Bytes.{leBytes, leNumber}
 use Rattle.states.specs.StateRecord.{stateLength, stateRecord, phaseIn, labelsIn, encodeState, decodeState}
 use Rattle.answers.specs.AnswerRecord.{answerLength, codeIn, answerRecord, encodeAnswer}
-use Rattle.numbers.specs.Parts.{put, zeros}
+use Rattle.spec_base.specs.Parts.{put, zeros}
 use Rattle.box_positions.specs.Table.{tableLength, entryLength, entryOf, place, lookup, saveOf}
 use Rattle.box_ledgers.specs.Ledgers.{totalIn, totalsBytes, wouldPass, addedBelow}
 use Rattle.recordings.specs.Record.{recordOf, numberIn, panelLength, panelOf}

@@ -5,9 +5,9 @@ use mathlib.Core.Bool.{Bool, cond}
 use mathlib.Core.List.{List}
 use lib.ListN.{length}
 use lib.Dec.{eqb}
-use Rattle.limits.specs.Limits.{maxBytes, signalBytes, reactionsBytes, numberBytes}
-use Rattle.numbers.specs.Bytes.{leBytes, leNumber}
-use Rattle.numbers.specs.Parts.{slot, put, zeros}
+use Rattle.spec_base.specs.Limits.{maxBytes, signalBytes, reactionsBytes, numberBytes}
+use Rattle.spec_base.specs.Bytes.{leBytes, leNumber}
+use Rattle.spec_base.specs.Parts.{slot, put, zeros}
 use Rattle.states.specs.StateRecord.{stateLength}
 use Rattle.box_positions.specs.Table.{tableLength}
 use Rattle.box_ledgers.specs.Ledgers.{ledgerLength}

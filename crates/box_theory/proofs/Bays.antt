@@ -9,7 +9,7 @@ use mathlib.Core.List.{List, []}
 use lib.ListN.{length}
 use lib.Dec.{eqb, leb}
 use borrow.Author.Tests.{ne-eqb, leb-true}
-use Rattle.limits.specs.Limits.{maxBytes}
+use Rattle.spec_base.specs.Limits.{maxBytes}
 use Rattle.sequence.specs.Check.{Checked, sound, bad, checked, checkOf}
 use Rattle.sequence.specs.Ceilings.{ceilingOf}
 use Rattle.sequence.specs.Rows.{row-2}

@@ -7,7 +7,7 @@ use mathlib.Core.Bool.{not, cond}
 use mathlib.Core.List.{List, [], _∷_}
 use lib.ListN.{length}
 use lib.Dec.{eqb, ltb}
-use Rattle.sets.specs.Sets.{remove}
+use Rattle.spec_base.specs.Sets.{remove}
 use Rattle.answers.specs.AnswerRecord.{answerLength, codeIn}
 use Rattle.recordings.specs.Record.{recordLength}
 use Rattle.tick.specs.Tick.{Outcome, tickOf}

@@ -10,9 +10,9 @@ use mathlib.Core.List.{List, [], _∷_}
 use lib.ListN.{length, getElem?}
 use lib.Dec.{eqb}
 use borrow.Author.Tests.{eq-eqb, ne-eqb}
-use Rattle.limits.specs.Limits.{numberBytes, lastNumber}
+use Rattle.spec_base.specs.Limits.{numberBytes, lastNumber}
 use Rattle.spec_language.specs.Machines.{State}
-use Rattle.numbers.specs.Bytes.{leBytes, leNumber}
+use Rattle.spec_base.specs.Bytes.{leBytes, leNumber}
 use Rattle.numbers.proofs.Bytes.{length-leBytes, le-round-trip}
 use Rattle.states.specs.StateRecord.{stateLength, encodeState}
 use Rattle.states.proofs.StateLaws.{length-state}
@@ -20,7 +20,7 @@ use Rattle.recordings.specs.Record.{recordLength, recordOf, numberIn, panelLeng
 use Rattle.recordings.specs.Recording.{following, tickOn, recordFrom, recordsFrom, recordingOf}
 use Rattle.recordings_writer.proofs.Records.{number-field}
 use Rattle.recordings_writer.proofs.Theorems.{following-is, panel-alike}
-use Rattle.numbers.specs.Parts.{slot, put}
+use Rattle.spec_base.specs.Parts.{slot, put}
 use Rattle.numbers.proofs.Putting.{put-slot, slot-put, put-before, put-behind}
 use Rattle.numbers.proofs.Zeros.{zeros-number}
 use Rattle.box_ledgers.specs.Ledgers.{ledgerLength, passes, added}

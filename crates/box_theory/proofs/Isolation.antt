@@ -10,12 +10,12 @@ use mathlib.Core.List.{List, [], _∷_}
 use lib.ListN.{length}
 use lib.Dec.{eqb, leb}
 use borrow.Author.Tests.{eq-eqb, ne-eqb}
-use Rattle.limits.specs.Limits.{signalCount}
-use Rattle.sets.specs.Sets.{difference, membersFrom}
+use Rattle.spec_base.specs.Limits.{signalCount}
+use Rattle.spec_base.specs.Sets.{difference, membersFrom}
 use Rattle.states.specs.StateRecord.{stateLength}
 use Rattle.answers.specs.AnswerRecord.{answerLength}
 use Rattle.recordings.specs.Record.{recordLength, panelLength, panelOf}
-use Rattle.numbers.specs.Parts.{put, zeros}
+use Rattle.spec_base.specs.Parts.{put, zeros}
 use Rattle.numbers.proofs.Zeros.{length-zeros}
 use Rattle.tick.specs.Tick.{Outcome, outcome, Reply, refused, reacts, replyOf, replied, tickBy, tickOf}
 use Rattle.demands.specs.Demands as demands

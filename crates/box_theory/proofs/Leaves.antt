@@ -4,8 +4,8 @@ use native.Mathlib.Omega.{arith}
 use mathlib.Core.Path.{_≡_, refl, sym, ap, _∙_, subst}
 use mathlib.Core.List.{List}
 use lib.ListN.{length}
-use Rattle.limits.specs.Limits.{numberBytes}
-use Rattle.numbers.specs.Bytes.{leNumber}
+use Rattle.spec_base.specs.Limits.{numberBytes}
+use Rattle.spec_base.specs.Bytes.{leNumber}
 use Rattle.demands.proofs.Sequence.{accepted}
 use Rattle.numbers.proofs.Zeros.{zeros-number}
 use Rattle.box_stretches.specs.Called.{Called, number, memoryAfter}

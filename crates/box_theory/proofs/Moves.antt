@@ -11,7 +11,7 @@ use lib.Seq.{length-take-le}
 use lib.Dec.{eqb}
 use Rattle.states.specs.StateRecord.{stateLength, stateRecord, phaseIn, labelsIn}
 use Rattle.states.proofs.StateLaws.{state-sized}
-use Rattle.numbers.specs.Parts.{put}
+use Rattle.spec_base.specs.Parts.{put}
 use Rattle.numbers.proofs.Putting.{put-slot, length-put}
 use Rattle.box_positions.specs.Table.{tableLength, lookup, Kept, kept, numberKept, tableKept, saveOf, forgetOf}
 use Rattle.box_positions.proofs.Theorems.{save-number, forget-number, save-refused, forget-refused}

@@ -14,7 +14,7 @@ use Rattle.spec_language.specs.States.{Valid}
 use Rattle.spec_language.specs.Machines.{State}
 use Rattle.sequence.specs.Rows.{Spells}
 use Rattle.states.specs.StateRecord.{stateLength, phaseIn, labelsIn, encodeState}
-use Rattle.numbers.specs.Parts.{put, zeros}
+use Rattle.spec_base.specs.Parts.{put, zeros}
 use Rattle.box_positions.specs.Names.{Position}
 use Rattle.box_positions.specs.Table.{tableLength, lookup, numberKept, saveOf, forgetOf, SixteenKnown, Agrees}
 use Rattle.box_positions.proofs.Theorems as table

@@ -9,7 +9,7 @@ use lib.ListN.{length}
 use lib.Dec.{eqb, leb}
 use lib.IntN.{pos}
 use lib.Ieee.{Float, binary32, add, toBits, ofInt}
-use Rattle.limits.specs.Limits.{numberBytes}
+use Rattle.spec_base.specs.Limits.{numberBytes}
 use Rattle.spec_language.specs.Statement.{Statement}
 use Rattle.spec_language.specs.Ceiling.{ceiling}
 use Rattle.spec_language.specs.Machines.{State}
@@ -18,8 +18,8 @@ use Rattle.sequence.specs.Check.{Checked, sound, bad, checked, checkOf}
 use Rattle.sequence.specs.Ceilings.{ceilingOf}
 use Rattle.sequence.specs.Rows.{Spells}
 use Rattle.sequence.proofs.Rows.{Decides, decided, row-range}
-use Rattle.numbers.specs.Bytes.{leBytes, leNumber}
-use Rattle.litres.specs.Litres.{ordered}
+use Rattle.spec_base.specs.Bytes.{leBytes, leNumber}
+use Rattle.spec_base.specs.WholeLitres.{ordered}
 use Rattle.sequence.specs.Amounts.{amountSize, amountBytes}
 use Rattle.demands.proofs.Sequence.{Accepted, accepted}
 use Rattle.numbers.proofs.Putting.{length-put, put-before}

@@ -8,7 +8,7 @@ use mathlib.Core.Option.{some, none}
 use mathlib.Core.List.{List}
 use lib.ListN.{length}
 use borrow.Author.Tests.{ne-eqb}
-use Rattle.limits.specs.Limits.{lastNumber}
+use Rattle.spec_base.specs.Limits.{lastNumber}
 use Rattle.spec_language.specs.Machines.{State}
 use Rattle.sequence.specs.Program.{program}
 use Rattle.states.specs.StateRecord.{encodeState, Recorded}

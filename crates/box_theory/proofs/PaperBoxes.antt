@@ -17,8 +17,8 @@ use Rattle.sequence.specs.Check.{checkOf}
 use Rattle.sequence.specs.Rows.{Spells}
 use Rattle.states.specs.StateRecord.{encodeState}
 use Rattle.sequence.specs.Ceilings.{ceilingOf}
-use Rattle.numbers.specs.Bytes.{leNumber}
-use Rattle.numbers.specs.Parts.{zeros}
+use Rattle.spec_base.specs.Bytes.{leNumber}
+use Rattle.spec_base.specs.Parts.{zeros}
 use Rattle.numbers.proofs.Zeros.{length-zeros, slot-zeros, zeros-number}
 use Rattle.box_ledgers.specs.Ledgers.{farmCount, totalIn}
 use Rattle.box_ledgers.proofs.Theorems.{cleared-total}

@@ -8,9 +8,9 @@ use mathlib.Core.List.{List, []}
 use lib.Ieee.{Float, nan, inf, fin, binary32, up, down, toBits}
 use lib.Ieee.Exact.{HasValue}
 use lib.Ieee.Fits.{down-pos}
-use Rattle.numbers.specs.Bytes.{leBytes}
-use Rattle.limits.specs.Limits.{litresLimit}
-use Rattle.litres.specs.Litres.{IsNumber, Near}
+use Rattle.spec_base.specs.Bytes.{leBytes}
+use Rattle.spec_base.specs.Limits.{litresLimit}
+use Rattle.spec_base.specs.WholeLitres.{IsNumber, Near}
 use Rattle.litres.proofs.Sums.{is-number, value-of}
 use Rattle.sequence.specs.Amounts.{amountSize}
 use Rattle.box_ledgers.specs.Ledgers.{farmCount, fieldIn, totalIn, exactTotal, shownTotal, readingOf, totalRead}

@@ -7,7 +7,7 @@ use mathlib.Core.Option.{Option, some}
 use mathlib.Core.Option as Option
 use mathlib.Core.List.{List, [], _∷_, _++_}
 use lib.ListN.{length, getD}
-use Rattle.limits.specs.Limits.{signalCount, signalBytes, numberBytes, placeBytes, reactionsBytes, readBackPlace}
+use Rattle.spec_base.specs.Limits.{signalCount, signalBytes, numberBytes, placeBytes, reactionsBytes, readBackPlace}
 use Rattle.spec_language.specs.Statement.{Statement}
 use Rattle.spec_language.specs.Reaction.{Code, Reaction, gives, emitted, code, react, inheritanceFirst}
 use Rattle.spec_language.specs.Errors.{Error, blame, firstError}
@@ -37,7 +37,7 @@ use Rattle.demands.proofs.Bounds.{emitted-below}
 use Rattle.demands.proofs.ErrorPlaces.{place-fits}
 use Rattle.demands.proofs.Sequence.{Accepted, tick-at, term-source, term-distinct, recorded-fresh, recorded-resumed, bounded-fresh, bounded-resumed, places-fresh, places-resumed, counted-fresh, counted-resumed}
 use Rattle.box_fillings.specs.Preview.{answerIn}
-use Rattle.numbers.specs.Bytes.{leBytes}
+use Rattle.spec_base.specs.Bytes.{leBytes}
 use Rattle.numbers.proofs.Bytes.{le-low}
 use Rattle.box_paper.specs.PaperBox.{BayMachine, answerSeen, InstantTold, told, byTerms, byLabelSets}
 

@@ -8,15 +8,15 @@ use mathlib.Core.Option.{Option, some, none}
 use mathlib.Core.List.{List, [], _∷_}
 use lib.ListN.{length}
 use lib.Dec.{eqb, ltb}
-use Rattle.limits.specs.Limits.{labelBytes, numberBytes, maxPositions}
+use Rattle.spec_base.specs.Limits.{labelBytes, numberBytes, maxPositions}
 use Rattle.spec_language.specs.Statement.{Statement}
 use Rattle.spec_language.specs.Machines.{State}
 use Rattle.sequence.specs.Program.{program}
-use Rattle.numbers.specs.Bytes.{leBytes, leNumber}
+use Rattle.spec_base.specs.Bytes.{leBytes, leNumber}
 use Rattle.numbers.proofs.Bytes.{le-round-trip}
 use Rattle.states.specs.StateRecord.{stateLength, phaseIn, labelsIn, encodeState, Recorded}
 use Rattle.states.proofs.StateLaws.{length-state}
-use Rattle.numbers.specs.Parts.{put}
+use Rattle.spec_base.specs.Parts.{put}
 use Rattle.numbers.proofs.Putting.{put-before, put-behind}
 use Rattle.box_positions.specs.Names.{Position, position, find, without, isKnown, Answered, answered, saveNamed, forgetNamed, numberAnswered, positionsAfter}
 use Rattle.box_positions.specs.Table.{lookup, kept, numberKept, tableKept, saveOf, forgetOf, Agrees}

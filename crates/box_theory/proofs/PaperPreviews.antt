@@ -7,7 +7,7 @@ use mathlib.Core.List.{List, [], _∷_}
 use lib.ListN.{length}
 use lib.Dec.{eqb}
 use borrow.Author.Tests.{eq-eqb, ne-eqb}
-use Rattle.sets.specs.Sets.{difference}
+use Rattle.spec_base.specs.Sets.{difference}
 use Rattle.spec_language.specs.Statement.{Statement}
 use Rattle.spec_language.specs.Reaction.{Reaction, gives, react, inheritanceFirst}
 use Rattle.spec_language.specs.Expansion.{expand}

@@ -9,13 +9,13 @@ use mathlib.Core.List.{List, [], _∷_}
 use lib.ListN.{length}
 use lib.Dec.{eqb, ltb}
 use borrow.Author.Tests.{eq-eqb, ne-eqb}
-use Rattle.limits.specs.Limits.{numberBytes, litresLimit}
+use Rattle.spec_base.specs.Limits.{numberBytes, litresLimit}
 use native.Mathlib.Decide.{ℕ-discrete}
 use Rattle.spec_language.specs.Reaction.{Code}
 use Rattle.spec_language.specs.Errors.{Error}
 use Rattle.spec_language.specs.Machines.{Phase, Seen, instant, refused}
 use Rattle.sequence.specs.Program.{program}
-use Rattle.numbers.specs.Bytes.{leBytes, leNumber}
+use Rattle.spec_base.specs.Bytes.{leBytes, leNumber}
 use Rattle.numbers.proofs.Bytes.{length-leBytes, le-round-trip}
 use Rattle.states.specs.StateRecord.{stateLength, encodeState}
 use Rattle.answers.specs.AnswerRecord.{answerLength}

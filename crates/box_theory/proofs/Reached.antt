@@ -9,9 +9,9 @@ use mathlib.Core.Bool.{Bool, true, false, cond, true≢false}
 use mathlib.Core.List.{List, [], _∷_}
 use lib.ListN.{length}
 use borrow.Author.Tests.{eq-eqb, ne-eqb}
-use Rattle.numbers.specs.Bytes.{leNumber}
+use Rattle.spec_base.specs.Bytes.{leNumber}
 use Rattle.sequence.specs.Check.{checkOf}
-use Rattle.numbers.specs.Parts.{slot, zeros}
+use Rattle.spec_base.specs.Parts.{slot, zeros}
 use Rattle.numbers.proofs.Putting.{length-put, put-before}
 use Rattle.box_ledgers.specs.Ledgers as Ledgers
 use Rattle.box_ledgers.specs.Ledgers.{ledgerLength}

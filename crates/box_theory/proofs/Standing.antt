@@ -8,18 +8,18 @@ use mathlib.Core.Bool.{false}
 use mathlib.Core.List.{List}
 use lib.ListN.{length}
 use borrow.Author.Tests.{ne-eqb}
-use Rattle.limits.specs.Limits.{numberBytes}
-use Rattle.sets.specs.Sets as Sets
+use Rattle.spec_base.specs.Limits.{numberBytes}
+use Rattle.spec_base.specs.Sets as Sets
 use Rattle.spec_language.specs.Reaction.{react, inheritanceFirst}
 use Rattle.spec_language.specs.Expansion.{expand}
 use Rattle.spec_language.specs.Machines.{State, stateAfter}
 use Rattle.sequence.specs.Program.{program}
-use Rattle.numbers.specs.Bytes.{leBytes}
+use Rattle.spec_base.specs.Bytes.{leBytes}
 use Rattle.numbers.proofs.Bytes.{length-leBytes}
 use Rattle.states.specs.StateRecord.{stateLength, encodeState, holds, Recorded}
 use Rattle.states.proofs.StateLaws.{length-state, decode-encode}
 use Rattle.answers.specs.AnswerRecord.{answerLength}
-use Rattle.numbers.specs.Parts.{slot, put}
+use Rattle.spec_base.specs.Parts.{slot, put}
 use Rattle.tick.specs.Tick as Tick
 use Rattle.tick.specs.Tick.{Outcome, tickOf}
 use Rattle.demands.specs.Demands as demands

@@ -9,7 +9,7 @@ use mathlib.Core.List.{List, []}
 use lib.ListN.{length, drop, length-drop}
 use lib.Seq.{length-take-le}
 use borrow.Author.Tests.{lt-ltb, le-ltb, eq-eqb, ne-eqb}
-use Rattle.numbers.specs.Parts.{put}
+use Rattle.spec_base.specs.Parts.{put}
 use Rattle.numbers.proofs.Putting.{put-slot, length-put, slot-put, put-before, put-behind}
 use Rattle.box_stretches.specs.Called.{Called, called, number, memoryAfter, lentAfter}
 use Rattle.box_stretches.specs.Stretch.{stretchLength, isEmpty, Terms}

@@ -10,7 +10,7 @@ use mathlib.Core.List.{List, [], _∷_}
 use lib.ListN.{length}
 use lib.Dec.{eqb}
 use borrow.Author.Tests.{eq-eqb, ne-eqb}
-use Rattle.limits.specs.Limits.{numberBytes}
+use Rattle.spec_base.specs.Limits.{numberBytes}
 use Rattle.spec_language.specs.Statement.{Statement}
 use Rattle.spec_language.specs.Reaction.{inheritanceFirst}
 use Rattle.spec_language.specs.Machines.{State}
@@ -18,14 +18,14 @@ use Rattle.sequence.specs.Program.{program}
 use Rattle.sequence.specs.Rows.{rank}
 use Rattle.sequence.specs.Check.{Checked, sound, bad, checked}
 use Rattle.sequence.proofs.Rows.{row-rank}
-use Rattle.numbers.specs.Bytes.{leBytes, leNumber}
+use Rattle.spec_base.specs.Bytes.{leBytes, leNumber}
 use Rattle.numbers.proofs.Bytes.{length-leBytes}
 use Rattle.states.specs.StateRecord.{stateLength, Decoded, holds, malformed, decodeState}
 use Rattle.states.proofs.StateLaws.{length-state}
 use Rattle.answers.specs.AnswerRecord.{answerLength}
 use Rattle.recordings.specs.Record.{recordLength, recordOf}
 use Rattle.recordings.specs.Recording.{following}
-use Rattle.numbers.specs.Parts.{slot, put}
+use Rattle.spec_base.specs.Parts.{slot, put}
 use Rattle.numbers.proofs.Putting.{put-slot, length-put, slot-put, put-before, put-behind}
 use Rattle.box_ledgers.specs.Ledgers.{ledgerLength, passes, added}
 use Rattle.box_ledgers.proofs.Theorems.{added-sized}

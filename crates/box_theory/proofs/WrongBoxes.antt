@@ -5,8 +5,8 @@ use mathlib.Core.Path.{_≡_, refl, sym, ap, _∙_}
 use mathlib.Core.List.{List, [], _∷_}
 use lib.ListN.{getD}
 use lib.Ieee.{ofBits, whole, inUnsigned, toUnsigned}
-use Rattle.sets.specs.Sets as Sets
-use Rattle.sets.specs.Sets.{member, only, join, insert, remove, subset, disjoint, membersFrom}
+use Rattle.spec_base.specs.Sets as Sets
+use Rattle.spec_base.specs.Sets.{member, only, join, insert, remove, subset, disjoint, membersFrom}
 use Rattle.spec_language.specs.Reaction.{reactBy}
 use Rattle.spec_language.specs.Errors.{errorsBy}
 use Rattle.spec_language.specs.Reactions.{reactionsBy}
@@ -20,10 +20,10 @@ use Rattle.spec_language.specs.Ceiling.{ceiling}
 use Rattle.sequence.specs.Commands.{commandOf}
 use Rattle.sequence.specs.Reader.{front, read}
 use Rattle.sequence.specs.Check.{checked, checkOf}
-use Rattle.numbers.specs.Bytes.{leBytes, leNumber}
+use Rattle.spec_base.specs.Bytes.{leBytes, leNumber}
 use Rattle.states.specs.StateRecord.{phaseIn, encodeState, decodeState}
 use Rattle.answers.specs.AnswerRecord.{encodeAnswer}
-use Rattle.numbers.specs.Parts.{put, zeros}
+use Rattle.spec_base.specs.Parts.{put, zeros}
 use Rattle.box_ledgers.specs.Ledgers.{totalIn, wouldPass, addedBelow}
 use Rattle.tick.specs.Tick.{Outcome, outcome, tickBy}
 use Rattle.demands.specs.Demands.{outcomes}

@@ -5,8 +5,8 @@ use mathlib.Core.Path.{_≡_, refl}
 use mathlib.Core.List.{List, [], _∷_}
 use lib.ListN.{replicate}
 use lib.Ieee.{ofBits, toBits, ofInt, add, whole, inUnsigned, toUnsigned}
-use Rattle.sets.specs.Sets as Sets
-use Rattle.sets.specs.Sets.{member, only, join, insert, remove, subset, disjoint, membersFrom}
+use Rattle.spec_base.specs.Sets as Sets
+use Rattle.spec_base.specs.Sets.{member, only, join, insert, remove, subset, disjoint, membersFrom}
 use Rattle.spec_language.specs.Reaction.{reactBy}
 use Rattle.spec_language.specs.Errors.{errorsBy}
 use Rattle.spec_language.specs.Reactions.{reactionsBy}
@@ -20,10 +20,10 @@ use Rattle.spec_language.specs.Ceiling.{ceiling}
 use Rattle.sequence.specs.Commands.{commandOf}
 use Rattle.sequence.specs.Reader.{front, read}
 use Rattle.sequence.specs.Check.{checked}
-use Rattle.numbers.specs.Bytes.{leBytes, leNumber}
+use Rattle.spec_base.specs.Bytes.{leBytes, leNumber}
 use Rattle.states.specs.StateRecord.{encodeState, decodeState}
 use Rattle.answers.specs.AnswerRecord.{encodeAnswer, answerLength}
-use Rattle.numbers.specs.Parts.{put, zeros}
+use Rattle.spec_base.specs.Parts.{put, zeros}
 use Rattle.box_positions.specs.Table.{place, lookup, saveOf, forgetOf}
 use Rattle.box_ledgers.specs.Ledgers.{totalIn, totalsBytes, wouldPass, addedBelow}
 use Rattle.tick.specs.Tick.{tickBy}

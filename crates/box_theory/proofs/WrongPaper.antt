@@ -7,10 +7,10 @@ use mathlib.Core.Bool.{Bool, true, false, true≢false}
 use mathlib.Core.List.{List, [], _∷_, List·Memᴰ, List·Memᴰ·not-nil, List·Memᴰ·cases-cons}
 use lib.ListN.{getD, replicate}
 use lib.Ieee.{Float, ofBits, toBits, ofInt, add, whole, inUnsigned, toUnsigned}
-use Rattle.sets.specs.Sets as Sets
-use Rattle.sets.specs.Sets.{member, only, join, insert, remove, subset, disjoint, membersFrom}
+use Rattle.spec_base.specs.Sets as Sets
+use Rattle.spec_base.specs.Sets.{member, only, join, insert, remove, subset, disjoint, membersFrom}
 use Rattle.sets.proofs.Members.{member-none}
-use Rattle.litres.specs.Litres.{ordered}
+use Rattle.spec_base.specs.WholeLitres.{ordered}
 use Rattle.spec_language.specs.Statement.{Statement, nothing}
 use Rattle.spec_language.specs.Reaction.{reactBy}
 use Rattle.spec_language.specs.Errors.{errorsBy}
@@ -27,10 +27,10 @@ use Rattle.sequence.specs.Commands.{commandOf}
 use Rattle.sequence.specs.Reader.{front, read}
 use Rattle.sequence.specs.Check.{Checked, sound, bad, checked, checkOf}
 use Rattle.sequence.specs.Rows.{Spells}
-use Rattle.numbers.specs.Bytes.{leBytes, leNumber}
+use Rattle.spec_base.specs.Bytes.{leBytes, leNumber}
 use Rattle.states.specs.StateRecord.{encodeState, decodeState}
 use Rattle.answers.specs.AnswerRecord.{codeIn, emittedIn, encodeAnswer}
-use Rattle.numbers.specs.Parts.{put, zeros}
+use Rattle.spec_base.specs.Parts.{put, zeros}
 use Rattle.box_positions.specs.Names.{find, without, saveNamed}
 use Rattle.box_positions.specs.Table.{saveOf, forgetOf, lookup, place}
 use Rattle.box_ledgers.specs.Ledgers.{readingLength, fieldIn, totalIn, totalsBytes, wouldPass, addedBelow}

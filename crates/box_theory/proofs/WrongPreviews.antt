@@ -6,9 +6,9 @@ use mathlib.Core.Bool.{true, true≢false}
 use mathlib.Core.List.{List, [], _∷_}
 use lib.ListN.{replicate}
 use lib.Ieee.{ofBits, whole, inUnsigned, toUnsigned}
-use Rattle.sets.specs.Sets.{member, none, only, join, common, difference, insert, remove, subset, disjoint, membersFrom}
-use Rattle.sets.specs.Widths.{allBelow}
-use Rattle.sets.specs.Subsets.{subsetsBelow}
+use Rattle.spec_base.specs.Sets.{member, none, only, join, common, difference, insert, remove, subset, disjoint, membersFrom}
+use Rattle.spec_base.specs.Widths.{allBelow}
+use Rattle.spec_base.specs.Subsets.{subsetsBelow}
 use Rattle.sets.proofs.Members.{member-none}
 use Rattle.spec_language.specs.Reaction.{reactBy}
 use Rattle.spec_language.specs.Errors.{errorsBy}
@@ -23,10 +23,10 @@ use Rattle.spec_language.specs.Ceiling.{ceiling}
 use Rattle.sequence.specs.Commands.{commandOf}
 use Rattle.sequence.specs.Reader.{front, read}
 use Rattle.sequence.specs.Check.{checked}
-use Rattle.numbers.specs.Bytes.{leBytes, leNumber}
+use Rattle.spec_base.specs.Bytes.{leBytes, leNumber}
 use Rattle.states.specs.StateRecord.{encodeState, decodeState}
 use Rattle.answers.specs.AnswerRecord.{answerLength, encodeAnswer}
-use Rattle.numbers.specs.Parts.{put, zeros}
+use Rattle.spec_base.specs.Parts.{put, zeros}
 use Rattle.box_ledgers.specs.Ledgers.{totalIn, wouldPass, addedBelow}
 use Rattle.tick.specs.Tick.{tickBy}
 use Rattle.recordings.specs.Record.{recordLength}

@@ -11,17 +11,17 @@ use mathlib.Core.List.{List, [], _∷_}
 use lib.ListN.{length}
 use lib.Dec.{eqb, ltb}
 use borrow.Author.Tests.{eq-eqb, ne-eqb, ltb-true}
-use Rattle.limits.specs.Limits.{numberBytes, litresLimit}
-use Rattle.numbers.specs.Bytes.{leBytes}
+use Rattle.spec_base.specs.Limits.{numberBytes, litresLimit}
+use Rattle.spec_base.specs.Bytes.{leBytes}
 use Rattle.numbers.proofs.Bytes.{length-leBytes}
 use Rattle.states.specs.StateRecord.{stateLength, stateRecord, phaseIn, labelsIn}
 use Rattle.states.proofs.StateLaws.{state-sized}
-use Rattle.numbers.specs.Parts.{put, zeros}
+use Rattle.spec_base.specs.Parts.{put, zeros}
 use Rattle.numbers.proofs.Putting.{slot-put, put-behind}
 use Rattle.numbers.proofs.Zeros.{slot-zeros}
 use Rattle.box_positions.specs.Table.{tableLength, lookup, Kept, kept, tableKept, saveOf, forgetOf}
 use Rattle.box_positions.proofs.TableLaws.{save-sized, forget-sized}
-use Rattle.litres.specs.Litres.{Near}
+use Rattle.spec_base.specs.WholeLitres.{Near}
 use Rattle.box_ledgers.specs.Ledgers.{farmCount, ledgerLength, exactTotal, readingOf, totalRead, totalIn, Exact, cleared, wouldPass, passes, added}
 use Rattle.box_ledgers.proofs.Totals.{passes-not}
 use Rattle.box_ledgers.proofs.Theorems.{added-total, added-stays-exact, total-most, reading-total, reading-within, cleared-total, cleared-exact, cleared-sized, cleared-is}

@@ -9,8 +9,8 @@ use mathlib.Core.Option.{Option, some, none}
 use mathlib.Core.List.{List, []}
 use lib.ListN.{length}
 use lib.Dec.{eqb, leb}
-use Rattle.limits.specs.Limits.{signalCount}
-use Rattle.sets.specs.Sets.{difference, membersFrom}
+use Rattle.spec_base.specs.Limits.{signalCount}
+use Rattle.spec_base.specs.Sets.{difference, membersFrom}
 use Rattle.spec_language.specs.Ceiling.{ceiling}
 use Rattle.sequence.specs.Program.{program}
 use Rattle.sequence.specs.Rows.{Row}
@@ -32,7 +32,7 @@ use Rattle.unrolled_theory.proofs.Theorems.{unroll-by-rows}
 use Rattle.replays.specs.Replay as replays
 use Rattle.replays.specs.Replay.{replayOf}
 use Rattle.replays.proofs.Numbers.{Verdict, refused, cut, compared, verdict}
-use Rattle.numbers.specs.Parts.{zeros}
+use Rattle.spec_base.specs.Parts.{zeros}
 use Rattle.numbers.proofs.Zeros.{length-zeros}
 use Rattle.box_positions.specs.Table.{lookup, Kept, kept, numberKept, saveOf, forgetOf}
 use Rattle.box_positions.proofs.Theorems.{save-number, forget-number}

@@ -8,11 +8,11 @@ use lib.ListN.{replicate}
 use lib.Dec.{ltb}
 use lib.Ieee.{ofBits, ofFields, odd, toBits, ofInt, whole, inUnsigned, toUnsigned}
 use borrow.Author.Tests.{ltb-true}
-use Rattle.limits.specs.Limits.{maxBytes, signalBytes, nameBytes}
-use Rattle.sets.specs.Sets as Sets
-use Rattle.sets.specs.Sets.{member, only, join, common, difference, insert, remove, subset, disjoint, membersFrom}
-use Rattle.sets.specs.Widths.{allBelow}
-use Rattle.sets.specs.Subsets.{subsetsBelow}
+use Rattle.spec_base.specs.Limits.{maxBytes, signalBytes, nameBytes}
+use Rattle.spec_base.specs.Sets as Sets
+use Rattle.spec_base.specs.Sets.{member, only, join, common, difference, insert, remove, subset, disjoint, membersFrom}
+use Rattle.spec_base.specs.Widths.{allBelow}
+use Rattle.spec_base.specs.Subsets.{subsetsBelow}
 use Rattle.spec_language.specs.Reaction.{reactBy}
 use Rattle.spec_language.specs.Errors.{errorsBy}
 use Rattle.spec_language.specs.Reactions.{reactionsBy}
@@ -27,7 +27,7 @@ use Rattle.sequence.specs.Commands.{commandOf}
 use Rattle.sequence.specs.Reader.{front, read}
 use Rattle.sequence.specs.Writer.{bytesOf}
 use Rattle.sequence.specs.Check.{checked, checkOf}
-use Rattle.numbers.specs.Bytes.{leBytes, leNumber}
+use Rattle.spec_base.specs.Bytes.{leBytes, leNumber}
 use Rattle.states.specs.StateRecord.{stateLength, stateRecord, encodeState, decodeState}
 use Rattle.answers.specs.AnswerRecord.{answerLength, encodeAnswer}
 use Rattle.tick.specs.Tick.{tickBy}
@@ -37,7 +37,7 @@ use Rattle.recordings.specs.Recording.{following, recordsFrom}
 use Rattle.replays.specs.Replay.{firstRecords, same, firstDifference, placeOf, replayOf}
 use Rattle.unrolled.specs.Unrolled.{copied, unrolled}
 use Rattle.unrolled.specs.Call.{unrollOf}
-use Rattle.numbers.specs.Parts.{put, zeros}
+use Rattle.spec_base.specs.Parts.{put, zeros}
 use Rattle.box_positions.specs.Table.{place, lookup, saveOf, forgetOf}
 use Rattle.box_ledgers.specs.Ledgers.{readingLength, totalIn, totalsBytes, wouldPass, addedBelow}
 use Rattle.box_fillings.specs.Preview.{previewLength, both, gathered, findings, previewOf}

@@ -7,7 +7,7 @@ use mathlib.Core.List.{List}
 use native.Mathlib.Omega.{arith}
 use lib.ListN.{length, getD, drop, length-drop}
 use lib.Seq.{getD-drop, drop-drop}
-use Rattle.limits.specs.Limits.{maxBytes, maxDepth}
+use Rattle.spec_base.specs.Limits.{maxBytes, maxDepth}
 use Rattle.spec_language.specs.Statement.{Statement}
 use Rattle.spec_language.specs.Sizes.{commands, loopNesting}
 use Rattle.sequence.specs.Commands.{Command, commandOf, partCount, headLength}

@@ -8,7 +8,7 @@ use Rattle.spec_language.specs.Statement.{Statement}
 use Rattle.spec_language.specs.Sizes.{commands, loopNesting, signalNesting}
 use Rattle.spec_language.specs.Ceiling.{ceiling}
 use Rattle.theory_language.proofs.Ceiling.{commands-declared, loops-declared, nesting-declared}
-use Rattle.limits.specs.Limits.{maxDepth, maxSignals, readBackPlace}
+use Rattle.spec_base.specs.Limits.{maxDepth, maxSignals, readBackPlace}
 use Rattle.sequence.specs.Program.{readBackSignals, program}
 use Rattle.sequence.specs.Check.{Checked, sound, bad, checked, numberOf, checkOf}
 use Rattle.sequence.proofs.Extents.{few-signals}

@@ -4,7 +4,7 @@ use mathlib.Core.Path.{_≡_, _∙_}
 use native.Mathlib.Omega.{arith}
 use native.Mathlib.Nat.{mul-le-mul, one-mul}
 use lib.Pow.{pow-mono, shl-exact}
-use Rattle.limits.specs.Limits.{maxBytes, maxDepth, maxSignals}
+use Rattle.spec_base.specs.Limits.{maxBytes, maxDepth, maxSignals}
 
 -- the power, as the code shifts it
 pub power : (i : ℕ) → i ≤ maxSignals → (1 * 2 ^ i) % 2 ^ 32 ≡ 2 ^ i

@@ -1,6 +1,6 @@
 -- What the ceiling of a sequence with a read-back set is made of (02, item 6).
 use Prim.Native.Nat.{ℕ, _+_, _*_, _^_, _≤_, _<_}
-use Rattle.limits.specs.Limits.{maxBytes, maxDepth, maxSignals}
+use Rattle.spec_base.specs.Limits.{maxBytes, maxDepth, maxSignals}
 use Rattle.ceilings.specs.declared.Extent.{Extent}
 
 -- numbers of a whole sequence whose signals leave room for k declarations

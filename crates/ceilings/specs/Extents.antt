@@ -6,7 +6,7 @@ use mathlib.Core.List.{List}
 use lib.ListN.{length}
 use Rattle.spec_language.specs.Statement.{Statement}
 use Rattle.spec_language.specs.Sizes.{commands, loopNesting, signalNesting}
-use Rattle.limits.specs.Limits.{maxBytes, maxDepth}
+use Rattle.spec_base.specs.Limits.{maxBytes, maxDepth}
 use Rattle.sequence.specs.Commands.{Command, commandOf, partCount, headLength}
 use Rattle.sequence.specs.Writer.{size}
 use Rattle.layout.specs.Layout.{Lies}

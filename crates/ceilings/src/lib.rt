@@ -2,10 +2,10 @@
 // statement has, how many loops and signals stand around one, and the product of these numbers.
 ghost use mathlib.Core.Path.{_≡_};
 ghost use Prim.Native.Nat.{max, _+_, _*_, _^_, ℕ};
-ghost use Rattle.limits.specs.Limits.{maxDepth, signalCount};
+ghost use Rattle.spec_base.specs.Limits.{maxDepth, signalCount};
 ghost use Rattle.ceilings.specs.Extents.{HeadAt, Countable, Tallied, HasWith};
 ghost use lib.ListN.{length};
-ghost use Rattle.sets.specs.Sets.{membersFrom};
+ghost use Rattle.spec_base.specs.Sets.{membersFrom};
 ghost use Rattle.ceilings.specs.Ceilings.{Plannable, product};
 ghost use mathlib.Core.List.{List};
 ghost use Rattle.sequence.specs.Check.{checked};

@@ -5,7 +5,7 @@ use mathlib.Core.Bool.{Bool, true, false}
 use mathlib.Core.Logic.{_↔_}
 use mathlib.Core.List.{List}
 use borrow.Author.Tests.{eqb-true}
-use Rattle.sets.specs.Sets.{member, none, empty, Subset, subset}
+use Rattle.spec_base.specs.Sets.{member, none, empty, Subset, subset}
 use Rattle.sets.proofs.Members.{in-none}
 use Rattle.sets.proofs.Tests.{subset-is, subset-by}
 use Rattle.spec_language.specs.Statement.{Statement}

@@ -12,7 +12,7 @@ use Rattle.spec_language.specs.Statement.{Statement}
 use Rattle.spec_language.specs.LabelTests.{distinct, targeted, wellFormed}
 use Rattle.reading.specs.declared.reader.Reading.{Reading}
 use Rattle.reading.specs.declared.reader.Reading.the-variants.{Accepted, Refused}
-use Rattle.limits.specs.Limits.{maxBytes, maxDepth, maxSignals, readBackPlace}
+use Rattle.spec_base.specs.Limits.{maxBytes, maxDepth, maxSignals, readBackPlace}
 use Rattle.theory_language.proofs.Ceiling.{nesting-declared}
 use Rattle.sequence.specs.Reader.{Read, accepted, refused, readAll}
 use Rattle.spec_language.specs.Sizes.{signalNesting}

@@ -1,13 +1,13 @@
 // The check of a sequence with a read-back set (01, rows 2 to 10; 02, row 18). Of a sound one it leaves the table of second parts and
 // the notes of labels.
-ghost use Rattle.limits.specs.Limits.{maxDepth, maxBytes, signalCount};
+ghost use Rattle.spec_base.specs.Limits.{maxDepth, maxBytes, signalCount};
 ghost use Rattle.wellformed.specs.Survey.{Standing};
 ghost use Rattle.checks.specs.Labelling.{ByLabels};
 ghost use mathlib.Core.Path.{_≡_};
 ghost use mathlib.Core.Bool.{_&&_, cond};
 ghost use lib.Dec.{leb, ltb};
 ghost use lib.ListN.{length};
-ghost use Rattle.sets.specs.Sets.{membersFrom};
+ghost use Rattle.spec_base.specs.Sets.{membersFrom};
 ghost use Rattle.layout.specs.Notes.{noNotes};
 ghost use Rattle.checks.specs.Verdict.{Judged};
 use layout::SecondParts;

@@ -9,8 +9,8 @@ use lib.ListN.{length, getD}
 use lib.Dec.{ltb}
 use lib.Ieee.{binary32, ofBits, inUnsigned}
 use borrow.Author.Tests.{lt-ltb, le-ltb}
-use Rattle.limits.specs.Limits.{signalCount}
-use Rattle.numbers.specs.Bytes.{numberAt}
+use Rattle.spec_base.specs.Limits.{signalCount}
+use Rattle.spec_base.specs.Bytes.{numberAt}
 use Rattle.sequence.specs.Amounts.{areBytes}
 use Rattle.sequence.specs.Commands.{Command, commandOf, operandCount, operandsOf, partCount, bytesAt, inRange, litresFit, headLength}
 use Rattle.sequence.specs.Reader.{Front, front}

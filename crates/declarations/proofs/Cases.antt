@@ -3,7 +3,7 @@ use Prim.Native.Nat.{ℕ, _+_}
 use mathlib.Core.Path.{_≡_, refl, sym, ap, _∙_}
 use mathlib.Core.Bool.{Bool, true, false, not, _||_, cond, false≢true, true≢false}
 use mathlib.Core.Option.{Option, some}
-use Rattle.sets.specs.Sets.{member, none, join, remove}
+use Rattle.spec_base.specs.Sets.{member, none, join, remove}
 use Rattle.labels.specs.Labels.{labelsWith}
 use Rattle.labels.proofs.LabelValues.{stands-of}
 use Rattle.spec_language.specs.Statement.{Scope}

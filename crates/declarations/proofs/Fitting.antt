@@ -2,7 +2,7 @@
 use Prim.Native.Nat.{ℕ}
 use mathlib.Core.Path.{_≡_, refl}
 use mathlib.Core.Bool.{Bool, true, false, _||_, cond, true≢false}
-use Rattle.sets.specs.Sets.{member}
+use Rattle.spec_base.specs.Sets.{member}
 use Rattle.spec_language.specs.Reaction.{isWrong, Case, both, neither, only−, only+, inherited, inheritanceFirst, firstFit}
 use Rattle.reaction.specs.declared.Reaction.{Reaction}
 use Rattle.reaction.specs.Completions.{codeOf}

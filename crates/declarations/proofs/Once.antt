@@ -3,7 +3,7 @@ use Prim.Native.Nat.{ℕ, _+_}
 use mathlib.Core.Path.{_≡_, refl, _∙_}
 use mathlib.Core.Bool.{Bool, true, false, cond, false≢true}
 use mathlib.Core.Option.{Option}
-use Rattle.sets.specs.Sets.{member, none}
+use Rattle.spec_base.specs.Sets.{member, none}
 use Rattle.sets.proofs.Algebra.{remove-absent}
 use Rattle.labels.specs.declared.Labels.{Labels}
 use Rattle.labels.specs.Labels.{Represents}

@@ -3,7 +3,7 @@ use Prim.Native.Nat.{ℕ, _+_}
 use mathlib.Core.Path.{_≡_, refl}
 use mathlib.Core.Bool.{false, true≢false}
 use mathlib.Core.Option.{Option}
-use Rattle.sets.specs.Sets.{none, join, remove}
+use Rattle.spec_base.specs.Sets.{none, join, remove}
 use Rattle.labels.specs.declared.Labels.{Labels}
 use Rattle.labels.specs.Labels.{labelsWith, Represents}
 use Rattle.labels.proofs.LabelValues.{labels-of}

@@ -1,6 +1,6 @@
 -- The five signal cases as the code tells them, and the one that fits two runs.
 use Prim.Native.Nat.{ℕ}
-use Rattle.sets.specs.Sets.{member}
+use Rattle.spec_base.specs.Sets.{member}
 use Rattle.spec_language.specs.Reaction as rules
 use Rattle.reaction.specs.Completions.{codeOf}
 use Rattle.reaction.specs.declared.Reaction.{Reaction}

@@ -3,14 +3,14 @@
 ghost use mathlib.Core.Path.{_≡_};
 ghost use Rattle.declarations.specs.Choices.{choiceOf, caseIn};
 ghost use Prim.Native.Nat.{_+_, ℕ};
-ghost use Rattle.sets.specs.Sets.{none, join, remove};
+ghost use Rattle.spec_base.specs.Sets.{none, join, remove};
 ghost use Rattle.labels.specs.Labels.{labelsWith};
 ghost use Rattle.reaction.specs.Completions.{greaterOf};
 ghost use Rattle.reaction.specs.Reactions.{keptOf, FromOne, FromTwo};
 ghost use Rattle.spec_language.specs.Statement.{Scope, local, reported};
 ghost use Rattle.spec_language.specs.Reaction.{outside};
 ghost use Rattle.theory_language.specs.Traced.{signalOnce, signalTraced};
-ghost use Rattle.limits.specs.Limits.{readBackPlace};
+ghost use Rattle.spec_base.specs.Limits.{readBackPlace};
 use reaction::Reaction;
 
 // The five signal cases of 01.

@@ -8,8 +8,8 @@ use mathlib.Core.List.{List, [], _∷_, map}
 use lib.ListN.{length, getD}
 use lib.Dec.{eqb}
 use borrow.Author.Tests.{eqb-true, eqb-false}
-use Rattle.limits.specs.Limits.{placeBytes, readBackPlace}
-use Rattle.sets.specs.Sets.{none}
+use Rattle.spec_base.specs.Limits.{placeBytes, readBackPlace}
+use Rattle.spec_base.specs.Sets.{none}
 use Rattle.spec_language.specs.Statement.{Statement}
 use Rattle.spec_language.specs.Reaction.{code, react, inheritanceFirst}
 use Rattle.spec_language.specs.Errors.{firstError}
@@ -23,7 +23,7 @@ use Rattle.theory_language.proofs.Litres.{agree-added}
 use Rattle.sequence.specs.Program.{readBackSignals, program}
 use Rattle.sequence.specs.Check.{Checked, checkOf}
 use Rattle.sequence.specs.Rows.{Spells}
-use Rattle.numbers.specs.Bytes.{leBytes}
+use Rattle.spec_base.specs.Bytes.{leBytes}
 use Rattle.states.specs.StateRecord.{stateLength, Decoded, holds, encodeState, phaseIn, Recorded}
 use Rattle.answers.specs.AnswerRecord.{answerLength}
 use Rattle.tick.specs.Tick.{Outcome, outcome, byState, replied, tickOf}

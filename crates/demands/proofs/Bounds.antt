@@ -4,8 +4,8 @@ use native.Mathlib.Omega.{arith}
 use mathlib.Core.List.{List, [], _∷_}
 use mathlib.Core.Bool.{Bool, true, false, cond}
 use lib.Dec.{eqb}
-use Rattle.limits.specs.Limits.{labelCount, signalCount, maxExit}
-use Rattle.sets.specs.Sets.{member, insert, remove}
+use Rattle.spec_base.specs.Limits.{labelCount, signalCount, maxExit}
+use Rattle.spec_base.specs.Sets.{member, insert, remove}
 use Rattle.sets.proofs.Widths.{none-lt, only-lt, join-lt, remove-lt, members-lt}
 use Rattle.spec_language.specs.Statement.{Scope, local, reported, Statement, nothing, pause, emit, exit, seq, par, loop, present, signal, try, setpause, suspend, held}
 use Rattle.spec_language.specs.Reaction.{ended, waiting, leaving, wrong, Reaction, gives, emitted, inSeq, inPar, inLoop, inTry, inSuspend, stopped, Case, both, neither, only−, only+, inherited, caseOf, answer, react, Code, code, greater, inheritanceFirst, reactBy, Order}

@@ -5,8 +5,8 @@ use mathlib.Core.Path.{_≡_, refl, sym, ap, _∙_}
 use mathlib.Core.Option.{Option}
 use mathlib.Core.List.{List}
 use lib.ListN.{length}
-use Rattle.limits.specs.Limits.{reactionsBytes}
-use Rattle.sets.specs.Sets.{member, none, only, join, subset, disjoint, membersFrom}
+use Rattle.spec_base.specs.Limits.{reactionsBytes}
+use Rattle.spec_base.specs.Sets.{member, none, only, join, subset, disjoint, membersFrom}
 use Rattle.spec_language.specs.Statement.{Statement}
 use Rattle.spec_language.specs.Reaction.{Reaction, gives, react, inheritanceFirst}
 use Rattle.spec_language.specs.Errors.{Error, firstError}
@@ -26,7 +26,7 @@ use Rattle.sequence.specs.Ceilings.{ceilingOf}
 use Rattle.sequence.proofs.Rows.{Decides, decided}
 use Rattle.sequence.specs.Rows.{Spells}
 use Rattle.sequence.proofs.Writer.{reads-what-is-written}
-use Rattle.numbers.specs.Bytes.{leNumber}
+use Rattle.spec_base.specs.Bytes.{leNumber}
 use Rattle.states.specs.StateRecord.{labelsIn}
 use Rattle.answers.specs.AnswerRecord.{answerLength, reactionsIn}
 use Rattle.answers.proofs.AnswerLaws.{reactions-field}

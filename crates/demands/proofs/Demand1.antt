@@ -8,7 +8,7 @@ use mathlib.Core.Bool.{Bool, true, false, _&&_, cond}
 use mathlib.Core.List.{List, [], _∷_, List·Memᴰ, List·Memᴰ·not-nil, List·Memᴰ·cases-cons}
 use lib.ListN.{length}
 use lib.Dec.{eqb}
-use Rattle.sets.specs.Sets.{none}
+use Rattle.spec_base.specs.Sets.{none}
 use Rattle.spec_language.specs.Statement.{Statement}
 use Rattle.spec_language.specs.Reaction.{gives, react, inheritanceFirst}
 use Rattle.spec_language.specs.Expansion.{expand}
@@ -17,7 +17,7 @@ use Rattle.spec_language.specs.Machines.{State, stateAfter}
 use Rattle.sequence.specs.Program.{program}
 use Rattle.sequence.specs.Check.{checkOf}
 use Rattle.sequence.proofs.Rows.{check-by-rows}
-use Rattle.numbers.specs.Bytes.{leNumber}
+use Rattle.spec_base.specs.Bytes.{leNumber}
 use Rattle.states.specs.StateRecord.{stateLength, Decoded, encodeState, decodeState, phaseIn, labelsIn, Recorded}
 use Rattle.answers.specs.AnswerRecord.{answerLength}
 use Rattle.tick.specs.Tick.{Outcome, outcome, Reply, refused, reacts, byState, replyOf, replied, tickBy, tickOf}

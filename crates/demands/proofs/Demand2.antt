@@ -7,8 +7,8 @@ use mathlib.Core.Logic.{_↔_, _≢_, inr, inl}
 use mathlib.Core.Option.{some}
 use mathlib.Core.List.{List, head?}
 use lib.ListN.{length}
-use Rattle.limits.specs.Limits.{signalCount, signalBytes, placeBytes, reactionsBytes}
-use Rattle.sets.specs.Sets.{none}
+use Rattle.spec_base.specs.Limits.{signalCount, signalBytes, placeBytes, reactionsBytes}
+use Rattle.spec_base.specs.Sets.{none}
 use Rattle.spec_language.specs.Statement.{Statement}
 use Rattle.spec_language.specs.Reaction.{Code, ended, waiting, leaving, wrong, Reaction, gives, emitted, code, react, Order, inheritanceFirst}
 use Rattle.spec_language.specs.Errors.{Error, firstError, uses}

@@ -6,8 +6,8 @@ use mathlib.Core.Logic.{_≢_, inl, inr}
 use mathlib.Core.List.{List, [], _∷_, _++_}
 use lib.ListN.{length, getD, length-append, List·getD-append}
 use lib.Seq.{getD-append-add}
-use Rattle.limits.specs.Limits.{signalCount, readBackPlace}
-use Rattle.sets.specs.Sets.{none}
+use Rattle.spec_base.specs.Limits.{signalCount, readBackPlace}
+use Rattle.spec_base.specs.Sets.{none}
 use Rattle.sets.proofs.Lists.{members-none}
 use Rattle.spec_language.specs.Statement.{Scope, local, Statement, nothing, pause, emit, exit, seq, par, loop, present, signal, try, setpause, suspend, held}
 use Rattle.spec_language.specs.Errors.{Error, instantaneous, notReactive, notDeterministic}

@@ -6,8 +6,8 @@ use mathlib.Core.List.{List}
 use lib.ListN.{length}
 use lib.Dec.{eqb, leb}
 use borrow.Author.Tests.{le-ltb}
-use Rattle.limits.specs.Limits.{maxBytes, maxDepth, maxSignals, signalCount, readBackPlace}
-use Rattle.sets.specs.Sets.{none}
+use Rattle.spec_base.specs.Limits.{maxBytes, maxDepth, maxSignals, signalCount, readBackPlace}
+use Rattle.spec_base.specs.Sets.{none}
 use Rattle.sets.proofs.Lists.{members-none}
 use Rattle.spec_language.specs.Statement.{Statement}
 use Rattle.spec_language.specs.Reaction.{inheritanceFirst}

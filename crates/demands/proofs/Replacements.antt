@@ -5,7 +5,7 @@ use mathlib.Core.Path.{_≡_, refl, sym, ap, _∙_}
 use mathlib.Core.List.{List, [], _∷_, _++_}
 use lib.ListN.{length, take, drop, replicate}
 use borrow.Author.Tests.{eq-eqb}
-use Rattle.sets.specs.Sets.{member, none, only, join, subset, disjoint, membersFrom}
+use Rattle.spec_base.specs.Sets.{member, none, only, join, subset, disjoint, membersFrom}
 use Rattle.spec_language.specs.Statement.{pure, nothing, pause, emit, seq, setpause}
 use Rattle.spec_language.specs.Reaction.{ended, waiting, gives, reactBy}
 use Rattle.spec_language.specs.Rules.{ReactsBy}
@@ -24,7 +24,7 @@ use Rattle.sequence.specs.Program.{program}
 use Rattle.sequence.proofs.Rows.{row-rank}
 use Rattle.spec_language.specs.Machines.{stateAfter, Rewriting}
 use Rattle.sequence.proofs.Writer.{reads-what-is-written}
-use Rattle.numbers.specs.Bytes.{leBytes, leNumber}
+use Rattle.spec_base.specs.Bytes.{leBytes, leNumber}
 use Rattle.states.proofs.StateLaws.{length-state}
 use Rattle.states.specs.StateRecord.{stateLength, labelsAt, phaseIn, labelsIn, encodeState, decodeState}
 use Rattle.answers.specs.AnswerRecord.{answerLength, encodeAnswer, codeIn}

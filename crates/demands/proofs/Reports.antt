@@ -3,8 +3,8 @@ use Prim.Native.Nat.{ℕ, _^_, _<_}
 use native.Mathlib.Omega.{arith}
 use mathlib.Core.Path.{_≡_, refl}
 use mathlib.Core.Option.{Option}
-use Rattle.limits.specs.Limits.{signalCount, placeBytes, reactionsBytes}
-use Rattle.sets.specs.Sets.{none}
+use Rattle.spec_base.specs.Limits.{signalCount, placeBytes, reactionsBytes}
+use Rattle.spec_base.specs.Sets.{none}
 use Rattle.spec_language.specs.Statement.{Statement}
 use Rattle.spec_language.specs.Reaction.{Code, ended, waiting, leaving, wrong, Reaction, gives, emitted, code}
 use Rattle.spec_language.specs.Errors.{Error, blame}

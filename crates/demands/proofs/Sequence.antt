@@ -19,7 +19,7 @@ use Rattle.spec_language.specs.Sizes.{commands, loopNesting}
 use Rattle.spec_language.specs.Ceiling.{ceiling}
 use Rattle.spec_language.specs.Machines.{State, stateAfter, ReactionOf, of-statement, of-expansion, FromValid}
 use Rattle.theory_language.proofs.Theorems.{stable}
-use Rattle.limits.specs.Limits.{maxBytes, maxDepth, maxSignals, placeBytes, reactionsBytes, readBackPlace}
+use Rattle.spec_base.specs.Limits.{maxBytes, maxDepth, maxSignals, placeBytes, reactionsBytes, readBackPlace}
 use Rattle.theory_language.proofs.ReadBack.{source-declared, distinct-declared, targeted-declared, wellFormed-declared, valid-declared}
 use Rattle.theory_language.proofs.Ceiling.{fresh-below, resumed-below, ceiling-within, commands-declared, loops-declared, nesting-declared}
 use Rattle.theory_language.proofs.LabelTests.{distinct-is, targeted-is, wellFormed-is, valid-is}

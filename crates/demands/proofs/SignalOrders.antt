@@ -19,7 +19,7 @@ use Rattle.spec_language.specs.Machines.{State}
 use Rattle.theory_language.proofs.Rules.{wrong-is}
 use Rattle.theory_language.proofs.SignalOrders as orders
 use Rattle.theory_language.proofs.Reactions.{reactions-unchanged, reactions-kept}
-use Rattle.numbers.specs.Bytes.{leBytes}
+use Rattle.spec_base.specs.Bytes.{leBytes}
 use Rattle.sequence.specs.Program.{program}
 use Rattle.sequence.specs.Check.{Checked, sound, bad, checked, checkOf}
 use Rattle.states.specs.StateRecord.{stateLength, Decoded, holds, malformed, decodeState, encodeState}

@@ -4,7 +4,7 @@ use Prim.Native.Nat.{ℕ}
 use mathlib.Core.Path.{_≡_}
 use mathlib.Core.List.{List, [], _∷_, map}
 use lib.ListN.{replicate}
-use Rattle.sets.specs.Sets.{none}
+use Rattle.spec_base.specs.Sets.{none}
 use Rattle.states.specs.StateRecord.{labelsIn}
 use Rattle.answers.specs.AnswerRecord.{codeIn, kindIn, placeIn, emittedIn}
 use Rattle.tick.specs.Tick.{Outcome}

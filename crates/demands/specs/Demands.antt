@@ -6,7 +6,7 @@ use mathlib.Core.Logic.{_≢_, _↔_}
 use mathlib.Core.Option.{some}
 use mathlib.Core.List.{List, [], _∷_, map, head?, List·Memᴰ}
 use lib.ListN.{length, take, replicate}
-use Rattle.sets.specs.Sets.{none}
+use Rattle.spec_base.specs.Sets.{none}
 use Rattle.spec_language.specs.Statement.{Statement}
 use Rattle.spec_language.specs.Reaction.{Code, wrong, gives}
 use Rattle.spec_language.specs.Rules.{Reacts}

@@ -4,8 +4,8 @@ use mathlib.Core.Path.{_≡_}
 use mathlib.Core.Logic.{_≢_, _⊎_}
 use mathlib.Core.List.{List}
 use lib.ListN.{length, getD}
-use Rattle.limits.specs.Limits.{readBackPlace}
-use Rattle.sets.specs.Sets.{none}
+use Rattle.spec_base.specs.Limits.{readBackPlace}
+use Rattle.spec_base.specs.Sets.{none}
 use Rattle.spec_language.specs.Statement.{local, Statement, loop, signal}
 use Rattle.spec_language.specs.Places.{Place, At}
 use Rattle.sequence.specs.Rows.{Spells}

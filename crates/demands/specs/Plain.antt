@@ -7,7 +7,7 @@ use lib.ListN.{length}
 use lib.Dec.{eqb, leb, ltb}
 use Rattle.spec_language.specs.Reaction.{inheritanceFirst}
 use Rattle.spec_language.specs.ReadBack.{AgreeOutside}
-use Rattle.limits.specs.Limits.{maxBytes}
+use Rattle.spec_base.specs.Limits.{maxBytes}
 use Rattle.sequence.specs.Reader as Reader
 use Rattle.sequence.specs.Reader.{Read, accepted, readAll}
 use Rattle.sequence.specs.Program.{readBackSignals}

@@ -8,7 +8,7 @@ use mathlib.Core.List.{List, [], _∷_, _++_}
 use lib.ListN.{take, drop, replicate}
 use lib.Dec.{eqb}
 use Rattle.spec_language.specs.Machines.{State}
-use Rattle.limits.specs.Limits.{reactionsBytes}
+use Rattle.spec_base.specs.Limits.{reactionsBytes}
 use Rattle.states.specs.StateRecord.{labelsAt, encodeState, phaseIn, labelsIn}
 use Rattle.answers.specs.AnswerRecord.{reactionsAt, answerLength, codeIn}
 use Rattle.tick.specs.Tick.{Outcome, outcome, tickOf}

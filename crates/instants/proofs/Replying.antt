@@ -5,8 +5,8 @@ use mathlib.Core.Path.{_≡_, sym, ap, _∙_, subst}
 use mathlib.Core.Logic.{_≢_}
 use mathlib.Core.Option.{Option}
 use mathlib.Core.List.{List}
-use Rattle.limits.specs.Limits.{readBackPlace, reactionsBytes}
-use Rattle.sets.specs.Sets.{none}
+use Rattle.spec_base.specs.Limits.{readBackPlace, reactionsBytes}
+use Rattle.spec_base.specs.Sets.{none}
 use Rattle.spec_language.specs.Statement.{Statement}
 use Rattle.spec_language.specs.Reaction.{Code, ended, waiting, leaving, wrong, gives, code, react, inheritanceFirst}
 use Rattle.spec_language.specs.Errors.{Error, firstError}

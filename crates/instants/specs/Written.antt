@@ -1,6 +1,6 @@
 -- What an instant writes, from the value by which the code answers, and which instants fit the answer record.
 use Prim.Native.Nat.{ℕ, _+_, _<_}
-use Rattle.sets.specs.Sets.{none}
+use Rattle.spec_base.specs.Sets.{none}
 use Rattle.labels.specs.Labels.{labelSet}
 use Rattle.reaction.specs.declared.Completion.{Completion}
 use Rattle.reaction.specs.declared.Completion.the-variants.{Ended, Waiting, Leaving, Wrong}

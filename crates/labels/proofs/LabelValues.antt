@@ -1,7 +1,7 @@
 -- A value of `Labels` and the set that it stands for determine each other.
 use Prim.Native.Nat.{ℕ, _/_, _%_, _^_}
 use mathlib.Core.Path.{_≡_, sym, ap, ap₂, _∙_}
-use Rattle.limits.specs.Limits.{wordLabels}
+use Rattle.spec_base.specs.Limits.{wordLabels}
 use Rattle.sets.proofs.Words.{words-of, low-fits, low-word, high-word}
 use Rattle.labels.specs.declared.Labels.{Labels}
 use Rattle.labels.specs.Labels.{labelSet, labelsWith, LowFits, Represents}

@@ -1,8 +1,8 @@
 -- The set that a value of `Labels` stands for, and the value of a set.
 use Prim.Native.Nat.{ℕ, _/_, _%_, _^_, _<_}
 use mathlib.Core.Path.{_≡_}
-use Rattle.limits.specs.Limits.{wordLabels}
-use Rattle.sets.specs.Widths.{twoWords}
+use Rattle.spec_base.specs.Limits.{wordLabels}
+use Rattle.spec_base.specs.Widths.{twoWords}
 use Rattle.labels.specs.declared.Labels.{Labels}
 
 unfoldable pub labelSet : Labels → ℕ

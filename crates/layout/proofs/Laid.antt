@@ -10,7 +10,7 @@ use lib.ListN.{length, drop, getD, length-drop}
 use Rattle.spec_language.specs.Statement.{Statement, nothing}
 use Rattle.theory_language.specs.Ranks.{middle}
 use Rattle.sequence.specs.Commands.{Command, commandOf, partCount, inRange, litresFit, headLength, declares, build}
-use Rattle.limits.specs.Limits.{lastCommand, maxBytes}
+use Rattle.spec_base.specs.Limits.{lastCommand, maxBytes}
 use Rattle.sequence.specs.Reader.{accepted, read}
 use Rattle.sequence.specs.Writer.{size}
 use Rattle.layout.specs.Layout.{rest, secondAt, Marked, Two, Parts, Begins, Form, AtFront, Lies, Ready, Pair}

@@ -6,7 +6,7 @@ use mathlib.Core.List.{List}
 use lib.ListN.{getD}
 use borrow.Author.Tests.{ltb-true}
 use Rattle.spec_language.specs.Statement.{nothing}
-use Rattle.limits.specs.Limits.{labelCount, signalCount, maxBytes}
+use Rattle.spec_base.specs.Limits.{labelCount, signalCount, maxBytes}
 use Rattle.sequence.specs.Commands.{Command, operandsOf, partCount, inRange, build}
 use Rattle.layout.specs.Notes.{pausesCounted, notePause, noteSetpause, noteFarm, noteWithin}
 use Rattle.layout.specs.Walk.{Notable, LeafNoted}

@@ -12,9 +12,9 @@ use lib.Dec.{eqb, ltb}
 use lib.Pow.{pow-pos, pow-lt}
 use lib.Bits.{bitAnd, or-lt}
 use borrow.Author.Tests.{eqb-true, eqb-false, ltb-true, ltb-false}
-use Rattle.limits.specs.Limits.{labelCount, wordLabels, signalCount}
-use Rattle.sets.specs.Sets.{member, none, empty, only, join, disjoint}
-use Rattle.sets.specs.Widths.{twoWords, setAt}
+use Rattle.spec_base.specs.Limits.{labelCount, wordLabels, signalCount}
+use Rattle.spec_base.specs.Sets.{member, none, empty, only, join, disjoint}
+use Rattle.spec_base.specs.Widths.{twoWords, setAt}
 use Rattle.sets.proofs.Booleans.{clash, Tested, tested}
 use Rattle.sets.proofs.Members.{member-only, in-none, in-join, out-l, out-r}
 use Rattle.sets.proofs.Algebra.{join-none-l, join-none-r, join-assoc, empty-join}

@@ -8,7 +8,7 @@ use lib.ListN.{length, getD, drop, length-set, length-drop}
 use lib.Seq.{drop-drop, getD-set-other}
 use Rattle.spec_language.specs.Statement.{Statement, nothing}
 use Rattle.theory_language.specs.Ranks.{middle}
-use Rattle.limits.specs.Limits.{maxBytes, maxSignals}
+use Rattle.spec_base.specs.Limits.{maxBytes, maxSignals}
 use Rattle.sequence.specs.Commands.{Command, commandOf, operandCount, bytesAt, firstOperand, partCount, headLength, declares, build}
 use Rattle.sequence.specs.Reader.{Read, accepted, refused, Front, command, bad, front, lastPart, firstPart, readParts, read}
 use Rattle.sequence.specs.Writer.{size, Ranged}

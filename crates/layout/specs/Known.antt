@@ -6,7 +6,7 @@ use Prim.Native.Nat.{ℕ}
 use lib.ListN.{length}
 use Rattle.spec_language.specs.Statement.{Statement}
 use Rattle.spec_language.specs.LabelTests.{distinct}
-use Rattle.limits.specs.Limits.{maxBytes, maxDepth}
+use Rattle.spec_base.specs.Limits.{maxBytes, maxDepth}
 use Rattle.layout.specs.Layout.{Lies}
 use Rattle.layout.specs.Notes.{Noted}
 

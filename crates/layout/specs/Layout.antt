@@ -8,7 +8,7 @@ use mathlib.Core.List.{List}
 use lib.ListN.{getD, length, take, drop, set}
 use Rattle.spec_language.specs.Statement.{Statement, nothing, pause, emit, exit, seq, par, loop, present, signal, try, setpause, suspend, held}
 use Rattle.theory_language.specs.Ranks.{middle}
-use Rattle.limits.specs.Limits.{maxBytes}
+use Rattle.spec_base.specs.Limits.{maxBytes}
 use Rattle.sequence.specs.Commands.{Command, commandOf, operandsOf, partCount, inRange, litresFit, headLength, build}
 use Rattle.sequence.specs.Writer.{size}
 

@@ -7,9 +7,9 @@ use mathlib.Core.Bool.{true}
 use mathlib.Core.List.{List}
 use lib.ListN.{getD, set, replicate}
 use lib.Bits.{bitAnd}
-use Rattle.limits.specs.Limits.{labelCount, wordLabels}
-use Rattle.sets.specs.Sets.{member, empty, only, join}
-use Rattle.sets.specs.Widths.{setAt}
+use Rattle.spec_base.specs.Limits.{labelCount, wordLabels}
+use Rattle.spec_base.specs.Sets.{member, empty, only, join}
+use Rattle.spec_base.specs.Widths.{setAt}
 use Rattle.spec_language.specs.Statement.{Value, pure, litres, Statement, nothing, pause, emit, exit, seq, par, loop, present, signal, try, setpause, suspend, held}
 use Rattle.spec_language.specs.LabelTests.{pauses, setpauses, distinct}
 use Rattle.theory_language.specs.Ranks.{rank}

@@ -3,8 +3,8 @@ use Prim.Native.Nat.{ℕ, _+_, _^_, _<_}
 use native.Mathlib.Omega.{arith}
 use mathlib.Core.Path.{_≡_, sym, ap, _∙_, subst}
 use mathlib.Core.List.{List, [], _∷_, _++_, append-assoc}
-use Rattle.limits.specs.Limits.{wordLabels}
-use Rattle.sets.specs.Widths.{twoWords}
+use Rattle.spec_base.specs.Limits.{wordLabels}
+use Rattle.spec_base.specs.Widths.{twoWords}
 use Rattle.runs.specs.Text.{numeral, space, newline}
 use Rattle.runs.specs.Listing.{setsOf}
 use Rattle.lines.specs.Buffer.{Prepended}

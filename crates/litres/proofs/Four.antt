@@ -5,7 +5,7 @@ use mathlib.Core.List.{List, _∷_}
 use native.Mathlib.Omega.{arith}
 use lib.ListN.{length, getD, take, drop}
 use lib.Seq.{drop-cons}
-use Rattle.numbers.specs.Bytes.{leNumber}
+use Rattle.spec_base.specs.Bytes.{leNumber}
 
 four : (s : List ℕ) (i : ℕ) → i + 4 ≤ length s
     → drop i s ≡ getD s i 0 ∷ getD s (suc i) 0 ∷ getD s (suc (suc i)) 0 ∷ getD s (suc (suc (suc i))) 0 ∷ drop (suc (suc (suc (suc i)))) s

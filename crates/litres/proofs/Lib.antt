@@ -1,4 +1,4 @@
+pub mod Four
+pub mod Patterns
 pub mod Rounding
 pub mod Sums
-pub mod Patterns
-pub mod Four

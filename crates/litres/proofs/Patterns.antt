@@ -14,7 +14,7 @@ use lib.Ieee.Fits.{down-pos, and-i, and-l, eq→eqb}
 use lib.Ieee.Bits.{is-true, is-false, cond-no}
 use lib.Ieee.Exact.{HasValue, odd-sign}
 use lib.Ieee.Nearest.{div-same}
-use Rattle.litres.specs.Litres.{whole}
+use Rattle.spec_base.specs.WholeLitres.{whole}
 
 -- ---- `whole` of a value known as a fraction
 same-test : (b c : Bool) → (T b → T c) → (T c → T b) → b ≡ c

@@ -16,7 +16,7 @@ use lib.Ieee.Casts.{toUnsigned-cut}
 use lib.Ieee as Ieee
 use lib.Ieee.Scale.{round-same}
 use Rattle.litres.proofs.Rounding.{rounded}
-use Rattle.litres.specs.Litres.{whole, litres, exact, ordered, Whole, IsNumber, Near}
+use Rattle.spec_base.specs.WholeLitres.{whole, litres, exact, ordered, Whole, IsNumber, Near}
 
 -- ---- the sum of two whole numbers is their exact sum, rounded
 cross : (m u d n v e a b : ℕ) → m * u * 1 ≡ a * d → n * v * 1 ≡ b * e → (m * u * e + n * v * d) * 1 ≡ (a + b) * (d * e)

@@ -2,9 +2,9 @@
 ghost use mathlib.Core.Path.{_≡_};
 ghost use Prim.Native.Nat.{_+_, _≤_};
 ghost use lib.ListN.{length};
-ghost use Rattle.numbers.specs.Bytes.{numberAt};
+ghost use Rattle.spec_base.specs.Bytes.{numberAt};
 ghost use lib.Ieee.{binary32, ofBits};
-ghost use Rattle.litres.specs.Litres.{whole};
+ghost use Rattle.spec_base.specs.WholeLitres.{whole};
 
 // Whether the bit pattern v is a whole number from 0 to 2^24, and not minus zero. Decided on the bits as an integer: no NaN is ever made.
 pub fn is_whole(v: u32) -> bool

@@ -1,11 +1,11 @@
 // What reading notes of a statement, in an array of words that the caller lends (layout, specs/Notes).
 ghost use mathlib.Core.Path.{_≡_};
 ghost use Prim.Native.Nat.{_<_, _-_, _≤_, max, _^_};
-ghost use Rattle.limits.specs.Limits.{labelCount, maxBytes, signalCount, maxSignals};
+ghost use Rattle.spec_base.specs.Limits.{labelCount, maxBytes, signalCount, maxSignals};
 ghost use Rattle.layout.specs.Notes.{pausesCounted, notePause, noteSetpause, noteFarm, noteSignals, pausesIn, setpausesIn, twiceIn, mostIn, farmsIn, rankIn};
 ghost use mathlib.Core.Bool.{cond};
 ghost use lib.Dec.{ltb};
-ghost use Rattle.sets.specs.Sets.{empty};
+ghost use Rattle.spec_base.specs.Sets.{empty};
 ghost use Rattle.labels.specs.Labels.{labelSet};
 ghost use Rattle.layout.specs.Walk.{Notable, LeafNoted};
 use limits::WORD_LABELS;

@@ -6,7 +6,7 @@ use mathlib.Core.Path.{_≡_, refl, sym, ap, _∙_}
 use mathlib.Core.List.{List, [], _∷_, _++_}
 use lib.Arith.{mod-mul}
 use lib.ListN.{length, take, drop}
-use Rattle.numbers.specs.Bytes.{leBytes, leNumber}
+use Rattle.spec_base.specs.Bytes.{leBytes, leNumber}
 
 pub length-leBytes : (n x : ℕ) → length (leBytes n x) ≡ n
 unfolding leBytes

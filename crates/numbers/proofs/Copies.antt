@@ -5,7 +5,7 @@ use mathlib.Core.Path.{_≡_, refl, sym, ap, ap₂, _∙_}
 use mathlib.Core.List.{List}
 use lib.ListN.{length, getD, drop, set, drop-of-length-le}
 use lib.Seq.{sets, drop-cons}
-use Rattle.numbers.specs.Bytes.{replaced}
+use Rattle.spec_base.specs.Bytes.{replaced}
 use Rattle.numbers.proofs.Writing.{sets-whole, replaced-by}
 
 pub copy-step : (b bytes : List ℕ) (i j : ℕ) → j < length bytes

@@ -8,7 +8,7 @@ use mathlib.Core.List.{List}
 use lib.ListN.{length, take, drop, length-take, length-drop, drop-of-length-le}
 use lib.Seq.{take-all, take-nil, take-length}
 use borrow.Author.Tests.{le-leb, lt-leb}
-use Rattle.numbers.specs.Bytes.{leNumber, atMost8, numberAt}
+use Rattle.spec_base.specs.Bytes.{leNumber, atMost8, numberAt}
 
 pub part-none : (s : List ℕ) (from count : ℕ) → length s ≤ from
     → take (length s - length s) (drop (length s) s) ≡ take count (drop from s)

@@ -5,7 +5,7 @@ use mathlib.Core.Path.{_≡_, sym, ap, ap₂, _∙_}
 use mathlib.Core.List.{List, _++_, append-assoc}
 use lib.ListN.{length, take, drop, length-append, length-drop, take-append-drop}
 use lib.Seq.{sets, sets-eq, take-at, drop-at, drop-drop, length-take-le, take-append-le, drop-append-le}
-use Rattle.numbers.specs.Parts.{slot, put}
+use Rattle.spec_base.specs.Parts.{slot, put}
 
 -- what lies in the front of a list is read from it alone
 pub slot-front : (i m : ℕ) (xs ys : List ℕ) → i + m ≤ length xs → slot i m (xs ++ ys) ≡ slot i m xs

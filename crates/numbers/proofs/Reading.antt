@@ -7,7 +7,7 @@ use native.Mathlib.Numerals.{add-one}
 use native.Mathlib.Omega.{arith}
 use lib.ListN.{length, getD, take, drop}
 use lib.Seq.{drop-cons, getD-drop}
-use Rattle.numbers.specs.Bytes.{leNumber}
+use Rattle.spec_base.specs.Bytes.{leNumber}
 
 -- one byte of the loop that reads
 pub get-step : (b : List ℕ) (j m : ℕ) → j < length b → leNumber (take m (drop (j + 1) b)) * 256 + getD b j 0 ≡ leNumber (take (m + 1) (drop j b))

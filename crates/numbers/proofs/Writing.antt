@@ -9,7 +9,7 @@ use native.Mathlib.Omega.{arith}
 use lib.ListN.{length, drop, set}
 use lib.Seq.{sets, sets-eq, drop-length}
 use borrow.Author.Tests.{eq-eqb, ne-eqb}
-use Rattle.numbers.specs.Bytes.{leBytes, replaced}
+use Rattle.spec_base.specs.Bytes.{leBytes, replaced}
 
 -- one store of the loop that writes
 pub put-step : (b : List ℕ) (i left rest : ℕ) → 0 < left → sets (set b i (rest % 256)) (i + 1) (leBytes (left - 1) (rest / 256)) ≡ sets b i (leBytes left rest)

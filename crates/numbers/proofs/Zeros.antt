@@ -4,9 +4,9 @@ use native.Mathlib.Omega.{arith}
 use mathlib.Core.Path.{_≡_, refl, ap, _∙_}
 use mathlib.Core.List.{List, _∷_}
 use lib.ListN.{length, take, drop}
-use Rattle.numbers.specs.Bytes.{leBytes, leNumber}
+use Rattle.spec_base.specs.Bytes.{leBytes, leNumber}
 use Rattle.numbers.proofs.Bytes.{length-leBytes}
-use Rattle.numbers.specs.Parts.{slot, zeros}
+use Rattle.spec_base.specs.Parts.{slot, zeros}
 
 pub length-zeros : (n : ℕ) → length (zeros n) ≡ n
 unfolding zeros

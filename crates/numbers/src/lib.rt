@@ -5,7 +5,7 @@ ghost use mathlib.Core.Path.{_≡_};
 ghost use Prim.Native.Nat.{_+_, _^_, _≤_, _<_};
 ghost use lib.ListN.{length, getD, take, drop};
 ghost use lib.Seq.{sets};
-ghost use Rattle.numbers.specs.Bytes.{leBytes, leNumber, atMost8, numberAt};
+ghost use Rattle.spec_base.specs.Bytes.{leBytes, leNumber, atMost8, numberAt};
 
 fn wide(x: u8) -> u64
     ensures { λ r. ⌜ r ≡ x ⌝ }

@@ -5,9 +5,9 @@ use mathlib.Core.Path.{_≡_, ap, _∙_}
 use mathlib.Core.Bool.{Bool, true, false, cond}
 use mathlib.Core.List.{List, _∷_}
 use borrow.Author.Tests.{eqb-true, eqb-false, lt-ltb}
-use Rattle.limits.specs.Limits.{signalCount, readBackPlace}
-use Rattle.sets.specs.Sets.{member, none, empty, insert, remove, membersFrom}
-use Rattle.sets.specs.Widths.{insertBelow, Lowest}
+use Rattle.spec_base.specs.Limits.{signalCount, readBackPlace}
+use Rattle.spec_base.specs.Sets.{member, none, empty, insert, remove, membersFrom}
+use Rattle.spec_base.specs.Widths.{insertBelow, Lowest}
 use Rattle.sets.proofs.Members.{member-lt}
 use Rattle.sets.proofs.Lists.{members-none, members-lowest}
 use Rattle.spec_language.specs.Statement.{Statement, reported, signal}

@@ -2,7 +2,7 @@
 use Prim.Native.Nat.{ℕ}
 use mathlib.Core.Path.{_≡_}
 use mathlib.Core.List.{List}
-use Rattle.limits.specs.Limits.{maxDepth}
+use Rattle.spec_base.specs.Limits.{maxDepth}
 use Rattle.labels.specs.Labels.{labelSet}
 use Rattle.spec_language.specs.Statement.{Statement}
 use Rattle.theory_language.specs.Traced.{startTraced}

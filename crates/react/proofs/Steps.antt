@@ -7,9 +7,9 @@ use native.Mathlib.Omega.{arith}
 use lib.ListN.{length, getD, set, length-drop}
 use lib.Seq.{getD-drop}
 use borrow.Author.Tests.{lt-ltb}
-use Rattle.limits.specs.Limits.{signalCount}
-use Rattle.sets.specs.Sets.{member, insert, remove}
-use Rattle.sets.specs.Widths.{insertBelow}
+use Rattle.spec_base.specs.Limits.{signalCount}
+use Rattle.spec_base.specs.Sets.{member, insert, remove}
+use Rattle.spec_base.specs.Widths.{insertBelow}
 use Rattle.spec_language.specs.Statement.{local, Statement, seq, par, loop, present, signal, try, suspend}
 use Rattle.theory_language.specs.Traced as Traces
 use Rattle.theory_language.specs.Traced.{startTraced, seqTraced, parTraced, loopTraced, presentTraced, tryTraced, suspendTraced, signalTraced, signalOnce}

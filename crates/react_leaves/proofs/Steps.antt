@@ -4,9 +4,9 @@ use mathlib.Core.Path.{_≡_, _∙_}
 use mathlib.Core.List.{List}
 use lib.ListN.{getD}
 use borrow.Author.Tests.{lt-ltb}
-use Rattle.limits.specs.Limits.{signalCount, labelCount}
-use Rattle.sets.specs.Sets.{none}
-use Rattle.sets.specs.Widths.{onlyBelow}
+use Rattle.spec_base.specs.Limits.{signalCount, labelCount}
+use Rattle.spec_base.specs.Sets.{none}
+use Rattle.spec_base.specs.Widths.{onlyBelow}
 use Rattle.spec_language.specs.Statement.{Value, Statement, nothing, pause, emit, exit, setpause}
 use Rattle.spec_language.specs.Reaction.{ended, waiting, leaving, gives, reactBy}
 use Rattle.spec_language.specs.Errors.{errorsBy}

@@ -9,9 +9,9 @@ use lib.ListN.{getD, set}
 use lib.Dec.{T, eqb}
 use lib.Ieee.{binary32, ofBits, inUnsigned}
 use borrow.Author.Tests.{eq-eqb, ne-eqb, ltb-true}
-use Rattle.numbers.specs.Bytes.{leNumber, numberAt}
-use Rattle.litres.specs.Litres.{whole, litres}
-use Rattle.sets.specs.Sets.{none}
+use Rattle.spec_base.specs.Bytes.{leNumber, numberAt}
+use Rattle.spec_base.specs.WholeLitres.{whole, litres}
+use Rattle.spec_base.specs.Sets.{none}
 use Rattle.spec_language.specs.Statement as Esterel
 use Rattle.spec_language.specs.Statement.{nothing}
 use Rattle.spec_language.specs.Reaction.{ended, gives}

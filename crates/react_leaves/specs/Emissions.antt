@@ -6,9 +6,9 @@ use mathlib.Core.List.{List}
 use lib.ListN.{getD, length}
 use lib.Dec.{T, eqb}
 use lib.Ieee.{binary32, ofBits}
-use Rattle.limits.specs.Limits.{signalCount}
-use Rattle.numbers.specs.Bytes.{numberAt}
-use Rattle.litres.specs.Litres.{whole, litres}
+use Rattle.spec_base.specs.Limits.{signalCount}
+use Rattle.spec_base.specs.Bytes.{numberAt}
+use Rattle.spec_base.specs.WholeLitres.{whole, litres}
 use Rattle.spec_language.specs.Statement as Esterel
 use Rattle.react_leaves.specs.declared.Value.{Value}
 use Rattle.react_leaves.specs.declared.Value.the-variants.{Pure, Litres}

@@ -3,9 +3,9 @@
 ghost use mathlib.Core.Path.{_≡_};
 ghost use Prim.Native.Nat.{ℕ, _<_};
 ghost use lib.ListN.{getD, length};
-ghost use Rattle.limits.specs.Limits.{signalCount};
-ghost use Rattle.sets.specs.Sets.{none};
-ghost use Rattle.sets.specs.Widths.{onlyBelow};
+ghost use Rattle.spec_base.specs.Limits.{signalCount};
+ghost use Rattle.spec_base.specs.Sets.{none};
+ghost use Rattle.spec_base.specs.Widths.{onlyBelow};
 ghost use Rattle.spec_language.specs.Statement.{nothing};
 ghost use Rattle.spec_language.specs.Reaction.{ended, gives};
 ghost use Rattle.spec_language.specs.Litres.{brought};

@@ -10,8 +10,8 @@ use lib.Dec.{eqb}
 use lib.ListN.{length, getD, set, length-set}
 use lib.Seq.{getD-set-same, getD-set-other}
 use borrow.Author.Tests.{eqb-true, eq-eqb}
-use Rattle.limits.specs.Limits.{litresLimit}
-use Rattle.sets.specs.Sets.{member, none}
+use Rattle.spec_base.specs.Limits.{litresLimit}
+use Rattle.spec_base.specs.Sets.{member, none}
 use Rattle.spec_language.specs.Statement.{Scope, local, reported, Value, Statement}
 use Rattle.spec_language.specs.Reaction.{Code, ended, waiting, leaving, wrong, isWrong, greater, Reaction, gives, inheritanceFirst, firstFit, answer, code}
 use Rattle.spec_language.specs.Errors.{Error}

@@ -3,7 +3,7 @@ use Prim.Native.Nat.{ℕ, _+_}
 use mathlib.Core.Path.{_≡_}
 use mathlib.Core.Option.{Option, some}
 use native.Mathlib.Omega.{arith}
-use Rattle.sets.specs.Sets.{none, only, join, insert}
+use Rattle.spec_base.specs.Sets.{none, only, join, insert}
 use Rattle.sets.proofs.Algebra.{join-none-r}
 use Rattle.labels.specs.declared.Labels.{Labels}
 use Rattle.labels.specs.Labels.{Represents}

@@ -6,8 +6,8 @@ use mathlib.Core.Bool.{false}
 use mathlib.Core.List.{List}
 use lib.ListN.{length, getD}
 use mathlib.Core.Option.{none, some}
-use Rattle.limits.specs.Limits.{reactionsCount, litresLimit}
-use Rattle.sets.specs.Sets.{join}
+use Rattle.spec_base.specs.Limits.{reactionsCount, litresLimit}
+use Rattle.spec_base.specs.Sets.{join}
 use Rattle.labels.specs.Labels.{labelsWith}
 use Rattle.spec_language.specs.Reaction.{isWrong, emitted, code, labels, failed}
 use Rattle.spec_language.specs.Errors.{Error}

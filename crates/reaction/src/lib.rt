@@ -6,9 +6,9 @@ ghost use Rattle.reaction.specs.Completions.{codeOf, greaterOf, isEnded,
 ghost use mathlib.Core.Bool.{cond};
 ghost use Prim.Native.Nat.{_+_, _<_};
 ghost use lib.ListN.{getD, set};
-ghost use Rattle.limits.specs.Limits.{signalCount, labelCount};
-ghost use Rattle.sets.specs.Sets.{member, none};
-ghost use Rattle.sets.specs.Widths.{onlyBelow};
+ghost use Rattle.spec_base.specs.Limits.{signalCount, labelCount};
+ghost use Rattle.spec_base.specs.Sets.{member, none};
+ghost use Rattle.spec_base.specs.Widths.{onlyBelow};
 ghost use Rattle.labels.specs.Labels.{labelSet};
 ghost use Rattle.spec_language.specs.Statement.{nothing};
 ghost use Rattle.reaction.specs.Reactions.{keptOf, cappedOf, alone, reactionOf, failedWith, countedAround, FromOne};

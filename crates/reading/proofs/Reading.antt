@@ -5,7 +5,7 @@ use mathlib.Core.List.{List}
 use native.Mathlib.Omega.{arith}
 use lib.ListN.{length, length-replicate}
 use Rattle.spec_language.specs.Statement.{Statement}
-use Rattle.limits.specs.Limits.{maxBytes, maxDepth, maxSignals}
+use Rattle.spec_base.specs.Limits.{maxBytes, maxDepth, maxSignals}
 use Rattle.sequence.specs.Reader.{Read, accepted, refused, read}
 use Rattle.spec_language.specs.Sizes.{signalNesting}
 use Rattle.sequence.proofs.Refusals.{Small, Rowed, rowed}

@@ -4,7 +4,7 @@ use mathlib.Core.Path.{_≡_}
 use mathlib.Core.List.{List}
 use lib.ListN.{length}
 use Rattle.spec_language.specs.Statement.{Statement}
-use Rattle.limits.specs.Limits.{maxBytes, maxSignals}
+use Rattle.spec_base.specs.Limits.{maxBytes, maxSignals}
 use Rattle.sequence.specs.Reader.{Read, accepted, refused, readAll}
 use Rattle.spec_language.specs.Sizes.{signalNesting}
 use Rattle.layout.specs.Layout.{Marked}

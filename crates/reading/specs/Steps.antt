@@ -5,7 +5,7 @@ use mathlib.Core.Bool.{Bool, false, _&&_}
 use mathlib.Core.Option.{Option, none, some}
 use mathlib.Core.List.{List}
 use lib.Dec.{eqb}
-use Rattle.limits.specs.Limits.{maxSignals}
+use Rattle.spec_base.specs.Limits.{maxSignals}
 use Rattle.sequence.specs.Commands.{Command, operandCount, partCount, declares}
 use Rattle.layout.specs.Notes.{noteSignals}
 

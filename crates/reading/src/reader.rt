@@ -4,7 +4,7 @@ ghost use mathlib.Core.Path.{_≡_};
 ghost use Prim.Native.Nat.{ℕ, _+_, _≤_, _<_};
 ghost use mathlib.Core.List.{List};
 ghost use lib.ListN.{length};
-ghost use Rattle.limits.specs.Limits.{maxBytes};
+ghost use Rattle.spec_base.specs.Limits.{maxBytes};
 ghost use Rattle.sequence.specs.Commands.{Command, partCount, headLength};
 ghost use Rattle.sequence.specs.Reader.{read};
 ghost use Rattle.layout.specs.Notes.{noNotes};

@@ -3,7 +3,7 @@ ghost use mathlib.Core.Path.{_≡_};
 ghost use mathlib.Core.List.{List, _∷_};
 ghost use Prim.Native.Nat.{ℕ, _≤_, _<_};
 ghost use lib.Dec.{eqb};
-ghost use Rattle.limits.specs.Limits.{maxBytes, maxSignals};
+ghost use Rattle.spec_base.specs.Limits.{maxBytes, maxSignals};
 ghost use Rattle.sequence.specs.Commands.{Command, commandOf, inRange};
 ghost use Rattle.layout.specs.Layout.{putSecond};
 ghost use Rattle.layout.specs.Notes.{pausesCounted};

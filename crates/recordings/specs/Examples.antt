@@ -1,7 +1,7 @@
 -- Records, panels and numbers worked by hand.
 use mathlib.Core.Path.{_≡_, refl}
 use mathlib.Core.List.{[], _∷_, map}
-use Rattle.sets.specs.Sets.{member, none, only, join, difference, insert, remove, subset, disjoint, membersFrom}
+use Rattle.spec_base.specs.Sets.{member, none, only, join, difference, insert, remove, subset, disjoint, membersFrom}
 use Rattle.spec_language.specs.Reaction.{reactBy}
 use Rattle.spec_language.specs.Errors.{errorsBy}
 use Rattle.spec_language.specs.Reactions.{reactionsBy}
@@ -11,7 +11,7 @@ use Rattle.spec_language.specs.Sizes.{signalNesting}
 use Rattle.sequence.specs.Commands.{commandOf}
 use Rattle.sequence.specs.Reader.{front, read}
 use Rattle.sequence.specs.Check.{checked}
-use Rattle.numbers.specs.Bytes.{leBytes, leNumber}
+use Rattle.spec_base.specs.Bytes.{leBytes, leNumber}
 use Rattle.states.specs.StateRecord.{stateRecord, encodeState, decodeState}
 use Rattle.answers.specs.AnswerRecord.{answerRecord, encodeAnswer}
 use Rattle.tick.specs.Tick.{tickBy}

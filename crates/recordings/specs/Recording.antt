@@ -4,7 +4,7 @@ use mathlib.Core.Bool.{cond}
 use mathlib.Core.List.{List, [], _∷_, _++_}
 use lib.ListN.{replicate}
 use lib.Dec.{eqb, ltb}
-use Rattle.limits.specs.Limits.{signalBytes, lastNumber}
+use Rattle.spec_base.specs.Limits.{signalBytes, lastNumber}
 use Rattle.answers.specs.AnswerRecord.{answerLength}
 use Rattle.tick.specs.Tick.{Outcome, tickOf}
 use Rattle.tick.specs.Paper.{Call}

@@ -7,11 +7,11 @@ use mathlib.Core.Logic.{_↔_}
 use mathlib.Core.List.{List}
 use lib.ListN.{length, getD, take, drop, length-take, List·getD-eq-default}
 use lib.Seq.{getD-take, getD-drop}
-use Rattle.limits.specs.Limits.{signalCount, signalBytes, numberBytes}
-use Rattle.sets.specs.Sets.{difference}
+use Rattle.spec_base.specs.Limits.{signalCount, signalBytes, numberBytes}
+use Rattle.spec_base.specs.Sets.{difference}
 use Rattle.sets.proofs.Algebra.{differences-same}
 use Rattle.sets.proofs.Widths.{difference-lt}
-use Rattle.numbers.specs.Bytes.{leBytes, leNumber}
+use Rattle.spec_base.specs.Bytes.{leBytes, leNumber}
 use Rattle.numbers.proofs.Bytes.{le-round-trip}
 use Rattle.numbers.proofs.Reading.{leNumber-lt}
 use Rattle.answers.specs.AnswerRecord.{answerLength, codeIn, emittedAt, emittedIn}

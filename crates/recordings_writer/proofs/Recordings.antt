@@ -8,7 +8,7 @@ use mathlib.Core.List.{List, [], _∷_, map}
 use lib.ListN.{getElem?}
 use lib.Dec.{eqb, ltb}
 use borrow.Author.Tests.{ltb-true, ltb-false}
-use Rattle.limits.specs.Limits.{lastNumber}
+use Rattle.spec_base.specs.Limits.{lastNumber}
 use Rattle.tick.specs.Tick.{Outcome, tickOf}
 use Rattle.demands.specs.Demands.{number, stateAfterwards, answerAfterwards, outcomes, cleared}
 use Rattle.recordings.specs.Record.{numberIn}

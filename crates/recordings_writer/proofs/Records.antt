@@ -5,8 +5,8 @@ use mathlib.Core.Path.{_≡_, refl, sym, ap, _∙_}
 use mathlib.Core.List.{List, _++_}
 use lib.ListN.{length, take, length-append}
 use lib.Seq.{take-at, drop-at, take-length}
-use Rattle.limits.specs.Limits.{signalBytes, numberBytes}
-use Rattle.numbers.specs.Bytes.{leBytes}
+use Rattle.spec_base.specs.Limits.{signalBytes, numberBytes}
+use Rattle.spec_base.specs.Bytes.{leBytes}
 use Rattle.numbers.proofs.Bytes.{le-round-trip}
 use Rattle.states.specs.StateRecord.{stateLength}
 use Rattle.answers.specs.AnswerRecord.{answerLength}

@@ -6,7 +6,7 @@ use mathlib.Core.Logic.{_↔_}
 use mathlib.Core.Option.{some}
 use mathlib.Core.List.{List, map}
 use lib.ListN.{length, getElem?}
-use Rattle.limits.specs.Limits.{signalBytes, numberBytes, lastNumber}
+use Rattle.spec_base.specs.Limits.{signalBytes, numberBytes, lastNumber}
 use Rattle.states.specs.StateRecord.{stateLength}
 use Rattle.answers.specs.AnswerRecord.{answerLength}
 use Rattle.tick.specs.Tick.{tickOf}

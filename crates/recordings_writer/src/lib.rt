@@ -1,7 +1,7 @@
 // Records of instants (02, item 10): their fields read, records and what a panel shows of one written.
 ghost use mathlib.Core.Path.{_≡_};
 ghost use lib.ListN.{length};
-ghost use Rattle.numbers.specs.Bytes.{replaced};
+ghost use Rattle.spec_base.specs.Bytes.{replaced};
 ghost use Rattle.states.specs.StateRecord.{stateLength};
 ghost use Rattle.answers.specs.AnswerRecord.{answerLength};
 ghost use Rattle.recordings.specs.Record.{numberIn, inputIn, answerIn, recordOf, panelBytes, panelOf};

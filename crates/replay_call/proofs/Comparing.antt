@@ -11,7 +11,7 @@ use Rattle.reaction.specs.declared.Completion.the-variants.{Ended, Waiting, Lea
 use Rattle.validity.specs.Activity.{Ranked, Masked}
 use Rattle.instants.specs.Written.{writtenFrom}
 use Rattle.instants.proofs.Lengths.{writes}
-use Rattle.numbers.specs.Bytes.{replaced}
+use Rattle.spec_base.specs.Bytes.{replaced}
 use Rattle.numbers.proofs.Writing.{replaced-by}
 use Rattle.states.proofs.StateLaws.{state-sized}
 use Rattle.answers.proofs.AnswerLaws.{answer-sized}

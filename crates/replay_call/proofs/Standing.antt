@@ -4,8 +4,8 @@ use native.Mathlib.Omega.{arith}
 use mathlib.Core.Path.{_≡_, sym, ap, _∙_, subst}
 use mathlib.Core.Bool.{true}
 use mathlib.Core.List.{List}
-use Rattle.limits.specs.Limits.{labelCount, labelBytes}
-use Rattle.sets.specs.Sets.{member}
+use Rattle.spec_base.specs.Limits.{labelCount, labelBytes}
+use Rattle.spec_base.specs.Sets.{member}
 use Rattle.sets.proofs.Members.{member-lt}
 use Rattle.sets.proofs.Widths.{members-lt}
 use Rattle.spec_language.specs.Statement.{Statement}
@@ -34,7 +34,7 @@ use Rattle.validity.specs.Activity.{Ranked, Masked}
 use Rattle.reaction.specs.declared.Completion.the-variants.{Waiting}
 use Rattle.reaction.specs.declared.Reaction.{Reaction}
 use Rattle.reaction.specs.Reactions.{reactionOf}
-use Rattle.numbers.specs.Bytes.{leBytes}
+use Rattle.spec_base.specs.Bytes.{leBytes}
 use Rattle.numbers.proofs.Bytes.{le-round-trip}
 use Rattle.states.specs.StateRecord.{labelsIn, encodeState, holds, Recorded}
 use Rattle.states.proofs.StateLaws.{decode-encode}

@@ -5,7 +5,7 @@ ghost use Rattle.labels.specs.Labels.{labelSet};
 ghost use Rattle.instants.specs.Written.{Writable};
 ghost use Rattle.replays.specs.Replay.{same as Replay·same, placeOf, replayed, replayOf};
 ghost use Rattle.replay_call.specs.Comparing.{RankedAfter, StandsAfter, Compared};
-ghost use Rattle.limits.specs.Limits.{maxDepth};
+ghost use Rattle.spec_base.specs.Limits.{maxDepth};
 ghost use Rattle.layout.specs.Layout.{Ready};
 ghost use Rattle.program.specs.Program.{ReactedWithoutLitres};
 ghost use Rattle.replay_call.specs.Following.{Stood, Follows};

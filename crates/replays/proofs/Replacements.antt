@@ -4,7 +4,7 @@ use Prim.Native.Nat.{ℕ, zero, suc, _≤_}
 use native.Mathlib.Omega.{arith}
 use mathlib.Core.Path.{_≡_, refl, sym, ap, _∙_}
 use mathlib.Core.List.{List, [], _∷_, _++_}
-use Rattle.sets.specs.Sets.{member, none, only, join, subset, disjoint, membersFrom}
+use Rattle.spec_base.specs.Sets.{member, none, only, join, subset, disjoint, membersFrom}
 use Rattle.spec_language.specs.Reaction.{reactBy}
 use Rattle.spec_language.specs.Errors.{errorsBy}
 use Rattle.spec_language.specs.Reactions.{reactionsBy}
@@ -14,7 +14,7 @@ use Rattle.spec_language.specs.ReadBack.{declaredBy}
 use Rattle.sequence.specs.Commands.{commandOf}
 use Rattle.sequence.specs.Reader.{front, read}
 use Rattle.sequence.specs.Check.{checked, checkOf}
-use Rattle.numbers.specs.Bytes.{leBytes, leNumber}
+use Rattle.spec_base.specs.Bytes.{leBytes, leNumber}
 use Rattle.states.specs.StateRecord.{stateRecord, encodeState, decodeState}
 use Rattle.answers.specs.AnswerRecord.{answerRecord, encodeAnswer}
 use Rattle.tick.specs.Tick.{tickBy}

@@ -2,7 +2,7 @@
 use Prim.Native.Nat.{ℕ}
 use mathlib.Core.List.{List, [], _∷_, _++_}
 use lib.ListN.{take}
-use Rattle.sets.specs.Sets.{none}
+use Rattle.spec_base.specs.Sets.{none}
 use Rattle.states.specs.StateRecord.{stateRecord}
 use Rattle.answers.specs.AnswerRecord.{answerRecord}
 use Rattle.recordings.specs.Record.{recordOf}

@@ -6,9 +6,9 @@ use mathlib.Core.List.{List}
 use native.Mathlib.Omega.{arith}
 use lib.ListN.{length-set, getD, set, replicate}
 use borrow.Author.Tests.{eqb-true, lt-ltb}
-use Rattle.limits.specs.Limits.{wordLabels, labelCount}
-use Rattle.sets.specs.Sets.{none, empty, join, below, from}
-use Rattle.sets.specs.Widths.{onlyBelow, twoWords, setAt}
+use Rattle.spec_base.specs.Limits.{wordLabels, labelCount}
+use Rattle.spec_base.specs.Sets.{none, empty, join, below, from}
+use Rattle.spec_base.specs.Widths.{onlyBelow, twoWords, setAt}
 use Rattle.sets.proofs.Algebra.{join-none-l, join-none-r, join-assoc}
 use Rattle.sets.proofs.Words.{words-of, words-none, stored-here}
 use Rattle.spec_language.specs.Statement.{local, Statement, pause, seq, par, loop, present, signal, try, suspend}

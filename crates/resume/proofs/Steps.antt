@@ -5,9 +5,9 @@ use mathlib.Core.Bool.{Bool, true, false, cond}
 use mathlib.Core.Option.{Option, none, some}
 use mathlib.Core.List.{List}
 use lib.ListN.{getD, set}
-use Rattle.limits.specs.Limits.{signalCount}
-use Rattle.sets.specs.Sets.{member, empty, remove, below, from}
-use Rattle.sets.specs.Widths.{insertBelow}
+use Rattle.spec_base.specs.Limits.{signalCount}
+use Rattle.spec_base.specs.Sets.{member, empty, remove, below, from}
+use Rattle.spec_base.specs.Widths.{insertBelow}
 use Rattle.spec_language.specs.Statement.{local, Statement, nothing, seq, par, loop, present, signal, try, suspend}
 use Rattle.theory_language.specs.Ranks.{middle, labelsBy}
 use Rattle.theory_language.specs.Traced as Traces

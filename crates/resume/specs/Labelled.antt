@@ -3,9 +3,9 @@ use Prim.Native.Nat.{ℕ}
 use mathlib.Core.Path.{_≡_}
 use mathlib.Core.List.{List}
 use lib.ListN.{length}
-use Rattle.limits.specs.Limits.{wordLabels}
-use Rattle.sets.specs.Sets.{join, below, from}
-use Rattle.sets.specs.Widths.{twoWords, setAt}
+use Rattle.spec_base.specs.Limits.{wordLabels}
+use Rattle.spec_base.specs.Sets.{join, below, from}
+use Rattle.spec_base.specs.Widths.{twoWords, setAt}
 use Rattle.spec_language.specs.Statement.{Statement}
 use Rattle.theory_language.specs.Ranks.{middle, labelsBy}
 use Rattle.labels.specs.declared.Labels.{Labels}

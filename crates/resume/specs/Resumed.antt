@@ -3,7 +3,7 @@
 use Prim.Native.Nat.{ℕ}
 use mathlib.Core.Bool.{cond}
 use mathlib.Core.List.{List}
-use Rattle.sets.specs.Sets.{empty}
+use Rattle.spec_base.specs.Sets.{empty}
 use Rattle.spec_language.specs.Statement.{Statement, nothing}
 use Rattle.theory_language.specs.Traced.{startTraced}
 use Rattle.theory_language.specs.RankedExpansion.{expandBy, resumeTraced}

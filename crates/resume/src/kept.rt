@@ -2,8 +2,8 @@
 // with an active pause are entered.
 ghost use Prim.Native.Nat.{_-_, _≤_};
 ghost use lib.ListN.{length};
-ghost use Rattle.limits.specs.Limits.{labelCount};
-ghost use Rattle.sets.specs.Widths.{onlyBelow};
+ghost use Rattle.spec_base.specs.Limits.{labelCount};
+ghost use Rattle.spec_base.specs.Widths.{onlyBelow};
 ghost use Rattle.labels.specs.Labels.{labelSet};
 ghost use Rattle.layout.specs.Layout.{rest, Ready, Pair};
 ghost use Rattle.resume.specs.Labelled.{Joined, Labelled, Found, FoundTwo};

@@ -5,9 +5,9 @@ use mathlib.Core.Bool.{Bool, true, false, cond, false≢true, true≢false}
 use mathlib.Core.Option.{Option}
 use lib.Dec.{eqb}
 use borrow.Author.Tests.{lt-ltb}
-use Rattle.limits.specs.Limits.{signalCount}
-use Rattle.sets.specs.Sets.{none, only, join, insert}
-use Rattle.sets.specs.Widths.{onlyBelow}
+use Rattle.spec_base.specs.Limits.{signalCount}
+use Rattle.spec_base.specs.Sets.{none, only, join, insert}
+use Rattle.spec_base.specs.Widths.{onlyBelow}
 use Rattle.sets.proofs.Algebra.{join-none-l, join-none-r}
 use Rattle.labels.specs.Labels.{labelsWith}
 use Rattle.spec_language.specs.Statement.{Statement, nothing, try}

@@ -3,7 +3,7 @@ use Prim.Native.Nat.{ℕ, _+_, _-_}
 use mathlib.Core.Path.{_≡_, refl, ap, _∙_}
 use mathlib.Core.Bool.{true, false, false≢true, true≢false}
 use native.Mathlib.Omega.{arith}
-use Rattle.sets.specs.Sets.{none, join}
+use Rattle.spec_base.specs.Sets.{none, join}
 use Rattle.labels.specs.declared.Labels.{Labels}
 use Rattle.labels.specs.Labels.{labelSet, labelsWith, Represents}
 use Rattle.labels.proofs.LabelValues.{labelSet-of, stands-of}

@@ -2,8 +2,8 @@
 // parts. Those of a declaration are in declarations.
 ghost use mathlib.Core.Path.{_≡_};
 ghost use Prim.Native.Nat.{ℕ, _<_};
-ghost use Rattle.limits.specs.Limits.{signalCount};
-ghost use Rattle.sets.specs.Sets.{only};
+ghost use Rattle.spec_base.specs.Limits.{signalCount};
+ghost use Rattle.spec_base.specs.Sets.{only};
 ghost use Rattle.labels.specs.Labels.{labelSet};
 ghost use Rattle.spec_language.specs.Statement.{Statement};
 ghost use Rattle.theory_language.specs.Traced.{loopTraced, presentTraced, tryTraced, suspendTraced, heldTraced, stoppedTraced, seqTraced, parTraced};

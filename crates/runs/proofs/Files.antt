@@ -11,7 +11,7 @@ use lib.Seq.{drop-nil, drop-drop}
 use lib.Dec.{eqb}
 use borrow.Author.Tests.{le-leb, lt-leb}
 use Rattle.sequence.specs.Check.{checkOf}
-use Rattle.numbers.specs.Bytes.{leNumber}
+use Rattle.spec_base.specs.Bytes.{leNumber}
 use Rattle.runs.specs.File.{File, cut, refused, runs, byNumber, fileOf, sequenceLength, inputsAt, sequenceIn, readBackIn, words, inputsIn, first, whole}
 
 -- ---- the length that a file names

@@ -8,7 +8,7 @@ use mathlib.Core.Option.{Option}
 use mathlib.Core.List.{List, [], _∷_, _++_, map}
 use lib.ListN.{replicate}
 use borrow.Author.Tests.{eq-eqb, ne-eqb}
-use Rattle.sets.specs.Sets.{none}
+use Rattle.spec_base.specs.Sets.{none}
 use Rattle.spec_language.specs.Statement.{Statement}
 use Rattle.spec_language.specs.Reaction.{ended, waiting, leaving, wrong, Reaction, gives, react}
 use Rattle.spec_language.specs.Errors.{Error, noError, firstError, blame}

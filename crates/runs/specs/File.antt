@@ -7,8 +7,8 @@ use mathlib.Core.List.{List, [], _∷_}
 use lib.ListN.{length, take, drop}
 use lib.Dec.{eqb, leb}
 use Rattle.sequence.specs.Check.{checkOf}
-use Rattle.numbers.specs.Bytes.{leNumber}
-use Rattle.limits.specs.Limits.{signalBytes}
+use Rattle.spec_base.specs.Bytes.{leNumber}
+use Rattle.spec_base.specs.Limits.{signalBytes}
 
 abbrev pub lengthBytes : ℕ
 lengthBytes = 2

@@ -4,7 +4,7 @@ use mathlib.Core.Bool.{Bool, cond}
 use mathlib.Core.List.{List, [], _∷_, _++_}
 use lib.ListN.{replicate}
 use lib.Dec.{eqb}
-use Rattle.limits.specs.Limits.{signalBytes, labelBytes}
+use Rattle.spec_base.specs.Limits.{signalBytes, labelBytes}
 use Rattle.states.specs.StateRecord.{phaseIn, labelsIn}
 use Rattle.answers.specs.AnswerRecord.{answerLength, codeIn, kindIn, placeIn, emittedIn}
 use Rattle.tick.specs.Tick.{Outcome, tickOf}

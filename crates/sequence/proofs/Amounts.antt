@@ -14,8 +14,8 @@ use lib.Ieee.Bits.{is-true, ofBits-toBits, toBits-lt, toBits-ofBits, ofBits-fits
 use lib.Ieee.Fits.{ofInt-fits}
 use lib.Ieee.Back.{unsigned-back, float-back-unsigned}
 use borrow.Author.Tests.{ltb-true, lt-ltb, le-leb, leb-true}
-use Rattle.limits.specs.Limits.{litresLimit}
-use Rattle.numbers.specs.Bytes.{leBytes, leNumber}
+use Rattle.spec_base.specs.Limits.{litresLimit}
+use Rattle.spec_base.specs.Bytes.{leBytes, leNumber}
 use Rattle.numbers.proofs.Bytes.{le-round-trip}
 use Rattle.sequence.specs.Amounts.{amountSize, floatIn, areBytes, IsAmount, isAmount, amountIn, amountBytes}
 

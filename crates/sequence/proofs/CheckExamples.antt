@@ -5,8 +5,8 @@ use mathlib.Core.List.{List, [], _∷_, _++_, map, flatten}
 use Prim.Native.Nat.{ℕ}
 use lib.ListN.{replicate}
 use lib.Ieee.{ofBits, ofFields, odd, inUnsigned, whole}
-use Rattle.sets.specs.Sets.{member, none, only, join, subset, disjoint, membersFrom}
-use Rattle.numbers.specs.Bytes.{leNumber}
+use Rattle.spec_base.specs.Sets.{member, none, only, join, subset, disjoint, membersFrom}
+use Rattle.spec_base.specs.Bytes.{leNumber}
 use Rattle.spec_language.specs.ReadBack.{declaredBy}
 use Rattle.spec_language.specs.LabelTests.{labelsOf, everyLabel, distinct, before, wellFormed}
 use Rattle.sequence.specs.Commands.{commandOf}

@@ -9,12 +9,12 @@ use lib.ListN.{length, getD, drop, length-append}
 use lib.Seq.{drop-at}
 use borrow.Author.Tests.{lt-ltb, le-leb}
 use Rattle.spec_language.specs.Statement.{pure, litres, local, reported, Statement, nothing, pause, emit, exit, seq, par, loop, present, signal, try, setpause, suspend, held}
-use Rattle.limits.specs.Limits.{labelCount, signalCount, maxExit}
+use Rattle.spec_base.specs.Limits.{labelCount, signalCount, maxExit}
 use Rattle.sequence.specs.Commands.{Command, commandOf, operandsOf, partCount, inRange, litresFit, headLength, declares}
 use Rattle.sequence.specs.Reader.{accepted, lastPart, firstPart, readParts, read}
 use Rattle.sequence.specs.Writer.{bytesOf, size, Within, PlacedAt}
 use Rattle.spec_language.specs.Sizes.{depthOf}
-use Rattle.numbers.specs.Bytes.{leBytes}
+use Rattle.spec_base.specs.Bytes.{leBytes}
 use Rattle.sequence.proofs.Amounts.{amount-written}
 use Rattle.sequence.proofs.Front.{Fronted, Fronts, front-is}
 use Rattle.sequence.proofs.Inversion.{enters}

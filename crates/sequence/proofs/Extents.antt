@@ -8,7 +8,7 @@ use mathlib.Core.List.{List, [], append-nil}
 use lib.ListN.{length-append}
 use Rattle.spec_language.specs.Statement.{pure, litres, Statement, nothing, pause, emit, exit, seq, par, loop, present, signal, try, setpause, suspend, held}
 use Rattle.spec_language.specs.Sizes.{commands, loopNesting, signalNesting, depthOf}
-use Rattle.limits.specs.Limits.{maxDepth, maxSignals}
+use Rattle.spec_base.specs.Limits.{maxDepth, maxSignals}
 use Rattle.sequence.specs.Program.{program}
 use Rattle.sequence.specs.Check.{sound, checked}
 use Rattle.sequence.specs.Rows.{row-6}

@@ -8,7 +8,7 @@ use native.Mathlib.Decide.{decLt}
 use native.Mathlib.Omega.{arith}
 use lib.ListN.{length, getD, take, drop}
 use lib.Seq.{drop-cons}
-use Rattle.limits.specs.Limits.{lastCommand}
+use Rattle.spec_base.specs.Limits.{lastCommand}
 use Rattle.sequence.specs.Commands.{Command, commandOf, operandCount, bytesAt, operandsOf, inRange, litresFit, headLength}
 use Rattle.sequence.specs.Reader.{Front, command, bad, after, firstBytes, withOperands, withCommand, front}
 use Rattle.sequence.proofs.Table.{above, unnamed, byteOf, byte-is}

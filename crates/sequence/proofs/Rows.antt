@@ -14,7 +14,7 @@ use Rattle.spec_language.specs.Statement.{Statement}
 use Rattle.spec_language.specs.States.{Distinct, Targeted, WellFormed}
 use Rattle.spec_language.specs.LabelTests.{distinct, targeted, wellFormed}
 use Rattle.theory_language.proofs.LabelTests.{distinct-is, targeted-is, wellFormed-is}
-use Rattle.limits.specs.Limits.{maxBytes, maxDepth, maxSignals}
+use Rattle.spec_base.specs.Limits.{maxBytes, maxDepth, maxSignals}
 use Rattle.sequence.specs.Commands.{declares}
 use Rattle.sequence.specs.Reader.{Read, accepted, refused, Front, command, front, read}
 use Rattle.spec_language.specs.Sizes.{signalNesting}

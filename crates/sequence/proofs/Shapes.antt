@@ -6,7 +6,7 @@ use Prim.Native.Nat.{ℕ, _+_, _<_, max}
 use native.Mathlib.Omega.{arith}
 use lib.ListN.{length}
 use Rattle.spec_language.specs.Statement.{local, Statement, seq, par, loop, present, signal, try, suspend}
-use Rattle.limits.specs.Limits.{signalCount}
+use Rattle.spec_base.specs.Limits.{signalCount}
 use Rattle.spec_language.specs.Sizes.{signalNesting, depthOf}
 use Rattle.sequence.specs.Writer.{bytesOf, size, Ranged, PlacedAt}
 

@@ -9,7 +9,7 @@ use lib.Seq.{drop-at, drop-drop}
 use lib.Dec.{leb}
 use borrow.Author.Tests.{ltb-true, leb-true}
 use Rattle.spec_language.specs.Statement.{local, pure, litres, Statement, nothing, pause, emit, exit, seq, par, loop, present, signal, try, setpause, suspend}
-use Rattle.limits.specs.Limits.{labelCount, signalCount, maxExit}
+use Rattle.spec_base.specs.Limits.{labelCount, signalCount, maxExit}
 use Rattle.sequence.specs.Commands.{Command, partCount, bytesAt, operandsOf, inRange, litresFit, headLength, declares, build}
 use Rattle.sequence.specs.Reader.{accepted, read}
 use Rattle.spec_language.specs.Sizes.{signalNesting, depthOf}

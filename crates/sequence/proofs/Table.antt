@@ -7,7 +7,7 @@ use Prim.Native.Nat.{ℕ, zero, suc, _+_, _-_, _≤_, _<_}
 use lib.ListN.{List·getD-eq-default}
 use native.Mathlib.Decide.{decLt}
 use native.Mathlib.Omega.{arith}
-use Rattle.limits.specs.Limits.{lastCommand}
+use Rattle.spec_base.specs.Limits.{lastCommand}
 use Rattle.sequence.specs.Commands.{Command, table, commandOf, operandCount, partCount, inRange, litresFit, declares}
 
 -- P holds of the n numbers from k on

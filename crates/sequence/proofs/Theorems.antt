@@ -10,7 +10,7 @@ use lib.IntN.{pos}
 use lib.Ieee.{binary32, ofInt}
 use Rattle.spec_language.specs.Statement.{Statement}
 use Rattle.spec_language.specs.States.{Source}
-use Rattle.limits.specs.Limits.{maxDepth, maxSignals}
+use Rattle.spec_base.specs.Limits.{maxDepth, maxSignals}
 use Rattle.sequence.specs.Amounts.{amountSize, IsAmount, isAmount, amountIn, floatIn}
 use Rattle.sequence.specs.Reader.{accepted, read}
 use Rattle.sequence.specs.Check.{checkOf}

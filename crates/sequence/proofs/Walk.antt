@@ -11,7 +11,7 @@ use lib.Seq.{drop-drop}
 use lib.Dec.{leb, ltb}
 use borrow.Author.Tests.{ltb-false, leb-false, le-ltb, lt-ltb, le-leb, lt-leb}
 use Rattle.spec_language.specs.Statement.{Statement}
-use Rattle.limits.specs.Limits.{maxDepth, maxSignals}
+use Rattle.spec_base.specs.Limits.{maxDepth, maxSignals}
 use Rattle.sequence.specs.Amounts.{amountSize, IsAmount, isAmount}
 use Rattle.sequence.specs.Commands.{Command, nothing, pause, emit, exit, seq, par, loop, present, signal, try, setpause, suspend, deliver, commandOf, operandCount, operandsOf, partCount, inRange, litresFit, headLength, declares}
 use Rattle.sequence.specs.Reader.{Read, accepted, refused, Front, command, bad, front, read}

@@ -6,8 +6,8 @@ use mathlib.Core.List.{List, [], _∷_}
 use lib.Dec.{ltb}
 use lib.IntN.{pos}
 use lib.Ieee.{Float, binary32, ofBits, toBits, ofInt, inUnsigned, toUnsigned}
-use Rattle.limits.specs.Limits.{litresLimit}
-use Rattle.numbers.specs.Bytes.{leBytes, leNumber}
+use Rattle.spec_base.specs.Limits.{litresLimit}
+use Rattle.spec_base.specs.Bytes.{leBytes, leNumber}
 
 abbrev pub amountSize : ℕ
 amountSize = 4

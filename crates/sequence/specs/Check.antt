@@ -7,7 +7,7 @@ use lib.ListN.{length}
 use lib.Dec.{leb, ltb}
 use Rattle.spec_language.specs.Statement.{Statement}
 use Rattle.spec_language.specs.LabelTests.{distinct, targeted, wellFormed}
-use Rattle.limits.specs.Limits.{maxBytes, maxSignals}
+use Rattle.spec_base.specs.Limits.{maxBytes, maxSignals}
 use Rattle.sequence.specs.Reader.{Read, accepted, refused, readAll}
 use Rattle.spec_language.specs.Sizes.{signalNesting}
 use Rattle.sequence.specs.Program.{program}

@@ -6,7 +6,7 @@ use mathlib.Core.List.{List, [], _∷_}
 use lib.ListN.{getD, drop}
 use lib.Dec.{leb, ltb}
 use Rattle.spec_language.specs.Statement.{local, pure, litres, Statement}
-use Rattle.limits.specs.Limits.{labelCount, signalCount, maxExit}
+use Rattle.spec_base.specs.Limits.{labelCount, signalCount, maxExit}
 use Rattle.sequence.specs.Amounts.{amountSize, isAmount, amountIn}
 
 pub data Command : Type 0 where

@@ -1,8 +1,8 @@
 -- The program of a host (02, item 5): the statement of its sequence under the read-back declarations.
 use Prim.Native.Nat.{ℕ}
 use mathlib.Core.List.{List}
-use Rattle.limits.specs.Limits.{signalCount, readBackPlace}
-use Rattle.sets.specs.Sets.{membersFrom}
+use Rattle.spec_base.specs.Limits.{signalCount, readBackPlace}
+use Rattle.spec_base.specs.Sets.{membersFrom}
 use Rattle.spec_language.specs.Statement.{Statement}
 use Rattle.spec_language.specs.ReadBack.{declared}
 

@@ -7,7 +7,7 @@ use mathlib.Core.List.{List, [], _∷_}
 use lib.ListN.{drop}
 use lib.Dec.{ltb}
 use Rattle.spec_language.specs.Statement.{Statement, nothing}
-use Rattle.limits.specs.Limits.{maxDepth, maxSignals}
+use Rattle.spec_base.specs.Limits.{maxDepth, maxSignals}
 use Rattle.sequence.specs.Commands.{Command, commandOf, operandCount, partCount, inRange, litresFit, headLength, declares, build}
 
 pub data Read : Type 0 where

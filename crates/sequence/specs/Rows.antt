@@ -9,7 +9,7 @@ use lib.ListN.{length, drop, replicate}
 use lib.Dec.{leb, ltb, eqb}
 use Rattle.spec_language.specs.Statement.{Statement}
 use Rattle.spec_language.specs.States.{Distinct, Targeted, WellFormed}
-use Rattle.limits.specs.Limits.{lastCommand, maxBytes, maxDepth, maxSignals}
+use Rattle.spec_base.specs.Limits.{lastCommand, maxBytes, maxDepth, maxSignals}
 use Rattle.sequence.specs.Amounts.{IsAmount}
 use Rattle.sequence.specs.Commands.{Command, deliver, commandOf, operandCount, operandsOf, partCount, inRange, headLength, declares}
 use Rattle.sequence.specs.Reader.{Front, command, bad, front}

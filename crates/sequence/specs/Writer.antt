@@ -4,7 +4,7 @@ use mathlib.Core.Path.{_≡_}
 use mathlib.Core.List.{List, [], _∷_, _++_}
 use lib.ListN.{length}
 use Rattle.spec_language.specs.Statement.{local, pure, litres, Statement, nothing, pause, emit, exit, seq, par, loop, present, signal, try, setpause, suspend, held}
-use Rattle.limits.specs.Limits.{labelCount, signalCount, maxExit, litresLimit}
+use Rattle.spec_base.specs.Limits.{labelCount, signalCount, maxExit, litresLimit}
 use Rattle.spec_language.specs.Litres.{amount}
 use Rattle.sequence.specs.Amounts.{amountBytes}
 use Rattle.spec_language.specs.Sizes.{signalNesting, depthOf}

@@ -8,7 +8,7 @@ use lib.Dec.{eqb}
 use lib.Bits.{bitOr, or-self, or-zero-l, or-zero-r, or-add-and, and-le-l, and-le-r}
 use lib.Pow.{pow-pos}
 use borrow.Author.Tests.{eqb-true, eq-eqb, ne-eqb}
-use Rattle.sets.specs.Sets.{member, none, empty, only, join, common, difference, remove}
+use Rattle.spec_base.specs.Sets.{member, none, empty, only, join, common, difference, remove}
 use Rattle.sets.proofs.Booleans.{same-test}
 use Rattle.sets.proofs.Members.{member-join, member-common, member-difference, member-remove, ext}
 

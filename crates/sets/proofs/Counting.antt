@@ -8,8 +8,8 @@ use mathlib.Core.List.{List, [], _∷_, List·Memᴰ, List·Memᴰ·head, List·
 use lib.ListN.{length}
 use lib.Bits.{and-le-r}
 use lib.Count.{ones, ones-step}
-use Rattle.sets.specs.Sets.{none}
-use Rattle.sets.specs.Subsets.{subsetsOf, Falls}
+use Rattle.spec_base.specs.Sets.{none}
+use Rattle.spec_base.specs.Subsets.{subsetsOf, Falls}
 use Rattle.sets.proofs.Lowest.{half-below}
 use Rattle.sets.proofs.Sizes.{size-none}
 use Rattle.sets.proofs.Subsets.{Within, to-within, half-within, low-within, subsets-are, subsets-fall}

@@ -4,7 +4,7 @@ use mathlib.Core.Path.{_≡_, sym, ap, ap₂, _∙_}
 use native.Mathlib.Omega.{arith}
 use lib.Bits.{bitOr, bitAnd, bitXor, or-shifted-r, and-mask, xor-block, xor-self, xor-zero-r}
 use lib.Pow.{pow-pos, low, split}
-use Rattle.sets.specs.Sets.{none, only, join, below, from}
+use Rattle.spec_base.specs.Sets.{none, only, join, below, from}
 
 pub none-over : (k : ℕ) → none % 2 ^ k ≡ 0
 unfolding none

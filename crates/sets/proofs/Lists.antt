@@ -7,7 +7,7 @@ use mathlib.Core.Logic.{_⊎_, inl, inr, ⊎-elim}
 use mathlib.Core.Bool.{Bool, true, false, and-true, and-false}
 use mathlib.Core.List.{List, [], _∷_, List·Memᴰ, List·Memᴰ·head, List·Memᴰ·tail, List·Memᴰ·cases-cons, List·Memᴰ·not-nil}
 use borrow.Author.Tests.{eq-eqb, ne-eqb}
-use Rattle.sets.specs.Sets.{member, none, remove, without, keepIf, membersFrom}
+use Rattle.spec_base.specs.Sets.{member, none, remove, without, keepIf, membersFrom}
 use Rattle.sets.proofs.Members.{member-none, member-remove}
 use Rattle.sets.proofs.Algebra.{remove-absent}
 

@@ -6,8 +6,8 @@ use mathlib.Core.Logic.{_⊎_, inl, inr, ⊎-elim}
 use native.Mathlib.Omega.{arith}
 use lib.Dec.{eqb}
 use borrow.Author.Tests.{eqb-true, eqb-false, not-true, not-false}
-use Rattle.sets.specs.Sets.{member, none, remove}
-use Rattle.sets.specs.Widths.{Lowest}
+use Rattle.spec_base.specs.Sets.{member, none, remove}
+use Rattle.spec_base.specs.Widths.{Lowest}
 use Rattle.sets.proofs.Booleans.{clash}
 use Rattle.sets.proofs.Members.{member-none, member-remove, in-remove}
 use Rattle.sets.proofs.Lowest.{remove-less}

@@ -8,8 +8,8 @@ use native.Mathlib.Omega.{arith}
 use lib.Dec.{eqb, eqb·suc-suc, eqb·zero-suc}
 use lib.Count.{trailingZeros, under, trailing-of-zero}
 use borrow.Author.Tests.{eq-eqb, eqb-true, eqb-false, ne-eqb, not-true}
-use Rattle.sets.specs.Sets.{member, none, empty, common, remove, Disjoint}
-use Rattle.sets.specs.Widths.{Lowest}
+use Rattle.spec_base.specs.Sets.{member, none, empty, common, remove, Disjoint}
+use Rattle.spec_base.specs.Widths.{Lowest}
 use Rattle.sets.proofs.Booleans.{apart-is}
 use Rattle.sets.proofs.Members.{member-zero, member-step, member-none, member-common, member-remove, in-none, ext}
 

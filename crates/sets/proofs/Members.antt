@@ -10,7 +10,7 @@ use lib.Bits.{bitOr, bitAnd, bitXor, differ, or-step, and-step, xor-step, or-shr
 use lib.Pow.{pow-mono, shr-shr}
 use lib.Arith.{digits-mod, bin-ind}
 use borrow.Author.Tests.{eqb-false, ltb-true, ltb-false, not-true}
-use Rattle.sets.specs.Sets.{member, none, only, join, common, difference, insert, remove}
+use Rattle.spec_base.specs.Sets.{member, none, only, join, common, difference, insert, remove}
 use Rattle.sets.proofs.Booleans.{or-l, or-r, or-cases, or-first, or-second, clash, same-test}
 
 -- ---- one law for the three operations on digits

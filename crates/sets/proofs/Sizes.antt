@@ -11,7 +11,7 @@ use lib.Bits.{bitOr, bitAnd, or-step, and-step, or-zero-l}
 use lib.Pow.{pow-pos}
 use lib.Count.{ones, ones-step, ones-cat}
 use borrow.Author.Tests.{eqb-true}
-use Rattle.sets.specs.Sets.{member, none, only, join, Disjoint, disjoint, keepIf, membersFrom}
+use Rattle.spec_base.specs.Sets.{member, none, only, join, Disjoint, disjoint, keepIf, membersFrom}
 use Rattle.sets.proofs.Tests.{disjoint-is}
 
 -- the digits above the first i, and above one more

@@ -9,8 +9,8 @@ use mathlib.Core.List.{List, [], _∷_, List·Memᴰ, List·Memᴰ·head, List·
 use lib.Dec.{eqb}
 use lib.Bits.{bitAnd, and-step, and-le-l, and-le-r, and-self}
 use borrow.Author.Tests.{eq-eqb, eqb-true, eqb-false, ne-eqb}
-use Rattle.sets.specs.Sets.{member, common, Subset, subset}
-use Rattle.sets.specs.Subsets.{nextSubset, subsetsBelow, subsetsOf, Falls}
+use Rattle.spec_base.specs.Sets.{member, common, Subset, subset}
+use Rattle.spec_base.specs.Subsets.{nextSubset, subsetsBelow, subsetsOf, Falls}
 use Rattle.sets.proofs.Members.{member-common}
 use Rattle.sets.proofs.Tests.{subset-is}
 use Rattle.sets.proofs.Lowest.{half-below, lt-power}

@@ -4,7 +4,7 @@ use mathlib.Core.Path.{_≡_, sym, ap, _∙_}
 use mathlib.Core.Logic.{⊎-elim, _↔_}
 use mathlib.Core.Bool.{Bool, true, _&&_, and-eq-true-iff}
 use borrow.Author.Tests.{eqb-true, eq-eqb}
-use Rattle.sets.specs.Sets.{member, none, join, common, Subset, subset, Disjoint, disjoint}
+use Rattle.spec_base.specs.Sets.{member, none, join, common, Subset, subset, Disjoint, disjoint}
 use Rattle.sets.proofs.Booleans.{same-test, implies-is, apart-is}
 use Rattle.sets.proofs.Members.{member-common, member-none, member-join, in-none, in-l, in-r, in-join, out-l, out-r, ext}
 

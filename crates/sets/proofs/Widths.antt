@@ -8,8 +8,8 @@ use lib.Dec.{eqb, ltb}
 use lib.Pow.{pow-pos, pow-lt, pow-mono, shl-exact}
 use lib.Bits.{bitAnd, bitXor, and-zero-r, xor-zero-r, or-lt, xor-lt, and-le-l}
 use borrow.Author.Tests.{lt-ltb, le-ltb, ltb-true, ltb-false}
-use Rattle.sets.specs.Sets.{member, none, only, join, difference, insert, remove, below}
-use Rattle.sets.specs.Widths.{onlyBelow, insertBelow, allBelow, complement}
+use Rattle.spec_base.specs.Sets.{member, none, only, join, difference, insert, remove, below}
+use Rattle.spec_base.specs.Widths.{onlyBelow, insertBelow, allBelow, complement}
 use Rattle.sets.proofs.Members.{member-zero, member-step, member-high, member-difference, in-none, same-set}
 use Rattle.sets.proofs.Algebra.{join-none-r, remove-absent}
 use Rattle.sets.proofs.Halves.{below-and, below-all}

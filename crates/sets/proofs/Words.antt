@@ -12,9 +12,9 @@ use lib.Seq.{getD-set-same, getD-set-other}
 use lib.Bits.{bitAnd, bitXor, and-block, or-block, xor-block, and-lt, and-zero-r}
 use lib.Pow.{pow-pos, pow-add, shr-shr, split, high, low, field, mod-mod-pow, mod-pow-add}
 use borrow.Author.Tests.{eq-eqb, eqb-true, ne-eqb, eqb-false, ltb-true, ltb-false, lt-ltb}
-use Rattle.limits.specs.Limits.{wordLabels}
-use Rattle.sets.specs.Sets.{member, none, only, join, Subset, subset, Disjoint, disjoint, below}
-use Rattle.sets.specs.Widths.{onlyBelow, twoWords, setAt, Lowest}
+use Rattle.spec_base.specs.Limits.{wordLabels}
+use Rattle.spec_base.specs.Sets.{member, none, only, join, Subset, subset, Disjoint, disjoint, below}
+use Rattle.spec_base.specs.Widths.{onlyBelow, twoWords, setAt, Lowest}
 use Rattle.sets.proofs.Members.{member-none, member-lt}
 use Rattle.sets.proofs.Algebra.{join-none-r}
 use Rattle.sets.proofs.Tests.{subset-is, disjoint-is}

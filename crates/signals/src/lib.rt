@@ -2,9 +2,9 @@
 // outside the width is no member.
 ghost use mathlib.Core.Path.{_≡_};
 ghost use lib.ListN.{length};
-ghost use Rattle.limits.specs.Limits.{signalCount};
-ghost use Rattle.sets.specs.Sets.{member, empty, join, common, difference, remove, membersFrom};
-ghost use Rattle.sets.specs.Widths.{onlyBelow, insertBelow, complement, Lowest};
+ghost use Rattle.spec_base.specs.Limits.{signalCount};
+ghost use Rattle.spec_base.specs.Sets.{member, empty, join, common, difference, remove, membersFrom};
+ghost use Rattle.spec_base.specs.Widths.{onlyBelow, insertBelow, complement, Lowest};
 
 pub fn member(s: u32, i: u8) -> bool
     ensures { λ r. ⌜ r ≡ member i s ⌝ }

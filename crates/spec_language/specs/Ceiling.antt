@@ -2,7 +2,7 @@
 use Prim.Native.Nat.{ℕ, zero, suc, _+_, _*_, _^_}
 use mathlib.Core.Path.{_≡_, refl}
 use mathlib.Core.List.{[], _∷_}
-use Rattle.sets.specs.Sets.{member, none, only, join, insert, remove}
+use Rattle.spec_base.specs.Sets.{member, none, only, join, insert, remove}
 use Rattle.spec_language.specs.Statement.{local, Statement, nothing, pause, emit, exit, seq, par, loop, present, signal, try, setpause, suspend, held}
 use Rattle.spec_language.specs.Reaction.{reactBy}
 use Rattle.spec_language.specs.Reactions.{reactionsBy, reactions}

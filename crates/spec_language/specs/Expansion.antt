@@ -2,7 +2,7 @@
 use Prim.Native.Nat.{ℕ}
 use mathlib.Core.Path.{_≡_}
 use mathlib.Core.Bool.{Bool, true, false, cond}
-use Rattle.sets.specs.Sets.{member}
+use Rattle.spec_base.specs.Sets.{member}
 use Rattle.spec_language.specs.Statement.{Scope, Statement}
 use Rattle.spec_language.specs.States.{active}
 use Rattle.spec_language.specs.LabelTests.{activeLabels}

@@ -4,7 +4,7 @@ use Prim.Native.Nat.{ℕ}
 use mathlib.Core.Bool.{Bool, true, false, not, _&&_, _||_, cond}
 use lib.Dec.{eqb}
 use lib.Bits.{bitAnd}
-use Rattle.sets.specs.Sets.{member, none, only, join, subset, disjoint}
+use Rattle.spec_base.specs.Sets.{member, none, only, join, subset, disjoint}
 use Rattle.spec_language.specs.Statement.{Statement, nothing, pause, emit, exit, seq, par, loop, present, signal, try, setpause, suspend, held}
 
 -- the labels of p: those of its pauses if x, and those of its setpauses if y

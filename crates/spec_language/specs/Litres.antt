@@ -4,7 +4,7 @@ use Prim.Native.Nat.{ℕ, _+_, _≤_}
 use mathlib.Core.Path.{_≡_, refl}
 use mathlib.Core.Bool.{cond}
 use lib.Dec.{eqb}
-use Rattle.sets.specs.Sets.{member, none, only, join, insert, remove}
+use Rattle.spec_base.specs.Sets.{member, none, only, join, insert, remove}
 use Rattle.spec_language.specs.Statement.{Scope, local, reported, Value, pure, litres, Statement, nothing, pause, emit, exit, seq, par, loop, present, signal, try, setpause, suspend, held}
 use Rattle.spec_language.specs.Reaction.{Reaction, code, Case, both, neither, only−, only+, inherited, Order, inheritanceFirst, caseOf, reactBy}
 use Rattle.spec_language.specs.Rules.{ReactsBy}

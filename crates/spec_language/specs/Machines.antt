@@ -5,7 +5,7 @@ use mathlib.Core.Path.{_≡_, refl}
 use mathlib.Core.Bool.{cond}
 use mathlib.Core.Option.{Option}
 use mathlib.Core.List.{List, [], _∷_}
-use Rattle.sets.specs.Sets.{member, none, only, join, without}
+use Rattle.spec_base.specs.Sets.{member, none, only, join, without}
 use Rattle.spec_language.specs.Statement.{litres, Statement, nothing, pause, emit, exit, seq, par, loop, present, signal, try, setpause, suspend, held}
 use Rattle.spec_language.specs.Reaction.{Code, ended, waiting, leaving, wrong, isWrong, Reaction, gives, code, reactBy, react}
 use Rattle.spec_language.specs.Errors.{Error, errorsBy, firstError, blame}

@@ -3,7 +3,7 @@
 use Prim.Native.Nat.{ℕ, _+_}
 use mathlib.Core.Path.{_≡_, refl}
 use mathlib.Core.Bool.{cond}
-use Rattle.sets.specs.Sets.{member, none, only, join, insert, remove}
+use Rattle.spec_base.specs.Sets.{member, none, only, join, insert, remove}
 use Rattle.spec_language.specs.Statement.{local, pure, Statement, nothing, pause, emit, exit, seq, par, loop, present, signal, try, setpause, suspend, held}
 use Rattle.spec_language.specs.Reaction.{Reaction, code, Order, inheritanceFirst, reactBy}
 use Rattle.spec_language.specs.Rules.{ReactsBy}

@@ -3,7 +3,7 @@
 use Prim.Native.Nat.{ℕ}
 use mathlib.Core.Path.{_≡_, refl}
 use mathlib.Core.List.{List, [], _∷_, List·Memᴰ}
-use Rattle.sets.specs.Sets.{member, none, only, join, insert, remove, without}
+use Rattle.spec_base.specs.Sets.{member, none, only, join, insert, remove, without}
 use Rattle.spec_language.specs.Statement.{Scope, local, reported, pure, litres, Statement, nothing, emit, seq, present, signal}
 use Rattle.spec_language.specs.Reaction.{ended, waiting, gives, emitted, code, residual, failed, reactBy, react}
 use Rattle.spec_language.specs.Errors.{errorsBy, errors, notReactive, notDeterministic}

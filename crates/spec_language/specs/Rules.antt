@@ -6,7 +6,7 @@ use Prim.Native.Nat.{ℕ}
 use mathlib.Core.Path.{_≡_}
 use mathlib.Core.Logic.{_≢_}
 use mathlib.Core.Bool.{Bool, true, false}
-use Rattle.sets.specs.Sets.{member, none, only, join, insert, remove}
+use Rattle.spec_base.specs.Sets.{member, none, only, join, insert, remove}
 use Rattle.spec_language.specs.Statement.{Scope, Value, Statement}
 use Rattle.spec_language.specs.Reaction.{Code, ended, waiting, leaving, wrong, greater, down, ifWaiting, side, outside, remains, Reaction, gives, Order, printed, inheritanceFirst}
 

@@ -3,13 +3,13 @@ use Prim.Native.Nat.{ℕ, suc}
 use mathlib.Core.Path.{_≡_, refl, ap}
 use mathlib.Core.Bool.{cond}
 use lib.ListN.{length}
-use Rattle.limits.specs.Limits.{labelBytes}
-use Rattle.sets.specs.Sets.{none}
+use Rattle.spec_base.specs.Limits.{labelBytes}
+use Rattle.spec_base.specs.Sets.{none}
 use Rattle.spec_language.specs.Statement.{Statement}
 use Rattle.spec_language.specs.LabelTests.{valid}
 use Rattle.spec_language.specs.Machines.{State}
 use Rattle.theory_language.proofs.LabelTests.{valid-is}
-use Rattle.numbers.specs.Bytes.{leBytes, leNumber}
+use Rattle.spec_base.specs.Bytes.{leBytes, leNumber}
 use Rattle.numbers.proofs.Bytes.{length-leBytes, le-round-trip}
 use Rattle.states.specs.StateRecord.{stateLength, stateRecord, encodeState, holds, malformed, decodeState, Recorded}
 

@@ -5,8 +5,8 @@ use mathlib.Core.Path.{_≡_, sym, ap, _∙_}
 use mathlib.Core.List.{List}
 use lib.ListN.{length}
 use lib.Seq.{sets}
-use Rattle.limits.specs.Limits.{wordLabels, wordBytes, labelBytes}
-use Rattle.numbers.specs.Bytes.{leBytes, replaced}
+use Rattle.spec_base.specs.Limits.{wordLabels, wordBytes, labelBytes}
+use Rattle.spec_base.specs.Bytes.{leBytes, replaced}
 use Rattle.numbers.proofs.Bytes.{length-leBytes, le-low, le-append}
 use Rattle.numbers.proofs.Writing.{sets-whole, sets-append, replaced-by}
 use Rattle.states.specs.StateRecord.{stateLength, stateRecord}

@@ -4,13 +4,13 @@ use mathlib.Core.Bool.{_&&_, cond}
 use mathlib.Core.List.{List, _∷_}
 use lib.ListN.{getD, take, drop}
 use lib.Dec.{eqb}
-use Rattle.limits.specs.Limits.{labelBytes}
-use Rattle.sets.specs.Sets.{none}
+use Rattle.spec_base.specs.Limits.{labelBytes}
+use Rattle.spec_base.specs.Sets.{none}
 use Rattle.spec_language.specs.Statement.{Statement}
 use Rattle.spec_language.specs.States.{Valid}
 use Rattle.spec_language.specs.LabelTests.{valid}
 use Rattle.spec_language.specs.Machines.{State}
-use Rattle.numbers.specs.Bytes.{leBytes, leNumber}
+use Rattle.spec_base.specs.Bytes.{leBytes, leNumber}
 
 -- where the label set begins, and the length
 abbrev pub labelsAt : ℕ

@@ -5,7 +5,7 @@ use mathlib.Core.Logic.{_↔_, ⊎-elim}
 use mathlib.Core.Bool.{true, false, _||_, and-eq-true-iff, false≢true}
 use mathlib.Core.List.{[]}
 use borrow.Author.Tests.{eqb-true}
-use Rattle.sets.specs.Sets.{member, none, only, join, common}
+use Rattle.spec_base.specs.Sets.{member, none, only, join, common}
 use Rattle.sets.proofs.Booleans.{or-l, or-r, or-cases, never, clash, same-test}
 use Rattle.sets.proofs.Members.{member-common, member-only, in-none, same-set}
 use Rattle.sets.proofs.Algebra.{common-join}

@@ -6,7 +6,7 @@ use mathlib.Core.Bool.{Bool, true, false, not, _&&_, _||_, cond, or-true, or-fal
 use mathlib.Core.List.{[], _++_}
 use lib.Dec.{eqb}
 use borrow.Author.Tests.{eqb-true, eq-eqb}
-use Rattle.sets.specs.Sets.{member, none, join, insert, remove}
+use Rattle.spec_base.specs.Sets.{member, none, join, insert, remove}
 use Rattle.sets.proofs.Booleans.{or-l, clash, Tested, tested}
 use Rattle.sets.proofs.Members.{member-insert, member-remove, in-l, in-r}
 use Rattle.sets.proofs.Algebra.{join-none-r, join-self, remove-absent}

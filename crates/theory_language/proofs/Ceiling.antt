@@ -6,7 +6,7 @@ use mathlib.Core.List.{List, [], _∷_}
 use lib.ListN.{length}
 use native.Mathlib.Nat.{le-refl, le-trans, pow-suc, one-le-pow, add-le-add, mul-le-mul, pow-le-pow-right}
 use native.Mathlib.Omega.{arith}
-use Rattle.sets.specs.Sets.{member, insert, remove}
+use Rattle.spec_base.specs.Sets.{member, insert, remove}
 use Rattle.spec_language.specs.Statement.{Statement, nothing, pause, emit, exit, seq, par, loop, present, signal, try, setpause, suspend, held}
 use Rattle.spec_language.specs.Reaction.{code, react}
 use Rattle.spec_language.specs.States.{active}

@@ -6,7 +6,7 @@ use mathlib.Core.Bool.{Bool, true, false, not, _&&_, and-eq-true-iff, false≢tr
 use mathlib.Core.List.{_∷_}
 use native.Mathlib.Omega.{arith}
 use borrow.Author.Tests.{ne-eqb}
-use Rattle.sets.specs.Sets.{member, none, empty, subset, below, from}
+use Rattle.spec_base.specs.Sets.{member, none, empty, subset, below, from}
 use Rattle.sets.proofs.Booleans.{clash, Tested, tested, same-test}
 use Rattle.sets.proofs.Members.{in-none}
 use Rattle.sets.proofs.Tests.{subset-is}

@@ -2,7 +2,7 @@
 use Prim.Native.Nat.{ℕ, _+_, _^_, _<_, _≤_}
 use mathlib.Core.Path.{_≡_, ap₂, _∙_, subst}
 use lib.Count.{ones, ones-le}
-use Rattle.sets.specs.Sets.{join}
+use Rattle.spec_base.specs.Sets.{join}
 use Rattle.sets.proofs.Sizes.{size-none, size-only, size-join}
 use Rattle.spec_language.specs.Statement.{Statement, nothing, pause, emit, exit, seq, par, loop, present, signal, try, setpause, suspend, held}
 use Rattle.spec_language.specs.Places.{loop₁, signal₁, try₁, suspend₁}

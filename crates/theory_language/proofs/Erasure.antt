@@ -6,7 +6,7 @@ use mathlib.Core.Bool.{Bool, true, false, cond}
 use mathlib.Core.Option.{Option}
 use mathlib.Core.List.{List, head?}
 use lib.Dec.{eqb}
-use Rattle.sets.specs.Sets.{member, none, insert, remove}
+use Rattle.spec_base.specs.Sets.{member, none, insert, remove}
 use Rattle.spec_language.specs.Statement.{Scope, Statement, nothing, pause, emit, exit, seq, par, loop, present, signal, try, setpause, suspend, held}
 use Rattle.spec_language.specs.Reaction.{Code, ended, waiting, leaving, wrong, isWrong, Reaction, gives, code, emitted, residual, side, inSeq, inPar, inLoop, inTry, inSignal, inSuspend, stopped, Case, both, neither, only−, only+, inherited, inheritanceFirst, caseOf, answer, reactBy, react}
 use Rattle.spec_language.specs.Reactions.{reactionsBy, reactions}

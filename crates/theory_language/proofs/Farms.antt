@@ -4,7 +4,7 @@ use mathlib.Core.Path.{_≡_, sym, _∙_}
 use mathlib.Core.Bool.{Bool, true, false, cond}
 use native.Mathlib.Omega.{arith}
 use lib.Dec.{eqb}
-use Rattle.sets.specs.Sets.{member, join}
+use Rattle.spec_base.specs.Sets.{member, join}
 use Rattle.sets.proofs.Booleans.{never, clash}
 use Rattle.sets.proofs.Members.{member-only, in-l, in-r}
 use Rattle.spec_language.specs.Statement.{pure, litres, Statement, nothing, pause, emit, exit, seq, par, loop, present, signal, try, setpause, suspend, held}

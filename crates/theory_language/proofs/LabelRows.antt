@@ -4,7 +4,7 @@ use Prim.Native.Nat.{ℕ}
 use mathlib.Core.Path.{_≡_, refl, sym, ap, ap₂, _∙_}
 use mathlib.Core.Bool.{Bool, true, false, _&&_, _||_, cond, or-false}
 use lib.Dec.{eqb}
-use Rattle.sets.specs.Sets.{member, none, only, join}
+use Rattle.spec_base.specs.Sets.{member, none, only, join}
 use Rattle.sets.proofs.Members.{member-join, member-none, member-only, ext}
 use Rattle.spec_language.specs.Statement.{Statement, nothing, pause, emit, exit, seq, par, loop, present, signal, try, setpause, suspend, held}
 use Rattle.spec_language.specs.LabelTests.{labelsOf, Joint, alternative, parallel, atJoint, ifMember, before}

@@ -5,7 +5,7 @@ use mathlib.Core.Logic.{⊎-elim}
 use mathlib.Core.Bool.{Bool, true, false, _&&_, cond, and-eq-true-iff, false≢true}
 use mathlib.Core.List.{[], _∷_}
 use borrow.Author.Tests.{eqb-true, eq-eqb}
-use Rattle.sets.specs.Sets.{member, none, only, join}
+use Rattle.spec_base.specs.Sets.{member, none, only, join}
 use Rattle.sets.proofs.Members.{member-none, member-only, in-none, in-l, in-r, in-join, same-set}
 use Rattle.spec_language.specs.Statement.{Statement, nothing, pause, emit, exit, seq, par, loop, present, signal, try, setpause, suspend, held}
 use Rattle.spec_language.specs.Places.{Part, first, second, PartOf, seq₁, seq₂, par₁, par₂, loop₁, present₁, present₂, signal₁, try₁, suspend₁, Place, At}

@@ -5,7 +5,7 @@ use mathlib.Core.Logic.{_⊎_, inl, inr, ⊎-elim, _↔_}
 use mathlib.Core.Bool.{Bool, true, false, not, _&&_, _||_, false≢true}
 use lib.Dec.{eqb}
 use native.Mathlib.Omega.{arith}
-use Rattle.sets.specs.Sets.{member, none, join, subset, Disjoint, disjoint}
+use Rattle.spec_base.specs.Sets.{member, none, join, subset, Disjoint, disjoint}
 use Rattle.sets.proofs.Booleans.{or-l, or-r, or-cases, never, clash}
 use Rattle.sets.proofs.Members.{in-join}
 use Rattle.sets.proofs.Tests.{subset-is, disjoint-is, disjoint-right, disjoint-left}

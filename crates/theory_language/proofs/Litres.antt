@@ -7,7 +7,7 @@ use mathlib.Core.List.{List, [], _∷_}
 use native.Mathlib.Nat.{le-trans}
 use native.Mathlib.Omega.{arith}
 use lib.Dec.{eqb}
-use Rattle.sets.specs.Sets.{member, none, only, insert, remove}
+use Rattle.spec_base.specs.Sets.{member, none, only, insert, remove}
 use Rattle.sets.proofs.Members.{member-only, member-remove, out-l, out-r}
 use Rattle.spec_language.specs.Statement.{Scope, local, reported, Value, Statement, nothing, pause, emit, exit, seq, par, loop, present, signal, try, setpause, suspend, held}
 use Rattle.spec_language.specs.Reaction.{Code, ended, waiting, leaving, wrong, Reaction, gives, code, emitted, inSeq, inPar, inLoop, inTry, inSuspend, stopped, Case, both, neither, only−, only+, inherited, Order, inheritanceFirst, caseOf, answer, reactBy, react}

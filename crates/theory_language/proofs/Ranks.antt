@@ -8,7 +8,7 @@ use native.Mathlib.Omega.{arith}
 use lib.Bits.{bitOr, or-zero-l, or-mod}
 use lib.Pow.{pow-mono, mod-mod-pow}
 use borrow.Author.Tests.{eqb-true, eq-eqb, not-true}
-use Rattle.sets.specs.Sets.{member, none, empty, only, join, below, from}
+use Rattle.spec_base.specs.Sets.{member, none, empty, only, join, below, from}
 use Rattle.sets.proofs.Booleans.{never, clash, Tested, tested, same-test}
 use Rattle.sets.proofs.Members.{member-join, member-only, in-none, in-join}
 use Rattle.sets.proofs.Algebra.{join-none-l, join-none-r, join-self, join-swap, empty-join, only-some}

@@ -6,7 +6,7 @@ use mathlib.Core.Logic.{_≢_, ⊎-elim}
 use mathlib.Core.Bool.{true}
 use mathlib.Core.List.{List, [], _∷_, List·Memᴰ, List·Memᴰ·cases-cons, List·Memᴰ·not-nil}
 use native.Mathlib.Omega.{arith}
-use Rattle.sets.specs.Sets.{member, join, insert, remove}
+use Rattle.spec_base.specs.Sets.{member, join, insert, remove}
 use Rattle.sets.proofs.Members.{in-join, in-remove}
 use Rattle.spec_language.specs.Statement.{Scope, reported, Statement, signal, setpause, held}
 use Rattle.spec_language.specs.Reaction.{waiting, Reaction, code, residual, Case, both, neither, only−, only+, inherited, inheritanceFirst, caseOf, answer, reactBy, react}

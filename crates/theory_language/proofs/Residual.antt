@@ -6,7 +6,7 @@ use mathlib.Core.Logic.{⊎-elim}
 use mathlib.Core.Bool.{true, or-false}
 use mathlib.Core.List.{[]}
 use borrow.Author.Tests.{eqb-true, eq-eqb}
-use Rattle.sets.specs.Sets.{member, only, join}
+use Rattle.spec_base.specs.Sets.{member, only, join}
 use Rattle.sets.proofs.Booleans.{or-l, or-cases, never}
 use Rattle.sets.proofs.Members.{member-join, member-only}
 use Rattle.spec_language.specs.Statement.{Statement, nothing, pause, seq, par, loop, present, signal, try, suspend, held}

@@ -6,7 +6,7 @@ use mathlib.Core.Bool.{Bool, true, false, _||_, cond, false≢true}
 use native.Mathlib.Omega.{arith}
 use lib.Dec.{eqb}
 use borrow.Author.Tests.{eqb-true, eqb-false, ne-eqb}
-use Rattle.sets.specs.Sets.{member, insert, remove}
+use Rattle.spec_base.specs.Sets.{member, insert, remove}
 use Rattle.sets.proofs.Booleans.{clash, Tested, tested}
 use Rattle.spec_language.specs.Statement.{Scope, Statement, nothing, pause, emit, exit, seq, par, loop, present, signal, try, setpause, suspend, held}
 use Rattle.spec_language.specs.Reaction.{Code, ended, waiting, leaving, wrong, isWrong, greater, down, Reaction, gives, failed, inSeq, inPar, inLoop, inTry, inSuspend, stopped, inSignal, Case, both, neither, only−, only+, inherited, Order, printed, inheritanceFirst, printedFit, firstFit, caseOf, answer, reactBy, react}

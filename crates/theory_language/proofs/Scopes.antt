@@ -6,7 +6,7 @@ use mathlib.Core.Logic.{_⊎_, ⊎-elim}
 use mathlib.Core.Bool.{Bool, true, false}
 use mathlib.Core.List.{List, [], _∷_, _++_, map, List·Memᴰ}
 use mathlib.Core.Option.{Option}
-use Rattle.sets.specs.Sets.{member, none, insert, remove, without}
+use Rattle.spec_base.specs.Sets.{member, none, insert, remove, without}
 use Rattle.sets.proofs.Booleans.{never}
 use Rattle.sets.proofs.Algebra.{remove-absent}
 use Rattle.sets.proofs.Lists.{listed, without-listed, without-other, without-none}

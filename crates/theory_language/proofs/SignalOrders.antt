@@ -8,7 +8,7 @@ use mathlib.Core.Option.{some}
 use mathlib.Core.List.{List, [], _∷_, _++_, head?}
 use lib.Dec.{eqb}
 use native.Mathlib.Omega.{arith}
-use Rattle.sets.specs.Sets.{member, none, only, join, insert, remove}
+use Rattle.spec_base.specs.Sets.{member, none, only, join, insert, remove}
 use Rattle.sets.proofs.Booleans.{or-l, or-r, or-first, or-second, clash}
 use Rattle.spec_language.specs.Statement.{Scope, Statement, nothing, pause, emit, exit, seq, par, loop, present, signal, try, setpause, suspend, held}
 use Rattle.spec_language.specs.Reaction.{Code, ended, waiting, leaving, wrong, isWrong, greater, ifWaiting, side, Reaction, gives, emitted, code, failed, inSeq, inPar, inLoop, inTry, remains, inSuspend, outside, Case, inherited, printed, inheritanceFirst, firstFit, caseOf, answer, inSignal, reactBy, react}

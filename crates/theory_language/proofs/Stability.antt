@@ -7,7 +7,7 @@ use mathlib.Core.Logic.{_⊎_, inl, inr, ⊎-elim}
 use mathlib.Core.Bool.{true, false≢true}
 use mathlib.Core.List.{[], _∷_}
 use borrow.Author.Tests.{eqb-true, eq-eqb}
-use Rattle.sets.specs.Sets.{member, none, only, join}
+use Rattle.spec_base.specs.Sets.{member, none, only, join}
 use Rattle.sets.proofs.Booleans.{or-l}
 use Rattle.sets.proofs.Members.{member-join, member-none, member-only, in-join}
 use Rattle.spec_language.specs.Statement.{Statement, pause, setpause, par}

@@ -6,7 +6,7 @@ use mathlib.Core.Bool.{true, false}
 use mathlib.Core.Option.{Option}
 use mathlib.Core.List.{List, [], _∷_, map, head?}
 use native.Mathlib.Omega.{arith}
-use Rattle.sets.specs.Sets.{member, none, insert, remove, without}
+use Rattle.spec_base.specs.Sets.{member, none, insert, remove, without}
 use Rattle.sets.proofs.Booleans.{never, clash, Tested, tested}
 use Rattle.spec_language.specs.Statement.{Scope, local, reported, Statement, pause, signal, suspend}
 use Rattle.spec_language.specs.Reaction.{ended, waiting, leaving, wrong, Reaction, gives, emitted, code, labels, residual, isWrong, Order, printed, inheritanceFirst, reactBy, react}

@@ -4,7 +4,7 @@ use mathlib.Core.Path.{_≡_, refl, ap, _∙_}
 use mathlib.Core.Bool.{Bool, true, false, cond}
 use mathlib.Core.Option.{Option}
 use mathlib.Core.List.{List, [], _∷_, _++_, head?}
-use Rattle.sets.specs.Sets.{member, none, insert, remove}
+use Rattle.spec_base.specs.Sets.{member, none, insert, remove}
 use Rattle.spec_language.specs.Statement.{Scope, Statement, seq, par, loop, present, signal, try, suspend, held}
 use Rattle.spec_language.specs.Reaction.{Code, ended, waiting, leaving, wrong, isWrong, emitted, code, inSeq, inPar, inLoop, inSignal, inSuspend, stopped, inheritanceFirst, firstFit, reactBy, react}
 use Rattle.spec_language.specs.Errors.{Error, instantaneous, ifEnded, signalErrors, errorsBy, errors}

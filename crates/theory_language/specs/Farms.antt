@@ -1,6 +1,6 @@
 -- The farms that a statement names (02, item 12): the signals of its emissions with litres. Only they can be delivered to.
 use Prim.Native.Nat.{ℕ}
-use Rattle.sets.specs.Sets.{none, only, join}
+use Rattle.spec_base.specs.Sets.{none, only, join}
 use Rattle.spec_language.specs.Statement.{Value, pure, litres, Statement, nothing, pause, emit, exit, seq, par, loop, present, signal, try, setpause, suspend, held}
 
 -- 'An emission by 02 carries no litres'

@@ -2,7 +2,7 @@
 use Prim.Native.Nat.{ℕ, _+_}
 use mathlib.Core.Bool.{cond}
 use mathlib.Core.Option.{Option, some}
-use Rattle.sets.specs.Sets.{none, only}
+use Rattle.spec_base.specs.Sets.{none, only}
 use Rattle.spec_language.specs.Statement.{Scope, Statement}
 use Rattle.spec_language.specs.Reaction.{Code, isWrong, Reaction, code, inSeq, inPar, inLoop, inTry, inSuspend, stopped, Case, both, neither, only−, only+, inherited, inheritanceFirst, caseOf, inSignal}
 use Rattle.spec_language.specs.Errors.{Error, instantaneous, notReactive, notDeterministic, ifEnded}

@@ -2,7 +2,7 @@
 use mathlib.Core.Path.{_≡_, refl}
 use mathlib.Core.Bool.{true, false}
 use mathlib.Core.Option.{Option, some}
-use Rattle.sets.specs.Sets.{member, none, only, join, insert, remove, below, from}
+use Rattle.spec_base.specs.Sets.{member, none, only, join, insert, remove, below, from}
 use Rattle.spec_language.specs.Statement.{pure, nothing, pause, emit, seq, par, loop, present, suspend, held}
 use Rattle.spec_language.specs.Reaction.{ended, waiting, wrong, gives, reactBy}
 use Rattle.spec_language.specs.Errors.{errorsBy, instantaneous}

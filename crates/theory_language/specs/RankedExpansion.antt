@@ -1,7 +1,7 @@
 -- The expansion of a waiting statement, and its instant, by the ranks of its active pauses: the code builds no expansion.
 use Prim.Native.Nat.{ℕ}
 use mathlib.Core.Bool.{cond}
-use Rattle.sets.specs.Sets.{empty, below, from}
+use Rattle.spec_base.specs.Sets.{empty, below, from}
 use Rattle.spec_language.specs.Statement.{Statement, nothing, pause, emit, exit, seq, par, loop, present, signal, try, setpause, suspend, held}
 use Rattle.theory_language.specs.Ranks.{middle, labelsBy}
 use Rattle.spec_language.specs.Instants.{Instant, start}

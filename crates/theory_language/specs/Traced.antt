@@ -1,7 +1,7 @@
 -- An instant with what its tree of reactions asks for and delivers: what a command makes of those of its parts, by which the code goes.
 use Prim.Native.Nat.{ℕ, _+_}
 use mathlib.Core.Path.{_≡_, refl}
-use Rattle.sets.specs.Sets.{member, none, only, join, insert, remove}
+use Rattle.spec_base.specs.Sets.{member, none, only, join, insert, remove}
 use Rattle.spec_language.specs.Statement.{Scope, local, pure, litres, Statement, nothing, pause, emit, exit, seq, par, loop, present, signal, try, suspend, held}
 use Rattle.spec_language.specs.Reaction.{Case, both, inheritanceFirst, caseOf, reactBy}
 use Rattle.spec_language.specs.Errors.{ifEnded, errorsBy}

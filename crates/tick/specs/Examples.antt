@@ -3,7 +3,7 @@ use Prim.Native.Nat.{ℕ}
 use mathlib.Core.Path.{_≡_, refl}
 use mathlib.Core.List.{List, [], _∷_}
 use lib.ListN.{replicate}
-use Rattle.sets.specs.Sets.{member, none, only, join, insert, remove, subset, disjoint, membersFrom}
+use Rattle.spec_base.specs.Sets.{member, none, only, join, insert, remove, subset, disjoint, membersFrom}
 use Rattle.spec_language.specs.Statement.{nothing, pause, loop}
 use Rattle.spec_language.specs.Reaction.{reactBy}
 use Rattle.spec_language.specs.Errors.{errorsBy}
@@ -17,7 +17,7 @@ use Rattle.spec_language.specs.Machines.{Rewriting}
 use Rattle.sequence.specs.Commands.{commandOf}
 use Rattle.sequence.specs.Reader.{front, read}
 use Rattle.sequence.specs.Check.{checked}
-use Rattle.numbers.specs.Bytes.{leBytes, leNumber}
+use Rattle.spec_base.specs.Bytes.{leBytes, leNumber}
 use Rattle.states.specs.StateRecord.{encodeState, decodeState}
 use Rattle.answers.specs.AnswerRecord.{encodeAnswer}
 use Rattle.tick.specs.Tick.{outcome, tickBy, tickOf}

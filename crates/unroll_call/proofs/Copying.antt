@@ -7,8 +7,8 @@ use mathlib.Core.List.{List, [], _∷_, _++_, append-assoc, append-nil}
 use native.Mathlib.Omega.{arith}
 use lib.ListN.{length, getD, drop, length-drop, length-append}
 use lib.Seq.{getD-drop, drop-drop}
-use Rattle.limits.specs.Limits.{maxBytes}
-use Rattle.numbers.specs.Bytes.{leBytes}
+use Rattle.spec_base.specs.Limits.{maxBytes}
+use Rattle.spec_base.specs.Bytes.{leBytes}
 use Rattle.spec_language.specs.Statement.{Statement, nothing}
 use Rattle.sequence.specs.Commands.{Command, commandOf, operandCount, partCount, operandsOf, litresFit, headLength, bytesAt, build}
 use Rattle.sequence.specs.Amounts.{amountIn, amountBytes}

@@ -8,8 +8,8 @@ use mathlib.Core.List.{List, _++_}
 use lib.ListN.{length, drop}
 use lib.Dec.{eqb, leb}
 use borrow.Author.Tests.{eq-eqb, ne-eqb, le-leb, lt-leb}
-use Rattle.limits.specs.Limits.{maxBytes, maxDepth}
-use Rattle.sets.specs.Sets.{none, empty}
+use Rattle.spec_base.specs.Limits.{maxBytes, maxDepth}
+use Rattle.spec_base.specs.Sets.{none, empty}
 use Rattle.spec_language.specs.Statement.{Statement}
 use Rattle.spec_language.specs.LabelTests.{setpauses}
 use Rattle.sequence.specs.Writer.{bytesOf, size}

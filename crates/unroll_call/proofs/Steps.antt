@@ -5,7 +5,7 @@ use mathlib.Core.List.{List, _++_}
 use native.Mathlib.Omega.{arith}
 use lib.ListN.{length, getD, length-append}
 use Rattle.spec_language.specs.Statement.{local, litres, Statement, nothing, pause, emit, exit, seq, par, loop, present, signal, try, setpause, suspend, held}
-use Rattle.numbers.specs.Bytes.{leBytes}
+use Rattle.spec_base.specs.Bytes.{leBytes}
 use Rattle.sequence.specs.Commands.{Command, partCount, headLength}
 use Rattle.sequence.specs.Writer.{bytesOf, size}
 use Rattle.spec_language.specs.Sizes.{depthOf}

@@ -4,7 +4,7 @@ use mathlib.Core.Path.{_≡_}
 use mathlib.Core.Option.{some}
 use mathlib.Core.List.{List, [], _++_}
 use lib.ListN.{length, getD, drop}
-use Rattle.limits.specs.Limits.{maxBytes}
+use Rattle.spec_base.specs.Limits.{maxBytes}
 use Rattle.sequence.specs.Commands.{Command, commandOf, operandsOf, partCount, headLength}
 use Rattle.commands.specs.declared.Count.{Count}
 use Rattle.commands.specs.declared.Count.the-variants.{NoCommand, Of}

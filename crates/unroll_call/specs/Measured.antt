@@ -4,7 +4,7 @@ use Prim.Native.Nat.{ℕ, _+_, _≤_, min, max}
 use mathlib.Core.Path.{_≡_}
 use mathlib.Core.List.{List}
 use Rattle.spec_language.specs.Statement.{Statement}
-use Rattle.limits.specs.Limits.{maxBytes, maxDepth}
+use Rattle.spec_base.specs.Limits.{maxBytes, maxDepth}
 use Rattle.sequence.specs.Writer.{size}
 use Rattle.spec_language.specs.Sizes.{depthOf}
 use Rattle.layout.specs.Layout.{Two, Lies}

@@ -6,7 +6,7 @@ pub mod writer;
 
 ghost use mathlib.Core.Path.{_≡_};
 ghost use lib.ListN.{length};
-ghost use Rattle.limits.specs.Limits.{maxBytes, maxDepth};
+ghost use Rattle.spec_base.specs.Limits.{maxBytes, maxDepth};
 ghost use Rattle.layout.specs.Layout.{Ready};
 ghost use Rattle.unroll_call.specs.Unrolling.{UnrollMeets, PlainMeets};
 use layout::SecondParts;

@@ -4,8 +4,8 @@ use mathlib.Core.Bool.{Bool, _&&_, cond}
 use mathlib.Core.List.{List, _++_}
 use lib.ListN.{length, drop}
 use lib.Dec.{eqb, leb}
-use Rattle.limits.specs.Limits.{maxBytes, maxDepth}
-use Rattle.sets.specs.Sets.{empty}
+use Rattle.spec_base.specs.Limits.{maxBytes, maxDepth}
+use Rattle.spec_base.specs.Sets.{empty}
 use Rattle.spec_language.specs.Statement.{Statement}
 use Rattle.spec_language.specs.LabelTests.{setpauses}
 use Rattle.sequence.specs.Writer.{bytesOf, size}

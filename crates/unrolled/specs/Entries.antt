@@ -5,7 +5,7 @@ use Prim.Native.Nat.{ℕ, _+_, _≤_, max}
 use mathlib.Core.Path.{_≡_}
 use mathlib.Core.Bool.{Bool, true, false, _&&_, cond}
 use mathlib.Core.List.{[], _∷_}
-use Rattle.sets.specs.Sets.{member, insert, remove}
+use Rattle.spec_base.specs.Sets.{member, insert, remove}
 use Rattle.spec_language.specs.Statement.{Statement, nothing, pause, emit, exit, seq, par, loop, present, signal, try, setpause, suspend, held}
 use Rattle.spec_language.specs.Places.{Part, first, second, PartOf, Place}
 use Rattle.spec_language.specs.Reaction.{code, Case, both, neither, only−, only+, inherited, inheritanceFirst, caseOf, react}

@@ -5,7 +5,7 @@ use mathlib.Core.List.{List}
 use lib.ListN.{length}
 use Rattle.spec_language.specs.Statement.{Statement}
 use Rattle.spec_language.specs.States.{NoSetpause}
-use Rattle.limits.specs.Limits.{maxBytes, maxDepth}
+use Rattle.spec_base.specs.Limits.{maxBytes, maxDepth}
 use Rattle.sequence.specs.Writer.{size}
 use Rattle.spec_language.specs.Sizes.{depthOf}
 use Rattle.sequence.specs.Rows.{Spells, Row}

@@ -4,7 +4,7 @@ use mathlib.Core.Path.{_≡_, refl}
 use mathlib.Core.Logic.{_≢_}
 use mathlib.Core.Bool.{true, false}
 use mathlib.Core.List.{List, [], _∷_}
-use Rattle.numbers.specs.Bytes.{leBytes}
+use Rattle.spec_base.specs.Bytes.{leBytes}
 use Rattle.runs.specs.File.{lengthBytes, sequenceIn, readBackIn, whole}
 use Rattle.runs.specs.Text.{inputCut, refusal}
 use Rattle.unrolled.specs.Call.{unrolling, unrollOf}

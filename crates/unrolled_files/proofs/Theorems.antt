@@ -5,8 +5,8 @@ use mathlib.Core.Path.{_≡_, sym, ap, _∙_}
 use mathlib.Core.List.{List, _++_, append-assoc}
 use lib.ListN.{length, take, drop, length-append}
 use lib.Seq.{take-at, drop-at, drop-drop, length-take-le}
-use Rattle.limits.specs.Limits.{maxBytes, signalBytes}
-use Rattle.numbers.specs.Bytes.{leBytes, leNumber}
+use Rattle.spec_base.specs.Limits.{maxBytes, signalBytes}
+use Rattle.spec_base.specs.Bytes.{leBytes, leNumber}
 use Rattle.numbers.proofs.Bytes.{length-leBytes, le-round-trip}
 use Rattle.runs.specs.File.{lengthBytes, sequenceLength, readBackAt, sequenceIn, readBackIn, words, inputsIn}
 use Rattle.unrolled_outputs.specs.Output.{withSequence}

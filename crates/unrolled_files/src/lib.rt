@@ -1,6 +1,6 @@
 // What the unroll program does, as a library over slices (02, item 13): the file of a run with its loops written out.
 ghost use mathlib.Core.Path.{_≡_};
-ghost use Rattle.numbers.specs.Bytes.{leBytes};
+ghost use Rattle.spec_base.specs.Bytes.{leBytes};
 ghost use Rattle.runs.specs.File.{lengthBytes};
 ghost use Rattle.unrolled_outputs.specs.Output.{outputOf};
 ghost use Rattle.unrolled_files.specs.Answers.{outputBy};

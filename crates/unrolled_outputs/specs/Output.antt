@@ -5,7 +5,7 @@ use mathlib.Core.Path.{_≡_, refl}
 use mathlib.Core.Bool.{cond}
 use mathlib.Core.List.{List, [], _∷_, _++_}
 use lib.ListN.{take, drop, replicate}
-use Rattle.sets.specs.Sets.{member, none, only, join, subset, disjoint, membersFrom}
+use Rattle.spec_base.specs.Sets.{member, none, only, join, subset, disjoint, membersFrom}
 use Rattle.spec_language.specs.LabelTests.{labelsOf, everyLabel, distinct, before, wellFormed}
 use Rattle.spec_language.specs.Sizes.{signalNesting, depthOf}
 use Rattle.spec_language.specs.ReadBack.{declaredBy}
@@ -13,7 +13,7 @@ use Rattle.sequence.specs.Commands.{commandOf}
 use Rattle.sequence.specs.Reader.{front, read}
 use Rattle.sequence.specs.Writer.{bytesOf}
 use Rattle.sequence.specs.Check.{checked}
-use Rattle.numbers.specs.Bytes.{leBytes, leNumber}
+use Rattle.spec_base.specs.Bytes.{leBytes, leNumber}
 use Rattle.runs.specs.File.{lengthBytes, readBackAt, sequenceIn, readBackIn, whole}
 use Rattle.runs.specs.Text.{inputCut, refusal, numeralIn, numeral}
 use Rattle.unrolled.specs.Unrolled.{copied, unrolled}

@@ -4,7 +4,7 @@ use mathlib.Core.Path.{_≡_, refl, sym, ap, _∙_}
 use mathlib.Core.Logic.{⊎-elim, _↔_}
 use mathlib.Core.Bool.{Bool, true, false, cond}
 use native.Mathlib.Omega.{arith}
-use Rattle.sets.specs.Sets.{member, none, join}
+use Rattle.spec_base.specs.Sets.{member, none, join}
 use Rattle.sets.proofs.Booleans.{same-test}
 use Rattle.sets.proofs.Members.{in-r, in-join}
 use Rattle.sets.proofs.Algebra.{join-none-l, join-self}

@@ -5,7 +5,7 @@ use native.Mathlib.Omega.{arith}
 use mathlib.Core.Path.{_≡_, refl, ap, subst}
 use mathlib.Core.List.{List, [], _∷_}
 use lib.ListN.{replicate}
-use Rattle.sets.specs.Sets.{member, none, only, join, insert, remove, subset, disjoint, membersFrom}
+use Rattle.spec_base.specs.Sets.{member, none, only, join, insert, remove, subset, disjoint, membersFrom}
 use Rattle.spec_language.specs.Statement.{local, pure, Statement, nothing, emit, exit, seq, loop, present, signal, try}
 use Rattle.spec_language.specs.Reaction.{printed, reactBy}
 use Rattle.spec_language.specs.Errors.{errorsBy}
@@ -20,7 +20,7 @@ use Rattle.sequence.specs.Writer.{bytesOf}
 use Rattle.sequence.specs.Check.{sound, checked, numberOf, checkOf}
 use Rattle.sequence.specs.Rows.{Spells}
 use Rattle.sequence.proofs.Rows.{Decides, decided}
-use Rattle.numbers.specs.Bytes.{leBytes, leNumber}
+use Rattle.spec_base.specs.Bytes.{leBytes, leNumber}
 use Rattle.states.specs.StateRecord.{decodeState, encodeState}
 use Rattle.answers.specs.AnswerRecord.{answerLength, codeIn, encodeAnswer}
 use Rattle.tick.specs.Tick.{Outcome, tickBy}

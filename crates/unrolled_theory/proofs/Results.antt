@@ -9,7 +9,7 @@ use lib.ListN.{length, take, drop}
 use lib.Seq.{take-at, drop-at}
 use Rattle.spec_language.specs.Statement.{Statement}
 use Rattle.spec_language.specs.Machines.{State, byLabels}
-use Rattle.limits.specs.Limits.{readBackPlace}
+use Rattle.spec_base.specs.Limits.{readBackPlace}
 use Rattle.sequence.specs.Writer.{bytesOf, size}
 use Rattle.sequence.specs.Program.{readBackSignals, program}
 use Rattle.sequence.specs.Check.{sound, checked, numberOf, checkOf}

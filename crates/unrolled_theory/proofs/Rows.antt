@@ -8,8 +8,8 @@ use mathlib.Core.List.{List}
 use lib.ListN.{length}
 use lib.Dec.{eqb, leb}
 use borrow.Author.Tests.{eqb-true, eqb-false, leb-true, leb-false}
-use Rattle.limits.specs.Limits.{maxBytes, maxDepth}
-use Rattle.sets.specs.Sets.{member, none, empty}
+use Rattle.spec_base.specs.Limits.{maxBytes, maxDepth}
+use Rattle.spec_base.specs.Sets.{member, none, empty}
 use Rattle.sets.proofs.Booleans.{clash, Tested, tested}
 use Rattle.sets.proofs.Members.{in-none}
 use Rattle.sets.proofs.Lowest.{some-member}

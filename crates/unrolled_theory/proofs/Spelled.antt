@@ -10,7 +10,7 @@ use Rattle.spec_language.specs.Statement.{pure, litres, Statement, nothing, pau
 use Rattle.spec_language.specs.Sizes.{signalNesting, depthOf}
 use Rattle.spec_language.specs.LabelTests.{distinct, targeted, wellFormed}
 use Rattle.theory_language.proofs.LabelTests.{distinct-is, targeted-is, wellFormed-is}
-use Rattle.limits.specs.Limits.{maxBytes, maxDepth, maxSignals, readBackPlace}
+use Rattle.spec_base.specs.Limits.{maxBytes, maxDepth, maxSignals, readBackPlace}
 use Rattle.sequence.specs.Reader.{accepted, readAll}
 use Rattle.sequence.specs.Writer.{bytesOf, size, Ranged, Within, PlacedAt}
 use Rattle.sequence.specs.Program.{readBackSignals, program}

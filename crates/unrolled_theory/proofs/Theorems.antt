@@ -12,7 +12,7 @@ use Rattle.spec_language.specs.Expansion.{expand}
 use Rattle.spec_language.specs.Sizes.{signalNesting}
 use Rattle.spec_language.specs.States.{active, Valid, Distinct, Targeted, NoSetpause, WellFormed}
 use Rattle.spec_language.specs.Machines.{State, byLabels}
-use Rattle.limits.specs.Limits.{readBackPlace}
+use Rattle.spec_base.specs.Limits.{readBackPlace}
 use Rattle.sequence.specs.Writer.{bytesOf}
 use Rattle.sequence.specs.Program.{readBackSignals, program}
 use Rattle.sequence.specs.Check.{sound, checked, checkOf}

@@ -7,8 +7,8 @@ use mathlib.Core.List.{List, [], _∷_, map}
 use lib.ListN.{length}
 use lib.Dec.{eqb}
 use borrow.Author.Tests.{eqb-true, eqb-false}
-use Rattle.limits.specs.Limits.{readBackPlace}
-use Rattle.sets.specs.Sets.{none}
+use Rattle.spec_base.specs.Limits.{readBackPlace}
+use Rattle.spec_base.specs.Sets.{none}
 use Rattle.sets.proofs.Booleans.{clash, Tested, tested}
 use Rattle.spec_language.specs.Statement.{Statement}
 use Rattle.spec_language.specs.Reaction.{ended, waiting, leaving, wrong, isWrong, Reaction, code, react, inheritanceFirst}
@@ -17,7 +17,7 @@ use Rattle.spec_language.specs.Reactions.{reactions}
 use Rattle.spec_language.specs.Expansion.{expand}
 use Rattle.spec_language.specs.Instants.{instant}
 use Rattle.spec_language.specs.Machines.{State, stateAfter, addsByLabels}
-use Rattle.numbers.specs.Bytes.{leBytes}
+use Rattle.spec_base.specs.Bytes.{leBytes}
 use Rattle.sequence.specs.Writer.{bytesOf}
 use Rattle.sequence.specs.Program.{readBackSignals, program}
 use Rattle.sequence.specs.Check.{Checked, sound, checked, checkOf}

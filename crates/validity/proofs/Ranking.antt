@@ -7,9 +7,9 @@ use native.Mathlib.Omega.{arith}
 use native.Mathlib.Decide.{decLt}
 use lib.Dec.{eqb, ltb}
 use borrow.Author.Tests.{eqb-true, lt-ltb}
-use Rattle.limits.specs.Limits.{labelCount}
-use Rattle.sets.specs.Sets.{member, none, only, join, remove, Subset}
-use Rattle.sets.specs.Widths.{onlyBelow}
+use Rattle.spec_base.specs.Limits.{labelCount}
+use Rattle.spec_base.specs.Sets.{member, none, only, join, remove, Subset}
+use Rattle.spec_base.specs.Widths.{onlyBelow}
 use Rattle.sets.proofs.Booleans.{clash, Tested, tested}
 use Rattle.sets.proofs.Members.{member-join, member-high, member-only, member-remove, ext}
 use Rattle.sets.proofs.Algebra.{join-none-l, join-none-r, join-assoc}

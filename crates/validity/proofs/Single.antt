@@ -7,7 +7,7 @@ use lib.Dec.{eqb, ltb}
 use lib.Bits.{bitXor, xor-self, xor-zero-r}
 use lib.Pow.{pow-pos, pow-lt, pow-add, low}
 use borrow.Author.Tests.{eq-eqb, eqb-true, ltb-true, ltb-false}
-use Rattle.sets.specs.Sets.{member, none, empty, only, remove, below, from}
+use Rattle.spec_base.specs.Sets.{member, none, empty, only, remove, below, from}
 use Rattle.sets.proofs.Booleans.{Tested, tested}
 use Rattle.sets.proofs.Members.{member-none, member-only, member-remove, ext}
 use Rattle.sets.proofs.Algebra.{remove-absent}

@@ -4,7 +4,7 @@ use mathlib.Core.Path.{_≡_, sym, ap, _∙_}
 use mathlib.Core.Bool.{Bool, true, false}
 use mathlib.Core.Logic.{_↔_}
 use lib.Dec.{eqb}
-use Rattle.sets.specs.Sets.{none, empty, Subset, subset}
+use Rattle.spec_base.specs.Sets.{none, empty, Subset, subset}
 use Rattle.sets.proofs.Tests.{subset-by}
 use Rattle.spec_language.specs.Statement.{Statement}
 use Rattle.spec_language.specs.LabelTests.{pauses, valid}

@@ -3,8 +3,8 @@ use Prim.Native.Nat.{ℕ, _<_}
 use mathlib.Core.Path.{_≡_}
 use mathlib.Core.Bool.{true, false}
 use mathlib.Core.List.{List}
-use Rattle.limits.specs.Limits.{labelCount}
-use Rattle.sets.specs.Sets.{member, Subset}
+use Rattle.spec_base.specs.Limits.{labelCount}
+use Rattle.spec_base.specs.Sets.{member, Subset}
 use Rattle.spec_language.specs.Statement.{Statement}
 use Rattle.spec_language.specs.LabelTests.{pauses, distinct, valid}
 use Rattle.theory_language.specs.Ranks.{mask}

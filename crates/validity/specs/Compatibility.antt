@@ -3,7 +3,7 @@ use Prim.Native.Nat.{ℕ}
 use mathlib.Core.Path.{_≡_}
 use mathlib.Core.Bool.{Bool}
 use mathlib.Core.List.{List}
-use Rattle.sets.specs.Sets.{empty, below, from}
+use Rattle.spec_base.specs.Sets.{empty, below, from}
 use Rattle.spec_language.specs.Statement.{Statement}
 use Rattle.theory_language.specs.Ranks.{middle, ofParts, compatible}
 use Rattle.layout.specs.Layout.{Two, Lies}

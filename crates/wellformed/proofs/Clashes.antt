@@ -3,7 +3,7 @@ use Prim.Native.Nat.{ℕ}
 use mathlib.Core.Path.{_≡_, refl, sym, ap, _∙_}
 use mathlib.Core.Bool.{Bool, true, false, false≢true}
 use mathlib.Core.Logic.{_↔_, _⊎_, inl, inr, ⊎-elim}
-use Rattle.sets.specs.Sets.{member, none, join, remove, Disjoint}
+use Rattle.spec_base.specs.Sets.{member, none, join, remove, Disjoint}
 use Rattle.sets.proofs.Booleans.{or-l, or-r, or-cases, clash}
 use Rattle.sets.proofs.Members.{in-none, in-l, in-r, in-join}
 use Rattle.sets.proofs.Lowest.{some-common}

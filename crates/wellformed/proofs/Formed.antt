@@ -4,7 +4,7 @@ use mathlib.Core.Path.{_≡_, refl, sym, ap, ap₂, _∙_}
 use mathlib.Core.Bool.{Bool, true, false, not, _||_, true≢false}
 use mathlib.Core.Logic.{_↔_}
 use mathlib.Core.List.{List}
-use Rattle.sets.specs.Sets.{member}
+use Rattle.spec_base.specs.Sets.{member}
 use Rattle.sets.proofs.Booleans.{never}
 use Rattle.spec_language.specs.Statement.{Statement}
 use Rattle.spec_language.specs.LabelTests as Esterel

@@ -6,16 +6,16 @@ use mathlib.Core.List.{List}
 use native.Mathlib.Omega.{arith}
 use lib.ListN.{length, getD, length-append}
 use borrow.Author.Tests.{lt-ltb}
-use Rattle.limits.specs.Limits.{labelCount}
-use Rattle.sets.specs.Sets.{none, only, join}
-use Rattle.sets.specs.Widths.{onlyBelow}
+use Rattle.spec_base.specs.Limits.{labelCount}
+use Rattle.spec_base.specs.Sets.{none, only, join}
+use Rattle.spec_base.specs.Widths.{onlyBelow}
 use Rattle.spec_language.specs.Statement.{pure, litres, local, Statement, nothing, pause, emit, exit, seq, par, loop, present, signal, try, setpause, suspend}
 use Rattle.spec_language.specs.LabelTests.{labelsOf, alternative, parallel}
 use Rattle.theory_language.specs.LabelRows.{addRow, further, fill}
 use Rattle.theory_language.specs.Ranks.{middle}
 use Rattle.labels.specs.Labels.{labelSet}
 use Rattle.wellformed.specs.Rows.{rowOf, addRowBelow, Updates}
-use Rattle.numbers.specs.Bytes.{leBytes}
+use Rattle.spec_base.specs.Bytes.{leBytes}
 use Rattle.sequence.specs.Writer.{bytesOf, size}
 use Rattle.sequence.specs.Commands.{Command}
 use Rattle.layout.specs.Layout.{rest, secondAt, Two, Lies, Ready}

@@ -7,9 +7,9 @@ use native.Mathlib.Omega.{arith}
 use lib.Dec.{eqb, ltb}
 use lib.ListN.{length, set, length-set}
 use borrow.Author.Tests.{eqb-true, eqb-false, lt-ltb, le-ltb}
-use Rattle.limits.specs.Limits.{wordLabels}
-use Rattle.sets.specs.Sets.{none, join}
-use Rattle.sets.specs.Widths.{setAt}
+use Rattle.spec_base.specs.Limits.{wordLabels}
+use Rattle.spec_base.specs.Sets.{none, join}
+use Rattle.spec_base.specs.Widths.{setAt}
 use Rattle.sets.proofs.Words.{stored, stored-here, stored-elsewhere}
 use Rattle.theory_language.specs.LabelRows.{addRow}
 use Rattle.wellformed.specs.Rows.{rowBelow, addRowBelow, UpdatesBelow}

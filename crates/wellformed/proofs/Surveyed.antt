@@ -7,9 +7,9 @@ use mathlib.Core.List.{List}
 use lib.Dec.{ltb}
 use lib.ListN.{replicate, getD-replicate, length-replicate}
 use borrow.Author.Tests.{ltb-true}
-use Rattle.limits.specs.Limits.{wordLabels, labelCount}
-use Rattle.sets.specs.Sets.{member, none, join}
-use Rattle.sets.specs.Widths.{twoWords, setAt}
+use Rattle.spec_base.specs.Limits.{wordLabels, labelCount}
+use Rattle.spec_base.specs.Sets.{member, none, join}
+use Rattle.spec_base.specs.Widths.{twoWords, setAt}
 use Rattle.sets.proofs.Booleans.{Tested, tested}
 use Rattle.sets.proofs.Algebra.{join-none-l}
 use Rattle.sets.proofs.Words.{words-none}

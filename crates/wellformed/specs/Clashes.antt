@@ -3,7 +3,7 @@ use Prim.Native.Nat.{ℕ}
 use mathlib.Core.Path.{_≡_}
 use mathlib.Core.Bool.{Bool, true, _||_}
 use mathlib.Core.Logic.{_↔_, _⊎_}
-use Rattle.sets.specs.Sets.{member}
+use Rattle.spec_base.specs.Sets.{member}
 
 -- k is in the row of a label of s
 abbrev pub InRowOf : (rows : ℕ → ℕ) (s k : ℕ) → Type 0

@@ -2,7 +2,7 @@
 use Prim.Native.Nat.{ℕ}
 use mathlib.Core.Path.{_≡_}
 use mathlib.Core.Bool.{Bool}
-use Rattle.sets.specs.Sets.{join}
+use Rattle.spec_base.specs.Sets.{join}
 use Rattle.spec_language.specs.LabelTests.{alternative, parallel}
 use Rattle.theory_language.specs.LabelRows.{further}
 use Rattle.labels.specs.Labels.{labelSet}

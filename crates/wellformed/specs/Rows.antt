@@ -5,9 +5,9 @@ use mathlib.Core.List.{List}
 use mathlib.Core.Bool.{cond}
 use lib.ListN.{length}
 use lib.Dec.{ltb}
-use Rattle.limits.specs.Limits.{labelCount}
-use Rattle.sets.specs.Sets.{none}
-use Rattle.sets.specs.Widths.{setAt}
+use Rattle.spec_base.specs.Limits.{labelCount}
+use Rattle.spec_base.specs.Sets.{none}
+use Rattle.spec_base.specs.Widths.{setAt}
 use Rattle.theory_language.specs.LabelRows.{addRow}
 
 -- the row of k, for labels below w: no other label has one

@@ -4,8 +4,8 @@
 use Prim.Native.Nat.{ℕ, _+_}
 use mathlib.Core.Bool.{Bool, true, false}
 use mathlib.Core.List.{List}
-use Rattle.limits.specs.Limits.{maxDepth}
-use Rattle.sets.specs.Sets.{none, join}
+use Rattle.spec_base.specs.Limits.{maxDepth}
+use Rattle.spec_base.specs.Sets.{none, join}
 use Rattle.spec_language.specs.Statement.{Statement}
 use Rattle.spec_language.specs.LabelTests.{labelsOf, pauses, triggers, Joint, alternative, parallel}
 use Rattle.theory_language.specs.LabelRows.{further, fill}

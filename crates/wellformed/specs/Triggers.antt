@@ -5,7 +5,7 @@ use mathlib.Core.Bool.{Bool, true}
 use mathlib.Core.List.{List}
 use Rattle.spec_language.specs.Statement.{Statement}
 use Rattle.spec_language.specs.LabelTests.{pauses, targeted, wellFormed}
-use Rattle.limits.specs.Limits.{maxDepth}
+use Rattle.spec_base.specs.Limits.{maxDepth}
 use Rattle.layout.specs.Layout.{Lies}
 
 -- r says whether the statement that lies there is well-formed; s are its pauses, and row 9 does not hold of it

@@ -2,7 +2,7 @@
 ghost use mathlib.Core.Path.{_≡_};
 ghost use mathlib.Core.Bool.{true};
 ghost use mathlib.Core.Logic.{_↔_};
-ghost use Rattle.sets.specs.Sets.{member};
+ghost use Rattle.spec_base.specs.Sets.{member};
 ghost use Rattle.labels.specs.Labels.{labelSet};
 ghost use Rattle.wellformed.specs.Rows.{rowOf};
 ghost use Rattle.wellformed.specs.Clashes.{InRowOf, RowsOf, ClashIf, Clashes};

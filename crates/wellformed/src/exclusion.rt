@@ -1,8 +1,8 @@
 // What row 10 asks of one command: its labels, what it adds to the two matrices of the survey, and what stands before its
 // second part. Functions without recursion.
-ghost use Rattle.limits.specs.Limits.{labelCount};
-ghost use Rattle.sets.specs.Sets.{none};
-ghost use Rattle.sets.specs.Widths.{onlyBelow};
+ghost use Rattle.spec_base.specs.Limits.{labelCount};
+ghost use Rattle.spec_base.specs.Sets.{none};
+ghost use Rattle.spec_base.specs.Widths.{onlyBelow};
 ghost use Rattle.labels.specs.Labels.{labelSet};
 ghost use Rattle.wellformed.specs.Rows.{addRowBelow, Updates};
 ghost use Rattle.wellformed.specs.Exclusion.{Carries, Joins, BeginsSecond};

@@ -1,6 +1,6 @@
 // A label set for each label: the rows of a matrix.
 ghost use mathlib.Core.Path.{_≡_};
-ghost use Rattle.limits.specs.Limits.{labelCount};
+ghost use Rattle.spec_base.specs.Limits.{labelCount};
 ghost use Rattle.labels.specs.Labels.{labelSet};
 ghost use Rattle.wellformed.specs.Rows.{rowOf, addRowBelow, Updates};
 use labels::Labels;

@@ -2,7 +2,7 @@
 // exclusive with it, and the pauses and setpauses before it on another side of a parallel.
 ghost use Prim.Native.Nat.{_-_, _≤_};
 ghost use lib.ListN.{length};
-ghost use Rattle.limits.specs.Limits.{maxDepth};
+ghost use Rattle.spec_base.specs.Limits.{maxDepth};
 ghost use Rattle.layout.specs.Layout.{rest};
 ghost use Rattle.wellformed.specs.Survey.{Standing, StandingTwo, Passes, PassesTwo, Surveys};
 use crate::exclusion::Before;

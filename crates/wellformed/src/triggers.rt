@@ -1,6 +1,6 @@
 // Row 10: is a sequence well-formed? Triggers, the pauses and setpauses, on two sides of a parallel have no exclusive pauses.
 ghost use Rattle.labels.specs.Labels.{labelSet};
-ghost use Rattle.limits.specs.Limits.{maxDepth};
+ghost use Rattle.spec_base.specs.Limits.{maxDepth};
 ghost use Rattle.wellformed.specs.Survey.{Standing};
 ghost use Rattle.wellformed.specs.Triggers.{TellsWellFormed};
 use crate::matrix::Matrix;

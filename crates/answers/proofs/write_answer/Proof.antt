@@ -4,8 +4,8 @@ use mathlib.Core.Path.{ap, _∙_}
 use mathlib.Core.List.{List}
 use lib.ListN.{length-set}
 use lib.Seq.{sets}
-use Rattle.numbers.specs.Bytes.{leBytes}
-use Rattle.limits.specs.Limits.{signalBytes, reactionsBytes}
+use Rattle.spec_base.specs.Bytes.{leBytes}
+use Rattle.spec_base.specs.Limits.{signalBytes, reactionsBytes}
 use Rattle.answers.specs.AnswerRecord.{answerLength, emittedAt, reactionsAt, answerRecord}
 use Rattle.numbers.proofs.Writing.{left-alone}
 use Rattle.answers.proofs.Stores.{answer-stored}

@@ -4,7 +4,7 @@ use mathlib.Core.Bool.{not}
 use lib.Seq.{sets}
 use lib.Dec.{T}
 use lib.Ieee.{Float, binary32, toBits, isNan}
-use Rattle.numbers.specs.Bytes.{leBytes}
+use Rattle.spec_base.specs.Bytes.{leBytes}
 use Rattle.box_ledgers.proofs.Totals.{total-most, int-no-nan}
 use borrow.Author.Needs.{needs}
 use Rattle.box_ledgers.proofs.show.Statement.{statement}

@@ -1,6 +1,6 @@
 use mathlib.Core.Path.{sym, _∙_}
 use lib.Ieee.{binary32, ofBits}
-use Rattle.litres.specs.Litres.{whole}
+use Rattle.spec_base.specs.WholeLitres.{whole}
 use Rattle.litres.proofs.Sums.{whole-pattern}
 use Rattle.box_ledgers.proofs.Totals.{holds, zero-whole, read-whole, read-other}
 use borrow.Author.Needs.{needs}

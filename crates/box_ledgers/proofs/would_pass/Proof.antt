@@ -4,7 +4,7 @@ use native.Mathlib.Omega.{arith}
 use lib.ListN.{getD}
 use borrow.Author.Needs.{needs}
 use borrow.Author.Tests.{ltb-true, ltb-false}
-use Rattle.limits.specs.Limits.{signalCount, litresLimit}
+use Rattle.spec_base.specs.Limits.{signalCount, litresLimit}
 use Rattle.sets.proofs.Loops.{Seeking, seek, seek-on, seek-end, seek-less, some-left, none-left}
 use Rattle.box_ledgers.specs.Ledgers.{totalIn}
 use Rattle.box_ledgers.proofs.Theorems.{none-passes}

@@ -2,7 +2,7 @@ use Prim.Native.Nat.{_≤_}
 use native.Mathlib.Omega.{arith}
 use mathlib.Core.Path.{_≡_, refl}
 use borrow.Author.Needs.{needs}
-use Rattle.limits.specs.Limits.{maxPositions}
+use Rattle.spec_base.specs.Limits.{maxPositions}
 use Rattle.box_positions.specs.Table.{place}
 use Rattle.box_positions.proofs.Placing.{hit, missed, nowhere}
 use Rattle.box_positions.proofs.place.Statement.{statement}

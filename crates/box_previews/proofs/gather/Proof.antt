@@ -1,7 +1,7 @@
 use mathlib.Core.Path.{sym, subst}
 use borrow.Author.Needs.{needs}
 use Prim.Native.Nat.{ℕ}
-use Rattle.sets.specs.Sets.{Disjoint}
+use Rattle.spec_base.specs.Sets.{Disjoint}
 use Rattle.box_previews.specs.Standing.{answersAt}
 use Rattle.box_previews.proofs.Splitting.{known-apart, known-findings}
 use Rattle.box_previews.proofs.gather.Statement.{statement}

@@ -4,8 +4,8 @@ use mathlib.Core.Path.{ap₂, _∙_}
 use mathlib.Core.List.{List, [], _∷_}
 use lib.ListN.{length-set}
 use lib.Seq.{sets}
-use Rattle.limits.specs.Limits.{signalBytes}
-use Rattle.numbers.specs.Bytes.{leBytes}
+use Rattle.spec_base.specs.Limits.{signalBytes}
+use Rattle.spec_base.specs.Bytes.{leBytes}
 use Rattle.box_fillings.specs.Preview.{neverAt, wrongAt}
 use Rattle.box_previews.proofs.Stores.{preview-stored}
 use borrow.Author.Needs.{needs}

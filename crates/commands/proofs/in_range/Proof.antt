@@ -4,7 +4,7 @@ use mathlib.Core.Option.{Option, none, some}
 use lib.Dec.{ltb}
 use native.Mathlib.Omega.{arith}
 use borrow.Author.Tests.{le-leb}
-use Rattle.limits.specs.Limits.{signalCount}
+use Rattle.spec_base.specs.Limits.{signalCount}
 use Rattle.sequence.specs.Commands.{Command, commandOf}
 use Rattle.sequence.proofs.Table.{byteOf, byte-is, command-of-byte}
 use Rattle.commands.specs.Counts.{operandInRange}

@@ -6,7 +6,7 @@ use mathlib.Core.List.{List}
 use native.Mathlib.Omega.{arith}
 use lib.ListN.{getD}
 use borrow.Author.Tests.{lt-ltb, le-ltb}
-use Rattle.limits.specs.Limits.{signalCount}
+use Rattle.spec_base.specs.Limits.{signalCount}
 use Rattle.sequence.specs.Commands.{Command, commandOf, operandCount, partCount}
 use Rattle.sequence.proofs.Table.{unnamed}
 use Rattle.sequence.proofs.Front.{Fronts}

@@ -1,6 +1,6 @@
 use mathlib.Core.Path.{ap, _∙_}
 use borrow.Author.Needs.{needs}
-use Rattle.sets.specs.Sets.{remove}
+use Rattle.spec_base.specs.Sets.{remove}
 use Rattle.declarations.proofs.asked.Statement.{statement}
 use Rattle.declarations.proofs.asked.Tie as tie
 

@@ -1,5 +1,5 @@
 use mathlib.Core.Path.{sym, _∙_}
-use Rattle.sets.specs.Sets.{none}
+use Rattle.spec_base.specs.Sets.{none}
 use Rattle.declarations.proofs.Once.{once-right, once-wrong}
 use borrow.Author.Needs.{needs}
 use Rattle.declarations.proofs.declaring_once.Statement.{statement}

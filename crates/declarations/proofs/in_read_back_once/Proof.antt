@@ -1,5 +1,5 @@
 use mathlib.Core.Path.{refl}
-use Rattle.limits.specs.Limits.{readBackPlace}
+use Rattle.spec_base.specs.Limits.{readBackPlace}
 use Rattle.spec_language.specs.Statement.{reported}
 use borrow.Author.Needs.{needs}
 use Rattle.declarations.proofs.in_read_back_once.Statement.{statement}

@@ -1,4 +1,4 @@
-use Rattle.sets.specs.Sets.{none}
+use Rattle.spec_base.specs.Sets.{none}
 use Rattle.declarations.proofs.Runs.{inherited-made}
 use borrow.Author.Needs.{needs}
 use Rattle.declarations.proofs.inherited.Statement.{statement}

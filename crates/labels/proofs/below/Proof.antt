@@ -1,9 +1,9 @@
-use Rattle.limits.specs.Limits.{labelCount, wordLabels}
+use Rattle.spec_base.specs.Limits.{labelCount, wordLabels}
 use Prim.Native.Nat.{ℕ, _-_}
 use mathlib.Core.Path.{ap, _∙_}
 use native.Mathlib.Omega.{arith}
 use lib.Pow.{pow-pos}
-use Rattle.sets.specs.Widths.{twoWords}
+use Rattle.spec_base.specs.Widths.{twoWords}
 use Rattle.sets.proofs.Widths.{shifted, masked, all-below}
 use Rattle.sets.proofs.Words.{words-lt, below-low, below-high}
 use Rattle.labels.specs.Labels.{labelSet}

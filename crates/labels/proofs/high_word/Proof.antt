@@ -1,4 +1,4 @@
-use Rattle.limits.specs.Limits.{wordLabels}
+use Rattle.spec_base.specs.Limits.{wordLabels}
 use mathlib.Core.Path.{sym}
 use Rattle.labels.specs.Labels.{labelSet}
 use Rattle.sets.proofs.Words.{high-word as word}

@@ -1,8 +1,8 @@
-use Rattle.limits.specs.Limits.{wordLabels}
+use Rattle.spec_base.specs.Limits.{wordLabels}
 use mathlib.Core.Path.{ap, _∙_}
 use lib.Dec.{eqb}
 use lib.Pow.{pow-pos}
-use Rattle.sets.specs.Widths.{twoWords}
+use Rattle.spec_base.specs.Widths.{twoWords}
 use Rattle.sets.proofs.Words.{words-none, words-same, words-differ}
 use Rattle.labels.specs.Labels.{labelSet}
 use borrow.Author.Needs.{needs}

@@ -1,7 +1,7 @@
-use Rattle.limits.specs.Limits.{wordLabels}
+use Rattle.spec_base.specs.Limits.{wordLabels}
 use native.Mathlib.Omega.{arith}
 use lib.Count.{trailing-le}
-use Rattle.sets.specs.Sets.{none}
+use Rattle.spec_base.specs.Sets.{none}
 use Rattle.sets.proofs.Lowest.{lowest-is}
 use Rattle.sets.proofs.Words.{lowest-low, lowest-high}
 use Rattle.labels.specs.Labels.{labelSet}

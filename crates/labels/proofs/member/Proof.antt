@@ -1,6 +1,6 @@
-use Rattle.limits.specs.Limits.{labelCount, wordLabels}
+use Rattle.spec_base.specs.Limits.{labelCount, wordLabels}
 use mathlib.Core.Path.{sym}
-use Rattle.sets.specs.Sets.{member}
+use Rattle.spec_base.specs.Sets.{member}
 use Rattle.sets.proofs.Members.{member-high}
 use Rattle.sets.proofs.Words.{words-lt, member-low, member-from}
 use Rattle.labels.specs.Labels.{labelSet}

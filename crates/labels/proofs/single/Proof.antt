@@ -1,4 +1,4 @@
-use Rattle.limits.specs.Limits.{labelCount, wordLabels}
+use Rattle.spec_base.specs.Limits.{labelCount, wordLabels}
 use mathlib.Core.Path.{_∙_}
 use native.Mathlib.Omega.{arith}
 use Rattle.sets.proofs.Widths.{none-only}

@@ -1,5 +1,5 @@
-use Rattle.limits.specs.Limits.{wordLabels}
-use Rattle.sets.specs.Sets.{join}
+use Rattle.spec_base.specs.Limits.{wordLabels}
+use Rattle.spec_base.specs.Sets.{join}
 use Rattle.sets.proofs.Words.{words-join}
 use Rattle.labels.specs.Labels.{labelSet}
 use borrow.Author.Needs.{needs}

@@ -1,8 +1,8 @@
-use Rattle.limits.specs.Limits.{labelCount, wordLabels}
+use Rattle.spec_base.specs.Limits.{labelCount, wordLabels}
 use mathlib.Core.Path.{ap, _∙_}
 use Prim.Native.Nat.{ℕ}
 use lib.Bits.{bitAnd, bitXor}
-use Rattle.sets.specs.Widths.{twoWords}
+use Rattle.spec_base.specs.Widths.{twoWords}
 use Rattle.sets.proofs.Widths.{difference-only}
 use Rattle.sets.proofs.Words.{words-lt, words-difference}
 use Rattle.labels.specs.Labels.{labelSet}

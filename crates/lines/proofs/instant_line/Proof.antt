@@ -1,6 +1,6 @@
 use mathlib.Core.Path.{refl, ap₂, _∙_}
-use Rattle.limits.specs.Limits.{wordLabels}
-use Rattle.sets.specs.Widths.{twoWords}
+use Rattle.spec_base.specs.Limits.{wordLabels}
+use Rattle.spec_base.specs.Widths.{twoWords}
 use Rattle.sets.proofs.Words.{words-of}
 use Rattle.labels.specs.Labels.{labelSet}
 use Rattle.lines.proofs.Fields.{Fields, shown-row}

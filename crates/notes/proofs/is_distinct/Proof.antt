@@ -1,6 +1,6 @@
 use mathlib.Core.Path.{refl}
 use borrow.Author.Needs.{needs}
-use Rattle.sets.specs.Sets.{none}
+use Rattle.spec_base.specs.Sets.{none}
 use Rattle.notes.proofs.is_distinct.Statement.{statement}
 use Rattle.notes.proofs.is_distinct.Tie as tie
 

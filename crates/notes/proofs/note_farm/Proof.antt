@@ -1,7 +1,7 @@
 use native.Mathlib.Omega.{arith}
 use Prim.Native.Nat.{_<_}
-use Rattle.limits.specs.Limits.{wordLabels}
-use Rattle.sets.specs.Sets.{only, join}
+use Rattle.spec_base.specs.Limits.{wordLabels}
+use Rattle.spec_base.specs.Sets.{only, join}
 use Rattle.sets.proofs.Widths.{shifted}
 use Rattle.layout.specs.Notes.{noteFarm}
 use borrow.Author.Needs.{needs}

@@ -1,7 +1,7 @@
-use Rattle.limits.specs.Limits.{wordLabels}
+use Rattle.spec_base.specs.Limits.{wordLabels}
 use Prim.Native.Nat.{_%_, _<_}
 use native.Mathlib.Omega.{arith}
-use Rattle.sets.specs.Sets.{only, join}
+use Rattle.spec_base.specs.Sets.{only, join}
 use Rattle.sets.proofs.Widths.{shifted}
 use Rattle.layout.specs.Notes.{noteSetpause}
 use borrow.Author.Needs.{needs}

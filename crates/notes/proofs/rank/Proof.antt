@@ -1,4 +1,4 @@
-use Rattle.limits.specs.Limits.{labelCount}
+use Rattle.spec_base.specs.Limits.{labelCount}
 use borrow.Author.Tests.{lt-ltb, le-ltb}
 use borrow.Author.Needs.{needs}
 use Rattle.notes.proofs.rank.Statement.{statement}

@@ -5,7 +5,7 @@ use Prim.Native.Nat.{_+_, _-_, _≤_}
 use mathlib.Core.Path.{_≡_, sym, ap, _∙_, subst}
 use native.Mathlib.Omega.{arith}
 use lib.ListN.{take, drop}
-use Rattle.numbers.specs.Bytes.{leNumber}
+use Rattle.spec_base.specs.Bytes.{leNumber}
 use Rattle.numbers.proofs.Reading.{leNumber-lt}
 use Rattle.numbers.proofs.read_le.Statement.{statement}
 use Rattle.numbers.proofs.read_le.Tie as tie

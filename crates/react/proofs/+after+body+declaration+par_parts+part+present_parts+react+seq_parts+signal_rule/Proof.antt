@@ -3,7 +3,7 @@ use native.Mathlib.Omega.{arith}
 use lib.ListN.{getD}
 use borrow.Author.Needs.{needs}
 use borrow.Author.Tests.{eqb-true, ltb-true}
-use Rattle.limits.specs.Limits.{signalCount}
+use Rattle.spec_base.specs.Limits.{signalCount}
 use Rattle.spec_language.specs.Statement.{local, seq, par, loop, present, signal, try, suspend}
 use Rattle.theory_language.specs.Traced.{startTraced}
 use Rattle.sequence.specs.Commands.{Command}

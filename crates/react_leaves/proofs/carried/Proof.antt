@@ -2,7 +2,7 @@ use Prim.Native.Nat.{ℕ}
 use mathlib.Core.Path.{sym, subst}
 use lib.Dec.{T}
 use lib.Ieee.{binary32, ofBits}
-use Rattle.litres.specs.Litres.{whole}
+use Rattle.spec_base.specs.WholeLitres.{whole}
 use Rattle.litres.proofs.Sums.{whole-pattern}
 use Rattle.react_leaves.proofs.Values.{with-litres, without}
 use borrow.Author.Needs.{needs}

@@ -1,5 +1,5 @@
 use mathlib.Core.Path.{_∙_}
-use Rattle.sets.specs.Sets.{none}
+use Rattle.spec_base.specs.Sets.{none}
 use Rattle.reaction.proofs.Values.{failed-made}
 use borrow.Author.Needs.{needs}
 use Rattle.reaction.proofs.failing.Statement.{statement}

@@ -1,5 +1,5 @@
 use borrow.Author.Needs.{needs}
-use Rattle.sets.specs.Sets.{none}
+use Rattle.spec_base.specs.Sets.{none}
 use Rattle.reaction.proofs.nothing.Statement.{statement}
 use Rattle.reaction.proofs.nothing.Tie as tie
 

@@ -1,6 +1,6 @@
 use borrow.Author.Needs.{needs}
 use borrow.Author.Tests.{lt-ltb, le-ltb}
-use Rattle.limits.specs.Limits.{lastNumber}
+use Rattle.spec_base.specs.Limits.{lastNumber}
 use Rattle.recordings.specs.Recording.{following}
 use Rattle.recordings_writer.proofs.following.Statement.{statement}
 use Rattle.recordings_writer.proofs.following.Tie as tie

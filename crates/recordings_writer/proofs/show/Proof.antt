@@ -4,8 +4,8 @@ use mathlib.Core.Path.{ap, _∙_}
 use mathlib.Core.List.{List}
 use lib.ListN.{set, length-set}
 use lib.Seq.{sets}
-use Rattle.limits.specs.Limits.{signalBytes, numberBytes}
-use Rattle.numbers.specs.Bytes.{leBytes}
+use Rattle.spec_base.specs.Limits.{signalBytes, numberBytes}
+use Rattle.spec_base.specs.Bytes.{leBytes}
 use Rattle.numbers.proofs.Writing.{left-alone}
 use Rattle.recordings.specs.Record.{panelInputAt, panelEmittedAt, panelLength, panelBytes}
 use Rattle.recordings_writer.proofs.Panels.{panel-sized}

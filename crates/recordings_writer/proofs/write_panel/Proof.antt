@@ -1,7 +1,7 @@
 use Prim.Native.Nat.{ℕ}
 use mathlib.Core.Path.{ap, _∙_}
-use Rattle.sets.specs.Sets.{difference}
-use Rattle.numbers.specs.Bytes.{replaced}
+use Rattle.spec_base.specs.Sets.{difference}
+use Rattle.spec_base.specs.Bytes.{replaced}
 use Rattle.answers.specs.AnswerRecord.{codeIn, emittedIn}
 use Rattle.recordings_writer.proofs.Panels.{panel-made}
 use borrow.Author.Needs.{needs}

@@ -2,8 +2,8 @@ use Prim.Native.Nat.{ℕ}
 use mathlib.Core.Path.{ap, _∙_}
 use mathlib.Core.List.{List}
 use lib.Seq.{sets}
-use Rattle.limits.specs.Limits.{signalBytes}
-use Rattle.numbers.specs.Bytes.{leBytes}
+use Rattle.spec_base.specs.Limits.{signalBytes}
+use Rattle.spec_base.specs.Bytes.{leBytes}
 use Rattle.numbers.proofs.Writing.{left-alone}
 use Rattle.recordings.specs.Record.{inputAt, answerAt, stateAt, recordLength, recordOf}
 use Rattle.recordings_writer.proofs.Records.{record-sized}

@@ -1,5 +1,5 @@
 use mathlib.Core.Path.{sym, _∙_}
-use Rattle.sets.specs.Sets.{none}
+use Rattle.spec_base.specs.Sets.{none}
 use Rattle.rules.proofs.Combining.{loop-fails, loop-goes-on}
 use borrow.Author.Needs.{needs}
 use Rattle.rules.proofs.in_loop.Statement.{statement}

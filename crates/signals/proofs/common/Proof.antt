@@ -1,5 +1,5 @@
 use mathlib.Core.Path.{refl}
-use Rattle.sets.specs.Sets.{common}
+use Rattle.spec_base.specs.Sets.{common}
 use Rattle.signals.proofs.common.Statement.{statement}
 use Rattle.signals.proofs.common.Tie as tie
 

@@ -1,5 +1,5 @@
 use borrow.Author.Needs.{needs}
-use Rattle.sets.specs.Widths.{allBelow}
+use Rattle.spec_base.specs.Widths.{allBelow}
 use Rattle.signals.proofs.complement.Statement.{statement}
 use Rattle.signals.proofs.complement.Tie as tie
 

@@ -1,5 +1,5 @@
 use mathlib.Core.Path.{refl}
-use Rattle.sets.specs.Sets.{difference}
+use Rattle.spec_base.specs.Sets.{difference}
 use Rattle.signals.proofs.difference.Statement.{statement}
 use Rattle.signals.proofs.difference.Tie as tie
 

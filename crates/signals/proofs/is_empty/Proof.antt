@@ -1,5 +1,5 @@
 use mathlib.Core.Path.{refl}
-use Rattle.sets.specs.Sets.{none}
+use Rattle.spec_base.specs.Sets.{none}
 use Rattle.signals.proofs.is_empty.Statement.{statement}
 use Rattle.signals.proofs.is_empty.Tie as tie
 

@@ -1,6 +1,6 @@
 use mathlib.Core.Path.{refl, sym}
 use borrow.Author.Needs.{needs}
-use Rattle.sets.specs.Sets.{member}
+use Rattle.spec_base.specs.Sets.{member}
 use Rattle.sets.proofs.Members.{member-high}
 use Rattle.signals.proofs.member.Statement.{statement}
 use Rattle.signals.proofs.member.Tie as tie

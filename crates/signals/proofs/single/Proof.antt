@@ -1,5 +1,5 @@
 use borrow.Author.Needs.{needs}
-use Rattle.sets.specs.Sets.{none}
+use Rattle.spec_base.specs.Sets.{none}
 use Rattle.sets.proofs.Widths.{shifted-only, none-only}
 use Rattle.signals.proofs.single.Statement.{statement}
 use Rattle.signals.proofs.single.Tie as tie

@@ -1,5 +1,5 @@
 use mathlib.Core.Path.{refl}
-use Rattle.sets.specs.Sets.{join}
+use Rattle.spec_base.specs.Sets.{join}
 use Rattle.signals.proofs.union.Statement.{statement}
 use Rattle.signals.proofs.union.Tie as tie
 

@@ -1,6 +1,6 @@
 use mathlib.Core.Path.{ap, _∙_}
 use borrow.Author.Needs.{needs}
-use Rattle.sets.specs.Sets.{join}
+use Rattle.spec_base.specs.Sets.{join}
 use Rattle.sets.proofs.Widths.{join-only}
 use Rattle.signals.proofs.with.Statement.{statement}
 use Rattle.signals.proofs.with.Tie as tie

@@ -4,8 +4,8 @@ use mathlib.Core.Path.{sym, ap, ap₂, _∙_}
 use mathlib.Core.List.{List}
 use lib.ListN.{take, drop}
 use lib.Seq.{take-take}
-use Rattle.sets.specs.Widths.{twoWords}
-use Rattle.numbers.specs.Bytes.{leNumber}
+use Rattle.spec_base.specs.Widths.{twoWords}
+use Rattle.spec_base.specs.Bytes.{leNumber}
 use Rattle.numbers.proofs.Bytes.{le-behind}
 use borrow.Author.Needs.{needs}
 use Rattle.states.proofs.labels_at.Statement.{statement}

@@ -3,7 +3,7 @@ use mathlib.Core.Path.{ap, ap₂, _∙_}
 use mathlib.Core.List.{List}
 use lib.Seq.{sets}
 use Rattle.labels.specs.Labels.{labelSet}
-use Rattle.numbers.specs.Bytes.{leBytes}
+use Rattle.spec_base.specs.Bytes.{leBytes}
 use Rattle.states.proofs.Stores.{words-stored}
 use borrow.Author.Needs.{needs}
 use Rattle.states.proofs.put_labels.Statement.{statement}

@@ -1,4 +1,4 @@
-use Rattle.limits.specs.Limits.{wordLabels}
+use Rattle.spec_base.specs.Limits.{wordLabels}
 use mathlib.Core.Path.{_∙_}
 use borrow.Author.Tests.{not-true, not-false}
 use Rattle.labels.specs.Labels.{labelSet}

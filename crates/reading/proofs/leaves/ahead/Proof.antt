@@ -2,7 +2,7 @@ use mathlib.Core.Path.{refl, sym, _∙_}
 use native.Mathlib.Omega.{arith}
 use lib.ListN.{getD}
 use borrow.Author.Tests.{lt-ltb}
-use Rattle.limits.specs.Limits.{labelCount, signalCount}
+use Rattle.spec_base.specs.Limits.{labelCount, signalCount}
 use Rattle.sequence.specs.Commands.{Command}
 use Rattle.layout.proofs.Leaves.{notes-none}
 use Rattle.reading.proofs.Leaving.{not-ahead, ahead-bare, notable-ahead, ahead-noted}

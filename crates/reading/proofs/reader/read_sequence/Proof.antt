@@ -3,7 +3,7 @@ use mathlib.Core.Path.{subst}
 use mathlib.Core.List.{List}
 use native.Mathlib.Omega.{arith}
 use borrow.Author.Needs.{needs}
-use Rattle.limits.specs.Limits.{maxDepth, maxSignals}
+use Rattle.spec_base.specs.Limits.{maxDepth, maxSignals}
 use Rattle.sequence.specs.Reader.{read}
 use Rattle.layout.specs.Walk.{Done}
 use Rattle.layout.proofs.Parts.{rest-is}

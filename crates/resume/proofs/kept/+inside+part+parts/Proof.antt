@@ -2,7 +2,7 @@ use mathlib.Core.Path.{sym, ap, _∙_}
 use native.Mathlib.Omega.{arith}
 use borrow.Author.Needs.{needs}
 use borrow.Author.Tests.{ltb-true}
-use Rattle.sets.specs.Sets.{below, from}
+use Rattle.spec_base.specs.Sets.{below, from}
 use Rattle.spec_language.specs.Statement.{local, pause, seq, par, loop, present, signal, try, suspend}
 use Rattle.sequence.specs.Commands.{Command}
 use Rattle.layout.proofs.Laid.{ready, taken-apart, begins, first-ready, second-ready}

@@ -1,5 +1,5 @@
 use mathlib.Core.Path.{ap₂, _∙_}
-use Rattle.sets.specs.Sets.{join}
+use Rattle.spec_base.specs.Sets.{join}
 use Rattle.resume.proofs.KeptSteps.{words-stored}
 use borrow.Author.Needs.{needs}
 use Rattle.resume.proofs.kept.add.Statement.{statement}

@@ -1,7 +1,7 @@
-use Rattle.limits.specs.Limits.{labelCount}
+use Rattle.spec_base.specs.Limits.{labelCount}
 use mathlib.Core.Path.{_≡_, refl, sym, ap, _∙_}
 use mathlib.Core.Bool.{false}
-use Rattle.sets.specs.Sets.{member}
+use Rattle.spec_base.specs.Sets.{member}
 use Rattle.sets.proofs.Loops.{some-left, none-left, Seeking, seek, seek-on, seek-end, seek-less, seek-hit}
 use Rattle.labels.specs.Labels.{labelSet}
 use Rattle.wellformed.specs.Rows.{rowOf}

@@ -1,7 +1,7 @@
-use Rattle.limits.specs.Limits.{labelCount}
+use Rattle.spec_base.specs.Limits.{labelCount}
 use Prim.Native.Nat.{ℕ}
 use mathlib.Core.Path.{ap, _∙_}
-use Rattle.sets.specs.Sets.{join}
+use Rattle.spec_base.specs.Sets.{join}
 use Rattle.labels.specs.Labels.{labelSet}
 use Rattle.wellformed.proofs.Rows.{added, kept}
 use borrow.Author.Needs.{needs}

@@ -1,4 +1,4 @@
-use Rattle.limits.specs.Limits.{labelCount}
+use Rattle.spec_base.specs.Limits.{labelCount}
 use mathlib.Core.Path.{_∙_}
 use Rattle.wellformed.proofs.Rows.{row-here, no-row}
 use borrow.Author.Needs.{needs}

@@ -73,3 +73,8 @@ membersFrom (suc n) i s = keepIf (member i s) i (membersFrom n (suc i) s)
 lowest-first : membersFrom 32 0 37 ≡ 0 ∷ 2 ∷ 5 ∷ []
 unfolding membersFrom member
 lowest-first = refl
+
+-- 0 and 2 without 1 and 2
+difference-by-hand : difference 5 6 ≡ 1
+unfolding difference
+difference-by-hand = refl

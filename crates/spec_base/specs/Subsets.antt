@@ -4,7 +4,7 @@ use mathlib.Core.Path.{_≡_, refl}
 use mathlib.Core.Bool.{cond}
 use mathlib.Core.List.{List, [], _∷_, List·Memᴰ}
 use lib.Dec.{eqb}
-use Rattle.sets.specs.Sets.{common}
+use Rattle.spec_base.specs.Sets.{common}
 
 -- the greatest subset of u below f
 abbrev pub nextSubset : (f u : ℕ) → ℕ

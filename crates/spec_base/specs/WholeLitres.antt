@@ -1,8 +1,10 @@
 -- Litres as single-precision numbers, over the values of the kit's `lib.Ieee`. Definitions only.
 use Prim.Native.Nat.{ℕ, zero, suc, _+_, _*_, _≤_, _<_}
-use mathlib.Core.Path.{_≡_}
-use mathlib.Core.Bool.{Bool, false}
+use mathlib.Core.Path.{_≡_, refl}
+use mathlib.Core.Bool.{Bool, true, false, true≢false}
 use lib.Dec.{T}
+use lib.IntN.{pos}
+use native.Mathlib.Omega.{arith}
 use lib.Ieee.{Float, nan, inf, fin, binary32, up, down, inUnsigned, toUnsigned, add}
 
 -- x is a whole number from 0 to 2 ^ 24, and not minus zero
@@ -39,3 +41,13 @@ pub record Near (k : ℕ) (x : Float) (n : ℕ) : Type 0 where
   pub is-number : IsNumber x number
   pub not-above : number ≤ n + k
   pub not-below : n ≤ number + k
+
+-- by hand: 5 is a whole number, and 'lies within' 1 of 4; minus zero is none
+five : IsNumber (fin false 5 (pos 0)) 5
+five = (refl, refl)
+
+five-near-four : Near 1 (fin false 5 (pos 0)) 4
+five-near-four = record { number = 5; is-number = five; not-above = omega arith; not-below = omega arith }
+
+minus-zero : ¬ IsNumber (fin true 0 (pos 0)) 0
+minus-zero h = true≢false (h .0)

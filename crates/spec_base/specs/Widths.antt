@@ -1,12 +1,12 @@
 -- Sets of numbers below a width w, the least member of one, and a set held in two words.
 use Prim.Native.Nat.{ℕ, _+_, _*_, _-_, _^_, _<_}
-use mathlib.Core.Path.{_≡_}
+use mathlib.Core.Path.{_≡_, refl}
 use mathlib.Core.Bool.{true, false, cond}
 use mathlib.Core.List.{List}
 use lib.ListN.{getD}
 use lib.Dec.{ltb}
-use Rattle.limits.specs.Limits.{wordLabels}
-use Rattle.sets.specs.Sets.{member, none, only, insert, difference}
+use Rattle.spec_base.specs.Limits.{wordLabels}
+use Rattle.spec_base.specs.Sets.{member, none, only, insert, difference}
 
 -- a set of numbers below w has no other member
 abbrev pub onlyBelow : (w i : ℕ) → ℕ
@@ -35,3 +35,8 @@ twoWords w low high = high * 2 ^ w + low
 -- the set in the two words of a list that begin at `at`
 abbrev pub setAt : (at : ℕ) → List ℕ → ℕ
 setAt at words = twoWords wordLabels (getD words at 0) (getD words (at + 1) 0)
+
+-- by hand: below 3 there are 0, 1 and 2; the set of 0 and 2 has not 1
+widths : (allBelow 3 ≡ 7) × (complement 3 5 ≡ 2) × (twoWords 2 1 3 ≡ 13)
+unfolding allBelow difference twoWords
+widths = (refl, refl, refl)

@@ -1,8 +1,9 @@
 -- Bytes at an offset of a list, and bytes put in their place.
 use Prim.Native.Nat.{ℕ}
-use mathlib.Core.List.{List, _++_}
+use mathlib.Core.Path.{_≡_, refl}
+use mathlib.Core.List.{List, [], _∷_, _++_}
 use lib.ListN.{take, drop}
-use Rattle.numbers.specs.Bytes.{leBytes}
+use Rattle.spec_base.specs.Bytes.{leBytes}
 
 -- the n bytes from `at` on, as far as they are there
 abbrev pub slot : (at n : ℕ) → List ℕ → List ℕ
@@ -15,3 +16,8 @@ put at n bytes s = take at s ++ (bytes ++ drop n (drop at s))
 -- n bytes 00
 unfoldable pub zeros : ℕ → List ℕ
 zeros n = leBytes n 0
+
+-- by hand: two bytes put in the place of two, and read there
+put-by-hand : (put 1 2 (9 ∷ 8 ∷ []) (0 ∷ 1 ∷ 2 ∷ 3 ∷ []) ≡ 0 ∷ 9 ∷ 8 ∷ 3 ∷ []) × (slot 1 2 (0 ∷ 9 ∷ 8 ∷ 3 ∷ []) ≡ 9 ∷ 8 ∷ [])
+unfolding put
+put-by-hand = (refl, refl)
