@@ -97,7 +97,7 @@ def commands(page):
     given = {row[0]: [*OPERANDS.get(row[1], "?"), *re.findall(r"\w+", row[2])] for row in table}
     if given != printed() or [row[0] for row in table] != sorted(given):
         yield "the commands, their operands and parts"
-    names = re.search(r"^ +some Command\.nothing.*?\[\]$", text_of("crates/sequence/specs/Commands.antt"), re.M | re.S)[0]
+    names = re.search(r"^ +some Command\.nothing.*?\[\]$", text_of("crates/spec_sequence/specs/Commands.antt"), re.M | re.S)[0]
     short = {"p; then q": "seq", "p in parallel with q": "par", "emit s with v litres": "deliver"}
     if [short.get(row[3], row[3].split()[0]) for row in table] != re.findall(r"Command\.(\w+)", names):
         yield "the names of the commands"

@@ -8,9 +8,9 @@ use mathlib.Core.List.{List, []}
 use lib.ListN.{length}
 use borrow.Author.Tests.{le-leb, lt-leb}
 use Rattle.spec_language.specs.Ceiling.{ceiling}
-use Rattle.sequence.specs.Program.{program}
-use Rattle.sequence.specs.Check.{Checked, sound, bad, checked, numberOf, checkOf}
-use Rattle.sequence.specs.Rows.{row-2}
+use Rattle.spec_sequence.specs.Program.{program}
+use Rattle.spec_sequence.specs.Check.{Checked, sound, bad, checked, numberOf, checkOf}
+use Rattle.spec_sequence.specs.Rows.{row-2}
 use Rattle.spec_base.specs.Limits.{maxBytes}
 use Rattle.demands.proofs.Sequence.{accepted}
 use Rattle.ceilings.specs.declared.Plan.{Plan}

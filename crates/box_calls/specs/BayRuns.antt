@@ -10,8 +10,8 @@ use lib.Dec.{eqb}
 use Rattle.spec_language.specs.Statement.{Statement}
 use Rattle.spec_language.specs.States.{NoSetpause}
 use Rattle.spec_language.specs.Machines.{Rewriting}
-use Rattle.sequence.specs.Program.{program}
-use Rattle.sequence.specs.Rows.{Spells}
+use Rattle.spec_sequence.specs.Program.{program}
+use Rattle.spec_sequence.specs.Rows.{Spells}
 use Rattle.recordings.specs.Record.{recordLength}
 use Rattle.recordings.specs.Recording.{callOn}
 use Rattle.tick.specs.Tick.{Outcome, outcome, tickOf}

@@ -5,8 +5,8 @@ use mathlib.Core.Path.{_≡_}
 use mathlib.Core.Logic.{_≢_, _↔_}
 use mathlib.Core.List.{List}
 use lib.ListN.{length}
-use Rattle.sequence.specs.Check.{checked, checkOf}
-use Rattle.sequence.specs.Ceilings.{ceilingOf}
+use Rattle.spec_sequence.specs.Check.{checked, checkOf}
+use Rattle.spec_sequence.specs.Ceilings.{ceilingOf}
 use Rattle.box_stretches.specs.Called.{called, number, memoryAfter, lentAfter}
 use Rattle.box_stretches.specs.Stretch.{lengthIn, sequenceIn, readBackIn, ceilingIn, partOf, Terms}
 use Rattle.box_stretches.specs.BayCalls.{sharedCeiling}

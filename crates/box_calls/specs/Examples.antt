@@ -10,9 +10,9 @@ use Rattle.spec_language.specs.LabelTests.{labelsOf, everyLabel, distinct, befo
 use Rattle.spec_language.specs.ReadBack.{declaredBy}
 use Rattle.spec_language.specs.Sizes.{commands, loopNesting, signalNesting}
 use Rattle.spec_language.specs.Ceiling.{ceiling}
-use Rattle.sequence.specs.Commands.{commandOf}
-use Rattle.sequence.specs.Reader.{front, read}
-use Rattle.sequence.specs.Check.{checked}
+use Rattle.spec_sequence.specs.Commands.{commandOf}
+use Rattle.spec_sequence.specs.Reader.{front, read}
+use Rattle.spec_sequence.specs.Check.{checked}
 use Rattle.spec_base.specs.Bytes.{leBytes, leNumber}
 use Rattle.spec_base.specs.Parts.{put, zeros}
 use Rattle.tick.specs.Paper as Paper

@@ -4,8 +4,8 @@ use Prim.Native.Nat.{ℕ}
 use mathlib.Core.Path.{_≡_}
 use mathlib.Core.Option.{none}
 use mathlib.Core.List.{List}
-use Rattle.sequence.specs.Check.{checked, checkOf}
-use Rattle.sequence.specs.Ceilings.{ceilingOf}
+use Rattle.spec_sequence.specs.Check.{checked, checkOf}
+use Rattle.spec_sequence.specs.Ceilings.{ceilingOf}
 use Rattle.demands.specs.Demands.{cleared}
 use Rattle.spec_base.specs.Parts.{slot, zeros}
 use Rattle.box_positions.specs.Table.{lookup}

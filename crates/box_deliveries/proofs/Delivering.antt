@@ -9,7 +9,7 @@ use Rattle.spec_language.specs.Statement.{Statement}
 use Rattle.theory_language.specs.RankedExpansion.{expandBy}
 use Rattle.spec_language.specs.Machines.{adds, State}
 use Rattle.labels.specs.Labels.{labelSet}
-use Rattle.sequence.specs.Program.{program}
+use Rattle.spec_sequence.specs.Program.{program}
 use Rattle.reaction.specs.Reactions.{cappedOf}
 use Rattle.program.specs.declared.Start.the-variants.{Fresh, Waiting}
 use Rattle.theory_language.proofs.Farms.{unnamed-none}
@@ -18,8 +18,8 @@ use Rattle.layout.proofs.Noting.{farms-below}
 use Rattle.box_ledgers.specs.Ledgers.{farmCount, NoneOutside}
 use Rattle.theory_language.proofs.LabelTests.{valid-is}
 use Rattle.labels.specs.declared.Labels.{Labels}
-use Rattle.sequence.specs.Writer.{Ranged}
-use Rattle.sequence.specs.Check.{Checked, sound, bad, checked, numberOf, checkOf}
+use Rattle.spec_sequence.specs.Writer.{Ranged}
+use Rattle.spec_sequence.specs.Check.{Checked, sound, bad, checked, numberOf, checkOf}
 use Rattle.states.specs.StateRecord.{labelsIn, Decoded, holds, malformed, decodeState}
 use Rattle.demands.specs.Deliveries.{deliveredBy, deliveredIf, deliveries}
 use Rattle.instants.specs.declared.Standing.the-variants as stands

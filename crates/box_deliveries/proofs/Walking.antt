@@ -17,7 +17,7 @@ use Rattle.spec_language.specs.Machines.{adds}
 use Rattle.theory_language.proofs.Ceiling.{chosen}
 use Rattle.theory_language.proofs.Theorems.{unnamed-no-litres}
 use Rattle.labels.specs.Labels.{labelSet}
-use Rattle.sequence.specs.Program.{readBackSignals}
+use Rattle.spec_sequence.specs.Program.{readBackSignals}
 use Rattle.layout.specs.Layout.{Lies}
 use Rattle.reaction.specs.declared.Reaction.{Reaction}
 use Rattle.reaction.specs.Reactions.{cappedOf}

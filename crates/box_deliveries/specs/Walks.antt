@@ -9,7 +9,7 @@ use Rattle.spec_base.specs.Sets.{member}
 use Rattle.spec_language.specs.Statement.{Statement}
 use Rattle.spec_language.specs.Litres.{AtMost}
 use Rattle.spec_language.specs.Machines.{adds}
-use Rattle.sequence.specs.Program.{program}
+use Rattle.spec_sequence.specs.Program.{program}
 use Rattle.layout.specs.Layout.{Lies}
 use Rattle.reaction.specs.declared.Reaction.{Reaction}
 use Rattle.reaction.specs.Reactions.{cappedOf, reactionTo}

@@ -9,8 +9,8 @@ use Rattle.spec_base.specs.Limits.{litresLimit}
 use Rattle.spec_base.specs.Sets.{insert, remove}
 use Rattle.spec_language.specs.Statement.{Statement, nothing, pause, emit, exit, seq, par, loop, present, signal, try, setpause, suspend, held}
 use Rattle.spec_language.specs.Litres.{delivered}
-use Rattle.sequence.specs.Program.{program}
-use Rattle.sequence.specs.Check.{Checked, sound, bad, checked}
+use Rattle.spec_sequence.specs.Program.{program}
+use Rattle.spec_sequence.specs.Check.{Checked, sound, bad, checked}
 use Rattle.spec_base.specs.Parts.{put}
 use Rattle.spec_base.specs.WholeLitres.{litres}
 use Rattle.box_ledgers.specs.Ledgers as Ledgers

@@ -16,10 +16,10 @@ use Rattle.spec_language.specs.Reaction.{inheritanceFirst}
 use Rattle.spec_language.specs.Expansion.{expand}
 use Rattle.spec_language.specs.Instants.{Instant, instant, start}
 use Rattle.spec_language.specs.Machines.{State}
-use Rattle.sequence.specs.Program.{program}
-use Rattle.sequence.specs.Check.{Checked, sound, bad, checked}
-use Rattle.sequence.specs.Rows.{rank}
-use Rattle.sequence.proofs.Rows.{Decides, decided, row-range, row-rank}
+use Rattle.spec_sequence.specs.Program.{program}
+use Rattle.spec_sequence.specs.Check.{Checked, sound, bad, checked}
+use Rattle.spec_sequence.specs.Rows.{rank}
+use Rattle.theory_sequence.proofs.Rows.{Decides, decided, row-range, row-rank}
 use Rattle.states.specs.StateRecord.{stateLength, Decoded, holds, malformed, decodeState}
 use Rattle.answers.specs.AnswerRecord.{answerLength, encodeAnswer}
 use Rattle.tick.specs.Tick.{Reply, refused, reacts, written, byState, byCheck, replyOf, replied, tickBy, tickOf}

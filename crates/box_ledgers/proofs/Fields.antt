@@ -20,10 +20,10 @@ use Rattle.sets.proofs.Booleans.{clash}
 use Rattle.sets.proofs.Members.{member-none, member-remove, member-lt}
 use Rattle.spec_base.specs.Bytes.{leNumber, numberAt}
 use Rattle.numbers.proofs.Bytes.{length-leBytes}
-use Rattle.sequence.specs.Amounts.{amountBytes, areBytes, floatIn}
-use Rattle.sequence.specs.Commands.{bytesAt}
-use Rattle.sequence.proofs.Amounts.{amount-written}
-use Rattle.sequence.proofs.Front.{bytes-taken}
+use Rattle.spec_sequence.specs.Amounts.{amountBytes, areBytes, floatIn}
+use Rattle.spec_sequence.specs.Commands.{bytesAt}
+use Rattle.theory_sequence.proofs.Amounts.{amount-written}
+use Rattle.theory_sequence.proofs.Front.{bytes-taken}
 use Rattle.spec_base.specs.WholeLitres.{whole, litres}
 use Rattle.box_ledgers.specs.Ledgers.{farmCount, ledgerLength, fieldIn, totalIn, Exact, NoneOutside, passes, addedTo, addedBelow, added}
 use Rattle.box_ledgers.proofs.Totals.{total-whole, passes-not}

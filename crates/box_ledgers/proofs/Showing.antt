@@ -10,7 +10,7 @@ use lib.Dec.{T}
 use lib.Ieee.{Float, binary32, toBits, add, isNan}
 use Rattle.spec_base.specs.Bytes.{leBytes}
 use Rattle.numbers.proofs.Bytes.{length-leBytes}
-use Rattle.sequence.specs.Amounts.{amountBytes}
+use Rattle.spec_sequence.specs.Amounts.{amountBytes}
 use Rattle.spec_base.specs.WholeLitres.{Near}
 use Rattle.litres.proofs.Sums.{Added, added-first, added-next, added-all, added-no-nan}
 use Rattle.box_ledgers.specs.Ledgers.{farmCount, readingLength, totalIn, totalFloat, totalsBytes, exactTotal, shownTotal, readingOf, totalRead}

@@ -18,8 +18,8 @@ use Rattle.spec_base.specs.Sets.{member}
 use Rattle.sets.proofs.Booleans.{Tested, tested}
 use Rattle.spec_base.specs.Bytes.{leBytes, leNumber}
 use Rattle.numbers.proofs.Bytes.{length-leBytes, le-round-trip}
-use Rattle.sequence.specs.Amounts.{amountSize, amountBytes, areBytes, floatIn}
-use Rattle.sequence.proofs.Amounts.{amount-written}
+use Rattle.spec_sequence.specs.Amounts.{amountSize, amountBytes, areBytes, floatIn}
+use Rattle.theory_sequence.proofs.Amounts.{amount-written}
 use Rattle.spec_base.specs.WholeLitres.{whole, litres, ordered, Near}
 use Rattle.litres.proofs.Sums.{Running, last, Added, added-first, added-next}
 use Rattle.box_ledgers.specs.Ledgers.{farmCount, ledgerLength, fieldIn, totalIn, totalFloat, Exact, totalsBytes, cleared, NoneOutside, wouldPass, passes, added, exactTotal, shownTotal, readingOf, totalRead}

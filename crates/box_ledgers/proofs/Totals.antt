@@ -24,7 +24,7 @@ use Rattle.sets.proofs.Loops.{Seeking, seek-hit}
 use Rattle.spec_base.specs.Bytes.{leBytes, numberAt}
 use Rattle.numbers.proofs.Bytes.{length-leBytes}
 use Rattle.numbers.proofs.Writing.{sets-append, sets-whole}
-use Rattle.sequence.specs.Amounts.{amountBytes}
+use Rattle.spec_sequence.specs.Amounts.{amountBytes}
 use Rattle.spec_base.specs.WholeLitres.{whole, litres, exact, Whole}
 use Rattle.litres.proofs.Sums.{value-of, sum-is, int-is, to-float, whole-no-nan}
 use Rattle.box_ledgers.specs.Ledgers.{farmCount, readingLength, fieldIn, totalIn, totalFloat, totalsBytes, wouldPass, exactTotal}

@@ -5,7 +5,7 @@ use mathlib.Core.List.{_++_}
 use lib.Ieee.{binary32, ofBits, toBits, ofInt, add, whole, inUnsigned, toUnsigned}
 use Rattle.spec_base.specs.Bytes.{leBytes, leNumber}
 use Rattle.spec_base.specs.WholeLitres.{ordered}
-use Rattle.sequence.specs.Amounts.{amountBytes}
+use Rattle.spec_sequence.specs.Amounts.{amountBytes}
 use Rattle.box_ledgers.specs.Ledgers.{totalIn, wouldPass, shownTotal}
 
 -- ---- the sum that is held to the limit is exact: 16,777,216 and 1 would be 16,777,216

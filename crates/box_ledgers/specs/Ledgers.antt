@@ -11,7 +11,7 @@ use Rattle.spec_base.specs.Limits.{signalCount, litresLimit}
 use Rattle.spec_base.specs.Sets.{member}
 use Rattle.spec_base.specs.Bytes.{leBytes, numberAt}
 use Rattle.spec_base.specs.WholeLitres.{whole, litres, ordered}
-use Rattle.sequence.specs.Amounts.{amountSize, amountBytes}
+use Rattle.spec_sequence.specs.Amounts.{amountSize, amountBytes}
 
 -- a signal's number is its farm's
 abbrev pub farmCount : ℕ

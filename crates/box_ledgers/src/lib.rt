@@ -10,7 +10,7 @@ ghost use Rattle.spec_base.specs.Bytes.{leBytes};
 ghost use Rattle.spec_base.specs.Limits.{litresLimit};
 ghost use Rattle.box_ledgers.specs.Ledgers.{farmCount, ledgerLength, totalIn, totalFloat, cleared, NoneOutside, passes, addedTo, added, readingLength, exactTotal, readingOf, totalRead};
 ghost use Rattle.spec_base.specs.WholeLitres.{Near};
-ghost use Rattle.sequence.specs.Amounts.{amountBytes};
+ghost use Rattle.spec_sequence.specs.Amounts.{amountBytes};
 
 // The year's ledger of a bay number (02, item 12): definitions in specs/, and the sizes for the code. No box is known here.
 pub const FARMS: usize = limits::FARMS;

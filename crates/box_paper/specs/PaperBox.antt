@@ -12,8 +12,8 @@ use Rattle.spec_base.specs.Limits.{signalBytes}
 use Rattle.spec_language.specs.Statement.{Statement}
 use Rattle.spec_language.specs.Ceiling.{ceiling}
 use Rattle.spec_language.specs.Machines.{Seen, instant, refused, Machine, State, byLabels, addsByLabels, Rewriting, byRewriting, addsByRewriting}
-use Rattle.sequence.specs.Program.{program}
-use Rattle.sequence.specs.Check.{Checked, sound, bad, checked}
+use Rattle.spec_sequence.specs.Program.{program}
+use Rattle.spec_sequence.specs.Check.{Checked, sound, bad, checked}
 use Rattle.states.specs.StateRecord.{encodeState}
 use Rattle.answers.specs.AnswerRecord.{answerLength, answerRecord, codeByte}
 use Rattle.tick.specs.Tick.{outcome}

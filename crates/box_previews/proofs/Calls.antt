@@ -9,8 +9,8 @@ use borrow.Author.Tests.{le-leb, lt-leb}
 use Rattle.spec_base.specs.Limits.{signalCount}
 use Rattle.spec_base.specs.Sets.{difference, membersFrom}
 use Rattle.theory_language.specs.Traced.{startTraced, instantOf}
-use Rattle.sequence.specs.Program.{program}
-use Rattle.sequence.specs.Check.{checkOf}
+use Rattle.spec_sequence.specs.Program.{program}
+use Rattle.spec_sequence.specs.Check.{checkOf}
 use Rattle.checks.specs.Verdict.{Passed}
 use Rattle.checks.proofs.Passing.{as-ready}
 use Rattle.labels.specs.declared.Labels.{Labels}

@@ -14,7 +14,7 @@ use Rattle.spec_language.specs.Statement.{Statement}
 use Rattle.theory_language.specs.Asked as Asked
 use Rattle.theory_language.specs.Traced.{Traced, instantOf, startTraced}
 use Rattle.spec_language.specs.Instants.{start}
-use Rattle.sequence.specs.Program.{program}
+use Rattle.spec_sequence.specs.Program.{program}
 use Rattle.reaction.specs.declared.Completion.{Completion}
 use Rattle.reaction.specs.declared.Completion.the-variants.{Ended, Waiting, Leaving, Wrong}
 use Rattle.reaction.specs.declared.Reaction.{Reaction}

@@ -4,7 +4,7 @@ use mathlib.Core.List.{List}
 use Rattle.spec_base.specs.Limits.{maxDepth}
 use Rattle.spec_language.specs.Statement.{Statement}
 use Rattle.spec_language.specs.Instants.{start}
-use Rattle.sequence.specs.Program.{program}
+use Rattle.spec_sequence.specs.Program.{program}
 use Rattle.layout.specs.Layout.{Lies, Ready}
 use Rattle.program.specs.declared.Start.{Start}
 use Rattle.program.specs.Program.{termAt}

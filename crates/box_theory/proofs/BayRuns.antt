@@ -16,9 +16,9 @@ use Rattle.spec_language.specs.Rules.{Reacts}
 use Rattle.spec_language.specs.States.{NoSetpause}
 use Rattle.spec_language.specs.Machines.{State, Rewriting}
 use Rattle.theory_language.proofs.Agreement.{TermOf}
-use Rattle.sequence.specs.Program.{program}
-use Rattle.sequence.specs.Rows.{ByRows}
-use Rattle.sequence.specs.Check.{Checked, sound, bad, checked}
+use Rattle.spec_sequence.specs.Program.{program}
+use Rattle.spec_sequence.specs.Rows.{ByRows}
+use Rattle.spec_sequence.specs.Check.{Checked, sound, bad, checked}
 use Rattle.states.specs.StateRecord.{stateLength, Decoded, holds, malformed, decodeState}
 use Rattle.answers.specs.AnswerRecord.{answerLength}
 use Rattle.recordings.specs.Recording.{blank, tickOn, callOn}

@@ -10,10 +10,10 @@ use lib.ListN.{length}
 use lib.Dec.{eqb, leb}
 use borrow.Author.Tests.{ne-eqb, leb-true}
 use Rattle.spec_base.specs.Limits.{maxBytes}
-use Rattle.sequence.specs.Check.{Checked, sound, bad, checked, checkOf}
-use Rattle.sequence.specs.Ceilings.{ceilingOf}
-use Rattle.sequence.specs.Rows.{row-2}
-use Rattle.sequence.proofs.Rows.{Decides, decided, row-range}
+use Rattle.spec_sequence.specs.Check.{Checked, sound, bad, checked, checkOf}
+use Rattle.spec_sequence.specs.Ceilings.{ceilingOf}
+use Rattle.spec_sequence.specs.Rows.{row-2}
+use Rattle.theory_sequence.proofs.Rows.{Decides, decided, row-range}
 use Rattle.demands.proofs.Sequence.{Accepted, accepted}
 use Rattle.box_stretches.specs.Called.{Called, called, number, memoryAfter}
 use Rattle.box_stretches.specs.Stretch.{stretchLength, Terms, filled}

@@ -13,14 +13,14 @@ use Rattle.spec_base.specs.Limits.{numberBytes}
 use Rattle.spec_language.specs.Statement.{Statement}
 use Rattle.spec_language.specs.Ceiling.{ceiling}
 use Rattle.spec_language.specs.Machines.{State}
-use Rattle.sequence.specs.Program.{program}
-use Rattle.sequence.specs.Check.{Checked, sound, bad, checked, checkOf}
-use Rattle.sequence.specs.Ceilings.{ceilingOf}
-use Rattle.sequence.specs.Rows.{Spells}
-use Rattle.sequence.proofs.Rows.{Decides, decided, row-range}
+use Rattle.spec_sequence.specs.Program.{program}
+use Rattle.spec_sequence.specs.Check.{Checked, sound, bad, checked, checkOf}
+use Rattle.spec_sequence.specs.Ceilings.{ceilingOf}
+use Rattle.spec_sequence.specs.Rows.{Spells}
+use Rattle.theory_sequence.proofs.Rows.{Decides, decided, row-range}
 use Rattle.spec_base.specs.Bytes.{leBytes, leNumber}
 use Rattle.spec_base.specs.WholeLitres.{ordered}
-use Rattle.sequence.specs.Amounts.{amountSize, amountBytes}
+use Rattle.spec_sequence.specs.Amounts.{amountSize, amountBytes}
 use Rattle.demands.proofs.Sequence.{Accepted, accepted}
 use Rattle.numbers.proofs.Putting.{length-put, put-before}
 use Rattle.numbers.proofs.Zeros.{zeros-number}

@@ -10,7 +10,7 @@ use lib.ListN.{length}
 use borrow.Author.Tests.{ne-eqb}
 use Rattle.spec_base.specs.Limits.{lastNumber}
 use Rattle.spec_language.specs.Machines.{State}
-use Rattle.sequence.specs.Program.{program}
+use Rattle.spec_sequence.specs.Program.{program}
 use Rattle.states.specs.StateRecord.{encodeState, Recorded}
 use Rattle.demands.proofs.Sequence.{Accepted}
 use Rattle.box_positions.specs.Names.{Position}

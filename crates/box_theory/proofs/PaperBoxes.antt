@@ -13,10 +13,10 @@ use Rattle.spec_language.specs.Ceiling.{ceiling}
 use Rattle.spec_language.specs.States.{NoSetpause}
 use Rattle.spec_language.specs.Machines.{State}
 use Rattle.spec_language.specs.Statement.{Statement}
-use Rattle.sequence.specs.Check.{checkOf}
-use Rattle.sequence.specs.Rows.{Spells}
+use Rattle.spec_sequence.specs.Check.{checkOf}
+use Rattle.spec_sequence.specs.Rows.{Spells}
 use Rattle.states.specs.StateRecord.{encodeState}
-use Rattle.sequence.specs.Ceilings.{ceilingOf}
+use Rattle.spec_sequence.specs.Ceilings.{ceilingOf}
 use Rattle.spec_base.specs.Bytes.{leNumber}
 use Rattle.spec_base.specs.Parts.{zeros}
 use Rattle.numbers.proofs.Zeros.{length-zeros, slot-zeros, zeros-number}

@@ -12,7 +12,7 @@ use Rattle.spec_base.specs.Bytes.{leBytes}
 use Rattle.spec_base.specs.Limits.{litresLimit}
 use Rattle.spec_base.specs.WholeLitres.{IsNumber, Near}
 use Rattle.litres.proofs.Sums.{is-number, value-of}
-use Rattle.sequence.specs.Amounts.{amountSize}
+use Rattle.spec_sequence.specs.Amounts.{amountSize}
 use Rattle.box_ledgers.specs.Ledgers.{farmCount, fieldIn, totalIn, exactTotal, shownTotal, readingOf, totalRead}
 use Rattle.box_ledgers.proofs.Totals.{holds}
 use Rattle.box_ledgers.proofs.Theorems.{written, total-most, reading-within}

@@ -19,8 +19,8 @@ use Rattle.spec_language.specs.Machines.{Phase, phaseAfter, shown, Seen, instan
 use Rattle.theory_language.proofs.Agreement.{TermOf, step}
 use Rattle.theory_language.proofs.ReadBack.{noSetpause-declared}
 use Rattle.theory_language.proofs.Litres.{agree-added}
-use Rattle.sequence.specs.Program.{program, readBackSignals}
-use Rattle.sequence.specs.Check.{Checked}
+use Rattle.spec_sequence.specs.Program.{program, readBackSignals}
+use Rattle.spec_sequence.specs.Check.{Checked}
 use Rattle.states.specs.StateRecord.{Decoded, encodeState, holds, Recorded}
 use Rattle.states.proofs.StateLaws.{length-state, decode-encode}
 use Rattle.answers.specs.AnswerRecord.{answerLength, encodeAnswer}

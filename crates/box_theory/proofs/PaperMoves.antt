@@ -11,7 +11,7 @@ use lib.Dec.{eqb, ltb}
 use Rattle.spec_base.specs.Limits.{labelBytes, numberBytes, maxPositions}
 use Rattle.spec_language.specs.Statement.{Statement}
 use Rattle.spec_language.specs.Machines.{State}
-use Rattle.sequence.specs.Program.{program}
+use Rattle.spec_sequence.specs.Program.{program}
 use Rattle.spec_base.specs.Bytes.{leBytes, leNumber}
 use Rattle.numbers.proofs.Bytes.{le-round-trip}
 use Rattle.states.specs.StateRecord.{stateLength, phaseIn, labelsIn, encodeState, Recorded}

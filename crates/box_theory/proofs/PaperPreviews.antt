@@ -15,8 +15,8 @@ use Rattle.spec_language.specs.Instants.{Instant, start}
 use Rattle.spec_language.specs.Machines.{Seen, seen, State, byLabels}
 use Rattle.spec_language.specs.Errors.{Error, firstError}
 use Rattle.spec_language.specs.Reactions.{reactions}
-use Rattle.sequence.specs.Program.{program}
-use Rattle.sequence.specs.Check.{Checked}
+use Rattle.spec_sequence.specs.Program.{program}
+use Rattle.spec_sequence.specs.Check.{Checked}
 use Rattle.states.specs.StateRecord.{Decoded, holds, encodeState}
 use Rattle.states.proofs.StateLaws.{decode-encode}
 use Rattle.tick.specs.Tick.{Reply, reacts, byState, byCheck, replyOf}

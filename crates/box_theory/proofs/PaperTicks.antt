@@ -14,7 +14,7 @@ use native.Mathlib.Decide.{ℕ-discrete}
 use Rattle.spec_language.specs.Reaction.{Code}
 use Rattle.spec_language.specs.Errors.{Error}
 use Rattle.spec_language.specs.Machines.{Phase, Seen, instant, refused}
-use Rattle.sequence.specs.Program.{program}
+use Rattle.spec_sequence.specs.Program.{program}
 use Rattle.spec_base.specs.Bytes.{leBytes, leNumber}
 use Rattle.numbers.proofs.Bytes.{length-leBytes, le-round-trip}
 use Rattle.states.specs.StateRecord.{stateLength, encodeState}

@@ -14,7 +14,7 @@ use Rattle.spec_base.specs.Limits.{labelBytes, nameBytes, numberBytes}
 use Rattle.spec_base.specs.Sets as Sets
 use Rattle.spec_language.specs.Statement.{Statement}
 use Rattle.spec_language.specs.Machines.{State}
-use Rattle.sequence.specs.Rows.{Spells}
+use Rattle.spec_sequence.specs.Rows.{Spells}
 use Rattle.spec_base.specs.Bytes.{leBytes}
 use Rattle.numbers.proofs.Bytes.{length-leBytes, le-round-trip}
 use Rattle.states.specs.StateRecord.{stateLength, stateRecord, phaseIn, labelsIn, encodeState, Recorded}

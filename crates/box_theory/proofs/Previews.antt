@@ -6,7 +6,7 @@ use mathlib.Core.Logic.{_≢_, ⊎-elim}
 use mathlib.Core.List.{List, [], _∷_}
 use Rattle.box_fillings.specs.Preview as fillings
 use Rattle.box_fillings.specs.Preview.{Previewed, previewed, previewOf}
-use Rattle.sequence.specs.Rows.{rank}
+use Rattle.spec_sequence.specs.Rows.{rank}
 use Rattle.box_fillings.proofs.Numbers.{lent-left, preview-range}
 use Rattle.box_stretches.specs.Called.{called, number, memoryAfter}
 use Rattle.box_stretches.specs.Stretch.{sequenceIn, readBackIn, stateIn}

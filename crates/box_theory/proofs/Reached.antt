@@ -10,7 +10,7 @@ use mathlib.Core.List.{List, [], _∷_}
 use lib.ListN.{length}
 use borrow.Author.Tests.{eq-eqb, ne-eqb}
 use Rattle.spec_base.specs.Bytes.{leNumber}
-use Rattle.sequence.specs.Check.{checkOf}
+use Rattle.spec_sequence.specs.Check.{checkOf}
 use Rattle.spec_base.specs.Parts.{slot, zeros}
 use Rattle.numbers.proofs.Putting.{length-put, put-before}
 use Rattle.box_ledgers.specs.Ledgers as Ledgers

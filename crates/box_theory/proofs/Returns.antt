@@ -8,7 +8,7 @@ use Rattle.spec_language.specs.States.{NoSetpause}
 use Rattle.spec_language.specs.Expansion.{expand}
 use Rattle.spec_language.specs.Machines.{State, Rewriting}
 use Rattle.theory_language.proofs.Agreement.{TermOf}
-use Rattle.sequence.specs.Program.{program}
+use Rattle.spec_sequence.specs.Program.{program}
 use Rattle.states.specs.StateRecord.{encodeState}
 use Rattle.states.proofs.StateLaws.{length-state}
 use Rattle.demands.proofs.Sequence.{same-statement}

@@ -9,8 +9,8 @@ use mathlib.Core.List.{List, [], _∷_}
 use lib.ListN.{length}
 use lib.Dec.{eqb}
 use borrow.Author.Tests.{eq-eqb, ne-eqb, eqb-true}
-use Rattle.sequence.specs.Check.{checked}
-use Rattle.sequence.specs.Ceilings.{ceilingOf}
+use Rattle.spec_sequence.specs.Check.{checked}
+use Rattle.spec_sequence.specs.Ceilings.{ceilingOf}
 use Rattle.answers.specs.AnswerRecord.{reactionsIn}
 use Rattle.tick.specs.Tick.{Outcome, tickOf}
 use Rattle.demands.specs.Demands as demands

@@ -13,7 +13,7 @@ use Rattle.spec_base.specs.Sets as Sets
 use Rattle.spec_language.specs.Reaction.{react, inheritanceFirst}
 use Rattle.spec_language.specs.Expansion.{expand}
 use Rattle.spec_language.specs.Machines.{State, stateAfter}
-use Rattle.sequence.specs.Program.{program}
+use Rattle.spec_sequence.specs.Program.{program}
 use Rattle.spec_base.specs.Bytes.{leBytes}
 use Rattle.numbers.proofs.Bytes.{length-leBytes}
 use Rattle.states.specs.StateRecord.{stateLength, encodeState, holds, Recorded}

@@ -12,8 +12,8 @@ use Rattle.spec_language.specs.Rules.{Reacts}
 use Rattle.spec_language.specs.States.{NoSetpause}
 use Rattle.spec_language.specs.Expansion.{expand}
 use Rattle.spec_language.specs.Machines.{Rewriting}
-use Rattle.sequence.specs.Program.{program}
-use Rattle.sequence.specs.Rows.{Spells, ByRows}
+use Rattle.spec_sequence.specs.Program.{program}
+use Rattle.spec_sequence.specs.Rows.{Spells, ByRows}
 use Rattle.tick.specs.Tick.{Outcome, tickOf}
 use Rattle.tick.specs.TickRows.{TickRow}
 use Rattle.demands.specs.Demands as demands

@@ -14,10 +14,10 @@ use Rattle.spec_base.specs.Limits.{numberBytes}
 use Rattle.spec_language.specs.Statement.{Statement}
 use Rattle.spec_language.specs.Reaction.{inheritanceFirst}
 use Rattle.spec_language.specs.Machines.{State}
-use Rattle.sequence.specs.Program.{program}
-use Rattle.sequence.specs.Rows.{rank}
-use Rattle.sequence.specs.Check.{Checked, sound, bad, checked}
-use Rattle.sequence.proofs.Rows.{row-rank}
+use Rattle.spec_sequence.specs.Program.{program}
+use Rattle.spec_sequence.specs.Rows.{rank}
+use Rattle.spec_sequence.specs.Check.{Checked, sound, bad, checked}
+use Rattle.theory_sequence.proofs.Rows.{row-rank}
 use Rattle.spec_base.specs.Bytes.{leBytes, leNumber}
 use Rattle.numbers.proofs.Bytes.{length-leBytes}
 use Rattle.states.specs.StateRecord.{stateLength, Decoded, holds, malformed, decodeState}

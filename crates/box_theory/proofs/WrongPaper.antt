@@ -23,10 +23,10 @@ use Rattle.spec_language.specs.ReadBack.{declaredBy}
 use Rattle.spec_language.specs.Sizes.{commands, loopNesting, signalNesting}
 use Rattle.spec_language.specs.Ceiling.{ceiling}
 use Rattle.theory_language.proofs.LabelTests.{setpauses-is}
-use Rattle.sequence.specs.Commands.{commandOf}
-use Rattle.sequence.specs.Reader.{front, read}
-use Rattle.sequence.specs.Check.{Checked, sound, bad, checked, checkOf}
-use Rattle.sequence.specs.Rows.{Spells}
+use Rattle.spec_sequence.specs.Commands.{commandOf}
+use Rattle.spec_sequence.specs.Reader.{front, read}
+use Rattle.spec_sequence.specs.Check.{Checked, sound, bad, checked, checkOf}
+use Rattle.spec_sequence.specs.Rows.{Spells}
 use Rattle.spec_base.specs.Bytes.{leBytes, leNumber}
 use Rattle.states.specs.StateRecord.{encodeState, decodeState}
 use Rattle.answers.specs.AnswerRecord.{codeIn, emittedIn, encodeAnswer}

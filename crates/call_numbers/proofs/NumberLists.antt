@@ -7,8 +7,8 @@ use mathlib.Core.Bool.{Bool, true, _&&_, _||_, and-eq-true-iff}
 use mathlib.Core.List.{List}
 use lib.Dec.{ltb}
 use borrow.Author.Tests.{le-ltb}
-use Rattle.sequence.specs.Rows.{Row, rank}
-use Rattle.sequence.proofs.Rows.{row-range, row-rank}
+use Rattle.spec_sequence.specs.Rows.{Row, rank}
+use Rattle.theory_sequence.proofs.Rows.{row-range, row-rank}
 use Rattle.call_numbers.specs.Numbers.{oneOf}
 
 unfoldable pub all : (n : ℕ) → (ℕ → Bool) → Bool

@@ -12,10 +12,10 @@ use lib.Dec.{eqb, leb}
 use Rattle.spec_base.specs.Limits.{signalCount}
 use Rattle.spec_base.specs.Sets.{difference, membersFrom}
 use Rattle.spec_language.specs.Ceiling.{ceiling}
-use Rattle.sequence.specs.Program.{program}
-use Rattle.sequence.specs.Rows.{Row}
-use Rattle.sequence.specs.Check.{Checked, sound, bad, checked, checkOf}
-use Rattle.sequence.proofs.Rows.{Decides, decided, check-by-rows}
+use Rattle.spec_sequence.specs.Program.{program}
+use Rattle.spec_sequence.specs.Rows.{Row}
+use Rattle.spec_sequence.specs.Check.{Checked, sound, bad, checked, checkOf}
+use Rattle.theory_sequence.proofs.Rows.{Decides, decided, check-by-rows}
 use Rattle.states.specs.StateRecord.{phaseIn, labelsIn}
 use Rattle.recordings.specs.Record.{recordLength}
 use Rattle.recordings.specs.Recording.{blank}

@@ -15,10 +15,10 @@ use Rattle.spec_language.specs.Statement.{Statement}
 use Rattle.spec_language.specs.Sizes.{signalNesting}
 use Rattle.spec_language.specs.Ceiling.{ceiling}
 use Rattle.ceilings.proofs.Sizes.{nested}
-use Rattle.sequence.specs.Program.{program}
-use Rattle.sequence.specs.Check.{Checked, sound, bad, checked, numberOf, checkOf}
-use Rattle.sequence.specs.Ceilings.{ceilingOf}
-use Rattle.sequence.proofs.Rows.{Decides, decided, row-range}
+use Rattle.spec_sequence.specs.Program.{program}
+use Rattle.spec_sequence.specs.Check.{Checked, sound, bad, checked, numberOf, checkOf}
+use Rattle.spec_sequence.specs.Ceilings.{ceilingOf}
+use Rattle.theory_sequence.proofs.Rows.{Decides, decided, row-range}
 use Rattle.tick.specs.Tick.{tickOf}
 use Rattle.demands.specs.Demands as demands
 use Rattle.box_calls.specs.Box.{admit, release, tick, save, restore, forget, service, panel, preview, ledger, newYear}

@@ -7,9 +7,9 @@ use mathlib.Core.Bool.{Bool, true, false, _&&_, _||_}
 use mathlib.Core.Option.{Option, some, none}
 use mathlib.Core.List.{List, [], _∷_, _++_}
 use lib.Dec.{eqb, ltb}
-use Rattle.sequence.specs.Amounts.{areBytes}
-use Rattle.sequence.specs.Check.{checked, checkOf}
-use Rattle.sequence.specs.Ceilings.{ceilingOf}
+use Rattle.spec_sequence.specs.Amounts.{areBytes}
+use Rattle.spec_sequence.specs.Check.{checked, checkOf}
+use Rattle.spec_sequence.specs.Ceilings.{ceilingOf}
 use Rattle.tick.specs.Tick.{tickOf}
 use Rattle.demands.specs.Demands as demands
 use Rattle.unrolled.specs.Call as unrolled

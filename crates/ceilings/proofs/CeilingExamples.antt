@@ -7,10 +7,10 @@ use Rattle.spec_language.specs.ReadBack.{declaredBy}
 use Rattle.spec_language.specs.LabelTests.{labelsOf, everyLabel, distinct, before, wellFormed}
 use Rattle.spec_language.specs.Sizes.{commands, loopNesting, signalNesting}
 use Rattle.spec_language.specs.Ceiling.{ceiling}
-use Rattle.sequence.specs.Commands.{commandOf}
-use Rattle.sequence.specs.Reader.{front, read}
-use Rattle.sequence.specs.Check.{checked}
-use Rattle.sequence.specs.Ceilings.{ceilingOf}
+use Rattle.spec_sequence.specs.Commands.{commandOf}
+use Rattle.spec_sequence.specs.Reader.{front, read}
+use Rattle.spec_sequence.specs.Check.{checked}
+use Rattle.spec_sequence.specs.Ceilings.{ceilingOf}
 
 -- bytes, a read-back set, and the ceiling
 abbrev table : List (List ℕ × ℕ × ℕ)

@@ -10,9 +10,9 @@ use lib.Seq.{getD-drop, drop-drop}
 use Rattle.spec_base.specs.Limits.{maxBytes, maxDepth}
 use Rattle.spec_language.specs.Statement.{Statement}
 use Rattle.spec_language.specs.Sizes.{commands, loopNesting}
-use Rattle.sequence.specs.Commands.{Command, commandOf, partCount, headLength}
-use Rattle.sequence.specs.Writer.{size}
-use Rattle.sequence.proofs.Table.{byteOf, byte-is, command-at, at-most-two}
+use Rattle.spec_sequence.specs.Commands.{Command, commandOf, partCount, headLength}
+use Rattle.spec_sequence.specs.Writer.{size}
+use Rattle.theory_sequence.proofs.Table.{byteOf, byte-is, command-at, at-most-two}
 use Rattle.layout.specs.Layout.{rest, Lies}
 use Rattle.layout.proofs.Parts.{rest-is}
 use Rattle.ceilings.specs.declared.Tally.{Tally}

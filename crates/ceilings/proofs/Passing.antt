@@ -10,9 +10,9 @@ use lib.Seq.{drop-drop}
 use Rattle.spec_language.specs.Statement.{Statement, nothing}
 use Rattle.theory_language.specs.Ranks.{middle}
 use Rattle.spec_language.specs.Sizes.{commands, loopNesting}
-use Rattle.sequence.specs.Commands.{Command, commandOf, operandsOf, partCount, headLength, build}
-use Rattle.sequence.specs.Writer.{size}
-use Rattle.sequence.proofs.Table.{leaves, ones, twos, at-most-two}
+use Rattle.spec_sequence.specs.Commands.{Command, commandOf, operandsOf, partCount, headLength, build}
+use Rattle.spec_sequence.specs.Writer.{size}
+use Rattle.theory_sequence.proofs.Table.{leaves, ones, twos, at-most-two}
 use Rattle.layout.specs.Layout.{rest, secondAt, Two, Parts, Begins, Form, Lies}
 use Rattle.layout.proofs.Parts.{rest-is}
 use Rattle.ceilings.proofs.Sizes.{leaf-shape, one-shape, two-shape}

@@ -9,15 +9,15 @@ use Rattle.spec_language.specs.Sizes.{commands, loopNesting, signalNesting}
 use Rattle.spec_language.specs.Ceiling.{ceiling}
 use Rattle.theory_language.proofs.Ceiling.{commands-declared, loops-declared, nesting-declared}
 use Rattle.spec_base.specs.Limits.{maxDepth, maxSignals, readBackPlace}
-use Rattle.sequence.specs.Program.{readBackSignals, program}
-use Rattle.sequence.specs.Check.{Checked, sound, bad, checked, numberOf, checkOf}
-use Rattle.sequence.proofs.Extents.{few-signals}
+use Rattle.spec_sequence.specs.Program.{readBackSignals, program}
+use Rattle.spec_sequence.specs.Check.{Checked, sound, bad, checked, numberOf, checkOf}
+use Rattle.theory_sequence.proofs.Extents.{few-signals}
 use Rattle.layout.specs.Notes.{mostIn}
 use Rattle.checks.specs.Verdict.{Judged, Passed}
 use Rattle.checks.proofs.Passing.{as-ready}
 use Rattle.ceilings.specs.declared.Extent.{Extent}
 use Rattle.ceilings.specs.Extents.{Has, Countable, HasWith}
-use Rattle.sequence.specs.Ceilings.{ceilingOf}
+use Rattle.spec_sequence.specs.Ceilings.{ceilingOf}
 use Rattle.ceilings.specs.Ceilings.{Plannable, product}
 use Rattle.ceilings.specs.declared.Plan.the-variants.{Refused, Takes}
 use Rattle.ceilings.specs.Plans.{planOf}

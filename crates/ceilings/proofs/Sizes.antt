@@ -7,10 +7,10 @@ use native.Mathlib.Omega.{arith}
 use lib.ListN.{length, getD, length-drop, length-append}
 use Rattle.spec_language.specs.Statement.{Statement, nothing, pause, emit, exit, seq, par, loop, present, signal, try, setpause, suspend, held}
 use Rattle.spec_language.specs.Sizes.{commands, loopNesting, signalNesting}
-use Rattle.sequence.specs.Commands.{Command, commandOf, operandsOf, partCount, headLength, build}
+use Rattle.spec_sequence.specs.Commands.{Command, commandOf, operandsOf, partCount, headLength, build}
 use Rattle.spec_base.specs.Bytes.{leBytes}
-use Rattle.sequence.specs.Writer.{bytesOf, size}
-use Rattle.sequence.proofs.Table.{leaves, ones, twos, at-most-two}
+use Rattle.spec_sequence.specs.Writer.{bytesOf, size}
+use Rattle.theory_sequence.proofs.Table.{leaves, ones, twos, at-most-two}
 use Rattle.layout.specs.Layout.{rest, Parts, Form, Lies}
 use Rattle.layout.proofs.Parts.{rest-is}
 

@@ -7,10 +7,10 @@ use mathlib.Core.List.{List}
 use Rattle.spec_language.specs.Statement.{Statement}
 use Rattle.theory_language.proofs.Reactions.{some-reaction}
 use Rattle.theory_language.proofs.Theorems.{ceiling-holds}
-use Rattle.sequence.specs.Program.{program}
-use Rattle.sequence.specs.Check.{Checked, sound, bad, checked, numberOf, checkOf}
-use Rattle.sequence.specs.Ceilings.{ceilingOf}
-use Rattle.sequence.proofs.Rows.{Decides, decided, row-range}
+use Rattle.spec_sequence.specs.Program.{program}
+use Rattle.spec_sequence.specs.Check.{Checked, sound, bad, checked, numberOf, checkOf}
+use Rattle.spec_sequence.specs.Ceilings.{ceilingOf}
+use Rattle.theory_sequence.proofs.Rows.{Decides, decided, row-range}
 
 accepted-some : (readBack : ℕ) (p : Statement) → 1 ≤ ceilingOf readBack (sound p)
 accepted-some readBack p =

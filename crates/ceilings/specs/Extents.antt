@@ -7,8 +7,8 @@ use lib.ListN.{length}
 use Rattle.spec_language.specs.Statement.{Statement}
 use Rattle.spec_language.specs.Sizes.{commands, loopNesting, signalNesting}
 use Rattle.spec_base.specs.Limits.{maxBytes, maxDepth}
-use Rattle.sequence.specs.Commands.{Command, commandOf, partCount, headLength}
-use Rattle.sequence.specs.Writer.{size}
+use Rattle.spec_sequence.specs.Commands.{Command, commandOf, partCount, headLength}
+use Rattle.spec_sequence.specs.Writer.{size}
 use Rattle.layout.specs.Layout.{Lies}
 use Rattle.ceilings.specs.declared.Extent.{Extent}
 use Rattle.ceilings.specs.declared.Head.{Head}

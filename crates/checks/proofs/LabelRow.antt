@@ -12,7 +12,7 @@ use Rattle.spec_language.specs.Statement.{Statement}
 use Rattle.spec_language.specs.LabelTests.{pauses, setpauses, distinct, targeted, wellFormed}
 use Rattle.theory_language.proofs.LabelTests.{setpauses-is, distinct-is, wellFormed-is, noSetpause-formed}
 use Rattle.layout.specs.Notes.{Noted, pausesIn, setpausesIn, twiceIn}
-use Rattle.sequence.specs.Check.{labelRules, numberOf}
+use Rattle.spec_sequence.specs.Check.{labelRules, numberOf}
 
 -- d, s and x are what the code takes from the notes
 module _ (p : Statement) (notes : List ℕ) (n : Noted p notes) {d : Bool} (ed : d ≡ empty (twiceIn notes)) where

@@ -4,8 +4,8 @@ use native.Mathlib.Omega.{arith}
 use mathlib.Core.Path.{_≡_, refl, sym, _∙_}
 use mathlib.Core.List.{List}
 use Rattle.spec_base.specs.Limits.{maxDepth}
-use Rattle.sequence.specs.Check.{Checked, sound, bad, checked, numberOf, checkOf}
-use Rattle.sequence.proofs.Rows.{Decides, decided, row-range}
+use Rattle.spec_sequence.specs.Check.{Checked, sound, bad, checked, numberOf, checkOf}
+use Rattle.theory_sequence.proofs.Rows.{Decides, decided, row-range}
 use Rattle.layout.specs.Layout.{Ready}
 use Rattle.layout.specs.Known.{Sound}
 use Rattle.layout.proofs.Laid.{ready}

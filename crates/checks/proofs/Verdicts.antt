@@ -14,15 +14,15 @@ use Rattle.reading.specs.declared.reader.Reading.{Reading}
 use Rattle.reading.specs.declared.reader.Reading.the-variants.{Accepted, Refused}
 use Rattle.spec_base.specs.Limits.{maxBytes, maxDepth, maxSignals, readBackPlace}
 use Rattle.theory_language.proofs.Ceiling.{nesting-declared}
-use Rattle.sequence.specs.Reader.{Read, accepted, refused, readAll}
+use Rattle.spec_sequence.specs.Reader.{Read, accepted, refused, readAll}
 use Rattle.spec_language.specs.Sizes.{signalNesting}
-use Rattle.sequence.specs.Writer.{Written}
-use Rattle.sequence.specs.Program.{readBackSignals, program}
+use Rattle.spec_sequence.specs.Writer.{Written}
+use Rattle.spec_sequence.specs.Program.{readBackSignals, program}
 use Rattle.layout.specs.Layout.{Lies}
 use Rattle.layout.specs.Notes.{Noted}
 use Rattle.reading.specs.Reading.{readingOf, Reads}
-use Rattle.sequence.specs.Check.{sound, bad, labelRules, afterRead, numberOf, checked, checkOf}
-use Rattle.sequence.proofs.Sound as Sound
+use Rattle.spec_sequence.specs.Check.{sound, bad, labelRules, afterRead, numberOf, checked, checkOf}
+use Rattle.theory_sequence.proofs.Sound as Sound
 use Rattle.layout.proofs.Noting as Noting
 use Rattle.layout.proofs.Laid.{lies, ready}
 use Rattle.layout.specs.Known.{Known}

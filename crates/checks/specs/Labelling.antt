@@ -6,7 +6,7 @@ use Rattle.spec_language.specs.Statement.{Statement}
 use Rattle.spec_base.specs.Limits.{maxDepth}
 use Rattle.layout.specs.Layout.{Lies}
 use Rattle.layout.specs.Notes.{Noted}
-use Rattle.sequence.specs.Check.{labelRules, numberOf}
+use Rattle.spec_sequence.specs.Check.{labelRules, numberOf}
 
 -- r is the number that the label rules give the statement that lies there and was noted
 abbrev pub ByLabels : (bs notes : List ℕ) (r : ℕ) → Type 0

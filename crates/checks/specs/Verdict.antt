@@ -3,8 +3,8 @@ use Prim.Native.Nat.{ℕ}
 use mathlib.Core.Path.{_≡_}
 use mathlib.Core.List.{List}
 use Rattle.spec_language.specs.Statement.{Statement}
-use Rattle.sequence.specs.Writer.{Ranged}
-use Rattle.sequence.specs.Check.{sound, checked, checkOf}
+use Rattle.spec_sequence.specs.Writer.{Ranged}
+use Rattle.spec_sequence.specs.Check.{sound, checked, checkOf}
 use Rattle.layout.specs.Known.{Known}
 
 pub record Judged (bs : List ℕ) (readBack : ℕ) (t notes : List ℕ) (r : ℕ) : Type 0 where

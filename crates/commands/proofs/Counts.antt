@@ -8,7 +8,7 @@ use native.Mathlib.Decide.{decLt}
 use native.Mathlib.Omega.{arith}
 use lib.Dec.{eqb}
 use borrow.Author.Tests.{eqb-true, eqb-false, ne-eqb}
-use Rattle.sequence.specs.Commands.{Command, commandOf, operandCount, partCount, inRange}
+use Rattle.spec_sequence.specs.Commands.{Command, commandOf, operandCount, partCount, inRange}
 use Rattle.commands.specs.declared.Count.the-variants.{NoCommand, Of}
 use Rattle.commands.specs.Counts.{counted, operandsAt, partsAt, countOf, isLeaf, operandInRange}
 use Rattle.commands.specs.Printed.{operandsPrinted, partsPrinted}

@@ -11,12 +11,12 @@ use lib.Ieee.{binary32, ofBits, inUnsigned}
 use borrow.Author.Tests.{lt-ltb, le-ltb}
 use Rattle.spec_base.specs.Limits.{signalCount}
 use Rattle.spec_base.specs.Bytes.{numberAt}
-use Rattle.sequence.specs.Amounts.{areBytes}
-use Rattle.sequence.specs.Commands.{Command, commandOf, operandCount, operandsOf, partCount, bytesAt, inRange, litresFit, headLength}
-use Rattle.sequence.specs.Reader.{Front, front}
+use Rattle.spec_sequence.specs.Amounts.{areBytes}
+use Rattle.spec_sequence.specs.Commands.{Command, commandOf, operandCount, operandsOf, partCount, bytesAt, inRange, litresFit, headLength}
+use Rattle.spec_sequence.specs.Reader.{Front, front}
 use Rattle.layout.specs.Walk.{headOf, rowUnit}
-use Rattle.sequence.proofs.Table.{byteOf, command-of-byte, leaves, free, no-amount}
-use Rattle.sequence.proofs.Front.{Fronts, front-is, bytes-taken}
+use Rattle.theory_sequence.proofs.Table.{byteOf, command-of-byte, leaves, free, no-amount}
+use Rattle.theory_sequence.proofs.Front.{Fronts, front-is, bytes-taken}
 
 pub heads : (s : List ℕ) (f : Front) → Fronts s f → headOf f ≡ headOf (front s)
 heads s f v = ap headOf (sym (front-is s f v))

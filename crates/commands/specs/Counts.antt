@@ -5,7 +5,7 @@ use mathlib.Core.List.{[], _∷_}
 use mathlib.Core.Option.{Option, none, some}
 use lib.Dec.{eqb, ltb}
 use Rattle.spec_base.specs.Limits.{signalCount}
-use Rattle.sequence.specs.Commands.{Command, commandOf, operandCount, partCount, inRange}
+use Rattle.spec_sequence.specs.Commands.{Command, commandOf, operandCount, partCount, inRange}
 use Rattle.commands.specs.declared.Count.{Count}
 use Rattle.commands.specs.declared.Count.the-variants.{NoCommand, Of}
 

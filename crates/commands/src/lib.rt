@@ -1,12 +1,12 @@
 // The table of commands (01, 'Commands'; 02, items 1 and 2) by cases on the command byte, with no constant array, and the head of a
 // command: its own bytes, or so many units for the row that turns it down (rows 3 to 5 and 18).
 ghost use mathlib.Core.Path.{_≡_};
-ghost use Rattle.sequence.specs.Commands.{commandOf};
+ghost use Rattle.spec_sequence.specs.Commands.{commandOf};
 ghost use Rattle.commands.specs.Counts.{countOf, operandsAt, partsAt, operandInRange, isLeaf};
 ghost use mathlib.Core.Bool.{true, false};
 ghost use Prim.Native.Nat.{_<_};
 ghost use lib.ListN.{length, getD};
-ghost use Rattle.sequence.specs.Reader.{front};
+ghost use Rattle.spec_sequence.specs.Reader.{front};
 ghost use Rattle.layout.specs.Walk.{headOf};
 
 // A count, or that the byte has no command.

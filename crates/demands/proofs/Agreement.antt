@@ -20,9 +20,9 @@ use Rattle.spec_language.specs.Machines.{State, stateAfter, byLabels, addsByLab
 use Rattle.theory_language.proofs.Agreement.{TermOf, step}
 use Rattle.theory_language.proofs.ReadBack.{noSetpause-declared}
 use Rattle.theory_language.proofs.Litres.{agree-added}
-use Rattle.sequence.specs.Program.{readBackSignals, program}
-use Rattle.sequence.specs.Check.{Checked, checkOf}
-use Rattle.sequence.specs.Rows.{Spells}
+use Rattle.spec_sequence.specs.Program.{readBackSignals, program}
+use Rattle.spec_sequence.specs.Check.{Checked, checkOf}
+use Rattle.spec_sequence.specs.Rows.{Spells}
 use Rattle.spec_base.specs.Bytes.{leBytes}
 use Rattle.states.specs.StateRecord.{stateLength, Decoded, holds, encodeState, phaseIn, Recorded}
 use Rattle.answers.specs.AnswerRecord.{answerLength}

@@ -11,8 +11,8 @@ use Rattle.spec_language.specs.Reactions.{reactionsBy}
 use Rattle.spec_language.specs.LabelTests.{labelsOf, everyLabel, distinct, before, wellFormed, valid}
 use Rattle.spec_language.specs.States.{active}
 use Rattle.spec_language.specs.Expansion.{expand}
-use Rattle.sequence.specs.Commands.{commandOf}
-use Rattle.sequence.specs.Reader.{front, read}
+use Rattle.spec_sequence.specs.Commands.{commandOf}
+use Rattle.spec_sequence.specs.Reader.{front, read}
 use Rattle.spec_base.specs.Bytes.{leBytes, leNumber}
 use Rattle.states.specs.StateRecord.{encodeState, decodeState}
 use Rattle.answers.specs.AnswerRecord.{answerLength, encodeAnswer}

@@ -13,8 +13,8 @@ use Rattle.spec_language.specs.States.{active, Valid}
 use Rattle.spec_language.specs.LabelTests.{activeLabels}
 use Rattle.spec_language.specs.Expansion.{expand}
 use Rattle.spec_language.specs.ReadBack.{declaredBy, declared}
-use Rattle.sequence.specs.Writer.{Ranged}
-use Rattle.sequence.proofs.Source.{ranged-at}
+use Rattle.spec_sequence.specs.Writer.{Ranged}
+use Rattle.theory_sequence.proofs.Source.{ranged-at}
 
 -- ---- each emit and each exit is in its range, inside held suspends too; so in a ranged statement and in its expansions
 abbrev pub Bounded : Statement → Type 0

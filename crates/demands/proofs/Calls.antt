@@ -8,9 +8,9 @@ use Rattle.spec_language.specs.Reaction.{Code, gives}
 use Rattle.spec_language.specs.States.{NoSetpause}
 use Rattle.spec_language.specs.Machines.{Rewriting}
 use Rattle.spec_language.specs.Rules.{Reacts}
-use Rattle.sequence.specs.Program.{program}
-use Rattle.sequence.specs.Check.{checkOf}
-use Rattle.sequence.specs.Rows.{Spells}
+use Rattle.spec_sequence.specs.Program.{program}
+use Rattle.spec_sequence.specs.Check.{checkOf}
+use Rattle.spec_sequence.specs.Rows.{Spells}
 use Rattle.tick.specs.Tick.{Outcome, outcome, tickOf}
 use Rattle.tick.specs.Paper.{Call, paper}
 use Rattle.demands.specs.Demands.{number, outcomes, Admitted, StandsAt, Derived, Shows, TickMeets, Chain, done, call, report, cleared}

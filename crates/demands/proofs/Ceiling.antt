@@ -18,14 +18,14 @@ use Rattle.spec_language.specs.ReadBack.{declaredBy}
 use Rattle.spec_language.specs.Instants.{instant}
 use Rattle.theory_language.proofs.Ceiling.{fresh-below, resumed-below}
 use Rattle.theory_language.proofs.Dearest.{hundred-fresh, hundred-resumed, hundred-free}
-use Rattle.sequence.specs.Commands.{commandOf}
-use Rattle.sequence.specs.Reader.{front, read}
-use Rattle.sequence.specs.Program.{program}
-use Rattle.sequence.specs.Check.{Checked, sound, bad, checked, checkOf}
-use Rattle.sequence.specs.Ceilings.{ceilingOf}
-use Rattle.sequence.proofs.Rows.{Decides, decided}
-use Rattle.sequence.specs.Rows.{Spells}
-use Rattle.sequence.proofs.Writer.{reads-what-is-written}
+use Rattle.spec_sequence.specs.Commands.{commandOf}
+use Rattle.spec_sequence.specs.Reader.{front, read}
+use Rattle.spec_sequence.specs.Program.{program}
+use Rattle.spec_sequence.specs.Check.{Checked, sound, bad, checked, checkOf}
+use Rattle.spec_sequence.specs.Ceilings.{ceilingOf}
+use Rattle.theory_sequence.proofs.Rows.{Decides, decided}
+use Rattle.spec_sequence.specs.Rows.{Spells}
+use Rattle.theory_sequence.proofs.Writer.{reads-what-is-written}
 use Rattle.spec_base.specs.Bytes.{leNumber}
 use Rattle.states.specs.StateRecord.{labelsIn}
 use Rattle.answers.specs.AnswerRecord.{answerLength, reactionsIn}

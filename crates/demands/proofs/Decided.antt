@@ -8,8 +8,8 @@ use Rattle.spec_language.specs.Statement.{Statement}
 use Rattle.spec_language.specs.Reaction.{Code, Reaction, gives, react}
 use Rattle.spec_language.specs.Rules.{Reacts}
 use Rattle.theory_language.proofs.Rules.{reacts-is}
-use Rattle.sequence.specs.Check.{checkOf}
-use Rattle.sequence.specs.Rows.{Row, ByRows}
+use Rattle.spec_sequence.specs.Check.{checkOf}
+use Rattle.spec_sequence.specs.Rows.{Row, ByRows}
 use Rattle.tick.specs.Tick.{Outcome, outcome, tickOf}
 use Rattle.tick.specs.TickRows.{TickRow}
 use Rattle.tick.specs.Paper.{Call}

@@ -14,9 +14,9 @@ use Rattle.spec_language.specs.Reaction.{gives, react, inheritanceFirst}
 use Rattle.spec_language.specs.Expansion.{expand}
 use Rattle.spec_language.specs.Instants.{instant}
 use Rattle.spec_language.specs.Machines.{State, stateAfter}
-use Rattle.sequence.specs.Program.{program}
-use Rattle.sequence.specs.Check.{checkOf}
-use Rattle.sequence.proofs.Rows.{check-by-rows}
+use Rattle.spec_sequence.specs.Program.{program}
+use Rattle.spec_sequence.specs.Check.{checkOf}
+use Rattle.theory_sequence.proofs.Rows.{check-by-rows}
 use Rattle.spec_base.specs.Bytes.{leNumber}
 use Rattle.states.specs.StateRecord.{stateLength, Decoded, encodeState, decodeState, phaseIn, labelsIn, Recorded}
 use Rattle.answers.specs.AnswerRecord.{answerLength}

@@ -23,9 +23,9 @@ use Rattle.theory_language.proofs.SignalOrders.{wrong-named}
 use Rattle.theory_language.proofs.Derivations.{first-use}
 use Rattle.theory_language.proofs.Reactions.{rules-used}
 use Rattle.theory_language.proofs.LabelTests.{valid-is}
-use Rattle.sequence.specs.Program.{program}
-use Rattle.sequence.specs.Check.{checkOf}
-use Rattle.sequence.proofs.Rows.{check-by-rows}
+use Rattle.spec_sequence.specs.Program.{program}
+use Rattle.spec_sequence.specs.Check.{checkOf}
+use Rattle.theory_sequence.proofs.Rows.{check-by-rows}
 use Rattle.states.specs.StateRecord.{stateLength, Decoded, holds, decodeState, phaseIn, labelsIn}
 use Rattle.answers.specs.AnswerRecord.{answerLength, encodeAnswer, codeByte, kindIn, placeIn, reactionsIn}
 use Rattle.tick.specs.Tick.{written, tickBy, tickOf}

@@ -12,9 +12,9 @@ use Rattle.sets.proofs.Lists.{members-none}
 use Rattle.spec_language.specs.Statement.{Scope, local, Statement, nothing, pause, emit, exit, seq, par, loop, present, signal, try, setpause, suspend, held}
 use Rattle.spec_language.specs.Errors.{Error, instantaneous, notReactive, notDeterministic}
 use Rattle.spec_language.specs.Places.{Part, PartOf, seq₁, seq₂, par₁, par₂, loop₁, present₁, present₂, signal₁, try₁, suspend₁, Place, At}
-use Rattle.sequence.specs.Writer.{bytesOf, size, Ranged, PlacedAt}
-use Rattle.sequence.specs.Program.{readBackSignals, program}
-use Rattle.sequence.specs.Rows.{Spells}
+use Rattle.spec_sequence.specs.Writer.{bytesOf, size, Ranged, PlacedAt}
+use Rattle.spec_sequence.specs.Program.{readBackSignals, program}
+use Rattle.spec_sequence.specs.Rows.{Spells}
 use Rattle.demands.specs.PlaceNamed.{PlaceNamed, of-loop, of-signal, of-declaration}
 use Rattle.demands.proofs.ErrorPlaces.{AllErrors, errors-declared}
 

@@ -16,11 +16,11 @@ use Rattle.spec_language.specs.Instants.{start}
 use Rattle.spec_language.specs.Machines.{State}
 use Rattle.spec_language.specs.ReadBack.{declaredBy, declared}
 use Rattle.theory_language.proofs.ReadBack.{expand-declared, declared-unread}
-use Rattle.sequence.specs.Reader.{Read, accepted, refused, read}
+use Rattle.spec_sequence.specs.Reader.{Read, accepted, refused, read}
 use Rattle.spec_language.specs.Sizes.{signalNesting}
-use Rattle.sequence.specs.Program.{readBackSignals, program}
-use Rattle.sequence.specs.Check.{Checked, sound, bad, afterRead, checked, checkOf, numberOf}
-use Rattle.sequence.proofs.Sound as reader
+use Rattle.spec_sequence.specs.Program.{readBackSignals, program}
+use Rattle.spec_sequence.specs.Check.{Checked, sound, bad, afterRead, checked, checkOf, numberOf}
+use Rattle.theory_sequence.proofs.Sound as reader
 use Rattle.states.specs.StateRecord.{stateLength, Decoded, holds, malformed, decodeState}
 use Rattle.answers.specs.AnswerRecord.{answerLength}
 use Rattle.tick.specs.Tick.{outcome, Reply, reacts, byState, byCheck, replyOf, replied, tickBy, tickOf}

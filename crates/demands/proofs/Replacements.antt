@@ -14,16 +14,16 @@ use Rattle.spec_language.specs.Reactions.{reactionsBy}
 use Rattle.spec_language.specs.Places.{seq₁, seq₂, Place, At}
 use Rattle.spec_language.specs.States.{NoSetpause}
 use Rattle.spec_language.specs.LabelTests.{labelsOf, everyLabel, distinct, before, wellFormed}
-use Rattle.sequence.specs.Commands.{commandOf}
+use Rattle.spec_sequence.specs.Commands.{commandOf}
 use Rattle.spec_language.specs.ReadBack.{declaredBy}
-use Rattle.sequence.specs.Reader.{front, read}
+use Rattle.spec_sequence.specs.Reader.{front, read}
 use Rattle.spec_language.specs.Sizes.{signalNesting}
-use Rattle.sequence.specs.Check.{checkOf, checked}
-use Rattle.sequence.specs.Rows.{Spells, rank}
-use Rattle.sequence.specs.Program.{program}
-use Rattle.sequence.proofs.Rows.{row-rank}
+use Rattle.spec_sequence.specs.Check.{checkOf, checked}
+use Rattle.spec_sequence.specs.Rows.{Spells, rank}
+use Rattle.spec_sequence.specs.Program.{program}
+use Rattle.theory_sequence.proofs.Rows.{row-rank}
 use Rattle.spec_language.specs.Machines.{stateAfter, Rewriting}
-use Rattle.sequence.proofs.Writer.{reads-what-is-written}
+use Rattle.theory_sequence.proofs.Writer.{reads-what-is-written}
 use Rattle.spec_base.specs.Bytes.{leBytes, leNumber}
 use Rattle.states.proofs.StateLaws.{length-state}
 use Rattle.states.specs.StateRecord.{stateLength, labelsAt, phaseIn, labelsIn, encodeState, decodeState}

@@ -23,15 +23,15 @@ use Rattle.spec_base.specs.Limits.{maxBytes, maxDepth, maxSignals, placeBytes, 
 use Rattle.theory_language.proofs.ReadBack.{source-declared, distinct-declared, targeted-declared, wellFormed-declared, valid-declared}
 use Rattle.theory_language.proofs.Ceiling.{fresh-below, resumed-below, ceiling-within, commands-declared, loops-declared, nesting-declared}
 use Rattle.theory_language.proofs.LabelTests.{distinct-is, targeted-is, wellFormed-is, valid-is}
-use Rattle.sequence.specs.Reader as Reader
-use Rattle.sequence.specs.Writer.{Ranged}
-use Rattle.sequence.specs.Program.{readBackSignals, program}
-use Rattle.sequence.specs.Check.{Checked, sound, bad, checked, numberOf, checkOf}
-use Rattle.sequence.specs.Rows.{Spells, Row, row-2}
-use Rattle.sequence.proofs.Extents.{extent, few-signals}
-use Rattle.sequence.proofs.Writer.{reads-what-is-written}
-use Rattle.sequence.proofs.Source.{spells-source}
-use Rattle.sequence.proofs.Rows.{Decides, decided, row-range}
+use Rattle.spec_sequence.specs.Reader as Reader
+use Rattle.spec_sequence.specs.Writer.{Ranged}
+use Rattle.spec_sequence.specs.Program.{readBackSignals, program}
+use Rattle.spec_sequence.specs.Check.{Checked, sound, bad, checked, numberOf, checkOf}
+use Rattle.spec_sequence.specs.Rows.{Spells, Row, row-2}
+use Rattle.theory_sequence.proofs.Extents.{extent, few-signals}
+use Rattle.theory_sequence.proofs.Writer.{reads-what-is-written}
+use Rattle.theory_sequence.proofs.Source.{spells-source}
+use Rattle.theory_sequence.proofs.Rows.{Decides, decided, row-range}
 use Rattle.states.specs.StateRecord.{stateLength, Decoded, decodeState, Recorded}
 use Rattle.answers.specs.AnswerRecord.{answerLength}
 use Rattle.tick.specs.Tick.{outcome, byState, replyOf, replied, tickBy, tickOf}

@@ -20,8 +20,8 @@ use Rattle.theory_language.proofs.Rules.{wrong-is}
 use Rattle.theory_language.proofs.SignalOrders as orders
 use Rattle.theory_language.proofs.Reactions.{reactions-unchanged, reactions-kept}
 use Rattle.spec_base.specs.Bytes.{leBytes}
-use Rattle.sequence.specs.Program.{program}
-use Rattle.sequence.specs.Check.{Checked, sound, bad, checked, checkOf}
+use Rattle.spec_sequence.specs.Program.{program}
+use Rattle.spec_sequence.specs.Check.{Checked, sound, bad, checked, checkOf}
 use Rattle.states.specs.StateRecord.{stateLength, Decoded, holds, malformed, decodeState, encodeState}
 use Rattle.answers.specs.AnswerRecord.{answerLength, encodeAnswer, codeIn, codeByte}
 use Rattle.tick.specs.Tick.{Outcome, outcome, written, Reply, byState, byCheck, replyBy, replyOf, replied, tickBy, tickOf}

@@ -14,13 +14,13 @@ use Rattle.spec_language.specs.SignalOrders.{overlap}
 use Rattle.spec_language.specs.Rules.{Reacts}
 use Rattle.spec_language.specs.Sizes.{commands}
 use Rattle.spec_language.specs.Ceiling.{LoopFree, hundred}
-use Rattle.sequence.specs.Ceilings.{ceilingOf}
+use Rattle.spec_sequence.specs.Ceilings.{ceilingOf}
 use Rattle.spec_language.specs.States.{NoSetpause, Valid}
 use Rattle.spec_language.specs.Expansion.{expand}
 use Rattle.spec_language.specs.Machines.{State, Rewriting, erase}
-use Rattle.sequence.specs.Program.{program}
-use Rattle.sequence.specs.Check.{numberOf, checked, checkOf}
-use Rattle.sequence.specs.Rows.{Spells}
+use Rattle.spec_sequence.specs.Program.{program}
+use Rattle.spec_sequence.specs.Check.{numberOf, checked, checkOf}
+use Rattle.spec_sequence.specs.Rows.{Spells}
 use Rattle.states.specs.StateRecord.{stateLength, encodeState}
 use Rattle.answers.specs.AnswerRecord.{answerLength, codeIn, kindIn, placeIn, reactionsIn}
 use Rattle.tick.specs.Tick.{Outcome, outcome, tickBy, tickOf}

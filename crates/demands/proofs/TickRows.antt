@@ -15,11 +15,11 @@ use Rattle.spec_language.specs.States.{Valid}
 use Rattle.spec_language.specs.LabelTests.{valid}
 use Rattle.spec_language.specs.Machines.{State}
 use Rattle.theory_language.proofs.LabelTests.{valid-is}
-use Rattle.sequence.specs.Program.{program}
-use Rattle.sequence.specs.Check.{Checked, sound, bad, checked}
-use Rattle.sequence.specs.Rows.{Spells, rank, ByRows}
-use Rattle.sequence.proofs.ByRows.{rank-least, refused-by, accepted-by}
-use Rattle.sequence.proofs.Rows.{Decides, decided, row-range, row-rank}
+use Rattle.spec_sequence.specs.Program.{program}
+use Rattle.spec_sequence.specs.Check.{Checked, sound, bad, checked}
+use Rattle.spec_sequence.specs.Rows.{Spells, rank, ByRows}
+use Rattle.theory_sequence.proofs.ByRows.{rank-least, refused-by, accepted-by}
+use Rattle.theory_sequence.proofs.Rows.{Decides, decided, row-range, row-rank}
 use Rattle.states.specs.StateRecord.{stateLength, Decoded, holds, malformed, decode, decodeState, phaseIn, labelsIn}
 use Rattle.answers.specs.AnswerRecord.{answerLength}
 use Rattle.tick.specs.Tick.{outcome, byState, byCheck, replyOf, replied, tickBy, tickOf}

@@ -15,8 +15,8 @@ use Rattle.spec_language.specs.Reactions.{reactions, rulesUsed}
 use Rattle.spec_language.specs.States.{NoSetpause, Valid}
 use Rattle.spec_language.specs.Expansion.{expand}
 use Rattle.spec_language.specs.Machines.{shown, stateAfter, Rewriting}
-use Rattle.sequence.specs.Program.{program}
-use Rattle.sequence.specs.Rows.{Spells, Row, ByRows}
+use Rattle.spec_sequence.specs.Program.{program}
+use Rattle.spec_sequence.specs.Rows.{Spells, Row, ByRows}
 use Rattle.states.specs.StateRecord.{stateLength, phaseIn, labelsIn, encodeState}
 use Rattle.answers.specs.AnswerRecord.{reactionsAt, answerLength, answerRecord, codeIn, kindIn, placeIn, emittedIn, reactionsIn, codeByte}
 use Rattle.tick.specs.Tick.{Outcome, outcome, tickOf}

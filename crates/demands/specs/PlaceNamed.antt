@@ -8,7 +8,7 @@ use Rattle.spec_base.specs.Limits.{readBackPlace}
 use Rattle.spec_base.specs.Sets.{none}
 use Rattle.spec_language.specs.Statement.{local, Statement, loop, signal}
 use Rattle.spec_language.specs.Places.{Place, At}
-use Rattle.sequence.specs.Rows.{Spells}
+use Rattle.spec_sequence.specs.Rows.{Spells}
 
 pub data PlaceNamed (sequence : List ℕ) (readBack kind place : ℕ) : Type 0 where
   -- a loop or a signal of the statement, by the offset of its command byte

@@ -8,10 +8,10 @@ use lib.Dec.{eqb, leb, ltb}
 use Rattle.spec_language.specs.Reaction.{inheritanceFirst}
 use Rattle.spec_language.specs.ReadBack.{AgreeOutside}
 use Rattle.spec_base.specs.Limits.{maxBytes}
-use Rattle.sequence.specs.Reader as Reader
-use Rattle.sequence.specs.Reader.{Read, accepted, readAll}
-use Rattle.sequence.specs.Program.{readBackSignals}
-use Rattle.sequence.specs.Check.{Checked, sound, bad, labelRules}
+use Rattle.spec_sequence.specs.Reader as Reader
+use Rattle.spec_sequence.specs.Reader.{Read, accepted, readAll}
+use Rattle.spec_sequence.specs.Program.{readBackSignals}
+use Rattle.spec_sequence.specs.Check.{Checked, sound, bad, labelRules}
 use Rattle.states.specs.StateRecord.{stateLength, decodeState}
 use Rattle.answers.specs.AnswerRecord.{answerLength}
 use Rattle.tick.specs.Tick.{Outcome, outcome, Reply, refused, byState, replied}

@@ -23,12 +23,12 @@ use Rattle.theory_language.proofs.Figure5.{valid-active}
 use Rattle.theory_language.proofs.Resume.{expand-by}
 use Rattle.spec_language.specs.States.{Valid}
 use Rattle.theory_language.proofs.ReadBack.{expand-declared}
-use Rattle.sequence.specs.Program.{readBackSignals, program}
+use Rattle.spec_sequence.specs.Program.{readBackSignals, program}
 use Rattle.labels.specs.Labels.{labelSet}
 use Rattle.labels.proofs.LabelValues.{labelSet-of}
 use Rattle.labels.specs.declared.Labels.{Labels}
-use Rattle.sequence.specs.Writer.{Ranged}
-use Rattle.sequence.specs.Check.{Checked, sound, bad, checked, numberOf, checkOf}
+use Rattle.spec_sequence.specs.Writer.{Ranged}
+use Rattle.spec_sequence.specs.Check.{Checked, sound, bad, checked, numberOf, checkOf}
 use Rattle.reaction.specs.Completions.{completionOf}
 use Rattle.reaction.specs.Reactions.{reactionOf}
 use Rattle.reaction.specs.declared.Reaction.{Reaction}

@@ -2,8 +2,8 @@
 // loops (02, item 13), and the replay of a recording (02, item 14).
 ghost use mathlib.Core.Path.{_≡_};
 ghost use mathlib.Core.List.{[], _∷_};
-ghost use Rattle.sequence.specs.Check.{checked, checkOf};
-ghost use Rattle.sequence.specs.Ceilings.{ceilingOf};
+ghost use Rattle.spec_sequence.specs.Check.{checked, checkOf};
+ghost use Rattle.spec_sequence.specs.Ceilings.{ceilingOf};
 ghost use Rattle.demands.specs.Demands.{TickMeets};
 ghost use Rattle.replays.specs.Replay.{replayed, replayOf};
 ghost use Rattle.box_stretches.specs.Called.{called};

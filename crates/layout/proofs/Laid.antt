@@ -9,16 +9,16 @@ use native.Mathlib.Numerals.{sub-one}
 use lib.ListN.{length, drop, getD, length-drop}
 use Rattle.spec_language.specs.Statement.{Statement, nothing}
 use Rattle.theory_language.specs.Ranks.{middle}
-use Rattle.sequence.specs.Commands.{Command, commandOf, partCount, inRange, litresFit, headLength, declares, build}
+use Rattle.spec_sequence.specs.Commands.{Command, commandOf, partCount, inRange, litresFit, headLength, declares, build}
 use Rattle.spec_base.specs.Limits.{lastCommand, maxBytes}
-use Rattle.sequence.specs.Reader.{accepted, read}
-use Rattle.sequence.specs.Writer.{size}
+use Rattle.spec_sequence.specs.Reader.{accepted, read}
+use Rattle.spec_sequence.specs.Writer.{size}
 use Rattle.layout.specs.Layout.{rest, secondAt, Marked, Two, Parts, Begins, Form, AtFront, Lies, Ready, Pair}
 use Rattle.layout.proofs.Parts.{rest-is}
-use Rattle.sequence.proofs.Table.{byteOf, byte-is, command-of-byte, last-byte}
-use Rattle.sequence.proofs.Front.{Fronted}
-use Rattle.sequence.proofs.Inversion.{Meets, met, no-level}
-use Rattle.sequence.proofs.Sound.{sound, count-within}
+use Rattle.theory_sequence.proofs.Table.{byteOf, byte-is, command-of-byte, last-byte}
+use Rattle.theory_sequence.proofs.Front.{Fronted}
+use Rattle.theory_sequence.proofs.Inversion.{Meets, met, no-level}
+use Rattle.theory_sequence.proofs.Sound.{sound, count-within}
 use Rattle.layout.proofs.Marks.{marked-one, Marks, marked-two}
 
 -- ---- one level, by what is known of the parts

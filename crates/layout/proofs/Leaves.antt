@@ -7,11 +7,11 @@ use lib.ListN.{getD}
 use borrow.Author.Tests.{ltb-true}
 use Rattle.spec_language.specs.Statement.{nothing}
 use Rattle.spec_base.specs.Limits.{labelCount, signalCount, maxBytes}
-use Rattle.sequence.specs.Commands.{Command, operandsOf, partCount, inRange, build}
+use Rattle.spec_sequence.specs.Commands.{Command, operandsOf, partCount, inRange, build}
 use Rattle.layout.specs.Notes.{pausesCounted, notePause, noteSetpause, noteFarm, noteWithin}
 use Rattle.layout.specs.Walk.{Notable, LeafNoted}
-use Rattle.sequence.proofs.Table.{byteOf, byte-is, command-at, leaves}
-use Rattle.sequence.proofs.Front.{Fronted}
+use Rattle.theory_sequence.proofs.Table.{byteOf, byte-is, command-at, leaves}
+use Rattle.theory_sequence.proofs.Front.{Fronted}
 
 -- ---- by the byte b and the first operand byte x of the command
 module _ (b x : ℕ) (m : List ℕ) where

@@ -8,11 +8,11 @@ use lib.ListN.{getD, length, set, length-append, length-set}
 use lib.Seq.{getD-set-same, getD-set-other}
 use Rattle.spec_language.specs.Statement.{pure, litres, Statement, nothing, pause, emit, exit, seq, par, loop, present, signal, try, setpause, suspend, held}
 use Rattle.theory_language.specs.Ranks.{middle}
-use Rattle.sequence.specs.Commands.{Command, partCount, headLength, build}
-use Rattle.sequence.specs.Writer.{bytesOf, size, Ranged}
+use Rattle.spec_sequence.specs.Commands.{Command, partCount, headLength, build}
+use Rattle.spec_sequence.specs.Writer.{bytesOf, size, Ranged}
 use Rattle.layout.specs.Layout.{HasSecond, putSecond, Marked}
 use Rattle.layout.specs.Walk.{Entered}
-use Rattle.sequence.proofs.Table.{leaves, ones, twos}
+use Rattle.theory_sequence.proofs.Table.{leaves, ones, twos}
 
 -- a statement that bytes spell has some
 some-bytes : (p : Statement) → Ranged p → 0 < size p

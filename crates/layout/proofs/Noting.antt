@@ -27,7 +27,7 @@ use Rattle.theory_language.specs.Ranks.{pauseCount, rank}
 use Rattle.spec_language.specs.Sizes.{signalNesting}
 use Rattle.theory_language.proofs.LabelTests.{once-both}
 use Rattle.theory_language.specs.Farms.{farmOf, farmsOf}
-use Rattle.sequence.specs.Writer.{bytesOf, size, Ranged}
+use Rattle.spec_sequence.specs.Writer.{bytesOf, size, Ranged}
 use Rattle.layout.specs.Notes.{pausesIn, setpausesIn, twiceIn, pausesCounted, mostIn, farmsIn, rankIn, noteCount, noNotes, wordAt, inWord, notePause, noteSetpause, noteFarm, noteEmission, noteSignals, noteWithin, note, Noted}
 
 -- the words of both sets hold what they have room for

@@ -9,18 +9,18 @@ use lib.Seq.{drop-drop, getD-set-other}
 use Rattle.spec_language.specs.Statement.{Statement, nothing}
 use Rattle.theory_language.specs.Ranks.{middle}
 use Rattle.spec_base.specs.Limits.{maxBytes, maxSignals}
-use Rattle.sequence.specs.Commands.{Command, commandOf, operandCount, bytesAt, firstOperand, partCount, headLength, declares, build}
-use Rattle.sequence.specs.Reader.{Read, accepted, refused, Front, command, bad, front, lastPart, firstPart, readParts, read}
-use Rattle.sequence.specs.Writer.{size, Ranged}
+use Rattle.spec_sequence.specs.Commands.{Command, commandOf, operandCount, bytesAt, firstOperand, partCount, headLength, declares, build}
+use Rattle.spec_sequence.specs.Reader.{Read, accepted, refused, Front, command, bad, front, lastPart, firstPart, readParts, read}
+use Rattle.spec_sequence.specs.Writer.{size, Ranged}
 use Rattle.layout.specs.Layout.{rest, putSecond}
 use Rattle.layout.specs.Notes.{pausesCounted, noteCount, noteSignals, noteWithin}
 use Rattle.layout.specs.Walk.{rowUnit, headOf, Readable, Notable, LeafNoted, Entered, Done, Fitting, LeafRead, pairRead}
-use Rattle.sequence.proofs.Table.{byteOf, command-of-byte, command-at, leaves, ones, twos, undeclared}
+use Rattle.theory_sequence.proofs.Table.{byteOf, command-of-byte, command-at, leaves, ones, twos, undeclared}
 use Rattle.layout.proofs.Parts.{rest-is}
-use Rattle.sequence.proofs.Front.{Fronted, fronted, Fronts, front-is}
-use Rattle.sequence.proofs.Inversion.{refuses-bad, refuses-deep, refuses-crowded, enters}
-use Rattle.sequence.proofs.Refusals.{Small, front-small, Rowed, rowed}
-use Rattle.sequence.proofs.Sound.{sound, count-within}
+use Rattle.theory_sequence.proofs.Front.{Fronted, fronted, Fronts, front-is}
+use Rattle.theory_sequence.proofs.Inversion.{refuses-bad, refuses-deep, refuses-crowded, enters}
+use Rattle.theory_sequence.proofs.Refusals.{Small, front-small, Rowed, rowed}
+use Rattle.theory_sequence.proofs.Sound.{sound, count-within}
 use Rattle.layout.proofs.Noting.{noting, count-size}
 use Rattle.layout.proofs.Leaves.{notable}
 use Rattle.layout.proofs.Marks.{entered-leaf, entered-one, entered-two}

@@ -9,8 +9,8 @@ use lib.ListN.{getD, length, take, drop, set}
 use Rattle.spec_language.specs.Statement.{Statement, nothing, pause, emit, exit, seq, par, loop, present, signal, try, setpause, suspend, held}
 use Rattle.theory_language.specs.Ranks.{middle}
 use Rattle.spec_base.specs.Limits.{maxBytes}
-use Rattle.sequence.specs.Commands.{Command, commandOf, operandsOf, partCount, inRange, litresFit, headLength, build}
-use Rattle.sequence.specs.Writer.{size}
+use Rattle.spec_sequence.specs.Commands.{Command, commandOf, operandsOf, partCount, inRange, litresFit, headLength, build}
+use Rattle.spec_sequence.specs.Writer.{size}
 
 -- the bytes from n on, as a part of a slice
 abbrev pub rest : ℕ → List ℕ → List ℕ

@@ -7,8 +7,8 @@ use mathlib.Core.List.{List}
 use lib.ListN.{getD, length, drop}
 use Rattle.spec_language.specs.Statement.{Statement, nothing}
 use Rattle.spec_base.specs.Limits.{labelCount, signalCount, maxBytes, maxSignals}
-use Rattle.sequence.specs.Commands.{Command, commandOf, partCount, firstOperand, headLength, build}
-use Rattle.sequence.specs.Reader.{Read, accepted, refused, Front, command, bad, lastPart, firstPart, read}
+use Rattle.spec_sequence.specs.Commands.{Command, commandOf, partCount, firstOperand, headLength, build}
+use Rattle.spec_sequence.specs.Reader.{Read, accepted, refused, Front, command, bad, lastPart, firstPart, read}
 use Rattle.layout.specs.Layout.{Marked}
 use Rattle.layout.specs.Notes.{pausesCounted, noteCount, noteWithin}
 

@@ -13,7 +13,7 @@ use Rattle.sets.proofs.Lists.{members-none, members-lowest}
 use Rattle.spec_language.specs.Statement.{Statement, reported, signal}
 use Rattle.theory_language.specs.Traced.{startTraced, signalTraced, signalOnce}
 use Rattle.spec_language.specs.ReadBack.{declaredBy, declared}
-use Rattle.sequence.specs.Program.{readBackSignals, program}
+use Rattle.spec_sequence.specs.Program.{readBackSignals, program}
 use Rattle.reaction.specs.declared.Reaction.{Reaction}
 use Rattle.reaction.specs.Reactions.{FromOne, FromTwo, Realizes}
 use Rattle.reaction.proofs.Accumulating.{farms-reported, farms-reported-once}

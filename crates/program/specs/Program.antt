@@ -7,7 +7,7 @@ use Rattle.labels.specs.Labels.{labelSet}
 use Rattle.spec_language.specs.Statement.{Statement}
 use Rattle.theory_language.specs.Traced.{startTraced}
 use Rattle.theory_language.specs.RankedExpansion.{expandBy}
-use Rattle.sequence.specs.Program.{program}
+use Rattle.spec_sequence.specs.Program.{program}
 use Rattle.layout.specs.Layout.{Lies}
 use Rattle.reaction.specs.declared.Reaction.{Reaction}
 use Rattle.reaction.specs.Reactions.{reactionTo, Realizes}

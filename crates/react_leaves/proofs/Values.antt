@@ -16,10 +16,10 @@ use Rattle.spec_language.specs.Statement as Esterel
 use Rattle.spec_language.specs.Statement.{nothing}
 use Rattle.spec_language.specs.Reaction.{ended, gives}
 use Rattle.spec_language.specs.Litres.{amount, brought}
-use Rattle.sequence.specs.Amounts.{areBytes, floatIn}
-use Rattle.sequence.specs.Commands.{Command, bytesAt}
-use Rattle.sequence.proofs.Table.{byteOf}
-use Rattle.sequence.proofs.Front.{bytes-taken}
+use Rattle.spec_sequence.specs.Amounts.{areBytes, floatIn}
+use Rattle.spec_sequence.specs.Commands.{Command, bytesAt}
+use Rattle.theory_sequence.proofs.Table.{byteOf}
+use Rattle.theory_sequence.proofs.Front.{bytes-taken}
 use Rattle.layout.specs.Layout.{Begins}
 use Rattle.reaction.specs.Reactions.{cappedOf, alone, AccumulatesAt}
 use Rattle.reaction.proofs.Accumulating.{farms-more, farms-none}

@@ -6,8 +6,8 @@ use mathlib.Core.Option.{Option, none, some}
 use native.Mathlib.Omega.{arith}
 use lib.Dec.{eqb}
 use borrow.Author.Tests.{ne-eqb}
-use Rattle.sequence.specs.Commands.{Command, commandOf, operandCount, partCount, declares}
-use Rattle.sequence.proofs.Table.{byteOf, byte-is, unnamed}
+use Rattle.spec_sequence.specs.Commands.{Command, commandOf, operandCount, partCount, declares}
+use Rattle.theory_sequence.proofs.Table.{byteOf, byte-is, unnamed}
 use Rattle.reading.specs.Steps.{isChoice, isDeclaration}
 
 choice : (c : Command) → eqb (byteOf c) 7 ≡ (eqb (partCount c) 2 && eqb (operandCount c) 1)

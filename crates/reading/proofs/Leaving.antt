@@ -6,8 +6,8 @@ use mathlib.Core.Option.{some}
 use mathlib.Core.List.{List, _∷_}
 use native.Mathlib.Omega.{arith}
 use lib.ListN.{length, getD}
-use Rattle.sequence.specs.Commands.{Command, commandOf, operandCount, partCount, inRange}
-use Rattle.sequence.proofs.Table.{byteOf, command-of-byte, command-at}
+use Rattle.spec_sequence.specs.Commands.{Command, commandOf, operandCount, partCount, inRange}
+use Rattle.theory_sequence.proofs.Table.{byteOf, command-of-byte, command-at}
 use Rattle.commands.specs.Counts.{partsAt, isLeaf}
 use Rattle.commands.proofs.Counts.{without-parts}
 use Rattle.layout.specs.Walk.{Notable, LeafNoted, Fitting, Ahead}

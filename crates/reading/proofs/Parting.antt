@@ -4,8 +4,8 @@ use mathlib.Core.Path.{_≡_, refl, sym}
 use mathlib.Core.Bool.{true, false, _&&_, false≢true}
 use native.Mathlib.Omega.{arith}
 use lib.Dec.{eqb}
-use Rattle.sequence.specs.Commands.{Command, operandCount, partCount, headLength, declares}
-use Rattle.sequence.proofs.Table.{byteOf}
+use Rattle.spec_sequence.specs.Commands.{Command, operandCount, partCount, headLength, declares}
+use Rattle.theory_sequence.proofs.Table.{byteOf}
 
 module _ (P : Command → Type 0) where
   with-parts : P Command.loop → P Command.signal → P Command.try → P Command.suspend → P Command.seq → P Command.par → P Command.present

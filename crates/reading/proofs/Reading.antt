@@ -6,10 +6,10 @@ use native.Mathlib.Omega.{arith}
 use lib.ListN.{length, length-replicate}
 use Rattle.spec_language.specs.Statement.{Statement}
 use Rattle.spec_base.specs.Limits.{maxBytes, maxDepth, maxSignals}
-use Rattle.sequence.specs.Reader.{Read, accepted, refused, read}
+use Rattle.spec_sequence.specs.Reader.{Read, accepted, refused, read}
 use Rattle.spec_language.specs.Sizes.{signalNesting}
-use Rattle.sequence.proofs.Refusals.{Small, Rowed, rowed}
-use Rattle.sequence.proofs.Sound.{sound, count-within}
+use Rattle.theory_sequence.proofs.Refusals.{Small, Rowed, rowed}
+use Rattle.theory_sequence.proofs.Sound.{sound, count-within}
 use Rattle.layout.specs.Layout.{rest, Marked}
 use Rattle.layout.specs.Notes.{pausesCounted, mostIn, noteCount, noNotes, note}
 use Rattle.layout.specs.Walk.{rowUnit, Readable, Entered, Done}

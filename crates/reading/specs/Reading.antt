@@ -5,7 +5,7 @@ use mathlib.Core.List.{List}
 use lib.ListN.{length}
 use Rattle.spec_language.specs.Statement.{Statement}
 use Rattle.spec_base.specs.Limits.{maxBytes, maxSignals}
-use Rattle.sequence.specs.Reader.{Read, accepted, refused, readAll}
+use Rattle.spec_sequence.specs.Reader.{Read, accepted, refused, readAll}
 use Rattle.spec_language.specs.Sizes.{signalNesting}
 use Rattle.layout.specs.Layout.{Marked}
 use Rattle.layout.specs.Notes.{noNotes, note}

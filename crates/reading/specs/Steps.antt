@@ -6,7 +6,7 @@ use mathlib.Core.Option.{Option, none, some}
 use mathlib.Core.List.{List}
 use lib.Dec.{eqb}
 use Rattle.spec_base.specs.Limits.{maxSignals}
-use Rattle.sequence.specs.Commands.{Command, operandCount, partCount, declares}
+use Rattle.spec_sequence.specs.Commands.{Command, operandCount, partCount, declares}
 use Rattle.layout.specs.Notes.{noteSignals}
 
 -- has the command of a byte, if there is one, two parts behind an operand?

@@ -4,7 +4,7 @@ ghost use mathlib.Core.List.{List, _∷_};
 ghost use Prim.Native.Nat.{ℕ, _≤_, _<_};
 ghost use lib.Dec.{eqb};
 ghost use Rattle.spec_base.specs.Limits.{maxBytes, maxSignals};
-ghost use Rattle.sequence.specs.Commands.{Command, commandOf, inRange};
+ghost use Rattle.spec_sequence.specs.Commands.{Command, commandOf, inRange};
 ghost use Rattle.layout.specs.Layout.{putSecond};
 ghost use Rattle.layout.specs.Notes.{pausesCounted};
 ghost use Rattle.reading.specs.Steps.{isChoice, isDeclaration, Declared};

@@ -14,7 +14,7 @@ use Rattle.theory_language.specs.RankedExpansion.{expandBy}
 use Rattle.spec_language.specs.Machines.{State}
 use Rattle.labels.specs.Labels.{labelSet}
 use Rattle.labels.specs.declared.Labels.{Labels}
-use Rattle.sequence.specs.Program.{program}
+use Rattle.spec_sequence.specs.Program.{program}
 use Rattle.checks.specs.Verdict.{Passed}
 use Rattle.reaction.specs.declared.Reaction.{Reaction}
 use Rattle.reaction.specs.Reactions.{reactionOf}

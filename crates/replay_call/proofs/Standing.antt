@@ -21,10 +21,10 @@ use Rattle.spec_language.specs.Expansion.{expand}
 use Rattle.theory_language.proofs.LabelTests.{valid-is, distinct-is, pauses-is}
 use Rattle.theory_language.proofs.Ranks.{rank-lt}
 use Rattle.theory_language.proofs.Counts.{few-pauses}
-use Rattle.sequence.proofs.Source.{ranged-at}
-use Rattle.sequence.specs.Writer.{Ranged}
-use Rattle.sequence.specs.Program.{program}
-use Rattle.sequence.specs.Check.{Checked, sound, checkOf}
+use Rattle.theory_sequence.proofs.Source.{ranged-at}
+use Rattle.spec_sequence.specs.Writer.{Ranged}
+use Rattle.spec_sequence.specs.Program.{program}
+use Rattle.spec_sequence.specs.Check.{Checked, sound, checkOf}
 use Rattle.labels.specs.Labels.{labelSet}
 use Rattle.labels.specs.declared.Labels.{Labels}
 use Rattle.labels.proofs.LabelValues.{labelSet-of}

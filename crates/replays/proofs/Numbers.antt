@@ -7,8 +7,8 @@ use mathlib.Core.Logic.{_≢_, _↔_}
 use mathlib.Core.List.{List}
 use lib.ListN.{length}
 use borrow.Author.Tests.{eq-eqb, ne-eqb}
-use Rattle.sequence.specs.Check.{Checked, sound, bad, checked, numberOf, checkOf}
-use Rattle.sequence.proofs.Rows.{Decides, decided, row-range}
+use Rattle.spec_sequence.specs.Check.{Checked, sound, bad, checked, numberOf, checkOf}
+use Rattle.theory_sequence.proofs.Rows.{Decides, decided, row-range}
 use Rattle.recordings.specs.Record.{recordLength}
 use Rattle.replays.specs.Replay.{placeOf, Replayed, replayed, number, place, replayOf}
 

@@ -10,9 +10,9 @@ use borrow.Author.Tests.{eqb-true}
 use Rattle.spec_language.specs.Statement.{Statement}
 use Rattle.spec_language.specs.States.{NoSetpause}
 use Rattle.spec_language.specs.Machines.{Rewriting}
-use Rattle.sequence.specs.Program.{program}
-use Rattle.sequence.specs.Check.{checkOf}
-use Rattle.sequence.specs.Rows.{Spells}
+use Rattle.spec_sequence.specs.Program.{program}
+use Rattle.spec_sequence.specs.Check.{checkOf}
+use Rattle.spec_sequence.specs.Rows.{Spells}
 use Rattle.states.specs.StateRecord.{stateLength}
 use Rattle.tick.specs.Tick.{Outcome, outcome, tickOf}
 use Rattle.demands.specs.Demands.{number, stateAfterwards, outcomes, cleared, report}

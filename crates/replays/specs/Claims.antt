@@ -8,9 +8,9 @@ use lib.ListN.{length, getElem?}
 use Rattle.spec_language.specs.Statement.{Statement}
 use Rattle.spec_language.specs.States.{NoSetpause}
 use Rattle.spec_language.specs.Machines.{Rewriting}
-use Rattle.sequence.specs.Program.{program}
-use Rattle.sequence.specs.Check.{checkOf}
-use Rattle.sequence.specs.Rows.{Spells}
+use Rattle.spec_sequence.specs.Program.{program}
+use Rattle.spec_sequence.specs.Check.{checkOf}
+use Rattle.spec_sequence.specs.Rows.{Spells}
 use Rattle.states.specs.StateRecord.{phaseIn}
 use Rattle.answers.specs.AnswerRecord.{codeIn, kindIn, placeIn, emittedIn, reactionsIn}
 use Rattle.tick.specs.Paper.{Report, reacted, paper}

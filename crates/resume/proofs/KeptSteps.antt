@@ -14,8 +14,8 @@ use Rattle.sets.proofs.Words.{words-of, words-none, stored-here}
 use Rattle.spec_language.specs.Statement.{local, Statement, pause, seq, par, loop, present, signal, try, suspend}
 use Rattle.theory_language.specs.Ranks.{middle, labelsBy}
 use Rattle.theory_language.proofs.Ranks.{labels-by-none}
-use Rattle.sequence.specs.Commands.{Command}
-use Rattle.sequence.proofs.Table.{byteOf}
+use Rattle.spec_sequence.specs.Commands.{Command}
+use Rattle.theory_sequence.proofs.Table.{byteOf}
 use Rattle.layout.specs.Layout.{Lies, Ready}
 use Rattle.layout.proofs.Laid.{taken-apart, command}
 use Rattle.resume.specs.Labelled.{Joined}

@@ -14,9 +14,9 @@ use Rattle.theory_language.specs.Traced as Traces
 use Rattle.theory_language.specs.Traced.{startTraced, seqTraced, parTraced, tryTraced, signalTraced, signalOnce, heldTraced, stoppedTraced}
 use Rattle.theory_language.specs.RankedExpansion.{expandBy, resumeTraced}
 use Rattle.theory_language.proofs.Trees.{start-traced-held}
-use Rattle.sequence.specs.Commands.{Command, commandOf}
+use Rattle.spec_sequence.specs.Commands.{Command, commandOf}
 use Rattle.layout.specs.Layout.{Form, Lies}
-use Rattle.sequence.proofs.Table.{byteOf, byte-is}
+use Rattle.theory_sequence.proofs.Table.{byteOf, byte-is}
 use Rattle.layout.proofs.Laid.{opened, by-command}
 use Rattle.reaction.specs.declared.Reaction.{Reaction}
 use Rattle.reaction.specs.Reactions.{reactionOf, FromOne, FromTwo, Realizes}

@@ -10,7 +10,7 @@ use lib.ListN.{length, take, drop, length-drop, drop-of-length-le}
 use lib.Seq.{drop-nil, drop-drop}
 use lib.Dec.{eqb}
 use borrow.Author.Tests.{le-leb, lt-leb}
-use Rattle.sequence.specs.Check.{checkOf}
+use Rattle.spec_sequence.specs.Check.{checkOf}
 use Rattle.spec_base.specs.Bytes.{leNumber}
 use Rattle.runs.specs.File.{File, cut, refused, runs, byNumber, fileOf, sequenceLength, inputsAt, sequenceIn, readBackIn, words, inputsIn, first, whole}
 

@@ -15,9 +15,9 @@ use Rattle.spec_language.specs.Errors.{Error, noError, firstError, blame}
 use Rattle.spec_language.specs.Reactions.{reactions}
 use Rattle.spec_language.specs.States.{NoSetpause}
 use Rattle.spec_language.specs.Machines.{Seen, Rewriting, seen, termAfter, byRewriting, run}
-use Rattle.sequence.specs.Program.{program}
-use Rattle.sequence.specs.Check.{checkOf}
-use Rattle.sequence.specs.Rows.{Spells}
+use Rattle.spec_sequence.specs.Program.{program}
+use Rattle.spec_sequence.specs.Check.{checkOf}
+use Rattle.spec_sequence.specs.Rows.{Spells}
 use Rattle.states.specs.StateRecord.{phaseIn}
 use Rattle.answers.specs.AnswerRecord.{answerLength, codeIn, kindIn, placeIn, emittedIn, codeByte}
 use Rattle.tick.specs.Tick.{Outcome, outcome, tickOf}

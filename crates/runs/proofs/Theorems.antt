@@ -6,8 +6,8 @@ use mathlib.Core.List.{List, _++_, map}
 use lib.ListN.{length}
 use Rattle.spec_language.specs.Statement.{Statement}
 use Rattle.spec_language.specs.States.{NoSetpause}
-use Rattle.sequence.specs.Program.{program}
-use Rattle.sequence.specs.Rows.{Spells}
+use Rattle.spec_sequence.specs.Program.{program}
+use Rattle.spec_sequence.specs.Rows.{Spells}
 use Rattle.runs.specs.Text.{heading, ending}
 use Rattle.runs.specs.File.{runs, fileOf}
 use Rattle.runs.specs.Listing.{Entry, lines, listingOf}

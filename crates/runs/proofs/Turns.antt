@@ -8,7 +8,7 @@ use mathlib.Core.List.{List, [], _∷_, _++_, append-nil, append-assoc}
 use lib.ListN.{length}
 use Rattle.demands.specs.Demands.{stateAfterwards}
 use Rattle.runs.specs.Text.{ending}
-use Rattle.sequence.specs.Check.{checkOf}
+use Rattle.spec_sequence.specs.Check.{checkOf}
 use Rattle.runs.specs.File.{File, cut, refused, runs, byNumber, fileOf, whole, sequenceIn, readBackIn, inputsIn}
 use Rattle.runs.specs.Listing.{entryFrom, lineOf, ticked, isOver, entries, lines, listed, listingOf}
 use Rattle.runs.specs.Stages.{Stage, opening, running, closing, finished, opened, turnOf, turns}

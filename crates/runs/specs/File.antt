@@ -6,7 +6,7 @@ use mathlib.Core.Option.{Option, none, some}
 use mathlib.Core.List.{List, [], _∷_}
 use lib.ListN.{length, take, drop}
 use lib.Dec.{eqb, leb}
-use Rattle.sequence.specs.Check.{checkOf}
+use Rattle.spec_sequence.specs.Check.{checkOf}
 use Rattle.spec_base.specs.Bytes.{leNumber}
 use Rattle.spec_base.specs.Limits.{signalBytes}
 

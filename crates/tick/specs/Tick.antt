@@ -10,8 +10,8 @@ use Rattle.spec_language.specs.Reaction.{Order, inheritanceFirst}
 use Rattle.spec_language.specs.Expansion.{expand}
 use Rattle.spec_language.specs.Instants.{Instant, instant, startBy}
 use Rattle.spec_language.specs.Machines.{State, stateAfter}
-use Rattle.sequence.specs.Program.{program}
-use Rattle.sequence.specs.Check.{Checked, sound, bad, checked}
+use Rattle.spec_sequence.specs.Program.{program}
+use Rattle.spec_sequence.specs.Check.{Checked, sound, bad, checked}
 use Rattle.states.specs.StateRecord.{stateLength, Decoded, holds, malformed, encodeState, decodeState}
 use Rattle.answers.specs.AnswerRecord.{answerLength, encodeAnswer}
 

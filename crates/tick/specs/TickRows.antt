@@ -7,7 +7,7 @@ use lib.ListN.{length}
 use Rattle.spec_base.specs.Sets.{none}
 use Rattle.spec_language.specs.Statement.{Statement}
 use Rattle.spec_language.specs.States.{Valid}
-use Rattle.sequence.specs.Rows.{Spells, Row}
+use Rattle.spec_sequence.specs.Rows.{Spells, Row}
 use Rattle.states.specs.StateRecord.{stateLength, phaseIn, labelsIn}
 use Rattle.answers.specs.AnswerRecord.{answerLength}
 

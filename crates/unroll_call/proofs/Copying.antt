@@ -10,11 +10,11 @@ use lib.Seq.{getD-drop, drop-drop}
 use Rattle.spec_base.specs.Limits.{maxBytes}
 use Rattle.spec_base.specs.Bytes.{leBytes}
 use Rattle.spec_language.specs.Statement.{Statement, nothing}
-use Rattle.sequence.specs.Commands.{Command, commandOf, operandCount, partCount, operandsOf, litresFit, headLength, bytesAt, build}
-use Rattle.sequence.specs.Amounts.{amountIn, amountBytes}
-use Rattle.sequence.specs.Writer.{bytesOf, size}
-use Rattle.sequence.proofs.Amounts.{amount-read}
-use Rattle.sequence.proofs.Table.{byteOf, byte-is, leaves, ones, twos, at-most-two, at-most-five, many}
+use Rattle.spec_sequence.specs.Commands.{Command, commandOf, operandCount, partCount, operandsOf, litresFit, headLength, bytesAt, build}
+use Rattle.spec_sequence.specs.Amounts.{amountIn, amountBytes}
+use Rattle.spec_sequence.specs.Writer.{bytesOf, size}
+use Rattle.theory_sequence.proofs.Amounts.{amount-read}
+use Rattle.theory_sequence.proofs.Table.{byteOf, byte-is, leaves, ones, twos, at-most-two, at-most-five, many}
 use Rattle.layout.specs.Layout.{rest, secondAt, Two, Parts, Form, Lies}
 use Rattle.layout.proofs.Parts.{rest-is}
 use Rattle.commands.specs.declared.Count.{Count}

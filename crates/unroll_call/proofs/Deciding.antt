@@ -12,10 +12,10 @@ use Rattle.spec_base.specs.Limits.{maxBytes, maxDepth}
 use Rattle.spec_base.specs.Sets.{none, empty}
 use Rattle.spec_language.specs.Statement.{Statement}
 use Rattle.spec_language.specs.LabelTests.{setpauses}
-use Rattle.sequence.specs.Writer.{bytesOf, size}
+use Rattle.spec_sequence.specs.Writer.{bytesOf, size}
 use Rattle.spec_language.specs.Sizes.{depthOf}
-use Rattle.sequence.specs.Check.{Checked, sound, bad, checked, numberOf, checkOf}
-use Rattle.sequence.proofs.Rows.{Decides, decided, row-range}
+use Rattle.spec_sequence.specs.Check.{Checked, sound, bad, checked, numberOf, checkOf}
+use Rattle.theory_sequence.proofs.Rows.{Decides, decided, row-range}
 use Rattle.layout.specs.Layout.{Ready}
 use Rattle.layout.specs.Notes.{setpausesIn}
 use Rattle.layout.specs.Known.{Known}

@@ -6,7 +6,7 @@ use native.Mathlib.Omega.{arith}
 use lib.ListN.{length, getD, drop, length-append}
 use borrow.Author.Tests.{ne-eqb}
 use lib.Seq.{sets, length-sets, sets-eq}
-use Rattle.sequence.specs.Commands.{bytesAt}
+use Rattle.spec_sequence.specs.Commands.{bytesAt}
 use Rattle.numbers.proofs.Writing.{sets-append}
 use Rattle.unroll_call.specs.Putting.{Put, Room, copiedByte, copiedHead, Operands, Copyable}
 

@@ -6,10 +6,10 @@ use native.Mathlib.Omega.{arith}
 use lib.ListN.{length, getD, length-append}
 use Rattle.spec_language.specs.Statement.{local, litres, Statement, nothing, pause, emit, exit, seq, par, loop, present, signal, try, setpause, suspend, held}
 use Rattle.spec_base.specs.Bytes.{leBytes}
-use Rattle.sequence.specs.Commands.{Command, partCount, headLength}
-use Rattle.sequence.specs.Writer.{bytesOf, size}
+use Rattle.spec_sequence.specs.Commands.{Command, partCount, headLength}
+use Rattle.spec_sequence.specs.Writer.{bytesOf, size}
 use Rattle.spec_language.specs.Sizes.{depthOf}
-use Rattle.sequence.proofs.Table.{byteOf}
+use Rattle.theory_sequence.proofs.Table.{byteOf}
 use Rattle.layout.specs.Layout.{rest, Parts, Lies, Ready, Pair}
 use Rattle.layout.proofs.Laid.{ready, taken-apart, begins, command}
 use Rattle.unrolled.specs.Unrolled.{copied, unrolled}

@@ -6,11 +6,11 @@ use mathlib.Core.List.{List, [], _∷_, _++_}
 use native.Mathlib.Omega.{arith}
 use lib.ListN.{length, getD}
 use Rattle.spec_language.specs.Statement.{Statement, nothing, pause, emit, exit, seq, par, loop, present, signal, try, setpause, suspend}
-use Rattle.sequence.specs.Commands.{Command, operandsOf, partCount, litresFit, headLength, build, bytesAt}
-use Rattle.sequence.specs.Amounts.{amountIn, amountBytes}
-use Rattle.sequence.specs.Writer.{bytesOf}
-use Rattle.sequence.proofs.Amounts.{amount-read}
-use Rattle.sequence.proofs.Table.{byteOf}
+use Rattle.spec_sequence.specs.Commands.{Command, operandsOf, partCount, litresFit, headLength, build, bytesAt}
+use Rattle.spec_sequence.specs.Amounts.{amountIn, amountBytes}
+use Rattle.spec_sequence.specs.Writer.{bytesOf}
+use Rattle.theory_sequence.proofs.Amounts.{amount-read}
+use Rattle.theory_sequence.proofs.Table.{byteOf}
 use Rattle.layout.specs.Layout.{rest, secondAt, Parts, Two, Lies, Ready, Pair}
 use Rattle.theory_language.specs.Ranks.{middle}
 use Rattle.layout.proofs.Laid.{ready, taken-apart, begins, command, first-ready, second-ready}

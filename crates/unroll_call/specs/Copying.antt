@@ -5,7 +5,7 @@ use mathlib.Core.Option.{some}
 use mathlib.Core.List.{List, [], _++_}
 use lib.ListN.{length, getD, drop}
 use Rattle.spec_base.specs.Limits.{maxBytes}
-use Rattle.sequence.specs.Commands.{Command, commandOf, operandsOf, partCount, headLength}
+use Rattle.spec_sequence.specs.Commands.{Command, commandOf, operandsOf, partCount, headLength}
 use Rattle.commands.specs.declared.Count.{Count}
 use Rattle.commands.specs.declared.Count.the-variants.{NoCommand, Of}
 use Rattle.unroll_call.specs.Putting.{Put, Room, copiedHead}

@@ -5,7 +5,7 @@ use mathlib.Core.Path.{_≡_}
 use mathlib.Core.List.{List}
 use Rattle.spec_language.specs.Statement.{Statement}
 use Rattle.spec_base.specs.Limits.{maxBytes, maxDepth}
-use Rattle.sequence.specs.Writer.{size}
+use Rattle.spec_sequence.specs.Writer.{size}
 use Rattle.spec_language.specs.Sizes.{depthOf}
 use Rattle.layout.specs.Layout.{Two, Lies}
 use Rattle.unrolled.specs.Unrolled.{copied, unrolled}

@@ -7,7 +7,7 @@ use lib.Dec.{eqb}
 use lib.ListN.{length, getD}
 use lib.Seq.{sets}
 use Rattle.spec_base.specs.Limits.{maxBytes}
-use Rattle.sequence.specs.Commands.{bytesAt}
+use Rattle.spec_sequence.specs.Commands.{bytesAt}
 
 -- from index i on the buffer b has got the bytes xs, and r is the index behind them
 pub record Put (i : ℕ) (xs b b′ : List ℕ) (r : ℕ) : Type 0 where

@@ -4,7 +4,7 @@ use mathlib.Core.List.{List, _∷_, _++_}
 use lib.ListN.{length}
 use Rattle.spec_language.specs.Statement.{Statement}
 use Rattle.layout.specs.Layout.{Two, Lies, Ready, Pair}
-use Rattle.sequence.specs.Writer.{bytesOf}
+use Rattle.spec_sequence.specs.Writer.{bytesOf}
 use Rattle.unrolled.specs.Unrolled.{copied, unrolled}
 use Rattle.unroll_call.specs.Putting.{Put, Room}
 

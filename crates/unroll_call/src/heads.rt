@@ -3,7 +3,7 @@ ghost use mathlib.Core.Path.{_≡_};
 ghost use mathlib.Core.List.{[], _∷_};
 ghost use Prim.Native.Nat.{_+_, _≤_};
 ghost use lib.ListN.{length, getD};
-ghost use Rattle.sequence.specs.Commands.{bytesAt};
+ghost use Rattle.spec_sequence.specs.Commands.{bytesAt};
 ghost use Rattle.unroll_call.specs.Putting.{Put, Room, copiedByte, copiedHead, Operands, Copyable};
 
 // Puts one byte at index i, and answers the index behind it.

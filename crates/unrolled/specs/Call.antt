@@ -8,9 +8,9 @@ use Rattle.spec_base.specs.Limits.{maxBytes, maxDepth}
 use Rattle.spec_base.specs.Sets.{empty}
 use Rattle.spec_language.specs.Statement.{Statement}
 use Rattle.spec_language.specs.LabelTests.{setpauses}
-use Rattle.sequence.specs.Writer.{bytesOf, size}
+use Rattle.spec_sequence.specs.Writer.{bytesOf, size}
 use Rattle.spec_language.specs.Sizes.{depthOf}
-use Rattle.sequence.specs.Check.{Checked, sound, bad, checked}
+use Rattle.spec_sequence.specs.Check.{Checked, sound, bad, checked}
 use Rattle.unrolled.specs.Unrolled.{unrolled}
 
 pub data Unrolling : Type 0 where

@@ -7,10 +7,10 @@ use mathlib.Core.List.{List}
 use lib.ListN.{take, drop}
 use Rattle.spec_language.specs.Statement.{Statement}
 use Rattle.spec_language.specs.Machines.{State, byLabels}
-use Rattle.sequence.specs.Writer.{bytesOf, size}
-use Rattle.sequence.specs.Program.{program}
-use Rattle.sequence.specs.Check.{checkOf}
-use Rattle.sequence.specs.Rows.{Spells, ByRows}
+use Rattle.spec_sequence.specs.Writer.{bytesOf, size}
+use Rattle.spec_sequence.specs.Program.{program}
+use Rattle.spec_sequence.specs.Check.{checkOf}
+use Rattle.spec_sequence.specs.Rows.{Spells, ByRows}
 use Rattle.tick.specs.Tick.{tickOf}
 use Rattle.unrolled.specs.Unrolled.{unrolled, resultOf}
 use Rattle.unrolled.specs.Call.{Unrolling, unrolling, number, refused}

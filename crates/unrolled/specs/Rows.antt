@@ -6,9 +6,9 @@ use lib.ListN.{length}
 use Rattle.spec_language.specs.Statement.{Statement}
 use Rattle.spec_language.specs.States.{NoSetpause}
 use Rattle.spec_base.specs.Limits.{maxBytes, maxDepth}
-use Rattle.sequence.specs.Writer.{size}
+use Rattle.spec_sequence.specs.Writer.{size}
 use Rattle.spec_language.specs.Sizes.{depthOf}
-use Rattle.sequence.specs.Rows.{Spells, Row}
+use Rattle.spec_sequence.specs.Rows.{Spells, Row}
 use Rattle.unrolled.specs.Unrolled.{unrolled}
 
 pub data UnrollRow (sequence : List ℕ) (readBack : ℕ) (buffer : List ℕ) : (number : ℕ) → Type 0 where

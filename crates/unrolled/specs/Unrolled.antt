@@ -2,7 +2,7 @@
 -- through; in the copy, pauses become setpauses and loops become their bodies'.
 use Prim.Native.Nat.{ℕ, _+_}
 use Rattle.spec_language.specs.Statement.{Statement, nothing, pause, emit, exit, seq, par, loop, present, signal, try, setpause, suspend, held}
-use Rattle.sequence.specs.Writer.{size}
+use Rattle.spec_sequence.specs.Writer.{size}
 
 -- the copy
 unfoldable pub copied : Statement → Statement

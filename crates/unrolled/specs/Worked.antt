@@ -20,10 +20,10 @@ use Rattle.spec_language.specs.ReadBack.{declaredBy}
 use Rattle.spec_language.specs.Expansion.{expand}
 use Rattle.spec_language.specs.Machines.{State}
 use Rattle.spec_base.specs.Bytes.{leBytes, leNumber}
-use Rattle.sequence.specs.Commands.{commandOf}
-use Rattle.sequence.specs.Reader.{front, read}
-use Rattle.sequence.specs.Writer.{bytesOf}
-use Rattle.sequence.specs.Check.{checked}
+use Rattle.spec_sequence.specs.Commands.{commandOf}
+use Rattle.spec_sequence.specs.Reader.{front, read}
+use Rattle.spec_sequence.specs.Writer.{bytesOf}
+use Rattle.spec_sequence.specs.Check.{checked}
 use Rattle.states.specs.StateRecord.{decodeState, encodeState}
 use Rattle.answers.specs.AnswerRecord.{answerLength, encodeAnswer}
 use Rattle.tick.specs.Tick.{tickBy, tickOf}

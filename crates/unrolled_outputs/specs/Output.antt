@@ -9,10 +9,10 @@ use Rattle.spec_base.specs.Sets.{member, none, only, join, subset, disjoint, me
 use Rattle.spec_language.specs.LabelTests.{labelsOf, everyLabel, distinct, before, wellFormed}
 use Rattle.spec_language.specs.Sizes.{signalNesting, depthOf}
 use Rattle.spec_language.specs.ReadBack.{declaredBy}
-use Rattle.sequence.specs.Commands.{commandOf}
-use Rattle.sequence.specs.Reader.{front, read}
-use Rattle.sequence.specs.Writer.{bytesOf}
-use Rattle.sequence.specs.Check.{checked}
+use Rattle.spec_sequence.specs.Commands.{commandOf}
+use Rattle.spec_sequence.specs.Reader.{front, read}
+use Rattle.spec_sequence.specs.Writer.{bytesOf}
+use Rattle.spec_sequence.specs.Check.{checked}
 use Rattle.spec_base.specs.Bytes.{leBytes, leNumber}
 use Rattle.runs.specs.File.{lengthBytes, readBackAt, sequenceIn, readBackIn, whole}
 use Rattle.runs.specs.Text.{inputCut, refusal, numeralIn, numeral}

@@ -6,9 +6,9 @@ use mathlib.Core.Path.{_≡_, refl, sym, ap, ap₂, _∙_}
 use mathlib.Core.Logic.{_≢_}
 use mathlib.Core.List.{List, _++_}
 use lib.ListN.{drop, take-append-drop}
-use Rattle.sequence.specs.Check.{checkOf}
-use Rattle.sequence.specs.Rows.{ByRows}
-use Rattle.sequence.proofs.Rows.{check-by-rows}
+use Rattle.spec_sequence.specs.Check.{checkOf}
+use Rattle.spec_sequence.specs.Rows.{ByRows}
+use Rattle.theory_sequence.proofs.Rows.{check-by-rows}
 use Rattle.demands.proofs.Sequence.{accepted}
 use Rattle.unrolled.specs.Call.{Unrolling, unrolling, number, refused, unrollOf}
 use Rattle.unrolled.specs.Rows.{UnrollRow, row-2-to-10}

@@ -14,12 +14,12 @@ use Rattle.spec_language.specs.States.{NoSetpause}
 use Rattle.spec_language.specs.LabelTests.{labelsOf, everyLabel, distinct, before, wellFormed}
 use Rattle.spec_language.specs.Sizes.{signalNesting, depthOf}
 use Rattle.spec_language.specs.ReadBack.{declaredBy}
-use Rattle.sequence.specs.Commands.{commandOf}
-use Rattle.sequence.specs.Reader.{front, read}
-use Rattle.sequence.specs.Writer.{bytesOf}
-use Rattle.sequence.specs.Check.{sound, checked, numberOf, checkOf}
-use Rattle.sequence.specs.Rows.{Spells}
-use Rattle.sequence.proofs.Rows.{Decides, decided}
+use Rattle.spec_sequence.specs.Commands.{commandOf}
+use Rattle.spec_sequence.specs.Reader.{front, read}
+use Rattle.spec_sequence.specs.Writer.{bytesOf}
+use Rattle.spec_sequence.specs.Check.{sound, checked, numberOf, checkOf}
+use Rattle.spec_sequence.specs.Rows.{Spells}
+use Rattle.theory_sequence.proofs.Rows.{Decides, decided}
 use Rattle.spec_base.specs.Bytes.{leBytes, leNumber}
 use Rattle.states.specs.StateRecord.{decodeState, encodeState}
 use Rattle.answers.specs.AnswerRecord.{answerLength, codeIn, encodeAnswer}

@@ -10,11 +10,11 @@ use lib.Seq.{take-at, drop-at}
 use Rattle.spec_language.specs.Statement.{Statement}
 use Rattle.spec_language.specs.Machines.{State, byLabels}
 use Rattle.spec_base.specs.Limits.{readBackPlace}
-use Rattle.sequence.specs.Writer.{bytesOf, size}
-use Rattle.sequence.specs.Program.{readBackSignals, program}
-use Rattle.sequence.specs.Check.{sound, checked, numberOf, checkOf}
-use Rattle.sequence.specs.Rows.{Spells}
-use Rattle.sequence.proofs.Rows.{row-range}
+use Rattle.spec_sequence.specs.Writer.{bytesOf, size}
+use Rattle.spec_sequence.specs.Program.{readBackSignals, program}
+use Rattle.spec_sequence.specs.Check.{sound, checked, numberOf, checkOf}
+use Rattle.spec_sequence.specs.Rows.{Spells}
+use Rattle.theory_sequence.proofs.Rows.{row-range}
 use Rattle.demands.proofs.Sequence.{same-statement}
 use Rattle.unrolled.specs.Unrolled.{unrolled, resultOf}
 use Rattle.unrolled.specs.Call.{Unrolling, unrolling, unrollOf}

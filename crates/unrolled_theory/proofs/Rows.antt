@@ -17,12 +17,12 @@ use Rattle.spec_language.specs.Statement.{Statement}
 use Rattle.spec_language.specs.States.{NoSetpause}
 use Rattle.spec_language.specs.LabelTests.{setpauses}
 use Rattle.theory_language.proofs.LabelTests.{setpauses-is}
-use Rattle.sequence.specs.Writer.{bytesOf, size}
+use Rattle.spec_sequence.specs.Writer.{bytesOf, size}
 use Rattle.spec_language.specs.Sizes.{depthOf}
-use Rattle.sequence.specs.Check.{Checked, sound, bad, checked}
-use Rattle.sequence.specs.Rows.{rank, ByRows}
-use Rattle.sequence.proofs.ByRows.{rank-least, refused-by, accepted-by}
-use Rattle.sequence.proofs.Rows.{Decides, decided, row-range, row-rank}
+use Rattle.spec_sequence.specs.Check.{Checked, sound, bad, checked}
+use Rattle.spec_sequence.specs.Rows.{rank, ByRows}
+use Rattle.theory_sequence.proofs.ByRows.{rank-least, refused-by, accepted-by}
+use Rattle.theory_sequence.proofs.Rows.{Decides, decided, row-range, row-rank}
 use Rattle.demands.proofs.Sequence.{same-statement}
 use Rattle.unrolled.specs.Unrolled.{unrolled}
 use Rattle.unrolled.specs.Call.{Unrolling, number, refused, written, fits, ofPlain, ofStatement, ofChecked, unrollOf}

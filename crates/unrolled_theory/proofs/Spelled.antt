@@ -11,14 +11,14 @@ use Rattle.spec_language.specs.Sizes.{signalNesting, depthOf}
 use Rattle.spec_language.specs.LabelTests.{distinct, targeted, wellFormed}
 use Rattle.theory_language.proofs.LabelTests.{distinct-is, targeted-is, wellFormed-is}
 use Rattle.spec_base.specs.Limits.{maxBytes, maxDepth, maxSignals, readBackPlace}
-use Rattle.sequence.specs.Reader.{accepted, readAll}
-use Rattle.sequence.specs.Writer.{bytesOf, size, Ranged, Within, PlacedAt}
-use Rattle.sequence.specs.Program.{readBackSignals, program}
-use Rattle.sequence.specs.Check.{sound, checked}
-use Rattle.sequence.specs.Rows.{Spells}
-use Rattle.sequence.proofs.Writer.{reads-what-is-written}
-use Rattle.sequence.proofs.Extents.{few-signals}
-use Rattle.sequence.proofs.Rows.{Decides, decided}
+use Rattle.spec_sequence.specs.Reader.{accepted, readAll}
+use Rattle.spec_sequence.specs.Writer.{bytesOf, size, Ranged, Within, PlacedAt}
+use Rattle.spec_sequence.specs.Program.{readBackSignals, program}
+use Rattle.spec_sequence.specs.Check.{sound, checked}
+use Rattle.spec_sequence.specs.Rows.{Spells}
+use Rattle.theory_sequence.proofs.Writer.{reads-what-is-written}
+use Rattle.theory_sequence.proofs.Extents.{few-signals}
+use Rattle.theory_sequence.proofs.Rows.{Decides, decided}
 use Rattle.unrolled.specs.Unrolled.{unrolled, placed, resultOf}
 use Rattle.unrolled_theory.proofs.Forms.{Forms, unrolled-forms, declared-forms}
 use Rattle.unrolled_theory.proofs.Labels.{nesting-same, distinct-same, targeted-test, wellFormed-test}

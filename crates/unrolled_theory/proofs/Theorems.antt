@@ -13,10 +13,10 @@ use Rattle.spec_language.specs.Sizes.{signalNesting}
 use Rattle.spec_language.specs.States.{active, Valid, Distinct, Targeted, NoSetpause, WellFormed}
 use Rattle.spec_language.specs.Machines.{State, byLabels}
 use Rattle.spec_base.specs.Limits.{readBackPlace}
-use Rattle.sequence.specs.Writer.{bytesOf}
-use Rattle.sequence.specs.Program.{readBackSignals, program}
-use Rattle.sequence.specs.Check.{sound, checked, checkOf}
-use Rattle.sequence.specs.Rows.{Spells, ByRows}
+use Rattle.spec_sequence.specs.Writer.{bytesOf}
+use Rattle.spec_sequence.specs.Program.{readBackSignals, program}
+use Rattle.spec_sequence.specs.Check.{sound, checked, checkOf}
+use Rattle.spec_sequence.specs.Rows.{Spells, ByRows}
 use Rattle.tick.specs.Tick.{tickBy, tickOf}
 use Rattle.unrolled.specs.Unrolled.{unrolled, resultOf}
 use Rattle.unrolled.specs.Call.{unrolling, number, refused, unrollOf}

@@ -18,10 +18,10 @@ use Rattle.spec_language.specs.Expansion.{expand}
 use Rattle.spec_language.specs.Instants.{instant}
 use Rattle.spec_language.specs.Machines.{State, stateAfter, addsByLabels}
 use Rattle.spec_base.specs.Bytes.{leBytes}
-use Rattle.sequence.specs.Writer.{bytesOf}
-use Rattle.sequence.specs.Program.{readBackSignals, program}
-use Rattle.sequence.specs.Check.{Checked, sound, checked, checkOf}
-use Rattle.sequence.specs.Rows.{Spells}
+use Rattle.spec_sequence.specs.Writer.{bytesOf}
+use Rattle.spec_sequence.specs.Program.{readBackSignals, program}
+use Rattle.spec_sequence.specs.Check.{Checked, sound, checked, checkOf}
+use Rattle.spec_sequence.specs.Rows.{Spells}
 use Rattle.states.specs.StateRecord.{stateLength, Decoded, holds, encodeState, Recorded}
 use Rattle.states.proofs.StateLaws.{length-state, decode-encode}
 use Rattle.answers.specs.AnswerRecord.{answerLength, encodeAnswer}

@@ -7,9 +7,9 @@ use lib.ListN.{getD}
 use Rattle.spec_base.specs.Sets.{empty, below, from}
 use Rattle.spec_language.specs.Statement.{local, Statement, seq, par, loop, present, signal, try, suspend}
 use Rattle.theory_language.specs.Ranks.{middle, ofParts, compatible}
-use Rattle.sequence.specs.Commands.{Command}
+use Rattle.spec_sequence.specs.Commands.{Command}
 use Rattle.layout.specs.Layout.{rest, Two, Lies, Ready, Pair}
-use Rattle.sequence.proofs.Table.{byteOf}
+use Rattle.theory_sequence.proofs.Table.{byteOf}
 use Rattle.layout.proofs.Parts.{rest-is}
 use Rattle.layout.proofs.Laid.{taken-apart, command}
 use Rattle.layout.specs.Joints.{jointOf}

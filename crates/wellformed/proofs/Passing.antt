@@ -16,10 +16,10 @@ use Rattle.theory_language.specs.Ranks.{middle}
 use Rattle.labels.specs.Labels.{labelSet}
 use Rattle.wellformed.specs.Rows.{rowOf, addRowBelow, Updates}
 use Rattle.spec_base.specs.Bytes.{leBytes}
-use Rattle.sequence.specs.Writer.{bytesOf, size}
-use Rattle.sequence.specs.Commands.{Command}
+use Rattle.spec_sequence.specs.Writer.{bytesOf, size}
+use Rattle.spec_sequence.specs.Commands.{Command}
 use Rattle.layout.specs.Layout.{rest, secondAt, Two, Lies, Ready}
-use Rattle.sequence.proofs.Table.{byteOf}
+use Rattle.theory_sequence.proofs.Table.{byteOf}
 use Rattle.layout.proofs.Laid.{ready, by-command, command, first-ready}
 use Rattle.layout.specs.Joints.{jointOf}
 use Rattle.wellformed.specs.declared.exclusion.Before.{Before}

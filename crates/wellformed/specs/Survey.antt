@@ -11,7 +11,7 @@ use Rattle.spec_language.specs.LabelTests.{labelsOf, pauses, triggers, Joint, a
 use Rattle.theory_language.specs.LabelRows.{further, fill}
 use Rattle.labels.specs.Labels.{labelSet}
 use Rattle.wellformed.specs.Rows.{Updates}
-use Rattle.sequence.specs.Writer.{size}
+use Rattle.spec_sequence.specs.Writer.{size}
 use Rattle.layout.specs.Layout.{Two, Lies, Ready, Pair}
 use Rattle.layout.specs.Joints.{jointOf}
 use Rattle.wellformed.specs.declared.exclusion.Before.{Before}

@@ -5,7 +5,7 @@ use native.Mathlib.Omega.{arith}
 use lib.Seq.{sets}
 use borrow.Author.Tests.{eq-eqb, ne-eqb}
 use Rattle.spec_base.specs.Bytes.{leBytes}
-use Rattle.sequence.specs.Amounts.{amountBytes}
+use Rattle.spec_sequence.specs.Amounts.{amountBytes}
 use Rattle.box_ledgers.specs.Ledgers.{totalIn}
 use Rattle.box_ledgers.proofs.Totals.{float-in, sum-no-nan, sum-bits}
 use borrow.Author.Needs.{needs}

@@ -1,6 +1,6 @@
 use mathlib.Core.Path.{sym, _∙_}
 use borrow.Author.Needs.{needs}
-use Rattle.sequence.specs.Check.{checked}
+use Rattle.spec_sequence.specs.Check.{checked}
 use Rattle.ceilings.proofs.Planning.{no-ceiling, its-ceiling}
 use Rattle.ceilings.proofs.ceiling.Statement.{statement}
 use Rattle.ceilings.proofs.ceiling.Tie as tie

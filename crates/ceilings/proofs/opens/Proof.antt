@@ -3,8 +3,8 @@ use mathlib.Core.Path.{_≡_, refl}
 use mathlib.Core.Logic.{_≢_}
 use mathlib.Core.Option.{some}
 use native.Mathlib.Omega.{arith}
-use Rattle.sequence.specs.Commands.{Command, commandOf, partCount, headLength}
-use Rattle.sequence.proofs.Table.{between, valued, last-byte}
+use Rattle.spec_sequence.specs.Commands.{Command, commandOf, partCount, headLength}
+use Rattle.theory_sequence.proofs.Table.{between, valued, last-byte}
 use Rattle.ceilings.proofs.opens.Statement.{statement}
 use Rattle.ceilings.proofs.opens.Tie as tie
 

@@ -5,8 +5,8 @@ use lib.Dec.{ltb}
 use native.Mathlib.Omega.{arith}
 use borrow.Author.Tests.{le-leb}
 use Rattle.spec_base.specs.Limits.{signalCount}
-use Rattle.sequence.specs.Commands.{Command, commandOf}
-use Rattle.sequence.proofs.Table.{byteOf, byte-is, command-of-byte}
+use Rattle.spec_sequence.specs.Commands.{Command, commandOf}
+use Rattle.theory_sequence.proofs.Table.{byteOf, byte-is, command-of-byte}
 use Rattle.commands.specs.Counts.{operandInRange}
 use Rattle.commands.proofs.in_range.Statement.{statement}
 use Rattle.commands.proofs.in_range.Tie as tie

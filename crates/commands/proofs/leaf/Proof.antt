@@ -5,11 +5,11 @@ use mathlib.Core.Option.{some}
 use mathlib.Core.List.{List}
 use native.Mathlib.Omega.{arith}
 use lib.ListN.{length, getD}
-use Rattle.sequence.specs.Commands.{Command, commandOf, operandCount}
-use Rattle.sequence.proofs.Table.{byteOf, byte-is, command-of-byte}
+use Rattle.spec_sequence.specs.Commands.{Command, commandOf, operandCount}
+use Rattle.theory_sequence.proofs.Table.{byteOf, byte-is, command-of-byte}
 use Rattle.commands.specs.Counts.{partsAt, isLeaf}
 use Rattle.commands.proofs.Counts.{some-leaf, operand-of}
-use Rattle.sequence.specs.Reader.{front}
+use Rattle.spec_sequence.specs.Reader.{front}
 use Rattle.layout.specs.Layout.{rest}
 use Rattle.layout.specs.Walk.{headOf}
 use Rattle.layout.proofs.Parts.{rest-is}

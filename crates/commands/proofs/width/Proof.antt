@@ -7,9 +7,9 @@ use native.Mathlib.Omega.{arith}
 use lib.ListN.{getD}
 use borrow.Author.Tests.{lt-ltb, le-ltb}
 use Rattle.spec_base.specs.Limits.{signalCount}
-use Rattle.sequence.specs.Commands.{Command, commandOf, operandCount, partCount}
-use Rattle.sequence.proofs.Table.{unnamed}
-use Rattle.sequence.proofs.Front.{Fronts}
+use Rattle.spec_sequence.specs.Commands.{Command, commandOf, operandCount, partCount}
+use Rattle.theory_sequence.proofs.Table.{unnamed}
+use Rattle.theory_sequence.proofs.Front.{Fronts}
 use Rattle.commands.specs.declared.Count.the-variants.{Of}
 use Rattle.commands.specs.Counts.{countOf, operandsAt, partsAt, isLeaf}
 use Rattle.commands.proofs.Counts.{of-command, of-none, with-parts}

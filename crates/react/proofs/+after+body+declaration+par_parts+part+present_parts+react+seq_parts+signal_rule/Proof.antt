@@ -6,7 +6,7 @@ use borrow.Author.Tests.{eqb-true, ltb-true}
 use Rattle.spec_base.specs.Limits.{signalCount}
 use Rattle.spec_language.specs.Statement.{local, seq, par, loop, present, signal, try, suspend}
 use Rattle.theory_language.specs.Traced.{startTraced}
-use Rattle.sequence.specs.Commands.{Command}
+use Rattle.spec_sequence.specs.Commands.{Command}
 use Rattle.layout.proofs.Laid.{ready, taken-apart, begins, whole, whole-lies}
 use Rattle.react_leaves.proofs.Steps.{nothing-step}
 use Rattle.react.proofs.Steps.{

@@ -1,6 +1,6 @@
 use borrow.Author.Needs.{needs}
 use borrow.Author.Tests.{ltb-true}
-use Rattle.sequence.specs.Commands.{Command}
+use Rattle.spec_sequence.specs.Commands.{Command}
 use Rattle.layout.proofs.Laid.{begins, by-command}
 use Rattle.react_leaves.proofs.Values.{pure-emission, litres-emission}
 use Rattle.react_leaves.proofs.Steps.{nothing-step, emit-step, exit-step, pause-step, setpause-step, last-leaf}

@@ -5,7 +5,7 @@ use borrow.Author.Needs.{needs}
 use borrow.Author.Tests.{eqb-true, ltb-true}
 use Rattle.spec_base.specs.Limits.{signalCount}
 use Rattle.spec_language.specs.Statement.{local, nothing, seq, par, loop, present, signal, try, suspend}
-use Rattle.sequence.specs.Commands.{Command}
+use Rattle.spec_sequence.specs.Commands.{Command}
 use Rattle.layout.proofs.Laid.{ready, whole, whole-lies, taken-apart, begins}
 use Rattle.react_leaves.proofs.Steps.{nothing-step}
 use Rattle.react.proofs.Steps.{front-there, front-is}

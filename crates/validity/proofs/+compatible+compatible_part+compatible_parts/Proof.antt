@@ -3,7 +3,7 @@ use native.Mathlib.Omega.{arith}
 use borrow.Author.Needs.{needs}
 use borrow.Author.Tests.{not-true, not-false}
 use Rattle.spec_language.specs.Statement.{local, seq, par, loop, present, signal, try, suspend}
-use Rattle.sequence.specs.Commands.{Command}
+use Rattle.spec_sequence.specs.Commands.{Command}
 use Rattle.layout.proofs.Laid.{ready, taken-apart, begins, first-ready, second-ready}
 use Rattle.validity.proofs.Steps.{
   here,

@@ -3,7 +3,7 @@ use native.Mathlib.Omega.{arith}
 use lib.ListN.{getD}
 use borrow.Author.Tests.{lt-ltb}
 use Rattle.spec_base.specs.Limits.{labelCount, signalCount}
-use Rattle.sequence.specs.Commands.{Command}
+use Rattle.spec_sequence.specs.Commands.{Command}
 use Rattle.layout.proofs.Leaves.{notes-none}
 use Rattle.reading.proofs.Leaving.{not-ahead, ahead-bare, notable-ahead, ahead-noted}
 use borrow.Author.Needs.{needs}

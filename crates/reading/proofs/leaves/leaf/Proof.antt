@@ -2,7 +2,7 @@ use Prim.Native.Nat.{ℕ, _+_}
 use mathlib.Core.Path.{_≡_, sym, subst}
 use native.Mathlib.Omega.{arith}
 use lib.ListN.{getD}
-use Rattle.sequence.specs.Reader.{front}
+use Rattle.spec_sequence.specs.Reader.{front}
 use Rattle.layout.specs.Walk.{headOf, Notable, LeafNoted, LeafRead}
 use Rattle.layout.proofs.Walk.{Heading, heading, head-fits, done-bad, done-deep, can-note, read-bare, read-noted}
 use Rattle.reading.proofs.Leaving.{whole}

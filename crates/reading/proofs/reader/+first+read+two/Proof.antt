@@ -8,11 +8,11 @@ use borrow.Author.Needs.{needs}
 use borrow.Author.Tests.{eqb-true, eqb-false}
 use borrow.Fn.Kinds.{In}
 use borrow.Fn.PlainCycle.{Measures, is, falls, and}
-use Rattle.sequence.specs.Commands.{partCount, headLength, declares}
-use Rattle.sequence.specs.Reader.{read as reads}
+use Rattle.spec_sequence.specs.Commands.{partCount, headLength, declares}
+use Rattle.spec_sequence.specs.Reader.{read as reads}
 use Rattle.layout.specs.Layout.{rest}
 use Rattle.layout.specs.Walk.{Readable, Done}
-use Rattle.sequence.proofs.Table.{byteOf, byte-is}
+use Rattle.theory_sequence.proofs.Table.{byteOf, byte-is}
 use Rattle.commands.proofs.Counts.{with-parts}
 use Rattle.layout.proofs.Parts.{rest-is}
 use Rattle.layout.proofs.Walk.{Heading, heading, narrow, byte, head-fits, onward, forward, within, again, fitting, done-empty, done-bad, done-deep, done-signals, done-one, done-signal, done-pair, Firsts, firsts, first-refused, both}

@@ -4,7 +4,7 @@ use mathlib.Core.List.{List}
 use native.Mathlib.Omega.{arith}
 use borrow.Author.Needs.{needs}
 use Rattle.spec_base.specs.Limits.{maxDepth, maxSignals}
-use Rattle.sequence.specs.Reader.{read}
+use Rattle.spec_sequence.specs.Reader.{read}
 use Rattle.layout.specs.Walk.{Done}
 use Rattle.layout.proofs.Parts.{rest-is}
 use Rattle.reading.proofs.Reading.{beginning, row, reads-refused, most-fits, reads-accepted}

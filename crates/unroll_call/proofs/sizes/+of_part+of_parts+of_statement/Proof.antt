@@ -2,7 +2,7 @@ use mathlib.Core.Path.{refl}
 use native.Mathlib.Omega.{arith}
 use borrow.Author.Needs.{needs}
 use Rattle.spec_language.specs.Statement.{local, litres, nothing, emit, seq, par, loop, present, signal, try, suspend}
-use Rattle.sequence.specs.Commands.{Command}
+use Rattle.spec_sequence.specs.Commands.{Command}
 use Rattle.layout.proofs.Laid.{taken-apart, first-ready, second-ready}
 use Rattle.unroll_call.proofs.Steps.{few, part-ready, pair-ready, here, loop-step, signal-step, try-step, suspend-step, parts-step, seq-step, par-step, present-step, nothing-step, deliver-step, leaf-step}
 use Prim.Native.Nat.{ℕ, _+_, _*_, _<_}

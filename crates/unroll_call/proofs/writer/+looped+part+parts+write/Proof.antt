@@ -1,7 +1,7 @@
 use mathlib.Core.Path.{refl}
 use native.Mathlib.Omega.{arith}
 use borrow.Author.Needs.{needs}
-use Rattle.sequence.specs.Commands.{Command}
+use Rattle.spec_sequence.specs.Commands.{Command}
 use Rattle.unroll_call.proofs.Putting.{put-then}
 use Rattle.unroll_call.proofs.Writing.{own-nothing, own-deliver, own-signal, own-try, own-suspend, own-seq, own-par, own-present, leaf-room, leaf-writes, one-head, one-writable, one-writes, loop-writable, loop-writes, two-head, two-writable, two-writes, other, first-writable, second-writable, loop-room, copy-ready, whole-writable, whole-writes}
 use Prim.Native.Nat.{ℕ, _+_, _*_, _<_}

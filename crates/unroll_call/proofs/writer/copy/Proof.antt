@@ -3,7 +3,7 @@ use mathlib.Core.Path.{sym, _∙_}
 use native.Mathlib.Omega.{arith}
 use lib.ListN.{length}
 use borrow.Author.Needs.{needs}
-use Rattle.sequence.specs.Commands.{operandCount, partCount}
+use Rattle.spec_sequence.specs.Commands.{operandCount, partCount}
 use Rattle.unroll_call.proofs.Copying.{Left, starts, command, here, inside, copyable, few, goes-on, ends, counted-as}
 use Rattle.unroll_call.proofs.writer.copy.Statement.{statement}
 use Rattle.unroll_call.proofs.writer.copy.Tie as tie

@@ -2,7 +2,7 @@ use native.Mathlib.Omega.{arith}
 use borrow.Author.Needs.{needs}
 use borrow.Author.Tests.{ltb-true}
 use Rattle.spec_language.specs.Statement.{litres, local, nothing, pause, emit, seq, par, loop, present, signal, try, setpause, suspend}
-use Rattle.sequence.specs.Commands.{Command}
+use Rattle.spec_sequence.specs.Commands.{Command}
 use Rattle.layout.proofs.Laid.{ready, begins, by-command}
 use Rattle.wellformed.proofs.Passing.{
   here,

@@ -1,0 +1,15 @@
+pub mod Amounts
+pub mod ByRows
+pub mod Complete
+pub mod Extents
+pub mod Front
+pub mod Inversion
+pub mod Refusals
+pub mod Rows
+pub mod Shapes
+pub mod Sound
+pub mod Source
+pub mod Table
+pub mod Theorems
+pub mod Walk
+pub mod Writer
