@@ -12,7 +12,7 @@ use Rattle.spec_sequence.specs.Program.{program}
 use Rattle.spec_sequence.specs.Check.{Checked, sound, bad, checked, numberOf, checkOf}
 use Rattle.spec_sequence.specs.Rows.{row-2}
 use Rattle.spec_base.specs.Limits.{maxBytes}
-use Rattle.demands.proofs.Sequence.{accepted}
+use Rattle.theory_tick.proofs.Sequence.{accepted}
 use Rattle.ceilings.specs.declared.Plan.{Plan}
 use Rattle.ceilings.specs.declared.Plan.the-variants.{Refused, Takes}
 use Rattle.ceilings.specs.Plans.{planOf}

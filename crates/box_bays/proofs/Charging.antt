@@ -14,16 +14,16 @@ use Rattle.spec_language.specs.Machines.{State}
 use Rattle.spec_sequence.specs.Program.{program}
 use Rattle.spec_sequence.specs.Check.{Checked, sound, bad, checked}
 use Rattle.theory_sequence.proofs.Rows.{Decides, decided, row-range}
-use Rattle.states.specs.StateRecord.{stateLength, Decoded, holds, malformed, decodeState}
-use Rattle.states.proofs.StateLaws as records
-use Rattle.answers.specs.AnswerRecord.{answerLength}
+use Rattle.spec_tick.specs.StateRecord.{stateLength, Decoded, holds, malformed, decodeState}
+use Rattle.records.proofs.StateLaws as records
+use Rattle.spec_tick.specs.AnswerRecord.{answerLength}
 use Rattle.reaction.specs.declared.Reaction.{Reaction}
 use Rattle.instants.specs.Written.{writtenFrom}
 use Rattle.instants.proofs.Lengths.{writes}
-use Rattle.tick.specs.Tick as Tick
-use Rattle.tick.specs.Tick.{Outcome, outcome}
-use Rattle.demands.specs.Demands as demands
-use Rattle.demands.specs.Demands.{stateAfterwards}
+use Rattle.spec_tick.specs.Tick as Tick
+use Rattle.spec_tick.specs.Tick.{Outcome, outcome}
+use Rattle.spec_tick.specs.Demands as demands
+use Rattle.spec_tick.specs.Demands.{stateAfterwards}
 use Rattle.instants.specs.declared.Reply.the-variants.{Refused, Reacted}
 use Rattle.instants.specs.Replies.{Replies}
 use Rattle.box_ledgers.specs.Ledgers.{ledgerLength, readingLength, passes, added, readingOf, cleared}

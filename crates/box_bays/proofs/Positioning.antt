@@ -11,8 +11,8 @@ use borrow.Author.Tests.{eq-eqb, ne-eqb, lt-ltb, le-ltb}
 use Rattle.spec_base.specs.Limits.{maxPositions}
 use Rattle.spec_base.specs.Bytes.{replaced}
 use Rattle.spec_base.specs.Parts.{slot, put}
-use Rattle.states.specs.StateRecord.{stateLength, stateRecord, phaseIn, labelsIn}
-use Rattle.states.proofs.Stores.{state-written}
+use Rattle.spec_tick.specs.StateRecord.{stateLength, stateRecord, phaseIn, labelsIn}
+use Rattle.records.proofs.StateStores.{state-written}
 use Rattle.box_positions.specs.Table.{savedLabels, placeOf, labelsFound, lookup, cleared, kept, saveOf, forgetOf}
 use Rattle.box_stretches.specs.Called.{Called, called}
 use Rattle.box_stretches.specs.Stretch.{stateAt, countAt, positionsAt, bayLength, stretchLength, stateIn, positionsIn}

@@ -11,11 +11,11 @@ use Rattle.spec_base.specs.Limits.{numberBytes}
 use Rattle.spec_base.specs.Bytes.{leBytes, replaced}
 use Rattle.numbers.proofs.Bytes.{length-leBytes}
 use Rattle.numbers.proofs.Writing.{replaced-by}
-use Rattle.answers.specs.AnswerRecord.{answerLength}
-use Rattle.recordings.specs.Record.{recordLength, recordOf, panelLength, panelOf}
-use Rattle.recordings.specs.Recording.{following}
-use Rattle.recordings_writer.proofs.Records.{record-sized}
-use Rattle.recordings_writer.proofs.Panels.{length-panel}
+use Rattle.spec_tick.specs.AnswerRecord.{answerLength}
+use Rattle.spec_tick.specs.Record.{recordLength, recordOf, panelLength, panelOf}
+use Rattle.spec_tick.specs.Recording.{following}
+use Rattle.records.proofs.Records.{record-sized}
+use Rattle.records.proofs.Panels.{length-panel}
 use Rattle.numbers.proofs.Putting.{stored}
 use Rattle.box_stretches.specs.Called.{called}
 use Rattle.box_stretches.specs.Stretch.{countAt, stretchLength, stateIn, lastNumberIn, serviceOnlyIn}

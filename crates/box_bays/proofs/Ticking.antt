@@ -5,10 +5,10 @@ use mathlib.Core.Logic.{_≢_}
 use mathlib.Core.List.{List, [], _∷_}
 use lib.ListN.{length}
 use borrow.Author.Tests.{eq-eqb}
-use Rattle.states.specs.StateRecord.{stateLength}
-use Rattle.answers.specs.AnswerRecord.{answerLength}
-use Rattle.tick.specs.Tick.{Outcome, outcome, tickBy, tickOf, replyOf}
-use Rattle.demands.proofs.Sequence.{tick-short}
+use Rattle.spec_tick.specs.StateRecord.{stateLength}
+use Rattle.spec_tick.specs.AnswerRecord.{answerLength}
+use Rattle.spec_tick.specs.Tick.{Outcome, outcome, tickBy, tickOf, replyOf}
+use Rattle.theory_tick.proofs.Sequence.{tick-short}
 use Rattle.reaction.specs.declared.Reaction.{Reaction}
 use Rattle.instants.specs.Written.{writtenFrom}
 use Rattle.instants.specs.declared.Reply.{Reply}

@@ -6,7 +6,7 @@ use limits::MAX_BYTES;
 use limits::NUMBER_BYTES;
 use limits::REACTIONS_BYTES;
 use limits::SIGNAL_BYTES;
-use states::STATE_LENGTH;
+use records::STATE_LENGTH;
 
 // Where the fields begin. Fixed by the admission:
 pub const LENGTH_BYTES: usize = 2;

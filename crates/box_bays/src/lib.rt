@@ -8,8 +8,8 @@ pub mod naming;
 ghost use mathlib.Core.Path.{_≡_};
 ghost use mathlib.Core.List.{[], _∷_};
 ghost use lib.ListN.{length, replicate, getD};
-ghost use Rattle.answers.specs.AnswerRecord.{answerLength};
-ghost use Rattle.recordings.specs.Record.{recordLength};
+ghost use Rattle.spec_tick.specs.AnswerRecord.{answerLength};
+ghost use Rattle.spec_tick.specs.Record.{recordLength};
 ghost use Rattle.instants.specs.Written.{Writable, writtenFrom};
 ghost use Rattle.instants.specs.Replies.{Replies};
 ghost use Rattle.box_ledgers.specs.Ledgers.{farmCount, NoneOutside};
@@ -21,13 +21,13 @@ use crate::fields::BAY_LENGTH;
 use crate::fields::COUNT_AT;
 use crate::fields::STATE_AT;
 use crate::fields::STRETCH_LENGTH;
-use answers::ANSWER_LENGTH;
 use instants::Reply;
 use limits::NUMBER_BYTES;
 use reaction::Deliveries;
 use reaction::Reaction;
-use recordings::PANEL_LENGTH;
-use recordings::RECORD_LENGTH;
+use records::ANSWER_LENGTH;
+use records::PANEL_LENGTH;
+use records::RECORD_LENGTH;
 
 // What a tick on what the bay holds comes to before anything is written, with the litres of the farms that its sequence names.
 fn reply_with(stretch: &[u8], input: u32, named: &mut u32, litres: &mut Deliveries) -> Reply
@@ -91,8 +91,8 @@ fn note(stretch: &mut [u8], input: u32, answer: &[u8], trace: &mut [u8])
     ensures { λ _. ⌜ called 0 (now (stretch .exit)) (now (answer .entry) ∷ now (trace .exit) ∷ [])
         ≡ recorded input (now (trace .entry)) (called 0 (now (stretch .entry)) (now (answer .entry) ∷ [])) ⌝ }
 {
-    let number = recordings_writer::following(crate::fields::count(stretch));
-    recordings_writer::write_record(trace, number, input, answer, crate::fields::state(stretch));
+    let number = records::following(crate::fields::count(stretch));
+    records::write_record(trace, number, input, answer, crate::fields::state(stretch));
     numbers::put_le(stretch, COUNT_AT, NUMBER_BYTES, number as u64);
 }
 
@@ -123,7 +123,7 @@ pub fn service(stretch: &[u8], trace: &[u8], view: &mut [u8]) -> u8
     if view.len() != RECORD_LENGTH {
         return 1;
     }
-    recordings_writer::write_service(view, trace);
+    records::write_service(view, trace);
     0
 }
 
@@ -138,7 +138,7 @@ pub fn panel(stretch: &[u8], trace: &[u8], view: &mut [u8]) -> u8
     if view.len() != PANEL_LENGTH {
         return 1;
     }
-    recordings_writer::write_panel(view, trace, crate::fields::service_only(stretch));
+    records::write_panel(view, trace, crate::fields::service_only(stretch));
     0
 }
 

@@ -26,10 +26,10 @@ fn save(stretch: &mut [u8], known: usize, name: u32) -> u8
     ensures { λ r. ⌜ called r (now (stretch .exit)) [] ≡ baySaveOf (now (stretch .entry)) name ⌝ }
 {
     let held = crate::fields::state(stretch);
-    if states::phase(held) != 1 {
+    if records::phase(held) != 1 {
         return 15;
     }
-    let labels = states::labels(held);
+    let labels = records::labels(held);
     box_positions::save(&mut stretch[POSITIONS_AT..BAY_LENGTH], known, name, labels)
 }
 
@@ -44,7 +44,7 @@ fn restore(stretch: &mut [u8], known: usize) -> u8
     }
     let saved = crate::fields::table(stretch);
     let labels = box_positions::saved_labels(saved, known);
-    states::write_state(&mut stretch[STATE_AT..COUNT_AT], states::WAITING, labels);
+    records::write_state(&mut stretch[STATE_AT..COUNT_AT], records::WAITING, labels);
     0
 }
 

@@ -12,13 +12,13 @@ use Rattle.spec_language.specs.States.{NoSetpause}
 use Rattle.spec_language.specs.Machines.{Rewriting}
 use Rattle.spec_sequence.specs.Program.{program}
 use Rattle.spec_sequence.specs.Rows.{Spells}
-use Rattle.recordings.specs.Record.{recordLength}
-use Rattle.recordings.specs.Recording.{callOn}
-use Rattle.tick.specs.Tick.{Outcome, outcome, tickOf}
-use Rattle.tick.specs.Paper as Paper
-use Rattle.tick.specs.Paper.{paper}
-use Rattle.demands.specs.Demands.{outcomes, cleared, report}
-use Rattle.demands.specs.Deliveries.{delivered, paperDelivered}
+use Rattle.spec_tick.specs.Record.{recordLength}
+use Rattle.spec_tick.specs.Recording.{callOn}
+use Rattle.spec_tick.specs.Tick.{Outcome, outcome, tickOf}
+use Rattle.spec_tick.specs.Paper as Paper
+use Rattle.spec_tick.specs.Paper.{paper}
+use Rattle.spec_tick.specs.Demands.{outcomes, cleared, report}
+use Rattle.spec_tick.specs.Deliveries.{delivered, paperDelivered}
 use Rattle.box_stretches.specs.Called.{Called, number, memoryAfter, lentAfter, first}
 use Rattle.box_stretches.specs.Stretch.{sequenceIn, readBackIn, serviceOnlyIn, stateIn, Terms, terms}
 use Rattle.box_stretches.specs.BayCalls.{delivering}

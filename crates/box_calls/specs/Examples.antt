@@ -15,7 +15,7 @@ use Rattle.spec_sequence.specs.Reader.{front, read}
 use Rattle.spec_sequence.specs.Check.{checked}
 use Rattle.spec_base.specs.Bytes.{leBytes, leNumber}
 use Rattle.spec_base.specs.Parts.{put, zeros}
-use Rattle.tick.specs.Paper as Paper
+use Rattle.spec_tick.specs.Paper as Paper
 use Rattle.box_stretches.specs.Called.{called, number}
 use Rattle.box_stretches.specs.Stretch.{stretchLength, partOf, vacated, terms, filled}
 use Rattle.box_stretches.specs.BayCalls.{bayAdmitOf}

@@ -7,8 +7,8 @@ use mathlib.Core.Option.{some}
 use mathlib.Core.List.{List, [], _∷_}
 use lib.ListN.{length, getElem?}
 use Rattle.spec_base.specs.Limits.{lastNumber}
-use Rattle.recordings.specs.Record.{recordLength, recordOf, numberIn, panelLength, panelOf, Bytes, Agree}
-use Rattle.recordings.specs.Recording.{following}
+use Rattle.spec_tick.specs.Record.{recordLength, recordOf, numberIn, panelLength, panelOf, Bytes, Agree}
+use Rattle.spec_tick.specs.Recording.{following}
 use Rattle.box_stretches.specs.Called.{called, number, memoryAfter, lentAfter, first}
 use Rattle.box_stretches.specs.Stretch.{lengthIn, stateIn, lastNumberIn, serviceOnlyIn}
 use Rattle.box_calls.specs.Box.{bayCount, boxLength, stretchOf, Call, tick, service, panel}

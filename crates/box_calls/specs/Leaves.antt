@@ -6,7 +6,7 @@ use mathlib.Core.Option.{none}
 use mathlib.Core.List.{List}
 use Rattle.spec_sequence.specs.Check.{checked, checkOf}
 use Rattle.spec_sequence.specs.Ceilings.{ceilingOf}
-use Rattle.demands.specs.Demands.{cleared}
+use Rattle.spec_tick.specs.Demands.{cleared}
 use Rattle.spec_base.specs.Parts.{slot, zeros}
 use Rattle.box_positions.specs.Table.{lookup}
 use Rattle.box_stretches.specs.Called.{number, memoryAfter}

@@ -12,7 +12,7 @@ use Rattle.spec_language.specs.States.{Valid}
 use Rattle.spec_language.specs.Expansion.{expand}
 use Rattle.spec_language.specs.Machines.{State, Rewriting}
 use Rattle.spec_sequence.specs.Rows.{Spells}
-use Rattle.states.specs.StateRecord.{stateLength, phaseIn, labelsIn, encodeState}
+use Rattle.spec_tick.specs.StateRecord.{stateLength, phaseIn, labelsIn, encodeState}
 use Rattle.spec_base.specs.Parts.{put}
 use Rattle.box_positions.specs.Names.{Position, find, saveNamed, forgetNamed, positionsAfter}
 use Rattle.box_positions.specs.Table.{lookup, SixteenKnown}

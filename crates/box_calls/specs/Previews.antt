@@ -6,10 +6,10 @@ use mathlib.Core.Bool.{Bool, true, false}
 use mathlib.Core.List.{List, [], _∷_}
 use lib.ListN.{length}
 use Rattle.spec_base.specs.Sets.{member, remove, Subset, Disjoint}
-use Rattle.answers.specs.AnswerRecord.{answerLength, codeIn, emittedIn}
-use Rattle.tick.specs.Tick.{tickOf}
-use Rattle.demands.specs.Demands.{answerAfterwards}
-use Rattle.recordings.specs.Record.{recordLength}
+use Rattle.spec_tick.specs.AnswerRecord.{answerLength, codeIn, emittedIn}
+use Rattle.spec_tick.specs.Tick.{tickOf}
+use Rattle.spec_tick.specs.Demands.{answerAfterwards}
+use Rattle.spec_tick.specs.Record.{recordLength}
 use Rattle.box_fillings.specs.Preview as fillings
 use Rattle.box_fillings.specs.Preview.{filled, openCode, previewLength, everyIn, neverIn, wrongIn, sharedIn, Previewed, bufferAfter, previewOf}
 use Rattle.box_fillings.specs.Claims.{PreviewIs, StaysShown, knowing}

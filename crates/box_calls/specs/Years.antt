@@ -11,8 +11,8 @@ use Rattle.spec_base.specs.Limits.{litresLimit}
 use Rattle.spec_base.specs.WholeLitres.{whole, Near}
 use Rattle.box_ledgers.specs.Ledgers as Ledgers
 use Rattle.box_ledgers.specs.Ledgers.{farmCount, readingLength, fieldIn, totalIn, exactTotal, readingOf, totalRead}
-use Rattle.tick.specs.Tick.{tickOf}
-use Rattle.demands.specs.Demands as demands
+use Rattle.spec_tick.specs.Tick.{tickOf}
+use Rattle.spec_tick.specs.Demands as demands
 use Rattle.box_stretches.specs.Called.{called, number, memoryAfter}
 use Rattle.box_stretches.specs.Stretch.{lengthIn, sequenceIn, readBackIn, stateIn, ledgerIn, withLedger}
 use Rattle.box_stretches.specs.BayCalls.{delivering}

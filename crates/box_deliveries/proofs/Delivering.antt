@@ -20,8 +20,8 @@ use Rattle.theory_language.proofs.LabelTests.{valid-is}
 use Rattle.labels.specs.declared.Labels.{Labels}
 use Rattle.spec_sequence.specs.Writer.{Ranged}
 use Rattle.spec_sequence.specs.Check.{Checked, sound, bad, checked, numberOf, checkOf}
-use Rattle.states.specs.StateRecord.{labelsIn, Decoded, holds, malformed, decodeState}
-use Rattle.demands.specs.Deliveries.{deliveredBy, deliveredIf, deliveries}
+use Rattle.spec_tick.specs.StateRecord.{labelsIn, Decoded, holds, malformed, decodeState}
+use Rattle.spec_tick.specs.Deliveries.{deliveredBy, deliveredIf, deliveries}
 use Rattle.instants.specs.declared.Standing.the-variants as stands
 use Rattle.instants.specs.Replies.{Decodes}
 use Rattle.instants.proofs.Replying.{expanded}

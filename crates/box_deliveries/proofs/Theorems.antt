@@ -13,7 +13,7 @@ use Rattle.reaction.specs.Reactions.{cappedOf}
 use Rattle.box_ledgers.specs.Ledgers.{farmCount, ledgerLength, totalIn, wouldPass, passes, addedTo, addedBelow, added}
 use Rattle.box_ledgers.proofs.Totals.{passes-not}
 use Rattle.box_ledgers.proofs.Theorems as ledgers
-use Rattle.demands.specs.Deliveries.{deliveries}
+use Rattle.spec_tick.specs.Deliveries.{deliveries}
 use Rattle.box_deliveries.specs.Delivering.{Delivers}
 
 one-farm : (t x : ℕ) → ltb litresLimit (t + cappedOf x) ≡ ltb litresLimit (t + x)

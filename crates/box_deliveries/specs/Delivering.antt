@@ -4,7 +4,7 @@ use mathlib.Core.Path.{_≡_}
 use mathlib.Core.List.{List}
 use lib.ListN.{getD}
 use Rattle.reaction.specs.Reactions.{cappedOf}
-use Rattle.demands.specs.Deliveries.{deliveries}
+use Rattle.spec_tick.specs.Deliveries.{deliveries}
 use Rattle.box_ledgers.specs.Ledgers.{farmCount, NoneOutside}
 
 abbrev pub Delivers : (sequence state : List ℕ) (e readBack farms : ℕ) (litres : List ℕ) → Type 0

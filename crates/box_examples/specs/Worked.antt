@@ -5,8 +5,8 @@ use mathlib.Core.Bool.{Bool, _&&_, cond}
 use mathlib.Core.List.{List, [], _∷_, _++_}
 use lib.ListN.{replicate}
 use lib.Dec.{eqb}
-use Rattle.answers.specs.AnswerRecord.{answerLength, codeIn}
-use Rattle.recordings.specs.Record.{recordLength}
+use Rattle.spec_tick.specs.AnswerRecord.{answerLength, codeIn}
+use Rattle.spec_tick.specs.Record.{recordLength}
 use Rattle.spec_base.specs.Parts.{zeros}
 use Rattle.box_stretches.specs.Called.{Called, called, number, lentAfter, first}
 use Rattle.box_stretches.specs.Stretch.{stretchLength}

@@ -2,9 +2,9 @@
 use Prim.Native.Nat.{ℕ}
 use mathlib.Core.List.{List, [], _∷_, map}
 use lib.ListN.{replicate}
-use Rattle.states.specs.StateRecord.{stateRecord}
-use Rattle.answers.specs.AnswerRecord.{answerLength, answerRecord}
-use Rattle.recordings.specs.Record.{recordOf, numberIn, panelLength}
+use Rattle.spec_tick.specs.StateRecord.{stateRecord}
+use Rattle.spec_tick.specs.AnswerRecord.{answerLength, answerRecord}
+use Rattle.spec_tick.specs.Record.{recordOf, numberIn, panelLength}
 use Rattle.box_stretches.specs.Called.{lentAfter, first}
 use Rattle.box_calls.specs.Box.{admit, tick, service, panel}
 use Rattle.box_calls.specs.Lists.{Request, boxAfter}

@@ -3,9 +3,9 @@ use Prim.Native.Nat.{ℕ, zero, suc, _+_, _%_}
 use mathlib.Core.Bool.{cond}
 use mathlib.Core.List.{List, [], _∷_}
 use lib.Dec.{eqb}
-use Rattle.states.specs.StateRecord.{stateLength}
+use Rattle.spec_tick.specs.StateRecord.{stateLength}
 use Rattle.spec_base.specs.Parts.{put, zeros}
-use Rattle.tick.specs.Tick.{tickOf}
+use Rattle.spec_tick.specs.Tick.{tickOf}
 use Rattle.box_stretches.specs.Called.{Called, called, number, memoryAfter}
 use Rattle.box_stretches.specs.Stretch.{lengthBytes, stateAt, sequenceIn, readBackIn, ceilingIn, stateIn}
 use Rattle.box_stretches.specs.BayCalls.{stateKept, delivering, charged, recorded, bayAdmitOf}

@@ -6,7 +6,7 @@ use lib.ListN.{length}
 use lib.Dec.{eqb, leb}
 use Rattle.spec_base.specs.Limits.{maxPositions}
 use Rattle.spec_base.specs.Bytes.{leNumber}
-use Rattle.states.specs.StateRecord.{labelsAt, labelsIn}
+use Rattle.spec_tick.specs.StateRecord.{labelsAt, labelsIn}
 use Rattle.spec_base.specs.Parts.{slot, put}
 use Rattle.box_positions.specs.Names.{isKnown}
 use Rattle.box_positions.specs.Table.{tableLength, lookup, names}

@@ -2,8 +2,8 @@
 use Prim.Native.Nat.{ℕ, _-_}
 use mathlib.Core.List.{List, [], _∷_}
 use Rattle.spec_base.specs.Sets.{none, difference}
-use Rattle.answers.specs.AnswerRecord.{answerLength}
-use Rattle.recordings.specs.Record.{recordLength}
+use Rattle.spec_tick.specs.AnswerRecord.{answerLength}
+use Rattle.spec_tick.specs.Record.{recordLength}
 use Rattle.spec_base.specs.Parts.{put, zeros}
 use Rattle.box_fillings.specs.Preview.{openCode, previewLength}
 use Rattle.box_stretches.specs.Called.{Called, called, number, memoryAfter, lentAfter, first}

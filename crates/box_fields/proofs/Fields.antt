@@ -8,8 +8,8 @@ use lib.Seq.{length-take-le}
 use Rattle.spec_base.specs.Limits.{maxBytes, signalBytes, reactionsBytes}
 use Rattle.spec_base.specs.Bytes.{leBytes, leNumber}
 use Rattle.numbers.proofs.Bytes.{length-leBytes, le-round-trip}
-use Rattle.states.specs.StateRecord.{stateLength}
-use Rattle.demands.specs.Demands.{cleared}
+use Rattle.spec_tick.specs.StateRecord.{stateLength}
+use Rattle.spec_tick.specs.Demands.{cleared}
 use Rattle.spec_base.specs.Parts.{slot, put, zeros}
 use Rattle.box_ledgers.specs.Ledgers.{ledgerLength}
 use Rattle.box_stretches.specs.Stretch.{lengthBytes, sequenceAt, readBackAt, ceilingAt, serviceAt, stateAt, bayLength, stretchLength, lengthIn, readBackIn, ceilingIn, serviceOnlyIn, stateIn, ledgerIn, vacated, Terms, filled}

@@ -7,8 +7,8 @@ use mathlib.Core.List.{List}
 use Rattle.spec_base.specs.Sets.{member, common, Subset}
 use Rattle.sets.proofs.Booleans.{same-test}
 use Rattle.sets.proofs.Members.{member-common, ext}
-use Rattle.demands.specs.Plain.{SameOutside}
-use Rattle.demands.proofs.ReadBack.{reply-unread}
+use Rattle.spec_tick.specs.Plain.{SameOutside}
+use Rattle.theory_tick.proofs.ReadBack.{reply-unread}
 use Rattle.box_fillings.specs.declared.Findings.{Findings}
 use Rattle.box_fillings.specs.Preview.{filled, openCode, foundIn, findings, previewBytes, answerIn, answersOf}
 use Rattle.box_fillings.proofs.Gathering.{Said, Emits, Misses, Right, Shares, every-filling, emits, misses, right, shares, member-filled, within}

@@ -8,13 +8,13 @@ use mathlib.Core.List.{List}
 use Rattle.spec_language.specs.Reaction.{Code, ended, waiting, leaving, wrong, Reaction, gives, code, reactBy, inheritanceFirst}
 use Rattle.spec_language.specs.Errors.{Error}
 use Rattle.spec_language.specs.Instants.{instant}
-use Rattle.answers.specs.AnswerRecord.{codeByte, codeIn, encodeAnswer}
-use Rattle.answers.proofs.AnswerLaws.{code-field}
-use Rattle.tick.specs.Tick.{Outcome, tickOf}
-use Rattle.demands.specs.Demands.{number, answerAfterwards}
-use Rattle.demands.proofs.Bounds.{Exits, code-exits}
-use Rattle.demands.proofs.Sequence.{accepted}
-use Rattle.demands.proofs.Demand2.{passed-check, state-sized, answer-sized, stands, stands-written}
+use Rattle.spec_tick.specs.AnswerRecord.{codeByte, codeIn, encodeAnswer}
+use Rattle.records.proofs.AnswerLaws.{code-field}
+use Rattle.spec_tick.specs.Tick.{Outcome, tickOf}
+use Rattle.spec_tick.specs.Demands.{number, answerAfterwards}
+use Rattle.theory_tick.proofs.Bounds.{Exits, code-exits}
+use Rattle.theory_tick.proofs.Sequence.{accepted}
+use Rattle.theory_tick.proofs.Demand2.{passed-check, state-sized, answer-sized, stands, stands-written}
 use Rattle.box_fillings.specs.Preview.{openCode}
 
 byte-of : (k : Code) → Exits k → (codeByte k ≤ 16) ⊎ (codeByte k ≡ 255)

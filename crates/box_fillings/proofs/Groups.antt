@@ -17,7 +17,7 @@ use Rattle.sets.proofs.Widths.{difference-lt, all-lt, member-complement}
 use Rattle.sets.proofs.Words.{words-of, low-fits, member-low}
 use Rattle.spec_base.specs.Bytes.{leBytes, leNumber}
 use Rattle.numbers.proofs.Bytes.{le-low, le-round-trip}
-use Rattle.answers.specs.AnswerRecord.{codeIn, emittedIn}
+use Rattle.spec_tick.specs.AnswerRecord.{codeIn, emittedIn}
 use Rattle.box_fillings.specs.declared.Findings.{Findings}
 use Rattle.box_fillings.specs.Preview.{filled, openCode, findings, bit, previewBytes, everyIn, neverIn, wrongIn, sharedIn, Learned}
 use Rattle.box_fillings.proofs.Gathering.{every-filling, wrong-filling, open-filling, all-present, emits, misses, right, shares, learned}

@@ -20,11 +20,11 @@ use Rattle.spec_sequence.specs.Program.{program}
 use Rattle.spec_sequence.specs.Check.{Checked, sound, bad, checked}
 use Rattle.spec_sequence.specs.Rows.{rank}
 use Rattle.theory_sequence.proofs.Rows.{Decides, decided, row-range, row-rank}
-use Rattle.states.specs.StateRecord.{stateLength, Decoded, holds, malformed, decodeState}
-use Rattle.answers.specs.AnswerRecord.{answerLength, encodeAnswer}
-use Rattle.tick.specs.Tick.{Reply, refused, reacts, written, byState, byCheck, replyOf, replied, tickBy, tickOf}
-use Rattle.demands.specs.Demands as demands
-use Rattle.demands.specs.Demands.{answerAfterwards}
+use Rattle.spec_tick.specs.StateRecord.{stateLength, Decoded, holds, malformed, decodeState}
+use Rattle.spec_tick.specs.AnswerRecord.{answerLength, encodeAnswer}
+use Rattle.spec_tick.specs.Tick.{Reply, refused, reacts, written, byState, byCheck, replyOf, replied, tickBy, tickOf}
+use Rattle.spec_tick.specs.Demands as demands
+use Rattle.spec_tick.specs.Demands.{answerAfterwards}
 use Rattle.box_fillings.specs.Preview.{Previewed, previewed, number, bufferAfter, findings, previewBytes, previewLength, maxUnknown, shownBy, byReply, answerIn, answersOf, previewOf}
 
 -- ---- fewer inputs are not more

@@ -18,12 +18,12 @@ use Rattle.sets.proofs.Sizes.{size-is}
 use Rattle.sets.proofs.Counting.{subsets-few}
 use Rattle.spec_language.specs.Instants.{Instant}
 use Rattle.spec_base.specs.Bytes.{leBytes}
-use Rattle.states.specs.StateRecord.{stateLength}
-use Rattle.answers.specs.AnswerRecord.{answerLength, codeIn, emittedIn}
-use Rattle.tick.specs.Tick.{Outcome, refused, reacts, replyOf, tickOf}
-use Rattle.demands.specs.Demands as demands
-use Rattle.demands.specs.Demands.{answerAfterwards}
-use Rattle.demands.specs.Plain.{SameOutside}
+use Rattle.spec_tick.specs.StateRecord.{stateLength}
+use Rattle.spec_tick.specs.AnswerRecord.{answerLength, codeIn, emittedIn}
+use Rattle.spec_tick.specs.Tick.{Outcome, refused, reacts, replyOf, tickOf}
+use Rattle.spec_tick.specs.Demands as demands
+use Rattle.spec_tick.specs.Demands.{answerAfterwards}
+use Rattle.spec_tick.specs.Plain.{SameOutside}
 use Rattle.box_fillings.specs.Preview.{filled, openCode, foundIn, findings, maxUnknown, previewLength, previewBytes, everyIn, neverIn, wrongIn, sharedIn, Previewed, previewed, number, bufferAfter, shownBy, answersOf, previewOf, Learned}
 use Rattle.box_fillings.specs.declared.Findings.{Findings}
 use Rattle.box_fillings.specs.Claims.{EachFilling, PreviewIs, PreviewsAre, GivenOutweighed, knowing, LearningKeeps, PreviewErrors, FillingDemands}

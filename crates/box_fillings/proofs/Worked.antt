@@ -14,8 +14,8 @@ use Rattle.spec_sequence.specs.Commands.{commandOf}
 use Rattle.spec_sequence.specs.Reader.{front, read}
 use Rattle.spec_sequence.specs.Check.{checked}
 use Rattle.spec_base.specs.Bytes.{leBytes, leNumber}
-use Rattle.states.specs.StateRecord.{decodeState}
-use Rattle.answers.specs.AnswerRecord.{encodeAnswer}
+use Rattle.spec_tick.specs.StateRecord.{decodeState}
+use Rattle.spec_tick.specs.AnswerRecord.{encodeAnswer}
 use Rattle.box_fillings.specs.Preview.{both, gathered, findings, previewOf}
 use Rattle.box_fillings.specs.Worked.{Case, cases}
 

@@ -7,11 +7,11 @@ use mathlib.Core.List.{List}
 use lib.ListN.{length}
 use Rattle.spec_base.specs.Limits.{signalCount}
 use Rattle.spec_base.specs.Sets.{member, insert, remove, Subset, membersFrom}
-use Rattle.states.specs.StateRecord.{stateLength}
-use Rattle.answers.specs.AnswerRecord.{answerLength, codeIn, emittedIn}
-use Rattle.tick.specs.Tick.{tickOf}
-use Rattle.demands.specs.Demands as demands
-use Rattle.demands.specs.Demands.{answerAfterwards}
+use Rattle.spec_tick.specs.StateRecord.{stateLength}
+use Rattle.spec_tick.specs.AnswerRecord.{answerLength, codeIn, emittedIn}
+use Rattle.spec_tick.specs.Tick.{tickOf}
+use Rattle.spec_tick.specs.Demands as demands
+use Rattle.spec_tick.specs.Demands.{answerAfterwards}
 use Rattle.box_fillings.specs.Preview.{filled, openCode, previewLength, everyIn, neverIn, wrongIn, sharedIn, maxUnknown, Previewed, previewed, number, bufferAfter}
 
 -- sequence, state, input, unknown inputs, read-back set, buffer

@@ -11,8 +11,8 @@ use Rattle.spec_base.specs.Sets.{member, join, common, difference, Subset, memb
 use Rattle.spec_base.specs.Widths.{complement}
 use Rattle.spec_base.specs.Subsets.{subsetsBelow}
 use Rattle.spec_base.specs.Bytes.{leBytes, leNumber}
-use Rattle.answers.specs.AnswerRecord.{codeIn, emittedIn, encodeAnswer}
-use Rattle.tick.specs.Tick.{Reply, refused, reacts, replyOf}
+use Rattle.spec_tick.specs.AnswerRecord.{codeIn, emittedIn, encodeAnswer}
+use Rattle.spec_tick.specs.Tick.{Reply, refused, reacts, replyOf}
 use Rattle.box_fillings.specs.declared.Findings.{Findings}
 
 -- ---- a filling is a subset of the unknown inputs: those of them that are present

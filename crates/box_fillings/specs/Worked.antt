@@ -3,8 +3,8 @@ use Prim.Native.Nat.{ℕ}
 use mathlib.Core.List.{List, [], _∷_}
 use lib.ListN.{replicate}
 use Rattle.spec_base.specs.Sets.{none}
-use Rattle.states.specs.StateRecord.{stateRecord}
-use Rattle.demands.specs.Demands.{cleared}
+use Rattle.spec_tick.specs.StateRecord.{stateRecord}
+use Rattle.spec_tick.specs.Demands.{cleared}
 use Rattle.box_fillings.specs.Preview.{previewLength, Previewed, previewed}
 
 pub record Case : Type 0 where

@@ -21,11 +21,11 @@ use Rattle.spec_language.specs.Ceiling.{ceiling}
 use Rattle.spec_sequence.specs.Commands.{commandOf}
 use Rattle.spec_sequence.specs.Reader.{front, read}
 use Rattle.spec_sequence.specs.Check.{checked}
-use Rattle.states.specs.StateRecord.{encodeState}
+use Rattle.spec_tick.specs.StateRecord.{encodeState}
 use Rattle.spec_base.specs.Bytes.{leBytes, leNumber}
-use Rattle.recordings.specs.Record.{recordLength, panelOf}
-use Rattle.recordings.specs.Recording.{following}
-use Rattle.tick.specs.Paper.{Report, reacted}
+use Rattle.spec_tick.specs.Record.{recordLength, panelOf}
+use Rattle.spec_tick.specs.Recording.{following}
+use Rattle.spec_tick.specs.Paper.{Report, reacted}
 use Rattle.spec_base.specs.WholeLitres.{ordered}
 use Rattle.box_positions.specs.Names.{find, without, saveNamed, forgetNamed}
 use Rattle.box_ledgers.specs.Ledgers.{readingLength, totalsBytes, wouldPass}

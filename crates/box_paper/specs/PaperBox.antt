@@ -14,13 +14,13 @@ use Rattle.spec_language.specs.Ceiling.{ceiling}
 use Rattle.spec_language.specs.Machines.{Seen, instant, refused, Machine, State, byLabels, addsByLabels, Rewriting, byRewriting, addsByRewriting}
 use Rattle.spec_sequence.specs.Program.{program}
 use Rattle.spec_sequence.specs.Check.{Checked, sound, bad, checked}
-use Rattle.states.specs.StateRecord.{encodeState}
-use Rattle.answers.specs.AnswerRecord.{answerLength, answerRecord, codeByte}
-use Rattle.tick.specs.Tick.{outcome}
-use Rattle.tick.specs.Paper.{Report, reportOf}
-use Rattle.demands.specs.Demands.{report}
-use Rattle.recordings.specs.Record.{recordLength, recordOf, numberIn, inputIn, answerIn, stateIn, panelLength, panelOf}
-use Rattle.recordings.specs.Recording.{following}
+use Rattle.spec_tick.specs.StateRecord.{encodeState}
+use Rattle.spec_tick.specs.AnswerRecord.{answerLength, answerRecord, codeByte}
+use Rattle.spec_tick.specs.Tick.{outcome}
+use Rattle.spec_tick.specs.Paper.{Report, reportOf}
+use Rattle.spec_tick.specs.Demands.{report}
+use Rattle.spec_tick.specs.Record.{recordLength, recordOf, numberIn, inputIn, answerIn, stateIn, panelLength, panelOf}
+use Rattle.spec_tick.specs.Recording.{following}
 use Rattle.box_positions.specs.Names.{Position, find, Answered, answered, saveNamed, forgetNamed}
 use Rattle.box_ledgers.specs.Ledgers.{farmCount, readingLength, readingFor, wouldPass}
 use Rattle.box_fillings.specs.Preview.{Previewed, previewed, previewLength, shownBy}

@@ -10,7 +10,7 @@ use Rattle.spec_language.specs.States.{NoSetpause}
 use Rattle.spec_language.specs.Machines.{State}
 use Rattle.spec_sequence.specs.Check.{checkOf}
 use Rattle.spec_sequence.specs.Rows.{Spells}
-use Rattle.states.specs.StateRecord.{encodeState}
+use Rattle.spec_tick.specs.StateRecord.{encodeState}
 use Rattle.box_positions.specs.Names.{find}
 use Rattle.box_positions.specs.Table.{lookup}
 use Rattle.box_ledgers.specs.Ledgers.{farmCount, totalIn}

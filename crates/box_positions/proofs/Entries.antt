@@ -13,8 +13,8 @@ use borrow.Author.Tests.{eq-eqb, ne-eqb}
 use Rattle.spec_base.specs.Limits.{labelBytes, maxPositions, nameBytes}
 use Rattle.spec_base.specs.Bytes.{leBytes, leNumber}
 use Rattle.numbers.proofs.Bytes.{length-leBytes, le-round-trip, le-behind}
-use Rattle.states.specs.StateRecord.{stateLength, stateRecord, labelsIn}
-use Rattle.states.proofs.StateLaws.{state-sized}
+use Rattle.spec_tick.specs.StateRecord.{stateLength, stateRecord, labelsIn}
+use Rattle.records.proofs.StateLaws.{state-sized}
 use Rattle.spec_base.specs.Parts.{slot, put}
 use Rattle.numbers.proofs.Putting.{put-before, put-behind, put-within, length-put}
 use Rattle.box_positions.specs.Table.{keyBytes, entryLength, tableLength, entryOf, keyOf, keyIn, savedLabels, place}

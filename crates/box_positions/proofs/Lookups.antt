@@ -11,7 +11,7 @@ use lib.Dec.{eqb}
 use borrow.Author.Tests.{ne-eqb, lt-ltb, le-ltb}
 use Rattle.spec_base.specs.Limits.{maxPositions, nameBytes}
 use Rattle.spec_base.specs.Bytes.{leNumber}
-use Rattle.states.specs.StateRecord.{stateLength, labelsIn}
+use Rattle.spec_tick.specs.StateRecord.{stateLength, labelsIn}
 use Rattle.spec_base.specs.Parts.{slot, put}
 use Rattle.box_positions.specs.Table.{keyBytes, entryLength, keyOf, keyIn, savedLabels, placeOf, labelsFound, lookup, FreeOrNamed, Formed}
 use Rattle.box_positions.proofs.Entries.{length-entry, own-key, own-labels, other-key, other-labels, found, missing, only, same-place}

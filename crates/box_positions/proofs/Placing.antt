@@ -13,8 +13,8 @@ use Rattle.spec_base.specs.Limits.{maxPositions, nameBytes}
 use Rattle.spec_base.specs.Bytes.{leBytes, replaced}
 use Rattle.numbers.proofs.Bytes.{length-leBytes}
 use Rattle.numbers.proofs.Writing.{replaced-by}
-use Rattle.states.specs.StateRecord.{stateLength, stateRecord}
-use Rattle.states.proofs.StateLaws.{state-sized}
+use Rattle.spec_tick.specs.StateRecord.{stateLength, stateRecord}
+use Rattle.records.proofs.StateLaws.{state-sized}
 use Rattle.spec_base.specs.Parts.{slot, put, zeros}
 use Rattle.numbers.proofs.Putting.{length-put, stored, put-next}
 use Rattle.box_positions.specs.Table.{entryLength, tableLength, keyIn, place, placeOf, placeFor, written, cleared, kept, saveOf}

@@ -10,7 +10,7 @@ use lib.ListN.{length}
 use lib.Dec.{eqb, ltb}
 use Rattle.spec_base.specs.Limits.{maxPositions, nameBytes}
 use Rattle.spec_base.specs.Bytes.{leBytes, leNumber}
-use Rattle.states.specs.StateRecord.{stateLength, labelsIn, stateRecord}
+use Rattle.spec_tick.specs.StateRecord.{stateLength, labelsIn, stateRecord}
 use Rattle.spec_base.specs.Parts.{slot, put, zeros}
 use Rattle.box_positions.specs.Names.{Position, find, namesOf, Once}
 

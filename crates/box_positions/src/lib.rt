@@ -10,7 +10,7 @@ ghost use Rattle.box_positions.specs.Table.{tableLength, place, placeOf,
 use labels::Labels;
 use limits::MAX_POSITIONS;
 use limits::NAME_BYTES;
-use states::STATE_LENGTH;
+use records::STATE_LENGTH;
 
 const KEY_BYTES: usize = NAME_BYTES + 1;
 
@@ -56,7 +56,7 @@ pub fn saved_labels(table: &[u8], i: usize) -> Labels
     requires { ⌜ i < maxPositions ⌝ }
     ensures { λ r. ⌜ labelSet r ≡ savedLabels i (now (table .entry)) ⌝ }
 {
-    states::labels(numbers::part(table, i * ENTRY_LENGTH + NAME_BYTES, STATE_LENGTH))
+    records::labels(numbers::part(table, i * ENTRY_LENGTH + NAME_BYTES, STATE_LENGTH))
 }
 
 fn write(table: &mut [u8], i: usize, name: u32, labels: Labels)
@@ -67,7 +67,7 @@ fn write(table: &mut [u8], i: usize, name: u32, labels: Labels)
     let from = at + NAME_BYTES;
     let end = from + STATE_LENGTH;
     numbers::put_le(table, at, NAME_BYTES, name as u64);
-    states::write_state(&mut table[from..end], 1, labels);
+    records::write_state(&mut table[from..end], 1, labels);
 }
 
 pub fn save(table: &mut [u8], known: usize, name: u32, labels: Labels) -> u8

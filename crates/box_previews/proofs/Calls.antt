@@ -19,8 +19,8 @@ use Rattle.program.specs.declared.Start.the-variants.{Fresh, Waiting}
 use Rattle.program.specs.Program.{termAt}
 use Rattle.reaction.specs.Reactions.{reactionOf}
 use Rattle.instants.specs.Written.{writtenFrom}
-use Rattle.tick.specs.Tick.{reacts}
-use Rattle.demands.specs.Demands.{answerAfterwards}
+use Rattle.spec_tick.specs.Tick.{reacts}
+use Rattle.spec_tick.specs.Demands.{answerAfterwards}
 use Rattle.instants.specs.declared.Standing.the-variants as stands
 use Rattle.instants.specs.declared.Reply.the-variants.{Refused, Reacted}
 use Rattle.instants.specs.Replies.{Decodes, Replies}

@@ -22,9 +22,9 @@ use Rattle.reaction.specs.Reactions.{reactionOf}
 use Rattle.instants.specs.Written.{writtenBy, writtenFrom}
 use Rattle.spec_base.specs.Bytes.{leBytes}
 use Rattle.numbers.proofs.Bytes.{le-round-trip}
-use Rattle.answers.specs.AnswerRecord.{answerRecord, encodeAnswer}
-use Rattle.tick.specs.Tick.{Outcome}
-use Rattle.demands.specs.Demands.{answerAfterwards}
+use Rattle.spec_tick.specs.AnswerRecord.{answerRecord, encodeAnswer}
+use Rattle.spec_tick.specs.Tick.{Outcome}
+use Rattle.spec_tick.specs.Demands.{answerAfterwards}
 use Rattle.program.specs.declared.Start.{Start}
 use Rattle.program.specs.Program.{termAt}
 use Rattle.instants.proofs.Replying.{written-from}

@@ -10,7 +10,7 @@ use Rattle.program.specs.declared.Start.{Start}
 use Rattle.program.specs.Program.{termAt}
 use Rattle.reaction.specs.Reactions.{reactionTo}
 use Rattle.instants.specs.Written.{Writable}
-use Rattle.answers.specs.AnswerRecord.{encodeAnswer}
+use Rattle.spec_tick.specs.AnswerRecord.{encodeAnswer}
 
 abbrev pub answersAt : Start → Statement → (readBack e : ℕ) → List ℕ
 answersAt origin p readBack e = encodeAnswer (start (program readBack (termAt origin p)) e)

@@ -5,7 +5,7 @@ ghost use mathlib.Core.Bool.{_||_};
 ghost use lib.ListN.{length};
 ghost use Rattle.box_fillings.specs.Preview.{alone, sharedBy, both, bit, previewLength, previewBytes, foundIn, findings, previewed, shownBy, previewOf};
 ghost use Rattle.spec_base.specs.Sets.{Disjoint};
-ghost use Rattle.demands.specs.Demands.{answerAfterwards};
+ghost use Rattle.spec_tick.specs.Demands.{answerAfterwards};
 ghost use Rattle.program.specs.Program.{ReactedWithoutLitres};
 ghost use Rattle.instants.specs.Written.{Writable, writtenFrom};
 ghost use Rattle.box_previews.specs.Standing.{answersAt, Stands, OfEach};
@@ -30,7 +30,7 @@ pub fn alone(emitted: u32, code: u8) -> Findings
     Findings {
         every: emitted,
         some: emitted,
-        wrong: code == answers::WRONG,
+        wrong: code == records::WRONG,
         code,
     }
 }
@@ -86,7 +86,7 @@ fn found(r: Reaction) -> Findings
         Completion::Ended => alone(r.emitted, 0),
         Completion::Waiting => alone(r.emitted, 1),
         Completion::Leaving(n) => alone(r.emitted, n + 1),
-        Completion::Wrong(_, _) => alone(0, answers::WRONG),
+        Completion::Wrong(_, _) => alone(0, records::WRONG),
     }
 }
 

@@ -8,16 +8,16 @@ use Rattle.spec_language.specs.Ceiling.{ceiling}
 use Rattle.spec_sequence.specs.Program.{program}
 use Rattle.spec_sequence.specs.Check.{Checked, sound, bad, checked}
 use Rattle.spec_base.specs.Parts.{put}
-use Rattle.states.specs.StateRecord.{stateLength, stateRecord, phaseIn, labelsIn}
+use Rattle.spec_tick.specs.StateRecord.{stateLength, stateRecord, phaseIn, labelsIn}
 use Rattle.box_positions.specs.Table.{tableLength, lookup, Kept, kept, saveOf, forgetOf}
 use Rattle.spec_base.specs.Bytes.{leBytes}
 use Rattle.spec_base.specs.Limits.{numberBytes}
-use Rattle.recordings.specs.Record.{recordLength, recordOf, panelLength, panelOf}
-use Rattle.recordings.specs.Recording.{following}
+use Rattle.spec_tick.specs.Record.{recordLength, recordOf, panelLength, panelOf}
+use Rattle.spec_tick.specs.Recording.{following}
 use lib.ListN.{length}
 use Rattle.box_fillings.specs.Preview.{Previewed, previewed, previewOf}
-use Rattle.tick.specs.Tick.{Outcome, outcome, tickOf}
-use Rattle.demands.specs.Deliveries.{deliveries}
+use Rattle.spec_tick.specs.Tick.{Outcome, outcome, tickOf}
+use Rattle.spec_tick.specs.Deliveries.{deliveries}
 use Rattle.box_ledgers.specs.Ledgers as Ledgers
 use Rattle.box_ledgers.specs.Ledgers.{readingLength, passes, added, readingOf}
 use Rattle.box_stretches.specs.Called.{Called, called, first}

@@ -24,14 +24,14 @@ use Rattle.spec_sequence.specs.Commands.{commandOf}
 use Rattle.spec_sequence.specs.Reader.{front, read}
 use Rattle.spec_sequence.specs.Check.{checked}
 use Rattle.spec_base.specs.Bytes.{leBytes, leNumber}
-use Rattle.states.specs.StateRecord.{stateLength, stateRecord, phaseIn, labelsIn, encodeState, decodeState}
-use Rattle.answers.specs.AnswerRecord.{answerLength, codeIn, answerRecord, encodeAnswer}
+use Rattle.spec_tick.specs.StateRecord.{stateLength, stateRecord, phaseIn, labelsIn, encodeState, decodeState}
+use Rattle.spec_tick.specs.AnswerRecord.{answerLength, codeIn, answerRecord, encodeAnswer}
 use Rattle.spec_base.specs.Parts.{put, zeros}
 use Rattle.box_positions.specs.Table.{tableLength, entryLength, entryOf, place, lookup, saveOf}
 use Rattle.box_ledgers.specs.Ledgers.{totalIn, totalsBytes, wouldPass, addedBelow}
-use Rattle.recordings.specs.Record.{recordOf, numberIn, panelLength, panelOf}
-use Rattle.recordings.specs.Recording.{following}
-use Rattle.tick.specs.Tick.{outcome, tickBy}
+use Rattle.spec_tick.specs.Record.{recordOf, numberIn, panelLength, panelOf}
+use Rattle.spec_tick.specs.Recording.{following}
+use Rattle.spec_tick.specs.Tick.{outcome, tickBy}
 use Rattle.box_stretches.specs.Called.{called, number, memoryAfter, lentAfter, first}
 use Rattle.box_stretches.specs.Stretch.{stateAt, countAt, positionsAt, bayLength, stretchLength, lengthIn, stateIn, lastNumberIn, positionsIn, ledgerIn, partOf, vacated, terms, filled}
 use Rattle.box_stretches.specs.BayCalls.{stateKept, bayStepOf, charged, recorded, bayReleaseOf, bayAdmitOf, baySaveOf, restored, bayServiceOf, bayPanelOf, bayLedgerOf, bayNewYearOf}

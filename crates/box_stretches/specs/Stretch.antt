@@ -8,7 +8,7 @@ use lib.Dec.{eqb}
 use Rattle.spec_base.specs.Limits.{maxBytes, signalBytes, reactionsBytes, numberBytes}
 use Rattle.spec_base.specs.Bytes.{leBytes, leNumber}
 use Rattle.spec_base.specs.Parts.{slot, put, zeros}
-use Rattle.states.specs.StateRecord.{stateLength}
+use Rattle.spec_tick.specs.StateRecord.{stateLength}
 use Rattle.box_positions.specs.Table.{tableLength}
 use Rattle.box_ledgers.specs.Ledgers.{ledgerLength}
 

@@ -19,23 +19,23 @@ use Rattle.theory_language.proofs.Agreement.{TermOf}
 use Rattle.spec_sequence.specs.Program.{program}
 use Rattle.spec_sequence.specs.Rows.{ByRows}
 use Rattle.spec_sequence.specs.Check.{Checked, sound, bad, checked}
-use Rattle.states.specs.StateRecord.{stateLength, Decoded, holds, malformed, decodeState}
-use Rattle.answers.specs.AnswerRecord.{answerLength}
-use Rattle.recordings.specs.Recording.{blank, tickOn, callOn}
-use Rattle.tick.specs.Tick as Tick
-use Rattle.tick.specs.Tick.{Outcome, outcome, tickBy, tickOf}
-use Rattle.demands.specs.Deliveries as Deliveries
-use Rattle.demands.specs.Deliveries.{deliveredIf, deliveries, callDelivers, delivered}
-use Rattle.tick.specs.TickRows.{TickRow}
-use Rattle.demands.specs.Demands as demands
-use Rattle.demands.specs.Demands.{stateAfterwards, answerAfterwards, outcomes, cleared, report, StandsAt, Derived, Shows}
-use Rattle.tick.specs.Paper as Paper
-use Rattle.tick.specs.Paper.{paper}
-use Rattle.demands.proofs.Sequence.{accepted, same-statement, tick-at}
-use Rattle.demands.proofs.Agreement.{all-ticks, all-deliveries}
-use Rattle.demands.proofs.Demand2.{passed-check, state-sized, answer-sized}
-use Rattle.demands.proofs.Demand1.{demand-1}
-use Rattle.demands.proofs.Calls.{demand-2-call}
+use Rattle.spec_tick.specs.StateRecord.{stateLength, Decoded, holds, malformed, decodeState}
+use Rattle.spec_tick.specs.AnswerRecord.{answerLength}
+use Rattle.spec_tick.specs.Recording.{blank, tickOn, callOn}
+use Rattle.spec_tick.specs.Tick as Tick
+use Rattle.spec_tick.specs.Tick.{Outcome, outcome, tickBy, tickOf}
+use Rattle.spec_tick.specs.Deliveries as Deliveries
+use Rattle.spec_tick.specs.Deliveries.{deliveredIf, deliveries, callDelivers, delivered}
+use Rattle.spec_tick.specs.TickRows.{TickRow}
+use Rattle.spec_tick.specs.Demands as demands
+use Rattle.spec_tick.specs.Demands.{stateAfterwards, answerAfterwards, outcomes, cleared, report, StandsAt, Derived, Shows}
+use Rattle.spec_tick.specs.Paper as Paper
+use Rattle.spec_tick.specs.Paper.{paper}
+use Rattle.theory_tick.proofs.Sequence.{accepted, same-statement, tick-at}
+use Rattle.theory_tick.proofs.Agreement.{all-ticks, all-deliveries}
+use Rattle.theory_tick.proofs.Demand2.{passed-check, state-sized, answer-sized}
+use Rattle.theory_tick.proofs.Demand1.{demand-1}
+use Rattle.theory_tick.proofs.Calls.{demand-2-call}
 use Rattle.box_stretches.specs.Called.{Called, called, number, memoryAfter, lentAfter, first}
 use Rattle.box_stretches.specs.Stretch.{positionsAt, stretchLength, isEmpty, stateIn, Terms}
 use Rattle.box_stretches.specs.BayCalls.{delivering, bayTickOf, bayAdmitOf}

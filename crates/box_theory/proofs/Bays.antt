@@ -14,7 +14,7 @@ use Rattle.spec_sequence.specs.Check.{Checked, sound, bad, checked, checkOf}
 use Rattle.spec_sequence.specs.Ceilings.{ceilingOf}
 use Rattle.spec_sequence.specs.Rows.{row-2}
 use Rattle.theory_sequence.proofs.Rows.{Decides, decided, row-range}
-use Rattle.demands.proofs.Sequence.{Accepted, accepted}
+use Rattle.theory_tick.proofs.Sequence.{Accepted, accepted}
 use Rattle.box_stretches.specs.Called.{Called, called, number, memoryAfter}
 use Rattle.box_stretches.specs.Stretch.{stretchLength, Terms, filled}
 use Rattle.box_stretches.specs.BayCalls.{sharedCeiling, bayReleaseOf, bayAdmitOf}

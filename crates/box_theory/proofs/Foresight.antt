@@ -8,12 +8,12 @@ use mathlib.Core.List.{List, [], _∷_}
 use lib.ListN.{length}
 use lib.Dec.{eqb, ltb}
 use Rattle.spec_base.specs.Sets.{remove}
-use Rattle.answers.specs.AnswerRecord.{answerLength, codeIn}
-use Rattle.recordings.specs.Record.{recordLength}
-use Rattle.tick.specs.Tick.{Outcome, tickOf}
-use Rattle.demands.specs.Demands as demands
-use Rattle.demands.specs.Demands.{answerAfterwards}
-use Rattle.demands.proofs.Demand2 as demand
+use Rattle.spec_tick.specs.AnswerRecord.{answerLength, codeIn}
+use Rattle.spec_tick.specs.Record.{recordLength}
+use Rattle.spec_tick.specs.Tick.{Outcome, tickOf}
+use Rattle.spec_tick.specs.Demands as demands
+use Rattle.spec_tick.specs.Demands.{answerAfterwards}
+use Rattle.theory_tick.proofs.Demand2 as demand
 use Rattle.box_fillings.specs.Preview as fillings
 use Rattle.box_fillings.specs.Preview.{filled, Previewed, previewOf}
 use Rattle.box_fillings.specs.Claims.{PreviewIs, StaysShown, knowing}

@@ -14,20 +14,20 @@ use Rattle.spec_base.specs.Limits.{numberBytes, lastNumber}
 use Rattle.spec_language.specs.Machines.{State}
 use Rattle.spec_base.specs.Bytes.{leBytes, leNumber}
 use Rattle.numbers.proofs.Bytes.{length-leBytes, le-round-trip}
-use Rattle.states.specs.StateRecord.{stateLength, encodeState}
-use Rattle.states.proofs.StateLaws.{length-state}
-use Rattle.recordings.specs.Record.{recordLength, recordOf, numberIn, panelLength, panelOf}
-use Rattle.recordings.specs.Recording.{following, tickOn, recordFrom, recordsFrom, recordingOf}
-use Rattle.recordings_writer.proofs.Records.{number-field}
-use Rattle.recordings_writer.proofs.Theorems.{following-is, panel-alike}
+use Rattle.spec_tick.specs.StateRecord.{stateLength, encodeState}
+use Rattle.records.proofs.StateLaws.{length-state}
+use Rattle.spec_tick.specs.Record.{recordLength, recordOf, numberIn, panelLength, panelOf}
+use Rattle.spec_tick.specs.Recording.{following, tickOn, recordFrom, recordsFrom, recordingOf}
+use Rattle.records.proofs.Records.{number-field}
+use Rattle.records.proofs.Theorems.{following-is, panel-alike}
 use Rattle.spec_base.specs.Parts.{slot, put}
 use Rattle.numbers.proofs.Putting.{put-slot, slot-put, put-before, put-behind}
 use Rattle.numbers.proofs.Zeros.{zeros-number}
 use Rattle.box_ledgers.specs.Ledgers.{ledgerLength, passes, added}
-use Rattle.tick.specs.Tick.{Outcome, outcome, tickOf}
-use Rattle.demands.specs.Demands as demands
-use Rattle.demands.specs.Demands.{stateAfterwards}
-use Rattle.demands.proofs.Sequence.{Accepted, accepted}
+use Rattle.spec_tick.specs.Tick.{Outcome, outcome, tickOf}
+use Rattle.spec_tick.specs.Demands as demands
+use Rattle.spec_tick.specs.Demands.{stateAfterwards}
+use Rattle.theory_tick.proofs.Sequence.{Accepted, accepted}
 use Rattle.box_stretches.specs.Called.{Called, called, number, memoryAfter, lentAfter, first}
 use Rattle.box_stretches.specs.Stretch.{sequenceAt, stateAt, countAt, positionsAt, bayLength, stretchLength, lengthIn, isEmpty, sequenceIn, readBackIn, serviceOnlyIn, stateIn, lastNumberIn, ledgerIn, Terms, terms}
 use Rattle.box_stretches.specs.BayCalls.{delivering, bayTickOf, bayAdmitOf, bayRestoreOf}

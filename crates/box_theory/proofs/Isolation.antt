@@ -12,14 +12,14 @@ use lib.Dec.{eqb, leb}
 use borrow.Author.Tests.{eq-eqb, ne-eqb}
 use Rattle.spec_base.specs.Limits.{signalCount}
 use Rattle.spec_base.specs.Sets.{difference, membersFrom}
-use Rattle.states.specs.StateRecord.{stateLength}
-use Rattle.answers.specs.AnswerRecord.{answerLength}
-use Rattle.recordings.specs.Record.{recordLength, panelLength, panelOf}
+use Rattle.spec_tick.specs.StateRecord.{stateLength}
+use Rattle.spec_tick.specs.AnswerRecord.{answerLength}
+use Rattle.spec_tick.specs.Record.{recordLength, panelLength, panelOf}
 use Rattle.spec_base.specs.Parts.{put, zeros}
 use Rattle.numbers.proofs.Zeros.{length-zeros}
-use Rattle.tick.specs.Tick.{Outcome, outcome, Reply, refused, reacts, replyOf, replied, tickBy, tickOf}
-use Rattle.demands.specs.Demands as demands
-use Rattle.demands.specs.Demands.{stateAfterwards}
+use Rattle.spec_tick.specs.Tick.{Outcome, outcome, Reply, refused, reacts, replyOf, replied, tickBy, tickOf}
+use Rattle.spec_tick.specs.Demands as demands
+use Rattle.spec_tick.specs.Demands.{stateAfterwards}
 use Rattle.box_fillings.specs.Preview as fillings
 use Rattle.box_fillings.specs.Preview.{Previewed, previewed, byReply, answersOf, maxUnknown, previewLength, previewBytes, findings, previewOf}
 use Rattle.box_fillings.proofs.Numbers as numbers

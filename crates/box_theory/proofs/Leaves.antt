@@ -6,7 +6,7 @@ use mathlib.Core.List.{List}
 use lib.ListN.{length}
 use Rattle.spec_base.specs.Limits.{numberBytes}
 use Rattle.spec_base.specs.Bytes.{leNumber}
-use Rattle.demands.proofs.Sequence.{accepted}
+use Rattle.theory_tick.proofs.Sequence.{accepted}
 use Rattle.numbers.proofs.Zeros.{zeros-number}
 use Rattle.box_stretches.specs.Called.{Called, number, memoryAfter}
 use Rattle.box_stretches.specs.Stretch.{countAt, bayLength, stretchLength, sequenceIn, readBackIn, ceilingIn, serviceOnlyIn, stateIn, lastNumberIn, positionsIn, ledgerIn, filled}

@@ -9,8 +9,8 @@ use mathlib.Core.List.{List, []}
 use lib.ListN.{length, drop, length-drop}
 use lib.Seq.{length-take-le}
 use lib.Dec.{eqb}
-use Rattle.states.specs.StateRecord.{stateLength, stateRecord, phaseIn, labelsIn}
-use Rattle.states.proofs.StateLaws.{state-sized}
+use Rattle.spec_tick.specs.StateRecord.{stateLength, stateRecord, phaseIn, labelsIn}
+use Rattle.records.proofs.StateLaws.{state-sized}
 use Rattle.spec_base.specs.Parts.{put}
 use Rattle.numbers.proofs.Putting.{put-slot, length-put}
 use Rattle.box_positions.specs.Table.{tableLength, lookup, Kept, kept, numberKept, tableKept, saveOf, forgetOf}

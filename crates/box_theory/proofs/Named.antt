@@ -13,7 +13,7 @@ use Rattle.spec_language.specs.Statement.{Statement}
 use Rattle.spec_language.specs.States.{Valid}
 use Rattle.spec_language.specs.Machines.{State}
 use Rattle.spec_sequence.specs.Rows.{Spells}
-use Rattle.states.specs.StateRecord.{stateLength, phaseIn, labelsIn, encodeState}
+use Rattle.spec_tick.specs.StateRecord.{stateLength, phaseIn, labelsIn, encodeState}
 use Rattle.spec_base.specs.Parts.{put, zeros}
 use Rattle.box_positions.specs.Names.{Position}
 use Rattle.box_positions.specs.Table.{tableLength, lookup, numberKept, saveOf, forgetOf, SixteenKnown, Agrees}

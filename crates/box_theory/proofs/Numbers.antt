@@ -11,7 +11,7 @@ use lib.Dec.{leb}
 use borrow.Author.Tests.{eq-eqb, ne-eqb, eqb-true, eqb-false, not-false, le-leb, lt-leb, leb-true, leb-false}
 use Rattle.spec_sequence.specs.Check.{Checked, sound, bad, checked, numberOf, checkOf}
 use Rattle.theory_sequence.proofs.Rows.{check-by-rows, row-rank}
-use Rattle.demands.proofs.Sequence.{accepted}
+use Rattle.theory_tick.proofs.Sequence.{accepted}
 use Rattle.box_stretches.specs.Called.{called, number}
 use Rattle.box_stretches.specs.Stretch.{stretchLength, lengthIn, isEmpty, sequenceIn, readBackIn, stateIn, Terms, filled}
 use Rattle.box_stretches.specs.BayCalls.{sharedCeiling, byCheck, bayReleaseOf, bayAdmitOf}

@@ -21,7 +21,7 @@ use Rattle.theory_sequence.proofs.Rows.{Decides, decided, row-range}
 use Rattle.spec_base.specs.Bytes.{leBytes, leNumber}
 use Rattle.spec_base.specs.WholeLitres.{ordered}
 use Rattle.spec_sequence.specs.Amounts.{amountSize, amountBytes}
-use Rattle.demands.proofs.Sequence.{Accepted, accepted}
+use Rattle.theory_tick.proofs.Sequence.{Accepted, accepted}
 use Rattle.numbers.proofs.Putting.{length-put, put-before}
 use Rattle.numbers.proofs.Zeros.{zeros-number}
 use Rattle.box_positions.specs.Table.{tableLength, Agrees}

@@ -11,8 +11,8 @@ use borrow.Author.Tests.{ne-eqb}
 use Rattle.spec_base.specs.Limits.{lastNumber}
 use Rattle.spec_language.specs.Machines.{State}
 use Rattle.spec_sequence.specs.Program.{program}
-use Rattle.states.specs.StateRecord.{encodeState, Recorded}
-use Rattle.demands.proofs.Sequence.{Accepted}
+use Rattle.spec_tick.specs.StateRecord.{encodeState, Recorded}
+use Rattle.theory_tick.proofs.Sequence.{Accepted}
 use Rattle.box_positions.specs.Names.{Position}
 use Rattle.box_positions.specs.Table.{Agrees}
 use Rattle.box_ledgers.specs.Ledgers.{farmCount, totalIn}

@@ -15,7 +15,7 @@ use Rattle.spec_language.specs.Machines.{State}
 use Rattle.spec_language.specs.Statement.{Statement}
 use Rattle.spec_sequence.specs.Check.{checkOf}
 use Rattle.spec_sequence.specs.Rows.{Spells}
-use Rattle.states.specs.StateRecord.{encodeState}
+use Rattle.spec_tick.specs.StateRecord.{encodeState}
 use Rattle.spec_sequence.specs.Ceilings.{ceilingOf}
 use Rattle.spec_base.specs.Bytes.{leNumber}
 use Rattle.spec_base.specs.Parts.{zeros}

@@ -14,9 +14,9 @@ use Rattle.spec_language.specs.Ceiling.{ceiling}
 use Rattle.spec_language.specs.Machines.{Seen, instant, refused}
 use Rattle.spec_sequence.specs.Program.{program}
 use Rattle.spec_sequence.specs.Check.{Checked, sound, bad, checked}
-use Rattle.answers.specs.AnswerRecord.{answerLength}
-use Rattle.recordings.specs.Record.{recordLength, panelLength, panelOf}
-use Rattle.recordings.specs.Recording.{following}
+use Rattle.spec_tick.specs.AnswerRecord.{answerLength}
+use Rattle.spec_tick.specs.Record.{recordLength, panelLength, panelOf}
+use Rattle.spec_tick.specs.Recording.{following}
 use Rattle.box_positions.specs.Names.{find, Answered, answered, saveNamed, forgetNamed}
 use Rattle.box_fillings.specs.Preview.{Previewed, previewed, previewLength, shownBy}
 use Rattle.box_ledgers.specs.Ledgers.{farmCount, readingLength, readingFor, wouldPass}

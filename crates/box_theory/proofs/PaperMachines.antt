@@ -21,21 +21,21 @@ use Rattle.theory_language.proofs.ReadBack.{noSetpause-declared}
 use Rattle.theory_language.proofs.Litres.{agree-added}
 use Rattle.spec_sequence.specs.Program.{program, readBackSignals}
 use Rattle.spec_sequence.specs.Check.{Checked}
-use Rattle.states.specs.StateRecord.{Decoded, encodeState, holds, Recorded}
-use Rattle.states.proofs.StateLaws.{length-state, decode-encode}
-use Rattle.answers.specs.AnswerRecord.{answerLength, encodeAnswer}
-use Rattle.answers.proofs.AnswerLaws.{length-answer}
-use Rattle.tick.specs.Tick as Tick
-use Rattle.tick.specs.Tick.{Outcome, outcome, Reply, reacts, byState, written, replied, tickOf}
-use Rattle.tick.specs.Paper.{Report, reportOf}
-use Rattle.demands.specs.Deliveries.{deliveredBy, deliveredIf, deliveries}
-use Rattle.demands.proofs.Reports.{report-written}
-use Rattle.demands.specs.Demands.{report}
-use Rattle.recordings.specs.Record.{recordOf, inputIn}
-use Rattle.recordings_writer.proofs.Records.{answer-field, state-field, number-field, input-field}
-use Rattle.demands.proofs.Bounds.{emitted-below}
-use Rattle.demands.proofs.ErrorPlaces.{place-fits}
-use Rattle.demands.proofs.Sequence.{Accepted, tick-at, term-source, term-distinct, recorded-fresh, recorded-resumed, bounded-fresh, bounded-resumed, places-fresh, places-resumed, counted-fresh, counted-resumed}
+use Rattle.spec_tick.specs.StateRecord.{Decoded, encodeState, holds, Recorded}
+use Rattle.records.proofs.StateLaws.{length-state, decode-encode}
+use Rattle.spec_tick.specs.AnswerRecord.{answerLength, encodeAnswer}
+use Rattle.records.proofs.AnswerLaws.{length-answer}
+use Rattle.spec_tick.specs.Tick as Tick
+use Rattle.spec_tick.specs.Tick.{Outcome, outcome, Reply, reacts, byState, written, replied, tickOf}
+use Rattle.spec_tick.specs.Paper.{Report, reportOf}
+use Rattle.spec_tick.specs.Deliveries.{deliveredBy, deliveredIf, deliveries}
+use Rattle.theory_tick.proofs.Reports.{report-written}
+use Rattle.spec_tick.specs.Demands.{report}
+use Rattle.spec_tick.specs.Record.{recordOf, inputIn}
+use Rattle.records.proofs.Records.{answer-field, state-field, number-field, input-field}
+use Rattle.theory_tick.proofs.Bounds.{emitted-below}
+use Rattle.theory_tick.proofs.ErrorPlaces.{place-fits}
+use Rattle.theory_tick.proofs.Sequence.{Accepted, tick-at, term-source, term-distinct, recorded-fresh, recorded-resumed, bounded-fresh, bounded-resumed, places-fresh, places-resumed, counted-fresh, counted-resumed}
 use Rattle.box_fillings.specs.Preview.{answerIn}
 use Rattle.spec_base.specs.Bytes.{leBytes}
 use Rattle.numbers.proofs.Bytes.{le-low}

@@ -14,15 +14,15 @@ use Rattle.spec_language.specs.Machines.{State}
 use Rattle.spec_sequence.specs.Program.{program}
 use Rattle.spec_base.specs.Bytes.{leBytes, leNumber}
 use Rattle.numbers.proofs.Bytes.{le-round-trip}
-use Rattle.states.specs.StateRecord.{stateLength, phaseIn, labelsIn, encodeState, Recorded}
-use Rattle.states.proofs.StateLaws.{length-state}
+use Rattle.spec_tick.specs.StateRecord.{stateLength, phaseIn, labelsIn, encodeState, Recorded}
+use Rattle.records.proofs.StateLaws.{length-state}
 use Rattle.spec_base.specs.Parts.{put}
 use Rattle.numbers.proofs.Putting.{put-before, put-behind}
 use Rattle.box_positions.specs.Names.{Position, position, find, without, isKnown, Answered, answered, saveNamed, forgetNamed, numberAnswered, positionsAfter}
 use Rattle.box_positions.specs.Table.{lookup, kept, numberKept, tableKept, saveOf, forgetOf, Agrees}
 use Rattle.box_positions.proofs.Theorems.{save-agrees, forget-agrees}
 use Rattle.box_ledgers.specs.Ledgers.{totalIn}
-use Rattle.recordings.specs.Record.{recordLength, panelLength, panelOf}
+use Rattle.spec_tick.specs.Record.{recordLength, panelLength, panelOf}
 use Rattle.box_stretches.specs.Called.{Called, called, number, memoryAfter, lentAfter}
 use Rattle.box_stretches.specs.Stretch.{stateAt, countAt, positionsAt, stretchLength, stateIn, lastNumberIn, positionsIn, ledgerIn}
 use Rattle.box_stretches.specs.BayCalls.{bayReleaseOf, baySaveOf, bayForgetOf, bayRestoreOf, bayServiceOf, bayPanelOf, bayNewYearOf}

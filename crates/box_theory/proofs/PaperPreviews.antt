@@ -17,9 +17,9 @@ use Rattle.spec_language.specs.Errors.{Error, firstError}
 use Rattle.spec_language.specs.Reactions.{reactions}
 use Rattle.spec_sequence.specs.Program.{program}
 use Rattle.spec_sequence.specs.Check.{Checked}
-use Rattle.states.specs.StateRecord.{Decoded, holds, encodeState}
-use Rattle.states.proofs.StateLaws.{decode-encode}
-use Rattle.tick.specs.Tick.{Reply, reacts, byState, byCheck, replyOf}
+use Rattle.spec_tick.specs.StateRecord.{Decoded, holds, encodeState}
+use Rattle.records.proofs.StateLaws.{decode-encode}
+use Rattle.spec_tick.specs.Tick.{Reply, reacts, byState, byCheck, replyOf}
 use Rattle.box_fillings.specs.Preview.{Previewed, previewed, previewOf, shownBy, previewLength, answerIn, answersOf}
 use Rattle.box_fillings.proofs.Numbers.{other-buffer, refused-preview, shown-preview}
 use Rattle.box_stretches.specs.Called.{Called}

@@ -17,19 +17,19 @@ use Rattle.spec_language.specs.Machines.{Phase, Seen, instant, refused}
 use Rattle.spec_sequence.specs.Program.{program}
 use Rattle.spec_base.specs.Bytes.{leBytes, leNumber}
 use Rattle.numbers.proofs.Bytes.{length-leBytes, le-round-trip}
-use Rattle.states.specs.StateRecord.{stateLength, encodeState}
-use Rattle.answers.specs.AnswerRecord.{answerLength}
-use Rattle.recordings.specs.Record.{recordLength, recordOf}
-use Rattle.recordings.specs.Recording.{following}
-use Rattle.recordings_writer.proofs.Theorems.{following-is}
+use Rattle.spec_tick.specs.StateRecord.{stateLength, encodeState}
+use Rattle.spec_tick.specs.AnswerRecord.{answerLength}
+use Rattle.spec_tick.specs.Record.{recordLength, recordOf}
+use Rattle.spec_tick.specs.Recording.{following}
+use Rattle.records.proofs.Theorems.{following-is}
 use Rattle.numbers.proofs.Putting.{slot-put}
 use Rattle.box_positions.specs.Table.{Agrees}
 use Rattle.box_ledgers.specs.Ledgers.{farmCount, wouldPass, passes}
-use Rattle.tick.specs.Tick.{Outcome, outcome, tickOf}
-use Rattle.demands.specs.Demands as demands
-use Rattle.demands.specs.Demands.{stateAfterwards, answerAfterwards}
-use Rattle.demands.specs.Deliveries.{deliveries}
-use Rattle.demands.proofs.Sequence.{tick-short}
+use Rattle.spec_tick.specs.Tick.{Outcome, outcome, tickOf}
+use Rattle.spec_tick.specs.Demands as demands
+use Rattle.spec_tick.specs.Demands.{stateAfterwards, answerAfterwards}
+use Rattle.spec_tick.specs.Deliveries.{deliveries}
+use Rattle.theory_tick.proofs.Sequence.{tick-short}
 use Rattle.box_stretches.specs.Called.{Called, called, number, memoryAfter, lentAfter}
 use Rattle.box_stretches.specs.Stretch.{countAt, stretchLength, lastNumberIn, stateIn, ledgerIn}
 use Rattle.box_stretches.specs.BayCalls.{delivering, bayTickOf}

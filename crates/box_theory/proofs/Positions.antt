@@ -17,8 +17,8 @@ use Rattle.spec_language.specs.Machines.{State}
 use Rattle.spec_sequence.specs.Rows.{Spells}
 use Rattle.spec_base.specs.Bytes.{leBytes}
 use Rattle.numbers.proofs.Bytes.{length-leBytes, le-round-trip}
-use Rattle.states.specs.StateRecord.{stateLength, stateRecord, phaseIn, labelsIn, encodeState, Recorded}
-use Rattle.states.proofs.StateLaws.{state-sized}
+use Rattle.spec_tick.specs.StateRecord.{stateLength, stateRecord, phaseIn, labelsIn, encodeState, Recorded}
+use Rattle.records.proofs.StateLaws.{state-sized}
 use Rattle.spec_base.specs.Parts.{put, zeros}
 use Rattle.numbers.proofs.Putting.{slot-put, put-before, put-behind}
 use Rattle.box_ledgers.specs.Ledgers as Ledgers
@@ -27,7 +27,7 @@ use Rattle.box_ledgers.proofs.Theorems.{cleared-sized}
 use Rattle.box_positions.specs.Table.{tableLength, lookup, Kept, kept, numberKept, tableKept, saveOf, forgetOf, Formed}
 use Rattle.box_positions.proofs.Theorems.{lookup-saved, lookup-others-saved, lookup-forgotten, lookup-others-forgotten, lookup-zeros, formed-zeros, formed-saved, formed-forgotten, save-refused}
 use Rattle.box_positions.proofs.TableLaws.{save-sized, forget-sized}
-use Rattle.demands.proofs.Sequence.{accepted, same-statement}
+use Rattle.theory_tick.proofs.Sequence.{accepted, same-statement}
 use Rattle.box_stretches.specs.Called.{Called, called, number, memoryAfter}
 use Rattle.box_stretches.specs.Stretch.{stateAt, countAt, positionsAt, bayLength, stretchLength, stateIn, positionsIn, Terms}
 use Rattle.box_stretches.specs.BayCalls.{positionsKept, restored, bayTickOf, bayReleaseOf, bayAdmitOf, baySaveOf, bayForgetOf, bayRestoreOf, bayNewYearOf}

@@ -18,8 +18,8 @@ use Rattle.box_ledgers.specs.Ledgers.{ledgerLength}
 use Rattle.box_ledgers.proofs.Theorems.{cleared-sized}
 use Rattle.numbers.proofs.Zeros.{length-zeros, slot-zeros, zeros-number}
 use Rattle.box_positions.specs.Table.{tableLength}
-use Rattle.demands.specs.Demands as demands
-use Rattle.demands.proofs.Sequence.{accepted}
+use Rattle.spec_tick.specs.Demands as demands
+use Rattle.theory_tick.proofs.Sequence.{accepted}
 use Rattle.box_stretches.specs.Called.{called, number, memoryAfter}
 use Rattle.box_stretches.specs.Stretch.{lengthBytes, positionsAt, bayLength, stretchLength, lengthIn, sequenceIn, readBackIn, ceilingIn, positionsIn, partOf, vacated, withLedger, Terms, filled}
 use Rattle.box_stretches.specs.BayCalls.{sharedCeiling, bayReleaseOf, bayAdmitOf, bayNewYearOf}

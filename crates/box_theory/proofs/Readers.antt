@@ -9,7 +9,7 @@ use mathlib.Core.List.{List, [], _∷_}
 use lib.ListN.{length}
 use lib.Dec.{eqb}
 use borrow.Author.Tests.{eq-eqb, ne-eqb}
-use Rattle.recordings.specs.Record.{recordLength, panelLength, panelOf}
+use Rattle.spec_tick.specs.Record.{recordLength, panelLength, panelOf}
 use Rattle.box_stretches.specs.Called.{Called, called, number, memoryAfter}
 use Rattle.box_ledgers.specs.Ledgers.{readingLength, readingOf}
 use Rattle.box_stretches.specs.Stretch.{serviceOnlyIn, ledgerIn}

@@ -9,9 +9,9 @@ use Rattle.spec_language.specs.Expansion.{expand}
 use Rattle.spec_language.specs.Machines.{State, Rewriting}
 use Rattle.theory_language.proofs.Agreement.{TermOf}
 use Rattle.spec_sequence.specs.Program.{program}
-use Rattle.states.specs.StateRecord.{encodeState}
-use Rattle.states.proofs.StateLaws.{length-state}
-use Rattle.demands.proofs.Sequence.{same-statement}
+use Rattle.spec_tick.specs.StateRecord.{encodeState}
+use Rattle.records.proofs.StateLaws.{length-state}
+use Rattle.theory_tick.proofs.Sequence.{same-statement}
 use Rattle.box_positions.specs.Table.{lookup}
 use Rattle.box_stretches.specs.Called.{number, memoryAfter}
 use Rattle.box_stretches.specs.Stretch.{sequenceIn, readBackIn, stateIn, positionsIn, Terms, terms}

@@ -11,11 +11,11 @@ use lib.Dec.{eqb}
 use borrow.Author.Tests.{eq-eqb, ne-eqb, eqb-true}
 use Rattle.spec_sequence.specs.Check.{checked}
 use Rattle.spec_sequence.specs.Ceilings.{ceilingOf}
-use Rattle.answers.specs.AnswerRecord.{reactionsIn}
-use Rattle.tick.specs.Tick.{Outcome, tickOf}
-use Rattle.demands.specs.Demands as demands
-use Rattle.demands.specs.Demands.{answerAfterwards}
-use Rattle.demands.proofs.Ceiling.{never-above}
+use Rattle.spec_tick.specs.AnswerRecord.{reactionsIn}
+use Rattle.spec_tick.specs.Tick.{Outcome, tickOf}
+use Rattle.spec_tick.specs.Demands as demands
+use Rattle.spec_tick.specs.Demands.{answerAfterwards}
+use Rattle.theory_tick.proofs.Ceiling.{never-above}
 use Rattle.box_stretches.specs.Called.{called, memoryAfter}
 use Rattle.box_stretches.specs.Stretch.{stretchLength, stateIn, partOf}
 use Rattle.box_stretches.specs.BayCalls.{sharedCeiling, bayTickOf}

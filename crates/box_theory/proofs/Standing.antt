@@ -16,16 +16,16 @@ use Rattle.spec_language.specs.Machines.{State, stateAfter}
 use Rattle.spec_sequence.specs.Program.{program}
 use Rattle.spec_base.specs.Bytes.{leBytes}
 use Rattle.numbers.proofs.Bytes.{length-leBytes}
-use Rattle.states.specs.StateRecord.{stateLength, encodeState, holds, Recorded}
-use Rattle.states.proofs.StateLaws.{length-state, decode-encode}
-use Rattle.answers.specs.AnswerRecord.{answerLength}
+use Rattle.spec_tick.specs.StateRecord.{stateLength, encodeState, holds, Recorded}
+use Rattle.records.proofs.StateLaws.{length-state, decode-encode}
+use Rattle.spec_tick.specs.AnswerRecord.{answerLength}
 use Rattle.spec_base.specs.Parts.{slot, put}
-use Rattle.tick.specs.Tick as Tick
-use Rattle.tick.specs.Tick.{Outcome, tickOf}
-use Rattle.demands.specs.Demands as demands
-use Rattle.demands.specs.Demands.{stateAfterwards, cleared}
-use Rattle.demands.proofs.Sequence.{Accepted, tick-at, tick-short, recorded-fresh, recorded-resumed}
-use Rattle.demands.proofs.Ceiling.{most}
+use Rattle.spec_tick.specs.Tick as Tick
+use Rattle.spec_tick.specs.Tick.{Outcome, tickOf}
+use Rattle.spec_tick.specs.Demands as demands
+use Rattle.spec_tick.specs.Demands.{stateAfterwards, cleared}
+use Rattle.theory_tick.proofs.Sequence.{Accepted, tick-at, tick-short, recorded-fresh, recorded-resumed}
+use Rattle.theory_tick.proofs.Ceiling.{most}
 use Rattle.numbers.proofs.Putting.{put-before}
 use Rattle.box_ledgers.specs.Ledgers.{ledgerLength, added}
 use Rattle.box_stretches.specs.Called.{Called, number, memoryAfter}

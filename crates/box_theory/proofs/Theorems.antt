@@ -14,14 +14,14 @@ use Rattle.spec_language.specs.Expansion.{expand}
 use Rattle.spec_language.specs.Machines.{Rewriting}
 use Rattle.spec_sequence.specs.Program.{program}
 use Rattle.spec_sequence.specs.Rows.{Spells, ByRows}
-use Rattle.tick.specs.Tick.{Outcome, tickOf}
-use Rattle.tick.specs.TickRows.{TickRow}
-use Rattle.demands.specs.Demands as demands
-use Rattle.demands.specs.Demands.{outcomes, cleared, report, StandsAt, Derived, Shows}
-use Rattle.tick.specs.Paper.{paper}
-use Rattle.demands.specs.Deliveries.{paperDelivered}
-use Rattle.recordings.specs.Record.{recordLength, panelLength}
-use Rattle.recordings.specs.Recording.{callOn, recordingOf, joined, Inputs}
+use Rattle.spec_tick.specs.Tick.{Outcome, tickOf}
+use Rattle.spec_tick.specs.TickRows.{TickRow}
+use Rattle.spec_tick.specs.Demands as demands
+use Rattle.spec_tick.specs.Demands.{outcomes, cleared, report, StandsAt, Derived, Shows}
+use Rattle.spec_tick.specs.Paper.{paper}
+use Rattle.spec_tick.specs.Deliveries.{paperDelivered}
+use Rattle.spec_tick.specs.Record.{recordLength, panelLength}
+use Rattle.spec_tick.specs.Recording.{callOn, recordingOf, joined, Inputs}
 use Rattle.replays.specs.Replay.{replayed, replayOf}
 use Rattle.replays.proofs.Theorems.{accepts-recordings}
 use Rattle.box_positions.specs.Names.{find}

@@ -20,22 +20,22 @@ use Rattle.spec_sequence.specs.Check.{Checked, sound, bad, checked}
 use Rattle.theory_sequence.proofs.Rows.{row-rank}
 use Rattle.spec_base.specs.Bytes.{leBytes, leNumber}
 use Rattle.numbers.proofs.Bytes.{length-leBytes}
-use Rattle.states.specs.StateRecord.{stateLength, Decoded, holds, malformed, decodeState}
-use Rattle.states.proofs.StateLaws.{length-state}
-use Rattle.answers.specs.AnswerRecord.{answerLength}
-use Rattle.recordings.specs.Record.{recordLength, recordOf}
-use Rattle.recordings.specs.Recording.{following}
+use Rattle.spec_tick.specs.StateRecord.{stateLength, Decoded, holds, malformed, decodeState}
+use Rattle.records.proofs.StateLaws.{length-state}
+use Rattle.spec_tick.specs.AnswerRecord.{answerLength}
+use Rattle.spec_tick.specs.Record.{recordLength, recordOf}
+use Rattle.spec_tick.specs.Recording.{following}
 use Rattle.spec_base.specs.Parts.{slot, put}
 use Rattle.numbers.proofs.Putting.{put-slot, length-put, slot-put, put-before, put-behind}
 use Rattle.box_ledgers.specs.Ledgers.{ledgerLength, passes, added}
 use Rattle.box_ledgers.proofs.Theorems.{added-sized}
-use Rattle.tick.specs.Tick as Tick
-use Rattle.tick.specs.Tick.{Outcome, outcome, byState, replied, tickBy, tickOf}
-use Rattle.tick.specs.TickRows.{TickRow, row-1, row-2-to-10, row-11, row-12}
-use Rattle.demands.specs.Demands as demands
-use Rattle.demands.specs.Demands.{stateAfterwards, answerAfterwards}
-use Rattle.demands.proofs.Sequence.{tick-short}
-use Rattle.demands.proofs.Demand1.{demand-1}
+use Rattle.spec_tick.specs.Tick as Tick
+use Rattle.spec_tick.specs.Tick.{Outcome, outcome, byState, replied, tickBy, tickOf}
+use Rattle.spec_tick.specs.TickRows.{TickRow, row-1, row-2-to-10, row-11, row-12}
+use Rattle.spec_tick.specs.Demands as demands
+use Rattle.spec_tick.specs.Demands.{stateAfterwards, answerAfterwards}
+use Rattle.theory_tick.proofs.Sequence.{tick-short}
+use Rattle.theory_tick.proofs.Demand1.{demand-1}
 use Rattle.box_stretches.specs.Called.{Called, called, number, memoryAfter, lentAfter, first}
 use Rattle.box_stretches.specs.Stretch.{stateAt, countAt, bayLength, stretchLength, sequenceIn, readBackIn, stateIn, lastNumberIn, ledgerIn, withLedger}
 use Rattle.box_stretches.specs.BayCalls.{stateKept, delivering, charged, recorded, bayStepOf, bayChargedOf, bayTickOf}

@@ -21,14 +21,14 @@ use Rattle.spec_sequence.specs.Commands.{commandOf}
 use Rattle.spec_sequence.specs.Reader.{front, read}
 use Rattle.spec_sequence.specs.Check.{checked, checkOf}
 use Rattle.spec_base.specs.Bytes.{leBytes, leNumber}
-use Rattle.states.specs.StateRecord.{phaseIn, encodeState, decodeState}
-use Rattle.answers.specs.AnswerRecord.{encodeAnswer}
+use Rattle.spec_tick.specs.StateRecord.{phaseIn, encodeState, decodeState}
+use Rattle.spec_tick.specs.AnswerRecord.{encodeAnswer}
 use Rattle.spec_base.specs.Parts.{put, zeros}
 use Rattle.box_ledgers.specs.Ledgers.{totalIn, wouldPass, addedBelow}
-use Rattle.tick.specs.Tick.{Outcome, outcome, tickBy}
-use Rattle.demands.specs.Demands.{outcomes}
+use Rattle.spec_tick.specs.Tick.{Outcome, outcome, tickBy}
+use Rattle.spec_tick.specs.Demands.{outcomes}
 use Rattle.box_stretches.specs.Called.{Called, memoryAfter}
-use Rattle.recordings.specs.Recording.{following}
+use Rattle.spec_tick.specs.Recording.{following}
 use Rattle.box_stretches.specs.Stretch.{stateAt, ceilingIn, partOf, vacated, filled, Terms}
 use Rattle.box_stretches.specs.BayCalls.{bayStepOf, bayChargedOf, bayTickOf, bayReleaseOf, bayAdmitOf}
 use Rattle.box_calls.specs.Box.{emptyBox, present, Call, admit, release, save, onTick, callOf}

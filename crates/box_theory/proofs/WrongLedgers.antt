@@ -21,14 +21,14 @@ use Rattle.spec_sequence.specs.Commands.{commandOf}
 use Rattle.spec_sequence.specs.Reader.{front, read}
 use Rattle.spec_sequence.specs.Check.{checked}
 use Rattle.spec_base.specs.Bytes.{leBytes, leNumber}
-use Rattle.states.specs.StateRecord.{encodeState, decodeState}
-use Rattle.answers.specs.AnswerRecord.{encodeAnswer, answerLength}
+use Rattle.spec_tick.specs.StateRecord.{encodeState, decodeState}
+use Rattle.spec_tick.specs.AnswerRecord.{encodeAnswer, answerLength}
 use Rattle.spec_base.specs.Parts.{put, zeros}
 use Rattle.box_positions.specs.Table.{place, lookup, saveOf, forgetOf}
 use Rattle.box_ledgers.specs.Ledgers.{totalIn, totalsBytes, wouldPass, addedBelow}
-use Rattle.tick.specs.Tick.{tickBy}
-use Rattle.recordings.specs.Record.{recordLength}
-use Rattle.recordings.specs.Recording.{following}
+use Rattle.spec_tick.specs.Tick.{tickBy}
+use Rattle.spec_tick.specs.Record.{recordLength}
+use Rattle.spec_tick.specs.Recording.{following}
 use Rattle.box_stretches.specs.Stretch.{partOf, vacated, filled}
 use Rattle.box_stretches.specs.BayCalls.{bayStepOf, bayChargedOf, bayTickOf, bayReleaseOf, bayAdmitOf, baySaveOf, bayForgetOf, bayRestoreOf}
 use Rattle.box_calls.specs.Box.{emptyBox, present, callOf}

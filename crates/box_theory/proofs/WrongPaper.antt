@@ -28,16 +28,16 @@ use Rattle.spec_sequence.specs.Reader.{front, read}
 use Rattle.spec_sequence.specs.Check.{Checked, sound, bad, checked, checkOf}
 use Rattle.spec_sequence.specs.Rows.{Spells}
 use Rattle.spec_base.specs.Bytes.{leBytes, leNumber}
-use Rattle.states.specs.StateRecord.{encodeState, decodeState}
-use Rattle.answers.specs.AnswerRecord.{codeIn, emittedIn, encodeAnswer}
+use Rattle.spec_tick.specs.StateRecord.{encodeState, decodeState}
+use Rattle.spec_tick.specs.AnswerRecord.{codeIn, emittedIn, encodeAnswer}
 use Rattle.spec_base.specs.Parts.{put, zeros}
 use Rattle.box_positions.specs.Names.{find, without, saveNamed}
 use Rattle.box_positions.specs.Table.{saveOf, forgetOf, lookup, place}
 use Rattle.box_ledgers.specs.Ledgers.{readingLength, fieldIn, totalIn, totalsBytes, wouldPass, addedBelow}
-use Rattle.tick.specs.Tick.{tickBy}
-use Rattle.recordings.specs.Recording.{following}
-use Rattle.tick.specs.Paper.{Report, turnedDown, reacted}
-use Rattle.demands.proofs.Sequence.{accepted, same-statement}
+use Rattle.spec_tick.specs.Tick.{tickBy}
+use Rattle.spec_tick.specs.Recording.{following}
+use Rattle.spec_tick.specs.Paper.{Report, turnedDown, reacted}
+use Rattle.theory_tick.proofs.Sequence.{accepted, same-statement}
 use Rattle.box_stretches.specs.Called.{lentAfter, first}
 use Rattle.box_stretches.specs.Stretch.{partOf, vacated, filled, Terms}
 use Rattle.box_stretches.specs.BayCalls.{bayStepOf, bayChargedOf, bayTickOf, bayReleaseOf, bayAdmitOf, baySaveOf, bayForgetOf, bayRestoreOf, bayLedgerOf}

@@ -23,16 +23,16 @@ use Rattle.spec_sequence.specs.Commands.{commandOf}
 use Rattle.spec_sequence.specs.Reader.{front, read}
 use Rattle.spec_sequence.specs.Check.{checked}
 use Rattle.spec_base.specs.Bytes.{leBytes, leNumber}
-use Rattle.states.specs.StateRecord.{phaseIn, encodeState, decodeState}
-use Rattle.answers.specs.AnswerRecord.{emittedIn, encodeAnswer}
+use Rattle.spec_tick.specs.StateRecord.{phaseIn, encodeState, decodeState}
+use Rattle.spec_tick.specs.AnswerRecord.{emittedIn, encodeAnswer}
 use Rattle.spec_base.specs.Parts.{put, zeros}
 use Rattle.box_positions.specs.Names as Names
 use Rattle.box_positions.specs.Names.{find, saveNamed}
 use Rattle.box_positions.specs.Table.{place, lookup, saveOf, forgetOf, namesBelow}
 use Rattle.box_ledgers.specs.Ledgers.{totalIn, wouldPass, addedBelow}
-use Rattle.tick.specs.Tick.{Outcome, outcome, tickBy, tickOf}
-use Rattle.demands.specs.Demands.{outcomes}
-use Rattle.recordings.specs.Recording.{following, callOn}
+use Rattle.spec_tick.specs.Tick.{Outcome, outcome, tickBy, tickOf}
+use Rattle.spec_tick.specs.Demands.{outcomes}
+use Rattle.spec_tick.specs.Recording.{following, callOn}
 use Rattle.box_stretches.specs.Called.{memoryAfter}
 use Rattle.box_stretches.specs.Stretch.{stateIn, partOf, vacated, filled, Terms}
 use Rattle.box_stretches.specs.BayCalls.{bayStepOf, bayChargedOf, bayTickOf, bayReleaseOf, bayAdmitOf, baySaveOf, bayForgetOf, bayRestoreOf}

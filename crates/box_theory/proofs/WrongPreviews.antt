@@ -24,13 +24,13 @@ use Rattle.spec_sequence.specs.Commands.{commandOf}
 use Rattle.spec_sequence.specs.Reader.{front, read}
 use Rattle.spec_sequence.specs.Check.{checked}
 use Rattle.spec_base.specs.Bytes.{leBytes, leNumber}
-use Rattle.states.specs.StateRecord.{encodeState, decodeState}
-use Rattle.answers.specs.AnswerRecord.{answerLength, encodeAnswer}
+use Rattle.spec_tick.specs.StateRecord.{encodeState, decodeState}
+use Rattle.spec_tick.specs.AnswerRecord.{answerLength, encodeAnswer}
 use Rattle.spec_base.specs.Parts.{put, zeros}
 use Rattle.box_ledgers.specs.Ledgers.{totalIn, wouldPass, addedBelow}
-use Rattle.tick.specs.Tick.{tickBy}
-use Rattle.recordings.specs.Record.{recordLength}
-use Rattle.recordings.specs.Recording.{following}
+use Rattle.spec_tick.specs.Tick.{tickBy}
+use Rattle.spec_tick.specs.Record.{recordLength}
+use Rattle.spec_tick.specs.Recording.{following}
 use Rattle.box_fillings.specs.Preview.{previewLength, both, gathered, findings, previewOf}
 use Rattle.box_stretches.specs.Stretch.{lastNumberIn, partOf, vacated, filled}
 use Rattle.box_stretches.specs.BayCalls.{bayStepOf, bayChargedOf, bayTickOf, bayReleaseOf, bayAdmitOf, bayPreviewOf}

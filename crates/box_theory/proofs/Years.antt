@@ -14,8 +14,8 @@ use borrow.Author.Tests.{eq-eqb, ne-eqb, ltb-true}
 use Rattle.spec_base.specs.Limits.{numberBytes, litresLimit}
 use Rattle.spec_base.specs.Bytes.{leBytes}
 use Rattle.numbers.proofs.Bytes.{length-leBytes}
-use Rattle.states.specs.StateRecord.{stateLength, stateRecord, phaseIn, labelsIn}
-use Rattle.states.proofs.StateLaws.{state-sized}
+use Rattle.spec_tick.specs.StateRecord.{stateLength, stateRecord, phaseIn, labelsIn}
+use Rattle.records.proofs.StateLaws.{state-sized}
 use Rattle.spec_base.specs.Parts.{put, zeros}
 use Rattle.numbers.proofs.Putting.{slot-put, put-behind}
 use Rattle.numbers.proofs.Zeros.{slot-zeros}
@@ -25,8 +25,8 @@ use Rattle.spec_base.specs.WholeLitres.{Near}
 use Rattle.box_ledgers.specs.Ledgers.{farmCount, ledgerLength, exactTotal, readingOf, totalRead, totalIn, Exact, cleared, wouldPass, passes, added}
 use Rattle.box_ledgers.proofs.Totals.{passes-not}
 use Rattle.box_ledgers.proofs.Theorems.{added-total, added-stays-exact, total-most, reading-total, reading-within, cleared-total, cleared-exact, cleared-sized, cleared-is}
-use Rattle.demands.specs.Demands as demands
-use Rattle.demands.proofs.Sequence.{accepted}
+use Rattle.spec_tick.specs.Demands as demands
+use Rattle.theory_tick.proofs.Sequence.{accepted}
 use Rattle.box_stretches.specs.Called.{Called, called, number, memoryAfter}
 use Rattle.box_stretches.specs.Stretch.{stateAt, countAt, positionsAt, bayLength, stretchLength, lengthIn, stateIn, positionsIn, ledgerIn}
 use Rattle.box_stretches.specs.BayCalls.{positionsKept, restored, delivering, bayTickOf, bayReleaseOf, bayAdmitOf, baySaveOf, bayForgetOf, bayRestoreOf, bayNewYearOf}

@@ -16,14 +16,14 @@ use Rattle.spec_sequence.specs.Program.{program}
 use Rattle.spec_sequence.specs.Rows.{Row}
 use Rattle.spec_sequence.specs.Check.{Checked, sound, bad, checked, checkOf}
 use Rattle.theory_sequence.proofs.Rows.{Decides, decided, check-by-rows}
-use Rattle.states.specs.StateRecord.{phaseIn, labelsIn}
-use Rattle.recordings.specs.Record.{recordLength}
-use Rattle.recordings.specs.Recording.{blank}
-use Rattle.tick.specs.Tick as Tick
-use Rattle.tick.specs.Tick.{Reply, tickOf}
-use Rattle.tick.specs.TickRows.{TickRow, row-1, row-2-to-10, row-11, row-12}
-use Rattle.demands.specs.Demands as demands
-use Rattle.demands.proofs.Demand1.{demand-1}
+use Rattle.spec_tick.specs.StateRecord.{phaseIn, labelsIn}
+use Rattle.spec_tick.specs.Record.{recordLength}
+use Rattle.spec_tick.specs.Recording.{blank}
+use Rattle.spec_tick.specs.Tick as Tick
+use Rattle.spec_tick.specs.Tick.{Reply, tickOf}
+use Rattle.spec_tick.specs.TickRows.{TickRow, row-1, row-2-to-10, row-11, row-12}
+use Rattle.spec_tick.specs.Demands as demands
+use Rattle.theory_tick.proofs.Demand1.{demand-1}
 use Rattle.unrolled.specs.Call as unrolled
 use Rattle.unrolled.specs.Call.{unrollOf}
 use Rattle.unrolled.specs.Rows as unrolled-rows

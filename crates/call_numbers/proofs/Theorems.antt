@@ -19,8 +19,8 @@ use Rattle.spec_sequence.specs.Program.{program}
 use Rattle.spec_sequence.specs.Check.{Checked, sound, bad, checked, numberOf, checkOf}
 use Rattle.spec_sequence.specs.Ceilings.{ceilingOf}
 use Rattle.theory_sequence.proofs.Rows.{Decides, decided, row-range}
-use Rattle.tick.specs.Tick.{tickOf}
-use Rattle.demands.specs.Demands as demands
+use Rattle.spec_tick.specs.Tick.{tickOf}
+use Rattle.spec_tick.specs.Demands as demands
 use Rattle.box_calls.specs.Box.{admit, release, tick, save, restore, forget, service, panel, preview, ledger, newYear}
 use Rattle.call_numbers.specs.Numbers.{CallName, intake-check, intake-tick, intake-unroll, intake-replay, HostCall, checks, measures, ticks, unrolls, replays, admits, releases, ticksBay, saves, restores, forgets, showsService, showsPanel, previews, readsLedger, beginsYear, callGives, passable, rowFor, alsoAnywhere, rowAnywhere, oneOf, ReachedBox, reachedBytes, GivesOnly, GivesEach, RowsExact, CeilingRefuses, TableExact}
 use Rattle.call_numbers.proofs.NumberLists.{all}

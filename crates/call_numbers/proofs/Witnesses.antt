@@ -28,12 +28,12 @@ use Rattle.spec_sequence.specs.Reader.{front, read}
 use Rattle.spec_sequence.specs.Writer.{bytesOf}
 use Rattle.spec_sequence.specs.Check.{checked, checkOf}
 use Rattle.spec_base.specs.Bytes.{leBytes, leNumber}
-use Rattle.states.specs.StateRecord.{stateLength, stateRecord, encodeState, decodeState}
-use Rattle.answers.specs.AnswerRecord.{answerLength, encodeAnswer}
-use Rattle.tick.specs.Tick.{tickBy}
-use Rattle.demands.specs.Demands.{cleared}
-use Rattle.recordings.specs.Record.{recordLength, panelLength, panelOf}
-use Rattle.recordings.specs.Recording.{following, recordsFrom}
+use Rattle.spec_tick.specs.StateRecord.{stateLength, stateRecord, encodeState, decodeState}
+use Rattle.spec_tick.specs.AnswerRecord.{answerLength, encodeAnswer}
+use Rattle.spec_tick.specs.Tick.{tickBy}
+use Rattle.spec_tick.specs.Demands.{cleared}
+use Rattle.spec_tick.specs.Record.{recordLength, panelLength, panelOf}
+use Rattle.spec_tick.specs.Recording.{following, recordsFrom}
 use Rattle.replays.specs.Replay.{firstRecords, same, firstDifference, placeOf, replayOf}
 use Rattle.unrolled.specs.Unrolled.{copied, unrolled}
 use Rattle.unrolled.specs.Call.{unrollOf}

@@ -10,8 +10,8 @@ use lib.Dec.{eqb, ltb}
 use Rattle.spec_sequence.specs.Amounts.{areBytes}
 use Rattle.spec_sequence.specs.Check.{checked, checkOf}
 use Rattle.spec_sequence.specs.Ceilings.{ceilingOf}
-use Rattle.tick.specs.Tick.{tickOf}
-use Rattle.demands.specs.Demands as demands
+use Rattle.spec_tick.specs.Tick.{tickOf}
+use Rattle.spec_tick.specs.Demands as demands
 use Rattle.unrolled.specs.Call as unrolled
 use Rattle.unrolled.specs.Call.{unrollOf}
 use Rattle.replays.specs.Replay as replayed

@@ -10,7 +10,7 @@ use Rattle.spec_base.specs.Sets.{none}
 use Rattle.spec_language.specs.Statement.{Statement}
 use Rattle.spec_language.specs.LabelTests.{valid}
 use Rattle.spec_language.specs.Machines.{State}
-use Rattle.states.specs.StateRecord.{phaseIn, labelsIn, holds, malformed, decodeState}
+use Rattle.spec_tick.specs.StateRecord.{phaseIn, labelsIn, holds, malformed, decodeState}
 use Rattle.instants.specs.declared.Standing.the-variants as stands
 use Rattle.instants.specs.Replies.{Decodes}
 use Rattle.labels.specs.declared.Labels.{Labels}

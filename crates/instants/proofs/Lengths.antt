@@ -8,11 +8,11 @@ use Rattle.labels.specs.Labels.{labelSet}
 use Rattle.reaction.specs.declared.Completion.{Completion}
 use Rattle.reaction.specs.declared.Completion.the-variants.{Ended, Waiting, Leaving, Wrong}
 use Rattle.reaction.specs.declared.Reaction.{Reaction}
-use Rattle.states.specs.StateRecord.{stateLength, stateRecord}
-use Rattle.states.proofs.StateLaws.{state-sized}
-use Rattle.answers.specs.AnswerRecord.{answerLength, answerRecord}
-use Rattle.answers.proofs.AnswerLaws.{answer-sized}
-use Rattle.tick.specs.Tick.{Outcome, outcome}
+use Rattle.spec_tick.specs.StateRecord.{stateLength, stateRecord}
+use Rattle.records.proofs.StateLaws.{state-sized}
+use Rattle.spec_tick.specs.AnswerRecord.{answerLength, answerRecord}
+use Rattle.records.proofs.AnswerLaws.{answer-sized}
+use Rattle.spec_tick.specs.Tick.{Outcome, outcome}
 use Rattle.instants.specs.Written.{writtenBy, writtenFrom}
 
 pub record Writes (o : Outcome) : Type 0 where

@@ -33,16 +33,16 @@ use Rattle.reaction.specs.Completions.{completionOf}
 use Rattle.reaction.specs.Reactions.{reactionOf}
 use Rattle.reaction.specs.declared.Reaction.{Reaction}
 use Rattle.numbers.proofs.Bytes.{le-low}
-use Rattle.states.specs.StateRecord.{labelsIn, encodeState, Decoded, holds, malformed, decodeState}
-use Rattle.answers.specs.AnswerRecord.{encodeAnswer}
-use Rattle.tick.specs.Tick as tick
-use Rattle.tick.specs.Tick.{written, reacts, byState, byCheck, replyOf, replied}
+use Rattle.spec_tick.specs.StateRecord.{labelsIn, encodeState, Decoded, holds, malformed, decodeState}
+use Rattle.spec_tick.specs.AnswerRecord.{encodeAnswer}
+use Rattle.spec_tick.specs.Tick as tick
+use Rattle.spec_tick.specs.Tick.{written, reacts, byState, byCheck, replyOf, replied}
 use Rattle.instants.specs.declared.Standing.the-variants as stands
 use Rattle.instants.specs.declared.Reply.{Reply}
 use Rattle.instants.specs.declared.Reply.the-variants.{Refused, Reacted}
 use Rattle.instants.specs.Written.{WritableCode, Writable, writtenFrom}
 use Rattle.instants.specs.Replies.{Decodes, StandsFor, repliedFrom, Replies}
-use Rattle.demands.proofs.Bounds.{Bounded, Exits, ranged-bounded, bounded-expand, bounded-declared, code-exits}
+use Rattle.theory_tick.proofs.Bounds.{Bounded, Exits, ranged-bounded, bounded-expand, bounded-declared, code-exits}
 
 -- WRITTEN: the code's tree writes what esterel's instant does; the signals asked for and the litres are not told
 pub written-from : (j : Traces.Traced) → writtenFrom (reactionOf j) ≡ written (instantOf j)

@@ -6,9 +6,9 @@ use mathlib.Core.List.{List}
 use lib.Dec.{eqb}
 use lib.ListN.{length}
 use borrow.Author.Tests.{eqb-true}
-use Rattle.states.specs.StateRecord.{stateLength}
-use Rattle.answers.specs.AnswerRecord.{answerLength}
-use Rattle.tick.specs.Tick.{outcome, replyOf, tickBy, tickOf}
+use Rattle.spec_tick.specs.StateRecord.{stateLength}
+use Rattle.spec_tick.specs.AnswerRecord.{answerLength}
+use Rattle.spec_tick.specs.Tick.{outcome, replyOf, tickBy, tickOf}
 use Rattle.instants.specs.declared.Reply.{Reply}
 use Rattle.instants.specs.Replies.{repliedFrom, Replies}
 use Rattle.instants.proofs.Replying.{replied-from}

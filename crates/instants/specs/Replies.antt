@@ -16,9 +16,9 @@ use Rattle.instants.specs.declared.Reply.{Reply}
 use Rattle.instants.specs.declared.Reply.the-variants.{Refused, Reacted}
 use Rattle.reaction.specs.Reactions.{reactionOf}
 use Rattle.instants.specs.Written.{Writable, writtenFrom}
-use Rattle.states.specs.StateRecord.{labelsIn, holds, malformed, decodeState}
-use Rattle.tick.specs.Tick as tick
-use Rattle.tick.specs.Tick.{Outcome, outcome, refused, reacts, replyOf}
+use Rattle.spec_tick.specs.StateRecord.{labelsIn, holds, malformed, decodeState}
+use Rattle.spec_tick.specs.Tick as tick
+use Rattle.spec_tick.specs.Tick.{Outcome, outcome, refused, reacts, replyOf}
 
 -- what the record holds for p; of a waiting machine also the ranks of its active pauses
 abbrev pub Decodes : Statement → List ℕ → Standing → Type 0

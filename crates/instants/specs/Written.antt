@@ -5,9 +5,9 @@ use Rattle.labels.specs.Labels.{labelSet}
 use Rattle.reaction.specs.declared.Completion.{Completion}
 use Rattle.reaction.specs.declared.Completion.the-variants.{Ended, Waiting, Leaving, Wrong}
 use Rattle.reaction.specs.declared.Reaction.{Reaction}
-use Rattle.states.specs.StateRecord.{stateRecord}
-use Rattle.answers.specs.AnswerRecord.{answerRecord}
-use Rattle.tick.specs.Tick.{Outcome, outcome}
+use Rattle.spec_tick.specs.StateRecord.{stateRecord}
+use Rattle.spec_tick.specs.AnswerRecord.{answerRecord}
+use Rattle.spec_tick.specs.Tick.{Outcome, outcome}
 
 -- the code of the instant fits a byte
 abbrev pub WritableCode : Completion → Type 0

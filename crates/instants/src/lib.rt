@@ -2,24 +2,24 @@
 // both records written last.
 ghost use mathlib.Core.Path.{_≡_};
 ghost use lib.ListN.{length};
-ghost use Rattle.states.specs.StateRecord.{stateLength};
-ghost use Rattle.answers.specs.AnswerRecord.{answerLength};
-ghost use Rattle.tick.specs.Tick.{outcome};
+ghost use Rattle.spec_tick.specs.StateRecord.{stateLength};
+ghost use Rattle.spec_tick.specs.AnswerRecord.{answerLength};
+ghost use Rattle.spec_tick.specs.Tick.{outcome};
 ghost use Rattle.instants.specs.Written.{Writable, writtenFrom};
 ghost use Rattle.layout.specs.Known.{Sound};
 ghost use Rattle.checks.specs.Verdict.{Passed};
 ghost use Rattle.instants.specs.Replies.{DecodesRead, Replies};
 ghost use mathlib.Core.Bool.{_&&_};
 ghost use lib.Dec.{eqb};
-ghost use Rattle.demands.specs.Demands.{TickMeets};
-use answers::ANSWER_LENGTH;
+ghost use Rattle.spec_tick.specs.Demands.{TickMeets};
 use labels::Labels;
 use layout::SecondParts;
 use notes::Notes;
 use program::Start;
 use reaction::Completion;
 use reaction::Reaction;
-use states::STATE_LENGTH;
+use records::ANSWER_LENGTH;
+use records::STATE_LENGTH;
 use validity::Validity;
 
 // Writes both records of an instant.
@@ -30,20 +30,20 @@ pub fn finish(state: &mut [u8], answer: &mut [u8], r: Reaction) -> u8
     let k = r.completion;
     match k {
         Completion::Ended => {
-            states::write_state(state, states::OVER, labels::empty());
-            answers::write_answer(answer, 0, 0, 0, r.emitted, r.reactions);
+            records::write_state(state, records::OVER, labels::empty());
+            records::write_answer(answer, 0, 0, 0, r.emitted, r.reactions);
         }
         Completion::Waiting => {
-            states::write_state(state, states::WAITING, r.labels);
-            answers::write_answer(answer, 1, 0, 0, r.emitted, r.reactions);
+            records::write_state(state, records::WAITING, r.labels);
+            records::write_answer(answer, 1, 0, 0, r.emitted, r.reactions);
         }
         Completion::Leaving(n) => {
-            states::write_state(state, states::OVER, labels::empty());
-            answers::write_answer(answer, n + 1, 0, 0, r.emitted, r.reactions);
+            records::write_state(state, records::OVER, labels::empty());
+            records::write_answer(answer, n + 1, 0, 0, r.emitted, r.reactions);
         }
         Completion::Wrong(kind, place) => {
-            states::write_state(state, states::OVER, labels::empty());
-            answers::write_answer(answer, answers::WRONG, kind, place, 0, r.reactions);
+            records::write_state(state, records::OVER, labels::empty());
+            records::write_answer(answer, records::WRONG, kind, place, 0, r.reactions);
         }
     }
     0
@@ -62,19 +62,19 @@ pub fn decode(sequence: &[u8], second: &SecondParts, notes: &Notes, state: &[u8]
     requires { ⌜ Sound (now second) (now notes) (now sequence) ⌝ }
     ensures { λ r. ⌜ DecodesRead (now (second .entry)) (now (notes .entry)) (now (sequence .entry)) (now (state .entry)) r ⌝ }
 {
-    let phase = states::phase(state);
-    let labels = states::labels(state);
-    if phase == states::WAITING {
+    let phase = records::phase(state);
+    let labels = records::labels(state);
+    if phase == records::WAITING {
         return match validity::validity_of(sequence, second, notes, labels) {
             Validity::Valid(active) => Standing::Waiting(active),
             Validity::Invalid => Standing::Malformed,
         };
     }
     if labels::is_empty(labels) {
-        if phase == states::FRESH {
+        if phase == records::FRESH {
             return Standing::Fresh;
         }
-        if phase == states::OVER {
+        if phase == records::OVER {
             return Standing::Over;
         }
     }

@@ -4,7 +4,7 @@ ghost use mathlib.Core.Path.{_≡_};
 ghost use mathlib.Core.List.{[], _∷_};
 ghost use Rattle.spec_sequence.specs.Check.{checked, checkOf};
 ghost use Rattle.spec_sequence.specs.Ceilings.{ceilingOf};
-ghost use Rattle.demands.specs.Demands.{TickMeets};
+ghost use Rattle.spec_tick.specs.Demands.{TickMeets};
 ghost use Rattle.replays.specs.Replay.{replayed, replayOf};
 ghost use Rattle.box_stretches.specs.Called.{called};
 ghost use Rattle.box_stretches.specs.Stretch.{terms};

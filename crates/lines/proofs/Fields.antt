@@ -6,8 +6,8 @@ use mathlib.Core.List.{List, [], _∷_, _++_, append-assoc}
 use lib.ListN.{length}
 use Rattle.spec_base.specs.Limits.{wordLabels}
 use Rattle.spec_base.specs.Widths.{twoWords}
-use Rattle.states.specs.StateRecord.{labelsIn}
-use Rattle.answers.specs.AnswerRecord.{codeIn, kindIn, placeIn, emittedIn}
+use Rattle.spec_tick.specs.StateRecord.{labelsIn}
+use Rattle.spec_tick.specs.AnswerRecord.{codeIn, kindIn, placeIn, emittedIn}
 use Rattle.runs.specs.Text.{numeral, space, newline}
 use Rattle.runs.specs.Listing.{numbersOf, setsOf, lineOf, entryRead}
 use Rattle.lines.specs.declared.Line.{Line}

@@ -182,13 +182,13 @@ pub fn put_sets(line: &mut [u8], emitted: u64, low: u64, high: u64) -> usize
 pub fn instant_line(instant: u64, state: &[u8], answer: &[u8]) -> Line
     ensures { λ r. ⌜ Displays r (lineIn instant (now (state .entry)) (now (answer .entry))) ⌝ }
 {
-    let labels = states::labels(state);
+    let labels = records::labels(state);
     let low = labels::low_word(labels);
     let high = labels::high_word(labels);
-    let emitted = answers::emitted(answer) as u64;
-    let place = answers::place(answer) as u64;
-    let kind = answers::kind(answer) as u64;
-    let code = answers::code(answer) as u64;
+    let emitted = records::emitted(answer) as u64;
+    let place = records::place(answer) as u64;
+    let kind = records::kind(answer) as u64;
+    let code = records::code(answer) as u64;
     let mut bytes = [0u8; LINE_LENGTH];
     let at = put_sets(&mut bytes, emitted, low, high);
     let from = put_numbers(&mut bytes, at, instant, code, kind, place);

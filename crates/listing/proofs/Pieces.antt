@@ -7,8 +7,8 @@ use mathlib.Core.Path.{_≡_, refl, sym, ap, ap₂, _∙_}
 use mathlib.Core.List.{List, _∷_}
 use lib.ListN.{getD, drop}
 use lib.Dec.{eqb}
-use Rattle.tick.specs.Tick.{Outcome, outcome}
-use Rattle.demands.specs.Demands.{stateAfterwards}
+use Rattle.spec_tick.specs.Tick.{Outcome, outcome}
+use Rattle.spec_tick.specs.Demands.{stateAfterwards}
 use Rattle.runs.specs.File.{sequenceIn, readBackIn, inputsIn, first}
 use Rattle.runs.specs.Listing.{lineOf, entryRead, entryFrom, ticked, isOver}
 use Rattle.runs.specs.Stages as Listing

@@ -10,13 +10,13 @@ ghost use Rattle.listing.specs.Opened.{fileBy};
 ghost use mathlib.Core.Option.{some};
 ghost use lib.ListN.{drop};
 ghost use Rattle.listing.specs.Pieces.{turnAt, Prints};
-ghost use Rattle.demands.specs.Demands.{cleared};
+ghost use Rattle.spec_tick.specs.Demands.{cleared};
 ghost use Rattle.runs.specs.Text.{heading as Text·heading};
 ghost use Rattle.lines.specs.Shown.{Displays};
-use answers::ANSWER_LENGTH;
 use files::Input;
 use lines::Line;
-use states::STATE_LENGTH;
+use records::ANSWER_LENGTH;
+use records::STATE_LENGTH;
 
 // Before the first line, before the instant that so many inputs precede, before `end`, or after it.
 pub enum Stage {
@@ -59,7 +59,7 @@ pub fn is_finished(run: Run) -> bool
 pub fn following(phase: u8, i: usize) -> Stage
     ensures { λ r. ⌜ r ≡ stageAfter phase i ⌝ }
 {
-    if phase == states::OVER {
+    if phase == records::OVER {
         Stage::Closing
     } else {
         Stage::Running(i)
@@ -103,7 +103,7 @@ pub fn instant(file: &[u8], i: usize, e: u32, state: [u8; STATE_LENGTH]) -> Piec
     intake::intake_tick(files::sequence(file), &mut after, e, read_back, &mut answer);
     let line = lines::line_behind(i, &after, &answer);
     let run = Run {
-        stage: following(states::phase(&after), i + 1),
+        stage: following(records::phase(&after), i + 1),
         state: after,
     };
     Piece {

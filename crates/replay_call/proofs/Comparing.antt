@@ -13,13 +13,13 @@ use Rattle.instants.specs.Written.{writtenFrom}
 use Rattle.instants.proofs.Lengths.{writes}
 use Rattle.spec_base.specs.Bytes.{replaced}
 use Rattle.numbers.proofs.Writing.{replaced-by}
-use Rattle.states.proofs.StateLaws.{state-sized}
-use Rattle.answers.proofs.AnswerLaws.{answer-sized}
-use Rattle.tick.specs.Tick.{outcome}
+use Rattle.records.proofs.StateLaws.{state-sized}
+use Rattle.records.proofs.AnswerLaws.{answer-sized}
+use Rattle.spec_tick.specs.Tick.{outcome}
 use Rattle.instants.specs.declared.Standing.the-variants as stands
-use Rattle.recordings.specs.Record.{recordLength, recordOf}
-use Rattle.recordings.specs.Recording.{recordFrom}
-use Rattle.recordings_writer.proofs.Records.{record-sized}
+use Rattle.spec_tick.specs.Record.{recordLength, recordOf}
+use Rattle.spec_tick.specs.Recording.{recordFrom}
+use Rattle.records.proofs.Records.{record-sized}
 use Rattle.replays.proofs.Recordings.{Sized}
 use Rattle.replay_call.specs.Comparing.{RankedAfter, StandsAfter}
 

@@ -21,19 +21,19 @@ use Rattle.reaction.specs.Reactions.{reactionOf}
 use Rattle.reaction.specs.declared.Completion.{Completion}
 use Rattle.reaction.specs.declared.Completion.the-variants.{Ended, Waiting, Leaving, Wrong}
 use Rattle.instants.specs.Written.{Writable, writtenBy, writtenFrom}
-use Rattle.states.specs.StateRecord.{encodeState}
-use Rattle.states.proofs.StateLaws.{length-state}
-use Rattle.tick.specs.Tick as tick
-use Rattle.tick.specs.Tick.{Outcome, outcome, written, replyOf, replied, tickBy}
-use Rattle.demands.specs.Demands.{number, stateAfterwards}
+use Rattle.spec_tick.specs.StateRecord.{encodeState}
+use Rattle.records.proofs.StateLaws.{length-state}
+use Rattle.spec_tick.specs.Tick as tick
+use Rattle.spec_tick.specs.Tick.{Outcome, outcome, written, replyOf, replied, tickBy}
+use Rattle.spec_tick.specs.Demands.{number, stateAfterwards}
 use Rattle.instants.specs.declared.Standing.the-variants as stands
 use Rattle.instants.specs.declared.Standing.{Standing}
 use Rattle.instants.specs.declared.Reply.{Reply}
 use Rattle.instants.specs.declared.Reply.the-variants.{Refused, Reacted}
 use Rattle.instants.specs.Replies.{Decodes, repliedFrom, Replies}
 use Rattle.instants.proofs.Replying.{replied-from, malformed-reply, over-reply, fresh-reply, waiting-reply}
-use Rattle.recordings.specs.Record.{inputIn}
-use Rattle.recordings.specs.Recording.{blank, tickOn, recordFrom}
+use Rattle.spec_tick.specs.Record.{inputIn}
+use Rattle.spec_tick.specs.Recording.{blank, tickOn, recordFrom}
 use Rattle.replays.specs.Replay.{same}
 use Rattle.replay_call.specs.declared.Next.{Next}
 use Rattle.replay_call.specs.declared.Next.the-variants.{Differs, Stands}

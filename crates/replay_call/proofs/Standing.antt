@@ -36,11 +36,11 @@ use Rattle.reaction.specs.declared.Reaction.{Reaction}
 use Rattle.reaction.specs.Reactions.{reactionOf}
 use Rattle.spec_base.specs.Bytes.{leBytes}
 use Rattle.numbers.proofs.Bytes.{le-round-trip}
-use Rattle.states.specs.StateRecord.{labelsIn, encodeState, holds, Recorded}
-use Rattle.states.proofs.StateLaws.{decode-encode}
-use Rattle.tick.specs.Tick.{reacts, byState, byCheck, replyOf}
-use Rattle.demands.proofs.Bounds.{valid-below}
-use Rattle.demands.proofs.Sequence.{Accepted, accepted, recorded-fresh, recorded-resumed}
+use Rattle.spec_tick.specs.StateRecord.{labelsIn, encodeState, holds, Recorded}
+use Rattle.records.proofs.StateLaws.{decode-encode}
+use Rattle.spec_tick.specs.Tick.{reacts, byState, byCheck, replyOf}
+use Rattle.theory_tick.proofs.Bounds.{valid-below}
+use Rattle.theory_tick.proofs.Sequence.{Accepted, accepted, recorded-fresh, recorded-resumed}
 use Rattle.instants.specs.declared.Standing.{Standing}
 use Rattle.instants.specs.declared.Standing.the-variants as stands
 use Rattle.instants.specs.Replies.{Decodes}

@@ -11,12 +11,12 @@ use Rattle.spec_base.specs.Sets.{none}
 use Rattle.spec_language.specs.Statement.{Statement}
 use Rattle.spec_language.specs.Machines.{State}
 use Rattle.spec_base.specs.Bytes.{leBytes}
-use Rattle.states.specs.StateRecord.{encodeState}
-use Rattle.states.proofs.StateLaws.{decode-encode}
-use Rattle.tick.specs.Tick.{Outcome}
-use Rattle.demands.specs.Demands.{number, stateAfterwards}
-use Rattle.recordings.specs.Record.{recordLength, inputIn}
-use Rattle.recordings.specs.Recording.{following, tickOn, recordFrom, recordsFrom}
+use Rattle.spec_tick.specs.StateRecord.{encodeState}
+use Rattle.records.proofs.StateLaws.{decode-encode}
+use Rattle.spec_tick.specs.Tick.{Outcome}
+use Rattle.spec_tick.specs.Demands.{number, stateAfterwards}
+use Rattle.spec_tick.specs.Record.{recordLength, inputIn}
+use Rattle.spec_tick.specs.Recording.{following, tickOn, recordFrom, recordsFrom}
 use Rattle.replays.specs.Replay.{firstRecords, same, firstDifference, placeOf}
 use Rattle.instants.specs.declared.Standing.{Standing}
 use Rattle.instants.specs.declared.Standing.the-variants as stands

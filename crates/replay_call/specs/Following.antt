@@ -7,13 +7,13 @@ use lib.Dec.{eqb}
 use Rattle.spec_language.specs.Statement.{Statement}
 use Rattle.spec_language.specs.Machines.{State}
 use Rattle.checks.specs.Verdict.{Passed}
-use Rattle.states.specs.StateRecord.{encodeState, Recorded}
+use Rattle.spec_tick.specs.StateRecord.{encodeState, Recorded}
 use Rattle.instants.specs.declared.Standing.{Standing}
 use Rattle.instants.specs.Replies.{Decodes}
-use Rattle.tick.specs.Tick.{Outcome}
-use Rattle.demands.specs.Demands.{number, stateAfterwards}
-use Rattle.recordings.specs.Record.{inputIn}
-use Rattle.recordings.specs.Recording.{tickOn, recordFrom, recordsFrom}
+use Rattle.spec_tick.specs.Tick.{Outcome}
+use Rattle.spec_tick.specs.Demands.{number, stateAfterwards}
+use Rattle.spec_tick.specs.Record.{inputIn}
+use Rattle.spec_tick.specs.Recording.{tickOn, recordFrom, recordsFrom}
 use Rattle.replays.specs.Replay.{firstRecords, same, firstDifference}
 use Rattle.replay_call.specs.declared.Next.{Next}
 use Rattle.replay_call.specs.declared.Next.the-variants.{Differs, Stands}

@@ -10,15 +10,15 @@ ghost use Rattle.layout.specs.Layout.{Ready};
 ghost use Rattle.program.specs.Program.{ReactedWithoutLitres};
 ghost use Rattle.replay_call.specs.Following.{Stood, Follows};
 ghost use Rattle.checks.specs.Verdict.{Passed};
-use answers::ANSWER_LENGTH;
 use instants::Standing;
 use layout::SecondParts;
 use notes::Notes;
 use program::Start;
 use reaction::Completion;
 use reaction::Reaction;
-use recordings::RECORD_LENGTH;
-use states::STATE_LENGTH;
+use records::ANSWER_LENGTH;
+use records::RECORD_LENGTH;
+use records::STATE_LENGTH;
 
 // Whether the bytes are the same.
 fn same(a: &[u8], b: &[u8]) -> bool
@@ -70,7 +70,7 @@ pub fn compare(notes: &Notes, number: u32, input: u32, trace: &[u8], r: Reaction
     let mut answer = [0u8; ANSWER_LENGTH];
     let mut made = [0u8; RECORD_LENGTH];
     instants::finish(&mut state, &mut answer, r);
-    recordings_writer::write_record(&mut made, number, input, &answer, &state);
+    records::write_record(&mut made, number, input, &answer, &state);
     if same(trace, &made) {
         Next::Stands(after(r, notes))
     } else {
@@ -106,7 +106,7 @@ pub fn follow(
     ensures { λ x. ⌜ Follows (now (sequence .entry)) «read_back» (now (second .entry)) (now (notes .entry))
         number (now (trace .entry)) standing x ⌝ }
 {
-    let input = recordings_writer::input(trace);
+    let input = records::input(trace);
     match standing {
         Standing::Fresh => compare(
             notes,
@@ -150,7 +150,7 @@ fn first_difference(
             return place;
         };
         standing = there;
-        number = recordings_writer::following(number);
+        number = records::following(number);
         place += 1;
         at += RECORD_LENGTH;
         left -= 1;

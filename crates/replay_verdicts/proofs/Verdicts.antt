@@ -7,7 +7,7 @@ use mathlib.Core.List.{List}
 use lib.ListN.{length, take, drop, length-drop}
 use lib.Seq.{take-all}
 use borrow.Author.Tests.{le-leb, lt-leb}
-use Rattle.recordings.specs.Record.{recordLength}
+use Rattle.spec_tick.specs.Record.{recordLength}
 use Rattle.replays.specs.Replay.{replayed, replayOf}
 use Rattle.runs.specs.Text.{inputCut, refusal}
 use Rattle.runs.specs.File.{inputsAt, sequenceIn, readBackIn}

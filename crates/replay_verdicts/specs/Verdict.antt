@@ -5,7 +5,7 @@ use mathlib.Core.Bool.{Bool, _&&_, cond}
 use mathlib.Core.List.{List, [], _∷_, _++_}
 use lib.ListN.{length, drop}
 use lib.Dec.{leb}
-use Rattle.recordings.specs.Record.{recordLength}
+use Rattle.spec_tick.specs.Record.{recordLength}
 use Rattle.replays.specs.Replay.{Replayed, replayed, replayOf}
 use Rattle.runs.specs.Text.{numeral, space, newline, inputCut, refusal}
 use Rattle.runs.specs.File.{inputsAt, sequenceIn, readBackIn}

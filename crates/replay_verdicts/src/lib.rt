@@ -2,7 +2,7 @@
 ghost use Rattle.lines.specs.Shown.{Displays};
 ghost use Rattle.replay_verdicts.specs.Verdict.{verdictOf};
 use lines::Line;
-use recordings::RECORD_LENGTH;
+use records::RECORD_LENGTH;
 
 // The most bytes of a file, its head among them.
 const MAX_FILE: usize = 4194304;

@@ -9,7 +9,7 @@ use lib.ListN.{length}
 use borrow.Author.Tests.{eq-eqb, ne-eqb}
 use Rattle.spec_sequence.specs.Check.{Checked, sound, bad, checked, numberOf, checkOf}
 use Rattle.theory_sequence.proofs.Rows.{Decides, decided, row-range}
-use Rattle.recordings.specs.Record.{recordLength}
+use Rattle.spec_tick.specs.Record.{recordLength}
 use Rattle.replays.specs.Replay.{placeOf, Replayed, replayed, number, place, replayOf}
 
 -- the check never gives 22

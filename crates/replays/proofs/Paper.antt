@@ -13,14 +13,14 @@ use Rattle.spec_language.specs.Machines.{Rewriting}
 use Rattle.spec_sequence.specs.Program.{program}
 use Rattle.spec_sequence.specs.Check.{checkOf}
 use Rattle.spec_sequence.specs.Rows.{Spells}
-use Rattle.states.specs.StateRecord.{stateLength}
-use Rattle.tick.specs.Tick.{Outcome, outcome, tickOf}
-use Rattle.demands.specs.Demands.{number, stateAfterwards, outcomes, cleared, report}
-use Rattle.tick.specs.Paper.{Report, paper}
-use Rattle.demands.proofs.Theorems.{demand-3}
-use Rattle.recordings.specs.Record.{inputIn}
-use Rattle.recordings.specs.Recording.{following, tickOn, recordFrom, recordsFrom, recordingOf, callOn}
-use Rattle.recordings_writer.proofs.Records.{answer-field, state-field}
+use Rattle.spec_tick.specs.StateRecord.{stateLength}
+use Rattle.spec_tick.specs.Tick.{Outcome, outcome, tickOf}
+use Rattle.spec_tick.specs.Demands.{number, stateAfterwards, outcomes, cleared, report}
+use Rattle.spec_tick.specs.Paper.{Report, paper}
+use Rattle.theory_tick.proofs.Theorems.{demand-3}
+use Rattle.spec_tick.specs.Record.{inputIn}
+use Rattle.spec_tick.specs.Recording.{following, tickOn, recordFrom, recordsFrom, recordingOf, callOn}
+use Rattle.records.proofs.Records.{answer-field, state-field}
 use Rattle.replays.specs.Replay.{recordsIn, inputsIn}
 use Rattle.replays.specs.Claims.{reportIn}
 use Rattle.replays.proofs.Recordings.{Sized, tick-sized}

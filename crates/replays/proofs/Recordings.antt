@@ -13,17 +13,17 @@ use borrow.Author.Tests.{ne-eqb}
 use Rattle.spec_language.specs.Reaction.{gives}
 use Rattle.spec_language.specs.Instants.{Instant, instant}
 use Rattle.spec_language.specs.Machines.{stateAfter}
-use Rattle.states.specs.StateRecord.{stateLength, phaseIn}
-use Rattle.states.proofs.StateLaws.{length-state}
-use Rattle.answers.specs.AnswerRecord.{answerLength}
-use Rattle.answers.proofs.AnswerLaws.{length-answer}
-use Rattle.tick.specs.Tick.{Outcome, Reply, refused, reacts, written, replyOf, replied, tickBy}
-use Rattle.tick.specs.TickRows.{row-12}
-use Rattle.demands.specs.Demands.{number, stateAfterwards, answerAfterwards, cleared}
-use Rattle.demands.proofs.Theorems.{demand-1}
-use Rattle.recordings.specs.Record.{recordLength, inputIn, stateIn}
-use Rattle.recordings.specs.Recording.{following, blank, tickOn, recordFrom, recordsFrom, recordingOf, joined, Inputs}
-use Rattle.recordings_writer.proofs.Records.{record-sized, input-field, state-field}
+use Rattle.spec_tick.specs.StateRecord.{stateLength, phaseIn}
+use Rattle.records.proofs.StateLaws.{length-state}
+use Rattle.spec_tick.specs.AnswerRecord.{answerLength}
+use Rattle.records.proofs.AnswerLaws.{length-answer}
+use Rattle.spec_tick.specs.Tick.{Outcome, Reply, refused, reacts, written, replyOf, replied, tickBy}
+use Rattle.spec_tick.specs.TickRows.{row-12}
+use Rattle.spec_tick.specs.Demands.{number, stateAfterwards, answerAfterwards, cleared}
+use Rattle.theory_tick.proofs.Theorems.{demand-1}
+use Rattle.spec_tick.specs.Record.{recordLength, inputIn, stateIn}
+use Rattle.spec_tick.specs.Recording.{following, blank, tickOn, recordFrom, recordsFrom, recordingOf, joined, Inputs}
+use Rattle.records.proofs.Records.{record-sized, input-field, state-field}
 use Rattle.replays.specs.Replay.{firstRecords, recordsIn, inputsIn, placeOf}
 use Rattle.replays.proofs.Differences.{none-differs, alike}
 

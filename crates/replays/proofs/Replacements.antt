@@ -15,11 +15,11 @@ use Rattle.spec_sequence.specs.Commands.{commandOf}
 use Rattle.spec_sequence.specs.Reader.{front, read}
 use Rattle.spec_sequence.specs.Check.{checked, checkOf}
 use Rattle.spec_base.specs.Bytes.{leBytes, leNumber}
-use Rattle.states.specs.StateRecord.{stateRecord, encodeState, decodeState}
-use Rattle.answers.specs.AnswerRecord.{answerRecord, encodeAnswer}
-use Rattle.tick.specs.Tick.{tickBy}
-use Rattle.recordings.specs.Record.{recordOf}
-use Rattle.recordings.specs.Recording.{following, recordsFrom, recordingOf}
+use Rattle.spec_tick.specs.StateRecord.{stateRecord, encodeState, decodeState}
+use Rattle.spec_tick.specs.AnswerRecord.{answerRecord, encodeAnswer}
+use Rattle.spec_tick.specs.Tick.{tickBy}
+use Rattle.spec_tick.specs.Record.{recordOf}
+use Rattle.spec_tick.specs.Recording.{following, recordsFrom, recordingOf}
 use Rattle.replays.specs.Replay.{firstRecords, same, recordsIn, inputsIn, replayed, place}
 use Rattle.replays.specs.Claims.{SameAt, NothingAfterTheEnd}
 use Rattle.replays.specs.Replacements.{firstUpToTheEnd, acceptsAfterTheEnd}

@@ -7,7 +7,7 @@ use mathlib.Core.Path.{_≡_, refl, sym, ap, ap₂, _∙_, subst, fun-ext}
 use mathlib.Core.Option.{some, Option·none-ne-some}
 use mathlib.Core.List.{List, [], _∷_, map}
 use lib.ListN.{length, getElem?}
-use Rattle.recordings.specs.Recording.{recordsFrom, recordingOf, joined}
+use Rattle.spec_tick.specs.Recording.{recordsFrom, recordingOf, joined}
 use Rattle.replays.specs.Replay.{firstRecords, recordsIn, inputsIn, placeOf, Replayed, replayed, number, place, replayOf}
 use Rattle.replays.specs.Claims.{Replay, Refuses, TwentyTwo, NoPlace, Accepts, Differs, EmptyAccepted, NothingAfterTheEnd, AcceptsRecordings, ByPaper, DecidesReplay, ReplayDemands}
 use Rattle.replays.specs.Worked.{Case, cases}

@@ -13,10 +13,10 @@ use Rattle.spec_sequence.specs.Commands.{commandOf}
 use Rattle.spec_sequence.specs.Reader.{front, read}
 use Rattle.spec_sequence.specs.Check.{checked, checkOf}
 use Rattle.spec_base.specs.Bytes.{leBytes, leNumber}
-use Rattle.states.specs.StateRecord.{encodeState, decodeState}
-use Rattle.answers.specs.AnswerRecord.{encodeAnswer}
-use Rattle.tick.specs.Tick.{tickBy}
-use Rattle.recordings.specs.Recording.{following, recordsFrom}
+use Rattle.spec_tick.specs.StateRecord.{encodeState, decodeState}
+use Rattle.spec_tick.specs.AnswerRecord.{encodeAnswer}
+use Rattle.spec_tick.specs.Tick.{tickBy}
+use Rattle.spec_tick.specs.Recording.{following, recordsFrom}
 use Rattle.replays.specs.Replay.{firstRecords, same, firstDifference, placeOf, replayOf}
 use Rattle.replays.specs.Worked.{Case, cases}
 

@@ -11,11 +11,11 @@ use Rattle.spec_language.specs.Machines.{Rewriting}
 use Rattle.spec_sequence.specs.Program.{program}
 use Rattle.spec_sequence.specs.Check.{checkOf}
 use Rattle.spec_sequence.specs.Rows.{Spells}
-use Rattle.states.specs.StateRecord.{phaseIn}
-use Rattle.answers.specs.AnswerRecord.{codeIn, kindIn, placeIn, emittedIn, reactionsIn}
-use Rattle.tick.specs.Paper.{Report, reacted, paper}
-use Rattle.recordings.specs.Record.{recordLength, answerIn, stateIn}
-use Rattle.recordings.specs.Recording.{recordingOf, callOn, joined, Inputs}
+use Rattle.spec_tick.specs.StateRecord.{phaseIn}
+use Rattle.spec_tick.specs.AnswerRecord.{codeIn, kindIn, placeIn, emittedIn, reactionsIn}
+use Rattle.spec_tick.specs.Paper.{Report, reacted, paper}
+use Rattle.spec_tick.specs.Record.{recordLength, answerIn, stateIn}
+use Rattle.spec_tick.specs.Recording.{recordingOf, callOn, joined, Inputs}
 use Rattle.replays.specs.Replay.{recordsIn, inputsIn, Replayed, replayed, number, place}
 
 -- sequence, read-back set, recording

@@ -3,7 +3,7 @@ use Prim.Native.Nat.{ℕ, _+_}
 use mathlib.Core.Bool.{cond}
 use mathlib.Core.List.{List, [], _∷_}
 use Rattle.spec_sequence.specs.Check.{checkOf}
-use Rattle.recordings.specs.Recording.{recordingOf}
+use Rattle.spec_tick.specs.Recording.{recordingOf}
 use Rattle.replays.specs.Replay.{recordsIn, inputsIn, same, byLength, byCheck}
 use Rattle.replays.specs.Claims.{Replay}
 

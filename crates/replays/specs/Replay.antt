@@ -5,8 +5,8 @@ use mathlib.Core.List.{List, [], _∷_, map}
 use lib.ListN.{length, take, drop}
 use lib.Dec.{eqb}
 use Rattle.spec_sequence.specs.Check.{checkOf}
-use Rattle.recordings.specs.Record.{recordLength, inputIn}
-use Rattle.recordings.specs.Recording.{recordingOf}
+use Rattle.spec_tick.specs.Record.{recordLength, inputIn}
+use Rattle.spec_tick.specs.Recording.{recordingOf}
 
 -- ---- a recording as records
 unfoldable pub firstRecords : (n : ℕ) → List ℕ → List (List ℕ)

@@ -3,9 +3,9 @@ use Prim.Native.Nat.{ℕ}
 use mathlib.Core.List.{List, [], _∷_, _++_}
 use lib.ListN.{take}
 use Rattle.spec_base.specs.Sets.{none}
-use Rattle.states.specs.StateRecord.{stateRecord}
-use Rattle.answers.specs.AnswerRecord.{answerRecord}
-use Rattle.recordings.specs.Record.{recordOf}
+use Rattle.spec_tick.specs.StateRecord.{stateRecord}
+use Rattle.spec_tick.specs.AnswerRecord.{answerRecord}
+use Rattle.spec_tick.specs.Record.{recordOf}
 use Rattle.replays.specs.Replay.{Replayed, replayed}
 
 pub record Case : Type 0 where

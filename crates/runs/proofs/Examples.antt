@@ -12,9 +12,9 @@ use Rattle.spec_sequence.specs.Reader.{front, read}
 use Rattle.spec_language.specs.Sizes.{signalNesting}
 use Rattle.spec_sequence.specs.Check.{checked, checkOf}
 use Rattle.spec_base.specs.Bytes.{leBytes, leNumber}
-use Rattle.states.specs.StateRecord.{encodeState, decodeState}
-use Rattle.answers.specs.AnswerRecord.{encodeAnswer}
-use Rattle.tick.specs.Tick.{tickBy}
+use Rattle.spec_tick.specs.StateRecord.{encodeState, decodeState}
+use Rattle.spec_tick.specs.AnswerRecord.{encodeAnswer}
+use Rattle.spec_tick.specs.Tick.{tickBy}
 use Rattle.runs.specs.Text.{numeralIn, numeral}
 use Rattle.runs.specs.File.{sequenceIn, readBackIn, words, inputsIn, fileOf}
 use Rattle.runs.specs.Listing.{lineOf, entries, lines, listingOf}

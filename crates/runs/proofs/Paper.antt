@@ -18,12 +18,12 @@ use Rattle.spec_language.specs.Machines.{Seen, Rewriting, seen, termAfter, byRe
 use Rattle.spec_sequence.specs.Program.{program}
 use Rattle.spec_sequence.specs.Check.{checkOf}
 use Rattle.spec_sequence.specs.Rows.{Spells}
-use Rattle.states.specs.StateRecord.{phaseIn}
-use Rattle.answers.specs.AnswerRecord.{answerLength, codeIn, kindIn, placeIn, emittedIn, codeByte}
-use Rattle.tick.specs.Tick.{Outcome, outcome, tickOf}
-use Rattle.tick.specs.Paper.{Call, Report, reacted, reportOf, paper}
-use Rattle.demands.specs.Demands.{stateAfterwards, cleared, report, outcomes}
-use Rattle.demands.proofs.Agreement.{demand-3}
+use Rattle.spec_tick.specs.StateRecord.{phaseIn}
+use Rattle.spec_tick.specs.AnswerRecord.{answerLength, codeIn, kindIn, placeIn, emittedIn, codeByte}
+use Rattle.spec_tick.specs.Tick.{Outcome, outcome, tickOf}
+use Rattle.spec_tick.specs.Paper.{Call, Report, reacted, reportOf, paper}
+use Rattle.spec_tick.specs.Demands.{stateAfterwards, cleared, report, outcomes}
+use Rattle.theory_tick.proofs.Agreement.{demand-3}
 use Rattle.runs.specs.Text.{heading, ending}
 use Rattle.runs.specs.File.{cut, runs, byNumber, fileOf, whole, sequenceIn, readBackIn, inputsIn}
 use Rattle.runs.specs.Listing.{Entry, entryFrom, isOver, ticked, entries, lines, listed, listingOf}

@@ -6,7 +6,7 @@ use mathlib.Core.Bool.{Bool, true, false, cond}
 use mathlib.Core.Path.{_≡_, refl, sym, ap, _∙_}
 use mathlib.Core.List.{List, [], _∷_, _++_, append-nil, append-assoc}
 use lib.ListN.{length}
-use Rattle.demands.specs.Demands.{stateAfterwards}
+use Rattle.spec_tick.specs.Demands.{stateAfterwards}
 use Rattle.runs.specs.Text.{ending}
 use Rattle.spec_sequence.specs.Check.{checkOf}
 use Rattle.runs.specs.File.{File, cut, refused, runs, byNumber, fileOf, whole, sequenceIn, readBackIn, inputsIn}

@@ -5,10 +5,10 @@ use mathlib.Core.List.{List, [], _∷_, _++_}
 use lib.ListN.{replicate}
 use lib.Dec.{eqb}
 use Rattle.spec_base.specs.Limits.{signalBytes, labelBytes}
-use Rattle.states.specs.StateRecord.{phaseIn, labelsIn}
-use Rattle.answers.specs.AnswerRecord.{answerLength, codeIn, kindIn, placeIn, emittedIn}
-use Rattle.tick.specs.Tick.{Outcome, tickOf}
-use Rattle.demands.specs.Demands.{stateAfterwards, answerAfterwards, cleared}
+use Rattle.spec_tick.specs.StateRecord.{phaseIn, labelsIn}
+use Rattle.spec_tick.specs.AnswerRecord.{answerLength, codeIn, kindIn, placeIn, emittedIn}
+use Rattle.spec_tick.specs.Tick.{Outcome, tickOf}
+use Rattle.spec_tick.specs.Demands.{stateAfterwards, answerAfterwards, cleared}
 use Rattle.runs.specs.Text.{numeral, space, newline, heading, ending, inputCut, refusal}
 use Rattle.runs.specs.File.{File, cut, refused, runs, fileOf}
 

@@ -4,7 +4,7 @@ use Prim.Native.Nat.{ℕ, suc}
 use mathlib.Core.List.{List, [], _∷_}
 use Rattle.spec_language.specs.Statement.{Statement}
 use Rattle.spec_language.specs.Machines.{Seen, instant, refused, Rewriting, byRewriting, run}
-use Rattle.answers.specs.AnswerRecord.{codeByte}
+use Rattle.spec_tick.specs.AnswerRecord.{codeByte}
 use Rattle.runs.specs.Listing.{Entry}
 
 pub record Columns : Type 0 where

@@ -2,7 +2,7 @@
 use Prim.Native.Nat.{ℕ, zero, suc, _+_}
 use mathlib.Core.Bool.{Bool, true, false, cond}
 use mathlib.Core.List.{List, [], _∷_, _++_}
-use Rattle.demands.specs.Demands.{stateAfterwards, cleared}
+use Rattle.spec_tick.specs.Demands.{stateAfterwards, cleared}
 use Rattle.runs.specs.Text.{heading, ending, inputCut, refusal}
 use Rattle.runs.specs.File.{File, cut, refused, runs, fileOf}
 use Rattle.runs.specs.Listing.{lineOf, entryFrom, ticked, isOver}

@@ -11,7 +11,7 @@ use Rattle.spec_sequence.specs.Writer.{bytesOf, size}
 use Rattle.spec_sequence.specs.Program.{program}
 use Rattle.spec_sequence.specs.Check.{checkOf}
 use Rattle.spec_sequence.specs.Rows.{Spells, ByRows}
-use Rattle.tick.specs.Tick.{tickOf}
+use Rattle.spec_tick.specs.Tick.{tickOf}
 use Rattle.unrolled.specs.Unrolled.{unrolled, resultOf}
 use Rattle.unrolled.specs.Call.{Unrolling, unrolling, number, refused}
 use Rattle.unrolled.specs.Rows.{UnrollRow}

@@ -8,11 +8,11 @@ use lib.Dec.{eqb}
 use Rattle.spec_language.specs.Reaction.{Code, isWrong}
 use Rattle.spec_language.specs.Statement.{Statement}
 use Rattle.spec_language.specs.Machines.{Seen, instant, State, byLabels, addsByLabels}
-use Rattle.answers.specs.AnswerRecord.{codeIn}
-use Rattle.tick.specs.Tick.{Outcome, outcome, tickOf}
-use Rattle.tick.specs.Paper.{Call}
-use Rattle.demands.specs.Demands.{Tick, stateAfterwards, uncounted, outcomes, cleared}
-use Rattle.demands.specs.Deliveries.{delivered}
+use Rattle.spec_tick.specs.AnswerRecord.{codeIn}
+use Rattle.spec_tick.specs.Tick.{Outcome, outcome, tickOf}
+use Rattle.spec_tick.specs.Paper.{Call}
+use Rattle.spec_tick.specs.Demands.{Tick, stateAfterwards, uncounted, outcomes, cleared}
+use Rattle.spec_tick.specs.Deliveries.{delivered}
 
 -- ---- through the tick
 -- a wrong instant

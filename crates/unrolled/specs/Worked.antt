@@ -24,10 +24,10 @@ use Rattle.spec_sequence.specs.Commands.{commandOf}
 use Rattle.spec_sequence.specs.Reader.{front, read}
 use Rattle.spec_sequence.specs.Writer.{bytesOf}
 use Rattle.spec_sequence.specs.Check.{checked}
-use Rattle.states.specs.StateRecord.{decodeState, encodeState}
-use Rattle.answers.specs.AnswerRecord.{answerLength, encodeAnswer}
-use Rattle.tick.specs.Tick.{tickBy, tickOf}
-use Rattle.demands.specs.Demands.{cleared}
+use Rattle.spec_tick.specs.StateRecord.{decodeState, encodeState}
+use Rattle.spec_tick.specs.AnswerRecord.{answerLength, encodeAnswer}
+use Rattle.spec_tick.specs.Tick.{tickBy, tickOf}
+use Rattle.spec_tick.specs.Demands.{cleared}
 use Rattle.unrolled.specs.Unrolled.{copied, unrolled, placed, resultOf}
 use Rattle.unrolled.specs.Call.{Unrolling, unrolling, number, ofStatement, unrollOf}
 use Rattle.unrolled.specs.Claims.{Unroll, DecidesUnroll}

@@ -9,7 +9,7 @@ use lib.ListN.{drop, take-append-drop}
 use Rattle.spec_sequence.specs.Check.{checkOf}
 use Rattle.spec_sequence.specs.Rows.{ByRows}
 use Rattle.theory_sequence.proofs.Rows.{check-by-rows}
-use Rattle.demands.proofs.Sequence.{accepted}
+use Rattle.theory_tick.proofs.Sequence.{accepted}
 use Rattle.unrolled.specs.Call.{Unrolling, unrolling, number, refused, unrollOf}
 use Rattle.unrolled.specs.Rows.{UnrollRow, row-2-to-10}
 use Rattle.unrolled.specs.Claims.{Written, Unroll, DecidesUnroll}

@@ -21,11 +21,11 @@ use Rattle.spec_sequence.specs.Check.{sound, checked, numberOf, checkOf}
 use Rattle.spec_sequence.specs.Rows.{Spells}
 use Rattle.theory_sequence.proofs.Rows.{Decides, decided}
 use Rattle.spec_base.specs.Bytes.{leBytes, leNumber}
-use Rattle.states.specs.StateRecord.{decodeState, encodeState}
-use Rattle.answers.specs.AnswerRecord.{answerLength, codeIn, encodeAnswer}
-use Rattle.tick.specs.Tick.{Outcome, tickBy}
-use Rattle.tick.specs.Paper.{Call}
-use Rattle.demands.specs.Demands.{answerAfterwards, outcomes}
+use Rattle.spec_tick.specs.StateRecord.{decodeState, encodeState}
+use Rattle.spec_tick.specs.AnswerRecord.{answerLength, codeIn, encodeAnswer}
+use Rattle.spec_tick.specs.Tick.{Outcome, tickBy}
+use Rattle.spec_tick.specs.Paper.{Call}
+use Rattle.spec_tick.specs.Demands.{answerAfterwards, outcomes}
 use Rattle.unrolled.specs.Unrolled.{copied, unrolled}
 use Rattle.unrolled.specs.Rows.{Fits}
 use Rattle.unrolled.specs.Runs.{beforeWrong, SameUntilWrong}

@@ -15,7 +15,7 @@ use Rattle.spec_sequence.specs.Program.{readBackSignals, program}
 use Rattle.spec_sequence.specs.Check.{sound, checked, numberOf, checkOf}
 use Rattle.spec_sequence.specs.Rows.{Spells}
 use Rattle.theory_sequence.proofs.Rows.{row-range}
-use Rattle.demands.proofs.Sequence.{same-statement}
+use Rattle.theory_tick.proofs.Sequence.{same-statement}
 use Rattle.unrolled.specs.Unrolled.{unrolled, resultOf}
 use Rattle.unrolled.specs.Call.{Unrolling, unrolling, unrollOf}
 use Rattle.unrolled.specs.Runs.{showsWrong}

@@ -17,7 +17,7 @@ use Rattle.spec_sequence.specs.Writer.{bytesOf}
 use Rattle.spec_sequence.specs.Program.{readBackSignals, program}
 use Rattle.spec_sequence.specs.Check.{sound, checked, checkOf}
 use Rattle.spec_sequence.specs.Rows.{Spells, ByRows}
-use Rattle.tick.specs.Tick.{tickBy, tickOf}
+use Rattle.spec_tick.specs.Tick.{tickBy, tickOf}
 use Rattle.unrolled.specs.Unrolled.{unrolled, resultOf}
 use Rattle.unrolled.specs.Call.{unrolling, number, refused, unrollOf}
 use Rattle.unrolled.specs.Rows.{UnrollRow, Fits}

@@ -22,14 +22,14 @@ use Rattle.spec_sequence.specs.Writer.{bytesOf}
 use Rattle.spec_sequence.specs.Program.{readBackSignals, program}
 use Rattle.spec_sequence.specs.Check.{Checked, sound, checked, checkOf}
 use Rattle.spec_sequence.specs.Rows.{Spells}
-use Rattle.states.specs.StateRecord.{stateLength, Decoded, holds, encodeState, Recorded}
-use Rattle.states.proofs.StateLaws.{length-state, decode-encode}
-use Rattle.answers.specs.AnswerRecord.{answerLength, encodeAnswer}
-use Rattle.tick.specs.Tick.{Outcome, written, byState, replied, tickOf}
-use Rattle.tick.specs.Paper.{Call}
-use Rattle.demands.specs.Demands.{stateAfterwards, outcomes, cleared, uncounted}
-use Rattle.demands.specs.Deliveries.{deliveredBy, deliveredIf, deliveries, callDelivers, delivered}
-use Rattle.demands.proofs.Sequence.{same-statement, Accepted, accepted, tick-at, tick-short, recorded-fresh, recorded-resumed}
+use Rattle.spec_tick.specs.StateRecord.{stateLength, Decoded, holds, encodeState, Recorded}
+use Rattle.records.proofs.StateLaws.{length-state, decode-encode}
+use Rattle.spec_tick.specs.AnswerRecord.{answerLength, encodeAnswer}
+use Rattle.spec_tick.specs.Tick.{Outcome, written, byState, replied, tickOf}
+use Rattle.spec_tick.specs.Paper.{Call}
+use Rattle.spec_tick.specs.Demands.{stateAfterwards, outcomes, cleared, uncounted}
+use Rattle.spec_tick.specs.Deliveries.{deliveredBy, deliveredIf, deliveries, callDelivers, delivered}
+use Rattle.theory_tick.proofs.Sequence.{same-statement, Accepted, accepted, tick-at, tick-short, recorded-fresh, recorded-resumed}
 use Rattle.unrolled.specs.Unrolled.{unrolled, resultOf}
 use Rattle.unrolled.specs.Rows.{Fits}
 use Rattle.unrolled.specs.Runs.{tickWrong, beforeWrong, SameUntilWrong, SameLitresUntilWrong}

@@ -22,7 +22,7 @@ pub fn instant(number: u64, state: &[u8], answer: &[u8]) {
     let bytes = line.bytes;
     let from = line.from;
     text(b" ");
-    decimal(answers::reactions(answer) as u64);
+    decimal(records::reactions(answer) as u64);
     text(b": ");
     text(&bytes[from..]);
 }

@@ -1,6 +1,6 @@
 use borrow.Author.Needs.{needs}
 use mathlib.Core.Path.{ap, _∙_}
-use Rattle.states.specs.StateRecord.{labelsIn}
+use Rattle.spec_tick.specs.StateRecord.{labelsIn}
 use Rattle.box_positions.proofs.saved_labels.Statement.{statement}
 use Rattle.box_positions.proofs.saved_labels.Tie as tie
 

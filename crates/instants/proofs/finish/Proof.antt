@@ -1,11 +1,11 @@
 use native.Mathlib.Omega.{arith}
 use mathlib.Core.Path.{refl, ap₂, subst}
 use Rattle.reaction.specs.declared.Completion.the-variants.{Ended, Waiting, Leaving, Wrong}
-use Rattle.tick.specs.Tick.{outcome}
+use Rattle.spec_tick.specs.Tick.{outcome}
 use Rattle.instants.specs.Written.{WritableCode}
 use Rattle.instants.proofs.Arms.{arm}
-use Rattle.states.proofs.Stores.{state-written}
-use Rattle.answers.proofs.Stores.{answer-written}
+use Rattle.records.proofs.StateStores.{state-written}
+use Rattle.records.proofs.AnswerStores.{answer-written}
 use borrow.Author.Needs.{needs}
 use Rattle.instants.proofs.finish.Statement.{statement}
 use Rattle.instants.proofs.finish.Tie as tie

@@ -1,5 +1,5 @@
 use borrow.Author.Tests.{eq-eqb, ne-eqb}
-use Rattle.states.specs.StateRecord.{stateLength}
+use Rattle.spec_tick.specs.StateRecord.{stateLength}
 use Rattle.instants.proofs.fit.Statement.{statement}
 use Rattle.instants.proofs.fit.Tie as tie
 

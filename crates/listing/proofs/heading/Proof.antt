@@ -1,5 +1,5 @@
 use mathlib.Core.Path.{refl}
-use Rattle.demands.specs.Demands.{cleared}
+use Rattle.spec_tick.specs.Demands.{cleared}
 use Rattle.runs.specs.File.{sequenceIn, readBackIn, inputsIn}
 use Rattle.runs.specs.Stages as Listing
 use Rattle.listing.proofs.Pieces.{printed}

@@ -1,7 +1,7 @@
 use Prim.Native.Nat.{ℕ, _+_}
 use native.Mathlib.Omega.{arith}
 use mathlib.Core.Path.{_≡_, ap, _∙_, subst}
-use Rattle.tick.specs.Tick.{outcome}
+use Rattle.spec_tick.specs.Tick.{outcome}
 use Rattle.runs.specs.File.{sequenceIn, readBackIn}
 use Rattle.runs.specs.Listing.{ticked}
 use Rattle.runs.specs.Stages as Listing

@@ -5,8 +5,8 @@ use lib.ListN.{length, drop}
 use borrow.Author.Needs.{needs}
 use Rattle.spec_language.specs.Machines.{State}
 use Rattle.checks.specs.Verdict.{Passed}
-use Rattle.states.specs.StateRecord.{encodeState}
-use Rattle.recordings.specs.Record.{recordLength}
+use Rattle.spec_tick.specs.StateRecord.{encodeState}
+use Rattle.spec_tick.specs.Record.{recordLength}
 use Rattle.replays.specs.Replay.{placeOf}
 use Rattle.replay_call.specs.Following.{Holds, FollowsFrom, placeFrom}
 use Rattle.replay_call.proofs.Walking.{begin, begins, finished, stopped, turned}

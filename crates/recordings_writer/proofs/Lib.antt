@@ -1,5 +1,0 @@
-pub mod Records
-pub mod Panels
-pub mod Stores
-pub mod Recordings
-pub mod Theorems

@@ -1,0 +1,11 @@
+pub mod AnswerLaws
+pub mod AnswerStores
+pub mod AnswerTheorems
+pub mod Panels
+pub mod RecordStores
+pub mod Recordings
+pub mod Records
+pub mod StateLaws
+pub mod StateStores
+pub mod StateTheorems
+pub mod Theorems

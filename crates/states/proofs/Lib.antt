@@ -1,3 +1,0 @@
-pub mod StateLaws
-pub mod Stores
-pub mod Theorems

@@ -1,4 +1,0 @@
-pub mod Tick
-pub mod TickRows
-pub mod Paper
-pub mod Examples
