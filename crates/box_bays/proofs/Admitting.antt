@@ -16,9 +16,9 @@ use Rattle.theory_tick.proofs.Sequence.{accepted}
 use Rattle.ceilings.specs.declared.Plan.{Plan}
 use Rattle.ceilings.specs.declared.Plan.the-variants.{Refused, Takes}
 use Rattle.ceilings.specs.Plans.{planOf}
-use Rattle.box_stretches.specs.Called.{Called, called}
-use Rattle.box_stretches.specs.Stretch.{Terms, filled}
-use Rattle.box_stretches.specs.BayCalls.{sharedCeiling, byCheck, bayAdmitOf}
+use Rattle.spec_bay.specs.Called.{Called, called}
+use Rattle.spec_bay.specs.Stretch.{Terms, filled}
+use Rattle.spec_bay.specs.BayCalls.{sharedCeiling, byCheck, bayAdmitOf}
 
 -- the bytes of a sequence that passes the check
 pub bounds : (sequence : List ℕ) (readBack : ℕ) → numberOf (checked sequence readBack) ≡ 0 → length sequence ≤ maxBytes

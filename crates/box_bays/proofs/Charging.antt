@@ -26,15 +26,15 @@ use Rattle.spec_tick.specs.Demands as demands
 use Rattle.spec_tick.specs.Demands.{stateAfterwards}
 use Rattle.instants.specs.declared.Reply.the-variants.{Refused, Reacted}
 use Rattle.instants.specs.Replies.{Replies}
-use Rattle.box_ledgers.specs.Ledgers.{ledgerLength, readingLength, passes, added, readingOf, cleared}
+use Rattle.spec_bay.specs.Ledgers.{ledgerLength, readingLength, passes, added, readingOf, cleared}
 use Rattle.box_deliveries.specs.Delivering.{Delivers}
 use Rattle.box_deliveries.proofs.Theorems.{passes-exactly, adds-exactly}
 use Rattle.spec_base.specs.Parts.{slot, put}
 use Rattle.numbers.proofs.Putting.{put-behind}
-use Rattle.box_stretches.specs.Called.{Called, called, number}
-use Rattle.box_stretches.specs.Stretch.{stateAt, countAt, bayLength, stretchLength, sequenceIn, readBackIn, stateIn, ledgerIn, withLedger}
-use Rattle.box_stretches.specs.BayCalls.{stateKept, delivering, charged, bayStepOf, bayChargedOf, bayLedgerOf, bayNewYearOf}
-use Rattle.box_fields.proofs.Fields.{ledger-sized}
+use Rattle.spec_bay.specs.Called.{Called, called, number}
+use Rattle.spec_bay.specs.Stretch.{stateAt, countAt, bayLength, stretchLength, sequenceIn, readBackIn, stateIn, ledgerIn, withLedger}
+use Rattle.spec_bay.specs.BayCalls.{stateKept, delivering, charged, bayStepOf, bayChargedOf, bayLedgerOf, bayNewYearOf}
+use Rattle.theory_bay.proofs.Fields.{ledger-sized}
 use Rattle.box_bays.proofs.Ticking.{short-step, refused-step, kept-written}
 
 -- ---- an instant

@@ -2,7 +2,7 @@
 use Prim.Native.Nat.{ℕ}
 use mathlib.Core.Path.{_≡_, sym, ap, _∙_}
 use mathlib.Core.List.{List}
-use Rattle.box_stretches.specs.Called.{Called}
+use Rattle.spec_bay.specs.Called.{Called}
 use Rattle.box_bays.specs.Moves.{bayMovedOf}
 use Rattle.box_bays.specs.declared.bufferless.Moving.{Moving}
 

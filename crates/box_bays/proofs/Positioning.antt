@@ -13,11 +13,11 @@ use Rattle.spec_base.specs.Bytes.{replaced}
 use Rattle.spec_base.specs.Parts.{slot, put}
 use Rattle.spec_tick.specs.StateRecord.{stateLength, stateRecord, phaseIn, labelsIn}
 use Rattle.records.proofs.StateStores.{state-written}
-use Rattle.box_positions.specs.Table.{savedLabels, placeOf, labelsFound, lookup, cleared, kept, saveOf, forgetOf}
-use Rattle.box_stretches.specs.Called.{Called, called}
-use Rattle.box_stretches.specs.Stretch.{stateAt, countAt, positionsAt, bayLength, stretchLength, stateIn, positionsIn}
-use Rattle.box_stretches.specs.BayCalls.{positionsKept, restored, baySaveOf, bayRestoreOf, bayForgetOf}
-use Rattle.box_fields.proofs.Fields.{state-sized}
+use Rattle.spec_bay.specs.Table.{savedLabels, placeOf, labelsFound, lookup, cleared, kept, saveOf, forgetOf}
+use Rattle.spec_bay.specs.Called.{Called, called}
+use Rattle.spec_bay.specs.Stretch.{stateAt, countAt, positionsAt, bayLength, stretchLength, stateIn, positionsIn}
+use Rattle.spec_bay.specs.BayCalls.{positionsKept, restored, baySaveOf, bayRestoreOf, bayForgetOf}
+use Rattle.theory_bay.proofs.Fields.{state-sized}
 use Rattle.box_bays.specs.Names.{bayNamedOf}
 use Rattle.box_bays.specs.declared.naming.Naming.{Naming}
 

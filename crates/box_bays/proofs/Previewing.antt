@@ -2,10 +2,10 @@
 use Prim.Native.Nat.{ℕ}
 use mathlib.Core.Path.{_≡_, ap, _∙_}
 use mathlib.Core.List.{List, [], _∷_}
-use Rattle.box_fillings.specs.Preview.{previewed, previewOf}
-use Rattle.box_stretches.specs.Called.{called}
-use Rattle.box_stretches.specs.Stretch.{sequenceIn, readBackIn, stateIn}
-use Rattle.box_stretches.specs.BayCalls.{stretchKept, bayPreviewOf}
+use Rattle.spec_bay.specs.Preview.{previewed, previewOf}
+use Rattle.spec_bay.specs.Called.{called}
+use Rattle.spec_bay.specs.Stretch.{sequenceIn, readBackIn, stateIn}
+use Rattle.spec_bay.specs.BayCalls.{stretchKept, bayPreviewOf}
 
 -- the preview on the fields that were read
 pub on-stretch : (s : List ℕ) (e u : ℕ) (buffer : List ℕ) {sequence state : List ℕ} {readBack : ℕ}

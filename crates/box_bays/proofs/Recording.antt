@@ -17,10 +17,10 @@ use Rattle.spec_tick.specs.Recording.{following}
 use Rattle.records.proofs.Records.{record-sized}
 use Rattle.records.proofs.Panels.{length-panel}
 use Rattle.numbers.proofs.Putting.{stored}
-use Rattle.box_stretches.specs.Called.{called}
-use Rattle.box_stretches.specs.Stretch.{countAt, stretchLength, stateIn, lastNumberIn, serviceOnlyIn}
-use Rattle.box_stretches.specs.BayCalls.{counted, recorded, showing, bayChargedOf, bayTickOf, bayServiceOf, bayPanelOf}
-use Rattle.box_fields.proofs.Fields.{state-sized}
+use Rattle.spec_bay.specs.Called.{called}
+use Rattle.spec_bay.specs.Stretch.{countAt, stretchLength, stateIn, lastNumberIn, serviceOnlyIn}
+use Rattle.spec_bay.specs.BayCalls.{counted, recorded, showing, bayChargedOf, bayTickOf, bayServiceOf, bayPanelOf}
+use Rattle.theory_bay.proofs.Fields.{state-sized}
 
 -- ---- an instant is counted, and its record is written
 module _ (s : List ℕ) (e : ℕ) (answer trace : List ℕ)

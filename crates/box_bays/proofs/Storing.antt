@@ -10,10 +10,10 @@ use Rattle.spec_base.specs.Bytes.{leBytes}
 use Rattle.numbers.proofs.Bytes.{length-leBytes}
 use Rattle.spec_base.specs.Parts.{put, zeros}
 use Rattle.numbers.proofs.Putting.{stored}
-use Rattle.box_stretches.specs.Called.{called}
-use Rattle.box_stretches.specs.Stretch.{lengthBytes, sequenceAt, readBackAt, ceilingAt, serviceAt, bayLength, stretchLength, vacated, Terms, filled}
-use Rattle.box_stretches.specs.BayCalls.{bayReleaseOf}
-use Rattle.box_fields.proofs.Fields.{s1, s2, s3, s4, l0, l1, l2, l3, l4}
+use Rattle.spec_bay.specs.Called.{called}
+use Rattle.spec_bay.specs.Stretch.{lengthBytes, sequenceAt, readBackAt, ceilingAt, serviceAt, bayLength, stretchLength, vacated, Terms, filled}
+use Rattle.spec_bay.specs.BayCalls.{bayReleaseOf}
+use Rattle.theory_bay.proofs.Fields.{s1, s2, s3, s4, l0, l1, l2, l3, l4}
 
 pub cleared-out : (s : List ℕ) → length s ≡ stretchLength → sets s 0 (leBytes bayLength 0) ≡ vacated s
 unfolding vacated zeros

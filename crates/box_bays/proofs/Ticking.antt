@@ -16,10 +16,10 @@ use Rattle.instants.specs.declared.Reply.the-variants.{Refused, Reacted}
 use Rattle.instants.specs.Replies.{repliedFrom, Replies}
 use Rattle.instants.proofs.Replying.{replied-from}
 use Rattle.numbers.proofs.Putting.{put-slot}
-use Rattle.box_stretches.specs.Called.{called}
-use Rattle.box_stretches.specs.Stretch.{stateAt, stretchLength, sequenceIn, readBackIn, stateIn}
-use Rattle.box_stretches.specs.BayCalls.{stateKept, bayStepOf}
-use Rattle.box_fields.proofs.Fields.{state-sized}
+use Rattle.spec_bay.specs.Called.{called}
+use Rattle.spec_bay.specs.Stretch.{stateAt, stretchLength, sequenceIn, readBackIn, stateIn}
+use Rattle.spec_bay.specs.BayCalls.{stateKept, bayStepOf}
+use Rattle.theory_bay.proofs.Fields.{state-sized}
 
 -- the core's answer, on the fields that were read
 pub on-fields : {a a′ b b′ : List ℕ} {e k k′ : ℕ} {r : Reply} → a ≡ a′ → b ≡ b′ → k ≡ k′ → Replies a b e k r → Replies a′ b′ e k′ r

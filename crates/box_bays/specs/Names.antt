@@ -1,8 +1,8 @@
 -- The calls that name a position of a bay, by the value that names one in the code.
 use Prim.Native.Nat.{ℕ}
 use mathlib.Core.List.{List}
-use Rattle.box_stretches.specs.Called.{Called}
-use Rattle.box_stretches.specs.BayCalls.{baySaveOf, bayRestoreOf, bayForgetOf}
+use Rattle.spec_bay.specs.Called.{Called}
+use Rattle.spec_bay.specs.BayCalls.{baySaveOf, bayRestoreOf, bayForgetOf}
 use Rattle.box_bays.specs.declared.naming.Naming.{Naming}
 use Rattle.box_bays.specs.declared.naming.Naming.the-variants.{Save, Restore, Forget}
 

@@ -3,9 +3,9 @@ ghost use mathlib.Core.Path.{_≡_};
 ghost use Prim.Native.Nat.{_^_, _≤_};
 ghost use mathlib.Core.List.{[]};
 ghost use lib.ListN.{length};
-ghost use Rattle.box_stretches.specs.Called.{called};
-ghost use Rattle.box_stretches.specs.Stretch.{stretchLength, terms};
-ghost use Rattle.box_stretches.specs.BayCalls.{bayAdmitOf};
+ghost use Rattle.spec_bay.specs.Called.{called};
+ghost use Rattle.spec_bay.specs.Stretch.{stretchLength, terms};
+ghost use Rattle.spec_bay.specs.BayCalls.{bayAdmitOf};
 use ceilings::Plan;
 
 // The reactions of an instant that the bays share.

@@ -2,8 +2,8 @@
 ghost use mathlib.Core.Path.{_≡_};
 ghost use mathlib.Core.List.{[]};
 ghost use lib.ListN.{length};
-ghost use Rattle.box_stretches.specs.Called.{called};
-ghost use Rattle.box_stretches.specs.Stretch.{stretchLength};
+ghost use Rattle.spec_bay.specs.Called.{called};
+ghost use Rattle.spec_bay.specs.Stretch.{stretchLength};
 ghost use Rattle.box_bays.specs.Moves.{bayMovedOf};
 use crate::naming::Naming;
 

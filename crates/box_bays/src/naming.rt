@@ -2,10 +2,10 @@
 ghost use mathlib.Core.Path.{_≡_};
 ghost use mathlib.Core.List.{[]};
 ghost use lib.ListN.{length};
-ghost use Rattle.box_positions.specs.Table.{placeOf, labelsFound};
-ghost use Rattle.box_stretches.specs.Called.{called};
-ghost use Rattle.box_stretches.specs.Stretch.{stretchLength, positionsIn};
-ghost use Rattle.box_stretches.specs.BayCalls.{baySaveOf, restored};
+ghost use Rattle.spec_bay.specs.Table.{placeOf, labelsFound};
+ghost use Rattle.spec_bay.specs.Called.{called};
+ghost use Rattle.spec_bay.specs.Stretch.{stretchLength, positionsIn};
+ghost use Rattle.spec_bay.specs.BayCalls.{baySaveOf, restored};
 ghost use Rattle.box_bays.specs.Names.{bayNamedOf};
 use crate::fields::BAY_LENGTH;
 use crate::fields::COUNT_AT;

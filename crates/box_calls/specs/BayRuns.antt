@@ -19,9 +19,9 @@ use Rattle.spec_tick.specs.Paper as Paper
 use Rattle.spec_tick.specs.Paper.{paper}
 use Rattle.spec_tick.specs.Demands.{outcomes, cleared, report}
 use Rattle.spec_tick.specs.Deliveries.{delivered, paperDelivered}
-use Rattle.box_stretches.specs.Called.{Called, number, memoryAfter, lentAfter, first}
-use Rattle.box_stretches.specs.Stretch.{sequenceIn, readBackIn, serviceOnlyIn, stateIn, Terms, terms}
-use Rattle.box_stretches.specs.BayCalls.{delivering}
+use Rattle.spec_bay.specs.Called.{Called, number, memoryAfter, lentAfter, first}
+use Rattle.spec_bay.specs.Stretch.{sequenceIn, readBackIn, serviceOnlyIn, stateIn, Terms, terms}
+use Rattle.spec_bay.specs.BayCalls.{delivering}
 use Rattle.box_calls.specs.Box.{stretchOf, Call, admit, release, restore, onTick}
 use Rattle.box_calls.specs.Lists.{Calling, Request, afterCall, boxAfter, overBay}
 use Rattle.box_calls.specs.Shares.{Sendable}

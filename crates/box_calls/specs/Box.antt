@@ -6,9 +6,9 @@ use mathlib.Core.List.{List, [], _∷_}
 use lib.ListN.{length}
 use lib.Dec.{eqb, ltb}
 use Rattle.spec_base.specs.Parts.{slot, put, zeros}
-use Rattle.box_stretches.specs.Called.{Called, called}
-use Rattle.box_stretches.specs.Stretch.{stretchLength, isEmpty, partOf, Terms}
-use Rattle.box_stretches.specs.BayCalls.{bayTickOf, bayReleaseOf, bayAdmitOf, baySaveOf, bayForgetOf, bayRestoreOf, bayServiceOf, bayPanelOf, bayPreviewOf, bayLedgerOf, bayNewYearOf}
+use Rattle.spec_bay.specs.Called.{Called, called}
+use Rattle.spec_bay.specs.Stretch.{stretchLength, isEmpty, partOf, Terms}
+use Rattle.spec_bay.specs.BayCalls.{bayTickOf, bayReleaseOf, bayAdmitOf, baySaveOf, bayForgetOf, bayRestoreOf, bayServiceOf, bayPanelOf, bayPreviewOf, bayLedgerOf, bayNewYearOf}
 
 abbrev pub bayCount : ℕ
 bayCount = 8

@@ -7,9 +7,9 @@ use mathlib.Core.List.{List}
 use lib.ListN.{length}
 use Rattle.spec_sequence.specs.Check.{checked, checkOf}
 use Rattle.spec_sequence.specs.Ceilings.{ceilingOf}
-use Rattle.box_stretches.specs.Called.{called, number, memoryAfter, lentAfter}
-use Rattle.box_stretches.specs.Stretch.{lengthIn, sequenceIn, readBackIn, ceilingIn, partOf, Terms}
-use Rattle.box_stretches.specs.BayCalls.{sharedCeiling}
+use Rattle.spec_bay.specs.Called.{called, number, memoryAfter, lentAfter}
+use Rattle.spec_bay.specs.Stretch.{lengthIn, sequenceIn, readBackIn, ceilingIn, partOf, Terms}
+use Rattle.spec_bay.specs.BayCalls.{sharedCeiling}
 use Rattle.box_calls.specs.Box.{bayCount, boxLength, emptyBox, stretchOf, present, Call, admit, release, tick, save, restore, forget, service, panel, preview, ledger, newYear, buffers}
 use Rattle.box_calls.specs.Lists.{Calling, Request, boxAfter, asked, answers}
 use Rattle.box_calls.specs.Shares.{AllSendable, sumOfReactions, OneTickEach}

@@ -16,9 +16,9 @@ use Rattle.spec_sequence.specs.Check.{checked}
 use Rattle.spec_base.specs.Bytes.{leBytes, leNumber}
 use Rattle.spec_base.specs.Parts.{put, zeros}
 use Rattle.spec_tick.specs.Paper as Paper
-use Rattle.box_stretches.specs.Called.{called, number}
-use Rattle.box_stretches.specs.Stretch.{stretchLength, partOf, vacated, terms, filled}
-use Rattle.box_stretches.specs.BayCalls.{bayAdmitOf}
+use Rattle.spec_bay.specs.Called.{called, number}
+use Rattle.spec_bay.specs.Stretch.{stretchLength, partOf, vacated, terms, filled}
+use Rattle.spec_bay.specs.BayCalls.{bayAdmitOf}
 use Rattle.box_calls.specs.Box.{stretchOf, present, Call, admit, release, tick, restore, service, ledger, onTick, buffers, isFor, callOf}
 use Rattle.box_calls.specs.Lists.{Calling, Request, overBay, blanked}
 use Rattle.box_calls.specs.BayRuns.{ticksTo, inputsIn, Stays, Onward}

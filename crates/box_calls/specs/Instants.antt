@@ -9,8 +9,8 @@ use lib.ListN.{length, getElem?}
 use Rattle.spec_base.specs.Limits.{lastNumber}
 use Rattle.spec_tick.specs.Record.{recordLength, recordOf, numberIn, panelLength, panelOf, Bytes, Agree}
 use Rattle.spec_tick.specs.Recording.{following}
-use Rattle.box_stretches.specs.Called.{called, number, memoryAfter, lentAfter, first}
-use Rattle.box_stretches.specs.Stretch.{lengthIn, stateIn, lastNumberIn, serviceOnlyIn}
+use Rattle.spec_bay.specs.Called.{called, number, memoryAfter, lentAfter, first}
+use Rattle.spec_bay.specs.Stretch.{lengthIn, stateIn, lastNumberIn, serviceOnlyIn}
 use Rattle.box_calls.specs.Box.{bayCount, boxLength, stretchOf, Call, tick, service, panel}
 use Rattle.box_calls.specs.Lists.{Calling, Request, boxAfter}
 use Rattle.box_calls.specs.BayRuns.{overTicks, countsAsInstant, OverBay}

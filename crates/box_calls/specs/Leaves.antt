@@ -8,9 +8,9 @@ use Rattle.spec_sequence.specs.Check.{checked, checkOf}
 use Rattle.spec_sequence.specs.Ceilings.{ceilingOf}
 use Rattle.spec_tick.specs.Demands.{cleared}
 use Rattle.spec_base.specs.Parts.{slot, zeros}
-use Rattle.box_positions.specs.Table.{lookup}
-use Rattle.box_stretches.specs.Called.{number, memoryAfter}
-use Rattle.box_stretches.specs.Stretch.{bayLength, lengthIn, sequenceIn, readBackIn, ceilingIn, serviceOnlyIn, stateIn, lastNumberIn, positionsIn, ledgerIn, Terms}
+use Rattle.spec_bay.specs.Table.{lookup}
+use Rattle.spec_bay.specs.Called.{number, memoryAfter}
+use Rattle.spec_bay.specs.Stretch.{bayLength, lengthIn, sequenceIn, readBackIn, ceilingIn, serviceOnlyIn, stateIn, lastNumberIn, positionsIn, ledgerIn, Terms}
 use Rattle.box_calls.specs.Box.{stretchOf, admit, release}
 use Rattle.box_calls.specs.Lists.{Calling}
 use Rattle.box_calls.specs.Shares.{Sendable}

@@ -6,8 +6,8 @@ use mathlib.Core.List.{List, [], _∷_}
 use lib.ListN.{length}
 use lib.Dec.{eqb}
 use Rattle.spec_base.specs.Parts.{zeros}
-use Rattle.box_stretches.specs.Called.{Called, number, memoryAfter, lentAfter}
-use Rattle.box_stretches.specs.Stretch.{Terms}
+use Rattle.spec_bay.specs.Called.{Called, number, memoryAfter, lentAfter}
+use Rattle.spec_bay.specs.Stretch.{Terms}
 use Rattle.box_calls.specs.Box.{Call, admit, release, tick, save, restore, forget, service, panel, preview, ledger, newYear, onAdmit}
 
 -- box, bay, call

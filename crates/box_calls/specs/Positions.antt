@@ -14,10 +14,10 @@ use Rattle.spec_language.specs.Machines.{State, Rewriting}
 use Rattle.spec_sequence.specs.Rows.{Spells}
 use Rattle.spec_tick.specs.StateRecord.{stateLength, phaseIn, labelsIn, encodeState}
 use Rattle.spec_base.specs.Parts.{put}
-use Rattle.box_positions.specs.Names.{Position, find, saveNamed, forgetNamed, positionsAfter}
-use Rattle.box_positions.specs.Table.{lookup, SixteenKnown}
-use Rattle.box_stretches.specs.Called.{number, memoryAfter}
-use Rattle.box_stretches.specs.Stretch.{stateAt, lengthIn, sequenceIn, stateIn, positionsIn, Terms}
+use Rattle.spec_bay.specs.Names.{Position, find, saveNamed, forgetNamed, positionsAfter}
+use Rattle.spec_bay.specs.Table.{lookup, SixteenKnown}
+use Rattle.spec_bay.specs.Called.{number, memoryAfter}
+use Rattle.spec_bay.specs.Stretch.{stateAt, lengthIn, sequenceIn, stateIn, positionsIn, Terms}
 use Rattle.box_calls.specs.Box.{bayCount, emptyBox, stretchOf, Call, admit, release, tick, save, restore, forget, service, panel, preview, ledger, newYear}
 use Rattle.box_calls.specs.Lists.{Calling, Request, afterCall, boxAfter}
 use Rattle.box_calls.specs.Shares.{Sendable, AllSendable}

@@ -10,11 +10,11 @@ use Rattle.spec_tick.specs.AnswerRecord.{answerLength, codeIn, emittedIn}
 use Rattle.spec_tick.specs.Tick.{tickOf}
 use Rattle.spec_tick.specs.Demands.{answerAfterwards}
 use Rattle.spec_tick.specs.Record.{recordLength}
-use Rattle.box_fillings.specs.Preview as fillings
-use Rattle.box_fillings.specs.Preview.{filled, openCode, previewLength, everyIn, neverIn, wrongIn, sharedIn, Previewed, bufferAfter, previewOf}
-use Rattle.box_fillings.specs.Claims.{PreviewIs, StaysShown, knowing}
-use Rattle.box_stretches.specs.Called.{called, number, memoryAfter, lentAfter, first}
-use Rattle.box_stretches.specs.Stretch.{lengthIn, sequenceIn, readBackIn, stateIn}
+use Rattle.spec_bay.specs.Preview as fillings
+use Rattle.spec_bay.specs.Preview.{filled, openCode, previewLength, everyIn, neverIn, wrongIn, sharedIn, Previewed, bufferAfter, previewOf}
+use Rattle.spec_bay.specs.PreviewClaims.{PreviewIs, StaysShown, knowing}
+use Rattle.spec_bay.specs.Called.{called, number, memoryAfter, lentAfter, first}
+use Rattle.spec_bay.specs.Stretch.{lengthIn, sequenceIn, readBackIn, stateIn}
 use Rattle.box_calls.specs.Box.{bayCount, boxLength, stretchOf, tick, preview}
 use Rattle.box_calls.specs.Lists.{Calling}
 

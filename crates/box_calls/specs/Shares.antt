@@ -6,7 +6,7 @@ use mathlib.Core.List.{List, [], _∷_}
 use lib.Dec.{eqb}
 use Rattle.spec_base.specs.Limits.{signalBytes, nameBytes}
 use Rattle.spec_tick.specs.AnswerRecord.{reactionsIn}
-use Rattle.box_stretches.specs.Called.{Called, number, lentAfter, first}
+use Rattle.spec_bay.specs.Called.{Called, number, lentAfter, first}
 use Rattle.box_calls.specs.Box.{Call, admit, release, tick, save, restore, forget, service, panel, preview, ledger, newYear}
 use Rattle.box_calls.specs.Lists.{Calling, Request, afterCall}
 

@@ -9,13 +9,13 @@ use lib.ListN.{length}
 use lib.Dec.{eqb}
 use Rattle.spec_base.specs.Limits.{litresLimit}
 use Rattle.spec_base.specs.WholeLitres.{whole, Near}
-use Rattle.box_ledgers.specs.Ledgers as Ledgers
-use Rattle.box_ledgers.specs.Ledgers.{farmCount, readingLength, fieldIn, totalIn, exactTotal, readingOf, totalRead}
+use Rattle.spec_bay.specs.Ledgers as Ledgers
+use Rattle.spec_bay.specs.Ledgers.{farmCount, readingLength, fieldIn, totalIn, exactTotal, readingOf, totalRead}
 use Rattle.spec_tick.specs.Tick.{tickOf}
 use Rattle.spec_tick.specs.Demands as demands
-use Rattle.box_stretches.specs.Called.{called, number, memoryAfter}
-use Rattle.box_stretches.specs.Stretch.{lengthIn, sequenceIn, readBackIn, stateIn, ledgerIn, withLedger}
-use Rattle.box_stretches.specs.BayCalls.{delivering}
+use Rattle.spec_bay.specs.Called.{called, number, memoryAfter}
+use Rattle.spec_bay.specs.Stretch.{lengthIn, sequenceIn, readBackIn, stateIn, ledgerIn, withLedger}
+use Rattle.spec_bay.specs.BayCalls.{delivering}
 use Rattle.box_calls.specs.Box.{bayCount, boxLength, emptyBox, stretchOf, Call, tick, preview, ledger, newYear, onTick, onNewYear}
 use Rattle.box_calls.specs.Lists.{Calling, Request, afterCall, boxAfter}
 use Rattle.box_calls.specs.BayRuns.{paperBuffer, TicksInBay}

@@ -15,7 +15,7 @@ use Rattle.program.specs.declared.Start.the-variants.{Fresh, Waiting}
 use Rattle.theory_language.proofs.Farms.{unnamed-none}
 use Rattle.layout.specs.Notes.{farmsIn, Noted}
 use Rattle.layout.proofs.Noting.{farms-below}
-use Rattle.box_ledgers.specs.Ledgers.{farmCount, NoneOutside}
+use Rattle.spec_bay.specs.Ledgers.{farmCount, NoneOutside}
 use Rattle.theory_language.proofs.LabelTests.{valid-is}
 use Rattle.labels.specs.declared.Labels.{Labels}
 use Rattle.spec_sequence.specs.Writer.{Ranged}

@@ -10,7 +10,7 @@ use lib.Dec.{ltb}
 use borrow.Author.Tests.{lt-ltb, le-ltb}
 use Rattle.spec_base.specs.Limits.{litresLimit}
 use Rattle.reaction.specs.Reactions.{cappedOf}
-use Rattle.box_ledgers.specs.Ledgers.{farmCount, ledgerLength, totalIn, wouldPass, passes, addedTo, addedBelow, added}
+use Rattle.spec_bay.specs.Ledgers.{farmCount, ledgerLength, totalIn, wouldPass, passes, addedTo, addedBelow, added}
 use Rattle.box_ledgers.proofs.Totals.{passes-not}
 use Rattle.box_ledgers.proofs.Theorems as ledgers
 use Rattle.spec_tick.specs.Deliveries.{deliveries}

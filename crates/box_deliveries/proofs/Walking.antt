@@ -24,7 +24,7 @@ use Rattle.reaction.specs.Reactions.{cappedOf}
 use Rattle.program.specs.declared.Start.{Start}
 use Rattle.program.specs.declared.Start.the-variants.{Fresh, Waiting}
 use Rattle.program.specs.Program.{Reacted}
-use Rattle.box_ledgers.specs.Ledgers.{farmCount}
+use Rattle.spec_bay.specs.Ledgers.{farmCount}
 use Rattle.spec_language.specs.Errors.{firstError}
 use Rattle.reaction.specs.Completions.{codeOf}
 use Rattle.reaction.proofs.Completions.{code-of}

@@ -5,7 +5,7 @@ use mathlib.Core.List.{List}
 use lib.ListN.{getD}
 use Rattle.reaction.specs.Reactions.{cappedOf}
 use Rattle.spec_tick.specs.Deliveries.{deliveries}
-use Rattle.box_ledgers.specs.Ledgers.{farmCount, NoneOutside}
+use Rattle.spec_bay.specs.Ledgers.{farmCount, NoneOutside}
 
 abbrev pub Delivers : (sequence state : List ℕ) (e readBack farms : ℕ) (litres : List ℕ) → Type 0
 Delivers sequence state e readBack farms litres =

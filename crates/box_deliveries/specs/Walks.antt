@@ -15,7 +15,7 @@ use Rattle.reaction.specs.declared.Reaction.{Reaction}
 use Rattle.reaction.specs.Reactions.{cappedOf, reactionTo}
 use Rattle.program.specs.declared.Start.{Start}
 use Rattle.program.specs.Program.{termAt}
-use Rattle.box_ledgers.specs.Ledgers.{farmCount, NoneOutside}
+use Rattle.spec_bay.specs.Ledgers.{farmCount, NoneOutside}
 
 -- the term of the program
 abbrev pub termOf : (origin : Start) (readBack : ℕ) → Statement → Statement

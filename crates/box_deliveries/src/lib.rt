@@ -4,7 +4,7 @@ ghost use mathlib.Core.Path.{_≡_};
 ghost use lib.ListN.{replicate};
 ghost use Rattle.spec_base.specs.Limits.{maxDepth};
 ghost use Rattle.layout.specs.Layout.{Ready};
-ghost use Rattle.box_ledgers.specs.Ledgers.{farmCount};
+ghost use Rattle.spec_bay.specs.Ledgers.{farmCount};
 ghost use Rattle.box_deliveries.specs.Walks.{Instant};
 ghost use Rattle.instants.specs.Replies.{Replies};
 ghost use Rattle.box_deliveries.specs.Delivering.{Delivers};

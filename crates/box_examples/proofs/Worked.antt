@@ -21,13 +21,13 @@ use Rattle.spec_base.specs.Bytes.{leBytes, leNumber}
 use Rattle.spec_tick.specs.StateRecord.{encodeState, decodeState}
 use Rattle.spec_tick.specs.AnswerRecord.{encodeAnswer}
 use Rattle.spec_base.specs.Parts.{put, zeros}
-use Rattle.box_ledgers.specs.Ledgers.{totalIn, totalsBytes, wouldPass, addedBelow}
+use Rattle.spec_bay.specs.Ledgers.{totalIn, totalsBytes, wouldPass, addedBelow}
 use Rattle.spec_tick.specs.Tick.{tickBy}
 use Rattle.spec_tick.specs.Record.{recordLength, panelOf}
 use Rattle.spec_tick.specs.Recording.{following}
-use Rattle.box_stretches.specs.Stretch.{partOf, vacated, filled}
-use Rattle.box_positions.specs.Table.{place, lookup, saveOf, forgetOf}
-use Rattle.box_stretches.specs.BayCalls.{bayStepOf, bayChargedOf, bayTickOf, bayReleaseOf, bayAdmitOf, baySaveOf, bayForgetOf, bayRestoreOf, bayServiceOf, bayPanelOf, bayLedgerOf, bayNewYearOf}
+use Rattle.spec_bay.specs.Stretch.{partOf, vacated, filled}
+use Rattle.spec_bay.specs.Table.{place, lookup, saveOf, forgetOf}
+use Rattle.spec_bay.specs.BayCalls.{bayStepOf, bayChargedOf, bayTickOf, bayReleaseOf, bayAdmitOf, baySaveOf, bayForgetOf, bayRestoreOf, bayServiceOf, bayPanelOf, bayLedgerOf, bayNewYearOf}
 use Rattle.box_calls.specs.Box.{emptyBox, present, callOf}
 use Rattle.box_calls.specs.Lists.{boxAfter, overBay}
 use Rattle.box_examples.specs.Worked.{otherwise, alone, emptyStretch, bay, admissions, reached, passed, full, overmuch, bays, elsewhere}

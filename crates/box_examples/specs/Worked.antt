@@ -8,8 +8,8 @@ use lib.Dec.{eqb}
 use Rattle.spec_tick.specs.AnswerRecord.{answerLength, codeIn}
 use Rattle.spec_tick.specs.Record.{recordLength}
 use Rattle.spec_base.specs.Parts.{zeros}
-use Rattle.box_stretches.specs.Called.{Called, called, number, lentAfter, first}
-use Rattle.box_stretches.specs.Stretch.{stretchLength}
+use Rattle.spec_bay.specs.Called.{Called, called, number, lentAfter, first}
+use Rattle.spec_bay.specs.Stretch.{stretchLength}
 use Rattle.box_calls.specs.Box.{admit, release, tick, buffers, bayCall, isFor}
 use Rattle.box_calls.specs.Lists.{Calling, Request, afterCall}
 

@@ -2,8 +2,8 @@
 use Prim.Native.Nat.{ℕ}
 use mathlib.Core.List.{List, [], _∷_, _++_}
 use lib.ListN.{replicate}
-use Rattle.box_ledgers.specs.Ledgers.{ledgerLength, readingLength, totalIn}
-use Rattle.box_stretches.specs.Stretch.{ledgerIn}
+use Rattle.spec_bay.specs.Ledgers.{ledgerLength, readingLength, totalIn}
+use Rattle.spec_bay.specs.Stretch.{ledgerIn}
 use Rattle.box_calls.specs.Box.{ledger, newYear}
 use Rattle.box_calls.specs.Lists.{Request, boxAfter}
 use Rattle.box_examples.specs.Worked.{admitted, released, ticked, Line, line, alone, emptyStretch}

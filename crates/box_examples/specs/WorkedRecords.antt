@@ -5,7 +5,7 @@ use lib.ListN.{replicate}
 use Rattle.spec_tick.specs.StateRecord.{stateRecord}
 use Rattle.spec_tick.specs.AnswerRecord.{answerLength, answerRecord}
 use Rattle.spec_tick.specs.Record.{recordOf, numberIn, panelLength}
-use Rattle.box_stretches.specs.Called.{lentAfter, first}
+use Rattle.spec_bay.specs.Called.{lentAfter, first}
 use Rattle.box_calls.specs.Box.{admit, tick, service, panel}
 use Rattle.box_calls.specs.Lists.{Request, boxAfter}
 use Rattle.box_calls.specs.Instants.{second, recordsIn}

@@ -6,9 +6,9 @@ use lib.Dec.{eqb}
 use Rattle.spec_tick.specs.StateRecord.{stateLength}
 use Rattle.spec_base.specs.Parts.{put, zeros}
 use Rattle.spec_tick.specs.Tick.{tickOf}
-use Rattle.box_stretches.specs.Called.{Called, called, number, memoryAfter}
-use Rattle.box_stretches.specs.Stretch.{lengthBytes, stateAt, sequenceIn, readBackIn, ceilingIn, stateIn}
-use Rattle.box_stretches.specs.BayCalls.{stateKept, delivering, charged, recorded, bayAdmitOf}
+use Rattle.spec_bay.specs.Called.{Called, called, number, memoryAfter}
+use Rattle.spec_bay.specs.Stretch.{lengthBytes, stateAt, sequenceIn, readBackIn, ceilingIn, stateIn}
+use Rattle.spec_bay.specs.BayCalls.{stateKept, delivering, charged, recorded, bayAdmitOf}
 use Rattle.box_calls.specs.Box.{bayCount, stretchOf, present, Call, admit, release, tick, save, restore, forget, service, panel, preview, ledger, newYear, onTick, onAdmit, inBox, callOf}
 use Rattle.box_calls.specs.Lists.{Calling}
 

@@ -13,11 +13,11 @@ use Rattle.spec_sequence.specs.Program.{program}
 use Rattle.spec_sequence.specs.Check.{Checked, sound, bad, checked}
 use Rattle.spec_base.specs.Parts.{put}
 use Rattle.spec_base.specs.WholeLitres.{litres}
-use Rattle.box_ledgers.specs.Ledgers as Ledgers
-use Rattle.box_ledgers.specs.Ledgers.{farmCount, totalIn, totalFloat, added}
-use Rattle.box_stretches.specs.Called.{Called, called, number, memoryAfter, lentAfter}
-use Rattle.box_stretches.specs.Stretch.{stretchLength, sequenceIn, readBackIn, ledgerIn, withLedger}
-use Rattle.box_stretches.specs.BayCalls.{delivering, recorded, bayStepOf}
+use Rattle.spec_bay.specs.Ledgers as Ledgers
+use Rattle.spec_bay.specs.Ledgers.{farmCount, totalIn, totalFloat, added}
+use Rattle.spec_bay.specs.Called.{Called, called, number, memoryAfter, lentAfter}
+use Rattle.spec_bay.specs.Stretch.{stretchLength, sequenceIn, readBackIn, ledgerIn, withLedger}
+use Rattle.spec_bay.specs.BayCalls.{delivering, recorded, bayStepOf}
 use Rattle.box_calls.specs.Box.{stretchOf, Call, onTick, inBox, callOf}
 use Rattle.box_calls.specs.Lists.{Calling}
 use Rattle.box_examples.specs.WrongBoxes.{instead, altered}

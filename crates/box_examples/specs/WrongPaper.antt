@@ -9,11 +9,11 @@ use Rattle.spec_tick.specs.AnswerRecord.{answerLength}
 use Rattle.spec_tick.specs.Record.{recordLength}
 use Rattle.spec_tick.specs.Recording.{blank}
 use Rattle.spec_base.specs.Parts.{slot, put, zeros}
-use Rattle.box_positions.specs.Names.{isKnown}
-use Rattle.box_positions.specs.Table.{lookup}
-use Rattle.box_ledgers.specs.Ledgers.{ledgerLength, readingLength}
-use Rattle.box_stretches.specs.Called.{Called, called, number, memoryAfter, lentAfter, first}
-use Rattle.box_stretches.specs.Stretch.{sequenceAt, readBackAt, bayLength, stretchLength, isEmpty, positionsIn, Terms}
+use Rattle.spec_bay.specs.Names.{isKnown}
+use Rattle.spec_bay.specs.Table.{lookup}
+use Rattle.spec_bay.specs.Ledgers.{ledgerLength, readingLength}
+use Rattle.spec_bay.specs.Called.{Called, called, number, memoryAfter, lentAfter, first}
+use Rattle.spec_bay.specs.Stretch.{sequenceAt, readBackAt, bayLength, stretchLength, isEmpty, positionsIn, Terms}
 use Rattle.box_calls.specs.Box.{bayCount, stretchOf, Call, admit, release, tick, save, restore, ledger, buffers, callOf}
 use Rattle.box_calls.specs.Lists.{Calling, Request}
 

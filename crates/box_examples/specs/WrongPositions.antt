@@ -8,10 +8,10 @@ use Rattle.spec_base.specs.Limits.{maxPositions}
 use Rattle.spec_base.specs.Bytes.{leNumber}
 use Rattle.spec_tick.specs.StateRecord.{labelsAt, labelsIn}
 use Rattle.spec_base.specs.Parts.{slot, put}
-use Rattle.box_positions.specs.Names.{isKnown}
-use Rattle.box_positions.specs.Table.{tableLength, lookup, names}
-use Rattle.box_stretches.specs.Called.{called, memoryAfter}
-use Rattle.box_stretches.specs.Stretch.{sequenceAt, stateAt, positionsAt, stretchLength, sequenceIn, stateIn, positionsIn, vacated}
+use Rattle.spec_bay.specs.Names.{isKnown}
+use Rattle.spec_bay.specs.Table.{tableLength, lookup, names}
+use Rattle.spec_bay.specs.Called.{called, memoryAfter}
+use Rattle.spec_bay.specs.Stretch.{sequenceAt, stateAt, positionsAt, stretchLength, sequenceIn, stateIn, positionsIn, vacated}
 use Rattle.box_calls.specs.Box.{stretchOf, inBox, callOf}
 use Rattle.box_calls.specs.Lists.{Calling}
 use Rattle.box_examples.specs.WrongBoxes.{instead, altered}

@@ -5,8 +5,8 @@ use Rattle.spec_base.specs.Sets.{none, difference}
 use Rattle.spec_tick.specs.AnswerRecord.{answerLength}
 use Rattle.spec_tick.specs.Record.{recordLength}
 use Rattle.spec_base.specs.Parts.{put, zeros}
-use Rattle.box_fillings.specs.Preview.{openCode, previewLength}
-use Rattle.box_stretches.specs.Called.{Called, called, number, memoryAfter, lentAfter, first}
+use Rattle.spec_bay.specs.Preview.{openCode, previewLength}
+use Rattle.spec_bay.specs.Called.{Called, called, number, memoryAfter, lentAfter, first}
 use Rattle.box_calls.specs.Box.{Call, admit, release, tick, save, restore, forget, service, panel, preview, ledger, newYear, callOf}
 use Rattle.box_calls.specs.Lists.{Calling}
 use Rattle.box_examples.specs.WrongBoxes.{instead}

@@ -25,7 +25,7 @@ use Rattle.spec_sequence.specs.Commands.{bytesAt}
 use Rattle.theory_sequence.proofs.Amounts.{amount-written}
 use Rattle.theory_sequence.proofs.Front.{bytes-taken}
 use Rattle.spec_base.specs.WholeLitres.{whole, litres}
-use Rattle.box_ledgers.specs.Ledgers.{farmCount, ledgerLength, fieldIn, totalIn, Exact, NoneOutside, passes, addedTo, addedBelow, added}
+use Rattle.spec_bay.specs.Ledgers.{farmCount, ledgerLength, fieldIn, totalIn, Exact, NoneOutside, passes, addedTo, addedBelow, added}
 use Rattle.box_ledgers.proofs.Totals.{total-whole, passes-not}
 
 -- ---- bytes elsewhere

@@ -22,7 +22,7 @@ use Rattle.spec_sequence.specs.Amounts.{amountSize, amountBytes, areBytes, floa
 use Rattle.theory_sequence.proofs.Amounts.{amount-written}
 use Rattle.spec_base.specs.WholeLitres.{whole, litres, ordered, Near}
 use Rattle.litres.proofs.Sums.{Running, last, Added, added-first, added-next}
-use Rattle.box_ledgers.specs.Ledgers.{farmCount, ledgerLength, fieldIn, totalIn, totalFloat, Exact, totalsBytes, cleared, NoneOutside, wouldPass, passes, added, exactTotal, shownTotal, readingOf, totalRead}
+use Rattle.spec_bay.specs.Ledgers.{farmCount, ledgerLength, fieldIn, totalIn, totalFloat, Exact, totalsBytes, cleared, NoneOutside, wouldPass, passes, added, exactTotal, shownTotal, readingOf, totalRead}
 use Rattle.box_ledgers.proofs.Totals as totals
 use Rattle.box_ledgers.proofs.Fields as fields
 

@@ -27,7 +27,7 @@ use Rattle.numbers.proofs.Writing.{sets-append, sets-whole}
 use Rattle.spec_sequence.specs.Amounts.{amountBytes}
 use Rattle.spec_base.specs.WholeLitres.{whole, litres, exact, Whole}
 use Rattle.litres.proofs.Sums.{value-of, sum-is, int-is, to-float, whole-no-nan}
-use Rattle.box_ledgers.specs.Ledgers.{farmCount, readingLength, fieldIn, totalIn, totalFloat, totalsBytes, wouldPass, exactTotal}
+use Rattle.spec_bay.specs.Ledgers.{farmCount, readingLength, fieldIn, totalIn, totalFloat, totalsBytes, wouldPass, exactTotal}
 
 pub holds : (b : Bool) → b ≡ true → T b
 holds true h = tt

@@ -10,8 +10,8 @@ use lib.Dec.{eqb}
 use Rattle.spec_base.specs.Limits.{litresLimit}
 use Rattle.spec_base.specs.WholeLitres.{IsNumber, Near}
 use Rattle.spec_language.specs.States.{NoSetpause}
-use Rattle.box_ledgers.specs.Ledgers.{farmCount, readingLength, fieldIn, readingFor, totalRead}
-use Rattle.box_stretches.specs.Called.{number, lentAfter, first}
+use Rattle.spec_bay.specs.Ledgers.{farmCount, readingLength, fieldIn, readingFor, totalRead}
+use Rattle.spec_bay.specs.Called.{number, lentAfter, first}
 use Rattle.box_calls.specs.Box.{bayCount, emptyBox, Call, ledger, onTick, onNewYear}
 use Rattle.box_calls.specs.Lists.{Calling, Request, boxAfter}
 use Rattle.box_calls.specs.Shares.{AllSendable}

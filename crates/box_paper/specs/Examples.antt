@@ -27,9 +27,9 @@ use Rattle.spec_tick.specs.Record.{recordLength, panelOf}
 use Rattle.spec_tick.specs.Recording.{following}
 use Rattle.spec_tick.specs.Paper.{Report, reacted}
 use Rattle.spec_base.specs.WholeLitres.{ordered}
-use Rattle.box_positions.specs.Names.{find, without, saveNamed, forgetNamed}
-use Rattle.box_ledgers.specs.Ledgers.{readingLength, totalsBytes, wouldPass}
-use Rattle.box_fillings.specs.Preview.{both, gathered, findings}
+use Rattle.spec_bay.specs.Names.{find, without, saveNamed, forgetNamed}
+use Rattle.spec_bay.specs.Ledgers.{readingLength, totalsBytes, wouldPass}
+use Rattle.spec_bay.specs.Preview.{both, gathered, findings}
 use Rattle.box_calls.specs.Box.{Call, admit, release, tick, save, restore, forget, service, panel, preview, ledger, newYear}
 use Rattle.box_calls.specs.Lists.{Request}
 use Rattle.box_paper.specs.PaperBox.{byTerms, byLabelSets, emptyPaper, InstantTold, told, Reported, ticked, replies, presentOn}

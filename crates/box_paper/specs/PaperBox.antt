@@ -21,11 +21,11 @@ use Rattle.spec_tick.specs.Paper.{Report, reportOf}
 use Rattle.spec_tick.specs.Demands.{report}
 use Rattle.spec_tick.specs.Record.{recordLength, recordOf, numberIn, inputIn, answerIn, stateIn, panelLength, panelOf}
 use Rattle.spec_tick.specs.Recording.{following}
-use Rattle.box_positions.specs.Names.{Position, find, Answered, answered, saveNamed, forgetNamed}
-use Rattle.box_ledgers.specs.Ledgers.{farmCount, readingLength, readingFor, wouldPass}
-use Rattle.box_fillings.specs.Preview.{Previewed, previewed, previewLength, shownBy}
-use Rattle.box_stretches.specs.Stretch.{Terms}
-use Rattle.box_stretches.specs.BayCalls.{sharedCeiling}
+use Rattle.spec_bay.specs.Names.{Position, find, Answered, answered, saveNamed, forgetNamed}
+use Rattle.spec_bay.specs.Ledgers.{farmCount, readingLength, readingFor, wouldPass}
+use Rattle.spec_bay.specs.Preview.{Previewed, previewed, previewLength, shownBy}
+use Rattle.spec_bay.specs.Stretch.{Terms}
+use Rattle.spec_bay.specs.BayCalls.{sharedCeiling}
 use Rattle.box_calls.specs.Box.{bayCount, Call, admit, release, tick, save, restore, forget, service, panel, preview, ledger, newYear, buffers}
 
 -- ---- the machine of a bay: its states are S, a position keeps T of it, and R is told of an instant

@@ -11,11 +11,11 @@ use Rattle.spec_language.specs.Machines.{State}
 use Rattle.spec_sequence.specs.Check.{checkOf}
 use Rattle.spec_sequence.specs.Rows.{Spells}
 use Rattle.spec_tick.specs.StateRecord.{encodeState}
-use Rattle.box_positions.specs.Names.{find}
-use Rattle.box_positions.specs.Table.{lookup}
-use Rattle.box_ledgers.specs.Ledgers.{farmCount, totalIn}
-use Rattle.box_stretches.specs.Called.{Called, number, lentAfter, first}
-use Rattle.box_stretches.specs.Stretch.{lengthIn, sequenceIn, readBackIn, ceilingIn, serviceOnlyIn, stateIn, lastNumberIn, positionsIn, ledgerIn, Terms}
+use Rattle.spec_bay.specs.Names.{find}
+use Rattle.spec_bay.specs.Table.{lookup}
+use Rattle.spec_bay.specs.Ledgers.{farmCount, totalIn}
+use Rattle.spec_bay.specs.Called.{Called, number, lentAfter, first}
+use Rattle.spec_bay.specs.Stretch.{lengthIn, sequenceIn, readBackIn, ceilingIn, serviceOnlyIn, stateIn, lastNumberIn, positionsIn, ledgerIn, Terms}
 use Rattle.box_calls.specs.Box.{bayCount, emptyBox, stretchOf, Call, admit, onTick}
 use Rattle.box_calls.specs.Lists.{Calling, Request, afterCall, boxAfter}
 use Rattle.box_calls.specs.Instants.{second}

@@ -17,7 +17,7 @@ use Rattle.spec_tick.specs.StateRecord.{stateLength, stateRecord, labelsIn}
 use Rattle.records.proofs.StateLaws.{state-sized}
 use Rattle.spec_base.specs.Parts.{slot, put}
 use Rattle.numbers.proofs.Putting.{put-before, put-behind, put-within, length-put}
-use Rattle.box_positions.specs.Table.{keyBytes, entryLength, tableLength, entryOf, keyOf, keyIn, savedLabels, place}
+use Rattle.spec_bay.specs.Table.{keyBytes, entryLength, tableLength, entryOf, keyOf, keyIn, savedLabels, place}
 
 -- ---- an entry
 module _ (name labels : ℕ) where

@@ -13,7 +13,7 @@ use Rattle.spec_base.specs.Limits.{maxPositions, nameBytes}
 use Rattle.spec_base.specs.Bytes.{leNumber}
 use Rattle.spec_tick.specs.StateRecord.{stateLength, labelsIn}
 use Rattle.spec_base.specs.Parts.{slot, put}
-use Rattle.box_positions.specs.Table.{keyBytes, entryLength, keyOf, keyIn, savedLabels, placeOf, labelsFound, lookup, FreeOrNamed, Formed}
+use Rattle.spec_bay.specs.Table.{keyBytes, entryLength, keyOf, keyIn, savedLabels, placeOf, labelsFound, lookup, FreeOrNamed, Formed}
 use Rattle.box_positions.proofs.Entries.{length-entry, own-key, own-labels, other-key, other-labels, found, missing, only, same-place}
 
 module _ (name : ℕ) (t : List ℕ) where

@@ -6,7 +6,7 @@ use mathlib.Core.Path.{_≡_, refl, sym, ap, _∙_}
 use mathlib.Core.Logic.{_≢_, ⊎-elim}
 use mathlib.Core.List.{List, [], _∷_, List·Memᴰ, List·Memᴰ·head, List·Memᴰ·tail, List·Memᴰ·not-nil, List·Memᴰ·cases-cons, Memᴰ·cast}
 use lib.ListN.{length}
-use Rattle.box_positions.specs.Names.{Once}
+use Rattle.spec_bay.specs.Names.{Once}
 
 -- ys without one n
 record Others (n : ℕ) (ys : List ℕ) : Type 0 where

@@ -17,7 +17,7 @@ use Rattle.spec_tick.specs.StateRecord.{stateLength, stateRecord}
 use Rattle.records.proofs.StateLaws.{state-sized}
 use Rattle.spec_base.specs.Parts.{slot, put, zeros}
 use Rattle.numbers.proofs.Putting.{length-put, stored, put-next}
-use Rattle.box_positions.specs.Table.{entryLength, tableLength, keyIn, place, placeOf, placeFor, written, cleared, kept, saveOf}
+use Rattle.spec_bay.specs.Table.{entryLength, tableLength, keyIn, place, placeOf, placeFor, written, cleared, kept, saveOf}
 
 place-step : (n key : ℕ) (t : List ℕ) → 0 < n → place n key t ≡ cond (eqb (keyIn (n - 1) t) key) (n - 1) (place (n - 1) key t)
 unfolding place

@@ -6,7 +6,7 @@ ghost use lib.ListN.{length};
 ghost use lib.Dec.{ltb};
 ghost use Rattle.spec_base.specs.Limits.{maxPositions};
 ghost use Rattle.labels.specs.Labels.{labelSet};
-ghost use Rattle.box_positions.specs.Table.{tableLength, place, placeOf, savedLabels, written, cleared, kept, saveOf};
+ghost use Rattle.spec_bay.specs.Table.{tableLength, place, placeOf, savedLabels, written, cleared, kept, saveOf};
 use labels::Labels;
 use limits::MAX_POSITIONS;
 use limits::NAME_BYTES;

@@ -25,11 +25,11 @@ use Rattle.instants.specs.declared.Standing.the-variants as stands
 use Rattle.instants.specs.declared.Reply.the-variants.{Refused, Reacted}
 use Rattle.instants.specs.Replies.{Decodes, Replies}
 use Rattle.instants.proofs.Replying.{written-from, refused, malformed-reply, over-reply, fresh-reply, waiting-reply}
-use Rattle.box_fillings.specs.declared.Findings.{Findings}
-use Rattle.box_fillings.specs.Preview.{findings, maxUnknown, previewLength, previewBytes, shownBy, Previewed, previewed, answerIn, answersOf, previewOf}
+use Rattle.spec_bay.specs.declared.Findings.{Findings}
+use Rattle.spec_bay.specs.Preview.{findings, maxUnknown, previewLength, previewBytes, shownBy, Previewed, previewed, answerIn, answersOf, previewOf}
 use Rattle.box_previews.specs.Standing.{answersAt, Stands}
-use Rattle.box_fillings.proofs.Numbers as numbers
-use Rattle.box_fillings.proofs.Numbers.{written-answer, refused-preview}
+use Rattle.theory_bay.proofs.Numbers as numbers
+use Rattle.theory_bay.proofs.Numbers.{written-answer, refused-preview}
 
 -- ---- from an origin
 module _ (answers : ℕ → List ℕ) (input unknown : ℕ) (buffer : List ℕ) (n : ℕ) (h : n ≡ length (membersFrom signalCount 0 unknown)) where

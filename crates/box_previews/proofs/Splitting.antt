@@ -9,10 +9,10 @@ use borrow.Author.Tests.{eqb-true, ne-eqb}
 use Rattle.spec_base.specs.Sets.{member, none, join, difference, insert, remove, Subset, Disjoint}
 use Rattle.sets.proofs.Booleans.{clash, Tested, tested}
 use Rattle.sets.proofs.Members.{member-join, member-insert, member-difference, member-remove, in-remove, in-none, ext}
-use Rattle.box_fillings.specs.declared.Findings.{Findings}
-use Rattle.box_fillings.specs.Preview.{filled, foundIn, both, findings}
-use Rattle.box_fillings.proofs.Gathering.{Said, every-filling, findings-alike}
-use Rattle.box_fillings.proofs.Alike.{same-findings}
+use Rattle.spec_bay.specs.declared.Findings.{Findings}
+use Rattle.spec_bay.specs.Preview.{filled, foundIn, both, findings}
+use Rattle.theory_bay.proofs.Gathering.{Said, every-filling, findings-alike}
+use Rattle.theory_bay.proofs.Alike.{same-findings}
 
 -- ---- an input e that has no unknown signal
 differ : (a b : Bool) → (a ≡ true → b ≡ false) → (a && not b) ≡ a

@@ -28,10 +28,10 @@ use Rattle.spec_tick.specs.Demands.{answerAfterwards}
 use Rattle.program.specs.declared.Start.{Start}
 use Rattle.program.specs.Program.{termAt}
 use Rattle.instants.proofs.Replying.{written-from}
-use Rattle.box_fillings.specs.declared.Findings.{Findings}
-use Rattle.box_fillings.specs.Preview.{alone, foundIn, both, findings}
+use Rattle.spec_bay.specs.declared.Findings.{Findings}
+use Rattle.spec_bay.specs.Preview.{alone, foundIn, both, findings}
 use Rattle.box_previews.specs.Standing.{answersAt}
-use Rattle.box_fillings.proofs.Numbers.{written-answer}
+use Rattle.theory_bay.proofs.Numbers.{written-answer}
 use Rattle.theory_language.proofs.Asked.{unasked-traced}
 use Rattle.box_previews.proofs.Splitting.{one-for-all, apart-without, apart-with, split-at}
 

@@ -8,8 +8,8 @@ use Rattle.spec_base.specs.Limits.{signalCount, signalBytes}
 use Rattle.spec_base.specs.Widths.{complement}
 use Rattle.spec_base.specs.Bytes.{leBytes}
 use Rattle.numbers.proofs.Writing.{sets-whole, sets-append}
-use Rattle.box_fillings.specs.declared.Findings.{Findings}
-use Rattle.box_fillings.specs.Preview.{neverAt, wrongAt, previewLength, bit, previewBytes}
+use Rattle.spec_bay.specs.declared.Findings.{Findings}
+use Rattle.spec_bay.specs.Preview.{neverAt, wrongAt, previewLength, bit, previewBytes}
 
 pub preview-sized : (x : Findings) → length (previewBytes x) ≡ previewLength
 unfolding leBytes

@@ -3,15 +3,12 @@
 ghost use mathlib.Core.Path.{_≡_};
 ghost use mathlib.Core.Bool.{_||_};
 ghost use lib.ListN.{length};
-ghost use Rattle.box_fillings.specs.Preview.{alone, sharedBy, both, bit, previewLength, previewBytes, foundIn, findings, previewed, shownBy, previewOf};
+ghost use Rattle.spec_bay.specs.Preview.{alone, sharedBy, both, bit, previewLength, previewBytes, foundIn, findings, previewed, shownBy, previewOf};
 ghost use Rattle.spec_base.specs.Sets.{Disjoint};
 ghost use Rattle.spec_tick.specs.Demands.{answerAfterwards};
 ghost use Rattle.program.specs.Program.{ReactedWithoutLitres};
 ghost use Rattle.instants.specs.Written.{Writable, writtenFrom};
 ghost use Rattle.box_previews.specs.Standing.{answersAt, Stands, OfEach};
-use box_fillings::Findings;
-use box_fillings::NEVER_AT;
-use box_fillings::WRONG_AT;
 use instants::Standing;
 use layout::SecondParts;
 use limits::SIGNAL_BYTES;
@@ -19,6 +16,16 @@ use notes::Notes;
 use program::Start;
 use reaction::Completion;
 use reaction::Reaction;
+use spec_bay::Findings;
+
+// Where the fields of a preview begin (02, item 11), its length, and the most inputs that may be unknown.
+pub const NEVER_AT: usize = SIGNAL_BYTES;
+
+pub const WRONG_AT: usize = NEVER_AT + SIGNAL_BYTES;
+
+pub const PREVIEW_LENGTH: usize = WRONG_AT + 2;
+
+pub const MAX_UNKNOWN: u8 = 6;
 
 // The code of fillings that do not share one.
 const OPEN: u8 = 254;
@@ -153,7 +160,7 @@ fn show(
     ensures { λ r. ⌜ OfEach (now (second .entry)) (now (sequence .entry))
         (λ p. previewed r (now (buffer .exit)) ≡ shownBy (answersAt origin p «read_back») input unknown (now (buffer .entry))) ⌝ }
 {
-    if box_fillings::MAX_UNKNOWN < signals::size(unknown) {
+    if MAX_UNKNOWN < signals::size(unknown) {
         return 17;
     }
     write(
@@ -175,7 +182,7 @@ pub fn preview(
     ensures { λ r. ⌜ previewed r (now (buffer .exit))
         ≡ previewOf (now (sequence .entry)) (now (state .entry)) input unknown «read_back» (now (buffer .entry)) ⌝ }
 {
-    if buffer.len() != box_fillings::PREVIEW_LENGTH {
+    if buffer.len() != PREVIEW_LENGTH {
         return 1;
     }
     let mut second: SecondParts = [0; limits::MAX_BYTES];

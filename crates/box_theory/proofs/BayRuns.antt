@@ -36,14 +36,14 @@ use Rattle.theory_tick.proofs.Agreement.{all-ticks, all-deliveries}
 use Rattle.theory_tick.proofs.Demand2.{passed-check, state-sized, answer-sized}
 use Rattle.theory_tick.proofs.Demand1.{demand-1}
 use Rattle.theory_tick.proofs.Calls.{demand-2-call}
-use Rattle.box_stretches.specs.Called.{Called, called, number, memoryAfter, lentAfter, first}
-use Rattle.box_stretches.specs.Stretch.{positionsAt, stretchLength, isEmpty, stateIn, Terms}
-use Rattle.box_stretches.specs.BayCalls.{delivering, bayTickOf, bayAdmitOf}
+use Rattle.spec_bay.specs.Called.{Called, called, number, memoryAfter, lentAfter, first}
+use Rattle.spec_bay.specs.Stretch.{positionsAt, stretchLength, isEmpty, stateIn, Terms}
+use Rattle.spec_bay.specs.BayCalls.{delivering, bayTickOf, bayAdmitOf}
 use Rattle.box_calls.specs.Box.{bayCount, boxLength, stretchOf, present, Call, admit, release, tick, save, restore, forget, service, panel, preview, ledger, newYear, onTick, callOf}
 use Rattle.box_calls.specs.Lists.{Request, afterCall, boxAfter, overBay}
 use Rattle.box_calls.specs.Shares.{Sendable}
 use Rattle.box_calls.specs.BayRuns.{paperBuffer, ticksTo, outcomeOf, tickOutcomes, tickLitres, instantsIn, inputsIn, Onward, Onwards, done, more, RunOf, RewritesAs, Rewrites}
-use Rattle.box_fields.proofs.Fields.{Holds}
+use Rattle.theory_bay.proofs.Fields.{Holds}
 use Rattle.box_theory.proofs.Ticks.{tick-number, tick-answer}
 use Rattle.box_theory.proofs.Readers.{service-reads, panel-reads, ledger-reads}
 use Rattle.box_theory.proofs.Previews.{preview-stays}

@@ -15,11 +15,11 @@ use Rattle.spec_sequence.specs.Ceilings.{ceilingOf}
 use Rattle.spec_sequence.specs.Rows.{row-2}
 use Rattle.theory_sequence.proofs.Rows.{Decides, decided, row-range}
 use Rattle.theory_tick.proofs.Sequence.{Accepted, accepted}
-use Rattle.box_stretches.specs.Called.{Called, called, number, memoryAfter}
-use Rattle.box_stretches.specs.Stretch.{stretchLength, Terms, filled}
-use Rattle.box_stretches.specs.BayCalls.{sharedCeiling, bayReleaseOf, bayAdmitOf}
+use Rattle.spec_bay.specs.Called.{Called, called, number, memoryAfter}
+use Rattle.spec_bay.specs.Stretch.{stretchLength, Terms, filled}
+use Rattle.spec_bay.specs.BayCalls.{sharedCeiling, bayReleaseOf, bayAdmitOf}
 use Rattle.box_calls.specs.Box.{Call, admit, release, tick, save, restore, forget, service, panel, preview, ledger, newYear, buffers, bayCall, isFor}
-use Rattle.box_fields.proofs.Fields.{length-vacated, length-filled}
+use Rattle.theory_bay.proofs.Fields.{length-vacated, length-filled}
 use Rattle.box_theory.proofs.Ticks.{tick-refused, tick-keeps-length}
 use Rattle.box_theory.proofs.Readers.{service-reads, panel-reads, ledger-reads}
 use Rattle.box_theory.proofs.Previews.{preview-stays, preview-refused}

@@ -14,17 +14,17 @@ use Rattle.spec_tick.specs.Tick.{Outcome, tickOf}
 use Rattle.spec_tick.specs.Demands as demands
 use Rattle.spec_tick.specs.Demands.{answerAfterwards}
 use Rattle.theory_tick.proofs.Demand2 as demand
-use Rattle.box_fillings.specs.Preview as fillings
-use Rattle.box_fillings.specs.Preview.{filled, Previewed, previewOf}
-use Rattle.box_fillings.specs.Claims.{PreviewIs, StaysShown, knowing}
-use Rattle.box_fillings.proofs.Codes as codes
-use Rattle.box_fillings.proofs.Theorems as previews
-use Rattle.box_stretches.specs.Called.{Called, called, number, memoryAfter, lentAfter, first}
-use Rattle.box_stretches.specs.Stretch.{stretchLength, isEmpty, sequenceIn, readBackIn, stateIn}
-use Rattle.box_stretches.specs.BayCalls.{stretchKept, bayPreviewOf}
+use Rattle.spec_bay.specs.Preview as fillings
+use Rattle.spec_bay.specs.Preview.{filled, Previewed, previewOf}
+use Rattle.spec_bay.specs.PreviewClaims.{PreviewIs, StaysShown, knowing}
+use Rattle.theory_bay.proofs.Codes as codes
+use Rattle.theory_bay.proofs.Theorems as previews
+use Rattle.spec_bay.specs.Called.{Called, called, number, memoryAfter, lentAfter, first}
+use Rattle.spec_bay.specs.Stretch.{stretchLength, isEmpty, sequenceIn, readBackIn, stateIn}
+use Rattle.spec_bay.specs.BayCalls.{stretchKept, bayPreviewOf}
 use Rattle.box_calls.specs.Box.{bayCount, boxLength, stretchOf, tick, preview, inBox, callOf}
 use Rattle.box_calls.specs.Previews.{MachineStays, TenBytes, StatusOutweighed, LearningStays, Foreseen, PreviewForesees, PreviewsTicks, PreviewedTicks, NeverOpen, PreviewDemands}
-use Rattle.box_fields.proofs.Fields.{state-sized}
+use Rattle.theory_bay.proofs.Fields.{state-sized}
 use Rattle.box_theory.proofs.Ticks.{tick-number, like-buffer}
 use Rattle.box_theory.proofs.Previews.{preview-number}
 use Rattle.box_theory.proofs.Stretches.{refused-leaves, answered-inside, stretch-sized, number-there}

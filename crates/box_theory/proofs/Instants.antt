@@ -23,26 +23,26 @@ use Rattle.records.proofs.Theorems.{following-is, panel-alike}
 use Rattle.spec_base.specs.Parts.{slot, put}
 use Rattle.numbers.proofs.Putting.{put-slot, slot-put, put-before, put-behind}
 use Rattle.numbers.proofs.Zeros.{zeros-number}
-use Rattle.box_ledgers.specs.Ledgers.{ledgerLength, passes, added}
+use Rattle.spec_bay.specs.Ledgers.{ledgerLength, passes, added}
 use Rattle.spec_tick.specs.Tick.{Outcome, outcome, tickOf}
 use Rattle.spec_tick.specs.Demands as demands
 use Rattle.spec_tick.specs.Demands.{stateAfterwards}
 use Rattle.theory_tick.proofs.Sequence.{Accepted, accepted}
-use Rattle.box_stretches.specs.Called.{Called, called, number, memoryAfter, lentAfter, first}
-use Rattle.box_stretches.specs.Stretch.{sequenceAt, stateAt, countAt, positionsAt, bayLength, stretchLength, lengthIn, isEmpty, sequenceIn, readBackIn, serviceOnlyIn, stateIn, lastNumberIn, ledgerIn, Terms, terms}
-use Rattle.box_stretches.specs.BayCalls.{delivering, bayTickOf, bayAdmitOf, bayRestoreOf}
+use Rattle.spec_bay.specs.Called.{Called, called, number, memoryAfter, lentAfter, first}
+use Rattle.spec_bay.specs.Stretch.{sequenceAt, stateAt, countAt, positionsAt, bayLength, stretchLength, lengthIn, isEmpty, sequenceIn, readBackIn, serviceOnlyIn, stateIn, lastNumberIn, ledgerIn, Terms, terms}
+use Rattle.spec_bay.specs.BayCalls.{delivering, bayTickOf, bayAdmitOf, bayRestoreOf}
 use Rattle.box_calls.specs.BayRuns.{inputsIn, Stays, NotTakenOut, Onward, Onwards, termsIn}
 use Rattle.box_calls.specs.BayRuns as Runs
 use Rattle.box_calls.specs.Box.{bayCount, boxLength, stretchOf, present, Call, admit, release, tick, save, restore, forget, service, panel, preview, ledger, newYear, bayCall, callOf}
 use Rattle.box_calls.specs.Lists.{Request, afterCall, boxAfter, overBay}
 use Rattle.box_calls.specs.Instants.{second, recordsIn, RecordIs, ServiceShows, PanelShows, PanelsAlike, ReaderNumbers, RecordLength}
 use Rattle.box_calls.specs.Shares.{Sendable}
-use Rattle.box_fields.proofs.Fields.{Holds, behind-holds, moved-holds, filled-zeros}
+use Rattle.theory_bay.proofs.Fields.{Holds, behind-holds, moved-holds, filled-zeros}
 use Rattle.box_theory.proofs.Moves as moves
 use Rattle.box_theory.proofs.Moves.{Moved, save-moved, forget-moved, year-moved, further}
 use Rattle.box_theory.proofs.Ticks.{entered, written, new-sized, length-entered, before-ledger, like-buffer, unlike-tick, Ticked, down, full, instant, ticked}
 use Rattle.box_theory.proofs.Readers.{service-reads, panel-reads, ledger-reads, service-lengths, panel-lengths}
-use Rattle.box_fillings.specs.Preview.{bufferAfter}
+use Rattle.spec_bay.specs.Preview.{bufferAfter}
 use Rattle.box_calls.specs.Previews.{previewIn, PreviewShows, PreviewNumbers}
 use Rattle.box_theory.proofs.Previews.{preview-stays, preview-number, preview-shown}
 use Rattle.box_theory.proofs.Bays as Bays

@@ -20,13 +20,13 @@ use Rattle.numbers.proofs.Zeros.{length-zeros}
 use Rattle.spec_tick.specs.Tick.{Outcome, outcome, Reply, refused, reacts, replyOf, replied, tickBy, tickOf}
 use Rattle.spec_tick.specs.Demands as demands
 use Rattle.spec_tick.specs.Demands.{stateAfterwards}
-use Rattle.box_fillings.specs.Preview as fillings
-use Rattle.box_fillings.specs.Preview.{Previewed, previewed, byReply, answersOf, maxUnknown, previewLength, previewBytes, findings, previewOf}
-use Rattle.box_fillings.proofs.Numbers as numbers
-use Rattle.box_ledgers.specs.Ledgers.{readingLength, passes, added, readingOf}
-use Rattle.box_stretches.specs.Called.{Called, called, number, memoryAfter, lentAfter}
-use Rattle.box_stretches.specs.Stretch.{stateAt, sequenceIn, readBackIn, serviceOnlyIn, stateIn, ledgerIn, withLedger}
-use Rattle.box_stretches.specs.BayCalls.{stateKept, delivering, charged, recorded, bayStepOf, bayChargedOf, bayTickOf, bayServiceOf, bayPanelOf, stretchKept, bayPreviewOf, bayLedgerOf}
+use Rattle.spec_bay.specs.Preview as fillings
+use Rattle.spec_bay.specs.Preview.{Previewed, previewed, byReply, answersOf, maxUnknown, previewLength, previewBytes, findings, previewOf}
+use Rattle.theory_bay.proofs.Numbers as numbers
+use Rattle.spec_bay.specs.Ledgers.{readingLength, passes, added, readingOf}
+use Rattle.spec_bay.specs.Called.{Called, called, number, memoryAfter, lentAfter}
+use Rattle.spec_bay.specs.Stretch.{stateAt, sequenceIn, readBackIn, serviceOnlyIn, stateIn, ledgerIn, withLedger}
+use Rattle.spec_bay.specs.BayCalls.{stateKept, delivering, charged, recorded, bayStepOf, bayChargedOf, bayTickOf, bayServiceOf, bayPanelOf, stretchKept, bayPreviewOf, bayLedgerOf}
 use Rattle.box_calls.specs.Box.{bayCount, boxLength, stretchOf, present, Call, admit, release, tick, save, restore, forget, service, panel, preview, ledger, newYear, isFor, callOf}
 use Rattle.box_calls.specs.Lists.{Request, afterCall, boxAfter, overBay, blanked, Asked, admission, other, askedBy, asked, Answer, answered, answerOf, answers}
 use Rattle.box_calls.specs.Claims.{SumAlike}

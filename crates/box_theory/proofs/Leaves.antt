@@ -8,14 +8,14 @@ use Rattle.spec_base.specs.Limits.{numberBytes}
 use Rattle.spec_base.specs.Bytes.{leNumber}
 use Rattle.theory_tick.proofs.Sequence.{accepted}
 use Rattle.numbers.proofs.Zeros.{zeros-number}
-use Rattle.box_stretches.specs.Called.{Called, number, memoryAfter}
-use Rattle.box_stretches.specs.Stretch.{countAt, bayLength, stretchLength, sequenceIn, readBackIn, ceilingIn, serviceOnlyIn, stateIn, lastNumberIn, positionsIn, ledgerIn, filled}
-use Rattle.box_positions.specs.Table.{lookup}
-use Rattle.box_ledgers.specs.Ledgers.{ledgerLength}
-use Rattle.box_stretches.specs.BayCalls.{bayReleaseOf, bayAdmitOf}
+use Rattle.spec_bay.specs.Called.{Called, number, memoryAfter}
+use Rattle.spec_bay.specs.Stretch.{countAt, bayLength, stretchLength, sequenceIn, readBackIn, ceilingIn, serviceOnlyIn, stateIn, lastNumberIn, positionsIn, ledgerIn, filled}
+use Rattle.spec_bay.specs.Table.{lookup}
+use Rattle.spec_bay.specs.Ledgers.{ledgerLength}
+use Rattle.spec_bay.specs.BayCalls.{bayReleaseOf, bayAdmitOf}
 use Rattle.box_calls.specs.Box.{bayCount, stretchOf, present, admit, release, callOf}
 use Rattle.box_calls.specs.Leaves.{FreshlyFilled, AdmissionLeaves, TakenOut, ReleaseLeaves}
-use Rattle.box_fields.proofs.Fields.{vacated-empty, slot-vacated, vacated-behind, filled-zeros, filled-behind}
+use Rattle.theory_bay.proofs.Fields.{vacated-empty, slot-vacated, vacated-behind, filled-zeros, filled-behind}
 use Rattle.box_theory.proofs.Bays.{ceilingFor, bounds, Admission, turned-down, admits, admission}
 use Rattle.box_theory.proofs.Standing.{fresh-state, filled-stands, sequence-held}
 use Rattle.box_theory.proofs.Stretches.{answered-inside, stretch-sized}

@@ -13,14 +13,14 @@ use Rattle.spec_tick.specs.StateRecord.{stateLength, stateRecord, phaseIn, labe
 use Rattle.records.proofs.StateLaws.{state-sized}
 use Rattle.spec_base.specs.Parts.{put}
 use Rattle.numbers.proofs.Putting.{put-slot, length-put}
-use Rattle.box_positions.specs.Table.{tableLength, lookup, Kept, kept, numberKept, tableKept, saveOf, forgetOf}
+use Rattle.spec_bay.specs.Table.{tableLength, lookup, Kept, kept, numberKept, tableKept, saveOf, forgetOf}
 use Rattle.box_positions.proofs.Theorems.{save-number, forget-number, save-refused, forget-refused}
 use Rattle.box_positions.proofs.TableLaws.{save-sized, forget-sized}
-use Rattle.box_ledgers.specs.Ledgers.{ledgerLength, cleared}
+use Rattle.spec_bay.specs.Ledgers.{ledgerLength, cleared}
 use Rattle.box_ledgers.proofs.Theorems.{cleared-sized}
-use Rattle.box_stretches.specs.Called.{Called, called, number, memoryAfter}
-use Rattle.box_stretches.specs.Stretch.{stateAt, positionsAt, bayLength, stretchLength, stateIn, positionsIn}
-use Rattle.box_stretches.specs.BayCalls.{positionsKept, restored, baySaveOf, bayForgetOf, bayRestoreOf, bayNewYearOf}
+use Rattle.spec_bay.specs.Called.{Called, called, number, memoryAfter}
+use Rattle.spec_bay.specs.Stretch.{stateAt, positionsAt, bayLength, stretchLength, stateIn, positionsIn}
+use Rattle.spec_bay.specs.BayCalls.{positionsKept, restored, baySaveOf, bayForgetOf, bayRestoreOf, bayNewYearOf}
 
 pub data Moved (from : ℕ) (s : List ℕ) (o : Called) : Type 0 where
   refused : (n : ℕ) → 15 ≤ n → o ≡ called n s [] → Moved from s o

@@ -15,12 +15,12 @@ use Rattle.spec_language.specs.Machines.{State}
 use Rattle.spec_sequence.specs.Rows.{Spells}
 use Rattle.spec_tick.specs.StateRecord.{stateLength, phaseIn, labelsIn, encodeState}
 use Rattle.spec_base.specs.Parts.{put, zeros}
-use Rattle.box_positions.specs.Names.{Position}
-use Rattle.box_positions.specs.Table.{tableLength, lookup, numberKept, saveOf, forgetOf, SixteenKnown, Agrees}
+use Rattle.spec_bay.specs.Names.{Position}
+use Rattle.spec_bay.specs.Table.{tableLength, lookup, numberKept, saveOf, forgetOf, SixteenKnown, Agrees}
 use Rattle.box_positions.proofs.Theorems as table
 use Rattle.box_positions.proofs.Theorems.{cleared-agrees, save-agrees, forget-agrees, lookup-zeros}
-use Rattle.box_stretches.specs.Called.{called, number, memoryAfter}
-use Rattle.box_stretches.specs.Stretch.{stateAt, lengthIn, isEmpty, sequenceIn, stateIn, positionsIn, Terms}
+use Rattle.spec_bay.specs.Called.{called, number, memoryAfter}
+use Rattle.spec_bay.specs.Stretch.{stateAt, lengthIn, isEmpty, sequenceIn, stateIn, positionsIn, Terms}
 use Rattle.box_calls.specs.Box.{bayCount, boxLength, emptyBox, stretchOf, present, Call, admit, release, tick, save, restore, forget, service, panel, preview, ledger, newYear, buffers, bayCall, isFor, callOf}
 use Rattle.box_calls.specs.Lists.{Request, afterCall, boxAfter}
 use Rattle.box_calls.specs.Shares.{Sendable, AllSendable, none, each}

@@ -12,9 +12,9 @@ use borrow.Author.Tests.{eq-eqb, ne-eqb, eqb-true, eqb-false, not-false, le-leb,
 use Rattle.spec_sequence.specs.Check.{Checked, sound, bad, checked, numberOf, checkOf}
 use Rattle.theory_sequence.proofs.Rows.{check-by-rows, row-rank}
 use Rattle.theory_tick.proofs.Sequence.{accepted}
-use Rattle.box_stretches.specs.Called.{called, number}
-use Rattle.box_stretches.specs.Stretch.{stretchLength, lengthIn, isEmpty, sequenceIn, readBackIn, stateIn, Terms, filled}
-use Rattle.box_stretches.specs.BayCalls.{sharedCeiling, byCheck, bayReleaseOf, bayAdmitOf}
+use Rattle.spec_bay.specs.Called.{called, number}
+use Rattle.spec_bay.specs.Stretch.{stretchLength, lengthIn, isEmpty, sequenceIn, readBackIn, stateIn, Terms, filled}
+use Rattle.spec_bay.specs.BayCalls.{sharedCeiling, byCheck, bayReleaseOf, bayAdmitOf}
 use Rattle.box_calls.specs.Box.{bayCount, boxLength, stretchOf, present, Call, admit, release, tick, save, restore, forget, service, panel, preview, ledger, newYear, buffers, bayCall, isFor, callOf}
 use Rattle.box_calls.specs.BayRuns.{paperBuffer}
 use Rattle.box_calls.specs.Claims.{NotThere, Thirteen, NoBox}

@@ -24,17 +24,17 @@ use Rattle.spec_sequence.specs.Amounts.{amountSize, amountBytes}
 use Rattle.theory_tick.proofs.Sequence.{Accepted, accepted}
 use Rattle.numbers.proofs.Putting.{length-put, put-before}
 use Rattle.numbers.proofs.Zeros.{zeros-number}
-use Rattle.box_positions.specs.Table.{tableLength, Agrees}
+use Rattle.spec_bay.specs.Table.{tableLength, Agrees}
 use Rattle.box_positions.proofs.Theorems.{cleared-agrees}
-use Rattle.box_ledgers.specs.Ledgers as Ledgers
-use Rattle.box_ledgers.specs.Ledgers.{farmCount, ledgerLength, readingLength, totalIn, totalsBytes, readingFor, readingOf}
+use Rattle.spec_bay.specs.Ledgers as Ledgers
+use Rattle.spec_bay.specs.Ledgers.{farmCount, ledgerLength, readingLength, totalIn, totalsBytes, readingFor, readingOf}
 use Rattle.box_ledgers.proofs.Theorems.{cleared-sized}
-use Rattle.box_stretches.specs.Called.{Called, called, number, memoryAfter}
-use Rattle.box_stretches.specs.Stretch.{lengthBytes, countAt, positionsAt, bayLength, stretchLength, lengthIn, ledgerIn, Terms, filled}
-use Rattle.box_stretches.specs.BayCalls.{sharedCeiling, bayAdmitOf, bayLedgerOf, bayNewYearOf}
+use Rattle.spec_bay.specs.Called.{Called, called, number, memoryAfter}
+use Rattle.spec_bay.specs.Stretch.{lengthBytes, countAt, positionsAt, bayLength, stretchLength, lengthIn, ledgerIn, Terms, filled}
+use Rattle.spec_bay.specs.BayCalls.{sharedCeiling, bayAdmitOf, bayLedgerOf, bayNewYearOf}
 use Rattle.box_calls.specs.Box.{admit, ledger, newYear}
 use Rattle.box_calls.specs.Shares.{Sendable}
-use Rattle.box_fields.proofs.Fields.{filled-zeros}
+use Rattle.theory_bay.proofs.Fields.{filled-zeros}
 use Rattle.box_theory.proofs.Bays.{ceilingFor, bounds, passed, admit-by-sum}
 use Rattle.box_theory.proofs.Standing.{cleared-fresh, fresh-state, filled-stands}
 use Rattle.box_theory.proofs.Positions.{Positioned, positioned-zeros}

@@ -13,15 +13,15 @@ use Rattle.spec_language.specs.Machines.{State}
 use Rattle.spec_sequence.specs.Program.{program}
 use Rattle.spec_tick.specs.StateRecord.{encodeState, Recorded}
 use Rattle.theory_tick.proofs.Sequence.{Accepted}
-use Rattle.box_positions.specs.Names.{Position}
-use Rattle.box_positions.specs.Table.{Agrees}
-use Rattle.box_ledgers.specs.Ledgers.{farmCount, totalIn}
-use Rattle.box_stretches.specs.Called.{Called, called, number, memoryAfter, first}
-use Rattle.box_stretches.specs.Stretch.{stretchLength, lengthIn, stateIn, lastNumberIn, positionsIn, ledgerIn, Terms}
+use Rattle.spec_bay.specs.Names.{Position}
+use Rattle.spec_bay.specs.Table.{Agrees}
+use Rattle.spec_bay.specs.Ledgers.{farmCount, totalIn}
+use Rattle.spec_bay.specs.Called.{Called, called, number, memoryAfter, first}
+use Rattle.spec_bay.specs.Stretch.{stretchLength, lengthIn, stateIn, lastNumberIn, positionsIn, ledgerIn, Terms}
 use Rattle.box_calls.specs.Box.{Call, bayCall}
 use Rattle.box_calls.specs.Instants.{second}
 use Rattle.box_calls.specs.Years.{deliveredAfter}
-use Rattle.box_fields.proofs.Fields.{Holds}
+use Rattle.theory_bay.proofs.Fields.{Holds}
 use Rattle.box_theory.proofs.Bays.{ceilingFor}
 use Rattle.box_theory.proofs.Standing.{Standing}
 use Rattle.box_theory.proofs.Positions.{Positioned}

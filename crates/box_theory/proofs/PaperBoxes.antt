@@ -20,10 +20,10 @@ use Rattle.spec_sequence.specs.Ceilings.{ceilingOf}
 use Rattle.spec_base.specs.Bytes.{leNumber}
 use Rattle.spec_base.specs.Parts.{zeros}
 use Rattle.numbers.proofs.Zeros.{length-zeros, slot-zeros, zeros-number}
-use Rattle.box_ledgers.specs.Ledgers.{farmCount, totalIn}
+use Rattle.spec_bay.specs.Ledgers.{farmCount, totalIn}
 use Rattle.box_ledgers.proofs.Theorems.{cleared-total}
-use Rattle.box_stretches.specs.Called.{Called, memoryAfter}
-use Rattle.box_stretches.specs.Stretch.{stretchLength, lengthIn, isEmpty, sequenceIn, readBackIn, serviceOnlyIn, stateIn, ledgerIn, partOf, Terms}
+use Rattle.spec_bay.specs.Called.{Called, memoryAfter}
+use Rattle.spec_bay.specs.Stretch.{stretchLength, lengthIn, isEmpty, sequenceIn, readBackIn, serviceOnlyIn, stateIn, ledgerIn, partOf, Terms}
 use Rattle.box_calls.specs.Box.{bayCount, boxLength, emptyBox, stretchOf, present, Call, admit, release, tick, save, restore, forget, service, panel, preview, ledger, newYear, buffers, isFor, callOf}
 use Rattle.box_calls.specs.Lists.{Request, afterCall, boxAfter}
 use Rattle.box_calls.specs.Shares.{Sendable, AllSendable, none, each}
@@ -35,7 +35,7 @@ use Rattle.box_theory.proofs.Stretches.{result, no-bay, own, own-stretc
 use Rattle.box_paper.specs.PaperBox.{PaperBay, PaperPlace, PaperBox, emptyPaper, Reported, replies, PaperReply, down, partOn, presentOn, placeCall, withPlace, paperCall, byTerms, byLabelSets}
 use Rattle.box_paper.specs.Reports.{reported, reports, paperReports, paperAfter, Admitting, OnPaper, ByLabelSets, HeldIf, HeldOnPaper}
 use Rattle.box_theory.proofs.PaperMachines.{Follows, terms-follow, labels-follow}
-use Rattle.box_positions.specs.Names.{find}
+use Rattle.spec_bay.specs.Names.{find}
 use Rattle.box_theory.proofs.PaperNames.{keptIf, find-kept}
 use Rattle.box_theory.proofs.PaperAlike as alike
 use Rattle.box_theory.proofs.PaperAlike.{Present, standing, bayOf, SameTotals, Alike, Same, refusal-reported, same-down}

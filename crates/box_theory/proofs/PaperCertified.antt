@@ -13,11 +13,11 @@ use Rattle.spec_base.specs.Limits.{litresLimit}
 use Rattle.spec_base.specs.WholeLitres.{IsNumber, Near}
 use Rattle.litres.proofs.Sums.{is-number, value-of}
 use Rattle.spec_sequence.specs.Amounts.{amountSize}
-use Rattle.box_ledgers.specs.Ledgers.{farmCount, fieldIn, totalIn, exactTotal, shownTotal, readingOf, totalRead}
+use Rattle.spec_bay.specs.Ledgers.{farmCount, fieldIn, totalIn, exactTotal, shownTotal, readingOf, totalRead}
 use Rattle.box_ledgers.proofs.Totals.{holds}
 use Rattle.box_ledgers.proofs.Theorems.{written, total-most, reading-within}
-use Rattle.box_stretches.specs.Called.{Called, number, lentAfter, first}
-use Rattle.box_stretches.specs.Stretch.{ledgerIn}
+use Rattle.spec_bay.specs.Called.{Called, number, lentAfter, first}
+use Rattle.spec_bay.specs.Stretch.{ledgerIn}
 use Rattle.box_calls.specs.Box.{bayCount, emptyBox, stretchOf, ledger, callOf}
 use Rattle.box_calls.specs.Lists.{Request, boxAfter}
 use Rattle.box_calls.specs.Years.{sumOf}

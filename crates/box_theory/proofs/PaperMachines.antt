@@ -36,7 +36,7 @@ use Rattle.records.proofs.Records.{answer-field, state-field, number-field, inp
 use Rattle.theory_tick.proofs.Bounds.{emitted-below}
 use Rattle.theory_tick.proofs.ErrorPlaces.{place-fits}
 use Rattle.theory_tick.proofs.Sequence.{Accepted, tick-at, term-source, term-distinct, recorded-fresh, recorded-resumed, bounded-fresh, bounded-resumed, places-fresh, places-resumed, counted-fresh, counted-resumed}
-use Rattle.box_fillings.specs.Preview.{answerIn}
+use Rattle.spec_bay.specs.Preview.{answerIn}
 use Rattle.spec_base.specs.Bytes.{leBytes}
 use Rattle.numbers.proofs.Bytes.{le-low}
 use Rattle.box_paper.specs.PaperBox.{BayMachine, answerSeen, InstantTold, told, byTerms, byLabelSets}

@@ -18,17 +18,17 @@ use Rattle.spec_tick.specs.StateRecord.{stateLength, phaseIn, labelsIn, encodeS
 use Rattle.records.proofs.StateLaws.{length-state}
 use Rattle.spec_base.specs.Parts.{put}
 use Rattle.numbers.proofs.Putting.{put-before, put-behind}
-use Rattle.box_positions.specs.Names.{Position, position, find, without, isKnown, Answered, answered, saveNamed, forgetNamed, numberAnswered, positionsAfter}
-use Rattle.box_positions.specs.Table.{lookup, kept, numberKept, tableKept, saveOf, forgetOf, Agrees}
+use Rattle.spec_bay.specs.Names.{Position, position, find, without, isKnown, Answered, answered, saveNamed, forgetNamed, numberAnswered, positionsAfter}
+use Rattle.spec_bay.specs.Table.{lookup, kept, numberKept, tableKept, saveOf, forgetOf, Agrees}
 use Rattle.box_positions.proofs.Theorems.{save-agrees, forget-agrees}
-use Rattle.box_ledgers.specs.Ledgers.{totalIn}
+use Rattle.spec_bay.specs.Ledgers.{totalIn}
 use Rattle.spec_tick.specs.Record.{recordLength, panelLength, panelOf}
-use Rattle.box_stretches.specs.Called.{Called, called, number, memoryAfter, lentAfter}
-use Rattle.box_stretches.specs.Stretch.{stateAt, countAt, positionsAt, stretchLength, stateIn, lastNumberIn, positionsIn, ledgerIn}
-use Rattle.box_stretches.specs.BayCalls.{bayReleaseOf, baySaveOf, bayForgetOf, bayRestoreOf, bayServiceOf, bayPanelOf, bayNewYearOf}
+use Rattle.spec_bay.specs.Called.{Called, called, number, memoryAfter, lentAfter}
+use Rattle.spec_bay.specs.Stretch.{stateAt, countAt, positionsAt, stretchLength, stateIn, lastNumberIn, positionsIn, ledgerIn}
+use Rattle.spec_bay.specs.BayCalls.{bayReleaseOf, baySaveOf, bayForgetOf, bayRestoreOf, bayServiceOf, bayPanelOf, bayNewYearOf}
 use Rattle.box_calls.specs.Box.{Call, release, save, restore, forget, service, panel, newYear, bayCall}
 use Rattle.box_calls.specs.Shares.{Sendable}
-use Rattle.box_fields.proofs.Fields.{length-vacated, vacated-empty, moved-holds, moved-state}
+use Rattle.theory_bay.proofs.Fields.{length-vacated, vacated-empty, moved-holds, moved-state}
 use Rattle.box_theory.proofs.Moves.{Moved, refused, stored, moved-refused, save-moved, forget-moved, year-moved, further}
 use Rattle.box_theory.proofs.Bays.{ceilingFor, bounds}
 use Rattle.box_theory.proofs.Standing.{behind-stands}

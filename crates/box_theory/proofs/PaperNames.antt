@@ -7,7 +7,7 @@ use mathlib.Core.List.{List, [], _∷_}
 use lib.ListN.{length}
 use lib.Dec.{eqb, ltb}
 use Rattle.spec_base.specs.Limits.{maxPositions}
-use Rattle.box_positions.specs.Names.{Position, position, find, without, isKnown, Answered, answered, saveNamed, forgetNamed}
+use Rattle.spec_bay.specs.Names.{Position, position, find, without, isKnown, Answered, answered, saveNamed, forgetNamed}
 
 module _ {T : Type 0} (g : ℕ → T) where
   unfoldable pub mapped : List (Position ℕ) → List (Position T)

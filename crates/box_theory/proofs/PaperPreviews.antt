@@ -20,11 +20,11 @@ use Rattle.spec_sequence.specs.Check.{Checked}
 use Rattle.spec_tick.specs.StateRecord.{Decoded, holds, encodeState}
 use Rattle.records.proofs.StateLaws.{decode-encode}
 use Rattle.spec_tick.specs.Tick.{Reply, reacts, byState, byCheck, replyOf}
-use Rattle.box_fillings.specs.Preview.{Previewed, previewed, previewOf, shownBy, previewLength, answerIn, answersOf}
-use Rattle.box_fillings.proofs.Numbers.{other-buffer, refused-preview, shown-preview}
-use Rattle.box_stretches.specs.Called.{Called}
-use Rattle.box_stretches.specs.Stretch.{stateIn}
-use Rattle.box_stretches.specs.BayCalls.{stretchKept, bayPreviewOf}
+use Rattle.spec_bay.specs.Preview.{Previewed, previewed, previewOf, shownBy, previewLength, answerIn, answersOf}
+use Rattle.theory_bay.proofs.Numbers.{other-buffer, refused-preview, shown-preview}
+use Rattle.spec_bay.specs.Called.{Called}
+use Rattle.spec_bay.specs.Stretch.{stateIn}
+use Rattle.spec_bay.specs.BayCalls.{stretchKept, bayPreviewOf}
 use Rattle.box_calls.specs.Box.{preview}
 use Rattle.box_theory.proofs.Standing.{sequence-held}
 use Rattle.box_paper.specs.PaperBox.{answerSeen, PaperBay, PaperPlace, previewedOn, previewOn, sized}

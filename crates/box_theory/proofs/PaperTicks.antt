@@ -23,16 +23,16 @@ use Rattle.spec_tick.specs.Record.{recordLength, recordOf}
 use Rattle.spec_tick.specs.Recording.{following}
 use Rattle.records.proofs.Theorems.{following-is}
 use Rattle.numbers.proofs.Putting.{slot-put}
-use Rattle.box_positions.specs.Table.{Agrees}
-use Rattle.box_ledgers.specs.Ledgers.{farmCount, wouldPass, passes}
+use Rattle.spec_bay.specs.Table.{Agrees}
+use Rattle.spec_bay.specs.Ledgers.{farmCount, wouldPass, passes}
 use Rattle.spec_tick.specs.Tick.{Outcome, outcome, tickOf}
 use Rattle.spec_tick.specs.Demands as demands
 use Rattle.spec_tick.specs.Demands.{stateAfterwards, answerAfterwards}
 use Rattle.spec_tick.specs.Deliveries.{deliveries}
 use Rattle.theory_tick.proofs.Sequence.{tick-short}
-use Rattle.box_stretches.specs.Called.{Called, called, number, memoryAfter, lentAfter}
-use Rattle.box_stretches.specs.Stretch.{countAt, stretchLength, lastNumberIn, stateIn, ledgerIn}
-use Rattle.box_stretches.specs.BayCalls.{delivering, bayTickOf}
+use Rattle.spec_bay.specs.Called.{Called, called, number, memoryAfter, lentAfter}
+use Rattle.spec_bay.specs.Stretch.{countAt, stretchLength, lastNumberIn, stateIn, ledgerIn}
+use Rattle.spec_bay.specs.BayCalls.{delivering, bayTickOf}
 use Rattle.box_calls.specs.Box.{Call, tick}
 use Rattle.box_calls.specs.BayRuns.{paperBuffer}
 use Rattle.box_theory.proofs.Ticks as ticks

@@ -21,19 +21,19 @@ use Rattle.spec_tick.specs.StateRecord.{stateLength, stateRecord, phaseIn, labe
 use Rattle.records.proofs.StateLaws.{state-sized}
 use Rattle.spec_base.specs.Parts.{put, zeros}
 use Rattle.numbers.proofs.Putting.{slot-put, put-before, put-behind}
-use Rattle.box_ledgers.specs.Ledgers as Ledgers
-use Rattle.box_ledgers.specs.Ledgers.{ledgerLength}
+use Rattle.spec_bay.specs.Ledgers as Ledgers
+use Rattle.spec_bay.specs.Ledgers.{ledgerLength}
 use Rattle.box_ledgers.proofs.Theorems.{cleared-sized}
-use Rattle.box_positions.specs.Table.{tableLength, lookup, Kept, kept, numberKept, tableKept, saveOf, forgetOf, Formed}
+use Rattle.spec_bay.specs.Table.{tableLength, lookup, Kept, kept, numberKept, tableKept, saveOf, forgetOf, Formed}
 use Rattle.box_positions.proofs.Theorems.{lookup-saved, lookup-others-saved, lookup-forgotten, lookup-others-forgotten, lookup-zeros, formed-zeros, formed-saved, formed-forgotten, save-refused}
 use Rattle.box_positions.proofs.TableLaws.{save-sized, forget-sized}
 use Rattle.theory_tick.proofs.Sequence.{accepted, same-statement}
-use Rattle.box_stretches.specs.Called.{Called, called, number, memoryAfter}
-use Rattle.box_stretches.specs.Stretch.{stateAt, countAt, positionsAt, bayLength, stretchLength, stateIn, positionsIn, Terms}
-use Rattle.box_stretches.specs.BayCalls.{positionsKept, restored, bayTickOf, bayReleaseOf, bayAdmitOf, baySaveOf, bayForgetOf, bayRestoreOf, bayNewYearOf}
+use Rattle.spec_bay.specs.Called.{Called, called, number, memoryAfter}
+use Rattle.spec_bay.specs.Stretch.{stateAt, countAt, positionsAt, bayLength, stretchLength, stateIn, positionsIn, Terms}
+use Rattle.spec_bay.specs.BayCalls.{positionsKept, restored, bayTickOf, bayReleaseOf, bayAdmitOf, baySaveOf, bayForgetOf, bayRestoreOf, bayNewYearOf}
 use Rattle.box_calls.specs.Box.{Call, admit, release, tick, save, restore, forget, service, panel, preview, ledger, newYear, bayCall}
 use Rattle.box_calls.specs.Shares.{Sendable}
-use Rattle.box_fields.proofs.Fields.{slot-vacated, filled-zeros}
+use Rattle.theory_bay.proofs.Fields.{slot-vacated, filled-zeros}
 use Rattle.box_theory.proofs.Moves as moves
 use Rattle.box_theory.proofs.Ticks.{next, entered, length-entered, before-ledger, Ticked, down, full, instant, ticked}
 use Rattle.box_theory.proofs.Readers.{service-reads, panel-reads, ledger-reads}

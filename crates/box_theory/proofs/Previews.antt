@@ -4,13 +4,13 @@ use native.Mathlib.Omega.{arith}
 use mathlib.Core.Path.{_≡_, refl, sym, ap, _∙_}
 use mathlib.Core.Logic.{_≢_, ⊎-elim}
 use mathlib.Core.List.{List, [], _∷_}
-use Rattle.box_fillings.specs.Preview as fillings
-use Rattle.box_fillings.specs.Preview.{Previewed, previewed, previewOf}
+use Rattle.spec_bay.specs.Preview as fillings
+use Rattle.spec_bay.specs.Preview.{Previewed, previewed, previewOf}
 use Rattle.spec_sequence.specs.Rows.{rank}
-use Rattle.box_fillings.proofs.Numbers.{lent-left, preview-range}
-use Rattle.box_stretches.specs.Called.{called, number, memoryAfter}
-use Rattle.box_stretches.specs.Stretch.{sequenceIn, readBackIn, stateIn}
-use Rattle.box_stretches.specs.BayCalls.{stretchKept, bayPreviewOf}
+use Rattle.theory_bay.proofs.Numbers.{lent-left, preview-range}
+use Rattle.spec_bay.specs.Called.{called, number, memoryAfter}
+use Rattle.spec_bay.specs.Stretch.{sequenceIn, readBackIn, stateIn}
+use Rattle.spec_bay.specs.BayCalls.{stretchKept, bayPreviewOf}
 
 kept-stretch : (s : List ℕ) (o : Previewed) → memoryAfter (stretchKept s o) ≡ s
 kept-stretch s (previewed n buffer) = refl

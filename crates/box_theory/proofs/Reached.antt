@@ -13,21 +13,21 @@ use Rattle.spec_base.specs.Bytes.{leNumber}
 use Rattle.spec_sequence.specs.Check.{checkOf}
 use Rattle.spec_base.specs.Parts.{slot, zeros}
 use Rattle.numbers.proofs.Putting.{length-put, put-before}
-use Rattle.box_ledgers.specs.Ledgers as Ledgers
-use Rattle.box_ledgers.specs.Ledgers.{ledgerLength}
+use Rattle.spec_bay.specs.Ledgers as Ledgers
+use Rattle.spec_bay.specs.Ledgers.{ledgerLength}
 use Rattle.box_ledgers.proofs.Theorems.{cleared-sized}
 use Rattle.numbers.proofs.Zeros.{length-zeros, slot-zeros, zeros-number}
-use Rattle.box_positions.specs.Table.{tableLength}
+use Rattle.spec_bay.specs.Table.{tableLength}
 use Rattle.spec_tick.specs.Demands as demands
 use Rattle.theory_tick.proofs.Sequence.{accepted}
-use Rattle.box_stretches.specs.Called.{called, number, memoryAfter}
-use Rattle.box_stretches.specs.Stretch.{lengthBytes, positionsAt, bayLength, stretchLength, lengthIn, sequenceIn, readBackIn, ceilingIn, positionsIn, partOf, vacated, withLedger, Terms, filled}
-use Rattle.box_stretches.specs.BayCalls.{sharedCeiling, bayReleaseOf, bayAdmitOf, bayNewYearOf}
+use Rattle.spec_bay.specs.Called.{called, number, memoryAfter}
+use Rattle.spec_bay.specs.Stretch.{lengthBytes, positionsAt, bayLength, stretchLength, lengthIn, sequenceIn, readBackIn, ceilingIn, positionsIn, partOf, vacated, withLedger, Terms, filled}
+use Rattle.spec_bay.specs.BayCalls.{sharedCeiling, bayReleaseOf, bayAdmitOf, bayNewYearOf}
 use Rattle.box_calls.specs.Box.{bayCount, boxLength, emptyBox, stretchOf, present, Call, admit, release, tick, save, restore, forget, service, panel, preview, ledger, newYear, buffers, bayCall, isFor, callOf}
 use Rattle.box_calls.specs.Lists.{Request, boxAfter}
 use Rattle.box_calls.specs.Shares.{Sendable, AllSendable, none, each}
 use Rattle.box_calls.specs.Claims.{ceilingHeld}
-use Rattle.box_fields.proofs.Fields.{length-vacated, slot-vacated, vacated-empty, filled-zeros}
+use Rattle.theory_bay.proofs.Fields.{length-vacated, slot-vacated, vacated-empty, filled-zeros}
 use Rattle.box_theory.proofs.Sums.{sumOf, one-changed}
 use Rattle.box_theory.proofs.Moves.{save-moved, forget-moved}
 use Rattle.box_theory.proofs.Bays.{ceilingFor, bounds, passed, Admission, turned-down, admits, admission, onStretch}

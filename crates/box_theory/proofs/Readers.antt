@@ -10,10 +10,10 @@ use lib.ListN.{length}
 use lib.Dec.{eqb}
 use borrow.Author.Tests.{eq-eqb, ne-eqb}
 use Rattle.spec_tick.specs.Record.{recordLength, panelLength, panelOf}
-use Rattle.box_stretches.specs.Called.{Called, called, number, memoryAfter}
-use Rattle.box_ledgers.specs.Ledgers.{readingLength, readingOf}
-use Rattle.box_stretches.specs.Stretch.{serviceOnlyIn, ledgerIn}
-use Rattle.box_stretches.specs.BayCalls.{showing, bayServiceOf, bayPanelOf, bayLedgerOf}
+use Rattle.spec_bay.specs.Called.{Called, called, number, memoryAfter}
+use Rattle.spec_bay.specs.Ledgers.{readingLength, readingOf}
+use Rattle.spec_bay.specs.Stretch.{serviceOnlyIn, ledgerIn}
+use Rattle.spec_bay.specs.BayCalls.{showing, bayServiceOf, bayPanelOf, bayLedgerOf}
 
 pub record Reads (s shown view : List ℕ) (o : Called) : Type 0 where
   pub left : memoryAfter o ≡ s

@@ -12,14 +12,14 @@ use Rattle.spec_sequence.specs.Program.{program}
 use Rattle.spec_tick.specs.StateRecord.{encodeState}
 use Rattle.records.proofs.StateLaws.{length-state}
 use Rattle.theory_tick.proofs.Sequence.{same-statement}
-use Rattle.box_positions.specs.Table.{lookup}
-use Rattle.box_stretches.specs.Called.{number, memoryAfter}
-use Rattle.box_stretches.specs.Stretch.{sequenceIn, readBackIn, stateIn, positionsIn, Terms, terms}
+use Rattle.spec_bay.specs.Table.{lookup}
+use Rattle.spec_bay.specs.Called.{number, memoryAfter}
+use Rattle.spec_bay.specs.Stretch.{sequenceIn, readBackIn, stateIn, positionsIn, Terms, terms}
 use Rattle.box_calls.specs.Box.{bayCount, emptyBox, stretchOf, admit, restore, callOf}
 use Rattle.box_calls.specs.Lists.{Request, boxAfter}
 use Rattle.box_calls.specs.BayRuns.{Onwards, termsIn, RunOf, Rewrites}
 use Rattle.box_calls.specs.Positions.{TicksFromPosition}
-use Rattle.box_fields.proofs.Fields.{Holds, moved-state}
+use Rattle.theory_bay.proofs.Fields.{Holds, moved-state}
 use Rattle.box_theory.proofs.Bays.{ceilingFor, bounds}
 use Rattle.box_theory.proofs.Standing.{Standing, sequence-held, put-stands}
 use Rattle.box_theory.proofs.Positions.{Positioned}

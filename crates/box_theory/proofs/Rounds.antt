@@ -16,9 +16,9 @@ use Rattle.spec_tick.specs.Tick.{Outcome, tickOf}
 use Rattle.spec_tick.specs.Demands as demands
 use Rattle.spec_tick.specs.Demands.{answerAfterwards}
 use Rattle.theory_tick.proofs.Ceiling.{never-above}
-use Rattle.box_stretches.specs.Called.{called, memoryAfter}
-use Rattle.box_stretches.specs.Stretch.{stretchLength, stateIn, partOf}
-use Rattle.box_stretches.specs.BayCalls.{sharedCeiling, bayTickOf}
+use Rattle.spec_bay.specs.Called.{called, memoryAfter}
+use Rattle.spec_bay.specs.Stretch.{stretchLength, stateIn, partOf}
+use Rattle.spec_bay.specs.BayCalls.{sharedCeiling, bayTickOf}
 use Rattle.box_calls.specs.BayRuns.{paperBuffer}
 use Rattle.box_calls.specs.Box.{bayCount, stretchOf, present, tick, bayCall, isFor, callOf}
 use Rattle.box_calls.specs.Lists.{Request}

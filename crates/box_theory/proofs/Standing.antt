@@ -27,14 +27,14 @@ use Rattle.spec_tick.specs.Demands.{stateAfterwards, cleared}
 use Rattle.theory_tick.proofs.Sequence.{Accepted, tick-at, tick-short, recorded-fresh, recorded-resumed}
 use Rattle.theory_tick.proofs.Ceiling.{most}
 use Rattle.numbers.proofs.Putting.{put-before}
-use Rattle.box_ledgers.specs.Ledgers.{ledgerLength, added}
-use Rattle.box_stretches.specs.Called.{Called, number, memoryAfter}
-use Rattle.box_stretches.specs.Stretch.{sequenceAt, stateAt, countAt, positionsAt, bayLength, stretchLength, lengthIn, isEmpty, sequenceIn, stateIn, ledgerIn, Terms, filled}
-use Rattle.box_stretches.specs.BayCalls.{delivering, bayTickOf}
+use Rattle.spec_bay.specs.Ledgers.{ledgerLength, added}
+use Rattle.spec_bay.specs.Called.{Called, number, memoryAfter}
+use Rattle.spec_bay.specs.Stretch.{sequenceAt, stateAt, countAt, positionsAt, bayLength, stretchLength, lengthIn, isEmpty, sequenceIn, stateIn, ledgerIn, Terms, filled}
+use Rattle.spec_bay.specs.BayCalls.{delivering, bayTickOf}
 use Rattle.box_calls.specs.Box.{admit}
 use Rattle.box_calls.specs.Shares.{Sendable}
 use Rattle.box_calls.specs.BayRuns.{paperBuffer}
-use Rattle.box_fields.proofs.Fields.{Holds, behind-holds, moved-holds, moved-state, filled-holds, filled-fresh}
+use Rattle.theory_bay.proofs.Fields.{Holds, behind-holds, moved-holds, moved-state, filled-holds, filled-fresh}
 use Rattle.box_theory.proofs.Moves.{Moved, refused, stored}
 use Rattle.box_theory.proofs.Ticks as ticks
 use Rattle.box_theory.proofs.Bays.{ceilingFor, bounds}

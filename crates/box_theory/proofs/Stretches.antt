@@ -11,8 +11,8 @@ use lib.Seq.{length-take-le}
 use borrow.Author.Tests.{lt-ltb, le-ltb, eq-eqb, ne-eqb}
 use Rattle.spec_base.specs.Parts.{put}
 use Rattle.numbers.proofs.Putting.{put-slot, length-put, slot-put, put-before, put-behind}
-use Rattle.box_stretches.specs.Called.{Called, called, number, memoryAfter, lentAfter}
-use Rattle.box_stretches.specs.Stretch.{stretchLength, isEmpty, Terms}
+use Rattle.spec_bay.specs.Called.{Called, called, number, memoryAfter, lentAfter}
+use Rattle.spec_bay.specs.Stretch.{stretchLength, isEmpty, Terms}
 use Rattle.box_calls.specs.Box.{bayCount, boxLength, stretchOf, present, Call, admit, buffers, bayCall, isFor, inBox, callOf}
 use Rattle.box_theory.proofs.Bays.{onStretch, stretch-refused, sized-after}
 

@@ -24,11 +24,11 @@ use Rattle.spec_tick.specs.Record.{recordLength, panelLength}
 use Rattle.spec_tick.specs.Recording.{callOn, recordingOf, joined, Inputs}
 use Rattle.replays.specs.Replay.{replayed, replayOf}
 use Rattle.replays.proofs.Theorems.{accepts-recordings}
-use Rattle.box_positions.specs.Names.{find}
-use Rattle.box_positions.specs.Table.{lookup}
-use Rattle.box_ledgers.specs.Ledgers.{farmCount, readingLength, totalIn}
-use Rattle.box_stretches.specs.Called.{called, number, memoryAfter}
-use Rattle.box_stretches.specs.Stretch.{stateIn, positionsIn, ledgerIn, Terms}
+use Rattle.spec_bay.specs.Names.{find}
+use Rattle.spec_bay.specs.Table.{lookup}
+use Rattle.spec_bay.specs.Ledgers.{farmCount, readingLength, totalIn}
+use Rattle.spec_bay.specs.Called.{called, number, memoryAfter}
+use Rattle.spec_bay.specs.Stretch.{stateIn, positionsIn, ledgerIn, Terms}
 use Rattle.box_calls.specs.Box.{bayCount, boxLength, emptyBox, stretchOf, admit, release, tick, restore, forget, service, panel, ledger, callOf}
 use Rattle.box_calls.specs.Lists.{Request, boxAfter, asked, answers}
 use Rattle.box_calls.specs.Shares.{Sendable, AllSendable}

@@ -27,7 +27,7 @@ use Rattle.spec_tick.specs.Record.{recordLength, recordOf}
 use Rattle.spec_tick.specs.Recording.{following}
 use Rattle.spec_base.specs.Parts.{slot, put}
 use Rattle.numbers.proofs.Putting.{put-slot, length-put, slot-put, put-before, put-behind}
-use Rattle.box_ledgers.specs.Ledgers.{ledgerLength, passes, added}
+use Rattle.spec_bay.specs.Ledgers.{ledgerLength, passes, added}
 use Rattle.box_ledgers.proofs.Theorems.{added-sized}
 use Rattle.spec_tick.specs.Tick as Tick
 use Rattle.spec_tick.specs.Tick.{Outcome, outcome, byState, replied, tickBy, tickOf}
@@ -36,11 +36,11 @@ use Rattle.spec_tick.specs.Demands as demands
 use Rattle.spec_tick.specs.Demands.{stateAfterwards, answerAfterwards}
 use Rattle.theory_tick.proofs.Sequence.{tick-short}
 use Rattle.theory_tick.proofs.Demand1.{demand-1}
-use Rattle.box_stretches.specs.Called.{Called, called, number, memoryAfter, lentAfter, first}
-use Rattle.box_stretches.specs.Stretch.{stateAt, countAt, bayLength, stretchLength, sequenceIn, readBackIn, stateIn, lastNumberIn, ledgerIn, withLedger}
-use Rattle.box_stretches.specs.BayCalls.{stateKept, delivering, charged, recorded, bayStepOf, bayChargedOf, bayTickOf}
+use Rattle.spec_bay.specs.Called.{Called, called, number, memoryAfter, lentAfter, first}
+use Rattle.spec_bay.specs.Stretch.{stateAt, countAt, bayLength, stretchLength, sequenceIn, readBackIn, stateIn, lastNumberIn, ledgerIn, withLedger}
+use Rattle.spec_bay.specs.BayCalls.{stateKept, delivering, charged, recorded, bayStepOf, bayChargedOf, bayTickOf}
 use Rattle.box_calls.specs.BayRuns.{paperBuffer}
-use Rattle.box_fields.proofs.Fields.{ledger-sized, state-sized}
+use Rattle.theory_bay.proofs.Fields.{ledger-sized, state-sized}
 
 -- ---- the rows of a tick come before 13 and 19
 pub tick-range : {sequence : List ℕ} {readBack : ℕ} {state answer : List ℕ} (k : ℕ) → TickRow sequence readBack state answer k → rank k ≤ rank 12

@@ -24,13 +24,13 @@ use Rattle.spec_base.specs.Bytes.{leBytes, leNumber}
 use Rattle.spec_tick.specs.StateRecord.{phaseIn, encodeState, decodeState}
 use Rattle.spec_tick.specs.AnswerRecord.{encodeAnswer}
 use Rattle.spec_base.specs.Parts.{put, zeros}
-use Rattle.box_ledgers.specs.Ledgers.{totalIn, wouldPass, addedBelow}
+use Rattle.spec_bay.specs.Ledgers.{totalIn, wouldPass, addedBelow}
 use Rattle.spec_tick.specs.Tick.{Outcome, outcome, tickBy}
 use Rattle.spec_tick.specs.Demands.{outcomes}
-use Rattle.box_stretches.specs.Called.{Called, memoryAfter}
+use Rattle.spec_bay.specs.Called.{Called, memoryAfter}
 use Rattle.spec_tick.specs.Recording.{following}
-use Rattle.box_stretches.specs.Stretch.{stateAt, ceilingIn, partOf, vacated, filled, Terms}
-use Rattle.box_stretches.specs.BayCalls.{bayStepOf, bayChargedOf, bayTickOf, bayReleaseOf, bayAdmitOf}
+use Rattle.spec_bay.specs.Stretch.{stateAt, ceilingIn, partOf, vacated, filled, Terms}
+use Rattle.spec_bay.specs.BayCalls.{bayStepOf, bayChargedOf, bayTickOf, bayReleaseOf, bayAdmitOf}
 use Rattle.box_calls.specs.Box.{emptyBox, present, Call, admit, release, save, onTick, callOf}
 use Rattle.box_calls.specs.Lists.{Request, boxAfter, overBay, Answer, answered}
 use Rattle.box_calls.specs.Shares.{none, each}

@@ -24,13 +24,13 @@ use Rattle.spec_base.specs.Bytes.{leBytes, leNumber}
 use Rattle.spec_tick.specs.StateRecord.{encodeState, decodeState}
 use Rattle.spec_tick.specs.AnswerRecord.{encodeAnswer, answerLength}
 use Rattle.spec_base.specs.Parts.{put, zeros}
-use Rattle.box_positions.specs.Table.{place, lookup, saveOf, forgetOf}
-use Rattle.box_ledgers.specs.Ledgers.{totalIn, totalsBytes, wouldPass, addedBelow}
+use Rattle.spec_bay.specs.Table.{place, lookup, saveOf, forgetOf}
+use Rattle.spec_bay.specs.Ledgers.{totalIn, totalsBytes, wouldPass, addedBelow}
 use Rattle.spec_tick.specs.Tick.{tickBy}
 use Rattle.spec_tick.specs.Record.{recordLength}
 use Rattle.spec_tick.specs.Recording.{following}
-use Rattle.box_stretches.specs.Stretch.{partOf, vacated, filled}
-use Rattle.box_stretches.specs.BayCalls.{bayStepOf, bayChargedOf, bayTickOf, bayReleaseOf, bayAdmitOf, baySaveOf, bayForgetOf, bayRestoreOf}
+use Rattle.spec_bay.specs.Stretch.{partOf, vacated, filled}
+use Rattle.spec_bay.specs.BayCalls.{bayStepOf, bayChargedOf, bayTickOf, bayReleaseOf, bayAdmitOf, baySaveOf, bayForgetOf, bayRestoreOf}
 use Rattle.box_calls.specs.Box.{emptyBox, present, callOf}
 use Rattle.box_calls.specs.Lists.{Request, boxAfter}
 use Rattle.box_calls.specs.Years.{deliveredSince, TotalsExact, Nineteen}

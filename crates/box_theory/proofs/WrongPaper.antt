@@ -31,16 +31,16 @@ use Rattle.spec_base.specs.Bytes.{leBytes, leNumber}
 use Rattle.spec_tick.specs.StateRecord.{encodeState, decodeState}
 use Rattle.spec_tick.specs.AnswerRecord.{codeIn, emittedIn, encodeAnswer}
 use Rattle.spec_base.specs.Parts.{put, zeros}
-use Rattle.box_positions.specs.Names.{find, without, saveNamed}
-use Rattle.box_positions.specs.Table.{saveOf, forgetOf, lookup, place}
-use Rattle.box_ledgers.specs.Ledgers.{readingLength, fieldIn, totalIn, totalsBytes, wouldPass, addedBelow}
+use Rattle.spec_bay.specs.Names.{find, without, saveNamed}
+use Rattle.spec_bay.specs.Table.{saveOf, forgetOf, lookup, place}
+use Rattle.spec_bay.specs.Ledgers.{readingLength, fieldIn, totalIn, totalsBytes, wouldPass, addedBelow}
 use Rattle.spec_tick.specs.Tick.{tickBy}
 use Rattle.spec_tick.specs.Recording.{following}
 use Rattle.spec_tick.specs.Paper.{Report, turnedDown, reacted}
 use Rattle.theory_tick.proofs.Sequence.{accepted, same-statement}
-use Rattle.box_stretches.specs.Called.{lentAfter, first}
-use Rattle.box_stretches.specs.Stretch.{partOf, vacated, filled, Terms}
-use Rattle.box_stretches.specs.BayCalls.{bayStepOf, bayChargedOf, bayTickOf, bayReleaseOf, bayAdmitOf, baySaveOf, bayForgetOf, bayRestoreOf, bayLedgerOf}
+use Rattle.spec_bay.specs.Called.{lentAfter, first}
+use Rattle.spec_bay.specs.Stretch.{partOf, vacated, filled, Terms}
+use Rattle.spec_bay.specs.BayCalls.{bayStepOf, bayChargedOf, bayTickOf, bayReleaseOf, bayAdmitOf, baySaveOf, bayForgetOf, bayRestoreOf, bayLedgerOf}
 use Rattle.box_calls.specs.Box.{emptyBox, present, Call, admit, release, save, restore, onAdmit, callOf}
 use Rattle.box_calls.specs.Lists.{Request, boxAfter}
 use Rattle.box_calls.specs.Shares.{AllSendable, none, each}

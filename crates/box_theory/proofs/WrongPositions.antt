@@ -26,16 +26,16 @@ use Rattle.spec_base.specs.Bytes.{leBytes, leNumber}
 use Rattle.spec_tick.specs.StateRecord.{phaseIn, encodeState, decodeState}
 use Rattle.spec_tick.specs.AnswerRecord.{emittedIn, encodeAnswer}
 use Rattle.spec_base.specs.Parts.{put, zeros}
-use Rattle.box_positions.specs.Names as Names
-use Rattle.box_positions.specs.Names.{find, saveNamed}
-use Rattle.box_positions.specs.Table.{place, lookup, saveOf, forgetOf, namesBelow}
-use Rattle.box_ledgers.specs.Ledgers.{totalIn, wouldPass, addedBelow}
+use Rattle.spec_bay.specs.Names as Names
+use Rattle.spec_bay.specs.Names.{find, saveNamed}
+use Rattle.spec_bay.specs.Table.{place, lookup, saveOf, forgetOf, namesBelow}
+use Rattle.spec_bay.specs.Ledgers.{totalIn, wouldPass, addedBelow}
 use Rattle.spec_tick.specs.Tick.{Outcome, outcome, tickBy, tickOf}
 use Rattle.spec_tick.specs.Demands.{outcomes}
 use Rattle.spec_tick.specs.Recording.{following, callOn}
-use Rattle.box_stretches.specs.Called.{memoryAfter}
-use Rattle.box_stretches.specs.Stretch.{stateIn, partOf, vacated, filled, Terms}
-use Rattle.box_stretches.specs.BayCalls.{bayStepOf, bayChargedOf, bayTickOf, bayReleaseOf, bayAdmitOf, baySaveOf, bayForgetOf, bayRestoreOf}
+use Rattle.spec_bay.specs.Called.{memoryAfter}
+use Rattle.spec_bay.specs.Stretch.{stateIn, partOf, vacated, filled, Terms}
+use Rattle.spec_bay.specs.BayCalls.{bayStepOf, bayChargedOf, bayTickOf, bayReleaseOf, bayAdmitOf, baySaveOf, bayForgetOf, bayRestoreOf}
 use Rattle.box_calls.specs.Box.{emptyBox, present, admit, save, restore, callOf}
 use Rattle.box_calls.specs.Lists.{Request, afterCall, boxAfter, overBay}
 use Rattle.box_calls.specs.Shares as Shares

@@ -27,13 +27,13 @@ use Rattle.spec_base.specs.Bytes.{leBytes, leNumber}
 use Rattle.spec_tick.specs.StateRecord.{encodeState, decodeState}
 use Rattle.spec_tick.specs.AnswerRecord.{answerLength, encodeAnswer}
 use Rattle.spec_base.specs.Parts.{put, zeros}
-use Rattle.box_ledgers.specs.Ledgers.{totalIn, wouldPass, addedBelow}
+use Rattle.spec_bay.specs.Ledgers.{totalIn, wouldPass, addedBelow}
 use Rattle.spec_tick.specs.Tick.{tickBy}
 use Rattle.spec_tick.specs.Record.{recordLength}
 use Rattle.spec_tick.specs.Recording.{following}
-use Rattle.box_fillings.specs.Preview.{previewLength, both, gathered, findings, previewOf}
-use Rattle.box_stretches.specs.Stretch.{lastNumberIn, partOf, vacated, filled}
-use Rattle.box_stretches.specs.BayCalls.{bayStepOf, bayChargedOf, bayTickOf, bayReleaseOf, bayAdmitOf, bayPreviewOf}
+use Rattle.spec_bay.specs.Preview.{previewLength, both, gathered, findings, previewOf}
+use Rattle.spec_bay.specs.Stretch.{lastNumberIn, partOf, vacated, filled}
+use Rattle.spec_bay.specs.BayCalls.{bayStepOf, bayChargedOf, bayTickOf, bayReleaseOf, bayAdmitOf, bayPreviewOf}
 use Rattle.box_calls.specs.Box.{emptyBox, stretchOf, present, callOf}
 use Rattle.box_calls.specs.Lists.{boxAfter}
 use Rattle.box_calls.specs.Previews.{MachineStays, TenBytes, LearningStays, PreviewForesees}

@@ -19,22 +19,22 @@ use Rattle.records.proofs.StateLaws.{state-sized}
 use Rattle.spec_base.specs.Parts.{put, zeros}
 use Rattle.numbers.proofs.Putting.{slot-put, put-behind}
 use Rattle.numbers.proofs.Zeros.{slot-zeros}
-use Rattle.box_positions.specs.Table.{tableLength, lookup, Kept, kept, tableKept, saveOf, forgetOf}
+use Rattle.spec_bay.specs.Table.{tableLength, lookup, Kept, kept, tableKept, saveOf, forgetOf}
 use Rattle.box_positions.proofs.TableLaws.{save-sized, forget-sized}
 use Rattle.spec_base.specs.WholeLitres.{Near}
-use Rattle.box_ledgers.specs.Ledgers.{farmCount, ledgerLength, exactTotal, readingOf, totalRead, totalIn, Exact, cleared, wouldPass, passes, added}
+use Rattle.spec_bay.specs.Ledgers.{farmCount, ledgerLength, exactTotal, readingOf, totalRead, totalIn, Exact, cleared, wouldPass, passes, added}
 use Rattle.box_ledgers.proofs.Totals.{passes-not}
 use Rattle.box_ledgers.proofs.Theorems.{added-total, added-stays-exact, total-most, reading-total, reading-within, cleared-total, cleared-exact, cleared-sized, cleared-is}
 use Rattle.spec_tick.specs.Demands as demands
 use Rattle.theory_tick.proofs.Sequence.{accepted}
-use Rattle.box_stretches.specs.Called.{Called, called, number, memoryAfter}
-use Rattle.box_stretches.specs.Stretch.{stateAt, countAt, positionsAt, bayLength, stretchLength, lengthIn, stateIn, positionsIn, ledgerIn}
-use Rattle.box_stretches.specs.BayCalls.{positionsKept, restored, delivering, bayTickOf, bayReleaseOf, bayAdmitOf, baySaveOf, bayForgetOf, bayRestoreOf, bayNewYearOf}
+use Rattle.spec_bay.specs.Called.{Called, called, number, memoryAfter}
+use Rattle.spec_bay.specs.Stretch.{stateAt, countAt, positionsAt, bayLength, stretchLength, lengthIn, stateIn, positionsIn, ledgerIn}
+use Rattle.spec_bay.specs.BayCalls.{positionsKept, restored, delivering, bayTickOf, bayReleaseOf, bayAdmitOf, baySaveOf, bayForgetOf, bayRestoreOf, bayNewYearOf}
 use Rattle.box_calls.specs.Box.{bayCount, boxLength, emptyBox, stretchOf, present, Call, admit, release, tick, save, restore, forget, service, panel, preview, ledger, newYear, onTick, bayCall, isFor, callOf}
 use Rattle.box_calls.specs.Lists.{Request, afterCall, boxAfter, overBay}
 use Rattle.box_calls.specs.BayRuns.{tickLitres}
 use Rattle.box_calls.specs.Years.{deliveredAfter, deliveredSince, SameYear, done, more, sumOf, TotalsExact, LedgerShows, YearBegins, LedgerNumbers, ownNumber, WouldPass, Nineteen, PreviewsNeverNineteen}
-use Rattle.box_fields.proofs.Fields.{ledger-sized, vacated-behind, filled-behind}
+use Rattle.theory_bay.proofs.Fields.{ledger-sized, vacated-behind, filled-behind}
 use Rattle.box_theory.proofs.Moves.{positions-sized}
 use Rattle.box_theory.proofs.Ticks.{next, entered, length-stepped, length-entered, new-sized, Ticked, down, full, instant, ticked, tick-number}
 use Rattle.box_theory.proofs.Readers.{service-reads, panel-reads, ledger-reads, ledger-lengths}

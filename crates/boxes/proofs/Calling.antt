@@ -11,9 +11,9 @@ use lib.Seq.{length-take-le}
 use borrow.Author.Tests.{lt-ltb, eq-eqb}
 use Rattle.spec_base.specs.Parts.{slot, put}
 use Rattle.numbers.proofs.Putting.{put-slot}
-use Rattle.box_stretches.specs.Called.{called}
-use Rattle.box_stretches.specs.Stretch.{stretchLength, Terms}
-use Rattle.box_stretches.specs.BayCalls.{bayAdmitOf}
+use Rattle.spec_bay.specs.Called.{called}
+use Rattle.spec_bay.specs.Stretch.{stretchLength, Terms}
+use Rattle.spec_bay.specs.BayCalls.{bayAdmitOf}
 use Rattle.box_calls.specs.Box.{bayCount, boxLength, stretchOf, present, Call, admit, buffers, bayCall, isFor, inBox, callOf}
 use Rattle.box_bays.specs.declared.naming.Naming.the-variants.{Save, Restore, Forget}
 use Rattle.box_bays.specs.Moves.{bayMovedOf}

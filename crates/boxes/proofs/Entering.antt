@@ -8,7 +8,7 @@ use mathlib.Core.List.{List}
 use lib.ListN.{length}
 use lib.Dec.{eqb, ltb}
 use borrow.Author.Tests.{lt-ltb, le-ltb, eq-eqb, ne-eqb, ltb-true, eqb-true}
-use Rattle.box_stretches.specs.Stretch.{isEmpty}
+use Rattle.spec_bay.specs.Stretch.{isEmpty}
 use Rattle.box_calls.specs.Box.{bayCount, boxLength, stretchOf}
 use Rattle.boxes.specs.Entries.{fits, either, entryOf}
 

@@ -4,7 +4,7 @@ use native.Mathlib.Omega.{arith}
 use native.Mathlib.Numerals.{add-one}
 use mathlib.Core.Path.{_≡_, refl, sym, ap, _∙_}
 use mathlib.Core.List.{List}
-use Rattle.box_stretches.specs.Stretch.{partOf}
+use Rattle.spec_bay.specs.Stretch.{partOf}
 use Rattle.box_calls.specs.Box.{bayCount, stretchOf, present}
 
 pub none-present : (box : List ℕ) → 0 ≡ present 0 box

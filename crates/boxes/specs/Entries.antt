@@ -5,7 +5,7 @@ use mathlib.Core.Bool.{Bool, true, not, cond}
 use mathlib.Core.List.{List}
 use lib.ListN.{length}
 use lib.Dec.{eqb, ltb}
-use Rattle.box_stretches.specs.Stretch.{isEmpty}
+use Rattle.spec_bay.specs.Stretch.{isEmpty}
 use Rattle.box_calls.specs.Box.{bayCount, boxLength, stretchOf}
 
 -- is the bay as the call wants it, empty or filled? The ledger's calls take either

@@ -34,19 +34,19 @@ use Rattle.replays.specs.Replay.{replayOf}
 use Rattle.replays.proofs.Numbers.{Verdict, refused, cut, compared, verdict}
 use Rattle.spec_base.specs.Parts.{zeros}
 use Rattle.numbers.proofs.Zeros.{length-zeros}
-use Rattle.box_positions.specs.Table.{lookup, Kept, kept, numberKept, saveOf, forgetOf}
+use Rattle.spec_bay.specs.Table.{lookup, Kept, kept, numberKept, saveOf, forgetOf}
 use Rattle.box_positions.proofs.Theorems.{save-number, forget-number}
-use Rattle.box_fillings.specs.Preview as fillings
-use Rattle.box_fillings.specs.Preview.{Previewed, previewed, previewLength, maxUnknown, answersOf, previewBytes, findings, previewOf}
-use Rattle.box_fillings.proofs.Numbers.{Replying, turns-down, runs, replying, other-buffer, refused-preview, shown-preview, tick-replied}
-use Rattle.box_stretches.specs.Called.{Called, called, number}
-use Rattle.box_stretches.specs.Stretch.{stretchLength, sequenceIn, readBackIn, stateIn, positionsIn, Terms, filled}
-use Rattle.box_stretches.specs.BayCalls.{sharedCeiling, byCheck, positionsKept, restored, bayTickOf, bayReleaseOf, bayAdmitOf, baySaveOf, bayForgetOf, bayRestoreOf, bayServiceOf, bayPanelOf, bayPreviewOf, bayLedgerOf, bayNewYearOf}
+use Rattle.spec_bay.specs.Preview as fillings
+use Rattle.spec_bay.specs.Preview.{Previewed, previewed, previewLength, maxUnknown, answersOf, previewBytes, findings, previewOf}
+use Rattle.theory_bay.proofs.Numbers.{Replying, turns-down, runs, replying, other-buffer, refused-preview, shown-preview, tick-replied}
+use Rattle.spec_bay.specs.Called.{Called, called, number}
+use Rattle.spec_bay.specs.Stretch.{stretchLength, sequenceIn, readBackIn, stateIn, positionsIn, Terms, filled}
+use Rattle.spec_bay.specs.BayCalls.{sharedCeiling, byCheck, positionsKept, restored, bayTickOf, bayReleaseOf, bayAdmitOf, baySaveOf, bayForgetOf, bayRestoreOf, bayServiceOf, bayPanelOf, bayPreviewOf, bayLedgerOf, bayNewYearOf}
 use Rattle.box_calls.specs.Box.{bayCount, boxLength, emptyBox, stretchOf, present, Call, admit, release, tick, save, restore, forget, service, panel, preview, ledger, newYear, buffers, bayCall, isFor, callOf}
 use Rattle.box_calls.specs.Lists.{Request, boxAfter}
 use Rattle.box_calls.specs.Shares.{AllSendable}
 use Rattle.box_calls.specs.BayRuns.{paperBuffer}
-use Rattle.box_fields.proofs.Fields.{state-sized}
+use Rattle.theory_bay.proofs.Fields.{state-sized}
 use Rattle.box_theory.proofs.Ticks.{inner, Ticked, down, full, instant, ticked, like-buffer}
 use Rattle.box_theory.proofs.Readers.{service-reads, panel-reads, ledger-reads}
 use Rattle.box_theory.proofs.Previews.{preview-number}

@@ -38,11 +38,11 @@ use Rattle.replays.specs.Replay.{firstRecords, same, firstDifference, placeOf, 
 use Rattle.unrolled.specs.Unrolled.{copied, unrolled}
 use Rattle.unrolled.specs.Call.{unrollOf}
 use Rattle.spec_base.specs.Parts.{put, zeros}
-use Rattle.box_positions.specs.Table.{place, lookup, saveOf, forgetOf}
-use Rattle.box_ledgers.specs.Ledgers.{readingLength, totalIn, totalsBytes, wouldPass, addedBelow}
-use Rattle.box_fillings.specs.Preview.{previewLength, both, gathered, findings, previewOf}
-use Rattle.box_stretches.specs.Stretch.{stateAt, partOf, vacated, terms, filled}
-use Rattle.box_stretches.specs.BayCalls.{bayStepOf, bayChargedOf, bayTickOf, bayReleaseOf, bayAdmitOf, baySaveOf, bayForgetOf, bayRestoreOf, bayServiceOf, bayPanelOf, bayPreviewOf, bayLedgerOf, bayNewYearOf}
+use Rattle.spec_bay.specs.Table.{place, lookup, saveOf, forgetOf}
+use Rattle.spec_bay.specs.Ledgers.{readingLength, totalIn, totalsBytes, wouldPass, addedBelow}
+use Rattle.spec_bay.specs.Preview.{previewLength, both, gathered, findings, previewOf}
+use Rattle.spec_bay.specs.Stretch.{stateAt, partOf, vacated, terms, filled}
+use Rattle.spec_bay.specs.BayCalls.{bayStepOf, bayChargedOf, bayTickOf, bayReleaseOf, bayAdmitOf, baySaveOf, bayForgetOf, bayRestoreOf, bayServiceOf, bayPanelOf, bayPreviewOf, bayLedgerOf, bayNewYearOf}
 use Rattle.box_calls.specs.Box.{boxLength, emptyBox, present, Call, admit, release, tick, save, restore, forget, service, panel, preview, ledger, newYear, callOf}
 use Rattle.box_calls.specs.Lists.{Request, boxAfter}
 use Rattle.box_calls.specs.Shares as Shares

@@ -16,8 +16,8 @@ use Rattle.unrolled.specs.Call as unrolled
 use Rattle.unrolled.specs.Call.{unrollOf}
 use Rattle.replays.specs.Replay as replayed
 use Rattle.replays.specs.Replay.{replayOf}
-use Rattle.box_stretches.specs.Called.{number}
-use Rattle.box_stretches.specs.Stretch.{Terms}
+use Rattle.spec_bay.specs.Called.{number}
+use Rattle.spec_bay.specs.Stretch.{Terms}
 use Rattle.box_calls.specs.Box.{emptyBox, admit, release, tick, save, restore, forget, service, panel, preview, ledger, newYear, callOf}
 use Rattle.box_calls.specs.Lists.{Request, boxAfter}
 use Rattle.box_calls.specs.Shares.{AllSendable}

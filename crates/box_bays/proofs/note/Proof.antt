@@ -1,7 +1,7 @@
 use borrow.Author.Needs.{needs}
 use mathlib.Core.Path.{ap, _∙_}
 use lib.ListN.{length}
-use Rattle.box_fields.proofs.Fields.{state-sized}
+use Rattle.theory_bay.proofs.Fields.{state-sized}
 use Rattle.box_bays.proofs.Recording.{noted}
 use Rattle.box_bays.proofs.note.Statement.{statement}
 use Rattle.box_bays.proofs.note.Tie as tie

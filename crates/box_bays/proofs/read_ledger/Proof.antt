@@ -1,7 +1,7 @@
 use mathlib.Core.Path.{ap, _∙_}
 use lib.ListN.{length}
 use borrow.Author.Needs.{needs}
-use Rattle.box_fields.proofs.Fields.{ledger-sized}
+use Rattle.theory_bay.proofs.Fields.{ledger-sized}
 use Rattle.box_bays.proofs.Charging.{ledger-short, ledger-read}
 use Rattle.box_bays.proofs.read_ledger.Statement.{statement}
 use Rattle.box_bays.proofs.read_ledger.Tie as tie

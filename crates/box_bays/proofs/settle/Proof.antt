@@ -3,7 +3,7 @@ use mathlib.Core.Path.{ap, _∙_}
 use lib.ListN.{length, getD}
 use borrow.Author.Needs.{needs}
 use Rattle.instants.specs.Written.{writtenFrom}
-use Rattle.box_fields.proofs.Fields.{ledger-sized}
+use Rattle.theory_bay.proofs.Fields.{ledger-sized}
 use Rattle.box_bays.proofs.Charging.{written-0, passing, gives-19, still-below, settled}
 use Rattle.box_bays.proofs.settle.Statement.{statement}
 use Rattle.box_bays.proofs.settle.Tie as tie

@@ -6,7 +6,7 @@ use lib.Seq.{sets}
 use borrow.Author.Tests.{eq-eqb, ne-eqb}
 use Rattle.spec_base.specs.Bytes.{leBytes}
 use Rattle.spec_sequence.specs.Amounts.{amountBytes}
-use Rattle.box_ledgers.specs.Ledgers.{totalIn}
+use Rattle.spec_bay.specs.Ledgers.{totalIn}
 use Rattle.box_ledgers.proofs.Totals.{float-in, sum-no-nan, sum-bits}
 use borrow.Author.Needs.{needs}
 use Rattle.box_ledgers.proofs.add_to.Statement.{statement}

@@ -5,7 +5,7 @@ use native.Mathlib.Omega.{arith}
 use lib.ListN.{length}
 use lib.Seq.{sets}
 use borrow.Author.Needs.{needs}
-use Rattle.box_ledgers.specs.Ledgers.{ledgerLength, totalsBytes}
+use Rattle.spec_bay.specs.Ledgers.{ledgerLength, totalsBytes}
 use Rattle.box_ledgers.proofs.Totals.{totals-none, totals-all, written-next, zero-bytes}
 use Rattle.box_ledgers.proofs.clear.Statement.{statement}
 use Rattle.box_ledgers.proofs.clear.Tie as tie

@@ -4,7 +4,7 @@ use borrow.Author.Needs.{needs}
 use borrow.Author.Tests.{le-ltb}
 use Prim.Native.Nat.{_+_}
 use Rattle.spec_base.specs.Limits.{litresLimit}
-use Rattle.box_ledgers.specs.Ledgers.{totalIn}
+use Rattle.spec_bay.specs.Ledgers.{totalIn}
 use Rattle.box_ledgers.proofs.Totals.{total-most, passes-is, held-whole}
 use Rattle.box_ledgers.proofs.passes_at.Statement.{statement}
 use Rattle.box_ledgers.proofs.passes_at.Tie as tie

@@ -6,7 +6,7 @@ use borrow.Author.Needs.{needs}
 use borrow.Author.Tests.{ltb-true, ltb-false}
 use Rattle.spec_base.specs.Limits.{signalCount, litresLimit}
 use Rattle.sets.proofs.Loops.{Seeking, seek, seek-on, seek-end, seek-less, some-left, none-left}
-use Rattle.box_ledgers.specs.Ledgers.{totalIn}
+use Rattle.spec_bay.specs.Ledgers.{totalIn}
 use Rattle.box_ledgers.proofs.Theorems.{none-passes}
 use Rattle.box_ledgers.proofs.Totals.{passes-at, farm-below}
 use Rattle.box_ledgers.proofs.would_pass.Statement.{statement}

@@ -1,4 +1,4 @@
-use Rattle.box_fillings.specs.Preview.{both}
+use Rattle.spec_bay.specs.Preview.{both}
 use borrow.Author.Needs.{needs}
 use Rattle.box_previews.proofs.both.Statement.{statement}
 use Rattle.box_previews.proofs.both.Tie as tie

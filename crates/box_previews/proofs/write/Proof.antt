@@ -6,7 +6,7 @@ use lib.ListN.{length-set}
 use lib.Seq.{sets}
 use Rattle.spec_base.specs.Limits.{signalBytes}
 use Rattle.spec_base.specs.Bytes.{leBytes}
-use Rattle.box_fillings.specs.Preview.{neverAt, wrongAt}
+use Rattle.spec_bay.specs.Preview.{neverAt, wrongAt}
 use Rattle.box_previews.proofs.Stores.{preview-stored}
 use borrow.Author.Needs.{needs}
 use Rattle.box_previews.proofs.write.Statement.{statement}

@@ -1,6 +1,6 @@
 use borrow.Author.Needs.{needs}
 use mathlib.Core.Path.{sym, _∙_}
-use Rattle.box_stretches.specs.Stretch.{partOf}
+use Rattle.spec_bay.specs.Stretch.{partOf}
 use Rattle.box_bays.proofs.fields.part.Statement.{statement}
 use Rattle.box_bays.proofs.fields.part.Tie as tie
 

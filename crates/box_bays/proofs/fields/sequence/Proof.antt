@@ -2,7 +2,7 @@ use borrow.Author.Needs.{needs}
 use Prim.Native.Nat.{ℕ}
 use mathlib.Core.Path.{ap, _∙_}
 use Rattle.spec_base.specs.Parts.{slot}
-use Rattle.box_stretches.specs.Stretch.{sequenceAt}
+use Rattle.spec_bay.specs.Stretch.{sequenceAt}
 use Rattle.box_bays.proofs.fields.sequence.Statement.{statement}
 use Rattle.box_bays.proofs.fields.sequence.Tie as tie
 

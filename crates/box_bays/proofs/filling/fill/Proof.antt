@@ -1,5 +1,5 @@
 use borrow.Author.Needs.{needs}
-use Rattle.box_stretches.specs.Stretch.{terms}
+use Rattle.spec_bay.specs.Stretch.{terms}
 use Rattle.box_bays.proofs.Storing.{filled-by}
 use Rattle.box_bays.proofs.filling.fill.Statement.{statement}
 use Rattle.box_bays.proofs.filling.fill.Tie as tie

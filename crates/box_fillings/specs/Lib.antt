@@ -1,3 +1,0 @@
-pub mod Preview
-pub mod Claims
-pub mod Worked

@@ -1,4 +1,0 @@
-pub mod Stretch
-pub mod Called
-pub mod BayCalls
-pub mod Examples

@@ -1,0 +1,126 @@
+-- The calls of a bay on its stretch (02, items 8 to 12): the number, the stretch after the call and the lent buffers after it.
+use Prim.Native.Nat.{ℕ, zero, suc, _+_}
+use mathlib.Core.Bool.{_&&_, cond}
+use mathlib.Core.List.{List, [], _∷_}
+use mathlib.Core.Option.{Option, some, none}
+use lib.Dec.{eqb, leb}
+use Rattle.spec_language.specs.Ceiling.{ceiling}
+use Rattle.spec_sequence.specs.Program.{program}
+use Rattle.spec_sequence.specs.Check.{Checked, sound, bad, checked}
+use Rattle.spec_base.specs.Parts.{put}
+use Rattle.spec_tick.specs.StateRecord.{stateLength, stateRecord, phaseIn, labelsIn}
+use Rattle.spec_bay.specs.Table.{tableLength, lookup, Kept, kept, saveOf, forgetOf}
+use Rattle.spec_base.specs.Bytes.{leBytes}
+use Rattle.spec_base.specs.Limits.{numberBytes}
+use Rattle.spec_tick.specs.Record.{recordLength, recordOf, panelLength, panelOf}
+use Rattle.spec_tick.specs.Recording.{following}
+use lib.ListN.{length}
+use Rattle.spec_bay.specs.Preview.{Previewed, previewed, previewOf}
+use Rattle.spec_tick.specs.Tick.{Outcome, outcome, tickOf}
+use Rattle.spec_tick.specs.Deliveries.{deliveries}
+use Rattle.spec_bay.specs.Ledgers as Ledgers
+use Rattle.spec_bay.specs.Ledgers.{readingLength, passes, added, readingOf}
+use Rattle.spec_bay.specs.Called.{Called, called, first}
+use Rattle.spec_bay.specs.Stretch.{stateAt, countAt, positionsAt, sequenceIn, readBackIn, serviceOnlyIn, stateIn, lastNumberIn, positionsIn, ledgerIn, vacated, withLedger, Terms, filled}
+
+-- 02, item 8: 'a shared ceiling of 65,536 reactions an instant'
+abbrev pub sharedCeiling : ℕ
+sharedCeiling = 65536
+
+-- what a tick makes of the state record, put where the stretch has it
+abbrev pub stateKept : List ℕ → Outcome → Called
+stateKept s (outcome number state answer) = called number (put stateAt stateLength state s) (answer ∷ [])
+
+-- the tick on the sequence, the state and the read-back set that the bay holds, without ledger and record
+unfoldable pub bayStepOf : (s : List ℕ) (e : ℕ) (answer : List ℕ) → Called
+bayStepOf s e answer = stateKept s (tickOf (sequenceIn s) (stateIn s) e (readBackIn s) answer)
+
+-- 02, item 12: what it delivers to a farm; nothing where it is turned down, and nothing in a wrong instant
+abbrev pub delivering : (s : List ℕ) (e farm : ℕ) → ℕ
+delivering s e = deliveries (sequenceIn s) (readBackIn s) (stateIn s) e
+
+-- an instant adds these litres to the ledger of the bay number; '19, last of all and writing nothing', if 'the exact sum of a farm's
+-- total and its litres would pass 16,777,216'
+abbrev pub charged : (s : List ℕ) (litres : ℕ → ℕ) (answer : List ℕ) → Called → Called
+charged s litres answer (called zero after lent) =
+    cond (passes (ledgerIn s) litres) (called 19 s (answer ∷ [])) (called 0 (withLedger (added litres (ledgerIn s)) after) lent)
+charged s litres answer (called (suc n) after lent) = called (suc n) after lent
+
+unfoldable pub bayChargedOf : (s : List ℕ) (e : ℕ) (answer : List ℕ) → Called
+bayChargedOf s e answer = charged s (delivering s e) answer (bayStepOf s e answer)
+
+-- 02, item 10: an instant is counted, and leaves its number, input, answer and next state in the buffer `trace`; a call turned down
+-- leaves no record
+abbrev pub counted : List ℕ → List ℕ
+counted s = put countAt numberBytes (leBytes numberBytes (following (lastNumberIn s))) s
+
+abbrev pub recorded : (e : ℕ) (trace : List ℕ) → Called → Called
+recorded e trace (called zero s lent) = called 0 (counted s) (first lent ∷ recordOf (following (lastNumberIn s)) e (first lent) (stateIn s) ∷ [])
+recorded e trace (called (suc n) s lent) = called (suc n) s (first lent ∷ trace ∷ [])
+
+unfoldable pub bayTickOf : (s : List ℕ) (e : ℕ) (answer trace : List ℕ) → Called
+bayTickOf s e answer trace =
+    cond (eqb (length trace) recordLength) (recorded e trace (bayChargedOf s e answer)) (called 1 s (answer ∷ trace ∷ []))
+
+unfoldable pub bayReleaseOf : (s : List ℕ) → Called
+bayReleaseOf s = called 0 (vacated s) []
+
+-- an admission: 'if Item 6's ceilings of those present and its own sum to no more'; `present` is what those present have
+abbrev pub byCheck : (present : ℕ) (s : List ℕ) → Terms → Checked → Called
+byCheck present s t (bad number) = called number s []
+byCheck present s t (sound p) =
+    cond (leb (present + ceiling (program (t .readBack) p)) sharedCeiling) (called 0 (filled t (ceiling (program (t .readBack) p)) s) [])
+    (called 14 s [])
+
+unfoldable pub bayAdmitOf : (present : ℕ) (s : List ℕ) → Terms → Called
+bayAdmitOf present s t = byCheck present s t (checked (t .sequence) (t .readBack))
+
+-- ---- positions (02, item 9)
+-- what a call makes of the table, put where the stretch has it
+abbrev pub positionsKept : List ℕ → Kept → Called
+positionsKept s (kept number t) = called number (put positionsAt tableLength t s) []
+
+-- 'the label set of a waiting machine': 15 for one that is not waiting, then 16 for a seventeenth name
+unfoldable pub baySaveOf : (s : List ℕ) (name : ℕ) → Called
+baySaveOf s name =
+    cond (eqb (phaseIn (stateIn s)) 1) (positionsKept s (saveOf name (labelsIn (stateIn s)) (positionsIn s))) (called 15 s [])
+
+unfoldable pub bayForgetOf : (s : List ℕ) (name : ℕ) → Called
+bayForgetOf s name = positionsKept s (forgetOf name (positionsIn s))
+
+-- 'Coming back sets phase and labels', whatever the state was
+abbrev pub restored : List ℕ → Option ℕ → Called
+restored s none = called 15 s []
+restored s (some labels) = called 0 (put stateAt stateLength (stateRecord 1 labels) s) []
+
+unfoldable pub bayRestoreOf : (s : List ℕ) (name : ℕ) → Called
+bayRestoreOf s name = restored s (lookup name (positionsIn s))
+
+-- ---- the readers of a record (02, item 10): any record of 37 bytes; they leave the stretch
+abbrev pub showing : (s : List ℕ) (shown : List ℕ) (viewLength : ℕ) (trace view : List ℕ) → Called
+showing s shown viewLength trace view =
+    cond (eqb (length trace) recordLength && eqb (length view) viewLength) (called 0 s (shown ∷ [])) (called 1 s (view ∷ []))
+
+-- 'The bay's service reader shows the record whole'
+unfoldable pub bayServiceOf : (s trace view : List ℕ) → Called
+bayServiceOf s trace view = showing s trace recordLength trace view
+
+-- 'The bay's panel reader shows .. number, code, inputs and emitted set, with service-only signals cleared in both sets'
+unfoldable pub bayPanelOf : (s trace view : List ℕ) → Called
+bayPanelOf s trace view = showing s (panelOf (serviceOnlyIn s) trace) panelLength trace view
+
+-- ---- a preview (02, item 11): 'The machine stays', and with it the stretch
+abbrev pub stretchKept : List ℕ → Previewed → Called
+stretchKept s (previewed number buffer) = called number s (buffer ∷ [])
+
+unfoldable pub bayPreviewOf : (s : List ℕ) (e unknown : ℕ) (buffer : List ℕ) → Called
+bayPreviewOf s e unknown buffer = stretchKept s (previewOf (sequenceIn s) (stateIn s) e unknown (readBackIn s) buffer)
+
+-- ---- the ledger of the bay number (02, item 12)
+-- 'Reading it writes the 32 totals, then the ledger's total .. into 132 lent bytes'; the stretch stays
+unfoldable pub bayLedgerOf : (s totals : List ℕ) → Called
+bayLedgerOf s totals = cond (eqb (length totals) readingLength) (called 0 s (readingOf (ledgerIn s) ∷ [])) (called 1 s (totals ∷ []))
+
+-- 'cleared only by a call for the new year'
+unfoldable pub bayNewYearOf : (s : List ℕ) → Called
+bayNewYearOf s = called 0 (withLedger Ledgers.cleared s) []

@@ -1,0 +1,12 @@
+pub mod BayCalls
+pub mod BayExamples
+pub mod Called
+pub mod LedgerExamples
+pub mod Ledgers
+pub mod Names
+pub mod PositionExamples
+pub mod Preview
+pub mod PreviewClaims
+pub mod PreviewExamples
+pub mod Stretch
+pub mod Table
