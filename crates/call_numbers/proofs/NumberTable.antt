@@ -24,11 +24,11 @@ use Rattle.spec_tick.specs.Tick.{Reply, tickOf}
 use Rattle.spec_tick.specs.TickRows.{TickRow, row-1, row-2-to-10, row-11, row-12}
 use Rattle.spec_tick.specs.Demands as demands
 use Rattle.theory_tick.proofs.Demand1.{demand-1}
-use Rattle.unrolled.specs.Call as unrolled
-use Rattle.unrolled.specs.Call.{unrollOf}
-use Rattle.unrolled.specs.Rows as unrolled-rows
-use Rattle.unrolled.specs.Rows.{UnrollRow}
-use Rattle.unrolled_theory.proofs.Theorems.{unroll-by-rows}
+use Rattle.spec_unroll.specs.Call as unrolled
+use Rattle.spec_unroll.specs.Call.{unrollOf}
+use Rattle.spec_unroll.specs.Rows as unrolled-rows
+use Rattle.spec_unroll.specs.Rows.{UnrollRow}
+use Rattle.theory_unroll.proofs.Theorems.{unroll-by-rows}
 use Rattle.replays.specs.Replay as replays
 use Rattle.replays.specs.Replay.{replayOf}
 use Rattle.replays.proofs.Numbers.{Verdict, refused, cut, compared, verdict}

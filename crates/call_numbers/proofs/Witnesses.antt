@@ -35,8 +35,8 @@ use Rattle.spec_tick.specs.Demands.{cleared}
 use Rattle.spec_tick.specs.Record.{recordLength, panelLength, panelOf}
 use Rattle.spec_tick.specs.Recording.{following, recordsFrom}
 use Rattle.replays.specs.Replay.{firstRecords, same, firstDifference, placeOf, replayOf}
-use Rattle.unrolled.specs.Unrolled.{copied, unrolled}
-use Rattle.unrolled.specs.Call.{unrollOf}
+use Rattle.spec_unroll.specs.Unrolled.{copied, unrolled}
+use Rattle.spec_unroll.specs.Call.{unrollOf}
 use Rattle.spec_base.specs.Parts.{put, zeros}
 use Rattle.spec_bay.specs.Table.{place, lookup, saveOf, forgetOf}
 use Rattle.spec_bay.specs.Ledgers.{readingLength, totalIn, totalsBytes, wouldPass, addedBelow}

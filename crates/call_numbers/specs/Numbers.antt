@@ -12,8 +12,8 @@ use Rattle.spec_sequence.specs.Check.{checked, checkOf}
 use Rattle.spec_sequence.specs.Ceilings.{ceilingOf}
 use Rattle.spec_tick.specs.Tick.{tickOf}
 use Rattle.spec_tick.specs.Demands as demands
-use Rattle.unrolled.specs.Call as unrolled
-use Rattle.unrolled.specs.Call.{unrollOf}
+use Rattle.spec_unroll.specs.Call as unrolled
+use Rattle.spec_unroll.specs.Call.{unrollOf}
 use Rattle.replays.specs.Replay as replayed
 use Rattle.replays.specs.Replay.{replayOf}
 use Rattle.spec_bay.specs.Called.{number}

@@ -9,7 +9,7 @@ ghost use Rattle.replays.specs.Replay.{replayed, replayOf};
 ghost use Rattle.spec_bay.specs.Called.{called};
 ghost use Rattle.spec_bay.specs.Stretch.{terms};
 ghost use Rattle.box_calls.specs.Box.{admit, release, tick, save, restore, forget, service, panel, preview, ledger, newYear, callOf};
-ghost use Rattle.unrolled.specs.Call.{unrolling, unrollOf};
+ghost use Rattle.spec_unroll.specs.Call.{unrolling, unrollOf};
 use layout::SecondParts;
 use notes::Notes;
 

@@ -19,7 +19,7 @@ use Rattle.layout.specs.Layout.{rest, secondAt, Two, Parts, Form, Lies}
 use Rattle.layout.proofs.Parts.{rest-is}
 use Rattle.commands.specs.declared.Count.{Count}
 use Rattle.commands.specs.Counts.{counted, countOf}
-use Rattle.unrolled.specs.Unrolled.{copied}
+use Rattle.spec_unroll.specs.Unrolled.{copied}
 use Rattle.unroll_call.specs.Putting.{Put, Room, copiedHead, Copyable}
 use Rattle.unroll_call.proofs.Putting.{put-then, room-first, room-then}
 use Rattle.unroll_call.specs.Copying.{Copies, CopyReady, CopyPut, numberIn}

@@ -21,8 +21,8 @@ use Rattle.layout.specs.Notes.{setpausesIn}
 use Rattle.layout.specs.Known.{Known}
 use Rattle.layout.proofs.Laid.{ready}
 use Rattle.checks.specs.Verdict.{Judged}
-use Rattle.unrolled.specs.Unrolled.{unrolled}
-use Rattle.unrolled.specs.Call.{unrolling, fits, ofPlain, ofChecked, unrollOf}
+use Rattle.spec_unroll.specs.Unrolled.{unrolled}
+use Rattle.spec_unroll.specs.Call.{unrolling, fits, ofPlain, ofChecked, unrollOf}
 use Rattle.unroll_call.specs.declared.sizes.Sizes.{Sizes}
 use Rattle.unroll_call.specs.Measured.{Has}
 use Rattle.unroll_call.specs.Putting.{Put, Room}

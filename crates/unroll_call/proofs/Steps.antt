@@ -12,7 +12,7 @@ use Rattle.spec_language.specs.Sizes.{depthOf}
 use Rattle.theory_sequence.proofs.Table.{byteOf}
 use Rattle.layout.specs.Layout.{rest, Parts, Lies, Ready, Pair}
 use Rattle.layout.proofs.Laid.{ready, taken-apart, begins, command}
-use Rattle.unrolled.specs.Unrolled.{copied, unrolled}
+use Rattle.spec_unroll.specs.Unrolled.{copied, unrolled}
 use Rattle.unroll_call.specs.declared.sizes.Sizes.{Sizes}
 use Rattle.unroll_call.specs.Measured.{cappedBytes, cappedDepth, SizesOf, Has, HasTwo, Measured, Few}
 

@@ -14,7 +14,7 @@ use Rattle.theory_sequence.proofs.Table.{byteOf}
 use Rattle.layout.specs.Layout.{rest, secondAt, Parts, Two, Lies, Ready, Pair}
 use Rattle.theory_language.specs.Ranks.{middle}
 use Rattle.layout.proofs.Laid.{ready, taken-apart, begins, command, first-ready, second-ready}
-use Rattle.unrolled.specs.Unrolled.{copied, unrolled}
+use Rattle.spec_unroll.specs.Unrolled.{copied, unrolled}
 use Rattle.unroll_call.specs.Putting.{Put, Room}
 use Rattle.unroll_call.proofs.Putting.{put-then, room-first, room-then}
 use Rattle.unroll_call.specs.Copying.{CopyReady, CopyPut}

@@ -8,7 +8,7 @@ use Rattle.spec_base.specs.Limits.{maxBytes, maxDepth}
 use Rattle.spec_sequence.specs.Writer.{size}
 use Rattle.spec_language.specs.Sizes.{depthOf}
 use Rattle.layout.specs.Layout.{Two, Lies}
-use Rattle.unrolled.specs.Unrolled.{copied, unrolled}
+use Rattle.spec_unroll.specs.Unrolled.{copied, unrolled}
 use Rattle.unroll_call.specs.declared.sizes.Sizes.{Sizes}
 
 abbrev pub cappedBytes : ℕ → ℕ

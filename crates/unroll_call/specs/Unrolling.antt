@@ -5,7 +5,7 @@ use mathlib.Core.List.{List}
 use Rattle.spec_language.specs.Statement.{Statement}
 use Rattle.spec_base.specs.Limits.{maxDepth}
 use Rattle.layout.specs.Layout.{Lies}
-use Rattle.unrolled.specs.Call.{unrolling, ofPlain, unrollOf}
+use Rattle.spec_unroll.specs.Call.{unrolling, ofPlain, unrollOf}
 use Rattle.unroll_call.specs.declared.Result.{Result}
 
 -- number, length and buffer are unrollOf's

@@ -5,7 +5,7 @@ use lib.ListN.{length}
 use Rattle.spec_language.specs.Statement.{Statement}
 use Rattle.layout.specs.Layout.{Two, Lies, Ready, Pair}
 use Rattle.spec_sequence.specs.Writer.{bytesOf}
-use Rattle.unrolled.specs.Unrolled.{copied, unrolled}
+use Rattle.spec_unroll.specs.Unrolled.{copied, unrolled}
 use Rattle.unroll_call.specs.Putting.{Put, Room}
 
 -- a statement worked through

@@ -7,7 +7,7 @@ use mathlib.Core.List.{List, [], _∷_}
 use Rattle.spec_base.specs.Bytes.{leBytes}
 use Rattle.runs.specs.File.{lengthBytes, sequenceIn, readBackIn, whole}
 use Rattle.runs.specs.Text.{inputCut, refusal}
-use Rattle.unrolled.specs.Call.{unrolling, unrollOf}
+use Rattle.spec_unroll.specs.Call.{unrolling, unrollOf}
 use Rattle.unrolled_outputs.specs.Output.{withSequence, output, outputOf}
 
 module _ (file buffer : List ℕ) where

@@ -16,8 +16,8 @@ use Rattle.spec_sequence.specs.Check.{checked}
 use Rattle.spec_base.specs.Bytes.{leBytes, leNumber}
 use Rattle.runs.specs.File.{lengthBytes, readBackAt, sequenceIn, readBackIn, whole}
 use Rattle.runs.specs.Text.{inputCut, refusal, numeralIn, numeral}
-use Rattle.unrolled.specs.Unrolled.{copied, unrolled}
-use Rattle.unrolled.specs.Call.{Unrolling, unrolling, unrollOf}
+use Rattle.spec_unroll.specs.Unrolled.{copied, unrolled}
+use Rattle.spec_unroll.specs.Call.{Unrolling, unrolling, unrollOf}
 
 -- the file with n bytes of a buffer in the place of its sequence
 abbrev pub withSequence : (file : List ℕ) (n : ℕ) (buffer : List ℕ) → List ℕ

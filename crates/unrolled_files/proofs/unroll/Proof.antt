@@ -2,7 +2,7 @@ use Prim.Native.Nat.{ℕ}
 use mathlib.Core.List.{List}
 use mathlib.Core.Path.{sym, ap₂, _∙_}
 use borrow.Author.Tests.{not-true, not-false}
-use Rattle.unrolled.specs.Call.{unrollOf}
+use Rattle.spec_unroll.specs.Call.{unrollOf}
 use Rattle.unrolled_files.proofs.Outputs.{cut-output, written-output, refused-output}
 use borrow.Author.Needs.{needs}
 use Rattle.unrolled_files.proofs.unroll.Statement.{statement}

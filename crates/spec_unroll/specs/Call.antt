@@ -11,7 +11,7 @@ use Rattle.spec_language.specs.LabelTests.{setpauses}
 use Rattle.spec_sequence.specs.Writer.{bytesOf, size}
 use Rattle.spec_language.specs.Sizes.{depthOf}
 use Rattle.spec_sequence.specs.Check.{Checked, sound, bad, checked}
-use Rattle.unrolled.specs.Unrolled.{unrolled}
+use Rattle.spec_unroll.specs.Unrolled.{unrolled}
 
 pub data Unrolling : Type 0 where
   unrolling : (number count : ℕ) (buffer : List ℕ) → Unrolling

@@ -16,12 +16,12 @@ use Rattle.spec_language.specs.States.{active}
 use Rattle.spec_language.specs.Expansion.{expand}
 use Rattle.spec_language.specs.Machines.{Seen, instant, seen, State, stateAfter, byLabels, addsByLabels}
 use Rattle.theory_language.proofs.Places.{Together}
-use Rattle.unrolled.specs.Runs.{Told, told, turnedDown, tells, tellsAll, showsWrong, untilWrong, InEach}
-use Rattle.unrolled.specs.Entries.{at, Counting, OneRun, resuming, AtLoop, beginsAt, AtMostOnce}
-use Rattle.unrolled_theory.proofs.Forms.{Forms}
-use Rattle.unrolled_theory.proofs.Alike.{Alike, fresh-alike, resumed-alike}
-use Rattle.unrolled_theory.proofs.Once.{fresh-once, resumed-once}
-use Rattle.unrolled_theory.proofs.Resumed.{met-active}
+use Rattle.spec_unroll.specs.Runs.{Told, told, turnedDown, tells, tellsAll, showsWrong, untilWrong, InEach}
+use Rattle.spec_unroll.specs.Entries.{at, Counting, OneRun, resuming, AtLoop, beginsAt, AtMostOnce}
+use Rattle.theory_unroll.proofs.Forms.{Forms}
+use Rattle.theory_unroll.proofs.Alike.{Alike, fresh-alike, resumed-alike}
+use Rattle.theory_unroll.proofs.Once.{fresh-once, resumed-once}
+use Rattle.theory_unroll.proofs.Resumed.{met-active}
 
 -- litres of an instant with a code
 abbrev added : Code → ℕ → ℕ

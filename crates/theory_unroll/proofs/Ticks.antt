@@ -30,13 +30,13 @@ use Rattle.spec_tick.specs.Paper.{Call}
 use Rattle.spec_tick.specs.Demands.{stateAfterwards, outcomes, cleared, uncounted}
 use Rattle.spec_tick.specs.Deliveries.{deliveredBy, deliveredIf, deliveries, callDelivers, delivered}
 use Rattle.theory_tick.proofs.Sequence.{same-statement, Accepted, accepted, tick-at, tick-short, recorded-fresh, recorded-resumed}
-use Rattle.unrolled.specs.Unrolled.{unrolled, resultOf}
-use Rattle.unrolled.specs.Rows.{Fits}
-use Rattle.unrolled.specs.Runs.{tickWrong, beforeWrong, SameUntilWrong, SameLitresUntilWrong}
-use Rattle.unrolled_theory.proofs.Forms.{Forms, declared-forms}
-use Rattle.unrolled_theory.proofs.Alike.{Alike, fresh-alike, resumed-alike}
-use Rattle.unrolled_theory.proofs.Labels.{valid-kept}
-use Rattle.unrolled_theory.proofs.Spelled.{out-forms, out-checked}
+use Rattle.spec_unroll.specs.Unrolled.{unrolled, resultOf}
+use Rattle.spec_unroll.specs.Rows.{Fits}
+use Rattle.spec_unroll.specs.Runs.{tickWrong, beforeWrong, SameUntilWrong, SameLitresUntilWrong}
+use Rattle.theory_unroll.proofs.Forms.{Forms, declared-forms}
+use Rattle.theory_unroll.proofs.Alike.{Alike, fresh-alike, resumed-alike}
+use Rattle.theory_unroll.proofs.Labels.{valid-kept}
+use Rattle.theory_unroll.proofs.Spelled.{out-forms, out-checked}
 
 -- ---- one instant: all but the number of reactions is the same, and so are the state after it and the litres it adds
 alike-written : {r r′ : Reaction} {y y′ : ℕ} (x x′ : Option Error) (n n′ : ℕ) → Alike r y r′ y′

@@ -10,11 +10,11 @@ use Rattle.spec_sequence.specs.Check.{checkOf}
 use Rattle.spec_sequence.specs.Rows.{ByRows}
 use Rattle.theory_sequence.proofs.Rows.{check-by-rows}
 use Rattle.theory_tick.proofs.Sequence.{accepted}
-use Rattle.unrolled.specs.Call.{Unrolling, unrolling, number, refused, unrollOf}
-use Rattle.unrolled.specs.Rows.{UnrollRow, row-2-to-10}
-use Rattle.unrolled.specs.Claims.{Written, Unroll, DecidesUnroll}
-use Rattle.unrolled_theory.proofs.Rows as rows
-use Rattle.unrolled_theory.proofs.Results as results
+use Rattle.spec_unroll.specs.Call.{Unrolling, unrolling, number, refused, unrollOf}
+use Rattle.spec_unroll.specs.Rows.{UnrollRow, row-2-to-10}
+use Rattle.spec_unroll.specs.Claims.{Written, Unroll, DecidesUnroll}
+use Rattle.theory_unroll.proofs.Rows as rows
+use Rattle.theory_unroll.proofs.Results as results
 
 one-number : (Holds : ℕ → Type 0) (m n : ℕ) → ByRows m Holds → ByRows n Holds → m ≡ n
 one-number Holds zero n f g = sym (g .acceptance .1 (f .acceptance .0 refl))

@@ -11,7 +11,7 @@ use Rattle.spec_language.specs.Places.{Part, first, second, PartOf, seq₁, seq
 use Rattle.spec_language.specs.States.{active}
 use Rattle.theory_language.proofs.Activity.{active-is, active-part}
 use Rattle.theory_language.proofs.Places.{Together, together-part}
-use Rattle.unrolled.specs.Entries.{at, resuming, AtLoop}
+use Rattle.spec_unroll.specs.Entries.{at, resuming, AtLoop}
 
 active-at : {y : Statement} {a : Place} {p : Statement} (L : ℕ) → At y a p → active y L ≡ true → active p L ≡ true
 active-at L At.here h = h

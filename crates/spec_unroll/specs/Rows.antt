@@ -9,7 +9,7 @@ use Rattle.spec_base.specs.Limits.{maxBytes, maxDepth}
 use Rattle.spec_sequence.specs.Writer.{size}
 use Rattle.spec_language.specs.Sizes.{depthOf}
 use Rattle.spec_sequence.specs.Rows.{Spells, Row}
-use Rattle.unrolled.specs.Unrolled.{unrolled}
+use Rattle.spec_unroll.specs.Unrolled.{unrolled}
 
 pub data UnrollRow (sequence : List ℕ) (readBack : ℕ) (buffer : List ℕ) : (number : ℕ) → Type 0 where
   -- 'another buffer length'

@@ -26,10 +26,10 @@ use Rattle.spec_tick.specs.AnswerRecord.{answerLength, codeIn, encodeAnswer}
 use Rattle.spec_tick.specs.Tick.{Outcome, tickBy}
 use Rattle.spec_tick.specs.Paper.{Call}
 use Rattle.spec_tick.specs.Demands.{answerAfterwards, outcomes}
-use Rattle.unrolled.specs.Unrolled.{copied, unrolled}
-use Rattle.unrolled.specs.Rows.{Fits}
-use Rattle.unrolled.specs.Runs.{beforeWrong, SameUntilWrong}
-use Rattle.unrolled_theory.proofs.Rows.{plain-test, fits-test}
+use Rattle.spec_unroll.specs.Unrolled.{copied, unrolled}
+use Rattle.spec_unroll.specs.Rows.{Fits}
+use Rattle.spec_unroll.specs.Runs.{beforeWrong, SameUntilWrong}
+use Rattle.theory_unroll.proofs.Rows.{plain-test, fits-test}
 
 -- signal 0 in present 0 then emit 0 else a loop around emit 0 and then a try, in which a loop errs before an exit
 abbrev hiding : Statement

@@ -18,22 +18,22 @@ use Rattle.spec_sequence.specs.Program.{readBackSignals, program}
 use Rattle.spec_sequence.specs.Check.{sound, checked, checkOf}
 use Rattle.spec_sequence.specs.Rows.{Spells, ByRows}
 use Rattle.spec_tick.specs.Tick.{tickBy, tickOf}
-use Rattle.unrolled.specs.Unrolled.{unrolled, resultOf}
-use Rattle.unrolled.specs.Call.{unrolling, number, refused, unrollOf}
-use Rattle.unrolled.specs.Rows.{UnrollRow, Fits}
-use Rattle.unrolled.specs.Runs.{SameUntilWrong, SameLitresUntilWrong, tellsAll, showsWrong, untilWrong, InEach}
-use Rattle.unrolled.specs.Entries.{Counting, chosenRun, anyRun, bothRuns, OneRun, everywhere, reacting, carried, AtLoop, Stands, Origin, beginsAt, AtMostOnce}
-use Rattle.unrolled.specs.Claims.{Written, Unroll, DecidesUnroll}
-use Rattle.unrolled_theory.proofs.Forms.{Forms, declared-forms}
-use Rattle.unrolled_theory.proofs.Marked as marked
-use Rattle.unrolled_theory.proofs.Labels as labels
-use Rattle.unrolled_theory.proofs.Runs as runs
-use Rattle.unrolled_theory.proofs.Spelled as spelled
-use Rattle.unrolled_theory.proofs.Ticks as ticks
-use Rattle.unrolled_theory.proofs.Printed as by-printed
-use Rattle.unrolled_theory.proofs.Rows as rows
-use Rattle.unrolled_theory.proofs.Results as results
-use Rattle.unrolled_theory.proofs.Decided as decided
+use Rattle.spec_unroll.specs.Unrolled.{unrolled, resultOf}
+use Rattle.spec_unroll.specs.Call.{unrolling, number, refused, unrollOf}
+use Rattle.spec_unroll.specs.Rows.{UnrollRow, Fits}
+use Rattle.spec_unroll.specs.Runs.{SameUntilWrong, SameLitresUntilWrong, tellsAll, showsWrong, untilWrong, InEach}
+use Rattle.spec_unroll.specs.Entries.{Counting, chosenRun, anyRun, bothRuns, OneRun, everywhere, reacting, carried, AtLoop, Stands, Origin, beginsAt, AtMostOnce}
+use Rattle.spec_unroll.specs.Claims.{Written, Unroll, DecidesUnroll}
+use Rattle.theory_unroll.proofs.Forms.{Forms, declared-forms}
+use Rattle.theory_unroll.proofs.Marked as marked
+use Rattle.theory_unroll.proofs.Labels as labels
+use Rattle.theory_unroll.proofs.Runs as runs
+use Rattle.theory_unroll.proofs.Spelled as spelled
+use Rattle.theory_unroll.proofs.Ticks as ticks
+use Rattle.theory_unroll.proofs.Printed as by-printed
+use Rattle.theory_unroll.proofs.Rows as rows
+use Rattle.theory_unroll.proofs.Results as results
+use Rattle.theory_unroll.proofs.Decided as decided
 
 -- ---- the call
 module _ (sequence : List ℕ) (readBack : ℕ) (buffer : List ℕ) where

@@ -11,7 +11,7 @@ use Rattle.spec_language.specs.Places.{Part, second, PartOf, seq₁, seq₂, pa
 use Rattle.spec_language.specs.Reactions.{reactionsBy, reactions}
 use Rattle.spec_language.specs.States.{active}
 use Rattle.spec_language.specs.Expansion.{expand}
-use Rattle.unrolled.specs.Entries.{Marks, nowhere, everywhere, marks, own, inFirst, inSecond, chosen, chosenRun, anyRun, bothRuns, OneRun, reacting, carried, Stands, Origin}
+use Rattle.spec_unroll.specs.Entries.{Marks, nowhere, everywhere, marks, own, inFirst, inSecond, chosen, chosenRun, anyRun, bothRuns, OneRun, reacting, carried, Stands, Origin}
 
 pub all-reactions : (p : Statement) (e : ℕ) → reacting bothRuns p e everywhere ≡ reactions p e
 unfolding reacting reactionsBy

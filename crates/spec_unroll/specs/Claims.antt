@@ -12,11 +12,11 @@ use Rattle.spec_sequence.specs.Program.{program}
 use Rattle.spec_sequence.specs.Check.{checkOf}
 use Rattle.spec_sequence.specs.Rows.{Spells, ByRows}
 use Rattle.spec_tick.specs.Tick.{tickOf}
-use Rattle.unrolled.specs.Unrolled.{unrolled, resultOf}
-use Rattle.unrolled.specs.Call.{Unrolling, unrolling, number, refused}
-use Rattle.unrolled.specs.Rows.{UnrollRow}
-use Rattle.unrolled.specs.Runs.{SameUntilWrong, SameLitresUntilWrong, showsWrong}
-use Rattle.unrolled.specs.Entries.{Counting, OneRun, AtMostOnce}
+use Rattle.spec_unroll.specs.Unrolled.{unrolled, resultOf}
+use Rattle.spec_unroll.specs.Call.{Unrolling, unrolling, number, refused}
+use Rattle.spec_unroll.specs.Rows.{UnrollRow}
+use Rattle.spec_unroll.specs.Runs.{SameUntilWrong, SameLitresUntilWrong, showsWrong}
+use Rattle.spec_unroll.specs.Entries.{Counting, OneRun, AtMostOnce}
 
 -- the result's length is n, and the buffer `out` afterwards
 pub record Written (sequence : List ℕ) (readBack : ℕ) (buffer : List ℕ) (n : ℕ) (out : List ℕ) : Type 0 where

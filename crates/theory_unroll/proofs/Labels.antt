@@ -15,8 +15,8 @@ use Rattle.spec_language.specs.States.{Holds, Valid, Distinct, Targeted, NoSetp
 use Rattle.spec_language.specs.LabelTests.{labelsOf, pauses, setpauses, triggers, distinct, targeted, ifMember, before, exclusiveWith, concurrentWith, exclusive, wellFormed, valid}
 use Rattle.theory_language.proofs.LabelSets.{triggers-are}
 use Rattle.theory_language.proofs.LabelTests.{pauses-is, setpauses-is, targeted-is, distinct-is, exclusive-is, Unmixed, unmixed-is, wellFormed-is, noSetpause-formed, valid-is}
-use Rattle.unrolled_theory.proofs.Forms.{Forms}
-use Rattle.unrolled_theory.proofs.Alike.{copy-pauses, pauses-same}
+use Rattle.theory_unroll.proofs.Forms.{Forms}
+use Rattle.theory_unroll.proofs.Alike.{copy-pauses, pauses-same}
 
 no-two : (s : ℕ) → join none (join none s) ≡ s
 no-two s = join-none-l (join none s) ∙ join-none-l s

@@ -19,9 +19,9 @@ use Rattle.spec_sequence.specs.Rows.{Spells}
 use Rattle.theory_sequence.proofs.Writer.{reads-what-is-written}
 use Rattle.theory_sequence.proofs.Extents.{few-signals}
 use Rattle.theory_sequence.proofs.Rows.{Decides, decided}
-use Rattle.unrolled.specs.Unrolled.{unrolled, placed, resultOf}
-use Rattle.unrolled_theory.proofs.Forms.{Forms, unrolled-forms, declared-forms}
-use Rattle.unrolled_theory.proofs.Labels.{nesting-same, distinct-same, targeted-test, wellFormed-test}
+use Rattle.spec_unroll.specs.Unrolled.{unrolled, placed, resultOf}
+use Rattle.theory_unroll.proofs.Forms.{Forms, unrolled-forms, declared-forms}
+use Rattle.theory_unroll.proofs.Labels.{nesting-same, distinct-same, targeted-test, wellFormed-test}
 
 -- ---- places change no byte, no depth and no range
 pub bytes-placed : (p : Statement) (a : ℕ) → bytesOf (placed a p) ≡ bytesOf p

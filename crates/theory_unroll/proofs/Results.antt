@@ -16,16 +16,16 @@ use Rattle.spec_sequence.specs.Check.{sound, checked, numberOf, checkOf}
 use Rattle.spec_sequence.specs.Rows.{Spells}
 use Rattle.theory_sequence.proofs.Rows.{row-range}
 use Rattle.theory_tick.proofs.Sequence.{same-statement}
-use Rattle.unrolled.specs.Unrolled.{unrolled, resultOf}
-use Rattle.unrolled.specs.Call.{Unrolling, unrolling, unrollOf}
-use Rattle.unrolled.specs.Runs.{showsWrong}
-use Rattle.unrolled.specs.Entries.{Counting, OneRun, AtMostOnce}
-use Rattle.unrolled.specs.Claims.{Written}
-use Rattle.unrolled_theory.proofs.Forms.{declared-forms}
-use Rattle.unrolled_theory.proofs.Runs.{tick-once}
-use Rattle.unrolled_theory.proofs.Spelled.{out-forms, out-spelled, out-checked}
-use Rattle.unrolled_theory.proofs.Rows.{Comes, comes-1, comes-2-to-10, comes-20, comes-21, comes-result, comes}
-use Rattle.unrolled_theory.proofs.Ticks.{ticks-same, litres-same}
+use Rattle.spec_unroll.specs.Unrolled.{unrolled, resultOf}
+use Rattle.spec_unroll.specs.Call.{Unrolling, unrolling, unrollOf}
+use Rattle.spec_unroll.specs.Runs.{showsWrong}
+use Rattle.spec_unroll.specs.Entries.{Counting, OneRun, AtMostOnce}
+use Rattle.spec_unroll.specs.Claims.{Written}
+use Rattle.theory_unroll.proofs.Forms.{declared-forms}
+use Rattle.theory_unroll.proofs.Runs.{tick-once}
+use Rattle.theory_unroll.proofs.Spelled.{out-forms, out-spelled, out-checked}
+use Rattle.theory_unroll.proofs.Rows.{Comes, comes-1, comes-2-to-10, comes-20, comes-21, comes-result, comes}
+use Rattle.theory_unroll.proofs.Ticks.{ticks-same, litres-same}
 
 accepted-by : (bs : List ℕ) (readBack : ℕ) {p : Statement} → checked bs readBack ≡ sound p → checkOf bs readBack ≡ 0
 unfolding checkOf

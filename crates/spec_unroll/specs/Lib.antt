@@ -1,7 +1,7 @@
-pub mod Unrolled
 pub mod Call
+pub mod Claims
+pub mod Entries
 pub mod Rows
 pub mod Runs
-pub mod Entries
-pub mod Claims
+pub mod Unrolled
 pub mod Worked

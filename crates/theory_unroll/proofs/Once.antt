@@ -13,9 +13,9 @@ use Rattle.spec_language.specs.Errors.{ifEnded}
 use Rattle.spec_language.specs.States.{active}
 use Rattle.spec_language.specs.Expansion.{expand, ifActive}
 use Rattle.spec_language.specs.LabelTests.{activeLabels}
-use Rattle.unrolled.specs.Entries.{Marks, nowhere, marks, own, inFirst, inSecond, at, Counting, OneRun, one, reacting, carried, resuming}
-use Rattle.unrolled_theory.proofs.Forms.{Forms}
-use Rattle.unrolled_theory.proofs.Alike.{Alike, RunsAlike, copy-follows, copy-inactive}
+use Rattle.spec_unroll.specs.Entries.{Marks, nowhere, marks, own, inFirst, inSecond, at, Counting, OneRun, one, reacting, carried, resuming}
+use Rattle.theory_unroll.proofs.Forms.{Forms}
+use Rattle.theory_unroll.proofs.Alike.{Alike, RunsAlike, copy-follows, copy-inactive}
 
 -- ---- a count of marked commands that takes each command at most once
 pub record Once (f : Marks → ℕ) : Type 0 where

@@ -28,11 +28,11 @@ use Rattle.spec_tick.specs.StateRecord.{decodeState, encodeState}
 use Rattle.spec_tick.specs.AnswerRecord.{answerLength, encodeAnswer}
 use Rattle.spec_tick.specs.Tick.{tickBy, tickOf}
 use Rattle.spec_tick.specs.Demands.{cleared}
-use Rattle.unrolled.specs.Unrolled.{copied, unrolled, placed, resultOf}
-use Rattle.unrolled.specs.Call.{Unrolling, unrolling, number, ofStatement, unrollOf}
-use Rattle.unrolled.specs.Claims.{Unroll, DecidesUnroll}
-use Rattle.unrolled.specs.Runs.{beforeWrong, untilWrong}
-use Rattle.unrolled.specs.Entries.{at, chosenRun, bothRuns, OneRun, reacting, carried, resuming, reactsAt, entersAt}
+use Rattle.spec_unroll.specs.Unrolled.{copied, unrolled, placed, resultOf}
+use Rattle.spec_unroll.specs.Call.{Unrolling, unrolling, number, ofStatement, unrollOf}
+use Rattle.spec_unroll.specs.Claims.{Unroll, DecidesUnroll}
+use Rattle.spec_unroll.specs.Runs.{beforeWrong, untilWrong}
+use Rattle.spec_unroll.specs.Entries.{at, chosenRun, bothRuns, OneRun, reacting, carried, resuming, reactsAt, entersAt}
 
 -- ---- what is written
 -- 06 01 00 becomes 06 04 0A 00 01 00

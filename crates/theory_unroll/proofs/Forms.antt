@@ -5,7 +5,7 @@ use mathlib.Core.List.{List, [], _∷_}
 use Rattle.spec_language.specs.Statement.{Scope, Value, Statement}
 use Rattle.spec_language.specs.ReadBack.{declaredBy, declared}
 use Rattle.spec_sequence.specs.Writer.{size}
-use Rattle.unrolled.specs.Unrolled.{copied, unrolled, placed}
+use Rattle.spec_unroll.specs.Unrolled.{copied, unrolled, placed}
 
 -- `Forms true p q`: q is p copied; `Forms false p q`: q is p worked through; places play no part
 pub data Forms : Bool → Statement → Statement → Type 0 where

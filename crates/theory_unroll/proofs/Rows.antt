@@ -24,9 +24,9 @@ use Rattle.spec_sequence.specs.Rows.{rank, ByRows}
 use Rattle.theory_sequence.proofs.ByRows.{rank-least, refused-by, accepted-by}
 use Rattle.theory_sequence.proofs.Rows.{Decides, decided, row-range, row-rank}
 use Rattle.theory_tick.proofs.Sequence.{same-statement}
-use Rattle.unrolled.specs.Unrolled.{unrolled}
-use Rattle.unrolled.specs.Call.{Unrolling, number, refused, written, fits, ofPlain, ofStatement, ofChecked, unrollOf}
-use Rattle.unrolled.specs.Rows.{UnrollRow, row-1, row-2-to-10, row-20, row-21, Fits}
+use Rattle.spec_unroll.specs.Unrolled.{unrolled}
+use Rattle.spec_unroll.specs.Call.{Unrolling, number, refused, written, fits, ofPlain, ofStatement, ofChecked, unrollOf}
+use Rattle.spec_unroll.specs.Rows.{UnrollRow, row-1, row-2-to-10, row-20, row-21, Fits}
 
 -- ---- a setpause, or none
 pub plain-test : (p : Statement) → empty (setpauses p) ≡ true → NoSetpause p

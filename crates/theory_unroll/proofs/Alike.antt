@@ -13,7 +13,7 @@ use Rattle.spec_language.specs.States.{active}
 use Rattle.spec_language.specs.Expansion.{expand}
 use Rattle.spec_language.specs.LabelTests.{labelsOf, pauses, activeLabels}
 use Rattle.spec_language.specs.Litres.{brought, chosen, passing, deliveredBy, delivered}
-use Rattle.unrolled_theory.proofs.Forms.{Forms}
+use Rattle.theory_unroll.proofs.Forms.{Forms}
 
 -- ---- the invariant: two reactions and the litres of a farm in each are the same but for the residual, or the first is wrong
 pub data Alike : Reaction → ℕ → Reaction → ℕ → Type 0 where

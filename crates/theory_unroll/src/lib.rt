@@ -1,0 +1,1 @@
+// The theorems about loops written out (02, item 13).
