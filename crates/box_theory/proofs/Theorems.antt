@@ -22,8 +22,8 @@ use Rattle.spec_tick.specs.Paper.{paper}
 use Rattle.spec_tick.specs.Deliveries.{paperDelivered}
 use Rattle.spec_tick.specs.Record.{recordLength, panelLength}
 use Rattle.spec_tick.specs.Recording.{callOn, recordingOf, joined, Inputs}
-use Rattle.replays.specs.Replay.{replayed, replayOf}
-use Rattle.replays.proofs.Theorems.{accepts-recordings}
+use Rattle.spec_replay.specs.Replay.{replayed, replayOf}
+use Rattle.theory_replay.proofs.Theorems.{accepts-recordings}
 use Rattle.spec_bay.specs.Names.{find}
 use Rattle.spec_bay.specs.Table.{lookup}
 use Rattle.spec_bay.specs.Ledgers.{farmCount, readingLength, totalIn}

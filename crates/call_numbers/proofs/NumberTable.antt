@@ -29,9 +29,9 @@ use Rattle.spec_unroll.specs.Call.{unrollOf}
 use Rattle.spec_unroll.specs.Rows as unrolled-rows
 use Rattle.spec_unroll.specs.Rows.{UnrollRow}
 use Rattle.theory_unroll.proofs.Theorems.{unroll-by-rows}
-use Rattle.replays.specs.Replay as replays
-use Rattle.replays.specs.Replay.{replayOf}
-use Rattle.replays.proofs.Numbers.{Verdict, refused, cut, compared, verdict}
+use Rattle.spec_replay.specs.Replay as replays
+use Rattle.spec_replay.specs.Replay.{replayOf}
+use Rattle.theory_replay.proofs.Numbers.{Verdict, refused, cut, compared, verdict}
 use Rattle.spec_base.specs.Parts.{zeros}
 use Rattle.numbers.proofs.Zeros.{length-zeros}
 use Rattle.spec_bay.specs.Table.{lookup, Kept, kept, numberKept, saveOf, forgetOf}

@@ -34,7 +34,7 @@ use Rattle.spec_tick.specs.Tick.{tickBy}
 use Rattle.spec_tick.specs.Demands.{cleared}
 use Rattle.spec_tick.specs.Record.{recordLength, panelLength, panelOf}
 use Rattle.spec_tick.specs.Recording.{following, recordsFrom}
-use Rattle.replays.specs.Replay.{firstRecords, same, firstDifference, placeOf, replayOf}
+use Rattle.spec_replay.specs.Replay.{firstRecords, same, firstDifference, placeOf, replayOf}
 use Rattle.spec_unroll.specs.Unrolled.{copied, unrolled}
 use Rattle.spec_unroll.specs.Call.{unrollOf}
 use Rattle.spec_base.specs.Parts.{put, zeros}

@@ -14,8 +14,8 @@ use Rattle.spec_tick.specs.Tick.{tickOf}
 use Rattle.spec_tick.specs.Demands as demands
 use Rattle.spec_unroll.specs.Call as unrolled
 use Rattle.spec_unroll.specs.Call.{unrollOf}
-use Rattle.replays.specs.Replay as replayed
-use Rattle.replays.specs.Replay.{replayOf}
+use Rattle.spec_replay.specs.Replay as replayed
+use Rattle.spec_replay.specs.Replay.{replayOf}
 use Rattle.spec_bay.specs.Called.{number}
 use Rattle.spec_bay.specs.Stretch.{Terms}
 use Rattle.box_calls.specs.Box.{emptyBox, admit, release, tick, save, restore, forget, service, panel, preview, ledger, newYear, callOf}

@@ -5,7 +5,7 @@ ghost use mathlib.Core.List.{[], _∷_};
 ghost use Rattle.spec_sequence.specs.Check.{checked, checkOf};
 ghost use Rattle.spec_sequence.specs.Ceilings.{ceilingOf};
 ghost use Rattle.spec_tick.specs.Demands.{TickMeets};
-ghost use Rattle.replays.specs.Replay.{replayed, replayOf};
+ghost use Rattle.spec_replay.specs.Replay.{replayed, replayOf};
 ghost use Rattle.spec_bay.specs.Called.{called};
 ghost use Rattle.spec_bay.specs.Stretch.{terms};
 ghost use Rattle.box_calls.specs.Box.{admit, release, tick, save, restore, forget, service, panel, preview, ledger, newYear, callOf};

@@ -9,7 +9,7 @@ use lib.ListN.{length, getD, drop, drop-of-length-le}
 use lib.Dec.{eqb}
 use lib.Seq.{drop-cons}
 use borrow.Author.Tests.{eq-eqb, ne-eqb}
-use Rattle.replays.specs.Replay.{same}
+use Rattle.spec_replay.specs.Replay.{same}
 
 pub other-length : (x y : List ℕ) → length y ≢ length x → false ≡ same x y
 unfolding same

@@ -20,7 +20,7 @@ use Rattle.instants.specs.declared.Standing.the-variants as stands
 use Rattle.spec_tick.specs.Record.{recordLength, recordOf}
 use Rattle.spec_tick.specs.Recording.{recordFrom}
 use Rattle.records.proofs.Records.{record-sized}
-use Rattle.replays.proofs.Recordings.{Sized}
+use Rattle.theory_replay.proofs.Recordings.{Sized}
 use Rattle.replay_call.specs.Comparing.{RankedAfter, StandsAfter}
 
 -- ---- the record that an instant leaves

@@ -34,7 +34,7 @@ use Rattle.instants.specs.Replies.{Decodes, repliedFrom, Replies}
 use Rattle.instants.proofs.Replying.{replied-from, malformed-reply, over-reply, fresh-reply, waiting-reply}
 use Rattle.spec_tick.specs.Record.{inputIn}
 use Rattle.spec_tick.specs.Recording.{blank, tickOn, recordFrom}
-use Rattle.replays.specs.Replay.{same}
+use Rattle.spec_replay.specs.Replay.{same}
 use Rattle.replay_call.specs.declared.Next.{Next}
 use Rattle.replay_call.specs.declared.Next.the-variants.{Differs, Stands}
 use Rattle.replay_call.specs.Comparing.{RankedAfter, Compared}

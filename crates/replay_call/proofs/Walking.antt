@@ -17,7 +17,7 @@ use Rattle.spec_tick.specs.Tick.{Outcome}
 use Rattle.spec_tick.specs.Demands.{number, stateAfterwards}
 use Rattle.spec_tick.specs.Record.{recordLength, inputIn}
 use Rattle.spec_tick.specs.Recording.{following, tickOn, recordFrom, recordsFrom}
-use Rattle.replays.specs.Replay.{firstRecords, same, firstDifference, placeOf}
+use Rattle.spec_replay.specs.Replay.{firstRecords, same, firstDifference, placeOf}
 use Rattle.instants.specs.declared.Standing.{Standing}
 use Rattle.instants.specs.declared.Standing.the-variants as stands
 use Rattle.replay_call.specs.declared.Next.the-variants.{Differs, Stands}

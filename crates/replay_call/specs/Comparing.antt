@@ -13,7 +13,7 @@ use Rattle.instants.specs.Written.{writtenFrom}
 use Rattle.instants.specs.declared.Standing.{Standing}
 use Rattle.instants.specs.declared.Standing.the-variants as stands
 use Rattle.spec_tick.specs.Recording.{recordFrom}
-use Rattle.replays.specs.Replay.{same}
+use Rattle.spec_replay.specs.Replay.{same}
 use Rattle.replay_call.specs.declared.Next.{Next}
 use Rattle.replay_call.specs.declared.Next.the-variants.{Differs, Stands}
 

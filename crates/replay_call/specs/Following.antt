@@ -14,7 +14,7 @@ use Rattle.spec_tick.specs.Tick.{Outcome}
 use Rattle.spec_tick.specs.Demands.{number, stateAfterwards}
 use Rattle.spec_tick.specs.Record.{inputIn}
 use Rattle.spec_tick.specs.Recording.{tickOn, recordFrom, recordsFrom}
-use Rattle.replays.specs.Replay.{firstRecords, same, firstDifference}
+use Rattle.spec_replay.specs.Replay.{firstRecords, same, firstDifference}
 use Rattle.replay_call.specs.declared.Next.{Next}
 use Rattle.replay_call.specs.declared.Next.the-variants.{Differs, Stands}
 

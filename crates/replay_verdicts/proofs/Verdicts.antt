@@ -8,7 +8,7 @@ use lib.ListN.{length, take, drop, length-drop}
 use lib.Seq.{take-all}
 use borrow.Author.Tests.{le-leb, lt-leb}
 use Rattle.spec_tick.specs.Record.{recordLength}
-use Rattle.replays.specs.Replay.{replayed, replayOf}
+use Rattle.spec_replay.specs.Replay.{replayed, replayOf}
 use Rattle.runs.specs.Text.{inputCut, refusal}
 use Rattle.runs.specs.File.{inputsAt, sequenceIn, readBackIn}
 use Rattle.replay_verdicts.specs.Verdict.{maxFile, recordingIn, acceptance, difference, said, verdictOf}

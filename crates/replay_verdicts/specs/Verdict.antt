@@ -6,7 +6,7 @@ use mathlib.Core.List.{List, [], _∷_, _++_}
 use lib.ListN.{length, drop}
 use lib.Dec.{leb}
 use Rattle.spec_tick.specs.Record.{recordLength}
-use Rattle.replays.specs.Replay.{Replayed, replayed, replayOf}
+use Rattle.spec_replay.specs.Replay.{Replayed, replayed, replayOf}
 use Rattle.runs.specs.Text.{numeral, space, newline, inputCut, refusal}
 use Rattle.runs.specs.File.{inputsAt, sequenceIn, readBackIn}
 

@@ -2,7 +2,7 @@ use mathlib.Core.Path.{refl, sym, ap, _∙_}
 use lib.ListN.{replicate}
 use borrow.Author.Needs.{needs}
 use Rattle.spec_tick.specs.Record.{recordLength}
-use Rattle.replays.specs.Replay.{same}
+use Rattle.spec_replay.specs.Replay.{same}
 use Rattle.replay_call.proofs.Comparing.{record-made}
 use Rattle.replay_call.proofs.compare.Statement.{statement}
 use Rattle.replay_call.proofs.compare.Tie as tie

@@ -7,7 +7,7 @@ use Rattle.spec_language.specs.Machines.{State}
 use Rattle.checks.specs.Verdict.{Passed}
 use Rattle.spec_tick.specs.StateRecord.{encodeState}
 use Rattle.spec_tick.specs.Record.{recordLength}
-use Rattle.replays.specs.Replay.{placeOf}
+use Rattle.spec_replay.specs.Replay.{placeOf}
 use Rattle.replay_call.specs.Following.{Holds, FollowsFrom, placeFrom}
 use Rattle.replay_call.proofs.Walking.{begin, begins, finished, stopped, turned}
 use Rattle.replay_call.proofs.first_difference.Statement.{statement}

@@ -1,7 +1,7 @@
 use mathlib.Core.Path.{sym, ap, _∙_}
 use Rattle.checks.proofs.Passing.{passed}
-use Rattle.replays.specs.Replay.{replayed}
-use Rattle.replays.proofs.Numbers.{refused-replay, cut-replay, placed-replay}
+use Rattle.spec_replay.specs.Replay.{replayed}
+use Rattle.theory_replay.proofs.Numbers.{refused-replay, cut-replay, placed-replay}
 use borrow.Author.Needs.{needs}
 use Rattle.replay_call.proofs.replay.Statement.{statement}
 use Rattle.replay_call.proofs.replay.Tie as tie

@@ -3,7 +3,7 @@ use native.Mathlib.Omega.{arith}
 use mathlib.Core.Path.{_≡_, refl}
 use lib.ListN.{drop}
 use borrow.Author.Needs.{needs}
-use Rattle.replays.specs.Replay.{same}
+use Rattle.spec_replay.specs.Replay.{same}
 use Rattle.replay_call.proofs.Bytes.{other-length, same-differs, same-step, same-end}
 use Rattle.replay_call.proofs.same.Statement.{statement}
 use Rattle.replay_call.proofs.same.Tie as tie

@@ -24,8 +24,8 @@ use Rattle.theory_tick.proofs.Theorems.{demand-1}
 use Rattle.spec_tick.specs.Record.{recordLength, inputIn, stateIn}
 use Rattle.spec_tick.specs.Recording.{following, blank, tickOn, recordFrom, recordsFrom, recordingOf, joined, Inputs}
 use Rattle.records.proofs.Records.{record-sized, input-field, state-field}
-use Rattle.replays.specs.Replay.{firstRecords, recordsIn, inputsIn, placeOf}
-use Rattle.replays.proofs.Differences.{none-differs, alike}
+use Rattle.spec_replay.specs.Replay.{firstRecords, recordsIn, inputsIn, placeOf}
+use Rattle.theory_replay.proofs.Differences.{none-differs, alike}
 
 -- every record has 37 bytes
 abbrev Whole : List (List ℕ) → Type 0

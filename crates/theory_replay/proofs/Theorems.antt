@@ -8,16 +8,16 @@ use mathlib.Core.Option.{some, Option·none-ne-some}
 use mathlib.Core.List.{List, [], _∷_, map}
 use lib.ListN.{length, getElem?}
 use Rattle.spec_tick.specs.Recording.{recordsFrom, recordingOf, joined}
-use Rattle.replays.specs.Replay.{firstRecords, recordsIn, inputsIn, placeOf, Replayed, replayed, number, place, replayOf}
-use Rattle.replays.specs.Claims.{Replay, Refuses, TwentyTwo, NoPlace, Accepts, Differs, EmptyAccepted, NothingAfterTheEnd, AcceptsRecordings, ByPaper, DecidesReplay, ReplayDemands}
-use Rattle.replays.specs.Worked.{Case, cases}
-use Rattle.replays.proofs.Differences.{first-differs}
-use Rattle.replays.proofs.Recordings as recordings
-use Rattle.replays.proofs.Numbers as numbers
-use Rattle.replays.proofs.Paper as paper
-use Rattle.replays.specs.Replacements.{acceptsAfterTheEnd}
-use Rattle.replays.proofs.Replacements as wrong
-use Rattle.replays.proofs.Worked as by-hand
+use Rattle.spec_replay.specs.Replay.{firstRecords, recordsIn, inputsIn, placeOf, Replayed, replayed, number, place, replayOf}
+use Rattle.spec_replay.specs.ReplayClaims.{Replay, Refuses, TwentyTwo, NoPlace, Accepts, Differs, EmptyAccepted, NothingAfterTheEnd, AcceptsRecordings, ByPaper, DecidesReplay, ReplayDemands}
+use Rattle.spec_replay.specs.ReplayExamples.{Case, cases}
+use Rattle.theory_replay.proofs.Differences.{first-differs}
+use Rattle.theory_replay.proofs.Recordings as recordings
+use Rattle.theory_replay.proofs.Numbers as numbers
+use Rattle.theory_replay.proofs.Paper as paper
+use Rattle.theory_replay.specs.Replacements.{acceptsAfterTheEnd}
+use Rattle.theory_replay.proofs.Replacements as wrong
+use Rattle.spec_replay.proofs.ReplayExamples as by-hand
 
 -- an index below the length has a record
 getElem?-some : (l : List (List ℕ)) (i : ℕ) → i < length l → (r : List ℕ) × (getElem? l i ≡ some r)

@@ -10,8 +10,8 @@ use mathlib.Core.List.{List, [], _∷_}
 use lib.ListN.{length}
 use lib.Dec.{eqb}
 use borrow.Author.Tests.{eq-eqb, eqb-true}
-use Rattle.replays.specs.Replay.{same, firstDifference}
-use Rattle.replays.specs.Claims.{SameAt, DiffersFirst}
+use Rattle.spec_replay.specs.Replay.{same, firstDifference}
+use Rattle.spec_replay.specs.ReplayClaims.{SameAt, DiffersFirst}
 
 -- ---- two records
 

@@ -20,9 +20,9 @@ use Rattle.spec_tick.specs.AnswerRecord.{answerRecord, encodeAnswer}
 use Rattle.spec_tick.specs.Tick.{tickBy}
 use Rattle.spec_tick.specs.Record.{recordOf}
 use Rattle.spec_tick.specs.Recording.{following, recordsFrom, recordingOf}
-use Rattle.replays.specs.Replay.{firstRecords, same, recordsIn, inputsIn, replayed, place}
-use Rattle.replays.specs.Claims.{SameAt, NothingAfterTheEnd}
-use Rattle.replays.specs.Replacements.{firstUpToTheEnd, acceptsAfterTheEnd}
+use Rattle.spec_replay.specs.Replay.{firstRecords, same, recordsIn, inputsIn, replayed, place}
+use Rattle.spec_replay.specs.ReplayClaims.{SameAt, NothingAfterTheEnd}
+use Rattle.theory_replay.specs.Replacements.{firstUpToTheEnd, acceptsAfterTheEnd}
 
 abbrev ends : (number : ℕ) → List ℕ
 ends number = recordOf number 0 (answerRecord 0 0 0 none 1) (stateRecord 2 none)

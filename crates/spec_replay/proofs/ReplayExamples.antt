@@ -17,8 +17,8 @@ use Rattle.spec_tick.specs.StateRecord.{encodeState, decodeState}
 use Rattle.spec_tick.specs.AnswerRecord.{encodeAnswer}
 use Rattle.spec_tick.specs.Tick.{tickBy}
 use Rattle.spec_tick.specs.Recording.{following, recordsFrom}
-use Rattle.replays.specs.Replay.{firstRecords, same, firstDifference, placeOf, replayOf}
-use Rattle.replays.specs.Worked.{Case, cases}
+use Rattle.spec_replay.specs.Replay.{firstRecords, same, firstDifference, placeOf, replayOf}
+use Rattle.spec_replay.specs.ReplayExamples.{Case, cases}
 
 -- WORKED: each row of the table
 pub worked : map (λ (c : Case). replayOf (c .sequence) (c .readBack) (c .recording)) cases ≡ map (λ (c : Case). c .shows) cases

@@ -6,7 +6,7 @@ use Rattle.spec_base.specs.Sets.{none}
 use Rattle.spec_tick.specs.StateRecord.{stateRecord}
 use Rattle.spec_tick.specs.AnswerRecord.{answerRecord}
 use Rattle.spec_tick.specs.Record.{recordOf}
-use Rattle.replays.specs.Replay.{Replayed, replayed}
+use Rattle.spec_replay.specs.Replay.{Replayed, replayed}
 
 pub record Case : Type 0 where
   pub sequence : List ℕ

@@ -16,7 +16,7 @@ use Rattle.spec_tick.specs.AnswerRecord.{codeIn, kindIn, placeIn, emittedIn, re
 use Rattle.spec_tick.specs.Paper.{Report, reacted, paper}
 use Rattle.spec_tick.specs.Record.{recordLength, answerIn, stateIn}
 use Rattle.spec_tick.specs.Recording.{recordingOf, callOn, joined, Inputs}
-use Rattle.replays.specs.Replay.{recordsIn, inputsIn, Replayed, replayed, number, place}
+use Rattle.spec_replay.specs.Replay.{recordsIn, inputsIn, Replayed, replayed, number, place}
 
 -- sequence, read-back set, recording
 abbrev pub Replay : Type 0
@@ -75,6 +75,15 @@ NothingAfterTheEnd replay =
     → (i : ℕ) → ((j : ℕ) → j ≤ i → SameAt j (recordsIn recording) (recordingOf sequence readBack (inputsIn recording)))
     → (r : List ℕ) → getElem? (recordsIn recording) i ≡ some r → phaseIn (stateIn r) ≡ 2 → suc i < length (recordsIn recording)
     → replay sequence readBack recording ≡ replayed 0 (i + 2)
+
+-- what it says where the machine is over after the first record: the second one differs
+second-differs : (replay : Replay) (sequence : List ℕ) (readBack : ℕ) (recording : List ℕ) → NothingAfterTheEnd replay
+    → checkOf sequence readBack ≡ 0 → length recording % recordLength ≡ 0
+    → ((j : ℕ) → j ≤ 0 → SameAt j (recordsIn recording) (recordingOf sequence readBack (inputsIn recording)))
+    → (r : List ℕ) → getElem? (recordsIn recording) 0 ≡ some r → phaseIn (stateIn r) ≡ 2 → 1 < length (recordsIn recording)
+    → replay sequence readBack recording ≡ replayed 0 2
+second-differs replay sequence readBack recording says sound whole right r there over more =
+    says sequence readBack recording sound whole 0 right r there over more
 
 -- ---- what a fresh machine gives on inputs of 32 bits is accepted
 abbrev pub AcceptsRecordings : Replay → Type 0

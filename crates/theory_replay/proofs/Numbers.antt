@@ -10,7 +10,7 @@ use borrow.Author.Tests.{eq-eqb, ne-eqb}
 use Rattle.spec_sequence.specs.Check.{Checked, sound, bad, checked, numberOf, checkOf}
 use Rattle.theory_sequence.proofs.Rows.{Decides, decided, row-range}
 use Rattle.spec_tick.specs.Record.{recordLength}
-use Rattle.replays.specs.Replay.{placeOf, Replayed, replayed, number, place, replayOf}
+use Rattle.spec_replay.specs.Replay.{placeOf, Replayed, replayed, number, place, replayOf}
 
 -- the check never gives 22
 check-range : (sequence : List ℕ) (readBack : ℕ) → checkOf sequence readBack ≢ 22

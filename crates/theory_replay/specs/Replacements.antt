@@ -4,8 +4,8 @@ use mathlib.Core.Bool.{cond}
 use mathlib.Core.List.{List, [], _∷_}
 use Rattle.spec_sequence.specs.Check.{checkOf}
 use Rattle.spec_tick.specs.Recording.{recordingOf}
-use Rattle.replays.specs.Replay.{recordsIn, inputsIn, same, byLength, byCheck}
-use Rattle.replays.specs.Claims.{Replay}
+use Rattle.spec_replay.specs.Replay.{recordsIn, inputsIn, same, byLength, byCheck}
+use Rattle.spec_replay.specs.ReplayClaims.{Replay}
 
 -- the first record that differs from the one made for it, among those that one was made for
 unfoldable pub firstUpToTheEnd : (k : ℕ) → (given made : List (List ℕ)) → ℕ

@@ -21,9 +21,9 @@ use Rattle.theory_tick.proofs.Theorems.{demand-3}
 use Rattle.spec_tick.specs.Record.{inputIn}
 use Rattle.spec_tick.specs.Recording.{following, tickOn, recordFrom, recordsFrom, recordingOf, callOn}
 use Rattle.records.proofs.Records.{answer-field, state-field}
-use Rattle.replays.specs.Replay.{recordsIn, inputsIn}
-use Rattle.replays.specs.Claims.{reportIn}
-use Rattle.replays.proofs.Recordings.{Sized, tick-sized}
+use Rattle.spec_replay.specs.Replay.{recordsIn, inputsIn}
+use Rattle.spec_replay.specs.ReplayClaims.{reportIn}
+use Rattle.theory_replay.proofs.Recordings.{Sized, tick-sized}
 
 -- a record shows what its instant reports
 shown : (n e : ℕ) (o : Outcome) → Sized o → number o ≡ 0 → reportIn (recordFrom n e o) ≡ report o

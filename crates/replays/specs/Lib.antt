@@ -1,4 +1,0 @@
-pub mod Replay
-pub mod Claims
-pub mod Worked
-pub mod Replacements

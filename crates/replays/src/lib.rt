@@ -1,1 +1,0 @@
-// A recording replayed (02, item 14): definitions in specs/, theorems in proofs/, no code. The code is comparison's.

@@ -1,0 +1,1 @@
+// The theorems about the replay of a recording (02, item 14), and a wrong replay refuted.
