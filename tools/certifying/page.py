@@ -65,8 +65,8 @@ says what it means, and what it leaves open. The page is committed after the run
 
 ## What is certified
 
-"tank and ledger agree within limits": the record `Certificate` (crates/box_paper/specs/Certified) and the theorem `certificate`
-(crates/box_theory/proofs/Theorems), over every list of calls from the empty box, those turned down and those to all bays included.
+"tank and ledger agree within limits": the record `Certificate` (crates/spec_box/specs/Certified) and the theorem `certificate`
+(crates/theory_box/proofs/Theorems), over every list of calls from the empty box, those turned down and those to all bays included.
 
 - The plant is told what the paper of the fitters tells: every call reports what that paper reports.
 - The ledger of every bay number, filled or empty, can be read at any time.

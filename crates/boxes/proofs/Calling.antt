@@ -14,7 +14,7 @@ use Rattle.numbers.proofs.Putting.{put-slot}
 use Rattle.spec_bay.specs.Called.{called}
 use Rattle.spec_bay.specs.Stretch.{stretchLength, Terms}
 use Rattle.spec_bay.specs.BayCalls.{bayAdmitOf}
-use Rattle.box_calls.specs.Box.{bayCount, boxLength, stretchOf, present, Call, admit, buffers, bayCall, isFor, inBox, callOf}
+use Rattle.spec_box.specs.Box.{bayCount, boxLength, stretchOf, present, Call, admit, buffers, bayCall, isFor, inBox, callOf}
 use Rattle.box_bays.specs.declared.naming.Naming.the-variants.{Save, Restore, Forget}
 use Rattle.box_bays.specs.Moves.{bayMovedOf}
 use Rattle.box_bays.specs.declared.bufferless.Moving.{Moving}

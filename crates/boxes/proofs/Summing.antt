@@ -5,7 +5,7 @@ use native.Mathlib.Numerals.{add-one}
 use mathlib.Core.Path.{_≡_, refl, sym, ap, _∙_}
 use mathlib.Core.List.{List}
 use Rattle.spec_bay.specs.Stretch.{partOf}
-use Rattle.box_calls.specs.Box.{bayCount, stretchOf, present}
+use Rattle.spec_box.specs.Box.{bayCount, stretchOf, present}
 
 pub none-present : (box : List ℕ) → 0 ≡ present 0 box
 unfolding present

@@ -6,7 +6,7 @@ use mathlib.Core.List.{List}
 use lib.ListN.{length}
 use lib.Dec.{eqb, ltb}
 use Rattle.spec_bay.specs.Stretch.{isEmpty}
-use Rattle.box_calls.specs.Box.{bayCount, boxLength, stretchOf}
+use Rattle.spec_box.specs.Box.{bayCount, boxLength, stretchOf}
 
 -- is the bay as the call wants it, empty or filled? The ledger's calls take either
 abbrev pub fits : (vacant : Bool) → List ℕ → Bool

@@ -7,7 +7,7 @@ ghost use Prim.Native.Nat.{_*_, _^_, _≤_};
 ghost use lib.ListN.{length};
 ghost use Rattle.spec_bay.specs.Called.{called};
 ghost use Rattle.spec_bay.specs.Stretch.{terms};
-ghost use Rattle.box_calls.specs.Box.{bayCount, boxLength, present, callOf, release, tick, admit, save, restore, forget, service, panel, preview, ledger, newYear};
+ghost use Rattle.spec_box.specs.Box.{bayCount, boxLength, present, callOf, release, tick, admit, save, restore, forget, service, panel, preview, ledger, newYear};
 ghost use Rattle.boxes.specs.Moving.{callBy};
 use box_bays::bufferless::Moving;
 use box_bays::fields::STRETCH_LENGTH;

@@ -8,7 +8,7 @@ ghost use Rattle.spec_tick.specs.Demands.{TickMeets};
 ghost use Rattle.spec_replay.specs.Replay.{replayed, replayOf};
 ghost use Rattle.spec_bay.specs.Called.{called};
 ghost use Rattle.spec_bay.specs.Stretch.{terms};
-ghost use Rattle.box_calls.specs.Box.{admit, release, tick, save, restore, forget, service, panel, preview, ledger, newYear, callOf};
+ghost use Rattle.spec_box.specs.Box.{admit, release, tick, save, restore, forget, service, panel, preview, ledger, newYear, callOf};
 ghost use Rattle.spec_unroll.specs.Call.{unrolling, unrollOf};
 use layout::SecondParts;
 use notes::Notes;

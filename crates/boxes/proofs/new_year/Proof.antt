@@ -1,5 +1,5 @@
 use mathlib.Core.Path.{refl}
-use Rattle.box_calls.specs.Box.{newYear}
+use Rattle.spec_box.specs.Box.{newYear}
 use Rattle.boxes.specs.Entries.{either}
 use Rattle.boxes.proofs.Entering.{entered}
 use Rattle.boxes.proofs.Calling.{turned-down, lent-call}

@@ -1,6 +1,6 @@
 use mathlib.Core.Path.{refl, ap, _∙_}
 use lib.ListN.{length}
-use Rattle.box_calls.specs.Box.{ledger}
+use Rattle.spec_box.specs.Box.{ledger}
 use Rattle.boxes.specs.Entries.{either}
 use Rattle.boxes.proofs.Calling.{stretch-sized, turned-down, read-call}
 use borrow.Author.Needs.{needs}

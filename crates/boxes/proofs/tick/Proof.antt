@@ -1,6 +1,6 @@
 use mathlib.Core.Path.{refl}
 use mathlib.Core.Bool.{false}
-use Rattle.box_calls.specs.Box.{tick}
+use Rattle.spec_box.specs.Box.{tick}
 use Rattle.boxes.specs.Entries.{fits}
 use Rattle.boxes.proofs.Entering.{entered}
 use Rattle.boxes.proofs.Calling.{turned-down, lent-call}

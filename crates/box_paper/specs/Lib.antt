@@ -1,4 +1,0 @@
-pub mod PaperBox
-pub mod Reports
-pub mod Certified
-pub mod Examples

@@ -1,4 +1,0 @@
-pub mod NumberLists
-pub mod NumberTable
-pub mod Witnesses
-pub mod Theorems

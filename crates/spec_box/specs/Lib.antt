@@ -1,0 +1,15 @@
+pub mod BayRuns
+pub mod Box
+pub mod BoxExamples
+pub mod Certified
+pub mod Claims
+pub mod Instants
+pub mod Leaves
+pub mod Lists
+pub mod PaperBox
+pub mod PaperExamples
+pub mod Positions
+pub mod Previews
+pub mod Reports
+pub mod Shares
+pub mod Years

@@ -1,0 +1,73 @@
+-- Lists of calls to the bays of a box, calls turned down included, for any function in the place of `callOf`: what the box comes to,
+-- and what one bay is asked and answers.
+use Prim.Native.Nat.{ℕ}
+use mathlib.Core.Bool.{cond}
+use mathlib.Core.List.{List, [], _∷_}
+use lib.ListN.{length}
+use lib.Dec.{eqb}
+use Rattle.spec_base.specs.Parts.{zeros}
+use Rattle.spec_bay.specs.Called.{Called, number, memoryAfter, lentAfter}
+use Rattle.spec_bay.specs.Stretch.{Terms}
+use Rattle.spec_box.specs.Box.{Call, admit, release, tick, save, restore, forget, service, panel, preview, ledger, newYear, onAdmit}
+
+-- box, bay, call
+abbrev pub Calling : Type 0
+Calling = List ℕ → ℕ → Call → Called
+
+-- a call and the bay that it is for; the box is the one that the calls before it left, so that a call with bytes of another length than a
+-- box is in no list: NoBox says what it gives, and RefusalsLeave that it writes nothing
+pub record Request : Type 0 where
+  pub bay : ℕ
+  pub call : Call
+
+-- the box after a call, and after a list of them: each reads the box as the last one left it
+abbrev pub afterCall : Calling → List ℕ → Request → List ℕ
+afterCall call box x = memoryAfter (call box (x .bay) (x .call))
+
+unfoldable pub boxAfter : Calling → List ℕ → List Request → List ℕ
+boxAfter call box [] = box
+boxAfter call box (x ∷ xs) = boxAfter call (afterCall call box x) xs
+
+-- what the calls to one bay come to, in their order: each call, in the box that it finds, puts its own before what those behind it come to
+unfoldable pub overBay : {A : Type 0} → (puts : List ℕ → Call → List A → List A) → Calling → (bay : ℕ) → List ℕ → List Request → List A
+overBay puts call bay box [] = []
+overBay puts call bay box (x ∷ xs) =
+    cond (eqb (x .bay) bay) (puts box (x .call) (overBay puts call bay (afterCall call box x) xs))
+    (overBay puts call bay (afterCall call box x) xs)
+
+-- ---- what one bay is asked and answers
+-- the call with zeros in every buffer that it only writes, so that of such a buffer the length alone counts: a host may lend one buffer
+-- to all bays. The record that a reader is lent is read, and counts whole
+abbrev pub blanked : Call → Call
+blanked (admit t) = admit t
+blanked release = release
+blanked (tick e answer trace) = tick e (zeros (length answer)) (zeros (length trace))
+blanked (save name) = save name
+blanked (restore name) = restore name
+blanked (forget name) = forget name
+blanked (service trace view) = service trace (zeros (length view))
+blanked (panel trace view) = panel trace (zeros (length view))
+blanked (preview e unknown buffer) = preview e unknown (zeros (length buffer))
+blanked (ledger totals) = ledger (zeros (length totals))
+blanked newYear = newYear
+
+-- the calls to a bay in their order, an admission with the number that it got
+pub data Asked : Type 0 where
+  admission : Terms → (number : ℕ) → Asked
+  other : Call → Asked
+
+abbrev pub askedBy : Call → Called → Asked
+askedBy c o = onAdmit (other (blanked c)) (λ t. admission t (number o)) c
+
+abbrev pub asked : Calling → (bay : ℕ) → List ℕ → List Request → List Asked
+asked call bay = overBay (λ box c rest. askedBy c (call box bay c) ∷ rest) call bay
+
+-- what it answers: the number and, with number 0, the lent buffers; with another they are those that it was lent (RefusalsLeave)
+pub data Answer : Type 0 where
+  answered : (number : ℕ) (lent : List (List ℕ)) → Answer
+
+abbrev pub answerOf : Called → Answer
+answerOf o = answered (number o) (cond (eqb (number o) 0) (lentAfter o) [])
+
+abbrev pub answers : Calling → (bay : ℕ) → List ℕ → List Request → List Answer
+answers call bay = overBay (λ box c rest. answerOf (call box bay c) ∷ rest) call bay

@@ -1,0 +1,9 @@
+pub mod Worked
+pub mod WorkedLedgers
+pub mod WorkedPositions
+pub mod WorkedRecords
+pub mod WrongBoxes
+pub mod WrongLedgers
+pub mod WrongPaper
+pub mod WrongPositions
+pub mod WrongPreviews

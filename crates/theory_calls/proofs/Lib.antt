@@ -1,0 +1,3 @@
+pub mod NumberLists
+pub mod NumberTable
+pub mod Theorems
