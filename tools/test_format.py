@@ -261,7 +261,7 @@ def run_file(page):
     given = [row[1] for row in rows(page, "Part")]
     if given != [str(files.LENGTH_BYTES), "as many", str(files.READ_BACK_BYTES), str(files.INPUT_BYTES)]:
         yield f"the run file: {given}"
-    most = int(re.search(r"^maxFile = (\d+)$", text_of("crates/runs/specs/File.antt"), re.M)[1])
+    most = int(re.search(r"^maxFile = (\d+)$", text_of("crates/spec_programs/specs/File.antt"), re.M)[1])
     if f"at most {most:,} bytes" not in page or most != files.MAX_FILE:
         yield "the length of a run file"
     fields = rows(page, "Field")
@@ -277,12 +277,12 @@ def recording(page):
     words = {"accepted": "acceptance", "differs at": "difference", "refused": "refusal", "input cut": "inputCut"}
     if [row[0].split("`")[1] for row in rows(page, "Line")] != list(words):
         yield "the lines of the replay program"
-    spelled = text_of("crates/replay_verdicts/specs/Verdict.antt") + text_of("crates/runs/specs/Text.antt")
+    spelled = text_of("crates/spec_programs/specs/Verdict.antt") + text_of("crates/spec_programs/specs/Text.antt")
     for word, name in words.items():
         spelling = re.search(rf"^{name}(?: \w+)? =\s+\(?((?:0x\w\w|space|[∷\s])+)", spelled, re.M)[1].replace("space", "0x20")
         if bytes(int(byte, 16) for byte in re.findall(r"0x(\w\w)", spelling)).decode().rstrip() != word:
             yield f"the spelling of {word}"
-    most = int(re.search(r"^maxFile = (\d+)$", text_of("crates/replay_verdicts/specs/Verdict.antt"), re.M)[1])
+    most = int(re.search(r"^maxFile = (\d+)$", text_of("crates/spec_programs/specs/Verdict.antt"), re.M)[1])
     if f"at most {most:,} bytes in all" not in page:
         yield "the length of a file with a recording"
 

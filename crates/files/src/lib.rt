@@ -2,7 +2,7 @@
 ghost use Prim.Native.Nat.{_<_};
 ghost use mathlib.Core.Path.{_≡_};
 ghost use lib.ListN.{drop};
-ghost use Rattle.runs.specs.File.{sequenceLength, readBackAt, inputsAt, sequenceIn, readBackIn, inputsIn, first, whole};
+ghost use Rattle.spec_programs.specs.File.{sequenceLength, readBackAt, inputsAt, sequenceIn, readBackIn, inputsIn, first, whole};
 ghost use Rattle.files.specs.Answers.{inputBy};
 use limits::SIGNAL_BYTES;
 

@@ -8,8 +8,8 @@ use Rattle.spec_base.specs.Limits.{wordLabels}
 use Rattle.spec_base.specs.Widths.{twoWords}
 use Rattle.spec_tick.specs.StateRecord.{labelsIn}
 use Rattle.spec_tick.specs.AnswerRecord.{codeIn, kindIn, placeIn, emittedIn}
-use Rattle.runs.specs.Text.{numeral, space, newline}
-use Rattle.runs.specs.Listing.{numbersOf, setsOf, lineOf, entryRead}
+use Rattle.spec_programs.specs.Text.{numeral, space, newline}
+use Rattle.spec_programs.specs.Listing.{numbersOf, setsOf, lineOf, entryRead}
 use Rattle.lines.specs.declared.Line.{Line}
 use Rattle.lines.specs.Buffer.{Prepended}
 use Rattle.lines.specs.Shown.{lineLength, Displays}

@@ -6,7 +6,7 @@ use mathlib.Core.Path.{_≡_, refl, sym, ap, ap₂, _∙_, subst}
 use mathlib.Core.List.{List, [], _∷_, _++_, append-nil, append-assoc}
 use lib.ListN.{length, set, length-append}
 use lib.Dec.{eqb·suc-zero}
-use Rattle.runs.specs.Text.{digit, numeralIn, numeral}
+use Rattle.spec_programs.specs.Text.{digit, numeralIn, numeral}
 use Rattle.lines.specs.Buffer.{Prepended}
 use Rattle.lines.proofs.Buffers.{before, Filling, room, again, end-filling}
 

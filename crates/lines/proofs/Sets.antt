@@ -5,8 +5,8 @@ use mathlib.Core.Path.{_≡_, sym, ap, _∙_, subst}
 use mathlib.Core.List.{List, [], _∷_, _++_, append-assoc}
 use Rattle.spec_base.specs.Limits.{wordLabels}
 use Rattle.spec_base.specs.Widths.{twoWords}
-use Rattle.runs.specs.Text.{numeral, space, newline}
-use Rattle.runs.specs.Listing.{setsOf}
+use Rattle.spec_programs.specs.Text.{numeral, space, newline}
+use Rattle.spec_programs.specs.Listing.{setsOf}
 use Rattle.lines.specs.Buffer.{Prepended}
 use Rattle.lines.proofs.Buffers.{before}
 use Rattle.lines.proofs.Numerals.{numeral-split}

@@ -3,12 +3,12 @@ ghost use Prim.Native.Nat.{_+_, _-_, _≤_, _<_, _^_};
 ghost use mathlib.Core.Path.{_≡_};
 ghost use mathlib.Core.List.{[], _∷_, _++_};
 ghost use lib.ListN.{length};
-ghost use Rattle.runs.specs.Text.{numeral, digit as Text·digit, newline, inputCut, heading as Text·heading, ending as Text·ending, refusal as Text·refusal};
+ghost use Rattle.spec_programs.specs.Text.{numeral, digit as Text·digit, newline, inputCut, heading as Text·heading, ending as Text·ending, refusal as Text·refusal};
 ghost use Rattle.lines.specs.Buffer.{Prepended};
 ghost use Rattle.spec_base.specs.Limits.{wordLabels};
 ghost use Rattle.spec_base.specs.Widths.{twoWords};
 ghost use Rattle.lines.specs.Shown.{lineLength, mostWords, Displays};
-ghost use Rattle.runs.specs.Listing.{numbersOf, setsOf, lineIn};
+ghost use Rattle.spec_programs.specs.Listing.{numbersOf, setsOf, lineIn};
 
 fn digit(d: u64) -> u8
     requires { ⌜ d < 16 ⌝ }

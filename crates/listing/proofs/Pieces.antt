@@ -9,10 +9,10 @@ use lib.ListN.{getD, drop}
 use lib.Dec.{eqb}
 use Rattle.spec_tick.specs.Tick.{Outcome, outcome}
 use Rattle.spec_tick.specs.Demands.{stateAfterwards}
-use Rattle.runs.specs.File.{sequenceIn, readBackIn, inputsIn, first}
-use Rattle.runs.specs.Listing.{lineOf, entryRead, entryFrom, ticked, isOver}
-use Rattle.runs.specs.Stages as Listing
-use Rattle.runs.proofs.Files.{input-next}
+use Rattle.spec_programs.specs.File.{sequenceIn, readBackIn, inputsIn, first}
+use Rattle.spec_programs.specs.Listing.{lineOf, entryRead, entryFrom, ticked, isOver}
+use Rattle.spec_programs.specs.Stages as Listing
+use Rattle.theory_programs.proofs.Files.{input-next}
 use Rattle.listing.specs.declared.Stage.the-variants as stages
 use Rattle.listing.specs.Stages.{stageBy, stageIn, stageAfter}
 use Rattle.listing.specs.declared.Piece.{Piece}

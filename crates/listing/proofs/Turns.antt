@@ -4,9 +4,9 @@ use native.Mathlib.Omega.{arith}
 use mathlib.Core.Option.{none}
 use mathlib.Core.Path.{_≡_, refl, sym, ap, _∙_}
 use mathlib.Core.List.{List, [], _∷_}
-use Rattle.runs.specs.Text.{ending}
-use Rattle.runs.specs.File.{fileOf, first}
-use Rattle.runs.specs.Stages as Listing
+use Rattle.spec_programs.specs.Text.{ending}
+use Rattle.spec_programs.specs.File.{fileOf, first}
+use Rattle.spec_programs.specs.Stages as Listing
 use Rattle.listing.specs.declared.Stage.{Stage}
 use Rattle.listing.specs.declared.Run.{Run}
 use Rattle.listing.specs.Stages.{stageBy, stageIn}

@@ -1,7 +1,7 @@
 -- What the code's answer stands for: a file.
 use Prim.Native.Nat.{ℕ}
 use mathlib.Core.List.{List}
-use Rattle.runs.specs.File.{File, cut, refused, runs, sequenceIn, readBackIn, inputsIn}
+use Rattle.spec_programs.specs.File.{File, cut, refused, runs, sequenceIn, readBackIn, inputsIn}
 use Rattle.listing.specs.declared.Opened.{Opened}
 use Rattle.listing.specs.declared.Opened.the-variants as opens
 

@@ -3,7 +3,7 @@ use Prim.Native.Nat.{ℕ, _≤_}
 use mathlib.Core.Path.{_≡_}
 use mathlib.Core.List.{List}
 use lib.ListN.{length, drop}
-use Rattle.runs.specs.Stages as Listing
+use Rattle.spec_programs.specs.Stages as Listing
 use Rattle.listing.specs.declared.Stage.the-variants as stages
 use Rattle.listing.specs.Stages.{stageBy, stageIn}
 use Rattle.lines.specs.Shown.{lineLength}

@@ -4,8 +4,8 @@ use mathlib.Core.Bool.{cond}
 use mathlib.Core.List.{List}
 use lib.ListN.{drop}
 use lib.Dec.{eqb}
-use Rattle.runs.specs.File.{sequenceIn, readBackIn, inputsIn}
-use Rattle.runs.specs.Stages as Listing
+use Rattle.spec_programs.specs.File.{sequenceIn, readBackIn, inputsIn}
+use Rattle.spec_programs.specs.Stages as Listing
 use Rattle.listing.specs.declared.Stage.{Stage}
 use Rattle.listing.specs.declared.Stage.the-variants as stages
 use Rattle.listing.specs.declared.Run.{Run}

@@ -3,15 +3,15 @@
 ghost use Prim.Native.Nat.{ℕ};
 ghost use mathlib.Core.Path.{_≡_};
 ghost use mathlib.Core.List.{List};
-ghost use Rattle.runs.specs.Stages.{opening, isFinished, running, finished, opened, turnOf, turn as Stages·turn};
+ghost use Rattle.spec_programs.specs.Stages.{opening, isFinished, running, finished, opened, turnOf, turn as Stages·turn};
 ghost use Rattle.listing.specs.Stages.{stageIn, stageAfter};
-ghost use Rattle.runs.specs.File.{fileOf, inputsIn, first, sequenceIn, readBackIn};
+ghost use Rattle.spec_programs.specs.File.{fileOf, inputsIn, first, sequenceIn, readBackIn};
 ghost use Rattle.listing.specs.Opened.{fileBy};
 ghost use mathlib.Core.Option.{some};
 ghost use lib.ListN.{drop};
 ghost use Rattle.listing.specs.Pieces.{turnAt, Prints};
 ghost use Rattle.spec_tick.specs.Demands.{cleared};
-ghost use Rattle.runs.specs.Text.{heading as Text·heading};
+ghost use Rattle.spec_programs.specs.Text.{heading as Text·heading};
 ghost use Rattle.lines.specs.Shown.{Displays};
 use files::Input;
 use lines::Line;

@@ -9,7 +9,7 @@ use libc::STDOUT_FILENO;
 const ROOM: usize = 4194305;
 
 fn print_verdict(file: &[u8]) {
-    let line = replay_verdicts::verdict(file);
+    let line = replay_lines::verdict(file);
     let bytes = line.bytes;
     let from = line.from;
     io::write_all(STDOUT_FILENO, &bytes[from..]);

@@ -5,7 +5,7 @@
 use libc::STDIN_FILENO;
 use libc::STDOUT_FILENO;
 use lines::Line;
-use unrolled_files::Answer;
+use unroll_files::Answer;
 
 // One byte more than a file may have, so that a longer one is seen.
 const ROOM: usize = 65537;
@@ -21,7 +21,7 @@ fn print_line(line: Line) {
 
 // The length, the result and what stood behind the sequence.
 fn print_file(file: &[u8], result: &[u8], count: usize) {
-    let length = unrolled_files::length_bytes(count);
+    let length = unroll_files::length_bytes(count);
     io::write_all(STDOUT_FILENO, &length);
     io::write_all(STDOUT_FILENO, numbers::part(result, 0, count));
     io::write_all(STDOUT_FILENO, files::behind_sequence(file));
@@ -29,7 +29,7 @@ fn print_file(file: &[u8], result: &[u8], count: usize) {
 
 fn print_unrolled(file: &[u8]) {
     let mut result = [0u8; limits::MAX_BYTES];
-    match unrolled_files::unroll(file, &mut result) {
+    match unroll_files::unroll(file, &mut result) {
         Answer::Cut => print_line(lines::cut()),
         Answer::Refused(number) => print_line(lines::refusal(number)),
         Answer::Unrolled(count) => print_file(file, &result, count),

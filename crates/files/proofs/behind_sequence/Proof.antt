@@ -4,7 +4,7 @@ use mathlib.Core.List.{List}
 use mathlib.Core.Path.{_≡_, ap, _∙_}
 use lib.ListN.{length, take, drop, length-drop}
 use lib.Seq.{take-all}
-use Rattle.runs.specs.File.{sequenceLength, readBackAt}
+use Rattle.spec_programs.specs.File.{sequenceLength, readBackAt}
 use borrow.Author.Needs.{needs}
 use Rattle.files.proofs.behind_sequence.Statement.{statement}
 use Rattle.files.proofs.behind_sequence.Tie as tie

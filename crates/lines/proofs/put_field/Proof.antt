@@ -1,7 +1,7 @@
 use Prim.Native.Nat.{_≤_}
 use native.Mathlib.Omega.{arith}
 use lib.ListN.{length}
-use Rattle.runs.specs.Text.{numeral}
+use Rattle.spec_programs.specs.Text.{numeral}
 use Rattle.lines.proofs.Numerals.{field-fits, field}
 use borrow.Author.Needs.{needs}
 use Rattle.lines.proofs.put_field.Statement.{statement}

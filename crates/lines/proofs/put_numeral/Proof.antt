@@ -6,7 +6,7 @@ use native.Mathlib.Omega.{arith}
 use mathlib.Core.Logic.{⊎-elim}
 use mathlib.Core.Path.{_≡_, refl}
 use lib.ListN.{length, length-set}
-use Rattle.runs.specs.Text.{numeral}
+use Rattle.spec_programs.specs.Text.{numeral}
 use Rattle.lines.proofs.Buffers.{Filling, begin, under}
 use Rattle.lines.proofs.Numerals.{measure-falls, numeral-room, numeral-again, numeral-end}
 use Rattle.lines.proofs.put_numeral.Statement.{statement}

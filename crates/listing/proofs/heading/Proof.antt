@@ -1,7 +1,7 @@
 use mathlib.Core.Path.{refl}
 use Rattle.spec_tick.specs.Demands.{cleared}
-use Rattle.runs.specs.File.{sequenceIn, readBackIn, inputsIn}
-use Rattle.runs.specs.Stages as Listing
+use Rattle.spec_programs.specs.File.{sequenceIn, readBackIn, inputsIn}
+use Rattle.spec_programs.specs.Stages as Listing
 use Rattle.listing.proofs.Pieces.{printed}
 use borrow.Author.Needs.{needs}
 use Rattle.listing.proofs.heading.Statement.{statement}

@@ -2,10 +2,10 @@ use Prim.Native.Nat.{ℕ, _+_}
 use native.Mathlib.Omega.{arith}
 use mathlib.Core.Path.{_≡_, ap, _∙_, subst}
 use Rattle.spec_tick.specs.Tick.{outcome}
-use Rattle.runs.specs.File.{sequenceIn, readBackIn}
-use Rattle.runs.specs.Listing.{ticked}
-use Rattle.runs.specs.Stages as Listing
-use Rattle.runs.proofs.Files.{input-within}
+use Rattle.spec_programs.specs.File.{sequenceIn, readBackIn}
+use Rattle.spec_programs.specs.Listing.{ticked}
+use Rattle.spec_programs.specs.Stages as Listing
+use Rattle.theory_programs.proofs.Files.{input-within}
 use Rattle.listing.specs.declared.Stage.{Stage}
 use Rattle.listing.specs.Stages.{stageBy, stageAfter}
 use Rattle.listing.specs.declared.Piece.{Piece}

@@ -1,5 +1,5 @@
 use mathlib.Core.Path.{sym, ap}
-use Rattle.runs.specs.Stages.{isFinished}
+use Rattle.spec_programs.specs.Stages.{isFinished}
 use Rattle.listing.specs.declared.Stage.{Stage}
 use Rattle.listing.specs.Stages.{stageBy}
 use borrow.Author.Needs.{needs}

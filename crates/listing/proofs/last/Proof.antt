@@ -1,5 +1,5 @@
 use mathlib.Core.Path.{refl}
-use Rattle.runs.specs.Stages as Listing
+use Rattle.spec_programs.specs.Stages as Listing
 use Rattle.listing.proofs.Pieces.{printed}
 use Rattle.listing.proofs.last.Statement.{statement}
 use Rattle.listing.proofs.last.Tie as tie

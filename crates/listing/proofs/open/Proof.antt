@@ -1,11 +1,11 @@
 use borrow.Author.Tests.{not-true, not-false}
-use Rattle.runs.specs.File.{whole, sequenceIn, readBackIn}
+use Rattle.spec_programs.specs.File.{whole, sequenceIn, readBackIn}
 use Prim.Native.Nat.{ℕ}
 use mathlib.Core.Bool.{true}
 use mathlib.Core.List.{List}
 use mathlib.Core.Path.{_≡_, sym, ap₂, _∙_}
 use Rattle.spec_sequence.specs.Check.{checkOf}
-use Rattle.runs.proofs.Files.{file-cut, file-runs, file-refused}
+use Rattle.theory_programs.proofs.Files.{file-cut, file-runs, file-refused}
 use borrow.Author.Needs.{needs}
 use Rattle.listing.proofs.open.Statement.{statement}
 use Rattle.listing.proofs.open.Tie as tie

@@ -1,6 +1,6 @@
 use mathlib.Core.Path.{subst}
-use Rattle.runs.specs.Text.{inputCut, refusal}
-use Rattle.runs.specs.Stages as Listing
+use Rattle.spec_programs.specs.Text.{inputCut, refusal}
+use Rattle.spec_programs.specs.Stages as Listing
 use Rattle.listing.specs.Pieces.{Prints}
 use Rattle.listing.specs.declared.Opened.the-variants as opens
 use Rattle.listing.proofs.Turns.{opened-by}

@@ -1,9 +1,9 @@
 use mathlib.Core.Path.{sym, ap, _∙_, subst}
 use Prim.Native.Nat.{suc}
 use lib.ListN.{drop}
-use Rattle.runs.specs.Text.{ending}
-use Rattle.runs.specs.File.{sequenceIn, readBackIn, inputsIn}
-use Rattle.runs.specs.Stages as Listing
+use Rattle.spec_programs.specs.Text.{ending}
+use Rattle.spec_programs.specs.File.{sequenceIn, readBackIn, inputsIn}
+use Rattle.spec_programs.specs.Stages as Listing
 use Rattle.files.specs.Answers.{inputBy}
 use Rattle.listing.specs.Pieces.{Prints}
 use Rattle.listing.proofs.Turns.{no-turn}

@@ -1,7 +1,7 @@
 use mathlib.Core.Path.{_∙_, subst}
 use mathlib.Core.List.{[]}
-use Rattle.runs.specs.Text.{ending}
-use Rattle.runs.specs.Stages as Listing
+use Rattle.spec_programs.specs.Text.{ending}
+use Rattle.spec_programs.specs.Stages as Listing
 use Rattle.listing.specs.declared.Stage.the-variants as stages
 use Rattle.listing.specs.Pieces.{Prints}
 use Rattle.listing.proofs.Turns.{turn-by, turn-opening, turn-closing, turn-finished}

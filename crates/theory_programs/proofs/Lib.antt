@@ -1,0 +1,4 @@
+pub mod Files
+pub mod Paper
+pub mod Theorems
+pub mod Turns

@@ -1,1 +1,0 @@
-// What the unroll program writes: definitions in specs/, no code.
