@@ -22,7 +22,7 @@ use Rattle.box_bays.specs.Names.{bayNamedOf}
 use Rattle.box_bays.specs.declared.naming.Naming.{Naming}
 
 module _ (s : List ℕ) (name : ℕ) where
-  -- the table as it is lent, and the stretch when t comes back in its place
+  -- the table as it is lent, and the slot when t comes back in its place
   abbrev lent : List ℕ
   lent = slot positionsAt (bayLength - positionsAt) s
 
@@ -60,7 +60,7 @@ module _ (s : List ℕ) {k : ℕ} where
   pub unknown-name : maxPositions ≤ k → called 15 s [] ≡ restored s (labelsFound k (positionsIn s))
   unknown-name l = rw (le-ltb k maxPositions l)
 
-  -- the state record lies in the stretch, and is written there
+  -- the state record is a part of the slot, and is written there
   pub back-at : {t : List ℕ} → t ≡ positionsIn s → k < maxPositions → {labels : ℕ} → labels ≡ savedLabels k t → length s ≡ stretchLength
       → {state : List ℕ} → state ≡ replaced (slot stateAt (countAt - stateAt) s) (stateRecord 1 labels)
       → called 0 (take stateAt s ++ (state ++ drop (countAt - stateAt) (drop stateAt s))) [] ≡ restored s (labelsFound k (positionsIn s))

@@ -1,4 +1,4 @@
--- Runs of stores that clear and fill a stretch.
+-- Runs of stores that clear and fill a slot.
 use Prim.Native.Nat.{ℕ, _+_, _≤_}
 use native.Mathlib.Omega.{arith}
 use mathlib.Core.Path.{_≡_, refl, ap, _∙_}

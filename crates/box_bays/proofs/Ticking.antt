@@ -26,7 +26,7 @@ pub on-fields : {a a′ b b′ : List ℕ} {e k k′ : ℕ} {r : Reply} → a �
 on-fields p q o h = rw (p, q, o) at h
 
 module _ (s : List ℕ) (e : ℕ) (answer : List ℕ) where
-  -- a refusal leaves the stretch
+  -- a refusal leaves the slot
   unmoved : (n : ℕ) → called n s (answer ∷ []) ≡ stateKept s (outcome n (stateIn s) answer)
   unmoved n = ap (λ (r : List ℕ). called n r (answer ∷ [])) (sym (put-slot stateAt stateLength s))
 

@@ -1,4 +1,4 @@
-// A bay admitted (02, items 6 and 8), on its stretch.
+// A bay admitted (02, items 6 and 8), on its slot.
 ghost use mathlib.Core.Path.{_≡_};
 ghost use Prim.Native.Nat.{_^_, _≤_};
 ghost use mathlib.Core.List.{[]};
@@ -11,7 +11,7 @@ use ceilings::Plan;
 // The reactions of an instant that the bays share.
 const SHARED_CEILING: u64 = 65536;
 
-// `present` is what the bays present have of the shared ceiling.
+// Admits a sequence to the bay, or gives the number that turns it down. `present` is what the bays present have of the shared ceiling.
 pub fn admit(
     stretch: &mut [u8],
     present: u64,

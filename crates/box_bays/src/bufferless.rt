@@ -1,4 +1,4 @@
-// The calls that lend nothing but the bay and want it filled, on its stretch, by a value that names one.
+// Release, save, restore and forget on the slot of a filled bay: the four calls that are lent no other buffer, by a value that names one.
 ghost use mathlib.Core.Path.{_≡_};
 ghost use mathlib.Core.List.{[]};
 ghost use lib.ListN.{length};

@@ -1,4 +1,4 @@
-// The stretch of a bay (02, items 8 to 12): where its fields begin, and what they hold.
+// The slot of a bay (02, items 8 to 12): where its fields begin, and what they hold.
 ghost use mathlib.Core.Path.{_≡_};
 ghost use Rattle.spec_bay.specs.Stretch.{isEmpty, sequenceIn, readBackIn, serviceOnlyIn, stateIn, lastNumberIn, positionsIn, ledgerIn, partOf};
 use box_positions::TABLE_LENGTH;

@@ -1,4 +1,4 @@
-// A bay filled and taken out (02, item 8), on its stretch.
+// A bay filled and taken out (02, item 8), on its slot.
 ghost use mathlib.Core.Path.{_≡_};
 ghost use Prim.Native.Nat.{_≤_};
 ghost use mathlib.Core.List.{[]};
@@ -32,7 +32,7 @@ pub fn release(stretch: &mut [u8]) -> u8
     0
 }
 
-// A fresh machine of this sequence.
+// Fills the slot of a bay: a fresh machine of this sequence, no positions, number 0.
 pub fn fill(stretch: &mut [u8], sequence: &[u8], read_back: u32, service_only: u32, ceiling: u32)
     requires { ⌜ (length (now stretch) ≡ stretchLength) × (length (now sequence) ≤ maxBytes) ⌝ }
     ensures { λ _. ⌜ now (stretch .exit)

@@ -1,4 +1,5 @@
-// The calls of one bay on its part of a box (02, items 8 to 12).
+// The calls of one bay on its slot, the bytes that a box has for it (02, items 8 to 12): admission and release, the tick with
+// ledger and record, positions, what service and panel see, preview, ledger and new year.
 pub mod admission;
 pub mod bufferless;
 pub mod fields;

@@ -1,4 +1,4 @@
-// The positions of a bay (02, item 9), on its stretch.
+// The positions of a bay (02, item 9), on its slot.
 ghost use mathlib.Core.Path.{_≡_};
 ghost use mathlib.Core.List.{[]};
 ghost use lib.ListN.{length};
@@ -13,7 +13,7 @@ use crate::fields::POSITIONS_AT;
 use crate::fields::STATE_AT;
 use limits::MAX_POSITIONS;
 
-// What is done with a name.
+// The three calls with a name.
 pub enum Naming {
     Save,
     Restore,
@@ -48,7 +48,7 @@ fn restore(stretch: &mut [u8], known: usize) -> u8
     0
 }
 
-// The three calls look a name up by one search, which keeps the code small.
+// Saves, brings back or forgets by a name. The three calls look it up by one search, which keeps the code small.
 pub fn named(stretch: &mut [u8], call: Naming, name: u32) -> u8
     requires { ⌜ length (now stretch) ≡ stretchLength ⌝ }
     ensures { λ r. ⌜ called r (now (stretch .exit)) [] ≡ bayNamedOf call name (now (stretch .entry)) ⌝ }

@@ -1,4 +1,4 @@
--- The litres of each farm, from one walk.
+-- The litres of each farm, from one traversal.
 use Prim.Native.Nat.{ℕ, zero, suc, _<_}
 use mathlib.Core.Path.{_≡_, refl, sym, ap, _∙_}
 use mathlib.Core.Bool.{Bool, true, false, cond}

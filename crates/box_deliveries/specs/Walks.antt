@@ -1,4 +1,4 @@
--- The litres of farms as the code gives them (reaction, cappedOf), for whatever statement lies in the bytes.
+-- The litres of farms as the code gives them (reaction, cappedOf), for whatever statement the bytes encode.
 use Prim.Native.Nat.{ℕ, _<_}
 use mathlib.Core.Path.{_≡_}
 use mathlib.Core.Bool.{false}

@@ -1,5 +1,5 @@
-// The core of a bay's tick (02, item 12): the instant by value, and the litres of each farm in it, in one traversal. The check and the
-// table of second parts are made once.
+// The tick of a bay before anything is written (02, item 12): the instant as a value, and the litres of each farm in it, found in
+// one traversal.
 ghost use mathlib.Core.Path.{_≡_};
 ghost use lib.ListN.{replicate};
 ghost use Rattle.spec_base.specs.Limits.{maxDepth};

@@ -1,5 +1,5 @@
-// The year's ledger of a bay number (02, item 12): 32 totals in 128 lent bytes, in single precision, the litres of an instant added to
-// them, and a reading of them with the ledger's total. No box is known here.
+// The year's ledger of a bay number (02, item 12): 32 totals in 128 lent bytes, in single precision, the litres of an instant added
+// to them, and a reading of them with the ledger's total. No box is known here.
 ghost use mathlib.Core.Path.{_≡_};
 ghost use mathlib.Core.Bool.{false};
 ghost use Prim.Native.Nat.{_+_, _≤_, _<_, _*_};
@@ -12,7 +12,7 @@ ghost use Rattle.spec_bay.specs.Ledgers.{farmCount, ledgerLength, totalIn, tota
 ghost use Rattle.spec_base.specs.WholeLitres.{Near};
 ghost use Rattle.spec_sequence.specs.Amounts.{amountBytes};
 
-// The year's ledger of a bay number (02, item 12): definitions in specs/, and the sizes for the code. No box is known here.
+// The farms of a ledger, the bytes of their totals, and the bytes of a reading.
 pub const FARMS: usize = limits::FARMS;
 
 pub const LENGTH: usize = 128;
@@ -43,7 +43,7 @@ pub fn total(ledger: &[u8], farm: usize) -> f32
     }
 }
 
-// Would a farm's total with so many litres more pass the limit? The sum is exact, in whole numbers.
+// Whether a farm's total would pass the limit with so many litres more. The sum is exact, in whole numbers.
 fn passes_at(ledger: &[u8], farm: usize, more: u32) -> bool
     requires { ⌜ (length (now ledger) ≡ ledgerLength) × (farm < farmCount) ⌝ }
     ensures { λ r. ⌜ r ≡ ltb litresLimit (totalIn farm (now (ledger .entry)) + more) ⌝ }
@@ -55,7 +55,7 @@ fn passes_at(ledger: &[u8], farm: usize, more: u32) -> bool
     (limits::LITRES_LIMIT as u64) < held as u64 + more as u64
 }
 
-// Would a farm's total with its litres? Only the farms of a set have any.
+// Whether some farm's total would pass the limit with the litres of that farm. Only the farms of the set have any.
 pub fn would_pass(ledger: &[u8], litres: &[u32; FARMS], farms: u32) -> bool
     requires { ⌜ length (now ledger) ≡ ledgerLength ⌝ }
     requires { ⌜ NoneOutside farms (λ f. getD (now litres) f 0) ⌝ }
@@ -85,7 +85,7 @@ fn add_to(ledger: &mut [u8], farm: usize, more: u32)
     put_four(ledger, farm * 4, f32::to_bits(sum));
 }
 
-// The litres of an instant that pass no limit; only the farms of a set have any.
+// Adds the litres of an instant to the totals, none of which passes the limit by them. Only the farms of the set have any.
 pub fn add(ledger: &mut [u8], litres: &[u32; FARMS], farms: u32)
     requires { ⌜ length (now ledger) ≡ ledgerLength ⌝ }
     requires { ⌜ passes (now ledger) (λ f. getD (now litres) f 0) ≡ false ⌝ }
@@ -101,7 +101,7 @@ pub fn add(ledger: &mut [u8], litres: &[u32; FARMS], farms: u32)
     }
 }
 
-// The new year.
+// Clears every total, for the new year.
 pub fn clear(ledger: &mut [u8])
     requires { ⌜ length (now ledger) ≡ ledgerLength ⌝ }
     ensures { λ _. ⌜ now (ledger .exit) ≡ cleared ⌝ }

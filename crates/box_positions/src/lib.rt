@@ -1,4 +1,5 @@
-// The positions of a bay (02, item 9), by name and as a table of bytes: a name saved, looked up and forgotten.
+// The positions of a bay (02, item 9) as a table of bytes: a name looked up, saved and forgotten; and the theorems that the table
+// is the positions by name.
 ghost use mathlib.Core.Path.{_≡_};
 ghost use mathlib.Core.Bool.{cond};
 ghost use Prim.Native.Nat.{_<_};
@@ -21,7 +22,7 @@ pub const TABLE_LENGTH: usize = MAX_POSITIONS * ENTRY_LENGTH;
 // The mark of a used entry, behind the name.
 const USED: u64 = 4294967296;
 
-// An entry with this key, or 16.
+// The number of an entry with this key, or 16 if there is none.
 fn place(table: &[u8], key: u64) -> usize
     ensures { λ r. ⌜ r ≡ place maxPositions key (now (table .entry)) ⌝ }
 {
@@ -35,14 +36,14 @@ fn place(table: &[u8], key: u64) -> usize
     MAX_POSITIONS
 }
 
-// The entry of a name, or 16.
+// The number of the entry of a name, or 16 if there is none.
 pub fn place_of(table: &[u8], name: u32) -> usize
     ensures { λ r. ⌜ r ≡ placeOf name (now (table .entry)) ⌝ }
 {
     place(table, name as u64 + USED)
 }
 
-// The entry where a name is known, else a free one, or 16.
+// The number of the entry of a name, or else of a free entry, or 16 if there is neither.
 fn place_for(table: &[u8], known: usize) -> usize
     ensures { λ r. ⌜ r ≡ cond (ltb known maxPositions) known (place maxPositions 0 (now (table .entry))) ⌝ }
 {

@@ -1,4 +1,4 @@
--- A preview from an origin of the statement that lies in the bytes (program, specs/Program): the form for the code.
+-- A preview from an origin of the statement that the bytes encode (program, specs/Program): the form for the code.
 use Prim.Native.Nat.{ℕ}
 use mathlib.Core.List.{List}
 use Rattle.spec_base.specs.Limits.{maxDepth}
@@ -22,6 +22,6 @@ pub record Stands (t bs : List ℕ) (origin : Start) (readBack : ℕ) : Type 0 w
   pub ready : Ready t maxDepth 0 bs
   pub writable : (e : ℕ) → Writable (reactionTo (program readBack (termAt origin p)) e)
 
--- something of every statement that lies there
+-- something of every statement encoded there
 abbrev pub OfEach : (t bs : List ℕ) → (Statement → Type 0) → Type 0
 OfEach t bs P = (p : Statement) → Lies t maxDepth 0 0 bs p → P p

@@ -1,5 +1,5 @@
-// A preview of an instant, some of whose inputs have no known status (02, item 11). The sequence is checked and the state decoded once;
-// then it reacts once for each filling that can differ, and the findings are put together.
+// A preview of an instant, some of whose inputs have no known status (02, item 11): the sequence is checked and the state read
+// once, then an instant is found for each filling that can differ, and the findings are put together.
 ghost use mathlib.Core.Path.{_≡_};
 ghost use mathlib.Core.Bool.{_||_};
 ghost use lib.ListN.{length};
@@ -30,7 +30,7 @@ pub const MAX_UNKNOWN: u8 = 6;
 // The code of fillings that do not share one.
 const OPEN: u8 = 254;
 
-// One filling, by what its instant reports.
+// The findings of one filling, from what its instant reports.
 pub fn alone(emitted: u32, code: u8) -> Findings
     ensures { λ r. ⌜ r ≡ alone emitted code ⌝ }
 {
@@ -97,8 +97,8 @@ fn found(r: Reaction) -> Findings
     }
 }
 
-// The fillings of the unknown signals `free`, none of which e has; r is the reaction to e. Where it asked for none of them it is the reaction
-// to every filling. Else the fillings are those without the lowest signal that it asked for, and those with it.
+// The fillings of the unknown signals `free`, none of which e has; r is the reaction to e. Where it asked for none of them it is the
+// reaction to every filling. Else the fillings are those without the lowest signal that it asked for, and those with it.
 fn fill(
     sequence: &[u8],
     second: &SecondParts,
@@ -128,7 +128,7 @@ fn fill(
     )
 }
 
-// Every filling.
+// The findings of all fillings together.
 pub fn gather(
     sequence: &[u8],
     second: &SecondParts,

@@ -23,7 +23,7 @@ use Rattle.boxes.specs.Entries.{fits, entryOf}
 use Rattle.boxes.proofs.Entering.{entered}
 use Rattle.boxes.specs.Moving.{callBy}
 
--- the stretch that is lent, as the code cuts it out of the box
+-- the slot that is lent, as the code cuts it out of the box
 abbrev cut : (bay : ℕ) → ℕ
 cut bay = bay * stretchLength + stretchLength - bay * stretchLength
 
@@ -58,7 +58,7 @@ module _ (box : List ℕ) (bay : ℕ) (wanted : List ℕ → Bool) (c : Call) (w
       go true false d e = ap (λ (m : ℕ). called m box (buffers c)) e
       go false b d e = ap (λ (m : ℕ). called m box (buffers c)) e
 
-  -- the call on the stretch that was lent, and what comes back in its place
+  -- the call on the slot that was lent, and what comes back in its place
   pub lent-call : {m : ℕ} → m ≡ entryOf box bay wanted → m ≡ 0 → (n : ℕ) (s′ : List ℕ) (lent : List (List ℕ))
       → called n s′ lent ≡ bayCall (present bayCount box) c (slot (bay * stretchLength) (cut bay) box)
       → called n (take (bay * stretchLength) box ++ (s′ ++ drop (cut bay) (drop (bay * stretchLength) box))) lent ≡ callOf box bay c
@@ -69,7 +69,7 @@ module _ (box : List ℕ) (bay : ℕ) (wanted : List ℕ → Bool) (c : Call) (w
       ∙ ap (inBox bay box) (h ∙ ap (λ (i : ℕ). bayCall (present bayCount box) c (slot (bay * stretchLength) i box)) (whole bay))
       ∙ rw (lt-ltb bay bayCount (x .there), eq-eqb (length box) boxLength (x .sized), wants (stretchOf bay box), x .fit)
 
-  -- a reader of the stretch leaves the box
+  -- a reader of the slot leaves the box
   pub read-call : {m : ℕ} → m ≡ entryOf box bay wanted → m ≡ 0 → (n : ℕ) {s : List ℕ} (lent : List (List ℕ)) → s ≡ stretchOf bay box
       → called n s lent ≡ bayCall (present bayCount box) c s → called n box lent ≡ callOf box bay c
   unfolding callOf

@@ -1,5 +1,5 @@
-// The calls on a box of eight bays (02, items 8 to 12): which bay a call is for and whether it is there, then the call on that bay's part
-// of the box.
+// The calls on a box of eight bays (02, items 8 to 12): whether a call has a bay, by the numbers 13 and 1, and then the call on
+// that bay's slot of the box.
 ghost use mathlib.Core.Path.{_≡_};
 ghost use Rattle.boxes.specs.Entries.{fits, either, entryOf};
 ghost use mathlib.Core.List.{[], _∷_};

@@ -58,7 +58,7 @@ module _ (bs : List ℕ) (readBack : ℕ) where
     pub numbers : {x : ℕ} {n : Extent} → HasWith bs x n → x ≡ mostIn notes → Has (a .p) n
     numbers h e = h t maxDepth 0 0 (a .p) (a .known .lies) (e ∙ a .known .noted .most)
 
-    -- the numbers n that the walk finds, with k signals read back
+    -- the numbers n that the counting finds, with k signals read back
     module _ {n : Extent} (h : Has (a .p) n) where
       pub plannable : Plannable n (length (readBackSignals readBack))
       plannable =

@@ -3,7 +3,7 @@ use Prim.Native.Nat.{ℕ, _+_, _*_, _^_, _≤_, _<_}
 use Rattle.spec_base.specs.Limits.{maxBytes, maxDepth, maxSignals}
 use Rattle.ceilings.specs.declared.Extent.{Extent}
 
--- numbers of a whole sequence whose signals leave room for k declarations
+-- numbers of a whole sequence whose signals leave space for k declarations
 pub record Plannable (n : Extent) (k : ℕ) : Type 0 where
   pub count : n .commands ≤ maxBytes
   pub loops : n .loops < maxDepth

@@ -1,5 +1,5 @@
-// The check of a sequence with a read-back set (01, rows 2 to 10; 02, row 18). Of a sound one it leaves the table of second parts and
-// the notes of labels.
+// The check of a sequence with a read-back set (01, rows 2 to 10; 02, row 18): reading first, then the other rows in their order.
+// It leaves the table of second parts and the notes of an accepted sequence.
 ghost use Rattle.spec_base.specs.Limits.{maxDepth, maxBytes, signalCount};
 ghost use Rattle.wellformed.specs.Survey.{Standing};
 ghost use Rattle.checks.specs.Labelling.{ByLabels};
@@ -37,7 +37,7 @@ pub fn label_row(s: &[u8], notes: &Notes) -> u8
     }
 }
 
-// Has a sequence of n bytes one, and no more than are allowed?
+// Whether a sequence of n bytes is within row 2: not empty, and no longer than is allowed.
 pub fn is_sized(n: usize) -> bool
     ensures { λ r. ⌜ r ≡ (leb 1 n && leb n maxBytes) ⌝ }
 {

@@ -1,5 +1,5 @@
-// The table of commands (01, 'Commands'; 02, items 1 and 2) by cases on the command byte, with no constant array, and the head of a
-// command: its own bytes, or so many units for the row that turns it down (rows 3 to 5 and 18).
+// The table of commands (01, 'Commands'; 02, items 1 and 2) by cases on the command byte, with no constant array; and the head of a
+// command, which is its own bytes, with rows 3 to 5 and 18.
 ghost use mathlib.Core.Path.{_≡_};
 ghost use Rattle.spec_sequence.specs.Commands.{commandOf};
 ghost use Rattle.commands.specs.Counts.{countOf, operandsAt, partsAt, operandInRange, isLeaf};
@@ -65,7 +65,7 @@ pub fn part_count(b: u8) -> Count
     Count::Of(1)
 }
 
-// Is x, the first operand byte of the command b, in its range? Without an operand, that of signals.
+// Whether x, the first operand byte of the command b, is in its range; of a command without an operand, in that of signals.
 pub fn in_range(b: u8, x: u8) -> bool
     ensures { λ r. ⌜ r ≡ operandInRange (commandOf b) x ⌝ }
 {
@@ -84,7 +84,7 @@ pub fn in_range(b: u8, x: u8) -> bool
     x < limits::SIGNALS
 }
 
-// Has the command b no parts? A byte without a command is none.
+// Whether b is a command without parts. A byte without a command is not.
 pub fn is_leaf(b: u8) -> bool
     ensures { λ r. ⌜ r ≡ isLeaf (partsAt b) ⌝ }
 {
@@ -94,7 +94,7 @@ pub fn is_leaf(b: u8) -> bool
     }
 }
 
-// The command 0C at the front of s.
+// The head of the command 0C at the front of s: its bytes, or the row that turns it down.
 fn delivery(s: &[u8]) -> usize
     requires { ⌜ (0 < length (now s)) × (getD (now s) 0 0 ≡ 12) ⌝ }
     ensures { λ r. ⌜ r ≡ headOf (front (now (s .entry))) ⌝ }
@@ -112,7 +112,7 @@ fn delivery(s: &[u8]) -> usize
     }
 }
 
-// The command b at the front of s, which has no parts.
+// The head of the command b at the front of s, which has no parts.
 pub fn leaf(s: &[u8], b: u8) -> usize
     requires { ⌜ (0 < length (now s)) × (b ≡ getD (now s) 0 0) ⌝ }
     requires { ⌜ isLeaf (partsAt b) ≡ true ⌝ }
@@ -134,7 +134,7 @@ pub fn leaf(s: &[u8], b: u8) -> usize
     }
 }
 
-// The command at the front of s, whose byte b is that of a command with parts or of none.
+// The head of the command at the front of s, whose byte b is that of a command with parts or of no command.
 pub fn width(s: &[u8], b: u8) -> usize
     requires { ⌜ (0 < length (now s)) × (b ≡ getD (now s) 0 0) ⌝ }
     requires { ⌜ isLeaf (partsAt b) ≡ false ⌝ }

@@ -1,4 +1,4 @@
--- The signal rules on the values of the code are esterel's: one law for each case.
+-- The signal rules on the values of the code are the language's: one law for each case.
 use Prim.Native.Nat.{ℕ, _+_}
 use mathlib.Core.Path.{_≡_, refl, sym, ap, _∙_}
 use mathlib.Core.Bool.{Bool, true, false, not, _||_, cond, false≢true, true≢false}

@@ -1,5 +1,5 @@
-// The signal rules (01, 'One reaction', and 02, items 4 to 6): which of the five cases fits the two runs of a declaration's body, and
-// what the declaration makes of them, or of one run that stands for both.
+// The rules of a signal (01, 'One reaction'; 02, items 4 to 6): which of the five cases fits the two runs of its body, and what the
+// declaration makes of them, or of one run that stands for both.
 ghost use mathlib.Core.Path.{_≡_};
 ghost use Rattle.declarations.specs.Choices.{choiceOf, caseIn};
 ghost use Prim.Native.Nat.{_+_, ℕ};
@@ -50,14 +50,14 @@ pub fn choose(s: u8, minus: Reaction, plus: Reaction) -> Choice
     }
 }
 
-// Both runs count.
+// The number of reactions of a declaration: both runs count.
 pub fn counted(minus: Reaction, plus: Reaction) -> u32
     ensures { λ r. ⌜ r ≡ keptOf (1 + minus .reactions + plus .reactions) ⌝ }
 {
     reaction::over_two(minus.reactions, plus.reactions)
 }
 
-// Both runs ask; what asks inside for s does not ask outside.
+// The signals that a declaration asks for: those of both runs, without its own signal s.
 pub fn asked(s: u8, minus: Reaction, plus: Reaction) -> u32
     ensures { λ r. ⌜ r ≡ remove s (join (minus .asked) (plus .asked)) ⌝ }
 {

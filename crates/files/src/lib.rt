@@ -1,4 +1,4 @@
-// The file of a run: length, sequence, read-back set, inputs.
+// The file of a run (01, 'Bays to run'; 02, item 5): whether it is whole, and its sequence, read-back set and inputs.
 ghost use Prim.Native.Nat.{_<_};
 ghost use mathlib.Core.Path.{_≡_};
 ghost use lib.ListN.{drop};

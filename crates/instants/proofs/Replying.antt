@@ -44,7 +44,7 @@ use Rattle.instants.specs.Written.{WritableCode, Writable, writtenFrom}
 use Rattle.instants.specs.Replies.{Decodes, StandsFor, repliedFrom, Replies}
 use Rattle.theory_tick.proofs.Bounds.{Bounded, Exits, ranged-bounded, bounded-expand, bounded-declared, code-exits}
 
--- WRITTEN: the code's tree writes what esterel's instant does; the signals asked for and the litres are not told
+-- WRITTEN: the code's tree writes what the language's instant does; the signals asked for and the litres are not told
 pub written-from : (j : Traces.Traced) → writtenFrom (reactionOf j) ≡ written (instantOf j)
 unfolding encodeState encodeAnswer none
 written-from (traced (Instants.instant (gives o ended l t) x n) a y) = rw (le-low reactionsBytes n)

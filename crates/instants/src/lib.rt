@@ -1,5 +1,5 @@
-// A call of the tick (01): the lengths of its buffers, what a state record holds, the reply of the core, which answers by value, and
-// both records written last.
+// A call of the tick (01): the lengths of its buffers (row 1), what a state record holds (rows 11 and 12), the reply, which is a
+// value, and both records, which are written last.
 ghost use mathlib.Core.Path.{_≡_};
 ghost use lib.ListN.{length};
 ghost use Rattle.spec_tick.specs.StateRecord.{stateLength};
@@ -132,7 +132,7 @@ pub fn reply_to(sequence: &[u8], state: &[u8], input: u32, read_back: u32) -> Re
     reply_of(sequence, &second, &notes, state, input, read_back)
 }
 
-// Have the state and the answer record their lengths?
+// Whether the state and the answer record have their lengths (row 1).
 pub fn fit(state: usize, answer: usize) -> bool
     ensures { λ r. ⌜ r ≡ (eqb state stateLength && eqb answer answerLength) ⌝ }
 {

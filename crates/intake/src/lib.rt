@@ -1,5 +1,5 @@
-// What hosts in C call: the check, the ceiling (02, item 6), the tick, the calls of a box of bays (02, items 8 to 12), the writing out of
-// loops (02, item 13), and the replay of a recording (02, item 14).
+// What hosts in C call: the check, the ceiling (02, item 6), the tick, the calls on a box of bays (02, items 8 to 12), loops
+// written out (02, item 13), and the replay of a recording (02, item 14). Each is one line.
 ghost use mathlib.Core.Path.{_≡_};
 ghost use mathlib.Core.List.{[], _∷_};
 ghost use Rattle.spec_sequence.specs.Check.{checked, checkOf};

@@ -11,7 +11,7 @@ labelSet s = twoWords wordLabels (s .low) (s .high)
 unfoldable pub labelsWith : ℕ → Labels
 labelsWith n = record { low = n % 2 ^ wordLabels; high = n / 2 ^ wordLabels }
 
--- the first word holds no more than it has room for, as in every value of the code
+-- the first word holds no more than it has space for, as in every value of the code
 abbrev pub LowFits : Labels → Type 0
 LowFits s = s .low < 2 ^ wordLabels
 

@@ -1,5 +1,5 @@
-// Sets of labels 0 to 127, in two words; other crates see them by `from_words`, `low_word` and `high_word` alone. Every function is
-// defined for every index; one outside the width is no member.
+// A set of labels 0 to 127 as two words of 64 bits, which other crates see by `from_words`, `low_word` and `high_word` alone. Every
+// function takes any index; one outside the width is no member.
 ghost use mathlib.Core.Path.{_≡_};
 ghost use mathlib.Core.Bool.{true};
 ghost use mathlib.Core.Logic.{_↔_};

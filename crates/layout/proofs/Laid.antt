@@ -1,4 +1,4 @@
--- What the reader accepts lies in the bytes with the table that it filled; and a statement that lies there is taken apart by
+-- What the reader accepts is encoded in the bytes with the table that it filled; and a statement encoded there is taken apart by
 -- its command byte.
 use Prim.Native.Nat.{ℕ, zero, suc, _+_, _-_, _≤_, _<_}
 use mathlib.Core.Path.{_≡_, refl, sym, ap, _∙_, subst, subst₂}

@@ -30,7 +30,7 @@ use Rattle.theory_language.specs.Farms.{farmOf, farmsOf}
 use Rattle.spec_sequence.specs.Writer.{bytesOf, size, Ranged}
 use Rattle.layout.specs.Notes.{pausesIn, setpausesIn, twiceIn, pausesCounted, mostIn, farmsIn, rankIn, noteCount, noNotes, wordAt, inWord, notePause, noteSetpause, noteFarm, noteEmission, noteSignals, noteWithin, note, Noted}
 
--- the words of both sets hold what they have room for
+-- the words of both sets hold what they have space for
 pub record WordsFit (m : List ℕ) : Type 0 where
   pub fits : (j : ℕ) → j < 4 → getD m j 0 < 2 ^ wordLabels
 

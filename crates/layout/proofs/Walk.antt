@@ -1,4 +1,4 @@
--- One law for each way out of the reading walk.
+-- One law for each way out of the reading traversal.
 use Prim.Native.Nat.{ℕ, zero, suc, _+_, _-_, _*_, _≤_, _<_}
 use mathlib.Core.Path.{_≡_, refl, sym, ap, _∙_}
 use mathlib.Core.Option.{some}

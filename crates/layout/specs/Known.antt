@@ -10,7 +10,7 @@ use Rattle.spec_base.specs.Limits.{maxBytes, maxDepth}
 use Rattle.layout.specs.Layout.{Lies}
 use Rattle.layout.specs.Notes.{Noted}
 
--- p lies in bs, the table of second parts and the notes of labels are its, and row 8 does not hold of it
+-- p is encoded in bs, the table of second parts and the notes of labels are its, and row 8 does not hold of it
 pub record Known (t notes bs : List ℕ) (p : Statement) : Type 0 where
   pub lies : Lies t maxDepth 0 0 bs p
   pub noted : Noted p notes

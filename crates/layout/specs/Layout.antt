@@ -1,4 +1,4 @@
--- How an accepted statement lies in the bytes, with what reading noted of second parts: what the later walks go by.
+-- How an accepted statement is encoded in the bytes, with what reading noted of second parts: what the later traversals go by.
 -- Offsets are those of the whole sequence.
 use Prim.Native.Nat.{ℕ, zero, suc, _+_, _-_, _≤_, _<_}
 use mathlib.Core.Path.{_≡_}
@@ -52,7 +52,7 @@ Marked t base a (suspend s p) = Marked t base (a + 2) p
 Marked t base a (held s K p) = Unit {0}
 
 -- ---- a statement in the bytes
--- L says of a number of pauses before, an offset, bytes and a statement that it lies there.
+-- L says of a number of pauses before, an offset, bytes and a statement that it is encoded there.
 -- The two parts of the command of w bytes at the front of bs, at offset a.
 pub record Two (L : (base a : ℕ) → List ℕ → Statement → Type 0) (t : List ℕ) (base a w : ℕ) (bs : List ℕ) (p q : Statement) : Type 0 where
   pub first : L base (a + w) (rest w bs) p
@@ -86,12 +86,12 @@ pub record AtFront (L : (base a : ℕ) → List ℕ → Statement → Type 0) (t
   pub bytes : 0 < length bs
   pub form : Form L t base a bs p (commandOf (getD bs 0 0))
 
--- p, of at most d levels, lies at offset a at the front of bs with `base` pauses before it, and t has its second parts
+-- p, of at most d levels, is encoded at offset a at the front of bs with `base` pauses before it, and t has its second parts
 unfoldable pub Lies : (t : List ℕ) (d base a : ℕ) → List ℕ → Statement → Type 0
 Lies t zero base a bs p = ⊥
 Lies t (suc d) base a bs p = AtFront (Lies t d) t base a bs p
 
--- ---- what a walk requires of its bytes: some statement lies at their front
+-- ---- what a traversal requires of its bytes: some statement is encoded at their front
 pub record Ready (t : List ℕ) (d a : ℕ) (bs : List ℕ) : Type 0 where
   pub base : ℕ
   pub p : Statement

@@ -1,6 +1,6 @@
 -- What reading notes of a statement, in one list of words: the labels of the pauses and those of the setpauses, in two words each,
 -- whether the label of a pause came twice, the number of pauses, the most signal commands around a command, the farms named (farms,
--- specs/Farms), and for each label the rank of its pause (esterel, specs/Ranks).
+-- specs/Farms), and for each label the rank of its pause (theory_language, specs/Ranks).
 use Prim.Native.Nat.{ℕ, suc, _+_, _/_, _%_, max}
 use mathlib.Core.Path.{_≡_}
 use mathlib.Core.Bool.{true}

@@ -1,4 +1,4 @@
--- What the reading walk answers, and what it leaves in the table of second parts and in the notes.
+-- What the reading traversal answers, and what it leaves in the table of second parts and in the notes.
 -- All offsets are those of the whole sequence.
 use Prim.Native.Nat.{ℕ, _+_, _-_, _*_, _≤_, _<_}
 use mathlib.Core.Path.{_≡_}
@@ -26,8 +26,8 @@ abbrev pub packed : (a : ℕ) → Read → ℕ
 packed a (accepted p n) = a + n
 packed a (refused number) = number * rowUnit
 
--- ---- the walk, while the table t becomes u and the notes m become n
--- what it requires: the bytes from offset a on lie within the limit, no more than a pauses came before, and no more signals are
+-- ---- the traversal, while the table t becomes u and the notes m become n
+-- what it requires: the bytes from offset a on are within the limit, no more than a pauses came before, and no more signals are
 -- allowed than in the whole sequence
 pub record Readable (signals a : ℕ) (bs t m : List ℕ) : Type 0 where
   pub fits : a + length bs ≤ maxBytes
@@ -66,7 +66,7 @@ abbrev pub Done : (signals a : ℕ) → (t u m n : List ℕ) → Read → ℕ �
 Done signals a t u m n y r = (r ≡ packed a y) × Filled signals a t u m n y
 
 -- ---- a command without parts
--- the bytes from offset a on lie within the limit, and no more than a pauses came before
+-- the bytes from offset a on are within the limit, and no more than a pauses came before
 pub record Fitting (a : ℕ) (bs m : List ℕ) : Type 0 where
   pub fits : a + length bs ≤ maxBytes
   pub counted : pausesCounted m ≤ a

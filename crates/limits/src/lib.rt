@@ -1,5 +1,5 @@
-// The widths and limits of 01 and 02, each named once for the code; specs/Limits names them for the definitions.
-// Labels are 0 to 127 (02, item 7), signals 0 to 31, exits 1 to 15.
+// The widths and limits of 01 and 02, each named once for the code; spec_base/specs/Limits names them for the definitions. Labels
+// are 0 to 127 (02, item 7), signals 0 to 31, exits 1 to 15.
 pub const LABELS: u8 = 128;
 
 pub const LABEL_COUNT: usize = 128;

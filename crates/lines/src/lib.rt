@@ -178,7 +178,7 @@ pub fn put_sets(line: &mut [u8], emitted: u64, low: u64, high: u64) -> usize
     put_field(line, at, 16, 8, emitted, b' ')
 }
 
-// From the records that its tick left.
+// The line of an instant, from the records that its tick left.
 pub fn instant_line(instant: u64, state: &[u8], answer: &[u8]) -> Line
     ensures { λ r. ⌜ Displays r (lineIn instant (now (state .entry)) (now (answer .entry))) ⌝ }
 {

@@ -1,5 +1,5 @@
-// What the run program does, as a library over slices (01, 'Bays to run'): what the file of a run comes to, and its listing piece by
-// piece.
+// What the run program prints, as a library over slices (01, 'Bays to run'): what the file of a run comes to, and its listing piece
+// by piece.
 ghost use Prim.Native.Nat.{ℕ};
 ghost use mathlib.Core.Path.{_≡_};
 ghost use mathlib.Core.List.{List};

@@ -1,4 +1,5 @@
-// Litres as single-precision numbers (02, item 12): a whole number up to 16,777,216 as its 32 bits.
+// Litres as single-precision numbers (02, item 12): whether 32 bits are a whole number up to 16,777,216, and the laws of sums of
+// such numbers.
 ghost use mathlib.Core.Path.{_≡_};
 ghost use Prim.Native.Nat.{_+_, _≤_};
 ghost use lib.ListN.{length};

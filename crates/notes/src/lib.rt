@@ -1,4 +1,5 @@
-// What reading notes of a statement, in an array of words that the caller lends (layout, specs/Notes).
+// The notes that reading takes of a statement, in an array of words that the caller lends: the labels of its pauses and setpauses,
+// the ranks of the pauses, the most signals around a command, the farms named by 0C.
 ghost use mathlib.Core.Path.{_≡_};
 ghost use Prim.Native.Nat.{_<_, _-_, _≤_, max, _^_};
 ghost use Rattle.spec_base.specs.Limits.{labelCount, maxBytes, signalCount, maxSignals};
@@ -108,7 +109,7 @@ pub fn setpauses(notes: &Notes) -> labels::Labels
     labels::from_words(notes[SETPAUSES], notes[SETPAUSES + 1])
 }
 
-// Did no label of a pause come twice?
+// Whether no label of a pause came twice.
 pub fn is_distinct(notes: &Notes) -> bool
     ensures { λ r. ⌜ r ≡ empty (twiceIn (now (notes .entry))) ⌝ }
 {

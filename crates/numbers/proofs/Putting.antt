@@ -1,4 +1,4 @@
--- Laws of bytes put in the place of others: what is read of them, of what lies before and of what lies behind.
+-- Laws of bytes put in the place of others: what is read of them, of what stands before and of what stands behind.
 use Prim.Native.Nat.{ℕ, _+_, _-_, _≤_}
 use native.Mathlib.Omega.{arith}
 use mathlib.Core.Path.{_≡_, sym, ap, ap₂, _∙_}
@@ -7,7 +7,7 @@ use lib.ListN.{length, take, drop, length-append, length-drop, take-append-drop}
 use lib.Seq.{sets, sets-eq, take-at, drop-at, drop-drop, length-take-le, take-append-le, drop-append-le}
 use Rattle.spec_base.specs.Parts.{slot, put}
 
--- what lies in the front of a list is read from it alone
+-- what stands in the front of a list is read from it alone
 pub slot-front : (i m : ℕ) (xs ys : List ℕ) → i + m ≤ length xs → slot i m (xs ++ ys) ≡ slot i m xs
 slot-front i m xs ys h =
     let k : length (drop i xs) ≡ length xs - i = length-drop i xs in
@@ -22,7 +22,7 @@ module _ (at n : ℕ) (bytes s : List ℕ) (fits : at + n ≤ length s) (sized :
   front : length (take at s) ≡ at
   front = length-take-le at s (omega arith)
 
-  -- what lies before, with the bytes put; and what lies behind
+  -- what stands before, with the bytes put; and what stands behind
   abbrev filled : List ℕ
   filled = take at s ++ bytes
 

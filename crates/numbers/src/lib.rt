@@ -1,4 +1,5 @@
-// Numbers as bytes, lowest first (01): how they are read and written; bytes at an offset, and bytes put in their place.
+// Numbers as bytes, lowest first (01), read and written for every width; bytes copied into a buffer; and the laws of bytes at an
+// offset of a list.
 pub mod copying;
 
 ghost use mathlib.Core.Path.{_≡_};

@@ -1,4 +1,4 @@
--- What a program answers, for whatever statement lies in the bytes (layout, specs/Layout).
+-- What a program answers, for whatever statement the bytes encode (layout, specs/Layout).
 use Prim.Native.Nat.{ℕ}
 use mathlib.Core.Path.{_≡_}
 use mathlib.Core.List.{List}

@@ -1,5 +1,5 @@
-// An instant of a program (02, item 5): the read-back declarations are walked outside, the lowest outermost, and the sequence
-// reacts or resumes inside.
+// An instant of a program (02, item 5): the read-back declarations outside, the lowest outermost, and the sequence, which reacts or
+// resumes, inside.
 ghost use mathlib.Core.Path.{_≡_};
 ghost use Rattle.spec_base.specs.Limits.{maxDepth};
 ghost use Rattle.layout.specs.Layout.{Ready};

@@ -1,4 +1,4 @@
--- Emissions: their bytes as they lie in an accepted sequence, their values and what they deliver a farm.
+-- Emissions: their bytes as they stand in an accepted sequence, their values and what they deliver a farm.
 use Prim.Native.Nat.{ℕ, _+_}
 use mathlib.Core.Path.{_≡_, refl, sym, ap, _∙_, subst}
 use mathlib.Core.Bool.{Bool, true, false, cond, and-eq-true-iff}

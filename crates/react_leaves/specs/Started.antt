@@ -1,4 +1,4 @@
--- What a fresh statement answers, for whatever statement lies in the bytes (layout, specs/Layout).
+-- What a fresh statement answers, for whatever statement the bytes encode (layout, specs/Layout).
 use Prim.Native.Nat.{ℕ, zero, suc, _+_}
 use mathlib.Core.Path.{_≡_}
 use mathlib.Core.List.{List}
@@ -9,7 +9,7 @@ use Rattle.layout.specs.Layout.{Lies, Ready}
 use Rattle.reaction.specs.declared.Reaction.{Reaction}
 use Rattle.reaction.specs.Reactions.{Realizes}
 
--- r is the tree of the statement that lies there, and the litres x of all farms become y by it
+-- r is the tree of the statement encoded there, and the litres x of all farms become y by it
 abbrev pub Started : (t : List ℕ) (d a : ℕ) (bs : List ℕ) (e : ℕ) (x y : List ℕ) (r : Reaction) → Type 0
 Started t d a bs e x y r = (base : ℕ) (p : Statement) → Lies t d base a bs p → (f : ℕ) → Realizes f x y r (startTraced f p e)
 
@@ -22,7 +22,7 @@ Without b low (suc n) = Without b low n × (b ≡ low + n → ⊥)
 abbrev pub Partless : (b : ℕ) → Type 0
 Partless b = Without b 4 6 × (b ≡ 11 → ⊥)
 
--- a command without parts lies at the front of bs
+-- a command without parts is encoded at the front of bs
 pub record Leaf (bs : List ℕ) : Type 0 where
   pub t : List ℕ
   pub d : ℕ

@@ -1,5 +1,5 @@
-// Commands without parts: two that a traversal answers at once, the value of an emission from its bytes (02, item 12), and the reaction
-// of each that is started fresh.
+// Commands without parts where a statement reacts: nothing and pause, which a traversal answers at once, the value of an emission
+// from its bytes (02, item 12), and the reaction of each.
 ghost use mathlib.Core.Path.{_≡_};
 ghost use Prim.Native.Nat.{ℕ, _<_};
 ghost use lib.ListN.{getD, length};

@@ -1,5 +1,5 @@
--- The values by which the code answers, case by case, from the terms of esterel. The residual is forgotten, and so is an error
--- beside a code that is not wrong: there is none (theory, wrong-is-error).
+-- The values by which the code answers, case by case, from the terms of the language. The residual is forgotten, and so is an error
+-- beside a code that is not wrong: there is none (theory_language, wrong-is-error).
 use Prim.Native.Nat.{ℕ, _+_, _%_, _≤_, _<_, min}
 use mathlib.Core.Path.{_≡_}
 use mathlib.Core.Bool.{false}
@@ -19,7 +19,7 @@ use Rattle.spec_language.specs.Reaction as rules
 use Rattle.reaction.specs.Completions.{completionOf}
 use Rattle.reaction.specs.declared.Reaction.{Reaction}
 
--- what 32 bits keep of a number: no accepted program takes more reactions (demands, Shows.counted)
+-- what 32 bits keep of a number: no accepted program takes more reactions (spec_tick, Shows.counted)
 abbrev pub keptOf : ℕ → ℕ
 keptOf n = n % reactionsCount
 

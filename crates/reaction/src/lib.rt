@@ -1,5 +1,5 @@
-// What one reaction gives (01, 'One reaction'): completions and their codes, the reactions of commands without parts, the number of
-// reactions of a tree from those of its parts (02, item 6), the signals that a tree asks for, and the litres of each farm (02, item 12).
+// What one reaction gives (01, 'One reaction'): its completion, the reactions of commands without parts, the number of reactions of
+// a tree from those of its parts (02, item 6), the signals that it asks for, and the litres of each farm (02, item 12).
 ghost use mathlib.Core.Path.{_≡_};
 ghost use Rattle.spec_language.specs.Reaction.{isWrong, ended, waiting, leaving, gives};
 ghost use Rattle.reaction.specs.Completions.{codeOf, greaterOf, isEnded, caught};
@@ -87,7 +87,7 @@ pub fn caught(k: Completion) -> Completion
     }
 }
 
-// The greatest field first, so that no room is lost between two. `asked` are the signals whose status its tree asked for: where
+// The greatest field first, so that no space is lost between two. `asked` are the signals whose status its tree asked for: where
 // a run of a signal's body did not ask for it, the other run is the same.
 pub struct Reaction {
     pub labels: Labels,
@@ -101,7 +101,7 @@ pub struct Reaction {
 pub type Deliveries = [u32; limits::FARMS];
 
 // The reactions of a command over two parts. The sum is in range whatever they are, and keeps 32 bits, as the answer does; that
-// no accepted program takes more is part of demand 2 (demands, Shows.counted).
+// no accepted program takes more is part of demand 2 (spec_tick, Shows.counted).
 pub fn over_two(n: u32, m: u32) -> u32
     ensures { λ r. ⌜ r ≡ keptOf (1 + n + m) ⌝ }
 {

@@ -1,4 +1,4 @@
--- What the walk answers for a command without parts.
+-- What the traversal answers for a command without parts.
 use Prim.Native.Nat.{ℕ, _+_, _≤_, _<_}
 use mathlib.Core.Path.{_≡_, refl, ap, _∙_}
 use mathlib.Core.Bool.{true}

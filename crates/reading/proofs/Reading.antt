@@ -1,4 +1,4 @@
--- What the walk over a whole sequence answers and leaves.
+-- What the traversal over a whole sequence answers and leaves.
 use Prim.Native.Nat.{ℕ, _-_, _*_, _/_, _≤_, _<_}
 use mathlib.Core.Path.{_≡_, refl, sym, ap, _∙_, subst}
 use mathlib.Core.List.{List}

@@ -1,4 +1,4 @@
--- What the reading walk asks of a command's byte, and what it notes at a signal command, before it goes into its part.
+-- What the reading traversal asks of a command's byte, and what it notes at a signal command, before it goes into its part.
 use Prim.Native.Nat.{ℕ, _-_, _≤_}
 use mathlib.Core.Path.{_≡_}
 use mathlib.Core.Bool.{Bool, false, _&&_}

@@ -1,4 +1,4 @@
-// Commands without parts: what the walk answers for one, and what it notes.
+// Commands without parts: what the traversal answers for one, and what it notes.
 ghost use mathlib.Core.Path.{_≡_};
 ghost use mathlib.Core.Bool.{true};
 ghost use Prim.Native.Nat.{_<_};

@@ -1,4 +1,4 @@
-// The reader (01, 'Commands' and rows 3 to 6): one walk into every part of a command. It answers one number: the row that
+// The reader (01, 'Commands' and rows 3 to 6): one traversal, into every part of a command. It answers one number: the row that
 // turns it down, or the offset behind the statement. Offsets are those of the whole sequence.
 ghost use mathlib.Core.Path.{_≡_};
 ghost use Prim.Native.Nat.{ℕ, _+_, _≤_, _<_};
@@ -27,7 +27,7 @@ pub enum Reading {
     Refused(u8),
 }
 
-// The first of two parts, at the front of s: one without parts of its own takes no walk.
+// The first of two parts, at the front of s: one without parts of its own is read here, without recursion.
 fn first(
     s: &[u8],
     at: usize,

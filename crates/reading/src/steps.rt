@@ -1,4 +1,4 @@
-// Steps of the reading walk at one command (01, 'Commands' and rows 3 to 6), outside its recursion.
+// Steps of the reading traversal at one command (01, 'Commands' and rows 3 to 6), outside its recursion.
 ghost use mathlib.Core.Path.{_≡_};
 ghost use mathlib.Core.List.{List, _∷_};
 ghost use Prim.Native.Nat.{ℕ, _≤_, _<_};
@@ -14,7 +14,7 @@ use notes::Notes;
 // What `declare` answers where no signal is left.
 pub const CROWDED: u8 = 255;
 
-// May x be the operand of an exit?
+// Whether x may be the operand of an exit.
 pub fn is_exit(x: u8) -> bool
     ensures { λ r. ⌜ ((xs : List ℕ) → r ≡ inRange Command.exit (x ∷ xs)) ⌝ }
 {
@@ -24,21 +24,21 @@ pub fn is_exit(x: u8) -> bool
     x <= limits::MAX_EXIT
 }
 
-// Has the command b two parts behind an operand?
+// Whether the command b has two parts behind an operand.
 pub fn is_choice(b: u8) -> bool
     ensures { λ r. ⌜ r ≡ isChoice (commandOf b) ⌝ }
 {
     b == limits::PRESENT
 }
 
-// Does the command b declare a signal?
+// Whether the command b declares a signal.
 pub fn declares(b: u8) -> bool
     ensures { λ r. ⌜ r ≡ isDeclaration (commandOf b) ⌝ }
 {
     b == limits::SIGNAL
 }
 
-// Is no level left for the command?
+// Whether no level is left for a command (row 6).
 pub fn is_deep(depth: u8) -> bool
     ensures { λ r. ⌜ r ≡ eqb depth 0 ⌝ }
 {

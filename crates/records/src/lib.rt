@@ -1,5 +1,5 @@
-// The records that a host lends or is given (01, 'States and resuming'; 02, items 6, 7 and 10): the state record, the answer record, the
-// record of an instant, and what a panel shows of one; a label set at any offset of a buffer.
+// The records of a machine and of an instant as bytes (01, 'States and resuming'; 02, items 6, 7 and 10): state record, answer
+// record, the record of an instant and what a panel shows of it; where each field begins, and functions that read and write it.
 ghost use mathlib.Core.Path.{_≡_};
 ghost use Prim.Native.Nat.{_+_, _≤_};
 ghost use lib.ListN.{length};
@@ -54,7 +54,7 @@ pub fn labels(state: &[u8]) -> Labels
     labels_at(state, LABELS_AT)
 }
 
-// Writes a label set at any offset of a buffer that has room for it.
+// Writes a label set at any offset of a buffer that has space for it.
 pub fn put_labels(buffer: &mut [u8], at: usize, labels: Labels)
     requires { ⌜ at + labelBytes ≤ length (now buffer) ⌝ }
     ensures { λ _. ⌜ now (buffer .exit) ≡ sets (now (buffer .entry)) at (leBytes labelBytes (labelSet labels)) ⌝ }
@@ -64,7 +64,7 @@ pub fn put_labels(buffer: &mut [u8], at: usize, labels: Labels)
     numbers::put_le(buffer, high_at, WORD_BYTES, labels::high_word(labels));
 }
 
-// A buffer of another length is left as it is.
+// Writes a state record; a buffer of another length is left as it is.
 pub fn write_state(state: &mut [u8], phase: u8, labels: Labels)
     ensures { λ _. ⌜ now (state .exit) ≡ replaced (now (state .entry)) (stateRecord phase (labelSet labels)) ⌝ }
 {
@@ -117,7 +117,7 @@ pub fn reactions(answer: &[u8]) -> u32
     numbers::get_le(answer, REACTIONS_AT, REACTIONS_BYTES) as u32
 }
 
-// A buffer of another length is left as it is.
+// Writes an answer record; a buffer of another length is left as it is.
 pub fn write_answer(answer: &mut [u8], code: u8, kind: u8, place: u16, emitted: u32, reactions: u32)
     ensures { λ _. ⌜ now (answer .exit) ≡ replaced (now (answer .entry)) (answerRecord code kind place emitted reactions) ⌝ }
 {
@@ -175,7 +175,7 @@ pub fn answer(record: &[u8]) -> &[u8]
     numbers::part(record, ANSWER_AT, ANSWER_LENGTH)
 }
 
-// A buffer of another length is left as it is.
+// Writes the record of an instant; a buffer of another length is left as it is.
 pub fn write_record(buf: &mut [u8], number: u32, input: u32, answer: &[u8], state: &[u8])
     requires { ⌜ (length (now answer) ≡ answerLength) × (length (now state) ≡ stateLength) ⌝ }
     ensures { λ _. ⌜ now (buf .exit) ≡ replaced (now (buf .entry)) (recordOf number input (now (answer .entry)) (now (state .entry))) ⌝ }

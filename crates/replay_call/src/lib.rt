@@ -1,5 +1,5 @@
-// A recording compared with what its sequence gives (02, item 14). The sequence is checked once; then each record costs an instant and
-// 37 compared bytes. Nothing of the recording is believed but its inputs: the machine goes on from its own states, which need no row 11.
+// The call that checks a recording against a sequence (02, item 14): one check, then an instant and 37 compared bytes for each
+// record. Nothing of the recording is believed but its inputs: the machine goes on from its own states, which need no row 11.
 ghost use mathlib.Core.Path.{_≡_};
 ghost use Rattle.labels.specs.Labels.{labelSet};
 ghost use Rattle.instants.specs.Written.{Writable};

@@ -1,4 +1,4 @@
-// What the replay program does, as a library over slices (02, item 14): the line that it prints for a file.
+// What the replay program prints, as a library over slices (02, item 14): one line for a file.
 ghost use Rattle.lines.specs.Shown.{Displays};
 ghost use Rattle.spec_programs.specs.Verdict.{verdictOf};
 use lines::Line;

@@ -1,4 +1,4 @@
--- The labels of the pauses of a mask, for whatever statement lies in the bytes (layout, specs/Layout).
+-- The labels of the pauses of a mask, for whatever statement the bytes encode (layout, specs/Layout).
 use Prim.Native.Nat.{ℕ}
 use mathlib.Core.Path.{_≡_}
 use mathlib.Core.List.{List}
@@ -12,7 +12,7 @@ use Rattle.labels.specs.declared.Labels.{Labels}
 use Rattle.labels.specs.Labels.{labelSet}
 use Rattle.layout.specs.Layout.{Two, Lies}
 
--- r has the labels of the pauses of the mask m in the statement that lies there
+-- r has the labels of the pauses of the mask m in the statement encoded there
 abbrev pub Labelled : (t : List ℕ) (d a : ℕ) (bs : List ℕ) (m : ℕ) (r : Labels) → Type 0
 Labelled t d a bs m r = (base : ℕ) (p : Statement) → Lies t d base a bs p → labelSet r ≡ labelsBy base p m
 

@@ -1,4 +1,4 @@
--- What a waiting statement answers by the ranks m of its active pauses, for whatever statement lies in the bytes
+-- What a waiting statement answers by the ranks m of its active pauses, for whatever statement the bytes encode
 -- (layout, specs/Layout).
 use Prim.Native.Nat.{ℕ}
 use mathlib.Core.Bool.{cond}
@@ -11,7 +11,7 @@ use Rattle.layout.specs.Layout.{Lies}
 use Rattle.reaction.specs.declared.Reaction.{Reaction}
 use Rattle.reaction.specs.Reactions.{Realizes}
 
--- r is the tree of the statement that lies there, and the litres x of all farms become y by it
+-- r is the tree of the statement encoded there, and the litres x of all farms become y by it
 abbrev pub Resumed : (t : List ℕ) (d a : ℕ) (bs : List ℕ) (m e : ℕ) (x y : List ℕ) (r : Reaction) → Type 0
 Resumed t d a bs m e x y r = (base : ℕ) (p : Statement) → Lies t d base a bs p → (f : ℕ) → Realizes f x y r (resumeTraced f base p m e)
 

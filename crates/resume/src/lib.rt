@@ -1,5 +1,5 @@
-// A waiting statement resumes by the ranks of its active pauses, and no expansion is built. Only parts with an active pause are
-// entered; `second` says where second parts begin and how many pauses stand before, which splits the ranks.
+// A waiting statement resumes by the ranks of its active pauses; no expansion is built. Only parts with an active pause are
+// entered: the table of second parts says where one begins and how many pauses stand before it, which splits the ranks.
 pub mod kept;
 
 ghost use mathlib.Core.Path.{_≡_};

@@ -1,4 +1,4 @@
--- The rules on the values of the code are esterel's: one law for each way in which a rule returns.
+-- The rules on the values of the code are the language's: one law for each way in which a rule returns.
 use Prim.Native.Nat.{ℕ, _+_, _-_, _<_}
 use mathlib.Core.Path.{_≡_, sym, _∙_}
 use mathlib.Core.Bool.{Bool, true, false, cond, false≢true, true≢false}

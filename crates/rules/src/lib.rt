@@ -1,5 +1,5 @@
-// The rules of commands with parts (01, 'One reaction', and 02, item 1): what a command makes of the reaction of its part, or of its two
-// parts. Those of a declaration are in declarations.
+// The rules of commands with parts (01, 'One reaction'; 02, item 1), a function for each: what a command makes of the reactions of
+// its part or of its two parts. The rules of a signal are in `declarations`.
 ghost use mathlib.Core.Path.{_≡_};
 ghost use Prim.Native.Nat.{ℕ, _<_};
 ghost use Rattle.spec_base.specs.Limits.{signalCount};
@@ -59,7 +59,7 @@ pub fn in_suspend(p: Reaction) -> Reaction
 }
 
 // A suspend that goes on, its signal being absent; it asked for that signal, whose set is `absent`. The set and not the signal is
-// what a walk keeps while the part resumes, so it is the argument here.
+// what a traversal keeps while the part resumes, so it is the argument here.
 pub fn in_held(absent: u32, p: Reaction) -> Reaction
     ensures { λ r. ⌜ ((s : ℕ) → absent ≡ only s → FromOne (heldTraced s) p r) ⌝ }
 {

@@ -8,7 +8,7 @@ use listing::Run;
 // One byte more than a file may have, so that a longer one is seen.
 const ROOM: usize = 65537;
 
-// As many turns as the room has bytes, and two: the listing has no more (runs, turns-list).
+// As many turns as the buffer has bytes, and two: the listing has no more (theory_programs, turns-list).
 const TURNS: usize = 65539;
 
 // Writes the next piece, and answers the run after it.

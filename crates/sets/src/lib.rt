@@ -1,1 +1,2 @@
-// Sets of small numbers, for signals and for labels, and the laws of them: definitions and proofs, no code.
+// The laws of sets of small numbers, which stand for sets of signals and of labels: members, tests, sets below a width, sets in two
+// words, subsets. Proofs, no code.

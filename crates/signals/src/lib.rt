@@ -1,5 +1,5 @@
-// Sets of signals 0 to 31 as numbers: bit i says whether signal i is a member. Every function is defined for every index; one
-// outside the width is no member.
+// A set of signals 0 to 31 as a number: bit i says whether signal i is a member. Every function takes any index; one outside the
+// width is no member.
 ghost use mathlib.Core.Path.{_≡_};
 ghost use lib.ListN.{length};
 ghost use Rattle.spec_base.specs.Limits.{signalCount};

@@ -1,4 +1,4 @@
--- The calls of a bay on its stretch (02, items 8 to 12): the number, the stretch after the call and the lent buffers after it.
+-- The calls of a bay on its slot (02, items 8 to 12): the number, the slot after the call and the lent buffers after it.
 use Prim.Native.Nat.{ℕ, zero, suc, _+_}
 use mathlib.Core.Bool.{_&&_, cond}
 use mathlib.Core.List.{List, [], _∷_}
@@ -27,7 +27,7 @@ use Rattle.spec_bay.specs.Stretch.{stateAt, countAt, positionsAt, sequen
 abbrev pub sharedCeiling : ℕ
 sharedCeiling = 65536
 
--- what a tick makes of the state record, put where the stretch has it
+-- what a tick makes of the state record, put where the slot has it
 abbrev pub stateKept : List ℕ → Outcome → Called
 stateKept s (outcome number state answer) = called number (put stateAt stateLength state s) (answer ∷ [])
 
@@ -76,7 +76,7 @@ unfoldable pub bayAdmitOf : (present : ℕ) (s : List ℕ) → Terms → Called
 bayAdmitOf present s t = byCheck present s t (checked (t .sequence) (t .readBack))
 
 -- ---- positions (02, item 9)
--- what a call makes of the table, put where the stretch has it
+-- what a call makes of the table, put where the slot has it
 abbrev pub positionsKept : List ℕ → Kept → Called
 positionsKept s (kept number t) = called number (put positionsAt tableLength t s) []
 
@@ -96,7 +96,7 @@ restored s (some labels) = called 0 (put stateAt stateLength (stateRecord 1 labe
 unfoldable pub bayRestoreOf : (s : List ℕ) (name : ℕ) → Called
 bayRestoreOf s name = restored s (lookup name (positionsIn s))
 
--- ---- the readers of a record (02, item 10): any record of 37 bytes; they leave the stretch
+-- ---- the readers of a record (02, item 10): any record of 37 bytes; they leave the slot
 abbrev pub showing : (s : List ℕ) (shown : List ℕ) (viewLength : ℕ) (trace view : List ℕ) → Called
 showing s shown viewLength trace view =
     cond (eqb (length trace) recordLength && eqb (length view) viewLength) (called 0 s (shown ∷ [])) (called 1 s (view ∷ []))
@@ -109,7 +109,7 @@ bayServiceOf s trace view = showing s trace recordLength trace view
 unfoldable pub bayPanelOf : (s trace view : List ℕ) → Called
 bayPanelOf s trace view = showing s (panelOf (serviceOnlyIn s) trace) panelLength trace view
 
--- ---- a preview (02, item 11): 'The machine stays', and with it the stretch
+-- ---- a preview (02, item 11): 'The machine stays', and with it the slot
 abbrev pub stretchKept : List ℕ → Previewed → Called
 stretchKept s (previewed number buffer) = called number s (buffer ∷ [])
 
@@ -117,7 +117,7 @@ unfoldable pub bayPreviewOf : (s : List ℕ) (e unknown : ℕ) (buffer : List �
 bayPreviewOf s e unknown buffer = stretchKept s (previewOf (sequenceIn s) (stateIn s) e unknown (readBackIn s) buffer)
 
 -- ---- the ledger of the bay number (02, item 12)
--- 'Reading it writes the 32 totals, then the ledger's total .. into 132 lent bytes'; the stretch stays
+-- 'Reading it writes the 32 totals, then the ledger's total .. into 132 lent bytes'; the slot stays
 unfoldable pub bayLedgerOf : (s totals : List ℕ) → Called
 bayLedgerOf s totals = cond (eqb (length totals) readingLength) (called 0 s (readingOf (ledgerIn s) ∷ [])) (called 1 s (totals ∷ []))
 

@@ -1,5 +1,5 @@
--- Calls of a bay worked by hand, each on one stretch: what it writes, what it leaves, and its number. Lists of calls are worked in
--- box_examples.
+-- Calls of a bay worked by hand, each on one slot: what it writes, what it leaves, and its number. Lists of calls are worked in
+-- spec_box.
 use Prim.Native.Nat.{ℕ, _+_}
 use mathlib.Core.Path.{_≡_, refl}
 use mathlib.Core.Bool.{cond}
@@ -91,7 +91,7 @@ part-given-back : partOf (memoryAfter (bayReleaseOf busy)) ≡ 0
 unfolding bayReleaseOf partOf busy filled vacated blank put zeros leBytes leNumber
 part-given-back = refl
 
--- ---- a tick: the read-back set that the bay holds, and the state where the stretch has it
+-- ---- a tick: the read-back set that the bay holds, and the state where the slot has it
 -- emits signal 0, and beside it pauses where signal 0 is present: with signal 0 read back it waits, without it ends
 abbrev waitsIfRead : List ℕ
 waitsIfRead = 0x05 ∷ 0x02 ∷ 0x00 ∷ 0x07 ∷ 0x00 ∷ 0x01 ∷ 0x00 ∷ 0x00 ∷ []
@@ -104,7 +104,7 @@ state-moved : labelsIn (stateIn (memoryAfter (stateKept blank (outcome 0 (stateR
 unfolding filled vacated blank put zeros leBytes leNumber
 state-moved = refl
 
--- ---- its litres: entered, and 19 for one more than the limit, which leaves the stretch and the answer
+-- ---- its litres: entered, and 19 for one more than the limit, which leaves the slot and the answer
 litres-entered : totalIn 2 (ledgerIn (memoryAfter (charged busy (forTwo 4) [] (called 0 busy [])))) ≡ 9
 unfolding wouldPass totalIn ofBits whole inUnsigned toUnsigned addedBelow toBits ofInt busy filled vacated blank put zeros leBytes leNumber
 litres-entered = refl

@@ -1,4 +1,4 @@
--- What a call comes to: its number, the memory after it (a box, or the stretch of a bay), and the other buffers that were lent for
+-- What a call comes to: its number, the memory after it (a box, or the slot of a bay), and the other buffers that were lent for
 -- writing after it, in their order.
 use Prim.Native.Nat.{ℕ}
 use mathlib.Core.List.{List, [], _∷_}

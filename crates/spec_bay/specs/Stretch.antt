@@ -1,4 +1,4 @@
--- The stretch of a bay as bytes (02, item 8): what its admission fixes, what its calls move, and behind both what outlives its
+-- The slot of a bay as bytes (02, item 8): what its admission fixes, what its calls move, and behind both what outlives its
 -- release, the ledger of the bay number. A box is eight of them.
 use Prim.Native.Nat.{ℕ, _+_}
 use mathlib.Core.Bool.{Bool, cond}
@@ -83,7 +83,7 @@ ledgerIn s = slot bayLength ledgerLength s
 unfoldable pub partOf : List ℕ → ℕ
 partOf s = cond (isEmpty s) 0 (ceilingIn s)
 
--- ---- a stretch that is written
+-- ---- a slot that is written
 -- a bay taken out
 unfoldable pub vacated : List ℕ → List ℕ
 vacated s = put 0 bayLength (zeros bayLength) s

@@ -1,5 +1,5 @@
 -- The ticks of one bay in a list of calls to a box, for any function in the place of `callOf`: what they, and the instants among them,
--- come to from an admission or a coming back to a position on, in the words of the three demands. box_theory has the claims of `callOf`.
+-- come to from an admission or a coming back to a position on, in the words of the three demands. theory_box has the claims of `callOf`.
 use Prim.Native.Nat.{ℕ}
 use mathlib.Core.Path.{_≡_}
 use mathlib.Core.Logic.{_≢_}
@@ -96,7 +96,7 @@ OverBay call Has =
     (box : List ℕ) (bay : ℕ) (t : Terms) → Sendable (admit t) → number (call box bay (admit t)) ≡ 0
     → (xs : List Request) → NotTakenOut call bay (memoryAfter (call box bay (admit t))) xs → Has bay t (memoryAfter (call box bay (admit t))) xs
 
--- the terms that a stretch holds
+-- the terms that a slot holds
 abbrev pub termsIn : List ℕ → Terms
 termsIn s = terms (sequenceIn s) (readBackIn s) (serviceOnlyIn s)
 

@@ -1,4 +1,4 @@
--- The box (02, items 8 to 12): eight stretches, one a bay, and a call to one of them: the number, the box after the call and the lent
+-- The box (02, items 8 to 12): eight slots, one a bay, and a call to one of them: the number, the box after the call and the lent
 -- buffers after it, for all arguments.
 use Prim.Native.Nat.{ℕ, zero, suc, _+_, _*_}
 use mathlib.Core.Bool.{Bool, true, not, cond}
@@ -96,7 +96,7 @@ buffers (preview e unknown buffer) = buffer ∷ []
 buffers (ledger totals) = totals ∷ []
 buffers newYear = []
 
--- the call on the bay's stretch; what those present have of the shared ceiling concerns an admission alone
+-- the call on the bay's slot; what those present have of the shared ceiling concerns an admission alone
 abbrev pub bayCall : (present : ℕ) → Call → List ℕ → Called
 bayCall present (admit t) s = bayAdmitOf present s t
 bayCall present release s = bayReleaseOf s
@@ -124,7 +124,7 @@ isFor (preview e unknown buffer) s = not (isEmpty s)
 isFor (ledger totals) s = true
 isFor newYear s = true
 
--- what a call makes of the bay's stretch, put where the box has it
+-- what a call makes of the bay's slot, put where the box has it
 abbrev pub inBox : (bay : ℕ) → List ℕ → Called → Called
 inBox bay box (called number s lent) = called number (put (bay * stretchLength) stretchLength s box) lent
 

@@ -1,5 +1,5 @@
--- The first steps of a call on a box worked by hand: which bay is there for it, whose stretch it reads, and the order of its errors.
--- Boxes with bays in them are worked in box_examples. Then what counts in a list of calls.
+-- The first steps of a call on a box worked by hand: which bay is there for it, whose slot it reads, and the order of its errors.
+-- Boxes with bays in them are worked in `Worked` and its neighbours. Then what counts in a list of calls.
 use Prim.Native.Nat.{ℕ, _*_, _-_}
 use mathlib.Core.Path.{_≡_, refl}
 use mathlib.Core.Bool.{true, false}
@@ -44,7 +44,7 @@ length-before-bay : number (callOf [] 0 release) ≡ 1
 unfolding callOf leNumber
 length-before-bay = refl
 
--- ---- the second stretch is that of bay 1
+-- ---- the second slot is that of bay 1
 own-stretch : getD (stretchOf 1 (replicate stretchLength 7 ++ replicate stretchLength 8)) 0 0 ≡ 8
 own-stretch = refl
 

@@ -1,4 +1,4 @@
--- What 02, item 8, says of a box, each sentence a predicate of any function in the place of `callOf`: box_theory has them of
+-- What 02, item 8, says of a box, each sentence a predicate of any function in the place of `callOf`: theory_box has them of
 -- `callOf`, and refutes them for boxes that break them (WrongBoxes).
 use Prim.Native.Nat.{ℕ, _+_, _≤_, _<_}
 use mathlib.Core.Path.{_≡_}
@@ -21,7 +21,7 @@ abbrev pub RefusalsLeave : Calling → Type 0
 RefusalsLeave call =
     (box : List ℕ) (bay : ℕ) (c : Call) → number (call box bay c) ≢ 0 → call box bay c ≡ called (number (call box bay c)) box (buffers c)
 
--- a call to a bay leaves the stretches of the others, and the length of the box
+-- a call to a bay leaves the slots of the others, and the length of the box
 abbrev pub OthersStay : Calling → Type 0
 OthersStay call =
     (box : List ℕ) (bay : ℕ) (c : Call) → (length (memoryAfter (call box bay c)) ≡ length box)
@@ -29,15 +29,15 @@ OthersStay call =
 
 -- 'Two runs from an empty box, written by its calls only, with the same calls to one bay in the same order and its admissions
 -- answered alike, give it the same answers and states, whatever the others get', and whatever bytes the buffers had that it was lent for
--- writing: the same stretch, of which the state is a field
+-- writing: the same slot, of which the state is a field
 abbrev pub Isolated : Calling → Type 0
 Isolated call =
     (bay : ℕ) → bay < bayCount → (xs ys : List Request) → asked call bay emptyBox xs ≡ asked call bay emptyBox ys
     → (answers call bay emptyBox xs ≡ answers call bay emptyBox ys)
     × (stretchOf bay (boxAfter call emptyBox xs) ≡ stretchOf bay (boxAfter call emptyBox ys))
 
--- 'only admission depends on them, through that sum': in two boxes with the same stretch of the bay, and for an admission the same
--- sum of the ceilings of those present, a call to the bay gives the same answer and stretch
+-- 'only admission depends on them, through that sum': in two boxes with the same slot of the bay, and for an admission the same
+-- sum of the ceilings of those present, a call to the bay gives the same answer and slot
 abbrev pub SumAlike : Call → (box box′ : List ℕ) → Type 0
 SumAlike c box box′ = (t : Terms) → c ≡ admit t → present bayCount box ≡ present bayCount box′
 

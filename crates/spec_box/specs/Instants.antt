@@ -1,5 +1,5 @@
 -- The records that the instants of a bay leave over a list of calls (02, item 10), and what 02 says of them, each sentence a
--- predicate of any function in the place of `callOf`, which box_theory has of `callOf`.
+-- predicate of any function in the place of `callOf`, which theory_box has of `callOf`.
 use Prim.Native.Nat.{ℕ, _+_, _≤_, _<_, min}
 use mathlib.Core.Path.{_≡_}
 use mathlib.Core.Logic.{_≢_, _↔_}

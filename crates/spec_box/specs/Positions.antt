@@ -1,5 +1,5 @@
 -- The positions of a bay over a list of calls (02, item 9), by name and with no table in them, and what 02 says of them: each sentence
--- a predicate of any function in the place of `callOf`, which box_theory has of `callOf`.
+-- a predicate of any function in the place of `callOf`, which theory_box has of `callOf`.
 use Prim.Native.Nat.{ℕ, _<_}
 use mathlib.Core.Path.{_≡_}
 use mathlib.Core.Logic.{_≢_, _↔_}

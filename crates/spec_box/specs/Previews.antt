@@ -32,7 +32,7 @@ PreviewShows call =
 abbrev pub MachineStays : Calling → Type 0
 MachineStays call = (box : List ℕ) (bay e unknown : ℕ) (buffer : List ℕ) → memoryAfter (call box bay (preview e unknown buffer)) ≡ box
 
--- the ten bytes, each sentence of them both ways (box_fillings, specs/Claims), by the answers of the tick on what the bay holds
+-- the ten bytes, each sentence of them both ways (spec_bay, specs/PreviewClaims), by the answers of the tick on what the bay holds
 abbrev pub TenBytes : Calling → Type 0
 TenBytes call =
     (box : List ℕ) (bay e unknown : ℕ) (buffer : List ℕ) → number (call box bay (preview e unknown buffer)) ≡ 0

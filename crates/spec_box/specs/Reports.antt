@@ -67,7 +67,7 @@ abbrev pub ByLabelSets : Calling → Type 0
 ByLabelSets call =
     (xs : List Request) → AllSendable xs → reports (byLabelSets .reads) call emptyBox xs ≡ paperReports byLabelSets emptyPaper xs
 
--- ---- what is held: a stretch of the box holds what stands under its bay number on that paper
+-- ---- what is held: a slot of the box holds what stands under its bay number on that paper
 pub record BayHeld (s : List ℕ) (b : PaperBay State ℕ) : Type 0 where
   pub sequence : Spells (sequenceIn s) (b .statement)
   pub read-back : readBackIn s ≡ b .readBack

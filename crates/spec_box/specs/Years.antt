@@ -1,5 +1,5 @@
 -- The year's ledgers over a list of calls (02, item 12): what the instants of a bay number deliver to a farm since the last new year,
--- and what 02 says of the totals, each sentence a predicate of any function in the place of `callOf`, which box_theory has of `callOf`.
+-- and what 02 says of the totals, each sentence a predicate of any function in the place of `callOf`, which theory_box has of `callOf`.
 use Prim.Native.Nat.{ℕ, _+_, _≤_, _<_}
 use mathlib.Core.Path.{_≡_}
 use mathlib.Core.Logic.{_≢_, _↔_}
@@ -69,7 +69,8 @@ LedgerShows call =
     (box : List ℕ) (bay : ℕ) (totals : List ℕ) → number (call box bay (ledger totals)) ≡ 0
     → (reading : List ℕ) × (call box bay (ledger totals) ≡ called 0 box (reading ∷ [])) × ReadingIs (ledgerIn (stretchOf bay box)) reading
 
--- a new year clears the bay number's ledger and nothing else of its stretch; that it is 'cleared only by a call for the new year' is TotalsExact
+-- a new year clears the bay number's ledger and nothing else of its slot; that it is 'cleared only by a call for the new year' is
+-- TotalsExact
 abbrev pub YearBegins : Calling → Type 0
 YearBegins call =
     (box : List ℕ) (bay : ℕ) → number (call box bay newYear) ≡ 0

@@ -1,5 +1,5 @@
--- 01's rules on labels (rows 8 to 11) as tests on label sets, which a program can compute in one walk. theory_language/proofs/LabelTests
--- shows that each test is true exactly if the definition by places (States) holds.
+-- 01's rules on labels (rows 8 to 11) as tests on label sets, which a program can compute in one traversal.
+-- theory_language/proofs/LabelTests shows that each test is true exactly if the definition by places (States) holds.
 use Prim.Native.Nat.{ℕ}
 use mathlib.Core.Bool.{Bool, true, false, not, _&&_, _||_, cond}
 use lib.Dec.{eqb}
@@ -88,7 +88,7 @@ abbrev pub ifMember : ℕ → ℕ → ℕ → ℕ
 ifMember k t s = cond (member k t) s none
 
 -- The labels of first parts before a label k of the second part, over all commands whose parts are joined so.
--- Only labels before k: of each two labels one row tells, and a walk from the left knows it at once.
+-- Only labels before k: of each two labels one row tells, and a traversal from the left knows it at once.
 unfoldable pub before : (x y : Bool) → Joint → Statement → ℕ → ℕ
 before x y j nothing k = none
 before x y j (pause l) k = none

@@ -1,4 +1,4 @@
--- What the machine by rewriting of demand 3 (demands, Paper) shows for a program and its inputs, up to the instant that ends it:
+-- What the machine by rewriting of demand 3 (spec_tick, Paper) shows for a program and its inputs, up to the instant that ends it:
 -- every field of a listing but the labels, which the paper does not know. A listing does not print the number of reactions.
 use Prim.Native.Nat.{ℕ, suc}
 use mathlib.Core.List.{List, [], _∷_}

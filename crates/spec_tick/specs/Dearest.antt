@@ -1,5 +1,5 @@
 -- 02, item 6: 'Shown in docs/, with its bytes, is a loop-free sequence of 100 commands, without read-back, whose fresh instant takes
--- 6,079': the bytes of esterel's `hundred`, which stand in docs/CEILING.md too.
+-- 6,079': the bytes of the language's `hundred`, which stand in docs/CEILING.md too.
 use Prim.Native.Nat.{ℕ}
 use mathlib.Core.List.{List, [], _∷_}
 

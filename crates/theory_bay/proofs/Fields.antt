@@ -1,4 +1,4 @@
--- What the fields of a stretch hold after each thing that is written to it.
+-- What the fields of a slot hold after each thing that is written to it.
 use Prim.Native.Nat.{ℕ, _+_, _-_, _^_, _≤_, _<_}
 use native.Mathlib.Omega.{arith}
 use mathlib.Core.Path.{_≡_, refl, ap, _∙_}
@@ -145,7 +145,7 @@ module _ (t : Terms) (ceiling : ℕ) (s : List ℕ) (z : length s ≡ stretchLen
               ∙ le-round-trip signalBytes (t .serviceOnly) hidden;
         }
 
-  -- what lies behind the service-only set is cleared, and behind that left
+  -- what stands behind the service-only set is cleared, and behind that left
   behind-fixed : (i m : ℕ) → stateAt ≤ i → slot i m (filled t ceiling s) ≡ slot i m (vacated s)
   unfolding filled
   behind-fixed i m low =

@@ -258,7 +258,7 @@ module _ (bay : ℕ) (b : bay < bayCount) (t : Terms) where
         stands = k .stands;
       }
 
-  -- one that leaves the stretch
+  -- one that leaves the slot
   stays-run : (box : List ℕ) → Here box → (x : Request) (xs : List Request) → stretchOf bay (afterCall callOf box x) ≡ stretchOf bay box
       → Aside box x xs → (Here (afterCall callOf box x) → Run (afterCall callOf box x) xs) → Run box (x ∷ xs)
   stays-run box h x xs e = steady-run box h x xs (subst (Standing t) (sym e) (h .1)) (ap stateIn e)

@@ -1,4 +1,4 @@
--- Laws of a call on a bay's stretch: a refusal leaves the stretch, each call keeps its length, and an admission goes by its number.
+-- Laws of a call on a bay's slot: a refusal leaves the slot, each call keeps its length, and an admission goes by its number.
 use Prim.Native.Nat.{ℕ, _+_, _≤_}
 use native.Mathlib.Omega.{arith}
 use native.Mathlib.Decide.{decLt}
@@ -74,7 +74,7 @@ module _ (present : ℕ) (s : List ℕ) (t : Terms) where
           let h : checkOf (t .sequence) (t .readBack) ≡ 0 = rw e in
           room h (leb (present + ceilingFor t) sharedCeiling) refl (admit-by-sum (accepted (t .sequence) (t .readBack) h))
 
--- ---- a call on the bay's stretch, with the test that the bay is there for it
+-- ---- a call on the bay's slot, with the test that the bay is there for it
 abbrev pub onStretch : (present : ℕ) → Call → List ℕ → Called
 onStretch k c s = cond (isFor c s) (bayCall k c s) (called 13 s (buffers c))
 
@@ -134,7 +134,7 @@ module _ (k : ℕ) (s : List ℕ) (z : length s ≡ stretchLength) where
       go true = bay-sized c
       go false = z
 
--- what an admission with this number makes of the stretch
+-- what an admission with this number makes of the slot
 abbrev pub admittedAs : (s : List ℕ) → Terms → (number : ℕ) → Called
 admittedAs s t n = called n (cond (eqb n 0) (filled t (ceilingFor t) s) s) []
 

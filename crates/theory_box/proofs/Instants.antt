@@ -150,7 +150,7 @@ module _ (bay : ℕ) (b : bay < bayCount) (t : Terms) (a : Accepted (t .sequence
         ≡ recordsFrom (t .sequence) (t .readBack) (following (lastNumberIn (stretchOf bay box))) (stateIn (stretchOf bay box)) (inputsIn callOf bay box xs)
     pub held : Holds t (ceilingFor t) (stretchOf bay (boxAfter callOf box xs))
 
-  -- what a call that is no instant of the bay leaves of its stretch
+  -- what a call that is no instant of the bay leaves of its slot
   record Quiet (s s′ : List ℕ) (Goes : Type 0) : Type 0 where
     pub holds : Holds t (ceilingFor t) s′
     pub count : lastNumberIn s′ ≡ lastNumberIn s

@@ -1,6 +1,6 @@
--- The bytes of a buffer that a call only writes change neither its number nor the stretch, nor what an answer with number 0 shows: so what
--- a bay answers, and its stretch, go by what it was asked, with the lengths of such buffers, and by the numbers of its admissions; a call of
--- it by the stretch and, for an admission, the sum.
+-- The bytes of a buffer that a call only writes change neither its number nor the slot, nor what an answer with number 0 shows: so what
+-- a bay answers, and its slot, go by what it was asked, with the lengths of such buffers, and by the numbers of its admissions; a call of
+-- it by the slot and, for an admission, the sum.
 use Prim.Native.Nat.{ℕ, zero, suc, _<_}
 use native.Mathlib.Omega.{arith}
 use native.Mathlib.Decide.{ℕ-discrete}

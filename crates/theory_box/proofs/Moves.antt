@@ -1,4 +1,4 @@
--- Save, forget, restore and the new year on a bay's stretch: turned down, or something behind a field is written there.
+-- Save, forget, restore and the new year on a bay's slot: turned down, or something behind a field is written there.
 use Prim.Native.Nat.{ℕ, _+_, _≤_}
 use native.Mathlib.Omega.{arith}
 use mathlib.Core.Path.{_≡_, refl, sym, ap, _∙_}

@@ -44,7 +44,7 @@ module _ (box : List ℕ) (bay : ℕ) (c : Call) (n : number (callOf box bay c) 
   z : length box ≡ boxLength
   z = answered-inside box bay c n .1
 
-  -- the bay is there for it, and it is the call on the stretch
+  -- the bay is there for it, and it is the call on the slot
   pub answered-there : (isFor c s ≡ true) × (result box bay c ≡ bayCall k c s)
   answered-there = go (isFor c s) refl (sym (ap number (own box bay c b z)) ∙ n)
     where
@@ -114,7 +114,7 @@ module _ (bay : ℕ) (b : bay < bayCount) where
   abbrev Over : (box : List ℕ) (ps : List (Position ℕ)) (xs : List Request) → Type 0
   Over box ps xs = Same (boxAfter callOf box xs) (savedIn callOf bay box ps xs)
 
-  -- a call that leaves the stretch
+  -- a call that leaves the slot
   same-after : (box box′ : List ℕ) (ps : List (Position ℕ)) → stretchOf bay box′ ≡ stretchOf bay box → Same box ps → Same box′ ps
   same-after box box′ ps e a = subst (λ (s : List ℕ). Agrees (positionsIn s) ps) (sym e) a
 
@@ -160,7 +160,7 @@ module _ (bay : ℕ) (b : bay < bayCount) where
       by-name emptyBox kept-empty []
       (subst (λ (t : List ℕ). Agrees t []) (sym (ap positionsIn (empty-stretch bay b) ∙ zeros-positions)) cleared-agrees)
 
--- ---- in a stretch that calls have written
+-- ---- in a slot that calls have written
 pub positions-valid : (s : List ℕ) → Sound s → (p : Statement) → Spells (sequenceIn s) p
     → (name labels : ℕ) → lookup name (positionsIn s) ≡ some labels → Valid p labels
 positions-valid s (vacant z e c) p q name labels i = absurd (none-some (sym (ap (lookup name) c ∙ lookup-zeros name) ∙ i))

@@ -25,7 +25,7 @@ use Rattle.theory_box.proofs.Readers.{service-reads, panel-reads, ledge
 use Rattle.theory_box.proofs.Previews.{preview-not}
 use Rattle.theory_box.proofs.Stretches.{no-bay, other-box, stretch-sized, own}
 
--- ---- the numbers of a call on a stretch
+-- ---- the numbers of a call on a slot
 -- a sequence that is turned down, by its row
 bad-number : (k : ℕ) (s : List ℕ) (t : Terms) → checkOf (t .sequence) (t .readBack) ≢ 0
     → number (bayAdmitOf k s t) ≡ checkOf (t .sequence) (t .readBack)

@@ -1,4 +1,4 @@
--- A stretch of the box and a place of the box on paper that are alike: the same bay or none, the machine in a state whose term the
+-- A slot of the box and a place of the box on paper that are alike: the same bay or none, the machine in a state whose term the
 -- paper has, positions whose terms it has, and the same totals.
 use Prim.Native.Nat.{ℕ, _≤_, _<_}
 use mathlib.Core.Path.{_≡_, refl, sym, ap, _∙_, subst}
@@ -85,7 +85,7 @@ module _ {S T R : Type 0} (m : Follows S T R) where
     vacant : length s ≡ stretchLength → lengthIn s ≡ 0 → z .bay ≡ none → SameTotals s (z .totals) → Alike s z
     present : (h : Present s) → z .bay ≡ some (bayOf h) → SameTotals s (z .totals) → Alike s z
 
-  -- what a call on the stretch comes to is what it comes to on paper
+  -- what a call on the slot comes to is what it comes to on paper
   pub record Same (c : Call) (o : Called) (told : PaperReply S T R) : Type 0 where
     pub report : reported (m .kind .reads) c o ≡ told .0
     pub alike : Alike (memoryAfter o) (told .1)

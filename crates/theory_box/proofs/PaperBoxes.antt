@@ -49,7 +49,7 @@ pub record Fits (For : Statement → Type 0) (c : Call) : Type 0 where
   pub sendable : Sendable c
   pub admitted : (t : Terms) → c ≡ admit t → checkOf (t .sequence) (t .readBack) ≡ 0 → (p : Statement) → Spells (t .sequence) p → For p
 
--- ---- a call on a stretch
+-- ---- a call on a slot
 module _ {S T R : Type 0} (m : Follows S T R) (k : ℕ) (s : List ℕ) (z : PaperPlace S T) where
   -- 13 for a bay that is not there for the call
   not-there : (c : Call) → Alike m s z → isFor c s ≡ false → {told : PaperReply S T R} → told ≡ down 13 (buffers c) z → Same m c (onStretch k c s) told

@@ -1,4 +1,4 @@
--- A preview of a bay: the stretch stays, and so do the lent bytes where it is turned down.
+-- A preview of a bay: the slot stays, and so do the lent bytes where it is turned down.
 use Prim.Native.Nat.{ℕ, _<_}
 use native.Mathlib.Omega.{arith}
 use mathlib.Core.Path.{_≡_, refl, sym, ap, _∙_}

@@ -38,7 +38,7 @@ use Rattle.theory_box.proofs.Standing.{Standing, not-empty, sequence-he
 use Rattle.theory_box.proofs.Positions.{Positioned, positioned-zeros, positioned-after, restore-stands}
 use Rattle.theory_box.proofs.Stretches.{Case, aside, inside, cases, no-bay, own, own-stretch, same-length, others-stay}
 
--- ---- a stretch that calls have written
+-- ---- a slot that calls have written
 pub data Sound (s : List ℕ) : Type 0 where
   vacant : length s ≡ stretchLength → lengthIn s ≡ 0 → positionsIn s ≡ zeros tableLength → Sound s
   held : (t : Terms) → Standing t s → Positioned t (positionsIn s) → Sound s
@@ -149,7 +149,7 @@ module _ (k : ℕ) (s : List ℕ) (u : k ≤ sharedCeiling) (v : Sound s) where
       go true i = bay-step c r i
       go false i = stays
 
--- ---- the sum, where one stretch changes
+-- ---- the sum, where one slot changes
 abbrev pub partIn : List ℕ → ℕ → ℕ
 partIn box bay = partOf (stretchOf bay box)
 

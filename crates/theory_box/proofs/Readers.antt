@@ -1,4 +1,4 @@
--- The readers of a record and of the ledger on a bay's stretch: they leave it, and show what they show or leave the view.
+-- The readers of a record and of the ledger on a bay's slot: they leave it, and show what they show or leave the view.
 use Prim.Native.Nat.{ℕ, _≤_}
 use native.Mathlib.Omega.{arith}
 use native.Mathlib.Decide.{ℕ-discrete}

@@ -1,4 +1,4 @@
--- A call on the box by the call on the bay's stretch; a refused call leaves the box, and a call to a bay the others.
+-- A call on the box by the call on the bay's slot; a refused call leaves the box, and a call to a bay the others.
 use Prim.Native.Nat.{ℕ, _+_, _*_, _≤_, _<_}
 use native.Mathlib.Omega.{arith}
 use native.Mathlib.Decide.{decLt, ℕ-discrete}
@@ -24,7 +24,7 @@ module _ (box : List ℕ) (bay : ℕ) (c : Call) where
   abbrev s : List ℕ
   s = stretchOf bay box
 
-  -- what the call makes of the stretch
+  -- what the call makes of the slot
   abbrev pub result : Called
   result = onStretch (present bayCount box) c s
 
@@ -70,7 +70,7 @@ module _ (box : List ℕ) (bay : ℕ) (c : Call) where
       go (aside n z e) = absurd (z (sym (ap number e) ∙ h))
       go (inside b z e) = (b, z)
 
-  -- ---- where the stretch lies in the box
+  -- ---- where the slot is in the box
   module _ (b : bay < bayCount) (z : length box ≡ boxLength) where
     fits : bay * stretchLength + stretchLength ≤ length box
     fits = omega arith
@@ -81,7 +81,7 @@ module _ (box : List ℕ) (bay : ℕ) (c : Call) where
     result-sized : length (memoryAfter result) ≡ stretchLength
     result-sized = sized-after (present bayCount box) s stretch-sized c
 
-    -- the bay's own stretch, and what it is answered
+    -- the bay's own slot, and what it is answered
     pub own : InPlace
     own = in-place b z
 

@@ -120,7 +120,7 @@ no-certificate = (off-paper.not-hidesLedger .0, off-paper.not-hidesLedger .1, of
 pub refusals-leave : RefusalsLeave callOf
 refusals-leave = stretches.refused-leaves
 
--- a call to a bay leaves the stretches of the others, and the length of the box
+-- a call to a bay leaves the slots of the others, and the length of the box
 pub others-stay : OthersStay callOf
 others-stay box bay c = (stretches.same-length box bay c, stretches.others-stay box bay c)
 
@@ -128,7 +128,7 @@ others-stay box bay c = (stretches.same-length box bay c, stretches.others-stay 
 pub by-sum : BySum callOf
 by-sum box box′ bay b z z′ e = apart.by-sum bay b box box′ z z′ e
 
--- the same calls to one bay, its admissions answered alike, from any two boxes with the same stretch of it; of a buffer that a call only
+-- the same calls to one bay, its admissions answered alike, from any two boxes with the same slot of it; of a buffer that a call only
 -- writes its length counts, and not what was in it
 pub isolated-from : (bay : ℕ) → bay < bayCount → (box box′ : List ℕ) → length box ≡ boxLength → length box′ ≡ boxLength
     → stretchOf bay box ≡ stretchOf bay box′ → (xs ys : List Request) → asked callOf bay box xs ≡ asked callOf bay box′ ys

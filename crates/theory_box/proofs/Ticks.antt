@@ -1,4 +1,4 @@
--- A tick on a bay's stretch: turned down, by its row or by the ledger, with nothing written, or an instant that enters its litres, is
+-- A tick on a bay's slot: turned down, by its row or by the ledger, with nothing written, or an instant that enters its litres, is
 -- counted and leaves its record.
 use Prim.Native.Nat.{ℕ, zero, suc, _+_, _≤_, _<_}
 use native.Mathlib.Omega.{arith}
@@ -81,7 +81,7 @@ module _ (s : List ℕ) (z : length s ≡ stretchLength) (e : ℕ) (answer trace
   abbrev x : ℕ → ℕ
   x = delivering s e
 
-  -- the stretch after an instant that leaves this state: the state, the litres in the ledger, the number
+  -- the slot after an instant that leaves this state: the state, the litres in the ledger, the number
   abbrev stepped : List ℕ → List ℕ
   stepped state = put stateAt stateLength state s
 

@@ -1,5 +1,5 @@
 -- Bays and boxes worked by hand (02, item 8): calls, and of each its number and its answer's code. What concerns one bay is worked on
--- its stretch alone, an eighth of a box, so that it is computed in a moment and a slip is found as fast.
+-- its slot alone, an eighth of a box, so that it is computed in a moment and a slip is found as fast.
 use Prim.Native.Nat.{ℕ, zero, suc, _+_, _-_}
 use mathlib.Core.Bool.{Bool, _&&_, cond}
 use mathlib.Core.List.{List, [], _∷_, _++_}
@@ -88,7 +88,7 @@ otherwise call box [] = 0
 otherwise call box (x ∷ xs) =
     cond (isGiven x (call box (x .request .bay) (x .request .call))) 0 1 + otherwise call (afterCall call box (x .request)) xs
 
--- ---- a bay by itself: the call on its stretch, 13 where it is not there for the call; those present in the other bays have this
+-- ---- a bay by itself: the call on its slot, 13 where it is not there for the call; those present in the other bays have this
 -- much of the shared ceiling
 abbrev pub alone : (present : ℕ) → Calling
 alone present s bay c = cond (isFor c s) (bayCall present c s) (called 13 s (buffers c))

@@ -1,4 +1,4 @@
--- Boxes that break a claim of 02, item 8, each with one slip. box_theory refutes the claim for each.
+-- Boxes that break a claim of 02, item 8, each with one slip. theory_box refutes the claim for each.
 use Prim.Native.Nat.{ℕ, zero, suc, _+_, _%_}
 use mathlib.Core.Bool.{cond}
 use mathlib.Core.List.{List, [], _∷_}

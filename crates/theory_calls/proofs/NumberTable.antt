@@ -156,7 +156,7 @@ module _ (t : Terms) (s : List ℕ) (h : Standing t s) where
       go k q (row-11 x m) = absurd (tick-told t s h e answer trace .not-11 (sym (ap demands.number (inner-is t s h e answer trace)) ∙ q))
       go k e (row-12 x) = h12
 
--- ---- a call on a stretch, for a list that has its numbers
+-- ---- a call on a slot, for a list that has its numbers
 module _ (s : List ℕ) (z : length s ≡ stretchLength) (l : List ℕ) (h0 : oneOf 0 l ≡ true) where
   tick-in : oneOf 19 l ≡ true → (e : ℕ) (answer trace : List ℕ) → oneOf (demands.number (inner s z e answer trace)) l ≡ true
       → oneOf (number (bayTickOf s e answer trace)) l ≡ true
@@ -238,7 +238,7 @@ module _ (s : List ℕ) (z : length s ≡ stretchLength) (l : List ℕ) (h0 : on
           (shown-preview (sequenceIn s) (stateIn s) (readBackIn s) e u buffer w (i (difference e u)) (q (difference e u)))
           ∙ given w (leb (length (membersFrom signalCount 0 u)) maxUnknown) (previewBytes (findings (answersOf (sequenceIn s) (stateIn s) (readBackIn s)) e u))
 
--- ---- every call on a stretch of any bytes
+-- ---- every call on a slot of any bytes
 any-in : (k : ℕ) (s : List ℕ) → length s ≡ stretchLength → (c : Call) → oneOf (number (bayCall k c s)) (anyCallRow c) ≡ true
 unfolding all oneOf bayReleaseOf bayNewYearOf
 any-in k s z (admit t) = admit-in s z (anyCallRow (admit t)) refl refl refl k t

@@ -209,7 +209,7 @@ module _ (p : Statement) (many : commands p ≡ 100) (nested : signalNesting p �
   pub hundred-resumed : LoopFree p → (L e : ℕ) → reactions (expand p L) e ≤ 6079
   hundred-resumed f L e = let h = resumed-dearest 6 p L e f nested in let i = at-hundred in omega arith
 
--- the one that takes so many (esterel, specs/Ceiling) is one of them
+-- the one that takes so many (spec_language, specs/Ceiling) is one of them
 pub hundred-free : LoopFree hundred
 unfolding LoopFree hundred tries triesButOne
 hundred-free = search

@@ -1,4 +1,4 @@
--- The rows that a walk fills are those of the tests: row k holds what it held, what was known before the statement if k
+-- The rows that a traversal fills are those of the tests: row k holds what it held, what was known before the statement if k
 -- is a label of it, and the labels before k.
 use Prim.Native.Nat.{ℕ}
 use mathlib.Core.Path.{_≡_, refl, sym, ap, ap₂, _∙_}
@@ -45,7 +45,7 @@ mixed false true true false true false v = refl
 mixed false true true false false u v = refl
 
 module _ (x y : Bool) (j : Joint) where
-  -- what the walk makes of row k
+  -- what the traversal makes of row k
   abbrev pub Row : Statement → ℕ → (ℕ → ℕ) → ℕ → ℕ
   Row p known rows k = join (rows k) (join (ifMember k (labelsOf x y p) known) (before x y j p k))
 

@@ -1,4 +1,4 @@
--- Rows of label sets, one for each label, as one walk from the left fills them: where the walk meets a label, it adds to
+-- Rows of label sets, one for each label, as one traversal from the left fills them: where the traversal meets a label, it adds to
 -- its row the labels that it knows to stand before. theory_language/proofs/LabelRows shows that the rows are those of LabelTests.
 use Prim.Native.Nat.{ℕ}
 use mathlib.Core.Bool.{Bool, cond}
@@ -18,7 +18,7 @@ further alternative parallel known s = known
 further parallel alternative known s = known
 further parallel parallel known s = join known s
 
--- the rows after a walk over the statement, where the labels in `known` stand before it
+-- the rows after a traversal over the statement, where the labels in `known` stand before it
 unfoldable pub fill : (x y : Bool) → Joint → Statement → ℕ → (ℕ → ℕ) → ℕ → ℕ
 fill x y j nothing known rows = rows
 fill x y j (pause l) known rows = cond x (addRow l known rows) rows

@@ -1,6 +1,6 @@
 -- The theorems of this crate (02, item 14): every claim of specs/Claims about the definition of a replay, which the code meets for all
 -- arguments, and the recordings worked by hand. That the records of a bay, up to its first coming back, are
--- accepted is box_theory's.
+-- accepted is theory_box's.
 use Prim.Native.Nat.{ℕ, zero, suc, _+_, _<_}
 use native.Mathlib.Omega.{arith}
 use mathlib.Core.Path.{_≡_, refl, sym, ap, ap₂, _∙_, subst, fun-ext}

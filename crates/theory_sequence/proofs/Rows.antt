@@ -60,7 +60,7 @@ module _ (bs : List ℕ) where
         | no i ↦ rw (later n m (omega arith) e)
       ]
 
-  -- the last position of the walk
+  -- the last position of the traversal
   pub record Last (n : ℕ) (x : Reached) : Type 0 where
     pub here : walk n bs ≡ some x
     pub stop : next bs (some x) ≡ none

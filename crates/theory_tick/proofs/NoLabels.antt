@@ -1,5 +1,5 @@
 -- The paper knows no labels: what it reports of a term is what its run shows, and that is the same for terms that differ only in the
--- labels of held suspends (theory, Erasure).
+-- labels of held suspends (theory_language, Erasure).
 use Prim.Native.Nat.{ℕ}
 use mathlib.Core.Path.{_≡_, refl, sym, ap, ap₂, _∙_}
 use mathlib.Core.Bool.{Bool, true, false, cond}

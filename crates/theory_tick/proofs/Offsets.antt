@@ -26,7 +26,7 @@ at-part : {w p c : Statement} {d : Part} {x : Place} → At p x w → PartOf d c
 at-part {d = d} At.here i = (d ∷ [], At.inside i At.here)
 at-part (At.inside {d = b} j u) i = let v = at-part u i in (b ∷ v .0, At.inside j (v .1))
 
--- ---- bytes that lie in bs from offset a on
+-- ---- bytes that stand in bs from offset a on
 module _ (bs : List ℕ) where
   abbrev LiesAt : ℕ → List ℕ → Type 0
   LiesAt a xs = (a + length xs ≤ length bs) × ((i : ℕ) → i < length xs → getD bs (a + i) 0 ≡ getD xs i 0)

@@ -74,7 +74,7 @@ module _ (a : ℕ) (xs : List ℕ) where
       (λ p q. omega (arith, length-append (bytesOf p) (bytesOf q)))
       (λ p q. omega (arith, length-append (bytesOf p) (bytesOf q)))
 
--- ---- a statement that lies in the bytes, and n more behind it
+-- ---- a statement encoded in the bytes, and n more behind it
 abbrev Copied : (bs : List ℕ) → Statement → Type 0
 Copied bs p = (n : ℕ) (cs : List ℕ) → Copies n (drop (size p) bs) cs → Copies (suc n) bs (bytesOf (copied p) ++ cs)
 

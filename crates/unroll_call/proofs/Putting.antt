@@ -23,7 +23,7 @@ put-then {i} {j} {r} {xs} {ys} {b} {b₁} {b₂} h k =
 pub put-length : {i r : ℕ} {xs b b′ : List ℕ} → Put i xs b b′ r → length b′ ≡ length b
 put-length {i} {r} {xs} {b} h = ap length (h .after) ∙ length-sets b i xs
 
--- what was room for both is room for the second, once the first is put
+-- what was space for both is space for the second, once the first is put
 pub room-first : {i : ℕ} (xs ys : List ℕ) {b : List ℕ} → Room i (length (xs ++ ys)) b → Room i (length xs) b
 room-first xs ys m = record { fits = omega (arith, m .fits, length-append xs ys); sized = m .sized }
 
@@ -58,7 +58,7 @@ five-bytes i s =
     let e₄ : i + 4 ≡ suc (suc (suc (suc i))) = omega arith in
     rw (e₁, e₂, e₃, e₄)
 
--- what was room for n bytes is room for those of them that are left
+-- what was space for n bytes is space for those of them that are left
 pub room-left : {i j n : ℕ} {xs b b′ : List ℕ} (m : ℕ) → Room i n b → Put i xs b b′ j → length xs + m ≤ n → Room j m b′
 room-left m r h l = record { fits = omega (arith, r .fits, h .end, put-length h, l); sized = put-length h ∙ r .sized }
 

@@ -16,7 +16,7 @@ use Rattle.spec_unroll.specs.Unrolled.{copied, unrolled}
 use Rattle.unroll_call.specs.declared.sizes.Sizes.{Sizes}
 use Rattle.unroll_call.specs.Measured.{cappedBytes, cappedDepth, SizesOf, Has, HasTwo, Measured, Few}
 
--- what a walk finds was capped
+-- what a traversal finds was capped
 pub few : {t : List ℕ} {d a : ℕ} {bs : List ℕ} {n : Sizes} → Ready t d a bs → Measured t d a bs n → Few n
 few r h =
     let k = h (r .base) (r .p) (r .lies) in

@@ -1,5 +1,5 @@
--- How long and how deep a statement is with its loops written out (02, item 13), as the walk over its bytes finds it. Each number stays
--- at one more than its limit.
+-- How long and how deep a statement is with its loops written out (02, item 13), as the traversal over its bytes finds it. Each number
+-- stays at one more than its limit.
 use Prim.Native.Nat.{ℕ, _+_, _≤_, min, max}
 use mathlib.Core.Path.{_≡_}
 use mathlib.Core.List.{List}
@@ -33,7 +33,7 @@ HasTwo w p q r =
     SizesOf (w + size (copied p) + size (copied q)) (w + size (unrolled p) + size (unrolled q))
     (1 + max (depthOf (unrolled p)) (depthOf (unrolled q))) r
 
--- r has the numbers of the statement that lies there
+-- r has the numbers of the statement encoded there
 abbrev pub Measured : (t : List ℕ) (d a : ℕ) (bs : List ℕ) (r : Sizes) → Type 0
 Measured t d a bs r = (base : ℕ) (p : Statement) → Lies t d base a bs p → Has p r
 

@@ -16,7 +16,7 @@ unrolledBytes p = bytesOf (unrolled p)
 abbrev pub loopBytes : Statement → List ℕ
 loopBytes p = 6 ∷ 4 ∷ bytesOf (copied p) ++ unrolledBytes p
 
--- ---- what the walk requires and gives: of the statement at offset a, which is put from index i on
+-- ---- what the traversal requires and gives: of the statement at offset a, which is put from index i on
 pub record Writable (t : List ℕ) (d a : ℕ) (bs : List ℕ) (i : ℕ) (b : List ℕ) : Type 0 where
   pub ready : Ready t d a bs
   pub base : ℕ

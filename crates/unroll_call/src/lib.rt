@@ -1,5 +1,5 @@
-// The call that writes loops out (02, item 13): the original is checked once, then the sizes of the result are known, then it is
-// written.
+// The call that writes loops out (02, item 13): the original is checked once, then the sizes of the result are found by one
+// traversal, then it is written by another.
 pub mod heads;
 pub mod sizes;
 pub mod writer;
@@ -28,7 +28,7 @@ fn refused(number: u8) -> Result
     Result { number, count: 0 }
 }
 
-// Of a statement without setpause at the front of an accepted sequence, with the table of second parts that the check left.
+// The call for an accepted sequence without setpause, with the table of second parts that the check left.
 fn of_plain(sequence: &[u8], second: &SecondParts, buffer: &mut [u8]) -> Result
     requires { ⌜ Ready (now second) maxDepth 0 (now sequence) ⌝ }
     requires { ⌜ length (now buffer) ≡ maxBytes ⌝ }

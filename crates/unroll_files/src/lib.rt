@@ -1,4 +1,4 @@
-// What the unroll program does, as a library over slices (02, item 13): the file of a run with its loops written out.
+// What the unroll program writes, as a library over slices (02, item 13): the file of a run with its loops written out.
 ghost use mathlib.Core.Path.{_≡_};
 ghost use Rattle.spec_base.specs.Bytes.{leBytes};
 ghost use Rattle.spec_programs.specs.File.{lengthBytes};

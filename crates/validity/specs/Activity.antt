@@ -1,4 +1,4 @@
--- Row 11 over the bytes, for whatever statement lies in them (layout, specs/Layout), by the ranks that reading noted.
+-- Row 11 over the bytes, for whatever statement they encode (layout, specs/Layout), by the ranks that reading noted.
 use Prim.Native.Nat.{ℕ, _<_}
 use mathlib.Core.Path.{_≡_}
 use mathlib.Core.Bool.{true, false}

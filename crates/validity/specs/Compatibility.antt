@@ -1,4 +1,4 @@
--- Row 11 at a mask, for whatever statement lies in the bytes (layout, specs/Layout).
+-- Row 11 at a mask, for whatever statement the bytes encode (layout, specs/Layout).
 use Prim.Native.Nat.{ℕ}
 use mathlib.Core.Path.{_≡_}
 use mathlib.Core.Bool.{Bool}
@@ -9,7 +9,7 @@ use Rattle.theory_language.specs.Ranks.{middle, ofParts, compatible}
 use Rattle.layout.specs.Layout.{Two, Lies}
 use Rattle.layout.specs.Joints.{jointOf}
 
--- r says whether the pauses of the mask m are pairwise compatible in the statement that lies there
+-- r says whether the pauses of the mask m are pairwise compatible in the statement encoded there
 abbrev pub TellsCompatible : (t : List ℕ) (d a : ℕ) (bs : List ℕ) (m : ℕ) (r : Bool) → Type 0
 TellsCompatible t d a bs m r = (base : ℕ) (p : Statement) → Lies t d base a bs p → r ≡ compatible base p m
 

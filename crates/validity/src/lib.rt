@@ -1,4 +1,5 @@
-// Row 11: is a set of labels valid? Its active pauses are a mask of ranks, and only parts with two of them or more are visited.
+// Row 11 of 01: whether a label set is valid for a sequence. Its active pauses are a set of ranks, and only parts with two of them
+// or more are visited.
 ghost use Prim.Native.Nat.{_-_, _≤_};
 ghost use lib.ListN.{length};
 ghost use Rattle.labels.specs.Labels.{labelSet};
@@ -10,7 +11,7 @@ use labels::Labels;
 use layout::SecondParts;
 use notes::Notes;
 
-// Are the active pauses pairwise compatible? The statement at the front of s stands at the offset `at`.
+// Whether the active pauses are pairwise compatible. The statement at the front of s stands at the offset `at`.
 pub fn compatible(s: &[u8], at: usize, depth: u8, second: &SecondParts, active: Labels) -> bool
     requires { ⌜ Ready (now second) depth at (now s) ⌝ }
     ensures { λ r. ⌜ TellsCompatible (now (second .entry)) depth at (now (s .entry)) (labelSet active) r ⌝ }
@@ -103,7 +104,7 @@ pub enum Validity {
     Invalid,
 }
 
-// Is the label set valid for the statement that was read?
+// Whether a label set is valid for the statement that was read.
 pub fn validity_of(s: &[u8], second: &SecondParts, notes: &Notes, labels: Labels) -> Validity
     requires { ⌜ Sound (now second) (now notes) (now s) ⌝ }
     ensures { λ r. ⌜ Judges (now (second .entry)) (now (notes .entry)) (now (s .entry)) (labelSet labels) r ⌝ }

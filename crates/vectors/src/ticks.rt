@@ -13,10 +13,10 @@ use vectors_notation::word;
 // What stands in an answer record before a call.
 const UNWRITTEN: u8 = 0xA5;
 
-// Room for an answer record that is too long.
+// Space for an answer record that is too long.
 const ANSWER_ROOM: usize = 16;
 
-// The tick on the first bytes of each room; 255 where a room has fewer.
+// The tick on the first bytes of each buffer; 255 where a buffer has fewer.
 fn call(
     sequence: &[u8],
     sequence_length: usize,

@@ -1,4 +1,4 @@
--- The bytes that lines of the file give: a room, and how many bytes of it are meant.
+-- The bytes that lines of the file give: a buffer, and how many bytes of it are meant.
 use Prim.Native.Nat.{ℕ, zero, suc, _+_}
 use mathlib.Core.Bool.{cond}
 use mathlib.Core.List.{List}
@@ -11,7 +11,7 @@ use Rattle.vectors_notation.specs.declared.Bytes.{Bytes}
 abbrev pub roomLength : ℕ
 roomLength = 2048
 
--- a count that no room has: a line was malformed
+-- a count that no buffer has: a line was malformed
 abbrev pub malformedCount : ℕ
 malformedCount = 0xFFFFFFFFFFFFFFFF
 

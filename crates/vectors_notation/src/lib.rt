@@ -1,4 +1,4 @@
-// How vectors are written: the number, the words and the bytes that a line of their file gives, and the lines that are printed.
+// How vectors are written: the numbers, words and bytes that a line of their file gives, and the lines that are printed.
 pub mod print;
 
 ghost use Prim.Native.Nat.{_<_, _≤_, min, _+_};
@@ -81,13 +81,13 @@ pub fn word(line: &[u8], at: usize) -> Parsed
     }
 }
 
-// Room for the longest sequence that a vector has, and more.
+// Space for the longest sequence that a vector has, and more.
 pub const ROOM: usize = 2048;
 
-// A count that no room has: a line was malformed.
+// A count that no buffer has: a line was malformed.
 pub const MALFORMED: usize = 0xFFFFFFFFFFFFFFFF;
 
-// The first `count` bytes of the room.
+// The first `count` bytes of the buffer.
 pub struct Bytes {
     pub room: [u8; ROOM],
     pub count: usize,

@@ -31,7 +31,7 @@ use Rattle.wellformed.specs.Survey.{Standing, StandingTwo, Past, Passes,
 pub unchanged : {m : List ℕ} → Updates (λ rows. rows) m m
 unchanged = record { updates = λ l. (l, refl) }
 
--- one walk after another
+-- one traversal after another
 pub in-turn : {f g : (ℕ → ℕ) → ℕ → ℕ} {m n o : List ℕ} → Updates f m n → Updates g n o → Updates (λ rows. g (f rows)) m o
 in-turn {g = g} s t = record { updates = λ l. let x = s .updates l in let y = t .updates (x .0) in (y .0, y .1 ∙ ap g (x .1)) }
 

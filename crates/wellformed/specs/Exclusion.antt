@@ -1,4 +1,4 @@
--- The labels of a statement that the survey passed, and what stands before a second part (esterel, specs/LabelRows).
+-- The labels of a statement that the survey passed, and what stands before a second part (theory_language, specs/LabelRows).
 use Prim.Native.Nat.{ℕ}
 use mathlib.Core.Path.{_≡_}
 use mathlib.Core.Bool.{Bool}

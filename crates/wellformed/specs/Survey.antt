@@ -1,5 +1,5 @@
--- One walk over the bytes for row 10: the labels of the statement that lies there (layout, specs/Layout), and what it adds
--- to the rows of exclusive pauses and to those of pauses and setpauses aside (esterel, specs/LabelRows). The walk does not look
+-- One traversal over the bytes for row 10: the labels of the statement encoded there (layout, specs/Layout), and what it adds to the
+-- rows of exclusive pauses and to those of pauses and setpauses aside (theory_language, specs/LabelRows). The traversal does not look
 -- into the table of second parts, which is any that fits.
 use Prim.Native.Nat.{ℕ, _+_}
 use mathlib.Core.Bool.{Bool, true, false}
@@ -18,7 +18,7 @@ use Rattle.wellformed.specs.declared.exclusion.Before.{Before}
 use Rattle.wellformed.specs.declared.exclusion.Walked.{Walked}
 use Rattle.wellformed.specs.Exclusion.{Carries}
 
--- ---- what the walk requires
+-- ---- what the traversal requires
 pub record Standing (d a : ℕ) (bs : List ℕ) : Type 0 where
   pub table : List ℕ
   pub ready : Ready table d a bs
@@ -27,7 +27,7 @@ pub record StandingTwo (d a w : ℕ) (bs : List ℕ) : Type 0 where
   pub table : List ℕ
   pub pair : Pair table d a w bs
 
--- ---- the walk: the labels of a statement, and what it adds to the rows m and n
+-- ---- the traversal: the labels of a statement, and what it adds to the rows m and n
 pub record Past (p : Statement) (a : ℕ) (v : Before) (r : Walked) (m m′ n n′ : List ℕ) : Type 0 where
   pub labels : Carries r (a + size p) (pauses p) (triggers p)
   pub excludes : Updates (fill true false alternative p (labelSet (v .exclusive))) m m′

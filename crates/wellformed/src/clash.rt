@@ -1,4 +1,4 @@
-// Row 10 by two matrices: does a label clash, having a concurrent one whose pause is exclusive with its own?
+// Row 10 by two matrices: a label clashes if a label concurrent with it has a pause that is exclusive with its own pause.
 ghost use mathlib.Core.Path.{_≡_};
 ghost use mathlib.Core.Bool.{true};
 ghost use mathlib.Core.Logic.{_↔_};
@@ -9,7 +9,7 @@ ghost use Rattle.wellformed.specs.Clashes.{InRowOf, RowsOf, ClashIf, Cla
 use crate::matrix::Matrix;
 use labels::Labels;
 
-// Is k in the row of a label of s?
+// Whether k is in the row of some label of s.
 fn in_row_of(rows: &Matrix, s: Labels, k: u8) -> bool
     ensures { λ r. ⌜ (r ≡ true) ↔ InRowOf (rowOf (now (rows .entry))) (labelSet s) k ⌝ }
 {
@@ -38,7 +38,7 @@ fn union_of_rows(rows: &Matrix, s: Labels) -> Labels
     all
 }
 
-// Has a label concurrent with k a pause exclusive with that of k? Only a label of `all` is looked for in other rows.
+// Whether the label k clashes. Only a label of `all` is looked for in other rows.
 fn clash(exclusive: &Matrix, concurrent: &Matrix, all: Labels, k: u8) -> bool
     ensures { λ r. ⌜ (r ≡ true) ↔ ClashIf (rowOf (now (exclusive .entry))) (rowOf (now (concurrent .entry)))
         (member k (labelSet all) ≡ true) k ⌝ }
@@ -55,7 +55,7 @@ fn clash(exclusive: &Matrix, concurrent: &Matrix, all: Labels, k: u8) -> bool
     }
 }
 
-// Does a label of `pauses` clash? If only those have a row, does any (`clashes-of-all`)?
+// Whether a label of `pauses` clashes. Where only these labels have a row, that is whether any label clashes (`clashes-of-all`).
 pub fn any_clash(exclusive: &Matrix, concurrent: &Matrix, pauses: Labels) -> bool
     ensures { λ r. ⌜ Clashes (rowOf (now (exclusive .entry))) (rowOf (now (concurrent .entry))) (labelSet pauses) r ⌝ }
 {

@@ -22,7 +22,7 @@ pub struct Walked {
     pub triggers: Labels,
 }
 
-// A command without labels.
+// What a command without labels gives.
 pub fn at_other(end: usize) -> Walked
     ensures { λ r. ⌜ Carries r end none none ⌝ }
 {

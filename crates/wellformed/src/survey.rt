@@ -1,4 +1,4 @@
-// What row 10 asks of the labels, by one walk over the bytes. It fills two matrices: for each label the pauses before it and
+// What row 10 asks of the labels, by one traversal over the bytes. It fills two matrices: for each label the pauses before it and
 // exclusive with it, and the pauses and setpauses before it on another side of a parallel.
 ghost use Prim.Native.Nat.{_-_, _≤_};
 ghost use lib.ListN.{length};
@@ -9,7 +9,7 @@ use crate::exclusion::Before;
 use crate::exclusion::Walked;
 use crate::matrix::Matrix;
 
-// Past the statement at the front of s, which stands at the offset `at`.
+// Adds what the statement at the front of s, at the offset `at`, adds to the two matrices, and answers its end and its labels.
 fn pass(
     s: &[u8],
     at: usize,
@@ -39,7 +39,7 @@ fn pass(
     }
 }
 
-// Past the part from s[n] on, which stands at the offset `at`.
+// The same of the part from s[n] on, which stands at the offset `at`.
 fn pass_part(
     s: &[u8],
     n: usize,
@@ -57,7 +57,7 @@ fn pass_part(
     pass(&s[n..], at, depth, before, exclusive, concurrent)
 }
 
-// Past the two parts of the command of w bytes at the front of s, which stands at the offset `at`.
+// The same of the two parts of the command of w bytes at the front of s, which stands at the offset `at`.
 fn pass_parts(
     s: &[u8],
     at: usize,

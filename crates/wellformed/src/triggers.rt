@@ -1,4 +1,5 @@
-// Row 10: is a sequence well-formed? Triggers, the pauses and setpauses, on two sides of a parallel have no exclusive pauses.
+// Row 10: whether a sequence is well-formed. The labels of triggers (pauses and setpauses) on two sides of a parallel must have no
+// exclusive pauses.
 ghost use Rattle.labels.specs.Labels.{labelSet};
 ghost use Rattle.spec_base.specs.Limits.{maxDepth};
 ghost use Rattle.wellformed.specs.Survey.{Standing};
@@ -6,7 +7,7 @@ ghost use Rattle.wellformed.specs.Triggers.{TellsWellFormed};
 use crate::matrix::Matrix;
 use labels::Labels;
 
-// Is the statement that lies in s well-formed? Its pauses are known, and row 9 does not hold of it.
+// Whether the statement encoded in s is well-formed. Its pauses are known, and row 9 does not hold of it.
 pub fn is_well_formed(s: &[u8], pauses: Labels) -> bool
     requires { ⌜ Standing maxDepth 0 (now s) ⌝ }
     ensures { λ r. ⌜ TellsWellFormed (now (s .entry)) (labelSet pauses) r ⌝ }

@@ -21,7 +21,7 @@ abbrev μ-loop : tie.MeasureT-loop
 loop-holds : tie.Need-loop-holds Inv-loop μ-loop
 loop-holds c = let a = c .before .args in (refl, begin (a .line .now) (a .end) (numeral (a .base) (a .width) (a .x)))
 
--- what holds where the loop goes on: digits are left, and room for one
+-- what holds where the loop goes on: digits are left, and space for one
 more : (c : tie.Joined1 Inv-loop μ-loop) → 0 < c .before .loop .left + c .before .loop .rest
 more c =
     ⊎-elim (λ w. let h : 0 < c .before .loop .left = w .taken in omega arith) (λ w. let h : 0 < c .before .loop .rest = ltb-true 0 (c .before .loop .rest) (w .1 .taken) in omega arith)

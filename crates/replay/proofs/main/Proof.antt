@@ -5,7 +5,7 @@ use borrow.Author.Needs.{needs}
 use Rattle.replay.proofs.main.Statement.{statement}
 use Rattle.replay.proofs.main.Tie as tie
 
--- shut, so that the bytes of the room are not counted one by one
+-- shut, so that the bytes of the buffer are not counted one by one
 unfoldable sized : (n : ℕ) → length {A = ℕ} (replicate n 0) ≡ n
 sized n = length-replicate n 0
 
