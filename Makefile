@@ -32,8 +32,8 @@ HOST_TESTS = host-rust host-c host-tick-rust host-tick-c host-box-rust host-box-
 
 # The two programs are built anew for whatever archive is named.
 .PHONY: help run show paper page unroll replay vectors-diff test lib install uninstall clean certificate host $(HOST_TESTS) host-plain \
-	show-test format-test house-test certificate-test demands-test quotes-test bench bench-check bench-tick bench-box bench-unroll bench-replay \
-	bench-growth bench-steps bench-run search target/host/stack target/host/dearest
+	show-test format-test pages-test certificate-test demands-test quotes-test cone-test spec-book bench bench-check bench-tick bench-box \
+	bench-unroll bench-replay bench-growth bench-steps bench-run search target/host/stack target/host/dearest
 
 help: # lists the targets
 	@sed -n 's/^\([a-z-]*\):[^#]*# /\1: /p' Makefile
@@ -207,8 +207,16 @@ quotes-test: # holds what comments and pages quote to the papers, or, where they
 format-test: # holds the tables of docs/FORMAT.md, FILES.md and GLOSSARY.md, and what CONTRIBUTING.md quotes, to what they repeat
 	tools/test_format.py
 
-house-test: # holds docs/ARCHITECTURE.md, WALKS.md and GLOSSARY.md to the crates, and every page to its length and links
-	tools/test_house.py
+pages-test: # holds docs/ARCHITECTURE.md, TRAVERSALS.md and GLOSSARY.md to the crates, and every page to its length and links
+	tools/test_pages.py
+
+cone-test: # tests tools/cone and tools/spec_book, and holds docs/READING.md to what the contracts and the cited theorems mean
+	tools/test_cone.py
+
+spec-book: # writes all definitions that the contracts and the cited theorems mean to target/spec-book.html, one page to read or print
+	@mkdir -p target
+	@tools/spec_book target/spec-book.html
+	@echo 'target/spec-book.html'
 
 bench: bench-check bench-tick bench-box bench-unroll bench-replay bench-growth # times all of it against plain C
 

@@ -1,6 +1,6 @@
 /*
  * The check and the tick of document 01, with items 1, 3 to 7 and 12 of 02, as one would write them in C. The check is one
- * recursive walk; the first setpause begins it anew, and it fills two bit matrices then, which row 10 alone asks for. The
+ * recursive traversal; the first setpause begins it anew, and it fills two bit matrices then, which row 10 alone asks for. The
  * tick is a recursion over the read-back set, and inside it over the bytes: it skips a part that does not react, and looks
  * through a part for an active pause before it resumes it. The litres of all farms are summed on the way, where they are
  * asked for; a signal keeps them aside, as it does the labels, until its run is chosen.

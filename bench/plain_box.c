@@ -1,6 +1,6 @@
 /*
  * Eight bays in one box (02, items 8 to 12) as one would write them in C, over the check and the tick of plain.c. The
- * ceiling of a sequence is found by one recursive walk over the bytes that the check has accepted.
+ * ceiling of a sequence is found by one recursive traversal of the bytes that the check has accepted.
  */
 #include "plain_box.h"
 

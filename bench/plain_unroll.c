@@ -1,6 +1,6 @@
 /*
- * Loops written out, 02, item 13, as one would write it in C: after the check one recursive walk, which counts bytes and
- * depth and looks for a setpause, and then the same walk again, which writes.
+ * Loops written out, 02, item 13, as one would write it in C: after the check one recursive traversal, which counts bytes and
+ * depth and looks for a setpause, and then the same again, which writes.
  */
 #include "plain_unroll.h"
 

@@ -132,7 +132,7 @@ struct leaf {
 static const struct leaf pause_0 = {BYTES("\x01\x00"), 1};
 /* 1 litre of FARM before pause 0, and one behind it. */
 static const struct leaf delivery = {BYTES("\x04\x0C\x1E\x00\x00\x80\x3F\x04\x01\x00\x0C\x1E\x00\x00\x80\x3F"), 3};
-static const struct leaf set = {BYTES("\x05\x01\x00\x0A\x00"), 2};       /* for which row 10 walks once more */
+static const struct leaf set = {BYTES("\x05\x01\x00\x0A\x00"), 2};       /* for which row 10 takes a traversal more */
 static const struct leaf exclusive = {BYTES("\x04\x01\x00\x01\x01"), 2}; /* pauses 0 and 1 are no valid set */
 static const struct leaf ill_formed = {BYTES("\x04\x01\x01\x04\x05\x0A\x02\x01\x03\x01\x02"), 4};
 

@@ -169,7 +169,7 @@ def papers(repository):
     repository.write("docs/papers.txt", FILES["docs/papers.txt"])
     with open("/dev/full", "wb") as full:
         status, _, said = asked(repository, "--surroundings", into=full)
-    expect(status == 1 and said == "certificate: standard output: No space left on device\n", f"no room: {said}")
+    expect(status == 1 and said == "certificate: standard output: No space left on device\n", f"no space: {said}")
     expect(asked(repository, "--papers", "/none")[0] == 1 and asked(repository, "more")[0] == 2, "no folder, and a word too many")
 
 

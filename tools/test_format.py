@@ -193,34 +193,34 @@ def defines():
 
 
 def box(page):
-    """A stretch's fields follow each other, and begin where the test of a box has them."""
-    table, at, given = rows(page, "Stretch"), 0, {}
+    """A slot's fields follow each other, and begin where the test of a box has them."""
+    table, at, given = rows(page, "Slot"), 0, {}
     for name, begins, size, *_ in table[:-1]:
         if number(begins) != at:
-            yield f"{name} of a stretch begins at {at}"
+            yield f"{name} of a slot begins at {at}"
         given[name.upper().replace("-", "_")] = at
         at += number(size)
     given["STRETCH"] = at
     if table[-1][0] != "whole" or number(table[-1][2]) != at:
-        yield f"a stretch has {at} bytes"
+        yield f"a slot has {at} bytes"
     tested = re.findall(r"^(?:pub )?const (\w+): usize = (\d+);$", text_of("host/box/src/layout.rs"), re.M)
     if given != {name: int(value) for name, value in tested}:
-        yield f"the fields of a stretch: {given}"
+        yield f"the fields of a slot: {given}"
     known, sizes = limits(), {row[0]: number(row[2]) for row in table}
     fields = {"sequence": known["maxBytes"], "read-back": known["signalBytes"], "state": values("state")["STATE_LENGTH"]}
     if any(sizes.get(name) != size for name, size in fields.items()):
-        yield f"the bytes of a stretch: {sizes}"
+        yield f"the bytes of a slot: {sizes}"
     yield from positions(page, sizes.get("positions"))
 
 
-def positions(page, room):
+def positions(page, space):
     """The entry of a position, which the table has as often as the header says."""
     count, name, state = limits()["maxPositions"], limits()["nameBytes"], values("state")["STATE_LENGTH"]
     given = [[row[0], number(row[1] or "0"), number(row[2])] for row in rows(page, "Entry")]
     if given != [["name", 0, name], ["state", name, state], ["whole", 0, name + state]]:
         yield f"an entry of a position: {given}"
-    if room != count * (name + state) or count != defines()["POSITION_COUNT"]:
-        yield f"the room of {count} positions: {room}"
+    if space != count * (name + state) or count != defines()["POSITION_COUNT"]:
+        yield f"the bytes of {count} positions: {space}"
 
 
 def calls(page):
@@ -230,7 +230,7 @@ def calls(page):
         yield f"the calls on a box: {declared}"
     known, told = defines(), header("number")
     count, length = known["BAY_COUNT"], known["BOX_LENGTH"]
-    if length != count * number(rows(page, "Stretch")[-1][2]) or f"up to {count} bays in {length:,} bytes" not in page:
+    if length != count * number(rows(page, "Slot")[-1][2]) or f"up to {count} bays in {length:,} bytes" not in page:
         yield "the length of a box"
     lengths = ", ".join(f"{name} {values(name)[f'{name}_LENGTH'.upper()]}" for name in ("state", "answer", "record", "panel", "preview", "ledger"))
     lengths += f", result {known['RESULT_LENGTH']:,}"
@@ -241,8 +241,8 @@ def calls(page):
     limit, ledger = known["FARM_LIMIT"], values("ledger")
     if limit != limits()["litresLimit"] or any(not told[name][1].endswith(f" {limit:,}") for name in ("BAD_LITRES", "ABOVE_FARM_LIMIT")):
         yield "the limit of litres in the header's comments"
-    room = {row[0]: row[2] for row in rows(page, "Stretch")}["ledger"]
-    if known["FARM_COUNT"] != limits()["signalCount"] or number(room) != ledger["LEDGER_FARMS_LENGTH"] != 4 * known["FARM_COUNT"]:
+    space = {row[0]: row[2] for row in rows(page, "Slot")}["ledger"]
+    if known["FARM_COUNT"] != limits()["signalCount"] or number(space) != ledger["LEDGER_FARMS_LENGTH"] != 4 * known["FARM_COUNT"]:
         yield "the farms of a ledger"
 
 
@@ -319,7 +319,7 @@ def quotations(page):
         yield "the vector"
     targets = re.findall(r"^([a-z-]+):", text_of("Makefile"), re.M)
     crates = re.findall(r"^(\w+):", text_of("crates.txt"), re.M)
-    named = re.findall(r"`rt (?:dev|check|must-fail) ([a-z ]+)`", page)
+    named = re.findall(r"`rt (?:dev|check|must-fail) ([a-z_ ]+)`", page)
     yield from (f"make {target}" for target in re.findall(r"`make ([a-z-]+)`", page) if target not in targets)
     yield from (f"crate {crate}" for words in named for crate in words.split() if crate not in crates)
     yield from links("CONTRIBUTING.md", page)
@@ -348,9 +348,9 @@ def faults(page):
 
 CHECKED = {"Byte": [0, 1, 2, 3], "Limit": [0, 1, 2], "State record": [0, 1, 2], "Answer record": [0, 1, 2],
            "Record": [0, 1, 2], "Panel": [0, 1, 2], "Preview": [0, 1, 2], "Ledger": [0, 1, 2], "Code": [0, 2],
-           "Kind": [0, 1], "No.": [0, 1, 2, 3], "Stretch": [0, 1, 2], "Entry": [0, 1, 2], "Call": [0],
+           "Kind": [0, 1], "No.": [0, 1, 2, 3], "Slot": [0, 1, 2], "Entry": [0, 1, 2], "Call": [0],
            "Original": [0, 1], "Line": [0], "Part": [1], "Field": [0, 1], "Term": [3],
-           "Word": []}  # tools/test_house.py has the words of the glossary
+           "Word": []}  # tools/test_pages.py has the words of the glossary
 
 
 def other(cell):
@@ -378,7 +378,7 @@ def changed(page):
 
 def misquoted(page):
     """Yields CONTRIBUTING with one quotation changed, and the quotation."""
-    quoted = r"`make ([a-z-]+)`|`rt (?:dev|check|must-fail) ([a-z]+)|\]\(([^)]+)\)|^(?:file|old|new|  bytes|  run)(.*)$"
+    quoted = r"`make ([a-z-]+)`|`rt (?:dev|check|must-fail) ([a-z_]+)|\]\(([^)]+)\)|^(?:file|old|new|  bytes|  run)(.*)$"
     for found in re.finditer(quoted, page, re.M):
         at = found.end(found.lastindex) - 1
         yield page[:at] + ("x" if page[at] != "x" else "y") + page[at + 1 :], found[0]

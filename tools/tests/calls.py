@@ -37,16 +37,16 @@ def test_calls():
     expect(answer[0] == 1 and answer[2] == "show: -: place 0: no command has the byte 0D (row 3)\n", f"a bad one: {answer}")
     with open("/dev/full", "wb") as full:
         done = subprocess.run([SHOW, worked], stdout=full, stderr=subprocess.PIPE, check=False)
-    expect(done.returncode == 1 and done.stderr.startswith(b"show: standard output: "), f"no room: {done}")
+    expect(done.returncode == 1 and done.stderr.startswith(b"show: standard output: "), f"no space: {done}")
     done = subprocess.run(["sh", "-c", f"'{SHOW}' '{worked}' | true"], capture_output=True, check=False)
     expect(done.stderr == b"", f"a reader that goes away: {done}")
 
 
 def test_run_program():
     """Beside a target/bin/run the listing is its own; with none the inputs are shown alone."""
-    (folder / "house" / "tools").mkdir(parents=True)
-    copy = shutil.copy(SHOW, folder / "house" / "tools")
-    shutil.copytree(SHOW.parent / "showing", folder / "house" / "tools" / "showing")
+    (folder / "clone" / "tools").mkdir(parents=True)
+    copy = shutil.copy(SHOW, folder / "clone" / "tools")
+    shutil.copytree(SHOW.parent / "showing", folder / "clone" / "tools" / "showing")
     data = WORKED[:-4] + b"\x01\x00\x00\x80"
     written("data", data)
     status, shown, _ = call(str(folder / "data"), program=copy)
@@ -56,7 +56,7 @@ def test_run_program():
     expect(status == 1 and message.endswith("is not built, so the paper is held to nothing\n") and "agree" not in shown,
            f"a paper with no run program: {message}")
     expect(shown.count("\ninstant ") == 2 and shown.count("\nremains\n") == 1, f"a paper with no listing: {shown}")
-    run = folder / "house" / "target" / "bin" / "run"
+    run = folder / "clone" / "target" / "bin" / "run"
     run.parent.mkdir(parents=True)
     run.write_text(f"#!/bin/sh\ncmp -s - '{folder / 'data'}' && printf '{WORKED_LISTING}'\n", encoding="utf-8")
     status, _, message = call(str(folder / "data"), program=copy)

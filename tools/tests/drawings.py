@@ -111,7 +111,7 @@ def test_drawing_of_a_wrong_instant():
     backgrounds = [rect.get("class") for rect in root.iter(SPACE + "rect")]
     expect(backgrounds == ["background", "fault"], f"the background of a wrong instant: {drawn}")
     expect(root.find(SPACE + "title").text == f"data: {told}" and "inputs not used: 1" in drawn, f"title: {drawn}")
-    expect(int(root.get("width")) > 6 * len(told), f"room for what is told: {drawn}")
+    expect(int(root.get("width")) > 6 * len(told), f"space for what is told: {drawn}")
     drawn = show("--svg", "-", data=WORKED, listing=WORKED_LISTING)[1]
     expect("wrong\"" not in drawn and "fault\"" not in drawn, f"nothing in red: {drawn}")
 

@@ -10,19 +10,19 @@ CRATES = "# a comment: here\nlimits:\nsets: limits\nlabels: limits sets\nrun: io
 
 def progress(script, *words, **setting):
     """Status and both outputs of the tool beside these crates, with this script as rt; None for no rt at all."""
-    house = folder / "proving"
-    (house / "tools").mkdir(parents=True, exist_ok=True)
-    (house / "bin").mkdir(exist_ok=True)
-    shutil.copy(ROOT / "tools" / "progress", house / "tools")
-    (house / "crates.txt").write_text(CRATES, "utf-8")
-    program = house / "bin" / "rt"
+    root = folder / "proving"
+    (root / "tools").mkdir(parents=True, exist_ok=True)
+    (root / "bin").mkdir(exist_ok=True)
+    shutil.copy(ROOT / "tools" / "progress", root / "tools")
+    (root / "crates.txt").write_text(CRATES, "utf-8")
+    program = root / "bin" / "rt"
     program.unlink(missing_ok=True)
     if script is not None:
         program.write_text(f"#!/bin/sh\n{script}\n", "utf-8")
         program.chmod(0o755)
-    done = subprocess.run([sys.executable, house / "tools" / "progress", *words], capture_output=True, text=True, check=False,
-                          env={"PATH": f"{house / 'bin'}:/usr/bin:/bin", **setting})
-    kept = house / "target" / "log" / "progress.out"
+    done = subprocess.run([sys.executable, root / "tools" / "progress", *words], capture_output=True, text=True, check=False,
+                          env={"PATH": f"{root / 'bin'}:/usr/bin:/bin", **setting})
+    kept = root / "target" / "log" / "progress.out"
     return done.returncode, done.stdout, done.stderr, kept.read_text("utf-8", "replace") if kept.exists() else ""
 
 

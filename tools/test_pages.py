@@ -1,11 +1,11 @@
 #!/usr/bin/env python3
-"""Holds the pages about the house to the crates: the wings and floors of docs/ARCHITECTURE.md to crates.txt, docs/DEFINITIONS.md to the
-files of specs, the predicates and steps of docs/WALKS.md and the functions that docs/DECISIONS.md names for their requires and ensures
-to the contracts, the words of docs/GLOSSARY.md to the definitions; and every page to its length, its links, and the crates, files and
-functions that it names.
+"""Holds the pages to the crates: the picture and the tables of docs/ARCHITECTURE.md to crates.txt and to the crates' first comments,
+the predicates and steps of docs/TRAVERSALS.md and the functions that docs/DECISIONS.md names for their requires and ensures to the
+contracts, the words of docs/GLOSSARY.md to the definitions; every page to its length, its links, and the crates, files and functions that
+it names; and the crates to the rules of CONTRIBUTING.md: layers, number and size, an edit for each.
 
-Each check is a function of a house, which is the text of every page and of crates.txt by path, and gives its faults. The house itself must
-have none, and a house with one line, name or link changed must have some. The last line is 'N passed, M failed'.
+Each check is a function of the text of every page and of crates.txt by path, and gives its faults. The repository must have none, and the
+pages with one line, name or link changed must have some. The last line is 'N passed, M failed'.
 """
 import functools
 import importlib.machinery
@@ -17,17 +17,22 @@ from pathlib import Path
 sys.dont_write_bytecode = True
 
 ROOT = Path(__file__).resolve().parent.parent
-LIST, HOUSE, WALKS, WORDS = "crates.txt", "docs/ARCHITECTURE.md", "docs/WALKS.md", "docs/GLOSSARY.md"
-DECISIONS, DEFINITIONS, LANGUAGE = "docs/DECISIONS.md", "docs/DEFINITIONS.md", "docs/LANGUAGE.md"
-DEMANDS, FLOORS = "docs/DEMANDS.md", "docs/FLOORS.md"
+LIST, CRATES, TRAVERSALS, WORDS = "crates.txt", "docs/ARCHITECTURE.md", "docs/TRAVERSALS.md", "docs/GLOSSARY.md"
+DECISIONS, READING = "docs/DECISIONS.md", "docs/READING.md"
+DEMANDS = "docs/DEMANDS.md"
 SENTENCES = (DEMANDS, "docs/demands/")  # the pages with a row for each sentence of the papers
 PROSE = {"edits", "edit"}  # words that stand before an edit and name no crate
 FOLDERS = ["", "docs", "docs/decisions", "docs/demands", "docs/landings", "examples"]
 MOST_LINES = 300
+MOST_CRATES, MOST_CODE, MOST_WORDS = 65, 250, 10  # crates; lines of code of a crate without modules; words that name two things
+NO_EDIT = {"vectors"}  # a test, of which nothing is promised
+EXAMPLES = re.compile(r"Examples$|^Worked|Bays$|^FirstErrors$|^Suspended$")  # files of definitions worked by hand
 LIBRARIES = {"std", "check", "libc", "io", "os", "bytes"}  # of the toolchain
 SIGNATURE = r"^pub (?:extern \"C\" )?fn (\w+)((?:\([^\n]*|\((?:\n    [^\n]*)+\n\)[^\n]*) \{$|.*?^\{)"  # up to a body
 BINDER = r"[({][^(){}:]+ : "
 DECLARED = r"^\s*(?:abbrev |unfoldable )?pub (?:data |record )?{}(?=[\s:(])"
+
+FIGURES = re.compile(r"\b(?:house|wing|floor|door|walk|stretch)(?:s|es)?\b")  # of speech; the words are crate, layer, level, traversal, slot
 
 passed = failed = 0
 
@@ -52,17 +57,13 @@ def load(path):
     return module
 
 
-floors, index = load("tools/floors"), load("tools/definitions")
+listing = load("tools/crates")
 
 
-@functools.cache
-def written_index():
-    return index.page()
-
-
-def house():
+def repository():
     pages = [path for folder in FOLDERS for path in sorted((ROOT / folder).glob("*.md"))]
-    return {path: text_of(path) for path in [LIST, *(str(page.relative_to(ROOT)) for page in pages)]}
+    edits = sorted((ROOT / "crates").glob("*/must-fail/*.edit"))
+    return {path: text_of(path) for path in [LIST, *(str(file.relative_to(ROOT)) for file in [*pages, *edits])]}
 
 
 def pages(texts, old=True):
@@ -125,54 +126,61 @@ def declares(path, name):
 
 
 @functools.cache
+def code_lines(crate):
+    """The lines of a crate's code, without blanks and comments."""
+    lines = (line.strip() for text in sources(crate).values() for line in text.splitlines())
+    return sum(bool(line) and not line.startswith("//") for line in lines)
+
+
+@functools.cache
 def words_of_two():
-    """The names that the specs, or the types of the code, declare in more crates than one."""
+    """The names that more than one of the crates to be believed declares, examples worked by hand aside."""
     found = {}
-    for path in (ROOT / "crates").glob("*/specs/*.antt"):
-        for name in re.findall(r"^(?:abbrev |unfoldable )?pub (?!mod|use)(?:data |record )?([^\s:(]+)", path.read_text("utf-8"), re.M):
-            found.setdefault(name, set()).add(path.parts[-3])
-    for crate in crates():
-        for text in sources(crate).values():
-            for name in re.findall(r"^pub (?:enum|struct|type) (\w+)", text, re.M):
-                found.setdefault(name, set()).add(crate)
+    for path in (ROOT / "crates").glob("spec_*/specs/*.antt"):
+        if not EXAMPLES.search(path.stem):
+            for name in re.findall(r"^(?:abbrev |unfoldable )?pub (?!mod|use)(?:data |record )?([^\s:(]+)", path.read_text("utf-8"), re.M):
+                found.setdefault(name, set()).add(path.parts[-3])
     return {name for name, where in found.items() if len(where) > 1}
 
 
-# Checks: each gives what is wrong with a house
+# Checks: each gives what is wrong with the pages, or with the crates
 
 
-def wings(texts):
-    """Every crate stands in one wing of crates.txt, and on crates of its own wing or of one before it."""
-    listed = floors.wings(texts[LIST])
-    order, home = list(listed), {name: wing for wing, names in listed.items() for name in names}
+def layers(texts):
+    """Every crate stands in one layer of crates.txt and on crates of its own layer or of one before it; one to be believed on such alone."""
+    listed = listing.layers(texts[LIST])
+    order, home = list(listed), {name: layer for layer, names in listed.items() for name in names}
     if sorted(name for names in listed.values() for name in names) != sorted(crates()):
         yield f"{LIST} and crates/: {set(home) ^ crates()}"
-    for name, below in floors.arrows(texts[LIST]).items():
+    for name, below in listing.arrows(texts[LIST]).items():
+        if name.startswith("spec_") != (home[name] == "spec"):
+            yield f"{name} in layer {home[name]}"
         for other in below:
             if order.index(home[other]) > order.index(home[name]):
-                yield f"{name} of wing {home[name]} stands on {other} of wing {home[other]}"
+                yield f"{name} of layer {home[name]} stands on {other} of layer {home[other]}"
+            if name.startswith("spec_") and not other.startswith("spec_"):
+                yield f"{name} must be believed and stands on {other}"
 
 
-def pictures(texts):
-    """The floors of the pages are those of the arrows."""
-    if texts[FLOORS] != floors.page(texts[LIST]):
-        yield f"{FLOORS}: tools/floors --write"
-    if re.findall(r"```text\n(.*?)```", section(texts[HOUSE], "The wings"), re.S) != [floors.overview(texts[LIST])]:
-        yield f"the picture of the wings in {HOUSE}: tools/floors --write"
+def sizes(texts, most=MOST_CODE):
+    """There are not too many crates, and a long one has modules."""
+    count = sum(map(len, listing.layers(texts[LIST]).values()))
+    if count > MOST_CRATES:
+        yield f"{count} crates, more than {MOST_CRATES}"
+    for crate in sorted(crates()):
+        if code_lines(crate) > most and len(sources(crate)) == 1:
+            yield f"{crate} has {code_lines(crate)} lines of code and no modules"
 
 
 def tables(texts):
-    """Each wing's table has its crates, each once, and the page counts both."""
-    listed = floors.wings(texts[LIST])
-    for wing, names in listed.items():
-        given = [name for row in rows(section(texts[HOUSE], f"Wing {wing}"), "Crate") for name in quoted(row[0])]
-        if sorted(given) != sorted(names):
-            yield f"the crates of wing {wing} in {HOUSE}: {sorted(set(given) ^ set(names)) or given}"
-    if [row[0] for row in rows(texts[HOUSE], "Wing")] != list(listed):
-        yield f"the wings in {HOUSE}"
-    numbers = {7: "seven", 8: "eight"}
-    if f"a house of {sum(map(len, listed.values()))} crates in {numbers.get(len(listed))} wings" not in texts[HOUSE]:
-        yield f"how many crates and wings {HOUSE} counts"
+    """The picture of the layers and their tables are those that the crates give, and each row is a comment of one to three lines."""
+    if listing.with_made(texts[CRATES], texts[LIST]) != texts[CRATES]:
+        yield f"{CRATES}: tools/crates --write"
+    if [row[0] for row in rows(texts[CRATES], "Layer")] != list(listing.layers(texts[LIST])):
+        yield f"the layers in {CRATES}"
+    for crate in sorted(crates()):
+        if not 1 <= len(listing.first_comment(crate)) <= 3:
+            yield f"the first comment of {crate} has {len(listing.first_comment(crate))} lines"
 
 
 def lengths(texts):
@@ -234,6 +242,24 @@ def edits():
     return found
 
 
+def edits_of(texts):
+    """The must-fail edits by path, with the crate of each."""
+    return {path: path.split("/")[1] for path in texts if path.endswith(".edit")}
+
+
+def refused(texts):
+    """Every crate with a contract has a must-fail edit, and what an edit changes stands once in its file."""
+    of = edits_of(texts)
+    for crate in sorted(crates() - set(of.values()) - NO_EDIT):
+        if any("ensures {" in text for text in sources(crate).values()):
+            yield f"{crate} has contracts and no must-fail edit"
+    for path, crate in of.items():
+        file, old = re.search(r"^file: (\S+)\nold: (.*?)\n(?=new:)", texts[path], re.M | re.S).groups()
+        count = text_of(f"crates/{crate}/{file}").count(old)
+        if count != 1:
+            yield f"what {path} changes stands {count} times in {file}"
+
+
 def edited(texts):
     """A must-fail edit that is named behind a crate is one of that crate."""
     for path, text in pages(texts, old=False):
@@ -243,25 +269,28 @@ def edited(texts):
                     yield f"{path}: {crate} has no must-fail edit {edit}"
 
 
-def definitions(texts):
-    """The index of definitions is the one that the files give."""
-    if texts[DEFINITIONS] != written_index():
-        yield f"{DEFINITIONS}: tools/definitions --write"
+def plain(texts):
+    """No page and no comment of a crate has a figure of speech where the field has a word."""
+    for path, text in pages(texts, old=False):
+        if path != "CHANGELOG.md":
+            for found in FIGURES.findall(re.sub(r"`[^`\n]*`|\]\([^)]*\)", "", text)):
+                yield f"{path}: {found}"
+    yield from figures_of_comments()
 
 
-def language(texts):
-    """The page about the language has every file of its definitions and of its theorems, and of sets and their laws."""
-    for first, cell, folder in (("specs/", 0, "crates/spec_language/specs"), ("proofs/", 0, "crates/theory_language/proofs"),
-                                ("sets/specs", 0, "crates/sets/specs"), ("sets/specs", 2, "crates/sets/proofs")):
-        given = {name for row in rows(texts[LANGUAGE], first) for name in quoted(row[cell])}
-        there = {path.stem for path in (ROOT / folder).glob("*.antt")} - {"Lib", "Theorems"}
-        if given != there:
-            yield f"the files of {folder} in {LANGUAGE}: {sorted(given ^ there)}"
+@functools.cache
+def figures_of_comments():
+    """The files of crates with such a word in a comment."""
+    found = []
+    for path in [*(ROOT / "crates").glob("*/*/**/*.antt"), *(ROOT / "crates").glob("*/src/*.rt")]:
+        comments = re.findall(r"^ *(?:--|//) (.*)$", path.read_text(encoding="utf-8"), re.M)
+        found += [f"{path.relative_to(ROOT)}: {line}" for line in comments if FIGURES.search(re.sub(r"`[^`]*`", "", line))]
+    return found
 
 
 def predicates(texts):
     """A predicate is declared where the page says, ensured by what gives it and required by what asks for it."""
-    for name, where, _, given, asked in rows(texts[WALKS], "Predicate"):
+    for name, where, _, given, asked in rows(texts[TRAVERSALS], "Predicate"):
         word = quoted(name)[0]
         if not declares(where, word):
             yield f"{word} in {where}"
@@ -274,13 +303,13 @@ def predicates(texts):
                 if not declares(file, law):
                     yield f"{word}: the law {law} of {file}"
             for other in re.findall(r"part of `(\w+)`", cell):
-                if not re.search(rf"^\| `{other}` \|", texts[WALKS], re.M):
+                if not re.search(rf"^\| `{other}` \|", texts[TRAVERSALS], re.M):
                     yield f"{word}: part of {other}"
 
 
 def steps(texts):
     """The functions of a step stand in its file, and a call of the box has its functions."""
-    table = rows(texts[WALKS], "Step")
+    table = rows(texts[TRAVERSALS], "Step")
     if [row[0] for row in table] != [str(n + 1) for n in range(len(table))] or not table:
         yield "the steps of a call to a box"
     for _, names, where, _ in table:
@@ -288,7 +317,7 @@ def steps(texts):
             if not contract(name) or not where.startswith(f"crates/{name.split('::')[0]}/src") or not (ROOT / where).exists():
                 yield f"the step {name} in {where}"
     exported = set(re.findall(r"fn (intake_box_\w+)", sources("intake")["lib"])) - {"intake_box_tick"}
-    if {row[0].strip("`").partition("::")[2] for row in rows(texts[WALKS], "Call")} != exported:
+    if {row[0].strip("`").partition("::")[2] for row in rows(texts[TRAVERSALS], "Call")} != exported:
         yield "the calls of a box"
 
 
@@ -360,9 +389,11 @@ def silent(texts):
 
 
 def words(texts):
-    """A word that two crates declare is in the glossary, and the files beside it have it."""
+    """A word that two crates to be believed declare is in the glossary, and the files beside it have it; there are few of them."""
     table = rows(section(texts[WORDS], "Words that name two things"), "Word")
     told = {word for row in table for word in quoted(row[0])}
+    if len(table) > MOST_WORDS:
+        yield f"{len(table)} words that name two things, more than {MOST_WORDS}"
     listed = set(quoted(section(texts[WORDS], "One thing in several crates").partition("The standing of")[0]))
     for word in sorted(words_of_two() - told - listed):
         yield f"{word} is declared in two crates: give one of them another name, or say in {WORDS} why it stays"
@@ -375,46 +406,53 @@ def words(texts):
                 yield f"{row[0]} in {path}"
 
 
-CHECKS = [wings, pictures, tables, lengths, links, functions, files, cited, edited, definitions, language, predicates, steps, requirements, premises, silent, words]
+CHECKS = [layers, sizes, tables, lengths, links, functions, files, cited, refused, edited, plain, predicates, steps, requirements, premises,
+          silent, words]
 
 
-# Houses with one thing changed
+# Pages with one thing changed
 
 
 def other(texts, path, found, new):
-    """A house of the pages that are needed, with something new in the place of what was found in one of them."""
+    """The pages that are needed, with something new in the place of what was found in one of them."""
     start, end = found.span(1)
-    needed = (LIST, HOUSE, FLOORS, WALKS, WORDS, DECISIONS, DEFINITIONS, LANGUAGE)
+    needed = (LIST, CRATES, TRAVERSALS, WORDS, DECISIONS, READING)
     return {name: texts[name] for name in needed} | {path: texts[path][:start] + new + texts[path][end:]}
 
 
 def changed(texts):
-    """Yields houses with one line, name or link changed, with the check that must notice it and what was changed."""
+    """Yields pages with one line, name or link changed, with the check that must notice it and what was changed."""
     changes = [
-        (LIST, wings, r"^(\w+:.*\n)", ""),  # a crate that is left out
-        (LIST, tables, r"^(# \w+\n)", ""),  # a wing's crates in the one before it
-        (FLOORS, pictures, r"^( +\d* +`\w+`.*\n)", ""),
-        (HOUSE, pictures, r"^( +\w+  floors .*\n)", ""),
-        (HOUSE, tables, r"^\| (`\w+`.*?) \| [^|]* \|\n", "`nobody`"),
-        (HOUSE, lengths, r"\A()", "\n" * MOST_LINES),
-        (HOUSE, links, r"\]\(([^)]+)\)", "nowhere.md"),
-        (WALKS, functions, r"`\w+::([\w:]+)`", "nobody"),
-        (WALKS, files, r"\w+/(?:specs|proofs)/(\w+)", "Nobody"),
-        (WALKS, predicates, r"^\| (`[A-Z]\w+`) \| \w+/specs", "`Unit`"),
-        (WALKS, predicates, r"^\| `[A-Z]\w+` \|.*(?<!in )(`\w+::[\w:]+`).*\n", "`numbers::put_le`"),
-        (WALKS, predicates, r"^\| `[A-Z]\w+` \|.*?laws? `([\w-]+)`.*\n", "nobody"),
-        (WALKS, steps, r"^\| \d+ \| `\w+::([\w:]+)`.*\n", "nobody"),
-        (WALKS, steps, r"^\| (`intake::intake_box_\w+`) \| `\w+::", "`intake::intake_tick`"),
+        (LIST, layers, r"^(\w+:.*\n)", ""),  # a crate that is left out
+        (LIST, layers, r"^spec_\w+:()", " limits"),
+        (LIST, sizes, r"\A()", "# more\n" + "".join(f"crate_{n}:\n" for n in range(MOST_CRATES))),
+        (LIST, tables, r"^(# \w+\n)", ""),  # a layer's crates in the one before it
+        (CRATES, tables, r"^( +\w+ +\d+ crates .*\n)", ""),
+        (CRATES, tables, r"^\| `\w+` \| (.*) \|\n", "nothing"),
+        (CRATES, plain, r"\A()", "a walk\n"),
+        (CRATES, lengths, r"\A()", "\n" * MOST_LINES),
+        (CRATES, links, r"\]\(([^)#:\s]+)\)", "nowhere.md"),
+        (TRAVERSALS, functions, r"`\w+::([\w:]+)`", "nobody"),
+        (TRAVERSALS, files, r"\w+/(?:specs|proofs)/(\w+)", "Nobody"),
+        (TRAVERSALS, predicates, r"^\| (`[A-Z]\w+`) \| \w+/specs", "`Unit`"),
+        (TRAVERSALS, predicates, r"^\| `[A-Z]\w+` \|.*(?<!in )(`\w+::[\w:]+`).*\n", "`numbers::put_le`"),
+        (TRAVERSALS, predicates, r"^\| `[A-Z]\w+` \|.*?laws? `([\w-]+)`.*\n", "nobody"),
+        (TRAVERSALS, steps, r"^\| \d+ \| `\w+::([\w:]+)`.*\n", "nobody"),
+        (TRAVERSALS, steps, r"^\| (`intake::intake_box_\w+`) \| `\w+::", "`intake::intake_tick`"),
         (DECISIONS, requirements, r"(`\w+::put_\w+`)", "nothing"),
         (DECISIONS, premises, r"(`rules\w*::in_\w+`)", "nothing"),
         (DECISIONS, silent, r"(`vectors\w*::\w+::(?:text|all)`)", "nothing"),
-        (DEMANDS, edited, r"\b(commands|spec_language) `\w+`", "limits"),
+        (DEMANDS, edited, r"\b(reading|spec_language) `\w+`", "limits"),
         (WORDS, cited, r"`[A-Z]\w+\.(\w+)`", "nonesuch"),
-        (DEFINITIONS, definitions, r"^(\| \[.*\n)", ""),
-        (LANGUAGE, language, r"^\| (`[A-Z]\w+`.*?) \|.*\n", "`Nobody`"),
-        (LANGUAGE, files, r"\w+/specs/(\w+)", "Nobody"),
+        (READING, files, r"(?<![\w/])\w+/specs/(\w+)", "Nobody"),
         *((WORDS, words, rf"`({word})`", "nobody") for word in sorted(words_of_two())),
     ]
+    of = edits_of(texts)
+    for path, crate in of.items():  # the only edit of a crate left out, and the first of each without its text
+        if list(of.values()).count(crate) == 1 and any("ensures {" in text for text in sources(crate).values()):
+            yield {other: text for other, text in texts.items() if other != path}, refused, f"{path} left out"
+        if path == next(other for other in of if of[other] == crate):
+            yield texts | {path: texts[path].replace("\nold: ", "\nold: nothing of ", 1)}, refused, f"{path}: what it changes"
     for path, check, pattern, new in changes:
         places = list(re.finditer(pattern, texts[path], re.M))
         expect(places, f"nothing to change: {pattern}")
@@ -425,15 +463,16 @@ def changed(texts):
 def noticed(texts, check):
     try:
         return bool(list(check(texts)))
-    except (ValueError, KeyError, IndexError):  # a crate that is nowhere, or in no wing
+    except (ValueError, KeyError, IndexError):  # a crate that is nowhere, or in no layer
         return True
 
 
 def main():
-    texts = house()
+    texts = repository()
     for check in CHECKS:
         found = list(check(texts))
         expect(not found, f"{check.__name__}: " + "\n  ".join(found))
+    expect(list(sizes(texts, most=100)), "a long crate without modules is not noticed")
     for damaged, check, what in changed(texts):
         expect(noticed(damaged, check), f"not noticed: {what}")
     print(f"{passed} passed, {failed} failed")
