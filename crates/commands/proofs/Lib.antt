@@ -1,3 +1,4 @@
 pub mod Counts
 pub mod Fronting
+pub mod Shapes
 pub mod Theorems

@@ -8,6 +8,7 @@ ghost use Prim.Native.Nat.{_<_};
 ghost use lib.ListN.{length, getD};
 ghost use Rattle.spec_sequence.specs.Reader.{front};
 ghost use Rattle.layout.specs.Walk.{headOf};
+ghost use Rattle.commands.specs.Shapes.{HasShape};
 
 // A count, or that the byte has no command.
 pub enum Count {
@@ -91,6 +92,31 @@ pub fn is_leaf(b: u8) -> bool
     match part_count(b) {
         Count::NoCommand => false,
         Count::Of(n) => n == 0,
+    }
+}
+
+// A command by the number of its parts, with the bytes of its own.
+pub enum Shape {
+    Leaf(usize),
+    One(usize),
+    Two(usize),
+}
+
+// The shape of the command b, by which a traversal goes; of a byte without a command, nothing is promised.
+pub fn shape_of(b: u8) -> Shape
+    ensures { λ r. ⌜ HasShape b r ⌝ }
+{
+    match b {
+        limits::NOTHING => Shape::Leaf(1),
+        limits::SEQUENCE => Shape::Two(1),
+        limits::PARALLEL => Shape::Two(1),
+        limits::LOOP => Shape::One(1),
+        limits::PRESENT => Shape::Two(2),
+        limits::SIGNAL => Shape::One(2),
+        limits::TRY => Shape::One(1),
+        limits::SUSPEND => Shape::One(2),
+        limits::DELIVER => Shape::Leaf(6),
+        _ => Shape::Leaf(2),
     }
 }
 

@@ -1,5 +1,5 @@
--- The labels of the active pauses at each command, from what the code finds of its parts.
-use Prim.Native.Nat.{ℕ, _/_, _%_, _^_, _<_}
+-- The labels of the active pauses at a command of each shape, from what the code finds of its parts.
+use Prim.Native.Nat.{ℕ, _+_, _-_, _/_, _%_, _^_, _<_}
 use mathlib.Core.Path.{_≡_, refl, sym, ap, ap₂, _∙_, subst}
 use mathlib.Core.Bool.{Bool, true, false}
 use mathlib.Core.List.{List}
@@ -11,13 +11,13 @@ use Rattle.spec_base.specs.Sets.{none, empty, join, below, from}
 use Rattle.spec_base.specs.Widths.{onlyBelow, twoWords, setAt}
 use Rattle.sets.proofs.Algebra.{join-none-l, join-none-r, join-assoc}
 use Rattle.sets.proofs.Words.{words-of, words-none, stored-here}
-use Rattle.spec_language.specs.Statement.{local, Statement, pause, seq, par, loop, present, signal, try, suspend}
+use Rattle.spec_language.specs.Statement.{Statement, nothing, pause}
 use Rattle.theory_language.specs.Ranks.{middle, labelsBy}
 use Rattle.theory_language.proofs.Ranks.{labels-by-none}
-use Rattle.spec_sequence.specs.Commands.{Command}
-use Rattle.theory_sequence.proofs.Table.{byteOf}
-use Rattle.layout.specs.Layout.{Lies, Ready}
-use Rattle.layout.proofs.Laid.{taken-apart, command}
+use Rattle.spec_sequence.specs.Commands.{Command, operandsOf, partCount, build}
+use Rattle.theory_sequence.proofs.Table.{byteOf, leaves, ones, twos}
+use Rattle.layout.specs.Layout.{rest, Two, Lies, Ready}
+use Rattle.commands.proofs.Shapes.{Shaped, leaf-apart, one-apart, two-apart}
 use Rattle.resume.specs.Labelled.{Joined}
 
 -- ---- a mask m, the set a that the code makes of its words, and the words of a part of it
@@ -69,40 +69,9 @@ pub pause-step : (base m l : ℕ) {u v : List ℕ} → l < labelCount → empty 
 unfolding labelsBy
 pause-step base m l s e h = rw e (rw (lt-ltb l labelCount s) at h)
 
--- ---- commands of one part
-module _ (base m : ℕ) (p : Statement) {u v : List ℕ} (h : Joined (labelsBy base p m) u v) where
-  pub loop-step : (a : ℕ) → Joined (labelsBy base (loop a p) m) u v
-  unfolding labelsBy
-  loop-step a = h
-
-  pub signal-step : (a s : ℕ) → Joined (labelsBy base (signal local a s p) m) u v
-  unfolding labelsBy
-  signal-step a s = h
-
-  pub try-step : Joined (labelsBy base (try p) m) u v
-  unfolding labelsBy
-  try-step = h
-
-  pub suspend-step : (s : ℕ) → Joined (labelsBy base (suspend s p) m) u v
-  unfolding labelsBy
-  suspend-step s = h
-
 -- ---- commands of two parts
 abbrev ofTwo : (base m : ℕ) (p q : Statement) → ℕ
 ofTwo base m p q = join (labelsBy base p (below (middle base p) m)) (labelsBy (middle base p) q (from (middle base p) m))
-
-module _ (base m : ℕ) (p q : Statement) {u v : List ℕ} (h : Joined (ofTwo base m p q) u v) where
-  pub seq-step : Joined (labelsBy base (seq p q) m) u v
-  unfolding labelsBy
-  seq-step = h
-
-  pub par-step : Joined (labelsBy base (par p q) m) u v
-  unfolding labelsBy
-  par-step = h
-
-  pub present-step : (s : ℕ) → Joined (labelsBy base (present s p q) m) u v
-  unfolding labelsBy
-  present-step s = h
 
 -- f and g are the masks of the parts of a command of two; k is the table's number of pauses before the second part
 pub parts-step : (base m : ℕ) (p q : Statement) (k : ℕ) {f g : ℕ} {u v w : List ℕ} → k ≡ middle base p → f ≡ below k m → g ≡ from k m
@@ -112,27 +81,41 @@ parts-step base m p q k hk hf hg hv hw =
     let y = ap (labelsBy (middle base p) q) (hg ∙ ap (λ (i : ℕ). from i m) hk) in
     same-labels (ap₂ join x y) (both-added hv hw)
 
--- ---- commands without parts, but for a pause
-abbrev pub NoLabels : ℕ → Type 0
-NoLabels b =
-    (((((((Unit {0} × (b ≡ 1 → ⊥)) × (b ≡ 4 → ⊥)) × (b ≡ 5 → ⊥)) × (b ≡ 6 → ⊥)) × (b ≡ 7 → ⊥)) × (b ≡ 8 → ⊥)) × (b ≡ 9 → ⊥)) × (b ≡ 11 → ⊥)
+-- ---- the commands of each shape
+module _ (base m a : ℕ) (xs : List ℕ) where
+  leaf-labels : (c : Command) → partCount c ≡ 0 → (byteOf c ≡ 1 → ⊥) → labelsBy base (build c a xs nothing nothing) m ≡ none
+  unfolding labelsBy
+  leaf-labels =
+      leaves (λ (c : Command). (byteOf c ≡ 1 → ⊥) → labelsBy base (build c a xs nothing nothing) m ≡ none)
+      (λ n. refl) (λ n. absurd (n refl)) (λ n. refl) (λ n. refl) (λ n. refl) (λ n. refl)
 
-pub leaf-step : {t : List ℕ} {d a : ℕ} {bs : List ℕ} (r : Ready t d a bs) (base m : ℕ) (p : Statement) → Lies t d base a bs p
-    → NoLabels (getD bs 0 0) → {u : List ℕ} → Joined (labelsBy base p m) u u
-unfolding labelsBy
-leaf-step {bs = bs} r base m p l n {u} = go (command r .0) (command r .1)
-  where
-    go : (c : Command) → getD bs 0 0 ≡ byteOf c → Joined (labelsBy base p m) u u
-    go Command.nothing b = rw (taken-apart r base p l Command.nothing b .parts) (none-added u)
-    go Command.pause b = absurd (n .0 .0 .0 .0 .0 .0 .0 .1 b)
-    go Command.emit b = rw (taken-apart r base p l Command.emit b .parts) (none-added u)
-    go Command.exit b = rw (taken-apart r base p l Command.exit b .parts) (none-added u)
-    go Command.seq b = absurd (n .0 .0 .0 .0 .0 .0 .1 b)
-    go Command.par b = absurd (n .0 .0 .0 .0 .0 .1 b)
-    go Command.loop b = absurd (n .0 .0 .0 .0 .1 b)
-    go Command.present b = absurd (n .0 .0 .0 .1 b)
-    go Command.signal b = absurd (n .0 .0 .1 b)
-    go Command.try b = absurd (n .0 .1 b)
-    go Command.setpause b = rw (taken-apart r base p l Command.setpause b .parts) (none-added u)
-    go Command.suspend b = absurd (n .1 b)
-    go Command.deliver b = rw (taken-apart r base p l Command.deliver b .parts) (none-added u)
+  one-labels : (c : Command) → partCount c ≡ 1 → (q : Statement) → labelsBy base (build c a xs q nothing) m ≡ labelsBy base q m
+  unfolding labelsBy
+  one-labels =
+      ones (λ (c : Command). (q : Statement) → labelsBy base (build c a xs q nothing) m ≡ labelsBy base q m)
+      (λ q. refl) (λ q. refl) (λ q. refl) (λ q. refl)
+
+  two-labels : (c : Command) → partCount c ≡ 2 → (p q : Statement) → labelsBy base (build c a xs p q) m ≡ ofTwo base m p q
+  unfolding labelsBy
+  two-labels =
+      twos (λ (c : Command). (p q : Statement) → labelsBy base (build c a xs p q) m ≡ ofTwo base m p q) (λ p q. refl) (λ p q. refl) (λ p q. refl)
+
+-- ---- the statement p that lies at the front of the bytes
+module _ {t : List ℕ} {d a : ℕ} {bs : List ℕ} (r : Ready t d a bs) {w : ℕ} (base m : ℕ) (p : Statement) (l : Lies t d base a bs p) where
+  pub leaf-step : Shaped bs 0 w → (getD bs 0 0 ≡ 1 → ⊥) → {u : List ℕ} → Joined (labelsBy base p m) u u
+  leaf-step y n {u} =
+      let e : byteOf (y .c) ≡ 1 → ⊥ = λ h. n (y .byte ∙ h) in
+      rw (leaf-apart r y base p l, leaf-labels base m a (operandsOf (y .c) bs) (y .c) (y .parts) e) (none-added u)
+
+  module _ {u v : List ℕ} where
+    pub one-step : Shaped bs 1 w → ((q : Statement) → Lies t (d - 1) base (a + w) (rest w bs) q → Joined (labelsBy base q m) u v)
+        → Joined (labelsBy base p m) u v
+    one-step y f =
+        let z = one-apart r y base p l in
+        rw (z .1 .0, one-labels base m a (operandsOf (y .c) bs) (y .c) (y .parts) (z .0)) (f (z .0) (z .1 .1))
+
+    pub two-step : Shaped bs 2 w → ((q q′ : Statement) → Two (Lies t (d - 1)) t base a w bs q q′ → Joined (ofTwo base m q q′) u v)
+        → Joined (labelsBy base p m) u v
+    two-step y f =
+        let z = two-apart r y base p l in
+        rw (z .2 .0, two-labels base m a (operandsOf (y .c) bs) (y .c) (y .parts) (z .0) (z .1)) (f (z .0) (z .1) (z .2 .1))

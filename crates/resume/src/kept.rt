@@ -7,6 +7,7 @@ ghost use Rattle.spec_base.specs.Widths.{onlyBelow};
 ghost use Rattle.labels.specs.Labels.{labelSet};
 ghost use Rattle.layout.specs.Layout.{rest, Ready, Pair};
 ghost use Rattle.resume.specs.Labelled.{Joined, Labelled, Found, FoundTwo};
+use commands::Shape;
 use labels::Labels;
 use layout::SecondParts;
 
@@ -40,16 +41,14 @@ fn inside(
         return;
     }
     let command = s[0];
-    match command {
-        limits::PAUSE => add(s[1], found),
-        limits::SEQUENCE => parts(s, at, 1, depth, low, high, second, found),
-        limits::PARALLEL => parts(s, at, 1, depth, low, high, second, found),
-        limits::LOOP => part(s, 1, at + 1, depth - 1, low, high, second, found),
-        limits::PRESENT => parts(s, at, 2, depth, low, high, second, found),
-        limits::SIGNAL => part(s, 2, at + 2, depth - 1, low, high, second, found),
-        limits::TRY => part(s, 1, at + 1, depth - 1, low, high, second, found),
-        limits::SUSPEND => part(s, 2, at + 2, depth - 1, low, high, second, found),
-        _ => {}
+    match commands::shape_of(command) {
+        Shape::Leaf(_) => {
+            if command == limits::PAUSE {
+                add(s[1], found);
+            }
+        }
+        Shape::One(w) => part(s, w, at + w, depth - 1, low, high, second, found),
+        Shape::Two(w) => parts(s, at, w, depth, low, high, second, found),
     }
 }
 

@@ -1,17 +1,17 @@
--- The numbers of each command, from what the code finds of its parts.
+-- The numbers of a command of each shape, from what the code finds of its parts.
 use Prim.Native.Nat.{ℕ, _+_, _-_, _≤_, max}
-use mathlib.Core.Path.{_≡_, sym, subst}
-use mathlib.Core.List.{List, _++_}
+use mathlib.Core.Path.{_≡_, refl, sym, _∙_}
+use mathlib.Core.List.{List}
 use native.Mathlib.Omega.{arith}
-use lib.ListN.{length, getD, length-append}
-use Rattle.spec_language.specs.Statement.{local, litres, Statement, nothing, pause, emit, exit, seq, par, loop, present, signal, try, setpause, suspend, held}
+use lib.ListN.{getD, length-append}
+use Rattle.spec_language.specs.Statement.{Statement, nothing, pause, emit, exit, seq, par, loop, present, signal, try, setpause, suspend, held}
 use Rattle.spec_base.specs.Bytes.{leBytes}
-use Rattle.spec_sequence.specs.Commands.{Command, partCount, headLength}
+use Rattle.spec_sequence.specs.Commands.{Command, operandsOf, partCount, headLength, build}
 use Rattle.spec_sequence.specs.Writer.{bytesOf, size}
 use Rattle.spec_language.specs.Sizes.{depthOf}
-use Rattle.theory_sequence.proofs.Table.{byteOf}
-use Rattle.layout.specs.Layout.{rest, Parts, Lies, Ready, Pair}
-use Rattle.layout.proofs.Laid.{ready, taken-apart, begins, command}
+use Rattle.theory_sequence.proofs.Table.{byteOf, leaves, ones, twos}
+use Rattle.layout.specs.Layout.{rest, Two, Lies, Ready}
+use Rattle.commands.proofs.Shapes.{Shaped, leaf-apart, one-apart, two-apart}
 use Rattle.spec_unroll.specs.Unrolled.{copied, unrolled}
 use Rattle.unroll_call.specs.declared.sizes.Sizes.{Sizes}
 use Rattle.unroll_call.specs.Measured.{cappedBytes, cappedDepth, SizesOf, Has, HasTwo, Measured, Few}
@@ -21,24 +21,6 @@ pub few : {t : List ℕ} {d a : ℕ} {bs : List ℕ} {n : Sizes} → Ready t d a
 few r h =
     let k = h (r .base) (r .p) (r .lies) in
     record { copies = omega arith; wholes = omega arith; depths = omega arith }
-
--- ---- the parts of a command lie in the bytes behind it
-module _ {t : List ℕ} {d a : ℕ} {bs : List ℕ} (r : Ready t d a bs) (c : Command) where
-  pub part-ready : partCount c ≡ 1 → getD bs 0 0 ≡ byteOf c → (headLength c ≤ length bs) × Ready t (d - 1) (a + headLength c) (rest (headLength c) bs)
-  part-ready z b =
-      let y = begins r c b in
-      let q = subst (λ (n : ℕ). Parts (Lies t (d - 1)) t (r .base) a bs (r .p) c n) z (y .parts) in
-      (y .there, ready (r .base) (q .0) (r .long) (q .1 .1))
-
-  pub pair-ready : partCount c ≡ 2 → getD bs 0 0 ≡ byteOf c → Pair t (d - 1) a (headLength c) bs
-  pair-ready z b =
-      let y = begins r c b in
-      let q = subst (λ (n : ℕ). Parts (Lies t (d - 1)) t (r .base) a bs (r .p) c n) z (y .parts) in
-      record { base = r .base; p = q .0; q = q .1; two = q .2 .1; there = y .there; long = r .long }
-
--- what is said of a command is said of the statement that it is
-pub here : (t : Statement) {p : Statement} {r : Sizes} → p ≡ t → Has t r → Has p r
-here t {r = r} e h = subst (λ (z : Statement). Has z r) (sym e) h
 
 -- the copy is no deeper
 pub copy-depth : (p : Statement) → depthOf (copied p) ≤ depthOf (unrolled p)
@@ -57,30 +39,7 @@ copy-depth (setpause l) = omega arith
 copy-depth (suspend s p) = omega (arith, copy-depth p)
 copy-depth (held s K p) = omega arith
 
--- ---- commands of one part
-module _ (p : Statement) {n r : Sizes} (h : Has p n) where
-  pub loop-step : (a : ℕ) → SizesOf (n .copy) (2 + n .copy + n .whole) (2 + n .depth) r → Has (loop a p) r
-  unfolding bytesOf depthOf copied unrolled
-  loop-step a s =
-      record {
-        copies = omega arith;
-        wholes = omega (arith, length-append (bytesOf (copied p)) (bytesOf (unrolled p)));
-        depths = omega (arith, copy-depth p);
-      }
-
-  pub signal-step : (a s : ℕ) → SizesOf (2 + n .copy) (2 + n .whole) (1 + n .depth) r → Has (signal local a s p) r
-  unfolding bytesOf depthOf copied unrolled
-  signal-step a s k = record { copies = omega arith; wholes = omega arith; depths = omega arith }
-
-  pub try-step : SizesOf (1 + n .copy) (1 + n .whole) (1 + n .depth) r → Has (try p) r
-  unfolding bytesOf depthOf copied unrolled
-  try-step s = record { copies = omega arith; wholes = omega arith; depths = omega arith }
-
-  pub suspend-step : (s : ℕ) → SizesOf (2 + n .copy) (2 + n .whole) (1 + n .depth) r → Has (suspend s p) r
-  unfolding bytesOf depthOf copied unrolled
-  suspend-step s k = record { copies = omega arith; wholes = omega arith; depths = omega arith }
-
--- ---- commands of two parts
+-- ---- the numbers of the commands of each shape
 two-bytes : (w x y m n r : ℕ) → m ≡ cappedBytes x → n ≡ cappedBytes y → r ≡ cappedBytes (w + m + n) → r ≡ cappedBytes (w + x + y)
 two-bytes w x y m n r h k e = omega arith
 
@@ -96,52 +55,76 @@ parts-step w p q {m} {n} {r} h k s =
       depths = two-deep _ _ (m .depth) (n .depth) (r .depth) (h .depths) (k .depths) (s .depths);
     }
 
-module _ (p q : Statement) where
-  appended : (size (copied p) + size (copied q) ≡ length (bytesOf (copied p) ++ bytesOf (copied q)))
-      × (size (unrolled p) + size (unrolled q) ≡ length (bytesOf (unrolled p) ++ bytesOf (unrolled q)))
-  appended = (sym (length-append (bytesOf (copied p)) (bytesOf (copied q))), sym (length-append (bytesOf (unrolled p)) (bytesOf (unrolled q))))
+-- the bytes of the copy, and the bytes and the depth of what is worked through
+abbrev Numbers : Statement → (copy whole depth : ℕ) → Type 0
+Numbers p copy whole depth = (size (copied p) ≡ copy) × (size (unrolled p) ≡ whole) × (depthOf (unrolled p) ≡ depth)
 
-  pub seq-step : {r : Sizes} → HasTwo 1 p q r → Has (seq p q) r
-  unfolding bytesOf depthOf copied unrolled
-  seq-step h = let e = appended in record { copies = omega arith; wholes = omega arith; depths = omega arith }
+module _ (a : ℕ) (xs : List ℕ) where
+  leaf-numbers : (c : Command) → partCount c ≡ 0 → Numbers (build c a xs nothing nothing) (headLength c) (headLength c) 1
+  unfolding bytesOf leBytes depthOf copied unrolled
+  leaf-numbers =
+      leaves (λ (c : Command). Numbers (build c a xs nothing nothing) (headLength c) (headLength c) 1)
+      (refl, refl, refl) (refl, refl, refl) (refl, refl, refl) (refl, refl, refl) (refl, refl, refl) (refl, refl, refl)
 
-  pub par-step : {r : Sizes} → HasTwo 1 p q r → Has (par p q) r
-  unfolding bytesOf depthOf copied unrolled
-  par-step h = let e = appended in record { copies = omega arith; wholes = omega arith; depths = omega arith }
+  module _ (q : Statement) where
+    abbrev Around : Command → Type 0
+    Around c =
+        Numbers (build c a xs q nothing) (headLength c + size (copied q)) (headLength c + size (unrolled q)) (1 + depthOf (unrolled q))
 
-  pub present-step : {r : Sizes} (s : ℕ) → HasTwo 2 p q r → Has (present s p q) r
-  unfolding bytesOf depthOf copied unrolled
-  present-step s h = let e = appended in record { copies = omega arith; wholes = omega arith; depths = omega arith }
+    one-numbers : (c : Command) → partCount c ≡ 1 → (byteOf c ≡ 6 → ⊥) → Around c
+    unfolding bytesOf depthOf copied unrolled
+    one-numbers = ones (λ (c : Command). (byteOf c ≡ 6 → ⊥) → Around c) (λ n. absurd (n refl)) (λ n. omega arith) (λ n. omega arith) (λ n. omega arith)
 
--- ---- commands without parts
-pub nothing-step : {n : Sizes} → SizesOf 1 1 1 n → Has nothing n
-unfolding bytesOf depthOf copied unrolled
-nothing-step h = h
+    -- written out, a loop and a sequence stand around the copy and the part
+    abbrev AroundLoop : Command → Type 0
+    AroundLoop c = Numbers (build c a xs q nothing) (size (copied q)) (2 + size (copied q) + size (unrolled q)) (2 + depthOf (unrolled q))
 
-pub deliver-step : {n : Sizes} (s amount : ℕ) → SizesOf 6 6 1 n → Has (emit s (litres amount)) n
-unfolding bytesOf leBytes depthOf copied unrolled
-deliver-step s amount h = h
+    loop-numbers : (c : Command) → partCount c ≡ 1 → byteOf c ≡ 6 → AroundLoop c
+    unfolding bytesOf depthOf copied unrolled
+    loop-numbers =
+        let e = length-append (bytesOf (copied q)) (bytesOf (unrolled q)) in
+        let f = copy-depth q in
+        ones (λ (c : Command). byteOf c ≡ 6 → AroundLoop c) (λ b. omega arith)
+        (λ b. absurd (omega arith)) (λ b. absurd (omega arith)) (λ b. absurd (omega arith))
 
-abbrev pub Others : ℕ → Type 0
-Others b =
-    ((((((((Unit {0} × (b ≡ 0 → ⊥)) × (b ≡ 4 → ⊥)) × (b ≡ 5 → ⊥)) × (b ≡ 6 → ⊥)) × (b ≡ 7 → ⊥)) × (b ≡ 8 → ⊥)) × (b ≡ 9 → ⊥)) × (b ≡ 11 → ⊥)) × (b ≡ 12 → ⊥)
+  module _ (q q′ : Statement) where
+    abbrev AroundTwo : Command → Type 0
+    AroundTwo c =
+        Numbers (build c a xs q q′) (headLength c + size (copied q) + size (copied q′)) (headLength c + size (unrolled q) + size (unrolled q′))
+        (1 + max (depthOf (unrolled q)) (depthOf (unrolled q′)))
 
-pub leaf-step : {t : List ℕ} {d a : ℕ} {bs : List ℕ} (r : Ready t d a bs) (base : ℕ) (p : Statement) → Lies t d base a bs p
-    → Others (getD bs 0 0) → {n : Sizes} → SizesOf 2 2 1 n → Has p n
-unfolding bytesOf depthOf copied unrolled
-leaf-step {bs = bs} r base p l z {n} h = go (command r .0) (command r .1)
-  where
-    go : (c : Command) → getD bs 0 0 ≡ byteOf c → Has p n
-    go Command.nothing b = absurd (z .0 .0 .0 .0 .0 .0 .0 .0 .1 b)
-    go Command.pause b = here (pause _) (taken-apart r base p l Command.pause b .parts) h
-    go Command.emit b = here (emit _ _) (taken-apart r base p l Command.emit b .parts) h
-    go Command.exit b = here (exit _) (taken-apart r base p l Command.exit b .parts) h
-    go Command.seq b = absurd (z .0 .0 .0 .0 .0 .0 .0 .1 b)
-    go Command.par b = absurd (z .0 .0 .0 .0 .0 .0 .1 b)
-    go Command.loop b = absurd (z .0 .0 .0 .0 .0 .1 b)
-    go Command.present b = absurd (z .0 .0 .0 .0 .1 b)
-    go Command.signal b = absurd (z .0 .0 .0 .1 b)
-    go Command.try b = absurd (z .0 .0 .1 b)
-    go Command.setpause b = here (setpause _) (taken-apart r base p l Command.setpause b .parts) h
-    go Command.suspend b = absurd (z .0 .1 b)
-    go Command.deliver b = absurd (z .1 b)
+    two-numbers : (c : Command) → partCount c ≡ 2 → AroundTwo c
+    unfolding bytesOf depthOf copied unrolled
+    two-numbers =
+        let e = length-append (bytesOf (copied q)) (bytesOf (copied q′)) in
+        let f = length-append (bytesOf (unrolled q)) (bytesOf (unrolled q′)) in
+        twos AroundTwo (omega arith) (omega arith) (omega arith)
+
+-- ---- the numbers of the statement p that lies at the front of the bytes
+module _ {t : List ℕ} {d a : ℕ} {bs : List ℕ} (r : Ready t d a bs) {w : ℕ} (base : ℕ) (p : Statement) (l : Lies t d base a bs p) {n : Sizes} where
+  pub leaf-step : Shaped bs 0 w → SizesOf w w 1 n → Has p n
+  leaf-step y h =
+      let e = leaf-numbers a (operandsOf (y .c) bs) (y .c) (y .parts) in
+      rw (leaf-apart r y base p l) (record { copies = omega (arith, y .width); wholes = omega (arith, y .width); depths = omega arith })
+
+  module _ (y : Shaped bs 1 w) {m : Sizes} (f : (q : Statement) → Lies t (d - 1) base (a + w) (rest w bs) q → Has q m) where
+    pub one-step : (getD bs 0 0 ≡ 6 → ⊥) → SizesOf (w + m .copy) (w + m .whole) (1 + m .depth) n → Has p n
+    one-step o h =
+        let z = one-apart r y base p l in
+        let k = f (z .0) (z .1 .1) in
+        let e = one-numbers a (operandsOf (y .c) bs) (z .0) (y .c) (y .parts) (λ b. o (y .byte ∙ b)) in
+        rw (z .1 .0) (record { copies = omega (arith, y .width); wholes = omega (arith, y .width); depths = omega arith })
+
+    pub loop-step : getD bs 0 0 ≡ 6 → SizesOf (m .copy) (2 + m .copy + m .whole) (2 + m .depth) n → Has p n
+    loop-step b h =
+        let z = one-apart r y base p l in
+        let k = f (z .0) (z .1 .1) in
+        let e = loop-numbers a (operandsOf (y .c) bs) (z .0) (y .c) (y .parts) (sym (y .byte) ∙ b) in
+        rw (z .1 .0) (record { copies = omega arith; wholes = omega arith; depths = omega arith })
+
+  pub two-step : Shaped bs 2 w → ((q q′ : Statement) → Two (Lies t (d - 1)) t base a w bs q q′ → HasTwo w q q′ n) → Has p n
+  two-step y f =
+      let z = two-apart r y base p l in
+      let k = f (z .0) (z .1) (z .2 .1) in
+      let e = two-numbers a (operandsOf (y .c) bs) (z .0) (z .1) (y .c) (y .parts) in
+      rw (z .2 .0) (record { copies = omega (arith, y .width); wholes = omega (arith, y .width); depths = omega arith })

@@ -4,6 +4,7 @@ ghost use Prim.Native.Nat.{_+_, _-_, _≤_, max};
 ghost use lib.ListN.{length};
 ghost use Rattle.layout.specs.Layout.{rest, Ready, Pair};
 ghost use Rattle.unroll_call.specs.Measured.{cappedBytes, cappedDepth, SizesOf, Measured, MeasuredTwo, Few};
+use commands::Shape;
 use layout::SecondParts;
 
 // Of a statement: the bytes of its copy, and the bytes and the depth of it worked through. One of the three is wider, so that the
@@ -89,17 +90,17 @@ pub fn of_statement(s: &[u8], at: usize, depth: u8, second: &SecondParts) -> Siz
     ensures { λ r. ⌜ Measured (now (second .entry)) depth at (now (s .entry)) r ⌝ }
 {
     let command = s[0];
-    match command {
-        limits::NOTHING => capped(1, 1, 1),
-        limits::SEQUENCE => of_parts(s, at, 1, depth, second),
-        limits::PARALLEL => of_parts(s, at, 1, depth, second),
-        limits::LOOP => around_loop(of_part(s, 1, at + 1, depth - 1, second)),
-        limits::PRESENT => of_parts(s, at, 2, depth, second),
-        limits::SIGNAL => around(of_part(s, 2, at + 2, depth - 1, second), 2),
-        limits::TRY => around(of_part(s, 1, at + 1, depth - 1, second), 1),
-        limits::SUSPEND => around(of_part(s, 2, at + 2, depth - 1, second), 2),
-        limits::DELIVER => capped(6, 6, 1),
-        _ => capped(2, 2, 1),
+    match commands::shape_of(command) {
+        Shape::Leaf(w) => capped(w as u32, w as u64, 1),
+        Shape::One(w) => {
+            let n = of_part(s, w, at + w, depth - 1, second);
+            if command == limits::LOOP {
+                around_loop(n)
+            } else {
+                around(n, w as u32)
+            }
+        }
+        Shape::Two(w) => of_parts(s, at, w, depth, second),
     }
 }
 

@@ -1,59 +1,25 @@
--- Row 11 at each command, from what the code finds of its parts.
-use Prim.Native.Nat.{ℕ}
-use mathlib.Core.Path.{_≡_, sym, ap, ap₂, _∙_, subst}
+-- Row 11 at a command of each shape, from what the code finds of its parts.
+use Prim.Native.Nat.{ℕ, _+_, _-_}
+use mathlib.Core.Path.{_≡_, refl, sym, ap, ap₂, _∙_, subst}
 use mathlib.Core.Bool.{Bool, true, false, _&&_}
 use mathlib.Core.List.{List}
+use lib.Dec.{eqb}
 use lib.ListN.{getD}
 use Rattle.spec_base.specs.Sets.{empty, below, from}
-use Rattle.spec_language.specs.Statement.{local, Statement, seq, par, loop, present, signal, try, suspend}
+use Rattle.spec_language.specs.Statement.{Statement, nothing}
 use Rattle.theory_language.specs.Ranks.{middle, ofParts, compatible}
-use Rattle.spec_sequence.specs.Commands.{Command}
+use Rattle.spec_sequence.specs.Commands.{Command, operandsOf, partCount, build}
+use Rattle.theory_sequence.proofs.Table.{byteOf, leaves, ones, twos}
 use Rattle.layout.specs.Layout.{rest, Two, Lies, Ready, Pair}
-use Rattle.theory_sequence.proofs.Table.{byteOf}
 use Rattle.layout.proofs.Parts.{rest-is}
-use Rattle.layout.proofs.Laid.{taken-apart, command}
 use Rattle.layout.specs.Joints.{jointOf}
-
--- what is said of a command is said of the statement that it is
-pub here : (t p : Statement) (base m : ℕ) {r : Bool} → p ≡ t → r ≡ compatible base t m → r ≡ compatible base p m
-here t p base m h k = k ∙ ap (λ (z : Statement). compatible base z m) (sym h)
-
--- ---- commands of one part
-module _ (base m : ℕ) (p : Statement) {r : Bool} (h : r ≡ compatible base p m) where
-  pub loop-step : (a : ℕ) → r ≡ compatible base (loop a p) m
-  unfolding compatible
-  loop-step a = h
-
-  pub signal-step : (a s : ℕ) → r ≡ compatible base (signal local a s p) m
-  unfolding compatible
-  signal-step a s = h
-
-  pub try-step : r ≡ compatible base (try p) m
-  unfolding compatible
-  try-step = h
-
-  pub suspend-step : (s : ℕ) → r ≡ compatible base (suspend s p) m
-  unfolding compatible
-  suspend-step s = h
+use Rattle.commands.proofs.Shapes.{Shaped, leaf-apart, one-apart, two-apart}
 
 -- ---- commands of two parts
 abbrev ofTwo : (parallel : Bool) (base m : ℕ) (p q : Statement) → Bool
 ofTwo j base m p q =
     ofParts (jointOf j) (empty (below (middle base p) m)) (empty (from (middle base p) m))
     (compatible base p (below (middle base p) m)) (compatible (middle base p) q (from (middle base p) m))
-
-module _ (base m : ℕ) (p q : Statement) {r : Bool} where
-  pub seq-step : r ≡ ofTwo false base m p q → r ≡ compatible base (seq p q) m
-  unfolding compatible
-  seq-step h = h
-
-  pub par-step : r ≡ ofTwo true base m p q → r ≡ compatible base (par p q) m
-  unfolding compatible
-  par-step h = h
-
-  pub present-step : (s : ℕ) → r ≡ ofTwo false base m p q → r ≡ compatible base (present s p q) m
-  unfolding compatible
-  present-step s h = h
 
 -- x and y are the masks of the parts of a command of two; k is the table's number of pauses before the second part
 module _ (base m : ℕ) (p q : Statement) (j : Bool) (k x y : ℕ) (ek : k ≡ middle base p) (ex : x ≡ below k m) (ey : y ≡ from k m) {r : Bool} where
@@ -83,29 +49,40 @@ both e h = rw e h
 pub neither : {a : Bool} (b : Bool) → a ≡ false → false ≡ (a && b)
 neither b e = rw e
 
--- ---- commands without parts: none of the bytes 4 to 9, nor 11
-abbrev pub NoParts : ℕ → Type 0
-NoParts b = ((((((Unit {0} × (b ≡ 4 → ⊥)) × (b ≡ 5 → ⊥)) × (b ≡ 6 → ⊥)) × (b ≡ 7 → ⊥)) × (b ≡ 8 → ⊥)) × (b ≡ 9 → ⊥)) × (b ≡ 11 → ⊥)
+-- ---- the commands of each shape
+module _ (base m a : ℕ) (xs : List ℕ) where
+  leaf-compatible : (c : Command) → partCount c ≡ 0 → compatible base (build c a xs nothing nothing) m ≡ true
+  unfolding compatible
+  leaf-compatible = leaves (λ (c : Command). compatible base (build c a xs nothing nothing) m ≡ true) refl refl refl refl refl refl
 
-pub leaf-step : {t : List ℕ} {d a : ℕ} {bs : List ℕ} (r : Ready t d a bs) (base m : ℕ) (p : Statement) → Lies t d base a bs p
-    → NoParts (getD bs 0 0) → true ≡ compatible base p m
-unfolding compatible
-leaf-step {bs = bs} r base m p l n = go (command r .0) (command r .1)
-  where
-    go : (c : Command) → getD bs 0 0 ≡ byteOf c → true ≡ compatible base p m
-    go Command.nothing b = rw (taken-apart r base p l Command.nothing b .parts)
-    go Command.pause b = rw (taken-apart r base p l Command.pause b .parts)
-    go Command.emit b = rw (taken-apart r base p l Command.emit b .parts)
-    go Command.exit b = rw (taken-apart r base p l Command.exit b .parts)
-    go Command.seq b = absurd (n .0 .0 .0 .0 .0 .0 .1 b)
-    go Command.par b = absurd (n .0 .0 .0 .0 .0 .1 b)
-    go Command.loop b = absurd (n .0 .0 .0 .0 .1 b)
-    go Command.present b = absurd (n .0 .0 .0 .1 b)
-    go Command.signal b = absurd (n .0 .0 .1 b)
-    go Command.try b = absurd (n .0 .1 b)
-    go Command.setpause b = rw (taken-apart r base p l Command.setpause b .parts)
-    go Command.suspend b = absurd (n .1 b)
-    go Command.deliver b = rw (taken-apart r base p l Command.deliver b .parts)
+  one-compatible : (c : Command) → partCount c ≡ 1 → (q : Statement) → compatible base (build c a xs q nothing) m ≡ compatible base q m
+  unfolding compatible
+  one-compatible =
+      ones (λ (c : Command). (q : Statement) → compatible base (build c a xs q nothing) m ≡ compatible base q m)
+      (λ q. refl) (λ q. refl) (λ q. refl) (λ q. refl)
+
+  two-compatible : (c : Command) → partCount c ≡ 2 → (p q : Statement) → compatible base (build c a xs p q) m ≡ ofTwo (eqb (byteOf c) 5) base m p q
+  unfolding compatible
+  two-compatible =
+      twos (λ (c : Command). (p q : Statement) → compatible base (build c a xs p q) m ≡ ofTwo (eqb (byteOf c) 5) base m p q)
+      (λ p q. refl) (λ p q. refl) (λ p q. refl)
+
+-- ---- row 11 of the statement p that lies at the front of the bytes
+module _ {t : List ℕ} {d a : ℕ} {bs : List ℕ} (r : Ready t d a bs) {w : ℕ} (base m : ℕ) (p : Statement) (l : Lies t d base a bs p) where
+  pub leaf-step : Shaped bs 0 w → true ≡ compatible base p m
+  leaf-step y = rw (leaf-apart r y base p l, leaf-compatible base m a (operandsOf (y .c) bs) (y .c) (y .parts))
+
+  module _ {x : Bool} where
+    pub one-step : Shaped bs 1 w → ((q : Statement) → Lies t (d - 1) base (a + w) (rest w bs) q → x ≡ compatible base q m) → x ≡ compatible base p m
+    one-step y f =
+        let z = one-apart r y base p l in
+        rw (z .1 .0, one-compatible base m a (operandsOf (y .c) bs) (y .c) (y .parts) (z .0)) (f (z .0) (z .1 .1))
+
+    pub two-step : Shaped bs 2 w
+        → ((q q′ : Statement) → Two (Lies t (d - 1)) t base a w bs q q′ → x ≡ ofTwo (eqb (getD bs 0 0) 5) base m q q′) → x ≡ compatible base p m
+    two-step y f =
+        let z = two-apart r y base p l in
+        rw (z .2 .0, two-compatible base m a (operandsOf (y .c) bs) (y .c) (y .parts) (z .0) (z .1), ← y .byte) (f (z .0) (z .1) (z .2 .1))
 
 -- ---- the two parts of a command whose bytes are handed on whole
 pub whole-pair : {t : List ℕ} {d a w : ℕ} {bs : List ℕ} → Pair t d a w bs → Pair t d a w (rest 0 bs)

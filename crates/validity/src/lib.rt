@@ -7,6 +7,7 @@ ghost use Rattle.layout.specs.Layout.{rest, Ready, Pair};
 ghost use Rattle.validity.specs.Compatibility.{TellsCompatible, TellsCompatibleTwo};
 ghost use Rattle.validity.specs.Activity.{Ranked, Masked, Judges};
 ghost use Rattle.layout.specs.Known.{Sound};
+use commands::Shape;
 use labels::Labels;
 use layout::SecondParts;
 use notes::Notes;
@@ -20,15 +21,13 @@ pub fn compatible(s: &[u8], at: usize, depth: u8, second: &SecondParts, active: 
         return true;
     }
     let command = s[0];
-    match command {
-        limits::SEQUENCE => compatible_parts(&s[0..], at, 1, false, depth, second, active),
-        limits::PARALLEL => compatible_parts(&s[0..], at, 1, true, depth, second, active),
-        limits::LOOP => compatible_part(s, 1, at + 1, depth - 1, second, active),
-        limits::PRESENT => compatible_parts(&s[0..], at, 2, false, depth, second, active),
-        limits::SIGNAL => compatible_part(s, 2, at + 2, depth - 1, second, active),
-        limits::TRY => compatible_part(s, 1, at + 1, depth - 1, second, active),
-        limits::SUSPEND => compatible_part(s, 2, at + 2, depth - 1, second, active),
-        _ => true,
+    match commands::shape_of(command) {
+        Shape::Leaf(_) => true,
+        Shape::One(w) => compatible_part(s, w, at + w, depth - 1, second, active),
+        Shape::Two(w) => {
+            let parallel = command == limits::PARALLEL;
+            compatible_parts(&s[0..], at, w, parallel, depth, second, active)
+        }
     }
 }
 

@@ -2,28 +2,9 @@ use mathlib.Core.Path.{refl, sym, _∙_}
 use native.Mathlib.Omega.{arith}
 use borrow.Author.Needs.{needs}
 use borrow.Author.Tests.{not-true, not-false}
-use Rattle.spec_language.specs.Statement.{local, seq, par, loop, present, signal, try, suspend}
-use Rattle.spec_sequence.specs.Commands.{Command}
-use Rattle.layout.proofs.Laid.{ready, taken-apart, begins, first-ready, second-ready}
-use Rattle.validity.proofs.Steps.{
-  here,
-  loop-step,
-  signal-step,
-  try-step,
-  suspend-step,
-  seq-step,
-  par-step,
-  present-step,
-  second-only,
-  first-only,
-  both-active,
-  both-parts,
-  both,
-  neither,
-  leaf-step,
-  whole-pair,
-  whole-two,
-}
+use Rattle.layout.proofs.Laid.{first-ready, second-ready}
+use Rattle.commands.proofs.Shapes.{found, there, one-ready, two-ready}
+use Rattle.validity.proofs.Steps.{second-only, first-only, both-active, both-parts, both, neither, leaf-step, one-step, two-step, whole-pair, whole-two}
 use Rattle.validity.proofs.Single.{single-step}
 use Prim.Native.Nat.{ℕ, _+_, _*_, _<_}
 use borrow.Fn.Kinds.{In}
@@ -37,6 +18,7 @@ use Rattle.validity.proofs.+compatible+compatible_part+compatible_parts
 use Rattle.validity.proofs.compatible_parts.Reads as compatible-parts
 use Rattle.validity.proofs.compatible_parts.Kinds as compatible-parts-kinds
 use Rattle.validity.proofs.+compatible+compatible_part+compatible_parts.Lts-compatible_parts as compatible-parts-lts
+use Rattle.commands.proofs.shape_of.Reads as shape-of-reads
 use Rattle.labels.proofs.below.Reads as below-reads
 use Rattle.labels.proofs.from.Reads as from-reads
 use Rattle.labels.proofs.is_empty.Reads as is-empty-reads
@@ -95,7 +77,7 @@ compatible-parts-below t =
     compatible-parts.Pre
 
 abbrev compatible-claims : ℕ → compatible-lts.Claims
-compatible-claims t = (lowest-reads.Asked, lowest-reads.Learnt, without-reads.Asked, without-reads.Learnt, is-empty-reads.Asked, is-empty-reads.Learnt, compatible-parts-below t, compatible-parts.Post, compatible-part-below t, compatible-part.Post)
+compatible-claims t = (lowest-reads.Asked, lowest-reads.Learnt, without-reads.Asked, without-reads.Learnt, is-empty-reads.Asked, is-empty-reads.Learnt, shape-of-reads.Asked, shape-of-reads.Learnt, compatible-part-below t, compatible-part.Post, compatible-parts-below t, compatible-parts.Post)
 
 abbrev compatible-part-claims : ℕ → compatible-part-lts.Claims
 compatible-part-claims t = (compatible-below t, compatible.Post)
@@ -103,67 +85,34 @@ compatible-part-claims t = (compatible-below t, compatible.Post)
 abbrev compatible-parts-claims : ℕ → compatible-parts-lts.Claims
 compatible-parts-claims t = (below-reads.Asked, below-reads.Learnt, from-reads.Asked, from-reads.Learnt, is-empty-reads.Asked, is-empty-reads.Learnt, compatible-part-below t, compatible-part.Post)
 
-compatible-compatible-parts-requires : (t : ℕ) → compatible-lts.Need-compatible-parts-requires (compatible-claims t) (compatible-at t) compatible.Post
-compatible-compatible-parts-requires t c κs = let y = begins (c .before .before .before .before .before .before .before .before .pre .1) Command.seq (c .before .match .keys1) in (search needs, whole-pair record { base = _; p = y .parts .0; q = y .parts .1; two = y .parts .2 .1; there = y .there; long = c .before .before .before .before .before .before .before .before .pre .1 .long })
-
-compatible-compatible-parts-requires-2 : (t : ℕ) → compatible-lts.Need-compatible-parts-requires-2 (compatible-claims t) (compatible-at t) compatible.Post
-compatible-compatible-parts-requires-2 t c κs = let y = begins (c .before .before .before .before .before .before .before .before .pre .1) Command.par (c .before .match .keys2) in (search needs, whole-pair record { base = _; p = y .parts .0; q = y .parts .1; two = y .parts .2 .1; there = y .there; long = c .before .before .before .before .before .before .before .before .pre .1 .long })
+compatible-add-compatible-part : (t : ℕ) → compatible-lts.Need-add-compatible-part (compatible-claims t) (compatible-at t) compatible.Post
+compatible-add-compatible-part t c = let r = c .before .before .before .before .before .before .before .before .before .before .pre .1 in omega (arith, r .fits, there r (found r (c .before .before .before .shape-of .ensures) (c .before .w .given .1)))
 
 compatible-compatible-part-requires : (t : ℕ) → compatible-lts.Need-compatible-part-requires (compatible-claims t) (compatible-at t) compatible.Post
-compatible-compatible-part-requires t c κs = let y = begins (c .before .before .before .before .before .before .before .pre .1) Command.loop (c .match .keys3) in (search needs, (search needs, ready _ (y .parts .0) (c .before .before .before .before .before .before .before .pre .1 .long) (y .parts .1 .1)))
+compatible-compatible-part-requires t c κs =
+    let r = c .before .before .before .before .before .before .before .before .before .before .pre .1 in (search needs, one-ready r (found r (c .before .before .before .shape-of .ensures) (c .before .w .given .1)))
 
-compatible-compatible-parts-requires-3 : (t : ℕ) → compatible-lts.Need-compatible-parts-requires-3 (compatible-claims t) (compatible-at t) compatible.Post
-compatible-compatible-parts-requires-3 t c κs = let y = begins (c .before .before .before .before .before .before .before .before .pre .1) Command.present (c .before .match .keys4) in (search needs, whole-pair record { base = _; p = y .parts .0; q = y .parts .1; two = y .parts .2 .1; there = y .there; long = c .before .before .before .before .before .before .before .before .pre .1 .long })
-
-compatible-compatible-part-requires-2 : (t : ℕ) → compatible-lts.Need-compatible-part-requires-2 (compatible-claims t) (compatible-at t) compatible.Post
-compatible-compatible-part-requires-2 t c κs = let y = begins (c .before .before .before .before .before .before .before .pre .1) Command.signal (c .match .keys5) in (search needs, (y .there, ready _ (y .parts .0) (c .before .before .before .before .before .before .before .pre .1 .long) (y .parts .1 .1)))
-
-compatible-compatible-part-requires-3 : (t : ℕ) → compatible-lts.Need-compatible-part-requires-3 (compatible-claims t) (compatible-at t) compatible.Post
-compatible-compatible-part-requires-3 t c κs = let y = begins (c .before .before .before .before .before .before .before .pre .1) Command.try (c .match .keys6) in (search needs, (search needs, ready _ (y .parts .0) (c .before .before .before .before .before .before .before .pre .1 .long) (y .parts .1 .1)))
-
-compatible-compatible-part-requires-4 : (t : ℕ) → compatible-lts.Need-compatible-part-requires-4 (compatible-claims t) (compatible-at t) compatible.Post
-compatible-compatible-part-requires-4 t c κs = let y = begins (c .before .before .before .before .before .before .before .pre .1) Command.suspend (c .match .keys7) in (search needs, (y .there, ready _ (y .parts .0) (c .before .before .before .before .before .before .before .pre .1 .long) (y .parts .1 .1)))
+compatible-compatible-parts-requires : (t : ℕ) → compatible-lts.Need-compatible-parts-requires (compatible-claims t) (compatible-at t) compatible.Post
+compatible-compatible-parts-requires t c κs =
+    let r = c .before .before .before .before .before .before .before .before .before .before .before .pre .1 in (search needs, whole-pair (two-ready r (found r (c .before .before .before .before .shape-of .ensures) (c .before .before .w2 .given .1))))
 
 compatible-returns : (t : ℕ) → compatible-lts.Need-returns (compatible-claims t) (compatible-at t) compatible.Post
 compatible-returns t c base p l = single-step _ base _ p (c .before .before .without .ensures) (sym (c .before .is-empty .ensures) ∙ c .if1 .taken)
 
 compatible-returns-2 : (t : ℕ) → compatible-lts.Need-returns-2 (compatible-claims t) (compatible-at t) compatible.Post
 compatible-returns-2 t c base p l =
-    let y = taken-apart (c .before .before .before .before .before .before .before .before .before .pre .1) base p l Command.seq (c .before .before .match .keys1) .parts in
-    here (seq (y .0) (y .1)) p base _ (y .2 .0) (seq-step base _ (y .0) (y .1) (c .compatible-parts .ensures base (y .0) (y .1) (whole-two (y .2 .1))))
+    let r = c .before .before .before .before .before .before .before .before .before .pre .1 in leaf-step r base _ p l (found r (c .before .before .shape-of .ensures) (c .enum-told .given .1))
 
 compatible-returns-3 : (t : ℕ) → compatible-lts.Need-returns-3 (compatible-claims t) (compatible-at t) compatible.Post
 compatible-returns-3 t c base p l =
-    let y = taken-apart (c .before .before .before .before .before .before .before .before .before .pre .1) base p l Command.par (c .before .before .match .keys2) .parts in
-    here (par (y .0) (y .1)) p base _ (y .2 .0) (par-step base _ (y .0) (y .1) (c .compatible-parts2 .ensures base (y .0) (y .1) (whole-two (y .2 .1))))
+    let r = c .before .before .before .before .before .before .before .before .before .before .before .pre .1 in
+    one-step r base _ p l (found r (c .before .before .before .before .shape-of .ensures) (c .before .before .w .given .1)) (c .compatible-part .ensures base)
 
 compatible-returns-4 : (t : ℕ) → compatible-lts.Need-returns-4 (compatible-claims t) (compatible-at t) compatible.Post
 compatible-returns-4 t c base p l =
-    let y = taken-apart (c .before .before .before .before .before .before .before .before .pre .1) base p l Command.loop (c .before .match .keys3) .parts in
-    here (loop _ (y .0)) p base _ (y .1 .0) (loop-step base _ (y .0) (c .compatible-part .ensures base (y .0) (y .1 .1)) _)
-
-compatible-returns-5 : (t : ℕ) → compatible-lts.Need-returns-5 (compatible-claims t) (compatible-at t) compatible.Post
-compatible-returns-5 t c base p l =
-    let y = taken-apart (c .before .before .before .before .before .before .before .before .before .pre .1) base p l Command.present (c .before .before .match .keys4) .parts in
-    here (present _ (y .0) (y .1)) p base _ (y .2 .0) (present-step base _ (y .0) (y .1) _ (c .compatible-parts3 .ensures base (y .0) (y .1) (whole-two (y .2 .1))))
-
-compatible-returns-6 : (t : ℕ) → compatible-lts.Need-returns-6 (compatible-claims t) (compatible-at t) compatible.Post
-compatible-returns-6 t c base p l =
-    let y = taken-apart (c .before .before .before .before .before .before .before .before .pre .1) base p l Command.signal (c .before .match .keys5) .parts in
-    here (signal local _ _ (y .0)) p base _ (y .1 .0) (signal-step base _ (y .0) (c .compatible-part2 .ensures base (y .0) (y .1 .1)) _ _)
-
-compatible-returns-7 : (t : ℕ) → compatible-lts.Need-returns-7 (compatible-claims t) (compatible-at t) compatible.Post
-compatible-returns-7 t c base p l =
-    let y = taken-apart (c .before .before .before .before .before .before .before .before .pre .1) base p l Command.try (c .before .match .keys6) .parts in
-    here (try (y .0)) p base _ (y .1 .0) (try-step base _ (y .0) (c .compatible-part3 .ensures base (y .0) (y .1 .1)))
-
-compatible-returns-8 : (t : ℕ) → compatible-lts.Need-returns-8 (compatible-claims t) (compatible-at t) compatible.Post
-compatible-returns-8 t c base p l =
-    let y = taken-apart (c .before .before .before .before .before .before .before .before .pre .1) base p l Command.suspend (c .before .match .keys7) .parts in
-    here (suspend _ (y .0)) p base _ (y .1 .0) (suspend-step base _ (y .0) (c .compatible-part4 .ensures base (y .0) (y .1 .1)) _)
-
-compatible-returns-9 : (t : ℕ) → compatible-lts.Need-returns-9 (compatible-claims t) (compatible-at t) compatible.Post
-compatible-returns-9 t c base p l = leaf-step (c .before .before .before .before .before .before .before .pre .1) base _ p l (c .match .rest)
+    let r = c .before .before .before .before .before .before .before .before .before .before .before .before .pre .1 in
+    two-step r base _ p l (found r (c .before .before .before .before .before .shape-of .ensures) (c .before .before .before .w2 .given .1))
+    (λ q q′ h. c .compatible-parts .ensures base q q′ (whole-two h))
 
 compatible-part-compatible-requires : (t : ℕ) → compatible-part-lts.Need-compatible-requires (compatible-part-claims t) (compatible-part-at t) compatible-part.Post
 compatible-part-compatible-requires t c κs = (search needs, c .before .before .pre .1 .1)
@@ -286,28 +235,15 @@ pub +compatible+compatible-part+compatible-parts-spec : {M : Type 1} → stateme
     compatible.Post
     (λ c κs. search needs) (λ c κs. search needs) (λ c κs. search needs)
     (compatible-returns t)
+    (λ c. search needs) (λ c κs. search needs) (λ c. search needs) (λ c. search needs)
+    (compatible-add-compatible-part t)
+    (λ c. search needs)
+    (compatible-compatible-part-requires t)
     (λ c. search needs) (λ c. search needs) (λ c. search needs) (λ c. search needs)
     (compatible-compatible-parts-requires t)
-    (λ c. search needs) (λ c. search needs) (λ c. search needs)
-    (compatible-compatible-parts-requires-2 t)
-    (λ c. search needs) (λ c. search needs)
-    (compatible-compatible-part-requires t)
-    (λ c. search needs) (λ c. search needs) (λ c. search needs)
-    (compatible-compatible-parts-requires-3 t)
-    (λ c. search needs) (λ c. search needs)
-    (compatible-compatible-part-requires-2 t)
-    (λ c. search needs) (λ c. search needs)
-    (compatible-compatible-part-requires-3 t)
-    (λ c. search needs) (λ c. search needs)
-    (compatible-compatible-part-requires-4 t)
     (compatible-returns-2 t)
     (compatible-returns-3 t)
-    (compatible-returns-4 t)
-    (compatible-returns-5 t)
-    (compatible-returns-6 t)
-    (compatible-returns-7 t)
-    (compatible-returns-8 t)
-    (compatible-returns-9 t))
+    (compatible-returns-4 t))
     (λ t. compatible-part-lts.spec (compatible-part-claims t) (compatible-part-at t)
     compatible-part.Post
     (λ c. search needs) (λ c. search needs) (λ c. search needs)

@@ -3,25 +3,11 @@ use native.Mathlib.Omega.{arith}
 use borrow.Author.Needs.{needs}
 use borrow.Author.Tests.{ltb-true}
 use Rattle.spec_base.specs.Sets.{below, from}
-use Rattle.spec_language.specs.Statement.{local, pause, seq, par, loop, present, signal, try, suspend}
+use Rattle.spec_language.specs.Statement.{pause}
 use Rattle.spec_sequence.specs.Commands.{Command}
-use Rattle.layout.proofs.Laid.{ready, taken-apart, begins, first-ready, second-ready}
-use Rattle.resume.proofs.KeptSteps.{
-  tested,
-  part-mask,
-  here,
-  empty-step,
-  pause-step,
-  loop-step,
-  signal-step,
-  try-step,
-  suspend-step,
-  seq-step,
-  par-step,
-  present-step,
-  parts-step,
-  leaf-step,
-}
+use Rattle.layout.proofs.Laid.{taken-apart, begins, first-ready, second-ready}
+use Rattle.commands.proofs.Shapes.{found, there, one-ready, two-ready}
+use Rattle.resume.proofs.KeptSteps.{tested, part-mask, here, empty-step, pause-step, parts-step, leaf-step, one-step, two-step}
 use Prim.Native.Nat.{ℕ, _+_, _*_, _<_}
 use borrow.Fn.Kinds.{In}
 use borrow.Fn.PlainCycle.{Measures, is, falls, and}
@@ -35,6 +21,7 @@ use Rattle.resume.proofs.kept.parts.Reads as parts
 use Rattle.resume.proofs.kept.parts.Kinds as parts-kinds
 use Rattle.resume.proofs.kept.+inside+part+parts.Lts-parts as parts-lts
 use Rattle.resume.proofs.kept.add.Reads as add-reads
+use Rattle.commands.proofs.shape_of.Reads as shape-of-reads
 use Rattle.labels.proofs.below.Reads as below-reads
 use Rattle.labels.proofs.from.Reads as from-reads
 use Rattle.labels.proofs.from_words.Reads as from-words-reads
@@ -74,7 +61,7 @@ parts-below t =
     and 3 parts-kinds.ps (falls 3 parts-kinds.ps _<_ μ-parts t) parts.Pre
 
 abbrev inside-claims : ℕ → inside-lts.Claims
-inside-claims t = (from-words-reads.Asked, from-words-reads.Learnt, is-empty-reads.Asked, is-empty-reads.Learnt, add-reads.Asked, add-reads.Learnt, parts-below t, parts.Post, part-below t, part.Post)
+inside-claims t = (from-words-reads.Asked, from-words-reads.Learnt, is-empty-reads.Asked, is-empty-reads.Learnt, shape-of-reads.Asked, shape-of-reads.Learnt, add-reads.Asked, add-reads.Learnt, part-below t, part.Post, parts-below t, parts.Post)
 
 abbrev part-claims : ℕ → part-lts.Claims
 part-claims t = (inside-below t, inside.Post)
@@ -86,71 +73,39 @@ inside-returns : (t : ℕ) → inside-lts.Need-returns (inside-claims t) (inside
 inside-returns t c base p l = empty-step base _ p (tested (c .before .before .from-words .ensures) (c .before .is-empty .ensures) (c .if1 .taken))
 
 inside-shared-slice-read-add : (t : ℕ) → inside-lts.Need-shared-slice-read-add (inside-claims t) (inside-at t) inside.Post
-inside-shared-slice-read-add t c = begins (c .before .before .before .before .before .before .before .pre .1) Command.pause (c .before .match .keys1) .there
+inside-shared-slice-read-add t c = begins (c .before .before .before .before .before .before .before .before .before .before .pre .1) Command.pause (c .before .if2 .taken) .there
 
-inside-parts-requires : (t : ℕ) → inside-lts.Need-parts-requires (inside-claims t) (inside-at t) inside.Post
-inside-parts-requires t c κs = let y = begins (c .before .before .before .before .before .before .before .pre .1) Command.seq (c .before .match .keys2) in (search needs, record { base = _; p = y .parts .0; q = y .parts .1; two = y .parts .2 .1; there = y .there; long = c .before .before .before .before .before .before .before .pre .1 .long })
-
-inside-parts-requires-2 : (t : ℕ) → inside-lts.Need-parts-requires-2 (inside-claims t) (inside-at t) inside.Post
-inside-parts-requires-2 t c κs = let y = begins (c .before .before .before .before .before .before .before .pre .1) Command.par (c .before .match .keys3) in (search needs, record { base = _; p = y .parts .0; q = y .parts .1; two = y .parts .2 .1; there = y .there; long = c .before .before .before .before .before .before .before .pre .1 .long })
-
-inside-parts-requires-3 : (t : ℕ) → inside-lts.Need-parts-requires-3 (inside-claims t) (inside-at t) inside.Post
-inside-parts-requires-3 t c κs = let y = begins (c .before .before .before .before .before .before .before .pre .1) Command.present (c .before .match .keys5) in (search needs, record { base = _; p = y .parts .0; q = y .parts .1; two = y .parts .2 .1; there = y .there; long = c .before .before .before .before .before .before .before .pre .1 .long })
+inside-add-part : (t : ℕ) → inside-lts.Need-add-part (inside-claims t) (inside-at t) inside.Post
+inside-add-part t c = let r = c .before .before .before .before .before .before .before .before .before .pre .1 in omega (arith, r .fits, there r (found r (c .before .before .before .shape-of .ensures) (c .before .w .given .1)))
 
 inside-part-requires : (t : ℕ) → inside-lts.Need-part-requires (inside-claims t) (inside-at t) inside.Post
-inside-part-requires t c κs = let y = begins (c .before .before .before .before .before .before .before .pre .1) Command.loop (c .before .match .keys4) in (search needs, (y .there, ready _ (y .parts .0) (c .before .before .before .before .before .before .before .pre .1 .long) (y .parts .1 .1)))
+inside-part-requires t c κs =
+    let r = c .before .before .before .before .before .before .before .before .before .before .pre .1 in (search needs, one-ready r (found r (c .before .before .before .before .shape-of .ensures) (c .before .before .w .given .1)))
 
-inside-part-requires-2 : (t : ℕ) → inside-lts.Need-part-requires-2 (inside-claims t) (inside-at t) inside.Post
-inside-part-requires-2 t c κs = let y = begins (c .before .before .before .before .before .before .before .pre .1) Command.signal (c .before .match .keys6) in (search needs, (y .there, ready _ (y .parts .0) (c .before .before .before .before .before .before .before .pre .1 .long) (y .parts .1 .1)))
-
-inside-part-requires-3 : (t : ℕ) → inside-lts.Need-part-requires-3 (inside-claims t) (inside-at t) inside.Post
-inside-part-requires-3 t c κs = let y = begins (c .before .before .before .before .before .before .before .pre .1) Command.try (c .before .match .keys7) in (search needs, (y .there, ready _ (y .parts .0) (c .before .before .before .before .before .before .before .pre .1 .long) (y .parts .1 .1)))
-
-inside-part-requires-4 : (t : ℕ) → inside-lts.Need-part-requires-4 (inside-claims t) (inside-at t) inside.Post
-inside-part-requires-4 t c κs = let y = begins (c .before .before .before .before .before .before .before .pre .1) Command.suspend (c .before .match .keys8) in (search needs, (y .there, ready _ (y .parts .0) (c .before .before .before .before .before .before .before .pre .1 .long) (y .parts .1 .1)))
+inside-parts-requires : (t : ℕ) → inside-lts.Need-parts-requires (inside-claims t) (inside-at t) inside.Post
+inside-parts-requires t c κs =
+    let r = c .before .before .before .before .before .before .before .before .before .before .pre .1 in (search needs, two-ready r (found r (c .before .before .before .before .shape-of .ensures) (c .before .before .w2 .given .1)))
 
 inside-returns-2 : (t : ℕ) → inside-lts.Need-returns-2 (inside-claims t) (inside-at t) inside.Post
 inside-returns-2 t c base p l =
-    let y = taken-apart (c .before .before .before .before .before .before .before .before .before .pre .1) base p l Command.pause (c .before .before .before .match .keys1) in
-    here (pause _) p base _ (y .parts) (pause-step base _ _ (ltb-true _ _ (y .ranged)) (tested (c .before .before .before .before .before .before .before .from-words .ensures) (c .before .before .before .before .before .before .is-empty .ensures) (c .before .before .before .before .before .if1 .left)) (c .add .ensures))
+    let f = c .before .before .before .before .before .before .before .before in
+    let y = taken-apart (f .before .before .before .before .pre .1) base p l Command.pause (c .before .before .before .if2 .taken) in
+    here (pause _) p base _ (y .parts) (pause-step base _ _ (ltb-true _ _ (y .ranged)) (tested (f .before .before .from-words .ensures) (f .before .is-empty .ensures) (f .if1 .left)) (c .add .ensures))
 
 inside-returns-3 : (t : ℕ) → inside-lts.Need-returns-3 (inside-claims t) (inside-at t) inside.Post
 inside-returns-3 t c base p l =
-    let y = taken-apart (c .before .before .before .before .before .before .before .before .pre .1) base p l Command.seq (c .before .before .match .keys2) .parts in
-    here (seq (y .0) (y .1)) p base _ (y .2 .0) (seq-step base _ (y .0) (y .1) (c .parts .ensures base (y .0) (y .1) (y .2 .1)))
+    let r = c .before .before .before .before .before .before .before .before .before .pre .1 in
+    leaf-step r base _ p l (found r (c .before .before .before .shape-of .ensures) (c .before .enum-told .given .1)) (c .if2 .left)
 
 inside-returns-4 : (t : ℕ) → inside-lts.Need-returns-4 (inside-claims t) (inside-at t) inside.Post
 inside-returns-4 t c base p l =
-    let y = taken-apart (c .before .before .before .before .before .before .before .before .pre .1) base p l Command.par (c .before .before .match .keys3) .parts in
-    here (par (y .0) (y .1)) p base _ (y .2 .0) (par-step base _ (y .0) (y .1) (c .parts2 .ensures base (y .0) (y .1) (y .2 .1)))
+    let r = c .before .before .before .before .before .before .before .before .before .before .before .pre .1 in
+    one-step r base _ p l (found r (c .before .before .before .before .before .shape-of .ensures) (c .before .before .before .w .given .1)) (c .part .ensures base)
 
 inside-returns-5 : (t : ℕ) → inside-lts.Need-returns-5 (inside-claims t) (inside-at t) inside.Post
 inside-returns-5 t c base p l =
-    let y = taken-apart (c .before .before .before .before .before .before .before .before .pre .1) base p l Command.loop (c .before .before .match .keys4) .parts in
-    here (loop _ (y .0)) p base _ (y .1 .0) (loop-step base _ (y .0) (c .part .ensures base (y .0) (y .1 .1)) _)
-
-inside-returns-6 : (t : ℕ) → inside-lts.Need-returns-6 (inside-claims t) (inside-at t) inside.Post
-inside-returns-6 t c base p l =
-    let y = taken-apart (c .before .before .before .before .before .before .before .before .pre .1) base p l Command.present (c .before .before .match .keys5) .parts in
-    here (present _ (y .0) (y .1)) p base _ (y .2 .0) (present-step base _ (y .0) (y .1) (c .parts3 .ensures base (y .0) (y .1) (y .2 .1)) _)
-
-inside-returns-7 : (t : ℕ) → inside-lts.Need-returns-7 (inside-claims t) (inside-at t) inside.Post
-inside-returns-7 t c base p l =
-    let y = taken-apart (c .before .before .before .before .before .before .before .before .pre .1) base p l Command.signal (c .before .before .match .keys6) .parts in
-    here (signal local _ _ (y .0)) p base _ (y .1 .0) (signal-step base _ (y .0) (c .part2 .ensures base (y .0) (y .1 .1)) _ _)
-
-inside-returns-8 : (t : ℕ) → inside-lts.Need-returns-8 (inside-claims t) (inside-at t) inside.Post
-inside-returns-8 t c base p l =
-    let y = taken-apart (c .before .before .before .before .before .before .before .before .pre .1) base p l Command.try (c .before .before .match .keys7) .parts in
-    here (try (y .0)) p base _ (y .1 .0) (try-step base _ (y .0) (c .part3 .ensures base (y .0) (y .1 .1)))
-
-inside-returns-9 : (t : ℕ) → inside-lts.Need-returns-9 (inside-claims t) (inside-at t) inside.Post
-inside-returns-9 t c base p l =
-    let y = taken-apart (c .before .before .before .before .before .before .before .before .pre .1) base p l Command.suspend (c .before .before .match .keys8) .parts in
-    here (suspend _ (y .0)) p base _ (y .1 .0) (suspend-step base _ (y .0) (c .part4 .ensures base (y .0) (y .1 .1)) _)
-
-inside-returns-10 : (t : ℕ) → inside-lts.Need-returns-10 (inside-claims t) (inside-at t) inside.Post
-inside-returns-10 t c base p l = leaf-step (c .before .before .before .before .before .before .pre .1) base _ p l (c .match .rest)
+    let r = c .before .before .before .before .before .before .before .before .before .before .before .pre .1 in
+    two-step r base _ p l (found r (c .before .before .before .before .before .shape-of .ensures) (c .before .before .before .w2 .given .1)) (c .parts .ensures base)
 
 part-inside-requires : (t : ℕ) → part-lts.Need-inside-requires (part-claims t) (part-at t) part.Post
 part-inside-requires t c κs = (search needs, c .before .before .before .pre .1 .1)
@@ -227,33 +182,18 @@ pub +inside+part+parts-spec : {M : Type 1} → statement M
     (λ c κs. search needs)
     (λ c κs. search needs)
     (inside-returns t)
-    (λ c. search needs)
+    (λ c. search needs) (λ c κs. search needs) (λ c. search needs)
     (inside-shared-slice-read-add t)
-    (λ c κs. search needs)
-    (inside-parts-requires t)
-    (inside-parts-requires-2 t)
-    (λ c. search needs)
+    (λ c κs. search needs) (λ c. search needs)
+    (inside-add-part t)
     (λ c. search needs)
     (inside-part-requires t)
-    (inside-parts-requires-3 t)
     (λ c. search needs)
-    (λ c. search needs)
-    (inside-part-requires-2 t)
-    (λ c. search needs)
-    (λ c. search needs)
-    (inside-part-requires-3 t)
-    (λ c. search needs)
-    (λ c. search needs)
-    (inside-part-requires-4 t)
+    (inside-parts-requires t)
     (inside-returns-2 t)
     (inside-returns-3 t)
     (inside-returns-4 t)
-    (inside-returns-5 t)
-    (inside-returns-6 t)
-    (inside-returns-7 t)
-    (inside-returns-8 t)
-    (inside-returns-9 t)
-    (inside-returns-10 t))
+    (inside-returns-5 t))
     (λ t. part-lts.spec (part-claims t) (part-at t)
     part.Post
     (λ c. search needs)

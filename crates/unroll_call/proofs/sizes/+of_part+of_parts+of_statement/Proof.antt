@@ -1,10 +1,8 @@
-use mathlib.Core.Path.{refl}
 use native.Mathlib.Omega.{arith}
 use borrow.Author.Needs.{needs}
-use Rattle.spec_language.specs.Statement.{local, litres, nothing, emit, seq, par, loop, present, signal, try, suspend}
-use Rattle.spec_sequence.specs.Commands.{Command}
-use Rattle.layout.proofs.Laid.{taken-apart, first-ready, second-ready}
-use Rattle.unroll_call.proofs.Steps.{few, part-ready, pair-ready, here, loop-step, signal-step, try-step, suspend-step, parts-step, seq-step, par-step, present-step, nothing-step, deliver-step, leaf-step}
+use Rattle.layout.proofs.Laid.{first-ready, second-ready}
+use Rattle.commands.proofs.Shapes.{found, leaf-small, one-small, two-small, there, one-ready, two-ready}
+use Rattle.unroll_call.proofs.Steps.{few, parts-step, leaf-step, loop-step, one-step, two-step}
 use Prim.Native.Nat.{ℕ, _+_, _*_, _<_}
 use borrow.Fn.Kinds.{In}
 use borrow.Fn.PlainCycle.{Measures, is, falls, and}
@@ -17,6 +15,7 @@ use Rattle.unroll_call.proofs.sizes.+of_part+of_parts+of_statement.Lts-
 use Rattle.unroll_call.proofs.sizes.of_statement.Reads as of-statement
 use Rattle.unroll_call.proofs.sizes.of_statement.Kinds as of-statement-kinds
 use Rattle.unroll_call.proofs.sizes.+of_part+of_parts+of_statement.Lts-of_statement as of-statement-lts
+use Rattle.commands.proofs.shape_of.Reads as shape-of-reads
 use Rattle.unroll_call.proofs.sizes.around.Reads as around-reads
 use Rattle.unroll_call.proofs.sizes.around_loop.Reads as around-loop-reads
 use Rattle.unroll_call.proofs.sizes.around_two.Reads as around-two-reads
@@ -65,7 +64,7 @@ abbrev of-parts-claims : ℕ → of-parts-lts.Claims
 of-parts-claims t = (of-part-below t, of-part.Post, around-two-reads.Asked, around-two-reads.Learnt)
 
 abbrev of-statement-claims : ℕ → of-statement-lts.Claims
-of-statement-claims t = (capped-reads.Asked, capped-reads.Learnt, of-parts-below t, of-parts.Post, of-part-below t, of-part.Post, around-loop-reads.Asked, around-loop-reads.Learnt, around-reads.Asked, around-reads.Learnt)
+of-statement-claims t = (shape-of-reads.Asked, shape-of-reads.Learnt, capped-reads.Asked, capped-reads.Learnt, of-part-below t, of-part.Post, around-loop-reads.Asked, around-loop-reads.Learnt, around-reads.Asked, around-reads.Learnt, of-parts-below t, of-parts.Post)
 
 of-part-of-statement-requires : (t : ℕ) → of-part-lts.Need-of-statement-requires (of-part-claims t) (of-part-at t) of-part.Post
 of-part-of-statement-requires t c κs = (search needs, c .before .before .pre .1 .1)
@@ -106,85 +105,52 @@ of-parts-around-two-requires t c κs = let r = c .before .before .before .before
 of-parts-returns : (t : ℕ) → of-parts-lts.Need-returns (of-parts-claims t) (of-parts-at t) of-parts.Post
 of-parts-returns t c = λ base p q l. parts-step _ p q (c .before .before .of-part .ensures base p (l .first)) (c .before .of-part2 .ensures _ q (l .second)) (c .around-two .ensures)
 
-of-statement-of-parts-requires : (t : ℕ) → of-statement-lts.Need-of-parts-requires (of-statement-claims t) (of-statement-at t) of-statement.Post
-of-statement-of-parts-requires t c κs = (search needs, (omega arith, pair-ready (c .before .before .before .pre .1) Command.seq refl (c .match .keys2)))
+of-statement-cast-capped : (t : ℕ) → of-statement-lts.Need-cast-capped (of-statement-claims t) (of-statement-at t) of-statement.Post
+of-statement-cast-capped t c =
+    let r = c .before .before .before .before .before .before .pre .1 in record { fits = omega (arith, leaf-small (found r (c .before .before .before .shape-of .ensures) (c .before .w .given .1))) }
 
-of-statement-of-parts-requires-2 : (t : ℕ) → of-statement-lts.Need-of-parts-requires-2 (of-statement-claims t) (of-statement-at t) of-statement.Post
-of-statement-of-parts-requires-2 t c κs = (search needs, (omega arith, pair-ready (c .before .before .before .pre .1) Command.par refl (c .match .keys3)))
+of-statement-add-of-part : (t : ℕ) → of-statement-lts.Need-add-of-part (of-statement-claims t) (of-statement-at t) of-statement.Post
+of-statement-add-of-part t c =
+    let r = c .before .before .before .before .before .before .pre .1 in omega (arith, r .fits, there r (found r (c .before .before .before .shape-of .ensures) (c .before .w2 .given .1)))
 
 of-statement-of-part-requires : (t : ℕ) → of-statement-lts.Need-of-part-requires (of-statement-claims t) (of-statement-at t) of-statement.Post
-of-statement-of-part-requires t c κs = (search needs, part-ready (c .before .before .before .pre .1) Command.loop refl (c .match .keys4))
+of-statement-of-part-requires t c κs =
+    let r = c .before .before .before .before .before .before .pre .1 in (search needs, one-ready r (found r (c .before .before .before .shape-of .ensures) (c .before .w2 .given .1)))
 
 of-statement-around-loop-requires : (t : ℕ) → of-statement-lts.Need-around-loop-requires (of-statement-claims t) (of-statement-at t) of-statement.Post
-of-statement-around-loop-requires t c κs = few (part-ready (c .before .before .before .before .pre .1) Command.loop refl (c .before .match .keys4) .1) (c .of-part .ensures)
+of-statement-around-loop-requires t c κs =
+    let r = c .before .before .before .before .before .before .before .before .pre .1 in few (one-ready r (found r (c .before .before .before .before .before .shape-of .ensures) (c .before .before .before .w2 .given .1)) .1) (c .before .of-part .ensures)
 
-of-statement-of-parts-requires-3 : (t : ℕ) → of-statement-lts.Need-of-parts-requires-3 (of-statement-claims t) (of-statement-at t) of-statement.Post
-of-statement-of-parts-requires-3 t c κs = (search needs, (omega arith, pair-ready (c .before .before .before .pre .1) Command.present refl (c .match .keys5)))
-
-of-statement-of-part-requires-2 : (t : ℕ) → of-statement-lts.Need-of-part-requires-2 (of-statement-claims t) (of-statement-at t) of-statement.Post
-of-statement-of-part-requires-2 t c κs = (search needs, part-ready (c .before .before .before .pre .1) Command.signal refl (c .match .keys6))
+of-statement-cast-around : (t : ℕ) → of-statement-lts.Need-cast-around (of-statement-claims t) (of-statement-at t) of-statement.Post
+of-statement-cast-around t c =
+    let r = c .before .before .before .before .before .before .before .before .pre .1 in record { fits = omega (arith, one-small (found r (c .before .before .before .before .before .shape-of .ensures) (c .before .before .before .w2 .given .1))) }
 
 of-statement-around-requires : (t : ℕ) → of-statement-lts.Need-around-requires (of-statement-claims t) (of-statement-at t) of-statement.Post
-of-statement-around-requires t c κs = (few (part-ready (c .before .before .before .before .pre .1) Command.signal refl (c .before .match .keys6) .1) (c .of-part2 .ensures), omega arith)
+of-statement-around-requires t c κs =
+    let r = c .before .before .before .before .before .before .before .before .pre .1 in
+    let y = found r (c .before .before .before .before .before .shape-of .ensures) (c .before .before .before .w2 .given .1) in (few (one-ready r y .1) (c .before .of-part .ensures), one-small y)
 
-of-statement-of-part-requires-3 : (t : ℕ) → of-statement-lts.Need-of-part-requires-3 (of-statement-claims t) (of-statement-at t) of-statement.Post
-of-statement-of-part-requires-3 t c κs = (search needs, part-ready (c .before .before .before .pre .1) Command.try refl (c .match .keys7))
-
-of-statement-around-requires-2 : (t : ℕ) → of-statement-lts.Need-around-requires-2 (of-statement-claims t) (of-statement-at t) of-statement.Post
-of-statement-around-requires-2 t c κs = (few (part-ready (c .before .before .before .before .pre .1) Command.try refl (c .before .match .keys7) .1) (c .of-part3 .ensures), omega arith)
-
-of-statement-of-part-requires-4 : (t : ℕ) → of-statement-lts.Need-of-part-requires-4 (of-statement-claims t) (of-statement-at t) of-statement.Post
-of-statement-of-part-requires-4 t c κs = (search needs, part-ready (c .before .before .before .pre .1) Command.suspend refl (c .match .keys8))
-
-of-statement-around-requires-3 : (t : ℕ) → of-statement-lts.Need-around-requires-3 (of-statement-claims t) (of-statement-at t) of-statement.Post
-of-statement-around-requires-3 t c κs = (few (part-ready (c .before .before .before .before .pre .1) Command.suspend refl (c .before .match .keys8) .1) (c .of-part4 .ensures), omega arith)
+of-statement-of-parts-requires : (t : ℕ) → of-statement-lts.Need-of-parts-requires (of-statement-claims t) (of-statement-at t) of-statement.Post
+of-statement-of-parts-requires t c κs =
+    let r = c .before .before .before .before .before .before .pre .1 in let y = found r (c .before .before .before .shape-of .ensures) (c .before .w3 .given .1) in (search needs, (two-small y, two-ready r y))
 
 of-statement-returns : (t : ℕ) → of-statement-lts.Need-returns (of-statement-claims t) (of-statement-at t) of-statement.Post
-of-statement-returns t c = λ base p l.
-    here nothing (taken-apart (c .before .before .before .before .pre .1) base p l Command.nothing (c .before .match .keys1) .parts) (nothing-step (c .capped .ensures))
+of-statement-returns t c base p l =
+    let r = c .before .before .before .before .before .before .before .pre .1 in leaf-step r base p l (found r (c .before .before .before .before .shape-of .ensures) (c .before .before .w .given .1)) (c .capped .ensures)
 
 of-statement-returns-2 : (t : ℕ) → of-statement-lts.Need-returns-2 (of-statement-claims t) (of-statement-at t) of-statement.Post
-of-statement-returns-2 t c = λ base p l.
-    let y = taken-apart (c .before .before .before .before .pre .1) base p l Command.seq (c .before .match .keys2) .parts in
-    here (seq (y .0) (y .1)) (y .2 .0) (seq-step (y .0) (y .1) (c .of-parts .ensures base (y .0) (y .1) (y .2 .1)))
+of-statement-returns-2 t c base p l =
+    let r = c .before .before .before .before .before .before .before .before .before .pre .1 in
+    loop-step r base p l (found r (c .before .before .before .before .before .before .shape-of .ensures) (c .before .before .before .before .w2 .given .1)) (c .before .before .of-part .ensures base) (c .before .if1 .taken) (c .around-loop .ensures)
 
 of-statement-returns-3 : (t : ℕ) → of-statement-lts.Need-returns-3 (of-statement-claims t) (of-statement-at t) of-statement.Post
-of-statement-returns-3 t c = λ base p l.
-    let y = taken-apart (c .before .before .before .before .pre .1) base p l Command.par (c .before .match .keys3) .parts in
-    here (par (y .0) (y .1)) (y .2 .0) (par-step (y .0) (y .1) (c .of-parts2 .ensures base (y .0) (y .1) (y .2 .1)))
+of-statement-returns-3 t c base p l =
+    let r = c .before .before .before .before .before .before .before .before .before .pre .1 in
+    one-step r base p l (found r (c .before .before .before .before .before .before .shape-of .ensures) (c .before .before .before .before .w2 .given .1)) (c .before .before .of-part .ensures base) (c .before .if1 .left) (c .around .ensures)
 
 of-statement-returns-4 : (t : ℕ) → of-statement-lts.Need-returns-4 (of-statement-claims t) (of-statement-at t) of-statement.Post
-of-statement-returns-4 t c = λ base p l.
-    let y = taken-apart (c .before .before .before .before .before .pre .1) base p l Command.loop (c .before .before .match .keys4) .parts in
-    here (loop _ (y .0)) (y .1 .0) (loop-step (y .0) (c .before .of-part .ensures base (y .0) (y .1 .1)) _ (c .around-loop .ensures))
-
-of-statement-returns-5 : (t : ℕ) → of-statement-lts.Need-returns-5 (of-statement-claims t) (of-statement-at t) of-statement.Post
-of-statement-returns-5 t c = λ base p l.
-    let y = taken-apart (c .before .before .before .before .pre .1) base p l Command.present (c .before .match .keys5) .parts in
-    here (present _ (y .0) (y .1)) (y .2 .0) (present-step (y .0) (y .1) _ (c .of-parts3 .ensures base (y .0) (y .1) (y .2 .1)))
-
-of-statement-returns-6 : (t : ℕ) → of-statement-lts.Need-returns-6 (of-statement-claims t) (of-statement-at t) of-statement.Post
-of-statement-returns-6 t c = λ base p l.
-    let y = taken-apart (c .before .before .before .before .before .pre .1) base p l Command.signal (c .before .before .match .keys6) .parts in
-    here (signal local _ _ (y .0)) (y .1 .0) (signal-step (y .0) (c .before .of-part2 .ensures base (y .0) (y .1 .1)) _ _ (c .around .ensures))
-
-of-statement-returns-7 : (t : ℕ) → of-statement-lts.Need-returns-7 (of-statement-claims t) (of-statement-at t) of-statement.Post
-of-statement-returns-7 t c = λ base p l.
-    let y = taken-apart (c .before .before .before .before .before .pre .1) base p l Command.try (c .before .before .match .keys7) .parts in
-    here (try (y .0)) (y .1 .0) (try-step (y .0) (c .before .of-part3 .ensures base (y .0) (y .1 .1)) (c .around2 .ensures))
-
-of-statement-returns-8 : (t : ℕ) → of-statement-lts.Need-returns-8 (of-statement-claims t) (of-statement-at t) of-statement.Post
-of-statement-returns-8 t c = λ base p l.
-    let y = taken-apart (c .before .before .before .before .before .pre .1) base p l Command.suspend (c .before .before .match .keys8) .parts in
-    here (suspend _ (y .0)) (y .1 .0) (suspend-step (y .0) (c .before .of-part4 .ensures base (y .0) (y .1 .1)) _ (c .around3 .ensures))
-
-of-statement-returns-9 : (t : ℕ) → of-statement-lts.Need-returns-9 (of-statement-claims t) (of-statement-at t) of-statement.Post
-of-statement-returns-9 t c = λ base p l.
-    here (emit _ (litres _)) (taken-apart (c .before .before .before .before .pre .1) base p l Command.deliver (c .before .match .keys9) .parts)
-    (deliver-step _ _ (c .capped2 .ensures))
-
-of-statement-returns-10 : (t : ℕ) → of-statement-lts.Need-returns-10 (of-statement-claims t) (of-statement-at t) of-statement.Post
-of-statement-returns-10 t c = λ base p l. leaf-step (c .before .before .before .before .pre .1) base p l (c .before .match .rest) (c .capped3 .ensures)
+of-statement-returns-4 t c base p l =
+    let r = c .before .before .before .before .before .before .before .pre .1 in two-step r base p l (found r (c .before .before .before .before .shape-of .ensures) (c .before .before .w3 .given .1)) (c .of-parts .ensures base)
 
 pub +of-part+of-parts+of-statement-spec : {M : Type 1} → statement M
 +of-part+of-parts+of-statement-spec =
@@ -211,36 +177,18 @@ pub +of-part+of-parts+of-statement-spec : {M : Type 1} → statement M
     (of-parts-returns t))
     λ t. of-statement-lts.spec (of-statement-claims t) (of-statement-at t)
     of-statement.Post
-    (λ c. search needs)
-    (λ c κs. search needs)
-    (of-statement-of-parts-requires t)
-    (of-statement-of-parts-requires-2 t)
-    (λ c. search needs)
+    (λ c. search needs) (λ c κs. search needs) (λ c. search needs)
+    (of-statement-cast-capped t)
+    (λ c κs. search needs) (λ c. search needs)
+    (of-statement-add-of-part t)
     (λ c. search needs)
     (of-statement-of-part-requires t)
     (of-statement-around-loop-requires t)
-    (of-statement-of-parts-requires-3 t)
-    (λ c. search needs)
-    (λ c. search needs)
-    (of-statement-of-part-requires-2 t)
+    (of-statement-cast-around t)
     (of-statement-around-requires t)
     (λ c. search needs)
-    (λ c. search needs)
-    (of-statement-of-part-requires-3 t)
-    (of-statement-around-requires-2 t)
-    (λ c. search needs)
-    (λ c. search needs)
-    (of-statement-of-part-requires-4 t)
-    (of-statement-around-requires-3 t)
-    (λ c κs. search needs)
-    (λ c κs. search needs)
+    (of-statement-of-parts-requires t)
     (of-statement-returns t)
     (of-statement-returns-2 t)
     (of-statement-returns-3 t)
     (of-statement-returns-4 t)
-    (of-statement-returns-5 t)
-    (of-statement-returns-6 t)
-    (of-statement-returns-7 t)
-    (of-statement-returns-8 t)
-    (of-statement-returns-9 t)
-    (of-statement-returns-10 t)
