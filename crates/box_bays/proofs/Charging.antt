@@ -27,8 +27,8 @@ use Rattle.spec_tick.specs.Demands.{stateAfterwards}
 use Rattle.instants.specs.declared.Reply.the-variants.{Refused, Reacted}
 use Rattle.instants.specs.Replies.{Replies}
 use Rattle.spec_bay.specs.Ledgers.{ledgerLength, readingLength, passes, added, readingOf, cleared}
-use Rattle.box_deliveries.specs.Delivering.{Delivers}
-use Rattle.box_deliveries.proofs.Theorems.{passes-exactly, adds-exactly}
+use Rattle.instants.specs.Delivering.{Delivers}
+use Rattle.box_bays.proofs.Capped.{passes-exactly, adds-exactly}
 use Rattle.spec_base.specs.Parts.{slot, put}
 use Rattle.numbers.proofs.Putting.{put-behind}
 use Rattle.spec_bay.specs.Called.{Called, called, number}

@@ -1,4 +1,5 @@
 pub mod Admitting
+pub mod Capped
 pub mod Charging
 pub mod Moves
 pub mod Positioning

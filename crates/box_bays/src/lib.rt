@@ -14,7 +14,7 @@ ghost use Rattle.spec_tick.specs.Record.{recordLength};
 ghost use Rattle.instants.specs.Written.{Writable, writtenFrom};
 ghost use Rattle.instants.specs.Replies.{Replies};
 ghost use Rattle.spec_bay.specs.Ledgers.{farmCount, NoneOutside};
-ghost use Rattle.box_deliveries.specs.Delivering.{Delivers};
+ghost use Rattle.instants.specs.Delivering.{Delivers};
 ghost use Rattle.spec_bay.specs.Called.{called};
 ghost use Rattle.spec_bay.specs.Stretch.{stretchLength, sequenceIn, readBackIn, stateIn};
 ghost use Rattle.spec_bay.specs.BayCalls.{stateKept, charged, bayChargedOf, recorded, bayTickOf, bayServiceOf, bayPanelOf, bayPreviewOf, bayLedgerOf, bayNewYearOf};
@@ -37,7 +37,7 @@ fn reply_with(stretch: &[u8], input: u32, named: &mut u32, litres: &mut Deliveri
     ensures { λ _. ⌜ Delivers (sequenceIn (now (stretch .entry))) (stateIn (now (stretch .entry))) input
         (readBackIn (now (stretch .entry))) (now (named .exit)) (now (litres .exit)) ⌝ }
 {
-    box_deliveries::reply_with(
+    instants::reply_to(
         crate::fields::sequence(stretch),
         crate::fields::state(stretch),
         input,

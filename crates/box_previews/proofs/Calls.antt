@@ -10,21 +10,17 @@ use Rattle.spec_base.specs.Limits.{signalCount}
 use Rattle.spec_base.specs.Sets.{difference, membersFrom}
 use Rattle.theory_language.specs.Traced.{startTraced, instantOf}
 use Rattle.spec_sequence.specs.Program.{program}
-use Rattle.spec_sequence.specs.Check.{checkOf}
 use Rattle.checks.specs.Verdict.{Passed}
 use Rattle.checks.proofs.Passing.{as-ready}
-use Rattle.labels.specs.declared.Labels.{Labels}
 use Rattle.program.specs.declared.Start.{Start}
-use Rattle.program.specs.declared.Start.the-variants.{Fresh, Waiting}
 use Rattle.program.specs.Program.{termAt}
 use Rattle.reaction.specs.Reactions.{reactionOf}
 use Rattle.instants.specs.Written.{writtenFrom}
-use Rattle.spec_tick.specs.Tick.{reacts}
+use Rattle.spec_tick.specs.Tick.{refused, reacts, replyOf}
 use Rattle.spec_tick.specs.Demands.{answerAfterwards}
-use Rattle.instants.specs.declared.Standing.the-variants as stands
-use Rattle.instants.specs.declared.Reply.the-variants.{Refused, Reacted}
-use Rattle.instants.specs.Replies.{Decodes, Replies}
-use Rattle.instants.proofs.Replying.{written-from, refused, malformed-reply, over-reply, fresh-reply, waiting-reply}
+use Rattle.instants.specs.declared.Reply.the-variants.{Reacted}
+use Rattle.instants.specs.Replies.{StartsAt, Replies}
+use Rattle.instants.proofs.Replying.{written-from, started-reply}
 use Rattle.spec_bay.specs.declared.Findings.{Findings}
 use Rattle.spec_bay.specs.Preview.{findings, maxUnknown, previewLength, previewBytes, shownBy, Previewed, previewed, answerIn, answersOf, previewOf}
 use Rattle.box_previews.specs.Standing.{answersAt, Stands}
@@ -46,11 +42,8 @@ module _ (sequence state : List ℕ) (readBack : ℕ) {second notes : List ℕ} 
   abbrev pub Reacts : Start → Type 0
   Reacts origin = (e : ℕ) → Replies sequence state e readBack (Reacted (reactionOf (startTraced 0 (program readBack (termAt origin (a .p))) e)))
 
-  pub from-fresh : Decodes (a .p) state stands.Fresh → Reacts Fresh
-  from-fresh d e = fresh-reply sequence state e readBack (a .p) (a .is) (a .ranged) 0 _ d refl
-
-  pub from-waiting : (m : Labels) → Decodes (a .p) state (stands.Waiting m) → Reacts (Waiting m)
-  from-waiting m d e = waiting-reply sequence state e readBack (a .p) (a .is) (a .ranged) 0 _ m d refl
+  pub from-start : (origin : Start) → StartsAt (a .p) state origin → Reacts origin
+  from-start origin d e = started-reply sequence state e readBack (a .p) (a .is) (a .ranged) 0 _ origin d refl
 
   pub stands-at : (origin : Start) → Reacts origin → Stands second sequence origin readBack
   stands-at origin r = record { p = a .p; lies = a .known .lies; ready = as-ready a; writable = λ e. r e .writable }
@@ -73,19 +66,10 @@ module _ (sequence state : List ℕ) (input unknown readBack : ℕ) (buffer : Li
   other-buffer z = sym (numbers.other-buffer sequence state readBack input unknown buffer z)
 
   module _ (sized : length buffer ≡ previewLength) where
-    turned-down : (n : ℕ) → Replies sequence state (difference input unknown) readBack (Refused n) → Represents (previewed n buffer)
-    turned-down n h = sym (refused-preview sequence state readBack input unknown buffer sized n (h .is))
-
-    pub unchecked-preview : (n : ℕ) → n ≡ checkOf sequence readBack → n ≢ 0 → Represents (previewed n buffer)
-    unchecked-preview n h z = turned-down n (refused sequence state (difference input unknown) readBack n h z)
+    pub turned-down : (n : ℕ) → ((e : ℕ) → replyOf sequence state e readBack ≡ refused n) → Represents (previewed n buffer)
+    turned-down n h = sym (refused-preview sequence state readBack input unknown buffer sized n (h (difference input unknown)))
 
     module _ {second notes : List ℕ} (a : Passed sequence readBack second notes) where
-      pub malformed-preview : Decodes (a .p) state stands.Malformed → Represents (previewed 11 buffer)
-      malformed-preview d = turned-down 11 (malformed-reply sequence state (difference input unknown) readBack (a .p) (a .is) (a .ranged) d)
-
-      pub over-preview : Decodes (a .p) state stands.Over → Represents (previewed 12 buffer)
-      over-preview d = turned-down 12 (over-reply sequence state (difference input unknown) readBack (a .p) (a .is) (a .ranged) d)
-
       pub shown-preview : (origin : Start) → Reacts sequence state readBack a origin → (o : Previewed)
           → o ≡ shownBy (answersAt origin (a .p) readBack) input unknown buffer → Represents o
       shown-preview origin r o h =

@@ -187,30 +187,8 @@ pub fn preview(
     }
     let mut second: SecondParts = [0; limits::MAX_BYTES];
     let mut notes: Notes = [0; notes::LENGTH];
-    let number = checks::check(sequence, read_back, &mut second, &mut notes);
-    if number != 0 {
-        return number;
-    }
-    match instants::decode(sequence, &second, &notes, state) {
-        Standing::Malformed => 11,
-        Standing::Over => 12,
-        Standing::Fresh => show(
-            sequence,
-            &second,
-            Start::Fresh,
-            input,
-            unknown,
-            read_back,
-            buffer,
-        ),
-        Standing::Waiting(active) => show(
-            sequence,
-            &second,
-            Start::Waiting(active),
-            input,
-            unknown,
-            read_back,
-            buffer,
-        ),
+    match instants::begin(sequence, state, read_back, &mut second, &mut notes) {
+        Standing::Refused(row) => row,
+        Standing::From(start) => show(sequence, &second, start, input, unknown, read_back, buffer),
     }
 }

@@ -10,6 +10,7 @@ ghost use lib.ListN.{length};
 ghost use Rattle.spec_base.specs.Sets.{membersFrom};
 ghost use Rattle.layout.specs.Notes.{noNotes};
 ghost use Rattle.checks.specs.Verdict.{Judged};
+ghost use Rattle.spec_sequence.specs.Check.{checkOf};
 use layout::SecondParts;
 use notes::Notes;
 use reading::reader::Reading;
@@ -79,4 +80,13 @@ pub fn check(s: &[u8], read_back: u32, second: &mut SecondParts, notes: &mut Not
             row
         }
     }
+}
+
+// The number alone, for a caller that does not react.
+pub fn number(sequence: &[u8], read_back: u32) -> u8
+    ensures { λ r. ⌜ r ≡ checkOf (now (sequence .entry)) «read_back» ⌝ }
+{
+    let mut second: SecondParts = [0; limits::MAX_BYTES];
+    let mut notes: Notes = [0; notes::LENGTH];
+    check(sequence, read_back, &mut second, &mut notes)
 }

@@ -26,7 +26,10 @@ use Rattle.theory_language.proofs.ReadBack.{expand-declared}
 use Rattle.spec_sequence.specs.Program.{readBackSignals, program}
 use Rattle.labels.specs.Labels.{labelSet}
 use Rattle.labels.proofs.LabelValues.{labelSet-of}
-use Rattle.labels.specs.declared.Labels.{Labels}
+use Rattle.checks.specs.Verdict.{Passed}
+use Rattle.program.specs.declared.Start.{Start}
+use Rattle.program.specs.declared.Start.the-variants.{Fresh, Waiting}
+use Rattle.program.specs.Program.{termAt}
 use Rattle.spec_sequence.specs.Writer.{Ranged}
 use Rattle.spec_sequence.specs.Check.{Checked, sound, bad, checked, numberOf, checkOf}
 use Rattle.reaction.specs.Completions.{completionOf}
@@ -37,11 +40,12 @@ use Rattle.spec_tick.specs.StateRecord.{labelsIn, encodeState, Decoded, holds, 
 use Rattle.spec_tick.specs.AnswerRecord.{encodeAnswer}
 use Rattle.spec_tick.specs.Tick as tick
 use Rattle.spec_tick.specs.Tick.{written, reacts, byState, byCheck, replyOf, replied}
+use Rattle.instants.specs.declared.Standing.{Standing}
 use Rattle.instants.specs.declared.Standing.the-variants as stands
 use Rattle.instants.specs.declared.Reply.{Reply}
 use Rattle.instants.specs.declared.Reply.the-variants.{Refused, Reacted}
 use Rattle.instants.specs.Written.{WritableCode, Writable, writtenFrom}
-use Rattle.instants.specs.Replies.{Decodes, StandsFor, repliedFrom, Replies}
+use Rattle.instants.specs.Replies.{StartsAt, Decodes, Begins, StandsFor, repliedFrom, Replies}
 use Rattle.theory_tick.proofs.Bounds.{Bounded, Exits, ranged-bounded, bounded-expand, bounded-declared, code-exits}
 
 -- WRITTEN: the code's tree writes what the language's instant does; the signals asked for and the litres are not told
@@ -68,15 +72,25 @@ writable-code wrong x f = tt
 writable : (f : ℕ) (t : Statement) (e : ℕ) → Bounded t → (i : Reaction) → i ≡ reactionOf (startTraced f t e) → Writable i
 writable f t e r i w = subst Writable (sym w) (writable-code (code (react t e)) (firstError t e) (code-exits inheritanceFirst t e r))
 
--- ---- the reply
-module _ (sequence state : List ℕ) (e readBack : ℕ) where
-  pub refused : (n : ℕ) → n ≡ checkOf sequence readBack → n ≢ 0 → Replies sequence state e readBack (Refused n)
+-- ---- before the reaction
+module _ (sequence state : List ℕ) (readBack : ℕ) where
+  pub unchecked : (n : ℕ) → n ≡ checkOf sequence readBack → n ≢ 0 → (e : ℕ) → replyOf sequence state e readBack ≡ tick.refused n
   unfolding checkOf
-  refused n h z = record { writable = tt; is = go (checked sequence readBack) h }
+  unchecked n h z e = go (checked sequence readBack) h
     where
       go : (c : Checked) → n ≡ numberOf c → byCheck inheritanceFirst readBack c state e ≡ tick.refused n
       go (bad k) x = ap tick.refused (sym x)
       go (sound p) x = absurd (z x)
+
+  pub decoded : {t notes : List ℕ} (h : Passed sequence readBack t notes) (r : Standing) → Decodes (h .p) state r → Begins sequence state readBack t notes r
+  decoded h (stands.Refused n) d =
+      λ e. ap (λ (c : Checked). byCheck inheritanceFirst readBack c state e) (h .is) ∙ d (program readBack (h .p)) e
+  decoded h (stands.From origin) d = (h, d)
+
+-- ---- the reply
+module _ (sequence state : List ℕ) (e readBack : ℕ) where
+  pub refused-reply : (n : ℕ) → replyOf sequence state e readBack ≡ tick.refused n → Replies sequence state e readBack (Refused n)
+  refused-reply n h = record { writable = tt; is = h }
 
   module _ (p : Statement) (s : checked sequence readBack ≡ sound p) (ranged : Ranged p) where
     -- the term of the program
@@ -96,25 +110,24 @@ module _ (sequence state : List ℕ) (e readBack : ℕ) where
         → replyOf sequence state e readBack ≡ reacts (start t e) → Replies sequence state e readBack (Reacted i)
     reacted f t i r h k = record { writable = writable f t e r i h; is = (startTraced f t e, h, k) }
 
-    pub malformed-reply : Decodes p state stands.Malformed → Replies sequence state e readBack (Refused 11)
-    malformed-reply d = record { writable = tt; is = by-record malformed d }
-
-    pub over-reply : Decodes p state stands.Over → Replies sequence state e readBack (Refused 12)
-    over-reply d = record { writable = tt; is = by-record (holds State.over) d }
-
-    pub fresh-reply : (f : ℕ) (i : Reaction) → Decodes p state stands.Fresh → i ≡ reactionOf (startTraced f q e) → Replies sequence state e readBack (Reacted i)
-    fresh-reply f i d h = reacted f q i bounded h (by-record (holds State.fresh) d)
-
     -- the expansion by ranks, under the declarations, is the expansion of the program
     pub expanded : (m L : ℕ) → Valid p L → m ≡ mask 0 p L → program readBack (expandBy 0 p m) ≡ expand q L
     expanded m L v h =
         ap (program readBack) (ap (expandBy 0 p) h ∙ expand-by 0 p L (valid-active p L v))
         ∙ sym (expand-declared readBackPlace (readBackSignals readBack) p L)
 
-    pub waiting-reply : (f : ℕ) (i : Reaction) (m : Labels) → Decodes p state (stands.Waiting m)
-        → i ≡ reactionOf (startTraced f (program readBack (expandBy 0 p (labelSet m))) e) → Replies sequence state e readBack (Reacted i)
-    waiting-reply f i m d h =
+    pub started-reply : (f : ℕ) (i : Reaction) (origin : Start) → StartsAt p state origin
+        → i ≡ reactionOf (startTraced f (program readBack (termAt origin p)) e) → Replies sequence state e readBack (Reacted i)
+    started-reply f i Fresh d h = reacted f q i bounded h (by-record (holds State.fresh) d)
+    started-reply f i (Waiting m) d h =
         let L = labelsIn state in
         reacted f (expand q L) i (bounded-expand q L bounded)
         (h ∙ ap (λ (t : Statement). reactionOf (startTraced f t e)) (expanded (labelSet m) L (valid-is p L .0 (d .1)) (d .2)))
         (by-record (holds (State.waits L)) (d .0))
+
+-- a record that is turned down has no number 0
+pub turned-not-0 : (q : Statement) (d : Decoded) (e n : ℕ) → byState inheritanceFirst q d e ≡ tick.refused n → n ≢ 0
+turned-not-0 q malformed e n k z = let m : 11 ≡ n = cc in omega arith
+turned-not-0 q (holds State.fresh) e n k z = let m : _≡_ {A = ℕ} 0 1 = cc in omega arith
+turned-not-0 q (holds (State.waits L)) e n k z = let m : _≡_ {A = ℕ} 0 1 = cc in omega arith
+turned-not-0 q (holds State.over) e n k z = let m : 12 ≡ n = cc in omega arith

@@ -1,4 +1,4 @@
--- What the code's answers stand for: a state record's standing, and the reply to a call.
+-- What the code's answers stand for: where a call stands before it reacts, and its reply.
 use Prim.Native.Nat.{ℕ}
 use mathlib.Core.Path.{_≡_}
 use mathlib.Core.Bool.{true}
@@ -6,31 +6,43 @@ use mathlib.Core.List.{List}
 use Rattle.layout.specs.Known.{Known}
 use Rattle.spec_language.specs.Statement.{Statement}
 use Rattle.spec_language.specs.LabelTests.{valid}
+use Rattle.spec_language.specs.Reaction.{inheritanceFirst}
 use Rattle.theory_language.specs.Ranks.{mask}
 use Rattle.theory_language.specs.Traced.{Traced, instantOf}
 use Rattle.spec_language.specs.Machines.{State}
 use Rattle.labels.specs.Labels.{labelSet}
+use Rattle.checks.specs.Verdict.{Passed}
+use Rattle.program.specs.declared.Start.{Start}
+use Rattle.program.specs.declared.Start.the-variants.{Fresh, Waiting}
 use Rattle.instants.specs.declared.Standing.{Standing}
 use Rattle.instants.specs.declared.Standing.the-variants as stands
 use Rattle.instants.specs.declared.Reply.{Reply}
 use Rattle.instants.specs.declared.Reply.the-variants.{Refused, Reacted}
 use Rattle.reaction.specs.Reactions.{reactionOf}
 use Rattle.instants.specs.Written.{Writable, writtenFrom}
-use Rattle.spec_tick.specs.StateRecord.{labelsIn, holds, malformed, decodeState}
+use Rattle.spec_tick.specs.StateRecord.{labelsIn, holds, decodeState}
 use Rattle.spec_tick.specs.Tick as tick
-use Rattle.spec_tick.specs.Tick.{Outcome, outcome, refused, reacts, replyOf}
+use Rattle.spec_tick.specs.Tick.{Outcome, outcome, refused, reacts, byState, replyOf}
 
--- what the record holds for p; of a waiting machine also the ranks of its active pauses
-abbrev pub Decodes : Statement → List ℕ → Standing → Type 0
-Decodes p state stands.Fresh = decodeState p state ≡ holds State.fresh
-Decodes p state (stands.Waiting m) =
+-- where the sequence of p starts from the record; the ranks of a waiting machine are those of its active pauses
+abbrev pub StartsAt : Statement → List ℕ → Start → Type 0
+StartsAt p state Fresh = decodeState p state ≡ holds State.fresh
+StartsAt p state (Waiting m) =
     (decodeState p state ≡ holds (State.waits (labelsIn state))) × (valid p (labelsIn state) ≡ true) × (labelSet m ≡ mask 0 p (labelsIn state))
-Decodes p state stands.Over = decodeState p state ≡ holds State.over
-Decodes p state stands.Malformed = decodeState p state ≡ malformed
+
+-- what the record holds for p: one that is turned down is so whatever the program around p and its input
+abbrev pub Decodes : Statement → List ℕ → Standing → Type 0
+Decodes p state (stands.Refused n) = (q : Statement) (e : ℕ) → byState inheritanceFirst q (decodeState p state) e ≡ refused n
+Decodes p state (stands.From start) = StartsAt p state start
 
 -- the same for the statement that was read
 abbrev pub DecodesRead : (t notes sequence state : List ℕ) → Standing → Type 0
 DecodesRead t notes sequence state r = (p : Statement) → Known t notes sequence p → Decodes p state r
+
+-- a call before it reacts: turned down whatever its input, or the sequence passed the check and starts from the record
+abbrev pub Begins : (sequence state : List ℕ) (readBack : ℕ) (t notes : List ℕ) → Standing → Type 0
+Begins sequence state readBack t notes (stands.Refused n) = (e : ℕ) → replyOf sequence state e readBack ≡ refused n
+Begins sequence state readBack t notes (stands.From start) = (h : Passed sequence readBack t notes) × StartsAt (h .p) state start
 
 -- ---- the reply by value: the code's instant is that of a tree, whose signals asked for are not told
 abbrev pub StandsFor : Reply → tick.Reply → Type 0

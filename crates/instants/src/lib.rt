@@ -1,22 +1,24 @@
-// A call of the tick (01): the lengths of its buffers (row 1), what a state record holds (rows 11 and 12), the reply, which is a
-// value, and both records, which are written last.
+// A call of the tick (01): the lengths of its buffers (row 1), the check, what a state record holds (rows 11 and 12), the reply of the
+// core, which is a value, and both records, which are written last.
 ghost use mathlib.Core.Path.{_≡_};
-ghost use lib.ListN.{length};
+ghost use lib.ListN.{length, replicate};
+ghost use Rattle.spec_base.specs.Limits.{maxBytes, signalCount};
 ghost use Rattle.spec_tick.specs.StateRecord.{stateLength};
 ghost use Rattle.spec_tick.specs.AnswerRecord.{answerLength};
 ghost use Rattle.spec_tick.specs.Tick.{outcome};
 ghost use Rattle.instants.specs.Written.{Writable, writtenFrom};
 ghost use Rattle.layout.specs.Known.{Sound};
-ghost use Rattle.checks.specs.Verdict.{Passed};
-ghost use Rattle.instants.specs.Replies.{DecodesRead, Replies};
+ghost use Rattle.layout.specs.Notes.{noNotes};
+ghost use Rattle.instants.specs.Replies.{DecodesRead, Begins, Replies};
+ghost use Rattle.instants.specs.Delivering.{Delivers};
 ghost use mathlib.Core.Bool.{_&&_};
 ghost use lib.Dec.{eqb};
 ghost use Rattle.spec_tick.specs.Demands.{TickMeets};
-use labels::Labels;
 use layout::SecondParts;
 use notes::Notes;
 use program::Start;
 use reaction::Completion;
+use reaction::Deliveries;
 use reaction::Reaction;
 use records::ANSWER_LENGTH;
 use records::STATE_LENGTH;
@@ -49,16 +51,14 @@ pub fn finish(state: &mut [u8], answer: &mut [u8], r: Reaction) -> u8
     0
 }
 
-// What a state record holds for an accepted sequence. A waiting machine has the ranks of its active pauses.
+// What a call comes to before it reacts: the row that turns it down, or where its sequence starts.
 pub enum Standing {
-    Fresh,
-    Waiting(Labels),
-    Over,
-    Malformed,
+    Refused(u8),
+    From(Start),
 }
 
-// The standing of a record, by what reading the sequence noted.
-pub fn decode(sequence: &[u8], second: &SecondParts, notes: &Notes, state: &[u8]) -> Standing
+// The standing of a state record, by what reading the sequence noted.
+fn decode(sequence: &[u8], second: &SecondParts, notes: &Notes, state: &[u8]) -> Standing
     requires { ⌜ Sound (now second) (now notes) (now sequence) ⌝ }
     ensures { λ r. ⌜ DecodesRead (now (second .entry)) (now (notes .entry)) (now (sequence .entry)) (now (state .entry)) r ⌝ }
 {
@@ -66,19 +66,38 @@ pub fn decode(sequence: &[u8], second: &SecondParts, notes: &Notes, state: &[u8]
     let labels = records::labels(state);
     if phase == records::WAITING {
         return match validity::validity_of(sequence, second, notes, labels) {
-            Validity::Valid(active) => Standing::Waiting(active),
-            Validity::Invalid => Standing::Malformed,
+            Validity::Valid(active) => Standing::From(Start::Waiting(active)),
+            Validity::Invalid => Standing::Refused(11),
         };
     }
     if labels::is_empty(labels) {
         if phase == records::FRESH {
-            return Standing::Fresh;
+            return Standing::From(Start::Fresh);
         }
         if phase == records::OVER {
-            return Standing::Over;
+            return Standing::Refused(12);
         }
     }
-    Standing::Malformed
+    Standing::Refused(11)
+}
+
+// The check, and then the state record. Of a call that is not turned down the table of second parts and the notes of labels are left.
+pub fn begin(
+    sequence: &[u8],
+    state: &[u8],
+    read_back: u32,
+    second: &mut SecondParts,
+    notes: &mut Notes,
+) -> Standing
+    requires { ⌜ length (now second) ≡ maxBytes ⌝ }
+    requires { ⌜ now notes ≡ noNotes ⌝ }
+    ensures { λ r. ⌜ Begins (now (sequence .entry)) (now (state .entry)) «read_back» (now (second .exit)) (now (notes .exit)) r ⌝ }
+{
+    let number = checks::check(sequence, read_back, second, notes);
+    if number != 0 {
+        return Standing::Refused(number);
+    }
+    decode(sequence, second, notes, state)
 }
 
 // What a call comes to before anything is written: the row that turns it down, or its reaction.
@@ -87,49 +106,31 @@ pub enum Reply {
     Reacted(Reaction),
 }
 
-// The program of a sequence that the check has passed, in the state of a record: a fresh machine reacts, a waiting one resumes.
-pub fn reply_of(
+// The core of a tick, a bay's too: the reply, the farms that the sequence names, and the litres of each farm, up to one more than the
+// limit (02, item 12). A call that is turned down leaves `farms` as it was.
+pub fn reply_to(
     sequence: &[u8],
-    second: &SecondParts,
-    notes: &Notes,
     state: &[u8],
     input: u32,
     read_back: u32,
+    farms: &mut u32,
+    litres: &mut Deliveries,
 ) -> Reply
-    requires { ⌜ Passed (now sequence) «read_back» (now second) (now notes) ⌝ }
+    requires { ⌜ now litres ≡ replicate signalCount 0 ⌝ }
     ensures { λ r. ⌜ Replies (now (sequence .entry)) (now (state .entry)) input «read_back» r ⌝ }
-{
-    match decode(sequence, second, notes, state) {
-        Standing::Malformed => Reply::Refused(11),
-        Standing::Over => Reply::Refused(12),
-        Standing::Fresh => Reply::Reacted(program::react_without_litres(
-            sequence,
-            Start::Fresh,
-            input,
-            read_back,
-            second,
-        )),
-        Standing::Waiting(active) => Reply::Reacted(program::react_without_litres(
-            sequence,
-            Start::Waiting(active),
-            input,
-            read_back,
-            second,
-        )),
-    }
-}
-
-// The same of any sequence: the check comes first.
-pub fn reply_to(sequence: &[u8], state: &[u8], input: u32, read_back: u32) -> Reply
-    ensures { λ r. ⌜ Replies (now (sequence .entry)) (now (state .entry)) input «read_back» r ⌝ }
+    ensures { λ _. ⌜ Delivers (now (sequence .entry)) (now (state .entry)) input «read_back»
+        (now (farms .exit)) (now (litres .exit)) ⌝ }
 {
     let mut second: SecondParts = [0; limits::MAX_BYTES];
     let mut notes: Notes = [0; notes::LENGTH];
-    let number = checks::check(sequence, read_back, &mut second, &mut notes);
-    if number != 0 {
-        return Reply::Refused(number);
+    match begin(sequence, state, read_back, &mut second, &mut notes) {
+        Standing::Refused(row) => Reply::Refused(row),
+        Standing::From(start) => {
+            let named = notes::farms(&notes);
+            *farms = named;
+            Reply::Reacted(program::instant(sequence, start, input, read_back, litres, &second))
+        }
     }
-    reply_of(sequence, &second, &notes, state, input, read_back)
 }
 
 // Whether the state and the answer record have their lengths (row 1).
@@ -142,12 +143,15 @@ pub fn fit(state: usize, answer: usize) -> bool
     answer == ANSWER_LENGTH
 }
 
+// The tick; its litres are not told.
 pub fn tick(sequence: &[u8], state: &mut [u8], input: u32, read_back: u32, answer: &mut [u8]) -> u8
     ensures { λ r. ⌜ TickMeets r (now (state .exit)) (now (answer .exit))
         (now (sequence .entry)) (now (state .entry)) input «read_back» (now (answer .entry)) ⌝ }
 {
     if fit(state.len(), answer.len()) {
-        return match reply_to(sequence, state, input, read_back) {
+        let mut farms: u32 = 0;
+        let mut litres: Deliveries = [0; limits::FARMS];
+        return match reply_to(sequence, state, input, read_back, &mut farms, &mut litres) {
             Reply::Refused(number) => number,
             Reply::Reacted(reaction) => finish(state, answer, reaction),
         };

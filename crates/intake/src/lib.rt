@@ -10,17 +10,13 @@ ghost use Rattle.spec_bay.specs.Called.{called};
 ghost use Rattle.spec_bay.specs.Stretch.{terms};
 ghost use Rattle.spec_box.specs.Box.{admit, release, tick, save, restore, forget, service, panel, preview, ledger, newYear, callOf};
 ghost use Rattle.spec_unroll.specs.Call.{unrolling, unrollOf};
-use layout::SecondParts;
-use notes::Notes;
 
 // The check of a sequence with a read-back set: 0, or the number of the row that turns it down.
 #[no_mangle]
 pub extern "C" fn intake_check(sequence: &[u8], read_back: u32) -> u8
     ensures { λ r. ⌜ r ≡ checkOf (now (sequence .entry)) «read_back» ⌝ }
 {
-    let mut second: SecondParts = [0; limits::MAX_BYTES];
-    let mut notes: Notes = [0; notes::LENGTH];
-    checks::check(sequence, read_back, &mut second, &mut notes)
+    checks::number(sequence, read_back)
 }
 
 // The ceiling on the reactions of an instant: 0 for a sequence that the check turns down.

@@ -12,7 +12,7 @@ use Rattle.spec_tick.specs.Demands.{stateAfterwards}
 use Rattle.spec_programs.specs.File.{sequenceIn, readBackIn, inputsIn, first}
 use Rattle.spec_programs.specs.Listing.{lineOf, entryRead, entryFrom, ticked, isOver}
 use Rattle.spec_programs.specs.Stages as Listing
-use Rattle.theory_programs.proofs.Files.{input-next}
+use Rattle.files.proofs.Files.{input-next}
 use Rattle.listing.specs.declared.Stage.the-variants as stages
 use Rattle.listing.specs.Stages.{stageBy, stageIn, stageAfter}
 use Rattle.listing.specs.declared.Piece.{Piece}

@@ -79,7 +79,7 @@ pub fn open(file: &[u8]) -> Opened
         return Opened::Cut;
     }
     let read_back = files::read_back(file);
-    let number = intake::intake_check(files::sequence(file), read_back);
+    let number = checks::number(files::sequence(file), read_back);
     if number == 0 {
         return Opened::Runs;
     }
@@ -100,7 +100,7 @@ pub fn instant(file: &[u8], i: usize, e: u32, state: [u8; STATE_LENGTH]) -> Piec
     let mut after = state;
     let mut answer = [0u8; ANSWER_LENGTH];
     let read_back = files::read_back(file);
-    intake::intake_tick(files::sequence(file), &mut after, e, read_back, &mut answer);
+    instants::tick(files::sequence(file), &mut after, e, read_back, &mut answer);
     let line = lines::line_behind(i, &after, &answer);
     let run = Run {
         stage: following(records::phase(&after), i + 1),

@@ -1,9 +1,11 @@
 // An instant of a program (02, item 5): the read-back declarations outside, the lowest outermost, and the sequence, which reacts or
 // resumes, inside.
 ghost use mathlib.Core.Path.{_≡_};
-ghost use Rattle.spec_base.specs.Limits.{maxDepth};
+ghost use lib.ListN.{replicate};
+ghost use Rattle.spec_base.specs.Limits.{maxDepth, signalCount};
 ghost use Rattle.layout.specs.Layout.{Ready};
 ghost use Rattle.program.specs.Program.{Inside, Reacted, ReactedWithoutLitres};
+ghost use Rattle.program.specs.Deliveries.{Instant};
 use labels::Labels;
 use layout::SecondParts;
 use reaction::Deliveries;
@@ -69,6 +71,28 @@ pub fn react(
     } else {
         declarations::in_read_back_once(p)
     }
+}
+
+// An instant with the litres of each farm (02, item 12); a wrong one delivers nothing.
+pub fn instant(
+    s: &[u8],
+    origin: Start,
+    input: u32,
+    read_back: u32,
+    litres: &mut Deliveries,
+    second: &SecondParts,
+) -> Reaction
+    requires { ⌜ Ready (now second) maxDepth 0 (now s) ⌝ }
+    requires { ⌜ now litres ≡ replicate signalCount 0 ⌝ }
+    ensures { λ r. ⌜ Instant (now (second .entry)) (now (s .entry)) origin input «read_back» r (now (litres .exit)) ⌝ }
+{
+    let r = react(s, origin, input, read_back, litres, second);
+    let k = r.completion;
+    if reaction::is_wrong(k) {
+        *litres = [0; limits::FARMS];
+        return r;
+    }
+    r
 }
 
 // The reaction alone, for a caller that keeps no ledger.

@@ -17,6 +17,7 @@ use Rattle.records.proofs.StateLaws.{state-sized}
 use Rattle.records.proofs.AnswerLaws.{answer-sized}
 use Rattle.spec_tick.specs.Tick.{outcome}
 use Rattle.instants.specs.declared.Standing.the-variants as stands
+use Rattle.program.specs.declared.Start.the-variants as starts
 use Rattle.spec_tick.specs.Record.{recordLength, recordOf}
 use Rattle.spec_tick.specs.Recording.{recordFrom}
 use Rattle.records.proofs.Records.{record-sized}
@@ -34,17 +35,17 @@ record-made n e i k state answer w room made l m =
 
 -- ---- where the machine stands
 module _ (notes : List ℕ) {k : Completion} (L : ℕ) where
-  pub after-ended : k ≡ Ended → StandsAfter notes k L stands.Over
-  after-ended e = subst (λ (x : Completion). StandsAfter notes x L stands.Over) (sym e) refl
+  pub after-ended : k ≡ Ended → StandsAfter notes k L (stands.Refused 12)
+  after-ended e = subst (λ (x : Completion). StandsAfter notes x L (stands.Refused 12)) (sym e) refl
 
-  pub after-leaving : {n : ℕ} → k ≡ Leaving n → StandsAfter notes k L stands.Over
-  after-leaving e = subst (λ (x : Completion). StandsAfter notes x L stands.Over) (sym e) refl
+  pub after-leaving : {n : ℕ} → k ≡ Leaving n → StandsAfter notes k L (stands.Refused 12)
+  after-leaving e = subst (λ (x : Completion). StandsAfter notes x L (stands.Refused 12)) (sym e) refl
 
-  pub after-wrong : {kind place : ℕ} → k ≡ Wrong kind place → StandsAfter notes k L stands.Over
-  after-wrong e = subst (λ (x : Completion). StandsAfter notes x L stands.Over) (sym e) refl
+  pub after-wrong : {kind place : ℕ} → k ≡ Wrong kind place → StandsAfter notes k L (stands.Refused 12)
+  after-wrong e = subst (λ (x : Completion). StandsAfter notes x L (stands.Refused 12)) (sym e) refl
 
   pub has-ranks : k ≡ Waiting → RankedAfter notes k L → Ranked notes L
   has-ranks e h = subst (λ (x : Completion). RankedAfter notes x L) e h
 
-  pub after-waiting : k ≡ Waiting → (m : Labels) → Masked notes L (labelSet m) → StandsAfter notes k L (stands.Waiting m)
-  after-waiting e m h = subst (λ (x : Completion). StandsAfter notes x L (stands.Waiting m)) (sym e) (m, refl, h)
+  pub after-waiting : k ≡ Waiting → (m : Labels) → Masked notes L (labelSet m) → StandsAfter notes k L (stands.From (starts.Waiting m))
+  after-waiting e m h = subst (λ (x : Completion). StandsAfter notes x L (stands.From (starts.Waiting m))) (sym e) (m, refl, h)

@@ -10,10 +10,10 @@ use borrow.Author.Tests.{ne-eqb}
 use Rattle.spec_language.specs.Instants as Instants
 use Rattle.spec_language.specs.Instants.{Instant}
 use Rattle.theory_language.specs.Traced.{instantOf, startTraced}
-use Rattle.theory_language.specs.RankedExpansion.{expandBy}
 use Rattle.spec_language.specs.Machines.{State}
 use Rattle.labels.specs.Labels.{labelSet}
-use Rattle.labels.specs.declared.Labels.{Labels}
+use Rattle.program.specs.declared.Start.{Start}
+use Rattle.program.specs.Program.{termAt}
 use Rattle.spec_sequence.specs.Program.{program}
 use Rattle.checks.specs.Verdict.{Passed}
 use Rattle.reaction.specs.declared.Reaction.{Reaction}
@@ -21,7 +21,7 @@ use Rattle.reaction.specs.Reactions.{reactionOf}
 use Rattle.reaction.specs.declared.Completion.{Completion}
 use Rattle.reaction.specs.declared.Completion.the-variants.{Ended, Waiting, Leaving, Wrong}
 use Rattle.instants.specs.Written.{Writable, writtenBy, writtenFrom}
-use Rattle.spec_tick.specs.StateRecord.{encodeState}
+use Rattle.spec_tick.specs.StateRecord.{encodeState, decodeState}
 use Rattle.records.proofs.StateLaws.{length-state}
 use Rattle.spec_tick.specs.Tick as tick
 use Rattle.spec_tick.specs.Tick.{Outcome, outcome, written, replyOf, replied, tickBy}
@@ -31,7 +31,7 @@ use Rattle.instants.specs.declared.Standing.{Standing}
 use Rattle.instants.specs.declared.Reply.{Reply}
 use Rattle.instants.specs.declared.Reply.the-variants.{Refused, Reacted}
 use Rattle.instants.specs.Replies.{Decodes, repliedFrom, Replies}
-use Rattle.instants.proofs.Replying.{replied-from, malformed-reply, over-reply, fresh-reply, waiting-reply}
+use Rattle.instants.proofs.Replying.{replied-from, decoded, refused-reply, started-reply, turned-not-0}
 use Rattle.spec_tick.specs.Record.{inputIn}
 use Rattle.spec_tick.specs.Recording.{blank, tickOn, recordFrom}
 use Rattle.spec_replay.specs.Replay.{same}
@@ -59,13 +59,10 @@ module _ (sequence : List ℕ) (readBack : ℕ) {second notes : List ℕ} (h : P
   stood : Decodes (h .p) state standing
   stood = k .decodes
 
-  pub fresh-replies : standing ≡ stands.Fresh → (e : ℕ) (i : Reaction) → i ≡ reactionOf (startTraced 0 (program readBack (h .p)) e)
-      → Replies sequence state e readBack (Reacted i)
-  fresh-replies q e i w = fresh-reply sequence state e readBack (h .p) (h .is) (h .ranged) 0 i (subst (Decodes (h .p) state) q stood) w
-
-  pub waiting-replies : (m : Labels) → standing ≡ stands.Waiting m → (e : ℕ) (i : Reaction)
-      → i ≡ reactionOf (startTraced 0 (program readBack (expandBy 0 (h .p) (labelSet m))) e) → Replies sequence state e readBack (Reacted i)
-  waiting-replies m q e i w = waiting-reply sequence state e readBack (h .p) (h .is) (h .ranged) 0 i m (subst (Decodes (h .p) state) q stood) w
+  pub start-replies : (start : Start) → standing ≡ stands.From start → (e : ℕ) (i : Reaction)
+      → i ≡ reactionOf (startTraced 0 (program readBack (termAt start (h .p))) e) → Replies sequence state e readBack (Reacted i)
+  start-replies start q e i w =
+      started-reply sequence state e readBack (h .p) (h .is) (h .ranged) 0 i start (subst (Decodes (h .p) state) q stood) w
 
   -- what the comparison asks of an instant
   pub comparable : (e : ℕ) (i : Reaction) → Replies sequence state e readBack (Reacted i)
@@ -94,15 +91,12 @@ module _ (sequence : List ℕ) (readBack : ℕ) {second notes : List ℕ} (h : P
         ap (isRecord n r) (sym (as-tick (Refused m) q))
         ∙ ap (λ (b : Bool). b && same r (recordFrom n (inputIn r) (outcome m state blank))) (ne-eqb m 0 z)
 
-    pub over-differs : standing ≡ stands.Over → FollowsFrom (h .p) sequence readBack n r s Differs
-    over-differs q =
-        not-a-record 12 (λ z. omega arith)
-        (over-reply sequence state (inputIn r) readBack (h .p) (h .is) (h .ranged) (subst (Decodes (h .p) state) q stood))
-
-    pub malformed-differs : standing ≡ stands.Malformed → FollowsFrom (h .p) sequence readBack n r s Differs
-    malformed-differs q =
-        not-a-record 11 (λ z. omega arith)
-        (malformed-reply sequence state (inputIn r) readBack (h .p) (h .is) (h .ranged) (subst (Decodes (h .p) state) q stood))
+    pub refused-differs : (m : ℕ) → standing ≡ stands.Refused m → FollowsFrom (h .p) sequence readBack n r s Differs
+    refused-differs m q =
+        let d = subst (Decodes (h .p) state) q stood in
+        not-a-record m (turned-not-0 (h .p) (decodeState (h .p) state) 0 m (d (h .p) 0))
+        (refused-reply sequence state (inputIn r) readBack m
+        (decoded sequence state readBack h (stands.Refused m) d (inputIn r)))
 
     -- an instant's record is the tick's
     is-record : (i : Reaction) → Replies sequence state (inputIn r) readBack (Reacted i)

@@ -36,13 +36,14 @@ use Rattle.reaction.specs.declared.Reaction.{Reaction}
 use Rattle.reaction.specs.Reactions.{reactionOf}
 use Rattle.spec_base.specs.Bytes.{leBytes}
 use Rattle.numbers.proofs.Bytes.{le-round-trip}
-use Rattle.spec_tick.specs.StateRecord.{labelsIn, encodeState, holds, Recorded}
+use Rattle.spec_tick.specs.StateRecord.{labelsIn, encodeState, Decoded, holds, Recorded}
 use Rattle.records.proofs.StateLaws.{decode-encode}
 use Rattle.spec_tick.specs.Tick.{reacts, byState, byCheck, replyOf}
 use Rattle.theory_tick.proofs.Bounds.{valid-below}
 use Rattle.theory_tick.proofs.Sequence.{Accepted, accepted, recorded-fresh, recorded-resumed}
 use Rattle.instants.specs.declared.Standing.{Standing}
 use Rattle.instants.specs.declared.Standing.the-variants as stands
+use Rattle.program.specs.declared.Start.the-variants as starts
 use Rattle.instants.specs.Replies.{Decodes}
 use Rattle.replay_call.specs.Comparing.{RankedAfter, StandsAfter}
 
@@ -117,10 +118,12 @@ module _ (p : Statement) (ranged : Ranged p) {t notes bs : List ℕ} (k : Known 
   decodes-after j i q r s h =
       go j r (subst (λ (x : Reaction). StandsAfter notes (x .completion) (labelSet (x .labels)) s) q h)
     where
-      over : (s : Standing) → s ≡ stands.Over → Decodes p (encodeState State.over) s
-      over s e = subst (Decodes p (encodeState State.over)) (sym e) (decode-encode p State.over tt)
+      over : (s : Standing) → s ≡ stands.Refused 12 → Decodes p (encodeState State.over) s
+      over s e =
+          subst (Decodes p (encodeState State.over)) (sym e)
+          (λ q e. ap (λ (d : Decoded). byState inheritanceFirst q d e) (decode-encode p State.over tt))
 
-      waits : (l : ℕ) → Recorded p (State.waits l) → (m : Labels) → Masked notes l (labelSet m) → Decodes p (encodeState (State.waits l)) (stands.Waiting m)
+      waits : (l : ℕ) → Recorded p (State.waits l) → (m : Labels) → Masked notes l (labelSet m) → Decodes p (encodeState (State.waits l)) (stands.From (starts.Waiting m))
       waits l r m w =
           let e = labels-recorded p l r in (
             decode-encode p (State.waits l) r ∙ ap (λ (x : ℕ). holds (State.waits x)) (sym e),

@@ -20,6 +20,7 @@ use Rattle.spec_tick.specs.Recording.{following, tickOn, recordFrom, recordsFro
 use Rattle.spec_replay.specs.Replay.{firstRecords, same, firstDifference, placeOf}
 use Rattle.instants.specs.declared.Standing.{Standing}
 use Rattle.instants.specs.declared.Standing.the-variants as stands
+use Rattle.program.specs.declared.Start.the-variants as starts
 use Rattle.replay_call.specs.declared.Next.the-variants.{Differs, Stands}
 use Rattle.replay_call.specs.Following.{isRecord, Holds, FollowsFrom, placeFrom}
 
@@ -95,5 +96,5 @@ module _ (sequence : List ℕ) (readBack : ℕ) where
           )
 
 -- a fresh machine
-pub begins : (p : Statement) → Holds p State.fresh stands.Fresh
+pub begins : (p : Statement) → Holds p State.fresh (stands.From starts.Fresh)
 begins p = record { recorded = tt; decodes = decode-encode p State.fresh tt }

@@ -12,6 +12,7 @@ use Rattle.validity.specs.Activity.{Ranked, Masked}
 use Rattle.instants.specs.Written.{writtenFrom}
 use Rattle.instants.specs.declared.Standing.{Standing}
 use Rattle.instants.specs.declared.Standing.the-variants as stands
+use Rattle.program.specs.declared.Start.the-variants as starts
 use Rattle.spec_tick.specs.Recording.{recordFrom}
 use Rattle.spec_replay.specs.Replay.{same}
 use Rattle.replay_call.specs.declared.Next.{Next}
@@ -26,10 +27,10 @@ RankedAfter notes (Leaving n) L = Unit {0}
 RankedAfter notes (Wrong kind place) L = Unit {0}
 
 abbrev pub StandsAfter : (notes : List ℕ) → Completion → (L : ℕ) → Standing → Type 0
-StandsAfter notes Ended L s = s ≡ stands.Over
-StandsAfter notes Waiting L s = (m : Labels) × (s ≡ stands.Waiting m) × Masked notes L (labelSet m)
-StandsAfter notes (Leaving n) L s = s ≡ stands.Over
-StandsAfter notes (Wrong kind place) L s = s ≡ stands.Over
+StandsAfter notes Ended L s = s ≡ stands.Refused 12
+StandsAfter notes Waiting L s = (m : Labels) × (s ≡ stands.From (starts.Waiting m)) × Masked notes L (labelSet m)
+StandsAfter notes (Leaving n) L s = s ≡ stands.Refused 12
+StandsAfter notes (Wrong kind place) L s = s ≡ stands.Refused 12
 
 -- the record r against that of instant n on e, and where the machine then stands
 abbrev pub Compared : (notes : List ℕ) (n e : ℕ) (r : List ℕ) (i : Reaction) → Next → Type 0

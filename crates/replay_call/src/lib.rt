@@ -5,9 +5,6 @@ ghost use Rattle.labels.specs.Labels.{labelSet};
 ghost use Rattle.instants.specs.Written.{Writable};
 ghost use Rattle.spec_replay.specs.Replay.{same as Replay·same, placeOf, replayed, replayOf};
 ghost use Rattle.replay_call.specs.Comparing.{RankedAfter, StandsAfter, Compared};
-ghost use Rattle.spec_base.specs.Limits.{maxDepth};
-ghost use Rattle.layout.specs.Layout.{Ready};
-ghost use Rattle.program.specs.Program.{ReactedWithoutLitres};
 ghost use Rattle.replay_call.specs.Following.{Stood, Follows};
 ghost use Rattle.checks.specs.Verdict.{Passed};
 use instants::Standing;
@@ -45,13 +42,13 @@ fn after(r: Reaction, notes: &Notes) -> Standing
 {
     let k = r.completion;
     match k {
-        Completion::Ended => Standing::Over,
+        Completion::Ended => Standing::Refused(12),
         Completion::Waiting => {
             let labels = r.labels;
-            Standing::Waiting(validity::ranks(labels, notes))
+            Standing::From(Start::Waiting(validity::ranks(labels, notes)))
         }
-        Completion::Leaving(_) => Standing::Over,
-        Completion::Wrong(_, _) => Standing::Over,
+        Completion::Leaving(_) => Standing::Refused(12),
+        Completion::Wrong(_, _) => Standing::Refused(12),
     }
 }
 
@@ -78,20 +75,6 @@ pub fn compare(notes: &Notes, number: u32, input: u32, trace: &[u8], r: Reaction
     }
 }
 
-// An instant, with no farm asked for: litres play no part.
-fn instant(
-    sequence: &[u8],
-    origin: Start,
-    input: u32,
-    read_back: u32,
-    second: &SecondParts,
-) -> Reaction
-    requires { ⌜ Ready (now second) maxDepth 0 (now sequence) ⌝ }
-    ensures { λ r. ⌜ ReactedWithoutLitres (now (second .entry)) (now (sequence .entry)) origin input «read_back» r ⌝ }
-{
-    program::react_without_litres(sequence, origin, input, read_back, second)
-}
-
 // The record of an instant on the input recorded, from where the machine stands.
 pub fn follow(
     sequence: &[u8],
@@ -108,22 +91,14 @@ pub fn follow(
 {
     let input = records::input(trace);
     match standing {
-        Standing::Fresh => compare(
+        Standing::Refused(_) => Next::Differs,
+        Standing::From(start) => compare(
             notes,
             number,
             input,
             trace,
-            instant(sequence, Start::Fresh, input, read_back, second),
+            program::react_without_litres(sequence, start, input, read_back, second),
         ),
-        Standing::Waiting(active) => compare(
-            notes,
-            number,
-            input,
-            trace,
-            instant(sequence, Start::Waiting(active), input, read_back, second),
-        ),
-        Standing::Over => Next::Differs,
-        Standing::Malformed => Next::Differs,
     }
 }
 
@@ -138,7 +113,7 @@ fn first_difference(
     requires { ⌜ Passed (now sequence) «read_back» (now second) (now notes) ⌝ }
     ensures { λ r. ⌜ r ≡ placeOf (now (sequence .entry)) «read_back» (now (recording .entry)) ⌝ }
 {
-    let mut standing = Standing::Fresh;
+    let mut standing = Standing::From(Start::Fresh);
     let mut number: u32 = 1;
     let mut place: usize = 1;
     let mut at: usize = 0;

@@ -22,7 +22,7 @@ pub fn verdict(file: &[u8]) -> Line
     let recording = numbers::part(file, at, n - at);
     let read_back = files::read_back(file);
     let mut place: usize = 0;
-    let number = intake::intake_replay(files::sequence(file), read_back, recording, &mut place);
+    let number = replay_call::replay(files::sequence(file), read_back, recording, &mut place);
     if number != 0 {
         return lines::refusal(number);
     }

@@ -1,4 +1,3 @@
-pub mod Files
 pub mod Paper
 pub mod Theorems
 pub mod Turns

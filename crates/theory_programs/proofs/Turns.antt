@@ -12,7 +12,7 @@ use Rattle.spec_sequence.specs.Check.{checkOf}
 use Rattle.spec_programs.specs.File.{File, cut, refused, runs, byNumber, fileOf, whole, sequenceIn, readBackIn, inputsIn}
 use Rattle.spec_programs.specs.Listing.{entryFrom, lineOf, ticked, isOver, entries, lines, listed, listingOf}
 use Rattle.spec_programs.specs.Stages.{Stage, opening, running, closing, finished, opened, turnOf, turns}
-use Rattle.theory_programs.proofs.Files.{inputs-length}
+use Rattle.files.proofs.Files.{inputs-length}
 
 -- the text still to come
 abbrev rest : Stage → List ℕ

@@ -19,12 +19,11 @@ pub fn unroll(file: &[u8], buffer: &mut [u8]) -> Answer
         return Answer::Cut;
     }
     let read_back = files::read_back(file);
-    let mut count: usize = 0;
-    let number = intake::intake_unroll(files::sequence(file), read_back, buffer, &mut count);
-    if number == 0 {
-        return Answer::Unrolled(count);
+    let w = unroll_call::unroll(files::sequence(file), read_back, buffer);
+    if w.number == 0 {
+        return Answer::Unrolled(w.count);
     }
-    Answer::Refused(number)
+    Answer::Refused(w.number)
 }
 
 // The two bytes that begin a file: the length of its sequence.

@@ -36,7 +36,7 @@ fn call(
     if answer.len() < answer_length {
         return 255;
     }
-    intake::intake_tick(
+    instants::tick(
         &sequence[0..sequence_length],
         &mut state[0..state_length],
         input,

@@ -13,17 +13,17 @@ state-requires c κs = search needs
 read-back-requires : tie.Need-read-back-requires
 read-back-requires c κs = search needs
 
-reply-with-requires : tie.Need-reply-with-requires
-reply-with-requires c κs = search needs
+reply-to-requires : tie.Need-reply-to-requires
+reply-to-requires c κs = search needs
 
 returns : tie.Need-returns
 returns c = (
-  on-fields (c .before .before .before .before .before .sequence .ensures) (c .before .before .before .before .state .ensures) (c .before .before .before .read-back .ensures) (c .reply-with .ensures .0),
-  delivers-on _ _ (c .reply-with .last .1 .1 .1 .1 .1 .0) (c .before .before .before .before .before .sequence .ensures) (c .before .before .before .before .state .ensures) (c .before .before .before .read-back .ensures)
-      (c .reply-with .ensures .1),
+  on-fields (c .before .before .before .before .before .sequence .ensures) (c .before .before .before .before .state .ensures) (c .before .before .before .read-back .ensures) (c .reply-to .ensures .0),
+  delivers-on _ _ (c .reply-to .last .1 .1 .1 .1 .1 .0) (c .before .before .before .before .before .sequence .ensures) (c .before .before .before .before .state .ensures) (c .before .before .before .read-back .ensures)
+      (c .reply-to .ensures .1),
 )
 
 pub reply-with-spec : {M : Type 1} → statement M
 reply-with-spec =
     tie.close
-    (tie.spec sequence-requires state-requires read-back-requires reply-with-requires returns)
+    (tie.spec sequence-requires state-requires read-back-requires reply-to-requires returns)

@@ -1,5 +1,5 @@
 use native.Mathlib.Omega.{arith}
-use Rattle.theory_programs.proofs.Files.{no-input, an-input}
+use Rattle.files.proofs.Files.{no-input, an-input}
 use borrow.Author.Needs.{needs}
 use Rattle.files.proofs.input_at.Statement.{statement}
 use Rattle.files.proofs.input_at.Tie as tie

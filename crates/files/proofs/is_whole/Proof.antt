@@ -1,4 +1,4 @@
-use Rattle.theory_programs.proofs.Files.{too-long, too-short, ended-early, bytes-over}
+use Rattle.files.proofs.Files.{too-long, too-short, ended-early, bytes-over}
 use borrow.Author.Needs.{needs}
 use Rattle.files.proofs.is_whole.Statement.{statement}
 use Rattle.files.proofs.is_whole.Tie as tie

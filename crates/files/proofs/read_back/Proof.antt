@@ -1,4 +1,4 @@
-use Rattle.theory_programs.proofs.Files.{read-back-part}
+use Rattle.files.proofs.Files.{read-back-part}
 use borrow.Author.Needs.{needs}
 use Rattle.files.proofs.read_back.Statement.{statement}
 use Rattle.files.proofs.read_back.Tie as tie

@@ -1,4 +1,4 @@
-use Rattle.theory_programs.proofs.Files.{sequence-part}
+use Rattle.files.proofs.Files.{sequence-part}
 use borrow.Author.Needs.{needs}
 use Rattle.files.proofs.sequence.Statement.{statement}
 use Rattle.files.proofs.sequence.Tie as tie

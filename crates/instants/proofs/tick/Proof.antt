@@ -20,16 +20,16 @@ enum-known-reaction c = search needs
 
 finish-requires : tie.Need-finish-requires
 finish-requires c κs =
-    let l = lengths _ _ (sym (c .before .before .before .before .before .before .before .before .fit .ensures) ∙ c .before .before .before .before .before .before .before .if1 .taken) in
-    (l .0, l .1, subst (Replies _ _ _ _) (c .before .before .before .reaction .given .1) (c .before .before .before .before .before .reply-to .ensures) .writable)
+    let l = lengths _ _ (sym (c .before .before .before .before .before .before .before .before .before .before .fit .ensures) ∙ c .before .before .before .before .before .before .before .before .before .if1 .taken) in
+    (l .0, l .1, subst (Replies _ _ _ _) (c .before .before .before .reaction .given .1) (c .before .before .before .before .before .reply-to .ensures .0) .writable)
 
 same-length : tie.Need-same-length
 same-length c = search needs
 
 returns : tie.Need-returns
 returns c =
-    let r = subst (Replies _ _ _ _) (c .before .number .given .1) (c .before .before .before .reply-to .ensures) in
-    as-replied _ _ _ _ _ (sym (c .before .before .before .before .before .before .fit .ensures) ∙ c .before .before .before .before .before .if1 .taken) (Refused _) r
+    let r = subst (Replies _ _ _ _) (c .before .number .given .1) (c .before .before .before .reply-to .ensures .0) in
+    as-replied _ _ _ _ _ (sym (c .before .before .before .before .before .before .before .before .fit .ensures) ∙ c .before .before .before .before .before .before .before .if1 .taken) (Refused _) r
 
 same-length-2 : tie.Need-same-length-2
 same-length-2 c = search needs
@@ -39,8 +39,8 @@ same-length-3 c = search needs
 
 returns-2 : tie.Need-returns-2
 returns-2 c =
-    let r = subst (Replies _ _ _ _) (c .before .before .before .before .before .before .before .before .reaction .given .1) (c .before .before .before .before .before .before .before .before .before .before .reply-to .ensures) in
-    c .before .before .before .before .finish .ensures ∙ as-replied _ _ _ _ _ (sym (c .before .before .before .before .before .before .before .before .before .before .before .before .before .fit .ensures) ∙ c .before .before .before .before .before .before .before .before .before .before .before .before .if1 .taken) (Reacted _) r
+    let r = subst (Replies _ _ _ _) (c .before .before .before .before .before .before .before .before .reaction .given .1) (c .before .before .before .before .before .before .before .before .before .before .reply-to .ensures .0) in
+    c .before .before .before .before .finish .ensures ∙ as-replied _ _ _ _ _ (sym (c .before .before .before .before .before .before .before .before .before .before .before .before .before .before .before .fit .ensures) ∙ c .before .before .before .before .before .before .before .before .before .before .before .before .before .before .if1 .taken) (Reacted _) r
 
 returns-3 : tie.Need-returns-3
 returns-3 c = unfit _ _ _ _ _ (sym (c .before .fit .ensures) ∙ c .if1 .left)

@@ -5,7 +5,7 @@ use Rattle.spec_tick.specs.Tick.{outcome}
 use Rattle.spec_programs.specs.File.{sequenceIn, readBackIn}
 use Rattle.spec_programs.specs.Listing.{ticked}
 use Rattle.spec_programs.specs.Stages as Listing
-use Rattle.theory_programs.proofs.Files.{input-within}
+use Rattle.files.proofs.Files.{input-within}
 use Rattle.listing.specs.declared.Stage.{Stage}
 use Rattle.listing.specs.Stages.{stageBy, stageAfter}
 use Rattle.listing.specs.declared.Piece.{Piece}
@@ -21,14 +21,14 @@ read-back-requires c κs = search needs
 sequence-requires : tie.Need-sequence-requires
 sequence-requires c κs = search needs
 
-slice-aggregate-intake-tick : tie.Need-slice-aggregate-intake-tick
-slice-aggregate-intake-tick c = search needs
+slice-aggregate-tick : tie.Need-slice-aggregate-tick
+slice-aggregate-tick c = search needs
 
-slice-aggregate-intake-tick-2 : tie.Need-slice-aggregate-intake-tick-2
-slice-aggregate-intake-tick-2 c = search needs
+slice-aggregate-tick-2 : tie.Need-slice-aggregate-tick-2
+slice-aggregate-tick-2 c = search needs
 
-intake-tick-requires : tie.Need-intake-tick-requires
-intake-tick-requires c κs = search needs
+tick-requires : tie.Need-tick-requires
+tick-requires c κs = search needs
 
 slice-aggregate-line-behind : tie.Need-slice-aggregate-line-behind
 slice-aggregate-line-behind c = search needs
@@ -59,7 +59,7 @@ following-requires c κs = search needs
 
 returns : tie.Need-returns
 returns c =
-    let t = c .before .before .before .before .before .before .before .before .intake-tick in
+    let t = c .before .before .before .before .before .before .before .before .tick in
     let q = c .before .before .before .before .before .before .before .before .before .before .before in
     let s = q .before .before .before in
     let a = s .args in
@@ -77,9 +77,9 @@ instant-spec =
     (tie.spec
     read-back-requires
     sequence-requires
-    slice-aggregate-intake-tick
-    slice-aggregate-intake-tick-2
-    intake-tick-requires
+    slice-aggregate-tick
+    slice-aggregate-tick-2
+    tick-requires
     slice-aggregate-line-behind
     slice-aggregate-line-behind-2
     line-behind-requires

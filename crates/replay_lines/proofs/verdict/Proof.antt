@@ -31,8 +31,8 @@ read-back-requires c κs = search needs
 sequence-requires : tie.Need-sequence-requires
 sequence-requires c κs = search needs
 
-intake-replay-requires : tie.Need-intake-replay-requires
-intake-replay-requires c κs = search needs
+replay-requires : tie.Need-replay-requires
+replay-requires c κs = search needs
 
 refusal-requires : tie.Need-refusal-requires
 refusal-requires c κs = search needs
@@ -42,7 +42,7 @@ returns-3 c =
     let r = c .before .before in
     let i = r .before .before .before .before .before .before .inputs-begin in
     subst (Displays _)
-    (refused (r .before .before .before .before .before .before .before .before .before .args .file .now) (r .before .before .before .before .before .before .before .if1 .left) (i .result) (i .ensures .0) (r .before .before .before .before .before .if2 .left) _ _ _ (r .before .before .before .before .part .ensures) (r .before .before .sequence .ensures) (r .before .before .before .read-back .ensures) _ _ (r .intake-replay .ensures)
+    (refused (r .before .before .before .before .before .before .before .before .before .args .file .now) (r .before .before .before .before .before .before .before .if1 .left) (i .result) (i .ensures .0) (r .before .before .before .before .before .if2 .left) _ _ _ (r .before .before .before .before .part .ensures) (r .before .before .sequence .ensures) (r .before .before .before .read-back .ensures) _ _ (r .replay .ensures)
     (c .before .if3 .taken))
     (c .refusal .ensures)
 
@@ -57,7 +57,7 @@ returns-4 c =
     let r = c .before .before .before .before in
     let i = r .before .before .before .before .before .before .inputs-begin in
     subst (Displays _)
-    (accepted (r .before .before .before .before .before .before .before .before .before .args .file .now) (r .before .before .before .before .before .before .before .if1 .left) (i .result) (i .ensures .0) (r .before .before .before .before .before .if2 .left) _ _ _ (r .before .before .before .before .part .ensures) (r .before .before .sequence .ensures) (r .before .before .before .read-back .ensures) _ _ (r .intake-replay .ensures)
+    (accepted (r .before .before .before .before .before .before .before .before .before .args .file .now) (r .before .before .before .before .before .before .before .if1 .left) (i .result) (i .ensures .0) (r .before .before .before .before .before .if2 .left) _ _ _ (r .before .before .before .before .part .ensures) (r .before .before .sequence .ensures) (r .before .before .before .read-back .ensures) _ _ (r .replay .ensures)
     (c .before .before .before .if3 .left) (c .before .before .if4 .taken))
     (c .numbered .ensures)
 
@@ -72,7 +72,7 @@ returns-5 c =
     let r = c .before .before .before .before in
     let i = r .before .before .before .before .before .before .inputs-begin in
     subst (Displays _)
-    (differs (r .before .before .before .before .before .before .before .before .before .args .file .now) (r .before .before .before .before .before .before .before .if1 .left) (i .result) (i .ensures .0) (r .before .before .before .before .before .if2 .left) _ _ _ (r .before .before .before .before .part .ensures) (r .before .before .sequence .ensures) (r .before .before .before .read-back .ensures) _ _ (r .intake-replay .ensures)
+    (differs (r .before .before .before .before .before .before .before .before .before .args .file .now) (r .before .before .before .before .before .before .before .if1 .left) (i .result) (i .ensures .0) (r .before .before .before .before .before .if2 .left) _ _ _ (r .before .before .before .before .part .ensures) (r .before .before .sequence .ensures) (r .before .before .before .read-back .ensures) _ _ (r .replay .ensures)
     (c .before .before .before .if3 .left) (c .before .before .if4 .left))
     (c .numbered2 .ensures)
 
@@ -88,7 +88,7 @@ verdict-spec =
     part-requires
     read-back-requires
     sequence-requires
-    intake-replay-requires
+    replay-requires
     refusal-requires
     returns-3
     slice-aggregate-numbered

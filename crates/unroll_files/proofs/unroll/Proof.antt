@@ -22,8 +22,8 @@ read-back-requires c κs = search needs
 sequence-requires : tie.Need-sequence-requires
 sequence-requires c κs = search needs
 
-intake-unroll-requires : tie.Need-intake-unroll-requires
-intake-unroll-requires c κs = search needs
+unroll-requires : tie.Need-unroll-requires
+unroll-requires c κs = search needs
 
 same-length : tie.Need-same-length
 same-length c = search needs
@@ -32,7 +32,7 @@ returns-2 : tie.Need-returns-2
 returns-2 c =
     let a = c .before .before .before .before .before .before .before .before .before .before .before .before .args in
     let w = c .before .before .before .before .before .before .before .before .before .is-whole in
-    let e = c .before .before .before .intake-unroll .ensures ∙ ap₂ (λ (s : List ℕ) (r : ℕ). unrollOf s r (a .buffer .now)) (c .before .before .before .before .before .before .sequence .ensures) (c .before .before .before .before .before .before .before .read-back .ensures) in
+    let e = c .before .before .before .before .unroll .ensures ∙ ap₂ (λ (s : List ℕ) (r : ℕ). unrollOf s r (a .buffer .now)) (c .before .before .before .before .before .before .sequence .ensures) (c .before .before .before .before .before .before .before .read-back .ensures) in
     written-output (a .file .now) (a .buffer .now) (sym (w .ensures) ∙ not-false (w .result) (c .before .before .before .before .before .before .before .before .if1 .left)) e (c .if2 .taken)
 
 same-length-2 : tie.Need-same-length-2
@@ -42,7 +42,7 @@ returns-3 : tie.Need-returns-3
 returns-3 c =
     let a = c .before .before .before .before .before .before .before .before .before .before .before .before .args in
     let w = c .before .before .before .before .before .before .before .before .before .is-whole in
-    let e = c .before .before .before .intake-unroll .ensures ∙ ap₂ (λ (s : List ℕ) (r : ℕ). unrollOf s r (a .buffer .now)) (c .before .before .before .before .before .before .sequence .ensures) (c .before .before .before .before .before .before .before .read-back .ensures) in
+    let e = c .before .before .before .before .unroll .ensures ∙ ap₂ (λ (s : List ℕ) (r : ℕ). unrollOf s r (a .buffer .now)) (c .before .before .before .before .before .before .sequence .ensures) (c .before .before .before .before .before .before .before .read-back .ensures) in
     refused-output (a .file .now) (a .buffer .now) (sym (w .ensures) ∙ not-false (w .result) (c .before .before .before .before .before .before .before .before .if1 .left)) e (c .if2 .left)
 
 pub unroll-spec : {M : Type 1} → statement M
@@ -53,7 +53,7 @@ unroll-spec =
     returns
     read-back-requires
     sequence-requires
-    intake-unroll-requires
+    unroll-requires
     same-length
     returns-2
     same-length-2

@@ -3,11 +3,12 @@ use Prim.Native.Nat.{ℕ, _<_}
 use mathlib.Core.Path.{_≡_}
 use mathlib.Core.List.{List}
 use lib.ListN.{getD}
+use Rattle.spec_base.specs.Limits.{signalCount}
 use Rattle.reaction.specs.Reactions.{cappedOf}
 use Rattle.spec_tick.specs.Deliveries.{deliveries}
-use Rattle.spec_bay.specs.Ledgers.{farmCount, NoneOutside}
+use Rattle.program.specs.Deliveries.{OnlyOf}
 
 abbrev pub Delivers : (sequence state : List ℕ) (e readBack farms : ℕ) (litres : List ℕ) → Type 0
 Delivers sequence state e readBack farms litres =
-    NoneOutside farms (λ f. getD litres f 0)
-    × ((f : ℕ) → f < farmCount → getD litres f 0 ≡ cappedOf (deliveries sequence readBack state e f))
+    OnlyOf farms litres
+    × ((f : ℕ) → f < signalCount → getD litres f 0 ≡ cappedOf (deliveries sequence readBack state e f))

@@ -1,8 +1,8 @@
 use mathlib.Core.Path.{refl}
-use Rattle.box_deliveries.proofs.Walking.{wrong-instant, right-instant}
+use Rattle.program.proofs.Deliveries.{wrong-instant, right-instant}
 use borrow.Author.Needs.{needs}
-use Rattle.box_deliveries.proofs.instant.Statement.{statement}
-use Rattle.box_deliveries.proofs.instant.Tie as tie
+use Rattle.program.proofs.instant.Statement.{statement}
+use Rattle.program.proofs.instant.Tie as tie
 
 react-requires : tie.Need-react-requires
 react-requires c κs = search needs

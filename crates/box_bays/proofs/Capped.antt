@@ -14,7 +14,7 @@ use Rattle.spec_bay.specs.Ledgers.{farmCount, ledgerLength, totalIn, wouldPass,
 use Rattle.box_ledgers.proofs.Totals.{passes-not}
 use Rattle.box_ledgers.proofs.Theorems as ledgers
 use Rattle.spec_tick.specs.Deliveries.{deliveries}
-use Rattle.box_deliveries.specs.Delivering.{Delivers}
+use Rattle.instants.specs.Delivering.{Delivers}
 
 one-farm : (t x : ℕ) → ltb litresLimit (t + cappedOf x) ≡ ltb litresLimit (t + x)
 one-farm t x =

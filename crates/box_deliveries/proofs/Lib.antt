@@ -1,3 +1,0 @@
-pub mod Delivering
-pub mod Theorems
-pub mod Walking

@@ -1,2 +1,0 @@
-pub mod Delivering
-pub mod Walks
